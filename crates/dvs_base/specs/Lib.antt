@@ -1,0 +1,5 @@
+pub mod Text
+pub mod Outside
+pub mod Memory
+pub mod Padded
+pub mod Words

@@ -1,0 +1,23 @@
+// The schedulers and the kinds of governors.
+
+/// How the released jobs are ordered (Liu and Layland 1973).
+#[derive(Clone, Copy, Debug, PartialEq, Eq)]
+pub enum Scheduler {
+    /// By deadline, the earliest first.
+    Edf,
+    /// Rate monotonic: by period, the shortest first.
+    Rm,
+}
+
+/// How the speed is chosen (Pillai and Shin 2001). The words are `none`, `static`, `cc` and `la`.
+#[derive(Clone, Copy, Debug, PartialEq, Eq)]
+pub enum GovernorKind {
+    /// `none`: always the highest speed.
+    Plain,
+    /// `static`: one speed, from the worst cases alone.
+    Fixed,
+    /// `cc`, cycle-conserving: work that jobs did not need lowers the speed.
+    Cycle,
+    /// `la`, look-ahead: work is put off as far as the deadlines allow.
+    Ahead,
+}

@@ -1,0 +1,57 @@
+// What a kernel tells of a run.
+
+/// A unit boundary: a tick, and a number of units below that tick's speed.
+#[derive(Clone, Copy, Debug, PartialEq, Eq)]
+pub struct Pos {
+    pub tick: u64,
+    pub offset: u64,
+}
+
+/// One event of a run. Tasks count from 0 in file order, jobs from 1.
+#[derive(Clone, Copy, Debug, PartialEq, Eq)]
+pub enum Note {
+    /// A job is released at this tick.
+    Release { tick: u64, task: u32, job: u64 },
+    /// A decision: the speed in units per tick, and the published demand `num/den` that it answers.
+    Speed {
+        tick: u64,
+        speed: u64,
+        num: u128,
+        den: u128,
+    },
+    /// A segment in which one job runs, with its work units and its energy.
+    Run {
+        from: Pos,
+        to: Pos,
+        task: u32,
+        job: u64,
+        units: u64,
+        energy: u128,
+    },
+    /// A segment in which nobody runs, with its units and its energy.
+    Idle {
+        from: Pos,
+        to: Pos,
+        units: u64,
+        energy: u128,
+    },
+    /// A job has had its whole demand of `used` units.
+    Done {
+        at: Pos,
+        task: u32,
+        job: u64,
+        used: u64,
+    },
+    /// The run is over, with the sums of the energies of its segments.
+    End { ticks: u64, run: u128, idle: u128 },
+}
+
+/// The sums and counts of a run: its energies, and its jobs released, jobs finished and decisions.
+#[derive(Clone, Copy, Debug, PartialEq, Eq)]
+pub struct Totals {
+    pub run: u128,
+    pub idle: u128,
+    pub released: u64,
+    pub finished: u64,
+    pub decisions: u64,
+}

@@ -1,0 +1,6 @@
+//! Machines: their speeds and voltages.
+#![tactic(auto)]
+
+mod machine;
+
+pub use machine::{Machine, Pick, Point};

@@ -1,0 +1,98 @@
+//! What a kernel asks of a governor, and the laws that each governor keeps.
+//!
+//! A governor brings its published demand, and two conditions on the states of a run. From the laws of these two alone
+//! every deadline of its schedule is met.
+#![tactic(auto)]
+
+ghost use Rattle.std.specs.Prelude.{◌≡◌, ℕ, ◌≤◌};
+ghost use Rattle.dvs_base.specs.declared.kind.Scheduler.{Scheduler as SchedulerOf};
+ghost use Rattle.dvs_base.specs.declared.kind.GovernorKind.{GovernorKind as KindOf};
+ghost use Rattle.grid_fraction.specs.declared.Frac.{Frac as FracOf};
+ghost use Rattle.freq_table.specs.Tables.{lowest_entry, lowest_pick};
+ghost use Rattle.sched_model.specs.Plan.{Plan};
+ghost use Rattle.sched_model.specs.States.{StateOf, after_release, after_run, after_finish, after_mark, after_advance, IsOfPlan, CanRelease, CanRun, CanFinish};
+ghost use Rattle.governor.specs.Steps.{IsAtDecision};
+ghost use Rattle.governor.specs.Laws.{GovernorLaws};
+
+use dvs_base::GovernorKind;
+use grid_fraction::Frac;
+use sched_model::{Admitted, State};
+
+/// A governor's answer at a decision: the entry of the machine's table, whether its speed meets the demand, and the
+/// published demand in units per tick, not reduced.
+#[derive(Clone, Copy, Debug, PartialEq, Eq)]
+pub struct Choice {
+    pub index: u32,
+    pub met: bool,
+    pub demand: Frac,
+}
+
+/// A rule for the speed. No call takes memory.
+pub trait Governor: Drop {
+    /// Which kind it is.
+    ghost the_kind: { KindOf };
+
+    /// The schedulers that it serves.
+    ghost serves: { SchedulerOf → Type 0 };
+
+    /// Its published demand.
+    ghost demand: { Plan → StateOf → FracOf };
+
+    /// What is kept from boundary to boundary.
+    ghost calm: { Plan → StateOf → Type 0 };
+
+    /// What is kept while an entry is in force.
+    ghost safe: { Plan → StateOf → ℕ → Type 0 };
+
+    /// The value's counters are their formulas over this plan and state.
+    ghost stands: { Self → Plan → StateOf → Type 0 };
+
+    /// The kind of this governor.
+    fn kind(&self) -> GovernorKind
+        ensures { result ≡ the_kind };
+
+    /// Announces `State::release` of a task.
+    fn released(&mut self, plan: &Admitted, view: &State, task: u32)
+        requires of { IsOfPlan plan.now view.now }
+        requires counters { stands self.old plan.now view.now }
+        requires can { CanRelease plan.now view.now task }
+        ensures { stands self.new plan.now (after_release plan.now view.entry.now task) };
+
+    /// Announces `State::run` of so many work units.
+    fn ran(&mut self, plan: &Admitted, view: &State, task: u32, units: u64)
+        requires of { IsOfPlan plan.now view.now }
+        requires counters { stands self.old plan.now view.now }
+        requires can { CanRun view.now task units }
+        ensures { stands self.new plan.now (after_run view.entry.now task units) };
+
+    /// Announces `State::finish` of a task's job.
+    fn finished(&mut self, plan: &Admitted, view: &State, task: u32)
+        requires of { IsOfPlan plan.now view.now }
+        requires counters { stands self.old plan.now view.now }
+        requires can { CanFinish view.now task }
+        ensures { stands self.new plan.now (after_finish view.entry.now task) };
+
+    /// Announces `State::mark`.
+    fn settled(&mut self, plan: &Admitted, view: &State)
+        requires of { IsOfPlan plan.now view.now }
+        requires counters { stands self.old plan.now view.now }
+        ensures { stands self.new plan.now (after_mark view.entry.now) };
+
+    /// The published demand at a decision, and the lowest entry that meets it, else the highest.
+    fn choose(&self, plan: &Admitted, view: &State) -> Choice
+        requires of { IsOfPlan plan.now view.now }
+        requires counters { stands self.now plan.now view.now }
+        requires decision { IsAtDecision plan.now view.now }
+        ensures demand { result.demand ≡ demand plan.now view.entry.now }
+        ensures index { result.index ≡ lowest_entry plan.now.machine (demand plan.now view.entry.now) }
+        ensures met { result.met ≡ (lowest_pick plan.now.machine (demand plan.now view.entry.now)).met };
+
+    /// A governor that stands for a state of a plan serves its scheduler.
+    ghost serves_plan: { (g : Self) (plan : Plan) (s : StateOf) → stands g plan s → serves plan.scheduler };
+
+    /// Time alone changes no counter.
+    ghost waits: { (g : Self) (plan : Plan) (s : StateOf) (to : ℕ) → s.now ≤ to → stands g plan s → stands g plan (after_advance s to) };
+
+    /// The laws of the two conditions.
+    ghost laws: { GovernorLaws the_kind serves demand calm safe };
+}

@@ -1,0 +1,46 @@
+-- Searches among numbers.
+use Rattle.std.proofs.Common.{◌≡◌, ℕ, zero, suc, ◌+◌, ◌<◌, ◌≤◌, Bool, true, false, ◌||◌, not, ◌⊎◌, inl, inr, refl, arith, ap, ap₂, ◌∙◌, sym, eq-or-lt_of_le, le_of_suc-le-suc, subst, true≢false}
+use Rattle.grid_fraction.specs.Numbers.{any_below, all_below, first_from}
+
+-- what holds below m and at m holds below m + 1
+pub below_suc : (P : ℕ → Type 0) (m : ℕ) → ((k : ℕ) → k < m → P k) → P m → (k : ℕ) → k < suc m → P k
+below_suc P m h x k lt = go (eq-or-lt_of_le (le_of_suc-le-suc lt))
+  where
+    go : (k ≡ m) ⊎ (k < m) → P k
+    go (inl e) = subst P (sym e) x
+    go (inr l) = h k l
+
+pub first_from-found : (n from m : ℕ) (test : ℕ → Bool) → from ≤ m → m < from + n → test m ≡ true
+    → (test (first_from n from test) ≡ true) × (from ≤ first_from n from test)
+first_from-found zero from m test low high found = absurd (omega arith)
+first_from-found (suc n) from m test low high found = go (test from) refl (eq-or-lt_of_le low) (first_from-found n (suc from) m test)
+  where
+    go : (b : Bool) → test from ≡ b → (from ≡ m) ⊎ (from < m)
+        → (suc from ≤ m → m < suc from + n → test m ≡ true → (test (first_from n (suc from) test) ≡ true) × (suc from ≤ first_from n (suc from) test))
+        → (test (first_from (suc n) from test) ≡ true) × (from ≤ first_from (suc n) from test)
+    go true e c ih = (rw (e, first_from) e, rw (e, first_from) (omega arith))
+    go false e (inl c) ih = absurd (true≢false (sym found ∙ (ap test (sym c) ∙ e)))
+    go false e (inr c) ih =
+        let r : (test (first_from n (suc from) test) ≡ true) × (suc from ≤ first_from n (suc from) test) = ih c (omega arith) found in
+        (rw (e, first_from) r.0, rw (e, first_from) (omega (arith, r.1)))
+
+pub any_below-none : (n : ℕ) (test : ℕ → Bool) → ((i : ℕ) → i < n → test i ≡ false) → any_below n test ≡ false
+any_below-none zero test h = refl
+any_below-none (suc n) test h = rw (any_below-none n test (λ i l. h i (omega arith)), h n (omega arith)) refl
+
+pub any_below-false : (n : ℕ) (test : ℕ → Bool) → any_below n test ≡ false → (i : ℕ) → i < n → test i ≡ false
+any_below-false zero test h = λ i lt. absurd (omega arith)
+any_below-false (suc n) test h = go (any_below n test) refl (test n) refl (any_below-false n test)
+  where
+    go : (a : Bool) → any_below n test ≡ a → (b : Bool) → test n ≡ b → (any_below n test ≡ false → (i : ℕ) → i < n → test i ≡ false) → (i : ℕ) → i < suc n → test i ≡ false
+    go false p false q ih = below_suc (λ i. test i ≡ false) n (ih p) q
+    go true p b q ih = absurd (true≢false (sym (ap (λ v. v || test n) p) ∙ h))
+    go false p true q ih = absurd (true≢false (sym (ap₂ (λ v w. v || w) p q) ∙ h))
+
+not-true : (b : Bool) → not b ≡ true → b ≡ false
+not-true true e = absurd (true≢false (sym e))
+not-true false e = refl
+
+not-false : (b : Bool) → not b ≡ false → b ≡ true
+not-false true e = refl
+not-false false e = absurd (true≢false e)

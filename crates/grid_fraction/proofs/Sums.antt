@@ -1,0 +1,68 @@
+-- Sums over the numbers below n.
+use Rattle.std.proofs.Common.{◌≡◌, ◌≢◌, ℕ, zero, suc, ◌+◌, ◌<◌, ◌≤◌, Bool, true, false, eqb, ◌⊎◌, inl, inr, refl, arith, if◌then◌else◌, ap, ap₂, ◌∙◌, sym, add-one, eq-or-lt_of_le, le_of_suc-le-suc}
+use Rattle.std.proofs.lemmas.Bool.Decides.{nat_tests}
+use Rattle.grid_fraction.specs.Numbers.{sum_below, sum_where}
+
+pub sum_below-same : (n : ℕ) (f g : ℕ → ℕ) → ((k : ℕ) → k < n → f k ≡ g k) → sum_below n f ≡ sum_below n g
+sum_below-same zero f g h = refl
+sum_below-same (suc n) f g h =
+    ap₂ (λ a b. a + b) (sum_below-same n f g (λ k lt. h k (omega arith))) (h n (omega arith))
+
+pub sum_below-add : (n : ℕ) (f g : ℕ → ℕ) → sum_below n (λ k. f k + g k) ≡ sum_below n f + sum_below n g
+sum_below-add zero f g = refl
+sum_below-add (suc n) f g = omega (arith, sum_below-add n f g)
+
+pub sum_below-le : (n : ℕ) (f g : ℕ → ℕ) → ((k : ℕ) → k < n → f k ≤ g k) → sum_below n f ≤ sum_below n g
+sum_below-le zero f g h = omega arith
+sum_below-le (suc n) f g h = omega (arith, sum_below-le n f g (λ k lt. h k (omega arith)), h n (omega arith))
+
+pub sum_below-zero : (n : ℕ) (f : ℕ → ℕ) → ((k : ℕ) → k < n → f k ≡ 0) → sum_below n f ≡ 0
+sum_below-zero zero f h = refl
+sum_below-zero (suc n) f h = omega (arith, sum_below-zero n f (λ k lt. h k (omega arith)), h n (omega arith))
+
+-- the sum has one term
+pub sum_below-one : (n j : ℕ) (f : ℕ → ℕ) → j < n → ((k : ℕ) → k < n → k ≢ j → f k ≡ 0) → sum_below n f ≡ f j
+sum_below-one zero j f lt h = absurd (omega arith)
+sum_below-one (suc n) j f lt h =
+    go (eqb n j) refl (λ below. sum_below-one n j f below (λ k lt'. h k (omega arith)))
+  where
+    go : (b : Bool) → eqb n j ≡ b → (j < n → sum_below n f ≡ f j) → sum_below n f + f n ≡ f j
+    go true e ih =
+        let same : n ≡ j = grind (arith, nat_tests) in
+        omega (arith, sum_below-zero n f (λ k lt'. h k (omega arith) (λ q. omega arith)), ap f same)
+    go false e ih =
+        let other : n ≢ j = grind (arith, nat_tests) in
+        omega (arith, ih (omega arith), h n (omega arith) other)
+
+pub sum_below-up : (m n : ℕ) (f : ℕ → ℕ) → m ≤ n → sum_below m f ≤ sum_below n f
+sum_below-up m zero f h = let e : m ≡ 0 = omega arith in rw e (omega arith)
+sum_below-up m (suc n) f h = go (eq-or-lt_of_le h) (sum_below-up m n f)
+  where
+    go : (m ≡ suc n) ⊎ (m < suc n) → (m ≤ n → sum_below m f ≤ sum_below n f) → sum_below m f ≤ sum_below n f + f n
+    go (inl e) ih = rw e (omega arith)
+    go (inr l) ih = omega (arith, ih (omega arith))
+
+pub sum_below-more : (m : ℕ) (f : ℕ → ℕ) → sum_below (m + 1) f ≡ sum_below m f + f m
+sum_below-more m f = rw add-one refl
+
+pub if-le : (b : Bool) (x : ℕ) → (if b then x else 0) ≤ x
+if-le true x = omega arith
+if-le false x = omega arith
+
+pub sum_where-le : (n : ℕ) (test : ℕ → Bool) (f : ℕ → ℕ) → sum_where n test f ≤ sum_below n f
+sum_where-le n test f = sum_below-le n (λ k. if test k then f k else 0) f (λ k lt. if-le (test k) (f k))
+
+-- a part of the sum and the next term are within the whole
+pub sum_where-fits : (m n : ℕ) (test : ℕ → Bool) (f : ℕ → ℕ) → m < n → sum_where m test f + f m ≤ sum_below n f
+sum_where-fits m n test f lt = omega (arith, sum_where-le m test f, sum_below-more m f, sum_below-up (m + 1) n f (omega arith))
+
+-- the sum over the others and one that does not pass are within the whole
+pub sum_where-other : (n : ℕ) (test : ℕ → Bool) (f : ℕ → ℕ) (i : ℕ) → i < n → test i ≡ false → sum_where n test f + f i ≤ sum_below n f
+sum_where-other zero test f i lt h = absurd (omega arith)
+sum_where-other (suc n) test f i lt h = go (eq-or-lt_of_le (le_of_suc-le-suc lt)) (sum_where-other n test f i)
+  where
+    go : (i ≡ n) ⊎ (i < n) → (i < n → test i ≡ false → sum_where n test f + f i ≤ sum_below n f) → sum_where n test f + (if test n then f n else 0) + f i ≤ sum_below n f + f n
+    go (inl e) ih =
+        let off : test n ≡ false = ap test (sym e) ∙ h in
+        rw off (omega (arith, sum_where-le n test f, ap f e))
+    go (inr l) ih = omega (arith, ih l h, if-le (test n) (f n))

@@ -1,0 +1,156 @@
+-- Handing out units to one task after the other gives the allotments.
+use Rattle.std.proofs.Common.{◌≡◌, ◌≢◌, ℕ, ◌+◌, ◌-◌, ◌<◌, ◌≤◌, min, Bool, true, false, eqb, ◌⊎◌, inl, inr, refl, arith, if◌then◌else◌, ap, ◌∙◌, sym, subst, true≢false}
+use Rattle.std.proofs.lemmas.Bool.Decides.{nat_tests}
+use Rattle.grid_fraction.specs.Numbers.{sum_below}
+use Rattle.std.proofs.Common.{List, length, slice_index, set, get_or, get_or-set_same, get_or-set_other}
+use Rattle.std.proofs.lemmas.List.{ext_get_or}
+use Rattle.grid_fraction.specs.Numbers.{list_below}
+use Rattle.sched_model.proofs.ScheduleLemmas.{length-list_below, get_or-list_below}
+use Rattle.sched_model.specs.Greedy.{IsFirstOpen}
+use Rattle.sched_model.specs.Priority.{stands_before, sum_before, sum_up_to, allotment}
+use Rattle.grid_fraction.proofs.Sums.{sum_below-same, sum_below-add, sum_below-one, sum_below-le}
+use Rattle.sched_model.proofs.PriorityLemmas.{before-trans, before_gets, allotment-shares}
+
+-- what the tasks up to j need is within what those before i need, where j stands before i
+pub up_to-before : (n : ℕ) (key f : ℕ → ℕ) (j i : ℕ) → j < n → stands_before key j i ≡ true → sum_up_to n key f j ≤ sum_before n key f i
+up_to-before n key f j i lt h =
+    let own : ℕ → ℕ = λ k. if eqb k j then f k else 0 in
+    let a : sum_below n own ≡ f j = sum_below-one n j own lt (λ k l ne. off k ne (eqb k j) refl) ∙ on (eqb j j) refl in
+    let b : sum_below n (λ k. (if stands_before key k j then f k else 0) + own k) ≡ sum_before n key f j + sum_below n own =
+    sum_below-add n (λ k. if stands_before key k j then f k else 0) own in
+    omega (arith, a, b, sum_below-le n (λ k. (if stands_before key k j then f k else 0) + own k) (λ k. if stands_before key k i then f k else 0) (λ k l. within k (eqb k j) refl (stands_before key k j) refl))
+  where
+    off : (k : ℕ) → k ≢ j → (b : Bool) → eqb k j ≡ b → (if eqb k j then f k else 0) ≡ 0
+    off k ne true e = absurd (ne (grind (arith, nat_tests)))
+    off k ne false e = rw e refl
+
+    on : (b : Bool) → eqb j j ≡ b → (if eqb j j then f j else 0) ≡ f j
+    on true e = rw e refl
+    on false e = grind (arith, nat_tests)
+
+    lem : (a b c : Bool) → (b ≡ true → a ≡ true) → (c ≡ true → (a ≡ true) × (b ≡ false)) → (x : ℕ) → (if b then x else 0) + (if c then x else 0) ≤ (if a then x else 0)
+    lem a true true p q x = absurd (true≢false (q refl).1)
+    lem a true false p q x = rw (p refl) (omega arith)
+    lem a false true p q x = rw ((q refl).0) (omega arith)
+    lem a false false p q x = omega arith
+
+    within : (k : ℕ) (b : Bool) → eqb k j ≡ b → (c : Bool) → stands_before key k j ≡ c
+        → (if stands_before key k j then f k else 0) + (if eqb k j then f k else 0) ≤ (if stands_before key k i then f k else 0)
+    within k b e c g = lem (stands_before key k i) (stands_before key k j) (eqb k j)
+        (λ q. before-trans key k j i q h) (λ q. (grind (arith, nat_tests), grind (arith, nat_tests))) (f k)
+
+-- How far the units are handed out: `given` are the allotments of what has been handed out of the room, and `rest` is what has not.
+-- While some is left, each task has all that it needs or nothing.
+pub record IsHandedOut (n : ℕ) (key : ℕ → ℕ) (room : ℕ) (need given : ℕ → ℕ) (rest : ℕ) : Type 0 where
+  pub rest_in : rest ≤ room
+  pub given_is : (i : ℕ) → i < n → given i ≡ allotment n key (room - rest) need i
+  pub all_or_none : 0 < rest → (i : ℕ) → i < n → (given i ≡ 0) ⊎ (given i ≡ need i)
+
+-- what has been handed out is then what the tasks before i need
+pub handed_before : (n : ℕ) (key : ℕ → ℕ) (room : ℕ) (need given : ℕ → ℕ) (rest : ℕ) → IsHandedOut n key room need given rest → 0 < rest
+    → (i : ℕ) → IsFirstOpen n key need given i → (given i ≡ 0) × (room - rest ≡ sum_before n key need i)
+handed_before n key room need given rest h pos i o = go (h.all_or_none pos i o.below)
+  where
+    same : sum_before n key (allotment n key (room - rest) need) i ≡ sum_before n key need i
+    same = sum_below-same n _ _ (λ k l. step k l (stands_before key k i) refl)
+      where
+        step : (k : ℕ) → k < n → (b : Bool) → stands_before key k i ≡ b → (if stands_before key k i then allotment n key (room - rest) need k else 0) ≡ (if stands_before key k i then need k else 0)
+        step k l true e = rw e (omega (arith, h.given_is k l, o.first k l e))
+        step k l false e = rw e refl
+
+    room_is : (given i ≡ 0) → room - rest ≡ sum_before n key need i
+    room_is z = omega (arith, h.given_is i o.below, o.needs, same, before_gets n key (room - rest) need (allotment n key (room - rest) need) (allotment-shares n key (room - rest) need) i)
+
+    go : (given i ≡ 0) ⊎ (given i ≡ need i) → (given i ≡ 0) × (room - rest ≡ sum_before n key need i)
+    go (inl z) = (z, room_is z)
+    go (inr e) = absurd (omega (arith, e, o.needs))
+
+-- at the start
+pub handed-start : (n : ℕ) (key : ℕ → ℕ) (room : ℕ) (need : ℕ → ℕ) → IsHandedOut n key room need (λ _. 0) room
+handed-start n key room need = record {
+  rest_in = omega arith;
+  given_is = λ i lt. omega arith;
+  all_or_none = λ pos i lt. inl refl;
+}
+
+-- the first open task gets what it needs, as far as there is some
+pub handed-step : (n : ℕ) (key : ℕ → ℕ) (room : ℕ) (need given given' : ℕ → ℕ) (rest i : ℕ) → IsHandedOut n key room need given rest → 0 < rest
+    → IsFirstOpen n key need given i
+    → given' i ≡ given i + min rest (need i - given i)
+    → ((k : ℕ) → k < n → k ≢ i → given' k ≡ given k)
+    → IsHandedOut n key room need given' (rest - min rest (need i - given i))
+handed-step n key room need given given' rest i h pos o here there = record {
+  rest_in = omega (arith, h.rest_in);
+  given_is = λ k lt. is k lt (eqb k i) refl (stands_before key k i) refl;
+  all_or_none = λ pos' k lt. all k lt pos' (eqb k i) refl;
+}
+  where
+    now : (given i ≡ 0) × (room - rest ≡ sum_before n key need i)
+    now = handed_before n key room need given rest h pos i o
+
+    is : (k : ℕ) → k < n → (b : Bool) → eqb k i ≡ b → (c : Bool) → stands_before key k i ≡ c → given' k ≡ allotment n key (room - (rest - min rest (need i - given i))) need k
+    is k lt true e c g =
+        let same : i ≡ k = grind (arith, nat_tests) in
+        subst (λ m. given' m ≡ allotment n key (room - (rest - min rest (need i - given i))) need m) same
+        (omega (arith, here, now.0, now.1, h.rest_in, o.needs))
+    is k lt false e true g =
+        omega (arith, there k lt (λ q. absurd (true≢false (grind (arith, nat_tests)))), h.given_is k lt, h.rest_in, now.1, up_to-before n key need k i lt g)
+    is k lt false e false g =
+        let after : stands_before key i k ≡ true = grind (arith, nat_tests) in
+        omega (arith, there k lt (λ q. absurd (true≢false (grind (arith, nat_tests)))), h.given_is k lt, h.rest_in, now.0, now.1, up_to-before n key need i k o.below after)
+
+    all : (k : ℕ) → k < n → 0 < rest - min rest (need i - given i) → (b : Bool) → eqb k i ≡ b → (given' k ≡ 0) ⊎ (given' k ≡ need k)
+    all k lt pos' true e =
+        let same : i ≡ k = grind (arith, nat_tests) in
+        inr (subst (λ m. given' m ≡ need m) same (omega (arith, here, now.0)))
+    all k lt pos' false e = other (h.all_or_none pos k lt)
+      where
+        kept : given' k ≡ given k
+        kept = there k lt (λ q. absurd (true≢false (grind (arith, nat_tests))))
+
+        other : (given k ≡ 0) ⊎ (given k ≡ need k) → (given' k ≡ 0) ⊎ (given' k ≡ need k)
+        other (inl z) = inl (kept ∙ z)
+        other (inr z) = inr (kept ∙ z)
+
+-- at the end, where nothing is left or nobody needs any
+pub handed-end : (n : ℕ) (key : ℕ → ℕ) (room : ℕ) (need given : ℕ → ℕ) (rest : ℕ) → IsHandedOut n key room need given rest
+    → (rest ≡ 0) ⊎ ((k : ℕ) → k < n → need k ≤ given k) → (i : ℕ) → i < n → given i ≡ allotment n key room need i
+handed-end n key room need given rest h e i lt = go e
+  where
+    go : (rest ≡ 0) ⊎ ((k : ℕ) → k < n → need k ≤ given k) → given i ≡ allotment n key room need i
+    go (inl z) = h.given_is i lt ∙ ap (λ a. allotment n key a need i) (omega arith)
+    go (inr all) =
+        let given_all : sum_before n key (allotment n key (room - rest) need) i ≡ sum_before n key need i =
+        sum_below-same n _ _ (λ k l. ap (λ v. if stands_before key k i then v else 0) (whole k l)) in
+        omega (arith, h.given_is i lt, whole i lt, given_all, allotment-shares n key (room - rest) need i lt)
+      where
+        whole : (k : ℕ) → k < n → allotment n key (room - rest) need k ≡ need k
+        whole k l = omega (arith, h.given_is k l, all k l)
+
+-- then the list of what is given is that of the allotments
+pub handed-list : (n : ℕ) (key : ℕ → ℕ) (room : ℕ) (need : ℕ → ℕ) (rest : ℕ) (shares : List ℕ) → length shares ≡ n
+    → IsHandedOut n key room need (slice_index shares) rest
+    → (rest ≡ 0) ⊎ ((k : ℕ) → k < n → need k ≤ slice_index shares k) → shares ≡ list_below n (allotment n key room need)
+handed-list n key room need rest shares len h e =
+    ext_get_or 0 shares (list_below n (allotment n key room need)) (len ∙ sym (length-list_below n (allotment n key room need)))
+    (λ i lt. handed-end n key room need (slice_index shares) rest h e i (omega (arith, len))
+    ∙ sym (get_or-list_below n (allotment n key room need) i (omega (arith, len))))
+
+-- a turn of the loop over a list of shares
+pub handed-turn : (n : ℕ) (key : ℕ → ℕ) (room : ℕ) (need : ℕ → ℕ) (rest i share read again : ℕ) (shares : List ℕ) → length shares ≡ n
+    → IsHandedOut n key room need (slice_index shares) rest → 0 < rest
+    → IsFirstOpen n key need (slice_index shares) i
+    → read ≡ get_or shares i 0 → again ≡ get_or shares i 0
+    → share ≡ min rest (need i - read)
+    → IsHandedOut n key room need (slice_index (set shares i (again + share))) (rest - share)
+handed-turn n key room need rest i share read again shares len h pos o r a s =
+    let same : share ≡ min rest (need i - get_or shares i 0) = s ∙ ap (λ v. min rest (need i - v)) r in
+    subst (λ v. IsHandedOut n key room need (slice_index (set shares i (again + share))) (rest - v)) (sym same)
+    (handed-step n key room need (slice_index shares) (slice_index (set shares i (again + share))) rest i h pos o
+    here (λ k lt ne. get_or-set_other shares i k (again + share) 0 ne))
+  where
+    lt_len : i < length shares
+    lt_len = omega (arith, o.below, len)
+
+    here : slice_index (set shares i (again + share)) i ≡ slice_index shares i + min rest (need i - slice_index shares i)
+    here = let in_list : i < length shares = lt_len in rw get_or-set_same (omega (arith, r, a, s, ap (λ v. min rest (need i - v)) r))

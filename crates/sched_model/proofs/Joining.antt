@@ -1,0 +1,182 @@
+-- The state of a list of ticks, boundary by boundary and tick by tick.
+use Rattle.std.proofs.Common.{◌≡◌, ℕ, zero, suc, ◌+◌, ◌-◌, ◌<◌, ◌≤◌, Bool, true, false, List, [], ◌∷◌, length, drop, refl, arith, ap, ap₂, ◌∙◌, sym, subst, if◌then◌else◌, nat_eq, nat_le, true≢false, ◌||◌, get_or}
+use Rattle.std.specs.Prelude.{map}
+use Rattle.std.proofs.lemmas.Bool.Decides.{nat_tests}
+use Rattle.sched_model.specs.declared.state.Row.{Row}
+use Rattle.sched_model.specs.Plan.{Plan, count, period, worst}
+use Rattle.sched_model.specs.Jobs.{release, due, latest, releases_at, is_release}
+use Rattle.sched_model.specs.Ticks.{Tick, at, exec, is_done, wleft}
+use Rattle.sched_model.specs.Ticks.{share}
+use Rattle.grid_fraction.specs.Numbers.{any_below, last_up_to}
+use Rattle.sched_model.specs.Jobs.{last_release}
+use Rattle.sched_model.specs.States.{StateOf, row_of, state_of}
+use Rattle.grid_fraction.specs.Numbers.{list_below}
+use Rattle.sched_model.specs.States.{released_row, row_wleft, prior_row, prior_base_at, prior_base, prior_state}
+use Rattle.sched_model.proofs.JobLaws.{release-suc, due-suc, lt-due, latest-stays, latest-next, latest-is, release-le, latest-pos, exec-early, exec-latest}
+use Rattle.grid_fraction.proofs.Searches.{any_below-none, any_below-false}
+use Rattle.sched_model.proofs.Tables.{table-same, map-table}
+
+-- a row by its parts
+abbrev pub row_by : ℕ → ℕ → ℕ → Bool → ℕ → Row
+row_by a b c d e = record { deadline = a; job = b; used = c; done = d; worst = e }
+
+-- the row after its release, complete if its job has no demand
+abbrev pub opened_row : Plan → (ℕ → ℕ → ℕ) → ℕ → Row → Row
+opened_row p dem i row = record (released_row (period p i) row) { done = nat_eq (dem i (row.job + 1)) 0 }
+
+module _ (p : Plan) (dem : ℕ → ℕ → ℕ) (periods : (i : ℕ) → 0 < period p i) where
+  release_one : (i : ℕ) → release p i 1 ≡ 0
+  unfolding release
+  release_one i = omega arith
+
+  due_one : (i : ℕ) → due p i 1 ≡ 0 + period p i
+  unfolding due
+  due_one i = omega arith
+
+  pub first_job : (i : ℕ) → latest p i 0 ≡ 1
+  first_job i = latest-is p i 1 0 (omega (arith, release_one i)) (omega (arith, due_one i, periods i))
+
+  -- nothing is due before now
+  pub prior-due : (past : List Tick) (i : ℕ) → length past ≤ (prior_row p dem past i).deadline
+  prior-due [] i = omega arith
+  prior-due (x ∷ past) i = omega (arith, lt-due p i (length past) (periods i))
+
+  -- the latest job now, where the one before it is due
+  pub next_job : (past : List Tick) (i : ℕ) → (prior_row p dem past i).deadline ≡ length past → latest p i (length past) ≡ (prior_row p dem past i).job + 1
+  next_job [] i e = first_job i
+  next_job (x ∷ past) i e =
+      let now : length (x ∷ past) ≡ length past + 1 = omega arith in
+      ap (latest p i) now ∙ latest-next p i (length past) (periods i) (sym now ∙ sym e)
+
+  release_next : (past : List Tick) (i : ℕ) → release p i ((prior_row p dem past i).job + 1) ≡ (prior_row p dem past i).deadline
+  release_next [] i = release_one i
+  release_next (x ∷ past) i = release-suc p i (latest p i (length past))
+
+  due_next : (past : List Tick) (i : ℕ) → due p i ((prior_row p dem past i).job + 1) ≡ (prior_row p dem past i).deadline + period p i
+  due_next [] i = due_one i
+  due_next (x ∷ past) i = due-suc p i (latest p i (length past))
+
+  -- and the latest job where it is not
+  pub same_job : (x : Tick) (past : List Tick) (i : ℕ) → nat_eq (prior_row p dem (x ∷ past) i).deadline (length (x ∷ past)) ≡ false → latest p i (length (x ∷ past)) ≡ latest p i (length past)
+  same_job x past i e =
+      let now : length (x ∷ past) ≡ length past + 1 = omega arith in
+      let before : length past + 1 < due p i (latest p i (length past)) = grind (arith, nat_tests, lt-due p i (length past) (periods i)) in
+      ap (latest p i) now ∙ latest-stays p i (length past) (periods i) before
+
+  -- a row is due exactly where the plan has a release
+  pub due_released : (past : List Tick) (i : ℕ) (b : Bool) → nat_eq (prior_row p dem past i).deadline (length past) ≡ b → releases_at p i (length past) ≡ b
+  due_released past i true e =
+      let due_now : (prior_row p dem past i).deadline ≡ length past = grind (arith, nat_tests) in
+      let there : release p i (latest p i (length past)) ≡ length past = ap (release p i) (next_job past i due_now) ∙ (release_next past i ∙ due_now) in
+      grind (arith, nat_tests, there)
+  due_released [] i false e = absurd (true≢false e)
+  due_released (x ∷ past) i false e =
+      let stays = same_job x past i e in
+      let early : release p i (latest p i (length past)) ≤ length past = release-le p i (length past) (periods i) (latest-pos p i (length past)) in
+      let is : release p i (latest p i (length (x ∷ past))) ≡ release p i (latest p i (length past)) = ap (release p i) stays in
+      grind (arith, nat_tests, is, early)
+
+  -- a row that is due is released
+  pub row-opened : (past : List Tick) (i : ℕ) → (prior_row p dem past i).deadline ≡ length past → row_of p dem past i ≡ opened_row p dem i (prior_row p dem past i)
+  row-opened past i e =
+      ap (λ k. row_by (due p i k) k (exec p past i k) (nat_le (dem i k) (exec p past i k)) (worst p i)) (next_job past i e)
+      ∙ (ap₂ (λ a b. row_by a next b (nat_le (dem i next) b) (worst p i)) (due_next past i) none
+      ∙ (ap (λ b. row_by ((prior_row p dem past i).deadline + period p i) next 0 b (worst p i)) (zero_test (dem i next))
+      ∙ worst_is past))
+    where
+      next : ℕ
+      next = (prior_row p dem past i).job + 1
+
+      none : exec p past i next ≡ 0
+      none = exec-early p past i next (omega (arith, release_next past i, e))
+
+      zero_test : (n : ℕ) → nat_le n 0 ≡ nat_eq n 0
+      zero_test n = go (nat_le n 0) refl (nat_eq n 0) refl
+        where
+          go : (a : Bool) → nat_le n 0 ≡ a → (b : Bool) → nat_eq n 0 ≡ b → nat_le n 0 ≡ nat_eq n 0
+          go true e true f = e ∙ sym f
+          go false e false f = e ∙ sym f
+          go true e false f = absurd (grind (arith, nat_tests))
+          go false e true f = absurd (grind (arith, nat_tests))
+
+      worst_is : (past : List Tick) → row_by ((prior_row p dem past i).deadline + period p i) ((prior_row p dem past i).job + 1) 0 (nat_eq (dem i ((prior_row p dem past i).job + 1)) 0) (worst p i) ≡ opened_row p dem i (prior_row p dem past i)
+      worst_is [] = refl
+      worst_is (x ∷ past) = refl
+
+  -- the others stay
+  pub row-kept : (past : List Tick) (i : ℕ) → nat_eq (prior_row p dem past i).deadline (length past) ≡ false → row_of p dem past i ≡ prior_row p dem past i
+  row-kept [] i e = absurd (true≢false e)
+  row-kept (x ∷ past) i e =
+      ap (λ k. row_by (due p i k) k (exec p (x ∷ past) i k) (is_done p dem (x ∷ past) i k) (worst p i)) (same_job x past i e)
+
+  -- the bases
+  pub base_at-marked : (t : ℕ) → is_release p t ≡ true → last_release p t ≡ t
+  base_at-marked zero e = refl
+  base_at-marked (suc t) e = rw (e, last_up_to) refl
+
+  base_at-kept : (t : ℕ) → is_release p (suc t) ≡ false → last_release p (suc t) ≡ last_release p t
+  base_at-kept t e = rw (e, last_up_to) refl
+
+  last_release-le : (t : ℕ) → last_release p t ≤ t
+  last_release-le zero = omega arith
+  last_release-le (suc t) = go (is_release p (suc t)) refl (last_release-le t)
+    where
+      go : (b : Bool) → is_release p (suc t) ≡ b → last_release p t ≤ t → last_release p (suc t) ≤ suc t
+      go true e ih = rw (e, last_up_to) (omega arith)
+      go false e ih = rw (e, last_up_to) (omega (arith, ih))
+
+  at-now : (past : List Tick) → at (length past) past ≡ past
+  at-now past = let z : length past - length past ≡ 0 = omega arith in rw z refl
+
+  at-earlier : (r : ℕ) (x : Tick) (past : List Tick) → r ≤ length past → at r (x ∷ past) ≡ at r past
+  at-earlier r x past le =
+      let e : length (x ∷ past) - r ≡ suc (length past - r) = omega arith in
+      ap (λ n. drop n (x ∷ past)) e
+
+  abbrev pub state_by : ℕ → List Row → ℕ → List ℕ → StateOf
+  state_by a b c d = record { now = a; rows = b; base_at = c; base = d }
+
+  -- the first join: with all releases done and the mark set, the state is that of the past
+  pub state-marked : (past : List Tick) → is_release p (length past) ≡ true
+      → state_by (length past) (list_below (count p) (row_of p dem past)) (length past) (map row_wleft (list_below (count p) (row_of p dem past))) ≡ state_of p dem past
+  state-marked past e =
+      let r : last_release p (length past) ≡ length past = base_at-marked (length past) e in
+      let now : at (last_release p (length past)) past ≡ past = ap (λ n. at n past) r ∙ at-now past in
+      ap₂ (λ a b. state_by (length past) (list_below (count p) (row_of p dem past)) a b) (sym r)
+      (map-table (count p) (row_of p dem past) row_wleft
+      ∙ ap (λ (ps : List Tick). list_below (count p) (wleft p dem ps)) (sym now))
+
+  pub state-unmarked : (past : List Tick) → 0 < count p → is_release p (length past) ≡ false
+      → state_by (length past) (list_below (count p) (row_of p dem past)) (prior_base_at p past) (list_below (count p) (prior_base p dem past)) ≡ state_of p dem past
+  state-unmarked [] some e =
+      let none : releases_at p 0 0 ≡ false = any_below-false (count p) (λ i. releases_at p i 0) e 0 some in
+      absurd (true≢false (sym (due_released [] 0 true refl) ∙ none))
+  state-unmarked (x ∷ past) some e =
+      let r : last_release p (length (x ∷ past)) ≡ last_release p (length past) = base_at-kept (length past) e in
+      let back : at (last_release p (length (x ∷ past))) (x ∷ past) ≡ at (last_release p (length past)) past =
+      ap (λ n. at n (x ∷ past)) r ∙ at-earlier (last_release p (length past)) x past (last_release-le (length past)) in
+      ap₂ (λ a (ps : List Tick). state_by (length (x ∷ past)) (list_below (count p) (row_of p dem (x ∷ past))) a (list_below (count p) (wleft p dem ps))) (sym r) (sym back)
+
+  -- with no release at all the state before the boundary is that of the past
+  pub state-still : (past : List Tick) → 0 < count p → is_release p (length past) ≡ false → prior_state p dem past ≡ state_of p dem past
+  state-still past some e =
+      ap (λ rows. state_by (length past) rows (prior_base_at p past) (list_below (count p) (prior_base p dem past)))
+      (table-same (count p) (prior_row p dem past) (row_of p dem past) (λ i lt. sym (row-kept past i (not_due i lt (nat_eq (prior_row p dem past i).deadline (length past)) refl))))
+      ∙ state-unmarked past some e
+    where
+      not_due : (i : ℕ) → i < count p → (b : Bool) → nat_eq (prior_row p dem past i).deadline (length past) ≡ b → nat_eq (prior_row p dem past i).deadline (length past) ≡ false
+      not_due i lt true q = absurd (true≢false (sym (due_released past i true q) ∙ any_below-false (count p) (λ i. releases_at p i (length past)) e i lt))
+      not_due i lt false q = q
+
+  -- the second join: a tick whose units are added to the rows, with the completions
+  pub row-ran : (x : Tick) (past : List Tick) (i : ℕ)
+      → prior_row p dem (x ∷ past) i ≡ row_by (row_of p dem past i).deadline (row_of p dem past i).job ((row_of p dem past i).used + share x i) (nat_le (dem i (latest p i (length past))) ((row_of p dem past i).used + share x i)) (row_of p dem past i).worst
+  row-ran x past i =
+      ap (λ u. row_by (due p i (latest p i (length past))) (latest p i (length past)) u (nat_le (dem i (latest p i (length past))) u) (worst p i))
+      (exec-latest p x past i (periods i) (latest-pos p i (length past)))
+
+  pub state-ran : (x : Tick) (past : List Tick)
+      → prior_state p dem (x ∷ past) ≡ state_by (length past + 1) (list_below (count p) (prior_row p dem (x ∷ past))) (state_of p dem past).base_at (state_of p dem past).base
+  state-ran x past =
+      let now : length (x ∷ past) ≡ length past + 1 = omega arith in
+      ap (λ t. state_by t (list_below (count p) (prior_row p dem (x ∷ past))) (state_of p dem past).base_at (state_of p dem past).base) now

@@ -1,0 +1,12 @@
+pub mod PriorityLemmas
+pub mod GreedyLemmas
+pub mod OrderLemmas
+pub mod ScheduleLemmas
+pub mod JobLaws
+pub mod Joining
+pub mod Tables
+pub mod Marking
+pub mod PieceLemmas
+pub mod NoteLemmas
+pub mod DownSets
+pub mod LevelSums

@@ -1,0 +1,30 @@
+-- The notes of a list of ticks grow by those of its last span.
+use Rattle.std.proofs.Common.{◌≡◌, ℕ, true, false, List, [], ◌∷◌, ◌++◌, reverse, flat_map, refl, ap, ◌∙◌, append-nil}
+use Rattle.std.proofs.lemmas.List.{reverse-append}
+use Rattle.std.proofs.lemmas.Grind.{flat_map-append}
+use Rattle.grid_fraction.specs.declared.Frac.{Frac}
+use Rattle.sched_model.specs.Plan.{Plan}
+use Rattle.sched_model.specs.Ticks.{Tick}
+use Rattle.sched_model.specs.Decision.{is_decision}
+use Rattle.sched_model.specs.Segments.{Span, spans_of, lengthened, units_of}
+use Rattle.sched_model.specs.Notes.{span_notes, notes_before_end}
+
+pub notes-span : (p : Plan) (dem : ℕ → ℕ → ℕ) (ask : List Tick → Frac) (ticks past : List Tick) (s : Span)
+    → spans_of p dem ticks ≡ s ∷ spans_of p dem past
+    → notes_before_end p dem ask ticks ≡ notes_before_end p dem ask past ++ span_notes p dem ask s
+unfolding notes_before_end
+notes-span p dem ask ticks past s e =
+    ap (λ ss. flat_map (span_notes p dem ask) (reverse ss)) e
+    ∙ (ap (flat_map (span_notes p dem ask)) (reverse-append (s ∷ []) (spans_of p dem past))
+    ∙ (flat_map-append (span_notes p dem ask) (reverse (spans_of p dem past)) (s ∷ [])
+    ∙ ap (λ ns. flat_map (span_notes p dem ask) (reverse (spans_of p dem past)) ++ ns) (append-nil (span_notes p dem ask s))))
+
+-- a span opens at a decision instant, and the ticks up to the next lengthen it
+pub span-opens : (p : Plan) (dem : ℕ → ℕ → ℕ) (x : Tick) (past : List Tick) → is_decision p dem past ≡ true
+    → spans_of p dem (x ∷ past) ≡ record { past = past; entry = x.entry; units = units_of p past x } ∷ spans_of p dem past
+span-opens p dem x past e = rw e refl
+
+pub span-grows : (p : Plan) (dem : ℕ → ℕ → ℕ) (x : Tick) (past : List Tick) (s : Span) (before : List Tick) → is_decision p dem past ≡ false
+    → spans_of p dem past ≡ s ∷ spans_of p dem before
+    → spans_of p dem (x ∷ past) ≡ record { past = s.past; entry = s.entry; units = s.units ++ units_of p past x } ∷ spans_of p dem before
+span-grows p dem x past s before e h = rw e (ap (lengthened (units_of p past x)) h)

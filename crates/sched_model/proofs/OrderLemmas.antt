@@ -1,0 +1,113 @@
+-- The list of the tasks in order, and the sums over the tasks before one of them.
+use Rattle.std.proofs.Common.{◌≡◌, ◌≢◌, ℕ, zero, suc, ◌+◌, ◌<◌, Bool, true, false, List, [], ◌∷◌, ◌++◌, length, refl, arith, if◌then◌else◌, ap, ◌∙◌, sym, subst}
+use Rattle.grid_fraction.specs.Numbers.{sum_below}
+use Rattle.sched_model.specs.Priority.{stands_before, sum_before}
+use Rattle.sched_model.specs.Order.{insert_by, in_order}
+use Rattle.sched_model.proofs.PriorityLemmas.{before-self, before-trans, before-total, before-not}
+
+abbrev pub sum_list : (ℕ → ℕ) → List ℕ → ℕ
+sum_list f [] = 0
+sum_list f (i ∷ is) = f i + sum_list f is
+
+-- i stands before each of the list
+abbrev pub IsAhead : (ℕ → ℕ) → ℕ → List ℕ → Type 0
+IsAhead key i [] = Unit {0}
+IsAhead key i (j ∷ js) = (stands_before key i j ≡ true) × IsAhead key i js
+
+abbrev pub IsOrdered : (ℕ → ℕ) → List ℕ → Type 0
+IsOrdered key [] = Unit {0}
+IsOrdered key (i ∷ js) = IsAhead key i js × IsOrdered key js
+
+abbrev pub AreBelow : ℕ → List ℕ → Type 0
+AreBelow n [] = Unit {0}
+AreBelow n (j ∷ js) = (j < n) × AreBelow n js
+
+sum_list-insert : (f key : ℕ → ℕ) (i : ℕ) (js : List ℕ) → sum_list f (insert_by key i js) ≡ sum_list f js + f i
+sum_list-insert f key i [] = omega arith
+sum_list-insert f key i (j ∷ js) = go (stands_before key i j) (sum_list-insert f key i js)
+  where
+    go : (b : Bool) → sum_list f (insert_by key i js) ≡ sum_list f js + f i → sum_list f (if b then i ∷ j ∷ js else j ∷ insert_by key i js) ≡ f j + sum_list f js + f i
+    go true ih = omega arith
+    go false ih = omega (arith, ih)
+
+pub sum_list-in_order : (f key : ℕ → ℕ) (n : ℕ) → sum_list f (in_order key n) ≡ sum_below n f
+unfolding in_order
+sum_list-in_order f key zero = refl
+sum_list-in_order f key (suc n) = sum_list-insert f key n (in_order key n) ∙ ap (λ a. a + f n) (sum_list-in_order f key n)
+
+ahead-trans : (key : ℕ → ℕ) (i j : ℕ) (js : List ℕ) → stands_before key i j ≡ true → IsAhead key j js → IsAhead key i js
+ahead-trans key i j [] h a = tt
+ahead-trans key i j (k ∷ ks) h a = (before-trans key i j k h a.0, ahead-trans key i j ks h a.1)
+
+ahead-insert : (key : ℕ → ℕ) (i j : ℕ) (js : List ℕ) → stands_before key j i ≡ true → IsAhead key j js → IsAhead key j (insert_by key i js)
+ahead-insert key i j [] h a = (h, tt)
+ahead-insert key i j (k ∷ ks) h a = go (stands_before key i k) (ahead-insert key i j ks h a.1)
+  where
+    go : (b : Bool) → IsAhead key j (insert_by key i ks) → IsAhead key j (if b then i ∷ k ∷ ks else k ∷ insert_by key i ks)
+    go true ih = (h, a)
+    go false ih = (a.0, ih)
+
+ordered-insert : (key : ℕ → ℕ) (i : ℕ) (js : List ℕ) → AreBelow i js → IsOrdered key js → IsOrdered key (insert_by key i js)
+ordered-insert key i [] b o = (tt, tt)
+ordered-insert key i (j ∷ js) b o = go (stands_before key i j) refl (ordered-insert key i js b.1 o.1)
+  where
+    go : (c : Bool) → stands_before key i j ≡ c → IsOrdered key (insert_by key i js) → IsOrdered key (if c then i ∷ j ∷ js else j ∷ insert_by key i js)
+    go true e ih = ((e, ahead-trans key i j js e o.0), o)
+    go false e ih =
+        let other : i ≢ j = λ q. omega (arith, b.0) in
+        (ahead-insert key i j js (before-total key i j other e) o.0, ih)
+
+below-insert : (key : ℕ → ℕ) (n i : ℕ) (js : List ℕ) → i < n → AreBelow n js → AreBelow n (insert_by key i js)
+below-insert key n i [] lt b = (lt, tt)
+below-insert key n i (j ∷ js) lt b = go (stands_before key i j) (below-insert key n i js lt b.1)
+  where
+    go : (c : Bool) → AreBelow n (insert_by key i js) → AreBelow n (if c then i ∷ j ∷ js else j ∷ insert_by key i js)
+    go true ih = (lt, b)
+    go false ih = (b.0, ih)
+
+below-more : (n : ℕ) (js : List ℕ) → AreBelow n js → AreBelow (suc n) js
+below-more n [] b = tt
+below-more n (j ∷ js) b = (omega (arith, b.0), below-more n js b.1)
+
+pub in_order-below : (key : ℕ → ℕ) (n : ℕ) → AreBelow n (in_order key n)
+unfolding in_order
+in_order-below key zero = tt
+in_order-below key (suc n) = below-insert key (suc n) n (in_order key n) (omega arith) (below-more n (in_order key n) (in_order-below key n))
+
+pub in_order-ordered : (key : ℕ → ℕ) (n : ℕ) → IsOrdered key (in_order key n)
+unfolding in_order
+in_order-ordered key zero = tt
+in_order-ordered key (suc n) = ordered-insert key n (in_order key n) (in_order-below key n) (in_order-ordered key n)
+
+-- of an ordered list, the sum over what stands before i is the sum over its first part
+none_after : (key f : ℕ → ℕ) (i : ℕ) (js : List ℕ) → IsAhead key i js → sum_list (λ k. if stands_before key k i then f k else 0) js ≡ 0
+none_after key f i [] a = refl
+none_after key f i (j ∷ js) a = rw (before-not key i j a.0) (omega (arith, none_after key f i js a.1))
+
+ordered-split : (key f : ℕ → ℕ) (i : ℕ) (pre post : List ℕ) → IsOrdered key (pre ++ i ∷ post)
+    → sum_list (λ k. if stands_before key k i then f k else 0) (pre ++ i ∷ post) ≡ sum_list f pre
+ordered-split key f i [] post o = rw (before-self key i) (omega (arith, none_after key f i post o.0))
+ordered-split key f i (j ∷ pre) post o = rw (first_ahead key j i pre post o.0) (omega (arith, ordered-split key f i pre post o.1))
+  where
+    first_ahead : (key : ℕ → ℕ) (j i : ℕ) (pre post : List ℕ) → IsAhead key j (pre ++ i ∷ post) → stands_before key j i ≡ true
+    first_ahead key j i [] post a = a.0
+    first_ahead key j i (k ∷ pre) post a = first_ahead key j i pre post a.1
+
+pub sum_before-prefix : (key f : ℕ → ℕ) (n i : ℕ) (pre post : List ℕ) → in_order key n ≡ pre ++ i ∷ post → sum_before n key f i ≡ sum_list f pre
+sum_before-prefix key f n i pre post e =
+    sym (sum_list-in_order (λ k. if stands_before key k i then f k else 0) key n)
+    ∙ (ap (sum_list (λ k. if stands_before key k i then f k else 0)) e
+    ∙ ordered-split key f i pre post (subst (IsOrdered key) e (in_order-ordered key n)))
+
+length-insert : (key : ℕ → ℕ) (i : ℕ) (js : List ℕ) → length (insert_by key i js) ≡ suc (length js)
+length-insert key i [] = refl
+length-insert key i (j ∷ js) = go (stands_before key i j) (length-insert key i js)
+  where
+    go : (b : Bool) → length (insert_by key i js) ≡ suc (length js) → length (if b then i ∷ j ∷ js else j ∷ insert_by key i js) ≡ suc (suc (length js))
+    go true ih = refl
+    go false ih = ap suc ih
+
+pub length-in_order : (key : ℕ → ℕ) (n : ℕ) → length (in_order key n) ≡ n
+unfolding in_order
+length-in_order key zero = refl
+length-in_order key (suc n) = length-insert key n (in_order key n) ∙ ap suc (length-in_order key n)

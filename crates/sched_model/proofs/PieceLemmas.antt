@@ -1,0 +1,64 @@
+-- The segments of a list of units that grows at its end, and of a long run of one holder.
+use Rattle.std.proofs.Common.{◌≡◌, ℕ, zero, suc, ◌+◌, Bool, true, false, List, [], ◌∷◌, ◌++◌, replicate, refl, arith, if◌then◌else◌, ap, ap₂, ◌∙◌, sym, subst, true≢false}
+use Rattle.std.proofs.lemmas.Bool.Decides.{nat_tests}
+use Rattle.sched_model.specs.declared.holder.Holder.{Holder}
+use Rattle.sched_model.specs.declared.holder.Holder.TheVariants.{Nobody, Held}
+use Rattle.sched_model.specs.Segments.{same_holder, Piece, before_pieces, pieces_of}
+
+abbrev pub piece : Holder → ℕ → Piece
+piece h n = record { holder = h; units = n }
+
+pub same_holder-eq : (g h : Holder) → same_holder g h ≡ true → g ≡ h
+same_holder-eq Nobody Nobody e = refl
+same_holder-eq Nobody (Held j l) e = absurd (true≢false (sym e))
+same_holder-eq (Held i k) Nobody e = absurd (true≢false (sym e))
+same_holder-eq (Held i k) (Held j l) e = ap₂ Held (grind (arith, nat_tests)) (grind (arith, nat_tests))
+
+pub same_holder-refl : (h : Holder) → same_holder h h ≡ true
+same_holder-refl Nobody = refl
+same_holder-refl (Held i k) = grind (arith, nat_tests)
+
+-- one more unit at the end of a list of segments
+abbrev pub with_unit : List Piece → Holder → List Piece
+with_unit [] h = piece h 1 ∷ []
+with_unit (r ∷ []) h = if same_holder r.holder h then piece r.holder (r.units + 1) ∷ [] else r ∷ piece h 1 ∷ []
+with_unit (r ∷ q ∷ rs) h = r ∷ with_unit (q ∷ rs) h
+
+pub with_unit-before : (u : Holder) (rs : List Piece) (h : Holder) → before_pieces u (with_unit rs h) ≡ with_unit (before_pieces u rs) h
+with_unit-before u [] h = go (same_holder u h)
+  where
+    go : (b : Bool) → (if b then piece u (1 + 1) ∷ [] else piece u 1 ∷ piece h 1 ∷ []) ≡ (if b then piece u (1 + 1) ∷ [] else piece u 1 ∷ piece h 1 ∷ [])
+    go b = refl
+with_unit-before u (r ∷ []) h = go (same_holder u r.holder) refl (same_holder r.holder h) refl
+  where
+    go : (b : Bool) → same_holder u r.holder ≡ b → (c : Bool) → same_holder r.holder h ≡ c
+        → before_pieces u (if same_holder r.holder h then piece r.holder (r.units + 1) ∷ [] else r ∷ piece h 1 ∷ [])
+        ≡ with_unit (if same_holder u r.holder then piece u (r.units + 1) ∷ [] else piece u 1 ∷ r ∷ []) h
+    go true e true f =
+        let same : u ≡ r.holder = same_holder-eq u r.holder e in
+        let reach : same_holder u h ≡ true = subst (λ x. same_holder x h ≡ true) (sym same) f in
+        rw (f, e, reach) refl
+    go true e false f =
+        let same : u ≡ r.holder = same_holder-eq u r.holder e in
+        let reach : same_holder u h ≡ false = subst (λ x. same_holder x h ≡ false) (sym same) f in
+        rw (f, e, reach) refl
+    go false e true f = rw (f, e, f) refl
+    go false e false f = rw (f, e, f) refl
+with_unit-before u (r ∷ q ∷ rs) h = go (same_holder u r.holder)
+  where
+    go : (b : Bool) → (if b then piece u (r.units + 1) ∷ with_unit (q ∷ rs) h else piece u 1 ∷ r ∷ with_unit (q ∷ rs) h)
+        ≡ with_unit (if b then piece u (r.units + 1) ∷ q ∷ rs else piece u 1 ∷ r ∷ q ∷ rs) h
+    go true = refl
+    go false = refl
+
+pub pieces_of-push : (us : List Holder) (h : Holder) → pieces_of (us ++ h ∷ []) ≡ with_unit (pieces_of us) h
+pieces_of-push [] h = refl
+pieces_of-push (u ∷ us) h = ap (before_pieces u) (pieces_of-push us h) ∙ with_unit-before u (pieces_of us) h
+
+-- a run of one holder is one segment
+pub pieces_of-run : (n : ℕ) (h : Holder) → pieces_of (replicate (suc n) h) ≡ piece h (suc n) ∷ []
+pieces_of-run zero h = refl
+pieces_of-run (suc n) h = ap (before_pieces h) (pieces_of-run n h) ∙ (rw (same_holder-refl h) more)
+  where
+    more : piece h (suc n + 1) ∷ [] ≡ piece h (suc (suc n)) ∷ []
+    more = let e : suc n + 1 ≡ suc (suc n) = omega arith in ap (λ m. piece h m ∷ []) e

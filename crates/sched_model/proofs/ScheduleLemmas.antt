@@ -1,0 +1,93 @@
+-- There is exactly one schedule.
+use Rattle.std.proofs.Common.{◌≡◌, ℕ, zero, suc, ◌-◌, ◌<◌, List, [], ◌∷◌, ◌++◌, length, get_or, refl, arith, ap, ◌∙◌, sym, length-append, ◌⊎◌, inl, inr, subst, eq-or-lt_of_le, le_of_suc-le-suc}
+use Rattle.std.proofs.lemmas.List.{ext_get_or, get_or-append_right}
+use Rattle.std.proofs.Math.ListN.{get_or-append}
+use Rattle.grid_fraction.specs.declared.Frac.{Frac}
+use Rattle.sched_model.specs.Plan.{Plan, count, point}
+use Rattle.sched_model.specs.Ticks.{Tick}
+use Rattle.sched_model.specs.Ticks.{share, left}
+use Rattle.sched_model.specs.Priority.{allotment}
+use Rattle.sched_model.specs.Priority.{key_of}
+use Rattle.sched_model.specs.Schedule.{entry_in_force, IsNext, IsScheduleBy, next_tick, schedule_by}
+use Rattle.grid_fraction.specs.Numbers.{list_below}
+use Rattle.sched_model.proofs.PriorityLemmas.{allotment_of, allotment-shares, shares-same}
+
+pub length-list_below : {A : Type 0} (n : ℕ) (f : ℕ → A) → length (list_below n f) ≡ n
+length-list_below zero f = refl
+length-list_below (suc n) f = omega (arith, length-append (list_below n f) (f n ∷ []), length-list_below n f)
+
+pub get_or-list_below : (n : ℕ) (f : ℕ → ℕ) (i : ℕ) → i < n → get_or (list_below n f) i 0 ≡ f i
+get_or-list_below zero f i lt = absurd (omega arith)
+get_or-list_below (suc n) f i lt = go (eq-or-lt_of_le (le_of_suc-le-suc lt)) (get_or-list_below n f)
+  where
+    go : (i ≡ n) ⊎ (i < n) → ((i : ℕ) → i < n → get_or (list_below n f) i 0 ≡ f i) → get_or (list_below n f ++ f n ∷ []) i 0 ≡ f i
+    go (inl e) ih =
+        let len : length (list_below n f) ≡ n = length-list_below n f in
+        get_or-append_right (list_below n f) (f n ∷ []) n i 0 len (omega arith)
+        ∙ (ap (λ k. get_or (f n ∷ []) k 0) zero_there ∙ ap f (sym e))
+      where
+        zero_there : i - n ≡ 0
+        zero_there = omega (arith, e)
+    go (inr l) ih =
+        get_or-append (list_below n f) (f n ∷ []) 0 i (omega (arith, length-list_below n f)) ∙ ih i l
+
+-- the tick that may follow is determined by the ticks before it
+pub next_unique : (p : Plan) (dem : ℕ → ℕ → ℕ) (ask : List Tick → Frac) (past : List Tick) (x : Tick)
+    → IsNext p dem ask past x → x ≡ next_tick p dem ask past
+next_unique p dem ask past x h =
+    λ i. record { entry = h.entry i; shares = same i }
+  where
+    f : ℕ → ℕ
+    f e = (point p e).speed
+
+    given : (e : ℕ) → ℕ → ℕ
+    given e = allotment (count p) (key_of p.scheduler p (length past)) (f e) (left p dem past)
+
+    same : x.shares ≡ list_below (count p) (given (entry_in_force p dem ask past))
+    same = ext_get_or 0 x.shares (list_below (count p) (given (entry_in_force p dem ask past)))
+        (h.one_share_each ∙ sym (length-list_below (count p) (given (entry_in_force p dem ask past))))
+        (λ i lt. at i (subst (λ n. i < n) h.one_share_each lt))
+      where
+        at : (i : ℕ) → i < count p → get_or x.shares i 0 ≡ get_or (list_below (count p) (given (entry_in_force p dem ask past))) i 0
+        at i lt =
+            allotment_of (count p) (key_of p.scheduler p (length past)) (f x.entry) (left p dem past) (share x) h.legal i lt
+            ∙ (ap (λ e. given e i) h.entry
+            ∙ sym (get_or-list_below (count p) (given (entry_in_force p dem ask past)) i lt))
+
+pub schedule_unique : (p : Plan) (dem : ℕ → ℕ → ℕ) (ask : List Tick → Frac) (ticks : List Tick)
+    → IsScheduleBy p dem ask ticks → ticks ≡ schedule_by p dem ask (length ticks)
+unfolding schedule_by
+schedule_unique p dem ask [] h = refl
+schedule_unique p dem ask (x ∷ past) h =
+    let e : past ≡ schedule_by p dem ask (length past) = schedule_unique p dem ask past h.0 in
+    ap (λ y. y ∷ past) (next_unique p dem ask past x h.1) ∙ ap (λ ps. next_tick p dem ask ps ∷ ps) e
+
+pub same_schedule : (p : Plan) (dem : ℕ → ℕ → ℕ) (ask : List Tick → Frac) (a b : List Tick)
+    → IsScheduleBy p dem ask a → IsScheduleBy p dem ask b → length a ≡ length b → a ≡ b
+same_schedule p dem ask a b h g e =
+    schedule_unique p dem ask a h ∙ (ap (schedule_by p dem ask) e ∙ sym (schedule_unique p dem ask b g))
+
+-- the tick that the definition computes may follow, so its ticks are a schedule
+pub next_tick-may : (p : Plan) (dem : ℕ → ℕ → ℕ) (ask : List Tick → Frac) (past : List Tick)
+    → IsNext p dem ask past (next_tick p dem ask past)
+next_tick-may p dem ask past = record {
+  one_share_each = length-list_below (count p) given;
+  entry = refl;
+  legal = shares-same (count p) (key_of p.scheduler p (length past)) f (left p dem past) given (share (next_tick p dem ask past))
+      (λ i lt. sym (get_or-list_below (count p) given i lt))
+      (allotment-shares (count p) (key_of p.scheduler p (length past)) f (left p dem past));
+}
+  where
+    f : ℕ
+    f = (point p (entry_in_force p dem ask past)).speed
+
+    given : ℕ → ℕ
+    given = allotment (count p) (key_of p.scheduler p (length past)) f (left p dem past)
+
+pub schedule_exists : (p : Plan) (dem : ℕ → ℕ → ℕ) (ask : List Tick → Frac) (t : ℕ)
+    → IsScheduleBy p dem ask (schedule_by p dem ask t) × (length (schedule_by p dem ask t) ≡ t)
+unfolding schedule_by
+schedule_exists p dem ask zero = (tt, refl)
+schedule_exists p dem ask (suc t) =
+    let r = schedule_exists p dem ask t in
+    ((r.0, next_tick-may p dem ask (schedule_by p dem ask t)), omega (arith, r.1))

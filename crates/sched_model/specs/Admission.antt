@@ -1,0 +1,33 @@
+-- What an admitted plan keeps.
+use Rattle.std.specs.Prelude.{◌≡◌, ℕ, List}
+use Rattle.grid_fraction.specs.declared.Frac.{Frac}
+use Rattle.dvs_base.specs.declared.kind.Scheduler.{Scheduler}
+use Rattle.dvs_base.specs.declared.kind.Scheduler.TheVariants.{Edf, Rm}
+use Rattle.task_model.specs.Tasks.{IsTaskSet}
+use Rattle.freq_table.specs.Tables.{IsTable}
+use Rattle.sched_model.specs.Plan.{Plan, count, names, period, hyper}
+use Rattle.sched_model.specs.Order.{in_order}
+use Rattle.sched_model.specs.StaticDemand.{static_demand}
+use Rattle.sched_model.specs.Tests.{IsEdfFeasible, IsRmFeasible}
+
+-- the tasks and the machine are within the limits
+pub record IsWithinLimits (p : Plan) : Type 0 where
+  pub tasks : IsTaskSet p.tasks
+  pub machine : IsTable p.machine
+
+-- the scheduler's own test
+abbrev pub PassesTest : Scheduler → Plan → Type 0
+PassesTest Edf p = IsEdfFeasible p
+PassesTest Rm p = IsRmFeasible p
+
+pub record IsAdmitted (p : Plan) : Type 0 where
+  pub limits : IsWithinLimits p
+  pub test : PassesTest p.scheduler p
+
+-- what an admitted plan holds beside its parts: the names, the tasks in RM order, the hyperperiod and the static demand
+pub record HoldsPlan (p : Plan) (name_list : List (List ℕ)) (rm_order : List ℕ) (hyperperiod : ℕ) (static_fraction : Frac) : Type 0 where
+  pub admitted : IsAdmitted p
+  pub names_are : name_list ≡ names p
+  pub order_is : rm_order ≡ in_order (period p) (count p)
+  pub hyper_is : hyperperiod ≡ hyper p
+  pub static_is : static_fraction ≡ static_demand p

@@ -1,0 +1,17 @@
+-- The ticks at which the governor decides.
+use Rattle.std.specs.Prelude.{ℕ, Bool, true, not, ◌||◌, ◌&&◌, List, [], ◌∷◌, length}
+use Rattle.sched_model.specs.Plan.{Plan, count}
+use Rattle.sched_model.specs.Jobs.{latest, is_release}
+use Rattle.sched_model.specs.Ticks.{Tick, is_done}
+use Rattle.grid_fraction.specs.Numbers.{any_below}
+
+-- the latest job of task i was incomplete before the tick x, and had its whole demand by the end of it
+abbrev pub completes_in : Plan → (ℕ → ℕ → ℕ) → Tick → List Tick → ℕ → Bool
+completes_in p dem x past i =
+    let k = latest p i (length past) in not (is_done p dem past i k) && is_done p dem (x ∷ past) i k
+
+-- whether the tick after `past` is a decision instant: it is tick 0, or a release, or a job completed in the tick before
+abbrev pub is_decision : Plan → (ℕ → ℕ → ℕ) → List Tick → Bool
+is_decision p dem [] = true
+is_decision p dem (x ∷ past) =
+    is_release p (length (x ∷ past)) || any_below (count p) (λ i. completes_in p dem x past i)

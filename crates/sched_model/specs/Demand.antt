@@ -1,0 +1,27 @@
+-- The published demand of each pair of a scheduler and a governor: a fraction of units per tick, not reduced.
+use Rattle.std.specs.Prelude.{ℕ, List}
+use Rattle.dvs_base.specs.declared.kind.Scheduler.{Scheduler}
+use Rattle.dvs_base.specs.declared.kind.Scheduler.TheVariants.{Edf, Rm}
+use Rattle.dvs_base.specs.declared.kind.GovernorKind.{GovernorKind}
+use Rattle.dvs_base.specs.declared.kind.GovernorKind.TheVariants.{Plain, Fixed, Cycle, Ahead}
+use Rattle.grid_fraction.specs.declared.Frac.{Frac}
+use Rattle.sched_model.specs.Plan.{Plan}
+use Rattle.sched_model.specs.Ticks.{Tick}
+use Rattle.sched_model.specs.StaticDemand.{full_demand, edf_static, rm_static}
+use Rattle.sched_model.specs.CycleDemand.{edf_cycle, rm_cycle}
+use Rattle.sched_model.specs.AheadDemand.{edf_ahead}
+
+-- the seven pairs; RM with look-ahead is none
+abbrev pub demand_by : Scheduler → GovernorKind → Plan → (ℕ → ℕ → ℕ) → List Tick → Frac
+demand_by Edf Plain p dem past = full_demand p
+demand_by Rm Plain p dem past = full_demand p
+demand_by Edf Fixed p dem past = edf_static p
+demand_by Rm Fixed p dem past = rm_static p
+demand_by Edf Cycle p dem past = edf_cycle p dem past
+demand_by Rm Cycle p dem past = rm_cycle p dem past
+demand_by Edf Ahead p dem past = edf_ahead p dem past
+demand_by Rm Ahead p dem past = full_demand p
+
+-- the published demand of a governor at the tick after `past`
+unfoldable pub published : Plan → GovernorKind → (ℕ → ℕ → ℕ) → List Tick → Frac
+published p g dem past = demand_by p.scheduler g p dem past

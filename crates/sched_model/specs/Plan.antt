@@ -1,0 +1,45 @@
+-- A plan: the tasks, the machine and the scheduler (Liu and Layland 1973).
+use Rattle.std.specs.Prelude.{ℕ, ◌+◌, ◌*◌, ◌/◌, List, length, map}
+use Rattle.dvs_base.specs.declared.kind.Scheduler.{Scheduler}
+use Rattle.task_model.specs.declared.task.Task.{Task}
+use Rattle.task_model.specs.Tasks.{task_at, hyper_of}
+use Rattle.freq_table.specs.declared.machine.Point.{Point}
+use Rattle.freq_table.specs.Tables.{Table, point_at, speed_at, highest_speed}
+
+pub record Plan : Type 0 where
+  pub tasks : List Task
+  pub machine : Table
+  pub scheduler : Scheduler
+
+-- how many tasks there are; they are numbered from 0
+abbrev pub count : Plan → ℕ
+count p = length p.tasks
+
+abbrev pub task : Plan → ℕ → Task
+task p i = task_at p.tasks i
+
+-- the tasks' names, by their numbers
+abbrev pub names : Plan → List (List ℕ)
+names p = map (λ t. t.name) p.tasks
+
+abbrev pub period : Plan → ℕ → ℕ
+period p i = (task p i).period
+
+-- Ci: the declared worst case, and the charge for two switches of speed
+abbrev pub worst : Plan → ℕ → ℕ
+worst p i = (task p i).worst + 2 * p.machine.charge
+
+abbrev pub point : Plan → ℕ → Point
+point p e = point_at p.machine e
+
+-- fm, the highest speed
+abbrev pub top_speed : Plan → ℕ
+top_speed p = highest_speed p.machine
+
+-- H, the least common multiple of the periods
+abbrev pub hyper : Plan → ℕ
+hyper p = hyper_of p.tasks
+
+-- ui: the work of a task in H ticks, when each job takes its worst case
+abbrev pub rate : Plan → ℕ → ℕ
+rate p i = worst p i * (hyper p / period p i)

@@ -1,0 +1,49 @@
+-- The schedule of a plan and its jobs' demands.
+use Rattle.std.specs.Prelude.{ℕ, zero, suc, ◌≡◌, List, [], ◌∷◌, length, if◌then◌else◌}
+use Rattle.dvs_base.specs.declared.kind.GovernorKind.{GovernorKind}
+use Rattle.grid_fraction.specs.declared.Frac.{Frac}
+use Rattle.grid_fraction.specs.Numbers.{list_below}
+use Rattle.freq_table.specs.Tables.{lowest_entry}
+use Rattle.sched_model.specs.Plan.{Plan, count, point}
+use Rattle.sched_model.specs.Ticks.{Tick, left}
+use Rattle.sched_model.specs.Priority.{IsLegal, allotment, key_of}
+use Rattle.sched_model.specs.Decision.{is_decision}
+use Rattle.sched_model.specs.Demand.{published}
+
+-- The entry in force at the tick after `past`: the choice at the last decision instant. `ask` is the demand published there.
+abbrev pub entry_in_force : Plan → (ℕ → ℕ → ℕ) → (List Tick → Frac) → List Tick → ℕ
+entry_in_force p dem ask [] = lowest_entry p.machine (ask [])
+entry_in_force p dem ask (x ∷ past) =
+    if is_decision p dem (x ∷ past) then lowest_entry p.machine (ask (x ∷ past)) else entry_in_force p dem ask past
+
+-- the tick x may follow the ticks of `past`
+pub record IsNext (p : Plan) (dem : ℕ → ℕ → ℕ) (ask : List Tick → Frac) (past : List Tick) (x : Tick) : Type 0 where
+  pub one_share_each : length x.shares ≡ count p
+  pub entry : x.entry ≡ entry_in_force p dem ask past
+  pub legal : IsLegal p dem past ((point p x.entry).speed) x
+
+-- every tick may follow the earlier ones; the last tick stands first
+abbrev pub IsScheduleBy : Plan → (ℕ → ℕ → ℕ) → (List Tick → Frac) → List Tick → Type 0
+IsScheduleBy p dem ask [] = Unit {0}
+IsScheduleBy p dem ask (x ∷ past) = IsScheduleBy p dem ask past × IsNext p dem ask past x
+
+-- the first ticks of the schedule of a plan under a governor
+abbrev pub IsSchedule : Plan → GovernorKind → (ℕ → ℕ → ℕ) → List Tick → Type 0
+IsSchedule p g dem = IsScheduleBy p dem (published p g dem)
+
+-- the one tick that may follow
+abbrev pub next_tick : Plan → (ℕ → ℕ → ℕ) → (List Tick → Frac) → List Tick → Tick
+next_tick p dem ask past =
+    let e = entry_in_force p dem ask past in
+    record {
+      entry = e;
+      shares = list_below (count p) (allotment (count p) (key_of p.scheduler p (length past)) ((point p e).speed) (left p dem past));
+    }
+
+-- the one schedule of t ticks
+unfoldable pub schedule_by : Plan → (ℕ → ℕ → ℕ) → (List Tick → Frac) → ℕ → List Tick
+schedule_by p dem ask zero = []
+schedule_by p dem ask (suc t) = let past = schedule_by p dem ask t in next_tick p dem ask past ∷ past
+
+abbrev pub schedule : Plan → GovernorKind → (ℕ → ℕ → ℕ) → ℕ → List Tick
+schedule p g dem = schedule_by p dem (published p g dem)

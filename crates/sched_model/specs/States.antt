@@ -1,0 +1,128 @@
+-- The state of a run: a row for each task, and what each call makes of it.
+use Rattle.std.specs.Prelude.{◌≡◌, ℕ, ◌+◌, ◌-◌, ◌<◌, ◌≤◌, ◌^◌, Bool, true, false, if◌then◌else◌, List, [], ◌∷◌, map, length, slice_set}
+use Rattle.std.specs.List.{slice_index_or}
+use Rattle.grid_fraction.specs.Numbers.{list_below}
+use Rattle.sched_model.specs.declared.state.Row.{Row}
+use Rattle.sched_model.specs.Plan.{Plan, count, period, worst}
+use Rattle.sched_model.specs.Jobs.{latest, due, last_release}
+use Rattle.sched_model.specs.Ticks.{Tick, at, exec, is_done, is_complete, wleft}
+
+-- what a governor sees: the tick, the rows, the tick of the last mark, and what each job might still need there
+pub record StateOf : Type 0 where
+  pub now : ℕ
+  pub rows : List Row
+  pub base_at : ℕ
+  pub base : List ℕ
+
+-- a row that no state has, for places past the end
+abbrev pub no_row : Row
+no_row = record { deadline = 0; job = 0; used = 0; done = true; worst = 0 }
+
+abbrev pub row_at : StateOf → ℕ → Row
+row_at s i = slice_index_or s.rows i no_row
+
+-- what a job may still need at most
+abbrev pub row_wleft : Row → ℕ
+row_wleft row = if row.done then 0 else row.worst - row.used
+
+-- the row after the next release
+abbrev pub released_row : ℕ → Row → Row
+released_row period row = record { deadline = row.deadline + period; job = row.job + 1; used = 0; done = false; worst = row.worst }
+
+-- the row before the first release: job 0, which is complete
+abbrev pub opening_row : ℕ → Row
+opening_row worst = record { deadline = 0; job = 0; used = 0; done = true; worst = worst }
+
+-- the state before the first release
+abbrev pub opening : Plan → StateOf
+opening p = record {
+  now = 0;
+  rows = list_below (count p) (λ i. opening_row (worst p i));
+  base_at = 0;
+  base = list_below (count p) (λ i. 0);
+}
+
+-- a state is of a plan
+pub record IsOfPlan (p : Plan) (s : StateOf) : Type 0 where
+  pub rows : length s.rows ≡ count p
+  pub base : length s.base ≡ count p
+  pub worst : (i : ℕ) → i < count p → (row_at s i).worst ≡ worst p i
+  pub used : (i : ℕ) → i < count p → (row_at s i).used ≤ (row_at s i).worst
+
+-- what every state keeps: one base for each row, and no job has had more than its worst case
+pub record IsStateOf (s : StateOf) : Type 0 where
+  pub base : length s.base ≡ length s.rows
+  pub used : (i : ℕ) → i < length s.rows → (row_at s i).used ≤ (row_at s i).worst
+
+-- what the five calls make of a state
+abbrev pub after_release : Plan → StateOf → ℕ → StateOf
+after_release p s i = record s { rows = slice_set s.rows i (released_row (period p i) (row_at s i)) }
+
+abbrev pub after_run : StateOf → ℕ → ℕ → StateOf
+after_run s i units = record s { rows = slice_set s.rows i (record (row_at s i) { used = (row_at s i).used + units }) }
+
+abbrev pub after_finish : StateOf → ℕ → StateOf
+after_finish s i = record s { rows = slice_set s.rows i (record (row_at s i) { done = true }) }
+
+abbrev pub after_advance : StateOf → ℕ → StateOf
+after_advance s to = record s { now = to }
+
+abbrev pub after_mark : StateOf → StateOf
+after_mark s = record s { base_at = s.now; base = map row_wleft s.rows }
+
+pub record CanRelease (p : Plan) (s : StateOf) (i : ℕ) : Type 0 where
+  pub task : i < length s.rows
+  pub below : i < count p
+  pub done : (row_at s i).done ≡ true
+  pub due : (row_at s i).deadline ≡ s.now
+  pub deadline_fits : (row_at s i).deadline + period p i < 2 ^ 64
+  pub job_fits : (row_at s i).job + 1 < 2 ^ 64
+
+pub record CanRun (s : StateOf) (i units : ℕ) : Type 0 where
+  pub task : i < length s.rows
+  pub open_job : (row_at s i).done ≡ false
+  pub room : (row_at s i).used + units ≤ (row_at s i).worst
+
+pub record CanFinish (s : StateOf) (i : ℕ) : Type 0 where
+  pub task : i < length s.rows
+  pub open_job : (row_at s i).done ≡ false
+
+-- a row before the releases of the tick after `past`: job 0 at the start, and else the job that was the latest in the last tick
+abbrev pub prior_row : Plan → (ℕ → ℕ → ℕ) → List Tick → ℕ → Row
+prior_row p dem [] i = opening_row (worst p i)
+prior_row p dem (x ∷ past) i =
+    let k = latest p i (length past) in
+    record { deadline = due p i k; job = k; used = exec p (x ∷ past) i k; done = is_done p dem (x ∷ past) i k; worst = worst p i }
+
+abbrev pub prior_base_at : Plan → List Tick → ℕ
+prior_base_at p [] = 0
+prior_base_at p (x ∷ past) = last_release p (length past)
+
+abbrev pub prior_base : Plan → (ℕ → ℕ → ℕ) → List Tick → ℕ → ℕ
+prior_base p dem [] i = 0
+prior_base p dem (x ∷ past) i = wleft p dem (at (last_release p (length past)) past) i
+
+-- the state before the releases of the tick after `past`
+abbrev pub prior_state : Plan → (ℕ → ℕ → ℕ) → List Tick → StateOf
+prior_state p dem past = record {
+  now = length past;
+  rows = list_below (count p) (prior_row p dem past);
+  base_at = prior_base_at p past;
+  base = list_below (count p) (prior_base p dem past);
+}
+
+-- the state after the ticks of `past`
+abbrev pub row_of : Plan → (ℕ → ℕ → ℕ) → List Tick → ℕ → Row
+row_of p dem past i =
+    let k = latest p i (length past) in
+    record { deadline = due p i k; job = k; used = exec p past i k; done = is_complete p dem past i; worst = worst p i }
+
+abbrev pub state_of : Plan → (ℕ → ℕ → ℕ) → List Tick → StateOf
+state_of p dem past =
+    let r = last_release p (length past) in
+    record {
+      now = length past;
+      rows = list_below (count p) (row_of p dem past);
+      base_at = r;
+      base = list_below (count p) (wleft p dem (at r past));
+    }

@@ -1,0 +1,10 @@
+//! The model of a plan and its schedule, and the state of a run.
+#![tactic(auto)]
+
+mod holder;
+mod plan;
+mod state;
+
+pub use holder::Holder;
+pub use plan::Admitted;
+pub use state::{Row, State};

@@ -1,0 +1,118 @@
+// Admitted plans.
+ghost use Rattle.std.specs.Prelude.{◌≡◌, ◌<◌, slice_index};
+ghost use Rattle.sched_model.specs.Plan.{count, names, task, period, worst, hyper};
+ghost use Rattle.sched_model.specs.Order.{in_order};
+ghost use Rattle.sched_model.specs.StaticDemand.{static_demand};
+ghost use Rattle.sched_model.specs.Admission.{IsAdmitted};
+
+use dvs_base::{Name, Scheduler};
+use freq_table::Machine;
+use grid_fraction::Frac;
+use std::marker::Model;
+use task_model::Task;
+
+/// Tasks on a machine under a scheduler whose test they pass.
+#[derive(Drop)]
+pub struct Admitted {
+    tasks: Vec<Task>,
+    name_list: Vec<Name>,
+    machine: Machine,
+    scheduler: Scheduler,
+    rm_order: Vec<u32>,
+    hyperperiod: u64,
+    static_fraction: Frac,
+}
+
+impl Model for Admitted {
+    ghost use Rattle.sched_model.specs.Plan.{Plan};
+    ghost use Rattle.sched_model.specs.Admission.{HoldsPlan};
+
+    ghost Value = { Plan };
+
+    ghost view = { λ a. record { tasks = a.tasks.items; machine = a.machine; scheduler = a.scheduler } };
+
+    ghost invariant = { λ a. HoldsPlan (record { tasks = a.tasks.items; machine = a.machine; scheduler = a.scheduler }) a.name_list.items a.rm_order.items a.hyperperiod a.static_fraction };
+}
+
+impl Admitted {
+    /// What each admitted plan keeps: it is within the limits, and its scheduler's test passes.
+    pub fn known(&self)
+        ensures { IsAdmitted self.now }
+    {
+        let _hyper = &self.hyperperiod;
+    }
+
+    /// How many tasks there are, 1 to 64.
+    pub fn count(&self) -> u32
+        ensures { result ≡ count self.now }
+    {
+        self.tasks.len() as u32
+    }
+
+    /// The tasks' names, by their numbers.
+    pub fn names(&self) -> &[Name]
+        ensures { result.now ≡ names self.now }
+    {
+        &self.name_list
+    }
+
+    /// The period of a task in ticks.
+    pub fn period(&self, i: u32) -> u64
+        requires { i < count self.now }
+        ensures { result ≡ period self.now i }
+    {
+        self.tasks[i as usize].period
+    }
+
+    /// The declared worst case of a task in work units, without the charge.
+    pub fn declared(&self, i: u32) -> u64
+        requires { i < count self.now }
+        ensures { result ≡ (task self.now i).worst }
+    {
+        self.tasks[i as usize].worst
+    }
+
+    /// The worst case of a task in work units, with the charge for two switches of speed.
+    pub fn worst(&self, i: u32) -> u64
+        requires { i < count self.now }
+        ensures { result ≡ worst self.now i }
+    {
+        self.tasks[i as usize].worst + 2 * self.machine.charge()
+    }
+
+    /// The k-th task in RM order, counted from 0.
+    pub fn ranked(&self, k: u32) -> u32
+        requires { k < count self.now }
+        ensures { result ≡ slice_index (in_order (period self.now) (count self.now)) k }
+    {
+        self.rm_order[k as usize]
+    }
+
+    /// The hyperperiod in ticks, the least common multiple of the periods.
+    pub fn hyper(&self) -> u64
+        ensures { result ≡ hyper self.now }
+    {
+        self.hyperperiod
+    }
+
+    /// The machine.
+    pub fn machine(&self) -> &Machine
+        ensures { result.now ≡ self.now.machine }
+    {
+        &self.machine
+    }
+
+    /// The scheduler whose test passed.
+    pub fn scheduler(&self) -> Scheduler
+        ensures { result ≡ self.now.scheduler }
+    {
+        self.scheduler
+    }
+
+    /// The static demand in units per tick, not reduced (Pillai and Shin 2001).
+    pub fn static_demand(&self) -> Frac
+        ensures { result ≡ static_demand self.now }
+    {
+        self.static_fraction
+    }
+}

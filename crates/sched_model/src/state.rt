@@ -1,0 +1,103 @@
+// The state of a run.
+ghost use Rattle.std.specs.Prelude.{◌≡◌, ◌≤◌, IfOk};
+ghost use Rattle.sched_model.specs.States.{after_release, after_run, after_finish, after_advance, after_mark, row_wleft, CanRelease, CanRun, CanFinish};
+
+use crate::Admitted;
+use std::marker::Model;
+
+/// What a run keeps of a task: its latest job with its deadline in ticks, the work units that the job has had, whether
+/// it is complete, and the charged worst case in work units.
+#[derive(Clone, Copy, Debug, PartialEq, Eq)]
+pub struct Row {
+    pub deadline: u64,
+    pub job: u64,
+    pub used: u64,
+    pub done: bool,
+    pub worst: u64,
+}
+
+/// The state of a run: the tick, a row for each task, the tick of the last mark, and what each job might still need
+/// there.
+#[derive(Drop)]
+pub struct State {
+    pub now: u64,
+    pub rows: Vec<Row>,
+    pub base_at: u64,
+    pub base: Vec<u64>,
+}
+
+impl Model for State {
+    ghost use Rattle.sched_model.specs.States.{StateOf, IsStateOf};
+
+    ghost Value = { StateOf };
+
+    ghost view = { λ s. record { now = s.now; rows = s.rows.items; base_at = s.base_at; base = s.base.items } };
+
+    ghost invariant = { λ s. IsStateOf (record { now = s.now; rows = s.rows.items; base_at = s.base_at; base = s.base.items }) };
+}
+
+// What the job may still need at most.
+fn worst_left(row: Row) -> u64
+    requires { row.used ≤ row.worst }
+    ensures { result ≡ row_wleft row }
+{
+    if row.done { 0 } else { row.worst - row.used }
+}
+
+impl State {
+    /// The next job of a task is released.
+    pub fn release(&mut self, plan: &Admitted, task: u32)
+        requires { CanRelease plan.now self.old task }
+        ensures { self.new ≡ after_release plan.now self.old task }
+    {
+        let period = plan.period(task);
+        let row = self.rows[task as usize];
+        self.rows[task as usize] = Row {
+            deadline: row.deadline + period,
+            job: row.job + 1,
+            used: 0,
+            done: false,
+            worst: row.worst,
+        };
+    }
+
+    /// The task's job has had so many work units.
+    pub fn run(&mut self, task: u32, units: u64)
+        requires { CanRun self.old task units }
+        ensures { self.new ≡ after_run self.old task units }
+    {
+        let row = self.rows[task as usize];
+        self.rows[task as usize] = Row {
+            used: row.used + units,
+            ..row
+        };
+    }
+
+    /// The task's job is complete.
+    pub fn finish(&mut self, task: u32)
+        requires { CanFinish self.old task }
+        ensures { self.new ≡ after_finish self.old task }
+    {
+        let row = self.rows[task as usize];
+        self.rows[task as usize] = Row { done: true, ..row };
+    }
+
+    /// Time passes, up to the tick `to`.
+    pub fn advance(&mut self, to: u64)
+        requires { self.old.now ≤ to }
+        ensures { self.new ≡ after_advance self.old to }
+    {
+        self.now = to;
+    }
+
+    /// Marks this tick: each base is what the row's job may still need at most.
+    pub fn mark(&mut self)
+        ensures { self.new ≡ after_mark self.old }
+    {
+        self.base_at = self.now;
+        for i in 0..self.rows.len() {
+            let row = self.rows[i];
+            self.base[i] = worst_left(row);
+        }
+    }
+}

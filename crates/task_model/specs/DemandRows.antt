@@ -1,0 +1,13 @@
+-- The rows of a demand list: what single jobs really need.
+use Rattle.std.specs.Prelude.{ℕ, ◌&&◌, nat_eq, List, [], ◌∷◌, Option, Some, None, if◌then◌else◌}
+
+-- one line of a demand list: the units of job k of task i
+pub record DemandRow : Type 0 where
+  pub task : ℕ
+  pub job : ℕ
+  pub units : ℕ
+
+-- the units that a demand list names for a job
+abbrev pub named : List DemandRow → ℕ → ℕ → Option ℕ
+named [] i k = None
+named (r ∷ rows) i k = if nat_eq r.task i && nat_eq r.job k then Some r.units else named rows i k

@@ -1,0 +1,6 @@
+//! Task sets.
+#![tactic(auto)]
+
+mod task;
+
+pub use task::{Task, TaskSet};
