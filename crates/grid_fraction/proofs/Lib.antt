@@ -1,2 +1,4 @@
 pub mod Sums
 pub mod Searches
+pub mod Multiples
+pub mod Ceilings

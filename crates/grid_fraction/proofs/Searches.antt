@@ -1,6 +1,6 @@
 -- Searches among numbers.
 use Rattle.std.proofs.Common.{◌≡◌, ℕ, zero, suc, ◌+◌, ◌<◌, ◌≤◌, Bool, true, false, ◌||◌, not, ◌⊎◌, inl, inr, refl, arith, ap, ap₂, ◌∙◌, sym, eq-or-lt_of_le, le_of_suc-le-suc, subst, true≢false}
-use Rattle.grid_fraction.specs.Numbers.{any_below, all_below, first_from}
+use Rattle.grid_fraction.specs.Numbers.{any_below, first_from}
 
 -- what holds below m and at m holds below m + 1
 pub below_suc : (P : ℕ → Type 0) (m : ℕ) → ((k : ℕ) → k < m → P k) → P m → (k : ℕ) → k < suc m → P k
@@ -23,6 +23,18 @@ first_from-found (suc n) from m test low high found = go (test from) refl (eq-or
     go false e (inr c) ih =
         let r : (test (first_from n (suc from) test) ≡ true) × (suc from ≤ first_from n (suc from) test) = ih c (omega arith) found in
         (rw (e, first_from) r.0, rw (e, first_from) (omega (arith, r.1)))
+
+-- none of the numbers before the first one passes
+pub first_from-before : (n from k : ℕ) (test : ℕ → Bool) → from ≤ k → k < first_from n from test → test k ≡ false
+first_from-before zero from k test low lt = absurd (omega arith)
+first_from-before (suc n) from k test low lt = go (test from) refl (eq-or-lt_of_le low) (first_from-before n (suc from) k test) lt
+  where
+    go : (b : Bool) → test from ≡ b → (from ≡ k) ⊎ (from < k)
+        → (suc from ≤ k → k < first_from n (suc from) test → test k ≡ false)
+        → k < elim b [ true ↦ from | false ↦ first_from n (suc from) test ] → test k ≡ false
+    go true e c ih lt' = absurd (omega arith)
+    go false e (inl c) ih lt' = ap test (sym c) ∙ e
+    go false e (inr c) ih lt' = ih c lt'
 
 pub any_below-none : (n : ℕ) (test : ℕ → Bool) → ((i : ℕ) → i < n → test i ≡ false) → any_below n test ≡ false
 any_below-none zero test h = refl

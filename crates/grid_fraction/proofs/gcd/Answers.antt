@@ -1,0 +1,10 @@
+-- Euclid's step keeps the common divisors, and at rest 0 the divisor is the greatest.
+use Rattle.std.proofs.Common.{arith}
+use Rattle.std.proofs.lemmas.Nat.Gcd.{IsGcd-from_mod, IsGcd-from_zero}
+use Rattle.grid_fraction.proofs.gcd.Goals as goal
+
+pub loop-rest-preserved : goal.loop-rest-preserved
+loop-rest-preserved c = λ g d. c.loop-rest.invariant g (IsGcd-from_mod c.loop-rest.divisor c.loop-rest.rest g d)
+
+pub returns : goal.returns
+returns c = c.loop-rest.invariant c.loop-rest.divisor (IsGcd-from_zero c.loop-rest.divisor c.loop-rest.rest (omega arith))
