@@ -1,5 +1,6 @@
 -- A demand list: the declared worst cases, and the units of single jobs.
-use Rattle.std.specs.Prelude.{ℕ, ◌<◌, ◌≤◌, List, length, slice_index, unwrap_or}
+use Rattle.std.specs.Prelude.{◌≡◌, ℕ, ◌<◌, ◌≤◌, ◌^◌, ◌&&◌, ◌||◌, Bool, List, [], ◌∷◌, length, map, slice_index, unwrap_or, nat_eq, nat_lt, None, Some, if◌then◌else◌}
+use Rattle.std.specs.List.{AllByRecursion}
 use Rattle.task_model.specs.DemandRows.{DemandRow, named}
 
 -- the declared worst case of each task, and the rows
@@ -14,3 +15,34 @@ units_of d i k = unwrap_or (named d.rows i k) (slice_index d.worsts i)
 -- no row exceeds the worst case of its task
 abbrev pub IsWithinWorsts : DemandsOf → Type 0
 IsWithinWorsts d = (i k : ℕ) → i < length d.worsts → units_of d i k ≤ slice_index d.worsts i
+
+-- a row for a job of a task, of at most the task's worst case; jobs count from 1
+pub record IsRow (worsts : List ℕ) (r : DemandRow) : Type 0 where
+  pub task : r.task < length worsts
+  pub job : 1 ≤ r.job
+  pub units : r.units ≤ slice_index worsts r.task
+
+-- what every demand list keeps
+pub record IsDemands (d : DemandsOf) : Type 0 where
+  pub few : length d.worsts < 2 ^ 32
+  pub each : AllByRecursion (IsRow d.worsts) d.rows
+
+-- the rows of a map from tasks and jobs to units
+abbrev pub rows_of : List ((ℕ × ℕ) × ℕ) → List DemandRow
+rows_of entries = map (λ e. record { task = e.0.0; job = e.0.1; units = e.1 }) entries
+
+-- an earlier task, or an earlier job of the task
+abbrev pub precedes : DemandRow → DemandRow → Bool
+precedes r s = nat_lt r.task s.task || (nat_eq r.task s.task && nat_lt r.job s.job)
+
+-- the rows with one more, ascending by task and then by job
+abbrev pub with_row : List DemandRow → DemandRow → List DemandRow
+with_row [] r = r ∷ []
+with_row (s ∷ rows) r = if precedes r s then r ∷ s ∷ rows else s ∷ with_row rows r
+
+-- a job without a row has this one, and every other job keeps its answer
+pub record AddsRow (old new : DemandsOf) (r : DemandRow) : Type 0 where
+  pub worsts : new.worsts ≡ old.worsts
+  pub free : named old.rows r.task r.job ≡ None
+  pub row : named new.rows r.task r.job ≡ Some r.units
+  pub others : (i k : ℕ) → ((i ≡ r.task) → (k ≡ r.job) → ⊥) → named new.rows i k ≡ named old.rows i k

@@ -1,14 +1,104 @@
-// The demand list.
-ghost use Rattle.std.specs.Prelude.{◌≡◌, ◌<◌, length};
-ghost use Rattle.demand_list.specs.Demands.{units_of, IsWithinWorsts};
+// Demand lists.
+ghost use Rattle.std.specs.Prelude.{◌≡◌, ◌<◌, ◌≤◌, ◌^◌, ◌↔◌, [], length, slice_index, IsTrue, IfOk, OnErr, OnOk, Ok, None, true, false, not, is_some};
+ghost use Rattle.task_model.specs.DemandRows.{named};
+ghost use Rattle.demand_list.specs.Demands.{units_of, IsWithinWorsts, AddsRow, rows_of, with_row};
 
+use dvs_base::NoMemory;
+use std::alloc::Global;
 use std::collections::BTreeMap;
 use std::marker::Model;
 
-/// The declared worst cases, and the units of the jobs that need less, all in work units without the charge.
+/// What single jobs really need: the declared worst case of each task, and the units of the jobs that have a row.
+/// All are work units without the charge, and no row exceeds the worst case of its task.
 #[derive(Drop)]
 pub struct Demands {
-    alloc: Global,
     worsts: Vec<u64>,
     rows: BTreeMap<(u32, u64), u64>,
+}
+
+impl Model for Demands {
+    ghost use Rattle.demand_list.specs.Demands.{DemandsOf, IsDemands, rows_of};
+
+    ghost Value = { DemandsOf };
+
+    ghost view = { λ d. record { worsts = d.worsts.items; rows = rows_of d.rows.entries } };
+
+    ghost invariant = { λ d. IsDemands (record { worsts = d.worsts.items; rows = rows_of d.rows.entries }) };
+}
+
+// The row of a job in a map from tasks and jobs to units.
+fn row_of(rows: &BTreeMap<(u32, u64), u64>, task: u32, job: u64) -> Option<u64>
+    ensures { result ≡ named (rows_of rows.now.entries) task job }
+{
+    rows.get(&(task, job)).copied()
+}
+
+// Adds the row of a job that has none.
+fn add_row(
+    rows: &mut BTreeMap<(u32, u64), u64>,
+    task: u32,
+    job: u64,
+    units: u64,
+) -> Result<(), NoMemory>
+    requires { named (rows_of rows.old.entries) task job ≡ None }
+    ensures ok { OnOk result (rows_of rows.new.entries ≡ with_row (rows_of rows.old.entries) (record { task = task; job = job; units = units })) }
+    ensures err { OnErr result (rows.new.entries ≡ rows.old.entries) }
+{
+    match rows.insert((task, job), units) {
+        Ok(_) => Ok(()),
+        Err(_) => Err(NoMemory),
+    }
+}
+
+impl Demands {
+    /// What each demand list keeps.
+    pub fn known(&self)
+        ensures { IsWithinWorsts self.now }
+    {
+        let _worsts = &self.worsts;
+    }
+
+    /// The list without rows, in which every job needs its worst case.
+    pub fn worst_only(alloc: Global, worsts: &[u64]) -> Result<Demands, NoMemory>
+        requires { length worsts.now < 2 ^ 32 }
+        ensures { IfOk result (λ demands. demands ≡ record { worsts = worsts.now; rows = [] }) }
+    {
+        let mut kept = Vec::new(alloc);
+        if kept.extend_from_slice(worsts).is_err() {
+            return Err(NoMemory);
+        }
+        Ok(Demands {
+            worsts: kept,
+            rows: BTreeMap::new(alloc),
+        })
+    }
+
+    /// Adds the row of a job that has none. False where the job has a row, which stays.
+    pub fn set(&mut self, task: u32, job: u64, units: u64) -> Result<bool, NoMemory>
+        requires task { task < length self.old.worsts }
+        requires job { 1 ≤ job }
+        requires units { units ≤ slice_index self.old.worsts task }
+        ensures answer { IfOk result (λ added. added ≡ not (is_some (named self.old.rows task job))) }
+        ensures added { result ≡ Ok true → AddsRow self.old self.new (record { task = task; job = job; units = units }) }
+        ensures order { result ≡ Ok true → self.new.rows ≡ with_row self.old.rows (record { task = task; job = job; units = units }) }
+        ensures stays { result ≡ Ok false → self.new ≡ self.old }
+        ensures err { OnErr result (self.new ≡ self.old) }
+    {
+        if row_of(&self.rows, task, job).is_some() {
+            return Ok(false);
+        }
+        add_row(&mut self.rows, task, job, units)?;
+        Ok(true)
+    }
+
+    /// The units of a job without the charge: its row's, else the declared worst case.
+    pub fn units(&self, task: u32, job: u64) -> u64
+        requires { task < length self.now.worsts }
+        ensures { result ≡ units_of self.now task job }
+    {
+        match row_of(&self.rows, task, job) {
+            Some(units) => units,
+            None => self.worsts[task as usize],
+        }
+    }
 }

@@ -1,4 +1,7 @@
-//! What single jobs really need.
+//! What single jobs really need, in work units without the charge.
+//!
+//! A demand list has the declared worst case of each task and rows for single jobs, read from a file or set one by one.
+//! A row never exceeds its task's worst case, and a job without a row needs its worst case.
 #![tactic(auto)]
 
 mod demands;

@@ -1,0 +1,127 @@
+-- The rows of a map, found by task and job.
+use Rattle.std.proofs.Common.{◌≡◌, ◌≢◌, ℕ, ◌≤◌, ◌⊎◌, inl, inr, Bool, true, false, List, [], ◌∷◌, Option, Some, None, refl, sym, ◌∙◌, arith}
+use Rattle.std.specs.Prelude.{◌&&◌, ◌||◌, ◌==◌, nat_eq, nat_lt, unwrap_or, slice_index, if◌then◌else◌}
+use Rattle.std.specs.declared.cmp.Ordering.{Ordering}
+use Rattle.std.specs.declared.cmp.Ordering.TheVariants as order
+use Rattle.std.specs.Ordering.{nat_cmp, ordering_then, is_eq, is_lt, match_ordering}
+use Rattle.std.specs.Cmp.{unsigned_tied, tied_then}
+use Rattle.std.specs.List.{AllByRecursion}
+use Rattle.std.specs.BTreeMap.{insert_entry, is_at}
+use Rattle.std.specs.Map.{lookup}
+use Rattle.std.proofs.lemmas.Bool.{eqb-true, eq-eqb}
+use Rattle.std.proofs.lemmas.Bool.Decides.{eqb_tells}
+use Rattle.task_model.specs.DemandRows.{DemandRow, named}
+use Rattle.demand_list.specs.Demands.{DemandsOf, IsDemands, IsRow, IsWithinWorsts, AddsRow, rows_of, with_row, precedes}
+
+-- jobs of tasks in order
+abbrev pub job_cmp : ℕ × ℕ → ℕ × ℕ → Ordering
+job_cmp a b = ordering_then (nat_cmp a.0 b.0) (nat_cmp a.1 b.1)
+
+both_ways : (a b : ℕ) → ((a == b) ≡ true) × (a ≡ b) ⊎ ((a == b) ≡ false) × (a ≢ b) → ((b == a) ≡ true) × (b ≡ a) ⊎ ((b == a) ≡ false) × (b ≢ a) → (a == b) ≡ (b == a)
+both_ways a b (inl p) (inl q) = p.0 ∙ sym q.0
+both_ways a b (inl p) (inr q) = absurd (q.1 (sym p.1))
+both_ways a b (inr p) (inl q) = absurd (p.1 (sym q.1))
+both_ways a b (inr p) (inr q) = p.0 ∙ sym q.0
+
+eq-comm : (a b : ℕ) → (a == b) ≡ (b == a)
+eq-comm a b = both_ways a b (eqb_tells a b) (eqb_tells b a)
+
+-- the row's test and the map's are one
+is_eq-job_cmp : (i k a b : ℕ) → is_eq (job_cmp (i, k) (a, b)) ≡ (nat_eq a i && nat_eq b k)
+is_eq-job_cmp i k a b = sym (tied_then (nat_cmp i a) (nat_cmp k b)) ∙ rw (unsigned_tied i a, unsigned_tied k b, eq-comm i a, eq-comm k b) refl
+
+pub named-rows_of : (es : List ((ℕ × ℕ) × ℕ)) (i k : ℕ) → named (rows_of es) i k ≡ lookup (is_at (job_cmp (i, k))) es
+named-rows_of [] i k = refl
+named-rows_of (e ∷ es) i k = rw (is_eq-job_cmp i k e.0.0 e.0.1, named-rows_of es i k) refl
+
+-- a row that is found is within
+one-within : (worsts : List ℕ) (r : DemandRow) (i : ℕ) (rest : Option ℕ) (same job : Bool) → nat_eq r.task i ≡ same → IsRow worsts r
+    → unwrap_or rest (slice_index worsts i) ≤ slice_index worsts i
+    → unwrap_or (if same && job then Some r.units else rest) (slice_index worsts i) ≤ slice_index worsts i
+one-within worsts r i rest true true e h p = rw (sym (eqb-true r.task i e)) h.units
+one-within worsts r i rest true false e h p = p
+one-within worsts r i rest false job e h p = p
+
+named-within : (worsts : List ℕ) (rows : List DemandRow) (i k : ℕ) → AllByRecursion (IsRow worsts) rows → unwrap_or (named rows i k) (slice_index worsts i) ≤ slice_index worsts i
+named-within worsts [] i k h = omega arith
+named-within worsts (r ∷ rows) i k h = one-within worsts r i (named rows i k) (nat_eq r.task i) (nat_eq r.job k) refl h.0 (named-within worsts rows i k h.1)
+
+pub IsWithinWorsts-rows : (d : DemandsOf) → AllByRecursion (IsRow d.worsts) d.rows → IsWithinWorsts d
+IsWithinWorsts-rows d h i k _ = named-within d.worsts d.rows i k h
+
+is_lt-job_cmp_by : (p q s t : Bool) → is_lt (ordering_then (if p then order.Less else (if q then order.Equal else order.Greater)) (if s then order.Less else (if t then order.Equal else order.Greater))) ≡ (p || (q && s))
+is_lt-job_cmp_by true q s t = refl
+is_lt-job_cmp_by false false s t = refl
+is_lt-job_cmp_by false true true t = refl
+is_lt-job_cmp_by false true false true = refl
+is_lt-job_cmp_by false true false false = refl
+
+-- the rows' order and the map's are one
+is_lt-job_cmp : (r s : DemandRow) → is_lt (job_cmp (r.task, r.job) (s.task, s.job)) ≡ precedes r s
+is_lt-job_cmp r s = is_lt-job_cmp_by (nat_lt r.task s.task) (r.task == s.task) (nat_lt r.job s.job) (r.job == s.job)
+
+absent : {X : Type 0} (b : Bool) (v : X) (rest : Option X) → (if b then Some v else rest) ≡ None → (b ≡ false) × (rest ≡ None)
+absent true v rest h = absurd (cc)
+absent false v rest h = (refl, h)
+
+-- inserting into the map is adding the row
+by_order : (o : Ordering) (lt : Bool) (r s : DemandRow) (rows : List DemandRow) (k : ℕ × ℕ) (v : ℕ) (e : (ℕ × ℕ) × ℕ) (es rest : List ((ℕ × ℕ) × ℕ))
+    → r ≡ record { task = k.0; job = k.1; units = v } → s ≡ record { task = e.0.0; job = e.0.1; units = e.1 }
+    → is_lt o ≡ lt → is_eq o ≡ false → rows_of es ≡ rows → rows_of rest ≡ with_row rows r
+    → rows_of (match_ordering o ((k, v) ∷ e ∷ es) ((e.0, v) ∷ es) (e ∷ rest)) ≡ (if lt then r ∷ s ∷ rows else s ∷ with_row rows r)
+by_order order.Less true r s rows k v e es rest p q l n h i = rw (p, q, h) refl
+by_order order.Less false r s rows k v e es rest p q l n h i = absurd (cc)
+by_order order.Equal lt r s rows k v e es rest p q l n h i = absurd (cc)
+by_order order.Greater true r s rows k v e es rest p q l n h i = absurd (cc)
+by_order order.Greater false r s rows k v e es rest p q l n h i = rw (q, i) refl
+
+pub rows_of-insert_entry : (es : List ((ℕ × ℕ) × ℕ)) (i k u : ℕ) → named (rows_of es) i k ≡ None
+    → rows_of (insert_entry job_cmp es (i, k) u) ≡ with_row (rows_of es) (record { task = i; job = k; units = u })
+rows_of-insert_entry [] i k u h = refl
+rows_of-insert_entry (e ∷ es) i k u h =
+    let r : DemandRow = record { task = i; job = k; units = u } in
+    let s : DemandRow = record { task = e.0.0; job = e.0.1; units = e.1 } in
+    let a = absent (nat_eq s.task i && nat_eq s.job k) s.units (named (rows_of es) i k) h in
+    by_order (job_cmp (i, k) e.0) (precedes r s) r s (rows_of es) (i, k) u e es (insert_entry job_cmp es (i, k) u) refl refl
+    (is_lt-job_cmp r s) (is_eq-job_cmp i k s.task s.job ∙ a.0) refl (rows_of-insert_entry es i k u a.1)
+
+each-with_row : (P : DemandRow → Type 0) (rows : List DemandRow) (r : DemandRow) → AllByRecursion P rows → P r → AllByRecursion P (with_row rows r)
+each-with_row P [] r h p = (p, tt)
+each-with_row P (s ∷ rows) r h p = by (precedes r s) (each-with_row P rows r h.1 p)
+  where
+    by : (b : Bool) → AllByRecursion P (with_row rows r) → AllByRecursion P (if b then r ∷ s ∷ rows else s ∷ with_row rows r)
+    by true more = (p, h)
+    by false more = (h.0, more)
+
+pub IsDemands-with_row : (d : DemandsOf) (r : DemandRow) → IsDemands d → IsRow d.worsts r → IsDemands (record { worsts = d.worsts; rows = with_row d.rows r })
+IsDemands-with_row d r h p = record { few = h.few; each = each-with_row (IsRow d.worsts) d.rows r h.each p }
+
+here : (i k : ℕ) → (nat_eq i i && nat_eq k k) ≡ true
+here i k = rw (eq-eqb i i refl, eq-eqb k k refl) refl
+
+named-with_row : (rows : List DemandRow) (r : DemandRow) → named rows r.task r.job ≡ None → named (with_row rows r) r.task r.job ≡ Some r.units
+named-with_row [] r h = rw (here r.task r.job) refl
+named-with_row (s ∷ rows) r h =
+    let a = absent (nat_eq s.task r.task && nat_eq s.job r.job) s.units (named rows r.task r.job) h in
+    by (precedes r s) a.0 (named-with_row rows r a.1)
+  where
+    by : (b : Bool) → (nat_eq s.task r.task && nat_eq s.job r.job) ≡ false → named (with_row rows r) r.task r.job ≡ Some r.units
+        → named (if b then r ∷ s ∷ rows else s ∷ with_row rows r) r.task r.job ≡ Some r.units
+    by true other more = rw (here r.task r.job) refl
+    by false other more = rw other more
+
+elsewhere : (a b i k : ℕ) (same job : Bool) → nat_eq a i ≡ same → nat_eq b k ≡ job → ((i ≡ a) → (k ≡ b) → ⊥) → (same && job) ≡ false
+elsewhere a b i k true true e f h = absurd (h (sym (eqb-true a i e)) (sym (eqb-true b k f)))
+elsewhere a b i k true false e f h = refl
+elsewhere a b i k false job e f h = refl
+
+named-with_row_other : (rows : List DemandRow) (r : DemandRow) (i k : ℕ) → ((i ≡ r.task) → (k ≡ r.job) → ⊥) → named (with_row rows r) i k ≡ named rows i k
+named-with_row_other [] r i k h = rw (elsewhere r.task r.job i k (nat_eq r.task i) (nat_eq r.job k) refl refl h) refl
+named-with_row_other (s ∷ rows) r i k h = by (precedes r s) (named-with_row_other rows r i k h)
+  where
+    by : (b : Bool) → named (with_row rows r) i k ≡ named rows i k → named (if b then r ∷ s ∷ rows else s ∷ with_row rows r) i k ≡ named (s ∷ rows) i k
+    by true more = rw (elsewhere r.task r.job i k (nat_eq r.task i) (nat_eq r.job k) refl refl h) refl
+    by false more = rw more refl
+
+pub AddsRow-with_row : (d : DemandsOf) (r : DemandRow) → named d.rows r.task r.job ≡ None → AddsRow d (record { worsts = d.worsts; rows = with_row d.rows r }) r
+AddsRow-with_row d r h = record { worsts = refl; free = h; row = named-with_row d.rows r h; others = named-with_row_other d.rows r }
