@@ -10,3 +10,6 @@ pub mod PieceLemmas
 pub mod NoteLemmas
 pub mod DownSets
 pub mod LevelSums
+pub mod Examples
+pub mod Traces
+pub mod SpeedLines

@@ -1,5 +1,5 @@
 -- The order of the tasks is strict and total, and each task but the first stands right after another.
-use Rattle.std.proofs.Common.{◌≡◌, ◌≢◌, ℕ, zero, suc, ◌+◌, ◌<◌, min, Bool, true, false, eqb, ◌||◌, ◌⊎◌, inl, inr, refl, arith, if◌then◌else◌, ap, ap₂, ◌∙◌, sym, subst, true≢false, eq-or-lt_of_le, le_of_suc-le-suc}
+use Rattle.std.proofs.Common.{◌≡◌, ◌≢◌, ℕ, zero, suc, ◌+◌, ◌<◌, min, Bool, true, false, eqb, ◌||◌, ◌⊎◌, inl, inr, refl, arith, if◌then◌else◌, ap, ap₂, ◌∙◌, sym, true≢false}
 use Rattle.std.proofs.lemmas.Bool.Decides.{nat_tests}
 use Rattle.sched_model.specs.Priority.{stands_before, sum_before, sum_up_to, SharesOut, allotment}
 use Rattle.grid_fraction.proofs.Sums.{sum_below-same, sum_below-add, sum_below-one, sum_below-zero}

@@ -4,7 +4,7 @@ use Rattle.dvs_base.specs.declared.kind.Scheduler.{Scheduler}
 use Rattle.task_model.specs.declared.task.Task.{Task}
 use Rattle.task_model.specs.Tasks.{task_at, hyper_of}
 use Rattle.freq_table.specs.declared.machine.Point.{Point}
-use Rattle.freq_table.specs.Tables.{Table, point_at, speed_at, highest_speed}
+use Rattle.freq_table.specs.Tables.{Table, point_at, highest_speed}
 
 pub record Plan : Type 0 where
   pub tasks : List Task

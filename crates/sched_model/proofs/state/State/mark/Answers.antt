@@ -1,4 +1,4 @@
-use Rattle.std.proofs.Common.{◌≡◌, ◌<◌, length, sym, ◌∙◌, arith}
+use Rattle.std.proofs.Common.{◌≡◌, ◌<◌, length, sym, arith}
 use Rattle.std.proofs.lemmas.Grind.{common_steps}
 use Rattle.sched_model.proofs.Marking.{mark_step}
 use Rattle.sched_model.proofs.state.State.mark.Goals as goal
