@@ -13,3 +13,4 @@ pub mod LevelSums
 pub mod Examples
 pub mod Traces
 pub mod SpeedLines
+pub mod Openings

@@ -47,3 +47,13 @@ schedule_by p dem ask (suc t) = let past = schedule_by p dem ask t in next_tick 
 
 abbrev pub schedule : Plan → GovernorKind → (ℕ → ℕ → ℕ) → ℕ → List Tick
 schedule p g dem = schedule_by p dem (published p g dem)
+
+-- the ticks of `schedule_by` are a schedule of that length, for all demands and whatever demand is published
+abbrev pub HasSchedule : Plan → Type 0
+HasSchedule p = (dem : ℕ → ℕ → ℕ) (ask : List Tick → Frac) (t : ℕ)
+    → IsScheduleBy p dem ask (schedule_by p dem ask t) × (length (schedule_by p dem ask t) ≡ t)
+
+-- and each schedule is that of its length
+abbrev pub HasNoOther : Plan → Type 0
+HasNoOther p = (dem : ℕ → ℕ → ℕ) (ask : List Tick → Frac) (ticks : List Tick)
+    → IsScheduleBy p dem ask ticks → ticks ≡ schedule_by p dem ask (length ticks)

@@ -3,8 +3,10 @@
 
 mod holder;
 mod plan;
+mod schedule;
 mod state;
 
 pub use holder::Holder;
 pub use plan::Admitted;
+pub use schedule::one_schedule;
 pub use state::{Row, State};

@@ -1,8 +1,10 @@
 // The state of a run.
 ghost use Rattle.std.specs.Prelude.{◌≡◌, ◌≤◌, IfOk};
-ghost use Rattle.sched_model.specs.States.{after_release, after_run, after_finish, after_advance, after_mark, row_wleft, CanRelease, CanRun, CanFinish};
+ghost use Rattle.sched_model.specs.States.{opening, after_release, after_run, after_finish, after_advance, after_mark, row_wleft, IsStateOf, CanRelease, CanRun, CanFinish};
 
 use crate::Admitted;
+use dvs_base::NoMemory;
+use std::alloc::Global;
 use std::marker::Model;
 
 /// What a run keeps of a task: its latest job with its deadline in ticks, the work units that the job has had, whether
@@ -45,6 +47,38 @@ fn worst_left(row: Row) -> u64
 }
 
 impl State {
+    /// The state before the first release: each row has job 0, which is complete, due at tick 0.
+    pub fn new(alloc: Global, plan: &Admitted) -> Result<State, NoMemory>
+        ensures { IfOk result (λ s. s ≡ opening plan.now) }
+    {
+        let mut rows = Vec::new(alloc);
+        let mut base = Vec::new(alloc);
+        for i in 0..plan.count() {
+            let row = Row {
+                deadline: 0,
+                job: 0,
+                used: 0,
+                done: true,
+                worst: plan.worst(i),
+            };
+            rows.push(row).map_err(|_| NoMemory)?;
+            base.push(0).map_err(|_| NoMemory)?;
+        }
+        Ok(State {
+            now: 0,
+            rows,
+            base_at: 0,
+            base,
+        })
+    }
+
+    /// What every state keeps: one base for each row, and no job has had more than its worst case.
+    pub fn known(&self)
+        ensures { IsStateOf self.entry.now }
+    {
+        let _now = &self.now;
+    }
+
     /// The next job of a task is released.
     pub fn release(&mut self, plan: &Admitted, task: u32)
         requires { CanRelease plan.now self.old task }

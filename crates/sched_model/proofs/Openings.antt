@@ -1,0 +1,30 @@
+-- The state before the first release.
+use Rattle.std.proofs.Common.{◌≡◌, ℕ, ◌<◌, List, length, ap, sym, subst, ◌∙◌, arith}
+use Rattle.grid_fraction.specs.Numbers.{list_below}
+use Rattle.sched_model.specs.declared.state.Row.{Row}
+use Rattle.sched_model.specs.Plan.{Plan, count, worst}
+use Rattle.sched_model.specs.States.{StateOf, no_row, opening, opening_row, IsStateOf}
+use Rattle.sched_model.proofs.ScheduleLemmas.{length-list_below}
+use Rattle.sched_model.proofs.Tables.{get-table}
+
+pub opening-is_state : (p : Plan) → IsStateOf (opening p)
+opening-is_state p = record {
+  base = length-list_below (count p) (λ i. 0) ∙ sym (length-list_below (count p) (λ i. opening_row (worst p i)));
+  used = λ i lt.
+      let below : i < count p = omega (arith, length-list_below (count p) (λ k. opening_row (worst p k))) in
+      rw (get-table (count p) (λ k. opening_row (worst p k)) i no_row below) (omega arith);
+}
+
+-- its parts, however they came about
+abbrev pub state_by : List Row → List ℕ → StateOf
+state_by rows base = record { now = 0; rows = rows; base_at = 0; base = base }
+
+pub opening_by : (p : Plan) (n : ℕ) (rows : List Row) (base : List ℕ) → n ≡ count p
+    → rows ≡ list_below n (λ i. opening_row (worst p i)) → base ≡ list_below n (λ i. 0) → state_by rows base ≡ opening p
+opening_by p n rows base all r b =
+    λ j. record {
+      now = 0;
+      rows = (r ∙ ap (λ m. list_below m (λ i. opening_row (worst p i))) all) j;
+      base_at = 0;
+      base = (b ∙ ap (λ m. list_below m (λ i. 0)) all) j;
+    }
