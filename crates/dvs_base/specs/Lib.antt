@@ -3,3 +3,4 @@ pub mod Outside
 pub mod Memory
 pub mod Padded
 pub mod Words
+pub mod Parts

@@ -9,6 +9,7 @@ mod name;
 mod note;
 mod number;
 mod outside;
+mod part;
 mod void;
 
 pub use host::{HostShelf, HostSink};
@@ -19,6 +20,7 @@ pub use name::{Name, Short};
 pub use note::{Note, Pos, Totals};
 pub use number::{whole, wide};
 pub use outside::{Failed, LoadFault, NoMemory, Shelf, Sink};
+pub use part::{Part, line_of};
 pub use void::VoidSink;
 
 #[cfg(test)]

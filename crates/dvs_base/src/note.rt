@@ -11,7 +11,11 @@ pub struct Pos {
 #[derive(Clone, Copy, Debug, PartialEq, Eq)]
 pub enum Note {
     /// A job is released at this tick.
-    Release { tick: u64, task: u32, job: u64 },
+    Release {
+        tick: u64,
+        task: u32,
+        job: u64,
+    },
     /// A decision: the speed in units per tick, and the published demand `num/den` that it answers.
     Speed {
         tick: u64,
@@ -43,7 +47,11 @@ pub enum Note {
         used: u64,
     },
     /// The run is over, with the sums of the energies of its segments.
-    End { ticks: u64, run: u128, idle: u128 },
+    End {
+        ticks: u64,
+        run: u128,
+        idle: u128,
+    },
 }
 
 /// The sums and counts of a run: its energies, and its jobs released, jobs finished and decisions.

@@ -1,0 +1,14 @@
+use Rattle.std.proofs.Common.{◌≤◌, length, rules, arith, length-append}
+use Rattle.std.specs.Fmt.{decimal}
+use Rattle.std.proofs.lemmas.Fmt.{length-decimal-le_wide}
+use Rattle.dvs_base.proofs.part.push_wide.Goals as goal
+
+pub put_num-requires : goal.put_num-requires
+put_num-requires c =
+    let short : length (decimal c.args.n) ≤ 39 = search (rules, length-decimal-le_wide 39) in
+    omega (arith, short, c.requires)
+
+pub returns-clause-most : goal.returns-clause-most
+returns-clause-most c =
+    let short : length (decimal c.args.n) ≤ 39 = search (rules, length-decimal-le_wide 39) in
+    rw c.put_num.ensures (simp length-append (omega (arith, short)))

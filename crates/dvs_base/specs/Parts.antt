@@ -1,0 +1,35 @@
+-- The parts of a line of text.
+use Rattle.std.specs.Prelude.{ℕ, ◌+◌, List, [], ◌∷◌, ◌++◌, length, codes}
+use Rattle.std.specs.Fmt.{decimal}
+use Rattle.dvs_base.specs.declared.part.Part.{Part}
+use Rattle.dvs_base.specs.declared.part.Part.TheVariants as part
+
+-- the texts, one after another
+abbrev pub joined : List (List ℕ) → List ℕ
+joined [] = []
+joined (text ∷ texts) = text ++ joined texts
+
+-- what a part says
+abbrev pub part_text : Part → List ℕ
+part_text (part.Word bytes) = bytes.now
+part_text (part.Named name) = name.now
+part_text (part.Shown short) = short.now
+part_text (part.Number n) = decimal n
+part_text (part.Wide n) = decimal n
+part_text (part.At pos) = decimal pos.tick ++ codes ":" ++ decimal pos.offset
+part_text (part.Ratio num den) = decimal num ++ codes "/" ++ decimal den
+
+-- how many bytes it has at most
+abbrev pub most_bytes : Part → ℕ
+most_bytes (part.Word bytes) = length bytes.now
+most_bytes (part.Named name) = 32
+most_bytes (part.Shown short) = 32
+most_bytes (part.Number n) = 20
+most_bytes (part.Wide n) = 39
+most_bytes (part.At pos) = 41
+most_bytes (part.Ratio num den) = 79
+
+-- how many bytes the parts have at most
+abbrev pub most_of : List Part → ℕ
+most_of [] = 0
+most_of (p ∷ parts) = most_bytes p + most_of parts
