@@ -4,3 +4,4 @@ pub mod Memory
 pub mod Padded
 pub mod Words
 pub mod Parts
+pub mod TraceLines

@@ -14,7 +14,8 @@ use Rattle.sched_model.specs.Order.{in_order}
 use Rattle.sched_model.specs.Demand.{published}
 use Rattle.sched_model.specs.Schedule.{schedule_by}
 use Rattle.sched_model.specs.Notes.{notes_before_end}
-use Rattle.sched_model.specs.Text.{note_text, run_text}
+use Rattle.dvs_base.specs.TraceLines.{note_text}
+use Rattle.sched_model.specs.Text.{run_text}
 use Rattle.sched_model.proofs.Examples.{row, paper_example, paper_demands, heavy_set, two_tasks, controller, controller_demands}
 
 -- the text of a run under a list of demands

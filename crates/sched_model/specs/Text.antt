@@ -1,47 +1,17 @@
--- The text of a trace.
-use Rattle.std.specs.Prelude.{ℕ, List, [], ◌∷◌, ◌++◌, flat_map, slice_index_or, codes, decimal}
+-- The text of a run.
+use Rattle.std.specs.Prelude.{ℕ, List, ◌++◌, flat_map}
 use Rattle.dvs_base.specs.declared.note.Note.{Note}
-use Rattle.dvs_base.specs.declared.note.Note.TheVariants.{Release, Speed, Run, Idle, Done, End}
-use Rattle.dvs_base.specs.declared.note.Pos.{Pos}
 use Rattle.dvs_base.specs.declared.kind.Scheduler.{Scheduler}
 use Rattle.dvs_base.specs.declared.kind.GovernorKind.{GovernorKind}
-use Rattle.dvs_base.specs.Words.{scheduler_word, governor_word}
+use Rattle.dvs_base.specs.TraceLines.{version_text, plan_text, note_text}
 use Rattle.sched_model.specs.Plan.{Plan, names}
 use Rattle.sched_model.specs.Schedule.{schedule}
 use Rattle.sched_model.specs.Demand.{published}
 use Rattle.sched_model.specs.Notes.{notes_of}
 
-abbrev pub position_text : Pos → List ℕ
-position_text q = decimal q.tick ++ codes ":" ++ decimal q.offset
-
--- fields with a space between each two, and a line feed
-abbrev pub line : List (List ℕ) → List ℕ
-line [] = 10 ∷ []
-line (field ∷ []) = field ++ 10 ∷ []
-line (field ∷ other ∷ fields) = field ++ codes " " ++ line (other ∷ fields)
-
-abbrev pub name_of : List (List ℕ) → ℕ → List ℕ
-name_of names i = slice_index_or names i []
-
-unfoldable pub note_text : List (List ℕ) → Note → List ℕ
-note_text names (Release t i k) = line (codes "release" ∷ decimal t ∷ name_of names i ∷ decimal k ∷ [])
-note_text names (Speed t f num den) =
-    line (codes "speed" ∷ decimal t ∷ decimal f ∷ (decimal num ++ codes "/" ++ decimal den) ∷ [])
-note_text names (Run from to i k units energy) =
-    line (codes "run" ∷ position_text from ∷ position_text to ∷ name_of names i ∷ decimal k ∷ decimal units ∷ decimal energy ∷ [])
-note_text names (Idle from to units energy) =
-    line (codes "idle" ∷ position_text from ∷ position_text to ∷ decimal units ∷ decimal energy ∷ [])
-note_text names (Done q i k used) =
-    line (codes "done" ∷ position_text q ∷ name_of names i ∷ decimal k ∷ decimal used ∷ [])
-note_text names (End t run idle) = line (codes "end" ∷ decimal t ∷ decimal run ∷ decimal idle ∷ [])
-
--- the second line of a trace
-abbrev pub plan_text : Scheduler → GovernorKind → ℕ → List ℕ
-plan_text s g ticks = line (codes "plan" ∷ scheduler_word s ∷ governor_word g ∷ decimal ticks ∷ [])
-
 -- the text of a trace: its version, its plan line, and its notes
 abbrev pub trace_text : Scheduler → GovernorKind → ℕ → List (List ℕ) → List Note → List ℕ
-trace_text s g ticks names notes = line (codes "trace" ∷ codes "1" ∷ []) ++ plan_text s g ticks ++ flat_map (note_text names) notes
+trace_text s g ticks names notes = version_text ++ plan_text s g ticks ++ flat_map (note_text names) notes
 
 -- the notes of a run, and its text
 abbrev pub run_notes : Plan → GovernorKind → (ℕ → ℕ → ℕ) → ℕ → List Note

@@ -1,0 +1,185 @@
+// The lines of a trace.
+ghost use Rattle.std.specs.Prelude.{◌≡◌, [], ◌∷◌, length, codes};
+ghost use Rattle.std.specs.Fmt.{decimal};
+ghost use Rattle.dvs_base.specs.TraceLines.{line, note_text, plan_text, position_text, fraction_text};
+ghost use Rattle.dvs_base.specs.Words.{scheduler_word, governor_word};
+ghost use Rattle.trace_text.specs.Naming.{NamesBelow};
+
+use dvs_base::{GovernorKind, Line, Name, Note, Part, Pos, Scheduler, line_of};
+
+/// The plan of a trace: the scheduler, the governor and the number of ticks.
+#[derive(Clone, Copy, Debug, PartialEq, Eq)]
+pub struct PlanLine {
+    pub scheduler: Scheduler,
+    pub governor: GovernorKind,
+    pub ticks: u64,
+}
+
+fn word_of_scheduler(scheduler: Scheduler) -> &'static [u8]
+    ensures { result.now ≡ scheduler_word scheduler }
+{
+    match scheduler {
+        Scheduler::Edf => b"edf",
+        Scheduler::Rm => b"rm",
+    }
+}
+
+fn word_of_governor(governor: GovernorKind) -> &'static [u8]
+    ensures { result.now ≡ governor_word governor }
+{
+    match governor {
+        GovernorKind::Plain => b"none",
+        GovernorKind::Fixed => b"static",
+        GovernorKind::Cycle => b"cc",
+        GovernorKind::Ahead => b"la",
+    }
+}
+
+/// Writes the plan line of a trace.
+pub fn write_head(line: &mut Line, plan: PlanLine)
+    requires { line.old ≡ [] }
+    ensures { line.new ≡ plan_text plan.scheduler plan.governor plan.ticks }
+{
+    *line = line_of(&[
+        Part::Word(b"plan "),
+        Part::Word(word_of_scheduler(plan.scheduler)),
+        Part::Word(b" "),
+        Part::Word(word_of_governor(plan.governor)),
+        Part::Word(b" "),
+        Part::Number(plan.ticks),
+        Part::Word(b"\n"),
+    ]);
+}
+
+fn release_line(tick: u64, name: &Name, job: u64) -> Line
+    ensures { result ≡ line (codes "release" ∷ decimal tick ∷ name.now ∷ decimal job ∷ []) }
+{
+    line_of(&[
+        Part::Word(b"release "),
+        Part::Number(tick),
+        Part::Word(b" "),
+        Part::Named(name),
+        Part::Word(b" "),
+        Part::Number(job),
+        Part::Word(b"\n"),
+    ])
+}
+
+fn speed_line(tick: u64, speed: u64, num: u128, den: u128) -> Line
+    ensures { result ≡ line (codes "speed" ∷ decimal tick ∷ decimal speed ∷ fraction_text num den ∷ []) }
+{
+    line_of(&[
+        Part::Word(b"speed "),
+        Part::Number(tick),
+        Part::Word(b" "),
+        Part::Number(speed),
+        Part::Word(b" "),
+        Part::Ratio(num, den),
+        Part::Word(b"\n"),
+    ])
+}
+
+fn run_line(from: Pos, to: Pos, name: &Name, job: u64, units: u64, energy: u128) -> Line
+    ensures { result ≡ line (codes "run" ∷ position_text from ∷ position_text to ∷ name.now ∷ decimal job ∷ decimal units ∷ decimal energy ∷ []) }
+{
+    line_of(&[
+        Part::Word(b"run "),
+        Part::At(from),
+        Part::Word(b" "),
+        Part::At(to),
+        Part::Word(b" "),
+        Part::Named(name),
+        Part::Word(b" "),
+        Part::Number(job),
+        Part::Word(b" "),
+        Part::Number(units),
+        Part::Word(b" "),
+        Part::Wide(energy),
+        Part::Word(b"\n"),
+    ])
+}
+
+fn idle_line(from: Pos, to: Pos, units: u64, energy: u128) -> Line
+    ensures { result ≡ line (codes "idle" ∷ position_text from ∷ position_text to ∷ decimal units ∷ decimal energy ∷ []) }
+{
+    line_of(&[
+        Part::Word(b"idle "),
+        Part::At(from),
+        Part::Word(b" "),
+        Part::At(to),
+        Part::Word(b" "),
+        Part::Number(units),
+        Part::Word(b" "),
+        Part::Wide(energy),
+        Part::Word(b"\n"),
+    ])
+}
+
+fn done_line(at: Pos, name: &Name, job: u64, used: u64) -> Line
+    ensures { result ≡ line (codes "done" ∷ position_text at ∷ name.now ∷ decimal job ∷ decimal used ∷ []) }
+{
+    line_of(&[
+        Part::Word(b"done "),
+        Part::At(at),
+        Part::Word(b" "),
+        Part::Named(name),
+        Part::Word(b" "),
+        Part::Number(job),
+        Part::Word(b" "),
+        Part::Number(used),
+        Part::Word(b"\n"),
+    ])
+}
+
+fn end_line(ticks: u64, run: u128, idle: u128) -> Line
+    ensures { result ≡ line (codes "end" ∷ decimal ticks ∷ decimal run ∷ decimal idle ∷ []) }
+{
+    line_of(&[
+        Part::Word(b"end "),
+        Part::Number(ticks),
+        Part::Word(b" "),
+        Part::Wide(run),
+        Part::Word(b" "),
+        Part::Wide(idle),
+        Part::Word(b"\n"),
+    ])
+}
+
+/// Writes the line of a note, with its line feed. Each line has at most 203 bytes.
+#[tactic(auto, unfolding(dvs_base::specs::TraceLines::note_text))]
+pub fn write_note(line: &mut Line, note: &Note, names: &[Name])
+    requires empty { line.old ≡ [] }
+    requires named { NamesBelow (length names.now) note.now }
+    ensures { line.new ≡ note_text names.now note.now }
+{
+    *line = match *note {
+        Note::Release { tick, task, job } => release_line(tick, &names[task as usize], job),
+        Note::Speed {
+            tick,
+            speed,
+            num,
+            den,
+        } => speed_line(tick, speed, num, den),
+        Note::Run {
+            from,
+            to,
+            task,
+            job,
+            units,
+            energy,
+        } => run_line(from, to, &names[task as usize], job, units, energy),
+        Note::Idle {
+            from,
+            to,
+            units,
+            energy,
+        } => idle_line(from, to, units, energy),
+        Note::Done {
+            at,
+            task,
+            job,
+            used,
+        } => done_line(at, &names[task as usize], job, used),
+        Note::End { ticks, run, idle } => end_line(ticks, run, idle),
+    };
+}
