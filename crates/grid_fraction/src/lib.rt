@@ -85,6 +85,7 @@ pub fn greater(a: Frac, b: Frac) -> bool
 }
 
 /// `n / d`, rounded up.
+#[tactic(auto, using(crate::proofs::Ceilings::div_ceil_is))]
 pub fn up(n: u128, d: u64) -> u128
     requires { 1 ≤ d }
     ensures { result ≡ ceil_div n d }
