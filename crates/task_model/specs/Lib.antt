@@ -1,2 +1,5 @@
 pub mod Tasks
 pub mod DemandRows
+pub mod TaskFile
+pub mod Limits
+pub mod Written

@@ -1,7 +1,12 @@
 // Tasks, and sets of them.
-ghost use Rattle.std.specs.Prelude.{◌≡◌, length};
+ghost use Rattle.std.specs.Prelude.{◌≡◌, ◌<◌, ◌≤◌, ◌^◌, length, nat_le, if◌then◌else◌, Some, None, IfOk, vec_len};
+ghost use Rattle.task_model.specs.Tasks.{IsTaskSet, hyper_of, task_at};
+ghost use Rattle.task_model.specs.Limits.{AreTasks};
+ghost use Rattle.task_model.specs.TaskFile.{place_of};
 
-use dvs_base::Name;
+use dvs_base::{Name, NoMemory};
+use grid_fraction::lcm_within;
+use std::alloc::Global;
 use std::marker::Model;
 
 /// A periodic task (Liu and Layland 1973): every `period` ticks a job is released, which needs at most `worst` work
@@ -33,11 +38,98 @@ impl Model for TaskSet {
     ghost invariant = { λ s. IsTaskSet s.tasks.items × (s.hyper ≡ hyper_of s.tasks.items) };
 }
 
+// The place of the first task with this name.
+pub(crate) fn place_of(tasks: &[Task], name: &[u8]) -> Option<usize>
+    ensures { result ≡ place_of tasks.now name.now }
+{
+    tasks.iter().position(|t| t.name.as_bytes() == name)
+}
+
+// The least common multiple of the periods, where it is within the limit.
+fn hyper_within(alloc: Global, tasks: &[Task]) -> Result<Option<u64>, NoMemory>
+    requires { AreTasks tasks.now }
+    ensures { IfOk result (λ h. h ≡ (if nat_le (hyper_of tasks.now) (2 ^ 48) then Some (hyper_of tasks.now) else None)) }
+{
+    match tasks.iter().map(|t| t.period).collect::<Vec<u64>>(alloc) {
+        Ok(periods) => Ok(lcm_within(&periods, 1 << 48)),
+        Err(_) => Err(NoMemory),
+    }
+}
+
 impl TaskSet {
+    // The set of these tasks, where the least common multiple of their periods is within the limit.
+    pub(crate) fn within(alloc: Global, tasks: Vec<Task>) -> Result<Option<TaskSet>, NoMemory>
+        requires limits { AreTasks tasks.items }
+        requires some { 1 ≤ vec_len tasks }
+        requires few { vec_len tasks ≤ 64 }
+        ensures { IfOk result (λ s. s ≡ (if nat_le (hyper_of tasks.items) (2 ^ 48) then Some tasks.items else None)) }
+    {
+        match hyper_within(alloc, &tasks) {
+            Ok(Some(hyper)) => Ok(Some(TaskSet { tasks, hyper })),
+            Ok(None) => Ok(None),
+            Err(e) => Err(e),
+        }
+    }
+
+    /// The set of these tasks, in this order. It fails only where memory runs out.
+    pub fn of(alloc: Global, tasks: &[Task]) -> Result<TaskSet, NoMemory>
+        requires { IsTaskSet tasks.now }
+        ensures { IfOk result (λ s. s ≡ tasks.now) }
+    {
+        let kept = match Vec::from_slice(alloc, tasks) {
+            Ok(kept) => kept,
+            Err(_) => return Err(NoMemory),
+        };
+        match TaskSet::within(alloc, kept) {
+            Ok(set) => Ok(set.unwrap()),
+            Err(e) => Err(e),
+        }
+    }
+
     /// How many tasks there are, 1 to 64.
     pub fn count(&self) -> u32
         ensures { result ≡ length self.now }
     {
         self.tasks.len() as u32
+    }
+
+    /// A task, by its number from 0 on.
+    pub fn task(&self, i: u32) -> Task
+        requires { i < length self.now }
+        ensures { result ≡ task_at self.now i }
+    {
+        self.tasks[i as usize]
+    }
+
+    /// The least common multiple of the periods in ticks, at most 2^48: after so many ticks the releases repeat.
+    pub fn hyper(&self) -> u64
+        ensures { result ≡ hyper_of self.now }
+    {
+        self.hyper
+    }
+
+    /// The number of the one task with this name, and None exactly where no task has it.
+    pub fn find(&self, name: &[u8]) -> Option<u32>
+        ensures { result ≡ place_of self.now name.now }
+    {
+        match place_of(&self.tasks, name) {
+            Some(i) => Some(i as u32),
+            None => None,
+        }
+    }
+
+    // The tasks, in their order.
+    pub(crate) fn as_slice(&self) -> &[Task]
+        ensures tasks { result.now ≡ self.now }
+        ensures limits { IsTaskSet self.now }
+    {
+        &self.tasks
+    }
+
+    /// The limits that every set keeps.
+    pub fn known(&self)
+        ensures { IsTaskSet self.now }
+    {
+        let _hyper = &self.hyper;
     }
 }

@@ -1,0 +1,19 @@
+-- The array of entries.
+use Rattle.std.proofs.Common.{◌≡◌, ◌<◌, ◌≤◌, ℕ, ◌+◌, nat_lt, if◌then◌else◌, Bool, true, false, List, [], ◌∷◌, length, Some, Result, Err, refl, ap, ◌∙◌, arith}
+use Rattle.std.proofs.lemmas.Bool.Decides.{nat_tests}
+use Rattle.toml.specs.declared.value.Value.{Value}
+use Rattle.toml.specs.View.{items_view}
+use Rattle.toml_tree.specs.Tree.{count_of, and_then}
+use Rattle.task_model.specs.declared.task.Task.{Task}
+use Rattle.task_model.specs.declared.fault.TaskFault.{TaskFault}
+use Rattle.task_model.specs.declared.fault.TaskFault.TheVariants as fault
+use Rattle.task_model.specs.TaskFile.{entries_from, tasks_from, within_hyper}
+use Rattle.toml_tree.proofs.Counts.{count_of-items_view, choose, choose_not}
+
+pub too_many : (vs : List Value) → 64 < length vs → entries_from (Some (items_view vs)) ≡ Err (fault.TooMany (length vs))
+too_many [] h = absurd (omega arith)
+too_many (v ∷ vs) h = choose 64 (count_of (items_view (v ∷ vs))) (length (v ∷ vs)) (λ n. Err (fault.TooMany n)) _ (count_of-items_view (v ∷ vs)) h
+
+pub few : (vs : List Value) → 0 < length vs → length vs ≤ 64 → entries_from (Some (items_view vs)) ≡ and_then (tasks_from [] (items_view vs)) within_hyper
+few [] s h = absurd (omega arith)
+few (v ∷ vs) s h = choose_not 64 (count_of (items_view (v ∷ vs))) (length (v ∷ vs)) (λ n. Err (fault.TooMany n)) _ (count_of-items_view (v ∷ vs)) h

@@ -1,0 +1,98 @@
+-- What a task file means: the tasks, or the first refusal.
+use Rattle.std.specs.Prelude.{◌≡◌, ℕ, ◌+◌, ◌^◌, List, [], ◌∷◌, ◌++◌, length, nat_lt, nat_le, position, codes, Option, Some, None, Result, Ok, Err, if◌then◌else◌}
+use Rattle.std.specs.Str.{bytes_eq}
+use Rattle.dvs_base.specs.Text.{is_name, short_of}
+use Rattle.toml.specs.Data.{Data, Items, no_items, item, Members, get_member, as_array, as_table}
+use Rattle.toml_tree.specs.declared.tree.MemberFault.{MemberFault}
+use Rattle.toml_tree.specs.declared.tree.MemberFault.TheVariants as member_fault
+use Rattle.toml_tree.specs.Tree.{document_of, unknown_key, number_at, text_at, count_of, and_then}
+use Rattle.task_model.specs.declared.task.Task.{Task}
+use Rattle.task_model.specs.declared.fault.Field.{Field}
+use Rattle.task_model.specs.declared.fault.Field.TheVariants as field
+use Rattle.task_model.specs.declared.fault.TaskFault.{TaskFault}
+use Rattle.task_model.specs.declared.fault.TaskFault.TheVariants as fault
+use Rattle.task_model.specs.Tasks.{hyper_of}
+
+-- the keys of the document, and of a task
+abbrev pub file_keys : List (List ℕ)
+file_keys = codes "task" ∷ []
+
+abbrev pub task_keys : List (List ℕ)
+task_keys = codes "name" ∷ codes "period" ∷ codes "worst" ∷ []
+
+-- the check for unknown keys
+abbrev pub no_unknown : {A : Type 0} → ℕ → Option (List ℕ) → Result A TaskFault → Result A TaskFault
+no_unknown place None rest = rest
+no_unknown place (Some key) rest = Err (fault.UnknownKey place (short_of key))
+
+-- a trouble with a key of the task at this place
+abbrev pub fault_at : ℕ → Field → MemberFault → TaskFault
+fault_at place field member_fault.Missing = fault.Missing place field
+fault_at place field member_fault.Kind = fault.Kind place field
+fault_at place field member_fault.Range = fault.Range place field
+
+abbrev pub at_field : {A : Type 0} → ℕ → Field → Result A MemberFault → Result A TaskFault
+at_field place field (Ok value) = Ok value
+at_field place field (Err e) = Err (fault_at place field e)
+
+-- the name that a text is
+abbrev pub name_of : ℕ → List ℕ → Result (List ℕ) TaskFault
+name_of place text = if is_name text then Ok text else Err (fault.BadName place)
+
+abbrev pub name_at : ℕ → Option Data → Result (List ℕ) TaskFault
+name_at place value = and_then (at_field place field.Name (text_at value)) (name_of place)
+
+-- an entry
+abbrev pub task_of_members : ℕ → Members → Result Task TaskFault
+task_of_members place ms =
+    no_unknown place (unknown_key task_keys ms) (
+    and_then (name_at place (get_member (codes "name") ms)) (λ name.
+    and_then (at_field place field.Period (number_at 1 (2 ^ 40) (get_member (codes "period") ms))) (λ period.
+    and_then (at_field place field.Worst (number_at 1 (2 ^ 60) (get_member (codes "worst") ms))) (λ worst.
+    Ok record { name = name; period = period; worst = worst }))))
+
+abbrev pub task_of_table : ℕ → Option Members → Result Task TaskFault
+task_of_table place None = Err (fault.Kind place field.Entry)
+task_of_table place (Some ms) = task_of_members place ms
+
+abbrev pub task_of : ℕ → Data → Result Task TaskFault
+task_of place value = task_of_table place (as_table value)
+
+-- the place of the first task with this name, counted from 0
+abbrev pub place_of : List Task → List ℕ → Option ℕ
+place_of tasks name = position (λ t. bytes_eq t.name name) tasks
+
+-- the check for an earlier task of this name
+abbrev pub no_twin : {A : Type 0} → ℕ → Option ℕ → Result A TaskFault → Result A TaskFault
+no_twin place None rest = rest
+no_twin place (Some i) rest = Err (fault.SameName (i + 1) place)
+
+-- the tasks before, and then the entries
+abbrev pub tasks_from : List Task → Items → Result (List Task) TaskFault
+tasks_from tasks no_items = Ok tasks
+tasks_from tasks (item value rest) =
+    and_then (task_of (length tasks + 1) value) (λ task.
+    no_twin (length tasks + 1) (place_of tasks task.name) (tasks_from (tasks ++ task ∷ []) rest))
+
+-- the check of the least common multiple of the periods
+abbrev pub within_hyper : List Task → Result (List Task) TaskFault
+within_hyper tasks = if nat_le (hyper_of tasks) (2 ^ 48) then Ok tasks else Err fault.Hyper
+
+-- the array of entries
+abbrev pub entries_from : Option Items → Result (List Task) TaskFault
+entries_from None = Err (fault.Kind 0 field.Task)
+entries_from (Some no_items) = Err fault.NoTasks
+entries_from (Some (item value rest)) =
+    if nat_lt 64 (count_of (item value rest)) then Err (fault.TooMany (count_of (item value rest))) else and_then (tasks_from [] (item value rest)) within_hyper
+
+abbrev pub entries_at : Option Data → Result (List Task) TaskFault
+entries_at None = Err fault.NoTasks
+entries_at (Some value) = entries_from (as_array value)
+
+abbrev pub tasks_of_document : Option Members → Result (List Task) TaskFault
+tasks_of_document None = Err fault.NotToml
+tasks_of_document (Some ms) = no_unknown 0 (unknown_key file_keys ms) (entries_at (get_member (codes "task") ms))
+
+-- what the bytes of a task file mean
+abbrev pub task_file : List ℕ → Result (List Task) TaskFault
+task_file bytes = tasks_of_document (document_of bytes)

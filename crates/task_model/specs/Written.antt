@@ -1,0 +1,20 @@
+-- The document that a set of tasks is written as.
+use Rattle.std.specs.Prelude.{ℕ, pos, List, map, codes}
+use Rattle.std.specs.Cmp.Lexicographic.{slice_cmp}
+use Rattle.std.specs.Ordering.{nat_cmp, match_ordering}
+use Rattle.toml.specs.Data.{Data, string, integer, array, table, Members, no_members, member}
+use Rattle.toml.specs.View.{items_of}
+use Rattle.task_model.specs.declared.task.Task.{Task}
+
+-- the members with this value at the key, in the order of the keys
+abbrev pub put_member : List ℕ → Data → Members → Members
+put_member key value no_members = member key value no_members
+put_member key value (member k v ms) = match_ordering (slice_cmp nat_cmp key k) (member key value (member k v ms)) (member k value ms) (member k v (put_member key value ms))
+
+-- a task as a table of its three keys
+abbrev pub task_data : Task → Data
+task_data t = table (member (codes "name") (string t.name) (member (codes "period") (integer (pos t.period)) (member (codes "worst") (integer (pos t.worst)) no_members)))
+
+-- the tasks as the one array of the document
+abbrev pub document : List Task → Members
+document tasks = member (codes "task") (array (items_of (map task_data tasks))) no_members

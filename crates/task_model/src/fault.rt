@@ -1,0 +1,39 @@
+// Why a task file is refused.
+use dvs_base::Short;
+
+/// What a task file names: its array of tasks, an entry of it, or a key of an entry.
+#[derive(Clone, Copy, Debug, PartialEq, Eq)]
+pub enum Field {
+    Task,
+    Entry,
+    Name,
+    Period,
+    Worst,
+}
+
+/// The first thing that a task file has wrong. Places count from 1, and place 0 is the document itself.
+#[derive(Drop)]
+pub enum TaskFault {
+    /// The bytes are no TOML document.
+    NotToml,
+    /// A key that has no meaning: the least of them in order of bytes.
+    UnknownKey { place: u32, key: Short },
+    /// The array of tasks is missing or empty.
+    NoTasks,
+    /// There are more than 64 tasks.
+    TooMany { count: u64 },
+    /// A task lacks this key.
+    Missing { place: u32, field: Field },
+    /// A value of another kind stands there.
+    Kind { place: u32, field: Field },
+    /// The period is outside 1 to 2^40, or the worst case outside 1 to 2^60.
+    Range { place: u32, field: Field },
+    /// The name is not 1 to 32 bytes of ASCII letters, digits, `_` and `-`.
+    BadName { place: u32 },
+    /// Two tasks have one name.
+    SameName { first: u32, second: u32 },
+    /// The least common multiple of the periods exceeds 2^48.
+    Hyper,
+    /// Memory ran out, which says nothing of the file.
+    NoMemory,
+}

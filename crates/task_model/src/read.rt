@@ -1,0 +1,178 @@
+// A task file, read by its table.
+ghost use Rattle.std.specs.Prelude.{codes, ◌≡◌, ◌≤◌, ◌<◌, ◌^◌, [], Some, length, IfOk, vec_len};
+ghost use Rattle.toml.specs.Data.{get_member};
+ghost use Rattle.toml.specs.View.{view, table_view, items_view};
+ghost use Rattle.toml_tree.specs.Tree.{number_at, IsUnlessMemory};
+ghost use Rattle.task_model.specs.Tasks.{IsTask, hyper_of};
+ghost use Rattle.task_model.specs.Limits.{AreTasks};
+ghost use Rattle.task_model.specs.TaskFile.{fault_at, at_field, name_of, name_at, task_of_members, task_of, place_of, tasks_from, within_hyper, entries_from, tasks_of_document, task_file};
+
+use crate::fault::{Field, TaskFault};
+use crate::task::{Task, TaskSet, place_of};
+use dvs_base::Name;
+use std::alloc::Global;
+use toml::{Table, Value};
+use toml_tree::{DocumentFault, MemberFault, member_at, number_at, read_document, text_at, unknown_key};
+
+fn fault_at(place: u32, field: Field, fault: MemberFault) -> TaskFault
+    ensures { result ≡ fault_at place field fault }
+{
+    match fault {
+        MemberFault::Missing => TaskFault::Missing { place, field },
+        MemberFault::Kind => TaskFault::Kind { place, field },
+        MemberFault::Range => TaskFault::Range { place, field },
+    }
+}
+
+fn read_number(
+    place: u32,
+    field: Field,
+    key: &str,
+    most: u64,
+    table: &Table,
+) -> Result<u64, TaskFault>
+    ensures meaning { result ≡ at_field place field (number_at 1 most (get_member key.now (table_view table.now))) }
+    ensures limits { IfOk result (λ n. (1 ≤ n) × (n ≤ most)) }
+{
+    match number_at(table, key, 1, most) {
+        Ok(n) => Ok(n),
+        Err(fault) => Err(fault_at(place, field, fault)),
+    }
+}
+
+fn name_of(place: u32, text: &str) -> Result<Name, TaskFault>
+    ensures { result ≡ name_of place text.now }
+{
+    match Name::of(text.as_bytes()) {
+        Some(name) => Ok(name),
+        None => Err(TaskFault::BadName { place }),
+    }
+}
+
+fn read_name(place: u32, table: &Table) -> Result<Name, TaskFault>
+    ensures { result ≡ name_at place (get_member (codes "name") (table_view table.now)) }
+{
+    match text_at(table, "name") {
+        Ok(text) => name_of(place, text),
+        Err(fault) => Err(fault_at(place, Field::Name, fault)),
+    }
+}
+
+fn read_members(place: u32, table: &Table) -> Result<Task, TaskFault>
+    ensures meaning { result ≡ task_of_members place (table_view table.now) }
+    ensures limits { IfOk result (λ t. IsTask t) }
+{
+    if let Some(key) = unknown_key(table, &["name", "period", "worst"]) {
+        return Err(TaskFault::UnknownKey { place, key });
+    }
+    let name = read_name(place, table)?;
+    let period = read_number(place, Field::Period, "period", 1 << 40, table)?;
+    let worst = read_number(place, Field::Worst, "worst", 1 << 60, table)?;
+    Ok(Task {
+        name,
+        period,
+        worst,
+    })
+}
+
+fn read_task(place: u32, value: &Value) -> Result<Task, TaskFault>
+    ensures meaning { result ≡ task_of place (view value.now) }
+    ensures limits { IfOk result (λ t. IsTask t) }
+{
+    match value.as_table() {
+        Some(table) => read_members(place, table),
+        None => Err(TaskFault::Kind {
+            place,
+            field: Field::Entry,
+        }),
+    }
+}
+
+// The tasks of the entries, which are few.
+fn read_entries(alloc: Global, entries: &[Value]) -> Result<Vec<Task>, TaskFault>
+    requires { length entries.now ≤ 64 }
+    ensures meaning { IsUnlessMemory TaskFault.NoMemory (λ v. v.items) result (tasks_from [] (items_view entries.now)) }
+    ensures limits { IfOk result (λ v. AreTasks v.items) }
+    ensures count { IfOk result (λ v. vec_len v ≡ length entries.now) }
+{
+    let mut tasks: Vec<Task> = Vec::new(alloc);
+    for entry in entries {
+        let place = tasks.len() as u32 + 1;
+        let task = read_task(place, entry)?;
+        if let Some(first) = place_of(&tasks, task.name.as_bytes()) {
+            return Err(TaskFault::SameName {
+                first: first as u32 + 1,
+                second: place,
+            });
+        }
+        if tasks.push(task).is_err() {
+            return Err(TaskFault::NoMemory);
+        }
+    }
+    Ok(tasks)
+}
+
+// The set of these tasks, where their releases repeat soon enough.
+fn set_of(alloc: Global, tasks: Vec<Task>) -> Result<TaskSet, TaskFault>
+    requires limits { AreTasks tasks.items }
+    requires some { 1 ≤ vec_len tasks }
+    requires few { vec_len tasks ≤ 64 }
+    ensures { IsUnlessMemory TaskFault.NoMemory (λ s. s) result (within_hyper tasks.items) }
+{
+    match TaskSet::within(alloc, tasks) {
+        Ok(Some(set)) => Ok(set),
+        Ok(None) => Err(TaskFault::Hyper),
+        Err(_) => Err(TaskFault::NoMemory),
+    }
+}
+
+fn read_array(alloc: Global, entries: &[Value]) -> Result<TaskSet, TaskFault>
+    ensures { IsUnlessMemory TaskFault.NoMemory (λ s. s) result (entries_from (Some (items_view entries.now))) }
+{
+    if entries.is_empty() {
+        return Err(TaskFault::NoTasks);
+    }
+    if entries.len() > 64 {
+        return Err(TaskFault::TooMany {
+            count: entries.len() as u64,
+        });
+    }
+    match read_entries(alloc, entries) {
+        Ok(tasks) => set_of(alloc, tasks),
+        Err(fault) => Err(fault),
+    }
+}
+
+fn read_table(alloc: Global, table: &Table) -> Result<TaskSet, TaskFault>
+    ensures { IsUnlessMemory TaskFault.NoMemory (λ s. s) result (tasks_of_document (Some (table_view table.now))) }
+{
+    if let Some(key) = unknown_key(table, &["task"]) {
+        return Err(TaskFault::UnknownKey { place: 0, key });
+    }
+    let value = match member_at(table, "task") {
+        Some(value) => value,
+        None => return Err(TaskFault::NoTasks),
+    };
+    match value.as_array() {
+        Some(entries) => read_array(alloc, entries),
+        None => Err(TaskFault::Kind {
+            place: 0,
+            field: Field::Task,
+        }),
+    }
+}
+
+impl TaskSet {
+    /// The tasks of the file: an array of tables under the key `task`, each with a `name`, a `period` in ticks and a
+    /// `worst` case in work units. Else the file's first refusal, unless memory runs out.
+    pub fn read(alloc: Global, bytes: &[u8]) -> Result<TaskSet, TaskFault>
+        ensures { IsUnlessMemory TaskFault.NoMemory (λ s. s) result (task_file bytes.now) }
+    {
+        let table = match read_document(alloc, bytes) {
+            Ok(table) => table,
+            Err(DocumentFault::NotToml) => return Err(TaskFault::NotToml),
+            Err(DocumentFault::NoMemory) => return Err(TaskFault::NoMemory),
+        };
+        read_table(alloc, &table)
+    }
+}
