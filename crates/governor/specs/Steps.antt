@@ -5,7 +5,7 @@ use Rattle.dvs_base.specs.declared.kind.Scheduler.{Scheduler}
 use Rattle.dvs_base.specs.declared.kind.Scheduler.TheVariants.{Edf, Rm}
 use Rattle.sched_model.specs.declared.state.Row.{Row}
 use Rattle.sched_model.specs.Priority.{SharesOut}
-use Rattle.sched_model.specs.Plan.{Plan, count, period, worst}
+use Rattle.sched_model.specs.Plan.{Plan, count, period}
 use Rattle.sched_model.specs.Demands.{IsWithin}
 use Rattle.grid_fraction.specs.Numbers.{greatest_below}
 use Rattle.sched_model.specs.States.{StateOf, row_at, row_wleft, released_row, IsOfPlan}
@@ -51,6 +51,10 @@ left_of dem i row = if row.done then 0 else dem i row.job - row.used
 
 abbrev pub left : (ℕ → ℕ → ℕ) → StateOf → ℕ → ℕ
 left dem s i = left_of dem i (row_at s i)
+
+-- what the job of task i may still need at most
+abbrev pub wleft_at : StateOf → ℕ → ℕ
+wleft_at s i = row_wleft (row_at s i)
 
 -- what a scheduler orders the tasks by: the deadline under EDF, the period under RM
 abbrev pub key_of : Scheduler → Plan → StateOf → ℕ → ℕ

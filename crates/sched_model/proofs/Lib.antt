@@ -14,3 +14,4 @@ pub mod Examples
 pub mod Traces
 pub mod SpeedLines
 pub mod Openings
+pub mod Limits

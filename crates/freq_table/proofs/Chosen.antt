@@ -1,0 +1,57 @@
+-- The speeds of a table rise, and the entry that a demand picks meets it where the last one does.
+use Rattle.std.proofs.Common.{◌≡◌, ◌⊎◌, inl, inr, ℕ, zero, suc, ◌+◌, ◌*◌, ◌<◌, ◌≤◌, Bool, true, false, length, refl, sym, ◌∙◌, ap, arith, true≢false, eq-or-lt_of_le}
+use Rattle.std.proofs.lemmas.Bool.{le-leb, leb-true, cases_lt}
+use Rattle.grid_fraction.specs.declared.Frac.{Frac}
+use Rattle.grid_fraction.specs.Numbers.{any_below, first_from}
+use Rattle.grid_fraction.specs.Fraction.{meets}
+use Rattle.grid_fraction.proofs.Searches.{first_from-found, any_below-false}
+use Rattle.freq_table.specs.Tables.{Table, speed_at, last_entry, highest_speed, lowest_entry, lowest_pick, IsTable}
+
+pub speeds_rise : (m : Table) → IsTable m → (j k : ℕ) → j ≤ k → k < length m.points → speed_at m j ≤ speed_at m k
+speeds_rise m table j zero le h = let e : j ≡ 0 = omega arith in ap-le (ap (speed_at m) e)
+  where
+    ap-le : {a b : ℕ} → a ≡ b → a ≤ b
+    ap-le e = omega arith
+speeds_rise m table j (suc k) le h = go (eq-or-lt_of_le le) (speeds_rise m table j k)
+  where
+    go : (j ≡ suc k) ⊎ (j < suc k) → (j ≤ k → k < length m.points → speed_at m j ≤ speed_at m k) → speed_at m j ≤ speed_at m (suc k)
+    go (inl e) ih = omega (arith, ap (speed_at m) e)
+    go (inr l) ih =
+        let next : k + 1 ≡ suc k = omega arith in
+        let step : speed_at m k < speed_at m (k + 1) = table.rising k (omega arith) in
+        omega (arith, ih (omega arith) (omega arith), step, ap (speed_at m) next)
+
+pub below_highest : (m : Table) → IsTable m → (k : ℕ) → k < length m.points → speed_at m k ≤ highest_speed m
+below_highest m table k h = speeds_rise m table k (last_entry m) (omega arith) (omega arith)
+
+-- the picked entry is one of the table
+pub lowest_within : (m : Table) (d : Frac) → 1 ≤ length m.points → lowest_entry m d < length m.points
+lowest_within m d some = omega arith
+
+-- where the highest speed meets a demand, the picked one does
+pub picked_meets : (m : Table) → IsTable m → (d : Frac) → d.num ≤ highest_speed m * d.den → d.num ≤ speed_at m (lowest_entry m d) * d.den
+picked_meets m table d h =
+    let test : ℕ → Bool = λ e. meets (speed_at m e) d in
+    let n : ℕ = length m.points in
+    let some : 1 ≤ n = table.some in
+    let last : test (last_entry m) ≡ true = le-leb _ _ h in
+    let found : (test (first_from n 0 test) ≡ true) × (0 ≤ first_from n 0 test) = first_from-found n 0 (last_entry m) test (omega arith) (omega arith) last in
+    elim (cases_lt (last_entry m) (first_from n 0 test)) [
+      | inl over ↦
+          let same : lowest_entry m d ≡ last_entry m = omega arith in
+          rw same h
+      | inr within ↦
+          let same : lowest_entry m d ≡ first_from n 0 test = omega arith in
+          rw same (leb-true _ _ found.0)
+    ]
+
+-- and the pick is met
+pub picked_met : (m : Table) → IsTable m → (d : Frac) → d.num ≤ highest_speed m * d.den → (lowest_pick m d).met ≡ true
+picked_met m table d h = go (any_below (length m.points) (λ e. meets (speed_at m e) d)) refl
+  where
+    go : (b : Bool) → any_below (length m.points) (λ e. meets (speed_at m e) d) ≡ b → any_below (length m.points) (λ e. meets (speed_at m e) d) ≡ true
+    go true e = e
+    go false e =
+        let some : 1 ≤ length m.points = table.some in
+        let off : meets (speed_at m (last_entry m)) d ≡ false = any_below-false (length m.points) (λ e. meets (speed_at m e) d) e (last_entry m) (omega arith) in
+        absurd (true≢false (sym (le-leb _ _ h) ∙ off))

@@ -1,0 +1,269 @@
+-- A state belongs to its demand list, and goes on to.
+use Rattle.std.proofs.Common.{◌≡◌, inl, inr, ℕ, zero, suc, ◌+◌, ◌-◌, ◌*◌, ◌^◌, ◌<◌, ◌≤◌, Bool, true, false, List, length, refl, sym, ◌∙◌, ap, subst, arith, zero-mul}
+use Rattle.std.proofs.Math.Nat.{le_trans, le-mul_of_pos_right}
+use Rattle.std.specs.Prelude.{◌==◌, ◌||◌, if◌then◌else◌, map, slice_index}
+use Rattle.std.specs.List.{list_any}
+use Rattle.std.proofs.lemmas.Bool.{cases_Bool, eqb-true, eqb-false}
+use Rattle.std.proofs.lemmas.List.{length-map, get_or-map}
+use Rattle.grid_fraction.specs.Numbers.{greatest_below}
+use Rattle.sched_model.specs.declared.state.Row.{Row}
+use Rattle.sched_model.specs.Plan.{Plan, count, period, worst}
+use Rattle.sched_model.specs.Demands.{IsWithin}
+use Rattle.sched_model.specs.Admission.{IsWithinLimits}
+use Rattle.sched_model.specs.States.{StateOf, row_at, no_row, row_wleft, opening, opening_row}
+use Rattle.sched_model.proofs.LevelSums.{share-most, greatest-above, greatest-least, greatest-same}
+use Rattle.sched_model.proofs.ScheduleLemmas.{length-list_below}
+use Rattle.sched_model.proofs.Tables.{get-table}
+use Rattle.sched_model.proofs.Limits.{some_period, low_period}
+use Rattle.governor.specs.Steps.{is_due, boundary_row, opened_row, after_boundary, share, left, left_of, key_of, release_of, last_marked, IsLegal, after_tick, tick_row, IsBeforeAll, IsAtDecision, Belongs}
+use Rattle.governor.proofs.Rows.{length-each_row, get-each_row, none_due_at, some_due_at}
+
+-- what one row of a state that belongs keeps
+pub record RowOk (plan : Plan) (dem : ℕ → ℕ → ℕ) (now i : ℕ) (row : Row) : Type 0 where
+  pub worst : row.worst ≡ worst plan i
+  pub used : row.used ≤ row.worst
+  pub due : now ≤ row.deadline
+  pub deadline : row.deadline ≡ row.job * period plan i
+  pub released : release_of (period plan i) row ≤ now
+  pub open_job : row.done ≡ false → row.used < dem i row.job
+  pub closed_job : row.done ≡ true → 0 < row.job → row.used ≡ dem i row.job
+  pub no_job : row.job ≡ 0 → (row.done ≡ true) × (row.used ≡ 0)
+
+pub row_ok : (plan : Plan) (dem : ℕ → ℕ → ℕ) (s : StateOf) → Belongs plan dem s → (i : ℕ) → i < count plan → RowOk plan dem s.now i (row_at s i)
+row_ok plan dem s bel i h = record { worst = bel.of.worst i h; used = bel.of.used i h; due = bel.due i h; deadline = bel.deadline i h; released = bel.released i h; open_job = bel.open_job i h; closed_job = bel.closed_job i h; no_job = bel.no_job i h }
+
+belongs_of_rows : (plan : Plan) (dem : ℕ → ℕ → ℕ) (s : StateOf) → length s.rows ≡ count plan → length s.base ≡ count plan → s.base_at ≡ last_marked plan s → ((i : ℕ) → i < count plan → row_wleft (row_at s i) ≤ slice_index s.base i) → IsWithin plan dem → ((i : ℕ) → i < count plan → RowOk plan dem s.now i (row_at s i)) → Belongs plan dem s
+belongs_of_rows plan dem s rows base marked bases demand each = record {
+  of = record { rows = rows; base = base; worst = λ i h. (each i h).worst; used = λ i h. (each i h).used };
+  demand = demand;
+  due = λ i h. (each i h).due;
+  deadline = λ i h. (each i h).deadline;
+  released = λ i h. (each i h).released;
+  base_at = marked;
+  base = bases;
+  open_job = λ i h. (each i h).open_job;
+  closed_job = λ i h. (each i h).closed_job;
+  no_job = λ i h. (each i h).no_job;
+}
+
+-- a task's number is a place of its row
+pub in_rows : (plan : Plan) (dem : ℕ → ℕ → ℕ) (s : StateOf) → Belongs plan dem s → (i : ℕ) → i < count plan → i < length s.rows
+in_rows plan dem s bel i h = omega (arith, bel.of.rows)
+
+pub opening_at : (plan : Plan) (i : ℕ) → i < count plan → row_at (opening plan) i ≡ opening_row (worst plan i)
+opening_at plan i h = get-table (count plan) (λ k. opening_row (worst plan k)) i no_row h
+
+opening_row_ok : (plan : Plan) (dem : ℕ → ℕ → ℕ) (i c : ℕ) → c ≡ worst plan i → RowOk plan dem 0 i (opening_row c)
+opening_row_ok plan dem i c e = record {
+  worst = e;
+  used = omega arith;
+  due = omega arith;
+  deadline = sym (zero-mul (period plan i));
+  released = (let none : (0 - 1) * period plan i ≡ 0 = zero-mul (period plan i) in omega arith);
+  open_job = λ h. absurd (let t : true ≡ false = h in cc);
+  closed_job = λ h pos. absurd (omega arith);
+  no_job = λ h. (refl, refl);
+}
+
+pub belongs_opening : (plan : Plan) (dem : ℕ → ℕ → ℕ) → IsWithin plan dem → Belongs plan dem (opening plan)
+belongs_opening plan dem fits =
+    let ok : (i : ℕ) → i < count plan → RowOk plan dem 0 i (row_at (opening plan) i) =
+    λ i h. subst (λ (row : Row). RowOk plan dem 0 i row) (sym (opening_at plan i h)) (opening_row_ok plan dem i (worst plan i) refl) in
+    let none : last_marked plan (opening plan) ≤ 0 = greatest-least (count plan) (λ i. release_of (period plan i) (row_at (opening plan) i)) 0 (λ i h. (ok i h).released) in
+    belongs_of_rows plan dem (opening plan) (length-list_below (count plan) (λ i. opening_row (worst plan i))) (length-list_below (count plan) (λ i. 0)) (omega (arith, none))
+    (λ i h. subst (λ (row : Row). row_wleft row ≤ slice_index (opening plan).base i) (sym (opening_at plan i h)) (omega arith))
+    fits ok
+
+eqb_pos : (n : ℕ) → (n == 0) ≡ false → 0 < n
+eqb_pos zero e = absurd (let t : true ≡ false = e in cc)
+eqb_pos (suc n) e = omega arith
+
+-- the next job is released where this one is due
+pub opened_release : (plan : Plan) (dem : ℕ → ℕ → ℕ) (i : ℕ) (row : Row) → row.deadline ≡ row.job * period plan i → release_of (period plan i) (opened_row plan dem i row) ≡ row.deadline
+opened_release plan dem i row e =
+    let back : row.job + 1 - 1 ≡ row.job = omega arith in
+    ap (λ (k : ℕ). k * period plan i) back ∙ sym e
+
+-- a row at a boundary
+opened_row_ok : (plan : Plan) (dem : ℕ → ℕ → ℕ) (now i : ℕ) (row : Row) → row.deadline ≡ now → RowOk plan dem now i row → RowOk plan dem now i (opened_row plan dem i row)
+opened_row_ok plan dem now i row at_now ok = record {
+  worst = ok.worst;
+  used = omega arith;
+  due = omega (arith, ok.due);
+  deadline = omega (arith, ok.deadline);
+  released = (let e = opened_release plan dem i row ok.deadline in omega arith);
+  open_job = λ e. eqb_pos (dem i (row.job + 1)) e;
+  closed_job = λ e pos. sym (eqb-true (dem i (row.job + 1)) 0 e);
+  no_job = λ e. absurd (let e' : row.job + 1 ≡ 0 = e in omega arith);
+}
+
+row_at_boundary : (plan : Plan) (dem : ℕ → ℕ → ℕ) (now i : ℕ) (row : Row) → RowOk plan dem now i row → RowOk plan dem now i (boundary_row plan dem now i row)
+row_at_boundary plan dem now i row ok =
+    let P : Bool → Type 0 = λ (b : Bool). RowOk plan dem now i (if b then opened_row plan dem i row else row) in
+    elim (cases_Bool (is_due now row)) [
+      | inl is_now ↦ subst P (sym is_now) (opened_row_ok plan dem now i row (eqb-true row.deadline now is_now) ok)
+      | inr later ↦ subst P (sym later) ok
+    ]
+
+pub boundary_at : (plan : Plan) (dem : ℕ → ℕ → ℕ) (s : StateOf) (i : ℕ) → i < length s.rows → row_at (after_boundary plan dem s) i ≡ boundary_row plan dem s.now i (row_at s i)
+boundary_at plan dem s i h = get-each_row (boundary_row plan dem s.now) s.rows i h
+
+pub boundary_long : (plan : Plan) (dem : ℕ → ℕ → ℕ) (s : StateOf) → length (after_boundary plan dem s).rows ≡ length s.rows
+boundary_long plan dem s = length-each_row (boundary_row plan dem s.now) 0 s.rows
+
+pub tick_at : (dem : ℕ → ℕ → ℕ) (shares : List ℕ) (s : StateOf) (i : ℕ) → i < length s.rows → row_at (after_tick dem shares s) i ≡ tick_row dem shares i (row_at s i)
+tick_at dem shares s i h = get-each_row (tick_row dem shares) s.rows i h
+
+pub tick_long : (dem : ℕ → ℕ → ℕ) (shares : List ℕ) (s : StateOf) → length (after_tick dem shares s).rows ≡ length s.rows
+tick_long dem shares s = length-each_row (tick_row dem shares) 0 s.rows
+
+boundary_rows_ok : (plan : Plan) (dem : ℕ → ℕ → ℕ) (s : StateOf) → Belongs plan dem s → (i : ℕ) → i < count plan → RowOk plan dem s.now i (row_at (after_boundary plan dem s) i)
+boundary_rows_ok plan dem s bel i h =
+    rw (boundary_at plan dem s i (in_rows plan dem s bel i h))
+    (row_at_boundary plan dem s.now i (row_at s i) (row_ok plan dem s bel i h))
+
+length_if : (b : Bool) (xs ys : List ℕ) (n : ℕ) → length xs ≡ n → length ys ≡ n → length (if b then xs else ys) ≡ n
+length_if true xs ys n p q = p
+length_if false xs ys n p q = q
+
+-- the base of each row covers what it may need
+base_covers : (plan : Plan) (dem : ℕ → ℕ → ℕ) (s : StateOf) → Belongs plan dem s → (i : ℕ) → i < count plan → (b : Bool) → list_any (is_due s.now) s.rows ≡ b → row_wleft (row_at (after_boundary plan dem s) i) ≤ slice_index (if b then map row_wleft (after_boundary plan dem s).rows else s.base) i
+base_covers plan dem s bel i h true some =
+    let rows = (after_boundary plan dem s).rows in
+    let within : i < length rows = omega (arith, boundary_long plan dem s, bel.of.rows) in
+    let same : slice_index (map row_wleft rows) i ≡ row_wleft (row_at (after_boundary plan dem s) i) = get_or-map row_wleft rows i no_row 0 within in
+    omega arith
+base_covers plan dem s bel i h false none =
+    let here : i < length s.rows = in_rows plan dem s bel i h in
+    let still : is_due s.now (row_at s i) ≡ false = none_due_at (is_due s.now) s.rows i none here in
+    let P : Bool → Type 0 = λ (b : Bool). row_wleft (if b then opened_row plan dem i (row_at s i) else row_at s i) ≤ slice_index s.base i in
+    rw (boundary_at plan dem s i here) (subst P (sym still) (bel.base i h))
+
+-- the mark is the last release
+marked_at : (plan : Plan) (dem : ℕ → ℕ → ℕ) (s : StateOf) → Belongs plan dem s → (b : Bool) → list_any (is_due s.now) s.rows ≡ b → (if b then s.now else s.base_at) ≡ last_marked plan (after_boundary plan dem s)
+marked_at plan dem s bel true some =
+    let t = after_boundary plan dem s in
+    let release : ℕ → ℕ = λ i. release_of (period plan i) (row_at t i) in
+    let most : greatest_below (count plan) release ≤ s.now = greatest-least (count plan) release s.now (λ i h. (boundary_rows_ok plan dem s bel i h).released) in
+    let found = some_due_at (is_due s.now) s.rows some in
+    let i = found.0 in
+    let here : i < length s.rows = found.1 in
+    let h : i < count plan = omega (arith, bel.of.rows) in
+    let at_now : (row_at s i).deadline ≡ s.now = eqb-true (row_at s i).deadline s.now found.2 in
+    let P : Bool → Type 0 = λ (b : Bool). release_of (period plan i) (if b then opened_row plan dem i (row_at s i) else row_at s i) ≡ s.now in
+    let last : release i ≡ s.now = rw (boundary_at plan dem s i here) (subst P (sym found.2) (opened_release plan dem i (row_at s i) (bel.deadline i h) ∙ at_now)) in
+    let least : release i ≤ greatest_below (count plan) release = greatest-above (count plan) release i h in
+    omega arith
+marked_at plan dem s bel false none =
+    let t = after_boundary plan dem s in
+    bel.base_at
+    ∙ greatest-same (count plan) (λ i. release_of (period plan i) (row_at s i)) (λ i. release_of (period plan i) (row_at t i))
+    (λ i h.
+    let here : i < length s.rows = in_rows plan dem s bel i h in
+    let still : is_due s.now (row_at s i) ≡ false = none_due_at (is_due s.now) s.rows i none here in
+    let P : Bool → Type 0 = λ (b : Bool). release_of (period plan i) (row_at s i) ≡ release_of (period plan i) (if b then opened_row plan dem i (row_at s i) else row_at s i) in
+    rw (boundary_at plan dem s i here) (subst P (sym still) refl))
+
+pub belongs_boundary : (plan : Plan) (dem : ℕ → ℕ → ℕ) (s : StateOf) → Belongs plan dem s → Belongs plan dem (after_boundary plan dem s)
+belongs_boundary plan dem s bel =
+    let b = after_boundary plan dem s in
+    let any = list_any (is_due s.now) s.rows in
+    let rows : length b.rows ≡ count plan = boundary_long plan dem s ∙ bel.of.rows in
+    belongs_of_rows plan dem b rows
+    (length_if any (map row_wleft b.rows) s.base (count plan) (length-map b.rows row_wleft ∙ rows) bel.of.base)
+    (marked_at plan dem s bel any refl)
+    (λ i h. base_covers plan dem s bel i h any refl)
+    bel.demand
+    (boundary_rows_ok plan dem s bel)
+
+-- a row at a boundary is due later
+due_later : (plan : Plan) (dem : ℕ → ℕ → ℕ) (now i : ℕ) (row : Row) → 0 < period plan i → now ≤ row.deadline → now < (boundary_row plan dem now i row).deadline
+due_later plan dem now i row pos due =
+    let P : Bool → Type 0 = λ (b : Bool). now < (if b then opened_row plan dem i row else row).deadline in
+    elim (cases_Bool (is_due now row)) [
+      | inl is_now ↦ subst P (sym is_now) (let e : row.deadline ≡ now = eqb-true row.deadline now is_now in omega arith)
+      | inr later ↦ subst P (sym later) (let other : row.deadline ≡ now → ⊥ = eqb-false row.deadline now later in omega arith)
+    ]
+
+-- job numbers are at most the deadlines
+pub numbered : (plan : Plan) (dem : ℕ → ℕ → ℕ) (s : StateOf) → IsWithinLimits plan → Belongs plan dem s → (i : ℕ) → i < count plan → (row_at s i).job ≤ (row_at s i).deadline
+numbered plan dem s lim bel i h =
+    omega (arith, bel.deadline i h, le-mul_of_pos_right (row_at s i).job (some_period plan lim i h))
+
+-- a deadline is at most a period after the release
+pub due_soon : (job p : ℕ) → job * p ≤ (job - 1) * p + p
+due_soon zero p = omega (arith, zero-mul p)
+due_soon (suc k) p = let e : suc k - 1 ≡ k = omega arith in rw e (omega arith)
+
+pub decision_boundary : (plan : Plan) (dem : ℕ → ℕ → ℕ) (s : StateOf) → IsWithinLimits plan → Belongs plan dem s → IsAtDecision plan (after_boundary plan dem s)
+decision_boundary plan dem s lim bel =
+    let t = after_boundary plan dem s in
+    let bel' = belongs_boundary plan dem s bel in
+    let release : ℕ → ℕ = λ i. release_of (period plan i) (row_at t i) in
+    let most : greatest_below (count plan) release ≤ s.now = greatest-least (count plan) release s.now (λ i h. bel'.released i h) in
+    record {
+      before = λ i h.
+          rw (boundary_at plan dem s i (in_rows plan dem s bel i h)) (due_later plan dem s.now i (row_at s i) (some_period plan lim i h) (bel.due i h));
+      soon = λ i h.
+          let low : period plan i ≤ 2 ^ 40 = low_period plan lim i h in
+          let d = bel'.deadline i h in
+          let r = bel'.released i h in
+          let near = due_soon (row_at t i).job (period plan i) in
+          omega arith;
+      marked = (let e = bel'.base_at in omega arith);
+      since = λ i h. (let e = bel'.base_at in let g : release i ≤ greatest_below (count plan) release = greatest-above (count plan) release i h in omega arith);
+      base = bel'.base;
+    }
+
+-- what a row gets in a tick
+units_fit : (done : Bool) (used worst need sh : ℕ) → used ≤ worst → need ≤ worst → sh ≤ (if done then 0 else need - used) → used + sh ≤ worst
+units_fit true used worst need sh a b c = omega arith
+units_fit false used worst need sh a b c = omega arith
+
+still_open : (done : Bool) (used need sh : ℕ) → (done ≡ false → used < need) → sh ≤ (if done then 0 else need - used) → (done || (used + sh == need)) ≡ false → used + sh < need
+still_open true used need sh o c e = absurd (let t : true ≡ false = e in cc)
+still_open false used need sh o c e = let other : used + sh ≡ need → ⊥ = eqb-false (used + sh) need e in omega (arith, o refl)
+
+now_closed : (done : Bool) (used need sh job : ℕ) → (done ≡ true → 0 < job → used ≡ need) → sh ≤ (if done then 0 else need - used) → (done || (used + sh == need)) ≡ true → 0 < job → used + sh ≡ need
+now_closed true used need sh job o c e pos = omega (arith, o refl pos)
+now_closed false used need sh job o c e pos = eqb-true (used + sh) need e
+
+none_yet : (done : Bool) (used need sh : ℕ) → done ≡ true → used ≡ 0 → sh ≤ (if done then 0 else need - used) → ((done || (used + sh == need)) ≡ true) × (used + sh ≡ 0)
+none_yet true used need sh e z c = (refl, omega arith)
+none_yet false used need sh e z c = absurd (let t : false ≡ true = e in cc)
+
+falls_if : (b : Bool) (worst used sh : ℕ) → (if b then 0 else worst - (used + sh)) ≤ worst - used
+falls_if true worst used sh = omega arith
+falls_if false worst used sh = omega arith
+
+wleft_falls : (done : Bool) (worst used sh need : ℕ) → (if (done || (used + sh == need)) then 0 else worst - (used + sh)) ≤ (if done then 0 else worst - used)
+wleft_falls true worst used sh need = omega arith
+wleft_falls false worst used sh need = falls_if (used + sh == need) worst used sh
+
+row_after_tick : (plan : Plan) (dem : ℕ → ℕ → ℕ) (shares : List ℕ) (now i : ℕ) (row : Row) → ((k : ℕ) → dem i k ≤ worst plan i) → now < row.deadline → share shares i ≤ left_of dem i row → RowOk plan dem now i row → RowOk plan dem (now + 1) i (tick_row dem shares i row)
+row_after_tick plan dem shares now i row fits before most ok = record {
+  worst = ok.worst;
+  used = units_fit row.done row.used row.worst (dem i row.job) (share shares i) ok.used (rw ok.worst (fits row.job)) most;
+  due = omega arith;
+  deadline = ok.deadline;
+  released = omega (arith, ok.released);
+  open_job = still_open row.done row.used (dem i row.job) (share shares i) ok.open_job most;
+  closed_job = now_closed row.done row.used (dem i row.job) (share shares i) row.job ok.closed_job most;
+  no_job = λ e. (let z = ok.no_job e in none_yet row.done row.used (dem i row.job) (share shares i) z.0 z.1 most);
+}
+
+-- no task gets more than it needs in a legal tick
+pub legal_most : (plan : Plan) (dem : ℕ → ℕ → ℕ) (f : ℕ) (s : StateOf) (shares : List ℕ) → IsLegal plan dem f s shares → (i : ℕ) → i < count plan → share shares i ≤ left dem s i
+legal_most plan dem f s shares legal i h = share-most (count plan) (key_of plan.scheduler plan s) f (left dem s) (share shares) legal.out i h
+
+pub belongs_tick : (plan : Plan) (dem : ℕ → ℕ → ℕ) (f : ℕ) (s : StateOf) (shares : List ℕ) → Belongs plan dem s → IsBeforeAll plan s → IsLegal plan dem f s shares → Belongs plan dem (after_tick dem shares s)
+belongs_tick plan dem f s shares bel before legal =
+    let t = after_tick dem shares s in
+    let here : (i : ℕ) → i < count plan → i < length s.rows = in_rows plan dem s bel in
+    let same : s.base_at ≡ last_marked plan t =
+    bel.base_at
+    ∙ greatest-same (count plan) (λ i. release_of (period plan i) (row_at s i)) (λ i. release_of (period plan i) (row_at t i)) (λ i h. rw (tick_at dem shares s i (here i h)) refl) in
+    belongs_of_rows plan dem t (tick_long dem shares s ∙ bel.of.rows) bel.of.base same
+    (λ i h. rw (tick_at dem shares s i (here i h)) (let r = wleft_falls (row_at s i).done (row_at s i).worst (row_at s i).used (share shares i) (dem i (row_at s i).job) in let b = bel.base i h in le_trans r b))
+    bel.demand
+    (λ i h. rw (tick_at dem shares s i (here i h)) (row_after_tick plan dem shares s.now i (row_at s i) (λ k. bel.demand i k h) (before i h) (legal_most plan dem f s shares legal i h) (row_ok plan dem s bel i h)))

@@ -1,0 +1,46 @@
+-- The rows of a state, one by one.
+use Rattle.std.proofs.Common.{◌≡◌, ℕ, zero, suc, ◌+◌, ◌<◌, Bool, true, false, List, [], ◌∷◌, length, get_or, refl, ◌∙◌, ap, arith, add-zero}
+use Rattle.std.specs.Prelude.{◌||◌}
+use Rattle.std.specs.List.{list_any}
+use Rattle.sched_model.specs.declared.state.Row.{Row}
+use Rattle.sched_model.specs.States.{no_row}
+use Rattle.governor.specs.Steps.{each_row}
+
+pub length-each_row : (f : ℕ → Row → Row) (i : ℕ) (rows : List Row) → length (each_row f i rows) ≡ length rows
+length-each_row f i [] = refl
+length-each_row f i (row ∷ rows) = ap suc (length-each_row f (suc i) rows)
+
+get-each_row_from : (f : ℕ → Row → Row) (i : ℕ) (rows : List Row) (j : ℕ) → j < length rows → get_or (each_row f i rows) j no_row ≡ f (j + i) (get_or rows j no_row)
+get-each_row_from f i [] j h = absurd (omega arith)
+get-each_row_from f i (row ∷ rows) zero h = let e : i ≡ 0 + i = omega arith in ap (λ (k : ℕ). f k row) e
+get-each_row_from f i (row ∷ rows) (suc j) h =
+    let e : j + suc i ≡ suc j + i = omega arith in
+    get-each_row_from f (suc i) rows j (omega arith) ∙ ap (λ (k : ℕ). f k (get_or rows j no_row)) e
+
+pub get-each_row : (f : ℕ → Row → Row) (rows : List Row) (j : ℕ) → j < length rows → get_or (each_row f 0 rows) j no_row ≡ f j (get_or rows j no_row)
+get-each_row f rows j h = get-each_row_from f 0 rows j h ∙ ap (λ (k : ℕ). f k (get_or rows j no_row)) (add-zero j)
+
+pub or_false_left : (a b : Bool) → (a || b) ≡ false → a ≡ false
+or_false_left true b h = h
+or_false_left false b h = refl
+
+pub or_false_right : (a b : Bool) → (a || b) ≡ false → b ≡ false
+or_false_right true b h = absurd (let t : true ≡ false = h in cc)
+or_false_right false b h = h
+
+-- where no row is due, none at a place is
+pub none_due_at : (p : Row → Bool) (rows : List Row) (j : ℕ) → list_any p rows ≡ false → j < length rows → p (get_or rows j no_row) ≡ false
+none_due_at p [] j none h = absurd (omega arith)
+none_due_at p (row ∷ rows) zero none h = or_false_left (p row) (list_any p rows) none
+none_due_at p (row ∷ rows) (suc j) none h = none_due_at p rows j (or_false_right (p row) (list_any p rows) none) (omega arith)
+
+-- where some row is due, one at a place is
+pub some_due_at : (p : Row → Bool) (rows : List Row) → list_any p rows ≡ true → (j : ℕ) × (j < length rows) × (p (get_or rows j no_row) ≡ true)
+some_due_at p [] some = absurd (let t : false ≡ true = some in cc)
+some_due_at p (row ∷ rows) some = go (p row) refl (λ h. some_due_at p rows h) some
+  where
+    go : (b : Bool) → p row ≡ b → (list_any p rows ≡ true → (j : ℕ) × (j < length rows) × (p (get_or rows j no_row) ≡ true)) → (b || list_any p rows) ≡ true → (j : ℕ) × (j < length (row ∷ rows)) × (p (get_or (row ∷ rows) j no_row) ≡ true)
+    go true e more h = (0, omega arith, e)
+    go false e more h =
+        let rest = more h in
+        (suc rest.0, (let g = rest.1 in omega arith), rest.2)
