@@ -7,7 +7,7 @@ use Rattle.sched_model.specs.declared.state.Row.{Row}
 use Rattle.sched_model.specs.Priority.{SharesOut}
 use Rattle.sched_model.specs.Plan.{Plan, count, period}
 use Rattle.sched_model.specs.Demands.{IsWithin}
-use Rattle.grid_fraction.specs.Numbers.{greatest_below}
+use Rattle.grid_fraction.specs.Numbers.{greatest_below, least_below}
 use Rattle.sched_model.specs.States.{StateOf, row_at, row_wleft, released_row, IsOfPlan}
 
 -- each row by its place
@@ -55,6 +55,10 @@ left dem s i = left_of dem i (row_at s i)
 -- what the job of task i may still need at most
 abbrev pub wleft_at : StateOf → ℕ → ℕ
 wleft_at s i = row_wleft (row_at s i)
+
+-- the earliest deadline of the rows
+abbrev pub earliest : Plan → StateOf → ℕ
+earliest plan s = least_below (count plan) (λ i. (row_at s i).deadline)
 
 -- what a scheduler orders the tasks by: the deadline under EDF, the period under RM
 abbrev pub key_of : Scheduler → Plan → StateOf → ℕ → ℕ

@@ -2,3 +2,4 @@ pub mod Sums
 pub mod Searches
 pub mod Multiples
 pub mod Ceilings
+pub mod Least

@@ -56,3 +56,15 @@ not-true false e = refl
 not-false : (b : Bool) → not b ≡ false → b ≡ true
 not-false true e = refl
 not-false false e = absurd (true≢false e)
+
+-- and none before it passes
+pub first_from-most : (n from m : ℕ) (test : ℕ → Bool) → from ≤ m → m < from + n → test m ≡ true → first_from n from test ≤ m
+first_from-most zero from m test low high found = absurd (omega arith)
+first_from-most (suc n) from m test low high found = go (test from) refl (eq-or-lt_of_le low) (first_from-most n (suc from) m test)
+  where
+    go : (b : Bool) → test from ≡ b → (from ≡ m) ⊎ (from < m)
+        → (suc from ≤ m → m < suc from + n → test m ≡ true → first_from n (suc from) test ≤ m)
+        → first_from (suc n) from test ≤ m
+    go true e c ih = rw (e, first_from) low
+    go false e (inl c) ih = absurd (true≢false (sym found ∙ (ap test (sym c) ∙ e)))
+    go false e (inr c) ih = rw (e, first_from) (ih (omega arith) (omega arith) found)

@@ -15,3 +15,4 @@ pub mod Traces
 pub mod SpeedLines
 pub mod Openings
 pub mod Limits
+pub mod Weights

@@ -1,0 +1,4 @@
+pub mod Fits
+pub mod EdfLaws
+pub mod RmLaws
+pub mod OneSpeedLaws

@@ -1,0 +1,4 @@
+pub mod Speeds
+pub mod Edf
+pub mod Rm
+pub mod Conditions
