@@ -1,5 +1,5 @@
 -- The next part of a line.
-use Rattle.std.proofs.Common.{◌≡◌, ◌<◌, ◌≤◌, ℕ, zero, suc, ◌+◌, List, [], ◌∷◌, ◌++◌, length, map, drop, get_or, append_assoc, append-nil, refl, ap, sym, ◌∙◌, arith}
+use Rattle.std.proofs.Common.{◌≡◌, ◌<◌, ℕ, zero, suc, ◌+◌, List, [], ◌∷◌, ◌++◌, length, map, drop, get_or, ap, sym, arith}
 use Rattle.dvs_base.specs.declared.part.Part.{Part}
 use Rattle.dvs_base.specs.Parts.{part_text, most_bytes, most_of, joined}
 

@@ -102,6 +102,9 @@ fn a_host_shelf_reads_files(rt: HostRuntime) -> Result<(), Fail> {
     let mut shelf = HostShelf::new(&rt);
     let bytes = shelf.load(alloc, "present", 3).map_err(|_| "present")?;
     assert_eq!(rt; bytes.as_slice(), b"1234".as_slice());
-    assert_eq!(rt; shelf.load(alloc, "missing", 3).err(), Some(LoadFault::Failed));
+    assert_eq!(rt;
+        shelf.load(alloc, "missing", 3).err(),
+        Some(LoadFault::Failed)
+    );
     Ok(())
 }

@@ -1,6 +1,6 @@
-use Rattle.std.proofs.Common.{◌≡◌, ◌≤◌, ◌+◌, ◌++◌, length, map, drop, suc, arith, add-one, append_assoc, append-nil, sym, ◌∙◌, ap, List, ℕ}
+use Rattle.std.proofs.Common.{◌++◌, map, drop, suc, arith, add-one, append_assoc, append-nil, sym, ◌∙◌, ap, List, ℕ}
 use Rattle.std.proofs.lemmas.List.{drop_all}
-use Rattle.dvs_base.specs.Parts.{part_text, most_bytes, most_of, joined}
+use Rattle.dvs_base.specs.Parts.{part_text, joined}
 use Rattle.dvs_base.proofs.Parting.{joined-next, most-next}
 use Rattle.dvs_base.proofs.part.line_of.Goals as goal
 
