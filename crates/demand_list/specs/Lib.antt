@@ -1,1 +1,3 @@
 pub mod Demands
+pub mod DemandFile
+pub mod Records

@@ -91,6 +91,21 @@ impl Demands {
         Ok(true)
     }
 
+    // The declared worst case of a task.
+    pub(crate) fn worst(&self, task: u32) -> u64
+        requires { task < length self.now.worsts }
+        ensures { result ≡ slice_index self.now.worsts task }
+    {
+        self.worsts[task as usize]
+    }
+
+    // Whether a job has a row.
+    pub(crate) fn has_row(&self, task: u32, job: u64) -> bool
+        ensures { result ≡ is_some (named self.now.rows task job) }
+    {
+        row_of(&self.rows, task, job).is_some()
+    }
+
     /// The units of a job without the charge: its row's, else the declared worst case.
     pub fn units(&self, task: u32, job: u64) -> u64
         requires { task < length self.now.worsts }

@@ -5,5 +5,8 @@
 #![tactic(auto)]
 
 mod demands;
+mod fault;
+mod read;
 
 pub use demands::Demands;
+pub use fault::{Column, DemandFault};

@@ -1,0 +1,16 @@
+use Rattle.std.proofs.Common.{◌≡◌, ◌<◌, ◌+◌, ◌^◌, length}
+use Rattle.demand_list.specs.DemandFile.{demands_from}
+use Rattle.demand_list.specs.Records.{IsPlain, records_left}
+use Rattle.demand_list.proofs.read.read_rows.Given as goal
+
+-- the list so far, and then the records that are left, are what all the records give
+abbrev pub invariant-loop-demands : goal.invariant-loop-demands
+invariant-loop-demands l = record {
+  plain : IsPlain l.records;
+  fits : l.row + length (records_left l.records) < 2 ^ 64;
+  worsts : length l.demands.worsts ≡ length l.tasks;
+  rest : demands_from l.tasks 1 l.fn.demands (records_left l.fn.records) ≡ demands_from l.tasks l.row l.demands (records_left l.records);
+}
+
+abbrev pub decreases-loop-demands : goal.decreases-loop-demands
+decreases-loop-demands l = length (records_left l.records)

@@ -1,0 +1,50 @@
+// Why a demand file is refused.
+use dvs_base::Short;
+
+/// The columns of a demand file that hold numbers.
+#[derive(Clone, Copy, Debug, PartialEq, Eq)]
+pub enum Column {
+    Job,
+    Units,
+}
+
+/// The first thing that a demand file has wrong. Rows count from 1, tasks from 0.
+#[derive(Drop)]
+pub enum DemandFault {
+    /// There is no record, or the first one isn't `task`, `job`, `units`.
+    Header,
+    /// The row has another number of fields than 3.
+    Fields {
+        row: u64,
+        count: u64,
+    },
+    /// No task has this name.
+    UnknownTask {
+        row: u64,
+        name: Short,
+    },
+    /// The column isn't a decimal number below 2^64.
+    BadNumber {
+        row: u64,
+        column: Column,
+    },
+    /// Jobs count from 1.
+    JobZero {
+        row: u64,
+    },
+    /// An earlier row has the same task and job.
+    Repeated {
+        row: u64,
+        task: u32,
+        job: u64,
+    },
+    /// The units exceed the declared worst case of the task.
+    OverWorst {
+        task: u32,
+        job: u64,
+        units: u64,
+        worst: u64,
+    },
+    /// Memory ran out.
+    NoMemory,
+}

@@ -1,0 +1,224 @@
+// Demand files.
+ghost use Rattle.std.specs.Prelude.{codes, ◌≡◌, ◌≤◌, ◌<◌, ◌^◌, ◌+◌, ◌∷◌, [], Ok, Some, true, length, option_map, map, IfOk, IfErr, OnOk, IfSome, OnSome, IfNone, vec_len};
+ghost use Rattle.csv.specs.Reading.{default_config, records, strip_bom, error_kind, stops_reader};
+ghost use Rattle.csv.specs.Records.{fields_of};
+ghost use Rattle.demand_list.specs.declared.fault.DemandFault.TheVariants as fault;
+ghost use Rattle.demand_list.specs.DemandFile.{three_of, is_header, row_of, demands_from, after_header, with_checked, demand_file, worst_list, IsUnlessMemory};
+ghost use Rattle.demand_list.specs.Records.{IsPlain, records_left};
+
+use crate::{Column, DemandFault, Demands};
+use csv::{ByteRecord, ByteRecordsIntoIter, Error, ReaderBuilder};
+use dvs_base::{NoMemory, Short, whole};
+use std::alloc::Global;
+use task_model::TaskSet;
+
+// The fields of a record of three.
+fn three_fields(fields: &ByteRecord) -> Option<(&[u8], &[u8], &[u8])>
+    ensures { option_map (λ p. (p.0.now, p.1.now, p.2.now)) result ≡ three_of (fields_of fields.now) }
+{
+    if fields.len() != 3 {
+        return None;
+    }
+    let a = fields.get(0).unwrap();
+    let b = fields.get(1).unwrap();
+    let c = fields.get(2).unwrap();
+    Some((a, b, c))
+}
+
+fn is_header(fields: &ByteRecord) -> bool
+    ensures { result ≡ is_header (fields_of fields.now) }
+{
+    match three_fields(fields) {
+        Some((a, b, c)) => a == b"task".as_slice()
+            && b == b"job".as_slice()
+            && c == b"units".as_slice(),
+        None => false,
+    }
+}
+
+// A row read alone: its task, its job and its units.
+fn read_row(tasks: &TaskSet, row: u64, fields: &ByteRecord) -> Result<(u32, u64, u64), DemandFault>
+    ensures row { result ≡ row_of tasks.now row (fields_of fields.now) }
+    ensures task { IfOk result (λ r. r.0 < length tasks.now) }
+    ensures job { IfOk result (λ r. 1 ≤ r.1) }
+{
+    let (name, job, units) = match three_fields(fields) {
+        Some(three) => three,
+        None => {
+            return Err(DemandFault::Fields {
+                row,
+                count: fields.len() as u64,
+            });
+        }
+    };
+    let task = match tasks.find(name) {
+        Some(task) => task,
+        None => {
+            return Err(DemandFault::UnknownTask {
+                row,
+                name: Short::of(name),
+            });
+        }
+    };
+    let job = match whole(job) {
+        Some(job) => job,
+        None => {
+            return Err(DemandFault::BadNumber {
+                row,
+                column: Column::Job,
+            });
+        }
+    };
+    if job == 0 {
+        return Err(DemandFault::JobZero { row });
+    }
+    match whole(units) {
+        Some(units) => Ok((task, job, units)),
+        None => Err(DemandFault::BadNumber {
+            row,
+            column: Column::Units,
+        }),
+    }
+}
+
+// Adds a row of a file, after the checks against the list.
+fn add_checked(
+    demands: &mut Demands,
+    row: u64,
+    task: u32,
+    job: u64,
+    units: u64,
+) -> Result<(), DemandFault>
+    requires task { task < length demands.old.worsts }
+    requires job { 1 ≤ job }
+    ensures worsts { demands.new.worsts ≡ demands.old.worsts }
+    ensures added { IsUnlessMemory (λ _. demands.new) result (with_checked demands.old row task job units) }
+{
+    if demands.has_row(task, job) {
+        return Err(DemandFault::Repeated { row, task, job });
+    }
+    let worst = demands.worst(task);
+    if worst < units {
+        return Err(DemandFault::OverWorst {
+            task,
+            job,
+            units,
+            worst,
+        });
+    }
+    match demands.set(task, job, units) {
+        Ok(_) => Ok(()),
+        Err(_) => Err(DemandFault::NoMemory),
+    }
+}
+
+// The records of a text: of any number of fields, and the first one like the others.
+fn records_of(alloc: Global, text: &[u8]) -> ByteRecordsIntoIter<&[u8]>
+    ensures plain { IsPlain result }
+    ensures all { records_left result ≡ records default_config (strip_bom text.now) }
+    ensures few { length (records_left result) ≤ length text.now + 1 }
+{
+    ReaderBuilder::new()
+        .has_headers(false)
+        .flexible(true)
+        .from_reader(alloc, text)
+        .into_byte_records()
+}
+
+// Why a record of a text in memory can't be had: of the errors of csv, those of the bytes don't come.
+fn no_record(error: Error) -> DemandFault
+    requires { stops_reader (error_kind error) ≡ true }
+    ensures { result ≡ fault.NoMemory }
+{
+    DemandFault::NoMemory
+}
+
+// The next record, where there is one.
+fn next_record(records: &mut ByteRecordsIntoIter<&[u8]>) -> Result<Option<ByteRecord>, DemandFault>
+    requires { IsPlain records.old }
+    ensures some { IfOk result (λ next. IfSome next (λ fields. records_left records.old ≡ fields_of fields ∷ records_left records.new)) }
+    ensures plain { IfOk result (λ next. OnSome next (IsPlain records.new)) }
+    ensures none { IfOk result (λ next. IfNone next (records_left records.old ≡ [])) }
+    ensures err { IfErr result (λ e. e ≡ fault.NoMemory) }
+{
+    match records.next() {
+        Some(Ok(fields)) => Ok(Some(fields)),
+        Some(Err(e)) => Err(no_record(e)),
+        None => Ok(None),
+    }
+}
+
+// Takes the header.
+fn read_header(records: &mut ByteRecordsIntoIter<&[u8]>) -> Result<(), DemandFault>
+    requires { IsPlain records.old }
+    ensures left { IsUnlessMemory (λ _. records_left records.new) result (after_header (records_left records.old)) }
+    ensures plain { OnOk result (IsPlain records.new) }
+    ensures fewer { OnOk result (length (records_left records.new) < length (records_left records.old)) }
+{
+    match next_record(records)? {
+        Some(fields) if is_header(&fields) => Ok(()),
+        _ => Err(DemandFault::Header),
+    }
+}
+
+// The declared worst cases.
+fn worst_cases(alloc: Global, tasks: &TaskSet) -> Result<Vec<u64>, NoMemory>
+    ensures worsts { IfOk result (λ v. v.items ≡ map (λ t. t.worst) tasks.now) }
+    ensures few { IfOk result (λ v. vec_len v < 2 ^ 32) }
+{
+    let mut worsts = Vec::new(alloc);
+    for i in 0..tasks.count() {
+        if worsts.push(tasks.task(i).worst).is_err() {
+            return Err(NoMemory);
+        }
+    }
+    Ok(worsts)
+}
+
+// The list without rows.
+fn worst_list(alloc: Global, tasks: &TaskSet) -> Result<Demands, DemandFault>
+    ensures ok { IfOk result (λ d. d ≡ worst_list tasks.now) }
+    ensures err { IfErr result (λ e. e ≡ fault.NoMemory) }
+{
+    match worst_cases(alloc, tasks) {
+        Ok(worsts) => match Demands::worst_only(alloc, &worsts) {
+            Ok(demands) => Ok(demands),
+            Err(_) => Err(DemandFault::NoMemory),
+        },
+        Err(_) => Err(DemandFault::NoMemory),
+    }
+}
+
+// The rows after the header, counted from 1.
+fn read_rows(
+    records: &mut ByteRecordsIntoIter<&[u8]>,
+    tasks: &TaskSet,
+    mut demands: Demands,
+) -> Result<Demands, DemandFault>
+    requires plain { IsPlain records.old }
+    requires few { length (records_left records.old) + 1 < 2 ^ 64 }
+    requires worsts { length demands.worsts ≡ length tasks.now }
+    ensures { IsUnlessMemory (λ d. d) result (demands_from tasks.now 1 demands (records_left records.old)) }
+{
+    let mut row: u64 = 1;
+    while let Some(fields) = next_record(records)? {
+        let (task, job, units) = read_row(tasks, row, &fields)?;
+        add_checked(&mut demands, row, task, job, units)?;
+        row += 1;
+    }
+    Ok(demands)
+}
+
+impl Demands {
+    /// The demand list of a file: the tasks' declared worst cases, and the rows of the file. Rows for jobs beyond a run
+    /// are checked like all others. The first refusal stands in the order of the records, and in a row in the order of
+    /// the variants of `DemandFault`.
+    pub fn read(alloc: Global, bytes: &[u8], tasks: &TaskSet) -> Result<Demands, DemandFault>
+        ensures { IsUnlessMemory (λ d. d) result (demand_file tasks.now bytes.now) }
+    {
+        let mut records = records_of(alloc, bytes);
+        read_header(&mut records)?;
+        let demands = worst_list(alloc, tasks)?;
+        read_rows(&mut records, tasks, demands)
+    }
+}
