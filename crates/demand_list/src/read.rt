@@ -198,7 +198,8 @@ fn read_rows(
     requires plain { IsPlain records.old }
     requires few { length (records_left records.old) + 1 < 2 ^ 64 }
     requires worsts { length demands.worsts ≡ length tasks.now }
-    ensures { IsUnlessMemory (λ d. d) result (demands_from tasks.now 1 demands (records_left records.old)) }
+    ensures worsts { IfOk result (λ d. d.worsts ≡ demands.worsts) }
+    ensures rows { IsUnlessMemory (λ d. d) result (demands_from tasks.now 1 demands (records_left records.old)) }
 {
     let mut row: u64 = 1;
     while let Some(fields) = next_record(records)? {
@@ -214,7 +215,8 @@ impl Demands {
     /// are checked like all others. The first refusal stands in the order of the records, and in a row in the order of
     /// the variants of `DemandFault`.
     pub fn read(alloc: Global, bytes: &[u8], tasks: &TaskSet) -> Result<Demands, DemandFault>
-        ensures { IsUnlessMemory (λ d. d) result (demand_file tasks.now bytes.now) }
+        ensures file { IsUnlessMemory (λ d. d) result (demand_file tasks.now bytes.now) }
+        ensures worsts { IfOk result (λ d. d.worsts ≡ map (λ t. t.worst) tasks.now) }
     {
         let mut records = records_of(alloc, bytes);
         read_header(&mut records)?;

@@ -8,7 +8,7 @@ abbrev pub invariant-loop-demands : goal.invariant-loop-demands
 invariant-loop-demands l = record {
   plain : IsPlain l.records;
   fits : l.row + length (records_left l.records) < 2 ^ 64;
-  worsts : length l.demands.worsts ≡ length l.tasks;
+  worsts : l.demands.worsts ≡ l.fn.demands.worsts;
   rest : demands_from l.tasks 1 l.fn.demands (records_left l.fn.records) ≡ demands_from l.tasks l.row l.demands (records_left l.records);
 }
 
