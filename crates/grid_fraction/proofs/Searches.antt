@@ -1,5 +1,6 @@
 -- Searches among numbers.
-use Rattle.std.proofs.Common.{◌≡◌, ℕ, zero, suc, ◌+◌, ◌<◌, ◌≤◌, Bool, true, false, ◌||◌, not, ◌⊎◌, inl, inr, refl, arith, ap, ap₂, ◌∙◌, sym, eq-or-lt_of_le, le_of_suc-le-suc, subst, true≢false}
+use Rattle.std.proofs.Common.{◌≡◌, ℕ, zero, suc, ◌+◌, ◌<◌, ◌≤◌, Bool, true, false, ◌||◌, not, ◌⊎◌, inl, inr, refl, arith, ap, ap₂, ◌∙◌, sym, eq-or-lt_of_le, le_of_suc-le-suc, subst, true≢false, nat_le}
+use Rattle.std.proofs.lemmas.Bool.Decides.{nat_tests}
 use Rattle.grid_fraction.specs.Numbers.{any_below, first_from}
 
 -- what holds below m and at m holds below m + 1
@@ -57,14 +58,12 @@ not-false : (b : Bool) → not b ≡ false → b ≡ true
 not-false true e = refl
 not-false false e = absurd (true≢false e)
 
--- and none before it passes
-pub first_from-most : (n from m : ℕ) (test : ℕ → Bool) → from ≤ m → m < from + n → test m ≡ true → first_from n from test ≤ m
-first_from-most zero from m test low high found = absurd (omega arith)
-first_from-most (suc n) from m test low high found = go (test from) refl (eq-or-lt_of_le low) (first_from-most n (suc from) m test)
+-- and it is at most each that passes
+pub first_from-most : (n from m : ℕ) (test : ℕ → Bool) → from ≤ m → test m ≡ true → first_from n from test ≤ m
+first_from-most n from m test low found = go (nat_le (first_from n from test) m) refl
   where
-    go : (b : Bool) → test from ≡ b → (from ≡ m) ⊎ (from < m)
-        → (suc from ≤ m → m < suc from + n → test m ≡ true → first_from n (suc from) test ≤ m)
-        → first_from (suc n) from test ≤ m
-    go true e c ih = rw (e, first_from) low
-    go false e (inl c) ih = absurd (true≢false (sym found ∙ (ap test (sym c) ∙ e)))
-    go false e (inr c) ih = rw (e, first_from) (ih (omega arith) (omega arith) found)
+    go : (b : Bool) → nat_le (first_from n from test) m ≡ b → first_from n from test ≤ m
+    go true e = grind (arith, nat_tests)
+    go false e =
+        let over : m < first_from n from test = grind (arith, nat_tests) in
+        absurd (true≢false (sym found ∙ first_from-before n from m test low over))

@@ -113,7 +113,7 @@ module _ (p : Plan) (lim : IsWithinLimits p) where
   heaviest_within =
       let f = some_heaviest in
       let h : f.0 < count p = f.1.0 in
-      omega (arith, first_from-most (count p) 0 f.0 (λ i. not (any_below (count p) (λ j. outweighs p j i))) (omega arith) (omega arith) (test_true f.0 f.1.1))
+      omega (arith, first_from-most (count p) 0 f.0 (λ i. not (any_below (count p) (λ j. outweighs p j i))) (omega arith) (test_true f.0 f.1.1))
 
   pub heaviest_greatest : (j : ℕ) → j < count p → level_work p j * period p heaviest_task ≤ level_work p heaviest_task * period p j
   heaviest_greatest j hj =
