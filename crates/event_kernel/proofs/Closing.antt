@@ -1,0 +1,126 @@
+-- The end of a span, as its function tells it.
+use Rattle.std.proofs.Common.{◌≡◌, ℕ, ◌+◌, ◌-◌, ◌<◌, ◌≤◌, ◌^◌, true, List, [], ◌∷◌, ◌++◌, length, refl, arith, ap, ◌∙◌, sym, subst, ◌⊎◌, inl, inr}
+use Rattle.std.proofs.lemmas.Bool.{cases_lt}
+use Rattle.std.specs.Prelude.{sum_by}
+use Rattle.std.proofs.lemmas.List.Sums.{sum_by_push}
+use Rattle.grid_fraction.specs.declared.Frac.{Frac}
+use Rattle.dvs_base.specs.declared.note.Note.{Note}
+use Rattle.dvs_base.specs.declared.note.Note.TheVariants.{End}
+use Rattle.event_kernel.proofs.Bounds.{Bounds}
+use Rattle.sched_model.specs.Plan.{Plan, count}
+use Rattle.sched_model.specs.Decision.{is_decision}
+use Rattle.sched_model.specs.Schedule.{schedule_by}
+use Rattle.sched_model.specs.Notes.{all_release_notes, notes_before_end, notes_of, energy_run, energy_idle}
+use Rattle.sched_model.specs.States.{prior_state, StateOf, state_of}
+use Rattle.event_kernel.specs.declared.pen.Pen.{Pen}
+use Rattle.event_kernel.specs.Heard.{HasHeard, HasBalked}
+use Rattle.governor.specs.Schedule.{ask_of, course}
+use Rattle.event_kernel.specs.Pens.{CanTell}
+use Rattle.event_kernel.specs.Tickwork.{span_at, whole_span}
+use Rattle.event_kernel.specs.Boundary.{ended_pen, ended_notes, IsBetween}
+use Rattle.event_kernel.specs.Walking.{IsInSpan, HasWalked, told_before, told_in, told_after}
+use Rattle.event_kernel.proofs.Hearing.{Begins, begins-self, begins-more, begins-trans, heard-append, balked-append, balked-begins, balked_after}
+use Rattle.event_kernel.proofs.Working.{entry-in}
+use Rattle.event_kernel.proofs.Spanning.{open-new, closing-notes, closing-can, closing-between, course-start}
+use Rattle.event_kernel.proofs.Onward.{in-begins}
+use Rattle.event_kernel.proofs.Releasing.{course-len}
+
+-- the notes before a decision, or before the end, begin all of them
+pub before-begins : (demand : Plan → StateOf → Frac) (p : Plan) (dem : ℕ → ℕ → ℕ) (ticks t : ℕ) → t ≤ ticks → (t < ticks → is_decision p dem (course demand p dem t) ≡ true)
+    → Begins (told_before demand p dem t) (told_before demand p dem ticks)
+before-begins demand p dem ticks t le decision = go (cases_lt t ticks)
+  where
+    go : (t < ticks) ⊎ (ticks ≤ t) → Begins (told_before demand p dem t) (told_before demand p dem ticks)
+    go (inr ge) = let e : t ≡ ticks = omega arith in subst (λ n. Begins (told_before demand p dem t) (told_before demand p dem n)) e (begins-self (told_before demand p dem t))
+    go (inl lt) =
+        begins-trans (told_before demand p dem t) (told_in demand p dem t) (told_before demand p dem ticks)
+        (record { rest = _; whole = open-new demand p dem t (decision lt) })
+        (in-begins heard balked demand p dem ticks t lt)
+      where
+        heard : ℕ → Note → ℕ → Type 0
+        heard a n b = Unit {0}
+
+        balked : ℕ → Note → ℕ → Type 0
+        balked a n b = Unit {0}
+
+module _ {L : Type 0} (heard balked : L → Note → L → Type 0) (demand : Plan → StateOf → Frac) (p : Plan) (dem : ℕ → ℕ → ℕ) (ticks : ℕ) (adm : Bounds p) (low_ticks : ticks ≤ 2 ^ 40) (t0 e : ℕ) (s : StateOf) (pen : Pen) (h : HasWalked demand p dem ticks t0 (s.now - 1) e s pen) where
+  early : s.now - 1 < 2 ^ 40
+  early = omega (arith, h.before_end, low_ticks)
+
+  from_is : t0 ≡ length (whole_span demand p dem (s.now - 1)).past
+  from_is = sym (ap length h.began ∙ course-len demand p dem t0)
+
+  next : s.now - 1 + 1 ≡ s.now
+  next = sym h.now
+
+  pub close-can : (s0 : StateOf) (pen0 : Pen) → IsInSpan demand p dem ticks t0 t0 e s0 pen0 → CanTell p s t0 e pen
+  close-can s0 pen0 i =
+      closing-can demand p dem adm ticks t0 (s.now - 1) e s pen h early from_is
+      (subst (λ m. m < length p.machine.points) (sym i.work.in_force) (entry-in p dem (ask_of demand p dem) adm.some_point (course demand p dem t0)))
+
+  notes : told_before demand p dem s.now ≡ told_after demand p dem (s.now - 1) ++ ended_notes p s t0 e pen
+  notes = ap (told_before demand p dem) (sym next) ∙ closing-notes demand p dem adm ticks t0 (s.now - 1) e s pen h early from_is
+
+  pub close-between : (pen' : Pen) → pen' ≡ ended_pen p e pen → IsBetween demand p dem ticks s.now s pen'
+  close-between pen' pe = subst (λ n. IsBetween demand p dem ticks n s pen') next (closing-between demand p dem adm ticks t0 (s.now - 1) e s pen h early from_is pen' pe)
+
+  pub close-later : t0 < s.now
+  close-later = omega (arith, h.later, h.now)
+
+  pub close-limit : s.now ≤ ticks
+  close-limit = omega (arith, h.before_end, h.now)
+
+  pub close-heard : (a mid to : L) → HasHeard heard a (told_after demand p dem (s.now - 1)) mid → HasHeard heard mid (ended_notes p s t0 e pen) to → HasHeard heard a (told_before demand p dem s.now) to
+  close-heard a mid to x y = subst (λ ns. HasHeard heard a ns to) (sym notes) (heard-append heard balked (told_after demand p dem (s.now - 1)) (ended_notes p s t0 e pen) a mid to x y)
+
+  pub close-balked : (a mid to : L) → HasHeard heard a (told_after demand p dem (s.now - 1)) mid → HasBalked heard balked mid (ended_notes p s t0 e pen) to → HasBalked heard balked a (told_before demand p dem ticks) to
+  close-balked a mid to x y =
+      balked-begins heard balked (told_before demand p dem s.now) (told_before demand p dem ticks) a to
+      (before-begins demand p dem ticks s.now close-limit (λ lt. subst (λ n. is_decision p dem (course demand p dem n) ≡ true) next (h.decision (omega (arith, lt, next)))))
+      (subst (λ ns. HasBalked heard balked a ns to) (sym notes) (balked_after heard balked (told_after demand p dem (s.now - 1)) (ended_notes p s t0 e pen) a mid to x y))
+
+-- all notes of a schedule
+module _ {L : Type 0} (heard balked : L → Note → L → Type 0) (demand : Plan → StateOf → Frac) (p : Plan) (dem : ℕ → ℕ → ℕ) (ticks : ℕ) where
+  abbrev pub all_notes : List Note
+  all_notes = notes_of p dem (ask_of demand p dem) (course demand p dem ticks)
+
+  pub first-between : (s : StateOf) (pen : Pen) → s ≡ prior_state p dem [] → pen.run ≡ 0 → pen.idle ≡ 0 → IsBetween demand p dem ticks s.now s pen × (s.now ≡ 0)
+  unfolding schedule_by notes_before_end
+  first-between s pen e r i =
+      let now : s.now ≡ 0 = ap (λ (v : StateOf). v.now) e in
+      (
+        subst (λ n. IsBetween demand p dem ticks n s pen) (sym now) (record {
+          state = e;
+          decision = λ lt. refl;
+          money = omega (arith, r, i);
+          run = r;
+          idle = i;
+        }),
+        now,
+      )
+
+  pub nothing-told : (t : ℕ) (a : L) → t ≡ 0 → HasHeard heard a (told_before demand p dem t) a
+  unfolding schedule_by notes_before_end
+  nothing-told t a e = subst (λ n. HasHeard heard a (told_before demand p dem n) a) (sym e) refl
+
+  end-is : (t run idle : ℕ) → t ≡ ticks → run ≡ sum_by energy_run (told_before demand p dem t) → idle ≡ sum_by energy_idle (told_before demand p dem t)
+      → told_before demand p dem t ++ End ticks run idle ∷ [] ≡ all_notes
+  end-is t run idle e r i =
+      ap (λ x. told_before demand p dem t ++ End ticks x idle ∷ []) r
+      ∙ (ap (λ x. told_before demand p dem t ++ End ticks (sum_by energy_run (told_before demand p dem t)) x ∷ []) i
+      ∙ (ap (λ n. told_before demand p dem n ++ End ticks (sum_by energy_run (told_before demand p dem n)) (sum_by energy_idle (told_before demand p dem n)) ∷ []) e
+      ∙ ap (λ n. told_before demand p dem ticks ++ End n (sum_by energy_run (told_before demand p dem ticks)) (sum_by energy_idle (told_before demand p dem ticks)) ∷ []) (sym (course-len demand p dem ticks))))
+
+  pub end-heard : (t : ℕ) (s : StateOf) (pen : Pen) (a mid to : L) → IsBetween demand p dem ticks t s pen → t ≡ ticks → HasHeard heard a (told_before demand p dem t) mid → heard mid (End ticks pen.run pen.idle) to → HasHeard heard a all_notes to
+  end-heard t s pen a mid to b e h x =
+      subst (λ ns. HasHeard heard a ns to) (end-is t pen.run pen.idle e b.run b.idle)
+      (heard-append heard balked (told_before demand p dem t) (End ticks pen.run pen.idle ∷ []) a mid to h (to, x, refl))
+
+  pub end-balked : (t : ℕ) (s : StateOf) (pen : Pen) (a mid to : L) → IsBetween demand p dem ticks t s pen → t ≡ ticks → HasHeard heard a (told_before demand p dem t) mid → balked mid (End ticks pen.run pen.idle) to → HasBalked heard balked a all_notes to
+  end-balked t s pen a mid to b e h x =
+      subst (λ ns. HasBalked heard balked a ns to) (end-is t pen.run pen.idle e b.run b.idle)
+      (balked_after heard balked (told_before demand p dem t) (End ticks pen.run pen.idle ∷ []) a mid to h (inl x))
+
+  pub before-balked : (a to : L) → HasBalked heard balked a (told_before demand p dem ticks) to → HasBalked heard balked a all_notes to
+  before-balked a to b =
+      balked-append heard balked (told_before demand p dem ticks) (End (length (course demand p dem ticks)) (sum_by energy_run (told_before demand p dem ticks)) (sum_by energy_idle (told_before demand p dem ticks)) ∷ []) a to b

@@ -1,0 +1,121 @@
+-- The state of a schedule's ticks is a state of the plan at a decision: what `choose` may ask for.
+use Rattle.std.proofs.Common.{◌≡◌, ℕ, zero, suc, ◌+◌, ◌-◌, ◌*◌, ◌<◌, ◌≤◌, ◌^◌, Bool, true, false, not, ◌||◌, List, [], ◌∷◌, length, drop, length-drop, refl, arith, if◌then◌else◌, ap, ap₂, ◌∙◌, sym, subst, true≢false, ◌⊎◌, inl, inr, nat_eq, nat_le, eq-or-lt_of_le}
+use Rattle.std.proofs.lemmas.Bool.Decides.{nat_tests}
+use Rattle.grid_fraction.specs.declared.Frac.{Frac}
+use Rattle.sched_model.specs.declared.state.Row.{Row}
+use Rattle.event_kernel.proofs.Bounds.{Bounds}
+use Rattle.grid_fraction.specs.Numbers.{any_below, last_up_to, list_below}
+use Rattle.sched_model.specs.Plan.{Plan, count, period, worst}
+use Rattle.sched_model.specs.Jobs.{latest, due, release, releases_at, is_release, last_release}
+use Rattle.sched_model.specs.Ticks.{Tick, at, exec, is_done, is_complete, wleft, share}
+use Rattle.sched_model.specs.Schedule.{schedule_by}
+use Rattle.sched_model.proofs.JobLaws.{release-le, lt-due, due-le, latest-is, latest-pos}
+use Rattle.sched_model.specs.States.{no_row, row_at, row_wleft, StateOf, row_of, state_of}
+use Rattle.sched_model.proofs.Tables.{get-table}
+use Rattle.sched_model.proofs.ScheduleLemmas.{length-list_below}
+use Rattle.governor.specs.Steps.{IsAtDecision, release_of}
+use Rattle.event_kernel.proofs.Handing.{any_below-found}
+use Rattle.sched_model.specs.Demands.{IsWithin}
+
+last-greatest : (t r : ℕ) (test : ℕ → Bool) → r ≤ t → test r ≡ true → r ≤ last_up_to t test
+last-greatest zero r test le e = le
+last-greatest (suc t) r test le e = go (test (suc t)) refl (eq-or-lt_of_le le) (last-greatest t r test)
+  where
+    go : (b : Bool) → test (suc t) ≡ b → (r ≡ suc t) ⊎ (r < suc t) → (r ≤ t → test r ≡ true → r ≤ last_up_to t test) → r ≤ last_up_to (suc t) test
+    go true q c ih = rw (q, last_up_to) le
+    go false q (inl c) ih = absurd (true≢false (sym e ∙ (ap test c ∙ q)))
+    go false q (inr c) ih = rw (q, last_up_to) (ih (omega arith) e)
+
+last-le : (t : ℕ) (test : ℕ → Bool) → last_up_to t test ≤ t
+last-le zero test = omega arith
+last-le (suc t) test = go (test (suc t)) refl (last-le t test)
+  where
+    go : (b : Bool) → test (suc t) ≡ b → last_up_to t test ≤ t → last_up_to (suc t) test ≤ suc t
+    go true q ih = rw (q, last_up_to) (omega arith)
+    go false q ih = rw (q, last_up_to) (omega (arith, ih))
+
+exec-grows : (p : Plan) (past : List Tick) (n i k : ℕ) → exec p (drop n past) i k ≤ exec p past i k
+exec-grows p past zero i k = omega arith
+exec-grows p [] (suc n) i k = omega arith
+exec-grows p (x ∷ past) (suc n) i k = omega (arith, exec-grows p past n i k)
+
+pub released : (p : Plan) (i k : ℕ) → (k - 1) * period p i ≡ release p i k
+unfolding release
+released p i k = refl
+
+module _ (p : Plan) (adm : Bounds p) where
+  -- the latest job was released at the last release or before
+  pub released-before : (i t : ℕ) → i < count p → release p i (latest p i t) ≤ last_release p t
+  released-before i t lt =
+      last-greatest t (release p i (latest p i t)) (is_release p) low
+      (any_below-found (count p) (λ j. releases_at p j (release p i (latest p i t))) i lt here)
+    where
+      low : release p i (latest p i t) ≤ t
+      low = release-le p i t (adm.some_period i) (latest-pos p i t)
+
+      same : latest p i (release p i (latest p i t)) ≡ latest p i t
+      same = latest-is p i (latest p i t) (release p i (latest p i t)) (omega arith) (omega (arith, low, lt-due p i t (adm.some_period i)))
+
+      here : releases_at p i (release p i (latest p i t)) ≡ true
+      here = let e : release p i (latest p i (release p i (latest p i t))) ≡ release p i (latest p i t) = ap (release p i) same in grind (arith, nat_tests, e)
+
+  pub latest-marked : (i t : ℕ) → i < count p → latest p i (last_release p t) ≡ latest p i t
+  latest-marked i t lt =
+      latest-is p i (latest p i t) (last_release p t) (released-before i t lt) (omega (arith, last-le t (is_release p), lt-due p i t (adm.some_period i)))
+
+  pub before-due : (i t : ℕ) → (t < due p i (latest p i t)) × (due p i (latest p i t) ≤ t + 2 ^ 40)
+  before-due i t = (lt-due p i t (adm.some_period i), omega (arith, due-le p i t, adm.low_period i))
+
+  -- each base is at least what the job may still need
+  pub base-high : (dem : ℕ → ℕ → ℕ) (past : List Tick) (i : ℕ) → i < count p → wleft p dem past i ≤ wleft p dem (at (last_release p (length past)) past) i
+  base-high dem past i lt = go (is_complete p dem past i) refl (is_complete p dem earlier i) refl
+    where
+      earlier : List Tick
+      earlier = at (last_release p (length past)) past
+
+      long : length earlier ≡ last_release p (length past)
+      long = omega (arith, length-drop (length past - last_release p (length past)) past, last-le (length past) (is_release p))
+
+      job : latest p i (length earlier) ≡ latest p i (length past)
+      job = ap (latest p i) long ∙ latest-marked i (length past) lt
+
+      had : exec p earlier i (latest p i (length earlier)) ≤ exec p past i (latest p i (length past))
+      had = omega (arith, ap (exec p earlier i) job, exec-grows p past (length past - last_release p (length past)) i (latest p i (length past)))
+
+      go : (a : Bool) → is_complete p dem past i ≡ a → (b : Bool) → is_complete p dem earlier i ≡ b → wleft p dem past i ≤ wleft p dem earlier i
+      go true e b f = rw e (omega arith)
+      go false e false f = rw (e, f) (omega (arith, had))
+      go false e true f = absurd (true≢false (sym still ∙ e))
+        where
+          met : dem i (latest p i (length earlier)) ≤ exec p earlier i (latest p i (length earlier))
+          met = grind (arith, nat_tests)
+
+          needs : dem i (latest p i (length earlier)) ≡ dem i (latest p i (length past))
+          needs = ap (dem i) job
+
+          enough : dem i (latest p i (length past)) ≤ exec p past i (latest p i (length past))
+          enough = omega (arith, met, needs, had)
+
+          still : is_complete p dem past i ≡ true
+          still = grind (arith, nat_tests, enough)
+
+  pub at-decision : (dem : ℕ → ℕ → ℕ) (past : List Tick) → IsAtDecision p (state_of p dem past)
+  at-decision dem past = record {
+    before = λ i lt. omega (arith, ap (λ (r : Row). r.deadline) (row-is i lt), (before-due i (length past)).0);
+    soon = λ i lt. omega (arith, ap (λ (r : Row). r.deadline) (row-is i lt), (before-due i (length past)).1);
+    marked = last-le (length past) (is_release p);
+    since = λ i lt. subst (λ (r : Row). release_of (period p i) r ≤ last_release p (length past)) (sym (row-is i lt))
+        (omega (arith, release-is i, released-before i (length past) lt));
+    base = λ i lt. omega (
+      arith,
+      ap row_wleft (row-is i lt),
+      base-high dem past i lt,
+      get-table (count p) (wleft p dem (at (last_release p (length past)) past)) i 0 lt,
+    );
+  }
+    where
+      row-is : (i : ℕ) → i < count p → row_at (state_of p dem past) i ≡ row_of p dem past i
+      row-is i lt = get-table (count p) (row_of p dem past) i no_row lt
+
+      release-is : (i : ℕ) → release_of (period p i) (row_of p dem past i) ≡ release p i (latest p i (length past))
+      release-is i = released p i (latest p i (length past))

@@ -1,0 +1,380 @@
+-- The units of one tick, handed out to one task after the other.
+use Rattle.std.proofs.Common.{◌≡◌, ◌≢◌, ℕ, zero, suc, ◌+◌, ◌-◌, ◌*◌, ◌<◌, ◌≤◌, min, Bool, true, false, not, eqb, ◌&&◌, ◌||◌, List, [], ◌∷◌, ◌++◌, length, get_or, set, replicate, refl, arith, if◌then◌else◌, ap, ap₂, ◌∙◌, sym, subst, true≢false, ◌⊎◌, inl, inr, append-nil, append_assoc, eq-or-lt_of_le, le_of_suc-le-suc, nat_eq, nat_le, nat_lt}
+use Rattle.std.specs.Prelude.{count_by, flat_map, slice_set}
+use Rattle.std.proofs.lemmas.Bool.Decides.{nat_tests}
+use Rattle.std.proofs.lemmas.List.{length-replicate}
+use Rattle.std.proofs.lemmas.List.Folds.{sum_by-replicate}
+use Rattle.std.proofs.lemmas.List.Concat.{flat_map-append}
+use Rattle.grid_fraction.specs.declared.Frac.{Frac}
+use Rattle.dvs_base.specs.declared.kind.Scheduler.{Scheduler}
+use Rattle.dvs_base.specs.declared.kind.Scheduler.TheVariants.{Edf, Rm}
+use Rattle.sched_model.specs.declared.state.Row.{Row}
+use Rattle.sched_model.specs.declared.holder.Holder.{Holder}
+use Rattle.sched_model.specs.declared.holder.Holder.TheVariants.{Nobody, Held}
+use Rattle.grid_fraction.specs.Numbers.{sum_below, any_below, list_below}
+use Rattle.sched_model.specs.Plan.{Plan, count, point, worst}
+use Rattle.sched_model.specs.Jobs.{latest, due, deadline}
+use Rattle.sched_model.specs.Ticks.{Tick, exec, left, share, is_done}
+use Rattle.sched_model.specs.Order.{in_order, insert_by}
+use Rattle.sched_model.specs.Priority.{key_of, stands_before, sum_before, sum_up_to, allotment}
+use Rattle.sched_model.specs.Greedy.{IsFirstOpen}
+use Rattle.sched_model.specs.Decision.{completes_in}
+use Rattle.sched_model.specs.Schedule.{entry_in_force, next_tick, schedule_by}
+use Rattle.sched_model.specs.Segments.{same_holder, units_of}
+use Rattle.sched_model.specs.States.{no_row, row_at, prior_row, prior_state, StateOf, row_of, state_of}
+use Rattle.grid_fraction.proofs.Sums.{sum_below-same, sum_below-add, sum_below-one}
+use Rattle.sched_model.proofs.Tables.{get-table, table-same, set-table}
+use Rattle.sched_model.proofs.PriorityLemmas.{before-not, before-self}
+use Rattle.sched_model.proofs.GreedyLemmas.{IsHandedOut, handed-start, handed-step, handed-end, handed_before, up_to-before}
+use Rattle.sched_model.proofs.OrderLemmas.{IsAhead, IsOrdered, AreBelow, in_order-below, in_order-ordered}
+use Rattle.sched_model.proofs.ScheduleLemmas.{length-list_below, get_or-list_below, schedule_exists}
+use Rattle.grid_fraction.proofs.Searches.{any_below-none, below_suc}
+use Rattle.sched_model.proofs.JobLaws.{latest-is}
+use Rattle.sched_model.proofs.Joining.{row_by, row-ran, state-ran}
+use Rattle.event_kernel.specs.Pens.{row_key, IsFirstUndone}
+use Rattle.event_kernel.specs.Tickwork.{served, had_at}
+use Rattle.event_kernel.proofs.Entering.{Shows}
+use Rattle.sched_model.specs.Demands.{IsWithin}
+
+-- the units that a list of tasks got
+abbrev pub laid_out : (ℕ → ℕ) → (ℕ → ℕ) → List ℕ → List Holder
+laid_out job given js = flat_map (λ i. replicate (given i) (Held i (job i))) js
+
+-- i is one of the list
+abbrev pub Stands : ℕ → List ℕ → Type 0
+Stands i [] = ⊥
+Stands i (j ∷ js) = (j ≡ i) ⊎ Stands i js
+
+ahead-of : (key : ℕ → ℕ) (j i : ℕ) (js : List ℕ) → IsAhead key j js → Stands i js → stands_before key j i ≡ true
+ahead-of key j i [] ahead at = absurd at
+ahead-of key j i (k ∷ ks) ahead (inl e) = subst (λ m. stands_before key j m ≡ true) e ahead.0
+ahead-of key j i (k ∷ ks) ahead (inr at) = ahead-of key j i ks ahead.1 at
+
+stands-insert : (key : ℕ → ℕ) (m i : ℕ) (js : List ℕ) → (i ≡ m) ⊎ Stands i js → Stands i (insert_by key m js)
+stands-insert key m i [] (inl e) = inl (sym e)
+stands-insert key m i [] (inr at) = absurd at
+stands-insert key m i (j ∷ js) at = go (stands_before key m j) at (stands-insert key m i js)
+  where
+    go : (b : Bool) → (i ≡ m) ⊎ Stands i (j ∷ js) → ((i ≡ m) ⊎ Stands i js → Stands i (insert_by key m js)) → Stands i (if b then m ∷ j ∷ js else j ∷ insert_by key m js)
+    go true (inl e) ih = inl (sym e)
+    go true (inr at) ih = inr at
+    go false (inl e) ih = inr (ih (inl e))
+    go false (inr (inl e)) ih = inl e
+    go false (inr (inr at)) ih = inr (ih (inr at))
+
+pub stands-in_order : (key : ℕ → ℕ) (n i : ℕ) → i < n → Stands i (in_order key n)
+unfolding in_order
+stands-in_order key zero i lt = absurd (omega arith)
+stands-in_order key (suc n) i lt = stands-insert key n i (in_order key n) (go (eq-or-lt_of_le (le_of_suc-le-suc lt)) (stands-in_order key n i))
+  where
+    go : (i ≡ n) ⊎ (i < n) → (i < n → Stands i (in_order key n)) → (i ≡ n) ⊎ Stands i (in_order key n)
+    go (inl e) ih = inl e
+    go (inr l) ih = inr (ih l)
+
+pub laid_out-same : (job given given' : ℕ → ℕ) (n : ℕ) (js : List ℕ) → AreBelow n js → ((j : ℕ) → j < n → given j ≡ given' j) → laid_out job given js ≡ laid_out job given' js
+laid_out-same job given given' n [] below same = refl
+laid_out-same job given given' n (j ∷ js) below same =
+    ap₂ (λ m us. replicate m (Held j (job j)) ++ us) (same j below.0) (laid_out-same job given given' n js below.1 same)
+
+-- behind i nobody has anything
+laid_out-after : (key job given : ℕ → ℕ) (n i : ℕ) (js : List ℕ) → AreBelow n js → IsAhead key i js → ((j : ℕ) → j < n → stands_before key i j ≡ true → given j ≡ 0) → laid_out job given js ≡ []
+laid_out-after key job given n i [] below ahead none = refl
+laid_out-after key job given n i (j ∷ js) below ahead none =
+    ap₂ (λ m us. replicate m (Held j (job j)) ++ us) (none j below.0 ahead.0) (laid_out-after key job given n i js below.1 ahead.1 none)
+
+-- i gets units, before which it had none; nobody behind it has any
+laid_out-step : (key job given given' : ℕ → ℕ) (n i : ℕ) (js : List ℕ) → AreBelow n js → IsOrdered key js → Stands i js
+    → given i ≡ 0 → ((j : ℕ) → j < n → j ≢ i → given' j ≡ given j) → ((j : ℕ) → j < n → stands_before key i j ≡ true → given j ≡ 0)
+    → laid_out job given' js ≡ laid_out job given js ++ replicate (given' i) (Held i (job i))
+laid_out-step key job given given' n i [] below ordered at zero_i others none = absurd at
+laid_out-step key job given given' n i (j ∷ js) below ordered (inl e) zero_i others none =
+    let here : stands_before key i i ≡ false = before-self key i in
+    let ahead : IsAhead key i js = subst (λ m. IsAhead key m js) e ordered.0 in
+    let nothing : laid_out job given js ≡ [] = laid_out-after key job given n i js below.1 ahead none in
+    let still : laid_out job given' js ≡ [] = laid_out-after key job given' n i js below.1 ahead (λ k lt h. others k lt (λ q. absurd (true≢false (sym h ∙ (ap (stands_before key i) q ∙ here)))) ∙ none k lt h) in
+    ap (λ us. replicate (given' j) (Held j (job j)) ++ us) still
+    ∙ (append-nil (replicate (given' j) (Held j (job j)))
+    ∙ (ap (λ m. replicate (given' m) (Held m (job m))) e
+    ∙ sym (ap₂ (λ m us. (replicate m (Held j (job j)) ++ us) ++ replicate (given' i) (Held i (job i))) (ap given e ∙ zero_i) nothing)))
+laid_out-step key job given given' n i (j ∷ js) below ordered (inr at) zero_i others none =
+    let first : stands_before key j i ≡ true = ahead-of key j i js ordered.0 at in
+    let other : j ≢ i = λ q. absurd (true≢false (sym first ∙ (ap (λ m. stands_before key m i) q ∙ before-self key i))) in
+    ap₂ (λ m us. replicate m (Held j (job j)) ++ us) (others j below.0 other) (laid_out-step key job given given' n i js below.1 ordered.1 at zero_i others none)
+    ∙ sym (append_assoc (replicate (given j) (Held j (job j))) (laid_out job given js) (replicate (given' i) (Held i (job i))))
+
+-- the tests that a tick's completions are found by
+pub any_below-same : (n : ℕ) (f g : ℕ → Bool) → ((k : ℕ) → k < n → f k ≡ g k) → any_below n f ≡ any_below n g
+any_below-same zero f g h = refl
+any_below-same (suc n) f g h = ap₂ (λ a b. a || b) (any_below-same n f g (λ k l. h k (omega arith))) (h n (omega arith))
+
+pub any_below-found : (n : ℕ) (f : ℕ → Bool) (i : ℕ) → i < n → f i ≡ true → any_below n f ≡ true
+any_below-found zero f i lt e = absurd (omega arith)
+any_below-found (suc n) f i lt e = go (eq-or-lt_of_le (le_of_suc-le-suc lt)) (any_below-found n f i)
+  where
+    or-right : (a b : Bool) → b ≡ true → (a || b) ≡ true
+    or-right true b h = refl
+    or-right false b h = h
+
+    or-left : (a b : Bool) → a ≡ true → (a || b) ≡ true
+    or-left true b h = refl
+    or-left false b h = absurd (true≢false (sym h))
+
+    go : (i ≡ n) ⊎ (i < n) → (i < n → f i ≡ true → any_below n f ≡ true) → (any_below n f || f n) ≡ true
+    go (inl q) ih = or-right (any_below n f) (f n) (ap f (sym q) ∙ e)
+    go (inr l) ih = or-left (any_below n f) (f n) (ih l e)
+
+-- one value of a function changed
+abbrev pub raised : (ℕ → ℕ) → ℕ → ℕ → ℕ → ℕ
+raised given i share k = if eqb k i then given k + share else given k
+
+raised-here : (given : ℕ → ℕ) (i share : ℕ) → raised given i share i ≡ given i + share
+raised-here given i share = go (eqb i i) refl
+  where
+    go : (b : Bool) → eqb i i ≡ b → (if b then given i + share else given i) ≡ given i + share
+    go true e = refl
+    go false e = absurd (grind (arith, nat_tests))
+
+raised-there : (given : ℕ → ℕ) (i share k : ℕ) → k ≢ i → raised given i share k ≡ given k
+raised-there given i share k ne = go (eqb k i) refl
+  where
+    go : (b : Bool) → eqb k i ≡ b → (if b then given k + share else given k) ≡ given k
+    go true e = absurd (ne (grind (arith, nat_tests)))
+    go false e = refl
+
+pub sum-raised : (n : ℕ) (given : ℕ → ℕ) (i share : ℕ) → i < n → sum_below n (raised given i share) ≡ sum_below n given + share
+sum-raised n given i share lt =
+    let own : ℕ → ℕ = λ k. if eqb k i then share else 0 in
+    sum_below-same n (raised given i share) (λ k. given k + own k) (λ k l. split (eqb k i) (given k))
+    ∙ (sum_below-add n given own
+    ∙ ap (λ a. sum_below n given + a) (sum_below-one n i own lt (λ k l ne. off k ne (eqb k i) refl) ∙ on (eqb i i) refl))
+  where
+    split : (b : Bool) (x : ℕ) → (if b then x + share else x) ≡ x + (if b then share else 0)
+    split true x = refl
+    split false x = omega arith
+
+    off : (k : ℕ) → k ≢ i → (b : Bool) → eqb k i ≡ b → (if b then share else 0) ≡ 0
+    off k ne true e = absurd (ne (grind (arith, nat_tests)))
+    off k ne false e = refl
+
+    on : (b : Bool) → eqb i i ≡ b → (if b then share else 0) ≡ share
+    on true e = refl
+    on false e = absurd (grind (arith, nat_tests))
+
+count_run : (i k j l m : ℕ) → (b : Bool) → (nat_eq i j && nat_eq k l) ≡ b → count_by (same_holder (Held i k)) (replicate m (Held j l)) ≡ (if b then m else 0)
+count_run i k j l m b e =
+    sum_by-replicate (λ h. if same_holder (Held i k) h then 1 else 0) m (Held j l)
+    ∙ (ap (λ c. m * (if c then 1 else 0)) e ∙ go b)
+  where
+    go : (b : Bool) → m * (if b then 1 else 0) ≡ (if b then m else 0)
+    go true = omega arith
+    go false = omega arith
+
+pub count_idle : (i k m : ℕ) → count_by (same_holder (Held i k)) (replicate m Nobody) ≡ 0
+count_idle i k m = sum_by-replicate (λ h. if same_holder (Held i k) h then 1 else 0) m Nobody ∙ omega arith
+
+module _ (p : Plan) (dem : ℕ → ℕ → ℕ) (past : List Tick) where
+  abbrev pub job : ℕ → ℕ
+  job i = latest p i (length past)
+
+  abbrev pub had : ℕ → ℕ
+  had i = exec p past i (job i)
+
+  abbrev pub key : ℕ → ℕ
+  key = key_of p.scheduler p (length past)
+
+  abbrev pub units_by : (ℕ → ℕ) → List Holder
+  units_by given = laid_out job given (in_order key (count p))
+
+  -- the state after some units of the tick
+  abbrev pub given_row : (ℕ → ℕ) → ℕ → Row
+  given_row given i = row_by (due p i (job i)) (job i) (had i + given i) (nat_le (dem i (job i)) (had i + given i)) (worst p i)
+
+  abbrev pub given_state : (ℕ → ℕ) → StateOf
+  given_state given = record { now = length past; rows = list_below (count p) (given_row given); base_at = (state_of p dem past).base_at; base = (state_of p dem past).base }
+
+  abbrev pub ends_in : (ℕ → ℕ) → ℕ → Bool
+  ends_in given i = not (nat_le (dem i (job i)) (had i)) && nat_le (dem i (job i)) (had i + given i)
+
+  pub record Handing (f : ℕ) (given : ℕ → ℕ) (rest : ℕ) (completed : Bool) (st : StateOf) : Type 0 where
+    pub handed : IsHandedOut (count p) key f (left p dem past) given rest
+    pub state : st ≡ given_state given
+    pub sum : sum_below (count p) given + rest ≡ f
+    pub ends : completed ≡ any_below (count p) (ends_in given)
+
+  -- at the start
+  pub start-state : state_of p dem past ≡ given_state (λ _. 0)
+  start-state =
+      ap (λ rows. record { now = length past; rows = rows; base_at = (state_of p dem past).base_at; base = (state_of p dem past).base })
+      (table-same (count p) (row_of p dem past) (given_row (λ _. 0)) (λ i lt. ap (λ u. row_by (due p i (job i)) (job i) u (nat_le (dem i (job i)) u) (worst p i)) (plus_zero (had i))))
+    where
+      plus_zero : (n : ℕ) → n ≡ n + 0
+      plus_zero n = omega arith
+
+  no_sum : (n : ℕ) → sum_below n (λ _. 0) ≡ 0
+  no_sum zero = refl
+  no_sum (suc n) = omega (arith, no_sum n)
+
+  none_ends : (i : ℕ) → ends_in (λ _. 0) i ≡ false
+  none_ends i = go (nat_le (dem i (job i)) (had i)) refl
+    where
+      go : (b : Bool) → nat_le (dem i (job i)) (had i) ≡ b → (not (nat_le (dem i (job i)) (had i)) && nat_le (dem i (job i)) (had i + 0)) ≡ false
+      go true e = rw e refl
+      go false e = let z : had i + 0 ≡ had i = omega arith in rw (e, z, e) refl
+
+  pub start : (f : ℕ) → Handing f (λ _. 0) f false (state_of p dem past)
+  start f = record {
+    handed = handed-start (count p) key f (left p dem past);
+    state = start-state;
+    sum = omega (arith, no_sum (count p));
+    ends = sym (any_below-none (count p) (ends_in (λ _. 0)) (λ i lt. none_ends i));
+  }
+
+  laid_none : (js : List ℕ) → laid_out job (λ _. 0) js ≡ []
+  laid_none [] = refl
+  laid_none (j ∷ js) = laid_none js
+
+  pub start-units : units_by (λ _. 0) ≡ []
+  start-units = laid_none (in_order key (count p))
+
+  -- what the rows show
+  pub given-row : (given : ℕ → ℕ) (st : StateOf) (i : ℕ) → st ≡ given_state given → i < count p → row_at st i ≡ given_row given i
+  given-row given st i e lt = ap (λ (s : StateOf). row_at s i) e ∙ get-table (count p) (given_row given) i no_row lt
+
+  pub shows : ((i : ℕ) → i < count p → had i ≤ dem i (job i)) → (f rest : ℕ) (given : ℕ → ℕ) (completed : Bool) (st : StateOf) → Handing f given rest completed st
+      → Shows p dem (length past) st (λ i. had i + given i)
+  shows within f rest given completed st h = record {
+    used_is = λ i lt. ap (λ (r : Row). r.used) (given-row given st i h.state lt);
+    done_is = λ i lt. ap (λ (r : Row). r.done) (given-row given st i h.state lt);
+    within = λ i lt. omega (arith, within i lt, h.handed.given_is i lt);
+  }
+
+  row_key-is : (given : ℕ → ℕ) (st : StateOf) (i : ℕ) → st ≡ given_state given → i < count p → row_key p.scheduler p st i ≡ key i
+  row_key-is given st i e lt = go p.scheduler
+    where
+      go : (s : Scheduler) → row_key s p st i ≡ key_of s p (length past) i
+      go Edf = ap (λ (r : Row). r.deadline) (given-row given st i e lt)
+      go Rm = refl
+
+  -- the first row that is not done is the first open task
+  pub first-open : (f rest : ℕ) (given : ℕ → ℕ) (completed : Bool) (st : StateOf) (i : ℕ) → Handing f given rest completed st
+      → IsFirstUndone p st (count p) i → IsFirstOpen (count p) key (left p dem past) given i
+  first-open f rest given completed st i h u = record {
+    below = u.below;
+    needs =
+        let open_row : nat_le (dem i (job i)) (had i + given i) ≡ false = sym (ap (λ (r : Row). r.done) (given-row given st i h.state u.below)) ∙ u.open_job in
+        let short : had i + given i < dem i (job i) = grind (arith, nat_tests) in
+        omega (arith, short);
+    first = λ k lt b. all-had k lt (u.first k lt
+        (ap₂ (λ x y. nat_lt x y || (nat_eq x y && nat_lt k i)) (row_key-is given st k h.state lt) (row_key-is given st i h.state u.below) ∙ b));
+  }
+    where
+      all-had : (k : ℕ) → k < count p → (row_at st k).done ≡ true → left p dem past k ≤ given k
+      all-had k lt d =
+          let done_row : nat_le (dem k (job k)) (had k + given k) ≡ true = sym (ap (λ (r : Row). r.done) (given-row given st k h.state lt)) ∙ d in
+          let enough : dem k (job k) ≤ had k + given k = grind (arith, nat_tests) in
+          omega (arith, enough)
+
+  pub none-open : (f rest : ℕ) (given : ℕ → ℕ) (completed : Bool) (st : StateOf) → Handing f given rest completed st
+      → ((k : ℕ) → k < count p → (row_at st k).done ≡ true) → (k : ℕ) → k < count p → left p dem past k ≤ given k
+  none-open f rest given completed st h d k lt =
+      let done_row : nat_le (dem k (job k)) (had k + given k) ≡ true = sym (ap (λ (r : Row). r.done) (given-row given st k h.state lt)) ∙ d k lt in
+      let enough : dem k (job k) ≤ had k + given k = grind (arith, nat_tests) in
+      omega (arith, enough)
+
+  -- one task gets units
+  pub gives : (f rest : ℕ) (given : ℕ → ℕ) (completed : Bool) (st next : StateOf) (i share : ℕ) (whole now : Bool) → Handing f given rest completed st → 0 < rest
+      → ((i : ℕ) → i < count p → had i ≤ dem i (job i))
+      → IsFirstOpen (count p) key (left p dem past) given i
+      → share ≡ min rest (dem i (job i) - (had i + given i))
+      → whole ≡ nat_eq share (dem i (job i) - (had i + given i))
+      → next ≡ served st i share whole
+      → now ≡ (if whole then true else completed)
+      → Handing f (raised given i share) (rest - share) now next
+  gives f rest given completed st next i share whole now h pos within o se we ne ce = record {
+    handed = subst (λ v. IsHandedOut (count p) key f (left p dem past) (raised given i share) (rest - v)) (sym short)
+        (handed-step (count p) key f (left p dem past) given (raised given i share) rest i h.handed pos o
+        (raised-here given i share ∙ ap (λ v. given i + v) short) (λ k lt other. raised-there given i share k other));
+    state = ne ∙ (ap (λ (s : StateOf). served s i share whole) h.state
+        ∙ ap (λ rows. record { now = length past; rows = rows; base_at = (state_of p dem past).base_at; base = (state_of p dem past).base })
+        (set-table (count p) (given_row given) (given_row (raised given i share)) i _ o.below here there));
+    sum = omega (arith, sum-raised (count p) given i share o.below, h.sum, se);
+    ends = ce ∙ by_whole whole (sym we);
+  }
+    where
+      short : share ≡ min rest (left p dem past i - given i)
+      short = se ∙ ap (λ v. min rest v) (omega arith)
+
+      needs : had i + given i < dem i (job i)
+      needs = omega (arith, o.needs)
+
+      is_whole : (b : Bool) → nat_eq share (dem i (job i) - (had i + given i)) ≡ b → nat_le (dem i (job i)) (had i + given i + share) ≡ b
+      is_whole true e =
+          let all : share ≡ dem i (job i) - (had i + given i) = grind (arith, nat_tests) in
+          let le : dem i (job i) ≤ had i + given i + share = omega (arith, all, needs) in
+          grind (arith, nat_tests, le)
+      is_whole false e =
+          let part : share ≢ dem i (job i) - (had i + given i) = grind (arith, nat_tests) in
+          let lt : had i + given i + share < dem i (job i) = omega (arith, part, needs, se) in
+          grind (arith, nat_tests, lt)
+
+      raised_is : had i + raised given i share i ≡ had i + given i + share
+      raised_is = omega (arith, raised-here given i share)
+
+      here : given_row (raised given i share) i ≡ row_by (row_at (given_state given) i).deadline (row_at (given_state given) i).job ((row_at (given_state given) i).used + share) whole (row_at (given_state given) i).worst
+      here =
+          ap (λ u. row_by (due p i (job i)) (job i) u (nat_le (dem i (job i)) u) (worst p i)) raised_is
+          ∙ (ap (λ b. row_by (due p i (job i)) (job i) (had i + given i + share) b (worst p i)) (is_whole whole (sym we))
+          ∙ ap (λ (r : Row). row_by r.deadline r.job (r.used + share) whole r.worst) (sym (given-row given (given_state given) i refl o.below)))
+
+      there : (k : ℕ) → k < count p → k ≢ i → given_row (raised given i share) k ≡ given_row given k
+      there k lt other = ap (λ g. row_by (due p k (job k)) (job k) (had k + g) (nat_le (dem k (job k)) (had k + g)) (worst p k)) (raised-there given i share k other)
+
+      not_before : nat_le (dem i (job i)) (had i) ≡ false
+      not_before = let lt : had i < dem i (job i) = omega (arith, needs) in grind (arith, nat_tests, lt)
+
+      by_whole : (b : Bool) → nat_eq share (dem i (job i) - (had i + given i)) ≡ b → (if b then true else completed) ≡ any_below (count p) (ends_in (raised given i share))
+      by_whole true e =
+          sym (any_below-found (count p) (ends_in (raised given i share)) i o.below
+          (ap₂ (λ a b. not a && b) not_before (ap (λ u. nat_le (dem i (job i)) u) raised_is ∙ is_whole true e)))
+      by_whole false e =
+          h.ends ∙ any_below-same (count p) (ends_in given) (ends_in (raised given i share)) (λ k lt. same k (eqb k i) refl)
+        where
+          still_open : nat_le (dem i (job i)) (had i + given i) ≡ false
+          still_open = grind (arith, nat_tests, needs)
+
+          same : (k : ℕ) (b : Bool) → eqb k i ≡ b → ends_in given k ≡ ends_in (raised given i share) k
+          same k true q =
+              let is_i : i ≡ k = grind (arith, nat_tests) in
+              subst (λ m. ends_in given m ≡ ends_in (raised given i share) m) is_i
+              (ap (λ b. not (nat_le (dem i (job i)) (had i)) && b) (still_open ∙ (sym (is_whole false e) ∙ ap (λ u. nat_le (dem i (job i)) u) (sym raised_is))))
+          same k false q =
+              let other : k ≢ i = grind (arith, nat_tests) in
+              ap (λ g. not (nat_le (dem k (job k)) (had k)) && nat_le (dem k (job k)) (had k + g)) (sym (raised-there given i share k other))
+
+  -- and its units stand behind all others
+  pub gives-units : (f rest : ℕ) (given : ℕ → ℕ) (completed : Bool) (st : StateOf) (i share : ℕ) → Handing f given rest completed st → 0 < rest
+      → IsFirstOpen (count p) key (left p dem past) given i
+      → units_by (raised given i share) ≡ units_by given ++ replicate share (Held i (job i))
+  gives-units f rest given completed st i share h pos o =
+      laid_out-step key job given (raised given i share) (count p) i (in_order key (count p))
+      (in_order-below key (count p)) (in_order-ordered key (count p)) (stands-in_order key (count p) i o.below)
+      now.0 (λ j lt other. raised-there given i share j other)
+      (λ j lt b. omega (arith, h.handed.given_is j lt, now.0, now.1, up_to-before (count p) key (left p dem past) i j o.below b))
+      ∙ ap (λ m. units_by given ++ replicate m (Held i (job i))) (raised-here given i share ∙ omega (arith, now.0))
+    where
+      now : (given i ≡ 0) × (f - rest ≡ sum_before (count p) key (left p dem past) i)
+      now = handed_before (count p) key f (left p dem past) given rest h.handed pos i o
+
+  -- what each task has had by then
+  pub gives-had : (given : ℕ → ℕ) (i share k : ℕ) → (had k + given k) + count_by (same_holder (Held k (job k))) (replicate share (Held i (job i))) ≡ had k + raised given i share k
+  gives-had given i share k = go (eqb k i) refl
+    where
+      go : (b : Bool) → eqb k i ≡ b → (had k + given k) + count_by (same_holder (Held k (job k))) (replicate share (Held i (job i))) ≡ had k + (if b then given k + share else given k)
+      go true e =
+          let same : k ≡ i = grind (arith, nat_tests) in
+          let jobs : job k ≡ job i = ap job same in
+          let both : (nat_eq k i && nat_eq (job k) (job i)) ≡ true = grind (arith, nat_tests) in
+          omega (arith, count_run k (job k) i (job i) share true both)
+      go false e =
+          let both : (nat_eq k i && nat_eq (job k) (job i)) ≡ false = ap (λ b. b && nat_eq (job k) (job i)) e in
+          omega (arith, count_run k (job k) i (job i) share false both)

@@ -1,0 +1,131 @@
+-- The segments of a list of units that grows by a run of one holder, and their notes.
+use Rattle.std.proofs.Common.{◌≡◌, ℕ, zero, suc, ◌+◌, ◌<◌, ◌≤◌, Bool, true, false, List, [], ◌∷◌, ◌++◌, length, take, replicate, refl, arith, if◌then◌else◌, ap, ap₂, ◌∙◌, sym, subst, true≢false, ◌⊎◌, inl, inr, append-nil, append_assoc, length-append, nat_eq}
+use Rattle.std.specs.Prelude.{count_by}
+use Rattle.std.proofs.lemmas.List.{take-append-le}
+use Rattle.dvs_base.specs.declared.note.Note.{Note}
+use Rattle.dvs_base.specs.declared.note.Note.TheVariants.{Run, Idle, Done, Speed}
+use Rattle.sched_model.specs.declared.holder.Holder.{Holder}
+use Rattle.sched_model.specs.declared.holder.Holder.TheVariants.{Nobody, Held}
+use Rattle.sched_model.specs.Plan.{Plan, point}
+use Rattle.sched_model.specs.Ticks.{Tick, exec}
+use Rattle.sched_model.specs.Segments.{same_holder, Span, Piece, before_pieces, pieces_of, position_of, run_energy}
+use Rattle.sched_model.specs.Notes.{had_by, segment_notes, pieces_notes}
+use Rattle.sched_model.proofs.PieceLemmas.{piece, same_holder-eq, same_holder-refl, with_unit, pieces_of-push, pieces_of-run}
+use Rattle.event_kernel.specs.Pens.{closed, last_of, grown}
+
+-- a list is empty, or has a last element
+pub split_last : (rs : List Piece) → (rs ≡ []) ⊎ ((done : List Piece) × (r : Piece) × (rs ≡ done ++ r ∷ []))
+split_last [] = inl refl
+split_last (r ∷ rs) = go (split_last rs)
+  where
+    go : (rs ≡ []) ⊎ ((done : List Piece) × (q : Piece) × (rs ≡ done ++ q ∷ [])) → (r ∷ rs ≡ []) ⊎ ((done : List Piece) × (q : Piece) × (r ∷ rs ≡ done ++ q ∷ []))
+    go (inl e) = inr ([], r, ap (λ xs. r ∷ xs) e)
+    go (inr f) = inr (r ∷ f.0, f.1, ap (λ xs. r ∷ xs) f.2)
+
+pub closed-snoc : (done : List Piece) (r : Piece) → closed (done ++ r ∷ []) ≡ done
+closed-snoc [] r = refl
+closed-snoc (a ∷ []) r = refl
+closed-snoc (a ∷ b ∷ ds) r = ap (λ xs. a ∷ xs) (closed-snoc (b ∷ ds) r)
+
+pub last-snoc : (done : List Piece) (r : Piece) → last_of (done ++ r ∷ []) ≡ r
+last-snoc [] r = refl
+last-snoc (a ∷ []) r = refl
+last-snoc (a ∷ b ∷ ds) r = last-snoc (b ∷ ds) r
+
+unit-snoc : (done : List Piece) (r : Piece) (h : Holder) → with_unit (done ++ r ∷ []) h ≡ done ++ with_unit (r ∷ []) h
+unit-snoc [] r h = refl
+unit-snoc (a ∷ []) r h = refl
+unit-snoc (a ∷ b ∷ ds) r h = ap (λ xs. a ∷ xs) (unit-snoc (b ∷ ds) r h)
+
+-- more units of the last holder
+pub pieces_of-more : (n : ℕ) (us : List Holder) (done : List Piece) (h : Holder) (m : ℕ) → pieces_of us ≡ done ++ piece h m ∷ [] → pieces_of (us ++ replicate n h) ≡ done ++ piece h (m + n) ∷ []
+pieces_of-more zero us done h m e = ap pieces_of (append-nil us) ∙ (e ∙ ap (λ k. done ++ piece h k ∷ []) (omega arith))
+pieces_of-more (suc n) us done h m e =
+    ap pieces_of (sym (append_assoc us (h ∷ []) (replicate n h)))
+    ∙ (pieces_of-more n (us ++ h ∷ []) done h (m + 1) one
+    ∙ ap (λ k. done ++ piece h k ∷ []) (omega arith))
+  where
+    one : pieces_of (us ++ h ∷ []) ≡ done ++ piece h (m + 1) ∷ []
+    one = pieces_of-push us h ∙ (ap (λ rs. with_unit rs h) e ∙ (unit-snoc done (piece h m) h ∙ (rw (same_holder-refl h) refl)))
+
+-- units of another holder
+pub pieces_of-other : (n : ℕ) (us : List Holder) (done : List Piece) (r : Piece) (h : Holder) → pieces_of us ≡ done ++ r ∷ [] → same_holder r.holder h ≡ false
+    → pieces_of (us ++ replicate (suc n) h) ≡ (done ++ r ∷ []) ++ piece h (suc n) ∷ []
+pieces_of-other n us done r h e other =
+    ap pieces_of (sym (append_assoc us (h ∷ []) (replicate n h)))
+    ∙ (pieces_of-more n (us ++ h ∷ []) (done ++ r ∷ []) h 1 one
+    ∙ ap (λ k. (done ++ r ∷ []) ++ piece h k ∷ []) (omega arith))
+  where
+    one : pieces_of (us ++ h ∷ []) ≡ (done ++ r ∷ []) ++ piece h 1 ∷ []
+    one = pieces_of-push us h ∙ (ap (λ rs. with_unit rs h) e ∙ (unit-snoc done r h ∙ (rw other (sym (append_assoc done (r ∷ []) (piece h 1 ∷ []))))))
+
+-- every segment has a unit
+abbrev pub HaveUnits : List Piece → Type 0
+HaveUnits [] = Unit {0}
+HaveUnits (r ∷ rs) = (0 < r.units) × HaveUnits rs
+
+have_before : (h : Holder) (rs : List Piece) → HaveUnits rs → HaveUnits (before_pieces h rs)
+have_before h [] a = (omega arith, tt)
+have_before h (r ∷ rs) a = go (same_holder h r.holder)
+  where
+    go : (b : Bool) → HaveUnits (if b then piece h (r.units + 1) ∷ rs else piece h 1 ∷ r ∷ rs)
+    go true = (omega arith, a.1)
+    go false = (omega arith, a)
+
+pub have_units : (us : List Holder) → HaveUnits (pieces_of us)
+have_units [] = tt
+have_units (h ∷ us) = have_before h (pieces_of us) (have_units us)
+
+pub have-last : (done : List Piece) (r : Piece) → HaveUnits (done ++ r ∷ []) → 0 < r.units
+have-last [] r a = a.0
+have-last (d ∷ ds) r a = have-last ds r a.1
+
+-- the units of all segments
+abbrev pub total : List Piece → ℕ
+total [] = 0
+total (r ∷ rs) = r.units + total rs
+
+total-before : (h : Holder) (rs : List Piece) → total (before_pieces h rs) ≡ total rs + 1
+total-before h [] = omega arith
+total-before h (r ∷ rs) = go (same_holder h r.holder)
+  where
+    go : (b : Bool) → total (if b then piece h (r.units + 1) ∷ rs else piece h 1 ∷ r ∷ rs) ≡ r.units + total rs + 1
+    go true = omega arith
+    go false = omega arith
+
+pub total-pieces : (us : List Holder) → total (pieces_of us) ≡ length us
+total-pieces [] = refl
+total-pieces (h ∷ us) = omega (arith, total-before h (pieces_of us), total-pieces us)
+
+pub total-append : (rs qs : List Piece) → total (rs ++ qs) ≡ total rs + total qs
+total-append [] qs = omega arith
+total-append (r ∷ rs) qs = omega (arith, total-append rs qs)
+
+pub no_pieces : (us : List Holder) → pieces_of us ≡ [] → us ≡ []
+no_pieces [] e = refl
+no_pieces (h ∷ us) e = absurd (omega (arith, total-pieces (h ∷ us), ap total e))
+
+-- the notes of segments one after another
+pub pieces_notes-append : (p : Plan) (dem : ℕ → ℕ → ℕ) (s : Span) (q : ℕ) (rs qs : List Piece) → pieces_notes p dem s q (rs ++ qs) ≡ pieces_notes p dem s q rs ++ pieces_notes p dem s (q + total rs) qs
+pieces_notes-append p dem s q [] qs = ap (λ k. pieces_notes p dem s k qs) (omega arith)
+pieces_notes-append p dem s q (r ∷ rs) qs =
+    ap (λ ns. segment_notes p dem s q r.units r.holder ++ ns)
+    (pieces_notes-append p dem s (q + r.units) rs qs
+    ∙ ap (λ k. pieces_notes p dem s (q + r.units) rs ++ pieces_notes p dem s k qs) (omega arith))
+    ∙ sym (append_assoc (segment_notes p dem s q r.units r.holder) (pieces_notes p dem s (q + r.units) rs) (pieces_notes p dem s (q + (r.units + total rs)) qs))
+
+-- they do not change as the span grows
+pub segment_notes-grown : (p : Plan) (dem : ℕ → ℕ → ℕ) (s : Span) (more : List Holder) (q u : ℕ) (h : Holder) → q + u ≤ length s.units
+    → segment_notes p dem (grown s more) q u h ≡ segment_notes p dem s q u h
+segment_notes-grown p dem s more q u Nobody le = refl
+segment_notes-grown p dem s more q u (Held i k) le =
+    let same : take (q + u) (s.units ++ more) ≡ take (q + u) s.units = take-append-le (q + u) s.units more le in
+    ap (λ had. Run (position_of (length s.past) ((point p s.entry).speed) q) (position_of (length s.past) ((point p s.entry).speed) (q + u)) i k u (run_energy p s.entry u)
+    ∷ (if nat_eq had (dem i k) then Done (position_of (length s.past) ((point p s.entry).speed) (q + u)) i k (dem i k) ∷ [] else []))
+    (ap (λ us. exec p s.past i k + count_by (same_holder (Held i k)) us) same)
+
+pub pieces_notes-grown : (p : Plan) (dem : ℕ → ℕ → ℕ) (s : Span) (more : List Holder) (q : ℕ) (rs : List Piece) → q + total rs ≤ length s.units
+    → pieces_notes p dem (grown s more) q rs ≡ pieces_notes p dem s q rs
+pieces_notes-grown p dem s more q [] le = refl
+pieces_notes-grown p dem s more q (r ∷ rs) le =
+    ap₂ (λ a b. a ++ b) (segment_notes-grown p dem s more q r.units r.holder (omega arith)) (pieces_notes-grown p dem s more (q + r.units) rs (omega arith))

@@ -1,0 +1,17 @@
+-- A task gets units, and its job ends or not.
+use Rattle.std.proofs.Common.{◌≡◌, ◌≢◌, ℕ, ◌+◌, ◌<◌, Bool, true, false, eqb, List, length, get_or, set, refl, arith, ap, ◌∙◌, sym, length-set, get_or-set_same, get_or-set_other}
+use Rattle.std.proofs.lemmas.List.{set-set}
+use Rattle.std.proofs.lemmas.Bool.Decides.{nat_tests}
+use Rattle.sched_model.specs.declared.state.Row.{Row}
+use Rattle.sched_model.specs.States.{no_row, row_at, after_run, after_finish, StateOf}
+use Rattle.event_kernel.specs.Tickwork.{served}
+
+pub served-ended : (s : StateOf) (i units : ℕ) → i < length s.rows → after_finish (after_run s i units) i ≡ served s i units true
+served-ended s i units lt =
+    let row : Row = record (row_at s i) { used = (row_at s i).used + units } in
+    let read : row_at (after_run s i units) i ≡ row = get_or-set_same s.rows i row no_row lt in
+    ap (λ (r : Row). record s { rows = set (set s.rows i row) i (record r { done = true }) }) read
+    ∙ ap (λ rows. record s { rows = rows }) (set-set s.rows i row (record row { done = true }))
+
+pub served-open : (s : StateOf) (i units : ℕ) → (row_at s i).done ≡ false → after_run s i units ≡ served s i units false
+served-open s i units e = ap (λ b. record s { rows = set s.rows i (record (row_at s i) { used = (row_at s i).used + units; done = b }) }) e

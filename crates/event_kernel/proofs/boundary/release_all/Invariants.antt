@@ -1,0 +1,14 @@
+use Rattle.event_kernel.specs.Runs.{demands_of}
+use Rattle.sched_model.specs.States.{IsOfPlan}
+use Rattle.governor.specs.Schedule.{course}
+use Rattle.event_kernel.proofs.Releasing.{Releasing}
+use Rattle.event_kernel.proofs.boundary.release_all.Given as goal
+
+abbrev pub invariant-loop-task : goal.invariant-loop-task
+invariant-loop-task g l =
+    let m = g.G.Governor.demand in
+    let p = l.fn.plan in
+    let dem = demands_of p l.fn.demands in
+    Releasing p dem (course m p dem l.fn.state.now) g.L.Listener.heard l.task l.any l.state l.fn.to l.to
+    × g.G.Governor.stands l.governor p l.state
+    × IsOfPlan p l.state

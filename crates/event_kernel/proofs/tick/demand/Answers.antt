@@ -1,0 +1,19 @@
+use Rattle.std.proofs.Common.{arith, ap}
+use Rattle.freq_table.specs.Tables.{Table}
+use Rattle.event_kernel.proofs.Demanding.{long-list, worst-listed}
+use Rattle.event_kernel.proofs.tick.demand.Goals as goal
+
+pub overflow_add-result : goal.overflow_add-result
+overflow_add-result c =
+    let p = c.args.plan.now in
+    let d = c.args.demands.now in
+    omega (
+      arith,
+      c.units.ensures,
+      c.charge.ensures,
+      ap (λ (m : Table). m.charge) c.machine.ensures,
+      c.known-2.ensures c.args.task c.args.job (omega (arith, long-list p d c.requires.list, c.requires.task)),
+      worst-listed p d c.requires.list c.args.task c.requires.task,
+      (c.known.ensures.limits.tasks.each c.args.task c.requires.task).low_worst,
+      c.known.ensures.limits.machine.low_charge,
+    )

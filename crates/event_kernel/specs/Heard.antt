@@ -1,0 +1,14 @@
+-- What a listener has heard, note by note, and where it balked.
+use Rattle.std.specs.Prelude.{◌≡◌, ◌⊎◌, List, [], ◌∷◌}
+use Rattle.dvs_base.specs.declared.note.Note.{Note}
+
+-- the notes lead from one value of the listener to the other
+abbrev pub HasHeard : {L : Type 0} → (L → Note → L → Type 0) → L → List Note → L → Type 0
+HasHeard heard from [] to = from ≡ to
+HasHeard {L} heard from (note ∷ notes) to = (next : L) × heard from note next × HasHeard heard next notes to
+
+-- a proper prefix was heard, and the listener balked at the note after it
+abbrev pub HasBalked : {L : Type 0} → (L → Note → L → Type 0) → (L → Note → L → Type 0) → L → List Note → L → Type 0
+HasBalked heard balked from [] to = ⊥
+HasBalked {L} heard balked from (note ∷ notes) to = balked from note to ⊎ ((next : L) × heard from note next × HasBalked heard balked next notes to)
+

@@ -1,0 +1,127 @@
+-- The segment that is being written, and the notes of a span up to it.
+use Rattle.std.specs.Prelude.{◌≡◌, ℕ, ◌+◌, ◌*◌, ◌<◌, ◌≤◌, ◌^◌, Bool, true, false, ◌&&◌, not, nat_lt, if◌then◌else◌, List, [], ◌∷◌, ◌++◌, length, count_by, sum_by, flat_map, replicate}
+use Rattle.dvs_base.specs.declared.note.Note.{Note}
+use Rattle.dvs_base.specs.declared.note.Note.TheVariants.{Run, Idle, Done, Speed}
+use Rattle.dvs_base.specs.declared.note.Pos.{Pos}
+use Rattle.grid_fraction.specs.declared.Frac.{Frac}
+use Rattle.dvs_base.specs.declared.kind.Scheduler.{Scheduler}
+use Rattle.dvs_base.specs.declared.kind.Scheduler.TheVariants.{Edf, Rm}
+use Rattle.sched_model.specs.declared.holder.Holder.{Holder}
+use Rattle.sched_model.specs.declared.holder.Holder.TheVariants.{Nobody, Held}
+use Rattle.sched_model.specs.Plan.{Plan, count, point, period}
+use Rattle.sched_model.specs.Jobs.{latest}
+use Rattle.sched_model.specs.Ticks.{Tick, exec}
+use Rattle.sched_model.specs.Decision.{is_decision}
+use Rattle.sched_model.specs.Order.{in_order}
+use Rattle.sched_model.specs.Priority.{key_of, stands_before}
+use Rattle.sched_model.specs.Schedule.{entry_in_force}
+use Rattle.sched_model.specs.Segments.{same_holder, Span, spans_of, Piece, pieces_of, position_of, run_energy, idle_energy}
+use Rattle.sched_model.specs.Notes.{all_release_notes, pieces_notes, notes_before_end, energy_run, energy_idle}
+use Rattle.sched_model.specs.States.{row_at, StateOf}
+use Rattle.event_kernel.specs.declared.pen.Pen.{Pen}
+
+-- all segments but the last, and the last
+abbrev pub closed : List Piece → List Piece
+closed [] = []
+closed (r ∷ []) = []
+closed (r ∷ q ∷ rs) = r ∷ closed (q ∷ rs)
+
+abbrev pub last_of : List Piece → Piece
+last_of [] = record { holder = Nobody; units = 0 }
+last_of (r ∷ []) = r
+last_of (r ∷ q ∷ rs) = last_of (q ∷ rs)
+
+-- a span with more units
+abbrev pub grown : Span → List Holder → Span
+grown s us = record { past = s.past; entry = s.entry; units = s.units ++ us }
+
+abbrev pub first_span : List Span → Span
+first_span [] = record { past = []; entry = 0; units = [] }
+first_span (s ∷ spans) = s
+
+-- the span to which the tick after `past` belongs, as far as it has come before that tick
+abbrev pub open_span : Plan → (ℕ → ℕ → ℕ) → (List Tick → Frac) → List Tick → Span
+open_span p dem ask past =
+    if is_decision p dem past
+    then record { past = past; entry = entry_in_force p dem ask past; units = [] }
+    else first_span (spans_of p dem past)
+
+-- the notes of a span before its first segment
+abbrev pub head_notes : Plan → (ℕ → ℕ → ℕ) → (List Tick → Frac) → Span → List Note
+head_notes p dem ask s =
+    all_release_notes p dem (length s.past)
+    ++ Speed (length s.past) ((point p s.entry).speed) ((ask s.past).num) ((ask s.past).den) ∷ []
+
+-- all notes up to the last segment of a span, which is open
+abbrev pub open_notes : Plan → (ℕ → ℕ → ℕ) → (List Tick → Frac) → Span → List Note
+open_notes p dem ask s =
+    (notes_before_end p dem ask s.past ++ head_notes p dem ask s) ++ pieces_notes p dem s 0 (closed (pieces_of s.units))
+
+-- the notes of the segment that the pen holds, at a state
+abbrev pub holder_notes : Plan → StateOf → (ℕ → Pos) → ℕ → ℕ → ℕ → Holder → List Note
+holder_notes p s at_unit e q units Nobody = Idle (at_unit q) (at_unit (q + units)) units (idle_energy p e units) ∷ []
+holder_notes p s at_unit e q units (Held i k) =
+    Run (at_unit q) (at_unit (q + units)) i k units (run_energy p e units)
+    ∷ (if (row_at s i).done then Done (at_unit (q + units)) i k (row_at s i).used ∷ [] else [])
+
+abbrev pub pen_notes : Plan → StateOf → ℕ → ℕ → Pen → List Note
+pen_notes p s from e pen = holder_notes p s (position_of from ((point p e).speed)) e pen.start pen.units pen.holder
+
+-- the pen after it has told its segment
+abbrev pub run_part : Plan → ℕ → ℕ → Holder → ℕ
+run_part p e units Nobody = 0
+run_part p e units (Held i k) = run_energy p e units
+
+abbrev pub idle_part : Plan → ℕ → ℕ → Holder → ℕ
+idle_part p e units Nobody = idle_energy p e units
+idle_part p e units (Held i k) = 0
+
+abbrev pub told_pen : Plan → ℕ → Pen → Pen
+told_pen p e pen = record {
+  holder = pen.holder;
+  start = pen.start + pen.units;
+  units = 0;
+  run = pen.run + run_part p e pen.units pen.holder;
+  idle = pen.idle + idle_part p e pen.units pen.holder;
+}
+
+-- whether a unit of this holder ends the segment
+abbrev pub is_turn : Pen → Holder → Bool
+is_turn pen h = nat_lt 0 pen.units && not (same_holder pen.holder h)
+
+-- the pen after units of a holder
+abbrev pub with_units : Holder → ℕ → Pen → Pen
+with_units h n pen = record { holder = h; start = pen.start; units = pen.units + n; run = pen.run; idle = pen.idle }
+
+abbrev pub entered : Plan → ℕ → Holder → ℕ → Pen → Pen
+entered p e h n pen = with_units h n (if is_turn pen h then told_pen p e pen else pen)
+
+abbrev pub entering_notes : Plan → StateOf → ℕ → ℕ → Holder → Pen → List Note
+entering_notes p s from e h pen = if is_turn pen h then pen_notes p s from e pen else []
+
+-- the most that one unit can cost
+abbrev pub cost : ℕ
+cost = 400000000000
+
+-- the holder is nobody, or a job of one of so many tasks
+abbrev pub HeldIn : ℕ → Holder → Type 0
+HeldIn n Nobody = Unit {0}
+HeldIn n (Held i k) = i < n
+
+-- the pen can tell its segment without a number that is too large
+pub record CanTell (p : Plan) (s : StateOf) (from e : ℕ) (pen : Pen) : Type 0 where
+  pub entry : e < length p.machine.points
+  pub place : from + pen.start + pen.units < 2 ^ 63
+  pub money : pen.run + pen.idle + cost * pen.units < 2 ^ 120
+  pub task : HeldIn (length s.rows) pen.holder
+
+-- the key of a row
+abbrev pub row_key : Scheduler → Plan → StateOf → ℕ → ℕ
+row_key Edf p s i = (row_at s i).deadline
+row_key Rm p s i = period p i
+
+-- the first of the first n rows by the order that is not done
+pub record IsFirstUndone (p : Plan) (s : StateOf) (n i : ℕ) : Type 0 where
+  pub below : i < n
+  pub open_job : (row_at s i).done ≡ false
+  pub first : (k : ℕ) → k < n → stands_before (row_key p.scheduler p s) k i ≡ true → (row_at s k).done ≡ true

@@ -1,0 +1,48 @@
+-- What a kernel runs, and what it is to tell.
+use Rattle.std.specs.Prelude.{◌≡◌, ◌<◌, ℕ, true, List, map}
+use Rattle.freq_table.specs.Tables.{lowest_pick}
+use Rattle.grid_fraction.specs.declared.Frac.{Frac}
+use Rattle.dvs_base.specs.declared.note.Note.{Note}
+use Rattle.demand_list.specs.Demands.{DemandsOf}
+use Rattle.sched_model.specs.Plan.{Plan}
+use Rattle.sched_model.specs.Ticks.{Tick}
+use Rattle.sched_model.specs.Demands.{demand_of}
+use Rattle.sched_model.specs.Deadlines.{IsMet}
+use Rattle.sched_model.specs.Decision.{is_decision}
+use Rattle.sched_model.specs.States.{StateOf}
+use Rattle.sched_model.specs.Notes.{notes_of}
+use Rattle.governor.specs.Schedule.{ask_of, course}
+
+-- a plan, a demand list and a number of ticks
+pub record Run : Type 0 where
+  pub plan : Plan
+  pub demands : DemandsOf
+  pub ticks : ℕ
+
+-- the list has the plan's declared worst cases
+abbrev pub IsListOf : Plan → DemandsOf → Type 0
+IsListOf p d = d.worsts ≡ map (λ t. t.worst) p.tasks
+
+-- the demand of each job of a plan by a list
+abbrev pub demands_of : Plan → DemandsOf → ℕ → ℕ → ℕ
+demands_of p d = demand_of p d.rows
+
+-- the ticks of a governor's schedule of a run
+abbrev pub ticks_of : (Plan → StateOf → Frac) → Run → List Tick
+ticks_of demand r = course demand r.plan (demands_of r.plan r.demands) r.ticks
+
+-- every deadline within a run is met
+abbrev pub MeetsDeadlines : (Plan → StateOf → Frac) → Run → Type 0
+MeetsDeadlines demand r = IsMet r.plan (demands_of r.plan r.demands) (ticks_of demand r)
+
+-- at each decision of a run some entry of the table meets the published demand
+abbrev pub MeetsDemands : (Plan → StateOf → Frac) → Run → Type 0
+MeetsDemands demand r =
+    let dem = demands_of r.plan r.demands in
+    (t : ℕ) → t < r.ticks → is_decision r.plan dem (course demand r.plan dem t) ≡ true
+    → (lowest_pick r.plan.machine (ask_of demand r.plan dem (course demand r.plan dem t))).met ≡ true
+
+-- their notes
+abbrev pub notes_of_run : (Plan → StateOf → Frac) → Run → List Note
+notes_of_run demand r =
+    let dem = demands_of r.plan r.demands in notes_of r.plan dem (ask_of demand r.plan dem) (ticks_of demand r)

@@ -1,0 +1,15 @@
+//! The kernel: it runs an admitted plan under a governor and tells a listener every note of the schedule.
+//!
+//! It is generic over the governor and learns each demand from `choose` alone. What a listener hears is the whole list
+//! of notes, in order; where it stops, a proper prefix of it.
+#![tactic(auto)]
+
+mod boundary;
+mod kernel;
+mod listener;
+mod pen;
+mod span;
+mod tick;
+
+pub use kernel::Kernel;
+pub use listener::{Listener, Stopped};
