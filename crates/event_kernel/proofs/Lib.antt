@@ -18,3 +18,4 @@ pub mod Demanding
 pub mod Joins
 pub mod Belonging
 pub mod Meeting
+pub mod Counting

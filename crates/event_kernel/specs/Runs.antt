@@ -4,7 +4,8 @@ use Rattle.freq_table.specs.Tables.{lowest_pick}
 use Rattle.grid_fraction.specs.declared.Frac.{Frac}
 use Rattle.dvs_base.specs.declared.note.Note.{Note}
 use Rattle.demand_list.specs.Demands.{DemandsOf}
-use Rattle.sched_model.specs.Plan.{Plan}
+use Rattle.grid_fraction.specs.Numbers.{sum_below, ceil_div}
+use Rattle.sched_model.specs.Plan.{Plan, count, period}
 use Rattle.sched_model.specs.Ticks.{Tick}
 use Rattle.sched_model.specs.Demands.{demand_of}
 use Rattle.sched_model.specs.Deadlines.{IsMet}
@@ -18,6 +19,14 @@ pub record Run : Type 0 where
   pub plan : Plan
   pub demands : DemandsOf
   pub ticks : ℕ
+
+-- how many jobs are released below so many ticks
+abbrev pub released_jobs : Plan → ℕ → ℕ
+released_jobs p ticks = sum_below (count p) (λ i. ceil_div ticks (period p i))
+
+-- a run has at most so many
+abbrev pub most_jobs : ℕ
+most_jobs = 100000
 
 -- the list has the plan's declared worst cases
 abbrev pub IsListOf : Plan → DemandsOf → Type 0

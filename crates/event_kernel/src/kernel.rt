@@ -1,18 +1,39 @@
 // The kernel.
-ghost use Rattle.std.specs.Prelude.{◌≡◌, ◌≢◌, OnOk, OnErr};
+ghost use Rattle.std.specs.Prelude.{◌≡◌, ◌≢◌, ◌≤◌, ◌<◌, ◌^◌, ℕ, OnOk, OnErr, IfOk, IsErrOf};
 ghost use Rattle.dvs_base.specs.declared.kind.GovernorKind.TheVariants.{Ahead};
 ghost use Rattle.sched_model.specs.States.{opening};
 ghost use Rattle.event_kernel.specs.Heard.{HasHeard, HasBalked};
-ghost use Rattle.event_kernel.specs.Runs.{notes_of_run, MeetsDeadlines, MeetsDemands};
+ghost use Rattle.event_kernel.specs.Runs.{IsListOf, released_jobs, most_jobs, notes_of_run, MeetsDeadlines, MeetsDemands};
 
 use crate::pen::Pen;
 use crate::span::span;
 use crate::{Listener, Stopped};
 use demand_list::Demands;
-use dvs_base::Note;
+use dvs_base::{NoMemory, Note};
 use governor::Governor;
 use sched_model::{Admitted, Holder, State};
+use std::alloc::Global;
 use std::marker::Model;
+
+/// Why there is no kernel: the run has too many jobs, and how many; or memory was not found.
+#[derive(Clone, Copy, Debug, PartialEq, Eq)]
+pub enum KernelFault {
+    TooManyJobs { count: u64 },
+    NoMemory,
+}
+
+// How many jobs are released below `ticks`.
+fn count_jobs(plan: &Admitted, ticks: u64) -> u64
+    requires { ticks ≤ 2 ^ 40 }
+    ensures { result ≡ released_jobs plan.now ticks }
+{
+    plan.known();
+    let mut count = 0;
+    for task in 0..plan.count() {
+        count += ticks.div_ceil(plan.period(task));
+    }
+    count
+}
 
 /// A kernel at the opening state of its plan.
 #[derive(Drop)]
@@ -37,6 +58,38 @@ impl<'a, G: Governor> Model for Kernel<'a, G> {
 }
 
 impl<'a, G: Governor> Kernel<'a, G> {
+    /// A kernel for this many ticks, 1 to 2^40, of a plan and its demands; all its memory is taken here.
+    /// `TooManyJobs` comes exactly where more than 100000 jobs are released below `ticks`, with their number.
+    pub fn new(
+        alloc: Global,
+        plan: &'a Admitted,
+        demands: &'a Demands,
+        governor: G,
+        ticks: u64,
+    ) -> Result<Kernel<'a, G>, KernelFault>
+        requires list { IsListOf plan.now demands.now }
+        requires stands { G.stands governor plan.now (opening plan.now) }
+        requires some_ticks { 1 ≤ ticks }
+        requires low_ticks { ticks ≤ 2 ^ 40 }
+        ensures kernel { IfOk result (λ k. k ≡ record { plan = plan.now; demands = demands.now; ticks = ticks }) }
+        ensures few { OnOk result (released_jobs plan.now ticks ≤ most_jobs) }
+        ensures many { (n : ℕ) → IsErrOf result (KernelFault.TooManyJobs n) → (n ≡ released_jobs plan.now ticks) × (most_jobs < n) }
+        ensures memory { IsErrOf result KernelFault.NoMemory → released_jobs plan.now ticks ≤ most_jobs }
+    {
+        let count = count_jobs(plan, ticks);
+        if count > 100_000 {
+            return Err(KernelFault::TooManyJobs { count });
+        }
+        let state = State::new(alloc, plan).map_err(|_| KernelFault::NoMemory)?;
+        Ok(Kernel {
+            plan,
+            demands,
+            ticks,
+            governor,
+            state,
+        })
+    }
+
     /// Tells the listener the notes of the governor's schedule.
     pub fn drive<L: Listener>(self, to: &mut L) -> Result<(), Stopped>
         ensures deadlines { MeetsDeadlines G.demand self.entry }

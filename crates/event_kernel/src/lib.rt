@@ -11,5 +11,5 @@ mod pen;
 mod span;
 mod tick;
 
-pub use kernel::Kernel;
+pub use kernel::{Kernel, KernelFault};
 pub use listener::{Listener, Stopped};
