@@ -11,6 +11,7 @@ ghost use Rattle.event_kernel.specs.Heard.{HasHeard, HasBalked};
 ghost use Rattle.event_kernel.specs.Runs.{demands_of, IsListOf};
 ghost use Rattle.event_kernel.specs.Boundary.{opened, opening_notes, speed_note, IsAtBoundary, IsBetween};
 ghost use Rattle.event_kernel.specs.Walking.{IsInSpan, told_before, told_in};
+ghost use Rattle.dvs_base.specs.Outside.{Rose};
 
 use crate::pen::Pen;
 use crate::tick::demand;
@@ -38,6 +39,8 @@ fn release_one<G: Governor, L: Listener>(
     ensures counters { OnOk result (G.stands governor.new plan.now state.new) }
     ensures heard { OnOk result (HasHeard L.heard to.old (opening_notes (demands_of plan.now demands.now) state.old task) to.new) }
     ensures balked { OnErr result (HasBalked L.heard L.balked to.old (opening_notes (demands_of plan.now demands.now) state.old task) to.new) }
+    ensures never_falls { L.stops to.old ≤ L.stops to.new }
+    ensures rose { OnErr result (Rose (L.stops to.old) (L.stops to.new)) }
 {
     let now = state.now;
     let job = state.rows[task as usize].job + 1;
@@ -79,6 +82,8 @@ fn release_all<G: Governor, L: Listener>(
     ensures counters { OnOk result (G.stands governor.new plan.now state.new) }
     ensures heard { OnOk result (HasHeard L.heard to.old (all_release_notes plan.now (demands_of plan.now demands.now) state.old.now) to.new) }
     ensures balked { OnErr result (HasBalked L.heard L.balked to.old (all_release_notes plan.now (demands_of plan.now demands.now) state.old.now) to.new) }
+    ensures never_falls { L.stops to.old ≤ L.stops to.new }
+    ensures rose { OnErr result (Rose (L.stops to.old) (L.stops to.new)) }
 {
     plan.known();
     let now = state.now;
@@ -109,6 +114,8 @@ fn decide<G: Governor, L: Listener>(
     ensures index { IfOk result (λ k. k ≡ lowest_entry plan.now.machine (G.demand plan.now state.entry.now)) }
     ensures heard { OnOk result (HasHeard L.heard to.old (speed_note plan.now state.entry.now.now (G.demand plan.now state.entry.now) ∷ []) to.new) }
     ensures balked { OnErr result (HasBalked L.heard L.balked to.old (speed_note plan.now state.entry.now.now (G.demand plan.now state.entry.now) ∷ []) to.new) }
+    ensures never_falls { L.stops to.old ≤ L.stops to.new }
+    ensures rose { OnErr result (Rose (L.stops to.old) (L.stops to.new)) }
 {
     plan.known();
     let choice = governor.choose(plan, state);
@@ -144,6 +151,8 @@ pub fn begin<G: Governor, L: Listener>(
     ensures counters { OnOk result (G.stands governor.new plan.now state.new) }
     ensures heard { OnOk result ((a : L) → HasHeard L.heard a (told_before G.demand plan.now (demands_of plan.now demands.now) state.old.now) to.old → HasHeard L.heard a (told_in G.demand plan.now (demands_of plan.now demands.now) state.old.now) to.new) }
     ensures balked { OnErr result ((a : L) → HasHeard L.heard a (told_before G.demand plan.now (demands_of plan.now demands.now) state.old.now) to.old → HasBalked L.heard L.balked a (told_before G.demand plan.now (demands_of plan.now demands.now) ticks) to.new) }
+    ensures never_falls { L.stops to.old ≤ L.stops to.new }
+    ensures rose { OnErr result (Rose (L.stops to.old) (L.stops to.new)) }
 {
     plan.known();
     let _last = ticks;

@@ -4,6 +4,7 @@ ghost use Rattle.dvs_base.specs.declared.kind.GovernorKind.TheVariants.{Ahead};
 ghost use Rattle.sched_model.specs.States.{opening};
 ghost use Rattle.event_kernel.specs.Heard.{HasHeard, HasBalked};
 ghost use Rattle.event_kernel.specs.Runs.{IsListOf, released_jobs, most_jobs, notes_of_run, MeetsDeadlines, MeetsDemands};
+ghost use Rattle.dvs_base.specs.Outside.{Rose};
 
 use crate::pen::Pen;
 use crate::span::span;
@@ -96,6 +97,8 @@ impl<'a, G: Governor> Kernel<'a, G> {
         ensures demands { G.the_kind ≢ Ahead → MeetsDemands G.demand self.entry }
         ensures ran { OnOk result (HasHeard L.heard to.old (notes_of_run G.demand self.entry) to.new) }
         ensures broke_off { OnErr result (HasBalked L.heard L.balked to.old (notes_of_run G.demand self.entry) to.new) }
+        ensures never_falls { L.stops to.old ≤ L.stops to.new }
+        ensures rose { OnErr result (Rose (L.stops to.old) (L.stops to.new)) }
     {
         let Kernel {
             plan,

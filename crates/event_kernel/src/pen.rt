@@ -4,6 +4,7 @@ ghost use Rattle.sched_model.specs.Segments.{same_holder, position_of};
 ghost use Rattle.event_kernel.specs.Heard.{HasHeard, HasBalked};
 ghost use Rattle.event_kernel.specs.Pens.{pen_notes, told_pen, is_turn, entered, entering_notes, CanTell, cost};
 ghost use Rattle.event_kernel.specs.Boundary.{ended_pen, ended_notes};
+ghost use Rattle.dvs_base.specs.Outside.{Rose};
 
 use crate::{Listener, Stopped};
 use dvs_base::{Note, Pos};
@@ -76,6 +77,8 @@ fn tell<L: Listener>(
     ensures pen { OnOk result (pen.new ≡ told_pen plan.now index pen.old) }
     ensures heard { OnOk result (HasHeard L.heard to.old (pen_notes plan.now state.entry.now from index pen.old) to.new) }
     ensures balked { OnErr result (HasBalked L.heard L.balked to.old (pen_notes plan.now state.entry.now from index pen.old) to.new) }
+    ensures never_falls { L.stops to.old ≤ L.stops to.new }
+    ensures rose { OnErr result (Rose (L.stops to.old) (L.stops to.new)) }
 {
     plan.known();
     let machine = plan.machine();
@@ -136,6 +139,8 @@ pub fn enter<L: Listener>(
     ensures pen { OnOk result (pen.new ≡ entered plan.now index holder units pen.old) }
     ensures heard { OnOk result (HasHeard L.heard to.old (entering_notes plan.now state.entry.now from index holder pen.old) to.new) }
     ensures balked { OnErr result (HasBalked L.heard L.balked to.old (entering_notes plan.now state.entry.now from index holder pen.old) to.new) }
+    ensures never_falls { L.stops to.old ≤ L.stops to.new }
+    ensures rose { OnErr result (Rose (L.stops to.old) (L.stops to.new)) }
 {
     if turns(pen, holder) {
         tell(plan, state, from, index, pen, to)?;
@@ -158,6 +163,8 @@ pub fn close<L: Listener>(
     ensures pen { OnOk result (pen.new ≡ ended_pen plan.now index pen.old) }
     ensures heard { OnOk result (HasHeard L.heard to.old (ended_notes plan.now state.entry.now from index pen.old) to.new) }
     ensures balked { OnErr result (HasBalked L.heard L.balked to.old (ended_notes plan.now state.entry.now from index pen.old) to.new) }
+    ensures never_falls { L.stops to.old ≤ L.stops to.new }
+    ensures rose { OnErr result (Rose (L.stops to.old) (L.stops to.new)) }
 {
     if pen.units > 0 {
         tell(plan, state, from, index, pen, to)?;

@@ -8,6 +8,7 @@ ghost use Rattle.event_kernel.specs.Heard.{HasHeard, HasBalked};
 ghost use Rattle.event_kernel.specs.Runs.{demands_of, IsListOf};
 ghost use Rattle.event_kernel.specs.Boundary.{some_due, IsBetween};
 ghost use Rattle.event_kernel.specs.Walking.{IsInSpan, HasWalked, told_before, told_in, told_after};
+ghost use Rattle.dvs_base.specs.Outside.{Rose};
 
 use crate::boundary::begin;
 use crate::pen::{Pen, close};
@@ -60,6 +61,8 @@ fn walk_on<G: Governor, L: Listener>(
     ensures counters { OnOk result (G.stands governor.new plan.now state.new) }
     ensures heard { OnOk result ((a : L) → HasHeard L.heard a (told_in G.demand plan.now (demands_of plan.now demands.now) state.old.now) to.old → HasHeard L.heard a (told_after G.demand plan.now (demands_of plan.now demands.now) (state.new.now - 1)) to.new) }
     ensures balked { OnErr result ((a : L) → HasHeard L.heard a (told_in G.demand plan.now (demands_of plan.now demands.now) state.old.now) to.old → HasBalked L.heard L.balked a (told_before G.demand plan.now (demands_of plan.now demands.now) ticks) to.new) }
+    ensures never_falls { L.stops to.old ≤ L.stops to.new }
+    ensures rose { OnErr result (Rose (L.stops to.old) (L.stops to.new)) }
 {
     plan.known();
     'ticks: loop {
@@ -93,6 +96,8 @@ pub fn span<G: Governor, L: Listener>(
     ensures counters { OnOk result (G.stands governor.new plan.now state.new) }
     ensures heard { OnOk result ((a : L) → HasHeard L.heard a (told_before G.demand plan.now (demands_of plan.now demands.now) state.old.now) to.old → HasHeard L.heard a (told_before G.demand plan.now (demands_of plan.now demands.now) state.new.now) to.new) }
     ensures balked { OnErr result ((a : L) → HasHeard L.heard a (told_before G.demand plan.now (demands_of plan.now demands.now) state.old.now) to.old → HasBalked L.heard L.balked a (told_before G.demand plan.now (demands_of plan.now demands.now) ticks) to.new) }
+    ensures never_falls { L.stops to.old ≤ L.stops to.new }
+    ensures rose { OnErr result (Rose (L.stops to.old) (L.stops to.new)) }
 {
     plan.known();
     let from = state.now;

@@ -1,5 +1,5 @@
 // The work of one tick.
-ghost use Rattle.std.specs.Prelude.{◌≡◌, ℕ, ◌<◌, OnOk, OnErr, IfOk, IfNone, IfSome, true, length};
+ghost use Rattle.std.specs.Prelude.{◌≡◌, ℕ, ◌<◌, OnOk, OnErr, IfOk, IfNone, IfSome, true, length, ◌≤◌};
 ghost use Rattle.sched_model.specs.Plan.{count};
 ghost use Rattle.sched_model.specs.Priority.{stands_before};
 ghost use Rattle.sched_model.specs.States.{row_at, CanRun, IsOfPlan};
@@ -8,6 +8,7 @@ ghost use Rattle.event_kernel.specs.Runs.{demands_of, IsListOf};
 ghost use Rattle.event_kernel.specs.Pens.{row_key, IsFirstUndone};
 ghost use Rattle.event_kernel.specs.Tickwork.{served, IsAtWork, HasWorked};
 ghost use Rattle.event_kernel.specs.Walking.{told_in, told_after};
+ghost use Rattle.dvs_base.specs.Outside.{Rose};
 
 use crate::pen::{Pen, enter};
 use crate::{Listener, Stopped};
@@ -112,6 +113,8 @@ pub fn work<G: Governor, L: Listener>(
     ensures counters { OnOk result (G.stands governor.new plan.now state.new) }
     ensures heard { OnOk result ((a : L) → HasHeard L.heard a (told_in G.demand plan.now (demands_of plan.now demands.now) state.old.now) to.old → HasHeard L.heard a (told_after G.demand plan.now (demands_of plan.now demands.now) state.old.now) to.new) }
     ensures balked { OnErr result ((a : L) → HasHeard L.heard a (told_in G.demand plan.now (demands_of plan.now demands.now) state.old.now) to.old → HasBalked L.heard L.balked a (told_after G.demand plan.now (demands_of plan.now demands.now) state.old.now) to.new) }
+    ensures never_falls { L.stops to.old ≤ L.stops to.new }
+    ensures rose { OnErr result (Rose (L.stops to.old) (L.stops to.new)) }
 {
     plan.known();
     let now = state.now;

@@ -27,6 +27,7 @@ loop-task-init g c =
       subst (λ (s : StateOf). Releasing p dem past g.L.Listener.heard 0 false s c.args.to.now c.args.to.now) (sym here.state) (releasing-start p dem past g.L.Listener.heard c.args.to.now),
       c.requires.counters,
       subst (λ (s : StateOf). IsOfPlan p s) (sym here.state) (of-prior p dem past (low-exec m p dem t here.within)),
+      omega arith,
     )
 
 pub release_one-requires-clause-of : goal.release_one-requires-clause-of
@@ -126,10 +127,10 @@ loop-task-preserved g c =
       | then-index-now+in_ok-release_one w ↦ (let due : (row_at st i).deadline ≡ st.now = sym (ap (λ (q : Row). q.deadline) is) ∙ (w.if-index-now.true ∙ clock) in
         let next : Releasing p dem past g.L.Listener.heard (i + 1) true w.release_one.new.state c.args.to.now w.release_one.new.to =
         opens p dem past adm.some_period g.L.Listener.heard g.L.Listener.balked c.args.to.now i any st c.loop-task.to r lt due w.release_one.new.state w.release_one.new.to w.in_ok-release_one.ensures.heard w.in_ok-release_one.ensures.state in
-        rw (w.any-is, w.state-is, w.to-is, w.governor-is) (next, w.in_ok-release_one.ensures.counters, w.in_ok-release_one.ensures.of))
+        rw (w.any-is, w.state-is, w.to-is, w.governor-is) (next, w.in_ok-release_one.ensures.counters, w.in_ok-release_one.ensures.of, omega (arith, c.loop-task.invariant.3, w.in_ok-release_one.ensures.never_falls)))
       | else-index-now w ↦ (let early : nat_eq (row_at st i).deadline st.now ≡ false = ap₂ (λ a b. nat_eq a b) (sym (ap (λ (q : Row). q.deadline) is)) (sym clock) ∙ ne_eqb _ _ w.if-index-now.false in
         let next : Releasing p dem past g.L.Listener.heard (i + 1) any st c.args.to.now c.loop-task.to = passed p dem past adm.some_period g.L.Listener.heard g.L.Listener.balked c.args.to.now i any st c.loop-task.to r lt early in
-        rw (w.any-is, w.state-is, w.to-is, w.governor-is) (next, c.loop-task.invariant.1, c.loop-task.invariant.2))
+        rw (w.any-is, w.state-is, w.to-is, w.governor-is) (next, c.loop-task.invariant.1, c.loop-task.invariant.2, c.loop-task.invariant.3))
     ]
 
 pub returns-then-any-clause-state : goal.returns-then-any-clause-state

@@ -1,3 +1,4 @@
+use Rattle.std.proofs.Common.{◌≤◌}
 use Rattle.event_kernel.specs.Runs.{demands_of}
 use Rattle.sched_model.specs.States.{IsOfPlan}
 use Rattle.governor.specs.Schedule.{course}
@@ -12,3 +13,4 @@ invariant-loop-task g l =
     Releasing p dem (course m p dem l.fn.state.now) g.L.Listener.heard l.task l.any l.state l.fn.to l.to
     × g.G.Governor.stands l.governor p l.state
     × IsOfPlan p l.state
+    × (g.L.Listener.stops l.fn.to ≤ g.L.Listener.stops l.to)

@@ -1,4 +1,4 @@
-use Rattle.std.proofs.Common.{◌-◌}
+use Rattle.std.proofs.Common.{◌-◌, ◌≤◌}
 use Rattle.event_kernel.specs.Runs.{demands_of}
 use Rattle.event_kernel.specs.Heard.{HasHeard}
 use Rattle.event_kernel.specs.Walking.{IsInSpan, told_in}
@@ -11,6 +11,7 @@ invariant-ticks g l =
     let dem = demands_of p l.fn.demands in
     IsInSpan m p dem l.fn.ticks l.fn.from l.state.now l.fn.index l.state l.pen
     × g.G.Governor.stands l.governor p l.state
+    × (g.L.Listener.stops l.fn.to ≤ g.L.Listener.stops l.to)
     × ((a : g.row.L.Denot) → HasHeard g.L.Listener.heard a (told_in m p dem l.fn.state.now) l.fn.to → HasHeard g.L.Listener.heard a (told_in m p dem l.state.now) l.to)
 
 abbrev pub decreases-ticks : goal.decreases-ticks

@@ -1,3 +1,4 @@
+use Rattle.std.proofs.Common.{◌≤◌}
 use Rattle.event_kernel.specs.Runs.{demands_of}
 use Rattle.sched_model.specs.States.{IsOfPlan}
 use Rattle.governor.specs.Schedule.{course, ask_of}
@@ -14,6 +15,7 @@ invariant-loop-rest g l =
     Working g.L.Listener.heard g.L.Listener.balked p dem (ask_of m p dem) (course m p dem t) (span_at m p dem t) l.fn.to l.to l.rest l.completed l.state l.pen
     × g.G.Governor.stands l.governor p l.state
     × IsOfPlan p l.state
+    × (g.L.Listener.stops l.fn.to ≤ g.L.Listener.stops l.to)
 
 abbrev pub decreases-loop-rest : goal.decreases-loop-rest
 decreases-loop-rest g l = l.rest

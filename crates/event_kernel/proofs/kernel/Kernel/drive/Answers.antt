@@ -20,6 +20,7 @@ loop-state-init g c =
       first.0,
       subst (λ (s : StateOf). g.G.Governor.stands c.self.inside.governor p s) (sym c.self.invariant.0) c.self.invariant.1,
       omega (arith, first.1),
+      omega arith,
       nothing-told g.L.Listener.heard g.L.Listener.balked m p dem c.self.inside.ticks c.self.inside.state.now c.args.to.now first.1,
     )
 
@@ -54,7 +55,8 @@ loop-state-preserved g c = (
   c.in_ok-span.ensures.between,
   c.in_ok-span.ensures.counters,
   c.in_ok-span.ensures.limit,
-  c.in_ok-span.ensures.heard c.args.to.now c.loop-state.invariant.3,
+  omega (arith, c.loop-state.invariant.3, c.in_ok-span.ensures.never_falls),
+  c.in_ok-span.ensures.heard c.args.to.now c.loop-state.invariant.4,
 )
 
 pub returns-in_err-span-clause-broke_off : goal.returns-in_err-span-clause-broke_off
@@ -63,7 +65,7 @@ returns-in_err-span-clause-broke_off g c =
     let p = c.self.inside.plan.now in
     let dem = demands_of p c.self.inside.demands.now in
     at_exit c.from_residual.result
-    (subst (λ (r : Run). HasBalked g.L.Listener.heard g.L.Listener.balked c.args.to.now (notes_of_run m r) c.span.new.to) c.self.view_is (before-balked g.L.Listener.heard g.L.Listener.balked m p dem c.self.inside.ticks c.args.to.now c.span.new.to (c.in_err-span.ensures.balked c.args.to.now c.loop-state.invariant.3)))
+    (subst (λ (r : Run). HasBalked g.L.Listener.heard g.L.Listener.balked c.args.to.now (notes_of_run m r) c.span.new.to) c.self.view_is (before-balked g.L.Listener.heard g.L.Listener.balked m p dem c.self.inside.ticks c.args.to.now c.span.new.to (c.in_err-span.ensures.balked c.args.to.now c.loop-state.invariant.4)))
 
 pub returns-in_err-hear-clause-broke_off : goal.returns-in_err-hear-clause-broke_off
 returns-in_err-hear-clause-broke_off g c =
@@ -74,7 +76,7 @@ returns-in_err-hear-clause-broke_off g c =
     let all : c.loop-state.state.now ≡ c.self.inside.ticks =
     (let clock : c.state.inside.now ≡ c.loop-state.state.now = ap (λ (v : StateOf). v.now) c.state.view_is in omega (arith, clock, inv.2)) in
     at_exit c.from_residual-in_err-hear.result
-    (subst (λ (r : Run). HasBalked g.L.Listener.heard g.L.Listener.balked c.args.to.now (notes_of_run m r) c.hear.new.self) c.self.view_is (end-balked g.L.Listener.heard g.L.Listener.balked m p dem c.self.inside.ticks c.loop-state.state.now c.loop-state.state c.loop-state.pen c.args.to.now c.loop-state.to c.hear.new.self inv.0 all inv.3
+    (subst (λ (r : Run). HasBalked g.L.Listener.heard g.L.Listener.balked c.args.to.now (notes_of_run m r) c.hear.new.self) c.self.view_is (end-balked g.L.Listener.heard g.L.Listener.balked m p dem c.self.inside.ticks c.loop-state.state.now c.loop-state.state c.loop-state.pen c.args.to.now c.loop-state.to c.hear.new.self inv.0 all inv.4
     c.in_err-hear.ensures.balked))
 
 pub returns-clause-ran : goal.returns-clause-ran
@@ -85,7 +87,7 @@ returns-clause-ran g c =
     let inv = c.loop-state.invariant in
     let all : c.loop-state.state.now ≡ c.self.inside.ticks =
     (let clock : c.state.inside.now ≡ c.loop-state.state.now = ap (λ (v : StateOf). v.now) c.state.view_is in omega (arith, clock, inv.2)) in
-    subst (λ (r : Run). HasHeard g.L.Listener.heard c.args.to.now (notes_of_run m r) c.hear.new.self) c.self.view_is (end-heard g.L.Listener.heard g.L.Listener.balked m p dem c.self.inside.ticks c.loop-state.state.now c.loop-state.state c.loop-state.pen c.args.to.now c.loop-state.to c.hear.new.self inv.0 all inv.3
+    subst (λ (r : Run). HasHeard g.L.Listener.heard c.args.to.now (notes_of_run m r) c.hear.new.self) c.self.view_is (end-heard g.L.Listener.heard g.L.Listener.balked m p dem c.self.inside.ticks c.loop-state.state.now c.loop-state.state c.loop-state.pen c.args.to.now c.loop-state.to c.hear.new.self inv.0 all inv.4
     c.in_ok-hear.ensures.heard)
 
 pub returns-in_err-span-clause-deadlines : goal.returns-in_err-span-clause-deadlines

@@ -12,6 +12,7 @@ invariant-loop-state g l =
     IsBetween m l.plan dem l.ticks l.state.now l.state l.pen
     × g.G.Governor.stands l.governor l.plan l.state
     × (l.state.now ≤ l.ticks)
+    × (g.L.Listener.stops l.fn.to ≤ g.L.Listener.stops l.to)
     × HasHeard g.L.Listener.heard l.fn.to (told_before m l.plan dem l.state.now) l.to
 
 abbrev pub decreases-loop-state : goal.decreases-loop-state
