@@ -10,5 +10,5 @@ known (Err e) P Q U u h = absurd (h.0 u)
 
 pub unwrap-text-requires : goal.unwrap-text-requires
 unwrap-text-requires c =
-    let encoded : IsUtf8 c.as_bytes.result.now = rw c.as_bytes.ensures (IsUtf8-name c.args.name.now c.requires) in
+    let encoded : IsUtf8 c.as_bytes.result.now = rw c.as_bytes.ensures.bytes (IsUtf8-name c.args.name.now c.requires) in
     known c.from_utf8.result _ _ (IsUtf8 c.as_bytes.result.now) encoded c.from_utf8.ensures.cases
