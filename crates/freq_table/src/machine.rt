@@ -1,7 +1,8 @@
 // A machine's table of speeds.
-ghost use Rattle.std.specs.Prelude.{◌≡◌, ◌<◌, length};
-ghost use Rattle.freq_table.specs.Tables.{point_at, highest_speed, IsTable};
+ghost use Rattle.std.specs.Prelude.{◌≡◌, ◌<◌, ◌≤◌, ◌^◌, length};
+ghost use Rattle.freq_table.specs.Tables.{point_at, highest_speed, lowest_pick, IsTable};
 
+use grid_fraction::{Frac, meets};
 use std::marker::Model;
 
 /// An entry of the table: the speed in work units per tick, and the voltage in millivolts.
@@ -71,6 +72,24 @@ impl Machine {
         ensures { result ≡ self.now.charge }
     {
         self.charge
+    }
+
+    /// The first entry that meets the demand; where none does, the last, which doesn't meet it.
+    pub fn lowest(&self, d: Frac) -> Pick
+        requires some { 1 ≤ d.den }
+        requires low { d.den ≤ 2 ^ 64 }
+        ensures { result ≡ lowest_pick self.now d }
+    {
+        self.known();
+        for index in 0..self.count() {
+            if meets(self.point(index).speed, d) {
+                return Pick { index, met: true };
+            }
+        }
+        Pick {
+            index: self.count() - 1,
+            met: false,
+        }
     }
 
     /// The limits that every machine keeps.

@@ -2,3 +2,4 @@ pub mod Fits
 pub mod EdfLaws
 pub mod RmLaws
 pub mod OneSpeedLaws
+pub mod Publishing

@@ -2,3 +2,4 @@ pub mod Speeds
 pub mod Edf
 pub mod Rm
 pub mod Conditions
+pub mod Published

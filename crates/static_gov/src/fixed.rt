@@ -1,0 +1,74 @@
+// The governor static.
+ghost use Rattle.std.specs.Prelude.{◌≡◌, IfOk, IsOk};
+ghost use Rattle.dvs_base.specs.declared.kind.GovernorKind.TheVariants.{Fixed};
+ghost use Rattle.sched_model.specs.StaticDemand.{static_demand};
+ghost use Rattle.sched_model.specs.States.{opening};
+ghost use Rattle.one_speed.specs.Speeds.{ServesBoth, unchanging, fixed_speed};
+ghost use Rattle.one_speed.specs.Conditions.{CalmAt, SafeAt};
+ghost use Rattle.one_speed.proofs.OneSpeedLaws.{static_laws};
+
+use dvs_base::{GovernorKind, NoMemory};
+use governor::{Choice, Governor};
+use grid_fraction::Frac;
+use sched_model::{Admitted, State};
+use std::alloc::Global;
+
+/// The governor static: the lowest speed that meets the scheduler's static demand (Pillai and Shin 2001).
+#[derive(Drop)]
+pub struct Static {
+    demand: Frac,
+}
+
+impl Static {
+    /// The governor for a plan, before the first release. It takes no memory and is never refused.
+    pub fn new(_alloc: Global, plan: &Admitted) -> Result<Static, NoMemory>
+        ensures made { IsOk result }
+        ensures stands { IfOk result (λ g. ⟦<Static as Governor>⟧.stands g plan.now (opening plan.now)) }
+    {
+        Ok(Static {
+            demand: plan.static_demand(),
+        })
+    }
+}
+
+impl Governor for Static {
+    ghost the_kind = { Fixed };
+
+    ghost serves = { ServesBoth };
+
+    ghost demand = { unchanging static_demand };
+
+    ghost calm = { CalmAt fixed_speed };
+
+    ghost safe = { SafeAt fixed_speed };
+
+    ghost stands = { λ g plan s. g.demand ≡ static_demand plan };
+
+    ghost serves_plan = { λ g plan s stands. tt };
+
+    ghost waits = { λ g plan s to later stands. stands };
+
+    ghost laws = { static_laws };
+
+    fn kind(&self) -> GovernorKind {
+        GovernorKind::Fixed
+    }
+
+    fn released(&mut self, _plan: &Admitted, _view: &State, _task: u32) {}
+
+    fn ran(&mut self, _plan: &Admitted, _view: &State, _task: u32, _units: u64) {}
+
+    fn finished(&mut self, _plan: &Admitted, _view: &State, _task: u32) {}
+
+    fn settled(&mut self, _plan: &Admitted, _view: &State) {}
+
+    fn choose(&self, plan: &Admitted, _view: &State) -> Choice {
+        plan.known();
+        let pick = plan.machine().lowest(self.demand);
+        Choice {
+            index: pick.index,
+            met: pick.met,
+            demand: self.demand,
+        }
+    }
+}

@@ -1,0 +1,77 @@
+// The governor none.
+ghost use Rattle.std.specs.Prelude.{◌≡◌, IfOk, IsOk};
+ghost use Rattle.dvs_base.specs.declared.kind.GovernorKind.TheVariants.{Plain};
+ghost use Rattle.sched_model.specs.Plan.{top_speed};
+ghost use Rattle.sched_model.specs.StaticDemand.{full_demand};
+ghost use Rattle.sched_model.specs.States.{opening};
+ghost use Rattle.one_speed.specs.Speeds.{ServesBoth, unchanging};
+ghost use Rattle.one_speed.specs.Conditions.{CalmAt, SafeAt};
+ghost use Rattle.one_speed.proofs.OneSpeedLaws.{full_laws};
+
+use dvs_base::{GovernorKind, NoMemory};
+use governor::{Choice, Governor};
+use grid_fraction::Frac;
+use sched_model::{Admitted, State};
+use std::alloc::Global;
+
+/// The governor none: always the highest speed.
+#[derive(Drop)]
+pub struct Full {
+    counters: (),
+}
+
+impl Full {
+    /// The governor for a plan, before the first release. It takes no memory and is never refused.
+    pub fn new(_alloc: Global, plan: &Admitted) -> Result<Full, NoMemory>
+        ensures made { IsOk result }
+        ensures stands { IfOk result (λ g. ⟦<Full as Governor>⟧.stands g plan.now (opening plan.now)) }
+    {
+        let _tasks = plan.count();
+        Ok(Full { counters: () })
+    }
+}
+
+impl Governor for Full {
+    ghost the_kind = { Plain };
+
+    ghost serves = { ServesBoth };
+
+    ghost demand = { unchanging full_demand };
+
+    ghost calm = { CalmAt top_speed };
+
+    ghost safe = { SafeAt top_speed };
+
+    ghost stands = { λ g plan s. Unit {0} };
+
+    ghost serves_plan = { λ g plan s stands. tt };
+
+    ghost waits = { λ g plan s to later stands. stands };
+
+    ghost laws = { full_laws };
+
+    fn kind(&self) -> GovernorKind {
+        GovernorKind::Plain
+    }
+
+    fn released(&mut self, _plan: &Admitted, _view: &State, _task: u32) {}
+
+    fn ran(&mut self, _plan: &Admitted, _view: &State, _task: u32, _units: u64) {}
+
+    fn finished(&mut self, _plan: &Admitted, _view: &State, _task: u32) {}
+
+    fn settled(&mut self, _plan: &Admitted, _view: &State) {}
+
+    fn choose(&self, plan: &Admitted, _view: &State) -> Choice {
+        let demand = Frac {
+            num: u128::from(plan.machine().top()),
+            den: 1,
+        };
+        let pick = plan.machine().lowest(demand);
+        Choice {
+            index: pick.index,
+            met: pick.met,
+            demand,
+        }
+    }
+}

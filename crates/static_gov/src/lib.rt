@@ -1,0 +1,13 @@
+//! The two governors whose speed is one number: none, always the highest speed, and static scaling.
+//!
+//! Both serve both schedulers, keep nothing that a run changes, and take no memory. Their published demands are those of
+//! the plan alone, each choice meets its demand, and under each scheduler every deadline of their schedules is met.
+#![tactic(auto)]
+
+mod fixed;
+mod full;
+mod published;
+
+pub use fixed::Static;
+pub use full::Full;
+pub use published::published_demands;
