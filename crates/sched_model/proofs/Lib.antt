@@ -16,3 +16,4 @@ pub mod SpeedLines
 pub mod Openings
 pub mod Limits
 pub mod Weights
+pub mod SortedKeys

@@ -11,6 +11,9 @@ pub record Plan : Type 0 where
   pub machine : Table
   pub scheduler : Scheduler
 
+abbrev pub plan_of : List Task → Table → Scheduler → Plan
+plan_of tasks machine scheduler = record { tasks = tasks; machine = machine; scheduler = scheduler }
+
 -- how many tasks there are; they are numbered from 0
 abbrev pub count : Plan → ℕ
 count p = length p.tasks

@@ -2,11 +2,15 @@
 #![tactic(auto)]
 
 mod holder;
+mod order;
 mod plan;
 mod schedule;
 mod state;
+mod sums;
 
 pub use holder::Holder;
+pub use order::stands_before;
 pub use plan::Admitted;
 pub use schedule::one_schedule;
 pub use state::{Row, State};
+pub use sums::{level_work, total_rate};
