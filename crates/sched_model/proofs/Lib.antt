@@ -17,3 +17,4 @@ pub mod Openings
 pub mod Limits
 pub mod Weights
 pub mod SortedKeys
+pub mod Heaviest

@@ -24,11 +24,17 @@ outweighs p j i =
     let b = level_work p i * period p j in
     nat_lt b a || (nat_eq a b && stands_before (period p) j i)
 
--- RM, static: the greatest Si/Pi, of equal ones the first in RM order
+-- Si/Pi, the share of its period that the level of task i asks for
+abbrev pub level_share : Plan → ℕ → Frac
+level_share p i = record { num = level_work p i; den = period p i }
+
+-- the task of the greatest share, of equal ones the first in RM order
+abbrev pub heaviest : Plan → ℕ
+heaviest p = first_from (count p) 0 (λ i. not (any_below (count p) (λ j. outweighs p j i)))
+
+-- RM, static: its share
 abbrev pub rm_static : Plan → Frac
-rm_static p =
-    let i = first_from (count p) 0 (λ i. not (any_below (count p) (λ j. outweighs p j i))) in
-    record { num = level_work p i; den = period p i }
+rm_static p = level_share p (heaviest p)
 
 -- the static demand of a scheduler
 abbrev pub static_demand_of : Scheduler → Plan → Frac

@@ -6,6 +6,7 @@ mod order;
 mod plan;
 mod schedule;
 mod state;
+mod static_demand;
 mod sums;
 
 pub use holder::Holder;

@@ -35,7 +35,10 @@ fn keys_of(alloc: Global, tasks: &TaskSet) -> Result<Vec<(u64, u32)>, NoMemory>
 fn numbers_of(alloc: Global, keys: &[(u64, u32)]) -> Result<Vec<u32>, NoMemory>
     ensures { IfOk result (λ v. v.items ≡ map (λ k. k.1) keys.now) }
 {
-    keys.iter().map(|key| key.1).collect(alloc).map_err(|_| NoMemory)
+    keys.iter()
+        .map(|key| key.1)
+        .collect(alloc)
+        .map_err(|_| NoMemory)
 }
 
 // The tasks' numbers in RM order.

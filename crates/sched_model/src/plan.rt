@@ -1,15 +1,18 @@
 // Admitted plans.
-ghost use Rattle.std.specs.Prelude.{◌≡◌, ◌<◌, slice_index};
-ghost use Rattle.sched_model.specs.Plan.{count, names, task, period, worst, hyper};
+ghost use Rattle.std.specs.Prelude.{◌≡◌, ◌<◌, IfOk, slice_index, map};
+ghost use Rattle.sched_model.specs.Plan.{plan_of, count, names, task, period, worst, hyper};
 ghost use Rattle.sched_model.specs.Order.{in_order};
 ghost use Rattle.sched_model.specs.StaticDemand.{static_demand};
-ghost use Rattle.sched_model.specs.Admission.{IsAdmitted};
+ghost use Rattle.sched_model.specs.Admission.{PassesTest, IsAdmitted};
 
-use dvs_base::{Name, Scheduler};
+use crate::order::rm_order;
+use crate::static_demand::static_demand;
+use dvs_base::{Name, NoMemory, Scheduler};
 use freq_table::Machine;
 use grid_fraction::Frac;
+use std::alloc::Global;
 use std::marker::Model;
-use task_model::Task;
+use task_model::{Task, TaskSet};
 
 /// Tasks on a machine under a scheduler whose test they pass.
 #[derive(Drop)]
@@ -34,7 +37,58 @@ impl Model for Admitted {
     ghost invariant = { λ a. HoldsPlan (record { tasks = a.tasks.items; machine = a.machine; scheduler = a.scheduler }) a.name_list.items a.rm_order.items a.hyperperiod a.static_fraction };
 }
 
+// The tasks of a set, in its order.
+fn tasks_of(alloc: Global, tasks: &TaskSet) -> Result<Vec<Task>, NoMemory>
+    ensures { IfOk result (λ v. v.items ≡ tasks.now) }
+{
+    let mut list = Vec::new(alloc);
+    for i in 0..tasks.count() {
+        list.push(tasks.task(i)).map_err(|_| NoMemory)?;
+    }
+    Ok(list)
+}
+
+// The names of tasks, in their order.
+fn names_of(alloc: Global, tasks: &[Task]) -> Result<Vec<Name>, NoMemory>
+    ensures { IfOk result (λ v. v.items ≡ map (λ t. t.name) tasks.now) }
+{
+    let mut list = Vec::new(alloc);
+    for task in tasks {
+        list.push(task.name).map_err(|_| NoMemory)?;
+    }
+    Ok(list)
+}
+
 impl Admitted {
+    /// The plan of these tasks on this machine under this scheduler, whose test they pass. It fails only where memory
+    /// runs out.
+    pub fn with(
+        alloc: Global,
+        tasks: &TaskSet,
+        machine: &Machine,
+        scheduler: Scheduler,
+    ) -> Result<Admitted, NoMemory>
+        requires { PassesTest scheduler (plan_of tasks.now machine.now scheduler) }
+        ensures { IfOk result (λ plan. plan ≡ plan_of tasks.now machine.now scheduler) }
+    {
+        tasks.known();
+        machine.known();
+        let static_fraction = static_demand(tasks, machine, scheduler);
+        let rm_order = rm_order(alloc, tasks)?;
+        let list = tasks_of(alloc, tasks)?;
+        let name_list = names_of(alloc, &list)?;
+        let machine = machine.copy(alloc)?;
+        Ok(Admitted {
+            tasks: list,
+            name_list,
+            machine,
+            scheduler,
+            rm_order,
+            hyperperiod: tasks.hyper(),
+            static_fraction,
+        })
+    }
+
     /// What each admitted plan keeps: it is within the limits, and its scheduler's test passes.
     pub fn known(&self)
         ensures { IsAdmitted self.now }

@@ -1,0 +1,158 @@
+-- The task whose level asks for the greatest share of its period.
+use Rattle.std.proofs.Common.{◌≡◌, ◌≢◌, ℕ, zero, suc, ◌+◌, ◌*◌, ◌<◌, ◌≤◌, Bool, true, false, ◌||◌, ◌&&◌, not, ◌⊎◌, inl, inr, nat_eq, nat_lt, refl, arith, ap, ◌∙◌, sym, true≢false, eq-or-lt_of_le, add-one}
+use Rattle.std.proofs.lemmas.Bool.Decides.{nat_tests}
+use Rattle.std.proofs.Math.Nat.{mul-le-mul_right, mul-lt-mul_of_pos_right, le_of_mul-le-mul_right, lt_of_mul-lt-mul_right}
+use Rattle.grid_fraction.specs.Numbers.{any_below, first_from}
+use Rattle.grid_fraction.proofs.Searches.{any_below-none, any_below-false, below_suc}
+use Rattle.freq_table.specs.Tables.{Table, highest_speed, last_entry, IsTable}
+use Rattle.sched_model.specs.Plan.{Plan, count, period}
+use Rattle.sched_model.specs.Priority.{stands_before}
+use Rattle.sched_model.specs.Tests.{level_work}
+use Rattle.sched_model.specs.StaticDemand.{outweighs, heaviest}
+use Rattle.sched_model.proofs.PriorityLemmas.{before-self, before-trans, before-total}
+
+pub low_speed : (m : Table) → IsTable m → highest_speed m ≤ 1000000
+low_speed m h = (h.each (last_entry m) (omega (arith, h.some))).low_speed
+
+-- the comparison by `greater` alone
+pub outweighs-by : (a b : ℕ) (c : Bool) → (nat_lt b a || (not (nat_lt a b) && c)) ≡ (nat_lt b a || (nat_eq a b && c))
+outweighs-by a b c = go (nat_lt b a) refl (nat_lt a b) refl (nat_eq a b) refl
+  where
+    go : (p : Bool) → nat_lt b a ≡ p → (q : Bool) → nat_lt a b ≡ q → (r : Bool) → nat_eq a b ≡ r → (p || (not q && c)) ≡ (p || (r && c))
+    go true e q f r g = refl
+    go false e true f true g = absurd (true≢false (grind (arith, nat_tests)))
+    go false e true f false g = refl
+    go false e false f true g = refl
+    go false e false f false g = absurd (true≢false (grind (arith, nat_tests)))
+
+-- what two numbers that outweigh each other say
+over : (a b : ℕ) (c : Bool) → (nat_lt b a || (nat_eq a b && c)) ≡ true → (b < a) ⊎ ((a ≡ b) × (c ≡ true))
+over a b c h = go (nat_lt b a) refl (nat_eq a b) refl h
+  where
+    go : (p : Bool) → nat_lt b a ≡ p → (q : Bool) → nat_eq a b ≡ q → (p || (q && c)) ≡ true → (b < a) ⊎ ((a ≡ b) × (c ≡ true))
+    go true e q f k = inl (grind (arith, nat_tests))
+    go false e true f k = inr (grind (arith, nat_tests), k)
+    go false e false f k = absurd (true≢false (sym k))
+
+over_less : (a b : ℕ) (c : Bool) → b < a → (nat_lt b a || (nat_eq a b && c)) ≡ true
+over_less a b c h = grind (arith, nat_tests)
+
+over_same : (a b : ℕ) (c : Bool) → a ≡ b → c ≡ true → (nat_lt b a || (nat_eq a b && c)) ≡ true
+over_same a b c h g = grind (arith, nat_tests)
+
+-- fractions by their products: x/u over y/v over z/w
+module _ (x u y v z w : ℕ) (some_v : 0 < v) where
+  ends : y * u ≤ x * v → z * v ≤ y * w → z * u ≤ x * w
+  ends first second =
+      let left : y * u * w ≤ x * v * w = mul-le-mul_right w first in
+      let right : z * v * u ≤ y * w * u = mul-le-mul_right u second in
+      let both : z * u * v ≤ x * w * v = omega (arith, left, right) in
+      le_of_mul-le-mul_right both some_v
+
+  ends_first : 0 < w → y * u < x * v → z * v ≤ y * w → z * u < x * w
+  ends_first some_w first second =
+      let left : y * u * w < x * v * w = mul-lt-mul_of_pos_right first some_w in
+      let right : z * v * u ≤ y * w * u = mul-le-mul_right u second in
+      let both : z * u * v < x * w * v = omega (arith, left, right) in
+      lt_of_mul-lt-mul_right v both
+
+  ends_second : 0 < u → y * u ≤ x * v → z * v < y * w → z * u < x * w
+  ends_second some_u first second =
+      let left : y * u * w ≤ x * v * w = mul-le-mul_right w first in
+      let right : z * v * u < y * w * u = mul-lt-mul_of_pos_right second some_u in
+      let both : z * u * v < x * w * v = omega (arith, left, right) in
+      lt_of_mul-lt-mul_right v both
+
+-- by sums and periods: whether s j / q j is greater than s i / q i, or equal to it with j before i
+abbrev pub beats : (ℕ → ℕ) → (ℕ → ℕ) → ℕ → ℕ → Bool
+beats s q j i = nat_lt (s i * q j) (s j * q i) || (nat_eq (s j * q i) (s i * q j) && stands_before q j i)
+
+pub beats-self : (s q : ℕ → ℕ) (i : ℕ) → beats s q i i ≡ false
+beats-self s q i = go (beats s q i i) refl
+  where
+    go : (b : Bool) → beats s q i i ≡ b → beats s q i i ≡ false
+    go false e = e
+    go true e = split (over (s i * q i) (s i * q i) (stands_before q i i) e)
+      where
+        split : (s i * q i < s i * q i) ⊎ ((s i * q i ≡ s i * q i) × (stands_before q i i ≡ true)) → beats s q i i ≡ false
+        split (inl l) = absurd (omega arith)
+        split (inr r) = absurd (true≢false (sym r.1 ∙ before-self q i))
+
+pub beats-trans : (s q : ℕ → ℕ) (k j i : ℕ) → 0 < q k → 0 < q j → 0 < q i → beats s q k j ≡ true → beats s q j i ≡ true → beats s q k i ≡ true
+beats-trans s q k j i pk pj pi f g =
+    go (over (s k * q j) (s j * q k) (stands_before q k j) f) (over (s j * q i) (s i * q j) (stands_before q j i) g)
+  where
+    go : (s j * q k < s k * q j) ⊎ ((s k * q j ≡ s j * q k) × (stands_before q k j ≡ true))
+        → (s i * q j < s j * q i) ⊎ ((s j * q i ≡ s i * q j) × (stands_before q j i ≡ true)) → beats s q k i ≡ true
+    go (inl a) (inl b) = over_less (s k * q i) (s i * q k) (stands_before q k i) (ends_first (s k) (q k) (s j) (q j) (s i) (q i) pj pi a (omega (arith, b)))
+    go (inl a) (inr b) = over_less (s k * q i) (s i * q k) (stands_before q k i) (ends_first (s k) (q k) (s j) (q j) (s i) (q i) pj pi a (omega (arith, b.0)))
+    go (inr a) (inl b) = over_less (s k * q i) (s i * q k) (stands_before q k i) (ends_second (s k) (q k) (s j) (q j) (s i) (q i) pj pk (omega (arith, a.0)) b)
+    go (inr a) (inr b) =
+        let down = ends (s k) (q k) (s j) (q j) (s i) (q i) pj (omega (arith, a.0)) (omega (arith, b.0)) in
+        let up = ends (s i) (q i) (s j) (q j) (s k) (q k) pj (omega (arith, b.0)) (omega (arith, a.0)) in
+        over_same (s k * q i) (s i * q k) (stands_before q k i) (omega (arith, up, down)) (before-trans q k j i a.1 b.1)
+
+pub beats-total : (s q : ℕ → ℕ) (j i : ℕ) → j ≢ i → beats s q j i ≡ false → beats s q i j ≡ true
+beats-total s q j i ne h = go (nat_lt (s i * q j) (s j * q i)) refl (nat_eq (s j * q i) (s i * q j)) refl h
+  where
+    go : (x : Bool) → nat_lt (s i * q j) (s j * q i) ≡ x → (y : Bool) → nat_eq (s j * q i) (s i * q j) ≡ y → (x || (y && stands_before q j i)) ≡ false → beats s q i j ≡ true
+    go true e y f k = absurd (true≢false k)
+    go false e true f k =
+        let same : s j * q i ≡ s i * q j = grind (arith, nat_tests) in
+        over_same (s i * q j) (s j * q i) (stands_before q i j) (sym same) (before-total q j i ne k)
+    go false e false f k = over_less (s i * q j) (s j * q i) (stands_before q i j) (grind (arith, nat_tests))
+
+-- a first number that passes, where none before it does
+first_from-is : (n from m : ℕ) (test : ℕ → Bool) → from ≤ m → m < from + n → test m ≡ true → ((k : ℕ) → from ≤ k → k < m → test k ≡ false) → first_from n from test ≡ m
+first_from-is zero from m test low high on off = absurd (omega arith)
+first_from-is (suc n) from m test low high on off = go (test from) refl (eq-or-lt_of_le low) (first_from-is n (suc from) m test)
+  where
+    go : (b : Bool) → test from ≡ b → (from ≡ m) ⊎ (from < m)
+        → (suc from ≤ m → m < suc from + n → test m ≡ true → ((k : ℕ) → suc from ≤ k → k < m → test k ≡ false) → first_from n (suc from) test ≡ m)
+        → first_from (suc n) from test ≡ m
+    go true e (inl c) ih = rw (e, first_from) c
+    go true e (inr c) ih = absurd (true≢false (sym e ∙ off from (omega arith) c))
+    go false e (inl c) ih = absurd (true≢false (sym on ∙ (ap test (sym c) ∙ e)))
+    go false e (inr c) ih = rw (e, first_from) (ih c (omega arith) on (λ k l h. off k (omega arith) h))
+
+-- none below m beats `found`, which is the heaviest of those
+pub record IsHeaviest (s q : ℕ → ℕ) (m found : ℕ) : Type 0 where
+  pub below : found < m
+  pub unbeaten : (k : ℕ) → k < m → beats s q k found ≡ false
+
+pub heaviest-one : (s q : ℕ → ℕ) → IsHeaviest s q 1 0
+heaviest-one s q = record { below = omega arith; unbeaten = λ k lt. let e : k ≡ 0 = omega arith in rw e (beats-self s q 0) }
+
+pub heaviest-kept : (s q : ℕ → ℕ) (m found : ℕ) → IsHeaviest s q m found → beats s q m found ≡ false → IsHeaviest s q (m + 1) found
+heaviest-kept s q m found h e = record {
+  below = omega (arith, h.below);
+  unbeaten = rw add-one (below_suc (λ k. beats s q k found ≡ false) m h.unbeaten e);
+}
+
+pub heaviest-next : (s q : ℕ → ℕ) (m found : ℕ) → ((i : ℕ) → i ≤ m → 0 < q i) → IsHeaviest s q m found → beats s q m found ≡ true → IsHeaviest s q (m + 1) m
+heaviest-next s q m found some h e = record {
+  below = omega arith;
+  unbeaten = rw add-one (below_suc (λ k. beats s q k m ≡ false) m (λ k lt. none k lt (beats s q k m) refl) (beats-self s q m));
+}
+  where
+    none : (k : ℕ) → k < m → (b : Bool) → beats s q k m ≡ b → beats s q k m ≡ false
+    none k lt false f = f
+    none k lt true f =
+        absurd (true≢false (sym (beats-trans s q k m found (some k (omega arith)) (some m (omega arith)) (some found (omega (arith, h.below))) f e) ∙ h.unbeaten k lt))
+
+pub heaviest-all : (p : Plan) (found : ℕ) → IsHeaviest (level_work p) (period p) (count p) found → found ≡ heaviest p
+heaviest-all p found h =
+    sym (first_from-is (count p) 0 found (λ i. not (any_below (count p) (λ j. outweighs p j i))) (omega arith) (omega (arith, h.below)) on off)
+  where
+    on : not (any_below (count p) (λ j. outweighs p j found)) ≡ true
+    on = ap not (any_below-none (count p) (λ j. outweighs p j found) h.unbeaten)
+
+    off : (k : ℕ) → 0 ≤ k → k < found → not (any_below (count p) (λ j. outweighs p j k)) ≡ false
+    off k low lt = go (any_below (count p) (λ j. outweighs p j k)) refl
+      where
+        beaten : outweighs p found k ≡ true
+        beaten = beats-total (level_work p) (period p) k found (λ e. omega (arith, lt, e)) (h.unbeaten k (omega (arith, h.below, lt)))
+
+        go : (b : Bool) → any_below (count p) (λ j. outweighs p j k) ≡ b → not (any_below (count p) (λ j. outweighs p j k)) ≡ false
+        go true e = ap not e
+        go false e = absurd (true≢false (sym beaten ∙ any_below-false (count p) (λ j. outweighs p j k) e found h.below))

@@ -1,0 +1,73 @@
+// The static demand of a plan (Pillai and Shin 2001).
+ghost use Rattle.std.specs.Prelude.{◌≡◌, ◌≤◌, ◌<◌, ◌^◌, length};
+ghost use Rattle.dvs_base.specs.declared.kind.Scheduler.TheVariants.{Rm};
+ghost use Rattle.sched_model.specs.Plan.{plan_of};
+ghost use Rattle.sched_model.specs.Tests.{IsRmFeasible};
+ghost use Rattle.sched_model.specs.StaticDemand.{level_share, outweighs, heaviest, static_demand};
+ghost use Rattle.sched_model.specs.Admission.{PassesTest};
+
+use crate::order::stands_before;
+use crate::sums::{level_work, total_rate};
+use dvs_base::Scheduler;
+use freq_table::Machine;
+use grid_fraction::{Frac, greater};
+use task_model::TaskSet;
+
+// The share of its period that the level of a task asks for.
+fn level_share(tasks: &TaskSet, machine: &Machine, i: u32) -> Frac
+    requires below { i < length tasks.now }
+    requires test { IsRmFeasible (plan_of tasks.now machine.now Rm) }
+    ensures value { result ≡ level_share (plan_of tasks.now machine.now Rm) i }
+    ensures low_num { result.num ≤ 2 ^ 60 }
+    ensures some_den { 1 ≤ result.den }
+    ensures low_den { result.den ≤ 2 ^ 40 }
+{
+    tasks.known();
+    machine.known();
+    Frac {
+        num: level_work(tasks, machine, i),
+        den: u128::from(tasks.task(i).period),
+    }
+}
+
+// Whether the level of task j asks for a greater share than that of task i, or for the same and stands before it.
+fn outweighs(tasks: &TaskSet, machine: &Machine, j: u32, i: u32) -> bool
+    requires first { j < length tasks.now }
+    requires second { i < length tasks.now }
+    requires test { IsRmFeasible (plan_of tasks.now machine.now Rm) }
+    ensures { result ≡ outweighs (plan_of tasks.now machine.now Rm) j i }
+{
+    let first = level_share(tasks, machine, j);
+    let second = level_share(tasks, machine, i);
+    greater(first, second) || (!greater(second, first) && stands_before(tasks, j, i))
+}
+
+// The task whose level asks for the greatest share, of equal ones the first in RM order.
+fn heaviest(tasks: &TaskSet, machine: &Machine) -> u32
+    requires { IsRmFeasible (plan_of tasks.now machine.now Rm) }
+    ensures value { result ≡ heaviest (plan_of tasks.now machine.now Rm) }
+    ensures below { result < length tasks.now }
+{
+    tasks.known();
+    let mut found = 0;
+    for i in 1..tasks.count() {
+        if outweighs(tasks, machine, i, found) {
+            found = i;
+        }
+    }
+    found
+}
+
+// The static demand of tasks that pass the scheduler's test.
+pub(crate) fn static_demand(tasks: &TaskSet, machine: &Machine, scheduler: Scheduler) -> Frac
+    requires { PassesTest scheduler (plan_of tasks.now machine.now scheduler) }
+    ensures { result ≡ static_demand (plan_of tasks.now machine.now scheduler) }
+{
+    match scheduler {
+        Scheduler::Edf => Frac {
+            num: total_rate(tasks, machine),
+            den: u128::from(tasks.hyper()),
+        },
+        Scheduler::Rm => level_share(tasks, machine, heaviest(tasks, machine)),
+    }
+}
