@@ -1,1 +1,5 @@
+pub mod Entries
+pub mod Points
+pub mod Lowest
+pub mod Examples
 pub mod Chosen

@@ -1,8 +1,11 @@
 // A machine's table of speeds.
-ghost use Rattle.std.specs.Prelude.{◌≡◌, ◌<◌, ◌≤◌, ◌^◌, length};
-ghost use Rattle.freq_table.specs.Tables.{point_at, highest_speed, lowest_pick, IsTable};
+ghost use Rattle.std.specs.Prelude.{◌≡◌, ◌<◌, ◌≤◌, ◌^◌, length, vec_len, IfOk};
+ghost use Rattle.freq_table.specs.Tables.{Table, point_at, highest_speed, lowest_pick, IsTable};
+ghost use Rattle.freq_table.specs.Limits.{ArePoints};
 
+use dvs_base::NoMemory;
 use grid_fraction::{Frac, meets};
+use std::alloc::Global;
 use std::marker::Model;
 
 /// An entry of the table: the speed in work units per tick, and the voltage in millivolts.
@@ -38,6 +41,63 @@ impl Model for Machine {
 }
 
 impl Machine {
+    pub(crate) fn from_points(points: Vec<Point>, idle: u64, charge: u64) -> Machine
+        requires limits { ArePoints points.items }
+        requires some { 1 ≤ vec_len points }
+        requires few { vec_len points ≤ 32 }
+        requires idle { idle ≤ 1000 }
+        requires charge { charge ≤ 1000000 }
+        ensures { result ≡ (record { points = points.items; idle = idle; charge = charge }) }
+    {
+        Machine {
+            points,
+            idle,
+            charge,
+        }
+    }
+
+    /// The machine of these numbers and points. It fails only where memory runs out.
+    pub fn of(alloc: Global, idle: u64, charge: u64, points: &[Point]) -> Result<Machine, NoMemory>
+        requires { IsTable (record { points = points.now; idle = idle; charge = charge }) }
+        ensures { IfOk result (λ m. m ≡ (record { points = points.now; idle = idle; charge = charge })) }
+    {
+        match Vec::from_slice(alloc, points) {
+            Ok(points) => Ok(Machine {
+                points,
+                idle,
+                charge,
+            }),
+            Err(_) => Err(NoMemory),
+        }
+    }
+
+    /// An equal machine. It fails only where memory runs out.
+    pub fn copy(&self, alloc: Global) -> Result<Machine, NoMemory>
+        ensures { IfOk result (λ m. m ≡ self.now) }
+    {
+        Machine::of(alloc, self.idle, self.charge, &self.points)
+    }
+
+    /// The first entry whose speed meets the demand, with `met` true; where none does, the last with `met` false.
+    pub fn lowest(&self, d: Frac) -> Pick
+        requires some { 1 ≤ d.den }
+        requires fits { d.den ≤ 2 ^ 64 }
+        ensures { result ≡ lowest_pick self.now d }
+    {
+        for (i, point) in self.points.iter().enumerate() {
+            if meets(point.speed, d) {
+                return Pick {
+                    index: i as u32,
+                    met: true,
+                };
+            }
+        }
+        Pick {
+            index: self.points.len() as u32 - 1,
+            met: false,
+        }
+    }
+
     /// How many entries the table has, 1 to 32.
     pub fn count(&self) -> u32
         ensures { result ≡ length self.now.points }
@@ -72,24 +132,6 @@ impl Machine {
         ensures { result ≡ self.now.charge }
     {
         self.charge
-    }
-
-    /// The first entry that meets the demand; where none does, the last, which doesn't meet it.
-    pub fn lowest(&self, d: Frac) -> Pick
-        requires some { 1 ≤ d.den }
-        requires low { d.den ≤ 2 ^ 64 }
-        ensures { result ≡ lowest_pick self.now d }
-    {
-        self.known();
-        for index in 0..self.count() {
-            if meets(self.point(index).speed, d) {
-                return Pick { index, met: true };
-            }
-        }
-        Pick {
-            index: self.count() - 1,
-            met: false,
-        }
     }
 
     /// The limits that every machine keeps.

@@ -1,11 +1,8 @@
 -- The array of entries.
-use Rattle.std.proofs.Common.{◌≡◌, ◌<◌, ◌≤◌, ℕ, ◌+◌, nat_lt, if◌then◌else◌, Bool, true, false, List, [], ◌∷◌, length, Some, Result, Err, refl, ap, ◌∙◌, arith}
-use Rattle.std.proofs.lemmas.Bool.Decides.{nat_tests}
+use Rattle.std.proofs.Common.{◌≡◌, ◌<◌, ◌≤◌, List, [], ◌∷◌, length, Some, Err, arith}
 use Rattle.toml.specs.declared.value.Value.{Value}
 use Rattle.toml.specs.View.{items_view}
 use Rattle.toml_tree.specs.Tree.{count_of, and_then}
-use Rattle.task_model.specs.declared.task.Task.{Task}
-use Rattle.task_model.specs.declared.fault.TaskFault.{TaskFault}
 use Rattle.task_model.specs.declared.fault.TaskFault.TheVariants as fault
 use Rattle.task_model.specs.TaskFile.{entries_from, tasks_from, within_hyper}
 use Rattle.toml_tree.proofs.Counts.{count_of-items_view, choose, choose_not}

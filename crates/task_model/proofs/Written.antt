@@ -1,8 +1,7 @@
 -- A written document means the tasks that it was written from.
-use Rattle.std.proofs.Common.{◌≡◌, ◌<◌, ◌≤◌, ◌^◌, ℕ, zero, suc, ◌+◌, ◌&&◌, max, nat_lt, nat_le, cond, if◌then◌else◌, Bool, true, false, not, List, [], ◌∷◌, ◌++◌, length, map, Option, Some, None, inl, inr, append_assoc, append-nil, sym, Result, Ok, Err, String, Global, Ordering, Less, Equal, Greater, string_bytes, slice_index, nat_cmp, codes, refl, ap, ◌∙◌, subst, arith}
-use Rattle.std.specs.Cmp.Lexicographic.{slice_cmp}
+use Rattle.std.proofs.Common.{◌≡◌, ◌<◌, ◌≤◌, ◌^◌, ℕ, zero, suc, ◌+◌, ◌&&◌, nat_lt, nat_le, if◌then◌else◌, Bool, true, false, List, [], ◌∷◌, ◌++◌, length, map, Option, Some, None, inl, inr, append_assoc, append-nil, sym, Ok, Err, String, Global, Ordering, Less, Equal, Greater, string_bytes, slice_index, refl, ap, ◌∙◌, subst, arith}
 use Rattle.std.specs.List.{list_all, position_or_len}
-use Rattle.std.specs.Str.{bytes_eq, IsAscii, IsUtf8, is_utf8}
+use Rattle.std.specs.Str.{bytes_eq, IsUtf8, is_utf8}
 use Rattle.std.specs.String.{string_cmp}
 use Rattle.std.specs.Ordering.{match_ordering}
 use Rattle.std.specs.BTreeMap.{insert_entry}
@@ -16,19 +15,18 @@ use Rattle.std.proofs.lemmas.Str.Ascii.{IsAscii-nil}
 use Rattle.std.proofs.Math.ListN.{length-append}
 use Rattle.std.proofs.Math.Seq.{get_or-append_seam}
 use Rattle.dvs_base.specs.Text.{is_name, is_name_byte}
-use Rattle.toml.specs.Data.{Data, Items, no_items, item, Members, no_members, member, depth, items_depth, members_depth}
+use Rattle.toml.specs.Data.{items_depth, members_depth}
 use Rattle.toml.specs.View.{view, items_of, members_view}
 use Rattle.toml.specs.declared.value.Value.{Value}
 use Rattle.toml.specs.Parse.{parse_document}
 use Rattle.std.proofs.Math.Nat.{max-le}
 use Rattle.toml_tree.proofs.Counts.{choose_not}
 use Rattle.task_model.specs.declared.fault.TaskFault.TheVariants as fault
-use Rattle.toml_tree.specs.Tree.{count_of, and_then, document_of}
+use Rattle.toml_tree.specs.Tree.{count_of}
 use Rattle.task_model.specs.declared.task.Task.{Task}
-use Rattle.task_model.specs.declared.fault.TaskFault.{TaskFault}
 use Rattle.task_model.specs.Tasks.{IsTask, IsTaskSet, task_at, no_task, hyper_of}
 use Rattle.task_model.specs.Limits.{AreTasks}
-use Rattle.task_model.specs.TaskFile.{place_of, task_of, tasks_from, within_hyper, entries_from, tasks_of_document, task_file}
+use Rattle.task_model.specs.TaskFile.{place_of, task_of, tasks_from, within_hyper, tasks_of_document, task_file}
 use Rattle.task_model.specs.Written.{put_member, task_data, document}
 
 abbrev Entry : Type 0
@@ -75,11 +73,12 @@ task_of-task_data place t h =
 pub place_of-absent : (tasks : List Task) (name : List ℕ) → ((i : ℕ) → i < length tasks → (task_at tasks i).name ≡ name → ⊥) → place_of tasks name ≡ None
 place_of-absent tasks name h =
     let past : position_or_len (λ t. bytes_eq t.name name) tasks ≡ length tasks =
-        position_or_len_is (λ t. bytes_eq t.name name) tasks (length tasks) no_task (omega arith) (λ k lt. other (task_at tasks k).name name (h k lt)) (λ lt. absurd (omega arith)) in
+    position_or_len_is (λ t. bytes_eq t.name name) tasks (length tasks) no_task (omega arith) (λ k lt. other (task_at tasks k).name name (h k lt)) (λ lt. absurd (omega arith)) in
     rw past (past_end (length tasks))
   where
     other : (a b : List ℕ) → (a ≡ b → ⊥) → bytes_eq a b ≡ false
     other a b differ = elim (cases_Bool (bytes_eq a b)) [ inl same ↦ absurd (differ ((bytes_eq-Decides a b).0 same)) | inr no_same ↦ no_same ]
+
     past_end : (n : ℕ) → ◌≡◌ {A = Option ℕ} (if nat_lt n n then Some n else None) None
     past_end n = let beyond : nat_lt n n ≡ false = grind (arith, nat_tests) in rw beyond refl
 

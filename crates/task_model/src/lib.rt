@@ -11,3 +11,180 @@ mod write;
 
 pub use fault::{Field, TaskFault};
 pub use task::{Task, TaskSet};
+
+#[cfg(test)]
+mod tests {
+    use super::*;
+    use std::alloc::{AllocError, Global};
+    use std::test::Fail;
+
+    const SET_A: &str =
+        "[[task]]\nname = \"t1\"\nperiod = 8\nworst = 12\n[[task]]\nname = \"t2\"\nperiod = 10\nworst = 12\n[[task]]\nname = \"t3\"\nperiod = 14\nworst = 4\n";
+
+    // The refusal's word, its place, its field, and its other number.
+    fn told(fault: &TaskFault) -> (&'static str, u32, Option<Field>, u64) {
+        match fault {
+            TaskFault::NotToml => ("not TOML", 0, None, 0),
+            TaskFault::UnknownKey { place, key } => (
+                "unknown key",
+                *place,
+                None,
+                key.as_bytes().len() as u64,
+            ),
+            TaskFault::NoTasks => ("no tasks", 0, None, 0),
+            TaskFault::TooMany { count } => ("too many", 0, None, *count),
+            TaskFault::Missing { place, field } => ("missing", *place, Some(*field), 0),
+            TaskFault::Kind { place, field } => ("kind", *place, Some(*field), 0),
+            TaskFault::Range { place, field } => ("range", *place, Some(*field), 0),
+            TaskFault::BadName { place } => ("bad name", *place, None, 0),
+            TaskFault::SameName { first, second } => (
+                "same name",
+                *second,
+                None,
+                u64::from(*first),
+            ),
+            TaskFault::Hyper => ("hyper", 0, None, 0),
+            TaskFault::NoMemory => ("no memory", 0, None, 0),
+        }
+    }
+
+    // A task file with this many tasks of period 64 and worst case 1.
+    fn file_of(alloc: Global, count: u32) -> Result<String, AllocError> {
+        let mut text = String::new(alloc);
+        for i in 0..count {
+            let entry = format!(in alloc; "[[task]]\nname = \"t{i}\"\nperiod = 64\nworst = 1\n")?;
+            text.push_str(entry.as_str())?;
+        }
+        Ok(text)
+    }
+
+    #[test]
+    fn the_first_trouble_is_the_refusal(rt: HostRuntime) {
+        for (text, want) in [
+            ("", ("no tasks", 0, None, 0)),
+            ("task = []", ("no tasks", 0, None, 0)),
+            ("task = 1", ("kind", 0, Some(Field::Task), 0)),
+            ("task = \"\"", ("kind", 0, Some(Field::Task), 0)),
+            ("task = [", ("not TOML", 0, None, 0)),
+            ("task = [9223372036854775808]", ("not TOML", 0, None, 0)),
+            ("zz = 1\nbcd = 2\ntask = []", ("unknown key", 0, None, 3)),
+            ("task = [1]", ("kind", 1, Some(Field::Entry), 0)),
+            (
+                "task = [{name = \"a\", period = 1, worst = 1}, {offset = 1}]",
+                ("unknown key", 2, None, 6),
+            ),
+            ("task = [{}]", ("missing", 1, Some(Field::Name), 0)),
+            ("task = [{name = 1}]", ("kind", 1, Some(Field::Name), 0)),
+            ("task = [{name = \"a b\"}]", ("bad name", 1, None, 0)),
+            (
+                "task = [{name = \"a\"}]",
+                ("missing", 1, Some(Field::Period), 0),
+            ),
+            (
+                "task = [{name = \"a\", period = 1.0}]",
+                ("kind", 1, Some(Field::Period), 0),
+            ),
+            (
+                "task = [{name = \"a\", period = 1979-05-27}]",
+                ("kind", 1, Some(Field::Period), 0),
+            ),
+            (
+                "task = [{name = \"a\", period = \"1\"}]",
+                ("kind", 1, Some(Field::Period), 0),
+            ),
+            (
+                "task = [{name = \"a\", period = 0, worst = 0}]",
+                ("range", 1, Some(Field::Period), 0),
+            ),
+            (
+                "task = [{name = \"a\", period = -1}]",
+                ("range", 1, Some(Field::Period), 0),
+            ),
+            (
+                "task = [{name = \"a\", period = 1099511627777}]",
+                ("range", 1, Some(Field::Period), 0),
+            ),
+            (
+                "task = [{name = \"a\", period = 1}]",
+                ("missing", 1, Some(Field::Worst), 0),
+            ),
+            (
+                "task = [{name = \"a\", period = 1, worst = 1152921504606846977}]",
+                ("range", 1, Some(Field::Worst), 0),
+            ),
+            (
+                "task = [{name = \"a\", period = 1, worst = 1}, {name = \"a\", period = 1, worst = 1}]",
+                ("same name", 2, None, 1),
+            ),
+            (
+                "task = [{name = \"a\", period = 1099511627775, worst = 1}, {name = \"b\", period = 1099511627776, worst = 1}]",
+                ("hyper", 0, None, 0),
+            ),
+        ] {
+            let found = TaskSet::read(rt.alloc(), text.as_bytes())
+                .map_err(|fault| told(&fault))
+                .err();
+            assert_eq!(rt; found, Some(want), "{text}");
+        }
+        let found = TaskSet::read(rt.alloc(), b"\xff")
+            .map_err(|fault| told(&fault))
+            .err();
+        assert_eq!(rt; found, Some(("not TOML", 0, None, 0)));
+    }
+
+    #[test]
+    fn the_same_tree_is_the_same_set(rt: HostRuntime) -> Result<(), Fail> {
+        for text in [
+            SET_A,
+            "\u{feff}task = [{name = \"t1\", period = 0x8, worst = 1_2}, {name = 't2', period = 10, worst = 0b1100}, {name = \"t3\", period = 14, worst = 4}]",
+            "[[task]]\n\"name\" = \"t1\"\nperiod = +8\nworst = 12\n[[task]]\nworst = 12\nperiod = 0o12\nname = \"t\\u0032\"\n[[task]]\nname = \"t3\"\nperiod = 14\nworst = 4",
+        ] {
+            let set = TaskSet::read(rt.alloc(), text.as_bytes()).map_err(|_| "set A")?;
+            assert_eq!(rt; set.count(), 3);
+            assert_eq!(rt; set.hyper(), 280);
+            assert_eq!(rt;
+                (set.find(b"t1"), set.find(b"t3"), set.find(b"t4")),
+                (Some(0), Some(2), None)
+            );
+        }
+        Ok(())
+    }
+
+    #[test]
+    fn a_written_set_is_read_again(rt: HostRuntime) -> Result<(), Fail> {
+        let alloc = rt.alloc();
+        let set = TaskSet::read(alloc, SET_A.as_bytes()).map_err(|_| "set A")?;
+        let text = set.write(alloc).map_err(|_| "text")?;
+        let back = TaskSet::read(alloc, text.as_bytes()).map_err(|_| "written")?;
+        assert_eq!(rt; (back.count(), back.hyper()), (3, 280));
+        assert_eq!(rt; back.find(b"t2"), Some(1));
+        Ok(())
+    }
+
+    #[test]
+    fn sixty_four_tasks_are_the_most(rt: HostRuntime) -> Result<(), Fail> {
+        let alloc = rt.alloc();
+        let most = TaskSet::read(alloc, file_of(alloc, 64)?.as_bytes()).map_err(|_| "64 tasks")?;
+        assert_eq!(rt; (most.count(), most.hyper()), (64, 64));
+        let more = TaskSet::read(alloc, file_of(alloc, 65)?.as_bytes());
+        assert_eq!(rt;
+            more.map_err(|fault| told(&fault)).err(),
+            Some(("too many", 0, None, 65))
+        );
+        Ok(())
+    }
+
+    #[test]
+    fn a_set_is_made_of_its_tasks(rt: HostRuntime) -> Result<(), Fail> {
+        let alloc = rt.alloc();
+        let read = TaskSet::read(alloc, SET_A.as_bytes()).map_err(|_| "set A")?;
+        let set = TaskSet::of(alloc, read.as_slice()).map_err(|_| "memory")?;
+        assert_eq!(rt; (set.count(), set.hyper()), (3, 280));
+        if set.count() == 3 {
+            let task = set.task(2);
+            assert_eq!(rt; task.name.as_bytes(), b"t3".as_slice());
+            assert_eq!(rt; (task.period, task.worst), (14, 4));
+        }
+        Ok(())
+    }
+}

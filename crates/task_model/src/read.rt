@@ -12,7 +12,9 @@ use crate::task::{Task, TaskSet, place_of};
 use dvs_base::Name;
 use std::alloc::Global;
 use toml::{Table, Value};
-use toml_tree::{DocumentFault, MemberFault, member_at, number_at, read_document, text_at, unknown_key};
+use toml_tree::{
+    DocumentFault, MemberFault, member_at, number_at, read_document, text_at, unknown_key,
+};
 
 fn fault_at(place: u32, field: Field, fault: MemberFault) -> TaskFault
     ensures { result ≡ fault_at place field fault }

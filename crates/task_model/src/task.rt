@@ -1,5 +1,7 @@
 // Tasks, and sets of them.
 ghost use Rattle.std.specs.Prelude.{◌≡◌, ◌<◌, ◌≤◌, ◌^◌, length, nat_le, if◌then◌else◌, Some, None, IfOk, vec_len};
+ghost use Rattle.std.specs.List.{All};
+ghost use Rattle.grid_fraction.specs.Fraction.{least_common_multiple};
 ghost use Rattle.task_model.specs.Tasks.{IsTaskSet, hyper_of, task_at};
 ghost use Rattle.task_model.specs.Limits.{AreTasks};
 ghost use Rattle.task_model.specs.TaskFile.{place_of};
@@ -45,13 +47,24 @@ pub(crate) fn place_of(tasks: &[Task], name: &[u8]) -> Option<usize>
     tasks.iter().position(|t| t.name.as_bytes() == name)
 }
 
-// The least common multiple of the periods, where it is within the limit.
+// The least common multiple, where it is within the limit.
+fn repeat_within(periods: &[u64]) -> Option<u64>
+    requires { All (λ n. 1 ≤ n) periods.now }
+    ensures { result ≡ (if nat_le (least_common_multiple periods.now) (2 ^ 48) then Some (least_common_multiple periods.now) else None) }
+{
+    match lcm_within(periods, 1 << 48) {
+        Some(hyper) => Some(hyper),
+        None => None,
+    }
+}
+
+// The least common multiple of the tasks' periods, where it is within the limit.
 fn hyper_within(alloc: Global, tasks: &[Task]) -> Result<Option<u64>, NoMemory>
     requires { AreTasks tasks.now }
     ensures { IfOk result (λ h. h ≡ (if nat_le (hyper_of tasks.now) (2 ^ 48) then Some (hyper_of tasks.now) else None)) }
 {
     match tasks.iter().map(|t| t.period).collect::<Vec<u64>>(alloc) {
-        Ok(periods) => Ok(lcm_within(&periods, 1 << 48)),
+        Ok(periods) => Ok(repeat_within(&periods)),
         Err(_) => Err(NoMemory),
     }
 }

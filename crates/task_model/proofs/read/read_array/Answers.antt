@@ -1,8 +1,5 @@
-use Rattle.std.proofs.Common.{◌≡◌, ◌<◌, length, arith, rules, Err, [], ap}
+use Rattle.std.proofs.Common.{◌<◌, length, arith}
 use Rattle.std.proofs.lemmas.Bool.Decides.{nat_tests}
-use Rattle.toml.specs.View.{items_view}
-use Rattle.toml_tree.specs.Tree.{and_then}
-use Rattle.task_model.specs.TaskFile.{tasks_from, within_hyper}
 use Rattle.task_model.proofs.Entries.{too_many, few}
 use Rattle.task_model.proofs.read.read_array.Goals as goal
 

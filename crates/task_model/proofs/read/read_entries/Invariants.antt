@@ -1,4 +1,4 @@
-use Rattle.std.proofs.Common.{◌≡◌, [], length, drop, vec_len}
+use Rattle.std.proofs.Common.{◌≡◌, [], drop, vec_len}
 use Rattle.toml.specs.View.{items_view}
 use Rattle.task_model.specs.Limits.{AreTasks}
 use Rattle.task_model.specs.TaskFile.{tasks_from}

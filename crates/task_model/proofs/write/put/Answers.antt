@@ -1,4 +1,4 @@
-use Rattle.std.proofs.Common.{◌≡◌, ◌∙◌, ap, string_bytes}
+use Rattle.std.proofs.Common.{◌∙◌, ap}
 use Rattle.toml.specs.View.{view, members_view}
 use Rattle.task_model.specs.Written.{put_member}
 use Rattle.task_model.proofs.Written.{members_view-insert_entry}

@@ -3,5 +3,6 @@ use Rattle.grid_fraction.specs.Fraction.{meets}
 use Rattle.freq_table.specs.Tables.{speed_at}
 use Rattle.freq_table.proofs.machine.Machine.lowest.Given as goal
 
-abbrev pub invariant-loop-index : goal.invariant-loop-index
-invariant-loop-index l = (j : ℕ) → j < l.index → meets (speed_at l.self j) l.d ≡ false
+-- no entry so far meets the demand
+abbrev pub invariant-loop-i : goal.invariant-loop-i
+invariant-loop-i l = (k : ℕ) → k < l.i → meets (speed_at l.self k) l.d ≡ false

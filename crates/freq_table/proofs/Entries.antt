@@ -1,0 +1,16 @@
+-- The array of entries.
+use Rattle.std.proofs.Common.{◌≡◌, ◌<◌, ◌≤◌, List, [], ◌∷◌, length, Some, Err, arith}
+use Rattle.toml.specs.declared.value.Value.{Value}
+use Rattle.toml.specs.View.{items_view}
+use Rattle.toml_tree.specs.Tree.{count_of}
+use Rattle.toml_tree.proofs.Counts.{count_of-items_view, choose, choose_not}
+use Rattle.freq_table.specs.declared.fault.MachineFault.TheVariants as fault
+use Rattle.freq_table.specs.MachineFile.{entries_from, points_from}
+
+pub too_many : (vs : List Value) → 32 < length vs → entries_from (Some (items_view vs)) ≡ Err (fault.TooMany (length vs))
+too_many [] h = absurd (omega arith)
+too_many (v ∷ vs) h = choose 32 (count_of (items_view (v ∷ vs))) (length (v ∷ vs)) (λ n. Err (fault.TooMany n)) _ (count_of-items_view (v ∷ vs)) h
+
+pub few : (vs : List Value) → 0 < length vs → length vs ≤ 32 → entries_from (Some (items_view vs)) ≡ points_from [] (items_view vs)
+few [] s h = absurd (omega arith)
+few (v ∷ vs) s h = choose_not 32 (count_of (items_view (v ∷ vs))) (length (v ∷ vs)) (λ n. Err (fault.TooMany n)) _ (count_of-items_view (v ∷ vs)) h

@@ -1,0 +1,37 @@
+// Why a machine file is refused.
+use dvs_base::Short;
+
+/// What a machine file names: its two settings, its array of points, an entry of it, or a key of an entry.
+#[derive(Clone, Copy, Debug, PartialEq, Eq)]
+pub enum MachineField {
+    Idle,
+    Charge,
+    Point,
+    Entry,
+    Speed,
+    Millivolts,
+}
+
+/// The first thing that a machine file has wrong. Places count from 1, and place 0 is the document itself.
+#[derive(Drop)]
+pub enum MachineFault {
+    /// The bytes are no TOML document.
+    NotToml,
+    /// A key that has no meaning: the least of them in order of bytes.
+    UnknownKey { place: u32, key: Short },
+    /// The array of points is missing or empty.
+    NoPoints,
+    /// There are more than 32 points.
+    TooMany { count: u64 },
+    /// A point lacks this key.
+    Missing { place: u32, field: MachineField },
+    /// A value of another kind stands there.
+    Kind { place: u32, field: MachineField },
+    /// A number is outside its limits: `idle` 0 to 1000, `charge` 0 to 1000000, a speed 1 to 1000000, a voltage 1 to
+    /// 20000 millivolts.
+    Range { place: u32, field: MachineField },
+    /// The speed is not above that of the point before, or the voltage is below it.
+    NotRising { place: u32 },
+    /// Memory ran out, which says nothing of the file.
+    NoMemory,
+}

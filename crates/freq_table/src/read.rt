@@ -1,0 +1,179 @@
+// A machine file, read by its table.
+ghost use Rattle.std.specs.Prelude.{codes, ◌≡◌, ◌≤◌, ◌<◌, [], Some, length, IfOk, vec_len};
+ghost use Rattle.std.specs.Option.{option_copied};
+ghost use Rattle.toml.specs.Data.{get_member};
+ghost use Rattle.toml.specs.View.{view, table_view, items_view};
+ghost use Rattle.toml_tree.specs.Tree.{number_at, IsUnlessMemory};
+ghost use Rattle.freq_table.specs.Tables.{IsPoint};
+ghost use Rattle.freq_table.specs.Limits.{ArePoints};
+ghost use Rattle.freq_table.specs.MachineFile.{fault_at, at_field, setting_at, point_of_members, point_of, may_follow, last_of, points_from, entries_from, points_at, table_of_document, machine_file};
+
+use crate::fault::{MachineFault, MachineField};
+use crate::machine::{Machine, Point};
+use std::alloc::Global;
+use toml::{Table, Value};
+use toml_tree::{DocumentFault, MemberFault, member_at, number_at, read_document, unknown_key};
+
+fn fault_at(place: u32, field: MachineField, fault: MemberFault) -> MachineFault
+    ensures { result ≡ fault_at place field fault }
+{
+    match fault {
+        MemberFault::Missing => MachineFault::Missing { place, field },
+        MemberFault::Kind => MachineFault::Kind { place, field },
+        MemberFault::Range => MachineFault::Range { place, field },
+    }
+}
+
+fn read_setting(
+    field: MachineField,
+    key: &str,
+    most: u64,
+    table: &Table,
+) -> Result<u64, MachineFault>
+    ensures meaning { result ≡ setting_at field most (get_member key.now (table_view table.now)) }
+    ensures limit { IfOk result (λ n. n ≤ most) }
+{
+    match number_at(table, key, 0, most) {
+        Ok(n) => Ok(n),
+        Err(MemberFault::Missing) => Ok(0),
+        Err(fault) => Err(fault_at(0, field, fault)),
+    }
+}
+
+fn read_number(
+    place: u32,
+    field: MachineField,
+    key: &str,
+    most: u64,
+    table: &Table,
+) -> Result<u64, MachineFault>
+    ensures meaning { result ≡ at_field place field (number_at 1 most (get_member key.now (table_view table.now))) }
+    ensures limits { IfOk result (λ n. (1 ≤ n) × (n ≤ most)) }
+{
+    match number_at(table, key, 1, most) {
+        Ok(n) => Ok(n),
+        Err(fault) => Err(fault_at(place, field, fault)),
+    }
+}
+
+fn read_members(place: u32, table: &Table) -> Result<Point, MachineFault>
+    ensures meaning { result ≡ point_of_members place (table_view table.now) }
+    ensures limits { IfOk result (λ x. IsPoint x) }
+{
+    if let Some(key) = unknown_key(table, &["speed", "millivolts"]) {
+        return Err(MachineFault::UnknownKey { place, key });
+    }
+    let speed = read_number(place, MachineField::Speed, "speed", 1_000_000, table)?;
+    let millivolts = read_number(place, MachineField::Millivolts, "millivolts", 20_000, table)?;
+    Ok(Point { speed, millivolts })
+}
+
+fn read_point(place: u32, value: &Value) -> Result<Point, MachineFault>
+    ensures meaning { result ≡ point_of place (view value.now) }
+    ensures limits { IfOk result (λ x. IsPoint x) }
+{
+    match value.as_table() {
+        Some(table) => read_members(place, table),
+        None => Err(MachineFault::Kind {
+            place,
+            field: MachineField::Entry,
+        }),
+    }
+}
+
+// The point may stand after these.
+fn may_follow(points: &[Point], x: Point) -> bool
+    ensures { result ≡ may_follow (last_of points.now) x }
+{
+    match points.last() {
+        Some(before) => before.speed < x.speed && before.millivolts <= x.millivolts,
+        None => true,
+    }
+}
+
+// The points of the entries, which are few.
+fn read_entries(alloc: Global, entries: &[Value]) -> Result<Vec<Point>, MachineFault>
+    requires { length entries.now ≤ 32 }
+    ensures meaning { IsUnlessMemory MachineFault.NoMemory (λ v. v.items) result (points_from [] (items_view entries.now)) }
+    ensures limits { IfOk result (λ v. ArePoints v.items) }
+    ensures count { IfOk result (λ v. vec_len v ≡ length entries.now) }
+{
+    let mut points: Vec<Point> = Vec::new(alloc);
+    for entry in entries {
+        let place = points.len() as u32 + 1;
+        let point = read_point(place, entry)?;
+        if !may_follow(&points, point) {
+            return Err(MachineFault::NotRising { place });
+        }
+        if points.push(point).is_err() {
+            return Err(MachineFault::NoMemory);
+        }
+    }
+    Ok(points)
+}
+
+fn read_array(alloc: Global, entries: &[Value]) -> Result<Vec<Point>, MachineFault>
+    ensures meaning { IsUnlessMemory MachineFault.NoMemory (λ v. v.items) result (entries_from (Some (items_view entries.now))) }
+    ensures limits { IfOk result (λ v. ArePoints v.items) }
+    ensures some { IfOk result (λ v. 1 ≤ vec_len v) }
+    ensures few { IfOk result (λ v. vec_len v ≤ 32) }
+{
+    if entries.is_empty() {
+        return Err(MachineFault::NoPoints);
+    }
+    if entries.len() > 32 {
+        return Err(MachineFault::TooMany {
+            count: entries.len() as u64,
+        });
+    }
+    read_entries(alloc, entries)
+}
+
+fn read_points(alloc: Global, table: &Table) -> Result<Vec<Point>, MachineFault>
+    ensures meaning { IsUnlessMemory MachineFault.NoMemory (λ v. v.items) result (points_at (get_member (codes "point") (table_view table.now))) }
+    ensures limits { IfOk result (λ v. ArePoints v.items) }
+    ensures some { IfOk result (λ v. 1 ≤ vec_len v) }
+    ensures few { IfOk result (λ v. vec_len v ≤ 32) }
+{
+    let value = match member_at(table, "point") {
+        Some(value) => value,
+        None => return Err(MachineFault::NoPoints),
+    };
+    match value.as_array() {
+        Some(entries) => read_array(alloc, entries),
+        None => Err(MachineFault::Kind {
+            place: 0,
+            field: MachineField::Point,
+        }),
+    }
+}
+
+fn read_table(alloc: Global, table: &Table) -> Result<Machine, MachineFault>
+    ensures { IsUnlessMemory MachineFault.NoMemory (λ m. m) result (table_of_document (Some (table_view table.now))) }
+{
+    if let Some(key) = unknown_key(table, &["charge", "idle", "point"]) {
+        return Err(MachineFault::UnknownKey { place: 0, key });
+    }
+    let idle = read_setting(MachineField::Idle, "idle", 1000, table)?;
+    let charge = read_setting(MachineField::Charge, "charge", 1_000_000, table)?;
+    match read_points(alloc, table) {
+        Ok(points) => Ok(Machine::from_points(points, idle, charge)),
+        Err(fault) => Err(fault),
+    }
+}
+
+impl Machine {
+    /// The machine of the file: an array of tables under the key `point`, each with a `speed` in work units per tick
+    /// and its `millivolts`, and beside it the numbers `idle` and `charge`, which are 0 where they are absent. Else the
+    /// file's first refusal, unless memory runs out.
+    pub fn read(alloc: Global, bytes: &[u8]) -> Result<Machine, MachineFault>
+        ensures { IsUnlessMemory MachineFault.NoMemory (λ m. m) result (machine_file bytes.now) }
+    {
+        let table = match read_document(alloc, bytes) {
+            Ok(table) => table,
+            Err(DocumentFault::NotToml) => return Err(MachineFault::NotToml),
+            Err(DocumentFault::NoMemory) => return Err(MachineFault::NoMemory),
+        };
+        read_table(alloc, &table)
+    }
+}
