@@ -1,9 +1,10 @@
 -- The state before the first release.
-use Rattle.std.proofs.Common.{◌≡◌, ℕ, ◌<◌, List, ap, sym, ◌∙◌, arith}
+use Rattle.std.proofs.Common.{◌≡◌, ℕ, ◌<◌, ◌≤◌, ◌^◌, List, ap, sym, ◌∙◌, arith}
 use Rattle.grid_fraction.specs.Numbers.{list_below}
 use Rattle.sched_model.specs.declared.state.Row.{Row}
-use Rattle.sched_model.specs.Plan.{Plan, count, worst}
-use Rattle.sched_model.specs.States.{StateOf, no_row, opening, opening_row, IsStateOf}
+use Rattle.sched_model.specs.Plan.{Plan, count, period, worst}
+use Rattle.sched_model.specs.States.{StateOf, no_row, row_at, opening, opening_row, IsStateOf, CanRelease}
+use Rattle.sched_model.specs.Admission.{IsWithinLimits}
 use Rattle.sched_model.proofs.ScheduleLemmas.{length-list_below}
 use Rattle.sched_model.proofs.Tables.{get-table}
 
@@ -27,4 +28,18 @@ opening_by p n rows base all r b =
       rows = (r ∙ ap (λ m. list_below m (λ i. opening_row (worst p i))) all) j;
       base_at = 0;
       base = (b ∙ ap (λ m. list_below m (λ i. 0)) all) j;
+    }
+
+-- each task's first job may be released from it
+pub opening-can_release : (p : Plan) → IsWithinLimits p → (i : ℕ) → i < count p → CanRelease p (opening p) i
+opening-can_release p lim i lt =
+    let row : row_at (opening p) i ≡ opening_row (worst p i) = get-table (count p) (λ k. opening_row (worst p k)) i no_row lt in
+    let period_low : period p i ≤ 2 ^ 40 = (lim.tasks.each i lt).low_period in
+    record {
+      task = omega (arith, length-list_below (count p) (λ k. opening_row (worst p k)));
+      below = lt;
+      done = ap (λ r. r.done) row;
+      due = ap (λ r. r.deadline) row;
+      deadline_fits = rw row (omega (arith, period_low));
+      job_fits = rw row (omega arith);
     }
