@@ -83,12 +83,12 @@ module _ {L : Type 0} (heard balked : L → Note → L → Type 0) (demand : Pla
         → now ≡ (completed || whole)
         → HasHeard heard to (entering_notes p st from e (Held i row.job) pen) next
         → st' ≡ served st i share whole
-        → pen' ≡ entered p e (Held i row.job) share pen
+        → pen' ≡ entered p st e (Held i row.job) share pen
         → AtWork next (rest - share) now st' pen'
     turned next i share whole now st' pen' row is pos u =
-        subst (λ (r : Row). share ≡ min rest (dem i r.job - r.used) → whole ≡ nat_eq share (dem i r.job - r.used) → now ≡ (completed || whole) → HasHeard heard to (entering_notes p st from e (Held i r.job) pen) next → st' ≡ served st i share whole → pen' ≡ entered p e (Held i r.job) share pen → AtWork next (rest - share) now st' pen') (sym is)
-        (subst (λ f. share ≡ min rest (dem i (row_at st i).job - (row_at st i).used) → whole ≡ nat_eq share (dem i (row_at st i).job - (row_at st i).used) → now ≡ (completed || whole) → HasHeard heard to (entering_notes p st f e (Held i (row_at st i).job) pen) next → st' ≡ served st i share whole → pen' ≡ entered p e (Held i (row_at st i).job) share pen → AtWork next (rest - share) now st' pen') (sym at.from_is)
-        (subst (λ m. share ≡ min rest (dem i (row_at st i).job - (row_at st i).used) → whole ≡ nat_eq share (dem i (row_at st i).job - (row_at st i).used) → now ≡ (completed || whole) → HasHeard heard to (entering_notes p st (length s0.past) m (Held i (row_at st i).job) pen) next → st' ≡ served st i share whole → pen' ≡ entered p m (Held i (row_at st i).job) share pen → AtWork next (rest - share) now st' pen') (sym at.entry_is)
+        subst (λ (r : Row). share ≡ min rest (dem i r.job - r.used) → whole ≡ nat_eq share (dem i r.job - r.used) → now ≡ (completed || whole) → HasHeard heard to (entering_notes p st from e (Held i r.job) pen) next → st' ≡ served st i share whole → pen' ≡ entered p st e (Held i r.job) share pen → AtWork next (rest - share) now st' pen') (sym is)
+        (subst (λ f. share ≡ min rest (dem i (row_at st i).job - (row_at st i).used) → whole ≡ nat_eq share (dem i (row_at st i).job - (row_at st i).used) → now ≡ (completed || whole) → HasHeard heard to (entering_notes p st f e (Held i (row_at st i).job) pen) next → st' ≡ served st i share whole → pen' ≡ entered p st e (Held i (row_at st i).job) share pen → AtWork next (rest - share) now st' pen') (sym at.from_is)
+        (subst (λ m. share ≡ min rest (dem i (row_at st i).job - (row_at st i).used) → whole ≡ nat_eq share (dem i (row_at st i).job - (row_at st i).used) → now ≡ (completed || whole) → HasHeard heard to (entering_notes p st (length s0.past) m (Held i (row_at st i).job) pen) next → st' ≡ served st i share whole → pen' ≡ entered p st m (Held i (row_at st i).job) share pen → AtWork next (rest - share) now st' pen') (sym at.entry_is)
         (λ se we ne tells sis pis. subst (λ q. AtWork next (rest - share) now st' q) (sym pis)
         (working-turn heard balked p dem ask past adm within s0 to0 to next rest i share completed whole now st st' pen w pos u se we ne tells sis))))
 
@@ -113,10 +113,10 @@ module _ {L : Type 0} (heard balked : L → Note → L → Type 0) (demand : Pla
     abbrev pub HasIdled : L → Pen → Type 0
     HasIdled next pen' = Idled heard balked p dem ask past adm within s0 to0 next w.given rest pen'
 
-    pub idled : (next : L) (pen' : Pen) → 0 < rest → HasHeard heard to (entering_notes p st from e Nobody pen) next → pen' ≡ entered p e Nobody rest pen → HasIdled next pen'
+    pub idled : (next : L) (pen' : Pen) → 0 < rest → HasHeard heard to (entering_notes p st from e Nobody pen) next → pen' ≡ entered p st e Nobody rest pen → HasIdled next pen'
     idled next pen' pos =
-        subst (λ f. HasHeard heard to (entering_notes p st f e Nobody pen) next → pen' ≡ entered p e Nobody rest pen → HasIdled next pen') (sym at.from_is)
-        (subst (λ m. HasHeard heard to (entering_notes p st (length s0.past) m Nobody pen) next → pen' ≡ entered p m Nobody rest pen → HasIdled next pen') (sym at.entry_is)
+        subst (λ f. HasHeard heard to (entering_notes p st f e Nobody pen) next → pen' ≡ entered p st e Nobody rest pen → HasIdled next pen') (sym at.from_is)
+        (subst (λ m. HasHeard heard to (entering_notes p st (length s0.past) m Nobody pen) next → pen' ≡ entered p st m Nobody rest pen → HasIdled next pen') (sym at.entry_is)
         (λ tells pis. subst (λ q. HasIdled next q) (sym pis) (working-idle heard balked p dem ask past adm within s0 to0 to next rest completed st pen w pos tells)))
 
     pub full : rest ≡ 0 → HasIdled to pen

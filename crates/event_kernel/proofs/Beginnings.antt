@@ -116,7 +116,7 @@ unit-begins p dem ask s h =
     last = (last_of (pieces_of s.units)).units
 
     pen : Pen
-    pen = record { holder = (last_of (pieces_of s.units)).holder; start = length s.units - last; units = last; run = 0; idle = 0 }
+    pen = record { holder = (last_of (pieces_of s.units)).holder; start = length s.units - last; units = last; run = 0; idle = 0; counts = record { released = 0; finished = 0; decisions = 0 } }
 
     last-le : last ≤ length s.units
     last-le = go (split_last (pieces_of s.units))

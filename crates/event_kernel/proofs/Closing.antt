@@ -1,8 +1,8 @@
 -- The end of a span, as its function tells it.
-use Rattle.std.proofs.Common.{◌≡◌, ℕ, ◌+◌, ◌-◌, ◌<◌, ◌≤◌, ◌^◌, true, List, [], ◌∷◌, ◌++◌, length, refl, arith, ap, ◌∙◌, sym, subst, ◌⊎◌, inl, inr}
+use Rattle.std.proofs.Common.{◌≡◌, ℕ, ◌+◌, ◌-◌, ◌<◌, ◌≤◌, ◌^◌, true, List, [], ◌∷◌, ◌++◌, length, refl, arith, ap, ◌∙◌, sym, subst, ◌⊎◌, inl, inr, ap₂, if◌then◌else◌}
 use Rattle.std.proofs.lemmas.Bool.{cases_lt}
 use Rattle.std.specs.Prelude.{sum_by}
-use Rattle.std.proofs.lemmas.List.Sums.{sum_by_push}
+use Rattle.std.proofs.lemmas.List.Sums.{sum_by_push, sum_by-append, sum_by-cons}
 use Rattle.grid_fraction.specs.declared.Frac.{Frac}
 use Rattle.dvs_base.specs.declared.note.Note.{Note}
 use Rattle.dvs_base.specs.declared.note.Note.TheVariants.{End}
@@ -13,6 +13,10 @@ use Rattle.sched_model.specs.Schedule.{schedule_by}
 use Rattle.sched_model.specs.Notes.{all_release_notes, notes_before_end, notes_of, energy_run, energy_idle}
 use Rattle.sched_model.specs.States.{prior_state, StateOf, state_of}
 use Rattle.event_kernel.specs.declared.pen.Pen.{Pen}
+use Rattle.event_kernel.specs.declared.pen.Counts.{Counts}
+use Rattle.event_kernel.specs.Counts.{counts_of}
+use Rattle.dvs_base.specs.declared.note.Totals.{Totals}
+use Rattle.sched_model.specs.Totals.{totals_of, is_released, is_finished, is_decided}
 use Rattle.event_kernel.specs.Heard.{HasHeard, HasBalked}
 use Rattle.governor.specs.Schedule.{ask_of, course}
 use Rattle.event_kernel.specs.Pens.{CanTell}
@@ -61,7 +65,7 @@ module _ {L : Type 0} (heard balked : L → Note → L → Type 0) (demand : Pla
   notes : told_before demand p dem s.now ≡ told_after demand p dem (s.now - 1) ++ ended_notes p s t0 e pen
   notes = ap (told_before demand p dem) (sym next) ∙ closing-notes demand p dem adm ticks t0 (s.now - 1) e s pen h early from_is
 
-  pub close-between : (pen' : Pen) → pen' ≡ ended_pen p e pen → IsBetween demand p dem ticks s.now s pen'
+  pub close-between : (pen' : Pen) → pen' ≡ ended_pen p s e pen → IsBetween demand p dem ticks s.now s pen'
   close-between pen' pe = subst (λ n. IsBetween demand p dem ticks n s pen') next (closing-between demand p dem adm ticks t0 (s.now - 1) e s pen h early from_is pen' pe)
 
   pub close-later : t0 < s.now
@@ -79,14 +83,21 @@ module _ {L : Type 0} (heard balked : L → Note → L → Type 0) (demand : Pla
       (before-begins demand p dem ticks s.now close-limit (λ lt. subst (λ n. is_decision p dem (course demand p dem n) ≡ true) next (h.decision (omega (arith, lt, next)))))
       (subst (λ ns. HasBalked heard balked a ns to) (sym notes) (balked_after heard balked (told_after demand p dem (s.now - 1)) (ended_notes p s t0 e pen) a mid to x y))
 
+abbrev pub totals_by : ℕ → ℕ → ℕ → ℕ → ℕ → Totals
+totals_by a b c d e = record { run = a; idle = b; released = c; finished = d; decisions = e }
+
+totals-same : (a a' b b' c c' d d' e e' : ℕ) → a ≡ a' → b ≡ b' → c ≡ c' → d ≡ d' → e ≡ e' → totals_by a b c d e ≡ totals_by a' b' c' d' e'
+totals-same a a' b b' c c' d d' e e' p q r s t =
+    ap₂ (λ x y. totals_by x y c d e) p q ∙ (ap₂ (λ x y. totals_by a' b' x y e) r s ∙ ap (λ x. totals_by a' b' c' d' x) t)
+
 -- all notes of a schedule
 module _ {L : Type 0} (heard balked : L → Note → L → Type 0) (demand : Plan → StateOf → Frac) (p : Plan) (dem : ℕ → ℕ → ℕ) (ticks : ℕ) where
   abbrev pub all_notes : List Note
   all_notes = notes_of p dem (ask_of demand p dem) (course demand p dem ticks)
 
-  pub first-between : (s : StateOf) (pen : Pen) → s ≡ prior_state p dem [] → pen.run ≡ 0 → pen.idle ≡ 0 → IsBetween demand p dem ticks s.now s pen × (s.now ≡ 0)
+  pub first-between : (s : StateOf) (pen : Pen) → s ≡ prior_state p dem [] → pen.run ≡ 0 → pen.idle ≡ 0 → pen.counts ≡ record { released = 0; finished = 0; decisions = 0 } → IsBetween demand p dem ticks s.now s pen × (s.now ≡ 0)
   unfolding schedule_by notes_before_end
-  first-between s pen e r i =
+  first-between s pen e r i c =
       let now : s.now ≡ 0 = ap (λ (v : StateOf). v.now) e in
       (
         subst (λ n. IsBetween demand p dem ticks n s pen) (sym now) (record {
@@ -95,6 +106,10 @@ module _ {L : Type 0} (heard balked : L → Note → L → Type 0) (demand : Pla
           money = omega (arith, r, i);
           run = r;
           idle = i;
+          counts = c;
+          few_released = omega (arith, ap (λ (x : Counts). x.released) c);
+          few_finished = omega (arith, ap (λ (x : Counts). x.finished) c);
+          few_decisions = omega (arith, ap (λ (x : Counts). x.decisions) c);
         }),
         now,
       )
@@ -124,3 +139,27 @@ module _ {L : Type 0} (heard balked : L → Note → L → Type 0) (demand : Pla
   pub before-balked : (a to : L) → HasBalked heard balked a (told_before demand p dem ticks) to → HasBalked heard balked a all_notes to
   before-balked a to b =
       balked-append heard balked (told_before demand p dem ticks) (End (length (course demand p dem ticks)) (sum_by energy_run (told_before demand p dem ticks)) (sum_by energy_idle (told_before demand p dem ticks)) ∷ []) a to b
+
+  -- the totals are those of all notes
+  sum-end : (f : Note → ℕ) → f (End (length (course demand p dem ticks)) (sum_by energy_run (told_before demand p dem ticks)) (sum_by energy_idle (told_before demand p dem ticks))) ≡ 0
+      → sum_by f (told_before demand p dem ticks) ≡ sum_by f all_notes
+  sum-end f none =
+      sym (sum_by-append f (told_before demand p dem ticks) (last_note ∷ []) ∙ (ap (λ n. sum_by f (told_before demand p dem ticks) + n) one ∙ omega arith))
+    where
+      last_note : Note
+      last_note = End (length (course demand p dem ticks)) (sum_by energy_run (told_before demand p dem ticks)) (sum_by energy_idle (told_before demand p dem ticks))
+
+      one : sum_by f (last_note ∷ []) ≡ 0
+      one = omega (arith, sum_by-cons f last_note [], none)
+
+  pub end-totals : (t : ℕ) (s : StateOf) (pen : Pen) → IsBetween demand p dem ticks t s pen → t ≡ ticks
+      → totals_by pen.run pen.idle pen.counts.released pen.counts.finished pen.counts.decisions ≡ totals_of all_notes
+  end-totals t s pen b e =
+      let told : told_before demand p dem t ≡ told_before demand p dem ticks = ap (told_before demand p dem) e in
+      let counts : pen.counts ≡ counts_of (told_before demand p dem ticks) = b.counts ∙ ap counts_of told in
+      totals-same _ _ _ _ _ _ _ _ _ _
+      (b.run ∙ (ap (sum_by energy_run) told ∙ sum-end energy_run refl))
+      (b.idle ∙ (ap (sum_by energy_idle) told ∙ sum-end energy_idle refl))
+      (ap (λ (c : Counts). c.released) counts ∙ sum-end (λ n. if is_released n then 1 else 0) refl)
+      (ap (λ (c : Counts). c.finished) counts ∙ sum-end (λ n. if is_finished n then 1 else 0) refl)
+      (ap (λ (c : Counts). c.decisions) counts ∙ sum-end (λ n. if is_decided n then 1 else 0) refl)

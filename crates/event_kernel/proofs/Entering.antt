@@ -19,7 +19,9 @@ use Rattle.sched_model.specs.Notes.{had_by, segment_notes, pieces_notes, notes_b
 use Rattle.sched_model.specs.States.{row_at, StateOf}
 use Rattle.sched_model.proofs.PieceLemmas.{piece, same_holder-eq, same_holder-refl, pieces_of-run}
 use Rattle.event_kernel.specs.declared.pen.Pen.{Pen}
-use Rattle.event_kernel.specs.Pens.{closed, last_of, grown, head_notes, open_notes, holder_notes, pen_notes, run_part, idle_part, told_pen, is_turn, with_units, entered, entering_notes, cost, CanTell, HeldIn}
+use Rattle.event_kernel.specs.Pens.{closed, last_of, grown, head_notes, open_notes, holder_notes, pen_notes, run_part, idle_part, ended_part, told_pen, is_turn, with_units, entered, entering_notes, cost, CanTell, HeldIn}
+use Rattle.event_kernel.specs.Counts.{counts_of, counted}
+use Rattle.event_kernel.proofs.Tallying.{counts_by, counts-append, counted-none, counted-holder, ended-most}
 use Rattle.event_kernel.specs.Writing.{HeldNow, Writing}
 use Rattle.event_kernel.proofs.Pieces.{split_last, closed-snoc, last-snoc, pieces_of-more, pieces_of-other, have_units, HaveUnits, have-last, total, total-pieces, total-append, no_pieces, pieces_notes-append, segment_notes-grown, pieces_notes-grown}
 
@@ -214,7 +216,7 @@ module _ (p : Plan) (dem : ℕ → ℕ → ℕ) (ask : List Tick → Frac) (t : 
   pub enters : Bounds p → (s : Span) (used used' : ℕ → ℕ) (most : ℕ) (st : StateOf) (h : Holder) (n : ℕ) (pen : Pen) → 0 < n → Writing p dem ask t s used most pen → Shows p dem t st used
       → HeldNow p t h
       → ((i : ℕ) → i < count p → used i + count_by (same_holder (Held i (latest p i t))) (replicate n h) ≡ used' i)
-      → Writing p dem ask t (grown s (replicate n h)) used' (most + n) (entered p s.entry h n pen)
+      → Writing p dem ask t (grown s (replicate n h)) used' (most + n) (entered p st s.entry h n pen)
   enters adm s used used' most st h n pen some w shows now more =
       let g = grows s h n pen some w.units w.holder w.place in
       by_turn g.0 g.1
@@ -251,8 +253,26 @@ module _ (p : Plan) (dem : ℕ → ℕ → ℕ) (ask : List Tick → Frac) (t : 
           go true = notes-idle p st (position_of (length s.past) ((point p s.entry).speed)) s.entry pen.start pen.units pen.holder
           go false = refl
 
-      by_turn : (b : Bool) → Grows s h n pen b → Writing p dem ask t (grown s (replicate n h)) used' (most + n) (entered p s.entry h n pen)
-      by_turn true g = subst (λ b. Writing p dem ask t (grown s (replicate n h)) used' (most + n) (with_units h n (if b then told_pen p s.entry pen else pen))) (sym g.is) (record {
+      tally : (b : Bool) → is_turn pen h ≡ b → counts_of (open_notes p dem ask (grown s (replicate n h))) ≡ (if b then counts_by pen.counts.released (pen.counts.finished + ended_part st pen.holder) pen.counts.decisions else pen.counts)
+      tally b e =
+          ap counts_of notes
+          ∙ (counts-append (open_notes p dem ask s) (entering_notes p st (length s.past) s.entry h pen)
+          ∙ (ap (λ c. counted c (entering_notes p st (length s.past) s.entry h pen)) (sym w.counts)
+          ∙ (ap (λ c. counted pen.counts (if c then pen_notes p st (length s.past) s.entry pen else [])) e ∙ go b)))
+        where
+          go : (b : Bool) → counted pen.counts (if b then pen_notes p st (length s.past) s.entry pen else []) ≡ (if b then counts_by pen.counts.released (pen.counts.finished + ended_part st pen.holder) pen.counts.decisions else pen.counts)
+          go true = counted-holder p st (position_of (length s.past) ((point p s.entry).speed)) s.entry pen.start pen.units pen.holder pen.counts
+          go false = counted-none pen.counts
+
+      some_turn : is_turn pen h ≡ true → 0 < pen.units
+      some_turn e = go (nat_lt 0 pen.units) refl
+        where
+          go : (b : Bool) → nat_lt 0 pen.units ≡ b → 0 < pen.units
+          go true f = grind (arith, nat_tests)
+          go false f = absurd (true≢false (sym e ∙ ap (λ b. b && not (same_holder pen.holder h)) f))
+
+      by_turn : (b : Bool) → Grows s h n pen b → Writing p dem ask t (grown s (replicate n h)) used' (most + n) (entered p st s.entry h n pen)
+      by_turn true g = subst (λ b. Writing p dem ask t (grown s (replicate n h)) used' (most + n) (with_units h n (if b then told_pen p st s.entry pen else pen))) (sym g.is) (record {
         units = sym (ap (λ (x : Piece). x.units) g.last);
         holder = sym (ap (λ (x : Piece). x.holder) g.last);
         place = omega (arith, w.place, long);
@@ -262,8 +282,12 @@ module _ (p : Plan) (dem : ℕ → ℕ → ℕ) (ask : List Tick → Frac) (t : 
         money = omega (arith, w.money, parts-most p adm s.entry pen.units pen.holder);
         run = sym (runs true g.is);
         idle = sym (idles true g.is);
+        counts = sym (tally true g.is);
+        few_released = w.few_released;
+        few_finished = omega (arith, w.few_finished, ended-most st pen.holder, some_turn g.is);
+        few_decisions = w.few_decisions;
       })
-      by_turn false g = subst (λ b. Writing p dem ask t (grown s (replicate n h)) used' (most + n) (with_units h n (if b then told_pen p s.entry pen else pen))) (sym g.is) (record {
+      by_turn false g = subst (λ b. Writing p dem ask t (grown s (replicate n h)) used' (most + n) (with_units h n (if b then told_pen p st s.entry pen else pen))) (sym g.is) (record {
         units = sym (ap (λ (x : Piece). x.units) g.last);
         holder = sym (ap (λ (x : Piece). x.holder) g.last);
         place = omega (arith, w.place, long);
@@ -273,4 +297,8 @@ module _ (p : Plan) (dem : ℕ → ℕ → ℕ) (ask : List Tick → Frac) (t : 
         money = omega (arith, w.money);
         run = omega (arith, runs false g.is);
         idle = omega (arith, idles false g.is);
+        counts = sym (tally false g.is);
+        few_released = w.few_released;
+        few_finished = omega (arith, w.few_finished);
+        few_decisions = w.few_decisions;
       })

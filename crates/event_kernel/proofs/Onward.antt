@@ -38,7 +38,7 @@ module _ {L : Type 0} (heard balked : L → Note → L → Type 0) (demand : Pla
   abbrev pub the_note : ℕ → Note
   the_note t = speed_note p t (demand p (state_of p dem (course demand p dem t)))
 
-  note-is : (t : ℕ) (s : StateOf) → s ≡ state_of p dem (course demand p dem t) → speed_note p s.now (demand p s) ≡ the_note t
+  pub note-is : (t : ℕ) (s : StateOf) → s ≡ state_of p dem (course demand p dem t) → speed_note p s.now (demand p s) ≡ the_note t
   note-is t s e = ap (λ (v : StateOf). speed_note p v.now (demand p v)) e ∙ ap (λ n. speed_note p n (demand p (state_of p dem (course demand p dem t)))) (course-len demand p dem t)
 
   pub in-begins : (t : ℕ) → t < ticks → Begins (told_in demand p dem t) (told_before demand p dem ticks)

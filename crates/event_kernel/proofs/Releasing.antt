@@ -20,6 +20,9 @@ use Rattle.sched_model.specs.States.{no_row, row_at, row_wleft, prior_row, prior
 use Rattle.sched_model.proofs.ScheduleLemmas.{length-list_below, schedule_exists}
 use Rattle.sched_model.proofs.Tables.{get-table, table-same, set-table}
 use Rattle.sched_model.proofs.Joining.{next_job, due_released, row-opened, row-kept, state-marked, state-unmarked}
+use Rattle.event_kernel.specs.declared.pen.Pen.{Pen}
+use Rattle.event_kernel.specs.Pens.{with_notes, HasRoom}
+use Rattle.event_kernel.proofs.Tallying.{with-append, with-none, few-released, few-finished}
 use Rattle.event_kernel.specs.Heard.{HasHeard, HasBalked}
 use Rattle.governor.specs.Schedule.{ask_of, course}
 use Rattle.event_kernel.specs.Boundary.{opened_row, opened, opening_notes, IsAtBoundary}
@@ -128,6 +131,15 @@ module _ (p : Plan) (dem : ℕ → ℕ → ℕ) (past : List Tick) where
       ∙ (flat_map-append (release_notes p dem (length past)) (upto m) (m ∷ [])
       ∙ ap (λ ns. notes_upto m ++ ns) (append-nil (release_notes p dem (length past) m)))
 
+  pub start-pen : (pen : Pen) → pen ≡ with_notes pen (notes_upto 0)
+  start-pen pen = sym (with-none pen)
+
+  pub has-room : (m : ℕ) (pen0 pen : Pen) → m ≤ 64 → HasRoom (2 ^ 62) pen0.counts → pen ≡ with_notes pen0 (notes_upto m) → HasRoom (2 ^ 63) pen.counts
+  has-room m pen0 pen le room is = subst (λ (q : Pen). HasRoom (2 ^ 63) q.counts) (sym is) (record {
+    released = omega (arith, room.released, le, few-released p dem (length past) m);
+    finished = omega (arith, room.finished, le, few-finished p dem (length past) m);
+  })
+
   module _ (periods : (i : ℕ) → 0 < period p i) {L : Type 0} (heard balked : L → Note → L → Type 0) (from : L) where
     pub row-there : (m : ℕ) (any : Bool) (st : StateOf) (to : L) → Releasing heard m any st from to → m < count p → row_at st m ≡ prior_row p dem past m
     row-there m any st to r lt = ap (λ (s : StateOf). row_at s m) r.state ∙ (get-table (count p) (mixed m) m no_row lt ∙ mixed-here m)
@@ -154,6 +166,14 @@ module _ (p : Plan) (dem : ℕ → ℕ → ℕ) (past : List Tick) where
             let is : m ≡ i = grind (arith, nat_tests) in
             subst (λ k. mixed m k ≡ mixed (m + 1) k) is (mixed-here m ∙ (sym (row-kept p dem periods past m not_due) ∙ sym (mixed-done m)))
         same i false e not_due = sym (mixed-other m i (grind (arith, nat_tests)))
+
+    pub passed-notes : (m : ℕ) (any : Bool) (st : StateOf) (to : L) → Releasing heard m any st from to → m < count p → nat_eq (row_at st m).deadline st.now ≡ false → notes_upto (m + 1) ≡ notes_upto m
+    passed-notes m any st to r lt early =
+        let not_due : nat_eq (prior_row p dem past m).deadline (length past) ≡ false =
+        sym (ap₂ (λ a b. nat_eq a b) (ap (λ (q : Row). q.deadline) (row-there m any st to r lt)) (ap (λ (s : StateOf). s.now) r.state)) ∙ early in
+        notes-more m
+        ∙ (ap (λ b. notes_upto m ++ (if b then Release (length past) m (latest p m (length past)) ∷ (if nat_eq (dem m (latest p m (length past))) 0 then Done (record { tick = length past; offset = 0 }) m (latest p m (length past)) 0 ∷ [] else []) else [])) (due_released p dem periods past m false not_due)
+        ∙ append-nil (notes_upto m))
 
     module _ (m : ℕ) (any : Bool) (st : StateOf) (mid : L) (r : Releasing heard m any st from mid) (lt : m < count p) (due : (row_at st m).deadline ≡ st.now) where
       due_there : (prior_row p dem past m).deadline ≡ length past
@@ -182,6 +202,14 @@ module _ (p : Plan) (dem : ℕ → ℕ → ℕ) (past : List Tick) where
         where
           here : mixed (m + 1) m ≡ opened_row p dem m (row_at (mixed_state m) m)
           here = mixed-done m ∙ (row-opened p dem periods past m due_there ∙ ap (λ (q : Row). opened_row p dem m q) (sym (get-table (count p) (mixed m) m no_row lt ∙ mixed-here m)))
+
+      pub opens-pen : (pen0 pen pen' : Pen) → pen ≡ with_notes pen0 (notes_upto m) → pen' ≡ with_notes pen (opening_notes dem st m) → pen' ≡ with_notes pen0 (notes_upto (m + 1))
+      opens-pen pen0 pen pen' a b =
+          b
+          ∙ (ap (λ ns. with_notes pen ns) opening_are
+          ∙ (ap (λ q. with_notes q (release_notes p dem (length past) m)) a
+          ∙ (with-append pen0 (notes_upto m) (release_notes p dem (length past) m)
+          ∙ ap (λ ns. with_notes pen0 ns) (sym (notes-more m)))))
 
       pub opens-balked : (to : L) → HasBalked heard balked mid (opening_notes dem st m) to → HasBalked heard balked from (all_release_notes p dem (length past)) to
       opens-balked to balks =

@@ -29,7 +29,9 @@ use Rattle.grid_fraction.proofs.Searches.{any_below-false}
 use Rattle.event_kernel.specs.declared.pen.Pen.{Pen}
 use Rattle.event_kernel.specs.Heard.{HasHeard, HasBalked}
 use Rattle.governor.specs.Schedule.{ask_of, course}
-use Rattle.event_kernel.specs.Pens.{closed, last_of, grown, first_span, open_span, head_notes, open_notes, holder_notes, pen_notes, told_pen, run_part, idle_part, CanTell, HeldIn, cost}
+use Rattle.event_kernel.specs.Pens.{closed, last_of, grown, first_span, open_span, head_notes, open_notes, holder_notes, pen_notes, told_pen, run_part, idle_part, ended_part, CanTell, HeldIn, cost}
+use Rattle.event_kernel.specs.Counts.{counts_of, counted}
+use Rattle.event_kernel.proofs.Tallying.{counts_by, counts-append, counted-append, counted-none, counted-holder, ended-most, few-released, few-finished, no-decided}
 use Rattle.event_kernel.specs.Writing.{HeldNow, Writing}
 use Rattle.event_kernel.specs.Tickwork.{had_at, span_at, tick_at, whole_span, IsAtWork, HasWorked}
 use Rattle.event_kernel.specs.Boundary.{ended_pen, ended_notes, some_due, speed_note, IsAtBoundary, IsBetween}
@@ -238,11 +240,21 @@ module _ (demand : Plan → StateOf → Frac) (p : Plan) (dem : ℕ → ℕ → 
   head-idle : (s : Span) → sum_by energy_idle (head_notes p dem asks s) ≡ 0
   head-idle s = sum_by-append energy_idle (all_release_notes p dem (length s.past)) (Speed (length s.past) ((point p s.entry).speed) ((asks s.past).num) ((asks s.past).den) ∷ []) ∙ omega (arith, releases-cost energy_idle (λ t i k. refl) (λ q i k u. refl) (length s.past) (list_below (count p) (λ i. i)))
 
-  pub begins-span : (ticks t e : ℕ) (s0 s : StateOf) (pen pen' : Pen) → t < ticks → ticks ≤ 2 ^ 40 → IsWithin p dem → IsBetween demand p dem ticks t s0 pen
+  -- what the listener has heard when it begins
+  pub open-new : (t : ℕ) → is_decision p dem (course demand p dem t) ≡ true
+      → open_notes p dem asks (span_at demand p dem t) ≡ notes_before_end p dem asks (course demand p dem t) ++ (all_release_notes p dem t ++ speed_note p t (demand p (state_of p dem (course demand p dem t))) ∷ [])
+  open-new t e =
+      let fresh : Span = record { past = course demand p dem t; entry = entry_in_force p dem asks (course demand p dem t); units = [] } in
+      ap (open_notes p dem asks) (span-new t e)
+      ∙ (append-nil (notes_before_end p dem asks (course demand p dem t) ++ head_notes p dem asks fresh)
+      ∙ ap (λ ns. notes_before_end p dem asks (course demand p dem t) ++ ns)
+      (ap₂ (λ n m. all_release_notes p dem n ++ Speed n ((point p m).speed) ((asks (course demand p dem t)).num) ((asks (course demand p dem t)).den) ∷ []) (course-len demand p dem t) (force-new (course demand p dem t) e)))
+
+  pub begins-span : (ticks t e : ℕ) (s0 s : StateOf) (pen pen' : Pen) → count p ≤ 64 → t < ticks → ticks ≤ 2 ^ 40 → IsWithin p dem → IsBetween demand p dem ticks t s0 pen
       → s ≡ state_of p dem (course demand p dem t) → e ≡ lowest_entry p.machine (demand p s)
-      → pen' ≡ record { holder = Nobody; start = 0; units = 0; run = pen.run; idle = pen.idle }
+      → pen' ≡ record { holder = Nobody; start = 0; units = 0; run = pen.run; idle = pen.idle; counts = counted (counted pen.counts (all_release_notes p dem t)) (speed_note p t (demand p (state_of p dem (course demand p dem t))) ∷ []) }
       → IsInSpan demand p dem ticks t t e s pen'
-  begins-span ticks t e s0 s pen pen' lt few low b is ee pe = record {
+  begins-span ticks t e s0 s pen pen' few_tasks lt few low b is ee pe = record {
     before_end = lt;
     later = omega arith;
     work = record {
@@ -264,11 +276,23 @@ module _ (demand : Plan → StateOf → Frac) (p : Plan) (dem : ℕ → ℕ → 
             money = omega (arith, b.money);
             run = b.run ∙ sym (sums energy_run (head-run fresh));
             idle = b.idle ∙ sym (sums energy_idle (head-idle fresh));
+            counts =
+                let rel : List Note = all_release_notes p dem t in
+                let dec : List Note = speed_note p t (demand p (state_of p dem (course demand p dem t))) ∷ [] in
+                ap (λ c. counted (counted c rel) dec) b.counts
+                ∙ (counted-append (counts_of before) rel dec
+                ∙ (sym (counts-append before (rel ++ dec)) ∙ ap counts_of (sym (open-new t (b.decision lt)) ∙ ap (open_notes p dem asks) new)));
+            few_released = omega (arith, b.few_released, few-released p dem t (count p), few_tasks);
+            few_finished = omega (arith, b.few_finished, few-finished p dem t (count p), few_tasks);
+            few_decisions = omega (arith, b.few_decisions, no-decided p dem t (list_below (count p) (λ i. i)));
           }));
     };
     began = ap (λ (x : Span). x.past) new;
   }
     where
+      before : List Note
+      before = notes_before_end p dem asks (course demand p dem t)
+
       fresh : Span
       fresh = record { past = course demand p dem t; entry = entry_in_force p dem asks (course demand p dem t); units = [] }
 
@@ -285,16 +309,6 @@ module _ (demand : Plan → StateOf → Frac) (p : Plan) (dem : ℕ → ℕ → 
       sums f z =
           ap (sum_by f) (append-nil (notes_before_end p dem asks (course demand p dem t) ++ head_notes p dem asks fresh))
           ∙ (sum_by-append f (notes_before_end p dem asks (course demand p dem t)) (head_notes p dem asks fresh) ∙ omega (arith, z))
-
-  -- what the listener has heard when it begins
-  pub open-new : (t : ℕ) → is_decision p dem (course demand p dem t) ≡ true
-      → open_notes p dem asks (span_at demand p dem t) ≡ notes_before_end p dem asks (course demand p dem t) ++ (all_release_notes p dem t ++ speed_note p t (demand p (state_of p dem (course demand p dem t))) ∷ [])
-  open-new t e =
-      let fresh : Span = record { past = course demand p dem t; entry = entry_in_force p dem asks (course demand p dem t); units = [] } in
-      ap (open_notes p dem asks) (span-new t e)
-      ∙ (append-nil (notes_before_end p dem asks (course demand p dem t) ++ head_notes p dem asks fresh)
-      ∙ ap (λ ns. notes_before_end p dem asks (course demand p dem t) ++ ns)
-      (ap₂ (λ n m. all_release_notes p dem n ++ Speed n ((point p m).speed) ((asks (course demand p dem t)).num) ((asks (course demand p dem t)).den) ∷ []) (course-len demand p dem t) (force-new (course demand p dem t) e)))
 
   module _ (adm : Bounds p) where
     -- it goes on
@@ -323,6 +337,10 @@ module _ (demand : Plan → StateOf → Frac) (p : Plan) (dem : ℕ → ℕ → 
             money = h.pen_is.money;
             run = h.pen_is.run;
             idle = h.pen_is.idle;
+            counts = h.pen_is.counts;
+            few_released = omega (arith, h.pen_is.few_released);
+            few_finished = omega (arith, h.pen_is.few_finished);
+            few_decisions = omega (arith, h.pen_is.few_decisions);
           });
         };
         began = ap (λ (x : Span). x.past) on ∙ i.began;
@@ -430,6 +448,7 @@ module _ (demand : Plan → StateOf → Frac) (p : Plan) (dem : ℕ → ℕ → 
         place = omega (arith, w.place, w.few, h.later, early);
         money = omega (arith, w.money, early);
         task = held pen.holder w.taken;
+        ends = omega (arith, w.few_finished, early);
       }
         where
           rows : length s.rows ≡ count p
@@ -442,10 +461,21 @@ module _ (demand : Plan → StateOf → Frac) (p : Plan) (dem : ℕ → ℕ → 
       sum-last : (f : Note → ℕ) → sum_by f (notes_before_end p dem asks (course demand p dem (last + 1))) ≡ sum_by f (open_notes p dem asks whole) + sum_by f (ended_notes p s t0 e pen)
       sum-last f = ap (sum_by f) closing-notes ∙ sum_by-append f (open_notes p dem asks whole) (ended_notes p s t0 e pen)
 
-      pub closing-between : (pen' : Pen) → pen' ≡ ended_pen p e pen → IsBetween demand p dem ticks (last + 1) s pen'
+      pub closing-between : (pen' : Pen) → pen' ≡ ended_pen p s e pen → IsBetween demand p dem ticks (last + 1) s pen'
       closing-between pen' pe = subst (λ q. IsBetween demand p dem ticks (last + 1) s q) (sym pe) (go (nat_lt 0 pen.units) refl)
         where
-          go : (b : Bool) → nat_lt 0 pen.units ≡ b → IsBetween demand p dem ticks (last + 1) s (if b then told_pen p e pen else pen)
+          tally : (b : Bool) → nat_lt 0 pen.units ≡ b → counts_of (notes_before_end p dem asks (course demand p dem (last + 1))) ≡ (if b then counts_by pen.counts.released (pen.counts.finished + ended_part s pen.holder) pen.counts.decisions else pen.counts)
+          tally b q =
+              ap counts_of closing-notes
+              ∙ (counts-append (open_notes p dem asks whole) (ended_notes p s t0 e pen)
+              ∙ (ap (λ c. counted c (ended_notes p s t0 e pen)) (sym w.counts)
+              ∙ (ap (λ c. counted pen.counts (if c then pen_notes p s t0 e pen else [])) q ∙ part b)))
+            where
+              part : (b : Bool) → counted pen.counts (if b then pen_notes p s t0 e pen else []) ≡ (if b then counts_by pen.counts.released (pen.counts.finished + ended_part s pen.holder) pen.counts.decisions else pen.counts)
+              part true = counted-holder p s (position_of t0 ((point p e).speed)) e pen.start pen.units pen.holder pen.counts
+              part false = counted-none pen.counts
+
+          go : (b : Bool) → nat_lt 0 pen.units ≡ b → IsBetween demand p dem ticks (last + 1) s (if b then told_pen p s e pen else pen)
           go true q =
               let runs : sum_by energy_run (ended_notes p s t0 e pen) ≡ run_part p e pen.units pen.holder = ap (λ b. sum_by energy_run (if b then pen_notes p s t0 e pen else [])) q ∙ notes-run p s (position_of t0 ((point p e).speed)) e pen.start pen.units pen.holder in
               let idles : sum_by energy_idle (ended_notes p s t0 e pen) ≡ idle_part p e pen.units pen.holder = ap (λ b. sum_by energy_idle (if b then pen_notes p s t0 e pen else [])) q ∙ notes-idle p s (position_of t0 ((point p e).speed)) e pen.start pen.units pen.holder in
@@ -455,6 +485,10 @@ module _ (demand : Plan → StateOf → Frac) (p : Plan) (dem : ℕ → ℕ → 
                 money = omega (arith, w.money, parts-most p adm e pen.units pen.holder);
                 run = omega (arith, w.run, sum-last energy_run, runs);
                 idle = omega (arith, w.idle, sum-last energy_idle, idles);
+                counts = sym (tally true q);
+                few_released = w.few_released;
+                few_finished = omega (arith, w.few_finished, ended-most s pen.holder, (let some : 0 < pen.units = grind (arith, nat_tests) in some));
+                few_decisions = w.few_decisions;
               }
           go false q =
               let runs : sum_by energy_run (ended_notes p s t0 e pen) ≡ 0 = ap (λ b. sum_by energy_run (if b then pen_notes p s t0 e pen else [])) q in
@@ -465,4 +499,8 @@ module _ (demand : Plan → StateOf → Frac) (p : Plan) (dem : ℕ → ℕ → 
                 money = omega (arith, w.money);
                 run = omega (arith, w.run, sum-last energy_run, runs);
                 idle = omega (arith, w.idle, sum-last energy_idle, idles);
+                counts = sym (tally false q);
+                few_released = w.few_released;
+                few_finished = omega (arith, w.few_finished);
+                few_decisions = w.few_decisions;
               }

@@ -101,6 +101,7 @@ module _ {L : Type 0} (heard balked : L → Note → L → Type 0) (p : Plan) (d
         entry = subst (λ m. m < length p.machine.points) (sym e) (entry-in p dem ask adm.some_point past);
         place = omega (arith, w.pen_is.place, w.pen_is.few, w.hand.sum, adm.low_speed (entry_in_force p dem ask past));
         money = omega (arith, w.pen_is.money, w.hand.sum, adm.low_speed (entry_in_force p dem ask past));
+        ends = omega (arith, w.pen_is.few_finished, w.hand.sum, adm.low_speed (entry_in_force p dem ask past), early);
         task = subst (λ n. HeldIn n pen.holder) (sym (rows-long to rest completed st pen w)) (held_in pen.holder w.pen_is.taken);
       },
       omega (arith, w.pen_is.place, w.pen_is.few, w.hand.sum, adm.low_speed (entry_in_force p dem ask past)),
@@ -118,13 +119,13 @@ module _ {L : Type 0} (heard balked : L → Note → L → Type 0) (p : Plan) (d
         → now ≡ (completed || whole)
         → HasHeard heard to (entering_notes p st (length s0.past) s0.entry (Held i ((row_at st i).job)) pen) next
         → st' ≡ served st i share whole
-        → Working s0 from next (rest - share) now st' (entered p s0.entry (Held i ((row_at st i).job)) share pen)
+        → Working s0 from next (rest - share) now st' (entered p st s0.entry (Held i ((row_at st i).job)) share pen)
     working-turn to next rest i share completed whole now st st' pen w pos u se we ne tells is =
         record {
           given = raised w.given i share;
           hand = gives p dem past (speed_now p dem ask past) rest w.given completed st st' i share whole now w.hand pos within o se' we' is (ne ∙ or_if completed whole);
-          pen_is = subst (λ us. Writing p dem ask (length past) (with_list s0 us) (λ k. had p dem past k + raised w.given i share k) (1000000 * length past + sum_below (count p) (raised w.given i share)) (entered p s0.entry (Held i ((row_at st i).job)) share pen)) units
-              (subst (λ m. Writing p dem ask (length past) (grown (grown s0 (units_by p dem past w.given)) (replicate share (Held i ((row_at st i).job)))) (λ k. had p dem past k + raised w.given i share k) m (entered p s0.entry (Held i ((row_at st i).job)) share pen)) most
+          pen_is = subst (λ us. Writing p dem ask (length past) (with_list s0 us) (λ k. had p dem past k + raised w.given i share k) (1000000 * length past + sum_below (count p) (raised w.given i share)) (entered p st s0.entry (Held i ((row_at st i).job)) share pen)) units
+              (subst (λ m. Writing p dem ask (length past) (grown (grown s0 (units_by p dem past w.given)) (replicate share (Held i ((row_at st i).job)))) (λ k. had p dem past k + raised w.given i share k) m (entered p st s0.entry (Held i ((row_at st i).job)) share pen)) most
               (enters p dem ask (length past) adm (grown s0 (units_by p dem past w.given)) (λ k. had p dem past k + w.given k) (λ k. had p dem past k + raised w.given i share k) (1000000 * length past + sum_below (count p) w.given) st (Held i ((row_at st i).job)) share pen some w.pen_is sh
               (u.below, job_is)
               (λ k lt. subst (λ j. (had p dem past k + w.given k) + count_by (same_holder (Held k (job p dem past k))) (replicate share (Held i j)) ≡ had p dem past k + raised w.given i share k) (sym job_is) (gives-had p dem past w.given i share k))));
@@ -274,9 +275,9 @@ module _ {L : Type 0} (heard balked : L → Note → L → Type 0) (p : Plan) (d
 
     pub working-idle : (to next : L) (rest : ℕ) (completed : Bool) (st : StateOf) (pen : Pen) (w : Working s0 from to rest completed st pen) → 0 < rest
         → HasHeard heard to (entering_notes p st (length s0.past) s0.entry Nobody pen) next
-        → Idled next w.given rest (entered p s0.entry Nobody rest pen)
+        → Idled next w.given rest (entered p st s0.entry Nobody rest pen)
     working-idle to next rest completed st pen w some tells = record {
-      pen_is = subst (λ us. Writing p dem ask (length past) (with_list s0 us) (λ i. had p dem past i + w.given i) (1000000 * length past + sum_below (count p) w.given + rest) (entered p s0.entry Nobody rest pen)) (idle-units w.given rest)
+      pen_is = subst (λ us. Writing p dem ask (length past) (with_list s0 us) (λ i. had p dem past i + w.given i) (1000000 * length past + sum_below (count p) w.given + rest) (entered p st s0.entry Nobody rest pen)) (idle-units w.given rest)
           (enters p dem ask (length past) adm (grown s0 (units_by p dem past w.given)) (λ k. had p dem past k + w.given k) (λ k. had p dem past k + w.given k) (1000000 * length past + sum_below (count p) w.given) st Nobody rest pen some w.pen_is
           (shows p dem past within (speed_now p dem ask past) rest w.given completed st w.hand) tt
           (λ k lt. idle-had (had p dem past k + w.given k) rest k (job p dem past k)));
@@ -330,6 +331,10 @@ module _ {L : Type 0} (heard balked : L → Note → L → Type 0) (p : Plan) (d
       money = omega (arith, w.money);
       run = w.run;
       idle = w.idle;
+      counts = w.counts;
+      few_released = w.few_released;
+      few_finished = omega (arith, w.few_finished, le);
+      few_decisions = w.few_decisions;
     }
 
     pub working-done : (to next : L) (rest : ℕ) (completed : Bool) (st : StateOf) (pen pen' : Pen) (w : Working s0 from to rest completed st pen)

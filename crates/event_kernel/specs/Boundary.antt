@@ -12,6 +12,7 @@ use Rattle.sched_model.specs.Notes.{notes_before_end, energy_run, energy_idle}
 use Rattle.sched_model.specs.States.{row_at, row_wleft, released_row, prior_state, StateOf}
 use Rattle.event_kernel.specs.declared.pen.Pen.{Pen}
 use Rattle.governor.specs.Schedule.{ask_of, course}
+use Rattle.event_kernel.specs.Counts.{counts_of}
 use Rattle.event_kernel.specs.Pens.{cost, told_pen, pen_notes}
 use Rattle.sched_model.specs.Demands.{IsWithin}
 use Rattle.freq_table.specs.Tables.{lowest_entry}
@@ -50,10 +51,14 @@ pub record IsBetween (demand : Plan → StateOf → Frac) (p : Plan) (dem : ℕ 
   pub money : pen.run + pen.idle ≤ cost * (1000000 * t)
   pub run : pen.run ≡ sum_by energy_run (notes_before_end p dem (ask_of demand p dem) (course demand p dem t))
   pub idle : pen.idle ≡ sum_by energy_idle (notes_before_end p dem (ask_of demand p dem) (course demand p dem t))
+  pub counts : pen.counts ≡ counts_of (notes_before_end p dem (ask_of demand p dem) (course demand p dem t))
+  pub few_released : pen.counts.released ≤ 64 * t
+  pub few_finished : pen.counts.finished ≤ 1000000 * t + 64 * t
+  pub few_decisions : pen.counts.decisions ≤ t
 
 -- the pen at the end of a span, and what it tells there
-abbrev pub ended_pen : Plan → ℕ → Pen → Pen
-ended_pen p e pen = if nat_lt 0 pen.units then told_pen p e pen else pen
+abbrev pub ended_pen : Plan → StateOf → ℕ → Pen → Pen
+ended_pen p s e pen = if nat_lt 0 pen.units then told_pen p s e pen else pen
 
 abbrev pub ended_notes : Plan → StateOf → ℕ → ℕ → Pen → List Note
 ended_notes p s from e pen = if nat_lt 0 pen.units then pen_notes p s from e pen else []

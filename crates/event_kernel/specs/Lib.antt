@@ -1,5 +1,6 @@
 pub mod Heard
 pub mod Runs
+pub mod Counts
 pub mod Pens
 pub mod Writing
 pub mod Tickwork

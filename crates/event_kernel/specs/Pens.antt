@@ -19,6 +19,8 @@ use Rattle.sched_model.specs.Segments.{same_holder, Span, spans_of, Piece, piece
 use Rattle.sched_model.specs.Notes.{all_release_notes, pieces_notes, notes_before_end, energy_run, energy_idle}
 use Rattle.sched_model.specs.States.{row_at, StateOf}
 use Rattle.event_kernel.specs.declared.pen.Pen.{Pen}
+use Rattle.event_kernel.specs.declared.pen.Counts.{Counts}
+use Rattle.event_kernel.specs.Counts.{counted}
 
 -- all segments but the last, and the last
 abbrev pub closed : List Piece → List Piece
@@ -76,13 +78,19 @@ abbrev pub idle_part : Plan → ℕ → ℕ → Holder → ℕ
 idle_part p e units Nobody = idle_energy p e units
 idle_part p e units (Held i k) = 0
 
-abbrev pub told_pen : Plan → ℕ → Pen → Pen
-told_pen p e pen = record {
+-- whether its notes have the end of a job
+abbrev pub ended_part : StateOf → Holder → ℕ
+ended_part s Nobody = 0
+ended_part s (Held i k) = if (row_at s i).done then 1 else 0
+
+abbrev pub told_pen : Plan → StateOf → ℕ → Pen → Pen
+told_pen p s e pen = record {
   holder = pen.holder;
   start = pen.start + pen.units;
   units = 0;
   run = pen.run + run_part p e pen.units pen.holder;
   idle = pen.idle + idle_part p e pen.units pen.holder;
+  counts = record { released = pen.counts.released; finished = pen.counts.finished + ended_part s pen.holder; decisions = pen.counts.decisions };
 }
 
 -- whether a unit of this holder ends the segment
@@ -91,13 +99,22 @@ is_turn pen h = nat_lt 0 pen.units && not (same_holder pen.holder h)
 
 -- the pen after units of a holder
 abbrev pub with_units : Holder → ℕ → Pen → Pen
-with_units h n pen = record { holder = h; start = pen.start; units = pen.units + n; run = pen.run; idle = pen.idle }
+with_units h n pen = record { holder = h; start = pen.start; units = pen.units + n; run = pen.run; idle = pen.idle; counts = pen.counts }
 
-abbrev pub entered : Plan → ℕ → Holder → ℕ → Pen → Pen
-entered p e h n pen = with_units h n (if is_turn pen h then told_pen p e pen else pen)
+abbrev pub entered : Plan → StateOf → ℕ → Holder → ℕ → Pen → Pen
+entered p s e h n pen = with_units h n (if is_turn pen h then told_pen p s e pen else pen)
 
 abbrev pub entering_notes : Plan → StateOf → ℕ → ℕ → Holder → Pen → List Note
 entering_notes p s from e h pen = if is_turn pen h then pen_notes p s from e pen else []
+
+-- the pen after other notes are told
+abbrev pub with_notes : Pen → List Note → Pen
+with_notes pen notes = record { holder = pen.holder; start = pen.start; units = pen.units; run = pen.run; idle = pen.idle; counts = counted pen.counts notes }
+
+-- the counts of jobs are below a limit
+pub record HasRoom (limit : ℕ) (c : Counts) : Type 0 where
+  pub released : c.released < limit
+  pub finished : c.finished < limit
 
 -- the most that one unit can cost
 abbrev pub cost : ℕ
@@ -114,6 +131,7 @@ pub record CanTell (p : Plan) (s : StateOf) (from e : ℕ) (pen : Pen) : Type 0 
   pub place : from + pen.start + pen.units < 2 ^ 63
   pub money : pen.run + pen.idle + cost * pen.units < 2 ^ 120
   pub task : HeldIn (length s.rows) pen.holder
+  pub ends : pen.counts.finished < 2 ^ 63
 
 -- the key of a row
 abbrev pub row_key : Scheduler → Plan → StateOf → ℕ → ℕ

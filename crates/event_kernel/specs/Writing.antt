@@ -9,6 +9,7 @@ use Rattle.sched_model.specs.Ticks.{Tick, exec}
 use Rattle.sched_model.specs.Segments.{same_holder, Span, pieces_of}
 use Rattle.sched_model.specs.Notes.{energy_run, energy_idle}
 use Rattle.event_kernel.specs.declared.pen.Pen.{Pen}
+use Rattle.event_kernel.specs.Counts.{counts_of}
 use Rattle.event_kernel.specs.Pens.{last_of, open_notes, cost}
 
 -- nobody, or the latest job of a task
@@ -28,3 +29,7 @@ pub record Writing (p : Plan) (dem : ℕ → ℕ → ℕ) (ask : List Tick → F
   pub money : pen.run + pen.idle + cost * pen.units ≤ cost * most
   pub run : pen.run ≡ sum_by energy_run (open_notes p dem ask s)
   pub idle : pen.idle ≡ sum_by energy_idle (open_notes p dem ask s)
+  pub counts : pen.counts ≡ counts_of (open_notes p dem ask s)
+  pub few_released : pen.counts.released ≤ 64 * (t + 1)
+  pub few_finished : pen.counts.finished + pen.units ≤ most + 64 * (t + 1)
+  pub few_decisions : pen.counts.decisions ≤ t + 1

@@ -9,6 +9,7 @@ ghost use Rattle.governor.specs.Steps.{IsAtDecision};
 ghost use Rattle.governor.specs.Schedule.{course};
 ghost use Rattle.event_kernel.specs.Heard.{HasHeard, HasBalked};
 ghost use Rattle.event_kernel.specs.Runs.{demands_of, IsListOf};
+ghost use Rattle.event_kernel.specs.Pens.{HasRoom, with_notes};
 ghost use Rattle.event_kernel.specs.Boundary.{opened, opening_notes, speed_note, IsAtBoundary, IsBetween};
 ghost use Rattle.event_kernel.specs.Walking.{IsInSpan, told_before, told_in};
 ghost use Rattle.dvs_base.specs.Outside.{Rose};
@@ -28,12 +29,15 @@ fn release_one<G: Governor, L: Listener>(
     governor: &mut G,
     state: &mut State,
     task: u32,
+    pen: &mut Pen,
     to: &mut L,
 ) -> Result<(), Stopped>
     requires list { IsListOf plan.now demands.now }
     requires of { IsOfPlan plan.now state.old }
     requires can { CanRelease plan.now state.old task }
+    requires room { HasRoom (2 ^ 63) pen.old.counts }
     requires counters { G.stands governor.old plan.now state.old }
+    ensures pen { OnOk result (pen.new ≡ with_notes pen.old (opening_notes (demands_of plan.now demands.now) state.old task)) }
     ensures state { OnOk result (state.new ≡ opened plan.now (demands_of plan.now demands.now) state.old task) }
     ensures of { OnOk result (IsOfPlan plan.now state.new) }
     ensures counters { OnOk result (G.stands governor.new plan.now state.new) }
@@ -49,6 +53,7 @@ fn release_one<G: Governor, L: Listener>(
         task,
         job,
     })?;
+    pen.counts.released += 1;
     governor.released(plan, state, task);
     state.release(plan, task);
     if demand(plan, demands, task, job) == 0 {
@@ -63,6 +68,7 @@ fn release_one<G: Governor, L: Listener>(
             job,
             used: 0,
         })?;
+        pen.counts.finished += 1;
     }
     Ok(())
 }
@@ -73,11 +79,14 @@ fn release_all<G: Governor, L: Listener>(
     demands: &Demands,
     governor: &mut G,
     state: &mut State,
+    pen: &mut Pen,
     to: &mut L,
 ) -> Result<(), Stopped>
     requires list { IsListOf plan.now demands.now }
     requires at { IsAtBoundary G.demand plan.now (demands_of plan.now demands.now) state.old.now state.old }
+    requires room { HasRoom (2 ^ 62) pen.old.counts }
     requires counters { G.stands governor.old plan.now state.old }
+    ensures pen { OnOk result (pen.new ≡ with_notes pen.old (all_release_notes plan.now (demands_of plan.now demands.now) state.old.now)) }
     ensures state { OnOk result (state.new ≡ state_of plan.now (demands_of plan.now demands.now) (course G.demand plan.now (demands_of plan.now demands.now) state.old.now)) }
     ensures counters { OnOk result (G.stands governor.new plan.now state.new) }
     ensures heard { OnOk result (HasHeard L.heard to.old (all_release_notes plan.now (demands_of plan.now demands.now) state.old.now) to.new) }
@@ -90,7 +99,7 @@ fn release_all<G: Governor, L: Listener>(
     let mut any = false;
     for task in 0..plan.count() {
         if state.rows[task as usize].deadline == now {
-            release_one(plan, demands, governor, state, task, to)?;
+            release_one(plan, demands, governor, state, task, pen, to)?;
             any = true;
         }
     }
@@ -106,11 +115,14 @@ fn decide<G: Governor, L: Listener>(
     plan: &Admitted,
     governor: &G,
     state: &State,
+    pen: &mut Pen,
     to: &mut L,
 ) -> Result<u32, Stopped>
     requires of { IsOfPlan plan.now state.now }
     requires counters { G.stands governor.now plan.now state.now }
     requires decision { IsAtDecision plan.now state.now }
+    requires room { pen.old.counts.decisions < 2 ^ 63 }
+    ensures pen { OnOk result (pen.new ≡ with_notes pen.old (speed_note plan.now state.entry.now.now (G.demand plan.now state.entry.now) ∷ [])) }
     ensures index { IfOk result (λ k. k ≡ lowest_entry plan.now.machine (G.demand plan.now state.entry.now)) }
     ensures heard { OnOk result (HasHeard L.heard to.old (speed_note plan.now state.entry.now.now (G.demand plan.now state.entry.now) ∷ []) to.new) }
     ensures balked { OnErr result (HasBalked L.heard L.balked to.old (speed_note plan.now state.entry.now.now (G.demand plan.now state.entry.now) ∷ []) to.new) }
@@ -126,6 +138,7 @@ fn decide<G: Governor, L: Listener>(
         num: choice.demand.num,
         den: choice.demand.den,
     })?;
+    pen.counts.decisions += 1;
     Ok(choice.index)
 }
 
@@ -156,8 +169,8 @@ pub fn begin<G: Governor, L: Listener>(
 {
     plan.known();
     let _last = ticks;
-    release_all(plan, demands, governor, state, to)?;
-    let index = decide(plan, governor, state, to)?;
+    release_all(plan, demands, governor, state, pen, to)?;
+    let index = decide(plan, governor, state, pen, to)?;
     pen.holder = Holder::Nobody;
     pen.start = 0;
     pen.units = 0;

@@ -1,16 +1,17 @@
 // The kernel.
 ghost use Rattle.std.specs.Prelude.{◌≡◌, ◌≢◌, ◌≤◌, ◌<◌, ◌^◌, ℕ, OnOk, OnErr, IfOk, IsErrOf};
 ghost use Rattle.dvs_base.specs.declared.kind.GovernorKind.TheVariants.{Ahead};
+ghost use Rattle.sched_model.specs.Totals.{totals_of};
 ghost use Rattle.sched_model.specs.States.{opening};
 ghost use Rattle.event_kernel.specs.Heard.{HasHeard, HasBalked};
 ghost use Rattle.event_kernel.specs.Runs.{IsListOf, released_jobs, most_jobs, notes_of_run, MeetsDeadlines, MeetsDemands};
 ghost use Rattle.dvs_base.specs.Outside.{Rose};
 
-use crate::pen::Pen;
+use crate::pen::{Counts, Pen};
 use crate::span::span;
 use crate::{Listener, Stopped};
 use demand_list::Demands;
-use dvs_base::{NoMemory, Note};
+use dvs_base::{Note, Totals};
 use governor::Governor;
 use sched_model::{Admitted, Holder, State};
 use std::alloc::Global;
@@ -92,7 +93,8 @@ impl<'a, G: Governor> Kernel<'a, G> {
     }
 
     /// Tells the listener the notes of the governor's schedule.
-    pub fn drive<L: Listener>(self, to: &mut L) -> Result<(), Stopped>
+    pub fn drive<L: Listener>(self, to: &mut L) -> Result<Totals, Stopped>
+        ensures totals { IfOk result (λ t. t ≡ totals_of (notes_of_run G.demand self.entry)) }
         ensures deadlines { MeetsDeadlines G.demand self.entry }
         ensures demands { G.the_kind ≢ Ahead → MeetsDemands G.demand self.entry }
         ensures ran { OnOk result (HasHeard L.heard to.old (notes_of_run G.demand self.entry) to.new) }
@@ -115,6 +117,11 @@ impl<'a, G: Governor> Kernel<'a, G> {
             units: 0,
             run: 0,
             idle: 0,
+            counts: Counts {
+                released: 0,
+                finished: 0,
+                decisions: 0,
+            },
         };
         while state.now < ticks {
             span(plan, demands, ticks, &mut governor, &mut state, &mut pen, to)?;
@@ -124,6 +131,12 @@ impl<'a, G: Governor> Kernel<'a, G> {
             run: pen.run,
             idle: pen.idle,
         })?;
-        Ok(())
+        Ok(Totals {
+            run: pen.run,
+            idle: pen.idle,
+            released: pen.counts.released,
+            finished: pen.counts.finished,
+            decisions: pen.counts.decisions,
+        })
     }
 }

@@ -10,8 +10,16 @@ use crate::{Listener, Stopped};
 use dvs_base::{Note, Pos};
 use sched_model::{Admitted, Holder, State};
 
+/// How many notes were told so far: releases, ends of jobs, and decisions.
+#[derive(Clone, Copy)]
+pub struct Counts {
+    pub released: u64,
+    pub finished: u64,
+    pub decisions: u64,
+}
+
 /// The segment that is being written: its holder, its first unit by the span's count and its units; and the energies
-/// of all segments before it.
+/// and the counts of all notes before it.
 #[derive(Clone, Copy)]
 pub struct Pen {
     pub holder: Holder,
@@ -19,6 +27,7 @@ pub struct Pen {
     pub units: u64,
     pub run: u128,
     pub idle: u128,
+    pub counts: Counts,
 }
 
 fn is_same(a: Holder, b: Holder) -> bool
@@ -74,7 +83,7 @@ fn tell<L: Listener>(
     to: &mut L,
 ) -> Result<(), Stopped>
     requires { CanTell plan.now state.now from index pen.old }
-    ensures pen { OnOk result (pen.new ≡ told_pen plan.now index pen.old) }
+    ensures pen { OnOk result (pen.new ≡ told_pen plan.now state.entry.now index pen.old) }
     ensures heard { OnOk result (HasHeard L.heard to.old (pen_notes plan.now state.entry.now from index pen.old) to.new) }
     ensures balked { OnErr result (HasBalked L.heard L.balked to.old (pen_notes plan.now state.entry.now from index pen.old) to.new) }
     ensures never_falls { L.stops to.old ≤ L.stops to.new }
@@ -114,6 +123,7 @@ fn tell<L: Listener>(
                     job,
                     used: row.used,
                 })?;
+                pen.counts.finished += 1;
             }
             pen.run += energy;
         }
@@ -136,7 +146,7 @@ pub fn enter<L: Listener>(
 ) -> Result<(), Stopped>
     requires can { CanTell plan.now state.now from index pen.old }
     requires fits { pen.old.units + units < 2 ^ 64 }
-    ensures pen { OnOk result (pen.new ≡ entered plan.now index holder units pen.old) }
+    ensures pen { OnOk result (pen.new ≡ entered plan.now state.entry.now index holder units pen.old) }
     ensures heard { OnOk result (HasHeard L.heard to.old (entering_notes plan.now state.entry.now from index holder pen.old) to.new) }
     ensures balked { OnErr result (HasBalked L.heard L.balked to.old (entering_notes plan.now state.entry.now from index holder pen.old) to.new) }
     ensures never_falls { L.stops to.old ≤ L.stops to.new }
@@ -160,7 +170,7 @@ pub fn close<L: Listener>(
     to: &mut L,
 ) -> Result<(), Stopped>
     requires { CanTell plan.now state.now from index pen.old }
-    ensures pen { OnOk result (pen.new ≡ ended_pen plan.now index pen.old) }
+    ensures pen { OnOk result (pen.new ≡ ended_pen plan.now state.entry.now index pen.old) }
     ensures heard { OnOk result (HasHeard L.heard to.old (ended_notes plan.now state.entry.now from index pen.old) to.new) }
     ensures balked { OnErr result (HasBalked L.heard L.balked to.old (ended_notes plan.now state.entry.now from index pen.old) to.new) }
     ensures never_falls { L.stops to.old ≤ L.stops to.new }

@@ -13,6 +13,7 @@ pub mod Demand
 pub mod Schedule
 pub mod Segments
 pub mod Notes
+pub mod Totals
 pub mod Text
 pub mod Deadlines
 pub mod Backlog

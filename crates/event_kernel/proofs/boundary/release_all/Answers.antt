@@ -9,9 +9,10 @@ use Rattle.sched_model.specs.Notes.{all_release_notes}
 use Rattle.governor.specs.Schedule.{course}
 use Rattle.event_kernel.specs.Heard.{HasHeard, HasBalked}
 use Rattle.event_kernel.proofs.Ofplan.{of-prior}
+use Rattle.event_kernel.specs.Pens.{with_notes}
 use Rattle.event_kernel.proofs.Hearing.{at_exit}
 use Rattle.event_kernel.proofs.Atwork.{read_row}
-use Rattle.event_kernel.proofs.Releasing.{Releasing, releasing-start, long-there, passed, opens, opens-balked, can-release, released-marked, released-unmarked, prior-done, low-exec, course-len}
+use Rattle.event_kernel.proofs.Releasing.{Releasing, notes_upto, releasing-start, long-there, passed, passed-notes, opens, opens-pen, start-pen, has-room, opens-balked, can-release, released-marked, released-unmarked, prior-done, low-exec, course-len}
 use Rattle.event_kernel.proofs.boundary.release_all.Goals as goal
 use Rattle.event_kernel.proofs.boundary.release_all.Goals.{then-index-now+in_ok-release_one, else-index-now}
 
@@ -27,6 +28,7 @@ loop-task-init g c =
       subst (λ (s : StateOf). Releasing p dem past g.L.Listener.heard 0 false s c.args.to.now c.args.to.now) (sym here.state) (releasing-start p dem past g.L.Listener.heard c.args.to.now),
       c.requires.counters,
       subst (λ (s : StateOf). IsOfPlan p s) (sym here.state) (of-prior p dem past (low-exec m p dem t here.within)),
+      start-pen p dem past c.args.pen.now,
       omega arith,
     )
 
@@ -127,10 +129,10 @@ loop-task-preserved g c =
       | then-index-now+in_ok-release_one w ↦ (let due : (row_at st i).deadline ≡ st.now = sym (ap (λ (q : Row). q.deadline) is) ∙ (w.if-index-now.true ∙ clock) in
         let next : Releasing p dem past g.L.Listener.heard (i + 1) true w.release_one.new.state c.args.to.now w.release_one.new.to =
         opens p dem past adm.some_period g.L.Listener.heard g.L.Listener.balked c.args.to.now i any st c.loop-task.to r lt due w.release_one.new.state w.release_one.new.to w.in_ok-release_one.ensures.heard w.in_ok-release_one.ensures.state in
-        rw (w.any-is, w.state-is, w.to-is, w.governor-is) (next, w.in_ok-release_one.ensures.counters, w.in_ok-release_one.ensures.of, omega (arith, c.loop-task.invariant.3, w.in_ok-release_one.ensures.never_falls)))
+        rw (w.any-is, w.state-is, w.to-is, w.governor-is, w.pen-is) (next, w.in_ok-release_one.ensures.counters, w.in_ok-release_one.ensures.of, opens-pen p dem past adm.some_period g.L.Listener.heard g.L.Listener.balked c.args.to.now i any st c.loop-task.to r lt due c.args.pen.now c.loop-task.pen w.release_one.new.pen c.loop-task.invariant.3 w.in_ok-release_one.ensures.pen, omega (arith, c.loop-task.invariant.4, w.in_ok-release_one.ensures.never_falls)))
       | else-index-now w ↦ (let early : nat_eq (row_at st i).deadline st.now ≡ false = ap₂ (λ a b. nat_eq a b) (sym (ap (λ (q : Row). q.deadline) is)) (sym clock) ∙ ne_eqb _ _ w.if-index-now.false in
         let next : Releasing p dem past g.L.Listener.heard (i + 1) any st c.args.to.now c.loop-task.to = passed p dem past adm.some_period g.L.Listener.heard g.L.Listener.balked c.args.to.now i any st c.loop-task.to r lt early in
-        rw (w.any-is, w.state-is, w.to-is, w.governor-is) (next, c.loop-task.invariant.1, c.loop-task.invariant.2, c.loop-task.invariant.3))
+        rw (w.any-is, w.state-is, w.to-is, w.governor-is, w.pen-is) (next, c.loop-task.invariant.1, c.loop-task.invariant.2, c.loop-task.invariant.3 ∙ ap (λ ns. with_notes c.args.pen.now ns) (sym (passed-notes p dem past adm.some_period g.L.Listener.heard g.L.Listener.balked c.args.to.now i any st c.loop-task.to r lt early)), c.loop-task.invariant.4))
     ]
 
 pub returns-then-any-clause-state : goal.returns-then-any-clause-state
@@ -166,3 +168,33 @@ returns-else-any-clause-state g c =
     let i = c.loop-task.task in
     let whole : i ≡ count p = omega (arith, c.count-task-end.ensures) in
     released-unmarked p dem past adm.some_period g.L.Listener.heard g.L.Listener.balked c.args.to.now i st c.loop-task.to adm.some_task whole (subst (λ b. Releasing p dem past g.L.Listener.heard i b st c.args.to.now c.loop-task.to) c.if-any.false r)
+
+pub release_one-requires-clause-room : goal.release_one-requires-clause-room
+release_one-requires-clause-room g c =
+    let m = g.G.Governor.demand in
+    let p = c.args.plan.now in
+    let dem = demands_of p c.args.demands.now in
+    has-room p dem (course m p dem c.args.state.now.now) c.loop-task.task c.args.pen.now c.loop-task.pen
+    (omega (arith, (bounds p c.known.ensures).few_tasks, c.loop-task-test.true, c.count-task-end.ensures)) c.requires.room c.loop-task.invariant.3
+
+pub returns-then-any-clause-pen : goal.returns-then-any-clause-pen
+returns-then-any-clause-pen g c =
+    let m = g.G.Governor.demand in
+    let p = c.args.plan.now in
+    let dem = demands_of p c.args.demands.now in
+    let t = c.args.state.now.now in
+    let whole : c.loop-task.task ≡ count p = omega (arith, c.count-task-end.ensures) in
+    c.loop-task.invariant.3
+    ∙ (ap (λ n. with_notes c.args.pen.now (notes_upto p dem (course m p dem t) n)) whole
+    ∙ ap (λ n. with_notes c.args.pen.now (all_release_notes p dem n)) (course-len m p dem t))
+
+pub returns-else-any-clause-pen : goal.returns-else-any-clause-pen
+returns-else-any-clause-pen g c =
+    let m = g.G.Governor.demand in
+    let p = c.args.plan.now in
+    let dem = demands_of p c.args.demands.now in
+    let t = c.args.state.now.now in
+    let whole : c.loop-task.task ≡ count p = omega (arith, c.count-task-end.ensures) in
+    c.loop-task.invariant.3
+    ∙ (ap (λ n. with_notes c.args.pen.now (notes_upto p dem (course m p dem t) n)) whole
+    ∙ ap (λ n. with_notes c.args.pen.now (all_release_notes p dem n)) (course-len m p dem t))

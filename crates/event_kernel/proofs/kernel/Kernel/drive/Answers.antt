@@ -2,12 +2,13 @@ use Rattle.std.proofs.Common.{◌≡◌, ◌<◌, ◌≤◌, ℕ, List, [], ◌�
 use Rattle.dvs_base.specs.declared.note.Note.TheVariants.{End}
 use Rattle.sched_model.specs.declared.holder.Holder.TheVariants.{Nobody}
 use Rattle.sched_model.specs.States.{StateOf, opening}
+use Rattle.sched_model.specs.Totals.{totals_of}
 use Rattle.event_kernel.specs.Heard.{HasHeard, HasBalked}
 use Rattle.event_kernel.specs.Runs.{Run, demands_of, notes_of_run, MeetsDeadlines, MeetsDemands}
 use Rattle.event_kernel.proofs.Demanding.{demand-within}
 use Rattle.event_kernel.proofs.Meeting.{course-met, run-met, run-demands}
 use Rattle.event_kernel.proofs.Hearing.{at_exit}
-use Rattle.event_kernel.proofs.Closing.{first-between, nothing-told, end-heard, end-balked, before-balked}
+use Rattle.event_kernel.proofs.Closing.{totals_by, end-totals, first-between, nothing-told, end-heard, end-balked, before-balked}
 use Rattle.event_kernel.proofs.kernel.Kernel.drive.Goals as goal
 
 pub loop-state-init : goal.loop-state-init
@@ -15,7 +16,7 @@ loop-state-init g c =
     let m = g.G.Governor.demand in
     let p = c.self.inside.plan.now in
     let dem = demands_of p c.self.inside.demands.now in
-    let first = first-between g.L.Listener.heard g.L.Listener.balked m p dem c.self.inside.ticks c.self.inside.state (record { holder = Nobody; start = 0; units = 0; run = 0; idle = 0 }) c.self.invariant.0 refl refl in
+    let first = first-between g.L.Listener.heard g.L.Listener.balked m p dem c.self.inside.ticks c.self.inside.state (record { holder = Nobody; start = 0; units = 0; run = 0; idle = 0; counts = record { released = 0; finished = 0; decisions = 0 } }) c.self.invariant.0 refl refl refl in
     (
       first.0,
       subst (λ (s : StateOf). g.G.Governor.stands c.self.inside.governor p s) (sym c.self.invariant.0) c.self.invariant.1,
@@ -137,3 +138,14 @@ returns-clause-demands g c other =
     subst (λ (r : Run). MeetsDemands m.demand r) c.self.view_is
     (run-demands m.the_kind m.serves m.demand m.calm m.safe g.met.G.Governor.laws k.plan.now k.demands.now k.ticks c.known.ensures c.self.invariant.2 c.known-2.ensures
     (g.met.G.Governor.serves_plan k.governor k.plan.now (opening k.plan.now) c.self.invariant.1) other)
+
+pub returns-clause-totals : goal.returns-clause-totals
+returns-clause-totals g c =
+    let m = g.G.Governor.demand in
+    let p = c.self.inside.plan.now in
+    let dem = demands_of p c.self.inside.demands.now in
+    let inv = c.loop-state.invariant in
+    let all : c.loop-state.state.now ≡ c.self.inside.ticks =
+    (let clock : c.state.inside.now ≡ c.loop-state.state.now = ap (λ (v : StateOf). v.now) c.state.view_is in omega (arith, clock, inv.2)) in
+    subst (λ (r : Run). totals_by c.loop-state.pen.run c.loop-state.pen.idle c.loop-state.pen.counts.released c.loop-state.pen.counts.finished c.loop-state.pen.counts.decisions ≡ totals_of (notes_of_run m r)) c.self.view_is
+    (end-totals g.L.Listener.heard g.L.Listener.balked m p dem c.self.inside.ticks c.loop-state.state.now c.loop-state.state c.loop-state.pen inv.0 all)
