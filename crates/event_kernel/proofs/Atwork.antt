@@ -1,27 +1,25 @@
 -- The loop of a tick, in the words of its contract.
-use Rattle.std.proofs.Common.{◌≡◌, ℕ, ◌+◌, ◌-◌, ◌*◌, ◌^◌, ◌<◌, ◌≤◌, min, Bool, true, false, ◌||◌, List, [], ◌∷◌, ◌++◌, length, get_or, refl, arith, if◌then◌else◌, ap, ap₂, ◌∙◌, sym, subst, ◌⊎◌, inl, inr, nat_eq}
+use Rattle.std.proofs.Common.{◌≡◌, ℕ, ◌+◌, ◌-◌, ◌*◌, ◌^◌, ◌<◌, ◌≤◌, min, Bool, true, false, ◌||◌, List, ◌∷◌, length, get_or, refl, arith, ap, ◌∙◌, sym, subst, ◌⊎◌, nat_eq}
 use Rattle.std.proofs.lemmas.List.{get_or_read}
 use Rattle.grid_fraction.specs.declared.Frac.{Frac}
 use Rattle.dvs_base.specs.declared.note.Note.{Note}
 use Rattle.sched_model.specs.declared.state.Row.{Row}
-use Rattle.sched_model.specs.declared.holder.Holder.{Holder}
 use Rattle.sched_model.specs.declared.holder.Holder.TheVariants.{Nobody, Held}
 use Rattle.event_kernel.proofs.Bounds.{Bounds}
 use Rattle.sched_model.specs.Plan.{Plan, count, point}
 use Rattle.sched_model.specs.Jobs.{latest}
 use Rattle.sched_model.specs.Ticks.{Tick, exec}
-use Rattle.sched_model.specs.Schedule.{entry_in_force}
 use Rattle.sched_model.specs.Segments.{Span}
-use Rattle.sched_model.specs.States.{no_row, row_at, prior_state, after_advance, CanRun, StateOf, state_of}
+use Rattle.sched_model.specs.States.{no_row, row_at, prior_state, after_advance, CanRun, StateOf}
 use Rattle.sched_model.proofs.ScheduleLemmas.{schedule_exists}
 use Rattle.event_kernel.specs.declared.pen.Pen.{Pen}
 use Rattle.event_kernel.specs.Heard.{HasHeard, HasBalked}
 use Rattle.governor.specs.Schedule.{ask_of, course}
-use Rattle.event_kernel.specs.Pens.{open_notes, entered, entering_notes, IsFirstUndone, CanTell, cost}
+use Rattle.event_kernel.specs.Pens.{open_notes, entered, entering_notes, IsFirstUndone, CanTell}
 use Rattle.event_kernel.specs.Writing.{Writing}
-use Rattle.event_kernel.specs.Tickwork.{served, had_at, span_at, tick_at, whole_span, IsAtWork, HasWorked}
-use Rattle.event_kernel.proofs.Handing.{had, job, Handing}
-use Rattle.event_kernel.proofs.Ending.{exec-within, speed_now, tick_now}
+use Rattle.event_kernel.specs.Tickwork.{served, span_at, tick_at, whole_span, IsAtWork, HasWorked}
+use Rattle.event_kernel.proofs.Handing.{had}
+use Rattle.event_kernel.proofs.Ending.{exec-within, speed_now}
 use Rattle.event_kernel.proofs.Working.{course-next, entry-in, within_now, Working, working-start, rows-long, can-tell, can-run, working-turn, working-balk, Idled, working-full, working-idle, working-idle-balk, Worked, working-done}
 
 module _ {L : Type 0} (heard balked : L → Note → L → Type 0) (demand : Plan → StateOf → Frac) (p : Plan) (dem : ℕ → ℕ → ℕ) (t from e : ℕ) (st0 : StateOf) (pen0 : Pen) (adm : Bounds p) (at : IsAtWork demand p dem t from e st0 pen0) (to0 : L) where
@@ -127,8 +125,7 @@ module _ {L : Type 0} (heard balked : L → Note → L → Type 0) (demand : Pla
     finished next pen' st' ends d is =
         let h : Worked heard balked p dem ask past adm within s0 to0 next completed (after_advance st (length past + 1)) pen' =
         working-done heard balked p dem ask past adm within s0 to0 to next rest completed st pen pen' w ends d in
-        let later : tick_at demand p dem t ∷ past ≡ course demand p dem (t + 1) = sym (course-next p dem ask t) in
-        (
+        let later : tick_at demand p dem t ∷ past ≡ course demand p dem (t + 1) = sym (course-next p dem ask t) in (
           record {
             state = is ∙ (ap (λ n. after_advance st (n + 1)) (sym course-long) ∙ (h.state ∙ ap (λ ps. prior_state p dem ps) later));
             pen_is = subst (λ (ps : List Tick). Writing p dem ask t (whole_span demand p dem t) (λ i. exec p ps i (latest p i t)) (1000000 * (t + 1)) pen') later

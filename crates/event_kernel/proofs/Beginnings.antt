@@ -1,19 +1,18 @@
 -- What has been handed out or told so far begins the whole.
-use Rattle.std.proofs.Common.{◌≡◌, ℕ, zero, suc, ◌+◌, ◌-◌, ◌<◌, ◌≤◌, min, List, [], ◌∷◌, ◌++◌, length, replicate, refl, arith, ap, ap₂, ◌∙◌, sym, subst, ◌⊎◌, inl, inr, append-nil, append_assoc, length-append}
+use Rattle.std.proofs.Common.{◌≡◌, ℕ, ◌+◌, ◌-◌, ◌<◌, ◌≤◌, min, List, [], ◌∷◌, ◌++◌, length, replicate, refl, arith, ap, ap₂, ◌∙◌, sym, subst, ◌⊎◌, inl, inr, append-nil, append_assoc}
 use Rattle.std.proofs.lemmas.List.{replicate-append-replicate}
 use Rattle.std.proofs.lemmas.Bool.{cases_lt}
 use Rattle.grid_fraction.specs.declared.Frac.{Frac}
-use Rattle.dvs_base.specs.declared.note.Note.{Note}
 use Rattle.sched_model.specs.declared.holder.Holder.{Holder}
 use Rattle.sched_model.specs.declared.holder.Holder.TheVariants.{Nobody, Held}
 use Rattle.sched_model.specs.Plan.{Plan, count, point}
 use Rattle.grid_fraction.specs.Numbers.{sum_below}
 use Rattle.sched_model.specs.Ticks.{Tick, left, share}
 use Rattle.sched_model.specs.Order.{in_order}
-use Rattle.sched_model.specs.Priority.{key_of, allotment, sum_before}
+use Rattle.sched_model.specs.Priority.{allotment}
 use Rattle.sched_model.specs.Schedule.{next_tick, entry_in_force}
 use Rattle.sched_model.specs.Segments.{Span, Piece, units_of, pieces_of}
-use Rattle.sched_model.specs.Notes.{notes_before_end, pieces_notes, segment_notes}
+use Rattle.sched_model.specs.Notes.{notes_before_end, pieces_notes}
 use Rattle.sched_model.proofs.Tables.{get-table}
 use Rattle.sched_model.proofs.OrderLemmas.{sum_list, AreBelow, in_order-below, sum_before-prefix}
 use Rattle.sched_model.proofs.GreedyLemmas.{IsHandedOut}
@@ -21,7 +20,7 @@ use Rattle.event_kernel.specs.declared.pen.Pen.{Pen}
 use Rattle.event_kernel.specs.Pens.{closed, last_of, grown, head_notes, open_notes}
 use Rattle.event_kernel.proofs.Hearing.{Begins, begins-self, begins-more, begins-trans, begins-under}
 use Rattle.event_kernel.proofs.Pieces.{split_last, last-snoc, total, total-pieces, total-append}
-use Rattle.event_kernel.proofs.Entering.{Grows, grows}
+use Rattle.event_kernel.proofs.Entering.{grows}
 use Rattle.event_kernel.proofs.Handing.{laid_out, laid_out-same, job, key, units_by}
 
 -- the units of so much room, one task after the other

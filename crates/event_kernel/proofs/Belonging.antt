@@ -1,18 +1,17 @@
 -- The states of a list of ticks belong to its demands.
-use Rattle.std.proofs.Common.{◌≡◌, ℕ, zero, suc, ◌+◌, ◌-◌, ◌*◌, ◌<◌, ◌≤◌, Bool, true, false, ◌||◌, List, [], ◌∷◌, length, refl, arith, if◌then◌else◌, ap, ap₂, ◌∙◌, sym, subst, true≢false, nat_eq, nat_le, ◌⊎◌, inl, inr}
+use Rattle.std.proofs.Common.{◌≡◌, ℕ, zero, suc, ◌-◌, ◌*◌, ◌<◌, ◌≤◌, Bool, true, false, ◌||◌, List, [], ◌∷◌, length, refl, arith, ap, ap₂, ◌∙◌, sym, true≢false, nat_le, ◌⊎◌, inl, inr}
 use Rattle.std.proofs.lemmas.Bool.Decides.{nat_tests}
-use Rattle.std.specs.Prelude.{slice_index}
 use Rattle.sched_model.specs.declared.state.Row.{Row}
 use Rattle.grid_fraction.specs.Numbers.{any_below, list_below, last_up_to, greatest_below}
 use Rattle.sched_model.specs.Plan.{Plan, count, period, worst}
 use Rattle.sched_model.specs.Demands.{IsWithin}
 use Rattle.sched_model.specs.Jobs.{latest, due, release, releases_at, is_release, last_release}
 use Rattle.sched_model.specs.Ticks.{Tick, at, exec, is_done, is_complete, wleft}
-use Rattle.sched_model.specs.States.{StateOf, no_row, row_at, row_wleft, prior_row, prior_base_at, prior_base, prior_state, row_of, state_of, opening_row}
+use Rattle.sched_model.specs.States.{StateOf, no_row, row_at, row_wleft, prior_row, prior_base, prior_state, row_of, state_of, opening_row}
 use Rattle.sched_model.proofs.JobLaws.{release-le, lt-due, latest-pos}
 use Rattle.sched_model.proofs.Tables.{get-table}
 use Rattle.sched_model.proofs.LevelSums.{greatest-above, greatest-least, greatest-same}
-use Rattle.governor.specs.Steps.{Belongs, release_of, last_marked}
+use Rattle.governor.specs.Steps.{Belongs, release_of}
 use Rattle.event_kernel.proofs.Bounds.{Bounds}
 use Rattle.event_kernel.proofs.Ofplan.{of-table}
 use Rattle.event_kernel.proofs.Deciding.{released, released-before, latest-marked, base-high}
@@ -108,13 +107,13 @@ module _ (p : Plan) (adm : Bounds p) (dem : ℕ → ℕ → ℕ) (within : IsWit
   marked-rows : (t : ℕ) (row : ℕ → Row) → ((i : ℕ) → (row i).job ≡ latest p i t) → last_release p t ≡ greatest_below (count p) (λ i. release_of (period p i) (row i))
   marked-rows t row jobs =
       marked-is t ∙ greatest-same (count p) (λ i. release p i (latest p i t)) (λ i. release_of (period p i) (row i)) (λ i lt.
-          sym (ap (λ k. (k - 1) * period p i) (jobs i) ∙ released p i (latest p i t)))
+      sym (ap (λ k. (k - 1) * period p i) (jobs i) ∙ released p i (latest p i t)))
 
   pub belongs-state : (past : List Tick) → ((i k : ℕ) → i < count p → exec p past i k ≤ dem i k) → Belongs p dem (state_of p dem past)
   belongs-state past low =
       belongs-table (length past) (last_release p (length past)) (row_of p dem past) (wleft p dem (at (last_release p (length past)) past))
       (λ i lt. job-keeps (length past) i (latest p i (length past)) (exec p past i (latest p i (length past))) lt (latest-pos p i (length past))
-          (omega (arith, lt-due p i (length past) (adm.some_period i))) (release-le p i (length past) (adm.some_period i) (latest-pos p i (length past))) (low i (latest p i (length past)) lt))
+      (omega (arith, lt-due p i (length past) (adm.some_period i))) (release-le p i (length past) (adm.some_period i) (latest-pos p i (length past))) (low i (latest p i (length past)) lt))
       (marked-rows (length past) (row_of p dem past) (λ i. refl))
       (λ i lt. base-high p adm dem past i lt)
 
@@ -133,10 +132,10 @@ module _ (p : Plan) (adm : Bounds p) (dem : ℕ → ℕ → ℕ) (within : IsWit
       go a e true f = rw f (omega arith)
       go false e false f = rw (e, f) (omega (arith, grows))
       go true e false f = absurd (
-        let met : dem i job ≤ exec p past i job = grind (arith, nat_tests) in
-        let short : exec p (x ∷ past) i job < dem i job = grind (arith, nat_tests) in
-        omega (arith, met, short, grows)
-      )
+          let met : dem i job ≤ exec p past i job = grind (arith, nat_tests) in
+          let short : exec p (x ∷ past) i job < dem i job = grind (arith, nat_tests) in
+          omega (arith, met, short, grows)
+          )
 
   pub belongs-prior : (past : List Tick) → ((i k : ℕ) → i < count p → exec p past i k ≤ dem i k) → Belongs p dem (prior_state p dem past)
   belongs-prior [] low =
@@ -161,6 +160,6 @@ module _ (p : Plan) (adm : Bounds p) (dem : ℕ → ℕ → ℕ) (within : IsWit
   belongs-prior (x ∷ past) low =
       belongs-table (length (x ∷ past)) (last_release p (length past)) (prior_row p dem (x ∷ past)) (prior_base p dem (x ∷ past))
       (λ i lt. job-keeps (length (x ∷ past)) i (latest p i (length past)) (exec p (x ∷ past) i (latest p i (length past))) lt (latest-pos p i (length past))
-          (omega (arith, lt-due p i (length past) (adm.some_period i))) (omega (arith, release-le p i (length past) (adm.some_period i) (latest-pos p i (length past)))) (low i (latest p i (length past)) lt))
+      (omega (arith, lt-due p i (length past) (adm.some_period i))) (omega (arith, release-le p i (length past) (adm.some_period i) (latest-pos p i (length past)))) (low i (latest p i (length past)) lt))
       (marked-rows (length past) (prior_row p dem (x ∷ past)) (λ i. refl))
       (λ i lt. omega (arith, wleft-falls x past i, base-high p adm dem past i lt))

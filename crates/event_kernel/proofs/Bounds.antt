@@ -1,11 +1,10 @@
 -- The limits of a plan, as the kernel uses them: also of places past the end.
-use Rattle.std.proofs.Common.{◌≡◌, ℕ, zero, suc, ◌+◌, ◌*◌, ◌<◌, ◌≤◌, ◌^◌, List, [], ◌∷◌, length, refl, arith, ap, sym, subst, ◌⊎◌, inl, inr}
+use Rattle.std.proofs.Common.{◌≡◌, ℕ, zero, suc, ◌+◌, ◌*◌, ◌<◌, ◌≤◌, ◌^◌, List, [], ◌∷◌, length, refl, arith, sym, subst, ◌⊎◌, inl, inr}
 use Rattle.std.proofs.lemmas.Bool.{cases_lt}
 use Rattle.std.specs.List.{slice_index_or}
 use Rattle.task_model.specs.declared.task.Task.{Task}
-use Rattle.task_model.specs.Tasks.{no_task, task_at}
+use Rattle.task_model.specs.Tasks.{no_task}
 use Rattle.freq_table.specs.declared.machine.Point.{Point}
-use Rattle.freq_table.specs.Tables.{point_at}
 use Rattle.sched_model.specs.Plan.{Plan, count, period, worst, point}
 use Rattle.sched_model.specs.Admission.{IsAdmitted}
 

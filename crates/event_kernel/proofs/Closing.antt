@@ -2,16 +2,16 @@
 use Rattle.std.proofs.Common.{◌≡◌, ℕ, ◌+◌, ◌-◌, ◌<◌, ◌≤◌, ◌^◌, true, List, [], ◌∷◌, ◌++◌, length, refl, arith, ap, ◌∙◌, sym, subst, ◌⊎◌, inl, inr, ap₂, if◌then◌else◌}
 use Rattle.std.proofs.lemmas.Bool.{cases_lt}
 use Rattle.std.specs.Prelude.{sum_by}
-use Rattle.std.proofs.lemmas.List.Sums.{sum_by_push, sum_by-append, sum_by-cons}
+use Rattle.std.proofs.lemmas.List.Sums.{sum_by-append, sum_by-cons}
 use Rattle.grid_fraction.specs.declared.Frac.{Frac}
 use Rattle.dvs_base.specs.declared.note.Note.{Note}
 use Rattle.dvs_base.specs.declared.note.Note.TheVariants.{End}
 use Rattle.event_kernel.proofs.Bounds.{Bounds}
-use Rattle.sched_model.specs.Plan.{Plan, count}
+use Rattle.sched_model.specs.Plan.{Plan}
 use Rattle.sched_model.specs.Decision.{is_decision}
 use Rattle.sched_model.specs.Schedule.{schedule_by}
-use Rattle.sched_model.specs.Notes.{all_release_notes, notes_before_end, notes_of, energy_run, energy_idle}
-use Rattle.sched_model.specs.States.{prior_state, StateOf, state_of}
+use Rattle.sched_model.specs.Notes.{notes_before_end, notes_of, energy_run, energy_idle}
+use Rattle.sched_model.specs.States.{prior_state, StateOf}
 use Rattle.event_kernel.specs.declared.pen.Pen.{Pen}
 use Rattle.event_kernel.specs.declared.pen.Counts.{Counts}
 use Rattle.event_kernel.specs.Counts.{counts_of}
@@ -20,12 +20,12 @@ use Rattle.sched_model.specs.Totals.{totals_of, is_released, is_finished, is_dec
 use Rattle.event_kernel.specs.Heard.{HasHeard, HasBalked}
 use Rattle.governor.specs.Schedule.{ask_of, course}
 use Rattle.event_kernel.specs.Pens.{CanTell}
-use Rattle.event_kernel.specs.Tickwork.{span_at, whole_span}
+use Rattle.event_kernel.specs.Tickwork.{whole_span}
 use Rattle.event_kernel.specs.Boundary.{ended_pen, ended_notes, IsBetween}
 use Rattle.event_kernel.specs.Walking.{IsInSpan, HasWalked, told_before, told_in, told_after}
-use Rattle.event_kernel.proofs.Hearing.{Begins, begins-self, begins-more, begins-trans, heard-append, balked-append, balked-begins, balked_after}
+use Rattle.event_kernel.proofs.Hearing.{Begins, begins-self, begins-trans, heard-append, balked-append, balked-begins, balked_after}
 use Rattle.event_kernel.proofs.Working.{entry-in}
-use Rattle.event_kernel.proofs.Spanning.{open-new, closing-notes, closing-can, closing-between, course-start}
+use Rattle.event_kernel.proofs.Spanning.{open-new, closing-notes, closing-can, closing-between}
 use Rattle.event_kernel.proofs.Onward.{in-begins}
 use Rattle.event_kernel.proofs.Releasing.{course-len}
 
@@ -98,8 +98,7 @@ module _ {L : Type 0} (heard balked : L → Note → L → Type 0) (demand : Pla
   pub first-between : (s : StateOf) (pen : Pen) → s ≡ prior_state p dem [] → pen.run ≡ 0 → pen.idle ≡ 0 → pen.counts ≡ record { released = 0; finished = 0; decisions = 0 } → IsBetween demand p dem ticks s.now s pen × (s.now ≡ 0)
   unfolding schedule_by notes_before_end
   first-between s pen e r i c =
-      let now : s.now ≡ 0 = ap (λ (v : StateOf). v.now) e in
-      (
+      let now : s.now ≡ 0 = ap (λ (v : StateOf). v.now) e in (
         subst (λ n. IsBetween demand p dem ticks n s pen) (sym now) (record {
           state = e;
           decision = λ lt. refl;

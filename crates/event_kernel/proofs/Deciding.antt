@@ -1,21 +1,17 @@
 -- The state of a schedule's ticks is a state of the plan at a decision: what `choose` may ask for.
-use Rattle.std.proofs.Common.{◌≡◌, ℕ, zero, suc, ◌+◌, ◌-◌, ◌*◌, ◌<◌, ◌≤◌, ◌^◌, Bool, true, false, not, ◌||◌, List, [], ◌∷◌, length, drop, length-drop, refl, arith, if◌then◌else◌, ap, ap₂, ◌∙◌, sym, subst, true≢false, ◌⊎◌, inl, inr, nat_eq, nat_le, eq-or-lt_of_le}
+use Rattle.std.proofs.Common.{◌≡◌, ℕ, zero, suc, ◌+◌, ◌-◌, ◌*◌, ◌<◌, ◌≤◌, ◌^◌, Bool, true, false, List, [], ◌∷◌, length, drop, length-drop, refl, arith, ap, ◌∙◌, sym, subst, true≢false, ◌⊎◌, inl, inr, eq-or-lt_of_le}
 use Rattle.std.proofs.lemmas.Bool.Decides.{nat_tests}
-use Rattle.grid_fraction.specs.declared.Frac.{Frac}
 use Rattle.sched_model.specs.declared.state.Row.{Row}
 use Rattle.event_kernel.proofs.Bounds.{Bounds}
-use Rattle.grid_fraction.specs.Numbers.{any_below, last_up_to, list_below}
-use Rattle.sched_model.specs.Plan.{Plan, count, period, worst}
+use Rattle.grid_fraction.specs.Numbers.{last_up_to}
+use Rattle.sched_model.specs.Plan.{Plan, count, period}
 use Rattle.sched_model.specs.Jobs.{latest, due, release, releases_at, is_release, last_release}
-use Rattle.sched_model.specs.Ticks.{Tick, at, exec, is_done, is_complete, wleft, share}
-use Rattle.sched_model.specs.Schedule.{schedule_by}
+use Rattle.sched_model.specs.Ticks.{Tick, at, exec, is_complete, wleft}
 use Rattle.sched_model.proofs.JobLaws.{release-le, lt-due, due-le, latest-is, latest-pos}
-use Rattle.sched_model.specs.States.{no_row, row_at, row_wleft, StateOf, row_of, state_of}
+use Rattle.sched_model.specs.States.{no_row, row_at, row_wleft, row_of, state_of}
 use Rattle.sched_model.proofs.Tables.{get-table}
-use Rattle.sched_model.proofs.ScheduleLemmas.{length-list_below}
 use Rattle.governor.specs.Steps.{IsAtDecision, release_of}
 use Rattle.event_kernel.proofs.Handing.{any_below-found}
-use Rattle.sched_model.specs.Demands.{IsWithin}
 
 last-greatest : (t r : ℕ) (test : ℕ → Bool) → r ≤ t → test r ≡ true → r ≤ last_up_to t test
 last-greatest zero r test le e = le

@@ -1,14 +1,13 @@
 -- The demand of a job, as the list has it.
-use Rattle.std.proofs.Common.{◌≡◌, ℕ, zero, suc, ◌+◌, ◌*◌, ◌<◌, ◌≤◌, ◌^◌, Option, Some, None, List, [], ◌∷◌, length, map, refl, arith, ap, ◌∙◌, sym, subst, add-one}
+use Rattle.std.proofs.Common.{◌≡◌, ℕ, zero, suc, ◌+◌, ◌*◌, ◌<◌, Option, Some, None, List, [], ◌∷◌, length, map, refl, arith, ap, ◌∙◌, sym}
 use Rattle.std.specs.Prelude.{unwrap_or, option_map, slice_index}
 use Rattle.task_model.specs.declared.task.Task.{Task}
 use Rattle.task_model.specs.DemandRows.{named}
-use Rattle.task_model.specs.Tasks.{task_at, no_task}
+use Rattle.task_model.specs.Tasks.{task_at}
 use Rattle.demand_list.specs.Demands.{DemandsOf, units_of, IsWithinWorsts}
 use Rattle.sched_model.specs.Plan.{Plan, count, task, worst}
-use Rattle.sched_model.specs.Demands.{demand_of, IsWithin}
+use Rattle.sched_model.specs.Demands.{IsWithin}
 use Rattle.event_kernel.specs.Runs.{demands_of, IsListOf}
-use Rattle.event_kernel.proofs.Bounds.{Bounds}
 
 listed : (ts : List Task) (i : ℕ) → i < length ts → slice_index (map (λ (t : Task). t.worst) ts) i ≡ (task_at ts i).worst
 listed [] i lt = absurd (omega arith)

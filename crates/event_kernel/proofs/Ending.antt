@@ -1,13 +1,12 @@
 -- A tick whose units are handed out is the schedule's next one.
-use Rattle.std.proofs.Common.{◌≡◌, ◌≢◌, ℕ, zero, suc, ◌+◌, ◌-◌, ◌<◌, ◌≤◌, Bool, true, false, not, ◌&&◌, List, [], ◌∷◌, ◌++◌, length, replicate, refl, arith, if◌then◌else◌, ap, ap₂, ◌∙◌, sym, subst, ◌⊎◌, inl, inr, nat_eq, nat_le}
+use Rattle.std.proofs.Common.{◌≡◌, ℕ, zero, suc, ◌+◌, ◌-◌, ◌<◌, ◌≤◌, Bool, true, false, not, ◌&&◌, List, ◌∷◌, ◌++◌, length, replicate, refl, arith, if◌then◌else◌, ap, ap₂, ◌∙◌, sym, ◌⊎◌, nat_le}
 use Rattle.std.proofs.lemmas.Bool.Decides.{nat_tests}
 use Rattle.grid_fraction.specs.declared.Frac.{Frac}
-use Rattle.sched_model.specs.declared.state.Row.{Row}
 use Rattle.sched_model.specs.declared.holder.Holder.TheVariants.{Nobody}
-use Rattle.grid_fraction.specs.Numbers.{sum_below, any_below, list_below}
+use Rattle.grid_fraction.specs.Numbers.{sum_below, any_below}
 use Rattle.sched_model.specs.Plan.{Plan, count, period, point, worst}
 use Rattle.sched_model.specs.Jobs.{latest, due, release, is_in_window}
-use Rattle.sched_model.specs.Ticks.{Tick, exec, left, share, is_done}
+use Rattle.sched_model.specs.Ticks.{Tick, exec, left, share}
 use Rattle.sched_model.specs.Order.{in_order}
 use Rattle.sched_model.specs.Priority.{key_of, allotment}
 use Rattle.sched_model.specs.Decision.{completes_in}
@@ -75,12 +74,12 @@ module _ (p : Plan) (dem : ℕ → ℕ → ℕ) (ask : List Tick → Frac) (past
       ap (λ (s : StateOf). after_advance s (length past + 1)) is
       ∙ (ap (λ rows. record { now = length past + 1; rows = rows; base_at = (state_of p dem past).base_at; base = (state_of p dem past).base })
       (table-same (count p) (given_row p dem past given) (prior_row p dem ((tick_now p dem ask past) ∷ past)) (λ i lt.
-          ap (λ g. row_by (due p i (job p dem past i)) (job p dem past i) (had p dem past i + g) (nat_le (dem i (job p dem past i)) (had p dem past i + g)) (worst p i)) (same i lt)
-          ∙ sym (row-ran p dem periods (tick_now p dem ask past) past i)))
+      ap (λ g. row_by (due p i (job p dem past i)) (job p dem past i) (had p dem past i + g) (nat_le (dem i (job p dem past i)) (had p dem past i + g)) (worst p i)) (same i lt)
+      ∙ sym (row-ran p dem periods (tick_now p dem ask past) past i)))
       ∙ sym (state-ran p dem periods (tick_now p dem ask past) past))
 
   pub end-completes : (given : ℕ → ℕ) → ((i : ℕ) → i < count p → given i ≡ share (tick_now p dem ask past) i)
       → any_below (count p) (ends_in p dem past given) ≡ any_below (count p) (completes_in p dem (tick_now p dem ask past) past)
   end-completes given same =
       any_below-same (count p) (ends_in p dem past given) (completes_in p dem (tick_now p dem ask past) past) (λ i lt.
-          ap (λ u. not (nat_le (dem i (job p dem past i)) (had p dem past i)) && nat_le (dem i (job p dem past i)) u) (end-had given i (same i lt)))
+      ap (λ u. not (nat_le (dem i (job p dem past i)) (had p dem past i)) && nat_le (dem i (job p dem past i)) u) (end-had given i (same i lt)))

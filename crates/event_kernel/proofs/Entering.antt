@@ -1,25 +1,25 @@
 -- Units of a holder come after those of the pen's segment: the notes and the pen are then those of the longer span.
-use Rattle.std.proofs.Common.{◌≡◌, ℕ, zero, suc, ◌+◌, ◌-◌, ◌*◌, ◌<◌, ◌≤◌, Bool, true, false, not, ◌&&◌, List, [], ◌∷◌, ◌++◌, length, take, replicate, refl, arith, if◌then◌else◌, ap, ap₂, ◌∙◌, sym, subst, true≢false, ◌⊎◌, inl, inr, append-nil, append_assoc, length-append, nat_eq, nat_le, nat_lt, mul-le-mul_left}
+use Rattle.std.proofs.Common.{◌≡◌, ℕ, zero, suc, ◌+◌, ◌*◌, ◌<◌, ◌≤◌, Bool, true, false, not, ◌&&◌, List, [], ◌∷◌, ◌++◌, length, replicate, refl, arith, if◌then◌else◌, ap, ap₂, ◌∙◌, sym, subst, true≢false, ◌⊎◌, inl, inr, append-nil, append_assoc, length-append, nat_eq, nat_le, nat_lt, mul-le-mul_left}
 use Rattle.std.specs.Prelude.{count_by, sum_by}
 use Rattle.std.proofs.lemmas.List.{take_all, length-replicate}
-use Rattle.std.proofs.lemmas.List.Sums.{sum_by-append, sum_by-cons}
+use Rattle.std.proofs.lemmas.List.Sums.{sum_by-append}
 use Rattle.std.proofs.lemmas.Bool.Decides.{nat_tests}
 use Rattle.grid_fraction.specs.declared.Frac.{Frac}
 use Rattle.dvs_base.specs.declared.note.Pos.{Pos}
 use Rattle.dvs_base.specs.declared.note.Note.{Note}
-use Rattle.dvs_base.specs.declared.note.Note.TheVariants.{Run, Idle, Done, Speed}
+use Rattle.dvs_base.specs.declared.note.Note.TheVariants.{Run, Done}
 use Rattle.sched_model.specs.declared.holder.Holder.{Holder}
 use Rattle.sched_model.specs.declared.holder.Holder.TheVariants.{Nobody, Held}
 use Rattle.event_kernel.proofs.Bounds.{Bounds}
 use Rattle.sched_model.specs.Plan.{Plan, count, point}
 use Rattle.sched_model.specs.Jobs.{latest}
 use Rattle.sched_model.specs.Ticks.{Tick, exec}
-use Rattle.sched_model.specs.Segments.{same_holder, Span, Piece, pieces_of, position_of, run_energy, idle_energy}
+use Rattle.sched_model.specs.Segments.{same_holder, Span, Piece, pieces_of, position_of, run_energy}
 use Rattle.sched_model.specs.Notes.{had_by, segment_notes, pieces_notes, notes_before_end, energy_run, energy_idle}
 use Rattle.sched_model.specs.States.{row_at, StateOf}
-use Rattle.sched_model.proofs.PieceLemmas.{piece, same_holder-eq, same_holder-refl, pieces_of-run}
+use Rattle.sched_model.proofs.PieceLemmas.{piece, same_holder-eq, pieces_of-run}
 use Rattle.event_kernel.specs.declared.pen.Pen.{Pen}
-use Rattle.event_kernel.specs.Pens.{closed, last_of, grown, head_notes, open_notes, holder_notes, pen_notes, run_part, idle_part, ended_part, told_pen, is_turn, with_units, entered, entering_notes, cost, CanTell, HeldIn}
+use Rattle.event_kernel.specs.Pens.{closed, last_of, grown, head_notes, open_notes, holder_notes, pen_notes, run_part, idle_part, ended_part, told_pen, is_turn, with_units, entered, entering_notes, cost}
 use Rattle.event_kernel.specs.Counts.{counts_of, counted}
 use Rattle.event_kernel.proofs.Tallying.{counts_by, counts-append, counted-none, counted-holder, ended-most}
 use Rattle.event_kernel.specs.Writing.{HeldNow, Writing}
@@ -114,8 +114,7 @@ module _ (p : Plan) (dem : ℕ → ℕ → ℕ) (ask : List Tick → Frac) (t : 
       by_last (inl e) =
           let none : s.units ≡ [] = no_pieces s.units e in
           let zero_units : pen.units ≡ 0 = ue ∙ ap (λ rs. (last_of rs).units) e in
-          let fresh : pieces_of (s.units ++ replicate (suc n) h) ≡ piece h (suc n) ∷ [] = ap (λ us. pieces_of (us ++ replicate (suc n) h)) none ∙ pieces_of-run n h in
-          (
+          let fresh : pieces_of (s.units ++ replicate (suc n) h) ≡ piece h (suc n) ∷ [] = ap (λ us. pieces_of (us ++ replicate (suc n) h)) none ∙ pieces_of-run n h in (
             false,
             record {
               is = ap (λ u. nat_lt 0 u && not (same_holder pen.holder h)) zero_units;
@@ -155,8 +154,7 @@ module _ (p : Plan) (dem : ℕ → ℕ → ℕ) (ask : List Tick → Frac) (t : 
               let like : r.holder ≡ h = sym same_hold ∙ same_holder-eq pen.holder h e in
               let r_is : r ≡ piece h r.units = ap (λ x. piece x r.units) like in
               let more : pieces_of (s.units ++ replicate (suc n) h) ≡ done ++ piece h (r.units + suc n) ∷ [] =
-              pieces_of-more (suc n) s.units done h r.units (f.2 ∙ ap (λ x. done ++ x ∷ []) r_is) in
-              (
+              pieces_of-more (suc n) s.units done h r.units (f.2 ∙ ap (λ x. done ++ x ∷ []) r_is) in (
                 false,
                 record {
                   is = ap₂ (λ a b. a && not b) some_units e;
@@ -174,8 +172,7 @@ module _ (p : Plan) (dem : ℕ → ℕ → ℕ) (ask : List Tick → Frac) (t : 
               let seg : segment_notes p dem (grown s (replicate (suc n) h)) (0 + total done) r.units r.holder ≡ segment_notes p dem s pen.start pen.units pen.holder =
               ap (λ q. segment_notes p dem (grown s (replicate (suc n) h)) q r.units r.holder) (omega (arith, start_is))
               ∙ (ap₂ (λ u x. segment_notes p dem (grown s (replicate (suc n) h)) pen.start u x) (sym same_units) (sym same_hold)
-              ∙ segment_notes-grown p dem s (replicate (suc n) h) pen.start pen.units pen.holder (omega (arith, place))) in
-              (
+              ∙ segment_notes-grown p dem s (replicate (suc n) h) pen.start pen.units pen.holder (omega (arith, place))) in (
                 true,
                 record {
                   is = ap₂ (λ a b. a && not b) some_units e;

@@ -1,40 +1,32 @@
 -- The units of one tick, handed out to one task after the other.
-use Rattle.std.proofs.Common.{◌≡◌, ◌≢◌, ℕ, zero, suc, ◌+◌, ◌-◌, ◌*◌, ◌<◌, ◌≤◌, min, Bool, true, false, not, eqb, ◌&&◌, ◌||◌, List, [], ◌∷◌, ◌++◌, length, get_or, set, replicate, refl, arith, if◌then◌else◌, ap, ap₂, ◌∙◌, sym, subst, true≢false, ◌⊎◌, inl, inr, append-nil, append_assoc, eq-or-lt_of_le, le_of_suc-le-suc, nat_eq, nat_le, nat_lt}
-use Rattle.std.specs.Prelude.{count_by, flat_map, slice_set}
+use Rattle.std.proofs.Common.{◌≡◌, ◌≢◌, ℕ, zero, suc, ◌+◌, ◌-◌, ◌*◌, ◌<◌, ◌≤◌, min, Bool, true, false, not, eqb, ◌&&◌, ◌||◌, List, [], ◌∷◌, ◌++◌, length, replicate, refl, arith, if◌then◌else◌, ap, ap₂, ◌∙◌, sym, subst, true≢false, ◌⊎◌, inl, inr, append-nil, append_assoc, eq-or-lt_of_le, le_of_suc-le-suc, nat_eq, nat_le, nat_lt}
+use Rattle.std.specs.Prelude.{count_by, flat_map}
 use Rattle.std.proofs.lemmas.Bool.Decides.{nat_tests}
-use Rattle.std.proofs.lemmas.List.{length-replicate}
 use Rattle.std.proofs.lemmas.List.Folds.{sum_by-replicate}
-use Rattle.std.proofs.lemmas.List.Concat.{flat_map-append}
-use Rattle.grid_fraction.specs.declared.Frac.{Frac}
 use Rattle.dvs_base.specs.declared.kind.Scheduler.{Scheduler}
 use Rattle.dvs_base.specs.declared.kind.Scheduler.TheVariants.{Edf, Rm}
 use Rattle.sched_model.specs.declared.state.Row.{Row}
 use Rattle.sched_model.specs.declared.holder.Holder.{Holder}
 use Rattle.sched_model.specs.declared.holder.Holder.TheVariants.{Nobody, Held}
 use Rattle.grid_fraction.specs.Numbers.{sum_below, any_below, list_below}
-use Rattle.sched_model.specs.Plan.{Plan, count, point, worst}
-use Rattle.sched_model.specs.Jobs.{latest, due, deadline}
-use Rattle.sched_model.specs.Ticks.{Tick, exec, left, share, is_done}
+use Rattle.sched_model.specs.Plan.{Plan, count, worst}
+use Rattle.sched_model.specs.Jobs.{latest, due}
+use Rattle.sched_model.specs.Ticks.{Tick, exec, left, share}
 use Rattle.sched_model.specs.Order.{in_order, insert_by}
-use Rattle.sched_model.specs.Priority.{key_of, stands_before, sum_before, sum_up_to, allotment}
+use Rattle.sched_model.specs.Priority.{key_of, stands_before, sum_before}
 use Rattle.sched_model.specs.Greedy.{IsFirstOpen}
-use Rattle.sched_model.specs.Decision.{completes_in}
-use Rattle.sched_model.specs.Schedule.{entry_in_force, next_tick, schedule_by}
-use Rattle.sched_model.specs.Segments.{same_holder, units_of}
-use Rattle.sched_model.specs.States.{no_row, row_at, prior_row, prior_state, StateOf, row_of, state_of}
+use Rattle.sched_model.specs.Segments.{same_holder}
+use Rattle.sched_model.specs.States.{no_row, row_at, StateOf, row_of, state_of}
 use Rattle.grid_fraction.proofs.Sums.{sum_below-same, sum_below-add, sum_below-one}
 use Rattle.sched_model.proofs.Tables.{get-table, table-same, set-table}
-use Rattle.sched_model.proofs.PriorityLemmas.{before-not, before-self}
-use Rattle.sched_model.proofs.GreedyLemmas.{IsHandedOut, handed-start, handed-step, handed-end, handed_before, up_to-before}
+use Rattle.sched_model.proofs.PriorityLemmas.{before-self}
+use Rattle.sched_model.proofs.GreedyLemmas.{IsHandedOut, handed-start, handed-step, handed_before, up_to-before}
 use Rattle.sched_model.proofs.OrderLemmas.{IsAhead, IsOrdered, AreBelow, in_order-below, in_order-ordered}
-use Rattle.sched_model.proofs.ScheduleLemmas.{length-list_below, get_or-list_below, schedule_exists}
-use Rattle.grid_fraction.proofs.Searches.{any_below-none, below_suc}
-use Rattle.sched_model.proofs.JobLaws.{latest-is}
-use Rattle.sched_model.proofs.Joining.{row_by, row-ran, state-ran}
+use Rattle.grid_fraction.proofs.Searches.{any_below-none}
+use Rattle.sched_model.proofs.Joining.{row_by}
 use Rattle.event_kernel.specs.Pens.{row_key, IsFirstUndone}
-use Rattle.event_kernel.specs.Tickwork.{served, had_at}
+use Rattle.event_kernel.specs.Tickwork.{served}
 use Rattle.event_kernel.proofs.Entering.{Shows}
-use Rattle.sched_model.specs.Demands.{IsWithin}
 
 -- the units that a list of tasks got
 abbrev pub laid_out : (ℕ → ℕ) → (ℕ → ℕ) → List ℕ → List Holder

@@ -1,18 +1,18 @@
 -- The states of a list of ticks go on as the laws of a governor say: by a boundary, and by a legal tick.
-use Rattle.std.proofs.Common.{◌≡◌, ℕ, zero, suc, ◌+◌, ◌-◌, ◌*◌, ◌<◌, ◌≤◌, min, Bool, true, false, ◌||◌, ◌&&◌, List, [], ◌∷◌, ◌++◌, length, refl, arith, if◌then◌else◌, ap, ap₂, ◌∙◌, sym, subst, true≢false, nat_eq, nat_le, nat_lt}
+use Rattle.std.proofs.Common.{◌≡◌, ℕ, zero, suc, ◌+◌, ◌-◌, ◌<◌, ◌≤◌, min, Bool, true, false, ◌||◌, ◌&&◌, List, [], ◌∷◌, ◌++◌, length, refl, arith, if◌then◌else◌, ap, ap₂, ◌∙◌, sym, nat_eq, nat_le, nat_lt}
 use Rattle.std.proofs.lemmas.Bool.Decides.{nat_tests}
 use Rattle.std.specs.Prelude.{map, ◌==◌}
 use Rattle.std.specs.List.{list_any}
 use Rattle.dvs_base.specs.declared.kind.Scheduler.{Scheduler}
 use Rattle.dvs_base.specs.declared.kind.Scheduler.TheVariants.{Edf, Rm}
 use Rattle.sched_model.specs.declared.state.Row.{Row}
-use Rattle.grid_fraction.specs.Numbers.{any_below, list_below, sum_below}
+use Rattle.grid_fraction.specs.Numbers.{any_below, list_below}
 use Rattle.grid_fraction.proofs.Sums.{sum_below-same}
-use Rattle.sched_model.specs.Plan.{Plan, count, period, worst}
-use Rattle.sched_model.specs.Jobs.{latest, due, releases_at, is_release}
-use Rattle.sched_model.specs.Ticks.{Tick, exec, is_complete}
+use Rattle.sched_model.specs.Plan.{Plan, count, period}
+use Rattle.sched_model.specs.Jobs.{latest, releases_at, is_release}
+use Rattle.sched_model.specs.Ticks.{Tick, exec}
 use Rattle.sched_model.specs.Ticks.{left as left_at, share as share_at}
-use Rattle.sched_model.specs.Priority.{SharesOut, sum_up_to, sum_before, stands_before}
+use Rattle.sched_model.specs.Priority.{SharesOut, sum_up_to, stands_before}
 use Rattle.sched_model.specs.Priority.{key_of as key_at}
 use Rattle.sched_model.specs.States.{StateOf, no_row, row_at, row_wleft, prior_row, prior_base_at, prior_base, prior_state, row_of, state_of}
 use Rattle.sched_model.proofs.ScheduleLemmas.{length-list_below}
@@ -55,7 +55,7 @@ sum_up_to-same : (n : ℕ) (key key' f f' : ℕ → ℕ) → ((j : ℕ) → j < 
 sum_up_to-same n key key' f f' ks fs i lt =
     ap₂ (λ a b. a + b)
     (sum_below-same n (λ j. if stands_before key j i then f j else 0) (λ j. if stands_before key' j i then f' j else 0) (λ j l.
-        ap₂ (λ (b : Bool) x. if b then x else 0) (ap₂ (λ x y. nat_lt x y || (nat_eq x y && nat_lt j i)) (ks j l) (ks i lt)) (fs j l)))
+    ap₂ (λ (b : Bool) x. if b then x else 0) (ap₂ (λ x y. nat_lt x y || (nat_eq x y && nat_lt j i)) (ks j l) (ks i lt)) (fs j l)))
     (fs i lt)
 
 module _ (p : Plan) (dem : ℕ → ℕ → ℕ) (periods : (i : ℕ) → 0 < period p i) where

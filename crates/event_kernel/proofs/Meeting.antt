@@ -1,29 +1,28 @@
 -- What the laws of a governor give along its schedule: every deadline is met, and every demand but that of a look-ahead.
-use Rattle.std.proofs.Common.{◌≡◌, ◌≢◌, ℕ, zero, suc, ◌+◌, ◌-◌, ◌*◌, ◌<◌, ◌≤◌, Bool, true, false, ◌||◌, List, [], ◌∷◌, length, drop, refl, arith, if◌then◌else◌, ap, ap₂, ◌∙◌, sym, subst, true≢false, nat_eq, nat_le, ◌⊎◌, inl, inr, eq-or-lt_of_le, le_of_suc-le-suc, add-one}
+use Rattle.std.proofs.Common.{◌≡◌, ◌≢◌, ℕ, zero, suc, ◌-◌, ◌<◌, ◌≤◌, Bool, true, false, ◌||◌, List, [], ◌∷◌, length, drop, refl, arith, if◌then◌else◌, ap, ◌∙◌, sym, subst, true≢false, nat_le, ◌⊎◌, inl, inr, eq-or-lt_of_le, add-one}
 use Rattle.std.proofs.lemmas.Bool.Decides.{nat_tests}
 use Rattle.dvs_base.specs.declared.kind.Scheduler.{Scheduler}
 use Rattle.dvs_base.specs.declared.kind.GovernorKind.{GovernorKind}
 use Rattle.dvs_base.specs.declared.kind.GovernorKind.TheVariants.{Ahead}
 use Rattle.grid_fraction.specs.declared.Frac.{Frac}
-use Rattle.grid_fraction.specs.Numbers.{any_below, list_below}
 use Rattle.freq_table.specs.Tables.{lowest_entry, lowest_pick, speed_at}
 use Rattle.sched_model.specs.declared.state.Row.{Row}
-use Rattle.sched_model.specs.Plan.{Plan, count, period, worst}
+use Rattle.sched_model.specs.Plan.{Plan, count}
 use Rattle.sched_model.specs.Demands.{IsWithin}
 use Rattle.sched_model.specs.Admission.{IsAdmitted}
 use Rattle.sched_model.specs.Deadlines.{IsMet}
-use Rattle.sched_model.specs.Jobs.{latest, due, release, is_release}
+use Rattle.sched_model.specs.Jobs.{latest, due, is_release}
 use Rattle.sched_model.specs.Ticks.{Tick, at, exec, share}
 use Rattle.sched_model.specs.Ticks.{left as left_at}
 use Rattle.sched_model.specs.Decision.{is_decision}
 use Rattle.sched_model.specs.Priority.{allotment, key_of}
-use Rattle.sched_model.specs.Schedule.{entry_in_force, next_tick, schedule_by, IsNext, IsScheduleBy}
-use Rattle.sched_model.specs.States.{StateOf, no_row, row_at, prior_row, prior_state, state_of, opening}
+use Rattle.sched_model.specs.Schedule.{entry_in_force, next_tick, IsNext}
+use Rattle.sched_model.specs.States.{StateOf, no_row, row_at, prior_row, prior_state, state_of}
 use Rattle.sched_model.proofs.ScheduleLemmas.{next_tick-may}
 use Rattle.sched_model.proofs.Tables.{get-table}
 use Rattle.sched_model.proofs.JobLaws.{latest-is, release-due}
 use Rattle.sched_model.proofs.Joining.{state-still}
-use Rattle.governor.specs.Steps.{IsAtDecision, Belongs, after_boundary, after_tick}
+use Rattle.governor.specs.Steps.{IsAtDecision, Belongs}
 use Rattle.governor.specs.Laws.{GovernorLaws}
 use Rattle.governor.specs.Schedule.{ask_of, course}
 use Rattle.demand_list.specs.Demands.{DemandsOf, IsWithinWorsts}

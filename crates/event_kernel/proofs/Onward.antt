@@ -1,11 +1,10 @@
 -- The steps of a span, as its functions tell them.
-use Rattle.std.proofs.Common.{◌≡◌, ℕ, ◌+◌, ◌-◌, ◌<◌, ◌≤◌, ◌^◌, Bool, true, false, ◌||◌, List, [], ◌∷◌, ◌++◌, length, refl, arith, ap, ap₂, ◌∙◌, sym, subst, true≢false, ◌⊎◌, inl, inr, nat_eq, append_assoc}
+use Rattle.std.proofs.Common.{◌≡◌, ℕ, ◌+◌, ◌-◌, ◌<◌, ◌≤◌, ◌^◌, Bool, true, false, ◌||◌, [], ◌∷◌, ◌++◌, length, refl, arith, ap, ◌∙◌, sym, subst, true≢false, ◌⊎◌, inl, inr, nat_eq}
 use Rattle.std.proofs.lemmas.Bool.Decides.{nat_tests}
 use Rattle.grid_fraction.specs.declared.Frac.{Frac}
 use Rattle.dvs_base.specs.declared.note.Note.{Note}
 use Rattle.event_kernel.proofs.Bounds.{Bounds}
 use Rattle.sched_model.specs.Plan.{Plan, count}
-use Rattle.sched_model.specs.Ticks.{Tick}
 use Rattle.sched_model.specs.Decision.{is_decision}
 use Rattle.sched_model.specs.Segments.{units_of}
 use Rattle.sched_model.specs.Notes.{all_release_notes}
@@ -18,7 +17,7 @@ use Rattle.event_kernel.specs.Pens.{open_notes}
 use Rattle.event_kernel.specs.Tickwork.{span_at, tick_at, HasWorked}
 use Rattle.event_kernel.specs.Boundary.{some_due, speed_note}
 use Rattle.event_kernel.specs.Walking.{IsInSpan, HasWalked, told_before, told_in, told_after}
-use Rattle.event_kernel.proofs.Hearing.{Begins, begins-more, begins-trans, begins-under, heard-append, balked-append, balked-begins, balked_after}
+use Rattle.event_kernel.proofs.Hearing.{Begins, begins-trans, heard-append, balked-append, balked-begins, balked_after}
 use Rattle.event_kernel.proofs.Beginnings.{open-begins}
 use Rattle.event_kernel.proofs.Spanning.{whole-begins, open-new, goes-on, ends-span}
 use Rattle.event_kernel.proofs.Releasing.{course-len}
@@ -107,8 +106,7 @@ module _ {L : Type 0} (heard balked : L → Note → L → Type 0) (demand : Pla
         let other : nat_eq s.now ticks ≡ false = none.1 in
         let differ : (s.now ≡ ticks) → ⊥ = grind (arith, nat_tests) in
         let lt : t + 1 < ticks = omega (arith, now-next, i.before_end, differ) in
-        let r = goes-on demand p dem adm ticks t0 t e s0 s pen0 pen i (subst (λ b. HasWorked demand p dem t s pen b) none.0 h) none.2 lt low_ticks in
-        (
+        let r = goes-on demand p dem adm ticks t0 t e s0 s pen0 pen i (subst (λ b. HasWorked demand p dem t s pen b) none.0 h) none.2 lt low_ticks in (
           subst (λ n. IsInSpan demand p dem ticks t0 n e s pen) (sym now-next) r.0,
           λ a to g. subst (λ n. HasHeard heard a (told_in demand p dem n) to) (sym now-next) (subst (λ x. HasHeard heard a (open_notes p dem (ask_of demand p dem) x) to) (sym r.1) g),
         )

@@ -1,16 +1,15 @@
 -- The segments of a list of units that grows by a run of one holder, and their notes.
-use Rattle.std.proofs.Common.{◌≡◌, ℕ, zero, suc, ◌+◌, ◌<◌, ◌≤◌, Bool, true, false, List, [], ◌∷◌, ◌++◌, length, take, replicate, refl, arith, if◌then◌else◌, ap, ap₂, ◌∙◌, sym, subst, true≢false, ◌⊎◌, inl, inr, append-nil, append_assoc, length-append, nat_eq}
+use Rattle.std.proofs.Common.{◌≡◌, ℕ, zero, suc, ◌+◌, ◌<◌, ◌≤◌, Bool, true, false, List, [], ◌∷◌, ◌++◌, length, take, replicate, refl, arith, if◌then◌else◌, ap, ap₂, ◌∙◌, sym, ◌⊎◌, inl, inr, append-nil, append_assoc, nat_eq}
 use Rattle.std.specs.Prelude.{count_by}
 use Rattle.std.proofs.lemmas.List.{take-append-le}
-use Rattle.dvs_base.specs.declared.note.Note.{Note}
-use Rattle.dvs_base.specs.declared.note.Note.TheVariants.{Run, Idle, Done, Speed}
+use Rattle.dvs_base.specs.declared.note.Note.TheVariants.{Run, Done}
 use Rattle.sched_model.specs.declared.holder.Holder.{Holder}
 use Rattle.sched_model.specs.declared.holder.Holder.TheVariants.{Nobody, Held}
 use Rattle.sched_model.specs.Plan.{Plan, point}
-use Rattle.sched_model.specs.Ticks.{Tick, exec}
+use Rattle.sched_model.specs.Ticks.{exec}
 use Rattle.sched_model.specs.Segments.{same_holder, Span, Piece, before_pieces, pieces_of, position_of, run_energy}
-use Rattle.sched_model.specs.Notes.{had_by, segment_notes, pieces_notes}
-use Rattle.sched_model.proofs.PieceLemmas.{piece, same_holder-eq, same_holder-refl, with_unit, pieces_of-push, pieces_of-run}
+use Rattle.sched_model.specs.Notes.{segment_notes, pieces_notes}
+use Rattle.sched_model.proofs.PieceLemmas.{piece, same_holder-refl, with_unit, pieces_of-push}
 use Rattle.event_kernel.specs.Pens.{closed, last_of, grown}
 
 -- a list is empty, or has a last element

@@ -1,6 +1,6 @@
 -- The releases of one boundary.
-use Rattle.std.proofs.Common.{◌≡◌, ◌≢◌, ℕ, zero, suc, ◌+◌, ◌<◌, ◌≤◌, ◌^◌, Bool, true, false, eqb, ◌||◌, List, [], ◌∷◌, ◌++◌, length, refl, arith, if◌then◌else◌, ap, ap₂, ◌∙◌, sym, subst, true≢false, ◌⊎◌, inl, inr, append-nil, nat_eq, nat_lt, nat_le, add-one, eq-or-lt_of_le, le_of_suc-le-suc, set, get_or-set_same}
-use Rattle.std.specs.Prelude.{flat_map, slice_set, map}
+use Rattle.std.proofs.Common.{◌≡◌, ◌≢◌, ℕ, zero, suc, ◌+◌, ◌<◌, ◌≤◌, ◌^◌, Bool, true, false, eqb, ◌||◌, List, [], ◌∷◌, ◌++◌, length, refl, arith, if◌then◌else◌, ap, ap₂, ◌∙◌, sym, subst, ◌⊎◌, inl, inr, append-nil, nat_eq, nat_lt, add-one, eq-or-lt_of_le, set, get_or-set_same}
+use Rattle.std.specs.Prelude.{flat_map}
 use Rattle.std.proofs.Math.Nat.{div-le_self}
 use Rattle.std.proofs.lemmas.Bool.Decides.{nat_tests}
 use Rattle.std.proofs.lemmas.List.{set-set}
@@ -12,11 +12,10 @@ use Rattle.sched_model.specs.declared.state.Row.{Row}
 use Rattle.event_kernel.proofs.Bounds.{Bounds}
 use Rattle.grid_fraction.specs.Numbers.{any_below, list_below}
 use Rattle.sched_model.specs.Plan.{Plan, count, period, worst}
-use Rattle.sched_model.specs.Jobs.{latest, releases_at, is_release}
+use Rattle.sched_model.specs.Jobs.{latest, releases_at}
 use Rattle.sched_model.specs.Ticks.{Tick, exec}
-use Rattle.sched_model.specs.Schedule.{schedule_by}
 use Rattle.sched_model.specs.Notes.{release_notes, all_release_notes}
-use Rattle.sched_model.specs.States.{no_row, row_at, row_wleft, prior_row, prior_base_at, prior_base, released_row, prior_state, after_mark, after_release, after_finish, CanRelease, StateOf, row_of, state_of}
+use Rattle.sched_model.specs.States.{no_row, row_at, prior_row, prior_base_at, prior_base, released_row, prior_state, after_mark, after_release, after_finish, CanRelease, StateOf, row_of, state_of}
 use Rattle.sched_model.proofs.ScheduleLemmas.{length-list_below, schedule_exists}
 use Rattle.sched_model.proofs.Tables.{get-table, table-same, set-table}
 use Rattle.sched_model.proofs.Joining.{next_job, due_released, row-opened, row-kept, state-marked, state-unmarked}

@@ -1,7 +1,6 @@
 -- A task gets units, and its job ends or not.
-use Rattle.std.proofs.Common.{◌≡◌, ◌≢◌, ℕ, ◌+◌, ◌<◌, Bool, true, false, eqb, List, length, get_or, set, refl, arith, ap, ◌∙◌, sym, length-set, get_or-set_same, get_or-set_other}
+use Rattle.std.proofs.Common.{◌≡◌, ℕ, ◌+◌, ◌<◌, true, false, length, set, ap, ◌∙◌, get_or-set_same}
 use Rattle.std.proofs.lemmas.List.{set-set}
-use Rattle.std.proofs.lemmas.Bool.Decides.{nat_tests}
 use Rattle.sched_model.specs.declared.state.Row.{Row}
 use Rattle.sched_model.specs.States.{no_row, row_at, after_run, after_finish, StateOf}
 use Rattle.event_kernel.specs.Tickwork.{served}

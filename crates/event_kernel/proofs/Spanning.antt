@@ -1,5 +1,5 @@
 -- From one decision to the next.
-use Rattle.std.proofs.Common.{◌≡◌, ◌≢◌, ℕ, zero, suc, ◌+◌, ◌-◌, ◌*◌, ◌<◌, ◌≤◌, ◌^◌, Bool, true, false, ◌||◌, List, [], ◌∷◌, ◌++◌, length, refl, arith, if◌then◌else◌, ap, ap₂, ◌∙◌, sym, subst, true≢false, ◌⊎◌, inl, inr, append-nil, append_assoc, nat_eq, nat_lt, nat_le, add-one, drop}
+use Rattle.std.proofs.Common.{◌≡◌, ℕ, zero, suc, ◌+◌, ◌-◌, ◌*◌, ◌<◌, ◌≤◌, ◌^◌, Bool, true, false, ◌||◌, List, [], ◌∷◌, ◌++◌, length, refl, arith, if◌then◌else◌, ap, ap₂, ◌∙◌, sym, subst, true≢false, ◌⊎◌, inl, inr, append-nil, append_assoc, nat_eq, nat_lt, nat_le, add-one, drop}
 use Rattle.std.specs.Prelude.{sum_by, count_by, flat_map}
 use Rattle.std.proofs.lemmas.List.Sums.{sum_by-append}
 use Rattle.std.proofs.lemmas.Bool.Decides.{nat_tests}
@@ -11,37 +11,36 @@ use Rattle.sched_model.specs.declared.state.Row.{Row}
 use Rattle.sched_model.specs.declared.holder.Holder.{Holder}
 use Rattle.sched_model.specs.declared.holder.Holder.TheVariants.{Nobody, Held}
 use Rattle.event_kernel.proofs.Bounds.{Bounds}
-use Rattle.grid_fraction.specs.Numbers.{any_below, list_below}
+use Rattle.grid_fraction.specs.Numbers.{list_below}
 use Rattle.sched_model.specs.Plan.{Plan, count, period, point}
 use Rattle.sched_model.specs.Jobs.{latest, due, releases_at, is_release}
-use Rattle.sched_model.specs.Ticks.{Tick, at, exec, is_done}
-use Rattle.sched_model.specs.Decision.{is_decision, completes_in}
+use Rattle.sched_model.specs.Ticks.{Tick, at, exec}
+use Rattle.sched_model.specs.Decision.{is_decision}
 use Rattle.sched_model.specs.Schedule.{entry_in_force, next_tick, schedule_by}
-use Rattle.sched_model.specs.Segments.{Span, Piece, spans_of, lengthened, units_of, pieces_of, same_holder, position_of}
+use Rattle.sched_model.specs.Segments.{Span, Piece, spans_of, units_of, pieces_of, same_holder, position_of}
 use Rattle.sched_model.specs.Notes.{release_notes, all_release_notes, span_notes, pieces_notes, segment_notes, notes_before_end, energy_run, energy_idle}
-use Rattle.sched_model.specs.States.{no_row, row_at, prior_row, prior_state, StateOf, row_of, state_of}
+use Rattle.sched_model.specs.States.{no_row, row_at, prior_row, prior_state, StateOf, state_of}
 use Rattle.sched_model.proofs.Tables.{get-table}
 use Rattle.sched_model.proofs.ScheduleLemmas.{length-list_below}
 use Rattle.sched_model.proofs.NoteLemmas.{notes-span}
-use Rattle.sched_model.proofs.Joining.{prior-due, due_released, same_job, state-still}
+use Rattle.sched_model.proofs.Joining.{due_released, same_job, state-still}
 use Rattle.sched_model.proofs.JobLaws.{latest-pos}
 use Rattle.grid_fraction.proofs.Searches.{any_below-false}
 use Rattle.event_kernel.specs.declared.pen.Pen.{Pen}
-use Rattle.event_kernel.specs.Heard.{HasHeard, HasBalked}
 use Rattle.governor.specs.Schedule.{ask_of, course}
-use Rattle.event_kernel.specs.Pens.{closed, last_of, grown, first_span, open_span, head_notes, open_notes, holder_notes, pen_notes, told_pen, run_part, idle_part, ended_part, CanTell, HeldIn, cost}
+use Rattle.event_kernel.specs.Pens.{closed, last_of, grown, first_span, open_span, head_notes, open_notes, holder_notes, pen_notes, told_pen, run_part, idle_part, ended_part, CanTell, HeldIn}
 use Rattle.event_kernel.specs.Counts.{counts_of, counted}
 use Rattle.event_kernel.proofs.Tallying.{counts_by, counts-append, counted-append, counted-none, counted-holder, ended-most, few-released, few-finished, no-decided}
 use Rattle.event_kernel.specs.Writing.{HeldNow, Writing}
-use Rattle.event_kernel.specs.Tickwork.{had_at, span_at, tick_at, whole_span, IsAtWork, HasWorked}
+use Rattle.event_kernel.specs.Tickwork.{had_at, span_at, tick_at, whole_span, HasWorked}
 use Rattle.event_kernel.specs.Boundary.{ended_pen, ended_notes, some_due, speed_note, IsAtBoundary, IsBetween}
 use Rattle.event_kernel.specs.Walking.{IsInSpan, HasWalked}
-use Rattle.event_kernel.proofs.Hearing.{Begins, begins-self, begins-more, begins-trans, begins-under}
+use Rattle.event_kernel.proofs.Hearing.{Begins, begins-self, begins-more, begins-trans}
 use Rattle.event_kernel.proofs.Pieces.{split_last, closed-snoc, last-snoc, total, total-pieces, total-append, have-last, have_units, HaveUnits, pieces_notes-append}
 use Rattle.event_kernel.proofs.Entering.{Shows, tells, notes-run, notes-idle, parts-most}
 use Rattle.event_kernel.proofs.Handing.{any_below-same}
 use Rattle.event_kernel.proofs.Beginnings.{open-begins}
-use Rattle.event_kernel.proofs.Working.{course-next, entry-in}
+use Rattle.event_kernel.proofs.Working.{course-next}
 use Rattle.event_kernel.proofs.Ending.{exec-within}
 use Rattle.event_kernel.proofs.Releasing.{course-len}
 use Rattle.sched_model.specs.Demands.{IsWithin}

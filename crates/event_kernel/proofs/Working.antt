@@ -1,14 +1,13 @@
 -- The loop over the units of one tick.
-use Rattle.std.proofs.Common.{◌≡◌, ℕ, zero, suc, ◌+◌, ◌-◌, ◌*◌, ◌^◌, ◌<◌, ◌≤◌, min, Bool, true, false, ◌||◌, List, [], ◌∷◌, ◌++◌, length, replicate, refl, arith, if◌then◌else◌, ap, ap₂, ◌∙◌, sym, subst, ◌⊎◌, inl, inr, append-nil, append_assoc, nat_eq, add-one}
-use Rattle.std.proofs.lemmas.List.{length-replicate}
+use Rattle.std.proofs.Common.{◌≡◌, ℕ, zero, suc, ◌+◌, ◌-◌, ◌*◌, ◌^◌, ◌<◌, ◌≤◌, min, Bool, true, false, ◌||◌, List, [], ◌∷◌, ◌++◌, length, replicate, refl, arith, if◌then◌else◌, ap, ◌∙◌, sym, subst, ◌⊎◌, inl, inr, append-nil, append_assoc, nat_eq, add-one}
 use Rattle.grid_fraction.specs.declared.Frac.{Frac}
 use Rattle.dvs_base.specs.declared.note.Note.{Note}
 use Rattle.sched_model.specs.declared.state.Row.{Row}
 use Rattle.sched_model.specs.declared.holder.Holder.{Holder}
 use Rattle.sched_model.specs.declared.holder.Holder.TheVariants.{Nobody, Held}
 use Rattle.event_kernel.proofs.Bounds.{Bounds}
-use Rattle.grid_fraction.specs.Numbers.{sum_below, any_below, list_below}
-use Rattle.sched_model.specs.Plan.{Plan, count, point, worst}
+use Rattle.grid_fraction.specs.Numbers.{sum_below, any_below}
+use Rattle.sched_model.specs.Plan.{Plan, count, worst}
 use Rattle.sched_model.specs.Jobs.{latest}
 use Rattle.sched_model.specs.Ticks.{Tick, exec, left, share}
 use Rattle.sched_model.specs.Decision.{is_decision, completes_in}
@@ -18,17 +17,16 @@ use Rattle.sched_model.specs.States.{row_at, prior_state, after_advance, CanRun,
 use Rattle.std.specs.Prelude.{count_by}
 use Rattle.sched_model.specs.Greedy.{IsFirstOpen}
 use Rattle.sched_model.specs.Segments.{same_holder}
-use Rattle.sched_model.proofs.ScheduleLemmas.{length-list_below, schedule_exists}
+use Rattle.sched_model.proofs.ScheduleLemmas.{length-list_below}
 use Rattle.event_kernel.specs.declared.pen.Pen.{Pen}
 use Rattle.event_kernel.specs.Heard.{HasHeard, HasBalked}
-use Rattle.governor.specs.Schedule.{ask_of, course}
-use Rattle.event_kernel.specs.Pens.{grown, open_span, open_notes, entered, entering_notes, IsFirstUndone, CanTell, HeldIn, cost}
+use Rattle.event_kernel.specs.Pens.{grown, open_notes, entered, entering_notes, IsFirstUndone, CanTell, HeldIn}
 use Rattle.event_kernel.specs.Writing.{HeldNow, Writing}
-use Rattle.event_kernel.specs.Tickwork.{served, had_at, span_at, tick_at, whole_span, IsAtWork, HasWorked}
+use Rattle.event_kernel.specs.Tickwork.{served}
 use Rattle.event_kernel.proofs.Entering.{Shows, enters-notes, enters}
 use Rattle.event_kernel.proofs.Handing.{raised, sum-raised, key, job, had, units_by, given_row, Handing, start, start-units, given-row, shows, first-open, none-open, gives, gives-units, gives-had, count_idle}
-use Rattle.event_kernel.proofs.Ending.{exec-within, speed_now, tick_now, given-share, end-units, end-had, end-state, end-completes}
-use Rattle.event_kernel.proofs.Hearing.{Begins, begins-trans, heard-append, balked-append, balked-begins, balked_after}
+use Rattle.event_kernel.proofs.Ending.{speed_now, tick_now, given-share, end-units, end-had, end-state, end-completes}
+use Rattle.event_kernel.proofs.Hearing.{Begins, heard-append, balked-begins, balked_after}
 use Rattle.event_kernel.proofs.Beginnings.{units-begin, open-begins}
 use Rattle.sched_model.specs.Demands.{IsWithin}
 use Rattle.freq_table.specs.Tables.{lowest_entry}
@@ -240,8 +238,7 @@ module _ {L : Type 0} (heard balked : L → Note → L → Type 0) (p : Plan) (d
         let o : IsFirstOpen (count p) (key p dem past) (left p dem past) w.given i = first-open p dem past (speed_now p dem ask past) rest w.given completed st i w.hand u in
         let used : (row_at st i).used ≡ had p dem past i + w.given i = ap (λ (r : Row). r.used) row in
         let need : dem i ((row_at st i).job) ≡ dem i (job p dem past i) = ap (λ (r : Row). dem i r.job) row in
-        let most : (row_at st i).worst ≡ worst p i = ap (λ (r : Row). r.worst) row in
-        (
+        let most : (row_at st i).worst ≡ worst p i = ap (λ (r : Row). r.worst) row in (
           record {
             task = omega (arith, u.below, rows-long to rest completed st pen w);
             open_job = u.open_job;

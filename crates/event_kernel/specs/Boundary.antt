@@ -1,15 +1,14 @@
 -- A boundary of a governor's schedule: its releases and its decision.
-use Rattle.std.specs.Prelude.{◌≡◌, ℕ, ◌+◌, ◌*◌, ◌<◌, ◌≤◌, ◌^◌, Bool, true, nat_eq, nat_lt, if◌then◌else◌, List, [], ◌∷◌, ◌++◌, length, slice_set, slice_index, sum_by}
+use Rattle.std.specs.Prelude.{◌≡◌, ℕ, ◌+◌, ◌*◌, ◌<◌, ◌≤◌, ◌^◌, Bool, true, nat_eq, nat_lt, if◌then◌else◌, List, [], ◌∷◌, slice_set, sum_by}
 use Rattle.grid_fraction.specs.declared.Frac.{Frac}
 use Rattle.dvs_base.specs.declared.note.Note.{Note}
 use Rattle.dvs_base.specs.declared.note.Note.TheVariants.{Release, Speed, Done}
 use Rattle.sched_model.specs.declared.state.Row.{Row}
 use Rattle.grid_fraction.specs.Numbers.{any_below}
-use Rattle.sched_model.specs.Plan.{Plan, count, period, worst, point}
-use Rattle.sched_model.specs.Jobs.{release}
+use Rattle.sched_model.specs.Plan.{Plan, count, period, point}
 use Rattle.sched_model.specs.Decision.{is_decision}
 use Rattle.sched_model.specs.Notes.{notes_before_end, energy_run, energy_idle}
-use Rattle.sched_model.specs.States.{row_at, row_wleft, released_row, prior_state, StateOf}
+use Rattle.sched_model.specs.States.{row_at, released_row, prior_state, StateOf}
 use Rattle.event_kernel.specs.declared.pen.Pen.{Pen}
 use Rattle.governor.specs.Schedule.{ask_of, course}
 use Rattle.event_kernel.specs.Counts.{counts_of}

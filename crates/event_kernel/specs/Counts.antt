@@ -1,5 +1,5 @@
 -- How many notes of each kind have been told.
-use Rattle.std.specs.Prelude.{ℕ, ◌+◌, List, count_by}
+use Rattle.std.specs.Prelude.{◌+◌, List, count_by}
 use Rattle.dvs_base.specs.declared.note.Note.{Note}
 use Rattle.sched_model.specs.Totals.{is_released, is_finished, is_decided}
 use Rattle.event_kernel.specs.declared.pen.Counts.{Counts}

@@ -11,4 +11,3 @@ HasHeard {L} heard from (note ∷ notes) to = (next : L) × heard from note next
 abbrev pub HasBalked : {L : Type 0} → (L → Note → L → Type 0) → (L → Note → L → Type 0) → L → List Note → L → Type 0
 HasBalked heard balked from [] to = ⊥
 HasBalked {L} heard balked from (note ∷ notes) to = balked from note to ⊎ ((next : L) × heard from note next × HasBalked heard balked next notes to)
-

@@ -1,5 +1,5 @@
 -- The segment that is being written, and the notes of a span up to it.
-use Rattle.std.specs.Prelude.{◌≡◌, ℕ, ◌+◌, ◌*◌, ◌<◌, ◌≤◌, ◌^◌, Bool, true, false, ◌&&◌, not, nat_lt, if◌then◌else◌, List, [], ◌∷◌, ◌++◌, length, count_by, sum_by, flat_map, replicate}
+use Rattle.std.specs.Prelude.{◌≡◌, ℕ, ◌+◌, ◌*◌, ◌<◌, ◌^◌, Bool, true, false, ◌&&◌, not, nat_lt, if◌then◌else◌, List, [], ◌∷◌, ◌++◌, length}
 use Rattle.dvs_base.specs.declared.note.Note.{Note}
 use Rattle.dvs_base.specs.declared.note.Note.TheVariants.{Run, Idle, Done, Speed}
 use Rattle.dvs_base.specs.declared.note.Pos.{Pos}
@@ -8,15 +8,13 @@ use Rattle.dvs_base.specs.declared.kind.Scheduler.{Scheduler}
 use Rattle.dvs_base.specs.declared.kind.Scheduler.TheVariants.{Edf, Rm}
 use Rattle.sched_model.specs.declared.holder.Holder.{Holder}
 use Rattle.sched_model.specs.declared.holder.Holder.TheVariants.{Nobody, Held}
-use Rattle.sched_model.specs.Plan.{Plan, count, point, period}
-use Rattle.sched_model.specs.Jobs.{latest}
-use Rattle.sched_model.specs.Ticks.{Tick, exec}
+use Rattle.sched_model.specs.Plan.{Plan, point, period}
+use Rattle.sched_model.specs.Ticks.{Tick}
 use Rattle.sched_model.specs.Decision.{is_decision}
-use Rattle.sched_model.specs.Order.{in_order}
-use Rattle.sched_model.specs.Priority.{key_of, stands_before}
+use Rattle.sched_model.specs.Priority.{stands_before}
 use Rattle.sched_model.specs.Schedule.{entry_in_force}
 use Rattle.sched_model.specs.Segments.{same_holder, Span, spans_of, Piece, pieces_of, position_of, run_energy, idle_energy}
-use Rattle.sched_model.specs.Notes.{all_release_notes, pieces_notes, notes_before_end, energy_run, energy_idle}
+use Rattle.sched_model.specs.Notes.{all_release_notes, pieces_notes, notes_before_end}
 use Rattle.sched_model.specs.States.{row_at, StateOf}
 use Rattle.event_kernel.specs.declared.pen.Pen.{Pen}
 use Rattle.event_kernel.specs.declared.pen.Counts.{Counts}

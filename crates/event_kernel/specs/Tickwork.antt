@@ -1,7 +1,6 @@
 -- The work of one tick of a governor's schedule, as functions of its number.
-use Rattle.std.specs.Prelude.{◌≡◌, ℕ, ◌+◌, ◌*◌, ◌<◌, ◌≤◌, ◌^◌, Bool, List, ◌∷◌, length, slice_set}
+use Rattle.std.specs.Prelude.{◌≡◌, ℕ, ◌+◌, ◌*◌, ◌<◌, ◌≤◌, ◌^◌, Bool, List, length, slice_set}
 use Rattle.grid_fraction.specs.declared.Frac.{Frac}
-use Rattle.dvs_base.specs.declared.note.Note.{Note}
 use Rattle.grid_fraction.specs.Numbers.{any_below}
 use Rattle.sched_model.specs.Plan.{Plan, count}
 use Rattle.sched_model.specs.Jobs.{latest}
@@ -12,7 +11,7 @@ use Rattle.sched_model.specs.Segments.{Span, units_of}
 use Rattle.sched_model.specs.States.{row_at, prior_state, StateOf, state_of}
 use Rattle.event_kernel.specs.declared.pen.Pen.{Pen}
 use Rattle.governor.specs.Schedule.{ask_of, course}
-use Rattle.event_kernel.specs.Pens.{grown, open_span, open_notes}
+use Rattle.event_kernel.specs.Pens.{grown, open_span}
 use Rattle.event_kernel.specs.Writing.{Writing}
 use Rattle.sched_model.specs.Demands.{IsWithin}
 

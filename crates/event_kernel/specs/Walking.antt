@@ -1,5 +1,5 @@
 -- The ticks of one span.
-use Rattle.std.specs.Prelude.{◌≡◌, ℕ, ◌+◌, ◌<◌, ◌≤◌, Bool, true, List, ◌∷◌}
+use Rattle.std.specs.Prelude.{◌≡◌, ℕ, ◌+◌, ◌<◌, ◌≤◌, Bool, true, List}
 use Rattle.grid_fraction.specs.declared.Frac.{Frac}
 use Rattle.sched_model.specs.Plan.{Plan}
 use Rattle.sched_model.specs.Decision.{is_decision}
@@ -8,7 +8,7 @@ use Rattle.governor.specs.Schedule.{ask_of, course}
 use Rattle.event_kernel.specs.Pens.{open_notes}
 use Rattle.dvs_base.specs.declared.note.Note.{Note}
 use Rattle.sched_model.specs.Notes.{notes_before_end}
-use Rattle.event_kernel.specs.Tickwork.{span_at, tick_at, whole_span, IsAtWork, HasWorked}
+use Rattle.event_kernel.specs.Tickwork.{span_at, whole_span, IsAtWork, HasWorked}
 use Rattle.sched_model.specs.States.{StateOf}
 
 -- in the span that began at t0, at the tick t, after the releases and the decision

@@ -124,7 +124,15 @@ impl<'a, G: Governor> Kernel<'a, G> {
             },
         };
         while state.now < ticks {
-            span(plan, demands, ticks, &mut governor, &mut state, &mut pen, to)?;
+            span(
+                plan,
+                demands,
+                ticks,
+                &mut governor,
+                &mut state,
+                &mut pen,
+                to,
+            )?;
         }
         to.hear(&Note::End {
             ticks,

@@ -127,7 +127,16 @@ pub fn work<G: Governor, L: Listener>(
         let row = state.rows[task as usize];
         let open = demand(plan, demands, task, row.job) - row.used;
         let share = rest.min(open);
-        enter(plan, state, from, index, pen, Holder::Held(task, row.job), share, to)?;
+        enter(
+            plan,
+            state,
+            from,
+            index,
+            pen,
+            Holder::Held(task, row.job),
+            share,
+            to,
+        )?;
         serve(plan, governor, state, task, share, share == open);
         completed = completed || share == open;
         rest -= share;

@@ -1,4 +1,4 @@
-use Rattle.std.proofs.Common.{◌≡◌, ◌<◌, ◌^◌, ℕ, arith, refl, sym, subst, [], ◌∷◌, ap, ◌∙◌, ◌≤◌, ◌+◌}
+use Rattle.std.proofs.Common.{arith, sym, subst, [], ◌∷◌, ap, ◌∙◌}
 use Rattle.event_kernel.proofs.Bounds.{bounds}
 use Rattle.event_kernel.specs.Runs.{demands_of}
 use Rattle.governor.specs.Schedule.{course}

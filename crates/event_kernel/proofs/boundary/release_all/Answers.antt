@@ -1,13 +1,13 @@
-use Rattle.std.proofs.Common.{◌≡◌, ◌<◌, ℕ, Bool, true, false, length, arith, ap, ◌∙◌, sym, subst, nat_eq, ◌+◌, ap₂}
+use Rattle.std.proofs.Common.{◌≡◌, ◌<◌, true, false, length, arith, ap, ◌∙◌, sym, subst, nat_eq, ◌+◌, ap₂}
 use Rattle.event_kernel.proofs.Bounds.{bounds}
 use Rattle.std.proofs.lemmas.Bool.{ne_eqb}
 use Rattle.sched_model.specs.declared.state.Row.{Row}
 use Rattle.event_kernel.specs.Runs.{demands_of}
 use Rattle.sched_model.specs.Plan.{count}
-use Rattle.sched_model.specs.States.{row_at, after_mark, StateOf, IsOfPlan}
+use Rattle.sched_model.specs.States.{row_at, StateOf, IsOfPlan}
 use Rattle.sched_model.specs.Notes.{all_release_notes}
 use Rattle.governor.specs.Schedule.{course}
-use Rattle.event_kernel.specs.Heard.{HasHeard, HasBalked}
+use Rattle.event_kernel.specs.Heard.{HasBalked}
 use Rattle.event_kernel.proofs.Ofplan.{of-prior}
 use Rattle.event_kernel.specs.Pens.{with_notes}
 use Rattle.event_kernel.proofs.Hearing.{at_exit}
@@ -23,8 +23,7 @@ loop-task-init g c =
     let dem = demands_of p c.args.demands.now in
     let t = c.args.state.now.now in
     let here = c.requires.at in
-    let past = course m p dem t in
-    (
+    let past = course m p dem t in (
       subst (λ (s : StateOf). Releasing p dem past g.L.Listener.heard 0 false s c.args.to.now c.args.to.now) (sym here.state) (releasing-start p dem past g.L.Listener.heard c.args.to.now),
       c.requires.counters,
       subst (λ (s : StateOf). IsOfPlan p s) (sym here.state) (of-prior p dem past (low-exec m p dem t here.within)),
@@ -127,12 +126,12 @@ loop-task-preserved g c =
     let clock : c.state.inside.now ≡ st.now = ap (λ (v : StateOf). v.now) c.state.view_is ∙ (sym len ∙ sym (ap (λ (v : StateOf). v.now) r.state)) in
     elim c.if-index-now.branch [
       | then-index-now+in_ok-release_one w ↦ (let due : (row_at st i).deadline ≡ st.now = sym (ap (λ (q : Row). q.deadline) is) ∙ (w.if-index-now.true ∙ clock) in
-        let next : Releasing p dem past g.L.Listener.heard (i + 1) true w.release_one.new.state c.args.to.now w.release_one.new.to =
-        opens p dem past adm.some_period g.L.Listener.heard g.L.Listener.balked c.args.to.now i any st c.loop-task.to r lt due w.release_one.new.state w.release_one.new.to w.in_ok-release_one.ensures.heard w.in_ok-release_one.ensures.state in
-        rw (w.any-is, w.state-is, w.to-is, w.governor-is, w.pen-is) (next, w.in_ok-release_one.ensures.counters, w.in_ok-release_one.ensures.of, opens-pen p dem past adm.some_period g.L.Listener.heard g.L.Listener.balked c.args.to.now i any st c.loop-task.to r lt due c.args.pen.now c.loop-task.pen w.release_one.new.pen c.loop-task.invariant.3 w.in_ok-release_one.ensures.pen, omega (arith, c.loop-task.invariant.4, w.in_ok-release_one.ensures.never_falls)))
+          let next : Releasing p dem past g.L.Listener.heard (i + 1) true w.release_one.new.state c.args.to.now w.release_one.new.to =
+          opens p dem past adm.some_period g.L.Listener.heard g.L.Listener.balked c.args.to.now i any st c.loop-task.to r lt due w.release_one.new.state w.release_one.new.to w.in_ok-release_one.ensures.heard w.in_ok-release_one.ensures.state in
+          rw (w.any-is, w.state-is, w.to-is, w.governor-is, w.pen-is) (next, w.in_ok-release_one.ensures.counters, w.in_ok-release_one.ensures.of, opens-pen p dem past adm.some_period g.L.Listener.heard g.L.Listener.balked c.args.to.now i any st c.loop-task.to r lt due c.args.pen.now c.loop-task.pen w.release_one.new.pen c.loop-task.invariant.3 w.in_ok-release_one.ensures.pen, omega (arith, c.loop-task.invariant.4, w.in_ok-release_one.ensures.never_falls)))
       | else-index-now w ↦ (let early : nat_eq (row_at st i).deadline st.now ≡ false = ap₂ (λ a b. nat_eq a b) (sym (ap (λ (q : Row). q.deadline) is)) (sym clock) ∙ ne_eqb _ _ w.if-index-now.false in
-        let next : Releasing p dem past g.L.Listener.heard (i + 1) any st c.args.to.now c.loop-task.to = passed p dem past adm.some_period g.L.Listener.heard g.L.Listener.balked c.args.to.now i any st c.loop-task.to r lt early in
-        rw (w.any-is, w.state-is, w.to-is, w.governor-is, w.pen-is) (next, c.loop-task.invariant.1, c.loop-task.invariant.2, c.loop-task.invariant.3 ∙ ap (λ ns. with_notes c.args.pen.now ns) (sym (passed-notes p dem past adm.some_period g.L.Listener.heard g.L.Listener.balked c.args.to.now i any st c.loop-task.to r lt early)), c.loop-task.invariant.4))
+          let next : Releasing p dem past g.L.Listener.heard (i + 1) any st c.args.to.now c.loop-task.to = passed p dem past adm.some_period g.L.Listener.heard g.L.Listener.balked c.args.to.now i any st c.loop-task.to r lt early in
+          rw (w.any-is, w.state-is, w.to-is, w.governor-is, w.pen-is) (next, c.loop-task.invariant.1, c.loop-task.invariant.2, c.loop-task.invariant.3 ∙ ap (λ ns. with_notes c.args.pen.now ns) (sym (passed-notes p dem past adm.some_period g.L.Listener.heard g.L.Listener.balked c.args.to.now i any st c.loop-task.to r lt early)), c.loop-task.invariant.4))
     ]
 
 pub returns-then-any-clause-state : goal.returns-then-any-clause-state

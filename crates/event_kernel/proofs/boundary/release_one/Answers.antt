@@ -1,8 +1,8 @@
-use Rattle.std.proofs.Common.{◌≡◌, ◌+◌, ◌<◌, ℕ, true, length, arith, ap, ◌∙◌, sym, subst, nat_eq, eq-eqb}
+use Rattle.std.proofs.Common.{◌≡◌, ◌+◌, ap, ◌∙◌, sym, subst, eq-eqb}
 use Rattle.sched_model.specs.declared.state.Row.{Row}
 use Rattle.event_kernel.specs.Runs.{demands_of}
 use Rattle.sched_model.specs.States.{row_at, IsOfPlan, after_finish, StateOf}
-use Rattle.event_kernel.proofs.Ofplan.{of-release, of-opened}
+use Rattle.event_kernel.proofs.Ofplan.{of-release}
 use Rattle.event_kernel.proofs.Atwork.{read_row}
 use Rattle.event_kernel.proofs.Releasing.{opened-done}
 use Rattle.event_kernel.proofs.boundary.release_one.Goals as goal

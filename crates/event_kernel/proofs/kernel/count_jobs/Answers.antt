@@ -1,7 +1,7 @@
-use Rattle.std.proofs.Common.{◌≡◌, ℕ, arith, ap, ap₂, ◌+◌, ◌<◌, ◌/◌, ◌%◌, min, ◌∙◌, sym}
-use Rattle.grid_fraction.specs.Numbers.{sum_below, ceil_div}
+use Rattle.std.proofs.Common.{◌≡◌, arith, ap, ap₂, ◌+◌, ◌/◌, ◌%◌, min, ◌∙◌, sym}
+use Rattle.grid_fraction.specs.Numbers.{ceil_div}
 use Rattle.grid_fraction.proofs.Sums.{sum_below-more}
-use Rattle.sched_model.specs.Plan.{count, period}
+use Rattle.sched_model.specs.Plan.{period}
 use Rattle.event_kernel.proofs.Bounds.{bounds}
 use Rattle.event_kernel.proofs.Counting.{ceil-is, ceil-most}
 use Rattle.event_kernel.proofs.kernel.count_jobs.Goals as goal
@@ -23,8 +23,7 @@ loop-task-preserved c =
     let i = c.loop-task.task in
     let n = c.args.ticks in
     let is : c.div_ceil-count.result ≡ ceil_div n (period p i) =
-    c.div_ceil-count.ensures ∙ (ap (λ d. n / d + min 1 (n % d)) c.period.ensures ∙ ceil-is n (period p i) (adm.some_period i)) in
-    (
+    c.div_ceil-count.ensures ∙ (ap (λ d. n / d + min 1 (n % d)) c.period.ensures ∙ ceil-is n (period p i) (adm.some_period i)) in (
       ap₂ (λ a b. a + b) c.loop-task.invariant.0 is ∙ sym (sum_below-more i (λ k. ceil_div n (period p k))),
       omega (arith, is, ceil-most n (period p i) c.requires (adm.low_period i), c.loop-task.invariant.1),
     )

@@ -1,4 +1,4 @@
-use Rattle.std.proofs.Common.{◌≡◌, ◌<◌, ℕ, arith, refl, ap, ◌∙◌, sym, subst}
+use Rattle.std.proofs.Common.{◌≡◌, ◌<◌, ap, ◌∙◌, sym, subst}
 use Rattle.event_kernel.proofs.Bounds.{bounds}
 use Rattle.event_kernel.specs.Runs.{demands_of}
 use Rattle.event_kernel.specs.Heard.{HasHeard}

@@ -1,4 +1,4 @@
-use Rattle.std.proofs.Common.{◌≡◌, ◌<◌, ◌+◌, ℕ, arith, ◌∙◌, sym}
+use Rattle.std.proofs.Common.{◌≡◌, ◌+◌, arith, ◌∙◌, sym}
 use Rattle.event_kernel.specs.Runs.{demands_of}
 use Rattle.event_kernel.proofs.Bounds.{bounds}
 use Rattle.event_kernel.proofs.Hearing.{at_exit}

@@ -1,5 +1,4 @@
-use Rattle.std.proofs.Common.{◌≡◌, ℕ, ◌<◌, ◌≤◌, true, IfNone, IfSome}
-use Rattle.sched_model.specs.Plan.{count}
+use Rattle.std.proofs.Common.{◌≡◌, ℕ, ◌<◌, true, IfNone, IfSome}
 use Rattle.sched_model.specs.States.{row_at}
 use Rattle.event_kernel.specs.Pens.{IsFirstUndone}
 use Rattle.event_kernel.proofs.tick.first_undone.Given as goal

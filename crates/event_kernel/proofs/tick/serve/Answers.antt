@@ -1,4 +1,4 @@
-use Rattle.std.proofs.Common.{◌≡◌, ◌∙◌, ap, sym, subst}
+use Rattle.std.proofs.Common.{◌∙◌, ap, sym, subst}
 use Rattle.sched_model.specs.States.{IsOfPlan, after_finish, StateOf}
 use Rattle.event_kernel.specs.Tickwork.{served}
 use Rattle.event_kernel.proofs.Serving.{served-ended}

@@ -1,4 +1,4 @@
-use Rattle.std.proofs.Common.{◌≡◌, ℕ, ◌+◌, ◌-◌, ◌<◌, ◌≤◌, min, Bool, true, ◌||◌, length, arith, refl, ap, ◌∙◌, sym, subst, inl, inr, ◌⊎◌, nat_eq}
+use Rattle.std.proofs.Common.{◌≡◌, ℕ, ◌+◌, ◌-◌, ◌<◌, min, Bool, true, ◌||◌, length, arith, refl, ap, ◌∙◌, sym, subst, inl, inr, ◌⊎◌, nat_eq}
 use Rattle.event_kernel.proofs.Bounds.{bounds}
 use Rattle.event_kernel.specs.Runs.{demands_of}
 use Rattle.sched_model.specs.Plan.{count}
@@ -33,8 +33,7 @@ loop-rest-init g c =
     let dem = demands_of c.args.plan.now c.args.demands.now in
     let t = c.args.state.now.now in
     let here = c.requires.at in
-    let adm = bounds c.args.plan.now c.known.ensures in
-    (
+    let adm = bounds c.args.plan.now c.known.ensures in (
       begin g.L.Listener.heard g.L.Listener.balked m p dem t c.args.from c.args.index c.args.state.now c.args.pen.now adm here c.args.to.now c.point-rest.result.speed (ap (λ (q : Point). q.speed) c.point-rest.ensures ∙ ap (λ (x : Table). speed_at x c.args.index) c.machine.ensures),
       c.requires.counters,
       subst (λ (s : StateOf). IsOfPlan p s) (sym here.state) (of-state p dem (course m p dem t) (low-exec m p dem t here.within)),
@@ -43,7 +42,6 @@ loop-rest-init g c =
 
 pub serve-requires-clause-of : goal.serve-requires-clause-of
 serve-requires-clause-of g c = c.loop-rest.invariant.2
-
 
 pub first_undone-requires : goal.first_undone-requires
 first_undone-requires g c =
@@ -164,9 +162,13 @@ loop-rest-preserved g c =
     elim c.if-completed.branch [
       | then-completed w ↦ w.completed-is ∙ w.if-completed.true ∙ sym (ap (λ b. b || whole) w.if-completed.true)
       | else-completed w ↦ w.completed-is ∙ sym (ap (λ b. b || whole) w.if-completed.false)
-    ] in
-    (turned g.L.Listener.heard g.L.Listener.balked m p dem t c.args.from c.args.index c.args.state.now c.args.pen.now adm here c.args.to.now c.loop-rest.to c.loop-rest.rest c.loop-rest.completed c.loop-rest.state c.loop-rest.pen c.loop-rest.invariant.0 c.enter.new.to i c.min-share.result whole c.if-completed.completed c.serve.new.state c.enter.new.pen row is c.loop-rest-test.true first share
-    (ap (λ u. nat_eq c.min-share.result (u - row.used)) c.demand.ensures) now_is c.in_ok-enter.ensures.heard c.serve.ensures.state c.in_ok-enter.ensures.pen, c.serve.ensures.counters, c.serve.ensures.of, omega (arith, c.loop-rest.invariant.3, c.in_ok-enter.ensures.never_falls))
+    ] in (
+      turned g.L.Listener.heard g.L.Listener.balked m p dem t c.args.from c.args.index c.args.state.now c.args.pen.now adm here c.args.to.now c.loop-rest.to c.loop-rest.rest c.loop-rest.completed c.loop-rest.state c.loop-rest.pen c.loop-rest.invariant.0 c.enter.new.to i c.min-share.result whole c.if-completed.completed c.serve.new.state c.enter.new.pen row is c.loop-rest-test.true first share
+          (ap (λ u. nat_eq c.min-share.result (u - row.used)) c.demand.ensures) now_is c.in_ok-enter.ensures.heard c.serve.ensures.state c.in_ok-enter.ensures.pen,
+      c.serve.ensures.counters,
+      c.serve.ensures.of,
+      omega (arith, c.loop-rest.invariant.3, c.in_ok-enter.ensures.never_falls),
+    )
 
 pub enter-requires-then-rest-gt0-clause-can : goal.enter-requires-then-rest-gt0-clause-can
 enter-requires-then-rest-gt0-clause-can g c =

@@ -1,5 +1,4 @@
-use Rattle.std.proofs.Common.{◌≡◌, ◌<◌, ◌≤◌, ℕ, List, [], ◌∷◌, arith, refl, ap, ◌∙◌, sym, subst}
-use Rattle.dvs_base.specs.declared.note.Note.TheVariants.{End}
+use Rattle.std.proofs.Common.{◌≡◌, arith, refl, ap, sym, subst}
 use Rattle.sched_model.specs.declared.holder.Holder.TheVariants.{Nobody}
 use Rattle.sched_model.specs.States.{StateOf, opening}
 use Rattle.sched_model.specs.Totals.{totals_of}
@@ -16,8 +15,7 @@ loop-state-init g c =
     let m = g.G.Governor.demand in
     let p = c.self.inside.plan.now in
     let dem = demands_of p c.self.inside.demands.now in
-    let first = first-between g.L.Listener.heard g.L.Listener.balked m p dem c.self.inside.ticks c.self.inside.state (record { holder = Nobody; start = 0; units = 0; run = 0; idle = 0; counts = record { released = 0; finished = 0; decisions = 0 } }) c.self.invariant.0 refl refl refl in
-    (
+    let first = first-between g.L.Listener.heard g.L.Listener.balked m p dem c.self.inside.ticks c.self.inside.state (record { holder = Nobody; start = 0; units = 0; run = 0; idle = 0; counts = record { released = 0; finished = 0; decisions = 0 } }) c.self.invariant.0 refl refl refl in (
       first.0,
       subst (λ (s : StateOf). g.G.Governor.stands c.self.inside.governor p s) (sym c.self.invariant.0) c.self.invariant.1,
       omega (arith, first.1),
