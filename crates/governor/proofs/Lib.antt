@@ -1,3 +1,5 @@
 pub mod Rows
 pub mod Belonging
 pub mod Ticks
+pub mod Joins
+pub mod Course

@@ -67,3 +67,7 @@ first_from-most n from m test low found = go (nat_le (first_from n from test) m)
     go false e =
         let over : m < first_from n from test = grind (arith, nat_tests) in
         absurd (true≢false (sym found ∙ first_from-before n from m test low over))
+
+pub any_below-same : (n : ℕ) (f g : ℕ → Bool) → ((k : ℕ) → k < n → f k ≡ g k) → any_below n f ≡ any_below n g
+any_below-same zero f g h = refl
+any_below-same (suc n) f g h = ap₂ (λ a b. a || b) (any_below-same n f g (λ k l. h k (omega arith))) (h n (omega arith))

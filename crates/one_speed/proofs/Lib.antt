@@ -3,3 +3,4 @@ pub mod EdfLaws
 pub mod RmLaws
 pub mod OneSpeedLaws
 pub mod Publishing
+pub mod Worst

@@ -3,3 +3,4 @@ pub mod Edf
 pub mod Rm
 pub mod Conditions
 pub mod Published
+pub mod Worst

@@ -1,10 +1,13 @@
 -- What the limits say of a plan's numbers.
-use Rattle.std.proofs.Common.{◌≡◌, ℕ, ◌*◌, ◌/◌, ◌^◌, ◌<◌, ◌≤◌, List, length, get_or, refl, arith, ap, ◌∙◌}
+use Rattle.std.proofs.Common.{◌≡◌, inl, inr, ℕ, ◌*◌, ◌/◌, ◌^◌, ◌<◌, ◌≤◌, List, length, get_or, refl, arith, ap, ◌∙◌}
 use Rattle.std.specs.Prelude.{map}
 use Rattle.std.specs.List.{All}
 use Rattle.std.proofs.lemmas.List.{length-map, get_or-map}
+use Rattle.std.proofs.Math.ListN.{get_or-eq_default}
+use Rattle.std.proofs.lemmas.Bool.{cases_lt}
 use Rattle.std.proofs.lemmas.List.Elements.{All-from_get_or}
 use Rattle.grid_fraction.proofs.Multiples.{least_common_multiple-pos, mul-div-least_common_multiple}
+use Rattle.task_model.specs.declared.task.Task.{Task}
 use Rattle.task_model.specs.Tasks.{no_task}
 use Rattle.sched_model.specs.Plan.{Plan, count, period, hyper}
 use Rattle.sched_model.specs.Admission.{IsWithinLimits}
@@ -15,6 +18,16 @@ module _ (p : Plan) (lim : IsWithinLimits p) where
 
   pub some_period : (i : ℕ) → i < count p → 0 < period p i
   some_period i h = (lim.tasks.each i h).some_period
+
+  -- also of a place past the end
+  pub every_period : (i : ℕ) → 0 < period p i
+  every_period i =
+      elim (cases_lt i (count p)) [
+        | inl within ↦ some_period i within
+        | inr past ↦
+            let none : period p i ≡ 1 = ap (λ (t : Task). t.period) (get_or-eq_default p.tasks no_task past) in
+            omega arith
+      ]
 
   pub low_period : (i : ℕ) → i < count p → period p i ≤ 2 ^ 40
   low_period i h = (lim.tasks.each i h).low_period

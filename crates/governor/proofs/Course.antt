@@ -1,0 +1,192 @@
+-- What the laws of a governor give along its schedule: every deadline is met, and every demand but that of a look-ahead.
+use Rattle.std.proofs.Common.{◌≡◌, ◌≢◌, ℕ, zero, suc, ◌-◌, ◌<◌, ◌≤◌, Bool, true, false, ◌||◌, List, [], ◌∷◌, length, drop, refl, arith, if◌then◌else◌, ap, ◌∙◌, sym, subst, true≢false, ◌⊎◌, inl, inr, eq-or-lt_of_le}
+use Rattle.dvs_base.specs.declared.kind.Scheduler.{Scheduler}
+use Rattle.dvs_base.specs.declared.kind.GovernorKind.{GovernorKind}
+use Rattle.dvs_base.specs.declared.kind.GovernorKind.TheVariants.{Ahead}
+use Rattle.grid_fraction.specs.declared.Frac.{Frac}
+use Rattle.freq_table.specs.Tables.{lowest_entry, lowest_pick, speed_at}
+use Rattle.freq_table.proofs.Chosen.{lowest_within}
+use Rattle.sched_model.specs.declared.state.Row.{Row}
+use Rattle.sched_model.specs.Plan.{Plan, count, period}
+use Rattle.sched_model.specs.Demands.{IsWithin}
+use Rattle.sched_model.specs.Admission.{IsAdmitted}
+use Rattle.sched_model.specs.Deadlines.{IsMet}
+use Rattle.sched_model.specs.Jobs.{latest, due, is_release}
+use Rattle.sched_model.specs.Ticks.{Tick, at, exec, share}
+use Rattle.sched_model.specs.Ticks.{left as left_at}
+use Rattle.sched_model.specs.Decision.{is_decision}
+use Rattle.sched_model.specs.Priority.{allotment, key_of}
+use Rattle.sched_model.specs.Schedule.{entry_in_force, next_tick, schedule_by, IsNext}
+use Rattle.sched_model.specs.States.{StateOf, no_row, row_at, prior_row, prior_state, state_of}
+use Rattle.sched_model.proofs.Limits.{some_task, every_period}
+use Rattle.sched_model.proofs.ScheduleLemmas.{next_tick-may, schedule_exists}
+use Rattle.sched_model.proofs.Tables.{get-table}
+use Rattle.sched_model.proofs.JobLaws.{latest-is, latest-pos, release-due}
+use Rattle.sched_model.proofs.Joining.{state-still}
+use Rattle.governor.specs.Steps.{IsAtDecision, IsLegal, Belongs}
+use Rattle.governor.specs.Laws.{GovernorLaws}
+use Rattle.governor.specs.Schedule.{ask_of, course}
+use Rattle.governor.proofs.Joins.{boundary-is, tick-is, legal-is}
+use Rattle.governor.proofs.Belonging.{belongs_opening, belongs_boundary, belongs_tick, decision_boundary}
+
+or-left : (a b : Bool) → (a || b) ≡ false → a ≡ false
+or-left true b e = absurd (true≢false e)
+or-left false b e = refl
+
+-- tick by tick
+pub schedule-none : (p : Plan) (dem : ℕ → ℕ → ℕ) (ask : List Tick → Frac) → schedule_by p dem ask zero ≡ []
+unfolding schedule_by
+schedule-none p dem ask = refl
+
+pub schedule-suc : (p : Plan) (dem : ℕ → ℕ → ℕ) (ask : List Tick → Frac) (t : ℕ) → schedule_by p dem ask (suc t) ≡ next_tick p dem ask (schedule_by p dem ask t) ∷ schedule_by p dem ask t
+unfolding schedule_by
+schedule-suc p dem ask t = refl
+
+-- the ticks of a schedule up to r are those of the shorter one
+pub at-schedule : (p : Plan) (dem : ℕ → ℕ → ℕ) (ask : List Tick → Frac) (t r : ℕ) → r ≤ t → at r (schedule_by p dem ask t) ≡ schedule_by p dem ask r
+at-schedule p dem ask t r le = ap (λ n. drop (n - r) (schedule_by p dem ask t)) (schedule_exists p dem ask t).1 ∙ go t le
+  where
+    go : (t : ℕ) → r ≤ t → drop (t - r) (schedule_by p dem ask t) ≡ schedule_by p dem ask r
+    go zero le = let z : zero ≡ r = omega arith in subst (λ m. drop (zero - m) (schedule_by p dem ask zero) ≡ schedule_by p dem ask m) z refl
+    go (suc t) le = cases (eq-or-lt_of_le le) (go t)
+      where
+        cases : (r ≡ suc t) ⊎ (r < suc t) → (r ≤ t → drop (t - r) (schedule_by p dem ask t) ≡ schedule_by p dem ask r) → drop (suc t - r) (schedule_by p dem ask (suc t)) ≡ schedule_by p dem ask r
+        cases (inl q) ih = let z : suc t - r ≡ 0 = omega (arith, q) in ap (λ n. drop n (schedule_by p dem ask (suc t))) z ∙ ap (schedule_by p dem ask) (sym q)
+        cases (inr l) ih =
+            let z : suc t - r ≡ suc (t - r) = omega (arith, l) in
+            ap (λ n. drop n (schedule_by p dem ask (suc t))) z
+            ∙ (ap (drop (suc (t - r))) (schedule-suc p dem ask t)
+            ∙ ih (omega arith))
+
+-- the entry at a decision is the one that the published demand picks there
+pub force-decided : (p : Plan) (dem : ℕ → ℕ → ℕ) (ask : List Tick → Frac) (past : List Tick) → is_decision p dem past ≡ true → entry_in_force p dem ask past ≡ lowest_entry p.machine (ask past)
+force-decided p dem ask [] e = refl
+force-decided p dem ask (x ∷ past) e = ap (λ b. if b then lowest_entry p.machine (ask (x ∷ past)) else entry_in_force p dem ask past) e
+
+pub force-within : (p : Plan) (dem : ℕ → ℕ → ℕ) (ask : List Tick → Frac) → 0 < length p.machine.points → (past : List Tick) → entry_in_force p dem ask past < length p.machine.points
+force-within p dem ask some [] = lowest_within p.machine (ask []) some
+force-within p dem ask some (x ∷ past) = go (is_decision p dem (x ∷ past)) (force-within p dem ask some past)
+  where
+    go : (b : Bool) → entry_in_force p dem ask past < length p.machine.points → (if b then lowest_entry p.machine (ask (x ∷ past)) else entry_in_force p dem ask past) < length p.machine.points
+    go true ih = lowest_within p.machine (ask (x ∷ past)) some
+    go false ih = ih
+
+module _ (kind : GovernorKind) (serves : Scheduler → Type 0) (demand : Plan → StateOf → Frac) (calm : Plan → StateOf → Type 0) (safe : Plan → StateOf → ℕ → Type 0) (laws : GovernorLaws kind serves demand calm safe) (p : Plan) (dem : ℕ → ℕ → ℕ) (adm : IsAdmitted p) (within : IsWithin p dem) (served : serves p.scheduler) where
+  periods : (i : ℕ) → 0 < period p i
+  periods = every_period p adm.limits
+
+  some : 0 < count p
+  some = some_task p adm.limits
+
+  abbrev pub ask : List Tick → Frac
+  ask = ask_of demand p dem
+
+  abbrev pub entry_at : List Tick → ℕ
+  entry_at past = entry_in_force p dem ask past
+
+  abbrev pub speed_now : List Tick → ℕ
+  speed_now past = speed_at p.machine (entry_at past)
+
+  -- before the releases of the tick after `past`
+  pub record Kept (past : List Tick) : Type 0 where
+    pub belongs : Belongs p dem (prior_state p dem past)
+    pub is_calm : calm p (prior_state p dem past)
+    pub is_safe : is_decision p dem past ≡ false → safe p (prior_state p dem past) (entry_at past)
+
+  -- after them
+  pub belongs-state : (past : List Tick) → Kept past → Belongs p dem (state_of p dem past)
+  belongs-state past k = subst (Belongs p dem) (boundary-is p dem periods past some) (belongs_boundary p dem (prior_state p dem past) k.belongs)
+
+  pub calm-state : (past : List Tick) → Kept past → calm p (state_of p dem past)
+  calm-state past k =
+      subst (calm p) (boundary-is p dem periods past some)
+      (laws.releases p dem (prior_state p dem past) adm served k.belongs k.is_calm)
+
+  pub decides-state : (past : List Tick) → Kept past → IsAtDecision p (state_of p dem past)
+  decides-state past k = subst (IsAtDecision p) (boundary-is p dem periods past some) (decision_boundary p dem (prior_state p dem past) adm.limits k.belongs)
+
+  no-release : (past : List Tick) → is_decision p dem past ≡ false → is_release p (length past) ≡ false
+  no-release [] e = absurd (true≢false e)
+  no-release (x ∷ past) e = or-left (is_release p (length (x ∷ past))) _ e
+
+  safe-state : (past : List Tick) → Kept past → safe p (state_of p dem past) (entry_at past)
+  safe-state past k = go (is_decision p dem past) refl
+    where
+      go : (d : Bool) → is_decision p dem past ≡ d → safe p (state_of p dem past) (entry_at past)
+      go true e =
+          subst (safe p (state_of p dem past)) (sym (force-decided p dem ask past e))
+          (laws.chooses p dem (state_of p dem past) adm served (belongs-state past k) (decides-state past k) (calm-state past k))
+      go false e =
+          subst (λ s. safe p s (entry_at past)) (state-still p dem periods past some (no-release past e))
+          (k.is_safe e)
+
+  abbrev tick : List Tick → Tick
+  tick past = next_tick p dem ask past
+
+  own : (past : List Tick) (i : ℕ) → i < count p → share (tick past) i ≤ left_at p dem past i
+  own past i lt = omega (arith, get-table (count p) (allotment (count p) (key_of p.scheduler p (length past)) (speed_now past) (left_at p dem past)) i 0 lt)
+
+  legal : (past : List Tick) → IsLegal p dem (speed_now past) (state_of p dem past) (tick past).shares
+  legal past =
+      let may : IsNext p dem ask past (tick past) = next_tick-may p dem ask past in
+      legal-is p dem periods (tick past) past (speed_now past) may.one_share_each may.legal
+
+  safe-next : (past : List Tick) → Kept past → safe p (prior_state p dem (tick past ∷ past)) (entry_at past)
+  safe-next past k =
+      subst (λ s. safe p s (entry_at past)) (tick-is p dem periods (tick past) past (own past))
+      (laws.ticks p dem (state_of p dem past) (entry_at past) (tick past).shares adm served (belongs-state past k) (decides-state past k).before
+      (force-within p dem ask adm.limits.machine.some past) (legal past) (safe-state past k))
+
+  belongs-next : (past : List Tick) → Kept past → Belongs p dem (prior_state p dem (tick past ∷ past))
+  belongs-next past k =
+      subst (Belongs p dem) (tick-is p dem periods (tick past) past (own past))
+      (belongs_tick p dem (speed_now past) (state_of p dem past) (tick past).shares (belongs-state past k) (decides-state past k).before (legal past))
+
+  kept-next : (past : List Tick) → Kept past → Kept (tick past ∷ past)
+  kept-next past k = record {
+    belongs = belongs-next past k;
+    is_calm = laws.stays_calm p dem (prior_state p dem (tick past ∷ past)) (entry_at past) adm served (belongs-next past k) (safe-next past k);
+    is_safe = λ e. subst (safe p (prior_state p dem (tick past ∷ past))) (sym (stays e)) (safe-next past k);
+  }
+    where
+      stays : is_decision p dem (tick past ∷ past) ≡ false → entry_at (tick past ∷ past) ≡ entry_at past
+      stays e = ap (λ d. if d then lowest_entry p.machine (ask (tick past ∷ past)) else entry_at past) e
+
+  kept-none : Kept []
+  kept-none = record {
+    belongs = belongs_opening p dem within;
+    is_calm = laws.opens p adm served;
+    is_safe = λ e. absurd (true≢false e);
+  }
+
+  -- at each tick of the governor's schedule
+  pub kept : (t : ℕ) → Kept (course demand p dem t)
+  kept zero = subst Kept (sym (schedule-none p dem ask)) kept-none
+  kept (suc t) = subst Kept (sym (schedule-suc p dem ask t)) (kept-next (course demand p dem t) (kept t))
+
+  -- what is due is complete
+  due-had : (past : List Tick) (i k : ℕ) → Kept past → i < count p → 1 ≤ k → due p i k ≡ length past → exec p past i k ≡ dem i k
+  due-had [] i k kept lt pos e = absurd (omega (arith, e, release-due p i k pos, periods i))
+  due-had (x ∷ past) i k kept lt pos e =
+      let job : latest p i (length past) ≡ k = latest-is p i k (length past) (omega (arith, e, release-due p i k pos, periods i)) (omega (arith, e)) in
+      let row : row_at (prior_state p dem (x ∷ past)) i ≡ prior_row p dem (x ∷ past) i = get-table (count p) (prior_row p dem (x ∷ past)) i no_row lt in
+      let now : (row_at (prior_state p dem (x ∷ past)) i).deadline ≡ length (x ∷ past) = ap (λ (r : Row). r.deadline) row ∙ (ap (due p i) job ∙ e) in
+      let done : (row_at (prior_state p dem (x ∷ past)) i).done ≡ true = laws.completes p dem (prior_state p dem (x ∷ past)) adm served kept.belongs kept.is_calm i lt now in
+      let P : Row → Type 0 = λ (r : Row). r.done ≡ true → 0 < r.job → r.used ≡ dem i r.job in
+      let had : exec p (x ∷ past) i (latest p i (length past)) ≡ dem i (latest p i (length past)) =
+      subst P row (kept.belongs.closed_job i lt) (sym (ap (λ (r : Row). r.done) row) ∙ done) (latest-pos p i (length past)) in
+      ap (exec p (x ∷ past) i) (sym job) ∙ (had ∙ ap (dem i) job)
+
+  -- every deadline is met
+  pub course-met : (t : ℕ) → IsMet p dem (course demand p dem t)
+  course-met t i k lt pos le =
+      let long = (schedule_exists p dem ask t).1 in
+      let there = (schedule_exists p dem ask (due p i k)).1 in
+      ap (λ (ps : List Tick). exec p ps i k) (at-schedule p dem ask t (due p i k) (omega (arith, le, long)))
+      ∙ due-had (course demand p dem (due p i k)) i k (kept (due p i k)) lt pos (sym there)
+
+  -- at a decision the demand is met
+  pub demand-met : kind ≢ Ahead → (t : ℕ) → (lowest_pick p.machine (demand p (state_of p dem (course demand p dem t)))).met ≡ true
+  demand-met other t =
+      let past = course demand p dem t in
+      laws.meets p dem (state_of p dem past) adm served (belongs-state past (kept t)) (decides-state past (kept t)) (calm-state past (kept t)) other
