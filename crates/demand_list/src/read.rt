@@ -211,9 +211,9 @@ fn read_rows(
 }
 
 impl Demands {
-    /// The demand list of a file: the tasks' declared worst cases, and the rows of the file. Rows for jobs beyond a run
-    /// are checked like all others. The first refusal stands in the order of the records, and in a row in the order of
-    /// the variants of `DemandFault`.
+    /// The demand list of a file: the tasks' declared worst cases, and the rows of the file, in work units without the
+    /// charge. Rows for jobs beyond a run are checked like all others. The first refusal comes: the header, and then row
+    /// by row the number of fields, the task, the job, the units, an earlier row of the job, and the worst case.
     pub fn read(alloc: Global, bytes: &[u8], tasks: &TaskSet) -> Result<Demands, DemandFault>
         ensures file { IsUnlessMemory (λ d. d) result (demand_file tasks.now bytes.now) }
         ensures worsts { IfOk result (λ d. d.worsts ≡ map (λ t. t.worst) tasks.now) }
