@@ -39,3 +39,43 @@ pub fn edf_admit(alloc: Global, tasks: &TaskSet, machine: &Machine) -> Result<Ad
     }
     Admitted::with(alloc, tasks, machine, Scheduler::Edf).map_err(|_| EdfFault::NoMemory)
 }
+
+#[cfg(test)]
+mod tests {
+    use super::*;
+    use grid_fraction::Frac;
+    use std::test::Fail;
+
+    fn admit(
+        rt: &HostRuntime,
+        tasks: &[u8],
+        machine: &[u8],
+    ) -> Result<Result<Admitted, EdfFault>, Fail> {
+        let alloc = rt.alloc();
+        let tasks = TaskSet::read(alloc, tasks).map_err(|_| "tasks")?;
+        let machine = Machine::read(alloc, machine).map_err(|_| "machine")?;
+        Ok(edf_admit(alloc, &tasks, &machine))
+    }
+
+    #[test]
+    fn utilisation_exactly_one(rt: HostRuntime) -> Result<(), Fail> {
+        let tasks =
+            b"task = [{name = \"a\", period = 3, worst = 1}, {name = \"b\", period = 3, worst = 1}, {name = \"c\", period = 3, worst = 1}]";
+        let machine = b"point = [{speed = 1, millivolts = 1000}]";
+        let plan = admit(&rt, tasks, machine)?.map_err(|_| "denied")?;
+        assert_eq!(rt; plan.static_demand(), Frac { num: 3, den: 3 });
+        Ok(())
+    }
+
+    #[test]
+    fn denied_by_one_unit(rt: HostRuntime) -> Result<(), Fail> {
+        let tasks =
+            b"task = [{name = \"a\", period = 3, worst = 12}, {name = \"b\", period = 4, worst = 12}, {name = \"c\", period = 12, worst = 61}]";
+        let machine = b"point = [{speed = 6, millivolts = 3000}, {speed = 12, millivolts = 5000}]";
+        assert_eq!(rt;
+            admit(&rt, tasks, machine)?.err(),
+            Some(EdfFault::Denied { num: 145, cap: 144 })
+        );
+        Ok(())
+    }
+}

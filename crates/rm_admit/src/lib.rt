@@ -86,3 +86,59 @@ pub fn rm_admit(alloc: Global, tasks: &TaskSet, machine: &Machine) -> Result<Adm
         None => Admitted::with(alloc, tasks, machine, Scheduler::Rm).map_err(|_| RmFault::NoMemory),
     }
 }
+
+#[cfg(test)]
+mod tests {
+    use super::*;
+    use grid_fraction::Frac;
+    use std::test::Fail;
+
+    fn admit(
+        rt: &HostRuntime,
+        tasks: &[u8],
+        machine: &[u8],
+    ) -> Result<Result<Admitted, RmFault>, Fail> {
+        let alloc = rt.alloc();
+        let tasks = TaskSet::read(alloc, tasks).map_err(|_| "tasks")?;
+        let machine = Machine::read(alloc, machine).map_err(|_| "machine")?;
+        Ok(rm_admit(alloc, &tasks, &machine))
+    }
+
+    #[test]
+    fn denied_at_the_first_failing_task(rt: HostRuntime) -> Result<(), Fail> {
+        let tasks =
+            b"task = [{name = \"a\", period = 4, worst = 4}, {name = \"b\", period = 6, worst = 5}]";
+        let machine = b"point = [{speed = 2, millivolts = 1000}]";
+        assert_eq!(rt;
+            admit(&rt, tasks, machine)?.err(),
+            Some(RmFault::Denied {
+                task: 1,
+                num: 13,
+                cap: 12
+            })
+        );
+        let tasks =
+            b"task = [{name = \"a\", period = 4, worst = 2}, {name = \"b\", period = 5, worst = 2}]";
+        let machine = b"point = [{speed = 1, millivolts = 1000}]";
+        assert_eq!(rt;
+            admit(&rt, tasks, machine)?.err(),
+            Some(RmFault::Denied {
+                task: 1,
+                num: 6,
+                cap: 5
+            })
+        );
+        Ok(())
+    }
+
+    #[test]
+    fn admits_paper_example(rt: HostRuntime) -> Result<(), Fail> {
+        let tasks =
+            b"task = [{name = \"t1\", period = 8, worst = 12}, {name = \"t2\", period = 10, worst = 12}, {name = \"t3\", period = 14, worst = 4}]";
+        let machine =
+            b"point = [{speed = 2, millivolts = 3000}, {speed = 3, millivolts = 4000}, {speed = 4, millivolts = 5000}]";
+        let plan = admit(&rt, tasks, machine)?.map_err(|_| "denied")?;
+        assert_eq!(rt; plan.static_demand(), Frac { num: 52, den: 14 });
+        Ok(())
+    }
+}
