@@ -31,12 +31,14 @@ mod tests {
     use task_model::TaskSet;
 
     fn tasks(alloc: Global) -> Result<TaskSet, Fail> {
-        let text = b"task = [{name = \"t1\", period = 8, worst = 12}, {name = \"t2\", period = 10, worst = 12}, {name = \"t3\", period = 14, worst = 4}]";
+        let text =
+            b"task = [{name = \"t1\", period = 8, worst = 12}, {name = \"t2\", period = 10, worst = 12}, {name = \"t3\", period = 14, worst = 4}]";
         Ok(TaskSet::read(alloc, text).map_err(|_| "tasks")?)
     }
 
     fn machine(alloc: Global) -> Result<Machine, Fail> {
-        let text = b"point = [{speed = 2, millivolts = 3000}, {speed = 3, millivolts = 4000}, {speed = 4, millivolts = 5000}]";
+        let text =
+            b"point = [{speed = 2, millivolts = 3000}, {speed = 3, millivolts = 4000}, {speed = 4, millivolts = 5000}]";
         Ok(Machine::read(alloc, text).map_err(|_| "machine")?)
     }
 
@@ -53,7 +55,16 @@ mod tests {
         assert_eq!(rt; plan.static_demand(), Frac { num: 836, den: 280 });
         let mut state = State::new(alloc, &plan).map_err(|_| "state")?;
         state.release(&plan, 0);
-        assert_eq!(rt; state.rows[0], Row { deadline: 8, job: 1, used: 0, done: false, worst: 12 });
+        assert_eq!(rt;
+            state.rows[0],
+            Row {
+                deadline: 8,
+                job: 1,
+                used: 0,
+                done: false,
+                worst: 12
+            }
+        );
         one_schedule(&plan);
         Ok(())
     }
