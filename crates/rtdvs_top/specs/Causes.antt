@@ -1,0 +1,40 @@
+-- What a status says, and why it comes.
+use Rattle.std.specs.Prelude.{◌≡◌, ◌⊎◌, ◌≢◌, ℕ, ◌<◌, ◌≤◌, List, [], length, Option, Some, None, Result, Ok, Err, ⊤, ⊥, IsOk}
+use Rattle.std.specs.Io.KnownBytes.{Appends, Keeps}
+use Rattle.dvs_base.specs.Outside.{Files, Lacks, Rose, AppendsPrefix}
+use Rattle.task_model.specs.declared.task.Task.{Task}
+use Rattle.rtdvs_top.specs.Words.{RunOf, run_of_words}
+use Rattle.rtdvs_top.specs.Answer.{answer_of, tasks_at, machine_at}
+use Rattle.rtdvs_top.specs.Naming.{names_of}
+use Rattle.rtdvs_top.specs.Refusals.{status_text}
+use Rattle.rtdvs_top.specs.declared.status.FileKind.{FileKind}
+use Rattle.rtdvs_top.specs.declared.status.FileKind.TheVariants as file
+use Rattle.rtdvs_top.specs.declared.status.Status.{Status}
+use Rattle.rtdvs_top.specs.declared.status.Status.TheVariants as status
+
+-- a refusal: a status other than `Done`, `Words` and `Write`
+abbrev pub IsRefusal : Status → Type 0
+IsRefusal status.Done = ⊥
+IsRefusal status.Words = ⊥
+IsRefusal status.Write = ⊥
+IsRefusal s = ⊤
+
+-- a step ends with this status, where it isn't one that the outside explains
+abbrev pub EndsWith : {A : Type 0} → Result A Status → Status → Type 0
+EndsWith step status.NoMemory = ⊤
+EndsWith step (status.Load kind) = ⊤
+EndsWith step s = step ≡ Err s
+
+-- where the files are told, the step gives this value
+abbrev pub Gives : {A : Type 0} → Option Files → (Files → Result A Status) → A → Type 0
+Gives None step a = ⊤
+Gives (Some files) step a = step files ≡ Ok a
+
+-- where the files are told, the step ends with this refusal
+abbrev pub Refuses : {A : Type 0} → Option Files → (Files → Result A Status) → Status → Type 0
+Refuses None step s = IsRefusal s
+Refuses (Some files) step s = IsRefusal s × EndsWith (step files) s
+
+-- a load fails by its name, or by a count that rose in a call that was not sure of it; the place counts the command's loads
+abbrev pub LoadExplained : Option Files → List ℕ → ℕ → ℕ → ℕ → ℕ → Type 0
+LoadExplained told name place before now sure = Lacks told name ⊎ (Rose before now × (sure < place))

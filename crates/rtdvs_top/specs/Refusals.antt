@@ -1,0 +1,120 @@
+-- The lines that say why a call ended.
+use Rattle.std.specs.Prelude.{ℕ, ◌==◌, List, [], ◌∷◌, codes, if◌then◌else◌}
+use Rattle.std.specs.Fmt.{decimal}
+use Rattle.dvs_base.specs.Parts.{joined}
+use Rattle.dvs_base.specs.TraceLines.{name_of}
+use Rattle.task_model.specs.declared.fault.Field.{Field}
+use Rattle.task_model.specs.declared.fault.Field.TheVariants as task_field
+use Rattle.task_model.specs.declared.fault.TaskFault.{TaskFault}
+use Rattle.task_model.specs.declared.fault.TaskFault.TheVariants as task_fault
+use Rattle.freq_table.specs.declared.fault.MachineField.{MachineField}
+use Rattle.freq_table.specs.declared.fault.MachineField.TheVariants as machine_field
+use Rattle.freq_table.specs.declared.fault.MachineFault.{MachineFault}
+use Rattle.freq_table.specs.declared.fault.MachineFault.TheVariants as machine_fault
+use Rattle.demand_list.specs.declared.fault.Column.{Column}
+use Rattle.demand_list.specs.declared.fault.Column.TheVariants as column
+use Rattle.demand_list.specs.declared.fault.DemandFault.{DemandFault}
+use Rattle.demand_list.specs.declared.fault.DemandFault.TheVariants as demand_fault
+use Rattle.rtdvs_top.specs.declared.status.FileKind.{FileKind}
+use Rattle.rtdvs_top.specs.declared.status.FileKind.TheVariants as file
+use Rattle.rtdvs_top.specs.declared.status.TextFault.{TextFault}
+use Rattle.rtdvs_top.specs.declared.status.TextFault.TheVariants as text
+use Rattle.rtdvs_top.specs.declared.status.Denied.{Denied}
+use Rattle.rtdvs_top.specs.declared.status.Denied.TheVariants as denied
+use Rattle.rtdvs_top.specs.declared.status.Status.{Status}
+use Rattle.rtdvs_top.specs.declared.status.Status.TheVariants as status
+
+abbrev pub file_word : FileKind → List ℕ
+file_word file.Tasks = codes "tasks"
+file_word file.Machine = codes "machine"
+file_word file.Demands = codes "demands"
+
+abbrev pub task_field_word : Field → List ℕ
+task_field_word task_field.Task = codes "task"
+task_field_word task_field.Entry = codes "entry"
+task_field_word task_field.Name = codes "name"
+task_field_word task_field.Period = codes "period"
+task_field_word task_field.Worst = codes "worst"
+
+abbrev pub machine_field_word : MachineField → List ℕ
+machine_field_word machine_field.Idle = codes "idle"
+machine_field_word machine_field.Charge = codes "charge"
+machine_field_word machine_field.Point = codes "point"
+machine_field_word machine_field.Entry = codes "entry"
+machine_field_word machine_field.Speed = codes "speed"
+machine_field_word machine_field.Millivolts = codes "millivolts"
+
+abbrev pub column_word : Column → List ℕ
+column_word column.Job = codes "job"
+column_word column.Units = codes "units"
+
+-- a line of a refusal: place 0 is the document, and each other place is an entry
+abbrev pub at_place : List ℕ → List ℕ → ℕ → List ℕ → List ℕ → List ℕ
+at_place of_document of_entry place what which =
+    if place == 0
+    then joined (of_document ∷ what ∷ which ∷ codes "\n" ∷ [])
+    else joined (of_entry ∷ decimal place ∷ codes ": " ∷ what ∷ which ∷ codes "\n" ∷ [])
+
+abbrev pub task_fault_text : TaskFault → List ℕ
+task_fault_text task_fault.NotToml = codes "tasks: not TOML\n"
+task_fault_text (task_fault.UnknownKey place key) = at_place (codes "tasks: ") (codes "tasks: task ") place (codes "unknown key ") key
+task_fault_text task_fault.NoTasks = codes "tasks: no tasks\n"
+task_fault_text (task_fault.TooMany count) = joined (codes "tasks: " ∷ decimal count ∷ codes " tasks, at most 64\n" ∷ [])
+task_fault_text (task_fault.Missing place field) = at_place (codes "tasks: ") (codes "tasks: task ") place (codes "missing ") (task_field_word field)
+task_fault_text (task_fault.Kind place field) = at_place (codes "tasks: ") (codes "tasks: task ") place (codes "wrong kind of ") (task_field_word field)
+task_fault_text (task_fault.Range place field) = at_place (codes "tasks: ") (codes "tasks: task ") place (task_field_word field) (codes " out of range")
+task_fault_text (task_fault.BadName place) = joined (codes "tasks: task " ∷ decimal place ∷ codes ": bad name\n" ∷ [])
+task_fault_text (task_fault.SameName first second) = joined (codes "tasks: tasks " ∷ decimal first ∷ codes " and " ∷ decimal second ∷ codes " have one name\n" ∷ [])
+task_fault_text task_fault.Hyper = codes "tasks: periods have no common multiple up to 281474976710656\n"
+task_fault_text task_fault.NoMemory = codes "no memory\n"
+
+abbrev pub machine_fault_text : MachineFault → List ℕ
+machine_fault_text machine_fault.NotToml = codes "machine: not TOML\n"
+machine_fault_text (machine_fault.UnknownKey place key) = at_place (codes "machine: ") (codes "machine: point ") place (codes "unknown key ") key
+machine_fault_text machine_fault.NoPoints = codes "machine: no points\n"
+machine_fault_text (machine_fault.TooMany count) = joined (codes "machine: " ∷ decimal count ∷ codes " points, at most 32\n" ∷ [])
+machine_fault_text (machine_fault.Missing place field) = at_place (codes "machine: ") (codes "machine: point ") place (codes "missing ") (machine_field_word field)
+machine_fault_text (machine_fault.Kind place field) = at_place (codes "machine: ") (codes "machine: point ") place (codes "wrong kind of ") (machine_field_word field)
+machine_fault_text (machine_fault.Range place field) = at_place (codes "machine: ") (codes "machine: point ") place (machine_field_word field) (codes " out of range")
+machine_fault_text (machine_fault.NotRising place) = joined (codes "machine: point " ∷ decimal place ∷ codes ": not rising\n" ∷ [])
+machine_fault_text machine_fault.NoMemory = codes "no memory\n"
+
+-- a refusal of a row
+abbrev pub at_row : ℕ → List (List ℕ) → List ℕ
+at_row row texts = joined (codes "demands: row " ∷ decimal row ∷ codes ": " ∷ texts)
+
+abbrev pub over_worst_text : List (List ℕ) → ℕ → ℕ → ℕ → ℕ → List ℕ
+over_worst_text names task job units worst =
+    joined (codes "over worst: " ∷ name_of names task ∷ codes " " ∷ decimal job ∷ codes " " ∷ decimal units ∷ codes " " ∷ decimal worst ∷ codes "\n" ∷ [])
+
+abbrev pub demand_fault_text : List (List ℕ) → DemandFault → List ℕ
+demand_fault_text names demand_fault.Header = codes "demands: wrong header\n"
+demand_fault_text names (demand_fault.Fields row count) = at_row row (decimal count ∷ codes " fields\n" ∷ [])
+demand_fault_text names (demand_fault.UnknownTask row word) = at_row row (codes "unknown task " ∷ word ∷ codes "\n" ∷ [])
+demand_fault_text names (demand_fault.BadNumber row at) = at_row row (codes "bad " ∷ column_word at ∷ codes "\n" ∷ [])
+demand_fault_text names (demand_fault.JobZero row) = at_row row (codes "job 0\n" ∷ [])
+demand_fault_text names (demand_fault.Repeated row task job) = at_row row (codes "task " ∷ name_of names task ∷ codes " job " ∷ decimal job ∷ codes " stands twice\n" ∷ [])
+demand_fault_text names (demand_fault.OverWorst task job units worst) = over_worst_text names task job units worst
+demand_fault_text names demand_fault.NoMemory = codes "no memory\n"
+
+abbrev pub text_fault_text : List (List ℕ) → TextFault → List ℕ
+text_fault_text names (text.TooLong kind) = joined (file_word kind ∷ codes ": too long\n" ∷ [])
+text_fault_text names (text.Tasks why) = task_fault_text why
+text_fault_text names (text.Machine why) = machine_fault_text why
+text_fault_text names (text.Demands why) = demand_fault_text names why
+
+abbrev pub denied_text : List (List ℕ) → Denied → List ℕ
+denied_text names (denied.Edf num cap) = joined (codes "denied edf " ∷ decimal num ∷ codes " " ∷ decimal cap ∷ codes "\n" ∷ [])
+denied_text names (denied.Rm task num cap) = joined (codes "denied rm " ∷ name_of names task ∷ codes " " ∷ decimal num ∷ codes " " ∷ decimal cap ∷ codes "\n" ∷ [])
+
+-- the line of a status; `Done` has none
+abbrev pub status_text : List (List ℕ) → Status → List ℕ
+status_text names status.Done = []
+status_text names (status.NotAdmitted why) = denied_text names why
+status_text names status.Words = codes "words: refused\n"
+status_text names (status.Load kind) = joined (codes "load: " ∷ file_word kind ∷ codes "\n" ∷ [])
+status_text names (status.Text why) = text_fault_text names why
+status_text names (status.Limit jobs) = joined (codes "limit: " ∷ decimal jobs ∷ codes " jobs, at most 100000\n" ∷ [])
+status_text names (status.OverWorst task job units worst) = over_worst_text names task job units worst
+status_text names status.Write = codes "write: out failed\n"
+status_text names status.NoMemory = codes "no memory\n"

@@ -1,0 +1,72 @@
+-- The words of a command.
+use Rattle.std.specs.Prelude.{ℕ, ◌^◌, ◌==◌, ◌&&◌, Bool, true, false, not, List, [], ◌∷◌, length, nat_le, nat_lt, codes, Option, Some, None, option_map, if◌then◌else◌}
+use Rattle.std.specs.Str.{bytes_eq}
+use Rattle.dvs_base.specs.Text.{number_below}
+use Rattle.dvs_base.specs.declared.kind.Scheduler.{Scheduler}
+use Rattle.dvs_base.specs.declared.kind.Scheduler.TheVariants.{Edf, Rm}
+use Rattle.dvs_base.specs.declared.kind.GovernorKind.{GovernorKind}
+use Rattle.dvs_base.specs.declared.kind.GovernorKind.TheVariants.{Plain, Fixed}
+
+-- what the words of a run name: files by their names, the scheduler, the governor and the number of ticks
+pub record RunOf : Type 0 where
+  pub tasks : List ℕ
+  pub machine : List ℕ
+  pub scheduler : Scheduler
+  pub governor : GovernorKind
+  pub ticks : ℕ
+  pub demands : Option (List ℕ)
+
+-- the next step, where this one gives a value
+abbrev pub then_some : {A B : Type 0} → Option A → (A → Option B) → Option B
+then_some None next = None
+then_some (Some a) next = next a
+
+-- the value of an option that stands first, and the words after it
+abbrev pub value_after : List ℕ → List (List ℕ) → Option (List ℕ × List (List ℕ))
+value_after option (key ∷ value ∷ rest) = if bytes_eq key option then Some (value, rest) else None
+value_after option _ = None
+
+-- a file's name is not empty
+abbrev pub file_name : List ℕ → Option (List ℕ)
+file_name name = if length name == 0 then None else Some name
+
+abbrev pub scheduler_of : List ℕ → Option Scheduler
+scheduler_of word = if bytes_eq word (codes "edf") then Some Edf else None
+
+abbrev pub governor_of : List ℕ → Option GovernorKind
+governor_of word = if bytes_eq word (codes "none") then Some Plain else None
+
+-- a number of ticks: 1 to 2^40
+abbrev pub ticks_from : Option ℕ → Option ℕ
+ticks_from None = None
+ticks_from (Some n) = if nat_le 1 n && nat_le n (2 ^ 40) then Some n else None
+
+abbrev pub ticks_of : List ℕ → Option ℕ
+ticks_of word = ticks_from (number_below (2 ^ 64) word)
+
+-- the file of demands, where one is named, and nothing after it
+abbrev pub demands_of_words : List (List ℕ) → Option (Option (List ℕ))
+demands_of_words [] = Some None
+demands_of_words (key ∷ value ∷ []) = if bytes_eq key (codes "--demands") then option_map Some (file_name value) else None
+demands_of_words _ = None
+
+-- the options of a run, in their order
+abbrev pub run_of_options : List (List ℕ) → Option RunOf
+run_of_options words =
+    then_some (value_after (codes "--tasks") words) (λ t.
+    then_some (file_name t.0) (λ tasks.
+    then_some (value_after (codes "--machine") t.1) (λ m.
+    then_some (file_name m.0) (λ machine.
+    then_some (value_after (codes "--scheduler") m.1) (λ s.
+    then_some (scheduler_of s.0) (λ scheduler.
+    then_some (value_after (codes "--governor") s.1) (λ g.
+    then_some (governor_of g.0) (λ governor.
+    then_some (value_after (codes "--ticks") g.1) (λ n.
+    then_some (ticks_of n.0) (λ ticks.
+    then_some (demands_of_words n.1) (λ demands.
+    Some (record { tasks = tasks; machine = machine; scheduler = scheduler; governor = governor; ticks = ticks; demands = demands }))))))))))))
+
+-- the run that the words ask for
+abbrev pub run_of_words : List (List ℕ) → Option RunOf
+run_of_words (command ∷ words) = if bytes_eq command (codes "run") then run_of_options words else None
+run_of_words [] = None

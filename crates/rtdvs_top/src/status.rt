@@ -1,0 +1,82 @@
+// How a call ends.
+ghost use Rattle.std.specs.Prelude.{◌≡◌};
+ghost use Rattle.rtdvs_top.specs.Code.{code_of};
+
+use demand_list::DemandFault;
+use freq_table::MachineFault;
+use task_model::TaskFault;
+
+/// The files that words name.
+#[derive(Clone, Copy, Debug, PartialEq, Eq)]
+pub enum FileKind {
+    Tasks,
+    Machine,
+    Demands,
+}
+
+/// Why a file that was loaded is refused.
+#[derive(Drop)]
+pub enum TextFault {
+    /// It is longer than 16777216 bytes.
+    TooLong { file: FileKind },
+    Tasks(TaskFault),
+    Machine(MachineFault),
+    Demands(DemandFault),
+}
+
+/// The two numbers by which a scheduler's test fails, in work units.
+#[derive(Clone, Copy, Debug, PartialEq, Eq)]
+pub enum Denied {
+    /// The work of a hyperperiod, and what the highest speed does in it (Liu and Layland 1973).
+    Edf { num: u128, cap: u128 },
+    /// The first task in RM order whose level asks for more work in its period than the highest speed does in it
+    /// (Pillai and Shin 2001).
+    Rm { task: u32, num: u128, cap: u128 },
+}
+
+/// How a call ends.
+#[derive(Drop)]
+pub enum Status {
+    /// The whole answer was written.
+    Done,
+    /// The scheduler's test fails.
+    NotAdmitted(Denied),
+    /// The words aren't those of a command.
+    Words,
+    /// A file can't be loaded.
+    Load { file: FileKind },
+    /// A file is refused.
+    Text(TextFault),
+    /// So many jobs would be released, and the limit is 100000.
+    Limit { jobs: u64 },
+    /// A demand exceeds the declared worst case of its task, in work units.
+    OverWorst {
+        task: u32,
+        job: u64,
+        units: u64,
+        worst: u64,
+    },
+    /// A write failed.
+    Write,
+    /// Memory ran out.
+    NoMemory,
+}
+
+impl Status {
+    /// The exit status of the program.
+    pub fn code(&self) -> u8
+        ensures { result ≡ code_of self.now }
+    {
+        match self {
+            Status::Done => 0,
+            Status::NotAdmitted(_) => 1,
+            Status::Words => 2,
+            Status::Load { .. } => 3,
+            Status::Text(_) => 4,
+            Status::Limit { .. } => 5,
+            Status::OverWorst { .. } => 6,
+            Status::Write => 8,
+            Status::NoMemory => 9,
+        }
+    }
+}

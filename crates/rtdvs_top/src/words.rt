@@ -1,0 +1,107 @@
+// The words of a command.
+ghost use Rattle.std.specs.Prelude.{◌≡◌, Some, None, map, string_bytes, option_map};
+ghost use Rattle.rtdvs_top.specs.Words.{value_after, file_name, scheduler_of, governor_of, ticks_of, demands_of_words, run_of_options, run_of_words};
+ghost use Rattle.rtdvs_top.specs.Asked.{shown};
+
+use dvs_base::{GovernorKind, Scheduler, whole};
+
+/// What the words of a run name.
+#[derive(Clone, Copy)]
+pub struct RunWords<'a> {
+    pub tasks: &'a str,
+    pub machine: &'a str,
+    pub scheduler: Scheduler,
+    pub governor: GovernorKind,
+    pub ticks: u64,
+    pub demands: Option<&'a str>,
+}
+
+// The value of an option that stands first, and the words after it.
+fn value_after<'a>(option: &str, words: &'a [String]) -> Option<(&'a str, &'a [String])>
+    ensures { option_map (λ r. (r.0.now, map string_bytes r.1.now)) result ≡ value_after option.now (map string_bytes words.now) }
+{
+    match words {
+        [key, value, rest @ ..] if key.as_str() == option => Some((value.as_str(), rest)),
+        _ => None,
+    }
+}
+
+fn file_name(name: &str) -> Option<&str>
+    ensures { option_map (λ s. s.now) result ≡ file_name name.now }
+{
+    if name.is_empty() { None } else { Some(name) }
+}
+
+fn scheduler_of(word: &str) -> Option<Scheduler>
+    ensures { result ≡ scheduler_of word.now }
+{
+    match word {
+        "edf" => Some(Scheduler::Edf),
+        _ => None,
+    }
+}
+
+fn governor_of(word: &str) -> Option<GovernorKind>
+    ensures { result ≡ governor_of word.now }
+{
+    match word {
+        "none" => Some(GovernorKind::Plain),
+        _ => None,
+    }
+}
+
+fn ticks_of(word: &str) -> Option<u64>
+    ensures { result ≡ ticks_of word.now }
+{
+    match whole(word.as_bytes()) {
+        Some(n) if n >= 1 && n <= 1 << 40 => Some(n),
+        _ => None,
+    }
+}
+
+fn demands_of(words: &[String]) -> Option<Option<&str>>
+    ensures { option_map (λ d. option_map (λ s. s.now) d) result ≡ demands_of_words (map string_bytes words.now) }
+{
+    match words {
+        [] => Some(None),
+        [key, value] if key.as_str() == "--demands" => match file_name(value.as_str()) {
+            Some(name) => Some(Some(name)),
+            None => None,
+        },
+        _ => None,
+    }
+}
+
+fn read_options(words: &[String]) -> Option<RunWords<'_>>
+    ensures { option_map shown result ≡ run_of_options (map string_bytes words.now) }
+{
+    let (tasks, words) = value_after("--tasks", words)?;
+    let tasks = file_name(tasks)?;
+    let (machine, words) = value_after("--machine", words)?;
+    let machine = file_name(machine)?;
+    let (scheduler, words) = value_after("--scheduler", words)?;
+    let scheduler = scheduler_of(scheduler)?;
+    let (governor, words) = value_after("--governor", words)?;
+    let governor = governor_of(governor)?;
+    let (ticks, words) = value_after("--ticks", words)?;
+    let ticks = ticks_of(ticks)?;
+    let demands = demands_of(words)?;
+    Some(RunWords {
+        tasks,
+        machine,
+        scheduler,
+        governor,
+        ticks,
+        demands,
+    })
+}
+
+/// The run that the words ask for. None exactly where they aren't the words of a run.
+pub fn read_run(words: &[String]) -> Option<RunWords<'_>>
+    ensures { option_map shown result ≡ run_of_words (map string_bytes words.now) }
+{
+    match words {
+        [command, options @ ..] if command.as_str() == "run" => read_options(options),
+        _ => None,
+    }
+}
