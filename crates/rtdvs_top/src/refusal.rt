@@ -4,7 +4,8 @@ ghost use Rattle.std.specs.Fmt.{decimal};
 ghost use Rattle.dvs_base.specs.Parts.{joined, part_text, most_bytes};
 ghost use Rattle.dvs_base.specs.TraceLines.{name_of};
 ghost use Rattle.rtdvs_top.specs.Refusals.{file_word, task_field_word, machine_field_word, column_word, at_place, at_row, task_fault_text, machine_fault_text, demand_fault_text, over_worst_text, text_fault_text, denied_text, status_text};
-ghost use Rattle.rtdvs_top.specs.Naming.{names_of};
+ghost use Rattle.std.specs.Option.{option_copied};
+ghost use Rattle.rtdvs_top.specs.Naming.{names_of, name_text};
 
 use crate::{Denied, FileKind, Status, TextFault};
 use demand_list::{Column, DemandFault};
@@ -57,12 +58,12 @@ fn column_word(column: Column) -> &'static [u8]
 }
 
 // A line of two parts about a document (place 0) or one of its entries.
-fn line_at(
-    of_document: &[u8],
-    of_entry: &[u8],
+fn line_at<'a>(
+    of_document: &'a [u8],
+    of_entry: &'a [u8],
     place: u32,
-    what: Part<'_>,
-    which: Part<'_>,
+    what: Part<'a>,
+    which: Part<'a>,
 ) -> Line
     requires document { length of_document.now ≤ 20 }
     requires entry { length of_entry.now ≤ 20 }
@@ -84,7 +85,7 @@ fn line_at(
     }
 }
 
-fn task_line(place: u32, what: Part<'_>, which: Part<'_>) -> Line
+fn task_line<'a>(place: u32, what: Part<'a>, which: Part<'a>) -> Line
     requires what { most_bytes what ≤ 40 }
     requires which { most_bytes which ≤ 40 }
     ensures { result ≡ at_place (codes "tasks: ") (codes "tasks: task ") place (part_text what.entry) (part_text which.entry) }
@@ -92,7 +93,7 @@ fn task_line(place: u32, what: Part<'_>, which: Part<'_>) -> Line
     line_at(b"tasks: ", b"tasks: task ", place, what, which)
 }
 
-fn point_line(place: u32, what: Part<'_>, which: Part<'_>) -> Line
+fn point_line<'a>(place: u32, what: Part<'a>, which: Part<'a>) -> Line
     requires what { most_bytes what ≤ 40 }
     requires which { most_bytes which ≤ 40 }
     ensures { result ≡ at_place (codes "machine: ") (codes "machine: point ") place (part_text what.entry) (part_text which.entry) }
@@ -160,7 +161,7 @@ fn machine_fault_line(why: &MachineFault) -> Line
 
 // The name of a task of the set, where there is one.
 fn name_at(tasks: Option<&TaskSet>, task: u32) -> Option<Name>
-    ensures { name_text result ≡ name_of (names_of tasks.entry) task }
+    ensures { name_text result ≡ name_of (names_of (option_copied tasks.entry)) task }
 {
     match tasks {
         Some(tasks) if task < tasks.count() => Some(tasks.task(task).name),
@@ -175,5 +176,172 @@ fn name_part(name: &Option<Name>) -> Part<'_>
     match name {
         Some(name) => Part::Named(name),
         None => Part::Word(b""),
+    }
+}
+
+fn over_worst_line(name: &Option<Name>, job: u64, units: u64, worst: u64) -> Line
+    ensures { result ≡ joined (codes "over worst: " ∷ name_text name.now ∷ codes " " ∷ decimal job ∷ codes " " ∷ decimal units ∷ codes " " ∷ decimal worst ∷ codes "\n" ∷ []) }
+{
+    line_of(&[
+        Part::Word(b"over worst: "),
+        name_part(name),
+        Part::Word(b" "),
+        Part::Number(job),
+        Part::Word(b" "),
+        Part::Number(units),
+        Part::Word(b" "),
+        Part::Number(worst),
+        Part::Word(b"\n"),
+    ])
+}
+
+fn repeated_line(row: u64, name: &Option<Name>, job: u64) -> Line
+    ensures { result ≡ at_row row (codes "task " ∷ name_text name.now ∷ codes " job " ∷ decimal job ∷ codes " stands twice\n" ∷ []) }
+{
+    line_of(&[
+        Part::Word(b"demands: row "),
+        Part::Number(row),
+        Part::Word(b": "),
+        Part::Word(b"task "),
+        name_part(name),
+        Part::Word(b" job "),
+        Part::Number(job),
+        Part::Word(b" stands twice\n"),
+    ])
+}
+
+fn unknown_task_line(row: u64, word: &Short) -> Line
+    ensures { result ≡ at_row row (codes "unknown task " ∷ word.now ∷ codes "\n" ∷ []) }
+{
+    line_of(&[
+        Part::Word(b"demands: row "),
+        Part::Number(row),
+        Part::Word(b": unknown task "),
+        Part::Shown(word),
+        Part::Word(b"\n"),
+    ])
+}
+
+fn fields_line(row: u64, count: u64) -> Line
+    ensures { result ≡ at_row row (decimal count ∷ codes " fields\n" ∷ []) }
+{
+    line_of(&[
+        Part::Word(b"demands: row "),
+        Part::Number(row),
+        Part::Word(b": "),
+        Part::Number(count),
+        Part::Word(b" fields\n"),
+    ])
+}
+
+fn bad_number_line(row: u64, column: Column) -> Line
+    ensures { result ≡ at_row row (codes "bad " ∷ column_word column ∷ codes "\n" ∷ []) }
+{
+    line_of(&[
+        Part::Word(b"demands: row "),
+        Part::Number(row),
+        Part::Word(b": bad "),
+        Part::Word(column_word(column)),
+        Part::Word(b"\n"),
+    ])
+}
+
+fn job_zero_line(row: u64) -> Line
+    ensures { result ≡ at_row row (codes "job 0\n" ∷ []) }
+{
+    line_of(&[
+        Part::Word(b"demands: row "),
+        Part::Number(row),
+        Part::Word(b": job 0\n"),
+    ])
+}
+
+fn demand_fault_line(why: &DemandFault, tasks: Option<&TaskSet>) -> Line
+    ensures { result ≡ demand_fault_text (names_of (option_copied tasks.entry)) why.now }
+{
+    match why {
+        DemandFault::Header => line_of(&[Part::Word(b"demands: wrong header\n")]),
+        DemandFault::Fields { row, count } => fields_line(*row, *count),
+        DemandFault::UnknownTask { row, name } => unknown_task_line(*row, name),
+        DemandFault::BadNumber { row, column } => bad_number_line(*row, *column),
+        DemandFault::JobZero { row } => job_zero_line(*row),
+        DemandFault::Repeated { row, task, job } => repeated_line(*row, &name_at(tasks, *task), *job),
+        DemandFault::OverWorst {
+            task,
+            job,
+            units,
+            worst,
+        } => over_worst_line(&name_at(tasks, *task), *job, *units, *worst),
+        DemandFault::NoMemory => line_of(&[Part::Word(b"no memory\n")]),
+    }
+}
+
+fn text_fault_line(why: &TextFault, tasks: Option<&TaskSet>) -> Line
+    ensures { result ≡ text_fault_text (names_of (option_copied tasks.entry)) why.now }
+{
+    match why {
+        TextFault::TooLong { file } => line_of(&[
+            Part::Word(file_word(*file)),
+            Part::Word(b": too long\n"),
+        ]),
+        TextFault::Tasks(why) => task_fault_line(why),
+        TextFault::Machine(why) => machine_fault_line(why),
+        TextFault::Demands(why) => demand_fault_line(why, tasks),
+    }
+}
+
+fn denied_line(why: &Denied, tasks: Option<&TaskSet>) -> Line
+    ensures { result ≡ denied_text (names_of (option_copied tasks.entry)) why.now }
+{
+    match why {
+        Denied::Edf { num, cap } => line_of(&[
+            Part::Word(b"denied edf "),
+            Part::Wide(*num),
+            Part::Word(b" "),
+            Part::Wide(*cap),
+            Part::Word(b"\n"),
+        ]),
+        Denied::Rm { task, num, cap } => {
+            let name = name_at(tasks, *task);
+            line_of(&[
+                Part::Word(b"denied rm "),
+                name_part(&name),
+                Part::Word(b" "),
+                Part::Wide(*num),
+                Part::Word(b" "),
+                Part::Wide(*cap),
+                Part::Word(b"\n"),
+            ])
+        }
+    }
+}
+
+/// The line of a status, with the names of the tasks where they were read. It takes no memory.
+pub(crate) fn status_line(status: &Status, tasks: Option<&TaskSet>) -> Line
+    ensures { result ≡ status_text (names_of (option_copied tasks.entry)) status.now }
+{
+    match status {
+        Status::Done => Line::new(),
+        Status::NotAdmitted(why) => denied_line(why, tasks),
+        Status::Words => line_of(&[Part::Word(b"words: refused\n")]),
+        Status::Load { file } => line_of(&[
+            Part::Word(b"load: "),
+            Part::Word(file_word(*file)),
+            Part::Word(b"\n"),
+        ]),
+        Status::Text(why) => text_fault_line(why, tasks),
+        Status::Limit { jobs } => line_of(&[
+            Part::Word(b"limit: "),
+            Part::Number(*jobs),
+            Part::Word(b" jobs, at most 100000\n"),
+        ]),
+        Status::OverWorst {
+            task,
+            job,
+            units,
+            worst,
+        } => over_worst_line(&name_at(tasks, *task), *job, *units, *worst),
+        Status::Write => line_of(&[Part::Word(b"write: out failed\n")]),
+        Status::NoMemory => line_of(&[Part::Word(b"no memory\n")]),
     }
 }

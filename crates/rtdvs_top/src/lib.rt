@@ -1,0 +1,8 @@
+//! All that the program does.
+#![tactic(auto)]
+
+mod refusal;
+mod status;
+mod words;
+
+pub use status::{Denied, FileKind, Status, TextFault};
