@@ -1,10 +1,13 @@
--- The words of a run, as their texts.
+-- The words that were read, as their texts.
 use Rattle.std.specs.Prelude.{option_map}
-use Rattle.rtdvs_top.specs.Words.{RunOf}
+use Rattle.rtdvs_top.specs.Words.{RunOf, AdmitOf, CommandOf, run, admit}
 use Rattle.rtdvs_top.specs.declared.words.RunWords.{RunWords}
+use Rattle.rtdvs_top.specs.declared.words.AdmitWords.{AdmitWords}
+use Rattle.rtdvs_top.specs.declared.words.Command.{Command}
+use Rattle.rtdvs_top.specs.declared.words.Command.TheVariants as command
 
-abbrev pub shown : RunWords → RunOf
-shown r = record {
+abbrev pub shown_run : RunWords → RunOf
+shown_run r = record {
   tasks = r.tasks.now;
   machine = r.machine.now;
   scheduler = r.scheduler;
@@ -12,3 +15,10 @@ shown r = record {
   ticks = r.ticks;
   demands = option_map (λ s. s.now) r.demands;
 }
+
+abbrev pub shown_admit : AdmitWords → AdmitOf
+shown_admit a = record { tasks = a.tasks.now; machine = a.machine.now; scheduler = a.scheduler }
+
+abbrev pub shown : Command → CommandOf
+shown (command.Run r) = run (shown_run r)
+shown (command.Admit a) = admit (shown_admit a)

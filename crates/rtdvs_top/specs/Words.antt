@@ -21,6 +21,17 @@ abbrev pub then_some : {A B : Type 0} → Option A → (A → Option B) → Opti
 then_some None next = None
 then_some (Some a) next = next a
 
+-- what the words of an admission name
+pub record AdmitOf : Type 0 where
+  pub tasks : List ℕ
+  pub machine : List ℕ
+  pub scheduler : Scheduler
+
+-- a command
+pub data CommandOf : Type 0 where
+  run : RunOf → CommandOf
+  admit : AdmitOf → CommandOf
+
 -- the value of an option that stands first, and the words after it
 abbrev pub value_after : List ℕ → List (List ℕ) → Option (List ℕ × List (List ℕ))
 value_after option (key ∷ value ∷ rest) = if bytes_eq key option then Some (value, rest) else None
@@ -31,10 +42,10 @@ abbrev pub file_name : List ℕ → Option (List ℕ)
 file_name name = if length name == 0 then None else Some name
 
 abbrev pub scheduler_of : List ℕ → Option Scheduler
-scheduler_of word = if bytes_eq word (codes "edf") then Some Edf else None
+scheduler_of word = if bytes_eq word (codes "edf") then Some Edf else (if bytes_eq word (codes "rm") then Some Rm else None)
 
 abbrev pub governor_of : List ℕ → Option GovernorKind
-governor_of word = if bytes_eq word (codes "none") then Some Plain else None
+governor_of word = if bytes_eq word (codes "none") then Some Plain else (if bytes_eq word (codes "static") then Some Fixed else None)
 
 -- a number of ticks: 1 to 2^40
 abbrev pub ticks_from : Option ℕ → Option ℕ
@@ -49,6 +60,11 @@ abbrev pub demands_of_words : List (List ℕ) → Option (Option (List ℕ))
 demands_of_words [] = Some None
 demands_of_words (key ∷ value ∷ []) = if bytes_eq key (codes "--demands") then option_map Some (file_name value) else None
 demands_of_words _ = None
+
+-- no word is left
+abbrev pub nothing_after : List (List ℕ) → Option (List (List ℕ))
+nothing_after [] = Some []
+nothing_after _ = None
 
 -- the options of a run, in their order
 abbrev pub run_of_options : List (List ℕ) → Option RunOf
@@ -66,7 +82,22 @@ run_of_options words =
     then_some (demands_of_words n.1) (λ demands.
     Some (record { tasks = tasks; machine = machine; scheduler = scheduler; governor = governor; ticks = ticks; demands = demands }))))))))))))
 
--- the run that the words ask for
-abbrev pub run_of_words : List (List ℕ) → Option RunOf
-run_of_words (command ∷ words) = if bytes_eq command (codes "run") then run_of_options words else None
-run_of_words [] = None
+-- the options of an admission, in their order
+abbrev pub admit_of_options : List (List ℕ) → Option AdmitOf
+admit_of_options words =
+    then_some (value_after (codes "--tasks") words) (λ t.
+    then_some (file_name t.0) (λ tasks.
+    then_some (value_after (codes "--machine") t.1) (λ m.
+    then_some (file_name m.0) (λ machine.
+    then_some (value_after (codes "--scheduler") m.1) (λ s.
+    then_some (scheduler_of s.0) (λ scheduler.
+    then_some (nothing_after s.1) (λ end.
+    Some (record { tasks = tasks; machine = machine; scheduler = scheduler }))))))))
+
+-- the command that the words are
+abbrev pub command_of : List (List ℕ) → Option CommandOf
+command_of [] = None
+command_of (command ∷ words) =
+    if bytes_eq command (codes "run")
+    then option_map run (run_of_options words)
+    else (if bytes_eq command (codes "admit") then option_map admit (admit_of_options words) else None)

@@ -1,6 +1,7 @@
 //! All that the program does.
 #![tactic(auto)]
 
+mod files;
 mod refusal;
 mod status;
 mod words;

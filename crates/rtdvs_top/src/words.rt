@@ -1,7 +1,7 @@
 // The words of a command.
-ghost use Rattle.std.specs.Prelude.{◌≡◌, Some, None, map, string_bytes, option_map};
-ghost use Rattle.rtdvs_top.specs.Words.{value_after, file_name, scheduler_of, governor_of, ticks_of, demands_of_words, run_of_options, run_of_words};
-ghost use Rattle.rtdvs_top.specs.Asked.{shown};
+ghost use Rattle.std.specs.Prelude.{◌≡◌, Some, None, [], map, string_bytes, option_map};
+ghost use Rattle.rtdvs_top.specs.Words.{value_after, file_name, scheduler_of, governor_of, ticks_of, demands_of_words, nothing_after, run_of_options, admit_of_options, command_of};
+ghost use Rattle.rtdvs_top.specs.Asked.{shown, shown_run, shown_admit};
 
 use dvs_base::{GovernorKind, Scheduler, whole};
 
@@ -14,6 +14,21 @@ pub struct RunWords<'a> {
     pub governor: GovernorKind,
     pub ticks: u64,
     pub demands: Option<&'a str>,
+}
+
+/// What the words of an admission name.
+#[derive(Clone, Copy)]
+pub struct AdmitWords<'a> {
+    pub tasks: &'a str,
+    pub machine: &'a str,
+    pub scheduler: Scheduler,
+}
+
+/// A command.
+#[derive(Clone, Copy)]
+pub enum Command<'a> {
+    Run(RunWords<'a>),
+    Admit(AdmitWords<'a>),
 }
 
 // The value of an option that stands first, and the words after it.
@@ -37,6 +52,7 @@ fn scheduler_of(word: &str) -> Option<Scheduler>
 {
     match word {
         "edf" => Some(Scheduler::Edf),
+        "rm" => Some(Scheduler::Rm),
         _ => None,
     }
 }
@@ -46,6 +62,7 @@ fn governor_of(word: &str) -> Option<GovernorKind>
 {
     match word {
         "none" => Some(GovernorKind::Plain),
+        "static" => Some(GovernorKind::Fixed),
         _ => None,
     }
 }
@@ -72,8 +89,8 @@ fn demands_of(words: &[String]) -> Option<Option<&str>>
     }
 }
 
-fn read_options(words: &[String]) -> Option<RunWords<'_>>
-    ensures { option_map shown result ≡ run_of_options (map string_bytes words.now) }
+fn read_run(words: &[String]) -> Option<RunWords<'_>>
+    ensures { option_map shown_run result ≡ run_of_options (map string_bytes words.now) }
 {
     let (tasks, words) = value_after("--tasks", words)?;
     let tasks = file_name(tasks)?;
@@ -96,12 +113,45 @@ fn read_options(words: &[String]) -> Option<RunWords<'_>>
     })
 }
 
-/// The run that the words ask for. None exactly where they aren't the words of a run.
-pub fn read_run(words: &[String]) -> Option<RunWords<'_>>
-    ensures { option_map shown result ≡ run_of_words (map string_bytes words.now) }
+fn nothing_after(words: &[String]) -> Option<()>
+    ensures { option_map (λ nothing. []) result ≡ nothing_after (map string_bytes words.now) }
 {
     match words {
-        [command, options @ ..] if command.as_str() == "run" => read_options(options),
+        [] => Some(()),
+        _ => None,
+    }
+}
+
+fn read_admit(words: &[String]) -> Option<AdmitWords<'_>>
+    ensures { option_map shown_admit result ≡ admit_of_options (map string_bytes words.now) }
+{
+    let (tasks, words) = value_after("--tasks", words)?;
+    let tasks = file_name(tasks)?;
+    let (machine, words) = value_after("--machine", words)?;
+    let machine = file_name(machine)?;
+    let (scheduler, words) = value_after("--scheduler", words)?;
+    let scheduler = scheduler_of(scheduler)?;
+    nothing_after(words)?;
+    Some(AdmitWords {
+        tasks,
+        machine,
+        scheduler,
+    })
+}
+
+/// The command that the words are. None exactly where they are none.
+pub fn read_command(words: &[String]) -> Option<Command<'_>>
+    ensures { option_map shown result ≡ command_of (map string_bytes words.now) }
+{
+    match words {
+        [command, options @ ..] if command.as_str() == "run" => match read_run(options) {
+            Some(run) => Some(Command::Run(run)),
+            None => None,
+        },
+        [command, options @ ..] if command.as_str() == "admit" => match read_admit(options) {
+            Some(admit) => Some(Command::Admit(admit)),
+            None => None,
+        },
         _ => None,
     }
 }

@@ -1,0 +1,157 @@
+-- The answer to a list of words, where every file is told, nothing fails and memory is found.
+use Rattle.std.specs.Prelude.{ℕ, ◌*◌, List, [], ◌∷◌, length, nat_lt, find, codes, decimal, Option, Some, None, Result, Ok, Err, if◌then◌else◌}
+use Rattle.dvs_base.specs.Outside.{Files, file_of}
+use Rattle.dvs_base.specs.Words.{scheduler_word}
+use Rattle.dvs_base.specs.TraceLines.{line, fraction_text}
+use Rattle.dvs_base.specs.declared.kind.Scheduler.{Scheduler}
+use Rattle.dvs_base.specs.declared.kind.Scheduler.TheVariants.{Edf, Rm}
+use Rattle.dvs_base.specs.declared.kind.GovernorKind.{GovernorKind}
+use Rattle.task_model.specs.declared.task.Task.{Task}
+use Rattle.task_model.specs.declared.fault.TaskFault.{TaskFault}
+use Rattle.task_model.specs.declared.fault.TaskFault.TheVariants as task_fault
+use Rattle.task_model.specs.TaskFile.{task_file}
+use Rattle.freq_table.specs.Tables.{Table, speed_at, lowest_entry}
+use Rattle.freq_table.specs.MachineFile.{machine_file}
+use Rattle.freq_table.specs.declared.fault.MachineFault.{MachineFault}
+use Rattle.freq_table.specs.declared.fault.MachineFault.TheVariants as machine_fault
+use Rattle.demand_list.specs.Demands.{DemandsOf}
+use Rattle.demand_list.specs.DemandFile.{demand_file, worst_list}
+use Rattle.demand_list.specs.declared.fault.DemandFault.{DemandFault}
+use Rattle.demand_list.specs.declared.fault.DemandFault.TheVariants as demand_fault
+use Rattle.sched_model.specs.Plan.{Plan, plan_of, count, period, hyper, top_speed}
+use Rattle.sched_model.specs.Order.{in_order}
+use Rattle.sched_model.specs.Demands.{demand_of}
+use Rattle.sched_model.specs.Tests.{total_rate, level_work}
+use Rattle.sched_model.specs.StaticDemand.{static_demand}
+use Rattle.sched_model.specs.Text.{run_text}
+use Rattle.event_kernel.specs.Runs.{released_jobs, most_jobs}
+use Rattle.rtdvs_top.specs.Words.{RunOf, AdmitOf, CommandOf, run, admit}
+use Rattle.rtdvs_top.specs.declared.status.FileKind.{FileKind}
+use Rattle.rtdvs_top.specs.declared.status.FileKind.TheVariants as file
+use Rattle.rtdvs_top.specs.declared.status.TextFault.TheVariants as text
+use Rattle.rtdvs_top.specs.declared.status.Denied.TheVariants as denied
+use Rattle.rtdvs_top.specs.declared.status.Status.{Status}
+use Rattle.rtdvs_top.specs.declared.status.Status.TheVariants as status
+
+-- a step of the answer gives a value, or the status with which the call ends
+abbrev pub and_then : {A B : Type 0} → Result A Status → (A → Result B Status) → Result B Status
+and_then (Ok a) next = next a
+and_then (Err s) next = Err s
+
+-- the longest file that is read, in bytes
+abbrev pub longest : ℕ
+longest = 16777216
+
+-- the bytes of a file, where it is held and not too long
+abbrev pub bytes_from : FileKind → Option (List ℕ) → Result (List ℕ) Status
+bytes_from kind None = Err (status.Load kind)
+bytes_from kind (Some bytes) = if nat_lt longest (length bytes) then Err (status.Text (text.TooLong kind)) else Ok bytes
+
+-- the bytes of a named file
+abbrev pub bytes_at : FileKind → List ℕ → Files → Result (List ℕ) Status
+bytes_at kind name files = bytes_from kind (file_of files name)
+
+-- refusals of the readers as statuses; want of memory and a demand above its worst case have their own
+abbrev pub task_status : TaskFault → Status
+task_status task_fault.NoMemory = status.NoMemory
+task_status e = status.Text (text.Tasks e)
+
+abbrev pub machine_status : MachineFault → Status
+machine_status machine_fault.NoMemory = status.NoMemory
+machine_status e = status.Text (text.Machine e)
+
+abbrev pub demand_status : DemandFault → Status
+demand_status demand_fault.NoMemory = status.NoMemory
+demand_status (demand_fault.OverWorst task job units worst) = status.OverWorst task job units worst
+demand_status e = status.Text (text.Demands e)
+
+abbrev pub tasks_from : Result (List Task) TaskFault → Result (List Task) Status
+tasks_from (Ok tasks) = Ok tasks
+tasks_from (Err e) = Err (task_status e)
+
+abbrev pub machine_from : Result Table MachineFault → Result Table Status
+machine_from (Ok machine) = Ok machine
+machine_from (Err e) = Err (machine_status e)
+
+abbrev pub demands_from : Result DemandsOf DemandFault → Result DemandsOf Status
+demands_from (Ok demands) = Ok demands
+demands_from (Err e) = Err (demand_status e)
+
+-- the tasks, the machine and the demands of named files
+abbrev pub tasks_at : List ℕ → Files → Result (List Task) Status
+tasks_at name files = and_then (bytes_at file.Tasks name files) (λ bytes. tasks_from (task_file bytes))
+
+abbrev pub machine_at : List ℕ → Files → Result Table Status
+machine_at name files = and_then (bytes_at file.Machine name files) (λ bytes. machine_from (machine_file bytes))
+
+-- where no file of demands is named, every job needs its worst case
+abbrev pub demands_at : List Task → Option (List ℕ) → Files → Result DemandsOf Status
+demands_at tasks None files = Ok (worst_list tasks)
+demands_at tasks (Some name) files = and_then (bytes_at file.Demands name files) (λ bytes. demands_from (demand_file tasks bytes))
+
+-- the first task in RM order whose level asks for more in its period than the highest speed does in it
+abbrev pub first_overloaded : Plan → Option ℕ
+first_overloaded p = find (λ i. nat_lt (top_speed p * period p i) (level_work p i)) (in_order (period p) (count p))
+
+abbrev pub admission_from : Plan → Option ℕ → Result Plan Status
+admission_from p None = Ok p
+admission_from p (Some i) = Err (status.NotAdmitted (denied.Rm i (level_work p i) (top_speed p * period p i)))
+
+-- the plan, where its scheduler's test passes
+abbrev pub admission_by : Scheduler → Plan → Result Plan Status
+admission_by Edf p =
+    if nat_lt (top_speed p * hyper p) (total_rate p)
+    then Err (status.NotAdmitted (denied.Edf (total_rate p) (top_speed p * hyper p)))
+    else Ok p
+admission_by Rm p = admission_from p (first_overloaded p)
+
+abbrev pub admission : Plan → Result Plan Status
+admission p = admission_by p.scheduler p
+
+-- the text, where the run doesn't release too many jobs
+abbrev pub within_jobs : ℕ → List ℕ → Result (List ℕ) Status
+within_jobs jobs bytes = if nat_lt most_jobs jobs then Err (status.Limit jobs) else Ok bytes
+
+-- the answer of an admitted plan: the text of its run
+abbrev pub answer_of_plan : GovernorKind → DemandsOf → ℕ → Plan → Result (List ℕ) Status
+answer_of_plan g demands ticks p = within_jobs (released_jobs p ticks) (run_text p g (demand_of p demands.rows) ticks)
+
+-- the admitted plan and the demands of a run, after its tasks
+abbrev pub prepared_of : RunOf → List Task → Files → Result (Plan × DemandsOf) Status
+prepared_of r tasks files =
+    and_then (machine_at r.machine files) (λ machine.
+    and_then (demands_at tasks r.demands files) (λ demands.
+    and_then (admission (plan_of tasks machine r.scheduler)) (λ p.
+    Ok (p, demands))))
+
+abbrev pub answer_of_prepared : RunOf → Plan × DemandsOf → Result (List ℕ) Status
+answer_of_prepared r x = answer_of_plan r.governor x.1 r.ticks x.0
+
+-- the line of an admission: the static demand, and the lowest speed that meets it
+abbrev pub admitted_text : Plan → List ℕ
+admitted_text p =
+    let d = static_demand p in
+    line (codes "admitted" ∷ scheduler_word p.scheduler ∷ fraction_text d.num d.den ∷ decimal (speed_at p.machine (lowest_entry p.machine d)) ∷ [])
+
+-- the admitted plan of an admission, after its tasks
+abbrev pub admitted_of : AdmitOf → List Task → Files → Result Plan Status
+admitted_of a tasks files = and_then (machine_at a.machine files) (λ machine. admission (plan_of tasks machine a.scheduler))
+
+-- the file of tasks that a command names
+abbrev pub tasks_name : CommandOf → List ℕ
+tasks_name (run r) = r.tasks
+tasks_name (admit a) = a.tasks
+
+-- the answer of a command after its tasks
+abbrev pub answer_of_tasks : CommandOf → List Task → Files → Result (List ℕ) Status
+answer_of_tasks (run r) tasks files = and_then (prepared_of r tasks files) (answer_of_prepared r)
+answer_of_tasks (admit a) tasks files = and_then (admitted_of a tasks files) (λ p. Ok (admitted_text p))
+
+-- the answer of a command
+abbrev pub answer_of_command : CommandOf → Files → Result (List ℕ) Status
+answer_of_command c files = and_then (tasks_at (tasks_name c) files) (λ tasks. answer_of_tasks c tasks files)
+
+-- the answer to a list of words
+abbrev pub answer_of : Option CommandOf → Files → Result (List ℕ) Status
+answer_of None files = Err status.Words
+answer_of (Some c) files = answer_of_command c files

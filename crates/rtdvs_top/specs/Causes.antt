@@ -1,0 +1,48 @@
+-- What a status says, and why it comes.
+use Rattle.std.specs.Prelude.{◌≡◌, ◌⊎◌, ◌≢◌, ℕ, ◌+◌, ◌<◌, ◌≤◌, List, [], length, Option, Some, None, Result, Ok, Err, IsOk, IfOk, is_none, if◌then◌else◌, ⊤}
+use Rattle.std.specs.Io.KnownBytes.{Appends}
+use Rattle.dvs_base.specs.Outside.{Files, Lacks, Rose, AppendsPrefix}
+use Rattle.task_model.specs.declared.task.Task.{Task}
+use Rattle.rtdvs_top.specs.Words.{RunOf, AdmitOf, CommandOf, run, admit}
+use Rattle.rtdvs_top.specs.Answer.{answer_of, answer_of_command, tasks_at, tasks_name, machine_at}
+use Rattle.rtdvs_top.specs.Naming.{names_of}
+use Rattle.rtdvs_top.specs.Refusals.{status_text}
+use Rattle.rtdvs_top.specs.declared.status.FileKind.{FileKind}
+use Rattle.rtdvs_top.specs.declared.status.FileKind.TheVariants as file
+use Rattle.rtdvs_top.specs.declared.status.Status.{Status}
+use Rattle.rtdvs_top.specs.declared.status.Status.TheVariants as status
+
+-- the status of a step that didn't give a value, where it isn't one that the outside or memory explains
+abbrev pub EndsWith : {A : Type 0} → Result A Status → Status → Type 0
+EndsWith step status.Done = ⊥
+EndsWith step status.Words = ⊥
+EndsWith step status.Write = ⊥
+EndsWith step status.NoMemory = ⊤
+EndsWith step (status.Load kind) = ⊤
+EndsWith step s = step ≡ Err s
+
+-- a status of a step whose files are not told
+abbrev pub IsRefusal : Status → Type 0
+IsRefusal status.Done = ⊥
+IsRefusal status.Words = ⊥
+IsRefusal status.Write = ⊥
+IsRefusal s = ⊤
+
+-- where the files are told, the step gives this value
+abbrev pub Gives : {A : Type 0} → Option Files → (Files → Result A Status) → A → Type 0
+Gives None step a = ⊤
+Gives (Some files) step a = step files ≡ Ok a
+
+-- where the files are told, the step ends with this status
+abbrev pub Refuses : {A : Type 0} → Option Files → (Files → Result A Status) → Status → Type 0
+Refuses None step s = IsRefusal s
+Refuses (Some files) step s = EndsWith (step files) s
+
+-- a load fails by its name, or by a count that rose in a call that was not sure of it; the place counts the command's loads
+abbrev pub LoadExplained : Option Files → List ℕ → ℕ → ℕ → ℕ → ℕ → Type 0
+LoadExplained told name place before now sure = Lacks told name ⊎ (Rose before now × (sure < place))
+
+-- a status that says a load failed names this file, and is explained
+abbrev pub IsLoadOf : FileKind → Type 0 → Status → Type 0
+IsLoadOf kind why (status.Load other) = (other ≡ kind) × why
+IsLoadOf kind why s = ⊤

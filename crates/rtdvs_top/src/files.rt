@@ -1,0 +1,124 @@
+// The files that the words name: loaded, and read.
+ghost use Rattle.std.specs.Prelude.{◌≡◌, ◌+◌, ◌≤◌, Ok, Err, Some, None, map, option_map, IfOk, IfErr};
+ghost use Rattle.dvs_base.specs.Outside.{Lacks, Rose};
+ghost use Rattle.rtdvs_top.specs.Answer.{bytes_at, tasks_at, machine_at, demands_at, task_status, machine_status, demand_status, tasks_from, machine_from, demands_from};
+ghost use Rattle.rtdvs_top.specs.Causes.{Gives, Refuses, LoadExplained, IsLoadOf};
+
+use crate::{FileKind, Status, TextFault};
+use demand_list::{DemandFault, Demands};
+use dvs_base::{LoadFault, Shelf};
+use freq_table::{Machine, MachineFault};
+use std::alloc::Global;
+use task_model::{TaskFault, TaskSet};
+
+const LONGEST: u64 = 16777216;
+
+// The bytes of a file that is not too long.
+fn load_file<S: Shelf>(
+    alloc: Global,
+    file: FileKind,
+    name: &str,
+    shelf: &mut S,
+) -> Result<Vec<u8>, Status>
+    ensures read { IfOk result (λ v. Gives (S.held shelf.old) (bytes_at file name.now) v.items) }
+    ensures refused { IfErr result (Refuses (S.held shelf.old) (bytes_at file name.now)) }
+    ensures explained { IfErr result (IsLoadOf file (LoadExplained (S.held shelf.old) name.now 1 (S.faults shelf.old) (S.faults shelf.new) (S.sure shelf.old))) }
+    ensures held { S.held shelf.new ≡ S.held shelf.old }
+    ensures later { S.faults shelf.old ≤ S.faults shelf.new }
+    ensures steady { 1 ≤ S.sure shelf.old → S.faults shelf.new ≡ S.faults shelf.old }
+    ensures surety { S.sure shelf.old ≤ S.sure shelf.new + 1 }
+{
+    let bytes = match shelf.load(alloc, name, LONGEST) {
+        Ok(bytes) => bytes,
+        Err(LoadFault::NoMemory) => return Err(Status::NoMemory),
+        Err(LoadFault::Failed) => return Err(Status::Load { file }),
+        Err(LoadFault::Absent) => return Err(Status::Load { file }),
+    };
+    if bytes.len() as u64 > LONGEST {
+        return Err(Status::Text(TextFault::TooLong { file }));
+    }
+    Ok(bytes)
+}
+
+// A refusal of a task file as a status.
+fn task_status(why: TaskFault) -> Status
+    ensures { result ≡ task_status why }
+{
+    match why {
+        TaskFault::NoMemory => Status::NoMemory,
+        why => Status::Text(TextFault::Tasks(why)),
+    }
+}
+
+// A refusal of a machine file as a status.
+fn machine_status(why: MachineFault) -> Status
+    ensures { result ≡ machine_status why }
+{
+    match why {
+        MachineFault::NoMemory => Status::NoMemory,
+        why => Status::Text(TextFault::Machine(why)),
+    }
+}
+
+// A refusal of a demand file as a status.
+fn demand_status(why: DemandFault) -> Status
+    ensures { result ≡ demand_status why }
+{
+    match why {
+        DemandFault::NoMemory => Status::NoMemory,
+        DemandFault::OverWorst {
+            task,
+            job,
+            units,
+            worst,
+        } => Status::OverWorst {
+            task,
+            job,
+            units,
+            worst,
+        },
+        why => Status::Text(TextFault::Demands(why)),
+    }
+}
+
+/// The tasks of a file.
+pub(crate) fn load_tasks<S: Shelf>(
+    alloc: Global,
+    name: &str,
+    shelf: &mut S,
+) -> Result<TaskSet, Status>
+    ensures read { IfOk result (Gives (S.held shelf.old) (tasks_at name.now)) }
+    ensures refused { IfErr result (Refuses (S.held shelf.old) (tasks_at name.now)) }
+    ensures explained { IfErr result (IsLoadOf FileKind.Tasks (LoadExplained (S.held shelf.old) name.now 1 (S.faults shelf.old) (S.faults shelf.new) (S.sure shelf.old))) }
+    ensures held { S.held shelf.new ≡ S.held shelf.old }
+    ensures later { S.faults shelf.old ≤ S.faults shelf.new }
+    ensures steady { 1 ≤ S.sure shelf.old → S.faults shelf.new ≡ S.faults shelf.old }
+    ensures surety { S.sure shelf.old ≤ S.sure shelf.new + 1 }
+{
+    let bytes = load_file(alloc, FileKind::Tasks, name, shelf)?;
+    match TaskSet::read(alloc, &bytes) {
+        Ok(tasks) => Ok(tasks),
+        Err(why) => Err(task_status(why)),
+    }
+}
+
+/// The machine of a file.
+pub(crate) fn load_machine<S: Shelf>(
+    alloc: Global,
+    name: &str,
+    shelf: &mut S,
+) -> Result<Machine, Status>
+    ensures read { IfOk result (Gives (S.held shelf.old) (machine_at name.now)) }
+    ensures refused { IfErr result (Refuses (S.held shelf.old) (machine_at name.now)) }
+    ensures explained { IfErr result (IsLoadOf FileKind.Machine (LoadExplained (S.held shelf.old) name.now 1 (S.faults shelf.old) (S.faults shelf.new) (S.sure shelf.old))) }
+    ensures held { S.held shelf.new ≡ S.held shelf.old }
+    ensures later { S.faults shelf.old ≤ S.faults shelf.new }
+    ensures steady { 1 ≤ S.sure shelf.old → S.faults shelf.new ≡ S.faults shelf.old }
+    ensures surety { S.sure shelf.old ≤ S.sure shelf.new + 1 }
+{
+    let bytes = load_file(alloc, FileKind::Machine, name, shelf)?;
+    match Machine::read(alloc, &bytes) {
+        Ok(machine) => Ok(machine),
+        Err(why) => Err(machine_status(why)),
+    }
+}
