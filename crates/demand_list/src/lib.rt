@@ -11,6 +11,7 @@ mod read;
 
 pub use demands::Demands;
 pub use fault::{Column, DemandFault};
+pub use read::worst_list;
 
 #[cfg(test)]
 mod tests;

@@ -175,8 +175,8 @@ fn worst_cases(alloc: Global, tasks: &TaskSet) -> Result<Vec<u64>, NoMemory>
     Ok(worsts)
 }
 
-// The list without rows.
-fn worst_list(alloc: Global, tasks: &TaskSet) -> Result<Demands, DemandFault>
+/// The list without rows, in which every job needs its declared worst case. The one refusal is want of memory.
+pub fn worst_list(alloc: Global, tasks: &TaskSet) -> Result<Demands, DemandFault>
     ensures ok { IfOk result (λ d. d ≡ worst_list tasks.now) }
     ensures err { IfErr result (λ e. e ≡ fault.NoMemory) }
 {

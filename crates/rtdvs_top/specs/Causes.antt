@@ -42,6 +42,11 @@ Refuses (Some files) step s = EndsWith (step files) s
 abbrev pub LoadExplained : Option Files → List ℕ → ℕ → ℕ → ℕ → ℕ → Type 0
 LoadExplained told name place before now sure = Lacks told name ⊎ (Rose before now × (sure < place))
 
+-- the same of a file that may be named
+abbrev pub NamedLoadExplained : Option Files → Option (List ℕ) → ℕ → ℕ → ℕ → ℕ → Type 0
+NamedLoadExplained told None place before now sure = ⊥
+NamedLoadExplained told (Some name) place before now sure = LoadExplained told name place before now sure
+
 -- a status that says a load failed names this file, and is explained
 abbrev pub IsLoadOf : FileKind → Type 0 → Status → Type 0
 IsLoadOf kind why (status.Load other) = (other ≡ kind) × why

@@ -6,3 +6,4 @@ pub mod Refusals
 pub mod Answer
 pub mod Writing
 pub mod Causes
+pub mod Ending

@@ -2,10 +2,10 @@
 ghost use Rattle.std.specs.Prelude.{◌≡◌, ◌+◌, ◌≤◌, Ok, Err, Some, None, map, option_map, IfOk, IfErr};
 ghost use Rattle.dvs_base.specs.Outside.{Lacks, Rose};
 ghost use Rattle.rtdvs_top.specs.Answer.{bytes_at, tasks_at, machine_at, demands_at, task_status, machine_status, demand_status, tasks_from, machine_from, demands_from};
-ghost use Rattle.rtdvs_top.specs.Causes.{Gives, Refuses, LoadExplained, IsLoadOf};
+ghost use Rattle.rtdvs_top.specs.Causes.{Gives, Refuses, LoadExplained, NamedLoadExplained, IsLoadOf};
 
 use crate::{FileKind, Status, TextFault};
-use demand_list::{DemandFault, Demands};
+use demand_list::{DemandFault, Demands, worst_list};
 use dvs_base::{LoadFault, Shelf};
 use freq_table::{Machine, MachineFault};
 use std::alloc::Global;
@@ -120,5 +120,53 @@ pub(crate) fn load_machine<S: Shelf>(
     match Machine::read(alloc, &bytes) {
         Ok(machine) => Ok(machine),
         Err(why) => Err(machine_status(why)),
+    }
+}
+
+// The demands of a named file.
+fn load_named_demands<S: Shelf>(
+    alloc: Global,
+    name: &str,
+    tasks: &TaskSet,
+    shelf: &mut S,
+) -> Result<Demands, Status>
+    ensures read { IfOk result (Gives (S.held shelf.old) (demands_at tasks.now (Some name.now))) }
+    ensures worsts { IfOk result (λ d. d.worsts ≡ map (λ t. t.worst) tasks.now) }
+    ensures refused { IfErr result (Refuses (S.held shelf.old) (demands_at tasks.now (Some name.now))) }
+    ensures explained { IfErr result (IsLoadOf FileKind.Demands (LoadExplained (S.held shelf.old) name.now 1 (S.faults shelf.old) (S.faults shelf.new) (S.sure shelf.old))) }
+    ensures held { S.held shelf.new ≡ S.held shelf.old }
+    ensures later { S.faults shelf.old ≤ S.faults shelf.new }
+    ensures steady { 1 ≤ S.sure shelf.old → S.faults shelf.new ≡ S.faults shelf.old }
+    ensures surety { S.sure shelf.old ≤ S.sure shelf.new + 1 }
+{
+    let bytes = load_file(alloc, FileKind::Demands, name, shelf)?;
+    match Demands::read(alloc, &bytes, tasks) {
+        Ok(demands) => Ok(demands),
+        Err(why) => Err(demand_status(why)),
+    }
+}
+
+/// The demands of a file, or every job's worst case where none is named.
+pub(crate) fn load_demands<S: Shelf>(
+    alloc: Global,
+    name: Option<&str>,
+    tasks: &TaskSet,
+    shelf: &mut S,
+) -> Result<Demands, Status>
+    ensures read { IfOk result (Gives (S.held shelf.old) (demands_at tasks.now (option_map (λ s. s.now) name.entry))) }
+    ensures worsts { IfOk result (λ d. d.worsts ≡ map (λ t. t.worst) tasks.now) }
+    ensures refused { IfErr result (Refuses (S.held shelf.old) (demands_at tasks.now (option_map (λ s. s.now) name.entry))) }
+    ensures explained { IfErr result (IsLoadOf FileKind.Demands (NamedLoadExplained (S.held shelf.old) (option_map (λ s. s.now) name.entry) 1 (S.faults shelf.old) (S.faults shelf.new) (S.sure shelf.old))) }
+    ensures held { S.held shelf.new ≡ S.held shelf.old }
+    ensures later { S.faults shelf.old ≤ S.faults shelf.new }
+    ensures steady { 1 ≤ S.sure shelf.old → S.faults shelf.new ≡ S.faults shelf.old }
+    ensures surety { S.sure shelf.old ≤ S.sure shelf.new + 1 }
+{
+    match name {
+        Some(name) => load_named_demands(alloc, name, tasks, shelf),
+        None => match worst_list(alloc, tasks) {
+            Ok(demands) => Ok(demands),
+            Err(_) => Err(Status::NoMemory),
+        },
     }
 }

@@ -3,7 +3,9 @@
 
 mod files;
 mod refusal;
+mod run;
 mod status;
 mod words;
+mod writer;
 
 pub use status::{Denied, FileKind, Status, TextFault};

@@ -1,9 +1,9 @@
 // The lines of a trace.
-ghost use Rattle.std.specs.Prelude.{◌≡◌, [], ◌∷◌, length, codes};
+ghost use Rattle.std.specs.Prelude.{◌≡◌, ◌≤◌, [], ◌∷◌, codes};
 ghost use Rattle.std.specs.Fmt.{decimal};
-ghost use Rattle.dvs_base.specs.TraceLines.{line, note_text, plan_text, position_text, fraction_text};
+ghost use Rattle.dvs_base.specs.TraceLines.{line, note_text, plan_text, position_text, fraction_text, name_of};
+ghost use Rattle.dvs_base.specs.Parts.{part_text, most_bytes};
 ghost use Rattle.dvs_base.specs.Words.{scheduler_word, governor_word};
-ghost use Rattle.trace_text.specs.Naming.{NamesBelow};
 
 use dvs_base::{GovernorKind, Line, Name, Note, Part, Pos, Scheduler, line_of};
 
@@ -51,14 +51,26 @@ pub fn write_head(line: &mut Line, plan: PlanLine)
     ]);
 }
 
-fn release_line(tick: u64, name: &Name, job: u64) -> Line
-    ensures { result ≡ line (codes "release" ∷ decimal tick ∷ name.now ∷ decimal job ∷ []) }
+// The name of a task, and nothing where it has none.
+fn name_part(names: &[Name], task: u32) -> Part<'_>
+    ensures text { part_text result ≡ name_of names.now task }
+    ensures most { most_bytes result ≤ 32 }
+{
+    match names.get(task as usize) {
+        Some(name) => Part::Named(name),
+        None => Part::Word(b""),
+    }
+}
+
+fn release_line(tick: u64, name: Part<'_>, job: u64) -> Line
+    requires { most_bytes name ≤ 32 }
+    ensures { result ≡ line (codes "release" ∷ decimal tick ∷ part_text name.entry ∷ decimal job ∷ []) }
 {
     line_of(&[
         Part::Word(b"release "),
         Part::Number(tick),
         Part::Word(b" "),
-        Part::Named(name),
+        name,
         Part::Word(b" "),
         Part::Number(job),
         Part::Word(b"\n"),
@@ -79,8 +91,9 @@ fn speed_line(tick: u64, speed: u64, num: u128, den: u128) -> Line
     ])
 }
 
-fn run_line(from: Pos, to: Pos, name: &Name, job: u64, units: u64, energy: u128) -> Line
-    ensures { result ≡ line (codes "run" ∷ position_text from ∷ position_text to ∷ name.now ∷ decimal job ∷ decimal units ∷ decimal energy ∷ []) }
+fn run_line(from: Pos, to: Pos, name: Part<'_>, job: u64, units: u64, energy: u128) -> Line
+    requires { most_bytes name ≤ 32 }
+    ensures { result ≡ line (codes "run" ∷ position_text from ∷ position_text to ∷ part_text name.entry ∷ decimal job ∷ decimal units ∷ decimal energy ∷ []) }
 {
     line_of(&[
         Part::Word(b"run "),
@@ -88,7 +101,7 @@ fn run_line(from: Pos, to: Pos, name: &Name, job: u64, units: u64, energy: u128)
         Part::Word(b" "),
         Part::At(to),
         Part::Word(b" "),
-        Part::Named(name),
+        name,
         Part::Word(b" "),
         Part::Number(job),
         Part::Word(b" "),
@@ -115,14 +128,15 @@ fn idle_line(from: Pos, to: Pos, units: u64, energy: u128) -> Line
     ])
 }
 
-fn done_line(at: Pos, name: &Name, job: u64, used: u64) -> Line
-    ensures { result ≡ line (codes "done" ∷ position_text at ∷ name.now ∷ decimal job ∷ decimal used ∷ []) }
+fn done_line(at: Pos, name: Part<'_>, job: u64, used: u64) -> Line
+    requires { most_bytes name ≤ 32 }
+    ensures { result ≡ line (codes "done" ∷ position_text at ∷ part_text name.entry ∷ decimal job ∷ decimal used ∷ []) }
 {
     line_of(&[
         Part::Word(b"done "),
         Part::At(at),
         Part::Word(b" "),
-        Part::Named(name),
+        name,
         Part::Word(b" "),
         Part::Number(job),
         Part::Word(b" "),
@@ -145,15 +159,14 @@ fn end_line(ticks: u64, run: u128, idle: u128) -> Line
     ])
 }
 
-/// Writes the line of a note, with its line feed. Each line has at most 203 bytes.
+/// Writes the line of a note, with its line feed; a task without a name has an empty one. Each line has at most 203 bytes.
 #[tactic(auto, unfolding(dvs_base::specs::TraceLines::note_text))]
 pub fn write_note(line: &mut Line, note: &Note, names: &[Name])
-    requires empty { line.old ≡ [] }
-    requires named { NamesBelow (length names.now) note.now }
+    requires { line.old ≡ [] }
     ensures { line.new ≡ note_text names.now note.now }
 {
     *line = match *note {
-        Note::Release { tick, task, job } => release_line(tick, &names[task as usize], job),
+        Note::Release { tick, task, job } => release_line(tick, name_part(names, task), job),
         Note::Speed {
             tick,
             speed,
@@ -167,7 +180,7 @@ pub fn write_note(line: &mut Line, note: &Note, names: &[Name])
             job,
             units,
             energy,
-        } => run_line(from, to, &names[task as usize], job, units, energy),
+        } => run_line(from, to, name_part(names, task), job, units, energy),
         Note::Idle {
             from,
             to,
@@ -179,7 +192,7 @@ pub fn write_note(line: &mut Line, note: &Note, names: &[Name])
             task,
             job,
             used,
-        } => done_line(at, &names[task as usize], job, used),
+        } => done_line(at, name_part(names, task), job, used),
         Note::End { ticks, run, idle } => end_line(ticks, run, idle),
     };
 }

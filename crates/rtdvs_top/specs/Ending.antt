@@ -1,0 +1,62 @@
+-- How the writing of an answer ends.
+use Rattle.std.specs.Prelude.{◌≡◌, ◌≢◌, ◌<◌, ℕ, true, List, Result, Ok, Err, ⊤}
+use Rattle.dvs_base.specs.declared.kind.GovernorKind.{GovernorKind}
+use Rattle.dvs_base.specs.declared.kind.GovernorKind.TheVariants.{Plain, Fixed, Cycle, Ahead}
+use Rattle.grid_fraction.specs.declared.Frac.{Frac}
+use Rattle.demand_list.specs.Demands.{DemandsOf}
+use Rattle.sched_model.specs.Plan.{Plan, names}
+use Rattle.sched_model.specs.States.{StateOf}
+use Rattle.sched_model.specs.Text.{trace_text}
+use Rattle.sched_model.specs.Demands.{demand_of}
+use Rattle.sched_model.specs.Demand.{published}
+use Rattle.sched_model.specs.Decision.{is_decision}
+use Rattle.sched_model.specs.Deadlines.{IsMet}
+use Rattle.sched_model.specs.Schedule.{schedule}
+use Rattle.freq_table.specs.Tables.{lowest_pick}
+use Rattle.event_kernel.specs.Runs.{Run, notes_of_run, released_jobs, MeetsDeadlines, MeetsDemands}
+use Rattle.rtdvs_top.specs.Answer.{within_jobs}
+use Rattle.rtdvs_top.specs.Causes.{EndsWith}
+use Rattle.rtdvs_top.specs.declared.status.Status.{Status}
+use Rattle.rtdvs_top.specs.declared.status.Status.TheVariants as status
+
+-- the answer's text was written, or a first part of it, or nothing changed
+abbrev pub Ended : Result (List ℕ) Status → Status → Type 0 → (List ℕ → Type 0) → (List ℕ → Type 0) → Type 0
+Ended answer status.Done same wrote some = (text : List ℕ) × (answer ≡ Ok text) × wrote text
+Ended answer status.Write same wrote some = (text : List ℕ) × (answer ≡ Ok text) × some text
+Ended answer s same wrote some = EndsWith answer s × same
+
+-- the run of a plan, a demand list and a number of ticks
+abbrev pub run_of : Plan → DemandsOf → ℕ → Run
+run_of p d ticks = record { plan = p; demands = d; ticks = ticks }
+
+-- the text of a run under a governor's own demand
+abbrev pub governed_text : GovernorKind → (Plan → StateOf → Frac) → Plan → DemandsOf → ℕ → List ℕ
+governed_text kind demand p d ticks = trace_text p.scheduler kind ticks (names p) (notes_of_run demand (run_of p d ticks))
+
+abbrev pub governed_answer : GovernorKind → (Plan → StateOf → Frac) → Plan → DemandsOf → ℕ → Result (List ℕ) Status
+governed_answer kind demand p d ticks = within_jobs (released_jobs p ticks) (governed_text kind demand p d ticks)
+
+-- at each decision within a run some entry of the table meets the published demand
+abbrev pub AlwaysMeets : Plan → GovernorKind → (ℕ → ℕ → ℕ) → ℕ → Type 0
+AlwaysMeets p kind dem ticks =
+    (t : ℕ) → t < ticks → is_decision p dem (schedule p kind dem t) ≡ true
+    → (lowest_pick p.machine (published p kind dem (schedule p kind dem t))).met ≡ true
+
+-- a run that wrote something meets every deadline, and every demand unless it looks ahead
+abbrev pub MeetsAll : GovernorKind → (Plan → StateOf → Frac) → Plan → DemandsOf → ℕ → Status → Type 0
+MeetsAll kind demand p d ticks status.Done = MeetsDeadlines demand (run_of p d ticks) × (kind ≢ Ahead → MeetsDemands demand (run_of p d ticks))
+MeetsAll kind demand p d ticks s = ⊤
+
+-- the same, by the published demand of the governor's kind
+abbrev pub MeetsAllOf : GovernorKind → Plan → DemandsOf → ℕ → Status → Type 0
+MeetsAllOf kind p d ticks status.Done =
+    let dem = demand_of p d.rows in
+    IsMet p dem (schedule p kind dem ticks) × (kind ≢ Ahead → AlwaysMeets p kind dem ticks)
+MeetsAllOf kind p d ticks s = ⊤
+
+-- the governors that are there
+abbrev pub IsBuilt : GovernorKind → Type 0
+IsBuilt Plain = ⊤
+IsBuilt Fixed = ⊤
+IsBuilt Cycle = ⊥
+IsBuilt Ahead = ⊥

@@ -1,0 +1,265 @@
+// Admission, and the run of an admitted plan.
+ghost use Rattle.std.specs.Prelude.{◌≡◌, ◌≢◌, ◌≤◌, ◌^◌, Ok, Err, IfOk, IfErr, OnOk, OnErr, flat_map, ◌<◌, length};
+ghost use Rattle.sched_model.specs.StaticDemand.{static_demand};
+ghost use Rattle.sched_model.specs.Plan.{plan_of};
+ghost use Rattle.sched_model.specs.States.{opening};
+ghost use Rattle.sched_model.specs.Text.{trace_text};
+ghost use Rattle.dvs_base.specs.TraceLines.{note_text};
+ghost use Rattle.event_kernel.specs.Runs.{IsListOf, notes_of_run, MeetsDeadlines, MeetsDemands};
+ghost use Rattle.rtdvs_top.specs.Answer.{admission, answer_of_plan, admitted_text};
+ghost use Rattle.rtdvs_top.specs.Causes.{EndsWith};
+ghost use Rattle.rtdvs_top.specs.Ending.{Ended, governed_answer, IsBuilt, MeetsAll, MeetsAllOf};
+ghost use Rattle.rtdvs_top.specs.Writing.{Wrote, WroteSome};
+
+use crate::writer::{TraceWriter, put_head, put_line};
+use crate::{Denied, Status};
+use demand_list::Demands;
+use dvs_base::{Failed, GovernorKind, Line, Name, Part, Scheduler, Sink, line_of};
+use edf_admit::{EdfFault, edf_admit};
+use event_kernel::{Kernel, KernelFault, Stopped};
+use freq_table::Machine;
+use governor::Governor;
+use rm_admit::{RmFault, rm_admit};
+use sched_model::Admitted;
+use static_gov::{Full, Static, published_demands};
+use std::alloc::Global;
+use task_model::TaskSet;
+use trace_text::PlanLine;
+
+fn admit_edf(alloc: Global, tasks: &TaskSet, machine: &Machine) -> Result<Admitted, Status>
+    ensures plan { IfOk result (λ p. admission (plan_of tasks.now machine.now Scheduler.Edf) ≡ Ok p) }
+    ensures denied { IfErr result (EndsWith (admission (plan_of tasks.now machine.now Scheduler.Edf))) }
+{
+    match edf_admit(alloc, tasks, machine) {
+        Ok(plan) => Ok(plan),
+        Err(EdfFault::Denied { num, cap }) => Err(Status::NotAdmitted(Denied::Edf { num, cap })),
+        Err(EdfFault::NoMemory) => Err(Status::NoMemory),
+    }
+}
+
+fn admit_rm(alloc: Global, tasks: &TaskSet, machine: &Machine) -> Result<Admitted, Status>
+    ensures plan { IfOk result (λ p. admission (plan_of tasks.now machine.now Scheduler.Rm) ≡ Ok p) }
+    ensures denied { IfErr result (EndsWith (admission (plan_of tasks.now machine.now Scheduler.Rm))) }
+{
+    match rm_admit(alloc, tasks, machine) {
+        Ok(plan) => Ok(plan),
+        Err(RmFault::Denied { task, num, cap }) => Err(Status::NotAdmitted(Denied::Rm {
+            task,
+            num,
+            cap,
+        })),
+        Err(RmFault::NoMemory) => Err(Status::NoMemory),
+    }
+}
+
+/// The plan, where its scheduler's test passes.
+pub(crate) fn admit(
+    alloc: Global,
+    scheduler: Scheduler,
+    tasks: &TaskSet,
+    machine: &Machine,
+) -> Result<Admitted, Status>
+    ensures plan { IfOk result (λ p. admission (plan_of tasks.now machine.now scheduler) ≡ Ok p) }
+    ensures same { IfOk result (λ p. p ≡ plan_of tasks.now machine.now scheduler) }
+    ensures denied { IfErr result (EndsWith (admission (plan_of tasks.now machine.now scheduler))) }
+{
+    match scheduler {
+        Scheduler::Edf => admit_edf(alloc, tasks, machine),
+        Scheduler::Rm => admit_rm(alloc, tasks, machine),
+    }
+}
+
+// Tells the notes of a run to a writer.
+fn drive_into<G: Governor, W: Sink>(
+    kernel: Kernel<'_, G>,
+    writer: &mut TraceWriter<'_, W>,
+) -> Result<(), Failed>
+    ensures ok { OnOk result (Wrote (W.written writer.old.out.now) (W.written writer.new.out.now) (W.faults writer.old.out.now) (W.faults writer.new.out.now) (W.sure writer.old.out.now) (W.sure writer.new.out.now) (flat_map (note_text writer.old.names.now) (notes_of_run G.demand kernel.entry))) }
+    ensures part { OnErr result (WroteSome (W.written writer.old.out.now) (W.written writer.new.out.now) (W.faults writer.old.out.now) (W.faults writer.new.out.now) (W.sure writer.old.out.now) (flat_map (note_text writer.old.names.now) (notes_of_run G.demand kernel.entry))) }
+    ensures same_sink { writer.new.out.ghost_name ≡ writer.old.out.ghost_name }
+    ensures deadlines { MeetsDeadlines G.demand kernel.entry }
+    ensures demands { G.the_kind ≢ GovernorKind.Ahead → MeetsDemands G.demand kernel.entry }
+{
+    match kernel.drive(writer) {
+        Ok(_) => Ok(()),
+        Err(Stopped) => Err(Failed),
+    }
+}
+
+// Writes the notes of a run.
+fn put_notes<G: Governor, W: Sink>(
+    kernel: Kernel<'_, G>,
+    names: &[Name],
+    out: &mut W,
+) -> Result<(), Failed>
+    ensures ok { OnOk result (Wrote (W.written out.old) (W.written out.new) (W.faults out.old) (W.faults out.new) (W.sure out.old) (W.sure out.new) (flat_map (note_text names.now) (notes_of_run G.demand kernel.entry))) }
+    ensures part { OnErr result (WroteSome (W.written out.old) (W.written out.new) (W.faults out.old) (W.faults out.new) (W.sure out.old) (flat_map (note_text names.now) (notes_of_run G.demand kernel.entry))) }
+    ensures deadlines { MeetsDeadlines G.demand kernel.entry }
+    ensures demands { G.the_kind ≢ GovernorKind.Ahead → MeetsDemands G.demand kernel.entry }
+{
+    let mut writer = TraceWriter { out, names };
+    let told = drive_into(kernel, &mut writer);
+    let TraceWriter { out: _, names: _ } = writer;
+    told
+}
+
+// Writes the whole trace of a run.
+fn put_trace<G: Governor, W: Sink>(
+    head: PlanLine,
+    kernel: Kernel<'_, G>,
+    names: &[Name],
+    out: &mut W,
+) -> Result<(), Failed>
+    ensures ok { OnOk result (Wrote (W.written out.old) (W.written out.new) (W.faults out.old) (W.faults out.new) (W.sure out.old) (W.sure out.new) (trace_text head.scheduler head.governor head.ticks names.now (notes_of_run G.demand kernel.entry))) }
+    ensures part { OnErr result (WroteSome (W.written out.old) (W.written out.new) (W.faults out.old) (W.faults out.new) (W.sure out.old) (trace_text head.scheduler head.governor head.ticks names.now (notes_of_run G.demand kernel.entry))) }
+    ensures deadlines { OnOk result (MeetsDeadlines G.demand kernel.entry) }
+    ensures demands { OnOk result (G.the_kind ≢ GovernorKind.Ahead → MeetsDemands G.demand kernel.entry) }
+{
+    match put_head(head, out) {
+        Ok(()) => match put_notes(kernel, names, out) {
+            Ok(()) => Ok(()),
+            Err(Failed) => Err(Failed),
+        },
+        Err(Failed) => Err(Failed),
+    }
+}
+
+// The trace of a run under a governor.
+fn run_governed<G: Governor, W: Sink>(
+    alloc: Global,
+    plan: &Admitted,
+    demands: &Demands,
+    governor: G,
+    ticks: u64,
+    out: &mut W,
+) -> Status
+    requires list { IsListOf plan.now demands.now }
+    requires stands { G.stands governor plan.now (opening plan.now) }
+    requires some_ticks { 1 ≤ ticks }
+    requires low_ticks { ticks ≤ 2 ^ 40 }
+    ensures ended { Ended (governed_answer G.the_kind G.demand plan.now demands.now ticks) result (out.new ≡ out.old) (Wrote (W.written out.old) (W.written out.new) (W.faults out.old) (W.faults out.new) (W.sure out.old) (W.sure out.new)) (WroteSome (W.written out.old) (W.written out.new) (W.faults out.old) (W.faults out.new) (W.sure out.old)) }
+    ensures met { MeetsAll G.the_kind G.demand plan.now demands.now ticks result }
+{
+    let head = PlanLine {
+        scheduler: plan.scheduler(),
+        governor: governor.kind(),
+        ticks,
+    };
+    let kernel = match Kernel::new(alloc, plan, demands, governor, ticks) {
+        Ok(kernel) => kernel,
+        Err(KernelFault::TooManyJobs { count }) => return Status::Limit { jobs: count },
+        Err(KernelFault::NoMemory) => return Status::NoMemory,
+    };
+    match put_trace(head, kernel, plan.names(), out) {
+        Ok(()) => Status::Done,
+        Err(Failed) => Status::Write,
+    }
+}
+
+// A run under none.
+fn run_full<W: Sink>(
+    alloc: Global,
+    plan: &Admitted,
+    demands: &Demands,
+    ticks: u64,
+    out: &mut W,
+) -> Status
+    requires list { IsListOf plan.now demands.now }
+    requires some_ticks { 1 ≤ ticks }
+    requires low_ticks { ticks ≤ 2 ^ 40 }
+    ensures ended { Ended (answer_of_plan GovernorKind.Plain demands.now ticks plan.now) result (out.new ≡ out.old) (Wrote (W.written out.old) (W.written out.new) (W.faults out.old) (W.faults out.new) (W.sure out.old) (W.sure out.new)) (WroteSome (W.written out.old) (W.written out.new) (W.faults out.old) (W.faults out.new) (W.sure out.old)) }
+    ensures met { MeetsAllOf GovernorKind.Plain plan.now demands.now ticks result }
+{
+    published_demands(plan);
+    match Full::new(alloc, plan) {
+        Ok(governor) => run_governed(alloc, plan, demands, governor, ticks, out),
+        Err(_) => Status::NoMemory,
+    }
+}
+
+// A run under static.
+fn run_static<W: Sink>(
+    alloc: Global,
+    plan: &Admitted,
+    demands: &Demands,
+    ticks: u64,
+    out: &mut W,
+) -> Status
+    requires list { IsListOf plan.now demands.now }
+    requires some_ticks { 1 ≤ ticks }
+    requires low_ticks { ticks ≤ 2 ^ 40 }
+    ensures ended { Ended (answer_of_plan GovernorKind.Fixed demands.now ticks plan.now) result (out.new ≡ out.old) (Wrote (W.written out.old) (W.written out.new) (W.faults out.old) (W.faults out.new) (W.sure out.old) (W.sure out.new)) (WroteSome (W.written out.old) (W.written out.new) (W.faults out.old) (W.faults out.new) (W.sure out.old)) }
+    ensures met { MeetsAllOf GovernorKind.Fixed plan.now demands.now ticks result }
+{
+    published_demands(plan);
+    match Static::new(alloc, plan) {
+        Ok(governor) => run_governed(alloc, plan, demands, governor, ticks, out),
+        Err(_) => Status::NoMemory,
+    }
+}
+
+/// The trace of a run of an admitted plan.
+pub(crate) fn run_plan<W: Sink>(
+    alloc: Global,
+    plan: &Admitted,
+    demands: &Demands,
+    governor: GovernorKind,
+    ticks: u64,
+    out: &mut W,
+) -> Status
+    requires list { IsListOf plan.now demands.now }
+    requires built { IsBuilt governor }
+    requires some_ticks { 1 ≤ ticks }
+    requires low_ticks { ticks ≤ 2 ^ 40 }
+    ensures ended { Ended (answer_of_plan governor demands.now ticks plan.now) result (out.new ≡ out.old) (Wrote (W.written out.old) (W.written out.new) (W.faults out.old) (W.faults out.new) (W.sure out.old) (W.sure out.new)) (WroteSome (W.written out.old) (W.written out.new) (W.faults out.old) (W.faults out.new) (W.sure out.old)) }
+    ensures met { MeetsAllOf governor plan.now demands.now ticks result }
+{
+    match governor {
+        GovernorKind::Plain => run_full(alloc, plan, demands, ticks, out),
+        GovernorKind::Fixed => run_static(alloc, plan, demands, ticks, out),
+        GovernorKind::Cycle | GovernorKind::Ahead => unreachable!(),
+    }
+}
+
+/// The line of an admission.
+pub(crate) fn put_admitted<W: Sink>(plan: &Admitted, out: &mut W) -> Status
+    ensures ended { Ended (Ok (admitted_text plan.now)) result (out.new ≡ out.old) (Wrote (W.written out.old) (W.written out.new) (W.faults out.old) (W.faults out.new) (W.sure out.old) (W.sure out.new)) (WroteSome (W.written out.old) (W.written out.new) (W.faults out.old) (W.faults out.new) (W.sure out.old)) }
+{
+    let line = admitted_line(plan);
+    match put_line(&line, out) {
+        Ok(()) => Status::Done,
+        Err(Failed) => Status::Write,
+    }
+}
+
+fn admitted_line(plan: &Admitted) -> Line
+    ensures text { result ≡ admitted_text plan.now }
+    ensures some { 0 < length result }
+{
+    let demand = plan.static_demand();
+    plan.known();
+    known_denominator(plan);
+    let pick = plan.machine().lowest(demand);
+    let point = plan.machine().point(pick.index);
+    let word: &[u8] = match plan.scheduler() {
+        Scheduler::Edf => b"edf",
+        Scheduler::Rm => b"rm",
+    };
+    line_of(&[
+        Part::Word(b"admitted "),
+        Part::Word(word),
+        Part::Word(b" "),
+        Part::Ratio(demand.num, demand.den),
+        Part::Word(b" "),
+        Part::Number(point.speed),
+        Part::Word(b"\n"),
+    ])
+}
+
+// The denominator of a static demand is the hyperperiod or a period.
+fn known_denominator(plan: &Admitted)
+    ensures some { 1 ≤ (static_demand plan.now).den }
+    ensures low { (static_demand plan.now).den ≤ 2 ^ 64 }
+{
+    plan.known();
+}
