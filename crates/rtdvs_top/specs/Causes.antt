@@ -51,3 +51,10 @@ NamedLoadExplained told (Some name) place before now sure = LoadExplained told n
 abbrev pub IsLoadOf : FileKind → Type 0 → Status → Type 0
 IsLoadOf kind why (status.Load other) = (other ≡ kind) × why
 IsLoadOf kind why s = ⊤
+
+-- the loads of a run after its tasks: the machine first, and then the demands
+abbrev pub LaterLoad : Option Files → RunOf → ℕ → ℕ → ℕ → Status → Type 0
+LaterLoad told r before now sure (status.Load file.Tasks) = ⊥
+LaterLoad told r before now sure (status.Load file.Machine) = LoadExplained told r.machine 1 before now sure
+LaterLoad told r before now sure (status.Load file.Demands) = NamedLoadExplained told r.demands 2 before now sure
+LaterLoad told r before now sure s = ⊤

@@ -5,6 +5,7 @@ mod files;
 mod refusal;
 mod run;
 mod status;
+mod top;
 mod words;
 mod writer;
 
