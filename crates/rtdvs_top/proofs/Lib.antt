@@ -6,3 +6,4 @@ pub mod Overloads
 pub mod Writers
 pub mod Published
 pub mod Picks
+pub mod Endings

@@ -28,6 +28,11 @@ IsRefusal status.Words = ⊥
 IsRefusal status.Write = ⊥
 IsRefusal s = ⊤
 
+-- a status that names no failed load
+abbrev pub IsNoLoad : Status → Type 0
+IsNoLoad (status.Load kind) = ⊥
+IsNoLoad s = ⊤
+
 -- where the files are told, the step gives this value
 abbrev pub Gives : {A : Type 0} → Option Files → (Files → Result A Status) → A → Type 0
 Gives None step a = ⊤

@@ -1,7 +1,8 @@
 -- How the writing of an answer ends.
-use Rattle.std.specs.Prelude.{◌≡◌, ◌≢◌, ◌<◌, ℕ, true, List, Result, Ok, Err, ⊤}
+use Rattle.std.specs.Prelude.{◌≡◌, ◌≢◌, ◌<◌, ℕ, true, List, Option, Some, None, Result, Ok, Err, ⊤}
+use Rattle.dvs_base.specs.Outside.{Files}
 use Rattle.dvs_base.specs.declared.kind.GovernorKind.{GovernorKind}
-use Rattle.dvs_base.specs.declared.kind.GovernorKind.TheVariants.{Plain, Fixed, Cycle, Ahead}
+use Rattle.dvs_base.specs.declared.kind.GovernorKind.TheVariants.{Ahead}
 use Rattle.grid_fraction.specs.declared.Frac.{Frac}
 use Rattle.demand_list.specs.Demands.{DemandsOf}
 use Rattle.sched_model.specs.Plan.{Plan, names}
@@ -14,8 +15,10 @@ use Rattle.sched_model.specs.Deadlines.{IsMet}
 use Rattle.sched_model.specs.Schedule.{schedule}
 use Rattle.freq_table.specs.Tables.{lowest_pick}
 use Rattle.event_kernel.specs.Runs.{Run, notes_of_run, released_jobs, MeetsDeadlines, MeetsDemands}
-use Rattle.rtdvs_top.specs.Answer.{within_jobs}
-use Rattle.rtdvs_top.specs.Causes.{EndsWith}
+use Rattle.rtdvs_top.specs.Answer.{within_jobs, prepared_of}
+use Rattle.rtdvs_top.specs.Words.{RunOf}
+use Rattle.task_model.specs.declared.task.Task.{Task}
+use Rattle.rtdvs_top.specs.Causes.{EndsWith, IsRefusal, Gives}
 use Rattle.rtdvs_top.specs.declared.status.Status.{Status}
 use Rattle.rtdvs_top.specs.declared.status.Status.TheVariants as status
 
@@ -24,6 +27,17 @@ abbrev pub Ended : Result (List ℕ) Status → Status → Type 0 → (List ℕ 
 Ended answer status.Done same wrote some = (text : List ℕ) × (answer ≡ Ok text) × wrote text
 Ended answer status.Write same wrote some = (text : List ℕ) × (answer ≡ Ok text) × some text
 Ended answer s same wrote some = EndsWith answer s × same
+
+-- the same where no file is told: some text was written
+abbrev pub EndedSomehow : Status → Type 0 → (List ℕ → Type 0) → (List ℕ → Type 0) → Type 0
+EndedSomehow status.Done same wrote some = (text : List ℕ) × wrote text
+EndedSomehow status.Write same wrote some = (text : List ℕ) × some text
+EndedSomehow s same wrote some = IsRefusal s × same
+
+-- how the answer of told files ends, and that of others
+abbrev pub EndedAs : Option Files → (Files → Result (List ℕ) Status) → Status → Type 0 → (List ℕ → Type 0) → (List ℕ → Type 0) → Type 0
+EndedAs None answer s same wrote some = EndedSomehow s same wrote some
+EndedAs (Some files) answer s same wrote some = Ended (answer files) s same wrote some
 
 -- the run of a plan, a demand list and a number of ticks
 abbrev pub run_of : Plan → DemandsOf → ℕ → Run
@@ -54,9 +68,8 @@ MeetsAllOf kind p d ticks status.Done =
     IsMet p dem (schedule p kind dem ticks) × (kind ≢ Ahead → AlwaysMeets p kind dem ticks)
 MeetsAllOf kind p d ticks s = ⊤
 
--- the governors that are there
-abbrev pub IsBuilt : GovernorKind → Type 0
-IsBuilt Plain = ⊤
-IsBuilt Fixed = ⊤
-IsBuilt Cycle = ⊥
-IsBuilt Ahead = ⊥
+-- a run that was done, of these tasks, met every deadline, and some entry met each published demand unless it looks ahead
+abbrev pub MetBy : Option Files → RunOf → List Task → Status → Type 0
+MetBy told r tasks status.Done =
+    (p : Plan) × (d : DemandsOf) × Gives told (prepared_of r tasks) (p, d) × MeetsAllOf r.governor p d r.ticks status.Done
+MetBy told r tasks s = ⊤

@@ -1,11 +1,11 @@
 -- The words of a command.
-use Rattle.std.specs.Prelude.{ℕ, ◌^◌, ◌==◌, ◌&&◌, Bool, true, false, not, List, [], ◌∷◌, length, nat_le, nat_lt, codes, Option, Some, None, option_map, if◌then◌else◌}
+use Rattle.std.specs.Prelude.{ℕ, ◌^◌, ◌==◌, ◌&&◌, Bool, true, false, not, List, [], ◌∷◌, length, nat_le, nat_lt, codes, Option, Some, None, option_map, if◌then◌else◌, ⊤}
 use Rattle.std.specs.Str.{bytes_eq}
 use Rattle.dvs_base.specs.Text.{number_below}
 use Rattle.dvs_base.specs.declared.kind.Scheduler.{Scheduler}
 use Rattle.dvs_base.specs.declared.kind.Scheduler.TheVariants.{Edf, Rm}
 use Rattle.dvs_base.specs.declared.kind.GovernorKind.{GovernorKind}
-use Rattle.dvs_base.specs.declared.kind.GovernorKind.TheVariants.{Plain, Fixed}
+use Rattle.dvs_base.specs.declared.kind.GovernorKind.TheVariants.{Plain, Fixed, Cycle, Ahead}
 
 -- what the words of a run name: files by their names, the scheduler, the governor and the number of ticks
 pub record RunOf : Type 0 where
@@ -43,6 +43,13 @@ file_name name = if length name == 0 then None else Some name
 
 abbrev pub scheduler_of : List ℕ → Option Scheduler
 scheduler_of word = if bytes_eq word (codes "edf") then Some Edf else (if bytes_eq word (codes "rm") then Some Rm else None)
+
+-- the governors that are there
+abbrev pub IsBuilt : GovernorKind → Type 0
+IsBuilt Plain = ⊤
+IsBuilt Fixed = ⊤
+IsBuilt Cycle = ⊥
+IsBuilt Ahead = ⊥
 
 abbrev pub governor_of : List ℕ → Option GovernorKind
 governor_of word = if bytes_eq word (codes "none") then Some Plain else (if bytes_eq word (codes "static") then Some Fixed else None)

@@ -7,8 +7,9 @@ ghost use Rattle.sched_model.specs.Text.{trace_text};
 ghost use Rattle.dvs_base.specs.TraceLines.{note_text};
 ghost use Rattle.event_kernel.specs.Runs.{IsListOf, notes_of_run, MeetsDeadlines, MeetsDemands};
 ghost use Rattle.rtdvs_top.specs.Answer.{admission, answer_of_plan, admitted_text};
-ghost use Rattle.rtdvs_top.specs.Causes.{EndsWith};
-ghost use Rattle.rtdvs_top.specs.Ending.{Ended, governed_answer, IsBuilt, MeetsAll, MeetsAllOf};
+ghost use Rattle.rtdvs_top.specs.Causes.{EndsWith, IsNoLoad};
+ghost use Rattle.rtdvs_top.specs.Ending.{Ended, governed_answer, MeetsAll, MeetsAllOf};
+ghost use Rattle.rtdvs_top.specs.Words.{IsBuilt};
 ghost use Rattle.rtdvs_top.specs.Writing.{Wrote, WroteSome};
 
 use crate::writer::{TraceWriter, put_head, put_line};
@@ -29,6 +30,7 @@ use trace_text::PlanLine;
 fn admit_edf(alloc: Global, tasks: &TaskSet, machine: &Machine) -> Result<Admitted, Status>
     ensures plan { IfOk result (λ p. admission (plan_of tasks.now machine.now Scheduler.Edf) ≡ Ok p) }
     ensures denied { IfErr result (EndsWith (admission (plan_of tasks.now machine.now Scheduler.Edf))) }
+    ensures loads { IfErr result IsNoLoad }
 {
     match edf_admit(alloc, tasks, machine) {
         Ok(plan) => Ok(plan),
@@ -40,6 +42,7 @@ fn admit_edf(alloc: Global, tasks: &TaskSet, machine: &Machine) -> Result<Admitt
 fn admit_rm(alloc: Global, tasks: &TaskSet, machine: &Machine) -> Result<Admitted, Status>
     ensures plan { IfOk result (λ p. admission (plan_of tasks.now machine.now Scheduler.Rm) ≡ Ok p) }
     ensures denied { IfErr result (EndsWith (admission (plan_of tasks.now machine.now Scheduler.Rm))) }
+    ensures loads { IfErr result IsNoLoad }
 {
     match rm_admit(alloc, tasks, machine) {
         Ok(plan) => Ok(plan),
@@ -62,6 +65,7 @@ pub(crate) fn admit(
     ensures plan { IfOk result (λ p. admission (plan_of tasks.now machine.now scheduler) ≡ Ok p) }
     ensures same { IfOk result (λ p. p ≡ plan_of tasks.now machine.now scheduler) }
     ensures denied { IfErr result (EndsWith (admission (plan_of tasks.now machine.now scheduler))) }
+    ensures loads { IfErr result IsNoLoad }
 {
     match scheduler {
         Scheduler::Edf => admit_edf(alloc, tasks, machine),
@@ -139,6 +143,7 @@ fn run_governed<G: Governor, W: Sink>(
     requires low_ticks { ticks ≤ 2 ^ 40 }
     ensures ended { Ended (governed_answer G.the_kind G.demand plan.now demands.now ticks) result (out.new ≡ out.old) (Wrote (W.written out.old) (W.written out.new) (W.faults out.old) (W.faults out.new) (W.sure out.old) (W.sure out.new)) (WroteSome (W.written out.old) (W.written out.new) (W.faults out.old) (W.faults out.new) (W.sure out.old)) }
     ensures met { MeetsAll G.the_kind G.demand plan.now demands.now ticks result }
+    ensures loads { IsNoLoad result }
 {
     let head = PlanLine {
         scheduler: plan.scheduler(),
@@ -169,6 +174,7 @@ fn run_full<W: Sink>(
     requires low_ticks { ticks ≤ 2 ^ 40 }
     ensures ended { Ended (answer_of_plan GovernorKind.Plain demands.now ticks plan.now) result (out.new ≡ out.old) (Wrote (W.written out.old) (W.written out.new) (W.faults out.old) (W.faults out.new) (W.sure out.old) (W.sure out.new)) (WroteSome (W.written out.old) (W.written out.new) (W.faults out.old) (W.faults out.new) (W.sure out.old)) }
     ensures met { MeetsAllOf GovernorKind.Plain plan.now demands.now ticks result }
+    ensures loads { IsNoLoad result }
 {
     published_demands(plan);
     match Full::new(alloc, plan) {
@@ -190,6 +196,7 @@ fn run_static<W: Sink>(
     requires low_ticks { ticks ≤ 2 ^ 40 }
     ensures ended { Ended (answer_of_plan GovernorKind.Fixed demands.now ticks plan.now) result (out.new ≡ out.old) (Wrote (W.written out.old) (W.written out.new) (W.faults out.old) (W.faults out.new) (W.sure out.old) (W.sure out.new)) (WroteSome (W.written out.old) (W.written out.new) (W.faults out.old) (W.faults out.new) (W.sure out.old)) }
     ensures met { MeetsAllOf GovernorKind.Fixed plan.now demands.now ticks result }
+    ensures loads { IsNoLoad result }
 {
     published_demands(plan);
     match Static::new(alloc, plan) {
@@ -213,6 +220,7 @@ pub(crate) fn run_plan<W: Sink>(
     requires low_ticks { ticks ≤ 2 ^ 40 }
     ensures ended { Ended (answer_of_plan governor demands.now ticks plan.now) result (out.new ≡ out.old) (Wrote (W.written out.old) (W.written out.new) (W.faults out.old) (W.faults out.new) (W.sure out.old) (W.sure out.new)) (WroteSome (W.written out.old) (W.written out.new) (W.faults out.old) (W.faults out.new) (W.sure out.old)) }
     ensures met { MeetsAllOf governor plan.now demands.now ticks result }
+    ensures loads { IsNoLoad result }
 {
     match governor {
         GovernorKind::Plain => run_full(alloc, plan, demands, ticks, out),
@@ -224,6 +232,7 @@ pub(crate) fn run_plan<W: Sink>(
 /// The line of an admission.
 pub(crate) fn put_admitted<W: Sink>(plan: &Admitted, out: &mut W) -> Status
     ensures ended { Ended (Ok (admitted_text plan.now)) result (out.new ≡ out.old) (Wrote (W.written out.old) (W.written out.new) (W.faults out.old) (W.faults out.new) (W.sure out.old) (W.sure out.new)) (WroteSome (W.written out.old) (W.written out.new) (W.faults out.old) (W.faults out.new) (W.sure out.old)) }
+    ensures loads { IsNoLoad result }
 {
     let line = admitted_line(plan);
     match put_line(&line, out) {

@@ -1,7 +1,8 @@
 // The words of a command.
-ghost use Rattle.std.specs.Prelude.{◌≡◌, Some, None, [], map, string_bytes, option_map};
+ghost use Rattle.std.specs.Prelude.{◌≡◌, ◌≤◌, ◌^◌, IfSome, Some, None, [], map, string_bytes, option_map};
 ghost use Rattle.rtdvs_top.specs.Words.{value_after, file_name, scheduler_of, governor_of, ticks_of, demands_of_words, nothing_after, run_of_options, admit_of_options, command_of};
-ghost use Rattle.rtdvs_top.specs.Asked.{shown, shown_run, shown_admit};
+ghost use Rattle.rtdvs_top.specs.Asked.{shown, shown_run, shown_admit, IsReady, IsReadyCommand};
+ghost use Rattle.rtdvs_top.specs.Words.{IsBuilt};
 
 use dvs_base::{GovernorKind, Scheduler, whole};
 
@@ -58,7 +59,8 @@ fn scheduler_of(word: &str) -> Option<Scheduler>
 }
 
 fn governor_of(word: &str) -> Option<GovernorKind>
-    ensures { result ≡ governor_of word.now }
+    ensures read { result ≡ governor_of word.now }
+    ensures built { IfSome result IsBuilt }
 {
     match word {
         "none" => Some(GovernorKind::Plain),
@@ -68,7 +70,9 @@ fn governor_of(word: &str) -> Option<GovernorKind>
 }
 
 fn ticks_of(word: &str) -> Option<u64>
-    ensures { result ≡ ticks_of word.now }
+    ensures read { result ≡ ticks_of word.now }
+    ensures some { IfSome result (λ n. 1 ≤ n) }
+    ensures low { IfSome result (λ n. n ≤ 2 ^ 40) }
 {
     match whole(word.as_bytes()) {
         Some(n) if n >= 1 && n <= 1 << 40 => Some(n),
@@ -90,7 +94,8 @@ fn demands_of(words: &[String]) -> Option<Option<&str>>
 }
 
 fn read_run(words: &[String]) -> Option<RunWords<'_>>
-    ensures { option_map shown_run result ≡ run_of_options (map string_bytes words.now) }
+    ensures read { option_map shown_run result ≡ run_of_options (map string_bytes words.now) }
+    ensures ready { IfSome result IsReady }
 {
     let (tasks, words) = value_after("--tasks", words)?;
     let tasks = file_name(tasks)?;
@@ -141,7 +146,8 @@ fn read_admit(words: &[String]) -> Option<AdmitWords<'_>>
 
 /// The command that the words are. None exactly where they are none.
 pub fn read_command(words: &[String]) -> Option<Command<'_>>
-    ensures { option_map shown result ≡ command_of (map string_bytes words.now) }
+    ensures read { option_map shown result ≡ command_of (map string_bytes words.now) }
+    ensures ready { IfSome result IsReadyCommand }
 {
     match words {
         [command, options @ ..] if command.as_str() == "run" => match read_run(options) {
