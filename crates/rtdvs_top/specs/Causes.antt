@@ -63,3 +63,8 @@ LaterLoad told r before now sure (status.Load file.Tasks) = ⊥
 LaterLoad told r before now sure (status.Load file.Machine) = LoadExplained told r.machine 1 before now sure
 LaterLoad told r before now sure (status.Load file.Demands) = NamedLoadExplained told r.demands 2 before now sure
 LaterLoad told r before now sure s = ⊤
+
+-- the loads of a command after its tasks
+abbrev pub LaterLoadOf : Option Files → CommandOf → ℕ → ℕ → ℕ → Status → Type 0
+LaterLoadOf told (run r) before now sure s = LaterLoad told r before now sure s
+LaterLoadOf told (admit a) before now sure s = IsLoadOf file.Machine (LoadExplained told a.machine 1 before now sure) s

@@ -16,7 +16,7 @@ use Rattle.sched_model.specs.Schedule.{schedule}
 use Rattle.freq_table.specs.Tables.{lowest_pick}
 use Rattle.event_kernel.specs.Runs.{Run, notes_of_run, released_jobs, MeetsDeadlines, MeetsDemands}
 use Rattle.rtdvs_top.specs.Answer.{within_jobs, prepared_of}
-use Rattle.rtdvs_top.specs.Words.{RunOf}
+use Rattle.rtdvs_top.specs.Words.{RunOf, AdmitOf, CommandOf, run, admit}
 use Rattle.task_model.specs.declared.task.Task.{Task}
 use Rattle.rtdvs_top.specs.Causes.{EndsWith, IsRefusal, Gives}
 use Rattle.rtdvs_top.specs.declared.status.Status.{Status}
@@ -73,3 +73,7 @@ abbrev pub MetBy : Option Files → RunOf → List Task → Status → Type 0
 MetBy told r tasks status.Done =
     (p : Plan) × (d : DemandsOf) × Gives told (prepared_of r tasks) (p, d) × MeetsAllOf r.governor p d r.ticks status.Done
 MetBy told r tasks s = ⊤
+
+abbrev pub MetByCommand : Option Files → CommandOf → List Task → Status → Type 0
+MetByCommand told (run r) tasks s = MetBy told r tasks s
+MetByCommand told (admit a) tasks s = ⊤
