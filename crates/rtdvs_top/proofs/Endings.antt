@@ -3,6 +3,7 @@ use Rattle.std.proofs.Common.{◌≡◌, ℕ, List, Option, Some, None, Result, 
 use Rattle.dvs_base.specs.Outside.{Files}
 use Rattle.rtdvs_top.specs.Answer.{and_then}
 use Rattle.rtdvs_top.specs.Causes.{EndsWith, IsRefusal, Gives, Refuses}
+use Rattle.rtdvs_top.specs.Promises.{Leaves}
 use Rattle.rtdvs_top.specs.Ending.{Ended, EndedSomehow, EndedAs}
 use Rattle.rtdvs_top.specs.declared.status.Status.{Status}
 use Rattle.rtdvs_top.specs.declared.status.Status.TheVariants as status
@@ -57,3 +58,22 @@ given-as {A} (Some files) step k a s same wrote some g h =
 pub plain-as : (told : Option Files) (answer : Result (List ℕ) Status) (s : Status) (same : Type 0) (wrote some : List ℕ → Type 0) → Ended answer s same wrote some → EndedAs told (λ files. answer) s same wrote some
 plain-as None answer s same wrote some h = ended-somehow answer s same wrote some h
 plain-as (Some files) answer s same wrote some h = h
+
+-- however files are told, some text was written, or nothing changed
+as-somehow : (told : Option Files) (answer : Files → Result (List ℕ) Status) (s : Status) (same : Type 0) (wrote some : List ℕ → Type 0) → EndedAs told answer s same wrote some → EndedSomehow s same wrote some
+as-somehow None answer s same wrote some h = h
+as-somehow (Some files) answer s same wrote some h = ended-somehow (answer files) s same wrote some h
+
+somehow-leaves : (s : Status) (same : Type 0) (wrote some : List ℕ → Type 0) → EndedSomehow s same wrote some → Leaves s same
+somehow-leaves status.Done same wrote some h = tt
+somehow-leaves status.Write same wrote some h = tt
+somehow-leaves status.Words same wrote some h = h.1
+somehow-leaves (status.NotAdmitted why) same wrote some h = h.1
+somehow-leaves (status.Load file) same wrote some h = h.1
+somehow-leaves (status.Text why) same wrote some h = h.1
+somehow-leaves (status.Limit jobs) same wrote some h = h.1
+somehow-leaves (status.OverWorst task job units worst) same wrote some h = h.1
+somehow-leaves status.NoMemory same wrote some h = h.1
+
+pub as-leaves : (told : Option Files) (answer : Files → Result (List ℕ) Status) (s : Status) (same : Type 0) (wrote some : List ℕ → Type 0) → EndedAs told answer s same wrote some → Leaves s same
+as-leaves told answer s same wrote some h = somehow-leaves s same wrote some (as-somehow told answer s same wrote some h)

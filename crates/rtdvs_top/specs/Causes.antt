@@ -52,6 +52,11 @@ abbrev pub NamedLoadExplained : Option Files → Option (List ℕ) → ℕ → �
 NamedLoadExplained told None place before now sure = ⊥
 NamedLoadExplained told (Some name) place before now sure = LoadExplained told name place before now sure
 
+-- how many loads that is
+abbrev pub loads_named : Option (List ℕ) → ℕ
+loads_named None = 0
+loads_named (Some name) = 1
+
 -- a status that says a load failed names this file, and is explained
 abbrev pub IsLoadOf : FileKind → Type 0 → Status → Type 0
 IsLoadOf kind why (status.Load other) = (other ≡ kind) × why
@@ -68,3 +73,26 @@ LaterLoad told r before now sure s = ⊤
 abbrev pub LaterLoadOf : Option Files → CommandOf → ℕ → ℕ → ℕ → Status → Type 0
 LaterLoadOf told (run r) before now sure s = LaterLoad told r before now sure s
 LaterLoadOf told (admit a) before now sure s = IsLoadOf file.Machine (LoadExplained told a.machine 1 before now sure) s
+
+-- how many files a command loads after its tasks, and in all
+abbrev pub later_loads : CommandOf → ℕ
+later_loads (run r) = 1 + loads_named r.demands
+later_loads (admit a) = 1
+
+abbrev pub loads_of : CommandOf → ℕ
+loads_of c = later_loads c + 1
+
+abbrev pub machine_name : CommandOf → List ℕ
+machine_name (run r) = r.machine
+machine_name (admit a) = a.machine
+
+abbrev pub demands_name : CommandOf → Option (List ℕ)
+demands_name (run r) = r.demands
+demands_name (admit a) = None
+
+-- why a load of a command failed, by its place: the tasks first, then the machine, and then the demands
+abbrev pub LoadOf : Option Files → CommandOf → ℕ → ℕ → ℕ → Status → Type 0
+LoadOf told c before now sure (status.Load file.Tasks) = LoadExplained told (tasks_name c) 1 before now sure
+LoadOf told c before now sure (status.Load file.Machine) = LoadExplained told (machine_name c) 2 before now sure
+LoadOf told c before now sure (status.Load file.Demands) = NamedLoadExplained told (demands_name c) 3 before now sure
+LoadOf told c before now sure s = ⊤

@@ -15,7 +15,7 @@ use Rattle.sched_model.specs.Deadlines.{IsMet}
 use Rattle.sched_model.specs.Schedule.{schedule}
 use Rattle.freq_table.specs.Tables.{lowest_pick}
 use Rattle.event_kernel.specs.Runs.{Run, notes_of_run, released_jobs, MeetsDeadlines, MeetsDemands}
-use Rattle.rtdvs_top.specs.Answer.{within_jobs, prepared_of}
+use Rattle.rtdvs_top.specs.Answer.{within_jobs, prepared_of, tasks_at}
 use Rattle.rtdvs_top.specs.Words.{RunOf, AdmitOf, CommandOf, run, admit}
 use Rattle.task_model.specs.declared.task.Task.{Task}
 use Rattle.rtdvs_top.specs.Causes.{EndsWith, IsRefusal, Gives}
@@ -77,3 +77,8 @@ MetBy told r tasks s = ⊤
 abbrev pub MetByCommand : Option Files → CommandOf → List Task → Status → Type 0
 MetByCommand told (run r) tasks s = MetBy told r tasks s
 MetByCommand told (admit a) tasks s = ⊤
+
+-- the same of a command, with the tasks of its file
+abbrev pub MetIn : Option Files → CommandOf → Status → Type 0
+MetIn told (run r) status.Done = (tasks : List Task) × Gives told (tasks_at r.tasks) tasks × MetBy told r tasks status.Done
+MetIn told c s = ⊤

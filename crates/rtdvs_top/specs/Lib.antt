@@ -7,3 +7,4 @@ pub mod Answer
 pub mod Writing
 pub mod Causes
 pub mod Ending
+pub mod Promises

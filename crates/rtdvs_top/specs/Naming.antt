@@ -1,6 +1,11 @@
 -- The names that refusals give to tasks.
-use Rattle.std.specs.Prelude.{ℕ, List, [], ◌∷◌, map, Option, Some, None}
+use Rattle.std.specs.Prelude.{◌≡◌, ℕ, List, [], map, Option, Some, None, Result, Ok, Err, ⊤}
+use Rattle.dvs_base.specs.Outside.{Files}
 use Rattle.task_model.specs.declared.task.Task.{Task}
+use Rattle.rtdvs_top.specs.Words.{CommandOf}
+use Rattle.rtdvs_top.specs.Answer.{tasks_at, tasks_name}
+use Rattle.rtdvs_top.specs.Refusals.{status_text}
+use Rattle.rtdvs_top.specs.declared.status.Status.{Status}
 
 -- the names of the tasks, where they were read
 abbrev pub names_of : Option (List Task) → List (List ℕ)
@@ -11,3 +16,16 @@ names_of (Some tasks) = map (λ t. t.name) tasks
 abbrev pub name_text : Option (List ℕ) → List ℕ
 name_text None = []
 name_text (Some name) = name
+
+-- the names of the tasks that a command's file gives
+abbrev pub names_from : Result (List Task) Status → List (List ℕ)
+names_from (Ok tasks) = names_of (Some tasks)
+names_from (Err s) = []
+
+abbrev pub names_by : CommandOf → Files → List (List ℕ)
+names_by c files = names_from (tasks_at (tasks_name c) files)
+
+-- where the files are told, a status is noted with the names of the command's tasks
+abbrev pub NamedBy : Option Files → CommandOf → Option (List Task) → Status → Type 0
+NamedBy None c tasks s = ⊤
+NamedBy (Some files) c tasks s = status_text (names_of tasks) s ≡ status_text (names_by c files) s

@@ -2,7 +2,7 @@
 ghost use Rattle.std.specs.Prelude.{◌≡◌, ◌+◌, ◌≤◌, Ok, Err, Some, None, map, option_map, IfOk, IfErr};
 ghost use Rattle.dvs_base.specs.Outside.{Lacks, Rose};
 ghost use Rattle.rtdvs_top.specs.Answer.{bytes_at, tasks_at, machine_at, demands_at, task_status, machine_status, demand_status, tasks_from, machine_from, demands_from};
-ghost use Rattle.rtdvs_top.specs.Causes.{Gives, Refuses, LoadExplained, NamedLoadExplained, IsLoadOf};
+ghost use Rattle.rtdvs_top.specs.Causes.{Gives, Refuses, LoadExplained, NamedLoadExplained, IsLoadOf, loads_named};
 
 use crate::{FileKind, Status, TextFault};
 use demand_list::{DemandFault, Demands, worst_list};
@@ -159,7 +159,7 @@ pub(crate) fn load_demands<S: Shelf>(
     ensures explained { IfErr result (IsLoadOf FileKind.Demands (NamedLoadExplained (S.held shelf.old) (option_map (λ s. s.now) name.entry) 1 (S.faults shelf.old) (S.faults shelf.new) (S.sure shelf.old))) }
     ensures held { S.held shelf.new ≡ S.held shelf.old }
     ensures later { S.faults shelf.old ≤ S.faults shelf.new }
-    ensures steady { 1 ≤ S.sure shelf.old → S.faults shelf.new ≡ S.faults shelf.old }
+    ensures steady { loads_named (option_map (λ s. s.now) name.entry) ≤ S.sure shelf.old → S.faults shelf.new ≡ S.faults shelf.old }
     ensures surety { S.sure shelf.old ≤ S.sure shelf.new + 1 }
 {
     match name {

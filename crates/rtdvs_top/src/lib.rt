@@ -1,4 +1,7 @@
-//! All that the program does.
+//! All that the program does: the words are read, files loaded and read, a task set admitted, and its run written.
+//!
+//! Callers may rely on `rtdvs` to answer exactly what `specs/Answer.antt` says for the words and the files, to write it
+//! line by line, and to say of each refusal why it came; and on every deadline of a run that it writes.
 #![tactic(auto)]
 
 mod files;
@@ -10,3 +13,4 @@ mod words;
 mod writer;
 
 pub use status::{Denied, FileKind, Status, TextFault};
+pub use top::rtdvs;

@@ -1,15 +1,16 @@
 // The top call.
-ghost use Rattle.std.specs.Prelude.{◌≡◌, ◌≢◌, ◌≤◌, ◌+◌, ◌^◌, Ok, Some, map, option_map, string_bytes, IfOk, IfErr};
+ghost use Rattle.std.specs.Prelude.{◌≡◌, ◌≢◌, ◌≤◌, ◌+◌, ◌^◌, Ok, Some, None, ◌↔◌, map, option_map, string_bytes, IfOk, IfErr};
 ghost use Rattle.dvs_base.specs.Outside.{Rose, Lacks};
 ghost use Rattle.event_kernel.specs.Runs.{IsListOf};
-ghost use Rattle.rtdvs_top.specs.Words.{CommandOf, run as run_of, admit as admit_of};
+ghost use Rattle.rtdvs_top.specs.Words.{CommandOf, command_of, run as run_of, admit as admit_of};
 ghost use Rattle.rtdvs_top.specs.Asked.{shown, shown_run, shown_admit, IsReady, IsReadyCommand};
-ghost use Rattle.rtdvs_top.specs.Answer.{prepared_of, admitted_of, answer_of_tasks, answer_of, tasks_name};
-ghost use Rattle.rtdvs_top.specs.Causes.{Gives, Refuses, IsLoadOf, LaterLoad, LaterLoadOf, LoadExplained};
-ghost use Rattle.rtdvs_top.specs.Naming.{names_of};
+ghost use Rattle.rtdvs_top.specs.Answer.{prepared_of, admitted_of, answer_of_tasks, answer_of_command, tasks_name};
+ghost use Rattle.rtdvs_top.specs.Causes.{Gives, Refuses, IsLoadOf, LaterLoad, LaterLoadOf, LoadExplained, LoadOf, loads_named, later_loads, loads_of};
+ghost use Rattle.rtdvs_top.specs.Naming.{names_of, NamedBy};
 ghost use Rattle.rtdvs_top.specs.Refusals.{status_text};
 ghost use Rattle.std.specs.Option.{option_copied};
-ghost use Rattle.rtdvs_top.specs.Ending.{EndedAs, MetBy, MetByCommand};
+ghost use Rattle.rtdvs_top.specs.Ending.{EndedAs, MetBy, MetByCommand, MetIn};
+ghost use Rattle.rtdvs_top.specs.Promises.{Answers, Leaves, Writes, WritesPart, IsSureOf, LoadFailed, loads_asked, MeetsDeadlines, Notes};
 ghost use Rattle.rtdvs_top.specs.Writing.{Wrote, WroteSome, NotedAs};
 
 use crate::{FileKind, Status};
@@ -37,7 +38,7 @@ fn prepare<S: Shelf>(
     ensures explained { IfErr result (LaterLoad (S.held shelf.old) (shown_run run.now) (S.faults shelf.old) (S.faults shelf.new) (S.sure shelf.old)) }
     ensures held { S.held shelf.new ≡ S.held shelf.old }
     ensures later { S.faults shelf.old ≤ S.faults shelf.new }
-    ensures steady { 2 ≤ S.sure shelf.old → S.faults shelf.new ≡ S.faults shelf.old }
+    ensures steady { 1 + loads_named (shown_run run.now).demands ≤ S.sure shelf.old → S.faults shelf.new ≡ S.faults shelf.old }
 {
     let machine = load_machine(alloc, run.machine, shelf)?;
     let demands = load_demands(alloc, run.demands, tasks, shelf)?;
@@ -58,7 +59,7 @@ fn answer_run<S: Shelf, W: Sink>(
     ensures met { MetBy (S.held shelf.old) (shown_run run.now) tasks.now result }
     ensures explained { LaterLoad (S.held shelf.old) (shown_run run.now) (S.faults shelf.old) (S.faults shelf.new) (S.sure shelf.old) result }
     ensures later { S.faults shelf.old ≤ S.faults shelf.new }
-    ensures steady { 2 ≤ S.sure shelf.old → S.faults shelf.new ≡ S.faults shelf.old }
+    ensures steady { 1 + loads_named (shown_run run.now).demands ≤ S.sure shelf.old → S.faults shelf.new ≡ S.faults shelf.old }
 {
     match prepare(alloc, run, tasks, shelf) {
         Ok((plan, demands)) => run_plan(alloc, &plan, &demands, run.governor, run.ticks, out),
@@ -116,7 +117,7 @@ fn answer_tasks<S: Shelf, W: Sink>(
     ensures met { MetByCommand (S.held shelf.old) (shown command.now) tasks.now result }
     ensures explained { LaterLoadOf (S.held shelf.old) (shown command.now) (S.faults shelf.old) (S.faults shelf.new) (S.sure shelf.old) result }
     ensures later { S.faults shelf.old ≤ S.faults shelf.new }
-    ensures steady { 2 ≤ S.sure shelf.old → S.faults shelf.new ≡ S.faults shelf.old }
+    ensures steady { later_loads (shown command.now) ≤ S.sure shelf.old → S.faults shelf.new ≡ S.faults shelf.old }
 {
     match command {
         Command::Run(run) => answer_run(alloc, run, tasks, shelf, out),
@@ -143,4 +144,69 @@ fn note_status<E: Sink>(status: &Status, tasks: Option<&TaskSet>, notes: &mut E)
     }
     let line = status_line(status, tasks);
     let _ = put_line(&line, notes);
+}
+
+// The answer of a command, and the tasks where they were read.
+fn answer_command<S: Shelf, W: Sink>(
+    alloc: Global,
+    command: &Command<'_>,
+    shelf: &mut S,
+    out: &mut W,
+) -> (Status, Option<TaskSet>)
+    requires { IsReadyCommand command.now }
+    ensures ended { EndedAs (S.held shelf.old) (answer_of_command (shown command.now)) result.0 (out.new ≡ out.old) (Wrote (W.written out.old) (W.written out.new) (W.faults out.old) (W.faults out.new) (W.sure out.old) (W.sure out.new)) (WroteSome (W.written out.old) (W.written out.new) (W.faults out.old) (W.faults out.new) (W.sure out.old)) }
+    ensures met { MetIn (S.held shelf.old) (shown command.now) result.0 }
+    ensures named { NamedBy (S.held shelf.old) (shown command.now) result.1 result.0 }
+    ensures explained { LoadOf (S.held shelf.old) (shown command.now) (S.faults shelf.old) (S.faults shelf.new) (S.sure shelf.old) result.0 }
+    ensures later { S.faults shelf.old ≤ S.faults shelf.new }
+    ensures steady { loads_of (shown command.now) ≤ S.sure shelf.old → S.faults shelf.new ≡ S.faults shelf.old }
+{
+    let tasks = match load_tasks(alloc, tasks_name(command), shelf) {
+        Ok(tasks) => tasks,
+        Err(status) => return (status, None),
+    };
+    let status = answer_tasks(alloc, command, &tasks, shelf, out);
+    (status, Some(tasks))
+}
+
+/// Does what the words ask for: runs a plan and writes its trace, or tells whether a task set is admitted.
+///
+/// The answer goes to `out`, one put a line, and the line of a refusal to `notes`. Files are loaded from `shelf` in the
+/// order tasks, machine, demands, each before it is read. `NoMemory` may come at any step before the first byte of
+/// `out`, and never after it; a fault of `notes` changes no status.
+pub fn rtdvs<S: Shelf, W: Sink, E: Sink>(
+    alloc: Global,
+    words: &[String],
+    shelf: &mut S,
+    out: &mut W,
+    notes: &mut E,
+) -> Status
+    // which status, and when
+    ensures answers { Answers (S.held shelf.old) (command_of (map string_bytes words.now)) result }
+    ensures words { (result ≡ Status.Words) ↔ (command_of (map string_bytes words.now) ≡ None) }
+    ensures load { LoadFailed (S.held shelf.old) (command_of (map string_bytes words.now)) (S.faults shelf.old) (S.faults shelf.new) (S.sure shelf.old) result }
+    ensures write { result ≡ Status.Write → Rose (W.faults out.old) (W.faults out.new) }
+
+    // what is on `out`
+    ensures done { result ≡ Status.Done → Writes (S.held shelf.old) (command_of (map string_bytes words.now)) (W.written out.old) (W.written out.new) }
+    ensures part { result ≡ Status.Write → WritesPart (S.held shelf.old) (command_of (map string_bytes words.now)) (W.written out.old) (W.written out.new) }
+    ensures leaves { Leaves result (out.new ≡ out.old) }
+
+    // deadlines and demands of a run
+    ensures deadlines { MeetsDeadlines (S.held shelf.old) (command_of (map string_bytes words.now)) result }
+
+    // where the outside is sure, it doesn't fail
+    ensures sure { IsSureOf (S.held shelf.old) (command_of (map string_bytes words.now)) (W.sure out.old) → W.faults out.new ≡ W.faults out.old }
+    ensures loads { loads_asked (command_of (map string_bytes words.now)) ≤ S.sure shelf.old → S.faults shelf.new ≡ S.faults shelf.old }
+
+    // what is on `notes`
+    ensures notes { Notes (S.held shelf.old) (command_of (map string_bytes words.now)) result (E.written notes.old) (E.written notes.new) (E.faults notes.old) (E.faults notes.new) (E.sure notes.old) (E.sure notes.new) }
+{
+    let Some(command) = read_command(words) else {
+        note_status(&Status::Words, None, notes);
+        return Status::Words;
+    };
+    let (status, tasks) = answer_command(alloc, &command, shelf, out);
+    note_status(&status, tasks.as_ref(), notes);
+    status
 }

@@ -1,0 +1,82 @@
+-- What the top call promises, clause by clause. The command is what the words are, and nothing where they are none.
+use Rattle.std.specs.Prelude.{◌≡◌, ◌≢◌, ◌⊎◌, ℕ, ◌≤◌, List, [], length, Option, Some, None, Result, Ok, Err, IsOk, ⊤}
+use Rattle.std.specs.Io.KnownBytes.{Appends}
+use Rattle.dvs_base.specs.Outside.{Files, AppendsPrefix, Rose}
+use Rattle.dvs_base.specs.declared.kind.GovernorKind.TheVariants.{Ahead}
+use Rattle.task_model.specs.declared.task.Task.{Task}
+use Rattle.demand_list.specs.Demands.{DemandsOf}
+use Rattle.sched_model.specs.Plan.{Plan}
+use Rattle.sched_model.specs.Demands.{demand_of}
+use Rattle.sched_model.specs.Deadlines.{IsMet}
+use Rattle.sched_model.specs.Schedule.{schedule}
+use Rattle.rtdvs_top.specs.Words.{RunOf, AdmitOf, CommandOf, run, admit}
+use Rattle.rtdvs_top.specs.Answer.{answer_of_command, prepared_of, tasks_at, tasks_name, machine_at}
+use Rattle.rtdvs_top.specs.Naming.{names_by}
+use Rattle.rtdvs_top.specs.Refusals.{status_text}
+use Rattle.rtdvs_top.specs.Causes.{LoadOf, machine_name, loads_of}
+use Rattle.rtdvs_top.specs.Ending.{AlwaysMeets}
+use Rattle.rtdvs_top.specs.Writing.{NotedAs}
+use Rattle.rtdvs_top.specs.declared.status.FileKind.TheVariants as file
+use Rattle.rtdvs_top.specs.declared.status.Status.{Status}
+use Rattle.rtdvs_top.specs.declared.status.Status.TheVariants as status
+
+-- a status is the answer's, or one of those that memory and the outside explain; the answer of `Done` and `Write` has a text
+abbrev pub IsAnswer : Result (List ℕ) Status → Status → Type 0
+IsAnswer answer status.NoMemory = ⊤
+IsAnswer answer (status.Load kind) = ⊤
+IsAnswer answer status.Done = IsOk answer
+IsAnswer answer status.Write = IsOk answer
+IsAnswer answer s = answer ≡ Err s
+
+-- where the files are told, the status is that of the command's answer
+abbrev pub Answers : Option Files → Option CommandOf → Status → Type 0
+Answers None c s = ⊤
+Answers (Some files) None s = s ≡ status.Words
+Answers (Some files) (Some c) s = IsAnswer (answer_of_command c files) s
+
+-- every status but `Done` and `Write` leaves a thing as it was
+abbrev pub Leaves : Status → Type 0 → Type 0
+Leaves status.Done same = ⊤
+Leaves status.Write same = ⊤
+Leaves s same = same
+
+-- where the files are told, the bytes grow by the whole answer, or by a first part of it
+abbrev pub Writes : Option Files → Option CommandOf → Option (List ℕ) → Option (List ℕ) → Type 0
+Writes (Some files) (Some c) old new = (text : List ℕ) × (answer_of_command c files ≡ Ok text) × Appends old new text
+Writes _ _ old new = ⊤
+
+abbrev pub WritesPart : Option Files → Option CommandOf → Option (List ℕ) → Option (List ℕ) → Type 0
+WritesPart (Some files) (Some c) old new = (text : List ℕ) × (answer_of_command c files ≡ Ok text) × AppendsPrefix old new text
+WritesPart _ _ old new = ⊤
+
+-- the sink is sure of the whole answer
+abbrev pub IsSureOf : Option Files → Option CommandOf → ℕ → Type 0
+IsSureOf (Some files) (Some c) sure = (text : List ℕ) → answer_of_command c files ≡ Ok text → length text ≤ sure
+IsSureOf _ _ sure = ⊥
+
+-- why a load failed
+abbrev pub LoadFailed : Option Files → Option CommandOf → ℕ → ℕ → ℕ → Status → Type 0
+LoadFailed told (Some c) before now sure s = LoadOf told c before now sure s
+LoadFailed told None before now sure s = ⊤
+
+-- how many files the words name
+abbrev pub loads_asked : Option CommandOf → ℕ
+loads_asked (Some c) = loads_of c
+loads_asked None = 0
+
+-- A run that is done is of the tasks, the admitted plan and the demands that its files give. Each job that is due within
+-- it has had its demand by its deadline, and some entry meets each published demand, unless it looks ahead.
+abbrev pub MeetsDeadlines : Option Files → Option CommandOf → Status → Type 0
+MeetsDeadlines (Some files) (Some (run r)) status.Done =
+    (tasks : List Task) × (p : Plan) × (d : DemandsOf)
+    × (tasks_at r.tasks files ≡ Ok tasks)
+    × (prepared_of r tasks files ≡ Ok (p, d))
+    × IsMet p (demand_of p d.rows) (schedule p r.governor (demand_of p d.rows) r.ticks)
+    × (r.governor ≢ Ahead → AlwaysMeets p r.governor (demand_of p d.rows) r.ticks)
+MeetsDeadlines told c s = ⊤
+
+-- the line of a status is noted, whole or in part, with the names of the command's tasks
+abbrev pub Notes : Option Files → Option CommandOf → Status → Option (List ℕ) → Option (List ℕ) → ℕ → ℕ → ℕ → ℕ → Type 0
+Notes (Some files) (Some c) s old new faults_old faults_new sure_old sure_new = NotedAs old new faults_old faults_new sure_old sure_new (status_text (names_by c files) s)
+Notes told None s old new faults_old faults_new sure_old sure_new = NotedAs old new faults_old faults_new sure_old sure_new (status_text [] s)
+Notes None (Some c) s old new faults_old faults_new sure_old sure_new = (names : List (List ℕ)) × NotedAs old new faults_old faults_new sure_old sure_new (status_text names s)
