@@ -69,12 +69,12 @@ overloaded-first p i h =
     let at = stands-in_order (period p) (count p) i h.task in
     let e : in_order (period p) (count p) ≡ at.0 ++ i ∷ at.1.0 = at.1.1 in
     ap (find test) e ∙ find-here test (period p) (count p) i at.0 at.1.0
-        (subst (AreBelow (count p)) e (in_order-below (period p) (count p)))
-        (subst (IsOrdered (period p)) e (in_order-ordered (period p) (count p)))
-        (less (top_speed p * period p i) (level_work p i) h.fails)
-        (λ k lt before. not-less (top_speed p * period p k) (level_work p k) (h.first k lt before))
+    (subst (AreBelow (count p)) e (in_order-below (period p) (count p)))
+    (subst (IsOrdered (period p)) e (in_order-ordered (period p) (count p)))
+    (less (top_speed p * period p i) (level_work p i) h.fails)
+    (λ k lt before. not-less (top_speed p * period p k) (level_work p k) (h.first k lt before))
 
 pub overloaded-none : (p : Plan) → IsRmFeasible p → first_overloaded p ≡ None
 overloaded-none p h =
     find-none (λ k. nat_lt (top_speed p * period p k) (level_work p k)) (count p) (in_order (period p) (count p)) (in_order-below (period p) (count p))
-        (λ k lt. not-less (top_speed p * period p k) (level_work p k) (h k lt))
+    (λ k lt. not-less (top_speed p * period p k) (level_work p k) (h k lt))

@@ -32,7 +32,7 @@ pub ended-published : (demand : Plan → StateOf → Frac) (kind : GovernorKind)
 ended-published demand kind p d ticks s same wrote some always h =
     let dem : ℕ → ℕ → ℕ = demand_of p d.rows in
     let answer : (List Tick → Frac) → Result (List ℕ) Status =
-        λ ask. within_jobs (released_jobs p ticks) (trace_text p.scheduler kind ticks (names p) (notes_of p dem ask (schedule_by p dem ask ticks))) in
+    λ ask. within_jobs (released_jobs p ticks) (trace_text p.scheduler kind ticks (names p) (notes_of p dem ask (schedule_by p dem ask ticks))) in
     let P : Result (List ℕ) Status → Type 0 = λ a. Ended a s same wrote some in
     subst P (ap answer (asks demand kind p dem always)) h
 
@@ -42,7 +42,7 @@ met-published demand kind p d ticks status.Done always h =
     let dem : ℕ → ℕ → ℕ = demand_of p d.rows in
     let Met : (List Tick → Frac) → Type 0 = λ ask. IsMet p dem (schedule_by p dem ask ticks) in
     let Demands : (List Tick → Frac) → Type 0 =
-        λ ask. (t : ℕ) → t < ticks → is_decision p dem (schedule_by p dem ask t) ≡ true → (lowest_pick p.machine (ask (schedule_by p dem ask t))).met ≡ true in
+    λ ask. (t : ℕ) → t < ticks → is_decision p dem (schedule_by p dem ask t) ≡ true → (lowest_pick p.machine (ask (schedule_by p dem ask t))).met ≡ true in
     (subst Met (asks demand kind p dem always) h.0, λ n. subst Demands (asks demand kind p dem always) (h.1 n))
 met-published demand kind p d ticks (status.NotAdmitted why) always h = tt
 met-published demand kind p d ticks status.Words always h = tt

@@ -30,7 +30,7 @@ wrote-then-some a b c fa fb fc sa sb t u w x = record {
   part = (
     length t + x.part.0,
     omega (arith, length-append t u, x.part.1),
-    rw (take-append-add t u x.part.0) (Appends-trans a b c t (take x.part.0 u) w.bytes x.part.2)
+    rw (take-append-add t u x.part.0) (Appends-trans a b c t (take x.part.0 u) w.bytes x.part.2),
   );
   rose = subst (λ (f : ℕ). Rose f fc) w.steady x.rose;
   unsure = omega (arith, length-append t u, w.surety, x.unsure);
@@ -41,7 +41,7 @@ wrote-some-more a b fa fb sa t u w = record {
   part = (
     w.part.0,
     omega (arith, length-append t u, w.part.1),
-    rw (take-append-le w.part.0 t u w.part.1) w.part.2
+    rw (take-append-le w.part.0 t u w.part.1) w.part.2,
   );
   rose = w.rose;
   unsure = omega (arith, length-append t u, w.unsure);
@@ -49,10 +49,9 @@ wrote-some-more a b fa fb sa t u w = record {
 
 -- what a listener heard was written, and what it balked at was written in part; `Same` is what its value keeps
 module _ {L : Type 0} (heard balked : L → Note → L → Type 0) (written : L → Option (List ℕ)) (faults sure : L → ℕ) (text : L → Note → List ℕ) (Same : L → L → Type 0)
-  (same-self : (a : L) → Same a a) (same-trans : (a b c : L) → Same a b → Same b c → Same a c) (same-text : (a b : L) → Same a b → (n : Note) → text b n ≡ text a n)
-  (step : (a : L) (n : Note) (b : L) → heard a n b → Wrote (written a) (written b) (faults a) (faults b) (sure a) (sure b) (text a n) × Same a b)
-  (stop : (a : L) (n : Note) (b : L) → balked a n b → WroteSome (written a) (written b) (faults a) (faults b) (sure a) (text a n) × Same a b) where
-
+    (same-self : (a : L) → Same a a) (same-trans : (a b c : L) → Same a b → Same b c → Same a c) (same-text : (a b : L) → Same a b → (n : Note) → text b n ≡ text a n)
+    (step : (a : L) (n : Note) (b : L) → heard a n b → Wrote (written a) (written b) (faults a) (faults b) (sure a) (sure b) (text a n) × Same a b)
+    (stop : (a : L) (n : Note) (b : L) → balked a n b → WroteSome (written a) (written b) (faults a) (faults b) (sure a) (text a n) × Same a b) where
   same-texts : (a b : L) (notes : List Note) → Same a b → flat_map (text b) notes ≡ flat_map (text a) notes
   same-texts a b notes s = ap (λ (t : Note → List ℕ). flat_map t notes) (λ i n. same-text a b s n i)
 

@@ -9,7 +9,6 @@ use Rattle.rtdvs_top.specs.declared.writer.TraceWriter.{TraceWriter}
 use Rattle.rtdvs_top.proofs.Texts.{heard-wrote, balked-wrote}
 
 module _ {W : Type 0} (written : W → Option (List ℕ)) (faults sure : W → ℕ) where
-
   -- the sink and the names stay
   abbrev pub Same : TraceWriter W → TraceWriter W → Type 0
   Same a b = (b.out.ghost_name ≡ a.out.ghost_name) × (b.names.now ≡ a.names.now)
@@ -33,10 +32,10 @@ module _ {W : Type 0} (written : W → Option (List ℕ)) (faults sure : W → �
       → Wrote (written from.out.now) (written to.out.now) (faults from.out.now) (faults to.out.now) (sure from.out.now) (sure to.out.now) (flat_map (note_text from.names.now) notes) × Same from to
   told from notes to h =
       heard-wrote Heard Balked (λ (a : TraceWriter W). written a.out.now) (λ (a : TraceWriter W). faults a.out.now) (λ (a : TraceWriter W). sure a.out.now) (λ (a : TraceWriter W). note_text a.names.now)
-          Same same-self same-trans same-text (λ a n b x. (x.0, (x.1, x.2))) (λ a n b x. (x.0, (x.1, x.2))) from notes to h
+      Same same-self same-trans same-text (λ a n b x. (x.0, (x.1, x.2))) (λ a n b x. (x.0, (x.1, x.2))) from notes to h
 
   pub balked : (from : TraceWriter W) (notes : List Note) (to : TraceWriter W) → HasBalked Heard Balked from notes to
       → WroteSome (written from.out.now) (written to.out.now) (faults from.out.now) (faults to.out.now) (sure from.out.now) (flat_map (note_text from.names.now) notes) × Same from to
   balked from notes to h =
       balked-wrote Heard Balked (λ (a : TraceWriter W). written a.out.now) (λ (a : TraceWriter W). faults a.out.now) (λ (a : TraceWriter W). sure a.out.now) (λ (a : TraceWriter W). note_text a.names.now)
-          Same same-self same-trans same-text (λ a n b x. (x.0, (x.1, x.2))) (λ a n b x. (x.0, (x.1, x.2))) from notes to h
+      Same same-self same-trans same-text (λ a n b x. (x.0, (x.1, x.2))) (λ a n b x. (x.0, (x.1, x.2))) from notes to h

@@ -106,16 +106,32 @@ fn task_fault_line(why: &TaskFault) -> Line
 {
     match why {
         TaskFault::NotToml => line_of(&[Part::Word(b"tasks: not TOML\n")]),
-        TaskFault::UnknownKey { place, key } => task_line(*place, Part::Word(b"unknown key "), Part::Shown(key)),
+        TaskFault::UnknownKey { place, key } => task_line(
+            *place,
+            Part::Word(b"unknown key "),
+            Part::Shown(key),
+        ),
         TaskFault::NoTasks => line_of(&[Part::Word(b"tasks: no tasks\n")]),
         TaskFault::TooMany { count } => line_of(&[
             Part::Word(b"tasks: "),
             Part::Number(*count),
             Part::Word(b" tasks, at most 64\n"),
         ]),
-        TaskFault::Missing { place, field } => task_line(*place, Part::Word(b"missing "), Part::Word(task_field_word(*field))),
-        TaskFault::Kind { place, field } => task_line(*place, Part::Word(b"wrong kind of "), Part::Word(task_field_word(*field))),
-        TaskFault::Range { place, field } => task_line(*place, Part::Word(task_field_word(*field)), Part::Word(b" out of range")),
+        TaskFault::Missing { place, field } => task_line(
+            *place,
+            Part::Word(b"missing "),
+            Part::Word(task_field_word(*field)),
+        ),
+        TaskFault::Kind { place, field } => task_line(
+            *place,
+            Part::Word(b"wrong kind of "),
+            Part::Word(task_field_word(*field)),
+        ),
+        TaskFault::Range { place, field } => task_line(
+            *place,
+            Part::Word(task_field_word(*field)),
+            Part::Word(b" out of range"),
+        ),
         TaskFault::BadName { place } => line_of(&[
             Part::Word(b"tasks: task "),
             Part::Number(*place as u64),
@@ -140,16 +156,32 @@ fn machine_fault_line(why: &MachineFault) -> Line
 {
     match why {
         MachineFault::NotToml => line_of(&[Part::Word(b"machine: not TOML\n")]),
-        MachineFault::UnknownKey { place, key } => point_line(*place, Part::Word(b"unknown key "), Part::Shown(key)),
+        MachineFault::UnknownKey { place, key } => point_line(
+            *place,
+            Part::Word(b"unknown key "),
+            Part::Shown(key),
+        ),
         MachineFault::NoPoints => line_of(&[Part::Word(b"machine: no points\n")]),
         MachineFault::TooMany { count } => line_of(&[
             Part::Word(b"machine: "),
             Part::Number(*count),
             Part::Word(b" points, at most 32\n"),
         ]),
-        MachineFault::Missing { place, field } => point_line(*place, Part::Word(b"missing "), Part::Word(machine_field_word(*field))),
-        MachineFault::Kind { place, field } => point_line(*place, Part::Word(b"wrong kind of "), Part::Word(machine_field_word(*field))),
-        MachineFault::Range { place, field } => point_line(*place, Part::Word(machine_field_word(*field)), Part::Word(b" out of range")),
+        MachineFault::Missing { place, field } => point_line(
+            *place,
+            Part::Word(b"missing "),
+            Part::Word(machine_field_word(*field)),
+        ),
+        MachineFault::Kind { place, field } => point_line(
+            *place,
+            Part::Word(b"wrong kind of "),
+            Part::Word(machine_field_word(*field)),
+        ),
+        MachineFault::Range { place, field } => point_line(
+            *place,
+            Part::Word(machine_field_word(*field)),
+            Part::Word(b" out of range"),
+        ),
         MachineFault::NotRising { place } => line_of(&[
             Part::Word(b"machine: point "),
             Part::Number(*place as u64),
@@ -265,7 +297,11 @@ fn demand_fault_line(why: &DemandFault, tasks: Option<&TaskSet>) -> Line
         DemandFault::UnknownTask { row, name } => unknown_task_line(*row, name),
         DemandFault::BadNumber { row, column } => bad_number_line(*row, *column),
         DemandFault::JobZero { row } => job_zero_line(*row),
-        DemandFault::Repeated { row, task, job } => repeated_line(*row, &name_at(tasks, *task), *job),
+        DemandFault::Repeated { row, task, job } => repeated_line(
+            *row,
+            &name_at(tasks, *task),
+            *job,
+        ),
         DemandFault::OverWorst {
             task,
             job,

@@ -44,11 +44,15 @@ pub enum Status {
     /// The words aren't those of a command.
     Words,
     /// A file can't be loaded.
-    Load { file: FileKind },
+    Load {
+        file: FileKind,
+    },
     /// A file is refused.
     Text(TextFault),
     /// So many jobs would be released, and the limit is 100000.
-    Limit { jobs: u64 },
+    Limit {
+        jobs: u64,
+    },
     /// A demand exceeds the declared worst case of its task, in work units.
     OverWorst {
         task: u32,

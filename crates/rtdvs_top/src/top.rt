@@ -13,13 +13,13 @@ ghost use Rattle.rtdvs_top.specs.Ending.{EndedAs, MetBy, MetByCommand, MetIn};
 ghost use Rattle.rtdvs_top.specs.Promises.{Answers, Leaves, Writes, WritesPart, IsSureOf, LoadFailed, loads_asked, MeetsDeadlines, Notes};
 ghost use Rattle.rtdvs_top.specs.Writing.{Wrote, WroteSome, NotedAs};
 
-use crate::{FileKind, Status};
 use crate::files::{load_demands, load_machine, load_tasks};
 use crate::refusal::status_line;
 use crate::run::{admit, put_admitted, run_plan};
 use crate::words::{AdmitWords, Command, RunWords, read_command};
-use demand_list::Demands;
 use crate::writer::put_line;
+use crate::{FileKind, Status};
+use demand_list::Demands;
 use dvs_base::{Shelf, Sink};
 use sched_model::Admitted;
 use std::alloc::Global;
