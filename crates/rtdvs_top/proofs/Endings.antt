@@ -1,5 +1,5 @@
 -- How an answer ends, from how its steps end.
-use Rattle.std.proofs.Common.{◌≡◌, ℕ, List, Option, Some, None, Result, Ok, Err, refl, ap, sym, subst}
+use Rattle.std.proofs.Common.{ℕ, List, Option, Some, None, Result, refl, sym, subst}
 use Rattle.dvs_base.specs.Outside.{Files}
 use Rattle.rtdvs_top.specs.Answer.{and_then}
 use Rattle.rtdvs_top.specs.Causes.{EndsWith, IsRefusal, Gives, Refuses}

@@ -1,23 +1,14 @@
 -- What a load says of the named file.
-use Rattle.std.proofs.Common.{◌≡◌, ◌≢◌, ◌⊎◌, inl, inr, [], ◌<◌, ◌≤◌, ◌+◌, ℕ, nat_lt, if◌then◌else◌, Bool, true, false, List, length, length-take, take, Option, Some, None, option_map, Result, Ok, Err, refl, ap, sym, ◌∙◌, arith}
+use Rattle.std.proofs.Common.{◌≡◌, ◌<◌, ◌≤◌, ◌+◌, ℕ, List, length, length-take, take, Option, Some, None, option_map, Ok, Err, ap, sym, ◌∙◌, arith}
 use Rattle.std.proofs.lemmas.List.{take_all}
 use Rattle.std.proofs.lemmas.Bool.Decides.{nat_tests}
 use Rattle.std.proofs.lemmas.Option.{same_Some}
 use Rattle.dvs_base.specs.Outside.{Files, LoadsFrom, file_of}
-use Rattle.task_model.specs.declared.task.Task.{Task}
-use Rattle.task_model.specs.declared.fault.TaskFault.{TaskFault}
-use Rattle.task_model.specs.declared.fault.TaskFault.TheVariants as task_fault
-use Rattle.task_model.specs.TaskFile.{task_file}
-use Rattle.freq_table.specs.Tables.{Table}
-use Rattle.freq_table.specs.declared.fault.MachineFault.{MachineFault}
-use Rattle.freq_table.specs.declared.fault.MachineFault.TheVariants as machine_fault
-use Rattle.freq_table.specs.MachineFile.{machine_file}
 use Rattle.rtdvs_top.specs.declared.status.FileKind.{FileKind}
 use Rattle.rtdvs_top.specs.declared.status.TextFault.TheVariants as text
-use Rattle.rtdvs_top.specs.declared.status.Status.{Status}
 use Rattle.rtdvs_top.specs.declared.status.Status.TheVariants as status
-use Rattle.rtdvs_top.specs.Answer.{and_then, longest, bytes_from, bytes_at, tasks_at, machine_at, tasks_from, machine_from, task_status, machine_status}
-use Rattle.rtdvs_top.specs.Causes.{Gives, Refuses, EndsWith}
+use Rattle.rtdvs_top.specs.Answer.{longest, bytes_from, bytes_at}
+use Rattle.rtdvs_top.specs.Causes.{Gives, Refuses}
 
 whole_file : (f : Option (List ℕ)) (m : ℕ) (v : List ℕ) → option_map (take (m + 1)) f ≡ Some v → length v ≤ m → f ≡ Some v
 whole_file None m v e h = absurd (cc)

@@ -1,5 +1,5 @@
 -- The entry that a demand picks stands in the table.
-use Rattle.std.proofs.Common.{◌≡◌, ℕ, ◌-◌, ◌<◌, ◌≤◌, min, length, ap, arith}
+use Rattle.std.proofs.Common.{◌≡◌, ◌<◌, length, ap, arith}
 use Rattle.grid_fraction.specs.declared.Frac.{Frac}
 use Rattle.freq_table.specs.declared.machine.Pick.{Pick}
 use Rattle.freq_table.specs.Tables.{Table, IsTable, lowest_entry, lowest_pick}

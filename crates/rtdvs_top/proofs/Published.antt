@@ -1,7 +1,6 @@
 -- A run by a governor's own demand is the run by the published one.
-use Rattle.std.proofs.Common.{◌≡◌, ◌≢◌, ℕ, ◌<◌, true, List, Result, refl, ap, sym, ◌∙◌, subst}
+use Rattle.std.proofs.Common.{◌≡◌, ℕ, ◌<◌, true, List, Result, ap, sym, subst}
 use Rattle.dvs_base.specs.declared.kind.GovernorKind.{GovernorKind}
-use Rattle.dvs_base.specs.declared.kind.GovernorKind.TheVariants.{Ahead}
 use Rattle.grid_fraction.specs.declared.Frac.{Frac}
 use Rattle.demand_list.specs.Demands.{DemandsOf}
 use Rattle.sched_model.specs.Plan.{Plan, names}
@@ -13,7 +12,7 @@ use Rattle.sched_model.specs.Decision.{is_decision}
 use Rattle.freq_table.specs.Tables.{lowest_pick}
 use Rattle.event_kernel.specs.Runs.{released_jobs}
 use Rattle.sched_model.specs.Ticks.{Tick}
-use Rattle.sched_model.specs.States.{StateOf, state_of}
+use Rattle.sched_model.specs.States.{StateOf}
 use Rattle.sched_model.specs.Demand.{published}
 use Rattle.sched_model.specs.Demands.{demand_of}
 use Rattle.governor.specs.Schedule.{ask_of}

@@ -1,5 +1,5 @@
 -- A reader's refusal, as the status of the step that loads and reads.
-use Rattle.std.proofs.Common.{◌≡◌, ◌≢◌, ℕ, List, Option, Some, None, Result, Ok, Err, refl, ap, ◌∙◌}
+use Rattle.std.proofs.Common.{◌≡◌, ◌≢◌, ℕ, List, Option, Some, None, Result, Err, refl}
 use Rattle.dvs_base.specs.Outside.{Files}
 use Rattle.task_model.specs.declared.task.Task.{Task}
 use Rattle.task_model.specs.declared.fault.TaskFault.{TaskFault}
@@ -14,7 +14,7 @@ use Rattle.demand_list.specs.DemandFile.{demand_file}
 use Rattle.rtdvs_top.specs.declared.status.FileKind.TheVariants as file
 use Rattle.rtdvs_top.specs.declared.status.Status.{Status}
 use Rattle.rtdvs_top.specs.declared.status.Status.TheVariants as status
-use Rattle.rtdvs_top.specs.Answer.{bytes_at, tasks_at, machine_at, demands_at, tasks_from, machine_from, demands_from, task_status, machine_status, demand_status}
+use Rattle.rtdvs_top.specs.Answer.{bytes_at, tasks_at, machine_at, demands_at, task_status, machine_status, demand_status}
 use Rattle.rtdvs_top.specs.Causes.{Gives, Refuses, EndsWith, IsRefusal}
 
 -- a step that ended with a status

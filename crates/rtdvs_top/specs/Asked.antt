@@ -1,5 +1,5 @@
 -- The words that were read, as their texts.
-use Rattle.std.specs.Prelude.{ℕ, ◌≤◌, ◌^◌, option_map, ⊤}
+use Rattle.std.specs.Prelude.{◌≤◌, ◌^◌, option_map, ⊤}
 use Rattle.rtdvs_top.specs.Words.{RunOf, AdmitOf, CommandOf, run, admit, IsBuilt}
 use Rattle.rtdvs_top.specs.declared.words.RunWords.{RunWords}
 use Rattle.rtdvs_top.specs.declared.words.AdmitWords.{AdmitWords}

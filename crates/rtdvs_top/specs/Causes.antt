@@ -1,12 +1,8 @@
 -- What a status says, and why it comes.
-use Rattle.std.specs.Prelude.{◌≡◌, ◌⊎◌, ◌≢◌, ℕ, ◌+◌, ◌<◌, ◌≤◌, List, [], length, Option, Some, None, Result, Ok, Err, IsOk, IfOk, is_none, if◌then◌else◌, ⊤}
-use Rattle.std.specs.Io.KnownBytes.{Appends}
-use Rattle.dvs_base.specs.Outside.{Files, Lacks, Rose, AppendsPrefix}
-use Rattle.task_model.specs.declared.task.Task.{Task}
-use Rattle.rtdvs_top.specs.Words.{RunOf, AdmitOf, CommandOf, run, admit}
-use Rattle.rtdvs_top.specs.Answer.{answer_of, answer_of_command, tasks_at, tasks_name, machine_at}
-use Rattle.rtdvs_top.specs.Naming.{names_of}
-use Rattle.rtdvs_top.specs.Refusals.{status_text}
+use Rattle.std.specs.Prelude.{◌≡◌, ◌⊎◌, ℕ, ◌+◌, ◌<◌, List, Option, Some, None, Result, Ok, Err, ⊤}
+use Rattle.dvs_base.specs.Outside.{Files, Lacks, Rose}
+use Rattle.rtdvs_top.specs.Words.{RunOf, CommandOf, run, admit}
+use Rattle.rtdvs_top.specs.Answer.{tasks_name}
 use Rattle.rtdvs_top.specs.declared.status.FileKind.{FileKind}
 use Rattle.rtdvs_top.specs.declared.status.FileKind.TheVariants as file
 use Rattle.rtdvs_top.specs.declared.status.Status.{Status}

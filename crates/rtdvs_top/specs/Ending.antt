@@ -1,5 +1,5 @@
 -- How the writing of an answer ends.
-use Rattle.std.specs.Prelude.{◌≡◌, ◌≢◌, ◌<◌, ℕ, true, List, Option, Some, None, Result, Ok, Err, ⊤}
+use Rattle.std.specs.Prelude.{◌≡◌, ◌≢◌, ◌<◌, ℕ, true, List, Option, Some, None, Result, Ok, ⊤}
 use Rattle.dvs_base.specs.Outside.{Files}
 use Rattle.dvs_base.specs.declared.kind.GovernorKind.{GovernorKind}
 use Rattle.dvs_base.specs.declared.kind.GovernorKind.TheVariants.{Ahead}
@@ -12,11 +12,11 @@ use Rattle.sched_model.specs.Demands.{demand_of}
 use Rattle.sched_model.specs.Demand.{published}
 use Rattle.sched_model.specs.Decision.{is_decision}
 use Rattle.sched_model.specs.Deadlines.{IsMet}
-use Rattle.sched_model.specs.Schedule.{schedule}
+use Rattle.sched_model.specs.Schedule.{schedule, HasSchedule, HasNoOther}
 use Rattle.freq_table.specs.Tables.{lowest_pick}
 use Rattle.event_kernel.specs.Runs.{Run, notes_of_run, released_jobs, MeetsDeadlines, MeetsDemands}
 use Rattle.rtdvs_top.specs.Answer.{within_jobs, prepared_of, tasks_at}
-use Rattle.rtdvs_top.specs.Words.{RunOf, AdmitOf, CommandOf, run, admit}
+use Rattle.rtdvs_top.specs.Words.{RunOf, CommandOf, run, admit}
 use Rattle.task_model.specs.declared.task.Task.{Task}
 use Rattle.rtdvs_top.specs.Causes.{EndsWith, IsRefusal, Gives}
 use Rattle.rtdvs_top.specs.declared.status.Status.{Status}
@@ -71,7 +71,7 @@ MeetsAllOf kind p d ticks s = ⊤
 -- a run that was done, of these tasks, met every deadline, and some entry met each published demand unless it looks ahead
 abbrev pub MetBy : Option Files → RunOf → List Task → Status → Type 0
 MetBy told r tasks status.Done =
-    (p : Plan) × (d : DemandsOf) × Gives told (prepared_of r tasks) (p, d) × MeetsAllOf r.governor p d r.ticks status.Done
+    (p : Plan) × (d : DemandsOf) × Gives told (prepared_of r tasks) (p, d) × MeetsAllOf r.governor p d r.ticks status.Done × HasSchedule p × HasNoOther p
 MetBy told r tasks s = ⊤
 
 abbrev pub MetByCommand : Option Files → CommandOf → List Task → Status → Type 0

@@ -1,22 +1,21 @@
 -- What the top call promises, clause by clause. The command is what the words are, and nothing where they are none.
-use Rattle.std.specs.Prelude.{◌≡◌, ◌≢◌, ◌⊎◌, ℕ, ◌≤◌, List, [], length, Option, Some, None, Result, Ok, Err, IsOk, ⊤}
+use Rattle.std.specs.Prelude.{◌≡◌, ◌≢◌, ℕ, ◌≤◌, List, [], length, Option, Some, None, Result, Ok, Err, IsOk, ⊤}
 use Rattle.std.specs.Io.KnownBytes.{Appends}
-use Rattle.dvs_base.specs.Outside.{Files, AppendsPrefix, Rose}
+use Rattle.dvs_base.specs.Outside.{Files, AppendsPrefix}
 use Rattle.dvs_base.specs.declared.kind.GovernorKind.TheVariants.{Ahead}
 use Rattle.task_model.specs.declared.task.Task.{Task}
 use Rattle.demand_list.specs.Demands.{DemandsOf}
 use Rattle.sched_model.specs.Plan.{Plan}
 use Rattle.sched_model.specs.Demands.{demand_of}
 use Rattle.sched_model.specs.Deadlines.{IsMet}
-use Rattle.sched_model.specs.Schedule.{schedule}
-use Rattle.rtdvs_top.specs.Words.{RunOf, AdmitOf, CommandOf, run, admit}
-use Rattle.rtdvs_top.specs.Answer.{answer_of_command, prepared_of, tasks_at, tasks_name, machine_at}
+use Rattle.sched_model.specs.Schedule.{schedule, HasSchedule, HasNoOther}
+use Rattle.rtdvs_top.specs.Words.{CommandOf, run}
+use Rattle.rtdvs_top.specs.Answer.{answer_of_command, prepared_of, tasks_at}
 use Rattle.rtdvs_top.specs.Naming.{names_by}
 use Rattle.rtdvs_top.specs.Refusals.{status_text}
-use Rattle.rtdvs_top.specs.Causes.{LoadOf, machine_name, loads_of}
+use Rattle.rtdvs_top.specs.Causes.{LoadOf, loads_of}
 use Rattle.rtdvs_top.specs.Ending.{AlwaysMeets}
 use Rattle.rtdvs_top.specs.Writing.{NotedAs}
-use Rattle.rtdvs_top.specs.declared.status.FileKind.TheVariants as file
 use Rattle.rtdvs_top.specs.declared.status.Status.{Status}
 use Rattle.rtdvs_top.specs.declared.status.Status.TheVariants as status
 
@@ -64,8 +63,9 @@ abbrev pub loads_asked : Option CommandOf → ℕ
 loads_asked (Some c) = loads_of c
 loads_asked None = 0
 
--- A run that is done is of the tasks, the admitted plan and the demands that its files give. Each job that is due within
--- it has had its demand by its deadline, and some entry meets each published demand, unless it looks ahead.
+-- A run that is done is of the tasks, the admitted plan and the demands that its files give. Its schedule is the only one
+-- of its length, each job that is due within it has had its demand by its deadline, and some entry meets each published
+-- demand, unless it looks ahead.
 abbrev pub MeetsDeadlines : Option Files → Option CommandOf → Status → Type 0
 MeetsDeadlines (Some files) (Some (run r)) status.Done =
     (tasks : List Task) × (p : Plan) × (d : DemandsOf)
@@ -73,6 +73,8 @@ MeetsDeadlines (Some files) (Some (run r)) status.Done =
     × (prepared_of r tasks files ≡ Ok (p, d))
     × IsMet p (demand_of p d.rows) (schedule p r.governor (demand_of p d.rows) r.ticks)
     × (r.governor ≢ Ahead → AlwaysMeets p r.governor (demand_of p d.rows) r.ticks)
+    × HasSchedule p
+    × HasNoOther p
 MeetsDeadlines told c s = ⊤
 
 -- the line of a status is noted, whole or in part, with the names of the command's tasks

@@ -1,5 +1,5 @@
 -- The words of a command.
-use Rattle.std.specs.Prelude.{ℕ, ◌^◌, ◌==◌, ◌&&◌, Bool, true, false, not, List, [], ◌∷◌, length, nat_le, nat_lt, codes, Option, Some, None, option_map, if◌then◌else◌, ⊤}
+use Rattle.std.specs.Prelude.{ℕ, ◌^◌, ◌==◌, ◌&&◌, List, [], ◌∷◌, length, nat_le, codes, Option, Some, None, option_map, if◌then◌else◌, ⊤}
 use Rattle.std.specs.Str.{bytes_eq}
 use Rattle.dvs_base.specs.Text.{number_below}
 use Rattle.dvs_base.specs.declared.kind.Scheduler.{Scheduler}

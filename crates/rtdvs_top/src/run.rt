@@ -3,6 +3,7 @@ ghost use Rattle.std.specs.Prelude.{◌≡◌, ◌≢◌, ◌≤◌, ◌^◌, Ok
 ghost use Rattle.sched_model.specs.StaticDemand.{static_demand};
 ghost use Rattle.sched_model.specs.Plan.{plan_of};
 ghost use Rattle.sched_model.specs.States.{opening};
+ghost use Rattle.sched_model.specs.Schedule.{HasSchedule, HasNoOther};
 ghost use Rattle.sched_model.specs.Text.{trace_text};
 ghost use Rattle.dvs_base.specs.TraceLines.{note_text};
 ghost use Rattle.event_kernel.specs.Runs.{IsListOf, notes_of_run, MeetsDeadlines, MeetsDemands};
@@ -21,7 +22,7 @@ use event_kernel::{Kernel, KernelFault, Stopped};
 use freq_table::Machine;
 use governor::Governor;
 use rm_admit::{RmFault, rm_admit};
-use sched_model::Admitted;
+use sched_model::{Admitted, one_schedule};
 use static_gov::{Full, Static, published_demands};
 use std::alloc::Global;
 use task_model::TaskSet;
@@ -220,8 +221,11 @@ pub(crate) fn run_plan<W: Sink>(
     requires low_ticks { ticks ≤ 2 ^ 40 }
     ensures ended { Ended (answer_of_plan governor demands.now ticks plan.now) result (out.new ≡ out.old) (Wrote (W.written out.old) (W.written out.new) (W.faults out.old) (W.faults out.new) (W.sure out.old) (W.sure out.new)) (WroteSome (W.written out.old) (W.written out.new) (W.faults out.old) (W.faults out.new) (W.sure out.old)) }
     ensures met { MeetsAllOf governor plan.now demands.now ticks result }
+    ensures exists { HasSchedule plan.now }
+    ensures unique { HasNoOther plan.now }
     ensures loads { IsNoLoad result }
 {
+    one_schedule(plan);
     match governor {
         GovernorKind::Plain => run_full(alloc, plan, demands, ticks, out),
         GovernorKind::Fixed => run_static(alloc, plan, demands, ticks, out),

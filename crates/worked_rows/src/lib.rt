@@ -123,7 +123,25 @@ mod tests {
             "trace 1\nplan edf none 1\nrelease 0 t1 1\ndone 0:0 t1 1 0\nrelease 0 t2 1\nrelease 0 t3 1\nspeed 0 4 4/1\nrun 0:0 1:0 t2 1 4 100000000000\nend 1 100000000000 0\n";
         let ones =
             "task = [{name = \"a\", period = 3, worst = 1}, {name = \"b\", period = 3, worst = 1}, {name = \"c\", period = 3, worst = 1}]";
+        let ties_edf =
+            "trace 1\nplan edf none 3\nrelease 0 a 1\nrelease 0 b 1\nrelease 0 c 1\nspeed 0 1 1/1\nrun 0:0 1:0 a 1 1 1000000000\ndone 1:0 a 1 1\nspeed 1 1 1/1\nrun 1:0 2:0 b 1 1 1000000000\ndone 2:0 b 1 1\nspeed 2 1 1/1\nrun 2:0 3:0 c 1 1 1000000000\ndone 3:0 c 1 1\nend 3 3000000000 0\n";
+        let ties_rm =
+            "trace 1\nplan rm none 3\nrelease 0 a 1\nrelease 0 b 1\nrelease 0 c 1\nspeed 0 1 1/1\nrun 0:0 1:0 a 1 1 1000000000\ndone 1:0 a 1 1\nspeed 1 1 1/1\nrun 1:0 2:0 b 1 1 1000000000\ndone 2:0 b 1 1\nspeed 2 1 1/1\nrun 2:0 3:0 c 1 1 1000000000\ndone 3:0 c 1 1\nend 3 3000000000 0\n";
         for (tasks, machine, demands, line, want) in [
+            (
+                ones,
+                SLOW,
+                "",
+                "run --tasks T --machine M --scheduler edf --governor none --ticks 3",
+                ties_edf,
+            ),
+            (
+                ones,
+                SLOW,
+                "",
+                "run --tasks T --machine M --scheduler rm --governor none --ticks 3",
+                ties_rm,
+            ),
             (
                 PAPER_TASKS,
                 PAPER_MACHINE,
@@ -342,6 +360,21 @@ mod tests {
             .count();
         assert_eq!(rt; speeds, 8);
         assert!(rt; text.ends_with("\nend 16 448000000000 0\n"));
+        Ok(())
+    }
+
+    #[test]
+    fn paper_example_rm_static(rt: HostRuntime) -> Result<(), Fail> {
+        let left = ask(
+            rt.alloc(),
+            PAPER_TASKS,
+            PAPER_MACHINE,
+            PAPER_DEMANDS,
+            "run --tasks T --machine M --scheduler rm --governor static --ticks 16 --demands D",
+        )?;
+        assert_eq!(rt; left.code, 0);
+        let text = std::str::from_utf8(left.out.as_slice()).map_err(|_| "text")?;
+        assert!(rt; text.contains("\nspeed 0 4 52/14\n"));
         Ok(())
     }
 

@@ -1,4 +1,4 @@
-use Rattle.std.proofs.Common.{◌≤◌, ◌<◌, arith}
+use Rattle.std.proofs.Common.{arith}
 use Rattle.rtdvs_top.proofs.Loading.{too_long, gives_bytes}
 use Rattle.rtdvs_top.proofs.files.load_file.Goals as goal
 

@@ -1,4 +1,3 @@
-use Rattle.std.proofs.Common.{◌≡◌}
 use Rattle.rtdvs_top.proofs.Refusing.{demands-refused}
 use Rattle.rtdvs_top.proofs.files.load_named_demands.Goals as goal
 

@@ -1,4 +1,3 @@
-use Rattle.std.proofs.Common.{◌≡◌}
 use Rattle.rtdvs_top.proofs.Refusing.{tasks-refused}
 use Rattle.rtdvs_top.proofs.files.load_tasks.Goals as goal
 

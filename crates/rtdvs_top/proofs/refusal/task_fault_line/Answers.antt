@@ -1,4 +1,4 @@
-use Rattle.std.proofs.Common.{◌≡◌, refl}
+use Rattle.std.proofs.Common.{refl}
 use Rattle.rtdvs_top.proofs.refusal.task_fault_line.Goals as goal
 
 pub returns-in-Kind : goal.returns-in-Kind

@@ -1,4 +1,4 @@
-use Rattle.std.proofs.Common.{◌≡◌, Ok, ap, sym, refl}
+use Rattle.std.proofs.Common.{Ok, ap, sym, refl}
 use Rattle.dvs_base.specs.declared.kind.Scheduler.TheVariants.{Rm}
 use Rattle.sched_model.specs.Plan.{plan_of}
 use Rattle.rtdvs_top.proofs.Overloads.{overloaded-first, overloaded-none}

@@ -1,4 +1,4 @@
-use Rattle.std.proofs.Common.{◌≡◌, ap, ◌∙◌}
+use Rattle.std.proofs.Common.{ap, ◌∙◌}
 use Rattle.freq_table.specs.Tables.{Table, lowest_pick}
 use Rattle.rtdvs_top.proofs.Picks.{pick-within}
 use Rattle.rtdvs_top.proofs.run.admitted_line.Goals as goal

@@ -1,4 +1,3 @@
-use Rattle.std.proofs.Common.{◌≡◌}
 use Rattle.rtdvs_top.proofs.Writers.{told, balked}
 use Rattle.rtdvs_top.proofs.run.drive_into.Goals as goal
 

@@ -1,4 +1,4 @@
-use Rattle.std.proofs.Common.{◌≤◌, ◌<◌, arith}
+use Rattle.std.proofs.Common.{arith}
 use Rattle.one_speed.proofs.Fits.{static_den}
 use Rattle.rtdvs_top.proofs.run.known_denominator.Goals as goal
 

@@ -1,4 +1,3 @@
-use Rattle.std.proofs.Common.{◌≡◌}
 use Rattle.rtdvs_top.proofs.Texts.{wrote-then-some, wrote-some-more}
 use Rattle.rtdvs_top.proofs.run.put_trace.Goals as goal
 

@@ -1,4 +1,3 @@
-use Rattle.std.proofs.Common.{◌≡◌}
 use Rattle.sched_model.specs.StaticDemand.{static_demand}
 use Rattle.one_speed.specs.Speeds.{unchanging}
 use Rattle.rtdvs_top.proofs.Published.{ended-published, met-published}

@@ -1,4 +1,3 @@
-use Rattle.std.proofs.Common.{◌≡◌}
 use Rattle.rtdvs_top.proofs.Endings.{as-leaves}
 use Rattle.rtdvs_top.proofs.top.rtdvs.Goals as goal
 

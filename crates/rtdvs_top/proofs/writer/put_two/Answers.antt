@@ -1,4 +1,3 @@
-use Rattle.std.proofs.Common.{◌≡◌}
 use Rattle.rtdvs_top.proofs.Texts.{wrote-then-some}
 use Rattle.rtdvs_top.proofs.writer.put_two.Goals as goal
 
