@@ -1,8 +1,8 @@
 -- What a status says, and why it comes.
-use Rattle.std.specs.Prelude.{◌≡◌, ◌⊎◌, ℕ, ◌+◌, ◌<◌, List, Option, Some, None, Result, Ok, Err, ⊤}
+use Rattle.std.specs.Prelude.{IsOk, ◌≡◌, ◌⊎◌, ℕ, ◌+◌, ◌<◌, List, Option, Some, None, Result, Ok, Err, ⊤}
 use Rattle.dvs_base.specs.Outside.{Files, Lacks, Rose}
 use Rattle.rtdvs_top.specs.Words.{RunOf, CommandOf, run, admit}
-use Rattle.rtdvs_top.specs.Answer.{tasks_name}
+use Rattle.rtdvs_top.specs.Answer.{tasks_at, machine_at, tasks_name}
 use Rattle.rtdvs_top.specs.declared.status.FileKind.{FileKind}
 use Rattle.rtdvs_top.specs.declared.status.FileKind.TheVariants as file
 use Rattle.rtdvs_top.specs.declared.status.Status.{Status}
@@ -92,3 +92,14 @@ LoadOf told c before now sure (status.Load file.Tasks) = LoadExplained told (tas
 LoadOf told c before now sure (status.Load file.Machine) = LoadExplained told (machine_name c) 2 before now sure
 LoadOf told c before now sure (status.Load file.Demands) = NamedLoadExplained told (demands_name c) 3 before now sure
 LoadOf told c before now sure s = ⊤
+
+-- a load of demands fails only after the machine was read, where the files are told
+abbrev pub PassesMachine : Option Files → CommandOf → Status → Type 0
+PassesMachine (Some files) c (status.Load file.Demands) = IsOk (machine_at (machine_name c) files)
+PassesMachine told c s = ⊤
+
+-- a load fails only after the files before it were read, where they are told
+abbrev pub PassesBefore : Option Files → CommandOf → Status → Type 0
+PassesBefore (Some files) c (status.Load file.Machine) = IsOk (tasks_at (tasks_name c) files)
+PassesBefore (Some files) c (status.Load file.Demands) = IsOk (tasks_at (tasks_name c) files) × IsOk (machine_at (machine_name c) files)
+PassesBefore told c s = ⊤

@@ -13,7 +13,7 @@ use Rattle.rtdvs_top.specs.Words.{CommandOf, run}
 use Rattle.rtdvs_top.specs.Answer.{answer_of_command, prepared_of, tasks_at}
 use Rattle.rtdvs_top.specs.Naming.{names_by}
 use Rattle.rtdvs_top.specs.Refusals.{status_text}
-use Rattle.rtdvs_top.specs.Causes.{LoadOf, loads_of}
+use Rattle.rtdvs_top.specs.Causes.{LoadOf, PassesBefore, loads_of}
 use Rattle.rtdvs_top.specs.Ending.{AlwaysMeets}
 use Rattle.rtdvs_top.specs.Writing.{NotedAs}
 use Rattle.rtdvs_top.specs.declared.status.Status.{Status}
@@ -57,6 +57,11 @@ IsSureOf _ _ sure = ⊥
 abbrev pub LoadFailed : Option Files → Option CommandOf → ℕ → ℕ → ℕ → Status → Type 0
 LoadFailed told (Some c) before now sure s = LoadOf told c before now sure s
 LoadFailed told None before now sure s = ⊤
+
+-- the files before a load that failed were read
+abbrev pub LoadsInOrder : Option Files → Option CommandOf → Status → Type 0
+LoadsInOrder told (Some c) s = PassesBefore told c s
+LoadsInOrder told None s = ⊤
 
 -- how many files the words name
 abbrev pub loads_asked : Option CommandOf → ℕ

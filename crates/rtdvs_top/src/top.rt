@@ -5,12 +5,12 @@ ghost use Rattle.event_kernel.specs.Runs.{IsListOf};
 ghost use Rattle.rtdvs_top.specs.Words.{CommandOf, command_of, run as run_of, admit as admit_of};
 ghost use Rattle.rtdvs_top.specs.Asked.{shown, shown_run, shown_admit, IsReady, IsReadyCommand};
 ghost use Rattle.rtdvs_top.specs.Answer.{prepared_of, admitted_of, answer_of_tasks, answer_of_command, tasks_name};
-ghost use Rattle.rtdvs_top.specs.Causes.{Gives, Refuses, IsLoadOf, LaterLoad, LaterLoadOf, LoadExplained, LoadOf, loads_named, later_loads, loads_of};
+ghost use Rattle.rtdvs_top.specs.Causes.{Gives, Refuses, IsLoadOf, LaterLoad, LaterLoadOf, LoadExplained, LoadOf, PassesMachine, PassesBefore, loads_named, later_loads, loads_of};
 ghost use Rattle.rtdvs_top.specs.Naming.{names_of, NamedBy};
 ghost use Rattle.rtdvs_top.specs.Refusals.{status_text};
 ghost use Rattle.std.specs.Option.{option_copied};
 ghost use Rattle.rtdvs_top.specs.Ending.{EndedAs, MetBy, MetByCommand, MetIn};
-ghost use Rattle.rtdvs_top.specs.Promises.{Answers, Leaves, Writes, WritesPart, IsSureOf, LoadFailed, loads_asked, MeetsDeadlines, Notes};
+ghost use Rattle.rtdvs_top.specs.Promises.{Answers, Leaves, Writes, WritesPart, IsSureOf, LoadFailed, LoadsInOrder, loads_asked, MeetsDeadlines, Notes};
 ghost use Rattle.rtdvs_top.specs.Writing.{Wrote, WroteSome, NotedAs};
 
 use crate::files::{load_demands, load_machine, load_tasks};
@@ -35,6 +35,7 @@ fn prepare<S: Shelf>(
     ensures read { IfOk result (λ x. Gives (S.held shelf.old) (prepared_of (shown_run run.now) tasks.now) (x.0, x.1)) }
     ensures list { IfOk result (λ x. IsListOf x.0 x.1) }
     ensures refused { IfErr result (Refuses (S.held shelf.old) (prepared_of (shown_run run.now) tasks.now)) }
+    ensures passed { IfErr result (PassesMachine (S.held shelf.old) (run_of (shown_run run.now))) }
     ensures explained { IfErr result (LaterLoad (S.held shelf.old) (shown_run run.now) (S.faults shelf.old) (S.faults shelf.new) (S.sure shelf.old)) }
     ensures held { S.held shelf.new ≡ S.held shelf.old }
     ensures later { S.faults shelf.old ≤ S.faults shelf.new }
@@ -57,6 +58,7 @@ fn answer_run<S: Shelf, W: Sink>(
     requires { IsReady run.now }
     ensures ended { EndedAs (S.held shelf.old) (answer_of_tasks (run_of (shown_run run.now)) tasks.now) result (out.new ≡ out.old) (Wrote (W.written out.old) (W.written out.new) (W.faults out.old) (W.faults out.new) (W.sure out.old) (W.sure out.new)) (WroteSome (W.written out.old) (W.written out.new) (W.faults out.old) (W.faults out.new) (W.sure out.old)) }
     ensures met { MetBy (S.held shelf.old) (shown_run run.now) tasks.now result }
+    ensures passed { PassesMachine (S.held shelf.old) (run_of (shown_run run.now)) result }
     ensures explained { LaterLoad (S.held shelf.old) (shown_run run.now) (S.faults shelf.old) (S.faults shelf.new) (S.sure shelf.old) result }
     ensures later { S.faults shelf.old ≤ S.faults shelf.new }
     ensures steady { 1 + loads_named (shown_run run.now).demands ≤ S.sure shelf.old → S.faults shelf.new ≡ S.faults shelf.old }
@@ -115,6 +117,7 @@ fn answer_tasks<S: Shelf, W: Sink>(
     requires { IsReadyCommand command.now }
     ensures ended { EndedAs (S.held shelf.old) (answer_of_tasks (shown command.now) tasks.now) result (out.new ≡ out.old) (Wrote (W.written out.old) (W.written out.new) (W.faults out.old) (W.faults out.new) (W.sure out.old) (W.sure out.new)) (WroteSome (W.written out.old) (W.written out.new) (W.faults out.old) (W.faults out.new) (W.sure out.old)) }
     ensures met { MetByCommand (S.held shelf.old) (shown command.now) tasks.now result }
+    ensures passed { PassesMachine (S.held shelf.old) (shown command.now) result }
     ensures explained { LaterLoadOf (S.held shelf.old) (shown command.now) (S.faults shelf.old) (S.faults shelf.new) (S.sure shelf.old) result }
     ensures later { S.faults shelf.old ≤ S.faults shelf.new }
     ensures steady { later_loads (shown command.now) ≤ S.sure shelf.old → S.faults shelf.new ≡ S.faults shelf.old }
@@ -157,6 +160,7 @@ fn answer_command<S: Shelf, W: Sink>(
     ensures ended { EndedAs (S.held shelf.old) (answer_of_command (shown command.now)) result.0 (out.new ≡ out.old) (Wrote (W.written out.old) (W.written out.new) (W.faults out.old) (W.faults out.new) (W.sure out.old) (W.sure out.new)) (WroteSome (W.written out.old) (W.written out.new) (W.faults out.old) (W.faults out.new) (W.sure out.old)) }
     ensures met { MetIn (S.held shelf.old) (shown command.now) result.0 }
     ensures named { NamedBy (S.held shelf.old) (shown command.now) result.1 result.0 }
+    ensures passed { PassesBefore (S.held shelf.old) (shown command.now) result.0 }
     ensures explained { LoadOf (S.held shelf.old) (shown command.now) (S.faults shelf.old) (S.faults shelf.new) (S.sure shelf.old) result.0 }
     ensures later { S.faults shelf.old ≤ S.faults shelf.new }
     ensures steady { loads_of (shown command.now) ≤ S.sure shelf.old → S.faults shelf.new ≡ S.faults shelf.old }
@@ -185,6 +189,7 @@ pub fn rtdvs<S: Shelf, W: Sink, E: Sink>(
     ensures answers { Answers (S.held shelf.old) (command_of (map string_bytes words.now)) result }
     ensures words { (result ≡ Status.Words) ↔ (command_of (map string_bytes words.now) ≡ None) }
     ensures load { LoadFailed (S.held shelf.old) (command_of (map string_bytes words.now)) (S.faults shelf.old) (S.faults shelf.new) (S.sure shelf.old) result }
+    ensures in_order { LoadsInOrder (S.held shelf.old) (command_of (map string_bytes words.now)) result }
     ensures write { result ≡ Status.Write → Rose (W.faults out.old) (W.faults out.new) }
 
     // what is on `out`
