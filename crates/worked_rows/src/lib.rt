@@ -112,227 +112,384 @@ mod tests {
         Ok(())
     }
 
+    // Whether a call ends with 0 and leaves this answer and no line on `notes`.
+    fn answers(
+        alloc: Global,
+        tasks: &str,
+        machine: &str,
+        demands: &str,
+        line: &str,
+        want: &str,
+    ) -> Result<bool, Fail> {
+        let left = ask(alloc, tasks, machine, demands, line)?;
+        Ok(left.code == 0 && left.out.as_slice() == want.as_bytes() && left.notes.is_empty())
+    }
+
+    // Whether a call ends with this status and leaves nothing on `out` and this line on `notes`.
+    fn refuses(
+        alloc: Global,
+        tasks: &str,
+        machine: &str,
+        demands: &str,
+        line: &str,
+        refusal: (u8, &str),
+    ) -> Result<bool, Fail> {
+        let left = ask(alloc, tasks, machine, demands, line)?;
+        Ok(
+            left.code == refusal.0
+                && left.out.is_empty()
+                && left.notes.as_slice() == refusal.1.as_bytes(),
+        )
+    }
+
     #[test]
-    fn answers_of_whole_calls(rt: HostRuntime) -> Result<(), Fail> {
+    fn equal_deadlines_by_place(rt: HostRuntime) -> Result<(), Fail> {
         let alloc = rt.alloc();
-        let rm_set =
-            "task = [{name = \"a\", period = 6, worst = 3}, {name = \"b\", period = 4, worst = 4}]";
-        let rm_trace =
-            "trace 1\nplan rm none 6\nrelease 0 a 1\nrelease 0 b 1\nspeed 0 2 2/1\nrun 0:0 2:0 b 1 4 4000000000\ndone 2:0 b 1 4\nspeed 2 2 2/1\nrun 2:0 3:1 a 1 3 3000000000\ndone 3:1 a 1 3\nidle 3:1 4:0 1 0\nrelease 4 b 2\nspeed 4 2 2/1\nrun 4:0 6:0 b 2 4 4000000000\ndone 6:0 b 2 4\nend 6 11000000000 0\n";
-        let zero_trace =
-            "trace 1\nplan edf none 1\nrelease 0 t1 1\ndone 0:0 t1 1 0\nrelease 0 t2 1\nrelease 0 t3 1\nspeed 0 4 4/1\nrun 0:0 1:0 t2 1 4 100000000000\nend 1 100000000000 0\n";
         let ones =
             "task = [{name = \"a\", period = 3, worst = 1}, {name = \"b\", period = 3, worst = 1}, {name = \"c\", period = 3, worst = 1}]";
         let ties_edf =
             "trace 1\nplan edf none 3\nrelease 0 a 1\nrelease 0 b 1\nrelease 0 c 1\nspeed 0 1 1/1\nrun 0:0 1:0 a 1 1 1000000000\ndone 1:0 a 1 1\nspeed 1 1 1/1\nrun 1:0 2:0 b 1 1 1000000000\ndone 2:0 b 1 1\nspeed 2 1 1/1\nrun 2:0 3:0 c 1 1 1000000000\ndone 3:0 c 1 1\nend 3 3000000000 0\n";
         let ties_rm =
             "trace 1\nplan rm none 3\nrelease 0 a 1\nrelease 0 b 1\nrelease 0 c 1\nspeed 0 1 1/1\nrun 0:0 1:0 a 1 1 1000000000\ndone 1:0 a 1 1\nspeed 1 1 1/1\nrun 1:0 2:0 b 1 1 1000000000\ndone 2:0 b 1 1\nspeed 2 1 1/1\nrun 2:0 3:0 c 1 1 1000000000\ndone 3:0 c 1 1\nend 3 3000000000 0\n";
-        for (tasks, machine, demands, line, want) in [
-            (
+        assert!(rt;
+            answers(
+                alloc,
                 ones,
                 SLOW,
                 "",
                 "run --tasks T --machine M --scheduler edf --governor none --ticks 3",
                 ties_edf,
-            ),
-            (
+            )?
+        );
+        assert!(rt;
+            answers(
+                alloc,
                 ones,
                 SLOW,
                 "",
                 "run --tasks T --machine M --scheduler rm --governor none --ticks 3",
                 ties_rm,
-            ),
-            (
+            )?
+        );
+        Ok(())
+    }
+
+    #[test]
+    fn admits_paper_example(rt: HostRuntime) -> Result<(), Fail> {
+        let alloc = rt.alloc();
+        assert!(rt;
+            answers(
+                alloc,
                 PAPER_TASKS,
                 PAPER_MACHINE,
                 "",
                 "admit --tasks T --machine M --scheduler edf",
                 "admitted edf 836/280 3\n",
-            ),
-            (
+            )?
+        );
+        assert!(rt;
+            answers(
+                alloc,
                 PAPER_TASKS,
                 PAPER_MACHINE,
                 "",
                 "admit --tasks T --machine M --scheduler rm",
                 "admitted rm 52/14 4\n",
-            ),
-            (
+            )?
+        );
+        Ok(())
+    }
+
+    #[test]
+    fn utilisation_exactly_one(rt: HostRuntime) -> Result<(), Fail> {
+        let alloc = rt.alloc();
+        let ones =
+            "task = [{name = \"a\", period = 3, worst = 1}, {name = \"b\", period = 3, worst = 1}, {name = \"c\", period = 3, worst = 1}]";
+        assert!(rt;
+            answers(
+                alloc,
                 ones,
                 SLOW,
                 "",
                 "admit --tasks T --machine M --scheduler edf",
                 "admitted edf 3/3 1\n",
-            ),
-            (
+            )?
+        );
+        Ok(())
+    }
+
+    #[test]
+    fn rm_trace_of_two_tasks(rt: HostRuntime) -> Result<(), Fail> {
+        let alloc = rt.alloc();
+        let rm_set =
+            "task = [{name = \"a\", period = 6, worst = 3}, {name = \"b\", period = 4, worst = 4}]";
+        let rm_trace =
+            "trace 1\nplan rm none 6\nrelease 0 a 1\nrelease 0 b 1\nspeed 0 2 2/1\nrun 0:0 2:0 b 1 4 4000000000\ndone 2:0 b 1 4\nspeed 2 2 2/1\nrun 2:0 3:1 a 1 3 3000000000\ndone 3:1 a 1 3\nidle 3:1 4:0 1 0\nrelease 4 b 2\nspeed 4 2 2/1\nrun 4:0 6:0 b 2 4 4000000000\ndone 6:0 b 2 4\nend 6 11000000000 0\n";
+        assert!(rt;
+            answers(
+                alloc,
                 rm_set,
                 TWO,
                 "",
                 "run --tasks T --machine M --scheduler rm --governor none --ticks 6",
                 rm_trace,
-            ),
-            (
+            )?
+        );
+        Ok(())
+    }
+
+    #[test]
+    fn zero_demand_done_at_release(rt: HostRuntime) -> Result<(), Fail> {
+        let alloc = rt.alloc();
+        let zero_trace =
+            "trace 1\nplan edf none 1\nrelease 0 t1 1\ndone 0:0 t1 1 0\nrelease 0 t2 1\nrelease 0 t3 1\nspeed 0 4 4/1\nrun 0:0 1:0 t2 1 4 100000000000\nend 1 100000000000 0\n";
+        assert!(rt;
+            answers(
+                alloc,
                 PAPER_TASKS,
                 PAPER_MACHINE,
                 "task,job,units\nt1,1,0\n",
                 "run --tasks T --machine M --scheduler edf --governor none --ticks 1 --demands D",
                 zero_trace,
-            ),
-        ] {
-            let left = ask(alloc, tasks, machine, demands, line)?;
-            assert_eq!(rt; left.code, 0, "{line}");
-            assert_eq!(rt; left.out.as_slice(), want.as_bytes(), "{line}");
-        }
+            )?
+        );
         Ok(())
     }
 
     #[test]
-    fn refusals_of_whole_calls(rt: HostRuntime) -> Result<(), Fail> {
+    fn denied_by_one_unit(rt: HostRuntime) -> Result<(), Fail> {
         let alloc = rt.alloc();
         let heavy =
             "task = [{name = \"a\", period = 3, worst = 12}, {name = \"b\", period = 4, worst = 12}, {name = \"c\", period = 12, worst = 61}]";
         let heavy_machine =
             "point = [{speed = 6, millivolts = 3000}, {speed = 12, millivolts = 5000}]";
-        let overloaded =
-            "task = [{name = \"a\", period = 4, worst = 4}, {name = \"b\", period = 6, worst = 5}]";
-        let spread =
-            "task = [{name = \"a\", period = 4, worst = 2}, {name = \"b\", period = 5, worst = 2}]";
-        let far =
-            "task = [{name = \"a\", period = 1099511627775, worst = 1}, {name = \"b\", period = 1099511627776, worst = 1}]";
-        for (tasks, machine, demands, line, code, want) in [
-            (
+        assert!(rt;
+            refuses(
+                alloc,
                 heavy,
                 heavy_machine,
                 "",
                 "run --tasks T --machine M --scheduler edf --governor none --ticks 3",
-                1,
-                "denied edf 145 144\n",
-            ),
-            (
+                (1, "denied edf 145 144\n"),
+            )?
+        );
+        Ok(())
+    }
+
+    #[test]
+    fn rm_denials(rt: HostRuntime) -> Result<(), Fail> {
+        let alloc = rt.alloc();
+        let overloaded =
+            "task = [{name = \"a\", period = 4, worst = 4}, {name = \"b\", period = 6, worst = 5}]";
+        let spread =
+            "task = [{name = \"a\", period = 4, worst = 2}, {name = \"b\", period = 5, worst = 2}]";
+        assert!(rt;
+            refuses(
+                alloc,
                 overloaded,
                 TWO,
                 "",
                 "run --tasks T --machine M --scheduler rm --governor none --ticks 3",
-                1,
-                "denied rm b 13 12\n",
-            ),
-            (
+                (1, "denied rm b 13 12\n"),
+            )?
+        );
+        assert!(rt;
+            refuses(
+                alloc,
                 overloaded,
                 TWO,
                 "",
                 "admit --tasks T --machine M --scheduler rm",
-                1,
-                "denied rm b 13 12\n",
-            ),
-            (
+                (1, "denied rm b 13 12\n"),
+            )?
+        );
+        assert!(rt;
+            refuses(
+                alloc,
                 spread,
                 SLOW,
                 "",
                 "admit --tasks T --machine M --scheduler rm",
-                1,
-                "denied rm b 6 5\n",
-            ),
-            (
+                (1, "denied rm b 6 5\n"),
+            )?
+        );
+        assert!(rt;
+            refuses(
+                alloc,
+                spread,
+                SLOW,
+                "",
+                "run --tasks T --machine M --scheduler rm --governor static --ticks 3",
+                (1, "denied rm b 6 5\n"),
+            )?
+        );
+        Ok(())
+    }
+
+    #[test]
+    fn over_worst_demand(rt: HostRuntime) -> Result<(), Fail> {
+        let alloc = rt.alloc();
+        assert!(rt;
+            refuses(
+                alloc,
                 PAPER_TASKS,
                 PAPER_MACHINE,
                 "task,job,units\nt1,1,8\nt2,2,13\n",
                 "run --tasks T --machine M --scheduler edf --governor none --ticks 16 --demands D",
-                6,
-                "over worst: t2 2 13 12\n",
-            ),
-            (
+                (6, "over worst: t2 2 13 12\n"),
+            )?
+        );
+        Ok(())
+    }
+
+    #[test]
+    fn too_many_jobs(rt: HostRuntime) -> Result<(), Fail> {
+        let alloc = rt.alloc();
+        assert!(rt;
+            refuses(
+                alloc,
                 PAPER_TASKS,
                 PAPER_MACHINE,
                 "",
                 "run --tasks T --machine M --scheduler edf --governor none --ticks 1000000",
-                5,
-                "limit: 296429 jobs, at most 100000\n",
-            ),
-            (
+                (5, "limit: 296429 jobs, at most 100000\n"),
+            )?
+        );
+        Ok(())
+    }
+
+    #[test]
+    fn limits_of_task_files(rt: HostRuntime) -> Result<(), Fail> {
+        let alloc = rt.alloc();
+        let far =
+            "task = [{name = \"a\", period = 1099511627775, worst = 1}, {name = \"b\", period = 1099511627776, worst = 1}]";
+        assert!(rt;
+            refuses(
+                alloc,
                 far,
                 SLOW,
                 "",
                 "admit --tasks T --machine M --scheduler edf",
-                4,
-                "tasks: periods have no common multiple up to 281474976710656\n",
-            ),
-            (
+                (
+                    4,
+                    "tasks: periods have no common multiple up to 281474976710656\n"
+                ),
+            )?
+        );
+        Ok(())
+    }
+
+    #[test]
+    fn task_file_refusals(rt: HostRuntime) -> Result<(), Fail> {
+        let alloc = rt.alloc();
+        assert!(rt;
+            refuses(
+                alloc,
                 "",
                 SLOW,
                 "",
                 "admit --tasks T --machine M --scheduler edf",
-                4,
-                "tasks: no tasks\n",
-            ),
-            (
+                (4, "tasks: no tasks\n"),
+            )?
+        );
+        assert!(rt;
+            refuses(
+                alloc,
                 "task = [{name = \"a\", period = 0, worst = 1}]",
                 SLOW,
                 "",
                 "admit --tasks T --machine M --scheduler edf",
-                4,
-                "tasks: task 1: period out of range\n",
-            ),
-            (
+                (4, "tasks: task 1: period out of range\n"),
+            )?
+        );
+        assert!(rt;
+            refuses(
+                alloc,
                 "task = [{name = \"a\", period = 1, worst = 1}, {name = \"b\", period = 2, worst = 1, offset = 1}]",
                 SLOW,
                 "",
                 "admit --tasks T --machine M --scheduler edf",
-                4,
-                "tasks: task 2: unknown key offset\n",
-            ),
-            (
+                (4, "tasks: task 2: unknown key offset\n"),
+            )?
+        );
+        Ok(())
+    }
+
+    #[test]
+    fn machine_file_refusals(rt: HostRuntime) -> Result<(), Fail> {
+        let alloc = rt.alloc();
+        assert!(rt;
+            refuses(
+                alloc,
                 PAPER_TASKS,
                 "point = [{speed = 2, millivolts = 3}, {speed = 2, millivolts = 3}]",
                 "",
                 "admit --tasks T --machine M --scheduler edf",
-                4,
-                "machine: point 2: not rising\n",
-            ),
-            (
+                (4, "machine: point 2: not rising\n"),
+            )?
+        );
+        Ok(())
+    }
+
+    #[test]
+    fn demand_file_edges(rt: HostRuntime) -> Result<(), Fail> {
+        let alloc = rt.alloc();
+        assert!(rt;
+            refuses(
+                alloc,
                 PAPER_TASKS,
                 PAPER_MACHINE,
                 "",
                 "run --tasks T --machine M --scheduler edf --governor none --ticks 16 --demands D",
-                4,
-                "demands: wrong header\n",
-            ),
-            (
+                (4, "demands: wrong header\n"),
+            )?
+        );
+        assert!(rt;
+            refuses(
+                alloc,
                 PAPER_TASKS,
                 PAPER_MACHINE,
                 "task,job,units\nt1,1,8\nt1,1,8\n",
                 "run --tasks T --machine M --scheduler edf --governor none --ticks 16 --demands D",
-                4,
-                "demands: row 2: task t1 job 1 stands twice\n",
-            ),
-            (
+                (4, "demands: row 2: task t1 job 1 stands twice\n"),
+            )?
+        );
+        Ok(())
+    }
+
+    #[test]
+    fn missing_file_and_bad_words(rt: HostRuntime) -> Result<(), Fail> {
+        let alloc = rt.alloc();
+        assert!(rt;
+            refuses(
+                alloc,
                 PAPER_TASKS,
                 PAPER_MACHINE,
                 "",
                 "run --tasks T --machine X --scheduler edf --governor none --ticks 16",
-                3,
-                "load: machine\n",
-            ),
-            (
+                (3, "load: machine\n"),
+            )?
+        );
+        assert!(rt;
+            refuses(
+                alloc,
                 PAPER_TASKS,
                 PAPER_MACHINE,
                 "",
                 "run --tasks T --machine M --scheduler edf --governor none --ticks 0",
-                2,
-                "words: refused\n",
-            ),
-            (
+                (2, "words: refused\n"),
+            )?
+        );
+        assert!(rt;
+            refuses(
+                alloc,
                 PAPER_TASKS,
                 PAPER_MACHINE,
                 "",
                 "run --tasks T --machine M --scheduler rm --governor la --ticks 1",
-                2,
-                "words: refused\n",
-            ),
-        ] {
-            let left = ask(alloc, tasks, machine, demands, line)?;
-            assert_eq!(rt; left.code, code, "{line}");
-            assert_eq!(rt; left.out.len(), 0, "{line}");
-            assert_eq!(rt; left.notes.as_slice(), want.as_bytes(), "{line}");
-        }
+                (2, "words: refused\n"),
+            )?
+        );
         Ok(())
     }
 
