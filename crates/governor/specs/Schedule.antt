@@ -1,9 +1,12 @@
 -- A governor's schedule: the one tick list whose speeds are those of its published demand.
-use Rattle.std.specs.Prelude.{ℕ, List}
+use Rattle.std.specs.Prelude.{◌≡◌, ℕ, List}
+use Rattle.dvs_base.specs.declared.kind.GovernorKind.{GovernorKind}
 use Rattle.grid_fraction.specs.declared.Frac.{Frac}
 use Rattle.sched_model.specs.Plan.{Plan}
 use Rattle.sched_model.specs.Ticks.{Tick}
-use Rattle.sched_model.specs.Schedule.{schedule_by}
+use Rattle.sched_model.specs.Demand.{published}
+use Rattle.sched_model.specs.Demands.{IsWithin}
+use Rattle.sched_model.specs.Schedule.{schedule_by, IsScheduleBy}
 use Rattle.sched_model.specs.States.{StateOf, state_of}
 
 -- a governor's published demand, as a function of the ticks so far
@@ -13,3 +16,10 @@ ask_of demand p dem past = demand p (state_of p dem past)
 -- the first t ticks of its schedule
 abbrev pub course : (Plan → StateOf → Frac) → Plan → (ℕ → ℕ → ℕ) → ℕ → List Tick
 course demand p dem t = schedule_by p dem (ask_of demand p dem) t
+
+-- on each schedule, whatever demand gave its speeds and for all demands of the jobs within their worst cases, the kind's
+-- published demand is the governor's own for the state there
+abbrev pub Publishes : (Plan → StateOf → Frac) → GovernorKind → Plan → Type 0
+Publishes demand kind p =
+    (dem : ℕ → ℕ → ℕ) → IsWithin p dem → (ask : List Tick → Frac) (past : List Tick)
+    → IsScheduleBy p dem ask past → published p kind dem past ≡ ask_of demand p dem past

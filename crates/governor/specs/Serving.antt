@@ -1,0 +1,12 @@
+-- The schedulers that a governor serves, where it serves one alone.
+use Rattle.std.specs.Prelude.{◌≡◌}
+use Rattle.dvs_base.specs.declared.kind.Scheduler.{Scheduler}
+use Rattle.dvs_base.specs.declared.kind.Scheduler.TheVariants.{Edf, Rm}
+
+-- EDF alone
+abbrev pub ServesEdf : Scheduler → Type 0
+ServesEdf scheduler = scheduler ≡ Edf
+
+-- RM alone
+abbrev pub ServesRm : Scheduler → Type 0
+ServesRm scheduler = scheduler ≡ Rm
