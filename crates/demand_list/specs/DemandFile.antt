@@ -1,6 +1,7 @@
 -- What a demand file means: the demand list, or the first refusal.
-use Rattle.std.specs.Prelude.{◌≡◌, ◌≢◌, ℕ, ◌+◌, ◌^◌, ◌==◌, ◌&&◌, Bool, false, List, [], ◌∷◌, length, map, nat_lt, slice_index, codes, Option, Some, None, Result, Ok, Err, if◌then◌else◌}
+use Rattle.std.specs.Prelude.{ℕ, ◌+◌, ◌^◌, ◌==◌, ◌&&◌, Bool, false, List, [], ◌∷◌, length, map, nat_lt, slice_index, codes, Option, Some, None, Result, Ok, Err, if◌then◌else◌}
 use Rattle.std.specs.Str.{bytes_eq}
+use Rattle.dvs_base.specs.Checks.{and_then}
 use Rattle.dvs_base.specs.Text.{number_below, short_of}
 use Rattle.csv.specs.Reading.{default_config, records, strip_bom}
 use Rattle.task_model.specs.declared.task.Task.{Task}
@@ -11,11 +12,6 @@ use Rattle.demand_list.specs.declared.fault.Column.{Column}
 use Rattle.demand_list.specs.declared.fault.Column.TheVariants as column
 use Rattle.demand_list.specs.declared.fault.DemandFault.{DemandFault}
 use Rattle.demand_list.specs.declared.fault.DemandFault.TheVariants as fault
-
--- the next check, where this one passed
-abbrev pub and_then : {A B : Type 0} → Result A DemandFault → (A → Result B DemandFault) → Result B DemandFault
-and_then (Ok a) next = next a
-and_then (Err e) next = Err e
 
 -- the fields of a record that has three
 abbrev pub three_of : List (List ℕ) → Option (List ℕ × List ℕ × List ℕ)
@@ -86,8 +82,3 @@ after_header (header ∷ rows) = if is_header header then Ok rows else Err fault
 -- what the bytes of a demand file mean for these tasks: the header, and then the rows, counted from 1
 abbrev pub demand_file : List Task → List ℕ → Result DemandsOf DemandFault
 demand_file tasks bytes = and_then (after_header (records default_config (strip_bom bytes))) (demands_from tasks 1 (worst_list tasks))
-
--- the answer is this one, seen as `shown`, unless memory ran out
-abbrev pub IsUnlessMemory : {T A : Type 0} → (T → A) → Result T DemandFault → Result A DemandFault → Type 0
-IsUnlessMemory shown (Ok value) meaning = meaning ≡ Ok (shown value)
-IsUnlessMemory shown (Err e) meaning = (e ≢ fault.NoMemory) → meaning ≡ Err e

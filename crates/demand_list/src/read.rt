@@ -3,7 +3,8 @@ ghost use Rattle.std.specs.Prelude.{codes, ◌≡◌, ◌≤◌, ◌<◌, ◌^�
 ghost use Rattle.csv.specs.Reading.{default_config, records, strip_bom, error_kind, stops_reader};
 ghost use Rattle.csv.specs.Records.{fields_of};
 ghost use Rattle.demand_list.specs.declared.fault.DemandFault.TheVariants as fault;
-ghost use Rattle.demand_list.specs.DemandFile.{three_of, is_header, row_of, demands_from, after_header, with_checked, demand_file, worst_list, IsUnlessMemory};
+ghost use Rattle.dvs_base.specs.Checks.{IsUnlessMemory};
+ghost use Rattle.demand_list.specs.DemandFile.{three_of, is_header, row_of, demands_from, after_header, with_checked, demand_file, worst_list};
 ghost use Rattle.demand_list.specs.Records.{IsPlain, records_left};
 
 use crate::{Column, DemandFault, Demands};
@@ -92,7 +93,7 @@ fn add_checked(
     requires task { task < length demands.old.worsts }
     requires job { 1 ≤ job }
     ensures worsts { demands.new.worsts ≡ demands.old.worsts }
-    ensures added { IsUnlessMemory (λ _. demands.new) result (with_checked demands.old row task job units) }
+    ensures added { IsUnlessMemory DemandFault.NoMemory (λ _. demands.new) result (with_checked demands.old row task job units) }
 {
     if demands.has_row(task, job) {
         return Err(DemandFault::Repeated { row, task, job });
@@ -151,7 +152,7 @@ fn next_record(records: &mut ByteRecordsIntoIter<&[u8]>) -> Result<Option<ByteRe
 // Takes the header.
 fn read_header(records: &mut ByteRecordsIntoIter<&[u8]>) -> Result<(), DemandFault>
     requires { IsPlain records.old }
-    ensures left { IsUnlessMemory (λ _. records_left records.new) result (after_header (records_left records.old)) }
+    ensures left { IsUnlessMemory DemandFault.NoMemory (λ _. records_left records.new) result (after_header (records_left records.old)) }
     ensures plain { OnOk result (IsPlain records.new) }
     ensures fewer { OnOk result (length (records_left records.new) < length (records_left records.old)) }
 {
@@ -199,7 +200,7 @@ fn read_rows(
     requires few { length (records_left records.old) + 1 < 2 ^ 64 }
     requires worsts { length demands.worsts ≡ length tasks.now }
     ensures worsts { IfOk result (λ d. d.worsts ≡ demands.worsts) }
-    ensures rows { IsUnlessMemory (λ d. d) result (demands_from tasks.now 1 demands (records_left records.old)) }
+    ensures rows { IsUnlessMemory DemandFault.NoMemory (λ d. d) result (demands_from tasks.now 1 demands (records_left records.old)) }
 {
     let mut row: u64 = 1;
     while let Some(fields) = next_record(records)? {
@@ -215,7 +216,7 @@ impl Demands {
     /// charge. Rows for jobs beyond a run are checked like all others. The first refusal comes: the header, and then row
     /// by row the number of fields, the task, the job, the units, an earlier row of the job, and the worst case.
     pub fn read(alloc: Global, bytes: &[u8], tasks: &TaskSet) -> Result<Demands, DemandFault>
-        ensures file { IsUnlessMemory (λ d. d) result (demand_file tasks.now bytes.now) }
+        ensures file { IsUnlessMemory DemandFault.NoMemory (λ d. d) result (demand_file tasks.now bytes.now) }
         ensures worsts { IfOk result (λ d. d.worsts ≡ map (λ t. t.worst) tasks.now) }
     {
         let mut records = records_of(alloc, bytes);

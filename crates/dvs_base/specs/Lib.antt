@@ -5,3 +5,4 @@ pub mod Padded
 pub mod Words
 pub mod Parts
 pub mod TraceLines
+pub mod Checks

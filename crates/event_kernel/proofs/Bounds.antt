@@ -15,7 +15,6 @@ pub record Bounds (p : Plan) : Type 0 where
   pub low_period : (i : ℕ) → period p i ≤ 2 ^ 40
   pub low_worst : (i : ℕ) → worst p i ≤ 2 ^ 61
   pub some_point : 0 < length p.machine.points
-  pub few_points : length p.machine.points ≤ 32
   pub some_speed : (e : ℕ) → e < length p.machine.points → 0 < (point p e).speed
   pub low_speed : (e : ℕ) → (point p e).speed ≤ 1000000
   pub low_millivolts : (e : ℕ) → (point p e).millivolts ≤ 20000
@@ -35,7 +34,6 @@ bounds p adm = record {
   low_period = λ i. low i (cases_lt i (count p));
   low_worst = λ i. small i (cases_lt i (count p));
   some_point = adm.limits.machine.some;
-  few_points = adm.limits.machine.few;
   some_speed = λ e lt. (adm.limits.machine.each e lt).some_speed;
   low_speed = λ e. slow e (cases_lt e (length p.machine.points));
   low_millivolts = λ e. weak e (cases_lt e (length p.machine.points));

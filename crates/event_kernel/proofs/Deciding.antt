@@ -11,7 +11,7 @@ use Rattle.sched_model.proofs.JobLaws.{release-le, lt-due, due-le, latest-is, la
 use Rattle.sched_model.specs.States.{no_row, row_at, row_wleft, row_of, state_of}
 use Rattle.sched_model.proofs.Tables.{get-table}
 use Rattle.governor.specs.Steps.{IsAtDecision, release_of}
-use Rattle.event_kernel.proofs.Handing.{any_below-found}
+use Rattle.grid_fraction.proofs.Searches.{any_below-found}
 
 last-greatest : (t r : ℕ) (test : ℕ → Bool) → r ≤ t → test r ≡ true → r ≤ last_up_to t test
 last-greatest zero r test le e = le

@@ -19,7 +19,8 @@ use Rattle.sched_model.proofs.GreedyLemmas.{handed-end}
 use Rattle.sched_model.proofs.OrderLemmas.{in_order-below}
 use Rattle.sched_model.proofs.JobLaws.{latest-is, latest-pos, exec-latest}
 use Rattle.sched_model.proofs.Joining.{row_by, row-ran, state-ran}
-use Rattle.event_kernel.proofs.Handing.{laid_out-same, any_below-same, job, had, key, units_by, given_row, given_state, ends_in, Handing}
+use Rattle.grid_fraction.proofs.Searches.{any_below-same}
+use Rattle.event_kernel.proofs.Handing.{laid_out-same, job, had, key, units_by, given_row, given_state, ends_in, Handing}
 
 -- no job gets more than it needs
 pub exec-within : (p : Plan) (dem : ℕ → ℕ → ℕ) (ask : List Tick → Frac) (t i k : ℕ) → i < count p → exec p (schedule_by p dem ask t) i k ≤ dem i k

@@ -22,7 +22,7 @@ use Rattle.sched_model.proofs.Tables.{get-table, table-same, set-table}
 use Rattle.sched_model.proofs.PriorityLemmas.{before-self}
 use Rattle.sched_model.proofs.GreedyLemmas.{IsHandedOut, handed-start, handed-step, handed_before, up_to-before}
 use Rattle.sched_model.proofs.OrderLemmas.{IsAhead, IsOrdered, AreBelow, in_order-below, in_order-ordered}
-use Rattle.grid_fraction.proofs.Searches.{any_below-none}
+use Rattle.grid_fraction.proofs.Searches.{any_below-none, any_below-same, any_below-found}
 use Rattle.sched_model.proofs.Joining.{row_by}
 use Rattle.event_kernel.specs.Pens.{row_key, IsFirstUndone}
 use Rattle.event_kernel.specs.Tickwork.{served}
@@ -93,27 +93,6 @@ laid_out-step key job given given' n i (j ∷ js) below ordered (inr at) zero_i 
     let other : j ≢ i = λ q. absurd (true≢false (sym first ∙ (ap (λ m. stands_before key m i) q ∙ before-self key i))) in
     ap₂ (λ m us. replicate m (Held j (job j)) ++ us) (others j below.0 other) (laid_out-step key job given given' n i js below.1 ordered.1 at zero_i others none)
     ∙ sym (append_assoc (replicate (given j) (Held j (job j))) (laid_out job given js) (replicate (given' i) (Held i (job i))))
-
--- the tests that a tick's completions are found by
-pub any_below-same : (n : ℕ) (f g : ℕ → Bool) → ((k : ℕ) → k < n → f k ≡ g k) → any_below n f ≡ any_below n g
-any_below-same zero f g h = refl
-any_below-same (suc n) f g h = ap₂ (λ a b. a || b) (any_below-same n f g (λ k l. h k (omega arith))) (h n (omega arith))
-
-pub any_below-found : (n : ℕ) (f : ℕ → Bool) (i : ℕ) → i < n → f i ≡ true → any_below n f ≡ true
-any_below-found zero f i lt e = absurd (omega arith)
-any_below-found (suc n) f i lt e = go (eq-or-lt_of_le (le_of_suc-le-suc lt)) (any_below-found n f i)
-  where
-    or-right : (a b : Bool) → b ≡ true → (a || b) ≡ true
-    or-right true b h = refl
-    or-right false b h = h
-
-    or-left : (a b : Bool) → a ≡ true → (a || b) ≡ true
-    or-left true b h = refl
-    or-left false b h = absurd (true≢false (sym h))
-
-    go : (i ≡ n) ⊎ (i < n) → (i < n → f i ≡ true → any_below n f ≡ true) → (any_below n f || f n) ≡ true
-    go (inl q) ih = or-right (any_below n f) (f n) (ap f (sym q) ∙ e)
-    go (inr l) ih = or-left (any_below n f) (f n) (ih l e)
 
 -- one value of a function changed
 abbrev pub raised : (ℕ → ℕ) → ℕ → ℕ → ℕ → ℕ

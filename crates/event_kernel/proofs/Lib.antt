@@ -16,7 +16,5 @@ pub mod Onward
 pub mod Closing
 pub mod Deciding
 pub mod Demanding
-pub mod Joins
-pub mod Belonging
 pub mod Meeting
 pub mod Counting

@@ -74,6 +74,3 @@ module _ (p : Plan) where
 
   pub of-release : (s : StateOf) (i : ℕ) → IsOfPlan p s → CanRelease p s i → IsOfPlan p (after_release p s i)
   of-release s i o c = of-set s i _ o c.task refl (omega arith)
-
-  pub of-opened : (dem : ℕ → ℕ → ℕ) (s : StateOf) (i : ℕ) → IsOfPlan p s → CanRelease p s i → IsOfPlan p (opened p dem s i)
-  of-opened dem s i o c = of-set s i _ o c.task refl (omega arith)

@@ -48,9 +48,6 @@ latest-small : (p : Plan) (i t : ℕ) → latest p i t ≤ t + 1
 unfolding latest
 latest-small p i t = omega (arith, div-le_self t (period p i))
 
-pub any_below-more : (m : ℕ) (f : ℕ → Bool) (b : Bool) → f m ≡ b → any_below (m + 1) f ≡ (any_below m f || b)
-any_below-more m f b e = ap (λ k. any_below k f) (add-one m) ∙ ap (λ c. any_below m f || c) e
-
 pub or-false : (a : Bool) → a ≡ (a || false)
 or-false true = refl
 or-false false = refl

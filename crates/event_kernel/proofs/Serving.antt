@@ -11,6 +11,3 @@ served-ended s i units lt =
     let read : row_at (after_run s i units) i ≡ row = get_or-set_same s.rows i row no_row lt in
     ap (λ (r : Row). record s { rows = set (set s.rows i row) i (record r { done = true }) }) read
     ∙ ap (λ rows. record s { rows = rows }) (set-set s.rows i row (record row { done = true }))
-
-pub served-open : (s : StateOf) (i units : ℕ) → (row_at s i).done ≡ false → after_run s i units ≡ served s i units false
-served-open s i units e = ap (λ b. record s { rows = set s.rows i (record (row_at s i) { used = (row_at s i).used + units; done = b }) }) e

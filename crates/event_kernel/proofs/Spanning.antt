@@ -25,7 +25,7 @@ use Rattle.sched_model.proofs.ScheduleLemmas.{length-list_below}
 use Rattle.sched_model.proofs.NoteLemmas.{notes-span}
 use Rattle.sched_model.proofs.Joining.{due_released, same_job, state-still}
 use Rattle.sched_model.proofs.JobLaws.{latest-pos}
-use Rattle.grid_fraction.proofs.Searches.{any_below-false}
+use Rattle.grid_fraction.proofs.Searches.{any_below-false, any_below-same}
 use Rattle.event_kernel.specs.declared.pen.Pen.{Pen}
 use Rattle.governor.specs.Schedule.{ask_of, course}
 use Rattle.event_kernel.specs.Pens.{closed, last_of, grown, first_span, open_span, head_notes, open_notes, holder_notes, pen_notes, told_pen, run_part, idle_part, ended_part, CanTell, HeldIn}
@@ -38,7 +38,7 @@ use Rattle.event_kernel.specs.Walking.{IsInSpan, HasWalked}
 use Rattle.event_kernel.proofs.Hearing.{Begins, begins-self, begins-more, begins-trans}
 use Rattle.event_kernel.proofs.Pieces.{split_last, closed-snoc, last-snoc, total, total-pieces, total-append, have-last, have_units, HaveUnits, pieces_notes-append}
 use Rattle.event_kernel.proofs.Entering.{Shows, tells, notes-run, notes-idle, parts-most}
-use Rattle.event_kernel.proofs.Handing.{any_below-same}
+use Rattle.governor.proofs.Course.{force-decided}
 use Rattle.event_kernel.proofs.Beginnings.{open-begins}
 use Rattle.event_kernel.proofs.Working.{course-next}
 use Rattle.event_kernel.proofs.Ending.{exec-within}
@@ -50,10 +50,6 @@ use Rattle.sched_model.specs.Deadlines.{IsMet}
 pub start_decision : (demand : Plan → StateOf → Frac) (p : Plan) (dem : ℕ → ℕ → ℕ) → is_decision p dem (course demand p dem zero) ≡ true
 unfolding schedule_by
 start_decision demand p dem = refl
-
-pub course-start : (demand : Plan → StateOf → Frac) (p : Plan) (dem : ℕ → ℕ → ℕ) → course demand p dem zero ≡ []
-unfolding schedule_by
-course-start demand p dem = refl
 
 module _ (demand : Plan → StateOf → Frac) (p : Plan) (dem : ℕ → ℕ → ℕ) where
   abbrev pub asks : List Tick → Frac
@@ -217,10 +213,6 @@ module _ (demand : Plan → StateOf → Frac) (p : Plan) (dem : ℕ → ℕ → 
             grind (arith, nat_tests, enough)
 
   -- the span begins
-  pub force-new : (past : List Tick) → is_decision p dem past ≡ true → entry_in_force p dem asks past ≡ lowest_entry p.machine (asks past)
-  force-new [] e = refl
-  force-new (x ∷ past) e = ap (λ b. if b then lowest_entry p.machine (asks (x ∷ past)) else entry_in_force p dem asks past) e
-
   release-cost : (f : Note → ℕ) → ((t i k : ℕ) → f (Release t i k) ≡ 0) → ((q : Pos) (i k u : ℕ) → f (Done q i k u) ≡ 0) → (t i : ℕ) → sum_by f (release_notes p dem t i) ≡ 0
   release-cost f rel don t i = go (releases_at p i t) (nat_eq (dem i (latest p i t)) 0)
     where
@@ -247,7 +239,7 @@ module _ (demand : Plan → StateOf → Frac) (p : Plan) (dem : ℕ → ℕ → 
       ap (open_notes p dem asks) (span-new t e)
       ∙ (append-nil (notes_before_end p dem asks (course demand p dem t) ++ head_notes p dem asks fresh)
       ∙ ap (λ ns. notes_before_end p dem asks (course demand p dem t) ++ ns)
-      (ap₂ (λ n m. all_release_notes p dem n ++ Speed n ((point p m).speed) ((asks (course demand p dem t)).num) ((asks (course demand p dem t)).den) ∷ []) (course-len demand p dem t) (force-new (course demand p dem t) e)))
+      (ap₂ (λ n m. all_release_notes p dem n ++ Speed n ((point p m).speed) ((asks (course demand p dem t)).num) ((asks (course demand p dem t)).den) ∷ []) (course-len demand p dem t) (force-decided p dem asks (course demand p dem t) e)))
 
   pub begins-span : (ticks t e : ℕ) (s0 s : StateOf) (pen pen' : Pen) → count p ≤ 64 → t < ticks → ticks ≤ 2 ^ 40 → IsWithin p dem → IsBetween demand p dem ticks t s0 pen
       → s ≡ state_of p dem (course demand p dem t) → e ≡ lowest_entry p.machine (demand p s)
@@ -299,7 +291,7 @@ module _ (demand : Plan → StateOf → Frac) (p : Plan) (dem : ℕ → ℕ → 
       new = span-new t (b.decision lt)
 
       force : e ≡ entry_in_force p dem asks (course demand p dem t)
-      force = ee ∙ (ap (λ v. lowest_entry p.machine (demand p v)) is ∙ sym (force-new (course demand p dem t) (b.decision lt)))
+      force = ee ∙ (ap (λ v. lowest_entry p.machine (demand p v)) is ∙ sym (force-decided p dem asks (course demand p dem t) (b.decision lt)))
 
       plus_none : (i : ℕ) → exec p (course demand p dem t) i (latest p i t) + 0 ≡ had_at p (course demand p dem t) i
       plus_none i = let z : exec p (course demand p dem t) i (latest p i t) + 0 ≡ exec p (course demand p dem t) i (latest p i t) = omega arith in z ∙ ap (λ n. exec p (course demand p dem t) i (latest p i n)) (sym (course-len demand p dem t))

@@ -143,7 +143,7 @@ fn decide<G: Governor, L: Listener>(
 }
 
 /// The releases and the decision with which a span begins; the entry that is in force in it.
-pub fn begin<G: Governor, L: Listener>(
+pub(crate) fn begin<G: Governor, L: Listener>(
     plan: &Admitted,
     demands: &Demands,
     ticks: u64,

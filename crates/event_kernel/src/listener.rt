@@ -17,7 +17,7 @@ pub trait Listener {
     /// It stopped at this note, and is then that listener.
     ghost balked: { Self → NoteOf → Self → Type 0 };
 
-    /// How often it has stopped. It never falls, and stays at 2^64 - 1.
+    /// How often it has stopped. It never falls.
     ghost stops: { Self → ℕ };
 
     /// Tells it a note. `Stopped` comes only where the count of its stops rose.

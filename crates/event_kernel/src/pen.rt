@@ -134,7 +134,7 @@ fn tell<L: Listener>(
 }
 
 /// Units of a holder come after those of the segment.
-pub fn enter<L: Listener>(
+pub(crate) fn enter<L: Listener>(
     plan: &Admitted,
     state: &State,
     from: u64,
@@ -161,7 +161,7 @@ pub fn enter<L: Listener>(
 }
 
 /// Tells the segment that is left at the end of a span.
-pub fn close<L: Listener>(
+pub(crate) fn close<L: Listener>(
     plan: &Admitted,
     state: &State,
     from: u64,

@@ -74,7 +74,7 @@ fn walk_on<G: Governor, L: Listener>(
 }
 
 /// One span: a decision with its releases, and the ticks up to the next decision or the end.
-pub fn span<G: Governor, L: Listener>(
+pub(crate) fn span<G: Governor, L: Listener>(
     plan: &Admitted,
     demands: &Demands,
     ticks: u64,

@@ -18,7 +18,7 @@ use governor::Governor;
 use sched_model::{Admitted, Holder, State};
 
 /// What a job needs in work units, with the charge; 0 for job 0.
-pub fn demand(plan: &Admitted, demands: &Demands, task: u32, job: u64) -> u64
+pub(crate) fn demand(plan: &Admitted, demands: &Demands, task: u32, job: u64) -> u64
     requires list { IsListOf plan.now demands.now }
     requires task { task < count plan.now }
     ensures { result ≡ demands_of plan.now demands.now task job }
@@ -96,7 +96,7 @@ fn serve<G: Governor>(
 }
 
 /// The units of one tick, told where the holder changes; whether a job is complete at its end.
-pub fn work<G: Governor, L: Listener>(
+pub(crate) fn work<G: Governor, L: Listener>(
     plan: &Admitted,
     demands: &Demands,
     governor: &mut G,

@@ -4,8 +4,7 @@ use Rattle.std.proofs.lemmas.Bool.{le-leb, leb-true, cases_lt}
 use Rattle.grid_fraction.specs.declared.Frac.{Frac}
 use Rattle.grid_fraction.specs.Numbers.{any_below, first_from}
 use Rattle.grid_fraction.specs.Fraction.{meets}
-use Rattle.grid_fraction.proofs.Searches.{first_from-found, first_from-most, any_below-none, any_below-false}
-use Rattle.freq_table.specs.declared.machine.Pick.{Pick}
+use Rattle.grid_fraction.proofs.Searches.{first_from-found, any_below-false}
 use Rattle.freq_table.specs.Tables.{Table, speed_at, last_entry, highest_speed, lowest_entry, lowest_pick, IsTable}
 
 pub speeds_rise : (m : Table) → IsTable m → (j k : ℕ) → j ≤ k → k < length m.points → speed_at m j ≤ speed_at m k
@@ -56,46 +55,3 @@ picked_met m table d h = go (any_below (length m.points) (λ e. meets (speed_at 
         let some : 1 ≤ length m.points = table.some in
         let off : meets (speed_at m (last_entry m)) d ≡ false = any_below-false (length m.points) (λ e. meets (speed_at m e) d) e (last_entry m) (omega arith) in
         absurd (true≢false (sym (le-leb _ _ h) ∙ off))
-
--- the first that passes, from 0 on
-first_from-is : (n k : ℕ) (test : ℕ → Bool) → test k ≡ true → ((j : ℕ) → j < k → test j ≡ false) → k < n → first_from n 0 test ≡ k
-first_from-is n k test found before h =
-    let first = first_from-found n 0 k test (omega arith) (omega arith) found in
-    let most : first_from n 0 test ≤ k = first_from-most n 0 k test (omega arith) found in
-    elim (cases_lt (first_from n 0 test) k) [
-      | inl early ↦ absurd (true≢false (sym first.0 ∙ before (first_from n 0 test) early))
-      | inr late ↦ omega arith
-    ]
-
-first_from-none : (n from : ℕ) (test : ℕ → Bool) → ((j : ℕ) → from ≤ j → j < from + n → test j ≡ false) → first_from n from test ≡ from + n
-first_from-none zero from test none = omega arith
-first_from-none (suc n) from test none =
-    rw (none from (omega arith) (omega arith), first_from) (omega (arith, first_from-none n (suc from) test (λ j low lt. none j (omega arith) (omega arith))))
-
-any_below-true : (n : ℕ) (test : ℕ → Bool) (i : ℕ) → i < n → test i ≡ true → any_below n test ≡ true
-any_below-true n test i h found = go (any_below n test) refl
-  where
-    go : (b : Bool) → any_below n test ≡ b → any_below n test ≡ true
-    go true e = e
-    go false e = absurd (true≢false (sym found ∙ any_below-false n test e i h))
-
-abbrev picked : ℕ → Bool → Pick
-picked index met = record { index = index; met = met }
-
--- a walk from the first entry on finds the picked one
-pub pick_found : (m : Table) (d : Frac) (k : ℕ) → k < length m.points → meets (speed_at m k) d ≡ true → ((j : ℕ) → j < k → meets (speed_at m j) d ≡ false) → picked k true ≡ lowest_pick m d
-pick_found m d k h found before =
-    let test : ℕ → Bool = λ e. meets (speed_at m e) d in
-    let n : ℕ = length m.points in
-    let first : first_from n 0 test ≡ k = first_from-is n k test found before h in
-    let entry : k ≡ lowest_entry m d = omega (arith, first) in
-    let some : true ≡ any_below n test = sym (any_below-true n test k h found) in
-    ap₂ picked entry some
-
-pub pick_none : (m : Table) (d : Frac) → 1 ≤ length m.points → ((j : ℕ) → j < length m.points → meets (speed_at m j) d ≡ false) → picked (length m.points - 1) false ≡ lowest_pick m d
-pick_none m d some none =
-    let test : ℕ → Bool = λ e. meets (speed_at m e) d in
-    let n : ℕ = length m.points in
-    let first : first_from n 0 test ≡ 0 + n = first_from-none n 0 test (λ j low lt. none j (omega arith)) in
-    let entry : length m.points - 1 ≡ lowest_entry m d = omega (arith, first) in
-    ap₂ picked entry (sym (any_below-none n test none))

@@ -3,7 +3,8 @@ ghost use Rattle.std.specs.Prelude.{codes, ◌≡◌, ◌≤◌, ◌<◌, [], So
 ghost use Rattle.std.specs.Option.{option_copied};
 ghost use Rattle.toml.specs.Data.{get_member};
 ghost use Rattle.toml.specs.View.{view, table_view, items_view};
-ghost use Rattle.toml_tree.specs.Tree.{number_at, IsUnlessMemory};
+ghost use Rattle.dvs_base.specs.Checks.{IsUnlessMemory};
+ghost use Rattle.toml_tree.specs.Tree.{number_at};
 ghost use Rattle.freq_table.specs.Tables.{IsPoint};
 ghost use Rattle.freq_table.specs.Limits.{ArePoints};
 ghost use Rattle.freq_table.specs.MachineFile.{fault_at, at_field, setting_at, point_of_members, point_of, may_follow, last_of, points_from, entries_from, points_at, table_of_document, machine_file};

@@ -71,3 +71,25 @@ first_from-most n from m test low found = go (nat_le (first_from n from test) m)
 pub any_below-same : (n : ℕ) (f g : ℕ → Bool) → ((k : ℕ) → k < n → f k ≡ g k) → any_below n f ≡ any_below n g
 any_below-same zero f g h = refl
 any_below-same (suc n) f g h = ap₂ (λ a b. a || b) (any_below-same n f g (λ k l. h k (omega arith))) (h n (omega arith))
+
+pub any_below-found : (n : ℕ) (test : ℕ → Bool) (i : ℕ) → i < n → test i ≡ true → any_below n test ≡ true
+any_below-found n test i h found = go (any_below n test) refl
+  where
+    go : (b : Bool) → any_below n test ≡ b → any_below n test ≡ true
+    go true e = e
+    go false e = absurd (true≢false (sym found ∙ any_below-false n test e i h))
+
+-- the first that passes, from 0 on
+pub first_from-is : (n i : ℕ) (test : ℕ → Bool) → i < n → ((k : ℕ) → k < i → test k ≡ false) → test i ≡ true → first_from n 0 test ≡ i
+first_from-is n i test lt before here =
+    let found : test (first_from n 0 test) ≡ true = (first_from-found n 0 i test (omega arith) (omega arith) here).0 in
+    let not_above : i < first_from n 0 test → ⊥ = λ above. true≢false (sym here ∙ first_from-before n 0 i test (omega arith) above) in
+    let not_below : first_from n 0 test < i → ⊥ = λ below. true≢false (sym found ∙ before (first_from n 0 test) below) in
+    omega (arith, not_above, not_below)
+
+pub first_from-none : (n from : ℕ) (test : ℕ → Bool) → ((k : ℕ) → from ≤ k → k < from + n → test k ≡ false) → first_from n from test ≡ from + n
+first_from-none zero from test h = omega arith
+first_from-none (suc n) from test h =
+    let here : test from ≡ false = h from (omega arith) (omega arith) in
+    let rest : first_from n (suc from) test ≡ suc from + n = first_from-none n (suc from) test (λ k low high. h k (omega arith) (omega arith)) in
+    rw (here, first_from) (omega (arith, rest))

@@ -1,7 +1,7 @@
 -- How an answer ends, from how its steps end.
 use Rattle.std.proofs.Common.{ℕ, List, Option, Some, None, Result, refl, sym, subst}
 use Rattle.dvs_base.specs.Outside.{Files}
-use Rattle.rtdvs_top.specs.Answer.{and_then}
+use Rattle.dvs_base.specs.Checks.{and_then}
 use Rattle.rtdvs_top.specs.Causes.{EndsWith, IsRefusal, Gives, Refuses}
 use Rattle.rtdvs_top.specs.Promises.{Leaves}
 use Rattle.rtdvs_top.specs.Ending.{Ended, EndedSomehow, EndedAs}

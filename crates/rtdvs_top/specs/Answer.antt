@@ -1,5 +1,6 @@
--- The answer to a list of words, where every file is told, nothing fails and memory is found.
+-- The answer to a command, where every file is told, nothing fails and memory is found.
 use Rattle.std.specs.Prelude.{ℕ, ◌*◌, List, [], ◌∷◌, length, nat_lt, find, codes, decimal, Option, Some, None, Result, Ok, Err, if◌then◌else◌}
+use Rattle.dvs_base.specs.Checks.{and_then}
 use Rattle.dvs_base.specs.Outside.{Files, file_of}
 use Rattle.dvs_base.specs.Words.{scheduler_word}
 use Rattle.dvs_base.specs.TraceLines.{line, fraction_text}
@@ -32,11 +33,6 @@ use Rattle.rtdvs_top.specs.declared.status.TextFault.TheVariants as text
 use Rattle.rtdvs_top.specs.declared.status.Denied.TheVariants as denied
 use Rattle.rtdvs_top.specs.declared.status.Status.{Status}
 use Rattle.rtdvs_top.specs.declared.status.Status.TheVariants as status
-
--- a step of the answer gives a value, or the status with which the call ends
-abbrev pub and_then : {A B : Type 0} → Result A Status → (A → Result B Status) → Result B Status
-and_then (Ok a) next = next a
-and_then (Err s) next = Err s
 
 -- the longest file that is read, in bytes
 abbrev pub longest : ℕ
@@ -150,8 +146,3 @@ answer_of_tasks (admit a) tasks files = and_then (admitted_of a tasks files) (λ
 -- the answer of a command
 abbrev pub answer_of_command : CommandOf → Files → Result (List ℕ) Status
 answer_of_command c files = and_then (tasks_at (tasks_name c) files) (λ tasks. answer_of_tasks c tasks files)
-
--- the answer to a list of words
-abbrev pub answer_of : Option CommandOf → Files → Result (List ℕ) Status
-answer_of None files = Err status.Words
-answer_of (Some c) files = answer_of_command c files

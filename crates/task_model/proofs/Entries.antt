@@ -2,7 +2,8 @@
 use Rattle.std.proofs.Common.{◌≡◌, ◌<◌, ◌≤◌, List, [], ◌∷◌, length, Some, Err, arith}
 use Rattle.toml.specs.declared.value.Value.{Value}
 use Rattle.toml.specs.View.{items_view}
-use Rattle.toml_tree.specs.Tree.{count_of, and_then}
+use Rattle.dvs_base.specs.Checks.{and_then}
+use Rattle.toml_tree.specs.Tree.{count_of}
 use Rattle.task_model.specs.declared.fault.TaskFault.TheVariants as fault
 use Rattle.task_model.specs.TaskFile.{entries_from, tasks_from, within_hyper}
 use Rattle.toml_tree.proofs.Counts.{count_of-items_view, choose, choose_not}

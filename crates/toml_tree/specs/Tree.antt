@@ -1,5 +1,5 @@
 -- What a settings file holds: its document, and what the document's keys hold.
-use Rattle.std.specs.Prelude.{◌≡◌, ◌≢◌, ℕ, pos, negsuc, ℤ, ◌+◌, ◌&&◌, Bool, List, nat_le, Option, Some, None, Result, Ok, Err, if◌then◌else◌}
+use Rattle.std.specs.Prelude.{ℕ, pos, negsuc, ℤ, ◌+◌, ◌&&◌, Bool, List, nat_le, Option, Some, None, Result, Ok, Err, if◌then◌else◌}
 use Rattle.std.specs.List.{list_any}
 use Rattle.std.specs.Str.{bytes_eq, is_utf8}
 use Rattle.std.specs.Cmp.Lexicographic.{slice_cmp}
@@ -50,13 +50,3 @@ text_at (Some value) = text_from (as_str value)
 abbrev pub count_of : Items → ℕ
 count_of no_items = 0
 count_of (item value rest) = count_of rest + 1
-
--- the next check, where this one passed
-abbrev pub and_then : {A B F : Type 0} → Result A F → (A → Result B F) → Result B F
-and_then (Ok value) next = next value
-and_then (Err e) next = Err e
-
--- the answer is this one, seen as `shown`, unless memory ran out
-abbrev pub IsUnlessMemory : {T A F : Type 0} → F → (T → A) → Result T F → Result A F → Type 0
-IsUnlessMemory no_memory shown (Ok value) meaning = meaning ≡ Ok (shown value)
-IsUnlessMemory no_memory shown (Err e) meaning = (e ≢ no_memory) → meaning ≡ Err e

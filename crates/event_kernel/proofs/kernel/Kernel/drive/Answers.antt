@@ -5,7 +5,8 @@ use Rattle.sched_model.specs.Totals.{totals_of}
 use Rattle.event_kernel.specs.Heard.{HasHeard, HasBalked}
 use Rattle.event_kernel.specs.Runs.{Run, demands_of, notes_of_run, MeetsDeadlines, MeetsDemands}
 use Rattle.event_kernel.proofs.Demanding.{demand-within}
-use Rattle.event_kernel.proofs.Meeting.{course-met, run-met, run-demands}
+use Rattle.governor.proofs.Course.{course-met}
+use Rattle.event_kernel.proofs.Meeting.{run-met, run-demands}
 use Rattle.event_kernel.proofs.Hearing.{at_exit}
 use Rattle.event_kernel.proofs.Closing.{totals_by, end-totals, first-between, nothing-told, end-heard, end-balked, before-balked}
 use Rattle.event_kernel.proofs.kernel.Kernel.drive.Goals as goal
