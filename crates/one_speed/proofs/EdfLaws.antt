@@ -48,11 +48,11 @@ closed_row row n none open_job most =
     ]
 
 -- one task of the load
-abbrev term : ℕ → ℕ → ℕ → Row → ℕ
+abbrev pub term : ℕ → ℕ → ℕ → Row → ℕ
 term h d u row = if nat_le row.deadline d then h * row_wleft row + u * (d - row.deadline) else 0
 
 -- the load, task by task
-load_is : (plan : Plan) (s : StateOf) (d : ℕ) → load plan s d ≡ sum_below (count plan) (λ i. term (hyper plan) d (rate plan i) (row_at s i))
+pub load_is : (plan : Plan) (s : StateOf) (d : ℕ) → load plan s d ≡ sum_below (count plan) (λ i. term (hyper plan) d (rate plan i) (row_at s i))
 load_is plan s d =
     let n = count plan in
     ap (λ (x : ℕ). x + sum_where n (due_by s d) (λ i. rate plan i * (d - (row_at s i).deadline))) (sum_where-times n (hyper plan) (due_by s d) (wleft_at s))

@@ -1,0 +1,3 @@
+pub mod Inserting
+pub mod Walk
+pub mod Walking

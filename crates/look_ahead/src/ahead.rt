@@ -1,0 +1,75 @@
+// The governor of look-ahead.
+ghost use Rattle.std.specs.Prelude.{◌≡◌, IfOk, IsOk};
+ghost use Rattle.dvs_base.specs.declared.kind.GovernorKind.TheVariants.{Ahead};
+ghost use Rattle.sched_model.specs.States.{opening};
+ghost use Rattle.governor.specs.Serving.{ServesEdf};
+ghost use Rattle.look_ahead_laws.specs.Ahead.{ahead_demand, AheadCalm, AheadSafe};
+ghost use Rattle.look_ahead_laws.proofs.AheadLaws.{ahead_laws};
+
+use crate::walk::ahead_demand;
+use dvs_base::{GovernorKind, NoMemory};
+use governor::{Choice, Governor};
+use sched_model::{Admitted, State};
+use std::alloc::Global;
+
+/// The governor of look-ahead EDF: the lowest speed at which what can't be put off past the earliest deadline is done by
+/// then (Pillai and Shin 2001).
+#[derive(Drop)]
+pub struct LookAhead {
+    counters: (),
+}
+
+impl LookAhead {
+    /// The governor for a plan under EDF, before the first release. It takes no memory and is never refused.
+    pub fn new(_alloc: Global, plan: &Admitted) -> Result<LookAhead, NoMemory>
+        requires { ServesEdf plan.now.scheduler }
+        ensures made { IsOk result }
+        ensures stands { IfOk result (λ g. ⟦<LookAhead as Governor>⟧.stands g plan.now (opening plan.now)) }
+    {
+        let _tasks = plan.count();
+        Ok(LookAhead { counters: () })
+    }
+}
+
+impl Governor for LookAhead {
+    ghost the_kind = { Ahead };
+
+    ghost serves = { ServesEdf };
+
+    ghost demand = { ahead_demand };
+
+    ghost calm = { AheadCalm };
+
+    ghost safe = { AheadSafe };
+
+    ghost stands = { λ g plan s. ServesEdf plan.scheduler };
+
+    ghost serves_plan = { λ g plan s stands. stands };
+
+    ghost waits = { λ g plan s to later stands. stands };
+
+    ghost laws = { ahead_laws };
+
+    fn kind(&self) -> GovernorKind {
+        GovernorKind::Ahead
+    }
+
+    fn released(&mut self, _plan: &Admitted, _view: &State, _task: u32) {}
+
+    fn ran(&mut self, _plan: &Admitted, _view: &State, _task: u32, _units: u64) {}
+
+    fn finished(&mut self, _plan: &Admitted, _view: &State, _task: u32) {}
+
+    fn settled(&mut self, _plan: &Admitted, _view: &State) {}
+
+    fn choose(&self, plan: &Admitted, view: &State) -> Choice {
+        plan.known();
+        let demand = ahead_demand(plan, view);
+        let pick = plan.machine().lowest(demand);
+        Choice {
+            index: pick.index,
+            met: pick.met,
+            demand,
+        }
+    }
+}

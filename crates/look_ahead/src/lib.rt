@@ -1,0 +1,17 @@
+//! The governor of look-ahead EDF (Pillai and Shin 2001).
+//!
+//! At a decision it puts off as much work as it can past the earliest deadline, and asks for the speed that does the rest
+//! by then. It serves EDF alone, keeps nothing from call to call, and takes no memory.
+//! Callers may rely on its demand to be the published one, and on every deadline of its schedules to be met, although a
+//! demand may be higher than the highest speed.
+#![tactic(auto)]
+
+mod ahead;
+mod order;
+mod published;
+mod rates;
+mod walk;
+
+pub use ahead::LookAhead;
+pub use published::published_demands;
+pub use rates::rates_within;

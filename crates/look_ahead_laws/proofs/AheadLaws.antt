@@ -1,0 +1,101 @@
+-- The laws of look-ahead EDF.
+use Rattle.std.proofs.Common.{◌≡◌, inl, inr, ℕ, ◌+◌, ◌-◌, ◌*◌, ◌^◌, ◌<◌, ◌≤◌, Bool, true, false, List, [], ◌∷◌, ◌++◌, length, refl, sym, ◌∙◌, ap, arith}
+use Rattle.std.proofs.Math.Nat.{mul-le-mul_left, mul-le-mul_right, le_trans}
+use Rattle.std.proofs.lemmas.Bool.{lt-leb, cases_lt}
+use Rattle.dvs_base.specs.declared.kind.GovernorKind.TheVariants.{Ahead}
+use Rattle.grid_fraction.specs.declared.Frac.{Frac}
+use Rattle.grid_fraction.specs.Fraction.{meets}
+use Rattle.grid_fraction.proofs.Least.{least-below, least-above}
+use Rattle.freq_table.specs.declared.machine.Pick.{Pick}
+use Rattle.freq_table.specs.Tables.{Table, speed_at, last_entry, highest_speed, lowest_entry, IsTable}
+use Rattle.freq_table.proofs.Chosen.{below_highest, lowest_within, picked_meets, pick_none}
+use Rattle.sched_model.specs.Plan.{Plan, count, hyper, rate, top_speed}
+use Rattle.sched_model.specs.Order.{in_order}
+use Rattle.sched_model.specs.Priority.{sum_before}
+use Rattle.sched_model.specs.Tests.{total_rate}
+use Rattle.sched_model.specs.AheadDemand.{first_due, spread_rates}
+use Rattle.sched_model.specs.Admission.{IsAdmitted}
+use Rattle.sched_model.specs.States.{StateOf}
+use Rattle.sched_model.proofs.Limits.{some_task, some_hyper}
+use Rattle.sched_model.proofs.OrderLemmas.{sum_list, sum_list-in_order, in_order-below}
+use Rattle.governor.specs.Steps.{wleft_at, earliest, IsAtDecision, Belongs}
+use Rattle.governor.specs.Serving.{ServesEdf}
+use Rattle.governor.specs.Laws.{GovernorLaws}
+use Rattle.one_speed.specs.Edf.{load}
+use Rattle.one_speed.proofs.Fits.{full_enough}
+use Rattle.one_speed.proofs.EdfLaws.{load_is, edf_opens, edf_releases, edf_chooses, edf_ticks, edf_stays_calm, edf_completes}
+use Rattle.look_ahead_laws.specs.Ahead.{deadline_at, edf_order, ahead_demand, AheadCalm, AheadSafe}
+use Rattle.look_ahead_laws.proofs.EdfOrder.{sum_list-append}
+use Rattle.look_ahead_laws.proofs.Spreading.{due_work, all_paid, before_is, rate_within, work_within}
+
+-- where the highest speed doesn't meet a demand, the last entry is picked
+last_picked : (m : Table) → IsTable m → (d : Frac) → highest_speed m * d.den < d.num → lowest_entry m d ≡ last_entry m
+last_picked m table d over =
+    sym (ap (λ (p : Pick). p.index) (pick_none m d table.some (λ j lt.
+    let low : speed_at m j * d.den ≤ highest_speed m * d.den = mul-le-mul_right d.den (below_highest m table j lt) in
+    lt-leb d.num (speed_at m j * d.den) (omega (arith, low, over)))))
+
+module _ (plan : Plan) (s : StateOf) where
+  -- the rates of all tasks fit at the highest speed
+  pub total_is : total_rate plan ≡ sum_list (rate plan) (edf_order plan s)
+  total_is = sym (sum_list-in_order (rate plan) (deadline_at s) (count plan))
+
+  pub rates_fit : IsAdmitted plan → ServesEdf plan.scheduler → sum_list (rate plan) (edf_order plan s) ≤ top_speed plan * hyper plan
+  rates_fit adm serves = let fits = (full_enough plan adm).edf serves in omega (arith, total_is, fits)
+
+  -- each task's rate, with the rates of the tasks before it and the spread rates of those after it, does too
+  pub each_rate : IsAdmitted plan → ServesEdf plan.scheduler → (before later : List ℕ) (i : ℕ) → edf_order plan s ≡ before ++ i ∷ later
+      → sum_before (count plan) (deadline_at s) (rate plan) i + spread_rates plan (deadline_at s) (wleft_at s) (i ∷ later) ≤ top_speed plan * hyper plan
+  each_rate adm serves before later i e =
+      let whole : sum_list (rate plan) (edf_order plan s) ≡ sum_list (rate plan) before + sum_list (rate plan) (i ∷ later) = ap (sum_list (rate plan)) e ∙ sum_list-append (rate plan) before (i ∷ later) in
+      let within = rate_within plan (deadline_at s) (wleft_at s) before (i ∷ later) e (some_hyper plan adm.limits) (let f = rates_fit adm serves in omega (arith, whole, f)) in
+      let at = before_is plan (deadline_at s) (wleft_at s) before later i e in
+      omega (arith, at, within)
+
+  load_in_order : (d : ℕ) → load plan s d ≡ sum_list (due_work plan (deadline_at s) (wleft_at s) d) (edf_order plan s)
+  load_in_order d = load_is plan s d ∙ sym (sum_list-in_order (due_work plan (deadline_at s) (wleft_at s) d) (deadline_at s) (count plan))
+
+  -- a speed that meets the demand is safe
+  meets_safe : (k : ℕ) → IsAdmitted plan → ServesEdf plan.scheduler → k < length plan.machine.points → (ahead_demand plan s).num ≤ speed_at plan.machine k * (earliest plan s - s.now) → AheadSafe plan s k
+  meets_safe k adm serves lt met = record {
+    bound = λ d le.
+        let x = d - earliest plan s in
+        let paid = all_paid plan (deadline_at s) (wleft_at s) d (edf_order plan s) (in_order-below (deadline_at s) (count plan)) in
+        let worked = work_within plan (deadline_at s) (wleft_at s) x (some_hyper plan adm.limits) (rates_fit adm serves) in
+        let first = mul-le-mul_left (hyper plan) met in
+        omega (arith, load_in_order d, paid, worked, first);
+    slower = below_highest plan.machine adm.limits.machine k lt;
+  }
+
+  pub ahead_chooses : (dem : ℕ → ℕ → ℕ) → IsAdmitted plan → ServesEdf plan.scheduler → Belongs plan dem s → AheadCalm plan s → AheadSafe plan s (lowest_entry plan.machine (ahead_demand plan s))
+  ahead_chooses dem adm serves bel calm =
+      let d = ahead_demand plan s in
+      let k = lowest_entry plan.machine d in
+      elim (cases_lt (top_speed plan * d.den) d.num) [
+        | inl over ↦ edf_chooses (top_speed plan) plan adm.limits dem s bel k (ap (speed_at plan.machine) (last_picked plan.machine adm.limits.machine d over)) calm
+        | inr within ↦ meets_safe k adm serves (lowest_within plan.machine d adm.limits.machine.some) (picked_meets plan.machine adm.limits.machine d within)
+      ]
+
+  -- the next deadline is ahead, and near
+  pub earliest_ahead : IsAdmitted plan → IsAtDecision plan s → s.now < earliest plan s
+  earliest_ahead adm dec =
+      let next : s.now + 1 ≤ earliest plan s = least-above (count plan) (deadline_at s) (s.now + 1) (some_task plan adm.limits) (λ i lt. let g = dec.before i lt in omega (arith, g)) in
+      omega arith
+
+  pub ahead_den : IsAdmitted plan → IsAtDecision plan s → (0 < (ahead_demand plan s).den) × ((ahead_demand plan s).den ≤ 2 ^ 64)
+  ahead_den adm dec =
+      let next = earliest_ahead adm dec in
+      let first : earliest plan s ≤ deadline_at s 0 = least-below (count plan) (deadline_at s) 0 (some_task plan adm.limits) in
+      (omega arith, (let near = dec.soon 0 (some_task plan adm.limits) in omega (arith, near, first)))
+
+pub ahead_laws : GovernorLaws Ahead ServesEdf ahead_demand AheadCalm AheadSafe
+ahead_laws = record {
+  low_den = λ plan s adm serves of dec. ahead_den plan s adm dec;
+  opens = λ plan adm serves. edf_opens (top_speed plan) plan adm.limits ((full_enough plan adm).edf serves);
+  releases = λ plan dem s adm serves bel calm. edf_releases (top_speed plan) plan adm.limits dem s bel calm;
+  chooses = λ plan dem s adm serves bel dec calm. ahead_chooses plan s dem adm serves bel calm;
+  meets = λ plan dem s adm serves bel dec calm kind. absurd (kind refl);
+  ticks = λ plan dem s k shares adm serves bel before inside legal safe. edf_ticks (top_speed plan) plan adm.limits dem s bel serves ((full_enough plan adm).edf serves) k shares before legal safe;
+  stays_calm = λ plan dem s k adm serves bel safe. edf_stays_calm (top_speed plan) plan adm.limits dem s bel k safe;
+  completes = λ plan dem s adm serves bel calm. edf_completes (top_speed plan) plan adm.limits dem s bel calm;
+}

@@ -1,0 +1,6 @@
+pub mod EdfOrder
+pub mod Spreading
+pub mod AheadLaws
+pub mod Whole
+pub mod Publishing
+pub mod Examples

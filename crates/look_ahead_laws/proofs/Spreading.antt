@@ -1,0 +1,167 @@
+-- What is put off fits in the time after the earliest deadline: the rates stay within the highest speed, and are enough.
+use Rattle.std.proofs.Common.{◌≡◌, inl, inr, ℕ, zero, suc, ◌+◌, ◌-◌, ◌*◌, ◌<◌, ◌≤◌, min, Bool, true, false, List, [], ◌∷◌, ◌++◌, refl, sym, ◌∙◌, ap, arith, append_assoc}
+use Rattle.std.specs.Prelude.{◌/◌, ◌%◌, nat_eq, nat_le, if◌then◌else◌}
+use Rattle.std.proofs.Math.Nat.{mul-le-mul_left, mul-le-mul_right, mul-zero, le_trans, div-mul-le_self}
+use Rattle.std.proofs.lemmas.Nat.{div_below, mod_below, div-add-mod'}
+use Rattle.std.proofs.lemmas.Bool.{le-leb, lt-leb, cases_lt, eqb-false}
+use Rattle.grid_fraction.proofs.Least.{least-below}
+use Rattle.sched_model.specs.Plan.{Plan, count, hyper, rate, top_speed}
+use Rattle.sched_model.specs.Priority.{sum_before}
+use Rattle.sched_model.specs.Order.{in_order}
+use Rattle.sched_model.specs.AheadDemand.{first_due, slack, put_off, spread_rate, spread_rates, due_first}
+use Rattle.sched_model.proofs.OrderLemmas.{sum_list, IsAhead, IsOrdered, AreBelow, in_order-below, in_order-ordered, sum_before-prefix}
+use Rattle.look_ahead_laws.proofs.EdfOrder.{key_rises, sum_list-append}
+
+-- ONE TASK, over plain numbers: y is put off, v is its rate
+
+-- a whole part y of g * l / h, spread over l with its rate rounded up, keeps within g
+pub spread_within : (g l h y : ℕ) → 0 < h → 0 < l → y ≤ g * l / h → (y * h + (l - 1)) / l ≤ g
+spread_within g l h y ph pl le =
+    let low : y * h ≤ g * l = le_trans (mul-le-mul_right h le) (div-mul-le_self (g * l) h) in
+    let small : (y * h + (l - 1)) / l < g + 1 = div_below (y * h + (l - 1)) l (g + 1) pl (omega arith) in
+    omega arith
+
+-- and is enough for it
+spread_enough : (l h y : ℕ) → 0 < l → h * y ≤ (y * h + (l - 1)) / l * l
+spread_enough l h y pl =
+    let n = y * h + (l - 1) in
+    let cut : n / l * l + n % l ≡ n = div-add-mod' n l in
+    let rest : n % l < l = mod_below n l pl in
+    omega arith
+
+some_slack : (l : ℕ) → nat_eq l 0 ≡ false → 0 < l
+some_slack zero h = absurd (eqb-false 0 0 h refl)
+some_slack (suc l) h = omega arith
+
+-- the rates stay within what the highest speed has
+step_within : (b : Bool) (u w l h pre after most : ℕ) → 0 < h → (b ≡ false → 0 < l) → pre + u + after ≤ most
+    → pre + (if b then u else ((if b then 0 else min w ((most - pre - after) * l / h)) * h + (l - 1)) / l) + after ≤ most
+step_within true u w l h pre after most ph pl fits = fits
+step_within false u w l h pre after most ph pl fits =
+    let y = min w ((most - pre - after) * l / h) in
+    let v = spread_within (most - pre - after) l h y ph (pl refl) (omega arith) in
+    omega (arith, v)
+
+-- no more is put off than there is
+put_most : (b : Bool) (w g : ℕ) → (if b then 0 else min w g) ≤ w
+put_most true w g = omega arith
+put_most false w g = omega arith
+
+-- and the rate is enough for it
+put_fits : (b : Bool) (u w g l h : ℕ) → (b ≡ false → 0 < l) → h * (if b then 0 else min w g) ≤ (if b then u else ((if b then 0 else min w g) * h + (l - 1)) / l) * l
+put_fits true u w g l h pl = omega (arith, mul-zero h)
+put_fits false u w g l h pl = spread_enough l h (min w g) (pl refl)
+
+-- a task's work due by d
+term_pays : (h a end d w y u v : ℕ) → a ≤ end → y ≤ w → h * y ≤ v * (end - a)
+    → (if nat_le end d then h * w + u * (d - end) else 0) ≤ h * (w - y) + (v * min (d - a) (end - a) + u * ((d - a) - (end - a)))
+term_pays h a end d w y u v la le fits =
+    elim (cases_lt d end) [
+      | inl later ↦ rw (lt-leb end d later) (omega arith)
+      | inr by ↦
+          let m : min (d - a) (end - a) ≡ end - a = omega arith in
+          let r : (d - a) - (end - a) ≡ d - end = omega arith in
+          let e : w ≡ (w - y) + y = omega arith in
+          let whole : h * w ≡ h * (w - y) + h * y = ap (λ (x : ℕ). h * x) e ∙ (let z : h * ((w - y) + y) ≡ h * (w - y) + h * y = omega arith in z) in
+          rw (le-leb end d by, m, r) (omega (arith, whole))
+    ]
+
+-- what a task works off in one tick more
+work_row : (v u l x : ℕ) → v * min (suc x) l + u * (suc x - l) ≡ (v * min x l + u * (x - l)) + (if nat_le l x then u else v)
+work_row v u l x =
+    elim (cases_lt x l) [
+      | inl before ↦
+          let a : min (suc x) l ≡ x + 1 = omega arith in
+          let b : min x l ≡ x = omega arith in
+          let c : suc x - l ≡ 0 = omega arith in
+          let e : x - l ≡ 0 = omega arith in
+          rw (lt-leb l x before, a, b, c, e) (omega arith)
+      | inr past ↦
+          let a : min (suc x) l ≡ l = omega arith in
+          let b : min x l ≡ l = omega arith in
+          let c : suc x - l ≡ (x - l) + 1 = omega arith in
+          rw (le-leb l x past, a, b, c) (omega arith)
+    ]
+
+-- THE TASKS IN ORDER
+
+module _ (plan : Plan) (due left : ℕ → ℕ) where
+  -- the rates in force x after the earliest deadline
+  abbrev past_rate : ℕ → List ℕ → ℕ
+  past_rate x [] = 0
+  past_rate x (i ∷ later) = (if nat_le (slack plan due i) x then rate plan i else spread_rate plan due left (spread_rates plan due left later) i) + past_rate x later
+
+  -- what they work off by then
+  abbrev work : ℕ → List ℕ → ℕ
+  work x [] = 0
+  work x (i ∷ later) = (spread_rate plan due left (spread_rates plan due left later) i * min x (slack plan due i) + rate plan i * (x - slack plan due i)) + work x later
+
+  -- a task's work due by d, and its rate from its deadline on
+  abbrev pub due_work : ℕ → ℕ → ℕ
+  due_work d i = if nat_le (due i) d then hyper plan * left i + rate plan i * (d - due i) else 0
+
+  work_zero : (xs : List ℕ) → work 0 xs ≡ 0
+  work_zero [] = refl
+  work_zero (i ∷ xs) =
+      let m : min 0 (slack plan due i) ≡ 0 = omega arith in
+      let r : 0 - slack plan due i ≡ 0 = omega arith in
+      rw (m, r) (omega (arith, work_zero xs, mul-zero (spread_rate plan due left (spread_rates plan due left xs) i), mul-zero (rate plan i)))
+
+  work_more : (x : ℕ) (xs : List ℕ) → work (suc x) xs ≡ work x xs + past_rate x xs
+  work_more x [] = refl
+  work_more x (i ∷ xs) = omega (arith, work_more x xs, work_row (spread_rate plan due left (spread_rates plan due left xs) i) (rate plan i) (slack plan due i) x)
+
+  -- the tasks after one whose slack is above x have their spread rates
+  all_spread : (x i : ℕ) (xs : List ℕ) → x < slack plan due i → IsAhead due i xs → past_rate x xs ≡ spread_rates plan due left xs
+  all_spread x i [] lt ahead = refl
+  all_spread x i (j ∷ js) lt ahead =
+      let rises : due i ≤ due j = key_rises due i j ahead.0 in
+      let later : x < slack plan due j = omega arith in
+      rw (lt-leb (slack plan due j) x later) (omega (arith, all_spread x i js lt ahead.1))
+
+  -- all that is due by d is run first or worked off after
+  pub all_paid : (d : ℕ) (xs : List ℕ) → AreBelow (count plan) xs → sum_list (due_work d) xs ≤ hyper plan * due_first plan due left xs + work (d - first_due plan due) xs
+  all_paid d [] below = omega arith
+  all_paid d (i ∷ xs) below =
+      let b = nat_eq (slack plan due i) 0 in
+      let after = spread_rates plan due left xs in
+      let g = ((top_speed plan * hyper plan) - sum_before (count plan) due (rate plan) i - after) * slack plan due i / hyper plan in
+      let one = term_pays (hyper plan) (first_due plan due) (due i) d (left i) (put_off plan due left after i) (rate plan i) (spread_rate plan due left after i)
+      (least-below (count plan) due i below.0) (put_most b (left i) g) (put_fits b (rate plan i) (left i) g (slack plan due i) (hyper plan) (some_slack (slack plan due i))) in
+      omega (arith, one, all_paid d xs below.1)
+
+  pub before_is : (l xs : List ℕ) (i : ℕ) → in_order due (count plan) ≡ l ++ i ∷ xs → sum_before (count plan) due (rate plan) i ≡ sum_list (rate plan) l
+  before_is l xs i e = sum_before-prefix due (rate plan) (count plan) i l xs e
+
+  -- the rates of the first tasks and the spread rates of the others
+  pub rate_within : (l xs : List ℕ) → in_order due (count plan) ≡ l ++ xs → 0 < hyper plan → sum_list (rate plan) l + sum_list (rate plan) xs ≤ top_speed plan * hyper plan
+      → sum_list (rate plan) l + spread_rates plan due left xs ≤ top_speed plan * hyper plan
+  rate_within l [] e ph fits = fits
+  rate_within l (i ∷ xs) e ph fits =
+      let next : sum_list (rate plan) (l ++ i ∷ []) ≡ sum_list (rate plan) l + rate plan i = (let a = sum_list-append (rate plan) l (i ∷ []) in omega (arith, a)) in
+      let ih = rate_within (l ++ i ∷ []) xs (e ∙ sym (append_assoc l (i ∷ []) xs)) ph (omega (arith, next)) in
+      let after = spread_rates plan due left xs in
+      let room : sum_list (rate plan) l + rate plan i + after ≤ top_speed plan * hyper plan = omega (arith, next, ih) in
+      let before = before_is l xs i e in
+      let one = step_within (nat_eq (slack plan due i) 0) (rate plan i) (left i) (slack plan due i) (hyper plan) (sum_before (count plan) due (rate plan) i) after (top_speed plan * hyper plan) ph (some_slack (slack plan due i)) (rw before room) in
+      omega (arith, before, one)
+
+  past_within : (x : ℕ) (l xs : List ℕ) → in_order due (count plan) ≡ l ++ xs → IsOrdered due xs → 0 < hyper plan → sum_list (rate plan) l + sum_list (rate plan) xs ≤ top_speed plan * hyper plan
+      → sum_list (rate plan) l + past_rate x xs ≤ top_speed plan * hyper plan
+  past_within x l [] e order ph fits = fits
+  past_within x l (i ∷ xs) e order ph fits =
+      elim (cases_lt x (slack plan due i)) [
+        | inl before ↦
+            let same : past_rate x (i ∷ xs) ≡ spread_rates plan due left (i ∷ xs) = (let b : nat_le (slack plan due i) x ≡ false = lt-leb (slack plan due i) x before in rw b (omega (arith, all_spread x i xs before order.0))) in
+            rw same (rate_within l (i ∷ xs) e ph fits)
+        | inr past ↦
+            let next : sum_list (rate plan) (l ++ i ∷ []) ≡ sum_list (rate plan) l + rate plan i = (let a = sum_list-append (rate plan) l (i ∷ []) in omega (arith, a)) in
+            let ih = past_within x (l ++ i ∷ []) xs (e ∙ sym (append_assoc l (i ∷ []) xs)) order.1 ph (omega (arith, next)) in
+            rw (le-leb (slack plan due i) x past) (omega (arith, next, ih))
+      ]
+
+  pub work_within : (x : ℕ) → 0 < hyper plan → sum_list (rate plan) (in_order due (count plan)) ≤ top_speed plan * hyper plan → work x (in_order due (count plan)) ≤ top_speed plan * hyper plan * x
+  work_within zero ph fits = omega (arith, work_zero (in_order due (count plan)))
+  work_within (suc x) ph fits =
+      let past = past_within x [] (in_order due (count plan)) refl (in_order-ordered due (count plan)) ph (omega (arith, fits)) in
+      omega (arith, work_more x (in_order due (count plan)), work_within x ph fits, past)

@@ -1,0 +1,28 @@
+-- The published demand of look-ahead in a state, and its two conditions.
+use Rattle.std.specs.Prelude.{ℕ, List}
+use Rattle.grid_fraction.specs.declared.Frac.{Frac}
+use Rattle.sched_model.specs.Plan.{Plan, count, top_speed}
+use Rattle.sched_model.specs.Order.{in_order}
+use Rattle.sched_model.specs.AheadDemand.{ahead_of}
+use Rattle.sched_model.specs.States.{StateOf, row_at}
+use Rattle.governor.specs.Steps.{wleft_at}
+use Rattle.one_speed.specs.Edf.{EdfCalm, EdfSafe}
+
+-- Di, the deadline of the latest job of task i
+abbrev pub deadline_at : StateOf → ℕ → ℕ
+deadline_at s i = (row_at s i).deadline
+
+-- the tasks in EDF order
+abbrev pub edf_order : Plan → StateOf → List ℕ
+edf_order plan s = in_order (deadline_at s) (count plan)
+
+-- the demand of look-ahead, of the deadlines in the state's rows and of what their jobs may still need
+abbrev pub ahead_demand : Plan → StateOf → Frac
+ahead_demand plan s = ahead_of plan (deadline_at s) (wleft_at s) s.now
+
+-- what holds from boundary to boundary, and what holds while an entry is in force: as for the governor none
+abbrev pub AheadCalm : Plan → StateOf → Type 0
+AheadCalm plan s = EdfCalm (top_speed plan) plan s
+
+abbrev pub AheadSafe : Plan → StateOf → ℕ → Type 0
+AheadSafe plan s k = EdfSafe (top_speed plan) plan s k
