@@ -1,3 +1,3 @@
 pub mod Inserting
-pub mod Walk
+pub mod Walked
 pub mod Walking

@@ -1,6 +1,6 @@
 -- The loop of the walk.
 use Rattle.std.proofs.Common.{◌≡◌, ℕ, zero, suc, ◌+◌, ◌-◌, ◌*◌, ◌^◌, ◌<◌, ◌≤◌, Bool, true, false, List, [], ◌∷◌, ◌++◌, length, get_or, take, drop, refl, sym, ◌∙◌, ap, subst, arith}
-use Rattle.std.specs.Prelude.{nat_eq, if◌then◌else◌}
+use Rattle.std.specs.Prelude.{◌/◌, nat_eq, if◌then◌else◌}
 use Rattle.std.proofs.Math.ListN.{drop_of_length-le}
 use Rattle.std.proofs.lemmas.Nat.{mul-le}
 use Rattle.std.proofs.lemmas.List.{append-nil, take_more, drop_more, take_all, get_or-take}
@@ -20,7 +20,7 @@ use Rattle.look_ahead_laws.proofs.EdfOrder.{below-at, sum_list-append}
 use Rattle.look_ahead_laws.proofs.Spreading.{rate_within}
 use Rattle.look_ahead_laws.proofs.AheadLaws.{rates_fit, total_is}
 use Rattle.look_ahead.specs.Walk.{not_put_off, next_rates, next_first}
-use Rattle.look_ahead.proofs.Walk.{Walked, walked_step}
+use Rattle.look_ahead.proofs.Walked.{Walked, walked_step}
 
 left_most : (done : Bool) (used worst : ℕ) → (if done then 0 else worst - used) ≤ worst
 left_most true used worst = omega arith
@@ -40,12 +40,19 @@ module _ (plan : Plan) (s : StateOf) where
   order_long : length (edf_order plan s) ≡ count plan
   order_long = length-in_order (deadline_at s) (count plan)
 
-  -- the task at a place of the sorted array
-  pub task_is : (order : List ℕ) (k : ℕ) → take (count plan) order ≡ edf_order plan s → k < count plan → get_or order k 0 ≡ get_or (edf_order plan s) k 0
-  task_is order k made lt = sym (get_or-take (count plan) order k 0 lt) ∙ ap (λ (xs : List ℕ). get_or xs k 0) made
+  -- the task in turn where the last j are done
+  abbrev pub turn : ℕ → ℕ
+  turn j = get_or (edf_order plan s) (count plan - 1 - j) 0
 
-  pub task_below : (k : ℕ) → k < count plan → get_or (edf_order plan s) k 0 < count plan
-  task_below k lt = below-at (count plan) (edf_order plan s) k (in_order-below (deadline_at s) (count plan)) (rw order_long (omega arith))
+  pub turn_below : (j : ℕ) → j < count plan → turn j < count plan
+  turn_below j lt = below-at (count plan) (edf_order plan s) (count plan - 1 - j) (in_order-below (deadline_at s) (count plan)) (rw order_long (omega arith))
+
+  -- it stands in the sorted array
+  pub turn_is : (n j : ℕ) (order : List ℕ) → n ≡ count plan → take n order ≡ in_order (deadline_at s) n → j < n → get_or order (n - 1 - j) 0 ≡ turn j
+  turn_is n j order same made lt =
+      let sorted : take n order ≡ edf_order plan s = made ∙ ap (in_order (deadline_at s)) same in
+      let place : n - 1 - j ≡ count plan - 1 - j = omega arith in
+      sym (get_or-take n order (n - 1 - j) 0 (omega arith)) ∙ (ap (λ (xs : List ℕ). get_or xs (n - 1 - j) 0) sorted ∙ ap (λ (k : ℕ). get_or (edf_order plan s) k 0) place)
 
   -- what a job may need is low
   pub left_low : IsWithinLimits plan → IsOfPlan plan s → (i : ℕ) → i < count plan → wleft_at s i ≤ 2 ^ 61
@@ -78,26 +85,23 @@ module _ (plan : Plan) (s : StateOf) where
     abbrev place : ℕ
     place = count plan - 1 - j
 
-    abbrev here : ℕ
-    here = get_or (edf_order plan s) place 0
-
     -- what is done before the task in turn, and what is to be done after it
-    in_turn : Walked plan s (take place (edf_order plan s) ++ here ∷ []) (drop (count plan - j) (edf_order plan s)) rates first
+    in_turn : Walked plan s (take place (edf_order plan s) ++ turn j ∷ []) (drop (count plan - j) (edf_order plan s)) rates first
     in_turn =
-        let more : take (count plan - j) (edf_order plan s) ≡ take place (edf_order plan s) ++ here ∷ [] =
+        let more : take (count plan - j) (edf_order plan s) ≡ take place (edf_order plan s) ++ turn j ∷ [] =
         (let e : count plan - j ≡ place + 1 = omega arith in rw e (take_more (edf_order plan s) place 0 (rw order_long (omega arith)))) in
         subst (λ (l : List ℕ). Walked plan s l (drop (count plan - j) (edf_order plan s)) rates first) more was
 
-    pub done_next : Done (j + 1) (next_rates plan s here rates) (next_first plan s here rates first)
+    pub done_next : Done (j + 1) (next_rates plan s (turn j) rates) (next_first plan s (turn j) rates first)
     done_next =
         let at : count plan - (j + 1) ≡ place = omega arith in
-        let less : drop place (edf_order plan s) ≡ here ∷ drop (count plan - j) (edf_order plan s) =
+        let less : drop place (edf_order plan s) ≡ turn j ∷ drop (count plan - j) (edf_order plan s) =
         (let e : count plan - j ≡ place + 1 = omega arith in rw e (drop_more (edf_order plan s) place 0 (rw order_long (omega arith)))) in
-        rw (at, less) (walked_step plan s (take place (edf_order plan s)) (drop (count plan - j) (edf_order plan s)) here rates first in_turn)
+        rw (at, less) (walked_step plan s (take place (edf_order plan s)) (drop (count plan - j) (edf_order plan s)) (turn j) rates first in_turn)
 
     -- the task's own rate is in the sum
-    pub has_rate : rate plan here ≤ rates
-    has_rate = let a = sum_list-append (rate plan) (take place (edf_order plan s)) (here ∷ []) in omega (arith, a, in_turn.rates_are)
+    pub has_rate : rate plan (turn j) ≤ rates
+    has_rate = let a = sum_list-append (rate plan) (take place (edf_order plan s)) (turn j ∷ []) in omega (arith, a, in_turn.rates_are)
 
     -- the sum is within what the highest speed has
     pub rates_low : IsAdmitted plan → ServesEdf plan.scheduler → rates ≤ top_speed plan * hyper plan
