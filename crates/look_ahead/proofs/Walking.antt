@@ -30,12 +30,6 @@ first_by : (b : Bool) (first w room : ℕ) → (if b then first + w else first +
 first_by true first w room = omega arith
 first_by false first w room = omega arith
 
--- what the highest speed does in a hyperperiod
-pub most_low : (plan : Plan) → IsWithinLimits plan → top_speed plan * hyper plan ≤ 1000000 * 2 ^ 48
-most_low plan lim =
-    mul-le (top_speed plan) (hyper plan) 1000000 (2 ^ 48)
-    (lim.machine.each (length plan.machine.points - 1) (let some = lim.machine.some in omega arith)).low_speed (low_hyper plan lim)
-
 module _ (plan : Plan) (s : StateOf) where
   order_long : length (edf_order plan s) ≡ count plan
   order_long = length-in_order (deadline_at s) (count plan)

@@ -48,7 +48,7 @@ closed_row row n none open_job most =
     ]
 
 -- one task of the load
-abbrev pub term : ℕ → ℕ → ℕ → Row → ℕ
+abbrev term : ℕ → ℕ → ℕ → Row → ℕ
 term h d u row = if nat_le row.deadline d then h * row_wleft row + u * (d - row.deadline) else 0
 
 -- the load, task by task
