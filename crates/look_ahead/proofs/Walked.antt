@@ -1,9 +1,9 @@
 -- The walk from the last task to the first gives the demand.
-use Rattle.std.proofs.Common.{◌≡◌, inl, inr, ℕ, ◌+◌, ◌-◌, ◌*◌, min, true, false, List, [], ◌∷◌, ◌++◌, refl, sym, ◌∙◌, ap, arith, append_assoc}
+use Rattle.std.proofs.Common.{◌≡◌, inl, inr, ℕ, ◌+◌, ◌-◌, ◌*◌, min, true, false, List, [], ◌∷◌, ◌++◌, refl, ◌∙◌, ap, arith, append_assoc}
 use Rattle.std.specs.Prelude.{◌/◌, nat_eq}
 use Rattle.std.proofs.lemmas.Bool.{cases_Bool}
 use Rattle.grid_fraction.specs.Numbers.{ceil_div}
-use Rattle.sched_model.specs.Plan.{Plan, count, hyper, rate, top_speed}
+use Rattle.sched_model.specs.Plan.{Plan, hyper, rate, top_speed}
 use Rattle.sched_model.specs.AheadDemand.{slack, put_off, spread_rate, spread_rates, due_first}
 use Rattle.sched_model.specs.States.{StateOf}
 use Rattle.sched_model.proofs.OrderLemmas.{sum_list}

@@ -1,17 +1,15 @@
 -- The loop of the walk.
-use Rattle.std.proofs.Common.{◌≡◌, ℕ, zero, suc, ◌+◌, ◌-◌, ◌*◌, ◌^◌, ◌<◌, ◌≤◌, Bool, true, false, List, [], ◌∷◌, ◌++◌, length, get_or, take, drop, refl, sym, ◌∙◌, ap, subst, arith}
+use Rattle.std.proofs.Common.{◌≡◌, ℕ, ◌+◌, ◌-◌, ◌*◌, ◌^◌, ◌<◌, ◌≤◌, Bool, true, false, List, [], ◌∷◌, ◌++◌, length, get_or, take, drop, refl, sym, ◌∙◌, ap, subst, arith}
 use Rattle.std.specs.Prelude.{◌/◌, nat_eq, if◌then◌else◌}
 use Rattle.std.proofs.Math.ListN.{drop_of_length-le}
-use Rattle.std.proofs.lemmas.Nat.{mul-le}
 use Rattle.std.proofs.lemmas.List.{append-nil, take_more, drop_more, take_all, get_or-take}
-use Rattle.freq_table.proofs.Chosen.{below_highest}
 use Rattle.sched_model.specs.Plan.{Plan, count, worst, hyper, rate, top_speed}
 use Rattle.sched_model.specs.Order.{in_order}
 use Rattle.sched_model.specs.Tests.{total_rate}
 use Rattle.sched_model.specs.Admission.{IsWithinLimits, IsAdmitted}
 use Rattle.sched_model.specs.States.{StateOf, row_at, IsOfPlan}
 use Rattle.sched_model.specs.AheadDemand.{slack}
-use Rattle.sched_model.proofs.Limits.{some_hyper, low_hyper}
+use Rattle.sched_model.proofs.Limits.{some_hyper}
 use Rattle.sched_model.proofs.OrderLemmas.{sum_list, in_order-below, length-in_order}
 use Rattle.governor.specs.Steps.{wleft_at}
 use Rattle.governor.specs.Serving.{ServesEdf}
@@ -19,7 +17,7 @@ use Rattle.look_ahead_laws.specs.Ahead.{deadline_at, edf_order}
 use Rattle.look_ahead_laws.proofs.EdfOrder.{below-at, sum_list-append}
 use Rattle.look_ahead_laws.proofs.Spreading.{rate_within}
 use Rattle.look_ahead_laws.proofs.AheadLaws.{rates_fit, total_is}
-use Rattle.look_ahead.specs.Walk.{not_put_off, next_rates, next_first}
+use Rattle.look_ahead.specs.Walk.{next_rates, next_first}
 use Rattle.look_ahead.proofs.Walked.{Walked, walked_step}
 
 left_most : (done : Bool) (used worst : ℕ) → (if done then 0 else worst - used) ≤ worst

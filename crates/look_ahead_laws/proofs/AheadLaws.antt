@@ -1,19 +1,17 @@
 -- The laws of look-ahead EDF.
-use Rattle.std.proofs.Common.{◌≡◌, inl, inr, ℕ, ◌+◌, ◌-◌, ◌*◌, ◌^◌, ◌<◌, ◌≤◌, Bool, true, false, List, [], ◌∷◌, ◌++◌, length, refl, sym, ◌∙◌, ap, arith}
-use Rattle.std.proofs.Math.Nat.{mul-le-mul_left, mul-le-mul_right, le_trans}
+use Rattle.std.proofs.Common.{◌≡◌, inl, inr, ℕ, ◌+◌, ◌-◌, ◌*◌, ◌^◌, ◌<◌, ◌≤◌, List, ◌∷◌, ◌++◌, length, refl, sym, ◌∙◌, ap, arith}
+use Rattle.std.proofs.Math.Nat.{mul-le-mul_left, mul-le-mul_right}
 use Rattle.std.proofs.lemmas.Bool.{lt-leb, cases_lt}
 use Rattle.dvs_base.specs.declared.kind.GovernorKind.TheVariants.{Ahead}
 use Rattle.grid_fraction.specs.declared.Frac.{Frac}
-use Rattle.grid_fraction.specs.Fraction.{meets}
 use Rattle.grid_fraction.proofs.Least.{least-below, least-above}
 use Rattle.freq_table.specs.declared.machine.Pick.{Pick}
 use Rattle.freq_table.specs.Tables.{Table, speed_at, last_entry, highest_speed, lowest_entry, IsTable}
 use Rattle.freq_table.proofs.Chosen.{below_highest, lowest_within, picked_meets, pick_none}
 use Rattle.sched_model.specs.Plan.{Plan, count, hyper, rate, top_speed}
-use Rattle.sched_model.specs.Order.{in_order}
 use Rattle.sched_model.specs.Priority.{sum_before}
 use Rattle.sched_model.specs.Tests.{total_rate}
-use Rattle.sched_model.specs.AheadDemand.{first_due, spread_rates}
+use Rattle.sched_model.specs.AheadDemand.{spread_rates}
 use Rattle.sched_model.specs.Admission.{IsAdmitted}
 use Rattle.sched_model.specs.States.{StateOf}
 use Rattle.sched_model.proofs.Limits.{some_task, some_hyper}

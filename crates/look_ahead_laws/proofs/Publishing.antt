@@ -1,9 +1,7 @@
 -- The published demand of look-ahead is that of the state.
 use Rattle.std.proofs.Common.{◌≡◌, ℕ, ◌+◌, ◌-◌, ◌<◌, List, [], ◌∷◌, length, refl, sym, ◌∙◌, ap, ap₂, subst}
 use Rattle.dvs_base.specs.declared.kind.Scheduler.{Scheduler}
-use Rattle.dvs_base.specs.declared.kind.Scheduler.TheVariants.{Edf}
 use Rattle.dvs_base.specs.declared.kind.GovernorKind.TheVariants.{Ahead}
-use Rattle.grid_fraction.specs.declared.Frac.{Frac}
 use Rattle.grid_fraction.proofs.Least.{least-same}
 use Rattle.sched_model.specs.declared.state.Row.{Row}
 use Rattle.sched_model.specs.Plan.{Plan, count, rate}

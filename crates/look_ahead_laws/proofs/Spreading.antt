@@ -1,7 +1,7 @@
 -- What is put off fits in the time after the earliest deadline: the rates stay within the highest speed, and are enough.
 use Rattle.std.proofs.Common.{◌≡◌, inl, inr, ℕ, zero, suc, ◌+◌, ◌-◌, ◌*◌, ◌<◌, ◌≤◌, min, Bool, true, false, List, [], ◌∷◌, ◌++◌, refl, sym, ◌∙◌, ap, arith, append_assoc}
 use Rattle.std.specs.Prelude.{◌/◌, ◌%◌, nat_eq, nat_le, if◌then◌else◌}
-use Rattle.std.proofs.Math.Nat.{mul-le-mul_left, mul-le-mul_right, mul-zero, le_trans, div-mul-le_self}
+use Rattle.std.proofs.Math.Nat.{mul-le-mul_right, mul-zero, le_trans, div-mul-le_self}
 use Rattle.std.proofs.lemmas.Nat.{div_below, mod_below, div-add-mod'}
 use Rattle.std.proofs.lemmas.Bool.{le-leb, lt-leb, cases_lt, eqb-false}
 use Rattle.grid_fraction.proofs.Least.{least-below}
@@ -9,7 +9,7 @@ use Rattle.sched_model.specs.Plan.{Plan, count, hyper, rate, top_speed}
 use Rattle.sched_model.specs.Priority.{sum_before}
 use Rattle.sched_model.specs.Order.{in_order}
 use Rattle.sched_model.specs.AheadDemand.{first_due, slack, put_off, spread_rate, spread_rates, due_first}
-use Rattle.sched_model.proofs.OrderLemmas.{sum_list, IsAhead, IsOrdered, AreBelow, in_order-below, in_order-ordered, sum_before-prefix}
+use Rattle.sched_model.proofs.OrderLemmas.{sum_list, IsAhead, IsOrdered, AreBelow, in_order-ordered, sum_before-prefix}
 use Rattle.look_ahead_laws.proofs.EdfOrder.{key_rises, sum_list-append}
 
 -- ONE TASK, over plain numbers: y is put off, v is its rate

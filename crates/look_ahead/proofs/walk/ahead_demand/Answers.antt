@@ -1,6 +1,6 @@
-use Rattle.std.proofs.Common.{◌≡◌, ℕ, ◌+◌, ◌-◌, ◌<◌, ◌≤◌, slice_index_or, ◌∙◌, ap, subst, arith}
+use Rattle.std.proofs.Common.{◌≡◌, ℕ, ◌<◌, ◌∙◌, ap, arith}
 use Rattle.dvs_base.specs.declared.kind.Scheduler.{Scheduler}
-use Rattle.sched_model.specs.Plan.{Plan, count, rate}
+use Rattle.sched_model.specs.Plan.{count}
 use Rattle.sched_model.specs.StaticDemand.{static_demand_of}
 use Rattle.sched_model.specs.Tests.{total_rate}
 use Rattle.sched_model.specs.States.{StateOf}
