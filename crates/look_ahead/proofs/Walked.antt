@@ -9,7 +9,7 @@ use Rattle.sched_model.specs.States.{StateOf}
 use Rattle.sched_model.proofs.OrderLemmas.{sum_list}
 use Rattle.governor.specs.Steps.{wleft_at}
 use Rattle.look_ahead_laws.specs.Ahead.{deadline_at, edf_order}
-use Rattle.look_ahead_laws.proofs.EdfOrder.{sum_list-append}
+use Rattle.look_ahead_laws.proofs.EdfOrder.{sum_list-snoc}
 use Rattle.look_ahead_laws.proofs.Spreading.{before_is}
 use Rattle.look_ahead.specs.Walk.{not_put_off, next_rates, next_first}
 
@@ -40,13 +40,10 @@ module _ (plan : Plan) (s : StateOf) where
     pub rates_are : rates ≡ sum_list (rate plan) l + spread_rates plan due left xs
     pub first_is : first ≡ due_first plan due left xs
 
-  front_is : (l : List ℕ) (i : ℕ) → sum_list (rate plan) (l ++ i ∷ []) ≡ sum_list (rate plan) l + rate plan i
-  front_is l i = let a = sum_list-append (rate plan) l (i ∷ []) in omega (arith, a)
-
   walked_flat : (l xs : List ℕ) (i rates first : ℕ) → nat_eq (slack plan due i) 0 ≡ true → Walked (l ++ i ∷ []) xs rates first → Walked l (i ∷ xs) rates (first + left i)
   walked_flat l xs i rates first flat was = record {
     order = was.order ∙ append_assoc l (i ∷ []) xs;
-    rates_are = (let e : spread_rate plan due left (spread_rates plan due left xs) i ≡ rate plan i = rw flat refl in omega (arith, was.rates_are, front_is l i, e));
+    rates_are = (let e : spread_rate plan due left (spread_rates plan due left xs) i ≡ rate plan i = rw flat refl in omega (arith, was.rates_are, sum_list-snoc (rate plan) l i, e));
     first_is = (let e : put_off plan due left (spread_rates plan due left xs) i ≡ 0 = rw flat refl in omega (arith, was.first_is, e));
   }
 
@@ -60,7 +57,7 @@ module _ (plan : Plan) (s : StateOf) where
       let u = rate plan i in
       let w = left i in
       let most = top_speed plan * hyper plan in
-      let sum_is : rates ≡ pre + u + after = omega (arith, was.rates_are, front_is l i) in
+      let sum_is : rates ≡ pre + u + after = omega (arith, was.rates_are, sum_list-snoc (rate plan) l i) in
       let y : put_off plan due left after i ≡ min w ((most - pre - after) * slack plan due i / hyper plan) = rw slope (ap (λ (m : ℕ). min w ((most - m - after) * slack plan due i / hyper plan)) before) in
       let v : spread_rate plan due left after i ≡ ceil_div (min w ((most - pre - after) * slack plan due i / hyper plan) * hyper plan) (slack plan due i) =
       rw slope (ap (λ (m : ℕ). ceil_div (m * hyper plan) (slack plan due i)) (let z = rw slope at y in z)) in

@@ -14,7 +14,7 @@ use Rattle.sched_model.proofs.OrderLemmas.{sum_list, in_order-below, length-in_o
 use Rattle.governor.specs.Steps.{wleft_at}
 use Rattle.governor.specs.Serving.{ServesEdf}
 use Rattle.look_ahead_laws.specs.Ahead.{deadline_at, edf_order}
-use Rattle.look_ahead_laws.proofs.EdfOrder.{below-at, sum_list-append}
+use Rattle.look_ahead_laws.proofs.EdfOrder.{below-at, sum_list-append, sum_list-snoc}
 use Rattle.look_ahead_laws.proofs.Spreading.{rate_within}
 use Rattle.look_ahead_laws.proofs.AheadLaws.{rates_fit, total_is}
 use Rattle.look_ahead.specs.Walk.{next_rates, next_first}
@@ -77,7 +77,7 @@ module _ (plan : Plan) (s : StateOf) where
     abbrev place : ℕ
     place = count plan - 1 - j
 
-    -- what is done before the task in turn, and what is to be done after it
+    -- the tasks still to come end with the one in turn
     in_turn : Walked plan s (take place (edf_order plan s) ++ turn j ∷ []) (drop (count plan - j) (edf_order plan s)) rates first
     in_turn =
         let more : take (count plan - j) (edf_order plan s) ≡ take place (edf_order plan s) ++ turn j ∷ [] =
@@ -93,7 +93,7 @@ module _ (plan : Plan) (s : StateOf) where
 
     -- the task's own rate is in the sum
     pub has_rate : rate plan (turn j) ≤ rates
-    has_rate = let a = sum_list-append (rate plan) (take place (edf_order plan s)) (turn j ∷ []) in omega (arith, a, in_turn.rates_are)
+    has_rate = omega (arith, sum_list-snoc (rate plan) (take place (edf_order plan s)) (turn j), in_turn.rates_are)
 
     -- the sum is within what the highest speed has
     pub rates_low : IsAdmitted plan → ServesEdf plan.scheduler → rates ≤ top_speed plan * hyper plan

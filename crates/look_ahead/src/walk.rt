@@ -12,8 +12,8 @@ use crate::order::edf_order;
 use grid_fraction::{Frac, mul_down, up};
 use sched_model::{Admitted, Row, State};
 
-// The running sums of the walk: the rates of the tasks, over the hyperperiod, and the work units that have to run before
-// the earliest deadline.
+// Of one task, or of the walk so far: rates in work units per hyperperiod, and the work units that have to run before the
+// earliest deadline.
 #[derive(Clone, Copy)]
 struct Totals {
     rates: u128,

@@ -26,6 +26,9 @@ pub sum_list-append : (f : ℕ → ℕ) (xs ys : List ℕ) → sum_list f (xs ++
 sum_list-append f [] ys = omega arith
 sum_list-append f (x ∷ xs) ys = omega (arith, sum_list-append f xs ys)
 
+pub sum_list-snoc : (f : ℕ → ℕ) (xs : List ℕ) (i : ℕ) → sum_list f (xs ++ i ∷ []) ≡ sum_list f xs + f i
+sum_list-snoc f xs i = omega (arith, sum_list-append f xs (i ∷ []))
+
 pub in_order-none : (key : ℕ → ℕ) → in_order key 0 ≡ []
 unfolding in_order
 in_order-none key = refl

@@ -10,7 +10,7 @@ use Rattle.sched_model.specs.Priority.{sum_before}
 use Rattle.sched_model.specs.Order.{in_order}
 use Rattle.sched_model.specs.AheadDemand.{first_due, slack, put_off, spread_rate, spread_rates, due_first}
 use Rattle.sched_model.proofs.OrderLemmas.{sum_list, IsAhead, IsOrdered, AreBelow, in_order-ordered, sum_before-prefix}
-use Rattle.look_ahead_laws.proofs.EdfOrder.{key_rises, sum_list-append}
+use Rattle.look_ahead_laws.proofs.EdfOrder.{key_rises, sum_list-snoc}
 
 -- ONE TASK, over plain numbers: y is put off, v is its rate
 
@@ -138,7 +138,7 @@ module _ (plan : Plan) (due left : ℕ → ℕ) where
       → sum_list (rate plan) l + spread_rates plan due left xs ≤ top_speed plan * hyper plan
   rate_within l [] e ph fits = fits
   rate_within l (i ∷ xs) e ph fits =
-      let next : sum_list (rate plan) (l ++ i ∷ []) ≡ sum_list (rate plan) l + rate plan i = (let a = sum_list-append (rate plan) l (i ∷ []) in omega (arith, a)) in
+      let next : sum_list (rate plan) (l ++ i ∷ []) ≡ sum_list (rate plan) l + rate plan i = sum_list-snoc (rate plan) l i in
       let ih = rate_within (l ++ i ∷ []) xs (e ∙ sym (append_assoc l (i ∷ []) xs)) ph (omega (arith, next)) in
       let after = spread_rates plan due left xs in
       let room : sum_list (rate plan) l + rate plan i + after ≤ top_speed plan * hyper plan = omega (arith, next, ih) in
@@ -155,7 +155,7 @@ module _ (plan : Plan) (due left : ℕ → ℕ) where
             let same : past_rate x (i ∷ xs) ≡ spread_rates plan due left (i ∷ xs) = (let b : nat_le (slack plan due i) x ≡ false = lt-leb (slack plan due i) x before in rw b (omega (arith, all_spread x i xs before order.0))) in
             rw same (rate_within l (i ∷ xs) e ph fits)
         | inr past ↦
-            let next : sum_list (rate plan) (l ++ i ∷ []) ≡ sum_list (rate plan) l + rate plan i = (let a = sum_list-append (rate plan) l (i ∷ []) in omega (arith, a)) in
+            let next : sum_list (rate plan) (l ++ i ∷ []) ≡ sum_list (rate plan) l + rate plan i = sum_list-snoc (rate plan) l i in
             let ih = past_within x (l ++ i ∷ []) xs (e ∙ sym (append_assoc l (i ∷ []) xs)) order.1 ph (omega (arith, next)) in
             rw (le-leb (slack plan due i) x past) (omega (arith, next, ih))
       ]

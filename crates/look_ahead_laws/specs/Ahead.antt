@@ -20,9 +20,10 @@ edf_order plan s = in_order (deadline_at s) (count plan)
 abbrev pub ahead_demand : Plan → StateOf → Frac
 ahead_demand plan s = ahead_of plan (deadline_at s) (wleft_at s) s.now
 
--- what holds from boundary to boundary, and what holds while an entry is in force: as for the governor none
+-- what holds from boundary to boundary: the work due by each tick fits at the highest speed, as for the governor none
 abbrev pub AheadCalm : Plan → StateOf → Type 0
 AheadCalm plan s = EdfCalm (top_speed plan) plan s
 
+-- what holds while the entry k is in force: it fits at that entry up to the earliest deadline, and at the highest speed from there on
 abbrev pub AheadSafe : Plan → StateOf → ℕ → Type 0
 AheadSafe plan s k = EdfSafe (top_speed plan) plan s k
