@@ -1,0 +1,81 @@
+-- The laws of cycle-conserving RM.
+use Rattle.std.proofs.Common.{◌≡◌, ℕ, ◌+◌, ◌-◌, ◌*◌, ◌^◌, ◌<◌, ◌≤◌, true, length, arith}
+use Rattle.std.proofs.Math.Nat.{mul-le-mul_right}
+use Rattle.std.proofs.lemmas.Bool.{le-leb}
+use Rattle.dvs_base.specs.declared.kind.Scheduler.TheVariants.{Rm}
+use Rattle.dvs_base.specs.declared.kind.GovernorKind.TheVariants.{Cycle}
+use Rattle.grid_fraction.specs.declared.Frac.{Frac}
+use Rattle.grid_fraction.specs.Fraction.{meets}
+use Rattle.grid_fraction.proofs.Least.{least-below, least-above}
+use Rattle.grid_fraction.proofs.Searches.{first_from-most}
+use Rattle.freq_table.specs.Tables.{Table, speed_at, lowest_entry, lowest_pick}
+use Rattle.freq_table.proofs.Chosen.{speeds_rise, below_highest, lowest_within, picked_meets, picked_met}
+use Rattle.sched_model.specs.Plan.{Plan, count, top_speed}
+use Rattle.sched_model.specs.StaticDemand.{rm_static, static_speed}
+use Rattle.sched_model.specs.Admission.{IsAdmitted}
+use Rattle.sched_model.specs.States.{StateOf, row_at}
+use Rattle.sched_model.proofs.Limits.{some_task}
+use Rattle.governor.specs.Steps.{earliest, IsAtDecision}
+use Rattle.governor.specs.Laws.{GovernorLaws}
+use Rattle.governor.specs.Serving.{ServesRm}
+use Rattle.cc_rm_laws.specs.Allotments.{cycle_demand}
+use Rattle.cc_rm_laws.specs.Conditions.{CcRmCalm, CcRmSafe}
+use Rattle.cc_rm_laws.proofs.Deadlines.{cc_rm_completes}
+use Rattle.cc_rm_laws.proofs.Marks.{cc_rm_opens, cc_rm_releases}
+use Rattle.cc_rm_laws.proofs.Running.{cc_rm_enough, cc_rm_ticks}
+
+-- the lowest entry that meets a demand is at most any that does
+lowest-most : (m : Table) (d : Frac) (k : ℕ) → d.num ≤ speed_at m k * d.den → lowest_entry m d ≤ k
+lowest-most m d k h = omega (arith, first_from-most n 0 k (λ e. meets (speed_at m e) d) (omega arith) (le-leb d.num (speed_at m k * d.den) h))
+  where
+    n : ℕ
+    n = length m.points
+
+module _ (plan : Plan) (adm : IsAdmitted plan) (s : StateOf) where
+  abbrev static_entry : ℕ
+  static_entry = lowest_entry plan.machine (rm_static plan)
+
+  static_within : static_entry < length plan.machine.points
+  static_within = lowest_within plan.machine (rm_static plan) adm.limits.machine.some
+
+  demand_below_top : CcRmCalm plan s → (cycle_demand plan s).num ≤ top_speed plan * (cycle_demand plan s).den
+  demand_below_top calm =
+      let most : static_speed plan ≤ top_speed plan = below_highest plan.machine adm.limits.machine static_entry static_within in
+      omega (arith, calm.total, mul-le-mul_right (earliest plan s - s.now) most)
+
+  chooses : CcRmCalm plan s → CcRmSafe plan s (lowest_entry plan.machine (cycle_demand plan s))
+  chooses calm = record {
+    calm = calm;
+    enough = picked_meets plan.machine adm.limits.machine (cycle_demand plan s) (demand_below_top calm);
+    slower =
+        speeds_rise plan.machine adm.limits.machine (lowest_entry plan.machine (cycle_demand plan s)) static_entry
+        (lowest-most plan.machine (cycle_demand plan s) static_entry calm.total) static_within;
+  }
+
+  meets_it : CcRmCalm plan s → (lowest_pick plan.machine (cycle_demand plan s)).met ≡ true
+  meets_it calm = picked_met plan.machine adm.limits.machine (cycle_demand plan s) (demand_below_top calm)
+
+  low_den : IsAtDecision plan s → (0 < (cycle_demand plan s).den) × ((cycle_demand plan s).den ≤ 2 ^ 64)
+  low_den dec =
+      let some = some_task plan adm.limits in
+      let next : s.now + 1 ≤ earliest plan s = least-above (count plan) (λ i. (row_at s i).deadline) (s.now + 1) some (λ i h. omega (arith, dec.before i h)) in
+      let first = least-below (count plan) (λ i. (row_at s i).deadline) 0 some in
+      let soon = dec.soon 0 some in
+      (omega arith, omega arith)
+
+-- all laws of cycle-conserving RM
+pub cc_rm_laws : GovernorLaws Cycle ServesRm cycle_demand CcRmCalm CcRmSafe
+cc_rm_laws = record {
+  low_den = λ plan s adm rm of dec. low_den plan adm s dec;
+  opens = λ plan adm rm. cc_rm_opens plan;
+  releases = λ plan dem s adm rm bel calm. cc_rm_releases plan adm rm dem s bel calm;
+  chooses = λ plan dem s adm rm bel dec calm. chooses plan adm s calm;
+  meets = λ plan dem s adm rm bel dec calm kind. meets_it plan adm s calm;
+  ticks = λ plan dem s k shares adm rm bel before within legal safe. record {
+    calm = cc_rm_ticks plan adm rm dem s bel (speed_at plan.machine k) shares before legal safe.slower safe.calm safe.enough;
+    enough = cc_rm_enough plan adm rm dem s bel (speed_at plan.machine k) shares before legal safe.enough;
+    slower = safe.slower;
+  };
+  stays_calm = λ plan dem s k adm rm bel safe. safe.calm;
+  completes = λ plan dem s adm rm bel calm. cc_rm_completes plan adm dem s bel rm calm;
+}

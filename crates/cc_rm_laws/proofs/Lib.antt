@@ -1,0 +1,8 @@
+pub mod Allotting
+pub mod Lefts
+pub mod Backlog
+pub mod Deadlines
+pub mod Marks
+pub mod Running
+pub mod CcRmLaws
+pub mod Publishing

@@ -1,0 +1,147 @@
+-- The published demand of cycle-conserving RM is that of the state.
+use Rattle.std.proofs.Common.{◌≡◌, ℕ, zero, suc, ◌+◌, ◌-◌, ◌*◌, ◌<◌, ◌≤◌, Bool, true, false, List, [], ◌∷◌, length, drop, refl, sym, ◌∙◌, ap, ap₂, subst, arith, if◌then◌else◌, nat_eq, nat_le, true≢false}
+use Rattle.std.proofs.Common.{length-drop}
+use Rattle.std.proofs.lemmas.Bool.Decides.{nat_tests}
+use Rattle.dvs_base.specs.declared.kind.Scheduler.{Scheduler}
+use Rattle.dvs_base.specs.declared.kind.Scheduler.TheVariants.{Rm}
+use Rattle.dvs_base.specs.declared.kind.GovernorKind.TheVariants.{Cycle}
+use Rattle.grid_fraction.specs.declared.Frac.{Frac}
+use Rattle.grid_fraction.specs.Numbers.{sum_below, last_up_to}
+use Rattle.grid_fraction.proofs.Sums.{sum_below-same}
+use Rattle.grid_fraction.proofs.Least.{least-same}
+use Rattle.grid_fraction.proofs.Searches.{any_below-false}
+use Rattle.sched_model.specs.declared.state.Row.{Row}
+use Rattle.sched_model.specs.Plan.{Plan, count, period, worst}
+use Rattle.sched_model.specs.Jobs.{release, due, latest, deadline, releases_at, is_release, last_release}
+use Rattle.sched_model.specs.Jobs.{earliest as earliest_at}
+use Rattle.sched_model.specs.Ticks.{Tick, at, exec, is_complete, wleft}
+use Rattle.sched_model.specs.CycleDemand.{allotted as allotted_at, had_since_release, allotment_left as allotment_left_at, rm_cycle}
+use Rattle.sched_model.specs.Priority.{allotment}
+use Rattle.sched_model.specs.StaticDemand.{static_speed}
+use Rattle.sched_model.specs.Demand.{demand_by, published}
+use Rattle.sched_model.specs.Demands.{IsWithin}
+use Rattle.sched_model.specs.Admission.{IsAdmitted}
+use Rattle.sched_model.specs.States.{StateOf, no_row, row_at, row_wleft, row_of, state_of}
+use Rattle.sched_model.proofs.Limits.{some_period}
+use Rattle.sched_model.proofs.JobLaws.{lt-due, latest-stays, latest-next, release-suc}
+use Rattle.sched_model.proofs.Tables.{get-table}
+use Rattle.governor.specs.Steps.{wleft_at, earliest}
+use Rattle.governor.specs.Schedule.{Publishes}
+use Rattle.cc_rm_laws.specs.Allotments.{base_of, allotted, had_since_mark, allotment_left, cycle_demand}
+use Rattle.cc_rm_laws.proofs.Allotting.{allotment-same}
+
+-- a job has had no more at an earlier tick
+exec-drop : (p : Plan) (i k n : ℕ) (past : List Tick) → exec p (drop n past) i k ≤ exec p past i k
+exec-drop p i k zero past = omega arith
+exec-drop p i k (suc n) [] = omega arith
+exec-drop p i k (suc n) (x ∷ past) = omega (arith, exec-drop p i k n past)
+
+-- what a job has had since the mark, by what it might need at most then and now
+since_mark : (worst need now first : ℕ) → first ≤ now → now < need → need ≤ worst → (worst - first) - (worst - now) ≡ now - first
+since_mark worst need now first a b c = omega arith
+
+module _ (p : Plan) (adm : IsAdmitted p) where
+  -- where no job of task i is released, the latest stays
+  job-stays : (t i : ℕ) → i < count p → releases_at p i (suc t) ≡ false → latest p i (suc t) ≡ latest p i t
+  job-stays t i h none = go (nat_eq (suc t) (due p i (latest p i t))) refl
+    where
+      some : 0 < period p i
+      some = some_period p adm.limits i h
+
+      next : suc t ≡ t + 1
+      next = omega arith
+
+      go : (b : Bool) → nat_eq (suc t) (due p i (latest p i t)) ≡ b → latest p i (suc t) ≡ latest p i t
+      go true e =
+          let is_due : suc t ≡ due p i (latest p i t) = grind (arith, nat_tests) in
+          let job : latest p i (suc t) ≡ latest p i t + 1 = ap (latest p i) next ∙ latest-next p i t some (omega (arith, is_due)) in
+          let there : release p i (latest p i (suc t)) ≡ suc t = ap (release p i) job ∙ (release-suc p i (latest p i t) ∙ sym is_due) in
+          absurd (grind (arith, nat_tests, none, there))
+      go false e =
+          let other : (suc t ≡ due p i (latest p i t)) → ⊥ = grind (arith, nat_tests) in
+          ap (latest p i) next ∙ latest-stays p i t some (omega (arith, lt-due p i t some, other))
+
+  -- the last release is at most now, and no task has one after it
+  since-release : (t : ℕ) → (last_release p t ≤ t) × ((i : ℕ) → i < count p → latest p i (last_release p t) ≡ latest p i t)
+  since-release zero = (omega arith, λ i h. refl)
+  since-release (suc t) = go (is_release p (suc t)) refl (since-release t)
+    where
+      go : (b : Bool) → is_release p (suc t) ≡ b → (last_release p t ≤ t) × ((i : ℕ) → i < count p → latest p i (last_release p t) ≡ latest p i t)
+          → (last_release p (suc t) ≤ suc t) × ((i : ℕ) → i < count p → latest p i (last_release p (suc t)) ≡ latest p i (suc t))
+      go true e ih = (rw (e, last_up_to) (omega arith), λ i h. rw (e, last_up_to) refl)
+      go false e ih = (
+        rw (e, last_up_to) (omega (arith, ih.0)),
+        λ i h. rw (e, last_up_to) (ih.1 i h ∙ sym (job-stays t i h (any_below-false (count p) (λ j. releases_at p j (suc t)) e i h))),
+      )
+
+  module _ (dem : ℕ → ℕ → ℕ) (within : IsWithin p dem) (past : List Tick) where
+    abbrev now : ℕ
+    now = length past
+
+    abbrev mark : ℕ
+    mark = last_release p now
+
+    abbrev here : StateOf
+    here = state_of p dem past
+
+    row-is : (i : ℕ) → i < count p → row_at here i ≡ row_of p dem past i
+    row-is i h = get-table (count p) (row_of p dem past) i no_row h
+
+    base-is : (i : ℕ) → i < count p → base_of here i ≡ wleft p dem (at mark past) i
+    base-is i h = get-table (count p) (wleft p dem (at mark past)) i 0 h
+
+    mark-long : length (at mark past) ≡ mark
+    mark-long = omega (arith, (since-release now).0, length-drop (now - mark) past)
+
+    -- the earliest deadline at the mark is that of the state
+    first-is : earliest_at p mark ≡ earliest p here
+    first-is =
+        least-same (count p) (λ i. deadline p i mark) (λ i. (row_at here i).deadline)
+        (λ i h. ap (due p i) ((since-release now).1 i h) ∙ sym (ap (λ (row : Row). row.deadline) (row-is i h)))
+
+    allotted-is : (i : ℕ) → i < count p → allotted_at p dem past i ≡ allotted p here i
+    allotted-is i h =
+        ap (λ (n : ℕ). allotment (count p) (period p) ((n - mark) * static_speed p) (wleft p dem (at mark past)) i) first-is
+        ∙ sym (allotment-same (count p) (period p) ((earliest p here - mark) * static_speed p) (base_of here) (wleft p dem (at mark past)) base-is i h)
+
+    -- what an open job has had since the mark
+    had-is : (i : ℕ) → i < count p → is_complete p dem past i ≡ false → had_since_release p past i ≡ had_since_mark here i
+    had-is i h open_job =
+        let k = latest p i now in
+        let job : latest p i mark ≡ k = (since-release now).1 i h in
+        let job_then : latest p i (length (at mark past)) ≡ k = ap (latest p i) mark-long ∙ job in
+        let had : had_since_release p past i ≡ exec p past i k - exec p (at mark past) i k = ap (λ (m : ℕ). exec p past i m - exec p (at mark past) i m) job in
+        let less : exec p past i k < dem i k = grind (arith, nat_tests) in
+        let most = within i k h in
+        let fewer = exec-drop p i k (now - mark) past in
+        let open_then : nat_le (dem i k) (exec p (at mark past) i k) ≡ false = go (nat_le (dem i k) (exec p (at mark past) i k)) refl less fewer in
+        let base : base_of here i ≡ worst p i - exec p (at mark past) i k =
+        base-is i h
+        ∙ (ap (λ (m : ℕ). if nat_le (dem i m) (exec p (at mark past) i m) then 0 else worst p i - exec p (at mark past) i m) job_then
+        ∙ ap (λ (b : Bool). if b then 0 else worst p i - exec p (at mark past) i k) open_then) in
+        let rest : wleft_at here i ≡ worst p i - exec p past i k =
+        ap row_wleft (row-is i h) ∙ ap (λ (b : Bool). if b then 0 else worst p i - exec p past i k) open_job in
+        had
+        ∙ sym (ap₂ (λ a b. a - b) base rest ∙ since_mark (worst p i) (dem i k) (exec p past i k) (exec p (at mark past) i k) fewer less most)
+      where
+        go : {a b c : ℕ} (t : Bool) → nat_le a b ≡ t → c < a → b ≤ c → nat_le a b ≡ false
+        go true e lt le = absurd (grind (arith, nat_tests))
+        go false e lt le = e
+
+    left-is : (i : ℕ) → i < count p → allotment_left_at p dem past i ≡ allotment_left p here i
+    left-is i h = go (is_complete p dem past i) refl ∙ sym (ap (λ (row : Row). if row.done then 0 else allotted p here i - had_since_mark here i) (row-is i h))
+      where
+        go : (b : Bool) → is_complete p dem past i ≡ b
+            → (if is_complete p dem past i then 0 else allotted_at p dem past i - had_since_release p past i) ≡ (if is_complete p dem past i then 0 else allotted p here i - had_since_mark here i)
+        go true e = rw e refl
+        go false e = rw e (ap₂ (λ a b. a - b) (allotted-is i h) (had-is i h e))
+
+    abbrev frac : ℕ → ℕ → Frac
+    frac a b = record { num = a; den = b }
+
+    cycle-is : rm_cycle p dem past ≡ cycle_demand p here
+    cycle-is = ap₂ frac (sum_below-same (count p) (allotment_left_at p dem past) (allotment_left p here) left-is) (ap (λ (n : ℕ). n - now) first-is)
+
+pub published-cycle : (p : Plan) → IsAdmitted p → p.scheduler ≡ Rm → Publishes cycle_demand Cycle p
+unfolding published
+published-cycle p adm rm dem within ask past is = ap (λ (sch : Scheduler). demand_by sch Cycle p dem past) rm ∙ cycle-is p adm dem within past
