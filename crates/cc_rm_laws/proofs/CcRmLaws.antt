@@ -20,7 +20,7 @@ use Rattle.governor.specs.Laws.{GovernorLaws}
 use Rattle.governor.specs.Serving.{ServesRm}
 use Rattle.cc_rm_laws.specs.Allotments.{cycle_demand}
 use Rattle.cc_rm_laws.specs.Conditions.{CcRmCalm, CcRmSafe}
-use Rattle.cc_rm_laws.proofs.Deadlines.{cc_rm_completes}
+use Rattle.cc_rm_laws.proofs.Deadlines.{earliest-later, cc_rm_completes}
 use Rattle.cc_rm_laws.proofs.Marks.{cc_rm_opens, cc_rm_releases}
 use Rattle.cc_rm_laws.proofs.Running.{cc_rm_enough, cc_rm_ticks}
 
@@ -58,7 +58,7 @@ module _ (plan : Plan) (adm : IsAdmitted plan) (s : StateOf) where
   low_den : IsAtDecision plan s → (0 < (cycle_demand plan s).den) × ((cycle_demand plan s).den ≤ 2 ^ 64)
   low_den dec =
       let some = some_task plan adm.limits in
-      let next : s.now + 1 ≤ earliest plan s = least-above (count plan) (λ i. (row_at s i).deadline) (s.now + 1) some (λ i h. omega (arith, dec.before i h)) in
+      let later : s.now < earliest plan s = earliest-later plan adm.limits s dec.before in
       let first = least-below (count plan) (λ i. (row_at s i).deadline) 0 some in
       let soon = dec.soon 0 some in
       (omega arith, omega arith)

@@ -11,17 +11,17 @@ use Rattle.sched_model.specs.Plan.{Plan, count, period, worst}
 use Rattle.sched_model.specs.Jobs.{release, due, latest}
 use Rattle.sched_model.specs.StaticDemand.{static_speed}
 use Rattle.sched_model.specs.Backlog.{backlog}
-use Rattle.sched_model.specs.Admission.{IsAdmitted}
+use Rattle.sched_model.specs.Admission.{IsWithinLimits, IsAdmitted}
 use Rattle.sched_model.specs.States.{StateOf, row_at, row_wleft}
 use Rattle.sched_model.proofs.Limits.{some_task, some_period}
 use Rattle.sched_model.proofs.JobLaws.{latest-is, release-suc, release-due, due-suc}
 use Rattle.sched_model.proofs.LevelSums.{sum_where-term, up_to-self, greatest-above, greatest-least}
-use Rattle.governor.specs.Steps.{is_due, opened_row, after_boundary, wleft_at, release_of, earliest, Belongs}
+use Rattle.governor.specs.Steps.{is_due, opened_row, after_boundary, wleft_at, release_of, earliest, IsBeforeAll, Belongs}
 use Rattle.governor.proofs.Belonging.{in_rows, boundary_at}
 use Rattle.governor.proofs.Ticks.{demand_most}
 use Rattle.one_speed.specs.Rm.{level}
 use Rattle.one_speed.proofs.EdfLaws.{closed_row}
-use Rattle.cc_rm_laws.specs.Allotments.{base_of, allotted, allotment_left}
+use Rattle.cc_rm_laws.specs.Allotments.{base_of, allotted_units, allotted, allotment_left}
 use Rattle.cc_rm_laws.specs.Conditions.{LacksNothing, CcRmCalm}
 use Rattle.cc_rm_laws.proofs.Allotting.{allotment-most}
 use Rattle.cc_rm_laws.proofs.Backlog.{lack, lack_after, lack-is, IsQuiet, quiet_row, lack-none, released-lack, after-least, backlog-empties}
@@ -44,6 +44,10 @@ wleft_by false w u = omega arith
 wleft-most : (row : Row) → row_wleft row ≤ row.worst
 wleft-most row = wleft_by row.done row.worst row.used
 
+-- before all deadlines, the earliest one is later than now
+pub earliest-later : (plan : Plan) → IsWithinLimits plan → (s : StateOf) → IsBeforeAll plan s → s.now < earliest plan s
+earliest-later plan lim s before = least-above (count plan) (λ i. (row_at s i).deadline) (suc s.now) (some_task plan lim) before
+
 module _ (plan : Plan) (adm : IsAdmitted plan) (dem : ℕ → ℕ → ℕ) (s : StateOf) (bel : Belongs plan dem s) where
   pub now-first : s.now ≤ earliest plan s
   now-first = least-above (count plan) (λ i. (row_at s i).deadline) s.now (some_task plan adm.limits) bel.due
@@ -58,7 +62,7 @@ module _ (plan : Plan) (adm : IsAdmitted plan) (dem : ℕ → ℕ → ℕ) (s : 
   base-by = omega (arith, greatest-least (count plan) (λ j. release_of (period plan j) (row_at s j)) s.now bel.released, bel.base_at)
 
   pub allotted-most : (i : ℕ) → allotted plan s i ≤ base_of s i
-  allotted-most i = allotment-most (count plan) (period plan) ((earliest plan s - s.base_at) * static_speed plan) (base_of s) i
+  allotted-most i = allotment-most (count plan) (period plan) (allotted_units plan s) (base_of s) i
 
   -- a row's job is due where its next one is released
   pub row-due : (i : ℕ) → i < count plan → (row_at s i).deadline ≡ due plan i (row_at s i).job

@@ -23,11 +23,11 @@ use Rattle.governor.specs.Steps.{each_row, is_due, boundary_row, opened_row, aft
 use Rattle.governor.proofs.Rows.{none_due_at, some_due_at, or_false_right}
 use Rattle.governor.proofs.Belonging.{in_rows, opening_at, boundary_at, belongs_boundary, decision_boundary, opened_release}
 use Rattle.one_speed.specs.Rm.{level}
-use Rattle.cc_rm_laws.specs.Allotments.{base_of, allotted, allotment_left}
+use Rattle.cc_rm_laws.specs.Allotments.{base_of, allotted_units, allotted, allotment_left}
 use Rattle.cc_rm_laws.specs.Conditions.{LacksNothing, CcRmCalm}
 use Rattle.cc_rm_laws.proofs.Lefts.{left-marked}
 use Rattle.cc_rm_laws.proofs.Backlog.{lack, lack_after, lack-is, level_down, backlog-span, backlog-where}
-use Rattle.cc_rm_laws.proofs.Deadlines.{complete-none, now-first, first-due, quiet, allotted-most, level-most, completed-too, row-adds}
+use Rattle.cc_rm_laws.proofs.Deadlines.{complete-none, earliest-later, now-first, first-due, quiet, allotted-most, level-most, completed-too, row-adds}
 
 -- nothing is allotted before the first release
 module _ (plan : Plan) where
@@ -68,7 +68,7 @@ module _ (plan : Plan) (adm : IsAdmitted plan) (rm : plan.scheduler ≡ Rm) (dem
   marked = after_boundary plan dem s
 
   abbrev room : ℕ
-  room = (earliest plan marked - marked.base_at) * static_speed plan
+  room = allotted_units plan marked
 
   bel' : Belongs plan dem marked
   bel' = belongs_boundary plan dem s bel
@@ -84,7 +84,7 @@ module _ (plan : Plan) (adm : IsAdmitted plan) (rm : plan.scheduler ≡ Rm) (dem
   mark_now = ap (λ (b : Bool). if b then s.now else s.base_at) some
 
   later : s.now < earliest plan marked
-  later = least-above (count plan) (λ i. (row_at marked i).deadline) (suc s.now) (some_task plan adm.limits) (decision_boundary plan dem s adm.limits bel).before
+  later = earliest-later plan adm.limits marked (decision_boundary plan dem s adm.limits bel).before
 
   abbrev gap : ℕ
   gap = earliest plan marked - s.now - 1

@@ -23,11 +23,11 @@ use Rattle.governor.specs.Steps.{wleft_at, release_of, earliest, share, left, ke
 use Rattle.governor.proofs.Belonging.{in_rows, tick_at, legal_most}
 use Rattle.governor.proofs.Ticks.{tick-falls, tick-closes}
 use Rattle.one_speed.specs.Rm.{level}
-use Rattle.cc_rm_laws.specs.Allotments.{base_of, allotted, allotment_left}
+use Rattle.cc_rm_laws.specs.Allotments.{base_of, allotted_units, allotted, allotment_left}
 use Rattle.cc_rm_laws.specs.Conditions.{CcRmCalm}
 use Rattle.cc_rm_laws.proofs.Allotting.{allotment-full, allotment-none, some-term}
 use Rattle.cc_rm_laws.proofs.Lefts.{left_by, left-part, left-full, left-some, left-idle, left-open}
-use Rattle.cc_rm_laws.proofs.Deadlines.{complete-none, allotted-most}
+use Rattle.cc_rm_laws.proofs.Deadlines.{complete-none, earliest-later, allotted-most}
 
 -- what is left fits in the rest of the time, where it is nothing or fell by the speed
 room_falls : (left left' f x y : ℕ) → x ≡ y + 1 → (left' ≡ 0) ⊎ (left' + f ≤ left) → left ≤ f * x → left' ≤ f * y
@@ -85,7 +85,7 @@ module _ (plan : Plan) (adm : IsAdmitted plan) (rm : plan.scheduler ≡ Rm) (dem
     -- then each unit of the tick lowers what is left
     takes_before : (j : ℕ) → j < count plan → stands_before (period plan) j k ≡ true → left_by (row_at ticked j).done (allotted plan s j) (base_of s j) (wleft_at ticked j) + share shares j ≤ allotment_left plan s j
     takes_before j h ahead =
-        let full : allotted plan s j ≡ base_of s j = allotment-full (count plan) (period plan) ((earliest plan s - s.base_at) * static_speed plan) (base_of s) j k h ahead still_open.1 in
+        let full : allotted plan s j ≡ base_of s j = allotment-full (count plan) (period plan) (allotted_units plan s) (base_of s) j k h ahead still_open.1 in
         left-full (row_at s j).done (row_at ticked j).done (allotted plan s j) (base_of s j) (wleft_at s j) (wleft_at ticked j) (share shares j)
         full (bel.base j h) (falls j h) (complete-none (row_at s j)) (complete-none (row_at ticked j)) (done_stays j h)
 
@@ -144,8 +144,7 @@ module _ (plan : Plan) (adm : IsAdmitted plan) (rm : plan.scheduler ≡ Rm) (dem
   -- what is left goes on to fit at the speed
   pub cc_rm_enough : sum_below (count plan) (allotment_left plan s) ≤ f * (earliest plan s - s.now) → sum_below (count plan) (allotment_left plan ticked) ≤ f * (earliest plan ticked - ticked.now)
   cc_rm_enough enough =
-      let next : s.now + 1 ≤ earliest plan s = least-above (count plan) (λ i. (row_at s i).deadline) (s.now + 1) (some_task plan adm.limits) (λ i h. omega (arith, before i h)) in
-      let span : earliest plan s - s.now ≡ (earliest plan ticked - ticked.now) + 1 = omega (arith, same_earliest) in
+      let span : earliest plan s - s.now ≡ (earliest plan ticked - ticked.now) + 1 = omega (arith, same_earliest, earliest-later plan adm.limits s before) in
       room_falls (sum_below (count plan) (allotment_left plan s)) (sum_below (count plan) (allotment_left plan ticked)) f (earliest plan s - s.now) (earliest plan ticked - ticked.now) span left_falls enough
 
   pub cc_rm_ticks : f ≤ static_speed plan → CcRmCalm plan s → sum_below (count plan) (allotment_left plan s) ≤ f * (earliest plan s - s.now) → CcRmCalm plan ticked

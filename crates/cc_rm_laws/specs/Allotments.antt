@@ -12,9 +12,13 @@ use Rattle.governor.specs.Steps.{wleft_at, earliest}
 abbrev pub base_of : StateOf → ℕ → ℕ
 base_of s i = slice_index s.base i
 
--- what task i gets of the units that the static speed does from the mark to the earliest deadline, handed out in RM order
+-- the units that the static speed does from the mark to the earliest deadline
+abbrev pub allotted_units : Plan → StateOf → ℕ
+allotted_units plan s = (earliest plan s - s.base_at) * static_speed plan
+
+-- what task i gets of them, where they are handed out in RM order, to each task as many as its base
 abbrev pub allotted : Plan → StateOf → ℕ → ℕ
-allotted plan s i = allotment (count plan) (period plan) ((earliest plan s - s.base_at) * static_speed plan) (base_of s) i
+allotted plan s i = allotment (count plan) (period plan) (allotted_units plan s) (base_of s) i
 
 -- what the job of task i has had since the mark
 abbrev pub had_since_mark : StateOf → ℕ → ℕ
