@@ -1,12 +1,11 @@
 -- The laws of cycle-conserving RM.
-use Rattle.std.proofs.Common.{◌≡◌, ℕ, ◌+◌, ◌-◌, ◌*◌, ◌^◌, ◌<◌, ◌≤◌, true, length, arith}
+use Rattle.std.proofs.Common.{◌≡◌, ℕ, ◌-◌, ◌*◌, ◌^◌, ◌<◌, ◌≤◌, true, length, arith}
 use Rattle.std.proofs.Math.Nat.{mul-le-mul_right}
 use Rattle.std.proofs.lemmas.Bool.{le-leb}
-use Rattle.dvs_base.specs.declared.kind.Scheduler.TheVariants.{Rm}
 use Rattle.dvs_base.specs.declared.kind.GovernorKind.TheVariants.{Cycle}
 use Rattle.grid_fraction.specs.declared.Frac.{Frac}
 use Rattle.grid_fraction.specs.Fraction.{meets}
-use Rattle.grid_fraction.proofs.Least.{least-below, least-above}
+use Rattle.grid_fraction.proofs.Least.{least-below}
 use Rattle.grid_fraction.proofs.Searches.{first_from-most}
 use Rattle.freq_table.specs.Tables.{Table, speed_at, lowest_entry, lowest_pick}
 use Rattle.freq_table.proofs.Chosen.{speeds_rise, below_highest, lowest_within, picked_meets, picked_met}

@@ -1,12 +1,11 @@
 -- The published demand of cycle-conserving RM is that of the state.
-use Rattle.std.proofs.Common.{◌≡◌, ℕ, zero, suc, ◌+◌, ◌-◌, ◌*◌, ◌<◌, ◌≤◌, Bool, true, false, List, [], ◌∷◌, length, drop, refl, sym, ◌∙◌, ap, ap₂, subst, arith, if◌then◌else◌, nat_eq, nat_le, true≢false}
-use Rattle.std.proofs.Common.{length-drop}
+use Rattle.std.proofs.Common.{◌≡◌, ℕ, zero, suc, ◌+◌, ◌-◌, ◌*◌, ◌<◌, ◌≤◌, Bool, true, false, List, [], ◌∷◌, length, drop, refl, sym, ◌∙◌, ap, ap₂, arith, if◌then◌else◌, nat_eq, nat_le, length-drop}
 use Rattle.std.proofs.lemmas.Bool.Decides.{nat_tests}
 use Rattle.dvs_base.specs.declared.kind.Scheduler.{Scheduler}
 use Rattle.dvs_base.specs.declared.kind.Scheduler.TheVariants.{Rm}
 use Rattle.dvs_base.specs.declared.kind.GovernorKind.TheVariants.{Cycle}
 use Rattle.grid_fraction.specs.declared.Frac.{Frac}
-use Rattle.grid_fraction.specs.Numbers.{sum_below, last_up_to}
+use Rattle.grid_fraction.specs.Numbers.{last_up_to}
 use Rattle.grid_fraction.proofs.Sums.{sum_below-same}
 use Rattle.grid_fraction.proofs.Least.{least-same}
 use Rattle.grid_fraction.proofs.Searches.{any_below-false}

@@ -1,9 +1,9 @@
-use Rattle.std.proofs.Common.{◌≡◌, ◌<◌, ◌≤◌, ◌-◌, ◌∙◌, sym, ap, subst, arith, if◌then◌else◌, ℕ}
-use Rattle.std.specs.Prelude.{slice_index, min}
+use Rattle.std.proofs.Common.{◌≡◌, ◌-◌, ◌∙◌, ap, subst, arith, if◌then◌else◌, ℕ}
+use Rattle.std.specs.Prelude.{min}
 use Rattle.sched_model.specs.Plan.{count}
 use Rattle.sched_model.specs.States.{row_at}
 use Rattle.cc_rm_laws.specs.Allotments.{base_of, had_since_mark}
-use Rattle.cc_rm.proofs.Walking.{IsWalked, ranked-below, walked-start, walked-next, walked-end}
+use Rattle.cc_rm.proofs.Walking.{IsWalked, ranked-below, walked-next, walked-end}
 use Rattle.cc_rm.proofs.allotments.left_in_all.Goals as goal
 
 pub base_of-requires : goal.base_of-requires

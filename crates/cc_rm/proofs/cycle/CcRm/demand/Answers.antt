@@ -1,6 +1,5 @@
-use Rattle.std.proofs.Common.{◌≡◌, ◌<◌, ◌≤◌, ap, arith}
+use Rattle.std.proofs.Common.{◌≡◌, ap, arith}
 use Rattle.sched_model.specs.States.{StateOf}
-use Rattle.governor.specs.Steps.{earliest}
 use Rattle.cc_rm_laws.proofs.Deadlines.{earliest-later}
 use Rattle.cc_rm.proofs.cycle.CcRm.demand.Goals as goal
 
