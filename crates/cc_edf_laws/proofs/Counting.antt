@@ -1,0 +1,108 @@
+-- The kept rates and their sum, call by call.
+use Rattle.std.proofs.Common.{◌≡◌, ◌≢◌, ℕ, zero, suc, ◌+◌, ◌-◌, ◌*◌, ◌/◌, ◌<◌, ◌≤◌, ◌^◌, Bool, true, false, eqb, List, length, length-set, get_or-set_same, get_or-set_other, refl, sym, ◌∙◌, ap, subst, arith, ◌⊎◌, inl, inr, eq-or-lt_of_le, le_of_suc-le-suc}
+use Rattle.std.specs.Prelude.{slice_set, slice_index}
+use Rattle.std.proofs.Math.ListN.{replicate, get_or-replicate, length-replicate}
+use Rattle.std.proofs.lemmas.Bool.Decides.{nat_tests}
+use Rattle.std.proofs.lemmas.List.{set-get_or}
+use Rattle.std.proofs.lemmas.Nat.{mul-le}
+use Rattle.grid_fraction.specs.Numbers.{sum_below}
+use Rattle.grid_fraction.proofs.Sums.{sum_below-same, sum_below-zero}
+use Rattle.freq_table.specs.Tables.{last_entry}
+use Rattle.sched_model.specs.declared.state.Row.{Row}
+use Rattle.sched_model.specs.Plan.{Plan, count, period, hyper, top_speed}
+use Rattle.sched_model.specs.Admission.{IsAdmitted}
+use Rattle.sched_model.specs.States.{StateOf, no_row, row_at, opening, IsOfPlan}
+use Rattle.sched_model.proofs.Limits.{low_hyper}
+use Rattle.sched_model.proofs.LevelSums.{sum_below-term}
+use Rattle.governor.specs.Serving.{ServesEdf}
+use Rattle.governor.proofs.Belonging.{opening_at}
+use Rattle.cc_edf_laws.specs.Cycle.{charged, charged_rate, Counts}
+use Rattle.cc_edf_laws.proofs.CycleLaws.{cycle_fits}
+
+-- one term of a sum changes
+sum_below-change : (n : ℕ) (f g : ℕ → ℕ) (i : ℕ) → i < n → ((k : ℕ) → k < n → k ≢ i → g k ≡ f k) → sum_below n g + f i ≡ sum_below n f + g i
+sum_below-change zero f g i lt same = absurd (omega arith)
+sum_below-change (suc n) f g i lt same =
+    go (eq-or-lt_of_le (le_of_suc-le-suc lt)) (λ below. sum_below-change n f g i below (λ k l ne. same k (omega arith) ne))
+  where
+    go : (i ≡ n) ⊎ (i < n) → (i < n → sum_below n g + f i ≡ sum_below n f + g i) → sum_below n g + g n + f i ≡ sum_below n f + f n + g i
+    go (inl e) ih =
+        let rest : sum_below n g ≡ sum_below n f = sum_below-same n g f (λ k l. same k (omega arith) (λ q. omega arith)) in
+        omega (arith, rest, ap f e, ap g e)
+    go (inr l) ih = omega (arith, ih l, same n (omega arith) (λ q. omega arith))
+
+-- a row is written
+module _ (plan : Plan) (s : StateOf) (of : IsOfPlan plan s) (rates : List ℕ) (sum : ℕ) (counts : Counts rates sum plan s) (i : ℕ) (h : i < count plan) where
+  abbrev written : Row → StateOf
+  written row = record s { rows = slice_set s.rows i row }
+
+  row-same : (row : Row) → row_at (written row) i ≡ row
+  row-same row = get_or-set_same s.rows i row no_row (let r = of.rows in omega arith)
+
+  row-other : (row : Row) (k : ℕ) → k ≢ i → row_at (written row) k ≡ row_at s k
+  row-other row k ne = get_or-set_other s.rows i k row no_row ne
+
+  pub rate_place : i < length rates
+  rate_place = let e = counts.one_each in omega arith
+
+  -- the kept rate is a part of the sum
+  pub rate_most : slice_index rates i ≤ sum
+  rate_most = let r = counts.rate_is i h in let t = counts.sum_is in let m = sum_below-term (count plan) (charged_rate plan s) i h in omega arith
+
+  -- with the rate of the new row in the place of the old one
+  pub counts-set : (row : Row) (new : ℕ) → new ≡ charged row * (hyper plan / period plan i) → Counts (slice_set rates i new) (sum - slice_index rates i + new) plan (written row)
+  counts-set row new is = record {
+    served = counts.served;
+    one_each = length-set rates i new ∙ counts.one_each;
+    rate_is = λ k lt. at k lt (eqb k i) refl;
+    sum_is =
+        let moved = sum_below-change (count plan) (charged_rate plan s) (charged_rate plan (written row)) i h (λ k lt ne. other k ne) in
+        let was = counts.rate_is i h in
+        let all = counts.sum_is in
+        omega (arith, moved, was, all, rate_most, own);
+  }
+    where
+      own : charged_rate plan (written row) i ≡ new
+      own = ap (λ (r : Row). charged r * (hyper plan / period plan i)) (row-same row) ∙ sym is
+
+      other : (k : ℕ) → k ≢ i → charged_rate plan (written row) k ≡ charged_rate plan s k
+      other k ne = ap (λ (r : Row). charged r * (hyper plan / period plan k)) (row-other row k ne)
+
+      at : (k : ℕ) → k < count plan → (b : Bool) → eqb k i ≡ b → slice_index (slice_set rates i new) k ≡ charged_rate plan (written row) k
+      at k lt true e =
+          let same : k ≡ i = grind (arith, nat_tests) in
+          ap (λ m. slice_index (slice_set rates i new) m) same ∙ (get_or-set_same rates i new 0 rate_place ∙ (sym own ∙ ap (charged_rate plan (written row)) (sym same)))
+      at k lt false e =
+          let ne : k ≢ i = grind (arith, nat_tests) in
+          get_or-set_other rates i k new 0 ne ∙ (counts.rate_is k lt ∙ sym (other k ne))
+
+  -- units of an open job leave its charge
+  pub counts-ran : (units : ℕ) → (row_at s i).done ≡ false → Counts rates sum plan (written (record (row_at s i) { used = (row_at s i).used + units }))
+  counts-ran units still =
+      let row : Row = record (row_at s i) { used = (row_at s i).used + units } in
+      let same : charged (row_at s i) ≡ charged row = rw still refl in
+      let kept : slice_set rates i (slice_index rates i) ≡ rates = set-get_or rates i 0 in
+      let all : sum - slice_index rates i + slice_index rates i ≡ sum = omega (arith, rate_most) in
+      subst (λ (rs : List ℕ). Counts rs sum plan (written row)) kept
+      (subst (λ (total : ℕ). Counts (slice_set rates i (slice_index rates i)) total plan (written row)) all
+      (counts-set row (slice_index rates i) (counts.rate_is i h ∙ ap (λ v. v * (hyper plan / period plan i)) same)))
+
+  -- sums of rates fit in 128 bits
+  pub sum_low : IsAdmitted plan → sum ≤ 1000000 * 2 ^ 48
+  sum_low adm =
+      let fits = cycle_fits plan s adm counts.served of in
+      let t = counts.sum_is in
+      let speed : top_speed plan ≤ 1000000 = (adm.limits.machine.each (last_entry plan.machine) (let some = adm.limits.machine.some in omega arith)).low_speed in
+      omega (arith, fits, t, mul-le (top_speed plan) (hyper plan) 1000000 (2 ^ 48) speed (low_hyper plan adm.limits))
+
+-- before the first release nothing is charged
+pub counts-opening : (plan : Plan) → ServesEdf plan.scheduler → Counts (replicate (count plan) 0) 0 plan (opening plan)
+counts-opening plan edf = record {
+  served = edf;
+  one_each = length-replicate (count plan) 0;
+  rate_is = λ i h. get_or-replicate (count plan) i 0 0 h ∙ sym (none i h);
+  sum_is = sym (sum_below-zero (count plan) (charged_rate plan (opening plan)) none);
+}
+  where
+    none : (i : ℕ) → i < count plan → charged_rate plan (opening plan) i ≡ 0
+    none i h = rw (opening_at plan i h) (omega arith)

@@ -1,0 +1,5 @@
+pub mod Shares
+pub mod Rows
+pub mod CycleLaws
+pub mod Publishing
+pub mod Counting

@@ -1,0 +1,127 @@
+-- What a boundary and a tick make of the work that a row owes, and of what its rate gives.
+use Rattle.std.proofs.Common.{◌≡◌, inl, inr, ℕ, ◌+◌, ◌-◌, ◌*◌, ◌<◌, ◌≤◌, min, Bool, true, false, refl, sym, ap, subst, arith}
+use Rattle.std.specs.Prelude.{◌==◌, ◌||◌, nat_le, if◌then◌else◌}
+use Rattle.std.proofs.Math.Nat.{le_trans, mul-le-mul_left, mul-zero, sub-zero}
+use Rattle.std.proofs.lemmas.Bool.{le-leb, lt-leb, cases_lt, cases_Bool, eqb-true}
+use Rattle.sched_model.specs.declared.state.Row.{Row}
+use Rattle.sched_model.specs.Plan.{Plan, period}
+use Rattle.sched_model.specs.States.{row_wleft}
+use Rattle.governor.specs.Steps.{is_due, boundary_row, opened_row}
+use Rattle.cc_edf_laws.specs.Cycle.{charged}
+
+-- what a row due by d may still need
+abbrev pub owed : ℕ → Row → ℕ
+owed d row = if nat_le row.deadline d then row_wleft row else 0
+
+-- what its rate gives up to d, where q is H over its period
+abbrev pub credit_of : ℕ → ℕ → ℕ → Row → ℕ
+credit_of q now d row = charged row * q * (min d row.deadline - now)
+
+same_both : (b : Bool) (x : ℕ) → (if b then x else x) ≡ x
+same_both true x = refl
+same_both false x = refl
+
+-- a release comes with its work and its credit
+opened_pays : (b : Bool) (h q p c now d after : ℕ) → q * p ≡ h → now ≤ d → after ≡ now + p → h * (if nat_le after d then (if b then 0 else c - 0) else 0) ≤ (if b then 0 else c) * q * (min d after - now)
+opened_pays true h q p c now d after whole le is = rw (same_both (nat_le after d) 0) (omega (arith, mul-zero h))
+opened_pays false h q p c now d after whole le is =
+    elim (cases_lt d after) [
+      | inl past ↦ rw (lt-leb after d past) (omega (arith, mul-zero h))
+      | inr fits ↦
+          let span : min d after - now ≡ p = omega arith in
+          let work : c * (q * p) ≡ c * h = ap (λ (x : ℕ). c * x) whole in
+          rw (le-leb after d fits, span, sub-zero c) (omega (arith, work))
+    ]
+
+-- at a boundary, where each row that is due is complete
+pub boundary_pays : (plan : Plan) (dem : ℕ → ℕ → ℕ) (h q now d i : ℕ) (row : Row) → q * period plan i ≡ h → (row.deadline ≡ now → row.done ≡ true) → now ≤ d
+    → h * owed d (boundary_row plan dem now i row) + credit_of q now d row ≤ h * owed d row + credit_of q now d (boundary_row plan dem now i row)
+boundary_pays plan dem h q now d i row whole closed le =
+    let P : Bool → Type 0 = λ (b : Bool). h * owed d (if b then opened_row plan dem i row else row) + credit_of q now d row ≤ h * owed d row + credit_of q now d (if b then opened_row plan dem i row else row) in
+    elim (cases_Bool (is_due now row)) [
+      | inl due ↦
+          let at_now : row.deadline ≡ now = eqb-true row.deadline now due in
+          let pays = opened_pays (dem i (row.job + 1) == 0) h q (period plan i) row.worst now d (row.deadline + period plan i) whole le (omega arith) in
+          let none : credit_of q now d row ≡ 0 = (let z : min d row.deadline - now ≡ 0 = omega arith in rw z (mul-zero (charged row * q))) in
+          subst P (sym due) (omega (arith, pays, none))
+      | inr later ↦ subst P (sym later) (omega arith)
+    ]
+
+-- c units less at a rate of c * q, over a part of the period
+complete_pays : (h q p c e : ℕ) → q * p ≡ h → e ≤ p → c * q * e ≤ h * c
+complete_pays h q p c e whole le =
+    let small : q * e ≤ h = le_trans (mul-le-mul_left q le) (let g : q * p ≤ h = omega arith in g) in
+    omega (arith, mul-le-mul_left c small)
+
+-- a tick for a complete job
+tick_done : (b : Bool) (h q used k : ℕ) → h * (if b then 0 else 0) + h * (if b then 0 else 0) + used * q * (k + 1) ≤ h * (if b then 0 else 0) + (used + 0) * q * k + used * q
+tick_done true h q used k = omega arith
+tick_done false h q used k = omega arith
+
+-- for a job that goes on
+tick_open : (b : Bool) (h q used worst sh k : ℕ) → used + sh ≤ worst → (b ≡ false → sh ≡ 0) → h * (if b then worst - (used + sh) else 0) + h * (if b then sh else 0) + worst * q * (k + 1) ≤ h * (if b then worst - used else 0) + worst * q * k + worst * q
+tick_open true h q used worst sh k le none = let e : (worst - (used + sh)) + sh ≡ worst - used = omega arith in omega (arith, ap (λ (x : ℕ). h * x) e)
+tick_open false h q used worst sh k le none = omega arith
+
+-- for a job that completes c units below its worst case
+tick_close_by : (h q p need sh c k : ℕ) → q * p ≡ h → k ≤ p → h * sh + (need + c) * q * (k + 1) ≤ h * (sh + c) + need * q * k + (need + c) * q
+tick_close_by h q p need sh c k whole le = omega (arith, complete_pays h q p c k whole le)
+
+tick_close : (h q p need used worst sh k : ℕ) → q * p ≡ h → k ≤ p → used + sh ≡ need → need ≤ worst → h * sh + worst * q * (k + 1) ≤ h * (worst - used) + (used + sh) * q * k + worst * q
+tick_close h q p need used worst sh k whole le is most =
+    let c = worst - need in
+    let a : worst ≡ need + c = omega arith in
+    let b : worst - used ≡ sh + c = omega arith in
+    let by = tick_close_by h q p need sh c k whole le in
+    rw (b, is) (subst (λ (w : ℕ). h * sh + w * q * (k + 1) ≤ h * (sh + c) + need * q * k + w * q) (sym a) by)
+
+-- of the tasks due by d, each unit is paid for: the work falls by it, and the credit by the rate of one tick at most
+pub tick_pays : (done : Bool) (h q p need used worst due now d sh : ℕ) → q * p ≡ h → now + 1 ≤ due → now + 1 ≤ d → due ≤ now + p → (done ≡ false → used < need) → need ≤ worst → sh ≤ (if done then 0 else need - used) → (d < due → sh ≡ 0)
+    → h * (if nat_le due d then (if (done || (used + sh == need)) then 0 else worst - (used + sh)) else 0) + h * (if nat_le due d then sh else 0) + (if done then used else worst) * q * (min d due - now)
+    ≤ h * (if nat_le due d then (if done then 0 else worst - used) else 0) + (if (done || (used + sh == need)) then used + sh else worst) * q * (min d due - (now + 1)) + (if done then used else worst) * q
+tick_pays true h q p need used worst due now d sh whole lo ld soon open_job most own none =
+    let z : sh ≡ 0 = omega arith in
+    let span : min d due - now ≡ (min d due - (now + 1)) + 1 = omega arith in
+    rw (z, span) (tick_done (nat_le due d) h q used (min d due - (now + 1)))
+tick_pays false h q p need used worst due now d sh whole lo ld soon open_job most own none =
+    let k = min d due - (now + 1) in
+    let span : min d due - now ≡ k + 1 = omega arith in
+    let going : used < need = open_job refl in
+    let P : Bool → Type 0 = λ (b : Bool).
+    h * (if nat_le due d then (if b then 0 else worst - (used + sh)) else 0) + h * (if nat_le due d then sh else 0) + worst * q * (k + 1)
+    ≤ h * (if nat_le due d then worst - used else 0) + (if b then used + sh else worst) * q * k + worst * q in
+    rw span
+    (elim (cases_Bool (used + sh == need)) [
+      | inl closes ↦
+          let is : used + sh ≡ need = eqb-true (used + sh) need closes in
+          subst P (sym closes)
+          (elim (cases_lt d due) [
+            | inl later ↦ absurd (omega (arith, none later))
+            | inr by ↦
+                let near : k ≤ p = omega arith in
+                rw (le-leb due d by) (let t = tick_close h q p need used worst sh k whole near is most in omega (arith, t, mul-zero h))
+          ])
+      | inr goes ↦
+          subst P (sym goes)
+          (elim (cases_lt d due) [
+            | inl later ↦ rw (lt-leb due d later) (tick_open false h q used worst sh k (omega arith) (λ e. none later))
+            | inr by ↦ rw (le-leb due d by) (tick_open true h q used worst sh k (omega arith) (λ e. absurd (let t : true ≡ false = e in cc)))
+          ])
+    ])
+
+-- a tick raises no charge
+pub tick_charge : (done : Bool) (need used worst sh : ℕ) → need ≤ worst → sh ≤ (if done then 0 else need - used) → (if (done || (used + sh == need)) then used + sh else worst) ≤ (if done then used else worst)
+tick_charge true need used worst sh most own = omega arith
+tick_charge false need used worst sh most own =
+    elim (cases_Bool (used + sh == need)) [
+      | inl closes ↦ let is : used + sh ≡ need = eqb-true (used + sh) need closes in rw closes (omega arith)
+      | inr goes ↦ rw goes (omega arith)
+    ]
+
+-- a charge is at most the worst case
+pub charged_most : (row : Row) → row.used ≤ row.worst → charged row ≤ row.worst
+charged_most row le = most row.done row.used row.worst le
+  where
+    most : (b : Bool) (u w : ℕ) → u ≤ w → (if b then u else w) ≤ w
+    most true u w le = le
+    most false u w le = omega arith
