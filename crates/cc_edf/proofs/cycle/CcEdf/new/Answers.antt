@@ -1,0 +1,7 @@
+use Rattle.cc_edf_laws.proofs.Counting.{counts-opening}
+use Rattle.cc_edf.proofs.cycle.CcEdf.new.Goals as goal
+
+pub returns-in-Ok : goal.returns-in-Ok
+returns-in-Ok c =
+    let made = c.in-Ok.ensures.items_if_clones_equal in
+    record { stands = rw (made (λ y e. e), c.count.ensures) (counts-opening c.args.plan.now c.requires) }

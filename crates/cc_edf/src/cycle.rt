@@ -1,0 +1,127 @@
+// The governor of cycle-conserving EDF.
+ghost use Rattle.std.specs.Prelude.{◌≡◌, ◌≤◌, ◌<◌, ◌+◌, ◌-◌, ◌*◌, ◌/◌, true, IfOk, length, slice_index, slice_set};
+ghost use Rattle.dvs_base.specs.declared.kind.GovernorKind.TheVariants.{Cycle};
+ghost use Rattle.freq_table.specs.Tables.{lowest_entry, lowest_pick};
+ghost use Rattle.sched_model.specs.Plan.{count, period, hyper};
+ghost use Rattle.sched_model.specs.States.{opening, row_at, IsOfPlan};
+ghost use Rattle.governor.specs.Serving.{ServesEdf};
+ghost use Rattle.cc_edf_laws.specs.Cycle.{cycle_demand, Counts};
+ghost use Rattle.cc_edf_laws.specs.Conditions.{CycleCalm, CycleSafe};
+ghost use Rattle.cc_edf_laws.proofs.CycleLaws.{cycle_laws};
+
+use dvs_base::{GovernorKind, NoMemory};
+use governor::{Choice, Governor};
+use grid_fraction::Frac;
+use sched_model::{Admitted, Row, State};
+use std::alloc::Global;
+
+/// The governor of cycle-conserving EDF: the lowest speed that does the sum of the tasks' rates, where a complete job
+/// counts with what it had (Pillai and Shin 2001).
+#[derive(Drop)]
+pub struct CcEdf {
+    rates: Vec<u128>,
+    sum: u128,
+}
+
+// The row of a task.
+fn row_of(view: &State, task: u32) -> Row
+    requires { task < length view.now.rows }
+    ensures { result ≡ row_at view.entry.now task }
+{
+    view.rows[task as usize]
+}
+
+impl CcEdf {
+    /// The governor for a plan under EDF, before the first release. It fails only where memory runs out.
+    pub fn new(alloc: Global, plan: &Admitted) -> Result<CcEdf, NoMemory>
+        requires { ServesEdf plan.now.scheduler }
+        ensures stands { IfOk result (λ g. ⟦<CcEdf as Governor>⟧.stands g plan.now (opening plan.now)) }
+    {
+        match vec![in alloc; 0; plan.count() as usize] {
+            Ok(rates) => Ok(CcEdf { rates, sum: 0 }),
+            Err(_) => Err(NoMemory),
+        }
+    }
+
+    // Charges a task with so many units: its rate, and the sum with it.
+    fn charge(&mut self, plan: &Admitted, view: &State, task: u32, units: u64)
+        requires of { IsOfPlan plan.now view.now }
+        requires counters { Counts self.old.rates.items self.old.sum plan.now view.now }
+        requires task { task < count plan.now }
+        requires within { units ≤ (row_at view.now task).worst }
+        ensures rates { self.new.rates.items ≡ slice_set self.old.rates.items task (units * (hyper plan.now / period plan.now task)) }
+        ensures sum { self.new.sum ≡ self.old.sum - slice_index self.old.rates.items task + units * (hyper plan.now / period plan.now task) }
+    {
+        plan.known();
+        let rate = u128::from(units) * u128::from(plan.hyper() / plan.period(task));
+        self.sum = self.sum - self.rates[task as usize] + rate;
+        self.rates[task as usize] = rate;
+    }
+
+    // The sum of the rates over the hyperperiod, not reduced.
+    fn sum_of_rates(&self, plan: &Admitted, _view: &State) -> Frac
+        requires { Counts self.now.rates.items self.now.sum plan.now _view.now }
+        ensures { result ≡ cycle_demand plan.now _view.entry.now }
+    {
+        Frac {
+            num: self.sum,
+            den: u128::from(plan.hyper()),
+        }
+    }
+}
+
+impl Governor for CcEdf {
+    ghost the_kind = { Cycle };
+
+    ghost serves = { ServesEdf };
+
+    ghost demand = { cycle_demand };
+
+    ghost calm = { CycleCalm };
+
+    ghost safe = { CycleSafe };
+
+    ghost stands = { λ g plan s. Counts g.rates.items g.sum plan s };
+
+    ghost serves_plan = { λ g plan s stands. stands.served };
+
+    ghost waits = { λ g plan s to later stands. record { served = stands.served; one_each = stands.one_each; rate_is = stands.rate_is; sum_is = stands.sum_is } };
+
+    ghost laws = { cycle_laws };
+
+    fn kind(&self) -> GovernorKind {
+        GovernorKind::Cycle
+    }
+
+    fn released(&mut self, plan: &Admitted, view: &State, task: u32) {
+        let row = row_of(view, task);
+        self.charge(plan, view, task, row.worst);
+    }
+
+    fn ran(&mut self, _plan: &Admitted, _view: &State, _task: u32, _units: u64) {}
+
+    fn finished(&mut self, plan: &Admitted, view: &State, task: u32) {
+        let row = row_of(view, task);
+        self.charge(plan, view, task, row.used);
+    }
+
+    fn settled(&mut self, _plan: &Admitted, _view: &State) {}
+
+    fn choose(&self, plan: &Admitted, view: &State) -> Choice
+        requires of { IsOfPlan plan.now view.now }
+        requires counters { Counts self.now.rates.items self.now.sum plan.now view.now }
+        ensures demand { result.demand ≡ cycle_demand plan.now view.entry.now }
+        ensures index { result.index ≡ lowest_entry plan.now.machine (cycle_demand plan.now view.entry.now) }
+        ensures met { result.met ≡ (lowest_pick plan.now.machine (cycle_demand plan.now view.entry.now)).met }
+        ensures always { result.met ≡ true }
+    {
+        plan.known();
+        let demand = self.sum_of_rates(plan, view);
+        let pick = plan.machine().lowest(demand);
+        Choice {
+            index: pick.index,
+            met: pick.met,
+            demand,
+        }
+    }
+}
