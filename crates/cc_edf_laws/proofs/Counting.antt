@@ -1,6 +1,7 @@
 -- The kept rates and their sum, call by call.
 use Rattle.std.proofs.Common.{◌≡◌, ◌≢◌, ℕ, zero, suc, ◌+◌, ◌-◌, ◌*◌, ◌/◌, ◌<◌, ◌≤◌, ◌^◌, Bool, true, false, eqb, List, length, length-set, get_or-set_same, get_or-set_other, refl, sym, ◌∙◌, ap, subst, arith, ◌⊎◌, inl, inr, eq-or-lt_of_le, le_of_suc-le-suc}
 use Rattle.std.specs.Prelude.{slice_set, slice_index}
+use Rattle.std.proofs.Math.Nat.{mul-le-mul_right}
 use Rattle.std.proofs.Math.ListN.{replicate, get_or-replicate, length-replicate}
 use Rattle.std.proofs.lemmas.Bool.Decides.{nat_tests}
 use Rattle.std.proofs.lemmas.List.{set-get_or}
@@ -9,7 +10,8 @@ use Rattle.grid_fraction.specs.Numbers.{sum_below}
 use Rattle.grid_fraction.proofs.Sums.{sum_below-same, sum_below-zero}
 use Rattle.freq_table.specs.Tables.{last_entry}
 use Rattle.sched_model.specs.declared.state.Row.{Row}
-use Rattle.sched_model.specs.Plan.{Plan, count, period, hyper, top_speed}
+use Rattle.sched_model.specs.Plan.{Plan, count, period, worst, hyper, rate, top_speed}
+use Rattle.sched_model.specs.Tests.{total_rate}
 use Rattle.sched_model.specs.Admission.{IsAdmitted}
 use Rattle.sched_model.specs.States.{StateOf, no_row, row_at, opening, IsOfPlan}
 use Rattle.sched_model.proofs.Limits.{low_hyper}
@@ -17,7 +19,8 @@ use Rattle.sched_model.proofs.LevelSums.{sum_below-term}
 use Rattle.governor.specs.Serving.{ServesEdf}
 use Rattle.governor.proofs.Belonging.{opening_at}
 use Rattle.cc_edf_laws.specs.Cycle.{charged, charged_rate, Counts}
-use Rattle.cc_edf_laws.proofs.CycleLaws.{cycle_fits}
+use Rattle.one_speed.proofs.Fits.{IsEnough, full_enough}
+use Rattle.cc_edf_laws.proofs.CycleLaws.{cycle_within}
 
 -- one term of a sum changes
 sum_below-change : (n : ℕ) (f g : ℕ → ℕ) (i : ℕ) → i < n → ((k : ℕ) → k < n → k ≢ i → g k ≡ f k) → sum_below n g + f i ≡ sum_below n f + g i
@@ -30,6 +33,13 @@ sum_below-change (suc n) f g i lt same =
         let rest : sum_below n g ≡ sum_below n f = sum_below-same n g f (λ k l. same k (omega arith) (λ q. omega arith)) in
         omega (arith, rest, ap f e, ap g e)
     go (inr l) ih = omega (arith, ih l, same n (omega arith) (λ q. omega arith))
+
+-- what the highest speed does in H ticks
+work_low : (plan : Plan) → IsAdmitted plan → top_speed plan * hyper plan ≤ 1000000 * 2 ^ 48
+work_low plan adm =
+    let machine = adm.limits.machine in
+    let speed : top_speed plan ≤ 1000000 = (machine.each (last_entry plan.machine) (let some = machine.some in omega arith)).low_speed in
+    mul-le (top_speed plan) (hyper plan) 1000000 (2 ^ 48) speed (low_hyper plan adm.limits)
 
 -- a row is written
 module _ (plan : Plan) (s : StateOf) (of : IsOfPlan plan s) (rates : List ℕ) (sum : ℕ) (counts : Counts rates sum plan s) (i : ℕ) (h : i < count plan) where
@@ -87,13 +97,14 @@ module _ (plan : Plan) (s : StateOf) (of : IsOfPlan plan s) (rates : List ℕ) (
       (subst (λ (total : ℕ). Counts (slice_set rates i (slice_index rates i)) total plan (written row)) all
       (counts-set row (slice_index rates i) (counts.rate_is i h ∙ ap (λ v. v * (hyper plan / period plan i)) same)))
 
-  -- sums of rates fit in 128 bits
-  pub sum_low : IsAdmitted plan → sum ≤ 1000000 * 2 ^ 48
-  sum_low adm =
-      let fits = cycle_fits plan s adm counts.served of in
+  -- and the sum fits in 128 bits
+  pub sum_fits : IsAdmitted plan → (units : ℕ) → units ≤ (row_at s i).worst → sum - slice_index rates i + units * (hyper plan / period plan i) < 2 ^ 128
+  sum_fits adm units le =
       let t = counts.sum_is in
-      let speed : top_speed plan ≤ 1000000 = (adm.limits.machine.each (last_entry plan.machine) (let some = adm.limits.machine.some in omega arith)).low_speed in
-      omega (arith, fits, t, mul-le (top_speed plan) (hyper plan) 1000000 (2 ^ 48) speed (low_hyper plan adm.limits))
+      let w = of.worst i h in
+      let new : units * (hyper plan / period plan i) ≤ rate plan i = mul-le-mul_right (hyper plan / period plan i) (let m : units ≤ worst plan i = omega arith in m) in
+      let all : total_rate plan ≤ top_speed plan * hyper plan = (full_enough plan adm).edf counts.served in
+      omega (arith, cycle_within plan s of, new, sum_below-term (count plan) (rate plan) i h, all, work_low plan adm, t)
 
 -- before the first release nothing is charged
 pub counts-opening : (plan : Plan) → ServesEdf plan.scheduler → Counts (replicate (count plan) 0) 0 plan (opening plan)
