@@ -54,7 +54,8 @@ impl CcEdf {
     {
         plan.known();
         let rate = u128::from(units) * u128::from(plan.hyper() / plan.period(task));
-        self.sum = self.sum - self.rates[task as usize] + rate;
+        let old = self.rates[task as usize];
+        self.sum = self.sum - old + rate;
         self.rates[task as usize] = rate;
     }
 
@@ -107,6 +108,7 @@ impl Governor for CcEdf {
 
     fn settled(&mut self, _plan: &Admitted, _view: &State) {}
 
+    /// Each choice meets its demand: no charge exceeds the worst case, and the plan passed its test.
     fn choose(&self, plan: &Admitted, view: &State) -> Choice
         requires of { IsOfPlan plan.now view.now }
         requires counters { Counts self.now.rates.items self.now.sum plan.now view.now }

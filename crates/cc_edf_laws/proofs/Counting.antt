@@ -13,13 +13,13 @@ use Rattle.sched_model.specs.declared.state.Row.{Row}
 use Rattle.sched_model.specs.Plan.{Plan, count, period, worst, hyper, rate, top_speed}
 use Rattle.sched_model.specs.Tests.{total_rate}
 use Rattle.sched_model.specs.Admission.{IsAdmitted}
-use Rattle.sched_model.specs.States.{StateOf, no_row, row_at, opening, IsOfPlan}
+use Rattle.sched_model.specs.States.{StateOf, no_row, row_at, released_row, opening, after_release, after_run, after_finish, IsOfPlan}
 use Rattle.sched_model.proofs.Limits.{low_hyper}
 use Rattle.sched_model.proofs.LevelSums.{sum_below-term}
 use Rattle.governor.specs.Serving.{ServesEdf}
 use Rattle.governor.proofs.Belonging.{opening_at}
 use Rattle.cc_edf_laws.specs.Cycle.{charged, charged_rate, Counts}
-use Rattle.one_speed.proofs.Fits.{IsEnough, full_enough}
+use Rattle.one_speed.proofs.Fits.{full_enough}
 use Rattle.cc_edf_laws.proofs.CycleLaws.{cycle_within}
 
 -- one term of a sum changes
@@ -41,7 +41,7 @@ work_low plan adm =
     let speed : top_speed plan ≤ 1000000 = (machine.each (last_entry plan.machine) (let some = machine.some in omega arith)).low_speed in
     mul-le (top_speed plan) (hyper plan) 1000000 (2 ^ 48) speed (low_hyper plan adm.limits)
 
--- a row is written
+-- the row of a task is written
 module _ (plan : Plan) (s : StateOf) (of : IsOfPlan plan s) (rates : List ℕ) (sum : ℕ) (counts : Counts rates sum plan s) (i : ℕ) (h : i < count plan) where
   abbrev written : Row → StateOf
   written row = record s { rows = slice_set s.rows i row }
@@ -52,15 +52,16 @@ module _ (plan : Plan) (s : StateOf) (of : IsOfPlan plan s) (rates : List ℕ) (
   row-other : (row : Row) (k : ℕ) → k ≢ i → row_at (written row) k ≡ row_at s k
   row-other row k ne = get_or-set_other s.rows i k row no_row ne
 
+  -- the task has a kept rate
   pub rate_place : i < length rates
   rate_place = let e = counts.one_each in omega arith
 
-  -- the kept rate is a part of the sum
+  -- which is a part of the sum
   pub rate_most : slice_index rates i ≤ sum
   rate_most = let r = counts.rate_is i h in let t = counts.sum_is in let m = sum_below-term (count plan) (charged_rate plan s) i h in omega arith
 
   -- with the rate of the new row in the place of the old one
-  pub counts-set : (row : Row) (new : ℕ) → new ≡ charged row * (hyper plan / period plan i) → Counts (slice_set rates i new) (sum - slice_index rates i + new) plan (written row)
+  counts-set : (row : Row) (new : ℕ) → new ≡ charged row * (hyper plan / period plan i) → Counts (slice_set rates i new) (sum - slice_index rates i + new) plan (written row)
   counts-set row new is = record {
     served = counts.served;
     one_each = length-set rates i new ∙ counts.one_each;
@@ -86,8 +87,16 @@ module _ (plan : Plan) (s : StateOf) (of : IsOfPlan plan s) (rates : List ℕ) (
           let ne : k ≢ i = grind (arith, nat_tests) in
           get_or-set_other rates i k new 0 ne ∙ (counts.rate_is k lt ∙ sym (other k ne))
 
-  -- units of an open job leave its charge
-  pub counts-ran : (units : ℕ) → (row_at s i).done ≡ false → Counts rates sum plan (written (record (row_at s i) { used = (row_at s i).used + units }))
+  -- a release charges the worst case
+  pub counts-released : Counts (slice_set rates i ((row_at s i).worst * (hyper plan / period plan i))) (sum - slice_index rates i + (row_at s i).worst * (hyper plan / period plan i)) plan (after_release plan s i)
+  counts-released = counts-set (released_row (period plan i) (row_at s i)) ((row_at s i).worst * (hyper plan / period plan i)) refl
+
+  -- a completion charges what the job had
+  pub counts-finished : Counts (slice_set rates i ((row_at s i).used * (hyper plan / period plan i))) (sum - slice_index rates i + (row_at s i).used * (hyper plan / period plan i)) plan (after_finish s i)
+  counts-finished = counts-set (record (row_at s i) { done = true }) ((row_at s i).used * (hyper plan / period plan i)) refl
+
+  -- units of an open job change no charge
+  pub counts-ran : (units : ℕ) → (row_at s i).done ≡ false → Counts rates sum plan (after_run s i units)
   counts-ran units still =
       let row : Row = record (row_at s i) { used = (row_at s i).used + units } in
       let same : charged (row_at s i) ≡ charged row = rw still refl in

@@ -9,7 +9,7 @@ overflow_sub-self c =
     let rates = c.args.self.now.rates.items in
     let i = c.args.task in
     let within = rate_place c.args.plan.now c.args.view.now c.requires.of rates c.args.self.now.sum c.requires.counters i c.requires.task in
-    let was : c.index.result.now ≡ get_or rates i 0 = get_or_read rates i c.index.result.now within c.index.ensures 0 in
+    let was : c.index-old.result.now ≡ get_or rates i 0 = get_or_read rates i c.index-old.result.now within c.index-old.ensures 0 in
     omega (arith, was, rate_most c.args.plan.now c.args.view.now c.requires.of rates c.args.self.now.sum c.requires.counters i c.requires.task)
 
 pub overflow_add-self : goal.overflow_add-self
@@ -18,7 +18,7 @@ overflow_add-self c =
     let i = c.args.task in
     let plan = c.args.plan.now in
     let within = rate_place plan c.args.view.now c.requires.of rates c.args.self.now.sum c.requires.counters i c.requires.task in
-    let was : c.index.result.now ≡ get_or rates i 0 = get_or_read rates i c.index.result.now within c.index.ensures 0 in
+    let was : c.index-old.result.now ≡ get_or rates i 0 = get_or_read rates i c.index-old.result.now within c.index-old.ensures 0 in
     let fits = sum_fits plan c.args.view.now c.requires.of rates c.args.self.now.sum c.requires.counters i c.requires.task c.known.ensures c.args.units c.requires.within in
     let units : c.from.result ≡ c.args.units = c.from.ensures in
     let jobs : c.from-2.result ≡ hyper plan / period plan i = c.from-2.ensures ∙ ap₂ (λ (a b : ℕ). a / b) c.hyper.ensures c.period.ensures in
