@@ -7,7 +7,8 @@ use Rattle.grid_fraction.specs.declared.Frac.{Frac}
 use Rattle.grid_fraction.proofs.Least.{least-below, least-above}
 use Rattle.freq_table.specs.declared.machine.Pick.{Pick}
 use Rattle.freq_table.specs.Tables.{Table, speed_at, last_entry, highest_speed, lowest_entry, IsTable}
-use Rattle.freq_table.proofs.Chosen.{below_highest, lowest_within, picked_meets, pick_none}
+use Rattle.freq_table.proofs.Chosen.{below_highest, lowest_within, picked_meets}
+use Rattle.freq_table.proofs.Lowest.{lowest_pick-none}
 use Rattle.sched_model.specs.Plan.{Plan, count, hyper, rate, top_speed}
 use Rattle.sched_model.specs.Priority.{sum_before}
 use Rattle.sched_model.specs.Tests.{total_rate}
@@ -29,7 +30,7 @@ use Rattle.look_ahead_laws.proofs.Spreading.{due_work, all_paid, before_is, rate
 -- where the highest speed doesn't meet a demand, the last entry is picked
 last_picked : (m : Table) → IsTable m → (d : Frac) → highest_speed m * d.den < d.num → lowest_entry m d ≡ last_entry m
 last_picked m table d over =
-    sym (ap (λ (p : Pick). p.index) (pick_none m d table.some (λ j lt.
+    sym (ap (λ (p : Pick). p.index) (lowest_pick-none m d table.some (λ j lt.
     let low : speed_at m j * d.den ≤ highest_speed m * d.den = mul-le-mul_right d.den (below_highest m table j lt) in
     lt-leb d.num (speed_at m j * d.den) (omega (arith, low, over)))))
 
