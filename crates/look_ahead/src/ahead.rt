@@ -1,11 +1,15 @@
 // The governor of look-ahead.
 ghost use Rattle.std.specs.Prelude.{◌≡◌, IfOk, IsOk};
 ghost use Rattle.dvs_base.specs.declared.kind.GovernorKind.TheVariants.{Ahead};
-ghost use Rattle.sched_model.specs.States.{opening};
+ghost use Rattle.freq_table.specs.Tables.{lowest_entry, lowest_pick};
+ghost use Rattle.sched_model.specs.States.{opening, IsOfPlan};
+ghost use Rattle.governor.specs.Steps.{IsAtDecision};
 ghost use Rattle.governor.specs.Serving.{ServesEdf};
 ghost use Rattle.look_ahead_laws.specs.Ahead.{ahead_demand, AheadCalm, AheadSafe};
+ghost use Rattle.look_ahead_laws.specs.Whole.{HasSpread, IsDemandOfSpread, RatesFit};
 ghost use Rattle.look_ahead_laws.proofs.AheadLaws.{ahead_laws};
 
+use crate::rates::rates_within;
 use crate::walk::ahead_demand;
 use dvs_base::{GovernorKind, NoMemory};
 use governor::{Choice, Governor};
@@ -62,8 +66,20 @@ impl Governor for LookAhead {
 
     fn settled(&mut self, _plan: &Admitted, _view: &State) {}
 
-    fn choose(&self, plan: &Admitted, view: &State) -> Choice {
+    /// Each choice rests on rates that fit: those of `rates_within`, in the state of the decision.
+    fn choose(&self, plan: &Admitted, view: &State) -> Choice
+        requires of { IsOfPlan plan.now view.now }
+        requires counters { ServesEdf plan.now.scheduler }
+        requires decision { IsAtDecision plan.now view.now }
+        ensures demand { result.demand ≡ ahead_demand plan.now view.entry.now }
+        ensures index { result.index ≡ lowest_entry plan.now.machine (ahead_demand plan.now view.entry.now) }
+        ensures met { result.met ≡ (lowest_pick plan.now.machine (ahead_demand plan.now view.entry.now)).met }
+        ensures spread_exists { HasSpread plan.now view.entry.now }
+        ensures spread_demand { IsDemandOfSpread plan.now view.entry.now }
+        ensures rates_fit { RatesFit plan.now view.entry.now }
+    {
         plan.known();
+        rates_within(plan, view);
         let demand = ahead_demand(plan, view);
         let pick = plan.machine().lowest(demand);
         Choice {

@@ -7,3 +7,9 @@ lowest-pick-requires-clause-some c =
     let den = ahead_den c.args.plan.now c.args.view.now c.known.ensures c.requires.decision in
     let is = ap (λ d. d.den) c.ahead_demand-demand.ensures in
     omega (arith, den.0, is)
+
+pub lowest-pick-requires-clause-fits : goal.lowest-pick-requires-clause-fits
+lowest-pick-requires-clause-fits c =
+    let den = ahead_den c.args.plan.now c.args.view.now c.known.ensures c.requires.decision in
+    let is = ap (λ d. d.den) c.ahead_demand-demand.ensures in
+    omega (arith, den.1, is)
