@@ -1,8 +1,10 @@
 // The governor static.
-ghost use Rattle.std.specs.Prelude.{◌≡◌, IfOk, IsOk};
+ghost use Rattle.std.specs.Prelude.{◌≡◌, true, IfOk, IsOk};
 ghost use Rattle.dvs_base.specs.declared.kind.GovernorKind.TheVariants.{Fixed};
+ghost use Rattle.freq_table.specs.Tables.{lowest_entry, lowest_pick};
 ghost use Rattle.sched_model.specs.StaticDemand.{static_demand};
-ghost use Rattle.sched_model.specs.States.{opening};
+ghost use Rattle.sched_model.specs.States.{opening, IsOfPlan};
+ghost use Rattle.governor.specs.Steps.{IsAtDecision};
 ghost use Rattle.one_speed.specs.Speeds.{ServesBoth, unchanging, fixed_speed};
 ghost use Rattle.one_speed.specs.Conditions.{CalmAt, SafeAt};
 ghost use Rattle.one_speed.proofs.OneSpeedLaws.{static_laws};
@@ -62,7 +64,16 @@ impl Governor for Static {
 
     fn settled(&mut self, _plan: &Admitted, _view: &State) {}
 
-    fn choose(&self, plan: &Admitted, _view: &State) -> Choice {
+    /// Each choice meets its demand: the plan passed its scheduler's test.
+    fn choose(&self, plan: &Admitted, _view: &State) -> Choice
+        requires of { IsOfPlan plan.now _view.now }
+        requires counters { self.now.demand ≡ static_demand plan.now }
+        requires decision { IsAtDecision plan.now _view.now }
+        ensures demand { result.demand ≡ static_demand plan.now }
+        ensures index { result.index ≡ lowest_entry plan.now.machine (static_demand plan.now) }
+        ensures met { result.met ≡ (lowest_pick plan.now.machine (static_demand plan.now)).met }
+        ensures always { result.met ≡ true }
+    {
         plan.known();
         let pick = plan.machine().lowest(self.demand);
         Choice {

@@ -1,9 +1,11 @@
 // The governor none.
-ghost use Rattle.std.specs.Prelude.{◌≡◌, IfOk, IsOk};
+ghost use Rattle.std.specs.Prelude.{◌≡◌, true, IfOk, IsOk};
 ghost use Rattle.dvs_base.specs.declared.kind.GovernorKind.TheVariants.{Plain};
+ghost use Rattle.freq_table.specs.Tables.{lowest_entry, lowest_pick};
 ghost use Rattle.sched_model.specs.Plan.{top_speed};
 ghost use Rattle.sched_model.specs.StaticDemand.{full_demand};
-ghost use Rattle.sched_model.specs.States.{opening};
+ghost use Rattle.sched_model.specs.States.{opening, IsOfPlan};
+ghost use Rattle.governor.specs.Steps.{IsAtDecision};
 ghost use Rattle.one_speed.specs.Speeds.{ServesBoth, unchanging};
 ghost use Rattle.one_speed.specs.Conditions.{CalmAt, SafeAt};
 ghost use Rattle.one_speed.proofs.OneSpeedLaws.{full_laws};
@@ -62,7 +64,16 @@ impl Governor for Full {
 
     fn settled(&mut self, _plan: &Admitted, _view: &State) {}
 
-    fn choose(&self, plan: &Admitted, _view: &State) -> Choice {
+    /// Each choice meets its demand, which is the highest speed itself.
+    fn choose(&self, plan: &Admitted, _view: &State) -> Choice
+        requires of { IsOfPlan plan.now _view.now }
+        requires decision { IsAtDecision plan.now _view.now }
+        ensures demand { result.demand ≡ full_demand plan.now }
+        ensures index { result.index ≡ lowest_entry plan.now.machine (full_demand plan.now) }
+        ensures met { result.met ≡ (lowest_pick plan.now.machine (full_demand plan.now)).met }
+        ensures always { result.met ≡ true }
+    {
+        plan.known();
         let demand = Frac {
             num: u128::from(plan.machine().top()),
             den: 1,
