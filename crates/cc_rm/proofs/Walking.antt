@@ -1,18 +1,14 @@
--- Walking the tasks: the least of a value so far, and in RM order what is allotted and what is left of it.
+-- Walking the tasks in RM order: what is allotted and what is left of it.
 use Rattle.std.proofs.Common.{◌≡◌, ℕ, zero, suc, ◌+◌, ◌-◌, ◌<◌, ◌≤◌, min, Bool, true, false, List, [], ◌∷◌, ◌++◌, length, get_or, take, drop, refl, sym, ◌∙◌, ap, arith, if◌then◌else◌, drop-cons}
 use Rattle.std.specs.Prelude.{slice_index}
 use Rattle.std.proofs.lemmas.List.{take-append-drop, take_more, take_all}
-use Rattle.grid_fraction.specs.Numbers.{sum_below, least_below}
+use Rattle.grid_fraction.specs.Numbers.{sum_below}
 use Rattle.sched_model.specs.Plan.{Plan, count, period}
 use Rattle.sched_model.specs.Order.{in_order}
 use Rattle.sched_model.specs.Priority.{sum_before}
 use Rattle.sched_model.specs.States.{StateOf, row_at}
 use Rattle.sched_model.proofs.OrderLemmas.{sum_list, AreBelow, in_order-below, length-in_order, sum_list-in_order, sum_before-prefix}
 use Rattle.cc_rm_laws.specs.Allotments.{base_of, allotted_units, allotted, had_since_mark, allotment_left}
-
-pub least-more : (n : ℕ) (f : ℕ → ℕ) → 1 ≤ n → least_below (n + 1) f ≡ min (least_below n f) (f n)
-least-more zero f some = absurd (omega arith)
-least-more (suc n) f some = let next : suc n + 1 ≡ suc (suc n) = omega arith in rw next refl
 
 sum_list-snoc : (f : ℕ → ℕ) (js : List ℕ) (i : ℕ) → sum_list f (js ++ i ∷ []) ≡ sum_list f js + f i
 sum_list-snoc f [] i = omega arith

@@ -20,19 +20,6 @@ pub(crate) fn static_speed(plan: &Admitted) -> u64
     plan.machine().point(pick.index).speed
 }
 
-// The earliest deadline of the view's rows, in ticks.
-pub(crate) fn earliest(plan: &Admitted, view: &State) -> u64
-    requires { IsOfPlan plan.now view.now }
-    ensures { result ≡ earliest plan.now view.entry.now }
-{
-    plan.known();
-    let mut first = view.rows[0].deadline;
-    for i in 1..plan.count() {
-        first = first.min(view.rows[i as usize].deadline);
-    }
-    first
-}
-
 // What a task might still need at the mark, in work units.
 fn base_of(view: &State, i: u32) -> u64
     requires { i < length view.now.base }

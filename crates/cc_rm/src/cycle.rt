@@ -10,9 +10,9 @@ ghost use Rattle.cc_rm_laws.specs.Allotments.{cycle_demand};
 ghost use Rattle.cc_rm_laws.specs.Conditions.{CcRmCalm, CcRmSafe};
 ghost use Rattle.cc_rm_laws.proofs.CcRmLaws.{cc_rm_laws};
 
-use crate::allotments::{earliest, left_in_all, static_speed};
+use crate::allotments::{left_in_all, static_speed};
 use dvs_base::{GovernorKind, NoMemory};
-use governor::{Choice, Governor};
+use governor::{Choice, Governor, earliest_deadline};
 use grid_fraction::Frac;
 use sched_model::{Admitted, State};
 use std::alloc::Global;
@@ -44,7 +44,7 @@ impl CcRm {
         ensures { result ≡ cycle_demand plan.now view.entry.now }
     {
         plan.known();
-        let first = earliest(plan, view);
+        let first = earliest_deadline(plan, view);
         let units = u128::from(first - view.base_at) * u128::from(self.static_speed);
         Frac {
             num: left_in_all(plan, view, units),

@@ -14,6 +14,10 @@ ghost use Rattle.sched_model.specs.States.{StateOf, after_release, after_run, af
 ghost use Rattle.governor.specs.Steps.{IsAtDecision};
 ghost use Rattle.governor.specs.Laws.{GovernorLaws};
 
+mod deadline;
+
+pub use deadline::earliest_deadline;
+
 use dvs_base::GovernorKind;
 use grid_fraction::Frac;
 use sched_model::{Admitted, State};

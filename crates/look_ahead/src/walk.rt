@@ -9,6 +9,7 @@ ghost use Rattle.look_ahead_laws.specs.Ahead.{ahead_demand};
 ghost use Rattle.look_ahead.specs.Walk.{next_rates, next_first};
 
 use crate::order::edf_order;
+use governor::earliest_deadline;
 use grid_fraction::{Frac, mul_down, up};
 use sched_model::{Admitted, Row, State};
 
@@ -18,22 +19,6 @@ use sched_model::{Admitted, Row, State};
 struct Totals {
     rates: u128,
     first: u128,
-}
-
-// The earliest deadline.
-fn earliest(plan: &Admitted, view: &State) -> u64
-    requires { IsOfPlan plan.now view.now }
-    ensures { result ≡ earliest plan.now view.entry.now }
-{
-    plan.known();
-    let mut least = view.rows[0].deadline;
-    for i in 1..view.rows.len() {
-        let deadline = view.rows[i].deadline;
-        if deadline < least {
-            least = deadline;
-        }
-    }
-    least
 }
 
 // What a job may still need at most.
@@ -105,7 +90,7 @@ pub(crate) fn ahead_demand(plan: &Admitted, view: &State) -> Frac
     plan.known();
     let count = plan.count();
     let order = edf_order(view, count);
-    let soonest = earliest(plan, view);
+    let soonest = earliest_deadline(plan, view);
     let mut totals = Totals {
         rates: plan.static_demand().num,
         first: 0,

@@ -50,4 +50,4 @@ pub overflow_sub-soonest : goal.overflow_sub-soonest
 overflow_sub-soonest c =
     let next = earliest_ahead c.args.plan.now c.args.view.now c.known.ensures c.requires.decision in
     let clock : c.view.inside.now ≡ c.args.view.now.now = ap (λ (v : StateOf). v.now) c.view.view_is in
-    omega (arith, next, clock, c.earliest-soonest.ensures)
+    omega (arith, next, clock, c.earliest_deadline-soonest.ensures)

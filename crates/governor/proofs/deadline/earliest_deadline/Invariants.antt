@@ -1,7 +1,7 @@
 use Rattle.std.proofs.Common.{◌≡◌}
 use Rattle.grid_fraction.specs.Numbers.{least_below}
 use Rattle.sched_model.specs.States.{row_at}
-use Rattle.cc_rm.proofs.allotments.earliest.Given as goal
+use Rattle.governor.proofs.deadline.earliest_deadline.Given as goal
 
 abbrev pub invariant-loop-i : goal.invariant-loop-i
-invariant-loop-i l = l.first ≡ least_below l.i (λ k. (row_at l.view k).deadline)
+invariant-loop-i l = l.least ≡ least_below l.i (λ k. (row_at l.view k).deadline)
