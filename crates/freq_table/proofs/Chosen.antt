@@ -1,10 +1,10 @@
 -- The speeds of a table rise, and the entry that a demand picks meets it where the last one does.
-use Rattle.std.proofs.Common.{◌≡◌, ◌⊎◌, inl, inr, ℕ, zero, suc, ◌+◌, ◌-◌, ◌*◌, ◌<◌, ◌≤◌, Bool, true, false, length, refl, sym, ◌∙◌, ap, ap₂, arith, true≢false, eq-or-lt_of_le}
+use Rattle.std.proofs.Common.{◌≡◌, ◌⊎◌, inl, inr, ℕ, zero, suc, ◌+◌, ◌*◌, ◌<◌, ◌≤◌, Bool, true, false, length, refl, sym, ◌∙◌, ap, arith, true≢false, eq-or-lt_of_le}
 use Rattle.std.proofs.lemmas.Bool.{le-leb, leb-true, cases_lt}
 use Rattle.grid_fraction.specs.declared.Frac.{Frac}
 use Rattle.grid_fraction.specs.Numbers.{any_below, first_from}
 use Rattle.grid_fraction.specs.Fraction.{meets}
-use Rattle.grid_fraction.proofs.Searches.{first_from-found, any_below-false}
+use Rattle.grid_fraction.proofs.Searches.{first_from-found, first_from-most, any_below-false}
 use Rattle.freq_table.specs.Tables.{Table, speed_at, last_entry, highest_speed, lowest_entry, lowest_pick, IsTable}
 
 pub speeds_rise : (m : Table) → IsTable m → (j k : ℕ) → j ≤ k → k < length m.points → speed_at m j ≤ speed_at m k
@@ -27,6 +27,11 @@ below_highest m table k h = speeds_rise m table k (last_entry m) (omega arith) (
 -- the picked entry is one of the table
 pub lowest_within : (m : Table) (d : Frac) → 1 ≤ length m.points → lowest_entry m d < length m.points
 lowest_within m d some = omega arith
+
+-- the lowest entry that meets a demand is at most any that does
+pub lowest-most : (m : Table) (d : Frac) (k : ℕ) → d.num ≤ speed_at m k * d.den → lowest_entry m d ≤ k
+lowest-most m d k h =
+    omega (arith, first_from-most (length m.points) 0 k (λ e. meets (speed_at m e) d) (omega arith) (le-leb d.num (speed_at m k * d.den) h))
 
 -- where the highest speed meets a demand, the picked one does
 pub picked_meets : (m : Table) → IsTable m → (d : Frac) → d.num ≤ highest_speed m * d.den → d.num ≤ speed_at m (lowest_entry m d) * d.den

@@ -34,6 +34,18 @@ sum_below-one (suc n) j f lt h =
         let other : n ≢ j = grind (arith, nat_tests) in
         omega (arith, ih (omega arith), h n (omega arith) other)
 
+-- the sum of f over i alone
+pub sum_below-own : (n i : ℕ) (f : ℕ → ℕ) → i < n → sum_below n (λ k. if eqb k i then f k else 0) ≡ f i
+sum_below-own n i f lt = sum_below-one n i (λ k. if eqb k i then f k else 0) lt (λ k l ne. off k ne (eqb k i) refl) ∙ on (eqb i i) refl
+  where
+    off : (k : ℕ) → k ≢ i → (b : Bool) → eqb k i ≡ b → (if b then f k else 0) ≡ 0
+    off k ne true e = absurd (ne (grind (arith, nat_tests)))
+    off k ne false e = refl
+
+    on : (b : Bool) → eqb i i ≡ b → (if b then f i else 0) ≡ f i
+    on true e = refl
+    on false e = absurd (grind (arith, nat_tests))
+
 pub sum_below-up : (m n : ℕ) (f : ℕ → ℕ) → m ≤ n → sum_below m f ≤ sum_below n f
 sum_below-up m zero f h = let e : m ≡ 0 = omega arith in rw e (omega arith)
 sum_below-up m (suc n) f h = go (eq-or-lt_of_le h) (sum_below-up m n f)

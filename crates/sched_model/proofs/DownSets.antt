@@ -3,7 +3,7 @@ use Rattle.std.proofs.Common.{◌≡◌, ◌≢◌, ℕ, zero, suc, ◌+◌, ◌
 use Rattle.std.proofs.lemmas.Bool.Decides.{nat_tests}
 use Rattle.grid_fraction.specs.Numbers.{sum_where}
 use Rattle.sched_model.specs.Priority.{stands_before, sum_before, sum_up_to, SharesOut}
-use Rattle.grid_fraction.proofs.Sums.{sum_below-same, sum_below-add, sum_below-one, sum_below-zero}
+use Rattle.grid_fraction.proofs.Sums.{sum_below-same, sum_below-add, sum_below-own, sum_below-zero}
 use Rattle.grid_fraction.proofs.Searches.{below_suc}
 use Rattle.sched_model.proofs.PriorityLemmas.{before-self, before-total, split_if, same_not_before}
 
@@ -98,15 +98,7 @@ down-set-gets n key test room need given down h = go (last_of key test n)
         sum_below-same n (λ k. if test k then f k else 0) (λ k. (if stands_before key k i then f k else 0) + (if eqb k i then f k else 0))
         (λ k lt. split_if (test k) (stands_before key k i) (eqb k i) (f k) (is i r k lt (eqb k i) refl (test k) refl) (same_not_before key k i))
         ∙ (sum_below-add n (λ k. if stands_before key k i then f k else 0) (λ k. if eqb k i then f k else 0)
-        ∙ ap (λ a. sum_before n key f i + a) (sum_below-one n i (λ k. if eqb k i then f k else 0) r.below (λ k lt ne. off k ne (eqb k i) refl) ∙ on (eqb i i) refl))
-      where
-        off : (k : ℕ) → k ≢ i → (b : Bool) → eqb k i ≡ b → (if eqb k i then f k else 0) ≡ 0
-        off k ne true e = absurd (ne (grind (arith, nat_tests)))
-        off k ne false e = rw e refl
-
-        on : (b : Bool) → eqb i i ≡ b → (if eqb i i then f i else 0) ≡ f i
-        on true e = rw e refl
-        on false e = grind (arith, nat_tests)
+        ∙ ap (λ a. sum_before n key f i + a) (sum_below-own n i f r.below))
 
     go : NonePasses test n ⊎ ((i : ℕ) × IsLastOf key test n i) → sum_where n test given ≡ min room (sum_where n test need)
     go (inl none) = omega (arith, none_sum given none, none_sum need none)

@@ -8,26 +8,18 @@ use Rattle.grid_fraction.specs.Numbers.{list_below}
 use Rattle.sched_model.proofs.ScheduleLemmas.{length-list_below, get_or-list_below}
 use Rattle.sched_model.specs.Greedy.{IsFirstOpen}
 use Rattle.sched_model.specs.Priority.{stands_before, sum_before, sum_up_to, allotment}
-use Rattle.grid_fraction.proofs.Sums.{sum_below-same, sum_below-add, sum_below-one, sum_below-le}
+use Rattle.grid_fraction.proofs.Sums.{sum_below-same, sum_below-add, sum_below-own, sum_below-le}
 use Rattle.sched_model.proofs.PriorityLemmas.{before-trans, before_gets, allotment-shares}
 
 -- what the tasks up to j need is within what those before i need, where j stands before i
 pub up_to-before : (n : ℕ) (key f : ℕ → ℕ) (j i : ℕ) → j < n → stands_before key j i ≡ true → sum_up_to n key f j ≤ sum_before n key f i
 up_to-before n key f j i lt h =
     let own : ℕ → ℕ = λ k. if eqb k j then f k else 0 in
-    let a : sum_below n own ≡ f j = sum_below-one n j own lt (λ k l ne. off k ne (eqb k j) refl) ∙ on (eqb j j) refl in
+    let a : sum_below n own ≡ f j = sum_below-own n j f lt in
     let b : sum_below n (λ k. (if stands_before key k j then f k else 0) + own k) ≡ sum_before n key f j + sum_below n own =
     sum_below-add n (λ k. if stands_before key k j then f k else 0) own in
     omega (arith, a, b, sum_below-le n (λ k. (if stands_before key k j then f k else 0) + own k) (λ k. if stands_before key k i then f k else 0) (λ k l. within k (eqb k j) refl (stands_before key k j) refl))
   where
-    off : (k : ℕ) → k ≢ j → (b : Bool) → eqb k j ≡ b → (if eqb k j then f k else 0) ≡ 0
-    off k ne true e = absurd (ne (grind (arith, nat_tests)))
-    off k ne false e = rw e refl
-
-    on : (b : Bool) → eqb j j ≡ b → (if eqb j j then f j else 0) ≡ f j
-    on true e = rw e refl
-    on false e = grind (arith, nat_tests)
-
     lem : (a b c : Bool) → (b ≡ true → a ≡ true) → (c ≡ true → (a ≡ true) × (b ≡ false)) → (x : ℕ) → (if b then x else 0) + (if c then x else 0) ≤ (if a then x else 0)
     lem a true true p q x = absurd (true≢false (q refl).1)
     lem a true false p q x = rw (p refl) (omega arith)

@@ -1,9 +1,10 @@
 -- The laws of `release`, `due` and `latest`, all that other proofs know of them.
-use Rattle.std.proofs.Common.{◌≡◌, ℕ, zero, suc, ◌+◌, ◌-◌, ◌*◌, ◌/◌, ◌<◌, ◌≤◌, true, false, List, [], ◌∷◌, length, refl, arith, ap, ◌∙◌, sym, div-add-mod', mod-lt, add-mul, one-mul, zero-mul, subst, add-one}
+use Rattle.std.proofs.Common.{◌≡◌, ℕ, zero, suc, ◌+◌, ◌-◌, ◌*◌, ◌/◌, ◌<◌, ◌≤◌, Bool, true, false, List, [], ◌∷◌, length, refl, arith, ap, ◌∙◌, sym, div-add-mod', mod-lt, add-mul, one-mul, zero-mul, subst, add-one}
 use Rattle.std.proofs.lemmas.Nat.{div-mul-add}
 use Rattle.std.proofs.lemmas.Bool.Decides.{nat_tests}
 use Rattle.sched_model.specs.Plan.{Plan, period, worst}
-use Rattle.sched_model.specs.Jobs.{release, due, latest, is_in_window}
+use Rattle.grid_fraction.specs.Numbers.{last_up_to}
+use Rattle.sched_model.specs.Jobs.{release, due, latest, is_in_window, is_release, last_release}
 use Rattle.sched_model.specs.Demands.{worst_demand}
 use Rattle.sched_model.specs.Ticks.{Tick, exec}
 use Rattle.sched_model.specs.Ticks.{share, left}
@@ -117,3 +118,12 @@ release-due p i zero one = absurd (omega arith)
 release-due p i (suc k) one =
     let e : suc k - 1 ≡ k = omega arith in
     ap (λ m. m * period p i + period p i) e ∙ (sym (omega (arith, add-mul k 1 (period p i), one-mul (period p i))) ∙ ap (λ m. m * period p i) (add-one k))
+
+-- the last release is at most now
+pub last_release-le : (p : Plan) (t : ℕ) → last_release p t ≤ t
+last_release-le p zero = omega arith
+last_release-le p (suc t) = go (is_release p (suc t)) refl (last_release-le p t)
+  where
+    go : (b : Bool) → is_release p (suc t) ≡ b → last_release p t ≤ t → last_release p (suc t) ≤ suc t
+    go true e ih = rw (e, last_up_to) (omega arith)
+    go false e ih = rw (e, last_up_to) (omega (arith, ih))

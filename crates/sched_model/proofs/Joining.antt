@@ -1,5 +1,5 @@
 -- The state of a list of ticks, boundary by boundary and tick by tick.
-use Rattle.std.proofs.Common.{◌≡◌, ℕ, zero, suc, ◌+◌, ◌-◌, ◌<◌, ◌≤◌, Bool, true, false, List, [], ◌∷◌, length, drop, refl, arith, ap, ap₂, ◌∙◌, sym, subst, if◌then◌else◌, nat_eq, nat_le, true≢false, ◌||◌, get_or}
+use Rattle.std.proofs.Common.{◌≡◌, ℕ, zero, suc, ◌+◌, ◌-◌, ◌<◌, ◌≤◌, Bool, true, false, List, [], ◌∷◌, length, drop, refl, arith, ap, ap₂, ◌∙◌, sym, nat_eq, nat_le, true≢false}
 use Rattle.std.specs.Prelude.{map}
 use Rattle.std.proofs.lemmas.Bool.Decides.{nat_tests}
 use Rattle.sched_model.specs.declared.state.Row.{Row}
@@ -7,13 +7,13 @@ use Rattle.sched_model.specs.Plan.{Plan, count, period, worst}
 use Rattle.sched_model.specs.Jobs.{release, due, latest, releases_at, is_release}
 use Rattle.sched_model.specs.Ticks.{Tick, at, exec, is_done, wleft}
 use Rattle.sched_model.specs.Ticks.{share}
-use Rattle.grid_fraction.specs.Numbers.{any_below, last_up_to}
+use Rattle.grid_fraction.specs.Numbers.{last_up_to}
 use Rattle.sched_model.specs.Jobs.{last_release}
 use Rattle.sched_model.specs.States.{StateOf, row_of, state_of}
 use Rattle.grid_fraction.specs.Numbers.{list_below}
 use Rattle.sched_model.specs.States.{released_row, row_wleft, prior_row, prior_base_at, prior_base, prior_state}
-use Rattle.sched_model.proofs.JobLaws.{release-suc, due-suc, lt-due, latest-stays, latest-next, latest-is, release-le, latest-pos, exec-early, exec-latest}
-use Rattle.grid_fraction.proofs.Searches.{any_below-none, any_below-false}
+use Rattle.sched_model.proofs.JobLaws.{release-suc, due-suc, lt-due, latest-stays, latest-next, latest-is, release-le, latest-pos, exec-early, exec-latest, last_release-le}
+use Rattle.grid_fraction.proofs.Searches.{any_below-false}
 use Rattle.sched_model.proofs.Tables.{table-same, map-table}
 
 -- a row by its parts
@@ -117,14 +117,6 @@ module _ (p : Plan) (dem : ℕ → ℕ → ℕ) (periods : (i : ℕ) → 0 < per
   base_at-kept : (t : ℕ) → is_release p (suc t) ≡ false → last_release p (suc t) ≡ last_release p t
   base_at-kept t e = rw (e, last_up_to) refl
 
-  last_release-le : (t : ℕ) → last_release p t ≤ t
-  last_release-le zero = omega arith
-  last_release-le (suc t) = go (is_release p (suc t)) refl (last_release-le t)
-    where
-      go : (b : Bool) → is_release p (suc t) ≡ b → last_release p t ≤ t → last_release p (suc t) ≤ suc t
-      go true e ih = rw (e, last_up_to) (omega arith)
-      go false e ih = rw (e, last_up_to) (omega (arith, ih))
-
   at-now : (past : List Tick) → at (length past) past ≡ past
   at-now past = let z : length past - length past ≡ 0 = omega arith in rw z refl
 
@@ -154,7 +146,7 @@ module _ (p : Plan) (dem : ℕ → ℕ → ℕ) (periods : (i : ℕ) → 0 < per
   state-unmarked (x ∷ past) some e =
       let r : last_release p (length (x ∷ past)) ≡ last_release p (length past) = base_at-kept (length past) e in
       let back : at (last_release p (length (x ∷ past))) (x ∷ past) ≡ at (last_release p (length past)) past =
-      ap (λ n. at n (x ∷ past)) r ∙ at-earlier (last_release p (length past)) x past (last_release-le (length past)) in
+      ap (λ n. at n (x ∷ past)) r ∙ at-earlier (last_release p (length past)) x past (last_release-le p (length past)) in
       ap₂ (λ a (ps : List Tick). state_by (length (x ∷ past)) (list_below (count p) (row_of p dem (x ∷ past))) a (list_below (count p) (wleft p dem ps))) (sym r) (sym back)
 
   -- with no release at all the state before the boundary is that of the past

@@ -3,7 +3,7 @@ use Rattle.std.proofs.Common.{◌≡◌, ℕ, zero, suc, ◌+◌, ◌-◌, ◌*�
 use Rattle.std.proofs.lemmas.Bool.Decides.{nat_tests}
 use Rattle.grid_fraction.specs.Numbers.{sum_below, sum_where, greatest_below}
 use Rattle.sched_model.specs.Priority.{stands_before, is_up_to, sum_before, sum_up_to, SharesOut}
-use Rattle.grid_fraction.proofs.Sums.{sum_below-same, sum_below-add, sum_below-one, sum_below-zero, sum_below-le}
+use Rattle.grid_fraction.proofs.Sums.{sum_below-same, sum_below-add, sum_below-own, sum_below-zero, sum_below-le}
 use Rattle.sched_model.proofs.PriorityLemmas.{split_if, same_not_before, allotment_of}
 use Rattle.sched_model.proofs.DownSets.{down-set-gets}
 
@@ -87,15 +87,7 @@ sum_up_to-where n key f i lt =
     sum_below-same n (λ k. if is_up_to key i k then f k else 0) (λ k. before k + own k)
     (λ k l. split_if (is_up_to key i k) (stands_before key k i) (eqb k i) (f k) refl (same_not_before key k i))
     ∙ (sum_below-add n before own
-    ∙ ap (λ a. sum_before n key f i + a) (sum_below-one n i own lt (λ k l ne. off k ne (eqb k i) refl) ∙ on (eqb i i) refl)))
-  where
-    off : (k : ℕ) → (k ≡ i → ⊥) → (b : Bool) → eqb k i ≡ b → (if eqb k i then f k else 0) ≡ 0
-    off k ne true e = absurd (ne (grind (arith, nat_tests)))
-    off k ne false e = rw e refl
-
-    on : (b : Bool) → eqb i i ≡ b → (if eqb i i then f i else 0) ≡ f i
-    on true e = rw e refl
-    on false e = grind (arith, nat_tests)
+    ∙ ap (λ a. sum_before n key f i + a) (sum_below-own n i f lt)))
 
 -- a level gets the smaller of the room and what it needs
 pub level-gets : (n : ℕ) (key : ℕ → ℕ) (room : ℕ) (need given : ℕ → ℕ) → SharesOut n key room need given

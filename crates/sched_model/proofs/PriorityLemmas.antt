@@ -2,7 +2,7 @@
 use Rattle.std.proofs.Common.{◌≡◌, ◌≢◌, ℕ, zero, suc, ◌+◌, ◌<◌, min, Bool, true, false, eqb, ◌||◌, ◌⊎◌, inl, inr, refl, arith, if◌then◌else◌, ap, ap₂, ◌∙◌, sym, true≢false}
 use Rattle.std.proofs.lemmas.Bool.Decides.{nat_tests}
 use Rattle.sched_model.specs.Priority.{stands_before, sum_before, sum_up_to, SharesOut, allotment}
-use Rattle.grid_fraction.proofs.Sums.{sum_below-same, sum_below-add, sum_below-one, sum_below-zero}
+use Rattle.grid_fraction.proofs.Sums.{sum_below-same, sum_below-add, sum_below-own, sum_below-zero}
 use Rattle.grid_fraction.proofs.Searches.{below_suc}
 
 pub before-self : (key : ℕ → ℕ) (i : ℕ) → stands_before key i i ≡ false
@@ -101,15 +101,7 @@ sum_before-last n key f i j r =
     sum_below-same n (λ k. if stands_before key k i then f k else 0) (λ k. whole k + own k)
     (λ k lt. split_if (stands_before key k i) (stands_before key k j) (eqb k j) (f k) (before_from_last key n i j r k lt) (same_not_before key k j))
     ∙ (sum_below-add n whole own
-    ∙ ap (λ a. sum_before n key f j + a) (sum_below-one n j own r.below (λ k lt ne. off k ne (eqb k j) refl) ∙ on (eqb j j) refl))
-  where
-    off : (k : ℕ) → k ≢ j → (b : Bool) → eqb k j ≡ b → (if eqb k j then f k else 0) ≡ 0
-    off k ne true e = absurd (ne (grind (arith, nat_tests)))
-    off k ne false e = rw e refl
-
-    on : (b : Bool) → eqb j j ≡ b → (if eqb j j then f j else 0) ≡ f j
-    on true e = rw e refl
-    on false e = grind (arith, nat_tests)
+    ∙ ap (λ a. sum_before n key f j + a) (sum_below-own n j f r.below))
 
 -- what a share by the order leaves to the tasks before i
 pub before_gets : (n : ℕ) (key : ℕ → ℕ) (room : ℕ) (need given : ℕ → ℕ) → SharesOut n key room need given

@@ -1,5 +1,5 @@
 -- A sort of pairs of a key and a number gives the numbers in the order of the key.
-use Rattle.std.proofs.Common.{◌≡◌, ◌≢◌, ℕ, zero, suc, ◌+◌, ◌≤◌, Bool, true, false, cond, ◌||◌, ◌&&◌, List, [], ◌∷◌, ◌++◌, get_or, nat_eq, nat_lt, if◌then◌else◌, refl, arith, ap, ap₂, ◌∙◌, sym, subst, add-one, true≢false}
+use Rattle.std.proofs.Common.{◌≡◌, ◌≢◌, ℕ, zero, suc, ◌+◌, ◌≤◌, Bool, true, false, cond, ◌||◌, ◌&&◌, List, [], ◌∷◌, get_or, nat_eq, nat_lt, if◌then◌else◌, refl, arith, ap, ap₂, ◌∙◌, sym, subst, add-one, true≢false}
 use Rattle.std.specs.Prelude.{map, sum_by}
 use Rattle.std.specs.List.{All}
 use Rattle.std.specs.List.Sorted.{IsPermutation, IsSorted}
@@ -14,7 +14,7 @@ use Rattle.grid_fraction.specs.Numbers.{sum_below, list_below}
 use Rattle.sched_model.specs.Priority.{stands_before}
 use Rattle.sched_model.specs.Order.{in_order}
 use Rattle.sched_model.proofs.PriorityLemmas.{before-not, before-total}
-use Rattle.sched_model.proofs.OrderLemmas.{sum_list, IsAhead, IsOrdered, in_order-ordered, sum_list-in_order}
+use Rattle.sched_model.proofs.OrderLemmas.{sum_list, IsAhead, IsOrdered, in_order-ordered, sum_list-in_order, sum_list-snoc}
 use Rattle.sched_model.proofs.ScheduleLemmas.{length-list_below}
 use Rattle.sched_model.proofs.Tables.{get-table, map-table}
 
@@ -139,13 +139,9 @@ sum_list-is : (f : ℕ → ℕ) (js : List ℕ) → sum_list f js ≡ sum_by f j
 sum_list-is f [] = refl
 sum_list-is f (j ∷ js) = ap (λ s. f j + s) (sum_list-is f js) ∙ sym (sum_by-cons f j js)
 
-sum_list-push : (f : ℕ → ℕ) (js : List ℕ) (i : ℕ) → sum_list f (js ++ i ∷ []) ≡ sum_list f js + f i
-sum_list-push f [] i = omega arith
-sum_list-push f (j ∷ js) i = omega (arith, sum_list-push f js i)
-
 sum_list-list_below : (f : ℕ → ℕ) (n : ℕ) → sum_list f (list_below n (λ i. i)) ≡ sum_below n f
 sum_list-list_below f zero = refl
-sum_list-list_below f (suc n) = sum_list-push f (list_below n (λ i. i)) n ∙ ap (λ s. s + f n) (sum_list-list_below f n)
+sum_list-list_below f (suc n) = sum_list-snoc f (list_below n (λ i. i)) n ∙ ap (λ s. s + f n) (sum_list-list_below f n)
 
 -- the keys of the numbers below n
 abbrev keyed : (ℕ → ℕ) → ℕ → List (ℕ × ℕ)
