@@ -7,17 +7,8 @@ use Rattle.sched_model.specs.Plan.{Plan, count, period}
 use Rattle.sched_model.specs.Order.{in_order}
 use Rattle.sched_model.specs.Priority.{sum_before}
 use Rattle.sched_model.specs.States.{StateOf, row_at}
-use Rattle.sched_model.proofs.OrderLemmas.{sum_list, AreBelow, in_order-below, length-in_order, sum_list-in_order, sum_before-prefix}
+use Rattle.sched_model.proofs.OrderLemmas.{sum_list, sum_list-snoc, below-at, in_order-below, length-in_order, sum_list-in_order, sum_before-prefix}
 use Rattle.cc_rm_laws.specs.Allotments.{base_of, allotted_units, allotted, had_since_mark, allotment_left}
-
-sum_list-snoc : (f : ℕ → ℕ) (js : List ℕ) (i : ℕ) → sum_list f (js ++ i ∷ []) ≡ sum_list f js + f i
-sum_list-snoc f [] i = omega arith
-sum_list-snoc f (j ∷ js) i = omega (arith, sum_list-snoc f js i)
-
-below-at : (n : ℕ) (js : List ℕ) (k : ℕ) → AreBelow n js → k < length js → get_or js k 0 < n
-below-at n [] k b h = absurd (omega arith)
-below-at n (j ∷ js) zero b h = b.0
-below-at n (j ∷ js) (suc k) b h = below-at n js k b.1 (omega arith)
 
 -- the tasks in RM order
 abbrev pub order : Plan → List ℕ

@@ -1,14 +1,10 @@
 -- The laws of cycle-conserving RM.
 use Rattle.std.proofs.Common.{◌≡◌, ℕ, ◌-◌, ◌*◌, ◌^◌, ◌<◌, ◌≤◌, true, length, arith}
 use Rattle.std.proofs.Math.Nat.{mul-le-mul_right}
-use Rattle.std.proofs.lemmas.Bool.{le-leb}
 use Rattle.dvs_base.specs.declared.kind.GovernorKind.TheVariants.{Cycle}
-use Rattle.grid_fraction.specs.declared.Frac.{Frac}
-use Rattle.grid_fraction.specs.Fraction.{meets}
 use Rattle.grid_fraction.proofs.Least.{least-below}
-use Rattle.grid_fraction.proofs.Searches.{first_from-most}
-use Rattle.freq_table.specs.Tables.{Table, speed_at, lowest_entry, lowest_pick}
-use Rattle.freq_table.proofs.Chosen.{speeds_rise, below_highest, lowest_within, picked_meets, picked_met}
+use Rattle.freq_table.specs.Tables.{speed_at, lowest_entry, lowest_pick}
+use Rattle.freq_table.proofs.Chosen.{speeds_rise, below_highest, lowest_within, lowest-most, picked_meets, picked_met}
 use Rattle.sched_model.specs.Plan.{Plan, count, top_speed}
 use Rattle.sched_model.specs.StaticDemand.{rm_static, static_speed}
 use Rattle.sched_model.specs.Admission.{IsAdmitted}
@@ -22,13 +18,6 @@ use Rattle.cc_rm_laws.specs.Conditions.{CcRmCalm, CcRmSafe}
 use Rattle.cc_rm_laws.proofs.Deadlines.{earliest-later, cc_rm_completes}
 use Rattle.cc_rm_laws.proofs.Marks.{cc_rm_opens, cc_rm_releases}
 use Rattle.cc_rm_laws.proofs.Running.{cc_rm_enough, cc_rm_ticks}
-
--- the lowest entry that meets a demand is at most any that does
-lowest-most : (m : Table) (d : Frac) (k : ℕ) → d.num ≤ speed_at m k * d.den → lowest_entry m d ≤ k
-lowest-most m d k h = omega (arith, first_from-most n 0 k (λ e. meets (speed_at m e) d) (omega arith) (le-leb d.num (speed_at m k * d.den) h))
-  where
-    n : ℕ
-    n = length m.points
 
 module _ (plan : Plan) (adm : IsAdmitted plan) (s : StateOf) where
   abbrev static_entry : ℕ

@@ -34,9 +34,6 @@ release-is : (p : Plan) (i k : ℕ) → release p i k ≡ (k - 1) * period p i
 unfolding release
 release-is p i k = refl
 
-pub complete-none : (row : Row) → row.done ≡ true → row_wleft row ≡ 0
-complete-none row e = rw e refl
-
 wleft_by : (b : Bool) (w u : ℕ) → (if b then 0 else w - u) ≤ w
 wleft_by true w u = omega arith
 wleft_by false w u = omega arith

@@ -21,11 +21,12 @@ use Rattle.governor.specs.Steps.{each_row, is_due, boundary_row, opened_row, aft
 use Rattle.governor.proofs.Rows.{none_due_at, some_due_at, or_false_right}
 use Rattle.governor.proofs.Belonging.{in_rows, opening_at, boundary_at, belongs_boundary, decision_boundary, opened_release}
 use Rattle.one_speed.specs.Rm.{level}
+use Rattle.one_speed.proofs.RmLaws.{done_none}
 use Rattle.cc_rm_laws.specs.Allotments.{base_of, allotted_units, allotted, allotment_left}
 use Rattle.cc_rm_laws.specs.Conditions.{LacksNothing, CcRmCalm}
 use Rattle.cc_rm_laws.proofs.Lefts.{left-marked}
 use Rattle.cc_rm_laws.proofs.Backlog.{lack, lack_after, lack-is, level_down, backlog-span, backlog-where}
-use Rattle.cc_rm_laws.proofs.Deadlines.{complete-none, earliest-later, now-first, first-due, quiet, allotted-most, level-most, completed-too, row-adds}
+use Rattle.cc_rm_laws.proofs.Deadlines.{earliest-later, now-first, first-due, quiet, allotted-most, level-most, completed-too, row-adds}
 
 -- nothing is allotted before the first release
 module _ (plan : Plan) where
@@ -35,7 +36,7 @@ module _ (plan : Plan) where
   pub cc_rm_opens : CcRmCalm plan (opening plan)
   cc_rm_opens = record {
     levels = λ i h.
-        let none = sum_where-zero (count plan) (level plan i) (wleft_at (opening plan)) (λ j hj on. complete-none (row_at (opening plan) j) (opening-done j hj)) in
+        let none = sum_where-zero (count plan) (level plan i) (wleft_at (opening plan)) (λ j hj on. done_none (row_at (opening plan) j) (opening-done j hj)) in
         omega (arith, none);
     total = (let none = sum_below-zero (count plan) (allotment_left plan (opening plan)) (λ j hj. rw (opening-done j hj) refl) in omega (arith, none));
     since = λ i h born before none. opening-done i h;
@@ -102,7 +103,7 @@ module _ (plan : Plan) (adm : IsAdmitted plan) (rm : plan.scheduler ≡ Rm) (dem
   left_is : (j : ℕ) → j < count plan → allotment_left plan marked j ≡ allotted plan marked j
   left_is j h =
       left-marked (row_at marked j).done (allotted plan marked j) (base_of marked j) (wleft_at marked j) (base_is j h)
-      (allotted-most plan adm dem marked bel' j) (complete-none (row_at marked j))
+      (allotted-most plan adm dem marked bel' j) (done_none (row_at marked j))
 
   shares : SharesOut (count plan) (period plan) room (base_of marked) (allotted plan marked)
   shares = allotment-shares (count plan) (period plan) room (base_of marked)

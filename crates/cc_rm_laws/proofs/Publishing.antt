@@ -22,7 +22,7 @@ use Rattle.sched_model.specs.Demands.{IsWithin}
 use Rattle.sched_model.specs.Admission.{IsAdmitted}
 use Rattle.sched_model.specs.States.{StateOf, no_row, row_at, row_wleft, row_of, state_of}
 use Rattle.sched_model.proofs.Limits.{some_period}
-use Rattle.sched_model.proofs.JobLaws.{lt-due, latest-stays, latest-next, release-suc}
+use Rattle.sched_model.proofs.JobLaws.{lt-due, latest-stays, latest-next, release-suc, last_release-le}
 use Rattle.sched_model.proofs.Tables.{get-table}
 use Rattle.governor.specs.Steps.{wleft_at, earliest}
 use Rattle.governor.specs.Schedule.{Publishes}
@@ -60,18 +60,14 @@ module _ (p : Plan) (adm : IsAdmitted p) where
           let other : (suc t ≡ due p i (latest p i t)) → ⊥ = grind (arith, nat_tests) in
           ap (latest p i) next ∙ latest-stays p i t some (omega (arith, lt-due p i t some, other))
 
-  -- the last release is at most now, and no task has one after it
-  since-release : (t : ℕ) → (last_release p t ≤ t) × ((i : ℕ) → i < count p → latest p i (last_release p t) ≡ latest p i t)
-  since-release zero = (omega arith, λ i h. refl)
-  since-release (suc t) = go (is_release p (suc t)) refl (since-release t)
+  -- no task has a release after the last one
+  since-release : (t : ℕ) → (i : ℕ) → i < count p → latest p i (last_release p t) ≡ latest p i t
+  since-release zero i h = refl
+  since-release (suc t) i h = go (is_release p (suc t)) refl (since-release t i h)
     where
-      go : (b : Bool) → is_release p (suc t) ≡ b → (last_release p t ≤ t) × ((i : ℕ) → i < count p → latest p i (last_release p t) ≡ latest p i t)
-          → (last_release p (suc t) ≤ suc t) × ((i : ℕ) → i < count p → latest p i (last_release p (suc t)) ≡ latest p i (suc t))
-      go true e ih = (rw (e, last_up_to) (omega arith), λ i h. rw (e, last_up_to) refl)
-      go false e ih = (
-        rw (e, last_up_to) (omega (arith, ih.0)),
-        λ i h. rw (e, last_up_to) (ih.1 i h ∙ sym (job-stays t i h (any_below-false (count p) (λ j. releases_at p j (suc t)) e i h))),
-      )
+      go : (b : Bool) → is_release p (suc t) ≡ b → latest p i (last_release p t) ≡ latest p i t → latest p i (last_release p (suc t)) ≡ latest p i (suc t)
+      go true e ih = rw (e, last_up_to) refl
+      go false e ih = rw (e, last_up_to) (ih ∙ sym (job-stays t i h (any_below-false (count p) (λ j. releases_at p j (suc t)) e i h)))
 
   module _ (dem : ℕ → ℕ → ℕ) (within : IsWithin p dem) (past : List Tick) where
     abbrev now : ℕ
@@ -90,13 +86,13 @@ module _ (p : Plan) (adm : IsAdmitted p) where
     base-is i h = get-table (count p) (wleft p dem (at mark past)) i 0 h
 
     mark-long : length (at mark past) ≡ mark
-    mark-long = omega (arith, (since-release now).0, length-drop (now - mark) past)
+    mark-long = omega (arith, last_release-le p now, length-drop (now - mark) past)
 
     -- the earliest deadline at the mark is that of the state
     first-is : earliest_at p mark ≡ earliest p here
     first-is =
         least-same (count p) (λ i. deadline p i mark) (λ i. (row_at here i).deadline)
-        (λ i h. ap (due p i) ((since-release now).1 i h) ∙ sym (ap (λ (row : Row). row.deadline) (row-is i h)))
+        (λ i h. ap (due p i) (since-release now i h) ∙ sym (ap (λ (row : Row). row.deadline) (row-is i h)))
 
     allotted-is : (i : ℕ) → i < count p → allotted_at p dem past i ≡ allotted p here i
     allotted-is i h =
@@ -107,7 +103,7 @@ module _ (p : Plan) (adm : IsAdmitted p) where
     had-is : (i : ℕ) → i < count p → is_complete p dem past i ≡ false → had_since_release p past i ≡ had_since_mark here i
     had-is i h open_job =
         let k = latest p i now in
-        let job : latest p i mark ≡ k = (since-release now).1 i h in
+        let job : latest p i mark ≡ k = since-release now i h in
         let job_then : latest p i (length (at mark past)) ≡ k = ap (latest p i) mark-long ∙ job in
         let had : had_since_release p past i ≡ exec p past i k - exec p (at mark past) i k = ap (λ (m : ℕ). exec p past i m - exec p (at mark past) i m) job in
         let less : exec p past i k < dem i k = grind (arith, nat_tests) in

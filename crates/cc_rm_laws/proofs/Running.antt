@@ -22,11 +22,12 @@ use Rattle.governor.specs.Steps.{wleft_at, release_of, earliest, share, left, ke
 use Rattle.governor.proofs.Belonging.{in_rows, tick_at, legal_most}
 use Rattle.governor.proofs.Ticks.{tick-falls, tick-closes}
 use Rattle.one_speed.specs.Rm.{level}
+use Rattle.one_speed.proofs.RmLaws.{done_none}
 use Rattle.cc_rm_laws.specs.Allotments.{base_of, allotted_units, allotted, allotment_left}
 use Rattle.cc_rm_laws.specs.Conditions.{CcRmCalm}
 use Rattle.cc_rm_laws.proofs.Allotting.{allotment-full, allotment-none, some-term}
 use Rattle.cc_rm_laws.proofs.Lefts.{left_by, left-part, left-full, left-some, left-idle, left-open}
-use Rattle.cc_rm_laws.proofs.Deadlines.{complete-none, earliest-later, allotted-most}
+use Rattle.cc_rm_laws.proofs.Deadlines.{earliest-later, allotted-most}
 
 -- what is left fits in the rest of the time, where it is nothing or fell by the speed
 room_falls : (left left' f x y : ℕ) → x ≡ y + 1 → (left' ≡ 0) ⊎ (left' + f ≤ left) → left ≤ f * x → left' ≤ f * y
@@ -58,7 +59,7 @@ module _ (plan : Plan) (adm : IsAdmitted plan) (rm : plan.scheduler ≡ Rm) (dem
   part j h =
       rw (left_then j)
       (left-part (row_at s j).done (row_at ticked j).done (allotted plan s j) (base_of s j) (wleft_at s j) (wleft_at ticked j)
-      (allotted-most plan adm dem s bel j) (bel.base j h) (omega (arith, falls j h)) (done_stays j h) (complete-none (row_at ticked j)))
+      (allotted-most plan adm dem s bel j) (bel.base j h) (omega (arith, falls j h)) (done_stays j h) (done_none (row_at ticked j)))
 
   out : SharesOut (count plan) (period plan) f (left dem s) (share shares)
   out = subst (λ (sch : Scheduler). SharesOut (count plan) (key_of sch plan s) f (left dem s) (share shares)) rm legal.out
@@ -86,7 +87,7 @@ module _ (plan : Plan) (adm : IsAdmitted plan) (rm : plan.scheduler ≡ Rm) (dem
     takes_before j h ahead =
         let full : allotted plan s j ≡ base_of s j = allotment-full (count plan) (period plan) (allotted_units plan s) (base_of s) j k h ahead still_open.1 in
         left-full (row_at s j).done (row_at ticked j).done (allotted plan s j) (base_of s j) (wleft_at s j) (wleft_at ticked j) (share shares j)
-        full (bel.base j h) (falls j h) (complete-none (row_at s j)) (complete-none (row_at ticked j)) (done_stays j h)
+        full (bel.base j h) (falls j h) (done_none (row_at s j)) (done_none (row_at ticked j)) (done_stays j h)
 
     takes_own : (j : ℕ) → j < count plan → k ≡ j → left_by (row_at ticked j).done (allotted plan s j) (base_of s j) (wleft_at ticked j) + share shares j ≤ allotment_left plan s j
     takes_own j h same =

@@ -63,7 +63,8 @@ wleft_new : (b : Bool) (c : ℕ) → (if b then 0 else c - 0) ≤ c
 wleft_new true c = omega arith
 wleft_new false c = omega arith
 
-done_none : (row : Row) → row.done ≡ true → row_wleft row ≡ 0
+-- a complete job needs nothing more
+pub done_none : (row : Row) → row.done ≡ true → row_wleft row ≡ 0
 done_none row e = rw e refl
 
 -- what a release adds is counted
