@@ -14,7 +14,7 @@ use Rattle.sched_model.specs.Schedule.{next_tick, entry_in_force}
 use Rattle.sched_model.specs.Segments.{Span, Piece, units_of, pieces_of}
 use Rattle.sched_model.specs.Notes.{notes_before_end, pieces_notes}
 use Rattle.sched_model.proofs.Tables.{get-table}
-use Rattle.sched_model.proofs.OrderLemmas.{sum_list, AreBelow, in_order-below, sum_before-prefix}
+use Rattle.sched_model.proofs.OrderLemmas.{sum_list, AreBelow, in_order-below, sum_list-snoc, sum_before-prefix}
 use Rattle.sched_model.proofs.GreedyLemmas.{IsHandedOut}
 use Rattle.event_kernel.specs.declared.pen.Pen.{Pen}
 use Rattle.event_kernel.specs.Pens.{closed, last_of, grown, head_notes, open_notes}
@@ -27,10 +27,6 @@ use Rattle.event_kernel.proofs.Handing.{laid_out, laid_out-same, job, key, units
 abbrev pub fill : (ℕ → ℕ) → (ℕ → ℕ) → ℕ → List ℕ → List Holder
 fill job need r [] = []
 fill job need r (j ∷ js) = replicate (min r (need j)) (Held j (job j)) ++ fill job need (r - need j) js
-
-sum_list-snoc : (f : ℕ → ℕ) (pre : List ℕ) (j : ℕ) → sum_list f (pre ++ j ∷ []) ≡ sum_list f pre + f j
-sum_list-snoc f [] j = omega arith
-sum_list-snoc f (i ∷ pre) j = omega (arith, sum_list-snoc f pre j)
 
 laid_out-fill : (key job need : ℕ → ℕ) (n r : ℕ) (pre js : List ℕ) → in_order key n ≡ pre ++ js → laid_out job (allotment n key r need) js ≡ fill job need (r - sum_list need pre) js
 laid_out-fill key job need n r pre [] e = refl

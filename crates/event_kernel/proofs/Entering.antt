@@ -21,7 +21,7 @@ use Rattle.sched_model.proofs.PieceLemmas.{piece, same_holder-eq, pieces_of-run}
 use Rattle.event_kernel.specs.declared.pen.Pen.{Pen}
 use Rattle.event_kernel.specs.Pens.{closed, last_of, grown, head_notes, open_notes, holder_notes, pen_notes, run_part, idle_part, ended_part, told_pen, is_turn, with_units, entered, entering_notes, cost}
 use Rattle.event_kernel.specs.Counts.{counts_of, counted}
-use Rattle.event_kernel.proofs.Tallying.{counts_by, counts-append, counted-none, counted-holder, ended-most}
+use Rattle.event_kernel.proofs.Tallying.{count-append, counts_by, counts-append, counted-none, counted-holder, ended-most}
 use Rattle.event_kernel.specs.Writing.{HeldNow, Writing}
 use Rattle.event_kernel.proofs.Pieces.{split_last, closed-snoc, last-snoc, pieces_of-more, pieces_of-other, have_units, HaveUnits, have-last, total, total-pieces, total-append, no_pieces, pieces_notes-append, segment_notes-grown, pieces_notes-grown}
 
@@ -225,10 +225,7 @@ module _ (p : Plan) (dem : ℕ → ℕ → ℕ) (ask : List Tick → Frac) (t : 
       long = omega (arith, length-append s.units (replicate n h), length-replicate n h)
 
       had : (i : ℕ) → i < count p → exec p s.past i (latest p i t) + count_by (same_holder (Held i (latest p i t))) (s.units ++ replicate n h) ≡ used' i
-      had i lt = omega (arith, count_by-append (same_holder (Held i (latest p i t))) s.units (replicate n h), w.had i lt, more i lt)
-        where
-          count_by-append : (f : Holder → Bool) (xs ys : List Holder) → count_by f (xs ++ ys) ≡ count_by f xs + count_by f ys
-          count_by-append f xs ys = sum_by-append (λ x. if f x then 1 else 0) xs ys
+      had i lt = omega (arith, count-append (same_holder (Held i (latest p i t))) s.units (replicate n h), w.had i lt, more i lt)
 
       runs : (b : Bool) → is_turn pen h ≡ b → sum_by energy_run (open_notes p dem ask (grown s (replicate n h))) ≡ pen.run + (if b then run_part p s.entry pen.units pen.holder else 0)
       runs b e =

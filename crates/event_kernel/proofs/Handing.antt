@@ -17,11 +17,11 @@ use Rattle.sched_model.specs.Priority.{key_of, stands_before, sum_before}
 use Rattle.sched_model.specs.Greedy.{IsFirstOpen}
 use Rattle.sched_model.specs.Segments.{same_holder}
 use Rattle.sched_model.specs.States.{no_row, row_at, StateOf, row_of, state_of}
-use Rattle.grid_fraction.proofs.Sums.{sum_below-same, sum_below-add, sum_below-one}
+use Rattle.grid_fraction.proofs.Sums.{sum_below-same, sum_below-add, sum_below-own}
 use Rattle.sched_model.proofs.Tables.{get-table, table-same, set-table}
 use Rattle.sched_model.proofs.PriorityLemmas.{before-self}
 use Rattle.sched_model.proofs.GreedyLemmas.{IsHandedOut, handed-start, handed-step, handed_before, up_to-before}
-use Rattle.sched_model.proofs.OrderLemmas.{IsAhead, IsOrdered, AreBelow, in_order-below, in_order-ordered}
+use Rattle.sched_model.proofs.OrderLemmas.{IsAhead, IsOrdered, AreBelow, Stands, first_ahead, stands-in_order, in_order-below, in_order-ordered}
 use Rattle.grid_fraction.proofs.Searches.{any_below-none, any_below-same, any_below-found}
 use Rattle.sched_model.proofs.Joining.{row_by}
 use Rattle.event_kernel.specs.Pens.{row_key, IsFirstUndone}
@@ -31,37 +31,6 @@ use Rattle.event_kernel.proofs.Entering.{Shows}
 -- the units that a list of tasks got
 abbrev pub laid_out : (ℕ → ℕ) → (ℕ → ℕ) → List ℕ → List Holder
 laid_out job given js = flat_map (λ i. replicate (given i) (Held i (job i))) js
-
--- i is one of the list
-abbrev pub Stands : ℕ → List ℕ → Type 0
-Stands i [] = ⊥
-Stands i (j ∷ js) = (j ≡ i) ⊎ Stands i js
-
-ahead-of : (key : ℕ → ℕ) (j i : ℕ) (js : List ℕ) → IsAhead key j js → Stands i js → stands_before key j i ≡ true
-ahead-of key j i [] ahead at = absurd at
-ahead-of key j i (k ∷ ks) ahead (inl e) = subst (λ m. stands_before key j m ≡ true) e ahead.0
-ahead-of key j i (k ∷ ks) ahead (inr at) = ahead-of key j i ks ahead.1 at
-
-stands-insert : (key : ℕ → ℕ) (m i : ℕ) (js : List ℕ) → (i ≡ m) ⊎ Stands i js → Stands i (insert_by key m js)
-stands-insert key m i [] (inl e) = inl (sym e)
-stands-insert key m i [] (inr at) = absurd at
-stands-insert key m i (j ∷ js) at = go (stands_before key m j) at (stands-insert key m i js)
-  where
-    go : (b : Bool) → (i ≡ m) ⊎ Stands i (j ∷ js) → ((i ≡ m) ⊎ Stands i js → Stands i (insert_by key m js)) → Stands i (if b then m ∷ j ∷ js else j ∷ insert_by key m js)
-    go true (inl e) ih = inl (sym e)
-    go true (inr at) ih = inr at
-    go false (inl e) ih = inr (ih (inl e))
-    go false (inr (inl e)) ih = inl e
-    go false (inr (inr at)) ih = inr (ih (inr at))
-
-pub stands-in_order : (key : ℕ → ℕ) (n i : ℕ) → i < n → Stands i (in_order key n)
-unfolding in_order
-stands-in_order key zero i lt = absurd (omega arith)
-stands-in_order key (suc n) i lt = stands-insert key n i (in_order key n) (go (eq-or-lt_of_le (le_of_suc-le-suc lt)) (stands-in_order key n i))
-  where
-    go : (i ≡ n) ⊎ (i < n) → (i < n → Stands i (in_order key n)) → (i ≡ n) ⊎ Stands i (in_order key n)
-    go (inl e) ih = inl e
-    go (inr l) ih = inr (ih l)
 
 pub laid_out-same : (job given given' : ℕ → ℕ) (n : ℕ) (js : List ℕ) → AreBelow n js → ((j : ℕ) → j < n → given j ≡ given' j) → laid_out job given js ≡ laid_out job given' js
 laid_out-same job given given' n [] below same = refl
@@ -75,24 +44,21 @@ laid_out-after key job given n i (j ∷ js) below ahead none =
     ap₂ (λ m us. replicate m (Held j (job j)) ++ us) (none j below.0 ahead.0) (laid_out-after key job given n i js below.1 ahead.1 none)
 
 -- i gets units, before which it had none; nobody behind it has any
-laid_out-step : (key job given given' : ℕ → ℕ) (n i : ℕ) (js : List ℕ) → AreBelow n js → IsOrdered key js → Stands i js
+laid_out-step : (key job given given' : ℕ → ℕ) (n i : ℕ) (pre post : List ℕ) → AreBelow n (pre ++ i ∷ post) → IsOrdered key (pre ++ i ∷ post)
     → given i ≡ 0 → ((j : ℕ) → j < n → j ≢ i → given' j ≡ given j) → ((j : ℕ) → j < n → stands_before key i j ≡ true → given j ≡ 0)
-    → laid_out job given' js ≡ laid_out job given js ++ replicate (given' i) (Held i (job i))
-laid_out-step key job given given' n i [] below ordered at zero_i others none = absurd at
-laid_out-step key job given given' n i (j ∷ js) below ordered (inl e) zero_i others none =
+    → laid_out job given' (pre ++ i ∷ post) ≡ laid_out job given (pre ++ i ∷ post) ++ replicate (given' i) (Held i (job i))
+laid_out-step key job given given' n i [] post below ordered zero_i others none =
     let here : stands_before key i i ≡ false = before-self key i in
-    let ahead : IsAhead key i js = subst (λ m. IsAhead key m js) e ordered.0 in
-    let nothing : laid_out job given js ≡ [] = laid_out-after key job given n i js below.1 ahead none in
-    let still : laid_out job given' js ≡ [] = laid_out-after key job given' n i js below.1 ahead (λ k lt h. others k lt (λ q. absurd (true≢false (sym h ∙ (ap (stands_before key i) q ∙ here)))) ∙ none k lt h) in
-    ap (λ us. replicate (given' j) (Held j (job j)) ++ us) still
-    ∙ (append-nil (replicate (given' j) (Held j (job j)))
-    ∙ (ap (λ m. replicate (given' m) (Held m (job m))) e
-    ∙ sym (ap₂ (λ m us. (replicate m (Held j (job j)) ++ us) ++ replicate (given' i) (Held i (job i))) (ap given e ∙ zero_i) nothing)))
-laid_out-step key job given given' n i (j ∷ js) below ordered (inr at) zero_i others none =
-    let first : stands_before key j i ≡ true = ahead-of key j i js ordered.0 at in
+    let nothing : laid_out job given post ≡ [] = laid_out-after key job given n i post below.1 ordered.0 none in
+    let still : laid_out job given' post ≡ [] = laid_out-after key job given' n i post below.1 ordered.0 (λ k lt h. others k lt (λ q. absurd (true≢false (sym h ∙ (ap (stands_before key i) q ∙ here)))) ∙ none k lt h) in
+    ap (λ us. replicate (given' i) (Held i (job i)) ++ us) still
+    ∙ (append-nil (replicate (given' i) (Held i (job i)))
+    ∙ sym (ap₂ (λ m us. (replicate m (Held i (job i)) ++ us) ++ replicate (given' i) (Held i (job i))) zero_i nothing))
+laid_out-step key job given given' n i (j ∷ pre) post below ordered zero_i others none =
+    let first : stands_before key j i ≡ true = first_ahead key j i pre post ordered.0 in
     let other : j ≢ i = λ q. absurd (true≢false (sym first ∙ (ap (λ m. stands_before key m i) q ∙ before-self key i))) in
-    ap₂ (λ m us. replicate m (Held j (job j)) ++ us) (others j below.0 other) (laid_out-step key job given given' n i js below.1 ordered.1 at zero_i others none)
-    ∙ sym (append_assoc (replicate (given j) (Held j (job j))) (laid_out job given js) (replicate (given' i) (Held i (job i))))
+    ap₂ (λ m us. replicate m (Held j (job j)) ++ us) (others j below.0 other) (laid_out-step key job given given' n i pre post below.1 ordered.1 zero_i others none)
+    ∙ sym (append_assoc (replicate (given j) (Held j (job j))) (laid_out job given (pre ++ i ∷ post)) (replicate (given' i) (Held i (job i))))
 
 -- one value of a function changed
 abbrev pub raised : (ℕ → ℕ) → ℕ → ℕ → ℕ → ℕ
@@ -117,19 +83,11 @@ sum-raised n given i share lt =
     let own : ℕ → ℕ = λ k. if eqb k i then share else 0 in
     sum_below-same n (raised given i share) (λ k. given k + own k) (λ k l. split (eqb k i) (given k))
     ∙ (sum_below-add n given own
-    ∙ ap (λ a. sum_below n given + a) (sum_below-one n i own lt (λ k l ne. off k ne (eqb k i) refl) ∙ on (eqb i i) refl))
+    ∙ ap (λ a. sum_below n given + a) (sum_below-own n i (λ _. share) lt))
   where
     split : (b : Bool) (x : ℕ) → (if b then x + share else x) ≡ x + (if b then share else 0)
     split true x = refl
     split false x = omega arith
-
-    off : (k : ℕ) → k ≢ i → (b : Bool) → eqb k i ≡ b → (if b then share else 0) ≡ 0
-    off k ne true e = absurd (ne (grind (arith, nat_tests)))
-    off k ne false e = refl
-
-    on : (b : Bool) → eqb i i ≡ b → (if b then share else 0) ≡ share
-    on true e = refl
-    on false e = absurd (grind (arith, nat_tests))
 
 count_run : (i k j l m : ℕ) → (b : Bool) → (nat_eq i j && nat_eq k l) ≡ b → count_by (same_holder (Held i k)) (replicate m (Held j l)) ≡ (if b then m else 0)
 count_run i k j l m b e =
@@ -327,12 +285,16 @@ module _ (p : Plan) (dem : ℕ → ℕ → ℕ) (past : List Tick) where
       → IsFirstOpen (count p) key (left p dem past) given i
       → units_by (raised given i share) ≡ units_by given ++ replicate share (Held i (job i))
   gives-units f rest given completed st i share h pos o =
-      laid_out-step key job given (raised given i share) (count p) i (in_order key (count p))
-      (in_order-below key (count p)) (in_order-ordered key (count p)) (stands-in_order key (count p) i o.below)
+      subst (λ js. laid_out job (raised given i share) js ≡ laid_out job given js ++ replicate (raised given i share i) (Held i (job i))) (sym place.1.1)
+      (laid_out-step key job given (raised given i share) (count p) i place.0 place.1.0
+      (subst (AreBelow (count p)) place.1.1 (in_order-below key (count p))) (subst (IsOrdered key) place.1.1 (in_order-ordered key (count p)))
       now.0 (λ j lt other. raised-there given i share j other)
-      (λ j lt b. omega (arith, h.handed.given_is j lt, now.0, now.1, up_to-before (count p) key (left p dem past) i j o.below b))
+      (λ j lt b. omega (arith, h.handed.given_is j lt, now.0, now.1, up_to-before (count p) key (left p dem past) i j o.below b)))
       ∙ ap (λ m. units_by given ++ replicate m (Held i (job i))) (raised-here given i share ∙ omega (arith, now.0))
     where
+      place : Stands i (in_order key (count p))
+      place = stands-in_order key (count p) i o.below
+
       now : (given i ≡ 0) × (f - rest ≡ sum_before (count p) key (left p dem past) i)
       now = handed_before (count p) key f (left p dem past) given rest h.handed pos i o
 

@@ -26,7 +26,7 @@ counts_by a b c = record { released = a; finished = b; decisions = c }
 pub counts-same : (a a' b b' c c' : ℕ) → a ≡ a' → b ≡ b' → c ≡ c' → counts_by a b c ≡ counts_by a' b' c'
 counts-same a a' b b' c c' e f g = ap (λ n. counts_by n b c) e ∙ ap₂ (λ n m. counts_by a' n m) f g
 
-count-append : (f : Note → Bool) (xs ys : List Note) → count_by f (xs ++ ys) ≡ count_by f xs + count_by f ys
+pub count-append : {X : Type 0} (f : X → Bool) (xs ys : List X) → count_by f (xs ++ ys) ≡ count_by f xs + count_by f ys
 count-append f xs ys = sum_by-append (λ x. if f x then 1 else 0) xs ys
 
 pub counts-append : (xs ys : List Note) → counts_of (xs ++ ys) ≡ counted (counts_of xs) ys

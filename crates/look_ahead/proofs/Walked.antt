@@ -6,10 +6,9 @@ use Rattle.grid_fraction.specs.Numbers.{ceil_div}
 use Rattle.sched_model.specs.Plan.{Plan, hyper, rate, top_speed}
 use Rattle.sched_model.specs.AheadDemand.{slack, put_off, spread_rate, spread_rates, due_first}
 use Rattle.sched_model.specs.States.{StateOf}
-use Rattle.sched_model.proofs.OrderLemmas.{sum_list}
+use Rattle.sched_model.proofs.OrderLemmas.{sum_list, sum_list-snoc}
 use Rattle.governor.specs.Steps.{wleft_at}
 use Rattle.look_ahead_laws.specs.Ahead.{deadline_at, edf_order}
-use Rattle.look_ahead_laws.proofs.EdfOrder.{sum_list-snoc}
 use Rattle.look_ahead_laws.proofs.Spreading.{before_is}
 use Rattle.look_ahead.specs.Walk.{not_put_off, next_rates, next_first}
 

@@ -10,11 +10,10 @@ use Rattle.sched_model.specs.Admission.{IsWithinLimits, IsAdmitted}
 use Rattle.sched_model.specs.States.{StateOf, row_at, IsOfPlan}
 use Rattle.sched_model.specs.AheadDemand.{slack}
 use Rattle.sched_model.proofs.Limits.{some_hyper}
-use Rattle.sched_model.proofs.OrderLemmas.{sum_list, in_order-below, length-in_order}
+use Rattle.sched_model.proofs.OrderLemmas.{sum_list, in_order-below, length-in_order, below-at, sum_list-append, sum_list-snoc}
 use Rattle.governor.specs.Steps.{wleft_at}
 use Rattle.governor.specs.Serving.{ServesEdf}
 use Rattle.look_ahead_laws.specs.Ahead.{deadline_at, edf_order}
-use Rattle.look_ahead_laws.proofs.EdfOrder.{below-at, sum_list-append, sum_list-snoc}
 use Rattle.look_ahead_laws.proofs.Spreading.{rate_within}
 use Rattle.look_ahead_laws.proofs.AheadLaws.{rates_fit, total_is}
 use Rattle.look_ahead.specs.Walk.{next_rates, next_first}

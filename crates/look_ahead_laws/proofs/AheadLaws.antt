@@ -16,7 +16,7 @@ use Rattle.sched_model.specs.AheadDemand.{spread_rates}
 use Rattle.sched_model.specs.Admission.{IsAdmitted}
 use Rattle.sched_model.specs.States.{StateOf}
 use Rattle.sched_model.proofs.Limits.{some_task, some_hyper}
-use Rattle.sched_model.proofs.OrderLemmas.{sum_list, sum_list-in_order, in_order-below}
+use Rattle.sched_model.proofs.OrderLemmas.{sum_list, sum_list-in_order, in_order-below, sum_list-append}
 use Rattle.governor.specs.Steps.{wleft_at, earliest, IsAtDecision, Belongs}
 use Rattle.governor.specs.Serving.{ServesEdf}
 use Rattle.governor.specs.Laws.{GovernorLaws}
@@ -24,7 +24,6 @@ use Rattle.one_speed.specs.Edf.{load}
 use Rattle.one_speed.proofs.Fits.{full_enough}
 use Rattle.one_speed.proofs.EdfLaws.{load_is, edf_opens, edf_releases, edf_chooses, edf_ticks, edf_stays_calm, edf_completes}
 use Rattle.look_ahead_laws.specs.Ahead.{deadline_at, edf_order, ahead_demand, AheadCalm, AheadSafe}
-use Rattle.look_ahead_laws.proofs.EdfOrder.{sum_list-append}
 use Rattle.look_ahead_laws.proofs.Spreading.{due_work, all_paid, before_is, rate_within, work_within}
 
 -- where the highest speed doesn't meet a demand, the last entry is picked

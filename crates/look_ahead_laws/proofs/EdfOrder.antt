@@ -1,79 +1,15 @@
--- Tasks in order: where each stands, and the sums over those after one of them.
-use Rattle.std.proofs.Common.{◌≡◌, ◌⊎◌, inl, inr, eq-or-lt_of_le, le_of_suc-le-suc, ℕ, zero, suc, ◌+◌, ◌<◌, ◌≤◌, Bool, true, false, List, [], ◌∷◌, ◌++◌, length, get_or, refl, arith, if◌then◌else◌, ap, ap₂, ◌∙◌, sym, subst, nat_eq, nat_lt}
-use Rattle.std.specs.Prelude.{◌||◌, ◌&&◌}
+-- Sums over the tasks that stand after one of them.
+use Rattle.std.proofs.Common.{◌≡◌, ℕ, ◌<◌, ◌≤◌, true, List, [], ◌∷◌, ◌++◌, refl, arith, if◌then◌else◌, ap, ◌∙◌, sym, subst}
 use Rattle.std.proofs.lemmas.Bool.Decides.{nat_tests}
-use Rattle.grid_fraction.proofs.Sums.{sum_below-same}
-use Rattle.sched_model.specs.Priority.{stands_before, sum_before}
-use Rattle.sched_model.specs.Order.{insert_by, in_order}
+use Rattle.sched_model.specs.Priority.{stands_before}
+use Rattle.sched_model.specs.Order.{in_order}
 use Rattle.sched_model.proofs.PriorityLemmas.{before-self, before-not}
-use Rattle.sched_model.proofs.OrderLemmas.{sum_list, IsAhead, IsOrdered, AreBelow, sum_list-in_order, in_order-ordered, in_order-below}
+use Rattle.sched_model.proofs.OrderLemmas.{sum_list, IsAhead, IsOrdered, first_ahead, sum_list-in_order, in_order-ordered}
 use Rattle.look_ahead_laws.specs.Whole.{sum_after}
 
 -- the keys rise along the order
 pub key_rises : (key : ℕ → ℕ) (i j : ℕ) → stands_before key i j ≡ true → key i ≤ key j
 key_rises key i j h = grind (arith, nat_tests)
-
-pub below-from : (n : ℕ) (pre post : List ℕ) → AreBelow n (pre ++ post) → AreBelow n post
-below-from n [] post b = b
-below-from n (j ∷ pre) post b = below-from n pre post b.1
-
-pub below-at : (n : ℕ) (js : List ℕ) (k : ℕ) → AreBelow n js → k < length js → get_or js k 0 < n
-below-at n [] k b lt = absurd (omega arith)
-below-at n (j ∷ js) zero b lt = b.0
-below-at n (j ∷ js) (suc k) b lt = below-at n js k b.1 (omega arith)
-
-pub sum_list-append : (f : ℕ → ℕ) (xs ys : List ℕ) → sum_list f (xs ++ ys) ≡ sum_list f xs + sum_list f ys
-sum_list-append f [] ys = omega arith
-sum_list-append f (x ∷ xs) ys = omega (arith, sum_list-append f xs ys)
-
-pub sum_list-snoc : (f : ℕ → ℕ) (xs : List ℕ) (i : ℕ) → sum_list f (xs ++ i ∷ []) ≡ sum_list f xs + f i
-sum_list-snoc f xs i = omega (arith, sum_list-append f xs (i ∷ []))
-
-pub in_order-none : (key : ℕ → ℕ) → in_order key 0 ≡ []
-unfolding in_order
-in_order-none key = refl
-
-pub in_order-more : (key : ℕ → ℕ) (n : ℕ) → in_order key (n + 1) ≡ insert_by key n (in_order key n)
-unfolding in_order
-in_order-more key n = let e : n + 1 ≡ suc n = omega arith in rw e refl
-
--- i stands somewhere in the list
-abbrev pub Stands : ℕ → List ℕ → Type 0
-Stands i xs = (pre : List ℕ) × ((post : List ℕ) × (xs ≡ pre ++ i ∷ post))
-
-stands-later : (i j : ℕ) (xs : List ℕ) → Stands i xs → Stands i (j ∷ xs)
-stands-later i j xs at = (j ∷ at.0, (at.1.0, ap (λ (ys : List ℕ). j ∷ ys) at.1.1))
-
-stands-insert : (key : ℕ → ℕ) (i : ℕ) (js : List ℕ) → Stands i (insert_by key i js)
-stands-insert key i [] = ([], ([], refl))
-stands-insert key i (j ∷ js) = go (stands_before key i j) (stands-insert key i js)
-  where
-    go : (b : Bool) → Stands i (insert_by key i js) → Stands i (if b then i ∷ j ∷ js else j ∷ insert_by key i js)
-    go true ih = ([], (j ∷ js, refl))
-    go false ih = stands-later i j (insert_by key i js) ih
-
-stands-kept : (key : ℕ → ℕ) (k i : ℕ) (js : List ℕ) → Stands k js → Stands k (insert_by key i js)
-stands-kept key k i [] at = stands-later k i [] at
-stands-kept key k i (j ∷ js) at = go (stands_before key i j) at.0 at.1.0 at.1.1 (λ rest. stands-kept key k i js rest)
-  where
-    go : (b : Bool) (pre post : List ℕ) → j ∷ js ≡ pre ++ k ∷ post → (Stands k js → Stands k (insert_by key i js)) → Stands k (if b then i ∷ j ∷ js else j ∷ insert_by key i js)
-    go true pre post e ih = (i ∷ pre, (post, ap (λ (ys : List ℕ). i ∷ ys) e))
-    go false [] post e ih = let same : j ≡ k = cc in ([], (insert_by key i js, ap (λ (m : ℕ). m ∷ insert_by key i js) same))
-    go false (p ∷ pre) post e ih = let rest : js ≡ pre ++ k ∷ post = cc in stands-later k j (insert_by key i js) (ih (pre, (post, rest)))
-
--- each task stands in the order
-pub stands-in_order : (key : ℕ → ℕ) (n k : ℕ) → k < n → Stands k (in_order key n)
-unfolding in_order
-stands-in_order key zero k lt = absurd (omega arith)
-stands-in_order key (suc n) k lt = go (eq-or-lt_of_le (le_of_suc-le-suc lt)) (stands-in_order key n k)
-  where
-    go : (k ≡ n) ⊎ (k < n) → (k < n → Stands k (in_order key n)) → Stands k (insert_by key n (in_order key n))
-    go (inl e) ih = subst (λ (m : ℕ). Stands m (insert_by key n (in_order key n))) (sym e) (stands-insert key n (in_order key n))
-    go (inr l) ih = stands-kept key k n (in_order key n) (ih l)
-
-pub first_ahead : (key : ℕ → ℕ) (j i : ℕ) (pre post : List ℕ) → IsAhead key j (pre ++ i ∷ post) → stands_before key j i ≡ true
-first_ahead key j i [] post a = a.0
-first_ahead key j i (k ∷ pre) post a = first_ahead key j i pre post a.1
 
 -- of an ordered list, the sum over what stands after i is the sum over its last part
 all_after : (key f : ℕ → ℕ) (i : ℕ) (js : List ℕ) → IsAhead key i js → sum_list (λ k. if stands_before key i k then f k else 0) js ≡ sum_list f js
@@ -90,30 +26,3 @@ sum_after-suffix key f n i pre post e =
     sym (sum_list-in_order (λ k. if stands_before key i k then f k else 0) key n)
     ∙ (ap (sum_list (λ k. if stands_before key i k then f k else 0)) e
     ∙ ordered-rest key f i pre post (subst (IsOrdered key) e (in_order-ordered key n)))
-
--- keys that are equal below n give one order, and equal sums
-before-same : (key key' : ℕ → ℕ) (j i : ℕ) → key j ≡ key' j → key i ≡ key' i → stands_before key j i ≡ stands_before key' j i
-before-same key key' j i ej ei = ap₂ (λ (x y : ℕ). nat_lt x y || (nat_eq x y && nat_lt j i)) ej ei
-
-insert-same : (key key' : ℕ → ℕ) (n i : ℕ) (js : List ℕ) → ((k : ℕ) → k < n → key k ≡ key' k) → i < n → AreBelow n js → insert_by key i js ≡ insert_by key' i js
-insert-same key key' n i [] same lt b = refl
-insert-same key key' n i (j ∷ js) same lt b =
-    ap₂ (λ (c : Bool) (ks : List ℕ). if c then i ∷ j ∷ js else j ∷ ks)
-    (before-same key key' i j (same i lt) (same j b.0)) (insert-same key key' n i js same lt b.1)
-
-pub in_order-same : (key key' : ℕ → ℕ) (n : ℕ) → ((k : ℕ) → k < n → key k ≡ key' k) → in_order key n ≡ in_order key' n
-unfolding in_order
-in_order-same key key' zero same = refl
-in_order-same key key' (suc n) same =
-    let less : in_order key n ≡ in_order key' n = in_order-same key key' n (λ k lt. same k (omega arith)) in
-    ap (insert_by key n) less
-    ∙ insert-same key key' (suc n) n (in_order key' n) same (omega arith) (more n (in_order key' n) (in_order-below key' n))
-  where
-    more : (n : ℕ) (js : List ℕ) → AreBelow n js → AreBelow (suc n) js
-    more n [] b = tt
-    more n (j ∷ js) b = (omega (arith, b.0), more n js b.1)
-
-pub sum_before-same : (key key' f : ℕ → ℕ) (n i : ℕ) → ((k : ℕ) → k < n → key k ≡ key' k) → i < n → sum_before n key f i ≡ sum_before n key' f i
-sum_before-same key key' f n i same lt =
-    sum_below-same n (λ j. if stands_before key j i then f j else 0) (λ j. if stands_before key' j i then f j else 0)
-    (λ j l. ap (λ (b : Bool). if b then f j else 0) (before-same key key' j i (same j l) (same i lt)))

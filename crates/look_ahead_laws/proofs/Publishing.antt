@@ -11,13 +11,12 @@ use Rattle.sched_model.specs.Order.{in_order}
 use Rattle.sched_model.specs.AheadDemand.{first_due, slack, put_off, spread_rate, spread_rates, due_first, ahead_of, edf_ahead}
 use Rattle.sched_model.specs.Demand.{demand_by, published}
 use Rattle.sched_model.specs.States.{no_row, row_at, row_wleft, row_of, state_of}
-use Rattle.sched_model.proofs.OrderLemmas.{AreBelow, in_order-below}
+use Rattle.sched_model.proofs.OrderLemmas.{AreBelow, in_order-below, in_order-same, sum_before-same}
 use Rattle.sched_model.proofs.Tables.{get-table}
 use Rattle.governor.specs.Steps.{wleft_at}
 use Rattle.governor.specs.Schedule.{Publishes}
 use Rattle.governor.specs.Serving.{ServesEdf}
 use Rattle.look_ahead_laws.specs.Ahead.{deadline_at, ahead_demand}
-use Rattle.look_ahead_laws.proofs.EdfOrder.{in_order-same, sum_before-same}
 
 module _ (p : Plan) (due due' left left' : ℕ → ℕ) (same : (i : ℕ) → i < count p → due i ≡ due' i) (same_left : (i : ℕ) → i < count p → left i ≡ left' i) where
   first_same : first_due p due ≡ first_due p due'

@@ -9,8 +9,8 @@ use Rattle.sched_model.specs.Plan.{Plan, count, hyper, rate, top_speed}
 use Rattle.sched_model.specs.Priority.{sum_before}
 use Rattle.sched_model.specs.Order.{in_order}
 use Rattle.sched_model.specs.AheadDemand.{first_due, slack, put_off, spread_rate, spread_rates, due_first}
-use Rattle.sched_model.proofs.OrderLemmas.{sum_list, IsAhead, IsOrdered, AreBelow, in_order-ordered, sum_before-prefix}
-use Rattle.look_ahead_laws.proofs.EdfOrder.{key_rises, sum_list-snoc}
+use Rattle.sched_model.proofs.OrderLemmas.{sum_list, IsAhead, IsOrdered, AreBelow, in_order-ordered, sum_before-prefix, sum_list-snoc}
+use Rattle.look_ahead_laws.proofs.EdfOrder.{key_rises}
 
 -- ONE TASK, over plain numbers: y is put off, v is its rate
 

@@ -1,7 +1,7 @@
 use Rattle.std.proofs.Common.{sym, ◌∙◌, ap}
 use Rattle.sched_model.specs.Order.{insert_by}
+use Rattle.sched_model.proofs.OrderLemmas.{in_order-none, in_order-more}
 use Rattle.look_ahead_laws.specs.Ahead.{deadline_at}
-use Rattle.look_ahead_laws.proofs.EdfOrder.{in_order-none, in_order-more}
 use Rattle.look_ahead.proofs.order.edf_order.Goals as goal
 
 pub loop-task-init : goal.loop-task-init
