@@ -13,9 +13,10 @@ use Rattle.sched_model.proofs.Limits.{some_task}
 use Rattle.governor.specs.Steps.{earliest, IsAtDecision}
 use Rattle.governor.specs.Laws.{GovernorLaws}
 use Rattle.governor.specs.Serving.{ServesRm}
+use Rattle.governor.proofs.Belonging.{earliest-later}
 use Rattle.cc_rm_laws.specs.Allotments.{cycle_demand}
 use Rattle.cc_rm_laws.specs.Conditions.{CcRmCalm, CcRmSafe}
-use Rattle.cc_rm_laws.proofs.Deadlines.{earliest-later, cc_rm_completes}
+use Rattle.cc_rm_laws.proofs.Deadlines.{cc_rm_completes}
 use Rattle.cc_rm_laws.proofs.Marks.{cc_rm_opens, cc_rm_releases}
 use Rattle.cc_rm_laws.proofs.Running.{cc_rm_enough, cc_rm_ticks}
 

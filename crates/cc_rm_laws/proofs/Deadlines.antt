@@ -17,6 +17,7 @@ use Rattle.sched_model.proofs.Limits.{some_task, some_period}
 use Rattle.sched_model.proofs.JobLaws.{latest-is, release-suc, release-due, due-suc}
 use Rattle.sched_model.proofs.LevelSums.{sum_where-term, up_to-self, greatest-above, greatest-least}
 use Rattle.governor.specs.Steps.{is_due, opened_row, after_boundary, wleft_at, release_of, earliest, IsBeforeAll, Belongs}
+use Rattle.governor.proofs.Rows.{wleft-most}
 use Rattle.governor.proofs.Belonging.{in_rows, boundary_at}
 use Rattle.governor.proofs.Ticks.{demand_most}
 use Rattle.one_speed.specs.Rm.{level}
@@ -33,17 +34,6 @@ due-is p i k = refl
 release-is : (p : Plan) (i k : ℕ) → release p i k ≡ (k - 1) * period p i
 unfolding release
 release-is p i k = refl
-
-wleft_by : (b : Bool) (w u : ℕ) → (if b then 0 else w - u) ≤ w
-wleft_by true w u = omega arith
-wleft_by false w u = omega arith
-
-wleft-most : (row : Row) → row_wleft row ≤ row.worst
-wleft-most row = wleft_by row.done row.worst row.used
-
--- before all deadlines, the earliest one is later than now
-pub earliest-later : (plan : Plan) → IsWithinLimits plan → (s : StateOf) → IsBeforeAll plan s → s.now < earliest plan s
-earliest-later plan lim s before = least-above (count plan) (λ i. (row_at s i).deadline) (suc s.now) (some_task plan lim) before
 
 module _ (plan : Plan) (adm : IsAdmitted plan) (dem : ℕ → ℕ → ℕ) (s : StateOf) (bel : Belongs plan dem s) where
   pub now-first : s.now ≤ earliest plan s

@@ -18,15 +18,14 @@ use Rattle.sched_model.proofs.PriorityLemmas.{allotment-shares}
 use Rattle.sched_model.proofs.DownSets.{down-set-gets}
 use Rattle.sched_model.proofs.LevelSums.{sum_where-mono, sum_where-plus, sum_where-zero, level-gets}
 use Rattle.governor.specs.Steps.{each_row, is_due, boundary_row, opened_row, after_boundary, wleft_at, release_of, earliest, Belongs}
-use Rattle.governor.proofs.Rows.{none_due_at, some_due_at, or_false_right}
-use Rattle.governor.proofs.Belonging.{in_rows, opening_at, boundary_at, belongs_boundary, decision_boundary, opened_release}
+use Rattle.governor.proofs.Rows.{none_due_at, some_due_at, or_false_right, done_none}
+use Rattle.governor.proofs.Belonging.{in_rows, opening_at, boundary_at, belongs_boundary, decision_boundary, opened_release, earliest-later}
 use Rattle.one_speed.specs.Rm.{level}
-use Rattle.one_speed.proofs.RmLaws.{done_none}
 use Rattle.cc_rm_laws.specs.Allotments.{base_of, allotted_units, allotted, allotment_left}
 use Rattle.cc_rm_laws.specs.Conditions.{LacksNothing, CcRmCalm}
 use Rattle.cc_rm_laws.proofs.Lefts.{left-marked}
 use Rattle.cc_rm_laws.proofs.Backlog.{lack, lack_after, lack-is, level_down, backlog-span, backlog-where}
-use Rattle.cc_rm_laws.proofs.Deadlines.{earliest-later, now-first, first-due, quiet, allotted-most, level-most, completed-too, row-adds}
+use Rattle.cc_rm_laws.proofs.Deadlines.{now-first, first-due, quiet, allotted-most, level-most, completed-too, row-adds}
 
 -- nothing is allotted before the first release
 module _ (plan : Plan) where

@@ -19,15 +19,15 @@ use Rattle.sched_model.proofs.PriorityLemmas.{before-total, allotment_of}
 use Rattle.sched_model.proofs.DownSets.{down-set-gets}
 use Rattle.sched_model.proofs.LevelSums.{sum_where-mono, sum_where-plus, sum_where-tight}
 use Rattle.governor.specs.Steps.{wleft_at, release_of, earliest, share, left, key_of, IsLegal, after_tick, IsBeforeAll, Belongs}
-use Rattle.governor.proofs.Belonging.{in_rows, tick_at, legal_most}
+use Rattle.governor.proofs.Rows.{done_none}
+use Rattle.governor.proofs.Belonging.{in_rows, tick_at, legal_most, earliest-later}
 use Rattle.governor.proofs.Ticks.{tick-falls, tick-closes}
 use Rattle.one_speed.specs.Rm.{level}
-use Rattle.one_speed.proofs.RmLaws.{done_none}
 use Rattle.cc_rm_laws.specs.Allotments.{base_of, allotted_units, allotted, allotment_left}
 use Rattle.cc_rm_laws.specs.Conditions.{CcRmCalm}
 use Rattle.cc_rm_laws.proofs.Allotting.{allotment-full, allotment-none, some-term}
 use Rattle.cc_rm_laws.proofs.Lefts.{left_by, left-part, left-full, left-some, left-idle, left-open}
-use Rattle.cc_rm_laws.proofs.Deadlines.{earliest-later, allotted-most}
+use Rattle.cc_rm_laws.proofs.Deadlines.{allotted-most}
 
 -- what is left fits in the rest of the time, where it is nothing or fell by the speed
 room_falls : (left left' f x y : ℕ) → x ≡ y + 1 → (left' ≡ 0) ⊎ (left' + f ≤ left) → left ≤ f * x → left' ≤ f * y

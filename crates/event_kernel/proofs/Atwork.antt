@@ -5,6 +5,7 @@ use Rattle.grid_fraction.specs.declared.Frac.{Frac}
 use Rattle.dvs_base.specs.declared.note.Note.{Note}
 use Rattle.sched_model.specs.declared.state.Row.{Row}
 use Rattle.sched_model.specs.declared.holder.Holder.TheVariants.{Nobody, Held}
+use Rattle.governor.proofs.Course.{force-within}
 use Rattle.event_kernel.proofs.Bounds.{Bounds}
 use Rattle.sched_model.specs.Plan.{Plan, count, point}
 use Rattle.sched_model.specs.Jobs.{latest}
@@ -20,7 +21,7 @@ use Rattle.event_kernel.specs.Writing.{Writing}
 use Rattle.event_kernel.specs.Tickwork.{served, span_at, tick_at, whole_span, IsAtWork, HasWorked}
 use Rattle.event_kernel.proofs.Handing.{had}
 use Rattle.event_kernel.proofs.Ending.{exec-within, speed_now}
-use Rattle.event_kernel.proofs.Working.{course-next, entry-in, within_now, Working, working-start, rows-long, can-tell, can-run, working-turn, working-balk, Idled, working-full, working-idle, working-idle-balk, Worked, working-done}
+use Rattle.event_kernel.proofs.Working.{course-next, within_now, Working, working-start, rows-long, can-tell, can-run, working-turn, working-balk, Idled, working-full, working-idle, working-idle-balk, Worked, working-done}
 
 module _ {L : Type 0} (heard balked : L → Note → L → Type 0) (demand : Plan → StateOf → Frac) (p : Plan) (dem : ℕ → ℕ → ℕ) (t from e : ℕ) (st0 : StateOf) (pen0 : Pen) (adm : Bounds p) (at : IsAtWork demand p dem t from e st0 pen0) (to0 : L) where
   abbrev pub past : List Tick
@@ -42,7 +43,7 @@ module _ {L : Type 0} (heard balked : L → Note → L → Type 0) (demand : Pla
   within i lt = exec-within p dem ask t i (latest p i (length past)) lt
 
   pub entry-there : e < length p.machine.points
-  entry-there = subst (λ m. m < length p.machine.points) (sym at.in_force) (entry-in p dem ask adm.some_point past)
+  entry-there = subst (λ m. m < length p.machine.points) (sym at.in_force) (force-within p dem ask adm.some_point past)
 
   speed_is : (point p e).speed ≡ speed_now p dem ask past
   speed_is = ap (λ m. (point p m).speed) at.in_force

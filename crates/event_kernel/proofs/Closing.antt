@@ -6,6 +6,7 @@ use Rattle.std.proofs.lemmas.List.Sums.{sum_by-append, sum_by-cons}
 use Rattle.grid_fraction.specs.declared.Frac.{Frac}
 use Rattle.dvs_base.specs.declared.note.Note.{Note}
 use Rattle.dvs_base.specs.declared.note.Note.TheVariants.{End}
+use Rattle.governor.proofs.Course.{force-within}
 use Rattle.event_kernel.proofs.Bounds.{Bounds}
 use Rattle.sched_model.specs.Plan.{Plan}
 use Rattle.sched_model.specs.Decision.{is_decision}
@@ -24,7 +25,6 @@ use Rattle.event_kernel.specs.Tickwork.{whole_span}
 use Rattle.event_kernel.specs.Boundary.{ended_pen, ended_notes, IsBetween}
 use Rattle.event_kernel.specs.Walking.{IsInSpan, HasWalked, told_before, told_in, told_after}
 use Rattle.event_kernel.proofs.Hearing.{Begins, begins-self, begins-trans, heard-append, balked-append, balked-begins, balked_after}
-use Rattle.event_kernel.proofs.Working.{entry-in}
 use Rattle.event_kernel.proofs.Spanning.{open-new, closing-notes, closing-can, closing-between}
 use Rattle.event_kernel.proofs.Onward.{in-begins}
 use Rattle.event_kernel.proofs.Releasing.{course-len}
@@ -60,7 +60,7 @@ module _ {L : Type 0} (heard balked : L → Note → L → Type 0) (demand : Pla
   pub close-can : (s0 : StateOf) (pen0 : Pen) → IsInSpan demand p dem ticks t0 t0 e s0 pen0 → CanTell p s t0 e pen
   close-can s0 pen0 i =
       closing-can demand p dem adm ticks t0 (s.now - 1) e s pen h early from_is
-      (subst (λ m. m < length p.machine.points) (sym i.work.in_force) (entry-in p dem (ask_of demand p dem) adm.some_point (course demand p dem t0)))
+      (subst (λ m. m < length p.machine.points) (sym i.work.in_force) (force-within p dem (ask_of demand p dem) adm.some_point (course demand p dem t0)))
 
   notes : told_before demand p dem s.now ≡ told_after demand p dem (s.now - 1) ++ ended_notes p s t0 e pen
   notes = ap (told_before demand p dem) (sym next) ∙ closing-notes demand p dem adm ticks t0 (s.now - 1) e s pen h early from_is

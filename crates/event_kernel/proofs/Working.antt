@@ -5,6 +5,7 @@ use Rattle.dvs_base.specs.declared.note.Note.{Note}
 use Rattle.sched_model.specs.declared.state.Row.{Row}
 use Rattle.sched_model.specs.declared.holder.Holder.{Holder}
 use Rattle.sched_model.specs.declared.holder.Holder.TheVariants.{Nobody, Held}
+use Rattle.governor.proofs.Course.{force-within}
 use Rattle.event_kernel.proofs.Bounds.{Bounds}
 use Rattle.grid_fraction.specs.Numbers.{sum_below, any_below}
 use Rattle.sched_model.specs.Plan.{Plan, count, worst}
@@ -34,17 +35,6 @@ use Rattle.freq_table.specs.Tables.{lowest_entry}
 pub course-next : (p : Plan) (dem : ℕ → ℕ → ℕ) (ask : List Tick → Frac) (t : ℕ) → schedule_by p dem ask (t + 1) ≡ next_tick p dem ask (schedule_by p dem ask t) ∷ schedule_by p dem ask t
 unfolding schedule_by
 course-next p dem ask t = ap (schedule_by p dem ask) (add-one t)
-
-lowest-in : (p : Plan) → 0 < length p.machine.points → (d : Frac) → lowest_entry p.machine d < length p.machine.points
-lowest-in p some d = omega arith
-
-pub entry-in : (p : Plan) (dem : ℕ → ℕ → ℕ) (ask : List Tick → Frac) → 0 < length p.machine.points → (past : List Tick) → entry_in_force p dem ask past < length p.machine.points
-entry-in p dem ask some [] = lowest-in p some (ask [])
-entry-in p dem ask some (x ∷ past) = go (is_decision p dem (x ∷ past)) (entry-in p dem ask some past)
-  where
-    go : (b : Bool) → entry_in_force p dem ask past < length p.machine.points → (if b then lowest_entry p.machine (ask (x ∷ past)) else entry_in_force p dem ask past) < length p.machine.points
-    go true ih = lowest-in p some (ask (x ∷ past))
-    go false ih = ih
 
 module _ {L : Type 0} (heard balked : L → Note → L → Type 0) (p : Plan) (dem : ℕ → ℕ → ℕ) (ask : List Tick → Frac) (past : List Tick) where
   abbrev pub within_now : Type 0
@@ -96,7 +86,7 @@ module _ {L : Type 0} (heard balked : L → Note → L → Type 0) (p : Plan) (d
         → (to : L) (rest : ℕ) (completed : Bool) (st : StateOf) (pen : Pen) → Working s0 from to rest completed st pen → CanTell p st (length s0.past) s0.entry pen × (pen.units + speed_now p dem ask past < 2 ^ 64)
     can-tell early before e to rest completed st pen w = (
       record {
-        entry = subst (λ m. m < length p.machine.points) (sym e) (entry-in p dem ask adm.some_point past);
+        entry = subst (λ m. m < length p.machine.points) (sym e) (force-within p dem ask adm.some_point past);
         place = omega (arith, w.pen_is.place, w.pen_is.few, w.hand.sum, adm.low_speed (entry_in_force p dem ask past));
         money = omega (arith, w.pen_is.money, w.hand.sum, adm.low_speed (entry_in_force p dem ask past));
         ends = omega (arith, w.pen_is.few_finished, w.hand.sum, adm.low_speed (entry_in_force p dem ask past), early);

@@ -6,6 +6,7 @@ use Rattle.std.specs.List.{list_any}
 use Rattle.std.proofs.lemmas.Bool.{cases_Bool, eqb-true, eqb-false}
 use Rattle.std.proofs.lemmas.List.{length-map, get_or-map}
 use Rattle.grid_fraction.specs.Numbers.{greatest_below}
+use Rattle.grid_fraction.proofs.Least.{least-above}
 use Rattle.sched_model.specs.declared.state.Row.{Row}
 use Rattle.sched_model.specs.Plan.{Plan, count, period, worst}
 use Rattle.sched_model.specs.Demands.{IsWithin}
@@ -14,8 +15,8 @@ use Rattle.sched_model.specs.States.{StateOf, row_at, no_row, row_wleft, opening
 use Rattle.sched_model.proofs.LevelSums.{share-most, greatest-above, greatest-least, greatest-same}
 use Rattle.sched_model.proofs.ScheduleLemmas.{length-list_below}
 use Rattle.sched_model.proofs.Tables.{get-table}
-use Rattle.sched_model.proofs.Limits.{some_period, low_period}
-use Rattle.governor.specs.Steps.{is_due, boundary_row, opened_row, after_boundary, share, left, left_of, key_of, release_of, last_marked, IsLegal, after_tick, tick_row, IsBeforeAll, IsAtDecision, Belongs}
+use Rattle.sched_model.proofs.Limits.{some_task, some_period, low_period}
+use Rattle.governor.specs.Steps.{earliest, is_due, boundary_row, opened_row, after_boundary, share, left, left_of, key_of, release_of, last_marked, IsLegal, after_tick, tick_row, IsBeforeAll, IsAtDecision, Belongs}
 use Rattle.governor.proofs.Rows.{length-each_row, get-each_row, none_due_at, some_due_at}
 
 -- what one row of a state that belongs keeps
@@ -267,3 +268,7 @@ belongs_tick plan dem f s shares bel before legal =
     (λ i h. rw (tick_at dem shares s i (here i h)) (let r = wleft_falls (row_at s i).done (row_at s i).worst (row_at s i).used (share shares i) (dem i (row_at s i).job) in let b = bel.base i h in le_trans r b))
     bel.demand
     (λ i h. rw (tick_at dem shares s i (here i h)) (row_after_tick plan dem shares s.now i (row_at s i) (λ k. bel.demand i k h) (before i h) (legal_most plan dem f s shares legal i h) (row_ok plan dem s bel i h)))
+
+-- before all deadlines, the earliest one is later than now
+pub earliest-later : (plan : Plan) → IsWithinLimits plan → (s : StateOf) → IsBeforeAll plan s → s.now < earliest plan s
+earliest-later plan lim s before = least-above (count plan) (λ i. (row_at s i).deadline) (suc s.now) (some_task plan lim) before

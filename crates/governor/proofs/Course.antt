@@ -1,5 +1,5 @@
 -- What the laws of a governor give along its schedule: every deadline is met, and every demand but that of a look-ahead.
-use Rattle.std.proofs.Common.{◌≡◌, ◌≢◌, ℕ, zero, suc, ◌-◌, ◌<◌, ◌≤◌, Bool, true, false, ◌||◌, List, [], ◌∷◌, length, drop, refl, arith, if◌then◌else◌, ap, ◌∙◌, sym, subst, true≢false, ◌⊎◌, inl, inr, eq-or-lt_of_le}
+use Rattle.std.proofs.Common.{◌≡◌, ◌≢◌, ℕ, zero, suc, ◌-◌, ◌<◌, ◌≤◌, Bool, true, false, List, [], ◌∷◌, length, drop, refl, arith, if◌then◌else◌, ap, ◌∙◌, sym, subst, true≢false, ◌⊎◌, inl, inr, eq-or-lt_of_le}
 use Rattle.dvs_base.specs.declared.kind.Scheduler.{Scheduler}
 use Rattle.dvs_base.specs.declared.kind.GovernorKind.{GovernorKind}
 use Rattle.dvs_base.specs.declared.kind.GovernorKind.TheVariants.{Ahead}
@@ -26,12 +26,9 @@ use Rattle.sched_model.proofs.Joining.{state-still}
 use Rattle.governor.specs.Steps.{IsAtDecision, IsLegal, Belongs}
 use Rattle.governor.specs.Laws.{GovernorLaws}
 use Rattle.governor.specs.Schedule.{ask_of, course}
+use Rattle.governor.proofs.Rows.{or_false_left}
 use Rattle.governor.proofs.Joins.{boundary-is, tick-is, legal-is}
 use Rattle.governor.proofs.Belonging.{belongs_opening, belongs_boundary, belongs_tick, decision_boundary}
-
-or-left : (a b : Bool) → (a || b) ≡ false → a ≡ false
-or-left true b e = absurd (true≢false e)
-or-left false b e = refl
 
 -- tick by tick
 pub schedule-none : (p : Plan) (dem : ℕ → ℕ → ℕ) (ask : List Tick → Frac) → schedule_by p dem ask zero ≡ []
@@ -107,7 +104,7 @@ module _ (kind : GovernorKind) (serves : Scheduler → Type 0) (demand : Plan �
 
   no-release : (past : List Tick) → is_decision p dem past ≡ false → is_release p (length past) ≡ false
   no-release [] e = absurd (true≢false e)
-  no-release (x ∷ past) e = or-left (is_release p (length (x ∷ past))) _ e
+  no-release (x ∷ past) e = or_false_left (is_release p (length (x ∷ past))) _ e
 
   safe-state : (past : List Tick) → Kept past → safe p (state_of p dem past) (entry_at past)
   safe-state past k = go (is_decision p dem past) refl

@@ -1,9 +1,9 @@
 -- The rows of a state, one by one.
-use Rattle.std.proofs.Common.{◌≡◌, ℕ, zero, suc, ◌+◌, ◌<◌, Bool, true, false, List, [], ◌∷◌, length, get_or, refl, ◌∙◌, ap, arith, add-zero}
+use Rattle.std.proofs.Common.{◌≡◌, ℕ, zero, suc, ◌+◌, ◌-◌, ◌<◌, ◌≤◌, Bool, true, false, if◌then◌else◌, List, [], ◌∷◌, length, get_or, refl, ◌∙◌, ap, arith, add-zero}
 use Rattle.std.specs.Prelude.{◌||◌}
 use Rattle.std.specs.List.{list_any}
 use Rattle.sched_model.specs.declared.state.Row.{Row}
-use Rattle.sched_model.specs.States.{no_row}
+use Rattle.sched_model.specs.States.{no_row, row_wleft}
 use Rattle.governor.specs.Steps.{each_row}
 
 pub length-each_row : (f : ℕ → Row → Row) (i : ℕ) (rows : List Row) → length (each_row f i rows) ≡ length rows
@@ -19,6 +19,17 @@ get-each_row_from f i (row ∷ rows) (suc j) h =
 
 pub get-each_row : (f : ℕ → Row → Row) (rows : List Row) (j : ℕ) → j < length rows → get_or (each_row f 0 rows) j no_row ≡ f j (get_or rows j no_row)
 get-each_row f rows j h = get-each_row_from f 0 rows j h ∙ ap (λ (k : ℕ). f k (get_or rows j no_row)) (add-zero j)
+
+-- a complete job needs nothing more, and no job more than its worst case
+pub done_none : (row : Row) → row.done ≡ true → row_wleft row ≡ 0
+done_none row e = rw e refl
+
+pub wleft-most : (row : Row) → row_wleft row ≤ row.worst
+wleft-most row = go row.done
+  where
+    go : (b : Bool) → (if b then 0 else row.worst - row.used) ≤ row.worst
+    go true = omega arith
+    go false = omega arith
 
 pub or_false_left : (a b : Bool) → (a || b) ≡ false → a ≡ false
 or_false_left true b h = h

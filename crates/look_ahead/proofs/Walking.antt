@@ -13,15 +13,12 @@ use Rattle.sched_model.proofs.Limits.{some_hyper}
 use Rattle.sched_model.proofs.OrderLemmas.{sum_list, in_order-below, length-in_order, below-at, sum_list-append, sum_list-snoc}
 use Rattle.governor.specs.Steps.{wleft_at}
 use Rattle.governor.specs.Serving.{ServesEdf}
+use Rattle.governor.proofs.Rows.{wleft-most}
 use Rattle.look_ahead_laws.specs.Ahead.{deadline_at, edf_order}
 use Rattle.look_ahead_laws.proofs.Spreading.{rate_within}
 use Rattle.look_ahead_laws.proofs.AheadLaws.{rates_fit, total_is}
 use Rattle.look_ahead.specs.Walk.{next_rates, next_first}
 use Rattle.look_ahead.proofs.Walked.{Walked, walked_step}
-
-left_most : (done : Bool) (used worst : ℕ) → (if done then 0 else worst - used) ≤ worst
-left_most true used worst = omega arith
-left_most false used worst = omega arith
 
 first_by : (b : Bool) (first w room : ℕ) → (if b then first + w else first + (w - room)) ≤ first + w
 first_by true first w room = omega arith
@@ -49,7 +46,7 @@ module _ (plan : Plan) (s : StateOf) where
   pub left_low : IsWithinLimits plan → IsOfPlan plan s → (i : ℕ) → i < count plan → wleft_at s i ≤ 2 ^ 61
   left_low lim of i lt =
       let row = row_at s i in
-      let most = left_most row.done row.used row.worst in
+      let most = wleft-most row in
       let is = of.worst i lt in
       let declared = (lim.tasks.each i lt).low_worst in
       let charge = lim.machine.low_charge in

@@ -20,6 +20,7 @@ use Rattle.sched_model.proofs.OrderLemmas.{sum_list, sum_list-in_order, in_order
 use Rattle.governor.specs.Steps.{wleft_at, earliest, IsAtDecision, Belongs}
 use Rattle.governor.specs.Serving.{ServesEdf}
 use Rattle.governor.specs.Laws.{GovernorLaws}
+use Rattle.governor.proofs.Belonging.{earliest-later}
 use Rattle.one_speed.specs.Edf.{load}
 use Rattle.one_speed.proofs.Fits.{full_enough}
 use Rattle.one_speed.proofs.EdfLaws.{load_is, edf_opens, edf_releases, edf_chooses, edf_ticks, edf_stays_calm, edf_completes}
@@ -75,14 +76,9 @@ module _ (plan : Plan) (s : StateOf) where
       ]
 
   -- the next deadline is ahead, and near
-  pub earliest_ahead : IsAdmitted plan → IsAtDecision plan s → s.now < earliest plan s
-  earliest_ahead adm dec =
-      let next : s.now + 1 ≤ earliest plan s = least-above (count plan) (deadline_at s) (s.now + 1) (some_task plan adm.limits) (λ i lt. let g = dec.before i lt in omega (arith, g)) in
-      omega arith
-
   pub ahead_den : IsAdmitted plan → IsAtDecision plan s → (0 < (ahead_demand plan s).den) × ((ahead_demand plan s).den ≤ 2 ^ 64)
   ahead_den adm dec =
-      let next = earliest_ahead adm dec in
+      let next = earliest-later plan adm.limits s dec.before in
       let first : earliest plan s ≤ deadline_at s 0 = least-below (count plan) (deadline_at s) 0 (some_task plan adm.limits) in
       (omega arith, (let near = dec.soon 0 (some_task plan adm.limits) in omega (arith, near, first)))
 

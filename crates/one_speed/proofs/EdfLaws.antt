@@ -19,6 +19,7 @@ use Rattle.sched_model.specs.States.{StateOf, row_at, row_wleft, opening, openin
 use Rattle.sched_model.proofs.Limits.{some_task, some_hyper, period_divides}
 use Rattle.sched_model.proofs.LevelSums.{sum_where-plus, sum_where-times, sum_where-term, sum_where-zero, sum_where-all, sum_below-times}
 use Rattle.governor.specs.Steps.{is_due, boundary_row, opened_row, after_boundary, wleft_at, earliest, key_of, IsLegal, after_tick, IsBeforeAll, Belongs}
+use Rattle.governor.proofs.Rows.{wleft-most}
 use Rattle.governor.proofs.Belonging.{in_rows, opening_at, boundary_at, tick_at}
 use Rattle.governor.proofs.Ticks.{tick_set, demand_most}
 use Rattle.one_speed.specs.Edf.{due_by, load, EdfCalm, EdfSafe}
@@ -65,17 +66,13 @@ release_pays h p q c w d now whole le within =
     let work : c * (q * p) ≡ c * h = ap (λ (x : ℕ). c * x) whole in
     rw span (omega (arith, work, mul-le-mul_left h le))
 
-wleft_opened : (b : Bool) (c : ℕ) → (if b then 0 else c - 0) ≤ c
-wleft_opened true c = omega arith
-wleft_opened false c = omega arith
-
 term_opened : (plan : Plan) (dem : ℕ → ℕ → ℕ) (h d now i p c : ℕ) (row : Row) → period plan i ≡ p → row.worst ≡ c → h / p * p ≡ h → row.done ≡ true → row.deadline ≡ now → now ≤ d → term h d (c * (h / p)) (opened_row plan dem i row) ≤ term h d (c * (h / p)) row
 term_opened plan dem h d now i p c row per wor whole closed at_now le =
     let u = c * (h / p) in
     let before : term h d u row ≡ u * (d - now) = rw (at_now, le-leb now d le, closed) (omega (arith, mul-zero h)) in
     let after : ℕ = row.deadline + period plan i in
     let w : ℕ = row_wleft (opened_row plan dem i row) in
-    let small : w ≤ c = subst (λ (x : ℕ). w ≤ x) wor (wleft_opened (dem i (row.job + 1) == 0) row.worst) in
+    let small : w ≤ c = subst (λ (x : ℕ). w ≤ x) wor (wleft-most (opened_row plan dem i row)) in
     let place : after ≡ now + p = omega arith in
     let P : Bool → Type 0 = λ (b : Bool). (if b then h * w + u * (d - after) else 0) ≤ u * (d - now) in
     rw before

@@ -14,6 +14,7 @@ use Rattle.sched_model.specs.States.{StateOf, row_at, row_wleft, opening}
 use Rattle.sched_model.proofs.Limits.{some_period}
 use Rattle.sched_model.proofs.LevelSums.{sum_where-mono, sum_where-plus, sum_where-term, up_to-self, up_to-trans, sum_up_to-where}
 use Rattle.governor.specs.Steps.{is_due, opened_row, after_boundary, wleft_at, release_of, share, key_of, IsLegal, after_tick, IsBeforeAll, Belongs}
+use Rattle.governor.proofs.Rows.{done_none, wleft-most, or_false_left}
 use Rattle.governor.proofs.Belonging.{in_rows, opening_at, boundary_at, tick_at, belongs_tick}
 use Rattle.governor.proofs.Ticks.{tick_set, demand_most}
 use Rattle.one_speed.specs.Rm.{level_work_in, level, released_since, asked_since, StretchCalm}
@@ -58,14 +59,6 @@ counts_one : (p b k : ℕ) → b ≤ k * p → released_since p b (k + 1) ≡ re
 counts_one p b k le =
     let next : k + 1 ≡ suc k = omega arith in
     rw (next, le-leb b (k * p) le) refl
-
-wleft_new : (b : Bool) (c : ℕ) → (if b then 0 else c - 0) ≤ c
-wleft_new true c = omega arith
-wleft_new false c = omega arith
-
--- a complete job needs nothing more
-pub done_none : (row : Row) → row.done ≡ true → row_wleft row ≡ 0
-done_none row e = rw e refl
 
 -- what a release adds is counted
 pays : (p b c job w : ℕ) → b ≤ job * p → w ≤ c → w + released_since p b job * c ≤ released_since p b (job + 1) * c
@@ -124,7 +117,7 @@ module _ (F : ℕ) (span : ℕ → ℕ) (plan : Plan) (lim : IsWithinLimits plan
               let at_now : row.deadline ≡ s.now = eqb-true row.deadline s.now is_now in
               let none : row_wleft row ≡ 0 = done_none row (due j h at_now) in
               let d : row.deadline ≡ row.job * p = bel.deadline j h in
-              let small : row_wleft (opened_row plan dem j row) ≤ row.worst = wleft_new (dem j (row.job + 1) == 0) row.worst in
+              let small : row_wleft (opened_row plan dem j row) ≤ row.worst = wleft-most (opened_row plan dem j row) in
               let w : row.worst ≡ worst plan j = bel.of.worst j h in
               let paid = pays p b (worst plan j) row.job (row_wleft (opened_row plan dem j row)) (omega arith) (omega arith) in
               subst Q (sym is_now) (omega (arith, none, paid))
@@ -212,11 +205,7 @@ module _ (F : ℕ) (span : ℕ → ℕ) (plan : Plan) (lim : IsWithinLimits plan
     tick_open shares j h =
         let row = row_at s j in
         let P : Row → Type 0 = λ (new : Row). new.done ≡ false → (row.done ≡ false) × (release_of (period plan j) new ≡ release_of (period plan j) row) in
-        subst P (sym (tick_at dem shares s j (here j h))) (λ still. (was_open row.done (row.used + share shares j == dem j row.job) still, refl))
-      where
-        was_open : (a c : Bool) → (a || c) ≡ false → a ≡ false
-        was_open true c e = e
-        was_open false c e = refl
+        subst P (sym (tick_at dem shares s j (here j h))) (λ still. (or_false_left row.done (row.used + share shares j == dem j row.job) still, refl))
 
     done_stays : (shares : List ℕ) (j : ℕ) → j < count plan → (row_at s j).done ≡ true → (row_at (after_tick dem shares s) j).done ≡ true
     done_stays shares j h closed = rw (tick_at dem shares s j (here j h)) (rw closed refl)

@@ -4,7 +4,7 @@ use Rattle.sched_model.specs.Plan.{count}
 use Rattle.sched_model.specs.StaticDemand.{static_demand_of}
 use Rattle.sched_model.specs.Tests.{total_rate}
 use Rattle.sched_model.specs.States.{StateOf}
-use Rattle.look_ahead_laws.proofs.AheadLaws.{earliest_ahead}
+use Rattle.governor.proofs.Belonging.{earliest-later}
 use Rattle.look_ahead.specs.Walk.{next_rates, next_first}
 use Rattle.look_ahead.proofs.Walking.{turn, turn_is, turn_below, done_none, done_next, has_rate, rates_low, first_grows}
 use Rattle.look_ahead.proofs.walk.ahead_demand.Goals as goal
@@ -48,6 +48,6 @@ loop-j-preserved c =
 
 pub overflow_sub-soonest : goal.overflow_sub-soonest
 overflow_sub-soonest c =
-    let next = earliest_ahead c.args.plan.now c.args.view.now c.known.ensures c.requires.decision in
+    let next = earliest-later c.args.plan.now c.known.ensures.limits c.args.view.now c.requires.decision.before in
     let clock : c.view.inside.now ≡ c.args.view.now.now = ap (λ (v : StateOf). v.now) c.view.view_is in
     omega (arith, next, clock, c.earliest_deadline-soonest.ensures)

@@ -5,8 +5,8 @@ use Rattle.sched_model.specs.declared.state.Row.{Row}
 use Rattle.sched_model.specs.Plan.{count}
 use Rattle.sched_model.specs.States.{StateOf, no_row}
 use Rattle.sched_model.proofs.Limits.{some_hyper}
+use Rattle.governor.proofs.Belonging.{earliest-later}
 use Rattle.look_ahead_laws.specs.Ahead.{deadline_at}
-use Rattle.look_ahead_laws.proofs.AheadLaws.{earliest_ahead}
 use Rattle.look_ahead.proofs.walk.step.Goals as goal
 
 -- a row that was read has the state's deadline
@@ -27,5 +27,5 @@ pub spread-part-requires-clause-soon : goal.spread-part-requires-clause-soon
 spread-part-requires-clause-soon c =
     let at = deadline_read c.args.view.now _ c.args.task c.index-row.result.now c.view.view_is (omega (arith, c.requires.task, c.requires.of.rows)) c.index-row.ensures in
     let near = c.requires.decision.soon c.args.task c.requires.task in
-    let next = earliest_ahead c.args.plan.now c.args.view.now c.known.ensures c.requires.decision in
+    let next = earliest-later c.args.plan.now c.known.ensures.limits c.args.view.now c.requires.decision.before in
     omega (arith, at, near, next, c.requires.soonest)
