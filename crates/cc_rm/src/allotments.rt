@@ -5,7 +5,7 @@ ghost use Rattle.dvs_base.specs.declared.kind.Scheduler.TheVariants.{Rm};
 ghost use Rattle.sched_model.specs.Plan.{count};
 ghost use Rattle.sched_model.specs.StaticDemand.{static_speed};
 ghost use Rattle.sched_model.specs.States.{row_at, IsOfPlan};
-ghost use Rattle.governor.specs.Steps.{wleft_at, earliest, IsAtDecision};
+ghost use Rattle.governor.specs.Steps.{wleft_at, IsAtDecision};
 ghost use Rattle.cc_rm_laws.specs.Allotments.{base_of, allotted_units, had_since_mark, allotment_left};
 
 use sched_model::{Admitted, State};

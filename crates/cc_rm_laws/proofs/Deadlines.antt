@@ -1,5 +1,5 @@
 -- In a calm state of cycle-conserving RM each job that is due is complete.
-use Rattle.std.proofs.Common.{◌≡◌, inl, inr, ℕ, suc, ◌+◌, ◌-◌, ◌*◌, ◌<◌, ◌≤◌, Bool, true, false, refl, sym, ◌∙◌, ap, subst, arith, mul-zero}
+use Rattle.std.proofs.Common.{◌≡◌, inl, inr, ℕ, suc, ◌+◌, ◌-◌, ◌*◌, ◌<◌, ◌≤◌, Bool, true, refl, sym, ◌∙◌, ap, subst, arith, mul-zero}
 use Rattle.std.specs.Prelude.{if◌then◌else◌}
 use Rattle.std.proofs.lemmas.Bool.{cases_Bool, cases_lt, eqb-true}
 use Rattle.dvs_base.specs.declared.kind.Scheduler.TheVariants.{Rm}
@@ -11,12 +11,12 @@ use Rattle.sched_model.specs.Plan.{Plan, count, period, worst}
 use Rattle.sched_model.specs.Jobs.{release, due, latest}
 use Rattle.sched_model.specs.StaticDemand.{static_speed}
 use Rattle.sched_model.specs.Backlog.{backlog}
-use Rattle.sched_model.specs.Admission.{IsWithinLimits, IsAdmitted}
+use Rattle.sched_model.specs.Admission.{IsAdmitted}
 use Rattle.sched_model.specs.States.{StateOf, row_at, row_wleft}
 use Rattle.sched_model.proofs.Limits.{some_task, some_period}
 use Rattle.sched_model.proofs.JobLaws.{latest-is, release-suc, release-due, due-suc}
 use Rattle.sched_model.proofs.LevelSums.{sum_where-term, up_to-self, greatest-above, greatest-least}
-use Rattle.governor.specs.Steps.{is_due, opened_row, after_boundary, wleft_at, release_of, earliest, IsBeforeAll, Belongs}
+use Rattle.governor.specs.Steps.{is_due, opened_row, after_boundary, wleft_at, release_of, earliest, Belongs}
 use Rattle.governor.proofs.Rows.{wleft-most}
 use Rattle.governor.proofs.Belonging.{in_rows, boundary_at}
 use Rattle.governor.proofs.Ticks.{demand_most}

@@ -1,5 +1,5 @@
 -- The units of one tick, handed out to one task after the other.
-use Rattle.std.proofs.Common.{◌≡◌, ◌≢◌, ℕ, zero, suc, ◌+◌, ◌-◌, ◌*◌, ◌<◌, ◌≤◌, min, Bool, true, false, not, eqb, ◌&&◌, ◌||◌, List, [], ◌∷◌, ◌++◌, length, replicate, refl, arith, if◌then◌else◌, ap, ap₂, ◌∙◌, sym, subst, true≢false, ◌⊎◌, inl, inr, append-nil, append_assoc, eq-or-lt_of_le, le_of_suc-le-suc, nat_eq, nat_le, nat_lt}
+use Rattle.std.proofs.Common.{◌≡◌, ◌≢◌, ℕ, zero, suc, ◌+◌, ◌-◌, ◌*◌, ◌<◌, ◌≤◌, min, Bool, true, false, not, eqb, ◌&&◌, ◌||◌, List, [], ◌∷◌, ◌++◌, length, replicate, refl, arith, if◌then◌else◌, ap, ap₂, ◌∙◌, sym, subst, true≢false, append-nil, append_assoc, nat_eq, nat_le, nat_lt}
 use Rattle.std.specs.Prelude.{count_by, flat_map}
 use Rattle.std.proofs.lemmas.Bool.Decides.{nat_tests}
 use Rattle.std.proofs.lemmas.List.Folds.{sum_by-replicate}
@@ -12,7 +12,7 @@ use Rattle.grid_fraction.specs.Numbers.{sum_below, any_below, list_below}
 use Rattle.sched_model.specs.Plan.{Plan, count, worst}
 use Rattle.sched_model.specs.Jobs.{latest, due}
 use Rattle.sched_model.specs.Ticks.{Tick, exec, left, share}
-use Rattle.sched_model.specs.Order.{in_order, insert_by}
+use Rattle.sched_model.specs.Order.{in_order}
 use Rattle.sched_model.specs.Priority.{key_of, stands_before, sum_before}
 use Rattle.sched_model.specs.Greedy.{IsFirstOpen}
 use Rattle.sched_model.specs.Segments.{same_holder}

@@ -9,7 +9,6 @@ use Rattle.sched_model.specs.Ticks.{Tick, exec}
 use Rattle.sched_model.specs.States.{StateOf, no_row, row_at, prior_row, prior_state, row_of, state_of, prior_base, after_run, after_release, CanRun, CanRelease, IsOfPlan}
 use Rattle.sched_model.proofs.ScheduleLemmas.{length-list_below}
 use Rattle.sched_model.proofs.Tables.{get-table}
-use Rattle.event_kernel.specs.Boundary.{opened}
 use Rattle.event_kernel.specs.Tickwork.{served}
 
 module _ (p : Plan) where

@@ -1,5 +1,5 @@
 -- A task gets units, and its job ends or not.
-use Rattle.std.proofs.Common.{◌≡◌, ℕ, ◌+◌, ◌<◌, true, false, length, set, ap, ◌∙◌, get_or-set_same}
+use Rattle.std.proofs.Common.{◌≡◌, ℕ, ◌+◌, ◌<◌, true, length, set, ap, ◌∙◌, get_or-set_same}
 use Rattle.std.proofs.lemmas.List.{set-set}
 use Rattle.sched_model.specs.declared.state.Row.{Row}
 use Rattle.sched_model.specs.States.{no_row, row_at, after_run, after_finish, StateOf}

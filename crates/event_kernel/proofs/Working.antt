@@ -1,5 +1,5 @@
 -- The loop over the units of one tick.
-use Rattle.std.proofs.Common.{◌≡◌, ℕ, zero, suc, ◌+◌, ◌-◌, ◌*◌, ◌^◌, ◌<◌, ◌≤◌, min, Bool, true, false, ◌||◌, List, [], ◌∷◌, ◌++◌, length, replicate, refl, arith, if◌then◌else◌, ap, ◌∙◌, sym, subst, ◌⊎◌, inl, inr, append-nil, append_assoc, nat_eq, add-one}
+use Rattle.std.proofs.Common.{◌≡◌, ℕ, zero, suc, ◌+◌, ◌-◌, ◌*◌, ◌^◌, ◌<◌, ◌≤◌, min, Bool, true, false, ◌||◌, List, ◌∷◌, ◌++◌, length, replicate, refl, arith, if◌then◌else◌, ap, ◌∙◌, sym, subst, ◌⊎◌, inl, inr, append-nil, append_assoc, nat_eq, add-one}
 use Rattle.grid_fraction.specs.declared.Frac.{Frac}
 use Rattle.dvs_base.specs.declared.note.Note.{Note}
 use Rattle.sched_model.specs.declared.state.Row.{Row}
@@ -11,7 +11,7 @@ use Rattle.grid_fraction.specs.Numbers.{sum_below, any_below}
 use Rattle.sched_model.specs.Plan.{Plan, count, worst}
 use Rattle.sched_model.specs.Jobs.{latest}
 use Rattle.sched_model.specs.Ticks.{Tick, exec, left, share}
-use Rattle.sched_model.specs.Decision.{is_decision, completes_in}
+use Rattle.sched_model.specs.Decision.{completes_in}
 use Rattle.sched_model.specs.Schedule.{entry_in_force, next_tick, schedule_by}
 use Rattle.sched_model.specs.Segments.{Span, units_of}
 use Rattle.sched_model.specs.States.{row_at, prior_state, after_advance, CanRun, StateOf, state_of}
@@ -30,7 +30,6 @@ use Rattle.event_kernel.proofs.Ending.{speed_now, tick_now, given-share, end-uni
 use Rattle.event_kernel.proofs.Hearing.{Begins, heard-append, balked-begins, balked_after}
 use Rattle.event_kernel.proofs.Beginnings.{units-begin, open-begins}
 use Rattle.sched_model.specs.Demands.{IsWithin}
-use Rattle.freq_table.specs.Tables.{lowest_entry}
 
 pub course-next : (p : Plan) (dem : ℕ → ℕ → ℕ) (ask : List Tick → Frac) (t : ℕ) → schedule_by p dem ask (t + 1) ≡ next_tick p dem ask (schedule_by p dem ask t) ∷ schedule_by p dem ask t
 unfolding schedule_by

@@ -17,7 +17,6 @@ ghost use Rattle.governor.specs.Laws.{GovernorLaws};
 mod deadline;
 
 pub use deadline::earliest_deadline;
-
 use dvs_base::GovernorKind;
 use grid_fraction::Frac;
 use sched_model::{Admitted, State};

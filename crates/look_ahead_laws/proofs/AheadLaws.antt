@@ -4,7 +4,7 @@ use Rattle.std.proofs.Math.Nat.{mul-le-mul_left, mul-le-mul_right}
 use Rattle.std.proofs.lemmas.Bool.{lt-leb, cases_lt}
 use Rattle.dvs_base.specs.declared.kind.GovernorKind.TheVariants.{Ahead}
 use Rattle.grid_fraction.specs.declared.Frac.{Frac}
-use Rattle.grid_fraction.proofs.Least.{least-below, least-above}
+use Rattle.grid_fraction.proofs.Least.{least-below}
 use Rattle.freq_table.specs.declared.machine.Pick.{Pick}
 use Rattle.freq_table.specs.Tables.{Table, speed_at, last_entry, highest_speed, lowest_entry, IsTable}
 use Rattle.freq_table.proofs.Chosen.{below_highest, lowest_within, picked_meets}
