@@ -1,0 +1,383 @@
+-- The text of a schedule that meets its deadlines tells each of them.
+use Rattle.std.proofs.Common.{◌≡◌, ℕ, zero, suc, ◌+◌, ◌-◌, ◌^◌, ◌<◌, ◌≤◌, Bool, true, false, not, ◌&&◌, ◌||◌, List, [], ◌∷◌, ◌++◌, length, drop, flat_map, map, refl, arith, if◌then◌else◌, ap, ap₂, ◌∙◌, sym, subst, true≢false, nat_eq, nat_lt, codes, get_or, ◌⊎◌, inl, inr}
+use Rattle.std.specs.Prelude.{decimal, sum_by}
+use Rattle.std.specs.List.{list_all}
+use Rattle.std.proofs.lemmas.Fmt.{decimal_injective}
+use Rattle.std.proofs.lemmas.List.{get_or-map, length-map, map-append}
+use Rattle.std.proofs.Math.ListN.{get_or-eq_default}
+use Rattle.std.proofs.Math.Nat.{le-mul_of_pos_right}
+use Rattle.std.proofs.lemmas.Bool.{cases_lt}
+use Rattle.std.proofs.lemmas.Bool.Decides.{nat_tests}
+use Rattle.dvs_base.specs.declared.kind.Scheduler.{Scheduler}
+use Rattle.dvs_base.specs.declared.kind.Scheduler.TheVariants.{Edf, Rm}
+use Rattle.dvs_base.specs.declared.kind.GovernorKind.{GovernorKind}
+use Rattle.dvs_base.specs.declared.kind.GovernorKind.TheVariants.{Plain, Fixed, Cycle, Ahead}
+use Rattle.dvs_base.specs.declared.note.Note.{Note}
+use Rattle.dvs_base.specs.declared.note.Note.TheVariants.{Release, Speed, Run, Idle, Done, End}
+use Rattle.dvs_base.specs.declared.note.Pos.{Pos}
+use Rattle.dvs_base.specs.TraceLines.{line, position_text, fraction_text, name_of, note_text, version_text, plan_text}
+use Rattle.dvs_base.specs.Words.{scheduler_word, governor_word}
+use Rattle.task_model.specs.declared.task.Task.{Task}
+use Rattle.task_model.specs.Tasks.{no_task, task_at}
+use Rattle.grid_fraction.specs.declared.Frac.{Frac}
+use Rattle.sched_model.specs.Plan.{Plan, count, names, period}
+use Rattle.sched_model.specs.Jobs.{release, due}
+use Rattle.sched_model.specs.Ticks.{Tick, at, exec}
+use Rattle.sched_model.specs.Schedule.{IsScheduleBy}
+use Rattle.sched_model.specs.Deadlines.{IsMet}
+use Rattle.sched_model.specs.Admission.{IsWithinLimits}
+use Rattle.sched_model.specs.Notes.{notes_of, notes_before_end, energy_run, energy_idle}
+use Rattle.sched_model.specs.Text.{trace_text}
+use Rattle.sched_model.proofs.Limits.{every_period, low_period}
+use Rattle.sched_model.proofs.JobLaws.{release-due}
+use Rattle.done_lines.specs.DoneLines.{lines_of, IsDoneLine, IsBy, IsToldBy, TellsDeadlines}
+use Rattle.done_lines.proofs.PlainLines.{IsPlain, Each, ArePlain, all-each, each-append, plain-decimal, plain-name, some-name, lines-line, field-same, and-left, and-right}
+use Rattle.done_lines.proofs.DoneNotes.{tells_done, tells_late, times, times-append}
+use Rattle.done_lines.proofs.DoneCounts.{told-once, told-never, none-late}
+
+-- fields
+
+-- a word is plain if each of its bytes is
+abbrev plain_byte : ℕ → Bool
+plain_byte b = not (nat_eq b 32) && not (nat_eq b 10)
+
+plain-byte : (b : ℕ) → plain_byte b ≡ true → IsPlain b
+plain-byte b e = (λ q. true≢false (sym e ∙ ap plain_byte q), λ q. true≢false (sym e ∙ ap plain_byte q))
+
+plain-word : (w : List ℕ) → list_all plain_byte w ≡ true → ArePlain w
+plain-word [] e = tt
+plain-word (b ∷ w) e = (plain-byte b (and-left (plain_byte b) (list_all plain_byte w) e), plain-word w (and-right (plain_byte b) (list_all plain_byte w) e))
+
+plain-position : (q : Pos) → ArePlain (position_text q)
+plain-position q =
+    each-append IsPlain (decimal q.tick ++ codes ":") (decimal q.offset)
+    (each-append IsPlain (decimal q.tick) (codes ":") (plain-decimal q.tick) (plain-word (codes ":") refl)) (plain-decimal q.offset)
+
+plain-fraction : (num den : ℕ) → ArePlain (fraction_text num den)
+plain-fraction num den =
+    each-append IsPlain (decimal num ++ codes "/") (decimal den)
+    (each-append IsPlain (decimal num) (codes "/") (plain-decimal num) (plain-word (codes "/") refl)) (plain-decimal den)
+
+plain-scheduler : (s : Scheduler) → ArePlain (scheduler_word s)
+plain-scheduler Edf = plain-word (codes "edf") refl
+plain-scheduler Rm = plain-word (codes "rm") refl
+
+plain-governor : (g : GovernorKind) → ArePlain (governor_word g)
+plain-governor Plain = plain-word (codes "none") refl
+plain-governor Fixed = plain-word (codes "static") refl
+plain-governor Cycle = plain-word (codes "cc") refl
+plain-governor Ahead = plain-word (codes "la") refl
+
+-- the fields of a note's line
+abbrev fields_of : List (List ℕ) → Note → List (List ℕ)
+fields_of ns (Release t i k) = codes "release" ∷ decimal t ∷ name_of ns i ∷ decimal k ∷ []
+fields_of ns (Speed t f num den) = codes "speed" ∷ decimal t ∷ decimal f ∷ fraction_text num den ∷ []
+fields_of ns (Run from to i k units energy) = codes "run" ∷ position_text from ∷ position_text to ∷ name_of ns i ∷ decimal k ∷ decimal units ∷ decimal energy ∷ []
+fields_of ns (Idle from to units energy) = codes "idle" ∷ position_text from ∷ position_text to ∷ decimal units ∷ decimal energy ∷ []
+fields_of ns (Done q i k used) = codes "done" ∷ position_text q ∷ name_of ns i ∷ decimal k ∷ decimal used ∷ []
+fields_of ns (End t run idle) = codes "end" ∷ decimal t ∷ decimal run ∷ decimal idle ∷ []
+
+note-fields : (ns : List (List ℕ)) (n : Note) → note_text ns n ≡ line (fields_of ns n)
+unfolding note_text
+note-fields ns (Release t i k) = refl
+note-fields ns (Speed t f num den) = refl
+note-fields ns (Run from to i k units energy) = refl
+note-fields ns (Idle from to units energy) = refl
+note-fields ns (Done q i k used) = refl
+note-fields ns (End t run idle) = refl
+
+plain-fields : (ns : List (List ℕ)) → ((i : ℕ) → ArePlain (name_of ns i)) → (n : Note) → Each ArePlain (fields_of ns n)
+plain-fields ns named (Release t i k) = (plain-word (codes "release") refl, (plain-decimal t, (named i, (plain-decimal k, tt))))
+plain-fields ns named (Speed t f num den) = (plain-word (codes "speed") refl, (plain-decimal t, (plain-decimal f, (plain-fraction num den, tt))))
+plain-fields ns named (Run from to i k units energy) =
+    (plain-word (codes "run") refl, (plain-position from, (plain-position to, (named i, (plain-decimal k, (plain-decimal units, (plain-decimal energy, tt)))))))
+plain-fields ns named (Idle from to units energy) =
+    (plain-word (codes "idle") refl, (plain-position from, (plain-position to, (plain-decimal units, (plain-decimal energy, tt)))))
+plain-fields ns named (Done q i k used) = (plain-word (codes "done") refl, (plain-position q, (named i, (plain-decimal k, (plain-decimal used, tt)))))
+plain-fields ns named (End t run idle) = (plain-word (codes "end") refl, (plain-decimal t, (plain-decimal run, (plain-decimal idle, tt))))
+
+-- the lines of notes are their lines
+lines-notes : (ns : List (List ℕ)) → ((i : ℕ) → ArePlain (name_of ns i)) → (notes : List Note) → lines_of (flat_map (note_text ns) notes) ≡ map (note_text ns) notes
+lines-notes ns named [] = refl
+lines-notes ns named (n ∷ notes) =
+    ap (λ l. lines_of (l ++ flat_map (note_text ns) notes)) (note-fields ns n)
+    ∙ (lines-line (fields_of ns n) (flat_map (note_text ns) notes) (plain-fields ns named n)
+    ∙ ap₂ (λ l ls. l ∷ ls) (sym (note-fields ns n)) (lines-notes ns named notes))
+
+-- a list with one element that passes
+record IsAlone {A : Type 0} (test : A → Bool) (xs : List A) : Type 0 where
+  front : List A
+  one : A
+  back : List A
+  parts : xs ≡ front ++ one ∷ back
+  passes : test one ≡ true
+  none_front : times test front ≡ 0
+  none_back : times test back ≡ 0
+
+alone : {A : Type 0} (test : A → Bool) (xs : List A) → times test xs ≡ 1 → IsAlone test xs
+alone test [] e = absurd (omega (arith, e))
+alone test (x ∷ xs) e = go (test x) refl (alone test xs)
+  where
+    go : (b : Bool) → test x ≡ b → (times test xs ≡ 1 → IsAlone test xs) → IsAlone test (x ∷ xs)
+    go true f ih =
+        let count : suc (times test xs) ≡ 1 = sym (ap (λ (c : Bool). if c then suc (times test xs) else times test xs) f) ∙ e in
+        record { front = []; one = x; back = xs; parts = refl; passes = f; none_front = refl; none_back = omega arith }
+    go false f ih =
+        let count : times test xs ≡ 1 = sym (ap (λ (c : Bool). if c then suc (times test xs) else times test xs) f) ∙ e in
+        let r = ih count in
+        record {
+          front = x ∷ r.front;
+          one = r.one;
+          back = r.back;
+          parts = ap (λ ys. x ∷ ys) r.parts;
+          passes = r.passes;
+          none_front = ap (λ (c : Bool). if c then suc (times test r.front) else times test r.front) f ∙ r.none_front;
+          none_back = r.none_back;
+        }
+
+-- none of a list passes
+none-pass : {A : Type 0} (test : A → Bool) (xs : List A) → times test xs ≡ 0 → Each (λ x. test x ≡ false) xs
+none-pass test [] e = tt
+none-pass test (x ∷ xs) e = go (test x) refl (none-pass test xs)
+  where
+    go : (b : Bool) → test x ≡ b → (times test xs ≡ 0 → Each (λ y. test y ≡ false) xs) → (test x ≡ false) × Each (λ y. test y ≡ false) xs
+    go true f ih = absurd (omega (arith, sym (ap (λ (c : Bool). if c then suc (times test xs) else times test xs) f) ∙ e))
+    go false f ih = (f, ih (sym (ap (λ (c : Bool). if c then suc (times test xs) else times test xs) f) ∙ e))
+
+-- a line of a job's end says which job it is
+done-same : (ns : List (List ℕ)) → ((i : ℕ) → ArePlain (name_of ns i)) → (name : List ℕ) → ArePlain name → (k : ℕ) (at_end : Pos) (used : ℕ) (q : Pos) (j l u : ℕ)
+    → line (fields_of ns (Done q j l u)) ≡ line (codes "done" ∷ position_text at_end ∷ name ∷ decimal k ∷ decimal used ∷ [])
+    → (name_of ns j ≡ name) × (decimal l ≡ decimal k)
+done-same ns named name plain k at_end used q j l u e =
+    let after_word : line (position_text q ∷ name_of ns j ∷ decimal l ∷ decimal u ∷ []) ≡ line (position_text at_end ∷ name ∷ decimal k ∷ decimal used ∷ []) = ap (drop 5) e in
+    let after_position = (field-same (position_text q) (position_text at_end) (line (name_of ns j ∷ decimal l ∷ decimal u ∷ [])) (line (name ∷ decimal k ∷ decimal used ∷ [])) (plain-position q) (plain-position at_end) after_word).1 in
+    let own = field-same (name_of ns j) name (line (decimal l ∷ decimal u ∷ [])) (line (decimal k ∷ decimal used ∷ [])) (named j) plain after_position in
+    (own.0, (field-same (decimal l) (decimal k) (decimal u ++ (10 ∷ [])) (decimal used ++ (10 ∷ [])) (plain-decimal l) (plain-decimal k) own.1).0)
+
+-- a line that begins with another letter tells no end
+other-line : (name : List ℕ) (k : ℕ) (l : List ℕ) → nat_eq (get_or l 0 0) 100 ≡ false → (at_end : Pos) → IsDoneLine name k at_end l → ⊥
+other-line name k l other at_end d = true≢false (sym (ap (λ (m : List ℕ). nat_eq (get_or m 0 0) 100) d.1) ∙ other)
+
+-- a note of another kind, or of another job, tells no end of this one
+silent : (ns : List (List ℕ)) → ((i : ℕ) → ArePlain (name_of ns i)) → (i k : ℕ) → ((j : ℕ) → name_of ns j ≡ name_of ns i → j ≡ i) → k < 2 ^ 64
+    → (n : Note) → tells_done i k n ≡ false → ((l : ℕ) → tells_done i l n ≡ true → l < 2 ^ 64) → (at_end : Pos) → IsDoneLine (name_of ns i) k at_end (note_text ns n) → ⊥
+silent ns named i k apart low n off small at_end d = go n off small (d.0, sym (note-fields ns n) ∙ d.1)
+  where
+    self : (m : ℕ) → nat_eq m m ≡ true
+    self m = grind (arith, nat_tests)
+
+    go : (n : Note) → tells_done i k n ≡ false → ((l : ℕ) → tells_done i l n ≡ true → l < 2 ^ 64) → IsDoneLine (name_of ns i) k at_end (line (fields_of ns n)) → ⊥
+    go (Release t j l) off small d = other-line (name_of ns i) k (line (fields_of ns (Release t j l))) refl at_end d
+    go (Speed t f num den) off small d = other-line (name_of ns i) k (line (fields_of ns (Speed t f num den))) refl at_end d
+    go (Run from to j l units energy) off small d = other-line (name_of ns i) k (line (fields_of ns (Run from to j l units energy))) refl at_end d
+    go (Idle from to units energy) off small d = other-line (name_of ns i) k (line (fields_of ns (Idle from to units energy))) refl at_end d
+    go (End t run idle) off small d = other-line (name_of ns i) k (line (fields_of ns (End t run idle))) refl at_end d
+    go (Done q j l u) off small d =
+        let same = done-same ns named (name_of ns i) (named i) k at_end d.0 q j l u d.1 in
+        let task : j ≡ i = apart j same.0 in
+        let here : nat_eq i j ≡ true = ap (nat_eq i) task ∙ self i in
+        let bound : l < 2 ^ 64 = small l (rw (here, self l) refl) in
+        let job : l ≡ k = decimal_injective l k bound low same.1 in
+        let found : (nat_eq i j && nat_eq k l) ≡ true = rw (here, job, self k) refl in
+        true≢false (sym found ∙ off)
+
+silent-lines : (ns : List (List ℕ)) → ((i : ℕ) → ArePlain (name_of ns i)) → (i k : ℕ) → ((j : ℕ) → name_of ns j ≡ name_of ns i → j ≡ i) → k < 2 ^ 64
+    → (notes : List Note) → Each (λ n. tells_done i k n ≡ false) notes → Each (λ n. (l : ℕ) → tells_done i l n ≡ true → l < 2 ^ 64) notes
+    → Each (λ l. (at_end : Pos) → IsDoneLine (name_of ns i) k at_end l → ⊥) (map (note_text ns) notes)
+silent-lines ns named i k apart low [] off small = tt
+silent-lines ns named i k apart low (n ∷ notes) off small =
+    (silent ns named i k apart low n off.0 small.0, silent-lines ns named i k apart low notes off.1 small.1)
+
+each-before : {A : Type 0} (P : A → Type 0) (xs ys : List A) → Each P (xs ++ ys) → Each P xs
+each-before P [] ys e = tt
+each-before P (x ∷ xs) ys e = (e.0, each-before P xs ys e.1)
+
+each-after : {A : Type 0} (P : A → Type 0) (xs ys : List A) → Each P (xs ++ ys) → Each P ys
+each-after P [] ys e = e
+each-after P (x ∷ xs) ys e = each-after P xs ys e.1
+
+-- what holds where a test counts nothing or more
+each-counted : {A : Type 0} (tests : ℕ → A → Bool) (xs : List A) → ((l : ℕ) → 0 < times (tests l) xs → l < 2 ^ 64) → Each (λ x. (l : ℕ) → tests l x ≡ true → l < 2 ^ 64) xs
+each-counted tests [] h = tt
+each-counted tests (x ∷ xs) h = (λ l e. h l (here l (tests l x) refl e), each-counted tests xs (λ l some. h l (there l (tests l x) refl some)))
+  where
+    here : (l : ℕ) (b : Bool) → tests l x ≡ b → tests l x ≡ true → 0 < times (tests l) (x ∷ xs)
+    here l b f e = let c : times (tests l) (x ∷ xs) ≡ suc (times (tests l) xs) = ap (λ (b : Bool). if b then suc (times (tests l) xs) else times (tests l) xs) e in omega (arith, c)
+
+    there : (l : ℕ) (b : Bool) → tests l x ≡ b → 0 < times (tests l) xs → 0 < times (tests l) (x ∷ xs)
+    there l true f some = let c : times (tests l) (x ∷ xs) ≡ suc (times (tests l) xs) = ap (λ (b : Bool). if b then suc (times (tests l) xs) else times (tests l) xs) f in omega (arith, c)
+    there l false f some = let c : times (tests l) (x ∷ xs) ≡ times (tests l) xs = ap (λ (b : Bool). if b then suc (times (tests l) xs) else times (tests l) xs) f in omega (arith, c, some)
+
+-- what the test for a late position leaves
+is_by : (t : ℕ) (q : Pos) → (nat_lt t q.tick || (nat_eq t q.tick && nat_lt 0 q.offset)) ≡ false → IsBy t q
+is_by t q e = go (cases_lt q.tick t) (nat_lt t q.tick) refl (nat_lt 0 q.offset) refl
+  where
+    go : (q.tick < t) ⊎ (t ≤ q.tick) → (a : Bool) → nat_lt t q.tick ≡ a → (b : Bool) → nat_lt 0 q.offset ≡ b → IsBy t q
+    go (inl before) a f b h = inl before
+    go (inr from) true f b h = absurd (true≢false (sym (ap (λ c. c || (nat_eq t q.tick && nat_lt 0 q.offset)) f) ∙ e))
+    go (inr from) false f true h =
+        let same : nat_eq t q.tick ≡ true = grind (arith, nat_tests) in
+        absurd (true≢false (sym (ap₂ (λ c d. nat_lt t q.tick || (c && d)) same h ∙ later (nat_lt t q.tick)) ∙ e))
+      where
+        later : (c : Bool) → (c || (true && true)) ≡ true
+        later true = refl
+        later false = refl
+    go (inr from) false f false h =
+        let none : q.offset ≡ 0 = grind (arith, nat_tests) in
+        let here : q.tick ≡ t = grind (arith, nat_tests) in
+        inr (here, none)
+
+job-due : (p : Plan) (i k : ℕ) → 0 < period p i → k ≤ due p i k
+unfolding due
+job-due p i k pos = le-mul_of_pos_right k pos
+
+-- earlier ticks gave no more
+exec-drop : (p : Plan) (i k n : ℕ) (ticks : List Tick) → exec p (drop n ticks) i k ≤ exec p ticks i k
+exec-drop p i k zero ticks = omega arith
+exec-drop p i k (suc n) [] = omega arith
+exec-drop p i k (suc n) (x ∷ ticks) = omega (arith, exec-drop p i k n ticks)
+
+module _ (p : Plan) (dem : ℕ → ℕ → ℕ) (ask : List Tick → Frac) (lim : IsWithinLimits p) (ticks : List Tick) (sched : IsScheduleBy p dem ask ticks)
+    (most : (i k : ℕ) → i < count p → exec p ticks i k ≤ dem i k) (low : length ticks ≤ 2 ^ 40) where
+  abbrev notes : List Note
+  notes = notes_of p dem ask ticks
+
+  name-in : (i : ℕ) → i < count p → name_of (names p) i ≡ (task_at p.tasks i).name
+  name-in i lt = get_or-map (λ (t : Task). t.name) p.tasks i no_task [] lt
+
+  name-out : (i : ℕ) → count p ≤ i → name_of (names p) i ≡ []
+  name-out i le = get_or-eq_default (names p) [] (omega (arith, length-map p.tasks (λ (t : Task). t.name), le))
+
+  named : (i : ℕ) → ArePlain (name_of (names p) i)
+  named i = elim (cases_lt i (count p)) [
+    | inl within ↦ subst ArePlain (sym (name-in i within)) (plain-name (task_at p.tasks i).name (lim.tasks.each i within).name)
+    | inr past ↦ subst ArePlain (sym (name-out i past)) tt
+  ]
+
+  -- tasks are known by their names
+  apart : (i : ℕ) → i < count p → (j : ℕ) → name_of (names p) j ≡ name_of (names p) i → j ≡ i
+  apart i lt j e = elim (cases_lt j (count p)) [
+    | inl within ↦ one (name_eq within) within (cases_lt i j) (cases_lt j i)
+    | inr past ↦ absurd (some-name (task_at p.tasks i).name (lim.tasks.each i lt).name (sym (name-in i lt) ∙ (sym e ∙ name-out j past)))
+  ]
+    where
+      name_eq : j < count p → (task_at p.tasks j).name ≡ (task_at p.tasks i).name
+      name_eq within = sym (name-in j within) ∙ (e ∙ name-in i lt)
+
+      one : (task_at p.tasks j).name ≡ (task_at p.tasks i).name → j < count p → (i < j) ⊎ (j ≤ i) → (j < i) ⊎ (i ≤ j) → j ≡ i
+      one same within (inl over) b = absurd (lim.tasks.distinct i j over within (sym same))
+      one same within (inr le) (inl under) = absurd (lim.tasks.distinct j i under lt same)
+      one same within (inr le) (inr ge) = omega arith
+
+  -- the last note tells no end
+  times-end : (test : Note → Bool) → ((t run idle : ℕ) → test (End t run idle) ≡ false) → times test notes ≡ times test (notes_before_end p dem ask ticks)
+  times-end test quiet =
+      let before = notes_before_end p dem ask ticks in
+      let last = end_note in
+      times-append test before (last ∷ [])
+      ∙ (ap (λ (b : Bool). times test before + (if b then 1 else 0)) (quiet (length ticks) (sum_by energy_run before) (sum_by energy_idle before)) ∙ omega arith)
+    where
+      end_note : Note
+      end_note = End (length ticks) (sum_by energy_run (notes_before_end p dem ask ticks)) (sum_by energy_idle (notes_before_end p dem ask ticks))
+
+  -- a job whose end is told was released by then
+  small : (i : ℕ) → i < count p → (l : ℕ) → 0 < times (tells_done i l) notes → l < 2 ^ 64
+  small i lt zero some = omega arith
+  small i lt (suc l) some = elim (cases_lt (release p i (suc l)) (length ticks)) [
+    | inl began ↦
+        let first : 1 ≤ suc l = omega arith in
+        let whole : suc l ≤ due p i (suc l) = job-due p i (suc l) (every_period p lim i) in
+        let next : release p i (suc l) + period p i ≡ due p i (suc l) = release-due p i (suc l) first in
+        omega (arith, began, whole, next, low, low_period p lim i lt)
+    | inr later ↦
+        let first : 1 ≤ suc l = omega arith in
+        let never = told-never p dem ask lim i (suc l) lt first ticks sched later in
+        let same = times-end (tells_done i (suc l)) (λ t run idle. refl) in
+        absurd (omega (arith, some, same, never))
+  ]
+
+  -- the text of the schedule, its first two lines before those of its notes
+  lines-text : (g : GovernorKind) (t : ℕ) → lines_of (trace_text p.scheduler g t (names p) notes) ≡ version_text ∷ plan_text p.scheduler g t ∷ map (note_text (names p)) notes
+  lines-text g t =
+      let rest = flat_map (note_text (names p)) notes in
+      lines-line (codes "trace" ∷ codes "1" ∷ []) (plan_text p.scheduler g t ++ rest) (plain-word (codes "trace") refl, (plain-word (codes "1") refl, tt))
+      ∙ ap (λ ls. version_text ∷ ls)
+      (lines-line (codes "plan" ∷ scheduler_word p.scheduler ∷ governor_word g ∷ decimal t ∷ []) rest
+      (plain-word (codes "plan") refl, (plain-scheduler p.scheduler, (plain-governor g, (plain-decimal t, tt))))
+      ∙ ap (λ ls. plan_text p.scheduler g t ∷ ls) (lines-notes (names p) named notes))
+
+  module _ (g : GovernorKind) (t : ℕ) (i k : ℕ) (lt : i < count p) (some_job : 1 ≤ k) (had : exec p ticks i k ≡ dem i k) (within : due p i k ≤ length ticks) where
+    once : times (tells_done i k) notes ≡ 1
+    once =
+        let began : release p i k < length ticks = omega (arith, release-due p i k some_job, every_period p lim i, within) in
+        times-end (tells_done i k) (λ t run idle. refl) ∙ told-once p dem ask lim i k lt some_job ticks sched began had
+
+    in-time : times (tells_late (due p i k) i k) notes ≡ 0
+    in-time = times-end (tells_late (due p i k) i k) (λ t run idle. refl) ∙ none-late p dem ask lim i k lt some_job (length ticks) ticks (omega arith) sched (omega (arith, had))
+
+    low-job : k < 2 ^ 64
+    low-job = omega (arith, job-due p i k (every_period p lim i), within, low)
+
+    -- the one note
+    told-by : IsAlone (tells_done i k) notes → IsToldBy (name_of (names p) i) k (due p i k) (trace_text p.scheduler g t (names p) notes)
+    told-by r = go r.one refl
+      where
+        all_small : Each (λ n. (l : ℕ) → tells_done i l n ≡ true → l < 2 ^ 64) (r.front ++ r.one ∷ r.back)
+        all_small = subst (Each (λ n. (l : ℕ) → tells_done i l n ≡ true → l < 2 ^ 64)) r.parts (each-counted (tells_done i) notes (small i lt))
+
+        not_late : Each (λ n. tells_late (due p i k) i k n ≡ false) (r.front ++ r.one ∷ r.back)
+        not_late = subst (Each (λ n. tells_late (due p i k) i k n ≡ false)) r.parts (none-pass (tells_late (due p i k) i k) notes in-time)
+
+        go : (n : Note) → r.one ≡ n → IsToldBy (name_of (names p) i) k (due p i k) (trace_text p.scheduler g t (names p) notes)
+        go (Release tick j l) e = absurd (true≢false (sym r.passes ∙ ap (tells_done i k) e))
+        go (Speed tick f num den) e = absurd (true≢false (sym r.passes ∙ ap (tells_done i k) e))
+        go (Run from to j l units energy) e = absurd (true≢false (sym r.passes ∙ ap (tells_done i k) e))
+        go (Idle from to units energy) e = absurd (true≢false (sym r.passes ∙ ap (tells_done i k) e))
+        go (End tick run idle) e = absurd (true≢false (sym r.passes ∙ ap (tells_done i k) e))
+        go (Done q j l u) e = record {
+          before = version_text ∷ plan_text p.scheduler g t ∷ map (note_text (names p)) r.front;
+          told = note_text (names p) (Done q j l u);
+          after = map (note_text (names p)) r.back;
+          at_end = q;
+          lines = lines-text g t ∙ ap (λ ls. version_text ∷ plan_text p.scheduler g t ∷ ls)
+              (ap (map (note_text (names p))) r.parts ∙ (map-append (note_text (names p)) r.front (r.one ∷ r.back)
+              ∙ ap (λ n. map (note_text (names p)) r.front ++ note_text (names p) n ∷ map (note_text (names p)) r.back) e));
+          done = (u, note-fields (names p) (Done q j l u) ∙ ap₂ (λ m n. line (codes "done" ∷ position_text q ∷ name_of (names p) m ∷ decimal n ∷ decimal u ∷ [])) (sym task) (sym job));
+          in_time = by;
+          none_before = all-each (λ l. (at_end : Pos) → IsDoneLine (name_of (names p) i) k at_end l → ⊥) (version_text ∷ plan_text p.scheduler g t ∷ map (note_text (names p)) r.front) (
+            other-line (name_of (names p) i) k version_text refl,
+            (
+              other-line (name_of (names p) i) k (plan_text p.scheduler g t) refl,
+              silent-lines (names p) named i k (apart i lt) low-job r.front (none-pass (tells_done i k) r.front r.none_front) (each-before _ r.front (r.one ∷ r.back) all_small),
+            ),
+          );
+          none_after = all-each (λ l. (at_end : Pos) → IsDoneLine (name_of (names p) i) k at_end l → ⊥) (map (note_text (names p)) r.back)
+              (silent-lines (names p) named i k (apart i lt) low-job r.back (none-pass (tells_done i k) r.back r.none_back) (each-after _ r.front (r.one ∷ r.back) all_small).1);
+        }
+          where
+            passes : (nat_eq i j && nat_eq k l) ≡ true
+            passes = sym (ap (tells_done i k) e) ∙ r.passes
+
+            task : i ≡ j
+            task = let f : nat_eq i j ≡ true = and-left (nat_eq i j) (nat_eq k l) passes in grind (arith, nat_tests)
+
+            job : k ≡ l
+            job = let f : nat_eq k l ≡ true = and-right (nat_eq i j) (nat_eq k l) passes in grind (arith, nat_tests)
+
+            early : (nat_lt (due p i k) q.tick || (nat_eq (due p i k) q.tick && nat_lt 0 q.offset)) ≡ false
+            early =
+                sym (ap (λ (b : Bool). b && (nat_lt (due p i k) q.tick || (nat_eq (due p i k) q.tick && nat_lt 0 q.offset))) passes)
+                ∙ (sym (ap (tells_late (due p i k) i k) e) ∙ (each-after _ r.front (r.one ∷ r.back) not_late).0)
+
+            by : IsBy (due p i k) q
+            by = is_by (due p i k) q early
+
+    pub told-text : IsToldBy (name_of (names p) i) k (due p i k) (trace_text p.scheduler g t (names p) notes)
+    told-text = told-by (alone (tells_done i k) notes once)
+
+  -- each deadline within the ticks that is met is told
+  pub tells-deadlines : (g : GovernorKind) → IsMet p dem ticks → TellsDeadlines p (length ticks) (trace_text p.scheduler g (length ticks) (names p) notes)
+  tells-deadlines g met i k lt some_job within =
+      let by : exec p (at (due p i k) ticks) i k ≡ dem i k = met i k lt some_job within in
+      let had : exec p ticks i k ≡ dem i k = omega (arith, by, exec-drop p i k (length ticks - due p i k) ticks, most i k lt) in
+      told-text g (length ticks) i k lt some_job had within

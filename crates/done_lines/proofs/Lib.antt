@@ -1,0 +1,5 @@
+pub mod DoneNotes
+pub mod DoneSpans
+pub mod DoneCounts
+pub mod PlainLines
+pub mod DoneText

@@ -1,0 +1,46 @@
+-- Where the text of a run tells that a job is done.
+use Rattle.std.specs.Prelude.{◌≡◌, ◌⊎◌, ℕ, ◌<◌, ◌≤◌, ◌==◌, List, [], ◌∷◌, ◌++◌, codes, decimal, if◌then◌else◌}
+use Rattle.std.specs.List.{All}
+use Rattle.dvs_base.specs.declared.note.Pos.{Pos}
+use Rattle.dvs_base.specs.TraceLines.{line, position_text, name_of}
+use Rattle.sched_model.specs.Plan.{Plan, count, names}
+use Rattle.sched_model.specs.Jobs.{due}
+
+-- one more byte at the start of the first line
+abbrev pub with_byte : ℕ → List (List ℕ) → List (List ℕ)
+with_byte b [] = (b ∷ []) ∷ []
+with_byte b (first ∷ rest) = (b ∷ first) ∷ rest
+
+-- the lines of a text, each with the line feed that ends it
+abbrev pub lines_of : List ℕ → List (List ℕ)
+lines_of [] = []
+lines_of (b ∷ text) = if b == 10 then (b ∷ []) ∷ lines_of text else with_byte b (lines_of text)
+
+-- the line tells that job k of the task of this name was done at a position
+abbrev pub IsDoneLine : List ℕ → ℕ → Pos → List ℕ → Type 0
+IsDoneLine name k at_end l = (used : ℕ) × (l ≡ line (codes "done" ∷ position_text at_end ∷ name ∷ decimal k ∷ decimal used ∷ []))
+
+-- none of the lines tells it
+abbrev pub NoDoneLine : List ℕ → ℕ → List (List ℕ) → Type 0
+NoDoneLine name k = All (λ l. (at_end : Pos) → IsDoneLine name k at_end l → ⊥)
+
+-- a position is not after the beginning of tick t
+abbrev pub IsBy : ℕ → Pos → Type 0
+IsBy t at_end = (at_end.tick < t) ⊎ ((at_end.tick ≡ t) × (at_end.offset ≡ 0))
+
+-- exactly one line of the text tells that the job was done, at a position not after the beginning of tick t
+pub record IsToldBy (name : List ℕ) (k t : ℕ) (text : List ℕ) : Type 0 where
+  pub before : List (List ℕ)
+  pub told : List ℕ
+  pub after : List (List ℕ)
+  pub at_end : Pos
+  pub lines : lines_of text ≡ before ++ told ∷ after
+  pub done : IsDoneLine name k at_end told
+  pub in_time : IsBy t at_end
+  pub none_before : NoDoneLine name k before
+  pub none_after : NoDoneLine name k after
+
+-- for each job that is due within so many ticks the text tells once that it was done, not after its deadline
+abbrev pub TellsDeadlines : Plan → ℕ → List ℕ → Type 0
+TellsDeadlines p ticks text =
+    (i k : ℕ) → i < count p → 1 ≤ k → due p i k ≤ ticks → IsToldBy (name_of (names p) i) k (due p i k) text
