@@ -5,20 +5,6 @@ use std::io::Cursor;
 use std::test::Fail;
 
 #[test]
-fn whole_numbers_have_one_spelling(rt: HostRuntime) {
-    for (text, want) in [
-        ("0", Some(0)),
-        ("18446744073709551615", Some(u64::MAX)),
-        ("18446744073709551616", None),
-        ("", None),
-        ("007", None),
-        ("+7", None),
-    ] {
-        assert_eq!(rt; whole(text.as_bytes()), want, "{text}");
-    }
-}
-
-#[test]
 fn wide_numbers_end_at_128_bits(rt: HostRuntime) {
     for (text, want) in [
         ("340282366920938463463374607431768211455", Some(u128::MAX)),

@@ -101,28 +101,3 @@ pub fn mul_down(a: u128, b: u64, d: u64) -> u128
 {
     a * u128::from(b) / u128::from(d)
 }
-
-#[cfg(test)]
-mod tests {
-    use super::*;
-
-    #[test]
-    fn a_multiple_at_the_cap_is_found(rt: HostRuntime) {
-        assert_eq!(rt; lcm_within(&[8, 10, 14], 280), Some(280));
-        assert_eq!(rt; lcm_within(&[8, 10, 14], 279), None);
-        assert_eq!(rt; lcm_within(&[], 1), Some(1));
-    }
-
-    #[test]
-    fn quotients_are_rounded(rt: HostRuntime) {
-        assert_eq!(rt; up(1120, 6), 187);
-        assert_eq!(rt; mul_down(364, 6, 280), 7);
-    }
-
-    #[test]
-    fn fractions_are_compared_by_products(rt: HostRuntime) {
-        assert!(rt; meets(3, Frac { num: 836, den: 280 }));
-        assert!(rt; !meets(2, Frac { num: 836, den: 280 }));
-        assert!(rt; greater(Frac { num: 52, den: 14 }, Frac { num: 36, den: 10 }));
-    }
-}

@@ -15,7 +15,6 @@ pub use task::{Task, TaskSet};
 #[cfg(test)]
 mod tests {
     use super::*;
-    use std::alloc::{AllocError, Global};
     use std::test::Fail;
 
     const SET_A: &str =
@@ -46,16 +45,6 @@ mod tests {
             TaskFault::Hyper => ("hyper", 0, None, 0),
             TaskFault::NoMemory => ("no memory", 0, None, 0),
         }
-    }
-
-    // A task file with this many tasks of period 64 and worst case 1.
-    fn file_of(alloc: Global, count: u32) -> Result<String, AllocError> {
-        let mut text = String::new(alloc);
-        for i in 0..count {
-            let entry = format!(in alloc; "[[task]]\nname = \"t{i}\"\nperiod = 64\nworst = 1\n")?;
-            text.push_str(entry.as_str())?;
-        }
-        Ok(text)
     }
 
     #[test]
@@ -147,30 +136,6 @@ mod tests {
                 (Some(0), Some(2), None)
             );
         }
-        Ok(())
-    }
-
-    #[test]
-    fn a_written_set_is_read_again(rt: HostRuntime) -> Result<(), Fail> {
-        let alloc = rt.alloc();
-        let set = TaskSet::read(alloc, SET_A.as_bytes()).map_err(|_| "set A")?;
-        let text = set.write(alloc).map_err(|_| "text")?;
-        let back = TaskSet::read(alloc, text.as_bytes()).map_err(|_| "written")?;
-        assert_eq!(rt; (back.count(), back.hyper()), (3, 280));
-        assert_eq!(rt; back.find(b"t2"), Some(1));
-        Ok(())
-    }
-
-    #[test]
-    fn sixty_four_tasks_are_the_most(rt: HostRuntime) -> Result<(), Fail> {
-        let alloc = rt.alloc();
-        let most = TaskSet::read(alloc, file_of(alloc, 64)?.as_bytes()).map_err(|_| "64 tasks")?;
-        assert_eq!(rt; (most.count(), most.hyper()), (64, 64));
-        let more = TaskSet::read(alloc, file_of(alloc, 65)?.as_bytes());
-        assert_eq!(rt;
-            more.map_err(|fault| told(&fault)).err(),
-            Some(("too many", 0, None, 65))
-        );
         Ok(())
     }
 

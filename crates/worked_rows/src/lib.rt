@@ -2,6 +2,9 @@
 #![tactic(auto)]
 
 #[cfg(test)]
+mod parts;
+
+#[cfg(test)]
 mod tests {
     use dvs_base::{FailAt, MemShelf, MemSink};
     use edf_admit::edf_admit;

@@ -1,0 +1,129 @@
+// Worked rows of single calls: numbers, fractions, entries, files and admissions.
+use dvs_base::{MemShelf, Shelf, whole};
+use freq_table::{Machine, Pick};
+use grid_fraction::{Frac, greater, lcm_within, meets, mul_down, up};
+use rm_admit::{RmFault, rm_admit};
+use std::alloc::{AllocError, Global};
+use std::test::Fail;
+use task_model::{TaskFault, TaskSet};
+
+const PAPER_TASKS: &str =
+    "task = [{name = \"t1\", period = 8, worst = 12}, {name = \"t2\", period = 10, worst = 12}, {name = \"t3\", period = 14, worst = 4}]";
+
+#[test]
+fn numbers_have_one_spelling(rt: HostRuntime) {
+    for (text, want) in [
+        ("0", Some(0)),
+        ("18446744073709551615", Some(u64::MAX)),
+        ("18446744073709551616", None),
+        ("", None),
+        ("007", None),
+    ] {
+        assert_eq!(rt; whole(text.as_bytes()), want, "{text}");
+    }
+}
+
+#[test]
+fn fractions_are_exact(rt: HostRuntime) {
+    assert_eq!(rt; lcm_within(&[8, 10, 14], 280), Some(280));
+    assert_eq!(rt; lcm_within(&[8, 10, 14], 279), None);
+    assert_eq!(rt; lcm_within(&[], 1), Some(1));
+    assert_eq!(rt; up(1120, 6), 187);
+    assert_eq!(rt; mul_down(364, 6, 280), 7);
+    assert!(rt; meets(3, Frac { num: 836, den: 280 }));
+    assert!(rt; !meets(2, Frac { num: 836, den: 280 }));
+    assert!(rt; greater(Frac { num: 52, den: 14 }, Frac { num: 36, den: 10 }));
+}
+
+#[test]
+fn lowest_entry_that_meets(rt: HostRuntime) -> Result<(), Fail> {
+    let alloc = rt.alloc();
+    for (text, num, den, met) in [
+        (
+            "point = [{speed = 2, millivolts = 3000}, {speed = 3, millivolts = 4000}, {speed = 4, millivolts = 5000}]",
+            836,
+            280,
+            true,
+        ),
+        (
+            "point = [{speed = 6, millivolts = 3000}, {speed = 12, millivolts = 5000}]",
+            15,
+            1,
+            false,
+        ),
+    ] {
+        let machine = Machine::read(alloc, text.as_bytes()).map_err(|_| "machine")?;
+        assert_eq!(rt; machine.lowest(Frac { num, den }), Pick { index: 1, met });
+    }
+    Ok(())
+}
+
+#[test]
+fn load_with_small_room(rt: HostRuntime) -> Result<(), Fail> {
+    let alloc = rt.alloc();
+    let mut shelf = MemShelf::new(alloc, &[]).map_err(|_| "memory")?;
+    shelf.add("F", b"12345").map_err(|_| "memory")?;
+    let bytes = shelf.load(alloc, "F", 3).map_err(|_| "load")?;
+    assert_eq!(rt; bytes.as_slice(), b"1234".as_slice());
+    Ok(())
+}
+
+// The refusal of a task set by the test of rate monotonic scheduling.
+fn rm_refusal(alloc: Global, tasks: &str, machine: &str) -> Result<Option<RmFault>, Fail> {
+    let tasks = TaskSet::read(alloc, tasks.as_bytes()).map_err(|_| "tasks")?;
+    let machine = Machine::read(alloc, machine.as_bytes()).map_err(|_| "machine")?;
+    Ok(rm_admit(alloc, &tasks, &machine).err())
+}
+
+#[test]
+fn rm_denies_at_the_first_failing_task(rt: HostRuntime) -> Result<(), Fail> {
+    for (tasks, machine, num, cap) in [
+        (
+            "task = [{name = \"a\", period = 4, worst = 4}, {name = \"b\", period = 6, worst = 5}]",
+            "point = [{speed = 2, millivolts = 1000}]",
+            13,
+            12,
+        ),
+        (
+            "task = [{name = \"a\", period = 4, worst = 2}, {name = \"b\", period = 5, worst = 2}]",
+            "point = [{speed = 1, millivolts = 1000}]",
+            6,
+            5,
+        ),
+    ] {
+        let denied = RmFault::Denied { task: 1, num, cap };
+        assert_eq!(rt; rm_refusal(rt.alloc(), tasks, machine)?, Some(denied));
+    }
+    Ok(())
+}
+
+// A task file with this many tasks of period 64 and worst case 1.
+fn file_of(alloc: Global, count: u32) -> Result<String, AllocError> {
+    let mut text = String::new(alloc);
+    for i in 0..count {
+        let entry = format!(in alloc; "[[task]]\nname = \"t{i}\"\nperiod = 64\nworst = 1\n")?;
+        text.push_str(entry.as_str())?;
+    }
+    Ok(text)
+}
+
+#[test]
+fn sixty_four_tasks_are_the_most(rt: HostRuntime) -> Result<(), Fail> {
+    let alloc = rt.alloc();
+    let most = TaskSet::read(alloc, file_of(alloc, 64)?.as_bytes()).map_err(|_| "64 tasks")?;
+    assert_eq!(rt; (most.count(), most.hyper()), (64, 64));
+    let more = TaskSet::read(alloc, file_of(alloc, 65)?.as_bytes());
+    assert!(rt; matches!(more, Err(TaskFault::TooMany { count: 65 })));
+    Ok(())
+}
+
+#[test]
+fn written_task_set_is_read_again(rt: HostRuntime) -> Result<(), Fail> {
+    let alloc = rt.alloc();
+    let set = TaskSet::read(alloc, PAPER_TASKS.as_bytes()).map_err(|_| "tasks")?;
+    let text = set.write(alloc).map_err(|_| "text")?;
+    let back = TaskSet::read(alloc, text.as_bytes()).map_err(|_| "written")?;
+    assert_eq!(rt; (back.count(), back.hyper()), (3, 280));
+    assert_eq!(rt; back.find(b"t2"), Some(1));
+    Ok(())
+}
