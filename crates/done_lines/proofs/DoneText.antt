@@ -23,14 +23,17 @@ use Rattle.grid_fraction.specs.declared.Frac.{Frac}
 use Rattle.sched_model.specs.Plan.{Plan, count, names, period}
 use Rattle.sched_model.specs.Jobs.{release, due}
 use Rattle.sched_model.specs.Ticks.{Tick, at, exec}
-use Rattle.sched_model.specs.Schedule.{IsScheduleBy}
+use Rattle.sched_model.specs.Demand.{published}
+use Rattle.sched_model.specs.Schedule.{IsScheduleBy, schedule}
 use Rattle.sched_model.specs.Deadlines.{IsMet}
 use Rattle.sched_model.specs.Admission.{IsWithinLimits}
 use Rattle.sched_model.specs.Notes.{notes_of, notes_before_end, energy_run, energy_idle}
 use Rattle.sched_model.specs.Text.{trace_text}
 use Rattle.sched_model.proofs.Limits.{every_period, low_period}
+use Rattle.sched_model.proofs.ScheduleLemmas.{schedule_exists}
+use Rattle.sched_model.proofs.Service.{exec-most}
 use Rattle.sched_model.proofs.JobLaws.{release-due}
-use Rattle.done_lines.specs.DoneLines.{lines_of, IsDoneLine, IsBy, IsToldBy, TellsDeadlines}
+use Rattle.done_lines.specs.DoneLines.{lines_of, IsDoneLine, IsBy, IsToldBy, TellsDeadlines, TextTellsDeadlines}
 use Rattle.done_lines.proofs.PlainLines.{IsPlain, Each, ArePlain, all-each, each-append, plain-decimal, plain-name, some-name, lines-line, field-same, and-left, and-right}
 use Rattle.done_lines.proofs.DoneNotes.{tells_done, tells_late, times, times-append}
 use Rattle.done_lines.proofs.DoneCounts.{told-once, told-never, none-late}
@@ -381,3 +384,12 @@ module _ (p : Plan) (dem : ℕ → ℕ → ℕ) (ask : List Tick → Frac) (lim 
       let by : exec p (at (due p i k) ticks) i k ≡ dem i k = met i k lt some_job within in
       let had : exec p ticks i k ≡ dem i k = omega (arith, by, exec-drop p i k (length ticks - due p i k) ticks, most i k lt) in
       told-text g (length ticks) i k lt some_job had within
+
+-- the text of each run that meets its deadlines
+pub text-tells : (p : Plan) → IsWithinLimits p → TextTellsDeadlines p
+text-tells p lim kind dem t low met =
+    let ticks = schedule p kind dem t in
+    let exists = schedule_exists p dem (published p kind dem) t in
+    let long : length ticks ≡ t = exists.1 in
+    subst (λ n. TellsDeadlines p n (trace_text p.scheduler kind n (names p) (notes_of p dem (published p kind dem) ticks))) long
+    (tells-deadlines p dem (published p kind dem) lim ticks exists.0 (exec-most p dem (published p kind dem) ticks exists.0) (omega (arith, long, low)) kind met)

@@ -1,9 +1,13 @@
 -- Where the text of a run tells that a job is done.
-use Rattle.std.specs.Prelude.{◌≡◌, ◌⊎◌, ℕ, ◌<◌, ◌≤◌, ◌==◌, List, [], ◌∷◌, ◌++◌, codes, decimal, if◌then◌else◌}
+use Rattle.std.specs.Prelude.{◌≡◌, ◌⊎◌, ℕ, ◌<◌, ◌≤◌, ◌^◌, ◌==◌, List, [], ◌∷◌, ◌++◌, codes, decimal, if◌then◌else◌}
 use Rattle.std.specs.List.{All}
+use Rattle.dvs_base.specs.declared.kind.GovernorKind.{GovernorKind}
 use Rattle.dvs_base.specs.declared.note.Pos.{Pos}
 use Rattle.dvs_base.specs.TraceLines.{line, position_text, name_of}
 use Rattle.sched_model.specs.Plan.{Plan, count, names}
+use Rattle.sched_model.specs.Schedule.{schedule}
+use Rattle.sched_model.specs.Deadlines.{IsMet}
+use Rattle.sched_model.specs.Text.{run_text}
 use Rattle.sched_model.specs.Jobs.{due}
 
 -- one more byte at the start of the first line
@@ -44,3 +48,9 @@ pub record IsToldBy (name : List ℕ) (k t : ℕ) (text : List ℕ) : Type 0 whe
 abbrev pub TellsDeadlines : Plan → ℕ → List ℕ → Type 0
 TellsDeadlines p ticks text =
     (i k : ℕ) → i < count p → 1 ≤ k → due p i k ≤ ticks → IsToldBy (name_of (names p) i) k (due p i k) text
+
+-- the text of each run that meets its deadlines tells each of them
+abbrev pub TextTellsDeadlines : Plan → Type 0
+TextTellsDeadlines p =
+    (kind : GovernorKind) (dem : ℕ → ℕ → ℕ) (ticks : ℕ) → ticks ≤ 2 ^ 40
+    → IsMet p dem (schedule p kind dem ticks) → TellsDeadlines p ticks (run_text p kind dem ticks)

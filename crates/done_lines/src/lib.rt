@@ -1,5 +1,17 @@
-//! What the text of a run tells of its deadlines: definitions and lemmas alone.
+//! What the text of a run tells of its deadlines.
 //!
-//! The text is split into its lines; each job that is due within the run has exactly one `done` line, at a position not
-//! after its deadline. This follows from the notes of a schedule that meets every deadline.
+//! The text is split into its lines. Each job that is due within the run has exactly one `done` line, at a position not
+//! after its deadline, wherever the schedule meets its deadlines.
 #![tactic(auto)]
+
+ghost use Rattle.done_lines.specs.DoneLines.{TextTellsDeadlines};
+
+use sched_model::Admitted;
+
+/// For each governor's kind, all demands of the jobs and each length up to 2^40 ticks, the text of a run that meets its
+/// deadlines has, for each job that is due within it, exactly one `done` line, at a position not after the deadline.
+pub fn told_deadlines(plan: &Admitted)
+    ensures { TextTellsDeadlines plan.now }
+{
+    plan.known();
+}

@@ -18,3 +18,4 @@ pub mod Limits
 pub mod Weights
 pub mod SortedKeys
 pub mod Heaviest
+pub mod Service
