@@ -1,0 +1,24 @@
+use Rattle.std.proofs.Common.{arith, ap}
+use Rattle.freq_table.specs.Tables.{Table}
+use Rattle.plain_schedule.proofs.Listed.{low_units}
+use Rattle.plain_schedule.proofs.service.demand.Goals as goal
+
+pub overflow_add-result : goal.overflow_add-result
+overflow_add-result c =
+    omega (
+      arith,
+      c.units.ensures,
+      c.charge.ensures,
+      ap (λ (m : Table). m.charge) c.machine.ensures,
+      low_units c.args.plan.now c.args.demands.now c.requires.list c.known.ensures c.known-2.ensures c.args.task c.args.job c.requires.task,
+    )
+
+pub returns-clause-low : goal.returns-clause-low
+returns-clause-low c =
+    omega (
+      arith,
+      c.units.ensures,
+      c.charge.ensures,
+      ap (λ (m : Table). m.charge) c.machine.ensures,
+      low_units c.args.plan.now c.args.demands.now c.requires.list c.known.ensures c.known-2.ensures c.args.task c.args.job c.requires.task,
+    )

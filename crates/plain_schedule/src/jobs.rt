@@ -1,0 +1,74 @@
+//! When jobs are released and due, and which is the latest.
+ghost use Rattle.std.specs.Prelude.{◌≡◌, ◌+◌, ◌<◌, ◌≤◌, ◌^◌};
+ghost use Rattle.sched_model.specs.Plan.{count};
+ghost use Rattle.sched_model.specs.Jobs.{release, due, latest, deadline, releases_at, is_release, is_in_window};
+
+use sched_model::Admitted;
+
+/// The tick at which a job is released; jobs count from 1.
+#[tactic(auto, unfolding(sched_model::specs::Jobs::release))]
+pub(crate) fn release(plan: &Admitted, task: u32, job: u64) -> u128
+    requires { task < count plan.now }
+    ensures { result ≡ release plan.now task job }
+{
+    u128::from(job.saturating_sub(1)) * u128::from(plan.period(task))
+}
+
+/// The tick at which a job is due.
+#[tactic(auto, unfolding(sched_model::specs::Jobs::due))]
+pub(crate) fn due(plan: &Admitted, task: u32, job: u64) -> u128
+    requires { task < count plan.now }
+    ensures { result ≡ due plan.now task job }
+{
+    u128::from(job) * u128::from(plan.period(task))
+}
+
+/// The job of a task that was released last, up to a tick.
+#[tactic(auto, unfolding(sched_model::specs::Jobs::latest))]
+pub(crate) fn latest(plan: &Admitted, task: u32, tick: u64) -> u64
+    requires task { task < count plan.now }
+    requires tick { tick + 1 < 2 ^ 64 }
+    ensures { result ≡ latest plan.now task tick }
+{
+    plan.known();
+    tick / plan.period(task) + 1
+}
+
+/// The deadline of the latest job of a task.
+pub(crate) fn deadline(plan: &Admitted, task: u32, tick: u64) -> u128
+    requires task { task < count plan.now }
+    requires tick { tick + 1 < 2 ^ 64 }
+    ensures { result ≡ deadline plan.now task tick }
+{
+    due(plan, task, latest(plan, task, tick))
+}
+
+// Whether a job of a task is released at a tick.
+fn releases_at(plan: &Admitted, task: u32, tick: u64) -> bool
+    requires task { task < count plan.now }
+    requires tick { tick + 1 < 2 ^ 64 }
+    ensures { result ≡ releases_at plan.now task tick }
+{
+    release(plan, task, latest(plan, task, tick)) == u128::from(tick)
+}
+
+/// Whether any job is released at a tick.
+pub(crate) fn is_release(plan: &Admitted, tick: u64) -> bool
+    requires { tick + 1 < 2 ^ 64 }
+    ensures { result ≡ is_release plan.now tick }
+{
+    let mut any = false;
+    for task in 0..plan.count() {
+        any = any || releases_at(plan, task, tick);
+    }
+    any
+}
+
+/// Whether a tick lies between the release and the deadline of a job.
+pub(crate) fn is_in_window(plan: &Admitted, task: u32, job: u64, tick: u64) -> bool
+    requires { task < count plan.now }
+    ensures { result ≡ is_in_window plan.now task job tick }
+{
+    let tick = u128::from(tick);
+    release(plan, task, job) <= tick && tick < due(plan, task, job)
+}

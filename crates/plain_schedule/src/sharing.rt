@@ -1,0 +1,81 @@
+//! How the tasks share the units of a tick.
+ghost use Rattle.std.specs.Prelude.{◌≡◌, ◌+◌, ◌<◌, ◌≤◌, ◌*◌, ◌^◌, length, reverse, if◌then◌else◌};
+ghost use Rattle.sched_model.specs.Plan.{count};
+ghost use Rattle.sched_model.specs.Ticks.{left};
+ghost use Rattle.sched_model.specs.Priority.{key_of, stands_before, sum_before, allotment};
+ghost use Rattle.sched_model.specs.Demands.{demand_of};
+ghost use Rattle.plain_schedule.specs.Lists.{HasWorstsOf};
+
+use crate::PlainTick;
+use crate::jobs::deadline;
+use crate::service::left;
+use crate::tick::now;
+use demand_list::Demands;
+use dvs_base::Scheduler;
+use sched_model::Admitted;
+
+// What the scheduler orders the tasks by: the deadline under EDF, the period under RM.
+fn key(plan: &Admitted, tick: u64, task: u32) -> u128
+    requires task { task < count plan.now }
+    requires tick { tick + 1 < 2 ^ 64 }
+    ensures { result ≡ key_of plan.now.scheduler plan.now tick task }
+{
+    match plan.scheduler() {
+        Scheduler::Edf => deadline(plan, task, tick),
+        Scheduler::Rm => u128::from(plan.period(task)),
+    }
+}
+
+// Whether task `j` stands before task `i`: by the key, and by the place among equal keys.
+fn stands_before(plan: &Admitted, tick: u64, j: u32, i: u32) -> bool
+    requires one { j < count plan.now }
+    requires other { i < count plan.now }
+    requires tick { tick + 1 < 2 ^ 64 }
+    ensures { result ≡ stands_before (key_of plan.now.scheduler plan.now tick) j i }
+{
+    let first = key(plan, tick, j);
+    let second = key(plan, tick, i);
+    first < second || (first == second && j < i)
+}
+
+// What a task needs where it stands before task `i`, and else 0.
+fn needed_before(plan: &Admitted, demands: &Demands, past: &[PlainTick], j: u32, i: u32) -> u64
+    requires list { HasWorstsOf plan.now demands.now }
+    requires one { j < count plan.now }
+    requires other { i < count plan.now }
+    ensures value { result ≡ (if stands_before (key_of plan.now.scheduler plan.now (length (reverse past.now))) j i then left plan.now (demand_of plan.now demands.now.rows) (reverse past.now) j else 0) }
+    ensures low { result ≤ 2 ^ 61 }
+{
+    if stands_before(plan, now(past), j, i) {
+        left(plan, demands, past, j)
+    } else {
+        0
+    }
+}
+
+// What the tasks before a task need.
+fn needs_before(plan: &Admitted, demands: &Demands, past: &[PlainTick], task: u32) -> u128
+    requires list { HasWorstsOf plan.now demands.now }
+    requires task { task < count plan.now }
+    ensures value { result ≡ sum_before (count plan.now) (key_of plan.now.scheduler plan.now (length (reverse past.now))) (left plan.now (demand_of plan.now demands.now.rows) (reverse past.now)) task }
+    ensures low { result ≤ 2 ^ 93 }
+{
+    let mut sum = 0;
+    for j in 0..plan.count() {
+        sum += u128::from(needed_before(plan, demands, past, j, task));
+    }
+    sum
+}
+
+/// What a task gets of the units of the tick after these: what it and those before it take, less what those before it
+/// take.
+pub(crate) fn allotment(plan: &Admitted, demands: &Demands, past: &[PlainTick], units: u64, task: u32) -> u64
+    requires list { HasWorstsOf plan.now demands.now }
+    requires task { task < count plan.now }
+    ensures { result ≡ allotment (count plan.now) (key_of plan.now.scheduler plan.now (length (reverse past.now))) units (left plan.now (demand_of plan.now demands.now.rows) (reverse past.now)) task }
+{
+    let room = u128::from(units);
+    let before = needs_before(plan, demands, past, task);
+    let up_to = before + u128::from(left(plan, demands, past, task));
+    (room.min(up_to) - room.min(before)) as u64
+}

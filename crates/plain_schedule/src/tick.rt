@@ -1,0 +1,38 @@
+//! Ticks.
+ghost use Rattle.std.specs.Prelude.{◌≡◌, ◌+◌, ◌<◌, ◌^◌, length, reverse};
+ghost use Rattle.sched_model.specs.Ticks.{share};
+
+use std::marker::Model;
+
+/// One tick of a schedule: the machine's entry in force, and the work units that each task gets.
+#[derive(Drop)]
+pub struct PlainTick {
+    pub entry: u32,
+    pub shares: Vec<u64>,
+}
+
+impl Model for PlainTick {
+    ghost use Rattle.sched_model.specs.Ticks.{Tick};
+
+    ghost Value = { Tick };
+
+    ghost view = { λ x. record { entry = x.entry; shares = x.shares.items } };
+}
+
+/// The units of a task in a tick.
+pub(crate) fn share(tick: &PlainTick, task: u32) -> u64
+    ensures { result ≡ share tick.entry.now task }
+{
+    match tick.shares.get(task as usize) {
+        Some(units) => *units,
+        None => 0,
+    }
+}
+
+/// The number of the tick after these.
+pub(crate) fn now(past: &[PlainTick]) -> u64
+    ensures value { result ≡ length (reverse past.now) }
+    ensures low { result + 1 < 2 ^ 64 }
+{
+    past.len() as u64
+}
