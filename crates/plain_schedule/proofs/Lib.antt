@@ -1,2 +1,4 @@
 pub mod Listed
 pub mod Pasts
+pub mod Publishing
+pub mod InForce

@@ -8,8 +8,10 @@
 mod decision;
 mod jobs;
 mod published;
+mod schedule;
 mod service;
 mod sharing;
 mod tick;
 
+pub use schedule::plain_schedule;
 pub use tick::PlainTick;

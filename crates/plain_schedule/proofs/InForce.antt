@@ -1,0 +1,75 @@
+-- The entry in force, of the ticks of a schedule.
+use Rattle.std.proofs.Common.{◌≡◌, ℕ, suc, ◌+◌, ◌-◌, ◌<◌, ◌≤◌, Bool, true, false, List, [], ◌∷◌, ◌++◌, length, reverse, get_or, refl, arith, ap, ◌∙◌, sym, subst, true≢false, if◌then◌else◌}
+use Rattle.std.proofs.lemmas.List.{length-reverse, get_or-reverse, reverse-append}
+use Rattle.grid_fraction.specs.declared.Frac.{Frac}
+use Rattle.freq_table.specs.Tables.{lowest_entry}
+use Rattle.freq_table.proofs.Chosen.{lowest_within}
+use Rattle.sched_model.specs.Plan.{Plan}
+use Rattle.sched_model.specs.Ticks.{Tick}
+use Rattle.sched_model.specs.Decision.{is_decision}
+use Rattle.sched_model.specs.Schedule.{entry_in_force, next_tick, schedule_by}
+
+pub force_within : (p : Plan) (dem : ℕ → ℕ → ℕ) (ask : List Tick → Frac) → 1 ≤ length p.machine.points → (past : List Tick) → entry_in_force p dem ask past < length p.machine.points
+force_within p dem ask some [] = lowest_within p.machine (ask []) some
+force_within p dem ask some (x ∷ past) = go (is_decision p dem (x ∷ past)) (force_within p dem ask some past)
+  where
+    go : (b : Bool) → entry_in_force p dem ask past < length p.machine.points → (if b then lowest_entry p.machine (ask (x ∷ past)) else entry_in_force p dem ask past) < length p.machine.points
+    go true ih = lowest_within p.machine (ask (x ∷ past)) some
+    go false ih = ih
+
+pub force_decided : (p : Plan) (dem : ℕ → ℕ → ℕ) (ask : List Tick → Frac) (past : List Tick) → is_decision p dem past ≡ true → entry_in_force p dem ask past ≡ lowest_entry p.machine (ask past)
+force_decided p dem ask [] e = refl
+force_decided p dem ask (x ∷ past) e = ap (λ b. if b then lowest_entry p.machine (ask (x ∷ past)) else entry_in_force p dem ask past) e
+
+-- between decisions it is the entry of the last tick
+kept : (p : Plan) (dem : ℕ → ℕ → ℕ) (ask : List Tick → Frac) (ticks : List Tick) (d : Tick) → ticks ≡ schedule_by p dem ask (length ticks) → is_decision p dem ticks ≡ false
+    → (get_or ticks 0 d).entry ≡ entry_in_force p dem ask ticks
+unfolding schedule_by
+kept p dem ask [] d is e = absurd (true≢false e)
+kept p dem ask (x ∷ past) d is e =
+    let first : x ≡ next_tick p dem ask (schedule_by p dem ask (length past)) = cc in
+    let rest : past ≡ schedule_by p dem ask (length past) = cc in
+    ap (λ (y : Tick). y.entry) first
+    ∙ (ap (entry_in_force p dem ask) (sym rest)
+    ∙ sym (ap (λ b. if b then lowest_entry p.machine (ask (x ∷ past)) else entry_in_force p dem ask past) e))
+
+pub undecided_some : (p : Plan) (dem : ℕ → ℕ → ℕ) (past : List Tick) → is_decision p dem (reverse past) ≡ false → 1 ≤ length past
+undecided_some p dem [] e = absurd (true≢false e)
+undecided_some p dem (x ∷ past) e = omega arith
+
+pub force_kept : (p : Plan) (dem : ℕ → ℕ → ℕ) (ask : List Tick → Frac) (past : List Tick) (x : Tick)
+    → reverse past ≡ schedule_by p dem ask (length past) → is_decision p dem (reverse past) ≡ false → x ≡ get_or past (length past - 1) x
+    → x.entry ≡ entry_in_force p dem ask (reverse past)
+force_kept p dem ask past x is e read =
+    let some : 0 < length past = undecided_some p dem past e in
+    let last : get_or (reverse past) 0 x ≡ get_or past (length past - 1) x = get_or-reverse past 0 x some ∙ ap (λ n. get_or past n x) less in
+    ap (λ (y : Tick). y.entry) (read ∙ sym last)
+    ∙ kept p dem ask (reverse past) x (is ∙ ap (schedule_by p dem ask) (sym (length-reverse past))) e
+  where
+    less : length past - 1 - 0 ≡ length past - 1
+    less = omega arith
+
+pub kept_within : (p : Plan) (dem : ℕ → ℕ → ℕ) (ask : List Tick → Frac) (past : List Tick) (x : Tick)
+    → reverse past ≡ schedule_by p dem ask (length past) → is_decision p dem (reverse past) ≡ false → x ≡ get_or past (length past - 1) x
+    → 1 ≤ length p.machine.points → x.entry < length p.machine.points
+kept_within p dem ask past x is e read some =
+    subst (λ n. n < length p.machine.points) (sym (force_kept p dem ask past x is e read)) (force_within p dem ask some (reverse past))
+
+pub schedule_none : (p : Plan) (dem : ℕ → ℕ → ℕ) (ask : List Tick → Frac) → schedule_by p dem ask 0 ≡ []
+unfolding schedule_by
+schedule_none p dem ask = refl
+
+-- one more tick of a schedule
+pub schedule_more : (p : Plan) (dem : ℕ → ℕ → ℕ) (ask : List Tick → Frac) (past : List Tick) (t : ℕ) → past ≡ schedule_by p dem ask t
+    → next_tick p dem ask past ∷ past ≡ schedule_by p dem ask (t + 1)
+unfolding schedule_by
+schedule_more p dem ask past t is =
+    let e : suc t ≡ t + 1 = omega arith in
+    let step : next_tick p dem ask (schedule_by p dem ask t) ∷ schedule_by p dem ask t ≡ schedule_by p dem ask (suc t) = refl in
+    ap (λ (ps : List Tick). next_tick p dem ask ps ∷ ps) is ∙ (step ∙ ap (schedule_by p dem ask) e)
+
+-- and so where the first tick stands first
+pub schedule_push : (p : Plan) (dem : ℕ → ℕ → ℕ) (ask : List Tick → Frac) (past : List Tick) (t : ℕ) (x : Tick)
+    → reverse past ≡ schedule_by p dem ask t → x ≡ next_tick p dem ask (reverse past) → reverse (past ++ x ∷ []) ≡ schedule_by p dem ask (t + 1)
+schedule_push p dem ask past t x is next =
+    reverse-append past (x ∷ []) ∙ (ap (λ y. y ∷ reverse past) next ∙ schedule_more p dem ask (reverse past) t is)

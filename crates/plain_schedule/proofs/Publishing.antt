@@ -1,0 +1,15 @@
+-- The denominators of published demands.
+use Rattle.std.proofs.Common.{ℕ, ◌≤◌, arith}
+use Rattle.dvs_base.specs.declared.kind.Scheduler.{Scheduler}
+use Rattle.dvs_base.specs.declared.kind.Scheduler.TheVariants.{Edf, Rm}
+use Rattle.sched_model.specs.Plan.{Plan}
+use Rattle.sched_model.specs.StaticDemand.{heaviest, static_demand, static_demand_of}
+use Rattle.sched_model.specs.Admission.{IsWithinLimits}
+use Rattle.sched_model.proofs.Limits.{some_hyper, every_period}
+
+pub static_den : (p : Plan) → IsWithinLimits p → 1 ≤ (static_demand p).den
+static_den p lim = by p.scheduler
+  where
+    by : (s : Scheduler) → 1 ≤ (static_demand_of s p).den
+    by Edf = omega (arith, some_hyper p lim)
+    by Rm = omega (arith, every_period p lim (heaviest p))

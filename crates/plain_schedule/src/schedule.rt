@@ -1,0 +1,80 @@
+//! The schedule, tick by tick.
+ghost use Rattle.std.specs.Prelude.{◌≡◌, ◌<◌, ◌≤◌, length, reverse, IfOk};
+ghost use Rattle.grid_fraction.specs.Numbers.{list_below};
+ghost use Rattle.sched_model.specs.Plan.{count};
+ghost use Rattle.sched_model.specs.Ticks.{left};
+ghost use Rattle.sched_model.specs.Priority.{key_of, allotment};
+ghost use Rattle.sched_model.specs.Demand.{published};
+ghost use Rattle.sched_model.specs.Demands.{demand_of};
+ghost use Rattle.sched_model.specs.Schedule.{entry_in_force, next_tick, schedule};
+ghost use Rattle.plain_schedule.specs.Lists.{HasWorstsOf};
+ghost use Rattle.plain_schedule.specs.Kinds.{IsUnchanging};
+
+use crate::PlainTick;
+use crate::decision::is_decision;
+use crate::published::published;
+use crate::sharing::allotment;
+use demand_list::Demands;
+use dvs_base::{GovernorKind, NoMemory};
+use sched_model::Admitted;
+use std::alloc::Global;
+
+// The entry in force at the tick after these: the choice at the last decision instant.
+#[tactic(auto, using(crate::proofs::InForce::force_decided, crate::proofs::InForce::force_kept, crate::proofs::InForce::undecided_some, crate::proofs::InForce::force_within, crate::proofs::InForce::kept_within))]
+fn entry_in_force(plan: &Admitted, demands: &Demands, governor: GovernorKind, past: &[PlainTick]) -> u32
+    requires list { HasWorstsOf plan.now demands.now }
+    requires kind { IsUnchanging governor }
+    requires past { reverse past.now ≡ schedule plan.now governor (demand_of plan.now demands.now.rows) (length past.now) }
+    ensures value { result ≡ entry_in_force plan.now (demand_of plan.now demands.now.rows) (published plan.now governor (demand_of plan.now demands.now.rows)) (reverse past.now) }
+    ensures low { result < length plan.now.machine.points }
+{
+    plan.known();
+    if is_decision(plan, demands, past) {
+        let demand = published(plan, demands, governor, past);
+        return plan.machine().lowest(demand).index;
+    }
+    let last = &past[past.len() - 1];
+    last.entry
+}
+
+// What each task gets of the units of the tick after these.
+fn shares_of(alloc: Global, plan: &Admitted, demands: &Demands, past: &[PlainTick], units: u64) -> Result<Vec<u64>, NoMemory>
+    requires { HasWorstsOf plan.now demands.now }
+    ensures { IfOk result (λ v. v.items ≡ list_below (count plan.now) (allotment (count plan.now) (key_of plan.now.scheduler plan.now (length (reverse past.now))) units (left plan.now (demand_of plan.now demands.now.rows) (reverse past.now)))) }
+{
+    let mut shares = Vec::new(alloc);
+    for task in 0..plan.count() {
+        let share = allotment(plan, demands, past, units, task);
+        shares.push(share).map_err(|_| NoMemory)?;
+    }
+    Ok(shares)
+}
+
+// The one tick that may follow these.
+fn next_tick(alloc: Global, plan: &Admitted, demands: &Demands, governor: GovernorKind, past: &[PlainTick]) -> Result<PlainTick, NoMemory>
+    requires list { HasWorstsOf plan.now demands.now }
+    requires kind { IsUnchanging governor }
+    requires past { reverse past.now ≡ schedule plan.now governor (demand_of plan.now demands.now.rows) (length past.now) }
+    ensures { IfOk result (λ x. x ≡ next_tick plan.now (demand_of plan.now demands.now.rows) (published plan.now governor (demand_of plan.now demands.now.rows)) (reverse past.now)) }
+{
+    let entry = entry_in_force(plan, demands, governor, past);
+    let units = plan.machine().point(entry).speed;
+    let shares = shares_of(alloc, plan, demands, past, units)?;
+    Ok(PlainTick { entry, shares })
+}
+
+/// The first ticks of the schedule of a plan and its jobs' demands under a governor, first tick first. It fails only
+/// where memory runs out.
+#[tactic(auto, using(crate::proofs::InForce::schedule_push, crate::proofs::InForce::schedule_none))]
+pub fn plain_schedule(alloc: Global, plan: &Admitted, demands: &Demands, governor: GovernorKind, ticks: u64) -> Result<Vec<PlainTick>, NoMemory>
+    requires list { HasWorstsOf plan.now demands.now }
+    requires kind { IsUnchanging governor }
+    ensures { IfOk result (λ list. reverse list.items ≡ schedule plan.now governor (demand_of plan.now demands.now.rows) ticks) }
+{
+    let mut past = Vec::new(alloc);
+    for _ in 0..ticks {
+        let tick = next_tick(alloc, plan, demands, governor, &past)?;
+        past.push(tick).map_err(|_| NoMemory)?;
+    }
+    Ok(past)
+}
