@@ -1,11 +1,11 @@
 -- The denominators of published demands.
-use Rattle.std.proofs.Common.{ℕ, ◌≤◌, arith}
+use Rattle.std.proofs.Common.{ℕ, ◌≤◌, ◌^◌, arith}
 use Rattle.dvs_base.specs.declared.kind.Scheduler.{Scheduler}
 use Rattle.dvs_base.specs.declared.kind.Scheduler.TheVariants.{Edf, Rm}
-use Rattle.sched_model.specs.Plan.{Plan}
+use Rattle.sched_model.specs.Plan.{Plan, hyper}
 use Rattle.sched_model.specs.StaticDemand.{heaviest, static_demand, static_demand_of}
-use Rattle.sched_model.specs.Admission.{IsWithinLimits}
-use Rattle.sched_model.proofs.Limits.{some_hyper, every_period}
+use Rattle.sched_model.specs.Admission.{IsWithinLimits, IsAdmitted}
+use Rattle.sched_model.proofs.Limits.{some_hyper, low_hyper, every_period}
 
 pub static_den : (p : Plan) → IsWithinLimits p → 1 ≤ (static_demand p).den
 static_den p lim = by p.scheduler
@@ -13,3 +13,9 @@ static_den p lim = by p.scheduler
     by : (s : Scheduler) → 1 ≤ (static_demand_of s p).den
     by Edf = omega (arith, some_hyper p lim)
     by Rm = omega (arith, every_period p lim (heaviest p))
+
+pub hyper_some : (p : Plan) → IsAdmitted p → 1 ≤ hyper p
+hyper_some p adm = some_hyper p adm.limits
+
+pub hyper_low : (p : Plan) → IsAdmitted p → hyper p ≤ 2 ^ 48
+hyper_low p adm = low_hyper p adm.limits

@@ -5,6 +5,7 @@
 //! Callers may rely on the answer to be the definition's list of ticks, first tick first, unless memory runs out.
 #![tactic(auto)]
 
+mod cycle;
 mod decision;
 mod jobs;
 mod published;

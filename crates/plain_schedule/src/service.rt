@@ -1,8 +1,8 @@
 //! What the jobs need, and what they have had.
 ghost use Rattle.std.specs.Prelude.{◌≡◌, ◌<◌, ◌≤◌, ◌^◌, reverse, if◌then◌else◌};
-ghost use Rattle.sched_model.specs.Plan.{count};
+ghost use Rattle.sched_model.specs.Plan.{count, worst};
 ghost use Rattle.sched_model.specs.Jobs.{is_in_window};
-ghost use Rattle.sched_model.specs.Ticks.{share, exec, is_done, left};
+ghost use Rattle.sched_model.specs.Ticks.{share, exec, is_done, left, is_complete, wleft};
 ghost use Rattle.sched_model.specs.Demands.{demand_of};
 ghost use Rattle.plain_schedule.specs.Lists.{HasWorstsOf};
 
@@ -73,6 +73,44 @@ pub(crate) fn left(plan: &Admitted, demands: &Demands, past: &[PlainTick], task:
     let had = exec(plan, past, task, job);
     if had < u128::from(need) {
         need - had as u64
+    } else {
+        0
+    }
+}
+
+/// Whether the latest job of a task is complete.
+pub(crate) fn is_complete(plan: &Admitted, demands: &Demands, past: &[PlainTick], task: u32) -> bool
+    requires list { HasWorstsOf plan.now demands.now }
+    requires task { task < count plan.now }
+    ensures { result ≡ is_complete plan.now (demand_of plan.now demands.now.rows) (reverse past.now) task }
+{
+    is_done(plan, demands, past, task, latest(plan, task, now(past)))
+}
+
+/// The worst case of a task in work units, with the charge.
+pub(crate) fn worst(plan: &Admitted, task: u32) -> u64
+    requires { task < count plan.now }
+    ensures value { result ≡ worst plan.now task }
+    ensures low { result ≤ 2 ^ 61 }
+{
+    plan.known();
+    plan.worst(task)
+}
+
+/// What the latest job of a task may still need, as far as its worst case says: 0 where it is complete.
+pub(crate) fn wleft(plan: &Admitted, demands: &Demands, past: &[PlainTick], task: u32) -> u64
+    requires list { HasWorstsOf plan.now demands.now }
+    requires task { task < count plan.now }
+    ensures value { result ≡ wleft plan.now (demand_of plan.now demands.now.rows) (reverse past.now) task }
+    ensures low { result ≤ 2 ^ 61 }
+{
+    if is_complete(plan, demands, past, task) {
+        return 0;
+    }
+    let most = worst(plan, task);
+    let had = exec(plan, past, task, latest(plan, task, now(past)));
+    if had < u128::from(most) {
+        most - had as u64
     } else {
         0
     }
