@@ -2,3 +2,4 @@ pub mod Listed
 pub mod Pasts
 pub mod Publishing
 pub mod InForce
+pub mod Marks

@@ -1,7 +1,7 @@
 //! When jobs are released and due, and which is the latest.
 ghost use Rattle.std.specs.Prelude.{◌≡◌, ◌+◌, ◌<◌, ◌≤◌, ◌^◌};
 ghost use Rattle.sched_model.specs.Plan.{count};
-ghost use Rattle.sched_model.specs.Jobs.{release, due, latest, deadline, releases_at, is_release, is_in_window};
+ghost use Rattle.sched_model.specs.Jobs.{release, due, latest, deadline, releases_at, is_release, earliest, last_release, is_in_window};
 
 use sched_model::Admitted;
 
@@ -35,12 +35,32 @@ pub(crate) fn latest(plan: &Admitted, task: u32, tick: u64) -> u64
 }
 
 /// The deadline of the latest job of a task.
+#[tactic(auto, using(crate::proofs::Marks::deadline_later, crate::proofs::Marks::deadline_low))]
 pub(crate) fn deadline(plan: &Admitted, task: u32, tick: u64) -> u128
     requires task { task < count plan.now }
     requires tick { tick + 1 < 2 ^ 64 }
-    ensures { result ≡ deadline plan.now task tick }
+    ensures value { result ≡ deadline plan.now task tick }
+    ensures later { tick < result }
+    ensures low { result ≤ tick + 2 ^ 40 }
 {
+    plan.known();
     due(plan, task, latest(plan, task, tick))
+}
+
+/// The earliest deadline of the latest jobs.
+#[tactic(auto, using(crate::proofs::Marks::least_more))]
+pub(crate) fn earliest(plan: &Admitted, tick: u64) -> u128
+    requires { tick + 1 < 2 ^ 64 }
+    ensures value { result ≡ earliest plan.now tick }
+    ensures later { tick < result }
+    ensures low { result ≤ tick + 2 ^ 40 }
+{
+    plan.known();
+    let mut least = deadline(plan, 0, tick);
+    for task in 1..plan.count() {
+        least = least.min(deadline(plan, task, tick));
+    }
+    least
 }
 
 // Whether a job of a task is released at a tick.
@@ -62,6 +82,21 @@ pub(crate) fn is_release(plan: &Admitted, tick: u64) -> bool
         any = any || releases_at(plan, task, tick);
     }
     any
+}
+
+/// The last release up to a tick.
+pub(crate) fn last_release(plan: &Admitted, tick: u64) -> u64
+    requires { tick + 1 < 2 ^ 64 }
+    ensures value { result ≡ last_release plan.now tick }
+    ensures low { result ≤ tick }
+{
+    let mut last = 0;
+    for t in 0..tick {
+        if is_release(plan, t + 1) {
+            last = t + 1;
+        }
+    }
+    last
 }
 
 /// Whether a tick lies between the release and the deadline of a job.
