@@ -3,3 +3,4 @@ pub mod Pasts
 pub mod Publishing
 pub mod InForce
 pub mod Marks
+pub mod Allotting

@@ -1,15 +1,23 @@
 //! The published demands of cycle conservation (Pillai and Shin 2001).
-ghost use Rattle.std.specs.Prelude.{◌≡◌, ◌+◌, ◌*◌, ◌/◌, ◌<◌, ◌≤◌, ◌^◌, reverse};
+ghost use Rattle.std.specs.Prelude.{◌≡◌, ◌+◌, ◌-◌, ◌*◌, ◌/◌, ◌<◌, ◌≤◌, ◌^◌, reverse, if◌then◌else◌};
+ghost use Rattle.dvs_base.specs.declared.kind.Scheduler.TheVariants.{Rm};
 ghost use Rattle.sched_model.specs.Plan.{count, period, hyper};
+ghost use Rattle.sched_model.specs.Jobs.{earliest};
+ghost use Rattle.sched_model.specs.Ticks.{wleft};
+ghost use Rattle.sched_model.specs.Priority.{stands_before, sum_before, allotment};
+ghost use Rattle.sched_model.specs.StaticDemand.{static_speed};
 ghost use Rattle.sched_model.specs.Demands.{demand_of};
-ghost use Rattle.sched_model.specs.CycleDemand.{charged, edf_cycle};
+ghost use Rattle.sched_model.specs.CycleDemand.{charged, edf_cycle, allotted, had_since_release, allotment_left, rm_cycle};
 ghost use Rattle.plain_schedule.specs.Lists.{HasWorstsOf};
 
 use crate::PlainTick;
-use crate::jobs::latest;
-use crate::service::{demand, is_complete, worst};
-use crate::tick::now;
+use crate::jobs::{earliest, last_release, latest};
+use crate::published::static_demand;
+use crate::service::{demand, exec, is_complete, wleft, worst};
+use crate::sharing::stands_before;
+use crate::tick::{now, until};
 use demand_list::Demands;
+use dvs_base::Scheduler;
 use grid_fraction::Frac;
 use sched_model::Admitted;
 
@@ -55,5 +63,127 @@ pub(crate) fn edf_cycle(plan: &Admitted, demands: &Demands, past: &[PlainTick]) 
     Frac {
         num: sum,
         den: u128::from(plan.hyper()),
+    }
+}
+
+// The speed of the lowest entry that meets the static demand.
+fn static_speed(plan: &Admitted) -> u64
+    requires { plan.now.scheduler ≡ Rm }
+    ensures { result ≡ static_speed plan.now }
+{
+    plan.known();
+    let pick = plan.machine().lowest(static_demand(plan));
+    plan.machine().point(pick.index).speed
+}
+
+// What a task may still need where it stands before task `i` in RM order, and else 0.
+fn wleft_where_before(plan: &Admitted, demands: &Demands, past: &[PlainTick], j: u32, i: u32) -> u64
+    requires list { HasWorstsOf plan.now demands.now }
+    requires one { j < count plan.now }
+    requires other { i < count plan.now }
+    ensures value { result ≡ (if stands_before (period plan.now) j i then wleft plan.now (demand_of plan.now demands.now.rows) (reverse past.now) j else 0) }
+    ensures low { result ≤ 2 ^ 61 }
+{
+    if stands_before(plan, Scheduler::Rm, 0, j, i) {
+        wleft(plan, demands, past, j)
+    } else {
+        0
+    }
+}
+
+// What the tasks before a task in RM order may still need.
+fn wleft_before(plan: &Admitted, demands: &Demands, past: &[PlainTick], task: u32) -> u128
+    requires list { HasWorstsOf plan.now demands.now }
+    requires task { task < count plan.now }
+    ensures value { result ≡ sum_before (count plan.now) (period plan.now) (wleft plan.now (demand_of plan.now demands.now.rows) (reverse past.now)) task }
+    ensures low { result ≤ 2 ^ 93 }
+{
+    let mut sum = 0;
+    for j in 0..plan.count() {
+        sum += u128::from(wleft_where_before(plan, demands, past, j, task));
+    }
+    sum
+}
+
+// The units that are allotted at a release.
+fn room_from(plan: &Admitted, from: u64) -> u128
+    requires scheduler { plan.now.scheduler ≡ Rm }
+    requires from { from + 1 < 2 ^ 64 }
+    ensures { result ≡ (earliest plan.now from - from) * static_speed plan.now }
+{
+    let ticks = earliest(plan, from) - u128::from(from);
+    ticks * u128::from(static_speed(plan))
+}
+
+// What a task gets of so many units by RM order, where each task takes what it may still need.
+fn worst_allotment(plan: &Admitted, demands: &Demands, past: &[PlainTick], room: u128, task: u32) -> u64
+    requires list { HasWorstsOf plan.now demands.now }
+    requires task { task < count plan.now }
+    ensures value { result ≡ allotment (count plan.now) (period plan.now) room (wleft plan.now (demand_of plan.now demands.now.rows) (reverse past.now)) task }
+    ensures low { result ≤ 2 ^ 61 }
+{
+    let before = wleft_before(plan, demands, past, task);
+    let up_to = before + u128::from(wleft(plan, demands, past, task));
+    (room.min(up_to) - room.min(before)) as u64
+}
+
+// What a task gets of the units that are allotted at the last release.
+fn allotted(plan: &Admitted, demands: &Demands, past: &[PlainTick], task: u32) -> u64
+    requires list { HasWorstsOf plan.now demands.now }
+    requires task { task < count plan.now }
+    requires scheduler { plan.now.scheduler ≡ Rm }
+    ensures value { result ≡ allotted plan.now (demand_of plan.now demands.now.rows) (reverse past.now) task }
+    ensures low { result ≤ 2 ^ 61 }
+{
+    let from = last_release(plan, now(past));
+    let room = room_from(plan, from);
+    worst_allotment(plan, demands, until(past, from), room, task)
+}
+
+// What the latest job of a task has had since the last release.
+fn had_since_release(plan: &Admitted, past: &[PlainTick], task: u32) -> u128
+    requires { task < count plan.now }
+    ensures { result ≡ had_since_release plan.now (reverse past.now) task }
+{
+    let from = last_release(plan, now(past));
+    let job = latest(plan, task, from);
+    let had = exec(plan, past, task, job);
+    had.saturating_sub(exec(plan, until(past, from), task, job))
+}
+
+// What is left of the allotment of a task.
+fn allotment_left(plan: &Admitted, demands: &Demands, past: &[PlainTick], task: u32) -> u128
+    requires list { HasWorstsOf plan.now demands.now }
+    requires task { task < count plan.now }
+    requires scheduler { plan.now.scheduler ≡ Rm }
+    ensures value { result ≡ allotment_left plan.now (demand_of plan.now demands.now.rows) (reverse past.now) task }
+    ensures low { result ≤ 2 ^ 61 }
+{
+    if is_complete(plan, demands, past, task) {
+        return 0;
+    }
+    let allotted = u128::from(allotted(plan, demands, past, task));
+    allotted.saturating_sub(had_since_release(plan, past, task))
+}
+
+/// The demand of cycle conservation under RM: what is left of the allotments, over the time to the deadline that was
+/// the earliest at the last release.
+#[tactic(auto, using(crate::proofs::Marks::marked_later))]
+pub(crate) fn rm_cycle(plan: &Admitted, demands: &Demands, past: &[PlainTick]) -> Frac
+    requires list { HasWorstsOf plan.now demands.now }
+    requires scheduler { plan.now.scheduler ≡ Rm }
+    ensures value { result ≡ rm_cycle plan.now (demand_of plan.now demands.now.rows) (reverse past.now) }
+    ensures some_den { 1 ≤ result.den }
+    ensures low_den { result.den ≤ 2 ^ 64 }
+{
+    plan.known();
+    let tick = now(past);
+    let mut sum = 0;
+    for task in 0..plan.count() {
+        sum += allotment_left(plan, demands, past, task);
+    }
+    Frac {
+        num: sum,
+        den: earliest(plan, last_release(plan, tick)) - u128::from(tick),
     }
 }

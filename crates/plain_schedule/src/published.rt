@@ -22,8 +22,8 @@ fn full_demand(plan: &Admitted) -> Frac
     }
 }
 
-// Static scaling.
-fn static_demand(plan: &Admitted) -> Frac
+/// Static scaling.
+pub(crate) fn static_demand(plan: &Admitted) -> Frac
     ensures value { result ≡ static_demand plan.now }
     ensures some_den { 1 ≤ result.den }
     ensures low_den { result.den ≤ 2 ^ 64 }

@@ -14,27 +14,27 @@ use demand_list::Demands;
 use dvs_base::Scheduler;
 use sched_model::Admitted;
 
-// What the scheduler orders the tasks by: the deadline under EDF, the period under RM.
-fn key(plan: &Admitted, tick: u64, task: u32) -> u128
+// What a scheduler orders the tasks by: the deadline under EDF, the period under RM.
+fn key(plan: &Admitted, scheduler: Scheduler, tick: u64, task: u32) -> u128
     requires task { task < count plan.now }
     requires tick { tick + 1 < 2 ^ 64 }
-    ensures { result ≡ key_of plan.now.scheduler plan.now tick task }
+    ensures { result ≡ key_of scheduler plan.now tick task }
 {
-    match plan.scheduler() {
+    match scheduler {
         Scheduler::Edf => deadline(plan, task, tick),
         Scheduler::Rm => u128::from(plan.period(task)),
     }
 }
 
-// Whether task `j` stands before task `i`: by the key, and by the place among equal keys.
-fn stands_before(plan: &Admitted, tick: u64, j: u32, i: u32) -> bool
+/// Whether task `j` stands before task `i`: by the key, and by the place among equal keys.
+pub(crate) fn stands_before(plan: &Admitted, scheduler: Scheduler, tick: u64, j: u32, i: u32) -> bool
     requires one { j < count plan.now }
     requires other { i < count plan.now }
     requires tick { tick + 1 < 2 ^ 64 }
-    ensures { result ≡ stands_before (key_of plan.now.scheduler plan.now tick) j i }
+    ensures { result ≡ stands_before (key_of scheduler plan.now tick) j i }
 {
-    let first = key(plan, tick, j);
-    let second = key(plan, tick, i);
+    let first = key(plan, scheduler, tick, j);
+    let second = key(plan, scheduler, tick, i);
     first < second || (first == second && j < i)
 }
 
@@ -46,7 +46,7 @@ fn needed_before(plan: &Admitted, demands: &Demands, past: &[PlainTick], j: u32,
     ensures value { result ≡ (if stands_before (key_of plan.now.scheduler plan.now (length (reverse past.now))) j i then left plan.now (demand_of plan.now demands.now.rows) (reverse past.now) j else 0) }
     ensures low { result ≤ 2 ^ 61 }
 {
-    if stands_before(plan, now(past), j, i) {
+    if stands_before(plan, plan.scheduler(), now(past), j, i) {
         left(plan, demands, past, j)
     } else {
         0

@@ -1,6 +1,6 @@
 //! Ticks.
-ghost use Rattle.std.specs.Prelude.{◌≡◌, ◌+◌, ◌<◌, ◌^◌, length, reverse};
-ghost use Rattle.sched_model.specs.Ticks.{share};
+ghost use Rattle.std.specs.Prelude.{◌≡◌, ◌+◌, ◌-◌, ◌<◌, ◌≤◌, ◌^◌, length, reverse};
+ghost use Rattle.sched_model.specs.Ticks.{share, at};
 
 use std::marker::Model;
 
@@ -35,4 +35,12 @@ pub(crate) fn now(past: &[PlainTick]) -> u64
     ensures low { result + 1 < 2 ^ 64 }
 {
     past.len() as u64
+}
+
+/// The ticks before a tick.
+pub(crate) fn until(past: &[PlainTick], tick: u64) -> &[PlainTick]
+    requires { tick ≤ length (reverse past.now) }
+    ensures { reverse result.now ≡ at tick (reverse past.now) }
+{
+    &past[..tick as usize]
 }
