@@ -4,3 +4,4 @@ pub mod Publishing
 pub mod InForce
 pub mod Marks
 pub mod Allotting
+pub mod Orders

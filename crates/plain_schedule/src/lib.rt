@@ -5,9 +5,11 @@
 //! Callers may rely on the answer to be the definition's list of ticks, first tick first, unless memory runs out.
 #![tactic(auto)]
 
+mod ahead;
 mod cycle;
 mod decision;
 mod jobs;
+mod order;
 mod published;
 mod schedule;
 mod service;

@@ -1,0 +1,49 @@
+//! The tasks in EDF order.
+ghost use Rattle.std.specs.Prelude.{◌≡◌, ◌+◌, ◌<◌, ◌≤◌, ◌^◌, IfOk, length, map};
+ghost use Rattle.std.specs.List.{AllByRecursion};
+ghost use Rattle.dvs_base.specs.declared.kind.Scheduler.TheVariants.{Edf};
+ghost use Rattle.grid_fraction.specs.Numbers.{list_below};
+ghost use Rattle.sched_model.specs.Plan.{count};
+ghost use Rattle.sched_model.specs.Jobs.{deadline};
+ghost use Rattle.sched_model.specs.Priority.{key_of};
+ghost use Rattle.sched_model.specs.Order.{in_order};
+
+use crate::jobs::deadline;
+use dvs_base::NoMemory;
+use sched_model::Admitted;
+use std::alloc::Global;
+
+// Each task's deadline and number.
+fn keys_of(alloc: Global, plan: &Admitted, tick: u64) -> Result<Vec<(u128, u32)>, NoMemory>
+    requires { tick + 1 < 2 ^ 64 }
+    ensures { IfOk result (λ v. v.items ≡ list_below (count plan.now) (λ i. (deadline plan.now i tick, i))) }
+{
+    let mut keys = Vec::new(alloc);
+    for task in 0..plan.count() {
+        keys.push((deadline(plan, task, tick), task)).map_err(|_| NoMemory)?;
+    }
+    Ok(keys)
+}
+
+// The numbers of the keys.
+fn numbers_of(alloc: Global, keys: &[(u128, u32)]) -> Result<Vec<u32>, NoMemory>
+    ensures { IfOk result (λ v. v.items ≡ map (λ k. k.1) keys.now) }
+{
+    keys.iter()
+        .map(|key| key.1)
+        .collect(alloc)
+        .map_err(|_| NoMemory)
+}
+
+/// The tasks' numbers in EDF order: by deadline, and by place among equal deadlines.
+pub(crate) fn edf_order(alloc: Global, plan: &Admitted, tick: u64) -> Result<Vec<u32>, NoMemory>
+    requires { tick + 1 < 2 ^ 64 }
+    ensures order { IfOk result (λ v. v.items ≡ in_order (key_of Edf plan.now tick) (count plan.now)) }
+    ensures below { IfOk result (λ v. AllByRecursion (λ i. i < count plan.now) v.items) }
+    ensures few { IfOk result (λ v. length v.items ≤ 64) }
+{
+    plan.known();
+    let mut keys = keys_of(alloc, plan, tick)?;
+    keys.sort_unstable();
+    numbers_of(alloc, &keys)
+}
