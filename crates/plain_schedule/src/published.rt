@@ -1,16 +1,19 @@
 //! The published demands of the governors.
-ghost use Rattle.std.specs.Prelude.{◌≡◌, ◌≤◌, ◌^◌, reverse};
+ghost use Rattle.std.specs.Prelude.{◌≡◌, ◌≤◌, ◌^◌, reverse, IfOk};
+ghost use Rattle.dvs_base.specs.declared.kind.GovernorKind.TheVariants.{Cycle, Ahead};
 ghost use Rattle.sched_model.specs.StaticDemand.{full_demand, static_demand};
-ghost use Rattle.sched_model.specs.Demand.{published};
+ghost use Rattle.sched_model.specs.Demand.{demand_by, published};
 ghost use Rattle.sched_model.specs.Demands.{demand_of};
 ghost use Rattle.plain_schedule.specs.Lists.{HasWorstsOf};
-ghost use Rattle.plain_schedule.specs.Kinds.{IsUnchanging};
 
 use crate::PlainTick;
+use crate::ahead::edf_ahead;
+use crate::cycle::{edf_cycle, rm_cycle};
 use demand_list::Demands;
-use dvs_base::GovernorKind;
+use dvs_base::{GovernorKind, NoMemory, Scheduler};
 use grid_fraction::Frac;
 use sched_model::Admitted;
+use std::alloc::Global;
 
 // No governor: always the highest speed.
 fn full_demand(plan: &Admitted) -> Frac
@@ -32,18 +35,50 @@ pub(crate) fn static_demand(plan: &Admitted) -> Frac
     plan.static_demand()
 }
 
-/// The demand that a governor publishes at the tick after these, in units per tick and not reduced.
-#[tactic(auto, unfolding(sched_model::specs::Demand::published))]
-pub(crate) fn published(plan: &Admitted, demands: &Demands, governor: GovernorKind, past: &[PlainTick]) -> Frac
-    requires list { HasWorstsOf plan.now demands.now }
-    requires kind { IsUnchanging governor }
-    ensures value { result ≡ published plan.now governor (demand_of plan.now demands.now.rows) (reverse past.now) }
+// The demand of cycle conservation.
+fn cycle_demand(plan: &Admitted, demands: &Demands, past: &[PlainTick]) -> Frac
+    requires { HasWorstsOf plan.now demands.now }
+    ensures value { result ≡ demand_by plan.now.scheduler Cycle plan.now (demand_of plan.now demands.now.rows) (reverse past.now) }
     ensures some_den { 1 ≤ result.den }
     ensures low_den { result.den ≤ 2 ^ 64 }
 {
+    match plan.scheduler() {
+        Scheduler::Edf => edf_cycle(plan, demands, past),
+        Scheduler::Rm => rm_cycle(plan, demands, past),
+    }
+}
+
+// The demand of look-ahead; RM has none, and always takes the highest speed.
+fn ahead_demand(alloc: Global, plan: &Admitted, demands: &Demands, past: &[PlainTick]) -> Result<Frac, NoMemory>
+    requires { HasWorstsOf plan.now demands.now }
+    ensures value { IfOk result (λ d. d ≡ demand_by plan.now.scheduler Ahead plan.now (demand_of plan.now demands.now.rows) (reverse past.now)) }
+    ensures some_den { IfOk result (λ d. 1 ≤ d.den) }
+    ensures low_den { IfOk result (λ d. d.den ≤ 2 ^ 64) }
+{
+    match plan.scheduler() {
+        Scheduler::Edf => edf_ahead(alloc, plan, demands, past),
+        Scheduler::Rm => Ok(full_demand(plan)),
+    }
+}
+
+/// The demand that a governor publishes at the tick after these, in units per tick and not reduced.
+#[tactic(auto, unfolding(sched_model::specs::Demand::published))]
+pub(crate) fn published(
+    alloc: Global,
+    plan: &Admitted,
+    demands: &Demands,
+    governor: GovernorKind,
+    past: &[PlainTick],
+) -> Result<Frac, NoMemory>
+    requires { HasWorstsOf plan.now demands.now }
+    ensures value { IfOk result (λ d. d ≡ published plan.now governor (demand_of plan.now demands.now.rows) (reverse past.now)) }
+    ensures some_den { IfOk result (λ d. 1 ≤ d.den) }
+    ensures low_den { IfOk result (λ d. d.den ≤ 2 ^ 64) }
+{
     match governor {
-        GovernorKind::Plain => full_demand(plan),
-        GovernorKind::Fixed => static_demand(plan),
-        GovernorKind::Cycle | GovernorKind::Ahead => unreachable!(),
+        GovernorKind::Plain => Ok(full_demand(plan)),
+        GovernorKind::Fixed => Ok(static_demand(plan)),
+        GovernorKind::Cycle => Ok(cycle_demand(plan, demands, past)),
+        GovernorKind::Ahead => ahead_demand(alloc, plan, demands, past),
     }
 }

@@ -8,7 +8,6 @@ ghost use Rattle.sched_model.specs.Demand.{published};
 ghost use Rattle.sched_model.specs.Demands.{demand_of};
 ghost use Rattle.sched_model.specs.Schedule.{entry_in_force, next_tick, schedule};
 ghost use Rattle.plain_schedule.specs.Lists.{HasWorstsOf};
-ghost use Rattle.plain_schedule.specs.Kinds.{IsUnchanging};
 
 use crate::PlainTick;
 use crate::decision::is_decision;
@@ -21,20 +20,19 @@ use std::alloc::Global;
 
 // The entry in force at the tick after these: the choice at the last decision instant.
 #[tactic(auto, using(crate::proofs::InForce::force_decided, crate::proofs::InForce::force_kept, crate::proofs::InForce::undecided_some, crate::proofs::InForce::force_within, crate::proofs::InForce::kept_within))]
-fn entry_in_force(plan: &Admitted, demands: &Demands, governor: GovernorKind, past: &[PlainTick]) -> u32
+fn entry_in_force(alloc: Global, plan: &Admitted, demands: &Demands, governor: GovernorKind, past: &[PlainTick]) -> Result<u32, NoMemory>
     requires list { HasWorstsOf plan.now demands.now }
-    requires kind { IsUnchanging governor }
     requires past { reverse past.now ≡ schedule plan.now governor (demand_of plan.now demands.now.rows) (length past.now) }
-    ensures value { result ≡ entry_in_force plan.now (demand_of plan.now demands.now.rows) (published plan.now governor (demand_of plan.now demands.now.rows)) (reverse past.now) }
-    ensures low { result < length plan.now.machine.points }
+    ensures value { IfOk result (λ e. e ≡ entry_in_force plan.now (demand_of plan.now demands.now.rows) (published plan.now governor (demand_of plan.now demands.now.rows)) (reverse past.now)) }
+    ensures low { IfOk result (λ e. e < length plan.now.machine.points) }
 {
     plan.known();
     if is_decision(plan, demands, past) {
-        let demand = published(plan, demands, governor, past);
-        return plan.machine().lowest(demand).index;
+        let demand = published(alloc, plan, demands, governor, past)?;
+        return Ok(plan.machine().lowest(demand).index);
     }
     let last = &past[past.len() - 1];
-    last.entry
+    Ok(last.entry)
 }
 
 // What each task gets of the units of the tick after these.
@@ -53,11 +51,10 @@ fn shares_of(alloc: Global, plan: &Admitted, demands: &Demands, past: &[PlainTic
 // The one tick that may follow these.
 fn next_tick(alloc: Global, plan: &Admitted, demands: &Demands, governor: GovernorKind, past: &[PlainTick]) -> Result<PlainTick, NoMemory>
     requires list { HasWorstsOf plan.now demands.now }
-    requires kind { IsUnchanging governor }
     requires past { reverse past.now ≡ schedule plan.now governor (demand_of plan.now demands.now.rows) (length past.now) }
     ensures { IfOk result (λ x. x ≡ next_tick plan.now (demand_of plan.now demands.now.rows) (published plan.now governor (demand_of plan.now demands.now.rows)) (reverse past.now)) }
 {
-    let entry = entry_in_force(plan, demands, governor, past);
+    let entry = entry_in_force(alloc, plan, demands, governor, past)?;
     let units = plan.machine().point(entry).speed;
     let shares = shares_of(alloc, plan, demands, past, units)?;
     Ok(PlainTick { entry, shares })
@@ -67,8 +64,7 @@ fn next_tick(alloc: Global, plan: &Admitted, demands: &Demands, governor: Govern
 /// where memory runs out.
 #[tactic(auto, using(crate::proofs::InForce::schedule_push, crate::proofs::InForce::schedule_none))]
 pub fn plain_schedule(alloc: Global, plan: &Admitted, demands: &Demands, governor: GovernorKind, ticks: u64) -> Result<Vec<PlainTick>, NoMemory>
-    requires list { HasWorstsOf plan.now demands.now }
-    requires kind { IsUnchanging governor }
+    requires { HasWorstsOf plan.now demands.now }
     ensures { IfOk result (λ list. reverse list.items ≡ schedule plan.now governor (demand_of plan.now demands.now.rows) ticks) }
 {
     let mut past = Vec::new(alloc);
