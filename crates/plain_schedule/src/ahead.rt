@@ -103,7 +103,13 @@ fn put_off(plan: &Admitted, demands: &Demands, past: &[PlainTick], after: u128, 
 
 // The rate that a task then needs from the earliest deadline on.
 #[tactic(auto, using(crate::proofs::Publishing::hyper_low, crate::proofs::Publishing::ceil_low))]
-fn spread_rate(plan: &Admitted, demands: &Demands, past: &[PlainTick], after: u128, task: u32) -> u128
+fn spread_rate(
+    plan: &Admitted,
+    demands: &Demands,
+    past: &[PlainTick],
+    after: u128,
+    task: u32,
+) -> u128
     requires list { HasWorstsOf plan.now demands.now }
     requires task { task < count plan.now }
     ensures value { result ≡ spread_rate plan.now (demand_of plan.now demands.now.rows) (reverse past.now) after task }
@@ -164,7 +170,12 @@ fn due_first(plan: &Admitted, demands: &Demands, past: &[PlainTick], order: &[u3
 }
 
 /// The demand of look-ahead under EDF: what has to run before the earliest deadline, over the time to it.
-pub(crate) fn edf_ahead(alloc: Global, plan: &Admitted, demands: &Demands, past: &[PlainTick]) -> Result<Frac, NoMemory>
+pub(crate) fn edf_ahead(
+    alloc: Global,
+    plan: &Admitted,
+    demands: &Demands,
+    past: &[PlainTick],
+) -> Result<Frac, NoMemory>
     requires { HasWorstsOf plan.now demands.now }
     ensures value { IfOk result (λ d. d ≡ edf_ahead plan.now (demand_of plan.now demands.now.rows) (reverse past.now)) }
     ensures some_den { IfOk result (λ d. 1 ≤ d.den) }

@@ -116,7 +116,13 @@ fn room_from(plan: &Admitted, from: u64) -> u128
 }
 
 // What a task gets of so many units by RM order, where each task takes what it may still need.
-fn worst_allotment(plan: &Admitted, demands: &Demands, past: &[PlainTick], room: u128, task: u32) -> u64
+fn worst_allotment(
+    plan: &Admitted,
+    demands: &Demands,
+    past: &[PlainTick],
+    room: u128,
+    task: u32,
+) -> u64
     requires list { HasWorstsOf plan.now demands.now }
     requires task { task < count plan.now }
     ensures value { result ≡ allotment (count plan.now) (period plan.now) room (wleft plan.now (demand_of plan.now demands.now.rows) (reverse past.now)) task }

@@ -18,3 +18,6 @@ mod tick;
 
 pub use schedule::plain_schedule;
 pub use tick::PlainTick;
+
+#[cfg(test)]
+mod tests;

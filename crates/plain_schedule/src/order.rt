@@ -20,7 +20,8 @@ fn keys_of(alloc: Global, plan: &Admitted, tick: u64) -> Result<Vec<(u128, u32)>
 {
     let mut keys = Vec::new(alloc);
     for task in 0..plan.count() {
-        keys.push((deadline(plan, task, tick), task)).map_err(|_| NoMemory)?;
+        keys.push((deadline(plan, task, tick), task))
+            .map_err(|_| NoMemory)?;
     }
     Ok(keys)
 }

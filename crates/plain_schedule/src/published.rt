@@ -49,7 +49,12 @@ fn cycle_demand(plan: &Admitted, demands: &Demands, past: &[PlainTick]) -> Frac
 }
 
 // The demand of look-ahead; RM has none, and always takes the highest speed.
-fn ahead_demand(alloc: Global, plan: &Admitted, demands: &Demands, past: &[PlainTick]) -> Result<Frac, NoMemory>
+fn ahead_demand(
+    alloc: Global,
+    plan: &Admitted,
+    demands: &Demands,
+    past: &[PlainTick],
+) -> Result<Frac, NoMemory>
     requires { HasWorstsOf plan.now demands.now }
     ensures value { IfOk result (λ d. d ≡ demand_by plan.now.scheduler Ahead plan.now (demand_of plan.now demands.now.rows) (reverse past.now)) }
     ensures some_den { IfOk result (λ d. 1 ≤ d.den) }

@@ -20,7 +20,13 @@ use std::alloc::Global;
 
 // The entry in force at the tick after these: the choice at the last decision instant.
 #[tactic(auto, using(crate::proofs::InForce::force_decided, crate::proofs::InForce::force_kept, crate::proofs::InForce::undecided_some, crate::proofs::InForce::force_within, crate::proofs::InForce::kept_within))]
-fn entry_in_force(alloc: Global, plan: &Admitted, demands: &Demands, governor: GovernorKind, past: &[PlainTick]) -> Result<u32, NoMemory>
+fn entry_in_force(
+    alloc: Global,
+    plan: &Admitted,
+    demands: &Demands,
+    governor: GovernorKind,
+    past: &[PlainTick],
+) -> Result<u32, NoMemory>
     requires list { HasWorstsOf plan.now demands.now }
     requires past { reverse past.now ≡ schedule plan.now governor (demand_of plan.now demands.now.rows) (length past.now) }
     ensures value { IfOk result (λ e. e ≡ entry_in_force plan.now (demand_of plan.now demands.now.rows) (published plan.now governor (demand_of plan.now demands.now.rows)) (reverse past.now)) }
@@ -36,7 +42,13 @@ fn entry_in_force(alloc: Global, plan: &Admitted, demands: &Demands, governor: G
 }
 
 // What each task gets of the units of the tick after these.
-fn shares_of(alloc: Global, plan: &Admitted, demands: &Demands, past: &[PlainTick], units: u64) -> Result<Vec<u64>, NoMemory>
+fn shares_of(
+    alloc: Global,
+    plan: &Admitted,
+    demands: &Demands,
+    past: &[PlainTick],
+    units: u64,
+) -> Result<Vec<u64>, NoMemory>
     requires { HasWorstsOf plan.now demands.now }
     ensures { IfOk result (λ v. v.items ≡ list_below (count plan.now) (allotment (count plan.now) (key_of plan.now.scheduler plan.now (length (reverse past.now))) units (left plan.now (demand_of plan.now demands.now.rows) (reverse past.now)))) }
 {
@@ -49,7 +61,13 @@ fn shares_of(alloc: Global, plan: &Admitted, demands: &Demands, past: &[PlainTic
 }
 
 // The one tick that may follow these.
-fn next_tick(alloc: Global, plan: &Admitted, demands: &Demands, governor: GovernorKind, past: &[PlainTick]) -> Result<PlainTick, NoMemory>
+fn next_tick(
+    alloc: Global,
+    plan: &Admitted,
+    demands: &Demands,
+    governor: GovernorKind,
+    past: &[PlainTick],
+) -> Result<PlainTick, NoMemory>
     requires list { HasWorstsOf plan.now demands.now }
     requires past { reverse past.now ≡ schedule plan.now governor (demand_of plan.now demands.now.rows) (length past.now) }
     ensures { IfOk result (λ x. x ≡ next_tick plan.now (demand_of plan.now demands.now.rows) (published plan.now governor (demand_of plan.now demands.now.rows)) (reverse past.now)) }
@@ -63,7 +81,13 @@ fn next_tick(alloc: Global, plan: &Admitted, demands: &Demands, governor: Govern
 /// The first ticks of the schedule of a plan and its jobs' demands under a governor, first tick first. It fails only
 /// where memory runs out.
 #[tactic(auto, using(crate::proofs::InForce::schedule_push, crate::proofs::InForce::schedule_none))]
-pub fn plain_schedule(alloc: Global, plan: &Admitted, demands: &Demands, governor: GovernorKind, ticks: u64) -> Result<Vec<PlainTick>, NoMemory>
+pub fn plain_schedule(
+    alloc: Global,
+    plan: &Admitted,
+    demands: &Demands,
+    governor: GovernorKind,
+    ticks: u64,
+) -> Result<Vec<PlainTick>, NoMemory>
     requires { HasWorstsOf plan.now demands.now }
     ensures { IfOk result (λ list. reverse list.items ≡ schedule plan.now governor (demand_of plan.now demands.now.rows) ticks) }
 {

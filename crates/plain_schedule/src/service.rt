@@ -53,7 +53,13 @@ pub(crate) fn exec(plan: &Admitted, past: &[PlainTick], task: u32, job: u64) -> 
 }
 
 /// Whether a job has had its demand.
-pub(crate) fn is_done(plan: &Admitted, demands: &Demands, past: &[PlainTick], task: u32, job: u64) -> bool
+pub(crate) fn is_done(
+    plan: &Admitted,
+    demands: &Demands,
+    past: &[PlainTick],
+    task: u32,
+    job: u64,
+) -> bool
     requires list { HasWorstsOf plan.now demands.now }
     requires task { task < count plan.now }
     ensures { result ≡ is_done plan.now (demand_of plan.now demands.now.rows) (reverse past.now) task job }

@@ -27,7 +27,13 @@ fn key(plan: &Admitted, scheduler: Scheduler, tick: u64, task: u32) -> u128
 }
 
 /// Whether task `j` stands before task `i`: by the key, and by the place among equal keys.
-pub(crate) fn stands_before(plan: &Admitted, scheduler: Scheduler, tick: u64, j: u32, i: u32) -> bool
+pub(crate) fn stands_before(
+    plan: &Admitted,
+    scheduler: Scheduler,
+    tick: u64,
+    j: u32,
+    i: u32,
+) -> bool
     requires one { j < count plan.now }
     requires other { i < count plan.now }
     requires tick { tick + 1 < 2 ^ 64 }
@@ -69,7 +75,13 @@ fn needs_before(plan: &Admitted, demands: &Demands, past: &[PlainTick], task: u3
 
 /// What a task gets of the units of the tick after these: what it and those before it take, less what those before it
 /// take.
-pub(crate) fn allotment(plan: &Admitted, demands: &Demands, past: &[PlainTick], units: u64, task: u32) -> u64
+pub(crate) fn allotment(
+    plan: &Admitted,
+    demands: &Demands,
+    past: &[PlainTick],
+    units: u64,
+    task: u32,
+) -> u64
     requires list { HasWorstsOf plan.now demands.now }
     requires task { task < count plan.now }
     ensures { result ≡ allotment (count plan.now) (key_of plan.now.scheduler plan.now (length (reverse past.now))) units (left plan.now (demand_of plan.now demands.now.rows) (reverse past.now)) task }

@@ -15,4 +15,4 @@ returns-clause-value c =
     c.worst_allotment.ensures.value
     ∙ (ap (λ room. allotment (count p) (period p) room (wleft p dem earlier) c.args.task) c.room_from-room.ensures
     ∙ allotted_is p dem (reverse c.args.past.now) earlier c.last_release-from.result c.args.task
-      (c.last_release-from.ensures.value ∙ ap (last_release p) c.now.ensures.value) c.until.ensures)
+    (c.last_release-from.ensures.value ∙ ap (last_release p) c.now.ensures.value) c.until.ensures)

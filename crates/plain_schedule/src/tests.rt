@@ -1,0 +1,147 @@
+//! Schedules of the example of Pillai and Shin 2001, with 4 units for a millisecond at full speed. The ticks are worked
+//! out by hand from the definition.
+use super::*;
+use demand_list::Demands;
+use dvs_base::GovernorKind;
+use edf_admit::edf_admit;
+use freq_table::Machine;
+use rm_admit::rm_admit;
+use std::alloc::Global;
+use std::test::Fail;
+use task_model::TaskSet;
+
+const TASKS: &[u8] =
+    b"task = [{name = \"t1\", period = 8, worst = 12}, {name = \"t2\", period = 10, worst = 12}, {name = \"t3\", period = 14, worst = 4}]";
+
+const MACHINE: &[u8] =
+    b"point = [{speed = 2, millivolts = 3000}, {speed = 3, millivolts = 4000}, {speed = 4, millivolts = 5000}]";
+
+const DEMANDS: &[u8] = b"task,job,units\nt1,1,8\nt1,2,4\nt2,1,4\nt2,2,4\nt3,1,4\nt3,2,4\n";
+
+// The first 16 ticks under EDF, or under RM.
+fn sixteen(alloc: Global, edf: bool, governor: GovernorKind) -> Result<Vec<PlainTick>, Fail> {
+    let tasks = TaskSet::read(alloc, TASKS).map_err(|_| "tasks")?;
+    let machine = Machine::read(alloc, MACHINE).map_err(|_| "machine")?;
+    let demands = Demands::read(alloc, DEMANDS, &tasks).map_err(|_| "demands")?;
+    if edf {
+        let plan = edf_admit(alloc, &tasks, &machine).map_err(|_| "denied")?;
+        Ok(plain_schedule(alloc, &plan, &demands, governor, 16).map_err(|_| "memory")?)
+    } else {
+        let plan = rm_admit(alloc, &tasks, &machine).map_err(|_| "denied")?;
+        Ok(plain_schedule(alloc, &plan, &demands, governor, 16).map_err(|_| "memory")?)
+    }
+}
+
+// Whether the ticks have these entries and these shares.
+fn are(ticks: &[PlainTick], want: &[(u32, [u64; 3])]) -> bool {
+    ticks.len() == want.len()
+        && ticks.iter().zip(want.iter()).all(|(tick, want)| tick.entry == want.0
+            && tick.shares.as_slice() == want.1.as_slice())
+}
+
+#[test]
+fn edf_under_each_governor(rt: HostRuntime) -> Result<(), Fail> {
+    let alloc = rt.alloc();
+    let fixed = sixteen(alloc, true, GovernorKind::Fixed)?;
+    assert!(rt;
+        are(
+            &fixed,
+            &[
+                (1, [3, 0, 0]),
+                (1, [3, 0, 0]),
+                (1, [2, 1, 0]),
+                (1, [0, 3, 0]),
+                (1, [0, 0, 3]),
+                (1, [0, 0, 1]),
+                (1, [0, 0, 0]),
+                (1, [0, 0, 0]),
+                (1, [3, 0, 0]),
+                (1, [1, 0, 0]),
+                (1, [0, 3, 0]),
+                (1, [0, 1, 0]),
+                (1, [0, 0, 0]),
+                (1, [0, 0, 0]),
+                (1, [0, 0, 3]),
+                (1, [0, 0, 1]),
+            ]
+        )
+    );
+    let cycle = sixteen(alloc, true, GovernorKind::Cycle)?;
+    assert!(rt;
+        are(
+            &cycle,
+            &[
+                (1, [3, 0, 0]),
+                (1, [3, 0, 0]),
+                (1, [2, 1, 0]),
+                (1, [0, 3, 0]),
+                (0, [0, 0, 2]),
+                (0, [0, 0, 2]),
+                (0, [0, 0, 0]),
+                (0, [0, 0, 0]),
+                (1, [3, 0, 0]),
+                (1, [1, 0, 0]),
+                (0, [0, 2, 0]),
+                (0, [0, 2, 0]),
+                (0, [0, 0, 0]),
+                (0, [0, 0, 0]),
+                (0, [0, 0, 2]),
+                (0, [0, 0, 2]),
+            ]
+        )
+    );
+    let ahead = sixteen(alloc, true, GovernorKind::Ahead)?;
+    assert!(rt;
+        are(
+            &ahead,
+            &[
+                (1, [3, 0, 0]),
+                (1, [3, 0, 0]),
+                (1, [2, 1, 0]),
+                (0, [0, 2, 0]),
+                (0, [0, 1, 1]),
+                (0, [0, 0, 2]),
+                (0, [0, 0, 1]),
+                (0, [0, 0, 0]),
+                (0, [2, 0, 0]),
+                (0, [2, 0, 0]),
+                (0, [0, 2, 0]),
+                (0, [0, 2, 0]),
+                (0, [0, 0, 0]),
+                (0, [0, 0, 0]),
+                (0, [0, 0, 2]),
+                (0, [0, 0, 2]),
+            ]
+        )
+    );
+    Ok(())
+}
+
+#[test]
+fn rm_under_cycle_conservation(rt: HostRuntime) -> Result<(), Fail> {
+    let cycle = sixteen(rt.alloc(), false, GovernorKind::Cycle)?;
+    assert!(rt;
+        are(
+            &cycle,
+            &[
+                (2, [4, 0, 0]),
+                (2, [4, 0, 0]),
+                (1, [0, 3, 0]),
+                (1, [0, 1, 2]),
+                (0, [0, 0, 2]),
+                (0, [0, 0, 0]),
+                (0, [0, 0, 0]),
+                (0, [0, 0, 0]),
+                (2, [4, 0, 0]),
+                (0, [0, 0, 0]),
+                (1, [0, 3, 0]),
+                (1, [0, 1, 0]),
+                (0, [0, 0, 0]),
+                (0, [0, 0, 0]),
+                (0, [0, 0, 2]),
+                (0, [0, 0, 2]),
+            ]
+        )
+    );
+    Ok(())
+}
