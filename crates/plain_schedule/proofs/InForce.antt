@@ -73,3 +73,9 @@ pub schedule_push : (p : Plan) (dem : ℕ → ℕ → ℕ) (ask : List Tick → 
     → reverse past ≡ schedule_by p dem ask t → x ≡ next_tick p dem ask (reverse past) → reverse (past ++ x ∷ []) ≡ schedule_by p dem ask (t + 1)
 schedule_push p dem ask past t x is next =
     reverse-append past (x ∷ []) ∙ (ap (λ y. y ∷ reverse past) next ∙ schedule_more p dem ask (reverse past) t is)
+
+-- what the entry in force is read from
+pub ruleset in_force = (force_decided, force_kept, undecided_some, force_within, kept_within)
+
+-- how a schedule grows
+pub ruleset tick_by_tick = (schedule_none, schedule_push)

@@ -1,5 +1,5 @@
 -- The ticks so far, the last one first.
-use Rattle.std.proofs.Common.{◌≡◌, ℕ, zero, suc, ◌+◌, ◌-◌, ◌<◌, ◌≤◌, Bool, not, ◌&&◌, ◌||◌, List, [], ◌∷◌, ◌++◌, length, reverse, take, get_or, refl, arith, ap, ◌∙◌, sym, subst, if◌then◌else◌}
+use Rattle.std.proofs.Common.{◌≡◌, ℕ, ◌+◌, ◌-◌, ◌<◌, ◌≤◌, not, ◌&&◌, ◌||◌, List, [], ◌∷◌, ◌++◌, length, reverse, take, get_or, refl, arith, ap, ◌∙◌, sym, if◌then◌else◌}
 use Rattle.std.proofs.lemmas.List.{reverse-append, length-reverse, length-take-le, take_more, take_all, get_or_default}
 use Rattle.grid_fraction.specs.Numbers.{any_below}
 use Rattle.sched_model.specs.Plan.{Plan, count}

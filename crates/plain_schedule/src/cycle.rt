@@ -1,4 +1,4 @@
-//! The published demands of cycle conservation (Pillai and Shin 2001).
+// The published demands of cycle conservation (Pillai and Shin 2001).
 ghost use Rattle.std.specs.Prelude.{◌≡◌, ◌+◌, ◌-◌, ◌*◌, ◌/◌, ◌<◌, ◌≤◌, ◌^◌, reverse, if◌then◌else◌};
 ghost use Rattle.dvs_base.specs.declared.kind.Scheduler.TheVariants.{Rm};
 ghost use Rattle.sched_model.specs.Plan.{count, period, hyper};

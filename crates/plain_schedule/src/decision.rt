@@ -1,4 +1,4 @@
-//! The ticks at which the governor decides.
+// The ticks at which the governor decides.
 ghost use Rattle.std.specs.Prelude.{◌≡◌, ◌<◌, ◌≤◌, length, reverse};
 ghost use Rattle.grid_fraction.specs.Numbers.{any_below};
 ghost use Rattle.sched_model.specs.Plan.{count};

@@ -1,4 +1,4 @@
-//! When jobs are released and due, and which is the latest.
+// When jobs are released and due, and which is the latest.
 ghost use Rattle.std.specs.Prelude.{◌≡◌, ◌+◌, ◌<◌, ◌≤◌, ◌^◌};
 ghost use Rattle.sched_model.specs.Plan.{count};
 ghost use Rattle.sched_model.specs.Jobs.{release, due, latest, deadline, releases_at, is_release, earliest, last_release, is_in_window};

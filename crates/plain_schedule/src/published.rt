@@ -1,4 +1,4 @@
-//! The published demands of the governors.
+// The published demands of the governors.
 ghost use Rattle.std.specs.Prelude.{◌≡◌, ◌≤◌, ◌^◌, reverse, IfOk};
 ghost use Rattle.dvs_base.specs.declared.kind.GovernorKind.TheVariants.{Cycle, Ahead};
 ghost use Rattle.sched_model.specs.StaticDemand.{full_demand, static_demand};

@@ -1,4 +1,4 @@
-//! The schedule, tick by tick.
+// The schedule, tick by tick.
 ghost use Rattle.std.specs.Prelude.{◌≡◌, ◌<◌, ◌≤◌, length, reverse, IfOk};
 ghost use Rattle.grid_fraction.specs.Numbers.{list_below};
 ghost use Rattle.sched_model.specs.Plan.{count};
@@ -19,7 +19,7 @@ use sched_model::Admitted;
 use std::alloc::Global;
 
 // The entry in force at the tick after these: the choice at the last decision instant.
-#[tactic(auto, using(crate::proofs::InForce::force_decided, crate::proofs::InForce::force_kept, crate::proofs::InForce::undecided_some, crate::proofs::InForce::force_within, crate::proofs::InForce::kept_within))]
+#[tactic(auto, using(crate::proofs::InForce::in_force))]
 fn entry_in_force(
     alloc: Global,
     plan: &Admitted,
@@ -80,7 +80,7 @@ fn next_tick(
 
 /// The first ticks of the schedule of a plan and its jobs' demands under a governor, first tick first. It fails only
 /// where memory runs out.
-#[tactic(auto, using(crate::proofs::InForce::schedule_push, crate::proofs::InForce::schedule_none))]
+#[tactic(auto, using(crate::proofs::InForce::tick_by_tick))]
 pub fn plain_schedule(
     alloc: Global,
     plan: &Admitted,

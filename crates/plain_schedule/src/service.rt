@@ -1,4 +1,4 @@
-//! What the jobs need, and what they have had.
+// What the jobs need, and what they have had.
 ghost use Rattle.std.specs.Prelude.{◌≡◌, ◌<◌, ◌≤◌, ◌^◌, reverse, if◌then◌else◌};
 ghost use Rattle.sched_model.specs.Plan.{count, worst};
 ghost use Rattle.sched_model.specs.Jobs.{is_in_window};

@@ -1,4 +1,4 @@
-//! How the tasks share the units of a tick.
+// How the tasks share the units of a tick.
 ghost use Rattle.std.specs.Prelude.{◌≡◌, ◌+◌, ◌<◌, ◌≤◌, ◌*◌, ◌^◌, length, reverse, if◌then◌else◌};
 ghost use Rattle.sched_model.specs.Plan.{count};
 ghost use Rattle.sched_model.specs.Ticks.{left};

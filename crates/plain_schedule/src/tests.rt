@@ -1,5 +1,5 @@
-//! Schedules of the example of Pillai and Shin 2001, with 4 units for a millisecond at full speed. The ticks are worked
-//! out by hand from the definition.
+// Schedules of the example of Pillai and Shin 2001, with 4 units for a millisecond at full speed. The ticks are worked
+// out by hand from the definition.
 use super::*;
 use demand_list::Demands;
 use dvs_base::GovernorKind;

@@ -1,4 +1,4 @@
-//! Ticks.
+// Ticks.
 ghost use Rattle.std.specs.Prelude.{◌≡◌, ◌+◌, ◌-◌, ◌<◌, ◌≤◌, ◌^◌, length, reverse};
 ghost use Rattle.sched_model.specs.Ticks.{share, at};
 

@@ -1,4 +1,4 @@
-use Rattle.std.proofs.Common.{◌≡◌, ℕ, List, reverse, ap, ◌∙◌}
+use Rattle.std.proofs.Common.{ℕ, List, reverse, ap, ◌∙◌}
 use Rattle.sched_model.specs.Plan.{Plan, count, period}
 use Rattle.sched_model.specs.Jobs.{last_release}
 use Rattle.sched_model.specs.Ticks.{Tick, wleft}
