@@ -8,6 +8,7 @@ pub mod Tables
 pub mod Marking
 pub mod PieceLemmas
 pub mod NoteLemmas
+pub mod Agreeing
 pub mod DownSets
 pub mod LevelSums
 pub mod Examples

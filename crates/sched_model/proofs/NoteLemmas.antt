@@ -9,15 +9,19 @@ use Rattle.sched_model.specs.Decision.{is_decision}
 use Rattle.sched_model.specs.Segments.{Span, spans_of, lengthened, units_of}
 use Rattle.sched_model.specs.Notes.{span_notes, notes_before_end}
 
+-- the last of the lists that are joined is that of the element that stands first
+pub flat_map-last : {A B : Type 0} (f : A → List B) (x : A) (xs : List A) → flat_map f (reverse (x ∷ xs)) ≡ flat_map f (reverse xs) ++ f x
+flat_map-last f x xs =
+    ap (flat_map f) (reverse-append (x ∷ []) xs)
+    ∙ (flat_map-append f (reverse xs) (x ∷ [])
+    ∙ ap (λ ns. flat_map f (reverse xs) ++ ns) (append-nil (f x)))
+
 pub notes-span : (p : Plan) (dem : ℕ → ℕ → ℕ) (ask : List Tick → Frac) (ticks past : List Tick) (s : Span)
     → spans_of p dem ticks ≡ s ∷ spans_of p dem past
     → notes_before_end p dem ask ticks ≡ notes_before_end p dem ask past ++ span_notes p dem ask s
 unfolding notes_before_end
 notes-span p dem ask ticks past s e =
-    ap (λ ss. flat_map (span_notes p dem ask) (reverse ss)) e
-    ∙ (ap (flat_map (span_notes p dem ask)) (reverse-append (s ∷ []) (spans_of p dem past))
-    ∙ (flat_map-append (span_notes p dem ask) (reverse (spans_of p dem past)) (s ∷ [])
-    ∙ ap (λ ns. flat_map (span_notes p dem ask) (reverse (spans_of p dem past)) ++ ns) (append-nil (span_notes p dem ask s))))
+    ap (λ ss. flat_map (span_notes p dem ask) (reverse ss)) e ∙ flat_map-last (span_notes p dem ask) s (spans_of p dem past)
 
 -- a span opens at a decision instant, and the ticks up to the next lengthen it
 pub span-opens : (p : Plan) (dem : ℕ → ℕ → ℕ) (x : Tick) (past : List Tick) → is_decision p dem past ≡ true
