@@ -1,8 +1,9 @@
 -- A run by a governor's own demand is the run by the published one.
-use Rattle.std.proofs.Common.{◌≡◌, ℕ, ◌<◌, true, List, Result, ap, sym, subst}
+use Rattle.std.proofs.Common.{◌≡◌, ℕ, true, List, ap, ◌∙◌, sym, subst}
+use Rattle.dvs_base.specs.declared.note.Note.{Note}
 use Rattle.dvs_base.specs.declared.kind.GovernorKind.{GovernorKind}
 use Rattle.grid_fraction.specs.declared.Frac.{Frac}
-use Rattle.demand_list.specs.Demands.{DemandsOf}
+use Rattle.demand_list.specs.Demands.{DemandsOf, IsWithinWorsts}
 use Rattle.sched_model.specs.Plan.{Plan, names}
 use Rattle.sched_model.specs.Notes.{notes_of}
 use Rattle.sched_model.specs.Text.{trace_text}
@@ -10,44 +11,67 @@ use Rattle.sched_model.specs.Schedule.{schedule_by}
 use Rattle.sched_model.specs.Deadlines.{IsMet}
 use Rattle.sched_model.specs.Decision.{is_decision}
 use Rattle.freq_table.specs.Tables.{lowest_pick}
-use Rattle.event_kernel.specs.Runs.{released_jobs}
+use Rattle.event_kernel.specs.Runs.{released_jobs, IsListOf}
+use Rattle.event_kernel.proofs.Demanding.{demand-within}
 use Rattle.sched_model.specs.Ticks.{Tick}
 use Rattle.sched_model.specs.States.{StateOf}
 use Rattle.sched_model.specs.Demand.{published}
 use Rattle.sched_model.specs.Demands.{demand_of}
-use Rattle.governor.specs.Schedule.{ask_of}
+use Rattle.sched_model.proofs.ScheduleLemmas.{schedule_exists}
+use Rattle.sched_model.proofs.Agreeing.{AgreeOnSchedules, same-schedule, same-notes}
+use Rattle.governor.specs.Schedule.{ask_of, Publishes}
 use Rattle.one_speed.specs.Published.{AlwaysPublishes}
 use Rattle.rtdvs_top.specs.Answer.{answer_of_plan, within_jobs}
 use Rattle.rtdvs_top.specs.Ending.{Ended, governed_answer, MeetsAll, MeetsAllOf}
 use Rattle.rtdvs_top.specs.declared.status.Status.{Status}
 use Rattle.rtdvs_top.specs.declared.status.Status.TheVariants as status
 
--- the two demands are one function of the ticks
-asks : (demand : Plan → StateOf → Frac) (kind : GovernorKind) (p : Plan) (dem : ℕ → ℕ → ℕ) → AlwaysPublishes demand kind p → ask_of demand p dem ≡ published p kind dem
-asks demand kind p dem always = λ i past. sym (always dem past) i
+-- what holds after each list of ticks holds on each schedule
+pub publishes-always : (demand : Plan → StateOf → Frac) (kind : GovernorKind) (p : Plan) → AlwaysPublishes demand kind p → Publishes demand kind p
+publishes-always demand kind p always dem within ask past h = always dem past
 
-pub ended-published : (demand : Plan → StateOf → Frac) (kind : GovernorKind) (p : Plan) (d : DemandsOf) (ticks : ℕ) (s : Status) (same : Type 0) (wrote some : List ℕ → Type 0)
-    → AlwaysPublishes demand kind p → Ended (governed_answer kind demand p d ticks) s same wrote some → Ended (answer_of_plan kind d ticks p) s same wrote some
-ended-published demand kind p d ticks s same wrote some always h =
-    let dem : ℕ → ℕ → ℕ = demand_of p d.rows in
-    let answer : (List Tick → Frac) → Result (List ℕ) Status =
-    λ ask. within_jobs (released_jobs p ticks) (trace_text p.scheduler kind ticks (names p) (notes_of p dem ask (schedule_by p dem ask ticks))) in
-    let P : Result (List ℕ) Status → Type 0 = λ a. Ended a s same wrote some in
-    subst P (ap answer (asks demand kind p dem always)) h
+module _ (demand : Plan → StateOf → Frac) (kind : GovernorKind) (p : Plan) (d : DemandsOf) (list : IsListOf p d) (low : IsWithinWorsts d) (publishes : Publishes demand kind p) where
+  abbrev dem : ℕ → ℕ → ℕ
+  dem = demand_of p d.rows
 
-pub met-published : (demand : Plan → StateOf → Frac) (kind : GovernorKind) (p : Plan) (d : DemandsOf) (ticks : ℕ) (s : Status) → AlwaysPublishes demand kind p
-    → MeetsAll kind demand p d ticks s → MeetsAllOf kind p d ticks s
-met-published demand kind p d ticks status.Done always h =
-    let dem : ℕ → ℕ → ℕ = demand_of p d.rows in
-    let Met : (List Tick → Frac) → Type 0 = λ ask. IsMet p dem (schedule_by p dem ask ticks) in
-    let Demands : (List Tick → Frac) → Type 0 =
-    λ ask. (t : ℕ) → t < ticks → is_decision p dem (schedule_by p dem ask t) ≡ true → (lowest_pick p.machine (ask (schedule_by p dem ask t))).met ≡ true in
-    (subst Met (asks demand kind p dem always) h.0, λ n. subst Demands (asks demand kind p dem always) (h.1 n))
-met-published demand kind p d ticks (status.NotAdmitted why) always h = tt
-met-published demand kind p d ticks status.Words always h = tt
-met-published demand kind p d ticks (status.Load file) always h = tt
-met-published demand kind p d ticks (status.Text why) always h = tt
-met-published demand kind p d ticks (status.Limit jobs) always h = tt
-met-published demand kind p d ticks (status.OverWorst task job units worst) always h = tt
-met-published demand kind p d ticks status.Write always h = tt
-met-published demand kind p d ticks status.NoMemory always h = tt
+  abbrev own : List Tick → Frac
+  own = ask_of demand p dem
+
+  abbrev asked : List Tick → Frac
+  asked = published p kind dem
+
+  agree : AgreeOnSchedules p dem own asked
+  agree ask past h = sym (publishes dem (demand-within p d list low) ask past h)
+
+  same-ticks : (t : ℕ) → schedule_by p dem own t ≡ schedule_by p dem asked t
+  same-ticks t = same-schedule p dem own asked agree t
+
+  same-run : (ticks : ℕ) → notes_of p dem own (schedule_by p dem own ticks) ≡ notes_of p dem asked (schedule_by p dem asked ticks)
+  same-run ticks =
+      same-notes p dem own asked agree own (schedule_by p dem own ticks) (schedule_exists p dem own ticks).0
+      ∙ ap (notes_of p dem asked) (same-ticks ticks)
+
+  pub ended-published : (ticks : ℕ) (s : Status) (same : Type 0) (wrote some : List ℕ → Type 0)
+      → Ended (governed_answer kind demand p d ticks) s same wrote some → Ended (answer_of_plan kind d ticks p) s same wrote some
+  ended-published ticks s same wrote some h =
+      let P : List Note → Type 0 = λ notes. Ended (within_jobs (released_jobs p ticks) (trace_text p.scheduler kind ticks (names p) notes)) s same wrote some in
+      subst P (same-run ticks) h
+
+  -- a demand that is met where a schedule's own demand decides is met where the published one does
+  met-there : (t : ℕ) → (is_decision p dem (schedule_by p dem own t) ≡ true → (lowest_pick p.machine (own (schedule_by p dem own t))).met ≡ true)
+      → is_decision p dem (schedule_by p dem asked t) ≡ true → (lowest_pick p.machine (asked (schedule_by p dem asked t))).met ≡ true
+  met-there t h =
+      let Met : List Tick → Frac → Type 0 = λ ticks f. is_decision p dem ticks ≡ true → (lowest_pick p.machine f).met ≡ true in
+      subst (λ (ticks : List Tick). Met ticks (asked ticks)) (same-ticks t)
+      (subst (Met (schedule_by p dem own t)) (agree own (schedule_by p dem own t) (schedule_exists p dem own t).0) h)
+
+  pub met-published : (ticks : ℕ) (s : Status) → MeetsAll kind demand p d ticks s → MeetsAllOf kind p d ticks s
+  met-published ticks status.Done h = (subst (IsMet p dem) (same-ticks ticks) h.0, λ n t lt. met-there t (h.1 n t lt))
+  met-published ticks (status.NotAdmitted why) h = tt
+  met-published ticks status.Words h = tt
+  met-published ticks (status.Load file) h = tt
+  met-published ticks (status.Text why) h = tt
+  met-published ticks (status.Limit jobs) h = tt
+  met-published ticks (status.OverWorst task job units worst) h = tt
+  met-published ticks status.Write h = tt
+  met-published ticks status.NoMemory h = tt

@@ -1,6 +1,6 @@
 -- The words that were read, as their texts.
 use Rattle.std.specs.Prelude.{◌≤◌, ◌^◌, option_map, ⊤}
-use Rattle.rtdvs_top.specs.Words.{RunOf, AdmitOf, CommandOf, run, admit, IsBuilt}
+use Rattle.rtdvs_top.specs.Words.{RunOf, AdmitOf, CommandOf, run, admit, IsPair}
 use Rattle.rtdvs_top.specs.declared.words.RunWords.{RunWords}
 use Rattle.rtdvs_top.specs.declared.words.AdmitWords.{AdmitWords}
 use Rattle.rtdvs_top.specs.declared.words.Command.{Command}
@@ -23,9 +23,9 @@ abbrev pub shown : Command → CommandOf
 shown (command.Run r) = run (shown_run r)
 shown (command.Admit a) = admit (shown_admit a)
 
--- the governor of a run is there, and its number of ticks is within the limits
+-- the scheduler and the governor of a run are a pair, and its number of ticks is within the limits
 pub record IsReady (r : RunWords) : Type 0 where
-  pub built : IsBuilt r.governor
+  pub pair : IsPair r.scheduler r.governor
   pub some_ticks : 1 ≤ r.ticks
   pub low_ticks : r.ticks ≤ 2 ^ 40
 

@@ -1,5 +1,5 @@
 -- The words of a command.
-use Rattle.std.specs.Prelude.{ℕ, ◌^◌, ◌==◌, ◌&&◌, List, [], ◌∷◌, length, nat_le, codes, Option, Some, None, option_map, if◌then◌else◌, ⊤}
+use Rattle.std.specs.Prelude.{◌≡◌, ℕ, Bool, true, false, ◌^◌, ◌==◌, ◌&&◌, List, [], ◌∷◌, length, nat_le, codes, Option, Some, None, option_map, if◌then◌else◌}
 use Rattle.std.specs.Str.{bytes_eq}
 use Rattle.dvs_base.specs.Text.{number_below}
 use Rattle.dvs_base.specs.declared.kind.Scheduler.{Scheduler}
@@ -44,15 +44,30 @@ file_name name = if length name == 0 then None else Some name
 abbrev pub scheduler_of : List ℕ → Option Scheduler
 scheduler_of word = if bytes_eq word (codes "edf") then Some Edf else (if bytes_eq word (codes "rm") then Some Rm else None)
 
--- the governors that are there
-abbrev pub IsBuilt : GovernorKind → Type 0
-IsBuilt Plain = ⊤
-IsBuilt Fixed = ⊤
-IsBuilt Cycle = ⊥
-IsBuilt Ahead = ⊥
-
 abbrev pub governor_of : List ℕ → Option GovernorKind
-governor_of word = if bytes_eq word (codes "none") then Some Plain else (if bytes_eq word (codes "static") then Some Fixed else None)
+governor_of word =
+    if bytes_eq word (codes "none") then Some Plain
+    else (if bytes_eq word (codes "static") then Some Fixed
+    else (if bytes_eq word (codes "cc") then Some Cycle
+    else (if bytes_eq word (codes "la") then Some Ahead else None)))
+
+-- the seven pairs of a scheduler and a governor: look-ahead stands under EDF alone
+abbrev pub is_pair : Scheduler → GovernorKind → Bool
+is_pair Edf Plain = true
+is_pair Edf Fixed = true
+is_pair Edf Cycle = true
+is_pair Edf Ahead = true
+is_pair Rm Plain = true
+is_pair Rm Fixed = true
+is_pair Rm Cycle = true
+is_pair Rm Ahead = false
+
+abbrev pub IsPair : Scheduler → GovernorKind → Type 0
+IsPair scheduler governor = is_pair scheduler governor ≡ true
+
+-- a governor that makes a pair with the scheduler
+abbrev pub paired : Scheduler → GovernorKind → Option GovernorKind
+paired scheduler governor = if is_pair scheduler governor then Some governor else None
 
 -- a number of ticks: 1 to 2^40
 abbrev pub ticks_from : Option ℕ → Option ℕ
@@ -83,11 +98,12 @@ run_of_options words =
     then_some (value_after (codes "--scheduler") m.1) (λ s.
     then_some (scheduler_of s.0) (λ scheduler.
     then_some (value_after (codes "--governor") s.1) (λ g.
-    then_some (governor_of g.0) (λ governor.
+    then_some (governor_of g.0) (λ kind.
+    then_some (paired scheduler kind) (λ governor.
     then_some (value_after (codes "--ticks") g.1) (λ n.
     then_some (ticks_of n.0) (λ ticks.
     then_some (demands_of_words n.1) (λ demands.
-    Some (record { tasks = tasks; machine = machine; scheduler = scheduler; governor = governor; ticks = ticks; demands = demands }))))))))))))
+    Some (record { tasks = tasks; machine = machine; scheduler = scheduler; governor = governor; ticks = ticks; demands = demands })))))))))))))
 
 -- the options of an admission, in their order
 abbrev pub admit_of_options : List (List ℕ) → Option AdmitOf

@@ -10,20 +10,23 @@ ghost use Rattle.event_kernel.specs.Runs.{IsListOf, notes_of_run, MeetsDeadlines
 ghost use Rattle.rtdvs_top.specs.Answer.{admission, answer_of_plan, admitted_text};
 ghost use Rattle.rtdvs_top.specs.Causes.{EndsWith, IsNoLoad};
 ghost use Rattle.rtdvs_top.specs.Ending.{Ended, governed_answer, MeetsAll, MeetsAllOf};
-ghost use Rattle.rtdvs_top.specs.Words.{IsBuilt};
+ghost use Rattle.rtdvs_top.specs.Words.{IsPair};
 ghost use Rattle.rtdvs_top.specs.Writing.{Wrote, WroteSome};
 
 use crate::writer::{TraceWriter, put_head, put_line};
 use crate::{Denied, Status};
+use cc_edf::CcEdf;
+use cc_rm::CcRm;
 use demand_list::Demands;
 use dvs_base::{Failed, GovernorKind, Line, Name, Part, Scheduler, Sink, line_of};
 use edf_admit::{EdfFault, edf_admit};
 use event_kernel::{Kernel, KernelFault, Stopped};
 use freq_table::Machine;
 use governor::Governor;
+use look_ahead::LookAhead;
 use rm_admit::{RmFault, rm_admit};
 use sched_model::{Admitted, one_schedule};
-use static_gov::{Full, Static, published_demands};
+use static_gov::{Full, Static};
 use std::alloc::Global;
 use task_model::TaskSet;
 use trace_text::PlanLine;
@@ -177,7 +180,8 @@ fn run_full<W: Sink>(
     ensures met { MeetsAllOf GovernorKind.Plain plan.now demands.now ticks result }
     ensures loads { IsNoLoad result }
 {
-    published_demands(plan);
+    demands.known();
+    static_gov::published_demands(plan);
     match Full::new(alloc, plan) {
         Ok(governor) => run_governed(alloc, plan, demands, governor, ticks, out),
         Err(_) => Status::NoMemory,
@@ -199,8 +203,81 @@ fn run_static<W: Sink>(
     ensures met { MeetsAllOf GovernorKind.Fixed plan.now demands.now ticks result }
     ensures loads { IsNoLoad result }
 {
-    published_demands(plan);
+    demands.known();
+    static_gov::published_demands(plan);
     match Static::new(alloc, plan) {
+        Ok(governor) => run_governed(alloc, plan, demands, governor, ticks, out),
+        Err(_) => Status::NoMemory,
+    }
+}
+
+// A run under cycle-conserving EDF.
+fn run_cc_edf<W: Sink>(
+    alloc: Global,
+    plan: &Admitted,
+    demands: &Demands,
+    ticks: u64,
+    out: &mut W,
+) -> Status
+    requires serves { plan.now.scheduler ≡ Scheduler.Edf }
+    requires list { IsListOf plan.now demands.now }
+    requires some_ticks { 1 ≤ ticks }
+    requires low_ticks { ticks ≤ 2 ^ 40 }
+    ensures ended { Ended (answer_of_plan GovernorKind.Cycle demands.now ticks plan.now) result (out.new ≡ out.old) (Wrote (W.written out.old) (W.written out.new) (W.faults out.old) (W.faults out.new) (W.sure out.old) (W.sure out.new)) (WroteSome (W.written out.old) (W.written out.new) (W.faults out.old) (W.faults out.new) (W.sure out.old)) }
+    ensures met { MeetsAllOf GovernorKind.Cycle plan.now demands.now ticks result }
+    ensures loads { IsNoLoad result }
+{
+    demands.known();
+    cc_edf::published_demands(plan);
+    match CcEdf::new(alloc, plan) {
+        Ok(governor) => run_governed(alloc, plan, demands, governor, ticks, out),
+        Err(_) => Status::NoMemory,
+    }
+}
+
+// A run under cycle-conserving RM.
+fn run_cc_rm<W: Sink>(
+    alloc: Global,
+    plan: &Admitted,
+    demands: &Demands,
+    ticks: u64,
+    out: &mut W,
+) -> Status
+    requires serves { plan.now.scheduler ≡ Scheduler.Rm }
+    requires list { IsListOf plan.now demands.now }
+    requires some_ticks { 1 ≤ ticks }
+    requires low_ticks { ticks ≤ 2 ^ 40 }
+    ensures ended { Ended (answer_of_plan GovernorKind.Cycle demands.now ticks plan.now) result (out.new ≡ out.old) (Wrote (W.written out.old) (W.written out.new) (W.faults out.old) (W.faults out.new) (W.sure out.old) (W.sure out.new)) (WroteSome (W.written out.old) (W.written out.new) (W.faults out.old) (W.faults out.new) (W.sure out.old)) }
+    ensures met { MeetsAllOf GovernorKind.Cycle plan.now demands.now ticks result }
+    ensures loads { IsNoLoad result }
+{
+    demands.known();
+    cc_rm::published_demands(plan);
+    match CcRm::new(alloc, plan) {
+        Ok(governor) => run_governed(alloc, plan, demands, governor, ticks, out),
+        Err(_) => Status::NoMemory,
+    }
+}
+
+// A run under look-ahead.
+fn run_look_ahead<W: Sink>(
+    alloc: Global,
+    plan: &Admitted,
+    demands: &Demands,
+    ticks: u64,
+    out: &mut W,
+) -> Status
+    requires serves { plan.now.scheduler ≡ Scheduler.Edf }
+    requires list { IsListOf plan.now demands.now }
+    requires some_ticks { 1 ≤ ticks }
+    requires low_ticks { ticks ≤ 2 ^ 40 }
+    ensures ended { Ended (answer_of_plan GovernorKind.Ahead demands.now ticks plan.now) result (out.new ≡ out.old) (Wrote (W.written out.old) (W.written out.new) (W.faults out.old) (W.faults out.new) (W.sure out.old) (W.sure out.new)) (WroteSome (W.written out.old) (W.written out.new) (W.faults out.old) (W.faults out.new) (W.sure out.old)) }
+    ensures met { MeetsAllOf GovernorKind.Ahead plan.now demands.now ticks result }
+    ensures loads { IsNoLoad result }
+{
+    demands.known();
+    look_ahead::published_demands(plan);
+    match LookAhead::new(alloc, plan) {
         Ok(governor) => run_governed(alloc, plan, demands, governor, ticks, out),
         Err(_) => Status::NoMemory,
     }
@@ -216,7 +293,7 @@ pub(crate) fn run_plan<W: Sink>(
     out: &mut W,
 ) -> Status
     requires list { IsListOf plan.now demands.now }
-    requires built { IsBuilt governor }
+    requires pair { IsPair plan.now.scheduler governor }
     requires some_ticks { 1 ≤ ticks }
     requires low_ticks { ticks ≤ 2 ^ 40 }
     ensures ended { Ended (answer_of_plan governor demands.now ticks plan.now) result (out.new ≡ out.old) (Wrote (W.written out.old) (W.written out.new) (W.faults out.old) (W.faults out.new) (W.sure out.old) (W.sure out.new)) (WroteSome (W.written out.old) (W.written out.new) (W.faults out.old) (W.faults out.new) (W.sure out.old)) }
@@ -226,10 +303,13 @@ pub(crate) fn run_plan<W: Sink>(
     ensures loads { IsNoLoad result }
 {
     one_schedule(plan);
-    match governor {
-        GovernorKind::Plain => run_full(alloc, plan, demands, ticks, out),
-        GovernorKind::Fixed => run_static(alloc, plan, demands, ticks, out),
-        GovernorKind::Cycle | GovernorKind::Ahead => unreachable!(),
+    match (plan.scheduler(), governor) {
+        (_, GovernorKind::Plain) => run_full(alloc, plan, demands, ticks, out),
+        (_, GovernorKind::Fixed) => run_static(alloc, plan, demands, ticks, out),
+        (Scheduler::Edf, GovernorKind::Cycle) => run_cc_edf(alloc, plan, demands, ticks, out),
+        (Scheduler::Rm, GovernorKind::Cycle) => run_cc_rm(alloc, plan, demands, ticks, out),
+        (Scheduler::Edf, GovernorKind::Ahead) => run_look_ahead(alloc, plan, demands, ticks, out),
+        (Scheduler::Rm, GovernorKind::Ahead) => unreachable!(),
     }
 }
 

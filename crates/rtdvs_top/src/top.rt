@@ -34,6 +34,7 @@ fn prepare<S: Shelf>(
 ) -> Result<(Admitted, Demands), Status>
     ensures read { IfOk result (λ x. Gives (S.held shelf.old) (prepared_of (shown_run run.now) tasks.now) (x.0, x.1)) }
     ensures list { IfOk result (λ x. IsListOf x.0 x.1) }
+    ensures scheduler { IfOk result (λ x. x.0.scheduler ≡ run.now.scheduler) }
     ensures refused { IfErr result (Refuses (S.held shelf.old) (prepared_of (shown_run run.now) tasks.now)) }
     ensures passed { IfErr result (PassesMachine (S.held shelf.old) (run_of (shown_run run.now))) }
     ensures explained { IfErr result (LaterLoad (S.held shelf.old) (shown_run run.now) (S.faults shelf.old) (S.faults shelf.new) (S.sure shelf.old)) }

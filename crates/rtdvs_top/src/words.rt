@@ -1,8 +1,7 @@
 // The words of a command.
 ghost use Rattle.std.specs.Prelude.{◌≡◌, ◌≤◌, ◌^◌, IfSome, Some, None, [], map, string_bytes, option_map};
-ghost use Rattle.rtdvs_top.specs.Words.{value_after, file_name, scheduler_of, governor_of, ticks_of, demands_of_words, nothing_after, run_of_options, admit_of_options, command_of};
+ghost use Rattle.rtdvs_top.specs.Words.{value_after, file_name, scheduler_of, governor_of, is_pair, paired, IsPair, ticks_of, demands_of_words, nothing_after, run_of_options, admit_of_options, command_of};
 ghost use Rattle.rtdvs_top.specs.Asked.{shown, shown_run, shown_admit, IsReady, IsReadyCommand};
-ghost use Rattle.rtdvs_top.specs.Words.{IsBuilt};
 
 use dvs_base::{GovernorKind, Scheduler, whole};
 
@@ -59,13 +58,25 @@ fn scheduler_of(word: &str) -> Option<Scheduler>
 }
 
 fn governor_of(word: &str) -> Option<GovernorKind>
-    ensures read { result ≡ governor_of word.now }
-    ensures built { IfSome result IsBuilt }
+    ensures { result ≡ governor_of word.now }
 {
     match word {
         "none" => Some(GovernorKind::Plain),
         "static" => Some(GovernorKind::Fixed),
+        "cc" => Some(GovernorKind::Cycle),
+        "la" => Some(GovernorKind::Ahead),
         _ => None,
+    }
+}
+
+// A governor that makes a pair with the scheduler.
+fn paired(scheduler: Scheduler, governor: GovernorKind) -> Option<GovernorKind>
+    ensures read { result ≡ paired scheduler governor }
+    ensures pair { IfSome result (IsPair scheduler) }
+{
+    match (scheduler, governor) {
+        (Scheduler::Rm, GovernorKind::Ahead) => None,
+        _ => Some(governor),
     }
 }
 
@@ -104,7 +115,7 @@ fn read_run(words: &[String]) -> Option<RunWords<'_>>
     let (scheduler, words) = value_after("--scheduler", words)?;
     let scheduler = scheduler_of(scheduler)?;
     let (governor, words) = value_after("--governor", words)?;
-    let governor = governor_of(governor)?;
+    let governor = paired(scheduler, governor_of(governor)?)?;
     let (ticks, words) = value_after("--ticks", words)?;
     let ticks = ticks_of(ticks)?;
     let demands = demands_of(words)?;
