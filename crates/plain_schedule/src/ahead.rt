@@ -3,6 +3,7 @@ ghost use Rattle.std.specs.Prelude.{◌≡◌, ◌+◌, ◌-◌, ◌*◌, ◌/�
 ghost use Rattle.std.specs.List.{AllByRecursion};
 ghost use Rattle.dvs_base.specs.declared.kind.Scheduler.TheVariants.{Edf};
 ghost use Rattle.sched_model.specs.Plan.{count, rate, hyper, top_speed};
+ghost use Rattle.sched_model.specs.Jobs.{deadline};
 ghost use Rattle.sched_model.specs.Priority.{key_of, stands_before, sum_before};
 ghost use Rattle.sched_model.specs.Ticks.{wleft};
 ghost use Rattle.sched_model.specs.Demands.{demand_of};
@@ -65,7 +66,7 @@ fn rates_before(plan: &Admitted, tick: u64, task: u32) -> u128
 fn slack(plan: &Admitted, tick: u64, task: u32) -> u64
     requires task { task < count plan.now }
     requires tick { tick + 1 < 2 ^ 64 }
-    ensures value { result ≡ slack plan.now tick task }
+    ensures value { result ≡ slack plan.now (λ i. deadline plan.now i tick) task }
     ensures low { result ≤ 2 ^ 40 }
 {
     deadline(plan, task, tick).saturating_sub(earliest(plan, tick)) as u64
@@ -87,7 +88,7 @@ fn room_beside(plan: &Admitted, before: u128, after: u128) -> u128
 fn put_off(plan: &Admitted, demands: &Demands, past: &[PlainTick], after: u128, task: u32) -> u64
     requires list { HasWorstsOf plan.now demands.now }
     requires task { task < count plan.now }
-    ensures value { result ≡ put_off plan.now (demand_of plan.now demands.now.rows) (reverse past.now) after task }
+    ensures value { let ticks = reverse past.now in result ≡ put_off plan.now (λ i. deadline plan.now i (length ticks)) (wleft plan.now (demand_of plan.now demands.now.rows) ticks) after task }
     ensures low { result ≤ 2 ^ 61 }
 {
     plan.known();
@@ -112,7 +113,7 @@ fn spread_rate(
 ) -> u128
     requires list { HasWorstsOf plan.now demands.now }
     requires task { task < count plan.now }
-    ensures value { result ≡ spread_rate plan.now (demand_of plan.now demands.now.rows) (reverse past.now) after task }
+    ensures value { let ticks = reverse past.now in result ≡ spread_rate plan.now (λ i. deadline plan.now i (length ticks)) (wleft plan.now (demand_of plan.now demands.now.rows) ticks) after task }
     ensures low { result ≤ 2 ^ 110 }
 {
     plan.known();
@@ -129,7 +130,7 @@ fn spread_rates(plan: &Admitted, demands: &Demands, past: &[PlainTick], later: &
     requires list { HasWorstsOf plan.now demands.now }
     requires below { AllByRecursion (λ i. i < count plan.now) later.now }
     requires few { length later.now ≤ 64 }
-    ensures value { result ≡ spread_rates plan.now (demand_of plan.now demands.now.rows) (reverse past.now) later.now }
+    ensures value { let ticks = reverse past.now in result ≡ spread_rates plan.now (λ i. deadline plan.now i (length ticks)) (wleft plan.now (demand_of plan.now demands.now.rows) ticks) later.now }
     ensures low { result ≤ length later.now * 2 ^ 110 }
 {
     match later {
@@ -145,7 +146,7 @@ fn spread_rates(plan: &Admitted, demands: &Demands, past: &[PlainTick], later: &
 fn kept_back(plan: &Admitted, demands: &Demands, past: &[PlainTick], after: u128, task: u32) -> u64
     requires list { HasWorstsOf plan.now demands.now }
     requires task { task < count plan.now }
-    ensures value { let dem = demand_of plan.now demands.now.rows in result ≡ wleft plan.now dem (reverse past.now) task - put_off plan.now dem (reverse past.now) after task }
+    ensures value { let ticks = reverse past.now in let left = wleft plan.now (demand_of plan.now demands.now.rows) ticks in result ≡ left task - put_off plan.now (λ i. deadline plan.now i (length ticks)) left after task }
     ensures low { result ≤ 2 ^ 61 }
 {
     wleft(plan, demands, past, task).saturating_sub(put_off(plan, demands, past, after, task))
@@ -156,7 +157,7 @@ fn due_first(plan: &Admitted, demands: &Demands, past: &[PlainTick], order: &[u3
     requires list { HasWorstsOf plan.now demands.now }
     requires below { AllByRecursion (λ i. i < count plan.now) order.now }
     requires few { length order.now ≤ 64 }
-    ensures value { result ≡ due_first plan.now (demand_of plan.now demands.now.rows) (reverse past.now) order.now }
+    ensures value { let ticks = reverse past.now in result ≡ due_first plan.now (λ i. deadline plan.now i (length ticks)) (wleft plan.now (demand_of plan.now demands.now.rows) ticks) order.now }
     ensures low { result ≤ length order.now * 2 ^ 61 }
 {
     match order {

@@ -7,3 +7,4 @@ pub mod Writers
 pub mod Published
 pub mod Picks
 pub mod Endings
+pub mod Telling

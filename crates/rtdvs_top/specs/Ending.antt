@@ -7,7 +7,8 @@ use Rattle.grid_fraction.specs.declared.Frac.{Frac}
 use Rattle.demand_list.specs.Demands.{DemandsOf}
 use Rattle.sched_model.specs.Plan.{Plan, names}
 use Rattle.sched_model.specs.States.{StateOf}
-use Rattle.sched_model.specs.Text.{trace_text}
+use Rattle.sched_model.specs.Text.{trace_text, run_text}
+use Rattle.done_lines.specs.DoneLines.{TellsDeadlines}
 use Rattle.sched_model.specs.Demands.{demand_of}
 use Rattle.sched_model.specs.Demand.{published}
 use Rattle.sched_model.specs.Decision.{is_decision}
@@ -68,10 +69,16 @@ MeetsAllOf kind p d ticks status.Done =
     IsMet p dem (schedule p kind dem ticks) × (kind ≢ Ahead → AlwaysMeets p kind dem ticks)
 MeetsAllOf kind p d ticks s = ⊤
 
--- a run that was done, of these tasks, met every deadline, and some entry met each published demand unless it looks ahead
+-- the text of a run that was done tells each deadline
+abbrev pub TellsAllOf : GovernorKind → Plan → DemandsOf → ℕ → Status → Type 0
+TellsAllOf kind p d ticks status.Done = TellsDeadlines p ticks (run_text p kind (demand_of p d.rows) ticks)
+TellsAllOf kind p d ticks s = ⊤
+
+-- a run that was done, of these tasks, met every deadline, its text tells each, and some entry met each published demand
+-- unless it looks ahead
 abbrev pub MetBy : Option Files → RunOf → List Task → Status → Type 0
 MetBy told r tasks status.Done =
-    (p : Plan) × (d : DemandsOf) × Gives told (prepared_of r tasks) (p, d) × MeetsAllOf r.governor p d r.ticks status.Done × HasSchedule p × HasNoOther p
+    (p : Plan) × (d : DemandsOf) × Gives told (prepared_of r tasks) (p, d) × MeetsAllOf r.governor p d r.ticks status.Done × TellsAllOf r.governor p d r.ticks status.Done × HasSchedule p × HasNoOther p
 MetBy told r tasks s = ⊤
 
 abbrev pub MetByCommand : Option Files → CommandOf → List Task → Status → Type 0

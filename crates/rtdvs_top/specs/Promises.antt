@@ -9,6 +9,8 @@ use Rattle.sched_model.specs.Plan.{Plan}
 use Rattle.sched_model.specs.Demands.{demand_of}
 use Rattle.sched_model.specs.Deadlines.{IsMet}
 use Rattle.sched_model.specs.Schedule.{schedule, HasSchedule, HasNoOther}
+use Rattle.sched_model.specs.Text.{run_text}
+use Rattle.done_lines.specs.DoneLines.{TellsDeadlines}
 use Rattle.rtdvs_top.specs.Words.{CommandOf, run}
 use Rattle.rtdvs_top.specs.Answer.{answer_of_command, prepared_of, tasks_at}
 use Rattle.rtdvs_top.specs.Naming.{names_by}
@@ -70,7 +72,7 @@ loads_asked None = 0
 
 -- A run that is done is of the tasks, the admitted plan and the demands that its files give. Its schedule is the only one
 -- of its length, each job that is due within it has had its demand by its deadline, and some entry meets each published
--- demand, unless it looks ahead.
+-- demand, unless it looks ahead. Its text tells for each such job once that it was done, not after its deadline.
 abbrev pub MeetsDeadlines : Option Files → Option CommandOf → Status → Type 0
 MeetsDeadlines (Some files) (Some (run r)) status.Done =
     (tasks : List Task) × (p : Plan) × (d : DemandsOf)
@@ -78,6 +80,7 @@ MeetsDeadlines (Some files) (Some (run r)) status.Done =
     × (prepared_of r tasks files ≡ Ok (p, d))
     × IsMet p (demand_of p d.rows) (schedule p r.governor (demand_of p d.rows) r.ticks)
     × (r.governor ≢ Ahead → AlwaysMeets p r.governor (demand_of p d.rows) r.ticks)
+    × TellsDeadlines p r.ticks (run_text p r.governor (demand_of p d.rows) r.ticks)
     × HasSchedule p
     × HasNoOther p
 MeetsDeadlines told c s = ⊤

@@ -9,7 +9,7 @@ ghost use Rattle.dvs_base.specs.TraceLines.{note_text};
 ghost use Rattle.event_kernel.specs.Runs.{IsListOf, notes_of_run, MeetsDeadlines, MeetsDemands};
 ghost use Rattle.rtdvs_top.specs.Answer.{admission, answer_of_plan, admitted_text};
 ghost use Rattle.rtdvs_top.specs.Causes.{EndsWith, IsNoLoad};
-ghost use Rattle.rtdvs_top.specs.Ending.{Ended, governed_answer, MeetsAll, MeetsAllOf};
+ghost use Rattle.rtdvs_top.specs.Ending.{Ended, governed_answer, MeetsAll, MeetsAllOf, TellsAllOf};
 ghost use Rattle.rtdvs_top.specs.Words.{IsPair};
 ghost use Rattle.rtdvs_top.specs.Writing.{Wrote, WroteSome};
 
@@ -18,6 +18,7 @@ use crate::{Denied, Status};
 use cc_edf::CcEdf;
 use cc_rm::CcRm;
 use demand_list::Demands;
+use done_lines::told_deadlines;
 use dvs_base::{Failed, GovernorKind, Line, Name, Part, Scheduler, Sink, line_of};
 use edf_admit::{EdfFault, edf_admit};
 use event_kernel::{Kernel, KernelFault, Stopped};
@@ -283,6 +284,33 @@ fn run_look_ahead<W: Sink>(
     }
 }
 
+// The trace of a run under the governor of a pair.
+fn run_pair<W: Sink>(
+    alloc: Global,
+    plan: &Admitted,
+    demands: &Demands,
+    governor: GovernorKind,
+    ticks: u64,
+    out: &mut W,
+) -> Status
+    requires list { IsListOf plan.now demands.now }
+    requires pair { IsPair plan.now.scheduler governor }
+    requires some_ticks { 1 ≤ ticks }
+    requires low_ticks { ticks ≤ 2 ^ 40 }
+    ensures ended { Ended (answer_of_plan governor demands.now ticks plan.now) result (out.new ≡ out.old) (Wrote (W.written out.old) (W.written out.new) (W.faults out.old) (W.faults out.new) (W.sure out.old) (W.sure out.new)) (WroteSome (W.written out.old) (W.written out.new) (W.faults out.old) (W.faults out.new) (W.sure out.old)) }
+    ensures met { MeetsAllOf governor plan.now demands.now ticks result }
+    ensures loads { IsNoLoad result }
+{
+    match (plan.scheduler(), governor) {
+        (_, GovernorKind::Plain) => run_full(alloc, plan, demands, ticks, out),
+        (_, GovernorKind::Fixed) => run_static(alloc, plan, demands, ticks, out),
+        (Scheduler::Edf, GovernorKind::Cycle) => run_cc_edf(alloc, plan, demands, ticks, out),
+        (Scheduler::Rm, GovernorKind::Cycle) => run_cc_rm(alloc, plan, demands, ticks, out),
+        (Scheduler::Edf, GovernorKind::Ahead) => run_look_ahead(alloc, plan, demands, ticks, out),
+        (Scheduler::Rm, GovernorKind::Ahead) => unreachable!(),
+    }
+}
+
 /// The trace of a run of an admitted plan.
 pub(crate) fn run_plan<W: Sink>(
     alloc: Global,
@@ -298,19 +326,14 @@ pub(crate) fn run_plan<W: Sink>(
     requires low_ticks { ticks ≤ 2 ^ 40 }
     ensures ended { Ended (answer_of_plan governor demands.now ticks plan.now) result (out.new ≡ out.old) (Wrote (W.written out.old) (W.written out.new) (W.faults out.old) (W.faults out.new) (W.sure out.old) (W.sure out.new)) (WroteSome (W.written out.old) (W.written out.new) (W.faults out.old) (W.faults out.new) (W.sure out.old)) }
     ensures met { MeetsAllOf governor plan.now demands.now ticks result }
+    ensures told { TellsAllOf governor plan.now demands.now ticks result }
     ensures exists { HasSchedule plan.now }
     ensures unique { HasNoOther plan.now }
     ensures loads { IsNoLoad result }
 {
     one_schedule(plan);
-    match (plan.scheduler(), governor) {
-        (_, GovernorKind::Plain) => run_full(alloc, plan, demands, ticks, out),
-        (_, GovernorKind::Fixed) => run_static(alloc, plan, demands, ticks, out),
-        (Scheduler::Edf, GovernorKind::Cycle) => run_cc_edf(alloc, plan, demands, ticks, out),
-        (Scheduler::Rm, GovernorKind::Cycle) => run_cc_rm(alloc, plan, demands, ticks, out),
-        (Scheduler::Edf, GovernorKind::Ahead) => run_look_ahead(alloc, plan, demands, ticks, out),
-        (Scheduler::Rm, GovernorKind::Ahead) => unreachable!(),
-    }
+    told_deadlines(plan);
+    run_pair(alloc, plan, demands, governor, ticks, out)
 }
 
 /// The line of an admission.
