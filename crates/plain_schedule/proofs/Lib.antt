@@ -5,3 +5,4 @@ pub mod InForce
 pub mod Marks
 pub mod Allotting
 pub mod Orders
+pub mod Lookahead
