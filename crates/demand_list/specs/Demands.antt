@@ -1,12 +1,17 @@
 -- A demand list: the declared worst cases, and the units of single jobs.
 use Rattle.std.specs.Prelude.{◌≡◌, ℕ, ◌<◌, ◌≤◌, ◌^◌, ◌&&◌, ◌||◌, Bool, List, [], ◌∷◌, length, map, slice_index, unwrap_or, nat_eq, nat_lt, None, Some, if◌then◌else◌}
 use Rattle.std.specs.List.{AllByRecursion}
+use Rattle.task_model.specs.declared.task.Task.{Task}
 use Rattle.task_model.specs.DemandRows.{DemandRow, named}
 
 -- the declared worst case of each task, and the rows
 pub record DemandsOf : Type 0 where
   pub worsts : List ℕ
   pub rows : List DemandRow
+
+-- the list has the declared worst cases of these tasks
+abbrev pub HasWorstsOf : List Task → DemandsOf → Type 0
+HasWorstsOf tasks d = d.worsts ≡ map (λ t. t.worst) tasks
 
 -- the units of a job without the charge: its row's, else the declared worst case
 abbrev pub units_of : DemandsOf → ℕ → ℕ → ℕ

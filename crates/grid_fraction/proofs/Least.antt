@@ -1,5 +1,5 @@
 -- The least of finitely many values.
-use Rattle.std.proofs.Common.{◌≡◌, ◌⊎◌, inl, inr, ℕ, zero, suc, ◌<◌, ◌≤◌, min, refl, arith, ap, ap₂, eq-or-lt_of_le, le_of_suc-le-suc}
+use Rattle.std.proofs.Common.{◌≡◌, ◌⊎◌, inl, inr, ℕ, zero, suc, ◌+◌, ◌<◌, ◌≤◌, min, refl, arith, ap, ap₂, eq-or-lt_of_le, le_of_suc-le-suc}
 use Rattle.grid_fraction.specs.Numbers.{least_below}
 
 pub least-below : (n : ℕ) (f : ℕ → ℕ) (i : ℕ) → i < n → least_below n f ≤ f i
@@ -22,3 +22,10 @@ least-same zero f g h = refl
 least-same (suc zero) f g h = h 0 (omega arith)
 least-same (suc (suc n)) f g h =
     ap₂ min (least-same (suc n) f g (λ i l. h i (omega arith))) (h (suc n) (omega arith))
+
+pub least-more : (n : ℕ) (f : ℕ → ℕ) → 1 ≤ n → least_below (n + 1) f ≡ min (least_below n f) (f n)
+least-more zero f some = absurd (omega arith)
+least-more (suc n) f some = rw (e n) refl
+  where
+    e : (n : ℕ) → suc n + 1 ≡ suc (suc n)
+    e n = omega arith

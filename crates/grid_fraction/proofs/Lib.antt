@@ -3,3 +3,4 @@ pub mod Searches
 pub mod Multiples
 pub mod Ceilings
 pub mod Least
+pub mod Counts

@@ -1,7 +1,7 @@
 -- Searches among numbers.
 use Rattle.std.proofs.Common.{◌≡◌, ℕ, zero, suc, ◌+◌, ◌<◌, ◌≤◌, Bool, true, false, ◌||◌, not, ◌⊎◌, inl, inr, refl, arith, ap, ap₂, ◌∙◌, sym, eq-or-lt_of_le, le_of_suc-le-suc, subst, true≢false, nat_le}
 use Rattle.std.proofs.lemmas.Bool.Decides.{nat_tests}
-use Rattle.grid_fraction.specs.Numbers.{any_below, first_from}
+use Rattle.grid_fraction.specs.Numbers.{any_below, first_from, last_up_to}
 
 -- what holds below m and at m holds below m + 1
 pub below_suc : (P : ℕ → Type 0) (m : ℕ) → ((k : ℕ) → k < m → P k) → P m → (k : ℕ) → k < suc m → P k
@@ -93,3 +93,21 @@ first_from-none (suc n) from test h =
     let here : test from ≡ false = h from (omega arith) (omega arith) in
     let rest : first_from n (suc from) test ≡ suc from + n = first_from-none n (suc from) test (λ k low high. h k (omega arith) (omega arith)) in
     rw (here, first_from) (omega (arith, rest))
+
+-- the last number up to t that passes
+pub last_up_to-le : (t : ℕ) (test : ℕ → Bool) → last_up_to t test ≤ t
+last_up_to-le zero test = omega arith
+last_up_to-le (suc t) test = go (test (suc t)) refl (last_up_to-le t test)
+  where
+    go : (b : Bool) → test (suc t) ≡ b → last_up_to t test ≤ t → last_up_to (suc t) test ≤ suc t
+    go true q ih = rw (q, last_up_to) (omega arith)
+    go false q ih = rw (q, last_up_to) (omega (arith, ih))
+
+pub last_up_to-greatest : (t r : ℕ) (test : ℕ → Bool) → r ≤ t → test r ≡ true → r ≤ last_up_to t test
+last_up_to-greatest zero r test le e = le
+last_up_to-greatest (suc t) r test le e = go (test (suc t)) refl (eq-or-lt_of_le le) (last_up_to-greatest t r test)
+  where
+    go : (b : Bool) → test (suc t) ≡ b → (r ≡ suc t) ⊎ (r < suc t) → (r ≤ t → test r ≡ true → r ≤ last_up_to t test) → r ≤ last_up_to (suc t) test
+    go true q c ih = rw (q, last_up_to) le
+    go false q (inl c) ih = absurd (true≢false (sym e ∙ (ap test c ∙ q)))
+    go false q (inr c) ih = rw (q, last_up_to) (ih (omega arith) e)

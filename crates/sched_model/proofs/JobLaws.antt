@@ -2,9 +2,9 @@
 use Rattle.std.proofs.Common.{◌≡◌, ℕ, zero, suc, ◌+◌, ◌-◌, ◌*◌, ◌/◌, ◌<◌, ◌≤◌, Bool, true, false, List, [], ◌∷◌, length, refl, arith, ap, ◌∙◌, sym, div-add-mod', mod-lt, add-mul, one-mul, zero-mul, subst, add-one}
 use Rattle.std.proofs.lemmas.Nat.{div-mul-add}
 use Rattle.std.proofs.lemmas.Bool.Decides.{nat_tests}
-use Rattle.sched_model.specs.Plan.{Plan, period, worst}
-use Rattle.grid_fraction.specs.Numbers.{last_up_to}
-use Rattle.sched_model.specs.Jobs.{release, due, latest, is_in_window, is_release, last_release}
+use Rattle.sched_model.specs.Plan.{Plan, count, period, worst}
+use Rattle.grid_fraction.proofs.Searches.{any_below-found, last_up_to-le, last_up_to-greatest}
+use Rattle.sched_model.specs.Jobs.{release, due, latest, is_in_window, releases_at, is_release, last_release}
 use Rattle.sched_model.specs.Demands.{worst_demand}
 use Rattle.sched_model.specs.Ticks.{Tick, exec}
 use Rattle.sched_model.specs.Ticks.{share, left}
@@ -121,9 +121,24 @@ release-due p i (suc k) one =
 
 -- the last release is at most now
 pub last_release-le : (p : Plan) (t : ℕ) → last_release p t ≤ t
-last_release-le p zero = omega arith
-last_release-le p (suc t) = go (is_release p (suc t)) refl (last_release-le p t)
+last_release-le p t = last_up_to-le t (is_release p)
+
+-- the latest job was released at the last release or before
+pub released-before : (p : Plan) (i t : ℕ) → 0 < period p i → i < count p → release p i (latest p i t) ≤ last_release p t
+released-before p i t pos lt =
+    last_up_to-greatest t (release p i (latest p i t)) (is_release p) low
+    (any_below-found (count p) (λ j. releases_at p j (release p i (latest p i t))) i lt here)
   where
-    go : (b : Bool) → is_release p (suc t) ≡ b → last_release p t ≤ t → last_release p (suc t) ≤ suc t
-    go true e ih = rw (e, last_up_to) (omega arith)
-    go false e ih = rw (e, last_up_to) (omega (arith, ih))
+    low : release p i (latest p i t) ≤ t
+    low = release-le p i t pos (latest-pos p i t)
+
+    same : latest p i (release p i (latest p i t)) ≡ latest p i t
+    same = latest-is p i (latest p i t) (release p i (latest p i t)) (omega arith) (omega (arith, low, lt-due p i t pos))
+
+    here : releases_at p i (release p i (latest p i t)) ≡ true
+    here = let e : release p i (latest p i (release p i (latest p i t))) ≡ release p i (latest p i t) = ap (release p i) same in grind (arith, nat_tests, e)
+
+-- so it was the latest then too
+pub latest-marked : (p : Plan) (i t : ℕ) → 0 < period p i → i < count p → latest p i (last_release p t) ≡ latest p i t
+latest-marked p i t pos lt =
+    latest-is p i (latest p i t) (last_release p t) (released-before p i t pos lt) (omega (arith, last_release-le p t, lt-due p i t pos))

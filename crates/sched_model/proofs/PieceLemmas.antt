@@ -1,5 +1,5 @@
 -- The segments of a list of units that grows at its end, and of a long run of one holder.
-use Rattle.std.proofs.Common.{◌≡◌, ℕ, zero, suc, ◌+◌, Bool, true, false, List, [], ◌∷◌, ◌++◌, replicate, refl, arith, if◌then◌else◌, ap, ap₂, ◌∙◌, sym, subst, true≢false}
+use Rattle.std.proofs.Common.{◌≡◌, ℕ, zero, suc, ◌+◌, ◌<◌, Bool, true, false, List, [], ◌∷◌, ◌++◌, replicate, refl, arith, if◌then◌else◌, ap, ap₂, ◌∙◌, sym, subst, true≢false}
 use Rattle.std.proofs.lemmas.Bool.Decides.{nat_tests}
 use Rattle.sched_model.specs.declared.holder.Holder.{Holder}
 use Rattle.sched_model.specs.declared.holder.Holder.TheVariants.{Nobody, Held}
@@ -62,3 +62,20 @@ pieces_of-run (suc n) h = ap (before_pieces h) (pieces_of-run n h) ∙ (rw (same
   where
     more : piece h (suc n + 1) ∷ [] ≡ piece h (suc (suc n)) ∷ []
     more = let e : suc n + 1 ≡ suc (suc n) = omega arith in ap (λ m. piece h m ∷ []) e
+
+-- each segment has a unit
+abbrev pub HaveUnits : List Piece → Type 0
+HaveUnits [] = Unit {0}
+HaveUnits (r ∷ rs) = (0 < r.units) × HaveUnits rs
+
+have_before : (h : Holder) (rs : List Piece) → HaveUnits rs → HaveUnits (before_pieces h rs)
+have_before h [] a = (omega arith, tt)
+have_before h (r ∷ rs) a = go (same_holder h r.holder)
+  where
+    go : (b : Bool) → HaveUnits (if b then piece h (r.units + 1) ∷ rs else piece h 1 ∷ r ∷ rs)
+    go true = (omega arith, a.1)
+    go false = (omega arith, a)
+
+pub have_units : (us : List Holder) → HaveUnits (pieces_of us)
+have_units [] = tt
+have_units (h ∷ us) = have_before h (pieces_of us) (have_units us)

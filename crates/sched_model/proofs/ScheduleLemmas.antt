@@ -1,9 +1,12 @@
--- There is exactly one schedule.
-use Rattle.std.proofs.Common.{◌≡◌, ℕ, zero, suc, ◌-◌, ◌<◌, List, [], ◌∷◌, ◌++◌, length, get_or, refl, arith, ap, ◌∙◌, sym, length-append, ◌⊎◌, inl, inr, subst, eq-or-lt_of_le, le_of_suc-le-suc}
+-- There is exactly one schedule, and the entry in force on it.
+use Rattle.std.proofs.Common.{◌≡◌, ℕ, zero, suc, ◌-◌, ◌<◌, Bool, true, false, if◌then◌else◌, List, [], ◌∷◌, ◌++◌, length, get_or, refl, arith, ap, ◌∙◌, sym, length-append, ◌⊎◌, inl, inr, subst, eq-or-lt_of_le, le_of_suc-le-suc}
 use Rattle.std.proofs.lemmas.List.{ext_get_or, get_or-append_right}
 use Rattle.std.proofs.Math.ListN.{get_or-append}
 use Rattle.grid_fraction.specs.declared.Frac.{Frac}
+use Rattle.freq_table.specs.Tables.{lowest_entry}
+use Rattle.freq_table.proofs.Chosen.{lowest_within}
 use Rattle.sched_model.specs.Plan.{Plan, count, point}
+use Rattle.sched_model.specs.Decision.{is_decision}
 use Rattle.sched_model.specs.Ticks.{Tick}
 use Rattle.sched_model.specs.Ticks.{share, left}
 use Rattle.sched_model.specs.Priority.{allotment}
@@ -91,3 +94,25 @@ schedule_exists p dem ask zero = (tt, refl)
 schedule_exists p dem ask (suc t) =
     let r = schedule_exists p dem ask t in
     ((r.0, next_tick-may p dem ask (schedule_by p dem ask t)), omega (arith, r.1))
+
+-- tick by tick
+pub schedule-none : (p : Plan) (dem : ℕ → ℕ → ℕ) (ask : List Tick → Frac) → schedule_by p dem ask zero ≡ []
+unfolding schedule_by
+schedule-none p dem ask = refl
+
+pub schedule-suc : (p : Plan) (dem : ℕ → ℕ → ℕ) (ask : List Tick → Frac) (t : ℕ) → schedule_by p dem ask (suc t) ≡ next_tick p dem ask (schedule_by p dem ask t) ∷ schedule_by p dem ask t
+unfolding schedule_by
+schedule-suc p dem ask t = refl
+
+-- the entry at a decision is the one that the published demand picks there
+pub force-decided : (p : Plan) (dem : ℕ → ℕ → ℕ) (ask : List Tick → Frac) (past : List Tick) → is_decision p dem past ≡ true → entry_in_force p dem ask past ≡ lowest_entry p.machine (ask past)
+force-decided p dem ask [] e = refl
+force-decided p dem ask (x ∷ past) e = ap (λ b. if b then lowest_entry p.machine (ask (x ∷ past)) else entry_in_force p dem ask past) e
+
+pub force-within : (p : Plan) (dem : ℕ → ℕ → ℕ) (ask : List Tick → Frac) → 0 < length p.machine.points → (past : List Tick) → entry_in_force p dem ask past < length p.machine.points
+force-within p dem ask some [] = lowest_within p.machine (ask []) some
+force-within p dem ask some (x ∷ past) = go (is_decision p dem (x ∷ past)) (force-within p dem ask some past)
+  where
+    go : (b : Bool) → entry_in_force p dem ask past < length p.machine.points → (if b then lowest_entry p.machine (ask (x ∷ past)) else entry_in_force p dem ask past) < length p.machine.points
+    go true ih = lowest_within p.machine (ask (x ∷ past)) some
+    go false ih = ih

@@ -1,17 +1,19 @@
--- The task with the greatest work by its period, which the RM static demand names.
-use Rattle.std.proofs.Common.{◌≡◌, ℕ, zero, suc, ◌-◌, ◌*◌, ◌<◌, ◌≤◌, Bool, true, false, ◌||◌, ◌&&◌, not, refl, arith, ap, ◌∙◌, sym, subst, nat_eq, true≢false}
+-- The task with the greatest work by its period, which the RM static demand names, and the static demand's denominator.
+use Rattle.std.proofs.Common.{◌≡◌, ℕ, zero, suc, ◌-◌, ◌*◌, ◌^◌, ◌<◌, ◌≤◌, Bool, true, false, ◌||◌, ◌&&◌, not, refl, arith, ap, ◌∙◌, sym, subst, nat_eq, true≢false}
 use Rattle.std.specs.Prelude.{nat_lt}
 use Rattle.std.proofs.Math.Nat.{mul-le-mul_right, le_of_mul-le-mul_right}
 use Rattle.std.proofs.lemmas.Bool.Decides.{nat_tests}
+use Rattle.dvs_base.specs.declared.kind.Scheduler.{Scheduler}
+use Rattle.dvs_base.specs.declared.kind.Scheduler.TheVariants.{Edf, Rm}
 use Rattle.grid_fraction.specs.Numbers.{any_below, first_from}
 use Rattle.grid_fraction.proofs.Searches.{below_suc, any_below-none, any_below-false, first_from-found, first_from-most}
 use Rattle.sched_model.specs.Plan.{Plan, count, period}
 use Rattle.sched_model.specs.Priority.{stands_before}
 use Rattle.sched_model.specs.Tests.{level_work}
-use Rattle.sched_model.specs.StaticDemand.{outweighs}
+use Rattle.sched_model.specs.StaticDemand.{outweighs, static_demand_of, static_demand}
 use Rattle.sched_model.specs.Admission.{IsWithinLimits}
 use Rattle.sched_model.proofs.PriorityLemmas.{before-self, before-trans}
-use Rattle.sched_model.proofs.Limits.{some_task, some_period}
+use Rattle.sched_model.proofs.Limits.{some_task, some_period, low_period, some_hyper, low_hyper}
 
 -- the fraction a/b is greater by the first test, or equal and c
 abbrev over : ℕ → ℕ → Bool → Bool
@@ -125,3 +127,11 @@ module _ (p : Plan) (lim : IsWithinLimits p) where
       none_of : (b : Bool) → not b ≡ true → b ≡ false
       none_of true e = absurd (true≢false (sym e))
       none_of false e = refl
+
+static_den_by : (plan : Plan) (lim : IsWithinLimits plan) (sch : Scheduler) → (0 < (static_demand_of sch plan).den) × ((static_demand_of sch plan).den ≤ 2 ^ 64)
+static_den_by plan lim Edf = (some_hyper plan lim, let low = low_hyper plan lim in omega arith)
+static_den_by plan lim Rm =
+    (some_period plan lim (heaviest_task plan lim) (heaviest_within plan lim), let low = low_period plan lim (heaviest_task plan lim) (heaviest_within plan lim) in omega arith)
+
+pub static_den : (plan : Plan) → IsWithinLimits plan → (0 < (static_demand plan).den) × ((static_demand plan).den ≤ 2 ^ 64)
+static_den plan lim = static_den_by plan lim plan.scheduler
