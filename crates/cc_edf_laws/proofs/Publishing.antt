@@ -1,40 +1,23 @@
 -- The published demand under EDF is the governor's own, on each schedule.
-use Rattle.std.proofs.Common.{◌≡◌, ℕ, ◌+◌, ◌-◌, ◌*◌, ◌/◌, ◌<◌, ◌≤◌, Bool, true, false, List, [], ◌∷◌, length, refl, ◌∙◌, sym, ap, arith}
+use Rattle.std.proofs.Common.{◌≡◌, ℕ, ◌*◌, ◌/◌, ◌<◌, ◌≤◌, Bool, true, false, List, length, refl, ◌∙◌, sym, ap, arith}
 use Rattle.std.specs.Prelude.{nat_le, if◌then◌else◌}
 use Rattle.std.proofs.lemmas.Bool.Decides.{nat_tests}
 use Rattle.dvs_base.specs.declared.kind.Scheduler.{Scheduler}
 use Rattle.dvs_base.specs.declared.kind.GovernorKind.TheVariants.{Cycle}
 use Rattle.grid_fraction.specs.declared.Frac.{Frac}
 use Rattle.grid_fraction.proofs.Sums.{sum_below-same}
-use Rattle.sched_model.specs.Plan.{Plan, count, period, worst, hyper, point}
-use Rattle.sched_model.specs.Jobs.{release, due, latest, is_in_window}
-use Rattle.sched_model.specs.Ticks.{Tick, share, exec, left, is_complete}
-use Rattle.sched_model.specs.Priority.{key_of}
+use Rattle.sched_model.specs.Plan.{Plan, count, period, worst, hyper}
+use Rattle.sched_model.specs.Jobs.{latest}
+use Rattle.sched_model.specs.Ticks.{Tick, exec, is_complete}
 use Rattle.sched_model.specs.CycleDemand.{charged as charged_at, edf_cycle}
 use Rattle.sched_model.specs.Demand.{demand_by, published}
 use Rattle.sched_model.specs.Schedule.{IsScheduleBy}
 use Rattle.sched_model.specs.States.{no_row, row_at, row_of, state_of}
-use Rattle.sched_model.proofs.JobLaws.{latest-is}
-use Rattle.sched_model.proofs.LevelSums.{share-most}
+use Rattle.sched_model.proofs.Service.{exec-most}
 use Rattle.sched_model.proofs.Tables.{get-table}
 use Rattle.governor.specs.Schedule.{Publishes}
 use Rattle.governor.specs.Serving.{ServesEdf}
 use Rattle.cc_edf_laws.specs.Cycle.{charged, charged_rate, cycle_demand}
-
--- no job gets more than its demand
-pub exec-most : (p : Plan) (dem : ℕ → ℕ → ℕ) (ask : List Tick → Frac) (past : List Tick) → IsScheduleBy p dem ask past → (i k : ℕ) → i < count p → exec p past i k ≤ dem i k
-exec-most p dem ask [] h i k lt = omega arith
-exec-most p dem ask (x ∷ past) h i k lt = go (is_in_window p i k (length past)) refl (exec-most p dem ask past h.0 i k lt)
-  where
-    go : (b : Bool) → is_in_window p i k (length past) ≡ b → exec p past i k ≤ dem i k → exec p past i k + (if b then share x i else 0) ≤ dem i k
-    go false e ih = omega arith
-    go true e ih =
-        let from : release p i k ≤ length past = grind (arith, nat_tests) in
-        let until : length past < due p i k = grind (arith, nat_tests) in
-        let job : latest p i (length past) ≡ k = latest-is p i k (length past) from until in
-        let own : share x i ≤ left p dem past i = share-most (count p) (key_of p.scheduler p (length past)) (point p x.entry).speed (left p dem past) (share x) h.1.legal i lt in
-        let needs : left p dem past i ≡ dem i k - exec p past i k = ap (λ j. dem i j - exec p past i j) job in
-        omega (arith, own, needs)
 
 -- a complete job is charged its demand, which it has had
 charge-is : (b : Bool) (d u w : ℕ) → nat_le d u ≡ b → u ≤ d → (if b then d else w) ≡ (if b then u else w)

@@ -26,7 +26,7 @@ use Rattle.sched_model.proofs.PriorityLemmas.{before-trans}
 use Rattle.sched_model.proofs.DownSets.{down-set-gets}
 use Rattle.sched_model.proofs.LevelSums.{sum_where-plus, sum_where-zero, share-most, up_to-trans, sum_up_to-where}
 use Rattle.sched_model.proofs.ScheduleLemmas.{schedule_exists, next_tick-may}
-use Rattle.governor.proofs.Course.{schedule-none, schedule-suc}
+use Rattle.sched_model.proofs.ScheduleLemmas.{schedule-none, schedule-suc}
 use Rattle.one_speed.proofs.Publishing.{published-fixed}
 use Rattle.one_speed.proofs.Worst.{lacking-none}
 

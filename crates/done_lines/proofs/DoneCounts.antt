@@ -20,7 +20,8 @@ use Rattle.sched_model.specs.Notes.{release_notes, all_release_notes, pieces_not
 use Rattle.sched_model.proofs.Limits.{every_period}
 use Rattle.sched_model.proofs.NoteLemmas.{notes-span}
 use Rattle.sched_model.proofs.JobLaws.{latest-is, release-le, lt-due, latest-pos, release-due, exec-early}
-use Rattle.done_lines.proofs.DoneNotes.{tells_done, tells_late, times, times-append, ended, ended-same, laid, laid-pieces, have-units, had_of, pieces-ended, pieces-late}
+use Rattle.sched_model.proofs.PieceLemmas.{have_units}
+use Rattle.done_lines.proofs.DoneNotes.{tells_done, tells_late, times, times-append, ended, ended-same, laid, laid-pieces, had_of, pieces-ended, pieces-late}
 use Rattle.done_lines.proofs.DoneSpans.{IsLastSpan, last-span}
 
 -- the notes of the first n tasks, task by task
@@ -134,7 +135,7 @@ module _ (p : Plan) (dem : ℕ → ℕ → ℕ) (ask : List Tick → Frac) (lim 
   span-told x past s l most =
       let nothing : had_of p dem s i k [] ≡ exec p s.past i k = omega arith in
       let all : had_of p dem s i k s.units ≡ exec p (x ∷ past) i k = sym (l.had i k inside) in
-      pieces-ended p dem s i k [] (pieces_of s.units) (have-units s.units) (sym (laid-pieces s.units)) (omega (arith, all, most))
+      pieces-ended p dem s i k [] (pieces_of s.units) (have_units s.units) (sym (laid-pieces s.units)) (omega (arith, all, most))
       ∙ ap₂ (λ a b. ended a b (dem i k)) nothing all
 
   -- a release lies at the beginning of a span

@@ -5,9 +5,7 @@ use Rattle.std.proofs.Math.Nat.{le_of_mul-le-mul_right}
 use Rattle.std.proofs.Math.Seq.{take-append_seam}
 use Rattle.std.proofs.lemmas.List.{length-replicate}
 use Rattle.std.proofs.lemmas.Bool.{cases_lt}
-use Rattle.std.specs.Prelude.{count_by, cond}
-use Rattle.std.proofs.lemmas.List.Sums.{sum_by-append}
-use Rattle.std.proofs.lemmas.List.Folds.{sum_by-replicate}
+use Rattle.std.specs.Prelude.{count_by}
 use Rattle.std.proofs.lemmas.Bool.Decides.{nat_tests}
 use Rattle.dvs_base.specs.declared.note.Note.{Note}
 use Rattle.dvs_base.specs.declared.note.Note.TheVariants.{Done}
@@ -17,7 +15,8 @@ use Rattle.sched_model.specs.Plan.{Plan, point}
 use Rattle.sched_model.specs.Ticks.{exec}
 use Rattle.sched_model.specs.Segments.{same_holder, Span, Piece, before_pieces, pieces_of, position_of}
 use Rattle.sched_model.specs.Notes.{had_by, segment_notes, pieces_notes}
-use Rattle.sched_model.proofs.PieceLemmas.{same_holder-eq}
+use Rattle.grid_fraction.proofs.Counts.{count-append, count-replicate}
+use Rattle.sched_model.proofs.PieceLemmas.{same_holder-eq, HaveUnits}
 
 -- the note tells that job k of task i is done
 abbrev pub tells_done : ℕ → ℕ → Note → Bool
@@ -43,16 +42,6 @@ times-append test (x ∷ xs) ys = go (test x) (times-append test xs ys)
     go true e = omega (arith, e)
     go false e = e
 
-pub count-append : {A : Type 0} (test : A → Bool) (xs ys : List A) → count_by test (xs ++ ys) ≡ count_by test xs + count_by test ys
-count-append test xs ys = sum_by-append (λ x. cond (test x) 1 0) xs ys
-
-pub count-replicate : {A : Type 0} (test : A → Bool) (n : ℕ) (x : A) → count_by test (replicate n x) ≡ (if test x then n else 0)
-count-replicate test n x = sum_by-replicate (λ y. cond (test y) 1 0) n x ∙ go (test x)
-  where
-    go : (b : Bool) → n * cond b 1 0 ≡ (if b then n else 0)
-    go true = omega arith
-    go false = omega arith
-
 -- the units of segments, one after another
 abbrev pub laid : List Piece → List Holder
 laid [] = []
@@ -72,23 +61,6 @@ laid-before h (r ∷ rs) = go (same_holder h r.holder) refl
 pub laid-pieces : (us : List Holder) → laid (pieces_of us) ≡ us
 laid-pieces [] = refl
 laid-pieces (h ∷ us) = laid-before h (pieces_of us) ∙ ap (λ hs. h ∷ hs) (laid-pieces us)
-
--- each segment has a unit
-abbrev pub HaveUnits : List Piece → Type 0
-HaveUnits [] = Unit {0}
-HaveUnits (r ∷ rs) = (0 < r.units) × HaveUnits rs
-
-have_before : (h : Holder) (rs : List Piece) → HaveUnits rs → HaveUnits (before_pieces h rs)
-have_before h [] a = (omega arith, tt)
-have_before h (r ∷ rs) a = go (same_holder h r.holder)
-  where
-    go : (b : Bool) → HaveUnits (if b then record { holder = h; units = r.units + 1 } ∷ rs else record { holder = h; units = 1 } ∷ r ∷ rs)
-    go true = (omega arith, a.1)
-    go false = (omega arith, a)
-
-pub have-units : (us : List Holder) → HaveUnits (pieces_of us)
-have-units [] = tt
-have-units (h ∷ us) = have_before h (pieces_of us) (have-units us)
 
 -- 1 where what a job has had rises to its demand, and else 0
 abbrev pub ended : ℕ → ℕ → ℕ → ℕ

@@ -10,7 +10,6 @@ use Rattle.grid_fraction.specs.declared.Frac.{Frac}
 use Rattle.grid_fraction.specs.Numbers.{sum_below, sum_where}
 use Rattle.grid_fraction.proofs.Sums.{sum_below-one}
 use Rattle.grid_fraction.proofs.Searches.{any_below-false}
-use Rattle.freq_table.proofs.Chosen.{lowest_within}
 use Rattle.freq_table.specs.Tables.{lowest_entry}
 use Rattle.sched_model.specs.Plan.{Plan, count, period, point}
 use Rattle.sched_model.specs.Jobs.{latest, release, due, is_release, releases_at, is_in_window}
@@ -22,11 +21,12 @@ use Rattle.sched_model.specs.Schedule.{entry_in_force, IsNext, IsScheduleBy}
 use Rattle.sched_model.specs.Admission.{IsWithinLimits}
 use Rattle.sched_model.specs.Segments.{same_holder, Span, spans_of, units_of}
 use Rattle.sched_model.proofs.Limits.{every_period}
+use Rattle.sched_model.proofs.ScheduleLemmas.{force-within}
 use Rattle.sched_model.proofs.OrderLemmas.{sum_list, sum_list-in_order}
 use Rattle.sched_model.proofs.DownSets.{down-set-gets}
 use Rattle.sched_model.proofs.NoteLemmas.{span-opens, span-grows}
 use Rattle.sched_model.proofs.JobLaws.{latest-pos, latest-is, release-le, lt-due, latest-stays, latest-next, release-suc}
-use Rattle.done_lines.proofs.DoneNotes.{count-append, count-replicate}
+use Rattle.grid_fraction.proofs.Counts.{count-append, count-replicate}
 
 -- the units that the tasks of a list get
 abbrev given_units : (ℕ → ℕ) → (ℕ → ℕ) → List ℕ → List Holder
@@ -157,14 +157,6 @@ module _ (p : Plan) (dem : ℕ → ℕ → ℕ) (ask : List Tick → Frac) (lim 
           absurd (true≢false (sym found ∙ none))
       go (inr later) = ap (latest p i) (sym next) ∙ latest-stays p i (length past) some (omega (arith, later))
 
-  within : (past : List Tick) → entry_in_force p dem ask past < length p.machine.points
-  within [] = lowest_within p.machine (ask []) lim.machine.some
-  within (x ∷ past) = go (is_decision p dem (x ∷ past)) (within past)
-    where
-      go : (b : Bool) → entry_in_force p dem ask past < length p.machine.points → (if b then lowest_entry p.machine (ask (x ∷ past)) else entry_in_force p dem ask past) < length p.machine.points
-      go true ih = lowest_within p.machine (ask (x ∷ past)) lim.machine.some
-      go false ih = ih
-
   -- the last span of the ticks of `past` and x after them
   pub record IsLastSpan (x : Tick) (past : List Tick) (s : Span) : Type 0 where
     pub spans : spans_of p dem (x ∷ past) ≡ s ∷ spans_of p dem s.past
@@ -183,7 +175,7 @@ module _ (p : Plan) (dem : ℕ → ℕ → ℕ) (ask : List Tick → Frac) (lim 
     spans = span-opens p dem x past e;
     earlier = h;
     shorter = omega arith;
-    entry = subst (λ n. n < length p.machine.points) (sym next.entry) (within past);
+    entry = subst (λ n. n < length p.machine.points) (sym next.entry) (force-within p dem ask lim.machine.some past);
     force = next.entry;
     long = units-long past x next ∙ (let one : length (x ∷ past) - length past ≡ 1 = omega arith in rw one (omega arith));
     had = units-had past x;

@@ -5,7 +5,7 @@ use Rattle.grid_fraction.specs.declared.Frac.{Frac}
 use Rattle.dvs_base.specs.declared.note.Note.{Note}
 use Rattle.sched_model.specs.declared.state.Row.{Row}
 use Rattle.sched_model.specs.declared.holder.Holder.TheVariants.{Nobody, Held}
-use Rattle.governor.proofs.Course.{force-within}
+use Rattle.sched_model.proofs.ScheduleLemmas.{force-within}
 use Rattle.event_kernel.proofs.Bounds.{Bounds}
 use Rattle.sched_model.specs.Plan.{Plan, count, point}
 use Rattle.sched_model.specs.Jobs.{latest}

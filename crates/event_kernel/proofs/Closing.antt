@@ -6,7 +6,7 @@ use Rattle.std.proofs.lemmas.List.Sums.{sum_by-append, sum_by-cons}
 use Rattle.grid_fraction.specs.declared.Frac.{Frac}
 use Rattle.dvs_base.specs.declared.note.Note.{Note}
 use Rattle.dvs_base.specs.declared.note.Note.TheVariants.{End}
-use Rattle.governor.proofs.Course.{force-within}
+use Rattle.sched_model.proofs.ScheduleLemmas.{force-within}
 use Rattle.event_kernel.proofs.Bounds.{Bounds}
 use Rattle.sched_model.specs.Plan.{Plan}
 use Rattle.sched_model.specs.Decision.{is_decision}

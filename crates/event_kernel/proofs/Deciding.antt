@@ -1,34 +1,15 @@
 -- The state of a schedule's ticks is a state of the plan at a decision: what `choose` may ask for.
-use Rattle.std.proofs.Common.{◌≡◌, ℕ, zero, suc, ◌+◌, ◌-◌, ◌*◌, ◌<◌, ◌≤◌, ◌^◌, Bool, true, false, List, [], ◌∷◌, length, drop, length-drop, refl, arith, ap, ◌∙◌, sym, subst, true≢false, ◌⊎◌, inl, inr, eq-or-lt_of_le}
+use Rattle.std.proofs.Common.{◌≡◌, ℕ, zero, suc, ◌+◌, ◌-◌, ◌*◌, ◌<◌, ◌≤◌, ◌^◌, Bool, true, false, List, [], ◌∷◌, length, drop, length-drop, refl, arith, ap, ◌∙◌, sym, subst, true≢false}
 use Rattle.std.proofs.lemmas.Bool.Decides.{nat_tests}
 use Rattle.sched_model.specs.declared.state.Row.{Row}
 use Rattle.event_kernel.proofs.Bounds.{Bounds}
-use Rattle.grid_fraction.specs.Numbers.{last_up_to}
 use Rattle.sched_model.specs.Plan.{Plan, count, period}
-use Rattle.sched_model.specs.Jobs.{latest, due, release, releases_at, is_release, last_release}
+use Rattle.sched_model.specs.Jobs.{latest, due, release, last_release}
 use Rattle.sched_model.specs.Ticks.{Tick, at, exec, is_complete, wleft}
-use Rattle.sched_model.proofs.JobLaws.{release-le, lt-due, due-le, latest-is, latest-pos}
+use Rattle.sched_model.proofs.JobLaws.{lt-due, due-le, last_release-le, released-before, latest-marked}
 use Rattle.sched_model.specs.States.{no_row, row_at, row_wleft, row_of, state_of}
 use Rattle.sched_model.proofs.Tables.{get-table}
 use Rattle.governor.specs.Steps.{IsAtDecision, release_of}
-use Rattle.grid_fraction.proofs.Searches.{any_below-found}
-
-last-greatest : (t r : ℕ) (test : ℕ → Bool) → r ≤ t → test r ≡ true → r ≤ last_up_to t test
-last-greatest zero r test le e = le
-last-greatest (suc t) r test le e = go (test (suc t)) refl (eq-or-lt_of_le le) (last-greatest t r test)
-  where
-    go : (b : Bool) → test (suc t) ≡ b → (r ≡ suc t) ⊎ (r < suc t) → (r ≤ t → test r ≡ true → r ≤ last_up_to t test) → r ≤ last_up_to (suc t) test
-    go true q c ih = rw (q, last_up_to) le
-    go false q (inl c) ih = absurd (true≢false (sym e ∙ (ap test c ∙ q)))
-    go false q (inr c) ih = rw (q, last_up_to) (ih (omega arith) e)
-
-last-le : (t : ℕ) (test : ℕ → Bool) → last_up_to t test ≤ t
-last-le zero test = omega arith
-last-le (suc t) test = go (test (suc t)) refl (last-le t test)
-  where
-    go : (b : Bool) → test (suc t) ≡ b → last_up_to t test ≤ t → last_up_to (suc t) test ≤ suc t
-    go true q ih = rw (q, last_up_to) (omega arith)
-    go false q ih = rw (q, last_up_to) (omega (arith, ih))
 
 exec-grows : (p : Plan) (past : List Tick) (n i k : ℕ) → exec p (drop n past) i k ≤ exec p past i k
 exec-grows p past zero i k = omega arith
@@ -40,25 +21,6 @@ unfolding release
 released p i k = refl
 
 module _ (p : Plan) (adm : Bounds p) where
-  -- the latest job was released at the last release or before
-  pub released-before : (i t : ℕ) → i < count p → release p i (latest p i t) ≤ last_release p t
-  released-before i t lt =
-      last-greatest t (release p i (latest p i t)) (is_release p) low
-      (any_below-found (count p) (λ j. releases_at p j (release p i (latest p i t))) i lt here)
-    where
-      low : release p i (latest p i t) ≤ t
-      low = release-le p i t (adm.some_period i) (latest-pos p i t)
-
-      same : latest p i (release p i (latest p i t)) ≡ latest p i t
-      same = latest-is p i (latest p i t) (release p i (latest p i t)) (omega arith) (omega (arith, low, lt-due p i t (adm.some_period i)))
-
-      here : releases_at p i (release p i (latest p i t)) ≡ true
-      here = let e : release p i (latest p i (release p i (latest p i t))) ≡ release p i (latest p i t) = ap (release p i) same in grind (arith, nat_tests, e)
-
-  pub latest-marked : (i t : ℕ) → i < count p → latest p i (last_release p t) ≡ latest p i t
-  latest-marked i t lt =
-      latest-is p i (latest p i t) (last_release p t) (released-before i t lt) (omega (arith, last-le t (is_release p), lt-due p i t (adm.some_period i)))
-
   pub before-due : (i t : ℕ) → (t < due p i (latest p i t)) × (due p i (latest p i t) ≤ t + 2 ^ 40)
   before-due i t = (lt-due p i t (adm.some_period i), omega (arith, due-le p i t, adm.low_period i))
 
@@ -70,10 +32,10 @@ module _ (p : Plan) (adm : Bounds p) where
       earlier = at (last_release p (length past)) past
 
       long : length earlier ≡ last_release p (length past)
-      long = omega (arith, length-drop (length past - last_release p (length past)) past, last-le (length past) (is_release p))
+      long = omega (arith, length-drop (length past - last_release p (length past)) past, last_release-le p (length past))
 
       job : latest p i (length earlier) ≡ latest p i (length past)
-      job = ap (latest p i) long ∙ latest-marked i (length past) lt
+      job = ap (latest p i) long ∙ latest-marked p i (length past) (adm.some_period i) lt
 
       had : exec p earlier i (latest p i (length earlier)) ≤ exec p past i (latest p i (length past))
       had = omega (arith, ap (exec p earlier i) job, exec-grows p past (length past - last_release p (length past)) i (latest p i (length past)))
@@ -99,9 +61,9 @@ module _ (p : Plan) (adm : Bounds p) where
   at-decision dem past = record {
     before = λ i lt. omega (arith, ap (λ (r : Row). r.deadline) (row-is i lt), (before-due i (length past)).0);
     soon = λ i lt. omega (arith, ap (λ (r : Row). r.deadline) (row-is i lt), (before-due i (length past)).1);
-    marked = last-le (length past) (is_release p);
+    marked = last_release-le p (length past);
     since = λ i lt. subst (λ (r : Row). release_of (period p i) r ≤ last_release p (length past)) (sym (row-is i lt))
-        (omega (arith, release-is i, released-before i (length past) lt));
+        (omega (arith, release-is i, released-before p i (length past) (adm.some_period i) lt));
     base = λ i lt. omega (
       arith,
       ap row_wleft (row-is i lt),

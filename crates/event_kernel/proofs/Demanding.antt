@@ -1,32 +1,16 @@
 -- The demand of a job, as the list has it.
-use Rattle.std.proofs.Common.{◌≡◌, ℕ, zero, suc, ◌+◌, ◌*◌, ◌<◌, Option, Some, None, List, [], ◌∷◌, length, map, refl, arith, ap, ◌∙◌, sym}
+use Rattle.std.proofs.Common.{◌≡◌, ℕ, zero, suc, ◌+◌, ◌*◌, ◌<◌, Option, Some, None, refl, arith, ap, sym}
 use Rattle.std.specs.Prelude.{unwrap_or, option_map, slice_index}
-use Rattle.task_model.specs.declared.task.Task.{Task}
 use Rattle.task_model.specs.DemandRows.{named}
-use Rattle.task_model.specs.Tasks.{task_at}
 use Rattle.demand_list.specs.Demands.{DemandsOf, units_of, IsWithinWorsts}
 use Rattle.sched_model.specs.Plan.{Plan, count, task, worst}
 use Rattle.sched_model.specs.Demands.{IsWithin}
+use Rattle.demand_list.proofs.Worsts.{worst-listed, worsts-long}
 use Rattle.event_kernel.specs.Runs.{demands_of, IsListOf}
 
-listed : (ts : List Task) (i : ℕ) → i < length ts → slice_index (map (λ (t : Task). t.worst) ts) i ≡ (task_at ts i).worst
-listed [] i lt = absurd (omega arith)
-listed (t ∷ ts) zero lt = refl
-listed (t ∷ ts) (suc i) lt = listed ts i (omega arith)
-
-long : (ts : List Task) → length (map (λ (t : Task). t.worst) ts) ≡ length ts
-long [] = refl
-long (t ∷ ts) = ap suc (long ts)
-
 module _ (p : Plan) (d : DemandsOf) (list : IsListOf p d) where
-  pub worst-listed : (i : ℕ) → i < count p → slice_index d.worsts i ≡ (task p i).worst
-  worst-listed i lt = ap (λ ws. slice_index ws i) list ∙ listed p.tasks i lt
-
-  pub long-list : length d.worsts ≡ count p
-  long-list = ap length list ∙ long p.tasks
-
   charged : (i k : ℕ) → i < count p → unwrap_or (option_map (λ u. u + 2 * p.machine.charge) (named d.rows i k)) (worst p i) ≡ units_of d i k + 2 * p.machine.charge
-  charged i k lt = go (named d.rows i k) (worst-listed i lt)
+  charged i k lt = go (named d.rows i k) (worst-listed p.tasks d list i lt)
     where
       go : (o : Option ℕ) → slice_index d.worsts i ≡ (task p i).worst
           → unwrap_or (option_map (λ u. u + 2 * p.machine.charge) o) (worst p i) ≡ unwrap_or o (slice_index d.worsts i) + 2 * p.machine.charge
@@ -40,4 +24,4 @@ module _ (p : Plan) (d : DemandsOf) (list : IsListOf p d) where
   pub demand-within : IsWithinWorsts d → IsWithin p (demands_of p d)
   demand-within low i zero lt = omega arith
   demand-within low i (suc k) lt =
-      omega (arith, charged i (suc k) lt, low i (suc k) (omega (arith, long-list, lt)), worst-listed i lt)
+      omega (arith, charged i (suc k) lt, low i (suc k) (omega (arith, worsts-long p.tasks d list, lt)), worst-listed p.tasks d list i lt)

@@ -1,11 +1,10 @@
 -- A tick whose units are handed out is the schedule's next one.
-use Rattle.std.proofs.Common.{◌≡◌, ℕ, zero, suc, ◌+◌, ◌-◌, ◌<◌, ◌≤◌, Bool, true, false, not, ◌&&◌, List, ◌∷◌, ◌++◌, length, replicate, refl, arith, if◌then◌else◌, ap, ap₂, ◌∙◌, sym, ◌⊎◌, nat_le}
-use Rattle.std.proofs.lemmas.Bool.Decides.{nat_tests}
+use Rattle.std.proofs.Common.{◌≡◌, ℕ, ◌+◌, ◌<◌, ◌≤◌, Bool, not, ◌&&◌, List, ◌∷◌, ◌++◌, length, replicate, arith, ap, ap₂, ◌∙◌, sym, ◌⊎◌, nat_le}
 use Rattle.grid_fraction.specs.declared.Frac.{Frac}
 use Rattle.sched_model.specs.declared.holder.Holder.TheVariants.{Nobody}
 use Rattle.grid_fraction.specs.Numbers.{sum_below, any_below}
 use Rattle.sched_model.specs.Plan.{Plan, count, period, point, worst}
-use Rattle.sched_model.specs.Jobs.{latest, due, release, is_in_window}
+use Rattle.sched_model.specs.Jobs.{due}
 use Rattle.sched_model.specs.Ticks.{Tick, exec, left, share}
 use Rattle.sched_model.specs.Order.{in_order}
 use Rattle.sched_model.specs.Priority.{key_of, allotment}
@@ -17,31 +16,16 @@ use Rattle.grid_fraction.proofs.Sums.{sum_below-same}
 use Rattle.sched_model.proofs.Tables.{get-table, table-same}
 use Rattle.sched_model.proofs.GreedyLemmas.{handed-end}
 use Rattle.sched_model.proofs.OrderLemmas.{in_order-below}
-use Rattle.sched_model.proofs.JobLaws.{latest-is, latest-pos, exec-latest}
+use Rattle.sched_model.proofs.JobLaws.{latest-pos, exec-latest}
+use Rattle.sched_model.proofs.ScheduleLemmas.{schedule_exists}
+use Rattle.sched_model.proofs.Service.{exec-most}
 use Rattle.sched_model.proofs.Joining.{row_by, row-ran, state-ran}
 use Rattle.grid_fraction.proofs.Searches.{any_below-same}
 use Rattle.event_kernel.proofs.Handing.{laid_out-same, job, had, key, units_by, given_row, given_state, ends_in, Handing}
 
 -- no job gets more than it needs
 pub exec-within : (p : Plan) (dem : ℕ → ℕ → ℕ) (ask : List Tick → Frac) (t i k : ℕ) → i < count p → exec p (schedule_by p dem ask t) i k ≤ dem i k
-unfolding schedule_by
-exec-within p dem ask zero i k lt = omega arith
-exec-within p dem ask (suc t) i k lt = go (is_in_window p i k (length past)) refl (exec-within p dem ask t i k lt)
-  where
-    past : List Tick
-    past = schedule_by p dem ask t
-
-    own : share (next_tick p dem ask past) i ≤ left p dem past i
-    own = omega (arith, get-table (count p) (allotment (count p) (key_of p.scheduler p (length past)) ((point p (entry_in_force p dem ask past)).speed) (left p dem past)) i 0 lt)
-
-    go : (b : Bool) → is_in_window p i k (length past) ≡ b → exec p past i k ≤ dem i k → exec p past i k + (if is_in_window p i k (length past) then share (next_tick p dem ask past) i else 0) ≤ dem i k
-    go true e ih =
-        let from : release p i k ≤ length past = grind (arith, nat_tests) in
-        let until : length past < due p i k = grind (arith, nat_tests) in
-        let is : latest p i (length past) ≡ k = latest-is p i k (length past) from until in
-        let needs : left p dem past i ≡ dem i k - exec p past i k = ap (λ m. dem i m - exec p past i m) is in
-        rw e (omega (arith, own, needs, ih))
-    go false e ih = rw e (omega (arith, ih))
+exec-within p dem ask t i k lt = exec-most p dem ask (schedule_by p dem ask t) (schedule_exists p dem ask t).0 i k lt
 
 abbrev pub speed_now : Plan → (ℕ → ℕ → ℕ) → (List Tick → Frac) → List Tick → ℕ
 speed_now p dem ask past = (point p (entry_in_force p dem ask past)).speed

@@ -17,13 +17,14 @@ use Rattle.sched_model.specs.Ticks.{Tick, exec}
 use Rattle.sched_model.specs.Segments.{same_holder, Span, Piece, pieces_of, position_of, run_energy}
 use Rattle.sched_model.specs.Notes.{had_by, segment_notes, pieces_notes, notes_before_end, energy_run, energy_idle}
 use Rattle.sched_model.specs.States.{row_at, StateOf}
-use Rattle.sched_model.proofs.PieceLemmas.{piece, same_holder-eq, pieces_of-run}
+use Rattle.sched_model.proofs.PieceLemmas.{piece, same_holder-eq, pieces_of-run, have_units, HaveUnits}
 use Rattle.event_kernel.specs.declared.pen.Pen.{Pen}
 use Rattle.event_kernel.specs.Pens.{closed, last_of, grown, head_notes, open_notes, holder_notes, pen_notes, run_part, idle_part, ended_part, told_pen, is_turn, with_units, entered, entering_notes, cost}
 use Rattle.event_kernel.specs.Counts.{counts_of, counted}
-use Rattle.event_kernel.proofs.Tallying.{count-append, counts_by, counts-append, counted-none, counted-holder, ended-most}
+use Rattle.grid_fraction.proofs.Counts.{count-append}
+use Rattle.event_kernel.proofs.Tallying.{counts_by, counts-append, counted-none, counted-holder, ended-most}
 use Rattle.event_kernel.specs.Writing.{HeldNow, Writing}
-use Rattle.event_kernel.proofs.Pieces.{split_last, closed-snoc, last-snoc, pieces_of-more, pieces_of-other, have_units, HaveUnits, have-last, total, total-pieces, total-append, no_pieces, pieces_notes-append, segment_notes-grown, pieces_notes-grown}
+use Rattle.event_kernel.proofs.Pieces.{split_last, closed-snoc, last-snoc, pieces_of-more, pieces_of-other, have-last, total, total-pieces, total-append, no_pieces, pieces_notes-append, segment_notes-grown, pieces_notes-grown}
 
 pub energy-most : (u m r : ℕ) → m ≤ 20000 → r ≤ 1000 → u * m * m * r ≤ 400000000000 * u
 energy-most u m r hm hr = omega (arith, mul-le-mul_left u hm, mul-le-mul_left (u * m) hm, mul-le-mul_left (u * m * m) hr)

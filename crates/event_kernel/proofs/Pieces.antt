@@ -9,7 +9,7 @@ use Rattle.sched_model.specs.Plan.{Plan, point}
 use Rattle.sched_model.specs.Ticks.{exec}
 use Rattle.sched_model.specs.Segments.{same_holder, Span, Piece, before_pieces, pieces_of, position_of, run_energy}
 use Rattle.sched_model.specs.Notes.{segment_notes, pieces_notes}
-use Rattle.sched_model.proofs.PieceLemmas.{piece, same_holder-refl, with_unit, pieces_of-push}
+use Rattle.sched_model.proofs.PieceLemmas.{piece, HaveUnits, same_holder-refl, with_unit, pieces_of-push}
 use Rattle.event_kernel.specs.Pens.{closed, last_of, grown}
 
 -- a list is empty, or has a last element
@@ -57,23 +57,6 @@ pieces_of-other n us done r h e other =
   where
     one : pieces_of (us ++ h ∷ []) ≡ (done ++ r ∷ []) ++ piece h 1 ∷ []
     one = pieces_of-push us h ∙ (ap (λ rs. with_unit rs h) e ∙ (unit-snoc done r h ∙ (rw other (sym (append_assoc done (r ∷ []) (piece h 1 ∷ []))))))
-
--- every segment has a unit
-abbrev pub HaveUnits : List Piece → Type 0
-HaveUnits [] = Unit {0}
-HaveUnits (r ∷ rs) = (0 < r.units) × HaveUnits rs
-
-have_before : (h : Holder) (rs : List Piece) → HaveUnits rs → HaveUnits (before_pieces h rs)
-have_before h [] a = (omega arith, tt)
-have_before h (r ∷ rs) a = go (same_holder h r.holder)
-  where
-    go : (b : Bool) → HaveUnits (if b then piece h (r.units + 1) ∷ rs else piece h 1 ∷ r ∷ rs)
-    go true = (omega arith, a.1)
-    go false = (omega arith, a)
-
-pub have_units : (us : List Holder) → HaveUnits (pieces_of us)
-have_units [] = tt
-have_units (h ∷ us) = have_before h (pieces_of us) (have_units us)
 
 pub have-last : (done : List Piece) (r : Piece) → HaveUnits (done ++ r ∷ []) → 0 < r.units
 have-last [] r a = a.0

@@ -36,9 +36,10 @@ use Rattle.event_kernel.specs.Tickwork.{had_at, span_at, tick_at, whole_span, Ha
 use Rattle.event_kernel.specs.Boundary.{ended_pen, ended_notes, some_due, speed_note, IsAtBoundary, IsBetween}
 use Rattle.event_kernel.specs.Walking.{IsInSpan, HasWalked}
 use Rattle.event_kernel.proofs.Hearing.{Begins, begins-self, begins-more, begins-trans}
-use Rattle.event_kernel.proofs.Pieces.{split_last, closed-snoc, last-snoc, total, total-pieces, total-append, have-last, have_units, HaveUnits, pieces_notes-append}
+use Rattle.sched_model.proofs.PieceLemmas.{have_units, HaveUnits}
+use Rattle.event_kernel.proofs.Pieces.{split_last, closed-snoc, last-snoc, total, total-pieces, total-append, have-last, pieces_notes-append}
 use Rattle.event_kernel.proofs.Entering.{Shows, tells, notes-run, notes-idle, parts-most}
-use Rattle.governor.proofs.Course.{force-decided}
+use Rattle.sched_model.proofs.ScheduleLemmas.{force-decided}
 use Rattle.event_kernel.proofs.Beginnings.{open-begins}
 use Rattle.event_kernel.proofs.Working.{course-next}
 use Rattle.event_kernel.proofs.Ending.{exec-within}

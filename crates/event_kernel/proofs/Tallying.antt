@@ -1,12 +1,12 @@
 -- How the counts of notes grow.
 use Rattle.std.proofs.Common.{◌≡◌, ℕ, zero, suc, ◌+◌, ◌≤◌, Bool, true, false, List, [], ◌∷◌, ◌++◌, refl, arith, if◌then◌else◌, ap, ap₂, ◌∙◌, nat_eq}
 use Rattle.std.specs.Prelude.{count_by, flat_map}
-use Rattle.std.proofs.lemmas.List.Sums.{sum_by-append}
 use Rattle.std.proofs.lemmas.List.Concat.{flat_map-append}
 use Rattle.dvs_base.specs.declared.note.Note.{Note}
 use Rattle.dvs_base.specs.declared.note.Note.TheVariants.{Release, Run, Done}
 use Rattle.dvs_base.specs.declared.note.Pos.{Pos}
 use Rattle.grid_fraction.specs.Numbers.{list_below}
+use Rattle.grid_fraction.proofs.Counts.{count-append}
 use Rattle.sched_model.specs.declared.holder.Holder.{Holder}
 use Rattle.sched_model.specs.declared.holder.Holder.TheVariants.{Nobody, Held}
 use Rattle.sched_model.specs.Plan.{Plan}
@@ -25,9 +25,6 @@ counts_by a b c = record { released = a; finished = b; decisions = c }
 
 pub counts-same : (a a' b b' c c' : ℕ) → a ≡ a' → b ≡ b' → c ≡ c' → counts_by a b c ≡ counts_by a' b' c'
 counts-same a a' b b' c c' e f g = ap (λ n. counts_by n b c) e ∙ ap₂ (λ n m. counts_by a' n m) f g
-
-pub count-append : {X : Type 0} (f : X → Bool) (xs ys : List X) → count_by f (xs ++ ys) ≡ count_by f xs + count_by f ys
-count-append f xs ys = sum_by-append (λ x. if f x then 1 else 0) xs ys
 
 pub counts-append : (xs ys : List Note) → counts_of (xs ++ ys) ≡ counted (counts_of xs) ys
 counts-append xs ys = counts-same _ _ _ _ _ _ (count-append is_released xs ys) (count-append is_finished xs ys) (count-append is_decided xs ys)

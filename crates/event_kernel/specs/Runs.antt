@@ -1,9 +1,9 @@
 -- What a kernel runs, and what it is to tell.
-use Rattle.std.specs.Prelude.{◌≡◌, ◌<◌, ℕ, true, List, map}
+use Rattle.std.specs.Prelude.{◌≡◌, ◌<◌, ℕ, true, List}
 use Rattle.freq_table.specs.Tables.{lowest_pick}
 use Rattle.grid_fraction.specs.declared.Frac.{Frac}
 use Rattle.dvs_base.specs.declared.note.Note.{Note}
-use Rattle.demand_list.specs.Demands.{DemandsOf}
+use Rattle.demand_list.specs.Demands.{DemandsOf, HasWorstsOf}
 use Rattle.grid_fraction.specs.Numbers.{sum_below, ceil_div}
 use Rattle.sched_model.specs.Plan.{Plan, count, period}
 use Rattle.sched_model.specs.Ticks.{Tick}
@@ -30,7 +30,7 @@ most_jobs = 100000
 
 -- the list has the plan's declared worst cases
 abbrev pub IsListOf : Plan → DemandsOf → Type 0
-IsListOf p d = d.worsts ≡ map (λ t. t.worst) p.tasks
+IsListOf p d = HasWorstsOf p.tasks d
 
 -- the demand of each job of a plan by a list
 abbrev pub demands_of : Plan → DemandsOf → ℕ → ℕ → ℕ

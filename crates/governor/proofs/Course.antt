@@ -5,7 +5,6 @@ use Rattle.dvs_base.specs.declared.kind.GovernorKind.{GovernorKind}
 use Rattle.dvs_base.specs.declared.kind.GovernorKind.TheVariants.{Ahead}
 use Rattle.grid_fraction.specs.declared.Frac.{Frac}
 use Rattle.freq_table.specs.Tables.{lowest_entry, lowest_pick, speed_at}
-use Rattle.freq_table.proofs.Chosen.{lowest_within}
 use Rattle.sched_model.specs.declared.state.Row.{Row}
 use Rattle.sched_model.specs.Plan.{Plan, count, period}
 use Rattle.sched_model.specs.Demands.{IsWithin}
@@ -19,7 +18,7 @@ use Rattle.sched_model.specs.Priority.{allotment, key_of}
 use Rattle.sched_model.specs.Schedule.{entry_in_force, next_tick, schedule_by, IsNext}
 use Rattle.sched_model.specs.States.{StateOf, no_row, row_at, prior_row, prior_state, state_of}
 use Rattle.sched_model.proofs.Limits.{some_task, every_period}
-use Rattle.sched_model.proofs.ScheduleLemmas.{next_tick-may, schedule_exists}
+use Rattle.sched_model.proofs.ScheduleLemmas.{next_tick-may, schedule_exists, schedule-none, schedule-suc, force-decided, force-within}
 use Rattle.sched_model.proofs.Tables.{get-table}
 use Rattle.sched_model.proofs.JobLaws.{latest-is, latest-pos, release-due}
 use Rattle.sched_model.proofs.Joining.{state-still}
@@ -29,15 +28,6 @@ use Rattle.governor.specs.Schedule.{ask_of, course}
 use Rattle.governor.proofs.Rows.{or_false_left}
 use Rattle.governor.proofs.Joins.{boundary-is, tick-is, legal-is}
 use Rattle.governor.proofs.Belonging.{belongs_opening, belongs_boundary, belongs_tick, decision_boundary}
-
--- tick by tick
-pub schedule-none : (p : Plan) (dem : ℕ → ℕ → ℕ) (ask : List Tick → Frac) → schedule_by p dem ask zero ≡ []
-unfolding schedule_by
-schedule-none p dem ask = refl
-
-pub schedule-suc : (p : Plan) (dem : ℕ → ℕ → ℕ) (ask : List Tick → Frac) (t : ℕ) → schedule_by p dem ask (suc t) ≡ next_tick p dem ask (schedule_by p dem ask t) ∷ schedule_by p dem ask t
-unfolding schedule_by
-schedule-suc p dem ask t = refl
 
 -- the ticks of a schedule up to r are those of the shorter one
 pub at-schedule : (p : Plan) (dem : ℕ → ℕ → ℕ) (ask : List Tick → Frac) (t r : ℕ) → r ≤ t → at r (schedule_by p dem ask t) ≡ schedule_by p dem ask r
@@ -54,19 +44,6 @@ at-schedule p dem ask t r le = ap (λ n. drop (n - r) (schedule_by p dem ask t))
             ap (λ n. drop n (schedule_by p dem ask (suc t))) z
             ∙ (ap (drop (suc (t - r))) (schedule-suc p dem ask t)
             ∙ ih (omega arith))
-
--- the entry at a decision is the one that the published demand picks there
-pub force-decided : (p : Plan) (dem : ℕ → ℕ → ℕ) (ask : List Tick → Frac) (past : List Tick) → is_decision p dem past ≡ true → entry_in_force p dem ask past ≡ lowest_entry p.machine (ask past)
-force-decided p dem ask [] e = refl
-force-decided p dem ask (x ∷ past) e = ap (λ b. if b then lowest_entry p.machine (ask (x ∷ past)) else entry_in_force p dem ask past) e
-
-pub force-within : (p : Plan) (dem : ℕ → ℕ → ℕ) (ask : List Tick → Frac) → 0 < length p.machine.points → (past : List Tick) → entry_in_force p dem ask past < length p.machine.points
-force-within p dem ask some [] = lowest_within p.machine (ask []) some
-force-within p dem ask some (x ∷ past) = go (is_decision p dem (x ∷ past)) (force-within p dem ask some past)
-  where
-    go : (b : Bool) → entry_in_force p dem ask past < length p.machine.points → (if b then lowest_entry p.machine (ask (x ∷ past)) else entry_in_force p dem ask past) < length p.machine.points
-    go true ih = lowest_within p.machine (ask (x ∷ past)) some
-    go false ih = ih
 
 module _ (kind : GovernorKind) (serves : Scheduler → Type 0) (demand : Plan → StateOf → Frac) (calm : Plan → StateOf → Type 0) (safe : Plan → StateOf → ℕ → Type 0) (laws : GovernorLaws kind serves demand calm safe) (p : Plan) (dem : ℕ → ℕ → ℕ) (adm : IsAdmitted p) (within : IsWithin p dem) (served : serves p.scheduler) where
   periods : (i : ℕ) → 0 < period p i

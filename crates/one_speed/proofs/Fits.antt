@@ -1,5 +1,5 @@
 -- The speeds of the two governors pass the scheduler's test, and meet what they publish.
-use Rattle.std.proofs.Common.{◌≡◌, ℕ, ◌*◌, ◌^◌, ◌<◌, ◌≤◌, true, sym, subst, arith}
+use Rattle.std.proofs.Common.{◌≡◌, ℕ, ◌*◌, ◌<◌, ◌≤◌, true, sym, subst, arith}
 use Rattle.std.proofs.Math.Nat.{mul-le-mul_right, le_of_mul-le-mul_right}
 use Rattle.dvs_base.specs.declared.kind.Scheduler.{Scheduler}
 use Rattle.dvs_base.specs.declared.kind.Scheduler.TheVariants.{Edf, Rm}
@@ -9,8 +9,9 @@ use Rattle.sched_model.specs.Plan.{Plan, count, period, hyper, top_speed}
 use Rattle.sched_model.specs.Tests.{IsEdfFeasible, IsRmFeasible, total_rate, level_work}
 use Rattle.sched_model.specs.StaticDemand.{full_demand, rm_static, static_demand_of, static_demand}
 use Rattle.sched_model.specs.Admission.{IsWithinLimits, IsAdmitted, PassesTest}
-use Rattle.sched_model.proofs.Limits.{some_period, some_hyper, low_hyper, low_period}
+use Rattle.sched_model.proofs.Limits.{some_period}
 use Rattle.sched_model.proofs.Weights.{heaviest_task, heaviest_within, heaviest_greatest}
+pub use Rattle.sched_model.proofs.Weights.{static_den}
 use Rattle.one_speed.specs.Speeds.{fixed_speed}
 
 -- the speed F passes the test of the plan's scheduler
@@ -72,11 +73,3 @@ static_enough plan adm = record {
       let P : Scheduler → Type 0 = λ (sch : Scheduler). level_work plan i ≤ speed_at plan.machine (lowest_entry plan.machine (static_demand_of sch plan)) * period plan i in
       subst P (sym e) (rm_each plan adm.limits (speed_at plan.machine (lowest_entry plan.machine (rm_static plan))) (met_by plan adm.limits Rm (rm_test plan adm e)) i h);
 }
-
-static_den_by : (plan : Plan) (lim : IsWithinLimits plan) (sch : Scheduler) → (0 < (static_demand_of sch plan).den) × ((static_demand_of sch plan).den ≤ 2 ^ 64)
-static_den_by plan lim Edf = (some_hyper plan lim, let low = low_hyper plan lim in omega arith)
-static_den_by plan lim Rm =
-    (some_period plan lim (heaviest_task plan lim) (heaviest_within plan lim), let low = low_period plan lim (heaviest_task plan lim) (heaviest_within plan lim) in omega arith)
-
-pub static_den : (plan : Plan) → IsWithinLimits plan → (0 < (static_demand plan).den) × ((static_demand plan).den ≤ 2 ^ 64)
-static_den plan lim = static_den_by plan lim plan.scheduler

@@ -13,7 +13,8 @@ use Rattle.governor.specs.Steps.{after_boundary, after_tick, IsLegal, IsBeforeAl
 use Rattle.governor.specs.Laws.{GovernorLaws}
 use Rattle.one_speed.specs.Speeds.{ServesBoth, unchanging, fixed_speed}
 use Rattle.one_speed.specs.Conditions.{CalmBy, SafeBy, CalmAt, SafeAt}
-use Rattle.one_speed.proofs.Fits.{IsEnough, full_enough, full_speed, full_met, static_enough, static_met, static_den}
+use Rattle.sched_model.proofs.Weights.{static_den}
+use Rattle.one_speed.proofs.Fits.{IsEnough, full_enough, full_speed, full_met, static_enough, static_met}
 use Rattle.one_speed.proofs.EdfLaws.{edf_opens, edf_releases, edf_chooses, edf_ticks, edf_stays_calm, edf_completes}
 use Rattle.one_speed.proofs.RmLaws.{rm_opens, rm_releases, rm_ticks, rm_completes}
 

@@ -3,7 +3,7 @@ use Rattle.std.proofs.Common.{◌≡◌, ℕ, ◌+◌, ◌-◌, ◌<◌, ◌≤�
 use Rattle.std.proofs.lemmas.Bool.Decides.{nat_tests}
 use Rattle.grid_fraction.specs.declared.Frac.{Frac}
 use Rattle.sched_model.specs.Plan.{Plan, count, point}
-use Rattle.sched_model.specs.Jobs.{latest, release, due, is_in_window}
+use Rattle.sched_model.specs.Jobs.{release, due, is_in_window}
 use Rattle.sched_model.specs.Ticks.{Tick, exec, share, left}
 use Rattle.sched_model.specs.Priority.{key_of}
 use Rattle.sched_model.specs.Schedule.{IsScheduleBy}

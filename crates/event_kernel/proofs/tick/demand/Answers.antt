@@ -1,6 +1,6 @@
 use Rattle.std.proofs.Common.{arith, ap}
 use Rattle.freq_table.specs.Tables.{Table}
-use Rattle.event_kernel.proofs.Demanding.{long-list, worst-listed}
+use Rattle.demand_list.proofs.Worsts.{worst-listed, worsts-long}
 use Rattle.event_kernel.proofs.tick.demand.Goals as goal
 
 pub overflow_add-result : goal.overflow_add-result
@@ -12,8 +12,8 @@ overflow_add-result c =
       c.units.ensures,
       c.charge.ensures,
       ap (λ (m : Table). m.charge) c.machine.ensures,
-      c.known-2.ensures c.args.task c.args.job (omega (arith, long-list p d c.requires.list, c.requires.task)),
-      worst-listed p d c.requires.list c.args.task c.requires.task,
+      c.known-2.ensures c.args.task c.args.job (omega (arith, worsts-long p.tasks d c.requires.list, c.requires.task)),
+      worst-listed p.tasks d c.requires.list c.args.task c.requires.task,
       (c.known.ensures.limits.tasks.each c.args.task c.requires.task).low_worst,
       c.known.ensures.limits.machine.low_charge,
     )
