@@ -1,4 +1,4 @@
-use Rattle.std.proofs.Common.{◌≡◌, ◌<◌, ◌≤◌, arith, subst, sym}
+use Rattle.std.proofs.Common.{arith, subst, sym}
 use Rattle.sched_model.specs.States.{StateOf, CanRelease}
 use Rattle.sched_model.proofs.Openings.{opening-can_release}
 use Rattle.worked_rows.proofs.tests.opened.Goals as goal
