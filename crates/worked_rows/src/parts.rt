@@ -1,4 +1,5 @@
 // Worked rows of single calls: numbers, fractions, entries, files and admissions.
+use crate::calls::PAPER_TASKS;
 use dvs_base::{MemShelf, Shelf, whole};
 use freq_table::{Machine, Pick};
 use grid_fraction::{Frac, greater, lcm_within, meets, mul_down, up};
@@ -6,9 +7,6 @@ use rm_admit::{RmFault, rm_admit};
 use std::alloc::{AllocError, Global};
 use std::test::Fail;
 use task_model::{TaskFault, TaskSet};
-
-const PAPER_TASKS: &str =
-    "task = [{name = \"t1\", period = 8, worst = 12}, {name = \"t2\", period = 10, worst = 12}, {name = \"t3\", period = 14, worst = 4}]";
 
 #[test]
 fn numbers_have_one_spelling(rt: HostRuntime) {

@@ -1,0 +1,83 @@
+// Plans, the states that they open with, and the governors that are made for them.
+ghost use Rattle.governor.specs.Serving.{ServesEdf, ServesRm};
+
+use crate::calls::{PAPER_MACHINE, PAPER_TASKS};
+use cc_edf::CcEdf;
+use cc_rm::CcRm;
+use edf_admit::edf_admit;
+use freq_table::Machine;
+use look_ahead::LookAhead;
+use rm_admit::rm_admit;
+use sched_model::{Admitted, Row, State};
+use static_gov::{Full, Static};
+use std::alloc::Global;
+use std::test::Fail;
+use task_model::TaskSet;
+
+// Whether each governor that serves EDF is made for a plan.
+fn made_under_edf(alloc: Global, plan: &Admitted) -> bool
+    requires { ServesEdf plan.now.scheduler }
+{
+    Full::new(alloc, plan).is_ok()
+        && Static::new(alloc, plan).is_ok()
+        && CcEdf::new(alloc, plan).is_ok()
+        && LookAhead::new(alloc, plan).is_ok()
+}
+
+// Whether each governor that serves RM is made for a plan.
+fn made_under_rm(alloc: Global, plan: &Admitted) -> bool
+    requires { ServesRm plan.now.scheduler }
+{
+    Full::new(alloc, plan).is_ok()
+        && Static::new(alloc, plan).is_ok()
+        && CcRm::new(alloc, plan).is_ok()
+}
+
+#[test]
+fn each_governor_is_made_for_its_plan(rt: HostRuntime) -> Result<(), Fail> {
+    let alloc = rt.alloc();
+    let tasks = TaskSet::read(alloc, PAPER_TASKS.as_bytes()).map_err(|_| "tasks")?;
+    let machine = Machine::read(alloc, PAPER_MACHINE.as_bytes()).map_err(|_| "machine")?;
+    match edf_admit(alloc, &tasks, &machine) {
+        Ok(plan) => assert!(rt; made_under_edf(alloc, &plan)),
+        Err(_) => Err("edf")?,
+    }
+    match rm_admit(alloc, &tasks, &machine) {
+        Ok(plan) => assert!(rt; made_under_rm(alloc, &plan)),
+        Err(_) => Err("rm")?,
+    }
+    Ok(())
+}
+
+// The state of a plan after the first release of its first task.
+fn opened(alloc: Global, plan: &Admitted) -> Result<State, Fail> {
+    plan.known();
+    match State::new(alloc, plan) {
+        Ok(mut state) => {
+            state.release(plan, 0);
+            Ok(state)
+        }
+        Err(_) => Err("state")?,
+    }
+}
+
+#[test]
+fn first_release_opens_job_one(rt: HostRuntime) -> Result<(), Fail> {
+    let alloc = rt.alloc();
+    let tasks = TaskSet::read(alloc, PAPER_TASKS.as_bytes()).map_err(|_| "tasks")?;
+    let machine = Machine::read(alloc, PAPER_MACHINE.as_bytes()).map_err(|_| "machine")?;
+    let plan = edf_admit(alloc, &tasks, &machine).map_err(|_| "plan")?;
+    let state = opened(alloc, &plan)?;
+    let row = state.rows.first().copied().ok_or("row")?;
+    assert_eq!(rt;
+        row,
+        Row {
+            deadline: 8,
+            job: 1,
+            used: 0,
+            done: false,
+            worst: 12
+        }
+    );
+    Ok(())
+}

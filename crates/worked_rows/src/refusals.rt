@@ -1,0 +1,270 @@
+// Admissions and refusals.
+use crate::calls::{PAPER_MACHINE, PAPER_TASKS, SLOW, TWO, answers, refuses};
+use std::test::Fail;
+
+#[test]
+fn admits_paper_example(rt: HostRuntime) -> Result<(), Fail> {
+    let alloc = rt.alloc();
+    assert!(rt;
+        answers(
+            alloc,
+            PAPER_TASKS,
+            PAPER_MACHINE,
+            "",
+            "admit --tasks T --machine M --scheduler edf",
+            "admitted edf 836/280 3\n",
+        )?
+    );
+    assert!(rt;
+        answers(
+            alloc,
+            PAPER_TASKS,
+            PAPER_MACHINE,
+            "",
+            "admit --tasks T --machine M --scheduler rm",
+            "admitted rm 52/14 4\n",
+        )?
+    );
+    Ok(())
+}
+
+#[test]
+fn denied_by_one_unit(rt: HostRuntime) -> Result<(), Fail> {
+    let alloc = rt.alloc();
+    let heavy =
+        "task = [{name = \"a\", period = 3, worst = 12}, {name = \"b\", period = 4, worst = 12}, {name = \"c\", period = 12, worst = 61}]";
+    let heavy_machine = "point = [{speed = 6, millivolts = 3000}, {speed = 12, millivolts = 5000}]";
+    assert!(rt;
+        refuses(
+            alloc,
+            heavy,
+            heavy_machine,
+            "",
+            "run --tasks T --machine M --scheduler edf --governor none --ticks 3",
+            (1, "denied edf 145 144\n"),
+        )?
+    );
+    Ok(())
+}
+
+#[test]
+fn rm_denials(rt: HostRuntime) -> Result<(), Fail> {
+    let alloc = rt.alloc();
+    let overloaded =
+        "task = [{name = \"a\", period = 4, worst = 4}, {name = \"b\", period = 6, worst = 5}]";
+    let spread =
+        "task = [{name = \"a\", period = 4, worst = 2}, {name = \"b\", period = 5, worst = 2}]";
+    assert!(rt;
+        refuses(
+            alloc,
+            overloaded,
+            TWO,
+            "",
+            "run --tasks T --machine M --scheduler rm --governor none --ticks 3",
+            (1, "denied rm b 13 12\n"),
+        )?
+    );
+    assert!(rt;
+        refuses(
+            alloc,
+            overloaded,
+            TWO,
+            "",
+            "admit --tasks T --machine M --scheduler rm",
+            (1, "denied rm b 13 12\n"),
+        )?
+    );
+    assert!(rt;
+        refuses(
+            alloc,
+            spread,
+            SLOW,
+            "",
+            "admit --tasks T --machine M --scheduler rm",
+            (1, "denied rm b 6 5\n"),
+        )?
+    );
+    assert!(rt;
+        refuses(
+            alloc,
+            spread,
+            SLOW,
+            "",
+            "run --tasks T --machine M --scheduler rm --governor static --ticks 3",
+            (1, "denied rm b 6 5\n"),
+        )?
+    );
+    Ok(())
+}
+
+#[test]
+fn over_worst_demand(rt: HostRuntime) -> Result<(), Fail> {
+    let alloc = rt.alloc();
+    assert!(rt;
+        refuses(
+            alloc,
+            PAPER_TASKS,
+            PAPER_MACHINE,
+            "task,job,units\nt1,1,8\nt2,2,13\n",
+            "run --tasks T --machine M --scheduler edf --governor none --ticks 16 --demands D",
+            (6, "over worst: t2 2 13 12\n"),
+        )?
+    );
+    Ok(())
+}
+
+#[test]
+fn too_many_jobs(rt: HostRuntime) -> Result<(), Fail> {
+    let alloc = rt.alloc();
+    assert!(rt;
+        refuses(
+            alloc,
+            PAPER_TASKS,
+            PAPER_MACHINE,
+            "",
+            "run --tasks T --machine M --scheduler edf --governor none --ticks 1000000",
+            (5, "limit: 296429 jobs, at most 100000\n"),
+        )?
+    );
+    Ok(())
+}
+
+#[test]
+fn limits_of_task_files(rt: HostRuntime) -> Result<(), Fail> {
+    let alloc = rt.alloc();
+    let far =
+        "task = [{name = \"a\", period = 1099511627775, worst = 1}, {name = \"b\", period = 1099511627776, worst = 1}]";
+    assert!(rt;
+        refuses(
+            alloc,
+            far,
+            SLOW,
+            "",
+            "admit --tasks T --machine M --scheduler edf",
+            (
+                4,
+                "tasks: periods have no common multiple up to 281474976710656\n"
+            ),
+        )?
+    );
+    Ok(())
+}
+
+#[test]
+fn task_file_refusals(rt: HostRuntime) -> Result<(), Fail> {
+    let alloc = rt.alloc();
+    assert!(rt;
+        refuses(
+            alloc,
+            "",
+            SLOW,
+            "",
+            "admit --tasks T --machine M --scheduler edf",
+            (4, "tasks: no tasks\n"),
+        )?
+    );
+    assert!(rt;
+        refuses(
+            alloc,
+            "task = [{name = \"a\", period = 0, worst = 1}]",
+            SLOW,
+            "",
+            "admit --tasks T --machine M --scheduler edf",
+            (4, "tasks: task 1: period out of range\n"),
+        )?
+    );
+    assert!(rt;
+        refuses(
+            alloc,
+            "task = [{name = \"a\", period = 1, worst = 1}, {name = \"b\", period = 2, worst = 1, offset = 1}]",
+            SLOW,
+            "",
+            "admit --tasks T --machine M --scheduler edf",
+            (4, "tasks: task 2: unknown key offset\n"),
+        )?
+    );
+    Ok(())
+}
+
+#[test]
+fn machine_file_refusals(rt: HostRuntime) -> Result<(), Fail> {
+    let alloc = rt.alloc();
+    assert!(rt;
+        refuses(
+            alloc,
+            PAPER_TASKS,
+            "point = [{speed = 2, millivolts = 3}, {speed = 2, millivolts = 3}]",
+            "",
+            "admit --tasks T --machine M --scheduler edf",
+            (4, "machine: point 2: not rising\n"),
+        )?
+    );
+    Ok(())
+}
+
+#[test]
+fn demand_file_edges(rt: HostRuntime) -> Result<(), Fail> {
+    let alloc = rt.alloc();
+    assert!(rt;
+        refuses(
+            alloc,
+            PAPER_TASKS,
+            PAPER_MACHINE,
+            "",
+            "run --tasks T --machine M --scheduler edf --governor none --ticks 16 --demands D",
+            (4, "demands: wrong header\n"),
+        )?
+    );
+    assert!(rt;
+        refuses(
+            alloc,
+            PAPER_TASKS,
+            PAPER_MACHINE,
+            "task,job,units\nt1,1,8\nt1,1,8\n",
+            "run --tasks T --machine M --scheduler edf --governor none --ticks 16 --demands D",
+            (4, "demands: row 2: task t1 job 1 stands twice\n"),
+        )?
+    );
+    Ok(())
+}
+
+#[test]
+fn missing_file_and_bad_words(rt: HostRuntime) -> Result<(), Fail> {
+    let alloc = rt.alloc();
+    assert!(rt;
+        refuses(
+            alloc,
+            PAPER_TASKS,
+            PAPER_MACHINE,
+            "",
+            "run --tasks T --machine X --scheduler edf --governor none --ticks 16",
+            (3, "load: machine\n"),
+        )?
+    );
+    assert!(rt;
+        refuses(
+            alloc,
+            PAPER_TASKS,
+            PAPER_MACHINE,
+            "",
+            "run --tasks T --machine M --scheduler edf --governor none --ticks 0",
+            (2, "words: refused\n"),
+        )?
+    );
+    Ok(())
+}
+
+#[test]
+fn look_ahead_under_rm_refused(rt: HostRuntime) -> Result<(), Fail> {
+    assert!(rt;
+        refuses(
+            rt.alloc(),
+            PAPER_TASKS,
+            PAPER_MACHINE,
+            "",
+            "run --tasks T --machine M --scheduler rm --governor la --ticks 16",
+            (2, "words: refused\n"),
+        )?
+    );
+    Ok(())
+}
