@@ -6,6 +6,7 @@ ghost use Rattle.sched_model.specs.StaticDemand.{static_speed};
 ghost use Rattle.sched_model.specs.States.{opening, IsOfPlan};
 ghost use Rattle.governor.specs.Steps.{IsAtDecision};
 ghost use Rattle.governor.specs.Serving.{ServesRm};
+ghost use Rattle.one_speed.specs.Worst.{MeetsAtWorst};
 ghost use Rattle.cc_rm_laws.specs.Allotments.{cycle_demand};
 ghost use Rattle.cc_rm_laws.specs.Conditions.{CcRmCalm, CcRmSafe};
 ghost use Rattle.cc_rm_laws.proofs.CcRmLaws.{cc_rm_laws};
@@ -15,6 +16,7 @@ use dvs_base::{GovernorKind, NoMemory};
 use governor::{Choice, Governor, earliest_deadline};
 use grid_fraction::Frac;
 use sched_model::{Admitted, State};
+use static_gov::worst_case_meets;
 use std::alloc::Global;
 
 /// Cycle-conserving RM: the speed does what is left of the allotments of the last release in the time up to the earliest
@@ -26,11 +28,14 @@ pub struct CcRm {
 
 impl CcRm {
     /// The governor for a plan under RM, before the first release. It takes no memory and is never refused.
+    /// The worst static schedule, against which the allotments are measured, meets every deadline.
     pub fn new(_alloc: Global, plan: &Admitted) -> Result<CcRm, NoMemory>
         requires { plan.now.scheduler ≡ Rm }
         ensures made { IsOk result }
         ensures stands { IfOk result (λ g. ⟦<CcRm as Governor>⟧.stands g plan.now (opening plan.now)) }
+        ensures worst { MeetsAtWorst plan.now }
     {
+        worst_case_meets(plan);
         Ok(CcRm {
             static_speed: static_speed(plan),
         })

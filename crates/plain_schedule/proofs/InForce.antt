@@ -1,25 +1,13 @@
 -- The entry in force, of the ticks of a schedule.
-use Rattle.std.proofs.Common.{◌≡◌, ℕ, suc, ◌+◌, ◌-◌, ◌<◌, ◌≤◌, Bool, true, false, List, [], ◌∷◌, ◌++◌, length, reverse, get_or, refl, arith, ap, ◌∙◌, sym, subst, true≢false, if◌then◌else◌}
+use Rattle.std.proofs.Common.{◌≡◌, ℕ, suc, ◌+◌, ◌-◌, ◌<◌, ◌≤◌, false, List, [], ◌∷◌, ◌++◌, length, reverse, get_or, arith, ap, ◌∙◌, sym, subst, true≢false, if◌then◌else◌}
 use Rattle.std.proofs.lemmas.List.{length-reverse, get_or-reverse, reverse-append}
 use Rattle.grid_fraction.specs.declared.Frac.{Frac}
 use Rattle.freq_table.specs.Tables.{lowest_entry}
-use Rattle.freq_table.proofs.Chosen.{lowest_within}
 use Rattle.sched_model.specs.Plan.{Plan}
 use Rattle.sched_model.specs.Ticks.{Tick}
 use Rattle.sched_model.specs.Decision.{is_decision}
 use Rattle.sched_model.specs.Schedule.{entry_in_force, next_tick, schedule_by}
-
-pub force_within : (p : Plan) (dem : ℕ → ℕ → ℕ) (ask : List Tick → Frac) → 1 ≤ length p.machine.points → (past : List Tick) → entry_in_force p dem ask past < length p.machine.points
-force_within p dem ask some [] = lowest_within p.machine (ask []) some
-force_within p dem ask some (x ∷ past) = go (is_decision p dem (x ∷ past)) (force_within p dem ask some past)
-  where
-    go : (b : Bool) → entry_in_force p dem ask past < length p.machine.points → (if b then lowest_entry p.machine (ask (x ∷ past)) else entry_in_force p dem ask past) < length p.machine.points
-    go true ih = lowest_within p.machine (ask (x ∷ past)) some
-    go false ih = ih
-
-pub force_decided : (p : Plan) (dem : ℕ → ℕ → ℕ) (ask : List Tick → Frac) (past : List Tick) → is_decision p dem past ≡ true → entry_in_force p dem ask past ≡ lowest_entry p.machine (ask past)
-force_decided p dem ask [] e = refl
-force_decided p dem ask (x ∷ past) e = ap (λ b. if b then lowest_entry p.machine (ask (x ∷ past)) else entry_in_force p dem ask past) e
+use Rattle.sched_model.proofs.ScheduleLemmas.{schedule-none, schedule-suc, force-decided, force-within}
 
 -- between decisions it is the entry of the last tick
 kept : (p : Plan) (dem : ℕ → ℕ → ℕ) (ask : List Tick → Frac) (ticks : List Tick) (d : Tick) → ticks ≡ schedule_by p dem ask (length ticks) → is_decision p dem ticks ≡ false
@@ -53,29 +41,20 @@ pub kept_within : (p : Plan) (dem : ℕ → ℕ → ℕ) (ask : List Tick → Fr
     → reverse past ≡ schedule_by p dem ask (length past) → is_decision p dem (reverse past) ≡ false → x ≡ get_or past (length past - 1) x
     → 1 ≤ length p.machine.points → x.entry < length p.machine.points
 kept_within p dem ask past x is e read some =
-    subst (λ n. n < length p.machine.points) (sym (force_kept p dem ask past x is e read)) (force_within p dem ask some (reverse past))
+    subst (λ n. n < length p.machine.points) (sym (force_kept p dem ask past x is e read)) (force-within p dem ask some (reverse past))
 
-pub schedule_none : (p : Plan) (dem : ℕ → ℕ → ℕ) (ask : List Tick → Frac) → schedule_by p dem ask 0 ≡ []
-unfolding schedule_by
-schedule_none p dem ask = refl
-
--- one more tick of a schedule
-pub schedule_more : (p : Plan) (dem : ℕ → ℕ → ℕ) (ask : List Tick → Frac) (past : List Tick) (t : ℕ) → past ≡ schedule_by p dem ask t
-    → next_tick p dem ask past ∷ past ≡ schedule_by p dem ask (t + 1)
-unfolding schedule_by
-schedule_more p dem ask past t is =
-    let e : suc t ≡ t + 1 = omega arith in
-    let step : next_tick p dem ask (schedule_by p dem ask t) ∷ schedule_by p dem ask t ≡ schedule_by p dem ask (suc t) = refl in
-    ap (λ (ps : List Tick). next_tick p dem ask ps ∷ ps) is ∙ (step ∙ ap (schedule_by p dem ask) e)
-
--- and so where the first tick stands first
+-- one more tick of a schedule, whose first tick stands first
 pub schedule_push : (p : Plan) (dem : ℕ → ℕ → ℕ) (ask : List Tick → Frac) (past : List Tick) (t : ℕ) (x : Tick)
     → reverse past ≡ schedule_by p dem ask t → x ≡ next_tick p dem ask (reverse past) → reverse (past ++ x ∷ []) ≡ schedule_by p dem ask (t + 1)
 schedule_push p dem ask past t x is next =
-    reverse-append past (x ∷ []) ∙ (ap (λ y. y ∷ reverse past) next ∙ schedule_more p dem ask (reverse past) t is)
+    reverse-append past (x ∷ []) ∙ (ap (λ y. y ∷ reverse past) next
+    ∙ (ap (λ (ps : List Tick). next_tick p dem ask ps ∷ ps) is ∙ (sym (schedule-suc p dem ask t) ∙ ap (schedule_by p dem ask) more)))
+  where
+    more : suc t ≡ t + 1
+    more = omega arith
 
 -- what the entry in force is read from
-pub ruleset in_force = (force_decided, force_kept, undecided_some, force_within, kept_within)
+pub ruleset in_force = (force-decided, force_kept, undecided_some, force-within, kept_within)
 
 -- how a schedule grows
-pub ruleset tick_by_tick = (schedule_none, schedule_push)
+pub ruleset tick_by_tick = (schedule-none, schedule_push)

@@ -1,5 +1,5 @@
 -- The rates of look-ahead over a list of tasks, by its first task.
-use Rattle.std.proofs.Common.{◌≡◌, ℕ, ◌+◌, ◌-◌, ◌<◌, List, [], ◌∷◌, length, drop, take, get_or, refl, arith, ap, ◌∙◌}
+use Rattle.std.proofs.Common.{◌≡◌, ℕ, ◌+◌, ◌-◌, ◌<◌, List, [], ◌∷◌, length, drop, take, get_or, arith, ap, ◌∙◌}
 use Rattle.std.proofs.Math.Seq.{take-length}
 use Rattle.sched_model.specs.Plan.{Plan}
 use Rattle.sched_model.specs.AheadDemand.{spread_rate, spread_rates}

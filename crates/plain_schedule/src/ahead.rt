@@ -8,7 +8,7 @@ ghost use Rattle.sched_model.specs.Priority.{key_of, stands_before, sum_before};
 ghost use Rattle.sched_model.specs.Ticks.{wleft};
 ghost use Rattle.sched_model.specs.Demands.{demand_of};
 ghost use Rattle.sched_model.specs.AheadDemand.{slack, put_off, spread_rate, spread_rates, due_first, edf_ahead};
-ghost use Rattle.plain_schedule.specs.Lists.{HasWorstsOf};
+ghost use Rattle.demand_list.specs.Demands.{HasWorstsOf};
 
 use crate::PlainTick;
 use crate::jobs::{deadline, earliest};
@@ -86,7 +86,7 @@ fn room_beside(plan: &Admitted, before: u128, after: u128) -> u128
 // The units of a task that are put off past the earliest deadline; `after` are the rates of the tasks after it.
 #[tactic(auto, using(crate::proofs::Publishing::hyper_some))]
 fn put_off(plan: &Admitted, demands: &Demands, past: &[PlainTick], after: u128, task: u32) -> u64
-    requires list { HasWorstsOf plan.now demands.now }
+    requires list { HasWorstsOf plan.now.tasks demands.now }
     requires task { task < count plan.now }
     ensures value { let ticks = reverse past.now in result ≡ put_off plan.now (λ i. deadline plan.now i (length ticks)) (wleft plan.now (demand_of plan.now demands.now.rows) ticks) after task }
     ensures low { result ≤ 2 ^ 61 }
@@ -111,7 +111,7 @@ fn spread_rate(
     after: u128,
     task: u32,
 ) -> u128
-    requires list { HasWorstsOf plan.now demands.now }
+    requires list { HasWorstsOf plan.now.tasks demands.now }
     requires task { task < count plan.now }
     ensures value { let ticks = reverse past.now in result ≡ spread_rate plan.now (λ i. deadline plan.now i (length ticks)) (wleft plan.now (demand_of plan.now demands.now.rows) ticks) after task }
     ensures low { result ≤ 2 ^ 110 }
@@ -127,7 +127,7 @@ fn spread_rate(
 
 // The sum of those rates of the last tasks in EDF order.
 fn spread_rates(plan: &Admitted, demands: &Demands, past: &[PlainTick], later: &[u32]) -> u128
-    requires list { HasWorstsOf plan.now demands.now }
+    requires list { HasWorstsOf plan.now.tasks demands.now }
     requires below { AllByRecursion (λ i. i < count plan.now) later.now }
     requires few { length later.now ≤ 64 }
     ensures value { let ticks = reverse past.now in result ≡ spread_rates plan.now (λ i. deadline plan.now i (length ticks)) (wleft plan.now (demand_of plan.now demands.now.rows) ticks) later.now }
@@ -144,7 +144,7 @@ fn spread_rates(plan: &Admitted, demands: &Demands, past: &[PlainTick], later: &
 
 // What a task has to run before the earliest deadline.
 fn kept_back(plan: &Admitted, demands: &Demands, past: &[PlainTick], after: u128, task: u32) -> u64
-    requires list { HasWorstsOf plan.now demands.now }
+    requires list { HasWorstsOf plan.now.tasks demands.now }
     requires task { task < count plan.now }
     ensures value { let ticks = reverse past.now in let left = wleft plan.now (demand_of plan.now demands.now.rows) ticks in result ≡ left task - put_off plan.now (λ i. deadline plan.now i (length ticks)) left after task }
     ensures low { result ≤ 2 ^ 61 }
@@ -154,7 +154,7 @@ fn kept_back(plan: &Admitted, demands: &Demands, past: &[PlainTick], after: u128
 
 // The sum of that over the last tasks in EDF order.
 fn due_first(plan: &Admitted, demands: &Demands, past: &[PlainTick], order: &[u32]) -> u128
-    requires list { HasWorstsOf plan.now demands.now }
+    requires list { HasWorstsOf plan.now.tasks demands.now }
     requires below { AllByRecursion (λ i. i < count plan.now) order.now }
     requires few { length order.now ≤ 64 }
     ensures value { let ticks = reverse past.now in result ≡ due_first plan.now (λ i. deadline plan.now i (length ticks)) (wleft plan.now (demand_of plan.now demands.now.rows) ticks) order.now }
@@ -177,7 +177,7 @@ pub(crate) fn edf_ahead(
     demands: &Demands,
     past: &[PlainTick],
 ) -> Result<Frac, NoMemory>
-    requires { HasWorstsOf plan.now demands.now }
+    requires { HasWorstsOf plan.now.tasks demands.now }
     ensures value { IfOk result (λ d. d ≡ edf_ahead plan.now (demand_of plan.now demands.now.rows) (reverse past.now)) }
     ensures some_den { IfOk result (λ d. 1 ≤ d.den) }
     ensures low_den { IfOk result (λ d. d.den ≤ 2 ^ 64) }

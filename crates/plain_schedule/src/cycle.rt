@@ -8,7 +8,7 @@ ghost use Rattle.sched_model.specs.Priority.{stands_before, sum_before, allotmen
 ghost use Rattle.sched_model.specs.StaticDemand.{static_speed};
 ghost use Rattle.sched_model.specs.Demands.{demand_of};
 ghost use Rattle.sched_model.specs.CycleDemand.{charged, edf_cycle, allotted, had_since_release, allotment_left, rm_cycle};
-ghost use Rattle.plain_schedule.specs.Lists.{HasWorstsOf};
+ghost use Rattle.demand_list.specs.Demands.{HasWorstsOf};
 
 use crate::PlainTick;
 use crate::jobs::{earliest, last_release, latest};
@@ -23,7 +23,7 @@ use sched_model::Admitted;
 
 // The worst case of a task while its latest job is incomplete, and else the demand of that job.
 fn charged(plan: &Admitted, demands: &Demands, past: &[PlainTick], task: u32) -> u64
-    requires list { HasWorstsOf plan.now demands.now }
+    requires list { HasWorstsOf plan.now.tasks demands.now }
     requires task { task < count plan.now }
     ensures value { result ≡ charged plan.now (demand_of plan.now demands.now.rows) (reverse past.now) task }
     ensures low { result ≤ 2 ^ 61 }
@@ -37,7 +37,7 @@ fn charged(plan: &Admitted, demands: &Demands, past: &[PlainTick], task: u32) ->
 
 // That, for each job of one hyperperiod.
 fn charged_rate(plan: &Admitted, demands: &Demands, past: &[PlainTick], task: u32) -> u128
-    requires list { HasWorstsOf plan.now demands.now }
+    requires list { HasWorstsOf plan.now.tasks demands.now }
     requires task { task < count plan.now }
     ensures value { result ≡ charged plan.now (demand_of plan.now demands.now.rows) (reverse past.now) task * (hyper plan.now / period plan.now task) }
     ensures low { result ≤ 2 ^ 109 }
@@ -50,7 +50,7 @@ fn charged_rate(plan: &Admitted, demands: &Demands, past: &[PlainTick], task: u3
 /// The demand of cycle conservation under EDF: the sum of the charged work of a hyperperiod, over its length.
 #[tactic(auto, using(crate::proofs::Publishing::hyper_some, crate::proofs::Publishing::hyper_low))]
 pub(crate) fn edf_cycle(plan: &Admitted, demands: &Demands, past: &[PlainTick]) -> Frac
-    requires { HasWorstsOf plan.now demands.now }
+    requires { HasWorstsOf plan.now.tasks demands.now }
     ensures value { result ≡ edf_cycle plan.now (demand_of plan.now demands.now.rows) (reverse past.now) }
     ensures some_den { 1 ≤ result.den }
     ensures low_den { result.den ≤ 2 ^ 64 }
@@ -78,7 +78,7 @@ fn static_speed(plan: &Admitted) -> u64
 
 // What a task may still need where it stands before task `i` in RM order, and else 0.
 fn wleft_where_before(plan: &Admitted, demands: &Demands, past: &[PlainTick], j: u32, i: u32) -> u64
-    requires list { HasWorstsOf plan.now demands.now }
+    requires list { HasWorstsOf plan.now.tasks demands.now }
     requires one { j < count plan.now }
     requires other { i < count plan.now }
     ensures value { result ≡ (if stands_before (period plan.now) j i then wleft plan.now (demand_of plan.now demands.now.rows) (reverse past.now) j else 0) }
@@ -93,7 +93,7 @@ fn wleft_where_before(plan: &Admitted, demands: &Demands, past: &[PlainTick], j:
 
 // What the tasks before a task in RM order may still need.
 fn wleft_before(plan: &Admitted, demands: &Demands, past: &[PlainTick], task: u32) -> u128
-    requires list { HasWorstsOf plan.now demands.now }
+    requires list { HasWorstsOf plan.now.tasks demands.now }
     requires task { task < count plan.now }
     ensures value { result ≡ sum_before (count plan.now) (period plan.now) (wleft plan.now (demand_of plan.now demands.now.rows) (reverse past.now)) task }
     ensures low { result ≤ 2 ^ 93 }
@@ -123,7 +123,7 @@ fn worst_allotment(
     room: u128,
     task: u32,
 ) -> u64
-    requires list { HasWorstsOf plan.now demands.now }
+    requires list { HasWorstsOf plan.now.tasks demands.now }
     requires task { task < count plan.now }
     ensures value { result ≡ allotment (count plan.now) (period plan.now) room (wleft plan.now (demand_of plan.now demands.now.rows) (reverse past.now)) task }
     ensures low { result ≤ 2 ^ 61 }
@@ -135,7 +135,7 @@ fn worst_allotment(
 
 // What a task gets of the units that are allotted at the last release.
 fn allotted(plan: &Admitted, demands: &Demands, past: &[PlainTick], task: u32) -> u64
-    requires list { HasWorstsOf plan.now demands.now }
+    requires list { HasWorstsOf plan.now.tasks demands.now }
     requires task { task < count plan.now }
     requires scheduler { plan.now.scheduler ≡ Rm }
     ensures value { result ≡ allotted plan.now (demand_of plan.now demands.now.rows) (reverse past.now) task }
@@ -159,7 +159,7 @@ fn had_since_release(plan: &Admitted, past: &[PlainTick], task: u32) -> u128
 
 // What is left of the allotment of a task.
 fn allotment_left(plan: &Admitted, demands: &Demands, past: &[PlainTick], task: u32) -> u128
-    requires list { HasWorstsOf plan.now demands.now }
+    requires list { HasWorstsOf plan.now.tasks demands.now }
     requires task { task < count plan.now }
     requires scheduler { plan.now.scheduler ≡ Rm }
     ensures value { result ≡ allotment_left plan.now (demand_of plan.now demands.now.rows) (reverse past.now) task }
@@ -176,7 +176,7 @@ fn allotment_left(plan: &Admitted, demands: &Demands, past: &[PlainTick], task: 
 /// the earliest at the last release.
 #[tactic(auto, using(crate::proofs::Marks::marked_later))]
 pub(crate) fn rm_cycle(plan: &Admitted, demands: &Demands, past: &[PlainTick]) -> Frac
-    requires list { HasWorstsOf plan.now demands.now }
+    requires list { HasWorstsOf plan.now.tasks demands.now }
     requires scheduler { plan.now.scheduler ≡ Rm }
     ensures value { result ≡ rm_cycle plan.now (demand_of plan.now demands.now.rows) (reverse past.now) }
     ensures some_den { 1 ≤ result.den }

@@ -4,7 +4,7 @@ ghost use Rattle.grid_fraction.specs.Numbers.{any_below};
 ghost use Rattle.sched_model.specs.Plan.{count};
 ghost use Rattle.sched_model.specs.Decision.{is_decision};
 ghost use Rattle.sched_model.specs.Demands.{demand_of};
-ghost use Rattle.plain_schedule.specs.Lists.{HasWorstsOf};
+ghost use Rattle.demand_list.specs.Demands.{HasWorstsOf};
 ghost use Rattle.plain_schedule.specs.Completions.{completes_last};
 
 use crate::PlainTick;
@@ -17,7 +17,7 @@ use sched_model::Admitted;
 // Whether the job of a task that was the latest in the last tick completed in it.
 #[tactic(auto, using(crate::proofs::Pasts::completes_split))]
 fn completes(plan: &Admitted, demands: &Demands, past: &[PlainTick], task: u32) -> bool
-    requires list { HasWorstsOf plan.now demands.now }
+    requires list { HasWorstsOf plan.now.tasks demands.now }
     requires task { task < count plan.now }
     requires some { 1 ≤ length past.now }
     ensures { result ≡ completes_last plan.now (demand_of plan.now demands.now.rows) (reverse past.now) task }
@@ -29,7 +29,7 @@ fn completes(plan: &Admitted, demands: &Demands, past: &[PlainTick], task: u32) 
 
 // Whether any job completed in the last tick.
 fn any_completes(plan: &Admitted, demands: &Demands, past: &[PlainTick]) -> bool
-    requires list { HasWorstsOf plan.now demands.now }
+    requires list { HasWorstsOf plan.now.tasks demands.now }
     requires some { 1 ≤ length past.now }
     ensures { result ≡ any_below (count plan.now) (completes_last plan.now (demand_of plan.now demands.now.rows) (reverse past.now)) }
 {
@@ -43,7 +43,7 @@ fn any_completes(plan: &Admitted, demands: &Demands, past: &[PlainTick]) -> bool
 /// Whether the tick after these is a decision instant: tick 0, a release, or the tick after a completion.
 #[tactic(auto, using(crate::proofs::Pasts::decision_split))]
 pub(crate) fn is_decision(plan: &Admitted, demands: &Demands, past: &[PlainTick]) -> bool
-    requires { HasWorstsOf plan.now demands.now }
+    requires { HasWorstsOf plan.now.tasks demands.now }
     ensures { result ≡ is_decision plan.now (demand_of plan.now demands.now.rows) (reverse past.now) }
 {
     if past.is_empty() {

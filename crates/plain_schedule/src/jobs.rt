@@ -48,7 +48,7 @@ pub(crate) fn deadline(plan: &Admitted, task: u32, tick: u64) -> u128
 }
 
 /// The earliest deadline of the latest jobs.
-#[tactic(auto, using(crate::proofs::Marks::least_more))]
+#[tactic(auto, using(crate::proofs::Marks::one_more))]
 pub(crate) fn earliest(plan: &Admitted, tick: u64) -> u128
     requires { tick + 1 < 2 ^ 64 }
     ensures value { result ≡ earliest plan.now tick }

@@ -4,7 +4,7 @@ ghost use Rattle.dvs_base.specs.declared.kind.GovernorKind.TheVariants.{Cycle, A
 ghost use Rattle.sched_model.specs.StaticDemand.{full_demand, static_demand};
 ghost use Rattle.sched_model.specs.Demand.{demand_by, published};
 ghost use Rattle.sched_model.specs.Demands.{demand_of};
-ghost use Rattle.plain_schedule.specs.Lists.{HasWorstsOf};
+ghost use Rattle.demand_list.specs.Demands.{HasWorstsOf};
 
 use crate::PlainTick;
 use crate::ahead::edf_ahead;
@@ -37,7 +37,7 @@ pub(crate) fn static_demand(plan: &Admitted) -> Frac
 
 // The demand of cycle conservation.
 fn cycle_demand(plan: &Admitted, demands: &Demands, past: &[PlainTick]) -> Frac
-    requires { HasWorstsOf plan.now demands.now }
+    requires { HasWorstsOf plan.now.tasks demands.now }
     ensures value { result ≡ demand_by plan.now.scheduler Cycle plan.now (demand_of plan.now demands.now.rows) (reverse past.now) }
     ensures some_den { 1 ≤ result.den }
     ensures low_den { result.den ≤ 2 ^ 64 }
@@ -55,7 +55,7 @@ fn ahead_demand(
     demands: &Demands,
     past: &[PlainTick],
 ) -> Result<Frac, NoMemory>
-    requires { HasWorstsOf plan.now demands.now }
+    requires { HasWorstsOf plan.now.tasks demands.now }
     ensures value { IfOk result (λ d. d ≡ demand_by plan.now.scheduler Ahead plan.now (demand_of plan.now demands.now.rows) (reverse past.now)) }
     ensures some_den { IfOk result (λ d. 1 ≤ d.den) }
     ensures low_den { IfOk result (λ d. d.den ≤ 2 ^ 64) }
@@ -75,7 +75,7 @@ pub(crate) fn published(
     governor: GovernorKind,
     past: &[PlainTick],
 ) -> Result<Frac, NoMemory>
-    requires { HasWorstsOf plan.now demands.now }
+    requires { HasWorstsOf plan.now.tasks demands.now }
     ensures value { IfOk result (λ d. d ≡ published plan.now governor (demand_of plan.now demands.now.rows) (reverse past.now)) }
     ensures some_den { IfOk result (λ d. 1 ≤ d.den) }
     ensures low_den { IfOk result (λ d. d.den ≤ 2 ^ 64) }

@@ -7,7 +7,7 @@ ghost use Rattle.sched_model.specs.Priority.{key_of, allotment};
 ghost use Rattle.sched_model.specs.Demand.{published};
 ghost use Rattle.sched_model.specs.Demands.{demand_of};
 ghost use Rattle.sched_model.specs.Schedule.{entry_in_force, next_tick, schedule};
-ghost use Rattle.plain_schedule.specs.Lists.{HasWorstsOf};
+ghost use Rattle.demand_list.specs.Demands.{HasWorstsOf};
 
 use crate::PlainTick;
 use crate::decision::is_decision;
@@ -27,7 +27,7 @@ fn entry_in_force(
     governor: GovernorKind,
     past: &[PlainTick],
 ) -> Result<u32, NoMemory>
-    requires list { HasWorstsOf plan.now demands.now }
+    requires list { HasWorstsOf plan.now.tasks demands.now }
     requires past { reverse past.now ≡ schedule plan.now governor (demand_of plan.now demands.now.rows) (length past.now) }
     ensures value { IfOk result (λ e. e ≡ entry_in_force plan.now (demand_of plan.now demands.now.rows) (published plan.now governor (demand_of plan.now demands.now.rows)) (reverse past.now)) }
     ensures low { IfOk result (λ e. e < length plan.now.machine.points) }
@@ -49,7 +49,7 @@ fn shares_of(
     past: &[PlainTick],
     units: u64,
 ) -> Result<Vec<u64>, NoMemory>
-    requires { HasWorstsOf plan.now demands.now }
+    requires { HasWorstsOf plan.now.tasks demands.now }
     ensures { IfOk result (λ v. v.items ≡ list_below (count plan.now) (allotment (count plan.now) (key_of plan.now.scheduler plan.now (length (reverse past.now))) units (left plan.now (demand_of plan.now demands.now.rows) (reverse past.now)))) }
 {
     let mut shares = Vec::new(alloc);
@@ -68,7 +68,7 @@ fn next_tick(
     governor: GovernorKind,
     past: &[PlainTick],
 ) -> Result<PlainTick, NoMemory>
-    requires list { HasWorstsOf plan.now demands.now }
+    requires list { HasWorstsOf plan.now.tasks demands.now }
     requires past { reverse past.now ≡ schedule plan.now governor (demand_of plan.now demands.now.rows) (length past.now) }
     ensures { IfOk result (λ x. x ≡ next_tick plan.now (demand_of plan.now demands.now.rows) (published plan.now governor (demand_of plan.now demands.now.rows)) (reverse past.now)) }
 {
@@ -88,7 +88,7 @@ pub fn plain_schedule(
     governor: GovernorKind,
     ticks: u64,
 ) -> Result<Vec<PlainTick>, NoMemory>
-    requires { HasWorstsOf plan.now demands.now }
+    requires { HasWorstsOf plan.now.tasks demands.now }
     ensures { IfOk result (λ list. reverse list.items ≡ schedule plan.now governor (demand_of plan.now demands.now.rows) ticks) }
 {
     let mut past = Vec::new(alloc);

@@ -4,7 +4,7 @@ ghost use Rattle.sched_model.specs.Plan.{count, worst};
 ghost use Rattle.sched_model.specs.Jobs.{is_in_window};
 ghost use Rattle.sched_model.specs.Ticks.{share, exec, is_done, left, is_complete, wleft};
 ghost use Rattle.sched_model.specs.Demands.{demand_of};
-ghost use Rattle.plain_schedule.specs.Lists.{HasWorstsOf};
+ghost use Rattle.demand_list.specs.Demands.{HasWorstsOf};
 
 use crate::PlainTick;
 use crate::jobs::{is_in_window, latest};
@@ -14,7 +14,7 @@ use sched_model::Admitted;
 
 /// What a job needs in work units, with the charge; 0 for job 0.
 pub(crate) fn demand(plan: &Admitted, demands: &Demands, task: u32, job: u64) -> u64
-    requires list { HasWorstsOf plan.now demands.now }
+    requires list { HasWorstsOf plan.now.tasks demands.now }
     requires task { task < count plan.now }
     ensures value { result ≡ demand_of plan.now demands.now.rows task job }
     ensures low { result ≤ 2 ^ 61 }
@@ -60,7 +60,7 @@ pub(crate) fn is_done(
     task: u32,
     job: u64,
 ) -> bool
-    requires list { HasWorstsOf plan.now demands.now }
+    requires list { HasWorstsOf plan.now.tasks demands.now }
     requires task { task < count plan.now }
     ensures { result ≡ is_done plan.now (demand_of plan.now demands.now.rows) (reverse past.now) task job }
 {
@@ -69,7 +69,7 @@ pub(crate) fn is_done(
 
 /// What the latest job of a task still needs.
 pub(crate) fn left(plan: &Admitted, demands: &Demands, past: &[PlainTick], task: u32) -> u64
-    requires list { HasWorstsOf plan.now demands.now }
+    requires list { HasWorstsOf plan.now.tasks demands.now }
     requires task { task < count plan.now }
     ensures value { result ≡ left plan.now (demand_of plan.now demands.now.rows) (reverse past.now) task }
     ensures low { result ≤ 2 ^ 61 }
@@ -86,7 +86,7 @@ pub(crate) fn left(plan: &Admitted, demands: &Demands, past: &[PlainTick], task:
 
 /// Whether the latest job of a task is complete.
 pub(crate) fn is_complete(plan: &Admitted, demands: &Demands, past: &[PlainTick], task: u32) -> bool
-    requires list { HasWorstsOf plan.now demands.now }
+    requires list { HasWorstsOf plan.now.tasks demands.now }
     requires task { task < count plan.now }
     ensures { result ≡ is_complete plan.now (demand_of plan.now demands.now.rows) (reverse past.now) task }
 {
@@ -105,7 +105,7 @@ pub(crate) fn worst(plan: &Admitted, task: u32) -> u64
 
 /// What the latest job of a task may still need, as far as its worst case says: 0 where it is complete.
 pub(crate) fn wleft(plan: &Admitted, demands: &Demands, past: &[PlainTick], task: u32) -> u64
-    requires list { HasWorstsOf plan.now demands.now }
+    requires list { HasWorstsOf plan.now.tasks demands.now }
     requires task { task < count plan.now }
     ensures value { result ≡ wleft plan.now (demand_of plan.now demands.now.rows) (reverse past.now) task }
     ensures low { result ≤ 2 ^ 61 }

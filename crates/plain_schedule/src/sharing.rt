@@ -4,7 +4,7 @@ ghost use Rattle.sched_model.specs.Plan.{count};
 ghost use Rattle.sched_model.specs.Ticks.{left};
 ghost use Rattle.sched_model.specs.Priority.{key_of, stands_before, sum_before, allotment};
 ghost use Rattle.sched_model.specs.Demands.{demand_of};
-ghost use Rattle.plain_schedule.specs.Lists.{HasWorstsOf};
+ghost use Rattle.demand_list.specs.Demands.{HasWorstsOf};
 
 use crate::PlainTick;
 use crate::jobs::deadline;
@@ -46,7 +46,7 @@ pub(crate) fn stands_before(
 
 // What a task needs where it stands before task `i`, and else 0.
 fn needed_before(plan: &Admitted, demands: &Demands, past: &[PlainTick], j: u32, i: u32) -> u64
-    requires list { HasWorstsOf plan.now demands.now }
+    requires list { HasWorstsOf plan.now.tasks demands.now }
     requires one { j < count plan.now }
     requires other { i < count plan.now }
     ensures value { result ≡ (if stands_before (key_of plan.now.scheduler plan.now (length (reverse past.now))) j i then left plan.now (demand_of plan.now demands.now.rows) (reverse past.now) j else 0) }
@@ -61,7 +61,7 @@ fn needed_before(plan: &Admitted, demands: &Demands, past: &[PlainTick], j: u32,
 
 // What the tasks before a task need.
 fn needs_before(plan: &Admitted, demands: &Demands, past: &[PlainTick], task: u32) -> u128
-    requires list { HasWorstsOf plan.now demands.now }
+    requires list { HasWorstsOf plan.now.tasks demands.now }
     requires task { task < count plan.now }
     ensures value { result ≡ sum_before (count plan.now) (key_of plan.now.scheduler plan.now (length (reverse past.now))) (left plan.now (demand_of plan.now demands.now.rows) (reverse past.now)) task }
     ensures low { result ≤ 2 ^ 93 }
@@ -82,7 +82,7 @@ pub(crate) fn allotment(
     units: u64,
     task: u32,
 ) -> u64
-    requires list { HasWorstsOf plan.now demands.now }
+    requires list { HasWorstsOf plan.now.tasks demands.now }
     requires task { task < count plan.now }
     ensures { result ≡ allotment (count plan.now) (key_of plan.now.scheduler plan.now (length (reverse past.now))) units (left plan.now (demand_of plan.now demands.now.rows) (reverse past.now)) task }
 {

@@ -1,4 +1,4 @@
-use Rattle.std.proofs.Common.{◌≡◌, ℕ, ◌+◌, length, reverse, sym, arith}
+use Rattle.std.proofs.Common.{length, reverse, arith}
 use Rattle.sched_model.specs.Jobs.{deadline}
 use Rattle.sched_model.specs.Ticks.{wleft}
 use Rattle.sched_model.specs.Demands.{demand_of}
