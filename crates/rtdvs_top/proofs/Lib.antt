@@ -8,3 +8,4 @@ pub mod Published
 pub mod Picks
 pub mod Endings
 pub mod Telling
+pub mod Headlines

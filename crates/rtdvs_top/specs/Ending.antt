@@ -13,6 +13,7 @@ use Rattle.sched_model.specs.Demands.{demand_of}
 use Rattle.sched_model.specs.Demand.{published}
 use Rattle.sched_model.specs.Decision.{is_decision}
 use Rattle.sched_model.specs.Deadlines.{IsMet}
+use Rattle.sched_model.specs.Admission.{PassesTest}
 use Rattle.sched_model.specs.Schedule.{schedule, HasSchedule, HasNoOther}
 use Rattle.freq_table.specs.Tables.{lowest_pick}
 use Rattle.event_kernel.specs.Runs.{Run, notes_of_run, released_jobs, MeetsDeadlines, MeetsDemands}
@@ -74,11 +75,11 @@ abbrev pub TellsAllOf : GovernorKind → Plan → DemandsOf → ℕ → Status �
 TellsAllOf kind p d ticks status.Done = TellsDeadlines p ticks (run_text p kind (demand_of p d.rows) ticks)
 TellsAllOf kind p d ticks s = ⊤
 
--- a run that was done, of these tasks, met every deadline, its text tells each, and some entry met each published demand
--- unless it looks ahead
+-- a run that was done, of these tasks, was of an admitted plan; it met every deadline, its text tells each, and some entry
+-- met each published demand unless it looks ahead
 abbrev pub MetBy : Option Files → RunOf → List Task → Status → Type 0
 MetBy told r tasks status.Done =
-    (p : Plan) × (d : DemandsOf) × Gives told (prepared_of r tasks) (p, d) × MeetsAllOf r.governor p d r.ticks status.Done × TellsAllOf r.governor p d r.ticks status.Done × HasSchedule p × HasNoOther p
+    (p : Plan) × (d : DemandsOf) × Gives told (prepared_of r tasks) (p, d) × MeetsAllOf r.governor p d r.ticks status.Done × TellsAllOf r.governor p d r.ticks status.Done × PassesTest p.scheduler p × HasSchedule p × HasNoOther p
 MetBy told r tasks s = ⊤
 
 abbrev pub MetByCommand : Option Files → CommandOf → List Task → Status → Type 0

@@ -5,14 +5,16 @@ use Rattle.dvs_base.specs.Outside.{Files, AppendsPrefix}
 use Rattle.dvs_base.specs.declared.kind.GovernorKind.TheVariants.{Ahead}
 use Rattle.task_model.specs.declared.task.Task.{Task}
 use Rattle.demand_list.specs.Demands.{DemandsOf}
-use Rattle.sched_model.specs.Plan.{Plan}
+use Rattle.freq_table.specs.Tables.{Table}
+use Rattle.sched_model.specs.Plan.{Plan, plan_of}
+use Rattle.sched_model.specs.Admission.{PassesTest}
 use Rattle.sched_model.specs.Demands.{demand_of}
 use Rattle.sched_model.specs.Deadlines.{IsMet}
 use Rattle.sched_model.specs.Schedule.{schedule, HasSchedule, HasNoOther}
 use Rattle.sched_model.specs.Text.{run_text}
 use Rattle.done_lines.specs.DoneLines.{TellsDeadlines}
 use Rattle.rtdvs_top.specs.Words.{CommandOf, run}
-use Rattle.rtdvs_top.specs.Answer.{answer_of_command, prepared_of, tasks_at}
+use Rattle.rtdvs_top.specs.Answer.{answer_of_command, prepared_of, tasks_at, machine_at, demands_at}
 use Rattle.rtdvs_top.specs.Naming.{names_by}
 use Rattle.rtdvs_top.specs.Refusals.{status_text}
 use Rattle.rtdvs_top.specs.Causes.{LoadOf, PassesBefore, loads_of}
@@ -70,20 +72,32 @@ abbrev pub loads_asked : Option CommandOf → ℕ
 loads_asked (Some c) = loads_of c
 loads_asked None = 0
 
--- A run that is done is of the tasks, the admitted plan and the demands that its files give. Its schedule is the only one
--- of its length, each job that is due within it has had its demand by its deadline, and some entry meets each published
--- demand, unless it looks ahead. Its text tells for each such job once that it was done, not after its deadline.
-abbrev pub MeetsDeadlines : Option Files → Option CommandOf → Status → Type 0
-MeetsDeadlines (Some files) (Some (run r)) status.Done =
+-- The headline, of a run whose files are told.
+-- One that is done is of the tasks, the admitted plan and the demands that its files give. The scheduler's stated test
+-- passes at the highest speed. What was written is the text of the one plain tick schedule, in which each speed is the
+-- lowest entry that meets the governor's published demand, else the highest, and which has the energies of its segments
+-- and their sums. Each job that is due within the run has had its demand by its deadline, and of the text's lines exactly
+-- one tells its end, not after the deadline. Some entry meets each published demand, unless the governor looks ahead.
+-- One that is denied is of the tasks, the machine and the demands that its files give, and the test fails for them.
+abbrev pub Headline : Option Files → Option CommandOf → Status → Option (List ℕ) → Option (List ℕ) → Type 0
+Headline (Some files) (Some (run r)) status.Done old new =
     (tasks : List Task) × (p : Plan) × (d : DemandsOf)
     × (tasks_at r.tasks files ≡ Ok tasks)
     × (prepared_of r tasks files ≡ Ok (p, d))
+    × PassesTest p.scheduler p
+    × Appends old new (run_text p r.governor (demand_of p d.rows) r.ticks)
     × IsMet p (demand_of p d.rows) (schedule p r.governor (demand_of p d.rows) r.ticks)
-    × (r.governor ≢ Ahead → AlwaysMeets p r.governor (demand_of p d.rows) r.ticks)
     × TellsDeadlines p r.ticks (run_text p r.governor (demand_of p d.rows) r.ticks)
+    × (r.governor ≢ Ahead → AlwaysMeets p r.governor (demand_of p d.rows) r.ticks)
     × HasSchedule p
     × HasNoOther p
-MeetsDeadlines told c s = ⊤
+Headline (Some files) (Some (run r)) (status.NotAdmitted why) old new =
+    (tasks : List Task) × (machine : Table) × (d : DemandsOf)
+    × (tasks_at r.tasks files ≡ Ok tasks)
+    × (machine_at r.machine files ≡ Ok machine)
+    × (demands_at tasks r.demands files ≡ Ok d)
+    × (PassesTest r.scheduler (plan_of tasks machine r.scheduler) → ⊥)
+Headline told c s old new = ⊤
 
 -- the line of a status is noted, whole or in part, with the names of the command's tasks
 abbrev pub Notes : Option Files → Option CommandOf → Status → Option (List ℕ) → Option (List ℕ) → ℕ → ℕ → ℕ → ℕ → Type 0

@@ -2,6 +2,7 @@
 ghost use Rattle.std.specs.Prelude.{◌≡◌, ◌≢◌, ◌≤◌, ◌^◌, Ok, Err, IfOk, IfErr, OnOk, OnErr, flat_map, ◌<◌, length};
 ghost use Rattle.sched_model.specs.StaticDemand.{static_demand};
 ghost use Rattle.sched_model.specs.Plan.{plan_of};
+ghost use Rattle.sched_model.specs.Admission.{PassesTest};
 ghost use Rattle.sched_model.specs.States.{opening};
 ghost use Rattle.sched_model.specs.Schedule.{HasSchedule, HasNoOther};
 ghost use Rattle.sched_model.specs.Text.{trace_text};
@@ -327,10 +328,12 @@ pub(crate) fn run_plan<W: Sink>(
     ensures ended { Ended (answer_of_plan governor demands.now ticks plan.now) result (out.new ≡ out.old) (Wrote (W.written out.old) (W.written out.new) (W.faults out.old) (W.faults out.new) (W.sure out.old) (W.sure out.new)) (WroteSome (W.written out.old) (W.written out.new) (W.faults out.old) (W.faults out.new) (W.sure out.old)) }
     ensures met { MeetsAllOf governor plan.now demands.now ticks result }
     ensures told { TellsAllOf governor plan.now demands.now ticks result }
+    ensures test { PassesTest plan.now.scheduler plan.now }
     ensures exists { HasSchedule plan.now }
     ensures unique { HasNoOther plan.now }
     ensures loads { IsNoLoad result }
 {
+    plan.known();
     one_schedule(plan);
     told_deadlines(plan);
     run_pair(alloc, plan, demands, governor, ticks, out)

@@ -10,7 +10,7 @@ ghost use Rattle.rtdvs_top.specs.Naming.{names_of, NamedBy};
 ghost use Rattle.rtdvs_top.specs.Refusals.{status_text};
 ghost use Rattle.std.specs.Option.{option_copied};
 ghost use Rattle.rtdvs_top.specs.Ending.{EndedAs, MetBy, MetByCommand, MetIn};
-ghost use Rattle.rtdvs_top.specs.Promises.{Answers, Leaves, Writes, WritesPart, IsSureOf, LoadFailed, LoadsInOrder, loads_asked, MeetsDeadlines, Notes};
+ghost use Rattle.rtdvs_top.specs.Promises.{Answers, Leaves, Writes, WritesPart, IsSureOf, LoadFailed, LoadsInOrder, loads_asked, Headline, Notes};
 ghost use Rattle.rtdvs_top.specs.Writing.{Wrote, WroteSome, NotedAs};
 
 use crate::files::{load_demands, load_machine, load_tasks};
@@ -198,8 +198,8 @@ pub fn rtdvs<S: Shelf, W: Sink, E: Sink>(
     ensures part { result ≡ Status.Write → WritesPart (S.held shelf.old) (command_of (map string_bytes words.now)) (W.written out.old) (W.written out.new) }
     ensures leaves { Leaves result (out.new ≡ out.old) }
 
-    // deadlines and demands of a run
-    ensures deadlines { MeetsDeadlines (S.held shelf.old) (command_of (map string_bytes words.now)) result }
+    // admission, text, deadlines, speeds and energies of a run
+    ensures headline { Headline (S.held shelf.old) (command_of (map string_bytes words.now)) result (W.written out.old) (W.written out.new) }
 
     // where the outside is sure, it doesn't fail
     ensures sure { IsSureOf (S.held shelf.old) (command_of (map string_bytes words.now)) (W.sure out.old) → W.faults out.new ≡ W.faults out.old }
