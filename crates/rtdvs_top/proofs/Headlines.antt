@@ -1,5 +1,5 @@
 -- The headline, from how an answer ends and what its run met.
-use Rattle.std.proofs.Common.{◌≡◌, ℕ, ◌<◌, ◌≤◌, ◌*◌, Bool, true, false, List, [], length, Option, Some, None, Result, Ok, Err, refl, sym, ◌∙◌, ap, subst, arith, true≢false, nat_lt, if◌then◌else◌}
+use Rattle.std.proofs.Common.{◌≡◌, ℕ, ◌*◌, Bool, true, false, List, [], length, Option, Some, None, Result, Ok, Err, refl, sym, ◌∙◌, ap, subst, arith, true≢false, nat_lt, if◌then◌else◌}
 use Rattle.std.proofs.lemmas.Bool.Decides.{nat_tests}
 use Rattle.std.specs.Io.KnownBytes.{Appends}
 use Rattle.dvs_base.specs.Outside.{Files, file_of}
@@ -15,7 +15,7 @@ use Rattle.freq_table.specs.MachineFile.{machine_file}
 use Rattle.freq_table.specs.declared.fault.MachineFault.{MachineFault}
 use Rattle.freq_table.specs.declared.fault.MachineFault.TheVariants as machine_fault
 use Rattle.demand_list.specs.Demands.{DemandsOf}
-use Rattle.demand_list.specs.DemandFile.{demand_file, worst_list}
+use Rattle.demand_list.specs.DemandFile.{demand_file}
 use Rattle.demand_list.specs.declared.fault.DemandFault.{DemandFault}
 use Rattle.demand_list.specs.declared.fault.DemandFault.TheVariants as demand_fault
 use Rattle.sched_model.specs.Plan.{Plan, plan_of, hyper, top_speed}
@@ -25,7 +25,7 @@ use Rattle.sched_model.specs.Demands.{demand_of}
 use Rattle.sched_model.specs.Text.{run_text}
 use Rattle.event_kernel.specs.Runs.{released_jobs, most_jobs}
 use Rattle.rtdvs_top.specs.Words.{RunOf, CommandOf, run, admit}
-use Rattle.rtdvs_top.specs.Answer.{bytes_from, bytes_at, tasks_from, machine_from, demands_from, task_status, machine_status, demand_status, tasks_at, machine_at, demands_at, admission, admission_by, admission_from, first_overloaded, within_jobs, prepared_of, answer_of_prepared, answer_of_tasks, answer_of_command, longest}
+use Rattle.rtdvs_top.specs.Answer.{bytes_from, bytes_at, tasks_from, machine_from, demands_from, tasks_at, machine_at, demands_at, admission, admission_by, admission_from, within_jobs, prepared_of, answer_of_prepared, answer_of_tasks, answer_of_command, longest}
 use Rattle.rtdvs_top.specs.Promises.{Headline}
 use Rattle.rtdvs_top.specs.Ending.{EndedAs, MetIn}
 use Rattle.rtdvs_top.specs.declared.status.Denied.{Denied}

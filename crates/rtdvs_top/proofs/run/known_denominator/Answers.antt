@@ -1,5 +1,5 @@
 use Rattle.std.proofs.Common.{arith}
-use Rattle.one_speed.proofs.Fits.{static_den}
+use Rattle.sched_model.proofs.Weights.{static_den}
 use Rattle.rtdvs_top.proofs.run.known_denominator.Goals as goal
 
 pub returns-clause-some : goal.returns-clause-some

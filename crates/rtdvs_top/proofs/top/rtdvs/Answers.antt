@@ -1,4 +1,4 @@
-use Rattle.std.proofs.Common.{List, ℕ, Option, subst}
+use Rattle.std.proofs.Common.{Option, subst}
 use Rattle.rtdvs_top.specs.Words.{CommandOf}
 use Rattle.rtdvs_top.specs.Promises.{Headline}
 use Rattle.rtdvs_top.proofs.Endings.{as-leaves}
