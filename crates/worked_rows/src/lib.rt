@@ -2,7 +2,11 @@
 #![tactic(auto)]
 
 #[cfg(test)]
+mod against_definition;
+#[cfg(test)]
 mod calls;
+#[cfg(test)]
+mod choices;
 #[cfg(test)]
 mod made;
 #[cfg(test)]
