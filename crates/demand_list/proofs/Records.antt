@@ -1,18 +1,15 @@
--- One step of an iterator of records, as the records that are left.
+-- One read of a record, as the records that are left.
 use Rattle.std.proofs.Common.{◌≡◌, ◌⊎◌, inl, inr, ◌<◌, ◌≤◌, ℕ, zero, suc, ◌+◌, List, [], ◌∷◌, ◌++◌, length, Bool, true, false, Option, Some, None, refl, ap, sym, ◌∙◌, arith, Bor, add-one, subst}
-use Rattle.std.specs.Prelude.{if◌then◌else◌, IsSome, Ok, Err}
+use Rattle.std.specs.Prelude.{if◌then◌else◌, IsSome}
 use Rattle.csv.specs.Machine.{next_record, step, is_end, fields_after, field_after, ends_at_end, Read}
-use Rattle.csv.specs.Reading.{Reached, records, records_from, records_next, strip_bom, is_bom, default_config, source_of, ReadRecord, RowStep, FlexibleStep, ExplainsRead, is_flexible, stops_reader}
-use Rattle.csv.specs.Records.{Row, fields_of}
+use Rattle.csv.specs.Reading.{Reached, records, records_from, records_next, strip_bom, is_bom, default_config, ReadRecord, ExplainsRead, is_flexible, took_first, stops_reader}
 use Rattle.csv.specs.declared.error.ErrorKind.{ErrorKind}
 use Rattle.csv.specs.declared.error.ErrorKind.TheVariants as kind
-use Rattle.csv.specs.declared.error.Error.{Error}
 use Rattle.csv.specs.declared.parser.Config.{Config}
 use Rattle.csv.specs.declared.parser.State.{State}
 use Rattle.csv.specs.declared.parser.State.TheVariants as st
-use Rattle.csv.specs.declared.reader.Reader.{Reader}
 use Rattle.csv.proofs.ReadFacts.{rows-end, rows-more}
-use Rattle.demand_list.specs.Records.{Records, IsPlain, records_left, records_in, unread}
+use Rattle.demand_list.specs.Records.{TextReader, IsPlain, records_left, records_in, unread}
 
 -- a record takes a byte, or ends the text
 abbrev Shrinks : List ℕ → Option Read → Type 0
@@ -82,29 +79,25 @@ records_in-None : (s : State) (xs : List ℕ) → next_record default_config s [
 unfolding records_from
 records_in-None s xs e = rw (add-one (length xs), e) refl
 
--- what a reader over bytes in memory has left
-abbrev rest_of : Reader (Bor (List ℕ)) → Option (List ℕ)
-rest_of a = source_of (λ s. Some s.now) a
-
 one_reached : (s s2 : State) (xs z : List ℕ) (f : List (List ℕ)) → Reached default_config s xs (f ∷ []) s2 z → records_in s (Some xs) ≡ f ∷ records_in s2 (Some z)
 unfolding Reached
 one_reached s s2 xs z f h = records_in-Some s xs h.0 h.1 ∙ rw (h.2, h.3.0, h.3.1) refl
 
-reader_took : (a b : Reader (Bor (List ℕ))) (f : List (List ℕ)) (known : Option (List ℕ)) → a.config ≡ default_config → rest_of a ≡ known → IsSome known
-    → ReadRecord (λ s. Some s.now) a b true f → IsSome (rest_of b) × (records_in a.state known ≡ f ∷ records_in b.state (rest_of b))
+reader_took : (a b : TextReader) (f : List (List ℕ)) (known : Option (List ℕ)) → a.config ≡ default_config → unread a ≡ known → IsSome known
+    → ReadRecord (λ s. Some s.now) a b true f → IsSome (unread b) × (records_in a.state known ≡ f ∷ records_in b.state (unread b))
 unfolding Reached
 reader_took a b f None config e h r = absurd (cc)
 reader_took a b f (Some y) config e h r =
     let m = rows-more (λ (s : Bor (List ℕ)). Some s.now) a b f default_config a.state y y [] config e (refl, refl) r in
     rw m.1 (refl, one_reached a.state b.state y m.0 f m.2)
 
-reader_ended : (a b : Reader (Bor (List ℕ))) (known : Option (List ℕ)) → a.config ≡ default_config → rest_of a ≡ known → IsSome known
-    → ReadRecord (λ s. Some s.now) a b false [] → records_in a.state known ≡ []
-reader_ended a b None config e h r = refl
-reader_ended a b (Some y) config e h r = records_in-None a.state y (rows-end (λ (s : Bor (List ℕ)). Some s.now) a b [] default_config y config e r)
+reader_ended : (a b : TextReader) (f : List (List ℕ)) (known : Option (List ℕ)) → a.config ≡ default_config → unread a ≡ known → IsSome known
+    → ReadRecord (λ s. Some s.now) a b false f → records_in a.state known ≡ []
+reader_ended a b f None config e h r = refl
+reader_ended a b f (Some y) config e h r = records_in-None a.state y (rows-end (λ (s : Bor (List ℕ)). Some s.now) a b f default_config y config e r)
 
 -- an error of a reader that takes records of any length is one of the reader underneath or of memory
-reader_stopped : (a b : Reader (Bor (List ℕ))) (e : ErrorKind) → is_flexible a ≡ true → ExplainsRead (λ s. Some s.now) a b false e → stops_reader e ≡ true
+pub reader_stopped : (a b : TextReader) (e : ErrorKind) → is_flexible a ≡ true → ExplainsRead (λ s. Some s.now) a b false e → stops_reader e ≡ true
 reader_stopped a b (kind.Io e) h why = refl
 reader_stopped a b kind.OutOfMemory h why = refl
 reader_stopped a b (kind.UnequalLengths pos expected len) h why = let other = why.0 in absurd (cc)
@@ -112,17 +105,17 @@ reader_stopped a b (kind.Utf8 pos err) h why = let other = why.0 in absurd (cc)
 reader_stopped a b (kind.Serialize text) h why = absurd why
 reader_stopped a b (kind.Deserialize pos err) h why = absurd why
 
-pub step-record : (a b : Records) (x : Row) → IsPlain a → RowStep (λ s. Some s.now) a.rdr b.rdr b.left (Some (Ok x)) → FlexibleStep a.rdr b.rdr (Some (Ok x))
-    → IsPlain b × (records_left a ≡ fields_of x ∷ records_left b)
-step-record a b x h r flexible =
-    let took = reader_took a.rdr b.rdr (fields_of x) (unread a) h.config refl h.known r.0 in
-    (record { trim = r.0.3 ∙ h.trim; ready = inl r.1; turns = r.2; config = r.0.2 ∙ h.config; flexible = flexible ∙ h.flexible; known = took.0 }, took.1)
+-- a record that is read is the first of those that were left, and the reader stays plain
+pub left-read : (a b : TextReader) (f : List (List ℕ)) → IsPlain a → ReadRecord (λ s. Some s.now) a b true f → records_left a ≡ f ∷ records_left b
+left-read a b f h r = (reader_took a b f (unread a) h.config refl h.known r).1
 
-pub step-end : (a b : Records) → IsPlain a → RowStep (λ s. Some s.now) a.rdr b.rdr b.left None → records_left a ≡ []
-step-end a b h r = reader_ended a.rdr b.rdr (unread a) h.config refl h.known r
+pub IsPlain-read : (a b : TextReader) (f : List (List ℕ)) → IsPlain a → ReadRecord (λ s. Some s.now) a b true f → took_first b ≡ true → is_flexible b ≡ is_flexible a → IsPlain b
+IsPlain-read a b f h r first flexible =
+    record { trim = r.3 ∙ h.trim; ready = inl first; config = r.2 ∙ h.config; flexible = flexible ∙ h.flexible; known = (reader_took a b f (unread a) h.config refl h.known r).0 }
 
-pub step-error : (a b : Records) (e : Error) → IsPlain a → RowStep (λ s. Some s.now) a.rdr b.rdr b.left (Some (Err e)) → stops_reader e.kind ≡ true
-step-error a b e h r = reader_stopped a.rdr b.rdr e.kind h.flexible r
+-- where no record is read, none was left
+pub left-ended : (a b : TextReader) (f : List (List ℕ)) → IsPlain a → ReadRecord (λ s. Some s.now) a b false f → records_left a ≡ []
+left-ended a b f h r = reader_ended a b f (unread a) h.config refl h.known r
 
 -- a text has at most one record a byte, and one more
 next_few : (n : ℕ) (cfg : Config) (o : Option Read) → ((p : Read) → length (records_from cfg n p.1 p.2) ≤ n) → length (records_next (records_from cfg n) o) ≤ suc n

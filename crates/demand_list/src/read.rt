@@ -1,5 +1,5 @@
 // Demand files.
-ghost use Rattle.std.specs.Prelude.{codes, ◌≡◌, ◌≤◌, ◌<◌, ◌^◌, ◌+◌, ◌∷◌, [], Ok, Some, true, length, option_map, map, IfOk, IfErr, OnOk, IfSome, OnSome, IfNone, vec_len};
+ghost use Rattle.std.specs.Prelude.{codes, ◌≡◌, ◌≤◌, ◌<◌, ◌^◌, ◌+◌, ◌∷◌, [], Ok, Some, true, false, length, option_map, map, IfOk, IfErr, OnOk, vec_len};
 ghost use Rattle.csv.specs.Reading.{default_config, records, strip_bom, error_kind, stops_reader};
 ghost use Rattle.csv.specs.Records.{fields_of};
 ghost use Rattle.demand_list.specs.declared.fault.DemandFault.TheVariants as fault;
@@ -8,7 +8,7 @@ ghost use Rattle.demand_list.specs.DemandFile.{three_of, is_header, row_of, dema
 ghost use Rattle.demand_list.specs.Records.{IsPlain, records_left};
 
 use crate::{Column, DemandFault, Demands};
-use csv::{ByteRecord, ByteRecordsIntoIter, Error, ReaderBuilder};
+use csv::{ByteRecord, Error, Reader, ReaderBuilder};
 use dvs_base::{NoMemory, Short, whole};
 use std::alloc::Global;
 use task_model::TaskSet;
@@ -113,8 +113,8 @@ fn add_checked(
     }
 }
 
-// The records of a text: of any number of fields, and the first one like the others.
-fn records_of(alloc: Global, text: &[u8]) -> ByteRecordsIntoIter<&[u8]>
+// A reader of the records of a text: of any number of fields, and the first one like the others.
+fn reader_of(alloc: Global, text: &[u8]) -> Reader<&[u8]>
     ensures plain { IsPlain result }
     ensures all { records_left result ≡ records default_config (strip_bom text.now) }
     ensures few { length (records_left result) ≤ length text.now + 1 }
@@ -123,7 +123,6 @@ fn records_of(alloc: Global, text: &[u8]) -> ByteRecordsIntoIter<&[u8]>
         .has_headers(false)
         .flexible(true)
         .from_reader(alloc, text)
-        .into_byte_records()
 }
 
 // Why a record of a text in memory can't be had: of the errors of csv, those of the bytes don't come.
@@ -134,32 +133,31 @@ fn no_record(error: Error) -> DemandFault
     DemandFault::NoMemory
 }
 
-// The next record, where there is one.
-fn next_record(records: &mut ByteRecordsIntoIter<&[u8]>) -> Result<Option<ByteRecord>, DemandFault>
-    requires { IsPlain records.old }
-    ensures some { IfOk result (λ next. IfSome next (λ fields. records_left records.old ≡ fields_of fields ∷ records_left records.new)) }
-    ensures plain { IfOk result (λ next. OnSome next (IsPlain records.new)) }
-    ensures none { IfOk result (λ next. IfNone next (records_left records.old ≡ [])) }
+// Reads the fields of the next record. False where there is none.
+fn next_record(reader: &mut Reader<&[u8]>, fields: &mut ByteRecord) -> Result<bool, DemandFault>
+    requires { IsPlain reader.old }
+    ensures some { result ≡ Ok true → records_left reader.old ≡ fields_of fields.new ∷ records_left reader.new }
+    ensures plain { result ≡ Ok true → IsPlain reader.new }
+    ensures none { result ≡ Ok false → records_left reader.old ≡ [] }
     ensures err { IfErr result (λ e. e ≡ fault.NoMemory) }
 {
-    match records.next() {
-        Some(Ok(fields)) => Ok(Some(fields)),
-        Some(Err(e)) => Err(no_record(e)),
-        None => Ok(None),
+    match reader.read_byte_record(fields) {
+        Ok(found) => Ok(found),
+        Err(e) => Err(no_record(e)),
     }
 }
 
 // Takes the header.
-fn read_header(records: &mut ByteRecordsIntoIter<&[u8]>) -> Result<(), DemandFault>
-    requires { IsPlain records.old }
-    ensures left { IsUnlessMemory DemandFault.NoMemory (λ _. records_left records.new) result (after_header (records_left records.old)) }
-    ensures plain { OnOk result (IsPlain records.new) }
-    ensures fewer { OnOk result (length (records_left records.new) < length (records_left records.old)) }
+fn read_header(reader: &mut Reader<&[u8]>, fields: &mut ByteRecord) -> Result<(), DemandFault>
+    requires { IsPlain reader.old }
+    ensures left { IsUnlessMemory DemandFault.NoMemory (λ _. records_left reader.new) result (after_header (records_left reader.old)) }
+    ensures plain { OnOk result (IsPlain reader.new) }
+    ensures fewer { OnOk result (length (records_left reader.new) < length (records_left reader.old)) }
 {
-    match next_record(records)? {
-        Some(fields) if is_header(&fields) => Ok(()),
-        _ => Err(DemandFault::Header),
+    if next_record(reader, fields)? && is_header(fields) {
+        return Ok(());
     }
+    Err(DemandFault::Header)
 }
 
 // The declared worst cases.
@@ -192,19 +190,20 @@ pub fn worst_list(alloc: Global, tasks: &TaskSet) -> Result<Demands, DemandFault
 
 // The rows after the header, counted from 1.
 fn read_rows(
-    records: &mut ByteRecordsIntoIter<&[u8]>,
+    reader: &mut Reader<&[u8]>,
+    fields: &mut ByteRecord,
     tasks: &TaskSet,
     mut demands: Demands,
 ) -> Result<Demands, DemandFault>
-    requires plain { IsPlain records.old }
-    requires few { length (records_left records.old) + 1 < 2 ^ 64 }
+    requires plain { IsPlain reader.old }
+    requires few { length (records_left reader.old) + 1 < 2 ^ 64 }
     requires worsts { length demands.worsts ≡ length tasks.now }
     ensures worsts { IfOk result (λ d. d.worsts ≡ demands.worsts) }
-    ensures rows { IsUnlessMemory DemandFault.NoMemory (λ d. d) result (demands_from tasks.now 1 demands (records_left records.old)) }
+    ensures rows { IsUnlessMemory DemandFault.NoMemory (λ d. d) result (demands_from tasks.now 1 demands (records_left reader.old)) }
 {
     let mut row: u64 = 1;
-    while let Some(fields) = next_record(records)? {
-        let (task, job, units) = read_row(tasks, row, &fields)?;
+    while next_record(reader, fields)? {
+        let (task, job, units) = read_row(tasks, row, fields)?;
         add_checked(&mut demands, row, task, job, units)?;
         row += 1;
     }
@@ -219,9 +218,10 @@ impl Demands {
         ensures file { IsUnlessMemory DemandFault.NoMemory (λ d. d) result (demand_file tasks.now bytes.now) }
         ensures worsts { IfOk result (λ d. d.worsts ≡ map (λ t. t.worst) tasks.now) }
     {
-        let mut records = records_of(alloc, bytes);
-        read_header(&mut records)?;
+        let mut reader = reader_of(alloc, bytes);
+        let mut fields = ByteRecord::new(alloc);
+        read_header(&mut reader, &mut fields)?;
         let demands = worst_list(alloc, tasks)?;
-        read_rows(&mut records, tasks, demands)
+        read_rows(&mut reader, &mut fields, tasks, demands)
     }
 }

@@ -1,12 +1,14 @@
-use Rattle.demand_list.proofs.Records.{step-record, step-end}
+use Rattle.std.proofs.Common.{◌≡◌, true, false}
+use Rattle.csv.specs.Records.{fields_of}
+use Rattle.demand_list.proofs.Records.{left-read, left-ended}
 use Rattle.demand_list.proofs.read.next_record.Goals as goal
 
-pub returns-in-Some-Ok-clause-some : goal.returns-in-Some-Ok-clause-some
-returns-in-Some-Ok-clause-some c =
-    let s = rw (c.in-Some-Ok.is, c.in-Some-Ok.field-0-is) at (c.next.ensures.steps c.requires.turns c.requires.trim) in
-    (step-record c.args.records.now c.next.new.self c.in-Some-Ok.fields c.requires (s.0 c.requires.ready) s.3).1
+pub returns-in-Ok-clause-some : goal.returns-in-Ok-clause-some
+returns-in-Ok-clause-some c h =
+    let found : c.in-Ok.found ≡ true = cc in
+    left-read c.args.reader.now c.read_byte_record.new.self (fields_of c.read_byte_record.new.row) c.requires (rw found at (c.in-Ok.ensures.reads c.requires.trim c.requires.ready))
 
-pub returns-in-None-clause-none : goal.returns-in-None-clause-none
-returns-in-None-clause-none c =
-    let s = rw c.in-None.is at (c.next.ensures.steps c.requires.turns c.requires.trim) in
-    step-end c.args.records.now c.next.new.self c.requires (s.0 c.requires.ready)
+pub returns-in-Ok-clause-none : goal.returns-in-Ok-clause-none
+returns-in-Ok-clause-none c h =
+    let found : c.in-Ok.found ≡ false = cc in
+    left-ended c.args.reader.now c.read_byte_record.new.self (fields_of c.read_byte_record.new.row) c.requires (rw found at (c.in-Ok.ensures.reads c.requires.trim c.requires.ready))

@@ -6,11 +6,11 @@ use Rattle.demand_list.proofs.read.read_rows.Given as goal
 -- the list so far, and then the records that are left, are what all the records give
 abbrev pub invariant-loop-demands : goal.invariant-loop-demands
 invariant-loop-demands l = record {
-  plain : IsPlain l.records;
-  fits : l.row + length (records_left l.records) < 2 ^ 64;
+  plain : IsPlain l.reader;
+  fits : l.row + length (records_left l.reader) < 2 ^ 64;
   worsts : l.demands.worsts ≡ l.fn.demands.worsts;
-  rest : demands_from l.tasks 1 l.fn.demands (records_left l.fn.records) ≡ demands_from l.tasks l.row l.demands (records_left l.records);
+  rest : demands_from l.tasks 1 l.fn.demands (records_left l.fn.reader) ≡ demands_from l.tasks l.row l.demands (records_left l.reader);
 }
 
 abbrev pub decreases-loop-demands : goal.decreases-loop-demands
-decreases-loop-demands l = length (records_left l.records)
+decreases-loop-demands l = length (records_left l.reader)
