@@ -113,16 +113,19 @@ fn add_checked(
     }
 }
 
-// A reader of the records of a text: of any number of fields, and the first one like the others.
-fn reader_of(alloc: Global, text: &[u8]) -> Reader<&[u8]>
-    ensures plain { IsPlain result }
-    ensures all { records_left result ≡ records default_config (strip_bom text.now) }
-    ensures few { length (records_left result) ≤ length text.now + 1 }
+// A reader of the records of a text: of any number of fields, and the first one like the others. It has a header row
+// beforehand, an empty one, so that it keeps no copy of the first record.
+fn reader_of(alloc: Global, text: &[u8]) -> Result<Reader<&[u8]>, DemandFault>
+    ensures plain { IfOk result (λ reader. IsPlain reader) }
+    ensures all { IfOk result (λ reader. records_left reader ≡ records default_config (strip_bom text.now)) }
+    ensures few { IfOk result (λ reader. length (records_left reader) ≤ length text.now + 1) }
+    ensures err { IfErr result (λ e. e ≡ fault.NoMemory) }
 {
-    ReaderBuilder::new()
-        .has_headers(false)
-        .flexible(true)
-        .from_reader(alloc, text)
+    let mut reader = ReaderBuilder::new().flexible(true).from_reader(alloc, text);
+    match reader.set_byte_headers(ByteRecord::new(alloc)) {
+        Ok(()) => Ok(reader),
+        Err(_) => Err(DemandFault::NoMemory),
+    }
 }
 
 // Why a record of a text in memory can't be had: of the errors of csv, those of the bytes don't come.
@@ -218,7 +221,7 @@ impl Demands {
         ensures file { IsUnlessMemory DemandFault.NoMemory (λ d. d) result (demand_file tasks.now bytes.now) }
         ensures worsts { IfOk result (λ d. d.worsts ≡ map (λ t. t.worst) tasks.now) }
     {
-        let mut reader = reader_of(alloc, bytes);
+        let mut reader = reader_of(alloc, bytes)?;
         let mut fields = ByteRecord::new(alloc);
         read_header(&mut reader, &mut fields)?;
         let demands = worst_list(alloc, tasks)?;
