@@ -2,9 +2,7 @@
 use Rattle.std.proofs.Common.{◌≡◌, ◌⊎◌, inl, inr, ◌<◌, ◌≤◌, ℕ, zero, suc, ◌+◌, List, [], ◌∷◌, ◌++◌, length, Bool, true, false, Option, Some, None, refl, ap, sym, ◌∙◌, arith, Bor, add-one, subst}
 use Rattle.std.specs.Prelude.{if◌then◌else◌, IsSome}
 use Rattle.csv.specs.Machine.{next_record, step, is_end, fields_after, field_after, ends_at_end, Read}
-use Rattle.csv.specs.Reading.{Reached, records, records_from, records_next, strip_bom, is_bom, default_config, ReadRecord, ExplainsRead, is_flexible, took_first, stops_reader}
-use Rattle.csv.specs.declared.error.ErrorKind.{ErrorKind}
-use Rattle.csv.specs.declared.error.ErrorKind.TheVariants as kind
+use Rattle.csv.specs.Reading.{Reached, records, records_from, records_next, strip_bom, is_bom, default_config, ReadRecord}
 use Rattle.csv.specs.declared.parser.Config.{Config}
 use Rattle.csv.specs.declared.parser.State.{State}
 use Rattle.csv.specs.declared.parser.State.TheVariants as st
@@ -96,22 +94,9 @@ reader_ended : (a b : TextReader) (f : List (List ℕ)) (known : Option (List �
 reader_ended a b f None config e h r = refl
 reader_ended a b f (Some y) config e h r = records_in-None a.state y (rows-end (λ (s : Bor (List ℕ)). Some s.now) a b f default_config y config e r)
 
--- an error of a reader that takes records of any length is one of the reader underneath or of memory
-pub reader_stopped : (a b : TextReader) (e : ErrorKind) → is_flexible a ≡ true → ExplainsRead (λ s. Some s.now) a b false e → stops_reader e ≡ true
-reader_stopped a b (kind.Io e) h why = refl
-reader_stopped a b kind.OutOfMemory h why = refl
-reader_stopped a b (kind.UnequalLengths pos expected len) h why = let other = why.0 in absurd (cc)
-reader_stopped a b (kind.Utf8 pos err) h why = let other = why.0 in absurd (cc)
-reader_stopped a b (kind.Serialize text) h why = absurd why
-reader_stopped a b (kind.Deserialize pos err) h why = absurd why
-
--- a record that is read is the first of those that were left, and the reader stays plain
+-- a record that is read is the first of those that were left
 pub left-read : (a b : TextReader) (f : List (List ℕ)) → IsPlain a → ReadRecord (λ s. Some s.now) a b true f → records_left a ≡ f ∷ records_left b
 left-read a b f h r = (reader_took a b f (unread a) h.config refl h.known r).1
-
-pub IsPlain-read : (a b : TextReader) (f : List (List ℕ)) → IsPlain a → ReadRecord (λ s. Some s.now) a b true f → took_first b ≡ true → is_flexible b ≡ is_flexible a → IsPlain b
-IsPlain-read a b f h r first flexible =
-    record { trim = r.3 ∙ h.trim; ready = inl first; config = r.2 ∙ h.config; flexible = flexible ∙ h.flexible; known = (reader_took a b f (unread a) h.config refl h.known r).0 }
 
 -- where no record is read, none was left
 pub left-ended : (a b : TextReader) (f : List (List ℕ)) → IsPlain a → ReadRecord (λ s. Some s.now) a b false f → records_left a ≡ []
