@@ -1,7 +1,7 @@
 -- The text of a schedule that meets its deadlines tells each of them.
 use Rattle.std.proofs.Common.{◌≡◌, ℕ, zero, suc, ◌+◌, ◌-◌, ◌^◌, ◌<◌, ◌≤◌, Bool, true, false, not, ◌&&◌, ◌||◌, List, [], ◌∷◌, ◌++◌, length, drop, flat_map, map, refl, arith, if◌then◌else◌, ap, ap₂, ◌∙◌, sym, subst, true≢false, nat_eq, nat_lt, codes, get_or, ◌⊎◌, inl, inr}
 use Rattle.std.specs.Prelude.{decimal, sum_by}
-use Rattle.std.specs.List.{list_all}
+use Rattle.std.specs.List.{AllByRecursion, list_all}
 use Rattle.std.proofs.lemmas.Fmt.{decimal_injective}
 use Rattle.std.proofs.lemmas.List.{get_or-map, length-map, map-append}
 use Rattle.std.proofs.Math.ListN.{get_or-eq_default}
@@ -34,7 +34,7 @@ use Rattle.sched_model.proofs.ScheduleLemmas.{schedule_exists}
 use Rattle.sched_model.proofs.Service.{exec-most}
 use Rattle.sched_model.proofs.JobLaws.{release-due}
 use Rattle.done_lines.specs.DoneLines.{lines_of, IsDoneLine, IsBy, IsToldBy, TellsDeadlines, TextTellsDeadlines}
-use Rattle.done_lines.proofs.PlainLines.{IsPlain, Each, ArePlain, all-each, each-append, plain-decimal, plain-name, some-name, lines-line, field-same, and-left, and-right}
+use Rattle.done_lines.proofs.PlainLines.{IsPlain, ArePlain, all-each, each-append, plain-decimal, plain-name, some-name, lines-line, field-same, and-left, and-right}
 use Rattle.done_lines.proofs.DoneNotes.{tells_done, tells_late, times, times-append}
 use Rattle.done_lines.proofs.DoneCounts.{told-once, told-never, none-late}
 
@@ -89,7 +89,7 @@ note-fields ns (Idle from to units energy) = refl
 note-fields ns (Done q i k used) = refl
 note-fields ns (End t run idle) = refl
 
-plain-fields : (ns : List (List ℕ)) → ((i : ℕ) → ArePlain (name_of ns i)) → (n : Note) → Each ArePlain (fields_of ns n)
+plain-fields : (ns : List (List ℕ)) → ((i : ℕ) → ArePlain (name_of ns i)) → (n : Note) → AllByRecursion ArePlain (fields_of ns n)
 plain-fields ns named (Release t i k) = (plain-word (codes "release") refl, (plain-decimal t, (named i, (plain-decimal k, tt))))
 plain-fields ns named (Speed t f num den) = (plain-word (codes "speed") refl, (plain-decimal t, (plain-decimal f, (plain-fraction num den, tt))))
 plain-fields ns named (Run from to i k units energy) =
@@ -139,11 +139,11 @@ alone test (x ∷ xs) e = go (test x) refl (alone test xs)
         }
 
 -- none of a list passes
-none-pass : {A : Type 0} (test : A → Bool) (xs : List A) → times test xs ≡ 0 → Each (λ x. test x ≡ false) xs
+none-pass : {A : Type 0} (test : A → Bool) (xs : List A) → times test xs ≡ 0 → AllByRecursion (λ x. test x ≡ false) xs
 none-pass test [] e = tt
 none-pass test (x ∷ xs) e = go (test x) refl (none-pass test xs)
   where
-    go : (b : Bool) → test x ≡ b → (times test xs ≡ 0 → Each (λ y. test y ≡ false) xs) → (test x ≡ false) × Each (λ y. test y ≡ false) xs
+    go : (b : Bool) → test x ≡ b → (times test xs ≡ 0 → AllByRecursion (λ y. test y ≡ false) xs) → (test x ≡ false) × AllByRecursion (λ y. test y ≡ false) xs
     go true f ih = absurd (omega (arith, sym (ap (λ (c : Bool). if c then suc (times test xs) else times test xs) f) ∙ e))
     go false f ih = (f, ih (sym (ap (λ (c : Bool). if c then suc (times test xs) else times test xs) f) ∙ e))
 
@@ -185,22 +185,22 @@ silent ns named i k apart low n off small at_end d = go n off small (d.0, sym (n
         true≢false (sym found ∙ off)
 
 silent-lines : (ns : List (List ℕ)) → ((i : ℕ) → ArePlain (name_of ns i)) → (i k : ℕ) → ((j : ℕ) → name_of ns j ≡ name_of ns i → j ≡ i) → k < 2 ^ 64
-    → (notes : List Note) → Each (λ n. tells_done i k n ≡ false) notes → Each (λ n. (l : ℕ) → tells_done i l n ≡ true → l < 2 ^ 64) notes
-    → Each (λ l. (at_end : Pos) → IsDoneLine (name_of ns i) k at_end l → ⊥) (map (note_text ns) notes)
+    → (notes : List Note) → AllByRecursion (λ n. tells_done i k n ≡ false) notes → AllByRecursion (λ n. (l : ℕ) → tells_done i l n ≡ true → l < 2 ^ 64) notes
+    → AllByRecursion (λ l. (at_end : Pos) → IsDoneLine (name_of ns i) k at_end l → ⊥) (map (note_text ns) notes)
 silent-lines ns named i k apart low [] off small = tt
 silent-lines ns named i k apart low (n ∷ notes) off small =
     (silent ns named i k apart low n off.0 small.0, silent-lines ns named i k apart low notes off.1 small.1)
 
-each-before : {A : Type 0} (P : A → Type 0) (xs ys : List A) → Each P (xs ++ ys) → Each P xs
+each-before : {A : Type 0} (P : A → Type 0) (xs ys : List A) → AllByRecursion P (xs ++ ys) → AllByRecursion P xs
 each-before P [] ys e = tt
 each-before P (x ∷ xs) ys e = (e.0, each-before P xs ys e.1)
 
-each-after : {A : Type 0} (P : A → Type 0) (xs ys : List A) → Each P (xs ++ ys) → Each P ys
+each-after : {A : Type 0} (P : A → Type 0) (xs ys : List A) → AllByRecursion P (xs ++ ys) → AllByRecursion P ys
 each-after P [] ys e = e
 each-after P (x ∷ xs) ys e = each-after P xs ys e.1
 
 -- what holds where a test counts nothing or more
-each-counted : {A : Type 0} (tests : ℕ → A → Bool) (xs : List A) → ((l : ℕ) → 0 < times (tests l) xs → l < 2 ^ 64) → Each (λ x. (l : ℕ) → tests l x ≡ true → l < 2 ^ 64) xs
+each-counted : {A : Type 0} (tests : ℕ → A → Bool) (xs : List A) → ((l : ℕ) → 0 < times (tests l) xs → l < 2 ^ 64) → AllByRecursion (λ x. (l : ℕ) → tests l x ≡ true → l < 2 ^ 64) xs
 each-counted tests [] h = tt
 each-counted tests (x ∷ xs) h = (λ l e. h l (here l (tests l x) refl e), each-counted tests xs (λ l some. h l (there l (tests l x) refl some)))
   where
@@ -325,11 +325,11 @@ module _ (p : Plan) (dem : ℕ → ℕ → ℕ) (ask : List Tick → Frac) (lim 
     told-by : IsAlone (tells_done i k) notes → IsToldBy (name_of (names p) i) k (due p i k) (trace_text p.scheduler g t (names p) notes)
     told-by r = go r.one refl
       where
-        all_small : Each (λ n. (l : ℕ) → tells_done i l n ≡ true → l < 2 ^ 64) (r.front ++ r.one ∷ r.back)
-        all_small = subst (Each (λ n. (l : ℕ) → tells_done i l n ≡ true → l < 2 ^ 64)) r.parts (each-counted (tells_done i) notes (small i lt))
+        all_small : AllByRecursion (λ n. (l : ℕ) → tells_done i l n ≡ true → l < 2 ^ 64) (r.front ++ r.one ∷ r.back)
+        all_small = subst (AllByRecursion (λ n. (l : ℕ) → tells_done i l n ≡ true → l < 2 ^ 64)) r.parts (each-counted (tells_done i) notes (small i lt))
 
-        not_late : Each (λ n. tells_late (due p i k) i k n ≡ false) (r.front ++ r.one ∷ r.back)
-        not_late = subst (Each (λ n. tells_late (due p i k) i k n ≡ false)) r.parts (none-pass (tells_late (due p i k) i k) notes in-time)
+        not_late : AllByRecursion (λ n. tells_late (due p i k) i k n ≡ false) (r.front ++ r.one ∷ r.back)
+        not_late = subst (AllByRecursion (λ n. tells_late (due p i k) i k n ≡ false)) r.parts (none-pass (tells_late (due p i k) i k) notes in-time)
 
         go : (n : Note) → r.one ≡ n → IsToldBy (name_of (names p) i) k (due p i k) (trace_text p.scheduler g t (names p) notes)
         go (Release tick j l) e = absurd (true≢false (sym r.passes ∙ ap (tells_done i k) e))

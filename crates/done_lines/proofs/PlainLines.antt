@@ -1,7 +1,7 @@
 -- The lines of a text whose fields have neither a space nor a line feed.
 use Rattle.std.proofs.Common.{◌≡◌, ◌≢◌, ℕ, zero, suc, ◌+◌, ◌/◌, ◌%◌, Bool, true, false, ◌&&◌, List, [], ◌∷◌, ◌++◌, length, drop, refl, arith, if◌then◌else◌, ap, ap₂, ◌∙◌, sym, true≢false, append_assoc, nat_le, nat_lt, get_or}
 use Rattle.std.specs.Prelude.{decimal, ◌==◌}
-use Rattle.std.specs.List.{All, list_all}
+use Rattle.std.specs.List.{All, AllByRecursion, list_all}
 use Rattle.std.proofs.lemmas.Bool.Decides.{nat_tests}
 use Rattle.std.specs.Fmt.{digit_glyph, digits_onto, digits}
 use Rattle.dvs_base.specs.Text.{is_name, is_name_byte}
@@ -12,12 +12,8 @@ use Rattle.done_lines.specs.DoneLines.{lines_of, with_byte}
 abbrev pub IsPlain : ℕ → Type 0
 IsPlain b = (b ≢ 32) × (b ≢ 10)
 
--- it holds of each
-abbrev pub Each : {A : Type 0} → (A → Type 0) → List A → Type 0
-Each P [] = Unit {0}
-Each P (x ∷ xs) = P x × Each P xs
-
-pub all-each : {A : Type 0} (P : A → Type 0) (xs : List A) → Each P xs → All P xs
+-- what holds of each by recursion holds of each
+pub all-each : {A : Type 0} (P : A → Type 0) (xs : List A) → AllByRecursion P xs → All P xs
 all-each P [] e = λ k d lt. absurd (omega arith)
 all-each P (x ∷ xs) e = go (all-each P xs e.1)
   where
@@ -25,12 +21,12 @@ all-each P (x ∷ xs) e = go (all-each P xs e.1)
     go h zero d lt = e.0
     go h (suc k) d lt = h k d (omega arith)
 
-pub each-append : {A : Type 0} (P : A → Type 0) (xs ys : List A) → Each P xs → Each P ys → Each P (xs ++ ys)
+pub each-append : {A : Type 0} (P : A → Type 0) (xs ys : List A) → AllByRecursion P xs → AllByRecursion P ys → AllByRecursion P (xs ++ ys)
 each-append P [] ys e f = f
 each-append P (x ∷ xs) ys e f = (e.0, each-append P xs ys e.1 f)
 
 abbrev pub ArePlain : List ℕ → Type 0
-ArePlain = Each IsPlain
+ArePlain = AllByRecursion IsPlain
 
 plain-digits : (k n : ℕ) (acc : List ℕ) → ArePlain acc → ArePlain (digits_onto k 10 false n acc)
 plain-digits zero n acc plain = plain
@@ -88,13 +84,13 @@ line-body (field ∷ other ∷ fields) =
 
 -- no byte is a line feed
 abbrev pub NoFeed : List ℕ → Type 0
-NoFeed = Each (λ b. b ≢ 10)
+NoFeed = AllByRecursion (λ b. b ≢ 10)
 
 plain-feed : (bytes : List ℕ) → ArePlain bytes → NoFeed bytes
 plain-feed [] p = tt
 plain-feed (b ∷ bytes) p = (p.0.1, plain-feed bytes p.1)
 
-body-feed : (fields : List (List ℕ)) → Each ArePlain fields → NoFeed (body fields)
+body-feed : (fields : List (List ℕ)) → AllByRecursion ArePlain fields → NoFeed (body fields)
 body-feed [] p = tt
 body-feed (field ∷ []) p = plain-feed field p.0
 body-feed (field ∷ other ∷ fields) p =
@@ -107,7 +103,7 @@ first-line (b ∷ bytes) rest none =
     rw other (ap (with_byte b) (first-line bytes rest none.1))
 
 -- a line of plain fields is the first of a text that begins with it
-pub lines-line : (fields : List (List ℕ)) (rest : List ℕ) → Each ArePlain fields → lines_of (line fields ++ rest) ≡ line fields ∷ lines_of rest
+pub lines-line : (fields : List (List ℕ)) (rest : List ℕ) → AllByRecursion ArePlain fields → lines_of (line fields ++ rest) ≡ line fields ∷ lines_of rest
 lines-line fields rest p =
     ap (λ l. lines_of (l ++ rest)) (line-body fields)
     ∙ (ap lines_of (append_assoc (body fields) (10 ∷ []) rest)

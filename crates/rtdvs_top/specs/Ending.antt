@@ -58,7 +58,7 @@ AlwaysMeets p kind dem ticks =
     (t : ℕ) → t < ticks → is_decision p dem (schedule p kind dem t) ≡ true
     → (lowest_pick p.machine (published p kind dem (schedule p kind dem t))).met ≡ true
 
--- a run that wrote something meets every deadline, and every demand unless it looks ahead
+-- a run that was done meets every deadline, and every demand unless it looks ahead
 abbrev pub MeetsAll : GovernorKind → (Plan → StateOf → Frac) → Plan → DemandsOf → ℕ → Status → Type 0
 MeetsAll kind demand p d ticks status.Done = MeetsDeadlines demand (run_of p d ticks) × (kind ≢ Ahead → MeetsDemands demand (run_of p d ticks))
 MeetsAll kind demand p d ticks s = ⊤

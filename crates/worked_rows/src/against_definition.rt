@@ -2,21 +2,18 @@
 // units for a millisecond at full speed.
 ghost use Rattle.std.specs.Prelude.{◌≡◌, IfOk};
 ghost use Rattle.sched_model.specs.States.{opening};
-ghost use Rattle.governor.specs.Serving.{ServesEdf, ServesRm};
 ghost use Rattle.event_kernel.specs.Runs.{IsListOf};
 
-use crate::calls::{PAPER_DEMANDS, PAPER_MACHINE, PAPER_TASKS};
+use crate::calls::PAPER_DEMANDS;
+use crate::plans::{edf_plan, paper_tasks, rm_plan};
 use cc_edf::CcEdf;
 use cc_rm::CcRm;
 use demand_list::Demands;
 use dvs_base::{Note, Pos};
-use edf_admit::edf_admit;
 use event_kernel::{Kernel, Listener, Stopped};
-use freq_table::Machine;
 use governor::Governor;
 use look_ahead::LookAhead;
 use plain_schedule::{PlainTick, plain_schedule};
-use rm_admit::rm_admit;
 use sched_model::Admitted;
 use static_gov::{Full, Static};
 use std::alloc::Global;
@@ -134,30 +131,6 @@ fn agrees<G: Governor>(
     Ok(heard.are(plan, &ticks))
 }
 
-// The plan of these tasks on the example's machine under EDF.
-fn edf_plan(alloc: Global, tasks: &TaskSet) -> Result<Admitted, Fail>
-    ensures serves { IfOk result (λ plan. ServesEdf plan.scheduler) }
-    ensures tasks { IfOk result (λ plan. plan.tasks ≡ tasks.now) }
-{
-    let machine = Machine::read(alloc, PAPER_MACHINE.as_bytes()).map_err(|_| "machine")?;
-    match edf_admit(alloc, tasks, &machine) {
-        Ok(plan) => Ok(plan),
-        Err(_) => Err("plan")?,
-    }
-}
-
-// The plan of these tasks on the example's machine under RM.
-fn rm_plan(alloc: Global, tasks: &TaskSet) -> Result<Admitted, Fail>
-    ensures serves { IfOk result (λ plan. ServesRm plan.scheduler) }
-    ensures tasks { IfOk result (λ plan. plan.tasks ≡ tasks.now) }
-{
-    let machine = Machine::read(alloc, PAPER_MACHINE.as_bytes()).map_err(|_| "machine")?;
-    match rm_admit(alloc, tasks, &machine) {
-        Ok(plan) => Ok(plan),
-        Err(_) => Err("plan")?,
-    }
-}
-
 // The example's demands for a plan of these tasks.
 fn demands_of(alloc: Global, tasks: &TaskSet, plan: &Admitted) -> Result<Demands, Fail>
     requires { plan.now.tasks ≡ tasks.now }
@@ -172,7 +145,7 @@ fn demands_of(alloc: Global, tasks: &TaskSet, plan: &Admitted) -> Result<Demands
 #[test]
 fn edf_runs_are_the_definition(rt: HostRuntime) -> Result<(), Fail> {
     let alloc = rt.alloc();
-    let tasks = TaskSet::read(alloc, PAPER_TASKS.as_bytes()).map_err(|_| "tasks")?;
+    let tasks = paper_tasks(alloc)?;
     let plan = edf_plan(alloc, &tasks)?;
     let demands = demands_of(alloc, &tasks, &plan)?;
     let full = Full::new(alloc, &plan)?;
@@ -189,7 +162,7 @@ fn edf_runs_are_the_definition(rt: HostRuntime) -> Result<(), Fail> {
 #[test]
 fn rm_runs_are_the_definition(rt: HostRuntime) -> Result<(), Fail> {
     let alloc = rt.alloc();
-    let tasks = TaskSet::read(alloc, PAPER_TASKS.as_bytes()).map_err(|_| "tasks")?;
+    let tasks = paper_tasks(alloc)?;
     let plan = rm_plan(alloc, &tasks)?;
     let demands = demands_of(alloc, &tasks, &plan)?;
     let full = Full::new(alloc, &plan)?;

@@ -1,24 +1,19 @@
 // The choice of each governor at the first decision of the example of Pillai and Shin 2001, with 4 units for a
 // millisecond at full speed. The demands are worked out by hand.
-ghost use Rattle.std.specs.Prelude.{◌≡◌, IfOk};
+ghost use Rattle.std.specs.Prelude.{◌≡◌};
 ghost use Rattle.sched_model.specs.States.{opening, IsOfPlan};
-ghost use Rattle.governor.specs.Serving.{ServesEdf, ServesRm};
 ghost use Rattle.governor.specs.Steps.{IsAtDecision};
 
-use crate::calls::{PAPER_MACHINE, PAPER_TASKS};
+use crate::plans::{edf_plan, paper_tasks, rm_plan};
 use cc_edf::CcEdf;
 use cc_rm::CcRm;
-use edf_admit::edf_admit;
-use freq_table::Machine;
 use governor::{Choice, Governor};
 use grid_fraction::Frac;
 use look_ahead::LookAhead;
-use rm_admit::rm_admit;
 use sched_model::{Admitted, State};
 use static_gov::{Full, Static};
 use std::alloc::Global;
 use std::test::Fail;
-use task_model::TaskSet;
 
 // The first job of each task is released, and the tick is marked.
 fn release_all<G: Governor>(plan: &Admitted, governor: &mut G, state: &mut State)
@@ -59,34 +54,11 @@ fn choice(index: u32, num: u128, den: u128) -> Choice {
     }
 }
 
-// The plan of the example under EDF.
-fn edf_plan(alloc: Global) -> Result<Admitted, Fail>
-    ensures { IfOk result (λ plan. ServesEdf plan.scheduler) }
-{
-    let tasks = TaskSet::read(alloc, PAPER_TASKS.as_bytes()).map_err(|_| "tasks")?;
-    let machine = Machine::read(alloc, PAPER_MACHINE.as_bytes()).map_err(|_| "machine")?;
-    match edf_admit(alloc, &tasks, &machine) {
-        Ok(plan) => Ok(plan),
-        Err(_) => Err("plan")?,
-    }
-}
-
-// The plan of the example under RM.
-fn rm_plan(alloc: Global) -> Result<Admitted, Fail>
-    ensures { IfOk result (λ plan. ServesRm plan.scheduler) }
-{
-    let tasks = TaskSet::read(alloc, PAPER_TASKS.as_bytes()).map_err(|_| "tasks")?;
-    let machine = Machine::read(alloc, PAPER_MACHINE.as_bytes()).map_err(|_| "machine")?;
-    match rm_admit(alloc, &tasks, &machine) {
-        Ok(plan) => Ok(plan),
-        Err(_) => Err("plan")?,
-    }
-}
-
 #[test]
 fn first_choices_under_edf(rt: HostRuntime) -> Result<(), Fail> {
     let alloc = rt.alloc();
-    let plan = edf_plan(alloc)?;
+    let tasks = paper_tasks(alloc)?;
+    let plan = edf_plan(alloc, &tasks)?;
     let full = Full::new(alloc, &plan)?;
     assert_eq!(rt; first_choice(alloc, &plan, full)?, choice(2, 4, 1));
     let fixed = Static::new(alloc, &plan)?;
@@ -101,7 +73,8 @@ fn first_choices_under_edf(rt: HostRuntime) -> Result<(), Fail> {
 #[test]
 fn first_choices_under_rm(rt: HostRuntime) -> Result<(), Fail> {
     let alloc = rt.alloc();
-    let plan = rm_plan(alloc)?;
+    let tasks = paper_tasks(alloc)?;
+    let plan = rm_plan(alloc, &tasks)?;
     let full = Full::new(alloc, &plan)?;
     assert_eq!(rt; first_choice(alloc, &plan, full)?, choice(2, 4, 1));
     let fixed = Static::new(alloc, &plan)?;

@@ -16,6 +16,7 @@ fn numbers_have_one_spelling(rt: HostRuntime) {
         ("18446744073709551616", None),
         ("", None),
         ("007", None),
+        ("+7", None),
     ] {
         assert_eq!(rt; whole(text.as_bytes()), want, "{text}");
     }
