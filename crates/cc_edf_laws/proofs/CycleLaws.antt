@@ -1,5 +1,5 @@
 -- The laws of cycle-conserving EDF.
-use Rattle.std.proofs.Common.{◌≡◌, inl, inr, ℕ, ◌+◌, ◌-◌, ◌*◌, ◌/◌, ◌<◌, ◌≤◌, ◌^◌, min, true, List, length, refl, ap, arith}
+use Rattle.std.proofs.Common.{◌≡◌, inl, inr, ℕ, ◌+◌, ◌-◌, ◌*◌, ◌/◌, ◌<◌, ◌≤◌, ◌^◌, min, true, false, List, length, refl, ap, sym, ◌∙◌, arith}
 use Rattle.std.specs.Prelude.{if◌then◌else◌}
 use Rattle.std.proofs.Math.Nat.{mul-le-mul_right, mul-zero, le_of_mul-le-mul_left}
 use Rattle.std.proofs.lemmas.Bool.{le-leb, cases_lt}
@@ -102,12 +102,17 @@ module _ (plan : Plan) (lim : IsWithinLimits plan) (dem : ℕ → ℕ → ℕ) (
     abbrev next : StateOf
     next = after_tick dem shares s
 
-    soon : (i : ℕ) → i < count plan → (row_at s i).deadline ≤ s.now + period plan i
-    soon i h =
-        let e = bel.deadline i h in
-        let r = bel.released i h in
-        let near = due_soon (row_at s i).job (period plan i) in
-        omega arith
+    -- an open job is no job 0, so it is due within a period
+    soon : (i : ℕ) → i < count plan → (row_at s i).done ≡ false → (row_at s i).deadline ≤ s.now + period plan i
+    soon i h open_job =
+        elim (cases_lt 0 (row_at s i).job) [
+          | inl born ↦
+              let e = bel.deadline i h in
+              let r = bel.released i h in
+              let near = due_soon plan i (row_at s i).job born in
+              omega arith
+          | inr none ↦ absurd (let closed : (row_at s i).done ≡ true = (bel.no_job i h (omega arith)).0 in let bad : true ≡ false = sym closed ∙ open_job in cc)
+        ]
 
     -- where the speed covers what is due by d, nothing is owed by then
     all_done : (d : ℕ) → sum_where (count plan) (due_by s d) (left dem s) ≤ f → due_work plan next d ≡ 0

@@ -76,7 +76,7 @@ tick_close h q p need used worst sh k whole le is most =
     rw (b, is) (subst (λ (w : ℕ). h * sh + w * q * (k + 1) ≤ h * (sh + c) + need * q * k + w * q) (sym a) by)
 
 -- of the tasks due by d, each unit is paid for: the work falls by it, and the credit by the rate of one tick at most
-pub tick_pays : (done : Bool) (h q p need used worst due now d sh : ℕ) → q * p ≡ h → now + 1 ≤ due → now + 1 ≤ d → due ≤ now + p → (done ≡ false → used < need) → need ≤ worst → sh ≤ (if done then 0 else need - used) → (d < due → sh ≡ 0)
+pub tick_pays : (done : Bool) (h q p need used worst due now d sh : ℕ) → q * p ≡ h → now + 1 ≤ due → now + 1 ≤ d → (done ≡ false → due ≤ now + p) → (done ≡ false → used < need) → need ≤ worst → sh ≤ (if done then 0 else need - used) → (d < due → sh ≡ 0)
     → h * (if nat_le due d then (if (done || (used + sh == need)) then 0 else worst - (used + sh)) else 0) + h * (if nat_le due d then sh else 0) + (if done then used else worst) * q * (min d due - now)
     ≤ h * (if nat_le due d then (if done then 0 else worst - used) else 0) + (if (done || (used + sh == need)) then used + sh else worst) * q * (min d due - (now + 1)) + (if done then used else worst) * q
 tick_pays true h q p need used worst due now d sh whole lo ld soon open_job most own none =
@@ -98,7 +98,7 @@ tick_pays false h q p need used worst due now d sh whole lo ld soon open_job mos
           (elim (cases_lt d due) [
             | inl later ↦ absurd (omega (arith, none later))
             | inr by ↦
-                let near : k ≤ p = omega arith in
+                let near : k ≤ p = omega (arith, soon refl) in
                 rw (le-leb due d by) (let t = tick_close h q p need used worst sh k whole near is most in omega (arith, t, mul-zero h))
           ])
       | inr goes ↦

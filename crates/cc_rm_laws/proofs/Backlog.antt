@@ -1,6 +1,7 @@
 -- The schedule under static with every job at its worst case: what releases and ticks make of what its jobs lack.
-use Rattle.std.proofs.Common.{◌≡◌, ◌≢◌, ℕ, zero, suc, ◌+◌, ◌-◌, ◌*◌, ◌<◌, ◌≤◌, Bool, true, false, List, [], ◌∷◌, length, refl, sym, ◌∙◌, ap, subst, arith, if◌then◌else◌, nat_eq}
-use Rattle.std.proofs.Math.Nat.{zero-mul}
+use Rattle.std.proofs.Common.{◌≡◌, ◌≢◌, ℕ, zero, suc, ◌+◌, ◌-◌, ◌*◌, ◌<◌, ◌≤◌, Bool, true, false, List, [], ◌∷◌, length, refl, sym, ◌∙◌, ap, subst, arith, if◌then◌else◌, nat_eq, inl, inr}
+use Rattle.std.proofs.Math.Nat.{zero-sub}
+use Rattle.std.proofs.lemmas.Bool.{cases_lt}
 use Rattle.std.proofs.lemmas.Bool.Decides.{nat_tests}
 use Rattle.dvs_base.specs.declared.kind.Scheduler.{Scheduler}
 use Rattle.dvs_base.specs.declared.kind.Scheduler.TheVariants.{Rm}
@@ -9,7 +10,7 @@ use Rattle.grid_fraction.specs.declared.Frac.{Frac}
 use Rattle.grid_fraction.specs.Numbers.{sum_where}
 use Rattle.grid_fraction.proofs.Sums.{sum_below-same}
 use Rattle.freq_table.specs.Tables.{speed_at, lowest_entry}
-use Rattle.sched_model.specs.Plan.{Plan, count, period, worst, point}
+use Rattle.sched_model.specs.Plan.{Plan, count, period, offset, worst, point}
 use Rattle.sched_model.specs.Jobs.{due, latest}
 use Rattle.sched_model.specs.Ticks.{Tick, exec, share, left}
 use Rattle.sched_model.specs.Demand.{published}
@@ -21,7 +22,7 @@ use Rattle.sched_model.specs.StaticDemand.{static_demand_of, static_demand, rm_s
 use Rattle.sched_model.specs.Backlog.{lacking, level_lacking, backlog}
 use Rattle.sched_model.specs.Admission.{IsAdmitted}
 use Rattle.sched_model.proofs.Limits.{some_period}
-use Rattle.sched_model.proofs.JobLaws.{release-suc, due-suc, lt-due, latest-is, latest-pos, latest-stays, exec-latest, exec-early, worst_demand-pos}
+use Rattle.sched_model.proofs.JobLaws.{due-none, release-suc, due-suc, lt-due, latest-is, latest-none, latest-stays, exec-legal, exec-early, worst_demand-pos}
 use Rattle.sched_model.proofs.PriorityLemmas.{before-trans}
 use Rattle.sched_model.proofs.DownSets.{down-set-gets}
 use Rattle.sched_model.proofs.LevelSums.{sum_where-plus, sum_where-zero, share-most, up_to-trans, sum_up_to-where}
@@ -106,10 +107,6 @@ before_down p i = λ j k hj hk b on. before-trans (period p) j k i b on
 abbrev pub IsQuiet : Plan → ℕ → ℕ → Type 0
 IsQuiet p t j = (k : ℕ) → t ≡ due p j k → ⊥
 
-due-zero : (p : Plan) (i : ℕ) → due p i 0 ≡ 0
-unfolding due
-due-zero p i = zero-mul (period p i)
-
 module _ (p : Plan) (adm : IsAdmitted p) where
   -- a tick takes each task's units from what it lacks
   lack-suc : p.scheduler ≡ Rm → (t i : ℕ) → i < count p → lack p (suc t) i + share (tick_at p t) i ≡ lack_after p t i
@@ -120,8 +117,8 @@ module _ (p : Plan) (adm : IsAdmitted p) where
       let back : length (x ∷ past) - 1 ≡ length past = omega arith in
       let now : lack p (suc t) i ≡ worst_demand p i k - exec p (x ∷ past) i k =
       ap (λ (ticks : List Tick). lacking p ticks i) (ticks-suc p t) ∙ ap (λ (n : ℕ). worst_demand p i (latest p i n) - exec p (x ∷ past) i (latest p i n)) back in
-      let more = exec-latest p x past i (some_period p adm.limits i h) (latest-pos p i (length past)) in
       let most = share-most (count p) (period p) (static_speed p) (lack_after p t) (share x) (tick-legal p rm t) i h in
+      let more = exec-legal p (worst_demand p) x past i (some_period p adm.limits i h) refl most in
       omega (arith, now, more, most)
 
   -- so the static speed from each set
@@ -152,13 +149,20 @@ module _ (p : Plan) (adm : IsAdmitted p) where
 
   -- where a task has no release, nothing is added
   pub quiet_row : (t j : ℕ) → j < count p → IsQuiet p t j → lack_after p t j ≡ lack p t j
-  quiet_row zero j h quiet = absurd (quiet 0 (sym (due-zero p j)))
+  quiet_row zero j h quiet =
+      let ticks = worst_ticks p 0 in
+      let late : 0 < offset p j = elim (cases_lt 0 (offset p j)) [ inl late ↦ late | inr now ↦ absurd (quiet 0 (omega (arith, now, due-none p j))) ] in
+      let job : latest p j (length ticks) ≡ 0 = ap (latest p j) (ticks-long p 0) ∙ latest-none p j 0 late in
+      ap (λ (k : ℕ). worst_demand p j k - exec p ticks j k) job ∙ zero-sub (exec p ticks j 0)
   quiet_row (suc t) j h quiet = same_job t j h (quiet (latest p j t))
 
   -- where its job is due, it lacks nothing
   pub lack-none : (t i k : ℕ) → i < count p → t ≡ due p i k → lack p t i ≡ 0
   lack-none zero i k h e = refl
-  lack-none (suc t) i zero h e = absurd (omega (arith, e, due-zero p i))
+  lack-none (suc t) i zero h e =
+      let ticks = worst_ticks p (suc t) in
+      let before : length ticks - 1 < offset p i = omega (arith, ticks-long p (suc t), e, due-none p i) in
+      ap (λ (k : ℕ). worst_demand p i k - exec p ticks i k) (latest-none p i (length ticks - 1) before) ∙ zero-sub (exec p ticks i 0)
   lack-none (suc t) i (suc k) h e = lacking-none p adm (suc t) i (suc k) h (omega arith) e
 
   -- and the next one its whole worst case

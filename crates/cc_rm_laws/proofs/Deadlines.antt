@@ -14,7 +14,7 @@ use Rattle.sched_model.specs.Backlog.{backlog}
 use Rattle.sched_model.specs.Admission.{IsAdmitted}
 use Rattle.sched_model.specs.States.{StateOf, row_at, row_wleft}
 use Rattle.sched_model.proofs.Limits.{some_task, some_period}
-use Rattle.sched_model.proofs.JobLaws.{latest-is, release-suc, release-due, due-suc}
+use Rattle.sched_model.proofs.JobLaws.{latest-is, latest-unique, latest_since-pos, release-suc, release-due, due-suc}
 use Rattle.sched_model.proofs.LevelSums.{sum_where-term, up_to-self, greatest-above, greatest-least}
 use Rattle.governor.specs.Steps.{is_due, opened_row, after_boundary, wleft_at, release_of, earliest, Belongs}
 use Rattle.governor.proofs.Rows.{wleft-most}
@@ -27,14 +27,6 @@ use Rattle.cc_rm_laws.specs.Conditions.{CcRmCalm}
 use Rattle.cc_rm_laws.proofs.Allotting.{allotment-most}
 use Rattle.cc_rm_laws.proofs.Backlog.{lack, lack_after, lack-is, IsQuiet, quiet_row, lack-none, released-lack, after-least, backlog-empties}
 
-due-is : (p : Plan) (i k : ℕ) → due p i k ≡ k * period p i
-unfolding due
-due-is p i k = refl
-
-release-is : (p : Plan) (i k : ℕ) → release p i k ≡ (k - 1) * period p i
-unfolding release
-release-is p i k = refl
-
 module _ (plan : Plan) (adm : IsAdmitted plan) (dem : ℕ → ℕ → ℕ) (s : StateOf) (bel : Belongs plan dem s) where
   pub now-first : s.now ≤ earliest plan s
   now-first = least-above (count plan) (λ i. (row_at s i).deadline) s.now (some_task plan adm.limits) bel.due
@@ -42,33 +34,33 @@ module _ (plan : Plan) (adm : IsAdmitted plan) (dem : ℕ → ℕ → ℕ) (s : 
   pub first-due : (i : ℕ) → i < count plan → earliest plan s ≤ (row_at s i).deadline
   first-due i h = least-below (count plan) (λ i. (row_at s i).deadline) i h
 
-  released-by : (i : ℕ) → i < count plan → release_of (period plan i) (row_at s i) ≤ s.base_at
-  released-by i h = omega (arith, greatest-above (count plan) (λ j. release_of (period plan j) (row_at s j)) i h, bel.base_at)
+  released-by : (i : ℕ) → i < count plan → release_of plan i (row_at s i) ≤ s.base_at
+  released-by i h = omega (arith, greatest-above (count plan) (λ j. release_of plan j (row_at s j)) i h, bel.base_at)
 
   base-by : s.base_at ≤ s.now
-  base-by = omega (arith, greatest-least (count plan) (λ j. release_of (period plan j) (row_at s j)) s.now bel.released, bel.base_at)
+  base-by = omega (arith, greatest-least (count plan) (λ j. release_of plan j (row_at s j)) s.now bel.released, bel.base_at)
 
   pub allotted-most : (i : ℕ) → allotted plan s i ≤ base_of s i
   allotted-most i = allotment-most (count plan) (period plan) (allotted_units plan s) (base_of s) i
 
   -- a row's job is due where its next one is released
   pub row-due : (i : ℕ) → i < count plan → (row_at s i).deadline ≡ due plan i (row_at s i).job
-  row-due i h = bel.deadline i h ∙ sym (due-is plan i (row_at s i).job)
+  row-due i h = bel.deadline i h
 
-  row-release : (i : ℕ) → release plan i (row_at s i).job ≡ release_of (period plan i) (row_at s i)
-  row-release i = release-is plan i (row_at s i).job
+  row-release : (i : ℕ) → 0 < (row_at s i).job → release plan i (row_at s i).job ≡ release_of plan i (row_at s i)
+  row-release i born = sym (latest_since-pos plan i (row_at s i).job born)
 
   -- no release of a task lies between that of its job and its deadline
-  quiet-between : (u i : ℕ) → i < count plan → release_of (period plan i) (row_at s i) < u → u < (row_at s i).deadline → IsQuiet plan u i
+  quiet-between : (u i : ℕ) → i < count plan → release_of plan i (row_at s i) < u → u < (row_at s i).deadline → IsQuiet plan u i
   quiet-between u i h after before k e =
       let job = (row_at s i).job in
-      let mine : latest plan i u ≡ job = latest-is plan i job u (omega (arith, row-release i)) (omega (arith, row-due i h)) in
+      let mine : latest plan i u ≡ job = latest-unique plan i job u (λ born. omega (arith, after, row-release i born)) (omega (arith, row-due i h)) in
       let some = some_period plan adm.limits i h in
       let from = release-suc plan i k in
       let until = due-suc plan i k in
       let next : latest plan i u ≡ k + 1 = latest-is plan i (k + 1) u (omega (arith, from, e)) (omega (arith, until, e, some)) in
       let same : release plan i (k + 1) ≡ release plan i job = ap (release plan i) (sym next ∙ mine) in
-      omega (arith, same, from, e, row-release i)
+      omega (arith, same, from, e, after, row-release i (omega (arith, mine, next)))
 
   -- nor between the mark and the earliest deadline
   pub quiet : (u j : ℕ) → s.base_at < u → u < earliest plan s → j < count plan → IsQuiet plan u j
@@ -102,12 +94,12 @@ module _ (plan : Plan) (adm : IsAdmitted plan) (dem : ℕ → ℕ → ℕ) (s : 
         (subst (λ (u : ℕ). lack plan u i ≡ 0) (sym place) none)))
 
     -- where it has completed a job, that is complete
-    pub completed-too : CcRmCalm plan s → s.now ≡ earliest plan s → (i : ℕ) → i < count plan → 0 < (row_at s i).job → release_of (period plan i) (row_at s i) < earliest plan s → lack plan (earliest plan s) i ≡ 0 → (row_at s i).done ≡ true
+    pub completed-too : CcRmCalm plan s → s.now ≡ earliest plan s → (i : ℕ) → i < count plan → 0 < (row_at s i).job → release_of plan i (row_at s i) < earliest plan s → lack plan (earliest plan s) i ≡ 0 → (row_at s i).done ≡ true
     completed-too calm at_due i h born before none =
         let row = row_at s i in
         let r = s.base_at in
         let by : r ≤ earliest plan s = omega (arith, base-by, now-first) in
-        elim (cases_lt (release_of (period plan i) row) r) [
+        elim (cases_lt (release_of plan i row) r) [
           | inl earlier ↦ elim (cases_lt 0 (lack plan r i)) [
             | inl lacks ↦
                 let apart : r ≡ earliest plan s → ⊥ = λ e. (let g : lack plan r i ≡ lack plan (earliest plan s) i = ap (λ (u : ℕ). lack plan u i) e in omega arith) in
@@ -117,8 +109,9 @@ module _ (plan : Plan) (adm : IsAdmitted plan) (dem : ℕ → ℕ → ℕ) (s : 
             | inr closed ↦ calm.since i h born earlier (let g = lack-is plan r i (omega arith) in omega arith)
           ]
           | inr now_ ↦
-              let same : release_of (period plan i) row ≡ r = omega (arith, released-by i h) in
-              let back : due plan i (row.job - 1) ≡ r = due-is plan i (row.job - 1) ∙ same in
+              let same : release_of plan i row ≡ r = omega (arith, released-by i h) in
+              let whole_job : row.job - 1 + 1 ≡ row.job = omega (arith, born) in
+              let back : due plan i (row.job - 1) ≡ r = sym (release-suc plan i (row.job - 1)) ∙ ap (release plan i) whole_job ∙ row-release i born ∙ same in
               let whole : lack_after plan r i ≡ worst plan i = released-lack plan adm r i (row.job - 1) h (sym back) in
               elim (cases_lt 0 (worst plan i)) [
                 | inl some ↦ emptied calm at_due i h (omega arith) (omega arith) none
@@ -134,7 +127,7 @@ module _ (plan : Plan) (adm : IsAdmitted plan) (dem : ℕ → ℕ → ℕ) (s : 
           | inl born ↦
               let long = release-due plan i row.job born in
               let some = some_period plan adm.limits i h in
-              completed-too calm at_due i h born (omega (arith, row-release i, row-due i h, long, some))
+              completed-too calm at_due i h born (omega (arith, row-release i born, row-due i h, long, some))
               (lack-none plan adm (earliest plan s) i row.job h (omega (arith, row-due i h)))
           | inr unborn ↦ (bel.no_job i h (omega arith)).0
         ]

@@ -140,10 +140,10 @@ module _ (plan : Plan) (adm : IsAdmitted plan) (rm : plan.scheduler ≡ Rm) (dem
       ∙ (backlog-span plan adm rm lv (level_down plan i) s.now gap (λ u j a b hj. quiet plan adm dem marked bel' u j (omega (arith, mark_now)) (omega (arith, place)) hj)
       ∙ ap (λ (c : ℕ). sum_where n lv (lack_after plan s.now) - c) (sym room_is)))
 
-  marked_since : (i : ℕ) → i < count plan → 0 < (row_at marked i).job → release_of (period plan i) (row_at marked i) < marked.base_at → LacksNothing plan marked.base_at i → (row_at marked i).done ≡ true
+  marked_since : (i : ℕ) → i < count plan → 0 < (row_at marked i).job → release_of plan i (row_at marked i) < marked.base_at → LacksNothing plan marked.base_at i → (row_at marked i).done ≡ true
   marked_since i h born before none =
       let row = row_at s i in
-      let P : Row → Type 0 = λ (new : Row). 0 < new.job → release_of (period plan i) new < s.now → new.done ≡ true in
+      let P : Row → Type 0 = λ (new : Row). 0 < new.job → release_of plan i new < s.now → new.done ≡ true in
       let Q : Bool → Type 0 = λ (c : Bool). P (if c then opened_row plan dem i row else row) in
       let there : lack plan (earliest plan s) i ≡ 0 =
       subst (λ (u : ℕ). lack plan u i ≡ 0) (mark_now ∙ at_due) (lack-is plan marked.base_at i (omega arith) ∙ none) in
@@ -155,7 +155,7 @@ module _ (plan : Plan) (adm : IsAdmitted plan) (rm : plan.scheduler ≡ Rm) (dem
             absurd (omega (arith, e, at_now, lt)))
         | inr later_ ↦ subst Q (sym later_) (λ b lt. completed-too plan adm dem s bel rm calm at_due i h b (omega (arith, at_due, lt)) there)
       ]) in
-      here born (subst (λ (u : ℕ). release_of (period plan i) (row_at marked i) < u) mark_now before)
+      here born (subst (λ (u : ℕ). release_of plan i (row_at marked i) < u) mark_now before)
 
   marked_total : sum_below (count plan) (allotment_left plan marked) ≤ static_speed plan * (earliest plan marked - marked.now)
   marked_total =

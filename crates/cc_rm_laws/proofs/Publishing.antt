@@ -107,7 +107,7 @@ module _ (p : Plan) (adm : IsAdmitted p) where
         let job_then : latest p i (length (at mark past)) ≡ k = ap (latest p i) mark-long ∙ job in
         let had : had_since_release p past i ≡ exec p past i k - exec p (at mark past) i k = ap (λ (m : ℕ). exec p past i m - exec p (at mark past) i m) job in
         let less : exec p past i k < dem i k = grind (arith, nat_tests) in
-        let most = within i k h in
+        let most = within.most i k h in
         let fewer = exec-drop p i k (now - mark) past in
         let open_then : nat_le (dem i k) (exec p (at mark past) i k) ≡ false = go (nat_le (dem i k) (exec p (at mark past) i k)) refl less fewer in
         let base : base_of here i ≡ worst p i - exec p (at mark past) i k =

@@ -162,6 +162,6 @@ module _ (plan : Plan) (adm : IsAdmitted plan) (rm : plan.scheduler ≡ Rm) (dem
     since = λ i h born early none.
         let at = tick_at dem shares s i (here i h) in
         let born' : 0 < (row_at s i).job = subst (λ (row : Row). 0 < row.job) at born in
-        let early' : release_of (period plan i) (row_at s i) < s.base_at = subst (λ (row : Row). release_of (period plan i) row < s.base_at) at early in
+        let early' : release_of plan i (row_at s i) < s.base_at = subst (λ (row : Row). release_of plan i row < s.base_at) at early in
         done_stays i h (calm.since i h born' early' none);
   }

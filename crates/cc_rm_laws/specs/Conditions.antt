@@ -23,7 +23,7 @@ LacksNothing plan t i = lacking plan (schedule plan Fixed (worst_demand plan) t)
 pub record CcRmCalm (plan : Plan) (s : StateOf) : Type 0 where
   pub levels : (i : ℕ) → i < count plan → sum_where (count plan) (level plan i) (wleft_at s) ≤ sum_where (count plan) (level plan i) (allotment_left plan s) + backlog plan (earliest plan s) i
   pub total : sum_below (count plan) (allotment_left plan s) ≤ static_speed plan * (earliest plan s - s.now)
-  pub since : (i : ℕ) → i < count plan → 0 < (row_at s i).job → release_of (period plan i) (row_at s i) < s.base_at → LacksNothing plan s.base_at i → (row_at s i).done ≡ true
+  pub since : (i : ℕ) → i < count plan → 0 < (row_at s i).job → release_of plan i (row_at s i) < s.base_at → LacksNothing plan s.base_at i → (row_at s i).done ≡ true
 
 -- what is left in all also fits at the speed of the entry k, which is at most the static speed
 pub record CcRmSafe (plan : Plan) (s : StateOf) (k : ℕ) : Type 0 where

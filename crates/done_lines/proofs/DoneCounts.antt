@@ -19,7 +19,7 @@ use Rattle.sched_model.specs.Segments.{same_holder, Span, pieces_of}
 use Rattle.sched_model.specs.Notes.{release_notes, all_release_notes, pieces_notes, span_notes, notes_before_end}
 use Rattle.sched_model.proofs.Limits.{every_period}
 use Rattle.sched_model.proofs.NoteLemmas.{notes-span}
-use Rattle.sched_model.proofs.JobLaws.{latest-is, release-le, lt-due, latest-pos, release-due, exec-early}
+use Rattle.sched_model.proofs.JobLaws.{latest-is, release-le, lt-due, release-due, exec-early}
 use Rattle.sched_model.proofs.PieceLemmas.{have_units}
 use Rattle.done_lines.proofs.DoneNotes.{tells_done, tells_late, times, times-append, ended, ended-same, laid, laid-pieces, had_of, pieces-ended, pieces-late}
 use Rattle.done_lines.proofs.DoneSpans.{IsLastSpan, last-span}
@@ -134,7 +134,7 @@ module _ (p : Plan) (dem : ℕ → ℕ → ℕ) (ask : List Tick → Frac) (lim 
       → times (tells_done i k) (pieces_notes p dem s 0 (pieces_of s.units)) ≡ ended (exec p s.past i k) (exec p (x ∷ past) i k) (dem i k)
   span-told x past s l most =
       let nothing : had_of p dem s i k [] ≡ exec p s.past i k = omega arith in
-      let all : had_of p dem s i k s.units ≡ exec p (x ∷ past) i k = sym (l.had i k inside) in
+      let all : had_of p dem s i k s.units ≡ exec p (x ∷ past) i k = sym (l.had i k inside some_job) in
       pieces-ended p dem s i k [] (pieces_of s.units) (have_units s.units) (sym (laid-pieces s.units)) (omega (arith, all, most))
       ∙ ap₂ (λ a b. ended a b (dem i k)) nothing all
 
@@ -144,7 +144,7 @@ module _ (p : Plan) (dem : ℕ → ℕ → ℕ) (ask : List Tick → Frac) (lim 
     | inl later ↦
         let job : latest p i (release p i k) ≡ k = latest-is p i k (release p i k) (omega arith) (omega (arith, release-due p i k some_job, some)) in
         let first : latest p i (length s.past) ≡ k = sym (l.same i (release p i k) inside (omega (arith, later)) most) ∙ job in
-        subst (λ m. release p i m ≤ length s.past) first (release-le p i (length s.past) some (latest-pos p i (length s.past)))
+        subst (λ m. release p i m ≤ length s.past) first (release-le p i (length s.past) some (omega (arith, first, some_job)))
     | inr here ↦ here
   ]
 
@@ -225,7 +225,7 @@ module _ (p : Plan) (dem : ℕ → ℕ → ℕ) (ask : List Tick → Frac) (lim 
       ∙ go (nat_eq (dem i k) 0) refl)
     where
       more : exec p s.past i k ≤ exec p (x ∷ past) i k
-      more = omega (arith, l.had i k inside)
+      more = omega (arith, l.had i k inside some_job)
 
       go : (b : Bool) → nat_eq (dem i k) 0 ≡ b
           → tally s.past + ((if nat_eq (release p i k) (length s.past) && nat_eq (dem i k) 0 then 1 else 0) + ended (exec p s.past i k) (exec p (x ∷ past) i k) (dem i k)) ≡ tally (x ∷ past)
@@ -244,7 +244,7 @@ module _ (p : Plan) (dem : ℕ → ℕ → ℕ) (ask : List Tick → Frac) (lim 
   told zero (x ∷ past) le h most = absurd (omega arith)
   told (suc n) (x ∷ past) le h most =
       let l = last-span p dem ask lim x past h in
-      told-next x past l.0 l.1 most (told n l.0.past (omega (arith, le, l.1.shorter)) l.1.earlier (omega (arith, most, l.1.had i k inside)))
+      told-next x past l.0 l.1 most (told n l.0.past (omega (arith, le, l.1.shorter)) l.1.earlier (omega (arith, most, l.1.had i k inside some_job)))
 
   -- of a job that had its demand they tell it once
   pub told-once : (ticks : List Tick) → IsScheduleBy p dem ask ticks → release p i k < length ticks → exec p ticks i k ≡ dem i k → times (tells_done i k) (notes_before_end p dem ask ticks) ≡ 1
@@ -289,7 +289,7 @@ module _ (p : Plan) (dem : ℕ → ℕ → ℕ) (ask : List Tick → Frac) (lim 
           let units : length (laid (pieces_of s.units)) ≡ length s.units = ap length (laid-pieces s.units) in
           pieces-late p dem s i k (length (x ∷ past) - length s.past) (due p i k) (lim.machine.each s.entry l.entry).some_speed (omega (arith, until, l.shorter)) 0 (pieces_of s.units) (omega (arith, units, l.long))
       go (inr no_units) =
-          let same : exec p s.past i k ≡ exec p (x ∷ past) i k = omega (arith, l.had i k inside, no_units) in
+          let same : exec p s.past i k ≡ exec p (x ∷ past) i k = omega (arith, l.had i k inside some_job, no_units) in
           let flat : ended (exec p s.past i k) (exec p (x ∷ past) i k) (dem i k) ≡ 0 = rw same (ended-same (exec p (x ∷ past) i k) (dem i k)) in
           omega (arith, late-most (due p i k) i k (pieces_notes p dem s 0 (pieces_of s.units)), span-told x past s l most, flat)
 
@@ -303,4 +303,4 @@ module _ (p : Plan) (dem : ℕ → ℕ → ℕ) (ask : List Tick → Frac) (lim 
   none-late zero (x ∷ past) le h most = absurd (omega arith)
   none-late (suc n) (x ∷ past) le h most =
       let l = last-span p dem ask lim x past h in
-      late-next x past l.0 l.1 most (none-late n l.0.past (omega (arith, le, l.1.shorter)) l.1.earlier (omega (arith, most, l.1.had i k inside)))
+      late-next x past l.0 l.1 most (none-late n l.0.past (omega (arith, le, l.1.shorter)) l.1.earlier (omega (arith, most, l.1.had i k inside some_job)))

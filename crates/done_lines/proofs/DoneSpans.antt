@@ -25,7 +25,7 @@ use Rattle.sched_model.proofs.ScheduleLemmas.{force-within}
 use Rattle.sched_model.proofs.OrderLemmas.{sum_list, sum_list-in_order}
 use Rattle.sched_model.proofs.DownSets.{down-set-gets}
 use Rattle.sched_model.proofs.NoteLemmas.{span-opens, span-grows}
-use Rattle.sched_model.proofs.JobLaws.{latest-pos, latest-is, release-le, lt-due, latest-stays, latest-next, release-suc}
+use Rattle.sched_model.proofs.JobLaws.{latest-is, release-le, lt-due, latest-stays, latest-next, release-suc}
 use Rattle.grid_fraction.proofs.Counts.{count-append, count-replicate}
 
 -- the units that the tasks of a list get
@@ -103,8 +103,8 @@ module _ (p : Plan) (dem : ℕ → ℕ → ℕ) (ask : List Tick → Frac) (lim 
           none false = refl
 
   -- the units of a job in a tick are what the tick adds to it
-  units-had : (past : List Tick) (x : Tick) (i k : ℕ) → i < count p → exec p (x ∷ past) i k ≡ exec p past i k + count_by (same_holder (Held i k)) (units_of p past x)
-  units-had past x i k lt =
+  units-had : (past : List Tick) (x : Tick) (i k : ℕ) → i < count p → 1 ≤ k → exec p (x ∷ past) i k ≡ exec p past i k + count_by (same_holder (Held i k)) (units_of p past x)
+  units-had past x i k lt some_job =
       let mine : (if is_in_window p i k (length past) then share x i else 0) ≡ own_units (share x) (λ j. latest p j (length past)) i k i = on (is_in_window p i k (length past)) refl in
       omega (arith, units-own past x i k lt, mine)
     where
@@ -123,7 +123,7 @@ module _ (p : Plan) (dem : ℕ → ℕ → ℕ) (ask : List Tick → Frac) (lim 
           none true q =
               let same : k ≡ latest p i (length past) = grind (arith, nat_tests) in
               let some = every_period p lim i in
-              let low : release p i k ≤ length past = subst (λ m. release p i m ≤ length past) (sym same) (release-le p i (length past) some (latest-pos p i (length past))) in
+              let low : release p i k ≤ length past = subst (λ m. release p i m ≤ length past) (sym same) (release-le p i (length past) some (omega (arith, same, some_job))) in
               let high : length past < due p i k = subst (λ m. length past < due p i m) (sym same) (lt-due p i (length past) some) in
               absurd (true≢false (sym (the_window low high) ∙ e))
             where
@@ -165,7 +165,7 @@ module _ (p : Plan) (dem : ℕ → ℕ → ℕ) (ask : List Tick → Frac) (lim 
     pub entry : s.entry < length p.machine.points
     pub force : s.entry ≡ entry_in_force p dem ask past
     pub long : length s.units ≡ (length (x ∷ past) - length s.past) * speed_of s.entry
-    pub had : (i k : ℕ) → i < count p → exec p (x ∷ past) i k ≡ exec p s.past i k + count_by (same_holder (Held i k)) s.units
+    pub had : (i k : ℕ) → i < count p → 1 ≤ k → exec p (x ∷ past) i k ≡ exec p s.past i k + count_by (same_holder (Held i k)) s.units
     pub same : (i t : ℕ) → i < count p → length s.past ≤ t → t ≤ length past → latest p i t ≡ latest p i (length s.past)
     pub held : (i k : ℕ) → i < count p → 0 < count_by (same_holder (Held i k)) s.units → latest p i (length s.past) ≡ k
 
@@ -196,8 +196,8 @@ module _ (p : Plan) (dem : ℕ → ℕ → ℕ) (ask : List Tick → Frac) (lim 
         let more : length (x ∷ y ∷ past) - length s.past ≡ (length (y ∷ past) - length s.past) + 1 = omega (arith, l.shorter) in
         length-append s.units (units_of p (y ∷ past) x)
         ∙ rw more (omega (arith, l.long, units-long (y ∷ past) x next, speeds));
-    had = λ i k lt.
-        omega (arith, units-had (y ∷ past) x i k lt, l.had i k lt, count-append (same_holder (Held i k)) s.units (units_of p (y ∷ past) x));
+    had = λ i k lt some_job.
+        omega (arith, units-had (y ∷ past) x i k lt some_job, l.had i k lt some_job, count-append (same_holder (Held i k)) s.units (units_of p (y ∷ past) x));
     same = λ i t lt low high. go i t lt low (eq-or-lt_of_le high);
     held = λ i k lt some. either i k lt some (cases_lt 0 (count_by (same_holder (Held i k)) s.units));
   }

@@ -5,7 +5,6 @@ use Rattle.std.specs.List.{AllByRecursion, list_all}
 use Rattle.std.proofs.lemmas.Fmt.{decimal_injective}
 use Rattle.std.proofs.lemmas.List.{get_or-map, length-map, map-append}
 use Rattle.std.proofs.Math.ListN.{get_or-eq_default}
-use Rattle.std.proofs.Math.Nat.{le-mul_of_pos_right}
 use Rattle.std.proofs.lemmas.Bool.{cases_lt}
 use Rattle.std.proofs.lemmas.Bool.Decides.{nat_tests}
 use Rattle.dvs_base.specs.declared.kind.Scheduler.{Scheduler}
@@ -32,7 +31,7 @@ use Rattle.sched_model.specs.Text.{trace_text}
 use Rattle.sched_model.proofs.Limits.{every_period, low_period}
 use Rattle.sched_model.proofs.ScheduleLemmas.{schedule_exists}
 use Rattle.sched_model.proofs.Service.{exec-most}
-use Rattle.sched_model.proofs.JobLaws.{release-due}
+use Rattle.sched_model.proofs.JobLaws.{le-due, release-due}
 use Rattle.done_lines.specs.DoneLines.{lines_of, IsDoneLine, IsBy, IsToldBy, TellsDeadlines, TextTellsDeadlines}
 use Rattle.done_lines.proofs.PlainLines.{IsPlain, ArePlain, all-each, each-append, plain-decimal, plain-name, some-name, lines-line, field-same, and-left, and-right}
 use Rattle.done_lines.proofs.DoneNotes.{tells_done, tells_late, times, times-append}
@@ -230,10 +229,6 @@ is_by t q e = go (cases_lt q.tick t) (nat_lt t q.tick) refl (nat_lt 0 q.offset) 
         let here : q.tick ≡ t = grind (arith, nat_tests) in
         inr (here, none)
 
-job-due : (p : Plan) (i k : ℕ) → 0 < period p i → k ≤ due p i k
-unfolding due
-job-due p i k pos = le-mul_of_pos_right k pos
-
 -- earlier ticks gave no more
 exec-drop : (p : Plan) (i k n : ℕ) (ticks : List Tick) → exec p (drop n ticks) i k ≤ exec p ticks i k
 exec-drop p i k zero ticks = omega arith
@@ -289,7 +284,7 @@ module _ (p : Plan) (dem : ℕ → ℕ → ℕ) (ask : List Tick → Frac) (lim 
   small i lt (suc l) some = elim (cases_lt (release p i (suc l)) (length ticks)) [
     | inl began ↦
         let first : 1 ≤ suc l = omega arith in
-        let whole : suc l ≤ due p i (suc l) = job-due p i (suc l) (every_period p lim i) in
+        let whole : suc l ≤ due p i (suc l) = le-due p i (suc l) (every_period p lim i) in
         let next : release p i (suc l) + period p i ≡ due p i (suc l) = release-due p i (suc l) first in
         omega (arith, began, whole, next, low, low_period p lim i lt)
     | inr later ↦
@@ -319,7 +314,7 @@ module _ (p : Plan) (dem : ℕ → ℕ → ℕ) (ask : List Tick → Frac) (lim 
     in-time = times-end (tells_late (due p i k) i k) (λ t run idle. refl) ∙ none-late p dem ask lim i k lt some_job (length ticks) ticks (omega arith) sched (omega (arith, had))
 
     low-job : k < 2 ^ 64
-    low-job = omega (arith, job-due p i k (every_period p lim i), within, low)
+    low-job = omega (arith, le-due p i k (every_period p lim i), within, low)
 
     -- the one note
     told-by : IsAlone (tells_done i k) notes → IsToldBy (name_of (names p) i) k (due p i k) (trace_text p.scheduler g t (names p) notes)

@@ -125,7 +125,7 @@ module _ {L : Type 0} (heard balked : L → Note → L → Type 0) (demand : Pla
         → HasWorked demand p dem t st' pen' completed × ((a : L) → HasHeard heard a (open_notes p dem ask s0) to0 → HasHeard heard a (open_notes p dem ask (whole_span demand p dem t)) next)
     finished next pen' st' ends d is =
         let h : Worked heard balked p dem ask past adm within s0 to0 next completed (after_advance st (length past + 1)) pen' =
-        working-done heard balked p dem ask past adm within s0 to0 to next rest completed st pen pen' w ends d in
+        working-done heard balked p dem ask past adm within s0 to0 to next rest completed st pen pen' w at.within.none ends d in
         let later : tick_at demand p dem t ∷ past ≡ course demand p dem (t + 1) = sym (course-next p dem ask t) in (
           record {
             state = is ∙ (ap (λ n. after_advance st (n + 1)) (sym course-long) ∙ (h.state ∙ ap (λ ps. prior_state p dem ps) later));

@@ -5,7 +5,7 @@ use Rattle.std.specs.List.{slice_index_or}
 use Rattle.task_model.specs.declared.task.Task.{Task}
 use Rattle.task_model.specs.Tasks.{no_task}
 use Rattle.freq_table.specs.declared.machine.Point.{Point}
-use Rattle.sched_model.specs.Plan.{Plan, count, period, worst, point}
+use Rattle.sched_model.specs.Plan.{Plan, count, period, offset, worst, point}
 use Rattle.sched_model.specs.Admission.{IsAdmitted}
 
 pub record Bounds (p : Plan) : Type 0 where
@@ -13,6 +13,7 @@ pub record Bounds (p : Plan) : Type 0 where
   pub few_tasks : count p ≤ 64
   pub some_period : (i : ℕ) → 0 < period p i
   pub low_period : (i : ℕ) → period p i ≤ 2 ^ 40
+  pub low_offset : (i : ℕ) → offset p i ≤ 2 ^ 40
   pub low_worst : (i : ℕ) → worst p i ≤ 2 ^ 61
   pub some_point : 0 < length p.machine.points
   pub some_speed : (e : ℕ) → e < length p.machine.points → 0 < (point p e).speed
@@ -32,6 +33,7 @@ bounds p adm = record {
   few_tasks = adm.limits.tasks.few;
   some_period = λ i. some i (cases_lt i (count p));
   low_period = λ i. low i (cases_lt i (count p));
+  low_offset = λ i. soon i (cases_lt i (count p));
   low_worst = λ i. small i (cases_lt i (count p));
   some_point = adm.limits.machine.some;
   some_speed = λ e lt. (adm.limits.machine.each e lt).some_speed;
@@ -47,6 +49,10 @@ bounds p adm = record {
     low : (i : ℕ) → (i < count p) ⊎ (count p ≤ i) → period p i ≤ 2 ^ 40
     low i (inl lt) = (adm.limits.tasks.each i lt).low_period
     low i (inr ge) = subst (λ (t : Task). t.period ≤ 2 ^ 40) (sym (past-end p.tasks i no_task ge)) (omega arith)
+
+    soon : (i : ℕ) → (i < count p) ⊎ (count p ≤ i) → offset p i ≤ 2 ^ 40
+    soon i (inl lt) = (adm.limits.tasks.each i lt).low_offset
+    soon i (inr ge) = subst (λ (t : Task). t.offset ≤ 2 ^ 40) (sym (past-end p.tasks i no_task ge)) (omega arith)
 
     small : (i : ℕ) → (i < count p) ⊎ (count p ≤ i) → worst p i ≤ 2 ^ 61
     small i (inl lt) = omega (arith, (adm.limits.tasks.each i lt).low_worst, adm.limits.machine.low_charge)

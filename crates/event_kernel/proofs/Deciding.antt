@@ -3,10 +3,10 @@ use Rattle.std.proofs.Common.{◌≡◌, ℕ, zero, suc, ◌+◌, ◌-◌, ◌*�
 use Rattle.std.proofs.lemmas.Bool.Decides.{nat_tests}
 use Rattle.sched_model.specs.declared.state.Row.{Row}
 use Rattle.event_kernel.proofs.Bounds.{Bounds}
-use Rattle.sched_model.specs.Plan.{Plan, count, period}
-use Rattle.sched_model.specs.Jobs.{latest, due, release, last_release}
+use Rattle.sched_model.specs.Plan.{Plan, count}
+use Rattle.sched_model.specs.Jobs.{latest, due, last_release}
 use Rattle.sched_model.specs.Ticks.{Tick, at, exec, is_complete, wleft}
-use Rattle.sched_model.proofs.JobLaws.{lt-due, due-le, last_release-le, released-before, latest-marked}
+use Rattle.sched_model.proofs.JobLaws.{lt-due, due-within, last_release-le, latest_since-le, latest-marked}
 use Rattle.sched_model.specs.States.{no_row, row_at, row_wleft, row_of, state_of}
 use Rattle.sched_model.proofs.Tables.{get-table}
 use Rattle.governor.specs.Steps.{IsAtDecision, release_of}
@@ -16,13 +16,9 @@ exec-grows p past zero i k = omega arith
 exec-grows p [] (suc n) i k = omega arith
 exec-grows p (x ∷ past) (suc n) i k = omega (arith, exec-grows p past n i k)
 
-pub released : (p : Plan) (i k : ℕ) → (k - 1) * period p i ≡ release p i k
-unfolding release
-released p i k = refl
-
 module _ (p : Plan) (adm : Bounds p) where
   pub before-due : (i t : ℕ) → (t < due p i (latest p i t)) × (due p i (latest p i t) ≤ t + 2 ^ 40)
-  before-due i t = (lt-due p i t (adm.some_period i), omega (arith, due-le p i t, adm.low_period i))
+  before-due i t = (lt-due p i t (adm.some_period i), due-within p i t (2 ^ 40) (adm.some_period i) (adm.low_offset i) (adm.low_period i))
 
   -- each base is at least what the job may still need
   pub base-high : (dem : ℕ → ℕ → ℕ) (past : List Tick) (i : ℕ) → i < count p → wleft p dem past i ≤ wleft p dem (at (last_release p (length past)) past) i
@@ -62,8 +58,8 @@ module _ (p : Plan) (adm : Bounds p) where
     before = λ i lt. omega (arith, ap (λ (r : Row). r.deadline) (row-is i lt), (before-due i (length past)).0);
     soon = λ i lt. omega (arith, ap (λ (r : Row). r.deadline) (row-is i lt), (before-due i (length past)).1);
     marked = last_release-le p (length past);
-    since = λ i lt. subst (λ (r : Row). release_of (period p i) r ≤ last_release p (length past)) (sym (row-is i lt))
-        (omega (arith, release-is i, released-before p i (length past) (adm.some_period i) lt));
+    since = λ i lt. subst (λ (r : Row). release_of p i r ≤ last_release p (length past)) (sym (row-is i lt))
+        (latest_since-le p i (length past) (adm.some_period i) lt);
     base = λ i lt. omega (
       arith,
       ap row_wleft (row-is i lt),
@@ -74,6 +70,3 @@ module _ (p : Plan) (adm : Bounds p) where
     where
       row-is : (i : ℕ) → i < count p → row_at (state_of p dem past) i ≡ row_of p dem past i
       row-is i lt = get-table (count p) (row_of p dem past) i no_row lt
-
-      release-is : (i : ℕ) → release_of (period p i) (row_of p dem past i) ≡ release p i (latest p i (length past))
-      release-is i = released p i (latest p i (length past))

@@ -1,5 +1,5 @@
 -- The demand of a job, as the list has it.
-use Rattle.std.proofs.Common.{◌≡◌, ℕ, zero, suc, ◌+◌, ◌*◌, ◌<◌, Option, Some, None, refl, arith, ap, sym}
+use Rattle.std.proofs.Common.{◌≡◌, ℕ, zero, suc, ◌+◌, ◌*◌, ◌<◌, ◌≤◌, Option, Some, None, refl, arith, ap, sym}
 use Rattle.std.specs.Prelude.{unwrap_or, option_map, slice_index}
 use Rattle.task_model.specs.DemandRows.{named}
 use Rattle.demand_list.specs.Demands.{DemandsOf, units_of, IsWithinWorsts}
@@ -22,6 +22,9 @@ module _ (p : Plan) (d : DemandsOf) (list : IsListOf p d) where
   demand-units i (suc k) lt pos = charged i (suc k) lt
 
   pub demand-within : IsWithinWorsts d → IsWithin p (demands_of p d)
-  demand-within low i zero lt = omega arith
-  demand-within low i (suc k) lt =
-      omega (arith, charged i (suc k) lt, low i (suc k) (omega (arith, worsts-long p.tasks d list, lt)), worst-listed p.tasks d list i lt)
+  demand-within low = record { most = most; none = λ i. refl }
+    where
+      most : (i k : ℕ) → i < count p → demands_of p d i k ≤ worst p i
+      most i zero lt = omega arith
+      most i (suc k) lt =
+          omega (arith, charged i (suc k) lt, low i (suc k) (omega (arith, worsts-long p.tasks d list, lt)), worst-listed p.tasks d list i lt)

@@ -16,7 +16,7 @@ use Rattle.grid_fraction.proofs.Sums.{sum_below-same}
 use Rattle.sched_model.proofs.Tables.{get-table, table-same}
 use Rattle.sched_model.proofs.GreedyLemmas.{handed-end}
 use Rattle.sched_model.proofs.OrderLemmas.{in_order-below}
-use Rattle.sched_model.proofs.JobLaws.{latest-pos, exec-latest}
+use Rattle.sched_model.proofs.JobLaws.{exec-legal}
 use Rattle.sched_model.proofs.ScheduleLemmas.{schedule_exists}
 use Rattle.sched_model.proofs.Service.{exec-most}
 use Rattle.sched_model.proofs.Joining.{row_by, row-ran, state-ran}
@@ -47,24 +47,27 @@ module _ (p : Plan) (dem : ℕ → ℕ → ℕ) (ask : List Tick → Frac) (past
       (laid_out-same (job p dem past) given (share (tick_now p dem ask past)) (count p) (in_order (key p dem past) (count p)) (in_order-below (key p dem past) (count p)) same)
       (omega (arith, sum, sum_below-same (count p) given (share (tick_now p dem ask past)) same))
 
-  had-next : (i : ℕ) → exec p ((tick_now p dem ask past) ∷ past) i (job p dem past i) ≡ had p dem past i + share (tick_now p dem ask past) i
-  had-next i = exec-latest p (tick_now p dem ask past) past i (periods i) (latest-pos p i (length past))
+  own : (i : ℕ) → i < count p → share (tick_now p dem ask past) i ≤ left p dem past i
+  own i lt = omega (arith, get-table (count p) (allotment (count p) (key_of p.scheduler p (length past)) (speed_now p dem ask past) (left p dem past)) i 0 lt)
 
-  pub end-had : (given : ℕ → ℕ) (i : ℕ) → given i ≡ share (tick_now p dem ask past) i → had p dem past i + given i ≡ exec p ((tick_now p dem ask past) ∷ past) i (job p dem past i)
-  end-had given i same = ap (λ v. had p dem past i + v) same ∙ sym (had-next i)
+  had-next : ((i : ℕ) → dem i 0 ≡ 0) → (i : ℕ) → i < count p → exec p ((tick_now p dem ask past) ∷ past) i (job p dem past i) ≡ had p dem past i + share (tick_now p dem ask past) i
+  had-next none i lt = exec-legal p dem (tick_now p dem ask past) past i (periods i) (none i) (own i lt)
 
-  pub end-state : (given : ℕ → ℕ) (st : StateOf) → ((i : ℕ) → i < count p → given i ≡ share (tick_now p dem ask past) i) → st ≡ given_state p dem past given
+  pub end-had : ((i : ℕ) → dem i 0 ≡ 0) → (given : ℕ → ℕ) (i : ℕ) → i < count p → given i ≡ share (tick_now p dem ask past) i → had p dem past i + given i ≡ exec p ((tick_now p dem ask past) ∷ past) i (job p dem past i)
+  end-had none given i lt same = ap (λ v. had p dem past i + v) same ∙ sym (had-next none i lt)
+
+  pub end-state : ((i : ℕ) → dem i 0 ≡ 0) → (given : ℕ → ℕ) (st : StateOf) → ((i : ℕ) → i < count p → given i ≡ share (tick_now p dem ask past) i) → st ≡ given_state p dem past given
       → after_advance st (length past + 1) ≡ prior_state p dem ((tick_now p dem ask past) ∷ past)
-  end-state given st same is =
+  end-state none given st same is =
       ap (λ (s : StateOf). after_advance s (length past + 1)) is
       ∙ (ap (λ rows. record { now = length past + 1; rows = rows; base_at = (state_of p dem past).base_at; base = (state_of p dem past).base })
       (table-same (count p) (given_row p dem past given) (prior_row p dem ((tick_now p dem ask past) ∷ past)) (λ i lt.
       ap (λ g. row_by (due p i (job p dem past i)) (job p dem past i) (had p dem past i + g) (nat_le (dem i (job p dem past i)) (had p dem past i + g)) (worst p i)) (same i lt)
-      ∙ sym (row-ran p dem periods (tick_now p dem ask past) past i)))
+      ∙ sym (row-ran p dem periods (tick_now p dem ask past) past i (none i) (own i lt))))
       ∙ sym (state-ran p dem periods (tick_now p dem ask past) past))
 
-  pub end-completes : (given : ℕ → ℕ) → ((i : ℕ) → i < count p → given i ≡ share (tick_now p dem ask past) i)
+  pub end-completes : ((i : ℕ) → dem i 0 ≡ 0) → (given : ℕ → ℕ) → ((i : ℕ) → i < count p → given i ≡ share (tick_now p dem ask past) i)
       → any_below (count p) (ends_in p dem past given) ≡ any_below (count p) (completes_in p dem (tick_now p dem ask past) past)
-  end-completes given same =
+  end-completes none given same =
       any_below-same (count p) (ends_in p dem past given) (completes_in p dem (tick_now p dem ask past) past) (λ i lt.
-      ap (λ u. not (nat_le (dem i (job p dem past i)) (had p dem past i)) && nat_le (dem i (job p dem past i)) u) (end-had given i (same i lt)))
+      ap (λ u. not (nat_le (dem i (job p dem past i)) (had p dem past i)) && nat_le (dem i (job p dem past i)) u) (end-had none given i lt (same i lt)))

@@ -13,6 +13,8 @@ pub mod Ofplan
 pub mod Releasing
 pub mod Spanning
 pub mod Onward
+pub mod Staying
+pub mod Quieting
 pub mod Closing
 pub mod Deciding
 pub mod Demanding

@@ -1,7 +1,6 @@
 -- The releases of one boundary.
 use Rattle.std.proofs.Common.{◌≡◌, ◌≢◌, ℕ, zero, suc, ◌+◌, ◌<◌, ◌≤◌, ◌^◌, Bool, true, false, eqb, ◌||◌, List, [], ◌∷◌, ◌++◌, length, refl, arith, if◌then◌else◌, ap, ap₂, ◌∙◌, sym, subst, ◌⊎◌, inl, inr, append-nil, nat_eq, nat_lt, add-one, eq-or-lt_of_le, set, get_or-set_same}
 use Rattle.std.specs.Prelude.{flat_map}
-use Rattle.std.proofs.Math.Nat.{div-le_self}
 use Rattle.std.proofs.lemmas.Bool.Decides.{nat_tests}
 use Rattle.std.proofs.lemmas.List.{set-set}
 use Rattle.std.proofs.lemmas.List.Concat.{flat_map-append}
@@ -18,6 +17,7 @@ use Rattle.sched_model.specs.Notes.{release_notes, all_release_notes}
 use Rattle.sched_model.specs.States.{no_row, row_at, prior_row, prior_base_at, prior_base, released_row, prior_state, after_mark, after_release, after_finish, CanRelease, StateOf, row_of, state_of}
 use Rattle.sched_model.proofs.ScheduleLemmas.{length-list_below, schedule_exists}
 use Rattle.sched_model.proofs.Tables.{get-table, table-same, set-table}
+use Rattle.sched_model.proofs.JobLaws.{latest-small}
 use Rattle.sched_model.proofs.Joining.{next_job, due_released, row-opened, row-kept, state-marked, state-unmarked}
 use Rattle.event_kernel.specs.declared.pen.Pen.{Pen}
 use Rattle.event_kernel.specs.Pens.{with_notes, HasRoom}
@@ -43,10 +43,6 @@ upto-begins m (suc n) le = go (eq-or-lt_of_le le) (upto-begins m n)
     go : (m ≡ suc n) ⊎ (m < suc n) → (m ≤ n → Begins (upto m) (upto n)) → Begins (upto m) (upto n ++ n ∷ [])
     go (inl e) ih = subst (λ k. Begins (upto k) (upto n ++ n ∷ [])) (sym e) (begins-self (upto n ++ n ∷ []))
     go (inr l) ih = begins-trans (upto m) (upto n) (upto n ++ n ∷ []) (ih (omega arith)) (begins-more (upto n) (n ∷ []))
-
-latest-small : (p : Plan) (i t : ℕ) → latest p i t ≤ t + 1
-unfolding latest
-latest-small p i t = omega (arith, div-le_self t (period p i))
 
 pub or-false : (a : Bool) → a ≡ (a || false)
 or-false true = refl
@@ -144,8 +140,8 @@ module _ (p : Plan) (dem : ℕ → ℕ → ℕ) (past : List Tick) where
     long-there m any st to r = ap (λ (s : StateOf). length s.rows) r.state ∙ length-list_below (count p) (mixed m)
 
     -- a row that is not due
-    pub passed : (m : ℕ) (any : Bool) (st : StateOf) (to : L) → Releasing heard m any st from to → m < count p → nat_eq (row_at st m).deadline st.now ≡ false → Releasing heard (m + 1) any st from to
-    passed m any st to r lt early =
+    pub passed : (m : ℕ) (any : Bool) (st : StateOf) (to : L) → Releasing heard m any st from to → m < count p → dem m 0 ≡ 0 → nat_eq (row_at st m).deadline st.now ≡ false → Releasing heard (m + 1) any st from to
+    passed m any st to r lt unneeded early =
         let not_due : nat_eq (prior_row p dem past m).deadline (length past) ≡ false =
         sym (ap₂ (λ a b. nat_eq a b) (ap (λ (q : Row). q.deadline) (row-there m any st to r lt)) (ap (λ (s : StateOf). s.now) r.state)) ∙ early in
         let none : releases_at p m (length past) ≡ false = due_released p dem periods past m false not_due in
@@ -160,7 +156,7 @@ module _ (p : Plan) (dem : ℕ → ℕ → ℕ) (past : List Tick) where
         same : (i : ℕ) (b : Bool) → eqb i m ≡ b → nat_eq (prior_row p dem past m).deadline (length past) ≡ false → mixed m i ≡ mixed (m + 1) i
         same i true e not_due =
             let is : m ≡ i = grind (arith, nat_tests) in
-            subst (λ k. mixed m k ≡ mixed (m + 1) k) is (mixed-here m ∙ (sym (row-kept p dem periods past m not_due) ∙ sym (mixed-done m)))
+            subst (λ k. mixed m k ≡ mixed (m + 1) k) is (mixed-here m ∙ (sym (row-kept p dem periods past m unneeded not_due) ∙ sym (mixed-done m)))
         same i false e not_due = sym (mixed-other m i (grind (arith, nat_tests)))
 
     pub passed-notes : (m : ℕ) (any : Bool) (st : StateOf) (to : L) → Releasing heard m any st from to → m < count p → nat_eq (row_at st m).deadline st.now ≡ false → notes_upto (m + 1) ≡ notes_upto m
@@ -222,7 +218,7 @@ module _ (p : Plan) (dem : ℕ → ℕ → ℕ) (past : List Tick) where
         done = ap (λ (q : Row). q.done) (row-there m any st mid r lt) ∙ done due_there;
         due = due;
         deadline_fits = omega (arith, ap (λ (q : Row). q.deadline) (row-there m any st mid r lt), due_there, adm.low_period m);
-        job_fits = omega (arith, ap (λ (q : Row). q.job + 1) (row-there m any st mid r lt), next_job p dem periods past m due_there, latest-small p m (length past));
+        job_fits = omega (arith, ap (λ (q : Row). q.job + 1) (row-there m any st mid r lt), next_job p dem periods past m due_there, latest-small p m (length past) (periods m));
       }
 
     -- all rows
@@ -238,10 +234,10 @@ module _ (p : Plan) (dem : ℕ → ℕ → ℕ) (past : List Tick) where
         ap after_mark (r.state ∙ ap (λ rows. record { now = length past; rows = rows; base_at = prior_base_at p past; base = list_below (count p) (prior_base p dem past) }) (all-rows m e))
         ∙ state-marked p dem periods past (ap (λ k. any_below k (λ i. releases_at p i (length past))) (sym e) ∙ sym r.any_is)
 
-    pub released-unmarked : (m : ℕ) (st : StateOf) (to : L) → 0 < count p → m ≡ count p → Releasing heard m false st from to → st ≡ state_of p dem past
-    released-unmarked m st to some e r =
+    pub released-unmarked : (m : ℕ) (st : StateOf) (to : L) → ((i : ℕ) → dem i 0 ≡ 0) → m ≡ count p → Releasing heard m false st from to → st ≡ state_of p dem past
+    released-unmarked m st to unneeded e r =
         r.state ∙ (ap (λ rows. record { now = length past; rows = rows; base_at = prior_base_at p past; base = list_below (count p) (prior_base p dem past) }) (all-rows m e)
-        ∙ state-unmarked p dem periods past some (ap (λ k. any_below k (λ i. releases_at p i (length past))) (sym e) ∙ sym r.any_is))
+        ∙ state-unmarked p dem periods past unneeded (ap (λ k. any_below k (λ i. releases_at p i (length past))) (sym e) ∙ sym r.any_is))
 
 -- a release that is complete at once
 pub opened-done : (p : Plan) (dem : ℕ → ℕ → ℕ) (s : StateOf) (i : ℕ) → i < length s.rows → nat_eq (dem i ((row_at s i).job + 1)) 0 ≡ true → after_finish (after_release p s i) i ≡ opened p dem s i
@@ -261,7 +257,7 @@ prior-done demand p dem t s b i lt due =
     ∙ b.due_done i lt (ap (λ (r : Row). r.deadline) is ∙ (due ∙ sym (ap (λ (v : StateOf). v.now) b.state)))
 
 pub low-exec : (demand : Plan → StateOf → Frac) (p : Plan) (dem : ℕ → ℕ → ℕ) (t : ℕ) → IsWithin p dem → (i k : ℕ) → i < count p → exec p (course demand p dem t) i k ≤ worst p i
-low-exec demand p dem t low i k lt = omega (arith, exec-within p dem (ask_of demand p dem) t i k lt, low i k lt)
+low-exec demand p dem t low i k lt = omega (arith, exec-within p dem (ask_of demand p dem) t i k lt, low.most i k lt)
 
 pub course-len : (demand : Plan → StateOf → Frac) (p : Plan) (dem : ℕ → ℕ → ℕ) (t : ℕ) → length (course demand p dem t) ≡ t
 course-len demand p dem t = (schedule_exists p dem (ask_of demand p dem) t).1

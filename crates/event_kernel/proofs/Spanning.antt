@@ -24,7 +24,6 @@ use Rattle.sched_model.proofs.Tables.{get-table}
 use Rattle.sched_model.proofs.ScheduleLemmas.{length-list_below}
 use Rattle.sched_model.proofs.NoteLemmas.{notes-span}
 use Rattle.sched_model.proofs.Joining.{due_released, same_job, state-still}
-use Rattle.sched_model.proofs.JobLaws.{latest-pos}
 use Rattle.grid_fraction.proofs.Searches.{any_below-false, any_below-same}
 use Rattle.event_kernel.specs.declared.pen.Pen.{Pen}
 use Rattle.governor.specs.Schedule.{ask_of, course}
@@ -204,14 +203,20 @@ module _ (demand : Plan → StateOf → Frac) (p : Plan) (dem : ℕ → ℕ → 
 
         done : (past : List Tick) → IsMet p dem past → (i : ℕ) → i < count p → (prior_row p dem past i).deadline ≡ length past → (prior_row p dem past i).done ≡ true
         done [] met i lt q = refl
-        done (x ∷ past) met i lt q =
-            let here : exec p (at (due p i (latest p i (length past))) (x ∷ past)) i (latest p i (length past)) ≡ dem i (latest p i (length past)) =
-            met i (latest p i (length past)) lt (latest-pos p i (length past)) (omega (arith, q)) in
-            let whole : length (x ∷ past) - due p i (latest p i (length past)) ≡ 0 = omega (arith, q) in
-            let all : exec p (x ∷ past) i (latest p i (length past)) ≡ dem i (latest p i (length past)) =
-            sym (ap (λ n. exec p (drop n (x ∷ past)) i (latest p i (length past))) whole) ∙ here in
-            let enough : dem i (latest p i (length past)) ≤ exec p (x ∷ past) i (latest p i (length past)) = omega (arith, all) in
-            grind (arith, nat_tests, enough)
+        done (x ∷ past) met i lt q = closed_at (latest p i (length past)) refl
+          where
+            closed_at : (k : ℕ) → latest p i (length past) ≡ k → (prior_row p dem (x ∷ past) i).done ≡ true
+            closed_at zero first =
+                let needs : dem i (latest p i (length past)) ≡ 0 = ap (dem i) first ∙ low.none i in
+                grind (arith, nat_tests, needs)
+            closed_at (suc k) born =
+                let here : exec p (at (due p i (latest p i (length past))) (x ∷ past)) i (latest p i (length past)) ≡ dem i (latest p i (length past)) =
+                met i (latest p i (length past)) lt (omega (arith, born)) (omega (arith, q)) in
+                let whole : length (x ∷ past) - due p i (latest p i (length past)) ≡ 0 = omega (arith, q) in
+                let all : exec p (x ∷ past) i (latest p i (length past)) ≡ dem i (latest p i (length past)) =
+                sym (ap (λ n. exec p (drop n (x ∷ past)) i (latest p i (length past))) whole) ∙ here in
+                let enough : dem i (latest p i (length past)) ≤ exec p (x ∷ past) i (latest p i (length past)) = omega (arith, all) in
+                grind (arith, nat_tests, enough)
 
   -- the span begins
   release-cost : (f : Note → ℕ) → ((t i k : ℕ) → f (Release t i k) ≡ 0) → ((q : Pos) (i k u : ℕ) → f (Done q i k u) ≡ 0) → (t i : ℕ) → sum_by f (release_notes p dem t i) ≡ 0
@@ -313,7 +318,7 @@ module _ (demand : Plan → StateOf → Frac) (p : Plan) (dem : ℕ → ℕ → 
         work = record {
           early = omega (arith, lt, few);
           within = i.work.within;
-          state = h.state ∙ state-still p dem adm.some_period (course demand p dem (t + 1)) adm.some_task no_release;
+          state = h.state ∙ state-still p dem adm.some_period (course demand p dem (t + 1)) i.work.within.none no_release;
           from_le = omega (arith, i.work.from_le);
           from_is = i.work.from_is ∙ sym (ap (λ (x : Span). length x.past) on);
           entry_is = i.work.entry_is ∙ sym (ap (λ (x : Span). x.entry) on);

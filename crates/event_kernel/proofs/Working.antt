@@ -231,7 +231,7 @@ module _ {L : Type 0} (heard balked : L → Note → L → Type 0) (p : Plan) (d
           record {
             task = omega (arith, u.below, rows-long to rest completed st pen w);
             open_job = u.open_job;
-            room = omega (arith, se, used, need, most, o.needs, low i (job p dem past i) u.below);
+            room = omega (arith, se, used, need, most, o.needs, low.most i (job p dem past i) u.below);
           },
           omega (arith, used, need, o.needs),
           λ pos. omega (arith, se, used, need, o.needs),
@@ -324,20 +324,21 @@ module _ {L : Type 0} (heard balked : L → Note → L → Type 0) (p : Plan) (d
     }
 
     pub working-done : (to next : L) (rest : ℕ) (completed : Bool) (st : StateOf) (pen pen' : Pen) (w : Working s0 from to rest completed st pen)
+        → ((i : ℕ) → dem i 0 ≡ 0)
         → (rest ≡ 0) ⊎ ((k : ℕ) → k < count p → (row_at st k).done ≡ true)
         → Idled next w.given rest pen'
         → Worked next completed (after_advance st (length past + 1)) pen'
-    working-done to next rest completed st pen pen' w ends d =
+    working-done to next rest completed st pen pen' w none ends d =
         let same = whole-units to rest completed st pen w ends in
         let units : s0.units ++ (units_by p dem past w.given ++ replicate rest Nobody) ≡ s0.units ++ units_of p past (tick_now p dem ask past) =
         ap (λ us. s0.units ++ us) (end-units p dem ask past adm.some_period w.given rest same w.hand.sum) in
         record {
-          state = end-state p dem ask past adm.some_period w.given st same w.hand.state;
+          state = end-state p dem ask past adm.some_period none w.given st same w.hand.state;
           pen_is = subst (λ us. Writing p dem ask (length past) (with_list s0 us) (λ i. exec p (tick_now p dem ask past ∷ past) i (latest p i (length past))) (1000000 * (length past + 1)) pen') units
               (writing-more (grown s0 (units_by p dem past w.given ++ replicate rest Nobody)) (λ i. had p dem past i + w.given i) (λ i. exec p (tick_now p dem ask past ∷ past) i (latest p i (length past)))
               (1000000 * length past + sum_below (count p) w.given + rest) (1000000 * (length past + 1)) pen'
-              (λ i lt. end-had p dem ask past adm.some_period w.given i (same i lt))
+              (λ i lt. end-had p dem ask past adm.some_period none w.given i lt (same i lt))
               (omega (arith, w.hand.sum, adm.low_speed (entry_in_force p dem ask past))) d.pen_is);
           told = λ a h. subst (λ us. HasHeard heard a (open_notes p dem ask (with_list s0 us)) next) units (d.told a h);
-          completes = w.hand.ends ∙ end-completes p dem ask past adm.some_period w.given same;
+          completes = w.hand.ends ∙ end-completes p dem ask past adm.some_period none w.given same;
         }

@@ -1,15 +1,15 @@
 -- The ticks of one span.
-use Rattle.std.specs.Prelude.{◌≡◌, ℕ, ◌+◌, ◌<◌, ◌≤◌, Bool, true, List}
+use Rattle.std.specs.Prelude.{◌≡◌, ◌⊎◌, ℕ, ◌+◌, ◌<◌, ◌≤◌, Bool, true, false, List}
 use Rattle.grid_fraction.specs.declared.Frac.{Frac}
-use Rattle.sched_model.specs.Plan.{Plan}
+use Rattle.sched_model.specs.Plan.{Plan, count, point}
 use Rattle.sched_model.specs.Decision.{is_decision}
 use Rattle.event_kernel.specs.declared.pen.Pen.{Pen}
 use Rattle.governor.specs.Schedule.{ask_of, course}
-use Rattle.event_kernel.specs.Pens.{open_notes}
+use Rattle.event_kernel.specs.Pens.{open_notes, IsFirstUndone}
 use Rattle.dvs_base.specs.declared.note.Note.{Note}
 use Rattle.sched_model.specs.Notes.{notes_before_end}
-use Rattle.event_kernel.specs.Tickwork.{span_at, whole_span, IsAtWork, HasWorked}
-use Rattle.sched_model.specs.States.{StateOf}
+use Rattle.event_kernel.specs.Tickwork.{served, span_at, whole_span, IsAtWork, HasWorked}
+use Rattle.sched_model.specs.States.{row_at, after_advance, StateOf}
 
 -- in the span that began at t0, at the tick t, after the releases and the decision
 pub record IsInSpan (demand : Plan → StateOf → Frac) (p : Plan) (dem : ℕ → ℕ → ℕ) (ticks t0 t e : ℕ) (s : StateOf) (pen : Pen) : Type 0 where
@@ -38,3 +38,15 @@ told_in demand p dem t = open_notes p dem (ask_of demand p dem) (span_at demand 
 
 abbrev pub told_after : (Plan → StateOf → Frac) → Plan → (ℕ → ℕ → ℕ) → ℕ → List Note
 told_after demand p dem t = open_notes p dem (ask_of demand p dem) (whole_span demand p dem t)
+
+-- a state at a later tick, after units of a task whose job is still not done
+abbrev pub run_on : StateOf → ℕ → ℕ → ℕ → StateOf
+run_on s i units to = after_advance (served s i units false) to
+
+-- The tick is the last of its span: the run ends after it, or a job is released, or the first job that is not done gets all
+-- that it needs.
+abbrev pub IsLastTick : Plan → (ℕ → ℕ → ℕ) → ℕ → ℕ → StateOf → Type 0
+IsLastTick p dem ticks e s =
+    (s.now + 1 ≡ ticks)
+    ⊎ (((i : ℕ) × (i < count p) × ((row_at s i).deadline ≡ s.now + 1))
+    ⊎ ((i : ℕ) × IsFirstUndone p s (count p) i × (dem i (row_at s i).job ≤ (row_at s i).used + (point p e).speed)))

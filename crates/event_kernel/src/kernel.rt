@@ -8,7 +8,7 @@ ghost use Rattle.event_kernel.specs.Runs.{IsListOf, released_jobs, most_jobs, no
 ghost use Rattle.dvs_base.specs.Outside.{Rose};
 
 use crate::pen::{Counts, Pen};
-use crate::span::span;
+use crate::span::{Walk, span};
 use crate::{Listener, Stopped};
 use demand_list::Demands;
 use dvs_base::{Note, Totals};
@@ -32,7 +32,8 @@ fn count_jobs(plan: &Admitted, ticks: u64) -> u64
     plan.known();
     let mut count = 0;
     for task in 0..plan.count() {
-        count += ticks.div_ceil(plan.period(task));
+        let span = ticks.saturating_sub(plan.offset(task));
+        count += span.div_ceil(plan.period(task));
     }
     count
 }
@@ -92,8 +93,34 @@ impl<'a, G: Governor> Kernel<'a, G> {
         })
     }
 
-    /// Tells the listener the notes of the governor's schedule.
+    /// Tells the listener the notes of the governor's schedule, from event to event.
     pub fn drive<L: Listener>(self, to: &mut L) -> Result<Totals, Stopped>
+        ensures totals { IfOk result (λ t. t ≡ totals_of (notes_of_run G.demand self.entry)) }
+        ensures deadlines { MeetsDeadlines G.demand self.entry }
+        ensures demands { G.the_kind ≢ Ahead → MeetsDemands G.demand self.entry }
+        ensures ran { OnOk result (HasHeard L.heard to.old (notes_of_run G.demand self.entry) to.new) }
+        ensures broke_off { OnErr result (HasBalked L.heard L.balked to.old (notes_of_run G.demand self.entry) to.new) }
+        ensures never_falls { L.stops to.old ≤ L.stops to.new }
+        ensures rose { OnErr result (Rose (L.stops to.old) (L.stops to.new)) }
+    {
+        self.walk(Walk::Events, to)
+    }
+
+    /// The same, tick by tick.
+    pub fn tick_drive<L: Listener>(self, to: &mut L) -> Result<Totals, Stopped>
+        ensures totals { IfOk result (λ t. t ≡ totals_of (notes_of_run G.demand self.entry)) }
+        ensures deadlines { MeetsDeadlines G.demand self.entry }
+        ensures demands { G.the_kind ≢ Ahead → MeetsDemands G.demand self.entry }
+        ensures ran { OnOk result (HasHeard L.heard to.old (notes_of_run G.demand self.entry) to.new) }
+        ensures broke_off { OnErr result (HasBalked L.heard L.balked to.old (notes_of_run G.demand self.entry) to.new) }
+        ensures never_falls { L.stops to.old ≤ L.stops to.new }
+        ensures rose { OnErr result (Rose (L.stops to.old) (L.stops to.new)) }
+    {
+        self.walk(Walk::Ticks, to)
+    }
+
+    // The same, by one walk or the other.
+    fn walk<L: Listener>(self, walk: Walk, to: &mut L) -> Result<Totals, Stopped>
         ensures totals { IfOk result (λ t. t ≡ totals_of (notes_of_run G.demand self.entry)) }
         ensures deadlines { MeetsDeadlines G.demand self.entry }
         ensures demands { G.the_kind ≢ Ahead → MeetsDemands G.demand self.entry }
@@ -125,6 +152,7 @@ impl<'a, G: Governor> Kernel<'a, G> {
         };
         while state.now < ticks {
             span(
+                walk,
                 plan,
                 demands,
                 ticks,

@@ -8,6 +8,7 @@ mod boundary;
 mod kernel;
 mod listener;
 mod pen;
+mod quiet;
 mod span;
 mod tick;
 

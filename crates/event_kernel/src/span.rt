@@ -12,11 +12,19 @@ ghost use Rattle.dvs_base.specs.Outside.{Rose};
 
 use crate::boundary::begin;
 use crate::pen::{Pen, close};
+use crate::quiet::stay;
 use crate::tick::work;
 use crate::{Listener, Stopped};
 use demand_list::Demands;
 use governor::Governor;
 use sched_model::{Admitted, State};
+
+/// How a span's ticks are walked: all but the last at once, or one by one.
+#[derive(Clone, Copy)]
+pub enum Walk {
+    Events,
+    Ticks,
+}
 
 // Whether some row is due.
 fn any_due(plan: &Admitted, state: &State) -> bool
@@ -41,8 +49,37 @@ fn is_end(plan: &Admitted, state: &State, ticks: u64, completed: bool) -> bool
     completed || state.now == ticks || any_due(plan, state)
 }
 
-// The ticks of a span, up to the next decision or the end.
-fn walk_on<G: Governor, L: Listener>(
+// The ticks of a span, up to the next decision or the end: all but the last at once.
+fn by_events<G: Governor, L: Listener>(
+    plan: &Admitted,
+    demands: &Demands,
+    ticks: u64,
+    governor: &mut G,
+    state: &mut State,
+    from: u64,
+    index: u32,
+    pen: &mut Pen,
+    to: &mut L,
+) -> Result<(), Stopped>
+    requires list { IsListOf plan.now demands.now }
+    requires at { IsInSpan G.demand plan.now (demands_of plan.now demands.now) ticks from state.old.now index state.old pen.old }
+    requires low_ticks { ticks ≤ 2 ^ 40 }
+    requires counters { G.stands governor.old plan.now state.old }
+    ensures walked { OnOk result (HasWalked G.demand plan.now (demands_of plan.now demands.now) ticks from (state.new.now - 1) index state.new pen.new) }
+    ensures counters { OnOk result (G.stands governor.new plan.now state.new) }
+    ensures heard { OnOk result ((a : L) → HasHeard L.heard a (told_in G.demand plan.now (demands_of plan.now demands.now) state.old.now) to.old → HasHeard L.heard a (told_after G.demand plan.now (demands_of plan.now demands.now) (state.new.now - 1)) to.new) }
+    ensures balked { OnErr result ((a : L) → HasHeard L.heard a (told_in G.demand plan.now (demands_of plan.now demands.now) state.old.now) to.old → HasBalked L.heard L.balked a (told_before G.demand plan.now (demands_of plan.now demands.now) ticks) to.new) }
+    ensures never_falls { L.stops to.old ≤ L.stops to.new }
+    ensures rose { OnErr result (Rose (L.stops to.old) (L.stops to.new)) }
+{
+    plan.known();
+    stay(plan, demands, ticks, governor, state, from, index, pen, to)?;
+    work(plan, demands, governor, state, from, index, pen, to)?;
+    Ok(())
+}
+
+// The ticks of a span one by one, up to the next decision or the end.
+fn by_ticks<G: Governor, L: Listener>(
     plan: &Admitted,
     demands: &Demands,
     ticks: u64,
@@ -73,8 +110,39 @@ fn walk_on<G: Governor, L: Listener>(
     }
 }
 
+// The ticks of a span, up to the next decision or the end.
+fn walk_on<G: Governor, L: Listener>(
+    walk: Walk,
+    plan: &Admitted,
+    demands: &Demands,
+    ticks: u64,
+    governor: &mut G,
+    state: &mut State,
+    from: u64,
+    index: u32,
+    pen: &mut Pen,
+    to: &mut L,
+) -> Result<(), Stopped>
+    requires list { IsListOf plan.now demands.now }
+    requires at { IsInSpan G.demand plan.now (demands_of plan.now demands.now) ticks from state.old.now index state.old pen.old }
+    requires low_ticks { ticks ≤ 2 ^ 40 }
+    requires counters { G.stands governor.old plan.now state.old }
+    ensures walked { OnOk result (HasWalked G.demand plan.now (demands_of plan.now demands.now) ticks from (state.new.now - 1) index state.new pen.new) }
+    ensures counters { OnOk result (G.stands governor.new plan.now state.new) }
+    ensures heard { OnOk result ((a : L) → HasHeard L.heard a (told_in G.demand plan.now (demands_of plan.now demands.now) state.old.now) to.old → HasHeard L.heard a (told_after G.demand plan.now (demands_of plan.now demands.now) (state.new.now - 1)) to.new) }
+    ensures balked { OnErr result ((a : L) → HasHeard L.heard a (told_in G.demand plan.now (demands_of plan.now demands.now) state.old.now) to.old → HasBalked L.heard L.balked a (told_before G.demand plan.now (demands_of plan.now demands.now) ticks) to.new) }
+    ensures never_falls { L.stops to.old ≤ L.stops to.new }
+    ensures rose { OnErr result (Rose (L.stops to.old) (L.stops to.new)) }
+{
+    match walk {
+        Walk::Events => by_events(plan, demands, ticks, governor, state, from, index, pen, to),
+        Walk::Ticks => by_ticks(plan, demands, ticks, governor, state, from, index, pen, to),
+    }
+}
+
 /// One span: a decision with its releases, and the ticks up to the next decision or the end.
 pub(crate) fn span<G: Governor, L: Listener>(
+    walk: Walk,
     plan: &Admitted,
     demands: &Demands,
     ticks: u64,
@@ -102,7 +170,9 @@ pub(crate) fn span<G: Governor, L: Listener>(
     plan.known();
     let from = state.now;
     let index = begin(plan, demands, ticks, governor, state, pen, to)?;
-    walk_on(plan, demands, ticks, governor, state, from, index, pen, to)?;
+    walk_on(
+        walk, plan, demands, ticks, governor, state, from, index, pen, to,
+    )?;
     close(plan, state, from, index, pen, to)?;
     Ok(())
 }

@@ -52,8 +52,8 @@ fn is_ahead(plan: &Admitted, state: &State, j: u32, i: u32) -> bool
     }
 }
 
-// The first task by the order whose job is not done.
-fn first_undone(plan: &Admitted, state: &State) -> Option<u32>
+/// The first task by the order whose job is not done.
+pub(crate) fn first_undone(plan: &Admitted, state: &State) -> Option<u32>
     requires { length state.now.rows ≡ count plan.now }
     ensures none { IfNone result ((k : ℕ) → k < count plan.now → (row_at state.entry.now k).done ≡ true) }
     ensures first { IfSome result (λ i. IsFirstUndone plan.now state.entry.now (count plan.now) i) }
@@ -71,8 +71,8 @@ fn first_undone(plan: &Admitted, state: &State) -> Option<u32>
     best
 }
 
-// Units of a task, at whose end its job is done or not, each announced to the governor.
-fn serve<G: Governor>(
+/// Units of a task, at whose end its job is done or not, each announced to the governor.
+pub(crate) fn serve<G: Governor>(
     plan: &Admitted,
     governor: &mut G,
     state: &mut State,

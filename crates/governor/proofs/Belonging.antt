@@ -1,6 +1,6 @@
 -- A state belongs to its demand list, and goes on to.
-use Rattle.std.proofs.Common.{◌≡◌, inl, inr, ℕ, zero, suc, ◌+◌, ◌-◌, ◌*◌, ◌^◌, ◌<◌, ◌≤◌, Bool, true, false, List, length, refl, sym, ◌∙◌, ap, subst, arith, zero-mul}
-use Rattle.std.proofs.Math.Nat.{le_trans, le-mul_of_pos_right}
+use Rattle.std.proofs.Common.{◌≡◌, inl, inr, ℕ, zero, suc, ◌+◌, ◌-◌, ◌^◌, ◌<◌, ◌≤◌, Bool, true, false, List, length, refl, sym, ◌∙◌, ap, subst, arith}
+use Rattle.std.proofs.Math.Nat.{le_trans}
 use Rattle.std.specs.Prelude.{◌==◌, ◌||◌, if◌then◌else◌, map, slice_index}
 use Rattle.std.specs.List.{list_any}
 use Rattle.std.proofs.lemmas.Bool.{cases_Bool, eqb-true, eqb-false}
@@ -8,12 +8,15 @@ use Rattle.std.proofs.lemmas.List.{length-map, get_or-map}
 use Rattle.grid_fraction.specs.Numbers.{greatest_below}
 use Rattle.grid_fraction.proofs.Least.{least-above}
 use Rattle.sched_model.specs.declared.state.Row.{Row}
-use Rattle.sched_model.specs.Plan.{Plan, count, period, worst}
+use Rattle.sched_model.specs.Plan.{Plan, count, period, offset, worst}
+use Rattle.sched_model.specs.Jobs.{latest_since}
+use Rattle.sched_model.specs.Jobs.{due as due_at}
 use Rattle.sched_model.specs.Demands.{IsWithin}
 use Rattle.sched_model.specs.Admission.{IsWithinLimits}
 use Rattle.sched_model.specs.States.{StateOf, row_at, no_row, row_wleft, opening, opening_row}
 use Rattle.sched_model.proofs.LevelSums.{share-most, greatest-above, greatest-least, greatest-same}
 use Rattle.sched_model.proofs.ScheduleLemmas.{length-list_below}
+use Rattle.sched_model.proofs.JobLaws.{due-none, due-suc, le-due, release-due, latest_since-pos, latest_since-suc}
 use Rattle.sched_model.proofs.Tables.{get-table}
 use Rattle.sched_model.proofs.Limits.{some_task, some_period, low_period}
 use Rattle.governor.specs.Steps.{earliest, is_due, boundary_row, opened_row, after_boundary, share, left, left_of, key_of, release_of, last_marked, IsLegal, after_tick, tick_row, IsBeforeAll, IsAtDecision, Belongs}
@@ -24,8 +27,8 @@ pub record RowOk (plan : Plan) (dem : ℕ → ℕ → ℕ) (now i : ℕ) (row : 
   pub worst : row.worst ≡ worst plan i
   pub used : row.used ≤ row.worst
   pub due : now ≤ row.deadline
-  pub deadline : row.deadline ≡ row.job * period plan i
-  pub released : release_of (period plan i) row ≤ now
+  pub deadline : row.deadline ≡ due_at plan i row.job
+  pub released : release_of plan i row ≤ now
   pub open_job : row.done ≡ false → row.used < dem i row.job
   pub closed_job : row.done ≡ true → 0 < row.job → row.used ≡ dem i row.job
   pub no_job : row.job ≡ 0 → (row.done ≡ true) × (row.used ≡ 0)
@@ -51,16 +54,16 @@ belongs_of_rows plan dem s rows base marked bases demand each = record {
 pub in_rows : (plan : Plan) (dem : ℕ → ℕ → ℕ) (s : StateOf) → Belongs plan dem s → (i : ℕ) → i < count plan → i < length s.rows
 in_rows plan dem s bel i h = omega (arith, bel.of.rows)
 
-pub opening_at : (plan : Plan) (i : ℕ) → i < count plan → row_at (opening plan) i ≡ opening_row (worst plan i)
-opening_at plan i h = get-table (count plan) (λ k. opening_row (worst plan k)) i no_row h
+pub opening_at : (plan : Plan) (i : ℕ) → i < count plan → row_at (opening plan) i ≡ opening_row (offset plan i) (worst plan i)
+opening_at plan i h = get-table (count plan) (λ k. opening_row (offset plan k) (worst plan k)) i no_row h
 
-opening_row_ok : (plan : Plan) (dem : ℕ → ℕ → ℕ) (i c : ℕ) → c ≡ worst plan i → RowOk plan dem 0 i (opening_row c)
-opening_row_ok plan dem i c e = record {
-  worst = e;
+opening_row_ok : (plan : Plan) (dem : ℕ → ℕ → ℕ) (i : ℕ) → RowOk plan dem 0 i (opening_row (offset plan i) (worst plan i))
+opening_row_ok plan dem i = record {
+  worst = refl;
   used = omega arith;
   due = omega arith;
-  deadline = sym (zero-mul (period plan i));
-  released = (let none : (0 - 1) * period plan i ≡ 0 = zero-mul (period plan i) in omega arith);
+  deadline = sym (due-none plan i);
+  released = omega arith;
   open_job = λ h. absurd (let t : true ≡ false = h in cc);
   closed_job = λ h pos. absurd (omega arith);
   no_job = λ h. (refl, refl);
@@ -69,9 +72,9 @@ opening_row_ok plan dem i c e = record {
 pub belongs_opening : (plan : Plan) (dem : ℕ → ℕ → ℕ) → IsWithin plan dem → Belongs plan dem (opening plan)
 belongs_opening plan dem fits =
     let ok : (i : ℕ) → i < count plan → RowOk plan dem 0 i (row_at (opening plan) i) =
-    λ i h. subst (λ (row : Row). RowOk plan dem 0 i row) (sym (opening_at plan i h)) (opening_row_ok plan dem i (worst plan i) refl) in
-    let none : last_marked plan (opening plan) ≤ 0 = greatest-least (count plan) (λ i. release_of (period plan i) (row_at (opening plan) i)) 0 (λ i h. (ok i h).released) in
-    belongs_of_rows plan dem (opening plan) (length-list_below (count plan) (λ i. opening_row (worst plan i))) (length-list_below (count plan) (λ i. 0)) (omega (arith, none))
+    λ i h. subst (λ (row : Row). RowOk plan dem 0 i row) (sym (opening_at plan i h)) (opening_row_ok plan dem i) in
+    let none : last_marked plan (opening plan) ≤ 0 = greatest-least (count plan) (λ i. release_of plan i (row_at (opening plan) i)) 0 (λ i h. (ok i h).released) in
+    belongs_of_rows plan dem (opening plan) (length-list_below (count plan) (λ i. opening_row (offset plan i) (worst plan i))) (length-list_below (count plan) (λ i. 0)) (omega (arith, none))
     (λ i h. subst (λ (row : Row). row_wleft row ≤ slice_index (opening plan).base i) (sym (opening_at plan i h)) (omega arith))
     fits ok
 
@@ -80,10 +83,8 @@ eqb_pos zero e = absurd (let t : true ≡ false = e in cc)
 eqb_pos (suc n) e = omega arith
 
 -- the next job is released where this one is due
-pub opened_release : (plan : Plan) (dem : ℕ → ℕ → ℕ) (i : ℕ) (row : Row) → row.deadline ≡ row.job * period plan i → release_of (period plan i) (opened_row plan dem i row) ≡ row.deadline
-opened_release plan dem i row e =
-    let back : row.job + 1 - 1 ≡ row.job = omega arith in
-    ap (λ (k : ℕ). k * period plan i) back ∙ sym e
+pub opened_release : (plan : Plan) (dem : ℕ → ℕ → ℕ) (i : ℕ) (row : Row) → row.deadline ≡ due_at plan i row.job → release_of plan i (opened_row plan dem i row) ≡ row.deadline
+opened_release plan dem i row e = latest_since-suc plan i row.job ∙ sym e
 
 -- a row at a boundary
 opened_row_ok : (plan : Plan) (dem : ℕ → ℕ → ℕ) (now i : ℕ) (row : Row) → row.deadline ≡ now → RowOk plan dem now i row → RowOk plan dem now i (opened_row plan dem i row)
@@ -91,7 +92,7 @@ opened_row_ok plan dem now i row at_now ok = record {
   worst = ok.worst;
   used = omega arith;
   due = omega (arith, ok.due);
-  deadline = omega (arith, ok.deadline);
+  deadline = omega (arith, ok.deadline, due-suc plan i row.job);
   released = (let e = opened_release plan dem i row ok.deadline in omega arith);
   open_job = λ e. eqb_pos (dem i (row.job + 1)) e;
   closed_job = λ e pos. sym (eqb-true (dem i (row.job + 1)) 0 e);
@@ -144,25 +145,25 @@ base_covers plan dem s bel i h false none =
 marked_at : (plan : Plan) (dem : ℕ → ℕ → ℕ) (s : StateOf) → Belongs plan dem s → (b : Bool) → list_any (is_due s.now) s.rows ≡ b → (if b then s.now else s.base_at) ≡ last_marked plan (after_boundary plan dem s)
 marked_at plan dem s bel true some =
     let t = after_boundary plan dem s in
-    let release : ℕ → ℕ = λ i. release_of (period plan i) (row_at t i) in
+    let release : ℕ → ℕ = λ i. release_of plan i (row_at t i) in
     let most : greatest_below (count plan) release ≤ s.now = greatest-least (count plan) release s.now (λ i h. (boundary_rows_ok plan dem s bel i h).released) in
     let found = some_due_at (is_due s.now) s.rows some in
     let i = found.0 in
     let here : i < length s.rows = found.1 in
     let h : i < count plan = omega (arith, bel.of.rows) in
     let at_now : (row_at s i).deadline ≡ s.now = eqb-true (row_at s i).deadline s.now found.2 in
-    let P : Bool → Type 0 = λ (b : Bool). release_of (period plan i) (if b then opened_row plan dem i (row_at s i) else row_at s i) ≡ s.now in
+    let P : Bool → Type 0 = λ (b : Bool). release_of plan i (if b then opened_row plan dem i (row_at s i) else row_at s i) ≡ s.now in
     let last : release i ≡ s.now = rw (boundary_at plan dem s i here) (subst P (sym found.2) (opened_release plan dem i (row_at s i) (bel.deadline i h) ∙ at_now)) in
     let least : release i ≤ greatest_below (count plan) release = greatest-above (count plan) release i h in
     omega arith
 marked_at plan dem s bel false none =
     let t = after_boundary plan dem s in
     bel.base_at
-    ∙ greatest-same (count plan) (λ i. release_of (period plan i) (row_at s i)) (λ i. release_of (period plan i) (row_at t i))
+    ∙ greatest-same (count plan) (λ i. release_of plan i (row_at s i)) (λ i. release_of plan i (row_at t i))
     (λ i h.
     let here : i < length s.rows = in_rows plan dem s bel i h in
     let still : is_due s.now (row_at s i) ≡ false = none_due_at (is_due s.now) s.rows i none here in
-    let P : Bool → Type 0 = λ (b : Bool). release_of (period plan i) (row_at s i) ≡ release_of (period plan i) (if b then opened_row plan dem i (row_at s i) else row_at s i) in
+    let P : Bool → Type 0 = λ (b : Bool). release_of plan i (row_at s i) ≡ release_of plan i (if b then opened_row plan dem i (row_at s i) else row_at s i) in
     rw (boundary_at plan dem s i here) (subst P (sym still) refl))
 
 pub belongs_boundary : (plan : Plan) (dem : ℕ → ℕ → ℕ) (s : StateOf) → Belongs plan dem s → Belongs plan dem (after_boundary plan dem s)
@@ -189,27 +190,30 @@ due_later plan dem now i row pos due =
 -- job numbers are at most the deadlines
 pub numbered : (plan : Plan) (dem : ℕ → ℕ → ℕ) (s : StateOf) → IsWithinLimits plan → Belongs plan dem s → (i : ℕ) → i < count plan → (row_at s i).job ≤ (row_at s i).deadline
 numbered plan dem s lim bel i h =
-    omega (arith, bel.deadline i h, le-mul_of_pos_right (row_at s i).job (some_period plan lim i h))
+    omega (arith, bel.deadline i h, le-due plan i (row_at s i).job (some_period plan lim i h))
 
 -- a deadline is at most a period after the release
-pub due_soon : (job p : ℕ) → job * p ≤ (job - 1) * p + p
-due_soon zero p = omega (arith, zero-mul p)
-due_soon (suc k) p = let e : suc k - 1 ≡ k = omega arith in rw e (omega arith)
+pub due_soon : (plan : Plan) (i job : ℕ) → 0 < job → due_at plan i job ≤ latest_since plan i job + period plan i
+due_soon plan i job some = omega (arith, latest_since-pos plan i job some, release-due plan i job some)
+
+-- and that of job 0 is the offset
+due_low : (plan : Plan) → IsWithinLimits plan → (i job : ℕ) → i < count plan → due_at plan i job ≤ latest_since plan i job + 2 ^ 40
+due_low plan lim i zero h = let first : offset plan i ≤ 2 ^ 40 = (lim.tasks.each i h).low_offset in omega (arith, due-none plan i, first)
+due_low plan lim i (suc k) h = omega (arith, due_soon plan i (suc k) (omega arith), low_period plan lim i h)
 
 pub decision_boundary : (plan : Plan) (dem : ℕ → ℕ → ℕ) (s : StateOf) → IsWithinLimits plan → Belongs plan dem s → IsAtDecision plan (after_boundary plan dem s)
 decision_boundary plan dem s lim bel =
     let t = after_boundary plan dem s in
     let bel' = belongs_boundary plan dem s bel in
-    let release : ℕ → ℕ = λ i. release_of (period plan i) (row_at t i) in
+    let release : ℕ → ℕ = λ i. release_of plan i (row_at t i) in
     let most : greatest_below (count plan) release ≤ s.now = greatest-least (count plan) release s.now (λ i h. bel'.released i h) in
     record {
       before = λ i h.
           rw (boundary_at plan dem s i (in_rows plan dem s bel i h)) (due_later plan dem s.now i (row_at s i) (some_period plan lim i h) (bel.due i h));
       soon = λ i h.
-          let low : period plan i ≤ 2 ^ 40 = low_period plan lim i h in
           let d = bel'.deadline i h in
           let r = bel'.released i h in
-          let near = due_soon (row_at t i).job (period plan i) in
+          let near = due_low plan lim i (row_at t i).job h in
           omega arith;
       marked = (let e = bel'.base_at in omega arith);
       since = λ i h. (let e = bel'.base_at in let g : release i ≤ greatest_below (count plan) release = greatest-above (count plan) release i h in omega arith);
@@ -263,11 +267,11 @@ belongs_tick plan dem f s shares bel before legal =
     let here : (i : ℕ) → i < count plan → i < length s.rows = in_rows plan dem s bel in
     let same : s.base_at ≡ last_marked plan t =
     bel.base_at
-    ∙ greatest-same (count plan) (λ i. release_of (period plan i) (row_at s i)) (λ i. release_of (period plan i) (row_at t i)) (λ i h. rw (tick_at dem shares s i (here i h)) refl) in
+    ∙ greatest-same (count plan) (λ i. release_of plan i (row_at s i)) (λ i. release_of plan i (row_at t i)) (λ i h. rw (tick_at dem shares s i (here i h)) refl) in
     belongs_of_rows plan dem t (tick_long dem shares s ∙ bel.of.rows) bel.of.base same
     (λ i h. rw (tick_at dem shares s i (here i h)) (let r = wleft_falls (row_at s i).done (row_at s i).worst (row_at s i).used (share shares i) (dem i (row_at s i).job) in let b = bel.base i h in le_trans r b))
     bel.demand
-    (λ i h. rw (tick_at dem shares s i (here i h)) (row_after_tick plan dem shares s.now i (row_at s i) (λ k. bel.demand i k h) (before i h) (legal_most plan dem f s shares legal i h) (row_ok plan dem s bel i h)))
+    (λ i h. rw (tick_at dem shares s i (here i h)) (row_after_tick plan dem shares s.now i (row_at s i) (λ k. bel.demand.most i k h) (before i h) (legal_most plan dem f s shares legal i h) (row_ok plan dem s bel i h)))
 
 -- before all deadlines, the earliest one is later than now
 pub earliest-later : (plan : Plan) → IsWithinLimits plan → (s : StateOf) → IsBeforeAll plan s → s.now < earliest plan s

@@ -17,10 +17,10 @@ use Rattle.sched_model.specs.Decision.{is_decision}
 use Rattle.sched_model.specs.Priority.{allotment, key_of}
 use Rattle.sched_model.specs.Schedule.{entry_in_force, next_tick, schedule_by, IsNext}
 use Rattle.sched_model.specs.States.{StateOf, no_row, row_at, prior_row, prior_state, state_of}
-use Rattle.sched_model.proofs.Limits.{some_task, every_period}
+use Rattle.sched_model.proofs.Limits.{every_period}
 use Rattle.sched_model.proofs.ScheduleLemmas.{next_tick-may, schedule_exists, schedule-none, schedule-suc, force-decided, force-within}
 use Rattle.sched_model.proofs.Tables.{get-table}
-use Rattle.sched_model.proofs.JobLaws.{latest-is, latest-pos, release-due}
+use Rattle.sched_model.proofs.JobLaws.{latest-is, release-due}
 use Rattle.sched_model.proofs.Joining.{state-still}
 use Rattle.governor.specs.Steps.{IsAtDecision, IsLegal, Belongs}
 use Rattle.governor.specs.Laws.{GovernorLaws}
@@ -49,9 +49,6 @@ module _ (kind : GovernorKind) (serves : Scheduler → Type 0) (demand : Plan �
   periods : (i : ℕ) → 0 < period p i
   periods = every_period p adm.limits
 
-  some : 0 < count p
-  some = some_task p adm.limits
-
   abbrev pub ask : List Tick → Frac
   ask = ask_of demand p dem
 
@@ -69,15 +66,15 @@ module _ (kind : GovernorKind) (serves : Scheduler → Type 0) (demand : Plan �
 
   -- after them
   pub belongs-state : (past : List Tick) → Kept past → Belongs p dem (state_of p dem past)
-  belongs-state past k = subst (Belongs p dem) (boundary-is p dem periods past some) (belongs_boundary p dem (prior_state p dem past) k.belongs)
+  belongs-state past k = subst (Belongs p dem) (boundary-is p dem periods within.none past) (belongs_boundary p dem (prior_state p dem past) k.belongs)
 
   pub calm-state : (past : List Tick) → Kept past → calm p (state_of p dem past)
   calm-state past k =
-      subst (calm p) (boundary-is p dem periods past some)
+      subst (calm p) (boundary-is p dem periods within.none past)
       (laws.releases p dem (prior_state p dem past) adm served k.belongs k.is_calm)
 
   pub decides-state : (past : List Tick) → Kept past → IsAtDecision p (state_of p dem past)
-  decides-state past k = subst (IsAtDecision p) (boundary-is p dem periods past some) (decision_boundary p dem (prior_state p dem past) adm.limits k.belongs)
+  decides-state past k = subst (IsAtDecision p) (boundary-is p dem periods within.none past) (decision_boundary p dem (prior_state p dem past) adm.limits k.belongs)
 
   no-release : (past : List Tick) → is_decision p dem past ≡ false → is_release p (length past) ≡ false
   no-release [] e = absurd (true≢false e)
@@ -91,7 +88,7 @@ module _ (kind : GovernorKind) (serves : Scheduler → Type 0) (demand : Plan �
           subst (safe p (state_of p dem past)) (sym (force-decided p dem ask past e))
           (laws.chooses p dem (state_of p dem past) adm served (belongs-state past k) (decides-state past k) (calm-state past k))
       go false e =
-          subst (λ s. safe p s (entry_at past)) (state-still p dem periods past some (no-release past e))
+          subst (λ s. safe p s (entry_at past)) (state-still p dem periods past within.none (no-release past e))
           (k.is_safe e)
 
   abbrev tick : List Tick → Tick
@@ -103,17 +100,17 @@ module _ (kind : GovernorKind) (serves : Scheduler → Type 0) (demand : Plan �
   legal : (past : List Tick) → IsLegal p dem (speed_now past) (state_of p dem past) (tick past).shares
   legal past =
       let may : IsNext p dem ask past (tick past) = next_tick-may p dem ask past in
-      legal-is p dem periods (tick past) past (speed_now past) may.one_share_each may.legal
+      legal-is p dem periods within.none (tick past) past (speed_now past) may.one_share_each may.legal
 
   safe-next : (past : List Tick) → Kept past → safe p (prior_state p dem (tick past ∷ past)) (entry_at past)
   safe-next past k =
-      subst (λ s. safe p s (entry_at past)) (tick-is p dem periods (tick past) past (own past))
+      subst (λ s. safe p s (entry_at past)) (tick-is p dem periods within.none (tick past) past (own past))
       (laws.ticks p dem (state_of p dem past) (entry_at past) (tick past).shares adm served (belongs-state past k) (decides-state past k).before
       (force-within p dem ask adm.limits.machine.some past) (legal past) (safe-state past k))
 
   belongs-next : (past : List Tick) → Kept past → Belongs p dem (prior_state p dem (tick past ∷ past))
   belongs-next past k =
-      subst (Belongs p dem) (tick-is p dem periods (tick past) past (own past))
+      subst (Belongs p dem) (tick-is p dem periods within.none (tick past) past (own past))
       (belongs_tick p dem (speed_now past) (state_of p dem past) (tick past).shares (belongs-state past k) (decides-state past k).before (legal past))
 
   kept-next : (past : List Tick) → Kept past → Kept (tick past ∷ past)
@@ -148,7 +145,7 @@ module _ (kind : GovernorKind) (serves : Scheduler → Type 0) (demand : Plan �
       let done : (row_at (prior_state p dem (x ∷ past)) i).done ≡ true = laws.completes p dem (prior_state p dem (x ∷ past)) adm served kept.belongs kept.is_calm i lt now in
       let P : Row → Type 0 = λ (r : Row). r.done ≡ true → 0 < r.job → r.used ≡ dem i r.job in
       let had : exec p (x ∷ past) i (latest p i (length past)) ≡ dem i (latest p i (length past)) =
-      subst P row (kept.belongs.closed_job i lt) (sym (ap (λ (r : Row). r.done) row) ∙ done) (latest-pos p i (length past)) in
+      subst P row (kept.belongs.closed_job i lt) (sym (ap (λ (r : Row). r.done) row) ∙ done) (omega (arith, job, pos)) in
       ap (exec p (x ∷ past) i) (sym job) ∙ (had ∙ ap (dem i) job)
 
   -- every deadline is met

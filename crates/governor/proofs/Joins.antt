@@ -58,7 +58,7 @@ sum_up_to-same n key key' f f' ks fs i lt =
     ap₂ (λ (b : Bool) x. if b then x else 0) (ap₂ (λ x y. nat_lt x y || (nat_eq x y && nat_lt j i)) (ks j l) (ks i lt)) (fs j l)))
     (fs i lt)
 
-module _ (p : Plan) (dem : ℕ → ℕ → ℕ) (periods : (i : ℕ) → 0 < period p i) where
+module _ (p : Plan) (dem : ℕ → ℕ → ℕ) (periods : (i : ℕ) → 0 < period p i) (none : (i : ℕ) → dem i 0 ≡ 0) where
   -- a boundary
   boundary-row : (past : List Tick) (i : ℕ) → boundary_row p dem (length past) i (prior_row p dem past i) ≡ row_of p dem past i
   boundary-row past i = go (nat_eq (prior_row p dem past i).deadline (length past)) refl
@@ -67,7 +67,7 @@ module _ (p : Plan) (dem : ℕ → ℕ → ℕ) (periods : (i : ℕ) → 0 < per
       go true e =
           let same : (prior_row p dem past i).deadline ≡ length past = grind (arith, nat_tests) in
           rw e (sym (row-opened p dem periods past i same))
-      go false e = rw e (sym (row-kept p dem periods past i e))
+      go false e = rw e (sym (row-kept p dem periods past i (none i) e))
 
   boundary-rows : (past : List Tick) → boundary_rows p dem (prior_state p dem past) ≡ list_below (count p) (row_of p dem past)
   boundary-rows past =
@@ -88,15 +88,15 @@ module _ (p : Plan) (dem : ℕ → ℕ → ℕ) (periods : (i : ℕ) → 0 < per
     base = (if b then map row_wleft rows else list_below (count p) (prior_base p dem past));
   }
 
-  pub boundary-is : (past : List Tick) → 0 < count p → after_boundary p dem (prior_state p dem past) ≡ state_of p dem past
-  boundary-is past some = ap₂ (opened_by past) (boundary-rows past) (some-due past) ∙ go (is_release p (length past)) refl
+  pub boundary-is : (past : List Tick) → after_boundary p dem (prior_state p dem past) ≡ state_of p dem past
+  boundary-is past = ap₂ (opened_by past) (boundary-rows past) (some-due past) ∙ go (is_release p (length past)) refl
     where
       rows : List Row
       rows = list_below (count p) (row_of p dem past)
 
       go : (b : Bool) → is_release p (length past) ≡ b → opened_by past rows (is_release p (length past)) ≡ state_of p dem past
       go true e = ap (opened_by past rows) e ∙ state-marked p dem periods past e
-      go false e = ap (opened_by past rows) e ∙ state-unmarked p dem periods past some e
+      go false e = ap (opened_by past rows) e ∙ state-unmarked p dem periods past none e
 
   -- a tick
   done-is : (d u sh : ℕ) → sh ≤ d - u → nat_le d (u + sh) ≡ (nat_le d u || (u + sh == d))
@@ -112,7 +112,7 @@ module _ (p : Plan) (dem : ℕ → ℕ → ℕ) (periods : (i : ℕ) → 0 < per
 
   tick-row : (x : Tick) (past : List Tick) (i : ℕ) → share_at x i ≤ left_at p dem past i → prior_row p dem (x ∷ past) i ≡ tick_row dem x.shares i (row_of p dem past i)
   tick-row x past i fits =
-      row-ran p dem periods x past i
+      row-ran p dem periods x past i (none i) fits
       ∙ ap (λ b. row_by (row_of p dem past i).deadline (row_of p dem past i).job ((row_of p dem past i).used + share_at x i) b (row_of p dem past i).worst)
       (done-is (dem i (latest p i (length past))) (exec p past i (latest p i (length past))) (share_at x i) fits)
 

@@ -25,7 +25,7 @@ tick_closes false used need sh o le all = let e : used + sh ≡ need = omega (ar
 
 -- the demand of a row's job is at most its worst case
 pub demand_most : (plan : Plan) (dem : ℕ → ℕ → ℕ) (s : StateOf) → Belongs plan dem s → (i : ℕ) → i < count plan → dem i (row_at s i).job ≤ (row_at s i).worst
-demand_most plan dem s bel i h = let m = bel.demand i (row_at s i).job h in let w = bel.of.worst i h in omega arith
+demand_most plan dem s bel i h = let m = bel.demand.most i (row_at s i).job h in let w = bel.of.worst i h in omega arith
 
 -- what a task has left falls by its units at least
 pub tick-falls : (plan : Plan) (dem : ℕ → ℕ → ℕ) (f : ℕ) (s : StateOf) (shares : List ℕ) → Belongs plan dem s → IsLegal plan dem f s shares → (i : ℕ) → i < count plan → wleft_at (after_tick dem shares s) i + share shares i ≤ wleft_at s i

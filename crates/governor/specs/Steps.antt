@@ -1,11 +1,13 @@
 -- What a boundary and a tick make of a state, for a demand of each job.
-use Rattle.std.specs.Prelude.{◌≡◌, ◌==◌, ℕ, suc, ◌+◌, ◌-◌, ◌*◌, ◌<◌, ◌≤◌, ◌^◌, Bool, true, false, if◌then◌else◌, ◌||◌, List, [], ◌∷◌, map, length, slice_index}
+use Rattle.std.specs.Prelude.{◌≡◌, ◌==◌, ℕ, suc, ◌+◌, ◌-◌, ◌<◌, ◌≤◌, ◌^◌, Bool, true, false, if◌then◌else◌, ◌||◌, List, [], ◌∷◌, map, length, slice_index}
 use Rattle.std.specs.List.{list_any}
 use Rattle.dvs_base.specs.declared.kind.Scheduler.{Scheduler}
 use Rattle.dvs_base.specs.declared.kind.Scheduler.TheVariants.{Edf, Rm}
 use Rattle.sched_model.specs.declared.state.Row.{Row}
 use Rattle.sched_model.specs.Priority.{SharesOut}
 use Rattle.sched_model.specs.Plan.{Plan, count, period}
+use Rattle.sched_model.specs.Jobs.{latest_since}
+use Rattle.sched_model.specs.Jobs.{due as due_at}
 use Rattle.sched_model.specs.Demands.{IsWithin}
 use Rattle.grid_fraction.specs.Numbers.{greatest_below, least_below}
 use Rattle.sched_model.specs.States.{StateOf, row_at, row_wleft, released_row, IsOfPlan}
@@ -37,13 +39,13 @@ after_boundary plan dem s = record {
   base = (if list_any (is_due s.now) s.rows then map row_wleft (boundary_rows plan dem s) else s.base);
 }
 
--- the release of a row's job, and 0 for job 0
-abbrev pub release_of : ℕ → Row → ℕ
-release_of period row = (row.job - 1) * period
+-- the release of the job of task i's row, and 0 for job 0
+abbrev pub release_of : Plan → ℕ → Row → ℕ
+release_of plan i row = latest_since plan i row.job
 
 -- the last release among the rows, and 0 where there is none
 abbrev pub last_marked : Plan → StateOf → ℕ
-last_marked plan s = greatest_below (count plan) (λ i. release_of (period plan i) (row_at s i))
+last_marked plan s = greatest_below (count plan) (λ i. release_of plan i (row_at s i))
 
 -- what a job still needs
 abbrev pub left_of : (ℕ → ℕ → ℕ) → ℕ → Row → ℕ
@@ -90,7 +92,7 @@ pub record IsAtDecision (plan : Plan) (s : StateOf) : Type 0 where
   pub before : IsBeforeAll plan s
   pub soon : (i : ℕ) → i < count plan → (row_at s i).deadline ≤ s.now + 2 ^ 40
   pub marked : s.base_at ≤ s.now
-  pub since : (i : ℕ) → i < count plan → release_of (period plan i) (row_at s i) ≤ s.base_at
+  pub since : (i : ℕ) → i < count plan → release_of plan i (row_at s i) ≤ s.base_at
   pub base : (i : ℕ) → i < count plan → row_wleft (row_at s i) ≤ slice_index s.base i
 
 -- a state of the plan that belongs to a demand list
@@ -98,8 +100,8 @@ pub record Belongs (plan : Plan) (dem : ℕ → ℕ → ℕ) (s : StateOf) : Typ
   pub of : IsOfPlan plan s
   pub demand : IsWithin plan dem
   pub due : (i : ℕ) → i < count plan → s.now ≤ (row_at s i).deadline
-  pub deadline : (i : ℕ) → i < count plan → (row_at s i).deadline ≡ (row_at s i).job * period plan i
-  pub released : (i : ℕ) → i < count plan → release_of (period plan i) (row_at s i) ≤ s.now
+  pub deadline : (i : ℕ) → i < count plan → (row_at s i).deadline ≡ due_at plan i (row_at s i).job
+  pub released : (i : ℕ) → i < count plan → release_of plan i (row_at s i) ≤ s.now
   pub base_at : s.base_at ≡ last_marked plan s
   pub base : (i : ℕ) → i < count plan → row_wleft (row_at s i) ≤ slice_index s.base i
   pub open_job : (i : ℕ) → i < count plan → (row_at s i).done ≡ false → (row_at s i).used < dem i (row_at s i).job

@@ -13,7 +13,7 @@ use Rattle.sched_model.specs.States.{StateOf}
 use Rattle.look_ahead_laws.specs.Ahead.{ahead_demand}
 
 abbrev task_of : List ℕ → ℕ → ℕ → Task
-task_of name period worst = record { name = name; period = period; worst = worst }
+task_of name period worst = record { name = name; period = period; worst = worst; offset = 0 }
 
 abbrev entry_of : ℕ → ℕ → Point
 entry_of speed millivolts = record { speed = speed; millivolts = millivolts }

@@ -12,7 +12,7 @@ use Rattle.grid_fraction.proofs.Least.{least-below, least-above, least-same}
 use Rattle.freq_table.specs.Tables.{speed_at}
 use Rattle.sched_model.specs.declared.state.Row.{Row}
 use Rattle.sched_model.specs.Priority.{stands_before}
-use Rattle.sched_model.specs.Plan.{Plan, count, period, worst, hyper, rate}
+use Rattle.sched_model.specs.Plan.{Plan, count, period, offset, worst, hyper, rate}
 use Rattle.sched_model.specs.Tests.{total_rate}
 use Rattle.sched_model.specs.Admission.{IsWithinLimits}
 use Rattle.sched_model.specs.States.{StateOf, row_at, row_wleft, opening, opening_row}
@@ -95,11 +95,14 @@ by_rates h f F x y u w rest none le fits = rw none (omega (arith, mul-le-mul_lef
 by_units : (h f F x y new old rest : ℕ) → new + f ≤ old → h * old + rest ≤ h * (f * (x + 1) + F * y) → h * new + rest ≤ h * (f * x + F * y)
 by_units h f F x y new old rest falls before = omega (arith, mul-le-mul_left h falls)
 
-opening_term : (h d u c : ℕ) → term h d u (opening_row c) ≤ d * u
-opening_term h d u c =
-    let whole : u * (d - (opening_row c).deadline) ≡ u * d = ap (λ (x : ℕ). u * x) (sub-zero d) in
-    let none : h * row_wleft (opening_row c) ≡ 0 = mul-zero h in
-    rw (le-leb 0 d (omega arith)) (omega (arith, whole, none))
+opening_term : (h d u o c : ℕ) → term h d u (opening_row o c) ≤ d * u
+opening_term h d u o c =
+    let part : u * (d - o) ≤ u * d = mul-le-mul_left u (let less : d - o ≤ d = omega arith in less) in
+    let none : h * row_wleft (opening_row o c) ≡ 0 = mul-zero h in
+    elim (cases_Bool (nat_le o d)) [
+      | inl since ↦ rw since (omega (arith, part, none))
+      | inr early ↦ rw early (omega arith)
+    ]
 
 module _ (F : ℕ) (plan : Plan) (lim : IsWithinLimits plan) where
   pub edf_opens : total_rate plan ≤ F * (hyper plan) → EdfCalm F plan (opening plan)
@@ -107,7 +110,7 @@ module _ (F : ℕ) (plan : Plan) (lim : IsWithinLimits plan) where
       let n = count plan in
       let each : sum_below n (λ i. term (hyper plan) d (rate plan i) (row_at (opening plan) i)) ≤ sum_below n (λ i. d * rate plan i) =
       sum_below-le n (λ i. term (hyper plan) d (rate plan i) (row_at (opening plan) i)) (λ i. d * rate plan i) (λ i h.
-      rw (opening_at plan i h) (opening_term (hyper plan) d (rate plan i) (worst plan i))) in
+      rw (opening_at plan i h) (opening_term (hyper plan) d (rate plan i) (offset plan i) (worst plan i))) in
       let whole : d - (opening plan).now ≡ d = sub-zero d in
       rw whole (omega (arith, load_is plan (opening plan) d, each, sum_below-times n d (rate plan), mul-le-mul_left d fits))
 

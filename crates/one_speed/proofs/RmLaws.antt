@@ -1,5 +1,5 @@
 -- The laws under RM at one speed.
-use Rattle.std.proofs.Common.{◌≡◌, ◌⊎◌, inl, inr, ℕ, zero, suc, ◌+◌, ◌-◌, ◌*◌, ◌<◌, ◌≤◌, Bool, true, false, List, length, refl, sym, ◌∙◌, ap, subst, arith}
+use Rattle.std.proofs.Common.{◌≡◌, ◌⊎◌, inl, inr, ℕ, zero, suc, ◌+◌, ◌-◌, ◌*◌, ◌<◌, ◌≤◌, Bool, true, false, List, length, refl, sym, ◌∙◌, ap, subst, arith, add-one}
 use Rattle.std.proofs.Math.Nat.{mul-le-mul_right, mul-zero}
 use Rattle.std.specs.Prelude.{if◌then◌else◌, nat_le, ◌==◌}
 use Rattle.std.proofs.lemmas.Bool.{le-leb, leb-true, cases_lt, cases_Bool, eqb-true}
@@ -7,45 +7,54 @@ use Rattle.dvs_base.specs.declared.kind.Scheduler.{Scheduler}
 use Rattle.dvs_base.specs.declared.kind.Scheduler.TheVariants.{Rm}
 use Rattle.grid_fraction.specs.Numbers.{sum_where, ceil_div}
 use Rattle.sched_model.specs.declared.state.Row.{Row}
+use Rattle.sched_model.specs.Jobs.{release, latest_since}
+use Rattle.sched_model.specs.Jobs.{due as due_at}
 use Rattle.sched_model.specs.Priority.{stands_before}
 use Rattle.sched_model.specs.Plan.{Plan, count, period, worst}
 use Rattle.sched_model.specs.Admission.{IsWithinLimits}
 use Rattle.sched_model.specs.States.{StateOf, row_at, row_wleft, opening}
+use Rattle.sched_model.proofs.JobLaws.{due-suc, release-suc, release-due, latest_since-pos}
 use Rattle.sched_model.proofs.Limits.{some_period}
 use Rattle.sched_model.proofs.LevelSums.{sum_where-mono, sum_where-plus, sum_where-term, up_to-self, up_to-trans, sum_up_to-where}
 use Rattle.governor.specs.Steps.{is_due, opened_row, after_boundary, wleft_at, release_of, share, key_of, IsLegal, after_tick, IsBeforeAll, Belongs}
 use Rattle.governor.proofs.Rows.{done_none, wleft-most, or_false_left}
-use Rattle.governor.proofs.Belonging.{in_rows, opening_at, boundary_at, tick_at, belongs_tick}
+use Rattle.governor.proofs.Belonging.{in_rows, opening_at, opened_release, boundary_at, tick_at, belongs_tick}
 use Rattle.governor.proofs.Ticks.{tick_set, demand_most}
 use Rattle.one_speed.specs.Rm.{level_work_in, level, released_since, asked_since, StretchCalm}
 use Rattle.one_speed.proofs.EdfLaws.{closed_row}
 
 -- spacing: the jobs that were released at b or later lie a period apart
-spaced : (p b k : ℕ) → (released_since p b k ≡ 0) ⊎ (b + released_since p b k * p ≤ k * p)
-spaced p b zero = inl refl
-spaced p b (suc k) = go (nat_le b (k * p)) refl (spaced p b k)
+spaced : (plan : Plan) (j b k : ℕ) → (released_since plan j b k ≡ 0) ⊎ (b + released_since plan j b k * period plan j ≤ due_at plan j k)
+spaced plan j b zero = inl refl
+spaced plan j b (suc k) = go (nat_le b (release plan j (suc k))) refl (spaced plan j b k)
   where
-    go : (c : Bool) → nat_le b (k * p) ≡ c → (released_since p b k ≡ 0) ⊎ (b + released_since p b k * p ≤ k * p)
-        → (released_since p b k + (if c then 1 else 0) ≡ 0) ⊎ (b + (released_since p b k + (if c then 1 else 0)) * p ≤ suc k * p)
-    go true e (inl none) = inr (let g : b ≤ k * p = leb-true b (k * p) e in rw none (omega arith))
-    go true e (inr some) = inr (omega arith)
+    p : ℕ
+    p = period plan j
+
+    later : due_at plan j (suc k) ≡ due_at plan j k + p
+    later = ap (due_at plan j) (sym (add-one k)) ∙ due-suc plan j k
+
+    go : (c : Bool) → nat_le b (release plan j (suc k)) ≡ c → (released_since plan j b k ≡ 0) ⊎ (b + released_since plan j b k * p ≤ due_at plan j k)
+        → (released_since plan j b k + (if c then 1 else 0) ≡ 0) ⊎ (b + (released_since plan j b k + (if c then 1 else 0)) * p ≤ due_at plan j (suc k))
+    go true e (inl none) = inr (let g : b ≤ release plan j (suc k) = leb-true b (release plan j (suc k)) e in rw none (omega (arith, g, release-due plan j (suc k) (omega arith))))
+    go true e (inr some) = inr (omega (arith, later))
     go false e (inl none) = inl (omega arith)
-    go false e (inr some) = inr (omega arith)
+    go false e (inr some) = inr (omega (arith, later))
 
 -- a window of length l has at most q of them, where q periods cover it
-in_window : (p b k l q : ℕ) → 0 < p → (0 < k → (k - 1) * p < b + l) → l ≤ q * p → released_since p b k ≤ q
-in_window p b zero l q pos last covers = omega arith
-in_window p b (suc k) l q pos last covers =
-    elim (spaced p b (suc k)) [
+in_window : (plan : Plan) (j b k l q : ℕ) → 0 < period plan j → (0 < k → release plan j k < b + l) → l ≤ q * period plan j → released_since plan j b k ≤ q
+in_window plan j b zero l q pos last covers = omega arith
+in_window plan j b (suc k) l q pos last covers =
+    elim (spaced plan j b (suc k)) [
       | inl none ↦ omega arith
       | inr some ↦
-          let c = released_since p b (suc k) in
-          let back : suc k - 1 ≡ k = omega arith in
-          let near : k * p < b + l = rw back at (last (omega arith)) in
+          let p = period plan j in
+          let c = released_since plan j b (suc k) in
+          let near : release plan j (suc k) < b + l = last (omega arith) in
           elim (cases_lt q c) [
             | inl more ↦
                 let m : suc q * p ≤ c * p = mul-le-mul_right p more in
-                absurd (omega arith)
+                absurd (omega (arith, m, some, near, release-due plan j (suc k) (omega arith)))
             | inr most ↦ most
           ]
     ]
@@ -55,17 +64,15 @@ ceil_covers : (n d : ℕ) → 0 < d → n ≤ ceil_div n d * d
 ceil_covers n d pos = omega arith
 
 -- a release at b or later counts
-counts_one : (p b k : ℕ) → b ≤ k * p → released_since p b (k + 1) ≡ released_since p b k + 1
-counts_one p b k le =
-    let next : k + 1 ≡ suc k = omega arith in
-    rw (next, le-leb b (k * p) le) refl
+counts_one : (plan : Plan) (j b k : ℕ) → b ≤ due_at plan j k → released_since plan j b (k + 1) ≡ released_since plan j b k + 1
+counts_one plan j b k le =
+    let next : k + 1 ≡ suc k = add-one k in
+    let there : release plan j (suc k) ≡ due_at plan j k = ap (release plan j) (sym next) ∙ release-suc plan j k in
+    rw (next, le-leb b (release plan j (suc k)) (omega (arith, there))) refl
 
 -- what a release adds is counted
-pays : (p b c job w : ℕ) → b ≤ job * p → w ≤ c → w + released_since p b job * c ≤ released_since p b (job + 1) * c
-pays p b c job w le most = rw (counts_one p b job le) (omega arith)
-
-pays_alone : (p b c job w : ℕ) → b ≤ job * p → w ≤ c → w ≤ released_since p b (job + 1) * c
-pays_alone p b c job w le most = let g = pays p b c job w le most in omega arith
+pays : (plan : Plan) (j b c job w : ℕ) → b ≤ due_at plan j job → w ≤ c → w + released_since plan j b job * c ≤ released_since plan j b (job + 1) * c
+pays plan j b c job w le most = rw (counts_one plan j b job le) (omega arith)
 
 module _ (F : ℕ) (span : ℕ → ℕ) (plan : Plan) (lim : IsWithinLimits plan) where
   pub rm_opens : StretchCalm F span plan (opening plan)
@@ -86,40 +93,35 @@ module _ (F : ℕ) (span : ℕ → ℕ) (plan : Plan) (lim : IsWithinLimits plan
               elim (cases_Bool row.done) [
                 | inl closed ↦ closed
                 | inr still ↦
-                    let from : b ≤ release_of (period plan i) row = stretch.since i h (up_to-self (period plan) i) still in
+                    let from : b ≤ release_of plan i row = stretch.since i h (up_to-self (period plan) i) still in
                     elim (cases_lt 0 row.job) [
                       | inl born ↦
-                          let d : row.deadline ≡ row.job * period plan i = bel.deadline i h in
-                          let r : (row.job - 1) * period plan i + period plan i ≡ row.job * period plan i = one_back row.job (period plan i) born in
+                          let d : row.deadline ≡ due_at plan i row.job = bel.deadline i h in
+                          let r : latest_since plan i row.job ≡ release plan i row.job = latest_since-pos plan i row.job born in
                           let short = stretch.short in
                           let w = within i h in
-                          absurd (omega arith)
+                          absurd (omega (arith, release-due plan i row.job born))
                       | inr unborn ↦ (bel.no_job i h (omega arith)).0
                     ]
               ]
         ]
-      where
-        one_back : (k p : ℕ) → 0 < k → (k - 1) * p + p ≡ k * p
-        one_back zero p pos = absurd (omega arith)
-        one_back (suc k) p pos = let e : suc k - 1 ≡ k = omega arith in rw e (omega arith)
 
     -- a boundary, row by row: where b is at most now, what is added is counted
     row_pays : (b : ℕ) → b ≤ s.now → ((i : ℕ) → i < count plan → (row_at s i).deadline ≡ s.now → (row_at s i).done ≡ true) → (j : ℕ) → j < count plan
         → wleft_at (after_boundary plan dem s) j + asked_since plan s b j ≤ wleft_at s j + asked_since plan (after_boundary plan dem s) b j
     row_pays b le due j h =
         let row = row_at s j in
-        let p = period plan j in
-        let P : Row → Type 0 = λ (new : Row). row_wleft new + released_since p b row.job * worst plan j ≤ row_wleft row + released_since p b new.job * worst plan j in
+        let P : Row → Type 0 = λ (new : Row). row_wleft new + released_since plan j b row.job * worst plan j ≤ row_wleft row + released_since plan j b new.job * worst plan j in
         let Q : Bool → Type 0 = λ (c : Bool). P (if c then opened_row plan dem j row else row) in
         subst P (sym (boundary_at plan dem s j (here j h)))
         (elim (cases_Bool (is_due s.now row)) [
           | inl is_now ↦
               let at_now : row.deadline ≡ s.now = eqb-true row.deadline s.now is_now in
               let none : row_wleft row ≡ 0 = done_none row (due j h at_now) in
-              let d : row.deadline ≡ row.job * p = bel.deadline j h in
+              let d : row.deadline ≡ due_at plan j row.job = bel.deadline j h in
               let small : row_wleft (opened_row plan dem j row) ≤ row.worst = wleft-most (opened_row plan dem j row) in
               let w : row.worst ≡ worst plan j = bel.of.worst j h in
-              let paid = pays p b (worst plan j) row.job (row_wleft (opened_row plan dem j row)) (omega arith) (omega arith) in
+              let paid = pays plan j b (worst plan j) row.job (row_wleft (opened_row plan dem j row)) (omega arith) (omega arith) in
               subst Q (sym is_now) (omega (arith, none, paid))
           | inr later ↦ subst Q (sym later) (omega arith)
         ])
@@ -134,20 +136,16 @@ module _ (F : ℕ) (span : ℕ → ℕ) (plan : Plan) (lim : IsWithinLimits plan
 
     -- a row that is open after a boundary was open before, or is released now
     row_open : (j : ℕ) → j < count plan → (row_at (after_boundary plan dem s) j).done ≡ false
-        → (release_of (period plan j) (row_at (after_boundary plan dem s) j) ≡ s.now) ⊎ (((row_at s j).done ≡ false) × (release_of (period plan j) (row_at (after_boundary plan dem s) j) ≡ release_of (period plan j) (row_at s j)))
+        → (release_of plan j (row_at (after_boundary plan dem s) j) ≡ s.now) ⊎ (((row_at s j).done ≡ false) × (release_of plan j (row_at (after_boundary plan dem s) j) ≡ release_of plan j (row_at s j)))
     row_open j h =
         let row = row_at s j in
-        let p = period plan j in
-        let P : Row → Type 0 = λ (new : Row). new.done ≡ false → (release_of p new ≡ s.now) ⊎ ((row.done ≡ false) × (release_of p new ≡ release_of p row)) in
+        let P : Row → Type 0 = λ (new : Row). new.done ≡ false → (release_of plan j new ≡ s.now) ⊎ ((row.done ≡ false) × (release_of plan j new ≡ release_of plan j row)) in
         let Q : Bool → Type 0 = λ (c : Bool). P (if c then opened_row plan dem j row else row) in
         subst P (sym (boundary_at plan dem s j (here j h)))
         (elim (cases_Bool (is_due s.now row)) [
           | inl is_now ↦
               let at_now : row.deadline ≡ s.now = eqb-true row.deadline s.now is_now in
-              let d : row.deadline ≡ row.job * p = bel.deadline j h in
-              let back : row.job + 1 - 1 ≡ row.job = omega arith in
-              let here : (row.job + 1 - 1) * p ≡ s.now = ap (λ (k : ℕ). k * p) back ∙ sym d ∙ at_now in
-              subst Q (sym is_now) (λ still. inl here)
+              subst Q (sym is_now) (λ still. inl (opened_release plan dem j row (bel.deadline j h) ∙ at_now))
           | inr later ↦ subst Q (sym later) (λ still. inr (still, refl))
         ])
 
@@ -201,10 +199,10 @@ module _ (F : ℕ) (span : ℕ → ℕ) (plan : Plan) (lim : IsWithinLimits plan
     tick_asked shares b j h = rw (tick_at dem shares s j (here j h)) refl
 
     tick_open : (shares : List ℕ) (j : ℕ) → j < count plan → (row_at (after_tick dem shares s) j).done ≡ false
-        → ((row_at s j).done ≡ false) × (release_of (period plan j) (row_at (after_tick dem shares s) j) ≡ release_of (period plan j) (row_at s j))
+        → ((row_at s j).done ≡ false) × (release_of plan j (row_at (after_tick dem shares s) j) ≡ release_of plan j (row_at s j))
     tick_open shares j h =
         let row = row_at s j in
-        let P : Row → Type 0 = λ (new : Row). new.done ≡ false → (row.done ≡ false) × (release_of (period plan j) new ≡ release_of (period plan j) row) in
+        let P : Row → Type 0 = λ (new : Row). new.done ≡ false → (row.done ≡ false) × (release_of plan j new ≡ release_of plan j row) in
         subst P (sym (tick_at dem shares s j (here j h))) (λ still. (or_false_left row.done (row.used + share shares j == dem j row.job) still, refl))
 
     done_stays : (shares : List ℕ) (j : ℕ) → j < count plan → (row_at s j).done ≡ true → (row_at (after_tick dem shares s) j).done ≡ true
@@ -248,8 +246,8 @@ module _ (F : ℕ) (span : ℕ → ℕ) (plan : Plan) (lim : IsWithinLimits plan
                       let p = period plan j in
                       let q = ceil_div (span i) p in
                       let row = row_at s j in
-                      let r : (row.job - 1) * p ≤ s.now = bel.released j hj in
-                      mul-le-mul_right (worst plan j) (in_window p b row.job (span i) q (some_period plan lim j hj) (λ born. omega arith) (ceil_covers (span i) p (some_period plan lim j hj)))) in
+                      let r : latest_since plan j row.job ≤ s.now = bel.released j hj in
+                      mul-le-mul_right (worst plan j) (in_window plan j b row.job (span i) q (some_period plan lim j hj) (λ born. omega (arith, latest_since-pos plan j row.job born)) (ceil_covers (span i) p (some_period plan lim j hj)))) in
                       let same : sum_where n lv (asked_since plan t b) ≤ sum_where n lv (asked_since plan s b) =
                       sum_where-mono n lv (asked_since plan t b) (asked_since plan s b) (λ j hj on. let e = tick_asked shares b j hj in omega arith) in
                       let level_sum = sum_up_to-where n (period plan) (λ j. ceil_div (span i) (period plan j) * worst plan j) i h in

@@ -1,5 +1,5 @@
 -- The schedule under static with every job at its worst case meets every deadline, whatever its length.
-use Rattle.std.proofs.Common.{◌≡◌, ℕ, zero, suc, ◌-◌, ◌<◌, ◌≤◌, List, length, arith, ap, ◌∙◌, sym, subst}
+use Rattle.std.proofs.Common.{◌≡◌, ℕ, zero, suc, ◌-◌, ◌<◌, ◌≤◌, List, length, refl, arith, ap, ◌∙◌, sym, subst}
 use Rattle.dvs_base.specs.declared.kind.GovernorKind.TheVariants.{Fixed}
 use Rattle.grid_fraction.specs.declared.Frac.{Frac}
 use Rattle.sched_model.specs.Plan.{Plan, count}
@@ -14,7 +14,7 @@ use Rattle.sched_model.specs.Backlog.{lacking}
 use Rattle.sched_model.specs.Admission.{IsAdmitted}
 use Rattle.sched_model.proofs.Limits.{some_period}
 use Rattle.sched_model.proofs.ScheduleLemmas.{schedule_exists}
-use Rattle.sched_model.proofs.JobLaws.{latest-is, release-due}
+use Rattle.sched_model.proofs.JobLaws.{latest-is, release-due, worst_demand-le}
 use Rattle.governor.specs.Schedule.{ask_of, course}
 use Rattle.governor.proofs.Course.{course-met, at-schedule}
 use Rattle.one_speed.specs.Speeds.{ServesBoth, unchanging, fixed_speed}
@@ -31,8 +31,7 @@ pub schedule-fixed : (p : Plan) (dem : ℕ → ℕ → ℕ) (t : ℕ) → schedu
 schedule-fixed p dem t = ap (λ (ask : List Tick → Frac). schedule_by p dem ask t) (published-fixed_by p dem)
 
 pub worst-within : (p : Plan) → IsWithin p (worst_demand p)
-worst-within p i zero h = omega arith
-worst-within p i (suc k) h = omega arith
+worst-within p = record { most = λ i k h. worst_demand-le p i k; none = λ i. refl }
 
 pub worst-met : (p : Plan) → IsAdmitted p → MeetsAtWorst p
 worst-met p adm t =

@@ -5,14 +5,14 @@ use Rattle.grid_fraction.proofs.Least.{least-above, least-same, least-more}
 use Rattle.sched_model.specs.Plan.{Plan, count}
 use Rattle.sched_model.specs.Jobs.{due, deadline, earliest, last_release}
 use Rattle.sched_model.specs.Admission.{IsAdmitted}
-use Rattle.sched_model.proofs.JobLaws.{lt-due, due-le, latest-marked}
-use Rattle.sched_model.proofs.Limits.{every_period, low_period}
+use Rattle.sched_model.proofs.JobLaws.{lt-due, latest-marked}
+use Rattle.sched_model.proofs.Limits.{every_period, deadline-soon}
 
 pub deadline_later : (p : Plan) → IsAdmitted p → (i t : ℕ) → t < deadline p i t
 deadline_later p adm i t = lt-due p i t (every_period p adm.limits i)
 
 pub deadline_low : (p : Plan) → IsAdmitted p → (i t : ℕ) → i < count p → deadline p i t ≤ t + 2 ^ 40
-deadline_low p adm i t lt = omega (arith, due-le p i t, low_period p adm.limits i lt)
+deadline_low p adm i t lt = deadline-soon p adm.limits i t lt
 
 -- the earliest deadline of then is still to come
 pub marked_later : (p : Plan) → IsAdmitted p → (t : ℕ) → t < earliest p (last_release p t)

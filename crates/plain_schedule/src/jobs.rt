@@ -11,19 +11,20 @@ pub(crate) fn release(plan: &Admitted, task: u32, job: u64) -> u128
     requires { task < count plan.now }
     ensures { result ≡ release plan.now task job }
 {
-    u128::from(job.saturating_sub(1)) * u128::from(plan.period(task))
+    u128::from(plan.offset(task))
+        + u128::from(job.saturating_sub(1)) * u128::from(plan.period(task))
 }
 
-/// The tick at which a job is due.
+/// The tick at which a job is due; job 0 is due at the first release.
 #[tactic(auto, unfolding(sched_model::specs::Jobs::due))]
 pub(crate) fn due(plan: &Admitted, task: u32, job: u64) -> u128
     requires { task < count plan.now }
     ensures { result ≡ due plan.now task job }
 {
-    u128::from(job) * u128::from(plan.period(task))
+    u128::from(plan.offset(task)) + u128::from(job) * u128::from(plan.period(task))
 }
 
-/// The job of a task that was released last, up to a tick.
+/// The job of a task that was released last, up to a tick, and job 0 where none was.
 #[tactic(auto, unfolding(sched_model::specs::Jobs::latest))]
 pub(crate) fn latest(plan: &Admitted, task: u32, tick: u64) -> u64
     requires task { task < count plan.now }
@@ -31,7 +32,12 @@ pub(crate) fn latest(plan: &Admitted, task: u32, tick: u64) -> u64
     ensures { result ≡ latest plan.now task tick }
 {
     plan.known();
-    tick / plan.period(task) + 1
+    let offset = plan.offset(task);
+    if offset <= tick {
+        (tick - offset) / plan.period(task) + 1
+    } else {
+        0
+    }
 }
 
 /// The deadline of the latest job of a task.
@@ -84,7 +90,7 @@ pub(crate) fn is_release(plan: &Admitted, tick: u64) -> bool
     any
 }
 
-/// The last release up to a tick.
+/// The last release up to a tick, and 0 where there is none.
 pub(crate) fn last_release(plan: &Admitted, tick: u64) -> u64
     requires { tick + 1 < 2 ^ 64 }
     ensures value { result ≡ last_release plan.now tick }

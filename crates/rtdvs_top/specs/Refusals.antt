@@ -35,6 +35,7 @@ task_field_word task_field.Entry = codes "entry"
 task_field_word task_field.Name = codes "name"
 task_field_word task_field.Period = codes "period"
 task_field_word task_field.Worst = codes "worst"
+task_field_word task_field.Offset = codes "offset"
 
 abbrev pub machine_field_word : MachineField → List ℕ
 machine_field_word machine_field.Idle = codes "idle"

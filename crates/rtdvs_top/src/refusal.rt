@@ -32,6 +32,7 @@ fn task_field_word(field: Field) -> &'static [u8]
         Field::Name => b"name",
         Field::Period => b"period",
         Field::Worst => b"worst",
+        Field::Offset => b"offset",
     }
 }
 

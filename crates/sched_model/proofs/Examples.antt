@@ -16,8 +16,11 @@ use Rattle.sched_model.specs.StaticDemand.{static_demand}
 use Rattle.sched_model.specs.Schedule.{schedule_by}
 use Rattle.sched_model.specs.Backlog.{backlog}
 
+abbrev pub task_from : ℕ → List ℕ → ℕ → ℕ → Task
+task_from offset name period worst = record { name = name; period = period; worst = worst; offset = offset }
+
 abbrev pub task_of : List ℕ → ℕ → ℕ → Task
-task_of name period worst = record { name = name; period = period; worst = worst }
+task_of = task_from 0
 
 abbrev pub entry_of : ℕ → ℕ → Point
 entry_of speed millivolts = record { speed = speed; millivolts = millivolts }
@@ -66,6 +69,22 @@ light_set = record {
   tasks = task_of (codes "x") 4 4 ∷ task_of (codes "y") 8 6 ∷ [];
   machine = three_speeds;
   scheduler = Rm;
+}
+
+-- two tasks under EDF, the second of which is released first at tick 2
+abbrev pub late_second : Plan
+late_second = record {
+  tasks = task_of (codes "x") 4 4 ∷ task_from 2 (codes "y") 6 6 ∷ [];
+  machine = three_speeds;
+  scheduler = Edf;
+}
+
+-- one task whose first release is at tick 5
+abbrev pub late_alone : Scheduler → Plan
+late_alone s = record {
+  tasks = task_from 5 (codes "x") 4 4 ∷ [];
+  machine = three_speeds;
+  scheduler = s;
 }
 
 -- a controller with six tasks

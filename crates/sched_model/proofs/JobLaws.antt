@@ -1,10 +1,12 @@
 -- The laws of `release`, `due` and `latest`, all that other proofs know of them.
-use Rattle.std.proofs.Common.{◌≡◌, ℕ, zero, suc, ◌+◌, ◌-◌, ◌*◌, ◌/◌, ◌<◌, ◌≤◌, true, false, List, [], ◌∷◌, length, refl, arith, ap, ◌∙◌, sym, div-add-mod', mod-lt, add-mul, one-mul, zero-mul, subst, add-one}
+use Rattle.std.proofs.Common.{◌≡◌, ℕ, zero, suc, ◌+◌, ◌-◌, ◌*◌, ◌/◌, ◌<◌, ◌≤◌, true, false, List, [], ◌∷◌, length, refl, inl, inr, nat_le, arith, ap, ◌∙◌, sym, div-add-mod', mod-lt, add-mul, one-mul, zero-mul, subst, add-one}
 use Rattle.std.proofs.lemmas.Nat.{div-mul-add}
+use Rattle.std.proofs.Math.Nat.{le-mul_of_pos_right}
+use Rattle.std.proofs.lemmas.Bool.{cases_lt}
 use Rattle.std.proofs.lemmas.Bool.Decides.{nat_tests}
-use Rattle.sched_model.specs.Plan.{Plan, count, period, worst}
+use Rattle.sched_model.specs.Plan.{Plan, count, period, offset, worst}
 use Rattle.grid_fraction.proofs.Searches.{any_below-found, last_up_to-le, last_up_to-greatest}
-use Rattle.sched_model.specs.Jobs.{release, due, latest, is_in_window, releases_at, is_release, last_release}
+use Rattle.sched_model.specs.Jobs.{release, due, latest, is_in_window, latest_since, releases_at, is_release, last_release}
 use Rattle.sched_model.specs.Demands.{worst_demand}
 use Rattle.sched_model.specs.Ticks.{Tick, exec}
 use Rattle.sched_model.specs.Ticks.{share, left}
@@ -15,17 +17,28 @@ quotient n d q low high =
     let e : q * d + (n - q * d) ≡ n = omega arith in
     ap (λ m. m / d) (sym e) ∙ div-mul-add q d (n - q * d) (omega (arith, add-mul q 1 d, one-mul d))
 
--- the latest job was released by now, and is due later
-pub release-le : (p : Plan) (i t : ℕ) → 0 < period p i → 0 < latest p i t → release p i (latest p i t) ≤ t
-unfolding release latest
-release-le p i t pos some =
-    let e : t / period p i + 1 - 1 ≡ t / period p i = omega arith in
-    let q : (t / period p i) * period p i ≤ t = omega (arith, div-add-mod' t (period p i)) in
-    rw e q
+-- from the offset on the latest job is counted from there, and before it there is job 0 alone
+latest-from : (p : Plan) (i t : ℕ) → offset p i ≤ t → latest p i t ≡ (t - offset p i) / period p i + 1
+unfolding latest
+latest-from p i t since = let on : nat_le (offset p i) t ≡ true = grind (arith, nat_tests) in rw on refl
 
-pub lt-due : (p : Plan) (i t : ℕ) → 0 < period p i → t < due p i (latest p i t)
-unfolding due latest
-lt-due p i t pos = omega (arith, div-add-mod' t (period p i), mod-lt t pos)
+latest-before : (p : Plan) (i t : ℕ) → t < offset p i → latest p i t ≡ 0
+unfolding latest
+latest-before p i t early = let off : nat_le (offset p i) t ≡ false = grind (arith, nat_tests) in rw off refl
+
+-- job 0 is due at the offset
+pub due-none : (p : Plan) (i : ℕ) → due p i 0 ≡ offset p i
+unfolding due
+due-none p i = omega (arith, zero-mul (period p i))
+
+pub release-none : (p : Plan) (i : ℕ) → offset p i ≤ release p i 0
+unfolding release
+release-none p i = omega arith
+
+-- job numbers are at most the deadlines
+pub le-due : (p : Plan) (i k : ℕ) → 0 < period p i → k ≤ due p i k
+unfolding due
+le-due p i k pos = omega (arith, le-mul_of_pos_right k pos)
 
 -- a job is released when the one before it is due
 pub release-suc : (p : Plan) (i k : ℕ) → release p i (k + 1) ≡ due p i k
@@ -38,14 +51,75 @@ pub due-suc : (p : Plan) (i k : ℕ) → due p i (k + 1) ≡ due p i k + period 
 unfolding due
 due-suc p i k = omega (arith, add-mul k 1 (period p i), one-mul (period p i))
 
-pub due-le : (p : Plan) (i t : ℕ) → due p i (latest p i t) ≤ t + period p i
-unfolding due latest
-due-le p i t = omega (arith, div-add-mod' t (period p i), add-mul (t / period p i) 1 (period p i), one-mul (period p i))
+pub release-due : (p : Plan) (i k : ℕ) → 1 ≤ k → release p i k + period p i ≡ due p i k
+release-due p i zero one = absurd (omega arith)
+release-due p i (suc k) one =
+    ap (λ m. release p i m + period p i) (sym (add-one k)) ∙ (ap (λ r. r + period p i) (release-suc p i k) ∙ (sym (due-suc p i k) ∙ ap (due p i) (add-one k)))
 
--- there is a latest job
-pub latest-pos : (p : Plan) (i t : ℕ) → 0 < latest p i t
-unfolding latest
-latest-pos p i t = omega arith
+-- the latest job is known by its release, where it isn't job 0, and its deadline
+pub latest-unique : (p : Plan) (i k t : ℕ) → (0 < k → release p i k ≤ t) → t < due p i k → latest p i t ≡ k
+unfolding release due
+latest-unique p i zero t from until = latest-before p i t (omega (arith, until, zero-mul (period p i)))
+latest-unique p i (suc k) t from until =
+    let e : suc k - 1 ≡ k = omega arith in
+    let low : offset p i + k * period p i ≤ t = subst (λ m. offset p i + m * period p i ≤ t) e (from (omega arith)) in
+    let high : t < offset p i + (k + 1) * period p i = subst (λ m. t < offset p i + m * period p i) (sym (add-one k)) until in
+    let count : (t - offset p i) / period p i ≡ k = quotient (t - offset p i) (period p i) k (omega (arith, low)) (omega (arith, low, high)) in
+    latest-from p i t (omega (arith, low)) ∙ (ap (λ q. q + 1) count ∙ add-one k)
+
+pub latest-is : (p : Plan) (i k t : ℕ) → release p i k ≤ t → t < due p i k → latest p i t ≡ k
+latest-is p i k t low high = latest-unique p i k t (λ some. low) high
+
+-- before the first release it is job 0, and from then on some other
+pub latest-none : (p : Plan) (i t : ℕ) → t < offset p i → latest p i t ≡ 0
+latest-none p i t early = latest-before p i t early
+
+pub latest-pos : (p : Plan) (i t : ℕ) → offset p i ≤ t → 0 < latest p i t
+latest-pos p i t since = omega (arith, latest-from p i t since)
+
+pub offset-le : (p : Plan) (i t : ℕ) → 0 < latest p i t → offset p i ≤ t
+offset-le p i t some = elim (cases_lt t (offset p i)) [ inl early ↦ absurd (omega (arith, some, latest-before p i t early)) | inr since ↦ since ]
+
+-- the latest job was released by now, unless it is job 0, and is due later
+pub release-le : (p : Plan) (i t : ℕ) → 0 < period p i → 0 < latest p i t → release p i (latest p i t) ≤ t
+unfolding release
+release-le p i t pos some =
+    let since : offset p i ≤ t = offset-le p i t some in
+    let n : ℕ = t - offset p i in
+    let e : latest p i t - 1 ≡ n / period p i = omega (arith, latest-from p i t since) in
+    let q : offset p i + (n / period p i) * period p i ≤ t = omega (arith, since, div-add-mod' n (period p i)) in
+    rw e q
+
+pub lt-due : (p : Plan) (i t : ℕ) → 0 < period p i → t < due p i (latest p i t)
+unfolding due
+lt-due p i t pos =
+    elim (cases_lt t (offset p i)) [
+      | inl early ↦ rw (latest-before p i t early) (omega (arith, early, zero-mul (period p i)))
+      | inr since ↦
+          let n : ℕ = t - offset p i in
+          rw (latest-from p i t since) (omega (arith, since, div-add-mod' n (period p i), mod-lt n pos, add-mul (n / period p i) 1 (period p i), one-mul (period p i)))
+    ]
+
+pub due-le : (p : Plan) (i t : ℕ) → 0 < period p i → 0 < latest p i t → due p i (latest p i t) ≤ t + period p i
+due-le p i t pos some = omega (arith, release-le p i t pos some, release-due p i (latest p i t) some)
+
+-- the latest job is due within as many ticks as bound its task's offset and period
+pub due-within : (p : Plan) (i t n : ℕ) → 0 < period p i → offset p i ≤ n → period p i ≤ n → due p i (latest p i t) ≤ t + n
+due-within p i t n pos first often = go (latest p i t) refl
+  where
+    go : (k : ℕ) → latest p i t ≡ k → due p i (latest p i t) ≤ t + n
+    go zero e = omega (arith, ap (due p i) e, due-none p i, first)
+    go (suc k) e = omega (arith, due-le p i t pos (omega (arith, e)), often)
+
+-- it is no later one than there are ticks
+pub latest-small : (p : Plan) (i t : ℕ) → 0 < period p i → latest p i t ≤ t + 1
+latest-small p i t pos = go (latest p i t) refl
+  where
+    go : (k : ℕ) → latest p i t ≡ k → latest p i t ≤ t + 1
+    go zero e = omega (arith, e)
+    go (suc k) e =
+        let here : release p i (latest p i t) ≡ due p i k = ap (release p i) (e ∙ sym (add-one k)) ∙ release-suc p i k in
+        omega (arith, e, here, release-le p i t pos (omega (arith, e)), le-due p i k pos)
 
 pub worst_demand-pos : (p : Plan) (i k : ℕ) → 0 < k → worst_demand p i k ≡ worst p i
 worst_demand-pos p i zero lt = absurd (omega arith)
@@ -60,19 +134,38 @@ in_window p i t pos some = grind (arith, nat_tests, release-le p i t pos some, l
 
 -- the latest job stays until its deadline, and the next one follows then
 pub latest-stays : (p : Plan) (i t : ℕ) → 0 < period p i → t + 1 < due p i (latest p i t) → latest p i (t + 1) ≡ latest p i t
-unfolding due latest
-latest-stays p i t pos h =
-    ap (λ q. q + 1) (quotient (t + 1) (period p i) (t / period p i) (omega (arith, div-add-mod' t (period p i))) h)
+latest-stays p i t pos h = latest-unique p i (latest p i t) (t + 1) (λ some. omega (arith, release-le p i t pos some)) h
 
 pub latest-next : (p : Plan) (i t : ℕ) → 0 < period p i → t + 1 ≡ due p i (latest p i t) → latest p i (t + 1) ≡ latest p i t + 1
-unfolding due latest
 latest-next p i t pos h =
-    ap (λ q. q + 1) (quotient (t + 1) (period p i) (t / period p i + 1) (omega arith) (omega (arith, add-mul (t / period p i + 1) 1 (period p i), one-mul (period p i))))
+    latest-unique p i (latest p i t + 1) (t + 1)
+    (λ some. omega (arith, h, release-suc p i (latest p i t)))
+    (omega (arith, h, pos, due-suc p i (latest p i t)))
 
 -- what a tick adds to the latest job
 pub exec-latest : (p : Plan) (x : Tick) (past : List Tick) (i : ℕ) → 0 < period p i → 0 < latest p i (length past)
     → exec p (x ∷ past) i (latest p i (length past)) ≡ exec p past i (latest p i (length past)) + share x i
 exec-latest p x past i pos some = rw (in_window p i (length past) pos some) refl
+
+-- job 0 has nothing
+pub exec-none : (p : Plan) (past : List Tick) (i : ℕ) → exec p past i 0 ≡ 0
+exec-none p [] i = refl
+exec-none p (x ∷ past) i =
+    let outside : is_in_window p i 0 (length past) ≡ false = grind (arith, nat_tests, due-none p i, release-none p i) in
+    rw outside (omega (arith, exec-none p past i))
+
+-- what a tick adds to the latest job, be it job 0, where no task gets more than it needs
+pub exec-legal : (p : Plan) (dem : ℕ → ℕ → ℕ) (x : Tick) (past : List Tick) (i : ℕ) → 0 < period p i → dem i 0 ≡ 0 → share x i ≤ left p dem past i
+    → exec p (x ∷ past) i (latest p i (length past)) ≡ exec p past i (latest p i (length past)) + share x i
+exec-legal p dem x past i pos none fits = go (latest p i (length past)) refl
+  where
+    go : (k : ℕ) → latest p i (length past) ≡ k → exec p (x ∷ past) i (latest p i (length past)) ≡ exec p past i (latest p i (length past)) + share x i
+    go zero e =
+        let after : exec p (x ∷ past) i (latest p i (length past)) ≡ 0 = ap (exec p (x ∷ past) i) e ∙ exec-none p (x ∷ past) i in
+        let before : exec p past i (latest p i (length past)) ≡ 0 = ap (exec p past i) e ∙ exec-none p past i in
+        let needs : dem i (latest p i (length past)) ≡ 0 = ap (dem i) e ∙ none in
+        omega (arith, fits, after, before, needs)
+    go (suc k) e = exec-latest p x past i pos (omega (arith, e))
 
 -- what the latest job needs falls by its share, as long as it stays the latest
 pub left-stays : (p : Plan) (dem : ℕ → ℕ → ℕ) (x : Tick) (past : List Tick) (i : ℕ) → 0 < period p i → dem i 0 ≡ 0
@@ -102,35 +195,18 @@ exec-late p x past i k h =
     let outside : is_in_window p i k (length past) ≡ false = grind (arith, nat_tests) in
     rw outside (omega arith)
 
--- the job in whose window a tick lies is the latest
-pub latest-is : (p : Plan) (i k t : ℕ) → release p i k ≤ t → t < due p i k → latest p i t ≡ k
-unfolding release due latest
-latest-is p i zero t low high = absurd (omega (arith, zero-mul (period p i)))
-latest-is p i (suc k) t low high =
-    let e : suc k - 1 ≡ k = omega arith in
-    let from : k * period p i ≤ t = subst (λ m. m * period p i ≤ t) e low in
-    let until : t < (k + 1) * period p i = subst (λ m. t < m * period p i) (sym (add-one k)) high in
-    omega (arith, quotient t (period p i) k from until)
-
-pub release-due : (p : Plan) (i k : ℕ) → 1 ≤ k → release p i k + period p i ≡ due p i k
-unfolding release due
-release-due p i zero one = absurd (omega arith)
-release-due p i (suc k) one =
-    let e : suc k - 1 ≡ k = omega arith in
-    ap (λ m. m * period p i + period p i) e ∙ (sym (omega (arith, add-mul k 1 (period p i), one-mul (period p i))) ∙ ap (λ m. m * period p i) (add-one k))
-
 -- the last release is at most now
 pub last_release-le : (p : Plan) (t : ℕ) → last_release p t ≤ t
 last_release-le p t = last_up_to-le t (is_release p)
 
--- the latest job was released at the last release or before
-pub released-before : (p : Plan) (i t : ℕ) → 0 < period p i → i < count p → release p i (latest p i t) ≤ last_release p t
-released-before p i t pos lt =
+-- the latest job was released at the last release or before, unless it is job 0
+pub released-before : (p : Plan) (i t : ℕ) → 0 < period p i → i < count p → 0 < latest p i t → release p i (latest p i t) ≤ last_release p t
+released-before p i t pos lt some =
     last_up_to-greatest t (release p i (latest p i t)) (is_release p) low
     (any_below-found (count p) (λ j. releases_at p j (release p i (latest p i t))) i lt here)
   where
     low : release p i (latest p i t) ≤ t
-    low = release-le p i t pos (latest-pos p i t)
+    low = release-le p i t pos some
 
     same : latest p i (release p i (latest p i t)) ≡ latest p i t
     same = latest-is p i (latest p i t) (release p i (latest p i t)) (omega arith) (omega (arith, low, lt-due p i t pos))
@@ -138,7 +214,23 @@ released-before p i t pos lt =
     here : releases_at p i (release p i (latest p i t)) ≡ true
     here = let e : release p i (latest p i (release p i (latest p i t))) ≡ release p i (latest p i t) = ap (release p i) same in grind (arith, nat_tests, e)
 
+pub latest_since-pos : (p : Plan) (i k : ℕ) → 0 < k → latest_since p i k ≡ release p i k
+latest_since-pos p i zero some = absurd (omega arith)
+latest_since-pos p i (suc k) some = refl
+
+pub latest_since-suc : (p : Plan) (i k : ℕ) → latest_since p i (k + 1) ≡ due p i k
+latest_since-suc p i k = latest_since-pos p i (k + 1) (omega arith) ∙ release-suc p i k
+
+pub latest_since-le : (p : Plan) (i t : ℕ) → 0 < period p i → i < count p → latest_since p i (latest p i t) ≤ last_release p t
+latest_since-le p i t pos lt = go (latest p i t) refl
+  where
+    go : (k : ℕ) → latest p i t ≡ k → latest_since p i (latest p i t) ≤ last_release p t
+    go zero e = rw e (omega arith)
+    go (suc k) e =
+        let some : 0 < latest p i t = omega (arith, e) in
+        omega (arith, latest_since-pos p i (latest p i t) some, released-before p i t pos lt some)
+
 -- so it was the latest then too
 pub latest-marked : (p : Plan) (i t : ℕ) → 0 < period p i → i < count p → latest p i (last_release p t) ≡ latest p i t
 latest-marked p i t pos lt =
-    latest-is p i (latest p i t) (last_release p t) (released-before p i t pos lt) (omega (arith, last_release-le p t, lt-due p i t pos))
+    latest-unique p i (latest p i t) (last_release p t) (released-before p i t pos lt) (omega (arith, last_release-le p t, lt-due p i t pos))

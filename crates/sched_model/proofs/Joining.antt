@@ -3,16 +3,16 @@ use Rattle.std.proofs.Common.{◌≡◌, ℕ, zero, suc, ◌+◌, ◌-◌, ◌<�
 use Rattle.std.specs.Prelude.{map}
 use Rattle.std.proofs.lemmas.Bool.Decides.{nat_tests}
 use Rattle.sched_model.specs.declared.state.Row.{Row}
-use Rattle.sched_model.specs.Plan.{Plan, count, period, worst}
+use Rattle.sched_model.specs.Plan.{Plan, count, period, offset, worst}
 use Rattle.sched_model.specs.Jobs.{release, due, latest, releases_at, is_release}
 use Rattle.sched_model.specs.Ticks.{Tick, at, exec, is_done, wleft}
-use Rattle.sched_model.specs.Ticks.{share}
+use Rattle.sched_model.specs.Ticks.{share, left}
 use Rattle.grid_fraction.specs.Numbers.{last_up_to}
 use Rattle.sched_model.specs.Jobs.{last_release}
 use Rattle.sched_model.specs.States.{StateOf, row_of, state_of}
 use Rattle.grid_fraction.specs.Numbers.{list_below}
 use Rattle.sched_model.specs.States.{released_row, row_wleft, prior_row, prior_base_at, prior_base, prior_state}
-use Rattle.sched_model.proofs.JobLaws.{release-suc, due-suc, lt-due, latest-stays, latest-next, latest-is, release-le, latest-pos, exec-early, exec-latest, last_release-le}
+use Rattle.sched_model.proofs.JobLaws.{due-none, release-none, release-suc, due-suc, lt-due, latest-unique, latest-none, latest-stays, latest-next, release-le, exec-early, exec-legal, last_release-le}
 use Rattle.grid_fraction.proofs.Searches.{any_below-false}
 use Rattle.sched_model.proofs.Tables.{table-same, map-table}
 
@@ -25,16 +25,10 @@ abbrev pub opened_row : Plan → (ℕ → ℕ → ℕ) → ℕ → Row → Row
 opened_row p dem i row = record (released_row (period p i) row) { done = nat_eq (dem i (row.job + 1)) 0 }
 
 module _ (p : Plan) (dem : ℕ → ℕ → ℕ) (periods : (i : ℕ) → 0 < period p i) where
-  release_one : (i : ℕ) → release p i 1 ≡ 0
-  unfolding release
-  release_one i = omega arith
-
-  due_one : (i : ℕ) → due p i 1 ≡ 0 + period p i
-  unfolding due
-  due_one i = omega arith
-
-  pub first_job : (i : ℕ) → latest p i 0 ≡ 1
-  first_job i = latest-is p i 1 0 (omega (arith, release_one i)) (omega (arith, due_one i, periods i))
+  -- the deadline of a row is that of its job
+  prior_due-is : (past : List Tick) (i : ℕ) → (prior_row p dem past i).deadline ≡ due p i (prior_row p dem past i).job
+  prior_due-is [] i = sym (due-none p i)
+  prior_due-is (x ∷ past) i = refl
 
   -- nothing is due before now
   pub prior-due : (past : List Tick) (i : ℕ) → length past ≤ (prior_row p dem past i).deadline
@@ -43,18 +37,19 @@ module _ (p : Plan) (dem : ℕ → ℕ → ℕ) (periods : (i : ℕ) → 0 < per
 
   -- the latest job now, where the one before it is due
   pub next_job : (past : List Tick) (i : ℕ) → (prior_row p dem past i).deadline ≡ length past → latest p i (length past) ≡ (prior_row p dem past i).job + 1
-  next_job [] i e = first_job i
+  next_job [] i e =
+      latest-unique p i 1 0
+      (λ some. omega (arith, release-suc p i 0, due-none p i, e))
+      (omega (arith, due-suc p i 0, due-none p i, periods i))
   next_job (x ∷ past) i e =
       let now : length (x ∷ past) ≡ length past + 1 = omega arith in
       ap (latest p i) now ∙ latest-next p i (length past) (periods i) (sym now ∙ sym e)
 
   release_next : (past : List Tick) (i : ℕ) → release p i ((prior_row p dem past i).job + 1) ≡ (prior_row p dem past i).deadline
-  release_next [] i = release_one i
-  release_next (x ∷ past) i = release-suc p i (latest p i (length past))
+  release_next past i = release-suc p i (prior_row p dem past i).job ∙ sym (prior_due-is past i)
 
   due_next : (past : List Tick) (i : ℕ) → due p i ((prior_row p dem past i).job + 1) ≡ (prior_row p dem past i).deadline + period p i
-  due_next [] i = due_one i
-  due_next (x ∷ past) i = due-suc p i (latest p i (length past))
+  due_next past i = due-suc p i (prior_row p dem past i).job ∙ ap (λ d. d + period p i) (sym (prior_due-is past i))
 
   -- and the latest job where it is not
   pub same_job : (x : Tick) (past : List Tick) (i : ℕ) → nat_eq (prior_row p dem (x ∷ past) i).deadline (length (x ∷ past)) ≡ false → latest p i (length (x ∷ past)) ≡ latest p i (length past)
@@ -69,12 +64,22 @@ module _ (p : Plan) (dem : ℕ → ℕ → ℕ) (periods : (i : ℕ) → 0 < per
       let due_now : (prior_row p dem past i).deadline ≡ length past = grind (arith, nat_tests) in
       let there : release p i (latest p i (length past)) ≡ length past = ap (release p i) (next_job past i due_now) ∙ (release_next past i ∙ due_now) in
       grind (arith, nat_tests, there)
-  due_released [] i false e = absurd (true≢false e)
-  due_released (x ∷ past) i false e =
-      let stays = same_job x past i e in
-      let early : release p i (latest p i (length past)) ≤ length past = release-le p i (length past) (periods i) (latest-pos p i (length past)) in
-      let is : release p i (latest p i (length (x ∷ past))) ≡ release p i (latest p i (length past)) = ap (release p i) stays in
-      grind (arith, nat_tests, is, early)
+  due_released [] i false e =
+      let late : 0 < offset p i = grind (arith, nat_tests) in
+      let is : release p i (latest p i 0) ≡ release p i 0 = ap (release p i) (latest-none p i 0 late) in
+      grind (arith, nat_tests, is, late, release-none p i)
+  due_released (x ∷ past) i false e = go (latest p i (length past)) refl
+    where
+      is : release p i (latest p i (length (x ∷ past))) ≡ release p i (latest p i (length past))
+      is = ap (release p i) (same_job x past i e)
+
+      go : (k : ℕ) → latest p i (length past) ≡ k → releases_at p i (length (x ∷ past)) ≡ false
+      go zero q =
+          let late : length (x ∷ past) < release p i (latest p i (length past)) = grind (arith, nat_tests, lt-due p i (length past) (periods i), ap (due p i) q, ap (release p i) q, due-none p i, release-none p i) in
+          grind (arith, nat_tests, is, late)
+      go (suc k) q =
+          let early : release p i (latest p i (length past)) ≤ length past = release-le p i (length past) (periods i) (omega (arith, q)) in
+          grind (arith, nat_tests, is, early)
 
   -- a row that is due is released
   pub row-opened : (past : List Tick) (i : ℕ) → (prior_row p dem past i).deadline ≡ length past → row_of p dem past i ≡ opened_row p dem i (prior_row p dem past i)
@@ -104,9 +109,12 @@ module _ (p : Plan) (dem : ℕ → ℕ → ℕ) (periods : (i : ℕ) → 0 < per
       worst_is (x ∷ past) = refl
 
   -- the others stay
-  pub row-kept : (past : List Tick) (i : ℕ) → nat_eq (prior_row p dem past i).deadline (length past) ≡ false → row_of p dem past i ≡ prior_row p dem past i
-  row-kept [] i e = absurd (true≢false e)
-  row-kept (x ∷ past) i e =
+  pub row-kept : (past : List Tick) (i : ℕ) → dem i 0 ≡ 0 → nat_eq (prior_row p dem past i).deadline (length past) ≡ false → row_of p dem past i ≡ prior_row p dem past i
+  row-kept [] i none e =
+      let late : 0 < offset p i = grind (arith, nat_tests) in
+      ap (λ k. row_by (due p i k) k 0 (nat_le (dem i k) 0) (worst p i)) (latest-none p i 0 late)
+      ∙ ap₂ (λ d n. row_by d 0 0 (nat_le n 0) (worst p i)) (due-none p i) none
+  row-kept (x ∷ past) i none e =
       ap (λ k. row_by (due p i k) k (exec p (x ∷ past) i k) (is_done p dem (x ∷ past) i k) (worst p i)) (same_job x past i e)
 
   -- the bases
@@ -138,34 +146,44 @@ module _ (p : Plan) (dem : ℕ → ℕ → ℕ) (periods : (i : ℕ) → 0 < per
       (map-table (count p) (row_of p dem past) row_wleft
       ∙ ap (λ (ps : List Tick). list_below (count p) (wleft p dem ps)) (sym now))
 
-  pub state-unmarked : (past : List Tick) → 0 < count p → is_release p (length past) ≡ false
+  pub state-unmarked : (past : List Tick) → ((i : ℕ) → dem i 0 ≡ 0) → is_release p (length past) ≡ false
       → state_by (length past) (list_below (count p) (row_of p dem past)) (prior_base_at p past) (list_below (count p) (prior_base p dem past)) ≡ state_of p dem past
-  state-unmarked [] some e =
-      let none : releases_at p 0 0 ≡ false = any_below-false (count p) (λ i. releases_at p i 0) e 0 some in
-      absurd (true≢false (sym (due_released [] 0 true refl) ∙ none))
-  state-unmarked (x ∷ past) some e =
+  state-unmarked [] none e =
+      ap (λ base. state_by 0 (list_below (count p) (row_of p dem [])) 0 base)
+      (table-same (count p) (λ i. 0) (wleft p dem []) (λ i lt. sym (nothing i (not_due i lt (nat_eq (offset p i) 0) refl))))
+    where
+      not_due : (i : ℕ) → i < count p → (b : Bool) → nat_eq (offset p i) 0 ≡ b → 0 < offset p i
+      not_due i lt true q = absurd (true≢false (sym (due_released [] i true q) ∙ any_below-false (count p) (λ i. releases_at p i 0) e i lt))
+      not_due i lt false q = grind (arith, nat_tests)
+
+      nothing : (i : ℕ) → 0 < offset p i → wleft p dem [] i ≡ 0
+      nothing i late =
+          let is : dem i (latest p i 0) ≡ 0 = ap (dem i) (latest-none p i 0 late) ∙ none i in
+          let done : nat_le (dem i (latest p i 0)) 0 ≡ true = grind (arith, nat_tests, is) in
+          rw done refl
+  state-unmarked (x ∷ past) none e =
       let r : last_release p (length (x ∷ past)) ≡ last_release p (length past) = base_at-kept (length past) e in
       let back : at (last_release p (length (x ∷ past))) (x ∷ past) ≡ at (last_release p (length past)) past =
       ap (λ n. at n (x ∷ past)) r ∙ at-earlier (last_release p (length past)) x past (last_release-le p (length past)) in
       ap₂ (λ a (ps : List Tick). state_by (length (x ∷ past)) (list_below (count p) (row_of p dem (x ∷ past))) a (list_below (count p) (wleft p dem ps))) (sym r) (sym back)
 
   -- with no release at all the state before the boundary is that of the past
-  pub state-still : (past : List Tick) → 0 < count p → is_release p (length past) ≡ false → prior_state p dem past ≡ state_of p dem past
-  state-still past some e =
+  pub state-still : (past : List Tick) → ((i : ℕ) → dem i 0 ≡ 0) → is_release p (length past) ≡ false → prior_state p dem past ≡ state_of p dem past
+  state-still past none e =
       ap (λ rows. state_by (length past) rows (prior_base_at p past) (list_below (count p) (prior_base p dem past)))
-      (table-same (count p) (prior_row p dem past) (row_of p dem past) (λ i lt. sym (row-kept past i (not_due i lt (nat_eq (prior_row p dem past i).deadline (length past)) refl))))
-      ∙ state-unmarked past some e
+      (table-same (count p) (prior_row p dem past) (row_of p dem past) (λ i lt. sym (row-kept past i (none i) (not_due i lt (nat_eq (prior_row p dem past i).deadline (length past)) refl))))
+      ∙ state-unmarked past none e
     where
       not_due : (i : ℕ) → i < count p → (b : Bool) → nat_eq (prior_row p dem past i).deadline (length past) ≡ b → nat_eq (prior_row p dem past i).deadline (length past) ≡ false
       not_due i lt true q = absurd (true≢false (sym (due_released past i true q) ∙ any_below-false (count p) (λ i. releases_at p i (length past)) e i lt))
       not_due i lt false q = q
 
   -- the second join: a tick whose units are added to the rows, with the completions
-  pub row-ran : (x : Tick) (past : List Tick) (i : ℕ)
+  pub row-ran : (x : Tick) (past : List Tick) (i : ℕ) → dem i 0 ≡ 0 → share x i ≤ left p dem past i
       → prior_row p dem (x ∷ past) i ≡ row_by (row_of p dem past i).deadline (row_of p dem past i).job ((row_of p dem past i).used + share x i) (nat_le (dem i (latest p i (length past))) ((row_of p dem past i).used + share x i)) (row_of p dem past i).worst
-  row-ran x past i =
+  row-ran x past i none fits =
       ap (λ u. row_by (due p i (latest p i (length past))) (latest p i (length past)) u (nat_le (dem i (latest p i (length past))) u) (worst p i))
-      (exec-latest p x past i (periods i) (latest-pos p i (length past)))
+      (exec-legal p dem x past i (periods i) none fits)
 
   pub state-ran : (x : Tick) (past : List Tick)
       → prior_state p dem (x ∷ past) ≡ state_by (length past + 1) (list_below (count p) (prior_row p dem (x ∷ past))) (state_of p dem past).base_at (state_of p dem past).base

@@ -1,5 +1,5 @@
 -- What the limits say of a plan's numbers.
-use Rattle.std.proofs.Common.{◌≡◌, inl, inr, ℕ, ◌*◌, ◌/◌, ◌^◌, ◌<◌, ◌≤◌, get_or, arith, ap}
+use Rattle.std.proofs.Common.{◌≡◌, inl, inr, ℕ, ◌+◌, ◌*◌, ◌/◌, ◌^◌, ◌<◌, ◌≤◌, get_or, arith, ap}
 use Rattle.std.specs.Prelude.{map}
 use Rattle.std.specs.List.{All}
 use Rattle.std.proofs.lemmas.List.{length-map, get_or-map}
@@ -10,7 +10,9 @@ use Rattle.grid_fraction.proofs.Multiples.{least_common_multiple-pos, mul-div-le
 use Rattle.task_model.specs.declared.task.Task.{Task}
 use Rattle.task_model.specs.Tasks.{no_task}
 use Rattle.sched_model.specs.Plan.{Plan, count, period, hyper}
+use Rattle.sched_model.specs.Jobs.{deadline}
 use Rattle.sched_model.specs.Admission.{IsWithinLimits}
+use Rattle.sched_model.proofs.JobLaws.{due-within}
 
 module _ (p : Plan) (lim : IsWithinLimits p) where
   pub some_task : 0 < count p
@@ -31,6 +33,10 @@ module _ (p : Plan) (lim : IsWithinLimits p) where
 
   pub low_period : (i : ℕ) → i < count p → period p i ≤ 2 ^ 40
   low_period i h = (lim.tasks.each i h).low_period
+
+  -- the latest job is due soon
+  pub deadline-soon : (i t : ℕ) → i < count p → deadline p i t ≤ t + 2 ^ 40
+  deadline-soon i t h = due-within p i t (2 ^ 40) (some_period i h) ((lim.tasks.each i h).low_offset) (low_period i h)
 
   period_in : (i : ℕ) → i < count p → get_or (map (λ t. t.period) p.tasks) i 1 ≡ period p i
   period_in i h = get_or-map (λ t. t.period) p.tasks i no_task 1 h

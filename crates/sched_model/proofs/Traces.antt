@@ -16,7 +16,7 @@ use Rattle.sched_model.specs.Schedule.{schedule_by}
 use Rattle.sched_model.specs.Notes.{notes_before_end}
 use Rattle.dvs_base.specs.TraceLines.{note_text}
 use Rattle.sched_model.specs.Text.{run_text}
-use Rattle.sched_model.proofs.Examples.{row, paper_example, paper_demands, heavy_set, two_tasks, controller, controller_demands}
+use Rattle.sched_model.proofs.Examples.{row, paper_example, paper_demands, heavy_set, two_tasks, late_second, late_alone, controller, controller_demands}
 
 -- the text of a run under a list of demands
 abbrev text : Plan → GovernorKind → List DemandRow → ℕ → List ℕ
@@ -310,3 +310,65 @@ rm_shorter_period_first : text two_tasks Plain [] 6 ≡
     [])
 unfolding digits least_common_multiple published in_order release due latest schedule_by notes_before_end note_text
 rm_shorter_period_first = refl
+
+-- before its first release at tick 2 the second task is complete and charged with nothing
+edf_cc_with_an_offset : text late_second Cycle [] 8 ≡
+    lines (
+    codes "trace 1" ∷
+    codes "plan edf cc 8" ∷
+    codes "release 0 x 1" ∷
+    codes "speed 0 2 12/12" ∷
+    codes "run 0:0 2:0 x 1 4 36000000000" ∷
+    codes "done 2:0 x 1 4" ∷
+    codes "release 2 y 1" ∷
+    codes "speed 2 2 24/12" ∷
+    codes "run 2:0 4:0 y 1 4 36000000000" ∷
+    codes "release 4 x 2" ∷
+    codes "speed 4 2 24/12" ∷
+    codes "run 4:0 6:0 x 2 4 36000000000" ∷
+    codes "done 6:0 x 2 4" ∷
+    codes "speed 6 2 24/12" ∷
+    codes "run 6:0 7:0 y 1 2 18000000000" ∷
+    codes "done 7:0 y 1 6" ∷
+    codes "speed 7 2 24/12" ∷
+    codes "idle 7:0 8:0 2 0" ∷
+    codes "end 8 126000000000 0" ∷
+    [])
+unfolding digits least_common_multiple published in_order release due latest schedule_by notes_before_end note_text
+edf_cc_with_an_offset = refl
+
+-- a run that ends before the first release idles throughout
+edf_cc_before_all_releases : text (late_alone Edf) Cycle [] 3 ≡
+    lines (
+    codes "trace 1" ∷
+    codes "plan edf cc 3" ∷
+    codes "speed 0 2 0/4" ∷
+    codes "idle 0:0 3:0 6 0" ∷
+    codes "end 3 0 0" ∷
+    [])
+unfolding digits least_common_multiple published in_order release due latest schedule_by notes_before_end note_text
+edf_cc_before_all_releases = refl
+
+-- the same under look-ahead, up to the offset
+edf_la_before_all_releases : text (late_alone Edf) Ahead [] 3 ≡
+    lines (
+    codes "trace 1" ∷
+    codes "plan edf la 3" ∷
+    codes "speed 0 2 0/5" ∷
+    codes "idle 0:0 3:0 6 0" ∷
+    codes "end 3 0 0" ∷
+    [])
+unfolding digits least_common_multiple published in_order release due latest schedule_by notes_before_end note_text
+edf_la_before_all_releases = refl
+
+-- and under cycle-conserving RM
+rm_cc_before_all_releases : text (late_alone Rm) Cycle [] 3 ≡
+    lines (
+    codes "trace 1" ∷
+    codes "plan rm cc 3" ∷
+    codes "speed 0 2 0/5" ∷
+    codes "idle 0:0 3:0 6 0" ∷
+    codes "end 3 0 0" ∷
+    [])
+unfolding digits least_common_multiple published in_order release due latest schedule_by notes_before_end note_text
+rm_cc_before_all_releases = refl

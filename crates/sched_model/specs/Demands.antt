@@ -1,5 +1,5 @@
 -- What each job really needs.
-use Rattle.std.specs.Prelude.{ℕ, zero, suc, ◌+◌, ◌*◌, ◌<◌, ◌≤◌, List, unwrap_or, option_map}
+use Rattle.std.specs.Prelude.{ℕ, zero, suc, ◌+◌, ◌*◌, ◌<◌, ◌≤◌, ◌≡◌, List, unwrap_or, option_map}
 use Rattle.task_model.specs.DemandRows.{DemandRow, named}
 use Rattle.sched_model.specs.Plan.{Plan, count, worst}
 
@@ -8,9 +8,10 @@ abbrev pub demand_of : Plan → List DemandRow → ℕ → ℕ → ℕ
 demand_of p rows i zero = 0
 demand_of p rows i (suc k) = unwrap_or (option_map (λ u. u + 2 * p.machine.charge) (named rows i (suc k))) (worst p i)
 
--- demands of jobs that exceed no worst case
-abbrev pub IsWithin : Plan → (ℕ → ℕ → ℕ) → Type 0
-IsWithin p dem = (i k : ℕ) → i < count p → dem i k ≤ worst p i
+-- demands of jobs that exceed no worst case; job 0 has none
+pub record IsWithin (p : Plan) (dem : ℕ → ℕ → ℕ) : Type 0 where
+  pub most : (i k : ℕ) → i < count p → dem i k ≤ worst p i
+  pub none : (i : ℕ) → dem i 0 ≡ 0
 
 -- every job at its worst case
 abbrev pub worst_demand : Plan → ℕ → ℕ → ℕ

@@ -1,19 +1,24 @@
--- When the jobs of a task are released and due, and which is the latest. Only the first three know periods; all else speaks of them.
-use Rattle.std.specs.Prelude.{ℕ, ◌+◌, ◌*◌, ◌-◌, ◌/◌, Bool, nat_eq, nat_le, nat_lt, ◌&&◌}
+-- When the jobs of a task are released and due, and which is the latest. Only the first three know offsets and periods; all else speaks of them.
+use Rattle.std.specs.Prelude.{ℕ, zero, suc, ◌+◌, ◌*◌, ◌-◌, ◌/◌, Bool, nat_eq, nat_le, nat_lt, ◌&&◌, if◌then◌else◌}
 use Rattle.grid_fraction.specs.Numbers.{any_below, least_below, last_up_to}
-use Rattle.sched_model.specs.Plan.{Plan, count, period}
+use Rattle.sched_model.specs.Plan.{Plan, count, period, offset}
 
 -- the tick at which job k of task i is released; jobs count from 1
 unfoldable pub release : Plan → ℕ → ℕ → ℕ
-release p i k = (k - 1) * period p i
+release p i k = offset p i + (k - 1) * period p i
 
--- the tick at which it is due
+-- the tick at which it is due; job 0, which stands before the first release, is due there
 unfoldable pub due : Plan → ℕ → ℕ → ℕ
-due p i k = k * period p i
+due p i k = offset p i + k * period p i
 
--- the job of task i that was released last, up to tick t
+-- the job of task i that was released last, up to tick t, and job 0 where none was
 unfoldable pub latest : Plan → ℕ → ℕ → ℕ
-latest p i t = t / period p i + 1
+latest p i t = if nat_le (offset p i) t then (t - offset p i) / period p i + 1 else 0
+
+-- the tick since which job k of task i is the latest: its release, and 0 for job 0
+abbrev pub latest_since : Plan → ℕ → ℕ → ℕ
+latest_since p i zero = 0
+latest_since p i (suc k) = release p i (suc k)
 
 -- Di(t), the deadline of the latest job
 abbrev pub deadline : Plan → ℕ → ℕ → ℕ
@@ -30,7 +35,7 @@ is_release p t = any_below (count p) (λ i. releases_at p i t)
 abbrev pub earliest : Plan → ℕ → ℕ
 earliest p t = least_below (count p) (λ i. deadline p i t)
 
--- r, the last release up to t
+-- r, the last release up to t, and 0 where there is none
 abbrev pub last_release : Plan → ℕ → ℕ
 last_release p t = last_up_to t (is_release p)
 

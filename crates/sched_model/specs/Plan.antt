@@ -28,6 +28,10 @@ names p = map (λ t. t.name) p.tasks
 abbrev pub period : Plan → ℕ → ℕ
 period p i = (task p i).period
 
+-- Oi, the tick of the first release
+abbrev pub offset : Plan → ℕ → ℕ
+offset p i = (task p i).offset
+
 -- Ci: the declared worst case, and the charge for two switches of speed
 abbrev pub worst : Plan → ℕ → ℕ
 worst p i = (task p i).worst + 2 * p.machine.charge

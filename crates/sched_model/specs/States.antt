@@ -3,7 +3,7 @@ use Rattle.std.specs.Prelude.{◌≡◌, ℕ, ◌+◌, ◌-◌, ◌<◌, ◌≤�
 use Rattle.std.specs.List.{slice_index_or}
 use Rattle.grid_fraction.specs.Numbers.{list_below}
 use Rattle.sched_model.specs.declared.state.Row.{Row}
-use Rattle.sched_model.specs.Plan.{Plan, count, period, worst}
+use Rattle.sched_model.specs.Plan.{Plan, count, period, offset, worst}
 use Rattle.sched_model.specs.Jobs.{latest, due, last_release}
 use Rattle.sched_model.specs.Ticks.{Tick, at, exec, is_done, is_complete, wleft}
 
@@ -29,15 +29,15 @@ row_wleft row = if row.done then 0 else row.worst - row.used
 abbrev pub released_row : ℕ → Row → Row
 released_row period row = record { deadline = row.deadline + period; job = row.job + 1; used = 0; done = false; worst = row.worst }
 
--- the row before the first release: job 0, which is complete
-abbrev pub opening_row : ℕ → Row
-opening_row worst = record { deadline = 0; job = 0; used = 0; done = true; worst = worst }
+-- the row before the first release: job 0, which is complete, due at that release
+abbrev pub opening_row : ℕ → ℕ → Row
+opening_row offset worst = record { deadline = offset; job = 0; used = 0; done = true; worst = worst }
 
 -- the state before the first release
 abbrev pub opening : Plan → StateOf
 opening p = record {
   now = 0;
-  rows = list_below (count p) (λ i. opening_row (worst p i));
+  rows = list_below (count p) (λ i. opening_row (offset p i) (worst p i));
   base_at = 0;
   base = list_below (count p) (λ i. 0);
 }
@@ -89,7 +89,7 @@ pub record CanFinish (s : StateOf) (i : ℕ) : Type 0 where
 
 -- a row before the releases of the tick after `past`: job 0 at the start, and else the job that was the latest in the last tick
 abbrev pub prior_row : Plan → (ℕ → ℕ → ℕ) → List Tick → ℕ → Row
-prior_row p dem [] i = opening_row (worst p i)
+prior_row p dem [] i = opening_row (offset p i) (worst p i)
 prior_row p dem (x ∷ past) i =
     let k = latest p i (length past) in
     record { deadline = due p i k; job = k; used = exec p (x ∷ past) i k; done = is_done p dem (x ∷ past) i k; worst = worst p i }

@@ -1,6 +1,6 @@
 // Admitted plans.
 ghost use Rattle.std.specs.Prelude.{◌≡◌, ◌<◌, IfOk, slice_index, map};
-ghost use Rattle.sched_model.specs.Plan.{plan_of, count, names, task, period, worst, hyper};
+ghost use Rattle.sched_model.specs.Plan.{plan_of, count, names, task, period, offset, worst, hyper};
 ghost use Rattle.sched_model.specs.Order.{in_order};
 ghost use Rattle.sched_model.specs.StaticDemand.{static_demand};
 ghost use Rattle.sched_model.specs.Admission.{PassesTest, IsAdmitted};
@@ -116,6 +116,14 @@ impl Admitted {
         ensures { result ≡ period self.now i }
     {
         self.tasks[i as usize].period
+    }
+
+    /// The tick of the first release of a task.
+    pub fn offset(&self, i: u32) -> u64
+        requires { i < count self.now }
+        ensures { result ≡ offset self.now i }
+    {
+        self.tasks[i as usize].offset
     }
 
     /// The declared worst case of a task in work units, without the charge.

@@ -47,7 +47,8 @@ fn worst_left(row: Row) -> u64
 }
 
 impl State {
-    /// The state before the first release: each row has job 0, which is complete, due at tick 0.
+    /// The state before the first release: each row has job 0, which is complete, due at its task's
+    /// first release.
     pub fn new(alloc: Global, plan: &Admitted) -> Result<State, NoMemory>
         ensures { IfOk result (λ s. s ≡ opening plan.now) }
     {
@@ -55,7 +56,7 @@ impl State {
         let mut base = Vec::new(alloc);
         for i in 0..plan.count() {
             let row = Row {
-                deadline: 0,
+                deadline: plan.offset(i),
                 job: 0,
                 used: 0,
                 done: true,

@@ -1,5 +1,5 @@
 -- A written document means the tasks that it was written from.
-use Rattle.std.proofs.Common.{◌≡◌, ◌<◌, ◌≤◌, ◌^◌, ℕ, zero, suc, ◌+◌, ◌&&◌, nat_lt, nat_le, if◌then◌else◌, Bool, true, false, List, [], ◌∷◌, ◌++◌, length, map, Option, Some, None, inl, inr, append_assoc, append-nil, sym, Ok, Err, String, Global, Ordering, Less, Equal, Greater, string_bytes, slice_index, refl, ap, ◌∙◌, subst, arith}
+use Rattle.std.proofs.Common.{pos, codes, ◌≡◌, ◌<◌, ◌≤◌, ◌^◌, ℕ, zero, suc, ◌+◌, ◌&&◌, nat_lt, nat_le, if◌then◌else◌, Bool, true, false, List, [], ◌∷◌, ◌++◌, length, map, Option, Some, None, inl, inr, append_assoc, append-nil, sym, Ok, Err, String, Global, Ordering, Less, Equal, Greater, string_bytes, slice_index, refl, ap, ◌∙◌, subst, arith}
 use Rattle.std.specs.List.{list_all, position_or_len}
 use Rattle.std.specs.Str.{bytes_eq, IsUtf8, is_utf8}
 use Rattle.std.specs.String.{string_cmp}
@@ -15,7 +15,7 @@ use Rattle.std.proofs.lemmas.Str.Ascii.{IsAscii-nil}
 use Rattle.std.proofs.Math.ListN.{length-append}
 use Rattle.std.proofs.Math.Seq.{get_or-append_seam}
 use Rattle.dvs_base.specs.Text.{is_name, is_name_byte}
-use Rattle.toml.specs.Data.{items_depth, members_depth}
+use Rattle.toml.specs.Data.{items_depth, members_depth, Members, no_members, member, string, integer}
 use Rattle.toml.specs.View.{view, items_of, members_view}
 use Rattle.toml.specs.declared.value.Value.{Value}
 use Rattle.toml.specs.Parse.{parse_document}
@@ -27,7 +27,7 @@ use Rattle.task_model.specs.declared.task.Task.{Task}
 use Rattle.task_model.specs.Tasks.{IsTask, IsTaskSet, task_at, no_task, hyper_of}
 use Rattle.task_model.specs.Limits.{AreTasks}
 use Rattle.task_model.specs.TaskFile.{place_of, task_of, tasks_from, within_hyper, tasks_of_document, task_file}
-use Rattle.task_model.specs.Written.{put_member, task_data, document}
+use Rattle.task_model.specs.Written.{put_member, offset_before, task_data, document}
 
 abbrev Entry : Type 0
 Entry = String Global × Value
@@ -66,8 +66,19 @@ within low high n h k =
     test_both (nat_le low n) (nat_le n high) a b
 
 pub task_of-task_data : (place : ℕ) (t : Task) → IsTask t → task_of place (task_data t) ≡ Ok t
-task_of-task_data place t h =
-    rw (h.name, within 1 (2 ^ 40) t.period h.some_period h.low_period, within 1 (2 ^ 60) t.worst h.some_worst h.low_worst) refl
+task_of-task_data place t h = go (nat_lt 0 t.offset) refl
+  where
+    period : (nat_le 1 t.period && nat_le t.period (2 ^ 40)) ≡ true
+    period = within 1 (2 ^ 40) t.period h.some_period h.low_period
+
+    worst : (nat_le 1 t.worst && nat_le t.worst (2 ^ 60)) ≡ true
+    worst = within 1 (2 ^ 60) t.worst h.some_worst h.low_worst
+
+    go : (b : Bool) → nat_lt 0 t.offset ≡ b → task_of place (task_data t) ≡ Ok t
+    go true e = rw (e, h.name, period, worst, within 0 (2 ^ 40) t.offset (omega arith) h.low_offset) refl
+    go false e =
+        let none : 0 ≡ t.offset = grind (arith, nat_tests) in
+        rw (e, h.name, period, worst) (λ i. Ok record { name = t.name; period = t.period; worst = t.worst; offset = none i })
 
 -- a name that no task has is not found
 pub place_of-absent : (tasks : List Task) (name : List ℕ) → ((i : ℕ) → i < length tasks → (task_at tasks i).name ≡ name → ⊥) → place_of tasks name ≡ None
@@ -121,7 +132,16 @@ tasks_of_document-written (t ∷ tasks) h =
 
 items_depth-written : (tasks : List Task) → items_depth (items_of (map task_data tasks)) ≤ 1
 items_depth-written [] = omega arith
-items_depth-written (t ∷ tasks) = max-le (let one : 1 ≤ 1 = omega arith in one) (items_depth-written tasks)
+items_depth-written (t ∷ tasks) =
+    let flat : members_depth (member (codes "name") (string t.name) (offset_before t.offset numbers)) ≤ 0 = max-le (let low : 0 ≤ 0 = omega arith in low) (own (nat_lt 0 t.offset)) in
+    max-le (let one : suc (members_depth (member (codes "name") (string t.name) (offset_before t.offset numbers))) ≤ 1 = omega (arith, flat) in one) (items_depth-written tasks)
+  where
+    numbers : Members
+    numbers = member (codes "period") (integer (pos t.period)) (member (codes "worst") (integer (pos t.worst)) no_members)
+
+    own : (b : Bool) → members_depth (if b then member (codes "offset") (integer (pos t.offset)) numbers else numbers) ≤ 0
+    own true = omega arith
+    own false = omega arith
 
 members_depth-written : (tasks : List Task) → members_depth (document tasks) ≤ 80
 members_depth-written tasks =

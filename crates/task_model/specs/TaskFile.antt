@@ -2,11 +2,11 @@
 use Rattle.std.specs.Prelude.{ℕ, ◌+◌, ◌^◌, List, [], ◌∷◌, ◌++◌, length, nat_lt, nat_le, position, codes, Option, Some, None, Result, Ok, Err, if◌then◌else◌}
 use Rattle.std.specs.Str.{bytes_eq}
 use Rattle.dvs_base.specs.Text.{is_name, short_of}
-use Rattle.toml.specs.Data.{Data, Items, no_items, item, Members, get_member, as_array, as_table}
+use Rattle.toml.specs.Data.{Data, Items, no_items, item, Members, get_member, as_integer, as_array, as_table}
 use Rattle.toml_tree.specs.declared.tree.MemberFault.{MemberFault}
 use Rattle.toml_tree.specs.declared.tree.MemberFault.TheVariants as member_fault
 use Rattle.dvs_base.specs.Checks.{and_then}
-use Rattle.toml_tree.specs.Tree.{document_of, unknown_key, number_at, text_at, count_of}
+use Rattle.toml_tree.specs.Tree.{document_of, unknown_key, number_from, number_at, text_at, count_of}
 use Rattle.task_model.specs.declared.task.Task.{Task}
 use Rattle.task_model.specs.declared.fault.Field.{Field}
 use Rattle.task_model.specs.declared.fault.Field.TheVariants as field
@@ -19,7 +19,7 @@ abbrev pub file_keys : List (List ℕ)
 file_keys = codes "task" ∷ []
 
 abbrev pub task_keys : List (List ℕ)
-task_keys = codes "name" ∷ codes "period" ∷ codes "worst" ∷ []
+task_keys = codes "name" ∷ codes "period" ∷ codes "worst" ∷ codes "offset" ∷ []
 
 -- the check for unknown keys
 abbrev pub no_unknown : {A : Type 0} → ℕ → Option (List ℕ) → Result A TaskFault → Result A TaskFault
@@ -43,6 +43,11 @@ name_of place text = if is_name text then Ok text else Err (fault.BadName place)
 abbrev pub name_at : ℕ → Option Data → Result (List ℕ) TaskFault
 name_at place value = and_then (at_field place field.Name (text_at value)) (name_of place)
 
+-- the offset, which is 0 where it is absent
+abbrev pub offset_at : ℕ → Option Data → Result ℕ TaskFault
+offset_at place None = Ok 0
+offset_at place (Some value) = at_field place field.Offset (number_from 0 (2 ^ 40) (as_integer value))
+
 -- an entry
 abbrev pub task_of_members : ℕ → Members → Result Task TaskFault
 task_of_members place ms =
@@ -50,7 +55,8 @@ task_of_members place ms =
     and_then (name_at place (get_member (codes "name") ms)) (λ name.
     and_then (at_field place field.Period (number_at 1 (2 ^ 40) (get_member (codes "period") ms))) (λ period.
     and_then (at_field place field.Worst (number_at 1 (2 ^ 60) (get_member (codes "worst") ms))) (λ worst.
-    Ok record { name = name; period = period; worst = worst }))))
+    and_then (offset_at place (get_member (codes "offset") ms)) (λ offset.
+    Ok record { name = name; period = period; worst = worst; offset = offset })))))
 
 abbrev pub task_of_table : ℕ → Option Members → Result Task TaskFault
 task_of_table place None = Err (fault.Kind place field.Entry)

@@ -10,7 +10,7 @@ hyper_of tasks = least_common_multiple (map (λ t. t.period) tasks)
 
 -- a task that no set has, for places past the end
 abbrev pub no_task : Task
-no_task = record { name = []; period = 1; worst = 0 }
+no_task = record { name = []; period = 1; worst = 0; offset = 0 }
 
 abbrev pub task_at : List Task → ℕ → Task
 task_at tasks i = slice_index_or tasks i no_task
@@ -22,6 +22,7 @@ pub record IsTask (t : Task) : Type 0 where
   pub low_period : t.period ≤ 2 ^ 40
   pub some_worst : 1 ≤ t.worst
   pub low_worst : t.worst ≤ 2 ^ 60
+  pub low_offset : t.offset ≤ 2 ^ 40
 
 -- a set of tasks: within the limits, with distinct names
 pub record IsTaskSet (tasks : List Task) : Type 0 where

@@ -1,5 +1,5 @@
 -- The document that a set of tasks is written as.
-use Rattle.std.specs.Prelude.{ℕ, pos, List, map, codes}
+use Rattle.std.specs.Prelude.{ℕ, pos, nat_lt, List, map, codes, if◌then◌else◌}
 use Rattle.std.specs.Cmp.Lexicographic.{slice_cmp}
 use Rattle.std.specs.Ordering.{nat_cmp, match_ordering}
 use Rattle.toml.specs.Data.{Data, string, integer, array, table, Members, no_members, member}
@@ -11,9 +11,13 @@ abbrev pub put_member : List ℕ → Data → Members → Members
 put_member key value no_members = member key value no_members
 put_member key value (member k v ms) = match_ordering (slice_cmp nat_cmp key k) (member key value (member k v ms)) (member k value ms) (member k v (put_member key value ms))
 
--- a task as a table of its three keys
+-- the key of an offset that isn't 0, and then the rest
+abbrev pub offset_before : ℕ → Members → Members
+offset_before n rest = if nat_lt 0 n then member (codes "offset") (integer (pos n)) rest else rest
+
+-- a task as a table of its keys
 abbrev pub task_data : Task → Data
-task_data t = table (member (codes "name") (string t.name) (member (codes "period") (integer (pos t.period)) (member (codes "worst") (integer (pos t.worst)) no_members)))
+task_data t = table (member (codes "name") (string t.name) (offset_before t.offset (member (codes "period") (integer (pos t.period)) (member (codes "worst") (integer (pos t.worst)) no_members))))
 
 -- the tasks as the one array of the document
 abbrev pub document : List Task → Members

@@ -9,6 +9,7 @@ pub enum Field {
     Name,
     Period,
     Worst,
+    Offset,
 }
 
 /// The first thing that a task file has wrong. Places count from 1, and place 0 is the document itself.
@@ -26,7 +27,7 @@ pub enum TaskFault {
     Missing { place: u32, field: Field },
     /// A value of another kind stands there.
     Kind { place: u32, field: Field },
-    /// The period is outside 1 to 2^40, or the worst case outside 1 to 2^60.
+    /// The period is outside 1 to 2^40, the worst case outside 1 to 2^60, or the offset above 2^40.
     Range { place: u32, field: Field },
     /// The name is not 1 to 32 bytes of ASCII letters, digits, `_` and `-`.
     BadName { place: u32 },

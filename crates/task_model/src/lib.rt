@@ -59,8 +59,8 @@ mod tests {
             ("zz = 1\nbcd = 2\ntask = []", ("unknown key", 0, None, 3)),
             ("task = [1]", ("kind", 1, Some(Field::Entry), 0)),
             (
-                "task = [{name = \"a\", period = 1, worst = 1}, {offset = 1}]",
-                ("unknown key", 2, None, 6),
+                "task = [{name = \"a\", period = 1, worst = 1}, {phase = 1}]",
+                ("unknown key", 2, None, 5),
             ),
             ("task = [{}]", ("missing", 1, Some(Field::Name), 0)),
             ("task = [{name = 1}]", ("kind", 1, Some(Field::Name), 0)),
@@ -102,6 +102,18 @@ mod tests {
                 ("range", 1, Some(Field::Worst), 0),
             ),
             (
+                "task = [{name = \"a\", period = 1, worst = 1, offset = 1.0}]",
+                ("kind", 1, Some(Field::Offset), 0),
+            ),
+            (
+                "task = [{name = \"a\", period = 1, worst = 1, offset = -1}]",
+                ("range", 1, Some(Field::Offset), 0),
+            ),
+            (
+                "task = [{name = \"a\", period = 1, worst = 1, offset = 1099511627777}]",
+                ("range", 1, Some(Field::Offset), 0),
+            ),
+            (
                 "task = [{name = \"a\", period = 1, worst = 1}, {name = \"a\", period = 1, worst = 1}]",
                 ("same name", 2, None, 1),
             ),
@@ -135,6 +147,23 @@ mod tests {
                 (set.find(b"t1"), set.find(b"t3"), set.find(b"t4")),
                 (Some(0), Some(2), None)
             );
+        }
+        Ok(())
+    }
+
+    #[test]
+    fn an_offset_is_read_and_written(rt: HostRuntime) -> Result<(), Fail> {
+        let alloc = rt.alloc();
+        let text =
+            "task = [{name = \"x\", period = 4, worst = 4}, {offset = 1099511627776, name = \"y\", period = 6, worst = 6}]";
+        let set = TaskSet::read(alloc, text.as_bytes()).map_err(|_| "set")?;
+        let written = set.write(alloc).map_err(|_| "memory")?;
+        let again = TaskSet::read(alloc, written.as_bytes()).map_err(|_| "written")?;
+        for set in [set, again] {
+            if set.count() == 2 {
+                assert_eq!(rt; (set.task(0).offset, set.task(1).offset), (0, 1 << 40));
+            }
+            assert_eq!(rt; set.count(), 2);
         }
         Ok(())
     }

@@ -6,7 +6,7 @@ ghost use Rattle.dvs_base.specs.Checks.{IsUnlessMemory};
 ghost use Rattle.toml_tree.specs.Tree.{number_at};
 ghost use Rattle.task_model.specs.Tasks.{IsTask, hyper_of};
 ghost use Rattle.task_model.specs.Limits.{AreTasks};
-ghost use Rattle.task_model.specs.TaskFile.{fault_at, at_field, name_of, name_at, task_of_members, task_of, place_of, tasks_from, within_hyper, entries_from, tasks_of_document, task_file};
+ghost use Rattle.task_model.specs.TaskFile.{fault_at, at_field, name_of, name_at, offset_at, task_of_members, task_of, place_of, tasks_from, within_hyper, entries_from, tasks_of_document, task_file};
 
 use crate::fault::{Field, TaskFault};
 use crate::task::{Task, TaskSet, place_of};
@@ -43,6 +43,18 @@ fn read_number(
     }
 }
 
+// The offset, which is 0 where it is absent.
+fn read_offset(place: u32, table: &Table) -> Result<u64, TaskFault>
+    ensures meaning { result ≡ offset_at place (get_member (codes "offset") (table_view table.now)) }
+    ensures limit { IfOk result (λ n. n ≤ 2 ^ 40) }
+{
+    match number_at(table, "offset", 0, 1 << 40) {
+        Ok(n) => Ok(n),
+        Err(MemberFault::Missing) => Ok(0),
+        Err(fault) => Err(fault_at(place, Field::Offset, fault)),
+    }
+}
+
 fn name_of(place: u32, text: &str) -> Result<Name, TaskFault>
     ensures { result ≡ name_of place text.now }
 {
@@ -65,16 +77,18 @@ fn read_members(place: u32, table: &Table) -> Result<Task, TaskFault>
     ensures meaning { result ≡ task_of_members place (table_view table.now) }
     ensures limits { IfOk result (λ t. IsTask t) }
 {
-    if let Some(key) = unknown_key(table, &["name", "period", "worst"]) {
+    if let Some(key) = unknown_key(table, &["name", "period", "worst", "offset"]) {
         return Err(TaskFault::UnknownKey { place, key });
     }
     let name = read_name(place, table)?;
     let period = read_number(place, Field::Period, "period", 1 << 40, table)?;
     let worst = read_number(place, Field::Worst, "worst", 1 << 60, table)?;
+    let offset = read_offset(place, table)?;
     Ok(Task {
         name,
         period,
         worst,
+        offset,
     })
 }
 
@@ -166,8 +180,9 @@ fn read_table(alloc: Global, table: &Table) -> Result<TaskSet, TaskFault>
 }
 
 impl TaskSet {
-    /// The tasks of the file: an array of tables under the key `task`, each with a `name`, a `period` in ticks and a
-    /// `worst` case in work units. Else the file's first refusal, unless memory runs out.
+    /// The tasks of the file: an array of tables under the key `task`, each with a `name`, a `period` in ticks, a
+    /// `worst` case in work units and an `offset` in ticks, which is 0 where it is absent. Else the file's first
+    /// refusal, unless memory runs out.
     pub fn read(alloc: Global, bytes: &[u8]) -> Result<TaskSet, TaskFault>
         ensures { IsUnlessMemory TaskFault.NoMemory (λ s. s) result (task_file bytes.now) }
     {

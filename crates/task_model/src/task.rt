@@ -11,13 +11,14 @@ use grid_fraction::lcm_within;
 use std::alloc::Global;
 use std::marker::Model;
 
-/// A periodic task (Liu and Layland 1973): every `period` ticks a job is released, which needs at most `worst` work
-/// units and is due at the next release.
+/// A periodic task (Liu and Layland 1973): from the tick `offset` on, every `period` ticks a job is released, which needs
+/// at most `worst` work units and is due at the next release.
 #[derive(Clone, Copy)]
 pub struct Task {
     pub name: Name,
     pub period: u64,
     pub worst: u64,
+    pub offset: u64,
 }
 
 /// Tasks within the limits, in the order of their file. Their names are distinct.

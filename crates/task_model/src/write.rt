@@ -51,6 +51,9 @@ fn task_value(alloc: Global, task: &Task) -> Result<Value, NoMemory>
 {
     let mut table = Table::new(alloc);
     put(alloc, &mut table, "name", name_value(alloc, &task.name)?)?;
+    if task.offset > 0 {
+        put(alloc, &mut table, "offset", number_value(task.offset))?;
+    }
     put(alloc, &mut table, "period", number_value(task.period))?;
     put(alloc, &mut table, "worst", number_value(task.worst))?;
     Ok(Value::Table(table))

@@ -5,7 +5,7 @@ ghost use Rattle.sched_model.specs.States.{opening};
 ghost use Rattle.event_kernel.specs.Runs.{IsListOf};
 
 use crate::calls::PAPER_DEMANDS;
-use crate::plans::{edf_plan, paper_tasks, rm_plan};
+use crate::plans::{edf_plan, late_tasks, paper_tasks, rm_plan};
 use cc_edf::CcEdf;
 use cc_rm::CcRm;
 use demand_list::Demands;
@@ -114,6 +114,69 @@ impl Listener for HeardTicks {
     }
 }
 
+// The notes of a run, as far as there is room for them.
+#[derive(Drop)]
+struct HeardNotes {
+    notes: [Note; 128],
+    count: usize,
+}
+
+impl HeardNotes {
+    fn new() -> HeardNotes {
+        let none = Note::End {
+            ticks: 0,
+            run: 0,
+            idle: 0,
+        };
+        HeardNotes {
+            notes: [none; 128],
+            count: 0,
+        }
+    }
+}
+
+impl Listener for HeardNotes {
+    ghost heard = { λ a n b. Unit {0} };
+
+    ghost balked = { λ a n b. Unit {0} };
+
+    ghost stops = { λ a. 0 };
+
+    fn hear(&mut self, note: &Note) -> Result<(), Stopped> {
+        if let Some(place) = self.notes.get_mut(self.count) {
+            *place = *note;
+        }
+        self.count = self.count.saturating_add(1);
+        Ok(())
+    }
+}
+
+// Whether a run of 16 ticks from event to event has the notes and the totals of one tick by tick.
+fn is_same_by_ticks<G: Governor>(
+    alloc: Global,
+    plan: &Admitted,
+    demands: &Demands,
+    governor: G,
+    other: G,
+) -> Result<bool, Fail>
+    requires list { IsListOf plan.now demands.now }
+    requires stands { G.stands governor plan.now (opening plan.now) }
+    requires stands_too { G.stands other plan.now (opening plan.now) }
+{
+    let mut heard = HeardNotes::new();
+    let kernel = Kernel::new(alloc, plan, demands, governor, 16).map_err(|_| "kernel")?;
+    let totals = kernel.drive(&mut heard).map_err(|_| "run")?;
+    let mut by_ticks = HeardNotes::new();
+    let kernel = Kernel::new(alloc, plan, demands, other, 16).map_err(|_| "kernel")?;
+    let totals_by_ticks = kernel.tick_drive(&mut by_ticks).map_err(|_| "run")?;
+    Ok(
+        heard.count <= 128
+            && heard.count == by_ticks.count
+            && heard.notes.as_slice() == by_ticks.notes.as_slice()
+            && totals == totals_by_ticks,
+    )
+}
+
 // Whether the kernel's run of 16 ticks under a governor is the definition's schedule.
 fn agrees<G: Governor>(
     alloc: Global,
@@ -142,34 +205,89 @@ fn demands_of(alloc: Global, tasks: &TaskSet, plan: &Admitted) -> Result<Demands
     }
 }
 
+// Whether the runs of these tasks under each governor that serves EDF are the definition's.
+fn edf_agrees(alloc: Global, tasks: &TaskSet) -> Result<bool, Fail> {
+    let plan = edf_plan(alloc, tasks)?;
+    let demands = demands_of(alloc, tasks, &plan)?;
+    let full = Full::new(alloc, &plan)?;
+    let fixed = Static::new(alloc, &plan)?;
+    let cycle = CcEdf::new(alloc, &plan)?;
+    let ahead = LookAhead::new(alloc, &plan)?;
+    Ok(
+        agrees(alloc, &plan, &demands, full)?
+            && agrees(alloc, &plan, &demands, fixed)?
+            && agrees(alloc, &plan, &demands, cycle)?
+            && agrees(alloc, &plan, &demands, ahead)?,
+    )
+}
+
+// Whether they are under each governor that serves RM.
+fn rm_agrees(alloc: Global, tasks: &TaskSet) -> Result<bool, Fail> {
+    let plan = rm_plan(alloc, tasks)?;
+    let demands = demands_of(alloc, tasks, &plan)?;
+    let full = Full::new(alloc, &plan)?;
+    let fixed = Static::new(alloc, &plan)?;
+    let cycle = CcRm::new(alloc, &plan)?;
+    Ok(
+        agrees(alloc, &plan, &demands, full)?
+            && agrees(alloc, &plan, &demands, fixed)?
+            && agrees(alloc, &plan, &demands, cycle)?,
+    )
+}
+
 #[test]
-fn edf_runs_are_the_definition(rt: HostRuntime) -> Result<(), Fail> {
+fn runs_are_the_definition(rt: HostRuntime) -> Result<(), Fail> {
+    let alloc = rt.alloc();
+    let tasks = paper_tasks(alloc)?;
+    assert!(rt; edf_agrees(alloc, &tasks)?);
+    assert!(rt; rm_agrees(alloc, &tasks)?);
+    Ok(())
+}
+
+#[test]
+fn runs_with_offsets_are_the_definition(rt: HostRuntime) -> Result<(), Fail> {
+    let alloc = rt.alloc();
+    let tasks = late_tasks(alloc)?;
+    assert!(rt; edf_agrees(alloc, &tasks)?);
+    assert!(rt; rm_agrees(alloc, &tasks)?);
+    Ok(())
+}
+
+#[test]
+fn edf_runs_are_the_same_by_ticks(rt: HostRuntime) -> Result<(), Fail> {
     let alloc = rt.alloc();
     let tasks = paper_tasks(alloc)?;
     let plan = edf_plan(alloc, &tasks)?;
     let demands = demands_of(alloc, &tasks, &plan)?;
     let full = Full::new(alloc, &plan)?;
-    assert!(rt; agrees(alloc, &plan, &demands, full)?);
+    let full_too = Full::new(alloc, &plan)?;
+    assert!(rt; is_same_by_ticks(alloc, &plan, &demands, full, full_too)?);
     let fixed = Static::new(alloc, &plan)?;
-    assert!(rt; agrees(alloc, &plan, &demands, fixed)?);
+    let fixed_too = Static::new(alloc, &plan)?;
+    assert!(rt; is_same_by_ticks(alloc, &plan, &demands, fixed, fixed_too)?);
     let cycle = CcEdf::new(alloc, &plan)?;
-    assert!(rt; agrees(alloc, &plan, &demands, cycle)?);
+    let cycle_too = CcEdf::new(alloc, &plan)?;
+    assert!(rt; is_same_by_ticks(alloc, &plan, &demands, cycle, cycle_too)?);
     let ahead = LookAhead::new(alloc, &plan)?;
-    assert!(rt; agrees(alloc, &plan, &demands, ahead)?);
+    let ahead_too = LookAhead::new(alloc, &plan)?;
+    assert!(rt; is_same_by_ticks(alloc, &plan, &demands, ahead, ahead_too)?);
     Ok(())
 }
 
 #[test]
-fn rm_runs_are_the_definition(rt: HostRuntime) -> Result<(), Fail> {
+fn rm_runs_are_the_same_by_ticks(rt: HostRuntime) -> Result<(), Fail> {
     let alloc = rt.alloc();
     let tasks = paper_tasks(alloc)?;
     let plan = rm_plan(alloc, &tasks)?;
     let demands = demands_of(alloc, &tasks, &plan)?;
     let full = Full::new(alloc, &plan)?;
-    assert!(rt; agrees(alloc, &plan, &demands, full)?);
+    let full_too = Full::new(alloc, &plan)?;
+    assert!(rt; is_same_by_ticks(alloc, &plan, &demands, full, full_too)?);
     let fixed = Static::new(alloc, &plan)?;
-    assert!(rt; agrees(alloc, &plan, &demands, fixed)?);
+    let fixed_too = Static::new(alloc, &plan)?;
+    assert!(rt; is_same_by_ticks(alloc, &plan, &demands, fixed, fixed_too)?);
     let cycle = CcRm::new(alloc, &plan)?;
-    assert!(rt; agrees(alloc, &plan, &demands, cycle)?);
+    let cycle_too = CcRm::new(alloc, &plan)?;
+    assert!(rt; is_same_by_ticks(alloc, &plan, &demands, cycle, cycle_too)?);
     Ok(())
 }

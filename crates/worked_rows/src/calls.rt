@@ -7,6 +7,10 @@ use std::test::Fail;
 pub(crate) const PAPER_TASKS: &str =
     "task = [{name = \"t1\", period = 8, worst = 12}, {name = \"t2\", period = 10, worst = 12}, {name = \"t3\", period = 14, worst = 4}]";
 
+/// The example's tasks with first releases after tick 0.
+pub(crate) const LATE_TASKS: &str =
+    "task = [{name = \"t1\", period = 8, worst = 12, offset = 3}, {name = \"t2\", period = 10, worst = 12, offset = 1}, {name = \"t3\", period = 14, worst = 4, offset = 5}]";
+
 pub(crate) const PAPER_MACHINE: &str =
     "point = [{speed = 2, millivolts = 3000}, {speed = 3, millivolts = 4000}, {speed = 4, millivolts = 5000}]";
 

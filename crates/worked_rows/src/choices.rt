@@ -15,7 +15,7 @@ use static_gov::{Full, Static};
 use std::alloc::Global;
 use std::test::Fail;
 
-// The first job of each task is released, and the tick is marked.
+// The first job of each task without an offset is released, and the tick is marked where there is one.
 fn release_all<G: Governor>(plan: &Admitted, governor: &mut G, state: &mut State)
     requires state { state.old ≡ opening plan.now }
     requires counters { G.stands governor.old plan.now state.old }
@@ -24,12 +24,18 @@ fn release_all<G: Governor>(plan: &Admitted, governor: &mut G, state: &mut State
     ensures counters { G.stands governor.new plan.now state.new }
 {
     plan.known();
+    let mut any = false;
     for task in 0..plan.count() {
-        governor.released(plan, state, task);
-        state.release(plan, task);
+        if plan.offset(task) == 0 {
+            governor.released(plan, state, task);
+            state.release(plan, task);
+            any = true;
+        }
     }
-    governor.settled(plan, state);
-    state.mark();
+    if any {
+        governor.settled(plan, state);
+        state.mark();
+    }
 }
 
 // What a governor chooses at the first decision.

@@ -49,12 +49,14 @@ fn each_governor_is_made_for_its_plan(rt: HostRuntime) -> Result<(), Fail> {
     Ok(())
 }
 
-// The state of a plan after the first release of its first task.
+// The opening state of a plan, after the first release of its first task where that is at tick 0.
 fn opened(alloc: Global, plan: &Admitted) -> Result<State, Fail> {
     plan.known();
     match State::new(alloc, plan) {
         Ok(mut state) => {
-            state.release(plan, 0);
+            if plan.offset(0) == 0 {
+                state.release(plan, 0);
+            }
             Ok(state)
         }
         Err(_) => Err("state")?,

@@ -2,7 +2,7 @@
 ghost use Rattle.std.specs.Prelude.{◌≡◌, IfOk};
 ghost use Rattle.governor.specs.Serving.{ServesEdf, ServesRm};
 
-use crate::calls::{PAPER_MACHINE, PAPER_TASKS};
+use crate::calls::{LATE_TASKS, PAPER_MACHINE, PAPER_TASKS};
 use edf_admit::edf_admit;
 use freq_table::Machine;
 use rm_admit::rm_admit;
@@ -14,6 +14,14 @@ use task_model::TaskSet;
 // The tasks of the example.
 pub(crate) fn paper_tasks(alloc: Global) -> Result<TaskSet, Fail> {
     match TaskSet::read(alloc, PAPER_TASKS.as_bytes()) {
+        Ok(tasks) => Ok(tasks),
+        Err(_) => Err("tasks")?,
+    }
+}
+
+// The same tasks with first releases after tick 0.
+pub(crate) fn late_tasks(alloc: Global) -> Result<TaskSet, Fail> {
+    match TaskSet::read(alloc, LATE_TASKS.as_bytes()) {
         Ok(tasks) => Ok(tasks),
         Err(_) => Err("tasks")?,
     }

@@ -126,6 +126,19 @@ fn too_many_jobs(rt: HostRuntime) -> Result<(), Fail> {
             (5, "limit: 296429 jobs, at most 100000\n"),
         )?
     );
+    for (tasks, line) in [
+        (
+            "task = [{name = \"a\", period = 1, worst = 1, offset = 1}, {name = \"b\", period = 1, worst = 1, offset = 1000000}]",
+            "limit: 100002 jobs, at most 100000\n",
+        ),
+        (
+            "task = [{name = \"a\", period = 1, worst = 1, offset = 2}, {name = \"b\", period = 1, worst = 1, offset = 1000000}]",
+            "limit: 100001 jobs, at most 100000\n",
+        ),
+    ] {
+        let words = "run --tasks T --machine M --scheduler edf --governor none --ticks 100003";
+        assert!(rt; refuses(alloc, tasks, TWO, "", words, (5, line))?, "{line}");
+    }
     Ok(())
 }
 
@@ -176,11 +189,11 @@ fn task_file_refusals(rt: HostRuntime) -> Result<(), Fail> {
     assert!(rt;
         refuses(
             alloc,
-            "task = [{name = \"a\", period = 1, worst = 1}, {name = \"b\", period = 2, worst = 1, offset = 1}]",
+            "task = [{name = \"a\", period = 1, worst = 1}, {name = \"b\", period = 2, worst = 1, phase = 1}]",
             SLOW,
             "",
             "admit --tasks T --machine M --scheduler edf",
-            (4, "tasks: task 2: unknown key offset\n"),
+            (4, "tasks: task 2: unknown key phase\n"),
         )?
     );
     Ok(())

@@ -58,6 +58,23 @@ fn equal_deadlines_by_place(rt: HostRuntime) -> Result<(), Fail> {
     Ok(())
 }
 
+// As many ticks as a run may have: it goes from event to event.
+#[test]
+fn longest_run_of_one_job(rt: HostRuntime) -> Result<(), Fail> {
+    let alloc = rt.alloc();
+    assert!(rt;
+        answers(
+            alloc,
+            "task = [{name = \"t1\", period = 1000000000000, worst = 1}]",
+            SLOW,
+            "",
+            "run --tasks T --machine M --scheduler edf --governor none --ticks 1000000000000",
+            "trace 1\nplan edf none 1000000000000\nrelease 0 t1 1\nspeed 0 1 1/1\nrun 0:0 1:0 t1 1 1 1000000000\ndone 1:0 t1 1 1\nspeed 1 1 1/1\nidle 1:0 1000000000000:0 999999999999 0\nend 1000000000000 1000000000 0\n",
+        )?
+    );
+    Ok(())
+}
+
 #[test]
 fn utilisation_exactly_one(rt: HostRuntime) -> Result<(), Fail> {
     let alloc = rt.alloc();
@@ -284,5 +301,49 @@ fn allotments_by_the_static_speed(rt: HostRuntime) -> Result<(), Fail> {
         "speed 0 2 8/4\nspeed 2 2 4/2\nspeed 4 2 6/4\nspeed 6 2 2/2\nspeed 7 2 0/1\n"
     );
     assert!(rt; text.ends_with("\nend 8 126000000000 0\n"));
+    Ok(())
+}
+
+#[test]
+fn first_release_after_tick_0(rt: HostRuntime) -> Result<(), Fail> {
+    let alloc = rt.alloc();
+    let late_trace =
+        "trace 1\nplan edf cc 8\nrelease 0 x 1\nspeed 0 2 12/12\nrun 0:0 2:0 x 1 4 36000000000\ndone 2:0 x 1 4\nrelease 2 y 1\nspeed 2 2 24/12\nrun 2:0 4:0 y 1 4 36000000000\nrelease 4 x 2\nspeed 4 2 24/12\nrun 4:0 6:0 x 2 4 36000000000\ndone 6:0 x 2 4\nspeed 6 2 24/12\nrun 6:0 7:0 y 1 2 18000000000\ndone 7:0 y 1 6\nspeed 7 2 24/12\nidle 7:0 8:0 2 0\nend 8 126000000000 0\n";
+    assert!(rt;
+        answers(
+            alloc,
+            "task = [{name = \"x\", period = 4, worst = 4}, {name = \"y\", period = 6, worst = 6, offset = 2}]",
+            PAPER_MACHINE,
+            "",
+            "run --tasks T --machine M --scheduler edf --governor cc --ticks 8",
+            late_trace,
+        )?
+    );
+    Ok(())
+}
+
+#[test]
+fn a_run_before_all_releases_idles(rt: HostRuntime) -> Result<(), Fail> {
+    let alloc = rt.alloc();
+    let late = "task = [{name = \"x\", period = 4, worst = 4, offset = 5}]";
+    for (words, trace) in [
+        (
+            "run --tasks T --machine M --scheduler edf --governor cc --ticks 3",
+            "trace 1\nplan edf cc 3\nspeed 0 2 0/4\nidle 0:0 3:0 6 0\nend 3 0 0\n",
+        ),
+        (
+            "run --tasks T --machine M --scheduler edf --governor la --ticks 3",
+            "trace 1\nplan edf la 3\nspeed 0 2 0/5\nidle 0:0 3:0 6 0\nend 3 0 0\n",
+        ),
+        (
+            "run --tasks T --machine M --scheduler rm --governor cc --ticks 3",
+            "trace 1\nplan rm cc 3\nspeed 0 2 0/5\nidle 0:0 3:0 6 0\nend 3 0 0\n",
+        ),
+    ] {
+        assert!(rt;
+            answers(alloc, late, PAPER_MACHINE, "", words, trace)?,
+            "{words}"
+        );
+    }
     Ok(())
 }

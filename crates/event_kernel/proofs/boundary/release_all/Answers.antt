@@ -130,7 +130,7 @@ loop-task-preserved g c =
           opens p dem past adm.some_period g.L.Listener.heard g.L.Listener.balked c.args.to.now i any st c.loop-task.to r lt due w.release_one.new.state w.release_one.new.to w.in_ok-release_one.ensures.heard w.in_ok-release_one.ensures.state in
           rw (w.any-is, w.state-is, w.to-is, w.governor-is, w.pen-is) (next, w.in_ok-release_one.ensures.counters, w.in_ok-release_one.ensures.of, opens-pen p dem past adm.some_period g.L.Listener.heard g.L.Listener.balked c.args.to.now i any st c.loop-task.to r lt due c.args.pen.now c.loop-task.pen w.release_one.new.pen c.loop-task.invariant.3 w.in_ok-release_one.ensures.pen, omega (arith, c.loop-task.invariant.4, w.in_ok-release_one.ensures.never_falls)))
       | else-index-now w ↦ (let early : nat_eq (row_at st i).deadline st.now ≡ false = ap₂ (λ a b. nat_eq a b) (sym (ap (λ (q : Row). q.deadline) is)) (sym clock) ∙ ne_eqb _ _ w.if-index-now.false in
-          let next : Releasing p dem past g.L.Listener.heard (i + 1) any st c.args.to.now c.loop-task.to = passed p dem past adm.some_period g.L.Listener.heard g.L.Listener.balked c.args.to.now i any st c.loop-task.to r lt early in
+          let next : Releasing p dem past g.L.Listener.heard (i + 1) any st c.args.to.now c.loop-task.to = passed p dem past adm.some_period g.L.Listener.heard g.L.Listener.balked c.args.to.now i any st c.loop-task.to r lt (here.within.none i) early in
           rw (w.any-is, w.state-is, w.to-is, w.governor-is, w.pen-is) (next, c.loop-task.invariant.1, c.loop-task.invariant.2, c.loop-task.invariant.3 ∙ ap (λ ns. with_notes c.args.pen.now ns) (sym (passed-notes p dem past adm.some_period g.L.Listener.heard g.L.Listener.balked c.args.to.now i any st c.loop-task.to r lt early)), c.loop-task.invariant.4))
     ]
 
@@ -166,7 +166,7 @@ returns-else-any-clause-state g c =
     let st = c.loop-task.state in
     let i = c.loop-task.task in
     let whole : i ≡ count p = omega (arith, c.count-task-end.ensures) in
-    released-unmarked p dem past adm.some_period g.L.Listener.heard g.L.Listener.balked c.args.to.now i st c.loop-task.to adm.some_task whole (subst (λ b. Releasing p dem past g.L.Listener.heard i b st c.args.to.now c.loop-task.to) c.if-any.false r)
+    released-unmarked p dem past adm.some_period g.L.Listener.heard g.L.Listener.balked c.args.to.now i st c.loop-task.to c.requires.at.within.none whole (subst (λ b. Releasing p dem past g.L.Listener.heard i b st c.args.to.now c.loop-task.to) c.if-any.false r)
 
 pub release_one-requires-clause-room : goal.release_one-requires-clause-room
 release_one-requires-clause-room g c =

@@ -1,4 +1,5 @@
-use Rattle.std.proofs.Common.{arith, subst, sym}
+use Rattle.std.proofs.Common.{◌≡◌, arith, subst, sym}
+use Rattle.sched_model.specs.Plan.{offset}
 use Rattle.sched_model.specs.States.{StateOf, CanRelease}
 use Rattle.sched_model.proofs.Openings.{opening-can_release}
 use Rattle.worked_rows.proofs.made.opened.Goals as goal
@@ -7,4 +8,5 @@ pub release-requires : goal.release-requires
 release-requires c =
     let p = c.args.plan.now in
     let limits = c.known.ensures.limits in
-    subst (λ (s : StateOf). CanRelease p s 0) (sym c.in-Ok.ensures) (opening-can_release p limits 0 (omega (arith, limits.tasks.some)))
+    let first : offset p 0 ≡ 0 = omega (arith, c.offset.ensures, c.if-offset-eq0.true) in
+    subst (λ (s : StateOf). CanRelease p s 0) (sym c.in-Ok.ensures) (opening-can_release p limits 0 (omega (arith, limits.tasks.some)) first)

@@ -3,7 +3,7 @@ use Rattle.event_kernel.specs.Runs.{demands_of}
 use Rattle.event_kernel.specs.Heard.{HasHeard}
 use Rattle.event_kernel.specs.Boundary.{IsBetween}
 use Rattle.event_kernel.specs.Walking.{told_before}
-use Rattle.event_kernel.proofs.kernel.Kernel.drive.Given as goal
+use Rattle.event_kernel.proofs.kernel.Kernel.walk.Given as goal
 
 abbrev pub invariant-loop-state : goal.invariant-loop-state
 invariant-loop-state g l =

@@ -2,7 +2,7 @@ use Rattle.std.proofs.Common.{◌-◌, ◌≤◌}
 use Rattle.event_kernel.specs.Runs.{demands_of}
 use Rattle.event_kernel.specs.Heard.{HasHeard}
 use Rattle.event_kernel.specs.Walking.{IsInSpan, told_in}
-use Rattle.event_kernel.proofs.span.walk_on.Given as goal
+use Rattle.event_kernel.proofs.span.by_ticks.Given as goal
 
 abbrev pub invariant-ticks : goal.invariant-ticks
 invariant-ticks g l =

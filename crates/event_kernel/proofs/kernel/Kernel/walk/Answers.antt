@@ -9,7 +9,7 @@ use Rattle.governor.proofs.Course.{course-met}
 use Rattle.event_kernel.proofs.Meeting.{run-met, run-demands}
 use Rattle.event_kernel.proofs.Hearing.{at_exit}
 use Rattle.event_kernel.proofs.Closing.{totals_by, end-totals, first-between, nothing-told, end-heard, end-balked, before-balked}
-use Rattle.event_kernel.proofs.kernel.Kernel.drive.Goals as goal
+use Rattle.event_kernel.proofs.kernel.Kernel.walk.Goals as goal
 
 pub loop-state-init : goal.loop-state-init
 loop-state-init g c =

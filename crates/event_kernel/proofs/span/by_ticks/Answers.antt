@@ -3,7 +3,7 @@ use Rattle.event_kernel.specs.Runs.{demands_of}
 use Rattle.event_kernel.proofs.Bounds.{bounds}
 use Rattle.event_kernel.proofs.Hearing.{at_exit}
 use Rattle.event_kernel.proofs.Onward.{tick-balked, now-next, rows-next, walked-end, heard-end, walked-on}
-use Rattle.event_kernel.proofs.span.walk_on.Goals as goal
+use Rattle.event_kernel.proofs.span.by_ticks.Goals as goal
 
 pub ticks-init : goal.ticks-init
 ticks-init g c = (c.requires.at, c.requires.counters, omega arith, λ a h. h)

@@ -1,0 +1,307 @@
+-- Ticks of a span in which one job has every unit, or nobody: so many of them are one step.
+use Rattle.std.proofs.Common.{◌≡◌, ◌≢◌, ℕ, zero, suc, ◌+◌, ◌-◌, ◌*◌, ◌^◌, ◌<◌, ◌≤◌, min, Bool, true, false, not, ◌&&◌, ◌||◌, eqb, List, [], ◌∷◌, length, set, get_or-set_same, get_or-set_other, refl, arith, if◌then◌else◌, ap, ap₂, ◌∙◌, sym, subst, true≢false, inl, inr, nat_eq, nat_lt}
+use Rattle.std.proofs.lemmas.Bool.Decides.{nat_tests}
+use Rattle.grid_fraction.specs.declared.Frac.{Frac}
+use Rattle.grid_fraction.proofs.Searches.{any_below-none}
+use Rattle.dvs_base.specs.declared.kind.Scheduler.{Scheduler}
+use Rattle.dvs_base.specs.declared.kind.Scheduler.TheVariants.{Edf, Rm}
+use Rattle.dvs_base.specs.declared.note.Note.{Note}
+use Rattle.sched_model.specs.declared.state.Row.{Row}
+use Rattle.sched_model.specs.declared.holder.Holder.{Holder}
+use Rattle.sched_model.specs.declared.holder.Holder.TheVariants.{Nobody, Held}
+use Rattle.sched_model.specs.Plan.{Plan, count, point}
+use Rattle.sched_model.specs.Segments.{same_holder}
+use Rattle.sched_model.specs.States.{no_row, row_at, after_advance, StateOf}
+use Rattle.governor.specs.Schedule.{ask_of}
+use Rattle.event_kernel.specs.declared.pen.Pen.{Pen}
+use Rattle.event_kernel.specs.Heard.{HasHeard, HasBalked}
+use Rattle.event_kernel.specs.Pens.{open_notes, row_key, told_pen, is_turn, with_units, entered, entering_notes, IsFirstUndone}
+use Rattle.event_kernel.specs.Tickwork.{served, whole_span, HasWorked}
+use Rattle.event_kernel.specs.Boundary.{some_due}
+use Rattle.event_kernel.specs.Walking.{run_on, IsInSpan, told_before, told_in}
+use Rattle.event_kernel.proofs.Bounds.{Bounds}
+use Rattle.event_kernel.proofs.Atwork.{AtWork, HasIdled, entry-there, begin, rows-there, turned, balked_at, idle_balked, idled, full, finished}
+use Rattle.event_kernel.proofs.Spanning.{goes-on}
+use Rattle.event_kernel.proofs.Onward.{tick-balked}
+
+-- the units of a tick and of n more
+abbrev pub units_in : ℕ → ℕ → ℕ
+units_in f zero = f
+units_in f (suc n) = units_in f n + f
+
+pub units_in-is : (f n : ℕ) → units_in f n ≡ suc n * f
+units_in-is f zero = omega arith
+units_in-is f (suc n) = omega (arith, units_in-is f n)
+
+set_twice : (rows : List Row) (i : ℕ) (a b : Row) → set (set rows i a) i b ≡ set rows i b
+set_twice [] i a b = refl
+set_twice (r ∷ rows) zero a b = refl
+set_twice (r ∷ rows) (suc i) a b = ap (λ rs. r ∷ rs) (set_twice rows i a b)
+
+same_holder-self : (h : Holder) → same_holder h h ≡ true
+same_holder-self Nobody = refl
+same_holder-self (Held i k) = grind (arith, nat_tests)
+
+-- units of the same holder again turn nothing
+module _ (h : Holder) (m : ℕ) (some : 0 < m) (q : Pen) where
+  no_turn : is_turn (with_units h m q) h ≡ false
+  no_turn = ap (λ b. nat_lt 0 (q.units + m) && not b) (same_holder-self h) ∙ and-false (nat_lt 0 (q.units + m))
+    where
+      and-false : (b : Bool) → (b && false) ≡ false
+      and-false true = refl
+      and-false false = refl
+
+  more_units : (p : Plan) (s : StateOf) (e n : ℕ) → entered p s e h n (with_units h m q) ≡ with_units h (m + n) q
+  more_units p s e n =
+      ap (λ b. with_units h n (if b then told_pen p s e (with_units h m q) else with_units h m q)) no_turn
+      ∙ ap (λ u. record { holder = h; start = q.start; units = u; run = q.run; idle = q.idle; counts = q.counts }) (omega arith)
+
+  no_notes : (p : Plan) (s : StateOf) (from e : ℕ) → entering_notes p s from e h (with_units h m q) ≡ []
+  no_notes p s from e = rw no_turn refl
+
+-- the rows after units of one task
+module _ (st : StateOf) (i : ℕ) (lt : i < length st.rows) (m : ℕ) where
+  pub row-served : row_at (served st i m false) i ≡ record (row_at st i) { used = (row_at st i).used + m; done = false }
+  row-served = get_or-set_same st.rows i (record (row_at st i) { used = (row_at st i).used + m; done = false }) no_row lt
+
+  row-other : (k : ℕ) → k ≢ i → row_at (served st i m false) k ≡ row_at st k
+  row-other k other = get_or-set_other st.rows i k (record (row_at st i) { used = (row_at st i).used + m; done = false }) no_row other
+
+  pub due-served : (k : ℕ) → (row_at (served st i m false) k).deadline ≡ (row_at st k).deadline
+  due-served k = go (eqb k i) refl
+    where
+      go : (b : Bool) → eqb k i ≡ b → (row_at (served st i m false) k).deadline ≡ (row_at st k).deadline
+      go true e = let same : i ≡ k = grind (arith, nat_tests) in subst (λ j. (row_at (served st i m false) j).deadline ≡ (row_at st j).deadline) same (ap (λ (r : Row). r.deadline) row-served)
+      go false e = ap (λ (r : Row). r.deadline) (row-other k (grind (arith, nat_tests)))
+
+  -- and after more of them
+  served-on : (n a b : ℕ) → run_on (run_on st i m a) i n b ≡ run_on st i (m + n) b
+  served-on n a b =
+      ap (λ (r : Row). record st { now = b; rows = set (set st.rows i (record (row_at st i) { used = (row_at st i).used + m; done = false })) i (record r { used = r.used + n; done = false }) }) row-served
+      ∙ (ap (λ rows. record st { now = b; rows = rows }) (set_twice st.rows i _ _)
+      ∙ ap (λ u. record st { now = b; rows = set st.rows i (record (row_at st i) { used = u; done = false }) }) (omega arith))
+
+  pub first-served : (p : Plan) (a : ℕ) → IsFirstUndone p st (count p) i → IsFirstUndone p (run_on st i m a) (count p) i
+  first-served p a first = record {
+    below = first.below;
+    open_job = ap (λ (r : Row). r.done) row-served;
+    first = λ k l b. go k l (first.first k l (ap₂ (λ x y. nat_lt x y || (nat_eq x y && nat_lt k i)) (key-is p.scheduler k) (key-is p.scheduler i) ∙ b)) (eqb k i) refl;
+  }
+    where
+      key-is : (s : Scheduler) (k : ℕ) → row_key s p st k ≡ row_key s p (run_on st i m a) k
+      key-is Edf k = sym (due-served k)
+      key-is Rm k = refl
+
+      go : (k : ℕ) → k < count p → (row_at st k).done ≡ true → (b : Bool) → eqb k i ≡ b → (row_at (run_on st i m a) k).done ≡ true
+      go k l d true e = let same : k ≡ i = grind (arith, nat_tests) in absurd (true≢false (sym d ∙ (ap (λ j. (row_at st j).done) same ∙ first.open_job)))
+      go k l d false e = ap (λ (r : Row). r.done) (row-other k (grind (arith, nat_tests))) ∙ d
+
+module _ {L : Type 0} (heard balked : L → Note → L → Type 0) (demand : Plan → StateOf → Frac) (p : Plan) (dem : ℕ → ℕ → ℕ) (ticks : ℕ) (adm : Bounds p) (low_ticks : ticks ≤ 2 ^ 40) (t0 e : ℕ) where
+  abbrev pub f : ℕ
+  f = (point p e).speed
+
+  -- no job is released up to the tick n
+  abbrev pub QuietTo : ℕ → StateOf → Type 0
+  QuietTo n st = (k : ℕ) → k < count p → n < (row_at st k).deadline
+
+  -- what a step of so many ticks leads to
+  abbrev pub Stays : (t n : ℕ) (to next : L) (st : StateOf) (pen : Pen) → Type 0
+  Stays t n to next st pen = IsInSpan demand p dem ticks t0 n e st pen × ((a : L) → HasHeard heard a (told_in demand p dem t) to → HasHeard heard a (told_in demand p dem n) next)
+
+  module _ (t : ℕ) (st : StateOf) (pen : Pen) (here : IsInSpan demand p dem ticks t0 t e st pen) (to next : L) where
+    some_units : 0 < f
+    some_units = adm.some_speed e (entry-there heard balked demand p dem t t0 e st pen adm here.work to)
+
+    w0 : AtWork heard balked demand p dem t t0 e st pen adm here.work to to f false st pen
+    w0 = begin heard balked demand p dem t t0 e st pen adm here.work to f refl
+
+    -- the next tick of the span
+    next_tick : (st' : StateOf) (pen' : Pen) → t + 1 < ticks → QuietTo (t + 1) st → st'.now ≡ t + 1 → ((k : ℕ) → (row_at st' k).deadline ≡ (row_at st k).deadline)
+        → HasWorked demand p dem t st' pen' false × ((a : L) → HasHeard heard a (told_in demand p dem t) to → HasHeard heard a (open_notes p dem (ask_of demand p dem) (whole_span demand p dem t)) next)
+        → Stays t (t + 1) to next st' pen'
+    next_tick st' pen' lt quiet now due done =
+        let none : some_due p st' ≡ false = any_below-none (count p) (λ k. nat_eq (row_at st' k).deadline st'.now) (λ k l. (let q = quiet k l in let d = due k in grind (arith, nat_tests, q, d, now))) in
+        let on = goes-on demand p dem adm ticks t0 t e st st' pen pen' here done.0 none lt low_ticks in
+        (on.0, λ a h. subst (λ x. HasHeard heard a (open_notes p dem (ask_of demand p dem) x) next) (sym on.1) (done.1 a h))
+
+    -- one tick of one job
+    module _ (i : ℕ) (first : IsFirstUndone p st (count p) i) where
+      abbrev holder : Holder
+      holder = Held i (row_at st i).job
+
+      abbrev ran : StateOf
+      ran = served st i f false
+
+      all_units : (row_at st i).used + f ≤ dem i (row_at st i).job → f ≡ min f (dem i (row_at st i).job - (row_at st i).used)
+      all_units le = omega (arith, le)
+
+      not_whole : (row_at st i).used + f < dem i (row_at st i).job → false ≡ nat_eq f (dem i (row_at st i).job - (row_at st i).used)
+      not_whole lt = let ne : f < dem i (row_at st i).job - (row_at st i).used = omega (arith, lt) in grind (arith, nat_tests, ne)
+
+      one-held : (row_at st i).used + f < dem i (row_at st i).job → t + 1 < ticks → QuietTo (t + 1) st
+          → HasHeard heard to (entering_notes p st t0 e holder pen) next
+          → Stays t (t + 1) to next (run_on st i f (t + 1)) (entered p st e holder f pen)
+      one-held short lt quiet tells =
+          let w1 : AtWork heard balked demand p dem t t0 e st pen adm here.work to next (f - f) false ran (entered p st e holder f pen) =
+          turned heard balked demand p dem t t0 e st pen adm here.work to to f false st pen w0 next i f false false ran (entered p st e holder f pen) (row_at st i) refl some_units first (all_units (omega (arith, short))) (not_whole short) refl tells refl refl in
+          let d : HasIdled heard balked demand p dem t t0 e st pen adm here.work to next (f - f) false ran (entered p st e holder f pen) w1 next (entered p st e holder f pen) =
+          full heard balked demand p dem t t0 e st pen adm here.work to next (f - f) false ran (entered p st e holder f pen) w1 (omega arith) in
+          next_tick (run_on st i f (t + 1)) (entered p st e holder f pen) lt quiet refl (λ k. due-served st i in_rows f k)
+          (finished heard balked demand p dem t t0 e st pen adm here.work to next (f - f) false ran (entered p st e holder f pen) w1 next (entered p st e holder f pen) (run_on st i f (t + 1)) (inl (omega arith)) d refl)
+        where
+          in_rows : i < length st.rows
+          in_rows = omega (arith, first.below, rows-there heard balked demand p dem t t0 e st pen adm here.work to to f false st pen w0)
+
+      pub held-balked : (row_at st i).used + f ≤ dem i (row_at st i).job → HasBalked heard balked to (entering_notes p st t0 e holder pen) next
+          → (a : L) → HasHeard heard a (told_in demand p dem t) to → HasBalked heard balked a (told_before demand p dem ticks) next
+      held-balked le balks a h =
+          tick-balked heard balked demand p dem ticks t a next here.before_end
+          (balked_at heard balked demand p dem t t0 e st pen adm here.work to to f false st pen w0 next i f (row_at st i) refl some_units first (all_units le) balks a h)
+
+    -- one tick of nobody
+    module _ (all_done : (k : ℕ) → k < count p → (row_at st k).done ≡ true) where
+      one-idle : t + 1 < ticks → QuietTo (t + 1) st → HasHeard heard to (entering_notes p st t0 e Nobody pen) next
+          → Stays t (t + 1) to next (after_advance st (t + 1)) (entered p st e Nobody f pen)
+      one-idle lt quiet tells =
+          next_tick (after_advance st (t + 1)) (entered p st e Nobody f pen) lt quiet refl (λ k. refl)
+          (finished heard balked demand p dem t t0 e st pen adm here.work to to f false st pen w0 next (entered p st e Nobody f pen) (after_advance st (t + 1)) (inr all_done)
+          (idled heard balked demand p dem t t0 e st pen adm here.work to to f false st pen w0 next (entered p st e Nobody f pen) some_units tells refl) refl)
+
+      pub idle-balked : HasBalked heard balked to (entering_notes p st t0 e Nobody pen) next
+          → (a : L) → HasHeard heard a (told_in demand p dem t) to → HasBalked heard balked a (told_before demand p dem ticks) next
+      idle-balked balks a h =
+          tick-balked heard balked demand p dem ticks t a next here.before_end
+          (idle_balked heard balked demand p dem t t0 e st pen adm here.work to to f false st pen w0 next some_units (inr all_done) balks a h)
+
+    -- the state has a row for each task
+    rows_long : length st.rows ≡ count p
+    rows_long = rows-there heard balked demand p dem t t0 e st pen adm here.work to to f false st pen w0
+
+  one_later : (t n : ℕ) → t + suc n + 1 ≡ t + suc (suc n)
+  one_later t n = omega arith
+
+  some_by : (n : ℕ) → 0 < f → 0 < units_in f n
+  some_by zero s = s
+  some_by (suc n) s = omega (arith, s)
+
+  -- and one more tick of one job
+  held_more : (n t i : ℕ) (st : StateOf) (pen : Pen) (to next : L) → IsInSpan demand p dem ticks t0 t e st pen → IsFirstUndone p st (count p) i
+      → (row_at st i).used + (units_in f n + f) < dem i (row_at st i).job → t + suc n + 1 < ticks → QuietTo (t + suc n + 1) st
+      → Stays t (t + suc n) to next (run_on st i (units_in f n) (t + suc n)) (entered p st e (Held i (row_at st i).job) (units_in f n) pen)
+      → Stays t (t + suc n + 1) to next (run_on st i (units_in f n + f) (t + suc n + 1)) (entered p st e (Held i (row_at st i).job) (units_in f n + f) pen)
+  held_more n t i st pen to next here first short lt quiet before = (
+    subst (λ s. IsInSpan demand p dem ticks t0 (m + 1) e s (entered p st e h (u + f) pen)) (served-on st i in_rows u f m (m + 1))
+        (subst (λ q. IsInSpan demand p dem ticks t0 (m + 1) e (run_on mid i f (m + 1)) q) pens more.0),
+    λ a g. more.1 a (before.1 a g),
+  )
+    where
+      h : Holder
+      h = Held i (row_at st i).job
+
+      u : ℕ
+      u = units_in f n
+
+      m : ℕ
+      m = t + suc n
+
+      mid : StateOf
+      mid = run_on st i u m
+
+      told : Pen
+      told = if is_turn pen h then told_pen p st e pen else pen
+
+      in_rows : i < length st.rows
+      in_rows = omega (arith, first.below, rows_long t st pen here to to)
+
+      some : 0 < u
+      some = some_by n (some_units t st pen here to to)
+
+      row : row_at mid i ≡ record (row_at st i) { used = (row_at st i).used + u; done = false }
+      row = row-served st i in_rows u
+
+      same : Held i (row_at mid i).job ≡ h
+      same = ap (λ (r : Row). Held i r.job) row
+
+      silent : HasHeard heard next (entering_notes p mid t0 e (Held i (row_at mid i).job) (entered p st e h u pen)) next
+      silent = subst (λ ns. HasHeard heard next ns next) (sym (ap (λ k. entering_notes p mid t0 e k (entered p st e h u pen)) same ∙ no_notes h u some told p mid t0 e)) refl
+
+      more : Stays m (m + 1) next next (run_on mid i f (m + 1)) (entered p mid e (Held i (row_at mid i).job) f (entered p st e h u pen))
+      more =
+          one-held m mid (entered p st e h u pen) before.0 next next i (first-served st i in_rows u p m first)
+          (omega (arith, short, ap (λ (r : Row). r.used) row, ap (λ (r : Row). dem i r.job) row)) lt
+          (λ k l. (let q = quiet k l in let d = due-served st i in_rows u k in omega (arith, q, d))) silent
+
+      pens : entered p mid e (Held i (row_at mid i).job) f (entered p st e h u pen) ≡ entered p st e h (u + f) pen
+      pens = ap (λ k. entered p mid e k f (entered p st e h u pen)) same ∙ more_units h u some told p mid e f
+
+  -- so many ticks of one job
+  held_by : (n t i : ℕ) (st : StateOf) (pen : Pen) (to next : L) → IsInSpan demand p dem ticks t0 t e st pen → IsFirstUndone p st (count p) i
+      → (row_at st i).used + units_in f n < dem i (row_at st i).job → t + suc n < ticks → QuietTo (t + suc n) st
+      → HasHeard heard to (entering_notes p st t0 e (Held i (row_at st i).job) pen) next
+      → Stays t (t + suc n) to next (run_on st i (units_in f n) (t + suc n)) (entered p st e (Held i (row_at st i).job) (units_in f n) pen)
+  held_by zero t i st pen to next here first short lt quiet tells = one-held t st pen here to next i first short lt quiet tells
+  held_by (suc n) t i st pen to next here first short lt quiet tells =
+      subst (λ m. Stays t m to next (run_on st i (units_in f n + f) m) (entered p st e (Held i (row_at st i).job) (units_in f n + f) pen)) (one_later t n)
+      (held_more n t i st pen to next here first short (omega (arith, lt)) (λ k l. (let q = quiet k l in omega (arith, q)))
+      (held_by n t i st pen to next here first (omega (arith, short)) (omega (arith, lt)) (λ k l. (let q = quiet k l in omega (arith, q))) tells))
+
+  -- and one more tick of nobody
+  idle_more : (n t : ℕ) (st : StateOf) (pen : Pen) (to next : L) → IsInSpan demand p dem ticks t0 t e st pen → ((k : ℕ) → k < count p → (row_at st k).done ≡ true)
+      → t + suc n + 1 < ticks → QuietTo (t + suc n + 1) st
+      → Stays t (t + suc n) to next (after_advance st (t + suc n)) (entered p st e Nobody (units_in f n) pen)
+      → Stays t (t + suc n + 1) to next (after_advance st (t + suc n + 1)) (entered p st e Nobody (units_in f n + f) pen)
+  idle_more n t st pen to next here all_done lt quiet before = (
+    subst (λ q. IsInSpan demand p dem ticks t0 (m + 1) e (after_advance st (m + 1)) q) (more_units Nobody u some told p mid e f) more.0,
+    λ a g. more.1 a (before.1 a g),
+  )
+    where
+      u : ℕ
+      u = units_in f n
+
+      m : ℕ
+      m = t + suc n
+
+      mid : StateOf
+      mid = after_advance st m
+
+      told : Pen
+      told = if is_turn pen Nobody then told_pen p st e pen else pen
+
+      some : 0 < u
+      some = some_by n (some_units t st pen here to to)
+
+      silent : HasHeard heard next (entering_notes p mid t0 e Nobody (entered p st e Nobody u pen)) next
+      silent = subst (λ ns. HasHeard heard next ns next) (sym (no_notes Nobody u some told p mid t0 e)) refl
+
+      more : Stays m (m + 1) next next (after_advance mid (m + 1)) (entered p mid e Nobody f (entered p st e Nobody u pen))
+      more = one-idle m mid (entered p st e Nobody u pen) before.0 next next all_done lt quiet silent
+
+  -- so many ticks of nobody
+  idle_by : (n t : ℕ) (st : StateOf) (pen : Pen) (to next : L) → IsInSpan demand p dem ticks t0 t e st pen → ((k : ℕ) → k < count p → (row_at st k).done ≡ true)
+      → t + suc n < ticks → QuietTo (t + suc n) st
+      → HasHeard heard to (entering_notes p st t0 e Nobody pen) next
+      → Stays t (t + suc n) to next (after_advance st (t + suc n)) (entered p st e Nobody (units_in f n) pen)
+  idle_by zero t st pen to next here all_done lt quiet tells = one-idle t st pen here to next all_done lt quiet tells
+  idle_by (suc n) t st pen to next here all_done lt quiet tells =
+      subst (λ m. Stays t m to next (after_advance st m) (entered p st e Nobody (units_in f n + f) pen)) (one_later t n)
+      (idle_more n t st pen to next here all_done (omega (arith, lt)) (λ k l. (let q = quiet k l in omega (arith, q)))
+      (idle_by n t st pen to next here all_done (omega (arith, lt)) (λ k l. (let q = quiet k l in omega (arith, q))) tells))
+
+  -- the same with the ticks counted
+  pub held-stays : (n t i : ℕ) (st : StateOf) (pen : Pen) (to next : L) → 0 < n → IsInSpan demand p dem ticks t0 t e st pen → IsFirstUndone p st (count p) i
+      → (row_at st i).used + n * f < dem i (row_at st i).job → t + n < ticks → QuietTo (t + n) st
+      → HasHeard heard to (entering_notes p st t0 e (Held i (row_at st i).job) pen) next
+      → Stays t (t + n) to next (run_on st i (n * f) (t + n)) (entered p st e (Held i (row_at st i).job) (n * f) pen)
+  held-stays zero t i st pen to next some here first short lt quiet tells = absurd (omega arith)
+  held-stays (suc n) t i st pen to next some here first short lt quiet tells =
+      subst (λ u. Stays t (t + suc n) to next (run_on st i u (t + suc n)) (entered p st e (Held i (row_at st i).job) u pen)) (units_in-is f n)
+      (held_by n t i st pen to next here first (omega (arith, short, units_in-is f n)) lt quiet tells)
+
+  pub idle-stays : (n t : ℕ) (st : StateOf) (pen : Pen) (to next : L) → 0 < n → IsInSpan demand p dem ticks t0 t e st pen → ((k : ℕ) → k < count p → (row_at st k).done ≡ true)
+      → t + n < ticks → QuietTo (t + n) st
+      → HasHeard heard to (entering_notes p st t0 e Nobody pen) next
+      → Stays t (t + n) to next (after_advance st (t + n)) (entered p st e Nobody (n * f) pen)
+  idle-stays zero t st pen to next some here all_done lt quiet tells = absurd (omega arith)
+  idle-stays (suc n) t st pen to next some here all_done lt quiet tells =
+      subst (λ u. Stays t (t + suc n) to next (after_advance st (t + suc n)) (entered p st e Nobody u pen)) (units_in-is f n)
+      (idle_by n t st pen to next here all_done lt quiet tells)
