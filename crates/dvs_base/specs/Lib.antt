@@ -6,3 +6,4 @@ pub mod Words
 pub mod Parts
 pub mod TraceLines
 pub mod Checks
+pub mod Settings

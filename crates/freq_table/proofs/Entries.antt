@@ -2,8 +2,8 @@
 use Rattle.std.proofs.Common.{◌≡◌, ◌<◌, ◌≤◌, List, [], ◌∷◌, length, Some, Err, arith}
 use Rattle.toml.specs.declared.value.Value.{Value}
 use Rattle.toml.specs.View.{items_view}
-use Rattle.toml_tree.specs.Tree.{count_of}
-use Rattle.toml_tree.proofs.Counts.{count_of-items_view, choose, choose_not}
+use Rattle.dvs_base.specs.Settings.{count_of}
+use Rattle.dvs_base.proofs.Counts.{count_of-items_view, choose, choose_not}
 use Rattle.freq_table.specs.declared.fault.MachineFault.TheVariants as fault
 use Rattle.freq_table.specs.MachineFile.{entries_from, points_from}
 

@@ -2,10 +2,10 @@
 use Rattle.std.specs.Prelude.{ℕ, ◌+◌, ◌-◌, ◌&&◌, Bool, true, List, [], ◌∷◌, ◌++◌, length, slice_get, nat_lt, nat_le, codes, Option, Some, None, Result, Ok, Err, if◌then◌else◌}
 use Rattle.dvs_base.specs.Text.{short_of}
 use Rattle.toml.specs.Data.{Data, Items, no_items, item, Members, get_member, as_integer, as_array, as_table}
-use Rattle.toml_tree.specs.declared.tree.MemberFault.{MemberFault}
-use Rattle.toml_tree.specs.declared.tree.MemberFault.TheVariants as member_fault
+use Rattle.dvs_base.specs.declared.settings.MemberFault.{MemberFault}
+use Rattle.dvs_base.specs.declared.settings.MemberFault.TheVariants as member_fault
 use Rattle.dvs_base.specs.Checks.{and_then}
-use Rattle.toml_tree.specs.Tree.{document_of, unknown_key, number_from, number_at, count_of}
+use Rattle.dvs_base.specs.Settings.{document_of, unknown_key, number_from, number_at, count_of}
 use Rattle.freq_table.specs.declared.machine.Point.{Point}
 use Rattle.freq_table.specs.declared.fault.MachineField.{MachineField}
 use Rattle.freq_table.specs.declared.fault.MachineField.TheVariants as field

@@ -4,16 +4,16 @@ ghost use Rattle.std.specs.Option.{option_copied};
 ghost use Rattle.toml.specs.Data.{get_member};
 ghost use Rattle.toml.specs.View.{view, table_view, items_view};
 ghost use Rattle.dvs_base.specs.Checks.{IsUnlessMemory};
-ghost use Rattle.toml_tree.specs.Tree.{number_at};
+ghost use Rattle.dvs_base.specs.Settings.{number_at};
 ghost use Rattle.freq_table.specs.Tables.{IsPoint};
 ghost use Rattle.freq_table.specs.Limits.{ArePoints};
 ghost use Rattle.freq_table.specs.MachineFile.{fault_at, at_field, setting_at, point_of_members, point_of, may_follow, last_of, points_from, entries_from, points_at, table_of_document, machine_file};
 
 use crate::fault::{MachineFault, MachineField};
 use crate::machine::{Machine, Point};
+use dvs_base::{DocumentFault, MemberFault, member_at, number_at, read_document, unknown_key};
 use std::alloc::Global;
 use toml::{Table, Value};
-use toml_tree::{DocumentFault, MemberFault, member_at, number_at, read_document, unknown_key};
 
 fn fault_at(place: u32, field: MachineField, fault: MemberFault) -> MachineFault
     ensures { result ≡ fault_at place field fault }

@@ -3,10 +3,10 @@ use Rattle.std.proofs.Common.{◌≡◌, ◌<◌, ◌≤◌, List, [], ◌∷◌
 use Rattle.toml.specs.declared.value.Value.{Value}
 use Rattle.toml.specs.View.{items_view}
 use Rattle.dvs_base.specs.Checks.{and_then}
-use Rattle.toml_tree.specs.Tree.{count_of}
+use Rattle.dvs_base.specs.Settings.{count_of}
 use Rattle.task_model.specs.declared.fault.TaskFault.TheVariants as fault
 use Rattle.task_model.specs.TaskFile.{entries_from, tasks_from, within_hyper}
-use Rattle.toml_tree.proofs.Counts.{count_of-items_view, choose, choose_not}
+use Rattle.dvs_base.proofs.Counts.{count_of-items_view, choose, choose_not}
 
 pub too_many : (vs : List Value) → 64 < length vs → entries_from (Some (items_view vs)) ≡ Err (fault.TooMany (length vs))
 too_many [] h = absurd (omega arith)

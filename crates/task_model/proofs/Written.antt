@@ -20,9 +20,9 @@ use Rattle.toml.specs.View.{view, items_of, members_view}
 use Rattle.toml.specs.declared.value.Value.{Value}
 use Rattle.toml.specs.Parse.{parse_document}
 use Rattle.std.proofs.Math.Nat.{max-le}
-use Rattle.toml_tree.proofs.Counts.{choose_not}
+use Rattle.dvs_base.proofs.Counts.{choose_not}
 use Rattle.task_model.specs.declared.fault.TaskFault.TheVariants as fault
-use Rattle.toml_tree.specs.Tree.{count_of}
+use Rattle.dvs_base.specs.Settings.{count_of}
 use Rattle.task_model.specs.declared.task.Task.{Task}
 use Rattle.task_model.specs.Tasks.{IsTask, IsTaskSet, task_at, no_task, hyper_of}
 use Rattle.task_model.specs.Limits.{AreTasks}

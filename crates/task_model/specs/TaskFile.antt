@@ -3,10 +3,10 @@ use Rattle.std.specs.Prelude.{ℕ, ◌+◌, ◌^◌, List, [], ◌∷◌, ◌++�
 use Rattle.std.specs.Str.{bytes_eq}
 use Rattle.dvs_base.specs.Text.{is_name, short_of}
 use Rattle.toml.specs.Data.{Data, Items, no_items, item, Members, get_member, as_integer, as_array, as_table}
-use Rattle.toml_tree.specs.declared.tree.MemberFault.{MemberFault}
-use Rattle.toml_tree.specs.declared.tree.MemberFault.TheVariants as member_fault
+use Rattle.dvs_base.specs.declared.settings.MemberFault.{MemberFault}
+use Rattle.dvs_base.specs.declared.settings.MemberFault.TheVariants as member_fault
 use Rattle.dvs_base.specs.Checks.{and_then}
-use Rattle.toml_tree.specs.Tree.{document_of, unknown_key, number_from, number_at, text_at, count_of}
+use Rattle.dvs_base.specs.Settings.{document_of, unknown_key, number_from, number_at, text_at, count_of}
 use Rattle.task_model.specs.declared.task.Task.{Task}
 use Rattle.task_model.specs.declared.fault.Field.{Field}
 use Rattle.task_model.specs.declared.fault.Field.TheVariants as field

@@ -3,19 +3,18 @@ ghost use Rattle.std.specs.Prelude.{codes, ◌≡◌, ◌≤◌, ◌<◌, ◌^�
 ghost use Rattle.toml.specs.Data.{get_member};
 ghost use Rattle.toml.specs.View.{view, table_view, items_view};
 ghost use Rattle.dvs_base.specs.Checks.{IsUnlessMemory};
-ghost use Rattle.toml_tree.specs.Tree.{number_at};
+ghost use Rattle.dvs_base.specs.Settings.{number_at};
 ghost use Rattle.task_model.specs.Tasks.{IsTask, hyper_of};
 ghost use Rattle.task_model.specs.Limits.{AreTasks};
 ghost use Rattle.task_model.specs.TaskFile.{fault_at, at_field, name_of, name_at, offset_at, task_of_members, task_of, place_of, tasks_from, within_hyper, entries_from, tasks_of_document, task_file};
 
 use crate::fault::{Field, TaskFault};
 use crate::task::{Task, TaskSet, place_of};
-use dvs_base::Name;
+use dvs_base::{
+    DocumentFault, MemberFault, Name, member_at, number_at, read_document, text_at, unknown_key,
+};
 use std::alloc::Global;
 use toml::{Table, Value};
-use toml_tree::{
-    DocumentFault, MemberFault, member_at, number_at, read_document, text_at, unknown_key,
-};
 
 fn fault_at(place: u32, field: Field, fault: MemberFault) -> TaskFault
     ensures { result ≡ fault_at place field fault }

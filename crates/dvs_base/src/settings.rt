@@ -9,9 +9,9 @@ ghost use Rattle.std.specs.String.{string_cmp};
 ghost use Rattle.dvs_base.specs.Text.{short_of};
 ghost use Rattle.toml.specs.Data.{get_member, as_integer, as_str};
 ghost use Rattle.toml.specs.View.{view, table_view};
-ghost use Rattle.toml_tree.specs.Tree.{document_of, is_known, unknown_key, number_from, number_at, text_from, text_at};
+ghost use Rattle.dvs_base.specs.Settings.{document_of, is_known, unknown_key, number_from, number_at, text_from, text_at};
 
-use dvs_base::Short;
+use crate::Short;
 use std::alloc::Global;
 use toml::{Table, Value};
 

@@ -9,7 +9,7 @@ use Rattle.std.specs.String.{string_cmp}
 use Rattle.std.specs.Map.{keys_of}
 use Rattle.toml.specs.declared.value.Value.{Value}
 use Rattle.toml.specs.View.{members_view}
-use Rattle.toml_tree.specs.Tree.{lesser, is_known, unknown_key}
+use Rattle.dvs_base.specs.Settings.{lesser, is_known, unknown_key}
 
 abbrev Entry : Type 0
 Entry = String Global × Value

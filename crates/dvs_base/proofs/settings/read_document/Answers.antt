@@ -4,8 +4,8 @@ use Rattle.std.proofs.lemmas.Str.{is_utf8-from_IsUtf8, IsUtf8-from_is_utf8}
 use Rattle.std.proofs.lemmas.Bool.{false≢true}
 use Rattle.toml.specs.Data.{Members}
 use Rattle.toml.specs.Parse.{parse_document}
-use Rattle.toml_tree.specs.Tree.{document_of}
-use Rattle.toml_tree.proofs.tree.read_document.Goals as goal
+use Rattle.dvs_base.specs.Settings.{document_of}
+use Rattle.dvs_base.proofs.settings.read_document.Goals as goal
 
 known : (bytes : List ℕ) (ms : Members) → IsUtf8 bytes → parse_document bytes ≡ Some ms → document_of bytes ≡ Some ms
 known bytes ms u p = rw (is_utf8-from_IsUtf8 bytes u) p

@@ -3,7 +3,7 @@ use Rattle.std.proofs.Common.{◌≡◌, ◌<◌, ◌≤◌, ℕ, nat_lt, if◌t
 use Rattle.std.proofs.lemmas.Bool.Decides.{nat_tests}
 use Rattle.toml.specs.declared.value.Value.{Value}
 use Rattle.toml.specs.View.{items_view}
-use Rattle.toml_tree.specs.Tree.{count_of}
+use Rattle.dvs_base.specs.Settings.{count_of}
 
 pub count_of-items_view : (vs : List Value) → count_of (items_view vs) ≡ length vs
 count_of-items_view [] = refl

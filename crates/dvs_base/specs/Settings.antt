@@ -6,8 +6,8 @@ use Rattle.std.specs.Cmp.Lexicographic.{slice_cmp}
 use Rattle.std.specs.Ordering.{nat_cmp, is_lt}
 use Rattle.toml.specs.Data.{Data, Items, no_items, item, Members, no_members, member, as_integer, as_str}
 use Rattle.toml.specs.Parse.{parse_document}
-use Rattle.toml_tree.specs.declared.tree.MemberFault.{MemberFault}
-use Rattle.toml_tree.specs.declared.tree.MemberFault.TheVariants as fault
+use Rattle.dvs_base.specs.declared.settings.MemberFault.{MemberFault}
+use Rattle.dvs_base.specs.declared.settings.MemberFault.TheVariants as fault
 
 -- the document that the bytes are, by TOML's grammar; bytes that are no UTF-8 are none
 abbrev pub document_of : List ℕ → Option Members
