@@ -19,9 +19,9 @@ use Rattle.governor.specs.Serving.{ServesEdf}
 use Rattle.governor.specs.Steps.{after_boundary, after_tick, wleft_at, left, share, IsLegal, IsBeforeAll, Belongs}
 use Rattle.governor.proofs.Belonging.{in_rows, opening_at, boundary_at, tick_at, due_soon, legal_most}
 use Rattle.governor.proofs.Ticks.{demand_most}
-use Rattle.one_speed.specs.Edf.{due_by}
-use Rattle.one_speed.proofs.EdfLaws.{closed_row}
-use Rattle.one_speed.proofs.Fits.{full_enough}
+use Rattle.governor.specs.Edf.{due_by}
+use Rattle.governor.proofs.EdfLaws.{closed_row}
+use Rattle.governor.proofs.Fits.{full_enough}
 use Rattle.cc_edf_laws.specs.Cycle.{charged, charged_rate, cycle_demand}
 use Rattle.cc_edf_laws.specs.Conditions.{due_work, credit, CycleCalm, CycleSafe}
 use Rattle.cc_edf_laws.proofs.Rows.{owed, credit_of, boundary_pays, tick_pays, tick_charge, charged_most}

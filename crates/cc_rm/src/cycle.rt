@@ -6,7 +6,7 @@ ghost use Rattle.sched_model.specs.StaticDemand.{static_speed};
 ghost use Rattle.sched_model.specs.States.{opening, IsOfPlan};
 ghost use Rattle.governor.specs.Steps.{IsAtDecision};
 ghost use Rattle.governor.specs.Serving.{ServesRm};
-ghost use Rattle.one_speed.specs.Worst.{MeetsAtWorst};
+ghost use Rattle.governor.specs.Worst.{MeetsAtWorst};
 ghost use Rattle.cc_rm_laws.specs.Allotments.{cycle_demand};
 ghost use Rattle.cc_rm_laws.specs.Conditions.{CcRmCalm, CcRmSafe};
 ghost use Rattle.cc_rm_laws.proofs.CcRmLaws.{cc_rm_laws};

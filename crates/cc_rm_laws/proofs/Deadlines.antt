@@ -20,8 +20,8 @@ use Rattle.governor.specs.Steps.{is_due, opened_row, after_boundary, wleft_at, r
 use Rattle.governor.proofs.Rows.{wleft-most}
 use Rattle.governor.proofs.Belonging.{in_rows, boundary_at}
 use Rattle.governor.proofs.Ticks.{demand_most}
-use Rattle.one_speed.specs.Rm.{level}
-use Rattle.one_speed.proofs.EdfLaws.{closed_row}
+use Rattle.governor.specs.Rm.{level}
+use Rattle.governor.proofs.EdfLaws.{closed_row}
 use Rattle.cc_rm_laws.specs.Allotments.{base_of, allotted_units, allotted, allotment_left}
 use Rattle.cc_rm_laws.specs.Conditions.{CcRmCalm}
 use Rattle.cc_rm_laws.proofs.Allotting.{allotment-most}

@@ -1,5 +1,5 @@
 -- A state belongs to its demand list, and goes on to.
-use Rattle.std.proofs.Common.{◌≡◌, inl, inr, ℕ, zero, suc, ◌+◌, ◌-◌, ◌^◌, ◌<◌, ◌≤◌, Bool, true, false, List, length, refl, sym, ◌∙◌, ap, subst, arith}
+use Rattle.std.proofs.Common.{◌≡◌, inl, inr, ℕ, zero, suc, ◌+◌, ◌-◌, ◌^◌, ◌<◌, ◌≤◌, Bool, true, false, List, length, refl, sym, ◌∙◌, subst, arith}
 use Rattle.std.proofs.Math.Nat.{le_trans}
 use Rattle.std.specs.Prelude.{◌==◌, ◌||◌, if◌then◌else◌, map, slice_index}
 use Rattle.std.specs.List.{list_any}

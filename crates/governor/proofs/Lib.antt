@@ -3,3 +3,9 @@ pub mod Belonging
 pub mod Ticks
 pub mod Joins
 pub mod Course
+pub mod Fits
+pub mod EdfLaws
+pub mod RmLaws
+pub mod OneSpeedLaws
+pub mod Publishing
+pub mod Worst

@@ -21,9 +21,9 @@ use Rattle.governor.specs.Steps.{wleft_at, earliest, IsAtDecision, Belongs}
 use Rattle.governor.specs.Serving.{ServesEdf}
 use Rattle.governor.specs.Laws.{GovernorLaws}
 use Rattle.governor.proofs.Belonging.{earliest-later}
-use Rattle.one_speed.specs.Edf.{load}
-use Rattle.one_speed.proofs.Fits.{full_enough}
-use Rattle.one_speed.proofs.EdfLaws.{load_is, edf_opens, edf_releases, edf_chooses, edf_ticks, edf_stays_calm, edf_completes}
+use Rattle.governor.specs.Edf.{load}
+use Rattle.governor.proofs.Fits.{full_enough}
+use Rattle.governor.proofs.EdfLaws.{load_is, edf_opens, edf_releases, edf_chooses, edf_ticks, edf_stays_calm, edf_completes}
 use Rattle.look_ahead_laws.specs.Ahead.{deadline_at, edf_order, ahead_demand, AheadCalm, AheadSafe}
 use Rattle.look_ahead_laws.proofs.Spreading.{due_work, all_paid, before_is, rate_within, work_within}
 

@@ -5,9 +5,9 @@ ghost use Rattle.freq_table.specs.Tables.{lowest_entry, lowest_pick};
 ghost use Rattle.sched_model.specs.StaticDemand.{static_demand};
 ghost use Rattle.sched_model.specs.States.{opening, IsOfPlan};
 ghost use Rattle.governor.specs.Steps.{IsAtDecision};
-ghost use Rattle.one_speed.specs.Speeds.{ServesBoth, unchanging, fixed_speed};
-ghost use Rattle.one_speed.specs.Conditions.{CalmAt, SafeAt};
-ghost use Rattle.one_speed.proofs.OneSpeedLaws.{static_laws};
+ghost use Rattle.governor.specs.Speeds.{ServesBoth, unchanging, fixed_speed};
+ghost use Rattle.governor.specs.OneSpeed.{CalmAt, SafeAt};
+ghost use Rattle.governor.proofs.OneSpeedLaws.{static_laws};
 
 use dvs_base::{GovernorKind, NoMemory};
 use governor::{Choice, Governor};

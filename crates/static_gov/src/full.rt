@@ -6,9 +6,9 @@ ghost use Rattle.sched_model.specs.Plan.{top_speed};
 ghost use Rattle.sched_model.specs.StaticDemand.{full_demand};
 ghost use Rattle.sched_model.specs.States.{opening, IsOfPlan};
 ghost use Rattle.governor.specs.Steps.{IsAtDecision};
-ghost use Rattle.one_speed.specs.Speeds.{ServesBoth, unchanging};
-ghost use Rattle.one_speed.specs.Conditions.{CalmAt, SafeAt};
-ghost use Rattle.one_speed.proofs.OneSpeedLaws.{full_laws};
+ghost use Rattle.governor.specs.Speeds.{ServesBoth, unchanging};
+ghost use Rattle.governor.specs.OneSpeed.{CalmAt, SafeAt};
+ghost use Rattle.governor.proofs.OneSpeedLaws.{full_laws};
 
 use dvs_base::{GovernorKind, NoMemory};
 use governor::{Choice, Governor};

@@ -20,8 +20,8 @@ use Rattle.governor.specs.Steps.{is_due, opened_row, after_boundary, wleft_at, r
 use Rattle.governor.proofs.Rows.{done_none, wleft-most, or_false_left}
 use Rattle.governor.proofs.Belonging.{in_rows, opening_at, opened_release, boundary_at, tick_at, belongs_tick}
 use Rattle.governor.proofs.Ticks.{tick_set, demand_most}
-use Rattle.one_speed.specs.Rm.{level_work_in, level, released_since, asked_since, StretchCalm}
-use Rattle.one_speed.proofs.EdfLaws.{closed_row}
+use Rattle.governor.specs.Rm.{level_work_in, level, released_since, asked_since, StretchCalm}
+use Rattle.governor.proofs.EdfLaws.{closed_row}
 
 -- spacing: the jobs that were released at b or later lie a period apart
 spaced : (plan : Plan) (j b k : ℕ) → (released_since plan j b k ≡ 0) ⊎ (b + released_since plan j b k * period plan j ≤ due_at plan j k)

@@ -11,12 +11,12 @@ use Rattle.sched_model.specs.States.{StateOf, row_at, opening}
 use Rattle.sched_model.proofs.Limits.{some_period}
 use Rattle.governor.specs.Steps.{after_boundary, after_tick, IsLegal, IsBeforeAll, Belongs}
 use Rattle.governor.specs.Laws.{GovernorLaws}
-use Rattle.one_speed.specs.Speeds.{ServesBoth, unchanging, fixed_speed}
-use Rattle.one_speed.specs.Conditions.{CalmBy, SafeBy, CalmAt, SafeAt}
+use Rattle.governor.specs.Speeds.{ServesBoth, unchanging, fixed_speed}
+use Rattle.governor.specs.OneSpeed.{CalmBy, SafeBy, CalmAt, SafeAt}
 use Rattle.sched_model.proofs.Weights.{static_den}
-use Rattle.one_speed.proofs.Fits.{IsEnough, full_enough, full_speed, full_met, static_enough, static_met}
-use Rattle.one_speed.proofs.EdfLaws.{edf_opens, edf_releases, edf_chooses, edf_ticks, edf_stays_calm, edf_completes}
-use Rattle.one_speed.proofs.RmLaws.{rm_opens, rm_releases, rm_ticks, rm_completes}
+use Rattle.governor.proofs.Fits.{IsEnough, full_enough, full_speed, full_met, static_enough, static_met}
+use Rattle.governor.proofs.EdfLaws.{edf_opens, edf_releases, edf_chooses, edf_ticks, edf_stays_calm, edf_completes}
+use Rattle.governor.proofs.RmLaws.{rm_opens, rm_releases, rm_ticks, rm_completes}
 
 module _ (F : ℕ) (plan : Plan) (lim : IsWithinLimits plan) (enough : IsEnough F plan) where
   opens_by : (sch : Scheduler) → plan.scheduler ≡ sch → CalmBy sch F plan (opening plan)

@@ -1,5 +1,5 @@
 -- The schedule under static with every job at its worst case meets every deadline, whatever its length.
-use Rattle.std.proofs.Common.{◌≡◌, ℕ, zero, suc, ◌-◌, ◌<◌, ◌≤◌, List, length, refl, arith, ap, ◌∙◌, sym, subst}
+use Rattle.std.proofs.Common.{◌≡◌, ℕ, ◌-◌, ◌<◌, ◌≤◌, List, length, refl, arith, ap, ◌∙◌, sym, subst}
 use Rattle.dvs_base.specs.declared.kind.GovernorKind.TheVariants.{Fixed}
 use Rattle.grid_fraction.specs.declared.Frac.{Frac}
 use Rattle.sched_model.specs.Plan.{Plan, count}
@@ -17,11 +17,11 @@ use Rattle.sched_model.proofs.ScheduleLemmas.{schedule_exists}
 use Rattle.sched_model.proofs.JobLaws.{latest-is, release-due, worst_demand-le}
 use Rattle.governor.specs.Schedule.{ask_of, course}
 use Rattle.governor.proofs.Course.{course-met, at-schedule}
-use Rattle.one_speed.specs.Speeds.{ServesBoth, unchanging, fixed_speed}
-use Rattle.one_speed.specs.Conditions.{CalmAt, SafeAt}
-use Rattle.one_speed.specs.Worst.{MeetsAtWorst}
-use Rattle.one_speed.proofs.OneSpeedLaws.{static_laws}
-use Rattle.one_speed.proofs.Publishing.{published-fixed}
+use Rattle.governor.specs.Speeds.{ServesBoth, unchanging, fixed_speed}
+use Rattle.governor.specs.OneSpeed.{CalmAt, SafeAt}
+use Rattle.governor.specs.Worst.{MeetsAtWorst}
+use Rattle.governor.proofs.OneSpeedLaws.{static_laws}
+use Rattle.governor.proofs.Publishing.{published-fixed}
 
 -- the schedule under static is the course of its own demand
 pub published-fixed_by : (p : Plan) (dem : ℕ → ℕ → ℕ) → published p Fixed dem ≡ ask_of (unchanging static_demand) p dem
