@@ -8,9 +8,10 @@ ghost use Rattle.governor.specs.Serving.{ServesEdf};
 ghost use Rattle.cc_edf_laws.specs.Cycle.{cycle_demand, Counts};
 ghost use Rattle.cc_edf_laws.specs.Conditions.{CycleCalm, CycleSafe};
 ghost use Rattle.cc_edf_laws.proofs.CycleLaws.{cycle_laws};
+ghost use Rattle.cc_edf_laws.proofs.Publishing.{cycle_publishing};
 
 use dvs_base::{GovernorKind, NoMemory};
-use governor::{Choice, Governor};
+use governor::{Choice, Governor, Publishing};
 use grid_fraction::Frac;
 use sched_model::{Admitted, Row, State};
 use std::alloc::Global;
@@ -125,5 +126,13 @@ impl Governor for CcEdf {
             met: pick.met,
             demand,
         }
+    }
+}
+
+impl Publishing for CcEdf {
+    ghost publishing = { cycle_publishing };
+
+    fn made(alloc: Global, plan: &Admitted) -> Result<CcEdf, NoMemory> {
+        CcEdf::new(alloc, plan)
     }
 }

@@ -19,7 +19,7 @@ use Rattle.sched_model.proofs.LevelSums.{sum_below-term}
 use Rattle.governor.specs.Serving.{ServesEdf}
 use Rattle.governor.proofs.Belonging.{opening_at}
 use Rattle.cc_edf_laws.specs.Cycle.{charged, charged_rate, Counts}
-use Rattle.one_speed.proofs.Fits.{full_enough}
+use Rattle.governor.proofs.Fits.{full_enough}
 use Rattle.cc_edf_laws.proofs.CycleLaws.{cycle_within}
 
 -- one term of a sum changes

@@ -1,9 +1,11 @@
 -- The laws of cycle-conserving EDF.
-use Rattle.std.proofs.Common.{◌≡◌, inl, inr, ℕ, ◌+◌, ◌-◌, ◌*◌, ◌/◌, ◌<◌, ◌≤◌, ◌^◌, min, true, false, List, length, refl, ap, sym, ◌∙◌, arith}
+use Rattle.std.proofs.Common.{◌≡◌, inl, inr, ℕ, ◌+◌, ◌-◌, ◌*◌, ◌/◌, ◌<◌, ◌≤◌, ◌^◌, min, true, false, List, length, refl, ap, sym, ◌∙◌, subst, arith}
 use Rattle.std.specs.Prelude.{if◌then◌else◌}
 use Rattle.std.proofs.Math.Nat.{mul-le-mul_right, mul-zero, le_of_mul-le-mul_left}
 use Rattle.std.proofs.lemmas.Bool.{le-leb, cases_lt}
+use Rattle.dvs_base.specs.declared.kind.Scheduler.{Scheduler}
 use Rattle.dvs_base.specs.declared.kind.GovernorKind.TheVariants.{Cycle}
+use Rattle.dvs_base.specs.Words.{IsPair}
 use Rattle.grid_fraction.specs.Numbers.{sum_below, sum_where}
 use Rattle.grid_fraction.proofs.Sums.{sum_below-add, sum_below-le, sum_below-zero}
 use Rattle.freq_table.specs.Tables.{speed_at, lowest_entry, lowest_pick}
@@ -17,11 +19,11 @@ use Rattle.sched_model.proofs.LevelSums.{sum_below-times, sum_where-term, sum_wh
 use Rattle.governor.specs.Laws.{GovernorLaws}
 use Rattle.governor.specs.Serving.{ServesEdf}
 use Rattle.governor.specs.Steps.{after_boundary, after_tick, wleft_at, left, share, IsLegal, IsBeforeAll, Belongs}
-use Rattle.governor.proofs.Belonging.{in_rows, opening_at, boundary_at, tick_at, due_soon, legal_most}
+use Rattle.governor.proofs.Belonging.{unborn_done, in_rows, opening_at, boundary_at, tick_at, due_soon, legal_most}
 use Rattle.governor.proofs.Ticks.{demand_most}
-use Rattle.one_speed.specs.Edf.{due_by}
-use Rattle.one_speed.proofs.EdfLaws.{closed_row}
-use Rattle.one_speed.proofs.Fits.{full_enough}
+use Rattle.governor.specs.Edf.{due_by}
+use Rattle.governor.proofs.EdfLaws.{closed_row}
+use Rattle.governor.proofs.Fits.{full_enough}
 use Rattle.cc_edf_laws.specs.Cycle.{charged, charged_rate, cycle_demand}
 use Rattle.cc_edf_laws.specs.Conditions.{due_work, credit, CycleCalm, CycleSafe}
 use Rattle.cc_edf_laws.proofs.Rows.{owed, credit_of, boundary_pays, tick_pays, tick_charge, charged_most}
@@ -111,7 +113,7 @@ module _ (plan : Plan) (lim : IsWithinLimits plan) (dem : ℕ → ℕ → ℕ) (
               let r = bel.released i h in
               let near = due_soon plan i (row_at s i).job born in
               omega arith
-          | inr none ↦ absurd (let closed : (row_at s i).done ≡ true = (bel.no_job i h (omega arith)).0 in let bad : true ≡ false = sym closed ∙ open_job in cc)
+          | inr none ↦ absurd (let closed : (row_at s i).done ≡ true = unborn_done plan dem s bel i h (omega arith) in let bad : true ≡ false = sym closed ∙ open_job in cc)
         ]
 
     -- where the speed covers what is due by d, nothing is owed by then
@@ -163,6 +165,7 @@ module _ (plan : Plan) (lim : IsWithinLimits plan) (dem : ℕ → ℕ → ℕ) (
 
 pub cycle_laws : GovernorLaws Cycle ServesEdf cycle_demand CycleCalm CycleSafe
 cycle_laws = record {
+  pairs = λ sch edf. subst (λ (s : Scheduler). IsPair s Cycle) (sym edf) refl;
   low_den = λ plan s adm edf of dec. cycle_den plan s adm.limits;
   opens = λ plan adm edf. cycle_opens plan;
   releases = λ plan dem s adm edf bel calm. cycle_releases plan adm.limits dem s bel calm;

@@ -15,8 +15,9 @@ use Rattle.sched_model.specs.Schedule.{IsScheduleBy}
 use Rattle.sched_model.specs.States.{no_row, row_at, row_of, state_of}
 use Rattle.sched_model.proofs.Service.{exec-most}
 use Rattle.sched_model.proofs.Tables.{get-table}
-use Rattle.governor.specs.Schedule.{Publishes}
+use Rattle.governor.specs.Schedule.{Publishes, PublishingLaws}
 use Rattle.governor.specs.Serving.{ServesEdf}
+use Rattle.governor.proofs.OneSchedule.{publishing_laws}
 use Rattle.cc_edf_laws.specs.Cycle.{charged, charged_rate, cycle_demand}
 
 -- a complete job is charged its demand, which it has had
@@ -40,3 +41,6 @@ pub published-cycle : (p : Plan) → ServesEdf p.scheduler → Publishes cycle_d
 unfolding published
 published-cycle p edf dem within ask past h =
     ap (λ (sch : Scheduler). demand_by sch Cycle p dem past) edf ∙ cycle-state p dem ask past h
+
+pub cycle_publishing : PublishingLaws Cycle ServesEdf cycle_demand
+cycle_publishing = publishing_laws cycle_demand Cycle ServesEdf (λ p adm edf. published-cycle p edf)

@@ -14,7 +14,7 @@ use Rattle.governor.specs.Serving.{ServesEdf}
 use Rattle.governor.specs.Steps.{share, left, key_of, IsLegal, after_tick, Belongs}
 use Rattle.governor.proofs.Belonging.{legal_most}
 use Rattle.governor.proofs.Ticks.{tick-closes}
-use Rattle.one_speed.specs.Edf.{due_by}
+use Rattle.governor.specs.Edf.{due_by}
 
 if-weaker : (a b : Bool) (x : ℕ) → (a ≡ true → b ≡ true) → (if a then x else 0) ≤ (if b then x else 0)
 if-weaker true b x h = rw (h refl) (omega arith)

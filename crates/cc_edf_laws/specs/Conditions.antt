@@ -5,7 +5,7 @@ use Rattle.freq_table.specs.Tables.{speed_at}
 use Rattle.sched_model.specs.Plan.{Plan, count, hyper}
 use Rattle.sched_model.specs.States.{StateOf, row_at}
 use Rattle.governor.specs.Steps.{wleft_at}
-use Rattle.one_speed.specs.Edf.{due_by}
+use Rattle.governor.specs.Edf.{due_by}
 use Rattle.cc_edf_laws.specs.Cycle.{charged_rate, cycle_demand}
 
 -- what the tasks due by d may still need at most

@@ -1,7 +1,9 @@
 -- The laws of cycle-conserving RM.
-use Rattle.std.proofs.Common.{◌≡◌, ℕ, ◌-◌, ◌*◌, ◌^◌, ◌<◌, ◌≤◌, true, length, arith}
+use Rattle.std.proofs.Common.{◌≡◌, ℕ, ◌-◌, ◌*◌, ◌^◌, ◌<◌, ◌≤◌, true, length, refl, sym, subst, arith}
 use Rattle.std.proofs.Math.Nat.{mul-le-mul_right}
+use Rattle.dvs_base.specs.declared.kind.Scheduler.{Scheduler}
 use Rattle.dvs_base.specs.declared.kind.GovernorKind.TheVariants.{Cycle}
+use Rattle.dvs_base.specs.Words.{IsPair}
 use Rattle.grid_fraction.proofs.Least.{least-below}
 use Rattle.freq_table.specs.Tables.{speed_at, lowest_entry, lowest_pick}
 use Rattle.freq_table.proofs.Chosen.{speeds_rise, below_highest, lowest_within, lowest-most, picked_meets, picked_met}
@@ -41,7 +43,7 @@ module _ (plan : Plan) (adm : IsAdmitted plan) (s : StateOf) where
         (lowest-most plan.machine (cycle_demand plan s) static_entry calm.total) static_within;
   }
 
-  meets_it : CcRmCalm plan s → (lowest_pick plan.machine (cycle_demand plan s)).met ≡ true
+  pub meets_it : CcRmCalm plan s → (lowest_pick plan.machine (cycle_demand plan s)).met ≡ true
   meets_it calm = picked_met plan.machine adm.limits.machine (cycle_demand plan s) (demand_below_top calm)
 
   low_den : IsAtDecision plan s → (0 < (cycle_demand plan s).den) × ((cycle_demand plan s).den ≤ 2 ^ 64)
@@ -55,6 +57,7 @@ module _ (plan : Plan) (adm : IsAdmitted plan) (s : StateOf) where
 -- all laws of cycle-conserving RM
 pub cc_rm_laws : GovernorLaws Cycle ServesRm cycle_demand CcRmCalm CcRmSafe
 cc_rm_laws = record {
+  pairs = λ sch rm. subst (λ (s : Scheduler). IsPair s Cycle) (sym rm) refl;
   low_den = λ plan s adm rm of dec. low_den plan adm s dec;
   opens = λ plan adm rm. cc_rm_opens plan;
   releases = λ plan dem s adm rm bel calm. cc_rm_releases plan adm rm dem s bel calm;

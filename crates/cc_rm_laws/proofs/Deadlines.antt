@@ -18,10 +18,10 @@ use Rattle.sched_model.proofs.JobLaws.{latest-is, latest-unique, latest_since-po
 use Rattle.sched_model.proofs.LevelSums.{sum_where-term, up_to-self, greatest-above, greatest-least}
 use Rattle.governor.specs.Steps.{is_due, opened_row, after_boundary, wleft_at, release_of, earliest, Belongs}
 use Rattle.governor.proofs.Rows.{wleft-most}
-use Rattle.governor.proofs.Belonging.{in_rows, boundary_at}
+use Rattle.governor.proofs.Belonging.{unborn_done, in_rows, boundary_at}
 use Rattle.governor.proofs.Ticks.{demand_most}
-use Rattle.one_speed.specs.Rm.{level}
-use Rattle.one_speed.proofs.EdfLaws.{closed_row}
+use Rattle.governor.specs.Rm.{level}
+use Rattle.governor.proofs.EdfLaws.{closed_row}
 use Rattle.cc_rm_laws.specs.Allotments.{base_of, allotted_units, allotted, allotment_left}
 use Rattle.cc_rm_laws.specs.Conditions.{CcRmCalm}
 use Rattle.cc_rm_laws.proofs.Allotting.{allotment-most}
@@ -129,7 +129,7 @@ module _ (plan : Plan) (adm : IsAdmitted plan) (dem : ℕ → ℕ → ℕ) (s : 
               let some = some_period plan adm.limits i h in
               completed-too calm at_due i h born (omega (arith, row-release i born, row-due i h, long, some))
               (lack-none plan adm (earliest plan s) i row.job h (omega (arith, row-due i h)))
-          | inr unborn ↦ (bel.no_job i h (omega arith)).0
+          | inr unborn ↦ unborn_done plan dem s bel i h (omega arith)
         ]
 
     -- a release adds no more than in the worst static schedule

@@ -20,7 +20,7 @@ use Rattle.sched_model.proofs.LevelSums.{sum_where-mono, sum_where-plus, sum_whe
 use Rattle.governor.specs.Steps.{each_row, is_due, boundary_row, opened_row, after_boundary, wleft_at, release_of, earliest, Belongs}
 use Rattle.governor.proofs.Rows.{none_due_at, some_due_at, or_false_right, done_none}
 use Rattle.governor.proofs.Belonging.{in_rows, opening_at, boundary_at, belongs_boundary, decision_boundary, opened_release, earliest-later}
-use Rattle.one_speed.specs.Rm.{level}
+use Rattle.governor.specs.Rm.{level}
 use Rattle.cc_rm_laws.specs.Allotments.{base_of, allotted_units, allotted, allotment_left}
 use Rattle.cc_rm_laws.specs.Conditions.{LacksNothing, CcRmCalm}
 use Rattle.cc_rm_laws.proofs.Lefts.{left-marked}

@@ -25,7 +25,9 @@ use Rattle.sched_model.proofs.Limits.{some_period}
 use Rattle.sched_model.proofs.JobLaws.{lt-due, latest-stays, latest-next, release-suc, last_release-le}
 use Rattle.sched_model.proofs.Tables.{get-table}
 use Rattle.governor.specs.Steps.{wleft_at, earliest}
-use Rattle.governor.specs.Schedule.{Publishes}
+use Rattle.governor.specs.Schedule.{Publishes, PublishingLaws}
+use Rattle.governor.specs.Serving.{ServesRm}
+use Rattle.governor.proofs.OneSchedule.{publishing_laws}
 use Rattle.cc_rm_laws.specs.Allotments.{base_of, allotted, had_since_mark, allotment_left, cycle_demand}
 use Rattle.cc_rm_laws.proofs.Allotting.{allotment-same}
 
@@ -140,3 +142,6 @@ module _ (p : Plan) (adm : IsAdmitted p) where
 pub published-cycle : (p : Plan) → IsAdmitted p → p.scheduler ≡ Rm → Publishes cycle_demand Cycle p
 unfolding published
 published-cycle p adm rm dem within ask past is = ap (λ (sch : Scheduler). demand_by sch Cycle p dem past) rm ∙ cycle-is p adm dem within past
+
+pub cycle_publishing : PublishingLaws Cycle ServesRm cycle_demand
+cycle_publishing = publishing_laws cycle_demand Cycle ServesRm published-cycle

@@ -22,7 +22,7 @@ use Rattle.governor.specs.Steps.{wleft_at, release_of, earliest, share, left, ke
 use Rattle.governor.proofs.Rows.{done_none}
 use Rattle.governor.proofs.Belonging.{in_rows, tick_at, legal_most, earliest-later}
 use Rattle.governor.proofs.Ticks.{tick-falls, tick-closes}
-use Rattle.one_speed.specs.Rm.{level}
+use Rattle.governor.specs.Rm.{level}
 use Rattle.cc_rm_laws.specs.Allotments.{base_of, allotted_units, allotted, allotment_left}
 use Rattle.cc_rm_laws.specs.Conditions.{CcRmCalm}
 use Rattle.cc_rm_laws.proofs.Allotting.{allotment-full, allotment-none, some-term}

@@ -10,7 +10,7 @@ use Rattle.sched_model.specs.StaticDemand.{static_speed}
 use Rattle.sched_model.specs.Backlog.{lacking, backlog}
 use Rattle.sched_model.specs.States.{StateOf, row_at}
 use Rattle.governor.specs.Steps.{wleft_at, earliest, release_of}
-use Rattle.one_speed.specs.Rm.{level}
+use Rattle.governor.specs.Rm.{level}
 use Rattle.cc_rm_laws.specs.Allotments.{allotment_left}
 
 -- in the worst static schedule the job of task i that was released last before tick t has all that it needs

@@ -31,10 +31,9 @@ pub record RowOk (plan : Plan) (dem : ℕ → ℕ → ℕ) (now i : ℕ) (row : 
   pub released : release_of plan i row ≤ now
   pub open_job : row.done ≡ false → row.used < dem i row.job
   pub closed_job : row.done ≡ true → 0 < row.job → row.used ≡ dem i row.job
-  pub no_job : row.job ≡ 0 → (row.done ≡ true) × (row.used ≡ 0)
 
 pub row_ok : (plan : Plan) (dem : ℕ → ℕ → ℕ) (s : StateOf) → Belongs plan dem s → (i : ℕ) → i < count plan → RowOk plan dem s.now i (row_at s i)
-row_ok plan dem s bel i h = record { worst = bel.of.worst i h; used = bel.of.used i h; due = bel.due i h; deadline = bel.deadline i h; released = bel.released i h; open_job = bel.open_job i h; closed_job = bel.closed_job i h; no_job = bel.no_job i h }
+row_ok plan dem s bel i h = record { worst = bel.of.worst i h; used = bel.of.used i h; due = bel.due i h; deadline = bel.deadline i h; released = bel.released i h; open_job = bel.open_job i h; closed_job = bel.closed_job i h }
 
 belongs_of_rows : (plan : Plan) (dem : ℕ → ℕ → ℕ) (s : StateOf) → length s.rows ≡ count plan → length s.base ≡ count plan → s.base_at ≡ last_marked plan s → ((i : ℕ) → i < count plan → row_wleft (row_at s i) ≤ slice_index s.base i) → IsWithin plan dem → ((i : ℕ) → i < count plan → RowOk plan dem s.now i (row_at s i)) → Belongs plan dem s
 belongs_of_rows plan dem s rows base marked bases demand each = record {
@@ -47,8 +46,17 @@ belongs_of_rows plan dem s rows base marked bases demand each = record {
   base = bases;
   open_job = λ i h. (each i h).open_job;
   closed_job = λ i h. (each i h).closed_job;
-  no_job = λ i h. (each i h).no_job;
 }
+
+-- job 0 has no demand, so its row is complete
+pub unborn_done : (plan : Plan) (dem : ℕ → ℕ → ℕ) (s : StateOf) → Belongs plan dem s → (i : ℕ) → i < count plan → (row_at s i).job ≡ 0 → (row_at s i).done ≡ true
+unborn_done plan dem s bel i h none =
+    elim (cases_Bool (row_at s i).done) [
+      | inl closed ↦ closed
+      | inr still ↦
+          let nothing : dem i (row_at s i).job ≡ 0 = ap (dem i) none ∙ bel.demand.none i in
+          absurd (omega (arith, bel.open_job i h still, nothing))
+    ]
 
 -- a task's number is a place of its row
 pub in_rows : (plan : Plan) (dem : ℕ → ℕ → ℕ) (s : StateOf) → Belongs plan dem s → (i : ℕ) → i < count plan → i < length s.rows
@@ -66,7 +74,6 @@ opening_row_ok plan dem i = record {
   released = omega arith;
   open_job = λ h. absurd (let t : true ≡ false = h in cc);
   closed_job = λ h pos. absurd (omega arith);
-  no_job = λ h. (refl, refl);
 }
 
 pub belongs_opening : (plan : Plan) (dem : ℕ → ℕ → ℕ) → IsWithin plan dem → Belongs plan dem (opening plan)
@@ -96,7 +103,6 @@ opened_row_ok plan dem now i row at_now ok = record {
   released = (let e = opened_release plan dem i row ok.deadline in omega arith);
   open_job = λ e. eqb_pos (dem i (row.job + 1)) e;
   closed_job = λ e pos. sym (eqb-true (dem i (row.job + 1)) 0 e);
-  no_job = λ e. absurd (let e' : row.job + 1 ≡ 0 = e in omega arith);
 }
 
 row_at_boundary : (plan : Plan) (dem : ℕ → ℕ → ℕ) (now i : ℕ) (row : Row) → RowOk plan dem now i row → RowOk plan dem now i (boundary_row plan dem now i row)
@@ -233,10 +239,6 @@ now_closed : (done : Bool) (used need sh job : ℕ) → (done ≡ true → 0 < j
 now_closed true used need sh job o c e pos = omega (arith, o refl pos)
 now_closed false used need sh job o c e pos = eqb-true (used + sh) need e
 
-none_yet : (done : Bool) (used need sh : ℕ) → done ≡ true → used ≡ 0 → sh ≤ (if done then 0 else need - used) → ((done || (used + sh == need)) ≡ true) × (used + sh ≡ 0)
-none_yet true used need sh e z c = (refl, omega arith)
-none_yet false used need sh e z c = absurd (let t : false ≡ true = e in cc)
-
 falls_if : (b : Bool) (worst used sh : ℕ) → (if b then 0 else worst - (used + sh)) ≤ worst - used
 falls_if true worst used sh = omega arith
 falls_if false worst used sh = omega arith
@@ -254,7 +256,6 @@ row_after_tick plan dem shares now i row fits before most ok = record {
   released = omega (arith, ok.released);
   open_job = still_open row.done row.used (dem i row.job) (share shares i) ok.open_job most;
   closed_job = now_closed row.done row.used (dem i row.job) (share shares i) row.job ok.closed_job most;
-  no_job = λ e. (let z = ok.no_job e in none_yet row.done row.used (dem i row.job) (share shares i) z.0 z.1 most);
 }
 
 -- no task gets more than it needs in a legal tick

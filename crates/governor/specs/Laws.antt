@@ -3,6 +3,7 @@ use Rattle.std.specs.Prelude.{◌≡◌, ◌≢◌, ℕ, ◌<◌, ◌≤◌, ◌
 use Rattle.dvs_base.specs.declared.kind.Scheduler.{Scheduler}
 use Rattle.dvs_base.specs.declared.kind.GovernorKind.{GovernorKind}
 use Rattle.dvs_base.specs.declared.kind.GovernorKind.TheVariants.{Ahead}
+use Rattle.dvs_base.specs.Words.{IsPair}
 use Rattle.grid_fraction.specs.declared.Frac.{Frac}
 use Rattle.sched_model.specs.Plan.{Plan, count}
 use Rattle.sched_model.specs.Admission.{IsAdmitted}
@@ -11,6 +12,7 @@ use Rattle.sched_model.specs.States.{StateOf, row_at, opening, IsOfPlan}
 use Rattle.governor.specs.Steps.{after_boundary, after_tick, IsLegal, Belongs, IsBeforeAll, IsAtDecision}
 
 pub record GovernorLaws (kind : GovernorKind) (serves : Scheduler → Type 0) (demand : Plan → StateOf → Frac) (calm : Plan → StateOf → Type 0) (safe : Plan → StateOf → ℕ → Type 0) : Type 0 where
+  pub pairs : (scheduler : Scheduler) → serves scheduler → IsPair scheduler kind
   pub low_den : (plan : Plan) (s : StateOf) → IsAdmitted plan → serves plan.scheduler → IsOfPlan plan s → IsAtDecision plan s → (0 < (demand plan s).den) × ((demand plan s).den ≤ 2 ^ 64)
   pub opens : (plan : Plan) → IsAdmitted plan → serves plan.scheduler → calm plan (opening plan)
   pub releases : (plan : Plan) (dem : ℕ → ℕ → ℕ) (s : StateOf) → IsAdmitted plan → serves plan.scheduler → Belongs plan dem s → calm plan s → calm plan (after_boundary plan dem s)

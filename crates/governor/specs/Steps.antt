@@ -106,4 +106,3 @@ pub record Belongs (plan : Plan) (dem : ℕ → ℕ → ℕ) (s : StateOf) : Typ
   pub base : (i : ℕ) → i < count plan → row_wleft (row_at s i) ≤ slice_index s.base i
   pub open_job : (i : ℕ) → i < count plan → (row_at s i).done ≡ false → (row_at s i).used < dem i (row_at s i).job
   pub closed_job : (i : ℕ) → i < count plan → (row_at s i).done ≡ true → 0 < (row_at s i).job → (row_at s i).used ≡ dem i (row_at s i).job
-  pub no_job : (i : ℕ) → i < count plan → (row_at s i).job ≡ 0 → ((row_at s i).done ≡ true) × ((row_at s i).used ≡ 0)

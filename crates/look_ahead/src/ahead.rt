@@ -8,11 +8,12 @@ ghost use Rattle.governor.specs.Serving.{ServesEdf};
 ghost use Rattle.look_ahead_laws.specs.Ahead.{ahead_demand, AheadCalm, AheadSafe};
 ghost use Rattle.look_ahead_laws.specs.Whole.{HasSpread, IsDemandOfSpread, RatesFit};
 ghost use Rattle.look_ahead_laws.proofs.AheadLaws.{ahead_laws};
+ghost use Rattle.look_ahead_laws.proofs.Publishing.{ahead_publishing};
 
 use crate::rates::rates_within;
 use crate::walk::ahead_demand;
 use dvs_base::{GovernorKind, NoMemory};
-use governor::{Choice, Governor};
+use governor::{Choice, Governor, Publishing};
 use sched_model::{Admitted, State};
 use std::alloc::Global;
 
@@ -87,5 +88,13 @@ impl Governor for LookAhead {
             met: pick.met,
             demand,
         }
+    }
+}
+
+impl Publishing for LookAhead {
+    ghost publishing = { ahead_publishing };
+
+    fn made(alloc: Global, plan: &Admitted) -> Result<LookAhead, NoMemory> {
+        LookAhead::new(alloc, plan)
     }
 }

@@ -1,8 +1,10 @@
 -- The laws of look-ahead EDF.
-use Rattle.std.proofs.Common.{◌≡◌, inl, inr, ℕ, ◌+◌, ◌-◌, ◌*◌, ◌^◌, ◌<◌, ◌≤◌, List, ◌∷◌, ◌++◌, length, refl, sym, ◌∙◌, ap, arith}
+use Rattle.std.proofs.Common.{◌≡◌, inl, inr, ℕ, ◌+◌, ◌-◌, ◌*◌, ◌^◌, ◌<◌, ◌≤◌, List, ◌∷◌, ◌++◌, length, refl, sym, ◌∙◌, ap, subst, arith}
 use Rattle.std.proofs.Math.Nat.{mul-le-mul_left, mul-le-mul_right}
 use Rattle.std.proofs.lemmas.Bool.{lt-leb, cases_lt}
+use Rattle.dvs_base.specs.declared.kind.Scheduler.{Scheduler}
 use Rattle.dvs_base.specs.declared.kind.GovernorKind.TheVariants.{Ahead}
+use Rattle.dvs_base.specs.Words.{IsPair}
 use Rattle.grid_fraction.specs.declared.Frac.{Frac}
 use Rattle.grid_fraction.proofs.Least.{least-below}
 use Rattle.freq_table.specs.declared.machine.Pick.{Pick}
@@ -21,9 +23,9 @@ use Rattle.governor.specs.Steps.{wleft_at, earliest, IsAtDecision, Belongs}
 use Rattle.governor.specs.Serving.{ServesEdf}
 use Rattle.governor.specs.Laws.{GovernorLaws}
 use Rattle.governor.proofs.Belonging.{earliest-later}
-use Rattle.one_speed.specs.Edf.{load}
-use Rattle.one_speed.proofs.Fits.{full_enough}
-use Rattle.one_speed.proofs.EdfLaws.{load_is, edf_opens, edf_releases, edf_chooses, edf_ticks, edf_stays_calm, edf_completes}
+use Rattle.governor.specs.Edf.{load}
+use Rattle.governor.proofs.Fits.{full_enough}
+use Rattle.governor.proofs.EdfLaws.{load_is, edf_opens, edf_releases, edf_chooses, edf_ticks, edf_stays_calm, edf_completes}
 use Rattle.look_ahead_laws.specs.Ahead.{deadline_at, edf_order, ahead_demand, AheadCalm, AheadSafe}
 use Rattle.look_ahead_laws.proofs.Spreading.{due_work, all_paid, before_is, rate_within, work_within}
 
@@ -84,6 +86,7 @@ module _ (plan : Plan) (s : StateOf) where
 
 pub ahead_laws : GovernorLaws Ahead ServesEdf ahead_demand AheadCalm AheadSafe
 ahead_laws = record {
+  pairs = λ sch serves. subst (λ (s : Scheduler). IsPair s Ahead) (sym serves) refl;
   low_den = λ plan s adm serves of dec. ahead_den plan s adm dec;
   opens = λ plan adm serves. edf_opens (top_speed plan) plan adm.limits ((full_enough plan adm).edf serves);
   releases = λ plan dem s adm serves bel calm. edf_releases (top_speed plan) plan adm.limits dem s bel calm;

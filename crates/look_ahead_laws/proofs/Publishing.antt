@@ -14,8 +14,9 @@ use Rattle.sched_model.specs.States.{no_row, row_at, row_wleft, row_of, state_of
 use Rattle.sched_model.proofs.OrderLemmas.{AreBelow, in_order-below, in_order-same, sum_before-same}
 use Rattle.sched_model.proofs.Tables.{get-table}
 use Rattle.governor.specs.Steps.{wleft_at}
-use Rattle.governor.specs.Schedule.{Publishes}
+use Rattle.governor.specs.Schedule.{Publishes, PublishingLaws}
 use Rattle.governor.specs.Serving.{ServesEdf}
+use Rattle.governor.proofs.OneSchedule.{publishing_laws}
 use Rattle.look_ahead_laws.specs.Ahead.{deadline_at, ahead_demand}
 
 module _ (p : Plan) (due due' left left' : ℕ → ℕ) (same : (i : ℕ) → i < count p → due i ≡ due' i) (same_left : (i : ℕ) → i < count p → left i ≡ left' i) where
@@ -71,3 +72,6 @@ published-ahead p serves dem past =
 
 pub ahead-publishes : (p : Plan) → ServesEdf p.scheduler → Publishes ahead_demand Ahead p
 ahead-publishes p serves dem within ask past is = published-ahead p serves dem past
+
+pub ahead_publishing : PublishingLaws Ahead ServesEdf ahead_demand
+ahead_publishing = publishing_laws ahead_demand Ahead ServesEdf (λ p adm serves. ahead-publishes p serves)

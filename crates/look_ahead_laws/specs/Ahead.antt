@@ -6,7 +6,7 @@ use Rattle.sched_model.specs.Order.{in_order}
 use Rattle.sched_model.specs.AheadDemand.{ahead_of}
 use Rattle.sched_model.specs.States.{StateOf, row_at}
 use Rattle.governor.specs.Steps.{wleft_at}
-use Rattle.one_speed.specs.Edf.{EdfCalm, EdfSafe}
+use Rattle.governor.specs.Edf.{EdfCalm, EdfSafe}
 
 -- Di, the deadline of the latest job of task i
 abbrev pub deadline_at : StateOf → ℕ → ℕ

@@ -20,7 +20,7 @@ use Rattle.sched_model.specs.Demands.{demand_of}
 use Rattle.sched_model.proofs.ScheduleLemmas.{schedule_exists}
 use Rattle.sched_model.proofs.Agreeing.{AgreeOnSchedules, same-schedule, same-notes}
 use Rattle.governor.specs.Schedule.{ask_of, Publishes}
-use Rattle.one_speed.specs.Published.{AlwaysPublishes}
+use Rattle.governor.specs.Published.{AlwaysPublishes}
 use Rattle.rtdvs_top.specs.Answer.{answer_of_plan, within_jobs}
 use Rattle.rtdvs_top.specs.Ending.{Ended, governed_answer, MeetsAll, MeetsAllOf}
 use Rattle.rtdvs_top.specs.declared.status.Status.{Status}

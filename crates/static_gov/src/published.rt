@@ -1,6 +1,6 @@
 // What the two governors publish, by the definitions of a schedule.
 ghost use Rattle.std.specs.Prelude.{◌≡◌};
-ghost use Rattle.one_speed.specs.Published.{AlwaysPublishes};
+ghost use Rattle.governor.specs.Published.{AlwaysPublishes};
 ghost use Rattle.dvs_base.specs.declared.kind.GovernorKind.TheVariants.{Plain, Fixed};
 
 use crate::{Full, Static};

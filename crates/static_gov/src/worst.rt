@@ -1,5 +1,5 @@
 // The schedule under static with every job at its worst case.
-ghost use Rattle.one_speed.specs.Worst.{MeetsAtWorst};
+ghost use Rattle.governor.specs.Worst.{MeetsAtWorst};
 
 use sched_model::Admitted;
 

@@ -1,4 +1,4 @@
-use Rattle.one_speed.proofs.Publishing.{published-plain, published-fixed}
+use Rattle.governor.proofs.PlanDemands.{published-plain, published-fixed}
 use Rattle.static_gov.proofs.published.published_demands.Goals as goal
 
 pub returns : goal.returns

@@ -1,4 +1,4 @@
-use Rattle.one_speed.proofs.Worst.{worst-met}
+use Rattle.governor.proofs.Worst.{worst-met}
 use Rattle.static_gov.proofs.worst.worst_case_meets.Goals as goal
 
 pub returns : goal.returns

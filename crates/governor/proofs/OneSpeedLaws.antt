@@ -2,7 +2,9 @@
 use Rattle.std.proofs.Common.{◌≡◌, ℕ, ◌<◌, ◌≤◌, true, List, refl, subst, arith, lit<, lit≤}
 use Rattle.dvs_base.specs.declared.kind.Scheduler.{Scheduler}
 use Rattle.dvs_base.specs.declared.kind.Scheduler.TheVariants.{Edf, Rm}
+use Rattle.dvs_base.specs.declared.kind.GovernorKind.{GovernorKind}
 use Rattle.dvs_base.specs.declared.kind.GovernorKind.TheVariants.{Plain, Fixed}
+use Rattle.dvs_base.specs.Words.{IsPair}
 use Rattle.freq_table.specs.Tables.{speed_at, lowest_entry}
 use Rattle.sched_model.specs.Plan.{Plan, count, period, top_speed}
 use Rattle.sched_model.specs.StaticDemand.{full_demand, static_demand}
@@ -11,12 +13,13 @@ use Rattle.sched_model.specs.States.{StateOf, row_at, opening}
 use Rattle.sched_model.proofs.Limits.{some_period}
 use Rattle.governor.specs.Steps.{after_boundary, after_tick, IsLegal, IsBeforeAll, Belongs}
 use Rattle.governor.specs.Laws.{GovernorLaws}
-use Rattle.one_speed.specs.Speeds.{ServesBoth, unchanging, fixed_speed}
-use Rattle.one_speed.specs.Conditions.{CalmBy, SafeBy, CalmAt, SafeAt}
+use Rattle.governor.specs.Serving.{ServesBoth}
+use Rattle.governor.specs.Speeds.{unchanging, fixed_speed}
+use Rattle.governor.specs.OneSpeed.{CalmBy, SafeBy, CalmAt, SafeAt}
 use Rattle.sched_model.proofs.Weights.{static_den}
-use Rattle.one_speed.proofs.Fits.{IsEnough, full_enough, full_speed, full_met, static_enough, static_met}
-use Rattle.one_speed.proofs.EdfLaws.{edf_opens, edf_releases, edf_chooses, edf_ticks, edf_stays_calm, edf_completes}
-use Rattle.one_speed.proofs.RmLaws.{rm_opens, rm_releases, rm_ticks, rm_completes}
+use Rattle.governor.proofs.Fits.{IsEnough, full_enough, full_speed, full_met, static_enough, static_met}
+use Rattle.governor.proofs.EdfLaws.{edf_opens, edf_releases, edf_chooses, edf_ticks, edf_stays_calm, edf_completes}
+use Rattle.governor.proofs.RmLaws.{rm_opens, rm_releases, rm_ticks, rm_completes}
 
 module _ (F : ℕ) (plan : Plan) (lim : IsWithinLimits plan) (enough : IsEnough F plan) where
   opens_by : (sch : Scheduler) → plan.scheduler ≡ sch → CalmBy sch F plan (opening plan)
@@ -50,8 +53,19 @@ module _ (F : ℕ) (plan : Plan) (lim : IsWithinLimits plan) (enough : IsEnough 
     completes_by Edf calm = edf_completes F plan lim dem s bel calm
     completes_by Rm calm = rm_completes F (period plan) plan lim dem s bel within calm
 
-pub full_laws : GovernorLaws Plain ServesBoth (unchanging full_demand) (CalmAt top_speed) (SafeAt top_speed)
-full_laws = record {
+-- none and static make a pair with each scheduler
+pub pairs_plain : (sch : Scheduler) → ServesBoth sch → IsPair sch Plain
+pairs_plain Edf serves = refl
+pairs_plain Rm serves = refl
+
+pub pairs_fixed : (sch : Scheduler) → ServesBoth sch → IsPair sch Fixed
+pairs_fixed Edf serves = refl
+pairs_fixed Rm serves = refl
+
+-- the laws at the highest speed, of each kind that makes a pair with both schedulers
+pub full_laws : {kind : GovernorKind} → ((sch : Scheduler) → ServesBoth sch → IsPair sch kind) → GovernorLaws kind ServesBoth (unchanging full_demand) (CalmAt top_speed) (SafeAt top_speed)
+full_laws pairs = record {
+  pairs = pairs;
   low_den = λ plan s adm serves of dec. (lit< tt, lit≤ tt);
   opens = λ plan adm serves. opens_by (top_speed plan) plan adm.limits (full_enough plan adm) plan.scheduler refl;
   releases = λ plan dem s adm serves bel calm. releases_by (top_speed plan) plan adm.limits (full_enough plan adm) dem s bel plan.scheduler calm;
@@ -62,8 +76,10 @@ full_laws = record {
   completes = λ plan dem s adm serves bel calm. completes_by (top_speed plan) plan adm.limits (full_enough plan adm) dem s bel plan.scheduler calm;
 }
 
-pub static_laws : GovernorLaws Fixed ServesBoth (unchanging static_demand) (CalmAt fixed_speed) (SafeAt fixed_speed)
-static_laws = record {
+-- and at the static one
+pub static_laws : {kind : GovernorKind} → ((sch : Scheduler) → ServesBoth sch → IsPair sch kind) → GovernorLaws kind ServesBoth (unchanging static_demand) (CalmAt fixed_speed) (SafeAt fixed_speed)
+static_laws pairs = record {
+  pairs = pairs;
   low_den = λ plan s adm serves of dec. static_den plan adm.limits;
   opens = λ plan adm serves. opens_by (fixed_speed plan) plan adm.limits (static_enough plan adm) plan.scheduler refl;
   releases = λ plan dem s adm serves bel calm. releases_by (fixed_speed plan) plan adm.limits (static_enough plan adm) dem s bel plan.scheduler calm;

@@ -4,8 +4,8 @@ use Rattle.dvs_base.specs.declared.kind.Scheduler.{Scheduler}
 use Rattle.dvs_base.specs.declared.kind.Scheduler.TheVariants.{Edf, Rm}
 use Rattle.sched_model.specs.Plan.{Plan}
 use Rattle.sched_model.specs.States.{StateOf}
-use Rattle.one_speed.specs.Edf.{EdfCalm, EdfSafe}
-use Rattle.one_speed.specs.Rm.{RmCalm, RmSafe}
+use Rattle.governor.specs.Edf.{EdfCalm, EdfSafe}
+use Rattle.governor.specs.Rm.{RmCalm, RmSafe}
 
 abbrev pub CalmBy : Scheduler → ℕ → Plan → StateOf → Type 0
 CalmBy Edf F plan s = EdfCalm F plan s

@@ -1,5 +1,5 @@
 -- The schedule under static with every job at its worst case meets every deadline, whatever its length.
-use Rattle.std.proofs.Common.{◌≡◌, ℕ, zero, suc, ◌-◌, ◌<◌, ◌≤◌, List, length, refl, arith, ap, ◌∙◌, sym, subst}
+use Rattle.std.proofs.Common.{◌≡◌, ℕ, ◌-◌, ◌<◌, ◌≤◌, List, length, refl, arith, ap, ◌∙◌, sym, subst}
 use Rattle.dvs_base.specs.declared.kind.GovernorKind.TheVariants.{Fixed}
 use Rattle.grid_fraction.specs.declared.Frac.{Frac}
 use Rattle.sched_model.specs.Plan.{Plan, count}
@@ -17,11 +17,12 @@ use Rattle.sched_model.proofs.ScheduleLemmas.{schedule_exists}
 use Rattle.sched_model.proofs.JobLaws.{latest-is, release-due, worst_demand-le}
 use Rattle.governor.specs.Schedule.{ask_of, course}
 use Rattle.governor.proofs.Course.{course-met, at-schedule}
-use Rattle.one_speed.specs.Speeds.{ServesBoth, unchanging, fixed_speed}
-use Rattle.one_speed.specs.Conditions.{CalmAt, SafeAt}
-use Rattle.one_speed.specs.Worst.{MeetsAtWorst}
-use Rattle.one_speed.proofs.OneSpeedLaws.{static_laws}
-use Rattle.one_speed.proofs.Publishing.{published-fixed}
+use Rattle.governor.specs.Serving.{ServesBoth}
+use Rattle.governor.specs.Speeds.{unchanging, fixed_speed}
+use Rattle.governor.specs.OneSpeed.{CalmAt, SafeAt}
+use Rattle.governor.specs.Worst.{MeetsAtWorst}
+use Rattle.governor.proofs.OneSpeedLaws.{pairs_fixed, static_laws}
+use Rattle.governor.proofs.PlanDemands.{published-fixed}
 
 -- the schedule under static is the course of its own demand
 pub published-fixed_by : (p : Plan) (dem : ℕ → ℕ → ℕ) → published p Fixed dem ≡ ask_of (unchanging static_demand) p dem
@@ -36,7 +37,7 @@ worst-within p = record { most = λ i k h. worst_demand-le p i k; none = λ i. r
 pub worst-met : (p : Plan) → IsAdmitted p → MeetsAtWorst p
 worst-met p adm t =
     subst (λ (ticks : List Tick). IsMet p (worst_demand p) ticks) (sym (schedule-fixed p (worst_demand p) t))
-    (course-met Fixed ServesBoth (unchanging static_demand) (CalmAt fixed_speed) (SafeAt fixed_speed) static_laws p (worst_demand p) adm (worst-within p) tt t)
+    (course-met Fixed ServesBoth (unchanging static_demand) (CalmAt fixed_speed) (SafeAt fixed_speed) (static_laws pairs_fixed) p (worst_demand p) adm (worst-within p) tt t)
 
 -- where task i is released at t, its job released before lacks nothing
 pub lacking-none : (p : Plan) → IsAdmitted p → (t i k : ℕ) → i < count p → 1 ≤ k → t ≡ due p i k → lacking p (schedule p Fixed (worst_demand p) t) i ≡ 0

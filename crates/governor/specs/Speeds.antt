@@ -1,15 +1,10 @@
 -- What the two governors of one speed publish, and their speeds.
 use Rattle.std.specs.Prelude.{ℕ}
-use Rattle.dvs_base.specs.declared.kind.Scheduler.{Scheduler}
 use Rattle.grid_fraction.specs.declared.Frac.{Frac}
 use Rattle.freq_table.specs.Tables.{speed_at, lowest_entry}
 use Rattle.sched_model.specs.Plan.{Plan}
 use Rattle.sched_model.specs.StaticDemand.{static_demand}
 use Rattle.sched_model.specs.States.{StateOf}
-
--- both schedulers are served
-abbrev pub ServesBoth : Scheduler → Type 0
-ServesBoth sch = Unit {0}
 
 -- a published demand that no state changes
 abbrev pub unchanging : (Plan → Frac) → Plan → StateOf → Frac

@@ -18,10 +18,10 @@ use Rattle.sched_model.proofs.Limits.{some_period}
 use Rattle.sched_model.proofs.LevelSums.{sum_where-mono, sum_where-plus, sum_where-term, up_to-self, up_to-trans, sum_up_to-where}
 use Rattle.governor.specs.Steps.{is_due, opened_row, after_boundary, wleft_at, release_of, share, key_of, IsLegal, after_tick, IsBeforeAll, Belongs}
 use Rattle.governor.proofs.Rows.{done_none, wleft-most, or_false_left}
-use Rattle.governor.proofs.Belonging.{in_rows, opening_at, opened_release, boundary_at, tick_at, belongs_tick}
+use Rattle.governor.proofs.Belonging.{unborn_done, in_rows, opening_at, opened_release, boundary_at, tick_at, belongs_tick}
 use Rattle.governor.proofs.Ticks.{tick_set, demand_most}
-use Rattle.one_speed.specs.Rm.{level_work_in, level, released_since, asked_since, StretchCalm}
-use Rattle.one_speed.proofs.EdfLaws.{closed_row}
+use Rattle.governor.specs.Rm.{level_work_in, level, released_since, asked_since, StretchCalm}
+use Rattle.governor.proofs.EdfLaws.{closed_row}
 
 -- spacing: the jobs that were released at b or later lie a period apart
 spaced : (plan : Plan) (j b k : ℕ) → (released_since plan j b k ≡ 0) ⊎ (b + released_since plan j b k * period plan j ≤ due_at plan j k)
@@ -101,7 +101,7 @@ module _ (F : ℕ) (span : ℕ → ℕ) (plan : Plan) (lim : IsWithinLimits plan
                           let short = stretch.short in
                           let w = within i h in
                           absurd (omega (arith, release-due plan i row.job born))
-                      | inr unborn ↦ (bel.no_job i h (omega arith)).0
+                      | inr unborn ↦ unborn_done plan dem s bel i h (omega arith)
                     ]
               ]
         ]

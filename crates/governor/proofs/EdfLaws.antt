@@ -22,7 +22,7 @@ use Rattle.governor.specs.Steps.{is_due, boundary_row, opened_row, after_boundar
 use Rattle.governor.proofs.Rows.{wleft-most}
 use Rattle.governor.proofs.Belonging.{in_rows, opening_at, boundary_at, tick_at}
 use Rattle.governor.proofs.Ticks.{tick_set, demand_most}
-use Rattle.one_speed.specs.Edf.{due_by, load, EdfCalm, EdfSafe}
+use Rattle.governor.specs.Edf.{due_by, load, EdfCalm, EdfSafe}
 
 same_speed : (F t a d : ℕ) → t ≤ a → a ≤ d → F * (a - t) + F * (d - a) ≡ F * (d - t)
 same_speed F t a d ta ad = let e : d - t ≡ (a - t) + (d - a) = omega arith in rw e (omega arith)

@@ -12,7 +12,7 @@ use Rattle.sched_model.specs.Admission.{IsWithinLimits, IsAdmitted, PassesTest}
 use Rattle.sched_model.proofs.Limits.{some_period}
 use Rattle.sched_model.proofs.Weights.{heaviest_task, heaviest_within, heaviest_greatest}
 pub use Rattle.sched_model.proofs.Weights.{static_den}
-use Rattle.one_speed.specs.Speeds.{fixed_speed}
+use Rattle.governor.specs.Speeds.{fixed_speed}
 
 -- the speed F passes the test of the plan's scheduler
 pub record IsEnough (F : ℕ) (plan : Plan) : Type 0 where
