@@ -32,6 +32,9 @@ pub(crate) struct Left {
 
 pub(crate) fn words_of(alloc: Global, line: &str) -> Result<Vec<String>, Fail> {
     let mut words = Vec::new(alloc);
+    if line.is_empty() {
+        return Ok(words);
+    }
     for word in line.split(' ') {
         words.push(String::from_str(alloc, word)?)?;
     }

@@ -27,6 +27,19 @@ fn failing_load(rt: HostRuntime) -> Result<(), Fail> {
 }
 
 #[test]
+fn a_missing_file_is_no_fault_of_the_shelf(rt: HostRuntime) -> Result<(), Fail> {
+    let alloc = rt.alloc();
+    let mut shelf = shelf_of(alloc, PAPER_TASKS, PAPER_MACHINE, "", &[])?;
+    let line = "run --tasks T --machine X --scheduler edf --governor none --ticks 16";
+    let left = call(alloc, line, &mut shelf, &[])?;
+    assert_eq!(rt; left.code, 3);
+    assert!(rt; left.out.is_empty());
+    assert_eq!(rt; left.notes.as_slice(), b"load: machine\n".as_slice());
+    assert_eq!(rt; shelf.faults(), 0);
+    Ok(())
+}
+
+#[test]
 fn each_line_is_one_put(rt: HostRuntime) -> Result<(), Fail> {
     let alloc = rt.alloc();
     let mut at: usize = 0;

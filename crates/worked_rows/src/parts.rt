@@ -97,7 +97,7 @@ fn rm_denies_at_the_first_failing_task(rt: HostRuntime) -> Result<(), Fail> {
 }
 
 // A task file with this many tasks of period 64 and worst case 1.
-fn file_of(alloc: Global, count: u32) -> Result<String, AllocError> {
+pub(crate) fn file_of(alloc: Global, count: u32) -> Result<String, AllocError> {
     let mut text = String::new(alloc);
     for i in 0..count {
         let entry = format!(in alloc; "[[task]]\nname = \"t{i}\"\nperiod = 64\nworst = 1\n")?;
@@ -123,6 +123,16 @@ fn written_task_set_is_read_again(rt: HostRuntime) -> Result<(), Fail> {
     let text = set.write(alloc).map_err(|_| "text")?;
     let back = TaskSet::read(alloc, text.as_bytes()).map_err(|_| "written")?;
     assert_eq!(rt; (back.count(), back.hyper()), (3, 280));
-    assert_eq!(rt; back.find(b"t2"), Some(1));
+    for (i, (name, period, worst)) in [("t1", 8, 12), ("t2", 10, 12), ("t3", 14, 4)]
+        .iter()
+        .enumerate()
+    {
+        let i = i as u32;
+        assert_eq!(rt; back.find(name.as_bytes()), Some(i), "{name}");
+        if i < back.count() {
+            let task = back.task(i);
+            assert_eq!(rt; (task.period, task.worst), (*period, *worst), "{name}");
+        }
+    }
     Ok(())
 }

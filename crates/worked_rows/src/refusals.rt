@@ -1,5 +1,6 @@
 // Admissions and refusals.
 use crate::calls::{PAPER_MACHINE, PAPER_TASKS, SLOW, TWO, answers, refuses};
+use crate::parts::file_of;
 use std::test::Fail;
 
 #[test]
@@ -75,6 +76,16 @@ fn rm_denials(rt: HostRuntime) -> Result<(), Fail> {
         )?
     );
     assert!(rt;
+        answers(
+            alloc,
+            overloaded,
+            TWO,
+            "",
+            "admit --tasks T --machine M --scheduler edf",
+            "admitted edf 22/12 2\n",
+        )?
+    );
+    assert!(rt;
         refuses(
             alloc,
             spread,
@@ -105,7 +116,7 @@ fn over_worst_demand(rt: HostRuntime) -> Result<(), Fail> {
             alloc,
             PAPER_TASKS,
             PAPER_MACHINE,
-            "task,job,units\nt1,1,8\nt2,2,13\n",
+            "task,job,units\nt1,1,8\nt1,2,4\nt2,1,4\nt2,2,13\nt3,1,4\nt3,2,4\n",
             "run --tasks T --machine M --scheduler edf --governor none --ticks 16 --demands D",
             (6, "over worst: t2 2 13 12\n"),
         )?
@@ -158,6 +169,40 @@ fn limits_of_task_files(rt: HostRuntime) -> Result<(), Fail> {
                 4,
                 "tasks: periods have no common multiple up to 281474976710656\n"
             ),
+        )?
+    );
+    Ok(())
+}
+
+#[test]
+fn sixty_five_tasks_are_refused(rt: HostRuntime) -> Result<(), Fail> {
+    let alloc = rt.alloc();
+    assert!(rt;
+        refuses(
+            alloc,
+            file_of(alloc, 65)?.as_str(),
+            SLOW,
+            "",
+            "admit --tasks T --machine M --scheduler edf",
+            (4, "tasks: 65 tasks, at most 64\n"),
+        )?
+    );
+    Ok(())
+}
+
+#[test]
+fn a_file_over_the_limit_is_too_long(rt: HostRuntime) -> Result<(), Fail> {
+    let alloc = rt.alloc();
+    let bytes = vec![in alloc; b'#'; 16777217]?;
+    let long = std::str::from_utf8(bytes.as_slice()).map_err(|_| "text")?;
+    assert!(rt;
+        refuses(
+            alloc,
+            long,
+            SLOW,
+            "",
+            "admit --tasks T --machine M --scheduler edf",
+            (4, "tasks: too long\n"),
         )?
     );
     Ok(())
@@ -264,6 +309,19 @@ fn missing_file_and_bad_words(rt: HostRuntime) -> Result<(), Fail> {
             (2, "words: refused\n"),
         )?
     );
+    for line in ["", "run --tasks a"] {
+        assert!(rt;
+            refuses(
+                alloc,
+                PAPER_TASKS,
+                PAPER_MACHINE,
+                "",
+                line,
+                (2, "words: refused\n"),
+            )?,
+            "{line}"
+        );
+    }
     Ok(())
 }
 
@@ -279,5 +337,110 @@ fn look_ahead_under_rm_refused(rt: HostRuntime) -> Result<(), Fail> {
             (2, "words: refused\n"),
         )?
     );
+    Ok(())
+}
+
+#[test]
+fn each_refusal_of_a_task_file_has_its_line(rt: HostRuntime) -> Result<(), Fail> {
+    for (tasks, line) in [
+        ("task = [", "tasks: not TOML\n"),
+        ("a = 1\ntask = []", "tasks: unknown key a\n"),
+        ("task = 3", "tasks: wrong kind of task\n"),
+        ("task = [1]", "tasks: task 1: wrong kind of entry\n"),
+        ("task = [{}]", "tasks: task 1: missing name\n"),
+        ("task = [{name = 1}]", "tasks: task 1: wrong kind of name\n"),
+        ("task = [{name = \"a b\"}]", "tasks: task 1: bad name\n"),
+        ("task = [{name = \"a\"}]", "tasks: task 1: missing period\n"),
+        (
+            "task = [{name = \"a\", period = 1}]",
+            "tasks: task 1: missing worst\n",
+        ),
+        (
+            "task = [{name = \"a\", period = 1, worst = 0}]",
+            "tasks: task 1: worst out of range\n",
+        ),
+        (
+            "task = [{name = \"a\", period = 1, worst = 1}, {name = \"a\", period = 1, worst = 1}]",
+            "tasks: tasks 1 and 2 have one name\n",
+        ),
+    ] {
+        assert!(rt;
+            refuses(
+                rt.alloc(),
+                tasks,
+                SLOW,
+                "",
+                "admit --tasks T --machine M --scheduler edf",
+                (4, line),
+            )?,
+            "{line}"
+        );
+    }
+    Ok(())
+}
+
+#[test]
+fn each_refusal_of_a_machine_file_has_its_line(rt: HostRuntime) -> Result<(), Fail> {
+    for (machine, line) in [
+        ("point = [", "machine: not TOML\n"),
+        ("volts = 1", "machine: unknown key volts\n"),
+        ("idle = 1.5", "machine: wrong kind of idle\n"),
+        ("charge = 1000001", "machine: charge out of range\n"),
+        ("", "machine: no points\n"),
+        ("point = 1", "machine: wrong kind of point\n"),
+        ("point = [1]", "machine: point 1: wrong kind of entry\n"),
+        (
+            "point = [{volts = 1}]",
+            "machine: point 1: unknown key volts\n",
+        ),
+        ("point = [{}]", "machine: point 1: missing speed\n"),
+        (
+            "point = [{speed = 0}]",
+            "machine: point 1: speed out of range\n",
+        ),
+        (
+            "point = [{speed = 1, millivolts = true}]",
+            "machine: point 1: wrong kind of millivolts\n",
+        ),
+    ] {
+        assert!(rt;
+            refuses(
+                rt.alloc(),
+                PAPER_TASKS,
+                machine,
+                "",
+                "admit --tasks T --machine M --scheduler edf",
+                (4, line),
+            )?,
+            "{line}"
+        );
+    }
+    Ok(())
+}
+
+#[test]
+fn each_refusal_of_a_demand_file_has_its_line(rt: HostRuntime) -> Result<(), Fail> {
+    for (demands, line) in [
+        ("task,job,units\nt1,1\n", "demands: row 1: 2 fields\n"),
+        (
+            "task,job,units\nt9,1,1\n",
+            "demands: row 1: unknown task t9\n",
+        ),
+        ("task,job,units\nt1,x,1\n", "demands: row 1: bad job\n"),
+        ("task,job,units\nt1,0,3\n", "demands: row 1: job 0\n"),
+        ("task,job,units\nt1,1,+3\n", "demands: row 1: bad units\n"),
+    ] {
+        assert!(rt;
+            refuses(
+                rt.alloc(),
+                PAPER_TASKS,
+                PAPER_MACHINE,
+                demands,
+                "run --tasks T --machine M --scheduler edf --governor none --ticks 16 --demands D",
+                (4, line),
+            )?,
+            "{line}"
+        );
+    }
     Ok(())
 }

@@ -282,9 +282,21 @@ fn realistic_controller(rt: HostRuntime) -> Result<(), Fail> {
 #[test]
 fn allotments_by_the_static_speed(rt: HostRuntime) -> Result<(), Fail> {
     let alloc = rt.alloc();
+    let tasks =
+        "task = [{name = \"x\", period = 4, worst = 4}, {name = \"y\", period = 8, worst = 6}]";
+    assert!(rt;
+        answers(
+            alloc,
+            tasks,
+            PAPER_MACHINE,
+            "",
+            "admit --tasks T --machine M --scheduler rm",
+            "admitted rm 14/8 2\n",
+        )?
+    );
     let left = ask(
         alloc,
-        "task = [{name = \"x\", period = 4, worst = 4}, {name = \"y\", period = 8, worst = 6}]",
+        tasks,
         PAPER_MACHINE,
         "",
         "run --tasks T --machine M --scheduler rm --governor cc --ticks 8",
