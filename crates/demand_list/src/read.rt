@@ -177,18 +177,12 @@ fn worst_cases(alloc: Global, tasks: &TaskSet) -> Result<Vec<u64>, NoMemory>
     Ok(worsts)
 }
 
-/// The list without rows, in which every job needs its declared worst case. The one refusal is want of memory.
-pub fn worst_list(alloc: Global, tasks: &TaskSet) -> Result<Demands, DemandFault>
-    ensures ok { IfOk result (λ d. d ≡ worst_list tasks.now) }
-    ensures err { IfErr result (λ e. e ≡ fault.NoMemory) }
+/// The list without rows, in which every job needs its declared worst case.
+pub fn worst_list(alloc: Global, tasks: &TaskSet) -> Result<Demands, NoMemory>
+    ensures { IfOk result (λ demands. demands ≡ worst_list tasks.now) }
 {
-    match worst_cases(alloc, tasks) {
-        Ok(worsts) => match Demands::worst_only(alloc, &worsts) {
-            Ok(demands) => Ok(demands),
-            Err(_) => Err(DemandFault::NoMemory),
-        },
-        Err(_) => Err(DemandFault::NoMemory),
-    }
+    let worsts = worst_cases(alloc, tasks)?;
+    Demands::worst_only(alloc, &worsts)
 }
 
 // The rows after the header, counted from 1.
@@ -224,7 +218,7 @@ impl Demands {
         let mut reader = reader_of(alloc, bytes)?;
         let mut fields = ByteRecord::new(alloc);
         read_header(&mut reader, &mut fields)?;
-        let demands = worst_list(alloc, tasks)?;
+        let demands = worst_list(alloc, tasks).map_err(|_| DemandFault::NoMemory)?;
         read_rows(&mut reader, &mut fields, tasks, demands)
     }
 }

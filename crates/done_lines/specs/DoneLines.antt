@@ -1,9 +1,10 @@
 -- Where the text of a run tells that a job is done.
-use Rattle.std.specs.Prelude.{◌≡◌, ◌⊎◌, ℕ, ◌<◌, ◌≤◌, ◌^◌, ◌==◌, List, [], ◌∷◌, ◌++◌, codes, decimal, if◌then◌else◌}
+use Rattle.std.specs.Prelude.{◌≡◌, ◌⊎◌, ℕ, ◌<◌, ◌≤◌, ◌==◌, List, [], ◌∷◌, ◌++◌, codes, decimal, if◌then◌else◌}
 use Rattle.std.specs.List.{All}
 use Rattle.dvs_base.specs.declared.kind.GovernorKind.{GovernorKind}
 use Rattle.dvs_base.specs.declared.note.Pos.{Pos}
 use Rattle.dvs_base.specs.TraceLines.{line, position_text, name_of}
+use Rattle.sched_model.specs.declared.bounds.TheConstants.{MOST_TICKS}
 use Rattle.sched_model.specs.Plan.{Plan, count, names}
 use Rattle.sched_model.specs.Schedule.{schedule}
 use Rattle.sched_model.specs.Deadlines.{IsMet}
@@ -52,5 +53,5 @@ TellsDeadlines p ticks text =
 -- the text of each run that meets its deadlines tells each of them
 abbrev pub TextTellsDeadlines : Plan → Type 0
 TextTellsDeadlines p =
-    (kind : GovernorKind) (dem : ℕ → ℕ → ℕ) (ticks : ℕ) → ticks ≤ 2 ^ 40
+    (kind : GovernorKind) (dem : ℕ → ℕ → ℕ) (ticks : ℕ) → ticks ≤ MOST_TICKS
     → IsMet p dem (schedule p kind dem ticks) → TellsDeadlines p ticks (run_text p kind dem ticks)

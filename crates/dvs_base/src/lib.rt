@@ -11,6 +11,7 @@
 
 mod host;
 mod kind;
+mod limits;
 mod line;
 mod memory;
 mod name;
@@ -23,6 +24,7 @@ mod void;
 
 pub use host::{HostShelf, HostSink};
 pub use kind::{GovernorKind, Scheduler};
+pub use limits::LONGEST_FILE;
 pub use line::{Line, put_num};
 pub use memory::{FailAt, MemShelf, MemSink};
 pub use name::{Name, Short};

@@ -6,6 +6,7 @@ use Rattle.dvs_base.specs.declared.settings.MemberFault.{MemberFault}
 use Rattle.dvs_base.specs.declared.settings.MemberFault.TheVariants as member_fault
 use Rattle.dvs_base.specs.Checks.{and_then}
 use Rattle.dvs_base.specs.Settings.{document_of, unknown_key, number_from, number_at, count_of}
+use Rattle.freq_table.specs.declared.limits.TheConstants.{MOST_POINTS, TOP_SPEED, MOST_MILLIVOLTS, MOST_IDLE, MOST_CHARGE}
 use Rattle.freq_table.specs.declared.machine.Point.{Point}
 use Rattle.freq_table.specs.declared.fault.MachineField.{MachineField}
 use Rattle.freq_table.specs.declared.fault.MachineField.TheVariants as field
@@ -44,8 +45,8 @@ setting_at field high (Some value) = at_field 0 field (number_from 0 high (as_in
 abbrev pub point_of_members : ℕ → Members → Result Point MachineFault
 point_of_members place ms =
     no_unknown place (unknown_key point_keys ms) (
-    and_then (at_field place field.Speed (number_at 1 1000000 (get_member (codes "speed") ms))) (λ speed.
-    and_then (at_field place field.Millivolts (number_at 1 20000 (get_member (codes "millivolts") ms))) (λ millivolts.
+    and_then (at_field place field.Speed (number_at 1 TOP_SPEED (get_member (codes "speed") ms))) (λ speed.
+    and_then (at_field place field.Millivolts (number_at 1 MOST_MILLIVOLTS (get_member (codes "millivolts") ms))) (λ millivolts.
     Ok record { speed = speed; millivolts = millivolts })))
 
 abbrev pub point_of_table : ℕ → Option Members → Result Point MachineFault
@@ -76,7 +77,7 @@ abbrev pub entries_from : Option Items → Result (List Point) MachineFault
 entries_from None = Err (fault.Kind 0 field.Point)
 entries_from (Some no_items) = Err fault.NoPoints
 entries_from (Some (item value rest)) =
-    if nat_lt 32 (count_of (item value rest)) then Err (fault.TooMany (count_of (item value rest))) else points_from [] (item value rest)
+    if nat_lt MOST_POINTS (count_of (item value rest)) then Err (fault.TooMany (count_of (item value rest))) else points_from [] (item value rest)
 
 abbrev pub points_at : Option Data → Result (List Point) MachineFault
 points_at None = Err fault.NoPoints
@@ -86,8 +87,8 @@ abbrev pub table_of_document : Option Members → Result Table MachineFault
 table_of_document None = Err fault.NotToml
 table_of_document (Some ms) =
     no_unknown 0 (unknown_key file_keys ms) (
-    and_then (setting_at field.Idle 1000 (get_member (codes "idle") ms)) (λ idle.
-    and_then (setting_at field.Charge 1000000 (get_member (codes "charge") ms)) (λ charge.
+    and_then (setting_at field.Idle MOST_IDLE (get_member (codes "idle") ms)) (λ idle.
+    and_then (setting_at field.Charge MOST_CHARGE (get_member (codes "charge") ms)) (λ charge.
     and_then (points_at (get_member (codes "point") ms)) (λ points.
     Ok record { points = points; idle = idle; charge = charge }))))
 

@@ -1,5 +1,6 @@
 // A machine's table of speeds.
 ghost use Rattle.std.specs.Prelude.{◌≡◌, ◌<◌, ◌≤◌, ◌^◌, length, vec_len, IfOk};
+ghost use Rattle.freq_table.specs.declared.limits.TheConstants.{MOST_POINTS, MOST_IDLE, MOST_CHARGE};
 ghost use Rattle.freq_table.specs.Tables.{Table, point_at, highest_speed, lowest_pick, IsTable};
 ghost use Rattle.freq_table.specs.Limits.{ArePoints};
 
@@ -44,9 +45,9 @@ impl Machine {
     pub(crate) fn from_points(points: Vec<Point>, idle: u64, charge: u64) -> Machine
         requires limits { ArePoints points.items }
         requires some { 1 ≤ vec_len points }
-        requires few { vec_len points ≤ 32 }
-        requires idle { idle ≤ 1000 }
-        requires charge { charge ≤ 1000000 }
+        requires few { vec_len points ≤ MOST_POINTS }
+        requires idle { idle ≤ MOST_IDLE }
+        requires charge { charge ≤ MOST_CHARGE }
         ensures { result ≡ (record { points = points.items; idle = idle; charge = charge }) }
     {
         Machine {
@@ -120,7 +121,7 @@ impl Machine {
         self.points[self.points.len() - 1].speed
     }
 
-    /// The thousandths that an idle unit costs.
+    /// What an idle unit costs, in thousandths of a running unit at the same entry.
     pub fn idle(&self) -> u64
         ensures { result ≡ self.now.idle }
     {

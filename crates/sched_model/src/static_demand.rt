@@ -1,6 +1,7 @@
 // The static demand of a plan (Pillai and Shin 2001).
 ghost use Rattle.std.specs.Prelude.{◌≡◌, ◌≤◌, ◌<◌, ◌^◌, length};
 ghost use Rattle.dvs_base.specs.declared.kind.Scheduler.TheVariants.{Rm};
+ghost use Rattle.task_model.specs.declared.limits.TheConstants.{LONGEST_PERIOD};
 ghost use Rattle.sched_model.specs.Plan.{plan_of};
 ghost use Rattle.sched_model.specs.Tests.{IsRmFeasible};
 ghost use Rattle.sched_model.specs.StaticDemand.{level_share, outweighs, heaviest, static_demand};
@@ -20,7 +21,7 @@ fn level_share(tasks: &TaskSet, machine: &Machine, i: u32) -> Frac
     ensures value { result ≡ level_share (plan_of tasks.now machine.now Rm) i }
     ensures low_num { result.num ≤ 2 ^ 60 }
     ensures some_den { 1 ≤ result.den }
-    ensures low_den { result.den ≤ 2 ^ 40 }
+    ensures low_den { result.den ≤ LONGEST_PERIOD }
 {
     tasks.known();
     machine.known();

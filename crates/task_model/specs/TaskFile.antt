@@ -1,5 +1,5 @@
 -- What a task file means: the tasks, or the first refusal.
-use Rattle.std.specs.Prelude.{ℕ, ◌+◌, ◌^◌, List, [], ◌∷◌, ◌++◌, length, nat_lt, nat_le, position, codes, Option, Some, None, Result, Ok, Err, if◌then◌else◌}
+use Rattle.std.specs.Prelude.{ℕ, ◌+◌, List, [], ◌∷◌, ◌++◌, length, nat_lt, nat_le, position, codes, Option, Some, None, Result, Ok, Err, if◌then◌else◌}
 use Rattle.std.specs.Str.{bytes_eq}
 use Rattle.dvs_base.specs.Text.{is_name, short_of}
 use Rattle.toml.specs.Data.{Data, Items, no_items, item, Members, get_member, as_integer, as_array, as_table}
@@ -7,6 +7,7 @@ use Rattle.dvs_base.specs.declared.settings.MemberFault.{MemberFault}
 use Rattle.dvs_base.specs.declared.settings.MemberFault.TheVariants as member_fault
 use Rattle.dvs_base.specs.Checks.{and_then}
 use Rattle.dvs_base.specs.Settings.{document_of, unknown_key, number_from, number_at, text_at, count_of}
+use Rattle.task_model.specs.declared.limits.TheConstants.{MOST_TASKS, LONGEST_PERIOD, MOST_WORK, LATEST_OFFSET, LONGEST_HYPERPERIOD}
 use Rattle.task_model.specs.declared.task.Task.{Task}
 use Rattle.task_model.specs.declared.fault.Field.{Field}
 use Rattle.task_model.specs.declared.fault.Field.TheVariants as field
@@ -46,15 +47,15 @@ name_at place value = and_then (at_field place field.Name (text_at value)) (name
 -- the offset, which is 0 where it is absent
 abbrev pub offset_at : ℕ → Option Data → Result ℕ TaskFault
 offset_at place None = Ok 0
-offset_at place (Some value) = at_field place field.Offset (number_from 0 (2 ^ 40) (as_integer value))
+offset_at place (Some value) = at_field place field.Offset (number_from 0 LATEST_OFFSET (as_integer value))
 
 -- an entry
 abbrev pub task_of_members : ℕ → Members → Result Task TaskFault
 task_of_members place ms =
     no_unknown place (unknown_key task_keys ms) (
     and_then (name_at place (get_member (codes "name") ms)) (λ name.
-    and_then (at_field place field.Period (number_at 1 (2 ^ 40) (get_member (codes "period") ms))) (λ period.
-    and_then (at_field place field.Worst (number_at 1 (2 ^ 60) (get_member (codes "worst") ms))) (λ worst.
+    and_then (at_field place field.Period (number_at 1 LONGEST_PERIOD (get_member (codes "period") ms))) (λ period.
+    and_then (at_field place field.Worst (number_at 1 MOST_WORK (get_member (codes "worst") ms))) (λ worst.
     and_then (offset_at place (get_member (codes "offset") ms)) (λ offset.
     Ok record { name = name; period = period; worst = worst; offset = offset })))))
 
@@ -83,14 +84,14 @@ tasks_from tasks (item value rest) =
 
 -- the check of the least common multiple of the periods
 abbrev pub within_hyper : List Task → Result (List Task) TaskFault
-within_hyper tasks = if nat_le (hyper_of tasks) (2 ^ 48) then Ok tasks else Err fault.Hyper
+within_hyper tasks = if nat_le (hyper_of tasks) LONGEST_HYPERPERIOD then Ok tasks else Err fault.Hyper
 
 -- the array of entries
 abbrev pub entries_from : Option Items → Result (List Task) TaskFault
 entries_from None = Err (fault.Kind 0 field.Task)
 entries_from (Some no_items) = Err fault.NoTasks
 entries_from (Some (item value rest)) =
-    if nat_lt 64 (count_of (item value rest)) then Err (fault.TooMany (count_of (item value rest))) else and_then (tasks_from [] (item value rest)) within_hyper
+    if nat_lt MOST_TASKS (count_of (item value rest)) then Err (fault.TooMany (count_of (item value rest))) else and_then (tasks_from [] (item value rest)) within_hyper
 
 abbrev pub entries_at : Option Data → Result (List Task) TaskFault
 entries_at None = Err fault.NoTasks
