@@ -5,6 +5,7 @@ use Rattle.std.proofs.Math.Nat.{le_trans, mul-le-mul_left, mul-zero, sub-zero}
 use Rattle.std.proofs.lemmas.Bool.{le-leb, lt-leb, cases_lt, cases_Bool, eqb-true}
 use Rattle.sched_model.specs.declared.state.Row.{Row}
 use Rattle.sched_model.specs.Plan.{Plan, period}
+use Rattle.sched_model.specs.Demands.{JobDemands}
 use Rattle.sched_model.specs.States.{row_wleft}
 use Rattle.governor.specs.Steps.{is_due, boundary_row, opened_row}
 use Rattle.cc_edf_laws.specs.Cycle.{charged}
@@ -34,7 +35,7 @@ opened_pays false h q p c now d after whole le is =
     ]
 
 -- at a boundary, where each row that is due is complete
-pub boundary_pays : (plan : Plan) (dem : ℕ → ℕ → ℕ) (h q now d i : ℕ) (row : Row) → q * period plan i ≡ h → (row.deadline ≡ now → row.done ≡ true) → now ≤ d
+pub boundary_pays : (plan : Plan) (dem : JobDemands) (h q now d i : ℕ) (row : Row) → q * period plan i ≡ h → (row.deadline ≡ now → row.done ≡ true) → now ≤ d
     → h * owed d (boundary_row plan dem now i row) + credit_of q now d row ≤ h * owed d row + credit_of q now d (boundary_row plan dem now i row)
 boundary_pays plan dem h q now d i row whole closed le =
     let P : Bool → Type 0 = λ (b : Bool). h * owed d (if b then opened_row plan dem i row else row) + credit_of q now d row ≤ h * owed d row + credit_of q now d (if b then opened_row plan dem i row else row) in

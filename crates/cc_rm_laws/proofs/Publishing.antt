@@ -18,13 +18,13 @@ use Rattle.sched_model.specs.CycleDemand.{allotted as allotted_at, had_since_rel
 use Rattle.sched_model.specs.Priority.{allotment}
 use Rattle.sched_model.specs.StaticDemand.{static_speed}
 use Rattle.sched_model.specs.Demand.{demand_by, published}
-use Rattle.sched_model.specs.Demands.{IsWithin}
+use Rattle.sched_model.specs.Demands.{IsWithin, JobDemands}
 use Rattle.sched_model.specs.Admission.{IsAdmitted}
 use Rattle.sched_model.specs.States.{StateOf, no_row, row_at, row_wleft, row_of, state_of}
 use Rattle.sched_model.proofs.Limits.{some_period}
 use Rattle.sched_model.proofs.JobLaws.{lt-due, latest-stays, latest-next, release-suc, last_release-le}
 use Rattle.sched_model.proofs.Tables.{get-table}
-use Rattle.governor.specs.Steps.{wleft_at, earliest}
+use Rattle.governor.specs.Steps.{wleft_at, earliest_in}
 use Rattle.governor.specs.Schedule.{Publishes, PublishingLaws}
 use Rattle.governor.specs.Serving.{ServesRm}
 use Rattle.governor.proofs.OneSchedule.{publishing_laws}
@@ -71,7 +71,7 @@ module _ (p : Plan) (adm : IsAdmitted p) where
       go true e ih = rw (e, last_up_to) refl
       go false e ih = rw (e, last_up_to) (ih ∙ sym (job-stays t i h (any_below-false (count p) (λ j. releases_at p j (suc t)) e i h)))
 
-  module _ (dem : ℕ → ℕ → ℕ) (within : IsWithin p dem) (past : List Tick) where
+  module _ (dem : JobDemands) (within : IsWithin p dem) (past : List Tick) where
     abbrev now : ℕ
     now = length past
 
@@ -91,7 +91,7 @@ module _ (p : Plan) (adm : IsAdmitted p) where
     mark-long = omega (arith, last_release-le p now, length-drop (now - mark) past)
 
     -- the earliest deadline at the mark is that of the state
-    first-is : earliest_at p mark ≡ earliest p here
+    first-is : earliest_at p mark ≡ earliest_in p here
     first-is =
         least-same (count p) (λ i. deadline p i mark) (λ i. (row_at here i).deadline)
         (λ i h. ap (due p i) (since-release now i h) ∙ sym (ap (λ (row : Row). row.deadline) (row-is i h)))
@@ -99,7 +99,7 @@ module _ (p : Plan) (adm : IsAdmitted p) where
     allotted-is : (i : ℕ) → i < count p → allotted_at p dem past i ≡ allotted p here i
     allotted-is i h =
         ap (λ (n : ℕ). allotment (count p) (period p) ((n - mark) * static_speed p) (wleft p dem (at mark past)) i) first-is
-        ∙ sym (allotment-same (count p) (period p) ((earliest p here - mark) * static_speed p) (base_of here) (wleft p dem (at mark past)) base-is i h)
+        ∙ sym (allotment-same (count p) (period p) ((earliest_in p here - mark) * static_speed p) (base_of here) (wleft p dem (at mark past)) base-is i h)
 
     -- what an open job has had since the mark
     had-is : (i : ℕ) → i < count p → is_complete p dem past i ≡ false → had_since_release p past i ≡ had_since_mark here i

@@ -6,7 +6,7 @@ use Rattle.sched_model.specs.Plan.{Plan, count, period}
 use Rattle.sched_model.specs.Priority.{allotment}
 use Rattle.sched_model.specs.StaticDemand.{static_speed}
 use Rattle.sched_model.specs.States.{StateOf, row_at}
-use Rattle.governor.specs.Steps.{wleft_at, earliest}
+use Rattle.governor.specs.Steps.{wleft_at, earliest_in}
 
 -- what the job of task i might still need at the mark
 abbrev pub base_of : StateOf → ℕ → ℕ
@@ -14,7 +14,7 @@ base_of s i = slice_index s.base i
 
 -- the units that the static speed does from the mark to the earliest deadline
 abbrev pub allotted_units : Plan → StateOf → ℕ
-allotted_units plan s = (earliest plan s - s.base_at) * static_speed plan
+allotted_units plan s = (earliest_in plan s - s.base_at) * static_speed plan
 
 -- what task i gets of them, where they are handed out in RM order, to each task as many as its base
 abbrev pub allotted : Plan → StateOf → ℕ → ℕ
@@ -30,4 +30,4 @@ allotment_left plan s i = if (row_at s i).done then 0 else allotted plan s i - h
 
 -- the published demand: the sum of what is left, over the time to the earliest deadline
 abbrev pub cycle_demand : Plan → StateOf → Frac
-cycle_demand plan s = record { num = sum_below (count plan) (allotment_left plan s); den = earliest plan s - s.now }
+cycle_demand plan s = record { num = sum_below (count plan) (allotment_left plan s); den = earliest_in plan s - s.now }
