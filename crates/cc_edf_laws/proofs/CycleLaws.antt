@@ -25,7 +25,7 @@ use Rattle.governor.proofs.Ticks.{demand_most}
 use Rattle.governor.specs.Edf.{due_by}
 use Rattle.governor.proofs.EdfLaws.{closed_row}
 use Rattle.governor.proofs.Fits.{full_enough}
-use Rattle.cc_edf_laws.specs.Cycle.{charged, charged_rate, cycle_demand}
+use Rattle.cc_edf_laws.specs.Cycle.{charged_of, charged_rate_in, cycle_demand}
 use Rattle.cc_edf_laws.specs.Conditions.{due_work, credit, CycleCalm, CycleSafe}
 use Rattle.cc_edf_laws.proofs.Rows.{owed, credit_of, boundary_pays, tick_pays, tick_charge, charged_most}
 use Rattle.cc_edf_laws.proofs.Shares.{due_closes, due_full, later_none}
@@ -51,8 +51,8 @@ cycle_opens plan d le =
 -- the charges are at most the worst cases, so the highest speed does the sum of the rates
 pub cycle_within : (plan : Plan) (s : StateOf) → IsOfPlan plan s → (cycle_demand plan s).num ≤ total_rate plan
 cycle_within plan s of =
-    sum_below-le (count plan) (charged_rate plan s) (rate plan) (λ i h.
-    let most : charged (row_at s i) ≤ worst plan i = (let m = charged_most (row_at s i) (of.used i h) in let w = of.worst i h in omega arith) in
+    sum_below-le (count plan) (charged_rate_in plan s) (rate plan) (λ i h.
+    let most : charged_of (row_at s i) ≤ worst plan i = (let m = charged_most (row_at s i) (of.used i h) in let w = of.worst i h in omega arith) in
     mul-le-mul_right (hyper plan / period plan i) most)
 
 pub cycle_fits : (plan : Plan) (s : StateOf) → IsAdmitted plan → ServesEdf plan.scheduler → IsOfPlan plan s → (cycle_demand plan s).num ≤ top_speed plan * hyper plan
@@ -85,8 +85,8 @@ module _ (plan : Plan) (lim : IsWithinLimits plan) (dem : JobDemands) (s : State
   cycle_completes : CycleCalm plan s → (i : ℕ) → i < count plan → (row_at s i).deadline ≡ s.now → (row_at s i).done ≡ true
   cycle_completes calm i h at_now =
       let none : credit plan s s.now ≡ 0 =
-      sum_below-zero (count plan) (λ j. charged_rate plan s j * (min s.now (row_at s j).deadline - s.now))
-      (λ j l. let z : min s.now (row_at s j).deadline - s.now ≡ 0 = omega arith in rw z (mul-zero (charged_rate plan s j))) in
+      sum_below-zero (count plan) (λ j. charged_rate_in plan s j * (min s.now (row_at s j).deadline - s.now))
+      (λ j l. let z : min s.now (row_at s j).deadline - s.now ≡ 0 = omega arith in rw z (mul-zero (charged_rate_in plan s j))) in
       let all : hyper plan * due_work plan s s.now ≤ 0 = rw none at (calm s.now (omega arith)) in
       let paid : due_work plan s s.now ≤ 0 = le_of_mul-le-mul_left {m = due_work plan s s.now} {n = 0} {k = hyper plan} (omega (arith, all)) (some_hyper plan lim) in
       let mine : wleft_at s i ≤ due_work plan s s.now = sum_where-term (count plan) (due_by s s.now) (wleft_at s) i h (le-leb (row_at s i).deadline s.now (omega arith)) in
@@ -133,7 +133,7 @@ module _ (plan : Plan) (lim : IsWithinLimits plan) (dem : JobDemands) (s : State
         let x = share_in shares in
         let each = sum-three n
         (λ i. h * owed d (row_at next i)) (λ i. h * (if due_by s d i then x i else 0)) (λ i. credit_of (jobs i) s.now d (row_at s i))
-        (λ i. h * owed d (row_at s i)) (λ i. credit_of (jobs i) (s.now + 1) d (row_at next i)) (charged_rate plan s)
+        (λ i. h * owed d (row_at s i)) (λ i. credit_of (jobs i) (s.now + 1) d (row_at next i)) (charged_rate_in plan s)
         (λ i lt.
         let row = row_at s i in
         rw (tick_at dem shares s i (here i lt))
@@ -152,7 +152,7 @@ module _ (plan : Plan) (lim : IsWithinLimits plan) (dem : JobDemands) (s : State
 
     rates_fall : (cycle_demand plan next).num ≤ (cycle_demand plan s).num
     rates_fall =
-        sum_below-le (count plan) (charged_rate plan next) (charged_rate plan s) (λ i h.
+        sum_below-le (count plan) (charged_rate_in plan next) (charged_rate_in plan s) (λ i h.
         let row = row_at s i in
         rw (tick_at dem shares s i (here i h))
         (mul-le-mul_right (jobs i) (tick_charge row.done (dem i row.job) row.used row.worst (share_in shares i) (demand_most plan dem s bel i h) (legal_most plan dem f s shares legal i h))))

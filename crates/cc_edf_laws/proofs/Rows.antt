@@ -8,7 +8,7 @@ use Rattle.sched_model.specs.Plan.{Plan, period}
 use Rattle.sched_model.specs.Demands.{JobDemands}
 use Rattle.sched_model.specs.States.{row_wleft}
 use Rattle.governor.specs.Steps.{is_due, boundary_row, opened_row}
-use Rattle.cc_edf_laws.specs.Cycle.{charged}
+use Rattle.cc_edf_laws.specs.Cycle.{charged_of}
 
 -- what a row due by d may still need
 abbrev pub owed : ℕ → Row → ℕ
@@ -16,7 +16,7 @@ owed d row = if nat_le row.deadline d then row_wleft row else 0
 
 -- what its rate gives up to d, where q is H over its period
 abbrev pub credit_of : ℕ → ℕ → ℕ → Row → ℕ
-credit_of q now d row = charged row * q * (min d row.deadline - now)
+credit_of q now d row = charged_of row * q * (min d row.deadline - now)
 
 same_both : (b : Bool) (x : ℕ) → (if b then x else x) ≡ x
 same_both true x = refl
@@ -43,7 +43,7 @@ boundary_pays plan dem h q now d i row whole closed le =
       | inl due ↦
           let at_now : row.deadline ≡ now = eqb-true row.deadline now due in
           let pays = opened_pays (dem i (row.job + 1) == 0) h q (period plan i) row.worst now d (row.deadline + period plan i) whole le (omega arith) in
-          let none : credit_of q now d row ≡ 0 = (let z : min d row.deadline - now ≡ 0 = omega arith in rw z (mul-zero (charged row * q))) in
+          let none : credit_of q now d row ≡ 0 = (let z : min d row.deadline - now ≡ 0 = omega arith in rw z (mul-zero (charged_of row * q))) in
           subst P (sym due) (omega (arith, pays, none))
       | inr later ↦ subst P (sym later) (omega arith)
     ]
@@ -120,7 +120,7 @@ tick_charge false need used worst sh most own =
     ]
 
 -- a charge is at most the worst case
-pub charged_most : (row : Row) → row.used ≤ row.worst → charged row ≤ row.worst
+pub charged_most : (row : Row) → row.used ≤ row.worst → charged_of row ≤ row.worst
 charged_most row le = most row.done row.used row.worst le
   where
     most : (b : Bool) (u w : ℕ) → u ≤ w → (if b then u else w) ≤ w

@@ -23,7 +23,7 @@ use Rattle.governor.proofs.Belonging.{unborn_done, in_rows, boundary_at}
 use Rattle.governor.proofs.Ticks.{demand_most}
 use Rattle.governor.specs.Rm.{level}
 use Rattle.governor.proofs.EdfLaws.{closed_row}
-use Rattle.cc_rm_laws.specs.Allotments.{base_of, allotted_units, allotted, allotment_left}
+use Rattle.cc_rm_laws.specs.Allotments.{base_of, allotted_units, allotted_in, allotment_left_in}
 use Rattle.cc_rm_laws.specs.Conditions.{CcRmCalm}
 use Rattle.cc_rm_laws.proofs.Allotting.{allotment-most}
 use Rattle.cc_rm_laws.proofs.Backlog.{lack, lack_after, lack-is, IsQuiet, quiet_row, lack-none, released-lack, after-least, backlog-empties}
@@ -41,7 +41,7 @@ module _ (plan : Plan) (adm : IsAdmitted plan) (dem : JobDemands) (s : StateOf) 
   base-by : s.base_at ≤ s.now
   base-by = omega (arith, greatest-least (count plan) (λ j. release_of plan j (row_at s j)) s.now bel.released, bel.base_at)
 
-  pub allotted-most : (i : ℕ) → allotted plan s i ≤ base_of s i
+  pub allotted-most : (i : ℕ) → allotted_in plan s i ≤ base_of s i
   allotted-most i = allotment-most (count plan) (period plan) (allotted_units plan s) (base_of s) i
 
   -- a row's job is due where its next one is released
@@ -75,7 +75,7 @@ module _ (plan : Plan) (adm : IsAdmitted plan) (dem : JobDemands) (s : StateOf) 
   level-most calm at_due i h =
       let z : earliest_in plan s - s.now ≡ 0 = omega arith in
       let none : static_speed plan * (earliest_in plan s - s.now) ≡ 0 = ap (λ (x : ℕ). static_speed plan * x) z ∙ mul-zero (static_speed plan) in
-      let part = sum_where-le (count plan) (level plan i) (allotment_left plan s) in
+      let part = sum_where-le (count plan) (level plan i) (allotment_left_in plan s) in
       omega (arith, calm.levels i h, calm.total, none, part)
 
   empty-level : CcRmCalm plan s → s.now ≡ earliest_in plan s → (i : ℕ) → i < count plan → backlog plan (earliest_in plan s) i ≡ 0 → (row_at s i).done ≡ true

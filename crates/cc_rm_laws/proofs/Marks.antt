@@ -22,7 +22,7 @@ use Rattle.governor.specs.Steps.{each_row, is_due, boundary_row, opened_row, aft
 use Rattle.governor.proofs.Rows.{none_due_at, some_due_at, or_false_right, done_none}
 use Rattle.governor.proofs.Belonging.{in_rows, opening_at, boundary_at, belongs_boundary, decision_boundary, opened_release, earliest-later}
 use Rattle.governor.specs.Rm.{level}
-use Rattle.cc_rm_laws.specs.Allotments.{base_of, allotted_units, allotted, allotment_left}
+use Rattle.cc_rm_laws.specs.Allotments.{base_of, allotted_units, allotted_in, allotment_left_in}
 use Rattle.cc_rm_laws.specs.Conditions.{LacksNothing, CcRmCalm}
 use Rattle.cc_rm_laws.proofs.Lefts.{left-marked}
 use Rattle.cc_rm_laws.proofs.Backlog.{lack, lack_after, lack-is, level_down, backlog-span, backlog-where}
@@ -38,7 +38,7 @@ module _ (plan : Plan) where
     levels = λ i h.
         let none = sum_where-zero (count plan) (level plan i) (wleft_at (opening plan)) (λ j hj on. done_none (row_at (opening plan) j) (opening-done j hj)) in
         omega (arith, none);
-    total = (let none = sum_below-zero (count plan) (allotment_left plan (opening plan)) (λ j hj. rw (opening-done j hj) refl) in omega (arith, none));
+    total = (let none = sum_below-zero (count plan) (allotment_left_in plan (opening plan)) (λ j hj. rw (opening-done j hj) refl) in omega (arith, none));
     since = λ i h born before none. opening-done i h;
   }
 
@@ -100,22 +100,22 @@ module _ (plan : Plan) (adm : IsAdmitted plan) (rm : plan.scheduler ≡ Rm) (dem
       ∙ get_or-map row_wleft marked.rows j no_row 0 (in_rows plan dem marked bel' j h)
 
   -- all of an allotment is left
-  left_is : (j : ℕ) → j < count plan → allotment_left plan marked j ≡ allotted plan marked j
+  left_is : (j : ℕ) → j < count plan → allotment_left_in plan marked j ≡ allotted_in plan marked j
   left_is j h =
-      left-marked (row_at marked j).done (allotted plan marked j) (base_of marked j) (wleft_at marked j) (base_is j h)
+      left-marked (row_at marked j).done (allotted_in plan marked j) (base_of marked j) (wleft_at marked j) (base_is j h)
       (allotted-most plan adm dem marked bel' j) (done_none (row_at marked j))
 
-  shares : SharesOut (count plan) (period plan) room (base_of marked) (allotted plan marked)
+  shares : SharesOut (count plan) (period plan) room (base_of marked) (allotted_in plan marked)
   shares = allotment-shares (count plan) (period plan) room (base_of marked)
 
   where_same : (test : ℕ → Bool) (f g : ℕ → ℕ) → ((j : ℕ) → j < count plan → f j ≡ g j) → sum_where (count plan) test f ≡ sum_where (count plan) test g
   where_same test f g e = sum_below-same (count plan) (λ j. if test j then f j else 0) (λ j. if test j then g j else 0) (λ j h. ap (λ (x : ℕ). if test j then x else 0) (e j h))
 
   -- a level has the smaller of the room and what it may need
-  level_left : (i : ℕ) → sum_where (count plan) (level plan i) (allotment_left plan marked) ≡ min room (sum_where (count plan) (level plan i) (wleft_at marked))
+  level_left : (i : ℕ) → sum_where (count plan) (level plan i) (allotment_left_in plan marked) ≡ min room (sum_where (count plan) (level plan i) (wleft_at marked))
   level_left i =
-      where_same (level plan i) (allotment_left plan marked) (allotted plan marked) left_is
-      ∙ (level-gets (count plan) (period plan) room (base_of marked) (allotted plan marked) shares i
+      where_same (level plan i) (allotment_left_in plan marked) (allotted_in plan marked) left_is
+      ∙ (level-gets (count plan) (period plan) room (base_of marked) (allotted_in plan marked) shares i
       ∙ ap (λ (x : ℕ). min room x) (where_same (level plan i) (base_of marked) (wleft_at marked) base_is))
 
   -- and may need no more than the worst static schedule lacks there
@@ -158,11 +158,11 @@ module _ (plan : Plan) (adm : IsAdmitted plan) (rm : plan.scheduler ≡ Rm) (dem
       ]) in
       here born (subst (λ (u : ℕ). release_of plan i (row_at marked i) < u) mark_now before)
 
-  marked_total : sum_below (count plan) (allotment_left plan marked) ≤ static_speed plan * (earliest_in plan marked - marked.now)
+  marked_total : sum_below (count plan) (allotment_left_in plan marked) ≤ static_speed plan * (earliest_in plan marked - marked.now)
   marked_total =
       let n = count plan in
-      let left_sum : sum_below n (allotment_left plan marked) ≡ sum_below n (allotted plan marked) = sum_below-same n (allotment_left plan marked) (allotted plan marked) left_is in
-      let gets : sum_below n (allotted plan marked) ≡ min room (sum_below n (base_of marked)) = down-set-gets n (period plan) (λ j. true) room (base_of marked) (allotted plan marked) (λ j k hj hk b on. refl) shares in
+      let left_sum : sum_below n (allotment_left_in plan marked) ≡ sum_below n (allotted_in plan marked) = sum_below-same n (allotment_left_in plan marked) (allotted_in plan marked) left_is in
+      let gets : sum_below n (allotted_in plan marked) ≡ min room (sum_below n (base_of marked)) = down-set-gets n (period plan) (λ j. true) room (base_of marked) (allotted_in plan marked) (λ j k hj hk b on. refl) shares in
       let clock : earliest_in plan marked - marked.now ≡ suc gap = omega (arith, later) in
       let turned : static_speed plan * suc gap ≡ suc gap * static_speed plan = omega arith in
       let fits : static_speed plan * (earliest_in plan marked - marked.now) ≡ room = ap (λ (x : ℕ). static_speed plan * x) clock ∙ (turned ∙ sym room_is) in
@@ -172,7 +172,7 @@ module _ (plan : Plan) (adm : IsAdmitted plan) (rm : plan.scheduler ≡ Rm) (dem
   marked_calm : CcRmCalm plan marked
   marked_calm = record {
     levels = λ i h.
-        marked_level (sum_where (count plan) (level plan i) (wleft_at marked)) (sum_where (count plan) (level plan i) (allotment_left plan marked)) room
+        marked_level (sum_where (count plan) (level plan i) (wleft_at marked)) (sum_where (count plan) (level plan i) (allotment_left_in plan marked)) room
         (sum_where (count plan) (level plan i) (lack_after plan s.now)) (backlog plan (earliest_in plan marked) i)
         (level_left i) (level_needs i h) (level_backlog i h);
     total = marked_total;

@@ -14,7 +14,7 @@ use Rattle.sched_model.specs.Plan.{Plan, count, period, worst}
 use Rattle.sched_model.specs.Jobs.{release, due, latest, deadline, releases_at, is_release, last_release}
 use Rattle.sched_model.specs.Jobs.{earliest as earliest_at}
 use Rattle.sched_model.specs.Ticks.{Tick, at, exec, is_complete, wleft}
-use Rattle.sched_model.specs.CycleDemand.{allotted as allotted_at, had_since_release, allotment_left as allotment_left_at, rm_cycle}
+use Rattle.sched_model.specs.CycleDemand.{allotted, had_since_release, allotment_left, rm_cycle}
 use Rattle.sched_model.specs.Priority.{allotment}
 use Rattle.sched_model.specs.StaticDemand.{static_speed}
 use Rattle.sched_model.specs.Demand.{demand_by, published}
@@ -28,7 +28,7 @@ use Rattle.governor.specs.Steps.{wleft_at, earliest_in}
 use Rattle.governor.specs.Schedule.{Publishes, PublishingLaws}
 use Rattle.governor.specs.Serving.{ServesRm}
 use Rattle.governor.proofs.OneSchedule.{publishing_laws}
-use Rattle.cc_rm_laws.specs.Allotments.{base_of, allotted, had_since_mark, allotment_left, cycle_demand}
+use Rattle.cc_rm_laws.specs.Allotments.{base_of, allotted_in, had_since_mark, allotment_left_in, cycle_demand}
 use Rattle.cc_rm_laws.proofs.Allotting.{allotment-same}
 
 -- a job has had no more at an earlier tick
@@ -96,7 +96,7 @@ module _ (p : Plan) (adm : IsAdmitted p) where
         least-same (count p) (λ i. deadline p i mark) (λ i. (row_at here i).deadline)
         (λ i h. ap (due p i) (since-release now i h) ∙ sym (ap (λ (row : Row). row.deadline) (row-is i h)))
 
-    allotted-is : (i : ℕ) → i < count p → allotted_at p dem past i ≡ allotted p here i
+    allotted-is : (i : ℕ) → i < count p → allotted p dem past i ≡ allotted_in p here i
     allotted-is i h =
         ap (λ (n : ℕ). allotment (count p) (period p) ((n - mark) * static_speed p) (wleft p dem (at mark past)) i) first-is
         ∙ sym (allotment-same (count p) (period p) ((earliest_in p here - mark) * static_speed p) (base_of here) (wleft p dem (at mark past)) base-is i h)
@@ -125,11 +125,11 @@ module _ (p : Plan) (adm : IsAdmitted p) where
         go true e lt le = absurd (grind (arith, nat_tests))
         go false e lt le = e
 
-    left-is : (i : ℕ) → i < count p → allotment_left_at p dem past i ≡ allotment_left p here i
-    left-is i h = go (is_complete p dem past i) refl ∙ sym (ap (λ (row : Row). if row.done then 0 else allotted p here i - had_since_mark here i) (row-is i h))
+    left-is : (i : ℕ) → i < count p → allotment_left p dem past i ≡ allotment_left_in p here i
+    left-is i h = go (is_complete p dem past i) refl ∙ sym (ap (λ (row : Row). if row.done then 0 else allotted_in p here i - had_since_mark here i) (row-is i h))
       where
         go : (b : Bool) → is_complete p dem past i ≡ b
-            → (if is_complete p dem past i then 0 else allotted_at p dem past i - had_since_release p past i) ≡ (if is_complete p dem past i then 0 else allotted p here i - had_since_mark here i)
+            → (if is_complete p dem past i then 0 else allotted p dem past i - had_since_release p past i) ≡ (if is_complete p dem past i then 0 else allotted_in p here i - had_since_mark here i)
         go true e = rw e refl
         go false e = rw e (ap₂ (λ a b. a - b) (allotted-is i h) (had-is i h e))
 
@@ -137,7 +137,7 @@ module _ (p : Plan) (adm : IsAdmitted p) where
     frac a b = record { num = a; den = b }
 
     cycle-is : rm_cycle p dem past ≡ cycle_demand p here
-    cycle-is = ap₂ frac (sum_below-same (count p) (allotment_left_at p dem past) (allotment_left p here) left-is) (ap (λ (n : ℕ). n - now) first-is)
+    cycle-is = ap₂ frac (sum_below-same (count p) (allotment_left p dem past) (allotment_left_in p here) left-is) (ap (λ (n : ℕ). n - now) first-is)
 
 pub published-cycle : (p : Plan) → IsAdmitted p → p.scheduler ≡ Rm → Publishes cycle_demand Cycle p
 unfolding published

@@ -24,7 +24,7 @@ use Rattle.governor.proofs.Rows.{done_none}
 use Rattle.governor.proofs.Belonging.{in_rows, tick_at, legal_most, earliest-later}
 use Rattle.governor.proofs.Ticks.{tick-falls, tick-closes}
 use Rattle.governor.specs.Rm.{level}
-use Rattle.cc_rm_laws.specs.Allotments.{base_of, allotted_units, allotted, allotment_left}
+use Rattle.cc_rm_laws.specs.Allotments.{base_of, allotted_units, allotted_in, allotment_left_in}
 use Rattle.cc_rm_laws.specs.Conditions.{CcRmCalm}
 use Rattle.cc_rm_laws.proofs.Allotting.{allotment-full, allotment-none, some-term}
 use Rattle.cc_rm_laws.proofs.Lefts.{left_by, left-part, left-full, left-some, left-idle, left-open}
@@ -49,29 +49,29 @@ module _ (plan : Plan) (adm : IsAdmitted plan) (rm : plan.scheduler ≡ Rm) (dem
   same_earliest = least-same (count plan) (λ i. (row_at ticked i).deadline) (λ i. (row_at s i).deadline) (λ i h. ap (λ (row : Row). row.deadline) (tick_at dem shares s i (here i h)))
 
   -- what is left after the tick, by the allotments before it
-  left_then : (j : ℕ) → allotment_left plan ticked j ≡ left_by (row_at ticked j).done (allotted plan s j) (base_of s j) (wleft_at ticked j)
+  left_then : (j : ℕ) → allotment_left_in plan ticked j ≡ left_by (row_at ticked j).done (allotted_in plan s j) (base_of s j) (wleft_at ticked j)
   left_then j =
       ap (λ (x : ℕ). left_by (row_at ticked j).done (allotment (count plan) (period plan) ((x - s.base_at) * static_speed plan) (base_of s) j) (base_of s j) (wleft_at ticked j)) same_earliest
 
   falls : (j : ℕ) → j < count plan → wleft_at ticked j + share_in shares j ≤ wleft_at s j
   falls j h = tick-falls plan dem f s shares bel legal j h
 
-  part : (j : ℕ) → j < count plan → wleft_at ticked j + allotment_left plan s j ≤ wleft_at s j + allotment_left plan ticked j
+  part : (j : ℕ) → j < count plan → wleft_at ticked j + allotment_left_in plan s j ≤ wleft_at s j + allotment_left_in plan ticked j
   part j h =
       rw (left_then j)
-      (left-part (row_at s j).done (row_at ticked j).done (allotted plan s j) (base_of s j) (wleft_at s j) (wleft_at ticked j)
+      (left-part (row_at s j).done (row_at ticked j).done (allotted_in plan s j) (base_of s j) (wleft_at s j) (wleft_at ticked j)
       (allotted-most plan adm dem s bel j) (bel.base j h) (omega (arith, falls j h)) (done_stays j h) (done_none (row_at ticked j)))
 
   out : SharesOut (count plan) (period plan) f (left_in dem s) (share_in shares)
   out = subst (λ (sch : Scheduler). SharesOut (count plan) (key_in sch plan s) f (left_in dem s) (share_in shares)) rm legal.out
 
   -- a task with some left after the tick is open, and got less than it needed
-  module _ (k : ℕ) (hk : k < count plan) (pos : 0 < allotment_left plan ticked k) where
-    some_left : 0 < left_by (row_at ticked k).done (allotted plan s k) (base_of s k) (wleft_at ticked k)
+  module _ (k : ℕ) (hk : k < count plan) (pos : 0 < allotment_left_in plan ticked k) where
+    some_left : 0 < left_by (row_at ticked k).done (allotted_in plan s k) (base_of s k) (wleft_at ticked k)
     some_left = subst (λ (x : ℕ). 0 < x) (left_then k) pos
 
-    still_open : ((row_at ticked k).done ≡ false) × (0 < allotted plan s k)
-    still_open = left-open (row_at ticked k).done (allotted plan s k) (base_of s k) (wleft_at ticked k) some_left
+    still_open : ((row_at ticked k).done ≡ false) × (0 < allotted_in plan s k)
+    still_open = left-open (row_at ticked k).done (allotted_in plan s k) (base_of s k) (wleft_at ticked k) some_left
 
     short : share_in shares k < left_in dem s k
     short =
@@ -84,25 +84,25 @@ module _ (plan : Plan) (adm : IsAdmitted plan) (rm : plan.scheduler ≡ Rm) (dem
     short_allotment = subst (λ (x : ℕ). x < left_in dem s k) (allotment_of (count plan) (period plan) f (left_in dem s) (share_in shares) out k hk) short
 
     -- then each unit of the tick lowers what is left
-    takes_before : (j : ℕ) → j < count plan → stands_before (period plan) j k ≡ true → left_by (row_at ticked j).done (allotted plan s j) (base_of s j) (wleft_at ticked j) + share_in shares j ≤ allotment_left plan s j
+    takes_before : (j : ℕ) → j < count plan → stands_before (period plan) j k ≡ true → left_by (row_at ticked j).done (allotted_in plan s j) (base_of s j) (wleft_at ticked j) + share_in shares j ≤ allotment_left_in plan s j
     takes_before j h ahead =
-        let full : allotted plan s j ≡ base_of s j = allotment-full (count plan) (period plan) (allotted_units plan s) (base_of s) j k h ahead still_open.1 in
-        left-full (row_at s j).done (row_at ticked j).done (allotted plan s j) (base_of s j) (wleft_at s j) (wleft_at ticked j) (share_in shares j)
+        let full : allotted_in plan s j ≡ base_of s j = allotment-full (count plan) (period plan) (allotted_units plan s) (base_of s) j k h ahead still_open.1 in
+        left-full (row_at s j).done (row_at ticked j).done (allotted_in plan s j) (base_of s j) (wleft_at s j) (wleft_at ticked j) (share_in shares j)
         full (bel.base j h) (falls j h) (done_none (row_at s j)) (done_none (row_at ticked j)) (done_stays j h)
 
-    takes_own : (j : ℕ) → j < count plan → k ≡ j → left_by (row_at ticked j).done (allotted plan s j) (base_of s j) (wleft_at ticked j) + share_in shares j ≤ allotment_left plan s j
+    takes_own : (j : ℕ) → j < count plan → k ≡ j → left_by (row_at ticked j).done (allotted_in plan s j) (base_of s j) (wleft_at ticked j) + share_in shares j ≤ allotment_left_in plan s j
     takes_own j h same =
-        left-some (row_at s j).done (row_at ticked j).done (allotted plan s j) (base_of s j) (wleft_at s j) (wleft_at ticked j) (share_in shares j)
+        left-some (row_at s j).done (row_at ticked j).done (allotted_in plan s j) (base_of s j) (wleft_at s j) (wleft_at ticked j) (share_in shares j)
         (bel.base j h) (falls j h) (done_stays j h)
-        (subst (λ (i : ℕ). 0 < left_by (row_at ticked i).done (allotted plan s i) (base_of s i) (wleft_at ticked i)) same some_left)
+        (subst (λ (i : ℕ). 0 < left_by (row_at ticked i).done (allotted_in plan s i) (base_of s i) (wleft_at ticked i)) same some_left)
 
-    takes_after : (j : ℕ) → j < count plan → stands_before (period plan) k j ≡ true → left_by (row_at ticked j).done (allotted plan s j) (base_of s j) (wleft_at ticked j) + share_in shares j ≤ allotment_left plan s j
+    takes_after : (j : ℕ) → j < count plan → stands_before (period plan) k j ≡ true → left_by (row_at ticked j).done (allotted_in plan s j) (base_of s j) (wleft_at ticked j) + share_in shares j ≤ allotment_left_in plan s j
     takes_after j h behind =
         let none : share_in shares j ≡ 0 = allotment_of (count plan) (period plan) f (left_in dem s) (share_in shares) out j h ∙ allotment-none (count plan) (period plan) f (left_in dem s) k j hk behind short_allotment in
-        left-idle (row_at s j).done (row_at ticked j).done (allotted plan s j) (base_of s j) (wleft_at s j) (wleft_at ticked j) (share_in shares j)
+        left-idle (row_at s j).done (row_at ticked j).done (allotted_in plan s j) (base_of s j) (wleft_at s j) (wleft_at ticked j) (share_in shares j)
         (falls j h) none (done_stays j h)
 
-    takes : (j : ℕ) → j < count plan → allotment_left plan ticked j + share_in shares j ≤ allotment_left plan s j
+    takes : (j : ℕ) → j < count plan → allotment_left_in plan ticked j + share_in shares j ≤ allotment_left_in plan s j
     takes j h =
         rw (left_then j)
         (elim (cases_Bool (stands_before (period plan) j k)) [
@@ -126,37 +126,37 @@ module _ (plan : Plan) (adm : IsAdmitted plan) (rm : plan.scheduler ≡ Rm) (dem
           | inr full ↦ omega arith
         ]
 
-    takes_all : sum_below (count plan) (allotment_left plan ticked) + f ≤ sum_below (count plan) (allotment_left plan s)
+    takes_all : sum_below (count plan) (allotment_left_in plan ticked) + f ≤ sum_below (count plan) (allotment_left_in plan s)
     takes_all =
         let n = count plan in
-        let each : sum_below n (λ j. allotment_left plan ticked j + share_in shares j) ≤ sum_below n (allotment_left plan s) = sum_below-le n (λ j. allotment_left plan ticked j + share_in shares j) (allotment_left plan s) takes in
-        let split = sum_below-add n (allotment_left plan ticked) (share_in shares) in
+        let each : sum_below n (λ j. allotment_left_in plan ticked j + share_in shares j) ≤ sum_below n (allotment_left_in plan s) = sum_below-le n (λ j. allotment_left_in plan ticked j + share_in shares j) (allotment_left_in plan s) takes in
+        let split = sum_below-add n (allotment_left_in plan ticked) (share_in shares) in
         omega (arith, each, split, all_out)
 
-  left_falls : (sum_below (count plan) (allotment_left plan ticked) ≡ 0) ⊎ (sum_below (count plan) (allotment_left plan ticked) + f ≤ sum_below (count plan) (allotment_left plan s))
+  left_falls : (sum_below (count plan) (allotment_left_in plan ticked) ≡ 0) ⊎ (sum_below (count plan) (allotment_left_in plan ticked) + f ≤ sum_below (count plan) (allotment_left_in plan s))
   left_falls =
-      elim (cases_lt 0 (sum_below (count plan) (allotment_left plan ticked))) [
+      elim (cases_lt 0 (sum_below (count plan) (allotment_left_in plan ticked))) [
         | inl some ↦
-            let found = some-term (count plan) (allotment_left plan ticked) some in
+            let found = some-term (count plan) (allotment_left_in plan ticked) some in
             inr (takes_all found.0 found.1 found.2)
         | inr none ↦ inl (omega arith)
       ]
 
   -- what is left goes on to fit at the speed
-  pub cc_rm_enough : sum_below (count plan) (allotment_left plan s) ≤ f * (earliest_in plan s - s.now) → sum_below (count plan) (allotment_left plan ticked) ≤ f * (earliest_in plan ticked - ticked.now)
+  pub cc_rm_enough : sum_below (count plan) (allotment_left_in plan s) ≤ f * (earliest_in plan s - s.now) → sum_below (count plan) (allotment_left_in plan ticked) ≤ f * (earliest_in plan ticked - ticked.now)
   cc_rm_enough enough =
       let span : earliest_in plan s - s.now ≡ (earliest_in plan ticked - ticked.now) + 1 = omega (arith, same_earliest, earliest-later plan adm.limits s before) in
-      room_falls (sum_below (count plan) (allotment_left plan s)) (sum_below (count plan) (allotment_left plan ticked)) f (earliest_in plan s - s.now) (earliest_in plan ticked - ticked.now) span left_falls enough
+      room_falls (sum_below (count plan) (allotment_left_in plan s)) (sum_below (count plan) (allotment_left_in plan ticked)) f (earliest_in plan s - s.now) (earliest_in plan ticked - ticked.now) span left_falls enough
 
-  pub cc_rm_ticks : f ≤ static_speed plan → CcRmCalm plan s → sum_below (count plan) (allotment_left plan s) ≤ f * (earliest_in plan s - s.now) → CcRmCalm plan ticked
+  pub cc_rm_ticks : f ≤ static_speed plan → CcRmCalm plan s → sum_below (count plan) (allotment_left_in plan s) ≤ f * (earliest_in plan s - s.now) → CcRmCalm plan ticked
   cc_rm_ticks slower calm enough = record {
     levels = λ i h.
         let n = count plan in
         let lv = level plan i in
-        let each : sum_where n lv (λ j. wleft_at ticked j + allotment_left plan s j) ≤ sum_where n lv (λ j. wleft_at s j + allotment_left plan ticked j) =
-        sum_where-mono n lv (λ j. wleft_at ticked j + allotment_left plan s j) (λ j. wleft_at s j + allotment_left plan ticked j) (λ j hj on. part j hj) in
-        let a = sum_where-plus n lv (wleft_at ticked) (allotment_left plan s) in
-        let b = sum_where-plus n lv (wleft_at s) (allotment_left plan ticked) in
+        let each : sum_where n lv (λ j. wleft_at ticked j + allotment_left_in plan s j) ≤ sum_where n lv (λ j. wleft_at s j + allotment_left_in plan ticked j) =
+        sum_where-mono n lv (λ j. wleft_at ticked j + allotment_left_in plan s j) (λ j. wleft_at s j + allotment_left_in plan ticked j) (λ j hj on. part j hj) in
+        let a = sum_where-plus n lv (wleft_at ticked) (allotment_left_in plan s) in
+        let b = sum_where-plus n lv (wleft_at s) (allotment_left_in plan ticked) in
         let worst : backlog plan (earliest_in plan ticked) i ≡ backlog plan (earliest_in plan s) i = ap (λ (u : ℕ). backlog plan u i) same_earliest in
         omega (arith, each, a, b, worst, calm.levels i h);
     total = omega (arith, mul-le-mul_right (earliest_in plan ticked - ticked.now) slower, cc_rm_enough enough);

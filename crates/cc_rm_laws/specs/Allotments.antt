@@ -30,12 +30,12 @@ abbrev pub allotted_units : Plan → StateOf → ℕ
 allotted_units plan s = units_of plan (since_mark plan s)
 
 -- what task i gets of them, where they are handed out in RM order, to each task as many as its base
-abbrev pub allotted : Plan → StateOf → ℕ → ℕ
-allotted plan s i = allotted_of plan (since_mark plan s) i
+abbrev pub allotted_in : Plan → StateOf → ℕ → ℕ
+allotted_in plan s i = allotted_of plan (since_mark plan s) i
 
 -- what is left of its allotment: nothing where the job is complete
-abbrev pub allotment_left : Plan → StateOf → ℕ → ℕ
-allotment_left plan s i = allotment_left_of plan (since_mark plan s) i
+abbrev pub allotment_left_in : Plan → StateOf → ℕ → ℕ
+allotment_left_in plan s i = allotment_left_of plan (since_mark plan s) i
 
 -- the published demand: the sum of what is left, over the time to the earliest deadline
 abbrev pub cycle_demand : Plan → StateOf → Frac

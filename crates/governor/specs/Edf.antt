@@ -20,7 +20,9 @@ load plan s d =
 abbrev pub EdfCalm : ℕ → Plan → StateOf → Type 0
 EdfCalm F plan s = (d : ℕ) → s.now ≤ d → load plan s d ≤ hyper plan * (F * (d - s.now))
 
--- for each tick d from the earliest deadline on, it fits in what the entry in force does up to that deadline, and F from there on
+-- for each tick d from the earliest deadline on, it fits in what the entry in force does up to that deadline, and F from
+-- there on
 pub record EdfSafe (F : ℕ) (plan : Plan) (s : StateOf) (k : ℕ) : Type 0 where
-  pub bound : (d : ℕ) → earliest_in plan s ≤ d → load plan s d ≤ hyper plan * (speed_at plan.machine k * (earliest_in plan s - s.now) + F * (d - earliest_in plan s))
+  pub bound : (d : ℕ) → earliest_in plan s ≤ d → load plan s d
+      ≤ hyper plan * (speed_at plan.machine k * (earliest_in plan s - s.now) + F * (d - earliest_in plan s))
   pub slower : speed_at plan.machine k ≤ F

@@ -29,7 +29,8 @@ Publishes demand kind p =
 
 -- for all demands of the jobs within their worst cases, the governor's schedule is the one that the kind gives
 abbrev pub HasScheduleOf : OwnDemand → GovernorKind → Plan → Type 0
-HasScheduleOf demand kind p = (dem : JobDemands) → IsWithin p dem → (t : ℕ) → course demand p dem t ≡ schedule p kind dem t
+HasScheduleOf demand kind p =
+    (dem : JobDemands) → IsWithin p dem → (t : ℕ) → course demand p dem t ≡ schedule p kind dem t
 
 -- what a governor's demand promises of each admitted plan whose scheduler is served
 pub record PublishingLaws (kind : GovernorKind) (serves : Serving) (demand : OwnDemand) : Type 0 where

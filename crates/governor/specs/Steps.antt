@@ -18,6 +18,7 @@ abbrev pub each_row : (ℕ → Row → Row) → ℕ → List Row → List Row
 each_row f i [] = []
 each_row f i (row ∷ rows) = f i row ∷ each_row f (suc i) rows
 
+-- a row's job is due now
 abbrev pub is_due : ℕ → Row → Bool
 is_due now row = row.deadline == now
 
@@ -25,9 +26,11 @@ is_due now row = row.deadline == now
 abbrev pub opened_row : Plan → JobDemands → ℕ → Row → Row
 opened_row plan dem i row = record (released_row (period plan i) row) { done = (dem i (row.job + 1) == 0) }
 
+-- a row after a boundary
 abbrev pub boundary_row : Plan → JobDemands → ℕ → ℕ → Row → Row
 boundary_row plan dem now i row = if is_due now row then opened_row plan dem i row else row
 
+-- all rows after it
 abbrev pub boundary_rows : Plan → JobDemands → StateOf → List Row
 boundary_rows plan dem s = each_row (boundary_row plan dem s.now) 0 s.rows
 
@@ -52,6 +55,7 @@ last_marked plan s = greatest_below (count plan) (λ i. release_of plan i (row_a
 abbrev pub left_of : JobDemands → ℕ → Row → ℕ
 left_of dem i row = if row.done then 0 else dem i row.job - row.used
 
+-- what the job of task i still needs
 abbrev pub left_in : JobDemands → StateOf → ℕ → ℕ
 left_in dem s i = left_of dem i (row_at s i)
 
@@ -79,8 +83,11 @@ pub record IsLegalIn (plan : Plan) (dem : JobDemands) (f : ℕ) (s : StateOf) (s
 
 -- a row after its units, complete if its job has had its demand
 abbrev pub tick_row : JobDemands → List ℕ → ℕ → Row → Row
-tick_row dem shares i row = record row { used = row.used + share_in shares i; done = (row.done || (row.used + share_in shares i == dem i row.job)) }
+tick_row dem shares i row =
+    let used = row.used + share_in shares i in
+    record row { used = used; done = (row.done || (used == dem i row.job)) }
 
+-- a state after a tick of these shares
 abbrev pub after_tick : JobDemands → List ℕ → StateOf → StateOf
 after_tick dem shares s = record s { now = s.now + 1; rows = each_row (tick_row dem shares) 0 s.rows }
 
@@ -88,7 +95,8 @@ after_tick dem shares s = record s { now = s.now + 1; rows = each_row (tick_row 
 abbrev pub IsBeforeAll : Plan → StateOf → Type 0
 IsBeforeAll plan s = (i : ℕ) → i < count plan → s.now < (row_at s i).deadline
 
--- a tick of these shares may follow with the entry k in force: it is legal at its speed, and now is below every deadline
+-- a tick of these shares may follow with the entry k in force: it is legal at its speed, and now is below every
+-- deadline
 pub record MayFollow (plan : Plan) (dem : JobDemands) (s : StateOf) (k : ℕ) (shares : List ℕ) : Type 0 where
   pub before : IsBeforeAll plan s
   pub entry : k < length plan.machine.points
@@ -112,4 +120,5 @@ pub record Belongs (plan : Plan) (dem : JobDemands) (s : StateOf) : Type 0 where
   pub base_at : s.base_at ≡ last_marked plan s
   pub base : (i : ℕ) → i < count plan → row_wleft (row_at s i) ≤ slice_index s.base i
   pub open_job : (i : ℕ) → i < count plan → (row_at s i).done ≡ false → (row_at s i).used < dem i (row_at s i).job
-  pub closed_job : (i : ℕ) → i < count plan → (row_at s i).done ≡ true → 0 < (row_at s i).job → (row_at s i).used ≡ dem i (row_at s i).job
+  pub closed_job : (i : ℕ) → i < count plan → (row_at s i).done ≡ true → 0 < (row_at s i).job
+      → (row_at s i).used ≡ dem i (row_at s i).job
