@@ -18,7 +18,6 @@ use dvs_base::{GovernorKind, NoMemory};
 use governor::{Choice, Governor, Publishing, earliest_deadline};
 use grid_fraction::Frac;
 use sched_model::{Admitted, State};
-use static_gov::worst_case_meets;
 use std::alloc::Global;
 
 /// Cycle-conserving RM: the speed does what is left of the allotments of the last release in the time up to the earliest
@@ -37,7 +36,7 @@ impl CcRm {
         ensures stands { IfOk result (λ g. ⟦<CcRm as Governor>⟧.stands g plan.now (opening plan.now)) }
         ensures worst { MeetsAtWorst plan.now }
     {
-        worst_case_meets(plan);
+        plan.known();
         Ok(CcRm {
             static_speed: static_speed(plan),
         })

@@ -13,12 +13,13 @@ use Rattle.freq_table.specs.Tables.{speed_at}
 use Rattle.sched_model.specs.declared.state.Row.{Row}
 use Rattle.sched_model.specs.Priority.{stands_before}
 use Rattle.sched_model.specs.Plan.{Plan, count, period, offset, worst, hyper, rate}
+use Rattle.sched_model.specs.Demands.{JobDemands}
 use Rattle.sched_model.specs.Tests.{total_rate}
 use Rattle.sched_model.specs.Admission.{IsWithinLimits}
 use Rattle.sched_model.specs.States.{StateOf, row_at, row_wleft, opening, opening_row}
 use Rattle.sched_model.proofs.Limits.{some_task, some_hyper, period_divides}
 use Rattle.sched_model.proofs.LevelSums.{sum_where-plus, sum_where-times, sum_where-term, sum_where-zero, sum_where-all, sum_below-times}
-use Rattle.governor.specs.Steps.{is_due, boundary_row, opened_row, after_boundary, wleft_at, earliest, key_of, IsLegal, after_tick, IsBeforeAll, Belongs}
+use Rattle.governor.specs.Steps.{is_due, boundary_row, opened_row, after_boundary, wleft_at, earliest_in, key_in, IsLegalIn, after_tick, IsBeforeAll, Belongs}
 use Rattle.governor.proofs.Rows.{wleft-most}
 use Rattle.governor.proofs.Belonging.{in_rows, opening_at, boundary_at, tick_at}
 use Rattle.governor.proofs.Ticks.{tick_set, demand_most}
@@ -66,7 +67,7 @@ release_pays h p q c w d now whole le within =
     let work : c * (q * p) ≡ c * h = ap (λ (x : ℕ). c * x) whole in
     rw span (omega (arith, work, mul-le-mul_left h le))
 
-term_opened : (plan : Plan) (dem : ℕ → ℕ → ℕ) (h d now i p c : ℕ) (row : Row) → period plan i ≡ p → row.worst ≡ c → h / p * p ≡ h → row.done ≡ true → row.deadline ≡ now → now ≤ d → term h d (c * (h / p)) (opened_row plan dem i row) ≤ term h d (c * (h / p)) row
+term_opened : (plan : Plan) (dem : JobDemands) (h d now i p c : ℕ) (row : Row) → period plan i ≡ p → row.worst ≡ c → h / p * p ≡ h → row.done ≡ true → row.deadline ≡ now → now ≤ d → term h d (c * (h / p)) (opened_row plan dem i row) ≤ term h d (c * (h / p)) row
 term_opened plan dem h d now i p c row per wor whole closed at_now le =
     let u = c * (h / p) in
     let before : term h d u row ≡ u * (d - now) = rw (at_now, le-leb now d le, closed) (omega (arith, mul-zero h)) in
@@ -81,7 +82,7 @@ term_opened plan dem h d now i p c row per wor whole closed at_now le =
       | inr past ↦ subst P (sym past) (omega arith)
     ])
 
-term_boundary : (plan : Plan) (dem : ℕ → ℕ → ℕ) (h d now i p c : ℕ) (row : Row) → period plan i ≡ p → row.worst ≡ c → h / p * p ≡ h → (row.deadline ≡ now → row.done ≡ true) → now ≤ d → term h d (c * (h / p)) (boundary_row plan dem now i row) ≤ term h d (c * (h / p)) row
+term_boundary : (plan : Plan) (dem : JobDemands) (h d now i p c : ℕ) (row : Row) → period plan i ≡ p → row.worst ≡ c → h / p * p ≡ h → (row.deadline ≡ now → row.done ≡ true) → now ≤ d → term h d (c * (h / p)) (boundary_row plan dem now i row) ≤ term h d (c * (h / p)) row
 term_boundary plan dem h d now i p c row per wor whole closed le =
     let P : Bool → Type 0 = λ (b : Bool). term h d (c * (h / p)) (if b then opened_row plan dem i row else row) ≤ term h d (c * (h / p)) row in
     elim (cases_Bool (is_due now row)) [
@@ -114,15 +115,15 @@ module _ (F : ℕ) (plan : Plan) (lim : IsWithinLimits plan) where
       let whole : d - (opening plan).now ≡ d = sub-zero d in
       rw whole (omega (arith, load_is plan (opening plan) d, each, sum_below-times n d (rate plan), mul-le-mul_left d fits))
 
-  module _ (dem : ℕ → ℕ → ℕ) (s : StateOf) (bel : Belongs plan dem s) where
+  module _ (dem : JobDemands) (s : StateOf) (bel : Belongs plan dem s) where
     here : (i : ℕ) → i < count plan → i < length s.rows
     here = in_rows plan dem s bel
 
-    now_first : s.now ≤ earliest plan s
+    now_first : s.now ≤ earliest_in plan s
     now_first = least-above (count plan) (λ i. (row_at s i).deadline) s.now (some_task plan lim) bel.due
 
     -- no task is due before the earliest deadline
-    none_due : (d : ℕ) → d < earliest plan s → load plan s d ≡ 0
+    none_due : (d : ℕ) → d < earliest_in plan s → load plan s d ≡ 0
     none_due d lt =
         let off : (i : ℕ) → i < count plan → due_by s d i ≡ true → ⊥ = λ i h on.
         (let g : (row_at s i).deadline ≤ d = leb-true (row_at s i).deadline d on in omega (arith, least-below (count plan) (λ i. (row_at s i).deadline) i h)) in
@@ -132,17 +133,17 @@ module _ (F : ℕ) (plan : Plan) (lim : IsWithinLimits plan) where
 
     pub edf_stays_calm : (k : ℕ) → EdfSafe F plan s k → EdfCalm F plan s
     edf_stays_calm k safe d le =
-        elim (cases_lt d (earliest plan s)) [
+        elim (cases_lt d (earliest_in plan s)) [
           | inl before ↦ rw (none_due d before) (omega arith)
           | inr from ↦
-              omega (arith, safe.bound d from, mul-le-mul_left (hyper plan) (two_speeds (speed_at plan.machine k) F s.now (earliest plan s) d safe.slower now_first from))
+              omega (arith, safe.bound d from, mul-le-mul_left (hyper plan) (two_speeds (speed_at plan.machine k) F s.now (earliest_in plan s) d safe.slower now_first from))
         ]
 
     pub edf_chooses : (k : ℕ) → speed_at plan.machine k ≡ F → EdfCalm F plan s → EdfSafe F plan s k
     edf_chooses k same calm = record {
       bound = λ d le.
-          let first : s.now ≤ earliest plan s = now_first in
-          rw (same, same_speed F s.now (earliest plan s) d first le) (calm d (omega arith));
+          let first : s.now ≤ earliest_in plan s = now_first in
+          rw (same, same_speed F s.now (earliest_in plan s) d first le) (calm d (omega arith));
       slower = omega arith;
     }
 
@@ -164,19 +165,19 @@ module _ (F : ℕ) (plan : Plan) (lim : IsWithinLimits plan) where
         let now = calm d le in
         omega (arith, load_is plan t d, load_is plan s d, falls, now)
 
-    pub edf_ticks : plan.scheduler ≡ Edf → total_rate plan ≤ F * (hyper plan) → (k : ℕ) (shares : List ℕ) → IsBeforeAll plan s → IsLegal plan dem (speed_at plan.machine k) s shares → EdfSafe F plan s k → EdfSafe F plan (after_tick dem shares s) k
+    pub edf_ticks : plan.scheduler ≡ Edf → total_rate plan ≤ F * (hyper plan) → (k : ℕ) (shares : List ℕ) → IsBeforeAll plan s → IsLegalIn plan dem (speed_at plan.machine k) s shares → EdfSafe F plan s k → EdfSafe F plan (after_tick dem shares s) k
     edf_ticks edf fits k shares before legal safe = record {
       bound = λ d le.
           let f = speed_at plan.machine k in
           let h = (hyper plan) in
           let n = count plan in
-          let a = earliest plan s in
+          let a = earliest_in plan s in
           let t = after_tick dem shares s in
-          let kept : earliest plan t ≡ a = least-same n (λ i. (row_at t i).deadline) (λ i. (row_at s i).deadline) (λ i lt. ap (λ (row : Row). row.deadline) (tick_at dem shares s i (here i lt))) in
+          let kept : earliest_in plan t ≡ a = least-same n (λ i. (row_at t i).deadline) (λ i. (row_at s i).deadline) (λ i lt. ap (λ (row : Row). row.deadline) (tick_at dem shares s i (here i lt))) in
           let due : a ≤ d = rw kept at le in
           let next : s.now + 1 ≤ a = least-above n (λ i. (row_at s i).deadline) (s.now + 1) (some_task plan lim) (λ i lt. let g = before i lt in omega (arith, g)) in
-          let down : (j i : ℕ) → j < n → i < n → stands_before (key_of plan.scheduler plan s) j i ≡ true → due_by s d i ≡ true → due_by s d j ≡ true =
-          subst (λ (sch : Scheduler). (j i : ℕ) → j < n → i < n → stands_before (key_of sch plan s) j i ≡ true → due_by s d i ≡ true → due_by s d j ≡ true) (sym edf) (λ j i lj li b on. grind (arith, nat_tests)) in
+          let down : (j i : ℕ) → j < n → i < n → stands_before (key_in plan.scheduler plan s) j i ≡ true → due_by s d i ≡ true → due_by s d j ≡ true =
+          subst (λ (sch : Scheduler). (j i : ℕ) → j < n → i < n → stands_before (key_in sch plan s) j i ≡ true → due_by s d i ≡ true → due_by s d j ≡ true) (sym edf) (λ j i lj li b on. grind (arith, nat_tests)) in
           let x : ℕ → ℕ = λ i. rate plan i * (d - (row_at s i).deadline) in
           let work : sum_where n (due_by t d) (wleft_at t) ≡ sum_where n (due_by s d) (wleft_at t) =
           sum_below-same n (λ i. if due_by t d i then wleft_at t i else 0) (λ i. if due_by s d i then wleft_at t i else 0) (λ i lt. ap (λ (row : Row). if nat_le row.deadline d then wleft_at t i else 0) (tick_at dem shares s i (here i lt))) in

@@ -7,11 +7,12 @@ use Rattle.dvs_base.specs.declared.kind.GovernorKind.TheVariants.{Plain, Fixed}
 use Rattle.dvs_base.specs.Words.{IsPair}
 use Rattle.freq_table.specs.Tables.{speed_at, lowest_entry}
 use Rattle.sched_model.specs.Plan.{Plan, count, period, top_speed}
+use Rattle.sched_model.specs.Demands.{JobDemands}
 use Rattle.sched_model.specs.StaticDemand.{full_demand, static_demand}
 use Rattle.sched_model.specs.Admission.{IsWithinLimits}
 use Rattle.sched_model.specs.States.{StateOf, row_at, opening}
 use Rattle.sched_model.proofs.Limits.{some_period}
-use Rattle.governor.specs.Steps.{after_boundary, after_tick, IsLegal, IsBeforeAll, Belongs}
+use Rattle.governor.specs.Steps.{after_boundary, after_tick, IsLegalIn, IsBeforeAll, Belongs}
 use Rattle.governor.specs.Laws.{GovernorLaws}
 use Rattle.governor.specs.Serving.{ServesBoth}
 use Rattle.governor.specs.Speeds.{unchanging, fixed_speed}
@@ -29,7 +30,7 @@ module _ (F : ℕ) (plan : Plan) (lim : IsWithinLimits plan) (enough : IsEnough 
   within : (i : ℕ) → i < count plan → period plan i ≤ period plan i
   within i h = omega arith
 
-  module _ (dem : ℕ → ℕ → ℕ) (s : StateOf) (bel : Belongs plan dem s) where
+  module _ (dem : JobDemands) (s : StateOf) (bel : Belongs plan dem s) where
     releases_by : (sch : Scheduler) → CalmBy sch F plan s → CalmBy sch F plan (after_boundary plan dem s)
     releases_by Edf calm = edf_releases F plan lim dem s bel calm
     releases_by Rm calm = rm_releases F (period plan) plan lim dem s bel (some_period plan lim) within calm
@@ -38,10 +39,10 @@ module _ (F : ℕ) (plan : Plan) (lim : IsWithinLimits plan) (enough : IsEnough 
     chooses_by Edf k same calm = edf_chooses F plan lim dem s bel k same calm
     chooses_by Rm k same calm = record { calm = calm; same = same }
 
-    ticks_by : (sch : Scheduler) → plan.scheduler ≡ sch → (k : ℕ) (shares : List ℕ) → IsBeforeAll plan s → IsLegal plan dem (speed_at plan.machine k) s shares → SafeBy sch F plan s k → SafeBy sch F plan (after_tick dem shares s) k
+    ticks_by : (sch : Scheduler) → plan.scheduler ≡ sch → (k : ℕ) (shares : List ℕ) → IsBeforeAll plan s → IsLegalIn plan dem (speed_at plan.machine k) s shares → SafeBy sch F plan s k → SafeBy sch F plan (after_tick dem shares s) k
     ticks_by Edf e k shares before legal safe = edf_ticks F plan lim dem s bel e (enough.edf e) k shares before legal safe
     ticks_by Rm e k shares before legal safe = record {
-      calm = rm_ticks F (period plan) plan lim dem s bel e (enough.rm e) shares before (subst (λ (f : ℕ). IsLegal plan dem f s shares) safe.same legal) safe.calm;
+      calm = rm_ticks F (period plan) plan lim dem s bel e (enough.rm e) shares before (subst (λ (f : ℕ). IsLegalIn plan dem f s shares) safe.same legal) safe.calm;
       same = safe.same;
     }
 
@@ -66,26 +67,26 @@ pairs_fixed Rm serves = refl
 pub full_laws : {kind : GovernorKind} → ((sch : Scheduler) → ServesBoth sch → IsPair sch kind) → GovernorLaws kind ServesBoth (unchanging full_demand) (CalmAt top_speed) (SafeAt top_speed)
 full_laws pairs = record {
   pairs = pairs;
-  low_den = λ plan s adm serves of dec. (lit< tt, lit≤ tt);
-  opens = λ plan adm serves. opens_by (top_speed plan) plan adm.limits (full_enough plan adm) plan.scheduler refl;
-  releases = λ plan dem s adm serves bel calm. releases_by (top_speed plan) plan adm.limits (full_enough plan adm) dem s bel plan.scheduler calm;
-  chooses = λ plan dem s adm serves bel dec calm. chooses_by (top_speed plan) plan adm.limits (full_enough plan adm) dem s bel plan.scheduler (lowest_entry plan.machine (full_demand plan)) (full_speed plan adm.limits) calm;
-  meets = λ plan dem s adm serves bel dec calm kind. full_met plan adm.limits;
-  ticks = λ plan dem s k shares adm serves bel before inside legal safe. ticks_by (top_speed plan) plan adm.limits (full_enough plan adm) dem s bel plan.scheduler refl k shares before legal safe;
-  stays_calm = λ plan dem s k adm serves bel safe. stays_by (top_speed plan) plan adm.limits (full_enough plan adm) dem s bel plan.scheduler k safe;
-  completes = λ plan dem s adm serves bel calm. completes_by (top_speed plan) plan adm.limits (full_enough plan adm) dem s bel plan.scheduler calm;
+  low_den = λ plan s on of dec. (lit< tt, lit≤ tt);
+  opens = λ plan on. opens_by (top_speed plan) plan on.admitted.limits (full_enough plan on.admitted) plan.scheduler refl;
+  releases = λ plan dem s run calm. releases_by (top_speed plan) plan run.admitted.limits (full_enough plan run.admitted) dem s run.belongs plan.scheduler calm;
+  chooses = λ plan dem s run dec calm. chooses_by (top_speed plan) plan run.admitted.limits (full_enough plan run.admitted) dem s run.belongs plan.scheduler (lowest_entry plan.machine (full_demand plan)) (full_speed plan run.admitted.limits) calm;
+  meets = λ plan dem s run dec calm kind. full_met plan run.admitted.limits;
+  ticks = λ plan dem s run k safe shares may. ticks_by (top_speed plan) plan run.admitted.limits (full_enough plan run.admitted) dem s run.belongs plan.scheduler refl k shares may.before may.legal safe;
+  stays_calm = λ plan dem s run k safe. stays_by (top_speed plan) plan run.admitted.limits (full_enough plan run.admitted) dem s run.belongs plan.scheduler k safe;
+  completes = λ plan dem s run calm. completes_by (top_speed plan) plan run.admitted.limits (full_enough plan run.admitted) dem s run.belongs plan.scheduler calm;
 }
 
 -- and at the static one
 pub static_laws : {kind : GovernorKind} → ((sch : Scheduler) → ServesBoth sch → IsPair sch kind) → GovernorLaws kind ServesBoth (unchanging static_demand) (CalmAt fixed_speed) (SafeAt fixed_speed)
 static_laws pairs = record {
   pairs = pairs;
-  low_den = λ plan s adm serves of dec. static_den plan adm.limits;
-  opens = λ plan adm serves. opens_by (fixed_speed plan) plan adm.limits (static_enough plan adm) plan.scheduler refl;
-  releases = λ plan dem s adm serves bel calm. releases_by (fixed_speed plan) plan adm.limits (static_enough plan adm) dem s bel plan.scheduler calm;
-  chooses = λ plan dem s adm serves bel dec calm. chooses_by (fixed_speed plan) plan adm.limits (static_enough plan adm) dem s bel plan.scheduler (lowest_entry plan.machine (static_demand plan)) refl calm;
-  meets = λ plan dem s adm serves bel dec calm kind. static_met plan adm;
-  ticks = λ plan dem s k shares adm serves bel before inside legal safe. ticks_by (fixed_speed plan) plan adm.limits (static_enough plan adm) dem s bel plan.scheduler refl k shares before legal safe;
-  stays_calm = λ plan dem s k adm serves bel safe. stays_by (fixed_speed plan) plan adm.limits (static_enough plan adm) dem s bel plan.scheduler k safe;
-  completes = λ plan dem s adm serves bel calm. completes_by (fixed_speed plan) plan adm.limits (static_enough plan adm) dem s bel plan.scheduler calm;
+  low_den = λ plan s on of dec. static_den plan on.admitted.limits;
+  opens = λ plan on. opens_by (fixed_speed plan) plan on.admitted.limits (static_enough plan on.admitted) plan.scheduler refl;
+  releases = λ plan dem s run calm. releases_by (fixed_speed plan) plan run.admitted.limits (static_enough plan run.admitted) dem s run.belongs plan.scheduler calm;
+  chooses = λ plan dem s run dec calm. chooses_by (fixed_speed plan) plan run.admitted.limits (static_enough plan run.admitted) dem s run.belongs plan.scheduler (lowest_entry plan.machine (static_demand plan)) refl calm;
+  meets = λ plan dem s run dec calm kind. static_met plan run.admitted;
+  ticks = λ plan dem s run k safe shares may. ticks_by (fixed_speed plan) plan run.admitted.limits (static_enough plan run.admitted) dem s run.belongs plan.scheduler refl k shares may.before may.legal safe;
+  stays_calm = λ plan dem s run k safe. stays_by (fixed_speed plan) plan run.admitted.limits (static_enough plan run.admitted) dem s run.belongs plan.scheduler k safe;
+  completes = λ plan dem s run calm. completes_by (fixed_speed plan) plan run.admitted.limits (static_enough plan run.admitted) dem s run.belongs plan.scheduler calm;
 }

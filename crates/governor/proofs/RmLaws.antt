@@ -11,12 +11,13 @@ use Rattle.sched_model.specs.Jobs.{release, latest_since}
 use Rattle.sched_model.specs.Jobs.{due as due_at}
 use Rattle.sched_model.specs.Priority.{stands_before}
 use Rattle.sched_model.specs.Plan.{Plan, count, period, worst}
+use Rattle.sched_model.specs.Demands.{JobDemands}
 use Rattle.sched_model.specs.Admission.{IsWithinLimits}
 use Rattle.sched_model.specs.States.{StateOf, row_at, row_wleft, opening}
 use Rattle.sched_model.proofs.JobLaws.{due-suc, release-suc, release-due, latest_since-pos}
 use Rattle.sched_model.proofs.Limits.{some_period}
 use Rattle.sched_model.proofs.LevelSums.{sum_where-mono, sum_where-plus, sum_where-term, up_to-self, up_to-trans, sum_up_to-where}
-use Rattle.governor.specs.Steps.{is_due, opened_row, after_boundary, wleft_at, release_of, share, key_of, IsLegal, after_tick, IsBeforeAll, Belongs}
+use Rattle.governor.specs.Steps.{is_due, opened_row, after_boundary, wleft_at, release_of, share_in, key_in, IsLegalIn, after_tick, IsBeforeAll, Belongs}
 use Rattle.governor.proofs.Rows.{done_none, wleft-most, or_false_left}
 use Rattle.governor.proofs.Belonging.{unborn_done, in_rows, opening_at, opened_release, boundary_at, tick_at, belongs_tick}
 use Rattle.governor.proofs.Ticks.{tick_set, demand_most}
@@ -78,7 +79,7 @@ module _ (F : ℕ) (span : ℕ → ℕ) (plan : Plan) (lim : IsWithinLimits plan
   pub rm_opens : StretchCalm F span plan (opening plan)
   rm_opens i h = inl (λ j hj on. rw (opening_at plan j hj) refl)
 
-  module _ (dem : ℕ → ℕ → ℕ) (s : StateOf) (bel : Belongs plan dem s) where
+  module _ (dem : JobDemands) (s : StateOf) (bel : Belongs plan dem s) where
     here : (i : ℕ) → i < count plan → i < length s.rows
     here = in_rows plan dem s bel
 
@@ -203,20 +204,20 @@ module _ (F : ℕ) (span : ℕ → ℕ) (plan : Plan) (lim : IsWithinLimits plan
     tick_open shares j h =
         let row = row_at s j in
         let P : Row → Type 0 = λ (new : Row). new.done ≡ false → (row.done ≡ false) × (release_of plan j new ≡ release_of plan j row) in
-        subst P (sym (tick_at dem shares s j (here j h))) (λ still. (or_false_left row.done (row.used + share shares j == dem j row.job) still, refl))
+        subst P (sym (tick_at dem shares s j (here j h))) (λ still. (or_false_left row.done (row.used + share_in shares j == dem j row.job) still, refl))
 
     done_stays : (shares : List ℕ) (j : ℕ) → j < count plan → (row_at s j).done ≡ true → (row_at (after_tick dem shares s) j).done ≡ true
     done_stays shares j h closed = rw (tick_at dem shares s j (here j h)) (rw closed refl)
 
     pub rm_ticks : plan.scheduler ≡ Rm
         → ((i : ℕ) → i < count plan → level_work_in plan (span i) i ≤ F * span i)
-        → (shares : List ℕ) → IsBeforeAll plan s → IsLegal plan dem F s shares → StretchCalm F span plan s → StretchCalm F span plan (after_tick dem shares s)
+        → (shares : List ℕ) → IsBeforeAll plan s → IsLegalIn plan dem F s shares → StretchCalm F span plan s → StretchCalm F span plan (after_tick dem shares s)
     rm_ticks rm fits shares before legal calm i h =
         let t = after_tick dem shares s in
         let n = count plan in
         let lv = level plan i in
-        let down : (j k : ℕ) → j < n → k < n → stands_before (key_of plan.scheduler plan s) j k ≡ true → lv k ≡ true → lv j ≡ true =
-        subst (λ (sch : Scheduler). (j k : ℕ) → j < n → k < n → stands_before (key_of sch plan s) j k ≡ true → lv k ≡ true → lv j ≡ true) (sym rm) (λ j k lj lk b on. up_to-trans (period plan) j k i b on) in
+        let down : (j k : ℕ) → j < n → k < n → stands_before (key_in plan.scheduler plan s) j k ≡ true → lv k ≡ true → lv j ≡ true =
+        subst (λ (sch : Scheduler). (j k : ℕ) → j < n → k < n → stands_before (key_in sch plan s) j k ≡ true → lv k ≡ true → lv j ≡ true) (sym rm) (λ j k lj lk b on. up_to-trans (period plan) j k i b on) in
         elim (tick_set plan dem F s shares lv bel legal down) [
           | inl all ↦ inl (λ j hj on. all j hj on)
           | inr falls ↦ elim (calm i h) [

@@ -6,7 +6,7 @@ use Rattle.sched_model.specs.Plan.{Plan, count}
 use Rattle.sched_model.specs.Jobs.{latest, due}
 use Rattle.sched_model.specs.Ticks.{Tick, at, exec}
 use Rattle.sched_model.specs.Demand.{published}
-use Rattle.sched_model.specs.Demands.{IsWithin, worst_demand}
+use Rattle.sched_model.specs.Demands.{IsWithin, worst_demand, JobDemands}
 use Rattle.sched_model.specs.Deadlines.{IsMet}
 use Rattle.sched_model.specs.Schedule.{schedule, schedule_by}
 use Rattle.sched_model.specs.StaticDemand.{static_demand}
@@ -25,10 +25,10 @@ use Rattle.governor.proofs.OneSpeedLaws.{pairs_fixed, static_laws}
 use Rattle.governor.proofs.PlanDemands.{published-fixed}
 
 -- the schedule under static is the course of its own demand
-pub published-fixed_by : (p : Plan) (dem : ℕ → ℕ → ℕ) → published p Fixed dem ≡ ask_of (unchanging static_demand) p dem
+pub published-fixed_by : (p : Plan) (dem : JobDemands) → published p Fixed dem ≡ ask_of (unchanging static_demand) p dem
 published-fixed_by p dem = λ j past. published-fixed p dem past j
 
-pub schedule-fixed : (p : Plan) (dem : ℕ → ℕ → ℕ) (t : ℕ) → schedule p Fixed dem t ≡ course (unchanging static_demand) p dem t
+pub schedule-fixed : (p : Plan) (dem : JobDemands) (t : ℕ) → schedule p Fixed dem t ≡ course (unchanging static_demand) p dem t
 schedule-fixed p dem t = ap (λ (ask : List Tick → Frac). schedule_by p dem ask t) (published-fixed_by p dem)
 
 pub worst-within : (p : Plan) → IsWithin p (worst_demand p)

@@ -7,10 +7,12 @@ use Rattle.sched_model.specs.States.{StateOf}
 use Rattle.governor.specs.Edf.{EdfCalm, EdfSafe}
 use Rattle.governor.specs.Rm.{RmCalm, RmSafe}
 
+-- under EDF the load fits, under RM each level is complete or in a busy stretch
 abbrev pub CalmBy : Scheduler → ℕ → Plan → StateOf → Type 0
 CalmBy Edf F plan s = EdfCalm F plan s
 CalmBy Rm F plan s = RmCalm F plan s
 
+-- the same with the entry k in force
 abbrev pub SafeBy : Scheduler → ℕ → Plan → StateOf → ℕ → Type 0
 SafeBy Edf F plan s k = EdfSafe F plan s k
 SafeBy Rm F plan s k = RmSafe F plan s k

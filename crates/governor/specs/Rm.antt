@@ -30,8 +30,10 @@ asked_since plan s b j = released_since plan j b (row_at s j).job * worst plan j
 pub record IsStretch (F long : ℕ) (plan : Plan) (s : StateOf) (i b : ℕ) : Type 0 where
   pub begun : b ≤ s.now
   pub short : s.now - b < long
-  pub since : (j : ℕ) → j < count plan → level plan i j ≡ true → (row_at s j).done ≡ false → b ≤ release_of plan j (row_at s j)
-  pub work : sum_where (count plan) (level plan i) (wleft_at s) + F * (s.now - b) ≤ sum_where (count plan) (level plan i) (asked_since plan s b)
+  pub since : (j : ℕ) → j < count plan → level plan i j ≡ true → (row_at s j).done ≡ false
+      → b ≤ release_of plan j (row_at s j)
+  pub work : sum_where (count plan) (level plan i) (wleft_at s) + F * (s.now - b)
+      ≤ sum_where (count plan) (level plan i) (asked_since plan s b)
 
 -- all jobs of the level of task i are complete
 abbrev pub IsLevelDone : Plan → StateOf → ℕ → Type 0
@@ -39,12 +41,14 @@ IsLevelDone plan s i = (j : ℕ) → j < count plan → level plan i j ≡ true 
 
 -- each level is done, or in a busy stretch shorter than its bound
 abbrev pub StretchCalm : ℕ → (ℕ → ℕ) → Plan → StateOf → Type 0
-StretchCalm F long plan s = (i : ℕ) → i < count plan → IsLevelDone plan s i ⊎ ((b : ℕ) × IsStretch F (long i) plan s i b)
+StretchCalm F long plan s =
+    (i : ℕ) → i < count plan → IsLevelDone plan s i ⊎ ((b : ℕ) × IsStretch F (long i) plan s i b)
 
 -- the bound of a level is the period of its task
 abbrev pub RmCalm : ℕ → Plan → StateOf → Type 0
 RmCalm F plan s = StretchCalm F (period plan) plan s
 
+-- and the speed of the entry k is F
 pub record RmSafe (F : ℕ) (plan : Plan) (s : StateOf) (k : ℕ) : Type 0 where
   pub calm : RmCalm F plan s
   pub same : speed_at plan.machine k ≡ F

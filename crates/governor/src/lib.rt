@@ -5,12 +5,11 @@
 #![tactic(auto)]
 
 ghost use Rattle.std.specs.Prelude.{◌≡◌, ℕ, ◌≤◌, IfOk};
-ghost use Rattle.dvs_base.specs.declared.kind.Scheduler.{Scheduler as SchedulerOf};
 ghost use Rattle.dvs_base.specs.declared.kind.GovernorKind.{GovernorKind as KindOf};
-ghost use Rattle.grid_fraction.specs.declared.Frac.{Frac as FracOf};
 ghost use Rattle.freq_table.specs.Tables.{lowest_entry, lowest_pick};
 ghost use Rattle.sched_model.specs.Plan.{Plan};
 ghost use Rattle.sched_model.specs.States.{StateOf, opening, after_release, after_run, after_finish, after_mark, after_advance, IsOfPlan, CanRelease, CanRun, CanFinish};
+ghost use Rattle.governor.specs.Meanings.{Serving, OwnDemand, Condition, EntryCondition};
 ghost use Rattle.governor.specs.Steps.{IsAtDecision};
 ghost use Rattle.governor.specs.Laws.{GovernorLaws};
 ghost use Rattle.governor.specs.Schedule.{PublishingLaws};
@@ -38,16 +37,16 @@ pub trait Governor: Drop {
     ghost the_kind: { KindOf };
 
     /// The schedulers that it serves.
-    ghost serves: { SchedulerOf → Type 0 };
+    ghost serves: { Serving };
 
     /// Its published demand.
-    ghost demand: { Plan → StateOf → FracOf };
+    ghost demand: { OwnDemand };
 
     /// What is kept from boundary to boundary.
-    ghost calm: { Plan → StateOf → Type 0 };
+    ghost calm: { Condition };
 
     /// What is kept while an entry is in force.
-    ghost safe: { Plan → StateOf → ℕ → Type 0 };
+    ghost safe: { EntryCondition };
 
     /// The value's counters are their formulas over this plan and state.
     ghost stands: { Self → Plan → StateOf → Type 0 };

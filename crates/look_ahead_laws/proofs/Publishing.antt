@@ -5,6 +5,7 @@ use Rattle.dvs_base.specs.declared.kind.GovernorKind.TheVariants.{Ahead}
 use Rattle.grid_fraction.proofs.Least.{least-same}
 use Rattle.sched_model.specs.declared.state.Row.{Row}
 use Rattle.sched_model.specs.Plan.{Plan, count, rate}
+use Rattle.sched_model.specs.Demands.{JobDemands}
 use Rattle.sched_model.specs.Jobs.{deadline}
 use Rattle.sched_model.specs.Ticks.{Tick, wleft}
 use Rattle.sched_model.specs.Order.{in_order}
@@ -52,7 +53,7 @@ module _ (p : Plan) (due due' left left' : ℕ → ℕ) (same : (i : ℕ) → i 
       (due_first-same (in_order due (count p)) (in_order-below due (count p)) ∙ ap (due_first p due' left') (in_order-same due due' (count p) same))
       (ap (λ a. a - t) first_same)
 
-module _ (p : Plan) (dem : ℕ → ℕ → ℕ) (past : List Tick) where
+module _ (p : Plan) (dem : JobDemands) (past : List Tick) where
   row_is : (i : ℕ) → i < count p → row_at (state_of p dem past) i ≡ row_of p dem past i
   row_is i lt = get-table (count p) (row_of p dem past) i no_row lt
 
@@ -65,7 +66,7 @@ module _ (p : Plan) (dem : ℕ → ℕ → ℕ) (past : List Tick) where
       (length past)
 
 -- after any ticks, whatever the demands of the jobs
-pub published-ahead : (p : Plan) → ServesEdf p.scheduler → (dem : ℕ → ℕ → ℕ) (past : List Tick) → published p Ahead dem past ≡ ahead_demand p (state_of p dem past)
+pub published-ahead : (p : Plan) → ServesEdf p.scheduler → (dem : JobDemands) (past : List Tick) → published p Ahead dem past ≡ ahead_demand p (state_of p dem past)
 unfolding published
 published-ahead p serves dem past =
     subst (λ (sch : Scheduler). demand_by sch Ahead p dem past ≡ ahead_demand p (state_of p dem past)) (sym serves) (ahead-is p dem past)

@@ -7,6 +7,7 @@ ghost use Rattle.sched_model.specs.States.{opening, IsOfPlan};
 ghost use Rattle.governor.specs.Steps.{IsAtDecision};
 ghost use Rattle.governor.specs.Serving.{ServesBoth};
 ghost use Rattle.governor.specs.Speeds.{unchanging, fixed_speed};
+ghost use Rattle.governor.specs.Worst.{MeetsAtWorst};
 ghost use Rattle.governor.specs.OneSpeed.{CalmAt, SafeAt};
 ghost use Rattle.governor.proofs.OneSpeedLaws.{pairs_fixed, static_laws};
 ghost use Rattle.governor.proofs.PlanDemands.{fixed_publishing};
@@ -25,10 +26,13 @@ pub struct Static {
 
 impl Static {
     /// The governor for a plan, before the first release. It takes no memory and is never refused.
+    /// With every job at its worst case its schedule meets every deadline, whatever its length.
     pub fn new(_alloc: Global, plan: &Admitted) -> Result<Static, NoMemory>
         ensures made { IsOk result }
         ensures stands { IfOk result (λ g. ⟦<Static as Governor>⟧.stands g plan.now (opening plan.now)) }
+        ensures worst { MeetsAtWorst plan.now }
     {
+        plan.known();
         Ok(Static {
             demand: plan.static_demand(),
         })
