@@ -1,1 +1,2 @@
 pub mod SameState
+pub mod SameCourse
