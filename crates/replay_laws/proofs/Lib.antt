@@ -1,2 +1,4 @@
 pub mod SameState
 pub mod SameCourse
+pub mod HeldUnits
+pub mod SameNotes
