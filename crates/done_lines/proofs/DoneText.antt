@@ -31,7 +31,7 @@ use Rattle.sched_model.specs.Notes.{notes_of, notes_before_end, energy_run, ener
 use Rattle.sched_model.specs.Text.{trace_text}
 use Rattle.sched_model.proofs.Limits.{every_period, low_period}
 use Rattle.sched_model.proofs.ScheduleLemmas.{schedule_exists}
-use Rattle.sched_model.proofs.Service.{exec-most}
+use Rattle.sched_model.proofs.Service.{exec-most, exec-drop}
 use Rattle.sched_model.proofs.JobLaws.{le-due, release-due}
 use Rattle.done_lines.specs.DoneLines.{IsDoneLine, IsBy, IsToldBy, TellsDeadlines, TextTellsDeadlines}
 use Rattle.trace_text.proofs.PlainLines.{IsPlain, ArePlain, all-each, each-append, plain-decimal, plain-name, some-name, lines-line, field-same, and-left, and-right}
@@ -150,12 +150,6 @@ is_by t q e = go (cases_lt q.tick t) (nat_lt t q.tick) refl (nat_lt 0 q.offset) 
         let none : q.offset ≡ 0 = grind (arith, nat_tests) in
         let here : q.tick ≡ t = grind (arith, nat_tests) in
         inr (here, none)
-
--- earlier ticks gave no more
-exec-drop : (p : Plan) (i k n : ℕ) (ticks : List Tick) → exec p (drop n ticks) i k ≤ exec p ticks i k
-exec-drop p i k zero ticks = omega arith
-exec-drop p i k (suc n) [] = omega arith
-exec-drop p i k (suc n) (x ∷ ticks) = omega (arith, exec-drop p i k n ticks)
 
 module _ (p : Plan) (dem : ℕ → ℕ → ℕ) (ask : List Tick → Frac) (lim : IsWithinLimits p) (ticks : List Tick) (sched : IsScheduleBy p dem ask ticks)
     (most : (i k : ℕ) → i < count p → exec p ticks i k ≤ dem i k) (low : length ticks ≤ 2 ^ 40) where
