@@ -33,6 +33,7 @@ number_from low high None = Err fault.Kind
 number_from low high (Some (pos n)) = if nat_le low n && nat_le n high then Ok n else Err fault.Range
 number_from low high (Some (negsuc n)) = Err fault.Range
 
+-- the whole number of a key, where there is one within its limits
 abbrev pub number_at : ℕ → ℕ → Option Data → Result ℕ MemberFault
 number_at low high None = Err fault.Missing
 number_at low high (Some value) = number_from low high (as_integer value)
@@ -42,6 +43,7 @@ abbrev pub text_from : Option (List ℕ) → Result (List ℕ) MemberFault
 text_from None = Err fault.Kind
 text_from (Some text) = Ok text
 
+-- the text of a key
 abbrev pub text_at : Option Data → Result (List ℕ) MemberFault
 text_at None = Err fault.Missing
 text_at (Some value) = text_from (as_str value)

@@ -1,5 +1,5 @@
 // A document and what its keys hold.
-ghost use Rattle.std.specs.Prelude.{◌≡◌, ◌≢◌, ◌≤◌, ◌<◌, ◌^◌, Some, None, Ok, MatchResult, not, find, map, option_map, string_bytes};
+ghost use Rattle.std.specs.Prelude.{◌≡◌, ◌≤◌, ◌<◌, ◌^◌, Some, None, Ok, IfOk, IsErrOf, not, find, map, option_map, string_bytes};
 ghost use Rattle.std.specs.List.{list_any};
 ghost use Rattle.std.specs.Str.{bytes_eq};
 ghost use Rattle.std.specs.Option.{option_copied};
@@ -18,21 +18,27 @@ use toml::{Table, Value};
 /// Why bytes give no document.
 #[derive(Clone, Copy, Debug, PartialEq, Eq)]
 pub enum DocumentFault {
+    /// They are no TOML document.
     NotToml,
+    /// Memory ran out, which says nothing of the bytes.
     NoMemory,
 }
 
 /// Why a key gives no value: nothing stands there, a value of another kind, or a number outside its limits.
 #[derive(Clone, Copy, Debug, PartialEq, Eq)]
 pub enum MemberFault {
+    /// The table lacks the key.
     Missing,
+    /// A value of another kind stands there.
     Kind,
+    /// The number is outside its limits.
     Range,
 }
 
 /// The document of the bytes, as an untyped table. Bytes that are not UTF-8 are not TOML.
 pub fn read_document(alloc: Global, bytes: &[u8]) -> Result<Table, DocumentFault>
-    ensures { MatchResult result (λ t. document_of bytes.now ≡ Some (table_view t)) (λ e. (e ≢ DocumentFault.NoMemory) → (e ≡ DocumentFault.NotToml) × (document_of bytes.now ≡ None)) }
+    ensures document { IfOk result (λ t. document_of bytes.now ≡ Some (table_view t)) }
+    ensures refused { IsErrOf result DocumentFault.NotToml → document_of bytes.now ≡ None }
 {
     match toml::table_from_slice(alloc, bytes) {
         Ok(table) => Ok(table),

@@ -13,17 +13,19 @@ pub record Table : Type 0 where
   pub idle : ℕ
   pub charge : ℕ
 
--- an entry, and its speed
+-- an entry by its number
 abbrev pub point_at : Table → ℕ → Point
 point_at m e = slice_index_or m.points e (record { speed = 0; millivolts = 0 })
 
+-- the speed of an entry
 abbrev pub speed_at : Table → ℕ → ℕ
 speed_at m e = (point_at m e).speed
 
--- the last entry, and fm, its speed
+-- the last entry
 abbrev pub last_entry : Table → ℕ
 last_entry m = length m.points - 1
 
+-- fm, the speed of the last entry
 abbrev pub highest_speed : Table → ℕ
 highest_speed m = speed_at m (last_entry m)
 

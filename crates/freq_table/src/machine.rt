@@ -72,9 +72,10 @@ impl Machine {
         }
     }
 
-    /// An equal machine. It fails only where memory runs out.
+    /// An equal machine, within the limits that every machine keeps. It fails only where memory runs out.
     pub fn copy(&self, alloc: Global) -> Result<Machine, NoMemory>
-        ensures { IfOk result (λ m. m ≡ self.now) }
+        ensures equal { IfOk result (λ m. m ≡ self.now) }
+        ensures limits { IfOk result (λ m. IsTable m) }
     {
         Machine::of(alloc, self.idle, self.charge, &self.points)
     }
@@ -123,22 +124,17 @@ impl Machine {
 
     /// What an idle unit costs, in thousandths of a running unit at the same entry.
     pub fn idle(&self) -> u64
-        ensures { result ≡ self.now.idle }
+        ensures idle { result ≡ self.now.idle }
+        ensures low { result ≤ MOST_IDLE }
     {
         self.idle
     }
 
     /// The work units that a switch of speed costs.
     pub fn charge(&self) -> u64
-        ensures { result ≡ self.now.charge }
+        ensures charge { result ≡ self.now.charge }
+        ensures low { result ≤ MOST_CHARGE }
     {
         self.charge
-    }
-
-    /// The limits that every machine keeps.
-    pub fn known(&self)
-        ensures { IsTable self.now }
-    {
-        let _idle = &self.idle;
     }
 }

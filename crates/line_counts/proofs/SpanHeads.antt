@@ -20,7 +20,7 @@ use Rattle.sched_model.specs.States.{prior_row}
 use Rattle.sched_model.proofs.LevelSums.{share-most}
 use Rattle.sched_model.proofs.Joining.{due_released, same_job}
 use Rattle.sched_model.proofs.OrderLemmas.{AreBelow, in_order-below}
-use Rattle.done_lines.proofs.PlainLines.{each-append}
+use Rattle.trace_text.proofs.PlainLines.{each-append}
 
 pub or-left : (a b : Bool) → (a || b) ≡ false → a ≡ false
 or-left true b e = absurd (true≢false e)

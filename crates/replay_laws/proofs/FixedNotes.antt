@@ -19,7 +19,7 @@ use Rattle.sched_model.specs.Admission.{IsWithinLimits}
 use Rattle.sched_model.specs.Segments.{Span, Piece, pieces_of, position_of}
 use Rattle.sched_model.specs.Notes.{release_notes, all_release_notes, had_by, segment_notes, pieces_notes, span_notes, energy_run, energy_idle, notes_before_end, notes_of}
 use Rattle.sched_model.proofs.NoteLemmas.{notes-span}
-use Rattle.done_lines.proofs.PlainLines.{each-append}
+use Rattle.trace_text.proofs.PlainLines.{each-append}
 use Rattle.done_lines.proofs.DoneNotes.{tells_done, times}
 use Rattle.done_lines.proofs.DoneSpans.{IsLastSpan, last-span}
 use Rattle.replay_laws.specs.FixedDemands.{fixed_of}

@@ -13,7 +13,7 @@ use Rattle.sched_model.specs.Decision.{is_decision}
 use Rattle.sched_model.specs.Admission.{IsWithinLimits}
 use Rattle.sched_model.specs.Segments.{same_holder, units_of, Span, lengthened, spans_of, Piece, before_pieces, pieces_of}
 use Rattle.sched_model.proofs.OrderLemmas.{AreBelow, in_order-below}
-use Rattle.done_lines.proofs.PlainLines.{each-append}
+use Rattle.trace_text.proofs.PlainLines.{each-append}
 use Rattle.replay_laws.proofs.SameState.{latest-early}
 
 -- what follows from a fact of each is a fact of each

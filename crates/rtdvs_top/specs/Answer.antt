@@ -2,8 +2,9 @@
 use Rattle.std.specs.Prelude.{ℕ, ◌*◌, List, [], ◌∷◌, length, nat_lt, find, codes, decimal, Option, Some, None, Result, Ok, Err, if◌then◌else◌}
 use Rattle.dvs_base.specs.Checks.{and_then}
 use Rattle.dvs_base.specs.Outside.{Files, file_of}
-use Rattle.dvs_base.specs.Words.{scheduler_word}
-use Rattle.dvs_base.specs.TraceLines.{line, fraction_text}
+use Rattle.trace_text.specs.Words.{scheduler_word}
+use Rattle.dvs_base.specs.Parts.{fraction_text}
+use Rattle.trace_text.specs.TraceLines.{line}
 use Rattle.dvs_base.specs.declared.kind.Scheduler.{Scheduler}
 use Rattle.dvs_base.specs.declared.kind.Scheduler.TheVariants.{Edf, Rm}
 use Rattle.dvs_base.specs.declared.kind.GovernorKind.{GovernorKind}

@@ -2,7 +2,7 @@
 use Rattle.std.specs.Prelude.{ℕ, ◌==◌, List, [], ◌∷◌, codes, if◌then◌else◌}
 use Rattle.std.specs.Fmt.{decimal}
 use Rattle.dvs_base.specs.Parts.{joined}
-use Rattle.dvs_base.specs.TraceLines.{name_of}
+use Rattle.trace_text.specs.TraceLines.{name_of}
 use Rattle.task_model.specs.declared.fault.Field.{Field}
 use Rattle.task_model.specs.declared.fault.Field.TheVariants as task_field
 use Rattle.task_model.specs.declared.fault.TaskFault.{TaskFault}

@@ -2,7 +2,7 @@
 ghost use Rattle.std.specs.Prelude.{◌≡◌, ◌+◌, ◌≤◌, ◌<◌, [], ◌∷◌, length, map, codes, Option, if◌then◌else◌};
 ghost use Rattle.std.specs.Fmt.{decimal};
 ghost use Rattle.dvs_base.specs.Parts.{joined, part_text, most_bytes};
-ghost use Rattle.dvs_base.specs.TraceLines.{name_of};
+ghost use Rattle.trace_text.specs.TraceLines.{name_of};
 ghost use Rattle.rtdvs_top.specs.Refusals.{file_word, task_field_word, machine_field_word, column_word, at_place, at_row, task_fault_text, machine_fault_text, demand_fault_text, over_worst_text, text_fault_text, denied_text, status_text};
 ghost use Rattle.std.specs.Option.{option_copied};
 ghost use Rattle.rtdvs_top.specs.Naming.{names_of, name_text};

@@ -6,7 +6,7 @@ ghost use Rattle.sched_model.specs.Admission.{PassesTest};
 ghost use Rattle.sched_model.specs.States.{opening};
 ghost use Rattle.sched_model.specs.Schedule.{HasSchedule, HasNoOther};
 ghost use Rattle.sched_model.specs.Text.{trace_text};
-ghost use Rattle.dvs_base.specs.TraceLines.{note_text};
+ghost use Rattle.trace_text.specs.TraceLines.{note_text};
 ghost use Rattle.event_kernel.specs.Runs.{IsListOf, notes_of_run, MeetsDeadlines, MeetsDemands};
 ghost use Rattle.rtdvs_top.specs.Answer.{admission, answer_of_plan, admitted_text};
 ghost use Rattle.rtdvs_top.specs.Causes.{EndsWith, IsNoLoad};

@@ -14,7 +14,7 @@ use Rattle.sched_model.specs.Order.{in_order}
 use Rattle.sched_model.specs.Demand.{published}
 use Rattle.sched_model.specs.Schedule.{schedule_by}
 use Rattle.sched_model.specs.Notes.{notes_before_end}
-use Rattle.dvs_base.specs.TraceLines.{note_text}
+use Rattle.trace_text.specs.TraceLines.{note_text}
 use Rattle.sched_model.specs.Text.{run_text}
 use Rattle.sched_model.proofs.Examples.{row, paper_example, paper_demands, heavy_set, two_tasks, late_second, late_alone, controller, controller_demands, early_and_late, due_together, due_together_demands, equal_periods, long_and_short, freed_units, freed_units_demands}
 

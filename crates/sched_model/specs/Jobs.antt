@@ -1,4 +1,4 @@
--- When the jobs of a task are released and due, and which is the latest. Only the first three know offsets and periods; all else speaks of them.
+-- When the jobs of a task are released and due, and which is the latest.
 use Rattle.std.specs.Prelude.{ℕ, zero, suc, ◌+◌, ◌*◌, ◌-◌, ◌/◌, Bool, nat_eq, nat_le, nat_lt, ◌&&◌, if◌then◌else◌}
 use Rattle.grid_fraction.specs.Numbers.{any_below, least_below, last_up_to, sum_below, ceil_div}
 use Rattle.sched_model.specs.Plan.{Plan, count, period, offset}
@@ -24,10 +24,11 @@ latest_since p i (suc k) = release p i (suc k)
 abbrev pub deadline : Plan → ℕ → ℕ → ℕ
 deadline p i t = due p i (latest p i t)
 
--- whether a job of task i is released at t, and whether any job is
+-- whether a job of task i is released at t
 abbrev pub releases_at : Plan → ℕ → ℕ → Bool
 releases_at p i t = nat_eq (release p i (latest p i t)) t
 
+-- whether any job is released at t
 abbrev pub is_release : Plan → ℕ → Bool
 is_release p t = any_below (count p) (λ i. releases_at p i t)
 

@@ -45,6 +45,7 @@ unfoldable pub schedule_by : Plan → (ℕ → ℕ → ℕ) → (List Tick → F
 schedule_by p dem ask zero = []
 schedule_by p dem ask (suc t) = let past = schedule_by p dem ask t in next_tick p dem ask past ∷ past
 
+-- the one schedule of t ticks under a governor: by its published demand
 abbrev pub schedule : Plan → GovernorKind → (ℕ → ℕ → ℕ) → ℕ → List Tick
 schedule p g dem = schedule_by p dem (published p g dem)
 

@@ -15,10 +15,11 @@ use Rattle.task_model.specs.declared.fault.TaskFault.{TaskFault}
 use Rattle.task_model.specs.declared.fault.TaskFault.TheVariants as fault
 use Rattle.task_model.specs.Tasks.{hyper_of}
 
--- the keys of the document, and of a task
+-- the keys of the document
 abbrev pub file_keys : List (List ℕ)
 file_keys = codes "task" ∷ []
 
+-- the keys of a task
 abbrev pub task_keys : List (List ℕ)
 task_keys = codes "name" ∷ codes "period" ∷ codes "worst" ∷ codes "offset" ∷ []
 
@@ -33,6 +34,7 @@ fault_at place field member_fault.Missing = fault.Missing place field
 fault_at place field member_fault.Kind = fault.Kind place field
 fault_at place field member_fault.Range = fault.Range place field
 
+-- what stands at a key, or the trouble with it
 abbrev pub at_field : {A : Type 0} → ℕ → Field → Result A MemberFault → Result A TaskFault
 at_field place field (Ok value) = Ok value
 at_field place field (Err e) = Err (fault_at place field e)
@@ -41,6 +43,7 @@ at_field place field (Err e) = Err (fault_at place field e)
 abbrev pub name_of : ℕ → List ℕ → Result (List ℕ) TaskFault
 name_of place text = if is_name text then Ok text else Err (fault.BadName place)
 
+-- the name of a task, of the value at its key
 abbrev pub name_at : ℕ → Option Data → Result (List ℕ) TaskFault
 name_at place value = and_then (at_field place field.Name (text_at value)) (name_of place)
 
@@ -59,10 +62,12 @@ task_of_members place ms =
     and_then (offset_at place (get_member (codes "offset") ms)) (λ offset.
     Ok record { name = name; period = period; worst = worst; offset = offset })))))
 
+-- an entry that is a table
 abbrev pub task_of_table : ℕ → Option Members → Result Task TaskFault
 task_of_table place None = Err (fault.Kind place field.Entry)
 task_of_table place (Some ms) = task_of_members place ms
 
+-- an entry of the array, whatever it is
 abbrev pub task_of : ℕ → Data → Result Task TaskFault
 task_of place value = task_of_table place (as_table value)
 
@@ -93,10 +98,12 @@ entries_from (Some no_items) = Err fault.NoTasks
 entries_from (Some (item value rest)) =
     if nat_lt MOST_TASKS (count_of (item value rest)) then Err (fault.TooMany (count_of (item value rest))) else and_then (tasks_from [] (item value rest)) within_hyper
 
+-- the tasks of the document, of the value at the key of the array
 abbrev pub entries_at : Option Data → Result (List Task) TaskFault
 entries_at None = Err fault.NoTasks
 entries_at (Some value) = entries_from (as_array value)
 
+-- the tasks of a document: its keys, and then the array
 abbrev pub tasks_of_document : Option Members → Result (List Task) TaskFault
 tasks_of_document None = Err fault.NotToml
 tasks_of_document (Some ms) = no_unknown 0 (unknown_key file_keys ms) (entries_at (get_member (codes "task") ms))

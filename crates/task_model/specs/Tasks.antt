@@ -1,5 +1,5 @@
 -- Tasks within the limits.
-use Rattle.std.specs.Prelude.{◌≡◌, ℕ, ◌<◌, ◌≤◌, List, length, map, slice_index_or, [], true}
+use Rattle.std.specs.Prelude.{◌≡◌, ℕ, ◌<◌, ◌≤◌, List, length, map, slice_index_or, [], true, nat_le, Option, Some, None, if◌then◌else◌}
 use Rattle.dvs_base.specs.Text.{is_name}
 use Rattle.grid_fraction.specs.Fraction.{least_common_multiple}
 use Rattle.task_model.specs.declared.limits.TheConstants.{MOST_TASKS, LONGEST_PERIOD, MOST_WORK, LATEST_OFFSET, LONGEST_HYPERPERIOD}
@@ -9,10 +9,15 @@ use Rattle.task_model.specs.declared.task.Task.{Task}
 abbrev pub hyper_of : List Task → ℕ
 hyper_of tasks = least_common_multiple (map (λ t. t.period) tasks)
 
+-- a value where a number is within a limit, and else none
+abbrev pub where_within : {A : Type 0} → ℕ → ℕ → A → Option A
+where_within most n value = if nat_le n most then Some value else None
+
 -- a task that no set has, for places past the end
 abbrev pub no_task : Task
 no_task = record { name = []; period = 1; worst = 0; offset = 0 }
 
+-- a task of a list, by its number
 abbrev pub task_at : List Task → ℕ → Task
 task_at tasks i = slice_index_or tasks i no_task
 

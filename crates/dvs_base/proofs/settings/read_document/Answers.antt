@@ -17,8 +17,8 @@ by_test false parsed h = refl
 refused : (bytes : List ℕ) → (IsUtf8 bytes → parse_document bytes ≡ None) → document_of bytes ≡ None
 refused bytes h = by_test (is_utf8 bytes) (parse_document bytes) (λ t. h (IsUtf8-from_is_utf8 bytes t))
 
-pub returns-in-Ok : goal.returns-in-Ok
-returns-in-Ok c = known c.args.bytes.now _ c.in-Ok.ensures.ok.0 c.in-Ok.ensures.ok.1
+pub returns-in-Ok-clause-document : goal.returns-in-Ok-clause-document
+returns-in-Ok-clause-document c = known c.args.bytes.now _ c.in-Ok.ensures.ok.0 c.in-Ok.ensures.ok.1
 
-pub returns-else-is_memory : goal.returns-else-is_memory
-returns-else-is_memory c _ = (refl, refused c.args.bytes.now (c.in-Err.ensures.refused (λ m. false≢true (c.if-is_memory.ensures.1 m))))
+pub returns-else-is_memory-clause-refused : goal.returns-else-is_memory-clause-refused
+returns-else-is_memory-clause-refused c _ = refused c.args.bytes.now (c.in-Err.ensures.refused (λ m. false≢true (c.if-is_memory.ensures.1 m)))
