@@ -1,5 +1,5 @@
 -- The demand of cycle conservation under EDF (Pillai and Shin 2001), and what its counters stand for.
-use Rattle.std.specs.Prelude.{◌≡◌, ℕ, ◌<◌, if◌then◌else◌, List, length, slice_index}
+use Rattle.std.specs.Prelude.{◌≡◌, ℕ, ◌+◌, ◌-◌, ◌<◌, if◌then◌else◌, List, length, slice_index}
 use Rattle.grid_fraction.specs.declared.Frac.{Frac}
 use Rattle.sched_model.specs.declared.state.Row.{Row}
 use Rattle.sched_model.specs.Plan.{Plan, count}
@@ -18,6 +18,10 @@ charged_rate_in plan s i = rate_for plan i (charged_of (row_at s i))
 -- the sum of the rates over H, not reduced
 abbrev pub cycle_demand : Plan → StateOf → Frac
 cycle_demand plan s = edf_cycle_of plan (λ i. charged_of (row_at s i))
+
+-- their sum, once task i is charged with so many units
+abbrev pub sum_charged : Plan → List ℕ → ℕ → ℕ → ℕ → ℕ
+sum_charged plan rates sum i units = sum - slice_index rates i + rate_for plan i units
 
 -- the kept rates and their sum are their formulas, and the scheduler is EDF
 pub record Counts (rates : List ℕ) (sum : ℕ) (plan : Plan) (s : StateOf) : Type 0 where

@@ -19,7 +19,7 @@ use Rattle.sched_model.proofs.JobLaws.{latest-is, latest-unique, latest_since-po
 use Rattle.sched_model.proofs.LevelSums.{sum_where-term, up_to-self, greatest-above, greatest-least}
 use Rattle.governor.specs.Steps.{is_due, opened_row, after_boundary, wleft_at, release_of, earliest_in, Belongs}
 use Rattle.governor.proofs.Rows.{wleft-most}
-use Rattle.governor.proofs.Belonging.{unborn_done, in_rows, boundary_at}
+use Rattle.governor.proofs.Belonging.{earliest-from, unborn_done, in_rows, boundary_at}
 use Rattle.governor.proofs.Ticks.{demand_most}
 use Rattle.governor.specs.Rm.{level}
 use Rattle.governor.proofs.EdfLaws.{closed_row}
@@ -29,9 +29,6 @@ use Rattle.cc_rm_laws.proofs.Allotting.{allotment-most}
 use Rattle.cc_rm_laws.proofs.Backlog.{lack, lack_after, lack-is, IsQuiet, quiet_row, lack-none, released-lack, after-least, backlog-empties}
 
 module _ (plan : Plan) (adm : IsAdmitted plan) (dem : JobDemands) (s : StateOf) (bel : Belongs plan dem s) where
-  pub now-first : s.now ≤ earliest_in plan s
-  now-first = least-above (count plan) (λ i. (row_at s i).deadline) s.now (some_task plan adm.limits) bel.due
-
   pub first-due : (i : ℕ) → i < count plan → earliest_in plan s ≤ (row_at s i).deadline
   first-due i h = least-below (count plan) (λ i. (row_at s i).deadline) i h
 
@@ -99,7 +96,7 @@ module _ (plan : Plan) (adm : IsAdmitted plan) (dem : JobDemands) (s : StateOf) 
     completed-too calm at_due i h born before none =
         let row = row_at s i in
         let r = s.base_at in
-        let by : r ≤ earliest_in plan s = omega (arith, base-by, now-first) in
+        let by : r ≤ earliest_in plan s = omega (arith, base-by, earliest-from plan adm.limits dem s bel) in
         elim (cases_lt (release_of plan i row) r) [
           | inl earlier ↦ elim (cases_lt 0 (lack plan r i)) [
             | inl lacks ↦
@@ -123,7 +120,7 @@ module _ (plan : Plan) (adm : IsAdmitted plan) (dem : JobDemands) (s : StateOf) 
     pub cc_rm_completes : CcRmCalm plan s → (i : ℕ) → i < count plan → (row_at s i).deadline ≡ s.now → (row_at s i).done ≡ true
     cc_rm_completes calm i h e =
         let row = row_at s i in
-        let at_due : s.now ≡ earliest_in plan s = omega (arith, now-first, first-due i h) in
+        let at_due : s.now ≡ earliest_in plan s = omega (arith, earliest-from plan adm.limits dem s bel, first-due i h) in
         elim (cases_lt 0 row.job) [
           | inl born ↦
               let long = release-due plan i row.job born in

@@ -20,13 +20,13 @@ use Rattle.sched_model.proofs.DownSets.{down-set-gets}
 use Rattle.sched_model.proofs.LevelSums.{sum_where-mono, sum_where-plus, sum_where-zero, level-gets}
 use Rattle.governor.specs.Steps.{each_row, is_due, boundary_row, opened_row, after_boundary, wleft_at, release_of, earliest_in, Belongs}
 use Rattle.governor.proofs.Rows.{none_due_at, some_due_at, or_false_right, done_none}
-use Rattle.governor.proofs.Belonging.{in_rows, opening_at, boundary_at, belongs_boundary, decision_boundary, opened_release, earliest-later}
+use Rattle.governor.proofs.Belonging.{earliest-from, in_rows, opening_at, boundary_at, belongs_boundary, decision_boundary, opened_release, earliest-later}
 use Rattle.governor.specs.Rm.{level}
 use Rattle.cc_rm_laws.specs.Allotments.{base_of, allotted_units, allotted_in, allotment_left_in}
 use Rattle.cc_rm_laws.specs.Conditions.{LacksNothing, CcRmCalm}
 use Rattle.cc_rm_laws.proofs.Lefts.{left-marked}
 use Rattle.cc_rm_laws.proofs.Backlog.{lack, lack_after, lack-is, level_down, backlog-span, backlog-where}
-use Rattle.cc_rm_laws.proofs.Deadlines.{now-first, first-due, quiet, allotted-most, level-most, completed-too, row-adds}
+use Rattle.cc_rm_laws.proofs.Deadlines.{first-due, quiet, allotted-most, level-most, completed-too, row-adds}
 
 -- nothing is allotted before the first release
 module _ (plan : Plan) where
@@ -77,7 +77,7 @@ module _ (plan : Plan) (adm : IsAdmitted plan) (rm : plan.scheduler ≡ Rm) (dem
       let found = some_due_at (is_due s.now) s.rows some in
       let at_now : (row_at s found.0).deadline ≡ s.now = eqb-true (row_at s found.0).deadline s.now found.2 in
       let h : found.0 < count plan = (let g = found.1 in omega (arith, bel.of.rows)) in
-      omega (arith, at_now, now-first plan adm dem s bel, first-due plan adm dem s bel found.0 h)
+      omega (arith, at_now, earliest-from plan adm.limits dem s bel, first-due plan adm dem s bel found.0 h)
 
   mark_now : marked.base_at ≡ s.now
   mark_now = ap (λ (b : Bool). if b then s.now else s.base_at) some

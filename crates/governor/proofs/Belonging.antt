@@ -277,3 +277,7 @@ belongs_tick plan dem f s shares bel before legal =
 -- before all deadlines, the earliest one is later than now
 pub earliest-later : (plan : Plan) → IsWithinLimits plan → (s : StateOf) → IsBeforeAll plan s → s.now < earliest_in plan s
 earliest-later plan lim s before = least-above (count plan) (λ i. (row_at s i).deadline) (suc s.now) (some_task plan lim) before
+
+-- no deadline lies before now
+pub earliest-from : (plan : Plan) → IsWithinLimits plan → (dem : JobDemands) (s : StateOf) → Belongs plan dem s → s.now ≤ earliest_in plan s
+earliest-from plan lim dem s bel = least-above (count plan) (λ i. (row_at s i).deadline) s.now (some_task plan lim) bel.due

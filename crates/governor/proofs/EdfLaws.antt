@@ -21,7 +21,7 @@ use Rattle.sched_model.proofs.Limits.{some_task, some_hyper, period_divides}
 use Rattle.sched_model.proofs.LevelSums.{sum_where-plus, sum_where-times, sum_where-term, sum_where-zero, sum_where-all, sum_below-times}
 use Rattle.governor.specs.Steps.{is_due, boundary_row, opened_row, after_boundary, wleft_at, earliest_in, key_in, IsLegalIn, after_tick, IsBeforeAll, Belongs}
 use Rattle.governor.proofs.Rows.{wleft-most}
-use Rattle.governor.proofs.Belonging.{in_rows, opening_at, boundary_at, tick_at}
+use Rattle.governor.proofs.Belonging.{earliest-from, in_rows, opening_at, boundary_at, tick_at}
 use Rattle.governor.proofs.Ticks.{tick_set, demand_most}
 use Rattle.governor.specs.Edf.{due_by, load, EdfCalm, EdfSafe}
 
@@ -119,9 +119,6 @@ module _ (F : ℕ) (plan : Plan) (lim : IsWithinLimits plan) where
     here : (i : ℕ) → i < count plan → i < length s.rows
     here = in_rows plan dem s bel
 
-    now_first : s.now ≤ earliest_in plan s
-    now_first = least-above (count plan) (λ i. (row_at s i).deadline) s.now (some_task plan lim) bel.due
-
     -- no task is due before the earliest deadline
     none_due : (d : ℕ) → d < earliest_in plan s → load plan s d ≡ 0
     none_due d lt =
@@ -136,13 +133,13 @@ module _ (F : ℕ) (plan : Plan) (lim : IsWithinLimits plan) where
         elim (cases_lt d (earliest_in plan s)) [
           | inl before ↦ rw (none_due d before) (omega arith)
           | inr from ↦
-              omega (arith, safe.bound d from, mul-le-mul_left (hyper plan) (two_speeds (speed_at plan.machine k) F s.now (earliest_in plan s) d safe.slower now_first from))
+              omega (arith, safe.bound d from, mul-le-mul_left (hyper plan) (two_speeds (speed_at plan.machine k) F s.now (earliest_in plan s) d safe.slower (earliest-from plan lim dem s bel) from))
         ]
 
     pub edf_chooses : (k : ℕ) → speed_at plan.machine k ≡ F → EdfCalm F plan s → EdfSafe F plan s k
     edf_chooses k same calm = record {
       bound = λ d le.
-          let first : s.now ≤ earliest_in plan s = now_first in
+          let first : s.now ≤ earliest_in plan s = earliest-from plan lim dem s bel in
           rw (same, same_speed F s.now (earliest_in plan s) d first le) (calm d (omega arith));
       slower = omega arith;
     }
