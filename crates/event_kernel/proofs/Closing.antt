@@ -6,7 +6,6 @@ use Rattle.std.proofs.lemmas.List.Sums.{sum_by-append, sum_by-cons}
 use Rattle.grid_fraction.specs.declared.Frac.{Frac}
 use Rattle.dvs_base.specs.declared.note.Note.{Note}
 use Rattle.dvs_base.specs.declared.note.Note.TheVariants.{End}
-use Rattle.sched_model.proofs.ScheduleLemmas.{force-within}
 use Rattle.event_kernel.proofs.Bounds.{Bounds}
 use Rattle.sched_model.specs.Plan.{Plan}
 use Rattle.sched_model.specs.Decision.{is_decision}
@@ -23,7 +22,7 @@ use Rattle.governor.specs.Schedule.{ask_of, course}
 use Rattle.event_kernel.specs.Pens.{CanTell}
 use Rattle.event_kernel.specs.Tickwork.{whole_span}
 use Rattle.event_kernel.specs.Boundary.{ended_pen, ended_notes, IsBetween}
-use Rattle.event_kernel.specs.Walking.{IsInSpan, HasWalked, told_before, told_in, told_after}
+use Rattle.event_kernel.specs.Walking.{HasWalked, told_before, told_in, told_after}
 use Rattle.event_kernel.proofs.Hearing.{Begins, begins-self, begins-trans, heard-append, balked-append, balked-begins, balked_after}
 use Rattle.event_kernel.proofs.Spanning.{open-new, closing-notes, closing-can, closing-between}
 use Rattle.event_kernel.proofs.Onward.{in-begins}
@@ -47,7 +46,7 @@ before-begins demand p dem ticks t le decision = go (cases_lt t ticks)
         balked : ℕ → Note → ℕ → Type 0
         balked a n b = Unit {0}
 
-module _ {L : Type 0} (heard balked : L → Note → L → Type 0) (demand : Plan → StateOf → Frac) (p : Plan) (dem : ℕ → ℕ → ℕ) (ticks : ℕ) (adm : Bounds p) (low_ticks : ticks ≤ 2 ^ 40) (t0 e : ℕ) (s : StateOf) (pen : Pen) (h : HasWalked demand p dem ticks t0 (s.now - 1) e s pen) where
+module _ {demand : Plan → StateOf → Frac} {p : Plan} {dem : ℕ → ℕ → ℕ} {ticks : ℕ} (adm : Bounds p) (low_ticks : ticks ≤ 2 ^ 40) {t0 e : ℕ} {s : StateOf} {pen : Pen} (h : HasWalked demand p dem ticks t0 (s.now - 1) e s pen) where
   early : s.now - 1 < 2 ^ 40
   early = omega (arith, h.before_end, low_ticks)
 
@@ -57,10 +56,8 @@ module _ {L : Type 0} (heard balked : L → Note → L → Type 0) (demand : Pla
   next : s.now - 1 + 1 ≡ s.now
   next = sym h.now
 
-  pub close-can : (s0 : StateOf) (pen0 : Pen) → IsInSpan demand p dem ticks t0 t0 e s0 pen0 → CanTell p s t0 e pen
-  close-can s0 pen0 i =
-      closing-can demand p dem adm ticks t0 (s.now - 1) e s pen h early from_is
-      (subst (λ m. m < length p.machine.points) (sym i.work.in_force) (force-within p dem (ask_of demand p dem) adm.some_point (course demand p dem t0)))
+  pub close-can : e < length p.machine.points → CanTell p s t0 e pen
+  close-can entry = closing-can demand p dem adm ticks t0 (s.now - 1) e s pen h early from_is entry
 
   notes : told_before demand p dem s.now ≡ told_after demand p dem (s.now - 1) ++ ended_notes p s t0 e pen
   notes = ap (told_before demand p dem) (sym next) ∙ closing-notes demand p dem adm ticks t0 (s.now - 1) e s pen h early from_is
@@ -74,11 +71,11 @@ module _ {L : Type 0} (heard balked : L → Note → L → Type 0) (demand : Pla
   pub close-limit : s.now ≤ ticks
   close-limit = omega (arith, h.before_end, h.now)
 
-  pub close-heard : (a mid to : L) → HasHeard heard a (told_after demand p dem (s.now - 1)) mid → HasHeard heard mid (ended_notes p s t0 e pen) to → HasHeard heard a (told_before demand p dem s.now) to
-  close-heard a mid to x y = subst (λ ns. HasHeard heard a ns to) (sym notes) (heard-append heard balked (told_after demand p dem (s.now - 1)) (ended_notes p s t0 e pen) a mid to x y)
+  pub close-heard : {L : Type 0} (heard balked : L → Note → L → Type 0) (a mid to : L) → HasHeard heard a (told_after demand p dem (s.now - 1)) mid → HasHeard heard mid (ended_notes p s t0 e pen) to → HasHeard heard a (told_before demand p dem s.now) to
+  close-heard heard balked a mid to x y = subst (λ ns. HasHeard heard a ns to) (sym notes) (heard-append heard balked (told_after demand p dem (s.now - 1)) (ended_notes p s t0 e pen) a mid to x y)
 
-  pub close-balked : (a mid to : L) → HasHeard heard a (told_after demand p dem (s.now - 1)) mid → HasBalked heard balked mid (ended_notes p s t0 e pen) to → HasBalked heard balked a (told_before demand p dem ticks) to
-  close-balked a mid to x y =
+  pub close-balked : {L : Type 0} (heard balked : L → Note → L → Type 0) (a mid to : L) → HasHeard heard a (told_after demand p dem (s.now - 1)) mid → HasBalked heard balked mid (ended_notes p s t0 e pen) to → HasBalked heard balked a (told_before demand p dem ticks) to
+  close-balked heard balked a mid to x y =
       balked-begins heard balked (told_before demand p dem s.now) (told_before demand p dem ticks) a to
       (before-begins demand p dem ticks s.now close-limit (λ lt. subst (λ n. is_decision p dem (course demand p dem n) ≡ true) next (h.decision (omega (arith, lt, next)))))
       (subst (λ ns. HasBalked heard balked a ns to) (sym notes) (balked_after heard balked (told_after demand p dem (s.now - 1)) (ended_notes p s t0 e pen) a mid to x y))

@@ -1,8 +1,13 @@
 -- Notes heard one list after another, and lists that begin another.
-use Rattle.std.proofs.Common.{◌≡◌, inl, inr, List, [], ◌∷◌, ◌++◌, refl, ap, sym, ◌∙◌, subst, append_assoc, append-nil}
+use Rattle.std.proofs.Common.{◌≡◌, inl, inr, List, [], ◌∷◌, ◌++◌, refl, ap, sym, ◌∙◌, subst, true≢false, append_assoc, append-nil}
 use Rattle.dvs_base.specs.declared.note.Note.{Note}
-use Rattle.std.specs.Prelude.{Result, Ok, Err, OnErr}
+use Rattle.std.specs.Prelude.{Result, Ok, Err, IsErr, OnErr}
 use Rattle.event_kernel.specs.Heard.{HasHeard, HasBalked}
+
+-- what stands at each error stands at an exit
+pub at_error : {T E : Type 0} (P : Result T E → Type 0) (r : Result T E) → IsErr r → ((e : E) → P (Err e)) → P r
+at_error P (Ok x) is each = absurd (true≢false (sym is))
+at_error P (Err e) is each = each e
 
 -- a fact stands at an exit whatever the result
 pub at_exit : {T E P : Type 0} (r : Result T E) → P → OnErr r P

@@ -76,37 +76,37 @@ module _ {L : Type 0} (heard balked : L → Note → L → Type 0) (demand : Pla
   pub tick-balked : (t : ℕ) (a to : L) → t < ticks → HasBalked heard balked a (told_after demand p dem t) to → HasBalked heard balked a (told_before demand p dem ticks) to
   tick-balked t a to lt b = balked-begins heard balked (told_after demand p dem t) (told_before demand p dem ticks) a to (whole-begins demand p dem t ticks lt) b
 
-  module _ (adm : Bounds p) (low_ticks : ticks ≤ 2 ^ 40) (t0 t e : ℕ) (s0 s : StateOf) (pen0 pen : Pen) (completed : Bool) (i : IsInSpan demand p dem ticks t0 t e s0 pen0) (h : HasWorked demand p dem t s pen completed) where
-    pub now-next : s.now ≡ t + 1
-    now-next = ap (λ (v : StateOf). v.now) h.state ∙ course-len demand p dem (t + 1)
+module _ {demand : Plan → StateOf → Frac} {p : Plan} {dem : ℕ → ℕ → ℕ} {ticks : ℕ} (adm : Bounds p) (low_ticks : ticks ≤ 2 ^ 40) {t0 t e : ℕ} {s0 s : StateOf} {pen0 pen : Pen} {completed : Bool} (i : IsInSpan demand p dem ticks t0 t e s0 pen0) (h : HasWorked demand p dem t s pen completed) where
+  pub now-next : s.now ≡ t + 1
+  now-next = ap (λ (v : StateOf). v.now) h.state ∙ course-len demand p dem (t + 1)
 
-    pub rows-next : length s.rows ≡ count p
-    rows-next = ap (λ (v : StateOf). length v.rows) h.state ∙ length-list_below (count p) (prior_row p dem (course demand p dem (t + 1)))
+  pub rows-next : length s.rows ≡ count p
+  rows-next = ap (λ (v : StateOf). length v.rows) h.state ∙ length-list_below (count p) (prior_row p dem (course demand p dem (t + 1)))
 
-    last-is : t ≡ s.now - 1
-    last-is = omega (arith, now-next)
+  last-is : t ≡ s.now - 1
+  last-is = omega (arith, now-next)
 
-    pub walked-end : (completed || (nat_eq s.now ticks || some_due p s)) ≡ true → HasWalked demand p dem ticks t0 (s.now - 1) e s pen
-    walked-end ends =
-        subst (λ n. HasWalked demand p dem ticks t0 n e s pen) last-is
-        (ends-span demand p dem adm ticks t0 t e s0 s pen0 pen completed i h (go (or-cases completed (nat_eq s.now ticks) (some_due p s) ends)))
-      where
-        go : (completed ≡ true) ⊎ ((nat_eq s.now ticks ≡ true) ⊎ (some_due p s ≡ true)) → (completed ≡ true) ⊎ ((t + 1 ≡ ticks) ⊎ (some_due p s ≡ true))
-        go (inl q) = inl q
-        go (inr (inl q)) = inr (inl (let same : s.now ≡ ticks = grind (arith, nat_tests) in sym now-next ∙ same))
-        go (inr (inr q)) = inr (inr q)
+  pub walked-end : (completed || (nat_eq s.now ticks || some_due p s)) ≡ true → HasWalked demand p dem ticks t0 (s.now - 1) e s pen
+  walked-end ends =
+      subst (λ n. HasWalked demand p dem ticks t0 n e s pen) last-is
+      (ends-span demand p dem adm ticks t0 t e s0 s pen0 pen completed i h (go (or-cases completed (nat_eq s.now ticks) (some_due p s) ends)))
+    where
+      go : (completed ≡ true) ⊎ ((nat_eq s.now ticks ≡ true) ⊎ (some_due p s ≡ true)) → (completed ≡ true) ⊎ ((t + 1 ≡ ticks) ⊎ (some_due p s ≡ true))
+      go (inl q) = inl q
+      go (inr (inl q)) = inr (inl (let same : s.now ≡ ticks = grind (arith, nat_tests) in sym now-next ∙ same))
+      go (inr (inr q)) = inr (inr q)
 
-    pub heard-end : (a to : L) → HasHeard heard a (told_after demand p dem t) to → HasHeard heard a (told_after demand p dem (s.now - 1)) to
-    heard-end a to g = subst (λ n. HasHeard heard a (told_after demand p dem n) to) last-is g
+  pub heard-end : {L : Type 0} (heard : L → Note → L → Type 0) (a to : L) → HasHeard heard a (told_after demand p dem t) to → HasHeard heard a (told_after demand p dem (s.now - 1)) to
+  heard-end heard a to g = subst (λ n. HasHeard heard a (told_after demand p dem n) to) last-is g
 
-    pub walked-on : (completed || (nat_eq s.now ticks || some_due p s)) ≡ false
-        → IsInSpan demand p dem ticks t0 s.now e s pen × ((a to : L) → HasHeard heard a (told_after demand p dem t) to → HasHeard heard a (told_in demand p dem s.now) to)
-    walked-on ends =
-        let none = none-of completed (nat_eq s.now ticks) (some_due p s) ends in
-        let other : nat_eq s.now ticks ≡ false = none.1 in
-        let differ : (s.now ≡ ticks) → ⊥ = grind (arith, nat_tests) in
-        let lt : t + 1 < ticks = omega (arith, now-next, i.before_end, differ) in
-        let r = goes-on demand p dem adm ticks t0 t e s0 s pen0 pen i (subst (λ b. HasWorked demand p dem t s pen b) none.0 h) none.2 lt low_ticks in (
-          subst (λ n. IsInSpan demand p dem ticks t0 n e s pen) (sym now-next) r.0,
-          λ a to g. subst (λ n. HasHeard heard a (told_in demand p dem n) to) (sym now-next) (subst (λ x. HasHeard heard a (open_notes p dem (ask_of demand p dem) x) to) (sym r.1) g),
-        )
+  pub walked-on : (completed || (nat_eq s.now ticks || some_due p s)) ≡ false
+      → IsInSpan demand p dem ticks t0 s.now e s pen × (told_after demand p dem t ≡ told_in demand p dem s.now)
+  walked-on ends =
+      let none = none-of completed (nat_eq s.now ticks) (some_due p s) ends in
+      let other : nat_eq s.now ticks ≡ false = none.1 in
+      let differ : (s.now ≡ ticks) → ⊥ = grind (arith, nat_tests) in
+      let lt : t + 1 < ticks = omega (arith, now-next, i.before_end, differ) in
+      let r = goes-on demand p dem adm ticks t0 t e s0 s pen0 pen i (subst (λ b. HasWorked demand p dem t s pen b) none.0 h) none.2 lt low_ticks in (
+        subst (λ n. IsInSpan demand p dem ticks t0 n e s pen) (sym now-next) r.0,
+        sym (ap (open_notes p dem (ask_of demand p dem)) r.1) ∙ ap (told_in demand p dem) (sym now-next),
+      )

@@ -1,5 +1,6 @@
 -- Ticks of a span in which one job has every unit, or nobody: so many of them are one step.
-use Rattle.std.proofs.Common.{◌≡◌, ◌≢◌, ℕ, zero, suc, ◌+◌, ◌-◌, ◌*◌, ◌^◌, ◌<◌, ◌≤◌, min, Bool, true, false, not, ◌&&◌, ◌||◌, eqb, List, [], ◌∷◌, length, set, get_or-set_same, get_or-set_other, refl, arith, if◌then◌else◌, ap, ap₂, ◌∙◌, sym, subst, true≢false, inl, inr, nat_eq, nat_lt}
+use Rattle.std.proofs.Common.{◌≡◌, ◌≢◌, ℕ, zero, suc, ◌+◌, ◌-◌, ◌*◌, ◌^◌, ◌<◌, ◌≤◌, min, Bool, true, false, not, ◌&&◌, ◌||◌, eqb, List, [], ◌∷◌, length, set, get_or-set_same, get_or-set_other, refl, arith, if◌then◌else◌, ap, ap₂, ◌∙◌, sym, subst, true≢false, inl, inr, nat_eq, nat_lt, mul-le-mul_left}
+use Rattle.std.specs.Prelude.{Option, None, Some}
 use Rattle.std.proofs.lemmas.Bool.Decides.{nat_tests}
 use Rattle.grid_fraction.specs.declared.Frac.{Frac}
 use Rattle.grid_fraction.proofs.Searches.{any_below-none}
@@ -15,10 +16,10 @@ use Rattle.sched_model.specs.States.{no_row, row_at, after_advance, StateOf}
 use Rattle.governor.specs.Schedule.{ask_of}
 use Rattle.event_kernel.specs.declared.pen.Pen.{Pen}
 use Rattle.event_kernel.specs.Heard.{HasHeard, HasBalked}
-use Rattle.event_kernel.specs.Pens.{open_notes, row_key, told_pen, is_turn, with_units, entered, entering_notes, IsFirstUndone}
+use Rattle.event_kernel.specs.Pens.{open_notes, row_key, told_pen, is_turn, with_units, entered, entering_notes, holder_at, IsFirst, IsFirstUndone}
 use Rattle.event_kernel.specs.Tickwork.{served, whole_span, HasWorked}
 use Rattle.event_kernel.specs.Boundary.{some_due}
-use Rattle.event_kernel.specs.Walking.{run_on, IsInSpan, told_before, told_in}
+use Rattle.event_kernel.specs.Walking.{run_on, gives, AreQuiet, IsInSpan, told_before, told_in}
 use Rattle.event_kernel.proofs.Bounds.{Bounds}
 use Rattle.event_kernel.proofs.Atwork.{AtWork, HasIdled, entry-there, begin, rows-there, turned, balked_at, idle_balked, idled, full, finished}
 use Rattle.event_kernel.proofs.Spanning.{goes-on}
@@ -32,6 +33,9 @@ units_in f (suc n) = units_in f n + f
 pub units_in-is : (f n : ℕ) → units_in f n ≡ suc n * f
 units_in-is f zero = omega arith
 units_in-is f (suc n) = omega (arith, units_in-is f n)
+
+pub mul-le : (a b c : ℕ) → a ≤ b → a * c ≤ b * c
+mul-le a b c le = omega (arith, mul-le-mul_left c le)
 
 set_twice : (rows : List Row) (i : ℕ) (a b : Row) → set (set rows i a) i b ≡ set rows i b
 set_twice [] i a b = refl
@@ -110,10 +114,10 @@ module _ {L : Type 0} (heard balked : L → Note → L → Type 0) (demand : Pla
 
   module _ (t : ℕ) (st : StateOf) (pen : Pen) (here : IsInSpan demand p dem ticks t0 t e st pen) (to next : L) where
     some_units : 0 < f
-    some_units = adm.some_speed e (entry-there heard balked demand p dem t t0 e st pen adm here.work to)
+    some_units = adm.some_speed e (entry-there adm here.work)
 
-    w0 : AtWork heard balked demand p dem t t0 e st pen adm here.work to to f false st pen
-    w0 = begin heard balked demand p dem t t0 e st pen adm here.work to f refl
+    w0 : AtWork heard balked demand p dem t to to f false st pen
+    w0 = begin adm here.work f refl
 
     -- the next tick of the span
     next_tick : (st' : StateOf) (pen' : Pen) → t + 1 < ticks → QuietTo (t + 1) st → st'.now ≡ t + 1 → ((k : ℕ) → (row_at st' k).deadline ≡ (row_at st k).deadline)
@@ -142,21 +146,21 @@ module _ {L : Type 0} (heard balked : L → Note → L → Type 0) (demand : Pla
           → HasHeard heard to (entering_notes p st t0 e holder pen) next
           → Stays t (t + 1) to next (run_on st i f (t + 1)) (entered p st e holder f pen)
       one-held short lt quiet tells =
-          let w1 : AtWork heard balked demand p dem t t0 e st pen adm here.work to next (f - f) false ran (entered p st e holder f pen) =
-          turned heard balked demand p dem t t0 e st pen adm here.work to to f false st pen w0 next i f false false ran (entered p st e holder f pen) (row_at st i) refl some_units first (all_units (omega (arith, short))) (not_whole short) refl tells refl refl in
-          let d : HasIdled heard balked demand p dem t t0 e st pen adm here.work to next (f - f) false ran (entered p st e holder f pen) w1 next (entered p st e holder f pen) =
-          full heard balked demand p dem t t0 e st pen adm here.work to next (f - f) false ran (entered p st e holder f pen) w1 (omega arith) in
+          let w1 : AtWork heard balked demand p dem t to next (f - f) false ran (entered p st e holder f pen) =
+          turned adm here.work w0 next i f false false ran (entered p st e holder f pen) some_units first (all_units (omega (arith, short))) (not_whole short) refl tells refl refl in
+          let d : HasIdled adm here.work w1 next (entered p st e holder f pen) =
+          full adm here.work w1 (omega arith) in
           next_tick (run_on st i f (t + 1)) (entered p st e holder f pen) lt quiet refl (λ k. due-served st i in_rows f k)
-          (finished heard balked demand p dem t t0 e st pen adm here.work to next (f - f) false ran (entered p st e holder f pen) w1 next (entered p st e holder f pen) (run_on st i f (t + 1)) (inl (omega arith)) d refl)
+          (finished adm here.work w1 next (entered p st e holder f pen) (run_on st i f (t + 1)) (inl (omega arith)) d refl)
         where
           in_rows : i < length st.rows
-          in_rows = omega (arith, first.below, rows-there heard balked demand p dem t t0 e st pen adm here.work to to f false st pen w0)
+          in_rows = omega (arith, first.below, rows-there adm here.work w0)
 
       pub held-balked : (row_at st i).used + f ≤ dem i (row_at st i).job → HasBalked heard balked to (entering_notes p st t0 e holder pen) next
           → (a : L) → HasHeard heard a (told_in demand p dem t) to → HasBalked heard balked a (told_before demand p dem ticks) next
       held-balked le balks a h =
           tick-balked heard balked demand p dem ticks t a next here.before_end
-          (balked_at heard balked demand p dem t t0 e st pen adm here.work to to f false st pen w0 next i f (row_at st i) refl some_units first (all_units le) balks a h)
+          (balked_at adm here.work w0 next i f some_units first (all_units le) balks a h)
 
     -- one tick of nobody
     module _ (all_done : (k : ℕ) → k < count p → (row_at st k).done ≡ true) where
@@ -164,18 +168,18 @@ module _ {L : Type 0} (heard balked : L → Note → L → Type 0) (demand : Pla
           → Stays t (t + 1) to next (after_advance st (t + 1)) (entered p st e Nobody f pen)
       one-idle lt quiet tells =
           next_tick (after_advance st (t + 1)) (entered p st e Nobody f pen) lt quiet refl (λ k. refl)
-          (finished heard balked demand p dem t t0 e st pen adm here.work to to f false st pen w0 next (entered p st e Nobody f pen) (after_advance st (t + 1)) (inr all_done)
-          (idled heard balked demand p dem t t0 e st pen adm here.work to to f false st pen w0 next (entered p st e Nobody f pen) some_units tells refl) refl)
+          (finished adm here.work w0 next (entered p st e Nobody f pen) (after_advance st (t + 1)) (inr all_done)
+          (idled adm here.work w0 next (entered p st e Nobody f pen) some_units tells refl) refl)
 
       pub idle-balked : HasBalked heard balked to (entering_notes p st t0 e Nobody pen) next
           → (a : L) → HasHeard heard a (told_in demand p dem t) to → HasBalked heard balked a (told_before demand p dem ticks) next
       idle-balked balks a h =
           tick-balked heard balked demand p dem ticks t a next here.before_end
-          (idle_balked heard balked demand p dem t t0 e st pen adm here.work to to f false st pen w0 next some_units (inr all_done) balks a h)
+          (idle_balked adm here.work w0 next some_units (inr all_done) balks a h)
 
     -- the state has a row for each task
     rows_long : length st.rows ≡ count p
-    rows_long = rows-there heard balked demand p dem t t0 e st pen adm here.work to to f false st pen w0
+    rows_long = rows-there adm here.work w0
 
   one_later : (t n : ℕ) → t + suc n + 1 ≡ t + suc (suc n)
   one_later t n = omega arith
@@ -305,3 +309,29 @@ module _ {L : Type 0} (heard balked : L → Note → L → Type 0) (demand : Pla
   idle-stays (suc n) t st pen to next some here all_done lt quiet tells =
       subst (λ u. Stays t (t + suc n) to next (after_advance st (t + suc n)) (entered p st e Nobody u pen)) (units_in-is f n)
       (idle_by n t st pen to next here all_done lt quiet tells)
+
+-- quiet ticks at once, whoever has their units
+module _ {L : Type 0} (heard balked : L → Note → L → Type 0) {demand : Plan → StateOf → Frac} {p : Plan} {dem : ℕ → ℕ → ℕ} {ticks : ℕ} (adm : Bounds p) (low_ticks : ticks ≤ 2 ^ 40) {t0 e : ℕ} {st : StateOf} {pen : Pen} (here : IsInSpan demand p dem ticks t0 st.now e st pen) where
+  pub stays : (first : Option ℕ) {n : ℕ} → IsFirst p st first → AreQuiet p dem ticks e st first n → (to next : L) → 0 < n
+      → HasHeard heard to (entering_notes p st t0 e (holder_at st first) pen) next
+      → (st' : StateOf) (pen' : Pen) → st' ≡ after_advance (gives st first (n * (point p e).speed)) (st.now + n) → pen' ≡ entered p st e (holder_at st first) (n * (point p e).speed) pen
+      → IsInSpan demand p dem ticks t0 st'.now e st' pen' × ((a : L) → HasHeard heard a (told_in demand p dem st.now) to → HasHeard heard a (told_in demand p dem st'.now) next)
+  stays first {n} is quiet to next some tells st' pen' moved pens =
+      subst (λ (v : StateOf). IsInSpan demand p dem ticks t0 v.now e v pen' × ((a : L) → HasHeard heard a (told_in demand p dem st.now) to → HasHeard heard a (told_in demand p dem v.now) next)) (sym moved)
+      (subst (λ q. IsInSpan demand p dem ticks t0 (st.now + n) e (after_advance (gives st first (n * (point p e).speed)) (st.now + n)) q × ((a : L) → HasHeard heard a (told_in demand p dem st.now) to → HasHeard heard a (told_in demand p dem (st.now + n)) next)) (sym pens)
+      (go first is quiet tells))
+    where
+      go : (first : Option ℕ) → IsFirst p st first → AreQuiet p dem ticks e st first n → HasHeard heard to (entering_notes p st t0 e (holder_at st first) pen) next
+          → IsInSpan demand p dem ticks t0 (st.now + n) e (after_advance (gives st first (n * (point p e).speed)) (st.now + n)) (entered p st e (holder_at st first) (n * (point p e).speed) pen)
+          × ((a : L) → HasHeard heard a (told_in demand p dem st.now) to → HasHeard heard a (told_in demand p dem (st.now + n)) next)
+      go None is quiet tells = idle-stays heard balked demand p dem ticks adm low_ticks t0 e n st.now st pen to next some here is quiet.before_end quiet.no_release tells
+      go (Some i) is quiet tells = held-stays heard balked demand p dem ticks adm low_ticks t0 e n st.now i st pen to next some here is (quiet.not_done i refl) quiet.before_end quiet.no_release tells
+
+  pub stays-balked : (first : Option ℕ) {n : ℕ} → IsFirst p st first → AreQuiet p dem ticks e st first n → (to next : L) → 0 < n
+      → HasBalked heard balked to (entering_notes p st t0 e (holder_at st first) pen) next
+      → (a : L) → HasHeard heard a (told_in demand p dem st.now) to → HasBalked heard balked a (told_before demand p dem ticks) next
+  stays-balked None is quiet to next some balks = idle-balked heard balked demand p dem ticks adm low_ticks t0 e st.now st pen here to next is balks
+  stays-balked (Some i) {n} is quiet to next some balks =
+      let one : 1 * (point p e).speed ≤ n * (point p e).speed = mul-le 1 n (point p e).speed some in
+      let short : (row_at st i).used + n * (point p e).speed < dem i (row_at st i).job = quiet.not_done i refl in
+      held-balked heard balked demand p dem ticks adm low_ticks t0 e st.now st pen here to next i is (omega (arith, short, one)) balks

@@ -6,3 +6,4 @@ pub mod Writing
 pub mod Tickwork
 pub mod Boundary
 pub mod Walking
+pub mod Settings

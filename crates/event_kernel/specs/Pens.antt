@@ -1,5 +1,5 @@
 -- The segment that is being written, and the notes of a span up to it.
-use Rattle.std.specs.Prelude.{◌≡◌, ℕ, ◌+◌, ◌*◌, ◌<◌, ◌^◌, Bool, true, false, ◌&&◌, not, nat_lt, if◌then◌else◌, List, [], ◌∷◌, ◌++◌, length}
+use Rattle.std.specs.Prelude.{◌≡◌, ℕ, ◌+◌, ◌*◌, ◌<◌, ◌^◌, Bool, true, false, ◌&&◌, not, nat_lt, if◌then◌else◌, List, [], ◌∷◌, ◌++◌, length, Option, None, Some}
 use Rattle.dvs_base.specs.declared.note.Note.{Note}
 use Rattle.dvs_base.specs.declared.note.Note.TheVariants.{Run, Idle, Done, Speed}
 use Rattle.dvs_base.specs.declared.note.Pos.{Pos}
@@ -8,7 +8,7 @@ use Rattle.dvs_base.specs.declared.kind.Scheduler.{Scheduler}
 use Rattle.dvs_base.specs.declared.kind.Scheduler.TheVariants.{Edf, Rm}
 use Rattle.sched_model.specs.declared.holder.Holder.{Holder}
 use Rattle.sched_model.specs.declared.holder.Holder.TheVariants.{Nobody, Held}
-use Rattle.sched_model.specs.Plan.{Plan, point, period}
+use Rattle.sched_model.specs.Plan.{Plan, count, point, period}
 use Rattle.sched_model.specs.Ticks.{Tick}
 use Rattle.sched_model.specs.Decision.{is_decision}
 use Rattle.sched_model.specs.Priority.{stands_before}
@@ -141,3 +141,17 @@ pub record IsFirstUndone (p : Plan) (s : StateOf) (n i : ℕ) : Type 0 where
   pub below : i < n
   pub open_job : (row_at s i).done ≡ false
   pub first : (k : ℕ) → k < n → stands_before (row_key p.scheduler p s) k i ≡ true → (row_at s k).done ≡ true
+
+-- nothing written yet
+abbrev pub new_pen : Pen
+new_pen = record { holder = Nobody; start = 0; units = 0; run = 0; idle = 0; counts = record { released = 0; finished = 0; decisions = 0 } }
+
+-- the first row that is not done, where there is one
+abbrev pub IsFirst : Plan → StateOf → Option ℕ → Type 0
+IsFirst p s None = (k : ℕ) → k < count p → (row_at s k).done ≡ true
+IsFirst p s (Some i) = IsFirstUndone p s (count p) i
+
+-- the holder that it is
+abbrev pub holder_at : StateOf → Option ℕ → Holder
+holder_at s None = Nobody
+holder_at s (Some i) = Held i (row_at s i).job

@@ -1,5 +1,5 @@
 -- The ticks of one span.
-use Rattle.std.specs.Prelude.{◌≡◌, ◌⊎◌, ℕ, ◌+◌, ◌<◌, ◌≤◌, Bool, true, false, List}
+use Rattle.std.specs.Prelude.{◌≡◌, ◌⊎◌, ℕ, ◌+◌, ◌*◌, ◌<◌, ◌≤◌, Bool, true, false, List, Option, None, Some}
 use Rattle.grid_fraction.specs.declared.Frac.{Frac}
 use Rattle.sched_model.specs.Plan.{Plan, count, point}
 use Rattle.sched_model.specs.Decision.{is_decision}
@@ -50,3 +50,18 @@ IsLastTick p dem ticks e s =
     (s.now + 1 ≡ ticks)
     ⊎ (((i : ℕ) × (i < count p) × ((row_at s i).deadline ≡ s.now + 1))
     ⊎ ((i : ℕ) × IsFirstUndone p s (count p) i × (dem i (row_at s i).job ≤ (row_at s i).used + (point p e).speed)))
+
+-- a state after units of the first row that is not done, whose job is still not done; without one it stays
+abbrev pub gives : StateOf → Option ℕ → ℕ → StateOf
+gives s None units = s
+gives s (Some i) units = served s i units false
+
+-- So many ticks after a state are quiet: the run doesn't end in them, no job is released in them or at their end, and the first
+-- job that is not done isn't completed. And the tick after them is the last of its span.
+pub record AreQuiet (p : Plan) (dem : ℕ → ℕ → ℕ) (ticks e : ℕ) (s : StateOf) (first : Option ℕ) (n : ℕ) : Type 0 where
+  pub before_end : s.now + n < ticks
+  pub no_release : (k : ℕ) → k < count p → s.now + n < (row_at s k).deadline
+  pub not_done : (i : ℕ) → first ≡ Some i → (row_at s i).used + n * (point p e).speed < dem i (row_at s i).job
+  pub last : (s.now + n + 1 ≡ ticks)
+      ⊎ (((i : ℕ) × (i < count p) × ((row_at s i).deadline ≡ s.now + n + 1))
+      ⊎ ((i : ℕ) × (first ≡ Some i) × (dem i (row_at s i).job ≤ (row_at s i).used + n * (point p e).speed + (point p e).speed)))

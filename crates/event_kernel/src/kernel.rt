@@ -7,13 +7,14 @@ ghost use Rattle.event_kernel.specs.Heard.{HasHeard, HasBalked};
 ghost use Rattle.event_kernel.specs.Runs.{IsListOf, released_jobs, most_jobs, notes_of_run, MeetsDeadlines, MeetsDemands};
 ghost use Rattle.dvs_base.specs.Outside.{Rose};
 
-use crate::pen::{Counts, Pen};
-use crate::span::{Walk, span};
+use crate::pen::Pen;
+use crate::run::{Run, Setting};
+use crate::span::Walk;
 use crate::{Listener, Stopped};
 use demand_list::Demands;
 use dvs_base::{Note, Totals};
 use governor::Governor;
-use sched_model::{Admitted, Holder, State};
+use sched_model::{Admitted, State};
 use std::alloc::Global;
 use std::marker::Model;
 
@@ -133,46 +134,35 @@ impl<'a, G: Governor> Kernel<'a, G> {
             plan,
             demands,
             ticks,
-            mut governor,
-            mut state,
+            governor,
+            state,
         } = self;
         plan.known();
         demands.known();
-        let mut pen = Pen {
-            holder: Holder::Nobody,
-            start: 0,
-            units: 0,
-            run: 0,
-            idle: 0,
-            counts: Counts {
-                released: 0,
-                finished: 0,
-                decisions: 0,
-            },
+        let set = Setting {
+            plan,
+            demands,
+            ticks,
         };
-        while state.now < ticks {
-            span(
-                walk,
-                plan,
-                demands,
-                ticks,
-                &mut governor,
-                &mut state,
-                &mut pen,
-                to,
-            )?;
+        let mut run = Run {
+            governor,
+            state,
+            pen: Pen::new(),
+        };
+        while run.now() < ticks {
+            run.span(walk, &set, to)?;
         }
         to.hear(&Note::End {
             ticks,
-            run: pen.run,
-            idle: pen.idle,
+            run: run.pen.run,
+            idle: run.pen.idle,
         })?;
         Ok(Totals {
-            run: pen.run,
-            idle: pen.idle,
-            released: pen.counts.released,
-            finished: pen.counts.finished,
-            decisions: pen.counts.decisions,
+            run: run.pen.run,
+            idle: run.pen.idle,
+            released: run.pen.counts.released,
+            finished: run.pen.counts.finished,
+            decisions: run.pen.counts.decisions,
         })
     }
 }

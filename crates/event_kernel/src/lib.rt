@@ -9,6 +9,7 @@ mod kernel;
 mod listener;
 mod pen;
 mod quiet;
+mod run;
 mod span;
 mod tick;
 

@@ -1,11 +1,11 @@
 // The segment that is being written.
-ghost use Rattle.std.specs.Prelude.{◌≡◌, ◌+◌, ◌*◌, ◌<◌, ◌≤◌, ◌^◌, OnOk, OnErr};
+ghost use Rattle.std.specs.Prelude.{◌≡◌, ◌+◌, ◌*◌, ◌<◌, ◌≤◌, ◌^◌, OnOk};
 ghost use Rattle.sched_model.specs.Segments.{same_holder, position_of};
-ghost use Rattle.event_kernel.specs.Heard.{HasHeard, HasBalked};
-ghost use Rattle.event_kernel.specs.Pens.{pen_notes, told_pen, is_turn, entered, entering_notes, CanTell, cost};
+ghost use Rattle.event_kernel.specs.Heard.{Tells};
+ghost use Rattle.event_kernel.specs.Pens.{pen_notes, told_pen, is_turn, entered, entering_notes, new_pen, CanTell, cost};
 ghost use Rattle.event_kernel.specs.Boundary.{ended_pen, ended_notes};
-ghost use Rattle.dvs_base.specs.Outside.{Rose};
 
+use crate::run::InForce;
 use crate::{Listener, Stopped};
 use dvs_base::{Note, Pos};
 use sched_model::{Admitted, Holder, State};
@@ -28,6 +28,14 @@ pub struct Pen {
     pub run: u128,
     pub idle: u128,
     pub counts: Counts,
+}
+
+/// What a segment is told from: the plan, the state at its end, and the entry in force.
+#[derive(Clone, Copy)]
+pub struct Moment<'a> {
+    pub plan: &'a Admitted,
+    pub state: &'a State,
+    pub force: InForce,
 }
 
 fn is_same(a: Holder, b: Holder) -> bool
@@ -73,111 +81,109 @@ fn energy_of(units: u64, millivolts: u64, rate: u64) -> u128
     units as u128 * millivolts as u128 * millivolts as u128 * rate as u128
 }
 
-// Tells the segment, and the end of its job where the row is done.
-fn tell<L: Listener>(
-    plan: &Admitted,
-    state: &State,
-    from: u64,
-    index: u32,
-    pen: &mut Pen,
-    to: &mut L,
-) -> Result<(), Stopped>
-    requires { CanTell plan.now state.now from index pen.old }
-    ensures pen { OnOk result (pen.new ≡ told_pen plan.now state.entry.now index pen.old) }
-    ensures heard { OnOk result (HasHeard L.heard to.old (pen_notes plan.now state.entry.now from index pen.old) to.new) }
-    ensures balked { OnErr result (HasBalked L.heard L.balked to.old (pen_notes plan.now state.entry.now from index pen.old) to.new) }
-    ensures never_falls { L.stops to.old ≤ L.stops to.new }
-    ensures rose { OnErr result (Rose (L.stops to.old) (L.stops to.new)) }
-{
-    plan.known();
-    let machine = plan.machine();
-    let point = machine.point(index);
-    let first = position(from, point.speed, pen.start);
-    let end = position(from, point.speed, pen.start + pen.units);
-    match pen.holder {
-        Holder::Nobody => {
-            let energy = energy_of(pen.units, point.millivolts, machine.idle());
-            to.hear(&Note::Idle {
-                from: first,
-                to: end,
-                units: pen.units,
-                energy,
-            })?;
-            pen.idle += energy;
+impl Pen {
+    /// Nothing written yet.
+    pub(crate) fn new() -> Pen
+        ensures { result ≡ new_pen }
+    {
+        Pen {
+            holder: Holder::Nobody,
+            start: 0,
+            units: 0,
+            run: 0,
+            idle: 0,
+            counts: Counts {
+                released: 0,
+                finished: 0,
+                decisions: 0,
+            },
         }
-        Holder::Held(task, job) => {
-            let energy = energy_of(pen.units, point.millivolts, 1000);
-            to.hear(&Note::Run {
-                from: first,
-                to: end,
-                task,
-                job,
-                units: pen.units,
-                energy,
-            })?;
-            let row = state.rows[task as usize];
-            if row.done {
-                to.hear(&Note::Done {
-                    at: end,
+    }
+
+    // Tells the segment, and the end of its job where the row is done.
+    fn tell<L: Listener>(&mut self, at: Moment<'_>, to: &mut L) -> Result<(), Stopped>
+        requires { CanTell at.plan.now at.state.now at.force.from at.force.index self.old }
+        ensures pen { OnOk result (self.new ≡ told_pen at.entry.plan.now at.entry.state.now at.entry.force.index self.old) }
+        ensures told { Tells L.heard L.balked L.stops to.old to.new
+            (pen_notes at.entry.plan.now at.entry.state.now at.entry.force.from at.entry.force.index self.old) result }
+    {
+        at.plan.known();
+        let machine = at.plan.machine();
+        let point = machine.point(at.force.index);
+        let first = position(at.force.from, point.speed, self.start);
+        let end = position(at.force.from, point.speed, self.start + self.units);
+        match self.holder {
+            Holder::Nobody => {
+                let energy = energy_of(self.units, point.millivolts, machine.idle());
+                to.hear(&Note::Idle {
+                    from: first,
+                    to: end,
+                    units: self.units,
+                    energy,
+                })?;
+                self.idle += energy;
+            }
+            Holder::Held(task, job) => {
+                let energy = energy_of(self.units, point.millivolts, 1000);
+                to.hear(&Note::Run {
+                    from: first,
+                    to: end,
                     task,
                     job,
-                    used: row.used,
+                    units: self.units,
+                    energy,
                 })?;
-                pen.counts.finished += 1;
+                let state = at.state;
+                let row = state.rows[task as usize];
+                if row.done {
+                    to.hear(&Note::Done {
+                        at: end,
+                        task,
+                        job,
+                        used: row.used,
+                    })?;
+                    self.counts.finished += 1;
+                }
+                self.run += energy;
             }
-            pen.run += energy;
         }
+        self.start += self.units;
+        self.units = 0;
+        Ok(())
     }
-    pen.start += pen.units;
-    pen.units = 0;
-    Ok(())
-}
 
-/// Units of a holder come after those of the segment.
-pub(crate) fn enter<L: Listener>(
-    plan: &Admitted,
-    state: &State,
-    from: u64,
-    index: u32,
-    pen: &mut Pen,
-    holder: Holder,
-    units: u64,
-    to: &mut L,
-) -> Result<(), Stopped>
-    requires can { CanTell plan.now state.now from index pen.old }
-    requires fits { pen.old.units + units < 2 ^ 64 }
-    ensures pen { OnOk result (pen.new ≡ entered plan.now state.entry.now index holder units pen.old) }
-    ensures heard { OnOk result (HasHeard L.heard to.old (entering_notes plan.now state.entry.now from index holder pen.old) to.new) }
-    ensures balked { OnErr result (HasBalked L.heard L.balked to.old (entering_notes plan.now state.entry.now from index holder pen.old) to.new) }
-    ensures never_falls { L.stops to.old ≤ L.stops to.new }
-    ensures rose { OnErr result (Rose (L.stops to.old) (L.stops to.new)) }
-{
-    if turns(pen, holder) {
-        tell(plan, state, from, index, pen, to)?;
+    /// Units of a holder come after those of the segment.
+    pub(crate) fn enter<L: Listener>(
+        &mut self,
+        at: Moment<'_>,
+        holder: Holder,
+        units: u64,
+        to: &mut L,
+    ) -> Result<(), Stopped>
+        requires can { CanTell at.plan.now at.state.now at.force.from at.force.index self.old }
+        requires fits { self.old.units + units < 2 ^ 64 }
+        ensures pen { OnOk result (self.new ≡ entered at.entry.plan.now at.entry.state.now at.entry.force.index holder units self.old) }
+        ensures told { Tells L.heard L.balked L.stops to.old to.new
+            (entering_notes at.entry.plan.now at.entry.state.now at.entry.force.from at.entry.force.index holder self.old) result }
+    {
+        if turns(self, holder) {
+            self.tell(at, to)?;
+        }
+        self.holder = holder;
+        self.units += units;
+        Ok(())
     }
-    pen.holder = holder;
-    pen.units += units;
-    Ok(())
-}
 
-/// Tells the segment that is left at the end of a span.
-pub(crate) fn close<L: Listener>(
-    plan: &Admitted,
-    state: &State,
-    from: u64,
-    index: u32,
-    pen: &mut Pen,
-    to: &mut L,
-) -> Result<(), Stopped>
-    requires { CanTell plan.now state.now from index pen.old }
-    ensures pen { OnOk result (pen.new ≡ ended_pen plan.now state.entry.now index pen.old) }
-    ensures heard { OnOk result (HasHeard L.heard to.old (ended_notes plan.now state.entry.now from index pen.old) to.new) }
-    ensures balked { OnErr result (HasBalked L.heard L.balked to.old (ended_notes plan.now state.entry.now from index pen.old) to.new) }
-    ensures never_falls { L.stops to.old ≤ L.stops to.new }
-    ensures rose { OnErr result (Rose (L.stops to.old) (L.stops to.new)) }
-{
-    if pen.units > 0 {
-        tell(plan, state, from, index, pen, to)?;
+    /// Tells the segment that is left at the end of a span.
+    pub(crate) fn close<L: Listener>(&mut self, at: Moment<'_>, to: &mut L) -> Result<(), Stopped>
+        requires { CanTell at.plan.now at.state.now at.force.from at.force.index self.old }
+        ensures pen { OnOk result (self.new ≡ ended_pen at.entry.plan.now at.entry.state.now at.entry.force.index self.old) }
+        ensures told { Tells L.heard L.balked L.stops to.old to.new
+            (ended_notes at.entry.plan.now at.entry.state.now at.entry.force.from at.entry.force.index self.old) result }
+    {
+        if self.units > 0 {
+            self.tell(at, to)?;
+        }
+        Ok(())
     }
-    Ok(())
 }

@@ -1,78 +1,84 @@
 // The ticks of a span before its last one.
-ghost use Rattle.std.specs.Prelude.{◌≤◌, ◌^◌, OnOk, OnErr};
-ghost use Rattle.event_kernel.specs.Heard.{HasHeard, HasBalked};
-ghost use Rattle.event_kernel.specs.Runs.{demands_of, IsListOf};
-ghost use Rattle.event_kernel.specs.Walking.{IsInSpan, IsLastTick, told_before, told_in};
-ghost use Rattle.dvs_base.specs.Outside.{Rose};
+ghost use Rattle.std.specs.Prelude.{◌≡◌, ◌*◌, ◌<◌, OnOk, IfSome};
+ghost use Rattle.sched_model.specs.Plan.{point};
+ghost use Rattle.sched_model.specs.States.{CanRun, IsOfPlan};
+ghost use Rattle.event_kernel.specs.Pens.{IsFirst};
+ghost use Rattle.event_kernel.specs.Walking.{gives, AreQuiet};
+ghost use Rattle.event_kernel.specs.Settings.{jobs_of, IsSetting, InSpan, AtLastTick, Leads, notes_in};
 
-use crate::pen::{Pen, enter};
-use crate::tick::{demand, first_undone, serve};
+use crate::pen::Moment;
+use crate::run::{InForce, Run, Setting};
+use crate::tick::{first_undone, holder_of, lacking};
 use crate::{Listener, Stopped};
-use demand_list::Demands;
 use governor::{Governor, earliest_deadline};
-use sched_model::{Admitted, Holder, State};
+use sched_model::Admitted;
 
-/// All ticks of a span before its last one, at once: no job is released or completed in them, so one job has all their
-/// units, or nobody.
-pub(crate) fn stay<G: Governor, L: Listener>(
-    plan: &Admitted,
-    demands: &Demands,
-    ticks: u64,
-    governor: &mut G,
-    state: &mut State,
-    from: u64,
-    index: u32,
-    pen: &mut Pen,
-    to: &mut L,
-) -> Result<(), Stopped>
-    requires list { IsListOf plan.now demands.now }
-    requires at { IsInSpan G.demand plan.now (demands_of plan.now demands.now) ticks from state.old.now index state.old pen.old }
-    requires low_ticks { ticks ≤ 2 ^ 40 }
-    requires counters { G.stands governor.old plan.now state.old }
-    ensures in_span { OnOk result (IsInSpan G.demand plan.now (demands_of plan.now demands.now) ticks from state.new.now index state.new pen.new) }
-    ensures last { OnOk result (IsLastTick plan.now (demands_of plan.now demands.now) ticks index state.new) }
-    ensures counters { OnOk result (G.stands governor.new plan.now state.new) }
-    ensures heard { OnOk result ((a : L) → HasHeard L.heard a (told_in G.demand plan.now (demands_of plan.now demands.now) state.old.now) to.old → HasHeard L.heard a (told_in G.demand plan.now (demands_of plan.now demands.now) state.new.now) to.new) }
-    ensures balked { OnErr result ((a : L) → HasHeard L.heard a (told_in G.demand plan.now (demands_of plan.now demands.now) state.old.now) to.old → HasBalked L.heard L.balked a (told_before G.demand plan.now (demands_of plan.now demands.now) ticks) to.new) }
-    ensures never_falls { L.stops to.old ≤ L.stops to.new }
-    ensures rose { OnErr result (Rose (L.stops to.old) (L.stops to.new)) }
-{
-    plan.known();
-    let now = state.now;
-    let speed = plan.machine().point(index).speed;
-    let most = ticks.min(earliest_deadline(plan, state)) - 1 - now;
-    let Some(task) = first_undone(plan, state) else {
-        if most > 0 {
-            enter(
-                plan,
-                state,
-                from,
-                index,
-                pen,
-                Holder::Nobody,
-                most * speed,
-                to,
-            )?;
-            state.advance(now + most);
+impl<G: Governor> Run<G> {
+    // How many ticks come before the span's last one.
+    fn quiet_ticks(&self, set: &Setting<'_>, force: InForce, first: Option<u32>) -> u64
+        requires set { IsSetting set.now }
+        requires at { InSpan G.demand set.now force self.now.state self.now.pen }
+        requires first { IsFirst set.now.plan.now self.now.state first }
+        ensures { AreQuiet set.now.plan.now (jobs_of set.now) set.now.ticks force.index self.now.state first result }
+    {
+        let state = &self.state;
+        let speed = set.plan.machine().point(force.index).speed;
+        let event = set.ticks.min(earliest_deadline(set.plan, state));
+        let most = event - 1 - state.now;
+        match first {
+            Some(task) => most.min((lacking(set, state, task) - 1) / speed),
+            None => most,
         }
-        return Ok(());
-    };
-    let row = state.rows[task as usize];
-    let open = demand(plan, demands, task, row.job) - row.used;
-    let quiet = most.min((open - 1) / speed);
-    if quiet > 0 {
-        enter(
-            plan,
-            state,
-            from,
-            index,
-            pen,
-            Holder::Held(task, row.job),
-            quiet * speed,
-            to,
-        )?;
-        serve(plan, governor, state, task, quiet * speed, false);
-        state.advance(now + quiet);
     }
-    Ok(())
+
+    // Units of the first job, which is not done at their end; without one nothing changes.
+    fn serve_first(&mut self, plan: &Admitted, first: Option<u32>, units: u64)
+        requires of { IsOfPlan plan.now self.old.state }
+        requires can { IfSome first (λ i. CanRun self.old.state i units) }
+        requires counters { G.stands self.old.governor plan.now self.old.state }
+        ensures state { self.new.state ≡ gives self.old.state first units }
+        ensures counters { G.stands self.new.governor plan.now self.new.state }
+        ensures pen { self.new.pen ≡ self.old.pen }
+    {
+        if let Some(task) = first {
+            self.serve(plan, task, units, false);
+        }
+    }
+
+    /// All ticks of a span before its last one, at once: no job is released or completed in them, so one job has all
+    /// their units, or nobody.
+    pub(crate) fn stay<L: Listener>(
+        &mut self,
+        set: &Setting<'_>,
+        force: InForce,
+        to: &mut L,
+    ) -> Result<(), Stopped>
+        requires set { IsSetting set.now }
+        requires at { InSpan G.demand set.now force self.old.state self.old.pen }
+        requires counters { G.stands self.old.governor set.now.plan.now self.old.state }
+        ensures in_span { OnOk result (InSpan G.demand set.now force self.new.state self.new.pen) }
+        ensures last { OnOk result (AtLastTick set.now force self.new.state) }
+        ensures counters { OnOk result (G.stands self.new.governor set.now.plan.now self.new.state) }
+        ensures told { Leads L.heard L.balked L.stops G.demand set.now to.old to.new
+            (notes_in self.old.state) (notes_in self.new.state) result }
+    {
+        let state = &self.state;
+        let now = state.now;
+        let first = first_undone(set.plan, state);
+        let quiet = self.quiet_ticks(set, force, first);
+        if quiet == 0 {
+            return Ok(());
+        }
+        let units = quiet * set.plan.machine().point(force.index).speed;
+        let holder = holder_of(&self.state, first);
+        let at = Moment {
+            plan: set.plan,
+            state: &self.state,
+            force,
+        };
+        self.pen.enter(at, holder, units, to)?;
+        self.serve_first(set.plan, first, units);
+        self.state.advance(now + quiet);
+        Ok(())
+    }
 }

@@ -1,16 +1,15 @@
 // The work of one tick.
-ghost use Rattle.std.specs.Prelude.{◌≡◌, ℕ, ◌<◌, OnOk, OnErr, IfOk, IfNone, IfSome, true, length, ◌≤◌};
+ghost use Rattle.std.specs.Prelude.{◌≡◌, ℕ, ◌-◌, ◌<◌, OnOk, IfOk, IfNone, IfSome, true, length, ◌≤◌};
 ghost use Rattle.sched_model.specs.Plan.{count};
 ghost use Rattle.sched_model.specs.Priority.{stands_before};
 ghost use Rattle.sched_model.specs.States.{row_at, CanRun, IsOfPlan};
-ghost use Rattle.event_kernel.specs.Heard.{HasHeard, HasBalked};
 ghost use Rattle.event_kernel.specs.Runs.{demands_of, IsListOf};
-ghost use Rattle.event_kernel.specs.Pens.{row_key, IsFirstUndone};
-ghost use Rattle.event_kernel.specs.Tickwork.{served, IsAtWork, HasWorked};
-ghost use Rattle.event_kernel.specs.Walking.{told_in, told_after};
-ghost use Rattle.dvs_base.specs.Outside.{Rose};
+ghost use Rattle.event_kernel.specs.Pens.{row_key, holder_at, IsFirstUndone};
+ghost use Rattle.event_kernel.specs.Tickwork.{served};
+ghost use Rattle.event_kernel.specs.Settings.{jobs_of, IsSetting, InSpan, Worked, Leads, notes_in, notes_with};
 
-use crate::pen::{Pen, enter};
+use crate::pen::Moment;
+use crate::run::{InForce, Run, Setting};
 use crate::{Listener, Stopped};
 use demand_list::Demands;
 use dvs_base::Scheduler;
@@ -71,79 +70,93 @@ pub(crate) fn first_undone(plan: &Admitted, state: &State) -> Option<u32>
     best
 }
 
-/// Units of a task, at whose end its job is done or not, each announced to the governor.
-pub(crate) fn serve<G: Governor>(
-    plan: &Admitted,
-    governor: &mut G,
-    state: &mut State,
-    task: u32,
-    units: u64,
-    ends: bool,
-)
-    requires of { IsOfPlan plan.now state.old }
-    requires can { CanRun state.old task units }
-    requires counters { G.stands governor.old plan.now state.old }
-    ensures state { state.new ≡ served state.old task units ends }
-    ensures counters { G.stands governor.new plan.now state.new }
-    ensures of { IsOfPlan plan.now state.new }
+/// What the job of a task still lacks, in work units.
+pub(crate) fn lacking(set: &Setting<'_>, state: &State, task: u32) -> u64
+    requires list { IsListOf set.now.plan.now set.now.demands.now }
+    requires rows { length state.now.rows ≡ count set.now.plan.now }
+    requires task { task < count set.now.plan.now }
+    requires within { (row_at state.now task).used ≤ jobs_of set.now task (row_at state.now task).job }
+    ensures { result ≡ jobs_of set.now task (row_at state.entry.now task).job - (row_at state.entry.now task).used }
 {
-    governor.ran(plan, state, task, units);
-    state.run(task, units);
-    if ends {
-        governor.finished(plan, state, task);
-        state.finish(task);
+    let row = state.rows[task as usize];
+    demand(set.plan, set.demands, task, row.job) - row.used
+}
+
+/// The holder that the first job that is not done is, or nobody where all are done.
+pub(crate) fn holder_of(state: &State, first: Option<u32>) -> Holder
+    requires { IfSome first (λ i. i < length state.now.rows) }
+    ensures { result ≡ holder_at state.entry.now first }
+{
+    match first {
+        Some(task) => Holder::Held(task, state.rows[task as usize].job),
+        None => Holder::Nobody,
     }
 }
 
-/// The units of one tick, told where the holder changes; whether a job is complete at its end.
-pub(crate) fn work<G: Governor, L: Listener>(
-    plan: &Admitted,
-    demands: &Demands,
-    governor: &mut G,
-    state: &mut State,
-    from: u64,
-    index: u32,
-    pen: &mut Pen,
-    to: &mut L,
-) -> Result<bool, Stopped>
-    requires list { IsListOf plan.now demands.now }
-    requires at { IsAtWork G.demand plan.now (demands_of plan.now demands.now) state.old.now from index state.old pen.old }
-    requires counters { G.stands governor.old plan.now state.old }
-    ensures worked { IfOk result (λ completed. HasWorked G.demand plan.now (demands_of plan.now demands.now) state.old.now state.new pen.new completed) }
-    ensures counters { OnOk result (G.stands governor.new plan.now state.new) }
-    ensures heard { OnOk result ((a : L) → HasHeard L.heard a (told_in G.demand plan.now (demands_of plan.now demands.now) state.old.now) to.old → HasHeard L.heard a (told_after G.demand plan.now (demands_of plan.now demands.now) state.old.now) to.new) }
-    ensures balked { OnErr result ((a : L) → HasHeard L.heard a (told_in G.demand plan.now (demands_of plan.now demands.now) state.old.now) to.old → HasBalked L.heard L.balked a (told_after G.demand plan.now (demands_of plan.now demands.now) state.old.now) to.new) }
-    ensures never_falls { L.stops to.old ≤ L.stops to.new }
-    ensures rose { OnErr result (Rose (L.stops to.old) (L.stops to.new)) }
-{
-    plan.known();
-    let now = state.now;
-    let mut rest = plan.machine().point(index).speed;
-    let mut completed = false;
-    while rest > 0 {
-        let Some(task) = first_undone(plan, state) else {
-            break;
-        };
-        let row = state.rows[task as usize];
-        let open = demand(plan, demands, task, row.job) - row.used;
-        let share = rest.min(open);
-        enter(
-            plan,
-            state,
-            from,
-            index,
-            pen,
-            Holder::Held(task, row.job),
-            share,
-            to,
-        )?;
-        serve(plan, governor, state, task, share, share == open);
-        completed = completed || share == open;
-        rest -= share;
+impl<G: Governor> Run<G> {
+    /// Units of a task, at whose end its job is done or not, each announced to the governor.
+    pub(crate) fn serve(&mut self, plan: &Admitted, task: u32, units: u64, ends: bool)
+        requires of { IsOfPlan plan.now self.old.state }
+        requires can { CanRun self.old.state task units }
+        requires counters { G.stands self.old.governor plan.now self.old.state }
+        ensures state { self.new.state ≡ served self.old.state task units ends }
+        ensures counters { G.stands self.new.governor plan.now self.new.state }
+        ensures of { IsOfPlan plan.now self.new.state }
+        ensures pen { self.new.pen ≡ self.old.pen }
+    {
+        self.governor.ran(plan, &self.state, task, units);
+        self.state.run(task, units);
+        if ends {
+            self.governor.finished(plan, &self.state, task);
+            self.state.finish(task);
+        }
     }
-    if rest > 0 {
-        enter(plan, state, from, index, pen, Holder::Nobody, rest, to)?;
+
+    /// The units of one tick, told where the holder changes; whether a job is complete at its end.
+    pub(crate) fn work<L: Listener>(
+        &mut self,
+        set: &Setting<'_>,
+        force: InForce,
+        to: &mut L,
+    ) -> Result<bool, Stopped>
+        requires set { IsSetting set.now }
+        requires at { InSpan G.demand set.now force self.old.state self.old.pen }
+        requires counters { G.stands self.old.governor set.now.plan.now self.old.state }
+        ensures worked { IfOk result (Worked G.demand set.now self.old.state self.new.state self.new.pen) }
+        ensures counters { OnOk result (G.stands self.new.governor set.now.plan.now self.new.state) }
+        ensures told { Leads L.heard L.balked L.stops G.demand set.now to.old to.new
+            (notes_in self.old.state) (notes_with self.old.state) result }
+    {
+        let state = &self.state;
+        let now = state.now;
+        let mut rest = set.plan.machine().point(force.index).speed;
+        let mut completed = false;
+        while rest > 0 {
+            let Some(task) = first_undone(set.plan, &self.state) else {
+                break;
+            };
+            let lacks = lacking(set, &self.state, task);
+            let share = rest.min(lacks);
+            let holder = holder_of(&self.state, Some(task));
+            let at = Moment {
+                plan: set.plan,
+                state: &self.state,
+                force,
+            };
+            self.pen.enter(at, holder, share, to)?;
+            self.serve(set.plan, task, share, share == lacks);
+            completed = completed || share == lacks;
+            rest -= share;
+        }
+        if rest > 0 {
+            let at = Moment {
+                plan: set.plan,
+                state: &self.state,
+                force,
+            };
+            self.pen.enter(at, Holder::Nobody, rest, to)?;
+        }
+        self.state.advance(now + 1);
+        Ok(completed)
     }
-    state.advance(now + 1);
-    Ok(completed)
 }

@@ -1,0 +1,39 @@
+// A run: what stays in it, and what changes.
+ghost use Rattle.std.specs.Prelude.{◌≡◌};
+
+use crate::pen::Pen;
+use demand_list::Demands;
+use governor::Governor;
+use sched_model::{Admitted, State};
+
+/// What stays in a run: the plan, the demands of its jobs, and how many ticks it has.
+#[derive(Clone, Copy)]
+pub struct Setting<'a> {
+    pub plan: &'a Admitted,
+    pub demands: &'a Demands,
+    pub ticks: u64,
+}
+
+/// The entry of the machine's table that is in force in a span, and the first tick of the span.
+#[derive(Clone, Copy)]
+pub struct InForce {
+    pub from: u64,
+    pub index: u32,
+}
+
+/// What changes in a run: the governor, the state that its counters are of, and what is written of the trace.
+#[derive(Drop)]
+pub struct Run<G: Governor> {
+    pub governor: G,
+    pub state: State,
+    pub pen: Pen,
+}
+
+impl<G: Governor> Run<G> {
+    /// The tick before which the run stands.
+    pub(crate) fn now(&self) -> u64
+        ensures { result ≡ self.entry.now.state.now }
+    {
+        self.state.now
+    }
+}
