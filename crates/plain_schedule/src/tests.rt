@@ -145,3 +145,34 @@ fn rm_under_cycle_conservation(rt: HostRuntime) -> Result<(), Fail> {
     );
     Ok(())
 }
+
+// The second task is released for the first time at tick 2, and the run ends before the third one's.
+#[test]
+fn offsets_shift_the_jobs(rt: HostRuntime) -> Result<(), Fail> {
+    let alloc = rt.alloc();
+    let file =
+        b"task = [{name = \"x\", period = 4, worst = 4}, {name = \"y\", period = 6, worst = 6, offset = 2}, {name = \"z\", period = 12, worst = 12, offset = 50}]";
+    let tasks = TaskSet::read(alloc, file).map_err(|_| "tasks")?;
+    let machine = Machine::read(alloc, MACHINE).map_err(|_| "machine")?;
+    let demands = Demands::read(alloc, b"task,job,units\n", &tasks).map_err(|_| "demands")?;
+    let plan = edf_admit(alloc, &tasks, &machine).map_err(|_| "denied")?;
+    let cycle = plain_schedule(alloc, &plan, &demands, GovernorKind::Cycle, 8).map_err(
+        |_| "memory",
+    )?;
+    assert!(rt;
+        are(
+            &cycle,
+            &[
+                (0, [2, 0, 0]),
+                (0, [2, 0, 0]),
+                (0, [0, 2, 0]),
+                (0, [0, 2, 0]),
+                (0, [2, 0, 0]),
+                (0, [2, 0, 0]),
+                (0, [0, 2, 0]),
+                (0, [0, 0, 0]),
+            ]
+        )
+    );
+    Ok(())
+}
