@@ -4,3 +4,4 @@ pub mod HeldUnits
 pub mod SameNotes
 pub mod FixedNotes
 pub mod OwnDemands
+pub mod BlindDemands
