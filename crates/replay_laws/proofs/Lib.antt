@@ -5,3 +5,5 @@ pub mod SameNotes
 pub mod FixedNotes
 pub mod OwnDemands
 pub mod BlindDemands
+pub mod FitNotes
+pub mod Owning
