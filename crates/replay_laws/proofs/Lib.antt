@@ -7,3 +7,5 @@ pub mod OwnDemands
 pub mod BlindDemands
 pub mod FitNotes
 pub mod Owning
+pub mod FixedRows
+pub mod OneEnd
