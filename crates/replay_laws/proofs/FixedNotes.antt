@@ -47,11 +47,12 @@ same-numbers f i j k l e =
     let job : l ≡ k = grind (arith, nat_tests, e) in
     ap₂ f task job
 
-each-flat : (P : Note → Type 0) (n : ℕ) (f : ℕ → List Note) → ((i : ℕ) → AllByRecursion P (f i)) → AllByRecursion P (flat_map f (list_below n (λ i. i)))
+-- what holds of the notes of each number below n holds of all
+pub each-flat : (P : Note → Type 0) (n : ℕ) (f : ℕ → List Note) → ((i : ℕ) → i < n → AllByRecursion P (f i)) → AllByRecursion P (flat_map f (list_below n (λ i. i)))
 each-flat P zero f h = tt
 each-flat P (suc n) f h =
     subst (AllByRecursion P) (sym (flat_map-append f (list_below n (λ i. i)) (n ∷ [])))
-    (each-append P (flat_map f (list_below n (λ i. i))) (f n ++ []) (each-flat P n f h) (each-append P (f n) [] (h n) tt))
+    (each-append P (flat_map f (list_below n (λ i. i))) (f n ++ []) (each-flat P n f (λ i lt. h i (omega (arith, lt)))) (each-append P (f n) [] (h n (omega arith)) tt))
 
 -- what notes fix of a job: nothing, where none tells its end, and else its demand, which it has had
 abbrev pub Fixes : Plan → (ℕ → ℕ → ℕ) → ℕ → ℕ → ℕ → Option ℕ → ℕ → Type 0
@@ -63,7 +64,7 @@ module _ (p : Plan) (dem : ℕ → ℕ → ℕ) (ask : List Tick → Frac) (lim 
 
   -- at a release that needs nothing
   releases-true : (t had : ℕ) → AreTrue had (all_release_notes p dem t)
-  releases-true t had = each-flat (TellsTrue i k (dem i k) had) (count p) (release_notes p dem t) (λ j. at_release j (releases_at p j t) (nat_eq (dem j (latest p j t)) 0) refl)
+  releases-true t had = each-flat (TellsTrue i k (dem i k) had) (count p) (release_notes p dem t) (λ j lt. at_release j (releases_at p j t) (nat_eq (dem j (latest p j t)) 0) refl)
     where
       at_release : (j : ℕ) (a b : Bool) → nat_eq (dem j (latest p j t)) 0 ≡ b
           → AreTrue had (if a then Release t j (latest p j t) ∷ (if b then Done (record { tick = t; offset = 0 }) j (latest p j t) 0 ∷ [] else []) else [])

@@ -4,3 +4,8 @@ pub mod HeldUnits
 pub mod SameNotes
 pub mod FixedNotes
 pub mod OwnDemands
+pub mod BlindDemands
+pub mod FitNotes
+pub mod Owning
+pub mod FixedRows
+pub mod OneEnd

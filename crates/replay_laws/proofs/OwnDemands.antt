@@ -1,5 +1,5 @@
 -- Notes of a schedule are those of the schedule for the demand list that they fix.
-use Rattle.std.proofs.Common.{◌≡◌, ◌+◌, ◌-◌, ◌*◌, ◌<◌, ◌≤◌, ℕ, zero, suc, true, false, List, [], ◌∷◌, length, refl, ap, ◌∙◌, sym, subst, arith, inl, inr}
+use Rattle.std.proofs.Common.{◌≡◌, ◌+◌, ◌-◌, ◌*◌, ◌<◌, ◌≤◌, ℕ, zero, suc, true, false, List, [], ◌∷◌, length, refl, ap, ◌∙◌, sym, arith, inl, inr}
 use Rattle.std.specs.Prelude.{sum_by, Option, Some, None, unwrap_or, option_map}
 use Rattle.std.proofs.lemmas.Bool.Decides.{nat_tests}
 use Rattle.dvs_base.specs.declared.note.Note.{Note}
@@ -18,7 +18,7 @@ use Rattle.done_lines.proofs.DoneNotes.{tells_done, times, times-append}
 use Rattle.done_lines.proofs.DoneCounts.{told-once}
 use Rattle.replay_laws.specs.Alike.{Asking, Alike, IsBlind}
 use Rattle.replay_laws.specs.FixedDemands.{fixed_of}
-use Rattle.replay_laws.specs.OwnList.{ticks_by, notes_by, TellSame, LooksAtNone, AreNotesFor, HasOwnList}
+use Rattle.replay_laws.specs.OwnList.{ticks_by, notes_by, TellSame, LooksAtNone}
 use Rattle.replay_laws.proofs.SameCourse.{same-course}
 use Rattle.replay_laws.proofs.SameNotes.{same-notes}
 use Rattle.replay_laws.proofs.FixedNotes.{Fixes, fixes, notes-true}
@@ -53,11 +53,11 @@ module _ (p : Plan) (lim : IsWithinLimits p) (ask : Asking) (blind : IsBlind p a
       (same-ticks dem other ticks h.none alike, same-told dem other ticks h.none h.other_none alike)
 
 -- the demand of a job by a row, and without one
-demand-row : (p : Plan) (rows : List DemandRow) (i k units : ℕ) → 1 ≤ k → named rows i k ≡ Some units → demand_of p rows i k ≡ units + 2 * p.machine.charge
+pub demand-row : (p : Plan) (rows : List DemandRow) (i k units : ℕ) → 1 ≤ k → named rows i k ≡ Some units → demand_of p rows i k ≡ units + 2 * p.machine.charge
 demand-row p rows i zero units some e = absurd (omega (arith, some))
 demand-row p rows i (suc k) units some e = ap (λ (o : Option ℕ). unwrap_or (option_map (λ u. u + 2 * p.machine.charge) o) (worst p i)) e
 
-demand-none : (p : Plan) (rows : List DemandRow) (i k : ℕ) → 1 ≤ k → named rows i k ≡ None → demand_of p rows i k ≡ worst p i
+pub demand-none : (p : Plan) (rows : List DemandRow) (i k : ℕ) → 1 ≤ k → named rows i k ≡ None → demand_of p rows i k ≡ worst p i
 demand-none p rows i zero some e = absurd (omega (arith, some))
 demand-none p rows i (suc k) some e = ap (λ (o : Option ℕ). unwrap_or (option_map (λ u. u + 2 * p.machine.charge) o) (worst p i)) e
 
@@ -93,18 +93,6 @@ module _ (p : Plan) (lim : IsWithinLimits p) (ask : Asking) (blind : IsBlind p a
   own-told : (i k : ℕ) → 1 ≤ k → named (fixed_of p all_notes) i k ≡ Some (dem i k - 2 * p.machine.charge) → own i k ≡ dem i k
   own-told i k some e = omega (arith, demand-row p (fixed_of p all_notes) i k (dem i k - 2 * p.machine.charge) some e, charge-least p rows i k some)
 
-  -- the list is within the worst cases
-  own-within : IsWithin p own
-  own-within = record { most = most; none = λ i. refl }
-    where
-      most : (i k : ℕ) → i < count p → own i k ≤ worst p i
-      most i zero lt = omega arith
-      most i (suc k) lt = go (told i (suc k) lt (omega arith))
-        where
-          go : Fixes p dem i (suc k) (exec p ticks i (suc k)) (named (fixed_of p all_notes) i (suc k)) (times (tells_done i (suc k)) all_notes) → own i (suc k) ≤ worst p i
-          go (inl a) = omega (arith, demand-none p (fixed_of p all_notes) i (suc k) (omega arith) a.0)
-          go (inr b) = omega (arith, own-told i (suc k) (omega arith) b.0, within.most i (suc k) lt)
-
   -- the end of a finished job is told
   told-finished : (i k : ℕ) → i < count p → 1 ≤ k → release p i k < length ticks → is_done p dem ticks i k ≡ true → times (tells_done i k) all_notes ≡ 1
   told-finished i k lt some early done =
@@ -139,13 +127,6 @@ module _ (p : Plan) (lim : IsWithinLimits p) (ask : Asking) (blind : IsBlind p a
           let more : exec p ticks i k < dem i k = grind (arith, nat_tests, open_job) in
           absurd (omega (arith, more, b.1))
 
-  -- the notes are those of their own list
-  own-notes : AreNotesFor p ask t all_notes (fixed_of p all_notes)
-  own-notes = record {
-    within = own-within;
-    notes_are = sym (looks-at-none p lim ask blind dem own t tell-same).1;
-  }
-
-pub has-own-list : (p : Plan) → IsWithinLimits p → (ask : Asking) → IsBlind p ask → HasOwnList p ask
-has-own-list p lim ask blind t notes rows h =
-    subst (λ ns. AreNotesFor p ask t ns (fixed_of p ns)) (sym h.notes_are) (own-notes p lim ask blind rows h.within t)
+  -- and its notes are the same
+  pub own-notes : all_notes ≡ notes_by p ask own t
+  own-notes = sym (looks-at-none p lim ask blind dem own t tell-same).1

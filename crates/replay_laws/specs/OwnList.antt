@@ -1,10 +1,12 @@
 -- Notes of a schedule are those of the schedule for the demand list that they fix.
 use Rattle.std.specs.Prelude.{◌≡◌, ◌<◌, ◌≤◌, ℕ, true, false, List, length}
+use Rattle.std.specs.List.{AllByRecursion}
 use Rattle.dvs_base.specs.declared.kind.GovernorKind.{GovernorKind}
 use Rattle.dvs_base.specs.declared.note.Note.{Note}
+use Rattle.dvs_base.specs.declared.note.Note.TheVariants.{Done}
 use Rattle.grid_fraction.specs.declared.Frac.{Frac}
 use Rattle.task_model.specs.DemandRows.{DemandRow}
-use Rattle.sched_model.specs.Plan.{Plan, count}
+use Rattle.sched_model.specs.Plan.{Plan, count, worst}
 use Rattle.sched_model.specs.Jobs.{release}
 use Rattle.sched_model.specs.Ticks.{Tick, exec, is_done}
 use Rattle.sched_model.specs.Demands.{demand_of, IsWithin}
@@ -12,6 +14,7 @@ use Rattle.sched_model.specs.Demand.{published}
 use Rattle.sched_model.specs.Schedule.{schedule_by}
 use Rattle.sched_model.specs.States.{StateOf}
 use Rattle.sched_model.specs.Notes.{notes_of}
+use Rattle.sched_model.specs.Text.{run_notes, run_text}
 use Rattle.governor.specs.Schedule.{ask_of}
 use Rattle.replay_laws.specs.Alike.{Asking}
 use Rattle.replay_laws.specs.FixedDemands.{fixed_of}
@@ -42,9 +45,26 @@ pub record AreNotesFor (p : Plan) (ask : Asking) (ticks : ℕ) (notes : List Not
   pub within : IsWithin p (demand_of p rows)
   pub notes_are : notes ≡ notes_by p ask (demand_of p rows) ticks
 
--- notes of the schedule for some list are those for the list that they fix
-abbrev pub HasOwnList : Plan → Asking → Type 0
-HasOwnList p ask = (ticks : ℕ) (notes : List Note) (rows : List DemandRow) → AreNotesFor p ask ticks notes rows → AreNotesFor p ask ticks notes (fixed_of p notes)
+-- the end of a job tells no more units than its task's worst case
+abbrev pub IsFit : Plan → Note → Type 0
+IsFit p (Done at_end i k used) = used ≤ worst p i
+IsFit p _ = Unit {0}
+
+-- the notes are those of the schedule for the list that they fix, and each end is fit
+pub record AreOwn (p : Plan) (ask : Asking) (ticks : ℕ) (notes : List Note) : Type 0 where
+  pub fit : AllByRecursion (IsFit p) notes
+  pub notes_are : notes ≡ notes_by p ask (demand_of p (fixed_of p notes)) ticks
+
+-- notes are those of the schedule for some list exactly where they are those for the list that they fix
+pub record HasOwnList (p : Plan) (ask : Asking) : Type 0 where
+  pub of_some : (ticks : ℕ) (notes : List Note) (rows : List DemandRow) → AreNotesFor p ask ticks notes rows → AreOwn p ask ticks notes
+  pub of_own : (ticks : ℕ) (notes : List Note) → AreOwn p ask ticks notes → AreNotesFor p ask ticks notes (fixed_of p notes)
+
+-- the text of a run is that of the run for the list that its notes fix
+abbrev pub TextHasOwnList : Plan → GovernorKind → Type 0
+TextHasOwnList p kind =
+    (ticks : ℕ) (rows : List DemandRow) → IsWithin p (demand_of p rows)
+    → run_text p kind (demand_of p rows) ticks ≡ run_text p kind (demand_of p (fixed_of p (run_notes p kind (demand_of p rows) ticks))) ticks
 
 -- it is so whatever a governor makes of the states, and of each published demand
 pub record OwnLists (p : Plan) : Type 0 where
@@ -52,3 +72,4 @@ pub record OwnLists (p : Plan) : Type 0 where
   pub own : (demand : Plan → StateOf → Frac) → HasOwnList p (ask_of demand p)
   pub published_looks : (kind : GovernorKind) → LooksAtNone p (published p kind)
   pub published_own : (kind : GovernorKind) → HasOwnList p (published p kind)
+  pub text : (kind : GovernorKind) → TextHasOwnList p kind

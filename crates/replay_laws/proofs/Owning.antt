@@ -1,0 +1,43 @@
+-- Notes are those of the schedule for some demand list exactly where they are those for the list that they fix.
+use Rattle.std.proofs.Common.{ℕ, List, ap, sym, subst}
+use Rattle.dvs_base.specs.declared.kind.GovernorKind.{GovernorKind}
+use Rattle.task_model.specs.DemandRows.{DemandRow}
+use Rattle.sched_model.specs.Plan.{Plan, names}
+use Rattle.sched_model.specs.Demands.{demand_of, IsWithin}
+use Rattle.sched_model.specs.Demand.{published}
+use Rattle.sched_model.specs.Text.{trace_text}
+use Rattle.sched_model.specs.Admission.{IsWithinLimits}
+use Rattle.governor.specs.Schedule.{ask_of}
+use Rattle.replay_laws.specs.Alike.{Asking, IsBlind}
+use Rattle.replay_laws.specs.OwnList.{ticks_by, notes_by, AreOwn, HasOwnList, TextHasOwnList, OwnLists}
+use Rattle.replay_laws.proofs.SameState.{blind-own}
+use Rattle.replay_laws.proofs.BlindDemands.{blind-published}
+use Rattle.replay_laws.proofs.OwnDemands.{looks-at-none, own-notes}
+use Rattle.replay_laws.proofs.FitNotes.{notes-fit, fixed-within}
+
+module _ (p : Plan) (lim : IsWithinLimits p) (ask : Asking) (blind : IsBlind p ask) where
+  are-own : (ticks : ℕ) (rows : List DemandRow) → IsWithin p (demand_of p rows) → AreOwn p ask ticks (notes_by p ask (demand_of p rows) ticks)
+  are-own ticks rows within = record {
+    fit = notes-fit p lim (demand_of p rows) (ask (demand_of p rows)) within (ticks_by p ask (demand_of p rows) ticks);
+    notes_are = own-notes p lim ask blind rows within ticks;
+  }
+
+  pub has-own-list : HasOwnList p ask
+  has-own-list = record {
+    of_some = λ ticks notes rows h. subst (AreOwn p ask ticks) (sym h.notes_are) (are-own ticks rows h.within);
+    of_own = λ ticks notes h. record { within = fixed-within p notes h.fit; notes_are = h.notes_are };
+  }
+
+text-own : (p : Plan) → IsWithinLimits p → (kind : GovernorKind) → TextHasOwnList p kind
+text-own p lim kind ticks rows within =
+    ap (trace_text p.scheduler kind ticks (names p)) (own-notes p lim (published p kind) (blind-published p lim kind) rows within ticks)
+
+-- of whatever a governor makes of the states, and of each published demand
+pub own-lists : (p : Plan) → IsWithinLimits p → OwnLists p
+own-lists p lim = record {
+  looks = λ demand. looks-at-none p lim (ask_of demand p) (blind-own p lim demand);
+  own = λ demand. has-own-list p lim (ask_of demand p) (blind-own p lim demand);
+  published_looks = λ kind. looks-at-none p lim (published p kind) (blind-published p lim kind);
+  published_own = λ kind. has-own-list p lim (published p kind) (blind-published p lim kind);
+  text = text-own p lim;
+}
