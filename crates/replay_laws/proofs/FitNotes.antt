@@ -17,7 +17,7 @@ use Rattle.sched_model.specs.Admission.{IsWithinLimits}
 use Rattle.sched_model.specs.Segments.{Span, spans_of, Piece, pieces_of, position_of}
 use Rattle.sched_model.specs.Notes.{release_notes, all_release_notes, had_by, segment_notes, pieces_notes, span_notes, energy_run, energy_idle, notes_before_end, notes_of}
 use Rattle.sched_model.proofs.NoteLemmas.{flat_map-last}
-use Rattle.done_lines.proofs.PlainLines.{each-append}
+use Rattle.trace_text.proofs.PlainLines.{each-append}
 use Rattle.replay_laws.specs.FixedDemands.{fixed_of}
 use Rattle.replay_laws.specs.OwnList.{IsFit}
 use Rattle.replay_laws.proofs.HeldUnits.{IsHeldBefore, each-weaker, each-piece, spans-held}

@@ -41,11 +41,18 @@ made_row tasks x r =
     let i = r / 4 in record { task = i; job = r % 4 + 1; units = draw x r % ((task_at tasks i).worst + 1) }
 
 abbrev pub made_demands : List Task → ℕ → DemandsOf
-made_demands tasks x = record { worsts = map (λ t. t.worst) tasks; rows = list_below (4 * length tasks) (made_row tasks x) }
+made_demands tasks x = record {
+  worsts = map (λ t. t.worst) tasks;
+  rows = list_below (4 * length tasks) (made_row tasks x);
+}
 
 -- four speeds, an idle unit at a tenth, and no charge
 abbrev pub made_machine : Table
-made_machine = record { points = at 250 2000 ∷ at 500 3000 ∷ at 750 4000 ∷ at 1000 5000 ∷ []; idle = 100; charge = 0 }
+made_machine = record {
+  points = at 250 2000 ∷ at 500 3000 ∷ at 750 4000 ∷ at 1000 5000 ∷ [];
+  idle = 100;
+  charge = 0;
+}
   where
     at : ℕ → ℕ → Point
     at speed millivolts = record { speed = speed; millivolts = millivolts }

@@ -132,7 +132,8 @@ fn make_machine(alloc: Global) -> Result<Machine, NoMemory>
     Machine::of(alloc, 100, 0, &points)
 }
 
-/// So many tasks with a machine and demands, from a seed. It fails only where memory runs out.
+/// So many tasks, 1 to 64, with a machine and demands, from a seed: periods in ticks, worst cases and demands in work
+/// units. It fails only where memory runs out.
 pub fn make(alloc: Global, seed: u64, tasks: u32) -> Result<(TaskSet, Machine, Demands), NoMemory>
     requires some { 1 ≤ tasks }
     requires few { tasks ≤ 64 }

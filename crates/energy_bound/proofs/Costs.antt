@@ -1,0 +1,181 @@
+-- The bound that a pair of corners gives, and where it is reached.
+use Rattle.std.proofs.Common.{◌≡◌, Bool, true, false, ℕ, zero, suc, ◌+◌, ◌-◌, ◌*◌, ◌<◌, ◌≤◌, List, [], ◌∷◌, ◌++◌, length, replicate, refl, ◌∙◌, ap, ap₂, arith, mul-le-mul, mul-le-mul_left, length-append}
+use Rattle.std.specs.Prelude.{sum_by, nat_lt, if◌then◌else◌}
+use Rattle.std.specs.Int.{abs_diff}
+use Rattle.std.proofs.lemmas.Bool.Decides.{nat_tests}
+use Rattle.std.specs.List.{AllByRecursion}
+use Rattle.std.proofs.lemmas.List.{length-replicate}
+use Rattle.std.proofs.lemmas.List.Elements.{recursion_from_All, All-append, All-replicate}
+use Rattle.std.proofs.lemmas.List.Sums.{sum_by-cons, sum_by-append}
+use Rattle.std.proofs.lemmas.List.Folds.{sum_by-replicate}
+use Rattle.freq_table.specs.Tables.{Table, speed_at, IsTable}
+use Rattle.energy_bound.specs.Choices.{Choice, IsChoice, AreChoices, choice_cost, total_units, total_cost}
+use Rattle.energy_bound.specs.Corners.{corner, corner_units, corner_cost, last_corner, Holds}
+use Rattle.energy_bound.specs.Certificates.{least_of}
+use Rattle.energy_bound.specs.Bounds.{BoundsChoices, IsReached, HavePrices}
+use Rattle.energy_bound.proofs.Lines.{cancel-le}
+use Rattle.energy_bound.proofs.CornerLemmas.{volts, idle-cost, full-cost, units-climb, units-order, cost-climb, volts-climb}
+
+-- a tick of w units, r below its speed f, costs no less than the mix of an idle tick and a full one
+over_mix : (w r f v share f0 v0 : ℕ) → f0 * v0 * v0 ≤ f * v * v
+    → r * (f0 * v0 * v0 * share) + w * (f * v * v * 1000) ≤ f * (v * v * (1000 * w + share * r))
+over_mix w r f v share f0 v0 h =
+    let idle : r * share * (f0 * v0 * v0) ≤ r * share * (f * v * v) = mul-le-mul_left (r * share) h in
+    omega (arith, idle)
+
+-- so where an idle tick and a full one are on or above a line, the tick is: M * units + s is at most D * cost + g
+over_line : (w r f M D s g idle full cost : ℕ) → w + r ≡ f → 0 < f → s ≤ D * idle + g → M * f + s ≤ D * full + g
+    → r * idle + w * full ≤ f * cost → M * w + s ≤ D * cost + g
+over_line w r f M D s g idle full cost whole pos h0 hf mix =
+    cancel-le f (M * w + s) (D * cost + g) pos
+    (omega (arith, ap (λ v. v * s) whole, ap (λ v. v * g) whole, mul-le-mul_left r h0, mul-le-mul_left w hf, mul-le-mul_left D mix))
+
+-- the sums of the two corners' ticks
+mixed_energy : (M ca ub cb ua T W h l : ℕ) → ca + M ≡ cb → T * ua + h ≡ W → W + l ≡ T * ub → h * cb + l * ca + T * (cb * ua) ≡ M * W + T * (ca * ub)
+mixed_energy M ca ub cb ua T W h l rise low high =
+    omega (arith, ap (λ v. cb * v) low, ap (λ v. v * W) rise, ap (λ v. ca * v) high)
+
+mixed_units : (D ua ub T W h l : ℕ) → ua + D ≡ ub → T * ua + h ≡ W → W + l ≡ T * ub → l * ua + h * ub ≡ D * W
+mixed_units D ua ub T W h l rise low high =
+    omega (arith, ap (λ v. v * ub) low, ap (λ v. v * ua) high, ap (λ v. v * W) rise)
+
+mixed_ticks : (D ua ub T W h l : ℕ) → ua + D ≡ ub → T * ua + h ≡ W → W + l ≡ T * ub → l + h ≡ D * T
+mixed_ticks D ua ub T W h l rise low high = omega (arith, ap (λ v. T * v) rise, low, high)
+
+-- what holds of each tick holds of all of them
+over_all : (M D s g : ℕ) (m : Table) (xs : List Choice) → AllByRecursion (λ x. M * x.units + s ≤ D * choice_cost m x + g) xs
+    → M * total_units xs + length xs * s ≤ D * total_cost m xs + length xs * g
+over_all M D s g m [] each = omega arith
+over_all M D s g m (x ∷ xs) each =
+    omega (
+      arith,
+      each.0,
+      over_all M D s g m xs each.1,
+      ap (λ v. M * v) (sum_by-cons (λ (y : Choice). y.units) x xs),
+      ap (λ v. D * v) (sum_by-cons (choice_cost m) x xs),
+    )
+
+-- the difference of two numbers stands on the side of the smaller
+difference : (s g : ℕ) (b : Bool) → nat_lt s g ≡ b → s + (if b then abs_diff s g else 0) ≡ g + (if b then 0 else abs_diff s g)
+difference s g true e = let less : s < g = grind (arith, nat_tests) in omega arith
+difference s g false e = let le : g ≤ s = grind (arith, nat_tests) in omega arith
+
+module _ (m : Table) (table : IsTable m) (units ticks a b : ℕ) (h : Holds m units ticks a b) where
+  -- the units and the cost that the high corner has more, and what the line has at no units
+  abbrev D : ℕ
+  D = corner_units m b - corner_units m a
+
+  abbrev M : ℕ
+  M = corner_cost m b - corner_cost m a
+
+  abbrev s : ℕ
+  s = corner_cost m a * corner_units m b
+
+  abbrev g : ℕ
+  g = corner_cost m b * corner_units m a
+
+  order : a < b
+  order = units-order m table a b h.low h.high h.slower
+
+  more-units : corner_units m a + D ≡ corner_units m b
+  more-units = let less = h.slower in omega arith
+
+  more-cost : corner_cost m a + M ≡ corner_cost m b
+  more-cost = let le = cost-climb m table a b (omega (arith, order)) h.high in omega arith
+
+  -- a tick of a choice is on or above the line
+  tick-above : (x : Choice) → IsChoice m x → M * x.units + s ≤ D * choice_cost m x + g
+  tick-above x c =
+      over_line x.units (f - x.units) f M D s g (corner_cost m 0) (corner_cost m (suc x.entry)) (choice_cost m x) whole pos
+      (let l = h.supporting 0 (omega arith) in omega arith) (h.supporting (suc x.entry) (omega (arith, c.entry))) mix
+    where
+      f : ℕ
+      f = speed_at m x.entry
+
+      whole : x.units + (f - x.units) ≡ f
+      whole = let le = c.units in omega arith
+
+      pos : 0 < f
+      pos = let some = (table.each x.entry c.entry).some_speed in omega arith
+
+      heavier : speed_at m 0 * volts m 0 * volts m 0 ≤ f * volts m x.entry * volts m x.entry
+      heavier =
+          mul-le-mul (mul-le-mul (units-climb m table 1 (suc x.entry) (omega arith) (omega (arith, c.entry)))
+          (volts-climb m table 0 x.entry (omega arith) c.entry)) (volts-climb m table 0 x.entry (omega arith) c.entry)
+
+      mix : (f - x.units) * corner_cost m 0 + x.units * corner_cost m (suc x.entry) ≤ f * choice_cost m x
+      mix =
+          let over = over_mix x.units (f - x.units) f (volts m x.entry) m.idle (speed_at m 0) (volts m 0) heavier in
+          omega (arith, over, ap (λ v. (f - x.units) * v) (idle-cost m), ap (λ v. x.units * v) (full-cost m x.entry))
+
+  -- what the two corners do in the ticks
+  low-ticks : ticks * corner_units m a + (units - ticks * corner_units m a) ≡ units
+  low-ticks = let le = h.enough in omega arith
+
+  high-ticks : units + (ticks * corner_units m b - units) ≡ ticks * corner_units m b
+  high-ticks = let le = h.within in omega arith
+
+  abbrev mix_energy : ℕ
+  mix_energy = (units - ticks * corner_units m a) * corner_cost m b + (ticks * corner_units m b - units) * corner_cost m a
+
+  on-line : mix_energy + ticks * g ≡ M * units + ticks * s
+  on-line = mixed_energy M (corner_cost m a) (corner_units m b) (corner_cost m b) (corner_units m a) ticks units (units - ticks * corner_units m a) (ticks * corner_units m b - units) more-cost low-ticks high-ticks
+
+  all-above : (xs : List Choice) → AreChoices m xs → M * total_units xs + length xs * s ≤ D * total_cost m xs + length xs * g
+  all-above xs each = over_all M D s g m xs (recursion_from_All _ xs (λ k d lt. tick-above _ (each k d lt)))
+
+  pub bounds : BoundsChoices m units ticks (least_of m units ticks a b)
+  bounds n xs each long whole =
+      omega (
+        arith,
+        all-above xs each,
+        ap (λ v. M * v) whole,
+        ap (λ v. v * s) long,
+        ap (λ v. v * g) long,
+        ap (λ v. n * v) on-line,
+      )
+
+  corner-choice : (k : ℕ) → k ≤ last_corner m → IsChoice m (corner m k)
+  corner-choice zero le = record { entry = (let some = table.some in omega arith); units = omega arith }
+  corner-choice (suc e) le = record { entry = le; units = omega arith }
+
+  abbrev low_part : List Choice
+  low_part = replicate (ticks * corner_units m b - units) (corner m a)
+
+  abbrev high_part : List Choice
+  high_part = replicate (units - ticks * corner_units m a) (corner m b)
+
+  mixed-sum : (f : Choice → ℕ) → sum_by f (low_part ++ high_part) ≡ (ticks * corner_units m b - units) * f (corner m a) + (units - ticks * corner_units m a) * f (corner m b)
+  mixed-sum f =
+      sum_by-append f low_part high_part
+      ∙ ap₂ (λ v w. v + w) (sum_by-replicate f (ticks * corner_units m b - units) (corner m a)) (sum_by-replicate f (units - ticks * corner_units m a) (corner m b))
+
+  pub reached : IsReached m units ticks (least_of m units ticks a b)
+  reached = record {
+    some = (let less = h.slower in omega arith);
+    low = a;
+    high = b;
+    reached = record {
+      low_corner = h.low;
+      low = refl;
+      high_corner = h.high;
+      high = refl;
+      choices = All-append (IsChoice m) low_part high_part
+          (All-replicate (IsChoice m) (ticks * corner_units m b - units) (corner m a) (corner-choice a h.low))
+          (All-replicate (IsChoice m) (units - ticks * corner_units m a) (corner m b) (corner-choice b h.high));
+      all_ticks =
+          length-append low_part high_part
+          ∙ (ap₂ (λ v w. v + w) (length-replicate (ticks * corner_units m b - units) (corner m a)) (length-replicate (units - ticks * corner_units m a) (corner m b))
+          ∙ mixed_ticks D (corner_units m a) (corner_units m b) ticks units (units - ticks * corner_units m a) (ticks * corner_units m b - units) more-units low-ticks high-ticks);
+      all_units =
+          mixed-sum (λ (x : Choice). x.units)
+          ∙ mixed_units D (corner_units m a) (corner_units m b) ticks units (units - ticks * corner_units m a) (ticks * corner_units m b - units) more-units low-ticks high-ticks;
+      cost = mixed-sum (choice_cost m) ∙ omega arith;
+    };
+  }
+
+  pub prices : HavePrices m units ticks (least_of m units ticks a b)
+  prices = record {
+    each = λ x c. omega (arith, tick-above x c, difference s g (nat_lt s g) refl);
+    all = omega (arith, on-line, ap (λ v. v * ticks) (difference s g (nat_lt s g) refl));
+  }

@@ -1,0 +1,9 @@
+pub mod Lines
+pub mod CornerLemmas
+pub mod Pairs
+pub mod Costs
+pub mod FirstPair
+pub mod SegmentSums
+pub mod ScheduleCosts
+pub mod Certifying
+pub mod LeastTest

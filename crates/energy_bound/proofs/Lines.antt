@@ -1,0 +1,90 @@
+-- Points on or above the line through two others, in whole numbers without a minus.
+use Rattle.std.proofs.Common.{◌≡◌, ℕ, ◌+◌, ◌-◌, ◌*◌, ◌<◌, ◌≤◌, ◌⊎◌, inl, inr, arith, ap, mul-le-mul_left, mul-le-mul_right}
+use Rattle.std.proofs.lemmas.Bool.{cases_lt}
+
+-- the point (x, y) is on or above the line through (p, c) and (q, d), where p < q
+abbrev pub Above : (p c q d x y : ℕ) → Type 0
+Above p c q d x y = d * x + c * q + p * y ≤ q * y + d * p + c * x
+
+pub above-first : (p c q d : ℕ) → Above p c q d p c
+above-first p c q d = omega arith
+
+pub above-second : (p c q d : ℕ) → Above p c q d q d
+above-second p c q d = omega arith
+
+-- by what the second point has more than the first: D units and M cost
+pub above-rise : (p c q d D M x y : ℕ) → p + D ≡ q → c + M ≡ d → Above p c q d x y → M * x + c * q ≤ D * y + d * p
+above-rise p c q d D M x y e f h = omega (arith, ap (λ v. v * x) f, ap (λ v. v * y) e, h)
+
+pub rise-above : (p c q d D M x y : ℕ) → p + D ≡ q → c + M ≡ d → M * x + c * q ≤ D * y + d * p → Above p c q d x y
+rise-above p c q d D M x y e f h = omega (arith, ap (λ v. v * x) f, ap (λ v. v * y) e, h)
+
+-- a product can be cancelled
+pub cancel-le : (k m n : ℕ) → 0 < k → k * m ≤ k * n → m ≤ n
+cancel-le k m n pos h = go (cases_lt n m)
+  where
+    go : (n < m) ⊎ (m ≤ n) → m ≤ n
+    go (inl lt) = absurd (omega (arith, mul-le-mul_left k (let more : n + 1 ≤ m = omega arith in more)))
+    go (inr le) = le
+
+-- fractions with denominators from 1 on are in order
+pub ratio-trans : (a b c d e f : ℕ) → 0 < d → a * d ≤ c * b → c * f ≤ e * d → a * f ≤ e * b
+ratio-trans a b c d e f pos h g =
+    cancel-le d (a * f) (e * b) pos (omega (arith, mul-le-mul_right f h, mul-le-mul_right b g))
+
+-- By what the last point (U, C) has more than the others: the point (x, y) is on or above the line from (p, c) to it where the
+-- slope from (x, y) to it is no greater than that from (p, c).
+pub slope-above : (p c U C x y E M D N : ℕ) → p + E ≡ U → c + M ≡ C → x + D ≡ U → y + N ≡ C → N * E ≤ M * D → Above p c U C x y
+slope-above p c U C x y E M D N pe cm xd yn h =
+    omega (
+      arith,
+      ap (λ v. v * x) cm,
+      ap (λ v. v * p) cm,
+      ap (λ v. c * v) pe,
+      ap (λ v. v * y) pe,
+      ap (λ v. M * v) pe,
+      ap (λ v. M * v) xd,
+      ap (λ v. E * v) cm,
+      ap (λ v. E * v) yn,
+      h,
+    )
+
+pub above-slope : (p c U C x y E M D N : ℕ) → p + E ≡ U → c + M ≡ C → x + D ≡ U → y + N ≡ C → Above p c U C x y → N * E ≤ M * D
+above-slope p c U C x y E M D N pe cm xd yn h =
+    omega (
+      arith,
+      ap (λ v. v * x) cm,
+      ap (λ v. v * p) cm,
+      ap (λ v. c * v) pe,
+      ap (λ v. v * y) pe,
+      ap (λ v. M * v) pe,
+      ap (λ v. M * v) xd,
+      ap (λ v. E * v) cm,
+      ap (λ v. E * v) yn,
+      h,
+    )
+
+-- Where a point is on or above the line of a pair, and the first of the pair on or above the line from that point to a last
+-- one, the last one is on or above the line of the pair.
+chain-by : (p c D M P X Q Y : ℕ) → 0 < P → Above p c (p + D) (c + M) (p + P) (c + X)
+    → Above (p + P) (c + X) (p + P + Q) (c + X + Y) p c
+    → Above p c (p + D) (c + M) (p + P + Q) (c + X + Y)
+chain-by p c D M P X Q Y pos h g =
+    let near : M * P ≤ D * X = omega (arith, h) in
+    let on : X * Q ≤ Y * P = omega (arith, g) in
+    let far : M * Q ≤ D * Y = cancel-le P (M * Q) (D * Y) pos (omega (arith, mul-le-mul_right Q near, mul-le-mul_left D on)) in
+    omega (arith, near, far)
+
+pub above-chain : (p c q d r e s f : ℕ) → p ≤ q → c ≤ d → p < r → c ≤ e → r ≤ s → e ≤ f
+    → Above p c q d r e → Above r e s f p c → Above p c q d s f
+above-chain p c q d r e s f pq cd pr ce rs ef h g =
+    let to_q : p + (q - p) ≡ q = omega arith in
+    let to_d : c + (d - c) ≡ d = omega arith in
+    let to_r : p + (r - p) ≡ r = omega arith in
+    let to_e : c + (e - c) ≡ e = omega arith in
+    let to_s : r + (s - r) ≡ s = omega arith in
+    let to_f : e + (f - e) ≡ f = omega arith in
+    rw (to_q, to_d, to_r, to_e, to_s, to_f) at
+    (chain-by p c (q - p) (d - c) (r - p) (e - c) (s - r) (f - e) (omega arith)
+    (rw (to_q, to_d, to_r, to_e) h)
+    (rw (to_r, to_e, to_s, to_f) g))

@@ -1,0 +1,49 @@
+-- What a certificate of least energy bounds, and where the bound is reached.
+use Rattle.std.specs.Prelude.{◌≡◌, ℕ, ◌+◌, ◌*◌, ◌≤◌, List, ◌++◌, length, replicate, if◌then◌else◌}
+use Rattle.freq_table.specs.Tables.{Table}
+use Rattle.energy_bound.specs.declared.least.Least.{Least}
+use Rattle.energy_bound.specs.Choices.{Choice, IsChoice, AreChoices, choice_cost, total_units, total_cost}
+use Rattle.energy_bound.specs.Corners.{corner, corner_units, last_corner}
+
+-- every choice for n times the ticks and n times the units costs, times `rounds`, at least n times the energy
+abbrev pub BoundsChoices : Table → ℕ → ℕ → Least → Type 0
+BoundsChoices m units ticks l =
+    (n : ℕ) (xs : List Choice) → AreChoices m xs → length xs ≡ n * ticks → total_units xs ≡ n * units
+    → n * l.energy ≤ l.rounds * total_cost m xs
+
+-- the low ticks at one corner, and then the high ticks at another
+abbrev pub mixed : Table → Least → ℕ → ℕ → List Choice
+mixed m l a b = replicate l.low_ticks (corner m a) ++ replicate l.high_ticks (corner m b)
+
+-- at two corners, with the low and the high speed, this choice does the units in the ticks, `rounds` times each, and
+-- costs the energy
+pub record IsReachedAt (m : Table) (units ticks : ℕ) (l : Least) (a b : ℕ) : Type 0 where
+  pub low_corner : a ≤ last_corner m
+  pub low : corner_units m a ≡ l.low
+  pub high_corner : b ≤ last_corner m
+  pub high : corner_units m b ≡ l.high
+  pub choices : AreChoices m (mixed m l a b)
+  pub all_ticks : length (mixed m l a b) ≡ l.rounds * ticks
+  pub all_units : total_units (mixed m l a b) ≡ l.rounds * units
+  pub cost : total_cost m (mixed m l a b) ≡ l.energy
+
+-- the bound is reached over `rounds` repetitions, of which there are some
+pub record IsReached (m : Table) (units ticks : ℕ) (l : Least) : Type 0 where
+  pub some : 1 ≤ l.rounds
+  pub low : ℕ
+  pub high : ℕ
+  pub reached : IsReachedAt m units ticks l low high
+
+-- the price of a tick: what is to be paid for it, and what is given where it is below 0
+abbrev pub tick_due : Least → ℕ
+tick_due l = if l.tick_minus then 0 else l.tick_price
+
+abbrev pub tick_refund : Least → ℕ
+tick_refund l = if l.tick_minus then l.tick_price else 0
+
+-- at the prices of a unit and of a tick, no tick of a choice costs less than its units and itself, times `rounds`; and
+-- the energy is what all units and ticks come to
+pub record HavePrices (m : Table) (units ticks : ℕ) (l : Least) : Type 0 where
+  pub each : (x : Choice) → IsChoice m x
+      → l.unit_price * x.units + tick_due l ≤ l.rounds * choice_cost m x + tick_refund l
+  pub all : l.energy + tick_refund l * ticks ≡ l.unit_price * units + tick_due l * ticks

@@ -1,0 +1,5 @@
+pub mod Choices
+pub mod Corners
+pub mod Certificates
+pub mod Bounds
+pub mod Schedules

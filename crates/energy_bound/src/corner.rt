@@ -1,0 +1,99 @@
+// The corners of a machine's choices.
+ghost use Rattle.std.specs.Prelude.{◌≡◌, ◌≤◌, ◌<◌, ◌^◌, ◌↔◌, ℕ, IsTrue, MatchOption};
+ghost use Rattle.energy_bound.specs.Corners.{corner_units, corner_cost, last_corner, HasUnits, IsAbove, IsSupporting, Holds};
+
+use energy::energy_of;
+use freq_table::Machine;
+
+/// The units and the cost of an idle tick at the first entry, or of a full tick.
+#[derive(Clone, Copy)]
+pub(crate) struct Corner {
+    pub units: u64,
+    pub cost: u128,
+    ghost low_units: { units ≤ 1000000 },
+    ghost low_cost: { cost ≤ 400000000000000000 },
+}
+
+/// Corner `k`: an idle tick at the first entry for 0, and from 1 on a full tick at each entry.
+pub(crate) fn nth_corner(machine: &Machine, k: u32) -> Corner
+    requires { k ≤ last_corner machine.now }
+    ensures units { result.units ≡ corner_units machine.now k }
+    ensures cost { result.cost ≡ corner_cost machine.now k }
+{
+    machine.known();
+    if k == 0 {
+        Corner {
+            units: 0,
+            cost: energy_of(machine, 0, machine.point(0).speed, true),
+        }
+    } else {
+        let units = machine.point(k - 1).speed;
+        Corner {
+            units,
+            cost: energy_of(machine, k - 1, units, false),
+        }
+    }
+}
+
+/// The number of the corner with so many units, if there is one.
+pub(crate) fn corner_with(machine: &Machine, units: u64) -> Option<u32>
+    ensures { MatchOption result ((k : ℕ) → HasUnits machine.now units k → ⊥) (HasUnits machine.now units) }
+{
+    machine.known();
+    for k in 0..machine.count() + 1 {
+        if nth_corner(machine, k).units == units {
+            return Some(k);
+        }
+    }
+    None
+}
+
+// Whether a corner lies on or above the line through two others.
+fn is_above(low: Corner, high: Corner, corner: Corner) -> bool
+    requires slower { low.units ≤ high.units }
+    requires cheaper { low.cost ≤ high.cost }
+    ensures { IsTrue result ↔ IsAbove low.units low.cost high.units high.cost corner.units corner.cost }
+{
+    let line = (high.cost - low.cost) * u128::from(corner.units)
+        + low.cost * u128::from(high.units);
+    let point = u128::from(high.units - low.units) * corner.cost
+        + high.cost * u128::from(low.units);
+    line <= point
+}
+
+// Whether no corner lies below the line through two of them.
+fn is_supporting(machine: &Machine, a: u32, b: u32) -> bool
+    requires order { a < b }
+    requires last { b ≤ last_corner machine.now }
+    ensures { IsTrue result ↔ IsSupporting machine.now a b }
+{
+    machine.known();
+    let low = nth_corner(machine, a);
+    let high = nth_corner(machine, b);
+    for k in 0..machine.count() + 1 {
+        if !is_above(low, high, nth_corner(machine, k)) {
+            return false;
+        }
+    }
+    true
+}
+
+/// Whether two corners hold for so many units in so many ticks.
+pub(crate) fn holds(machine: &Machine, units: u64, ticks: u64, a: u32, b: u32) -> bool
+    requires low { a ≤ last_corner machine.now }
+    requires high { b ≤ last_corner machine.now }
+    requires low_ticks { ticks ≤ 2 ^ 40 }
+    ensures { IsTrue result ↔ Holds machine.now units ticks a b }
+{
+    machine.known();
+    if a >= b {
+        return false;
+    }
+    if units < ticks * nth_corner(machine, a).units {
+        return false;
+    }
+    if units > ticks * nth_corner(machine, b).units {
+        return false;
+    }
+    is_supporting(machine, a, b)
+}
