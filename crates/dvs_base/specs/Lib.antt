@@ -5,3 +5,4 @@ pub mod Padded
 pub mod Parts
 pub mod Checks
 pub mod Settings
+pub mod Pairs
