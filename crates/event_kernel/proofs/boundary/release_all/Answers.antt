@@ -51,7 +51,7 @@ index-requires g c =
     let any = c.loop-task.any in
     let st = c.loop-task.state in
     let i = c.loop-task.task in
-    let lt : i < count p = rw (← c.count-task-end.ensures) c.loop-task-test.true in
+    let lt : i < count p = rw (← c.count-task-end.ensures.count) c.loop-task-test.true in
     let long : length st.rows ≡ count p = long-there p dem past adm.some_period g.L.Listener.heard g.L.Listener.balked c.args.to.now i any st c.loop-task.to r in
     let rows_are = ap (λ (v : StateOf). length v.rows) c.state-in-loop-task.view_is in
     omega (arith, lt, long, rows_are)
@@ -70,7 +70,7 @@ release_one-requires-clause-can g c =
     let any = c.loop-task.any in
     let st = c.loop-task.state in
     let i = c.loop-task.task in
-    let lt : i < count p = rw (← c.count-task-end.ensures) c.loop-task-test.true in
+    let lt : i < count p = rw (← c.count-task-end.ensures.count) c.loop-task-test.true in
     let long : length st.rows ≡ count p = long-there p dem past adm.some_period g.L.Listener.heard g.L.Listener.balked c.args.to.now i any st c.loop-task.to r in
     let row = c.index.result.now in
     let rows_are : c.state-in-loop-task.inside.rows.items ≡ st.rows = ap (λ (v : StateOf). v.rows) c.state-in-loop-task.view_is in
@@ -93,7 +93,7 @@ returns-in_err-release_one-clause-balked g c =
     let any = c.loop-task.any in
     let st = c.loop-task.state in
     let i = c.loop-task.task in
-    let lt : i < count p = rw (← c.count-task-end.ensures) c.loop-task-test.true in
+    let lt : i < count p = rw (← c.count-task-end.ensures.count) c.loop-task-test.true in
     let long : length st.rows ≡ count p = long-there p dem past adm.some_period g.L.Listener.heard g.L.Listener.balked c.args.to.now i any st c.loop-task.to r in
     let row = c.index.result.now in
     let rows_are : c.state-in-loop-task.inside.rows.items ≡ st.rows = ap (λ (v : StateOf). v.rows) c.state-in-loop-task.view_is in
@@ -118,7 +118,7 @@ loop-task-preserved g c =
     let any = c.loop-task.any in
     let st = c.loop-task.state in
     let i = c.loop-task.task in
-    let lt : i < count p = rw (← c.count-task-end.ensures) c.loop-task-test.true in
+    let lt : i < count p = rw (← c.count-task-end.ensures.count) c.loop-task-test.true in
     let long : length st.rows ≡ count p = long-there p dem past adm.some_period g.L.Listener.heard g.L.Listener.balked c.args.to.now i any st c.loop-task.to r in
     let row = c.index.result.now in
     let rows_are : c.state-in-loop-task.inside.rows.items ≡ st.rows = ap (λ (v : StateOf). v.rows) c.state-in-loop-task.view_is in
@@ -148,7 +148,7 @@ returns-then-any-clause-state g c =
     let any = c.loop-task.any in
     let st = c.loop-task.state in
     let i = c.loop-task.task in
-    let whole : i ≡ count p = omega (arith, c.count-task-end.ensures) in
+    let whole : i ≡ count p = omega (arith, c.count-task-end.ensures.count) in
     c.mark.ensures ∙ released-marked p dem past adm.some_period g.L.Listener.heard g.L.Listener.balked c.args.to.now i st c.loop-task.to whole (subst (λ b. Releasing p dem past g.L.Listener.heard i b st c.args.to.now c.loop-task.to) c.if-any.true r)
 
 pub returns-else-any-clause-state : goal.returns-else-any-clause-state
@@ -165,7 +165,7 @@ returns-else-any-clause-state g c =
     let any = c.loop-task.any in
     let st = c.loop-task.state in
     let i = c.loop-task.task in
-    let whole : i ≡ count p = omega (arith, c.count-task-end.ensures) in
+    let whole : i ≡ count p = omega (arith, c.count-task-end.ensures.count) in
     released-unmarked p dem past adm.some_period g.L.Listener.heard g.L.Listener.balked c.args.to.now i st c.loop-task.to c.requires.at.within.none whole (subst (λ b. Releasing p dem past g.L.Listener.heard i b st c.args.to.now c.loop-task.to) c.if-any.false r)
 
 pub release_one-requires-clause-room : goal.release_one-requires-clause-room
@@ -174,7 +174,7 @@ release_one-requires-clause-room g c =
     let p = c.args.plan.now in
     let dem = demands_of p c.args.demands.now in
     has-room p dem (course m p dem c.args.state.now.now) c.loop-task.task c.args.pen.now c.loop-task.pen
-    (omega (arith, (bounds p c.known.ensures).few_tasks, c.loop-task-test.true, c.count-task-end.ensures)) c.requires.room c.loop-task.invariant.3
+    (omega (arith, (bounds p c.known.ensures).few_tasks, c.loop-task-test.true, c.count-task-end.ensures.count)) c.requires.room c.loop-task.invariant.3
 
 pub returns-then-any-clause-pen : goal.returns-then-any-clause-pen
 returns-then-any-clause-pen g c =
@@ -182,7 +182,7 @@ returns-then-any-clause-pen g c =
     let p = c.args.plan.now in
     let dem = demands_of p c.args.demands.now in
     let t = c.args.state.now.now in
-    let whole : c.loop-task.task ≡ count p = omega (arith, c.count-task-end.ensures) in
+    let whole : c.loop-task.task ≡ count p = omega (arith, c.count-task-end.ensures.count) in
     c.loop-task.invariant.3
     ∙ (ap (λ n. with_notes c.args.pen.now (notes_upto p dem (course m p dem t) n)) whole
     ∙ ap (λ n. with_notes c.args.pen.now (all_release_notes p dem n)) (course-len m p dem t))
@@ -193,7 +193,7 @@ returns-else-any-clause-pen g c =
     let p = c.args.plan.now in
     let dem = demands_of p c.args.demands.now in
     let t = c.args.state.now.now in
-    let whole : c.loop-task.task ≡ count p = omega (arith, c.count-task-end.ensures) in
+    let whole : c.loop-task.task ≡ count p = omega (arith, c.count-task-end.ensures.count) in
     c.loop-task.invariant.3
     ∙ (ap (λ n. with_notes c.args.pen.now (notes_upto p dem (course m p dem t) n)) whole
     ∙ ap (λ n. with_notes c.args.pen.now (all_release_notes p dem n)) (course-len m p dem t))

@@ -24,7 +24,7 @@ point-rest-requires g c =
     let t = c.args.state.now.now in
     let here = c.requires.at in
     let adm = bounds c.args.plan.now c.known.ensures in
-    subst (λ (x : Table). c.args.index < length x.points) (sym c.machine.ensures) (entry-there g.L.Listener.heard g.L.Listener.balked m p dem t c.args.from c.args.index c.args.state.now c.args.pen.now adm here c.args.to.now)
+    subst (λ (x : Table). c.args.index < length x.points) (sym c.machine.ensures.machine) (entry-there g.L.Listener.heard g.L.Listener.balked m p dem t c.args.from c.args.index c.args.state.now c.args.pen.now adm here c.args.to.now)
 
 pub loop-rest-init : goal.loop-rest-init
 loop-rest-init g c =
@@ -34,7 +34,7 @@ loop-rest-init g c =
     let t = c.args.state.now.now in
     let here = c.requires.at in
     let adm = bounds c.args.plan.now c.known.ensures in (
-      begin g.L.Listener.heard g.L.Listener.balked m p dem t c.args.from c.args.index c.args.state.now c.args.pen.now adm here c.args.to.now c.point-rest.result.speed (ap (λ (q : Point). q.speed) c.point-rest.ensures ∙ ap (λ (x : Table). speed_at x c.args.index) c.machine.ensures),
+      begin g.L.Listener.heard g.L.Listener.balked m p dem t c.args.from c.args.index c.args.state.now c.args.pen.now adm here c.args.to.now c.point-rest.result.speed (ap (λ (q : Point). q.speed) c.point-rest.ensures ∙ ap (λ (x : Table). speed_at x c.args.index) c.machine.ensures.machine),
       c.requires.counters,
       subst (λ (s : StateOf). IsOfPlan p s) (sym here.state) (of-state p dem (course m p dem t) (low-exec m p dem t here.within)),
       omega arith,
