@@ -42,7 +42,7 @@ one-within worsts r i rest true true e h p = rw (sym (eqb-true r.task i e)) h.un
 one-within worsts r i rest true false e h p = p
 one-within worsts r i rest false job e h p = p
 
-named-within : (worsts : List ℕ) (rows : List DemandRow) (i k : ℕ) → AllByRecursion (IsRow worsts) rows → unwrap_or (named rows i k) (slice_index worsts i) ≤ slice_index worsts i
+pub named-within : (worsts : List ℕ) (rows : List DemandRow) (i k : ℕ) → AllByRecursion (IsRow worsts) rows → unwrap_or (named rows i k) (slice_index worsts i) ≤ slice_index worsts i
 named-within worsts [] i k h = omega arith
 named-within worsts (r ∷ rows) i k h = one-within worsts r i (named rows i k) (nat_eq r.task i) (nat_eq r.job k) refl h.0 (named-within worsts rows i k h.1)
 

@@ -110,7 +110,8 @@ impl Demands {
     /// The units of a job without the charge: its row's, else the declared worst case.
     pub fn units(&self, task: u32, job: u64) -> u64
         requires { task < length self.now.worsts }
-        ensures { result ≡ units_of self.now task job }
+        ensures units { result ≡ units_of self.now task job }
+        ensures low { result ≤ slice_index self.now.worsts task }
     {
         match row_of(&self.rows, task, job) {
             Some(units) => units,

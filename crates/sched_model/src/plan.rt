@@ -1,5 +1,7 @@
 // Admitted plans.
-ghost use Rattle.std.specs.Prelude.{◌≡◌, ◌<◌, IfOk, slice_index, map};
+ghost use Rattle.std.specs.Prelude.{◌≡◌, ◌<◌, ◌≤◌, ◌^◌, IfOk, slice_index, map};
+ghost use Rattle.task_model.specs.declared.limits.TheConstants.{MOST_TASKS, LONGEST_PERIOD, LATEST_OFFSET, LONGEST_HYPERPERIOD};
+ghost use Rattle.freq_table.specs.Tables.{IsTable};
 ghost use Rattle.task_model.specs.Tasks.{IsTaskSet};
 ghost use Rattle.sched_model.specs.Plan.{plan_of, count, names, task, period, offset, worst, hyper};
 ghost use Rattle.sched_model.specs.Order.{in_order};
@@ -94,7 +96,9 @@ impl Admitted {
 
     /// How many tasks there are, 1 to 64.
     pub fn count(&self) -> u32
-        ensures { result ≡ count self.now }
+        ensures count { result ≡ count self.now }
+        ensures some { 1 ≤ result }
+        ensures few { result ≤ MOST_TASKS }
     {
         self.tasks.len() as u32
     }
@@ -109,7 +113,9 @@ impl Admitted {
     /// The period of a task in ticks.
     pub fn period(&self, i: u32) -> u64
         requires { i < count self.now }
-        ensures { result ≡ period self.now i }
+        ensures period { result ≡ period self.now i }
+        ensures some { 1 ≤ result }
+        ensures low { result ≤ LONGEST_PERIOD }
     {
         self.tasks[i as usize].period
     }
@@ -117,7 +123,8 @@ impl Admitted {
     /// The tick of the first release of a task.
     pub fn offset(&self, i: u32) -> u64
         requires { i < count self.now }
-        ensures { result ≡ offset self.now i }
+        ensures offset { result ≡ offset self.now i }
+        ensures low { result ≤ LATEST_OFFSET }
     {
         self.tasks[i as usize].offset
     }
@@ -148,14 +155,16 @@ impl Admitted {
 
     /// The hyperperiod in ticks, the least common multiple of the periods.
     pub fn hyper(&self) -> u64
-        ensures { result ≡ hyper self.now }
+        ensures hyper { result ≡ hyper self.now }
+        ensures low { result ≤ LONGEST_HYPERPERIOD }
     {
         self.hyperperiod
     }
 
     /// The machine.
     pub fn machine(&self) -> &Machine
-        ensures { result.now ≡ self.now.machine }
+        ensures machine { result.now ≡ self.now.machine }
+        ensures limits { IsTable result.now }
     {
         &self.machine
     }
@@ -169,7 +178,9 @@ impl Admitted {
 
     /// The static demand in units per tick, not reduced (Pillai and Shin 2001).
     pub fn static_demand(&self) -> Frac
-        ensures { result ≡ static_demand self.now }
+        ensures static_demand { result ≡ static_demand self.now }
+        ensures some_den { 1 ≤ result.den }
+        ensures low_den { result.den ≤ 2 ^ 64 }
     {
         self.static_fraction
     }

@@ -12,10 +12,10 @@ overflow_add-count c =
     let adm = bounds p c.known.ensures in
     let i = c.loop-task.task in
     let n = c.args.ticks - offset p i in
-    let span_is : c.saturating_sub-span.result ≡ n = c.saturating_sub-span.ensures ∙ ap (λ o. c.args.ticks - o) c.offset.ensures in
+    let span_is : c.saturating_sub-span.result ≡ n = c.saturating_sub-span.ensures ∙ ap (λ o. c.args.ticks - o) c.offset.ensures.offset in
     let is : c.div_ceil-count.result ≡ ceil_div n (period p i) =
-    c.div_ceil-count.ensures ∙ (ap₂ (λ m d. m / d + min 1 (m % d)) span_is c.period.ensures ∙ ceil-is n (period p i) (adm.some_period i)) in
-    omega (arith, is, ceil-most n (period p i) (omega (arith, c.requires)) (adm.low_period i), c.loop-task.invariant.1, c.loop-task-test.true, c.count-task-end.ensures, adm.few_tasks)
+    c.div_ceil-count.ensures ∙ (ap₂ (λ m d. m / d + min 1 (m % d)) span_is c.period.ensures.period ∙ ceil-is n (period p i) (adm.some_period i)) in
+    omega (arith, is, ceil-most n (period p i) (omega (arith, c.requires)) (adm.low_period i), c.loop-task.invariant.1, c.loop-task-test.true, c.count-task-end.ensures.count, adm.few_tasks)
 
 pub loop-task-preserved : goal.loop-task-preserved
 loop-task-preserved c =
@@ -23,9 +23,9 @@ loop-task-preserved c =
     let adm = bounds p c.known.ensures in
     let i = c.loop-task.task in
     let n = c.args.ticks - offset p i in
-    let span_is : c.saturating_sub-span.result ≡ n = c.saturating_sub-span.ensures ∙ ap (λ o. c.args.ticks - o) c.offset.ensures in
+    let span_is : c.saturating_sub-span.result ≡ n = c.saturating_sub-span.ensures ∙ ap (λ o. c.args.ticks - o) c.offset.ensures.offset in
     let is : c.div_ceil-count.result ≡ ceil_div n (period p i) =
-    c.div_ceil-count.ensures ∙ (ap₂ (λ m d. m / d + min 1 (m % d)) span_is c.period.ensures ∙ ceil-is n (period p i) (adm.some_period i)) in (
+    c.div_ceil-count.ensures ∙ (ap₂ (λ m d. m / d + min 1 (m % d)) span_is c.period.ensures.period ∙ ceil-is n (period p i) (adm.some_period i)) in (
       ap₂ (λ a b. a + b) c.loop-task.invariant.0 is ∙ sym (sum_below-more i (λ k. ceil_div (c.args.ticks - offset p k) (period p k))),
       omega (arith, is, ceil-most n (period p i) (omega (arith, c.requires)) (adm.low_period i), c.loop-task.invariant.1),
     )

@@ -9,9 +9,9 @@ overflow_add-result c =
     let d = c.args.demands.now in
     omega (
       arith,
-      c.units.ensures,
+      c.units.ensures.units,
       c.charge.ensures.charge,
-      ap (λ (m : Table). m.charge) c.machine.ensures,
+      ap (λ (m : Table). m.charge) c.machine.ensures.machine,
       c.known-2.ensures c.args.task c.args.job (omega (arith, worsts-long p.tasks d c.requires.list, c.requires.task)),
       worst-listed p.tasks d c.requires.list c.args.task c.requires.task,
       (c.known.ensures.limits.tasks.each c.args.task c.requires.task).low_worst,

@@ -21,7 +21,7 @@ overflow_sub-slack c =
     omega (arith, at, least, c.requires.soonest)
 
 pub spread-part-requires-clause-grid : goal.spread-part-requires-clause-grid
-spread-part-requires-clause-grid c = let some = some_hyper c.args.plan.now c.known.ensures.limits in omega (arith, some, c.hyper-hyper.ensures)
+spread-part-requires-clause-grid c = let some = some_hyper c.args.plan.now c.known.ensures.limits in omega (arith, some, c.hyper-hyper.ensures.hyper)
 
 pub spread-part-requires-clause-soon : goal.spread-part-requires-clause-soon
 spread-part-requires-clause-soon c =

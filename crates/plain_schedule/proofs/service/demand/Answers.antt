@@ -7,9 +7,9 @@ pub overflow_add-result : goal.overflow_add-result
 overflow_add-result c =
     omega (
       arith,
-      c.units.ensures,
+      c.units.ensures.units,
       c.charge.ensures.charge,
-      ap (λ (m : Table). m.charge) c.machine.ensures,
+      ap (λ (m : Table). m.charge) c.machine.ensures.machine,
       low_units c.args.plan.now c.args.demands.now c.requires.list c.known.ensures c.known-2.ensures c.args.task c.args.job c.requires.task,
     )
 
@@ -17,8 +17,8 @@ pub returns-clause-low : goal.returns-clause-low
 returns-clause-low c =
     omega (
       arith,
-      c.units.ensures,
+      c.units.ensures.units,
       c.charge.ensures.charge,
-      ap (λ (m : Table). m.charge) c.machine.ensures,
+      ap (λ (m : Table). m.charge) c.machine.ensures.machine,
       low_units c.args.plan.now c.args.demands.now c.requires.list c.known.ensures c.known-2.ensures c.args.task c.args.job c.requires.task,
     )

@@ -14,5 +14,5 @@ lowest-pick-requires-clause-fits c = rw c.sum_of_rates-demand.ensures (cycle_den
 pub returns-clause-always : goal.returns-clause-always
 returns-clause-always c =
     ap (λ (p : Pick). p.met) c.lowest-pick.ensures
-    ∙ (ap₂ (λ (m : Table) (d : Frac). (lowest_pick m d).met) c.machine.ensures c.sum_of_rates-demand.ensures
+    ∙ (ap₂ (λ (m : Table) (d : Frac). (lowest_pick m d).met) c.machine.ensures.machine c.sum_of_rates-demand.ensures
     ∙ cycle_met c.args.plan.now c.args.view.now c.known.ensures c.requires.counters.served c.requires.of)

@@ -14,5 +14,5 @@ lowest-pick-requires-clause-fits c = rw c.demand-demand.ensures (cycle_den c.arg
 pub returns-clause-calm : goal.returns-clause-calm
 returns-clause-calm c = λ calm.
     ap (λ (p : Pick). p.met) c.lowest-pick.ensures
-    ∙ (ap₂ (λ (m : Table) (d : Frac). (lowest_pick m d).met) c.machine.ensures c.demand-demand.ensures
+    ∙ (ap₂ (λ (m : Table) (d : Frac). (lowest_pick m d).met) c.machine.ensures.machine c.demand-demand.ensures
     ∙ meets_it c.args.plan.now c.known.ensures c.args.view.now calm)

@@ -13,7 +13,7 @@ use Rattle.event_kernel.proofs.run.Run.quiet_ticks.Goals as goal
 
 pub point-speed-requires : goal.point-speed-requires
 point-speed-requires g c =
-    subst (λ (x : Table). c.args.force.index < length x.points) (sym c.machine.ensures) (entry-in (bounds _ c.requires.set.admitted) c.requires.set.low_ticks c.requires.at)
+    subst (λ (x : Table). c.args.force.index < length x.points) (sym c.machine.ensures.machine) (entry-in (bounds _ c.requires.set.admitted) c.requires.set.low_ticks c.requires.at)
 
 pub earliest_deadline-requires : goal.earliest_deadline-requires
 earliest_deadline-requires g c = of-plan (bounds _ c.requires.set.admitted) c.requires.set.low_ticks c.requires.at
@@ -51,14 +51,14 @@ nonzero_div-lacking g c =
       arith,
       some-speed (bounds _ c.requires.set.admitted) c.requires.set.low_ticks c.requires.at,
       ap (λ (q : Point). q.speed) c.point-speed.ensures,
-      ap (λ (x : Table). speed_at x c.args.force.index) c.machine.ensures,
+      ap (λ (x : Table). speed_at x c.args.force.index) c.machine.ensures.machine,
     )
 
 pub returns-in-Some : goal.returns-in-Some
 returns-in-Some g c =
     let first = subst (IsFirst c.args.set.now.plan.now c.args.self.now.state) c.in-Some.is c.requires.first in
     let speed : c.point-speed.result.speed ≡ (point c.args.set.now.plan.now c.args.force.index).speed =
-    ap (λ (q : Point). q.speed) c.point-speed.ensures ∙ ap (λ (x : Table). speed_at x c.args.force.index) c.machine.ensures in
+    ap (λ (q : Point). q.speed) c.point-speed.ensures ∙ ap (λ (x : Table). speed_at x c.args.force.index) c.machine.ensures.machine in
     subst (λ (r : Option ℕ). AreQuiet c.args.set.now.plan.now (jobs_of c.args.set.now) c.args.set.now.ticks c.args.force.index c.args.self.now.state r c.min.result) (sym c.in-Some.is)
     (quiet-held (bounds _ c.requires.set.admitted) c.requires.set.low_ticks c.requires.at c.in-Some.task first c.min.result c.lacking.result c.lacking.ensures
     (omega (

@@ -51,7 +51,7 @@ index-requires g c =
     let any = c.loop-task.any in
     let st = c.loop-task.self.state in
     let i = c.loop-task.task in
-    let lt : i < count p = rw (← c.count-task-end.ensures) c.loop-task-test.true in
+    let lt : i < count p = rw (← c.count-task-end.ensures.count) c.loop-task-test.true in
     let long : length st.rows ≡ count p = long-there p dem past adm.some_period g.L.Listener.heard g.L.Listener.balked c.args.to.now i any st c.loop-task.to r in
     let rows_are = ap (λ (v : StateOf). length v.rows) c.state-in-loop-task.view_is in
     omega (arith, lt, long, rows_are)
@@ -70,7 +70,7 @@ release_one-requires-clause-can g c =
     let any = c.loop-task.any in
     let st = c.loop-task.self.state in
     let i = c.loop-task.task in
-    let lt : i < count p = rw (← c.count-task-end.ensures) c.loop-task-test.true in
+    let lt : i < count p = rw (← c.count-task-end.ensures.count) c.loop-task-test.true in
     let long : length st.rows ≡ count p = long-there p dem past adm.some_period g.L.Listener.heard g.L.Listener.balked c.args.to.now i any st c.loop-task.to r in
     let row = c.index.result.now in
     let rows_are : c.state-in-loop-task.inside.rows.items ≡ st.rows = ap (λ (v : StateOf). v.rows) c.state-in-loop-task.view_is in
@@ -93,7 +93,7 @@ returns-in_err-release_one-clause-told g c =
     let any = c.loop-task.any in
     let st = c.loop-task.self.state in
     let i = c.loop-task.task in
-    let lt : i < count p = rw (← c.count-task-end.ensures) c.loop-task-test.true in
+    let lt : i < count p = rw (← c.count-task-end.ensures.count) c.loop-task-test.true in
     let long : length st.rows ≡ count p = long-there p dem past adm.some_period g.L.Listener.heard g.L.Listener.balked c.args.to.now i any st c.loop-task.to r in
     let row = c.index.result.now in
     let rows_are : c.state-in-loop-task.inside.rows.items ≡ st.rows = ap (λ (v : StateOf). v.rows) c.state-in-loop-task.view_is in
@@ -123,7 +123,7 @@ loop-task-preserved g c =
     let any = c.loop-task.any in
     let st = c.loop-task.self.state in
     let i = c.loop-task.task in
-    let lt : i < count p = rw (← c.count-task-end.ensures) c.loop-task-test.true in
+    let lt : i < count p = rw (← c.count-task-end.ensures.count) c.loop-task-test.true in
     let long : length st.rows ≡ count p = long-there p dem past adm.some_period g.L.Listener.heard g.L.Listener.balked c.args.to.now i any st c.loop-task.to r in
     let row = c.index.result.now in
     let rows_are : c.state-in-loop-task.inside.rows.items ≡ st.rows = ap (λ (v : StateOf). v.rows) c.state-in-loop-task.view_is in
@@ -153,7 +153,7 @@ returns-then-any-clause-state g c =
     let any = c.loop-task.any in
     let st = c.loop-task.self.state in
     let i = c.loop-task.task in
-    let whole : i ≡ count p = omega (arith, c.count-task-end.ensures) in
+    let whole : i ≡ count p = omega (arith, c.count-task-end.ensures.count) in
     c.mark.ensures ∙ released-marked p dem past adm.some_period g.L.Listener.heard g.L.Listener.balked c.args.to.now i st c.loop-task.to whole (subst (λ b. Releasing p dem past g.L.Listener.heard i b st c.args.to.now c.loop-task.to) c.if-any.true r)
 
 pub returns-else-any-clause-state : goal.returns-else-any-clause-state
@@ -170,7 +170,7 @@ returns-else-any-clause-state g c =
     let any = c.loop-task.any in
     let st = c.loop-task.self.state in
     let i = c.loop-task.task in
-    let whole : i ≡ count p = omega (arith, c.count-task-end.ensures) in
+    let whole : i ≡ count p = omega (arith, c.count-task-end.ensures.count) in
     released-unmarked p dem past adm.some_period g.L.Listener.heard g.L.Listener.balked c.args.to.now i st c.loop-task.to c.requires.at.within.none whole (subst (λ b. Releasing p dem past g.L.Listener.heard i b st c.args.to.now c.loop-task.to) c.if-any.false r)
 
 pub release_one-requires-clause-room : goal.release_one-requires-clause-room
@@ -179,7 +179,7 @@ release_one-requires-clause-room g c =
     let p = c.args.set.now.plan.now in
     let dem = jobs_of c.args.set.now in
     has-room p dem (course m p dem c.args.self.now.state.now) c.loop-task.task c.args.self.now.pen c.loop-task.self.pen
-    (omega (arith, (bounds p c.requires.set.admitted).few_tasks, c.loop-task-test.true, c.count-task-end.ensures)) c.requires.room c.loop-task.invariant.3
+    (omega (arith, (bounds p c.requires.set.admitted).few_tasks, c.loop-task-test.true, c.count-task-end.ensures.count)) c.requires.room c.loop-task.invariant.3
 
 pub returns-then-any-clause-pen : goal.returns-then-any-clause-pen
 returns-then-any-clause-pen g c =
@@ -187,7 +187,7 @@ returns-then-any-clause-pen g c =
     let p = c.args.set.now.plan.now in
     let dem = jobs_of c.args.set.now in
     let t = c.args.self.now.state.now in
-    let whole : c.loop-task.task ≡ count p = omega (arith, c.count-task-end.ensures) in
+    let whole : c.loop-task.task ≡ count p = omega (arith, c.count-task-end.ensures.count) in
     c.loop-task.invariant.3
     ∙ (ap (λ n. with_notes c.args.self.now.pen (notes_upto p dem (course m p dem t) n)) whole
     ∙ ap (λ n. with_notes c.args.self.now.pen (all_release_notes p dem n)) (course-len m p dem t))
@@ -198,7 +198,7 @@ returns-else-any-clause-pen g c =
     let p = c.args.set.now.plan.now in
     let dem = jobs_of c.args.set.now in
     let t = c.args.self.now.state.now in
-    let whole : c.loop-task.task ≡ count p = omega (arith, c.count-task-end.ensures) in
+    let whole : c.loop-task.task ≡ count p = omega (arith, c.count-task-end.ensures.count) in
     c.loop-task.invariant.3
     ∙ (ap (λ n. with_notes c.args.self.now.pen (notes_upto p dem (course m p dem t) n)) whole
     ∙ ap (λ n. with_notes c.args.self.now.pen (all_release_notes p dem n)) (course-len m p dem t))

@@ -17,7 +17,7 @@ use Rattle.event_kernel.proofs.run.Run.stay.Goals as goal
 
 pub point-requires : goal.point-requires
 point-requires g c =
-    subst (λ (x : Table). c.args.force.index < length x.points) (sym c.machine.ensures) (entry-in (bounds _ c.requires.set.admitted) c.requires.set.low_ticks c.requires.at)
+    subst (λ (x : Table). c.args.force.index < length x.points) (sym c.machine.ensures.machine) (entry-in (bounds _ c.requires.set.admitted) c.requires.set.low_ticks c.requires.at)
 
 pub first_undone-first-requires : goal.first_undone-first-requires
 first_undone-first-requires g c = (of-plan (bounds _ c.requires.set.admitted) c.requires.set.low_ticks c.requires.at).rows
@@ -30,7 +30,7 @@ holder_of-holder-requires g c =
 pub overflow_mul-units : goal.overflow_mul-units
 overflow_mul-units g c =
     let speed : c.point.result.speed ≡ (point c.args.set.now.plan.now c.args.force.index).speed =
-    ap (λ (q : Point). q.speed) c.point.ensures ∙ ap (λ (x : Table). speed_at x c.args.force.index) c.machine.ensures in
+    ap (λ (q : Point). q.speed) c.point.ensures ∙ ap (λ (x : Table). speed_at x c.args.force.index) c.machine.ensures.machine in
     let room = fit (bounds _ c.requires.set.admitted) c.requires.set.low_ticks c.requires.at c.quiet_ticks-quiet.ensures in
     omega (arith, room.0, ap (λ f. c.quiet_ticks-quiet.result * f) speed)
 
@@ -40,7 +40,7 @@ enter-requires-clause-can g c = can-tell (bounds _ c.requires.set.admitted) c.re
 pub enter-requires-clause-fits : goal.enter-requires-clause-fits
 enter-requires-clause-fits g c =
     let speed : c.point.result.speed ≡ (point c.args.set.now.plan.now c.args.force.index).speed =
-    ap (λ (q : Point). q.speed) c.point.ensures ∙ ap (λ (x : Table). speed_at x c.args.force.index) c.machine.ensures in
+    ap (λ (q : Point). q.speed) c.point.ensures ∙ ap (λ (x : Table). speed_at x c.args.force.index) c.machine.ensures.machine in
     let room = fit (bounds _ c.requires.set.admitted) c.requires.set.low_ticks c.requires.at c.quiet_ticks-quiet.ensures in
     omega (arith, room.1, ap (λ f. c.quiet_ticks-quiet.result * f) speed)
 
@@ -65,7 +65,7 @@ serve_first-requires-clause-can g c =
     let st = c.args.self.now.state in
     let is = is-first c.args.set.now.plan.now st c.first_undone-first.result c.first_undone-first.ensures.none c.first_undone-first.ensures.first in
     let speed : c.point.result.speed ≡ (point c.args.set.now.plan.now c.args.force.index).speed =
-    ap (λ (q : Point). q.speed) c.point.ensures ∙ ap (λ (x : Table). speed_at x c.args.force.index) c.machine.ensures in
+    ap (λ (q : Point). q.speed) c.point.ensures ∙ ap (λ (x : Table). speed_at x c.args.force.index) c.machine.ensures.machine in
     subst (λ f. IfSome c.first_undone-first.result (λ i. CanRun st i (c.quiet_ticks-quiet.result * f))) (sym speed)
     (can-run-first (bounds _ c.requires.set.admitted) c.requires.set.low_ticks c.requires.at c.first_undone-first.result is c.quiet_ticks-quiet.ensures)
 
@@ -95,7 +95,7 @@ module _ (g : Over) (c : goal.After-advance g) where
   is = is-first p st first c.first_undone-first.ensures.none c.first_undone-first.ensures.first
 
   speed : c.point.result.speed ≡ (point p e).speed
-  speed = ap (λ (q : Point). q.speed) c.point.ensures ∙ ap (λ (x : Table). speed_at x e) c.machine.ensures
+  speed = ap (λ (q : Point). q.speed) c.point.ensures ∙ ap (λ (x : Table). speed_at x e) c.machine.ensures.machine
 
   moved : c.advance.new.self ≡ after_advance (gives st first (n * (point p e).speed)) (st.now + n)
   moved =

@@ -20,12 +20,12 @@ use Rattle.event_kernel.proofs.run.Run.work.Goals.{then-completed, else-complete
 
 pub point-rest-requires : goal.point-rest-requires
 point-rest-requires g c =
-    subst (λ (x : Table). c.args.force.index < length x.points) (sym c.machine.ensures) (entry-there (bounds _ c.requires.set.admitted) c.requires.at.work)
+    subst (λ (x : Table). c.args.force.index < length x.points) (sym c.machine.ensures.machine) (entry-there (bounds _ c.requires.set.admitted) c.requires.at.work)
 
 pub loop-rest-init : goal.loop-rest-init
 loop-rest-init g c = (
   begin (bounds _ c.requires.set.admitted) c.requires.at.work c.point-rest.result.speed
-      (ap (λ (q : Point). q.speed) c.point-rest.ensures ∙ ap (λ (x : Table). speed_at x c.args.force.index) c.machine.ensures),
+      (ap (λ (q : Point). q.speed) c.point-rest.ensures ∙ ap (λ (x : Table). speed_at x c.args.force.index) c.machine.ensures.machine),
   c.requires.counters,
   of-plan (bounds _ c.requires.set.admitted) c.requires.set.low_ticks c.requires.at,
   omega arith,

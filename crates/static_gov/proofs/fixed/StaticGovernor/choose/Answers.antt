@@ -12,5 +12,5 @@ lowest-pick-requires-clause-some c = rw c.requires.counters (static_den c.args.p
 pub returns-clause-always : goal.returns-clause-always
 returns-clause-always c =
     ap (λ (p : Pick). p.met) c.lowest-pick.ensures
-    ∙ (ap₂ (λ (m : Table) (d : Frac). (lowest_pick m d).met) c.machine.ensures c.requires.counters
+    ∙ (ap₂ (λ (m : Table) (d : Frac). (lowest_pick m d).met) c.machine.ensures.machine c.requires.counters
     ∙ static_met c.args.plan.now c.known.ensures)
