@@ -1,11 +1,11 @@
 -- In a calm state of cycle-conserving RM each job that is due is complete.
-use Rattle.std.proofs.Common.{◌≡◌, inl, inr, ℕ, suc, ◌+◌, ◌-◌, ◌*◌, ◌<◌, ◌≤◌, Bool, true, refl, sym, ◌∙◌, ap, subst, arith, mul-zero}
+use Rattle.std.proofs.Common.{◌≡◌, inl, inr, ℕ, suc, ◌+◌, ◌-◌, ◌*◌, ◌<◌, ◌≤◌, Bool, true, sym, ◌∙◌, ap, subst, arith, mul-zero}
 use Rattle.std.specs.Prelude.{if◌then◌else◌}
 use Rattle.std.proofs.lemmas.Bool.{cases_Bool, cases_lt, eqb-true}
 use Rattle.dvs_base.specs.declared.kind.Scheduler.TheVariants.{Rm}
 use Rattle.grid_fraction.specs.Numbers.{sum_where}
 use Rattle.grid_fraction.proofs.Sums.{sum_where-le}
-use Rattle.grid_fraction.proofs.Least.{least-below, least-above}
+use Rattle.grid_fraction.proofs.Least.{least-below}
 use Rattle.sched_model.specs.declared.state.Row.{Row}
 use Rattle.sched_model.specs.Plan.{Plan, count, period, worst}
 use Rattle.sched_model.specs.Demands.{JobDemands}
@@ -14,7 +14,7 @@ use Rattle.sched_model.specs.StaticDemand.{static_speed}
 use Rattle.sched_model.specs.Backlog.{backlog}
 use Rattle.sched_model.specs.Admission.{IsAdmitted}
 use Rattle.sched_model.specs.States.{StateOf, row_at, row_wleft}
-use Rattle.sched_model.proofs.Limits.{some_task, some_period}
+use Rattle.sched_model.proofs.Limits.{some_period}
 use Rattle.sched_model.proofs.JobLaws.{latest-is, latest-unique, latest_since-pos, release-suc, release-due, due-suc}
 use Rattle.sched_model.proofs.LevelSums.{sum_where-term, up_to-self, greatest-above, greatest-least}
 use Rattle.governor.specs.Steps.{is_due, opened_row, after_boundary, wleft_at, release_of, earliest_in, Belongs}
