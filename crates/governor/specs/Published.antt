@@ -10,4 +10,5 @@ use Rattle.governor.specs.Meanings.{OwnDemand}
 
 -- after each list of ticks, for all demands of the jobs, the kind's published demand is the governor's own for the state there
 abbrev pub AlwaysPublishes : OwnDemand → GovernorKind → Plan → Type 0
-AlwaysPublishes demand kind plan = (dem : JobDemands) (past : List Tick) → published plan kind dem past ≡ demand plan (state_of plan dem past)
+AlwaysPublishes demand kind plan =
+    (dem : JobDemands) (past : List Tick) → published plan kind dem past ≡ demand plan (state_of plan dem past)
