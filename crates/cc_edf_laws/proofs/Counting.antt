@@ -61,13 +61,15 @@ module _ (plan : Plan) (s : StateOf) (of : IsOfPlan plan s) (rates : List ℕ) (
   rate_most = let r = counts.rate_is i h in let t = counts.sum_is in let m = sum_below-term (count plan) (charged_rate_in plan s) i h in omega arith
 
   -- with the rate of the new row in the place of the old one
-  counts-set : (row : Row) (new : ℕ) → new ≡ charged_of row * (hyper plan / period plan i) → Counts (slice_set rates i new) (sum - slice_index rates i + new) plan (written row)
+  counts-set : (row : Row) (new : ℕ) → new ≡ charged_of row * (hyper plan / period plan i)
+      → Counts (slice_set rates i new) (sum - slice_index rates i + new) plan (written row)
   counts-set row new is = record {
     served = counts.served;
     one_each = length-set rates i new ∙ counts.one_each;
     rate_is = λ k lt. at k lt (eqb k i) refl;
     sum_is =
-        let moved = sum_below-change (count plan) (charged_rate_in plan s) (charged_rate_in plan (written row)) i h (λ k lt ne. other k ne) in
+        let moved =
+        sum_below-change (count plan) (charged_rate_in plan s) (charged_rate_in plan (written row)) i h (λ k lt ne. other k ne) in
         let was = counts.rate_is i h in
         let all = counts.sum_is in
         omega (arith, moved, was, all, rate_most, own);
@@ -79,7 +81,8 @@ module _ (plan : Plan) (s : StateOf) (of : IsOfPlan plan s) (rates : List ℕ) (
       other : (k : ℕ) → k ≢ i → charged_rate_in plan (written row) k ≡ charged_rate_in plan s k
       other k ne = ap (λ (r : Row). charged_of r * (hyper plan / period plan k)) (row-other row k ne)
 
-      at : (k : ℕ) → k < count plan → (b : Bool) → eqb k i ≡ b → slice_index (slice_set rates i new) k ≡ charged_rate_in plan (written row) k
+      at : (k : ℕ) → k < count plan → (b : Bool) → eqb k i ≡ b
+          → slice_index (slice_set rates i new) k ≡ charged_rate_in plan (written row) k
       at k lt true e =
           let same : k ≡ i = grind (arith, nat_tests) in
           ap (λ m. slice_index (slice_set rates i new) m) same ∙ (get_or-set_same rates i new 0 rate_place ∙ (sym own ∙ ap (charged_rate_in plan (written row)) (sym same)))
@@ -107,11 +110,13 @@ module _ (plan : Plan) (s : StateOf) (of : IsOfPlan plan s) (rates : List ℕ) (
       (counts-set row (slice_index rates i) (counts.rate_is i h ∙ ap (λ v. v * (hyper plan / period plan i)) same)))
 
   -- and the sum fits in 128 bits
-  pub sum_fits : IsAdmitted plan → (units : ℕ) → units ≤ (row_at s i).worst → sum - slice_index rates i + units * (hyper plan / period plan i) < 2 ^ 128
+  pub sum_fits : IsAdmitted plan → (units : ℕ) → units ≤ (row_at s i).worst
+      → sum - slice_index rates i + units * (hyper plan / period plan i) < 2 ^ 128
   sum_fits adm units le =
       let t = counts.sum_is in
       let w = of.worst i h in
-      let new : units * (hyper plan / period plan i) ≤ rate plan i = mul-le-mul_right (hyper plan / period plan i) (let m : units ≤ worst plan i = omega arith in m) in
+      let new : units * (hyper plan / period plan i) ≤ rate plan i =
+      mul-le-mul_right (hyper plan / period plan i) (let m : units ≤ worst plan i = omega arith in m) in
       let all : total_rate plan ≤ top_speed plan * hyper plan = (full_enough plan adm).edf counts.served in
       omega (arith, cycle_within plan s of, new, sum_below-term (count plan) (rate plan) i h, all, work_low plan adm, t)
 

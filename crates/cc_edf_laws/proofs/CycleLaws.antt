@@ -31,12 +31,14 @@ use Rattle.cc_edf_laws.proofs.Rows.{owed, credit_of, boundary_pays, tick_pays, t
 use Rattle.cc_edf_laws.proofs.Shares.{due_closes, due_full, later_none}
 
 -- an inequality of each task, added up
-sum-two : (n : ℕ) (a b c d : ℕ → ℕ) → ((i : ℕ) → i < n → a i + b i ≤ c i + d i) → sum_below n a + sum_below n b ≤ sum_below n c + sum_below n d
+sum-two : (n : ℕ) (a b c d : ℕ → ℕ) → ((i : ℕ) → i < n → a i + b i ≤ c i + d i)
+    → sum_below n a + sum_below n b ≤ sum_below n c + sum_below n d
 sum-two n a b c d each =
     let all : sum_below n (λ i. a i + b i) ≤ sum_below n (λ i. c i + d i) = sum_below-le n (λ i. a i + b i) (λ i. c i + d i) each in
     omega (arith, all, sum_below-add n a b, sum_below-add n c d)
 
-sum-three : (n : ℕ) (a b p c d q : ℕ → ℕ) → ((i : ℕ) → i < n → a i + b i + p i ≤ c i + d i + q i) → sum_below n a + sum_below n b + sum_below n p ≤ sum_below n c + sum_below n d + sum_below n q
+sum-three : (n : ℕ) (a b p c d q : ℕ → ℕ) → ((i : ℕ) → i < n → a i + b i + p i ≤ c i + d i + q i)
+    → sum_below n a + sum_below n b + sum_below n p ≤ sum_below n c + sum_below n d + sum_below n q
 sum-three n a b p c d q each =
     let all = sum-two n (λ i. a i + b i) p (λ i. c i + d i) q each in
     omega (arith, all, sum_below-add n a b, sum_below-add n c d)
@@ -55,19 +57,22 @@ cycle_within plan s of =
     let most : charged_of (row_at s i) ≤ worst plan i = (let m = charged_most (row_at s i) (of.used i h) in let w = of.worst i h in omega arith) in
     mul-le-mul_right (hyper plan / period plan i) most)
 
-pub cycle_fits : (plan : Plan) (s : StateOf) → IsAdmitted plan → ServesEdf plan.scheduler → IsOfPlan plan s → (cycle_demand plan s).num ≤ top_speed plan * hyper plan
+pub cycle_fits : (plan : Plan) (s : StateOf) → IsAdmitted plan → ServesEdf plan.scheduler → IsOfPlan plan s
+    → (cycle_demand plan s).num ≤ top_speed plan * hyper plan
 cycle_fits plan s adm edf of =
     let test : total_rate plan ≤ top_speed plan * hyper plan = (full_enough plan adm).edf edf in
     omega (arith, cycle_within plan s of, test)
 
 -- so each choice meets its demand
-pub cycle_met : (plan : Plan) (s : StateOf) → IsAdmitted plan → ServesEdf plan.scheduler → IsOfPlan plan s → (lowest_pick plan.machine (cycle_demand plan s)).met ≡ true
+pub cycle_met : (plan : Plan) (s : StateOf) → IsAdmitted plan → ServesEdf plan.scheduler → IsOfPlan plan s
+    → (lowest_pick plan.machine (cycle_demand plan s)).met ≡ true
 cycle_met plan s adm edf of = picked_met plan.machine adm.limits.machine (cycle_demand plan s) (cycle_fits plan s adm edf of)
 
 pub cycle_den : (plan : Plan) (s : StateOf) → IsWithinLimits plan → (0 < (cycle_demand plan s).den) × ((cycle_demand plan s).den ≤ 2 ^ 64)
 cycle_den plan s lim = (some_hyper plan lim, let low = low_hyper plan lim in omega arith)
 
-cycle_chooses : (plan : Plan) (s : StateOf) → IsAdmitted plan → ServesEdf plan.scheduler → IsOfPlan plan s → CycleCalm plan s → CycleSafe plan s (lowest_entry plan.machine (cycle_demand plan s))
+cycle_chooses : (plan : Plan) (s : StateOf) → IsAdmitted plan → ServesEdf plan.scheduler → IsOfPlan plan s
+    → CycleCalm plan s → CycleSafe plan s (lowest_entry plan.machine (cycle_demand plan s))
 cycle_chooses plan s adm edf of calm = record {
   calm = calm;
   rate = picked_meets plan.machine adm.limits.machine (cycle_demand plan s) (cycle_fits plan s adm edf of);
@@ -88,8 +93,10 @@ module _ (plan : Plan) (lim : IsWithinLimits plan) (dem : JobDemands) (s : State
       sum_below-zero (count plan) (λ j. charged_rate_in plan s j * (min s.now (row_at s j).deadline - s.now))
       (λ j l. let z : min s.now (row_at s j).deadline - s.now ≡ 0 = omega arith in rw z (mul-zero (charged_rate_in plan s j))) in
       let all : hyper plan * due_work plan s s.now ≤ 0 = rw none at (calm s.now (omega arith)) in
-      let paid : due_work plan s s.now ≤ 0 = le_of_mul-le-mul_left {m = due_work plan s s.now} {n = 0} {k = hyper plan} (omega (arith, all)) (some_hyper plan lim) in
-      let mine : wleft_at s i ≤ due_work plan s s.now = sum_where-term (count plan) (due_by s s.now) (wleft_at s) i h (le-leb (row_at s i).deadline s.now (omega arith)) in
+      let paid : due_work plan s s.now ≤ 0 =
+      le_of_mul-le-mul_left {m = due_work plan s s.now} {n = 0} {k = hyper plan} (omega (arith, all)) (some_hyper plan lim) in
+      let mine : wleft_at s i ≤ due_work plan s s.now =
+      sum_where-term (count plan) (due_by s s.now) (wleft_at s) i h (le-leb (row_at s i).deadline s.now (omega arith)) in
       closed_row (row_at s i) (dem i (row_at s i).job) (omega (arith, mine, paid)) (bel.open_job i h) (demand_most plan dem s bel i h)
 
   cycle_releases : CycleCalm plan s → CycleCalm plan (after_boundary plan dem s)

@@ -26,13 +26,16 @@ charge-is : (b : Bool) (d u w : ℕ) → nat_le d u ≡ b → u ≤ d → (if b 
 charge-is true d u w e le = let g : d ≤ u = grind (arith, nat_tests) in omega arith
 charge-is false d u w e le = refl
 
-charged-state : (p : Plan) (dem : JobDemands) (ask : List Tick → Frac) (past : List Tick) → IsScheduleBy p dem ask past → (i : ℕ) → i < count p → charged p dem past i ≡ charged_of (row_at (state_of p dem past) i)
+charged-state : (p : Plan) (dem : JobDemands) (ask : List Tick → Frac) (past : List Tick)
+    → IsScheduleBy p dem ask past → (i : ℕ) → i < count p
+    → charged p dem past i ≡ charged_of (row_at (state_of p dem past) i)
 charged-state p dem ask past h i lt =
     let k = latest p i (length past) in
     charge-is (is_complete p dem past i) (dem i k) (exec p past i k) (worst p i) refl (exec-most p dem ask past h i k lt)
     ∙ sym (ap charged_of (get-table (count p) (row_of p dem past) i no_row lt))
 
-cycle-state : (p : Plan) (dem : JobDemands) (ask : List Tick → Frac) (past : List Tick) → IsScheduleBy p dem ask past → edf_cycle p dem past ≡ cycle_demand p (state_of p dem past)
+cycle-state : (p : Plan) (dem : JobDemands) (ask : List Tick → Frac) (past : List Tick) → IsScheduleBy p dem ask past
+    → edf_cycle p dem past ≡ cycle_demand p (state_of p dem past)
 cycle-state p dem ask past h =
     ap (λ (num : ℕ). record { num = num; den = hyper p })
     (sum_below-same (count p) (λ i. charged p dem past i * (hyper p / period p i)) (charged_rate_in p (state_of p dem past))

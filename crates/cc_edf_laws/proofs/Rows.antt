@@ -23,7 +23,8 @@ same_both true x = refl
 same_both false x = refl
 
 -- a release comes with its work and its credit
-opened_pays : (b : Bool) (h q p c now d after : ℕ) → q * p ≡ h → now ≤ d → after ≡ now + p → h * (if nat_le after d then (if b then 0 else c - 0) else 0) ≤ (if b then 0 else c) * q * (min d after - now)
+opened_pays : (b : Bool) (h q p c now d after : ℕ) → q * p ≡ h → now ≤ d → after ≡ now + p
+    → h * (if nat_le after d then (if b then 0 else c - 0) else 0) ≤ (if b then 0 else c) * q * (min d after - now)
 opened_pays true h q p c now d after whole le is = rw (same_both (nat_le after d) 0) (omega (arith, mul-zero h))
 opened_pays false h q p c now d after whole le is =
     elim (cases_lt d after) [
@@ -35,15 +36,18 @@ opened_pays false h q p c now d after whole le is =
     ]
 
 -- at a boundary, where each row that is due is complete
-pub boundary_pays : (plan : Plan) (dem : JobDemands) (h q now d i : ℕ) (row : Row) → q * period plan i ≡ h → (row.deadline ≡ now → row.done ≡ true) → now ≤ d
+pub boundary_pays : (plan : Plan) (dem : JobDemands) (h q now d i : ℕ) (row : Row) → q * period plan i ≡ h
+    → (row.deadline ≡ now → row.done ≡ true) → now ≤ d
     → h * owed d (boundary_row plan dem now i row) + credit_of q now d row ≤ h * owed d row + credit_of q now d (boundary_row plan dem now i row)
 boundary_pays plan dem h q now d i row whole closed le =
     let P : Bool → Type 0 = λ (b : Bool). h * owed d (if b then opened_row plan dem i row else row) + credit_of q now d row ≤ h * owed d row + credit_of q now d (if b then opened_row plan dem i row else row) in
     elim (cases_Bool (is_due now row)) [
       | inl due ↦
           let at_now : row.deadline ≡ now = eqb-true row.deadline now due in
-          let pays = opened_pays (dem i (row.job + 1) == 0) h q (period plan i) row.worst now d (row.deadline + period plan i) whole le (omega arith) in
-          let none : credit_of q now d row ≡ 0 = (let z : min d row.deadline - now ≡ 0 = omega arith in rw z (mul-zero (charged_of row * q))) in
+          let pays =
+          opened_pays (dem i (row.job + 1) == 0) h q (period plan i) row.worst now d (row.deadline + period plan i) whole le (omega arith) in
+          let none : credit_of q now d row ≡ 0 =
+          (let z : min d row.deadline - now ≡ 0 = omega arith in rw z (mul-zero (charged_of row * q))) in
           subst P (sym due) (omega (arith, pays, none))
       | inr later ↦ subst P (sym later) (omega arith)
     ]
@@ -55,20 +59,24 @@ complete_pays h q p c e whole le =
     omega (arith, mul-le-mul_left c small)
 
 -- a tick for a complete job
-tick_done : (b : Bool) (h q used k : ℕ) → h * (if b then 0 else 0) + h * (if b then 0 else 0) + used * q * (k + 1) ≤ h * (if b then 0 else 0) + (used + 0) * q * k + used * q
+tick_done : (b : Bool) (h q used k : ℕ)
+    → h * (if b then 0 else 0) + h * (if b then 0 else 0) + used * q * (k + 1) ≤ h * (if b then 0 else 0) + (used + 0) * q * k + used * q
 tick_done true h q used k = omega arith
 tick_done false h q used k = omega arith
 
 -- for a job that goes on
-tick_open : (b : Bool) (h q used worst sh k : ℕ) → used + sh ≤ worst → (b ≡ false → sh ≡ 0) → h * (if b then worst - (used + sh) else 0) + h * (if b then sh else 0) + worst * q * (k + 1) ≤ h * (if b then worst - used else 0) + worst * q * k + worst * q
+tick_open : (b : Bool) (h q used worst sh k : ℕ) → used + sh ≤ worst → (b ≡ false → sh ≡ 0)
+    → h * (if b then worst - (used + sh) else 0) + h * (if b then sh else 0) + worst * q * (k + 1) ≤ h * (if b then worst - used else 0) + worst * q * k + worst * q
 tick_open true h q used worst sh k le none = let e : (worst - (used + sh)) + sh ≡ worst - used = omega arith in omega (arith, ap (λ (x : ℕ). h * x) e)
 tick_open false h q used worst sh k le none = omega arith
 
 -- for a job that completes c units below its worst case
-tick_close_by : (h q p need sh c k : ℕ) → q * p ≡ h → k ≤ p → h * sh + (need + c) * q * (k + 1) ≤ h * (sh + c) + need * q * k + (need + c) * q
+tick_close_by : (h q p need sh c k : ℕ) → q * p ≡ h → k ≤ p
+    → h * sh + (need + c) * q * (k + 1) ≤ h * (sh + c) + need * q * k + (need + c) * q
 tick_close_by h q p need sh c k whole le = omega (arith, complete_pays h q p c k whole le)
 
-tick_close : (h q p need used worst sh k : ℕ) → q * p ≡ h → k ≤ p → used + sh ≡ need → need ≤ worst → h * sh + worst * q * (k + 1) ≤ h * (worst - used) + (used + sh) * q * k + worst * q
+tick_close : (h q p need used worst sh k : ℕ) → q * p ≡ h → k ≤ p → used + sh ≡ need → need ≤ worst
+    → h * sh + worst * q * (k + 1) ≤ h * (worst - used) + (used + sh) * q * k + worst * q
 tick_close h q p need used worst sh k whole le is most =
     let c = worst - need in
     let a : worst ≡ need + c = omega arith in
@@ -77,7 +85,9 @@ tick_close h q p need used worst sh k whole le is most =
     rw (b, is) (subst (λ (w : ℕ). h * sh + w * q * (k + 1) ≤ h * (sh + c) + need * q * k + w * q) (sym a) by)
 
 -- of the tasks due by d, each unit is paid for: the work falls by it, and the credit by the rate of one tick at most
-pub tick_pays : (done : Bool) (h q p need used worst due now d sh : ℕ) → q * p ≡ h → now + 1 ≤ due → now + 1 ≤ d → (done ≡ false → due ≤ now + p) → (done ≡ false → used < need) → need ≤ worst → sh ≤ (if done then 0 else need - used) → (d < due → sh ≡ 0)
+pub tick_pays : (done : Bool) (h q p need used worst due now d sh : ℕ) → q * p ≡ h → now + 1 ≤ due → now + 1 ≤ d
+    → (done ≡ false → due ≤ now + p) → (done ≡ false → used < need) → need ≤ worst
+    → sh ≤ (if done then 0 else need - used) → (d < due → sh ≡ 0)
     → h * (if nat_le due d then (if (done || (used + sh == need)) then 0 else worst - (used + sh)) else 0) + h * (if nat_le due d then sh else 0) + (if done then used else worst) * q * (min d due - now)
     ≤ h * (if nat_le due d then (if done then 0 else worst - used) else 0) + (if (done || (used + sh == need)) then used + sh else worst) * q * (min d due - (now + 1)) + (if done then used else worst) * q
 tick_pays true h q p need used worst due now d sh whole lo ld soon open_job most own none =
@@ -111,7 +121,8 @@ tick_pays false h q p need used worst due now d sh whole lo ld soon open_job mos
     ])
 
 -- a tick raises no charge
-pub tick_charge : (done : Bool) (need used worst sh : ℕ) → need ≤ worst → sh ≤ (if done then 0 else need - used) → (if (done || (used + sh == need)) then used + sh else worst) ≤ (if done then used else worst)
+pub tick_charge : (done : Bool) (need used worst sh : ℕ) → need ≤ worst → sh ≤ (if done then 0 else need - used)
+    → (if (done || (used + sh == need)) then used + sh else worst) ≤ (if done then used else worst)
 tick_charge true need used worst sh most own = omega arith
 tick_charge false need used worst sh most own =
     elim (cases_Bool (used + sh == need)) [

@@ -28,21 +28,25 @@ module _ (plan : Plan) (dem : JobDemands) (f : ℕ) (s : StateOf) (shares : List
   by_deadline : SharesOut (count plan) deadlines f (left_in dem s) (share_in shares)
   by_deadline = subst (λ (sch : Scheduler). SharesOut (count plan) (key_in sch plan s) f (left_in dem s) (share_in shares)) edf legal.out
 
-  pub due_gets : (d : ℕ) → sum_where (count plan) (due_by s d) (share_in shares) ≡ min f (sum_where (count plan) (due_by s d) (left_in dem s))
+  pub due_gets : (d : ℕ)
+      → sum_where (count plan) (due_by s d) (share_in shares) ≡ min f (sum_where (count plan) (due_by s d) (left_in dem s))
   due_gets d = due_by_gets (count plan) deadlines d f (left_in dem s) (share_in shares) by_deadline
 
   -- where the speed covers what is due by d, all of that is complete afterwards
-  pub due_closes : (d : ℕ) → sum_where (count plan) (due_by s d) (left_in dem s) ≤ f → (i : ℕ) → i < count plan → due_by s d i ≡ true → (row_at (after_tick dem shares s) i).done ≡ true
+  pub due_closes : (d : ℕ) → sum_where (count plan) (due_by s d) (left_in dem s) ≤ f → (i : ℕ) → i < count plan
+      → due_by s d i ≡ true → (row_at (after_tick dem shares s) i).done ≡ true
   due_closes d low i h on =
       tick-closes plan dem f s shares bel legal i h
       (sum_where-tight (count plan) (due_by s d) (left_in dem s) (share_in shares) (legal_most plan dem f s shares legal) (omega (arith, due_gets d)) i h on)
 
   -- and where it doesn't, the tasks due by d get all its units
-  pub due_full : (d : ℕ) → f ≤ sum_where (count plan) (due_by s d) (left_in dem s) → sum_where (count plan) (due_by s d) (share_in shares) ≡ f
+  pub due_full : (d : ℕ) → f ≤ sum_where (count plan) (due_by s d) (left_in dem s)
+      → sum_where (count plan) (due_by s d) (share_in shares) ≡ f
   due_full d high = omega (arith, due_gets d)
 
   -- and no other task gets any
-  pub later_none : (d : ℕ) → f ≤ sum_where (count plan) (due_by s d) (left_in dem s) → (i : ℕ) → i < count plan → d < (row_at s i).deadline → share_in shares i ≡ 0
+  pub later_none : (d : ℕ) → f ≤ sum_where (count plan) (due_by s d) (left_in dem s) → (i : ℕ) → i < count plan
+      → d < (row_at s i).deadline → share_in shares i ≡ 0
   later_none d high i h later =
       let first : (k : ℕ) → due_by s d k ≡ true → stands_before deadlines k i ≡ true = λ k on. grind (arith, nat_tests) in
       let before : sum_where (count plan) (due_by s d) (share_in shares) ≤ sum_before (count plan) deadlines (share_in shares) i =

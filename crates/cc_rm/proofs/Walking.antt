@@ -15,20 +15,23 @@ abbrev pub order : Plan → List ℕ
 order p = in_order (period p) (count p)
 
 pub ranked-below : (p : Plan) (k : ℕ) → k < count p → slice_index (order p) k < count p
-ranked-below p k h = below-at (count p) (order p) k (in_order-below (period p) (count p)) (omega (arith, length-in_order (period p) (count p)))
+ranked-below p k h =
+    below-at (count p) (order p) k (in_order-below (period p) (count p)) (omega (arith, length-in_order (period p) (count p)))
 
 -- an allotment in the terms of what is left of the units before it
 share_of : (units before need : ℕ) → min units (before + need) - min units before ≡ min (units - before) need
 share_of units before need = omega arith
 
 -- the k-th task gets what the tasks before it left, up to its base
-ranked-allotted : (p : Plan) (v : StateOf) (k : ℕ) → k < count p → allotted_in p v (slice_index (order p) k) ≡ min (allotted_units p v - sum_list (base_of v) (take k (order p))) (base_of v (slice_index (order p) k))
+ranked-allotted : (p : Plan) (v : StateOf) (k : ℕ) → k < count p
+    → allotted_in p v (slice_index (order p) k) ≡ min (allotted_units p v - sum_list (base_of v) (take k (order p))) (base_of v (slice_index (order p) k))
 ranked-allotted p v k h =
     let i = slice_index (order p) k in
     let long : k < length (order p) = omega (arith, length-in_order (period p) (count p)) in
     let parts : order p ≡ take k (order p) ++ i ∷ drop (suc k) (order p) =
     sym (take-append-drop k (order p)) ∙ ap (λ (js : List ℕ). take k (order p) ++ js) (drop-cons (order p) k 0 long) in
-    let before : sum_before (count p) (period p) (base_of v) i ≡ sum_list (base_of v) (take k (order p)) = sum_before-prefix (period p) (base_of v) (count p) i (take k (order p)) (drop (suc k) (order p)) parts in
+    let before : sum_before (count p) (period p) (base_of v) i ≡ sum_list (base_of v) (take k (order p)) =
+    sum_before-prefix (period p) (base_of v) (count p) i (take k (order p)) (drop (suc k) (order p)) parts in
     share_of (allotted_units p v) (sum_before (count p) (period p) (base_of v) i) (base_of v i)
     ∙ ap (λ (b : ℕ). min (allotted_units p v - b) (base_of v i)) before
 
@@ -45,7 +48,8 @@ left_most : (done : Bool) (al had : ℕ) → (if done then 0 else al - had) ≤ 
 left_most true al had = omega arith
 left_most false al had = omega arith
 
-pub walked-next : (p : Plan) (v : StateOf) (units k rest sum given left : ℕ) → units ≡ allotted_units p v → k < count p → IsWalked p v units k rest sum
+pub walked-next : (p : Plan) (v : StateOf) (units k rest sum given left : ℕ) → units ≡ allotted_units p v
+    → k < count p → IsWalked p v units k rest sum
     → given ≡ min rest (base_of v (slice_index (order p) k))
     → left ≡ (if (row_at v (slice_index (order p) k)).done then 0 else given - had_since_mark v (slice_index (order p) k))
     → IsWalked p v units (k + 1) (rest - given) (sum + left)
@@ -64,7 +68,8 @@ walked-next p v units k rest sum given left all h walked given_is left_is =
       within = omega (arith, walked.within, given_is, left_is, most);
     }
 
-pub walked-end : (p : Plan) (v : StateOf) (units rest sum : ℕ) → IsWalked p v units (count p) rest sum → sum ≡ sum_below (count p) (allotment_left_in p v)
+pub walked-end : (p : Plan) (v : StateOf) (units rest sum : ℕ) → IsWalked p v units (count p) rest sum
+    → sum ≡ sum_below (count p) (allotment_left_in p v)
 walked-end p v units rest sum walked =
     let all : take (count p) (order p) ≡ order p = take_all (count p) (order p) (omega (arith, length-in_order (period p) (count p))) in
     walked.sum_is ∙ (ap (sum_list (allotment_left_in p v)) all ∙ sum_list-in_order (allotment_left_in p v) (period p) (count p))

@@ -84,11 +84,13 @@ static-entry p (x ∷ past) = go (is_decision p (worst_demand p) (x ∷ past)) (
     go false ih = ih
 
 -- and its ticks are legal at the static speed, in RM order
-tick-legal : (p : Plan) → p.scheduler ≡ Rm → (t : ℕ) → SharesOut (count p) (period p) (static_speed p) (lack_after p t) (share (tick_at p t))
+tick-legal : (p : Plan) → p.scheduler ≡ Rm → (t : ℕ)
+    → SharesOut (count p) (period p) (static_speed p) (lack_after p t) (share (tick_at p t))
 tick-legal p rm t =
     let past = worst_ticks p t in
     let same : static_demand p ≡ rm_static p = ap (λ (sch : Scheduler). static_demand_of sch p) rm in
-    let speed : (point p (tick_at p t).entry).speed ≡ static_speed p = ap (speed_at p.machine) (static-entry p past ∙ ap (lowest_entry p.machine) same) in
+    let speed : (point p (tick_at p t).entry).speed ≡ static_speed p =
+    ap (speed_at p.machine) (static-entry p past ∙ ap (lowest_entry p.machine) same) in
     subst (λ (f : ℕ). SharesOut (count p) (period p) f (lack_after p t) (share (tick_at p t))) speed
     (subst (λ (sch : Scheduler). SharesOut (count p) (key_of sch p (length past)) ((point p (tick_at p t).entry).speed) (lack_after p t) (share (tick_at p t))) rm
     (next_tick-may p (worst_demand p) (asked p) past).legal)
@@ -122,7 +124,8 @@ module _ (p : Plan) (adm : IsAdmitted p) where
       omega (arith, now, more, most)
 
   -- so the static speed from each set
-  pub backlog-suc : p.scheduler ≡ Rm → (t : ℕ) (test : ℕ → Bool) → IsDown p test → sum_where (count p) test (lack p (suc t)) ≡ sum_where (count p) test (lack_after p t) - static_speed p
+  pub backlog-suc : p.scheduler ≡ Rm → (t : ℕ) (test : ℕ → Bool) → IsDown p test
+      → sum_where (count p) test (lack p (suc t)) ≡ sum_where (count p) test (lack_after p t) - static_speed p
   backlog-suc rm t test down =
       let n = count p in
       let x = tick_at p t in
@@ -144,14 +147,16 @@ module _ (p : Plan) (adm : IsAdmitted p) where
       let ticks = worst_ticks p (suc t) in
       let long = ticks-long p (suc t) in
       let back : length ticks - 1 ≡ t = omega (arith, long) in
-      let job : latest p i (length ticks) ≡ latest p i (length ticks - 1) = ap (latest p i) long ∙ stays t i h other ∙ ap (latest p i) (sym back) in
+      let job : latest p i (length ticks) ≡ latest p i (length ticks - 1) =
+      ap (latest p i) long ∙ stays t i h other ∙ ap (latest p i) (sym back) in
       ap (λ (k : ℕ). worst_demand p i k - exec p ticks i k) job
 
   -- where a task has no release, nothing is added
   pub quiet_row : (t j : ℕ) → j < count p → IsQuiet p t j → lack_after p t j ≡ lack p t j
   quiet_row zero j h quiet =
       let ticks = worst_ticks p 0 in
-      let late : 0 < offset p j = elim (cases_lt 0 (offset p j)) [ inl late ↦ late | inr now ↦ absurd (quiet 0 (omega (arith, now, due-none p j))) ] in
+      let late : 0 < offset p j =
+      elim (cases_lt 0 (offset p j)) [ inl late ↦ late | inr now ↦ absurd (quiet 0 (omega (arith, now, due-none p j))) ] in
       let job : latest p j (length ticks) ≡ 0 = ap (latest p j) (ticks-long p 0) ∙ latest-none p j 0 late in
       ap (λ (k : ℕ). worst_demand p j k - exec p ticks j k) job ∙ zero-sub (exec p ticks j 0)
   quiet_row (suc t) j h quiet = same_job t j h (quiet (latest p j t))
@@ -173,7 +178,8 @@ module _ (p : Plan) (adm : IsAdmitted p) where
       let from = release-suc p i k in
       let until = due-suc p i k in
       let some = some_period p adm.limits i h in
-      let job : latest p i (length ticks) ≡ k + 1 = latest-is p i (k + 1) (length ticks) (omega (arith, long, e, from)) (omega (arith, long, e, until, some)) in
+      let job : latest p i (length ticks) ≡ k + 1 =
+      latest-is p i (k + 1) (length ticks) (omega (arith, long, e, from)) (omega (arith, long, e, until, some)) in
       let none : exec p ticks i (k + 1) ≡ 0 = exec-early p ticks i (k + 1) (omega (arith, long, e, from)) in
       let all = worst_demand-pos p i (k + 1) (omega arith) in
       ap (λ (m : ℕ). worst_demand p i m - exec p ticks i m) job ∙ omega (arith, none, all)
@@ -191,7 +197,8 @@ module _ (p : Plan) (adm : IsAdmitted p) where
           let other : suc t ≢ due p i (latest p i t) = grind (arith, nat_tests) in
           omega (arith, same_job t i h other)
 
-  backlog-quiet : (t : ℕ) (test : ℕ → Bool) → ((j : ℕ) → j < count p → IsQuiet p t j) → sum_where (count p) test (lack_after p t) ≡ sum_where (count p) test (lack p t)
+  backlog-quiet : (t : ℕ) (test : ℕ → Bool) → ((j : ℕ) → j < count p → IsQuiet p t j)
+      → sum_where (count p) test (lack_after p t) ≡ sum_where (count p) test (lack p t)
   backlog-quiet t test quiet =
       sum_below-same (count p) (λ i. if test i then lack_after p t i else 0) (λ i. if test i then lack p t i else 0) (λ i h. ap (λ (y : ℕ). if test i then y else 0) (quiet_row t i h (quiet i h)))
 
@@ -199,7 +206,8 @@ module _ (p : Plan) (adm : IsAdmitted p) where
   less x a b f = omega arith
 
   -- from one release to the next
-  pub backlog-span : p.scheduler ≡ Rm → (test : ℕ → Bool) → IsDown p test → (r d : ℕ) → ((u j : ℕ) → r < u → u < r + suc d → j < count p → IsQuiet p u j)
+  pub backlog-span : p.scheduler ≡ Rm → (test : ℕ → Bool) → IsDown p test → (r d : ℕ)
+      → ((u j : ℕ) → r < u → u < r + suc d → j < count p → IsQuiet p u j)
       → sum_where (count p) test (lack p (r + suc d)) ≡ sum_where (count p) test (lack_after p r) - suc d * static_speed p
   backlog-span rm test down r zero quiet =
       let place : r + suc zero ≡ suc r = omega arith in

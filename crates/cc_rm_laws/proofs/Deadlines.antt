@@ -1,11 +1,11 @@
 -- In a calm state of cycle-conserving RM each job that is due is complete.
-use Rattle.std.proofs.Common.{◌≡◌, inl, inr, ℕ, suc, ◌+◌, ◌-◌, ◌*◌, ◌<◌, ◌≤◌, Bool, true, refl, sym, ◌∙◌, ap, subst, arith, mul-zero}
+use Rattle.std.proofs.Common.{◌≡◌, inl, inr, ℕ, suc, ◌+◌, ◌-◌, ◌*◌, ◌<◌, ◌≤◌, Bool, true, sym, ◌∙◌, ap, subst, arith, mul-zero}
 use Rattle.std.specs.Prelude.{if◌then◌else◌}
 use Rattle.std.proofs.lemmas.Bool.{cases_Bool, cases_lt, eqb-true}
 use Rattle.dvs_base.specs.declared.kind.Scheduler.TheVariants.{Rm}
 use Rattle.grid_fraction.specs.Numbers.{sum_where}
 use Rattle.grid_fraction.proofs.Sums.{sum_where-le}
-use Rattle.grid_fraction.proofs.Least.{least-below, least-above}
+use Rattle.grid_fraction.proofs.Least.{least-below}
 use Rattle.sched_model.specs.declared.state.Row.{Row}
 use Rattle.sched_model.specs.Plan.{Plan, count, period, worst}
 use Rattle.sched_model.specs.Demands.{JobDemands}
@@ -14,7 +14,7 @@ use Rattle.sched_model.specs.StaticDemand.{static_speed}
 use Rattle.sched_model.specs.Backlog.{backlog}
 use Rattle.sched_model.specs.Admission.{IsAdmitted}
 use Rattle.sched_model.specs.States.{StateOf, row_at, row_wleft}
-use Rattle.sched_model.proofs.Limits.{some_task, some_period}
+use Rattle.sched_model.proofs.Limits.{some_period}
 use Rattle.sched_model.proofs.JobLaws.{latest-is, latest-unique, latest_since-pos, release-suc, release-due, due-suc}
 use Rattle.sched_model.proofs.LevelSums.{sum_where-term, up_to-self, greatest-above, greatest-least}
 use Rattle.governor.specs.Steps.{is_due, opened_row, after_boundary, wleft_at, release_of, earliest_in, Belongs}
@@ -52,7 +52,8 @@ module _ (plan : Plan) (adm : IsAdmitted plan) (dem : JobDemands) (s : StateOf) 
   quiet-between : (u i : ℕ) → i < count plan → release_of plan i (row_at s i) < u → u < (row_at s i).deadline → IsQuiet plan u i
   quiet-between u i h after before k e =
       let job = (row_at s i).job in
-      let mine : latest plan i u ≡ job = latest-unique plan i job u (λ born. omega (arith, after, row-release i born)) (omega (arith, row-due i h)) in
+      let mine : latest plan i u ≡ job =
+      latest-unique plan i job u (λ born. omega (arith, after, row-release i born)) (omega (arith, row-due i h)) in
       let some = some_period plan adm.limits i h in
       let from = release-suc plan i k in
       let until = due-suc plan i k in
@@ -68,21 +69,25 @@ module _ (plan : Plan) (adm : IsAdmitted plan) (dem : JobDemands) (s : StateOf) 
   closes i h none = closed_row (row_at s i) (dem i (row_at s i).job) none (bel.open_job i h) (demand_most plan dem s bel i h)
 
   -- at the earliest deadline nothing is left of the allotments, so a level lacks no more than in the worst static schedule
-  pub level-most : CcRmCalm plan s → s.now ≡ earliest_in plan s → (i : ℕ) → i < count plan → sum_where (count plan) (level plan i) (wleft_at s) ≤ backlog plan (earliest_in plan s) i
+  pub level-most : CcRmCalm plan s → s.now ≡ earliest_in plan s → (i : ℕ) → i < count plan
+      → sum_where (count plan) (level plan i) (wleft_at s) ≤ backlog plan (earliest_in plan s) i
   level-most calm at_due i h =
       let z : earliest_in plan s - s.now ≡ 0 = omega arith in
-      let none : static_speed plan * (earliest_in plan s - s.now) ≡ 0 = ap (λ (x : ℕ). static_speed plan * x) z ∙ mul-zero (static_speed plan) in
+      let none : static_speed plan * (earliest_in plan s - s.now) ≡ 0 =
+      ap (λ (x : ℕ). static_speed plan * x) z ∙ mul-zero (static_speed plan) in
       let part = sum_where-le (count plan) (level plan i) (allotment_left_in plan s) in
       omega (arith, calm.levels i h, calm.total, none, part)
 
-  empty-level : CcRmCalm plan s → s.now ≡ earliest_in plan s → (i : ℕ) → i < count plan → backlog plan (earliest_in plan s) i ≡ 0 → (row_at s i).done ≡ true
+  empty-level : CcRmCalm plan s → s.now ≡ earliest_in plan s → (i : ℕ) → i < count plan
+      → backlog plan (earliest_in plan s) i ≡ 0 → (row_at s i).done ≡ true
   empty-level calm at_due i h none =
       let mine = sum_where-term (count plan) (level plan i) (wleft_at s) i h (up_to-self (period plan) i) in
       closes i h (omega (arith, mine, level-most calm at_due i h, none))
 
   module _ (rm : plan.scheduler ≡ Rm) where
     -- where the worst static schedule has completed a job that was open at the mark, it is complete
-    emptied : CcRmCalm plan s → s.now ≡ earliest_in plan s → (i : ℕ) → i < count plan → s.base_at < earliest_in plan s → 0 < lack_after plan s.base_at i → lack plan (earliest_in plan s) i ≡ 0 → (row_at s i).done ≡ true
+    emptied : CcRmCalm plan s → s.now ≡ earliest_in plan s → (i : ℕ) → i < count plan → s.base_at < earliest_in plan s
+        → 0 < lack_after plan s.base_at i → lack plan (earliest_in plan s) i ≡ 0 → (row_at s i).done ≡ true
     emptied calm at_due i h later pos none =
         let d : ℕ = earliest_in plan s - s.base_at - 1 in
         let place : s.base_at + suc d ≡ earliest_in plan s = omega arith in
@@ -92,7 +97,9 @@ module _ (plan : Plan) (adm : IsAdmitted plan) (dem : JobDemands) (s : StateOf) 
         (subst (λ (u : ℕ). lack plan u i ≡ 0) (sym place) none)))
 
     -- where it has completed a job, that is complete
-    pub completed-too : CcRmCalm plan s → s.now ≡ earliest_in plan s → (i : ℕ) → i < count plan → 0 < (row_at s i).job → release_of plan i (row_at s i) < earliest_in plan s → lack plan (earliest_in plan s) i ≡ 0 → (row_at s i).done ≡ true
+    pub completed-too : CcRmCalm plan s → s.now ≡ earliest_in plan s → (i : ℕ) → i < count plan → 0 < (row_at s i).job
+        → release_of plan i (row_at s i) < earliest_in plan s → lack plan (earliest_in plan s) i ≡ 0
+        → (row_at s i).done ≡ true
     completed-too calm at_due i h born before none =
         let row = row_at s i in
         let r = s.base_at in
@@ -100,16 +107,19 @@ module _ (plan : Plan) (adm : IsAdmitted plan) (dem : JobDemands) (s : StateOf) 
         elim (cases_lt (release_of plan i row) r) [
           | inl earlier ↦ elim (cases_lt 0 (lack plan r i)) [
             | inl lacks ↦
-                let apart : r ≡ earliest_in plan s → ⊥ = λ e. (let g : lack plan r i ≡ lack plan (earliest_in plan s) i = ap (λ (u : ℕ). lack plan u i) e in omega arith) in
+                let apart : r ≡ earliest_in plan s → ⊥ =
+                λ e. (let g : lack plan r i ≡ lack plan (earliest_in plan s) i = ap (λ (u : ℕ). lack plan u i) e in omega arith) in
                 let lt : r < earliest_in plan s = omega arith in
-                let still : lack_after plan r i ≡ lack plan r i = quiet_row plan adm r i h (quiet-between r i h earlier (omega (arith, first-due i h))) in
+                let still : lack_after plan r i ≡ lack plan r i =
+                quiet_row plan adm r i h (quiet-between r i h earlier (omega (arith, first-due i h))) in
                 emptied calm at_due i h lt (omega arith) none
             | inr closed ↦ calm.since i h born earlier (let g = lack-is plan r i (omega arith) in omega arith)
           ]
           | inr now_ ↦
               let same : release_of plan i row ≡ r = omega (arith, released-by i h) in
               let whole_job : row.job - 1 + 1 ≡ row.job = omega (arith, born) in
-              let back : due plan i (row.job - 1) ≡ r = sym (release-suc plan i (row.job - 1)) ∙ ap (release plan i) whole_job ∙ row-release i born ∙ same in
+              let back : due plan i (row.job - 1) ≡ r =
+              sym (release-suc plan i (row.job - 1)) ∙ ap (release plan i) whole_job ∙ row-release i born ∙ same in
               let whole : lack_after plan r i ≡ worst plan i = released-lack plan adm r i (row.job - 1) h (sym back) in
               elim (cases_lt 0 (worst plan i)) [
                 | inl some ↦ emptied calm at_due i h (omega arith) (omega arith) none
@@ -131,7 +141,8 @@ module _ (plan : Plan) (adm : IsAdmitted plan) (dem : JobDemands) (s : StateOf) 
         ]
 
     -- a release adds no more than in the worst static schedule
-    pub row-adds : (j : ℕ) → j < count plan → wleft_at (after_boundary plan dem s) j + lack plan s.now j ≤ wleft_at s j + lack_after plan s.now j
+    pub row-adds : (j : ℕ) → j < count plan
+        → wleft_at (after_boundary plan dem s) j + lack plan s.now j ≤ wleft_at s j + lack_after plan s.now j
     row-adds j h =
         let row = row_at s j in
         let P : Row → Type 0 = λ (new : Row). row_wleft new + lack plan s.now j ≤ row_wleft row + lack_after plan s.now j in

@@ -36,14 +36,16 @@ module _ (plan : Plan) where
   pub cc_rm_opens : CcRmCalm plan (opening plan)
   cc_rm_opens = record {
     levels = λ i h.
-        let none = sum_where-zero (count plan) (level plan i) (wleft_at (opening plan)) (λ j hj on. done_none (row_at (opening plan) j) (opening-done j hj)) in
+        let none =
+        sum_where-zero (count plan) (level plan i) (wleft_at (opening plan)) (λ j hj on. done_none (row_at (opening plan) j) (opening-done j hj)) in
         omega (arith, none);
     total = (let none = sum_below-zero (count plan) (allotment_left_in plan (opening plan)) (λ j hj. rw (opening-done j hj) refl) in omega (arith, none));
     since = λ i h born before none. opening-done i h;
   }
 
 -- a boundary where nothing is due changes nothing
-rows-still : (plan : Plan) (dem : JobDemands) (now i : ℕ) (rows : List Row) → list_any (is_due now) rows ≡ false → each_row (boundary_row plan dem now) i rows ≡ rows
+rows-still : (plan : Plan) (dem : JobDemands) (now i : ℕ) (rows : List Row) → list_any (is_due now) rows ≡ false
+    → each_row (boundary_row plan dem now) i rows ≡ rows
 rows-still plan dem now i [] none = refl
 rows-still plan dem now i (row ∷ rows) none =
     let here : is_due now row ≡ false = none_due_at (is_due now) (row ∷ rows) 0 none (omega arith) in
@@ -54,8 +56,10 @@ rows-still plan dem now i (row ∷ rows) none =
 state-still : (plan : Plan) (dem : JobDemands) (s : StateOf) → list_any (is_due s.now) s.rows ≡ false → after_boundary plan dem s ≡ s
 state-still plan dem s none =
     let rows = rows-still plan dem s.now 0 s.rows none in
-    let at : (if list_any (is_due s.now) s.rows then s.now else s.base_at) ≡ s.base_at = ap (λ (b : Bool). if b then s.now else s.base_at) none in
-    let base : (if list_any (is_due s.now) s.rows then map row_wleft (after_boundary plan dem s).rows else s.base) ≡ s.base = ap (λ (b : Bool). if b then map row_wleft (after_boundary plan dem s).rows else s.base) none in
+    let at : (if list_any (is_due s.now) s.rows then s.now else s.base_at) ≡ s.base_at =
+    ap (λ (b : Bool). if b then s.now else s.base_at) none in
+    let base : (if list_any (is_due s.now) s.rows then map row_wleft (after_boundary plan dem s).rows else s.base) ≡ s.base =
+    ap (λ (b : Bool). if b then map row_wleft (after_boundary plan dem s).rows else s.base) none in
     λ j. record { now = s.now; rows = rows j; base_at = at j; base = base j }
 
 -- the bound of a level right after the mark
@@ -108,18 +112,22 @@ module _ (plan : Plan) (adm : IsAdmitted plan) (rm : plan.scheduler ≡ Rm) (dem
   shares : SharesOut (count plan) (period plan) room (base_of marked) (allotted_in plan marked)
   shares = allotment-shares (count plan) (period plan) room (base_of marked)
 
-  where_same : (test : ℕ → Bool) (f g : ℕ → ℕ) → ((j : ℕ) → j < count plan → f j ≡ g j) → sum_where (count plan) test f ≡ sum_where (count plan) test g
-  where_same test f g e = sum_below-same (count plan) (λ j. if test j then f j else 0) (λ j. if test j then g j else 0) (λ j h. ap (λ (x : ℕ). if test j then x else 0) (e j h))
+  where_same : (test : ℕ → Bool) (f g : ℕ → ℕ) → ((j : ℕ) → j < count plan → f j ≡ g j)
+      → sum_where (count plan) test f ≡ sum_where (count plan) test g
+  where_same test f g e =
+      sum_below-same (count plan) (λ j. if test j then f j else 0) (λ j. if test j then g j else 0) (λ j h. ap (λ (x : ℕ). if test j then x else 0) (e j h))
 
   -- a level has the smaller of the room and what it may need
-  level_left : (i : ℕ) → sum_where (count plan) (level plan i) (allotment_left_in plan marked) ≡ min room (sum_where (count plan) (level plan i) (wleft_at marked))
+  level_left : (i : ℕ)
+      → sum_where (count plan) (level plan i) (allotment_left_in plan marked) ≡ min room (sum_where (count plan) (level plan i) (wleft_at marked))
   level_left i =
       where_same (level plan i) (allotment_left_in plan marked) (allotted_in plan marked) left_is
       ∙ (level-gets (count plan) (period plan) room (base_of marked) (allotted_in plan marked) shares i
       ∙ ap (λ (x : ℕ). min room x) (where_same (level plan i) (base_of marked) (wleft_at marked) base_is))
 
   -- and may need no more than the worst static schedule lacks there
-  level_needs : (i : ℕ) → i < count plan → sum_where (count plan) (level plan i) (wleft_at marked) ≤ sum_where (count plan) (level plan i) (lack_after plan s.now)
+  level_needs : (i : ℕ) → i < count plan
+      → sum_where (count plan) (level plan i) (wleft_at marked) ≤ sum_where (count plan) (level plan i) (lack_after plan s.now)
   level_needs i h =
       let n = count plan in
       let lv = level plan i in
@@ -132,7 +140,8 @@ module _ (plan : Plan) (adm : IsAdmitted plan) (rm : plan.scheduler ≡ Rm) (dem
       (omega (arith, level-most plan adm dem s bel calm at_due i h, backlog-where plan (earliest_in plan s) i h)) in
       omega (arith, adds, left_sum, right_sum, old)
 
-  level_backlog : (i : ℕ) → i < count plan → backlog plan (earliest_in plan marked) i ≡ sum_where (count plan) (level plan i) (lack_after plan s.now) - room
+  level_backlog : (i : ℕ) → i < count plan
+      → backlog plan (earliest_in plan marked) i ≡ sum_where (count plan) (level plan i) (lack_after plan s.now) - room
   level_backlog i h =
       let n = count plan in
       let lv = level plan i in
@@ -141,7 +150,9 @@ module _ (plan : Plan) (adm : IsAdmitted plan) (rm : plan.scheduler ≡ Rm) (dem
       ∙ (backlog-span plan adm rm lv (level_down plan i) s.now gap (λ u j a b hj. quiet plan adm dem marked bel' u j (omega (arith, mark_now)) (omega (arith, place)) hj)
       ∙ ap (λ (c : ℕ). sum_where n lv (lack_after plan s.now) - c) (sym room_is)))
 
-  marked_since : (i : ℕ) → i < count plan → 0 < (row_at marked i).job → release_of plan i (row_at marked i) < marked.base_at → LacksNothing plan marked.base_at i → (row_at marked i).done ≡ true
+  marked_since : (i : ℕ) → i < count plan → 0 < (row_at marked i).job
+      → release_of plan i (row_at marked i) < marked.base_at → LacksNothing plan marked.base_at i
+      → (row_at marked i).done ≡ true
   marked_since i h born before none =
       let row = row_at s i in
       let P : Row → Type 0 = λ (new : Row). 0 < new.job → release_of plan i new < s.now → new.done ≡ true in
@@ -161,11 +172,14 @@ module _ (plan : Plan) (adm : IsAdmitted plan) (rm : plan.scheduler ≡ Rm) (dem
   marked_total : sum_below (count plan) (allotment_left_in plan marked) ≤ static_speed plan * (earliest_in plan marked - marked.now)
   marked_total =
       let n = count plan in
-      let left_sum : sum_below n (allotment_left_in plan marked) ≡ sum_below n (allotted_in plan marked) = sum_below-same n (allotment_left_in plan marked) (allotted_in plan marked) left_is in
-      let gets : sum_below n (allotted_in plan marked) ≡ min room (sum_below n (base_of marked)) = down-set-gets n (period plan) (λ j. true) room (base_of marked) (allotted_in plan marked) (λ j k hj hk b on. refl) shares in
+      let left_sum : sum_below n (allotment_left_in plan marked) ≡ sum_below n (allotted_in plan marked) =
+      sum_below-same n (allotment_left_in plan marked) (allotted_in plan marked) left_is in
+      let gets : sum_below n (allotted_in plan marked) ≡ min room (sum_below n (base_of marked)) =
+      down-set-gets n (period plan) (λ j. true) room (base_of marked) (allotted_in plan marked) (λ j k hj hk b on. refl) shares in
       let clock : earliest_in plan marked - marked.now ≡ suc gap = omega (arith, later) in
       let turned : static_speed plan * suc gap ≡ suc gap * static_speed plan = omega arith in
-      let fits : static_speed plan * (earliest_in plan marked - marked.now) ≡ room = ap (λ (x : ℕ). static_speed plan * x) clock ∙ (turned ∙ sym room_is) in
+      let fits : static_speed plan * (earliest_in plan marked - marked.now) ≡ room =
+      ap (λ (x : ℕ). static_speed plan * x) clock ∙ (turned ∙ sym room_is) in
       omega (arith, left_sum, gets, fits)
 
   -- the step of a boundary with a release
@@ -179,7 +193,8 @@ module _ (plan : Plan) (adm : IsAdmitted plan) (rm : plan.scheduler ≡ Rm) (dem
     since = marked_since;
   }
 
-pub cc_rm_releases : (plan : Plan) → IsAdmitted plan → plan.scheduler ≡ Rm → (dem : JobDemands) (s : StateOf) → Belongs plan dem s → CcRmCalm plan s → CcRmCalm plan (after_boundary plan dem s)
+pub cc_rm_releases : (plan : Plan) → IsAdmitted plan → plan.scheduler ≡ Rm → (dem : JobDemands) (s : StateOf)
+    → Belongs plan dem s → CcRmCalm plan s → CcRmCalm plan (after_boundary plan dem s)
 cc_rm_releases plan adm rm dem s bel calm =
     elim (cases_Bool (list_any (is_due s.now) s.rows)) [
       | inl some ↦ marked_calm plan adm rm dem s bel calm some

@@ -67,7 +67,8 @@ module _ (p : Plan) (adm : IsAdmitted p) where
   since-release zero i h = refl
   since-release (suc t) i h = go (is_release p (suc t)) refl (since-release t i h)
     where
-      go : (b : Bool) → is_release p (suc t) ≡ b → latest p i (last_release p t) ≡ latest p i t → latest p i (last_release p (suc t)) ≡ latest p i (suc t)
+      go : (b : Bool) → is_release p (suc t) ≡ b → latest p i (last_release p t) ≡ latest p i t
+          → latest p i (last_release p (suc t)) ≡ latest p i (suc t)
       go true e ih = rw (e, last_up_to) refl
       go false e ih = rw (e, last_up_to) (ih ∙ sym (job-stays t i h (any_below-false (count p) (λ j. releases_at p j (suc t)) e i h)))
 
@@ -107,11 +108,13 @@ module _ (p : Plan) (adm : IsAdmitted p) where
         let k = latest p i now in
         let job : latest p i mark ≡ k = since-release now i h in
         let job_then : latest p i (length (at mark past)) ≡ k = ap (latest p i) mark-long ∙ job in
-        let had : had_since_release p past i ≡ exec p past i k - exec p (at mark past) i k = ap (λ (m : ℕ). exec p past i m - exec p (at mark past) i m) job in
+        let had : had_since_release p past i ≡ exec p past i k - exec p (at mark past) i k =
+        ap (λ (m : ℕ). exec p past i m - exec p (at mark past) i m) job in
         let less : exec p past i k < dem i k = grind (arith, nat_tests) in
         let most = within.most i k h in
         let fewer = exec-drop p i k (now - mark) past in
-        let open_then : nat_le (dem i k) (exec p (at mark past) i k) ≡ false = go (nat_le (dem i k) (exec p (at mark past) i k)) refl less fewer in
+        let open_then : nat_le (dem i k) (exec p (at mark past) i k) ≡ false =
+        go (nat_le (dem i k) (exec p (at mark past) i k)) refl less fewer in
         let base : base_of here i ≡ worst p i - exec p (at mark past) i k =
         base-is i h
         ∙ (ap (λ (m : ℕ). if nat_le (dem i m) (exec p (at mark past) i m) then 0 else worst p i - exec p (at mark past) i m) job_then
@@ -126,7 +129,8 @@ module _ (p : Plan) (adm : IsAdmitted p) where
         go false e lt le = e
 
     left-is : (i : ℕ) → i < count p → allotment_left p dem past i ≡ allotment_left_in p here i
-    left-is i h = go (is_complete p dem past i) refl ∙ sym (ap (λ (row : Row). if row.done then 0 else allotted_in p here i - had_since_mark here i) (row-is i h))
+    left-is i h =
+        go (is_complete p dem past i) refl ∙ sym (ap (λ (row : Row). if row.done then 0 else allotted_in p here i - had_since_mark here i) (row-is i h))
       where
         go : (b : Bool) → is_complete p dem past i ≡ b
             → (if is_complete p dem past i then 0 else allotted p dem past i - had_since_release p past i) ≡ (if is_complete p dem past i then 0 else allotted_in p here i - had_since_mark here i)
@@ -137,11 +141,13 @@ module _ (p : Plan) (adm : IsAdmitted p) where
     frac a b = record { num = a; den = b }
 
     cycle-is : rm_cycle p dem past ≡ cycle_demand p here
-    cycle-is = ap₂ frac (sum_below-same (count p) (allotment_left p dem past) (allotment_left_in p here) left-is) (ap (λ (n : ℕ). n - now) first-is)
+    cycle-is =
+        ap₂ frac (sum_below-same (count p) (allotment_left p dem past) (allotment_left_in p here) left-is) (ap (λ (n : ℕ). n - now) first-is)
 
 pub published-cycle : (p : Plan) → IsAdmitted p → p.scheduler ≡ Rm → Publishes cycle_demand Cycle p
 unfolding published
-published-cycle p adm rm dem within ask past is = ap (λ (sch : Scheduler). demand_by sch Cycle p dem past) rm ∙ cycle-is p adm dem within past
+published-cycle p adm rm dem within ask past is =
+    ap (λ (sch : Scheduler). demand_by sch Cycle p dem past) rm ∙ cycle-is p adm dem within past
 
 pub cycle_publishing : PublishingLaws Cycle ServesRm cycle_demand
 cycle_publishing = publishing_laws cycle_demand Cycle ServesRm published-cycle

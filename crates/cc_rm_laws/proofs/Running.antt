@@ -46,10 +46,12 @@ module _ (plan : Plan) (adm : IsAdmitted plan) (rm : plan.scheduler ≡ Rm) (dem
   done_stays j h closed = rw (tick_at dem shares s j (here j h)) (rw closed refl)
 
   same_earliest : earliest_in plan ticked ≡ earliest_in plan s
-  same_earliest = least-same (count plan) (λ i. (row_at ticked i).deadline) (λ i. (row_at s i).deadline) (λ i h. ap (λ (row : Row). row.deadline) (tick_at dem shares s i (here i h)))
+  same_earliest =
+      least-same (count plan) (λ i. (row_at ticked i).deadline) (λ i. (row_at s i).deadline) (λ i h. ap (λ (row : Row). row.deadline) (tick_at dem shares s i (here i h)))
 
   -- what is left after the tick, by the allotments before it
-  left_then : (j : ℕ) → allotment_left_in plan ticked j ≡ left_by (row_at ticked j).done (allotted_in plan s j) (base_of s j) (wleft_at ticked j)
+  left_then : (j : ℕ)
+      → allotment_left_in plan ticked j ≡ left_by (row_at ticked j).done (allotted_in plan s j) (base_of s j) (wleft_at ticked j)
   left_then j =
       ap (λ (x : ℕ). left_by (row_at ticked j).done (allotment (count plan) (period plan) ((x - s.base_at) * static_speed plan) (base_of s) j) (base_of s j) (wleft_at ticked j)) same_earliest
 
@@ -81,24 +83,30 @@ module _ (plan : Plan) (adm : IsAdmitted plan) (rm : plan.scheduler ≡ Rm) (dem
         ]
 
     short_allotment : allotment (count plan) (period plan) f (left_in dem s) k < left_in dem s k
-    short_allotment = subst (λ (x : ℕ). x < left_in dem s k) (allotment_of (count plan) (period plan) f (left_in dem s) (share_in shares) out k hk) short
+    short_allotment =
+        subst (λ (x : ℕ). x < left_in dem s k) (allotment_of (count plan) (period plan) f (left_in dem s) (share_in shares) out k hk) short
 
     -- then each unit of the tick lowers what is left
-    takes_before : (j : ℕ) → j < count plan → stands_before (period plan) j k ≡ true → left_by (row_at ticked j).done (allotted_in plan s j) (base_of s j) (wleft_at ticked j) + share_in shares j ≤ allotment_left_in plan s j
+    takes_before : (j : ℕ) → j < count plan → stands_before (period plan) j k ≡ true
+        → left_by (row_at ticked j).done (allotted_in plan s j) (base_of s j) (wleft_at ticked j) + share_in shares j ≤ allotment_left_in plan s j
     takes_before j h ahead =
-        let full : allotted_in plan s j ≡ base_of s j = allotment-full (count plan) (period plan) (allotted_units plan s) (base_of s) j k h ahead still_open.1 in
+        let full : allotted_in plan s j ≡ base_of s j =
+        allotment-full (count plan) (period plan) (allotted_units plan s) (base_of s) j k h ahead still_open.1 in
         left-full (row_at s j).done (row_at ticked j).done (allotted_in plan s j) (base_of s j) (wleft_at s j) (wleft_at ticked j) (share_in shares j)
         full (bel.base j h) (falls j h) (done_none (row_at s j)) (done_none (row_at ticked j)) (done_stays j h)
 
-    takes_own : (j : ℕ) → j < count plan → k ≡ j → left_by (row_at ticked j).done (allotted_in plan s j) (base_of s j) (wleft_at ticked j) + share_in shares j ≤ allotment_left_in plan s j
+    takes_own : (j : ℕ) → j < count plan → k ≡ j
+        → left_by (row_at ticked j).done (allotted_in plan s j) (base_of s j) (wleft_at ticked j) + share_in shares j ≤ allotment_left_in plan s j
     takes_own j h same =
         left-some (row_at s j).done (row_at ticked j).done (allotted_in plan s j) (base_of s j) (wleft_at s j) (wleft_at ticked j) (share_in shares j)
         (bel.base j h) (falls j h) (done_stays j h)
         (subst (λ (i : ℕ). 0 < left_by (row_at ticked i).done (allotted_in plan s i) (base_of s i) (wleft_at ticked i)) same some_left)
 
-    takes_after : (j : ℕ) → j < count plan → stands_before (period plan) k j ≡ true → left_by (row_at ticked j).done (allotted_in plan s j) (base_of s j) (wleft_at ticked j) + share_in shares j ≤ allotment_left_in plan s j
+    takes_after : (j : ℕ) → j < count plan → stands_before (period plan) k j ≡ true
+        → left_by (row_at ticked j).done (allotted_in plan s j) (base_of s j) (wleft_at ticked j) + share_in shares j ≤ allotment_left_in plan s j
     takes_after j h behind =
-        let none : share_in shares j ≡ 0 = allotment_of (count plan) (period plan) f (left_in dem s) (share_in shares) out j h ∙ allotment-none (count plan) (period plan) f (left_in dem s) k j hk behind short_allotment in
+        let none : share_in shares j ≡ 0 =
+        allotment_of (count plan) (period plan) f (left_in dem s) (share_in shares) out j h ∙ allotment-none (count plan) (period plan) f (left_in dem s) k j hk behind short_allotment in
         left-idle (row_at s j).done (row_at ticked j).done (allotted_in plan s j) (base_of s j) (wleft_at s j) (wleft_at ticked j) (share_in shares j)
         (falls j h) none (done_stays j h)
 
@@ -118,10 +126,12 @@ module _ (plan : Plan) (adm : IsAdmitted plan) (rm : plan.scheduler ≡ Rm) (dem
     all_out =
         let n = count plan in
         let every : ℕ → Bool = λ (j : ℕ). true in
-        let gets : sum_below n (share_in shares) ≡ min f (sum_below n (left_in dem s)) = down-set-gets n (period plan) every f (left_in dem s) (share_in shares) (λ j i hj hi b on. refl) out in
+        let gets : sum_below n (share_in shares) ≡ min f (sum_below n (left_in dem s)) =
+        down-set-gets n (period plan) every f (left_in dem s) (share_in shares) (λ j i hj hi b on. refl) out in
         elim (cases_lt (sum_below n (left_in dem s)) f) [
           | inl small ↦
-              let all : left_in dem s k ≤ share_in shares k = sum_where-tight n every (left_in dem s) (share_in shares) (legal_most plan dem f s shares legal) (omega arith) k hk refl in
+              let all : left_in dem s k ≤ share_in shares k =
+              sum_where-tight n every (left_in dem s) (share_in shares) (legal_most plan dem f s shares legal) (omega arith) k hk refl in
               absurd (omega (arith, short))
           | inr full ↦ omega arith
         ]
@@ -143,12 +153,15 @@ module _ (plan : Plan) (adm : IsAdmitted plan) (rm : plan.scheduler ≡ Rm) (dem
       ]
 
   -- what is left goes on to fit at the speed
-  pub cc_rm_enough : sum_below (count plan) (allotment_left_in plan s) ≤ f * (earliest_in plan s - s.now) → sum_below (count plan) (allotment_left_in plan ticked) ≤ f * (earliest_in plan ticked - ticked.now)
+  pub cc_rm_enough : sum_below (count plan) (allotment_left_in plan s) ≤ f * (earliest_in plan s - s.now)
+      → sum_below (count plan) (allotment_left_in plan ticked) ≤ f * (earliest_in plan ticked - ticked.now)
   cc_rm_enough enough =
-      let span : earliest_in plan s - s.now ≡ (earliest_in plan ticked - ticked.now) + 1 = omega (arith, same_earliest, earliest-later plan adm.limits s before) in
+      let span : earliest_in plan s - s.now ≡ (earliest_in plan ticked - ticked.now) + 1 =
+      omega (arith, same_earliest, earliest-later plan adm.limits s before) in
       room_falls (sum_below (count plan) (allotment_left_in plan s)) (sum_below (count plan) (allotment_left_in plan ticked)) f (earliest_in plan s - s.now) (earliest_in plan ticked - ticked.now) span left_falls enough
 
-  pub cc_rm_ticks : f ≤ static_speed plan → CcRmCalm plan s → sum_below (count plan) (allotment_left_in plan s) ≤ f * (earliest_in plan s - s.now) → CcRmCalm plan ticked
+  pub cc_rm_ticks : f ≤ static_speed plan → CcRmCalm plan s
+      → sum_below (count plan) (allotment_left_in plan s) ≤ f * (earliest_in plan s - s.now) → CcRmCalm plan ticked
   cc_rm_ticks slower calm enough = record {
     levels = λ i h.
         let n = count plan in
@@ -157,7 +170,8 @@ module _ (plan : Plan) (adm : IsAdmitted plan) (rm : plan.scheduler ≡ Rm) (dem
         sum_where-mono n lv (λ j. wleft_at ticked j + allotment_left_in plan s j) (λ j. wleft_at s j + allotment_left_in plan ticked j) (λ j hj on. part j hj) in
         let a = sum_where-plus n lv (wleft_at ticked) (allotment_left_in plan s) in
         let b = sum_where-plus n lv (wleft_at s) (allotment_left_in plan ticked) in
-        let worst : backlog plan (earliest_in plan ticked) i ≡ backlog plan (earliest_in plan s) i = ap (λ (u : ℕ). backlog plan u i) same_earliest in
+        let worst : backlog plan (earliest_in plan ticked) i ≡ backlog plan (earliest_in plan s) i =
+        ap (λ (u : ℕ). backlog plan u i) same_earliest in
         omega (arith, each, a, b, worst, calm.levels i h);
     total = omega (arith, mul-le-mul_right (earliest_in plan ticked - ticked.now) slower, cc_rm_enough enough);
     since = λ i h born early none.

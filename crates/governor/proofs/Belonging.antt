@@ -32,10 +32,22 @@ pub record RowOk (plan : Plan) (dem : JobDemands) (now i : ℕ) (row : Row) : Ty
   pub open_job : row.done ≡ false → row.used < dem i row.job
   pub closed_job : row.done ≡ true → 0 < row.job → row.used ≡ dem i row.job
 
-pub row_ok : (plan : Plan) (dem : JobDemands) (s : StateOf) → Belongs plan dem s → (i : ℕ) → i < count plan → RowOk plan dem s.now i (row_at s i)
-row_ok plan dem s bel i h = record { worst = bel.of.worst i h; used = bel.of.used i h; due = bel.due i h; deadline = bel.deadline i h; released = bel.released i h; open_job = bel.open_job i h; closed_job = bel.closed_job i h }
+pub row_ok : (plan : Plan) (dem : JobDemands) (s : StateOf) → Belongs plan dem s → (i : ℕ) → i < count plan
+    → RowOk plan dem s.now i (row_at s i)
+row_ok plan dem s bel i h = record {
+  worst = bel.of.worst i h;
+  used = bel.of.used i h;
+  due = bel.due i h;
+  deadline = bel.deadline i h;
+  released = bel.released i h;
+  open_job = bel.open_job i h;
+  closed_job = bel.closed_job i h;
+}
 
-belongs_of_rows : (plan : Plan) (dem : JobDemands) (s : StateOf) → length s.rows ≡ count plan → length s.base ≡ count plan → s.base_at ≡ last_marked plan s → ((i : ℕ) → i < count plan → row_wleft (row_at s i) ≤ slice_index s.base i) → IsWithin plan dem → ((i : ℕ) → i < count plan → RowOk plan dem s.now i (row_at s i)) → Belongs plan dem s
+belongs_of_rows : (plan : Plan) (dem : JobDemands) (s : StateOf) → length s.rows ≡ count plan
+    → length s.base ≡ count plan → s.base_at ≡ last_marked plan s
+    → ((i : ℕ) → i < count plan → row_wleft (row_at s i) ≤ slice_index s.base i) → IsWithin plan dem
+    → ((i : ℕ) → i < count plan → RowOk plan dem s.now i (row_at s i)) → Belongs plan dem s
 belongs_of_rows plan dem s rows base marked bases demand each = record {
   of = record { rows = rows; base = base; worst = λ i h. (each i h).worst; used = λ i h. (each i h).used };
   demand = demand;
@@ -49,7 +61,8 @@ belongs_of_rows plan dem s rows base marked bases demand each = record {
 }
 
 -- job 0 has no demand, so its row is complete
-pub unborn_done : (plan : Plan) (dem : JobDemands) (s : StateOf) → Belongs plan dem s → (i : ℕ) → i < count plan → (row_at s i).job ≡ 0 → (row_at s i).done ≡ true
+pub unborn_done : (plan : Plan) (dem : JobDemands) (s : StateOf) → Belongs plan dem s → (i : ℕ) → i < count plan
+    → (row_at s i).job ≡ 0 → (row_at s i).done ≡ true
 unborn_done plan dem s bel i h none =
     elim (cases_Bool (row_at s i).done) [
       | inl closed ↦ closed
@@ -80,7 +93,8 @@ pub belongs_opening : (plan : Plan) (dem : JobDemands) → IsWithin plan dem →
 belongs_opening plan dem fits =
     let ok : (i : ℕ) → i < count plan → RowOk plan dem 0 i (row_at (opening plan) i) =
     λ i h. subst (λ (row : Row). RowOk plan dem 0 i row) (sym (opening_at plan i h)) (opening_row_ok plan dem i) in
-    let none : last_marked plan (opening plan) ≤ 0 = greatest-least (count plan) (λ i. release_of plan i (row_at (opening plan) i)) 0 (λ i h. (ok i h).released) in
+    let none : last_marked plan (opening plan) ≤ 0 =
+    greatest-least (count plan) (λ i. release_of plan i (row_at (opening plan) i)) 0 (λ i h. (ok i h).released) in
     belongs_of_rows plan dem (opening plan) (length-list_below (count plan) (λ i. opening_row (offset plan i) (worst plan i))) (length-list_below (count plan) (λ i. 0)) (omega (arith, none))
     (λ i h. subst (λ (row : Row). row_wleft row ≤ slice_index (opening plan).base i) (sym (opening_at plan i h)) (omega arith))
     fits ok
@@ -90,11 +104,13 @@ eqb_pos zero e = absurd (let t : true ≡ false = e in cc)
 eqb_pos (suc n) e = omega arith
 
 -- the next job is released where this one is due
-pub opened_release : (plan : Plan) (dem : JobDemands) (i : ℕ) (row : Row) → row.deadline ≡ due_at plan i row.job → release_of plan i (opened_row plan dem i row) ≡ row.deadline
+pub opened_release : (plan : Plan) (dem : JobDemands) (i : ℕ) (row : Row) → row.deadline ≡ due_at plan i row.job
+    → release_of plan i (opened_row plan dem i row) ≡ row.deadline
 opened_release plan dem i row e = latest_since-suc plan i row.job ∙ sym e
 
 -- a row at a boundary
-opened_row_ok : (plan : Plan) (dem : JobDemands) (now i : ℕ) (row : Row) → row.deadline ≡ now → RowOk plan dem now i row → RowOk plan dem now i (opened_row plan dem i row)
+opened_row_ok : (plan : Plan) (dem : JobDemands) (now i : ℕ) (row : Row) → row.deadline ≡ now
+    → RowOk plan dem now i row → RowOk plan dem now i (opened_row plan dem i row)
 opened_row_ok plan dem now i row at_now ok = record {
   worst = ok.worst;
   used = omega arith;
@@ -105,7 +121,8 @@ opened_row_ok plan dem now i row at_now ok = record {
   closed_job = λ e pos. sym (eqb-true (dem i (row.job + 1)) 0 e);
 }
 
-row_at_boundary : (plan : Plan) (dem : JobDemands) (now i : ℕ) (row : Row) → RowOk plan dem now i row → RowOk plan dem now i (boundary_row plan dem now i row)
+row_at_boundary : (plan : Plan) (dem : JobDemands) (now i : ℕ) (row : Row) → RowOk plan dem now i row
+    → RowOk plan dem now i (boundary_row plan dem now i row)
 row_at_boundary plan dem now i row ok =
     let P : Bool → Type 0 = λ (b : Bool). RowOk plan dem now i (if b then opened_row plan dem i row else row) in
     elim (cases_Bool (is_due now row)) [
@@ -113,19 +130,22 @@ row_at_boundary plan dem now i row ok =
       | inr later ↦ subst P (sym later) ok
     ]
 
-pub boundary_at : (plan : Plan) (dem : JobDemands) (s : StateOf) (i : ℕ) → i < length s.rows → row_at (after_boundary plan dem s) i ≡ boundary_row plan dem s.now i (row_at s i)
+pub boundary_at : (plan : Plan) (dem : JobDemands) (s : StateOf) (i : ℕ) → i < length s.rows
+    → row_at (after_boundary plan dem s) i ≡ boundary_row plan dem s.now i (row_at s i)
 boundary_at plan dem s i h = get-each_row (boundary_row plan dem s.now) s.rows i h
 
 pub boundary_long : (plan : Plan) (dem : JobDemands) (s : StateOf) → length (after_boundary plan dem s).rows ≡ length s.rows
 boundary_long plan dem s = length-each_row (boundary_row plan dem s.now) 0 s.rows
 
-pub tick_at : (dem : JobDemands) (shares : List ℕ) (s : StateOf) (i : ℕ) → i < length s.rows → row_at (after_tick dem shares s) i ≡ tick_row dem shares i (row_at s i)
+pub tick_at : (dem : JobDemands) (shares : List ℕ) (s : StateOf) (i : ℕ) → i < length s.rows
+    → row_at (after_tick dem shares s) i ≡ tick_row dem shares i (row_at s i)
 tick_at dem shares s i h = get-each_row (tick_row dem shares) s.rows i h
 
 pub tick_long : (dem : JobDemands) (shares : List ℕ) (s : StateOf) → length (after_tick dem shares s).rows ≡ length s.rows
 tick_long dem shares s = length-each_row (tick_row dem shares) 0 s.rows
 
-boundary_rows_ok : (plan : Plan) (dem : JobDemands) (s : StateOf) → Belongs plan dem s → (i : ℕ) → i < count plan → RowOk plan dem s.now i (row_at (after_boundary plan dem s) i)
+boundary_rows_ok : (plan : Plan) (dem : JobDemands) (s : StateOf) → Belongs plan dem s → (i : ℕ) → i < count plan
+    → RowOk plan dem s.now i (row_at (after_boundary plan dem s) i)
 boundary_rows_ok plan dem s bel i h =
     rw (boundary_at plan dem s i (in_rows plan dem s bel i h))
     (row_at_boundary plan dem s.now i (row_at s i) (row_ok plan dem s bel i h))
@@ -135,11 +155,14 @@ length_if true xs ys n p q = p
 length_if false xs ys n p q = q
 
 -- the base of each row covers what it may need
-base_covers : (plan : Plan) (dem : JobDemands) (s : StateOf) → Belongs plan dem s → (i : ℕ) → i < count plan → (b : Bool) → list_any (is_due s.now) s.rows ≡ b → row_wleft (row_at (after_boundary plan dem s) i) ≤ slice_index (if b then map row_wleft (after_boundary plan dem s).rows else s.base) i
+base_covers : (plan : Plan) (dem : JobDemands) (s : StateOf) → Belongs plan dem s → (i : ℕ) → i < count plan
+    → (b : Bool) → list_any (is_due s.now) s.rows ≡ b
+    → row_wleft (row_at (after_boundary plan dem s) i) ≤ slice_index (if b then map row_wleft (after_boundary plan dem s).rows else s.base) i
 base_covers plan dem s bel i h true some =
     let rows = (after_boundary plan dem s).rows in
     let within : i < length rows = omega (arith, boundary_long plan dem s, bel.of.rows) in
-    let same : slice_index (map row_wleft rows) i ≡ row_wleft (row_at (after_boundary plan dem s) i) = get_or-map row_wleft rows i no_row 0 within in
+    let same : slice_index (map row_wleft rows) i ≡ row_wleft (row_at (after_boundary plan dem s) i) =
+    get_or-map row_wleft rows i no_row 0 within in
     omega arith
 base_covers plan dem s bel i h false none =
     let here : i < length s.rows = in_rows plan dem s bel i h in
@@ -148,18 +171,22 @@ base_covers plan dem s bel i h false none =
     rw (boundary_at plan dem s i here) (subst P (sym still) (bel.base i h))
 
 -- the mark is the last release
-marked_at : (plan : Plan) (dem : JobDemands) (s : StateOf) → Belongs plan dem s → (b : Bool) → list_any (is_due s.now) s.rows ≡ b → (if b then s.now else s.base_at) ≡ last_marked plan (after_boundary plan dem s)
+marked_at : (plan : Plan) (dem : JobDemands) (s : StateOf) → Belongs plan dem s → (b : Bool)
+    → list_any (is_due s.now) s.rows ≡ b
+    → (if b then s.now else s.base_at) ≡ last_marked plan (after_boundary plan dem s)
 marked_at plan dem s bel true some =
     let t = after_boundary plan dem s in
     let release : ℕ → ℕ = λ i. release_of plan i (row_at t i) in
-    let most : greatest_below (count plan) release ≤ s.now = greatest-least (count plan) release s.now (λ i h. (boundary_rows_ok plan dem s bel i h).released) in
+    let most : greatest_below (count plan) release ≤ s.now =
+    greatest-least (count plan) release s.now (λ i h. (boundary_rows_ok plan dem s bel i h).released) in
     let found = some_due_at (is_due s.now) s.rows some in
     let i = found.0 in
     let here : i < length s.rows = found.1 in
     let h : i < count plan = omega (arith, bel.of.rows) in
     let at_now : (row_at s i).deadline ≡ s.now = eqb-true (row_at s i).deadline s.now found.2 in
     let P : Bool → Type 0 = λ (b : Bool). release_of plan i (if b then opened_row plan dem i (row_at s i) else row_at s i) ≡ s.now in
-    let last : release i ≡ s.now = rw (boundary_at plan dem s i here) (subst P (sym found.2) (opened_release plan dem i (row_at s i) (bel.deadline i h) ∙ at_now)) in
+    let last : release i ≡ s.now =
+    rw (boundary_at plan dem s i here) (subst P (sym found.2) (opened_release plan dem i (row_at s i) (bel.deadline i h) ∙ at_now)) in
     let least : release i ≤ greatest_below (count plan) release = greatest-above (count plan) release i h in
     omega arith
 marked_at plan dem s bel false none =
@@ -185,7 +212,8 @@ belongs_boundary plan dem s bel =
     (boundary_rows_ok plan dem s bel)
 
 -- a row at a boundary is due later
-due_later : (plan : Plan) (dem : JobDemands) (now i : ℕ) (row : Row) → 0 < period plan i → now ≤ row.deadline → now < (boundary_row plan dem now i row).deadline
+due_later : (plan : Plan) (dem : JobDemands) (now i : ℕ) (row : Row) → 0 < period plan i → now ≤ row.deadline
+    → now < (boundary_row plan dem now i row).deadline
 due_later plan dem now i row pos due =
     let P : Bool → Type 0 = λ (b : Bool). now < (if b then opened_row plan dem i row else row).deadline in
     elim (cases_Bool (is_due now row)) [
@@ -194,7 +222,8 @@ due_later plan dem now i row pos due =
     ]
 
 -- job numbers are at most the deadlines
-pub numbered : (plan : Plan) (dem : JobDemands) (s : StateOf) → IsWithinLimits plan → Belongs plan dem s → (i : ℕ) → i < count plan → (row_at s i).job ≤ (row_at s i).deadline
+pub numbered : (plan : Plan) (dem : JobDemands) (s : StateOf) → IsWithinLimits plan → Belongs plan dem s → (i : ℕ)
+    → i < count plan → (row_at s i).job ≤ (row_at s i).deadline
 numbered plan dem s lim bel i h =
     omega (arith, bel.deadline i h, le-due plan i (row_at s i).job (some_period plan lim i h))
 
@@ -207,7 +236,8 @@ due_low : (plan : Plan) → IsWithinLimits plan → (i job : ℕ) → i < count 
 due_low plan lim i zero h = let first : offset plan i ≤ 2 ^ 40 = (lim.tasks.each i h).low_offset in omega (arith, due-none plan i, first)
 due_low plan lim i (suc k) h = omega (arith, due_soon plan i (suc k) (omega arith), low_period plan lim i h)
 
-pub decision_boundary : (plan : Plan) (dem : JobDemands) (s : StateOf) → IsWithinLimits plan → Belongs plan dem s → IsAtDecision plan (after_boundary plan dem s)
+pub decision_boundary : (plan : Plan) (dem : JobDemands) (s : StateOf) → IsWithinLimits plan → Belongs plan dem s
+    → IsAtDecision plan (after_boundary plan dem s)
 decision_boundary plan dem s lim bel =
     let t = after_boundary plan dem s in
     let bel' = belongs_boundary plan dem s bel in
@@ -227,15 +257,18 @@ decision_boundary plan dem s lim bel =
     }
 
 -- what a row gets in a tick
-units_fit : (done : Bool) (used worst need sh : ℕ) → used ≤ worst → need ≤ worst → sh ≤ (if done then 0 else need - used) → used + sh ≤ worst
+units_fit : (done : Bool) (used worst need sh : ℕ) → used ≤ worst → need ≤ worst
+    → sh ≤ (if done then 0 else need - used) → used + sh ≤ worst
 units_fit true used worst need sh a b c = omega arith
 units_fit false used worst need sh a b c = omega arith
 
-still_open : (done : Bool) (used need sh : ℕ) → (done ≡ false → used < need) → sh ≤ (if done then 0 else need - used) → (done || (used + sh == need)) ≡ false → used + sh < need
+still_open : (done : Bool) (used need sh : ℕ) → (done ≡ false → used < need) → sh ≤ (if done then 0 else need - used)
+    → (done || (used + sh == need)) ≡ false → used + sh < need
 still_open true used need sh o c e = absurd (let t : true ≡ false = e in cc)
 still_open false used need sh o c e = let other : used + sh ≡ need → ⊥ = eqb-false (used + sh) need e in omega (arith, o refl)
 
-now_closed : (done : Bool) (used need sh job : ℕ) → (done ≡ true → 0 < job → used ≡ need) → sh ≤ (if done then 0 else need - used) → (done || (used + sh == need)) ≡ true → 0 < job → used + sh ≡ need
+now_closed : (done : Bool) (used need sh job : ℕ) → (done ≡ true → 0 < job → used ≡ need)
+    → sh ≤ (if done then 0 else need - used) → (done || (used + sh == need)) ≡ true → 0 < job → used + sh ≡ need
 now_closed true used need sh job o c e pos = omega (arith, o refl pos)
 now_closed false used need sh job o c e pos = eqb-true (used + sh) need e
 
@@ -243,11 +276,14 @@ falls_if : (b : Bool) (worst used sh : ℕ) → (if b then 0 else worst - (used 
 falls_if true worst used sh = omega arith
 falls_if false worst used sh = omega arith
 
-wleft_falls : (done : Bool) (worst used sh need : ℕ) → (if (done || (used + sh == need)) then 0 else worst - (used + sh)) ≤ (if done then 0 else worst - used)
+wleft_falls : (done : Bool) (worst used sh need : ℕ)
+    → (if (done || (used + sh == need)) then 0 else worst - (used + sh)) ≤ (if done then 0 else worst - used)
 wleft_falls true worst used sh need = omega arith
 wleft_falls false worst used sh need = falls_if (used + sh == need) worst used sh
 
-row_after_tick : (plan : Plan) (dem : JobDemands) (shares : List ℕ) (now i : ℕ) (row : Row) → ((k : ℕ) → dem i k ≤ worst plan i) → now < row.deadline → share_in shares i ≤ left_of dem i row → RowOk plan dem now i row → RowOk plan dem (now + 1) i (tick_row dem shares i row)
+row_after_tick : (plan : Plan) (dem : JobDemands) (shares : List ℕ) (now i : ℕ) (row : Row)
+    → ((k : ℕ) → dem i k ≤ worst plan i) → now < row.deadline → share_in shares i ≤ left_of dem i row
+    → RowOk plan dem now i row → RowOk plan dem (now + 1) i (tick_row dem shares i row)
 row_after_tick plan dem shares now i row fits before most ok = record {
   worst = ok.worst;
   used = units_fit row.done row.used row.worst (dem i row.job) (share_in shares i) ok.used (rw ok.worst (fits row.job)) most;
@@ -259,10 +295,13 @@ row_after_tick plan dem shares now i row fits before most ok = record {
 }
 
 -- no task gets more than it needs in a legal tick
-pub legal_most : (plan : Plan) (dem : JobDemands) (f : ℕ) (s : StateOf) (shares : List ℕ) → IsLegalIn plan dem f s shares → (i : ℕ) → i < count plan → share_in shares i ≤ left_in dem s i
-legal_most plan dem f s shares legal i h = share-most (count plan) (key_in plan.scheduler plan s) f (left_in dem s) (share_in shares) legal.out i h
+pub legal_most : (plan : Plan) (dem : JobDemands) (f : ℕ) (s : StateOf) (shares : List ℕ)
+    → IsLegalIn plan dem f s shares → (i : ℕ) → i < count plan → share_in shares i ≤ left_in dem s i
+legal_most plan dem f s shares legal i h =
+    share-most (count plan) (key_in plan.scheduler plan s) f (left_in dem s) (share_in shares) legal.out i h
 
-pub belongs_tick : (plan : Plan) (dem : JobDemands) (f : ℕ) (s : StateOf) (shares : List ℕ) → Belongs plan dem s → IsBeforeAll plan s → IsLegalIn plan dem f s shares → Belongs plan dem (after_tick dem shares s)
+pub belongs_tick : (plan : Plan) (dem : JobDemands) (f : ℕ) (s : StateOf) (shares : List ℕ) → Belongs plan dem s
+    → IsBeforeAll plan s → IsLegalIn plan dem f s shares → Belongs plan dem (after_tick dem shares s)
 belongs_tick plan dem f s shares bel before legal =
     let t = after_tick dem shares s in
     let here : (i : ℕ) → i < count plan → i < length s.rows = in_rows plan dem s bel in

@@ -1,6 +1,5 @@
 -- What the laws of a governor give along its schedule: every deadline is met, and every demand but that of a look-ahead.
 use Rattle.std.proofs.Common.{◌≡◌, ◌≢◌, ℕ, zero, suc, ◌-◌, ◌<◌, ◌≤◌, Bool, true, false, List, [], ◌∷◌, length, drop, refl, arith, if◌then◌else◌, ap, ◌∙◌, sym, subst, true≢false, ◌⊎◌, inl, inr, eq-or-lt_of_le}
-use Rattle.dvs_base.specs.declared.kind.Scheduler.{Scheduler}
 use Rattle.dvs_base.specs.declared.kind.GovernorKind.{GovernorKind}
 use Rattle.dvs_base.specs.declared.kind.GovernorKind.TheVariants.{Ahead}
 use Rattle.grid_fraction.specs.declared.Frac.{Frac}
@@ -31,14 +30,16 @@ use Rattle.governor.proofs.Joins.{boundary-is, tick-is, legal-is}
 use Rattle.governor.proofs.Belonging.{belongs_opening, belongs_boundary, belongs_tick, decision_boundary}
 
 -- the ticks of a schedule up to r are those of the shorter one
-pub at-schedule : (p : Plan) (dem : JobDemands) (ask : List Tick → Frac) (t r : ℕ) → r ≤ t → at r (schedule_by p dem ask t) ≡ schedule_by p dem ask r
+pub at-schedule : (p : Plan) (dem : JobDemands) (ask : List Tick → Frac) (t r : ℕ) → r ≤ t
+    → at r (schedule_by p dem ask t) ≡ schedule_by p dem ask r
 at-schedule p dem ask t r le = ap (λ n. drop (n - r) (schedule_by p dem ask t)) (schedule_exists p dem ask t).1 ∙ go t le
   where
     go : (t : ℕ) → r ≤ t → drop (t - r) (schedule_by p dem ask t) ≡ schedule_by p dem ask r
     go zero le = let z : zero ≡ r = omega arith in subst (λ m. drop (zero - m) (schedule_by p dem ask zero) ≡ schedule_by p dem ask m) z refl
     go (suc t) le = cases (eq-or-lt_of_le le) (go t)
       where
-        cases : (r ≡ suc t) ⊎ (r < suc t) → (r ≤ t → drop (t - r) (schedule_by p dem ask t) ≡ schedule_by p dem ask r) → drop (suc t - r) (schedule_by p dem ask (suc t)) ≡ schedule_by p dem ask r
+        cases : (r ≡ suc t) ⊎ (r < suc t) → (r ≤ t → drop (t - r) (schedule_by p dem ask t) ≡ schedule_by p dem ask r)
+            → drop (suc t - r) (schedule_by p dem ask (suc t)) ≡ schedule_by p dem ask r
         cases (inl q) ih = let z : suc t - r ≡ 0 = omega (arith, q) in ap (λ n. drop n (schedule_by p dem ask (suc t))) z ∙ ap (schedule_by p dem ask) (sym q)
         cases (inr l) ih =
             let z : suc t - r ≡ suc (t - r) = omega (arith, l) in
@@ -70,7 +71,8 @@ module _ (kind : GovernorKind) (serves : Serving) (demand : OwnDemand) (calm : C
 
   -- after them
   pub belongs-state : (past : List Tick) → Kept past → Belongs p dem (state_of p dem past)
-  belongs-state past k = subst (Belongs p dem) (boundary-is p dem periods within.none past) (belongs_boundary p dem (prior_state p dem past) k.belongs)
+  belongs-state past k =
+      subst (Belongs p dem) (boundary-is p dem periods within.none past) (belongs_boundary p dem (prior_state p dem past) k.belongs)
 
   pub calm-state : (past : List Tick) → Kept past → calm p (state_of p dem past)
   calm-state past k =
@@ -78,7 +80,8 @@ module _ (kind : GovernorKind) (serves : Serving) (demand : OwnDemand) (calm : C
       (laws.releases p dem (prior_state p dem past) (in_run k.belongs) k.is_calm)
 
   pub decides-state : (past : List Tick) → Kept past → IsAtDecision p (state_of p dem past)
-  decides-state past k = subst (IsAtDecision p) (boundary-is p dem periods within.none past) (decision_boundary p dem (prior_state p dem past) adm.limits k.belongs)
+  decides-state past k =
+      subst (IsAtDecision p) (boundary-is p dem periods within.none past) (decision_boundary p dem (prior_state p dem past) adm.limits k.belongs)
 
   no-release : (past : List Tick) → is_decision p dem past ≡ false → is_release p (length past) ≡ false
   no-release [] e = absurd (true≢false e)
@@ -99,7 +102,8 @@ module _ (kind : GovernorKind) (serves : Serving) (demand : OwnDemand) (calm : C
   tick past = next_tick p dem ask past
 
   own : (past : List Tick) (i : ℕ) → i < count p → share (tick past) i ≤ left_at p dem past i
-  own past i lt = omega (arith, get-table (count p) (allotment (count p) (key_of p.scheduler p (length past)) (speed_now past) (left_at p dem past)) i 0 lt)
+  own past i lt =
+      omega (arith, get-table (count p) (allotment (count p) (key_of p.scheduler p (length past)) (speed_now past) (left_at p dem past)) i 0 lt)
 
   legal : (past : List Tick) → IsLegalIn p dem (speed_now past) (state_of p dem past) (tick past).shares
   legal past =
@@ -146,10 +150,14 @@ module _ (kind : GovernorKind) (serves : Serving) (demand : OwnDemand) (calm : C
   due-had : (past : List Tick) (i k : ℕ) → Kept past → i < count p → 1 ≤ k → due p i k ≡ length past → exec p past i k ≡ dem i k
   due-had [] i k kept lt pos e = absurd (omega (arith, e, release-due p i k pos, periods i))
   due-had (x ∷ past) i k kept lt pos e =
-      let job : latest p i (length past) ≡ k = latest-is p i k (length past) (omega (arith, e, release-due p i k pos, periods i)) (omega (arith, e)) in
-      let row : row_at (prior_state p dem (x ∷ past)) i ≡ prior_row p dem (x ∷ past) i = get-table (count p) (prior_row p dem (x ∷ past)) i no_row lt in
-      let now : (row_at (prior_state p dem (x ∷ past)) i).deadline ≡ length (x ∷ past) = ap (λ (r : Row). r.deadline) row ∙ (ap (due p i) job ∙ e) in
-      let done : (row_at (prior_state p dem (x ∷ past)) i).done ≡ true = laws.completes p dem (prior_state p dem (x ∷ past)) (in_run kept.belongs) kept.is_calm i lt now in
+      let job : latest p i (length past) ≡ k =
+      latest-is p i k (length past) (omega (arith, e, release-due p i k pos, periods i)) (omega (arith, e)) in
+      let row : row_at (prior_state p dem (x ∷ past)) i ≡ prior_row p dem (x ∷ past) i =
+      get-table (count p) (prior_row p dem (x ∷ past)) i no_row lt in
+      let now : (row_at (prior_state p dem (x ∷ past)) i).deadline ≡ length (x ∷ past) =
+      ap (λ (r : Row). r.deadline) row ∙ (ap (due p i) job ∙ e) in
+      let done : (row_at (prior_state p dem (x ∷ past)) i).done ≡ true =
+      laws.completes p dem (prior_state p dem (x ∷ past)) (in_run kept.belongs) kept.is_calm i lt now in
       let P : Row → Type 0 = λ (r : Row). r.done ≡ true → 0 < r.job → r.used ≡ dem i r.job in
       let had : exec p (x ∷ past) i (latest p i (length past)) ≡ dem i (latest p i (length past)) =
       subst P row (kept.belongs.closed_job i lt) (sym (ap (λ (r : Row). r.done) row) ∙ done) (omega (arith, job, pos)) in

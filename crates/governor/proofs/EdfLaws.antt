@@ -54,7 +54,8 @@ abbrev term : ℕ → ℕ → ℕ → Row → ℕ
 term h d u row = if nat_le row.deadline d then h * row_wleft row + u * (d - row.deadline) else 0
 
 -- the load, task by task
-pub load_is : (plan : Plan) (s : StateOf) (d : ℕ) → load plan s d ≡ sum_below (count plan) (λ i. term (hyper plan) d (rate plan i) (row_at s i))
+pub load_is : (plan : Plan) (s : StateOf) (d : ℕ)
+    → load plan s d ≡ sum_below (count plan) (λ i. term (hyper plan) d (rate plan i) (row_at s i))
 load_is plan s d =
     let n = count plan in
     ap (λ (x : ℕ). x + sum_where n (due_by s d) (λ i. rate plan i * (d - (row_at s i).deadline))) (sum_where-times n (hyper plan) (due_by s d) (wleft_at s))
@@ -67,7 +68,9 @@ release_pays h p q c w d now whole le within =
     let work : c * (q * p) ≡ c * h = ap (λ (x : ℕ). c * x) whole in
     rw span (omega (arith, work, mul-le-mul_left h le))
 
-term_opened : (plan : Plan) (dem : JobDemands) (h d now i p c : ℕ) (row : Row) → period plan i ≡ p → row.worst ≡ c → h / p * p ≡ h → row.done ≡ true → row.deadline ≡ now → now ≤ d → term h d (c * (h / p)) (opened_row plan dem i row) ≤ term h d (c * (h / p)) row
+term_opened : (plan : Plan) (dem : JobDemands) (h d now i p c : ℕ) (row : Row) → period plan i ≡ p → row.worst ≡ c
+    → h / p * p ≡ h → row.done ≡ true → row.deadline ≡ now → now ≤ d
+    → term h d (c * (h / p)) (opened_row plan dem i row) ≤ term h d (c * (h / p)) row
 term_opened plan dem h d now i p c row per wor whole closed at_now le =
     let u = c * (h / p) in
     let before : term h d u row ≡ u * (d - now) = rw (at_now, le-leb now d le, closed) (omega (arith, mul-zero h)) in
@@ -82,7 +85,9 @@ term_opened plan dem h d now i p c row per wor whole closed at_now le =
       | inr past ↦ subst P (sym past) (omega arith)
     ])
 
-term_boundary : (plan : Plan) (dem : JobDemands) (h d now i p c : ℕ) (row : Row) → period plan i ≡ p → row.worst ≡ c → h / p * p ≡ h → (row.deadline ≡ now → row.done ≡ true) → now ≤ d → term h d (c * (h / p)) (boundary_row plan dem now i row) ≤ term h d (c * (h / p)) row
+term_boundary : (plan : Plan) (dem : JobDemands) (h d now i p c : ℕ) (row : Row) → period plan i ≡ p → row.worst ≡ c
+    → h / p * p ≡ h → (row.deadline ≡ now → row.done ≡ true) → now ≤ d
+    → term h d (c * (h / p)) (boundary_row plan dem now i row) ≤ term h d (c * (h / p)) row
 term_boundary plan dem h d now i p c row per wor whole closed le =
     let P : Bool → Type 0 = λ (b : Bool). term h d (c * (h / p)) (if b then opened_row plan dem i row else row) ≤ term h d (c * (h / p)) row in
     elim (cases_Bool (is_due now row)) [
@@ -148,7 +153,8 @@ module _ (F : ℕ) (plan : Plan) (lim : IsWithinLimits plan) where
     edf_completes calm i h e =
         let none : (hyper plan) * (F * (s.now - s.now)) ≡ 0 = (let z : s.now - s.now ≡ 0 = omega arith in rw z (omega arith)) in
         let all : load plan s s.now ≤ 0 = rw none at (calm s.now (omega arith)) in
-        let total : sum_where (count plan) (due_by s s.now) (wleft_at s) ≡ 0 = zero_factor (hyper plan) (sum_where (count plan) (due_by s s.now) (wleft_at s)) (some_hyper plan lim) (omega arith) in
+        let total : sum_where (count plan) (due_by s s.now) (wleft_at s) ≡ 0 =
+        zero_factor (hyper plan) (sum_where (count plan) (due_by s s.now) (wleft_at s)) (some_hyper plan lim) (omega arith) in
         let mine = sum_where-term (count plan) (due_by s s.now) (wleft_at s) i h (le-leb (row_at s i).deadline s.now (omega arith)) in
         closed_row (row_at s i) (dem i (row_at s i).job) (omega arith) (bel.open_job i h) (demand_most plan dem s bel i h)
 
@@ -162,7 +168,9 @@ module _ (F : ℕ) (plan : Plan) (lim : IsWithinLimits plan) where
         let now = calm d le in
         omega (arith, load_is plan t d, load_is plan s d, falls, now)
 
-    pub edf_ticks : plan.scheduler ≡ Edf → total_rate plan ≤ F * (hyper plan) → (k : ℕ) (shares : List ℕ) → IsBeforeAll plan s → IsLegalIn plan dem (speed_at plan.machine k) s shares → EdfSafe F plan s k → EdfSafe F plan (after_tick dem shares s) k
+    pub edf_ticks : plan.scheduler ≡ Edf → total_rate plan ≤ F * (hyper plan) → (k : ℕ) (shares : List ℕ)
+        → IsBeforeAll plan s → IsLegalIn plan dem (speed_at plan.machine k) s shares → EdfSafe F plan s k
+        → EdfSafe F plan (after_tick dem shares s) k
     edf_ticks edf fits k shares before legal safe = record {
       bound = λ d le.
           let f = speed_at plan.machine k in
@@ -170,9 +178,11 @@ module _ (F : ℕ) (plan : Plan) (lim : IsWithinLimits plan) where
           let n = count plan in
           let a = earliest_in plan s in
           let t = after_tick dem shares s in
-          let kept : earliest_in plan t ≡ a = least-same n (λ i. (row_at t i).deadline) (λ i. (row_at s i).deadline) (λ i lt. ap (λ (row : Row). row.deadline) (tick_at dem shares s i (here i lt))) in
+          let kept : earliest_in plan t ≡ a =
+          least-same n (λ i. (row_at t i).deadline) (λ i. (row_at s i).deadline) (λ i lt. ap (λ (row : Row). row.deadline) (tick_at dem shares s i (here i lt))) in
           let due : a ≤ d = rw kept at le in
-          let next : s.now + 1 ≤ a = least-above n (λ i. (row_at s i).deadline) (s.now + 1) (some_task plan lim) (λ i lt. let g = before i lt in omega (arith, g)) in
+          let next : s.now + 1 ≤ a =
+          least-above n (λ i. (row_at s i).deadline) (s.now + 1) (some_task plan lim) (λ i lt. let g = before i lt in omega (arith, g)) in
           let down : (j i : ℕ) → j < n → i < n → stands_before (key_in plan.scheduler plan s) j i ≡ true → due_by s d i ≡ true → due_by s d j ≡ true =
           subst (λ (sch : Scheduler). (j i : ℕ) → j < n → i < n → stands_before (key_in sch plan s) j i ≡ true → due_by s d i ≡ true → due_by s d j ≡ true) (sym edf) (λ j i lj li b on. grind (arith, nat_tests)) in
           let x : ℕ → ℕ = λ i. rate plan i * (d - (row_at s i).deadline) in

@@ -33,14 +33,16 @@ pub full_speed : (plan : Plan) → IsWithinLimits plan → speed_at plan.machine
 full_speed plan lim =
     let k = lowest_entry plan.machine (full_demand plan) in
     let fits : top_speed plan ≤ speed_at plan.machine k * 1 = picked_meets plan.machine lim.machine (full_demand plan) (omega arith) in
-    let most : speed_at plan.machine k ≤ top_speed plan = below_highest plan.machine lim.machine k (lowest_within plan.machine (full_demand plan) lim.machine.some) in
+    let most : speed_at plan.machine k ≤ top_speed plan =
+    below_highest plan.machine lim.machine k (lowest_within plan.machine (full_demand plan) lim.machine.some) in
     omega arith
 
 pub full_met : (plan : Plan) → IsWithinLimits plan → (lowest_pick plan.machine (full_demand plan)).met ≡ true
 full_met plan lim = picked_met plan.machine lim.machine (full_demand plan) (omega arith)
 
 -- the highest speed meets the static demand
-below_top_by : (plan : Plan) (lim : IsWithinLimits plan) (sch : Scheduler) → PassesTest sch plan → (static_demand_of sch plan).num ≤ top_speed plan * (static_demand_of sch plan).den
+below_top_by : (plan : Plan) (lim : IsWithinLimits plan) (sch : Scheduler) → PassesTest sch plan
+    → (static_demand_of sch plan).num ≤ top_speed plan * (static_demand_of sch plan).den
 below_top_by plan lim Edf test = test
 below_top_by plan lim Rm test = test (heaviest_task plan lim) (heaviest_within plan lim)
 
@@ -59,7 +61,8 @@ meets_each s p g d F pos greatest meets =
     let swap : F * d * p ≡ F * p * d = omega arith in
     le_of_mul-le-mul_right {m = s} {n = F * p} {k = d} (omega (arith, a, swap, greatest)) pos
 
-pub rm_each : (plan : Plan) (lim : IsWithinLimits plan) (F : ℕ) → (rm_static plan).num ≤ F * (rm_static plan).den → (i : ℕ) → i < count plan → level_work plan i ≤ F * period plan i
+pub rm_each : (plan : Plan) (lim : IsWithinLimits plan) (F : ℕ) → (rm_static plan).num ≤ F * (rm_static plan).den
+    → (i : ℕ) → i < count plan → level_work plan i ≤ F * period plan i
 rm_each plan lim F meets i h =
     meets_each (level_work plan i) (period plan i) (level_work plan (heaviest_task plan lim)) (period plan (heaviest_task plan lim)) F
     (some_period plan lim (heaviest_task plan lim) (heaviest_within plan lim)) (heaviest_greatest plan lim i h) meets

@@ -22,7 +22,8 @@ use Rattle.sched_model.proofs.Joining.{row_by, due_released, row-opened, row-kep
 use Rattle.governor.specs.Steps.{each_row, is_due, boundary_row, boundary_rows, after_boundary, tick_row, after_tick, left_in, left_of, key_in, share_in, IsLegalIn}
 use Rattle.grid_fraction.proofs.Searches.{any_below-same}
 
-each_row-snoc : (f : ℕ → Row → Row) (k : ℕ) (rows : List Row) (r : Row) → each_row f k (rows ++ r ∷ []) ≡ each_row f k rows ++ f (k + length rows) r ∷ []
+each_row-snoc : (f : ℕ → Row → Row) (k : ℕ) (rows : List Row) (r : Row)
+    → each_row f k (rows ++ r ∷ []) ≡ each_row f k rows ++ f (k + length rows) r ∷ []
 each_row-snoc f k [] r = let z : k ≡ k + 0 = omega arith in ap (λ n. f n r ∷ []) z
 each_row-snoc f k (q ∷ rows) r =
     let z : suc k + length rows ≡ k + length (q ∷ rows) = omega arith in
@@ -52,7 +53,8 @@ any-table test zero g = refl
 any-table test (suc n) g = any-snoc test (list_below n g) (g n) ∙ ap (λ b. b || test (g n)) (any-table test n g)
 
 -- sums by the order are those of equal keys
-sum_up_to-same : (n : ℕ) (key key' f f' : ℕ → ℕ) → ((j : ℕ) → j < n → key j ≡ key' j) → ((j : ℕ) → j < n → f j ≡ f' j) → (i : ℕ) → i < n → sum_up_to n key f i ≡ sum_up_to n key' f' i
+sum_up_to-same : (n : ℕ) (key key' f f' : ℕ → ℕ) → ((j : ℕ) → j < n → key j ≡ key' j) → ((j : ℕ) → j < n → f j ≡ f' j)
+    → (i : ℕ) → i < n → sum_up_to n key f i ≡ sum_up_to n key' f' i
 sum_up_to-same n key key' f f' ks fs i lt =
     ap₂ (λ a b. a + b)
     (sum_below-same n (λ j. if stands_before key j i then f j else 0) (λ j. if stands_before key' j i then f' j else 0) (λ j l.
@@ -64,7 +66,8 @@ module _ (p : Plan) (dem : JobDemands) (periods : (i : ℕ) → 0 < period p i) 
   boundary-row : (past : List Tick) (i : ℕ) → boundary_row p dem (length past) i (prior_row p dem past i) ≡ row_of p dem past i
   boundary-row past i = go (nat_eq (prior_row p dem past i).deadline (length past)) refl
     where
-      go : (b : Bool) → nat_eq (prior_row p dem past i).deadline (length past) ≡ b → boundary_row p dem (length past) i (prior_row p dem past i) ≡ row_of p dem past i
+      go : (b : Bool) → nat_eq (prior_row p dem past i).deadline (length past) ≡ b
+          → boundary_row p dem (length past) i (prior_row p dem past i) ≡ row_of p dem past i
       go true e =
           let same : (prior_row p dem past i).deadline ≡ length past = grind (arith, nat_tests) in
           rw e (sym (row-opened p dem periods past i same))
@@ -103,21 +106,27 @@ module _ (p : Plan) (dem : JobDemands) (periods : (i : ℕ) → 0 < period p i) 
   done-is : (d u sh : ℕ) → sh ≤ d - u → nat_le d (u + sh) ≡ (nat_le d u || (u + sh == d))
   done-is d u sh fits = go (nat_le d u) refl (nat_le d (u + sh)) refl (nat_eq (u + sh) d) refl
     where
-      go : (a : Bool) → nat_le d u ≡ a → (b : Bool) → nat_le d (u + sh) ≡ b → (c : Bool) → nat_eq (u + sh) d ≡ c → nat_le d (u + sh) ≡ (nat_le d u || (u + sh == d))
+      go : (a : Bool) → nat_le d u ≡ a → (b : Bool) → nat_le d (u + sh) ≡ b → (c : Bool) → nat_eq (u + sh) d ≡ c
+          → nat_le d (u + sh) ≡ (nat_le d u || (u + sh == d))
       go true e true f c g = rw (e, f) refl
-      go true e false f c g = absurd (let le : d ≤ u = grind (arith, nat_tests) in let lt : u + sh < d = grind (arith, nat_tests) in omega arith)
+      go true e false f c g =
+          absurd (let le : d ≤ u = grind (arith, nat_tests) in let lt : u + sh < d = grind (arith, nat_tests) in omega arith)
       go false e true f true g = rw (e, f, g) refl
       go false e false f false g = rw (e, f, g) refl
-      go false e true f false g = absurd (let le : d ≤ u + sh = grind (arith, nat_tests) in let lt : u < d = grind (arith, nat_tests) in let ne : (u + sh ≡ d) → ⊥ = grind (arith, nat_tests) in ne (omega arith))
-      go false e false f true g = absurd (let same : u + sh ≡ d = grind (arith, nat_tests) in let lt : u + sh < d = grind (arith, nat_tests) in omega arith)
+      go false e true f false g =
+          absurd (let le : d ≤ u + sh = grind (arith, nat_tests) in let lt : u < d = grind (arith, nat_tests) in let ne : (u + sh ≡ d) → ⊥ = grind (arith, nat_tests) in ne (omega arith))
+      go false e false f true g =
+          absurd (let same : u + sh ≡ d = grind (arith, nat_tests) in let lt : u + sh < d = grind (arith, nat_tests) in omega arith)
 
-  tick-row : (x : Tick) (past : List Tick) (i : ℕ) → share_at x i ≤ left_at p dem past i → prior_row p dem (x ∷ past) i ≡ tick_row dem x.shares i (row_of p dem past i)
+  tick-row : (x : Tick) (past : List Tick) (i : ℕ) → share_at x i ≤ left_at p dem past i
+      → prior_row p dem (x ∷ past) i ≡ tick_row dem x.shares i (row_of p dem past i)
   tick-row x past i fits =
       row-ran p dem periods x past i (none i) fits
       ∙ ap (λ b. row_by (row_of p dem past i).deadline (row_of p dem past i).job ((row_of p dem past i).used + share_at x i) b (row_of p dem past i).worst)
       (done-is (dem i (latest p i (length past))) (exec p past i (latest p i (length past))) (share_at x i) fits)
 
-  pub tick-is : (x : Tick) (past : List Tick) → ((i : ℕ) → i < count p → share_at x i ≤ left_at p dem past i) → after_tick dem x.shares (state_of p dem past) ≡ prior_state p dem (x ∷ past)
+  pub tick-is : (x : Tick) (past : List Tick) → ((i : ℕ) → i < count p → share_at x i ≤ left_at p dem past i)
+      → after_tick dem x.shares (state_of p dem past) ≡ prior_state p dem (x ∷ past)
   tick-is x past fits =
       sym (state-ran p dem periods x past
       ∙ ap (λ rows. record { now = length past + 1; rows = rows; base_at = (state_of p dem past).base_at; base = (state_of p dem past).base })
@@ -133,13 +142,17 @@ module _ (p : Plan) (dem : JobDemands) (periods : (i : ℕ) → 0 < period p i) 
   key-is past Rm i lt = refl
 
   left-is : (past : List Tick) (i : ℕ) → i < count p → left_at p dem past i ≡ left_in dem (state_of p dem past) i
-  left-is past i lt = go (nat_le (dem i (latest p i (length past))) (exec p past i (latest p i (length past)))) refl ∙ sym (ap (left_of dem i) (row-is past i lt))
+  left-is past i lt =
+      go (nat_le (dem i (latest p i (length past))) (exec p past i (latest p i (length past)))) refl ∙ sym (ap (left_of dem i) (row-is past i lt))
     where
-      go : (b : Bool) → nat_le (dem i (latest p i (length past))) (exec p past i (latest p i (length past))) ≡ b → left_at p dem past i ≡ left_of dem i (row_of p dem past i)
-      go true e = rw e (let le : dem i (latest p i (length past)) ≤ exec p past i (latest p i (length past)) = grind (arith, nat_tests) in omega arith)
+      go : (b : Bool) → nat_le (dem i (latest p i (length past))) (exec p past i (latest p i (length past))) ≡ b
+          → left_at p dem past i ≡ left_of dem i (row_of p dem past i)
+      go true e =
+          rw e (let le : dem i (latest p i (length past)) ≤ exec p past i (latest p i (length past)) = grind (arith, nat_tests) in omega arith)
       go false e = rw e refl
 
-  pub legal-is : (x : Tick) (past : List Tick) (f : ℕ) → length x.shares ≡ count p → SharesOut (count p) (key_at p.scheduler p (length past)) f (left_at p dem past) (share_at x)
+  pub legal-is : (x : Tick) (past : List Tick) (f : ℕ) → length x.shares ≡ count p
+      → SharesOut (count p) (key_at p.scheduler p (length past)) f (left_at p dem past) (share_at x)
       → IsLegalIn p dem f (state_of p dem past) x.shares
   legal-is x past f long out = record {
     one_each = long;

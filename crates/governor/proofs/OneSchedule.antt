@@ -1,12 +1,9 @@
 -- A governor whose demand is the published one of its kind has the schedule that the kind gives.
-use Rattle.std.proofs.Common.{◌≡◌, ℕ, List, sym}
-use Rattle.dvs_base.specs.declared.kind.Scheduler.{Scheduler}
+use Rattle.std.proofs.Common.{sym}
 use Rattle.dvs_base.specs.declared.kind.GovernorKind.{GovernorKind}
-use Rattle.grid_fraction.specs.declared.Frac.{Frac}
 use Rattle.sched_model.specs.Plan.{Plan}
 use Rattle.sched_model.specs.Demand.{published}
 use Rattle.sched_model.specs.Admission.{IsAdmitted}
-use Rattle.sched_model.specs.States.{StateOf}
 use Rattle.sched_model.proofs.Agreeing.{same-schedule}
 use Rattle.governor.specs.Meanings.{Serving, OwnDemand}
 use Rattle.governor.specs.Schedule.{ask_of, Publishes, HasScheduleOf, PublishingLaws}

@@ -5,15 +5,16 @@ use Rattle.dvs_base.specs.declared.kind.Scheduler.TheVariants.{Edf, Rm}
 use Rattle.dvs_base.specs.declared.kind.GovernorKind.{GovernorKind}
 use Rattle.dvs_base.specs.declared.kind.GovernorKind.TheVariants.{Plain, Fixed}
 use Rattle.dvs_base.specs.Pairs.{IsPair}
-use Rattle.freq_table.specs.Tables.{speed_at, lowest_entry}
+use Rattle.grid_fraction.specs.declared.Frac.{Frac}
+use Rattle.freq_table.specs.Tables.{speed_at, lowest_entry, lowest_pick}
 use Rattle.sched_model.specs.Plan.{Plan, count, period, top_speed}
 use Rattle.sched_model.specs.Demands.{JobDemands}
 use Rattle.sched_model.specs.StaticDemand.{full_demand, static_demand}
-use Rattle.sched_model.specs.Admission.{IsWithinLimits}
+use Rattle.sched_model.specs.Admission.{IsWithinLimits, IsAdmitted}
 use Rattle.sched_model.specs.States.{StateOf, row_at, opening}
 use Rattle.sched_model.proofs.Limits.{some_period}
 use Rattle.governor.specs.Steps.{after_boundary, after_tick, IsLegalIn, IsBeforeAll, Belongs}
-use Rattle.governor.specs.Laws.{GovernorLaws}
+use Rattle.governor.specs.Laws.{GovernorLaws, HasLowDen}
 use Rattle.governor.specs.Serving.{ServesBoth}
 use Rattle.governor.specs.Speeds.{unchanging, fixed_speed}
 use Rattle.governor.specs.OneSpeed.{CalmBy, SafeBy, CalmAt, SafeAt}
@@ -39,7 +40,9 @@ module _ (F : ℕ) (plan : Plan) (lim : IsWithinLimits plan) (enough : IsEnough 
     chooses_by Edf k same calm = edf_chooses F plan lim dem s bel k same calm
     chooses_by Rm k same calm = record { calm = calm; same = same }
 
-    ticks_by : (sch : Scheduler) → plan.scheduler ≡ sch → (k : ℕ) (shares : List ℕ) → IsBeforeAll plan s → IsLegalIn plan dem (speed_at plan.machine k) s shares → SafeBy sch F plan s k → SafeBy sch F plan (after_tick dem shares s) k
+    ticks_by : (sch : Scheduler) → plan.scheduler ≡ sch → (k : ℕ) (shares : List ℕ) → IsBeforeAll plan s
+        → IsLegalIn plan dem (speed_at plan.machine k) s shares → SafeBy sch F plan s k
+        → SafeBy sch F plan (after_tick dem shares s) k
     ticks_by Edf e k shares before legal safe = edf_ticks F plan lim dem s bel e (enough.edf e) k shares before legal safe
     ticks_by Rm e k shares before legal safe = record {
       calm = rm_ticks F (period plan) plan lim dem s bel e (enough.rm e) shares before (subst (λ (f : ℕ). IsLegalIn plan dem f s shares) safe.same legal) safe.calm;
@@ -50,7 +53,8 @@ module _ (F : ℕ) (plan : Plan) (lim : IsWithinLimits plan) (enough : IsEnough 
     stays_by Edf k safe = edf_stays_calm F plan lim dem s bel k safe
     stays_by Rm k safe = safe.calm
 
-    completes_by : (sch : Scheduler) → CalmBy sch F plan s → (i : ℕ) → i < count plan → (row_at s i).deadline ≡ s.now → (row_at s i).done ≡ true
+    completes_by : (sch : Scheduler) → CalmBy sch F plan s → (i : ℕ) → i < count plan → (row_at s i).deadline ≡ s.now
+        → (row_at s i).done ≡ true
     completes_by Edf calm = edf_completes F plan lim dem s bel calm
     completes_by Rm calm = rm_completes F (period plan) plan lim dem s bel within calm
 
@@ -63,30 +67,56 @@ pub pairs_fixed : (sch : Scheduler) → ServesBoth sch → IsPair sch Fixed
 pairs_fixed Edf serves = refl
 pairs_fixed Rm serves = refl
 
--- the laws at the highest speed, of each kind that makes a pair with both schedulers
-pub full_laws : {kind : GovernorKind} → ((sch : Scheduler) → ServesBoth sch → IsPair sch kind) → GovernorLaws kind ServesBoth (unchanging full_demand) (CalmAt top_speed) (SafeAt top_speed)
-full_laws pairs = record {
+-- the speed F passes the scheduler's test, and is that of the lowest entry that meets the demand
+pub record IsOneSpeed (F : Plan → ℕ) (demand : Plan → Frac) : Type 0 where
+  pub enough : (plan : Plan) → IsAdmitted plan → IsEnough (F plan) plan
+  pub same : (plan : Plan) → IsAdmitted plan → speed_at plan.machine (lowest_entry plan.machine (demand plan)) ≡ F plan
+  pub met : (plan : Plan) → IsAdmitted plan → (lowest_pick plan.machine (demand plan)).met ≡ true
+  pub low : (plan : Plan) → IsAdmitted plan → HasLowDen (demand plan)
+
+-- then the laws hold, for each kind that makes a pair with both schedulers
+laws_at : {kind : GovernorKind} (F : Plan → ℕ) (demand : Plan → Frac) → IsOneSpeed F demand
+    → ((sch : Scheduler) → ServesBoth sch → IsPair sch kind)
+    → GovernorLaws kind ServesBoth (unchanging demand) (CalmAt F) (SafeAt F)
+laws_at F demand one pairs = record {
   pairs = pairs;
-  low_den = λ plan s on of dec. (lit< tt, lit≤ tt);
-  opens = λ plan on. opens_by (top_speed plan) plan on.admitted.limits (full_enough plan on.admitted) plan.scheduler refl;
-  releases = λ plan dem s run calm. releases_by (top_speed plan) plan run.admitted.limits (full_enough plan run.admitted) dem s run.belongs plan.scheduler calm;
-  chooses = λ plan dem s run dec calm. chooses_by (top_speed plan) plan run.admitted.limits (full_enough plan run.admitted) dem s run.belongs plan.scheduler (lowest_entry plan.machine (full_demand plan)) (full_speed plan run.admitted.limits) calm;
-  meets = λ plan dem s run dec calm kind. full_met plan run.admitted.limits;
-  ticks = λ plan dem s run k safe shares may. ticks_by (top_speed plan) plan run.admitted.limits (full_enough plan run.admitted) dem s run.belongs plan.scheduler refl k shares may.before may.legal safe;
-  stays_calm = λ plan dem s run k safe. stays_by (top_speed plan) plan run.admitted.limits (full_enough plan run.admitted) dem s run.belongs plan.scheduler k safe;
-  completes = λ plan dem s run calm. completes_by (top_speed plan) plan run.admitted.limits (full_enough plan run.admitted) dem s run.belongs plan.scheduler calm;
+  low_den = λ plan s on of dec. one.low plan on.admitted;
+  opens = λ plan on. opens_by (F plan) plan on.admitted.limits (one.enough plan on.admitted) plan.scheduler refl;
+  releases = λ plan dem s run calm.
+      let adm = run.admitted in
+      releases_by (F plan) plan adm.limits (one.enough plan adm) dem s run.belongs plan.scheduler calm;
+  chooses = λ plan dem s run dec calm.
+      let adm = run.admitted in
+      let k = lowest_entry plan.machine (demand plan) in
+      chooses_by (F plan) plan adm.limits (one.enough plan adm) dem s run.belongs plan.scheduler k (one.same plan adm) calm;
+  meets = λ plan dem s run dec calm other. one.met plan run.admitted;
+  ticks = λ plan dem s run k safe shares may.
+      let adm = run.admitted in
+      ticks_by (F plan) plan adm.limits (one.enough plan adm) dem s run.belongs plan.scheduler refl k shares may.before may.legal safe;
+  stays_calm = λ plan dem s run k safe.
+      let adm = run.admitted in
+      stays_by (F plan) plan adm.limits (one.enough plan adm) dem s run.belongs plan.scheduler k safe;
+  completes = λ plan dem s run calm.
+      let adm = run.admitted in
+      completes_by (F plan) plan adm.limits (one.enough plan adm) dem s run.belongs plan.scheduler calm;
 }
 
+-- the laws at the highest speed
+pub full_laws : {kind : GovernorKind} → ((sch : Scheduler) → ServesBoth sch → IsPair sch kind)
+    → GovernorLaws kind ServesBoth (unchanging full_demand) (CalmAt top_speed) (SafeAt top_speed)
+full_laws = laws_at top_speed full_demand (record {
+  enough = full_enough;
+  same = λ plan adm. full_speed plan adm.limits;
+  met = λ plan adm. full_met plan adm.limits;
+  low = λ plan adm. (lit< tt, lit≤ tt);
+})
+
 -- and at the static one
-pub static_laws : {kind : GovernorKind} → ((sch : Scheduler) → ServesBoth sch → IsPair sch kind) → GovernorLaws kind ServesBoth (unchanging static_demand) (CalmAt fixed_speed) (SafeAt fixed_speed)
-static_laws pairs = record {
-  pairs = pairs;
-  low_den = λ plan s on of dec. static_den plan on.admitted.limits;
-  opens = λ plan on. opens_by (fixed_speed plan) plan on.admitted.limits (static_enough plan on.admitted) plan.scheduler refl;
-  releases = λ plan dem s run calm. releases_by (fixed_speed plan) plan run.admitted.limits (static_enough plan run.admitted) dem s run.belongs plan.scheduler calm;
-  chooses = λ plan dem s run dec calm. chooses_by (fixed_speed plan) plan run.admitted.limits (static_enough plan run.admitted) dem s run.belongs plan.scheduler (lowest_entry plan.machine (static_demand plan)) refl calm;
-  meets = λ plan dem s run dec calm kind. static_met plan run.admitted;
-  ticks = λ plan dem s run k safe shares may. ticks_by (fixed_speed plan) plan run.admitted.limits (static_enough plan run.admitted) dem s run.belongs plan.scheduler refl k shares may.before may.legal safe;
-  stays_calm = λ plan dem s run k safe. stays_by (fixed_speed plan) plan run.admitted.limits (static_enough plan run.admitted) dem s run.belongs plan.scheduler k safe;
-  completes = λ plan dem s run calm. completes_by (fixed_speed plan) plan run.admitted.limits (static_enough plan run.admitted) dem s run.belongs plan.scheduler calm;
-}
+pub static_laws : {kind : GovernorKind} → ((sch : Scheduler) → ServesBoth sch → IsPair sch kind)
+    → GovernorLaws kind ServesBoth (unchanging static_demand) (CalmAt fixed_speed) (SafeAt fixed_speed)
+static_laws = laws_at fixed_speed static_demand (record {
+  enough = static_enough;
+  same = λ plan adm. refl;
+  met = static_met;
+  low = λ plan adm. static_den plan adm.limits;
+})

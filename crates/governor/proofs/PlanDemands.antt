@@ -1,5 +1,5 @@
 -- The published demands of none and static are those of the plan alone.
-use Rattle.std.proofs.Common.{◌≡◌, ℕ, List, refl}
+use Rattle.std.proofs.Common.{◌≡◌, List, refl}
 use Rattle.dvs_base.specs.declared.kind.Scheduler.{Scheduler}
 use Rattle.dvs_base.specs.declared.kind.Scheduler.TheVariants.{Edf, Rm}
 use Rattle.dvs_base.specs.declared.kind.GovernorKind.TheVariants.{Plain, Fixed}
@@ -30,7 +30,9 @@ unfolding published
 published-fixed p dem past = fixed_by p.scheduler p dem past
 
 pub plain_publishing : PublishingLaws Plain ServesBoth (unchanging full_demand)
-plain_publishing = publishing_laws (unchanging full_demand) Plain ServesBoth (λ p adm served dem within ask past h. published-plain p dem past)
+plain_publishing =
+    publishing_laws (unchanging full_demand) Plain ServesBoth (λ p adm served dem within ask past h. published-plain p dem past)
 
 pub fixed_publishing : PublishingLaws Fixed ServesBoth (unchanging static_demand)
-fixed_publishing = publishing_laws (unchanging static_demand) Fixed ServesBoth (λ p adm served dem within ask past h. published-fixed p dem past)
+fixed_publishing =
+    publishing_laws (unchanging static_demand) Fixed ServesBoth (λ p adm served dem within ask past h. published-fixed p dem past)

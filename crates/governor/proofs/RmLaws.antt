@@ -35,15 +35,18 @@ spaced plan j b (suc k) = go (nat_le b (release plan j (suc k))) refl (spaced pl
     later : due_at plan j (suc k) ≡ due_at plan j k + p
     later = ap (due_at plan j) (sym (add-one k)) ∙ due-suc plan j k
 
-    go : (c : Bool) → nat_le b (release plan j (suc k)) ≡ c → (released_since plan j b k ≡ 0) ⊎ (b + released_since plan j b k * p ≤ due_at plan j k)
+    go : (c : Bool) → nat_le b (release plan j (suc k)) ≡ c
+        → (released_since plan j b k ≡ 0) ⊎ (b + released_since plan j b k * p ≤ due_at plan j k)
         → (released_since plan j b k + (if c then 1 else 0) ≡ 0) ⊎ (b + (released_since plan j b k + (if c then 1 else 0)) * p ≤ due_at plan j (suc k))
-    go true e (inl none) = inr (let g : b ≤ release plan j (suc k) = leb-true b (release plan j (suc k)) e in rw none (omega (arith, g, release-due plan j (suc k) (omega arith))))
+    go true e (inl none) =
+        inr (let g : b ≤ release plan j (suc k) = leb-true b (release plan j (suc k)) e in rw none (omega (arith, g, release-due plan j (suc k) (omega arith))))
     go true e (inr some) = inr (omega (arith, later))
     go false e (inl none) = inl (omega arith)
     go false e (inr some) = inr (omega (arith, later))
 
 -- a window of length l has at most q of them, where q periods cover it
-in_window : (plan : Plan) (j b k l q : ℕ) → 0 < period plan j → (0 < k → release plan j k < b + l) → l ≤ q * period plan j → released_since plan j b k ≤ q
+in_window : (plan : Plan) (j b k l q : ℕ) → 0 < period plan j → (0 < k → release plan j k < b + l)
+    → l ≤ q * period plan j → released_since plan j b k ≤ q
 in_window plan j b zero l q pos last covers = omega arith
 in_window plan j b (suc k) l q pos last covers =
     elim (spaced plan j b (suc k)) [
@@ -72,7 +75,8 @@ counts_one plan j b k le =
     rw (next, le-leb b (release plan j (suc k)) (omega (arith, there))) refl
 
 -- what a release adds is counted
-pays : (plan : Plan) (j b c job w : ℕ) → b ≤ due_at plan j job → w ≤ c → w + released_since plan j b job * c ≤ released_since plan j b (job + 1) * c
+pays : (plan : Plan) (j b c job w : ℕ) → b ≤ due_at plan j job → w ≤ c
+    → w + released_since plan j b job * c ≤ released_since plan j b (job + 1) * c
 pays plan j b c job w le most = rw (counts_one plan j b job le) (omega arith)
 
 module _ (F : ℕ) (span : ℕ → ℕ) (plan : Plan) (lim : IsWithinLimits plan) where
@@ -83,7 +87,8 @@ module _ (F : ℕ) (span : ℕ → ℕ) (plan : Plan) (lim : IsWithinLimits plan
     here : (i : ℕ) → i < count plan → i < length s.rows
     here = in_rows plan dem s bel
 
-    pub rm_completes : ((i : ℕ) → i < count plan → span i ≤ period plan i) → StretchCalm F span plan s → (i : ℕ) → i < count plan → (row_at s i).deadline ≡ s.now → (row_at s i).done ≡ true
+    pub rm_completes : ((i : ℕ) → i < count plan → span i ≤ period plan i) → StretchCalm F span plan s → (i : ℕ)
+        → i < count plan → (row_at s i).deadline ≡ s.now → (row_at s i).done ≡ true
     rm_completes within calm i h e =
         let row = row_at s i in
         elim (calm i h) [
@@ -108,7 +113,9 @@ module _ (F : ℕ) (span : ℕ → ℕ) (plan : Plan) (lim : IsWithinLimits plan
         ]
 
     -- a boundary, row by row: where b is at most now, what is added is counted
-    row_pays : (b : ℕ) → b ≤ s.now → ((i : ℕ) → i < count plan → (row_at s i).deadline ≡ s.now → (row_at s i).done ≡ true) → (j : ℕ) → j < count plan
+    row_pays : (b : ℕ) → b ≤ s.now
+        → ((i : ℕ) → i < count plan → (row_at s i).deadline ≡ s.now → (row_at s i).done ≡ true) → (j : ℕ)
+        → j < count plan
         → wleft_at (after_boundary plan dem s) j + asked_since plan s b j ≤ wleft_at s j + asked_since plan (after_boundary plan dem s) b j
     row_pays b le due j h =
         let row = row_at s j in
@@ -128,7 +135,8 @@ module _ (F : ℕ) (span : ℕ → ℕ) (plan : Plan) (lim : IsWithinLimits plan
         ])
 
     -- where the row was done, all of it is counted from now on
-    row_pays_alone : ((i : ℕ) → i < count plan → (row_at s i).deadline ≡ s.now → (row_at s i).done ≡ true) → (j : ℕ) → j < count plan → (row_at s j).done ≡ true
+    row_pays_alone : ((i : ℕ) → i < count plan → (row_at s i).deadline ≡ s.now → (row_at s i).done ≡ true) → (j : ℕ)
+        → j < count plan → (row_at s j).done ≡ true
         → wleft_at (after_boundary plan dem s) j ≤ asked_since plan (after_boundary plan dem s) s.now j
     row_pays_alone due j h closed =
         let paid = row_pays s.now (omega arith) due j h in
@@ -150,7 +158,8 @@ module _ (F : ℕ) (span : ℕ → ℕ) (plan : Plan) (lim : IsWithinLimits plan
           | inr later ↦ subst Q (sym later) (λ still. inr (still, refl))
         ])
 
-    pub rm_releases : ((i : ℕ) → i < count plan → 0 < span i) → ((i : ℕ) → i < count plan → span i ≤ period plan i) → StretchCalm F span plan s → StretchCalm F span plan (after_boundary plan dem s)
+    pub rm_releases : ((i : ℕ) → i < count plan → 0 < span i) → ((i : ℕ) → i < count plan → span i ≤ period plan i)
+        → StretchCalm F span plan s → StretchCalm F span plan (after_boundary plan dem s)
     rm_releases some within calm i h =
         let t = after_boundary plan dem s in
         let n = count plan in
@@ -229,7 +238,8 @@ module _ (F : ℕ) (span : ℕ → ℕ) (plan : Plan) (lim : IsWithinLimits plan
                 let span_more : s.now + 1 - b ≡ (s.now - b) + 1 = omega arith in
                 let asked : sum_where n lv (asked_since plan s b) ≤ sum_where n lv (asked_since plan t b) =
                 sum_where-mono n lv (asked_since plan s b) (asked_since plan t b) (λ j hj on. let e = tick_asked shares b j hj in omega arith) in
-                let work' : sum_where n lv (wleft_at t) + F * (s.now + 1 - b) ≤ sum_where n lv (asked_since plan t b) = rw span_more (omega (arith, stretch.work, falls, asked)) in
+                let work' : sum_where n lv (wleft_at t) + F * (s.now + 1 - b) ≤ sum_where n lv (asked_since plan t b) =
+                rw span_more (omega (arith, stretch.work, falls, asked)) in
                 elim (cases_lt (s.now + 1 - b) (span i)) [
                   | inl short ↦ inr (
                     b,

@@ -10,14 +10,16 @@ pub length-each_row : (f : ℕ → Row → Row) (i : ℕ) (rows : List Row) → 
 length-each_row f i [] = refl
 length-each_row f i (row ∷ rows) = ap suc (length-each_row f (suc i) rows)
 
-get-each_row_from : (f : ℕ → Row → Row) (i : ℕ) (rows : List Row) (j : ℕ) → j < length rows → get_or (each_row f i rows) j no_row ≡ f (j + i) (get_or rows j no_row)
+get-each_row_from : (f : ℕ → Row → Row) (i : ℕ) (rows : List Row) (j : ℕ) → j < length rows
+    → get_or (each_row f i rows) j no_row ≡ f (j + i) (get_or rows j no_row)
 get-each_row_from f i [] j h = absurd (omega arith)
 get-each_row_from f i (row ∷ rows) zero h = let e : i ≡ 0 + i = omega arith in ap (λ (k : ℕ). f k row) e
 get-each_row_from f i (row ∷ rows) (suc j) h =
     let e : j + suc i ≡ suc j + i = omega arith in
     get-each_row_from f (suc i) rows j (omega arith) ∙ ap (λ (k : ℕ). f k (get_or rows j no_row)) e
 
-pub get-each_row : (f : ℕ → Row → Row) (rows : List Row) (j : ℕ) → j < length rows → get_or (each_row f 0 rows) j no_row ≡ f j (get_or rows j no_row)
+pub get-each_row : (f : ℕ → Row → Row) (rows : List Row) (j : ℕ) → j < length rows
+    → get_or (each_row f 0 rows) j no_row ≡ f j (get_or rows j no_row)
 get-each_row f rows j h = get-each_row_from f 0 rows j h ∙ ap (λ (k : ℕ). f k (get_or rows j no_row)) (add-zero j)
 
 -- a complete job needs nothing more, and no job more than its worst case
@@ -46,11 +48,15 @@ none_due_at p (row ∷ rows) zero none h = or_false_left (p row) (list_any p row
 none_due_at p (row ∷ rows) (suc j) none h = none_due_at p rows j (or_false_right (p row) (list_any p rows) none) (omega arith)
 
 -- where some row is due, one at a place is
-pub some_due_at : (p : Row → Bool) (rows : List Row) → list_any p rows ≡ true → (j : ℕ) × (j < length rows) × (p (get_or rows j no_row) ≡ true)
+pub some_due_at : (p : Row → Bool) (rows : List Row) → list_any p rows ≡ true
+    → (j : ℕ) × (j < length rows) × (p (get_or rows j no_row) ≡ true)
 some_due_at p [] some = absurd (let t : false ≡ true = some in cc)
 some_due_at p (row ∷ rows) some = go (p row) refl (λ h. some_due_at p rows h) some
   where
-    go : (b : Bool) → p row ≡ b → (list_any p rows ≡ true → (j : ℕ) × (j < length rows) × (p (get_or rows j no_row) ≡ true)) → (b || list_any p rows) ≡ true → (j : ℕ) × (j < length (row ∷ rows)) × (p (get_or (row ∷ rows) j no_row) ≡ true)
+    go : (b : Bool) → p row ≡ b
+        → (list_any p rows ≡ true → (j : ℕ) × (j < length rows) × (p (get_or rows j no_row) ≡ true))
+        → (b || list_any p rows) ≡ true
+        → (j : ℕ) × (j < length (row ∷ rows)) × (p (get_or (row ∷ rows) j no_row) ≡ true)
     go true e more h = (0, omega arith, e)
     go false e more h =
         let rest = more h in

@@ -16,42 +16,54 @@ falls_by : (b : Bool) (used worst sh : ℕ) → used + sh ≤ worst → (if b th
 falls_by true used worst sh fits = omega arith
 falls_by false used worst sh fits = omega arith
 
-tick_falls : (done : Bool) (used worst need sh : ℕ) → (done ≡ false → used < need) → need ≤ worst → sh ≤ (if done then 0 else need - used) → (if (done || (used + sh == need)) then 0 else worst - (used + sh)) + sh ≤ (if done then 0 else worst - used)
+tick_falls : (done : Bool) (used worst need sh : ℕ) → (done ≡ false → used < need) → need ≤ worst
+    → sh ≤ (if done then 0 else need - used)
+    → (if (done || (used + sh == need)) then 0 else worst - (used + sh)) + sh ≤ (if done then 0 else worst - used)
 tick_falls true used worst need sh o m le = omega arith
 tick_falls false used worst need sh o m le = falls_by (used + sh == need) used worst sh (omega (arith, o refl))
 
-tick_closes : (done : Bool) (used need sh : ℕ) → (done ≡ false → used < need) → sh ≤ (if done then 0 else need - used) → (if done then 0 else need - used) ≤ sh → (done || (used + sh == need)) ≡ true
+tick_closes : (done : Bool) (used need sh : ℕ) → (done ≡ false → used < need) → sh ≤ (if done then 0 else need - used)
+    → (if done then 0 else need - used) ≤ sh → (done || (used + sh == need)) ≡ true
 tick_closes true used need sh o le all = refl
 tick_closes false used need sh o le all = let e : used + sh ≡ need = omega (arith, o refl) in eq-eqb (used + sh) need e
 
 -- the demand of a row's job is at most its worst case
-pub demand_most : (plan : Plan) (dem : JobDemands) (s : StateOf) → Belongs plan dem s → (i : ℕ) → i < count plan → dem i (row_at s i).job ≤ (row_at s i).worst
+pub demand_most : (plan : Plan) (dem : JobDemands) (s : StateOf) → Belongs plan dem s → (i : ℕ) → i < count plan
+    → dem i (row_at s i).job ≤ (row_at s i).worst
 demand_most plan dem s bel i h = let m = bel.demand.most i (row_at s i).job h in let w = bel.of.worst i h in omega arith
 
 -- what a task has left falls by its units at least
-pub tick-falls : (plan : Plan) (dem : JobDemands) (f : ℕ) (s : StateOf) (shares : List ℕ) → Belongs plan dem s → IsLegalIn plan dem f s shares → (i : ℕ) → i < count plan → wleft_at (after_tick dem shares s) i + share_in shares i ≤ wleft_at s i
+pub tick-falls : (plan : Plan) (dem : JobDemands) (f : ℕ) (s : StateOf) (shares : List ℕ) → Belongs plan dem s
+    → IsLegalIn plan dem f s shares → (i : ℕ) → i < count plan
+    → wleft_at (after_tick dem shares s) i + share_in shares i ≤ wleft_at s i
 tick-falls plan dem f s shares bel legal i h =
     let row = row_at s i in
     rw (tick_at dem shares s i (in_rows plan dem s bel i h)) (tick_falls row.done row.used row.worst (dem i row.job) (share_in shares i) (bel.open_job i h) (demand_most plan dem s bel i h) (legal_most plan dem f s shares legal i h))
 
 -- a task that got all that it needs is complete
-pub tick-closes : (plan : Plan) (dem : JobDemands) (f : ℕ) (s : StateOf) (shares : List ℕ) → Belongs plan dem s → IsLegalIn plan dem f s shares → (i : ℕ) → i < count plan → left_in dem s i ≤ share_in shares i → (row_at (after_tick dem shares s) i).done ≡ true
+pub tick-closes : (plan : Plan) (dem : JobDemands) (f : ℕ) (s : StateOf) (shares : List ℕ) → Belongs plan dem s
+    → IsLegalIn plan dem f s shares → (i : ℕ) → i < count plan → left_in dem s i ≤ share_in shares i
+    → (row_at (after_tick dem shares s) i).done ≡ true
 tick-closes plan dem f s shares bel legal i h all =
     let row = row_at s i in
     rw (tick_at dem shares s i (in_rows plan dem s bel i h)) (tick_closes row.done row.used (dem i row.job) (share_in shares i) (bel.open_job i h) (legal_most plan dem f s shares legal i h) all)
 
 -- afterwards all of the set is complete, or f units of it were done
-pub tick_set : (plan : Plan) (dem : JobDemands) (f : ℕ) (s : StateOf) (shares : List ℕ) (test : ℕ → Bool) → Belongs plan dem s → IsLegalIn plan dem f s shares
+pub tick_set : (plan : Plan) (dem : JobDemands) (f : ℕ) (s : StateOf) (shares : List ℕ) (test : ℕ → Bool)
+    → Belongs plan dem s → IsLegalIn plan dem f s shares
     → ((j i : ℕ) → j < count plan → i < count plan → stands_before (key_in plan.scheduler plan s) j i ≡ true → test i ≡ true → test j ≡ true)
     → ((i : ℕ) → i < count plan → test i ≡ true → (row_at (after_tick dem shares s) i).done ≡ true) ⊎ (sum_where (count plan) test (wleft_at (after_tick dem shares s)) + f ≤ sum_where (count plan) test (wleft_at s))
 tick_set plan dem f s shares test bel legal down =
     let t = after_tick dem shares s in
     let n = count plan in
-    let gets : sum_where n test (share_in shares) ≡ min f (sum_where n test (left_in dem s)) = down-set-gets n (key_in plan.scheduler plan s) test f (left_in dem s) (share_in shares) down legal.out in
-    let most : (i : ℕ) → i < n → share_in shares i ≤ left_in dem s i = share-most n (key_in plan.scheduler plan s) f (left_in dem s) (share_in shares) legal.out in
+    let gets : sum_where n test (share_in shares) ≡ min f (sum_where n test (left_in dem s)) =
+    down-set-gets n (key_in plan.scheduler plan s) test f (left_in dem s) (share_in shares) down legal.out in
+    let most : (i : ℕ) → i < n → share_in shares i ≤ left_in dem s i =
+    share-most n (key_in plan.scheduler plan s) f (left_in dem s) (share_in shares) legal.out in
     elim (cases_lt (sum_where n test (left_in dem s)) f) [
       | inl small ↦ inl (λ i h on.
-          let all : left_in dem s i ≤ share_in shares i = sum_where-tight n test (left_in dem s) (share_in shares) most (omega arith) i h on in
+          let all : left_in dem s i ≤ share_in shares i =
+          sum_where-tight n test (left_in dem s) (share_in shares) most (omega arith) i h on in
           tick-closes plan dem f s shares bel legal i h all)
       | inr full ↦ inr (
           let each : sum_where n test (λ i. wleft_at t i + share_in shares i) ≤ sum_where n test (wleft_at s) =

@@ -40,14 +40,16 @@ worst-met p adm t =
     (course-met Fixed ServesBoth (unchanging static_demand) (CalmAt fixed_speed) (SafeAt fixed_speed) (static_laws pairs_fixed) p (worst_demand p) adm (worst-within p) tt t)
 
 -- where task i is released at t, its job released before lacks nothing
-pub lacking-none : (p : Plan) → IsAdmitted p → (t i k : ℕ) → i < count p → 1 ≤ k → t ≡ due p i k → lacking p (schedule p Fixed (worst_demand p) t) i ≡ 0
+pub lacking-none : (p : Plan) → IsAdmitted p → (t i k : ℕ) → i < count p → 1 ≤ k → t ≡ due p i k
+    → lacking p (schedule p Fixed (worst_demand p) t) i ≡ 0
 lacking-none p adm t i k h pos e =
     let dem = worst_demand p in
     let ticks = schedule p Fixed dem t in
     let long : length ticks ≡ t = (schedule_exists p dem (published p Fixed dem) t).1 in
     let span = release-due p i k pos in
     let some = some_period p adm.limits i h in
-    let job : latest p i (length ticks - 1) ≡ k = latest-is p i k (length ticks - 1) (omega (arith, long, e, span, some)) (omega (arith, long, e, span, some)) in
+    let job : latest p i (length ticks - 1) ≡ k =
+    latest-is p i k (length ticks - 1) (omega (arith, long, e, span, some)) (omega (arith, long, e, span, some)) in
     let met : exec p (at (due p i k) ticks) i k ≡ dem i k = worst-met p adm t i k h pos (omega (arith, long, e)) in
     let whole : at (due p i k) ticks ≡ ticks = ap (λ n. at n ticks) (sym e) ∙ at-schedule p dem (published p Fixed dem) t t (omega arith) in
     let had : exec p ticks i k ≡ dem i k = ap (λ (ps : List Tick). exec p ps i k) (sym whole) ∙ met in

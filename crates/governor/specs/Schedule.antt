@@ -1,6 +1,5 @@
 -- A governor's schedule: the one tick list whose speeds are those of its published demand.
 use Rattle.std.specs.Prelude.{◌≡◌, ℕ, List}
-use Rattle.dvs_base.specs.declared.kind.Scheduler.{Scheduler}
 use Rattle.dvs_base.specs.declared.kind.GovernorKind.{GovernorKind}
 use Rattle.grid_fraction.specs.declared.Frac.{Frac}
 use Rattle.sched_model.specs.Plan.{Plan}
@@ -9,7 +8,7 @@ use Rattle.sched_model.specs.Demand.{published}
 use Rattle.sched_model.specs.Demands.{IsWithin, JobDemands}
 use Rattle.sched_model.specs.Admission.{IsAdmitted}
 use Rattle.sched_model.specs.Schedule.{schedule, schedule_by, IsScheduleBy}
-use Rattle.sched_model.specs.States.{StateOf, state_of}
+use Rattle.sched_model.specs.States.{state_of}
 use Rattle.governor.specs.Meanings.{Serving, OwnDemand}
 
 -- a governor's published demand, as a function of the ticks so far

@@ -19,16 +19,21 @@ pub record Inserting (key : ℕ → ℕ) (task count : ℕ) (old order : List �
 pub inserting_start : (key : ℕ → ℕ) (task count : ℕ) (old : List ℕ) → Inserting key task count old old 0 false task
 inserting_start key task count old = record { long = refl; same = λ j le. refl; made = refl }
 
-rest_moves : (key : ℕ → ℕ) (placed : Bool) (carried other : ℕ) (ds : List ℕ) → (placed || stands_before key carried other) ≡ true → rest_of key placed carried (other ∷ ds) ≡ carried ∷ other ∷ ds
+rest_moves : (key : ℕ → ℕ) (placed : Bool) (carried other : ℕ) (ds : List ℕ)
+    → (placed || stands_before key carried other) ≡ true
+    → rest_of key placed carried (other ∷ ds) ≡ carried ∷ other ∷ ds
 rest_moves key true carried other ds moves = refl
 rest_moves key false carried other ds moves = let b : stands_before key carried other ≡ true = moves in rw b refl
 
-rest_stays : (key : ℕ → ℕ) (placed : Bool) (carried other : ℕ) (ds : List ℕ) → (placed || stands_before key carried other) ≡ false → rest_of key placed carried (other ∷ ds) ≡ other ∷ rest_of key placed carried ds
+rest_stays : (key : ℕ → ℕ) (placed : Bool) (carried other : ℕ) (ds : List ℕ)
+    → (placed || stands_before key carried other) ≡ false
+    → rest_of key placed carried (other ∷ ds) ≡ other ∷ rest_of key placed carried ds
 rest_stays key true carried other ds stays = absurd (let t : true ≡ false = stays in cc)
 rest_stays key false carried other ds stays = let b : stands_before key carried other ≡ false = stays in rw b refl
 
 module _ (key : ℕ → ℕ) (task count : ℕ) (old order : List ℕ) (k : ℕ) (placed : Bool) (carried : ℕ) where
-  next_is : k < count → count ≤ length old → Inserting key task count old order k placed carried → drop k (take count old) ≡ get_or order k 0 ∷ drop (k + 1) (take count old)
+  next_is : k < count → count ≤ length old → Inserting key task count old order k placed carried
+      → drop k (take count old) ≡ get_or order k 0 ∷ drop (k + 1) (take count old)
   next_is lt fits was =
       let xs = take count old in
       let in_xs : k < length xs = rw (length-take count old) (omega arith) in
@@ -36,7 +41,8 @@ module _ (key : ℕ → ℕ) (task count : ℕ) (old order : List ℕ) (k : ℕ)
       let one : suc k ≡ k + 1 = omega arith in
       drop-cons xs k 0 in_xs ∙ (ap (λ (x : ℕ). x ∷ drop (suc k) xs) read ∙ ap (λ (j : ℕ). get_or order k 0 ∷ drop j xs) one)
 
-  pub inserting_moves : k < count → count ≤ length old → Inserting key task count old order k placed carried → (placed || stands_before key carried (get_or order k 0)) ≡ true
+  pub inserting_moves : k < count → count ≤ length old → Inserting key task count old order k placed carried
+      → (placed || stands_before key carried (get_or order k 0)) ≡ true
       → Inserting key task count old (slice_set order k carried) (k + 1) true (get_or order k 0)
   inserting_moves lt fits was moves =
       let other = get_or order k 0 in
@@ -51,7 +57,8 @@ module _ (key : ℕ → ℕ) (task count : ℕ) (old order : List ℕ) (k : ℕ)
             ∙ ap (λ (ys : List ℕ). ys ++ (other ∷ rest)) (sym (take_more_set order k carried (rw was.long (omega arith)))))));
       }
 
-  pub inserting_stays : k < count → count ≤ length old → Inserting key task count old order k placed carried → (placed || stands_before key carried (get_or order k 0)) ≡ false
+  pub inserting_stays : k < count → count ≤ length old → Inserting key task count old order k placed carried
+      → (placed || stands_before key carried (get_or order k 0)) ≡ false
       → Inserting key task count old order (k + 1) placed carried
   inserting_stays lt fits was stays =
       let other = get_or order k 0 in
@@ -70,7 +77,8 @@ rest_end : (key : ℕ → ℕ) (placed : Bool) (carried : ℕ) → rest_of key p
 rest_end key true carried = refl
 rest_end key false carried = refl
 
-pub inserting_end : (key : ℕ → ℕ) (task count : ℕ) (old order : List ℕ) (placed : Bool) (carried : ℕ) → count < length old → Inserting key task count old order count placed carried
+pub inserting_end : (key : ℕ → ℕ) (task count : ℕ) (old order : List ℕ) (placed : Bool) (carried : ℕ)
+    → count < length old → Inserting key task count old order count placed carried
     → take (count + 1) (slice_set order count carried) ≡ insert_by key task (take count old)
 inserting_end key task count old order placed carried fits was =
     let none : drop count (take count old) ≡ [] = drop_of_length-le (take count old) (let e = length-take count old in omega (arith, e)) in

@@ -18,10 +18,12 @@ put_is u w l h most pre after =
     let free : most - ((pre + u + after) - u) ≡ most - pre - after = omega arith in
     omega (arith, ap (λ (m : ℕ). m * l / h) free)
 
-slope_rates : (u w l h most pre after : ℕ) → ((pre + u + after) - u) + ((w - (w - (most - ((pre + u + after) - u)) * l / h)) * h + (l - 1)) / l ≡ pre + ((min w ((most - pre - after) * l / h) * h + (l - 1)) / l + after)
+slope_rates : (u w l h most pre after : ℕ)
+    → ((pre + u + after) - u) + ((w - (w - (most - ((pre + u + after) - u)) * l / h)) * h + (l - 1)) / l ≡ pre + ((min w ((most - pre - after) * l / h) * h + (l - 1)) / l + after)
 slope_rates u w l h most pre after = omega (arith, ap (λ (m : ℕ). (m * h + (l - 1)) / l) (put_is u w l h most pre after))
 
-slope_first : (u w l h most pre after first : ℕ) → first + (w - (most - ((pre + u + after) - u)) * l / h) ≡ (w - min w ((most - pre - after) * l / h)) + first
+slope_first : (u w l h most pre after first : ℕ)
+    → first + (w - (most - ((pre + u + after) - u)) * l / h) ≡ (w - min w ((most - pre - after) * l / h)) + first
 slope_first u w l h most pre after first =
     let free : most - ((pre + u + after) - u) ≡ most - pre - after = omega arith in
     omega (arith, ap (λ (m : ℕ). m * l / h) free)
@@ -39,7 +41,8 @@ module _ (plan : Plan) (s : StateOf) where
     pub rates_are : rates ≡ sum_list (rate plan) l + spread_rates plan due left xs
     pub first_is : first ≡ due_first plan due left xs
 
-  walked_flat : (l xs : List ℕ) (i rates first : ℕ) → nat_eq (slack plan due i) 0 ≡ true → Walked (l ++ i ∷ []) xs rates first → Walked l (i ∷ xs) rates (first + left i)
+  walked_flat : (l xs : List ℕ) (i rates first : ℕ) → nat_eq (slack plan due i) 0 ≡ true
+      → Walked (l ++ i ∷ []) xs rates first → Walked l (i ∷ xs) rates (first + left i)
   walked_flat l xs i rates first flat was = record {
     order = was.order ∙ append_assoc l (i ∷ []) xs;
     rates_are = (let e : spread_rate plan due left (spread_rates plan due left xs) i ≡ rate plan i = rw flat refl in omega (arith, was.rates_are, sum_list-snoc (rate plan) l i, e));
@@ -57,7 +60,8 @@ module _ (plan : Plan) (s : StateOf) where
       let w = left i in
       let most = top_speed plan * hyper plan in
       let sum_is : rates ≡ pre + u + after = omega (arith, was.rates_are, sum_list-snoc (rate plan) l i) in
-      let y : put_off plan due left after i ≡ min w ((most - pre - after) * slack plan due i / hyper plan) = rw slope (ap (λ (m : ℕ). min w ((most - m - after) * slack plan due i / hyper plan)) before) in
+      let y : put_off plan due left after i ≡ min w ((most - pre - after) * slack plan due i / hyper plan) =
+      rw slope (ap (λ (m : ℕ). min w ((most - m - after) * slack plan due i / hyper plan)) before) in
       let v : spread_rate plan due left after i ≡ ceil_div (min w ((most - pre - after) * slack plan due i / hyper plan) * hyper plan) (slack plan due i) =
       rw slope (ap (λ (m : ℕ). ceil_div (m * hyper plan) (slack plan due i)) (let z = rw slope at y in z)) in
       rw sum_is (record {
@@ -66,7 +70,8 @@ module _ (plan : Plan) (s : StateOf) where
         first_is = omega (arith, slope_first u w (slack plan due i) (hyper plan) most pre after first, y, was.first_is);
       })
 
-  pub walked_step : (l xs : List ℕ) (i rates first : ℕ) → Walked (l ++ i ∷ []) xs rates first → Walked l (i ∷ xs) (next_rates plan s i rates) (next_first plan s i rates first)
+  pub walked_step : (l xs : List ℕ) (i rates first : ℕ) → Walked (l ++ i ∷ []) xs rates first
+      → Walked l (i ∷ xs) (next_rates plan s i rates) (next_first plan s i rates first)
   walked_step l xs i rates first was =
       elim (cases_Bool (nat_eq (slack plan due i) 0)) [
         | inl flat ↦ rw flat (walked_flat l xs i rates first flat was)

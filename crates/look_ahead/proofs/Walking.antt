@@ -33,10 +33,12 @@ module _ (plan : Plan) (s : StateOf) where
   turn j = get_or (edf_order plan s) (count plan - 1 - j) 0
 
   pub turn_below : (j : ℕ) → j < count plan → turn j < count plan
-  turn_below j lt = below-at (count plan) (edf_order plan s) (count plan - 1 - j) (in_order-below (deadline_at s) (count plan)) (rw order_long (omega arith))
+  turn_below j lt =
+      below-at (count plan) (edf_order plan s) (count plan - 1 - j) (in_order-below (deadline_at s) (count plan)) (rw order_long (omega arith))
 
   -- it stands in the sorted array
-  pub turn_is : (n j : ℕ) (order : List ℕ) → n ≡ count plan → take n order ≡ in_order (deadline_at s) n → j < n → get_or order (n - 1 - j) 0 ≡ turn j
+  pub turn_is : (n j : ℕ) (order : List ℕ) → n ≡ count plan → take n order ≡ in_order (deadline_at s) n → j < n
+      → get_or order (n - 1 - j) 0 ≡ turn j
   turn_is n j order same made lt =
       let sorted : take n order ≡ edf_order plan s = made ∙ ap (in_order (deadline_at s)) same in
       let place : n - 1 - j ≡ count plan - 1 - j = omega arith in
@@ -52,7 +54,8 @@ module _ (plan : Plan) (s : StateOf) where
       let charge = lim.machine.low_charge in
       omega (arith, most, is, declared, charge)
 
-  pub first_grows : IsWithinLimits plan → IsOfPlan plan s → (i rates first : ℕ) → i < count plan → next_first plan s i rates first ≤ first + 2 ^ 61
+  pub first_grows : IsWithinLimits plan → IsOfPlan plan s → (i rates first : ℕ) → i < count plan
+      → next_first plan s i rates first ≤ first + 2 ^ 61
   first_grows lim of i rates first lt =
       let by : next_first plan s i rates first ≤ first + wleft_at s i =
       first_by (nat_eq (slack plan (deadline_at s) i) 0) first (wleft_at s i) ((top_speed plan * hyper plan - (rates - rate plan i)) * slack plan (deadline_at s) i / hyper plan) in
@@ -96,6 +99,7 @@ module _ (plan : Plan) (s : StateOf) where
     rates_low adm serves =
         let l = take (count plan - j) (edf_order plan s) in
         let xs = drop (count plan - j) (edf_order plan s) in
-        let whole : sum_list (rate plan) (edf_order plan s) ≡ sum_list (rate plan) l + sum_list (rate plan) xs = ap (sum_list (rate plan)) was.order ∙ sum_list-append (rate plan) l xs in
+        let whole : sum_list (rate plan) (edf_order plan s) ≡ sum_list (rate plan) l + sum_list (rate plan) xs =
+        ap (sum_list (rate plan)) was.order ∙ sum_list-append (rate plan) l xs in
         let fits = rates_fit plan s adm serves in
         rw was.rates_are (rate_within plan (deadline_at s) (wleft_at s) l xs was.order (some_hyper plan adm.limits) (omega (arith, whole, fits)))

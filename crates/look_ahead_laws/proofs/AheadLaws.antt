@@ -49,8 +49,10 @@ module _ (plan : Plan) (s : StateOf) where
   pub each_rate : IsAdmitted plan → ServesEdf plan.scheduler → (before later : List ℕ) (i : ℕ) → edf_order plan s ≡ before ++ i ∷ later
       → sum_before (count plan) (deadline_at s) (rate plan) i + spread_rates plan (deadline_at s) (wleft_at s) (i ∷ later) ≤ top_speed plan * hyper plan
   each_rate adm serves before later i e =
-      let whole : sum_list (rate plan) (edf_order plan s) ≡ sum_list (rate plan) before + sum_list (rate plan) (i ∷ later) = ap (sum_list (rate plan)) e ∙ sum_list-append (rate plan) before (i ∷ later) in
-      let within = rate_within plan (deadline_at s) (wleft_at s) before (i ∷ later) e (some_hyper plan adm.limits) (let f = rates_fit adm serves in omega (arith, whole, f)) in
+      let whole : sum_list (rate plan) (edf_order plan s) ≡ sum_list (rate plan) before + sum_list (rate plan) (i ∷ later) =
+      ap (sum_list (rate plan)) e ∙ sum_list-append (rate plan) before (i ∷ later) in
+      let within =
+      rate_within plan (deadline_at s) (wleft_at s) before (i ∷ later) e (some_hyper plan adm.limits) (let f = rates_fit adm serves in omega (arith, whole, f)) in
       let at = before_is plan (deadline_at s) (wleft_at s) before later i e in
       omega (arith, at, within)
 
@@ -58,7 +60,8 @@ module _ (plan : Plan) (s : StateOf) where
   load_in_order d = load_is plan s d ∙ sym (sum_list-in_order (due_work plan (deadline_at s) (wleft_at s) d) (deadline_at s) (count plan))
 
   -- a speed that meets the demand is safe
-  meets_safe : (k : ℕ) → IsAdmitted plan → ServesEdf plan.scheduler → k < length plan.machine.points → (ahead_demand plan s).num ≤ speed_at plan.machine k * (earliest_in plan s - s.now) → AheadSafe plan s k
+  meets_safe : (k : ℕ) → IsAdmitted plan → ServesEdf plan.scheduler → k < length plan.machine.points
+      → (ahead_demand plan s).num ≤ speed_at plan.machine k * (earliest_in plan s - s.now) → AheadSafe plan s k
   meets_safe k adm serves lt met = record {
     bound = λ d le.
         let x = d - earliest_in plan s in
@@ -69,7 +72,8 @@ module _ (plan : Plan) (s : StateOf) where
     slower = below_highest plan.machine adm.limits.machine k lt;
   }
 
-  pub ahead_chooses : (dem : JobDemands) → IsAdmitted plan → ServesEdf plan.scheduler → Belongs plan dem s → AheadCalm plan s → AheadSafe plan s (lowest_entry plan.machine (ahead_demand plan s))
+  pub ahead_chooses : (dem : JobDemands) → IsAdmitted plan → ServesEdf plan.scheduler → Belongs plan dem s
+      → AheadCalm plan s → AheadSafe plan s (lowest_entry plan.machine (ahead_demand plan s))
   ahead_chooses dem adm serves bel calm =
       let d = ahead_demand plan s in
       let k = lowest_entry plan.machine d in

@@ -12,16 +12,19 @@ pub key_rises : (key : ℕ → ℕ) (i j : ℕ) → stands_before key i j ≡ tr
 key_rises key i j h = grind (arith, nat_tests)
 
 -- of an ordered list, the sum over what stands after i is the sum over its last part
-all_after : (key f : ℕ → ℕ) (i : ℕ) (js : List ℕ) → IsAhead key i js → sum_list (λ k. if stands_before key i k then f k else 0) js ≡ sum_list f js
+all_after : (key f : ℕ → ℕ) (i : ℕ) (js : List ℕ) → IsAhead key i js
+    → sum_list (λ k. if stands_before key i k then f k else 0) js ≡ sum_list f js
 all_after key f i [] a = refl
 all_after key f i (j ∷ js) a = rw a.0 (omega (arith, all_after key f i js a.1))
 
 ordered-rest : (key f : ℕ → ℕ) (i : ℕ) (pre post : List ℕ) → IsOrdered key (pre ++ i ∷ post)
     → sum_list (λ k. if stands_before key i k then f k else 0) (pre ++ i ∷ post) ≡ sum_list f post
 ordered-rest key f i [] post o = rw (before-self key i) (omega (arith, all_after key f i post o.0))
-ordered-rest key f i (j ∷ pre) post o = rw (before-not key j i (first_ahead key j i pre post o.0)) (omega (arith, ordered-rest key f i pre post o.1))
+ordered-rest key f i (j ∷ pre) post o =
+    rw (before-not key j i (first_ahead key j i pre post o.0)) (omega (arith, ordered-rest key f i pre post o.1))
 
-pub sum_after-suffix : (key f : ℕ → ℕ) (n i : ℕ) (pre post : List ℕ) → in_order key n ≡ pre ++ i ∷ post → sum_after n key f i ≡ sum_list f post
+pub sum_after-suffix : (key f : ℕ → ℕ) (n i : ℕ) (pre post : List ℕ) → in_order key n ≡ pre ++ i ∷ post
+    → sum_after n key f i ≡ sum_list f post
 sum_after-suffix key f n i pre post e =
     sym (sum_list-in_order (λ k. if stands_before key i k then f k else 0) key n)
     ∙ (ap (sum_list (λ k. if stands_before key i k then f k else 0)) e

@@ -51,7 +51,12 @@ full_load = record {
 }
 
 abbrev two_complete : StateOf
-two_complete = record { now = 2; rows = job 3 12 true 12 ∷ job 4 12 true 12 ∷ job 12 0 false 60 ∷ []; base_at = 0; base = 12 ∷ 12 ∷ 60 ∷ [] }
+two_complete = record {
+  now = 2;
+  rows = job 3 12 true 12 ∷ job 4 12 true 12 ∷ job 12 0 false 60 ∷ [];
+  base_at = 0;
+  base = 12 ∷ 12 ∷ 60 ∷ [];
+}
 
 demand_over_the_highest : ahead_demand full_load two_complete ≡ fraction 15 1
 unfolding in_order least_common_multiple

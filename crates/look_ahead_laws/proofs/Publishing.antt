@@ -66,7 +66,8 @@ module _ (p : Plan) (dem : JobDemands) (past : List Tick) where
       (length past)
 
 -- after any ticks, whatever the demands of the jobs
-pub published-ahead : (p : Plan) → ServesEdf p.scheduler → (dem : JobDemands) (past : List Tick) → published p Ahead dem past ≡ ahead_demand p (state_of p dem past)
+pub published-ahead : (p : Plan) → ServesEdf p.scheduler → (dem : JobDemands) (past : List Tick)
+    → published p Ahead dem past ≡ ahead_demand p (state_of p dem past)
 unfolding published
 published-ahead p serves dem past =
     subst (λ (sch : Scheduler). demand_by sch Ahead p dem past ≡ ahead_demand p (state_of p dem past)) (sym serves) (ahead-is p dem past)

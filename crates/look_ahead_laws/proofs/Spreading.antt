@@ -48,7 +48,8 @@ put_most true w g = omega arith
 put_most false w g = omega arith
 
 -- and the rate is enough for it
-put_fits : (b : Bool) (u w g l h : ℕ) → (b ≡ false → 0 < l) → h * (if b then 0 else min w g) ≤ (if b then u else ((if b then 0 else min w g) * h + (l - 1)) / l) * l
+put_fits : (b : Bool) (u w g l h : ℕ) → (b ≡ false → 0 < l)
+    → h * (if b then 0 else min w g) ≤ (if b then u else ((if b then 0 else min w g) * h + (l - 1)) / l) * l
 put_fits true u w g l h pl = omega (arith, mul-zero h)
 put_fits false u w g l h pl = spread_enough l h (min w g) (pl refl)
 
@@ -62,7 +63,8 @@ term_pays h a end d w y u v la le fits =
           let m : min (d - a) (end - a) ≡ end - a = omega arith in
           let r : (d - a) - (end - a) ≡ d - end = omega arith in
           let e : w ≡ (w - y) + y = omega arith in
-          let whole : h * w ≡ h * (w - y) + h * y = ap (λ (x : ℕ). h * x) e ∙ (let z : h * ((w - y) + y) ≡ h * (w - y) + h * y = omega arith in z) in
+          let whole : h * w ≡ h * (w - y) + h * y =
+          ap (λ (x : ℕ). h * x) e ∙ (let z : h * ((w - y) + y) ≡ h * (w - y) + h * y = omega arith in z) in
           rw (le-leb end d by, m, r) (omega (arith, whole))
     ]
 
@@ -89,12 +91,14 @@ module _ (plan : Plan) (due left : ℕ → ℕ) where
   -- the rates in force x after the earliest deadline
   abbrev past_rate : ℕ → List ℕ → ℕ
   past_rate x [] = 0
-  past_rate x (i ∷ later) = (if nat_le (slack plan due i) x then rate plan i else spread_rate plan due left (spread_rates plan due left later) i) + past_rate x later
+  past_rate x (i ∷ later) =
+      (if nat_le (slack plan due i) x then rate plan i else spread_rate plan due left (spread_rates plan due left later) i) + past_rate x later
 
   -- what they work off by then
   abbrev work : ℕ → List ℕ → ℕ
   work x [] = 0
-  work x (i ∷ later) = (spread_rate plan due left (spread_rates plan due left later) i * min x (slack plan due i) + rate plan i * (x - slack plan due i)) + work x later
+  work x (i ∷ later) =
+      (spread_rate plan due left (spread_rates plan due left later) i * min x (slack plan due i) + rate plan i * (x - slack plan due i)) + work x later
 
   -- a task's work due by d, and its rate from its deadline on
   abbrev pub due_work : ℕ → ℕ → ℕ
@@ -109,7 +113,8 @@ module _ (plan : Plan) (due left : ℕ → ℕ) where
 
   work_more : (x : ℕ) (xs : List ℕ) → work (suc x) xs ≡ work x xs + past_rate x xs
   work_more x [] = refl
-  work_more x (i ∷ xs) = omega (arith, work_more x xs, work_row (spread_rate plan due left (spread_rates plan due left xs) i) (rate plan i) (slack plan due i) x)
+  work_more x (i ∷ xs) =
+      omega (arith, work_more x xs, work_row (spread_rate plan due left (spread_rates plan due left xs) i) (rate plan i) (slack plan due i) x)
 
   -- the tasks after one whose slack is above x have their spread rates
   all_spread : (x i : ℕ) (xs : List ℕ) → x < slack plan due i → IsAhead due i xs → past_rate x xs ≡ spread_rates plan due left xs
@@ -120,7 +125,8 @@ module _ (plan : Plan) (due left : ℕ → ℕ) where
       rw (lt-leb (slack plan due j) x later) (omega (arith, all_spread x i js lt ahead.1))
 
   -- all that is due by d is run first or worked off after
-  pub all_paid : (d : ℕ) (xs : List ℕ) → AreBelow (count plan) xs → sum_list (due_work d) xs ≤ hyper plan * due_first plan due left xs + work (d - first_due plan due) xs
+  pub all_paid : (d : ℕ) (xs : List ℕ) → AreBelow (count plan) xs
+      → sum_list (due_work d) xs ≤ hyper plan * due_first plan due left xs + work (d - first_due plan due) xs
   all_paid d [] below = omega arith
   all_paid d (i ∷ xs) below =
       let b = nat_eq (slack plan due i) 0 in
@@ -130,11 +136,13 @@ module _ (plan : Plan) (due left : ℕ → ℕ) where
       (least-below (count plan) due i below.0) (put_most b (left i) g) (put_fits b (rate plan i) (left i) g (slack plan due i) (hyper plan) (some_slack (slack plan due i))) in
       omega (arith, one, all_paid d xs below.1)
 
-  pub before_is : (l xs : List ℕ) (i : ℕ) → in_order due (count plan) ≡ l ++ i ∷ xs → sum_before (count plan) due (rate plan) i ≡ sum_list (rate plan) l
+  pub before_is : (l xs : List ℕ) (i : ℕ) → in_order due (count plan) ≡ l ++ i ∷ xs
+      → sum_before (count plan) due (rate plan) i ≡ sum_list (rate plan) l
   before_is l xs i e = sum_before-prefix due (rate plan) (count plan) i l xs e
 
   -- the rates of the first tasks and the spread rates of the others
-  pub rate_within : (l xs : List ℕ) → in_order due (count plan) ≡ l ++ xs → 0 < hyper plan → sum_list (rate plan) l + sum_list (rate plan) xs ≤ top_speed plan * hyper plan
+  pub rate_within : (l xs : List ℕ) → in_order due (count plan) ≡ l ++ xs → 0 < hyper plan
+      → sum_list (rate plan) l + sum_list (rate plan) xs ≤ top_speed plan * hyper plan
       → sum_list (rate plan) l + spread_rates plan due left xs ≤ top_speed plan * hyper plan
   rate_within l [] e ph fits = fits
   rate_within l (i ∷ xs) e ph fits =
@@ -143,16 +151,19 @@ module _ (plan : Plan) (due left : ℕ → ℕ) where
       let after = spread_rates plan due left xs in
       let room : sum_list (rate plan) l + rate plan i + after ≤ top_speed plan * hyper plan = omega (arith, next, ih) in
       let before = before_is l xs i e in
-      let one = step_within (nat_eq (slack plan due i) 0) (rate plan i) (left i) (slack plan due i) (hyper plan) (sum_before (count plan) due (rate plan) i) after (top_speed plan * hyper plan) ph (some_slack (slack plan due i)) (rw before room) in
+      let one =
+      step_within (nat_eq (slack plan due i) 0) (rate plan i) (left i) (slack plan due i) (hyper plan) (sum_before (count plan) due (rate plan) i) after (top_speed plan * hyper plan) ph (some_slack (slack plan due i)) (rw before room) in
       omega (arith, before, one)
 
-  past_within : (x : ℕ) (l xs : List ℕ) → in_order due (count plan) ≡ l ++ xs → IsOrdered due xs → 0 < hyper plan → sum_list (rate plan) l + sum_list (rate plan) xs ≤ top_speed plan * hyper plan
+  past_within : (x : ℕ) (l xs : List ℕ) → in_order due (count plan) ≡ l ++ xs → IsOrdered due xs → 0 < hyper plan
+      → sum_list (rate plan) l + sum_list (rate plan) xs ≤ top_speed plan * hyper plan
       → sum_list (rate plan) l + past_rate x xs ≤ top_speed plan * hyper plan
   past_within x l [] e order ph fits = fits
   past_within x l (i ∷ xs) e order ph fits =
       elim (cases_lt x (slack plan due i)) [
         | inl before ↦
-            let same : past_rate x (i ∷ xs) ≡ spread_rates plan due left (i ∷ xs) = (let b : nat_le (slack plan due i) x ≡ false = lt-leb (slack plan due i) x before in rw b (omega (arith, all_spread x i xs before order.0))) in
+            let same : past_rate x (i ∷ xs) ≡ spread_rates plan due left (i ∷ xs) =
+            (let b : nat_le (slack plan due i) x ≡ false = lt-leb (slack plan due i) x before in rw b (omega (arith, all_spread x i xs before order.0))) in
             rw same (rate_within l (i ∷ xs) e ph fits)
         | inr past ↦
             let next : sum_list (rate plan) (l ++ i ∷ []) ≡ sum_list (rate plan) l + rate plan i = sum_list-snoc (rate plan) l i in
@@ -160,7 +171,9 @@ module _ (plan : Plan) (due left : ℕ → ℕ) where
             rw (le-leb (slack plan due i) x past) (omega (arith, next, ih))
       ]
 
-  pub work_within : (x : ℕ) → 0 < hyper plan → sum_list (rate plan) (in_order due (count plan)) ≤ top_speed plan * hyper plan → work x (in_order due (count plan)) ≤ top_speed plan * hyper plan * x
+  pub work_within : (x : ℕ) → 0 < hyper plan
+      → sum_list (rate plan) (in_order due (count plan)) ≤ top_speed plan * hyper plan
+      → work x (in_order due (count plan)) ≤ top_speed plan * hyper plan * x
   work_within zero ph fits = omega (arith, work_zero (in_order due (count plan)))
   work_within (suc x) ph fits =
       let past = past_within x [] (in_order due (count plan)) refl (in_order-ordered due (count plan)) ph (omega (arith, fits)) in

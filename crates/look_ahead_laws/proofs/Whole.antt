@@ -51,7 +51,8 @@ module _ (plan : Plan) (s : StateOf) where
     whole_first l [] e = refl
     whole_first l (i ∷ xs) e =
         let next : edf_order plan s ≡ (l ++ i ∷ []) ++ xs = e ∙ sym (append_assoc l (i ∷ []) xs) in
-        let at = put_same i (spread_rates plan due left xs) (back_below l (i ∷ xs) e).0 (after_is v l xs i e ∙ whole_rates (l ++ i ∷ []) xs next) in
+        let at =
+        put_same i (spread_rates plan due left xs) (back_below l (i ∷ xs) e).0 (after_is v l xs i e ∙ whole_rates (l ++ i ∷ []) xs next) in
         let rest = whole_first (l ++ i ∷ []) xs next in
         omega (arith, rest, at)
 
@@ -96,21 +97,25 @@ module _ (plan : Plan) (s : StateOf) where
           let same : j ≡ i = grind (arith, nat_tests) in
           absurd (true≢false (sym (subst (λ (m : ℕ). stands_before due m i ≡ true) same h) ∙ before-self due i))
 
-  rate_at_split : (l xs : List ℕ) (i : ℕ) → IsOrdered due (l ++ i ∷ xs) → rate_in (l ++ i ∷ xs) i ≡ spread_rate plan due left (spread_rates plan due left xs) i
+  rate_at_split : (l xs : List ℕ) (i : ℕ) → IsOrdered due (l ++ i ∷ xs)
+      → rate_in (l ++ i ∷ xs) i ≡ spread_rate plan due left (spread_rates plan due left xs) i
   rate_at_split [] xs i o = rw (self_eq i) refl
   rate_at_split (j ∷ l) xs i o = rw (before_ne j i (first_ahead due j i l xs o.0)) (rate_at_split l xs i o.1)
 
-  put_at_split : (l xs : List ℕ) (i : ℕ) → IsOrdered due (l ++ i ∷ xs) → put_in (l ++ i ∷ xs) i ≡ put_off plan due left (spread_rates plan due left xs) i
+  put_at_split : (l xs : List ℕ) (i : ℕ) → IsOrdered due (l ++ i ∷ xs)
+      → put_in (l ++ i ∷ xs) i ≡ put_off plan due left (spread_rates plan due left xs) i
   put_at_split [] xs i o = rw (self_eq i) refl
   put_at_split (j ∷ l) xs i o = rw (before_ne j i (first_ahead due j i l xs o.0)) (put_at_split l xs i o.1)
 
   split_order : (l xs : List ℕ) → edf_order plan s ≡ l ++ xs → IsOrdered due (l ++ xs)
   split_order l xs e = subst (IsOrdered due) e (in_order-ordered due (count plan))
 
-  rate_here : (l xs : List ℕ) (i : ℕ) → edf_order plan s ≡ l ++ i ∷ xs → rate_in (edf_order plan s) i ≡ spread_rate plan due left (spread_rates plan due left xs) i
+  rate_here : (l xs : List ℕ) (i : ℕ) → edf_order plan s ≡ l ++ i ∷ xs
+      → rate_in (edf_order plan s) i ≡ spread_rate plan due left (spread_rates plan due left xs) i
   rate_here l xs i e = ap (λ (ys : List ℕ). rate_in ys i) e ∙ rate_at_split l xs i (split_order l (i ∷ xs) e)
 
-  put_here : (l xs : List ℕ) (i : ℕ) → edf_order plan s ≡ l ++ i ∷ xs → put_in (edf_order plan s) i ≡ put_off plan due left (spread_rates plan due left xs) i
+  put_here : (l xs : List ℕ) (i : ℕ) → edf_order plan s ≡ l ++ i ∷ xs
+      → put_in (edf_order plan s) i ≡ put_off plan due left (spread_rates plan due left xs) i
   put_here l xs i e = ap (λ (ys : List ℕ). put_in ys i) e ∙ put_at_split l xs i (split_order l (i ∷ xs) e)
 
   sum_here : (l xs : List ℕ) → edf_order plan s ≡ l ++ xs → sum_list (rate_in (edf_order plan s)) xs ≡ spread_rates plan due left xs
@@ -124,7 +129,8 @@ module _ (plan : Plan) (s : StateOf) where
   found_spread = record {
     put = λ i lt.
         let at = stands-in_order due (count plan) i lt in
-        let later = after_is (rate_in (edf_order plan s)) at.0 at.1.0 i at.1.1 ∙ sum_here (at.0 ++ i ∷ []) at.1.0 (at.1.1 ∙ sym (append_assoc at.0 (i ∷ []) at.1.0)) in
+        let later =
+        after_is (rate_in (edf_order plan s)) at.0 at.1.0 i at.1.1 ∙ sum_here (at.0 ++ i ∷ []) at.1.0 (at.1.1 ∙ sym (append_assoc at.0 (i ∷ []) at.1.0)) in
         put_here at.0 at.1.0 i at.1.1 ∙ ap (λ (a : ℕ). put_off plan due left a i) (sym later);
     needs = λ i lt.
         let at = stands-in_order due (count plan) i lt in

@@ -10,10 +10,12 @@ pub base_of-requires : goal.base_of-requires
 base_of-requires c = omega (arith, ranked-below c.args.plan.now c.loop-k.k (omega arith), c.ranked-i.ensures, c.requires.of.base)
 
 pub left_of-sum-requires-clause-task : goal.left_of-sum-requires-clause-task
-left_of-sum-requires-clause-task c = omega (arith, ranked-below c.args.plan.now c.loop-k.k (omega arith), c.ranked-i.ensures, c.requires.of.rows)
+left_of-sum-requires-clause-task c =
+    omega (arith, ranked-below c.args.plan.now c.loop-k.k (omega arith), c.ranked-i.ensures, c.requires.of.rows)
 
 pub left_of-sum-requires-clause-base : goal.left_of-sum-requires-clause-base
-left_of-sum-requires-clause-base c = c.requires.decision.base c.ranked-i.result (omega (arith, ranked-below c.args.plan.now c.loop-k.k (omega arith), c.ranked-i.ensures))
+left_of-sum-requires-clause-base c =
+    c.requires.decision.base c.ranked-i.result (omega (arith, ranked-below c.args.plan.now c.loop-k.k (omega arith), c.ranked-i.ensures))
 
 pub loop-k-preserved : goal.loop-k-preserved
 loop-k-preserved c =

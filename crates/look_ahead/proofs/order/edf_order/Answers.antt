@@ -8,4 +8,5 @@ pub loop-task-init : goal.loop-task-init
 loop-task-init c = sym (in_order-none (deadline_at c.args.view.now))
 
 pub loop-task-preserved : goal.loop-task-preserved
-loop-task-preserved c = c.insert.ensures ∙ (ap (insert_by (deadline_at c.args.view.now) c.loop-task.task) c.loop-task.invariant ∙ sym (in_order-more (deadline_at c.args.view.now) c.loop-task.task))
+loop-task-preserved c =
+    c.insert.ensures ∙ (ap (insert_by (deadline_at c.args.view.now) c.loop-task.task) c.loop-task.invariant ∙ sym (in_order-more (deadline_at c.args.view.now) c.loop-task.task))

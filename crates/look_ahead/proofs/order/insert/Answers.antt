@@ -22,6 +22,7 @@ loop-k-preserved c =
           ] in
           rw (w.order-is, w.carried-is, w.placed-is) (inserting_moves key c.args.task c.args.count c.args.order.now l.order l.k l.placed l.carried c.loop-k-test.true fits l.invariant moves)
       | else-placed+else-before w ↦
-          let stays : (l.placed || test) ≡ false = or_from l.placed test w.if-placed.false (sym c.is_before-before.ensures ∙ w.if-before.false) in
+          let stays : (l.placed || test) ≡ false =
+          or_from l.placed test w.if-placed.false (sym c.is_before-before.ensures ∙ w.if-before.false) in
           rw (w.order-is, w.carried-is, w.placed-is) (inserting_stays key c.args.task c.args.count c.args.order.now l.order l.k l.placed l.carried c.loop-k-test.true fits l.invariant stays)
     ]

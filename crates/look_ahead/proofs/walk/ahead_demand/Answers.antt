@@ -12,7 +12,8 @@ use Rattle.look_ahead.proofs.walk.ahead_demand.Goals as goal
 pub loop-j-init : goal.loop-j-init
 loop-j-init c =
     let plan = c.args.plan.now in
-    let num : c.static_demand.result.num ≡ total_rate plan = ap (λ d. d.num) c.static_demand.ensures.static_demand ∙ ap (λ (sch : Scheduler). (static_demand_of sch plan).num) c.requires.serves in
+    let num : c.static_demand.result.num ≡ total_rate plan =
+    ap (λ d. d.num) c.static_demand.ensures.static_demand ∙ ap (λ (sch : Scheduler). (static_demand_of sch plan).num) c.requires.serves in
     (done_none plan c.args.view.now c.static_demand.result.num num, omega arith)
 
 pub step-totals-requires-clause-task : goal.step-totals-requires-clause-task
@@ -39,9 +40,12 @@ loop-j-preserved c =
     let rates = c.loop-j.totals.rates in
     let first = c.loop-j.totals.first in
     let lt : j < count plan = omega (arith, c.count-count.ensures.count, c.loop-j-test.true) in
-    let task = turn_is plan s c.count-count.result j c.edf_order-order.result c.count-count.ensures.count c.edf_order-order.ensures c.loop-j-test.true in
-    let rates_are : c.step-totals.result.rates ≡ next_rates plan s (turn plan s j) rates = c.step-totals.ensures.rates ∙ ap (λ (i : ℕ). next_rates plan s i rates) task in
-    let first_is : c.step-totals.result.first ≡ next_first plan s (turn plan s j) rates first = c.step-totals.ensures.first ∙ ap (λ (i : ℕ). next_first plan s i rates first) task in
+    let task =
+    turn_is plan s c.count-count.result j c.edf_order-order.result c.count-count.ensures.count c.edf_order-order.ensures c.loop-j-test.true in
+    let rates_are : c.step-totals.result.rates ≡ next_rates plan s (turn plan s j) rates =
+    c.step-totals.ensures.rates ∙ ap (λ (i : ℕ). next_rates plan s i rates) task in
+    let first_is : c.step-totals.result.first ≡ next_first plan s (turn plan s j) rates first =
+    c.step-totals.ensures.first ∙ ap (λ (i : ℕ). next_first plan s i rates first) task in
     let grows = first_grows plan s c.known.ensures.limits c.requires.of (turn plan s j) rates first (turn_below plan s j lt) in
     let was = c.loop-j.invariant.1 in
     (rw (rates_are, first_is) (done_next plan s j rates first lt c.loop-j.invariant.0), omega (arith, first_is, grows, was))
