@@ -8,8 +8,8 @@ use Rattle.sched_model.specs.Demand.{published}
 use Rattle.sched_model.specs.Text.{trace_text}
 use Rattle.sched_model.specs.Admission.{IsWithinLimits}
 use Rattle.governor.specs.Schedule.{ask_of}
-use Rattle.replay_laws.specs.Alike.{Asking, IsBlind}
-use Rattle.replay_laws.specs.OwnList.{ticks_by, notes_by, AreOwn, HasOwnList, TextHasOwnList, OwnLists}
+use Rattle.replay_laws.proofs.Alike.{IsBlind}
+use Rattle.replay_laws.specs.OwnList.{Asking, ticks_by, notes_by, AreOwn, HasOwnList, TextHasOwnList, OwnLists}
 use Rattle.replay_laws.proofs.SameState.{blind-own}
 use Rattle.replay_laws.proofs.BlindDemands.{blind-published}
 use Rattle.replay_laws.proofs.OwnDemands.{looks-at-none, own-notes}

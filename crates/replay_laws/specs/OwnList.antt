@@ -16,8 +16,11 @@ use Rattle.sched_model.specs.States.{StateOf}
 use Rattle.sched_model.specs.Notes.{notes_of}
 use Rattle.sched_model.specs.Text.{run_notes, run_text}
 use Rattle.governor.specs.Schedule.{ask_of}
-use Rattle.replay_laws.specs.Alike.{Asking}
 use Rattle.replay_laws.specs.FixedDemands.{fixed_of}
+
+-- what is asked for, of the demands of the jobs and the ticks so far
+abbrev pub Asking : Type 0
+Asking = (ℕ → ℕ → ℕ) → List Tick → Frac
 
 -- the first ticks of the schedule for these demands
 abbrev pub ticks_by : Plan → Asking → (ℕ → ℕ → ℕ) → ℕ → List Tick
