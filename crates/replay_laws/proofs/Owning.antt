@@ -15,6 +15,7 @@ use Rattle.replay_laws.specs.OwnList.{Asking, ticks_by, notes_by, AreOwn, HasOwn
 use Rattle.replay_laws.proofs.SameState.{blind-own}
 use Rattle.replay_laws.proofs.BlindDemands.{blind-published}
 use Rattle.replay_laws.proofs.OwnDemands.{looks-at-none, own-notes}
+use Rattle.replay_laws.proofs.FixedRows.{fixed-demand}
 use Rattle.replay_laws.proofs.FitNotes.{IsOfTask, notes-fit, notes-of-tasks, fixed-within, fixed-demands}
 
 module _ (p : Plan) (lim : IsWithinLimits p) (ask : Asking) (blind : IsBlind p ask) where
@@ -40,6 +41,7 @@ text-own p lim kind ticks rows within =
 -- of whatever a governor makes of the states, and of each published demand
 pub own-lists : (p : Plan) → IsWithinLimits p → OwnLists p
 own-lists p lim = record {
+  fixed = fixed-demand p;
   looks = λ demand. looks-at-none p lim (ask_of demand p) (blind-own p lim demand);
   own = λ demand. has-own-list p lim (ask_of demand p) (blind-own p lim demand);
   published_looks = λ kind. looks-at-none p lim (published p kind) (blind-published p lim kind);

@@ -17,7 +17,7 @@ use Rattle.sched_model.specs.States.{StateOf}
 use Rattle.sched_model.specs.Notes.{notes_of}
 use Rattle.sched_model.specs.Text.{run_notes, run_text}
 use Rattle.governor.specs.Schedule.{ask_of}
-use Rattle.replay_laws.specs.FixedDemands.{fixed_of, fixed_list}
+use Rattle.replay_laws.specs.FixedDemands.{fixed_of, fixed_list, fixed_demand}
 
 -- what is asked for, of the demands of the jobs and the ticks so far
 abbrev pub Asking : Type 0
@@ -81,8 +81,14 @@ TextHasOwnList p kind =
     (ticks : ℕ) (rows : List DemandRow) → IsWithin p (demand_of p rows)
     → let dem = demand_of p rows in run_text p kind dem ticks ≡ run_text p kind (own_demand p kind dem ticks) ticks
 
+-- the list that notes fix has the demands that they fix
+abbrev pub HasFixedDemands : Plan → Type 0
+HasFixedDemands p =
+    (notes : List Note) (i k : ℕ) → 1 ≤ k → demand_of p (fixed_of p notes) i k ≡ fixed_demand p notes i k
+
 -- it is so whatever a governor makes of the states, and of each published demand
 pub record OwnLists (p : Plan) : Type 0 where
+  pub fixed : HasFixedDemands p
   pub looks : (demand : Plan → StateOf → Frac) → LooksAtNone p (ask_of demand p)
   pub own : (demand : Plan → StateOf → Frac) → HasOwnList p (ask_of demand p)
   pub published_looks : (kind : GovernorKind) → LooksAtNone p (published p kind)
