@@ -17,7 +17,7 @@ use Rattle.sched_model.specs.AheadDemand.{first_due, slack, put_off, spread_rate
 use Rattle.sched_model.specs.Demand.{demand_by, published}
 use Rattle.sched_model.specs.Admission.{IsWithinLimits}
 use Rattle.sched_model.proofs.OrderLemmas.{AreBelow, in_order-below}
-use Rattle.replay_laws.specs.Alike.{Alike, IsBlind}
+use Rattle.replay_laws.proofs.Alike.{Alike, IsBlind}
 use Rattle.replay_laws.proofs.SameState.{latest-early, same-complete, same-wleft, alike-marked}
 
 -- an allotment reads the needs of the tasks alone

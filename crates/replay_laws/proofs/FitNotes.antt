@@ -18,7 +18,9 @@ use Rattle.sched_model.specs.Segments.{Span, spans_of, Piece, pieces_of, positio
 use Rattle.sched_model.specs.Notes.{release_notes, all_release_notes, had_by, segment_notes, pieces_notes, span_notes, energy_run, energy_idle, notes_before_end, notes_of}
 use Rattle.sched_model.proofs.NoteLemmas.{flat_map-last}
 use Rattle.trace_text.proofs.PlainLines.{each-append}
-use Rattle.replay_laws.specs.FixedDemands.{fixed_of}
+use Rattle.demand_list.specs.Demands.{IsDemands, IsRow}
+use Rattle.demand_list.proofs.Worsts.{worst-listed, worsts-long}
+use Rattle.replay_laws.specs.FixedDemands.{fixed_of, fixed_list}
 use Rattle.replay_laws.specs.OwnList.{IsFit}
 use Rattle.replay_laws.proofs.HeldUnits.{IsHeldBefore, each-weaker, each-piece, spans-held}
 use Rattle.replay_laws.proofs.FixedNotes.{each-flat}
@@ -29,6 +31,11 @@ abbrev pub IsBeforeEnd : Plan → (ℕ → ℕ → ℕ) → Note → Type 0
 IsBeforeEnd p dem (Done at_end i k used) = (i < count p) × (used ≡ dem i k)
 IsBeforeEnd p dem (End ticks run idle) = ⊥
 IsBeforeEnd p dem _ = Unit {0}
+
+-- the end of a job is of a task of the plan
+abbrev pub IsOfTask : Plan → Note → Type 0
+IsOfTask p (Done at_end i k used) = i < count p
+IsOfTask p _ = Unit {0}
 
 module _ (p : Plan) (lim : IsWithinLimits p) (dem : ℕ → ℕ → ℕ) (ask : List Tick → Frac) where
   abbrev AreBeforeEnd : List Note → Type 0
@@ -75,12 +82,18 @@ module _ (p : Plan) (lim : IsWithinLimits p) (dem : ℕ → ℕ → ℕ) (ask : 
   unfolding notes_before_end
   before-end-each ticks = spans-before (length ticks) (spans_of p dem ticks) (spans-held p lim dem ticks)
 
+  -- what holds before the end, and of it, holds of all notes
+  notes-each : (P : Note → Type 0) → ((n : Note) → IsBeforeEnd p dem n → P n) → ((ticks run idle : ℕ) → P (End ticks run idle)) → (ticks : List Tick) → AllByRecursion P (notes_of p dem ask ticks)
+  notes-each P before at_end ticks =
+      let notes : List Note = notes_before_end p dem ask ticks in
+      let run : ℕ = sum_by energy_run notes in
+      let idle : ℕ = sum_by energy_idle notes in
+      each-append P notes (End (length ticks) run idle ∷ [])
+      (each-weaker (IsBeforeEnd p dem) P before notes (before-end-each ticks)) (at_end (length ticks) run idle, tt)
+
   -- each end is fit, where no demand exceeds its worst case
   pub notes-fit : IsWithin p dem → (ticks : List Tick) → AllByRecursion (IsFit p) (notes_of p dem ask ticks)
-  notes-fit within ticks =
-      let notes : List Note = notes_before_end p dem ask ticks in
-      each-append (IsFit p) notes (End (length ticks) (sum_by energy_run notes) (sum_by energy_idle notes) ∷ [])
-      (each-weaker (IsBeforeEnd p dem) (IsFit p) fit notes (before-end-each ticks)) (tt, tt)
+  notes-fit within = notes-each (IsFit p) fit (λ ticks run idle. tt)
     where
       fit : (n : Note) → IsBeforeEnd p dem n → IsFit p n
       fit (Done at_end i k used) h = omega (arith, h.1, within.most i k h.0)
@@ -89,6 +102,18 @@ module _ (p : Plan) (lim : IsWithinLimits p) (dem : ℕ → ℕ → ℕ) (ask : 
       fit (Speed tick f num den) h = tt
       fit (Run from to i k units energy) h = tt
       fit (Idle from to units energy) h = tt
+
+  -- and of a task of the plan
+  pub notes-of-tasks : (ticks : List Tick) → AllByRecursion (IsOfTask p) (notes_of p dem ask ticks)
+  notes-of-tasks = notes-each (IsOfTask p) of (λ ticks run idle. tt)
+    where
+      of : (n : Note) → IsBeforeEnd p dem n → IsOfTask p n
+      of (Done at_end i k used) h = h.0
+      of (End ticks run idle) h = tt
+      of (Release tick i k) h = tt
+      of (Speed tick f num den) h = tt
+      of (Run from to i k units energy) h = tt
+      of (Idle from to units energy) h = tt
 
 -- the row of a job that fit notes fix is within its worst case
 row-fit : (p : Plan) (i k units : ℕ) (notes : List Note) → AllByRecursion (IsFit p) notes → named (fixed_of p notes) i k ≡ Some units → units + 2 * p.machine.charge ≤ worst p i
@@ -121,3 +146,28 @@ fixed-within p notes fit = record { most = λ i k lt. most i k; none = λ i. ref
         go : (o : Option ℕ) → named (fixed_of p notes) i (suc k) ≡ o → demand_of p (fixed_of p notes) i (suc k) ≤ worst p i
         go None e = omega (arith, demand-none p (fixed_of p notes) i (suc k) (omega arith) e)
         go (Some units) e = omega (arith, demand-row p (fixed_of p notes) i (suc k) units (omega arith) e, row-fit p i (suc k) units notes fit e)
+
+-- fit ends of tasks of the plan fix rows of a demand list
+rows-fit : (p : Plan) (all notes : List Note) → AllByRecursion (IsFit p) notes → AllByRecursion (IsOfTask p) notes → AllByRecursion (IsRow (fixed_list p all).worsts) (fixed_of p notes)
+rows-fit p all [] fit of = tt
+rows-fit p all (Release tick j l ∷ notes) fit of = rows-fit p all notes fit.1 of.1
+rows-fit p all (Speed tick f num den ∷ notes) fit of = rows-fit p all notes fit.1 of.1
+rows-fit p all (Run from to j l us energy ∷ notes) fit of = rows-fit p all notes fit.1 of.1
+rows-fit p all (Idle from to us energy ∷ notes) fit of = rows-fit p all notes fit.1 of.1
+rows-fit p all (End ticks run idle ∷ notes) fit of = rows-fit p all notes fit.1 of.1
+rows-fit p all (Done at_end j zero used ∷ notes) fit of = rows-fit p all notes fit.1 of.1
+rows-fit p all (Done at_end j (suc l) used ∷ notes) fit of = (
+  record {
+    task = omega (arith, worsts-long p.tasks (fixed_list p all) refl, of.0);
+    job = omega arith;
+    units = omega (arith, fit.0, worst-listed p.tasks (fixed_list p all) refl j of.0);
+  },
+  rows-fit p all notes fit.1 of.1,
+)
+
+-- so they fix a demand list
+pub fixed-demands : (p : Plan) → IsWithinLimits p → (notes : List Note) → AllByRecursion (IsFit p) notes → AllByRecursion (IsOfTask p) notes → IsDemands (fixed_list p notes)
+fixed-demands p lim notes fit of = record {
+  few = omega (arith, worsts-long p.tasks (fixed_list p notes) refl, lim.tasks.few);
+  each = rows-fit p notes notes fit of;
+}

@@ -1,3 +1,4 @@
+pub mod Alike
 pub mod SameState
 pub mod SameCourse
 pub mod HeldUnits

@@ -16,9 +16,9 @@ use Rattle.sched_model.proofs.ScheduleLemmas.{schedule_exists, schedule_unique}
 use Rattle.sched_model.proofs.Service.{exec-most}
 use Rattle.done_lines.proofs.DoneNotes.{tells_done, times, times-append}
 use Rattle.done_lines.proofs.DoneCounts.{told-once}
-use Rattle.replay_laws.specs.Alike.{Asking, Alike, IsBlind}
+use Rattle.replay_laws.proofs.Alike.{Alike, IsBlind}
 use Rattle.replay_laws.specs.FixedDemands.{fixed_of}
-use Rattle.replay_laws.specs.OwnList.{ticks_by, notes_by, TellSame, LooksAtNone}
+use Rattle.replay_laws.specs.OwnList.{Asking, ticks_by, notes_by, TellSame, LooksAtNone}
 use Rattle.replay_laws.proofs.SameCourse.{same-course}
 use Rattle.replay_laws.proofs.SameNotes.{same-notes}
 use Rattle.replay_laws.proofs.FixedNotes.{Fixes, fixes, notes-true}

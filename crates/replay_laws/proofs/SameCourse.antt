@@ -14,8 +14,9 @@ use Rattle.sched_model.proofs.JobLaws.{exec-legal}
 use Rattle.sched_model.proofs.LevelSums.{share-most, sum_where-mono}
 use Rattle.sched_model.proofs.PriorityLemmas.{allotment_of}
 use Rattle.sched_model.proofs.GreedyLemmas.{up_to-before}
-use Rattle.replay_laws.specs.Alike.{Asking, Indistinct, Alike, IsBlind}
-use Rattle.replay_laws.proofs.SameState.{alike-earlier, latest-early, same-entry}
+use Rattle.replay_laws.specs.OwnList.{Asking}
+use Rattle.replay_laws.proofs.Alike.{Indistinct, Alike, IsBlind, alike-earlier}
+use Rattle.replay_laws.proofs.SameState.{latest-early, same-entry}
 
 -- the task needs the same by both, or less than it needs was given, and no more than the other need
 abbrev pub NeedsAlike : (need other given : ℕ → ℕ) → ℕ → Type 0

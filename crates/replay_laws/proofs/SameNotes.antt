@@ -22,8 +22,9 @@ use Rattle.sched_model.specs.Notes.{release_notes, all_release_notes, had_by, se
 use Rattle.sched_model.proofs.JobLaws.{exec-none}
 use Rattle.sched_model.proofs.NoteLemmas.{notes-span}
 use Rattle.done_lines.proofs.DoneSpans.{IsLastSpan, last-span}
-use Rattle.replay_laws.specs.Alike.{Asking, Indistinct, Alike, IsBlind}
-use Rattle.replay_laws.proofs.SameState.{alike-before, alike-earlier, latest-early, same-decision}
+use Rattle.replay_laws.specs.OwnList.{Asking}
+use Rattle.replay_laws.proofs.Alike.{Indistinct, Alike, IsBlind, alike-before, alike-earlier}
+use Rattle.replay_laws.proofs.SameState.{latest-early, same-decision}
 use Rattle.replay_laws.proofs.HeldUnits.{IsHeldBefore, each-weaker, each-piece, spans-held}
 
 -- both functions give one list for the numbers below n

@@ -1,13 +1,12 @@
 -- Two demands that the ticks don't tell apart finish the same jobs, so they give one state and the same decisions.
-use Rattle.std.proofs.Common.{◌≡◌, ◌-◌, ◌<◌, ◌≤◌, ℕ, zero, suc, Bool, true, false, List, [], ◌∷◌, length, drop, refl, if◌then◌else◌, ap, ap₂, ◌∙◌, nat_le, sym, arith, not, ◌&&◌, ◌||◌, length-drop}
-use Rattle.std.proofs.lemmas.Bool.Decides.{nat_tests}
+use Rattle.std.proofs.Common.{◌≡◌, ◌-◌, ◌<◌, ◌≤◌, ℕ, zero, suc, Bool, List, [], ◌∷◌, length, drop, refl, if◌then◌else◌, ap, ap₂, arith, not, ◌&&◌, ◌||◌, length-drop}
 use Rattle.grid_fraction.specs.declared.Frac.{Frac}
 use Rattle.grid_fraction.proofs.Searches.{any_below-same}
 use Rattle.freq_table.specs.Tables.{lowest_entry}
 use Rattle.sched_model.specs.declared.state.Row.{Row}
 use Rattle.sched_model.specs.Plan.{Plan, count, worst}
 use Rattle.sched_model.specs.Jobs.{latest, due, last_release, latest_since, is_release}
-use Rattle.sched_model.specs.Ticks.{Tick, at, exec, is_complete, is_done, wleft}
+use Rattle.sched_model.specs.Ticks.{Tick, at, exec, is_complete, wleft}
 use Rattle.sched_model.specs.Decision.{completes_in, is_decision}
 use Rattle.sched_model.specs.Schedule.{entry_in_force}
 use Rattle.sched_model.specs.States.{StateOf, row_of, state_of}
@@ -16,43 +15,8 @@ use Rattle.sched_model.proofs.Limits.{every_period}
 use Rattle.sched_model.proofs.JobLaws.{latest_since-le, last_release-le}
 use Rattle.sched_model.proofs.Tables.{table-same}
 use Rattle.governor.specs.Schedule.{ask_of}
-use Rattle.replay_laws.specs.Alike.{Asking, Indistinct, Alike, IsBlind}
-
--- the same jobs are finished
-pub same-done : (p : Plan) (dem other : ℕ → ℕ → ℕ) (past : List Tick) (i k : ℕ) → Indistinct p dem other past i k
-    → is_done p dem past i k ≡ is_done p other past i k
-same-done p dem other past i k h = go (is_done p dem past i k) refl
-  where
-    go : (c : Bool) → is_done p dem past i k ≡ c → is_done p dem past i k ≡ is_done p other past i k
-    go true e = ap (λ n. nat_le n (exec p past i k)) (h.0 e)
-    go false e =
-        let more : exec p past i k < other i k = h.1 e in
-        let off : nat_le (other i k) (exec p past i k) ≡ false = grind (arith, nat_tests, more) in
-        e ∙ sym off
-
--- it was so when the job had had no more than it has
-pub indistinct-before : (p : Plan) (dem other : ℕ → ℕ → ℕ) (now past : List Tick) (i k : ℕ) → exec p past i k ≤ exec p now i k → Indistinct p dem other now i k
-    → Indistinct p dem other past i k
-indistinct-before p dem other now past i k grows h = (done, open_job)
-  where
-    done : is_done p dem past i k ≡ true → dem i k ≡ other i k
-    done e = let still : is_done p dem now i k ≡ true = grind (arith, nat_tests, e, grows) in h.0 still
-
-    open_job : is_done p dem past i k ≡ false → exec p past i k < other i k
-    open_job e = go (is_done p dem now i k) refl
-      where
-        go : (c : Bool) → is_done p dem now i k ≡ c → exec p past i k < other i k
-        go true d = let same : dem i k ≡ other i k = h.0 d in grind (arith, nat_tests, e, same)
-        go false d = let more : exec p now i k < other i k = h.1 d in omega (arith, grows, more)
-
--- and of all jobs that were released by then
-pub alike-before : (p : Plan) (dem other : ℕ → ℕ → ℕ) (now past : List Tick) (t s : ℕ) → s ≤ t → ((i k : ℕ) → i < count p → exec p past i k ≤ exec p now i k)
-    → Alike p dem other now t → Alike p dem other past s
-alike-before p dem other now past t s le grows h i k lt early = indistinct-before p dem other now past i k (grows i k lt) (h i k lt (omega (arith, early, le)))
-
--- before the last tick
-pub alike-earlier : (p : Plan) (dem other : ℕ → ℕ → ℕ) (x : Tick) (past : List Tick) (t s : ℕ) → s ≤ t → Alike p dem other (x ∷ past) t → Alike p dem other past s
-alike-earlier p dem other x past t s le h = alike-before p dem other (x ∷ past) past t s le (λ i k lt. omega arith) h
+use Rattle.replay_laws.specs.OwnList.{Asking}
+use Rattle.replay_laws.proofs.Alike.{Indistinct, Alike, IsBlind, same-done, indistinct-before, alike-before, alike-earlier}
 
 -- earlier ticks gave no more
 exec-drop : (p : Plan) (i k n : ℕ) (ticks : List Tick) → exec p (drop n ticks) i k ≤ exec p ticks i k

@@ -6,6 +6,7 @@ use Rattle.dvs_base.specs.declared.note.Note.{Note}
 use Rattle.dvs_base.specs.declared.note.Note.TheVariants.{Done}
 use Rattle.grid_fraction.specs.declared.Frac.{Frac}
 use Rattle.task_model.specs.DemandRows.{DemandRow}
+use Rattle.demand_list.specs.Demands.{IsDemands}
 use Rattle.sched_model.specs.Plan.{Plan, count, worst}
 use Rattle.sched_model.specs.Jobs.{release}
 use Rattle.sched_model.specs.Ticks.{Tick, exec, is_done}
@@ -16,8 +17,11 @@ use Rattle.sched_model.specs.States.{StateOf}
 use Rattle.sched_model.specs.Notes.{notes_of}
 use Rattle.sched_model.specs.Text.{run_notes, run_text}
 use Rattle.governor.specs.Schedule.{ask_of}
-use Rattle.replay_laws.specs.Alike.{Asking}
-use Rattle.replay_laws.specs.FixedDemands.{fixed_of}
+use Rattle.replay_laws.specs.FixedDemands.{fixed_of, fixed_list, fixed_demand}
+
+-- what is asked for, of the demands of the jobs and the ticks so far
+abbrev pub Asking : Type 0
+Asking = (ℕ → ℕ → ℕ) → List Tick → Frac
 
 -- the first ticks of the schedule for these demands
 abbrev pub ticks_by : Plan → Asking → (ℕ → ℕ → ℕ) → ℕ → List Tick
@@ -27,10 +31,13 @@ ticks_by p ask dem ticks = schedule_by p dem (ask dem) ticks
 abbrev pub notes_by : Plan → Asking → (ℕ → ℕ → ℕ) → ℕ → List Note
 notes_by p ask dem ticks = notes_of p dem (ask dem) (ticks_by p ask dem ticks)
 
--- two demands for the same notes: of each job that the ticks finish the same, and of each other released job more than it has had
+-- Two demands for the same notes: a job that the ticks finish needs the same by both, and a released one that they leave
+-- unfinished needs more than it has had by the other too. The others need anything.
 pub record TellSame (p : Plan) (dem other : ℕ → ℕ → ℕ) (ticks : List Tick) : Type 0 where
-  pub finished : (i k : ℕ) → i < count p → 1 ≤ k → release p i k < length ticks → is_done p dem ticks i k ≡ true → dem i k ≡ other i k
-  pub unfinished : (i k : ℕ) → i < count p → 1 ≤ k → release p i k < length ticks → is_done p dem ticks i k ≡ false → exec p ticks i k < other i k
+  pub finished : (i k : ℕ) → i < count p → 1 ≤ k → release p i k < length ticks
+      → is_done p dem ticks i k ≡ true → dem i k ≡ other i k
+  pub unfinished : (i k : ℕ) → i < count p → 1 ≤ k → release p i k < length ticks
+      → is_done p dem ticks i k ≡ false → exec p ticks i k < other i k
   pub none : (i : ℕ) → dem i 0 ≡ 0
   pub other_none : (i : ℕ) → other i 0 ≡ 0
 
@@ -55,19 +62,33 @@ pub record AreOwn (p : Plan) (ask : Asking) (ticks : ℕ) (notes : List Note) : 
   pub fit : AllByRecursion (IsFit p) notes
   pub notes_are : notes ≡ notes_by p ask (demand_of p (fixed_of p notes)) ticks
 
--- notes are those of the schedule for some list exactly where they are those for the list that they fix
+-- notes are those of the schedule for some list exactly where they are those for the list that they fix, which is then a
+-- demand list of the plan
 pub record HasOwnList (p : Plan) (ask : Asking) : Type 0 where
-  pub of_some : (ticks : ℕ) (notes : List Note) (rows : List DemandRow) → AreNotesFor p ask ticks notes rows → AreOwn p ask ticks notes
-  pub of_own : (ticks : ℕ) (notes : List Note) → AreOwn p ask ticks notes → AreNotesFor p ask ticks notes (fixed_of p notes)
+  pub of_some : (ticks : ℕ) (notes : List Note) (rows : List DemandRow)
+      → AreNotesFor p ask ticks notes rows → AreOwn p ask ticks notes
+  pub of_own : (ticks : ℕ) (notes : List Note)
+      → AreOwn p ask ticks notes → AreNotesFor p ask ticks notes (fixed_of p notes)
+  pub list : (ticks : ℕ) (notes : List Note) → AreOwn p ask ticks notes → IsDemands (fixed_list p notes)
+
+-- the demands of the list that the notes of a run fix
+abbrev pub own_demand : Plan → GovernorKind → (ℕ → ℕ → ℕ) → ℕ → ℕ → ℕ → ℕ
+own_demand p kind dem ticks = demand_of p (fixed_of p (run_notes p kind dem ticks))
 
 -- the text of a run is that of the run for the list that its notes fix
 abbrev pub TextHasOwnList : Plan → GovernorKind → Type 0
 TextHasOwnList p kind =
     (ticks : ℕ) (rows : List DemandRow) → IsWithin p (demand_of p rows)
-    → run_text p kind (demand_of p rows) ticks ≡ run_text p kind (demand_of p (fixed_of p (run_notes p kind (demand_of p rows) ticks))) ticks
+    → let dem = demand_of p rows in run_text p kind dem ticks ≡ run_text p kind (own_demand p kind dem ticks) ticks
+
+-- the list that notes fix has the demands that they fix
+abbrev pub HasFixedDemands : Plan → Type 0
+HasFixedDemands p =
+    (notes : List Note) (i k : ℕ) → 1 ≤ k → demand_of p (fixed_of p notes) i k ≡ fixed_demand p notes i k
 
 -- it is so whatever a governor makes of the states, and of each published demand
 pub record OwnLists (p : Plan) : Type 0 where
+  pub fixed : HasFixedDemands p
   pub looks : (demand : Plan → StateOf → Frac) → LooksAtNone p (ask_of demand p)
   pub own : (demand : Plan → StateOf → Frac) → HasOwnList p (ask_of demand p)
   pub published_looks : (kind : GovernorKind) → LooksAtNone p (published p kind)

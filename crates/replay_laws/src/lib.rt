@@ -1,16 +1,16 @@
 //! The law behind a replay: notes of a schedule are those of the schedule for the demand list that they fix.
 //!
-//! Notes fix the demand of each job whose end they tell; each other job has its worst case. Since nothing looks into the
-//! demand of a job before its end, the schedule for that list is the same tick for tick, and so are its notes. So notes
-//! are those of a schedule for some demand list exactly where they are those for the list that they fix.
+//! Notes fix the demand of each job whose end they tell; each other job has its worst case. Since nothing looks into a
+//! job's demand before its end, the schedule for that list is the same tick for tick, and so are its notes. So notes are
+//! those of a schedule for some demand list exactly where they are those for the list that they fix.
 #![tactic(auto)]
 
 ghost use Rattle.replay_laws.specs.OwnList.{OwnLists};
 
 use sched_model::Admitted;
 
-/// For whatever a governor makes of the states and for each published demand: no schedule looks into a demand, and notes
-/// of a schedule for some demand list are those for the list that they fix.
+/// For whatever a governor makes of the states and for each published demand: no schedule looks into a job's demand, and
+/// notes are those of the schedule for some demand list exactly where they are those for the list that they fix.
 pub fn own_list(plan: &Admitted)
     ensures { OwnLists plan.now }
 {

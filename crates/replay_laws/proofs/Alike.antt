@@ -1,0 +1,55 @@
+-- Two demands that ticks don't tell apart.
+use Rattle.std.proofs.Common.{◌≡◌, ◌<◌, ◌≤◌, ℕ, suc, Bool, true, false, List, ◌∷◌, length, refl, ap, ◌∙◌, nat_le, sym, arith}
+use Rattle.std.proofs.lemmas.Bool.Decides.{nat_tests}
+use Rattle.sched_model.specs.Plan.{Plan, count}
+use Rattle.sched_model.specs.Jobs.{latest_since}
+use Rattle.sched_model.specs.Ticks.{Tick, exec, is_done}
+use Rattle.replay_laws.specs.OwnList.{Asking}
+
+-- a job that the ticks finish needs the same by both demands, and one that they leave unfinished needs more than it has had by the other too
+abbrev pub Indistinct : Plan → (ℕ → ℕ → ℕ) → (ℕ → ℕ → ℕ) → List Tick → ℕ → ℕ → Type 0
+Indistinct p dem other ticks i k = (is_done p dem ticks i k ≡ true → dem i k ≡ other i k) × (is_done p dem ticks i k ≡ false → exec p ticks i k < other i k)
+
+-- it is so of each job that is released before tick t, and of job 0
+abbrev pub Alike : Plan → (ℕ → ℕ → ℕ) → (ℕ → ℕ → ℕ) → List Tick → ℕ → Type 0
+Alike p dem other ticks t = (i k : ℕ) → i < count p → latest_since p i k < t → Indistinct p dem other ticks i k
+
+-- what is asked for looks at no demand but those of finished jobs
+abbrev pub IsBlind : Plan → Asking → Type 0
+IsBlind p ask = (dem other : ℕ → ℕ → ℕ) (past : List Tick) → Alike p dem other past (suc (length past)) → ask dem past ≡ ask other past
+
+-- the same jobs are finished
+pub same-done : (p : Plan) (dem other : ℕ → ℕ → ℕ) (past : List Tick) (i k : ℕ) → Indistinct p dem other past i k
+    → is_done p dem past i k ≡ is_done p other past i k
+same-done p dem other past i k h = go (is_done p dem past i k) refl
+  where
+    go : (c : Bool) → is_done p dem past i k ≡ c → is_done p dem past i k ≡ is_done p other past i k
+    go true e = ap (λ n. nat_le n (exec p past i k)) (h.0 e)
+    go false e =
+        let more : exec p past i k < other i k = h.1 e in
+        let off : nat_le (other i k) (exec p past i k) ≡ false = grind (arith, nat_tests, more) in
+        e ∙ sym off
+
+-- it was so when the job had had no more than it has
+pub indistinct-before : (p : Plan) (dem other : ℕ → ℕ → ℕ) (now past : List Tick) (i k : ℕ) → exec p past i k ≤ exec p now i k → Indistinct p dem other now i k
+    → Indistinct p dem other past i k
+indistinct-before p dem other now past i k grows h = (done, open_job)
+  where
+    done : is_done p dem past i k ≡ true → dem i k ≡ other i k
+    done e = let still : is_done p dem now i k ≡ true = grind (arith, nat_tests, e, grows) in h.0 still
+
+    open_job : is_done p dem past i k ≡ false → exec p past i k < other i k
+    open_job e = go (is_done p dem now i k) refl
+      where
+        go : (c : Bool) → is_done p dem now i k ≡ c → exec p past i k < other i k
+        go true d = let same : dem i k ≡ other i k = h.0 d in grind (arith, nat_tests, e, same)
+        go false d = let more : exec p now i k < other i k = h.1 d in omega (arith, grows, more)
+
+-- and of all jobs that were released by then
+pub alike-before : (p : Plan) (dem other : ℕ → ℕ → ℕ) (now past : List Tick) (t s : ℕ) → s ≤ t → ((i k : ℕ) → i < count p → exec p past i k ≤ exec p now i k)
+    → Alike p dem other now t → Alike p dem other past s
+alike-before p dem other now past t s le grows h i k lt early = indistinct-before p dem other now past i k (grows i k lt) (h i k lt (omega (arith, early, le)))
+
+-- before the last tick
+pub alike-earlier : (p : Plan) (dem other : ℕ → ℕ → ℕ) (x : Tick) (past : List Tick) (t s : ℕ) → s ≤ t → Alike p dem other (x ∷ past) t → Alike p dem other past s
+alike-earlier p dem other x past t s le h = alike-before p dem other (x ∷ past) past t s le (λ i k lt. omega arith) h
