@@ -11,6 +11,7 @@ use Rattle.sched_model.specs.Segments.{Span, units_of}
 use Rattle.sched_model.specs.States.{row_at, prior_state, StateOf, state_of}
 use Rattle.event_kernel.specs.declared.pen.Pen.{Pen}
 use Rattle.governor.specs.Schedule.{ask_of, course}
+use Rattle.event_kernel.specs.Runs.{most_ticks}
 use Rattle.event_kernel.specs.Pens.{grown, open_span}
 use Rattle.event_kernel.specs.Writing.{Writing}
 use Rattle.sched_model.specs.Demands.{IsWithin}
@@ -35,7 +36,7 @@ whole_span demand p dem t = grown (span_at demand p dem t) (units_of p (course d
 
 -- at the tick t, after its releases and its decision
 pub record IsAtWork (demand : Plan → StateOf → Frac) (p : Plan) (dem : ℕ → ℕ → ℕ) (t from e : ℕ) (s : StateOf) (pen : Pen) : Type 0 where
-  pub early : t < 2 ^ 40
+  pub early : t < most_ticks
   pub within : IsWithin p dem
   pub state : s ≡ state_of p dem (course demand p dem t)
   pub from_le : from ≤ t

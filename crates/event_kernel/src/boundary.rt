@@ -64,11 +64,13 @@ impl<G: Governor> Run<G> {
         requires can { CanRelease set.now.plan.now self.old.state task }
         requires room { HasRoom (2 ^ 63) self.old.pen.counts }
         requires counters { G.stands self.old.governor set.now.plan.now self.old.state }
-        ensures pen { OnOk result (self.new.pen ≡ with_notes self.old.pen (opening_notes (jobs_of set.now) self.old.state task)) }
+        ensures pen { OnOk result (self.new.pen ≡ with_notes self.old.pen
+            (opening_notes (jobs_of set.now) self.old.state task)) }
         ensures state { OnOk result (self.new.state ≡ opened set.now.plan.now (jobs_of set.now) self.old.state task) }
         ensures of { OnOk result (IsOfPlan set.now.plan.now self.new.state) }
         ensures counters { OnOk result (G.stands self.new.governor set.now.plan.now self.new.state) }
-        ensures told { Tells L.heard L.balked L.stops to.old to.new (opening_notes (jobs_of set.now) self.old.state task) result }
+        ensures told { Tells L.heard L.balked L.stops to.old to.new
+            (opening_notes (jobs_of set.now) self.old.state task) result }
     {
         let state = &self.state;
         let now = state.now;

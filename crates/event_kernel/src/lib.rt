@@ -13,5 +13,5 @@ mod run;
 mod span;
 mod tick;
 
-pub use kernel::{Kernel, KernelFault};
+pub use kernel::{Kernel, KernelFault, MOST_JOBS};
 pub use listener::{Listener, Stopped};

@@ -2,7 +2,8 @@
 ghost use Rattle.std.specs.Prelude.{◌≡◌, ◌+◌, ◌*◌, ◌<◌, ◌≤◌, ◌^◌, OnOk};
 ghost use Rattle.sched_model.specs.Segments.{same_holder, position_of};
 ghost use Rattle.event_kernel.specs.Heard.{Tells};
-ghost use Rattle.event_kernel.specs.Pens.{pen_notes, told_pen, is_turn, entered, entering_notes, new_pen, CanTell, cost};
+ghost use Rattle.event_kernel.specs.Pens.{cost, pen_notes, told_pen, is_turn, entered, entering_notes};
+ghost use Rattle.event_kernel.specs.Pens.{new_pen, CanTell};
 ghost use Rattle.event_kernel.specs.Boundary.{ended_pen, ended_notes};
 
 use crate::run::InForce;
@@ -103,9 +104,11 @@ impl Pen {
     // Tells the segment, and the end of its job where the row is done.
     fn tell<L: Listener>(&mut self, at: Moment<'_>, to: &mut L) -> Result<(), Stopped>
         requires { CanTell at.plan.now at.state.now at.force.from at.force.index self.old }
-        ensures pen { OnOk result (self.new ≡ told_pen at.entry.plan.now at.entry.state.now at.entry.force.index self.old) }
+        ensures pen { OnOk result (self.new ≡ told_pen at.entry.plan.now at.entry.state.now
+            at.entry.force.index self.old) }
         ensures told { Tells L.heard L.balked L.stops to.old to.new
-            (pen_notes at.entry.plan.now at.entry.state.now at.entry.force.from at.entry.force.index self.old) result }
+            (pen_notes at.entry.plan.now at.entry.state.now at.entry.force.from
+            at.entry.force.index self.old) result }
     {
         at.plan.known();
         let machine = at.plan.machine();
@@ -162,9 +165,11 @@ impl Pen {
     ) -> Result<(), Stopped>
         requires can { CanTell at.plan.now at.state.now at.force.from at.force.index self.old }
         requires fits { self.old.units + units < 2 ^ 64 }
-        ensures pen { OnOk result (self.new ≡ entered at.entry.plan.now at.entry.state.now at.entry.force.index holder units self.old) }
+        ensures pen { OnOk result (self.new ≡ entered at.entry.plan.now at.entry.state.now
+            at.entry.force.index holder units self.old) }
         ensures told { Tells L.heard L.balked L.stops to.old to.new
-            (entering_notes at.entry.plan.now at.entry.state.now at.entry.force.from at.entry.force.index holder self.old) result }
+            (entering_notes at.entry.plan.now at.entry.state.now at.entry.force.from
+            at.entry.force.index holder self.old) result }
     {
         if turns(self, holder) {
             self.tell(at, to)?;
@@ -177,9 +182,11 @@ impl Pen {
     /// Tells the segment that is left at the end of a span.
     pub(crate) fn close<L: Listener>(&mut self, at: Moment<'_>, to: &mut L) -> Result<(), Stopped>
         requires { CanTell at.plan.now at.state.now at.force.from at.force.index self.old }
-        ensures pen { OnOk result (self.new ≡ ended_pen at.entry.plan.now at.entry.state.now at.entry.force.index self.old) }
+        ensures pen { OnOk result (self.new ≡ ended_pen at.entry.plan.now at.entry.state.now
+            at.entry.force.index self.old) }
         ensures told { Tells L.heard L.balked L.stops to.old to.new
-            (ended_notes at.entry.plan.now at.entry.state.now at.entry.force.from at.entry.force.index self.old) result }
+            (ended_notes at.entry.plan.now at.entry.state.now at.entry.force.from
+            at.entry.force.index self.old) result }
     {
         if self.units > 0 {
             self.tell(at, to)?;
