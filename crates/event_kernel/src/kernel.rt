@@ -8,9 +8,9 @@ ghost use Rattle.event_kernel.specs.Runs.{IsListOf, released_jobs, most_jobs, mo
 ghost use Rattle.event_kernel.specs.Runs.{notes_of_run, MeetsDeadlines, MeetsDemands};
 ghost use Rattle.dvs_base.specs.Outside.{Rose};
 
-use crate::pen::Pen;
 use crate::run::{Run, Setting};
 use crate::span::Walk;
+use crate::trace::Trace;
 use crate::{Listener, Stopped};
 use demand_list::Demands;
 use dvs_base::{Note, Totals};
@@ -155,22 +155,22 @@ impl<'a, G: Governor> Kernel<'a, G> {
         let mut run = Run {
             governor,
             state,
-            pen: Pen::new(),
+            trace: Trace::new(),
         };
         while run.now() < ticks {
             run.span(walk, &set, to)?;
         }
         to.hear(&Note::End {
             ticks,
-            run: run.pen.run,
-            idle: run.pen.idle,
+            run: run.trace.sums.run,
+            idle: run.trace.sums.idle,
         })?;
         Ok(Totals {
-            run: run.pen.run,
-            idle: run.pen.idle,
-            released: run.pen.counts.released,
-            finished: run.pen.counts.finished,
-            decisions: run.pen.counts.decisions,
+            run: run.trace.sums.run,
+            idle: run.trace.sums.idle,
+            released: run.trace.sums.released,
+            finished: run.trace.sums.finished,
+            decisions: run.trace.sums.decisions,
         })
     }
 }
