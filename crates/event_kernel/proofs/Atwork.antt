@@ -13,10 +13,10 @@ use Rattle.sched_model.specs.Ticks.{Tick, exec}
 use Rattle.sched_model.specs.Segments.{Span}
 use Rattle.sched_model.specs.States.{no_row, row_at, prior_state, after_advance, CanRun, StateOf}
 use Rattle.sched_model.proofs.ScheduleLemmas.{schedule_exists}
-use Rattle.event_kernel.specs.declared.pen.Pen.{Pen}
+use Rattle.event_kernel.specs.declared.trace.Trace.{Trace}
 use Rattle.event_kernel.specs.Heard.{HasHeard, HasBalked}
 use Rattle.governor.specs.Schedule.{ask_of, course}
-use Rattle.event_kernel.specs.Pens.{open_notes, entered, entering_notes, IsFirstUndone, CanTell}
+use Rattle.event_kernel.specs.Segment.{owritten_notes, entered, entering_notes, IsFirstUndone, CanTell}
 use Rattle.event_kernel.specs.Writing.{Writing}
 use Rattle.event_kernel.specs.Tickwork.{served, span_at, tick_at, whole_span, IsAtWork, HasWorked}
 use Rattle.event_kernel.proofs.Handing.{had, job}
@@ -24,11 +24,11 @@ use Rattle.event_kernel.proofs.Ending.{exec-within, speed_now}
 use Rattle.event_kernel.proofs.Working.{course-next, Working, working-start, rows-long, can-tell, can-run, working-turn, working-balk, Idled, working-full, working-idle, working-idle-balk, Worked, working-done}
 
 -- how far the units of the tick t are handed out and told
-abbrev pub AtWork : {L : Type 0} → (L → Note → L → Type 0) → (L → Note → L → Type 0) → (Plan → StateOf → Frac) → Plan → (ℕ → ℕ → ℕ) → ℕ → L → L → ℕ → Bool → StateOf → Pen → Type 0
-AtWork heard balked demand p dem t to0 to rest completed st pen =
-    Working heard balked p dem (ask_of demand p dem) (course demand p dem t) (span_at demand p dem t) to0 to rest completed st pen
+abbrev pub AtWork : {L : Type 0} → (L → Note → L → Type 0) → (L → Note → L → Type 0) → (Plan → StateOf → Frac) → Plan → (ℕ → ℕ → ℕ) → ℕ → L → L → ℕ → Bool → StateOf → Trace → Type 0
+AtWork heard balked demand p dem t to0 to rest completed st trace =
+    Working heard balked p dem (ask_of demand p dem) (course demand p dem t) (span_at demand p dem t) to0 to rest completed st trace
 
-module _ {demand : Plan → StateOf → Frac} {p : Plan} {dem : ℕ → ℕ → ℕ} {t from e : ℕ} {st0 : StateOf} {pen0 : Pen} (adm : Bounds p) (at : IsAtWork demand p dem t from e st0 pen0) where
+module _ {demand : Plan → StateOf → Frac} {p : Plan} {dem : ℕ → ℕ → ℕ} {t from e : ℕ} {st0 : StateOf} {trace0 : Trace} (adm : Bounds p) (at : IsAtWork demand p dem t from e st0 trace0) where
   abbrev past : List Tick
   past = course demand p dem t
 
@@ -51,84 +51,84 @@ module _ {demand : Plan → StateOf → Frac} {p : Plan} {dem : ℕ → ℕ → 
   speed_is = ap (λ m. (point p m).speed) at.in_force
 
   module _ {L : Type 0} {heard balked : L → Note → L → Type 0} {to0 : L} where
-    pub begin : (speed : ℕ) → speed ≡ (point p e).speed → AtWork heard balked demand p dem t to0 to0 speed false st0 pen0
+    pub begin : (speed : ℕ) → speed ≡ (point p e).speed → AtWork heard balked demand p dem t to0 to0 speed false st0 trace0
     begin speed is =
-        subst (λ f. AtWork heard balked demand p dem t to0 to0 f false st0 pen0) (sym (is ∙ speed_is))
-        (subst (λ s. AtWork heard balked demand p dem t to0 to0 (speed_now p dem ask past) false s pen0) (sym at.state)
-        (working-start heard balked p dem ask past s0 to0 pen0
-        (subst (λ n. Writing p dem ask n s0 (had p dem past) (1000000 * n) pen0) (sym course-long) at.pen_is)))
+        subst (λ f. AtWork heard balked demand p dem t to0 to0 f false st0 trace0) (sym (is ∙ speed_is))
+        (subst (λ s. AtWork heard balked demand p dem t to0 to0 (speed_now p dem ask past) false s trace0) (sym at.state)
+        (working-start heard balked p dem ask past s0 to0 trace0
+        (subst (λ n. Writing p dem ask n s0 (had p dem past) (1000000 * n) trace0) (sym course-long) at.writing)))
 
-    module _ {to : L} {rest : ℕ} {completed : Bool} {st : StateOf} {pen : Pen} (w : AtWork heard balked demand p dem t to0 to rest completed st pen) where
+    module _ {to : L} {rest : ℕ} {completed : Bool} {st : StateOf} {trace : Trace} (w : AtWork heard balked demand p dem t to0 to rest completed st trace) where
       pub rows-there : length st.rows ≡ count p
-      rows-there = rows-long heard balked p dem ask past adm within s0 to0 to rest completed st pen w
+      rows-there = rows-long heard balked p dem ask past adm within s0 to0 to rest completed st trace w
 
-      told-and-fits : CanTell p st (length s0.past) s0.entry pen × (pen.units + speed_now p dem ask past < 2 ^ 64)
+      told-and-fits : CanTell p st (length s0.past) s0.entry trace × (trace.segment.units + speed_now p dem ask past < 2 ^ 64)
       told-and-fits =
-          can-tell heard balked p dem ask past adm within s0 to0 (omega (arith, at.early, course-long)) (omega (arith, at.from_le, at.from_is, course-long)) (sym at.entry_is ∙ at.in_force) to rest completed st pen w
+          can-tell heard balked p dem ask past adm within s0 to0 (omega (arith, at.early, course-long)) (omega (arith, at.from_le, at.from_is, course-long)) (sym at.entry_is ∙ at.in_force) to rest completed st trace w
 
-      pub can : CanTell p st from e pen
-      can = subst (λ m. CanTell p st m e pen) (sym at.from_is) (subst (λ m. CanTell p st (length s0.past) m pen) (sym at.entry_is) told-and-fits.0)
+      pub can : CanTell p st from e trace
+      can = subst (λ m. CanTell p st m e trace) (sym at.from_is) (subst (λ m. CanTell p st (length s0.past) m trace) (sym at.entry_is) told-and-fits.0)
 
-      pub fits : pen.units + rest < 2 ^ 64
+      pub fits : trace.segment.units + rest < 2 ^ 64
       fits = omega (arith, told-and-fits.1, w.hand.handed.rest_in)
 
       pub ready : (i share : ℕ) → IsFirstUndone p st (count p) i → share ≡ min rest (dem i (row_at st i).job - (row_at st i).used)
           → CanRun st i share × ((row_at st i).used ≤ dem i (row_at st i).job) × (0 < rest → 0 < share)
-      ready i share u se = can-run heard balked p dem ask past adm within s0 to0 at.within to rest i share completed st pen w u se
+      ready i share u se = can-run heard balked p dem ask past adm within s0 to0 at.within to rest i share completed st trace w u se
 
-      pub turned : (next : L) (i share : ℕ) (whole now : Bool) (st' : StateOf) (pen' : Pen) → 0 < rest → IsFirstUndone p st (count p) i
+      pub turned : (next : L) (i share : ℕ) (whole now : Bool) (st' : StateOf) (trace' : Trace) → 0 < rest → IsFirstUndone p st (count p) i
           → share ≡ min rest (dem i (row_at st i).job - (row_at st i).used)
           → whole ≡ nat_eq share (dem i (row_at st i).job - (row_at st i).used)
           → now ≡ (completed || whole)
-          → HasHeard heard to (entering_notes p st from e (Held i (row_at st i).job) pen) next
+          → HasHeard heard to (entering_notes p st from e (Held i (row_at st i).job) trace) next
           → st' ≡ served st i share whole
-          → pen' ≡ entered p st e (Held i (row_at st i).job) share pen
-          → AtWork heard balked demand p dem t to0 next (rest - share) now st' pen'
-      turned next i share whole now st' pen' pos u se we ne =
-          subst (λ f. HasHeard heard to (entering_notes p st f e (Held i (row_at st i).job) pen) next → st' ≡ served st i share whole → pen' ≡ entered p st e (Held i (row_at st i).job) share pen → AtWork heard balked demand p dem t to0 next (rest - share) now st' pen') (sym at.from_is)
-          (subst (λ m. HasHeard heard to (entering_notes p st (length s0.past) m (Held i (row_at st i).job) pen) next → st' ≡ served st i share whole → pen' ≡ entered p st m (Held i (row_at st i).job) share pen → AtWork heard balked demand p dem t to0 next (rest - share) now st' pen') (sym at.entry_is)
+          → trace' ≡ entered p st e (Held i (row_at st i).job) share trace
+          → AtWork heard balked demand p dem t to0 next (rest - share) now st' trace'
+      turned next i share whole now st' trace' pos u se we ne =
+          subst (λ f. HasHeard heard to (entering_notes p st f e (Held i (row_at st i).job) trace) next → st' ≡ served st i share whole → trace' ≡ entered p st e (Held i (row_at st i).job) share trace → AtWork heard balked demand p dem t to0 next (rest - share) now st' trace') (sym at.from_is)
+          (subst (λ m. HasHeard heard to (entering_notes p st (length s0.past) m (Held i (row_at st i).job) trace) next → st' ≡ served st i share whole → trace' ≡ entered p st m (Held i (row_at st i).job) share trace → AtWork heard balked demand p dem t to0 next (rest - share) now st' trace') (sym at.entry_is)
           (λ tells sis pis. subst (λ q. AtWork heard balked demand p dem t to0 next (rest - share) now st' q) (sym pis)
-          (working-turn heard balked p dem ask past adm within s0 to0 to next rest i share completed whole now st st' pen w pos u se we ne tells sis)))
+          (working-turn heard balked p dem ask past adm within s0 to0 to next rest i share completed whole now st st' trace w pos u se we ne tells sis)))
 
       pub balked_at : (next : L) (i share : ℕ) → 0 < rest → IsFirstUndone p st (count p) i
           → share ≡ min rest (dem i (row_at st i).job - (row_at st i).used)
-          → HasBalked heard balked to (entering_notes p st from e (Held i (row_at st i).job) pen) next
-          → (a : L) → HasHeard heard a (open_notes p dem ask s0) to0 → HasBalked heard balked a (open_notes p dem ask (whole_span demand p dem t)) next
+          → HasBalked heard balked to (entering_notes p st from e (Held i (row_at st i).job) trace) next
+          → (a : L) → HasHeard heard a (owritten_notes p dem ask s0) to0 → HasBalked heard balked a (owritten_notes p dem ask (whole_span demand p dem t)) next
       balked_at next i share pos u se =
-          subst (λ f. HasBalked heard balked to (entering_notes p st f e (Held i (row_at st i).job) pen) next → (a : L) → HasHeard heard a (open_notes p dem ask s0) to0 → HasBalked heard balked a (open_notes p dem ask (whole_span demand p dem t)) next) (sym at.from_is)
-          (subst (λ m. HasBalked heard balked to (entering_notes p st (length s0.past) m (Held i (row_at st i).job) pen) next → (a : L) → HasHeard heard a (open_notes p dem ask s0) to0 → HasBalked heard balked a (open_notes p dem ask (whole_span demand p dem t)) next) (sym at.entry_is)
-          (λ balks. working-balk heard balked p dem ask past adm within s0 to0 to next rest i share completed (nat_eq share (dem i (row_at st i).job - (row_at st i).used)) st pen w pos u se refl balks))
+          subst (λ f. HasBalked heard balked to (entering_notes p st f e (Held i (row_at st i).job) trace) next → (a : L) → HasHeard heard a (owritten_notes p dem ask s0) to0 → HasBalked heard balked a (owritten_notes p dem ask (whole_span demand p dem t)) next) (sym at.from_is)
+          (subst (λ m. HasBalked heard balked to (entering_notes p st (length s0.past) m (Held i (row_at st i).job) trace) next → (a : L) → HasHeard heard a (owritten_notes p dem ask s0) to0 → HasBalked heard balked a (owritten_notes p dem ask (whole_span demand p dem t)) next) (sym at.entry_is)
+          (λ balks. working-balk heard balked p dem ask past adm within s0 to0 to next rest i share completed (nat_eq share (dem i (row_at st i).job - (row_at st i).used)) st trace w pos u se refl balks))
 
       pub idle_balked : (next : L) → 0 < rest → (rest ≡ 0) ⊎ ((k : ℕ) → k < count p → (row_at st k).done ≡ true)
-          → HasBalked heard balked to (entering_notes p st from e Nobody pen) next
-          → (a : L) → HasHeard heard a (open_notes p dem ask s0) to0 → HasBalked heard balked a (open_notes p dem ask (whole_span demand p dem t)) next
+          → HasBalked heard balked to (entering_notes p st from e Nobody trace) next
+          → (a : L) → HasHeard heard a (owritten_notes p dem ask s0) to0 → HasBalked heard balked a (owritten_notes p dem ask (whole_span demand p dem t)) next
       idle_balked next pos ends =
-          subst (λ f. HasBalked heard balked to (entering_notes p st f e Nobody pen) next → (a : L) → HasHeard heard a (open_notes p dem ask s0) to0 → HasBalked heard balked a (open_notes p dem ask (whole_span demand p dem t)) next) (sym at.from_is)
-          (subst (λ m. HasBalked heard balked to (entering_notes p st (length s0.past) m Nobody pen) next → (a : L) → HasHeard heard a (open_notes p dem ask s0) to0 → HasBalked heard balked a (open_notes p dem ask (whole_span demand p dem t)) next) (sym at.entry_is)
-          (working-idle-balk heard balked p dem ask past adm within s0 to0 to next rest completed st pen w pos ends))
+          subst (λ f. HasBalked heard balked to (entering_notes p st f e Nobody trace) next → (a : L) → HasHeard heard a (owritten_notes p dem ask s0) to0 → HasBalked heard balked a (owritten_notes p dem ask (whole_span demand p dem t)) next) (sym at.from_is)
+          (subst (λ m. HasBalked heard balked to (entering_notes p st (length s0.past) m Nobody trace) next → (a : L) → HasHeard heard a (owritten_notes p dem ask s0) to0 → HasBalked heard balked a (owritten_notes p dem ask (whole_span demand p dem t)) next) (sym at.entry_is)
+          (working-idle-balk heard balked p dem ask past adm within s0 to0 to next rest completed st trace w pos ends))
 
-      abbrev pub HasIdled : L → Pen → Type 0
-      HasIdled next pen' = Idled heard balked p dem ask past adm within s0 to0 next w.given rest pen'
+      abbrev pub HasIdled : L → Trace → Type 0
+      HasIdled next trace' = Idled heard balked p dem ask past adm within s0 to0 next w.given rest trace'
 
-      pub idled : (next : L) (pen' : Pen) → 0 < rest → HasHeard heard to (entering_notes p st from e Nobody pen) next → pen' ≡ entered p st e Nobody rest pen → HasIdled next pen'
-      idled next pen' pos =
-          subst (λ f. HasHeard heard to (entering_notes p st f e Nobody pen) next → pen' ≡ entered p st e Nobody rest pen → HasIdled next pen') (sym at.from_is)
-          (subst (λ m. HasHeard heard to (entering_notes p st (length s0.past) m Nobody pen) next → pen' ≡ entered p st m Nobody rest pen → HasIdled next pen') (sym at.entry_is)
-          (λ tells pis. subst (λ q. HasIdled next q) (sym pis) (working-idle heard balked p dem ask past adm within s0 to0 to next rest completed st pen w pos tells)))
+      pub idled : (next : L) (trace' : Trace) → 0 < rest → HasHeard heard to (entering_notes p st from e Nobody trace) next → trace' ≡ entered p st e Nobody rest trace → HasIdled next trace'
+      idled next trace' pos =
+          subst (λ f. HasHeard heard to (entering_notes p st f e Nobody trace) next → trace' ≡ entered p st e Nobody rest trace → HasIdled next trace') (sym at.from_is)
+          (subst (λ m. HasHeard heard to (entering_notes p st (length s0.past) m Nobody trace) next → trace' ≡ entered p st m Nobody rest trace → HasIdled next trace') (sym at.entry_is)
+          (λ tells pis. subst (λ q. HasIdled next q) (sym pis) (working-idle heard balked p dem ask past adm within s0 to0 to next rest completed st trace w pos tells)))
 
-      pub full : rest ≡ 0 → HasIdled to pen
-      full z = working-full heard balked p dem ask past adm within s0 to0 to rest completed st pen w z
+      pub full : rest ≡ 0 → HasIdled to trace
+      full z = working-full heard balked p dem ask past adm within s0 to0 to rest completed st trace w z
 
-      pub finished : (next : L) (pen' : Pen) (st' : StateOf) → (rest ≡ 0) ⊎ ((k : ℕ) → k < count p → (row_at st k).done ≡ true) → HasIdled next pen' → st' ≡ after_advance st (t + 1)
-          → HasWorked demand p dem t st' pen' completed × ((a : L) → HasHeard heard a (open_notes p dem ask s0) to0 → HasHeard heard a (open_notes p dem ask (whole_span demand p dem t)) next)
-      finished next pen' st' ends d is =
-          let h : Worked heard balked p dem ask past adm within s0 to0 next completed (after_advance st (length past + 1)) pen' =
-          working-done heard balked p dem ask past adm within s0 to0 to next rest completed st pen pen' w at.within.none ends d in
+      pub finished : (next : L) (trace' : Trace) (st' : StateOf) → (rest ≡ 0) ⊎ ((k : ℕ) → k < count p → (row_at st k).done ≡ true) → HasIdled next trace' → st' ≡ after_advance st (t + 1)
+          → HasWorked demand p dem t st' trace' completed × ((a : L) → HasHeard heard a (owritten_notes p dem ask s0) to0 → HasHeard heard a (owritten_notes p dem ask (whole_span demand p dem t)) next)
+      finished next trace' st' ends d is =
+          let h : Worked heard balked p dem ask past adm within s0 to0 next completed (after_advance st (length past + 1)) trace' =
+          working-done heard balked p dem ask past adm within s0 to0 to next rest completed st trace trace' w at.within.none ends d in
           let later : tick_at demand p dem t ∷ past ≡ course demand p dem (t + 1) = sym (course-next p dem ask t) in (
             record {
               state = is ∙ (ap (λ n. after_advance st (n + 1)) (sym course-long) ∙ (h.state ∙ ap (λ ps. prior_state p dem ps) later));
-              pen_is = subst (λ (ps : List Tick). Writing p dem ask t (whole_span demand p dem t) (λ i. exec p ps i (latest p i t)) (1000000 * (t + 1)) pen') later
-                  (subst (λ n. Writing p dem ask n (whole_span demand p dem t) (λ i. exec p (tick_at demand p dem t ∷ past) i (latest p i n)) (1000000 * (n + 1)) pen') course-long h.pen_is);
+              writing = subst (λ (ps : List Tick). Writing p dem ask t (whole_span demand p dem t) (λ i. exec p ps i (latest p i t)) (1000000 * (t + 1)) trace') later
+                  (subst (λ n. Writing p dem ask n (whole_span demand p dem t) (λ i. exec p (tick_at demand p dem t ∷ past) i (latest p i n)) (1000000 * (n + 1)) trace') course-long h.writing);
               completes = h.completes;
             },
             h.told,

@@ -1,5 +1,5 @@
 -- The end of a span, as its function tells it.
-use Rattle.std.proofs.Common.{◌≡◌, ℕ, ◌+◌, ◌-◌, ◌<◌, ◌≤◌, ◌^◌, true, List, [], ◌∷◌, ◌++◌, length, refl, arith, ap, ◌∙◌, sym, subst, ◌⊎◌, inl, inr, ap₂, if◌then◌else◌}
+use Rattle.std.proofs.Common.{◌≡◌, ℕ, ◌+◌, ◌-◌, ◌<◌, ◌≤◌, ◌^◌, true, List, [], ◌∷◌, ◌++◌, length, refl, arith, ap, ◌∙◌, sym, subst, ◌⊎◌, inl, inr, if◌then◌else◌}
 use Rattle.std.proofs.lemmas.Bool.{cases_lt}
 use Rattle.std.specs.Prelude.{sum_by}
 use Rattle.std.proofs.lemmas.List.Sums.{sum_by-append, sum_by-cons}
@@ -12,16 +12,17 @@ use Rattle.sched_model.specs.Decision.{is_decision}
 use Rattle.sched_model.specs.Schedule.{schedule_by}
 use Rattle.sched_model.specs.Notes.{notes_before_end, notes_of, energy_run, energy_idle}
 use Rattle.sched_model.specs.States.{prior_state, StateOf}
-use Rattle.event_kernel.specs.declared.pen.Pen.{Pen}
-use Rattle.event_kernel.specs.declared.pen.Counts.{Counts}
-use Rattle.event_kernel.specs.Counts.{counts_of}
+use Rattle.event_kernel.specs.declared.trace.Trace.{Trace}
+use Rattle.event_kernel.specs.declared.sums.Sums.{Sums}
+use Rattle.event_kernel.specs.Sums.{sums_of}
+use Rattle.event_kernel.proofs.Summing.{sums-same}
 use Rattle.dvs_base.specs.declared.note.Totals.{Totals}
 use Rattle.sched_model.specs.Totals.{totals_of, is_released, is_finished, is_decided}
 use Rattle.event_kernel.specs.Heard.{HasHeard, HasBalked}
 use Rattle.governor.specs.Schedule.{ask_of, course}
-use Rattle.event_kernel.specs.Pens.{CanTell}
+use Rattle.event_kernel.specs.Segment.{CanTell}
 use Rattle.event_kernel.specs.Tickwork.{whole_span}
-use Rattle.event_kernel.specs.Boundary.{ended_pen, ended_notes, IsBetween}
+use Rattle.event_kernel.specs.Boundary.{ended_trace, ended_notes, IsBetween}
 use Rattle.event_kernel.specs.Walking.{HasWalked, told_before, told_in, told_after}
 use Rattle.event_kernel.proofs.Hearing.{Begins, begins-self, begins-trans, heard-append, balked-append, balked-begins, balked_after}
 use Rattle.event_kernel.proofs.Spanning.{open-new, closing-notes, closing-can, closing-between}
@@ -46,7 +47,7 @@ before-begins demand p dem ticks t le decision = go (cases_lt t ticks)
         balked : ℕ → Note → ℕ → Type 0
         balked a n b = Unit {0}
 
-module _ {demand : Plan → StateOf → Frac} {p : Plan} {dem : ℕ → ℕ → ℕ} {ticks : ℕ} (adm : Bounds p) (low_ticks : ticks ≤ 2 ^ 40) {t0 e : ℕ} {s : StateOf} {pen : Pen} (h : HasWalked demand p dem ticks t0 (s.now - 1) e s pen) where
+module _ {demand : Plan → StateOf → Frac} {p : Plan} {dem : ℕ → ℕ → ℕ} {ticks : ℕ} (adm : Bounds p) (low_ticks : ticks ≤ 2 ^ 40) {t0 e : ℕ} {s : StateOf} {trace : Trace} (h : HasWalked demand p dem ticks t0 (s.now - 1) e s trace) where
   early : s.now - 1 < 2 ^ 40
   early = omega (arith, h.before_end, low_ticks)
 
@@ -56,14 +57,14 @@ module _ {demand : Plan → StateOf → Frac} {p : Plan} {dem : ℕ → ℕ → 
   next : s.now - 1 + 1 ≡ s.now
   next = sym h.now
 
-  pub close-can : e < length p.machine.points → CanTell p s t0 e pen
-  close-can entry = closing-can demand p dem adm ticks t0 (s.now - 1) e s pen h early from_is entry
+  pub close-can : e < length p.machine.points → CanTell p s t0 e trace
+  close-can entry = closing-can demand p dem adm ticks t0 (s.now - 1) e s trace h early from_is entry
 
-  notes : told_before demand p dem s.now ≡ told_after demand p dem (s.now - 1) ++ ended_notes p s t0 e pen
-  notes = ap (told_before demand p dem) (sym next) ∙ closing-notes demand p dem adm ticks t0 (s.now - 1) e s pen h early from_is
+  notes : told_before demand p dem s.now ≡ told_after demand p dem (s.now - 1) ++ ended_notes p s t0 e trace
+  notes = ap (told_before demand p dem) (sym next) ∙ closing-notes demand p dem adm ticks t0 (s.now - 1) e s trace h early from_is
 
-  pub close-between : (pen' : Pen) → pen' ≡ ended_pen p s e pen → IsBetween demand p dem ticks s.now s pen'
-  close-between pen' pe = subst (λ n. IsBetween demand p dem ticks n s pen') next (closing-between demand p dem adm ticks t0 (s.now - 1) e s pen h early from_is pen' pe)
+  pub close-between : (trace' : Trace) → trace' ≡ ended_trace p s e trace → IsBetween demand p dem ticks s.now s trace'
+  close-between trace' pe = subst (λ n. IsBetween demand p dem ticks n s trace') next (closing-between demand p dem adm ticks t0 (s.now - 1) e s trace h early from_is trace' pe)
 
   pub close-later : t0 < s.now
   close-later = omega (arith, h.later, h.now)
@@ -71,41 +72,35 @@ module _ {demand : Plan → StateOf → Frac} {p : Plan} {dem : ℕ → ℕ → 
   pub close-limit : s.now ≤ ticks
   close-limit = omega (arith, h.before_end, h.now)
 
-  pub close-heard : {L : Type 0} (heard balked : L → Note → L → Type 0) (a mid to : L) → HasHeard heard a (told_after demand p dem (s.now - 1)) mid → HasHeard heard mid (ended_notes p s t0 e pen) to → HasHeard heard a (told_before demand p dem s.now) to
-  close-heard heard balked a mid to x y = subst (λ ns. HasHeard heard a ns to) (sym notes) (heard-append heard balked (told_after demand p dem (s.now - 1)) (ended_notes p s t0 e pen) a mid to x y)
+  pub close-heard : {L : Type 0} (heard balked : L → Note → L → Type 0) (a mid to : L) → HasHeard heard a (told_after demand p dem (s.now - 1)) mid → HasHeard heard mid (ended_notes p s t0 e trace) to → HasHeard heard a (told_before demand p dem s.now) to
+  close-heard heard balked a mid to x y = subst (λ ns. HasHeard heard a ns to) (sym notes) (heard-append heard balked (told_after demand p dem (s.now - 1)) (ended_notes p s t0 e trace) a mid to x y)
 
-  pub close-balked : {L : Type 0} (heard balked : L → Note → L → Type 0) (a mid to : L) → HasHeard heard a (told_after demand p dem (s.now - 1)) mid → HasBalked heard balked mid (ended_notes p s t0 e pen) to → HasBalked heard balked a (told_before demand p dem ticks) to
+  pub close-balked : {L : Type 0} (heard balked : L → Note → L → Type 0) (a mid to : L) → HasHeard heard a (told_after demand p dem (s.now - 1)) mid → HasBalked heard balked mid (ended_notes p s t0 e trace) to → HasBalked heard balked a (told_before demand p dem ticks) to
   close-balked heard balked a mid to x y =
       balked-begins heard balked (told_before demand p dem s.now) (told_before demand p dem ticks) a to
       (before-begins demand p dem ticks s.now close-limit (λ lt. subst (λ n. is_decision p dem (course demand p dem n) ≡ true) next (h.decision (omega (arith, lt, next)))))
-      (subst (λ ns. HasBalked heard balked a ns to) (sym notes) (balked_after heard balked (told_after demand p dem (s.now - 1)) (ended_notes p s t0 e pen) a mid to x y))
+      (subst (λ ns. HasBalked heard balked a ns to) (sym notes) (balked_after heard balked (told_after demand p dem (s.now - 1)) (ended_notes p s t0 e trace) a mid to x y))
 
-abbrev pub totals_by : ℕ → ℕ → ℕ → ℕ → ℕ → Totals
-totals_by a b c d e = record { run = a; idle = b; released = c; finished = d; decisions = e }
-
-totals-same : (a a' b b' c c' d d' e e' : ℕ) → a ≡ a' → b ≡ b' → c ≡ c' → d ≡ d' → e ≡ e' → totals_by a b c d e ≡ totals_by a' b' c' d' e'
-totals-same a a' b b' c c' d d' e e' p q r s t =
-    ap₂ (λ x y. totals_by x y c d e) p q ∙ (ap₂ (λ x y. totals_by a' b' x y e) r s ∙ ap (λ x. totals_by a' b' c' d' x) t)
+abbrev pub totals_by : Sums → Totals
+totals_by s = record { run = s.run; idle = s.idle; released = s.released; finished = s.finished; decisions = s.decisions }
 
 -- all notes of a schedule
 module _ {L : Type 0} (heard balked : L → Note → L → Type 0) (demand : Plan → StateOf → Frac) (p : Plan) (dem : ℕ → ℕ → ℕ) (ticks : ℕ) where
   abbrev pub all_notes : List Note
   all_notes = notes_of p dem (ask_of demand p dem) (course demand p dem ticks)
 
-  pub first-between : (s : StateOf) (pen : Pen) → s ≡ prior_state p dem [] → pen.run ≡ 0 → pen.idle ≡ 0 → pen.counts ≡ record { released = 0; finished = 0; decisions = 0 } → IsBetween demand p dem ticks s.now s pen × (s.now ≡ 0)
+  pub first-between : (s : StateOf) (trace : Trace) → s ≡ prior_state p dem [] → trace.sums ≡ sums_of [] → IsBetween demand p dem ticks s.now s trace × (s.now ≡ 0)
   unfolding schedule_by notes_before_end
-  first-between s pen e r i c =
+  first-between s trace e c =
       let now : s.now ≡ 0 = ap (λ (v : StateOf). v.now) e in (
-        subst (λ n. IsBetween demand p dem ticks n s pen) (sym now) (record {
+        subst (λ n. IsBetween demand p dem ticks n s trace) (sym now) (record {
           state = e;
           decision = λ lt. refl;
-          money = omega (arith, r, i);
-          run = r;
-          idle = i;
-          counts = c;
-          few_released = omega (arith, ap (λ (x : Counts). x.released) c);
-          few_finished = omega (arith, ap (λ (x : Counts). x.finished) c);
-          few_decisions = omega (arith, ap (λ (x : Counts). x.decisions) c);
+          money = omega (arith, ap (λ (x : Sums). x.run) c, ap (λ (x : Sums). x.idle) c);
+          sums = c;
+          few_released = omega (arith, ap (λ (x : Sums). x.released) c);
+          few_finished = omega (arith, ap (λ (x : Sums). x.finished) c);
+          few_decisions = omega (arith, ap (λ (x : Sums). x.decisions) c);
         }),
         now,
       )
@@ -122,15 +117,15 @@ module _ {L : Type 0} (heard balked : L → Note → L → Type 0) (demand : Pla
       ∙ (ap (λ n. told_before demand p dem n ++ End ticks (sum_by energy_run (told_before demand p dem n)) (sum_by energy_idle (told_before demand p dem n)) ∷ []) e
       ∙ ap (λ n. told_before demand p dem ticks ++ End n (sum_by energy_run (told_before demand p dem ticks)) (sum_by energy_idle (told_before demand p dem ticks)) ∷ []) (sym (course-len demand p dem ticks))))
 
-  pub end-heard : (t : ℕ) (s : StateOf) (pen : Pen) (a mid to : L) → IsBetween demand p dem ticks t s pen → t ≡ ticks → HasHeard heard a (told_before demand p dem t) mid → heard mid (End ticks pen.run pen.idle) to → HasHeard heard a all_notes to
-  end-heard t s pen a mid to b e h x =
-      subst (λ ns. HasHeard heard a ns to) (end-is t pen.run pen.idle e b.run b.idle)
-      (heard-append heard balked (told_before demand p dem t) (End ticks pen.run pen.idle ∷ []) a mid to h (to, x, refl))
+  pub end-heard : (t : ℕ) (s : StateOf) (trace : Trace) (a mid to : L) → IsBetween demand p dem ticks t s trace → t ≡ ticks → HasHeard heard a (told_before demand p dem t) mid → heard mid (End ticks trace.sums.run trace.sums.idle) to → HasHeard heard a all_notes to
+  end-heard t s trace a mid to b e h x =
+      subst (λ ns. HasHeard heard a ns to) (end-is t trace.sums.run trace.sums.idle e (ap (λ (x : Sums). x.run) b.sums) (ap (λ (x : Sums). x.idle) b.sums))
+      (heard-append heard balked (told_before demand p dem t) (End ticks trace.sums.run trace.sums.idle ∷ []) a mid to h (to, x, refl))
 
-  pub end-balked : (t : ℕ) (s : StateOf) (pen : Pen) (a mid to : L) → IsBetween demand p dem ticks t s pen → t ≡ ticks → HasHeard heard a (told_before demand p dem t) mid → balked mid (End ticks pen.run pen.idle) to → HasBalked heard balked a all_notes to
-  end-balked t s pen a mid to b e h x =
-      subst (λ ns. HasBalked heard balked a ns to) (end-is t pen.run pen.idle e b.run b.idle)
-      (balked_after heard balked (told_before demand p dem t) (End ticks pen.run pen.idle ∷ []) a mid to h (inl x))
+  pub end-balked : (t : ℕ) (s : StateOf) (trace : Trace) (a mid to : L) → IsBetween demand p dem ticks t s trace → t ≡ ticks → HasHeard heard a (told_before demand p dem t) mid → balked mid (End ticks trace.sums.run trace.sums.idle) to → HasBalked heard balked a all_notes to
+  end-balked t s trace a mid to b e h x =
+      subst (λ ns. HasBalked heard balked a ns to) (end-is t trace.sums.run trace.sums.idle e (ap (λ (x : Sums). x.run) b.sums) (ap (λ (x : Sums). x.idle) b.sums))
+      (balked_after heard balked (told_before demand p dem t) (End ticks trace.sums.run trace.sums.idle ∷ []) a mid to h (inl x))
 
   pub before-balked : (a to : L) → HasBalked heard balked a (told_before demand p dem ticks) to → HasBalked heard balked a all_notes to
   before-balked a to b =
@@ -148,14 +143,8 @@ module _ {L : Type 0} (heard balked : L → Note → L → Type 0) (demand : Pla
       one : sum_by f (last_note ∷ []) ≡ 0
       one = omega (arith, sum_by-cons f last_note [], none)
 
-  pub end-totals : (t : ℕ) (s : StateOf) (pen : Pen) → IsBetween demand p dem ticks t s pen → t ≡ ticks
-      → totals_by pen.run pen.idle pen.counts.released pen.counts.finished pen.counts.decisions ≡ totals_of all_notes
-  end-totals t s pen b e =
-      let told : told_before demand p dem t ≡ told_before demand p dem ticks = ap (told_before demand p dem) e in
-      let counts : pen.counts ≡ counts_of (told_before demand p dem ticks) = b.counts ∙ ap counts_of told in
-      totals-same _ _ _ _ _ _ _ _ _ _
-      (b.run ∙ (ap (sum_by energy_run) told ∙ sum-end energy_run refl))
-      (b.idle ∙ (ap (sum_by energy_idle) told ∙ sum-end energy_idle refl))
-      (ap (λ (c : Counts). c.released) counts ∙ sum-end (λ n. if is_released n then 1 else 0) refl)
-      (ap (λ (c : Counts). c.finished) counts ∙ sum-end (λ n. if is_finished n then 1 else 0) refl)
-      (ap (λ (c : Counts). c.decisions) counts ∙ sum-end (λ n. if is_decided n then 1 else 0) refl)
+  pub end-totals : (t : ℕ) (s : StateOf) (trace : Trace) → IsBetween demand p dem ticks t s trace → t ≡ ticks → totals_by trace.sums ≡ totals_of all_notes
+  end-totals t s trace b e =
+      ap totals_by (b.sums ∙ ap (λ n. sums_of (told_before demand p dem n)) e)
+      ∙ ap totals_by (sums-same _ _ _ _ _ _ _ _ _ _ (sum-end energy_run refl) (sum-end energy_idle refl)
+      (sum-end (λ n. if is_released n then 1 else 0) refl) (sum-end (λ n. if is_finished n then 1 else 0) refl) (sum-end (λ n. if is_decided n then 1 else 0) refl))

@@ -1,6 +1,6 @@
 pub mod Bounds
 pub mod Pieces
-pub mod Tallying
+pub mod Summing
 pub mod Entering
 pub mod Handing
 pub mod Ending

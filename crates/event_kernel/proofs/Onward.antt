@@ -10,10 +10,10 @@ use Rattle.sched_model.specs.Segments.{units_of}
 use Rattle.sched_model.specs.Notes.{all_release_notes}
 use Rattle.sched_model.specs.States.{prior_row, StateOf, state_of}
 use Rattle.sched_model.proofs.ScheduleLemmas.{length-list_below}
-use Rattle.event_kernel.specs.declared.pen.Pen.{Pen}
+use Rattle.event_kernel.specs.declared.trace.Trace.{Trace}
 use Rattle.event_kernel.specs.Heard.{HasHeard, HasBalked}
 use Rattle.governor.specs.Schedule.{ask_of, course}
-use Rattle.event_kernel.specs.Pens.{open_notes}
+use Rattle.event_kernel.specs.Segment.{owritten_notes}
 use Rattle.event_kernel.specs.Tickwork.{span_at, tick_at, HasWorked}
 use Rattle.event_kernel.specs.Boundary.{some_due, speed_note}
 use Rattle.event_kernel.specs.Walking.{IsInSpan, HasWalked, told_before, told_in, told_after}
@@ -76,7 +76,7 @@ module _ {L : Type 0} (heard balked : L → Note → L → Type 0) (demand : Pla
   pub tick-balked : (t : ℕ) (a to : L) → t < ticks → HasBalked heard balked a (told_after demand p dem t) to → HasBalked heard balked a (told_before demand p dem ticks) to
   tick-balked t a to lt b = balked-begins heard balked (told_after demand p dem t) (told_before demand p dem ticks) a to (whole-begins demand p dem t ticks lt) b
 
-module _ {demand : Plan → StateOf → Frac} {p : Plan} {dem : ℕ → ℕ → ℕ} {ticks : ℕ} (adm : Bounds p) (low_ticks : ticks ≤ 2 ^ 40) {t0 t e : ℕ} {s0 s : StateOf} {pen0 pen : Pen} {completed : Bool} (i : IsInSpan demand p dem ticks t0 t e s0 pen0) (h : HasWorked demand p dem t s pen completed) where
+module _ {demand : Plan → StateOf → Frac} {p : Plan} {dem : ℕ → ℕ → ℕ} {ticks : ℕ} (adm : Bounds p) (low_ticks : ticks ≤ 2 ^ 40) {t0 t e : ℕ} {s0 s : StateOf} {trace0 trace : Trace} {completed : Bool} (i : IsInSpan demand p dem ticks t0 t e s0 trace0) (h : HasWorked demand p dem t s trace completed) where
   pub now-next : s.now ≡ t + 1
   now-next = ap (λ (v : StateOf). v.now) h.state ∙ course-len demand p dem (t + 1)
 
@@ -86,10 +86,10 @@ module _ {demand : Plan → StateOf → Frac} {p : Plan} {dem : ℕ → ℕ → 
   last-is : t ≡ s.now - 1
   last-is = omega (arith, now-next)
 
-  pub walked-end : (completed || (nat_eq s.now ticks || some_due p s)) ≡ true → HasWalked demand p dem ticks t0 (s.now - 1) e s pen
+  pub walked-end : (completed || (nat_eq s.now ticks || some_due p s)) ≡ true → HasWalked demand p dem ticks t0 (s.now - 1) e s trace
   walked-end ends =
-      subst (λ n. HasWalked demand p dem ticks t0 n e s pen) last-is
-      (ends-span demand p dem adm ticks t0 t e s0 s pen0 pen completed i h (go (or-cases completed (nat_eq s.now ticks) (some_due p s) ends)))
+      subst (λ n. HasWalked demand p dem ticks t0 n e s trace) last-is
+      (ends-span demand p dem adm ticks t0 t e s0 s trace0 trace completed i h (go (or-cases completed (nat_eq s.now ticks) (some_due p s) ends)))
     where
       go : (completed ≡ true) ⊎ ((nat_eq s.now ticks ≡ true) ⊎ (some_due p s ≡ true)) → (completed ≡ true) ⊎ ((t + 1 ≡ ticks) ⊎ (some_due p s ≡ true))
       go (inl q) = inl q
@@ -100,13 +100,13 @@ module _ {demand : Plan → StateOf → Frac} {p : Plan} {dem : ℕ → ℕ → 
   heard-end heard a to g = subst (λ n. HasHeard heard a (told_after demand p dem n) to) last-is g
 
   pub walked-on : (completed || (nat_eq s.now ticks || some_due p s)) ≡ false
-      → IsInSpan demand p dem ticks t0 s.now e s pen × (told_after demand p dem t ≡ told_in demand p dem s.now)
+      → IsInSpan demand p dem ticks t0 s.now e s trace × (told_after demand p dem t ≡ told_in demand p dem s.now)
   walked-on ends =
       let none = none-of completed (nat_eq s.now ticks) (some_due p s) ends in
       let other : nat_eq s.now ticks ≡ false = none.1 in
       let differ : (s.now ≡ ticks) → ⊥ = grind (arith, nat_tests) in
       let lt : t + 1 < ticks = omega (arith, now-next, i.before_end, differ) in
-      let r = goes-on demand p dem adm ticks t0 t e s0 s pen0 pen i (subst (λ b. HasWorked demand p dem t s pen b) none.0 h) none.2 lt low_ticks in (
-        subst (λ n. IsInSpan demand p dem ticks t0 n e s pen) (sym now-next) r.0,
-        sym (ap (open_notes p dem (ask_of demand p dem)) r.1) ∙ ap (told_in demand p dem) (sym now-next),
+      let r = goes-on demand p dem adm ticks t0 t e s0 s trace0 trace i (subst (λ b. HasWorked demand p dem t s trace b) none.0 h) none.2 lt low_ticks in (
+        subst (λ n. IsInSpan demand p dem ticks t0 n e s trace) (sym now-next) r.0,
+        sym (ap (owritten_notes p dem (ask_of demand p dem)) r.1) ∙ ap (told_in demand p dem) (sym now-next),
       )

@@ -10,7 +10,7 @@ use Rattle.sched_model.specs.Ticks.{exec}
 use Rattle.sched_model.specs.Segments.{same_holder, Span, Piece, before_pieces, pieces_of, position_of, run_energy}
 use Rattle.sched_model.specs.Notes.{segment_notes, pieces_notes}
 use Rattle.sched_model.proofs.PieceLemmas.{piece, HaveUnits, same_holder-refl, with_unit, pieces_of-push}
-use Rattle.event_kernel.specs.Pens.{closed, last_of, grown}
+use Rattle.event_kernel.specs.Segment.{closed, last_of, grown}
 
 -- a list is empty, or has a last element
 pub split_last : (rs : List Piece) → (rs ≡ []) ⊎ ((done : List Piece) × (r : Piece) × (rs ≡ done ++ r ∷ []))

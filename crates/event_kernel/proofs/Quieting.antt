@@ -21,8 +21,8 @@ use Rattle.sched_model.proofs.GreedyLemmas.{handed_before}
 use Rattle.sched_model.proofs.JobLaws.{exec-legal}
 use Rattle.governor.specs.Schedule.{ask_of, course}
 use Rattle.governor.specs.Steps.{earliest_in, IsBeforeAll}
-use Rattle.event_kernel.specs.declared.pen.Pen.{Pen}
-use Rattle.event_kernel.specs.Pens.{CanTell, IsFirst, IsFirstUndone}
+use Rattle.event_kernel.specs.declared.trace.Trace.{Trace}
+use Rattle.event_kernel.specs.Segment.{CanTell, IsFirst, IsFirstUndone}
 use Rattle.event_kernel.specs.Tickwork.{tick_at, HasWorked}
 use Rattle.event_kernel.specs.Boundary.{some_due}
 use Rattle.event_kernel.specs.Walking.{run_on, gives, AreQuiet, IsInSpan, IsLastTick, HasWalked}
@@ -67,7 +67,7 @@ pub first-in : (p : Plan) (s : StateOf) (r : Option ℕ) → length s.rows ≡ c
 first-in p s None long is = tt
 first-in p s (Some i) long is = omega (arith, is.below, long)
 
-module _ {demand : Plan → StateOf → Frac} {p : Plan} {dem : ℕ → ℕ → ℕ} {ticks : ℕ} (adm : Bounds p) (low_ticks : ticks ≤ 2 ^ 40) {t0 e : ℕ} {st : StateOf} {pen : Pen} (here : IsInSpan demand p dem ticks t0 st.now e st pen) where
+module _ {demand : Plan → StateOf → Frac} {p : Plan} {dem : ℕ → ℕ → ℕ} {ticks : ℕ} (adm : Bounds p) (low_ticks : ticks ≤ 2 ^ 40) {t0 e : ℕ} {st : StateOf} {trace : Trace} (here : IsInSpan demand p dem ticks t0 st.now e st trace) where
   abbrev f : ℕ
   f = (point p e).speed
 
@@ -77,7 +77,7 @@ module _ {demand : Plan → StateOf → Frac} {p : Plan} {dem : ℕ → ℕ → 
   pub some-speed : 0 < f
   some-speed = adm.some_speed e entry-in
 
-  w0 : AtWork silent silent demand p dem st.now 0 0 f false st pen
+  w0 : AtWork silent silent demand p dem st.now 0 0 f false st trace
   w0 = begin adm here.work f refl
 
   pub of-plan : IsOfPlan p st
@@ -94,14 +94,14 @@ module _ {demand : Plan → StateOf → Frac} {p : Plan} {dem : ℕ → ℕ → 
       let late : st.now + 1 ≤ earliest_in p st = least-above (count p) (λ i. (row_at st i).deadline) (st.now + 1) adm.some_task (λ i l. (let b = before i l in omega (arith, b))) in
       omega (arith, late, here.before_end)
 
-  pub can-tell : CanTell p st t0 e pen
+  pub can-tell : CanTell p st t0 e trace
   can-tell = can adm here.work w0
 
-  pub fit : {first : Option ℕ} {n : ℕ} → AreQuiet p dem ticks e st first n → (n * f < 2 ^ 63) × (pen.units + n * f < 2 ^ 64)
+  pub fit : {first : Option ℕ} {n : ℕ} → AreQuiet p dem ticks e st first n → (n * f < 2 ^ 63) × (trace.segment.units + n * f < 2 ^ 64)
   fit {first} {n} quiet =
       let some : n * f ≤ n * 1000000 = mul-le-mul_left n (adm.low_speed e) in
       let lt = quiet.before_end in
-      (omega (arith, some, lt, low_ticks), omega (arith, some, lt, low_ticks, here.work.pen_is.place, here.work.pen_is.few))
+      (omega (arith, some, lt, low_ticks), omega (arith, some, lt, low_ticks, here.work.writing.place, here.work.writing.few))
 
   -- all ticks up to the next release or the end, but one
   abbrev most : ℕ
@@ -223,7 +223,7 @@ module _ {demand : Plan → StateOf → Frac} {p : Plan} {dem : ℕ → ℕ → 
       ))
 
 -- the span ends after that tick
-module _ {demand : Plan → StateOf → Frac} {p : Plan} {dem : ℕ → ℕ → ℕ} {ticks : ℕ} (adm : Bounds p) (low_ticks : ticks ≤ 2 ^ 40) {t0 e : ℕ} {s0 s : StateOf} {pen0 pen : Pen} {completed : Bool} (here : IsInSpan demand p dem ticks t0 s0.now e s0 pen0) (h : HasWorked demand p dem s0.now s pen completed) where
+module _ {demand : Plan → StateOf → Frac} {p : Plan} {dem : ℕ → ℕ → ℕ} {ticks : ℕ} (adm : Bounds p) (low_ticks : ticks ≤ 2 ^ 40) {t0 e : ℕ} {s0 s : StateOf} {trace0 trace : Trace} {completed : Bool} (here : IsInSpan demand p dem ticks t0 s0.now e s0 trace0) (h : HasWorked demand p dem s0.now s trace completed) where
   abbrev past : List Tick
   past = course demand p dem s0.now
 
@@ -285,8 +285,8 @@ module _ {demand : Plan → StateOf → Frac} {p : Plan} {dem : ℕ → ℕ → 
       whole-after : nat_le (dem i k) (exec p (x ∷ past) i k) ≡ true
       whole-after = grind (arith, nat_tests, whole)
 
-  pub last-ends : IsLastTick p dem ticks e s0 → HasWalked demand p dem ticks t0 s0.now e s pen
-  last-ends last = ends-span demand p dem adm ticks t0 s0.now e s0 s pen0 pen completed here h (go last)
+  pub last-ends : IsLastTick p dem ticks e s0 → HasWalked demand p dem ticks t0 s0.now e s trace
+  last-ends last = ends-span demand p dem adm ticks t0 s0.now e s0 s trace0 trace completed here h (go last)
     where
       go : IsLastTick p dem ticks e s0 → (completed ≡ true) ⊎ ((s0.now + 1 ≡ ticks) ⊎ (some_due p s ≡ true))
       go (inl q) = inr (inl (q))

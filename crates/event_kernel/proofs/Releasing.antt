@@ -19,9 +19,9 @@ use Rattle.sched_model.proofs.ScheduleLemmas.{length-list_below, schedule_exists
 use Rattle.sched_model.proofs.Tables.{get-table, table-same, set-table}
 use Rattle.sched_model.proofs.JobLaws.{latest-small}
 use Rattle.sched_model.proofs.Joining.{next_job, due_released, row-opened, row-kept, state-marked, state-unmarked}
-use Rattle.event_kernel.specs.declared.pen.Pen.{Pen}
-use Rattle.event_kernel.specs.Pens.{with_notes, HasRoom}
-use Rattle.event_kernel.proofs.Tallying.{with-append, with-none, few-released, few-finished}
+use Rattle.event_kernel.specs.declared.trace.Trace.{Trace}
+use Rattle.event_kernel.specs.Segment.{with_notes, HasRoom}
+use Rattle.event_kernel.proofs.Summing.{with-append, with-none, few-released, few-finished}
 use Rattle.event_kernel.specs.Heard.{HasHeard, HasBalked}
 use Rattle.governor.specs.Schedule.{ask_of, course}
 use Rattle.event_kernel.specs.Boundary.{opened_row, opened, opening_notes, IsAtBoundary}
@@ -123,11 +123,11 @@ module _ (p : Plan) (dem : ℕ → ℕ → ℕ) (past : List Tick) where
       ∙ (flat_map-append (release_notes p dem (length past)) (upto m) (m ∷ [])
       ∙ ap (λ ns. notes_upto m ++ ns) (append-nil (release_notes p dem (length past) m)))
 
-  pub start-pen : (pen : Pen) → pen ≡ with_notes pen (notes_upto 0)
-  start-pen pen = sym (with-none pen)
+  pub start-trace : (trace : Trace) → trace ≡ with_notes trace (notes_upto 0)
+  start-trace trace = sym (with-none trace)
 
-  pub has-room : (m : ℕ) (pen0 pen : Pen) → m ≤ 64 → HasRoom (2 ^ 62) pen0.counts → pen ≡ with_notes pen0 (notes_upto m) → HasRoom (2 ^ 63) pen.counts
-  has-room m pen0 pen le room is = subst (λ (q : Pen). HasRoom (2 ^ 63) q.counts) (sym is) (record {
+  pub has-room : (m : ℕ) (trace0 trace : Trace) → m ≤ 64 → HasRoom (2 ^ 62) trace0.sums → trace ≡ with_notes trace0 (notes_upto m) → HasRoom (2 ^ 63) trace.sums
+  has-room m trace0 trace le room is = subst (λ (q : Trace). HasRoom (2 ^ 63) q.sums) (sym is) (record {
     released = omega (arith, room.released, le, few-released p dem (length past) m);
     finished = omega (arith, room.finished, le, few-finished p dem (length past) m);
   })
@@ -195,13 +195,13 @@ module _ (p : Plan) (dem : ℕ → ℕ → ℕ) (past : List Tick) where
           here : mixed (m + 1) m ≡ opened_row p dem m (row_at (mixed_state m) m)
           here = mixed-done m ∙ (row-opened p dem periods past m due_there ∙ ap (λ (q : Row). opened_row p dem m q) (sym (get-table (count p) (mixed m) m no_row lt ∙ mixed-here m)))
 
-      pub opens-pen : (pen0 pen pen' : Pen) → pen ≡ with_notes pen0 (notes_upto m) → pen' ≡ with_notes pen (opening_notes dem st m) → pen' ≡ with_notes pen0 (notes_upto (m + 1))
-      opens-pen pen0 pen pen' a b =
+      pub opens-trace : (trace0 trace trace' : Trace) → trace ≡ with_notes trace0 (notes_upto m) → trace' ≡ with_notes trace (opening_notes dem st m) → trace' ≡ with_notes trace0 (notes_upto (m + 1))
+      opens-trace trace0 trace trace' a b =
           b
-          ∙ (ap (λ ns. with_notes pen ns) opening_are
+          ∙ (ap (λ ns. with_notes trace ns) opening_are
           ∙ (ap (λ q. with_notes q (release_notes p dem (length past) m)) a
-          ∙ (with-append pen0 (notes_upto m) (release_notes p dem (length past) m)
-          ∙ ap (λ ns. with_notes pen0 ns) (sym (notes-more m)))))
+          ∙ (with-append trace0 (notes_upto m) (release_notes p dem (length past) m)
+          ∙ ap (λ ns. with_notes trace0 ns) (sym (notes-more m)))))
 
       pub opens-balked : (to : L) → HasBalked heard balked mid (opening_notes dem st m) to → HasBalked heard balked from (all_release_notes p dem (length past)) to
       opens-balked to balks =

@@ -25,19 +25,19 @@ use Rattle.sched_model.proofs.ScheduleLemmas.{length-list_below}
 use Rattle.sched_model.proofs.NoteLemmas.{notes-span}
 use Rattle.sched_model.proofs.Joining.{due_released, same_job, state-still}
 use Rattle.grid_fraction.proofs.Searches.{any_below-false, any_below-same}
-use Rattle.event_kernel.specs.declared.pen.Pen.{Pen}
+use Rattle.event_kernel.specs.declared.trace.Trace.{Trace}
 use Rattle.governor.specs.Schedule.{ask_of, course}
-use Rattle.event_kernel.specs.Pens.{closed, last_of, grown, first_span, open_span, head_notes, open_notes, holder_notes, pen_notes, told_pen, run_part, idle_part, ended_part, CanTell, HeldIn}
-use Rattle.event_kernel.specs.Counts.{counts_of, counted}
-use Rattle.event_kernel.proofs.Tallying.{counts_by, counts-append, counted-append, counted-none, counted-holder, ended-most, few-released, few-finished, no-decided}
+use Rattle.event_kernel.specs.Segment.{closed, last_of, grown, first_span, open_span, head_notes, owritten_notes, holder_notes, written_notes, told_trace, CanTell, HeldIn}
+use Rattle.event_kernel.specs.Sums.{sums_of, added}
+use Rattle.event_kernel.proofs.Summing.{sums-append, added-append, added-none, added-holder, ended-most, few-released, few-finished, no-decided}
 use Rattle.event_kernel.specs.Writing.{HeldNow, Writing}
 use Rattle.event_kernel.specs.Tickwork.{had_at, span_at, tick_at, whole_span, HasWorked}
-use Rattle.event_kernel.specs.Boundary.{ended_pen, ended_notes, some_due, speed_note, IsAtBoundary, IsBetween}
+use Rattle.event_kernel.specs.Boundary.{ended_trace, ended_notes, some_due, speed_note, IsAtBoundary, IsBetween}
 use Rattle.event_kernel.specs.Walking.{IsInSpan, HasWalked}
 use Rattle.event_kernel.proofs.Hearing.{Begins, begins-self, begins-more, begins-trans}
 use Rattle.sched_model.proofs.PieceLemmas.{have_units, HaveUnits}
 use Rattle.event_kernel.proofs.Pieces.{split_last, closed-snoc, last-snoc, total, total-pieces, total-append, have-last, pieces_notes-append}
-use Rattle.event_kernel.proofs.Entering.{Shows, tells, notes-run, notes-idle, parts-most}
+use Rattle.event_kernel.proofs.Entering.{Shows, tells, parts-most}
 use Rattle.sched_model.proofs.ScheduleLemmas.{force-decided}
 use Rattle.event_kernel.proofs.Beginnings.{open-begins}
 use Rattle.event_kernel.proofs.Working.{course-next}
@@ -108,13 +108,13 @@ module _ (demand : Plan → StateOf → Frac) (p : Plan) (dem : ℕ → ℕ → 
   abbrev pub last_notes : Span → List Note
   last_notes s = if nat_lt 0 (last_of (pieces_of s.units)).units then segment_notes p dem s (length s.units - (last_of (pieces_of s.units)).units) (last_of (pieces_of s.units)).units (last_of (pieces_of s.units)).holder else []
 
-  pub whole-open : (s : Span) → whole_notes s ≡ open_notes p dem asks s ++ last_notes s
+  pub whole-open : (s : Span) → whole_notes s ≡ owritten_notes p dem asks s ++ last_notes s
   whole-open s = go (split_last (pieces_of s.units))
     where
       before : List Note
       before = notes_before_end p dem asks s.past ++ head_notes p dem asks s
 
-      go : (pieces_of s.units ≡ []) ⊎ ((done : List Piece) × (r : Piece) × (pieces_of s.units ≡ done ++ r ∷ [])) → whole_notes s ≡ open_notes p dem asks s ++ last_notes s
+      go : (pieces_of s.units ≡ []) ⊎ ((done : List Piece) × (r : Piece) × (pieces_of s.units ≡ done ++ r ∷ [])) → whole_notes s ≡ owritten_notes p dem asks s ++ last_notes s
       go (inl e) = rw e (sym (append-nil (before ++ [])))
       go (inr f) =
           let is_last : last_of (pieces_of s.units) ≡ f.1 = ap last_of f.2 ∙ last-snoc f.0 f.1 in
@@ -131,7 +131,7 @@ module _ (demand : Plan → StateOf → Frac) (p : Plan) (dem : ℕ → ℕ → 
           ∙ ap (λ (r : Piece). if nat_lt 0 r.units then segment_notes p dem s (length s.units - r.units) r.units r.holder else []) (sym is_last)))))
 
   -- what is told in a tick begins all notes
-  next-begins : (t : ℕ) → Begins (open_notes p dem asks (whole_span demand p dem t)) (open_notes p dem asks (whole_span demand p dem (t + 1)))
+  next-begins : (t : ℕ) → Begins (owritten_notes p dem asks (whole_span demand p dem t)) (owritten_notes p dem asks (whole_span demand p dem (t + 1)))
   next-begins t = go (is_decision p dem (course demand p dem (t + 1))) refl
     where
       s : Span
@@ -140,33 +140,33 @@ module _ (demand : Plan → StateOf → Frac) (p : Plan) (dem : ℕ → ℕ → 
       us : List Holder
       us = units_of p (course demand p dem (t + 1)) (tick_at demand p dem (t + 1))
 
-      go : (b : Bool) → is_decision p dem (course demand p dem (t + 1)) ≡ b → Begins (open_notes p dem asks (whole_span demand p dem t)) (open_notes p dem asks (grown s us))
-      go false e = subst (λ x. Begins (open_notes p dem asks x) (open_notes p dem asks (grown s us))) (span-on t e) (open-begins p dem asks s us)
+      go : (b : Bool) → is_decision p dem (course demand p dem (t + 1)) ≡ b → Begins (owritten_notes p dem asks (whole_span demand p dem t)) (owritten_notes p dem asks (grown s us))
+      go false e = subst (λ x. Begins (owritten_notes p dem asks x) (owritten_notes p dem asks (grown s us))) (span-on t e) (open-begins p dem asks s us)
       go true e =
           let fresh : Span = record { past = course demand p dem (t + 1); entry = entry_in_force p dem asks (course demand p dem (t + 1)); units = [] } in
-          let a : Begins (open_notes p dem asks (whole_span demand p dem t)) (notes_before_end p dem asks (course demand p dem (t + 1))) =
+          let a : Begins (owritten_notes p dem asks (whole_span demand p dem t)) (notes_before_end p dem asks (course demand p dem (t + 1))) =
           record { rest = last_notes (whole_span demand p dem t); whole = notes-whole t ∙ whole-open (whole_span demand p dem t) } in
-          let b : Begins (notes_before_end p dem asks (course demand p dem (t + 1))) (open_notes p dem asks fresh) =
-          begins-trans (notes_before_end p dem asks (course demand p dem (t + 1))) (notes_before_end p dem asks (course demand p dem (t + 1)) ++ head_notes p dem asks fresh) (open_notes p dem asks fresh)
+          let b : Begins (notes_before_end p dem asks (course demand p dem (t + 1))) (owritten_notes p dem asks fresh) =
+          begins-trans (notes_before_end p dem asks (course demand p dem (t + 1))) (notes_before_end p dem asks (course demand p dem (t + 1)) ++ head_notes p dem asks fresh) (owritten_notes p dem asks fresh)
           (begins-more (notes_before_end p dem asks (course demand p dem (t + 1))) (head_notes p dem asks fresh))
           (begins-more (notes_before_end p dem asks (course demand p dem (t + 1)) ++ head_notes p dem asks fresh) []) in
-          let c : Begins (open_notes p dem asks fresh) (open_notes p dem asks (grown s us)) =
-          subst (λ x. Begins (open_notes p dem asks x) (open_notes p dem asks (grown s us))) (span-new (t + 1) e) (open-begins p dem asks s us) in
-          begins-trans (open_notes p dem asks (whole_span demand p dem t)) (notes_before_end p dem asks (course demand p dem (t + 1))) (open_notes p dem asks (grown s us)) a
-          (begins-trans (notes_before_end p dem asks (course demand p dem (t + 1))) (open_notes p dem asks fresh) (open_notes p dem asks (grown s us)) b c)
+          let c : Begins (owritten_notes p dem asks fresh) (owritten_notes p dem asks (grown s us)) =
+          subst (λ x. Begins (owritten_notes p dem asks x) (owritten_notes p dem asks (grown s us))) (span-new (t + 1) e) (open-begins p dem asks s us) in
+          begins-trans (owritten_notes p dem asks (whole_span demand p dem t)) (notes_before_end p dem asks (course demand p dem (t + 1))) (owritten_notes p dem asks (grown s us)) a
+          (begins-trans (notes_before_end p dem asks (course demand p dem (t + 1))) (owritten_notes p dem asks fresh) (owritten_notes p dem asks (grown s us)) b c)
 
-  later-begins : (t n : ℕ) → Begins (open_notes p dem asks (whole_span demand p dem t)) (open_notes p dem asks (whole_span demand p dem (t + n)))
-  later-begins t zero = let e : t ≡ t + 0 = omega arith in subst (λ m. Begins (open_notes p dem asks (whole_span demand p dem t)) (open_notes p dem asks (whole_span demand p dem m))) e (begins-self (open_notes p dem asks (whole_span demand p dem t)))
+  later-begins : (t n : ℕ) → Begins (owritten_notes p dem asks (whole_span demand p dem t)) (owritten_notes p dem asks (whole_span demand p dem (t + n)))
+  later-begins t zero = let e : t ≡ t + 0 = omega arith in subst (λ m. Begins (owritten_notes p dem asks (whole_span demand p dem t)) (owritten_notes p dem asks (whole_span demand p dem m))) e (begins-self (owritten_notes p dem asks (whole_span demand p dem t)))
   later-begins t (suc n) =
       let e : t + n + 1 ≡ t + suc n = omega arith in
-      subst (λ m. Begins (open_notes p dem asks (whole_span demand p dem t)) (open_notes p dem asks (whole_span demand p dem m))) e
-      (begins-trans (open_notes p dem asks (whole_span demand p dem t)) (open_notes p dem asks (whole_span demand p dem (t + n))) (open_notes p dem asks (whole_span demand p dem (t + n + 1))) (later-begins t n) (next-begins (t + n)))
+      subst (λ m. Begins (owritten_notes p dem asks (whole_span demand p dem t)) (owritten_notes p dem asks (whole_span demand p dem m))) e
+      (begins-trans (owritten_notes p dem asks (whole_span demand p dem t)) (owritten_notes p dem asks (whole_span demand p dem (t + n))) (owritten_notes p dem asks (whole_span demand p dem (t + n + 1))) (later-begins t n) (next-begins (t + n)))
 
-  pub whole-begins : (t ticks : ℕ) → t < ticks → Begins (open_notes p dem asks (whole_span demand p dem t)) (notes_before_end p dem asks (course demand p dem ticks))
+  pub whole-begins : (t ticks : ℕ) → t < ticks → Begins (owritten_notes p dem asks (whole_span demand p dem t)) (notes_before_end p dem asks (course demand p dem ticks))
   whole-begins t ticks lt =
       let e : t + (ticks - t - 1) + 1 ≡ ticks = omega arith in
-      subst (λ m. Begins (open_notes p dem asks (whole_span demand p dem t)) (notes_before_end p dem asks (course demand p dem m))) e
-      (begins-trans (open_notes p dem asks (whole_span demand p dem t)) (open_notes p dem asks (whole_span demand p dem (t + (ticks - t - 1)))) (notes_before_end p dem asks (course demand p dem (t + (ticks - t - 1) + 1)))
+      subst (λ m. Begins (owritten_notes p dem asks (whole_span demand p dem t)) (notes_before_end p dem asks (course demand p dem m))) e
+      (begins-trans (owritten_notes p dem asks (whole_span demand p dem t)) (owritten_notes p dem asks (whole_span demand p dem (t + (ticks - t - 1)))) (notes_before_end p dem asks (course demand p dem (t + (ticks - t - 1) + 1)))
       (later-begins t (ticks - t - 1))
       (record { rest = last_notes (whole_span demand p dem (t + (ticks - t - 1))); whole = notes-whole (t + (ticks - t - 1)) ∙ whole-open (whole_span demand p dem (t + (ticks - t - 1))) }))
 
@@ -182,8 +182,8 @@ module _ (demand : Plan → StateOf → Frac) (p : Plan) (dem : ℕ → ℕ → 
         one : (i : ℕ) → row_at s i ≡ prior_row p dem past i → (b : Bool) → nat_eq (prior_row p dem past i).deadline (length past) ≡ b → nat_eq (row_at s i).deadline s.now ≡ releases_at p i (length past)
         one i is b q = ap₂ (λ x y. nat_eq x y) (ap (λ (r : Row). r.deadline) is) (ap (λ (v : StateOf). v.now) e) ∙ (q ∙ sym (due_released p dem periods past i b q))
 
-    pub decision-is : (t : ℕ) (s : StateOf) (pen : Pen) (completed : Bool) → HasWorked demand p dem t s pen completed → is_decision p dem (course demand p dem (t + 1)) ≡ (some_due p s || completed)
-    decision-is t s pen completed h =
+    pub decision-is : (t : ℕ) (s : StateOf) (trace : Trace) (completed : Bool) → HasWorked demand p dem t s trace completed → is_decision p dem (course demand p dem (t + 1)) ≡ (some_due p s || completed)
+    decision-is t s trace completed h =
         ap (is_decision p dem) (course_next t)
         ∙ ap₂ (λ a b. a || b)
         (sym (due-is (tick_at demand p dem t ∷ course demand p dem t) s (h.state ∙ ap (prior_state p dem) (course_next t))))
@@ -231,27 +231,21 @@ module _ (demand : Plan → StateOf → Frac) (p : Plan) (dem : ℕ → ℕ → 
   releases-cost f rel don t [] = refl
   releases-cost f rel don t (j ∷ js) = sum_by-append f (release_notes p dem t j) (flat_map (release_notes p dem t) js) ∙ omega (arith, release-cost f rel don t j, releases-cost f rel don t js)
 
-  head-run : (s : Span) → sum_by energy_run (head_notes p dem asks s) ≡ 0
-  head-run s = sum_by-append energy_run (all_release_notes p dem (length s.past)) (Speed (length s.past) ((point p s.entry).speed) ((asks s.past).num) ((asks s.past).den) ∷ []) ∙ omega (arith, releases-cost energy_run (λ t i k. refl) (λ q i k u. refl) (length s.past) (list_below (count p) (λ i. i)))
-
-  head-idle : (s : Span) → sum_by energy_idle (head_notes p dem asks s) ≡ 0
-  head-idle s = sum_by-append energy_idle (all_release_notes p dem (length s.past)) (Speed (length s.past) ((point p s.entry).speed) ((asks s.past).num) ((asks s.past).den) ∷ []) ∙ omega (arith, releases-cost energy_idle (λ t i k. refl) (λ q i k u. refl) (length s.past) (list_below (count p) (λ i. i)))
-
   -- what the listener has heard when it begins
   pub open-new : (t : ℕ) → is_decision p dem (course demand p dem t) ≡ true
-      → open_notes p dem asks (span_at demand p dem t) ≡ notes_before_end p dem asks (course demand p dem t) ++ (all_release_notes p dem t ++ speed_note p t (demand p (state_of p dem (course demand p dem t))) ∷ [])
+      → owritten_notes p dem asks (span_at demand p dem t) ≡ notes_before_end p dem asks (course demand p dem t) ++ (all_release_notes p dem t ++ speed_note p t (demand p (state_of p dem (course demand p dem t))) ∷ [])
   open-new t e =
       let fresh : Span = record { past = course demand p dem t; entry = entry_in_force p dem asks (course demand p dem t); units = [] } in
-      ap (open_notes p dem asks) (span-new t e)
+      ap (owritten_notes p dem asks) (span-new t e)
       ∙ (append-nil (notes_before_end p dem asks (course demand p dem t) ++ head_notes p dem asks fresh)
       ∙ ap (λ ns. notes_before_end p dem asks (course demand p dem t) ++ ns)
       (ap₂ (λ n m. all_release_notes p dem n ++ Speed n ((point p m).speed) ((asks (course demand p dem t)).num) ((asks (course demand p dem t)).den) ∷ []) (course-len demand p dem t) (force-decided p dem asks (course demand p dem t) e)))
 
-  pub begins-span : (ticks t e : ℕ) (s0 s : StateOf) (pen pen' : Pen) → count p ≤ 64 → t < ticks → ticks ≤ 2 ^ 40 → IsWithin p dem → IsBetween demand p dem ticks t s0 pen
+  pub begins-span : (ticks t e : ℕ) (s0 s : StateOf) (trace trace' : Trace) → count p ≤ 64 → t < ticks → ticks ≤ 2 ^ 40 → IsWithin p dem → IsBetween demand p dem ticks t s0 trace
       → s ≡ state_of p dem (course demand p dem t) → e ≡ lowest_entry p.machine (demand p s)
-      → pen' ≡ record { holder = Nobody; start = 0; units = 0; run = pen.run; idle = pen.idle; counts = counted (counted pen.counts (all_release_notes p dem t)) (speed_note p t (demand p (state_of p dem (course demand p dem t))) ∷ []) }
-      → IsInSpan demand p dem ticks t t e s pen'
-  begins-span ticks t e s0 s pen pen' few_tasks lt few low b is ee pe = record {
+      → trace' ≡ record { segment = record { holder = Nobody; start = 0; units = 0 }; sums = added (added trace.sums (all_release_notes p dem t)) (speed_note p t (demand p (state_of p dem (course demand p dem t))) ∷ []) }
+      → IsInSpan demand p dem ticks t t e s trace'
+  begins-span ticks t e s0 s trace trace' few_tasks lt few low b is ee pe = record {
     before_end = lt;
     later = omega arith;
     work = record {
@@ -262,7 +256,7 @@ module _ (demand : Plan → StateOf → Frac) (p : Plan) (dem : ℕ → ℕ → 
       from_is = sym (ap (λ (x : Span). length x.past) new ∙ course-len demand p dem t);
       entry_is = force ∙ sym (ap (λ (x : Span). x.entry) new);
       in_force = force;
-      pen_is = subst (λ x. Writing p dem asks t x (had_at p (course demand p dem t)) (1000000 * t) pen') (sym new)
+      writing = subst (λ x. Writing p dem asks t x (had_at p (course demand p dem t)) (1000000 * t) trace') (sym new)
           (subst (λ q. Writing p dem asks t fresh (had_at p (course demand p dem t)) (1000000 * t) q) (sym pe) (record {
             units = refl;
             holder = refl;
@@ -270,15 +264,18 @@ module _ (demand : Plan → StateOf → Frac) (p : Plan) (dem : ℕ → ℕ → 
             taken = tt;
             had = λ i l. plus_none i;
             few = omega arith;
-            money = omega (arith, b.money);
-            run = b.run ∙ sym (sums energy_run (head-run fresh));
-            idle = b.idle ∙ sym (sums energy_idle (head-idle fresh));
-            counts =
+            money = omega (
+              arith,
+              b.money,
+              releases-cost energy_run (λ t i k. refl) (λ q i k u. refl) t (list_below (count p) (λ i. i)),
+              releases-cost energy_idle (λ t i k. refl) (λ q i k u. refl) t (list_below (count p) (λ i. i)),
+            );
+            sums =
                 let rel : List Note = all_release_notes p dem t in
                 let dec : List Note = speed_note p t (demand p (state_of p dem (course demand p dem t))) ∷ [] in
-                ap (λ c. counted (counted c rel) dec) b.counts
-                ∙ (counted-append (counts_of before) rel dec
-                ∙ (sym (counts-append before (rel ++ dec)) ∙ ap counts_of (sym (open-new t (b.decision lt)) ∙ ap (open_notes p dem asks) new)));
+                ap (λ c. added (added c rel) dec) b.sums
+                ∙ (added-append (sums_of before) rel dec
+                ∙ (sym (sums-append before (rel ++ dec)) ∙ ap sums_of (sym (open-new t (b.decision lt)) ∙ ap (owritten_notes p dem asks) new)));
             few_released = omega (arith, b.few_released, few-released p dem t (count p), few_tasks);
             few_finished = omega (arith, b.few_finished, few-finished p dem t (count p), few_tasks);
             few_decisions = omega (arith, b.few_decisions, no-decided p dem t (list_below (count p) (λ i. i)));
@@ -302,16 +299,11 @@ module _ (demand : Plan → StateOf → Frac) (p : Plan) (dem : ℕ → ℕ → 
       plus_none : (i : ℕ) → exec p (course demand p dem t) i (latest p i t) + 0 ≡ had_at p (course demand p dem t) i
       plus_none i = let z : exec p (course demand p dem t) i (latest p i t) + 0 ≡ exec p (course demand p dem t) i (latest p i t) = omega arith in z ∙ ap (λ n. exec p (course demand p dem t) i (latest p i n)) (sym (course-len demand p dem t))
 
-      sums : (f : Note → ℕ) → sum_by f (head_notes p dem asks fresh) ≡ 0 → sum_by f (open_notes p dem asks fresh) ≡ sum_by f (notes_before_end p dem asks (course demand p dem t))
-      sums f z =
-          ap (sum_by f) (append-nil (notes_before_end p dem asks (course demand p dem t) ++ head_notes p dem asks fresh))
-          ∙ (sum_by-append f (notes_before_end p dem asks (course demand p dem t)) (head_notes p dem asks fresh) ∙ omega (arith, z))
-
   module _ (adm : Bounds p) where
     -- it goes on
-    pub goes-on : (ticks t0 t e : ℕ) (s0 s : StateOf) (pen0 pen : Pen) → IsInSpan demand p dem ticks t0 t e s0 pen0 → HasWorked demand p dem t s pen false → some_due p s ≡ false → t + 1 < ticks → ticks ≤ 2 ^ 40
-        → IsInSpan demand p dem ticks t0 (t + 1) e s pen × (span_at demand p dem (t + 1) ≡ whole_span demand p dem t)
-    goes-on ticks t0 t e s0 s pen0 pen i h quiet lt few = (
+    pub goes-on : (ticks t0 t e : ℕ) (s0 s : StateOf) (trace0 trace : Trace) → IsInSpan demand p dem ticks t0 t e s0 trace0 → HasWorked demand p dem t s trace false → some_due p s ≡ false → t + 1 < ticks → ticks ≤ 2 ^ 40
+        → IsInSpan demand p dem ticks t0 (t + 1) e s trace × (span_at demand p dem (t + 1) ≡ whole_span demand p dem t)
+    goes-on ticks t0 t e s0 s trace0 trace i h quiet lt few = (
       record {
         before_end = lt;
         later = omega (arith, i.later);
@@ -323,21 +315,19 @@ module _ (demand : Plan → StateOf → Frac) (p : Plan) (dem : ℕ → ℕ → 
           from_is = i.work.from_is ∙ sym (ap (λ (x : Span). length x.past) on);
           entry_is = i.work.entry_is ∙ sym (ap (λ (x : Span). x.entry) on);
           in_force = i.work.in_force ∙ sym force;
-          pen_is = subst (λ x. Writing p dem asks (t + 1) x (had_at p (course demand p dem (t + 1))) (1000000 * (t + 1)) pen) (sym on) (record {
-            units = h.pen_is.units;
-            holder = h.pen_is.holder;
-            place = h.pen_is.place;
-            taken = held pen.holder h.pen_is.taken;
+          writing = subst (λ x. Writing p dem asks (t + 1) x (had_at p (course demand p dem (t + 1))) (1000000 * (t + 1)) trace) (sym on) (record {
+            units = h.writing.units;
+            holder = h.writing.holder;
+            place = h.writing.place;
+            taken = held trace.segment.holder h.writing.taken;
             had = λ k l. subst (λ n. exec p (whole_span demand p dem t).past k n + count_by (same_holder (Held k n)) (whole_span demand p dem t).units ≡ exec p (course demand p dem (t + 1)) k (latest p k (length (course demand p dem (t + 1))))) (sym (steady k l))
-                (h.pen_is.had k l ∙ ap (λ n. exec p (course demand p dem (t + 1)) k n) (sym (steady k l) ∙ ap (latest p k) (sym (course-len demand p dem (t + 1)))));
-            few = h.pen_is.few;
-            money = h.pen_is.money;
-            run = h.pen_is.run;
-            idle = h.pen_is.idle;
-            counts = h.pen_is.counts;
-            few_released = omega (arith, h.pen_is.few_released);
-            few_finished = omega (arith, h.pen_is.few_finished);
-            few_decisions = omega (arith, h.pen_is.few_decisions);
+                (h.writing.had k l ∙ ap (λ n. exec p (course demand p dem (t + 1)) k n) (sym (steady k l) ∙ ap (latest p k) (sym (course-len demand p dem (t + 1)))));
+            few = h.writing.few;
+            money = h.writing.money;
+            sums = h.writing.sums;
+            few_released = omega (arith, h.writing.few_released);
+            few_finished = omega (arith, h.writing.few_finished);
+            few_decisions = omega (arith, h.writing.few_decisions);
           });
         };
         began = ap (λ (x : Span). x.past) on ∙ i.began;
@@ -352,7 +342,7 @@ module _ (demand : Plan → StateOf → Frac) (p : Plan) (dem : ℕ → ℕ → 
         x = tick_at demand p dem t
 
         none : is_decision p dem (course demand p dem (t + 1)) ≡ false
-        none = decision-is adm.some_period t s pen false h ∙ ap (λ b. b || false) quiet
+        none = decision-is adm.some_period t s trace false h ∙ ap (λ b. b || false) quiet
 
         on : span_at demand p dem (t + 1) ≡ whole_span demand p dem t
         on = span-on t none
@@ -380,10 +370,10 @@ module _ (demand : Plan → StateOf → Frac) (p : Plan) (dem : ℕ → ℕ → 
         held (Held k j) q = (q.0, q.1 ∙ sym (steady k q.0))
 
     -- or it ends
-    pub ends-span : (ticks t0 t e : ℕ) (s0 s : StateOf) (pen0 pen : Pen) (completed : Bool) → IsInSpan demand p dem ticks t0 t e s0 pen0 → HasWorked demand p dem t s pen completed
+    pub ends-span : (ticks t0 t e : ℕ) (s0 s : StateOf) (trace0 trace : Trace) (completed : Bool) → IsInSpan demand p dem ticks t0 t e s0 trace0 → HasWorked demand p dem t s trace completed
         → (completed ≡ true) ⊎ ((t + 1 ≡ ticks) ⊎ (some_due p s ≡ true))
-        → HasWalked demand p dem ticks t0 t e s pen
-    ends-span ticks t0 t e s0 s pen0 pen completed i h why = record {
+        → HasWalked demand p dem ticks t0 t e s trace
+    ends-span ticks t0 t e s0 s trace0 trace completed i h why = record {
       now = ap (λ (v : StateOf). v.now) h.state ∙ course-len demand p dem (t + 1);
       before_end = i.before_end;
       later = i.later;
@@ -391,7 +381,7 @@ module _ (demand : Plan → StateOf → Frac) (p : Plan) (dem : ℕ → ℕ → 
       entry = i.work.entry_is;
       completed = completed;
       worked = h;
-      decision = λ lt. decision-is adm.some_period t s pen completed h ∙ go why lt;
+      decision = λ lt. decision-is adm.some_period t s trace completed h ∙ go why lt;
     }
       where
         or-right : (a b : Bool) → b ≡ true → (a || b) ≡ true
@@ -404,12 +394,12 @@ module _ (demand : Plan → StateOf → Frac) (p : Plan) (dem : ℕ → ℕ → 
         go (inr (inr q)) lt = ap (λ b. b || completed) q
 
     -- what is left to tell at its end
-    module _ (ticks t0 last e : ℕ) (s : StateOf) (pen : Pen) (h : HasWalked demand p dem ticks t0 last e s pen) (early : last < 2 ^ 40) (from_is : t0 ≡ length (whole_span demand p dem last).past) where
+    module _ (ticks t0 last e : ℕ) (s : StateOf) (trace : Trace) (h : HasWalked demand p dem ticks t0 last e s trace) (early : last < 2 ^ 40) (from_is : t0 ≡ length (whole_span demand p dem last).past) where
       abbrev pub whole : Span
       whole = whole_span demand p dem last
 
-      w : Writing p dem asks last whole (λ i. exec p (course demand p dem (last + 1)) i (latest p i last)) (1000000 * (last + 1)) pen
-      w = h.worked.pen_is
+      w : Writing p dem asks last whole (λ i. exec p (course demand p dem (last + 1)) i (latest p i last)) (1000000 * (last + 1)) trace
+      w = h.worked.writing
 
       row-last : (i : ℕ) → i < count p → row_at s i ≡ prior_row p dem (tick_at demand p dem last ∷ course demand p dem last) i
       row-last i lt = ap (λ (v : StateOf). row_at v i) (h.worked.state ∙ ap (prior_state p dem) (course_next last)) ∙ get-table (count p) (prior_row p dem (tick_at demand p dem last ∷ course demand p dem last)) i no_row lt
@@ -424,27 +414,27 @@ module _ (demand : Plan → StateOf → Frac) (p : Plan) (dem : ℕ → ℕ → 
         within = λ i lt. exec-within p dem asks (last + 1) i (latest p i last) lt;
       }
 
-      told-last : segment_notes p dem whole pen.start pen.units pen.holder ≡ pen_notes p s t0 e pen
+      told-last : segment_notes p dem whole trace.segment.start trace.segment.units trace.segment.holder ≡ written_notes p s t0 e trace
       told-last =
-          tells p dem asks last whole (λ i. exec p (course demand p dem (last + 1)) i (latest p i last)) s pen.start pen.units pen.holder w.taken w.place w.had shown
-          ∙ ap₂ (λ n m. holder_notes p s (position_of n ((point p m).speed)) m pen.start pen.units pen.holder) (sym from_is) (sym h.entry)
+          tells p dem asks last whole (λ i. exec p (course demand p dem (last + 1)) i (latest p i last)) s trace.segment.start trace.segment.units trace.segment.holder w.taken w.place w.had shown
+          ∙ ap₂ (λ n m. holder_notes p s (position_of n ((point p m).speed)) m trace.segment.start trace.segment.units trace.segment.holder) (sym from_is) (sym h.entry)
 
-      last-is : last_notes whole ≡ (if nat_lt 0 pen.units then pen_notes p s t0 e pen else [])
+      last-is : last_notes whole ≡ (if nat_lt 0 trace.segment.units then written_notes p s t0 e trace else [])
       last-is =
-          let place : length whole.units - (last_of (pieces_of whole.units)).units ≡ pen.start = omega (arith, w.place, w.units) in
+          let place : length whole.units - (last_of (pieces_of whole.units)).units ≡ trace.segment.start = omega (arith, w.place, w.units) in
           ap (λ q. if nat_lt 0 (last_of (pieces_of whole.units)).units then segment_notes p dem whole q (last_of (pieces_of whole.units)).units (last_of (pieces_of whole.units)).holder else []) place
-          ∙ (ap₂ (λ u k. if nat_lt 0 u then segment_notes p dem whole pen.start u k else []) (sym w.units) (sym w.holder)
-          ∙ ap (λ ns. if nat_lt 0 pen.units then ns else []) told-last)
+          ∙ (ap₂ (λ u k. if nat_lt 0 u then segment_notes p dem whole trace.segment.start u k else []) (sym w.units) (sym w.holder)
+          ∙ ap (λ ns. if nat_lt 0 trace.segment.units then ns else []) told-last)
 
-      pub closing-notes : notes_before_end p dem asks (course demand p dem (last + 1)) ≡ open_notes p dem asks whole ++ ended_notes p s t0 e pen
-      closing-notes = notes-whole last ∙ (whole-open whole ∙ ap (λ ns. open_notes p dem asks whole ++ ns) last-is)
+      pub closing-notes : notes_before_end p dem asks (course demand p dem (last + 1)) ≡ owritten_notes p dem asks whole ++ ended_notes p s t0 e trace
+      closing-notes = notes-whole last ∙ (whole-open whole ∙ ap (λ ns. owritten_notes p dem asks whole ++ ns) last-is)
 
-      pub closing-can : e < length p.machine.points → CanTell p s t0 e pen
+      pub closing-can : e < length p.machine.points → CanTell p s t0 e trace
       closing-can there = record {
         entry = there;
         place = omega (arith, w.place, w.few, h.later, early);
         money = omega (arith, w.money, early);
-        task = held pen.holder w.taken;
+        task = held trace.segment.holder w.taken;
         ends = omega (arith, w.few_finished, early);
       }
         where
@@ -455,49 +445,36 @@ module _ (demand : Plan → StateOf → Frac) (p : Plan) (dem : ℕ → ℕ → 
           held Nobody q = tt
           held (Held k j) q = omega (arith, q.0, rows)
 
-      sum-last : (f : Note → ℕ) → sum_by f (notes_before_end p dem asks (course demand p dem (last + 1))) ≡ sum_by f (open_notes p dem asks whole) + sum_by f (ended_notes p s t0 e pen)
-      sum-last f = ap (sum_by f) closing-notes ∙ sum_by-append f (open_notes p dem asks whole) (ended_notes p s t0 e pen)
-
-      pub closing-between : (pen' : Pen) → pen' ≡ ended_pen p s e pen → IsBetween demand p dem ticks (last + 1) s pen'
-      closing-between pen' pe = subst (λ q. IsBetween demand p dem ticks (last + 1) s q) (sym pe) (go (nat_lt 0 pen.units) refl)
+      pub closing-between : (trace' : Trace) → trace' ≡ ended_trace p s e trace → IsBetween demand p dem ticks (last + 1) s trace'
+      closing-between trace' pe = subst (λ q. IsBetween demand p dem ticks (last + 1) s q) (sym pe) (go (nat_lt 0 trace.segment.units) refl)
         where
-          tally : (b : Bool) → nat_lt 0 pen.units ≡ b → counts_of (notes_before_end p dem asks (course demand p dem (last + 1))) ≡ (if b then counts_by pen.counts.released (pen.counts.finished + ended_part s pen.holder) pen.counts.decisions else pen.counts)
-          tally b q =
-              ap counts_of closing-notes
-              ∙ (counts-append (open_notes p dem asks whole) (ended_notes p s t0 e pen)
-              ∙ (ap (λ c. counted c (ended_notes p s t0 e pen)) (sym w.counts)
-              ∙ (ap (λ c. counted pen.counts (if c then pen_notes p s t0 e pen else [])) q ∙ part b)))
+          sums : (b : Bool) → nat_lt 0 trace.segment.units ≡ b → sums_of (notes_before_end p dem asks (course demand p dem (last + 1))) ≡ (if b then (told_trace p s e trace).sums else trace.sums)
+          sums b q =
+              ap sums_of closing-notes
+              ∙ (sums-append (owritten_notes p dem asks whole) (ended_notes p s t0 e trace)
+              ∙ (ap (λ c. added c (ended_notes p s t0 e trace)) (sym w.sums)
+              ∙ (ap (λ c. added trace.sums (if c then written_notes p s t0 e trace else [])) q ∙ part b)))
             where
-              part : (b : Bool) → counted pen.counts (if b then pen_notes p s t0 e pen else []) ≡ (if b then counts_by pen.counts.released (pen.counts.finished + ended_part s pen.holder) pen.counts.decisions else pen.counts)
-              part true = counted-holder p s (position_of t0 ((point p e).speed)) e pen.start pen.units pen.holder pen.counts
-              part false = counted-none pen.counts
+              part : (b : Bool) → added trace.sums (if b then written_notes p s t0 e trace else []) ≡ (if b then (told_trace p s e trace).sums else trace.sums)
+              part true = added-holder p s (position_of t0 ((point p e).speed)) e trace.segment.start trace.segment.units trace.segment.holder trace.sums
+              part false = added-none trace.sums
 
-          go : (b : Bool) → nat_lt 0 pen.units ≡ b → IsBetween demand p dem ticks (last + 1) s (if b then told_pen p s e pen else pen)
-          go true q =
-              let runs : sum_by energy_run (ended_notes p s t0 e pen) ≡ run_part p e pen.units pen.holder = ap (λ b. sum_by energy_run (if b then pen_notes p s t0 e pen else [])) q ∙ notes-run p s (position_of t0 ((point p e).speed)) e pen.start pen.units pen.holder in
-              let idles : sum_by energy_idle (ended_notes p s t0 e pen) ≡ idle_part p e pen.units pen.holder = ap (λ b. sum_by energy_idle (if b then pen_notes p s t0 e pen else [])) q ∙ notes-idle p s (position_of t0 ((point p e).speed)) e pen.start pen.units pen.holder in
-              record {
-                state = h.worked.state;
-                decision = h.decision;
-                money = omega (arith, w.money, parts-most p adm e pen.units pen.holder);
-                run = omega (arith, w.run, sum-last energy_run, runs);
-                idle = omega (arith, w.idle, sum-last energy_idle, idles);
-                counts = sym (tally true q);
-                few_released = w.few_released;
-                few_finished = omega (arith, w.few_finished, ended-most s pen.holder, (let some : 0 < pen.units = grind (arith, nat_tests) in some));
-                few_decisions = w.few_decisions;
-              }
-          go false q =
-              let runs : sum_by energy_run (ended_notes p s t0 e pen) ≡ 0 = ap (λ b. sum_by energy_run (if b then pen_notes p s t0 e pen else [])) q in
-              let idles : sum_by energy_idle (ended_notes p s t0 e pen) ≡ 0 = ap (λ b. sum_by energy_idle (if b then pen_notes p s t0 e pen else [])) q in
-              record {
-                state = h.worked.state;
-                decision = h.decision;
-                money = omega (arith, w.money);
-                run = omega (arith, w.run, sum-last energy_run, runs);
-                idle = omega (arith, w.idle, sum-last energy_idle, idles);
-                counts = sym (tally false q);
-                few_released = w.few_released;
-                few_finished = omega (arith, w.few_finished);
-                few_decisions = w.few_decisions;
-              }
+          go : (b : Bool) → nat_lt 0 trace.segment.units ≡ b → IsBetween demand p dem ticks (last + 1) s (if b then told_trace p s e trace else trace)
+          go true q = record {
+            state = h.worked.state;
+            decision = h.decision;
+            money = omega (arith, w.money, parts-most p adm e trace.segment.units trace.segment.holder);
+            sums = sym (sums true q);
+            few_released = w.few_released;
+            few_finished = omega (arith, w.few_finished, ended-most s trace.segment.holder, (let some : 0 < trace.segment.units = grind (arith, nat_tests) in some));
+            few_decisions = w.few_decisions;
+          }
+          go false q = record {
+            state = h.worked.state;
+            decision = h.decision;
+            money = omega (arith, w.money);
+            sums = sym (sums false q);
+            few_released = w.few_released;
+            few_finished = omega (arith, w.few_finished);
+            few_decisions = w.few_decisions;
+          }

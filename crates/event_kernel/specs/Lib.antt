@@ -1,7 +1,7 @@
 pub mod Heard
 pub mod Runs
-pub mod Counts
-pub mod Pens
+pub mod Sums
+pub mod Segment
 pub mod Writing
 pub mod Tickwork
 pub mod Boundary

@@ -1,5 +1,6 @@
 -- What a kernel runs, and what it is to tell.
-use Rattle.std.specs.Prelude.{◌≡◌, ◌<◌, ◌-◌, ℕ, true, List}
+use Rattle.event_kernel.specs.declared.kernel.TheConstants.{MOST_JOBS}
+use Rattle.std.specs.Prelude.{◌≡◌, ◌<◌, ◌-◌, ◌^◌, ℕ, true, List}
 use Rattle.freq_table.specs.Tables.{lowest_pick}
 use Rattle.grid_fraction.specs.declared.Frac.{Frac}
 use Rattle.dvs_base.specs.declared.note.Note.{Note}
@@ -26,7 +27,11 @@ released_jobs p ticks = sum_below (count p) (λ i. ceil_div (ticks - offset p i)
 
 -- a run has at most so many
 abbrev pub most_jobs : ℕ
-most_jobs = 100000
+most_jobs = MOST_JOBS
+
+-- and at most so many ticks
+abbrev pub most_ticks : ℕ
+most_ticks = 2 ^ 40
 
 -- the list has the plan's declared worst cases
 abbrev pub IsListOf : Plan → DemandsOf → Type 0

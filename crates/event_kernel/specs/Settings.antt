@@ -1,5 +1,5 @@
 -- The words of a run's contracts: its setting, and where it stands.
-use Rattle.std.specs.Prelude.{◌≡◌, ℕ, ◌-◌, ◌<◌, ◌≤◌, ◌^◌, Bool, List, Result}
+use Rattle.std.specs.Prelude.{ℕ, ◌-◌, ◌≤◌, Bool, List, Result}
 use Rattle.grid_fraction.specs.declared.Frac.{Frac}
 use Rattle.dvs_base.specs.declared.note.Note.{Note}
 use Rattle.sched_model.specs.Plan.{Plan}
@@ -10,9 +10,9 @@ use Rattle.sched_model.specs.States.{state_of, StateOf}
 use Rattle.governor.specs.Schedule.{course}
 use Rattle.event_kernel.specs.declared.run.Setting.{Setting}
 use Rattle.event_kernel.specs.declared.run.InForce.{InForce}
-use Rattle.event_kernel.specs.declared.pen.Pen.{Pen}
+use Rattle.event_kernel.specs.declared.trace.Trace.{Trace}
 use Rattle.event_kernel.specs.Heard.{TellsOn}
-use Rattle.event_kernel.specs.Runs.{demands_of, IsListOf}
+use Rattle.event_kernel.specs.Runs.{demands_of, most_ticks, IsListOf}
 use Rattle.event_kernel.specs.Boundary.{IsAtBoundary, IsBetween}
 use Rattle.event_kernel.specs.Tickwork.{HasWorked}
 use Rattle.event_kernel.specs.Walking.{IsInSpan, IsLastTick, HasWalked, told_before, told_in, told_after}
@@ -26,7 +26,7 @@ pub record IsSetting (set : Setting) : Type 0 where
   pub admitted : IsAdmitted set.plan.now
   pub list : IsListOf set.plan.now set.demands.now
   pub within : IsWithin set.plan.now (jobs_of set)
-  pub low_ticks : set.ticks ≤ 2 ^ 40
+  pub low_ticks : set.ticks ≤ most_ticks
 
 -- the state at the tick t of a governor's schedule, after its releases
 abbrev pub state_at : (Plan → StateOf → Frac) → Setting → ℕ → StateOf
@@ -41,24 +41,24 @@ abbrev pub AtBoundary : (Plan → StateOf → Frac) → Setting → StateOf → 
 AtBoundary demand set s = IsAtBoundary demand set.plan.now (jobs_of set) s.now s
 
 -- between two spans
-abbrev pub Between : (Plan → StateOf → Frac) → Setting → StateOf → Pen → Type 0
-Between demand set s pen = IsBetween demand set.plan.now (jobs_of set) set.ticks s.now s pen
+abbrev pub Between : (Plan → StateOf → Frac) → Setting → StateOf → Trace → Type 0
+Between demand set s trace = IsBetween demand set.plan.now (jobs_of set) set.ticks s.now s trace
 
 -- in the span of this entry, after the releases and the decision
-abbrev pub InSpan : (Plan → StateOf → Frac) → Setting → InForce → StateOf → Pen → Type 0
-InSpan demand set force s pen = IsInSpan demand set.plan.now (jobs_of set) set.ticks force.from s.now force.index s pen
+abbrev pub InSpan : (Plan → StateOf → Frac) → Setting → InForce → StateOf → Trace → Type 0
+InSpan demand set force s trace = IsInSpan demand set.plan.now (jobs_of set) set.ticks force.from s.now force.index s trace
 
 -- the next tick is the span's last
 abbrev pub AtLastTick : Setting → InForce → StateOf → Type 0
 AtLastTick set force s = IsLastTick set.plan.now (jobs_of set) set.ticks force.index s
 
 -- after the units of the tick of a state `before`
-abbrev pub Worked : (Plan → StateOf → Frac) → Setting → StateOf → StateOf → Pen → Bool → Type 0
-Worked demand set before s pen completed = HasWorked demand set.plan.now (jobs_of set) before.now s pen completed
+abbrev pub Worked : (Plan → StateOf → Frac) → Setting → StateOf → StateOf → Trace → Bool → Type 0
+Worked demand set before s trace completed = HasWorked demand set.plan.now (jobs_of set) before.now s trace completed
 
 -- at the end of the span
-abbrev pub Walked : (Plan → StateOf → Frac) → Setting → InForce → StateOf → Pen → Type 0
-Walked demand set force s pen = HasWalked demand set.plan.now (jobs_of set) set.ticks force.from (s.now - 1) force.index s pen
+abbrev pub Walked : (Plan → StateOf → Frac) → Setting → InForce → StateOf → Trace → Type 0
+Walked demand set force s trace = HasWalked demand set.plan.now (jobs_of set) set.ticks force.from (s.now - 1) force.index s trace
 
 -- the notes of a run up to some place of it
 abbrev pub NotesUpTo : Type 0

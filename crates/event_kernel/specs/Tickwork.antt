@@ -1,5 +1,5 @@
 -- The work of one tick of a governor's schedule, as functions of its number.
-use Rattle.std.specs.Prelude.{◌≡◌, ℕ, ◌+◌, ◌*◌, ◌<◌, ◌≤◌, ◌^◌, Bool, List, length, slice_set}
+use Rattle.std.specs.Prelude.{◌≡◌, ℕ, ◌+◌, ◌*◌, ◌<◌, ◌≤◌, Bool, List, length, slice_set}
 use Rattle.grid_fraction.specs.declared.Frac.{Frac}
 use Rattle.grid_fraction.specs.Numbers.{any_below}
 use Rattle.sched_model.specs.Plan.{Plan, count}
@@ -9,9 +9,10 @@ use Rattle.sched_model.specs.Decision.{completes_in}
 use Rattle.sched_model.specs.Schedule.{entry_in_force, next_tick}
 use Rattle.sched_model.specs.Segments.{Span, units_of}
 use Rattle.sched_model.specs.States.{row_at, prior_state, StateOf, state_of}
-use Rattle.event_kernel.specs.declared.pen.Pen.{Pen}
+use Rattle.event_kernel.specs.declared.trace.Trace.{Trace}
 use Rattle.governor.specs.Schedule.{ask_of, course}
-use Rattle.event_kernel.specs.Pens.{grown, open_span}
+use Rattle.event_kernel.specs.Runs.{most_ticks}
+use Rattle.event_kernel.specs.Segment.{grown, open_span}
 use Rattle.event_kernel.specs.Writing.{Writing}
 use Rattle.sched_model.specs.Demands.{IsWithin}
 
@@ -34,18 +35,18 @@ abbrev pub whole_span : (Plan → StateOf → Frac) → Plan → (ℕ → ℕ �
 whole_span demand p dem t = grown (span_at demand p dem t) (units_of p (course demand p dem t) (tick_at demand p dem t))
 
 -- at the tick t, after its releases and its decision
-pub record IsAtWork (demand : Plan → StateOf → Frac) (p : Plan) (dem : ℕ → ℕ → ℕ) (t from e : ℕ) (s : StateOf) (pen : Pen) : Type 0 where
-  pub early : t < 2 ^ 40
+pub record IsAtWork (demand : Plan → StateOf → Frac) (p : Plan) (dem : ℕ → ℕ → ℕ) (t from e : ℕ) (s : StateOf) (trace : Trace) : Type 0 where
+  pub early : t < most_ticks
   pub within : IsWithin p dem
   pub state : s ≡ state_of p dem (course demand p dem t)
   pub from_le : from ≤ t
   pub from_is : from ≡ length (span_at demand p dem t).past
   pub entry_is : e ≡ (span_at demand p dem t).entry
   pub in_force : e ≡ entry_in_force p dem (ask_of demand p dem) (course demand p dem t)
-  pub pen_is : Writing p dem (ask_of demand p dem) t (span_at demand p dem t) (had_at p (course demand p dem t)) (1000000 * t) pen
+  pub writing : Writing p dem (ask_of demand p dem) t (span_at demand p dem t) (had_at p (course demand p dem t)) (1000000 * t) trace
 
 -- after its units
-pub record HasWorked (demand : Plan → StateOf → Frac) (p : Plan) (dem : ℕ → ℕ → ℕ) (t : ℕ) (s : StateOf) (pen : Pen) (completed : Bool) : Type 0 where
+pub record HasWorked (demand : Plan → StateOf → Frac) (p : Plan) (dem : ℕ → ℕ → ℕ) (t : ℕ) (s : StateOf) (trace : Trace) (completed : Bool) : Type 0 where
   pub state : s ≡ prior_state p dem (course demand p dem (t + 1))
-  pub pen_is : Writing p dem (ask_of demand p dem) t (whole_span demand p dem t) (λ i. exec p (course demand p dem (t + 1)) i (latest p i t)) (1000000 * (t + 1)) pen
+  pub writing : Writing p dem (ask_of demand p dem) t (whole_span demand p dem t) (λ i. exec p (course demand p dem (t + 1)) i (latest p i t)) (1000000 * (t + 1)) trace
   pub completes : completed ≡ any_below (count p) (completes_in p dem (tick_at demand p dem t) (course demand p dem t))

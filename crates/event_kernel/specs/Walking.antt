@@ -3,30 +3,30 @@ use Rattle.std.specs.Prelude.{◌≡◌, ◌⊎◌, ℕ, ◌+◌, ◌*◌, ◌<�
 use Rattle.grid_fraction.specs.declared.Frac.{Frac}
 use Rattle.sched_model.specs.Plan.{Plan, count, point}
 use Rattle.sched_model.specs.Decision.{is_decision}
-use Rattle.event_kernel.specs.declared.pen.Pen.{Pen}
+use Rattle.event_kernel.specs.declared.trace.Trace.{Trace}
 use Rattle.governor.specs.Schedule.{ask_of, course}
-use Rattle.event_kernel.specs.Pens.{open_notes, IsFirstUndone}
+use Rattle.event_kernel.specs.Segment.{owritten_notes, IsFirstUndone}
 use Rattle.dvs_base.specs.declared.note.Note.{Note}
 use Rattle.sched_model.specs.Notes.{notes_before_end}
 use Rattle.event_kernel.specs.Tickwork.{served, span_at, whole_span, IsAtWork, HasWorked}
 use Rattle.sched_model.specs.States.{row_at, after_advance, StateOf}
 
 -- in the span that began at t0, at the tick t, after the releases and the decision
-pub record IsInSpan (demand : Plan → StateOf → Frac) (p : Plan) (dem : ℕ → ℕ → ℕ) (ticks t0 t e : ℕ) (s : StateOf) (pen : Pen) : Type 0 where
+pub record IsInSpan (demand : Plan → StateOf → Frac) (p : Plan) (dem : ℕ → ℕ → ℕ) (ticks t0 t e : ℕ) (s : StateOf) (trace : Trace) : Type 0 where
   pub before_end : t < ticks
   pub later : t0 ≤ t
-  pub work : IsAtWork demand p dem t t0 e s pen
+  pub work : IsAtWork demand p dem t t0 e s trace
   pub began : (span_at demand p dem t).past ≡ course demand p dem t0
 
 -- at the end of that span, whose last tick is `last`
-pub record HasWalked (demand : Plan → StateOf → Frac) (p : Plan) (dem : ℕ → ℕ → ℕ) (ticks t0 last e : ℕ) (s : StateOf) (pen : Pen) : Type 0 where
+pub record HasWalked (demand : Plan → StateOf → Frac) (p : Plan) (dem : ℕ → ℕ → ℕ) (ticks t0 last e : ℕ) (s : StateOf) (trace : Trace) : Type 0 where
   pub now : s.now ≡ last + 1
   pub before_end : last < ticks
   pub later : t0 ≤ last
   pub began : (span_at demand p dem last).past ≡ course demand p dem t0
   pub entry : e ≡ (span_at demand p dem last).entry
   pub completed : Bool
-  pub worked : HasWorked demand p dem last s pen completed
+  pub worked : HasWorked demand p dem last s trace completed
   pub decision : last + 1 < ticks → is_decision p dem (course demand p dem (last + 1)) ≡ true
 
 -- the notes before the tick t, those up to its span's open segment, and those up to the open segment after its units
@@ -34,10 +34,10 @@ abbrev pub told_before : (Plan → StateOf → Frac) → Plan → (ℕ → ℕ �
 told_before demand p dem t = notes_before_end p dem (ask_of demand p dem) (course demand p dem t)
 
 abbrev pub told_in : (Plan → StateOf → Frac) → Plan → (ℕ → ℕ → ℕ) → ℕ → List Note
-told_in demand p dem t = open_notes p dem (ask_of demand p dem) (span_at demand p dem t)
+told_in demand p dem t = owritten_notes p dem (ask_of demand p dem) (span_at demand p dem t)
 
 abbrev pub told_after : (Plan → StateOf → Frac) → Plan → (ℕ → ℕ → ℕ) → ℕ → List Note
-told_after demand p dem t = open_notes p dem (ask_of demand p dem) (whole_span demand p dem t)
+told_after demand p dem t = owritten_notes p dem (ask_of demand p dem) (whole_span demand p dem t)
 
 -- a state at a later tick, after units of a task whose job is still not done
 abbrev pub run_on : StateOf → ℕ → ℕ → ℕ → StateOf

@@ -1,5 +1,5 @@
--- What the pen holds in a tick of a span.
-use Rattle.std.specs.Prelude.{◌≡◌, ℕ, ◌+◌, ◌*◌, ◌<◌, ◌≤◌, List, length, count_by, sum_by}
+-- What the trace holds in a tick of a span.
+use Rattle.std.specs.Prelude.{◌≡◌, ℕ, ◌+◌, ◌*◌, ◌<◌, ◌≤◌, List, length, count_by}
 use Rattle.grid_fraction.specs.declared.Frac.{Frac}
 use Rattle.sched_model.specs.declared.holder.Holder.{Holder}
 use Rattle.sched_model.specs.declared.holder.Holder.TheVariants.{Nobody, Held}
@@ -7,29 +7,26 @@ use Rattle.sched_model.specs.Plan.{Plan, count}
 use Rattle.sched_model.specs.Jobs.{latest}
 use Rattle.sched_model.specs.Ticks.{Tick, exec}
 use Rattle.sched_model.specs.Segments.{same_holder, Span, pieces_of}
-use Rattle.sched_model.specs.Notes.{energy_run, energy_idle}
-use Rattle.event_kernel.specs.declared.pen.Pen.{Pen}
-use Rattle.event_kernel.specs.Counts.{counts_of}
-use Rattle.event_kernel.specs.Pens.{last_of, open_notes, cost}
+use Rattle.event_kernel.specs.declared.trace.Trace.{Trace}
+use Rattle.event_kernel.specs.Sums.{sums_of}
+use Rattle.event_kernel.specs.Segment.{last_of, owritten_notes, cost}
 
 -- nobody, or the latest job of a task
 abbrev pub HeldNow : Plan → ℕ → Holder → Type 0
 HeldNow p t Nobody = Unit {0}
 HeldNow p t (Held i k) = (i < count p) × (k ≡ latest p i t)
 
--- The pen holds the last segment of a span's units, and the energies of all notes before it. `used` is what the latest job of
+-- The trace holds the last segment of a span's units, and the energies of all notes before it. `used` is what the latest job of
 -- each task has had, and `most` bounds the units so far.
-pub record Writing (p : Plan) (dem : ℕ → ℕ → ℕ) (ask : List Tick → Frac) (t : ℕ) (s : Span) (used : ℕ → ℕ) (most : ℕ) (pen : Pen) : Type 0 where
-  pub units : pen.units ≡ (last_of (pieces_of s.units)).units
-  pub holder : pen.holder ≡ (last_of (pieces_of s.units)).holder
-  pub place : pen.start + pen.units ≡ length s.units
-  pub taken : HeldNow p t pen.holder
+pub record Writing (p : Plan) (dem : ℕ → ℕ → ℕ) (ask : List Tick → Frac) (t : ℕ) (s : Span) (used : ℕ → ℕ) (most : ℕ) (trace : Trace) : Type 0 where
+  pub units : trace.segment.units ≡ (last_of (pieces_of s.units)).units
+  pub holder : trace.segment.holder ≡ (last_of (pieces_of s.units)).holder
+  pub place : trace.segment.start + trace.segment.units ≡ length s.units
+  pub taken : HeldNow p t trace.segment.holder
   pub had : (i : ℕ) → i < count p → exec p s.past i (latest p i t) + count_by (same_holder (Held i (latest p i t))) s.units ≡ used i
   pub few : length s.units ≤ most
-  pub money : pen.run + pen.idle + cost * pen.units ≤ cost * most
-  pub run : pen.run ≡ sum_by energy_run (open_notes p dem ask s)
-  pub idle : pen.idle ≡ sum_by energy_idle (open_notes p dem ask s)
-  pub counts : pen.counts ≡ counts_of (open_notes p dem ask s)
-  pub few_released : pen.counts.released ≤ 64 * (t + 1)
-  pub few_finished : pen.counts.finished + pen.units ≤ most + 64 * (t + 1)
-  pub few_decisions : pen.counts.decisions ≤ t + 1
+  pub money : trace.sums.run + trace.sums.idle + cost * trace.segment.units ≤ cost * most
+  pub sums : trace.sums ≡ sums_of (owritten_notes p dem ask s)
+  pub few_released : trace.sums.released ≤ 64 * (t + 1)
+  pub few_finished : trace.sums.finished + trace.segment.units ≤ most + 64 * (t + 1)
+  pub few_decisions : trace.sums.decisions ≤ t + 1

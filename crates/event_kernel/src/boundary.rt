@@ -7,14 +7,14 @@ ghost use Rattle.governor.specs.Steps.{IsAtDecision};
 ghost use Rattle.governor.specs.Schedule.{course};
 ghost use Rattle.event_kernel.specs.Heard.{Tells};
 ghost use Rattle.event_kernel.specs.Runs.{IsListOf};
-ghost use Rattle.event_kernel.specs.Pens.{HasRoom, with_notes};
+ghost use Rattle.event_kernel.specs.Segment.{HasRoom, with_notes};
 ghost use Rattle.event_kernel.specs.Boundary.{opened, opening_notes, speed_note};
 ghost use Rattle.event_kernel.specs.Settings.{jobs_of, IsSetting, AtBoundary, Between, InSpan, IsMetBy, Leads};
 ghost use Rattle.event_kernel.specs.Settings.{state_at, notes_before, notes_in};
 
-use crate::pen::Pen;
 use crate::run::{InForce, Run, Setting};
 use crate::tick::demand;
+use crate::trace::Trace;
 use crate::{Listener, Stopped};
 use dvs_base::{Note, Pos};
 use governor::Governor;
@@ -25,14 +25,14 @@ fn decide<G: Governor, L: Listener>(
     plan: &Admitted,
     governor: &G,
     state: &State,
-    pen: &mut Pen,
+    trace: &mut Trace,
     to: &mut L,
 ) -> Result<u32, Stopped>
     requires of { IsOfPlan plan.now state.now }
     requires counters { G.stands governor.now plan.now state.now }
     requires decision { IsAtDecision plan.now state.now }
-    requires room { pen.old.counts.decisions < 2 ^ 63 }
-    ensures pen { OnOk result (pen.new ≡ with_notes pen.old
+    requires room { trace.old.sums.decisions < 2 ^ 63 }
+    ensures trace { OnOk result (trace.new ≡ with_notes trace.old
         (speed_note plan.now state.entry.now.now (G.demand plan.now state.entry.now) ∷ [])) }
     ensures index { IfOk result (λ k. k ≡ lowest_entry plan.now.machine (G.demand plan.now state.entry.now)) }
     ensures told { Tells L.heard L.balked L.stops to.old to.new
@@ -47,7 +47,7 @@ fn decide<G: Governor, L: Listener>(
         num: choice.demand.num,
         den: choice.demand.den,
     })?;
-    pen.counts.decisions += 1;
+    trace.sums.decisions += 1;
     Ok(choice.index)
 }
 
@@ -62,13 +62,15 @@ impl<G: Governor> Run<G> {
         requires list { IsListOf set.now.plan.now set.now.demands.now }
         requires of { IsOfPlan set.now.plan.now self.old.state }
         requires can { CanRelease set.now.plan.now self.old.state task }
-        requires room { HasRoom (2 ^ 63) self.old.pen.counts }
+        requires room { HasRoom (2 ^ 63) self.old.trace.sums }
         requires counters { G.stands self.old.governor set.now.plan.now self.old.state }
-        ensures pen { OnOk result (self.new.pen ≡ with_notes self.old.pen (opening_notes (jobs_of set.now) self.old.state task)) }
+        ensures trace { OnOk result (self.new.trace ≡ with_notes self.old.trace
+            (opening_notes (jobs_of set.now) self.old.state task)) }
         ensures state { OnOk result (self.new.state ≡ opened set.now.plan.now (jobs_of set.now) self.old.state task) }
         ensures of { OnOk result (IsOfPlan set.now.plan.now self.new.state) }
         ensures counters { OnOk result (G.stands self.new.governor set.now.plan.now self.new.state) }
-        ensures told { Tells L.heard L.balked L.stops to.old to.new (opening_notes (jobs_of set.now) self.old.state task) result }
+        ensures told { Tells L.heard L.balked L.stops to.old to.new
+            (opening_notes (jobs_of set.now) self.old.state task) result }
     {
         let state = &self.state;
         let now = state.now;
@@ -78,7 +80,7 @@ impl<G: Governor> Run<G> {
             task,
             job,
         })?;
-        self.pen.counts.released += 1;
+        self.trace.sums.released += 1;
         self.governor.released(set.plan, &self.state, task);
         self.state.release(set.plan, task);
         if demand(set.plan, set.demands, task, job) == 0 {
@@ -93,7 +95,7 @@ impl<G: Governor> Run<G> {
                 job,
                 used: 0,
             })?;
-            self.pen.counts.finished += 1;
+            self.trace.sums.finished += 1;
         }
         Ok(())
     }
@@ -102,9 +104,9 @@ impl<G: Governor> Run<G> {
     fn release_all<L: Listener>(&mut self, set: &Setting<'_>, to: &mut L) -> Result<(), Stopped>
         requires set { IsSetting set.now }
         requires at { AtBoundary G.demand set.now self.old.state }
-        requires room { HasRoom (2 ^ 62) self.old.pen.counts }
+        requires room { HasRoom (2 ^ 62) self.old.trace.sums }
         requires counters { G.stands self.old.governor set.now.plan.now self.old.state }
-        ensures pen { OnOk result (self.new.pen ≡ with_notes self.old.pen
+        ensures trace { OnOk result (self.new.trace ≡ with_notes self.old.trace
             (all_release_notes set.now.plan.now (jobs_of set.now) self.old.state.now)) }
         ensures state { OnOk result (self.new.state ≡ state_at G.demand set.now self.old.state.now) }
         ensures counters { OnOk result (G.stands self.new.governor set.now.plan.now self.new.state) }
@@ -135,11 +137,11 @@ impl<G: Governor> Run<G> {
         to: &mut L,
     ) -> Result<InForce, Stopped>
         requires set { IsSetting set.now }
-        requires between { Between G.demand set.now self.old.state self.old.pen }
+        requires between { Between G.demand set.now self.old.state self.old.trace }
         requires early { self.old.state.now < set.now.ticks }
         requires met { IsMetBy G.demand set.now self.old.state }
         requires counters { G.stands self.old.governor set.now.plan.now self.old.state }
-        ensures in_span { IfOk result (λ force. InSpan G.demand set.now force self.new.state self.new.pen) }
+        ensures in_span { IfOk result (λ force. InSpan G.demand set.now force self.new.state self.new.trace) }
         ensures from { IfOk result (λ force. force.from ≡ self.old.state.now) }
         ensures same { OnOk result (self.new.state.now ≡ self.old.state.now) }
         ensures counters { OnOk result (G.stands self.new.governor set.now.plan.now self.new.state) }
@@ -149,10 +151,10 @@ impl<G: Governor> Run<G> {
         let state = &self.state;
         let from = state.now;
         self.release_all(set, to)?;
-        let index = decide(set.plan, &self.governor, &self.state, &mut self.pen, to)?;
-        self.pen.holder = Holder::Nobody;
-        self.pen.start = 0;
-        self.pen.units = 0;
+        let index = decide(set.plan, &self.governor, &self.state, &mut self.trace, to)?;
+        self.trace.segment.holder = Holder::Nobody;
+        self.trace.segment.start = 0;
+        self.trace.segment.units = 0;
         Ok(InForce { from, index })
     }
 }

@@ -1,15 +1,16 @@
 // The kernel.
-ghost use Rattle.std.specs.Prelude.{◌≡◌, ◌≢◌, ◌≤◌, ◌<◌, ◌^◌, ℕ, OnOk, OnErr, IfOk, IsErrOf};
+ghost use Rattle.std.specs.Prelude.{◌≡◌, ◌≢◌, ◌≤◌, ◌<◌, ℕ, OnOk, OnErr, IfOk, IsErrOf};
 ghost use Rattle.dvs_base.specs.declared.kind.GovernorKind.TheVariants.{Ahead};
 ghost use Rattle.sched_model.specs.Totals.{totals_of};
 ghost use Rattle.sched_model.specs.States.{opening};
 ghost use Rattle.event_kernel.specs.Heard.{HasHeard, HasBalked};
-ghost use Rattle.event_kernel.specs.Runs.{IsListOf, released_jobs, most_jobs, notes_of_run, MeetsDeadlines, MeetsDemands};
+ghost use Rattle.event_kernel.specs.Runs.{IsListOf, released_jobs, most_jobs, most_ticks};
+ghost use Rattle.event_kernel.specs.Runs.{notes_of_run, MeetsDeadlines, MeetsDemands};
 ghost use Rattle.dvs_base.specs.Outside.{Rose};
 
-use crate::pen::Pen;
 use crate::run::{Run, Setting};
 use crate::span::Walk;
+use crate::trace::Trace;
 use crate::{Listener, Stopped};
 use demand_list::Demands;
 use dvs_base::{Note, Totals};
@@ -17,6 +18,9 @@ use governor::Governor;
 use sched_model::{Admitted, State};
 use std::alloc::Global;
 use std::marker::Model;
+
+/// The most jobs that a run may release.
+pub const MOST_JOBS: u64 = 100_000;
 
 /// Why there is no kernel: the run has too many jobs, and how many; or memory was not found.
 #[derive(Clone, Copy, Debug, PartialEq, Eq)]
@@ -27,7 +31,7 @@ pub enum KernelFault {
 
 // How many jobs are released below `ticks`.
 fn count_jobs(plan: &Admitted, ticks: u64) -> u64
-    requires { ticks ≤ 2 ^ 40 }
+    requires { ticks ≤ most_ticks }
     ensures { result ≡ released_jobs plan.now ticks }
 {
     plan.known();
@@ -50,20 +54,21 @@ pub struct Kernel<'a, G: Governor> {
 }
 
 impl<'a, G: Governor> Model for Kernel<'a, G> {
-    ghost use Rattle.std.specs.Prelude.{◌≡◌, ◌≤◌, ◌^◌};
+    ghost use Rattle.std.specs.Prelude.{◌≡◌, ◌≤◌};
     ghost use Rattle.sched_model.specs.States.{opening};
-    ghost use Rattle.event_kernel.specs.Runs.{Run, IsListOf};
+    ghost use Rattle.event_kernel.specs.Runs.{Run, IsListOf, most_ticks};
 
     ghost Value = { Run };
 
     ghost view = { λ k. record { plan = k.plan.now; demands = k.demands.now; ticks = k.ticks } };
 
-    ghost invariant = { λ k. (k.state ≡ opening k.plan.now) × G.stands k.governor k.plan.now (opening k.plan.now) × IsListOf k.plan.now k.demands.now × (k.ticks ≤ 2 ^ 40) };
+    ghost invariant = { λ k. (k.state ≡ opening k.plan.now) × G.stands k.governor k.plan.now (opening k.plan.now)
+        × IsListOf k.plan.now k.demands.now × (k.ticks ≤ most_ticks) };
 }
 
 impl<'a, G: Governor> Kernel<'a, G> {
     /// A kernel for this many ticks, 1 to 2^40, of a plan and its demands; all its memory is taken here.
-    /// `TooManyJobs` comes exactly where more than 100000 jobs are released below `ticks`, with their number.
+    /// `TooManyJobs` comes exactly where more than `MOST_JOBS` jobs are released below `ticks`, with their number.
     pub fn new(
         alloc: Global,
         plan: &'a Admitted,
@@ -74,14 +79,15 @@ impl<'a, G: Governor> Kernel<'a, G> {
         requires list { IsListOf plan.now demands.now }
         requires stands { G.stands governor plan.now (opening plan.now) }
         requires some_ticks { 1 ≤ ticks }
-        requires low_ticks { ticks ≤ 2 ^ 40 }
+        requires low_ticks { ticks ≤ most_ticks }
         ensures kernel { IfOk result (λ k. k ≡ record { plan = plan.now; demands = demands.now; ticks = ticks }) }
         ensures few { OnOk result (released_jobs plan.now ticks ≤ most_jobs) }
-        ensures many { (n : ℕ) → IsErrOf result (KernelFault.TooManyJobs n) → (n ≡ released_jobs plan.now ticks) × (most_jobs < n) }
+        ensures many { (n : ℕ) → IsErrOf result (KernelFault.TooManyJobs n)
+            → (n ≡ released_jobs plan.now ticks) × (most_jobs < n) }
         ensures memory { IsErrOf result KernelFault.NoMemory → released_jobs plan.now ticks ≤ most_jobs }
     {
         let count = count_jobs(plan, ticks);
-        if count > 100_000 {
+        if count > MOST_JOBS {
             return Err(KernelFault::TooManyJobs { count });
         }
         let state = State::new(alloc, plan).map_err(|_| KernelFault::NoMemory)?;
@@ -94,7 +100,9 @@ impl<'a, G: Governor> Kernel<'a, G> {
         })
     }
 
-    /// Tells the listener the notes of the governor's schedule, from event to event.
+    /// Tells the listener the notes of the governor's schedule, whole and in order, and gives their sums and counts.
+    /// `Stopped` only where the listener stopped, after a proper prefix. Every job that is due within the run has its
+    /// demand by its deadline.
     pub fn drive<L: Listener>(self, to: &mut L) -> Result<Totals, Stopped>
         ensures totals { IfOk result (λ t. t ≡ totals_of (notes_of_run G.demand self.entry)) }
         ensures deadlines { MeetsDeadlines G.demand self.entry }
@@ -107,7 +115,7 @@ impl<'a, G: Governor> Kernel<'a, G> {
         self.walk(Walk::Events, to)
     }
 
-    /// The same, tick by tick.
+    /// The same as `drive`, but it goes from tick to tick and not from event to event.
     pub fn tick_drive<L: Listener>(self, to: &mut L) -> Result<Totals, Stopped>
         ensures totals { IfOk result (λ t. t ≡ totals_of (notes_of_run G.demand self.entry)) }
         ensures deadlines { MeetsDeadlines G.demand self.entry }
@@ -120,7 +128,7 @@ impl<'a, G: Governor> Kernel<'a, G> {
         self.walk(Walk::Ticks, to)
     }
 
-    // The same, by one walk or the other.
+    // The run, by one walk or the other.
     fn walk<L: Listener>(self, walk: Walk, to: &mut L) -> Result<Totals, Stopped>
         ensures totals { IfOk result (λ t. t ≡ totals_of (notes_of_run G.demand self.entry)) }
         ensures deadlines { MeetsDeadlines G.demand self.entry }
@@ -147,22 +155,22 @@ impl<'a, G: Governor> Kernel<'a, G> {
         let mut run = Run {
             governor,
             state,
-            pen: Pen::new(),
+            trace: Trace::new(),
         };
         while run.now() < ticks {
             run.span(walk, &set, to)?;
         }
         to.hear(&Note::End {
             ticks,
-            run: run.pen.run,
-            idle: run.pen.idle,
+            run: run.trace.sums.run,
+            idle: run.trace.sums.idle,
         })?;
         Ok(Totals {
-            run: run.pen.run,
-            idle: run.pen.idle,
-            released: run.pen.counts.released,
-            finished: run.pen.counts.finished,
-            decisions: run.pen.counts.decisions,
+            run: run.trace.sums.run,
+            idle: run.trace.sums.idle,
+            released: run.trace.sums.released,
+            finished: run.trace.sums.finished,
+            decisions: run.trace.sums.decisions,
         })
     }
 }

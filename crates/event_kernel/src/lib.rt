@@ -7,11 +7,13 @@
 mod boundary;
 mod kernel;
 mod listener;
-mod pen;
 mod quiet;
 mod run;
+mod segment;
 mod span;
+mod sums;
 mod tick;
+mod trace;
 
-pub use kernel::{Kernel, KernelFault};
+pub use kernel::{Kernel, KernelFault, MOST_JOBS};
 pub use listener::{Listener, Stopped};

@@ -2,13 +2,13 @@
 ghost use Rattle.std.specs.Prelude.{◌≡◌, ◌*◌, ◌<◌, OnOk, IfSome};
 ghost use Rattle.sched_model.specs.Plan.{point};
 ghost use Rattle.sched_model.specs.States.{CanRun, IsOfPlan};
-ghost use Rattle.event_kernel.specs.Pens.{IsFirst};
+ghost use Rattle.event_kernel.specs.Segment.{IsFirst};
 ghost use Rattle.event_kernel.specs.Walking.{gives, AreQuiet};
 ghost use Rattle.event_kernel.specs.Settings.{jobs_of, IsSetting, InSpan, AtLastTick, Leads, notes_in};
 
-use crate::pen::Moment;
 use crate::run::{InForce, Run, Setting};
 use crate::tick::{first_undone, holder_of, lacking};
+use crate::trace::Moment;
 use crate::{Listener, Stopped};
 use governor::{Governor, earliest_deadline};
 use sched_model::Admitted;
@@ -17,7 +17,7 @@ impl<G: Governor> Run<G> {
     // How many ticks come before the span's last one.
     fn quiet_ticks(&self, set: &Setting<'_>, force: InForce, first: Option<u32>) -> u64
         requires set { IsSetting set.now }
-        requires at { InSpan G.demand set.now force self.now.state self.now.pen }
+        requires at { InSpan G.demand set.now force self.now.state self.now.trace }
         requires first { IsFirst set.now.plan.now self.now.state first }
         ensures { AreQuiet set.now.plan.now (jobs_of set.now) set.now.ticks force.index self.now.state first result }
     {
@@ -38,7 +38,7 @@ impl<G: Governor> Run<G> {
         requires counters { G.stands self.old.governor plan.now self.old.state }
         ensures state { self.new.state ≡ gives self.old.state first units }
         ensures counters { G.stands self.new.governor plan.now self.new.state }
-        ensures pen { self.new.pen ≡ self.old.pen }
+        ensures trace { self.new.trace ≡ self.old.trace }
     {
         if let Some(task) = first {
             self.serve(plan, task, units, false);
@@ -54,9 +54,9 @@ impl<G: Governor> Run<G> {
         to: &mut L,
     ) -> Result<(), Stopped>
         requires set { IsSetting set.now }
-        requires at { InSpan G.demand set.now force self.old.state self.old.pen }
+        requires at { InSpan G.demand set.now force self.old.state self.old.trace }
         requires counters { G.stands self.old.governor set.now.plan.now self.old.state }
-        ensures in_span { OnOk result (InSpan G.demand set.now force self.new.state self.new.pen) }
+        ensures in_span { OnOk result (InSpan G.demand set.now force self.new.state self.new.trace) }
         ensures last { OnOk result (AtLastTick set.now force self.new.state) }
         ensures counters { OnOk result (G.stands self.new.governor set.now.plan.now self.new.state) }
         ensures told { Leads L.heard L.balked L.stops G.demand set.now to.old to.new
@@ -76,7 +76,7 @@ impl<G: Governor> Run<G> {
             state: &self.state,
             force,
         };
-        self.pen.enter(at, holder, units, to)?;
+        self.trace.enter(at, holder, units, to)?;
         self.serve_first(set.plan, first, units);
         self.state.advance(now + quiet);
         Ok(())

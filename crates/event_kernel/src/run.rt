@@ -1,7 +1,7 @@
 // A run: what stays in it, and what changes.
 ghost use Rattle.std.specs.Prelude.{◌≡◌};
 
-use crate::pen::Pen;
+use crate::trace::Trace;
 use demand_list::Demands;
 use governor::Governor;
 use sched_model::{Admitted, State};
@@ -26,7 +26,7 @@ pub struct InForce {
 pub struct Run<G: Governor> {
     pub governor: G,
     pub state: State,
-    pub pen: Pen,
+    pub trace: Trace,
 }
 
 impl<G: Governor> Run<G> {

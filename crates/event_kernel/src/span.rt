@@ -5,8 +5,8 @@ ghost use Rattle.event_kernel.specs.Boundary.{some_due};
 ghost use Rattle.event_kernel.specs.Settings.{IsSetting, Between, InSpan, Walked, IsMetBy, Leads};
 ghost use Rattle.event_kernel.specs.Settings.{notes_before, notes_in, notes_after};
 
-use crate::pen::Moment;
 use crate::run::{InForce, Run, Setting};
+use crate::trace::Moment;
 use crate::{Listener, Stopped};
 use governor::Governor;
 use sched_model::{Admitted, State};
@@ -50,9 +50,9 @@ impl<G: Governor> Run<G> {
         to: &mut L,
     ) -> Result<(), Stopped>
         requires set { IsSetting set.now }
-        requires at { InSpan G.demand set.now force self.old.state self.old.pen }
+        requires at { InSpan G.demand set.now force self.old.state self.old.trace }
         requires counters { G.stands self.old.governor set.now.plan.now self.old.state }
-        ensures walked { OnOk result (Walked G.demand set.now force self.new.state self.new.pen) }
+        ensures walked { OnOk result (Walked G.demand set.now force self.new.state self.new.trace) }
         ensures counters { OnOk result (G.stands self.new.governor set.now.plan.now self.new.state) }
         ensures told { Leads L.heard L.balked L.stops G.demand set.now to.old to.new
             (notes_in self.old.state) (notes_after self.new.state) result }
@@ -70,9 +70,9 @@ impl<G: Governor> Run<G> {
         to: &mut L,
     ) -> Result<(), Stopped>
         requires set { IsSetting set.now }
-        requires at { InSpan G.demand set.now force self.old.state self.old.pen }
+        requires at { InSpan G.demand set.now force self.old.state self.old.trace }
         requires counters { G.stands self.old.governor set.now.plan.now self.old.state }
-        ensures walked { OnOk result (Walked G.demand set.now force self.new.state self.new.pen) }
+        ensures walked { OnOk result (Walked G.demand set.now force self.new.state self.new.trace) }
         ensures counters { OnOk result (G.stands self.new.governor set.now.plan.now self.new.state) }
         ensures told { Leads L.heard L.balked L.stops G.demand set.now to.old to.new
             (notes_in self.old.state) (notes_after self.new.state) result }
@@ -94,9 +94,9 @@ impl<G: Governor> Run<G> {
         to: &mut L,
     ) -> Result<(), Stopped>
         requires set { IsSetting set.now }
-        requires at { InSpan G.demand set.now force self.old.state self.old.pen }
+        requires at { InSpan G.demand set.now force self.old.state self.old.trace }
         requires counters { G.stands self.old.governor set.now.plan.now self.old.state }
-        ensures walked { OnOk result (Walked G.demand set.now force self.new.state self.new.pen) }
+        ensures walked { OnOk result (Walked G.demand set.now force self.new.state self.new.trace) }
         ensures counters { OnOk result (G.stands self.new.governor set.now.plan.now self.new.state) }
         ensures told { Leads L.heard L.balked L.stops G.demand set.now to.old to.new
             (notes_in self.old.state) (notes_after self.new.state) result }
@@ -115,11 +115,11 @@ impl<G: Governor> Run<G> {
         to: &mut L,
     ) -> Result<(), Stopped>
         requires set { IsSetting set.now }
-        requires between { Between G.demand set.now self.old.state self.old.pen }
+        requires between { Between G.demand set.now self.old.state self.old.trace }
         requires early { self.old.state.now < set.now.ticks }
         requires met { IsMetBy G.demand set.now self.old.state }
         requires counters { G.stands self.old.governor set.now.plan.now self.old.state }
-        ensures between { OnOk result (Between G.demand set.now self.new.state self.new.pen) }
+        ensures between { OnOk result (Between G.demand set.now self.new.state self.new.trace) }
         ensures later { OnOk result (self.old.state.now < self.new.state.now) }
         ensures limit { OnOk result (self.new.state.now ≤ set.now.ticks) }
         ensures counters { OnOk result (G.stands self.new.governor set.now.plan.now self.new.state) }
@@ -133,7 +133,7 @@ impl<G: Governor> Run<G> {
             state: &self.state,
             force,
         };
-        self.pen.close(at, to)?;
+        self.trace.close(at, to)?;
         Ok(())
     }
 }

@@ -4,12 +4,12 @@ ghost use Rattle.sched_model.specs.Plan.{count};
 ghost use Rattle.sched_model.specs.Priority.{stands_before};
 ghost use Rattle.sched_model.specs.States.{row_at, CanRun, IsOfPlan};
 ghost use Rattle.event_kernel.specs.Runs.{demands_of, IsListOf};
-ghost use Rattle.event_kernel.specs.Pens.{row_key, holder_at, IsFirstUndone};
+ghost use Rattle.event_kernel.specs.Segment.{row_key, holder_at, IsFirstUndone};
 ghost use Rattle.event_kernel.specs.Tickwork.{served};
 ghost use Rattle.event_kernel.specs.Settings.{jobs_of, IsSetting, InSpan, Worked, Leads, notes_in, notes_with};
 
-use crate::pen::Moment;
 use crate::run::{InForce, Run, Setting};
+use crate::trace::Moment;
 use crate::{Listener, Stopped};
 use demand_list::Demands;
 use dvs_base::Scheduler;
@@ -102,7 +102,7 @@ impl<G: Governor> Run<G> {
         ensures state { self.new.state ≡ served self.old.state task units ends }
         ensures counters { G.stands self.new.governor plan.now self.new.state }
         ensures of { IsOfPlan plan.now self.new.state }
-        ensures pen { self.new.pen ≡ self.old.pen }
+        ensures trace { self.new.trace ≡ self.old.trace }
     {
         self.governor.ran(plan, &self.state, task, units);
         self.state.run(task, units);
@@ -120,9 +120,9 @@ impl<G: Governor> Run<G> {
         to: &mut L,
     ) -> Result<bool, Stopped>
         requires set { IsSetting set.now }
-        requires at { InSpan G.demand set.now force self.old.state self.old.pen }
+        requires at { InSpan G.demand set.now force self.old.state self.old.trace }
         requires counters { G.stands self.old.governor set.now.plan.now self.old.state }
-        ensures worked { IfOk result (Worked G.demand set.now self.old.state self.new.state self.new.pen) }
+        ensures worked { IfOk result (Worked G.demand set.now self.old.state self.new.state self.new.trace) }
         ensures counters { OnOk result (G.stands self.new.governor set.now.plan.now self.new.state) }
         ensures told { Leads L.heard L.balked L.stops G.demand set.now to.old to.new
             (notes_in self.old.state) (notes_with self.old.state) result }
@@ -143,7 +143,7 @@ impl<G: Governor> Run<G> {
                 state: &self.state,
                 force,
             };
-            self.pen.enter(at, holder, share, to)?;
+            self.trace.enter(at, holder, share, to)?;
             self.serve(set.plan, task, share, share == lacks);
             completed = completed || share == lacks;
             rest -= share;
@@ -154,7 +154,7 @@ impl<G: Governor> Run<G> {
                 state: &self.state,
                 force,
             };
-            self.pen.enter(at, Holder::Nobody, rest, to)?;
+            self.trace.enter(at, Holder::Nobody, rest, to)?;
         }
         self.state.advance(now + 1);
         Ok(completed)

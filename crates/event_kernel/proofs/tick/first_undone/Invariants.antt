@@ -1,6 +1,6 @@
 use Rattle.std.proofs.Common.{◌≡◌, ℕ, ◌<◌, true, IfNone, IfSome}
 use Rattle.sched_model.specs.States.{row_at}
-use Rattle.event_kernel.specs.Pens.{IsFirstUndone}
+use Rattle.event_kernel.specs.Segment.{IsFirstUndone}
 use Rattle.event_kernel.proofs.tick.first_undone.Given as goal
 
 abbrev pub invariant-loop-i : goal.invariant-loop-i

@@ -1,5 +1,5 @@
-use Rattle.std.proofs.Common.{◌≡◌, arith, refl, ap, sym, subst}
-use Rattle.event_kernel.specs.declared.pen.Pen.{Pen}
+use Rattle.std.proofs.Common.{◌≡◌, arith, ap, sym, subst}
+use Rattle.event_kernel.specs.declared.trace.Trace.{Trace}
 use Rattle.sched_model.specs.States.{StateOf, opening}
 use Rattle.sched_model.specs.Totals.{totals_of}
 use Rattle.event_kernel.specs.Heard.{HasHeard, HasBalked}
@@ -16,7 +16,7 @@ loop-set-init g c =
     let m = g.G.Governor.demand in
     let p = c.self.inside.plan.now in
     let dem = demands_of p c.self.inside.demands.now in
-    let first = first-between g.L.Listener.heard g.L.Listener.balked m p dem c.self.inside.ticks c.self.inside.state c.new.result c.self.invariant.0 (ap (λ (q : Pen). q.run) c.new.ensures) (ap (λ (q : Pen). q.idle) c.new.ensures) (ap (λ (q : Pen). q.counts) c.new.ensures) in (
+    let first = first-between g.L.Listener.heard g.L.Listener.balked m p dem c.self.inside.ticks c.self.inside.state c.new.result c.self.invariant.0 (ap (λ (q : Trace). q.sums) c.new.ensures) in (
       first.0,
       subst (λ (s : StateOf). g.G.Governor.stands c.self.inside.governor p s) (sym c.self.invariant.0) c.self.invariant.1,
       omega (arith, first.1),
@@ -82,7 +82,7 @@ returns-in_err-hear-clause-broke_off g c =
     let all : c.loop-set.run.state.now ≡ c.self.inside.ticks =
     omega (arith, c.now.ensures, c.loop-set-test.false, inv.2) in
     at_exit c.from_residual-in_err-hear.result
-    (subst (λ (r : Run). HasBalked g.L.Listener.heard g.L.Listener.balked c.args.to.now (notes_of_run m r) c.hear.new.self) c.self.view_is (end-balked g.L.Listener.heard g.L.Listener.balked m p dem c.self.inside.ticks c.loop-set.run.state.now c.loop-set.run.state c.loop-set.run.pen c.args.to.now c.loop-set.to c.hear.new.self inv.0 all inv.4
+    (subst (λ (r : Run). HasBalked g.L.Listener.heard g.L.Listener.balked c.args.to.now (notes_of_run m r) c.hear.new.self) c.self.view_is (end-balked g.L.Listener.heard g.L.Listener.balked m p dem c.self.inside.ticks c.loop-set.run.state.now c.loop-set.run.state c.loop-set.run.trace c.args.to.now c.loop-set.to c.hear.new.self inv.0 all inv.4
     c.in_err-hear.ensures.balked))
 
 pub returns-clause-ran : goal.returns-clause-ran
@@ -93,7 +93,7 @@ returns-clause-ran g c =
     let inv = c.loop-set.invariant in
     let all : c.loop-set.run.state.now ≡ c.self.inside.ticks =
     omega (arith, c.now.ensures, c.loop-set-test.false, inv.2) in
-    subst (λ (r : Run). HasHeard g.L.Listener.heard c.args.to.now (notes_of_run m r) c.hear.new.self) c.self.view_is (end-heard g.L.Listener.heard g.L.Listener.balked m p dem c.self.inside.ticks c.loop-set.run.state.now c.loop-set.run.state c.loop-set.run.pen c.args.to.now c.loop-set.to c.hear.new.self inv.0 all inv.4
+    subst (λ (r : Run). HasHeard g.L.Listener.heard c.args.to.now (notes_of_run m r) c.hear.new.self) c.self.view_is (end-heard g.L.Listener.heard g.L.Listener.balked m p dem c.self.inside.ticks c.loop-set.run.state.now c.loop-set.run.state c.loop-set.run.trace c.args.to.now c.loop-set.to c.hear.new.self inv.0 all inv.4
     c.in_ok-hear.ensures.heard)
 
 pub returns-in_err-span-clause-deadlines : goal.returns-in_err-span-clause-deadlines
@@ -152,8 +152,8 @@ returns-clause-totals g c =
     let inv = c.loop-set.invariant in
     let all : c.loop-set.run.state.now ≡ c.self.inside.ticks =
     omega (arith, c.now.ensures, c.loop-set-test.false, inv.2) in
-    subst (λ (r : Run). totals_by c.loop-set.run.pen.run c.loop-set.run.pen.idle c.loop-set.run.pen.counts.released c.loop-set.run.pen.counts.finished c.loop-set.run.pen.counts.decisions ≡ totals_of (notes_of_run m r)) c.self.view_is
-    (end-totals g.L.Listener.heard g.L.Listener.balked m p dem c.self.inside.ticks c.loop-set.run.state.now c.loop-set.run.state c.loop-set.run.pen inv.0 all)
+    subst (λ (r : Run). totals_by c.loop-set.run.trace.sums ≡ totals_of (notes_of_run m r)) c.self.view_is
+    (end-totals g.L.Listener.heard g.L.Listener.balked m p dem c.self.inside.ticks c.loop-set.run.state.now c.loop-set.run.state c.loop-set.run.trace inv.0 all)
 
 pub returns-in_err-span-clause-never_falls : goal.returns-in_err-span-clause-never_falls
 returns-in_err-span-clause-never_falls g c = omega (arith, c.loop-set.invariant.3, c.in_err-span.ensures.told.1)

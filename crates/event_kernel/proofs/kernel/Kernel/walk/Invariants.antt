@@ -6,7 +6,7 @@ use Rattle.event_kernel.proofs.kernel.Kernel.walk.Given as goal
 abbrev pub invariant-loop-set : goal.invariant-loop-set
 invariant-loop-set g l =
     let m = g.G.Governor.demand in
-    Between m l.set l.run.state l.run.pen
+    Between m l.set l.run.state l.run.trace
     × g.G.Governor.stands l.run.governor l.set.plan.now l.run.state
     × (l.run.state.now ≤ l.set.ticks)
     × (g.L.Listener.stops l.fn.to ≤ g.L.Listener.stops l.to)

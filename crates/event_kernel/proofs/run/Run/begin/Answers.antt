@@ -1,4 +1,4 @@
-use Rattle.std.proofs.Common.{◌≡◌, ℕ, arith, sym, subst, [], ◌∷◌, ap, ◌∙◌}
+use Rattle.std.proofs.Common.{◌≡◌, arith, sym, subst, [], ◌∷◌, ap, ◌∙◌}
 use Rattle.grid_fraction.specs.Numbers.{list_below}
 use Rattle.sched_model.specs.declared.holder.Holder.TheVariants.{Nobody}
 use Rattle.sched_model.specs.Plan.{count}
@@ -6,10 +6,10 @@ use Rattle.sched_model.specs.Notes.{all_release_notes}
 use Rattle.sched_model.specs.States.{IsOfPlan, StateOf}
 use Rattle.governor.specs.Schedule.{course}
 use Rattle.governor.specs.Steps.{IsAtDecision}
-use Rattle.event_kernel.specs.declared.pen.Pen.{Pen}
+use Rattle.event_kernel.specs.declared.trace.Trace.{Trace}
 use Rattle.event_kernel.specs.Boundary.{speed_note}
 use Rattle.event_kernel.specs.Heard.{HasHeard}
-use Rattle.event_kernel.specs.Pens.{with_notes}
+use Rattle.event_kernel.specs.Segment.{with_notes}
 use Rattle.event_kernel.specs.Settings.{jobs_of, Leads, notes_before, notes_in}
 use Rattle.event_kernel.specs.Walking.{IsInSpan, told_in}
 use Rattle.event_kernel.proofs.Bounds.{bounds}
@@ -19,7 +19,7 @@ use Rattle.event_kernel.proofs.Ofplan.{of-state}
 use Rattle.event_kernel.proofs.Onward.{note-is, begun, begin-balked, speed-balked}
 use Rattle.event_kernel.proofs.Releasing.{course-len, low-exec}
 use Rattle.event_kernel.proofs.Spanning.{at-boundary, begins-span}
-use Rattle.event_kernel.proofs.Tallying.{no-decided}
+use Rattle.event_kernel.proofs.Summing.{no-decided}
 use Rattle.event_kernel.proofs.run.Run.begin.Goals as goal
 
 pub release_all-requires-clause-at : goal.release_all-requires-clause-at
@@ -67,7 +67,7 @@ decide-requires-clause-room g c =
     let p = c.args.set.now.plan.now in
     omega (
       arith,
-      ap (λ (q : Pen). q.counts.decisions) c.in_ok-release_all.ensures.pen,
+      ap (λ (q : Trace). q.sums.decisions) c.in_ok-release_all.ensures.trace,
       no-decided p (jobs_of c.args.set.now) c.args.self.now.state.now (list_below (count p) (λ i. i)),
       c.requires.between.few_decisions,
       c.requires.early,
@@ -97,15 +97,15 @@ returns-clause-in_span g c =
     let adm = bounds p c.requires.set.admitted in
     let same : st.now ≡ t = ap (λ (v : StateOf). v.now) c.in_ok-release_all.ensures.state ∙ course-len m p dem t in
     let clock : c.state.inside.now ≡ t = ap (λ (v : StateOf). v.now) c.state.view_is in
-    let pen : Pen = record { holder = Nobody; start = 0; units = 0; run = c.decide.new.pen.run; idle = c.decide.new.pen.idle; counts = c.decide.new.pen.counts } in
-    subst (λ n. IsInSpan m p dem c.args.set.now.ticks n st.now e st pen) (sym clock)
-    (subst (λ n. IsInSpan m p dem c.args.set.now.ticks t n e st pen) (sym same)
-    (begins-span m p dem c.args.set.now.ticks t e c.args.self.now.state st c.args.self.now.pen pen
+    let trace : Trace = record { segment = record { holder = Nobody; start = 0; units = 0 }; sums = c.decide.new.trace.sums } in
+    subst (λ n. IsInSpan m p dem c.args.set.now.ticks n st.now e st trace) (sym clock)
+    (subst (λ n. IsInSpan m p dem c.args.set.now.ticks t n e st trace) (sym same)
+    (begins-span m p dem c.args.set.now.ticks t e c.args.self.now.state st c.args.self.now.trace trace
     adm.few_tasks c.requires.early c.requires.set.low_ticks c.requires.set.within c.requires.between c.in_ok-release_all.ensures.state c.in_ok-index.ensures.index
-    (ap (λ (q : Pen). record { holder = Nobody; start = 0; units = 0; run = q.run; idle = q.idle; counts = q.counts })
-    (c.in_ok-index.ensures.pen
-    ∙ (ap (λ (q : Pen). with_notes q (speed_note p st.now (m p st) ∷ [])) c.in_ok-release_all.ensures.pen
-    ∙ ap (λ n. with_notes (with_notes c.args.self.now.pen (all_release_notes p dem t)) (n ∷ []))
+    (ap (λ (q : Trace). record { segment = record { holder = Nobody; start = 0; units = 0 }; sums = q.sums })
+    (c.in_ok-index.ensures.trace
+    ∙ (ap (λ (q : Trace). with_notes q (speed_note p st.now (m p st) ∷ [])) c.in_ok-release_all.ensures.trace
+    ∙ ap (λ n. with_notes (with_notes c.args.self.now.trace (all_release_notes p dem t)) (n ∷ []))
     (note-is g.L.Listener.heard g.L.Listener.balked m p dem c.args.set.now.ticks t st c.in_ok-release_all.ensures.state))))))
 
 pub returns-clause-told : goal.returns-clause-told

@@ -1,4 +1,4 @@
-use Rattle.std.proofs.Common.{◌≡◌, ◌+◌, ◌-◌, arith, subst}
+use Rattle.std.proofs.Common.{◌≡◌, ◌-◌, arith, subst}
 use Rattle.event_kernel.specs.Settings.{Leads, notes_in, notes_after}
 use Rattle.event_kernel.specs.Walking.{HasWalked}
 use Rattle.event_kernel.specs.Settings.{jobs_of}
@@ -21,7 +21,7 @@ returns-clause-walked g c =
     let here = c.in_ok-stay.ensures.in_span in
     let worked = c.in_ok-work.ensures.worked in
     let back : c.stay.new.self.state.now ≡ c.work.new.self.state.now - 1 = omega (arith, now-next adm c.requires.set.low_ticks here worked) in
-    subst (λ n. HasWalked g.G.Governor.demand c.args.set.now.plan.now (jobs_of c.args.set.now) c.args.set.now.ticks c.args.force.from n c.args.force.index c.work.new.self.state c.work.new.self.pen) back
+    subst (λ n. HasWalked g.G.Governor.demand c.args.set.now.plan.now (jobs_of c.args.set.now) c.args.set.now.ticks c.args.force.from n c.args.force.index c.work.new.self.state c.work.new.self.trace) back
     (last-ends adm c.requires.set.low_ticks here worked c.in_ok-stay.ensures.last)
 
 pub returns-clause-told : goal.returns-clause-told

@@ -6,7 +6,7 @@ use Rattle.event_kernel.proofs.run.Run.by_ticks.Given as goal
 abbrev pub invariant-loop-completed : goal.invariant-loop-completed
 invariant-loop-completed g l =
     let m = g.G.Governor.demand in
-    InSpan m l.fn.set l.fn.force l.self.state l.self.pen
+    InSpan m l.fn.set l.fn.force l.self.state l.self.trace
     × g.G.Governor.stands l.self.governor l.fn.set.plan.now l.self.state
     × (g.L.Listener.stops l.fn.to ≤ g.L.Listener.stops l.to)
     × ((a : g.row.L.Denot) → HasHeard g.L.Listener.heard a (notes_in l.fn.self.state m l.fn.set) l.fn.to → HasHeard g.L.Listener.heard a (notes_in l.self.state m l.fn.set) l.to)

@@ -1,10 +1,10 @@
-use Rattle.std.proofs.Common.{◌≡◌, ℕ, ◌-◌, ◌/◌, ◌<◌, min, length, arith, ap, ◌∙◌, sym, subst}
-use Rattle.std.specs.Prelude.{Some, None, Option}
+use Rattle.std.proofs.Common.{◌≡◌, ℕ, ◌-◌, ◌/◌, ◌<◌, length, arith, ap, ◌∙◌, sym, subst}
+use Rattle.std.specs.Prelude.{Option}
 use Rattle.freq_table.specs.declared.machine.Point.{Point}
 use Rattle.freq_table.specs.Tables.{Table, speed_at}
 use Rattle.sched_model.specs.Plan.{point}
 use Rattle.sched_model.specs.States.{StateOf}
-use Rattle.event_kernel.specs.Pens.{IsFirst}
+use Rattle.event_kernel.specs.Segment.{IsFirst}
 use Rattle.event_kernel.specs.Walking.{AreQuiet}
 use Rattle.event_kernel.specs.Settings.{jobs_of}
 use Rattle.event_kernel.proofs.Bounds.{bounds}

@@ -9,10 +9,10 @@ use Rattle.sched_model.specs.Notes.{all_release_notes}
 use Rattle.governor.specs.Schedule.{course}
 use Rattle.event_kernel.specs.Heard.{HasBalked, Tells}
 use Rattle.event_kernel.proofs.Ofplan.{of-prior}
-use Rattle.event_kernel.specs.Pens.{with_notes}
+use Rattle.event_kernel.specs.Segment.{with_notes}
 use Rattle.event_kernel.proofs.Hearing.{at_error}
 use Rattle.event_kernel.proofs.Atwork.{read_row}
-use Rattle.event_kernel.proofs.Releasing.{Releasing, notes_upto, releasing-start, long-there, passed, passed-notes, opens, opens-pen, start-pen, has-room, opens-balked, can-release, released-marked, released-unmarked, prior-done, low-exec, course-len}
+use Rattle.event_kernel.proofs.Releasing.{Releasing, notes_upto, releasing-start, long-there, passed, passed-notes, opens, opens-trace, start-trace, has-room, opens-balked, can-release, released-marked, released-unmarked, prior-done, low-exec, course-len}
 use Rattle.event_kernel.proofs.run.Run.release_all.Goals as goal
 use Rattle.event_kernel.proofs.run.Run.release_all.Goals.{then-index-now+in_ok-release_one, else-index-now}
 
@@ -27,7 +27,7 @@ loop-task-init g c =
       subst (λ (s : StateOf). Releasing p dem past g.L.Listener.heard 0 false s c.args.to.now c.args.to.now) (sym here.state) (releasing-start p dem past g.L.Listener.heard c.args.to.now),
       c.requires.counters,
       subst (λ (s : StateOf). IsOfPlan p s) (sym here.state) (of-prior p dem past (low-exec m p dem t here.within)),
-      start-pen p dem past c.args.self.now.pen,
+      start-trace p dem past c.args.self.now.trace,
       omega arith,
     )
 
@@ -133,10 +133,10 @@ loop-task-preserved g c =
       | then-index-now+in_ok-release_one w ↦ (let due : (row_at st i).deadline ≡ st.now = sym (ap (λ (q : Row). q.deadline) is) ∙ (w.if-index-now.true ∙ clock) in
           let next : Releasing p dem past g.L.Listener.heard (i + 1) true w.release_one.new.self.state c.args.to.now w.release_one.new.to =
           opens p dem past adm.some_period g.L.Listener.heard g.L.Listener.balked c.args.to.now i any st c.loop-task.to r lt due w.release_one.new.self.state w.release_one.new.to w.in_ok-release_one.ensures.told.0 w.in_ok-release_one.ensures.state in
-          rw (w.any-is, w.self-is, w.to-is) (next, w.in_ok-release_one.ensures.counters, w.in_ok-release_one.ensures.of, opens-pen p dem past adm.some_period g.L.Listener.heard g.L.Listener.balked c.args.to.now i any st c.loop-task.to r lt due c.args.self.now.pen c.loop-task.self.pen w.release_one.new.self.pen c.loop-task.invariant.3 w.in_ok-release_one.ensures.pen, omega (arith, c.loop-task.invariant.4, w.in_ok-release_one.ensures.told.1)))
+          rw (w.any-is, w.self-is, w.to-is) (next, w.in_ok-release_one.ensures.counters, w.in_ok-release_one.ensures.of, opens-trace p dem past adm.some_period g.L.Listener.heard g.L.Listener.balked c.args.to.now i any st c.loop-task.to r lt due c.args.self.now.trace c.loop-task.self.trace w.release_one.new.self.trace c.loop-task.invariant.3 w.in_ok-release_one.ensures.trace, omega (arith, c.loop-task.invariant.4, w.in_ok-release_one.ensures.told.1)))
       | else-index-now w ↦ (let early : nat_eq (row_at st i).deadline st.now ≡ false = ap₂ (λ a b. nat_eq a b) (sym (ap (λ (q : Row). q.deadline) is)) (sym clock) ∙ ne_eqb _ _ w.if-index-now.false in
           let next : Releasing p dem past g.L.Listener.heard (i + 1) any st c.args.to.now c.loop-task.to = passed p dem past adm.some_period g.L.Listener.heard g.L.Listener.balked c.args.to.now i any st c.loop-task.to r lt (here.within.none i) early in
-          rw (w.any-is, w.self-is, w.to-is) (next, c.loop-task.invariant.1, c.loop-task.invariant.2, c.loop-task.invariant.3 ∙ ap (λ ns. with_notes c.args.self.now.pen ns) (sym (passed-notes p dem past adm.some_period g.L.Listener.heard g.L.Listener.balked c.args.to.now i any st c.loop-task.to r lt early)), c.loop-task.invariant.4))
+          rw (w.any-is, w.self-is, w.to-is) (next, c.loop-task.invariant.1, c.loop-task.invariant.2, c.loop-task.invariant.3 ∙ ap (λ ns. with_notes c.args.self.now.trace ns) (sym (passed-notes p dem past adm.some_period g.L.Listener.heard g.L.Listener.balked c.args.to.now i any st c.loop-task.to r lt early)), c.loop-task.invariant.4))
     ]
 
 pub returns-then-any-clause-state : goal.returns-then-any-clause-state
@@ -178,27 +178,27 @@ release_one-requires-clause-room g c =
     let m = g.G.Governor.demand in
     let p = c.args.set.now.plan.now in
     let dem = jobs_of c.args.set.now in
-    has-room p dem (course m p dem c.args.self.now.state.now) c.loop-task.task c.args.self.now.pen c.loop-task.self.pen
+    has-room p dem (course m p dem c.args.self.now.state.now) c.loop-task.task c.args.self.now.trace c.loop-task.self.trace
     (omega (arith, (bounds p c.requires.set.admitted).few_tasks, c.loop-task-test.true, c.count-task-end.ensures.count)) c.requires.room c.loop-task.invariant.3
 
-pub returns-then-any-clause-pen : goal.returns-then-any-clause-pen
-returns-then-any-clause-pen g c =
+pub returns-then-any-clause-trace : goal.returns-then-any-clause-trace
+returns-then-any-clause-trace g c =
     let m = g.G.Governor.demand in
     let p = c.args.set.now.plan.now in
     let dem = jobs_of c.args.set.now in
     let t = c.args.self.now.state.now in
     let whole : c.loop-task.task ≡ count p = omega (arith, c.count-task-end.ensures.count) in
     c.loop-task.invariant.3
-    ∙ (ap (λ n. with_notes c.args.self.now.pen (notes_upto p dem (course m p dem t) n)) whole
-    ∙ ap (λ n. with_notes c.args.self.now.pen (all_release_notes p dem n)) (course-len m p dem t))
+    ∙ (ap (λ n. with_notes c.args.self.now.trace (notes_upto p dem (course m p dem t) n)) whole
+    ∙ ap (λ n. with_notes c.args.self.now.trace (all_release_notes p dem n)) (course-len m p dem t))
 
-pub returns-else-any-clause-pen : goal.returns-else-any-clause-pen
-returns-else-any-clause-pen g c =
+pub returns-else-any-clause-trace : goal.returns-else-any-clause-trace
+returns-else-any-clause-trace g c =
     let m = g.G.Governor.demand in
     let p = c.args.set.now.plan.now in
     let dem = jobs_of c.args.set.now in
     let t = c.args.self.now.state.now in
     let whole : c.loop-task.task ≡ count p = omega (arith, c.count-task-end.ensures.count) in
     c.loop-task.invariant.3
-    ∙ (ap (λ n. with_notes c.args.self.now.pen (notes_upto p dem (course m p dem t) n)) whole
-    ∙ ap (λ n. with_notes c.args.self.now.pen (all_release_notes p dem n)) (course-len m p dem t))
+    ∙ (ap (λ n. with_notes c.args.self.now.trace (notes_upto p dem (course m p dem t) n)) whole
+    ∙ ap (λ n. with_notes c.args.self.now.trace (all_release_notes p dem n)) (course-len m p dem t))

@@ -1,7 +1,7 @@
 use Rattle.std.proofs.Common.{◌≡◌, ◌≤◌}
 use Rattle.sched_model.specs.States.{IsOfPlan}
 use Rattle.governor.specs.Schedule.{course}
-use Rattle.event_kernel.specs.Pens.{with_notes}
+use Rattle.event_kernel.specs.Segment.{with_notes}
 use Rattle.event_kernel.specs.Settings.{jobs_of}
 use Rattle.event_kernel.proofs.Releasing.{Releasing, notes_upto}
 use Rattle.event_kernel.proofs.run.Run.release_all.Given as goal
@@ -14,5 +14,5 @@ invariant-loop-task g l =
     Releasing p dem past g.L.Listener.heard l.task l.any l.self.state l.fn.to l.to
     × g.G.Governor.stands l.self.governor p l.self.state
     × IsOfPlan p l.self.state
-    × (l.self.pen ≡ with_notes l.fn.self.pen (notes_upto p dem past l.task))
+    × (l.self.trace ≡ with_notes l.fn.self.trace (notes_upto p dem past l.task))
     × (g.L.Listener.stops l.fn.to ≤ g.L.Listener.stops l.to)

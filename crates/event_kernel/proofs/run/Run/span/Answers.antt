@@ -1,4 +1,4 @@
-use Rattle.std.proofs.Common.{◌≡◌, ◌<◌, arith, ◌∙◌, sym, subst}
+use Rattle.std.proofs.Common.{arith}
 use Rattle.event_kernel.specs.Settings.{Leads, notes_before}
 use Rattle.event_kernel.proofs.Bounds.{bounds}
 use Rattle.event_kernel.proofs.Hearing.{at_error}
@@ -32,7 +32,7 @@ returns-in_err-close-clause-told g c =
 
 pub returns-clause-between : goal.returns-clause-between
 returns-clause-between g c =
-    close-between (bounds _ c.requires.set.admitted) c.requires.set.low_ticks c.in_ok-walk_span.ensures.walked c.close.new.self c.in_ok-close.ensures.pen
+    close-between (bounds _ c.requires.set.admitted) c.requires.set.low_ticks c.in_ok-walk_span.ensures.walked c.close.new.self c.in_ok-close.ensures.trace
 
 pub returns-clause-later : goal.returns-clause-later
 returns-clause-later g c =

@@ -6,7 +6,7 @@ use Rattle.sched_model.specs.States.{after_advance, CanRun, StateOf}
 use Rattle.std.specs.Prelude.{Option, IfSome}
 use Rattle.event_kernel.specs.Heard.{HasHeard, HasBalked}
 use Rattle.event_kernel.specs.Settings.{jobs_of, InSpan, Leads, notes_in}
-use Rattle.event_kernel.specs.Pens.{entered, entering_notes, holder_at, IsFirst}
+use Rattle.event_kernel.specs.Segment.{entered, entering_notes, holder_at, IsFirst}
 use Rattle.event_kernel.specs.Walking.{gives, IsLastTick}
 use Rattle.event_kernel.proofs.Bounds.{bounds}
 use Rattle.event_kernel.proofs.Quieting.{is-first, first-in, entry-in, of-plan, can-tell, fit, can-run-first, last-now, last-then}
@@ -49,7 +49,7 @@ returns-in_err-enter-clause-told g c =
     let st = c.args.self.now.state in
     let is = is-first c.args.set.now.plan.now st c.first_undone-first.result c.first_undone-first.ensures.none c.first_undone-first.ensures.first in
     let told = c.in_err-enter.ensures.told in
-    let balks = subst (λ h. HasBalked g.L.Listener.heard g.L.Listener.balked c.args.to.now (entering_notes c.args.set.now.plan.now st c.args.force.from c.args.force.index h c.args.self.now.pen) c.enter.new.to) c.holder_of-holder.ensures told.0 in
+    let balks = subst (λ h. HasBalked g.L.Listener.heard g.L.Listener.balked c.args.to.now (entering_notes c.args.set.now.plan.now st c.args.force.from c.args.force.index h c.args.self.now.trace) c.enter.new.to) c.holder_of-holder.ensures told.0 in
     at_error (Leads g.L.Listener.heard g.L.Listener.balked g.L.Listener.stops g.G.Governor.demand c.args.set.now c.args.to.now c.enter.new.to (notes_in st) (notes_in st)) c.from_residual.result c.from_residual.ensures.0
     (λ x. (
       stays-balked g.L.Listener.heard g.L.Listener.balked (bounds _ c.requires.set.admitted) c.requires.set.low_ticks c.requires.at c.first_undone-first.result is c.quiet_ticks-quiet.ensures c.args.to.now c.enter.new.to (omega (arith, c.if-quiet-eq0.false)) balks,
@@ -103,17 +103,17 @@ module _ (g : Over) (c : goal.After-advance g) where
       ∙ (ap (λ (v : StateOf). after_advance v (c.state.inside.now + n)) c.serve_first.ensures.state
       ∙ ap₂ (λ f t. after_advance (gives st first (n * f)) (t + n)) speed (ap (λ (v : StateOf). v.now) c.state.view_is))
 
-  pens : c.serve_first.new.self.pen ≡ entered p st e (holder_at st first) (n * (point p e).speed) c.args.self.now.pen
-  pens = c.serve_first.ensures.pen ∙ (c.in_ok-enter.ensures.pen ∙ ap₂ (λ h f. entered p st e h (n * f) c.args.self.now.pen) c.holder_of-holder.ensures speed)
+  traces : c.serve_first.new.self.trace ≡ entered p st e (holder_at st first) (n * (point p e).speed) c.args.self.now.trace
+  traces = c.serve_first.ensures.trace ∙ (c.in_ok-enter.ensures.trace ∙ ap₂ (λ h f. entered p st e h (n * f) c.args.self.now.trace) c.holder_of-holder.ensures speed)
 
-  tells : HasHeard g.L.Listener.heard c.args.to.now (entering_notes p st c.args.force.from e (holder_at st first) c.args.self.now.pen) c.enter.new.to
-  tells = subst (λ h. HasHeard g.L.Listener.heard c.args.to.now (entering_notes p st c.args.force.from e h c.args.self.now.pen) c.enter.new.to) c.holder_of-holder.ensures c.in_ok-enter.ensures.told.0
+  tells : HasHeard g.L.Listener.heard c.args.to.now (entering_notes p st c.args.force.from e (holder_at st first) c.args.self.now.trace) c.enter.new.to
+  tells = subst (λ h. HasHeard g.L.Listener.heard c.args.to.now (entering_notes p st c.args.force.from e h c.args.self.now.trace) c.enter.new.to) c.holder_of-holder.ensures c.in_ok-enter.ensures.told.0
 
-  step : InSpan g.G.Governor.demand c.args.set.now c.args.force c.advance.new.self c.serve_first.new.self.pen
+  step : InSpan g.G.Governor.demand c.args.set.now c.args.force c.advance.new.self c.serve_first.new.self.trace
       × ((a : g.row.L.Denot) → HasHeard g.L.Listener.heard a (notes_in st g.G.Governor.demand c.args.set.now) c.args.to.now → HasHeard g.L.Listener.heard a (notes_in c.advance.new.self g.G.Governor.demand c.args.set.now) c.enter.new.to)
   step =
       stays g.L.Listener.heard g.L.Listener.balked (bounds _ c.requires.set.admitted) c.requires.set.low_ticks c.requires.at first is c.quiet_ticks-quiet.ensures c.args.to.now c.enter.new.to
-      (omega (arith, c.if-quiet-eq0.false)) tells c.advance.new.self c.serve_first.new.self.pen moved pens
+      (omega (arith, c.if-quiet-eq0.false)) tells c.advance.new.self c.serve_first.new.self.trace moved traces
 
 pub returns-clause-in_span : goal.returns-clause-in_span
 returns-clause-in_span g c = (step g c).0

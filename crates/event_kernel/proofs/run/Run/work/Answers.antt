@@ -1,4 +1,4 @@
-use Rattle.std.proofs.Common.{◌≡◌, ℕ, ◌+◌, ◌-◌, ◌<◌, ◌≤◌, min, Bool, true, ◌||◌, length, arith, refl, ap, ◌∙◌, sym, subst, inl, inr, ◌⊎◌, nat_eq}
+use Rattle.std.proofs.Common.{◌≡◌, ℕ, ◌+◌, ◌<◌, ◌≤◌, min, Bool, true, ◌||◌, length, arith, refl, ap, ◌∙◌, sym, subst, inl, inr, ◌⊎◌, nat_eq}
 use Rattle.freq_table.specs.declared.machine.Point.{Point}
 use Rattle.freq_table.specs.Tables.{Table, speed_at}
 use Rattle.sched_model.specs.declared.holder.Holder.TheVariants.{Nobody}
@@ -6,9 +6,8 @@ use Rattle.sched_model.specs.Plan.{count}
 use Rattle.sched_model.specs.States.{row_at, after_advance, StateOf}
 use Rattle.event_kernel.specs.declared.run.Run.{Run}
 use Rattle.event_kernel.specs.Heard.{HasHeard, HasBalked}
-use Rattle.event_kernel.specs.Pens.{entered, entering_notes}
+use Rattle.event_kernel.specs.Segment.{entered, entering_notes}
 use Rattle.event_kernel.specs.Settings.{jobs_of, Worked, Leads, notes_in, notes_with}
-use Rattle.event_kernel.specs.Tickwork.{HasWorked}
 use Rattle.event_kernel.proofs.Bounds.{bounds}
 use Rattle.event_kernel.proofs.Hearing.{at_error}
 use Rattle.event_kernel.proofs.Atwork.{entry-there, begin, rows-there, can, fits, ready, turned, balked_at, idle_balked, idled, full, finished}
@@ -60,7 +59,7 @@ returns-in_err-enter-clause-told g c =
     let st = c.loop-rest.self.state in
     let told = c.in_err-enter.ensures.told in
     let se = c.min-share.ensures ∙ ap (λ u. min c.loop-rest.rest u) c.lacking-lacks.ensures in
-    let balks = subst (λ h. HasBalked g.L.Listener.heard g.L.Listener.balked c.loop-rest.to (entering_notes p st c.args.force.from c.args.force.index h c.loop-rest.self.pen) c.enter.new.to) c.holder_of-holder.ensures told.0 in
+    let balks = subst (λ h. HasBalked g.L.Listener.heard g.L.Listener.balked c.loop-rest.to (entering_notes p st c.args.force.from c.args.force.index h c.loop-rest.self.trace) c.enter.new.to) c.holder_of-holder.ensures told.0 in
     at_error (Leads g.L.Listener.heard g.L.Listener.balked g.L.Listener.stops g.G.Governor.demand c.args.set.now c.args.to.now c.enter.new.to (notes_in c.args.self.now.state) (notes_with c.args.self.now.state)) c.from_residual.result c.from_residual.ensures.0
     (λ x. (
       λ a h. tick-balked g.L.Listener.heard g.L.Listener.balked g.G.Governor.demand p (jobs_of c.args.set.now) c.args.set.now.ticks c.args.self.now.state.now a c.enter.new.to c.requires.at.before_end
@@ -85,7 +84,7 @@ pub loop-rest-preserved : goal.loop-rest-preserved
 loop-rest-preserved g c =
     let p = c.args.set.now.plan.now in
     let st = c.loop-rest.self.state in
-    let pen = c.loop-rest.self.pen in
+    let trace = c.loop-rest.self.trace in
     let share = c.min-share.result in
     let whole : Bool = nat_eq share c.lacking-lacks.result in
     let now_is : c.if-completed.completed ≡ (c.loop-rest.completed || whole) =
@@ -93,11 +92,11 @@ loop-rest-preserved g c =
       | then-completed w ↦ w.completed-is ∙ w.if-completed.true ∙ sym (ap (λ b. b || whole) w.if-completed.true)
       | else-completed w ↦ w.completed-is ∙ sym (ap (λ b. b || whole) w.if-completed.false)
     ] in
-    let tells = subst (λ h. HasHeard g.L.Listener.heard c.loop-rest.to (entering_notes p st c.args.force.from c.args.force.index h pen) c.enter.new.to) c.holder_of-holder.ensures c.in_ok-enter.ensures.told.0 in (
-      turned (bounds _ c.requires.set.admitted) c.requires.at.work c.loop-rest.invariant.0 c.enter.new.to c.in-Some.task share whole c.if-completed.completed c.serve.new.self.state c.serve.new.self.pen
+    let tells = subst (λ h. HasHeard g.L.Listener.heard c.loop-rest.to (entering_notes p st c.args.force.from c.args.force.index h trace) c.enter.new.to) c.holder_of-holder.ensures c.in_ok-enter.ensures.told.0 in (
+      turned (bounds _ c.requires.set.admitted) c.requires.at.work c.loop-rest.invariant.0 c.enter.new.to c.in-Some.task share whole c.if-completed.completed c.serve.new.self.state c.serve.new.self.trace
           c.loop-rest-test.true c.in-Some.ensures.first (c.min-share.ensures ∙ ap (λ u. min c.loop-rest.rest u) c.lacking-lacks.ensures)
           (ap (λ u. nat_eq share u) c.lacking-lacks.ensures) now_is tells c.serve.ensures.state
-          (c.serve.ensures.pen ∙ (c.in_ok-enter.ensures.pen ∙ ap (λ h. entered p st c.args.force.index h share pen) c.holder_of-holder.ensures)),
+          (c.serve.ensures.trace ∙ (c.in_ok-enter.ensures.trace ∙ ap (λ h. entered p st c.args.force.index h share trace) c.holder_of-holder.ensures)),
       c.serve.ensures.counters,
       c.serve.ensures.of,
       omega (arith, c.loop-rest.invariant.3, c.in_ok-enter.ensures.told.1),
@@ -139,25 +138,25 @@ module _ (g : Over) (c : goal.After-advance g) where
   moved : c.if-rest-gt0.self.state ≡ c.loop-rest.self.state → c.advance.new.self ≡ after_advance c.loop-rest.self.state (c.args.self.now.state.now + 1)
   moved same = c.advance.ensures ∙ (ap (λ n. after_advance c.if-rest-gt0.self.state (n + 1)) (ap (λ (v : StateOf). v.now) c.state.view_is) ∙ ap (λ (v : StateOf). after_advance v (c.args.self.now.state.now + 1)) same)
 
-  step : Worked g.G.Governor.demand c.args.set.now c.args.self.now.state c.advance.new.self c.if-rest-gt0.self.pen c.loop-rest.completed
+  step : Worked g.G.Governor.demand c.args.set.now c.args.self.now.state c.advance.new.self c.if-rest-gt0.self.trace c.loop-rest.completed
       × ((a : g.row.L.Denot) → HasHeard g.L.Listener.heard a (notes_in c.args.self.now.state g.G.Governor.demand c.args.set.now) c.args.to.now → HasHeard g.L.Listener.heard a (notes_with c.args.self.now.state g.G.Governor.demand c.args.set.now) c.if-rest-gt0.to)
       × (g.L.Listener.stops c.args.to.now ≤ g.L.Listener.stops c.if-rest-gt0.to)
   step =
       elim c.if-rest-gt0.branch [
-        | then-rest-gt0+in_ok-enter-2 w ↦ (let pen = c.if-rest-gt0.self.pen in
-            let r = finished (bounds _ c.requires.set.admitted) c.requires.at.work c.loop-rest.invariant.0 c.if-rest-gt0.to pen c.advance.new.self ends
-            (idled (bounds _ c.requires.set.admitted) c.requires.at.work c.loop-rest.invariant.0 c.if-rest-gt0.to pen w.if-rest-gt0.true
-            (subst (λ (x : g.row.L.Denot). HasHeard g.L.Listener.heard c.loop-rest.to (entering_notes c.args.set.now.plan.now c.loop-rest.self.state c.args.force.from c.args.force.index Nobody c.loop-rest.self.pen) x) (sym w.to-is) w.in_ok-enter-2.ensures.told.0)
-            (ap (λ (x : Run g.row.G.Denot). x.pen) w.self-is ∙ w.in_ok-enter-2.ensures.pen))
+        | then-rest-gt0+in_ok-enter-2 w ↦ (let trace = c.if-rest-gt0.self.trace in
+            let r = finished (bounds _ c.requires.set.admitted) c.requires.at.work c.loop-rest.invariant.0 c.if-rest-gt0.to trace c.advance.new.self ends
+            (idled (bounds _ c.requires.set.admitted) c.requires.at.work c.loop-rest.invariant.0 c.if-rest-gt0.to trace w.if-rest-gt0.true
+            (subst (λ (x : g.row.L.Denot). HasHeard g.L.Listener.heard c.loop-rest.to (entering_notes c.args.set.now.plan.now c.loop-rest.self.state c.args.force.from c.args.force.index Nobody c.loop-rest.self.trace) x) (sym w.to-is) w.in_ok-enter-2.ensures.told.0)
+            (ap (λ (x : Run g.row.G.Denot). x.trace) w.self-is ∙ w.in_ok-enter-2.ensures.trace))
             (moved (ap (λ (x : Run g.row.G.Denot). x.state) w.self-is)) in (
               r.0,
               r.1,
               omega (arith, c.loop-rest.invariant.3, w.in_ok-enter-2.ensures.told.1, ap g.L.Listener.stops w.to-is),
             ))
-        | else-rest-gt0 w ↦ (let r = finished (bounds _ c.requires.set.admitted) c.requires.at.work c.loop-rest.invariant.0 c.loop-rest.to c.loop-rest.self.pen c.advance.new.self ends
+        | else-rest-gt0 w ↦ (let r = finished (bounds _ c.requires.set.admitted) c.requires.at.work c.loop-rest.invariant.0 c.loop-rest.to c.loop-rest.self.trace c.advance.new.self ends
             (full (bounds _ c.requires.set.admitted) c.requires.at.work c.loop-rest.invariant.0 (omega arith))
             (moved (ap (λ (x : Run g.row.G.Denot). x.state) w.self-is)) in (
-              subst (λ q. Worked g.G.Governor.demand c.args.set.now c.args.self.now.state c.advance.new.self q c.loop-rest.completed) (sym (ap (λ (x : Run g.row.G.Denot). x.pen) w.self-is)) r.0,
+              subst (λ q. Worked g.G.Governor.demand c.args.set.now c.args.self.now.state c.advance.new.self q c.loop-rest.completed) (sym (ap (λ (x : Run g.row.G.Denot). x.trace) w.self-is)) r.0,
               λ a h. subst (λ (x : g.row.L.Denot). HasHeard g.L.Listener.heard a (notes_with c.args.self.now.state g.G.Governor.demand c.args.set.now) x) (sym w.to-is) (r.1 a h),
               omega (arith, c.loop-rest.invariant.3, ap g.L.Listener.stops w.to-is),
             ))

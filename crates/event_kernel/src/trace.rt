@@ -1,33 +1,23 @@
-// The segment that is being written.
+// What is written of a trace, and how it is told.
 ghost use Rattle.std.specs.Prelude.{◌≡◌, ◌+◌, ◌*◌, ◌<◌, ◌≤◌, ◌^◌, OnOk};
 ghost use Rattle.sched_model.specs.Segments.{same_holder, position_of};
 ghost use Rattle.event_kernel.specs.Heard.{Tells};
-ghost use Rattle.event_kernel.specs.Pens.{pen_notes, told_pen, is_turn, entered, entering_notes, new_pen, CanTell, cost};
-ghost use Rattle.event_kernel.specs.Boundary.{ended_pen, ended_notes};
+ghost use Rattle.event_kernel.specs.Segment.{cost, written_notes, told_trace, is_turn, entered, entering_notes};
+ghost use Rattle.event_kernel.specs.Segment.{new_trace, CanTell};
+ghost use Rattle.event_kernel.specs.Boundary.{ended_trace, ended_notes};
 
 use crate::run::InForce;
+use crate::segment::{Segment, is_same};
+use crate::sums::Sums;
 use crate::{Listener, Stopped};
 use dvs_base::{Note, Pos};
 use sched_model::{Admitted, Holder, State};
 
-/// How many notes were told so far: releases, ends of jobs, and decisions.
+/// What is written of a trace: the open segment, and the sums of all notes before it.
 #[derive(Clone, Copy)]
-pub struct Counts {
-    pub released: u64,
-    pub finished: u64,
-    pub decisions: u64,
-}
-
-/// The segment that is being written: its holder, its first unit by the span's count and its units; and the energies
-/// and the counts of all notes before it.
-#[derive(Clone, Copy)]
-pub struct Pen {
-    pub holder: Holder,
-    pub start: u64,
-    pub units: u64,
-    pub run: u128,
-    pub idle: u128,
-    pub counts: Counts,
+pub struct Trace {
+    pub segment: Segment,
+    pub sums: Sums,
 }
 
 /// What a segment is told from: the plan, the state at its end, and the entry in force.
@@ -38,25 +28,10 @@ pub struct Moment<'a> {
     pub force: InForce,
 }
 
-fn is_same(a: Holder, b: Holder) -> bool
-    ensures { result ≡ same_holder a b }
+fn turns(trace: &Trace, holder: Holder) -> bool
+    ensures { result ≡ is_turn trace.now holder }
 {
-    match a {
-        Holder::Nobody => match b {
-            Holder::Nobody => true,
-            Holder::Held(_, _) => false,
-        },
-        Holder::Held(i, k) => match b {
-            Holder::Nobody => false,
-            Holder::Held(j, l) => i == j && k == l,
-        },
-    }
-}
-
-fn turns(pen: &Pen, holder: Holder) -> bool
-    ensures { result ≡ is_turn pen.now holder }
-{
-    pen.units > 0 && !is_same(pen.holder, holder)
+    trace.segment.units > 0 && !is_same(trace.segment.holder, holder)
 }
 
 fn position(from: u64, speed: u64, unit: u64) -> Pos
@@ -81,18 +56,20 @@ fn energy_of(units: u64, millivolts: u64, rate: u64) -> u128
     units as u128 * millivolts as u128 * millivolts as u128 * rate as u128
 }
 
-impl Pen {
+impl Trace {
     /// Nothing written yet.
-    pub(crate) fn new() -> Pen
-        ensures { result ≡ new_pen }
+    pub(crate) fn new() -> Trace
+        ensures { result ≡ new_trace }
     {
-        Pen {
-            holder: Holder::Nobody,
-            start: 0,
-            units: 0,
-            run: 0,
-            idle: 0,
-            counts: Counts {
+        Trace {
+            segment: Segment {
+                holder: Holder::Nobody,
+                start: 0,
+                units: 0,
+            },
+            sums: Sums {
+                run: 0,
+                idle: 0,
                 released: 0,
                 finished: 0,
                 decisions: 0,
@@ -103,34 +80,40 @@ impl Pen {
     // Tells the segment, and the end of its job where the row is done.
     fn tell<L: Listener>(&mut self, at: Moment<'_>, to: &mut L) -> Result<(), Stopped>
         requires { CanTell at.plan.now at.state.now at.force.from at.force.index self.old }
-        ensures pen { OnOk result (self.new ≡ told_pen at.entry.plan.now at.entry.state.now at.entry.force.index self.old) }
+        ensures trace { OnOk result (self.new ≡ told_trace at.entry.plan.now at.entry.state.now
+            at.entry.force.index self.old) }
         ensures told { Tells L.heard L.balked L.stops to.old to.new
-            (pen_notes at.entry.plan.now at.entry.state.now at.entry.force.from at.entry.force.index self.old) result }
+            (written_notes at.entry.plan.now at.entry.state.now at.entry.force.from
+            at.entry.force.index self.old) result }
     {
         at.plan.known();
         let machine = at.plan.machine();
         let point = machine.point(at.force.index);
-        let first = position(at.force.from, point.speed, self.start);
-        let end = position(at.force.from, point.speed, self.start + self.units);
-        match self.holder {
+        let first = position(at.force.from, point.speed, self.segment.start);
+        let end = position(
+            at.force.from,
+            point.speed,
+            self.segment.start + self.segment.units,
+        );
+        match self.segment.holder {
             Holder::Nobody => {
-                let energy = energy_of(self.units, point.millivolts, machine.idle());
+                let energy = energy_of(self.segment.units, point.millivolts, machine.idle());
                 to.hear(&Note::Idle {
                     from: first,
                     to: end,
-                    units: self.units,
+                    units: self.segment.units,
                     energy,
                 })?;
-                self.idle += energy;
+                self.sums.idle += energy;
             }
             Holder::Held(task, job) => {
-                let energy = energy_of(self.units, point.millivolts, 1000);
+                let energy = energy_of(self.segment.units, point.millivolts, 1000);
                 to.hear(&Note::Run {
                     from: first,
                     to: end,
                     task,
                     job,
-                    units: self.units,
+                    units: self.segment.units,
                     energy,
                 })?;
                 let state = at.state;
@@ -142,13 +125,13 @@ impl Pen {
                         job,
                         used: row.used,
                     })?;
-                    self.counts.finished += 1;
+                    self.sums.finished += 1;
                 }
-                self.run += energy;
+                self.sums.run += energy;
             }
         }
-        self.start += self.units;
-        self.units = 0;
+        self.segment.start += self.segment.units;
+        self.segment.units = 0;
         Ok(())
     }
 
@@ -161,27 +144,31 @@ impl Pen {
         to: &mut L,
     ) -> Result<(), Stopped>
         requires can { CanTell at.plan.now at.state.now at.force.from at.force.index self.old }
-        requires fits { self.old.units + units < 2 ^ 64 }
-        ensures pen { OnOk result (self.new ≡ entered at.entry.plan.now at.entry.state.now at.entry.force.index holder units self.old) }
+        requires fits { self.old.segment.units + units < 2 ^ 64 }
+        ensures trace { OnOk result (self.new ≡ entered at.entry.plan.now at.entry.state.now
+            at.entry.force.index holder units self.old) }
         ensures told { Tells L.heard L.balked L.stops to.old to.new
-            (entering_notes at.entry.plan.now at.entry.state.now at.entry.force.from at.entry.force.index holder self.old) result }
+            (entering_notes at.entry.plan.now at.entry.state.now at.entry.force.from
+            at.entry.force.index holder self.old) result }
     {
         if turns(self, holder) {
             self.tell(at, to)?;
         }
-        self.holder = holder;
-        self.units += units;
+        self.segment.holder = holder;
+        self.segment.units += units;
         Ok(())
     }
 
     /// Tells the segment that is left at the end of a span.
     pub(crate) fn close<L: Listener>(&mut self, at: Moment<'_>, to: &mut L) -> Result<(), Stopped>
         requires { CanTell at.plan.now at.state.now at.force.from at.force.index self.old }
-        ensures pen { OnOk result (self.new ≡ ended_pen at.entry.plan.now at.entry.state.now at.entry.force.index self.old) }
+        ensures trace { OnOk result (self.new ≡ ended_trace at.entry.plan.now at.entry.state.now
+            at.entry.force.index self.old) }
         ensures told { Tells L.heard L.balked L.stops to.old to.new
-            (ended_notes at.entry.plan.now at.entry.state.now at.entry.force.from at.entry.force.index self.old) result }
+            (ended_notes at.entry.plan.now at.entry.state.now at.entry.force.from
+            at.entry.force.index self.old) result }
     {
-        if self.units > 0 {
+        if self.segment.units > 0 {
             self.tell(at, to)?;
         }
         Ok(())

@@ -1,5 +1,5 @@
 use Rattle.std.proofs.Common.{ℕ, ◌*◌, ◌≤◌, arith, mul-le-mul_left}
-use Rattle.event_kernel.proofs.pen.energy_of.Goals as goal
+use Rattle.event_kernel.proofs.trace.energy_of.Goals as goal
 
 most_of : (u m r : ℕ) → m ≤ 20000 → r ≤ 1000 → u * m * m * r ≤ 400000000000 * u
 most_of u m r hm hr =

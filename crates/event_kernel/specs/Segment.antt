@@ -16,9 +16,9 @@ use Rattle.sched_model.specs.Schedule.{entry_in_force}
 use Rattle.sched_model.specs.Segments.{same_holder, Span, spans_of, Piece, pieces_of, position_of, run_energy, idle_energy}
 use Rattle.sched_model.specs.Notes.{all_release_notes, pieces_notes, notes_before_end}
 use Rattle.sched_model.specs.States.{row_at, StateOf}
-use Rattle.event_kernel.specs.declared.pen.Pen.{Pen}
-use Rattle.event_kernel.specs.declared.pen.Counts.{Counts}
-use Rattle.event_kernel.specs.Counts.{counted}
+use Rattle.event_kernel.specs.declared.trace.Trace.{Trace}
+use Rattle.event_kernel.specs.declared.sums.Sums.{Sums}
+use Rattle.event_kernel.specs.Sums.{sums_of, added}
 
 -- all segments but the last, and the last
 abbrev pub closed : List Piece → List Piece
@@ -53,21 +53,21 @@ head_notes p dem ask s =
     ++ Speed (length s.past) ((point p s.entry).speed) ((ask s.past).num) ((ask s.past).den) ∷ []
 
 -- all notes up to the last segment of a span, which is open
-abbrev pub open_notes : Plan → (ℕ → ℕ → ℕ) → (List Tick → Frac) → Span → List Note
-open_notes p dem ask s =
+abbrev pub owritten_notes : Plan → (ℕ → ℕ → ℕ) → (List Tick → Frac) → Span → List Note
+owritten_notes p dem ask s =
     (notes_before_end p dem ask s.past ++ head_notes p dem ask s) ++ pieces_notes p dem s 0 (closed (pieces_of s.units))
 
--- the notes of the segment that the pen holds, at a state
+-- the notes of the segment that the trace holds, at a state
 abbrev pub holder_notes : Plan → StateOf → (ℕ → Pos) → ℕ → ℕ → ℕ → Holder → List Note
 holder_notes p s at_unit e q units Nobody = Idle (at_unit q) (at_unit (q + units)) units (idle_energy p e units) ∷ []
 holder_notes p s at_unit e q units (Held i k) =
     Run (at_unit q) (at_unit (q + units)) i k units (run_energy p e units)
     ∷ (if (row_at s i).done then Done (at_unit (q + units)) i k (row_at s i).used ∷ [] else [])
 
-abbrev pub pen_notes : Plan → StateOf → ℕ → ℕ → Pen → List Note
-pen_notes p s from e pen = holder_notes p s (position_of from ((point p e).speed)) e pen.start pen.units pen.holder
+abbrev pub written_notes : Plan → StateOf → ℕ → ℕ → Trace → List Note
+written_notes p s from e trace = holder_notes p s (position_of from ((point p e).speed)) e trace.segment.start trace.segment.units trace.segment.holder
 
--- the pen after it has told its segment
+-- the trace after it has told its segment
 abbrev pub run_part : Plan → ℕ → ℕ → Holder → ℕ
 run_part p e units Nobody = 0
 run_part p e units (Held i k) = run_energy p e units
@@ -81,36 +81,38 @@ abbrev pub ended_part : StateOf → Holder → ℕ
 ended_part s Nobody = 0
 ended_part s (Held i k) = if (row_at s i).done then 1 else 0
 
-abbrev pub told_pen : Plan → StateOf → ℕ → Pen → Pen
-told_pen p s e pen = record {
-  holder = pen.holder;
-  start = pen.start + pen.units;
-  units = 0;
-  run = pen.run + run_part p e pen.units pen.holder;
-  idle = pen.idle + idle_part p e pen.units pen.holder;
-  counts = record { released = pen.counts.released; finished = pen.counts.finished + ended_part s pen.holder; decisions = pen.counts.decisions };
+abbrev pub told_trace : Plan → StateOf → ℕ → Trace → Trace
+told_trace p s e trace = record {
+  segment = record { holder = trace.segment.holder; start = trace.segment.start + trace.segment.units; units = 0 };
+  sums = record {
+    run = trace.sums.run + run_part p e trace.segment.units trace.segment.holder;
+    idle = trace.sums.idle + idle_part p e trace.segment.units trace.segment.holder;
+    released = trace.sums.released;
+    finished = trace.sums.finished + ended_part s trace.segment.holder;
+    decisions = trace.sums.decisions;
+  };
 }
 
 -- whether a unit of this holder ends the segment
-abbrev pub is_turn : Pen → Holder → Bool
-is_turn pen h = nat_lt 0 pen.units && not (same_holder pen.holder h)
+abbrev pub is_turn : Trace → Holder → Bool
+is_turn trace h = nat_lt 0 trace.segment.units && not (same_holder trace.segment.holder h)
 
--- the pen after units of a holder
-abbrev pub with_units : Holder → ℕ → Pen → Pen
-with_units h n pen = record { holder = h; start = pen.start; units = pen.units + n; run = pen.run; idle = pen.idle; counts = pen.counts }
+-- the trace after units of a holder
+abbrev pub with_units : Holder → ℕ → Trace → Trace
+with_units h n trace = record { segment = record { holder = h; start = trace.segment.start; units = trace.segment.units + n }; sums = trace.sums }
 
-abbrev pub entered : Plan → StateOf → ℕ → Holder → ℕ → Pen → Pen
-entered p s e h n pen = with_units h n (if is_turn pen h then told_pen p s e pen else pen)
+abbrev pub entered : Plan → StateOf → ℕ → Holder → ℕ → Trace → Trace
+entered p s e h n trace = with_units h n (if is_turn trace h then told_trace p s e trace else trace)
 
-abbrev pub entering_notes : Plan → StateOf → ℕ → ℕ → Holder → Pen → List Note
-entering_notes p s from e h pen = if is_turn pen h then pen_notes p s from e pen else []
+abbrev pub entering_notes : Plan → StateOf → ℕ → ℕ → Holder → Trace → List Note
+entering_notes p s from e h trace = if is_turn trace h then written_notes p s from e trace else []
 
--- the pen after other notes are told
-abbrev pub with_notes : Pen → List Note → Pen
-with_notes pen notes = record { holder = pen.holder; start = pen.start; units = pen.units; run = pen.run; idle = pen.idle; counts = counted pen.counts notes }
+-- the trace after other notes are told
+abbrev pub with_notes : Trace → List Note → Trace
+with_notes trace notes = record { segment = trace.segment; sums = added trace.sums notes }
 
 -- the counts of jobs are below a limit
-pub record HasRoom (limit : ℕ) (c : Counts) : Type 0 where
+pub record HasRoom (limit : ℕ) (c : Sums) : Type 0 where
   pub released : c.released < limit
   pub finished : c.finished < limit
 
@@ -123,13 +125,13 @@ abbrev pub HeldIn : ℕ → Holder → Type 0
 HeldIn n Nobody = Unit {0}
 HeldIn n (Held i k) = i < n
 
--- the pen can tell its segment without a number that is too large
-pub record CanTell (p : Plan) (s : StateOf) (from e : ℕ) (pen : Pen) : Type 0 where
+-- the trace can tell its segment without a number that is too large
+pub record CanTell (p : Plan) (s : StateOf) (from e : ℕ) (trace : Trace) : Type 0 where
   pub entry : e < length p.machine.points
-  pub place : from + pen.start + pen.units < 2 ^ 63
-  pub money : pen.run + pen.idle + cost * pen.units < 2 ^ 120
-  pub task : HeldIn (length s.rows) pen.holder
-  pub ends : pen.counts.finished < 2 ^ 63
+  pub place : from + trace.segment.start + trace.segment.units < 2 ^ 63
+  pub money : trace.sums.run + trace.sums.idle + cost * trace.segment.units < 2 ^ 120
+  pub task : HeldIn (length s.rows) trace.segment.holder
+  pub ends : trace.sums.finished < 2 ^ 63
 
 -- the key of a row
 abbrev pub row_key : Scheduler → Plan → StateOf → ℕ → ℕ
@@ -143,8 +145,8 @@ pub record IsFirstUndone (p : Plan) (s : StateOf) (n i : ℕ) : Type 0 where
   pub first : (k : ℕ) → k < n → stands_before (row_key p.scheduler p s) k i ≡ true → (row_at s k).done ≡ true
 
 -- nothing written yet
-abbrev pub new_pen : Pen
-new_pen = record { holder = Nobody; start = 0; units = 0; run = 0; idle = 0; counts = record { released = 0; finished = 0; decisions = 0 } }
+abbrev pub new_trace : Trace
+new_trace = record { segment = record { holder = Nobody; start = 0; units = 0 }; sums = sums_of [] }
 
 -- the first row that is not done, where there is one
 abbrev pub IsFirst : Plan → StateOf → Option ℕ → Type 0

@@ -1,0 +1,29 @@
+// The segment that is open.
+ghost use Rattle.std.specs.Prelude.{◌≡◌};
+ghost use Rattle.sched_model.specs.Segments.{same_holder};
+
+use sched_model::Holder;
+
+/// The open segment: its holder, its first unit by the span's count, and its units.
+#[derive(Clone, Copy)]
+pub struct Segment {
+    pub holder: Holder,
+    pub start: u64,
+    pub units: u64,
+}
+
+/// Whether two holders are one.
+pub(crate) fn is_same(a: Holder, b: Holder) -> bool
+    ensures { result ≡ same_holder a b }
+{
+    match a {
+        Holder::Nobody => match b {
+            Holder::Nobody => true,
+            Holder::Held(_, _) => false,
+        },
+        Holder::Held(i, k) => match b {
+            Holder::Nobody => false,
+            Holder::Held(j, l) => i == j && k == l,
+        },
+    }
+}
