@@ -53,7 +53,7 @@ module _ (p : Plan) (lim : IsWithinLimits p) (dem other : ℕ → ℕ → ℕ) (
     where
       go : (b : Bool) → is_complete p dem past i ≡ b → is_complete p dem past i ≡ is_complete p other past i → charged p dem past i ≡ charged p other past i
       go true e same =
-          ap₂ (λ (b : Bool) (n : ℕ). if b then n else worst p i) same (((h i (latest p i (length past)) lt (latest-early p lim dem other i (length past) lt)).0) e)
+          ap₂ (λ (b : Bool) (n : ℕ). if b then n else worst p i) same (((h i (latest p i (length past)) lt (latest-early p lim i (length past) lt)).0) e)
       go false e same =
           let off : is_complete p other past i ≡ false = sym same ∙ e in
           rw (e, off) refl

@@ -41,7 +41,7 @@ module _ (p : Plan) (lim : IsWithinLimits p) where
   given-held t given [] b = tt
   given-held t given (i ∷ is) b =
       each-append (IsHeldBefore p (suc t)) (replicate (given i) (Held i (latest p i t))) (flat_map (λ j. replicate (given j) (Held j (latest p j t))) is)
-      (each-replicate (IsHeldBefore p (suc t)) (given i) (Held i (latest p i t)) (b.0, latest-early p lim (λ j l. 0) (λ j l. 0) i t b.0))
+      (each-replicate (IsHeldBefore p (suc t)) (given i) (Held i (latest p i t)) (b.0, latest-early p lim i t b.0))
       (given-held t given is b.1)
 
   -- those of a tick

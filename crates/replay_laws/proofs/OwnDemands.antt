@@ -1,4 +1,4 @@
--- Notes of a schedule are those of the schedule for the demand list that they fix.
+-- No schedule looks into a demand, and the list that its notes fix has its notes.
 use Rattle.std.proofs.Common.{◌≡◌, ◌+◌, ◌-◌, ◌*◌, ◌<◌, ◌≤◌, ℕ, zero, suc, true, false, List, [], ◌∷◌, length, refl, ap, ◌∙◌, sym, arith, inl, inr}
 use Rattle.std.specs.Prelude.{sum_by, Option, Some, None, unwrap_or, option_map}
 use Rattle.std.proofs.lemmas.Bool.Decides.{nat_tests}
@@ -105,17 +105,17 @@ module _ (p : Plan) (lim : IsWithinLimits p) (ask : Asking) (blind : IsBlind p a
   -- so the list tells the same
   tell-same : TellSame p dem own ticks
   tell-same = record {
-    finished = λ i k lt some early done. finished i k some done (told-finished i k lt some early done) (told i k lt some);
+    finished = λ i k lt some early done. finished i k some (told-finished i k lt some early done) (told i k lt some);
     unfinished = λ i k lt some early open_job. unfinished i k lt some open_job (told i k lt some);
     none = λ i. refl;
     other_none = λ i. refl;
   }
     where
-      finished : (i k : ℕ) → 1 ≤ k → is_done p dem ticks i k ≡ true → times (tells_done i k) all_notes ≡ 1
+      finished : (i k : ℕ) → 1 ≤ k → times (tells_done i k) all_notes ≡ 1
           → Fixes p dem i k (exec p ticks i k) (named (fixed_of p all_notes) i k) (times (tells_done i k) all_notes)
           → dem i k ≡ own i k
-      finished i k some done once (inl a) = absurd (omega (arith, once, a.1))
-      finished i k some done once (inr b) = sym (own-told i k some b.0)
+      finished i k some once (inl a) = absurd (omega (arith, once, a.1))
+      finished i k some once (inr b) = sym (own-told i k some b.0)
 
       unfinished : (i k : ℕ) → i < count p → 1 ≤ k → is_done p dem ticks i k ≡ false
           → Fixes p dem i k (exec p ticks i k) (named (fixed_of p all_notes) i k) (times (tells_done i k) all_notes)

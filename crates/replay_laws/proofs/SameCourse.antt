@@ -69,7 +69,7 @@ module _ (p : Plan) (lim : IsWithinLimits p) (dem other : ℕ → ℕ → ℕ) (
       k = latest p i (length past)
 
       now : Indistinct p dem other (x ∷ past) i k
-      now = h i k lt (omega (arith, latest-early p lim dem other i (length past) lt))
+      now = h i k lt (omega (arith, latest-early p lim i (length past) lt))
 
       had : exec p (x ∷ past) i k ≡ exec p past i k + share x i
       had = exec-legal p dem x past i (every_period p lim i) (none i) (share-most (count p) (key_of p.scheduler p (length past)) f (left p dem past) (share x) legal i lt)

@@ -83,7 +83,7 @@ module _ (p : Plan) (lim : IsWithinLimits p) (dem other : ℕ → ℕ → ℕ) w
           k = latest p i t
 
           now : Indistinct p dem other past i k
-          now = h i k lt (latest-early p lim dem other i t lt)
+          now = h i k lt (latest-early p lim i t lt)
 
           go : (b : Bool) → is_done p dem past i k ≡ b → nat_eq (dem i k) 0 ≡ nat_eq (other i k) 0
           go true e = ap (λ n. nat_eq n 0) (now.0 e)

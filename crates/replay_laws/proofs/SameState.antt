@@ -24,15 +24,15 @@ exec-drop p i k zero ticks = omega arith
 exec-drop p i k (suc n) [] = omega arith
 exec-drop p i k (suc n) (x ∷ ticks) = omega (arith, exec-drop p i k n ticks)
 
-module _ (p : Plan) (lim : IsWithinLimits p) (dem other : ℕ → ℕ → ℕ) where
-  -- the latest job was released by now
-  pub latest-early : (i t : ℕ) → i < count p → latest_since p i (latest p i t) < suc t
-  latest-early i t lt = omega (arith, latest_since-le p i t (every_period p lim i) lt, last_release-le p t)
+-- the latest job was released by now
+pub latest-early : (p : Plan) → IsWithinLimits p → (i t : ℕ) → i < count p → latest_since p i (latest p i t) < suc t
+latest-early p lim i t lt = omega (arith, latest_since-le p i t (every_period p lim i) lt, last_release-le p t)
 
+module _ (p : Plan) (lim : IsWithinLimits p) (dem other : ℕ → ℕ → ℕ) where
   pub same-complete : (past : List Tick) → Alike p dem other past (suc (length past)) → (i : ℕ) → i < count p → is_complete p dem past i ≡ is_complete p other past i
   same-complete past h i lt =
       let k = latest p i (length past) in
-      same-done p dem other past i k (h i k lt (latest-early i (length past) lt))
+      same-done p dem other past i k (h i k lt (latest-early p lim i (length past) lt))
 
   -- a row shows of its job's demand only whether it is complete
   pub same-row : (past : List Tick) → Alike p dem other past (suc (length past)) → (i : ℕ) → i < count p → row_of p dem past i ≡ row_of p other past i
@@ -66,7 +66,7 @@ module _ (p : Plan) (lim : IsWithinLimits p) (dem other : ℕ → ℕ → ℕ) w
   pub same-completes : (x : Tick) (past : List Tick) → Alike p dem other (x ∷ past) (length (x ∷ past)) → (i : ℕ) → i < count p → completes_in p dem x past i ≡ completes_in p other x past i
   same-completes x past h i lt =
       let k = latest p i (length past) in
-      let now : Indistinct p dem other (x ∷ past) i k = h i k lt (omega (arith, latest-early i (length past) lt)) in
+      let now : Indistinct p dem other (x ∷ past) i k = h i k lt (omega (arith, latest-early p lim i (length past) lt)) in
       let before : Indistinct p dem other past i k = indistinct-before p dem other (x ∷ past) past i k (omega arith) now in
       ap₂ (λ a b. not a && b) (same-done p dem other past i k before) (same-done p dem other (x ∷ past) i k now)
 
