@@ -402,19 +402,34 @@ fn controller_runs_agree(rt: HostRuntime) -> Result<(), Fail> {
     Ok(())
 }
 
-#[test]
-fn made_runs_agree(rt: HostRuntime) -> Result<(), Fail> {
+// Compares the runs of 150 made cases from this number on; how many of them EDF admits, and how many RM.
+fn compare_made(rt: &(impl Abort + AllocGlobal), from: u64) -> Result<(u64, u64), Fail> {
     let alloc = rt.alloc();
     let mut under_edf: u64 = 0;
     let mut under_rm: u64 = 0;
-    for seed in 0..300 {
-        let made = MadeFiles::from_seed(alloc, seed)?;
+    for made in 0..150 {
+        let seed = from.saturating_add(made);
+        let files = MadeFiles::from_seed(alloc, seed)?;
         let name = format!(in alloc; "made case {seed}")?;
-        let passed = compare_case(&rt, made.case().asked(name.as_str()), 30)?;
+        let passed = compare_case(rt, files.case().asked(name.as_str()), 20)?;
         under_edf = under_edf.saturating_add(passed.0 as u64);
         under_rm = under_rm.saturating_add(passed.1 as u64);
     }
-    assert!(rt; under_edf >= 200, "{under_edf}");
-    assert!(rt; under_rm >= 200, "{under_rm}");
+    Ok((under_edf, under_rm))
+}
+
+#[test]
+fn made_runs_agree(rt: HostRuntime) -> Result<(), Fail> {
+    let (under_edf, under_rm) = compare_made(&rt, 0)?;
+    assert!(rt; under_edf >= 100, "{under_edf}");
+    assert!(rt; under_rm >= 100, "{under_rm}");
+    Ok(())
+}
+
+#[test]
+fn further_made_runs_agree(rt: HostRuntime) -> Result<(), Fail> {
+    let (under_edf, under_rm) = compare_made(&rt, 150)?;
+    assert!(rt; under_edf >= 100, "{under_edf}");
+    assert!(rt; under_rm >= 100, "{under_rm}");
     Ok(())
 }

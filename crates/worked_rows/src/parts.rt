@@ -151,19 +151,18 @@ task = [
 const CHARGED: &str =
     "charge = 1\npoint = [{speed = 2, millivolts = 1000}, {speed = 4, millivolts = 2000}]";
 
-// The name, the period, the offset, the declared worst case and the worst case with the charge of a task.
-fn row_of(plan: &Admitted, task: u32) -> Option<(&[u8], [u64; 4])> {
-    if task >= plan.count() {
-        return None;
+// The period, the offset, the declared worst case and the worst case with the charge of a task.
+fn numbers_of(plan: &Admitted, task: u32) -> Option<[u64; 4]> {
+    if task < plan.count() {
+        Some([
+            plan.period(task),
+            plan.offset(task),
+            plan.declared(task),
+            plan.worst(task),
+        ])
+    } else {
+        None
     }
-    let name = plan.names().get(task as usize)?;
-    let numbers = [
-        plan.period(task),
-        plan.offset(task),
-        plan.declared(task),
-        plan.worst(task),
-    ];
-    Some((name.as_bytes(), numbers))
 }
 
 // The tasks of a plan in RM order.
@@ -189,9 +188,9 @@ fn parts_of_a_plan(rt: HostRuntime) -> Result<(), Fail> {
     .iter()
     .enumerate()
     {
-        let row = row_of(&plan, task as u32).ok_or("task")?;
-        assert_eq!(rt; row.0, name.as_bytes());
-        assert_eq!(rt; row.1, *numbers);
+        assert_eq!(rt; numbers_of(&plan, task as u32), Some(*numbers), "{name}");
+        let found = plan.names().get(task).ok_or("name")?;
+        assert_eq!(rt; found.as_bytes(), name.as_bytes());
     }
     assert_eq!(rt; (plan.count(), plan.hyper()), (3, 12));
     assert_eq!(rt; plan.scheduler(), Scheduler::Edf);
