@@ -16,7 +16,7 @@ use Rattle.sched_model.proofs.ScheduleLemmas.{schedule_exists}
 use Rattle.event_kernel.specs.declared.trace.Trace.{Trace}
 use Rattle.event_kernel.specs.Heard.{HasHeard, HasBalked}
 use Rattle.governor.specs.Schedule.{ask_of, course}
-use Rattle.event_kernel.specs.Segment.{owritten_notes, entered, entering_notes, IsFirstUndone, CanTell}
+use Rattle.event_kernel.specs.Segment.{open_notes, entered, entering_notes, IsFirstUndone, CanTell}
 use Rattle.event_kernel.specs.Writing.{Writing}
 use Rattle.event_kernel.specs.Tickwork.{served, span_at, tick_at, whole_span, IsAtWork, HasWorked}
 use Rattle.event_kernel.proofs.Handing.{had, job}
@@ -93,18 +93,18 @@ module _ {demand : Plan → StateOf → Frac} {p : Plan} {dem : ℕ → ℕ → 
       pub balked_at : (next : L) (i share : ℕ) → 0 < rest → IsFirstUndone p st (count p) i
           → share ≡ min rest (dem i (row_at st i).job - (row_at st i).used)
           → HasBalked heard balked to (entering_notes p st from e (Held i (row_at st i).job) trace) next
-          → (a : L) → HasHeard heard a (owritten_notes p dem ask s0) to0 → HasBalked heard balked a (owritten_notes p dem ask (whole_span demand p dem t)) next
+          → (a : L) → HasHeard heard a (open_notes p dem ask s0) to0 → HasBalked heard balked a (open_notes p dem ask (whole_span demand p dem t)) next
       balked_at next i share pos u se =
-          subst (λ f. HasBalked heard balked to (entering_notes p st f e (Held i (row_at st i).job) trace) next → (a : L) → HasHeard heard a (owritten_notes p dem ask s0) to0 → HasBalked heard balked a (owritten_notes p dem ask (whole_span demand p dem t)) next) (sym at.from_is)
-          (subst (λ m. HasBalked heard balked to (entering_notes p st (length s0.past) m (Held i (row_at st i).job) trace) next → (a : L) → HasHeard heard a (owritten_notes p dem ask s0) to0 → HasBalked heard balked a (owritten_notes p dem ask (whole_span demand p dem t)) next) (sym at.entry_is)
+          subst (λ f. HasBalked heard balked to (entering_notes p st f e (Held i (row_at st i).job) trace) next → (a : L) → HasHeard heard a (open_notes p dem ask s0) to0 → HasBalked heard balked a (open_notes p dem ask (whole_span demand p dem t)) next) (sym at.from_is)
+          (subst (λ m. HasBalked heard balked to (entering_notes p st (length s0.past) m (Held i (row_at st i).job) trace) next → (a : L) → HasHeard heard a (open_notes p dem ask s0) to0 → HasBalked heard balked a (open_notes p dem ask (whole_span demand p dem t)) next) (sym at.entry_is)
           (λ balks. working-balk heard balked p dem ask past adm within s0 to0 to next rest i share completed (nat_eq share (dem i (row_at st i).job - (row_at st i).used)) st trace w pos u se refl balks))
 
       pub idle_balked : (next : L) → 0 < rest → (rest ≡ 0) ⊎ ((k : ℕ) → k < count p → (row_at st k).done ≡ true)
           → HasBalked heard balked to (entering_notes p st from e Nobody trace) next
-          → (a : L) → HasHeard heard a (owritten_notes p dem ask s0) to0 → HasBalked heard balked a (owritten_notes p dem ask (whole_span demand p dem t)) next
+          → (a : L) → HasHeard heard a (open_notes p dem ask s0) to0 → HasBalked heard balked a (open_notes p dem ask (whole_span demand p dem t)) next
       idle_balked next pos ends =
-          subst (λ f. HasBalked heard balked to (entering_notes p st f e Nobody trace) next → (a : L) → HasHeard heard a (owritten_notes p dem ask s0) to0 → HasBalked heard balked a (owritten_notes p dem ask (whole_span demand p dem t)) next) (sym at.from_is)
-          (subst (λ m. HasBalked heard balked to (entering_notes p st (length s0.past) m Nobody trace) next → (a : L) → HasHeard heard a (owritten_notes p dem ask s0) to0 → HasBalked heard balked a (owritten_notes p dem ask (whole_span demand p dem t)) next) (sym at.entry_is)
+          subst (λ f. HasBalked heard balked to (entering_notes p st f e Nobody trace) next → (a : L) → HasHeard heard a (open_notes p dem ask s0) to0 → HasBalked heard balked a (open_notes p dem ask (whole_span demand p dem t)) next) (sym at.from_is)
+          (subst (λ m. HasBalked heard balked to (entering_notes p st (length s0.past) m Nobody trace) next → (a : L) → HasHeard heard a (open_notes p dem ask s0) to0 → HasBalked heard balked a (open_notes p dem ask (whole_span demand p dem t)) next) (sym at.entry_is)
           (working-idle-balk heard balked p dem ask past adm within s0 to0 to next rest completed st trace w pos ends))
 
       abbrev pub HasIdled : L → Trace → Type 0
@@ -120,7 +120,7 @@ module _ {demand : Plan → StateOf → Frac} {p : Plan} {dem : ℕ → ℕ → 
       full z = working-full heard balked p dem ask past adm within s0 to0 to rest completed st trace w z
 
       pub finished : (next : L) (trace' : Trace) (st' : StateOf) → (rest ≡ 0) ⊎ ((k : ℕ) → k < count p → (row_at st k).done ≡ true) → HasIdled next trace' → st' ≡ after_advance st (t + 1)
-          → HasWorked demand p dem t st' trace' completed × ((a : L) → HasHeard heard a (owritten_notes p dem ask s0) to0 → HasHeard heard a (owritten_notes p dem ask (whole_span demand p dem t)) next)
+          → HasWorked demand p dem t st' trace' completed × ((a : L) → HasHeard heard a (open_notes p dem ask s0) to0 → HasHeard heard a (open_notes p dem ask (whole_span demand p dem t)) next)
       finished next trace' st' ends d is =
           let h : Worked heard balked p dem ask past adm within s0 to0 next completed (after_advance st (length past + 1)) trace' =
           working-done heard balked p dem ask past adm within s0 to0 to next rest completed st trace trace' w at.within.none ends d in

@@ -17,7 +17,7 @@ use Rattle.sched_model.proofs.Tables.{get-table}
 use Rattle.sched_model.proofs.OrderLemmas.{sum_list, AreBelow, in_order-below, sum_list-snoc, sum_before-prefix}
 use Rattle.sched_model.proofs.GreedyLemmas.{IsHandedOut}
 use Rattle.event_kernel.specs.declared.trace.Trace.{Trace}
-use Rattle.event_kernel.specs.Segment.{closed, last_of, grown, head_notes, owritten_notes}
+use Rattle.event_kernel.specs.Segment.{closed, last_of, grown, head_notes, open_notes}
 use Rattle.event_kernel.proofs.Hearing.{Begins, begins-self, begins-more, begins-trans, begins-under}
 use Rattle.event_kernel.proofs.Pieces.{split_last, last-snoc, total, total-pieces, total-append}
 use Rattle.event_kernel.proofs.Entering.{grows}
@@ -101,7 +101,7 @@ units-begin p dem ask past given rest h =
     below = in_order-below (key p dem past) (count p)
 
 -- one more unit of a span leaves the notes so far
-unit-begins : (p : Plan) (dem : ℕ → ℕ → ℕ) (ask : List Tick → Frac) (s : Span) (h : Holder) → Begins (owritten_notes p dem ask s) (owritten_notes p dem ask (grown s (h ∷ [])))
+unit-begins : (p : Plan) (dem : ℕ → ℕ → ℕ) (ask : List Tick → Frac) (s : Span) (h : Holder) → Begins (open_notes p dem ask s) (open_notes p dem ask (grown s (h ∷ [])))
 unit-begins p dem ask s h =
     let g = grows p dem ask 0 s h 1 trace (omega arith) refl refl place in
     begins-under (notes_before_end p dem ask s.past ++ head_notes p dem ask s) (pieces_notes p dem s 0 (closed (pieces_of s.units))) (pieces_notes p dem (grown s (h ∷ [])) 0 (closed (pieces_of (s.units ++ h ∷ []))))
@@ -123,9 +123,9 @@ unit-begins p dem ask s h =
     place : length s.units - last + last ≡ length s.units
     place = omega (arith, last-le)
 
-pub open-begins : (p : Plan) (dem : ℕ → ℕ → ℕ) (ask : List Tick → Frac) (s : Span) (us : List Holder) → Begins (owritten_notes p dem ask s) (owritten_notes p dem ask (grown s us))
-open-begins p dem ask s [] = subst (λ vs. Begins (owritten_notes p dem ask s) (owritten_notes p dem ask (record { past = s.past; entry = s.entry; units = vs }))) (sym (append-nil s.units)) (begins-self (owritten_notes p dem ask s))
+pub open-begins : (p : Plan) (dem : ℕ → ℕ → ℕ) (ask : List Tick → Frac) (s : Span) (us : List Holder) → Begins (open_notes p dem ask s) (open_notes p dem ask (grown s us))
+open-begins p dem ask s [] = subst (λ vs. Begins (open_notes p dem ask s) (open_notes p dem ask (record { past = s.past; entry = s.entry; units = vs }))) (sym (append-nil s.units)) (begins-self (open_notes p dem ask s))
 open-begins p dem ask s (h ∷ us) =
-    subst (λ vs. Begins (owritten_notes p dem ask s) (owritten_notes p dem ask (record { past = s.past; entry = s.entry; units = vs }))) (append_assoc s.units (h ∷ []) us)
-    (begins-trans (owritten_notes p dem ask s) (owritten_notes p dem ask (grown s (h ∷ []))) (owritten_notes p dem ask (grown (grown s (h ∷ [])) us))
+    subst (λ vs. Begins (open_notes p dem ask s) (open_notes p dem ask (record { past = s.past; entry = s.entry; units = vs }))) (append_assoc s.units (h ∷ []) us)
+    (begins-trans (open_notes p dem ask s) (open_notes p dem ask (grown s (h ∷ []))) (open_notes p dem ask (grown (grown s (h ∷ [])) us))
     (unit-begins p dem ask s h) (open-begins p dem ask (grown s (h ∷ [])) us))

@@ -18,7 +18,7 @@ use Rattle.sched_model.specs.Notes.{had_by, segment_notes, pieces_notes, notes_b
 use Rattle.sched_model.specs.States.{row_at, StateOf}
 use Rattle.sched_model.proofs.PieceLemmas.{piece, same_holder-eq, pieces_of-run, have_units, HaveUnits}
 use Rattle.event_kernel.specs.declared.trace.Trace.{Trace}
-use Rattle.event_kernel.specs.Segment.{closed, last_of, grown, head_notes, owritten_notes, holder_notes, written_notes, run_part, idle_part, told_trace, is_turn, with_units, entered, entering_notes, cost}
+use Rattle.event_kernel.specs.Segment.{closed, last_of, grown, head_notes, open_notes, holder_notes, written_notes, run_part, idle_part, told_trace, is_turn, with_units, entered, entering_notes, cost}
 use Rattle.event_kernel.specs.Sums.{sums_of, added}
 use Rattle.grid_fraction.proofs.Counts.{count-append}
 use Rattle.event_kernel.proofs.Summing.{sums-append, added-none, added-holder, ended-most}
@@ -170,7 +170,7 @@ module _ (p : Plan) (dem : ℕ → ℕ → ℕ) (ask : List Tick → Frac) (t : 
 
   -- the notes of the longer span
   pub enters-notes : (s : Span) (used : ℕ → ℕ) (most : ℕ) (st : StateOf) (h : Holder) (n : ℕ) (trace : Trace) → 0 < n → Writing p dem ask t s used most trace → Shows p dem t st used
-      → owritten_notes p dem ask (grown s (replicate n h)) ≡ owritten_notes p dem ask s ++ entering_notes p st (length s.past) s.entry h trace
+      → open_notes p dem ask (grown s (replicate n h)) ≡ open_notes p dem ask s ++ entering_notes p st (length s.past) s.entry h trace
   enters-notes s used most st h n trace some w shows =
       let g = grows s h n trace some w.units w.holder w.place in
       by_turn g.0 g.1
@@ -181,7 +181,7 @@ module _ (p : Plan) (dem : ℕ → ℕ → ℕ) (ask : List Tick → Frac) (t : 
       told : List Note
       told = pieces_notes p dem s 0 (closed (pieces_of s.units))
 
-      by_turn : (b : Bool) → Grows s h n trace b → owritten_notes p dem ask (grown s (replicate n h)) ≡ owritten_notes p dem ask s ++ entering_notes p st (length s.past) s.entry h trace
+      by_turn : (b : Bool) → Grows s h n trace b → open_notes p dem ask (grown s (replicate n h)) ≡ open_notes p dem ask s ++ entering_notes p st (length s.past) s.entry h trace
       by_turn true g =
           ap (λ ns. before ++ ns) g.notes
           ∙ (sym (append_assoc before told (segment_notes p dem s trace.segment.start trace.segment.units trace.segment.holder))
@@ -201,7 +201,7 @@ module _ (p : Plan) (dem : ℕ → ℕ → ℕ) (ask : List Tick → Frac) (t : 
       let g = grows s h n trace some w.units w.holder w.place in
       by_turn g.0 g.1
     where
-      notes : owritten_notes p dem ask (grown s (replicate n h)) ≡ owritten_notes p dem ask s ++ entering_notes p st (length s.past) s.entry h trace
+      notes : open_notes p dem ask (grown s (replicate n h)) ≡ open_notes p dem ask s ++ entering_notes p st (length s.past) s.entry h trace
       notes = enters-notes s used most st h n trace some w shows
 
       long : length (s.units ++ replicate n h) ≡ length s.units + n
@@ -210,10 +210,10 @@ module _ (p : Plan) (dem : ℕ → ℕ → ℕ) (ask : List Tick → Frac) (t : 
       had : (i : ℕ) → i < count p → exec p s.past i (latest p i t) + count_by (same_holder (Held i (latest p i t))) (s.units ++ replicate n h) ≡ used' i
       had i lt = omega (arith, count-append (same_holder (Held i (latest p i t))) s.units (replicate n h), w.had i lt, more i lt)
 
-      sums : (b : Bool) → is_turn trace h ≡ b → sums_of (owritten_notes p dem ask (grown s (replicate n h))) ≡ (if b then (told_trace p st s.entry trace).sums else trace.sums)
+      sums : (b : Bool) → is_turn trace h ≡ b → sums_of (open_notes p dem ask (grown s (replicate n h))) ≡ (if b then (told_trace p st s.entry trace).sums else trace.sums)
       sums b e =
           ap sums_of notes
-          ∙ (sums-append (owritten_notes p dem ask s) (entering_notes p st (length s.past) s.entry h trace)
+          ∙ (sums-append (open_notes p dem ask s) (entering_notes p st (length s.past) s.entry h trace)
           ∙ (ap (λ c. added c (entering_notes p st (length s.past) s.entry h trace)) (sym w.sums)
           ∙ (ap (λ c. added trace.sums (if c then written_notes p st (length s.past) s.entry trace else [])) e ∙ go b)))
         where

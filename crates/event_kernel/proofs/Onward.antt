@@ -13,7 +13,7 @@ use Rattle.sched_model.proofs.ScheduleLemmas.{length-list_below}
 use Rattle.event_kernel.specs.declared.trace.Trace.{Trace}
 use Rattle.event_kernel.specs.Heard.{HasHeard, HasBalked}
 use Rattle.governor.specs.Schedule.{ask_of, course}
-use Rattle.event_kernel.specs.Segment.{owritten_notes}
+use Rattle.event_kernel.specs.Segment.{open_notes}
 use Rattle.event_kernel.specs.Tickwork.{span_at, tick_at, HasWorked}
 use Rattle.event_kernel.specs.Boundary.{some_due, speed_note}
 use Rattle.event_kernel.specs.Walking.{IsInSpan, HasWalked, told_before, told_in, told_after}
@@ -108,5 +108,5 @@ module _ {demand : Plan → StateOf → Frac} {p : Plan} {dem : ℕ → ℕ → 
       let lt : t + 1 < ticks = omega (arith, now-next, i.before_end, differ) in
       let r = goes-on demand p dem adm ticks t0 t e s0 s trace0 trace i (subst (λ b. HasWorked demand p dem t s trace b) none.0 h) none.2 lt low_ticks in (
         subst (λ n. IsInSpan demand p dem ticks t0 n e s trace) (sym now-next) r.0,
-        sym (ap (owritten_notes p dem (ask_of demand p dem)) r.1) ∙ ap (told_in demand p dem) (sym now-next),
+        sym (ap (open_notes p dem (ask_of demand p dem)) r.1) ∙ ap (told_in demand p dem) (sym now-next),
       )

@@ -27,7 +27,7 @@ use Rattle.sched_model.proofs.Joining.{due_released, same_job, state-still}
 use Rattle.grid_fraction.proofs.Searches.{any_below-false, any_below-same}
 use Rattle.event_kernel.specs.declared.trace.Trace.{Trace}
 use Rattle.governor.specs.Schedule.{ask_of, course}
-use Rattle.event_kernel.specs.Segment.{closed, last_of, grown, first_span, open_span, head_notes, owritten_notes, holder_notes, written_notes, told_trace, CanTell, HeldIn}
+use Rattle.event_kernel.specs.Segment.{closed, last_of, grown, first_span, open_span, head_notes, open_notes, holder_notes, written_notes, told_trace, CanTell, HeldIn}
 use Rattle.event_kernel.specs.Sums.{sums_of, added}
 use Rattle.event_kernel.proofs.Summing.{sums-append, added-append, added-none, added-holder, ended-most, few-released, few-finished, no-decided}
 use Rattle.event_kernel.specs.Writing.{HeldNow, Writing}
@@ -108,13 +108,13 @@ module _ (demand : Plan → StateOf → Frac) (p : Plan) (dem : ℕ → ℕ → 
   abbrev pub last_notes : Span → List Note
   last_notes s = if nat_lt 0 (last_of (pieces_of s.units)).units then segment_notes p dem s (length s.units - (last_of (pieces_of s.units)).units) (last_of (pieces_of s.units)).units (last_of (pieces_of s.units)).holder else []
 
-  pub whole-open : (s : Span) → whole_notes s ≡ owritten_notes p dem asks s ++ last_notes s
+  pub whole-open : (s : Span) → whole_notes s ≡ open_notes p dem asks s ++ last_notes s
   whole-open s = go (split_last (pieces_of s.units))
     where
       before : List Note
       before = notes_before_end p dem asks s.past ++ head_notes p dem asks s
 
-      go : (pieces_of s.units ≡ []) ⊎ ((done : List Piece) × (r : Piece) × (pieces_of s.units ≡ done ++ r ∷ [])) → whole_notes s ≡ owritten_notes p dem asks s ++ last_notes s
+      go : (pieces_of s.units ≡ []) ⊎ ((done : List Piece) × (r : Piece) × (pieces_of s.units ≡ done ++ r ∷ [])) → whole_notes s ≡ open_notes p dem asks s ++ last_notes s
       go (inl e) = rw e (sym (append-nil (before ++ [])))
       go (inr f) =
           let is_last : last_of (pieces_of s.units) ≡ f.1 = ap last_of f.2 ∙ last-snoc f.0 f.1 in
@@ -131,7 +131,7 @@ module _ (demand : Plan → StateOf → Frac) (p : Plan) (dem : ℕ → ℕ → 
           ∙ ap (λ (r : Piece). if nat_lt 0 r.units then segment_notes p dem s (length s.units - r.units) r.units r.holder else []) (sym is_last)))))
 
   -- what is told in a tick begins all notes
-  next-begins : (t : ℕ) → Begins (owritten_notes p dem asks (whole_span demand p dem t)) (owritten_notes p dem asks (whole_span demand p dem (t + 1)))
+  next-begins : (t : ℕ) → Begins (open_notes p dem asks (whole_span demand p dem t)) (open_notes p dem asks (whole_span demand p dem (t + 1)))
   next-begins t = go (is_decision p dem (course demand p dem (t + 1))) refl
     where
       s : Span
@@ -140,33 +140,33 @@ module _ (demand : Plan → StateOf → Frac) (p : Plan) (dem : ℕ → ℕ → 
       us : List Holder
       us = units_of p (course demand p dem (t + 1)) (tick_at demand p dem (t + 1))
 
-      go : (b : Bool) → is_decision p dem (course demand p dem (t + 1)) ≡ b → Begins (owritten_notes p dem asks (whole_span demand p dem t)) (owritten_notes p dem asks (grown s us))
-      go false e = subst (λ x. Begins (owritten_notes p dem asks x) (owritten_notes p dem asks (grown s us))) (span-on t e) (open-begins p dem asks s us)
+      go : (b : Bool) → is_decision p dem (course demand p dem (t + 1)) ≡ b → Begins (open_notes p dem asks (whole_span demand p dem t)) (open_notes p dem asks (grown s us))
+      go false e = subst (λ x. Begins (open_notes p dem asks x) (open_notes p dem asks (grown s us))) (span-on t e) (open-begins p dem asks s us)
       go true e =
           let fresh : Span = record { past = course demand p dem (t + 1); entry = entry_in_force p dem asks (course demand p dem (t + 1)); units = [] } in
-          let a : Begins (owritten_notes p dem asks (whole_span demand p dem t)) (notes_before_end p dem asks (course demand p dem (t + 1))) =
+          let a : Begins (open_notes p dem asks (whole_span demand p dem t)) (notes_before_end p dem asks (course demand p dem (t + 1))) =
           record { rest = last_notes (whole_span demand p dem t); whole = notes-whole t ∙ whole-open (whole_span demand p dem t) } in
-          let b : Begins (notes_before_end p dem asks (course demand p dem (t + 1))) (owritten_notes p dem asks fresh) =
-          begins-trans (notes_before_end p dem asks (course demand p dem (t + 1))) (notes_before_end p dem asks (course demand p dem (t + 1)) ++ head_notes p dem asks fresh) (owritten_notes p dem asks fresh)
+          let b : Begins (notes_before_end p dem asks (course demand p dem (t + 1))) (open_notes p dem asks fresh) =
+          begins-trans (notes_before_end p dem asks (course demand p dem (t + 1))) (notes_before_end p dem asks (course demand p dem (t + 1)) ++ head_notes p dem asks fresh) (open_notes p dem asks fresh)
           (begins-more (notes_before_end p dem asks (course demand p dem (t + 1))) (head_notes p dem asks fresh))
           (begins-more (notes_before_end p dem asks (course demand p dem (t + 1)) ++ head_notes p dem asks fresh) []) in
-          let c : Begins (owritten_notes p dem asks fresh) (owritten_notes p dem asks (grown s us)) =
-          subst (λ x. Begins (owritten_notes p dem asks x) (owritten_notes p dem asks (grown s us))) (span-new (t + 1) e) (open-begins p dem asks s us) in
-          begins-trans (owritten_notes p dem asks (whole_span demand p dem t)) (notes_before_end p dem asks (course demand p dem (t + 1))) (owritten_notes p dem asks (grown s us)) a
-          (begins-trans (notes_before_end p dem asks (course demand p dem (t + 1))) (owritten_notes p dem asks fresh) (owritten_notes p dem asks (grown s us)) b c)
+          let c : Begins (open_notes p dem asks fresh) (open_notes p dem asks (grown s us)) =
+          subst (λ x. Begins (open_notes p dem asks x) (open_notes p dem asks (grown s us))) (span-new (t + 1) e) (open-begins p dem asks s us) in
+          begins-trans (open_notes p dem asks (whole_span demand p dem t)) (notes_before_end p dem asks (course demand p dem (t + 1))) (open_notes p dem asks (grown s us)) a
+          (begins-trans (notes_before_end p dem asks (course demand p dem (t + 1))) (open_notes p dem asks fresh) (open_notes p dem asks (grown s us)) b c)
 
-  later-begins : (t n : ℕ) → Begins (owritten_notes p dem asks (whole_span demand p dem t)) (owritten_notes p dem asks (whole_span demand p dem (t + n)))
-  later-begins t zero = let e : t ≡ t + 0 = omega arith in subst (λ m. Begins (owritten_notes p dem asks (whole_span demand p dem t)) (owritten_notes p dem asks (whole_span demand p dem m))) e (begins-self (owritten_notes p dem asks (whole_span demand p dem t)))
+  later-begins : (t n : ℕ) → Begins (open_notes p dem asks (whole_span demand p dem t)) (open_notes p dem asks (whole_span demand p dem (t + n)))
+  later-begins t zero = let e : t ≡ t + 0 = omega arith in subst (λ m. Begins (open_notes p dem asks (whole_span demand p dem t)) (open_notes p dem asks (whole_span demand p dem m))) e (begins-self (open_notes p dem asks (whole_span demand p dem t)))
   later-begins t (suc n) =
       let e : t + n + 1 ≡ t + suc n = omega arith in
-      subst (λ m. Begins (owritten_notes p dem asks (whole_span demand p dem t)) (owritten_notes p dem asks (whole_span demand p dem m))) e
-      (begins-trans (owritten_notes p dem asks (whole_span demand p dem t)) (owritten_notes p dem asks (whole_span demand p dem (t + n))) (owritten_notes p dem asks (whole_span demand p dem (t + n + 1))) (later-begins t n) (next-begins (t + n)))
+      subst (λ m. Begins (open_notes p dem asks (whole_span demand p dem t)) (open_notes p dem asks (whole_span demand p dem m))) e
+      (begins-trans (open_notes p dem asks (whole_span demand p dem t)) (open_notes p dem asks (whole_span demand p dem (t + n))) (open_notes p dem asks (whole_span demand p dem (t + n + 1))) (later-begins t n) (next-begins (t + n)))
 
-  pub whole-begins : (t ticks : ℕ) → t < ticks → Begins (owritten_notes p dem asks (whole_span demand p dem t)) (notes_before_end p dem asks (course demand p dem ticks))
+  pub whole-begins : (t ticks : ℕ) → t < ticks → Begins (open_notes p dem asks (whole_span demand p dem t)) (notes_before_end p dem asks (course demand p dem ticks))
   whole-begins t ticks lt =
       let e : t + (ticks - t - 1) + 1 ≡ ticks = omega arith in
-      subst (λ m. Begins (owritten_notes p dem asks (whole_span demand p dem t)) (notes_before_end p dem asks (course demand p dem m))) e
-      (begins-trans (owritten_notes p dem asks (whole_span demand p dem t)) (owritten_notes p dem asks (whole_span demand p dem (t + (ticks - t - 1)))) (notes_before_end p dem asks (course demand p dem (t + (ticks - t - 1) + 1)))
+      subst (λ m. Begins (open_notes p dem asks (whole_span demand p dem t)) (notes_before_end p dem asks (course demand p dem m))) e
+      (begins-trans (open_notes p dem asks (whole_span demand p dem t)) (open_notes p dem asks (whole_span demand p dem (t + (ticks - t - 1)))) (notes_before_end p dem asks (course demand p dem (t + (ticks - t - 1) + 1)))
       (later-begins t (ticks - t - 1))
       (record { rest = last_notes (whole_span demand p dem (t + (ticks - t - 1))); whole = notes-whole (t + (ticks - t - 1)) ∙ whole-open (whole_span demand p dem (t + (ticks - t - 1))) }))
 
@@ -233,10 +233,10 @@ module _ (demand : Plan → StateOf → Frac) (p : Plan) (dem : ℕ → ℕ → 
 
   -- what the listener has heard when it begins
   pub open-new : (t : ℕ) → is_decision p dem (course demand p dem t) ≡ true
-      → owritten_notes p dem asks (span_at demand p dem t) ≡ notes_before_end p dem asks (course demand p dem t) ++ (all_release_notes p dem t ++ speed_note p t (demand p (state_of p dem (course demand p dem t))) ∷ [])
+      → open_notes p dem asks (span_at demand p dem t) ≡ notes_before_end p dem asks (course demand p dem t) ++ (all_release_notes p dem t ++ speed_note p t (demand p (state_of p dem (course demand p dem t))) ∷ [])
   open-new t e =
       let fresh : Span = record { past = course demand p dem t; entry = entry_in_force p dem asks (course demand p dem t); units = [] } in
-      ap (owritten_notes p dem asks) (span-new t e)
+      ap (open_notes p dem asks) (span-new t e)
       ∙ (append-nil (notes_before_end p dem asks (course demand p dem t) ++ head_notes p dem asks fresh)
       ∙ ap (λ ns. notes_before_end p dem asks (course demand p dem t) ++ ns)
       (ap₂ (λ n m. all_release_notes p dem n ++ Speed n ((point p m).speed) ((asks (course demand p dem t)).num) ((asks (course demand p dem t)).den) ∷ []) (course-len demand p dem t) (force-decided p dem asks (course demand p dem t) e)))
@@ -275,7 +275,7 @@ module _ (demand : Plan → StateOf → Frac) (p : Plan) (dem : ℕ → ℕ → 
                 let dec : List Note = speed_note p t (demand p (state_of p dem (course demand p dem t))) ∷ [] in
                 ap (λ c. added (added c rel) dec) b.sums
                 ∙ (added-append (sums_of before) rel dec
-                ∙ (sym (sums-append before (rel ++ dec)) ∙ ap sums_of (sym (open-new t (b.decision lt)) ∙ ap (owritten_notes p dem asks) new)));
+                ∙ (sym (sums-append before (rel ++ dec)) ∙ ap sums_of (sym (open-new t (b.decision lt)) ∙ ap (open_notes p dem asks) new)));
             few_released = omega (arith, b.few_released, few-released p dem t (count p), few_tasks);
             few_finished = omega (arith, b.few_finished, few-finished p dem t (count p), few_tasks);
             few_decisions = omega (arith, b.few_decisions, no-decided p dem t (list_below (count p) (λ i. i)));
@@ -426,8 +426,8 @@ module _ (demand : Plan → StateOf → Frac) (p : Plan) (dem : ℕ → ℕ → 
           ∙ (ap₂ (λ u k. if nat_lt 0 u then segment_notes p dem whole trace.segment.start u k else []) (sym w.units) (sym w.holder)
           ∙ ap (λ ns. if nat_lt 0 trace.segment.units then ns else []) told-last)
 
-      pub closing-notes : notes_before_end p dem asks (course demand p dem (last + 1)) ≡ owritten_notes p dem asks whole ++ ended_notes p s t0 e trace
-      closing-notes = notes-whole last ∙ (whole-open whole ∙ ap (λ ns. owritten_notes p dem asks whole ++ ns) last-is)
+      pub closing-notes : notes_before_end p dem asks (course demand p dem (last + 1)) ≡ open_notes p dem asks whole ++ ended_notes p s t0 e trace
+      closing-notes = notes-whole last ∙ (whole-open whole ∙ ap (λ ns. open_notes p dem asks whole ++ ns) last-is)
 
       pub closing-can : e < length p.machine.points → CanTell p s t0 e trace
       closing-can there = record {
@@ -451,7 +451,7 @@ module _ (demand : Plan → StateOf → Frac) (p : Plan) (dem : ℕ → ℕ → 
           sums : (b : Bool) → nat_lt 0 trace.segment.units ≡ b → sums_of (notes_before_end p dem asks (course demand p dem (last + 1))) ≡ (if b then (told_trace p s e trace).sums else trace.sums)
           sums b q =
               ap sums_of closing-notes
-              ∙ (sums-append (owritten_notes p dem asks whole) (ended_notes p s t0 e trace)
+              ∙ (sums-append (open_notes p dem asks whole) (ended_notes p s t0 e trace)
               ∙ (ap (λ c. added c (ended_notes p s t0 e trace)) (sym w.sums)
               ∙ (ap (λ c. added trace.sums (if c then written_notes p s t0 e trace else [])) q ∙ part b)))
             where

@@ -16,7 +16,7 @@ use Rattle.sched_model.specs.States.{no_row, row_at, after_advance, StateOf}
 use Rattle.governor.specs.Schedule.{ask_of}
 use Rattle.event_kernel.specs.declared.trace.Trace.{Trace}
 use Rattle.event_kernel.specs.Heard.{HasHeard, HasBalked}
-use Rattle.event_kernel.specs.Segment.{owritten_notes, row_key, told_trace, is_turn, with_units, entered, entering_notes, holder_at, IsFirst, IsFirstUndone}
+use Rattle.event_kernel.specs.Segment.{open_notes, row_key, told_trace, is_turn, with_units, entered, entering_notes, holder_at, IsFirst, IsFirstUndone}
 use Rattle.event_kernel.specs.Tickwork.{served, whole_span, HasWorked}
 use Rattle.event_kernel.specs.Boundary.{some_due}
 use Rattle.event_kernel.specs.Walking.{run_on, gives, AreQuiet, IsInSpan, told_before, told_in}
@@ -121,12 +121,12 @@ module _ {L : Type 0} (heard balked : L → Note → L → Type 0) (demand : Pla
 
     -- the next tick of the span
     next_tick : (st' : StateOf) (trace' : Trace) → t + 1 < ticks → QuietTo (t + 1) st → st'.now ≡ t + 1 → ((k : ℕ) → (row_at st' k).deadline ≡ (row_at st k).deadline)
-        → HasWorked demand p dem t st' trace' false × ((a : L) → HasHeard heard a (told_in demand p dem t) to → HasHeard heard a (owritten_notes p dem (ask_of demand p dem) (whole_span demand p dem t)) next)
+        → HasWorked demand p dem t st' trace' false × ((a : L) → HasHeard heard a (told_in demand p dem t) to → HasHeard heard a (open_notes p dem (ask_of demand p dem) (whole_span demand p dem t)) next)
         → Stays t (t + 1) to next st' trace'
     next_tick st' trace' lt quiet now due done =
         let none : some_due p st' ≡ false = any_below-none (count p) (λ k. nat_eq (row_at st' k).deadline st'.now) (λ k l. (let q = quiet k l in let d = due k in grind (arith, nat_tests, q, d, now))) in
         let on = goes-on demand p dem adm ticks t0 t e st st' trace trace' here done.0 none lt low_ticks in
-        (on.0, λ a h. subst (λ x. HasHeard heard a (owritten_notes p dem (ask_of demand p dem) x) next) (sym on.1) (done.1 a h))
+        (on.0, λ a h. subst (λ x. HasHeard heard a (open_notes p dem (ask_of demand p dem) x) next) (sym on.1) (done.1 a h))
 
     -- one tick of one job
     module _ (i : ℕ) (first : IsFirstUndone p st (count p) i) where

@@ -21,7 +21,7 @@ use Rattle.sched_model.specs.Segments.{same_holder}
 use Rattle.sched_model.proofs.ScheduleLemmas.{length-list_below}
 use Rattle.event_kernel.specs.declared.trace.Trace.{Trace}
 use Rattle.event_kernel.specs.Heard.{HasHeard, HasBalked}
-use Rattle.event_kernel.specs.Segment.{grown, owritten_notes, entered, entering_notes, IsFirstUndone, CanTell, HeldIn}
+use Rattle.event_kernel.specs.Segment.{grown, open_notes, entered, entering_notes, IsFirstUndone, CanTell, HeldIn}
 use Rattle.event_kernel.specs.Writing.{HeldNow, Writing}
 use Rattle.event_kernel.specs.Tickwork.{served}
 use Rattle.event_kernel.proofs.Entering.{Shows, enters-notes, enters}
@@ -44,7 +44,7 @@ module _ {L : Type 0} (heard balked : L → Note → L → Type 0) (p : Plan) (d
     pub given : ℕ → ℕ
     pub hand : Handing p dem past (speed_now p dem ask past) given rest completed st
     pub writing : Writing p dem ask (length past) (grown s0 (units_by p dem past given)) (λ i. had p dem past i + given i) (1000000 * length past + sum_below (count p) given) trace
-    pub told : (a : L) → HasHeard heard a (owritten_notes p dem ask s0) from → HasHeard heard a (owritten_notes p dem ask (grown s0 (units_by p dem past given))) to
+    pub told : (a : L) → HasHeard heard a (open_notes p dem ask s0) from → HasHeard heard a (open_notes p dem ask (grown s0 (units_by p dem past given))) to
 
   -- the same with a list of units beside it
   abbrev pub with_list : Span → List Holder → Span
@@ -63,7 +63,7 @@ module _ {L : Type 0} (heard balked : L → Note → L → Type 0) (p : Plan) (d
         writing = subst (λ us. Writing p dem ask (length past) (with_list s0 us) (λ i. had p dem past i + 0) (1000000 * length past + sum_below (count p) (λ _. 0)) trace) same
             (subst (λ m. Writing p dem ask (length past) s0 (λ i. had p dem past i + 0) m trace) most
             (subst (λ u. Writing p dem ask (length past) s0 u (1000000 * length past) trace) used w));
-        told = λ a h. subst (λ us. HasHeard heard a (owritten_notes p dem ask (with_list s0 us)) from) same h;
+        told = λ a h. subst (λ us. HasHeard heard a (open_notes p dem ask (with_list s0 us)) from) same h;
       }
     where
       plus_zero : (n : ℕ) → n ≡ n + 0
@@ -117,10 +117,10 @@ module _ {L : Type 0} (heard balked : L → Note → L → Type 0) (p : Plan) (d
               (u.below, job_is)
               (λ k lt. subst (λ j. (had p dem past k + w.given k) + count_by (same_holder (Held k (job p dem past k))) (replicate share (Held i j)) ≡ had p dem past k + raised w.given i share k) (sym job_is) (gives-had p dem past w.given i share k))));
           told = λ a h.
-              subst (λ us. HasHeard heard a (owritten_notes p dem ask (with_list s0 us)) next) units
+              subst (λ us. HasHeard heard a (open_notes p dem ask (with_list s0 us)) next) units
               (subst (λ ns. HasHeard heard a ns next)
               (sym (enters-notes p dem ask (length past) (grown s0 (units_by p dem past w.given)) (λ k. had p dem past k + w.given k) (1000000 * length past + sum_below (count p) w.given) st (Held i ((row_at st i).job)) share trace some w.writing sh))
-              (heard-append heard balked (owritten_notes p dem ask (grown s0 (units_by p dem past w.given))) (entering_notes p st (length s0.past) s0.entry (Held i ((row_at st i).job)) trace) a to next (w.told a h) tells));
+              (heard-append heard balked (open_notes p dem ask (grown s0 (units_by p dem past w.given))) (entering_notes p st (length s0.past) s0.entry (Held i ((row_at st i).job)) trace) a to next (w.told a h) tells));
         }
       where
         or_if : (a b : Bool) → (a || b) ≡ (if b then true else a)
@@ -168,21 +168,21 @@ module _ {L : Type 0} (heard balked : L → Note → L → Type 0) (p : Plan) (d
         → share ≡ min rest (dem i ((row_at st i).job) - (row_at st i).used)
         → whole ≡ nat_eq share (dem i ((row_at st i).job) - (row_at st i).used)
         → HasBalked heard balked to (entering_notes p st (length s0.past) s0.entry (Held i ((row_at st i).job)) trace) next
-        → (a : L) → HasHeard heard a (owritten_notes p dem ask s0) from → HasBalked heard balked a (owritten_notes p dem ask (grown s0 (units_of p past (tick_now p dem ask past)))) next
+        → (a : L) → HasHeard heard a (open_notes p dem ask s0) from → HasBalked heard balked a (open_notes p dem ask (grown s0 (units_of p past (tick_now p dem ask past)))) next
     working-balk to next rest i share completed whole st trace w pos u se we balks a h =
-        let so_far : List Note = owritten_notes p dem ask (grown s0 (units_by p dem past w.given)) in
+        let so_far : List Note = open_notes p dem ask (grown s0 (units_by p dem past w.given)) in
         let here : HasBalked heard balked a (so_far ++ entering_notes p st (length s0.past) s0.entry (Held i ((row_at st i).job)) trace) next =
         balked_after heard balked so_far (entering_notes p st (length s0.past) s0.entry (Held i ((row_at st i).job)) trace) a to next (w.told a h) balks in
-        let longer : HasBalked heard balked a (owritten_notes p dem ask (grown s0 (units_by p dem past (raised w.given i share)))) next =
-        subst (λ us. HasBalked heard balked a (owritten_notes p dem ask (with_list s0 us)) next) units
+        let longer : HasBalked heard balked a (open_notes p dem ask (grown s0 (units_by p dem past (raised w.given i share)))) next =
+        subst (λ us. HasBalked heard balked a (open_notes p dem ask (with_list s0 us)) next) units
         (subst (λ ns. HasBalked heard balked a ns next)
         (sym (enters-notes p dem ask (length past) (grown s0 (units_by p dem past w.given)) (λ k. had p dem past k + w.given k) (1000000 * length past + sum_below (count p) w.given) st (Held i ((row_at st i).job)) share trace some w.writing sh)) here) in
         let after : Handing p dem past (speed_now p dem ask past) (raised w.given i share) (rest - share) (if whole then true else completed) (served st i share whole) =
         gives p dem past (speed_now p dem ask past) rest w.given completed st (served st i share whole) i share whole (if whole then true else completed) w.hand pos within o se' we' refl refl in
         let more : Begins (units_by p dem past (raised w.given i share)) (units_of p past (tick_now p dem ask past)) =
         units-begin p dem ask past (raised w.given i share) (rest - share) after.handed in
-        balked-begins heard balked (owritten_notes p dem ask (grown s0 (units_by p dem past (raised w.given i share)))) (owritten_notes p dem ask (grown s0 (units_of p past (tick_now p dem ask past)))) a next
-        (subst (λ us. Begins (owritten_notes p dem ask (grown s0 (units_by p dem past (raised w.given i share)))) (owritten_notes p dem ask (with_list s0 us)))
+        balked-begins heard balked (open_notes p dem ask (grown s0 (units_by p dem past (raised w.given i share)))) (open_notes p dem ask (grown s0 (units_of p past (tick_now p dem ask past)))) a next
+        (subst (λ us. Begins (open_notes p dem ask (grown s0 (units_by p dem past (raised w.given i share)))) (open_notes p dem ask (with_list s0 us)))
         (append_assoc s0.units (units_by p dem past (raised w.given i share)) more.rest ∙ ap (λ us. s0.units ++ us) (sym more.whole))
         (open-begins p dem ask (grown s0 (units_by p dem past (raised w.given i share))) more.rest))
         longer
@@ -240,7 +240,7 @@ module _ {L : Type 0} (heard balked : L → Note → L → Type 0) (p : Plan) (d
     -- the whole tick is told, with the units that nobody took
     pub record Idled (to : L) (given : ℕ → ℕ) (rest : ℕ) (trace : Trace) : Type 0 where
       pub writing : Writing p dem ask (length past) (grown s0 (units_by p dem past given ++ replicate rest Nobody)) (λ i. had p dem past i + given i) (1000000 * length past + sum_below (count p) given + rest) trace
-      pub told : (a : L) → HasHeard heard a (owritten_notes p dem ask s0) from → HasHeard heard a (owritten_notes p dem ask (grown s0 (units_by p dem past given ++ replicate rest Nobody))) to
+      pub told : (a : L) → HasHeard heard a (open_notes p dem ask s0) from → HasHeard heard a (open_notes p dem ask (grown s0 (units_by p dem past given ++ replicate rest Nobody))) to
 
     pub working-full : (to : L) (rest : ℕ) (completed : Bool) (st : StateOf) (trace : Trace) (w : Working s0 from to rest completed st trace) → rest ≡ 0 → Idled to w.given rest trace
     working-full to rest completed st trace w none =
@@ -250,7 +250,7 @@ module _ {L : Type 0} (heard balked : L → Note → L → Type 0) (p : Plan) (d
         record {
           writing = subst (λ us. Writing p dem ask (length past) (with_list s0 us) (λ i. had p dem past i + w.given i) (1000000 * length past + sum_below (count p) w.given + rest) trace) same
               (subst (λ m. Writing p dem ask (length past) (grown s0 (units_by p dem past w.given)) (λ i. had p dem past i + w.given i) m trace) most w.writing);
-          told = λ a h. subst (λ us. HasHeard heard a (owritten_notes p dem ask (with_list s0 us)) to) same (w.told a h);
+          told = λ a h. subst (λ us. HasHeard heard a (open_notes p dem ask (with_list s0 us)) to) same (w.told a h);
         }
 
     idle-units : (given : ℕ → ℕ) (rest : ℕ) → (s0.units ++ units_by p dem past given) ++ replicate rest Nobody ≡ s0.units ++ (units_by p dem past given ++ replicate rest Nobody)
@@ -268,11 +268,11 @@ module _ {L : Type 0} (heard balked : L → Note → L → Type 0) (p : Plan) (d
           (shows p dem past within (speed_now p dem ask past) rest w.given completed st w.hand) tt
           (λ k lt. idle-had (had p dem past k + w.given k) rest k (job p dem past k)));
       told = λ a h.
-          subst (λ us. HasHeard heard a (owritten_notes p dem ask (with_list s0 us)) next) (idle-units w.given rest)
+          subst (λ us. HasHeard heard a (open_notes p dem ask (with_list s0 us)) next) (idle-units w.given rest)
           (subst (λ ns. HasHeard heard a ns next)
           (sym (enters-notes p dem ask (length past) (grown s0 (units_by p dem past w.given)) (λ k. had p dem past k + w.given k) (1000000 * length past + sum_below (count p) w.given) st Nobody rest trace some w.writing
           (shows p dem past within (speed_now p dem ask past) rest w.given completed st w.hand)))
-          (heard-append heard balked (owritten_notes p dem ask (grown s0 (units_by p dem past w.given))) (entering_notes p st (length s0.past) s0.entry Nobody trace) a to next (w.told a h) tells));
+          (heard-append heard balked (open_notes p dem ask (grown s0 (units_by p dem past w.given))) (entering_notes p st (length s0.past) s0.entry Nobody trace) a to next (w.told a h) tells));
     }
 
     -- the units are those of the schedule's tick
@@ -288,12 +288,12 @@ module _ {L : Type 0} (heard balked : L → Note → L → Type 0) (p : Plan) (d
     pub working-idle-balk : (to next : L) (rest : ℕ) (completed : Bool) (st : StateOf) (trace : Trace) (w : Working s0 from to rest completed st trace) → 0 < rest
         → (rest ≡ 0) ⊎ ((k : ℕ) → k < count p → (row_at st k).done ≡ true)
         → HasBalked heard balked to (entering_notes p st (length s0.past) s0.entry Nobody trace) next
-        → (a : L) → HasHeard heard a (owritten_notes p dem ask s0) from → HasBalked heard balked a (owritten_notes p dem ask (grown s0 (units_of p past (tick_now p dem ask past)))) next
+        → (a : L) → HasHeard heard a (open_notes p dem ask s0) from → HasBalked heard balked a (open_notes p dem ask (grown s0 (units_of p past (tick_now p dem ask past)))) next
     working-idle-balk to next rest completed st trace w some ends balks a h =
-        let so_far : List Note = owritten_notes p dem ask (grown s0 (units_by p dem past w.given)) in
+        let so_far : List Note = open_notes p dem ask (grown s0 (units_by p dem past w.given)) in
         let here : HasBalked heard balked a (so_far ++ entering_notes p st (length s0.past) s0.entry Nobody trace) next =
         balked_after heard balked so_far (entering_notes p st (length s0.past) s0.entry Nobody trace) a to next (w.told a h) balks in
-        subst (λ us. HasBalked heard balked a (owritten_notes p dem ask (with_list s0 us)) next)
+        subst (λ us. HasBalked heard balked a (open_notes p dem ask (with_list s0 us)) next)
         (idle-units w.given rest ∙ ap (λ us. s0.units ++ us) (end-units p dem ask past adm.some_period w.given rest (whole-units to rest completed st trace w ends) w.hand.sum))
         (subst (λ ns. HasBalked heard balked a ns next)
         (sym (enters-notes p dem ask (length past) (grown s0 (units_by p dem past w.given)) (λ k. had p dem past k + w.given k) (1000000 * length past + sum_below (count p) w.given) st Nobody rest trace some w.writing
@@ -303,7 +303,7 @@ module _ {L : Type 0} (heard balked : L → Note → L → Type 0) (p : Plan) (d
     pub record Worked (to : L) (completed : Bool) (st : StateOf) (trace : Trace) : Type 0 where
       pub state : st ≡ prior_state p dem (tick_now p dem ask past ∷ past)
       pub writing : Writing p dem ask (length past) (grown s0 (units_of p past (tick_now p dem ask past))) (λ i. exec p (tick_now p dem ask past ∷ past) i (latest p i (length past))) (1000000 * (length past + 1)) trace
-      pub told : (a : L) → HasHeard heard a (owritten_notes p dem ask s0) from → HasHeard heard a (owritten_notes p dem ask (grown s0 (units_of p past (tick_now p dem ask past)))) to
+      pub told : (a : L) → HasHeard heard a (open_notes p dem ask s0) from → HasHeard heard a (open_notes p dem ask (grown s0 (units_of p past (tick_now p dem ask past)))) to
       pub completes : completed ≡ any_below (count p) (completes_in p dem (tick_now p dem ask past) past)
 
     writing-more : (s : Span) (used used' : ℕ → ℕ) (most most' : ℕ) (trace : Trace) → ((i : ℕ) → i < count p → used i ≡ used' i) → most ≤ most' → Writing p dem ask (length past) s used most trace → Writing p dem ask (length past) s used' most' trace
@@ -337,6 +337,6 @@ module _ {L : Type 0} (heard balked : L → Note → L → Type 0) (p : Plan) (d
               (1000000 * length past + sum_below (count p) w.given + rest) (1000000 * (length past + 1)) trace'
               (λ i lt. end-had p dem ask past adm.some_period none w.given i lt (same i lt))
               (omega (arith, w.hand.sum, adm.low_speed (entry_in_force p dem ask past))) d.writing);
-          told = λ a h. subst (λ us. HasHeard heard a (owritten_notes p dem ask (with_list s0 us)) next) units (d.told a h);
+          told = λ a h. subst (λ us. HasHeard heard a (open_notes p dem ask (with_list s0 us)) next) units (d.told a h);
           completes = w.hand.ends ∙ end-completes p dem ask past adm.some_period none w.given same;
         }

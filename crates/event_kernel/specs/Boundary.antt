@@ -21,9 +21,11 @@ use Rattle.freq_table.specs.Tables.{lowest_entry}
 abbrev pub opened_row : Plan → (ℕ → ℕ → ℕ) → ℕ → Row → Row
 opened_row p dem i row = record (released_row (period p i) row) { done = nat_eq (dem i (row.job + 1)) 0 }
 
+-- the state after that release
 abbrev pub opened : Plan → (ℕ → ℕ → ℕ) → StateOf → ℕ → StateOf
 opened p dem s i = record s { rows = slice_set s.rows i (opened_row p dem i (row_at s i)) }
 
+-- the notes of that release
 abbrev pub opening_notes : (ℕ → ℕ → ℕ) → StateOf → ℕ → List Note
 opening_notes dem s i =
     Release s.now i ((row_at s i).job + 1)
@@ -54,9 +56,10 @@ pub record IsBetween (demand : Plan → StateOf → Frac) (p : Plan) (dem : ℕ 
   pub few_finished : trace.sums.finished ≤ 1000000 * t + 64 * t
   pub few_decisions : trace.sums.decisions ≤ t
 
--- the trace at the end of a span, and what it tells there
+-- the trace at the end of a span
 abbrev pub ended_trace : Plan → StateOf → ℕ → Trace → Trace
 ended_trace p s e trace = if nat_lt 0 trace.segment.units then told_trace p s e trace else trace
 
+-- the notes that are told there
 abbrev pub ended_notes : Plan → StateOf → ℕ → ℕ → Trace → List Note
 ended_notes p s from e trace = if nat_lt 0 trace.segment.units then written_notes p s from e trace else []

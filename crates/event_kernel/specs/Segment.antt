@@ -1,4 +1,4 @@
--- The segment that is being written, and the notes of a span up to it.
+-- The open segment, and the notes of a span up to it.
 use Rattle.std.specs.Prelude.{◌≡◌, ℕ, ◌+◌, ◌*◌, ◌<◌, ◌^◌, Bool, true, false, ◌&&◌, not, nat_lt, if◌then◌else◌, List, [], ◌∷◌, ◌++◌, length, Option, None, Some}
 use Rattle.dvs_base.specs.declared.note.Note.{Note}
 use Rattle.dvs_base.specs.declared.note.Note.TheVariants.{Run, Idle, Done, Speed}
@@ -20,12 +20,13 @@ use Rattle.event_kernel.specs.declared.trace.Trace.{Trace}
 use Rattle.event_kernel.specs.declared.sums.Sums.{Sums}
 use Rattle.event_kernel.specs.Sums.{sums_of, added}
 
--- all segments but the last, and the last
+-- all segments but the last
 abbrev pub closed : List Piece → List Piece
 closed [] = []
 closed (r ∷ []) = []
 closed (r ∷ q ∷ rs) = r ∷ closed (q ∷ rs)
 
+-- the last segment
 abbrev pub last_of : List Piece → Piece
 last_of [] = record { holder = Nobody; units = 0 }
 last_of (r ∷ []) = r
@@ -35,6 +36,7 @@ last_of (r ∷ q ∷ rs) = last_of (q ∷ rs)
 abbrev pub grown : Span → List Holder → Span
 grown s us = record { past = s.past; entry = s.entry; units = s.units ++ us }
 
+-- the latest span, which stands first in the list
 abbrev pub first_span : List Span → Span
 first_span [] = record { past = []; entry = 0; units = [] }
 first_span (s ∷ spans) = s
@@ -53,34 +55,37 @@ head_notes p dem ask s =
     ++ Speed (length s.past) ((point p s.entry).speed) ((ask s.past).num) ((ask s.past).den) ∷ []
 
 -- all notes up to the last segment of a span, which is open
-abbrev pub owritten_notes : Plan → (ℕ → ℕ → ℕ) → (List Tick → Frac) → Span → List Note
-owritten_notes p dem ask s =
+abbrev pub open_notes : Plan → (ℕ → ℕ → ℕ) → (List Tick → Frac) → Span → List Note
+open_notes p dem ask s =
     (notes_before_end p dem ask s.past ++ head_notes p dem ask s) ++ pieces_notes p dem s 0 (closed (pieces_of s.units))
 
--- the notes of the segment that the trace holds, at a state
+-- the notes of a segment of a holder, from its unit `q` on, at a state
 abbrev pub holder_notes : Plan → StateOf → (ℕ → Pos) → ℕ → ℕ → ℕ → Holder → List Note
 holder_notes p s at_unit e q units Nobody = Idle (at_unit q) (at_unit (q + units)) units (idle_energy p e units) ∷ []
 holder_notes p s at_unit e q units (Held i k) =
     Run (at_unit q) (at_unit (q + units)) i k units (run_energy p e units)
     ∷ (if (row_at s i).done then Done (at_unit (q + units)) i k (row_at s i).used ∷ [] else [])
 
+-- the notes of the open segment
 abbrev pub written_notes : Plan → StateOf → ℕ → ℕ → Trace → List Note
 written_notes p s from e trace = holder_notes p s (position_of from ((point p e).speed)) e trace.segment.start trace.segment.units trace.segment.holder
 
--- the trace after it has told its segment
+-- the energy of running that a segment adds
 abbrev pub run_part : Plan → ℕ → ℕ → Holder → ℕ
 run_part p e units Nobody = 0
 run_part p e units (Held i k) = run_energy p e units
 
+-- the energy of idling that it adds
 abbrev pub idle_part : Plan → ℕ → ℕ → Holder → ℕ
 idle_part p e units Nobody = idle_energy p e units
 idle_part p e units (Held i k) = 0
 
--- whether its notes have the end of a job
+-- how many ends of jobs it adds: one where the holder's row is done
 abbrev pub ended_part : StateOf → Holder → ℕ
 ended_part s Nobody = 0
 ended_part s (Held i k) = if (row_at s i).done then 1 else 0
 
+-- the trace after its segment is told
 abbrev pub told_trace : Plan → StateOf → ℕ → Trace → Trace
 told_trace p s e trace = record {
   segment = record { holder = trace.segment.holder; start = trace.segment.start + trace.segment.units; units = 0 };
@@ -97,13 +102,15 @@ told_trace p s e trace = record {
 abbrev pub is_turn : Trace → Holder → Bool
 is_turn trace h = nat_lt 0 trace.segment.units && not (same_holder trace.segment.holder h)
 
--- the trace after units of a holder
+-- the trace after units of the holder of its segment
 abbrev pub with_units : Holder → ℕ → Trace → Trace
 with_units h n trace = record { segment = record { holder = h; start = trace.segment.start; units = trace.segment.units + n }; sums = trace.sums }
 
+-- the trace after units of any holder: where it is another one, the segment is told first
 abbrev pub entered : Plan → StateOf → ℕ → Holder → ℕ → Trace → Trace
 entered p s e h n trace = with_units h n (if is_turn trace h then told_trace p s e trace else trace)
 
+-- the notes that are told then
 abbrev pub entering_notes : Plan → StateOf → ℕ → ℕ → Holder → Trace → List Note
 entering_notes p s from e h trace = if is_turn trace h then written_notes p s from e trace else []
 
@@ -111,7 +118,7 @@ entering_notes p s from e h trace = if is_turn trace h then written_notes p s fr
 abbrev pub with_notes : Trace → List Note → Trace
 with_notes trace notes = record { segment = trace.segment; sums = added trace.sums notes }
 
--- the counts of jobs are below a limit
+-- the counts of releases and of ends are below a limit
 pub record HasRoom (limit : ℕ) (c : Sums) : Type 0 where
   pub released : c.released < limit
   pub finished : c.finished < limit
@@ -133,7 +140,7 @@ pub record CanTell (p : Plan) (s : StateOf) (from e : ℕ) (trace : Trace) : Typ
   pub task : HeldIn (length s.rows) trace.segment.holder
   pub ends : trace.sums.finished < 2 ^ 63
 
--- the key of a row
+-- the key of a row: the smaller stands first
 abbrev pub row_key : Scheduler → Plan → StateOf → ℕ → ℕ
 row_key Edf p s i = (row_at s i).deadline
 row_key Rm p s i = period p i

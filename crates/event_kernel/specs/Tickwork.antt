@@ -24,13 +24,15 @@ served s i units ends = record s { rows = slice_set s.rows i (record (row_at s i
 abbrev pub had_at : Plan → List Tick → ℕ → ℕ
 had_at p past i = exec p past i (latest p i (length past))
 
--- the span of the tick t before its units, and with them
+-- the span of the tick t before its units
 abbrev pub span_at : (Plan → StateOf → Frac) → Plan → (ℕ → ℕ → ℕ) → ℕ → Span
 span_at demand p dem t = open_span p dem (ask_of demand p dem) (course demand p dem t)
 
+-- the tick t
 abbrev pub tick_at : (Plan → StateOf → Frac) → Plan → (ℕ → ℕ → ℕ) → ℕ → Tick
 tick_at demand p dem t = next_tick p dem (ask_of demand p dem) (course demand p dem t)
 
+-- its span with its units
 abbrev pub whole_span : (Plan → StateOf → Frac) → Plan → (ℕ → ℕ → ℕ) → ℕ → Span
 whole_span demand p dem t = grown (span_at demand p dem t) (units_of p (course demand p dem t) (tick_at demand p dem t))
 

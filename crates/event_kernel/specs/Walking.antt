@@ -5,7 +5,7 @@ use Rattle.sched_model.specs.Plan.{Plan, count, point}
 use Rattle.sched_model.specs.Decision.{is_decision}
 use Rattle.event_kernel.specs.declared.trace.Trace.{Trace}
 use Rattle.governor.specs.Schedule.{ask_of, course}
-use Rattle.event_kernel.specs.Segment.{owritten_notes, IsFirstUndone}
+use Rattle.event_kernel.specs.Segment.{open_notes, IsFirstUndone}
 use Rattle.dvs_base.specs.declared.note.Note.{Note}
 use Rattle.sched_model.specs.Notes.{notes_before_end}
 use Rattle.event_kernel.specs.Tickwork.{served, span_at, whole_span, IsAtWork, HasWorked}
@@ -29,15 +29,17 @@ pub record HasWalked (demand : Plan → StateOf → Frac) (p : Plan) (dem : ℕ 
   pub worked : HasWorked demand p dem last s trace completed
   pub decision : last + 1 < ticks → is_decision p dem (course demand p dem (last + 1)) ≡ true
 
--- the notes before the tick t, those up to its span's open segment, and those up to the open segment after its units
+-- the notes before the tick t
 abbrev pub told_before : (Plan → StateOf → Frac) → Plan → (ℕ → ℕ → ℕ) → ℕ → List Note
 told_before demand p dem t = notes_before_end p dem (ask_of demand p dem) (course demand p dem t)
 
+-- the notes up to the open segment of the tick t's span
 abbrev pub told_in : (Plan → StateOf → Frac) → Plan → (ℕ → ℕ → ℕ) → ℕ → List Note
-told_in demand p dem t = owritten_notes p dem (ask_of demand p dem) (span_at demand p dem t)
+told_in demand p dem t = open_notes p dem (ask_of demand p dem) (span_at demand p dem t)
 
+-- those up to the segment that is open after its units
 abbrev pub told_after : (Plan → StateOf → Frac) → Plan → (ℕ → ℕ → ℕ) → ℕ → List Note
-told_after demand p dem t = owritten_notes p dem (ask_of demand p dem) (whole_span demand p dem t)
+told_after demand p dem t = open_notes p dem (ask_of demand p dem) (whole_span demand p dem t)
 
 -- a state at a later tick, after units of a task whose job is still not done
 abbrev pub run_on : StateOf → ℕ → ℕ → ℕ → StateOf

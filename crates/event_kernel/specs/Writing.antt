@@ -9,7 +9,7 @@ use Rattle.sched_model.specs.Ticks.{Tick, exec}
 use Rattle.sched_model.specs.Segments.{same_holder, Span, pieces_of}
 use Rattle.event_kernel.specs.declared.trace.Trace.{Trace}
 use Rattle.event_kernel.specs.Sums.{sums_of}
-use Rattle.event_kernel.specs.Segment.{last_of, owritten_notes, cost}
+use Rattle.event_kernel.specs.Segment.{last_of, open_notes, cost}
 
 -- nobody, or the latest job of a task
 abbrev pub HeldNow : Plan → ℕ → Holder → Type 0
@@ -26,7 +26,7 @@ pub record Writing (p : Plan) (dem : ℕ → ℕ → ℕ) (ask : List Tick → F
   pub had : (i : ℕ) → i < count p → exec p s.past i (latest p i t) + count_by (same_holder (Held i (latest p i t))) s.units ≡ used i
   pub few : length s.units ≤ most
   pub money : trace.sums.run + trace.sums.idle + cost * trace.segment.units ≤ cost * most
-  pub sums : trace.sums ≡ sums_of (owritten_notes p dem ask s)
+  pub sums : trace.sums ≡ sums_of (open_notes p dem ask s)
   pub few_released : trace.sums.released ≤ 64 * (t + 1)
   pub few_finished : trace.sums.finished + trace.segment.units ≤ most + 64 * (t + 1)
   pub few_decisions : trace.sums.decisions ≤ t + 1

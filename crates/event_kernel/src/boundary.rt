@@ -14,7 +14,7 @@ ghost use Rattle.event_kernel.specs.Settings.{state_at, notes_before, notes_in};
 
 use crate::run::{InForce, Run, Setting};
 use crate::tick::demand;
-use crate::trace::Trace;
+use crate::trace::{Trace, tell_done};
 use crate::{Listener, Stopped};
 use dvs_base::{Note, Pos};
 use governor::Governor;
@@ -86,15 +86,11 @@ impl<G: Governor> Run<G> {
         if demand(set.plan, set.demands, task, job) == 0 {
             self.governor.finished(set.plan, &self.state, task);
             self.state.finish(task);
-            to.hear(&Note::Done {
-                at: Pos {
-                    tick: now,
-                    offset: 0,
-                },
-                task,
-                job,
-                used: 0,
-            })?;
+            let at = Pos {
+                tick: now,
+                offset: 0,
+            };
+            tell_done(at, task, job, 0, to)?;
             self.trace.sums.finished += 1;
         }
         Ok(())

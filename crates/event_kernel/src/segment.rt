@@ -1,5 +1,5 @@
 // The segment that is open.
-ghost use Rattle.std.specs.Prelude.{◌≡◌};
+ghost use Rattle.std.specs.Prelude.{◌≡◌, ◌+◌, ◌<◌, ◌^◌};
 ghost use Rattle.sched_model.specs.Segments.{same_holder};
 
 use sched_model::Holder;
@@ -10,6 +10,17 @@ pub struct Segment {
     pub holder: Holder,
     pub start: u64,
     pub units: u64,
+}
+
+impl Segment {
+    /// The next segment of the holder begins where this one ends.
+    pub(crate) fn pass(&mut self)
+        requires { self.old.start + self.old.units < 2 ^ 64 }
+        ensures { self.new ≡ record { holder = self.old.holder; start = self.old.start + self.old.units; units = 0 } }
+    {
+        self.start += self.units;
+        self.units = 0;
+    }
 }
 
 /// Whether two holders are one.

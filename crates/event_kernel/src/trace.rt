@@ -1,5 +1,6 @@
 // What is written of a trace, and how it is told.
-ghost use Rattle.std.specs.Prelude.{◌≡◌, ◌+◌, ◌*◌, ◌<◌, ◌≤◌, ◌^◌, OnOk};
+ghost use Rattle.std.specs.Prelude.{◌≡◌, ◌+◌, ◌*◌, ◌<◌, ◌≤◌, ◌^◌, OnOk, [], ◌∷◌};
+ghost use Rattle.dvs_base.specs.declared.note.Note.TheVariants.{Done};
 ghost use Rattle.sched_model.specs.Segments.{same_holder, position_of};
 ghost use Rattle.event_kernel.specs.Heard.{Tells};
 ghost use Rattle.event_kernel.specs.Segment.{cost, written_notes, told_trace, is_turn, entered, entering_notes};
@@ -56,6 +57,24 @@ fn energy_of(units: u64, millivolts: u64, rate: u64) -> u128
     units as u128 * millivolts as u128 * millivolts as u128 * rate as u128
 }
 
+/// Tells the end of a job, and what it has used.
+pub(crate) fn tell_done<L: Listener>(
+    at: Pos,
+    task: u32,
+    job: u64,
+    used: u64,
+    to: &mut L,
+) -> Result<(), Stopped>
+    ensures { Tells L.heard L.balked L.stops to.old to.new (Done at task job used ∷ []) result }
+{
+    to.hear(&Note::Done {
+        at,
+        task,
+        job,
+        used,
+    })
+}
+
 impl Trace {
     /// Nothing written yet.
     pub(crate) fn new() -> Trace
@@ -87,8 +106,7 @@ impl Trace {
             at.entry.force.index self.old) result }
     {
         at.plan.known();
-        let machine = at.plan.machine();
-        let point = machine.point(at.force.index);
+        let point = at.plan.machine().point(at.force.index);
         let first = position(at.force.from, point.speed, self.segment.start);
         let end = position(
             at.force.from,
@@ -97,7 +115,11 @@ impl Trace {
         );
         match self.segment.holder {
             Holder::Nobody => {
-                let energy = energy_of(self.segment.units, point.millivolts, machine.idle());
+                let energy = energy_of(
+                    self.segment.units,
+                    point.millivolts,
+                    at.plan.machine().idle(),
+                );
                 to.hear(&Note::Idle {
                     from: first,
                     to: end,
@@ -119,19 +141,13 @@ impl Trace {
                 let state = at.state;
                 let row = state.rows[task as usize];
                 if row.done {
-                    to.hear(&Note::Done {
-                        at: end,
-                        task,
-                        job,
-                        used: row.used,
-                    })?;
+                    tell_done(end, task, job, row.used, to)?;
                     self.sums.finished += 1;
                 }
                 self.sums.run += energy;
             }
         }
-        self.segment.start += self.segment.units;
-        self.segment.units = 0;
+        self.segment.pass();
         Ok(())
     }
 

@@ -6,8 +6,8 @@ use Rattle.event_kernel.proofs.Atwork.{read_row}
 use Rattle.event_kernel.proofs.Releasing.{opened-done}
 use Rattle.event_kernel.proofs.run.Run.release_one.Goals as goal
 
-pub returns-in_ok-hear-2-clause-state : goal.returns-in_ok-hear-2-clause-state
-returns-in_ok-hear-2-clause-state g c =
+pub returns-in_ok-tell_done-clause-state : goal.returns-in_ok-tell_done-clause-state
+returns-in_ok-tell_done-clause-state g c =
     let s = c.args.self.now.state in
     let i = c.args.task in
     let dem = jobs_of c.args.set.now in
