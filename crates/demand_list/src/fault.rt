@@ -1,5 +1,8 @@
 // Why a demand file is refused.
-use dvs_base::Short;
+ghost use Rattle.std.specs.Prelude.{◌≡◌};
+ghost use Rattle.demand_list.specs.declared.fault.DemandFault.TheVariants as fault;
+
+use dvs_base::{NoMemory, Short};
 
 /// The columns of a demand file that hold numbers.
 #[derive(Clone, Copy, Debug, PartialEq, Eq)]
@@ -49,4 +52,12 @@ pub enum DemandFault {
     },
     /// Memory ran out.
     NoMemory,
+}
+
+impl From<NoMemory> for DemandFault {
+    ghost from_gives = { λ _ e. e ≡ fault.NoMemory };
+
+    fn from(_e: NoMemory) -> DemandFault {
+        DemandFault::NoMemory
+    }
 }

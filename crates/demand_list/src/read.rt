@@ -106,10 +106,8 @@ fn add_checked(
             worst,
         });
     }
-    match demands.set(task, job, units) {
-        Ok(_) => Ok(()),
-        Err(_) => Err(DemandFault::NoMemory),
-    }
+    demands.set(task, job, units)?;
+    Ok(())
 }
 
 // A reader of the records of a text: of any number of fields, and the first one like the others. It has a header row
@@ -217,7 +215,7 @@ impl Demands {
         let mut reader = reader_of(alloc, bytes)?;
         let mut fields = ByteRecord::new(alloc);
         read_header(&mut reader, &mut fields)?;
-        let demands = worst_list(alloc, tasks).map_err(|_| DemandFault::NoMemory)?;
+        let demands = worst_list(alloc, tasks)?;
         read_rows(&mut reader, &mut fields, tasks, demands)
     }
 }

@@ -20,6 +20,7 @@ use Rattle.trace_text.proofs.NoteLines.{plain-word, plain-scheduler, plain-gover
 use Rattle.task_model.specs.declared.task.Task.{Task}
 use Rattle.task_model.specs.Tasks.{no_task, task_at}
 use Rattle.grid_fraction.specs.declared.Frac.{Frac}
+use Rattle.sched_model.specs.declared.bounds.TheConstants.{MOST_TICKS}
 use Rattle.sched_model.specs.Plan.{Plan, count, names, period}
 use Rattle.sched_model.specs.Jobs.{release, due}
 use Rattle.sched_model.specs.Ticks.{Tick, at, exec}
@@ -152,7 +153,7 @@ is_by t q e = go (cases_lt q.tick t) (nat_lt t q.tick) refl (nat_lt 0 q.offset) 
         inr (here, none)
 
 module _ (p : Plan) (dem : ℕ → ℕ → ℕ) (ask : List Tick → Frac) (lim : IsWithinLimits p) (ticks : List Tick) (sched : IsScheduleBy p dem ask ticks)
-    (most : (i k : ℕ) → i < count p → exec p ticks i k ≤ dem i k) (low : length ticks ≤ 2 ^ 40) where
+    (most : (i k : ℕ) → i < count p → exec p ticks i k ≤ dem i k) (low : length ticks ≤ MOST_TICKS) where
   abbrev notes : List Note
   notes = notes_of p dem ask ticks
 

@@ -1,6 +1,7 @@
 -- The state before the first release.
 use Rattle.std.proofs.Common.{◌≡◌, ℕ, ◌<◌, ◌≤◌, ◌^◌, List, ap, sym, ◌∙◌, arith}
 use Rattle.grid_fraction.specs.Numbers.{list_below}
+use Rattle.task_model.specs.declared.limits.TheConstants.{LONGEST_PERIOD}
 use Rattle.sched_model.specs.declared.state.Row.{Row}
 use Rattle.sched_model.specs.Plan.{Plan, count, period, offset, worst}
 use Rattle.sched_model.specs.States.{StateOf, no_row, row_at, opening, opening_row, IsStateOf, CanRelease}
@@ -34,7 +35,7 @@ opening_by p n rows base all r b =
 pub opening-can_release : (p : Plan) → IsWithinLimits p → (i : ℕ) → i < count p → offset p i ≡ 0 → CanRelease p (opening p) i
 opening-can_release p lim i lt now =
     let row : row_at (opening p) i ≡ opening_row (offset p i) (worst p i) = get-table (count p) (λ k. opening_row (offset p k) (worst p k)) i no_row lt in
-    let period_low : period p i ≤ 2 ^ 40 = (lim.tasks.each i lt).low_period in
+    let period_low : period p i ≤ LONGEST_PERIOD = (lim.tasks.each i lt).low_period in
     record {
       task = omega (arith, length-list_below (count p) (λ k. opening_row (offset p k) (worst p k)));
       below = lt;
