@@ -9,3 +9,5 @@ pub mod Picks
 pub mod Endings
 pub mod Telling
 pub mod Headlines
+pub mod Answering
+pub mod Shows

@@ -25,7 +25,7 @@ use Rattle.sched_model.specs.Demands.{demand_of}
 use Rattle.sched_model.specs.Tests.{total_rate, level_work}
 use Rattle.sched_model.specs.StaticDemand.{static_demand}
 use Rattle.sched_model.specs.Text.{run_text}
-use Rattle.event_kernel.specs.Runs.{released_jobs, most_jobs}
+use Rattle.event_kernel.specs.Runs.{Run, released_jobs, most_jobs}
 use Rattle.rtdvs_top.specs.Words.{RunOf, AdmitOf, CommandOf, run, admit}
 use Rattle.rtdvs_top.specs.declared.status.FileKind.{FileKind}
 use Rattle.rtdvs_top.specs.declared.status.FileKind.TheVariants as file
@@ -111,6 +111,10 @@ within_jobs jobs bytes = if nat_lt most_jobs jobs then Err (status.Limit jobs) e
 -- the answer of an admitted plan: the text of its run
 abbrev pub answer_of_plan : GovernorKind → DemandsOf → ℕ → Plan → Result (List ℕ) Status
 answer_of_plan g demands ticks p = within_jobs (released_jobs p ticks) (run_text p g (demand_of p demands.rows) ticks)
+
+-- the same of a run that was put together
+abbrev pub answer_of_run : GovernorKind → Run → Result (List ℕ) Status
+answer_of_run g r = answer_of_plan g r.demands r.ticks r.plan
 
 -- the admitted plan and the demands of a run, after its tasks
 abbrev pub prepared_of : RunOf → List Task → Files → Result (Plan × DemandsOf) Status

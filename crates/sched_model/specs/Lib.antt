@@ -16,6 +16,7 @@ pub mod Notes
 pub mod Totals
 pub mod Text
 pub mod Deadlines
+pub mod WholeRuns
 pub mod Backlog
 pub mod States
 pub mod Admission
