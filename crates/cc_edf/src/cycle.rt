@@ -1,16 +1,18 @@
 // The governor of cycle-conserving EDF.
-ghost use Rattle.std.specs.Prelude.{◌≡◌, ◌≤◌, ◌<◌, ◌+◌, ◌-◌, ◌*◌, ◌/◌, true, IfOk, length, slice_index, slice_set};
+ghost use Rattle.std.specs.Prelude.{◌≡◌, ◌≤◌, ◌<◌, true, IfOk, length, slice_set};
 ghost use Rattle.dvs_base.specs.declared.kind.GovernorKind.TheVariants.{Cycle};
 ghost use Rattle.freq_table.specs.Tables.{lowest_entry, lowest_pick};
-ghost use Rattle.sched_model.specs.Plan.{count, period, hyper};
+ghost use Rattle.sched_model.specs.Plan.{count};
+ghost use Rattle.sched_model.specs.CycleDemand.{rate_for};
 ghost use Rattle.sched_model.specs.States.{opening, row_at, IsOfPlan};
 ghost use Rattle.governor.specs.Serving.{ServesEdf};
-ghost use Rattle.cc_edf_laws.specs.Cycle.{cycle_demand, Counts};
+ghost use Rattle.cc_edf_laws.specs.Cycle.{cycle_demand, sum_charged, Counts};
 ghost use Rattle.cc_edf_laws.specs.Conditions.{CycleCalm, CycleSafe};
 ghost use Rattle.cc_edf_laws.proofs.CycleLaws.{cycle_laws};
+ghost use Rattle.cc_edf_laws.proofs.Publishing.{cycle_publishing};
 
 use dvs_base::{GovernorKind, NoMemory};
-use governor::{Choice, Governor};
+use governor::{Choice, Governor, Publishing};
 use grid_fraction::Frac;
 use sched_model::{Admitted, Row, State};
 use std::alloc::Global;
@@ -49,8 +51,8 @@ impl CcEdf {
         requires counters { Counts self.old.rates.items self.old.sum plan.now view.now }
         requires task { task < count plan.now }
         requires within { units ≤ (row_at view.now task).worst }
-        ensures rates { self.new.rates.items ≡ slice_set self.old.rates.items task (units * (hyper plan.now / period plan.now task)) }
-        ensures sum { self.new.sum ≡ self.old.sum - slice_index self.old.rates.items task + units * (hyper plan.now / period plan.now task) }
+        ensures rates { self.new.rates.items ≡ slice_set self.old.rates.items task (rate_for plan.now task units) }
+        ensures sum { self.new.sum ≡ sum_charged plan.now self.old.rates.items self.old.sum task units }
     {
         plan.known();
         let rate = u128::from(units) * u128::from(plan.hyper() / plan.period(task));
@@ -125,5 +127,13 @@ impl Governor for CcEdf {
             met: pick.met,
             demand,
         }
+    }
+}
+
+impl Publishing for CcEdf {
+    ghost publishing = { cycle_publishing };
+
+    fn made(alloc: Global, plan: &Admitted) -> Result<CcEdf, NoMemory> {
+        CcEdf::new(alloc, plan)
     }
 }

@@ -18,8 +18,8 @@ use Rattle.sched_model.proofs.Limits.{low_hyper}
 use Rattle.sched_model.proofs.LevelSums.{sum_below-term}
 use Rattle.governor.specs.Serving.{ServesEdf}
 use Rattle.governor.proofs.Belonging.{opening_at}
-use Rattle.cc_edf_laws.specs.Cycle.{charged, charged_rate, Counts}
-use Rattle.one_speed.proofs.Fits.{full_enough}
+use Rattle.cc_edf_laws.specs.Cycle.{charged_of, charged_rate_in, Counts}
+use Rattle.governor.proofs.Fits.{full_enough}
 use Rattle.cc_edf_laws.proofs.CycleLaws.{cycle_within}
 
 -- one term of a sum changes
@@ -58,31 +58,31 @@ module _ (plan : Plan) (s : StateOf) (of : IsOfPlan plan s) (rates : List ℕ) (
 
   -- which is a part of the sum
   pub rate_most : slice_index rates i ≤ sum
-  rate_most = let r = counts.rate_is i h in let t = counts.sum_is in let m = sum_below-term (count plan) (charged_rate plan s) i h in omega arith
+  rate_most = let r = counts.rate_is i h in let t = counts.sum_is in let m = sum_below-term (count plan) (charged_rate_in plan s) i h in omega arith
 
   -- with the rate of the new row in the place of the old one
-  counts-set : (row : Row) (new : ℕ) → new ≡ charged row * (hyper plan / period plan i) → Counts (slice_set rates i new) (sum - slice_index rates i + new) plan (written row)
+  counts-set : (row : Row) (new : ℕ) → new ≡ charged_of row * (hyper plan / period plan i) → Counts (slice_set rates i new) (sum - slice_index rates i + new) plan (written row)
   counts-set row new is = record {
     served = counts.served;
     one_each = length-set rates i new ∙ counts.one_each;
     rate_is = λ k lt. at k lt (eqb k i) refl;
     sum_is =
-        let moved = sum_below-change (count plan) (charged_rate plan s) (charged_rate plan (written row)) i h (λ k lt ne. other k ne) in
+        let moved = sum_below-change (count plan) (charged_rate_in plan s) (charged_rate_in plan (written row)) i h (λ k lt ne. other k ne) in
         let was = counts.rate_is i h in
         let all = counts.sum_is in
         omega (arith, moved, was, all, rate_most, own);
   }
     where
-      own : charged_rate plan (written row) i ≡ new
-      own = ap (λ (r : Row). charged r * (hyper plan / period plan i)) (row-same row) ∙ sym is
+      own : charged_rate_in plan (written row) i ≡ new
+      own = ap (λ (r : Row). charged_of r * (hyper plan / period plan i)) (row-same row) ∙ sym is
 
-      other : (k : ℕ) → k ≢ i → charged_rate plan (written row) k ≡ charged_rate plan s k
-      other k ne = ap (λ (r : Row). charged r * (hyper plan / period plan k)) (row-other row k ne)
+      other : (k : ℕ) → k ≢ i → charged_rate_in plan (written row) k ≡ charged_rate_in plan s k
+      other k ne = ap (λ (r : Row). charged_of r * (hyper plan / period plan k)) (row-other row k ne)
 
-      at : (k : ℕ) → k < count plan → (b : Bool) → eqb k i ≡ b → slice_index (slice_set rates i new) k ≡ charged_rate plan (written row) k
+      at : (k : ℕ) → k < count plan → (b : Bool) → eqb k i ≡ b → slice_index (slice_set rates i new) k ≡ charged_rate_in plan (written row) k
       at k lt true e =
           let same : k ≡ i = grind (arith, nat_tests) in
-          ap (λ m. slice_index (slice_set rates i new) m) same ∙ (get_or-set_same rates i new 0 rate_place ∙ (sym own ∙ ap (charged_rate plan (written row)) (sym same)))
+          ap (λ m. slice_index (slice_set rates i new) m) same ∙ (get_or-set_same rates i new 0 rate_place ∙ (sym own ∙ ap (charged_rate_in plan (written row)) (sym same)))
       at k lt false e =
           let ne : k ≢ i = grind (arith, nat_tests) in
           get_or-set_other rates i k new 0 ne ∙ (counts.rate_is k lt ∙ sym (other k ne))
@@ -99,7 +99,7 @@ module _ (plan : Plan) (s : StateOf) (of : IsOfPlan plan s) (rates : List ℕ) (
   pub counts-ran : (units : ℕ) → (row_at s i).done ≡ false → Counts rates sum plan (after_run s i units)
   counts-ran units still =
       let row : Row = record (row_at s i) { used = (row_at s i).used + units } in
-      let same : charged (row_at s i) ≡ charged row = rw still refl in
+      let same : charged_of (row_at s i) ≡ charged_of row = rw still refl in
       let kept : slice_set rates i (slice_index rates i) ≡ rates = set-get_or rates i 0 in
       let all : sum - slice_index rates i + slice_index rates i ≡ sum = omega (arith, rate_most) in
       subst (λ (rs : List ℕ). Counts rs sum plan (written row)) kept
@@ -121,8 +121,8 @@ counts-opening plan edf = record {
   served = edf;
   one_each = length-replicate (count plan) 0;
   rate_is = λ i h. get_or-replicate (count plan) i 0 0 h ∙ sym (none i h);
-  sum_is = sym (sum_below-zero (count plan) (charged_rate plan (opening plan)) none);
+  sum_is = sym (sum_below-zero (count plan) (charged_rate_in plan (opening plan)) none);
 }
   where
-    none : (i : ℕ) → i < count plan → charged_rate plan (opening plan) i ≡ 0
+    none : (i : ℕ) → i < count plan → charged_rate_in plan (opening plan) i ≡ 0
     none i h = rw (opening_at plan i h) (omega arith)

@@ -1,14 +1,17 @@
 -- The laws of cycle-conserving EDF.
-use Rattle.std.proofs.Common.{◌≡◌, inl, inr, ℕ, ◌+◌, ◌-◌, ◌*◌, ◌/◌, ◌<◌, ◌≤◌, ◌^◌, min, true, false, List, length, refl, ap, sym, ◌∙◌, arith}
+use Rattle.std.proofs.Common.{◌≡◌, inl, inr, ℕ, ◌+◌, ◌-◌, ◌*◌, ◌/◌, ◌<◌, ◌≤◌, ◌^◌, min, true, false, List, length, refl, ap, sym, ◌∙◌, subst, arith}
 use Rattle.std.specs.Prelude.{if◌then◌else◌}
 use Rattle.std.proofs.Math.Nat.{mul-le-mul_right, mul-zero, le_of_mul-le-mul_left}
 use Rattle.std.proofs.lemmas.Bool.{le-leb, cases_lt}
+use Rattle.dvs_base.specs.declared.kind.Scheduler.{Scheduler}
 use Rattle.dvs_base.specs.declared.kind.GovernorKind.TheVariants.{Cycle}
+use Rattle.trace_text.specs.Words.{IsPair}
 use Rattle.grid_fraction.specs.Numbers.{sum_below, sum_where}
 use Rattle.grid_fraction.proofs.Sums.{sum_below-add, sum_below-le, sum_below-zero}
 use Rattle.freq_table.specs.Tables.{speed_at, lowest_entry, lowest_pick}
 use Rattle.freq_table.proofs.Chosen.{picked_meets, picked_met}
 use Rattle.sched_model.specs.Plan.{Plan, count, period, worst, hyper, rate, top_speed}
+use Rattle.sched_model.specs.Demands.{JobDemands}
 use Rattle.sched_model.specs.Tests.{total_rate}
 use Rattle.sched_model.specs.Admission.{IsWithinLimits, IsAdmitted}
 use Rattle.sched_model.specs.States.{StateOf, row_at, opening, IsOfPlan}
@@ -16,13 +19,13 @@ use Rattle.sched_model.proofs.Limits.{some_hyper, low_hyper, period_divides}
 use Rattle.sched_model.proofs.LevelSums.{sum_below-times, sum_where-term, sum_where-zero}
 use Rattle.governor.specs.Laws.{GovernorLaws}
 use Rattle.governor.specs.Serving.{ServesEdf}
-use Rattle.governor.specs.Steps.{after_boundary, after_tick, wleft_at, left, share, IsLegal, IsBeforeAll, Belongs}
-use Rattle.governor.proofs.Belonging.{in_rows, opening_at, boundary_at, tick_at, due_soon, legal_most}
+use Rattle.governor.specs.Steps.{after_boundary, after_tick, wleft_at, left_in, share_in, IsLegalIn, IsBeforeAll, Belongs}
+use Rattle.governor.proofs.Belonging.{unborn_done, in_rows, opening_at, boundary_at, tick_at, due_soon, legal_most}
 use Rattle.governor.proofs.Ticks.{demand_most}
-use Rattle.one_speed.specs.Edf.{due_by}
-use Rattle.one_speed.proofs.EdfLaws.{closed_row}
-use Rattle.one_speed.proofs.Fits.{full_enough}
-use Rattle.cc_edf_laws.specs.Cycle.{charged, charged_rate, cycle_demand}
+use Rattle.governor.specs.Edf.{due_by}
+use Rattle.governor.proofs.EdfLaws.{closed_row}
+use Rattle.governor.proofs.Fits.{full_enough}
+use Rattle.cc_edf_laws.specs.Cycle.{charged_of, charged_rate_in, cycle_demand}
 use Rattle.cc_edf_laws.specs.Conditions.{due_work, credit, CycleCalm, CycleSafe}
 use Rattle.cc_edf_laws.proofs.Rows.{owed, credit_of, boundary_pays, tick_pays, tick_charge, charged_most}
 use Rattle.cc_edf_laws.proofs.Shares.{due_closes, due_full, later_none}
@@ -48,8 +51,8 @@ cycle_opens plan d le =
 -- the charges are at most the worst cases, so the highest speed does the sum of the rates
 pub cycle_within : (plan : Plan) (s : StateOf) → IsOfPlan plan s → (cycle_demand plan s).num ≤ total_rate plan
 cycle_within plan s of =
-    sum_below-le (count plan) (charged_rate plan s) (rate plan) (λ i h.
-    let most : charged (row_at s i) ≤ worst plan i = (let m = charged_most (row_at s i) (of.used i h) in let w = of.worst i h in omega arith) in
+    sum_below-le (count plan) (charged_rate_in plan s) (rate plan) (λ i h.
+    let most : charged_of (row_at s i) ≤ worst plan i = (let m = charged_most (row_at s i) (of.used i h) in let w = of.worst i h in omega arith) in
     mul-le-mul_right (hyper plan / period plan i) most)
 
 pub cycle_fits : (plan : Plan) (s : StateOf) → IsAdmitted plan → ServesEdf plan.scheduler → IsOfPlan plan s → (cycle_demand plan s).num ≤ top_speed plan * hyper plan
@@ -70,7 +73,7 @@ cycle_chooses plan s adm edf of calm = record {
   rate = picked_meets plan.machine adm.limits.machine (cycle_demand plan s) (cycle_fits plan s adm edf of);
 }
 
-module _ (plan : Plan) (lim : IsWithinLimits plan) (dem : ℕ → ℕ → ℕ) (s : StateOf) (bel : Belongs plan dem s) where
+module _ (plan : Plan) (lim : IsWithinLimits plan) (dem : JobDemands) (s : StateOf) (bel : Belongs plan dem s) where
   here : (i : ℕ) → i < count plan → i < length s.rows
   here = in_rows plan dem s bel
 
@@ -82,8 +85,8 @@ module _ (plan : Plan) (lim : IsWithinLimits plan) (dem : ℕ → ℕ → ℕ) (
   cycle_completes : CycleCalm plan s → (i : ℕ) → i < count plan → (row_at s i).deadline ≡ s.now → (row_at s i).done ≡ true
   cycle_completes calm i h at_now =
       let none : credit plan s s.now ≡ 0 =
-      sum_below-zero (count plan) (λ j. charged_rate plan s j * (min s.now (row_at s j).deadline - s.now))
-      (λ j l. let z : min s.now (row_at s j).deadline - s.now ≡ 0 = omega arith in rw z (mul-zero (charged_rate plan s j))) in
+      sum_below-zero (count plan) (λ j. charged_rate_in plan s j * (min s.now (row_at s j).deadline - s.now))
+      (λ j l. let z : min s.now (row_at s j).deadline - s.now ≡ 0 = omega arith in rw z (mul-zero (charged_rate_in plan s j))) in
       let all : hyper plan * due_work plan s s.now ≤ 0 = rw none at (calm s.now (omega arith)) in
       let paid : due_work plan s s.now ≤ 0 = le_of_mul-le-mul_left {m = due_work plan s s.now} {n = 0} {k = hyper plan} (omega (arith, all)) (some_hyper plan lim) in
       let mine : wleft_at s i ≤ due_work plan s s.now = sum_where-term (count plan) (due_by s s.now) (wleft_at s) i h (le-leb (row_at s i).deadline s.now (omega arith)) in
@@ -98,7 +101,7 @@ module _ (plan : Plan) (lim : IsWithinLimits plan) (dem : ℕ → ℕ → ℕ) (
       (λ i lt. rw (boundary_at plan dem s i (here i lt)) (boundary_pays plan dem h (jobs i) s.now d i (row_at s i) (period_divides plan lim i lt) (cycle_completes calm i lt) le)) in
       omega (arith, each, calm d le, sum_below-times n h (λ i. owed d (row_at t i)), sum_below-times n h (λ i. owed d (row_at s i)))
 
-  module _ (edf : ServesEdf plan.scheduler) (f : ℕ) (shares : List ℕ) (before : IsBeforeAll plan s) (legal : IsLegal plan dem f s shares) where
+  module _ (edf : ServesEdf plan.scheduler) (f : ℕ) (shares : List ℕ) (before : IsBeforeAll plan s) (legal : IsLegalIn plan dem f s shares) where
     abbrev next : StateOf
     next = after_tick dem shares s
 
@@ -111,26 +114,26 @@ module _ (plan : Plan) (lim : IsWithinLimits plan) (dem : ℕ → ℕ → ℕ) (
               let r = bel.released i h in
               let near = due_soon plan i (row_at s i).job born in
               omega arith
-          | inr none ↦ absurd (let closed : (row_at s i).done ≡ true = (bel.no_job i h (omega arith)).0 in let bad : true ≡ false = sym closed ∙ open_job in cc)
+          | inr none ↦ absurd (let closed : (row_at s i).done ≡ true = unborn_done plan dem s bel i h (omega arith) in let bad : true ≡ false = sym closed ∙ open_job in cc)
         ]
 
     -- where the speed covers what is due by d, nothing is owed by then
-    all_done : (d : ℕ) → sum_where (count plan) (due_by s d) (left dem s) ≤ f → due_work plan next d ≡ 0
+    all_done : (d : ℕ) → sum_where (count plan) (due_by s d) (left_in dem s) ≤ f → due_work plan next d ≡ 0
     all_done d low =
         sum_where-zero (count plan) (due_by next d) (wleft_at next) (λ i h on.
         let due : due_by s d i ≡ true = rw (tick_at dem shares s i (here i h)) at on in
         rw (due_closes plan dem f s shares edf bel legal d low i h due) refl)
 
     -- else each of its units is paid for
-    all_paid : (d : ℕ) → s.now + 1 ≤ d → f ≤ sum_where (count plan) (due_by s d) (left dem s)
+    all_paid : (d : ℕ) → s.now + 1 ≤ d → f ≤ sum_where (count plan) (due_by s d) (left_in dem s)
         → hyper plan * due_work plan next d + hyper plan * f + credit plan s d ≤ hyper plan * due_work plan s d + credit plan next d + (cycle_demand plan s).num
     all_paid d le high =
         let n = count plan in
         let h = hyper plan in
-        let x = share shares in
+        let x = share_in shares in
         let each = sum-three n
         (λ i. h * owed d (row_at next i)) (λ i. h * (if due_by s d i then x i else 0)) (λ i. credit_of (jobs i) s.now d (row_at s i))
-        (λ i. h * owed d (row_at s i)) (λ i. credit_of (jobs i) (s.now + 1) d (row_at next i)) (charged_rate plan s)
+        (λ i. h * owed d (row_at s i)) (λ i. credit_of (jobs i) (s.now + 1) d (row_at next i)) (charged_rate_in plan s)
         (λ i lt.
         let row = row_at s i in
         rw (tick_at dem shares s i (here i lt))
@@ -149,29 +152,30 @@ module _ (plan : Plan) (lim : IsWithinLimits plan) (dem : ℕ → ℕ → ℕ) (
 
     rates_fall : (cycle_demand plan next).num ≤ (cycle_demand plan s).num
     rates_fall =
-        sum_below-le (count plan) (charged_rate plan next) (charged_rate plan s) (λ i h.
+        sum_below-le (count plan) (charged_rate_in plan next) (charged_rate_in plan s) (λ i h.
         let row = row_at s i in
         rw (tick_at dem shares s i (here i h))
-        (mul-le-mul_right (jobs i) (tick_charge row.done (dem i row.job) row.used row.worst (share shares i) (demand_most plan dem s bel i h) (legal_most plan dem f s shares legal i h))))
+        (mul-le-mul_right (jobs i) (tick_charge row.done (dem i row.job) row.used row.worst (share_in shares i) (demand_most plan dem s bel i h) (legal_most plan dem f s shares legal i h))))
 
     cycle_ticks : (cycle_demand plan s).num ≤ f * hyper plan → CycleCalm plan s → CycleCalm plan next
     cycle_ticks fits calm d le =
-        elim (cases_lt (sum_where (count plan) (due_by s d) (left dem s)) f) [
+        elim (cases_lt (sum_where (count plan) (due_by s d) (left_in dem s)) f) [
           | inl low ↦ rw (all_done d (omega arith)) (omega (arith, mul-zero (hyper plan)))
           | inr high ↦ omega (arith, all_paid d le high, calm d (omega arith), fits)
         ]
 
 pub cycle_laws : GovernorLaws Cycle ServesEdf cycle_demand CycleCalm CycleSafe
 cycle_laws = record {
-  low_den = λ plan s adm edf of dec. cycle_den plan s adm.limits;
-  opens = λ plan adm edf. cycle_opens plan;
-  releases = λ plan dem s adm edf bel calm. cycle_releases plan adm.limits dem s bel calm;
-  chooses = λ plan dem s adm edf bel dec calm. cycle_chooses plan s adm edf bel.of calm;
-  meets = λ plan dem s adm edf bel dec calm kind. cycle_met plan s adm edf bel.of;
-  ticks = λ plan dem s k shares adm edf bel before inside legal safe. record {
-    calm = cycle_ticks plan adm.limits dem s bel edf (speed_at plan.machine k) shares before legal safe.rate safe.calm;
-    rate = (let falls = rates_fall plan adm.limits dem s bel edf (speed_at plan.machine k) shares before legal in let fits = safe.rate in omega arith);
+  pairs = λ sch edf. subst (λ (s : Scheduler). IsPair s Cycle) (sym edf) refl;
+  low_den = λ plan s on of dec. cycle_den plan s on.admitted.limits;
+  opens = λ plan on. cycle_opens plan;
+  releases = λ plan dem s run calm. cycle_releases plan run.admitted.limits dem s run.belongs calm;
+  chooses = λ plan dem s run dec calm. cycle_chooses plan s run.admitted run.served run.belongs.of calm;
+  meets = λ plan dem s run dec calm kind. cycle_met plan s run.admitted run.served run.belongs.of;
+  ticks = λ plan dem s run k safe shares may. record {
+    calm = cycle_ticks plan run.admitted.limits dem s run.belongs run.served (speed_at plan.machine k) shares may.before may.legal safe.rate safe.calm;
+    rate = (let falls = rates_fall plan run.admitted.limits dem s run.belongs run.served (speed_at plan.machine k) shares may.before may.legal in let fits = safe.rate in omega arith);
   };
-  stays_calm = λ plan dem s k adm edf bel safe. safe.calm;
-  completes = λ plan dem s adm edf bel calm. cycle_completes plan adm.limits dem s bel calm;
+  stays_calm = λ plan dem s run k safe. safe.calm;
+  completes = λ plan dem s run calm. cycle_completes plan run.admitted.limits dem s run.belongs calm;
 }

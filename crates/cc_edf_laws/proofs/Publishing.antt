@@ -7,36 +7,41 @@ use Rattle.dvs_base.specs.declared.kind.GovernorKind.TheVariants.{Cycle}
 use Rattle.grid_fraction.specs.declared.Frac.{Frac}
 use Rattle.grid_fraction.proofs.Sums.{sum_below-same}
 use Rattle.sched_model.specs.Plan.{Plan, count, period, worst, hyper}
+use Rattle.sched_model.specs.Demands.{JobDemands}
 use Rattle.sched_model.specs.Jobs.{latest}
 use Rattle.sched_model.specs.Ticks.{Tick, exec, is_complete}
-use Rattle.sched_model.specs.CycleDemand.{charged as charged_at, edf_cycle}
+use Rattle.sched_model.specs.CycleDemand.{charged, edf_cycle}
 use Rattle.sched_model.specs.Demand.{demand_by, published}
 use Rattle.sched_model.specs.Schedule.{IsScheduleBy}
 use Rattle.sched_model.specs.States.{no_row, row_at, row_of, state_of}
 use Rattle.sched_model.proofs.Service.{exec-most}
 use Rattle.sched_model.proofs.Tables.{get-table}
-use Rattle.governor.specs.Schedule.{Publishes}
+use Rattle.governor.specs.Schedule.{Publishes, PublishingLaws}
 use Rattle.governor.specs.Serving.{ServesEdf}
-use Rattle.cc_edf_laws.specs.Cycle.{charged, charged_rate, cycle_demand}
+use Rattle.governor.proofs.OneSchedule.{publishing_laws}
+use Rattle.cc_edf_laws.specs.Cycle.{charged_of, charged_rate_in, cycle_demand}
 
 -- a complete job is charged its demand, which it has had
 charge-is : (b : Bool) (d u w : ℕ) → nat_le d u ≡ b → u ≤ d → (if b then d else w) ≡ (if b then u else w)
 charge-is true d u w e le = let g : d ≤ u = grind (arith, nat_tests) in omega arith
 charge-is false d u w e le = refl
 
-charged-state : (p : Plan) (dem : ℕ → ℕ → ℕ) (ask : List Tick → Frac) (past : List Tick) → IsScheduleBy p dem ask past → (i : ℕ) → i < count p → charged_at p dem past i ≡ charged (row_at (state_of p dem past) i)
+charged-state : (p : Plan) (dem : JobDemands) (ask : List Tick → Frac) (past : List Tick) → IsScheduleBy p dem ask past → (i : ℕ) → i < count p → charged p dem past i ≡ charged_of (row_at (state_of p dem past) i)
 charged-state p dem ask past h i lt =
     let k = latest p i (length past) in
     charge-is (is_complete p dem past i) (dem i k) (exec p past i k) (worst p i) refl (exec-most p dem ask past h i k lt)
-    ∙ sym (ap charged (get-table (count p) (row_of p dem past) i no_row lt))
+    ∙ sym (ap charged_of (get-table (count p) (row_of p dem past) i no_row lt))
 
-cycle-state : (p : Plan) (dem : ℕ → ℕ → ℕ) (ask : List Tick → Frac) (past : List Tick) → IsScheduleBy p dem ask past → edf_cycle p dem past ≡ cycle_demand p (state_of p dem past)
+cycle-state : (p : Plan) (dem : JobDemands) (ask : List Tick → Frac) (past : List Tick) → IsScheduleBy p dem ask past → edf_cycle p dem past ≡ cycle_demand p (state_of p dem past)
 cycle-state p dem ask past h =
     ap (λ (num : ℕ). record { num = num; den = hyper p })
-    (sum_below-same (count p) (λ i. charged_at p dem past i * (hyper p / period p i)) (charged_rate p (state_of p dem past))
+    (sum_below-same (count p) (λ i. charged p dem past i * (hyper p / period p i)) (charged_rate_in p (state_of p dem past))
     (λ i lt. ap (λ v. v * (hyper p / period p i)) (charged-state p dem ask past h i lt)))
 
 pub published-cycle : (p : Plan) → ServesEdf p.scheduler → Publishes cycle_demand Cycle p
 unfolding published
 published-cycle p edf dem within ask past h =
     ap (λ (sch : Scheduler). demand_by sch Cycle p dem past) edf ∙ cycle-state p dem ask past h
+
+pub cycle_publishing : PublishingLaws Cycle ServesEdf cycle_demand
+cycle_publishing = publishing_laws cycle_demand Cycle ServesEdf (λ p adm edf. published-cycle p edf)

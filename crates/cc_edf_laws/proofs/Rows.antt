@@ -5,9 +5,10 @@ use Rattle.std.proofs.Math.Nat.{le_trans, mul-le-mul_left, mul-zero, sub-zero}
 use Rattle.std.proofs.lemmas.Bool.{le-leb, lt-leb, cases_lt, cases_Bool, eqb-true}
 use Rattle.sched_model.specs.declared.state.Row.{Row}
 use Rattle.sched_model.specs.Plan.{Plan, period}
+use Rattle.sched_model.specs.Demands.{JobDemands}
 use Rattle.sched_model.specs.States.{row_wleft}
 use Rattle.governor.specs.Steps.{is_due, boundary_row, opened_row}
-use Rattle.cc_edf_laws.specs.Cycle.{charged}
+use Rattle.cc_edf_laws.specs.Cycle.{charged_of}
 
 -- what a row due by d may still need
 abbrev pub owed : ℕ → Row → ℕ
@@ -15,7 +16,7 @@ owed d row = if nat_le row.deadline d then row_wleft row else 0
 
 -- what its rate gives up to d, where q is H over its period
 abbrev pub credit_of : ℕ → ℕ → ℕ → Row → ℕ
-credit_of q now d row = charged row * q * (min d row.deadline - now)
+credit_of q now d row = charged_of row * q * (min d row.deadline - now)
 
 same_both : (b : Bool) (x : ℕ) → (if b then x else x) ≡ x
 same_both true x = refl
@@ -34,7 +35,7 @@ opened_pays false h q p c now d after whole le is =
     ]
 
 -- at a boundary, where each row that is due is complete
-pub boundary_pays : (plan : Plan) (dem : ℕ → ℕ → ℕ) (h q now d i : ℕ) (row : Row) → q * period plan i ≡ h → (row.deadline ≡ now → row.done ≡ true) → now ≤ d
+pub boundary_pays : (plan : Plan) (dem : JobDemands) (h q now d i : ℕ) (row : Row) → q * period plan i ≡ h → (row.deadline ≡ now → row.done ≡ true) → now ≤ d
     → h * owed d (boundary_row plan dem now i row) + credit_of q now d row ≤ h * owed d row + credit_of q now d (boundary_row plan dem now i row)
 boundary_pays plan dem h q now d i row whole closed le =
     let P : Bool → Type 0 = λ (b : Bool). h * owed d (if b then opened_row plan dem i row else row) + credit_of q now d row ≤ h * owed d row + credit_of q now d (if b then opened_row plan dem i row else row) in
@@ -42,7 +43,7 @@ boundary_pays plan dem h q now d i row whole closed le =
       | inl due ↦
           let at_now : row.deadline ≡ now = eqb-true row.deadline now due in
           let pays = opened_pays (dem i (row.job + 1) == 0) h q (period plan i) row.worst now d (row.deadline + period plan i) whole le (omega arith) in
-          let none : credit_of q now d row ≡ 0 = (let z : min d row.deadline - now ≡ 0 = omega arith in rw z (mul-zero (charged row * q))) in
+          let none : credit_of q now d row ≡ 0 = (let z : min d row.deadline - now ≡ 0 = omega arith in rw z (mul-zero (charged_of row * q))) in
           subst P (sym due) (omega (arith, pays, none))
       | inr later ↦ subst P (sym later) (omega arith)
     ]
@@ -119,7 +120,7 @@ tick_charge false need used worst sh most own =
     ]
 
 -- a charge is at most the worst case
-pub charged_most : (row : Row) → row.used ≤ row.worst → charged row ≤ row.worst
+pub charged_most : (row : Row) → row.used ≤ row.worst → charged_of row ≤ row.worst
 charged_most row le = most row.done row.used row.worst le
   where
     most : (b : Bool) (u w : ℕ) → u ≤ w → (if b then u else w) ≤ w

@@ -6,45 +6,46 @@ use Rattle.dvs_base.specs.declared.kind.Scheduler.{Scheduler}
 use Rattle.grid_fraction.specs.Numbers.{sum_where}
 use Rattle.grid_fraction.proofs.Sums.{sum_below-le}
 use Rattle.sched_model.specs.Plan.{Plan, count}
+use Rattle.sched_model.specs.Demands.{JobDemands}
 use Rattle.sched_model.specs.Priority.{stands_before, sum_before, SharesOut}
 use Rattle.sched_model.specs.States.{StateOf, row_at}
 use Rattle.sched_model.proofs.DownSets.{due_by_gets}
 use Rattle.sched_model.proofs.LevelSums.{sum_where-tight}
 use Rattle.governor.specs.Serving.{ServesEdf}
-use Rattle.governor.specs.Steps.{share, left, key_of, IsLegal, after_tick, Belongs}
+use Rattle.governor.specs.Steps.{share_in, left_in, key_in, IsLegalIn, after_tick, Belongs}
 use Rattle.governor.proofs.Belonging.{legal_most}
 use Rattle.governor.proofs.Ticks.{tick-closes}
-use Rattle.one_speed.specs.Edf.{due_by}
+use Rattle.governor.specs.Edf.{due_by}
 
 if-weaker : (a b : Bool) (x : ℕ) → (a ≡ true → b ≡ true) → (if a then x else 0) ≤ (if b then x else 0)
 if-weaker true b x h = rw (h refl) (omega arith)
 if-weaker false b x h = omega arith
 
-module _ (plan : Plan) (dem : ℕ → ℕ → ℕ) (f : ℕ) (s : StateOf) (shares : List ℕ) (edf : ServesEdf plan.scheduler) (bel : Belongs plan dem s) (legal : IsLegal plan dem f s shares) where
+module _ (plan : Plan) (dem : JobDemands) (f : ℕ) (s : StateOf) (shares : List ℕ) (edf : ServesEdf plan.scheduler) (bel : Belongs plan dem s) (legal : IsLegalIn plan dem f s shares) where
   abbrev deadlines : ℕ → ℕ
   deadlines i = (row_at s i).deadline
 
-  by_deadline : SharesOut (count plan) deadlines f (left dem s) (share shares)
-  by_deadline = subst (λ (sch : Scheduler). SharesOut (count plan) (key_of sch plan s) f (left dem s) (share shares)) edf legal.out
+  by_deadline : SharesOut (count plan) deadlines f (left_in dem s) (share_in shares)
+  by_deadline = subst (λ (sch : Scheduler). SharesOut (count plan) (key_in sch plan s) f (left_in dem s) (share_in shares)) edf legal.out
 
-  pub due_gets : (d : ℕ) → sum_where (count plan) (due_by s d) (share shares) ≡ min f (sum_where (count plan) (due_by s d) (left dem s))
-  due_gets d = due_by_gets (count plan) deadlines d f (left dem s) (share shares) by_deadline
+  pub due_gets : (d : ℕ) → sum_where (count plan) (due_by s d) (share_in shares) ≡ min f (sum_where (count plan) (due_by s d) (left_in dem s))
+  due_gets d = due_by_gets (count plan) deadlines d f (left_in dem s) (share_in shares) by_deadline
 
   -- where the speed covers what is due by d, all of that is complete afterwards
-  pub due_closes : (d : ℕ) → sum_where (count plan) (due_by s d) (left dem s) ≤ f → (i : ℕ) → i < count plan → due_by s d i ≡ true → (row_at (after_tick dem shares s) i).done ≡ true
+  pub due_closes : (d : ℕ) → sum_where (count plan) (due_by s d) (left_in dem s) ≤ f → (i : ℕ) → i < count plan → due_by s d i ≡ true → (row_at (after_tick dem shares s) i).done ≡ true
   due_closes d low i h on =
       tick-closes plan dem f s shares bel legal i h
-      (sum_where-tight (count plan) (due_by s d) (left dem s) (share shares) (legal_most plan dem f s shares legal) (omega (arith, due_gets d)) i h on)
+      (sum_where-tight (count plan) (due_by s d) (left_in dem s) (share_in shares) (legal_most plan dem f s shares legal) (omega (arith, due_gets d)) i h on)
 
   -- and where it doesn't, the tasks due by d get all its units
-  pub due_full : (d : ℕ) → f ≤ sum_where (count plan) (due_by s d) (left dem s) → sum_where (count plan) (due_by s d) (share shares) ≡ f
+  pub due_full : (d : ℕ) → f ≤ sum_where (count plan) (due_by s d) (left_in dem s) → sum_where (count plan) (due_by s d) (share_in shares) ≡ f
   due_full d high = omega (arith, due_gets d)
 
   -- and no other task gets any
-  pub later_none : (d : ℕ) → f ≤ sum_where (count plan) (due_by s d) (left dem s) → (i : ℕ) → i < count plan → d < (row_at s i).deadline → share shares i ≡ 0
+  pub later_none : (d : ℕ) → f ≤ sum_where (count plan) (due_by s d) (left_in dem s) → (i : ℕ) → i < count plan → d < (row_at s i).deadline → share_in shares i ≡ 0
   later_none d high i h later =
       let first : (k : ℕ) → due_by s d k ≡ true → stands_before deadlines k i ≡ true = λ k on. grind (arith, nat_tests) in
-      let before : sum_where (count plan) (due_by s d) (share shares) ≤ sum_before (count plan) deadlines (share shares) i =
-      sum_below-le (count plan) (λ k. if due_by s d k then share shares k else 0) (λ k. if stands_before deadlines k i then share shares k else 0)
-      (λ k l. if-weaker (due_by s d k) (stands_before deadlines k i) (share shares k) (first k)) in
+      let before : sum_where (count plan) (due_by s d) (share_in shares) ≤ sum_before (count plan) deadlines (share_in shares) i =
+      sum_below-le (count plan) (λ k. if due_by s d k then share_in shares k else 0) (λ k. if stands_before deadlines k i then share_in shares k else 0)
+      (λ k l. if-weaker (due_by s d k) (stands_before deadlines k i) (share_in shares k) (first k)) in
       omega (arith, before, due_full d high, by_deadline i h)

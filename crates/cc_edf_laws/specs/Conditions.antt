@@ -5,8 +5,8 @@ use Rattle.freq_table.specs.Tables.{speed_at}
 use Rattle.sched_model.specs.Plan.{Plan, count, hyper}
 use Rattle.sched_model.specs.States.{StateOf, row_at}
 use Rattle.governor.specs.Steps.{wleft_at}
-use Rattle.one_speed.specs.Edf.{due_by}
-use Rattle.cc_edf_laws.specs.Cycle.{charged_rate, cycle_demand}
+use Rattle.governor.specs.Edf.{due_by}
+use Rattle.cc_edf_laws.specs.Cycle.{charged_rate_in, cycle_demand}
 
 -- what the tasks due by d may still need at most
 abbrev pub due_work : Plan → StateOf → ℕ → ℕ
@@ -14,7 +14,7 @@ due_work plan s d = sum_where (count plan) (due_by s d) (wleft_at s)
 
 -- what the rates give up to d, each as far as its task's deadline
 abbrev pub credit : Plan → StateOf → ℕ → ℕ
-credit plan s d = sum_below (count plan) (λ i. charged_rate plan s i * (min d (row_at s i).deadline - s.now))
+credit plan s d = sum_below (count plan) (λ i. charged_rate_in plan s i * (min d (row_at s i).deadline - s.now))
 
 -- for each tick d from now on, the rates pay for the work that is due by d
 abbrev pub CycleCalm : Plan → StateOf → Type 0

@@ -8,7 +8,7 @@ use Rattle.sched_model.specs.Order.{in_order}
 use Rattle.sched_model.specs.Priority.{sum_before}
 use Rattle.sched_model.specs.States.{StateOf, row_at}
 use Rattle.sched_model.proofs.OrderLemmas.{sum_list, sum_list-snoc, below-at, in_order-below, length-in_order, sum_list-in_order, sum_before-prefix}
-use Rattle.cc_rm_laws.specs.Allotments.{base_of, allotted_units, allotted, had_since_mark, allotment_left}
+use Rattle.cc_rm_laws.specs.Allotments.{base_of, allotted_units, allotted_in, had_since_mark, allotment_left_in}
 
 -- the tasks in RM order
 abbrev pub order : Plan → List ℕ
@@ -22,7 +22,7 @@ share_of : (units before need : ℕ) → min units (before + need) - min units b
 share_of units before need = omega arith
 
 -- the k-th task gets what the tasks before it left, up to its base
-ranked-allotted : (p : Plan) (v : StateOf) (k : ℕ) → k < count p → allotted p v (slice_index (order p) k) ≡ min (allotted_units p v - sum_list (base_of v) (take k (order p))) (base_of v (slice_index (order p) k))
+ranked-allotted : (p : Plan) (v : StateOf) (k : ℕ) → k < count p → allotted_in p v (slice_index (order p) k) ≡ min (allotted_units p v - sum_list (base_of v) (take k (order p))) (base_of v (slice_index (order p) k))
 ranked-allotted p v k h =
     let i = slice_index (order p) k in
     let long : k < length (order p) = omega (arith, length-in_order (period p) (count p)) in
@@ -35,7 +35,7 @@ ranked-allotted p v k h =
 -- after k tasks in RM order, `rest` of the units are not allotted, and `sum` is left of those that are
 pub record IsWalked (p : Plan) (v : StateOf) (units k rest sum : ℕ) : Type 0 where
   pub rest_is : rest ≡ units - sum_list (base_of v) (take k (order p))
-  pub sum_is : sum ≡ sum_list (allotment_left p v) (take k (order p))
+  pub sum_is : sum ≡ sum_list (allotment_left_in p v) (take k (order p))
   pub within : sum + rest ≤ units
 
 pub walked-start : (p : Plan) (v : StateOf) (units : ℕ) → IsWalked p v units 0 units 0
@@ -52,19 +52,19 @@ pub walked-next : (p : Plan) (v : StateOf) (units k rest sum given left : ℕ) �
 walked-next p v units k rest sum given left all h walked given_is left_is =
     let i = slice_index (order p) k in
     let long : k < length (order p) = omega (arith, length-in_order (period p) (count p)) in
-    let same : given ≡ allotted p v i = omega (arith, given_is, all, walked.rest_is, ranked-allotted p v k h) in
-    let mine : left ≡ allotment_left p v i = left_is ∙ ap (λ (al : ℕ). if (row_at v i).done then 0 else al - had_since_mark v i) same in
+    let same : given ≡ allotted_in p v i = omega (arith, given_is, all, walked.rest_is, ranked-allotted p v k h) in
+    let mine : left ≡ allotment_left_in p v i = left_is ∙ ap (λ (al : ℕ). if (row_at v i).done then 0 else al - had_since_mark v i) same in
     let most = left_most (row_at v i).done given (had_since_mark v i) in
     let next : take (k + 1) (order p) ≡ take k (order p) ++ i ∷ [] = take_more (order p) k 0 long in
     let bases = ap (sum_list (base_of v)) next ∙ sum_list-snoc (base_of v) (take k (order p)) i in
-    let lefts = ap (sum_list (allotment_left p v)) next ∙ sum_list-snoc (allotment_left p v) (take k (order p)) i in
+    let lefts = ap (sum_list (allotment_left_in p v)) next ∙ sum_list-snoc (allotment_left_in p v) (take k (order p)) i in
     record {
       rest_is = omega (arith, given_is, walked.rest_is, bases);
       sum_is = omega (arith, walked.sum_is, lefts, mine);
       within = omega (arith, walked.within, given_is, left_is, most);
     }
 
-pub walked-end : (p : Plan) (v : StateOf) (units rest sum : ℕ) → IsWalked p v units (count p) rest sum → sum ≡ sum_below (count p) (allotment_left p v)
+pub walked-end : (p : Plan) (v : StateOf) (units rest sum : ℕ) → IsWalked p v units (count p) rest sum → sum ≡ sum_below (count p) (allotment_left_in p v)
 walked-end p v units rest sum walked =
     let all : take (count p) (order p) ≡ order p = take_all (count p) (order p) (omega (arith, length-in_order (period p) (count p))) in
-    walked.sum_is ∙ (ap (sum_list (allotment_left p v)) all ∙ sum_list-in_order (allotment_left p v) (period p) (count p))
+    walked.sum_is ∙ (ap (sum_list (allotment_left_in p v)) all ∙ sum_list-in_order (allotment_left_in p v) (period p) (count p))

@@ -6,7 +6,7 @@ ghost use Rattle.sched_model.specs.Plan.{count};
 ghost use Rattle.sched_model.specs.StaticDemand.{static_speed};
 ghost use Rattle.sched_model.specs.States.{row_at, IsOfPlan};
 ghost use Rattle.governor.specs.Steps.{wleft_at, IsAtDecision};
-ghost use Rattle.cc_rm_laws.specs.Allotments.{base_of, allotted_units, had_since_mark, allotment_left};
+ghost use Rattle.cc_rm_laws.specs.Allotments.{base_of, allotted_units, had_since_mark, allotment_left_in};
 
 use sched_model::{Admitted, State};
 
@@ -48,7 +48,7 @@ pub(crate) fn left_in_all(plan: &Admitted, view: &State, units: u128) -> u128
     requires of { IsOfPlan plan.now view.now }
     requires decision { IsAtDecision plan.now view.now }
     requires units { units ≡ allotted_units plan.now view.now }
-    ensures { result ≡ sum_below (count plan.now) (allotment_left plan.now view.entry.now) }
+    ensures { result ≡ sum_below (count plan.now) (allotment_left_in plan.now view.entry.now) }
 {
     let mut rest = units;
     let mut sum = 0;

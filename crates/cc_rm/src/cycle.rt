@@ -1,22 +1,23 @@
 // Cycle-conserving RM.
-ghost use Rattle.std.specs.Prelude.{◌≡◌, IfOk, IsOk};
+ghost use Rattle.std.specs.Prelude.{◌≡◌, true, IfOk, IsOk};
 ghost use Rattle.dvs_base.specs.declared.kind.Scheduler.TheVariants.{Rm};
 ghost use Rattle.dvs_base.specs.declared.kind.GovernorKind.TheVariants.{Cycle};
+ghost use Rattle.freq_table.specs.Tables.{lowest_entry, lowest_pick};
 ghost use Rattle.sched_model.specs.StaticDemand.{static_speed};
 ghost use Rattle.sched_model.specs.States.{opening, IsOfPlan};
 ghost use Rattle.governor.specs.Steps.{IsAtDecision};
 ghost use Rattle.governor.specs.Serving.{ServesRm};
-ghost use Rattle.one_speed.specs.Worst.{MeetsAtWorst};
+ghost use Rattle.governor.specs.Worst.{MeetsAtWorst};
 ghost use Rattle.cc_rm_laws.specs.Allotments.{cycle_demand};
 ghost use Rattle.cc_rm_laws.specs.Conditions.{CcRmCalm, CcRmSafe};
 ghost use Rattle.cc_rm_laws.proofs.CcRmLaws.{cc_rm_laws};
+ghost use Rattle.cc_rm_laws.proofs.Publishing.{cycle_publishing};
 
 use crate::allotments::{left_in_all, static_speed};
 use dvs_base::{GovernorKind, NoMemory};
-use governor::{Choice, Governor, earliest_deadline};
+use governor::{Choice, Governor, Publishing, earliest_deadline};
 use grid_fraction::Frac;
 use sched_model::{Admitted, State};
-use static_gov::worst_case_meets;
 use std::alloc::Global;
 
 /// Cycle-conserving RM: the speed does what is left of the allotments of the last release in the time up to the earliest
@@ -35,7 +36,7 @@ impl CcRm {
         ensures stands { IfOk result (λ g. ⟦<CcRm as Governor>⟧.stands g plan.now (opening plan.now)) }
         ensures worst { MeetsAtWorst plan.now }
     {
-        worst_case_meets(plan);
+        plan.known();
         Ok(CcRm {
             static_speed: static_speed(plan),
         })
@@ -89,7 +90,16 @@ impl Governor for CcRm {
 
     fn settled(&mut self, _plan: &Admitted, _view: &State) {}
 
-    fn choose(&self, plan: &Admitted, view: &State) -> Choice {
+    /// In a calm state the choice meets its demand: what is left of the allotments fits at the static speed.
+    fn choose(&self, plan: &Admitted, view: &State) -> Choice
+        requires of { IsOfPlan plan.now view.now }
+        requires counters { (self.now.static_speed ≡ static_speed plan.now) × ServesRm plan.now.scheduler }
+        requires decision { IsAtDecision plan.now view.now }
+        ensures demand { result.demand ≡ cycle_demand plan.now view.entry.now }
+        ensures index { result.index ≡ lowest_entry plan.now.machine (cycle_demand plan.now view.entry.now) }
+        ensures met { result.met ≡ (lowest_pick plan.now.machine (cycle_demand plan.now view.entry.now)).met }
+        ensures calm { CcRmCalm plan.now view.entry.now → result.met ≡ true }
+    {
         plan.known();
         let demand = self.demand(plan, view);
         let pick = plan.machine().lowest(demand);
@@ -98,5 +108,13 @@ impl Governor for CcRm {
             met: pick.met,
             demand,
         }
+    }
+}
+
+impl Publishing for CcRm {
+    ghost publishing = { cycle_publishing };
+
+    fn made(alloc: Global, plan: &Admitted) -> Result<CcRm, NoMemory> {
+        CcRm::new(alloc, plan)
     }
 }

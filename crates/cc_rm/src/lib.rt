@@ -2,12 +2,10 @@
 //! deadline are allotted to the tasks in RM order, and the speed does what is left of them in the time that is left.
 //!
 //! It serves RM alone, keeps nothing that a run changes, and takes no memory. Its published demand is the definition's, each
-//! choice meets it, and every deadline of its schedules is met.
+//! choice in a calm state meets it, and every deadline of its schedules is met.
 #![tactic(auto)]
 
 mod allotments;
 mod cycle;
-mod published;
 
 pub use cycle::CcRm;
-pub use published::published_demands;

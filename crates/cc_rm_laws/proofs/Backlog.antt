@@ -28,8 +28,8 @@ use Rattle.sched_model.proofs.DownSets.{down-set-gets}
 use Rattle.sched_model.proofs.LevelSums.{sum_where-plus, sum_where-zero, share-most, up_to-trans, sum_up_to-where}
 use Rattle.sched_model.proofs.ScheduleLemmas.{schedule_exists, next_tick-may}
 use Rattle.sched_model.proofs.ScheduleLemmas.{schedule-none, schedule-suc}
-use Rattle.one_speed.proofs.Publishing.{published-fixed}
-use Rattle.one_speed.proofs.Worst.{lacking-none}
+use Rattle.governor.proofs.PlanDemands.{published-fixed}
+use Rattle.governor.proofs.Worst.{lacking-none}
 
 -- its ticks, and what it publishes
 abbrev pub worst_ticks : Plan → ℕ → List Tick

@@ -1,7 +1,9 @@
 -- The laws of cycle-conserving RM.
-use Rattle.std.proofs.Common.{◌≡◌, ℕ, ◌-◌, ◌*◌, ◌^◌, ◌<◌, ◌≤◌, true, length, arith}
+use Rattle.std.proofs.Common.{◌≡◌, ℕ, ◌-◌, ◌*◌, ◌^◌, ◌<◌, ◌≤◌, true, length, refl, sym, subst, arith}
 use Rattle.std.proofs.Math.Nat.{mul-le-mul_right}
+use Rattle.dvs_base.specs.declared.kind.Scheduler.{Scheduler}
 use Rattle.dvs_base.specs.declared.kind.GovernorKind.TheVariants.{Cycle}
+use Rattle.trace_text.specs.Words.{IsPair}
 use Rattle.grid_fraction.proofs.Least.{least-below}
 use Rattle.freq_table.specs.Tables.{speed_at, lowest_entry, lowest_pick}
 use Rattle.freq_table.proofs.Chosen.{speeds_rise, below_highest, lowest_within, lowest-most, picked_meets, picked_met}
@@ -10,7 +12,7 @@ use Rattle.sched_model.specs.StaticDemand.{rm_static, static_speed}
 use Rattle.sched_model.specs.Admission.{IsAdmitted}
 use Rattle.sched_model.specs.States.{StateOf, row_at}
 use Rattle.sched_model.proofs.Limits.{some_task}
-use Rattle.governor.specs.Steps.{earliest, IsAtDecision}
+use Rattle.governor.specs.Steps.{earliest_in, IsAtDecision}
 use Rattle.governor.specs.Laws.{GovernorLaws}
 use Rattle.governor.specs.Serving.{ServesRm}
 use Rattle.governor.proofs.Belonging.{earliest-later}
@@ -30,7 +32,7 @@ module _ (plan : Plan) (adm : IsAdmitted plan) (s : StateOf) where
   demand_below_top : CcRmCalm plan s → (cycle_demand plan s).num ≤ top_speed plan * (cycle_demand plan s).den
   demand_below_top calm =
       let most : static_speed plan ≤ top_speed plan = below_highest plan.machine adm.limits.machine static_entry static_within in
-      omega (arith, calm.total, mul-le-mul_right (earliest plan s - s.now) most)
+      omega (arith, calm.total, mul-le-mul_right (earliest_in plan s - s.now) most)
 
   chooses : CcRmCalm plan s → CcRmSafe plan s (lowest_entry plan.machine (cycle_demand plan s))
   chooses calm = record {
@@ -41,13 +43,13 @@ module _ (plan : Plan) (adm : IsAdmitted plan) (s : StateOf) where
         (lowest-most plan.machine (cycle_demand plan s) static_entry calm.total) static_within;
   }
 
-  meets_it : CcRmCalm plan s → (lowest_pick plan.machine (cycle_demand plan s)).met ≡ true
+  pub meets_it : CcRmCalm plan s → (lowest_pick plan.machine (cycle_demand plan s)).met ≡ true
   meets_it calm = picked_met plan.machine adm.limits.machine (cycle_demand plan s) (demand_below_top calm)
 
-  low_den : IsAtDecision plan s → (0 < (cycle_demand plan s).den) × ((cycle_demand plan s).den ≤ 2 ^ 64)
-  low_den dec =
+  pub cycle_den : IsAtDecision plan s → (0 < (cycle_demand plan s).den) × ((cycle_demand plan s).den ≤ 2 ^ 64)
+  cycle_den dec =
       let some = some_task plan adm.limits in
-      let later : s.now < earliest plan s = earliest-later plan adm.limits s dec.before in
+      let later : s.now < earliest_in plan s = earliest-later plan adm.limits s dec.before in
       let first = least-below (count plan) (λ i. (row_at s i).deadline) 0 some in
       let soon = dec.soon 0 some in
       (omega arith, omega arith)
@@ -55,16 +57,17 @@ module _ (plan : Plan) (adm : IsAdmitted plan) (s : StateOf) where
 -- all laws of cycle-conserving RM
 pub cc_rm_laws : GovernorLaws Cycle ServesRm cycle_demand CcRmCalm CcRmSafe
 cc_rm_laws = record {
-  low_den = λ plan s adm rm of dec. low_den plan adm s dec;
-  opens = λ plan adm rm. cc_rm_opens plan;
-  releases = λ plan dem s adm rm bel calm. cc_rm_releases plan adm rm dem s bel calm;
-  chooses = λ plan dem s adm rm bel dec calm. chooses plan adm s calm;
-  meets = λ plan dem s adm rm bel dec calm kind. meets_it plan adm s calm;
-  ticks = λ plan dem s k shares adm rm bel before within legal safe. record {
-    calm = cc_rm_ticks plan adm rm dem s bel (speed_at plan.machine k) shares before legal safe.slower safe.calm safe.enough;
-    enough = cc_rm_enough plan adm rm dem s bel (speed_at plan.machine k) shares before legal safe.enough;
+  pairs = λ sch rm. subst (λ (s : Scheduler). IsPair s Cycle) (sym rm) refl;
+  low_den = λ plan s on of dec. cycle_den plan on.admitted s dec;
+  opens = λ plan on. cc_rm_opens plan;
+  releases = λ plan dem s run calm. cc_rm_releases plan run.admitted run.served dem s run.belongs calm;
+  chooses = λ plan dem s run dec calm. chooses plan run.admitted s calm;
+  meets = λ plan dem s run dec calm kind. meets_it plan run.admitted s calm;
+  ticks = λ plan dem s run k safe shares may. record {
+    calm = cc_rm_ticks plan run.admitted run.served dem s run.belongs (speed_at plan.machine k) shares may.before may.legal safe.slower safe.calm safe.enough;
+    enough = cc_rm_enough plan run.admitted run.served dem s run.belongs (speed_at plan.machine k) shares may.before may.legal safe.enough;
     slower = safe.slower;
   };
-  stays_calm = λ plan dem s k adm rm bel safe. safe.calm;
-  completes = λ plan dem s adm rm bel calm. cc_rm_completes plan adm dem s bel rm calm;
+  stays_calm = λ plan dem s run k safe. safe.calm;
+  completes = λ plan dem s run calm. cc_rm_completes plan run.admitted dem s run.belongs run.served calm;
 }

@@ -8,6 +8,7 @@ use Rattle.grid_fraction.proofs.Sums.{sum_where-le}
 use Rattle.grid_fraction.proofs.Least.{least-below, least-above}
 use Rattle.sched_model.specs.declared.state.Row.{Row}
 use Rattle.sched_model.specs.Plan.{Plan, count, period, worst}
+use Rattle.sched_model.specs.Demands.{JobDemands}
 use Rattle.sched_model.specs.Jobs.{release, due, latest}
 use Rattle.sched_model.specs.StaticDemand.{static_speed}
 use Rattle.sched_model.specs.Backlog.{backlog}
@@ -16,22 +17,19 @@ use Rattle.sched_model.specs.States.{StateOf, row_at, row_wleft}
 use Rattle.sched_model.proofs.Limits.{some_task, some_period}
 use Rattle.sched_model.proofs.JobLaws.{latest-is, latest-unique, latest_since-pos, release-suc, release-due, due-suc}
 use Rattle.sched_model.proofs.LevelSums.{sum_where-term, up_to-self, greatest-above, greatest-least}
-use Rattle.governor.specs.Steps.{is_due, opened_row, after_boundary, wleft_at, release_of, earliest, Belongs}
+use Rattle.governor.specs.Steps.{is_due, opened_row, after_boundary, wleft_at, release_of, earliest_in, Belongs}
 use Rattle.governor.proofs.Rows.{wleft-most}
-use Rattle.governor.proofs.Belonging.{in_rows, boundary_at}
+use Rattle.governor.proofs.Belonging.{earliest-from, unborn_done, in_rows, boundary_at}
 use Rattle.governor.proofs.Ticks.{demand_most}
-use Rattle.one_speed.specs.Rm.{level}
-use Rattle.one_speed.proofs.EdfLaws.{closed_row}
-use Rattle.cc_rm_laws.specs.Allotments.{base_of, allotted_units, allotted, allotment_left}
+use Rattle.governor.specs.Rm.{level}
+use Rattle.governor.proofs.EdfLaws.{closed_row}
+use Rattle.cc_rm_laws.specs.Allotments.{base_of, allotted_units, allotted_in, allotment_left_in}
 use Rattle.cc_rm_laws.specs.Conditions.{CcRmCalm}
 use Rattle.cc_rm_laws.proofs.Allotting.{allotment-most}
 use Rattle.cc_rm_laws.proofs.Backlog.{lack, lack_after, lack-is, IsQuiet, quiet_row, lack-none, released-lack, after-least, backlog-empties}
 
-module _ (plan : Plan) (adm : IsAdmitted plan) (dem : ℕ → ℕ → ℕ) (s : StateOf) (bel : Belongs plan dem s) where
-  pub now-first : s.now ≤ earliest plan s
-  now-first = least-above (count plan) (λ i. (row_at s i).deadline) s.now (some_task plan adm.limits) bel.due
-
-  pub first-due : (i : ℕ) → i < count plan → earliest plan s ≤ (row_at s i).deadline
+module _ (plan : Plan) (adm : IsAdmitted plan) (dem : JobDemands) (s : StateOf) (bel : Belongs plan dem s) where
+  pub first-due : (i : ℕ) → i < count plan → earliest_in plan s ≤ (row_at s i).deadline
   first-due i h = least-below (count plan) (λ i. (row_at s i).deadline) i h
 
   released-by : (i : ℕ) → i < count plan → release_of plan i (row_at s i) ≤ s.base_at
@@ -40,7 +38,7 @@ module _ (plan : Plan) (adm : IsAdmitted plan) (dem : ℕ → ℕ → ℕ) (s : 
   base-by : s.base_at ≤ s.now
   base-by = omega (arith, greatest-least (count plan) (λ j. release_of plan j (row_at s j)) s.now bel.released, bel.base_at)
 
-  pub allotted-most : (i : ℕ) → allotted plan s i ≤ base_of s i
+  pub allotted-most : (i : ℕ) → allotted_in plan s i ≤ base_of s i
   allotted-most i = allotment-most (count plan) (period plan) (allotted_units plan s) (base_of s) i
 
   -- a row's job is due where its next one is released
@@ -63,47 +61,47 @@ module _ (plan : Plan) (adm : IsAdmitted plan) (dem : ℕ → ℕ → ℕ) (s : 
       omega (arith, same, from, e, after, row-release i (omega (arith, mine, next)))
 
   -- nor between the mark and the earliest deadline
-  pub quiet : (u j : ℕ) → s.base_at < u → u < earliest plan s → j < count plan → IsQuiet plan u j
+  pub quiet : (u j : ℕ) → s.base_at < u → u < earliest_in plan s → j < count plan → IsQuiet plan u j
   quiet u j after before h = quiet-between u j h (omega (arith, released-by j h)) (omega (arith, first-due j h))
 
   closes : (i : ℕ) → i < count plan → wleft_at s i ≡ 0 → (row_at s i).done ≡ true
   closes i h none = closed_row (row_at s i) (dem i (row_at s i).job) none (bel.open_job i h) (demand_most plan dem s bel i h)
 
   -- at the earliest deadline nothing is left of the allotments, so a level lacks no more than in the worst static schedule
-  pub level-most : CcRmCalm plan s → s.now ≡ earliest plan s → (i : ℕ) → i < count plan → sum_where (count plan) (level plan i) (wleft_at s) ≤ backlog plan (earliest plan s) i
+  pub level-most : CcRmCalm plan s → s.now ≡ earliest_in plan s → (i : ℕ) → i < count plan → sum_where (count plan) (level plan i) (wleft_at s) ≤ backlog plan (earliest_in plan s) i
   level-most calm at_due i h =
-      let z : earliest plan s - s.now ≡ 0 = omega arith in
-      let none : static_speed plan * (earliest plan s - s.now) ≡ 0 = ap (λ (x : ℕ). static_speed plan * x) z ∙ mul-zero (static_speed plan) in
-      let part = sum_where-le (count plan) (level plan i) (allotment_left plan s) in
+      let z : earliest_in plan s - s.now ≡ 0 = omega arith in
+      let none : static_speed plan * (earliest_in plan s - s.now) ≡ 0 = ap (λ (x : ℕ). static_speed plan * x) z ∙ mul-zero (static_speed plan) in
+      let part = sum_where-le (count plan) (level plan i) (allotment_left_in plan s) in
       omega (arith, calm.levels i h, calm.total, none, part)
 
-  empty-level : CcRmCalm plan s → s.now ≡ earliest plan s → (i : ℕ) → i < count plan → backlog plan (earliest plan s) i ≡ 0 → (row_at s i).done ≡ true
+  empty-level : CcRmCalm plan s → s.now ≡ earliest_in plan s → (i : ℕ) → i < count plan → backlog plan (earliest_in plan s) i ≡ 0 → (row_at s i).done ≡ true
   empty-level calm at_due i h none =
       let mine = sum_where-term (count plan) (level plan i) (wleft_at s) i h (up_to-self (period plan) i) in
       closes i h (omega (arith, mine, level-most calm at_due i h, none))
 
   module _ (rm : plan.scheduler ≡ Rm) where
     -- where the worst static schedule has completed a job that was open at the mark, it is complete
-    emptied : CcRmCalm plan s → s.now ≡ earliest plan s → (i : ℕ) → i < count plan → s.base_at < earliest plan s → 0 < lack_after plan s.base_at i → lack plan (earliest plan s) i ≡ 0 → (row_at s i).done ≡ true
+    emptied : CcRmCalm plan s → s.now ≡ earliest_in plan s → (i : ℕ) → i < count plan → s.base_at < earliest_in plan s → 0 < lack_after plan s.base_at i → lack plan (earliest_in plan s) i ≡ 0 → (row_at s i).done ≡ true
     emptied calm at_due i h later pos none =
-        let d : ℕ = earliest plan s - s.base_at - 1 in
-        let place : s.base_at + suc d ≡ earliest plan s = omega arith in
+        let d : ℕ = earliest_in plan s - s.base_at - 1 in
+        let place : s.base_at + suc d ≡ earliest_in plan s = omega arith in
         empty-level calm at_due i h
         (subst (λ (u : ℕ). backlog plan u i ≡ 0) place
         (backlog-empties plan adm rm i s.base_at d h (λ u j a b hj. quiet u j a (omega arith) hj) pos
         (subst (λ (u : ℕ). lack plan u i ≡ 0) (sym place) none)))
 
     -- where it has completed a job, that is complete
-    pub completed-too : CcRmCalm plan s → s.now ≡ earliest plan s → (i : ℕ) → i < count plan → 0 < (row_at s i).job → release_of plan i (row_at s i) < earliest plan s → lack plan (earliest plan s) i ≡ 0 → (row_at s i).done ≡ true
+    pub completed-too : CcRmCalm plan s → s.now ≡ earliest_in plan s → (i : ℕ) → i < count plan → 0 < (row_at s i).job → release_of plan i (row_at s i) < earliest_in plan s → lack plan (earliest_in plan s) i ≡ 0 → (row_at s i).done ≡ true
     completed-too calm at_due i h born before none =
         let row = row_at s i in
         let r = s.base_at in
-        let by : r ≤ earliest plan s = omega (arith, base-by, now-first) in
+        let by : r ≤ earliest_in plan s = omega (arith, base-by, earliest-from plan adm.limits dem s bel) in
         elim (cases_lt (release_of plan i row) r) [
           | inl earlier ↦ elim (cases_lt 0 (lack plan r i)) [
             | inl lacks ↦
-                let apart : r ≡ earliest plan s → ⊥ = λ e. (let g : lack plan r i ≡ lack plan (earliest plan s) i = ap (λ (u : ℕ). lack plan u i) e in omega arith) in
-                let lt : r < earliest plan s = omega arith in
+                let apart : r ≡ earliest_in plan s → ⊥ = λ e. (let g : lack plan r i ≡ lack plan (earliest_in plan s) i = ap (λ (u : ℕ). lack plan u i) e in omega arith) in
+                let lt : r < earliest_in plan s = omega arith in
                 let still : lack_after plan r i ≡ lack plan r i = quiet_row plan adm r i h (quiet-between r i h earlier (omega (arith, first-due i h))) in
                 emptied calm at_due i h lt (omega arith) none
             | inr closed ↦ calm.since i h born earlier (let g = lack-is plan r i (omega arith) in omega arith)
@@ -122,14 +120,14 @@ module _ (plan : Plan) (adm : IsAdmitted plan) (dem : ℕ → ℕ → ℕ) (s : 
     pub cc_rm_completes : CcRmCalm plan s → (i : ℕ) → i < count plan → (row_at s i).deadline ≡ s.now → (row_at s i).done ≡ true
     cc_rm_completes calm i h e =
         let row = row_at s i in
-        let at_due : s.now ≡ earliest plan s = omega (arith, now-first, first-due i h) in
+        let at_due : s.now ≡ earliest_in plan s = omega (arith, earliest-from plan adm.limits dem s bel, first-due i h) in
         elim (cases_lt 0 row.job) [
           | inl born ↦
               let long = release-due plan i row.job born in
               let some = some_period plan adm.limits i h in
               completed-too calm at_due i h born (omega (arith, row-release i born, row-due i h, long, some))
-              (lack-none plan adm (earliest plan s) i row.job h (omega (arith, row-due i h)))
-          | inr unborn ↦ (bel.no_job i h (omega arith)).0
+              (lack-none plan adm (earliest_in plan s) i row.job h (omega (arith, row-due i h)))
+          | inr unborn ↦ unborn_done plan dem s bel i h (omega arith)
         ]
 
     -- a release adds no more than in the worst static schedule

@@ -9,6 +9,7 @@ use Rattle.grid_fraction.specs.Numbers.{sum_below, sum_where}
 use Rattle.grid_fraction.proofs.Sums.{sum_below-same, sum_below-zero}
 use Rattle.sched_model.specs.declared.state.Row.{Row}
 use Rattle.sched_model.specs.Plan.{Plan, count, period}
+use Rattle.sched_model.specs.Demands.{JobDemands}
 use Rattle.sched_model.specs.Priority.{SharesOut}
 use Rattle.sched_model.specs.StaticDemand.{static_speed}
 use Rattle.sched_model.specs.Backlog.{backlog}
@@ -17,15 +18,15 @@ use Rattle.sched_model.specs.States.{StateOf, row_at, no_row, row_wleft, opening
 use Rattle.sched_model.proofs.PriorityLemmas.{allotment-shares}
 use Rattle.sched_model.proofs.DownSets.{down-set-gets}
 use Rattle.sched_model.proofs.LevelSums.{sum_where-mono, sum_where-plus, sum_where-zero, level-gets}
-use Rattle.governor.specs.Steps.{each_row, is_due, boundary_row, opened_row, after_boundary, wleft_at, release_of, earliest, Belongs}
+use Rattle.governor.specs.Steps.{each_row, is_due, boundary_row, opened_row, after_boundary, wleft_at, release_of, earliest_in, Belongs}
 use Rattle.governor.proofs.Rows.{none_due_at, some_due_at, or_false_right, done_none}
-use Rattle.governor.proofs.Belonging.{in_rows, opening_at, boundary_at, belongs_boundary, decision_boundary, opened_release, earliest-later}
-use Rattle.one_speed.specs.Rm.{level}
-use Rattle.cc_rm_laws.specs.Allotments.{base_of, allotted_units, allotted, allotment_left}
+use Rattle.governor.proofs.Belonging.{earliest-from, in_rows, opening_at, boundary_at, belongs_boundary, decision_boundary, opened_release, earliest-later}
+use Rattle.governor.specs.Rm.{level}
+use Rattle.cc_rm_laws.specs.Allotments.{base_of, allotted_units, allotted_in, allotment_left_in}
 use Rattle.cc_rm_laws.specs.Conditions.{LacksNothing, CcRmCalm}
 use Rattle.cc_rm_laws.proofs.Lefts.{left-marked}
 use Rattle.cc_rm_laws.proofs.Backlog.{lack, lack_after, lack-is, level_down, backlog-span, backlog-where}
-use Rattle.cc_rm_laws.proofs.Deadlines.{now-first, first-due, quiet, allotted-most, level-most, completed-too, row-adds}
+use Rattle.cc_rm_laws.proofs.Deadlines.{first-due, quiet, allotted-most, level-most, completed-too, row-adds}
 
 -- nothing is allotted before the first release
 module _ (plan : Plan) where
@@ -37,12 +38,12 @@ module _ (plan : Plan) where
     levels = λ i h.
         let none = sum_where-zero (count plan) (level plan i) (wleft_at (opening plan)) (λ j hj on. done_none (row_at (opening plan) j) (opening-done j hj)) in
         omega (arith, none);
-    total = (let none = sum_below-zero (count plan) (allotment_left plan (opening plan)) (λ j hj. rw (opening-done j hj) refl) in omega (arith, none));
+    total = (let none = sum_below-zero (count plan) (allotment_left_in plan (opening plan)) (λ j hj. rw (opening-done j hj) refl) in omega (arith, none));
     since = λ i h born before none. opening-done i h;
   }
 
 -- a boundary where nothing is due changes nothing
-rows-still : (plan : Plan) (dem : ℕ → ℕ → ℕ) (now i : ℕ) (rows : List Row) → list_any (is_due now) rows ≡ false → each_row (boundary_row plan dem now) i rows ≡ rows
+rows-still : (plan : Plan) (dem : JobDemands) (now i : ℕ) (rows : List Row) → list_any (is_due now) rows ≡ false → each_row (boundary_row plan dem now) i rows ≡ rows
 rows-still plan dem now i [] none = refl
 rows-still plan dem now i (row ∷ rows) none =
     let here : is_due now row ≡ false = none_due_at (is_due now) (row ∷ rows) 0 none (omega arith) in
@@ -50,7 +51,7 @@ rows-still plan dem now i (row ∷ rows) none =
     let rest = rows-still plan dem now (suc i) rows (or_false_right (is_due now row) (list_any (is_due now) rows) none) in
     λ j. head j ∷ rest j
 
-state-still : (plan : Plan) (dem : ℕ → ℕ → ℕ) (s : StateOf) → list_any (is_due s.now) s.rows ≡ false → after_boundary plan dem s ≡ s
+state-still : (plan : Plan) (dem : JobDemands) (s : StateOf) → list_any (is_due s.now) s.rows ≡ false → after_boundary plan dem s ≡ s
 state-still plan dem s none =
     let rows = rows-still plan dem s.now 0 s.rows none in
     let at : (if list_any (is_due s.now) s.rows then s.now else s.base_at) ≡ s.base_at = ap (λ (b : Bool). if b then s.now else s.base_at) none in
@@ -61,7 +62,7 @@ state-still plan dem s none =
 marked_level : (w left room a b : ℕ) → left ≡ min room w → w ≤ a → b ≡ a - room → w ≤ left + b
 marked_level w left room a b e le f = omega arith
 
-module _ (plan : Plan) (adm : IsAdmitted plan) (rm : plan.scheduler ≡ Rm) (dem : ℕ → ℕ → ℕ) (s : StateOf) (bel : Belongs plan dem s) (calm : CcRmCalm plan s) (some : list_any (is_due s.now) s.rows ≡ true) where
+module _ (plan : Plan) (adm : IsAdmitted plan) (rm : plan.scheduler ≡ Rm) (dem : JobDemands) (s : StateOf) (bel : Belongs plan dem s) (calm : CcRmCalm plan s) (some : list_any (is_due s.now) s.rows ≡ true) where
   abbrev marked : StateOf
   marked = after_boundary plan dem s
 
@@ -71,27 +72,27 @@ module _ (plan : Plan) (adm : IsAdmitted plan) (rm : plan.scheduler ≡ Rm) (dem
   bel' : Belongs plan dem marked
   bel' = belongs_boundary plan dem s bel
 
-  at_due : s.now ≡ earliest plan s
+  at_due : s.now ≡ earliest_in plan s
   at_due =
       let found = some_due_at (is_due s.now) s.rows some in
       let at_now : (row_at s found.0).deadline ≡ s.now = eqb-true (row_at s found.0).deadline s.now found.2 in
       let h : found.0 < count plan = (let g = found.1 in omega (arith, bel.of.rows)) in
-      omega (arith, at_now, now-first plan adm dem s bel, first-due plan adm dem s bel found.0 h)
+      omega (arith, at_now, earliest-from plan adm.limits dem s bel, first-due plan adm dem s bel found.0 h)
 
   mark_now : marked.base_at ≡ s.now
   mark_now = ap (λ (b : Bool). if b then s.now else s.base_at) some
 
-  later : s.now < earliest plan marked
+  later : s.now < earliest_in plan marked
   later = earliest-later plan adm.limits marked (decision_boundary plan dem s adm.limits bel).before
 
   abbrev gap : ℕ
-  gap = earliest plan marked - s.now - 1
+  gap = earliest_in plan marked - s.now - 1
 
-  place : s.now + suc gap ≡ earliest plan marked
+  place : s.now + suc gap ≡ earliest_in plan marked
   place = omega (arith, later)
 
   room_is : room ≡ suc gap * static_speed plan
-  room_is = let span : earliest plan marked - marked.base_at ≡ suc gap = omega (arith, mark_now, later) in ap (λ (x : ℕ). x * static_speed plan) span
+  room_is = let span : earliest_in plan marked - marked.base_at ≡ suc gap = omega (arith, mark_now, later) in ap (λ (x : ℕ). x * static_speed plan) span
 
   base_is : (j : ℕ) → j < count plan → base_of marked j ≡ wleft_at marked j
   base_is j h =
@@ -99,22 +100,22 @@ module _ (plan : Plan) (adm : IsAdmitted plan) (rm : plan.scheduler ≡ Rm) (dem
       ∙ get_or-map row_wleft marked.rows j no_row 0 (in_rows plan dem marked bel' j h)
 
   -- all of an allotment is left
-  left_is : (j : ℕ) → j < count plan → allotment_left plan marked j ≡ allotted plan marked j
+  left_is : (j : ℕ) → j < count plan → allotment_left_in plan marked j ≡ allotted_in plan marked j
   left_is j h =
-      left-marked (row_at marked j).done (allotted plan marked j) (base_of marked j) (wleft_at marked j) (base_is j h)
+      left-marked (row_at marked j).done (allotted_in plan marked j) (base_of marked j) (wleft_at marked j) (base_is j h)
       (allotted-most plan adm dem marked bel' j) (done_none (row_at marked j))
 
-  shares : SharesOut (count plan) (period plan) room (base_of marked) (allotted plan marked)
+  shares : SharesOut (count plan) (period plan) room (base_of marked) (allotted_in plan marked)
   shares = allotment-shares (count plan) (period plan) room (base_of marked)
 
   where_same : (test : ℕ → Bool) (f g : ℕ → ℕ) → ((j : ℕ) → j < count plan → f j ≡ g j) → sum_where (count plan) test f ≡ sum_where (count plan) test g
   where_same test f g e = sum_below-same (count plan) (λ j. if test j then f j else 0) (λ j. if test j then g j else 0) (λ j h. ap (λ (x : ℕ). if test j then x else 0) (e j h))
 
   -- a level has the smaller of the room and what it may need
-  level_left : (i : ℕ) → sum_where (count plan) (level plan i) (allotment_left plan marked) ≡ min room (sum_where (count plan) (level plan i) (wleft_at marked))
+  level_left : (i : ℕ) → sum_where (count plan) (level plan i) (allotment_left_in plan marked) ≡ min room (sum_where (count plan) (level plan i) (wleft_at marked))
   level_left i =
-      where_same (level plan i) (allotment_left plan marked) (allotted plan marked) left_is
-      ∙ (level-gets (count plan) (period plan) room (base_of marked) (allotted plan marked) shares i
+      where_same (level plan i) (allotment_left_in plan marked) (allotted_in plan marked) left_is
+      ∙ (level-gets (count plan) (period plan) room (base_of marked) (allotted_in plan marked) shares i
       ∙ ap (λ (x : ℕ). min room x) (where_same (level plan i) (base_of marked) (wleft_at marked) base_is))
 
   -- and may need no more than the worst static schedule lacks there
@@ -128,14 +129,14 @@ module _ (plan : Plan) (adm : IsAdmitted plan) (rm : plan.scheduler ≡ Rm) (dem
       let right_sum = sum_where-plus n lv (wleft_at s) (lack_after plan s.now) in
       let old : sum_where n lv (wleft_at s) ≤ sum_where n lv (lack plan s.now) =
       subst (λ (u : ℕ). sum_where n lv (wleft_at s) ≤ sum_where n lv (lack plan u)) (sym at_due)
-      (omega (arith, level-most plan adm dem s bel calm at_due i h, backlog-where plan (earliest plan s) i h)) in
+      (omega (arith, level-most plan adm dem s bel calm at_due i h, backlog-where plan (earliest_in plan s) i h)) in
       omega (arith, adds, left_sum, right_sum, old)
 
-  level_backlog : (i : ℕ) → i < count plan → backlog plan (earliest plan marked) i ≡ sum_where (count plan) (level plan i) (lack_after plan s.now) - room
+  level_backlog : (i : ℕ) → i < count plan → backlog plan (earliest_in plan marked) i ≡ sum_where (count plan) (level plan i) (lack_after plan s.now) - room
   level_backlog i h =
       let n = count plan in
       let lv = level plan i in
-      backlog-where plan (earliest plan marked) i h
+      backlog-where plan (earliest_in plan marked) i h
       ∙ (ap (λ (u : ℕ). sum_where n lv (lack plan u)) (sym place)
       ∙ (backlog-span plan adm rm lv (level_down plan i) s.now gap (λ u j a b hj. quiet plan adm dem marked bel' u j (omega (arith, mark_now)) (omega (arith, place)) hj)
       ∙ ap (λ (c : ℕ). sum_where n lv (lack_after plan s.now) - c) (sym room_is)))
@@ -145,7 +146,7 @@ module _ (plan : Plan) (adm : IsAdmitted plan) (rm : plan.scheduler ≡ Rm) (dem
       let row = row_at s i in
       let P : Row → Type 0 = λ (new : Row). 0 < new.job → release_of plan i new < s.now → new.done ≡ true in
       let Q : Bool → Type 0 = λ (c : Bool). P (if c then opened_row plan dem i row else row) in
-      let there : lack plan (earliest plan s) i ≡ 0 =
+      let there : lack plan (earliest_in plan s) i ≡ 0 =
       subst (λ (u : ℕ). lack plan u i ≡ 0) (mark_now ∙ at_due) (lack-is plan marked.base_at i (omega arith) ∙ none) in
       let here : P (row_at marked i) = subst P (sym (boundary_at plan dem s i (in_rows plan dem s bel i h)))
       (elim (cases_Bool (is_due s.now row)) [
@@ -157,28 +158,28 @@ module _ (plan : Plan) (adm : IsAdmitted plan) (rm : plan.scheduler ≡ Rm) (dem
       ]) in
       here born (subst (λ (u : ℕ). release_of plan i (row_at marked i) < u) mark_now before)
 
-  marked_total : sum_below (count plan) (allotment_left plan marked) ≤ static_speed plan * (earliest plan marked - marked.now)
+  marked_total : sum_below (count plan) (allotment_left_in plan marked) ≤ static_speed plan * (earliest_in plan marked - marked.now)
   marked_total =
       let n = count plan in
-      let left_sum : sum_below n (allotment_left plan marked) ≡ sum_below n (allotted plan marked) = sum_below-same n (allotment_left plan marked) (allotted plan marked) left_is in
-      let gets : sum_below n (allotted plan marked) ≡ min room (sum_below n (base_of marked)) = down-set-gets n (period plan) (λ j. true) room (base_of marked) (allotted plan marked) (λ j k hj hk b on. refl) shares in
-      let clock : earliest plan marked - marked.now ≡ suc gap = omega (arith, later) in
+      let left_sum : sum_below n (allotment_left_in plan marked) ≡ sum_below n (allotted_in plan marked) = sum_below-same n (allotment_left_in plan marked) (allotted_in plan marked) left_is in
+      let gets : sum_below n (allotted_in plan marked) ≡ min room (sum_below n (base_of marked)) = down-set-gets n (period plan) (λ j. true) room (base_of marked) (allotted_in plan marked) (λ j k hj hk b on. refl) shares in
+      let clock : earliest_in plan marked - marked.now ≡ suc gap = omega (arith, later) in
       let turned : static_speed plan * suc gap ≡ suc gap * static_speed plan = omega arith in
-      let fits : static_speed plan * (earliest plan marked - marked.now) ≡ room = ap (λ (x : ℕ). static_speed plan * x) clock ∙ (turned ∙ sym room_is) in
+      let fits : static_speed plan * (earliest_in plan marked - marked.now) ≡ room = ap (λ (x : ℕ). static_speed plan * x) clock ∙ (turned ∙ sym room_is) in
       omega (arith, left_sum, gets, fits)
 
   -- the step of a boundary with a release
   marked_calm : CcRmCalm plan marked
   marked_calm = record {
     levels = λ i h.
-        marked_level (sum_where (count plan) (level plan i) (wleft_at marked)) (sum_where (count plan) (level plan i) (allotment_left plan marked)) room
-        (sum_where (count plan) (level plan i) (lack_after plan s.now)) (backlog plan (earliest plan marked) i)
+        marked_level (sum_where (count plan) (level plan i) (wleft_at marked)) (sum_where (count plan) (level plan i) (allotment_left_in plan marked)) room
+        (sum_where (count plan) (level plan i) (lack_after plan s.now)) (backlog plan (earliest_in plan marked) i)
         (level_left i) (level_needs i h) (level_backlog i h);
     total = marked_total;
     since = marked_since;
   }
 
-pub cc_rm_releases : (plan : Plan) → IsAdmitted plan → plan.scheduler ≡ Rm → (dem : ℕ → ℕ → ℕ) (s : StateOf) → Belongs plan dem s → CcRmCalm plan s → CcRmCalm plan (after_boundary plan dem s)
+pub cc_rm_releases : (plan : Plan) → IsAdmitted plan → plan.scheduler ≡ Rm → (dem : JobDemands) (s : StateOf) → Belongs plan dem s → CcRmCalm plan s → CcRmCalm plan (after_boundary plan dem s)
 cc_rm_releases plan adm rm dem s bel calm =
     elim (cases_Bool (list_any (is_due s.now) s.rows)) [
       | inl some ↦ marked_calm plan adm rm dem s bel calm some

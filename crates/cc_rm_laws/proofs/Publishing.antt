@@ -14,19 +14,21 @@ use Rattle.sched_model.specs.Plan.{Plan, count, period, worst}
 use Rattle.sched_model.specs.Jobs.{release, due, latest, deadline, releases_at, is_release, last_release}
 use Rattle.sched_model.specs.Jobs.{earliest as earliest_at}
 use Rattle.sched_model.specs.Ticks.{Tick, at, exec, is_complete, wleft}
-use Rattle.sched_model.specs.CycleDemand.{allotted as allotted_at, had_since_release, allotment_left as allotment_left_at, rm_cycle}
+use Rattle.sched_model.specs.CycleDemand.{allotted, had_since_release, allotment_left, rm_cycle}
 use Rattle.sched_model.specs.Priority.{allotment}
 use Rattle.sched_model.specs.StaticDemand.{static_speed}
 use Rattle.sched_model.specs.Demand.{demand_by, published}
-use Rattle.sched_model.specs.Demands.{IsWithin}
+use Rattle.sched_model.specs.Demands.{IsWithin, JobDemands}
 use Rattle.sched_model.specs.Admission.{IsAdmitted}
 use Rattle.sched_model.specs.States.{StateOf, no_row, row_at, row_wleft, row_of, state_of}
 use Rattle.sched_model.proofs.Limits.{some_period}
 use Rattle.sched_model.proofs.JobLaws.{lt-due, latest-stays, latest-next, release-suc, last_release-le}
 use Rattle.sched_model.proofs.Tables.{get-table}
-use Rattle.governor.specs.Steps.{wleft_at, earliest}
-use Rattle.governor.specs.Schedule.{Publishes}
-use Rattle.cc_rm_laws.specs.Allotments.{base_of, allotted, had_since_mark, allotment_left, cycle_demand}
+use Rattle.governor.specs.Steps.{wleft_at, earliest_in}
+use Rattle.governor.specs.Schedule.{Publishes, PublishingLaws}
+use Rattle.governor.specs.Serving.{ServesRm}
+use Rattle.governor.proofs.OneSchedule.{publishing_laws}
+use Rattle.cc_rm_laws.specs.Allotments.{base_of, allotted_in, had_since_mark, allotment_left_in, cycle_demand}
 use Rattle.cc_rm_laws.proofs.Allotting.{allotment-same}
 
 -- a job has had no more at an earlier tick
@@ -69,7 +71,7 @@ module _ (p : Plan) (adm : IsAdmitted p) where
       go true e ih = rw (e, last_up_to) refl
       go false e ih = rw (e, last_up_to) (ih ∙ sym (job-stays t i h (any_below-false (count p) (λ j. releases_at p j (suc t)) e i h)))
 
-  module _ (dem : ℕ → ℕ → ℕ) (within : IsWithin p dem) (past : List Tick) where
+  module _ (dem : JobDemands) (within : IsWithin p dem) (past : List Tick) where
     abbrev now : ℕ
     now = length past
 
@@ -89,15 +91,15 @@ module _ (p : Plan) (adm : IsAdmitted p) where
     mark-long = omega (arith, last_release-le p now, length-drop (now - mark) past)
 
     -- the earliest deadline at the mark is that of the state
-    first-is : earliest_at p mark ≡ earliest p here
+    first-is : earliest_at p mark ≡ earliest_in p here
     first-is =
         least-same (count p) (λ i. deadline p i mark) (λ i. (row_at here i).deadline)
         (λ i h. ap (due p i) (since-release now i h) ∙ sym (ap (λ (row : Row). row.deadline) (row-is i h)))
 
-    allotted-is : (i : ℕ) → i < count p → allotted_at p dem past i ≡ allotted p here i
+    allotted-is : (i : ℕ) → i < count p → allotted p dem past i ≡ allotted_in p here i
     allotted-is i h =
         ap (λ (n : ℕ). allotment (count p) (period p) ((n - mark) * static_speed p) (wleft p dem (at mark past)) i) first-is
-        ∙ sym (allotment-same (count p) (period p) ((earliest p here - mark) * static_speed p) (base_of here) (wleft p dem (at mark past)) base-is i h)
+        ∙ sym (allotment-same (count p) (period p) ((earliest_in p here - mark) * static_speed p) (base_of here) (wleft p dem (at mark past)) base-is i h)
 
     -- what an open job has had since the mark
     had-is : (i : ℕ) → i < count p → is_complete p dem past i ≡ false → had_since_release p past i ≡ had_since_mark here i
@@ -123,11 +125,11 @@ module _ (p : Plan) (adm : IsAdmitted p) where
         go true e lt le = absurd (grind (arith, nat_tests))
         go false e lt le = e
 
-    left-is : (i : ℕ) → i < count p → allotment_left_at p dem past i ≡ allotment_left p here i
-    left-is i h = go (is_complete p dem past i) refl ∙ sym (ap (λ (row : Row). if row.done then 0 else allotted p here i - had_since_mark here i) (row-is i h))
+    left-is : (i : ℕ) → i < count p → allotment_left p dem past i ≡ allotment_left_in p here i
+    left-is i h = go (is_complete p dem past i) refl ∙ sym (ap (λ (row : Row). if row.done then 0 else allotted_in p here i - had_since_mark here i) (row-is i h))
       where
         go : (b : Bool) → is_complete p dem past i ≡ b
-            → (if is_complete p dem past i then 0 else allotted_at p dem past i - had_since_release p past i) ≡ (if is_complete p dem past i then 0 else allotted p here i - had_since_mark here i)
+            → (if is_complete p dem past i then 0 else allotted p dem past i - had_since_release p past i) ≡ (if is_complete p dem past i then 0 else allotted_in p here i - had_since_mark here i)
         go true e = rw e refl
         go false e = rw e (ap₂ (λ a b. a - b) (allotted-is i h) (had-is i h e))
 
@@ -135,8 +137,11 @@ module _ (p : Plan) (adm : IsAdmitted p) where
     frac a b = record { num = a; den = b }
 
     cycle-is : rm_cycle p dem past ≡ cycle_demand p here
-    cycle-is = ap₂ frac (sum_below-same (count p) (allotment_left_at p dem past) (allotment_left p here) left-is) (ap (λ (n : ℕ). n - now) first-is)
+    cycle-is = ap₂ frac (sum_below-same (count p) (allotment_left p dem past) (allotment_left_in p here) left-is) (ap (λ (n : ℕ). n - now) first-is)
 
 pub published-cycle : (p : Plan) → IsAdmitted p → p.scheduler ≡ Rm → Publishes cycle_demand Cycle p
 unfolding published
 published-cycle p adm rm dem within ask past is = ap (λ (sch : Scheduler). demand_by sch Cycle p dem past) rm ∙ cycle-is p adm dem within past
+
+pub cycle_publishing : PublishingLaws Cycle ServesRm cycle_demand
+cycle_publishing = publishing_laws cycle_demand Cycle ServesRm published-cycle

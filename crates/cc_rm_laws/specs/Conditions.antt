@@ -9,24 +9,26 @@ use Rattle.sched_model.specs.Schedule.{schedule}
 use Rattle.sched_model.specs.StaticDemand.{static_speed}
 use Rattle.sched_model.specs.Backlog.{lacking, backlog}
 use Rattle.sched_model.specs.States.{StateOf, row_at}
-use Rattle.governor.specs.Steps.{wleft_at, earliest, release_of}
-use Rattle.one_speed.specs.Rm.{level}
-use Rattle.cc_rm_laws.specs.Allotments.{allotment_left}
+use Rattle.governor.specs.Steps.{wleft_at, earliest_in, release_of}
+use Rattle.governor.specs.Rm.{level}
+use Rattle.cc_rm_laws.specs.Allotments.{allotment_left_in}
 
 -- in the worst static schedule the job of task i that was released last before tick t has all that it needs
 abbrev pub LacksNothing : Plan → ℕ → ℕ → Type 0
 LacksNothing plan t i = lacking plan (schedule plan Fixed (worst_demand plan) t) i ≡ 0
 
--- each level may need no more than what is left of its allotments and its worst static backlog at the earliest deadline;
--- what is left in all fits up to that deadline at the static speed; and a job that was released before the mark is complete
--- where the worst static schedule had completed it by the mark
+-- each level may need no more than what is left of its allotments and its worst static backlog at the earliest
+-- deadline; what is left in all fits up to that deadline at the static speed; and a job that was released before the mark
+-- is complete where the worst static schedule had completed it by the mark
 pub record CcRmCalm (plan : Plan) (s : StateOf) : Type 0 where
-  pub levels : (i : ℕ) → i < count plan → sum_where (count plan) (level plan i) (wleft_at s) ≤ sum_where (count plan) (level plan i) (allotment_left plan s) + backlog plan (earliest plan s) i
-  pub total : sum_below (count plan) (allotment_left plan s) ≤ static_speed plan * (earliest plan s - s.now)
-  pub since : (i : ℕ) → i < count plan → 0 < (row_at s i).job → release_of plan i (row_at s i) < s.base_at → LacksNothing plan s.base_at i → (row_at s i).done ≡ true
+  pub levels : (i : ℕ) → i < count plan → sum_where (count plan) (level plan i) (wleft_at s)
+      ≤ sum_where (count plan) (level plan i) (allotment_left_in plan s) + backlog plan (earliest_in plan s) i
+  pub total : sum_below (count plan) (allotment_left_in plan s) ≤ static_speed plan * (earliest_in plan s - s.now)
+  pub since : (i : ℕ) → i < count plan → 0 < (row_at s i).job → release_of plan i (row_at s i) < s.base_at
+      → LacksNothing plan s.base_at i → (row_at s i).done ≡ true
 
 -- what is left in all also fits at the speed of the entry k, which is at most the static speed
 pub record CcRmSafe (plan : Plan) (s : StateOf) (k : ℕ) : Type 0 where
   pub calm : CcRmCalm plan s
-  pub enough : sum_below (count plan) (allotment_left plan s) ≤ speed_at plan.machine k * (earliest plan s - s.now)
+  pub enough : sum_below (count plan) (allotment_left_in plan s) ≤ speed_at plan.machine k * (earliest_in plan s - s.now)
   pub slower : speed_at plan.machine k ≤ static_speed plan

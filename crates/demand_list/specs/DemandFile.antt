@@ -1,11 +1,11 @@
 -- What a demand file means: the demand list, or the first refusal.
 use Rattle.std.specs.Prelude.{ℕ, ◌+◌, ◌^◌, ◌==◌, ◌&&◌, Bool, false, List, [], ◌∷◌, length, map, nat_lt, slice_index, codes, Option, Some, None, Result, Ok, Err, if◌then◌else◌}
 use Rattle.std.specs.Str.{bytes_eq}
-use Rattle.dvs_base.specs.Checks.{and_then}
+use Rattle.dvs_base.specs.Checks.{and_then, IsUnlessMemory}
 use Rattle.dvs_base.specs.Text.{number_below, short_of}
 use Rattle.csv.specs.Reading.{default_config, records, strip_bom}
 use Rattle.task_model.specs.declared.task.Task.{Task}
-use Rattle.task_model.specs.DemandRows.{named}
+use Rattle.task_model.specs.DemandRows.{demand_row, named}
 use Rattle.task_model.specs.TaskFile.{place_of}
 use Rattle.demand_list.specs.Demands.{DemandsOf, with_row}
 use Rattle.demand_list.specs.declared.fault.Column.{Column}
@@ -13,23 +13,31 @@ use Rattle.demand_list.specs.declared.fault.Column.TheVariants as column
 use Rattle.demand_list.specs.declared.fault.DemandFault.{DemandFault}
 use Rattle.demand_list.specs.declared.fault.DemandFault.TheVariants as fault
 
+-- an answer is this one, seen as `shown`, unless memory ran out
+abbrev pub Means : {T A : Type 0} → (T → A) → Result T DemandFault → Result A DemandFault → Type 0
+Means shown = IsUnlessMemory fault.NoMemory shown
+
 -- the fields of a record that has three
 abbrev pub three_of : List (List ℕ) → Option (List ℕ × List ℕ × List ℕ)
 three_of (a ∷ b ∷ c ∷ []) = Some (a, b, c)
 three_of _ = None
 
+-- the three fields of a row, or the refusal of another number of them
 abbrev pub fields_from : ℕ → ℕ → Option (List ℕ × List ℕ × List ℕ) → Result (List ℕ × List ℕ × List ℕ) DemandFault
 fields_from row count None = Err (fault.Fields row count)
 fields_from row count (Some three) = Ok three
 
+-- the task of a row by its name, or the refusal of a name that no task has
 abbrev pub task_from : ℕ → List ℕ → Option ℕ → Result ℕ DemandFault
 task_from row name None = Err (fault.UnknownTask row (short_of name))
 task_from row name (Some task) = Ok task
 
+-- a number of a row, or the refusal of what is none
 abbrev pub number_from : ℕ → Column → Option ℕ → Result ℕ DemandFault
 number_from row at None = Err (fault.BadNumber row at)
 number_from row at (Some n) = Ok n
 
+-- a job, which counts from 1
 abbrev pub job_from : ℕ → ℕ → Result ℕ DemandFault
 job_from row job = if job == 0 then Err (fault.JobZero row) else Ok job
 
@@ -57,7 +65,7 @@ abbrev pub with_checked : DemandsOf → ℕ → ℕ → ℕ → ℕ → Result D
 with_checked d row task job units =
     no_earlier row task job (named d.rows task job) (
     within_worst task job units (slice_index d.worsts task) (
-    Ok (record { worsts = d.worsts; rows = with_row d.rows (record { task = task; job = job; units = units }) })))
+    Ok (record { worsts = d.worsts; rows = with_row d.rows (demand_row task job units) })))
 
 -- the list so far, and then the rows from this number on
 abbrev pub demands_from : List Task → ℕ → DemandsOf → List (List (List ℕ)) → Result DemandsOf DemandFault
@@ -66,6 +74,7 @@ demands_from tasks row d (fields ∷ rest) =
     and_then (row_of tasks row fields) (λ r.
     and_then (with_checked d row r.0 r.1 r.2) (λ e. demands_from tasks (row + 1) e rest))
 
+-- whether a record is the header
 abbrev pub is_header : List (List ℕ) → Bool
 is_header (a ∷ b ∷ c ∷ []) = bytes_eq a (codes "task") && bytes_eq b (codes "job") && bytes_eq c (codes "units")
 is_header _ = false

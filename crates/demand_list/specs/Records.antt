@@ -14,6 +14,7 @@ TextReader = Reader (Bor (List ℕ))
 abbrev pub unread : TextReader → Option (List ℕ)
 unread reader = source_of (λ s. Some s.now) reader
 
+-- the records of the bytes that are left, from a state of the parser on
 abbrev pub records_in : State → Option (List ℕ) → List (List (List ℕ))
 records_in state None = []
 records_in state (Some bytes) = records_from default_config (length bytes + 1) state bytes

@@ -1,6 +1,6 @@
 // Demand lists.
 ghost use Rattle.std.specs.Prelude.{◌≡◌, ◌<◌, ◌≤◌, ◌^◌, ◌↔◌, [], length, slice_index, IsTrue, IfOk, OnErr, OnOk, Ok, None, true, false, not, is_some};
-ghost use Rattle.task_model.specs.DemandRows.{named};
+ghost use Rattle.task_model.specs.DemandRows.{demand_row, named};
 ghost use Rattle.demand_list.specs.Demands.{units_of, IsWithinWorsts, AddsRow, rows_of, with_row};
 
 use dvs_base::NoMemory;
@@ -41,7 +41,7 @@ fn add_row(
     units: u64,
 ) -> Result<(), NoMemory>
     requires { named (rows_of rows.old.entries) task job ≡ None }
-    ensures ok { OnOk result (rows_of rows.new.entries ≡ with_row (rows_of rows.old.entries) (record { task = task; job = job; units = units })) }
+    ensures ok { OnOk result (rows_of rows.new.entries ≡ with_row (rows_of rows.old.entries) (demand_row task job units)) }
     ensures err { OnErr result (rows.new.entries ≡ rows.old.entries) }
 {
     match rows.insert((task, job), units) {
@@ -73,14 +73,15 @@ impl Demands {
         })
     }
 
-    /// Adds the row of a job that has none. False where the job has a row, which stays.
+    /// Adds the row of a job that has none: a task of the list, a job from 1 on, and at most the task's worst case of
+    /// work units. False where the job has a row, which stays. After NoMemory the list is as before.
     pub fn set(&mut self, task: u32, job: u64, units: u64) -> Result<bool, NoMemory>
         requires task { task < length self.old.worsts }
         requires job { 1 ≤ job }
         requires units { units ≤ slice_index self.old.worsts task }
         ensures answer { IfOk result (λ added. added ≡ not (is_some (named self.old.rows task job))) }
-        ensures added { result ≡ Ok true → AddsRow self.old self.new (record { task = task; job = job; units = units }) }
-        ensures order { result ≡ Ok true → self.new.rows ≡ with_row self.old.rows (record { task = task; job = job; units = units }) }
+        ensures added { result ≡ Ok true → AddsRow self.old self.new (demand_row task job units) }
+        ensures order { result ≡ Ok true → self.new.rows ≡ with_row self.old.rows (demand_row task job units) }
         ensures stays { result ≡ Ok false → self.new ≡ self.old }
         ensures err { OnErr result (self.new ≡ self.old) }
     {

@@ -4,12 +4,14 @@ use dvs_base::Short;
 /// The columns of a demand file that hold numbers.
 #[derive(Clone, Copy, Debug, PartialEq, Eq)]
 pub enum Column {
+    /// The job's number, from 1 on.
     Job,
+    /// The work units that the job needs.
     Units,
 }
 
 /// The first thing that a demand file has wrong. Rows count from 1, tasks from 0.
-#[derive(Drop)]
+#[derive(Clone, Copy, Debug, PartialEq, Eq)]
 pub enum DemandFault {
     /// There is no record, or the first one isn't `task`, `job`, `units`.
     Header,

@@ -3,8 +3,7 @@ ghost use Rattle.std.specs.Prelude.{codes, ◌≡◌, ◌≤◌, ◌<◌, ◌^�
 ghost use Rattle.csv.specs.Reading.{default_config, records, strip_bom, error_kind, stops_reader};
 ghost use Rattle.csv.specs.Records.{fields_of};
 ghost use Rattle.demand_list.specs.declared.fault.DemandFault.TheVariants as fault;
-ghost use Rattle.dvs_base.specs.Checks.{IsUnlessMemory};
-ghost use Rattle.demand_list.specs.DemandFile.{three_of, is_header, row_of, demands_from, after_header, with_checked, demand_file, worst_list};
+ghost use Rattle.demand_list.specs.DemandFile.{Means, three_of, is_header, row_of, demands_from, after_header, with_checked, demand_file, worst_list};
 ghost use Rattle.demand_list.specs.Records.{IsPlain, records_left};
 
 use crate::{Column, DemandFault, Demands};
@@ -93,7 +92,7 @@ fn add_checked(
     requires task { task < length demands.old.worsts }
     requires job { 1 ≤ job }
     ensures worsts { demands.new.worsts ≡ demands.old.worsts }
-    ensures added { IsUnlessMemory DemandFault.NoMemory (λ _. demands.new) result (with_checked demands.old row task job units) }
+    ensures added { Means (λ _. demands.new) result (with_checked demands.old row task job units) }
 {
     if demands.has_row(task, job) {
         return Err(DemandFault::Repeated { row, task, job });
@@ -153,7 +152,7 @@ fn next_record(reader: &mut Reader<&[u8]>, fields: &mut ByteRecord) -> Result<bo
 // Takes the header.
 fn read_header(reader: &mut Reader<&[u8]>, fields: &mut ByteRecord) -> Result<(), DemandFault>
     requires { IsPlain reader.old }
-    ensures left { IsUnlessMemory DemandFault.NoMemory (λ _. records_left reader.new) result (after_header (records_left reader.old)) }
+    ensures left { Means (λ _. records_left reader.new) result (after_header (records_left reader.old)) }
     ensures plain { OnOk result (IsPlain reader.new) }
     ensures fewer { OnOk result (length (records_left reader.new) < length (records_left reader.old)) }
 {
@@ -177,18 +176,12 @@ fn worst_cases(alloc: Global, tasks: &TaskSet) -> Result<Vec<u64>, NoMemory>
     Ok(worsts)
 }
 
-/// The list without rows, in which every job needs its declared worst case. The one refusal is want of memory.
-pub fn worst_list(alloc: Global, tasks: &TaskSet) -> Result<Demands, DemandFault>
-    ensures ok { IfOk result (λ d. d ≡ worst_list tasks.now) }
-    ensures err { IfErr result (λ e. e ≡ fault.NoMemory) }
+/// The list without rows, in which every job needs its declared worst case.
+pub fn worst_list(alloc: Global, tasks: &TaskSet) -> Result<Demands, NoMemory>
+    ensures { IfOk result (λ demands. demands ≡ worst_list tasks.now) }
 {
-    match worst_cases(alloc, tasks) {
-        Ok(worsts) => match Demands::worst_only(alloc, &worsts) {
-            Ok(demands) => Ok(demands),
-            Err(_) => Err(DemandFault::NoMemory),
-        },
-        Err(_) => Err(DemandFault::NoMemory),
-    }
+    let worsts = worst_cases(alloc, tasks)?;
+    Demands::worst_only(alloc, &worsts)
 }
 
 // The rows after the header, counted from 1.
@@ -202,7 +195,7 @@ fn read_rows(
     requires few { length (records_left reader.old) + 1 < 2 ^ 64 }
     requires worsts { length demands.worsts ≡ length tasks.now }
     ensures worsts { IfOk result (λ d. d.worsts ≡ demands.worsts) }
-    ensures rows { IsUnlessMemory DemandFault.NoMemory (λ d. d) result (demands_from tasks.now 1 demands (records_left reader.old)) }
+    ensures rows { Means (λ d. d) result (demands_from tasks.now 1 demands (records_left reader.old)) }
 {
     let mut row: u64 = 1;
     while next_record(reader, fields)? {
@@ -218,13 +211,13 @@ impl Demands {
     /// charge. Rows for jobs beyond a run are checked like all others. The first refusal comes: the header, and then row
     /// by row the number of fields, the task, the job, the units, an earlier row of the job, and the worst case.
     pub fn read(alloc: Global, bytes: &[u8], tasks: &TaskSet) -> Result<Demands, DemandFault>
-        ensures file { IsUnlessMemory DemandFault.NoMemory (λ d. d) result (demand_file tasks.now bytes.now) }
+        ensures file { Means (λ d. d) result (demand_file tasks.now bytes.now) }
         ensures worsts { IfOk result (λ d. d.worsts ≡ map (λ t. t.worst) tasks.now) }
     {
         let mut reader = reader_of(alloc, bytes)?;
         let mut fields = ByteRecord::new(alloc);
         read_header(&mut reader, &mut fields)?;
-        let demands = worst_list(alloc, tasks)?;
+        let demands = worst_list(alloc, tasks).map_err(|_| DemandFault::NoMemory)?;
         read_rows(&mut reader, &mut fields, tasks, demands)
     }
 }

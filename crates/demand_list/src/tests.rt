@@ -2,6 +2,7 @@
 ghost use Rattle.std.specs.Prelude.{◌≡◌, length, IfOk};
 
 use super::*;
+use dvs_base::Short;
 use std::alloc::Global;
 use std::test::Fail;
 use task_model::TaskSet;
@@ -54,65 +55,55 @@ fn rows_of_a_file_are_read(rt: HostRuntime) -> Result<(), Fail> {
 fn the_first_refusal_is_told(rt: HostRuntime) -> Result<(), Fail> {
     let alloc = rt.alloc();
     let tasks = three_tasks(alloc)?;
-    let refusal = |text: &[u8]| Demands::read(alloc, text, &tasks).err();
-    assert!(rt; matches!(refusal(b""), Some(DemandFault::Header)));
-    assert!(rt; matches!(refusal(b"task,job\nt1,0,1\n"), Some(DemandFault::Header)));
-    assert!(rt;
-        matches!(
-            refusal(b"task,job,units\nt1,1,8\nt1,0\n"),
-            Some(DemandFault::Fields { row: 2, count: 2 })
-        )
-    );
-    assert!(rt;
-        matches!(
-            refusal(b"task,job,units\nt9,0,1\n"),
-            Some(DemandFault::UnknownTask { row: 1, .. })
-        )
-    );
-    assert!(rt;
-        matches!(
-            refusal(b"task,job,units\nt1,01,x\n"),
-            Some(DemandFault::BadNumber {
+    for (text, want) in [
+        ("", DemandFault::Header),
+        ("task,job\nt1,0,1\n", DemandFault::Header),
+        (
+            "task,job,units\nt1,1,8\nt1,0\n",
+            DemandFault::Fields { row: 2, count: 2 },
+        ),
+        (
+            "task,job,units\nt9,0,1\n",
+            DemandFault::UnknownTask {
                 row: 1,
-                column: Column::Job
-            })
-        )
-    );
-    assert!(rt;
-        matches!(
-            refusal(b"task,job,units\nt1,0,x\n"),
-            Some(DemandFault::JobZero { row: 1 })
-        )
-    );
-    assert!(rt;
-        matches!(
-            refusal(b"task,job,units\nt1,1,x\n"),
-            Some(DemandFault::BadNumber {
+                name: Short::of(b"t9"),
+            },
+        ),
+        (
+            "task,job,units\nt1,01,x\n",
+            DemandFault::BadNumber {
                 row: 1,
-                column: Column::Units
-            })
-        )
-    );
-    assert!(rt;
-        matches!(
-            refusal(b"task,job,units\nt1,1,8\nt1,1,13\n"),
-            Some(DemandFault::Repeated {
+                column: Column::Job,
+            },
+        ),
+        ("task,job,units\nt1,0,x\n", DemandFault::JobZero { row: 1 }),
+        (
+            "task,job,units\nt1,1,x\n",
+            DemandFault::BadNumber {
+                row: 1,
+                column: Column::Units,
+            },
+        ),
+        (
+            "task,job,units\nt1,1,8\nt1,1,13\n",
+            DemandFault::Repeated {
                 row: 2,
                 task: 0,
-                job: 1
-            })
-        )
-    );
-    assert!(rt;
-        matches!(
-            refusal(b"task,job,units\nt2,2,13\n"),
-            Some(DemandFault::OverWorst {
+                job: 1,
+            },
+        ),
+        (
+            "task,job,units\nt2,2,13\n",
+            DemandFault::OverWorst {
                 task: 1,
                 job: 2,
                 units: 13,
-                worst: 12
-            })
-        )
-    );
+                worst: 12,
+            },
+        ),
+    ] {
+        let found = Demands::read(alloc, text.as_bytes(), &tasks).err();
+        assert_eq!(rt; found, Some(want), "{text}");
+    }
     Ok(())
 }

@@ -14,8 +14,9 @@ use Rattle.dvs_base.specs.declared.kind.GovernorKind.TheVariants.{Plain, Fixed, 
 use Rattle.dvs_base.specs.declared.note.Note.{Note}
 use Rattle.dvs_base.specs.declared.note.Note.TheVariants.{Release, Speed, Run, Idle, Done, End}
 use Rattle.dvs_base.specs.declared.note.Pos.{Pos}
-use Rattle.dvs_base.specs.TraceLines.{line, position_text, fraction_text, name_of, note_text, version_text, plan_text}
-use Rattle.dvs_base.specs.Words.{scheduler_word, governor_word}
+use Rattle.trace_text.specs.TraceLines.{line, name_of, done_fields, fields_of, note_text, version_fields, version_text, plan_fields, plan_text}
+use Rattle.trace_text.specs.TextLines.{lines_of}
+use Rattle.trace_text.proofs.NoteLines.{plain-word, plain-scheduler, plain-governor, note-fields, lines-notes, done-same}
 use Rattle.task_model.specs.declared.task.Task.{Task}
 use Rattle.task_model.specs.Tasks.{no_task, task_at}
 use Rattle.grid_fraction.specs.declared.Frac.{Frac}
@@ -30,81 +31,12 @@ use Rattle.sched_model.specs.Notes.{notes_of, notes_before_end, energy_run, ener
 use Rattle.sched_model.specs.Text.{trace_text}
 use Rattle.sched_model.proofs.Limits.{every_period, low_period}
 use Rattle.sched_model.proofs.ScheduleLemmas.{schedule_exists}
-use Rattle.sched_model.proofs.Service.{exec-most}
+use Rattle.sched_model.proofs.Service.{exec-most, exec-drop}
 use Rattle.sched_model.proofs.JobLaws.{le-due, release-due}
-use Rattle.done_lines.specs.DoneLines.{lines_of, IsDoneLine, IsBy, IsToldBy, TellsDeadlines, TextTellsDeadlines}
-use Rattle.done_lines.proofs.PlainLines.{IsPlain, ArePlain, all-each, each-append, plain-decimal, plain-name, some-name, lines-line, field-same, and-left, and-right}
+use Rattle.done_lines.specs.DoneLines.{IsDoneLine, IsBy, IsToldBy, TellsDeadlines, TextTellsDeadlines}
+use Rattle.trace_text.proofs.PlainLines.{IsPlain, ArePlain, all-each, each-append, plain-decimal, plain-name, some-name, lines-line, field-same, and-left, and-right}
 use Rattle.done_lines.proofs.DoneNotes.{tells_done, tells_late, times, times-append}
 use Rattle.done_lines.proofs.DoneCounts.{told-once, told-never, none-late}
-
--- fields
-
--- a word is plain if each of its bytes is
-abbrev plain_byte : ℕ → Bool
-plain_byte b = not (nat_eq b 32) && not (nat_eq b 10)
-
-plain-byte : (b : ℕ) → plain_byte b ≡ true → IsPlain b
-plain-byte b e = (λ q. true≢false (sym e ∙ ap plain_byte q), λ q. true≢false (sym e ∙ ap plain_byte q))
-
-plain-word : (w : List ℕ) → list_all plain_byte w ≡ true → ArePlain w
-plain-word [] e = tt
-plain-word (b ∷ w) e = (plain-byte b (and-left (plain_byte b) (list_all plain_byte w) e), plain-word w (and-right (plain_byte b) (list_all plain_byte w) e))
-
-plain-position : (q : Pos) → ArePlain (position_text q)
-plain-position q =
-    each-append IsPlain (decimal q.tick ++ codes ":") (decimal q.offset)
-    (each-append IsPlain (decimal q.tick) (codes ":") (plain-decimal q.tick) (plain-word (codes ":") refl)) (plain-decimal q.offset)
-
-plain-fraction : (num den : ℕ) → ArePlain (fraction_text num den)
-plain-fraction num den =
-    each-append IsPlain (decimal num ++ codes "/") (decimal den)
-    (each-append IsPlain (decimal num) (codes "/") (plain-decimal num) (plain-word (codes "/") refl)) (plain-decimal den)
-
-plain-scheduler : (s : Scheduler) → ArePlain (scheduler_word s)
-plain-scheduler Edf = plain-word (codes "edf") refl
-plain-scheduler Rm = plain-word (codes "rm") refl
-
-plain-governor : (g : GovernorKind) → ArePlain (governor_word g)
-plain-governor Plain = plain-word (codes "none") refl
-plain-governor Fixed = plain-word (codes "static") refl
-plain-governor Cycle = plain-word (codes "cc") refl
-plain-governor Ahead = plain-word (codes "la") refl
-
--- the fields of a note's line
-abbrev fields_of : List (List ℕ) → Note → List (List ℕ)
-fields_of ns (Release t i k) = codes "release" ∷ decimal t ∷ name_of ns i ∷ decimal k ∷ []
-fields_of ns (Speed t f num den) = codes "speed" ∷ decimal t ∷ decimal f ∷ fraction_text num den ∷ []
-fields_of ns (Run from to i k units energy) = codes "run" ∷ position_text from ∷ position_text to ∷ name_of ns i ∷ decimal k ∷ decimal units ∷ decimal energy ∷ []
-fields_of ns (Idle from to units energy) = codes "idle" ∷ position_text from ∷ position_text to ∷ decimal units ∷ decimal energy ∷ []
-fields_of ns (Done q i k used) = codes "done" ∷ position_text q ∷ name_of ns i ∷ decimal k ∷ decimal used ∷ []
-fields_of ns (End t run idle) = codes "end" ∷ decimal t ∷ decimal run ∷ decimal idle ∷ []
-
-note-fields : (ns : List (List ℕ)) (n : Note) → note_text ns n ≡ line (fields_of ns n)
-unfolding note_text
-note-fields ns (Release t i k) = refl
-note-fields ns (Speed t f num den) = refl
-note-fields ns (Run from to i k units energy) = refl
-note-fields ns (Idle from to units energy) = refl
-note-fields ns (Done q i k used) = refl
-note-fields ns (End t run idle) = refl
-
-plain-fields : (ns : List (List ℕ)) → ((i : ℕ) → ArePlain (name_of ns i)) → (n : Note) → AllByRecursion ArePlain (fields_of ns n)
-plain-fields ns named (Release t i k) = (plain-word (codes "release") refl, (plain-decimal t, (named i, (plain-decimal k, tt))))
-plain-fields ns named (Speed t f num den) = (plain-word (codes "speed") refl, (plain-decimal t, (plain-decimal f, (plain-fraction num den, tt))))
-plain-fields ns named (Run from to i k units energy) =
-    (plain-word (codes "run") refl, (plain-position from, (plain-position to, (named i, (plain-decimal k, (plain-decimal units, (plain-decimal energy, tt)))))))
-plain-fields ns named (Idle from to units energy) =
-    (plain-word (codes "idle") refl, (plain-position from, (plain-position to, (plain-decimal units, (plain-decimal energy, tt)))))
-plain-fields ns named (Done q i k used) = (plain-word (codes "done") refl, (plain-position q, (named i, (plain-decimal k, (plain-decimal used, tt)))))
-plain-fields ns named (End t run idle) = (plain-word (codes "end") refl, (plain-decimal t, (plain-decimal run, (plain-decimal idle, tt))))
-
--- the lines of notes are their lines
-lines-notes : (ns : List (List ℕ)) → ((i : ℕ) → ArePlain (name_of ns i)) → (notes : List Note) → lines_of (flat_map (note_text ns) notes) ≡ map (note_text ns) notes
-lines-notes ns named [] = refl
-lines-notes ns named (n ∷ notes) =
-    ap (λ l. lines_of (l ++ flat_map (note_text ns) notes)) (note-fields ns n)
-    ∙ (lines-line (fields_of ns n) (flat_map (note_text ns) notes) (plain-fields ns named n)
-    ∙ ap₂ (λ l ls. l ∷ ls) (sym (note-fields ns n)) (lines-notes ns named notes))
 
 -- a list with one element that passes
 record IsAlone {A : Type 0} (test : A → Bool) (xs : List A) : Type 0 where
@@ -145,16 +77,6 @@ none-pass test (x ∷ xs) e = go (test x) refl (none-pass test xs)
     go : (b : Bool) → test x ≡ b → (times test xs ≡ 0 → AllByRecursion (λ y. test y ≡ false) xs) → (test x ≡ false) × AllByRecursion (λ y. test y ≡ false) xs
     go true f ih = absurd (omega (arith, sym (ap (λ (c : Bool). if c then suc (times test xs) else times test xs) f) ∙ e))
     go false f ih = (f, ih (sym (ap (λ (c : Bool). if c then suc (times test xs) else times test xs) f) ∙ e))
-
--- a line of a job's end says which job it is
-done-same : (ns : List (List ℕ)) → ((i : ℕ) → ArePlain (name_of ns i)) → (name : List ℕ) → ArePlain name → (k : ℕ) (at_end : Pos) (used : ℕ) (q : Pos) (j l u : ℕ)
-    → line (fields_of ns (Done q j l u)) ≡ line (codes "done" ∷ position_text at_end ∷ name ∷ decimal k ∷ decimal used ∷ [])
-    → (name_of ns j ≡ name) × (decimal l ≡ decimal k)
-done-same ns named name plain k at_end used q j l u e =
-    let after_word : line (position_text q ∷ name_of ns j ∷ decimal l ∷ decimal u ∷ []) ≡ line (position_text at_end ∷ name ∷ decimal k ∷ decimal used ∷ []) = ap (drop 5) e in
-    let after_position = (field-same (position_text q) (position_text at_end) (line (name_of ns j ∷ decimal l ∷ decimal u ∷ [])) (line (name ∷ decimal k ∷ decimal used ∷ [])) (plain-position q) (plain-position at_end) after_word).1 in
-    let own = field-same (name_of ns j) name (line (decimal l ∷ decimal u ∷ [])) (line (decimal k ∷ decimal used ∷ [])) (named j) plain after_position in
-    (own.0, (field-same (decimal l) (decimal k) (decimal u ++ (10 ∷ [])) (decimal used ++ (10 ∷ [])) (plain-decimal l) (plain-decimal k) own.1).0)
 
 -- a line that begins with another letter tells no end
 other-line : (name : List ℕ) (k : ℕ) (l : List ℕ) → nat_eq (get_or l 0 0) 100 ≡ false → (at_end : Pos) → IsDoneLine name k at_end l → ⊥
@@ -229,12 +151,6 @@ is_by t q e = go (cases_lt q.tick t) (nat_lt t q.tick) refl (nat_lt 0 q.offset) 
         let here : q.tick ≡ t = grind (arith, nat_tests) in
         inr (here, none)
 
--- earlier ticks gave no more
-exec-drop : (p : Plan) (i k n : ℕ) (ticks : List Tick) → exec p (drop n ticks) i k ≤ exec p ticks i k
-exec-drop p i k zero ticks = omega arith
-exec-drop p i k (suc n) [] = omega arith
-exec-drop p i k (suc n) (x ∷ ticks) = omega (arith, exec-drop p i k n ticks)
-
 module _ (p : Plan) (dem : ℕ → ℕ → ℕ) (ask : List Tick → Frac) (lim : IsWithinLimits p) (ticks : List Tick) (sched : IsScheduleBy p dem ask ticks)
     (most : (i k : ℕ) → i < count p → exec p ticks i k ≤ dem i k) (low : length ticks ≤ 2 ^ 40) where
   abbrev notes : List Note
@@ -298,9 +214,9 @@ module _ (p : Plan) (dem : ℕ → ℕ → ℕ) (ask : List Tick → Frac) (lim 
   lines-text : (g : GovernorKind) (t : ℕ) → lines_of (trace_text p.scheduler g t (names p) notes) ≡ version_text ∷ plan_text p.scheduler g t ∷ map (note_text (names p)) notes
   lines-text g t =
       let rest = flat_map (note_text (names p)) notes in
-      lines-line (codes "trace" ∷ codes "1" ∷ []) (plan_text p.scheduler g t ++ rest) (plain-word (codes "trace") refl, (plain-word (codes "1") refl, tt))
+      lines-line version_fields (plan_text p.scheduler g t ++ rest) (plain-word (codes "trace") refl, (plain-word (codes "1") refl, tt))
       ∙ ap (λ ls. version_text ∷ ls)
-      (lines-line (codes "plan" ∷ scheduler_word p.scheduler ∷ governor_word g ∷ decimal t ∷ []) rest
+      (lines-line (plan_fields p.scheduler g t) rest
       (plain-word (codes "plan") refl, (plain-scheduler p.scheduler, (plain-governor g, (plain-decimal t, tt))))
       ∙ ap (λ ls. plan_text p.scheduler g t ∷ ls) (lines-notes (names p) named notes))
 
@@ -340,7 +256,7 @@ module _ (p : Plan) (dem : ℕ → ℕ → ℕ) (ask : List Tick → Frac) (lim 
           lines = lines-text g t ∙ ap (λ ls. version_text ∷ plan_text p.scheduler g t ∷ ls)
               (ap (map (note_text (names p))) r.parts ∙ (map-append (note_text (names p)) r.front (r.one ∷ r.back)
               ∙ ap (λ n. map (note_text (names p)) r.front ++ note_text (names p) n ∷ map (note_text (names p)) r.back) e));
-          done = (u, note-fields (names p) (Done q j l u) ∙ ap₂ (λ m n. line (codes "done" ∷ position_text q ∷ name_of (names p) m ∷ decimal n ∷ decimal u ∷ [])) (sym task) (sym job));
+          done = (u, note-fields (names p) (Done q j l u) ∙ ap₂ (λ m n. line (done_fields q (name_of (names p) m) n u)) (sym task) (sym job));
           in_time = by;
           none_before = all-each (λ l. (at_end : Pos) → IsDoneLine (name_of (names p) i) k at_end l → ⊥) (version_text ∷ plan_text p.scheduler g t ∷ map (note_text (names p)) r.front) (
             other-line (name_of (names p) i) k version_text refl,

@@ -1,5 +1,4 @@
 pub mod DoneNotes
 pub mod DoneSpans
 pub mod DoneCounts
-pub mod PlainLines
 pub mod DoneText

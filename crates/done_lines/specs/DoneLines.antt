@@ -1,28 +1,20 @@
 -- Where the text of a run tells that a job is done.
-use Rattle.std.specs.Prelude.{◌≡◌, ◌⊎◌, ℕ, ◌<◌, ◌≤◌, ◌^◌, ◌==◌, List, [], ◌∷◌, ◌++◌, codes, decimal, if◌then◌else◌}
+use Rattle.std.specs.Prelude.{◌≡◌, ◌⊎◌, ℕ, ◌<◌, ◌≤◌, List, ◌∷◌, ◌++◌}
 use Rattle.std.specs.List.{All}
 use Rattle.dvs_base.specs.declared.kind.GovernorKind.{GovernorKind}
 use Rattle.dvs_base.specs.declared.note.Pos.{Pos}
-use Rattle.dvs_base.specs.TraceLines.{line, position_text, name_of}
+use Rattle.trace_text.specs.TraceLines.{line, done_fields, name_of}
+use Rattle.trace_text.specs.TextLines.{lines_of}
+use Rattle.sched_model.specs.declared.bounds.TheConstants.{MOST_TICKS}
 use Rattle.sched_model.specs.Plan.{Plan, count, names}
 use Rattle.sched_model.specs.Schedule.{schedule}
 use Rattle.sched_model.specs.Deadlines.{IsMet}
 use Rattle.sched_model.specs.Text.{run_text}
 use Rattle.sched_model.specs.Jobs.{due}
 
--- one more byte at the start of the first line
-abbrev pub with_byte : ℕ → List (List ℕ) → List (List ℕ)
-with_byte b [] = (b ∷ []) ∷ []
-with_byte b (first ∷ rest) = (b ∷ first) ∷ rest
-
--- the lines of a text, each with the line feed that ends it
-abbrev pub lines_of : List ℕ → List (List ℕ)
-lines_of [] = []
-lines_of (b ∷ text) = if b == 10 then (b ∷ []) ∷ lines_of text else with_byte b (lines_of text)
-
 -- the line tells that job k of the task of this name was done at a position
 abbrev pub IsDoneLine : List ℕ → ℕ → Pos → List ℕ → Type 0
-IsDoneLine name k at_end l = (used : ℕ) × (l ≡ line (codes "done" ∷ position_text at_end ∷ name ∷ decimal k ∷ decimal used ∷ []))
+IsDoneLine name k at_end l = (used : ℕ) × (l ≡ line (done_fields at_end name k used))
 
 -- none of the lines tells it
 abbrev pub NoDoneLine : List ℕ → ℕ → List (List ℕ) → Type 0
@@ -52,5 +44,5 @@ TellsDeadlines p ticks text =
 -- the text of each run that meets its deadlines tells each of them
 abbrev pub TextTellsDeadlines : Plan → Type 0
 TextTellsDeadlines p =
-    (kind : GovernorKind) (dem : ℕ → ℕ → ℕ) (ticks : ℕ) → ticks ≤ 2 ^ 40
+    (kind : GovernorKind) (dem : ℕ → ℕ → ℕ) (ticks : ℕ) → ticks ≤ MOST_TICKS
     → IsMet p dem (schedule p kind dem ticks) → TellsDeadlines p ticks (run_text p kind dem ticks)

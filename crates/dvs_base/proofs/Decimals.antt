@@ -3,7 +3,7 @@ use Rattle.std.proofs.Common.{ℕ, ◌^◌, ◌<◌, ◌≤◌, length, length-a
 use Rattle.std.specs.Fmt.{decimal}
 use Rattle.std.proofs.lemmas.Fmt.{length-decimal-le, length-decimal-le_wide}
 use Rattle.dvs_base.specs.declared.note.Pos.{Pos}
-use Rattle.dvs_base.specs.TraceLines.{position_text, fraction_text}
+use Rattle.dvs_base.specs.Parts.{position_text, fraction_text}
 
 pub length-decimal_u32 : (n : ℕ) → n < 2 ^ 32 → length (decimal n) ≤ 10
 length-decimal_u32 n fits = length-decimal-le 10 n (omega arith) (omega arith) (omega arith)

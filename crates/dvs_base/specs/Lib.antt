@@ -2,7 +2,6 @@ pub mod Text
 pub mod Outside
 pub mod Memory
 pub mod Padded
-pub mod Words
 pub mod Parts
-pub mod TraceLines
 pub mod Checks
+pub mod Settings

@@ -1,6 +1,7 @@
 -- The parts of a line of text.
 use Rattle.std.specs.Prelude.{ℕ, ◌+◌, List, [], ◌∷◌, ◌++◌, length, codes}
 use Rattle.std.specs.Fmt.{decimal}
+use Rattle.dvs_base.specs.declared.note.Pos.{Pos}
 use Rattle.dvs_base.specs.declared.part.Part.{Part}
 use Rattle.dvs_base.specs.declared.part.Part.TheVariants as part
 
@@ -9,6 +10,14 @@ abbrev pub joined : List (List ℕ) → List ℕ
 joined [] = []
 joined (text ∷ texts) = text ++ joined texts
 
+-- a position, as `tick:offset`
+abbrev pub position_text : Pos → List ℕ
+position_text q = decimal q.tick ++ codes ":" ++ decimal q.offset
+
+-- a fraction, as `num/den`
+abbrev pub fraction_text : ℕ → ℕ → List ℕ
+fraction_text num den = decimal num ++ codes "/" ++ decimal den
+
 -- what a part says
 abbrev pub part_text : Part → List ℕ
 part_text (part.Word bytes) = bytes.now
@@ -16,8 +25,8 @@ part_text (part.Named name) = name.now
 part_text (part.Shown short) = short.now
 part_text (part.Number n) = decimal n
 part_text (part.Wide n) = decimal n
-part_text (part.At pos) = decimal pos.tick ++ codes ":" ++ decimal pos.offset
-part_text (part.Ratio num den) = decimal num ++ codes "/" ++ decimal den
+part_text (part.At pos) = position_text pos
+part_text (part.Ratio num den) = fraction_text num den
 
 -- how many bytes it has at most
 abbrev pub most_bytes : Part → ℕ

@@ -5,10 +5,13 @@
 //! stand for the outside in memory and say exactly what each call does, `VoidSink` keeps nothing, and `HostShelf` and
 //! `HostSink` are the edge to the system.
 //! [`whole`], [`wide`], [`Name`] and [`Short`] read text exactly; [`Line`] and what fills it take no memory.
+//! [`read_document`] gives a settings file's TOML document, and the calls beside it what stands at its keys: each answer
+//! is that of `specs/Settings.antt`, and no other call of them takes memory.
 #![tactic(auto)]
 
 mod host;
 mod kind;
+mod limits;
 mod line;
 mod memory;
 mod name;
@@ -16,10 +19,12 @@ mod note;
 mod number;
 mod outside;
 mod part;
+mod settings;
 mod void;
 
 pub use host::{HostShelf, HostSink};
 pub use kind::{GovernorKind, Scheduler};
+pub use limits::LONGEST_FILE;
 pub use line::{Line, put_num};
 pub use memory::{FailAt, MemShelf, MemSink};
 pub use name::{Name, Short};
@@ -27,6 +32,9 @@ pub use note::{Note, Pos, Totals};
 pub use number::{whole, wide};
 pub use outside::{Failed, LoadFault, NoMemory, Shelf, Sink};
 pub use part::{Part, line_of};
+pub use settings::{
+    DocumentFault, MemberFault, member_at, number_at, read_document, text_at, unknown_key,
+};
 pub use void::VoidSink;
 
 #[cfg(test)]

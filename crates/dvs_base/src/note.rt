@@ -7,7 +7,8 @@ pub struct Pos {
     pub offset: u64,
 }
 
-/// One event of a run. Tasks count from 0 in file order, jobs from 1.
+/// One event of a run. Tasks count from 0 in file order, jobs from 1. An energy is work units times the square of
+/// millivolts times 1000, or times the machine's `idle` for idle units.
 #[derive(Clone, Copy, Debug, PartialEq, Eq)]
 pub enum Note {
     /// A job is released at this tick.
@@ -54,7 +55,8 @@ pub enum Note {
     },
 }
 
-/// The sums and counts of a run: its energies, and its jobs released, jobs finished and decisions.
+/// The sums and counts of a run: its energies of running and of idle segments, in the unit of [`Note`], and its jobs
+/// released, jobs finished and decisions.
 #[derive(Clone, Copy, Debug, PartialEq, Eq)]
 pub struct Totals {
     pub run: u128,

@@ -94,3 +94,20 @@ fn a_host_shelf_reads_files(rt: HostRuntime) -> Result<(), Fail> {
     );
     Ok(())
 }
+
+#[test]
+fn the_keys_of_a_document_are_read(rt: HostRuntime) -> Result<(), Fail> {
+    let text = b"\xef\xbb\xbfspeed = 0x1_0\nname = 't1'\n\"\xc3\xa9\" = 1.5\n";
+    let table = read_document(rt.alloc(), text).map_err(|_| "document")?;
+    assert_eq!(rt; number_at(&table, "speed", 1, 16), Ok(16));
+    assert_eq!(rt; number_at(&table, "speed", 1, 15), Err(MemberFault::Range));
+    assert_eq!(rt; number_at(&table, "name", 1, 15), Err(MemberFault::Kind));
+    assert_eq!(rt; number_at(&table, "idle", 1, 15), Err(MemberFault::Missing));
+    assert_eq!(rt; text_at(&table, "name"), Ok("t1"));
+    assert!(rt; member_at(&table, "name").is_some());
+    let key = unknown_key(&table, &["name", "speed"]).ok_or("key")?;
+    assert_eq!(rt; key.as_bytes(), b"??".as_slice());
+    assert!(rt; unknown_key(&table, &["name", "speed", "é"]).is_none());
+    assert!(rt; read_document(rt.alloc(), b"\xff").is_err());
+    Ok(())
+}

@@ -19,7 +19,7 @@ use Rattle.sched_model.proofs.Tables.{get-table}
 use Rattle.sched_model.proofs.GreedyLemmas.{handed_before}
 use Rattle.sched_model.proofs.JobLaws.{exec-legal}
 use Rattle.governor.specs.Schedule.{ask_of, course}
-use Rattle.governor.specs.Steps.{earliest, IsBeforeAll}
+use Rattle.governor.specs.Steps.{earliest_in, IsBeforeAll}
 use Rattle.event_kernel.specs.declared.pen.Pen.{Pen}
 use Rattle.event_kernel.specs.Pens.{CanTell, IsFirstUndone}
 use Rattle.event_kernel.specs.Tickwork.{tick_at, HasWorked}
@@ -78,18 +78,18 @@ module _ {L : Type 0} (heard balked : L → Note → L → Type 0) (demand : Pla
     before : IsBeforeAll p st
     before = subst (λ (s : StateOf). IsBeforeAll p s) (sym here.work.state) (at-decision p adm dem (course demand p dem t)).before
 
-    pub first-event : t < min ticks (earliest p st)
+    pub first-event : t < min ticks (earliest_in p st)
     first-event =
-        let late : t + 1 ≤ earliest p st = least-above (count p) (λ i. (row_at st i).deadline) (t + 1) adm.some_task (λ i l. (let b = before i l in omega (arith, b, now-is))) in
+        let late : t + 1 ≤ earliest_in p st = least-above (count p) (λ i. (row_at st i).deadline) (t + 1) adm.some_task (λ i l. (let b = before i l in omega (arith, b, now-is))) in
         omega (arith, late, here.before_end)
 
-    pub quiet-end : (n : ℕ) → n ≤ min ticks (earliest p st) - 1 - t → t + n < ticks
+    pub quiet-end : (n : ℕ) → n ≤ min ticks (earliest_in p st) - 1 - t → t + n < ticks
     quiet-end n le = omega (arith, le, first-event)
 
-    pub quiet-to : (n : ℕ) → n ≤ min ticks (earliest p st) - 1 - t → (k : ℕ) → k < count p → t + n < (row_at st k).deadline
+    pub quiet-to : (n : ℕ) → n ≤ min ticks (earliest_in p st) - 1 - t → (k : ℕ) → k < count p → t + n < (row_at st k).deadline
     quiet-to n le k l = omega (arith, le, first-event, least-below (count p) (λ i. (row_at st i).deadline) k l)
 
-    pub quiet-fits : (n : ℕ) → n ≤ min ticks (earliest p st) - 1 - t → (n * f < 2 ^ 63) × (pen.units + n * f < 2 ^ 64)
+    pub quiet-fits : (n : ℕ) → n ≤ min ticks (earliest_in p st) - 1 - t → (n * f < 2 ^ 63) × (pen.units + n * f < 2 ^ 64)
     quiet-fits n le =
         let some : n * f ≤ n * 1000000 = mul-le-mul_left n (adm.low_speed e) in
         let lt = quiet-end n le in
@@ -99,13 +99,13 @@ module _ {L : Type 0} (heard balked : L → Note → L → Type 0) (demand : Pla
     can-tell = can heard balked demand p dem t t0 e st pen adm here.work to to f false st pen w0
 
     -- after all ticks up to the next release or the end, there is one left
-    pub last-event : (n : ℕ) (st' : StateOf) → n ≡ min ticks (earliest p st) - 1 - t → st'.now ≡ t + n → ((k : ℕ) → (row_at st' k).deadline ≡ (row_at st k).deadline) → IsLastTick p dem ticks e st'
-    last-event n st' is now due = go (cases_lt (earliest p st) ticks)
+    pub last-event : (n : ℕ) (st' : StateOf) → n ≡ min ticks (earliest_in p st) - 1 - t → st'.now ≡ t + n → ((k : ℕ) → (row_at st' k).deadline ≡ (row_at st k).deadline) → IsLastTick p dem ticks e st'
+    last-event n st' is now due = go (cases_lt (earliest_in p st) ticks)
       where
-        found : (i : ℕ) × (i < count p) × ((row_at st i).deadline ≡ earliest p st)
+        found : (i : ℕ) × (i < count p) × ((row_at st i).deadline ≡ earliest_in p st)
         found = least-found (count p) (λ i. (row_at st i).deadline) adm.some_task
 
-        go : (earliest p st < ticks) ⊎ (ticks ≤ earliest p st) → IsLastTick p dem ticks e st'
+        go : (earliest_in p st < ticks) ⊎ (ticks ≤ earliest_in p st) → IsLastTick p dem ticks e st'
         go (inl lt) = inr (inl (found.0, found.1, (let q = found.2 in let d = due found.0 in omega (arith, q, d, lt, is, now, first-event))))
         go (inr le) = inl (omega (arith, le, is, now, first-event))
 
@@ -134,8 +134,8 @@ module _ {L : Type 0} (heard balked : L → Note → L → Type 0) (demand : Pla
           (omega (arith, whole-next (lacks - 1) f some-speed, oe, needs, ap (λ m. m * f) ne))
 
       -- after all ticks in which the job gets every unit and isn't done at their end, there is one left
-      pub quiet-last : (n lacks : ℕ) → lacks ≡ dem i row.job - row.used → n ≡ min (min ticks (earliest p st) - 1 - t) ((lacks - 1) / f) → IsLastTick p dem ticks e (run_on st i (n * f) (t + n))
-      quiet-last n lacks oe ne = go (cases_lt ((lacks - 1) / f) (min ticks (earliest p st) - 1 - t))
+      pub quiet-last : (n lacks : ℕ) → lacks ≡ dem i row.job - row.used → n ≡ min (min ticks (earliest_in p st) - 1 - t) ((lacks - 1) / f) → IsLastTick p dem ticks e (run_on st i (n * f) (t + n))
+      quiet-last n lacks oe ne = go (cases_lt ((lacks - 1) / f) (min ticks (earliest_in p st) - 1 - t))
         where
           in_rows : i < length st.rows
           in_rows = omega (arith, first.below, of-plan.rows)
@@ -143,7 +143,7 @@ module _ {L : Type 0} (heard balked : L → Note → L → Type 0) (demand : Pla
           r : Row
           r = record (row_at st i) { used = (row_at st i).used + n * f; done = false }
 
-          go : ((lacks - 1) / f < min ticks (earliest p st) - 1 - t) ⊎ (min ticks (earliest p st) - 1 - t ≤ (lacks - 1) / f) → IsLastTick p dem ticks e (run_on st i (n * f) (t + n))
+          go : ((lacks - 1) / f < min ticks (earliest_in p st) - 1 - t) ⊎ (min ticks (earliest_in p st) - 1 - t ≤ (lacks - 1) / f) → IsLastTick p dem ticks e (run_on st i (n * f) (t + n))
           go (inl lt) = inr (inr (
             i,
             first-served st i in_rows (n * f) p (t + n) first,
@@ -152,10 +152,10 @@ module _ {L : Type 0} (heard balked : L → Note → L → Type 0) (demand : Pla
           go (inr le) = last-event n (run_on st i (n * f) (t + n)) (omega (arith, ne, le)) refl (due-served st i in_rows (n * f))
 
       -- or that is the next one
-      pub quiet-none : (lacks : ℕ) → lacks ≡ dem i row.job - row.used → 0 ≡ min (min ticks (earliest p st) - 1 - t) ((lacks - 1) / f) → IsLastTick p dem ticks e st
-      quiet-none lacks oe ne = go (cases_lt ((lacks - 1) / f) (min ticks (earliest p st) - 1 - t))
+      pub quiet-none : (lacks : ℕ) → lacks ≡ dem i row.job - row.used → 0 ≡ min (min ticks (earliest_in p st) - 1 - t) ((lacks - 1) / f) → IsLastTick p dem ticks e st
+      quiet-none lacks oe ne = go (cases_lt ((lacks - 1) / f) (min ticks (earliest_in p st) - 1 - t))
         where
-          go : ((lacks - 1) / f < min ticks (earliest p st) - 1 - t) ⊎ (min ticks (earliest p st) - 1 - t ≤ (lacks - 1) / f) → IsLastTick p dem ticks e st
+          go : ((lacks - 1) / f < min ticks (earliest_in p st) - 1 - t) ⊎ (min ticks (earliest_in p st) - 1 - t ≤ (lacks - 1) / f) → IsLastTick p dem ticks e st
           go (inl lt) = inr (inr (i, first, (let d = last-done 0 lacks oe (omega (arith, ne, lt)) in omega (arith, d, zero-mul f))))
           go (inr le) = last-event 0 st (omega (arith, ne, le)) (omega (arith, now-is)) (λ k. refl)
 

@@ -3,6 +3,7 @@ use Rattle.std.specs.Prelude.{ℕ, ◌+◌, ◌<◌, ◌≤◌, List, length, sl
 use Rattle.freq_table.specs.declared.machine.Point.{Point}
 use Rattle.freq_table.specs.Tables.{IsPoint}
 
+-- an entry of a list of points
 abbrev pub entry_at : List Point → ℕ → Point
 entry_at points e = slice_index_or points e (record { speed = 0; millivolts = 0 })
 

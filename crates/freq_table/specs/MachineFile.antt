@@ -2,10 +2,11 @@
 use Rattle.std.specs.Prelude.{ℕ, ◌+◌, ◌-◌, ◌&&◌, Bool, true, List, [], ◌∷◌, ◌++◌, length, slice_get, nat_lt, nat_le, codes, Option, Some, None, Result, Ok, Err, if◌then◌else◌}
 use Rattle.dvs_base.specs.Text.{short_of}
 use Rattle.toml.specs.Data.{Data, Items, no_items, item, Members, get_member, as_integer, as_array, as_table}
-use Rattle.toml_tree.specs.declared.tree.MemberFault.{MemberFault}
-use Rattle.toml_tree.specs.declared.tree.MemberFault.TheVariants as member_fault
-use Rattle.dvs_base.specs.Checks.{and_then}
-use Rattle.toml_tree.specs.Tree.{document_of, unknown_key, number_from, number_at, count_of}
+use Rattle.dvs_base.specs.declared.settings.MemberFault.{MemberFault}
+use Rattle.dvs_base.specs.declared.settings.MemberFault.TheVariants as member_fault
+use Rattle.dvs_base.specs.Checks.{and_then, IsUnlessMemory}
+use Rattle.dvs_base.specs.Settings.{document_of, unknown_key, number_from, number_at, count_of}
+use Rattle.freq_table.specs.declared.limits.TheConstants.{MOST_POINTS, TOP_SPEED, MOST_MILLIVOLTS, MOST_IDLE, MOST_CHARGE}
 use Rattle.freq_table.specs.declared.machine.Point.{Point}
 use Rattle.freq_table.specs.declared.fault.MachineField.{MachineField}
 use Rattle.freq_table.specs.declared.fault.MachineField.TheVariants as field
@@ -13,10 +14,11 @@ use Rattle.freq_table.specs.declared.fault.MachineFault.{MachineFault}
 use Rattle.freq_table.specs.declared.fault.MachineFault.TheVariants as fault
 use Rattle.freq_table.specs.Tables.{Table}
 
--- the keys of the document, and of a point
+-- the keys of the document
 abbrev pub file_keys : List (List ℕ)
 file_keys = codes "charge" ∷ codes "idle" ∷ codes "point" ∷ []
 
+-- the keys of a point
 abbrev pub point_keys : List (List ℕ)
 point_keys = codes "speed" ∷ codes "millivolts" ∷ []
 
@@ -31,6 +33,7 @@ fault_at place field member_fault.Missing = fault.Missing place field
 fault_at place field member_fault.Kind = fault.Kind place field
 fault_at place field member_fault.Range = fault.Range place field
 
+-- what stands at a key, or the trouble with it
 abbrev pub at_field : {A : Type 0} → ℕ → MachineField → Result A MemberFault → Result A MachineFault
 at_field place field (Ok value) = Ok value
 at_field place field (Err e) = Err (fault_at place field e)
@@ -44,14 +47,16 @@ setting_at field high (Some value) = at_field 0 field (number_from 0 high (as_in
 abbrev pub point_of_members : ℕ → Members → Result Point MachineFault
 point_of_members place ms =
     no_unknown place (unknown_key point_keys ms) (
-    and_then (at_field place field.Speed (number_at 1 1000000 (get_member (codes "speed") ms))) (λ speed.
-    and_then (at_field place field.Millivolts (number_at 1 20000 (get_member (codes "millivolts") ms))) (λ millivolts.
+    and_then (at_field place field.Speed (number_at 1 TOP_SPEED (get_member (codes "speed") ms))) (λ speed.
+    and_then (at_field place field.Millivolts (number_at 1 MOST_MILLIVOLTS (get_member (codes "millivolts") ms))) (λ millivolts.
     Ok record { speed = speed; millivolts = millivolts })))
 
+-- an entry that is a table
 abbrev pub point_of_table : ℕ → Option Members → Result Point MachineFault
 point_of_table place None = Err (fault.Kind place field.Entry)
 point_of_table place (Some ms) = point_of_members place ms
 
+-- an entry of the array, whatever it is
 abbrev pub point_of : ℕ → Data → Result Point MachineFault
 point_of place value = point_of_table place (as_table value)
 
@@ -76,20 +81,26 @@ abbrev pub entries_from : Option Items → Result (List Point) MachineFault
 entries_from None = Err (fault.Kind 0 field.Point)
 entries_from (Some no_items) = Err fault.NoPoints
 entries_from (Some (item value rest)) =
-    if nat_lt 32 (count_of (item value rest)) then Err (fault.TooMany (count_of (item value rest))) else points_from [] (item value rest)
+    if nat_lt MOST_POINTS (count_of (item value rest)) then Err (fault.TooMany (count_of (item value rest))) else points_from [] (item value rest)
 
+-- the points of the document, of the value at the key of the array
 abbrev pub points_at : Option Data → Result (List Point) MachineFault
 points_at None = Err fault.NoPoints
 points_at (Some value) = entries_from (as_array value)
 
+-- the machine of a document: its keys, the two settings, and then the points
 abbrev pub table_of_document : Option Members → Result Table MachineFault
 table_of_document None = Err fault.NotToml
 table_of_document (Some ms) =
     no_unknown 0 (unknown_key file_keys ms) (
-    and_then (setting_at field.Idle 1000 (get_member (codes "idle") ms)) (λ idle.
-    and_then (setting_at field.Charge 1000000 (get_member (codes "charge") ms)) (λ charge.
+    and_then (setting_at field.Idle MOST_IDLE (get_member (codes "idle") ms)) (λ idle.
+    and_then (setting_at field.Charge MOST_CHARGE (get_member (codes "charge") ms)) (λ charge.
     and_then (points_at (get_member (codes "point") ms)) (λ points.
     Ok record { points = points; idle = idle; charge = charge }))))
+
+-- an answer is this one, seen as `shown`, unless memory ran out
+abbrev pub Means : {T A : Type 0} → (T → A) → Result T MachineFault → Result A MachineFault → Type 0
+Means shown = IsUnlessMemory fault.NoMemory shown
 
 -- what the bytes of a machine file mean
 abbrev pub machine_file : List ℕ → Result Table MachineFault

@@ -3,6 +3,7 @@ use Rattle.std.specs.Prelude.{ℕ, ◌+◌, ◌-◌, ◌<◌, ◌≤◌, min, Li
 use Rattle.grid_fraction.specs.declared.Frac.{Frac}
 use Rattle.grid_fraction.specs.Fraction.{meets}
 use Rattle.grid_fraction.specs.Numbers.{any_below, first_from}
+use Rattle.freq_table.specs.declared.limits.TheConstants.{MOST_POINTS, TOP_SPEED, MOST_MILLIVOLTS, MOST_IDLE, MOST_CHARGE}
 use Rattle.freq_table.specs.declared.machine.Point.{Point}
 use Rattle.freq_table.specs.declared.machine.Pick.{Pick}
 
@@ -12,17 +13,19 @@ pub record Table : Type 0 where
   pub idle : ℕ
   pub charge : ℕ
 
--- an entry, and its speed
+-- an entry by its number
 abbrev pub point_at : Table → ℕ → Point
 point_at m e = slice_index_or m.points e (record { speed = 0; millivolts = 0 })
 
+-- the speed of an entry
 abbrev pub speed_at : Table → ℕ → ℕ
 speed_at m e = (point_at m e).speed
 
--- the last entry, and fm, its speed
+-- the last entry
 abbrev pub last_entry : Table → ℕ
 last_entry m = length m.points - 1
 
+-- fm, the speed of the last entry
 abbrev pub highest_speed : Table → ℕ
 highest_speed m = speed_at m (last_entry m)
 
@@ -37,16 +40,16 @@ lowest_pick m d = record { index = lowest_entry m d; met = any_below (length m.p
 -- the limits of an entry
 pub record IsPoint (x : Point) : Type 0 where
   pub some_speed : 1 ≤ x.speed
-  pub low_speed : x.speed ≤ 1000000
+  pub low_speed : x.speed ≤ TOP_SPEED
   pub some_millivolts : 1 ≤ x.millivolts
-  pub low_millivolts : x.millivolts ≤ 20000
+  pub low_millivolts : x.millivolts ≤ MOST_MILLIVOLTS
 
 -- a table within the limits: the speeds rise, and the voltages don't fall
 pub record IsTable (m : Table) : Type 0 where
   pub some : 1 ≤ length m.points
-  pub few : length m.points ≤ 32
+  pub few : length m.points ≤ MOST_POINTS
   pub each : (e : ℕ) → e < length m.points → IsPoint (point_at m e)
   pub rising : (e : ℕ) → e + 1 < length m.points → speed_at m e < speed_at m (e + 1)
   pub not_falling : (e : ℕ) → e + 1 < length m.points → (point_at m e).millivolts ≤ (point_at m (e + 1)).millivolts
-  pub low_idle : m.idle ≤ 1000
-  pub low_charge : m.charge ≤ 1000000
+  pub low_idle : m.idle ≤ MOST_IDLE
+  pub low_charge : m.charge ≤ MOST_CHARGE

@@ -4,16 +4,22 @@ use dvs_base::Short;
 /// What a machine file names: its two settings, its array of points, an entry of it, or a key of an entry.
 #[derive(Clone, Copy, Debug, PartialEq, Eq)]
 pub enum MachineField {
+    /// The setting `idle` of the document, in thousandths.
     Idle,
+    /// The setting `charge` of the document, in work units.
     Charge,
+    /// The array `point` of the document.
     Point,
+    /// An entry of the array, which is no table.
     Entry,
+    /// The key `speed` of an entry, in work units per tick.
     Speed,
+    /// The key `millivolts` of an entry.
     Millivolts,
 }
 
 /// The first thing that a machine file has wrong. Places count from 1, and place 0 is the document itself.
-#[derive(Drop)]
+#[derive(Clone, Copy, Debug, PartialEq, Eq)]
 pub enum MachineFault {
     /// The bytes are no TOML document.
     NotToml,
@@ -21,7 +27,7 @@ pub enum MachineFault {
     UnknownKey { place: u32, key: Short },
     /// The array of points is missing or empty.
     NoPoints,
-    /// There are more than 32 points.
+    /// There are more than [`MOST_POINTS`](crate::MOST_POINTS) points.
     TooMany { count: u64 },
     /// A point lacks this key.
     Missing { place: u32, field: MachineField },

@@ -5,99 +5,75 @@
 #![tactic(auto)]
 
 mod fault;
+mod limits;
 mod machine;
 mod read;
 
 pub use fault::{MachineFault, MachineField};
+pub use limits::{MOST_CHARGE, MOST_IDLE, MOST_MILLIVOLTS, MOST_POINTS, TOP_SPEED};
 pub use machine::{Machine, Pick, Point};
 
 #[cfg(test)]
 mod tests {
     use super::*;
+    use dvs_base::Short;
     use grid_fraction::Frac;
     use std::test::Fail;
 
-    const MACHINE_M: &str =
+    const PAPER_MACHINE: &str =
         "[[point]]\nspeed = 2\nmillivolts = 3000\n[[point]]\nspeed = 3\nmillivolts = 4000\n[[point]]\nspeed = 4\nmillivolts = 5000\n";
-
-    // The refusal's word, its place, its field, and its other number.
-    fn told(fault: &MachineFault) -> (&'static str, u32, Option<MachineField>, u64) {
-        match fault {
-            MachineFault::NotToml => ("not TOML", 0, None, 0),
-            MachineFault::UnknownKey { place, key } => (
-                "unknown key",
-                *place,
-                None,
-                key.as_bytes().len() as u64,
-            ),
-            MachineFault::NoPoints => ("no points", 0, None, 0),
-            MachineFault::TooMany { count } => ("too many", 0, None, *count),
-            MachineFault::Missing { place, field } => ("missing", *place, Some(*field), 0),
-            MachineFault::Kind { place, field } => ("kind", *place, Some(*field), 0),
-            MachineFault::Range { place, field } => ("range", *place, Some(*field), 0),
-            MachineFault::NotRising { place } => ("not rising", *place, None, 0),
-            MachineFault::NoMemory => ("no memory", 0, None, 0),
-        }
-    }
 
     #[test]
     fn the_first_trouble_is_the_refusal(rt: HostRuntime) -> Result<(), Fail> {
         let alloc = rt.alloc();
+        let missing = |place, field| MachineFault::Missing { place, field };
+        let kind = |place, field| MachineFault::Kind { place, field };
+        let range = |place, field| MachineFault::Range { place, field };
+        let unknown = |place, key: &str| MachineFault::UnknownKey {
+            place,
+            key: Short::of(key.as_bytes()),
+        };
         for (text, want) in [
-            ("", ("no points", 0, None, 0)),
-            ("point = []", ("no points", 0, None, 0)),
-            ("point = 1", ("kind", 0, Some(MachineField::Point), 0)),
-            ("point = [", ("not TOML", 0, None, 0)),
-            ("points = []\nidles = 1", ("unknown key", 0, None, 5)),
-            (
-                "idle = \"\"\ncharge = -1",
-                ("kind", 0, Some(MachineField::Idle), 0),
-            ),
-            ("idle = 1001", ("range", 0, Some(MachineField::Idle), 0)),
-            ("charge = 1.5", ("kind", 0, Some(MachineField::Charge), 0)),
+            ("", MachineFault::NoPoints),
+            ("point = []", MachineFault::NoPoints),
+            ("point = 1", kind(0, MachineField::Point)),
+            ("point = [", MachineFault::NotToml),
+            ("points = []\nidles = 1", unknown(0, "idles")),
+            ("idle = \"\"\ncharge = -1", kind(0, MachineField::Idle)),
+            ("idle = 1001", range(0, MachineField::Idle)),
+            ("charge = 1.5", kind(0, MachineField::Charge)),
             (
                 "idle = 1000\ncharge = 1000001",
-                ("range", 0, Some(MachineField::Charge), 0),
+                range(0, MachineField::Charge),
             ),
-            ("idle = 1000\ncharge = 1000000", ("no points", 0, None, 0)),
-            ("point = [1]", ("kind", 1, Some(MachineField::Entry), 0)),
-            ("point = [{volts = 1}]", ("unknown key", 1, None, 5)),
+            ("idle = 1000\ncharge = 1000000", MachineFault::NoPoints),
+            ("point = [1]", kind(1, MachineField::Entry)),
+            ("point = [{volts = 1}]", unknown(1, "volts")),
             (
                 "point = [{millivolts = 0}]",
-                ("missing", 1, Some(MachineField::Speed), 0),
+                missing(1, MachineField::Speed),
             ),
-            (
-                "point = [{speed = true}]",
-                ("kind", 1, Some(MachineField::Speed), 0),
-            ),
-            (
-                "point = [{speed = 0}]",
-                ("range", 1, Some(MachineField::Speed), 0),
-            ),
-            (
-                "point = [{speed = 1000001}]",
-                ("range", 1, Some(MachineField::Speed), 0),
-            ),
+            ("point = [{speed = true}]", kind(1, MachineField::Speed)),
+            ("point = [{speed = 0}]", range(1, MachineField::Speed)),
+            ("point = [{speed = 1000001}]", range(1, MachineField::Speed)),
             (
                 "point = [{speed = 1}]",
-                ("missing", 1, Some(MachineField::Millivolts), 0),
+                missing(1, MachineField::Millivolts),
             ),
             (
                 "point = [{speed = 1, millivolts = 20001}]",
-                ("range", 1, Some(MachineField::Millivolts), 0),
+                range(1, MachineField::Millivolts),
             ),
             (
                 "point = [{speed = 1, millivolts = 5}, {speed = 1, millivolts = 5}]",
-                ("not rising", 2, None, 0),
+                MachineFault::NotRising { place: 2 },
             ),
             (
                 "point = [{speed = 1, millivolts = 5}, {speed = 2, millivolts = 4}]",
-                ("not rising", 2, None, 0),
+                MachineFault::NotRising { place: 2 },
             ),
         ] {
-            let found = Machine::read(alloc, text.as_bytes())
-                .map_err(|fault| told(&fault))
-                .err();
+            let found = Machine::read(alloc, text.as_bytes()).err();
             assert_eq!(rt; found, Some(want), "{text}");
         }
         let mut text = String::new(alloc);
@@ -105,16 +81,16 @@ mod tests {
             let entry = format!(in alloc; "[[point]]\nspeed = {speed}\nmillivolts = 1\n")?;
             text.push_str(entry.as_str())?;
         }
-        let found = Machine::read(alloc, text.as_bytes())
-            .map_err(|fault| told(&fault))
-            .err();
-        assert_eq!(rt; found, Some(("too many", 0, None, 33)));
+        let found = Machine::read(alloc, text.as_bytes()).err();
+        assert_eq!(rt; found, Some(MachineFault::TooMany { count: 33 }));
         Ok(())
     }
 
     #[test]
     fn the_first_entry_that_meets_is_picked(rt: HostRuntime) -> Result<(), Fail> {
-        let machine = Machine::read(rt.alloc(), MACHINE_M.as_bytes()).map_err(|_| "machine M")?;
+        let machine = Machine::read(rt.alloc(), PAPER_MACHINE.as_bytes()).map_err(
+            |_| "the paper's machine",
+        )?;
         for (num, den, index, met) in [
             (836, 280, 1, true),
             (0, 1, 0, true),

@@ -1,5 +1,6 @@
 // A machine's table of speeds.
 ghost use Rattle.std.specs.Prelude.{◌≡◌, ◌<◌, ◌≤◌, ◌^◌, length, vec_len, IfOk};
+ghost use Rattle.freq_table.specs.declared.limits.TheConstants.{MOST_POINTS, MOST_IDLE, MOST_CHARGE};
 ghost use Rattle.freq_table.specs.Tables.{Table, point_at, highest_speed, lowest_pick, IsTable};
 ghost use Rattle.freq_table.specs.Limits.{ArePoints};
 
@@ -44,9 +45,9 @@ impl Machine {
     pub(crate) fn from_points(points: Vec<Point>, idle: u64, charge: u64) -> Machine
         requires limits { ArePoints points.items }
         requires some { 1 ≤ vec_len points }
-        requires few { vec_len points ≤ 32 }
-        requires idle { idle ≤ 1000 }
-        requires charge { charge ≤ 1000000 }
+        requires few { vec_len points ≤ MOST_POINTS }
+        requires idle { idle ≤ MOST_IDLE }
+        requires charge { charge ≤ MOST_CHARGE }
         ensures { result ≡ (record { points = points.items; idle = idle; charge = charge }) }
     {
         Machine {
@@ -71,9 +72,10 @@ impl Machine {
         }
     }
 
-    /// An equal machine. It fails only where memory runs out.
+    /// An equal machine, within the limits that every machine keeps. It fails only where memory runs out.
     pub fn copy(&self, alloc: Global) -> Result<Machine, NoMemory>
-        ensures { IfOk result (λ m. m ≡ self.now) }
+        ensures equal { IfOk result (λ m. m ≡ self.now) }
+        ensures limits { IfOk result (λ m. IsTable m) }
     {
         Machine::of(alloc, self.idle, self.charge, &self.points)
     }
@@ -120,24 +122,19 @@ impl Machine {
         self.points[self.points.len() - 1].speed
     }
 
-    /// The thousandths that an idle unit costs.
+    /// What an idle unit costs, in thousandths of a running unit at the same entry.
     pub fn idle(&self) -> u64
-        ensures { result ≡ self.now.idle }
+        ensures idle { result ≡ self.now.idle }
+        ensures low { result ≤ MOST_IDLE }
     {
         self.idle
     }
 
     /// The work units that a switch of speed costs.
     pub fn charge(&self) -> u64
-        ensures { result ≡ self.now.charge }
+        ensures charge { result ≡ self.now.charge }
+        ensures low { result ≤ MOST_CHARGE }
     {
         self.charge
-    }
-
-    /// The limits that every machine keeps.
-    pub fn known(&self)
-        ensures { IsTable self.now }
-    {
-        let _idle = &self.idle;
     }
 }

@@ -3,17 +3,18 @@ ghost use Rattle.std.specs.Prelude.{codes, ◌≡◌, ◌≤◌, ◌<◌, [], So
 ghost use Rattle.std.specs.Option.{option_copied};
 ghost use Rattle.toml.specs.Data.{get_member};
 ghost use Rattle.toml.specs.View.{view, table_view, items_view};
-ghost use Rattle.dvs_base.specs.Checks.{IsUnlessMemory};
-ghost use Rattle.toml_tree.specs.Tree.{number_at};
+ghost use Rattle.dvs_base.specs.Settings.{number_at};
+ghost use Rattle.freq_table.specs.declared.limits.TheConstants.{MOST_POINTS};
 ghost use Rattle.freq_table.specs.Tables.{IsPoint};
 ghost use Rattle.freq_table.specs.Limits.{ArePoints};
-ghost use Rattle.freq_table.specs.MachineFile.{fault_at, at_field, setting_at, point_of_members, point_of, may_follow, last_of, points_from, entries_from, points_at, table_of_document, machine_file};
+ghost use Rattle.freq_table.specs.MachineFile.{Means, fault_at, at_field, setting_at, point_of_members, point_of, may_follow, last_of, points_from, entries_from, points_at, table_of_document, machine_file};
 
 use crate::fault::{MachineFault, MachineField};
+use crate::limits::{MOST_CHARGE, MOST_IDLE, MOST_MILLIVOLTS, MOST_POINTS, TOP_SPEED};
 use crate::machine::{Machine, Point};
+use dvs_base::{DocumentFault, MemberFault, member_at, number_at, read_document, unknown_key};
 use std::alloc::Global;
 use toml::{Table, Value};
-use toml_tree::{DocumentFault, MemberFault, member_at, number_at, read_document, unknown_key};
 
 fn fault_at(place: u32, field: MachineField, fault: MemberFault) -> MachineFault
     ensures { result ≡ fault_at place field fault }
@@ -64,8 +65,14 @@ fn read_members(place: u32, table: &Table) -> Result<Point, MachineFault>
     if let Some(key) = unknown_key(table, &["speed", "millivolts"]) {
         return Err(MachineFault::UnknownKey { place, key });
     }
-    let speed = read_number(place, MachineField::Speed, "speed", 1_000_000, table)?;
-    let millivolts = read_number(place, MachineField::Millivolts, "millivolts", 20_000, table)?;
+    let speed = read_number(place, MachineField::Speed, "speed", TOP_SPEED, table)?;
+    let millivolts = read_number(
+        place,
+        MachineField::Millivolts,
+        "millivolts",
+        MOST_MILLIVOLTS,
+        table,
+    )?;
     Ok(Point { speed, millivolts })
 }
 
@@ -94,8 +101,8 @@ fn may_follow(points: &[Point], x: Point) -> bool
 
 // The points of the entries, which are few.
 fn read_entries(alloc: Global, entries: &[Value]) -> Result<Vec<Point>, MachineFault>
-    requires { length entries.now ≤ 32 }
-    ensures meaning { IsUnlessMemory MachineFault.NoMemory (λ v. v.items) result (points_from [] (items_view entries.now)) }
+    requires { length entries.now ≤ MOST_POINTS }
+    ensures meaning { Means (λ v. v.items) result (points_from [] (items_view entries.now)) }
     ensures limits { IfOk result (λ v. ArePoints v.items) }
     ensures count { IfOk result (λ v. vec_len v ≡ length entries.now) }
 {
@@ -114,15 +121,15 @@ fn read_entries(alloc: Global, entries: &[Value]) -> Result<Vec<Point>, MachineF
 }
 
 fn read_array(alloc: Global, entries: &[Value]) -> Result<Vec<Point>, MachineFault>
-    ensures meaning { IsUnlessMemory MachineFault.NoMemory (λ v. v.items) result (entries_from (Some (items_view entries.now))) }
+    ensures meaning { Means (λ v. v.items) result (entries_from (Some (items_view entries.now))) }
     ensures limits { IfOk result (λ v. ArePoints v.items) }
     ensures some { IfOk result (λ v. 1 ≤ vec_len v) }
-    ensures few { IfOk result (λ v. vec_len v ≤ 32) }
+    ensures few { IfOk result (λ v. vec_len v ≤ MOST_POINTS) }
 {
     if entries.is_empty() {
         return Err(MachineFault::NoPoints);
     }
-    if entries.len() > 32 {
+    if entries.len() > MOST_POINTS {
         return Err(MachineFault::TooMany {
             count: entries.len() as u64,
         });
@@ -131,10 +138,10 @@ fn read_array(alloc: Global, entries: &[Value]) -> Result<Vec<Point>, MachineFau
 }
 
 fn read_points(alloc: Global, table: &Table) -> Result<Vec<Point>, MachineFault>
-    ensures meaning { IsUnlessMemory MachineFault.NoMemory (λ v. v.items) result (points_at (get_member (codes "point") (table_view table.now))) }
+    ensures meaning { Means (λ v. v.items) result (points_at (get_member (codes "point") (table_view table.now))) }
     ensures limits { IfOk result (λ v. ArePoints v.items) }
     ensures some { IfOk result (λ v. 1 ≤ vec_len v) }
-    ensures few { IfOk result (λ v. vec_len v ≤ 32) }
+    ensures few { IfOk result (λ v. vec_len v ≤ MOST_POINTS) }
 {
     let value = match member_at(table, "point") {
         Some(value) => value,
@@ -150,13 +157,13 @@ fn read_points(alloc: Global, table: &Table) -> Result<Vec<Point>, MachineFault>
 }
 
 fn read_table(alloc: Global, table: &Table) -> Result<Machine, MachineFault>
-    ensures { IsUnlessMemory MachineFault.NoMemory (λ m. m) result (table_of_document (Some (table_view table.now))) }
+    ensures { Means (λ m. m) result (table_of_document (Some (table_view table.now))) }
 {
     if let Some(key) = unknown_key(table, &["charge", "idle", "point"]) {
         return Err(MachineFault::UnknownKey { place: 0, key });
     }
-    let idle = read_setting(MachineField::Idle, "idle", 1000, table)?;
-    let charge = read_setting(MachineField::Charge, "charge", 1_000_000, table)?;
+    let idle = read_setting(MachineField::Idle, "idle", MOST_IDLE, table)?;
+    let charge = read_setting(MachineField::Charge, "charge", MOST_CHARGE, table)?;
     match read_points(alloc, table) {
         Ok(points) => Ok(Machine::from_points(points, idle, charge)),
         Err(fault) => Err(fault),
@@ -168,7 +175,7 @@ impl Machine {
     /// and its `millivolts`, and beside it the numbers `idle` and `charge`, which are 0 where they are absent. Else the
     /// file's first refusal, unless memory runs out.
     pub fn read(alloc: Global, bytes: &[u8]) -> Result<Machine, MachineFault>
-        ensures { IsUnlessMemory MachineFault.NoMemory (λ m. m) result (machine_file bytes.now) }
+        ensures { Means (λ m. m) result (machine_file bytes.now) }
     {
         let table = match read_document(alloc, bytes) {
             Ok(table) => table,

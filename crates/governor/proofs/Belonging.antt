@@ -11,7 +11,7 @@ use Rattle.sched_model.specs.declared.state.Row.{Row}
 use Rattle.sched_model.specs.Plan.{Plan, count, period, offset, worst}
 use Rattle.sched_model.specs.Jobs.{latest_since}
 use Rattle.sched_model.specs.Jobs.{due as due_at}
-use Rattle.sched_model.specs.Demands.{IsWithin}
+use Rattle.sched_model.specs.Demands.{IsWithin, JobDemands}
 use Rattle.sched_model.specs.Admission.{IsWithinLimits}
 use Rattle.sched_model.specs.States.{StateOf, row_at, no_row, row_wleft, opening, opening_row}
 use Rattle.sched_model.proofs.LevelSums.{share-most, greatest-above, greatest-least, greatest-same}
@@ -19,11 +19,11 @@ use Rattle.sched_model.proofs.ScheduleLemmas.{length-list_below}
 use Rattle.sched_model.proofs.JobLaws.{due-none, due-suc, le-due, release-due, latest_since-pos, latest_since-suc}
 use Rattle.sched_model.proofs.Tables.{get-table}
 use Rattle.sched_model.proofs.Limits.{some_task, some_period, low_period}
-use Rattle.governor.specs.Steps.{earliest, is_due, boundary_row, opened_row, after_boundary, share, left, left_of, key_of, release_of, last_marked, IsLegal, after_tick, tick_row, IsBeforeAll, IsAtDecision, Belongs}
+use Rattle.governor.specs.Steps.{earliest_in, is_due, boundary_row, opened_row, after_boundary, share_in, left_in, left_of, key_in, release_of, last_marked, IsLegalIn, after_tick, tick_row, IsBeforeAll, IsAtDecision, Belongs}
 use Rattle.governor.proofs.Rows.{length-each_row, get-each_row, none_due_at, some_due_at}
 
 -- what one row of a state that belongs keeps
-pub record RowOk (plan : Plan) (dem : ℕ → ℕ → ℕ) (now i : ℕ) (row : Row) : Type 0 where
+pub record RowOk (plan : Plan) (dem : JobDemands) (now i : ℕ) (row : Row) : Type 0 where
   pub worst : row.worst ≡ worst plan i
   pub used : row.used ≤ row.worst
   pub due : now ≤ row.deadline
@@ -31,12 +31,11 @@ pub record RowOk (plan : Plan) (dem : ℕ → ℕ → ℕ) (now i : ℕ) (row : 
   pub released : release_of plan i row ≤ now
   pub open_job : row.done ≡ false → row.used < dem i row.job
   pub closed_job : row.done ≡ true → 0 < row.job → row.used ≡ dem i row.job
-  pub no_job : row.job ≡ 0 → (row.done ≡ true) × (row.used ≡ 0)
 
-pub row_ok : (plan : Plan) (dem : ℕ → ℕ → ℕ) (s : StateOf) → Belongs plan dem s → (i : ℕ) → i < count plan → RowOk plan dem s.now i (row_at s i)
-row_ok plan dem s bel i h = record { worst = bel.of.worst i h; used = bel.of.used i h; due = bel.due i h; deadline = bel.deadline i h; released = bel.released i h; open_job = bel.open_job i h; closed_job = bel.closed_job i h; no_job = bel.no_job i h }
+pub row_ok : (plan : Plan) (dem : JobDemands) (s : StateOf) → Belongs plan dem s → (i : ℕ) → i < count plan → RowOk plan dem s.now i (row_at s i)
+row_ok plan dem s bel i h = record { worst = bel.of.worst i h; used = bel.of.used i h; due = bel.due i h; deadline = bel.deadline i h; released = bel.released i h; open_job = bel.open_job i h; closed_job = bel.closed_job i h }
 
-belongs_of_rows : (plan : Plan) (dem : ℕ → ℕ → ℕ) (s : StateOf) → length s.rows ≡ count plan → length s.base ≡ count plan → s.base_at ≡ last_marked plan s → ((i : ℕ) → i < count plan → row_wleft (row_at s i) ≤ slice_index s.base i) → IsWithin plan dem → ((i : ℕ) → i < count plan → RowOk plan dem s.now i (row_at s i)) → Belongs plan dem s
+belongs_of_rows : (plan : Plan) (dem : JobDemands) (s : StateOf) → length s.rows ≡ count plan → length s.base ≡ count plan → s.base_at ≡ last_marked plan s → ((i : ℕ) → i < count plan → row_wleft (row_at s i) ≤ slice_index s.base i) → IsWithin plan dem → ((i : ℕ) → i < count plan → RowOk plan dem s.now i (row_at s i)) → Belongs plan dem s
 belongs_of_rows plan dem s rows base marked bases demand each = record {
   of = record { rows = rows; base = base; worst = λ i h. (each i h).worst; used = λ i h. (each i h).used };
   demand = demand;
@@ -47,17 +46,26 @@ belongs_of_rows plan dem s rows base marked bases demand each = record {
   base = bases;
   open_job = λ i h. (each i h).open_job;
   closed_job = λ i h. (each i h).closed_job;
-  no_job = λ i h. (each i h).no_job;
 }
 
+-- job 0 has no demand, so its row is complete
+pub unborn_done : (plan : Plan) (dem : JobDemands) (s : StateOf) → Belongs plan dem s → (i : ℕ) → i < count plan → (row_at s i).job ≡ 0 → (row_at s i).done ≡ true
+unborn_done plan dem s bel i h none =
+    elim (cases_Bool (row_at s i).done) [
+      | inl closed ↦ closed
+      | inr still ↦
+          let nothing : dem i (row_at s i).job ≡ 0 = ap (dem i) none ∙ bel.demand.none i in
+          absurd (omega (arith, bel.open_job i h still, nothing))
+    ]
+
 -- a task's number is a place of its row
-pub in_rows : (plan : Plan) (dem : ℕ → ℕ → ℕ) (s : StateOf) → Belongs plan dem s → (i : ℕ) → i < count plan → i < length s.rows
+pub in_rows : (plan : Plan) (dem : JobDemands) (s : StateOf) → Belongs plan dem s → (i : ℕ) → i < count plan → i < length s.rows
 in_rows plan dem s bel i h = omega (arith, bel.of.rows)
 
 pub opening_at : (plan : Plan) (i : ℕ) → i < count plan → row_at (opening plan) i ≡ opening_row (offset plan i) (worst plan i)
 opening_at plan i h = get-table (count plan) (λ k. opening_row (offset plan k) (worst plan k)) i no_row h
 
-opening_row_ok : (plan : Plan) (dem : ℕ → ℕ → ℕ) (i : ℕ) → RowOk plan dem 0 i (opening_row (offset plan i) (worst plan i))
+opening_row_ok : (plan : Plan) (dem : JobDemands) (i : ℕ) → RowOk plan dem 0 i (opening_row (offset plan i) (worst plan i))
 opening_row_ok plan dem i = record {
   worst = refl;
   used = omega arith;
@@ -66,10 +74,9 @@ opening_row_ok plan dem i = record {
   released = omega arith;
   open_job = λ h. absurd (let t : true ≡ false = h in cc);
   closed_job = λ h pos. absurd (omega arith);
-  no_job = λ h. (refl, refl);
 }
 
-pub belongs_opening : (plan : Plan) (dem : ℕ → ℕ → ℕ) → IsWithin plan dem → Belongs plan dem (opening plan)
+pub belongs_opening : (plan : Plan) (dem : JobDemands) → IsWithin plan dem → Belongs plan dem (opening plan)
 belongs_opening plan dem fits =
     let ok : (i : ℕ) → i < count plan → RowOk plan dem 0 i (row_at (opening plan) i) =
     λ i h. subst (λ (row : Row). RowOk plan dem 0 i row) (sym (opening_at plan i h)) (opening_row_ok plan dem i) in
@@ -83,11 +90,11 @@ eqb_pos zero e = absurd (let t : true ≡ false = e in cc)
 eqb_pos (suc n) e = omega arith
 
 -- the next job is released where this one is due
-pub opened_release : (plan : Plan) (dem : ℕ → ℕ → ℕ) (i : ℕ) (row : Row) → row.deadline ≡ due_at plan i row.job → release_of plan i (opened_row plan dem i row) ≡ row.deadline
+pub opened_release : (plan : Plan) (dem : JobDemands) (i : ℕ) (row : Row) → row.deadline ≡ due_at plan i row.job → release_of plan i (opened_row plan dem i row) ≡ row.deadline
 opened_release plan dem i row e = latest_since-suc plan i row.job ∙ sym e
 
 -- a row at a boundary
-opened_row_ok : (plan : Plan) (dem : ℕ → ℕ → ℕ) (now i : ℕ) (row : Row) → row.deadline ≡ now → RowOk plan dem now i row → RowOk plan dem now i (opened_row plan dem i row)
+opened_row_ok : (plan : Plan) (dem : JobDemands) (now i : ℕ) (row : Row) → row.deadline ≡ now → RowOk plan dem now i row → RowOk plan dem now i (opened_row plan dem i row)
 opened_row_ok plan dem now i row at_now ok = record {
   worst = ok.worst;
   used = omega arith;
@@ -96,10 +103,9 @@ opened_row_ok plan dem now i row at_now ok = record {
   released = (let e = opened_release plan dem i row ok.deadline in omega arith);
   open_job = λ e. eqb_pos (dem i (row.job + 1)) e;
   closed_job = λ e pos. sym (eqb-true (dem i (row.job + 1)) 0 e);
-  no_job = λ e. absurd (let e' : row.job + 1 ≡ 0 = e in omega arith);
 }
 
-row_at_boundary : (plan : Plan) (dem : ℕ → ℕ → ℕ) (now i : ℕ) (row : Row) → RowOk plan dem now i row → RowOk plan dem now i (boundary_row plan dem now i row)
+row_at_boundary : (plan : Plan) (dem : JobDemands) (now i : ℕ) (row : Row) → RowOk plan dem now i row → RowOk plan dem now i (boundary_row plan dem now i row)
 row_at_boundary plan dem now i row ok =
     let P : Bool → Type 0 = λ (b : Bool). RowOk plan dem now i (if b then opened_row plan dem i row else row) in
     elim (cases_Bool (is_due now row)) [
@@ -107,19 +113,19 @@ row_at_boundary plan dem now i row ok =
       | inr later ↦ subst P (sym later) ok
     ]
 
-pub boundary_at : (plan : Plan) (dem : ℕ → ℕ → ℕ) (s : StateOf) (i : ℕ) → i < length s.rows → row_at (after_boundary plan dem s) i ≡ boundary_row plan dem s.now i (row_at s i)
+pub boundary_at : (plan : Plan) (dem : JobDemands) (s : StateOf) (i : ℕ) → i < length s.rows → row_at (after_boundary plan dem s) i ≡ boundary_row plan dem s.now i (row_at s i)
 boundary_at plan dem s i h = get-each_row (boundary_row plan dem s.now) s.rows i h
 
-pub boundary_long : (plan : Plan) (dem : ℕ → ℕ → ℕ) (s : StateOf) → length (after_boundary plan dem s).rows ≡ length s.rows
+pub boundary_long : (plan : Plan) (dem : JobDemands) (s : StateOf) → length (after_boundary plan dem s).rows ≡ length s.rows
 boundary_long plan dem s = length-each_row (boundary_row plan dem s.now) 0 s.rows
 
-pub tick_at : (dem : ℕ → ℕ → ℕ) (shares : List ℕ) (s : StateOf) (i : ℕ) → i < length s.rows → row_at (after_tick dem shares s) i ≡ tick_row dem shares i (row_at s i)
+pub tick_at : (dem : JobDemands) (shares : List ℕ) (s : StateOf) (i : ℕ) → i < length s.rows → row_at (after_tick dem shares s) i ≡ tick_row dem shares i (row_at s i)
 tick_at dem shares s i h = get-each_row (tick_row dem shares) s.rows i h
 
-pub tick_long : (dem : ℕ → ℕ → ℕ) (shares : List ℕ) (s : StateOf) → length (after_tick dem shares s).rows ≡ length s.rows
+pub tick_long : (dem : JobDemands) (shares : List ℕ) (s : StateOf) → length (after_tick dem shares s).rows ≡ length s.rows
 tick_long dem shares s = length-each_row (tick_row dem shares) 0 s.rows
 
-boundary_rows_ok : (plan : Plan) (dem : ℕ → ℕ → ℕ) (s : StateOf) → Belongs plan dem s → (i : ℕ) → i < count plan → RowOk plan dem s.now i (row_at (after_boundary plan dem s) i)
+boundary_rows_ok : (plan : Plan) (dem : JobDemands) (s : StateOf) → Belongs plan dem s → (i : ℕ) → i < count plan → RowOk plan dem s.now i (row_at (after_boundary plan dem s) i)
 boundary_rows_ok plan dem s bel i h =
     rw (boundary_at plan dem s i (in_rows plan dem s bel i h))
     (row_at_boundary plan dem s.now i (row_at s i) (row_ok plan dem s bel i h))
@@ -129,7 +135,7 @@ length_if true xs ys n p q = p
 length_if false xs ys n p q = q
 
 -- the base of each row covers what it may need
-base_covers : (plan : Plan) (dem : ℕ → ℕ → ℕ) (s : StateOf) → Belongs plan dem s → (i : ℕ) → i < count plan → (b : Bool) → list_any (is_due s.now) s.rows ≡ b → row_wleft (row_at (after_boundary plan dem s) i) ≤ slice_index (if b then map row_wleft (after_boundary plan dem s).rows else s.base) i
+base_covers : (plan : Plan) (dem : JobDemands) (s : StateOf) → Belongs plan dem s → (i : ℕ) → i < count plan → (b : Bool) → list_any (is_due s.now) s.rows ≡ b → row_wleft (row_at (after_boundary plan dem s) i) ≤ slice_index (if b then map row_wleft (after_boundary plan dem s).rows else s.base) i
 base_covers plan dem s bel i h true some =
     let rows = (after_boundary plan dem s).rows in
     let within : i < length rows = omega (arith, boundary_long plan dem s, bel.of.rows) in
@@ -142,7 +148,7 @@ base_covers plan dem s bel i h false none =
     rw (boundary_at plan dem s i here) (subst P (sym still) (bel.base i h))
 
 -- the mark is the last release
-marked_at : (plan : Plan) (dem : ℕ → ℕ → ℕ) (s : StateOf) → Belongs plan dem s → (b : Bool) → list_any (is_due s.now) s.rows ≡ b → (if b then s.now else s.base_at) ≡ last_marked plan (after_boundary plan dem s)
+marked_at : (plan : Plan) (dem : JobDemands) (s : StateOf) → Belongs plan dem s → (b : Bool) → list_any (is_due s.now) s.rows ≡ b → (if b then s.now else s.base_at) ≡ last_marked plan (after_boundary plan dem s)
 marked_at plan dem s bel true some =
     let t = after_boundary plan dem s in
     let release : ℕ → ℕ = λ i. release_of plan i (row_at t i) in
@@ -166,7 +172,7 @@ marked_at plan dem s bel false none =
     let P : Bool → Type 0 = λ (b : Bool). release_of plan i (row_at s i) ≡ release_of plan i (if b then opened_row plan dem i (row_at s i) else row_at s i) in
     rw (boundary_at plan dem s i here) (subst P (sym still) refl))
 
-pub belongs_boundary : (plan : Plan) (dem : ℕ → ℕ → ℕ) (s : StateOf) → Belongs plan dem s → Belongs plan dem (after_boundary plan dem s)
+pub belongs_boundary : (plan : Plan) (dem : JobDemands) (s : StateOf) → Belongs plan dem s → Belongs plan dem (after_boundary plan dem s)
 belongs_boundary plan dem s bel =
     let b = after_boundary plan dem s in
     let any = list_any (is_due s.now) s.rows in
@@ -179,7 +185,7 @@ belongs_boundary plan dem s bel =
     (boundary_rows_ok plan dem s bel)
 
 -- a row at a boundary is due later
-due_later : (plan : Plan) (dem : ℕ → ℕ → ℕ) (now i : ℕ) (row : Row) → 0 < period plan i → now ≤ row.deadline → now < (boundary_row plan dem now i row).deadline
+due_later : (plan : Plan) (dem : JobDemands) (now i : ℕ) (row : Row) → 0 < period plan i → now ≤ row.deadline → now < (boundary_row plan dem now i row).deadline
 due_later plan dem now i row pos due =
     let P : Bool → Type 0 = λ (b : Bool). now < (if b then opened_row plan dem i row else row).deadline in
     elim (cases_Bool (is_due now row)) [
@@ -188,7 +194,7 @@ due_later plan dem now i row pos due =
     ]
 
 -- job numbers are at most the deadlines
-pub numbered : (plan : Plan) (dem : ℕ → ℕ → ℕ) (s : StateOf) → IsWithinLimits plan → Belongs plan dem s → (i : ℕ) → i < count plan → (row_at s i).job ≤ (row_at s i).deadline
+pub numbered : (plan : Plan) (dem : JobDemands) (s : StateOf) → IsWithinLimits plan → Belongs plan dem s → (i : ℕ) → i < count plan → (row_at s i).job ≤ (row_at s i).deadline
 numbered plan dem s lim bel i h =
     omega (arith, bel.deadline i h, le-due plan i (row_at s i).job (some_period plan lim i h))
 
@@ -201,7 +207,7 @@ due_low : (plan : Plan) → IsWithinLimits plan → (i job : ℕ) → i < count 
 due_low plan lim i zero h = let first : offset plan i ≤ 2 ^ 40 = (lim.tasks.each i h).low_offset in omega (arith, due-none plan i, first)
 due_low plan lim i (suc k) h = omega (arith, due_soon plan i (suc k) (omega arith), low_period plan lim i h)
 
-pub decision_boundary : (plan : Plan) (dem : ℕ → ℕ → ℕ) (s : StateOf) → IsWithinLimits plan → Belongs plan dem s → IsAtDecision plan (after_boundary plan dem s)
+pub decision_boundary : (plan : Plan) (dem : JobDemands) (s : StateOf) → IsWithinLimits plan → Belongs plan dem s → IsAtDecision plan (after_boundary plan dem s)
 decision_boundary plan dem s lim bel =
     let t = after_boundary plan dem s in
     let bel' = belongs_boundary plan dem s bel in
@@ -233,10 +239,6 @@ now_closed : (done : Bool) (used need sh job : ℕ) → (done ≡ true → 0 < j
 now_closed true used need sh job o c e pos = omega (arith, o refl pos)
 now_closed false used need sh job o c e pos = eqb-true (used + sh) need e
 
-none_yet : (done : Bool) (used need sh : ℕ) → done ≡ true → used ≡ 0 → sh ≤ (if done then 0 else need - used) → ((done || (used + sh == need)) ≡ true) × (used + sh ≡ 0)
-none_yet true used need sh e z c = (refl, omega arith)
-none_yet false used need sh e z c = absurd (let t : false ≡ true = e in cc)
-
 falls_if : (b : Bool) (worst used sh : ℕ) → (if b then 0 else worst - (used + sh)) ≤ worst - used
 falls_if true worst used sh = omega arith
 falls_if false worst used sh = omega arith
@@ -245,23 +247,22 @@ wleft_falls : (done : Bool) (worst used sh need : ℕ) → (if (done || (used + 
 wleft_falls true worst used sh need = omega arith
 wleft_falls false worst used sh need = falls_if (used + sh == need) worst used sh
 
-row_after_tick : (plan : Plan) (dem : ℕ → ℕ → ℕ) (shares : List ℕ) (now i : ℕ) (row : Row) → ((k : ℕ) → dem i k ≤ worst plan i) → now < row.deadline → share shares i ≤ left_of dem i row → RowOk plan dem now i row → RowOk plan dem (now + 1) i (tick_row dem shares i row)
+row_after_tick : (plan : Plan) (dem : JobDemands) (shares : List ℕ) (now i : ℕ) (row : Row) → ((k : ℕ) → dem i k ≤ worst plan i) → now < row.deadline → share_in shares i ≤ left_of dem i row → RowOk plan dem now i row → RowOk plan dem (now + 1) i (tick_row dem shares i row)
 row_after_tick plan dem shares now i row fits before most ok = record {
   worst = ok.worst;
-  used = units_fit row.done row.used row.worst (dem i row.job) (share shares i) ok.used (rw ok.worst (fits row.job)) most;
+  used = units_fit row.done row.used row.worst (dem i row.job) (share_in shares i) ok.used (rw ok.worst (fits row.job)) most;
   due = omega arith;
   deadline = ok.deadline;
   released = omega (arith, ok.released);
-  open_job = still_open row.done row.used (dem i row.job) (share shares i) ok.open_job most;
-  closed_job = now_closed row.done row.used (dem i row.job) (share shares i) row.job ok.closed_job most;
-  no_job = λ e. (let z = ok.no_job e in none_yet row.done row.used (dem i row.job) (share shares i) z.0 z.1 most);
+  open_job = still_open row.done row.used (dem i row.job) (share_in shares i) ok.open_job most;
+  closed_job = now_closed row.done row.used (dem i row.job) (share_in shares i) row.job ok.closed_job most;
 }
 
 -- no task gets more than it needs in a legal tick
-pub legal_most : (plan : Plan) (dem : ℕ → ℕ → ℕ) (f : ℕ) (s : StateOf) (shares : List ℕ) → IsLegal plan dem f s shares → (i : ℕ) → i < count plan → share shares i ≤ left dem s i
-legal_most plan dem f s shares legal i h = share-most (count plan) (key_of plan.scheduler plan s) f (left dem s) (share shares) legal.out i h
+pub legal_most : (plan : Plan) (dem : JobDemands) (f : ℕ) (s : StateOf) (shares : List ℕ) → IsLegalIn plan dem f s shares → (i : ℕ) → i < count plan → share_in shares i ≤ left_in dem s i
+legal_most plan dem f s shares legal i h = share-most (count plan) (key_in plan.scheduler plan s) f (left_in dem s) (share_in shares) legal.out i h
 
-pub belongs_tick : (plan : Plan) (dem : ℕ → ℕ → ℕ) (f : ℕ) (s : StateOf) (shares : List ℕ) → Belongs plan dem s → IsBeforeAll plan s → IsLegal plan dem f s shares → Belongs plan dem (after_tick dem shares s)
+pub belongs_tick : (plan : Plan) (dem : JobDemands) (f : ℕ) (s : StateOf) (shares : List ℕ) → Belongs plan dem s → IsBeforeAll plan s → IsLegalIn plan dem f s shares → Belongs plan dem (after_tick dem shares s)
 belongs_tick plan dem f s shares bel before legal =
     let t = after_tick dem shares s in
     let here : (i : ℕ) → i < count plan → i < length s.rows = in_rows plan dem s bel in
@@ -269,10 +270,14 @@ belongs_tick plan dem f s shares bel before legal =
     bel.base_at
     ∙ greatest-same (count plan) (λ i. release_of plan i (row_at s i)) (λ i. release_of plan i (row_at t i)) (λ i h. rw (tick_at dem shares s i (here i h)) refl) in
     belongs_of_rows plan dem t (tick_long dem shares s ∙ bel.of.rows) bel.of.base same
-    (λ i h. rw (tick_at dem shares s i (here i h)) (let r = wleft_falls (row_at s i).done (row_at s i).worst (row_at s i).used (share shares i) (dem i (row_at s i).job) in let b = bel.base i h in le_trans r b))
+    (λ i h. rw (tick_at dem shares s i (here i h)) (let r = wleft_falls (row_at s i).done (row_at s i).worst (row_at s i).used (share_in shares i) (dem i (row_at s i).job) in let b = bel.base i h in le_trans r b))
     bel.demand
     (λ i h. rw (tick_at dem shares s i (here i h)) (row_after_tick plan dem shares s.now i (row_at s i) (λ k. bel.demand.most i k h) (before i h) (legal_most plan dem f s shares legal i h) (row_ok plan dem s bel i h)))
 
 -- before all deadlines, the earliest one is later than now
-pub earliest-later : (plan : Plan) → IsWithinLimits plan → (s : StateOf) → IsBeforeAll plan s → s.now < earliest plan s
+pub earliest-later : (plan : Plan) → IsWithinLimits plan → (s : StateOf) → IsBeforeAll plan s → s.now < earliest_in plan s
 earliest-later plan lim s before = least-above (count plan) (λ i. (row_at s i).deadline) (suc s.now) (some_task plan lim) before
+
+-- no deadline lies before now
+pub earliest-from : (plan : Plan) → IsWithinLimits plan → (dem : JobDemands) (s : StateOf) → Belongs plan dem s → s.now ≤ earliest_in plan s
+earliest-from plan lim dem s bel = least-above (count plan) (λ i. (row_at s i).deadline) s.now (some_task plan lim) bel.due

@@ -7,7 +7,7 @@ use Rattle.grid_fraction.specs.declared.Frac.{Frac}
 use Rattle.freq_table.specs.Tables.{lowest_entry, lowest_pick, speed_at}
 use Rattle.sched_model.specs.declared.state.Row.{Row}
 use Rattle.sched_model.specs.Plan.{Plan, count, period}
-use Rattle.sched_model.specs.Demands.{IsWithin}
+use Rattle.sched_model.specs.Demands.{IsWithin, JobDemands}
 use Rattle.sched_model.specs.Admission.{IsAdmitted}
 use Rattle.sched_model.specs.Deadlines.{IsMet}
 use Rattle.sched_model.specs.Jobs.{latest, due, is_release}
@@ -22,15 +22,16 @@ use Rattle.sched_model.proofs.ScheduleLemmas.{next_tick-may, schedule_exists, sc
 use Rattle.sched_model.proofs.Tables.{get-table}
 use Rattle.sched_model.proofs.JobLaws.{latest-is, release-due}
 use Rattle.sched_model.proofs.Joining.{state-still}
-use Rattle.governor.specs.Steps.{IsAtDecision, IsLegal, Belongs}
-use Rattle.governor.specs.Laws.{GovernorLaws}
+use Rattle.governor.specs.Meanings.{Serving, OwnDemand, Condition, EntryCondition}
+use Rattle.governor.specs.Steps.{IsAtDecision, IsLegalIn, Belongs}
+use Rattle.governor.specs.Laws.{GovernorLaws, InRun}
 use Rattle.governor.specs.Schedule.{ask_of, course}
 use Rattle.governor.proofs.Rows.{or_false_left}
 use Rattle.governor.proofs.Joins.{boundary-is, tick-is, legal-is}
 use Rattle.governor.proofs.Belonging.{belongs_opening, belongs_boundary, belongs_tick, decision_boundary}
 
 -- the ticks of a schedule up to r are those of the shorter one
-pub at-schedule : (p : Plan) (dem : ℕ → ℕ → ℕ) (ask : List Tick → Frac) (t r : ℕ) → r ≤ t → at r (schedule_by p dem ask t) ≡ schedule_by p dem ask r
+pub at-schedule : (p : Plan) (dem : JobDemands) (ask : List Tick → Frac) (t r : ℕ) → r ≤ t → at r (schedule_by p dem ask t) ≡ schedule_by p dem ask r
 at-schedule p dem ask t r le = ap (λ n. drop (n - r) (schedule_by p dem ask t)) (schedule_exists p dem ask t).1 ∙ go t le
   where
     go : (t : ℕ) → r ≤ t → drop (t - r) (schedule_by p dem ask t) ≡ schedule_by p dem ask r
@@ -45,9 +46,12 @@ at-schedule p dem ask t r le = ap (λ n. drop (n - r) (schedule_by p dem ask t))
             ∙ (ap (drop (suc (t - r))) (schedule-suc p dem ask t)
             ∙ ih (omega arith))
 
-module _ (kind : GovernorKind) (serves : Scheduler → Type 0) (demand : Plan → StateOf → Frac) (calm : Plan → StateOf → Type 0) (safe : Plan → StateOf → ℕ → Type 0) (laws : GovernorLaws kind serves demand calm safe) (p : Plan) (dem : ℕ → ℕ → ℕ) (adm : IsAdmitted p) (within : IsWithin p dem) (served : serves p.scheduler) where
+module _ (kind : GovernorKind) (serves : Serving) (demand : OwnDemand) (calm : Condition) (safe : EntryCondition) (laws : GovernorLaws kind serves demand calm safe) (p : Plan) (dem : JobDemands) (adm : IsAdmitted p) (within : IsWithin p dem) (served : serves p.scheduler) where
   periods : (i : ℕ) → 0 < period p i
   periods = every_period p adm.limits
+
+  in_run : {s : StateOf} → Belongs p dem s → InRun serves p dem s
+  in_run bel = record { admitted = adm; served = served; belongs = bel }
 
   abbrev pub ask : List Tick → Frac
   ask = ask_of demand p dem
@@ -71,7 +75,7 @@ module _ (kind : GovernorKind) (serves : Scheduler → Type 0) (demand : Plan �
   pub calm-state : (past : List Tick) → Kept past → calm p (state_of p dem past)
   calm-state past k =
       subst (calm p) (boundary-is p dem periods within.none past)
-      (laws.releases p dem (prior_state p dem past) adm served k.belongs k.is_calm)
+      (laws.releases p dem (prior_state p dem past) (in_run k.belongs) k.is_calm)
 
   pub decides-state : (past : List Tick) → Kept past → IsAtDecision p (state_of p dem past)
   decides-state past k = subst (IsAtDecision p) (boundary-is p dem periods within.none past) (decision_boundary p dem (prior_state p dem past) adm.limits k.belongs)
@@ -86,7 +90,7 @@ module _ (kind : GovernorKind) (serves : Scheduler → Type 0) (demand : Plan �
       go : (d : Bool) → is_decision p dem past ≡ d → safe p (state_of p dem past) (entry_at past)
       go true e =
           subst (safe p (state_of p dem past)) (sym (force-decided p dem ask past e))
-          (laws.chooses p dem (state_of p dem past) adm served (belongs-state past k) (decides-state past k) (calm-state past k))
+          (laws.chooses p dem (state_of p dem past) (in_run (belongs-state past k)) (decides-state past k) (calm-state past k))
       go false e =
           subst (λ s. safe p s (entry_at past)) (state-still p dem periods past within.none (no-release past e))
           (k.is_safe e)
@@ -97,7 +101,7 @@ module _ (kind : GovernorKind) (serves : Scheduler → Type 0) (demand : Plan �
   own : (past : List Tick) (i : ℕ) → i < count p → share (tick past) i ≤ left_at p dem past i
   own past i lt = omega (arith, get-table (count p) (allotment (count p) (key_of p.scheduler p (length past)) (speed_now past) (left_at p dem past)) i 0 lt)
 
-  legal : (past : List Tick) → IsLegal p dem (speed_now past) (state_of p dem past) (tick past).shares
+  legal : (past : List Tick) → IsLegalIn p dem (speed_now past) (state_of p dem past) (tick past).shares
   legal past =
       let may : IsNext p dem ask past (tick past) = next_tick-may p dem ask past in
       legal-is p dem periods within.none (tick past) past (speed_now past) may.one_share_each may.legal
@@ -105,8 +109,11 @@ module _ (kind : GovernorKind) (serves : Scheduler → Type 0) (demand : Plan �
   safe-next : (past : List Tick) → Kept past → safe p (prior_state p dem (tick past ∷ past)) (entry_at past)
   safe-next past k =
       subst (λ s. safe p s (entry_at past)) (tick-is p dem periods within.none (tick past) past (own past))
-      (laws.ticks p dem (state_of p dem past) (entry_at past) (tick past).shares adm served (belongs-state past k) (decides-state past k).before
-      (force-within p dem ask adm.limits.machine.some past) (legal past) (safe-state past k))
+      (laws.ticks p dem (state_of p dem past) (in_run (belongs-state past k)) (entry_at past) (safe-state past k) (tick past).shares (record {
+        before = (decides-state past k).before;
+        entry = force-within p dem ask adm.limits.machine.some past;
+        legal = legal past;
+      }))
 
   belongs-next : (past : List Tick) → Kept past → Belongs p dem (prior_state p dem (tick past ∷ past))
   belongs-next past k =
@@ -116,7 +123,7 @@ module _ (kind : GovernorKind) (serves : Scheduler → Type 0) (demand : Plan �
   kept-next : (past : List Tick) → Kept past → Kept (tick past ∷ past)
   kept-next past k = record {
     belongs = belongs-next past k;
-    is_calm = laws.stays_calm p dem (prior_state p dem (tick past ∷ past)) (entry_at past) adm served (belongs-next past k) (safe-next past k);
+    is_calm = laws.stays_calm p dem (prior_state p dem (tick past ∷ past)) (in_run (belongs-next past k)) (entry_at past) (safe-next past k);
     is_safe = λ e. subst (safe p (prior_state p dem (tick past ∷ past))) (sym (stays e)) (safe-next past k);
   }
     where
@@ -126,7 +133,7 @@ module _ (kind : GovernorKind) (serves : Scheduler → Type 0) (demand : Plan �
   kept-none : Kept []
   kept-none = record {
     belongs = belongs_opening p dem within;
-    is_calm = laws.opens p adm served;
+    is_calm = laws.opens p (record { admitted = adm; served = served });
     is_safe = λ e. absurd (true≢false e);
   }
 
@@ -142,7 +149,7 @@ module _ (kind : GovernorKind) (serves : Scheduler → Type 0) (demand : Plan �
       let job : latest p i (length past) ≡ k = latest-is p i k (length past) (omega (arith, e, release-due p i k pos, periods i)) (omega (arith, e)) in
       let row : row_at (prior_state p dem (x ∷ past)) i ≡ prior_row p dem (x ∷ past) i = get-table (count p) (prior_row p dem (x ∷ past)) i no_row lt in
       let now : (row_at (prior_state p dem (x ∷ past)) i).deadline ≡ length (x ∷ past) = ap (λ (r : Row). r.deadline) row ∙ (ap (due p i) job ∙ e) in
-      let done : (row_at (prior_state p dem (x ∷ past)) i).done ≡ true = laws.completes p dem (prior_state p dem (x ∷ past)) adm served kept.belongs kept.is_calm i lt now in
+      let done : (row_at (prior_state p dem (x ∷ past)) i).done ≡ true = laws.completes p dem (prior_state p dem (x ∷ past)) (in_run kept.belongs) kept.is_calm i lt now in
       let P : Row → Type 0 = λ (r : Row). r.done ≡ true → 0 < r.job → r.used ≡ dem i r.job in
       let had : exec p (x ∷ past) i (latest p i (length past)) ≡ dem i (latest p i (length past)) =
       subst P row (kept.belongs.closed_job i lt) (sym (ap (λ (r : Row). r.done) row) ∙ done) (omega (arith, job, pos)) in
@@ -160,4 +167,4 @@ module _ (kind : GovernorKind) (serves : Scheduler → Type 0) (demand : Plan �
   pub demand-met : kind ≢ Ahead → (t : ℕ) → (lowest_pick p.machine (demand p (state_of p dem (course demand p dem t)))).met ≡ true
   demand-met other t =
       let past = course demand p dem t in
-      laws.meets p dem (state_of p dem past) adm served (belongs-state past (kept t)) (decides-state past (kept t)) (calm-state past (kept t)) other
+      laws.meets p dem (state_of p dem past) (in_run (belongs-state past (kept t))) (decides-state past (kept t)) (calm-state past (kept t)) other

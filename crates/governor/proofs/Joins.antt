@@ -9,6 +9,7 @@ use Rattle.sched_model.specs.declared.state.Row.{Row}
 use Rattle.grid_fraction.specs.Numbers.{any_below, list_below}
 use Rattle.grid_fraction.proofs.Sums.{sum_below-same}
 use Rattle.sched_model.specs.Plan.{Plan, count, period}
+use Rattle.sched_model.specs.Demands.{JobDemands}
 use Rattle.sched_model.specs.Jobs.{latest, releases_at, is_release}
 use Rattle.sched_model.specs.Ticks.{Tick, exec}
 use Rattle.sched_model.specs.Ticks.{left as left_at, share as share_at}
@@ -18,7 +19,7 @@ use Rattle.sched_model.specs.States.{StateOf, no_row, row_at, row_wleft, prior_r
 use Rattle.sched_model.proofs.ScheduleLemmas.{length-list_below}
 use Rattle.sched_model.proofs.Tables.{get-table, table-same}
 use Rattle.sched_model.proofs.Joining.{row_by, due_released, row-opened, row-kept, state-marked, state-unmarked, row-ran, state-ran}
-use Rattle.governor.specs.Steps.{each_row, is_due, boundary_row, boundary_rows, after_boundary, tick_row, after_tick, left, left_of, key_of, share, IsLegal}
+use Rattle.governor.specs.Steps.{each_row, is_due, boundary_row, boundary_rows, after_boundary, tick_row, after_tick, left_in, left_of, key_in, share_in, IsLegalIn}
 use Rattle.grid_fraction.proofs.Searches.{any_below-same}
 
 each_row-snoc : (f : ℕ → Row → Row) (k : ℕ) (rows : List Row) (r : Row) → each_row f k (rows ++ r ∷ []) ≡ each_row f k rows ++ f (k + length rows) r ∷ []
@@ -58,7 +59,7 @@ sum_up_to-same n key key' f f' ks fs i lt =
     ap₂ (λ (b : Bool) x. if b then x else 0) (ap₂ (λ x y. nat_lt x y || (nat_eq x y && nat_lt j i)) (ks j l) (ks i lt)) (fs j l)))
     (fs i lt)
 
-module _ (p : Plan) (dem : ℕ → ℕ → ℕ) (periods : (i : ℕ) → 0 < period p i) (none : (i : ℕ) → dem i 0 ≡ 0) where
+module _ (p : Plan) (dem : JobDemands) (periods : (i : ℕ) → 0 < period p i) (none : (i : ℕ) → dem i 0 ≡ 0) where
   -- a boundary
   boundary-row : (past : List Tick) (i : ℕ) → boundary_row p dem (length past) i (prior_row p dem past i) ≡ row_of p dem past i
   boundary-row past i = go (nat_eq (prior_row p dem past i).deadline (length past)) refl
@@ -127,11 +128,11 @@ module _ (p : Plan) (dem : ℕ → ℕ → ℕ) (periods : (i : ℕ) → 0 < per
   row-is : (past : List Tick) (i : ℕ) → i < count p → row_at (state_of p dem past) i ≡ row_of p dem past i
   row-is past i lt = get-table (count p) (row_of p dem past) i no_row lt
 
-  key-is : (past : List Tick) (s : Scheduler) (i : ℕ) → i < count p → key_at s p (length past) i ≡ key_of s p (state_of p dem past) i
+  key-is : (past : List Tick) (s : Scheduler) (i : ℕ) → i < count p → key_at s p (length past) i ≡ key_in s p (state_of p dem past) i
   key-is past Edf i lt = sym (ap (λ (r : Row). r.deadline) (row-is past i lt))
   key-is past Rm i lt = refl
 
-  left-is : (past : List Tick) (i : ℕ) → i < count p → left_at p dem past i ≡ left dem (state_of p dem past) i
+  left-is : (past : List Tick) (i : ℕ) → i < count p → left_at p dem past i ≡ left_in dem (state_of p dem past) i
   left-is past i lt = go (nat_le (dem i (latest p i (length past))) (exec p past i (latest p i (length past)))) refl ∙ sym (ap (left_of dem i) (row-is past i lt))
     where
       go : (b : Bool) → nat_le (dem i (latest p i (length past))) (exec p past i (latest p i (length past))) ≡ b → left_at p dem past i ≡ left_of dem i (row_of p dem past i)
@@ -139,11 +140,11 @@ module _ (p : Plan) (dem : ℕ → ℕ → ℕ) (periods : (i : ℕ) → 0 < per
       go false e = rw e refl
 
   pub legal-is : (x : Tick) (past : List Tick) (f : ℕ) → length x.shares ≡ count p → SharesOut (count p) (key_at p.scheduler p (length past)) f (left_at p dem past) (share_at x)
-      → IsLegal p dem f (state_of p dem past) x.shares
+      → IsLegalIn p dem f (state_of p dem past) x.shares
   legal-is x past f long out = record {
     one_each = long;
     out = λ i lt.
-        sym (sum_up_to-same (count p) (key_at p.scheduler p (length past)) (key_of p.scheduler p (state_of p dem past)) (share_at x) (share x.shares) (key-is past p.scheduler) (λ j l. refl) i lt)
+        sym (sum_up_to-same (count p) (key_at p.scheduler p (length past)) (key_in p.scheduler p (state_of p dem past)) (share_at x) (share_in x.shares) (key-is past p.scheduler) (λ j l. refl) i lt)
         ∙ (out i lt
-        ∙ ap (λ n. min f n) (sum_up_to-same (count p) (key_at p.scheduler p (length past)) (key_of p.scheduler p (state_of p dem past)) (left_at p dem past) (left dem (state_of p dem past)) (key-is past p.scheduler) (left-is past) i lt));
+        ∙ ap (λ n. min f n) (sum_up_to-same (count p) (key_at p.scheduler p (length past)) (key_in p.scheduler p (state_of p dem past)) (left_at p dem past) (left_in dem (state_of p dem past)) (key-is past p.scheduler) (left-is past) i lt));
   }

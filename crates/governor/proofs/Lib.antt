@@ -3,3 +3,10 @@ pub mod Belonging
 pub mod Ticks
 pub mod Joins
 pub mod Course
+pub mod OneSchedule
+pub mod Fits
+pub mod EdfLaws
+pub mod RmLaws
+pub mod OneSpeedLaws
+pub mod PlanDemands
+pub mod Worst

@@ -4,11 +4,12 @@ use Rattle.std.specs.Prelude.{◌==◌, ◌||◌, if◌then◌else◌}
 use Rattle.std.proofs.lemmas.Bool.{cases_lt, eq-eqb}
 use Rattle.grid_fraction.specs.Numbers.{sum_where}
 use Rattle.sched_model.specs.Plan.{Plan, count}
+use Rattle.sched_model.specs.Demands.{JobDemands}
 use Rattle.sched_model.specs.Priority.{stands_before}
 use Rattle.sched_model.specs.States.{StateOf, row_at}
 use Rattle.sched_model.proofs.DownSets.{down-set-gets}
 use Rattle.sched_model.proofs.LevelSums.{sum_where-mono, sum_where-plus, sum_where-tight, share-most}
-use Rattle.governor.specs.Steps.{wleft_at, share, left, key_of, IsLegal, after_tick, Belongs}
+use Rattle.governor.specs.Steps.{wleft_at, share_in, left_in, key_in, IsLegalIn, after_tick, Belongs}
 use Rattle.governor.proofs.Belonging.{in_rows, tick_at, legal_most}
 
 falls_by : (b : Bool) (used worst sh : ℕ) → used + sh ≤ worst → (if b then 0 else worst - (used + sh)) + sh ≤ worst - used
@@ -24,37 +25,37 @@ tick_closes true used need sh o le all = refl
 tick_closes false used need sh o le all = let e : used + sh ≡ need = omega (arith, o refl) in eq-eqb (used + sh) need e
 
 -- the demand of a row's job is at most its worst case
-pub demand_most : (plan : Plan) (dem : ℕ → ℕ → ℕ) (s : StateOf) → Belongs plan dem s → (i : ℕ) → i < count plan → dem i (row_at s i).job ≤ (row_at s i).worst
+pub demand_most : (plan : Plan) (dem : JobDemands) (s : StateOf) → Belongs plan dem s → (i : ℕ) → i < count plan → dem i (row_at s i).job ≤ (row_at s i).worst
 demand_most plan dem s bel i h = let m = bel.demand.most i (row_at s i).job h in let w = bel.of.worst i h in omega arith
 
 -- what a task has left falls by its units at least
-pub tick-falls : (plan : Plan) (dem : ℕ → ℕ → ℕ) (f : ℕ) (s : StateOf) (shares : List ℕ) → Belongs plan dem s → IsLegal plan dem f s shares → (i : ℕ) → i < count plan → wleft_at (after_tick dem shares s) i + share shares i ≤ wleft_at s i
+pub tick-falls : (plan : Plan) (dem : JobDemands) (f : ℕ) (s : StateOf) (shares : List ℕ) → Belongs plan dem s → IsLegalIn plan dem f s shares → (i : ℕ) → i < count plan → wleft_at (after_tick dem shares s) i + share_in shares i ≤ wleft_at s i
 tick-falls plan dem f s shares bel legal i h =
     let row = row_at s i in
-    rw (tick_at dem shares s i (in_rows plan dem s bel i h)) (tick_falls row.done row.used row.worst (dem i row.job) (share shares i) (bel.open_job i h) (demand_most plan dem s bel i h) (legal_most plan dem f s shares legal i h))
+    rw (tick_at dem shares s i (in_rows plan dem s bel i h)) (tick_falls row.done row.used row.worst (dem i row.job) (share_in shares i) (bel.open_job i h) (demand_most plan dem s bel i h) (legal_most plan dem f s shares legal i h))
 
 -- a task that got all that it needs is complete
-pub tick-closes : (plan : Plan) (dem : ℕ → ℕ → ℕ) (f : ℕ) (s : StateOf) (shares : List ℕ) → Belongs plan dem s → IsLegal plan dem f s shares → (i : ℕ) → i < count plan → left dem s i ≤ share shares i → (row_at (after_tick dem shares s) i).done ≡ true
+pub tick-closes : (plan : Plan) (dem : JobDemands) (f : ℕ) (s : StateOf) (shares : List ℕ) → Belongs plan dem s → IsLegalIn plan dem f s shares → (i : ℕ) → i < count plan → left_in dem s i ≤ share_in shares i → (row_at (after_tick dem shares s) i).done ≡ true
 tick-closes plan dem f s shares bel legal i h all =
     let row = row_at s i in
-    rw (tick_at dem shares s i (in_rows plan dem s bel i h)) (tick_closes row.done row.used (dem i row.job) (share shares i) (bel.open_job i h) (legal_most plan dem f s shares legal i h) all)
+    rw (tick_at dem shares s i (in_rows plan dem s bel i h)) (tick_closes row.done row.used (dem i row.job) (share_in shares i) (bel.open_job i h) (legal_most plan dem f s shares legal i h) all)
 
 -- afterwards all of the set is complete, or f units of it were done
-pub tick_set : (plan : Plan) (dem : ℕ → ℕ → ℕ) (f : ℕ) (s : StateOf) (shares : List ℕ) (test : ℕ → Bool) → Belongs plan dem s → IsLegal plan dem f s shares
-    → ((j i : ℕ) → j < count plan → i < count plan → stands_before (key_of plan.scheduler plan s) j i ≡ true → test i ≡ true → test j ≡ true)
+pub tick_set : (plan : Plan) (dem : JobDemands) (f : ℕ) (s : StateOf) (shares : List ℕ) (test : ℕ → Bool) → Belongs plan dem s → IsLegalIn plan dem f s shares
+    → ((j i : ℕ) → j < count plan → i < count plan → stands_before (key_in plan.scheduler plan s) j i ≡ true → test i ≡ true → test j ≡ true)
     → ((i : ℕ) → i < count plan → test i ≡ true → (row_at (after_tick dem shares s) i).done ≡ true) ⊎ (sum_where (count plan) test (wleft_at (after_tick dem shares s)) + f ≤ sum_where (count plan) test (wleft_at s))
 tick_set plan dem f s shares test bel legal down =
     let t = after_tick dem shares s in
     let n = count plan in
-    let gets : sum_where n test (share shares) ≡ min f (sum_where n test (left dem s)) = down-set-gets n (key_of plan.scheduler plan s) test f (left dem s) (share shares) down legal.out in
-    let most : (i : ℕ) → i < n → share shares i ≤ left dem s i = share-most n (key_of plan.scheduler plan s) f (left dem s) (share shares) legal.out in
-    elim (cases_lt (sum_where n test (left dem s)) f) [
+    let gets : sum_where n test (share_in shares) ≡ min f (sum_where n test (left_in dem s)) = down-set-gets n (key_in plan.scheduler plan s) test f (left_in dem s) (share_in shares) down legal.out in
+    let most : (i : ℕ) → i < n → share_in shares i ≤ left_in dem s i = share-most n (key_in plan.scheduler plan s) f (left_in dem s) (share_in shares) legal.out in
+    elim (cases_lt (sum_where n test (left_in dem s)) f) [
       | inl small ↦ inl (λ i h on.
-          let all : left dem s i ≤ share shares i = sum_where-tight n test (left dem s) (share shares) most (omega arith) i h on in
+          let all : left_in dem s i ≤ share_in shares i = sum_where-tight n test (left_in dem s) (share_in shares) most (omega arith) i h on in
           tick-closes plan dem f s shares bel legal i h all)
       | inr full ↦ inr (
-          let each : sum_where n test (λ i. wleft_at t i + share shares i) ≤ sum_where n test (wleft_at s) =
-          sum_where-mono n test (λ i. wleft_at t i + share shares i) (wleft_at s) (λ i h on. tick-falls plan dem f s shares bel legal i h) in
-          let split = sum_where-plus n test (wleft_at t) (share shares) in
+          let each : sum_where n test (λ i. wleft_at t i + share_in shares i) ≤ sum_where n test (wleft_at s) =
+          sum_where-mono n test (λ i. wleft_at t i + share_in shares i) (wleft_at s) (λ i h on. tick-falls plan dem f s shares bel legal i h) in
+          let split = sum_where-plus n test (wleft_at t) (share_in shares) in
           omega (arith, each, split, gets))
     ]

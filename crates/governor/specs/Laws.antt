@@ -1,21 +1,80 @@
 -- The laws of a governor, over plain data.
-use Rattle.std.specs.Prelude.{◌≡◌, ◌≢◌, ℕ, ◌<◌, ◌≤◌, ◌^◌, true, List, length}
+use Rattle.std.specs.Prelude.{◌≡◌, ◌≢◌, ℕ, ◌<◌, ◌≤◌, ◌^◌, true, List}
 use Rattle.dvs_base.specs.declared.kind.Scheduler.{Scheduler}
 use Rattle.dvs_base.specs.declared.kind.GovernorKind.{GovernorKind}
 use Rattle.dvs_base.specs.declared.kind.GovernorKind.TheVariants.{Ahead}
+use Rattle.trace_text.specs.Words.{IsPair}
 use Rattle.grid_fraction.specs.declared.Frac.{Frac}
+use Rattle.freq_table.specs.Tables.{lowest_entry, lowest_pick}
 use Rattle.sched_model.specs.Plan.{Plan, count}
+use Rattle.sched_model.specs.Demands.{JobDemands}
 use Rattle.sched_model.specs.Admission.{IsAdmitted}
-use Rattle.freq_table.specs.Tables.{lowest_entry, lowest_pick, speed_at}
 use Rattle.sched_model.specs.States.{StateOf, row_at, opening, IsOfPlan}
-use Rattle.governor.specs.Steps.{after_boundary, after_tick, IsLegal, Belongs, IsBeforeAll, IsAtDecision}
+use Rattle.governor.specs.Meanings.{Serving, OwnDemand, Condition, EntryCondition}
+use Rattle.governor.specs.Steps.{after_boundary, after_tick, Belongs, IsAtDecision, MayFollow}
 
-pub record GovernorLaws (kind : GovernorKind) (serves : Scheduler → Type 0) (demand : Plan → StateOf → Frac) (calm : Plan → StateOf → Type 0) (safe : Plan → StateOf → ℕ → Type 0) : Type 0 where
-  pub low_den : (plan : Plan) (s : StateOf) → IsAdmitted plan → serves plan.scheduler → IsOfPlan plan s → IsAtDecision plan s → (0 < (demand plan s).den) × ((demand plan s).den ≤ 2 ^ 64)
-  pub opens : (plan : Plan) → IsAdmitted plan → serves plan.scheduler → calm plan (opening plan)
-  pub releases : (plan : Plan) (dem : ℕ → ℕ → ℕ) (s : StateOf) → IsAdmitted plan → serves plan.scheduler → Belongs plan dem s → calm plan s → calm plan (after_boundary plan dem s)
-  pub chooses : (plan : Plan) (dem : ℕ → ℕ → ℕ) (s : StateOf) → IsAdmitted plan → serves plan.scheduler → Belongs plan dem s → IsAtDecision plan s → calm plan s → safe plan s (lowest_entry plan.machine (demand plan s))
-  pub meets : (plan : Plan) (dem : ℕ → ℕ → ℕ) (s : StateOf) → IsAdmitted plan → serves plan.scheduler → Belongs plan dem s → IsAtDecision plan s → calm plan s → kind ≢ Ahead → (lowest_pick plan.machine (demand plan s)).met ≡ true
-  pub ticks : (plan : Plan) (dem : ℕ → ℕ → ℕ) (s : StateOf) (k : ℕ) (shares : List ℕ) → IsAdmitted plan → serves plan.scheduler → Belongs plan dem s → IsBeforeAll plan s → k < length plan.machine.points → IsLegal plan dem (speed_at plan.machine k) s shares → safe plan s k → safe plan (after_tick dem shares s) k
-  pub stays_calm : (plan : Plan) (dem : ℕ → ℕ → ℕ) (s : StateOf) (k : ℕ) → IsAdmitted plan → serves plan.scheduler → Belongs plan dem s → safe plan s k → calm plan s
-  pub completes : (plan : Plan) (dem : ℕ → ℕ → ℕ) (s : StateOf) → IsAdmitted plan → serves plan.scheduler → Belongs plan dem s → calm plan s → (i : ℕ) → i < count plan → (row_at s i).deadline ≡ s.now → (row_at s i).done ≡ true
+-- a plan that passed its scheduler's test, and whose scheduler is served
+pub record IsServed (serves : Serving) (plan : Plan) : Type 0 where
+  pub admitted : IsAdmitted plan
+  pub served : serves plan.scheduler
+
+-- a state of such a plan that belongs to a demand list
+pub record InRun (serves : Serving) (plan : Plan) (dem : JobDemands) (s : StateOf) : Type 0 where
+  pub admitted : IsAdmitted plan
+  pub served : serves plan.scheduler
+  pub belongs : Belongs plan dem s
+
+-- of each plan that is served
+abbrev pub OfEachPlan : Serving → (Plan → Type 0) → Type 0
+OfEachPlan serves Holds = (plan : Plan) → IsServed serves plan → Holds plan
+
+-- in each state of such a plan at a decision
+abbrev pub AtEachDecision : Serving → (Plan → StateOf → Type 0) → Type 0
+AtEachDecision serves Holds =
+    (plan : Plan) (s : StateOf) → IsServed serves plan → IsOfPlan plan s → IsAtDecision plan s → Holds plan s
+
+-- in each state of its runs
+abbrev pub InEachRun : Serving → (Plan → JobDemands → StateOf → Type 0) → Type 0
+InEachRun serves Holds = (plan : Plan) (dem : JobDemands) (s : StateOf) → InRun serves plan dem s → Holds plan dem s
+
+-- the denominator is 1 to 2^64
+abbrev pub HasLowDen : Frac → Type 0
+HasLowDen d = (0 < d.den) × (d.den ≤ 2 ^ 64)
+
+-- the entry that is chosen: the lowest whose speed meets the demand, else the highest
+abbrev pub chosen : OwnDemand → Plan → StateOf → ℕ
+chosen demand plan s = lowest_entry plan.machine (demand plan s)
+
+-- the speed of some entry meets the demand
+abbrev pub CanMeet : OwnDemand → Plan → StateOf → Type 0
+CanMeet demand plan s = (lowest_pick plan.machine (demand plan s)).met ≡ true
+
+-- after each tick that may follow with the entry k in force
+abbrev pub AfterEachTick : Plan → JobDemands → StateOf → ℕ → (StateOf → ℕ → Type 0) → Type 0
+AfterEachTick plan dem s k Holds =
+    (shares : List ℕ) → MayFollow plan dem s k shares → Holds (after_tick dem shares s) k
+
+-- each job that is due now is complete
+abbrev pub DueAreDone : Plan → StateOf → Type 0
+DueAreDone plan s = (i : ℕ) → i < count plan → (row_at s i).deadline ≡ s.now → (row_at s i).done ≡ true
+
+-- what a type of governors promises of its meanings
+pub record GovernorLaws (kind : GovernorKind) (serves : Serving) (demand : OwnDemand) (calm : Condition) (safe : EntryCondition) : Type 0 where
+  -- each scheduler that is served makes a pair with the kind
+  pub pairs : (scheduler : Scheduler) → serves scheduler → IsPair scheduler kind
+  -- at a decision the demand has a low denominator
+  pub low_den : AtEachDecision serves (λ plan s. HasLowDen (demand plan s))
+  -- the opening state is calm
+  pub opens : OfEachPlan serves (λ plan. calm plan (opening plan))
+  -- the releases of a boundary, with the completions of jobs of demand 0 and the mark, keep a calm state calm
+  pub releases : InEachRun serves (λ plan dem s. calm plan s → calm plan (after_boundary plan dem s))
+  -- a calm state at a decision is safe with the entry that is chosen
+  pub chooses : InEachRun serves (λ plan dem s. IsAtDecision plan s → calm plan s → safe plan s (chosen demand plan s))
+  -- and its demand can be met, unless the kind is look-ahead
+  pub meets : InEachRun serves (λ plan dem s. IsAtDecision plan s → calm plan s → kind ≢ Ahead → CanMeet demand plan s)
+  -- a tick keeps a safe state safe
+  pub ticks : InEachRun serves (λ plan dem s. (k : ℕ) → safe plan s k → AfterEachTick plan dem s k (safe plan))
+  -- a safe state is calm
+  pub stays_calm : InEachRun serves (λ plan dem s. (k : ℕ) → safe plan s k → calm plan s)
+  -- in a calm state each job that is due is complete
+  pub completes : InEachRun serves (λ plan dem s. calm plan s → DueAreDone plan s)

@@ -1,4 +1,4 @@
--- The schedulers that a governor serves, where it serves one alone.
+-- The schedulers that a governor serves.
 use Rattle.std.specs.Prelude.{◌≡◌}
 use Rattle.dvs_base.specs.declared.kind.Scheduler.{Scheduler}
 use Rattle.dvs_base.specs.declared.kind.Scheduler.TheVariants.{Edf, Rm}
@@ -10,3 +10,7 @@ ServesEdf scheduler = scheduler ≡ Edf
 -- RM alone
 abbrev pub ServesRm : Scheduler → Type 0
 ServesRm scheduler = scheduler ≡ Rm
+
+-- EDF and RM
+abbrev pub ServesBoth : Scheduler → Type 0
+ServesBoth scheduler = Unit {0}

@@ -3,12 +3,13 @@ use Rattle.std.specs.Prelude.{◌≡◌, ◌==◌, ℕ, suc, ◌+◌, ◌-◌, �
 use Rattle.std.specs.List.{list_any}
 use Rattle.dvs_base.specs.declared.kind.Scheduler.{Scheduler}
 use Rattle.dvs_base.specs.declared.kind.Scheduler.TheVariants.{Edf, Rm}
+use Rattle.freq_table.specs.Tables.{speed_at}
 use Rattle.sched_model.specs.declared.state.Row.{Row}
 use Rattle.sched_model.specs.Priority.{SharesOut}
 use Rattle.sched_model.specs.Plan.{Plan, count, period}
 use Rattle.sched_model.specs.Jobs.{latest_since}
 use Rattle.sched_model.specs.Jobs.{due as due_at}
-use Rattle.sched_model.specs.Demands.{IsWithin}
+use Rattle.sched_model.specs.Demands.{IsWithin, JobDemands}
 use Rattle.grid_fraction.specs.Numbers.{greatest_below, least_below}
 use Rattle.sched_model.specs.States.{StateOf, row_at, row_wleft, released_row, IsOfPlan}
 
@@ -17,21 +18,24 @@ abbrev pub each_row : (ℕ → Row → Row) → ℕ → List Row → List Row
 each_row f i [] = []
 each_row f i (row ∷ rows) = f i row ∷ each_row f (suc i) rows
 
+-- a row's job is due now
 abbrev pub is_due : ℕ → Row → Bool
 is_due now row = row.deadline == now
 
 -- a row after its release, complete if its job has no demand
-abbrev pub opened_row : Plan → (ℕ → ℕ → ℕ) → ℕ → Row → Row
+abbrev pub opened_row : Plan → JobDemands → ℕ → Row → Row
 opened_row plan dem i row = record (released_row (period plan i) row) { done = (dem i (row.job + 1) == 0) }
 
-abbrev pub boundary_row : Plan → (ℕ → ℕ → ℕ) → ℕ → ℕ → Row → Row
+-- a row after a boundary
+abbrev pub boundary_row : Plan → JobDemands → ℕ → ℕ → Row → Row
 boundary_row plan dem now i row = if is_due now row then opened_row plan dem i row else row
 
-abbrev pub boundary_rows : Plan → (ℕ → ℕ → ℕ) → StateOf → List Row
+-- all rows after it
+abbrev pub boundary_rows : Plan → JobDemands → StateOf → List Row
 boundary_rows plan dem s = each_row (boundary_row plan dem s.now) 0 s.rows
 
 -- the releases of one boundary, and the mark where there is one
-abbrev pub after_boundary : Plan → (ℕ → ℕ → ℕ) → StateOf → StateOf
+abbrev pub after_boundary : Plan → JobDemands → StateOf → StateOf
 after_boundary plan dem s = record {
   now = s.now;
   rows = boundary_rows plan dem s;
@@ -48,44 +52,55 @@ abbrev pub last_marked : Plan → StateOf → ℕ
 last_marked plan s = greatest_below (count plan) (λ i. release_of plan i (row_at s i))
 
 -- what a job still needs
-abbrev pub left_of : (ℕ → ℕ → ℕ) → ℕ → Row → ℕ
+abbrev pub left_of : JobDemands → ℕ → Row → ℕ
 left_of dem i row = if row.done then 0 else dem i row.job - row.used
 
-abbrev pub left : (ℕ → ℕ → ℕ) → StateOf → ℕ → ℕ
-left dem s i = left_of dem i (row_at s i)
+-- what the job of task i still needs
+abbrev pub left_in : JobDemands → StateOf → ℕ → ℕ
+left_in dem s i = left_of dem i (row_at s i)
 
 -- what the job of task i may still need at most
 abbrev pub wleft_at : StateOf → ℕ → ℕ
 wleft_at s i = row_wleft (row_at s i)
 
 -- the earliest deadline of the rows
-abbrev pub earliest : Plan → StateOf → ℕ
-earliest plan s = least_below (count plan) (λ i. (row_at s i).deadline)
+abbrev pub earliest_in : Plan → StateOf → ℕ
+earliest_in plan s = least_below (count plan) (λ i. (row_at s i).deadline)
 
 -- what a scheduler orders the tasks by: the deadline under EDF, the period under RM
-abbrev pub key_of : Scheduler → Plan → StateOf → ℕ → ℕ
-key_of Edf plan s i = (row_at s i).deadline
-key_of Rm plan s i = period plan i
+abbrev pub key_in : Scheduler → Plan → StateOf → ℕ → ℕ
+key_in Edf plan s i = (row_at s i).deadline
+key_in Rm plan s i = period plan i
 
 -- the units of task i in a list of shares
-abbrev pub share : List ℕ → ℕ → ℕ
-share shares i = slice_index shares i
+abbrev pub share_in : List ℕ → ℕ → ℕ
+share_in shares i = slice_index shares i
 
 -- the tasks share the f units of a tick by their priority, each up to what its job needs
-pub record IsLegal (plan : Plan) (dem : ℕ → ℕ → ℕ) (f : ℕ) (s : StateOf) (shares : List ℕ) : Type 0 where
+pub record IsLegalIn (plan : Plan) (dem : JobDemands) (f : ℕ) (s : StateOf) (shares : List ℕ) : Type 0 where
   pub one_each : length shares ≡ count plan
-  pub out : SharesOut (count plan) (key_of plan.scheduler plan s) f (left dem s) (share shares)
+  pub out : SharesOut (count plan) (key_in plan.scheduler plan s) f (left_in dem s) (share_in shares)
 
 -- a row after its units, complete if its job has had its demand
-abbrev pub tick_row : (ℕ → ℕ → ℕ) → List ℕ → ℕ → Row → Row
-tick_row dem shares i row = record row { used = row.used + share shares i; done = (row.done || (row.used + share shares i == dem i row.job)) }
+abbrev pub tick_row : JobDemands → List ℕ → ℕ → Row → Row
+tick_row dem shares i row =
+    let used = row.used + share_in shares i in
+    record row { used = used; done = (row.done || (used == dem i row.job)) }
 
-abbrev pub after_tick : (ℕ → ℕ → ℕ) → List ℕ → StateOf → StateOf
+-- a state after a tick of these shares
+abbrev pub after_tick : JobDemands → List ℕ → StateOf → StateOf
 after_tick dem shares s = record s { now = s.now + 1; rows = each_row (tick_row dem shares) 0 s.rows }
 
 -- now is below every deadline
 abbrev pub IsBeforeAll : Plan → StateOf → Type 0
 IsBeforeAll plan s = (i : ℕ) → i < count plan → s.now < (row_at s i).deadline
+
+-- a tick of these shares may follow with the entry k in force: it is legal at its speed, and now is below every
+-- deadline
+pub record MayFollow (plan : Plan) (dem : JobDemands) (s : StateOf) (k : ℕ) (shares : List ℕ) : Type 0 where
+  pub before : IsBeforeAll plan s
+  pub entry : k < length plan.machine.points
+  pub legal : IsLegalIn plan dem (speed_at plan.machine k) s shares
 
 -- at a decision
 pub record IsAtDecision (plan : Plan) (s : StateOf) : Type 0 where
@@ -96,7 +111,7 @@ pub record IsAtDecision (plan : Plan) (s : StateOf) : Type 0 where
   pub base : (i : ℕ) → i < count plan → row_wleft (row_at s i) ≤ slice_index s.base i
 
 -- a state of the plan that belongs to a demand list
-pub record Belongs (plan : Plan) (dem : ℕ → ℕ → ℕ) (s : StateOf) : Type 0 where
+pub record Belongs (plan : Plan) (dem : JobDemands) (s : StateOf) : Type 0 where
   pub of : IsOfPlan plan s
   pub demand : IsWithin plan dem
   pub due : (i : ℕ) → i < count plan → s.now ≤ (row_at s i).deadline
@@ -105,5 +120,5 @@ pub record Belongs (plan : Plan) (dem : ℕ → ℕ → ℕ) (s : StateOf) : Typ
   pub base_at : s.base_at ≡ last_marked plan s
   pub base : (i : ℕ) → i < count plan → row_wleft (row_at s i) ≤ slice_index s.base i
   pub open_job : (i : ℕ) → i < count plan → (row_at s i).done ≡ false → (row_at s i).used < dem i (row_at s i).job
-  pub closed_job : (i : ℕ) → i < count plan → (row_at s i).done ≡ true → 0 < (row_at s i).job → (row_at s i).used ≡ dem i (row_at s i).job
-  pub no_job : (i : ℕ) → i < count plan → (row_at s i).job ≡ 0 → ((row_at s i).done ≡ true) × ((row_at s i).used ≡ 0)
+  pub closed_job : (i : ℕ) → i < count plan → (row_at s i).done ≡ true → 0 < (row_at s i).job
+      → (row_at s i).used ≡ dem i (row_at s i).job

@@ -1,14 +1,14 @@
 // The earliest deadline in a state.
 ghost use Rattle.std.specs.Prelude.{◌≡◌};
 ghost use Rattle.sched_model.specs.States.{IsOfPlan};
-ghost use Rattle.governor.specs.Steps.{earliest};
+ghost use Rattle.governor.specs.Steps.{earliest_in};
 
 use sched_model::{Admitted, State};
 
 /// The earliest deadline of the tasks' latest jobs, in ticks.
 pub fn earliest_deadline(plan: &Admitted, view: &State) -> u64
     requires { IsOfPlan plan.now view.now }
-    ensures { result ≡ earliest plan.now view.entry.now }
+    ensures { result ≡ earliest_in plan.now view.entry.now }
 {
     plan.known();
     let mut least = view.rows[0].deadline;

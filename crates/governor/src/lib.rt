@@ -4,22 +4,23 @@
 //! every deadline of its schedule is met.
 #![tactic(auto)]
 
-ghost use Rattle.std.specs.Prelude.{◌≡◌, ℕ, ◌≤◌};
-ghost use Rattle.dvs_base.specs.declared.kind.Scheduler.{Scheduler as SchedulerOf};
+ghost use Rattle.std.specs.Prelude.{◌≡◌, ℕ, ◌≤◌, IfOk};
 ghost use Rattle.dvs_base.specs.declared.kind.GovernorKind.{GovernorKind as KindOf};
-ghost use Rattle.grid_fraction.specs.declared.Frac.{Frac as FracOf};
 ghost use Rattle.freq_table.specs.Tables.{lowest_entry, lowest_pick};
 ghost use Rattle.sched_model.specs.Plan.{Plan};
-ghost use Rattle.sched_model.specs.States.{StateOf, after_release, after_run, after_finish, after_mark, after_advance, IsOfPlan, CanRelease, CanRun, CanFinish};
+ghost use Rattle.sched_model.specs.States.{StateOf, opening, after_release, after_run, after_finish, after_mark, after_advance, IsOfPlan, CanRelease, CanRun, CanFinish};
+ghost use Rattle.governor.specs.Meanings.{Serving, OwnDemand, Condition, EntryCondition};
 ghost use Rattle.governor.specs.Steps.{IsAtDecision};
 ghost use Rattle.governor.specs.Laws.{GovernorLaws};
+ghost use Rattle.governor.specs.Schedule.{PublishingLaws};
 
 mod deadline;
 
 pub use deadline::earliest_deadline;
-use dvs_base::GovernorKind;
+use dvs_base::{GovernorKind, NoMemory};
 use grid_fraction::Frac;
 use sched_model::{Admitted, State};
+use std::alloc::Global;
 
 /// A governor's answer at a decision: the entry of the machine's table, whether its speed meets the demand, and the
 /// published demand in units per tick, not reduced.
@@ -36,16 +37,16 @@ pub trait Governor: Drop {
     ghost the_kind: { KindOf };
 
     /// The schedulers that it serves.
-    ghost serves: { SchedulerOf → Type 0 };
+    ghost serves: { Serving };
 
     /// Its published demand.
-    ghost demand: { Plan → StateOf → FracOf };
+    ghost demand: { OwnDemand };
 
     /// What is kept from boundary to boundary.
-    ghost calm: { Plan → StateOf → Type 0 };
+    ghost calm: { Condition };
 
     /// What is kept while an entry is in force.
-    ghost safe: { Plan → StateOf → ℕ → Type 0 };
+    ghost safe: { EntryCondition };
 
     /// The value's counters are their formulas over this plan and state.
     ghost stands: { Self → Plan → StateOf → Type 0 };
@@ -98,4 +99,15 @@ pub trait Governor: Drop {
 
     /// The laws of the two conditions.
     ghost laws: { GovernorLaws the_kind serves demand calm safe };
+}
+
+/// A governor that a program runs by its kind: it is made for a plan, and its demand is the published one of the kind.
+pub trait Publishing: Governor {
+    /// The governor for a plan whose scheduler it serves, before the first release. It fails only where memory runs out.
+    fn made(alloc: Global, plan: &Admitted) -> Result<Self, NoMemory>
+        requires { Self.serves plan.now.scheduler }
+        ensures { IfOk result (λ g. Self.stands g plan.now (opening plan.now)) };
+
+    /// On each schedule its demand is the published one of its kind, so its schedule is the one that the kind gives.
+    ghost publishing: { PublishingLaws Self.the_kind Self.serves Self.demand };
 }

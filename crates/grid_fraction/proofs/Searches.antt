@@ -50,7 +50,8 @@ any_below-false (suc n) test h = go (any_below n test) refl (test n) refl (any_b
     go true p b q ih = absurd (true≢false (sym (ap (λ v. v || test n) p) ∙ h))
     go false p true q ih = absurd (true≢false (sym (ap₂ (λ v w. v || w) p q) ∙ h))
 
-not-true : (b : Bool) → not b ≡ true → b ≡ false
+-- what is not so is false
+pub not-true : (b : Bool) → not b ≡ true → b ≡ false
 not-true true e = absurd (true≢false (sym e))
 not-true false e = refl
 

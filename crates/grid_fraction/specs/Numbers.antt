@@ -10,11 +10,12 @@ sum_below (suc n) f = sum_below n f + f n
 abbrev pub sum_where : ℕ → (ℕ → Bool) → (ℕ → ℕ) → ℕ
 sum_where n test f = sum_below n (λ j. if test j then f j else 0)
 
--- whether some number below n passes the test, and whether all do
+-- whether some number below n passes the test
 abbrev pub any_below : ℕ → (ℕ → Bool) → Bool
 any_below zero test = false
 any_below (suc n) test = any_below n test || test n
 
+-- whether all numbers below n pass the test
 abbrev pub all_below : ℕ → (ℕ → Bool) → Bool
 all_below n test = not (any_below n (λ j. not (test j)))
 

@@ -8,11 +8,11 @@ ghost use Rattle.governor.specs.Serving.{ServesEdf};
 ghost use Rattle.look_ahead_laws.specs.Ahead.{ahead_demand, AheadCalm, AheadSafe};
 ghost use Rattle.look_ahead_laws.specs.Whole.{HasSpread, IsDemandOfSpread, RatesFit};
 ghost use Rattle.look_ahead_laws.proofs.AheadLaws.{ahead_laws};
+ghost use Rattle.look_ahead_laws.proofs.Publishing.{ahead_publishing};
 
-use crate::rates::rates_within;
 use crate::walk::ahead_demand;
 use dvs_base::{GovernorKind, NoMemory};
-use governor::{Choice, Governor};
+use governor::{Choice, Governor, Publishing};
 use sched_model::{Admitted, State};
 use std::alloc::Global;
 
@@ -66,7 +66,10 @@ impl Governor for LookAhead {
 
     fn settled(&mut self, _plan: &Admitted, _view: &State) {}
 
-    /// Each choice rests on rates that fit: those of `rates_within`, in the state of the decision.
+    /// Each choice rests on rates that fit. There are, for each task, the work units that are put off past the earliest
+    /// deadline and the rate that they then need, by formulas over all tasks at once. Whichever they are, the demand is the
+    /// sum of what is not put off, and the rate of each task, with those of the tasks after it and before it, is within what
+    /// the highest speed does in a hyperperiod.
     fn choose(&self, plan: &Admitted, view: &State) -> Choice
         requires of { IsOfPlan plan.now view.now }
         requires counters { ServesEdf plan.now.scheduler }
@@ -79,7 +82,6 @@ impl Governor for LookAhead {
         ensures rates_fit { RatesFit plan.now view.entry.now }
     {
         plan.known();
-        rates_within(plan, view);
         let demand = ahead_demand(plan, view);
         let pick = plan.machine().lowest(demand);
         Choice {
@@ -87,5 +89,13 @@ impl Governor for LookAhead {
             met: pick.met,
             demand,
         }
+    }
+}
+
+impl Publishing for LookAhead {
+    ghost publishing = { ahead_publishing };
+
+    fn made(alloc: Global, plan: &Admitted) -> Result<LookAhead, NoMemory> {
+        LookAhead::new(alloc, plan)
     }
 }

@@ -8,10 +8,6 @@
 
 mod ahead;
 mod order;
-mod published;
-mod rates;
 mod walk;
 
 pub use ahead::LookAhead;
-pub use published::published_demands;
-pub use rates::rates_within;

@@ -3,7 +3,7 @@ ghost use Rattle.std.specs.Prelude.{◌≡◌, ◌+◌, ◌*◌, ◌-◌, ◌/�
 ghost use Rattle.grid_fraction.specs.Numbers.{ceil_div};
 ghost use Rattle.sched_model.specs.Plan.{count, hyper, rate, top_speed};
 ghost use Rattle.sched_model.specs.States.{row_wleft, IsOfPlan};
-ghost use Rattle.governor.specs.Steps.{earliest, IsAtDecision};
+ghost use Rattle.governor.specs.Steps.{earliest_in, IsAtDecision};
 ghost use Rattle.governor.specs.Serving.{ServesEdf};
 ghost use Rattle.look_ahead_laws.specs.Ahead.{ahead_demand};
 ghost use Rattle.look_ahead.specs.Walk.{next_rates, next_first};
@@ -52,7 +52,7 @@ fn step(plan: &Admitted, view: &State, soonest: u64, task: u32, totals: Totals) 
     requires of { IsOfPlan plan.now view.now }
     requires decision { IsAtDecision plan.now view.now }
     requires task { task < count plan.now }
-    requires soonest { soonest ≡ earliest plan.now view.now }
+    requires soonest { soonest ≡ earliest_in plan.now view.now }
     requires fits { totals.rates ≤ top_speed plan.now * hyper plan.now }
     requires part { rate plan.now task ≤ totals.rates }
     requires small { totals.first ≤ 2 ^ 67 }

@@ -1,8 +1,10 @@
 -- The laws of look-ahead EDF.
-use Rattle.std.proofs.Common.{◌≡◌, inl, inr, ℕ, ◌+◌, ◌-◌, ◌*◌, ◌^◌, ◌<◌, ◌≤◌, List, ◌∷◌, ◌++◌, length, refl, sym, ◌∙◌, ap, arith}
+use Rattle.std.proofs.Common.{◌≡◌, inl, inr, ℕ, ◌+◌, ◌-◌, ◌*◌, ◌^◌, ◌<◌, ◌≤◌, List, ◌∷◌, ◌++◌, length, refl, sym, ◌∙◌, ap, subst, arith}
 use Rattle.std.proofs.Math.Nat.{mul-le-mul_left, mul-le-mul_right}
 use Rattle.std.proofs.lemmas.Bool.{lt-leb, cases_lt}
+use Rattle.dvs_base.specs.declared.kind.Scheduler.{Scheduler}
 use Rattle.dvs_base.specs.declared.kind.GovernorKind.TheVariants.{Ahead}
+use Rattle.trace_text.specs.Words.{IsPair}
 use Rattle.grid_fraction.specs.declared.Frac.{Frac}
 use Rattle.grid_fraction.proofs.Least.{least-below}
 use Rattle.freq_table.specs.declared.machine.Pick.{Pick}
@@ -10,6 +12,7 @@ use Rattle.freq_table.specs.Tables.{Table, speed_at, last_entry, highest_speed, 
 use Rattle.freq_table.proofs.Chosen.{below_highest, lowest_within, picked_meets}
 use Rattle.freq_table.proofs.Lowest.{lowest_pick-none}
 use Rattle.sched_model.specs.Plan.{Plan, count, hyper, rate, top_speed}
+use Rattle.sched_model.specs.Demands.{JobDemands}
 use Rattle.sched_model.specs.Priority.{sum_before}
 use Rattle.sched_model.specs.Tests.{total_rate}
 use Rattle.sched_model.specs.AheadDemand.{spread_rates}
@@ -17,13 +20,13 @@ use Rattle.sched_model.specs.Admission.{IsAdmitted}
 use Rattle.sched_model.specs.States.{StateOf}
 use Rattle.sched_model.proofs.Limits.{some_task, some_hyper}
 use Rattle.sched_model.proofs.OrderLemmas.{sum_list, sum_list-in_order, in_order-below, sum_list-append}
-use Rattle.governor.specs.Steps.{wleft_at, earliest, IsAtDecision, Belongs}
+use Rattle.governor.specs.Steps.{wleft_at, earliest_in, IsAtDecision, Belongs}
 use Rattle.governor.specs.Serving.{ServesEdf}
 use Rattle.governor.specs.Laws.{GovernorLaws}
 use Rattle.governor.proofs.Belonging.{earliest-later}
-use Rattle.one_speed.specs.Edf.{load}
-use Rattle.one_speed.proofs.Fits.{full_enough}
-use Rattle.one_speed.proofs.EdfLaws.{load_is, edf_opens, edf_releases, edf_chooses, edf_ticks, edf_stays_calm, edf_completes}
+use Rattle.governor.specs.Edf.{load}
+use Rattle.governor.proofs.Fits.{full_enough}
+use Rattle.governor.proofs.EdfLaws.{load_is, edf_opens, edf_releases, edf_chooses, edf_ticks, edf_stays_calm, edf_completes}
 use Rattle.look_ahead_laws.specs.Ahead.{deadline_at, edf_order, ahead_demand, AheadCalm, AheadSafe}
 use Rattle.look_ahead_laws.proofs.Spreading.{due_work, all_paid, before_is, rate_within, work_within}
 
@@ -55,10 +58,10 @@ module _ (plan : Plan) (s : StateOf) where
   load_in_order d = load_is plan s d ∙ sym (sum_list-in_order (due_work plan (deadline_at s) (wleft_at s) d) (deadline_at s) (count plan))
 
   -- a speed that meets the demand is safe
-  meets_safe : (k : ℕ) → IsAdmitted plan → ServesEdf plan.scheduler → k < length plan.machine.points → (ahead_demand plan s).num ≤ speed_at plan.machine k * (earliest plan s - s.now) → AheadSafe plan s k
+  meets_safe : (k : ℕ) → IsAdmitted plan → ServesEdf plan.scheduler → k < length plan.machine.points → (ahead_demand plan s).num ≤ speed_at plan.machine k * (earliest_in plan s - s.now) → AheadSafe plan s k
   meets_safe k adm serves lt met = record {
     bound = λ d le.
-        let x = d - earliest plan s in
+        let x = d - earliest_in plan s in
         let paid = all_paid plan (deadline_at s) (wleft_at s) d (edf_order plan s) (in_order-below (deadline_at s) (count plan)) in
         let worked = work_within plan (deadline_at s) (wleft_at s) x (some_hyper plan adm.limits) (rates_fit adm serves) in
         let first = mul-le-mul_left (hyper plan) met in
@@ -66,7 +69,7 @@ module _ (plan : Plan) (s : StateOf) where
     slower = below_highest plan.machine adm.limits.machine k lt;
   }
 
-  pub ahead_chooses : (dem : ℕ → ℕ → ℕ) → IsAdmitted plan → ServesEdf plan.scheduler → Belongs plan dem s → AheadCalm plan s → AheadSafe plan s (lowest_entry plan.machine (ahead_demand plan s))
+  pub ahead_chooses : (dem : JobDemands) → IsAdmitted plan → ServesEdf plan.scheduler → Belongs plan dem s → AheadCalm plan s → AheadSafe plan s (lowest_entry plan.machine (ahead_demand plan s))
   ahead_chooses dem adm serves bel calm =
       let d = ahead_demand plan s in
       let k = lowest_entry plan.machine d in
@@ -79,17 +82,19 @@ module _ (plan : Plan) (s : StateOf) where
   pub ahead_den : IsAdmitted plan → IsAtDecision plan s → (0 < (ahead_demand plan s).den) × ((ahead_demand plan s).den ≤ 2 ^ 64)
   ahead_den adm dec =
       let next = earliest-later plan adm.limits s dec.before in
-      let first : earliest plan s ≤ deadline_at s 0 = least-below (count plan) (deadline_at s) 0 (some_task plan adm.limits) in
+      let first : earliest_in plan s ≤ deadline_at s 0 = least-below (count plan) (deadline_at s) 0 (some_task plan adm.limits) in
       (omega arith, (let near = dec.soon 0 (some_task plan adm.limits) in omega (arith, near, first)))
 
 pub ahead_laws : GovernorLaws Ahead ServesEdf ahead_demand AheadCalm AheadSafe
 ahead_laws = record {
-  low_den = λ plan s adm serves of dec. ahead_den plan s adm dec;
-  opens = λ plan adm serves. edf_opens (top_speed plan) plan adm.limits ((full_enough plan adm).edf serves);
-  releases = λ plan dem s adm serves bel calm. edf_releases (top_speed plan) plan adm.limits dem s bel calm;
-  chooses = λ plan dem s adm serves bel dec calm. ahead_chooses plan s dem adm serves bel calm;
-  meets = λ plan dem s adm serves bel dec calm kind. absurd (kind refl);
-  ticks = λ plan dem s k shares adm serves bel before inside legal safe. edf_ticks (top_speed plan) plan adm.limits dem s bel serves ((full_enough plan adm).edf serves) k shares before legal safe;
-  stays_calm = λ plan dem s k adm serves bel safe. edf_stays_calm (top_speed plan) plan adm.limits dem s bel k safe;
-  completes = λ plan dem s adm serves bel calm. edf_completes (top_speed plan) plan adm.limits dem s bel calm;
+  pairs = λ sch serves. subst (λ (s : Scheduler). IsPair s Ahead) (sym serves) refl;
+  low_den = λ plan s on of dec. ahead_den plan s on.admitted dec;
+  opens = λ plan on. edf_opens (top_speed plan) plan on.admitted.limits ((full_enough plan on.admitted).edf on.served);
+  releases = λ plan dem s run calm. edf_releases (top_speed plan) plan run.admitted.limits dem s run.belongs calm;
+  chooses = λ plan dem s run dec calm. ahead_chooses plan s dem run.admitted run.served run.belongs calm;
+  meets = λ plan dem s run dec calm kind. absurd (kind refl);
+  ticks = λ plan dem s run k safe shares may.
+      edf_ticks (top_speed plan) plan run.admitted.limits dem s run.belongs run.served ((full_enough plan run.admitted).edf run.served) k shares may.before may.legal safe;
+  stays_calm = λ plan dem s run k safe. edf_stays_calm (top_speed plan) plan run.admitted.limits dem s run.belongs k safe;
+  completes = λ plan dem s run calm. edf_completes (top_speed plan) plan run.admitted.limits dem s run.belongs calm;
 }

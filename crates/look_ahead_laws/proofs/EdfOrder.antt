@@ -5,7 +5,7 @@ use Rattle.sched_model.specs.Priority.{stands_before}
 use Rattle.sched_model.specs.Order.{in_order}
 use Rattle.sched_model.proofs.PriorityLemmas.{before-self, before-not}
 use Rattle.sched_model.proofs.OrderLemmas.{sum_list, IsAhead, IsOrdered, first_ahead, sum_list-in_order, in_order-ordered}
-use Rattle.look_ahead_laws.specs.Whole.{sum_after}
+use Rattle.sched_model.specs.AheadDemand.{sum_after}
 
 -- the keys rise along the order
 pub key_rises : (key : ℕ → ℕ) (i j : ℕ) → stands_before key i j ≡ true → key i ≤ key j

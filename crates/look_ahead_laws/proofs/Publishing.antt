@@ -5,6 +5,7 @@ use Rattle.dvs_base.specs.declared.kind.GovernorKind.TheVariants.{Ahead}
 use Rattle.grid_fraction.proofs.Least.{least-same}
 use Rattle.sched_model.specs.declared.state.Row.{Row}
 use Rattle.sched_model.specs.Plan.{Plan, count, rate}
+use Rattle.sched_model.specs.Demands.{JobDemands}
 use Rattle.sched_model.specs.Jobs.{deadline}
 use Rattle.sched_model.specs.Ticks.{Tick, wleft}
 use Rattle.sched_model.specs.Order.{in_order}
@@ -14,8 +15,9 @@ use Rattle.sched_model.specs.States.{no_row, row_at, row_wleft, row_of, state_of
 use Rattle.sched_model.proofs.OrderLemmas.{AreBelow, in_order-below, in_order-same, sum_before-same}
 use Rattle.sched_model.proofs.Tables.{get-table}
 use Rattle.governor.specs.Steps.{wleft_at}
-use Rattle.governor.specs.Schedule.{Publishes}
+use Rattle.governor.specs.Schedule.{Publishes, PublishingLaws}
 use Rattle.governor.specs.Serving.{ServesEdf}
+use Rattle.governor.proofs.OneSchedule.{publishing_laws}
 use Rattle.look_ahead_laws.specs.Ahead.{deadline_at, ahead_demand}
 
 module _ (p : Plan) (due due' left left' : ℕ → ℕ) (same : (i : ℕ) → i < count p → due i ≡ due' i) (same_left : (i : ℕ) → i < count p → left i ≡ left' i) where
@@ -51,7 +53,7 @@ module _ (p : Plan) (due due' left left' : ℕ → ℕ) (same : (i : ℕ) → i 
       (due_first-same (in_order due (count p)) (in_order-below due (count p)) ∙ ap (due_first p due' left') (in_order-same due due' (count p) same))
       (ap (λ a. a - t) first_same)
 
-module _ (p : Plan) (dem : ℕ → ℕ → ℕ) (past : List Tick) where
+module _ (p : Plan) (dem : JobDemands) (past : List Tick) where
   row_is : (i : ℕ) → i < count p → row_at (state_of p dem past) i ≡ row_of p dem past i
   row_is i lt = get-table (count p) (row_of p dem past) i no_row lt
 
@@ -64,10 +66,13 @@ module _ (p : Plan) (dem : ℕ → ℕ → ℕ) (past : List Tick) where
       (length past)
 
 -- after any ticks, whatever the demands of the jobs
-pub published-ahead : (p : Plan) → ServesEdf p.scheduler → (dem : ℕ → ℕ → ℕ) (past : List Tick) → published p Ahead dem past ≡ ahead_demand p (state_of p dem past)
+pub published-ahead : (p : Plan) → ServesEdf p.scheduler → (dem : JobDemands) (past : List Tick) → published p Ahead dem past ≡ ahead_demand p (state_of p dem past)
 unfolding published
 published-ahead p serves dem past =
     subst (λ (sch : Scheduler). demand_by sch Ahead p dem past ≡ ahead_demand p (state_of p dem past)) (sym serves) (ahead-is p dem past)
 
 pub ahead-publishes : (p : Plan) → ServesEdf p.scheduler → Publishes ahead_demand Ahead p
 ahead-publishes p serves dem within ask past is = published-ahead p serves dem past
+
+pub ahead_publishing : PublishingLaws Ahead ServesEdf ahead_demand
+ahead_publishing = publishing_laws ahead_demand Ahead ServesEdf (λ p adm serves. ahead-publishes p serves)

@@ -14,7 +14,7 @@ use Rattle.sched_model.proofs.OrderLemmas.{sum_list, sum_list-in_order, IsOrdere
 use Rattle.governor.specs.Steps.{wleft_at}
 use Rattle.governor.specs.Serving.{ServesEdf}
 use Rattle.look_ahead_laws.specs.Ahead.{deadline_at, edf_order, ahead_demand}
-use Rattle.look_ahead_laws.specs.Whole.{rates_before, rates_after, IsSpread, HasSpread, IsDemandOfSpread, RatesFit}
+use Rattle.look_ahead_laws.specs.Whole.{rates_before, rates_after, IsSpreadIn, HasSpread, IsDemandOfSpread, RatesFit}
 use Rattle.look_ahead_laws.proofs.EdfOrder.{sum_after-suffix}
 use Rattle.look_ahead_laws.proofs.AheadLaws.{each_rate}
 
@@ -31,7 +31,7 @@ module _ (plan : Plan) (s : StateOf) where
   back_below : (l xs : List ℕ) → edf_order plan s ≡ l ++ xs → AreBelow (count plan) xs
   back_below l xs e = below-from (count plan) l xs (subst (AreBelow (count plan)) e (in_order-below due (count plan)))
 
-  module _ (y v : ℕ → ℕ) (spread : IsSpread plan s y v) where
+  module _ (y v : ℕ → ℕ) (spread : IsSpreadIn plan s y v) where
     -- one task, where the sum of the rates after it is as in the definition
     put_same : (i after : ℕ) → i < count plan → rates_after plan s v i ≡ after → y i ≡ put_off plan due left after i
     put_same i after lt e = spread.put i lt ∙ ap (λ (a : ℕ). put_off plan due left a i) e
@@ -120,7 +120,7 @@ module _ (plan : Plan) (s : StateOf) where
       let at = rate_here l xs i e in
       omega (arith, rest, at)
 
-  found_spread : IsSpread plan s (put_in (edf_order plan s)) (rate_in (edf_order plan s))
+  found_spread : IsSpreadIn plan s (put_in (edf_order plan s)) (rate_in (edf_order plan s))
   found_spread = record {
     put = λ i lt.
         let at = stands-in_order due (count plan) i lt in

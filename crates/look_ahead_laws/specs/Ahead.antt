@@ -6,7 +6,7 @@ use Rattle.sched_model.specs.Order.{in_order}
 use Rattle.sched_model.specs.AheadDemand.{ahead_of}
 use Rattle.sched_model.specs.States.{StateOf, row_at}
 use Rattle.governor.specs.Steps.{wleft_at}
-use Rattle.one_speed.specs.Edf.{EdfCalm, EdfSafe}
+use Rattle.governor.specs.Edf.{EdfCalm, EdfSafe}
 
 -- Di, the deadline of the latest job of task i
 abbrev pub deadline_at : StateOf → ℕ → ℕ
@@ -24,6 +24,7 @@ ahead_demand plan s = ahead_of plan (deadline_at s) (wleft_at s) s.now
 abbrev pub AheadCalm : Plan → StateOf → Type 0
 AheadCalm plan s = EdfCalm (top_speed plan) plan s
 
--- what holds while the entry k is in force: it fits at that entry up to the earliest deadline, and at the highest speed from there on
+-- what holds while the entry k is in force: it fits at that entry up to the earliest deadline, and at the highest speed
+-- from there on
 abbrev pub AheadSafe : Plan → StateOf → ℕ → Type 0
 AheadSafe plan s k = EdfSafe (top_speed plan) plan s k

@@ -30,7 +30,8 @@ module _ (old new : SinkView) where
   refused-somehow (status.OverWorst task job units worst) h = tt
   refused-somehow status.NoMemory h = tt
 
-  refused-ends : {A : Type 0} (step : Result A Status) (k : A → Result (List ℕ) Status) (s : Status) → EndsWith step s → Ends old new (and_then step k) s
+  refused-ends : {A : Type 0} (step : Result A Status) (k : A → Result (List ℕ) Status) (s : Status) → EndsWith step s
+      → Ends old new (and_then step k) s
   refused-ends step k status.Done h = absurd h
   refused-ends step k status.Write h = absurd h
   refused-ends step k status.Words h = absurd h
@@ -48,13 +49,15 @@ module _ (old new : SinkView) where
   refused-as (Some files) step k s h = refused-ends (step files) (k files) s h
 
   pub given-as : {A : Type 0} (told : Option Files) (step : Files → Result A Status) (k : Files → A → Result (List ℕ) Status) (a : A) (s : Status)
-      → Gives told step a → EndsAs old new told (λ files. k files a) s → EndsAs old new told (λ files. and_then (step files) (k files)) s
+      → Gives told step a → EndsAs old new told (λ files. k files a) s
+      → EndsAs old new told (λ files. and_then (step files) (k files)) s
   given-as None step k a s g h = h
   given-as {A} (Some files) step k a s g h =
       let P : Result A Status → Type 0 = λ r. Ends old new (and_then r (k files)) s in
       subst P (sym g) h
 
   -- an answer that is the same for all files
-  pub plain-as : (told : Option Files) (answer : Result (List ℕ) Status) (s : Status) → Ends old new answer s → EndsAs old new told (λ files. answer) s
+  pub plain-as : (told : Option Files) (answer : Result (List ℕ) Status) (s : Status) → Ends old new answer s
+      → EndsAs old new told (λ files. answer) s
   plain-as None answer s h = ends-somehow answer s h
   plain-as (Some files) answer s h = h

@@ -1,190 +1,29 @@
 -- The headline, from how an answer ends and what its run met.
-use Rattle.std.proofs.Common.{◌≡◌, ◌≢◌, ◌⊎◌, inl, inr, ℕ, ◌*◌, ◌≤◌, Bool, true, false, List, [], length, Option, Some, None, Result, Ok, Err, refl, sym, ◌∙◌, ap, subst, arith, true≢false, nat_lt, if◌then◌else◌}
+use Rattle.std.proofs.Common.{◌≡◌, ◌≢◌, ◌⊎◌, inl, inr, ℕ, ◌≤◌, Bool, true, false, List, [], Option, Some, None, Result, Ok, Err, refl, sym, ◌∙◌, ap, subst, arith, true≢false, nat_lt, if◌then◌else◌}
 use Rattle.std.proofs.lemmas.Bool.Decides.{nat_tests}
 use Rattle.std.specs.Io.KnownBytes.{Appends}
-use Rattle.dvs_base.specs.Outside.{Files, SinkView, Rose, file_of}
+use Rattle.dvs_base.specs.Outside.{Files, SinkView, Rose}
 use Rattle.dvs_base.specs.Checks.{and_then}
-use Rattle.dvs_base.specs.declared.kind.Scheduler.{Scheduler}
-use Rattle.dvs_base.specs.declared.kind.Scheduler.TheVariants.{Edf, Rm}
 use Rattle.task_model.specs.declared.task.Task.{Task}
-use Rattle.task_model.specs.declared.fault.TaskFault.{TaskFault}
-use Rattle.task_model.specs.declared.fault.TaskFault.TheVariants as task_fault
-use Rattle.task_model.specs.TaskFile.{task_file}
 use Rattle.freq_table.specs.Tables.{Table}
-use Rattle.freq_table.specs.MachineFile.{machine_file}
-use Rattle.freq_table.specs.declared.fault.MachineFault.{MachineFault}
-use Rattle.freq_table.specs.declared.fault.MachineFault.TheVariants as machine_fault
 use Rattle.demand_list.specs.Demands.{DemandsOf}
-use Rattle.demand_list.specs.DemandFile.{demand_file}
-use Rattle.demand_list.specs.declared.fault.DemandFault.{DemandFault}
-use Rattle.demand_list.specs.declared.fault.DemandFault.TheVariants as demand_fault
-use Rattle.sched_model.specs.Plan.{Plan, plan_of, period, hyper, top_speed}
-use Rattle.sched_model.specs.Tests.{total_rate, level_work}
-use Rattle.sched_model.specs.Admission.{PassesTest}
+use Rattle.sched_model.specs.Plan.{Plan, plan_of}
 use Rattle.sched_model.specs.Demands.{demand_of}
 use Rattle.sched_model.specs.Text.{run_text}
-use Rattle.event_kernel.specs.Runs.{released_jobs, most_jobs}
+use Rattle.sched_model.specs.Jobs.{released_jobs}
+use Rattle.event_kernel.specs.Runs.{most_jobs}
 use Rattle.rtdvs_top.specs.Words.{RunOf, CommandOf, run, admit}
-use Rattle.rtdvs_top.specs.Answer.{bytes_from, bytes_at, tasks_from, machine_from, demands_from, tasks_at, machine_at, demands_at, admission, admission_by, admission_from, first_overloaded, within_jobs, prepared_of, answer_of_prepared, answer_of_tasks, answer_of_command, longest}
+use Rattle.rtdvs_top.specs.Answer.{tasks_at, machine_at, demands_at, admission, within_jobs, prepared_of, answer_of_prepared, answer_of_tasks, answer_of_command}
 use Rattle.rtdvs_top.specs.Promises.{Means, DoneRun, DeniedPlan, OfRun, RunsOrIsDenied, Answers, Headline}
 use Rattle.rtdvs_top.specs.Ending.{EndsAs, MetIn, HasMet, run_with}
 use Rattle.rtdvs_top.specs.declared.status.Denied.{Denied}
-use Rattle.rtdvs_top.specs.declared.status.Denied.TheVariants as denied
-use Rattle.rtdvs_top.specs.declared.status.FileKind.{FileKind}
-use Rattle.rtdvs_top.specs.declared.status.FileKind.TheVariants as file
-use Rattle.rtdvs_top.specs.declared.status.TextFault.TheVariants as text
 use Rattle.rtdvs_top.specs.declared.status.Status.{Status}
 use Rattle.rtdvs_top.specs.declared.status.Status.TheVariants as status
-use Rattle.rtdvs_top.proofs.Overloads.{overloaded-none}
-
--- whether a status is a denial
-abbrev is_denial : Status → Bool
-is_denial (status.NotAdmitted why) = true
-is_denial s = false
-
--- the status of a step that gave no value
-abbrev status_of : {A : Type 0} → Result A Status → Status
-status_of (Ok a) = status.Done
-status_of (Err s) = s
-
-abbrev is_given : {A : Type 0} → Result A Status → Bool
-is_given (Ok a) = true
-is_given (Err s) = false
-
--- a step that denies nothing
-abbrev DeniesNot : {A : Type 0} → Result A Status → Type 0
-DeniesNot step = is_denial (status_of step) ≡ false
-
-then-denies-not : {A B : Type 0} (step : Result A Status) (next : A → Result B Status) → DeniesNot step → ((a : A) → DeniesNot (next a)) → DeniesNot (and_then step next)
-then-denies-not (Ok a) next here later = later a
-then-denies-not (Err s) next here later = here
-
--- a chain that denies does so in a later step, where the first denies nothing
-denied-later : {A B : Type 0} (step : Result A Status) (next : A → Result B Status) (why : Denied) → DeniesNot step → and_then step next ≡ Err (status.NotAdmitted why)
-    → (a : A) × (step ≡ Ok a) × (next a ≡ Err (status.NotAdmitted why))
-denied-later (Ok a) next why here e = (a, refl, e)
-denied-later (Err s) next why here e = absurd (true≢false (sym (ap (λ r. is_denial (status_of r)) e) ∙ here))
-
--- and in the first one, where the later ones deny nothing
-denied-first : {A B : Type 0} (step : Result A Status) (next : A → Result B Status) (why : Denied) → ((a : A) → DeniesNot (next a)) → and_then step next ≡ Err (status.NotAdmitted why)
-    → step ≡ Err (status.NotAdmitted why)
-denied-first (Ok a) next why later e = absurd (true≢false (sym (ap (λ r. is_denial (status_of r)) e) ∙ later a))
-denied-first (Err s) next why later e = ap (λ r. Err (status_of r)) e
-
--- a chain that gives a value does so in each of its steps
-given-both : {A B : Type 0} (step : Result A Status) (next : A → Result B Status) (b : B) → and_then step next ≡ Ok b → (a : A) × (step ≡ Ok a) × (next a ≡ Ok b)
-given-both (Ok a) next b e = (a, refl, e)
-given-both (Err s) next b e = absurd (true≢false (sym (ap is_given e)))
-
-bytes-deny-not : (kind : FileKind) (held : Option (List ℕ)) → DeniesNot (bytes_from kind held)
-bytes-deny-not kind None = refl
-bytes-deny-not kind (Some bytes) = go (nat_lt longest (length bytes))
-  where
-    go : (b : Bool) → DeniesNot (if b then Err (status.Text (text.TooLong kind)) else Ok bytes)
-    go true = refl
-    go false = refl
-
-tasks-deny-not : (r : Result (List Task) TaskFault) → DeniesNot (tasks_from r)
-tasks-deny-not (Ok tasks) = refl
-tasks-deny-not (Err task_fault.NotToml) = refl
-tasks-deny-not (Err (task_fault.UnknownKey place key)) = refl
-tasks-deny-not (Err task_fault.NoTasks) = refl
-tasks-deny-not (Err (task_fault.TooMany count)) = refl
-tasks-deny-not (Err (task_fault.Missing place field)) = refl
-tasks-deny-not (Err (task_fault.Kind place field)) = refl
-tasks-deny-not (Err (task_fault.Range place field)) = refl
-tasks-deny-not (Err (task_fault.BadName place)) = refl
-tasks-deny-not (Err (task_fault.SameName first second)) = refl
-tasks-deny-not (Err task_fault.Hyper) = refl
-tasks-deny-not (Err task_fault.NoMemory) = refl
-
-machine-denies-not : (r : Result Table MachineFault) → DeniesNot (machine_from r)
-machine-denies-not (Ok machine) = refl
-machine-denies-not (Err machine_fault.NotToml) = refl
-machine-denies-not (Err (machine_fault.UnknownKey place key)) = refl
-machine-denies-not (Err machine_fault.NoPoints) = refl
-machine-denies-not (Err (machine_fault.TooMany count)) = refl
-machine-denies-not (Err (machine_fault.Missing place field)) = refl
-machine-denies-not (Err (machine_fault.Kind place field)) = refl
-machine-denies-not (Err (machine_fault.Range place field)) = refl
-machine-denies-not (Err (machine_fault.NotRising place)) = refl
-machine-denies-not (Err machine_fault.NoMemory) = refl
-
-demands-deny-not : (r : Result DemandsOf DemandFault) → DeniesNot (demands_from r)
-demands-deny-not (Ok d) = refl
-demands-deny-not (Err demand_fault.Header) = refl
-demands-deny-not (Err (demand_fault.Fields row count)) = refl
-demands-deny-not (Err (demand_fault.UnknownTask row name)) = refl
-demands-deny-not (Err (demand_fault.BadNumber row column)) = refl
-demands-deny-not (Err (demand_fault.JobZero row)) = refl
-demands-deny-not (Err (demand_fault.Repeated row task job)) = refl
-demands-deny-not (Err (demand_fault.OverWorst task job units worst)) = refl
-demands-deny-not (Err demand_fault.NoMemory) = refl
-
-tasks_at-denies-not : (name : List ℕ) (files : Files) → DeniesNot (tasks_at name files)
-tasks_at-denies-not name files =
-    then-denies-not (bytes_at file.Tasks name files) (λ bytes. tasks_from (task_file bytes)) (bytes-deny-not file.Tasks (file_of files name)) (λ bytes. tasks-deny-not (task_file bytes))
-
-machine_at-denies-not : (name : List ℕ) (files : Files) → DeniesNot (machine_at name files)
-machine_at-denies-not name files =
-    then-denies-not (bytes_at file.Machine name files) (λ bytes. machine_from (machine_file bytes)) (bytes-deny-not file.Machine (file_of files name)) (λ bytes. machine-denies-not (machine_file bytes))
-
-demands_at-denies-not : (tasks : List Task) (name : Option (List ℕ)) (files : Files) → DeniesNot (demands_at tasks name files)
-demands_at-denies-not tasks None files = refl
-demands_at-denies-not tasks (Some name) files =
-    then-denies-not (bytes_at file.Demands name files) (λ bytes. demands_from (demand_file tasks bytes)) (bytes-deny-not file.Demands (file_of files name)) (λ bytes. demands-deny-not (demand_file tasks bytes))
-
-within-denies-not : (jobs : ℕ) (bytes : List ℕ) → DeniesNot (within_jobs jobs bytes)
-within-denies-not jobs bytes = go (nat_lt most_jobs jobs)
-  where
-    go : (b : Bool) → DeniesNot (if b then Err (status.Limit jobs) else Ok bytes)
-    go true = refl
-    go false = refl
-
--- a plan that passes its scheduler's test is admitted
-passes-admission : (sch : Scheduler) (p : Plan) → PassesTest sch p → admission_by sch p ≡ Ok p
-passes-admission Edf p h =
-    let fits : nat_lt (top_speed p * hyper p) (total_rate p) ≡ false = grind (arith, nat_tests) in
-    rw fits refl
-passes-admission Rm p h = ap (admission_from p) (overloaded-none p h)
-
--- what an admission answers: the plan itself, or a denial
-admission-is : (p : Plan) → (admission p ≡ Ok p) ⊎ ((why : Denied) × (admission p ≡ Err (status.NotAdmitted why)))
-admission-is p = by p.scheduler
-  where
-    by-edf : (b : Bool) (why : Denied) → let r = if b then Err (status.NotAdmitted why) else Ok p in (r ≡ Ok p) ⊎ ((d : Denied) × (r ≡ Err (status.NotAdmitted d)))
-    by-edf true why = inr (why, refl)
-    by-edf false why = inl refl
-
-    by-rm : (o : Option ℕ) → (admission_from p o ≡ Ok p) ⊎ ((d : Denied) × (admission_from p o ≡ Err (status.NotAdmitted d)))
-    by-rm None = inl refl
-    by-rm (Some i) = inr (denied.Rm i (level_work p i) (top_speed p * period p i), refl)
-
-    by : (sch : Scheduler) → (admission_by sch p ≡ Ok p) ⊎ ((d : Denied) × (admission_by sch p ≡ Err (status.NotAdmitted d)))
-    by Edf = by-edf (nat_lt (top_speed p * hyper p) (total_rate p)) (denied.Edf (total_rate p) (top_speed p * hyper p))
-    by Rm = by-rm (first_overloaded p)
-
--- a plan that is admitted is itself
-admission-same : (p q : Plan) → admission p ≡ Ok q → q ≡ p
-admission-same p q e = go (admission-is p)
-  where
-    plan_or : Result Plan Status → Plan
-    plan_or (Ok x) = x
-    plan_or (Err s) = p
-
-    go : (admission p ≡ Ok p) ⊎ ((why : Denied) × (admission p ≡ Err (status.NotAdmitted why))) → q ≡ p
-    go (inl same) = ap plan_or (sym e ∙ same)
-    go (inr denial) = absurd (true≢false (ap is_given (sym e ∙ denial.1)))
-
--- a plan that is denied fails its test
-denied-plan : (p : Plan) (why : Denied) → admission p ≡ Err (status.NotAdmitted why) → DeniedPlan p why
-denied-plan p why e = record {
-  numbers = e;
-  fails = λ h. true≢false (ap is_given (sym (passes-admission p.scheduler p h) ∙ e));
-}
+use Rattle.rtdvs_top.proofs.Denying.{status_of, is_given, denied-later, denied-first, given-both, tasks_at-denies-not, machine_at-denies-not, demands_at-denies-not, within-denies-not, admission-is, admission-same, denied-plan}
 
 -- what the files of a run that was prepared mean
-prepared-means : (r : RunOf) (files : Files) (tasks : List Task) (p : Plan) (d : DemandsOf) → tasks_at r.tasks files ≡ Ok tasks → prepared_of r tasks files ≡ Ok (p, d)
+prepared-means : (r : RunOf) (files : Files) (tasks : List Task) (p : Plan) (d : DemandsOf)
+    → tasks_at r.tasks files ≡ Ok tasks → prepared_of r tasks files ≡ Ok (p, d)
     → (machine : Table) × (demands : DemandsOf) × Means r files tasks machine demands × (p ≡ plan_of tasks machine r.scheduler) × (d ≡ demands)
 prepared-means r files tasks p d t e =
     let m = given-both (machine_at r.machine files) (λ machine. and_then (demands_at tasks r.demands files) (λ demands. and_then (admission (plan_of tasks machine r.scheduler)) (λ q. Ok (q, demands)))) (p, d) e in
@@ -200,7 +39,8 @@ prepared-means r files tasks p d t e =
     pair_of (Err s) = (p, d)
 
 -- what the files of a run that is denied mean
-denied-means : (r : RunOf) (files : Files) (why : Denied) → answer_of_command (run r) files ≡ Err (status.NotAdmitted why)
+denied-means : (r : RunOf) (files : Files) (why : Denied)
+    → answer_of_command (run r) files ≡ Err (status.NotAdmitted why)
     → (tasks : List Task) × (machine : Table) × (demands : DemandsOf) × Means r files tasks machine demands × DeniedPlan (plan_of tasks machine r.scheduler) why
 denied-means r files why e =
     let t = denied-later (tasks_at r.tasks files) (λ tasks. answer_of_tasks (run r) tasks files) why (tasks_at-denies-not r.tasks files) e in
@@ -214,7 +54,8 @@ denied-means r files why e =
     (tasks, machine, g.0, record { tasks_are = t.1; machine_is = m.1; demands_are = g.1 }, denied-plan (plan_of tasks machine r.scheduler) why numbers)
 
 -- the text of a run that is done
-done-text : (r : RunOf) (files : Files) (tasks : List Task) (p : Plan) (d : DemandsOf) (bytes : List ℕ) → tasks_at r.tasks files ≡ Ok tasks → prepared_of r tasks files ≡ Ok (p, d)
+done-text : (r : RunOf) (files : Files) (tasks : List Task) (p : Plan) (d : DemandsOf) (bytes : List ℕ)
+    → tasks_at r.tasks files ≡ Ok tasks → prepared_of r tasks files ≡ Ok (p, d)
     → answer_of_command (run r) files ≡ Ok bytes → bytes ≡ run_text p r.governor (demand_of p d.rows) r.ticks
 done-text r files tasks p d bytes t q e =
     within-text (released_jobs p r.ticks) (run_text p r.governor (demand_of p d.rows) r.ticks) bytes
@@ -233,8 +74,10 @@ done-text r files tasks p d bytes t q e =
 
 -- a run that is done, of the tasks, the machine and the demands that its files mean
 done-run : (r : RunOf) (files : Files) (old new : SinkView) (tasks : List Task) (p : Plan) (d : DemandsOf) (bytes : List ℕ)
-    → tasks_at r.tasks files ≡ Ok tasks → prepared_of r tasks files ≡ Ok (p, d) → answer_of_command (run r) files ≡ Ok bytes
-    → Appends old.written new.written bytes → HasMet r.governor (run_with r p d) → OfRun (Some files) (Some (run r)) old new status.Done
+    → tasks_at r.tasks files ≡ Ok tasks → prepared_of r tasks files ≡ Ok (p, d)
+    → answer_of_command (run r) files ≡ Ok bytes
+    → Appends old.written new.written bytes → HasMet r.governor (run_with r p d)
+    → OfRun (Some files) (Some (run r)) old new status.Done
 done-run r files old new tasks p d bytes t q e wrote met =
     let m = prepared-means r files tasks p d t q in
     let whole = done-text r files tasks p d bytes t q e in
@@ -244,7 +87,8 @@ done-run r files old new tasks p d bytes t q e wrote met =
     (tasks, m.0, m.1, m.2, whole_run.0, whole_run.1)
 
 -- the run of told files, from how its answer ends and what it met
-pub of-run : (told : Option Files) (c : CommandOf) (s : Status) (old new : SinkView) → EndsAs old new told (answer_of_command c) s → MetIn told c s → OfRun told (Some c) old new s
+pub of-run : (told : Option Files) (c : CommandOf) (s : Status) (old new : SinkView)
+    → EndsAs old new told (answer_of_command c) s → MetIn told c s → OfRun told (Some c) old new s
 of-run None c s old new ends met = tt
 of-run (Some files) (admit a) s old new ends met = tt
 of-run (Some files) (run r) status.Done old new ends met =
@@ -277,15 +121,18 @@ module _ (r : RunOf) (files : Files) (tasks : List Task) (machine : Table) (dema
   few-text = grind (arith, nat_tests)
 
   -- a status that the answer refuses with is a denial
-  denied-only : (s : Status) → answer_of_command (run r) files ≡ Err s → (why : Denied) × (s ≡ status.NotAdmitted why) × DeniedPlan plan why
+  denied-only : (s : Status) → answer_of_command (run r) files ≡ Err s
+      → (why : Denied) × (s ≡ status.NotAdmitted why) × DeniedPlan plan why
   denied-only s e = go (admission-is plan)
     where
-      go : (admission plan ≡ Ok plan) ⊎ ((why : Denied) × (admission plan ≡ Err (status.NotAdmitted why))) → (why : Denied) × (s ≡ status.NotAdmitted why) × DeniedPlan plan why
+      go : (admission plan ≡ Ok plan) ⊎ ((why : Denied) × (admission plan ≡ Err (status.NotAdmitted why)))
+          → (why : Denied) × (s ≡ status.NotAdmitted why) × DeniedPlan plan why
       go (inl ok) = absurd (true≢false (ap is_given (sym few-text ∙ (sym (ap after ok) ∙ (sym answer-is ∙ e)))))
       go (inr denial) = (denial.0, ap status_of (sym e ∙ (answer-is ∙ ap after denial.1)), denied-plan plan denial.0 denial.1)
 
   -- a run that is done is of what its files mean
-  done-only : (old new : SinkView) → OfRun (Some files) (Some (run r)) old new status.Done → DoneRun r.governor (run_with r plan demands) old new
+  done-only : (old new : SinkView) → OfRun (Some files) (Some (run r)) old new status.Done
+      → DoneRun r.governor (run_with r plan demands) old new
   done-only old new x =
       let ts = ap given_tasks (sym x.3.tasks_are ∙ means.tasks_are) in
       let ms = ap given_machine (sym x.3.machine_is ∙ means.machine_is) in
@@ -305,8 +152,10 @@ module _ (r : RunOf) (files : Files) (tasks : List Task) (machine : Table) (dema
       given_demands (Ok a) = a
       given_demands (Err s) = demands
 
-  pub runs-or-is-denied : (loads_rose : Type 0) (old new : SinkView) (s : Status) → OfRun (Some files) (Some (run r)) old new s
-      → Answers (Some files) (Some (run r)) loads_rose (Rose old.faults new.faults) s → (loads_rose → ⊥) → (Rose old.faults new.faults → ⊥) → s ≢ status.NoMemory
+  pub runs-or-is-denied : (loads_rose : Type 0) (old new : SinkView) (s : Status)
+      → OfRun (Some files) (Some (run r)) old new s
+      → Answers (Some files) (Some (run r)) loads_rose (Rose old.faults new.faults) s → (loads_rose → ⊥)
+      → (Rose old.faults new.faults → ⊥) → s ≢ status.NoMemory
       → RunsOrIsDenied r.governor (run_with r plan demands) old new s
   runs-or-is-denied loads_rose old new status.Done of answers still whole_out memory = inl (refl, done-only old new of)
   runs-or-is-denied loads_rose old new (status.NotAdmitted why) of answers still whole_out memory = inr (denied-only (status.NotAdmitted why) answers)
@@ -320,7 +169,8 @@ module _ (r : RunOf) (files : Files) (tasks : List Task) (machine : Table) (dema
   runs-or-is-denied loads_rose old new status.NoMemory of answers still whole_out memory = absurd (memory refl)
 
 -- the headline, from what holds of each run and from whose answer the status is
-pub headline-of : (told : Option Files) (c : Option CommandOf) (loads_rose : Type 0) (old new : SinkView) (s : Status) → OfRun told c old new s
+pub headline-of : (told : Option Files) (c : Option CommandOf) (loads_rose : Type 0) (old new : SinkView) (s : Status)
+    → OfRun told c old new s
     → Answers told c loads_rose (Rose old.faults new.faults) s → Headline told c loads_rose old new s
 headline-of None c loads_rose old new s of answers = tt
 headline-of (Some files) None loads_rose old new s of answers = tt

@@ -2,7 +2,7 @@
 use Rattle.std.proofs.Common.{ℕ, ◌<◌, List, length, arith}
 use Rattle.dvs_base.specs.declared.note.Note.{Note}
 use Rattle.dvs_base.specs.declared.note.Note.TheVariants.{Release, Speed, Run, Idle, Done, End}
-use Rattle.dvs_base.specs.TraceLines.{note_text}
+use Rattle.trace_text.specs.TraceLines.{note_text}
 
 pub note-some : (names : List (List ℕ)) (n : Note) → 0 < length (note_text names n)
 unfolding note_text

@@ -26,7 +26,8 @@ abbrev IsShownStep : {A : Type 0} → Result A DemandFault → Type 0
 IsShownStep (Ok a) = ⊤
 IsShownStep (Err e) = IsShownFault e
 
-then-shown : {A B : Type 0} (step : Result A DemandFault) (next : A → Result B DemandFault) → IsShownStep step → ((a : A) → IsShownStep (next a)) → IsShownStep (and_then step next)
+then-shown : {A B : Type 0} (step : Result A DemandFault) (next : A → Result B DemandFault) → IsShownStep step
+    → ((a : A) → IsShownStep (next a)) → IsShownStep (and_then step next)
 then-shown (Ok a) next here later = later a
 then-shown (Err e) next here later = here
 
@@ -42,7 +43,8 @@ number-shown : (row : ℕ) (at : Column) (o : Option ℕ) → IsShownStep (numbe
 number-shown row at None = tt
 number-shown row at (Some n) = tt
 
-choice-shown : {A : Type 0} (b : Bool) (x y : Result A DemandFault) → (b ≡ true → IsShownStep x) → IsShownStep y → IsShownStep (if b then x else y)
+choice-shown : {A : Type 0} (b : Bool) (x y : Result A DemandFault) → (b ≡ true → IsShownStep x) → IsShownStep y
+    → IsShownStep (if b then x else y)
 choice-shown true x y h k = h refl
 choice-shown false x y h k = k
 
@@ -54,7 +56,8 @@ row-shown tasks row fields =
     then-shown _ _ (choice-shown (number == 0) (Err (fault.JobZero row)) (Ok number) (λ h. tt) tt) (λ job.
     then-shown _ _ (number-shown row column.Units (number_below (2 ^ 64) three.2)) (λ units. tt)))))
 
-earlier-shown : (row task job : ℕ) (o : Option ℕ) (rest : Result DemandsOf DemandFault) → IsShownStep rest → IsShownStep (no_earlier row task job o rest)
+earlier-shown : (row task job : ℕ) (o : Option ℕ) (rest : Result DemandsOf DemandFault) → IsShownStep rest
+    → IsShownStep (no_earlier row task job o rest)
 earlier-shown row task job None rest h = h
 earlier-shown row task job (Some units) rest h = tt
 
@@ -63,7 +66,8 @@ checked-shown d row task job units =
     earlier-shown row task job (named d.rows task job) _
     (choice-shown (nat_lt (slice_index d.worsts task) units) (Err (fault.OverWorst task job units (slice_index d.worsts task))) _ (λ h. grind (arith, nat_tests)) tt)
 
-rows-shown : (tasks : List Task) (row : ℕ) (d : DemandsOf) (rows : List (List (List ℕ))) → IsShownStep (demands_from tasks row d rows)
+rows-shown : (tasks : List Task) (row : ℕ) (d : DemandsOf) (rows : List (List (List ℕ)))
+    → IsShownStep (demands_from tasks row d rows)
 rows-shown tasks row d [] = tt
 rows-shown tasks row d (fields ∷ rest) =
     then-shown _ _ (row-shown tasks row fields) (λ r.
@@ -76,7 +80,8 @@ header-shown (header ∷ rows) = choice-shown (is_header header) (Ok rows) (Err 
 file-shown : (tasks : List Task) (bytes : List ℕ) → IsShownStep (demand_file tasks bytes)
 file-shown tasks bytes = then-shown _ _ (search header-shown) (rows-shown tasks 1 (worst_list tasks))
 
-pub demand-shown : (tasks : List Task) (bytes : List ℕ) (e : DemandFault) → (e ≢ fault.NoMemory → demand_file tasks bytes ≡ Err e) → IsShown (demand_status e)
+pub demand-shown : (tasks : List Task) (bytes : List ℕ) (e : DemandFault)
+    → (e ≢ fault.NoMemory → demand_file tasks bytes ≡ Err e) → IsShown (demand_status e)
 demand-shown tasks bytes fault.NoMemory h = tt
 demand-shown tasks bytes fault.Header h = tt
 demand-shown tasks bytes (fault.Fields row count) h = tt

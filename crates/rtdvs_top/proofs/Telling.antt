@@ -5,7 +5,7 @@ use Rattle.sched_model.specs.Plan.{Plan}
 use Rattle.sched_model.specs.Admission.{PassesTest}
 use Rattle.sched_model.specs.Demand.{published}
 use Rattle.sched_model.specs.Schedule.{schedule, schedule_by, HasSchedule, HasNoOther}
-use Rattle.sched_model.specs.WholeRuns.{IsTheSchedule}
+use Rattle.sched_model.specs.TheSchedule.{IsTheSchedule}
 use Rattle.done_lines.specs.DoneLines.{TextTellsDeadlines}
 use Rattle.event_kernel.specs.Runs.{Run}
 use Rattle.rtdvs_top.specs.Ending.{MeetsAllOf, HasMetIfDone, job_demands}
@@ -13,14 +13,16 @@ use Rattle.rtdvs_top.specs.declared.status.Status.{Status}
 use Rattle.rtdvs_top.specs.declared.status.Status.TheVariants as status
 
 -- a plan's schedule of a length is its one schedule of that length
-the-schedule : (p : Plan) (kind : GovernorKind) (dem : ℕ → ℕ → ℕ) (t : ℕ) → HasSchedule p → HasNoOther p → IsTheSchedule p kind dem t (schedule p kind dem t)
+the-schedule : (p : Plan) (kind : GovernorKind) (dem : ℕ → ℕ → ℕ) (t : ℕ) → HasSchedule p → HasNoOther p
+    → IsTheSchedule p kind dem t (schedule p kind dem t)
 the-schedule p kind dem t exists unique = record {
   legal = (exists dem (published p kind dem) t).0;
   whole = (exists dem (published p kind dem) t).1;
   only = λ other legal whole. unique dem (published p kind dem) other legal ∙ ap (schedule_by p dem (published p kind dem)) whole;
 }
 
-pub has-met : (kind : GovernorKind) (r : Run) → r.ticks ≤ 2 ^ 40 → TextTellsDeadlines r.plan → PassesTest r.plan.scheduler r.plan → HasSchedule r.plan → HasNoOther r.plan
+pub has-met : (kind : GovernorKind) (r : Run) → r.ticks ≤ 2 ^ 40 → TextTellsDeadlines r.plan
+    → PassesTest r.plan.scheduler r.plan → HasSchedule r.plan → HasNoOther r.plan
     → (s : Status) → MeetsAllOf kind r s → HasMetIfDone kind r s
 has-met kind r low tells test exists unique status.Done h = record {
   admitted = test;

@@ -52,7 +52,8 @@ wrote-some-more a b t u w = record {
 }
 
 -- the writing of a second text, after the first was written whole
-pub writing-then : {T E : Type 0} (a b c : SinkView) (t u : List ℕ) (r : Result T E) → Wrote a b t → Writing b c u r → Writing a c (t ++ u) r
+pub writing-then : {T E : Type 0} (a b c : SinkView) (t u : List ℕ) (r : Result T E) → Wrote a b t → Writing b c u r
+    → Writing a c (t ++ u) r
 writing-then a b c t u (Ok v) w x = wrote-then a b c t u w x
 writing-then a b c t u (Err e) w x = wrote-then-some a b c t u w x
 

@@ -3,7 +3,7 @@ use Rattle.std.proofs.Common.{◌≡◌, ℕ, List, refl, ap, ◌∙◌}
 use Rattle.std.specs.Prelude.{flat_map}
 use Rattle.dvs_base.specs.Outside.{SinkView}
 use Rattle.dvs_base.specs.declared.note.Note.{Note}
-use Rattle.dvs_base.specs.TraceLines.{note_text}
+use Rattle.trace_text.specs.TraceLines.{note_text}
 use Rattle.event_kernel.specs.Heard.{HasHeard, HasBalked}
 use Rattle.rtdvs_top.specs.Writing.{Wrote, WroteSome}
 use Rattle.rtdvs_top.specs.declared.writer.TraceWriter.{TraceWriter}

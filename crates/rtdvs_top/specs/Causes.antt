@@ -39,8 +39,8 @@ abbrev pub Refuses : {A : Type 0} → Option Files → (Files → Result A Statu
 Refuses None step s = IsRefusal s
 Refuses (Some files) step s = EndsWith (step files) s
 
--- a load failed: the files are told and lack the name, or the count of faults rose and the shelf was not sure of so many
--- loads; the place is the load's number among those since the old shelf
+-- a load failed: the files are told and lack the name, or the count of faults rose and the shelf was not sure of so
+-- many loads; the place is the load's number among those since the old shelf
 abbrev pub LoadFails : ShelfView → ShelfView → ℕ → List ℕ → Type 0
 LoadFails old new place name = Lacks old.held name ⊎ (Rose old.faults new.faults × (old.sure < place))
 
@@ -117,5 +117,6 @@ PassesMachine told c s = ⊤
 -- a load fails only after the files before it were read, where they are told
 abbrev pub PassesBefore : Option Files → CommandOf → Status → Type 0
 PassesBefore (Some files) c (status.Load file.Machine) = IsOk (tasks_at (tasks_name c) files)
-PassesBefore (Some files) c (status.Load file.Demands) = IsOk (tasks_at (tasks_name c) files) × IsOk (machine_at (machine_name c) files)
+PassesBefore (Some files) c (status.Load file.Demands) =
+    IsOk (tasks_at (tasks_name c) files) × IsOk (machine_at (machine_name c) files)
 PassesBefore told c s = ⊤

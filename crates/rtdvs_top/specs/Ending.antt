@@ -3,19 +3,20 @@ use Rattle.std.specs.Prelude.{◌≡◌, ◌≢◌, ℕ, List, Option, Some, Non
 use Rattle.dvs_base.specs.Outside.{Files, SinkView}
 use Rattle.dvs_base.specs.declared.kind.GovernorKind.{GovernorKind}
 use Rattle.dvs_base.specs.declared.kind.GovernorKind.TheVariants.{Ahead}
-use Rattle.grid_fraction.specs.declared.Frac.{Frac}
+use Rattle.governor.specs.Meanings.{OwnDemand}
 use Rattle.demand_list.specs.Demands.{DemandsOf}
 use Rattle.task_model.specs.declared.task.Task.{Task}
 use Rattle.sched_model.specs.Plan.{Plan, names}
+use Rattle.sched_model.specs.Demands.{JobDemands}
+use Rattle.sched_model.specs.Jobs.{released_jobs}
 use Rattle.sched_model.specs.Ticks.{Tick}
-use Rattle.sched_model.specs.States.{StateOf}
 use Rattle.sched_model.specs.Text.{trace_text, run_text}
 use Rattle.sched_model.specs.Deadlines.{IsMet}
 use Rattle.sched_model.specs.Admission.{PassesTest}
-use Rattle.sched_model.specs.Schedule.{schedule, HasSchedule, HasNoOther}
-use Rattle.sched_model.specs.WholeRuns.{IsTheSchedule, AlwaysMeets}
+use Rattle.sched_model.specs.Schedule.{schedule, AlwaysMeets, HasSchedule, HasNoOther}
+use Rattle.sched_model.specs.TheSchedule.{IsTheSchedule}
 use Rattle.done_lines.specs.DoneLines.{TellsDeadlines}
-use Rattle.event_kernel.specs.Runs.{Run, demands_of, notes_of_run, released_jobs, MeetsDeadlines, MeetsDemands}
+use Rattle.event_kernel.specs.Runs.{Run, demands_of, notes_of_run, MeetsDeadlines, MeetsDemands}
 use Rattle.rtdvs_top.specs.Answer.{within_jobs, prepared_of, tasks_at}
 use Rattle.rtdvs_top.specs.Words.{RunOf, CommandOf, run, admit}
 use Rattle.rtdvs_top.specs.Causes.{EndsWith, IsRefusal, Gives}
@@ -47,20 +48,20 @@ Leaves status.Write old new = ⊤
 Leaves s old new = new ≡ old
 
 -- the text of a run under a governor's own demand
-abbrev pub governed_text : GovernorKind → (Plan → StateOf → Frac) → Run → List ℕ
+abbrev pub governed_text : GovernorKind → OwnDemand → Run → List ℕ
 governed_text kind demand r = trace_text r.plan.scheduler kind r.ticks (names r.plan) (notes_of_run demand r)
 
 -- its answer
-abbrev pub governed_answer : GovernorKind → (Plan → StateOf → Frac) → Run → Result (List ℕ) Status
+abbrev pub governed_answer : GovernorKind → OwnDemand → Run → Result (List ℕ) Status
 governed_answer kind demand r = within_jobs (released_jobs r.plan r.ticks) (governed_text kind demand r)
 
 -- a run that was done meets every deadline, and every demand unless it looks ahead
-abbrev pub MeetsAll : GovernorKind → (Plan → StateOf → Frac) → Run → Status → Type 0
+abbrev pub MeetsAll : GovernorKind → OwnDemand → Run → Status → Type 0
 MeetsAll kind demand r status.Done = MeetsDeadlines demand r × (kind ≢ Ahead → MeetsDemands demand r)
 MeetsAll kind demand r s = ⊤
 
 -- the demand of each job of a run
-abbrev pub job_demands : Run → ℕ → ℕ → ℕ
+abbrev pub job_demands : Run → JobDemands
 job_demands r = demands_of r.plan r.demands
 
 -- the ticks of its schedule, by the published demand of the governor's kind
@@ -86,7 +87,8 @@ MeetsAllOf kind r s = ⊤
 pub record HasMet (kind : GovernorKind) (r : Run) : Type 0 where
   -- the scheduler's stated test passes at the highest speed
   pub admitted : PassesTest r.plan.scheduler r.plan
-  -- its ticks are the one schedule; each speed there is the lowest entry that meets the published demand, else the highest
+  -- its ticks are the one schedule, in which each speed is the lowest entry that meets the published demand, else the
+  -- highest
   pub schedule : IsTheSchedule r.plan kind (job_demands r) r.ticks (ticks_under kind r)
   -- each job that is due within the run has had its demand by its deadline
   pub deadlines : IsMet r.plan (job_demands r) (ticks_under kind r)

@@ -9,7 +9,8 @@ use Rattle.demand_list.specs.Demands.{DemandsOf}
 use Rattle.freq_table.specs.Tables.{Table}
 use Rattle.sched_model.specs.Plan.{Plan, plan_of}
 use Rattle.sched_model.specs.Admission.{PassesTest}
-use Rattle.event_kernel.specs.Runs.{Run, released_jobs, most_jobs}
+use Rattle.sched_model.specs.Jobs.{released_jobs}
+use Rattle.event_kernel.specs.Runs.{Run, most_jobs}
 use Rattle.rtdvs_top.specs.Words.{RunOf, CommandOf, command_of, run}
 use Rattle.rtdvs_top.specs.Answer.{answer_of_command, prepared_of, admission, tasks_at, machine_at, demands_at}
 use Rattle.rtdvs_top.specs.Naming.{names_by}
@@ -25,8 +26,8 @@ use Rattle.rtdvs_top.specs.declared.status.Status.TheVariants as status
 abbrev pub asked : List (String Global) → Option CommandOf
 asked words = command_of (map string_bytes words)
 
--- The status is the answer's; or a load failed, and the shelf's count of faults rose; or a put failed, where the answer has
--- a text, and the sink's count rose; or memory was wanting.
+-- The status is the answer's; or a load failed, and the shelf's count of faults rose; or a put failed, where the answer
+-- has a text, and the sink's count rose; or memory was wanting.
 abbrev pub IsAnswer : Type 0 → Type 0 → Result (List ℕ) Status → Status → Type 0
 IsAnswer loads_rose puts_rose answer status.NoMemory = ⊤
 IsAnswer loads_rose puts_rose answer (status.Load kind) = (answer ≡ Err (status.Load kind)) ⊎ loads_rose
@@ -88,8 +89,8 @@ pub record DeniedPlan (p : Plan) (why : Denied) : Type 0 where
   pub numbers : admission p ≡ Err (status.NotAdmitted why)
   pub fails : PassesTest p.scheduler p → ⊥
 
--- The run of told files, without a premise. One that is done is of the tasks, the machine and the demands that its files
--- mean, and so is one that is denied.
+-- The run of told files, without a premise. One that is done is of the tasks, the machine and the demands that its
+-- files mean, and so is one that is denied.
 abbrev pub OfRun : Option Files → Option CommandOf → SinkView → SinkView → Status → Type 0
 OfRun (Some files) (Some (run r)) old new status.Done =
     (tasks : List Task) × (machine : Table) × (demands : DemandsOf) × Means r files tasks machine demands
@@ -107,8 +108,8 @@ RunsOrIsDenied kind r old new s =
     ⊎ ((why : Denied) × (s ≡ status.NotAdmitted why) × DeniedPlan r.plan why)
 
 -- The headline. The files of a run are told, and mean these tasks, this machine and these demands; the run releases no
--- more jobs than the limit; no load and no put failed, and memory was found. Then the plan of these tasks, this machine and
--- the words' scheduler runs with these demands, or it is denied.
+-- more jobs than the limit; no load and no put failed, and memory was found. Then the plan of these tasks, this machine
+-- and the words' scheduler runs with these demands, or it is denied.
 abbrev pub Headline : Option Files → Option CommandOf → Type 0 → SinkView → SinkView → Status → Type 0
 Headline (Some files) (Some (run r)) loads_rose old new s =
     (tasks : List Task) (machine : Table) (demands : DemandsOf) → Means r files tasks machine demands

@@ -1,7 +1,7 @@
 -- What a sink got of a text.
 use Rattle.std.specs.Prelude.{◌≡◌, ◌⊎◌, ℕ, ◌+◌, ◌<◌, ◌≤◌, List, ◌++◌, length, Result, Ok, Err}
 use Rattle.std.specs.Io.KnownBytes.{Appends}
-use Rattle.dvs_base.specs.TraceLines.{version_text, plan_text}
+use Rattle.trace_text.specs.TraceLines.{version_text, plan_text}
 use Rattle.trace_text.specs.declared.write.PlanLine.{PlanLine}
 use Rattle.dvs_base.specs.Outside.{SinkView, Rose, AppendsPrefix}
 

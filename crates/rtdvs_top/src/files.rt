@@ -147,11 +147,15 @@ pub(crate) fn load_demands<S: Shelf>(
     tasks: &TaskSet,
     shelf: &mut S,
 ) -> Result<Demands, Status>
-    ensures read { IfOk result (Gives (S.shows shelf.old).held (demands_at tasks.now (option_map (λ s. s.now) name.entry))) }
+    ensures read { IfOk result
+        (Gives (S.shows shelf.old).held (demands_at tasks.now (option_map (λ s. s.now) name.entry))) }
     ensures worsts { IfOk result (λ d. d.worsts ≡ map (λ t. t.worst) tasks.now) }
-    ensures refused { IfErr result (Refuses (S.shows shelf.old).held (demands_at tasks.now (option_map (λ s. s.now) name.entry))) }
-    ensures explained { IfErr result (IsNamedLoadOf (S.shows shelf.old) (S.shows shelf.new) FileKind.Demands (option_map (λ s. s.now) name.entry)) }
-    ensures loads { MakesLoads (loads_named (option_map (λ s. s.now) name.entry)) (S.shows shelf.old) (S.shows shelf.new) }
+    ensures refused { IfErr result
+        (Refuses (S.shows shelf.old).held (demands_at tasks.now (option_map (λ s. s.now) name.entry))) }
+    ensures explained { IfErr result (IsNamedLoadOf (S.shows shelf.old) (S.shows shelf.new) FileKind.Demands
+        (option_map (λ s. s.now) name.entry)) }
+    ensures loads { MakesLoads (loads_named (option_map (λ s. s.now) name.entry))
+        (S.shows shelf.old) (S.shows shelf.new) }
     ensures shown { IfErr result IsShown }
 {
     match name {

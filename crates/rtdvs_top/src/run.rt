@@ -1,6 +1,6 @@
 // Admission, and the run of an admitted plan.
 ghost use Rattle.std.specs.Prelude.{◌≡◌, ◌≢◌, ◌≤◌, ◌<◌, ◌^◌, length, flat_map, Ok, IfOk, IfErr, OnOk};
-ghost use Rattle.dvs_base.specs.TraceLines.{note_text};
+ghost use Rattle.trace_text.specs.TraceLines.{note_text};
 ghost use Rattle.sched_model.specs.Plan.{plan_of};
 ghost use Rattle.sched_model.specs.StaticDemand.{static_demand};
 ghost use Rattle.sched_model.specs.States.{opening};
@@ -11,7 +11,7 @@ ghost use Rattle.rtdvs_top.specs.Asked.{planned, IsRunnable};
 ghost use Rattle.rtdvs_top.specs.Causes.{EndsWith, IsNoLoad};
 ghost use Rattle.rtdvs_top.specs.Ending.{Ends, Leaves, governed_answer, MeetsAll, MeetsAllOf, HasMetIfDone};
 ghost use Rattle.rtdvs_top.specs.Shown.{IsShown};
-ghost use Rattle.rtdvs_top.specs.Words.{IsPair};
+ghost use Rattle.trace_text.specs.Words.{IsPair};
 ghost use Rattle.rtdvs_top.specs.Writing.{Writing};
 
 use crate::writer::{TraceWriter, put_head, put_line};
@@ -20,11 +20,11 @@ use cc_edf::CcEdf;
 use cc_rm::CcRm;
 use demand_list::Demands;
 use done_lines::told_deadlines;
-use dvs_base::{Failed, GovernorKind, Line, Name, Part, Scheduler, Sink, line_of};
+use dvs_base::{Failed, GovernorKind, Line, Name, NoMemory, Part, Scheduler, Sink, line_of};
 use edf_admit::{EdfFault, edf_admit};
 use event_kernel::{Kernel, KernelFault, Stopped};
 use freq_table::Machine;
-use governor::Governor;
+use governor::{Governor, Publishing};
 use look_ahead::LookAhead;
 use rm_admit::{RmFault, rm_admit};
 use sched_model::{Admitted, one_schedule};
@@ -145,8 +145,8 @@ fn put_trace<G: Governor, W: Sink>(
     }
 }
 
-// The trace of a run under a governor.
-fn run_governed<G: Governor, W: Sink>(
+// The trace of a run under a governor that stands for the opening of its plan.
+fn run_from_opening<G: Governor, W: Sink>(
     alloc: Global,
     run: &PlannedRun<'_>,
     governor: G,
@@ -154,7 +154,8 @@ fn run_governed<G: Governor, W: Sink>(
 ) -> Status
     requires run { IsRunnable (planned run.now) }
     requires stands { G.stands governor run.now.plan.now (opening run.now.plan.now) }
-    ensures ended { Ends (W.shows out.old) (W.shows out.new) (governed_answer G.the_kind G.demand (planned run.now)) result }
+    ensures ended { Ends (W.shows out.old) (W.shows out.new)
+        (governed_answer G.the_kind G.demand (planned run.now)) result }
     ensures met { MeetsAll G.the_kind G.demand (planned run.now) result }
     ensures leaves { Leaves result out.old out.new }
     ensures loads { IsNoLoad result }
@@ -176,91 +177,21 @@ fn run_governed<G: Governor, W: Sink>(
     }
 }
 
-// A run under none.
-fn run_full<W: Sink>(alloc: Global, run: &PlannedRun<'_>, out: &mut W) -> Status
+// The trace of a run under a governor of this type.
+fn run_governed<G: Publishing, W: Sink>(alloc: Global, run: &PlannedRun<'_>, out: &mut W) -> Status
     requires run { IsRunnable (planned run.now) }
-    ensures ended { Ends (W.shows out.old) (W.shows out.new) (answer_of_run GovernorKind.Plain (planned run.now)) result }
-    ensures met { MeetsAllOf GovernorKind.Plain (planned run.now) result }
+    requires serves { G.serves run.now.plan.now.scheduler }
+    ensures ended { Ends (W.shows out.old) (W.shows out.new) (answer_of_run G.the_kind (planned run.now)) result }
+    ensures met { MeetsAllOf G.the_kind (planned run.now) result }
     ensures leaves { Leaves result out.old out.new }
     ensures loads { IsNoLoad result }
     ensures shown { IsShown result }
 {
     run.demands.known();
-    static_gov::published_demands(run.plan);
-    match Full::new(alloc, run.plan) {
-        Ok(governor) => run_governed(alloc, run, governor, out),
-        Err(_) => Status::NoMemory,
-    }
-}
-
-// A run under static.
-fn run_static<W: Sink>(alloc: Global, run: &PlannedRun<'_>, out: &mut W) -> Status
-    requires run { IsRunnable (planned run.now) }
-    ensures ended { Ends (W.shows out.old) (W.shows out.new) (answer_of_run GovernorKind.Fixed (planned run.now)) result }
-    ensures met { MeetsAllOf GovernorKind.Fixed (planned run.now) result }
-    ensures leaves { Leaves result out.old out.new }
-    ensures loads { IsNoLoad result }
-    ensures shown { IsShown result }
-{
-    run.demands.known();
-    static_gov::published_demands(run.plan);
-    match Static::new(alloc, run.plan) {
-        Ok(governor) => run_governed(alloc, run, governor, out),
-        Err(_) => Status::NoMemory,
-    }
-}
-
-// A run under cycle-conserving EDF.
-fn run_cc_edf<W: Sink>(alloc: Global, run: &PlannedRun<'_>, out: &mut W) -> Status
-    requires serves { run.now.plan.now.scheduler ≡ Scheduler.Edf }
-    requires run { IsRunnable (planned run.now) }
-    ensures ended { Ends (W.shows out.old) (W.shows out.new) (answer_of_run GovernorKind.Cycle (planned run.now)) result }
-    ensures met { MeetsAllOf GovernorKind.Cycle (planned run.now) result }
-    ensures leaves { Leaves result out.old out.new }
-    ensures loads { IsNoLoad result }
-    ensures shown { IsShown result }
-{
-    run.demands.known();
-    cc_edf::published_demands(run.plan);
-    match CcEdf::new(alloc, run.plan) {
-        Ok(governor) => run_governed(alloc, run, governor, out),
-        Err(_) => Status::NoMemory,
-    }
-}
-
-// A run under cycle-conserving RM.
-fn run_cc_rm<W: Sink>(alloc: Global, run: &PlannedRun<'_>, out: &mut W) -> Status
-    requires serves { run.now.plan.now.scheduler ≡ Scheduler.Rm }
-    requires run { IsRunnable (planned run.now) }
-    ensures ended { Ends (W.shows out.old) (W.shows out.new) (answer_of_run GovernorKind.Cycle (planned run.now)) result }
-    ensures met { MeetsAllOf GovernorKind.Cycle (planned run.now) result }
-    ensures leaves { Leaves result out.old out.new }
-    ensures loads { IsNoLoad result }
-    ensures shown { IsShown result }
-{
-    run.demands.known();
-    cc_rm::published_demands(run.plan);
-    match CcRm::new(alloc, run.plan) {
-        Ok(governor) => run_governed(alloc, run, governor, out),
-        Err(_) => Status::NoMemory,
-    }
-}
-
-// A run under look-ahead.
-fn run_look_ahead<W: Sink>(alloc: Global, run: &PlannedRun<'_>, out: &mut W) -> Status
-    requires serves { run.now.plan.now.scheduler ≡ Scheduler.Edf }
-    requires run { IsRunnable (planned run.now) }
-    ensures ended { Ends (W.shows out.old) (W.shows out.new) (answer_of_run GovernorKind.Ahead (planned run.now)) result }
-    ensures met { MeetsAllOf GovernorKind.Ahead (planned run.now) result }
-    ensures leaves { Leaves result out.old out.new }
-    ensures loads { IsNoLoad result }
-    ensures shown { IsShown result }
-{
-    run.demands.known();
-    look_ahead::published_demands(run.plan);
-    match LookAhead::new(alloc, run.plan) {
-        Ok(governor) => run_governed(alloc, run, governor, out),
-        Err(_) => Status::NoMemory,
+    run.plan.known();
+    match G::made(alloc, run.plan) {
+        Ok(governor) => run_from_opening(alloc, run, governor, out),
+        Err(NoMemory) => Status::NoMemory,
     }
 }
 
@@ -280,11 +211,11 @@ fn run_pair<W: Sink>(
     ensures shown { IsShown result }
 {
     match (run.plan.scheduler(), governor) {
-        (_, GovernorKind::Plain) => run_full(alloc, run, out),
-        (_, GovernorKind::Fixed) => run_static(alloc, run, out),
-        (Scheduler::Edf, GovernorKind::Cycle) => run_cc_edf(alloc, run, out),
-        (Scheduler::Rm, GovernorKind::Cycle) => run_cc_rm(alloc, run, out),
-        (Scheduler::Edf, GovernorKind::Ahead) => run_look_ahead(alloc, run, out),
+        (_, GovernorKind::Plain) => run_governed::<Full, W>(alloc, run, out),
+        (_, GovernorKind::Fixed) => run_governed::<Static, W>(alloc, run, out),
+        (Scheduler::Edf, GovernorKind::Cycle) => run_governed::<CcEdf, W>(alloc, run, out),
+        (Scheduler::Rm, GovernorKind::Cycle) => run_governed::<CcRm, W>(alloc, run, out),
+        (Scheduler::Edf, GovernorKind::Ahead) => run_governed::<LookAhead, W>(alloc, run, out),
         (Scheduler::Rm, GovernorKind::Ahead) => unreachable!(),
     }
 }

@@ -33,7 +33,8 @@ fn prepare<S: Shelf>(
     tasks: &TaskSet,
     shelf: &mut S,
 ) -> Result<(Admitted, Demands), Status>
-    ensures read { IfOk result (λ x. Gives (S.shows shelf.old).held (prepared_of (shown_run run.now) tasks.now) (x.0, x.1)) }
+    ensures read { IfOk result
+        (λ x. Gives (S.shows shelf.old).held (prepared_of (shown_run run.now) tasks.now) (x.0, x.1)) }
     ensures list { IfOk result (λ x. IsListOf x.0 x.1) }
     ensures scheduler { IfOk result (λ x. x.0.scheduler ≡ run.now.scheduler) }
     ensures refused { IfErr result (Refuses (S.shows shelf.old).held (prepared_of (shown_run run.now) tasks.now)) }
@@ -57,7 +58,8 @@ fn answer_run<S: Shelf, W: Sink>(
     out: &mut W,
 ) -> Status
     requires { IsReady run.now }
-    ensures ended { EndsAs (W.shows out.old) (W.shows out.new) (S.shows shelf.old).held (answer_of_tasks (run_of (shown_run run.now)) tasks.now) result }
+    ensures ended { EndsAs (W.shows out.old) (W.shows out.new) (S.shows shelf.old).held
+        (answer_of_tasks (run_of (shown_run run.now)) tasks.now) result }
     ensures leaves { Leaves result out.old out.new }
     ensures met { MetBy (S.shows shelf.old).held (shown_run run.now) tasks.now result }
     ensures passed { PassesMachine (S.shows shelf.old).held (run_of (shown_run run.now)) result }
@@ -87,7 +89,8 @@ fn load_admitted<S: Shelf>(
 ) -> Result<Admitted, Status>
     ensures read { IfOk result (Gives (S.shows shelf.old).held (admitted_of (shown_admit words.now) tasks.now)) }
     ensures refused { IfErr result (Refuses (S.shows shelf.old).held (admitted_of (shown_admit words.now) tasks.now)) }
-    ensures explained { IfErr result (IsLoadOf (S.shows shelf.old) (S.shows shelf.new) FileKind.Machine words.now.machine.now) }
+    ensures explained { IfErr result
+        (IsLoadOf (S.shows shelf.old) (S.shows shelf.new) FileKind.Machine words.now.machine.now) }
     ensures loads { MakesLoads 1 (S.shows shelf.old) (S.shows shelf.new) }
     ensures shown { IfErr result IsShown }
 {
@@ -104,7 +107,8 @@ fn answer_admit<S: Shelf, W: Sink>(
     shelf: &mut S,
     out: &mut W,
 ) -> Status
-    ensures ended { EndsAs (W.shows out.old) (W.shows out.new) (S.shows shelf.old).held (answer_of_tasks (admit_of (shown_admit words.now)) tasks.now) result }
+    ensures ended { EndsAs (W.shows out.old) (W.shows out.new) (S.shows shelf.old).held
+        (answer_of_tasks (admit_of (shown_admit words.now)) tasks.now) result }
     ensures leaves { Leaves result out.old out.new }
     ensures explained { IsLoadOf (S.shows shelf.old) (S.shows shelf.new) FileKind.Machine words.now.machine.now result }
     ensures loads { MakesLoads 1 (S.shows shelf.old) (S.shows shelf.new) }
@@ -125,7 +129,8 @@ fn answer_tasks<S: Shelf, W: Sink>(
     out: &mut W,
 ) -> Status
     requires { IsReadyCommand command.now }
-    ensures ended { EndsAs (W.shows out.old) (W.shows out.new) (S.shows shelf.old).held (answer_of_tasks (shown command.now) tasks.now) result }
+    ensures ended { EndsAs (W.shows out.old) (W.shows out.new) (S.shows shelf.old).held
+        (answer_of_tasks (shown command.now) tasks.now) result }
     ensures leaves { Leaves result out.old out.new }
     ensures met { MetByCommand (S.shows shelf.old).held (shown command.now) tasks.now result }
     ensures passed { PassesMachine (S.shows shelf.old).held (shown command.now) result }
@@ -151,7 +156,8 @@ fn tasks_name<'a>(command: &Command<'a>) -> &'a str
 
 // Notes a status. A fault of the notes changes nothing else.
 fn note_status<E: Sink>(status: &Status, tasks: Option<&TaskSet>, notes: &mut E)
-    ensures { NotedAs (E.shows notes.old) (E.shows notes.new) (status_text (names_of (option_copied tasks.entry)) status.now) }
+    ensures { NotedAs (E.shows notes.old) (E.shows notes.new)
+        (status_text (names_of (option_copied tasks.entry)) status.now) }
 {
     if let Status::Done = status {
         return;
@@ -168,7 +174,8 @@ fn answer_command<S: Shelf, W: Sink>(
     out: &mut W,
 ) -> (Status, Option<TaskSet>)
     requires { IsReadyCommand command.now }
-    ensures ended { EndsAs (W.shows out.old) (W.shows out.new) (S.shows shelf.old).held (answer_of_command (shown command.now)) result.0 }
+    ensures ended { EndsAs (W.shows out.old) (W.shows out.new) (S.shows shelf.old).held
+        (answer_of_command (shown command.now)) result.0 }
     ensures leaves { Leaves result.0 out.old out.new }
     ensures met { MetIn (S.shows shelf.old).held (shown command.now) result.0 }
     ensures named { NamedBy (S.shows shelf.old).held (shown command.now) result.1 result.0 }
@@ -187,9 +194,9 @@ fn answer_command<S: Shelf, W: Sink>(
 
 /// Does what the words ask for: runs a plan and writes its trace, or tells whether a task set is admitted.
 ///
-/// The answer goes to `out`, one put a line, and the line of a refusal to `notes`. Files are loaded from `shelf` in the
-/// order tasks, machine, demands, each before it is read. `NoMemory` may come at any step before the first byte of
-/// `out`, and never after it; a fault of `notes` changes no status.
+/// The answer goes to `out`, and the line of a refusal to `notes`; both one put a line, which is tested, not proved.
+/// Files are loaded from `shelf` in the order tasks, machine, demands, each before it is read. `NoMemory` may come at
+/// any step before the first byte of `out`, and never after it; a fault of `notes` changes no status.
 pub fn rtdvs<S: Shelf, W: Sink, E: Sink>(
     alloc: Global,
     words: &[String],

@@ -1,6 +1,6 @@
 // The trace, written to a sink line by line.
 ghost use Rattle.std.specs.Prelude.{◌≡◌, ◌++◌, ◌<◌, length};
-ghost use Rattle.dvs_base.specs.TraceLines.{version_text, plan_text, note_text};
+ghost use Rattle.trace_text.specs.TraceLines.{version_text, plan_text, note_text};
 ghost use Rattle.rtdvs_top.specs.Writing.{Wrote, WroteSome, Writing, head_text};
 
 use dvs_base::{Failed, Line, Name, Note, Sink};

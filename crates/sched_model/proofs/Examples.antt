@@ -13,6 +13,7 @@ use Rattle.sched_model.specs.Jobs.{release, due, latest}
 use Rattle.sched_model.specs.Order.{in_order}
 use Rattle.sched_model.specs.Demand.{published}
 use Rattle.sched_model.specs.StaticDemand.{static_demand}
+use Rattle.sched_model.specs.Tests.{level_work}
 use Rattle.sched_model.specs.Schedule.{schedule_by}
 use Rattle.sched_model.specs.Backlog.{backlog}
 
@@ -109,6 +110,60 @@ controller = record {
 abbrev pub controller_demands : List DemandRow
 controller_demands = row 0 1 196 ∷ row 0 2 396 ∷ row 1 1 596 ∷ row 2 1 996 ∷ row 4 1 396 ∷ row 5 1 196 ∷ []
 
+-- two tasks under EDF: the shorter period is due first, and later the two deadlines are equal
+abbrev pub early_and_late : Plan
+early_and_late = record {
+  tasks = task_of (codes "a") 8 16 ∷ task_of (codes "b") 4 8 ∷ [];
+  machine = record { points = entry_of 1 1000 ∷ entry_of 2 2000 ∷ entry_of 4 3000 ∷ []; idle = 0; charge = 0 };
+  scheduler = Edf;
+}
+
+-- three tasks under EDF, of which the last two are always due together
+abbrev pub due_together : Plan
+due_together = record {
+  tasks = task_of (codes "a") 5 5 ∷ task_of (codes "b") 8 4 ∷ task_of (codes "c") 8 12 ∷ [];
+  machine = record { points = entry_of 1 1000 ∷ entry_of 2 2000 ∷ entry_of 5 3000 ∷ []; idle = 0; charge = 0 };
+  scheduler = Edf;
+}
+
+abbrev pub due_together_demands : List DemandRow
+due_together_demands = row 1 1 2 ∷ []
+
+-- three tasks under RM, of which the first two have one period and the last a shorter one
+abbrev pub equal_periods : Plan
+equal_periods = record {
+  tasks = task_of (codes "a") 8 12 ∷ task_of (codes "b") 8 4 ∷ task_of (codes "c") 4 1 ∷ [];
+  machine = record { points = entry_of 2 1000 ∷ entry_of 3 2000 ∷ entry_of 4 3000 ∷ []; idle = 0; charge = 0 };
+  scheduler = Rm;
+}
+
+-- three tasks under RM: at tick 5 the shortest period and the longest are due together
+abbrev pub long_and_short : Plan
+long_and_short = record {
+  tasks = task_of (codes "a") 10 18 ∷ task_of (codes "b") 5 7 ∷ task_of (codes "c") 8 1 ∷ [];
+  machine = record { points = entry_of 1 1000 ∷ entry_of 2 2000 ∷ entry_of 4 3000 ∷ []; idle = 0; charge = 0 };
+  scheduler = Rm;
+}
+
+-- two tasks under RM that fill the processor; the first job needs less, so the second has more than its allotment
+abbrev pub freed_units : Plan
+freed_units = record {
+  tasks = task_of (codes "a") 2 6 ∷ task_of (codes "b") 4 4 ∷ [];
+  machine = record { points = entry_of 2 1000 ∷ entry_of 4 2000 ∷ []; idle = 0; charge = 0 };
+  scheduler = Rm;
+}
+
+abbrev pub freed_units_demands : List DemandRow
+freed_units_demands = row 0 1 1 ∷ []
+
+-- two tasks of one period that the highest speed can't do under RM
+abbrev pub denied_set : Plan
+denied_set = record {
+  tasks = task_of (codes "a") 4 3 ∷ task_of (codes "b") 4 3 ∷ [];
+  machine = record { points = entry_of 1 1000 ∷ []; idle = 0; charge = 0 };
+  scheduler = Rm;
+}
+
 abbrev fraction : ℕ → ℕ → Frac
 fraction num den = record { num = num; den = den }
 
@@ -127,6 +182,21 @@ rm_static_demand_of_equals : static_demand (record {
 }) ≡ fraction 30 5
 rm_static_demand_of_equals = refl
 
+-- the same shares, where the file's order is not that of the periods
+rm_static_demand_of_equals_out_of_order : static_demand (record {
+  tasks = task_of (codes "c") 8 8 ∷ task_of (codes "a") 4 10 ∷ task_of (codes "b") 5 10 ∷ [];
+  machine = three_speeds;
+  scheduler = Rm;
+}) ≡ fraction 30 5
+rm_static_demand_of_equals_out_of_order = refl
+
+-- of two tasks with one period the earlier stands alone in its level, and the later with both: 6 units, where 4 can be done
+level_of_the_earlier_of_equals : level_work denied_set 0 ≡ 3
+level_of_the_earlier_of_equals = refl
+
+level_of_the_later_of_equals : level_work denied_set 1 ≡ 6
+level_of_the_later_of_equals = refl
+
 backlog_within_a_period : backlog (paper_example Rm) 4 1 ≡ 8
 unfolding backlog published in_order release due latest schedule_by
 backlog_within_a_period = refl
@@ -134,3 +204,13 @@ backlog_within_a_period = refl
 backlog_at_the_next_release : backlog (paper_example Rm) 8 2 ≡ 0
 unfolding backlog published in_order release due latest schedule_by
 backlog_at_the_next_release = refl
+
+-- at the static speed 2, not at the highest: of 10 units 4 are done by tick 2
+backlog_at_the_static_speed : backlog light_set 2 1 ≡ 6
+unfolding backlog published in_order release due latest schedule_by
+backlog_at_the_static_speed = refl
+
+-- the level of the task with the shorter period is that task alone, though it stands second in the file
+backlog_of_a_level_in_rm_order : backlog two_tasks 1 1 ≡ 2
+unfolding backlog published in_order release due latest schedule_by
+backlog_of_a_level_in_rm_order = refl

@@ -22,9 +22,9 @@ latest-from : (p : Plan) (i t : ℕ) → offset p i ≤ t → latest p i t ≡ (
 unfolding latest
 latest-from p i t since = let on : nat_le (offset p i) t ≡ true = grind (arith, nat_tests) in rw on refl
 
-latest-before : (p : Plan) (i t : ℕ) → t < offset p i → latest p i t ≡ 0
+pub latest-none : (p : Plan) (i t : ℕ) → t < offset p i → latest p i t ≡ 0
 unfolding latest
-latest-before p i t early = let off : nat_le (offset p i) t ≡ false = grind (arith, nat_tests) in rw off refl
+latest-none p i t early = let off : nat_le (offset p i) t ≡ false = grind (arith, nat_tests) in rw off refl
 
 -- job 0 is due at the offset
 pub due-none : (p : Plan) (i : ℕ) → due p i 0 ≡ offset p i
@@ -59,7 +59,7 @@ release-due p i (suc k) one =
 -- the latest job is known by its release, where it isn't job 0, and its deadline
 pub latest-unique : (p : Plan) (i k t : ℕ) → (0 < k → release p i k ≤ t) → t < due p i k → latest p i t ≡ k
 unfolding release due
-latest-unique p i zero t from until = latest-before p i t (omega (arith, until, zero-mul (period p i)))
+latest-unique p i zero t from until = latest-none p i t (omega (arith, until, zero-mul (period p i)))
 latest-unique p i (suc k) t from until =
     let e : suc k - 1 ≡ k = omega arith in
     let low : offset p i + k * period p i ≤ t = subst (λ m. offset p i + m * period p i ≤ t) e (from (omega arith)) in
@@ -70,15 +70,13 @@ latest-unique p i (suc k) t from until =
 pub latest-is : (p : Plan) (i k t : ℕ) → release p i k ≤ t → t < due p i k → latest p i t ≡ k
 latest-is p i k t low high = latest-unique p i k t (λ some. low) high
 
--- before the first release it is job 0, and from then on some other
-pub latest-none : (p : Plan) (i t : ℕ) → t < offset p i → latest p i t ≡ 0
-latest-none p i t early = latest-before p i t early
+-- from the first release on it is another than job 0
 
 pub latest-pos : (p : Plan) (i t : ℕ) → offset p i ≤ t → 0 < latest p i t
 latest-pos p i t since = omega (arith, latest-from p i t since)
 
 pub offset-le : (p : Plan) (i t : ℕ) → 0 < latest p i t → offset p i ≤ t
-offset-le p i t some = elim (cases_lt t (offset p i)) [ inl early ↦ absurd (omega (arith, some, latest-before p i t early)) | inr since ↦ since ]
+offset-le p i t some = elim (cases_lt t (offset p i)) [ inl early ↦ absurd (omega (arith, some, latest-none p i t early)) | inr since ↦ since ]
 
 -- the latest job was released by now, unless it is job 0, and is due later
 pub release-le : (p : Plan) (i t : ℕ) → 0 < period p i → 0 < latest p i t → release p i (latest p i t) ≤ t
@@ -94,7 +92,7 @@ pub lt-due : (p : Plan) (i t : ℕ) → 0 < period p i → t < due p i (latest p
 unfolding due
 lt-due p i t pos =
     elim (cases_lt t (offset p i)) [
-      | inl early ↦ rw (latest-before p i t early) (omega (arith, early, zero-mul (period p i)))
+      | inl early ↦ rw (latest-none p i t early) (omega (arith, early, zero-mul (period p i)))
       | inr since ↦
           let n : ℕ = t - offset p i in
           rw (latest-from p i t since) (omega (arith, since, div-add-mod' n (period p i), mod-lt n pos, add-mul (n / period p i) 1 (period p i), one-mul (period p i)))

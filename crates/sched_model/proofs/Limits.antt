@@ -1,5 +1,5 @@
 -- What the limits say of a plan's numbers.
-use Rattle.std.proofs.Common.{◌≡◌, inl, inr, ℕ, ◌+◌, ◌*◌, ◌/◌, ◌^◌, ◌<◌, ◌≤◌, get_or, arith, ap}
+use Rattle.std.proofs.Common.{◌≡◌, inl, inr, ℕ, ◌+◌, ◌*◌, ◌/◌, ◌<◌, ◌≤◌, get_or, arith, ap}
 use Rattle.std.specs.Prelude.{map}
 use Rattle.std.specs.List.{All}
 use Rattle.std.proofs.lemmas.List.{length-map, get_or-map}
@@ -7,6 +7,7 @@ use Rattle.std.proofs.Math.ListN.{get_or-eq_default}
 use Rattle.std.proofs.lemmas.Bool.{cases_lt}
 use Rattle.std.proofs.lemmas.List.Elements.{All-from_get_or}
 use Rattle.grid_fraction.proofs.Multiples.{least_common_multiple-pos, mul-div-least_common_multiple}
+use Rattle.task_model.specs.declared.limits.TheConstants.{LONGEST_PERIOD, LONGEST_HYPERPERIOD}
 use Rattle.task_model.specs.declared.task.Task.{Task}
 use Rattle.task_model.specs.Tasks.{no_task}
 use Rattle.sched_model.specs.Plan.{Plan, count, period, hyper}
@@ -31,12 +32,12 @@ module _ (p : Plan) (lim : IsWithinLimits p) where
             omega arith
       ]
 
-  pub low_period : (i : ℕ) → i < count p → period p i ≤ 2 ^ 40
+  pub low_period : (i : ℕ) → i < count p → period p i ≤ LONGEST_PERIOD
   low_period i h = (lim.tasks.each i h).low_period
 
   -- the latest job is due soon
-  pub deadline-soon : (i t : ℕ) → i < count p → deadline p i t ≤ t + 2 ^ 40
-  deadline-soon i t h = due-within p i t (2 ^ 40) (some_period i h) ((lim.tasks.each i h).low_offset) (low_period i h)
+  pub deadline-soon : (i t : ℕ) → i < count p → deadline p i t ≤ t + LONGEST_PERIOD
+  deadline-soon i t h = due-within p i t LONGEST_PERIOD (some_period i h) ((lim.tasks.each i h).low_offset) (low_period i h)
 
   period_in : (i : ℕ) → i < count p → get_or (map (λ t. t.period) p.tasks) i 1 ≡ period p i
   period_in i h = get_or-map (λ t. t.period) p.tasks i no_task 1 h
@@ -49,7 +50,7 @@ module _ (p : Plan) (lim : IsWithinLimits p) where
   pub some_hyper : 0 < hyper p
   some_hyper = least_common_multiple-pos (map (λ t. t.period) p.tasks) each_some
 
-  pub low_hyper : hyper p ≤ 2 ^ 48
+  pub low_hyper : hyper p ≤ LONGEST_HYPERPERIOD
   low_hyper = lim.tasks.hyper
 
   pub period_divides : (i : ℕ) → i < count p → hyper p / period p i * period p i ≡ hyper p

@@ -1,5 +1,5 @@
 -- What the jobs have had on a schedule.
-use Rattle.std.proofs.Common.{◌≡◌, ℕ, ◌+◌, ◌-◌, ◌<◌, ◌≤◌, Bool, true, false, List, [], ◌∷◌, length, refl, arith, if◌then◌else◌, ap}
+use Rattle.std.proofs.Common.{◌≡◌, ℕ, zero, suc, drop, ◌+◌, ◌-◌, ◌<◌, ◌≤◌, Bool, true, false, List, [], ◌∷◌, length, refl, arith, if◌then◌else◌, ap}
 use Rattle.std.proofs.lemmas.Bool.Decides.{nat_tests}
 use Rattle.grid_fraction.specs.declared.Frac.{Frac}
 use Rattle.sched_model.specs.Plan.{Plan, count, point}
@@ -9,6 +9,12 @@ use Rattle.sched_model.specs.Priority.{key_of}
 use Rattle.sched_model.specs.Schedule.{IsScheduleBy}
 use Rattle.sched_model.proofs.LevelSums.{share-most}
 use Rattle.sched_model.proofs.JobLaws.{latest-is}
+
+-- earlier ticks gave no more
+pub exec-drop : (p : Plan) (i k n : ℕ) (ticks : List Tick) → exec p (drop n ticks) i k ≤ exec p ticks i k
+exec-drop p i k zero ticks = omega arith
+exec-drop p i k (suc n) [] = omega arith
+exec-drop p i k (suc n) (x ∷ ticks) = omega (arith, exec-drop p i k n ticks)
 
 -- no job gets more than its demand
 pub exec-most : (p : Plan) (dem : ℕ → ℕ → ℕ) (ask : List Tick → Frac) (past : List Tick) → IsScheduleBy p dem ask past → (i k : ℕ) → i < count p → exec p past i k ≤ dem i k

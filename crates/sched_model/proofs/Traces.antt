@@ -14,9 +14,9 @@ use Rattle.sched_model.specs.Order.{in_order}
 use Rattle.sched_model.specs.Demand.{published}
 use Rattle.sched_model.specs.Schedule.{schedule_by}
 use Rattle.sched_model.specs.Notes.{notes_before_end}
-use Rattle.dvs_base.specs.TraceLines.{note_text}
+use Rattle.trace_text.specs.TraceLines.{note_text}
 use Rattle.sched_model.specs.Text.{run_text}
-use Rattle.sched_model.proofs.Examples.{row, paper_example, paper_demands, heavy_set, two_tasks, late_second, late_alone, controller, controller_demands}
+use Rattle.sched_model.proofs.Examples.{row, paper_example, paper_demands, heavy_set, two_tasks, late_second, late_alone, controller, controller_demands, early_and_late, due_together, due_together_demands, equal_periods, long_and_short, freed_units, freed_units_demands}
 
 -- the text of a run under a list of demands
 abbrev text : Plan → GovernorKind → List DemandRow → ℕ → List ℕ
@@ -372,3 +372,124 @@ rm_cc_before_all_releases : text (late_alone Rm) Cycle [] 3 ≡
     [])
 unfolding digits least_common_multiple published in_order release due latest schedule_by notes_before_end note_text
 rm_cc_before_all_releases = refl
+
+-- under EDF the earlier deadline runs first, whatever the periods; of equal deadlines the earlier place
+earliest_deadline_first : text early_and_late Plain [] 6 ≡
+    lines (
+    codes "trace 1" ∷
+    codes "plan edf none 6" ∷
+    codes "release 0 a 1" ∷
+    codes "release 0 b 1" ∷
+    codes "speed 0 4 4/1" ∷
+    codes "run 0:0 2:0 b 1 8 72000000000" ∷
+    codes "done 2:0 b 1 8" ∷
+    codes "speed 2 4 4/1" ∷
+    codes "run 2:0 4:0 a 1 8 72000000000" ∷
+    codes "release 4 b 2" ∷
+    codes "speed 4 4 4/1" ∷
+    codes "run 4:0 6:0 a 1 8 72000000000" ∷
+    codes "done 6:0 a 1 16" ∷
+    codes "end 6 216000000000 0" ∷
+    [])
+unfolding digits least_common_multiple published in_order release due latest schedule_by notes_before_end note_text
+earliest_deadline_first = refl
+
+-- under look-ahead EDF, of two tasks that are due together the later puts off first, and its rate is rounded up
+edf_la_of_equal_deadlines : text due_together Ahead due_together_demands 6 ≡
+    lines (
+    codes "trace 1" ∷
+    codes "plan edf la 6" ∷
+    codes "release 0 a 1" ∷
+    codes "release 0 b 1" ∷
+    codes "release 0 c 1" ∷
+    codes "speed 0 2 10/5" ∷
+    codes "run 0:0 2:1 a 1 5 20000000000" ∷
+    codes "done 2:1 a 1 5" ∷
+    codes "run 2:1 3:0 b 1 1 4000000000" ∷
+    codes "speed 3 2 4/2" ∷
+    codes "run 3:0 3:1 b 1 1 4000000000" ∷
+    codes "done 3:1 b 1 2" ∷
+    codes "run 3:1 4:0 c 1 1 4000000000" ∷
+    codes "speed 4 1 1/1" ∷
+    codes "run 4:0 5:0 c 1 1 1000000000" ∷
+    codes "release 5 a 2" ∷
+    codes "speed 5 5 10/3" ∷
+    codes "run 5:0 6:0 c 1 5 45000000000" ∷
+    codes "end 6 78000000000 0" ∷
+    [])
+unfolding digits least_common_multiple published in_order release due latest schedule_by notes_before_end note_text
+edf_la_of_equal_deadlines = refl
+
+-- under cycle-conserving RM the shorter period is served and allotted first, and equal periods by their places
+rm_cc_of_equal_periods : text equal_periods Cycle [] 6 ≡
+    lines (
+    codes "trace 1" ∷
+    codes "plan rm cc 6" ∷
+    codes "release 0 a 1" ∷
+    codes "release 0 b 1" ∷
+    codes "release 0 c 1" ∷
+    codes "speed 0 3 12/4" ∷
+    codes "run 0:0 0:1 c 1 1 4000000000" ∷
+    codes "done 0:1 c 1 1" ∷
+    codes "run 0:1 1:0 a 1 2 8000000000" ∷
+    codes "speed 1 3 9/3" ∷
+    codes "run 1:0 4:0 a 1 9 36000000000" ∷
+    codes "release 4 c 2" ∷
+    codes "speed 4 2 6/4" ∷
+    codes "run 4:0 4:1 c 2 1 1000000000" ∷
+    codes "done 4:1 c 2 1" ∷
+    codes "run 4:1 5:0 a 1 1 1000000000" ∷
+    codes "done 5:0 a 1 12" ∷
+    codes "speed 5 2 4/3" ∷
+    codes "run 5:0 6:0 b 1 2 2000000000" ∷
+    codes "end 6 52000000000 0" ∷
+    [])
+unfolding digits least_common_multiple published in_order release due latest schedule_by notes_before_end note_text
+rm_cc_of_equal_periods = refl
+
+-- cycle-conserving RM allots by period at tick 5 too, where by deadline the first task would get 6 units in place of 5
+rm_cc_allots_in_rm_order : text long_and_short Cycle [] 8 ≡
+    lines (
+    codes "trace 1" ∷
+    codes "plan rm cc 8" ∷
+    codes "release 0 a 1" ∷
+    codes "release 0 b 1" ∷
+    codes "release 0 c 1" ∷
+    codes "speed 0 4 20/5" ∷
+    codes "run 0:0 1:3 b 1 7 63000000000" ∷
+    codes "done 1:3 b 1 7" ∷
+    codes "run 1:3 2:0 c 1 1 9000000000" ∷
+    codes "done 2:0 c 1 1" ∷
+    codes "speed 2 4 12/3" ∷
+    codes "run 2:0 5:0 a 1 12 108000000000" ∷
+    codes "release 5 b 2" ∷
+    codes "speed 5 4 12/3" ∷
+    codes "run 5:0 6:3 b 2 7 63000000000" ∷
+    codes "done 6:3 b 2 7" ∷
+    codes "run 6:3 7:0 a 1 1 9000000000" ∷
+    codes "speed 7 4 4/1" ∷
+    codes "run 7:0 8:0 a 1 4 36000000000" ∷
+    codes "end 8 288000000000 0" ∷
+    [])
+unfolding digits least_common_multiple published in_order release due latest schedule_by notes_before_end note_text
+rm_cc_allots_in_rm_order = refl
+
+-- a job that has had more than its allotment has none left of it: at tick 1 the second task has had 3 units of 2
+rm_cc_of_more_than_an_allotment : text freed_units Cycle freed_units_demands 2 ≡
+    lines (
+    codes "trace 1" ∷
+    codes "plan rm cc 2" ∷
+    codes "release 0 a 1" ∷
+    codes "release 0 b 1" ∷
+    codes "speed 0 4 8/2" ∷
+    codes "run 0:0 0:1 a 1 1 4000000000" ∷
+    codes "done 0:1 a 1 1" ∷
+    codes "run 0:1 1:0 b 1 3 12000000000" ∷
+    codes "speed 1 2 0/1" ∷
+    codes "run 1:0 1:1 b 1 1 1000000000" ∷
+    codes "done 1:1 b 1 4" ∷
+    codes "idle 1:1 2:0 1 0" ∷
+    codes "end 2 17000000000 0" ∷
+    [])
+unfolding digits least_common_multiple published in_order release due latest schedule_by notes_before_end note_text
+rm_cc_of_more_than_an_allotment = refl

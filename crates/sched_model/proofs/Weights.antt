@@ -6,7 +6,7 @@ use Rattle.std.proofs.lemmas.Bool.Decides.{nat_tests}
 use Rattle.dvs_base.specs.declared.kind.Scheduler.{Scheduler}
 use Rattle.dvs_base.specs.declared.kind.Scheduler.TheVariants.{Edf, Rm}
 use Rattle.grid_fraction.specs.Numbers.{any_below, first_from}
-use Rattle.grid_fraction.proofs.Searches.{below_suc, any_below-none, any_below-false, first_from-found, first_from-most}
+use Rattle.grid_fraction.proofs.Searches.{below_suc, any_below-none, any_below-false, first_from-found, first_from-most, not-true}
 use Rattle.sched_model.specs.Plan.{Plan, count, period}
 use Rattle.sched_model.specs.Priority.{stands_before}
 use Rattle.sched_model.specs.Tests.{level_work}
@@ -122,11 +122,7 @@ module _ (p : Plan) (lim : IsWithinLimits p) where
       let f = some_heaviest in
       let h : f.0 < count p = f.1.0 in
       let found = first_from-found (count p) 0 f.0 (λ i. not (any_below (count p) (λ j. outweighs p j i))) (omega arith) (omega arith) (test_true f.0 f.1.1) in
-      over-not _ _ _ (any_below-false (count p) (λ j. outweighs p j heaviest_task) (none_of (any_below (count p) (λ j. outweighs p j heaviest_task)) found.0) j hj)
-    where
-      none_of : (b : Bool) → not b ≡ true → b ≡ false
-      none_of true e = absurd (true≢false (sym e))
-      none_of false e = refl
+      over-not _ _ _ (any_below-false (count p) (λ j. outweighs p j heaviest_task) (not-true (any_below (count p) (λ j. outweighs p j heaviest_task)) found.0) j hj)
 
 static_den_by : (plan : Plan) (lim : IsWithinLimits plan) (sch : Scheduler) → (0 < (static_demand_of sch plan).den) × ((static_demand_of sch plan).den ≤ 2 ^ 64)
 static_den_by plan lim Edf = (some_hyper plan lim, let low = low_hyper plan lim in omega arith)

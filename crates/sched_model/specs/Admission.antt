@@ -20,6 +20,7 @@ abbrev pub PassesTest : Scheduler → Plan → Type 0
 PassesTest Edf p = IsEdfFeasible p
 PassesTest Rm p = IsRmFeasible p
 
+-- an admitted plan: within the limits, and its own scheduler's test passes
 pub record IsAdmitted (p : Plan) : Type 0 where
   pub limits : IsWithinLimits p
   pub test : PassesTest p.scheduler p

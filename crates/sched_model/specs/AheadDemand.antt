@@ -1,13 +1,13 @@
 -- The demand of look-ahead (Pillai and Shin 2001): only what can't be put off past the earliest deadline.
 -- It is a formula over the tasks' deadlines, what their jobs may still need, and the tick: `due i` is Di, the deadline of
 -- the latest job of task i, and `left i` is wleft_i.
-use Rattle.std.specs.Prelude.{ℕ, ◌+◌, ◌*◌, ◌-◌, ◌/◌, min, nat_eq, List, [], ◌∷◌, length, if◌then◌else◌}
+use Rattle.std.specs.Prelude.{◌≡◌, ℕ, ◌<◌, ◌+◌, ◌*◌, ◌-◌, ◌/◌, min, nat_eq, List, [], ◌∷◌, length, if◌then◌else◌}
 use Rattle.grid_fraction.specs.declared.Frac.{Frac}
-use Rattle.grid_fraction.specs.Numbers.{least_below, ceil_div}
+use Rattle.grid_fraction.specs.Numbers.{least_below, ceil_div, sum_where}
 use Rattle.sched_model.specs.Plan.{Plan, count, hyper, rate, top_speed}
 use Rattle.sched_model.specs.Jobs.{deadline}
 use Rattle.sched_model.specs.Ticks.{Tick, wleft}
-use Rattle.sched_model.specs.Priority.{sum_before}
+use Rattle.sched_model.specs.Priority.{stands_before, sum_before}
 use Rattle.sched_model.specs.Order.{in_order}
 
 -- A, the earliest deadline
@@ -50,6 +50,24 @@ due_first p due left (i ∷ later) =
 abbrev pub ahead_of : Plan → (ℕ → ℕ) → (ℕ → ℕ) → ℕ → Frac
 ahead_of p due left t = record { num = due_first p due left (in_order due (count p)); den = first_due p due - t }
 
--- EDF, look-ahead: that of the latest jobs
+-- The same by equations over all tasks at once.
+
+-- the sum of f over the tasks after task i
+abbrev pub sum_after : (n : ℕ) → (ℕ → ℕ) → (ℕ → ℕ) → ℕ → ℕ
+sum_after n key f i = sum_where n (λ j. stands_before key i j) f
+
+-- what the highest speed has beside the rates uj of the tasks before task i and the rates vj of those after it
+abbrev pub spare : Plan → (ℕ → ℕ) → (ℕ → ℕ) → ℕ → ℕ
+spare p due v i = top_speed p * hyper p - sum_before (count p) due (rate p) i - sum_after (count p) due v i
+
+-- y are the yi and v the vi: a task of the earliest deadline puts off none, and keeps its rate; another puts off as many
+-- units as the highest speed has room for, and its rate is what they then need
+pub record IsSpread (p : Plan) (due left y v : ℕ → ℕ) : Type 0 where
+  pub put : (i : ℕ) → i < count p
+      → y i ≡ (if nat_eq (slack p due i) 0 then 0 else min (left i) (spare p due v i * slack p due i / hyper p))
+  pub needs : (i : ℕ) → i < count p
+      → v i ≡ (if nat_eq (slack p due i) 0 then rate p i else ceil_div (y i * hyper p) (slack p due i))
+
+-- EDF, look-ahead: the demand of the latest jobs
 abbrev pub edf_ahead : Plan → (ℕ → ℕ → ℕ) → List Tick → Frac
 edf_ahead p dem past = let t = length past in ahead_of p (λ i. deadline p i t) (wleft p dem past) t

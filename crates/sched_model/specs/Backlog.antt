@@ -12,6 +12,7 @@ use Rattle.sched_model.specs.Schedule.{schedule}
 abbrev pub lacking : Plan → List Tick → ℕ → ℕ
 lacking p past i = let k = latest p i (length past - 1) in worst_demand p i k - exec p past i k
 
+-- what the level of task i lacks together: task i and the tasks before it in RM order
 abbrev pub level_lacking : Plan → List Tick → ℕ → ℕ
 level_lacking p [] i = 0
 level_lacking p (x ∷ past) i = sum_up_to (count p) (period p) (lacking p (x ∷ past)) i

@@ -1,6 +1,6 @@
--- When the jobs of a task are released and due, and which is the latest. Only the first three know offsets and periods; all else speaks of them.
+-- When the jobs of a task are released and due, and which is the latest.
 use Rattle.std.specs.Prelude.{ℕ, zero, suc, ◌+◌, ◌*◌, ◌-◌, ◌/◌, Bool, nat_eq, nat_le, nat_lt, ◌&&◌, if◌then◌else◌}
-use Rattle.grid_fraction.specs.Numbers.{any_below, least_below, last_up_to}
+use Rattle.grid_fraction.specs.Numbers.{any_below, least_below, last_up_to, sum_below, ceil_div}
 use Rattle.sched_model.specs.Plan.{Plan, count, period, offset}
 
 -- the tick at which job k of task i is released; jobs count from 1
@@ -24,10 +24,11 @@ latest_since p i (suc k) = release p i (suc k)
 abbrev pub deadline : Plan → ℕ → ℕ → ℕ
 deadline p i t = due p i (latest p i t)
 
--- whether a job of task i is released at t, and whether any job is
+-- whether a job of task i is released at t
 abbrev pub releases_at : Plan → ℕ → ℕ → Bool
 releases_at p i t = nat_eq (release p i (latest p i t)) t
 
+-- whether any job is released at t
 abbrev pub is_release : Plan → ℕ → Bool
 is_release p t = any_below (count p) (λ i. releases_at p i t)
 
@@ -42,3 +43,7 @@ last_release p t = last_up_to t (is_release p)
 -- whether tick s lies between the release and the deadline of job k
 abbrev pub is_in_window : Plan → ℕ → ℕ → ℕ → Bool
 is_in_window p i k s = nat_le (release p i k) s && nat_lt s (due p i k)
+
+-- how many jobs are released below so many ticks: of each task one for each period that begins between its offset and there
+abbrev pub released_jobs : Plan → ℕ → ℕ
+released_jobs p ticks = sum_below (count p) (λ i. ceil_div (ticks - offset p i) (period p i))

@@ -11,12 +11,12 @@ pub mod CycleDemand
 pub mod AheadDemand
 pub mod Demand
 pub mod Schedule
+pub mod TheSchedule
 pub mod Segments
 pub mod Notes
 pub mod Totals
 pub mod Text
 pub mod Deadlines
-pub mod WholeRuns
 pub mod Backlog
 pub mod States
 pub mod Admission

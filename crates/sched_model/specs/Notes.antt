@@ -37,6 +37,7 @@ segment_notes p dem s q units (Held i k) =
     Run (at_unit q) (at_unit (q + units)) i k units (run_energy p s.entry units)
     ∷ (if nat_eq (had_by p s (q + units) i k) (dem i k) then Done (at_unit (q + units)) i k (dem i k) ∷ [] else [])
 
+-- the notes of the segments of a span, from its unit number q on
 abbrev pub pieces_notes : Plan → (ℕ → ℕ → ℕ) → Span → ℕ → List Piece → List Note
 pieces_notes p dem s q [] = []
 pieces_notes p dem s q (r ∷ pieces) = segment_notes p dem s q r.units r.holder ++ pieces_notes p dem s (q + r.units) pieces
@@ -48,10 +49,12 @@ span_notes p dem ask s =
     ++ Speed (length s.past) ((point p s.entry).speed) ((ask s.past).num) ((ask s.past).den)
     ∷ pieces_notes p dem s 0 (pieces_of s.units)
 
+-- the energy that a note tells of a running segment
 abbrev pub energy_run : Note → ℕ
 energy_run (Run from to i k units energy) = energy
 energy_run _ = 0
 
+-- and of an idle one
 abbrev pub energy_idle : Note → ℕ
 energy_idle (Idle from to units energy) = energy
 energy_idle _ = 0

@@ -6,11 +6,13 @@ use Rattle.task_model.specs.Tasks.{task_at, hyper_of}
 use Rattle.freq_table.specs.declared.machine.Point.{Point}
 use Rattle.freq_table.specs.Tables.{Table, point_at, highest_speed}
 
+-- tasks on a machine under a scheduler
 pub record Plan : Type 0 where
   pub tasks : List Task
   pub machine : Table
   pub scheduler : Scheduler
 
+-- the plan of these three
 abbrev pub plan_of : List Task → Table → Scheduler → Plan
 plan_of tasks machine scheduler = record { tasks = tasks; machine = machine; scheduler = scheduler }
 
@@ -18,6 +20,7 @@ plan_of tasks machine scheduler = record { tasks = tasks; machine = machine; sch
 abbrev pub count : Plan → ℕ
 count p = length p.tasks
 
+-- a task by its number
 abbrev pub task : Plan → ℕ → Task
 task p i = task_at p.tasks i
 
@@ -25,6 +28,7 @@ task p i = task_at p.tasks i
 abbrev pub names : Plan → List (List ℕ)
 names p = map (λ t. t.name) p.tasks
 
+-- Pi, the ticks from one release to the next
 abbrev pub period : Plan → ℕ → ℕ
 period p i = (task p i).period
 
@@ -36,6 +40,7 @@ offset p i = (task p i).offset
 abbrev pub worst : Plan → ℕ → ℕ
 worst p i = (task p i).worst + 2 * p.machine.charge
 
+-- an entry of the machine by its number
 abbrev pub point : Plan → ℕ → Point
 point p e = point_at p.machine e
 

@@ -1,9 +1,9 @@
 -- The schedule of a plan and its jobs' demands.
-use Rattle.std.specs.Prelude.{ℕ, zero, suc, ◌≡◌, List, [], ◌∷◌, length, if◌then◌else◌}
+use Rattle.std.specs.Prelude.{ℕ, zero, suc, ◌≡◌, ◌<◌, true, List, [], ◌∷◌, length, if◌then◌else◌}
 use Rattle.dvs_base.specs.declared.kind.GovernorKind.{GovernorKind}
 use Rattle.grid_fraction.specs.declared.Frac.{Frac}
 use Rattle.grid_fraction.specs.Numbers.{list_below}
-use Rattle.freq_table.specs.Tables.{lowest_entry}
+use Rattle.freq_table.specs.Tables.{lowest_entry, lowest_pick}
 use Rattle.sched_model.specs.Plan.{Plan, count, point}
 use Rattle.sched_model.specs.Ticks.{Tick, left}
 use Rattle.sched_model.specs.Priority.{IsLegal, allotment, key_of}
@@ -45,6 +45,7 @@ unfoldable pub schedule_by : Plan → (ℕ → ℕ → ℕ) → (List Tick → F
 schedule_by p dem ask zero = []
 schedule_by p dem ask (suc t) = let past = schedule_by p dem ask t in next_tick p dem ask past ∷ past
 
+-- the one schedule of t ticks under a governor: by its published demand
 abbrev pub schedule : Plan → GovernorKind → (ℕ → ℕ → ℕ) → ℕ → List Tick
 schedule p g dem = schedule_by p dem (published p g dem)
 
@@ -57,3 +58,9 @@ HasSchedule p = (dem : ℕ → ℕ → ℕ) (ask : List Tick → Frac) (t : ℕ)
 abbrev pub HasNoOther : Plan → Type 0
 HasNoOther p = (dem : ℕ → ℕ → ℕ) (ask : List Tick → Frac) (ticks : List Tick)
     → IsScheduleBy p dem ask ticks → ticks ≡ schedule_by p dem ask (length ticks)
+
+-- at each decision within so many ticks some entry of the table meets the published demand
+abbrev pub AlwaysMeets : Plan → GovernorKind → (ℕ → ℕ → ℕ) → ℕ → Type 0
+AlwaysMeets p g dem ticks =
+    (t : ℕ) → t < ticks → is_decision p dem (schedule p g dem t) ≡ true
+    → (lowest_pick p.machine (published p g dem (schedule p g dem t))).met ≡ true

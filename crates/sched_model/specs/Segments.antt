@@ -11,6 +11,7 @@ use Rattle.sched_model.specs.Order.{in_order}
 use Rattle.sched_model.specs.Decision.{is_decision}
 use Rattle.grid_fraction.specs.Numbers.{sum_below}
 
+-- whether two units have one holder: nobody, or the same job
 abbrev pub same_holder : Holder → Holder → Bool
 same_holder Nobody Nobody = true
 same_holder Nobody (Held j l) = false
@@ -30,6 +31,7 @@ pub record Span : Type 0 where
   pub entry : ℕ
   pub units : List Holder
 
+-- the last span with more units at its end
 abbrev pub lengthened : List Holder → List Span → List Span
 lengthened us [] = []
 lengthened us (s ∷ spans) = record { past = s.past; entry = s.entry; units = s.units ++ us } ∷ spans
@@ -47,6 +49,7 @@ pub record Piece : Type 0 where
   pub holder : Holder
   pub units : ℕ
 
+-- one more unit before the runs of units
 abbrev pub before_pieces : Holder → List Piece → List Piece
 before_pieces h [] = record { holder = h; units = 1 } ∷ []
 before_pieces h (r ∷ pieces) =
@@ -63,9 +66,10 @@ pieces_of (h ∷ hs) = before_pieces h (pieces_of hs)
 abbrev pub position_of : ℕ → ℕ → ℕ → Pos
 position_of t0 f q = record { tick = t0 + q / f; offset = q % f }
 
--- the energy of so many units at an entry: of a running segment, and of an idle one
+-- the energy of so many units of a running segment at an entry
 abbrev pub run_energy : Plan → ℕ → ℕ → ℕ
 run_energy p e units = let mv = (point p e).millivolts in units * mv * mv * 1000
 
+-- the energy of so many idle units at an entry
 abbrev pub idle_energy : Plan → ℕ → ℕ → ℕ
 idle_energy p e units = let mv = (point p e).millivolts in units * mv * mv * p.machine.idle

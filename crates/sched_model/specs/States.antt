@@ -18,6 +18,7 @@ pub record StateOf : Type 0 where
 abbrev pub no_row : Row
 no_row = record { deadline = 0; job = 0; used = 0; done = true; worst = 0 }
 
+-- the row of a task
 abbrev pub row_at : StateOf → ℕ → Row
 row_at s i = slice_index_or s.rows i no_row
 
@@ -54,22 +55,27 @@ pub record IsStateOf (s : StateOf) : Type 0 where
   pub base : length s.base ≡ length s.rows
   pub used : (i : ℕ) → i < length s.rows → (row_at s i).used ≤ (row_at s i).worst
 
--- what the five calls make of a state
+-- what the five calls make of a state: the next job of task i is released
 abbrev pub after_release : Plan → StateOf → ℕ → StateOf
 after_release p s i = record s { rows = slice_set s.rows i (released_row (period p i) (row_at s i)) }
 
+-- the job of task i has had so many more units
 abbrev pub after_run : StateOf → ℕ → ℕ → StateOf
 after_run s i units = record s { rows = slice_set s.rows i (record (row_at s i) { used = (row_at s i).used + units }) }
 
+-- the job of task i is complete
 abbrev pub after_finish : StateOf → ℕ → StateOf
 after_finish s i = record s { rows = slice_set s.rows i (record (row_at s i) { done = true }) }
 
+-- it is a later tick
 abbrev pub after_advance : StateOf → ℕ → StateOf
 after_advance s to = record s { now = to }
 
+-- the mark stands at this tick, with what each job may still need
 abbrev pub after_mark : StateOf → StateOf
 after_mark s = record s { base_at = s.now; base = map row_wleft s.rows }
 
+-- the next job of task i can be released: its row is complete and due now, and its numbers fit in 64 bits
 pub record CanRelease (p : Plan) (s : StateOf) (i : ℕ) : Type 0 where
   pub task : i < length s.rows
   pub below : i < count p
@@ -78,11 +84,13 @@ pub record CanRelease (p : Plan) (s : StateOf) (i : ℕ) : Type 0 where
   pub deadline_fits : (row_at s i).deadline + period p i < 2 ^ 64
   pub job_fits : (row_at s i).job + 1 < 2 ^ 64
 
+-- the job of task i is incomplete, and its worst case has room for so many units
 pub record CanRun (s : StateOf) (i units : ℕ) : Type 0 where
   pub task : i < length s.rows
   pub open_job : (row_at s i).done ≡ false
   pub room : (row_at s i).used + units ≤ (row_at s i).worst
 
+-- the job of task i is incomplete
 pub record CanFinish (s : StateOf) (i : ℕ) : Type 0 where
   pub task : i < length s.rows
   pub open_job : (row_at s i).done ≡ false
@@ -94,10 +102,12 @@ prior_row p dem (x ∷ past) i =
     let k = latest p i (length past) in
     record { deadline = due p i k; job = k; used = exec p (x ∷ past) i k; done = is_done p dem (x ∷ past) i k; worst = worst p i }
 
+-- the mark before the releases of the tick after `past`: the last release before it, and 0 at the start
 abbrev pub prior_base_at : Plan → List Tick → ℕ
 prior_base_at p [] = 0
 prior_base_at p (x ∷ past) = last_release p (length past)
 
+-- what the job of task i might still need at that mark
 abbrev pub prior_base : Plan → (ℕ → ℕ → ℕ) → List Tick → ℕ → ℕ
 prior_base p dem [] i = 0
 prior_base p dem (x ∷ past) i = wleft p dem (at (last_release p (length past)) past) i
@@ -111,12 +121,13 @@ prior_state p dem past = record {
   base = list_below (count p) (prior_base p dem past);
 }
 
--- the state after the ticks of `past`
+-- a row of the tick after `past`, after its releases
 abbrev pub row_of : Plan → (ℕ → ℕ → ℕ) → List Tick → ℕ → Row
 row_of p dem past i =
     let k = latest p i (length past) in
     record { deadline = due p i k; job = k; used = exec p past i k; done = is_complete p dem past i; worst = worst p i }
 
+-- the state of the tick after `past`, after its releases
 abbrev pub state_of : Plan → (ℕ → ℕ → ℕ) → List Tick → StateOf
 state_of p dem past =
     let r = last_release p (length past) in

@@ -36,11 +36,12 @@ heaviest p = first_from (count p) 0 (λ i. not (any_below (count p) (λ j. outwe
 abbrev pub rm_static : Plan → Frac
 rm_static p = level_share p (heaviest p)
 
--- the static demand of a scheduler
+-- the static demand under a scheduler
 abbrev pub static_demand_of : Scheduler → Plan → Frac
 static_demand_of Edf p = edf_static p
 static_demand_of Rm p = rm_static p
 
+-- the static demand of a plan, by its scheduler
 abbrev pub static_demand : Plan → Frac
 static_demand p = static_demand_of p.scheduler p
 

@@ -5,15 +5,17 @@ use Rattle.dvs_base.specs.declared.note.Note.TheVariants.{Release, Speed, Done}
 use Rattle.dvs_base.specs.declared.note.Totals.{Totals}
 use Rattle.sched_model.specs.Notes.{energy_run, energy_idle}
 
--- the notes of a job's release, of its end and of a decision
+-- a note of a release
 abbrev pub is_released : Note → Bool
 is_released (Release tick i k) = true
 is_released _ = false
 
+-- a note of a job's end
 abbrev pub is_finished : Note → Bool
 is_finished (Done at i k used) = true
 is_finished _ = false
 
+-- a note of a decision
 abbrev pub is_decided : Note → Bool
 is_decided (Speed tick speed num den) = true
 is_decided _ = false

@@ -1,5 +1,6 @@
 // Admitted plans.
 ghost use Rattle.std.specs.Prelude.{◌≡◌, ◌<◌, IfOk, slice_index, map};
+ghost use Rattle.task_model.specs.Tasks.{IsTaskSet};
 ghost use Rattle.sched_model.specs.Plan.{plan_of, count, names, task, period, offset, worst, hyper};
 ghost use Rattle.sched_model.specs.Order.{in_order};
 ghost use Rattle.sched_model.specs.StaticDemand.{static_demand};
@@ -37,15 +38,12 @@ impl Model for Admitted {
     ghost invariant = { λ a. HoldsPlan (record { tasks = a.tasks.items; machine = a.machine; scheduler = a.scheduler }) a.name_list.items a.rm_order.items a.hyperperiod a.static_fraction };
 }
 
-// The tasks of a set, in its order.
+// The tasks of a set, in its order, and the limits that every set keeps.
 fn tasks_of(alloc: Global, tasks: &TaskSet) -> Result<Vec<Task>, NoMemory>
-    ensures { IfOk result (λ v. v.items ≡ tasks.now) }
+    ensures list { IfOk result (λ v. v.items ≡ tasks.now) }
+    ensures limits { IfOk result (λ v. IsTaskSet v.items) }
 {
-    let mut list = Vec::new(alloc);
-    for i in 0..tasks.count() {
-        list.push(tasks.task(i)).map_err(|_| NoMemory)?;
-    }
-    Ok(list)
+    Vec::from_slice(alloc, tasks.as_slice()).map_err(|_| NoMemory)
 }
 
 // The names of tasks, in their order.
@@ -71,13 +69,11 @@ impl Admitted {
         requires { PassesTest scheduler (plan_of tasks.now machine.now scheduler) }
         ensures { IfOk result (λ plan. plan ≡ plan_of tasks.now machine.now scheduler) }
     {
-        tasks.known();
-        machine.known();
-        let static_fraction = static_demand(tasks, machine, scheduler);
-        let rm_order = rm_order(alloc, tasks)?;
         let list = tasks_of(alloc, tasks)?;
-        let name_list = names_of(alloc, &list)?;
         let machine = machine.copy(alloc)?;
+        let static_fraction = static_demand(tasks, &machine, scheduler);
+        let rm_order = rm_order(alloc, tasks)?;
+        let name_list = names_of(alloc, &list)?;
         Ok(Admitted {
             tasks: list,
             name_list,

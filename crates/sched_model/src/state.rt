@@ -1,6 +1,6 @@
 // The state of a run.
 ghost use Rattle.std.specs.Prelude.{◌≡◌, ◌≤◌, IfOk};
-ghost use Rattle.sched_model.specs.States.{opening, after_release, after_run, after_finish, after_advance, after_mark, row_wleft, IsStateOf, CanRelease, CanRun, CanFinish};
+ghost use Rattle.sched_model.specs.States.{opening_row, opening, after_release, after_run, after_finish, after_advance, after_mark, row_wleft, IsStateOf, CanRelease, CanRun, CanFinish};
 
 use crate::Admitted;
 use dvs_base::NoMemory;
@@ -38,6 +38,19 @@ impl Model for State {
     ghost invariant = { λ s. IsStateOf (record { now = s.now; rows = s.rows.items; base_at = s.base_at; base = s.base.items }) };
 }
 
+// The row of job 0, which is complete, due at the first release.
+fn opening_row(offset: u64, worst: u64) -> Row
+    ensures { result ≡ opening_row offset worst }
+{
+    Row {
+        deadline: offset,
+        job: 0,
+        used: 0,
+        done: true,
+        worst,
+    }
+}
+
 // What the job may still need at most.
 fn worst_left(row: Row) -> u64
     requires { row.used ≤ row.worst }
@@ -55,13 +68,7 @@ impl State {
         let mut rows = Vec::new(alloc);
         let mut base = Vec::new(alloc);
         for i in 0..plan.count() {
-            let row = Row {
-                deadline: plan.offset(i),
-                job: 0,
-                used: 0,
-                done: true,
-                worst: plan.worst(i),
-            };
+            let row = opening_row(plan.offset(i), plan.worst(i));
             rows.push(row).map_err(|_| NoMemory)?;
             base.push(0).map_err(|_| NoMemory)?;
         }
@@ -80,7 +87,8 @@ impl State {
         let _now = &self.now;
     }
 
-    /// The next job of a task is released.
+    /// The next job of a task is released: the job's number grows by 1 and the deadline by the period, and the job has
+    /// had no units and isn't complete. The row is complete and due now, and both sums fit in 64 bits.
     pub fn release(&mut self, plan: &Admitted, task: u32)
         requires { CanRelease plan.now self.old task }
         ensures { self.new ≡ after_release plan.now self.old task }
@@ -96,7 +104,7 @@ impl State {
         };
     }
 
-    /// The task's job has had so many work units.
+    /// The task's job has had so many more work units. It isn't complete, and has had at most its worst case afterwards.
     pub fn run(&mut self, task: u32, units: u64)
         requires { CanRun self.old task units }
         ensures { self.new ≡ after_run self.old task units }
@@ -108,7 +116,7 @@ impl State {
         };
     }
 
-    /// The task's job is complete.
+    /// The task's job is complete from now on. It wasn't before.
     pub fn finish(&mut self, task: u32)
         requires { CanFinish self.old task }
         ensures { self.new ≡ after_finish self.old task }
@@ -117,7 +125,7 @@ impl State {
         self.rows[task as usize] = Row { done: true, ..row };
     }
 
-    /// Time passes, up to the tick `to`.
+    /// Time passes, up to the tick `to`, which is no earlier one.
     pub fn advance(&mut self, to: u64)
         requires { self.old.now ≤ to }
         ensures { self.new ≡ after_advance self.old to }
@@ -125,7 +133,7 @@ impl State {
         self.now = to;
     }
 
-    /// Marks this tick: each base is what the row's job may still need at most.
+    /// Marks this tick: `base_at` is this tick, and each base is what the row's job may still need at most, in work units.
     pub fn mark(&mut self)
         ensures { self.new ≡ after_mark self.old }
     {

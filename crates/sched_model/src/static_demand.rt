@@ -1,6 +1,9 @@
 // The static demand of a plan (Pillai and Shin 2001).
 ghost use Rattle.std.specs.Prelude.{◌≡◌, ◌≤◌, ◌<◌, ◌^◌, length};
 ghost use Rattle.dvs_base.specs.declared.kind.Scheduler.TheVariants.{Rm};
+ghost use Rattle.task_model.specs.declared.limits.TheConstants.{LONGEST_PERIOD};
+ghost use Rattle.task_model.specs.Tasks.{IsTaskSet};
+ghost use Rattle.freq_table.specs.Tables.{IsTable};
 ghost use Rattle.sched_model.specs.Plan.{plan_of};
 ghost use Rattle.sched_model.specs.Tests.{IsRmFeasible};
 ghost use Rattle.sched_model.specs.StaticDemand.{level_share, outweighs, heaviest, static_demand};
@@ -16,14 +19,13 @@ use task_model::TaskSet;
 // The share of its period that the level of a task asks for.
 fn level_share(tasks: &TaskSet, machine: &Machine, i: u32) -> Frac
     requires below { i < length tasks.now }
+    requires machine { IsTable machine.now }
     requires test { IsRmFeasible (plan_of tasks.now machine.now Rm) }
     ensures value { result ≡ level_share (plan_of tasks.now machine.now Rm) i }
     ensures low_num { result.num ≤ 2 ^ 60 }
     ensures some_den { 1 ≤ result.den }
-    ensures low_den { result.den ≤ 2 ^ 40 }
+    ensures low_den { result.den ≤ LONGEST_PERIOD }
 {
-    tasks.known();
-    machine.known();
     Frac {
         num: level_work(tasks, machine, i),
         den: u128::from(tasks.task(i).period),
@@ -34,6 +36,7 @@ fn level_share(tasks: &TaskSet, machine: &Machine, i: u32) -> Frac
 fn outweighs(tasks: &TaskSet, machine: &Machine, j: u32, i: u32) -> bool
     requires first { j < length tasks.now }
     requires second { i < length tasks.now }
+    requires machine { IsTable machine.now }
     requires test { IsRmFeasible (plan_of tasks.now machine.now Rm) }
     ensures { result ≡ outweighs (plan_of tasks.now machine.now Rm) j i }
 {
@@ -44,11 +47,12 @@ fn outweighs(tasks: &TaskSet, machine: &Machine, j: u32, i: u32) -> bool
 
 // The task whose level asks for the greatest share, of equal ones the first in RM order.
 fn heaviest(tasks: &TaskSet, machine: &Machine) -> u32
-    requires { IsRmFeasible (plan_of tasks.now machine.now Rm) }
+    requires tasks { IsTaskSet tasks.now }
+    requires machine { IsTable machine.now }
+    requires test { IsRmFeasible (plan_of tasks.now machine.now Rm) }
     ensures value { result ≡ heaviest (plan_of tasks.now machine.now Rm) }
     ensures below { result < length tasks.now }
 {
-    tasks.known();
     let mut found = 0;
     for i in 1..tasks.count() {
         if outweighs(tasks, machine, i, found) {
@@ -60,7 +64,9 @@ fn heaviest(tasks: &TaskSet, machine: &Machine) -> u32
 
 // The static demand of tasks that pass the scheduler's test.
 pub(crate) fn static_demand(tasks: &TaskSet, machine: &Machine, scheduler: Scheduler) -> Frac
-    requires { PassesTest scheduler (plan_of tasks.now machine.now scheduler) }
+    requires tasks { IsTaskSet tasks.now }
+    requires machine { IsTable machine.now }
+    requires test { PassesTest scheduler (plan_of tasks.now machine.now scheduler) }
     ensures { result ≡ static_demand (plan_of tasks.now machine.now scheduler) }
 {
     match scheduler {

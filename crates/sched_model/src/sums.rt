@@ -16,8 +16,6 @@ fn worst(tasks: &TaskSet, machine: &Machine, i: u32) -> u64
     ensures value { result ≡ worst (plan_of tasks.now machine.now Edf) i }
     ensures low { result ≤ 2 ^ 61 }
 {
-    tasks.known();
-    machine.known();
     tasks.task(i).worst + 2 * machine.charge()
 }
 
@@ -27,7 +25,6 @@ fn rate(tasks: &TaskSet, machine: &Machine, i: u32) -> u128
     ensures value { result ≡ rate (plan_of tasks.now machine.now Edf) i }
     ensures low { result ≤ 2 ^ 109 }
 {
-    tasks.known();
     let jobs = tasks.hyper() / tasks.task(i).period;
     u128::from(worst(tasks, machine, i)) * u128::from(jobs)
 }
@@ -37,7 +34,6 @@ fn rate(tasks: &TaskSet, machine: &Machine, i: u32) -> u128
 pub fn total_rate(tasks: &TaskSet, machine: &Machine) -> u128
     ensures { result ≡ total_rate (plan_of tasks.now machine.now Edf) }
 {
-    tasks.known();
     let mut sum = 0;
     for i in 0..tasks.count() {
         sum += rate(tasks, machine, i);
@@ -52,7 +48,6 @@ fn demanded(tasks: &TaskSet, machine: &Machine, i: u32, j: u32) -> u128
     ensures value { result ≡ (let p = plan_of tasks.now machine.now Rm in ceil_div (period p i) (period p j) * worst p j) }
     ensures low { result ≤ 2 ^ 101 }
 {
-    tasks.known();
     let jobs = up(u128::from(tasks.task(i).period), tasks.task(j).period);
     jobs * u128::from(worst(tasks, machine, j))
 }
@@ -63,7 +58,6 @@ pub fn level_work(tasks: &TaskSet, machine: &Machine, i: u32) -> u128
     requires { i < length tasks.now }
     ensures { result ≡ level_work (plan_of tasks.now machine.now Rm) i }
 {
-    tasks.known();
     let mut sum = demanded(tasks, machine, i, i);
     for j in 0..tasks.count() {
         if stands_before(tasks, j, i) {

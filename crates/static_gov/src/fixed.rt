@@ -5,12 +5,15 @@ ghost use Rattle.freq_table.specs.Tables.{lowest_entry, lowest_pick};
 ghost use Rattle.sched_model.specs.StaticDemand.{static_demand};
 ghost use Rattle.sched_model.specs.States.{opening, IsOfPlan};
 ghost use Rattle.governor.specs.Steps.{IsAtDecision};
-ghost use Rattle.one_speed.specs.Speeds.{ServesBoth, unchanging, fixed_speed};
-ghost use Rattle.one_speed.specs.Conditions.{CalmAt, SafeAt};
-ghost use Rattle.one_speed.proofs.OneSpeedLaws.{static_laws};
+ghost use Rattle.governor.specs.Serving.{ServesBoth};
+ghost use Rattle.governor.specs.Speeds.{unchanging, fixed_speed};
+ghost use Rattle.governor.specs.Worst.{MeetsAtWorst};
+ghost use Rattle.governor.specs.OneSpeed.{CalmAt, SafeAt};
+ghost use Rattle.governor.proofs.OneSpeedLaws.{pairs_fixed, static_laws};
+ghost use Rattle.governor.proofs.PlanDemands.{fixed_publishing};
 
 use dvs_base::{GovernorKind, NoMemory};
-use governor::{Choice, Governor};
+use governor::{Choice, Governor, Publishing};
 use grid_fraction::Frac;
 use sched_model::{Admitted, State};
 use std::alloc::Global;
@@ -23,10 +26,13 @@ pub struct Static {
 
 impl Static {
     /// The governor for a plan, before the first release. It takes no memory and is never refused.
+    /// With every job at its worst case its schedule meets every deadline, whatever its length.
     pub fn new(_alloc: Global, plan: &Admitted) -> Result<Static, NoMemory>
         ensures made { IsOk result }
         ensures stands { IfOk result (λ g. ⟦<Static as Governor>⟧.stands g plan.now (opening plan.now)) }
+        ensures worst { MeetsAtWorst plan.now }
     {
+        plan.known();
         Ok(Static {
             demand: plan.static_demand(),
         })
@@ -50,7 +56,7 @@ impl Governor for Static {
 
     ghost waits = { λ g plan s to later stands. stands };
 
-    ghost laws = { static_laws };
+    ghost laws = { static_laws pairs_fixed };
 
     fn kind(&self) -> GovernorKind {
         GovernorKind::Fixed
@@ -81,5 +87,13 @@ impl Governor for Static {
             met: pick.met,
             demand: self.demand,
         }
+    }
+}
+
+impl Publishing for Static {
+    ghost publishing = { fixed_publishing };
+
+    fn made(alloc: Global, plan: &Admitted) -> Result<Static, NoMemory> {
+        Static::new(alloc, plan)
     }
 }

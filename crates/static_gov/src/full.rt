@@ -6,12 +6,14 @@ ghost use Rattle.sched_model.specs.Plan.{top_speed};
 ghost use Rattle.sched_model.specs.StaticDemand.{full_demand};
 ghost use Rattle.sched_model.specs.States.{opening, IsOfPlan};
 ghost use Rattle.governor.specs.Steps.{IsAtDecision};
-ghost use Rattle.one_speed.specs.Speeds.{ServesBoth, unchanging};
-ghost use Rattle.one_speed.specs.Conditions.{CalmAt, SafeAt};
-ghost use Rattle.one_speed.proofs.OneSpeedLaws.{full_laws};
+ghost use Rattle.governor.specs.Serving.{ServesBoth};
+ghost use Rattle.governor.specs.Speeds.{unchanging};
+ghost use Rattle.governor.specs.OneSpeed.{CalmAt, SafeAt};
+ghost use Rattle.governor.proofs.OneSpeedLaws.{pairs_plain, full_laws};
+ghost use Rattle.governor.proofs.PlanDemands.{plain_publishing};
 
 use dvs_base::{GovernorKind, NoMemory};
-use governor::{Choice, Governor};
+use governor::{Choice, Governor, Publishing};
 use grid_fraction::Frac;
 use sched_model::{Admitted, State};
 use std::alloc::Global;
@@ -50,7 +52,7 @@ impl Governor for Full {
 
     ghost waits = { λ g plan s to later stands. stands };
 
-    ghost laws = { full_laws };
+    ghost laws = { full_laws pairs_plain };
 
     fn kind(&self) -> GovernorKind {
         GovernorKind::Plain
@@ -84,5 +86,13 @@ impl Governor for Full {
             met: pick.met,
             demand,
         }
+    }
+}
+
+impl Publishing for Full {
+    ghost publishing = { plain_publishing };
+
+    fn made(alloc: Global, plan: &Admitted) -> Result<Full, NoMemory> {
+        Full::new(alloc, plan)
     }
 }

@@ -6,10 +6,6 @@
 
 mod fixed;
 mod full;
-mod published;
-mod worst;
 
 pub use fixed::Static;
 pub use full::Full;
-pub use published::published_demands;
-pub use worst::worst_case_meets;

@@ -20,9 +20,10 @@ use Rattle.toml.specs.View.{view, items_of, members_view}
 use Rattle.toml.specs.declared.value.Value.{Value}
 use Rattle.toml.specs.Parse.{parse_document}
 use Rattle.std.proofs.Math.Nat.{max-le}
-use Rattle.toml_tree.proofs.Counts.{choose_not}
+use Rattle.dvs_base.proofs.Counts.{choose_not}
+use Rattle.task_model.specs.declared.limits.TheConstants.{MOST_TASKS, LONGEST_PERIOD, MOST_WORK, LATEST_OFFSET, LONGEST_HYPERPERIOD}
 use Rattle.task_model.specs.declared.fault.TaskFault.TheVariants as fault
-use Rattle.toml_tree.specs.Tree.{count_of}
+use Rattle.dvs_base.specs.Settings.{count_of}
 use Rattle.task_model.specs.declared.task.Task.{Task}
 use Rattle.task_model.specs.Tasks.{IsTask, IsTaskSet, task_at, no_task, hyper_of}
 use Rattle.task_model.specs.Limits.{AreTasks}
@@ -68,14 +69,14 @@ within low high n h k =
 pub task_of-task_data : (place : ℕ) (t : Task) → IsTask t → task_of place (task_data t) ≡ Ok t
 task_of-task_data place t h = go (nat_lt 0 t.offset) refl
   where
-    period : (nat_le 1 t.period && nat_le t.period (2 ^ 40)) ≡ true
-    period = within 1 (2 ^ 40) t.period h.some_period h.low_period
+    period : (nat_le 1 t.period && nat_le t.period LONGEST_PERIOD) ≡ true
+    period = within 1 LONGEST_PERIOD t.period h.some_period h.low_period
 
-    worst : (nat_le 1 t.worst && nat_le t.worst (2 ^ 60)) ≡ true
-    worst = within 1 (2 ^ 60) t.worst h.some_worst h.low_worst
+    worst : (nat_le 1 t.worst && nat_le t.worst MOST_WORK) ≡ true
+    worst = within 1 MOST_WORK t.worst h.some_worst h.low_worst
 
     go : (b : Bool) → nat_lt 0 t.offset ≡ b → task_of place (task_data t) ≡ Ok t
-    go true e = rw (e, h.name, period, worst, within 0 (2 ^ 40) t.offset (omega arith) h.low_offset) refl
+    go true e = rw (e, h.name, period, worst, within 0 LATEST_OFFSET t.offset (omega arith) h.low_offset) refl
     go false e =
         let none : 0 ≡ t.offset = grind (arith, nat_tests) in
         rw (e, h.name, period, worst) (λ i. Ok record { name = t.name; period = t.period; worst = t.worst; offset = none i })
@@ -124,11 +125,11 @@ AreTasks-from_set tasks h = record { each = h.each; distinct = h.distinct }
 tasks_of_document-written : (tasks : List Task) → IsTaskSet tasks → tasks_of_document (Some (document tasks)) ≡ Ok tasks
 tasks_of_document-written [] h = absurd (let some : 1 ≤ 0 = h.some in omega arith)
 tasks_of_document-written (t ∷ tasks) h =
-    choose_not 64 (count_of (items_of (map task_data (t ∷ tasks)))) (length (t ∷ tasks)) (λ n. Err (fault.TooMany n)) _ (count_of-written (t ∷ tasks)) h.few
+    choose_not MOST_TASKS (count_of (items_of (map task_data (t ∷ tasks)))) (length (t ∷ tasks)) (λ n. Err (fault.TooMany n)) _ (count_of-written (t ∷ tasks)) h.few
     ∙ rw (tasks_from-written [] (t ∷ tasks) (AreTasks-from_set (t ∷ tasks) h)) (within_hyper-known (t ∷ tasks) h.hyper)
   where
-    within_hyper-known : (ts : List Task) → hyper_of ts ≤ 2 ^ 48 → within_hyper ts ≡ Ok ts
-    within_hyper-known ts low = let test : nat_le (hyper_of ts) (2 ^ 48) ≡ true = grind (arith, nat_tests) in rw test refl
+    within_hyper-known : (ts : List Task) → hyper_of ts ≤ LONGEST_HYPERPERIOD → within_hyper ts ≡ Ok ts
+    within_hyper-known ts low = let test : nat_le (hyper_of ts) LONGEST_HYPERPERIOD ≡ true = grind (arith, nat_tests) in rw test refl
 
 items_depth-written : (tasks : List Task) → items_depth (items_of (map task_data tasks)) ≤ 1
 items_depth-written [] = omega arith

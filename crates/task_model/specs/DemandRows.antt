@@ -7,6 +7,10 @@ pub record DemandRow : Type 0 where
   pub job : ℕ
   pub units : ℕ
 
+-- the row of these
+abbrev pub demand_row : ℕ → ℕ → ℕ → DemandRow
+demand_row task job units = record { task = task; job = job; units = units }
+
 -- the units that a demand list names for a job
 abbrev pub named : List DemandRow → ℕ → ℕ → Option ℕ
 named [] i k = None

@@ -1,12 +1,13 @@
 -- What a task file means: the tasks, or the first refusal.
-use Rattle.std.specs.Prelude.{ℕ, ◌+◌, ◌^◌, List, [], ◌∷◌, ◌++◌, length, nat_lt, nat_le, position, codes, Option, Some, None, Result, Ok, Err, if◌then◌else◌}
+use Rattle.std.specs.Prelude.{ℕ, ◌+◌, List, [], ◌∷◌, ◌++◌, length, nat_lt, nat_le, position, codes, Option, Some, None, Result, Ok, Err, if◌then◌else◌}
 use Rattle.std.specs.Str.{bytes_eq}
 use Rattle.dvs_base.specs.Text.{is_name, short_of}
 use Rattle.toml.specs.Data.{Data, Items, no_items, item, Members, get_member, as_integer, as_array, as_table}
-use Rattle.toml_tree.specs.declared.tree.MemberFault.{MemberFault}
-use Rattle.toml_tree.specs.declared.tree.MemberFault.TheVariants as member_fault
+use Rattle.dvs_base.specs.declared.settings.MemberFault.{MemberFault}
+use Rattle.dvs_base.specs.declared.settings.MemberFault.TheVariants as member_fault
 use Rattle.dvs_base.specs.Checks.{and_then}
-use Rattle.toml_tree.specs.Tree.{document_of, unknown_key, number_from, number_at, text_at, count_of}
+use Rattle.dvs_base.specs.Settings.{document_of, unknown_key, number_from, number_at, text_at, count_of}
+use Rattle.task_model.specs.declared.limits.TheConstants.{MOST_TASKS, LONGEST_PERIOD, MOST_WORK, LATEST_OFFSET, LONGEST_HYPERPERIOD}
 use Rattle.task_model.specs.declared.task.Task.{Task}
 use Rattle.task_model.specs.declared.fault.Field.{Field}
 use Rattle.task_model.specs.declared.fault.Field.TheVariants as field
@@ -14,10 +15,11 @@ use Rattle.task_model.specs.declared.fault.TaskFault.{TaskFault}
 use Rattle.task_model.specs.declared.fault.TaskFault.TheVariants as fault
 use Rattle.task_model.specs.Tasks.{hyper_of}
 
--- the keys of the document, and of a task
+-- the keys of the document
 abbrev pub file_keys : List (List ℕ)
 file_keys = codes "task" ∷ []
 
+-- the keys of a task
 abbrev pub task_keys : List (List ℕ)
 task_keys = codes "name" ∷ codes "period" ∷ codes "worst" ∷ codes "offset" ∷ []
 
@@ -32,6 +34,7 @@ fault_at place field member_fault.Missing = fault.Missing place field
 fault_at place field member_fault.Kind = fault.Kind place field
 fault_at place field member_fault.Range = fault.Range place field
 
+-- what stands at a key, or the trouble with it
 abbrev pub at_field : {A : Type 0} → ℕ → Field → Result A MemberFault → Result A TaskFault
 at_field place field (Ok value) = Ok value
 at_field place field (Err e) = Err (fault_at place field e)
@@ -40,28 +43,31 @@ at_field place field (Err e) = Err (fault_at place field e)
 abbrev pub name_of : ℕ → List ℕ → Result (List ℕ) TaskFault
 name_of place text = if is_name text then Ok text else Err (fault.BadName place)
 
+-- the name of a task, of the value at its key
 abbrev pub name_at : ℕ → Option Data → Result (List ℕ) TaskFault
 name_at place value = and_then (at_field place field.Name (text_at value)) (name_of place)
 
 -- the offset, which is 0 where it is absent
 abbrev pub offset_at : ℕ → Option Data → Result ℕ TaskFault
 offset_at place None = Ok 0
-offset_at place (Some value) = at_field place field.Offset (number_from 0 (2 ^ 40) (as_integer value))
+offset_at place (Some value) = at_field place field.Offset (number_from 0 LATEST_OFFSET (as_integer value))
 
 -- an entry
 abbrev pub task_of_members : ℕ → Members → Result Task TaskFault
 task_of_members place ms =
     no_unknown place (unknown_key task_keys ms) (
     and_then (name_at place (get_member (codes "name") ms)) (λ name.
-    and_then (at_field place field.Period (number_at 1 (2 ^ 40) (get_member (codes "period") ms))) (λ period.
-    and_then (at_field place field.Worst (number_at 1 (2 ^ 60) (get_member (codes "worst") ms))) (λ worst.
+    and_then (at_field place field.Period (number_at 1 LONGEST_PERIOD (get_member (codes "period") ms))) (λ period.
+    and_then (at_field place field.Worst (number_at 1 MOST_WORK (get_member (codes "worst") ms))) (λ worst.
     and_then (offset_at place (get_member (codes "offset") ms)) (λ offset.
     Ok record { name = name; period = period; worst = worst; offset = offset })))))
 
+-- an entry that is a table
 abbrev pub task_of_table : ℕ → Option Members → Result Task TaskFault
 task_of_table place None = Err (fault.Kind place field.Entry)
 task_of_table place (Some ms) = task_of_members place ms
 
+-- an entry of the array, whatever it is
 abbrev pub task_of : ℕ → Data → Result Task TaskFault
 task_of place value = task_of_table place (as_table value)
 
@@ -83,19 +89,21 @@ tasks_from tasks (item value rest) =
 
 -- the check of the least common multiple of the periods
 abbrev pub within_hyper : List Task → Result (List Task) TaskFault
-within_hyper tasks = if nat_le (hyper_of tasks) (2 ^ 48) then Ok tasks else Err fault.Hyper
+within_hyper tasks = if nat_le (hyper_of tasks) LONGEST_HYPERPERIOD then Ok tasks else Err fault.Hyper
 
 -- the array of entries
 abbrev pub entries_from : Option Items → Result (List Task) TaskFault
 entries_from None = Err (fault.Kind 0 field.Task)
 entries_from (Some no_items) = Err fault.NoTasks
 entries_from (Some (item value rest)) =
-    if nat_lt 64 (count_of (item value rest)) then Err (fault.TooMany (count_of (item value rest))) else and_then (tasks_from [] (item value rest)) within_hyper
+    if nat_lt MOST_TASKS (count_of (item value rest)) then Err (fault.TooMany (count_of (item value rest))) else and_then (tasks_from [] (item value rest)) within_hyper
 
+-- the tasks of the document, of the value at the key of the array
 abbrev pub entries_at : Option Data → Result (List Task) TaskFault
 entries_at None = Err fault.NoTasks
 entries_at (Some value) = entries_from (as_array value)
 
+-- the tasks of a document: its keys, and then the array
 abbrev pub tasks_of_document : Option Members → Result (List Task) TaskFault
 tasks_of_document None = Err fault.NotToml
 tasks_of_document (Some ms) = no_unknown 0 (unknown_key file_keys ms) (entries_at (get_member (codes "task") ms))

@@ -1,17 +1,23 @@
 -- Tasks within the limits.
-use Rattle.std.specs.Prelude.{◌≡◌, ℕ, ◌<◌, ◌≤◌, ◌^◌, List, length, map, slice_index_or, [], true}
+use Rattle.std.specs.Prelude.{◌≡◌, ℕ, ◌<◌, ◌≤◌, List, length, map, slice_index_or, [], true, nat_le, Option, Some, None, if◌then◌else◌}
 use Rattle.dvs_base.specs.Text.{is_name}
 use Rattle.grid_fraction.specs.Fraction.{least_common_multiple}
+use Rattle.task_model.specs.declared.limits.TheConstants.{MOST_TASKS, LONGEST_PERIOD, MOST_WORK, LATEST_OFFSET, LONGEST_HYPERPERIOD}
 use Rattle.task_model.specs.declared.task.Task.{Task}
 
 -- H, the least common multiple of the periods: after so many ticks the releases repeat
 abbrev pub hyper_of : List Task → ℕ
 hyper_of tasks = least_common_multiple (map (λ t. t.period) tasks)
 
+-- a value where a number is within a limit, and else none
+abbrev pub where_within : {A : Type 0} → ℕ → ℕ → A → Option A
+where_within most n value = if nat_le n most then Some value else None
+
 -- a task that no set has, for places past the end
 abbrev pub no_task : Task
 no_task = record { name = []; period = 1; worst = 0; offset = 0 }
 
+-- a task of a list, by its number
 abbrev pub task_at : List Task → ℕ → Task
 task_at tasks i = slice_index_or tasks i no_task
 
@@ -19,15 +25,15 @@ task_at tasks i = slice_index_or tasks i no_task
 pub record IsTask (t : Task) : Type 0 where
   pub name : is_name t.name ≡ true
   pub some_period : 1 ≤ t.period
-  pub low_period : t.period ≤ 2 ^ 40
+  pub low_period : t.period ≤ LONGEST_PERIOD
   pub some_worst : 1 ≤ t.worst
-  pub low_worst : t.worst ≤ 2 ^ 60
-  pub low_offset : t.offset ≤ 2 ^ 40
+  pub low_worst : t.worst ≤ MOST_WORK
+  pub low_offset : t.offset ≤ LATEST_OFFSET
 
 -- a set of tasks: within the limits, with distinct names
 pub record IsTaskSet (tasks : List Task) : Type 0 where
   pub some : 1 ≤ length tasks
-  pub few : length tasks ≤ 64
+  pub few : length tasks ≤ MOST_TASKS
   pub each : (i : ℕ) → i < length tasks → IsTask (task_at tasks i)
   pub distinct : (i j : ℕ) → i < j → j < length tasks → (task_at tasks i).name ≡ (task_at tasks j).name → ⊥
-  pub hyper : hyper_of tasks ≤ 2 ^ 48
+  pub hyper : hyper_of tasks ≤ LONGEST_HYPERPERIOD

@@ -4,16 +4,22 @@ use dvs_base::Short;
 /// What a task file names: its array of tasks, an entry of it, or a key of an entry.
 #[derive(Clone, Copy, Debug, PartialEq, Eq)]
 pub enum Field {
+    /// The array `task` of the document.
     Task,
+    /// An entry of the array, which is no table.
     Entry,
+    /// The key `name` of an entry.
     Name,
+    /// The key `period`, in ticks.
     Period,
+    /// The key `worst`, in work units.
     Worst,
+    /// The key `offset`, in ticks.
     Offset,
 }
 
 /// The first thing that a task file has wrong. Places count from 1, and place 0 is the document itself.
-#[derive(Drop)]
+#[derive(Clone, Copy, Debug, PartialEq, Eq)]
 pub enum TaskFault {
     /// The bytes are no TOML document.
     NotToml,
@@ -21,13 +27,13 @@ pub enum TaskFault {
     UnknownKey { place: u32, key: Short },
     /// The array of tasks is missing or empty.
     NoTasks,
-    /// There are more than 64 tasks.
+    /// There are more than [`MOST_TASKS`](crate::MOST_TASKS) tasks.
     TooMany { count: u64 },
     /// A task lacks this key.
     Missing { place: u32, field: Field },
     /// A value of another kind stands there.
     Kind { place: u32, field: Field },
-    /// The period is outside 1 to 2^40, the worst case outside 1 to 2^60, or the offset above 2^40.
+    /// A number is outside its limits: the period 1 to 2^40, the worst case 1 to 2^60, the offset 0 to 2^40.
     Range { place: u32, field: Field },
     /// The name is not 1 to 32 bytes of ASCII letters, digits, `_` and `-`.
     BadName { place: u32 },

@@ -5,142 +5,121 @@
 #![tactic(auto)]
 
 mod fault;
+mod limits;
 mod read;
 mod task;
 mod write;
 
 pub use fault::{Field, TaskFault};
+pub use limits::{LATEST_OFFSET, LONGEST_HYPERPERIOD, LONGEST_PERIOD, MOST_TASKS, MOST_WORK};
 pub use task::{Task, TaskSet};
 
 #[cfg(test)]
 mod tests {
     use super::*;
+    use dvs_base::Short;
     use std::test::Fail;
 
-    const SET_A: &str =
+    const PAPER_SET: &str =
         "[[task]]\nname = \"t1\"\nperiod = 8\nworst = 12\n[[task]]\nname = \"t2\"\nperiod = 10\nworst = 12\n[[task]]\nname = \"t3\"\nperiod = 14\nworst = 4\n";
-
-    // The refusal's word, its place, its field, and its other number.
-    fn told(fault: &TaskFault) -> (&'static str, u32, Option<Field>, u64) {
-        match fault {
-            TaskFault::NotToml => ("not TOML", 0, None, 0),
-            TaskFault::UnknownKey { place, key } => (
-                "unknown key",
-                *place,
-                None,
-                key.as_bytes().len() as u64,
-            ),
-            TaskFault::NoTasks => ("no tasks", 0, None, 0),
-            TaskFault::TooMany { count } => ("too many", 0, None, *count),
-            TaskFault::Missing { place, field } => ("missing", *place, Some(*field), 0),
-            TaskFault::Kind { place, field } => ("kind", *place, Some(*field), 0),
-            TaskFault::Range { place, field } => ("range", *place, Some(*field), 0),
-            TaskFault::BadName { place } => ("bad name", *place, None, 0),
-            TaskFault::SameName { first, second } => (
-                "same name",
-                *second,
-                None,
-                u64::from(*first),
-            ),
-            TaskFault::Hyper => ("hyper", 0, None, 0),
-            TaskFault::NoMemory => ("no memory", 0, None, 0),
-        }
-    }
 
     #[test]
     fn the_first_trouble_is_the_refusal(rt: HostRuntime) {
+        let missing = |place, field| TaskFault::Missing { place, field };
+        let kind = |place, field| TaskFault::Kind { place, field };
+        let range = |place, field| TaskFault::Range { place, field };
+        let unknown = |place, key: &str| TaskFault::UnknownKey {
+            place,
+            key: Short::of(key.as_bytes()),
+        };
         for (text, want) in [
-            ("", ("no tasks", 0, None, 0)),
-            ("task = []", ("no tasks", 0, None, 0)),
-            ("task = 1", ("kind", 0, Some(Field::Task), 0)),
-            ("task = \"\"", ("kind", 0, Some(Field::Task), 0)),
-            ("task = [", ("not TOML", 0, None, 0)),
-            ("task = [9223372036854775808]", ("not TOML", 0, None, 0)),
-            ("zz = 1\nbcd = 2\ntask = []", ("unknown key", 0, None, 3)),
-            ("task = [1]", ("kind", 1, Some(Field::Entry), 0)),
+            ("", TaskFault::NoTasks),
+            ("task = []", TaskFault::NoTasks),
+            ("task = 1", kind(0, Field::Task)),
+            ("task = \"\"", kind(0, Field::Task)),
+            ("task = [", TaskFault::NotToml),
+            ("task = [9223372036854775808]", TaskFault::NotToml),
+            ("zz = 1\nbcd = 2\ntask = []", unknown(0, "bcd")),
+            ("task = [1]", kind(1, Field::Entry)),
             (
                 "task = [{name = \"a\", period = 1, worst = 1}, {phase = 1}]",
-                ("unknown key", 2, None, 5),
+                unknown(2, "phase"),
             ),
-            ("task = [{}]", ("missing", 1, Some(Field::Name), 0)),
-            ("task = [{name = 1}]", ("kind", 1, Some(Field::Name), 0)),
-            ("task = [{name = \"a b\"}]", ("bad name", 1, None, 0)),
-            (
-                "task = [{name = \"a\"}]",
-                ("missing", 1, Some(Field::Period), 0),
-            ),
+            ("task = [{}]", missing(1, Field::Name)),
+            ("task = [{name = 1}]", kind(1, Field::Name)),
+            ("task = [{name = \"a b\"}]", TaskFault::BadName { place: 1 }),
+            ("task = [{name = \"a\"}]", missing(1, Field::Period)),
             (
                 "task = [{name = \"a\", period = 1.0}]",
-                ("kind", 1, Some(Field::Period), 0),
+                kind(1, Field::Period),
             ),
             (
                 "task = [{name = \"a\", period = 1979-05-27}]",
-                ("kind", 1, Some(Field::Period), 0),
+                kind(1, Field::Period),
             ),
             (
                 "task = [{name = \"a\", period = \"1\"}]",
-                ("kind", 1, Some(Field::Period), 0),
+                kind(1, Field::Period),
             ),
             (
                 "task = [{name = \"a\", period = 0, worst = 0}]",
-                ("range", 1, Some(Field::Period), 0),
+                range(1, Field::Period),
             ),
             (
                 "task = [{name = \"a\", period = -1}]",
-                ("range", 1, Some(Field::Period), 0),
+                range(1, Field::Period),
             ),
             (
                 "task = [{name = \"a\", period = 1099511627777}]",
-                ("range", 1, Some(Field::Period), 0),
+                range(1, Field::Period),
             ),
             (
                 "task = [{name = \"a\", period = 1}]",
-                ("missing", 1, Some(Field::Worst), 0),
+                missing(1, Field::Worst),
             ),
             (
                 "task = [{name = \"a\", period = 1, worst = 1152921504606846977}]",
-                ("range", 1, Some(Field::Worst), 0),
+                range(1, Field::Worst),
             ),
             (
                 "task = [{name = \"a\", period = 1, worst = 1, offset = 1.0}]",
-                ("kind", 1, Some(Field::Offset), 0),
+                kind(1, Field::Offset),
             ),
             (
                 "task = [{name = \"a\", period = 1, worst = 1, offset = -1}]",
-                ("range", 1, Some(Field::Offset), 0),
+                range(1, Field::Offset),
             ),
             (
                 "task = [{name = \"a\", period = 1, worst = 1, offset = 1099511627777}]",
-                ("range", 1, Some(Field::Offset), 0),
+                range(1, Field::Offset),
             ),
             (
                 "task = [{name = \"a\", period = 1, worst = 1}, {name = \"a\", period = 1, worst = 1}]",
-                ("same name", 2, None, 1),
+                TaskFault::SameName {
+                    first: 1,
+                    second: 2,
+                },
             ),
             (
                 "task = [{name = \"a\", period = 1099511627775, worst = 1}, {name = \"b\", period = 1099511627776, worst = 1}]",
-                ("hyper", 0, None, 0),
+                TaskFault::Hyper,
             ),
         ] {
-            let found = TaskSet::read(rt.alloc(), text.as_bytes())
-                .map_err(|fault| told(&fault))
-                .err();
+            let found = TaskSet::read(rt.alloc(), text.as_bytes()).err();
             assert_eq!(rt; found, Some(want), "{text}");
         }
-        let found = TaskSet::read(rt.alloc(), b"\xff")
-            .map_err(|fault| told(&fault))
-            .err();
-        assert_eq!(rt; found, Some(("not TOML", 0, None, 0)));
+        let found = TaskSet::read(rt.alloc(), b"\xff").err();
+        assert_eq!(rt; found, Some(TaskFault::NotToml));
     }
 
     #[test]
     fn the_same_tree_is_the_same_set(rt: HostRuntime) -> Result<(), Fail> {
         for text in [
-            SET_A,
+            PAPER_SET,
             "\u{feff}task = [{name = \"t1\", period = 0x8, worst = 1_2}, {name = 't2', period = 10, worst = 0b1100}, {name = \"t3\", period = 14, worst = 4}]",
             "[[task]]\n\"name\" = \"t1\"\nperiod = +8\nworst = 12\n[[task]]\nworst = 12\nperiod = 0o12\nname = \"t\\u0032\"\n[[task]]\nname = \"t3\"\nperiod = 14\nworst = 4",
         ] {
-            let set = TaskSet::read(rt.alloc(), text.as_bytes()).map_err(|_| "set A")?;
+            let set = TaskSet::read(rt.alloc(), text.as_bytes()).map_err(|_| "the paper's set")?;
             assert_eq!(rt; set.count(), 3);
             assert_eq!(rt; set.hyper(), 280);
             assert_eq!(rt;
@@ -171,7 +150,7 @@ mod tests {
     #[test]
     fn a_set_is_made_of_its_tasks(rt: HostRuntime) -> Result<(), Fail> {
         let alloc = rt.alloc();
-        let read = TaskSet::read(alloc, SET_A.as_bytes()).map_err(|_| "set A")?;
+        let read = TaskSet::read(alloc, PAPER_SET.as_bytes()).map_err(|_| "the paper's set")?;
         let set = TaskSet::of(alloc, read.as_slice()).map_err(|_| "memory")?;
         assert_eq!(rt; (set.count(), set.hyper()), (3, 280));
         if set.count() == 3 {

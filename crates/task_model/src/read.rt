@@ -1,21 +1,22 @@
 // A task file, read by its table.
-ghost use Rattle.std.specs.Prelude.{codes, ◌≡◌, ◌≤◌, ◌<◌, ◌^◌, [], Some, length, IfOk, vec_len};
+ghost use Rattle.std.specs.Prelude.{codes, ◌≡◌, ◌≤◌, ◌<◌, [], Some, length, IfOk, vec_len};
 ghost use Rattle.toml.specs.Data.{get_member};
 ghost use Rattle.toml.specs.View.{view, table_view, items_view};
 ghost use Rattle.dvs_base.specs.Checks.{IsUnlessMemory};
-ghost use Rattle.toml_tree.specs.Tree.{number_at};
+ghost use Rattle.dvs_base.specs.Settings.{number_at};
+ghost use Rattle.task_model.specs.declared.limits.TheConstants.{MOST_TASKS, LATEST_OFFSET};
 ghost use Rattle.task_model.specs.Tasks.{IsTask, hyper_of};
 ghost use Rattle.task_model.specs.Limits.{AreTasks};
 ghost use Rattle.task_model.specs.TaskFile.{fault_at, at_field, name_of, name_at, offset_at, task_of_members, task_of, place_of, tasks_from, within_hyper, entries_from, tasks_of_document, task_file};
 
 use crate::fault::{Field, TaskFault};
+use crate::limits::{LATEST_OFFSET, LONGEST_PERIOD, MOST_TASKS, MOST_WORK};
 use crate::task::{Task, TaskSet, place_of};
-use dvs_base::Name;
+use dvs_base::{
+    DocumentFault, MemberFault, Name, member_at, number_at, read_document, text_at, unknown_key,
+};
 use std::alloc::Global;
 use toml::{Table, Value};
-use toml_tree::{
-    DocumentFault, MemberFault, member_at, number_at, read_document, text_at, unknown_key,
-};
 
 fn fault_at(place: u32, field: Field, fault: MemberFault) -> TaskFault
     ensures { result ≡ fault_at place field fault }
@@ -46,9 +47,9 @@ fn read_number(
 // The offset, which is 0 where it is absent.
 fn read_offset(place: u32, table: &Table) -> Result<u64, TaskFault>
     ensures meaning { result ≡ offset_at place (get_member (codes "offset") (table_view table.now)) }
-    ensures limit { IfOk result (λ n. n ≤ 2 ^ 40) }
+    ensures limit { IfOk result (λ n. n ≤ LATEST_OFFSET) }
 {
-    match number_at(table, "offset", 0, 1 << 40) {
+    match number_at(table, "offset", 0, LATEST_OFFSET) {
         Ok(n) => Ok(n),
         Err(MemberFault::Missing) => Ok(0),
         Err(fault) => Err(fault_at(place, Field::Offset, fault)),
@@ -81,8 +82,8 @@ fn read_members(place: u32, table: &Table) -> Result<Task, TaskFault>
         return Err(TaskFault::UnknownKey { place, key });
     }
     let name = read_name(place, table)?;
-    let period = read_number(place, Field::Period, "period", 1 << 40, table)?;
-    let worst = read_number(place, Field::Worst, "worst", 1 << 60, table)?;
+    let period = read_number(place, Field::Period, "period", LONGEST_PERIOD, table)?;
+    let worst = read_number(place, Field::Worst, "worst", MOST_WORK, table)?;
     let offset = read_offset(place, table)?;
     Ok(Task {
         name,
@@ -107,7 +108,7 @@ fn read_task(place: u32, value: &Value) -> Result<Task, TaskFault>
 
 // The tasks of the entries, which are few.
 fn read_entries(alloc: Global, entries: &[Value]) -> Result<Vec<Task>, TaskFault>
-    requires { length entries.now ≤ 64 }
+    requires { length entries.now ≤ MOST_TASKS }
     ensures meaning { IsUnlessMemory TaskFault.NoMemory (λ v. v.items) result (tasks_from [] (items_view entries.now)) }
     ensures limits { IfOk result (λ v. AreTasks v.items) }
     ensures count { IfOk result (λ v. vec_len v ≡ length entries.now) }
@@ -133,7 +134,7 @@ fn read_entries(alloc: Global, entries: &[Value]) -> Result<Vec<Task>, TaskFault
 fn set_of(alloc: Global, tasks: Vec<Task>) -> Result<TaskSet, TaskFault>
     requires limits { AreTasks tasks.items }
     requires some { 1 ≤ vec_len tasks }
-    requires few { vec_len tasks ≤ 64 }
+    requires few { vec_len tasks ≤ MOST_TASKS }
     ensures { IsUnlessMemory TaskFault.NoMemory (λ s. s) result (within_hyper tasks.items) }
 {
     match TaskSet::within(alloc, tasks) {
@@ -149,7 +150,7 @@ fn read_array(alloc: Global, entries: &[Value]) -> Result<TaskSet, TaskFault>
     if entries.is_empty() {
         return Err(TaskFault::NoTasks);
     }
-    if entries.len() > 64 {
+    if entries.len() > MOST_TASKS {
         return Err(TaskFault::TooMany {
             count: entries.len() as u64,
         });

@@ -1,11 +1,11 @@
 // Tasks, and sets of them.
-ghost use Rattle.std.specs.Prelude.{◌≡◌, ◌<◌, ◌≤◌, ◌^◌, length, nat_le, if◌then◌else◌, Some, None, IfOk, vec_len};
-ghost use Rattle.std.specs.List.{All};
-ghost use Rattle.grid_fraction.specs.Fraction.{least_common_multiple};
-ghost use Rattle.task_model.specs.Tasks.{IsTaskSet, hyper_of, task_at};
+ghost use Rattle.std.specs.Prelude.{◌≡◌, ◌<◌, ◌≤◌, length, Some, None, IfOk, vec_len};
+ghost use Rattle.task_model.specs.declared.limits.TheConstants.{MOST_TASKS, LONGEST_HYPERPERIOD};
+ghost use Rattle.task_model.specs.Tasks.{IsTask, IsTaskSet, hyper_of, task_at, where_within};
 ghost use Rattle.task_model.specs.Limits.{AreTasks};
 ghost use Rattle.task_model.specs.TaskFile.{place_of};
 
+use crate::limits::{LONGEST_HYPERPERIOD, MOST_TASKS};
 use dvs_base::{Name, NoMemory};
 use grid_fraction::lcm_within;
 use std::alloc::Global;
@@ -13,7 +13,7 @@ use std::marker::Model;
 
 /// A periodic task (Liu and Layland 1973): from the tick `offset` on, every `period` ticks a job is released, which needs
 /// at most `worst` work units and is due at the next release.
-#[derive(Clone, Copy)]
+#[derive(Clone, Copy, Debug, PartialEq, Eq)]
 pub struct Task {
     pub name: Name,
     pub period: u64,
@@ -48,24 +48,13 @@ pub(crate) fn place_of(tasks: &[Task], name: &[u8]) -> Option<usize>
     tasks.iter().position(|t| t.name.as_bytes() == name)
 }
 
-// The least common multiple, where it is within the limit.
-fn repeat_within(periods: &[u64]) -> Option<u64>
-    requires { All (λ n. 1 ≤ n) periods.now }
-    ensures { result ≡ (if nat_le (least_common_multiple periods.now) (2 ^ 48) then Some (least_common_multiple periods.now) else None) }
-{
-    match lcm_within(periods, 1 << 48) {
-        Some(hyper) => Some(hyper),
-        None => None,
-    }
-}
-
 // The least common multiple of the tasks' periods, where it is within the limit.
 fn hyper_within(alloc: Global, tasks: &[Task]) -> Result<Option<u64>, NoMemory>
     requires { AreTasks tasks.now }
-    ensures { IfOk result (λ h. h ≡ (if nat_le (hyper_of tasks.now) (2 ^ 48) then Some (hyper_of tasks.now) else None)) }
+    ensures { IfOk result (λ h. h ≡ where_within LONGEST_HYPERPERIOD (hyper_of tasks.now) (hyper_of tasks.now)) }
 {
     match tasks.iter().map(|t| t.period).collect::<Vec<u64>>(alloc) {
-        Ok(periods) => Ok(repeat_within(&periods)),
+        Ok(periods) => Ok(lcm_within(&periods, LONGEST_HYPERPERIOD)),
         Err(_) => Err(NoMemory),
     }
 }
@@ -75,8 +64,8 @@ impl TaskSet {
     pub(crate) fn within(alloc: Global, tasks: Vec<Task>) -> Result<Option<TaskSet>, NoMemory>
         requires limits { AreTasks tasks.items }
         requires some { 1 ≤ vec_len tasks }
-        requires few { vec_len tasks ≤ 64 }
-        ensures { IfOk result (λ s. s ≡ (if nat_le (hyper_of tasks.items) (2 ^ 48) then Some tasks.items else None)) }
+        requires few { vec_len tasks ≤ MOST_TASKS }
+        ensures { IfOk result (λ s. s ≡ where_within LONGEST_HYPERPERIOD (hyper_of tasks.items) tasks.items) }
     {
         match hyper_within(alloc, &tasks) {
             Ok(Some(hyper)) => Ok(Some(TaskSet { tasks, hyper })),
@@ -102,7 +91,9 @@ impl TaskSet {
 
     /// How many tasks there are, 1 to 64.
     pub fn count(&self) -> u32
-        ensures { result ≡ length self.now }
+        ensures count { result ≡ length self.now }
+        ensures some { 1 ≤ result }
+        ensures few { result ≤ MOST_TASKS }
     {
         self.tasks.len() as u32
     }
@@ -110,14 +101,16 @@ impl TaskSet {
     /// A task, by its number from 0 on.
     pub fn task(&self, i: u32) -> Task
         requires { i < length self.now }
-        ensures { result ≡ task_at self.now i }
+        ensures task { result ≡ task_at self.now i }
+        ensures limits { IsTask result }
     {
         self.tasks[i as usize]
     }
 
     /// The least common multiple of the periods in ticks, at most 2^48: after so many ticks the releases repeat.
     pub fn hyper(&self) -> u64
-        ensures { result ≡ hyper_of self.now }
+        ensures hyper { result ≡ hyper_of self.now }
+        ensures low { result ≤ LONGEST_HYPERPERIOD }
     {
         self.hyper
     }
@@ -132,18 +125,11 @@ impl TaskSet {
         }
     }
 
-    // The tasks, in their order.
-    pub(crate) fn as_slice(&self) -> &[Task]
+    /// The tasks, in their order, and the limits that every set keeps.
+    pub fn as_slice(&self) -> &[Task]
         ensures tasks { result.now ≡ self.now }
         ensures limits { IsTaskSet self.now }
     {
         &self.tasks
-    }
-
-    /// The limits that every set keeps.
-    pub fn known(&self)
-        ensures { IsTaskSet self.now }
-    {
-        let _hyper = &self.hyper;
     }
 }

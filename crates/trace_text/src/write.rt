@@ -1,9 +1,9 @@
 // The lines of a trace.
 ghost use Rattle.std.specs.Prelude.{◌≡◌, ◌≤◌, [], ◌∷◌, codes};
 ghost use Rattle.std.specs.Fmt.{decimal};
-ghost use Rattle.dvs_base.specs.TraceLines.{line, note_text, plan_text, position_text, fraction_text, name_of};
-ghost use Rattle.dvs_base.specs.Parts.{part_text, most_bytes};
-ghost use Rattle.dvs_base.specs.Words.{scheduler_word, governor_word};
+ghost use Rattle.trace_text.specs.TraceLines.{line, run_fields, idle_fields, done_fields, note_text, plan_text, name_of};
+ghost use Rattle.dvs_base.specs.Parts.{part_text, most_bytes, fraction_text};
+ghost use Rattle.trace_text.specs.Words.{scheduler_word, governor_word};
 
 use dvs_base::{GovernorKind, Line, Name, Note, Part, Pos, Scheduler, line_of};
 
@@ -93,7 +93,7 @@ fn speed_line(tick: u64, speed: u64, num: u128, den: u128) -> Line
 
 fn run_line(from: Pos, to: Pos, name: Part<'_>, job: u64, units: u64, energy: u128) -> Line
     requires { most_bytes name ≤ 32 }
-    ensures { result ≡ line (codes "run" ∷ position_text from ∷ position_text to ∷ part_text name.entry ∷ decimal job ∷ decimal units ∷ decimal energy ∷ []) }
+    ensures { result ≡ line (run_fields from to (part_text name.entry) job units energy) }
 {
     line_of(&[
         Part::Word(b"run "),
@@ -113,7 +113,7 @@ fn run_line(from: Pos, to: Pos, name: Part<'_>, job: u64, units: u64, energy: u1
 }
 
 fn idle_line(from: Pos, to: Pos, units: u64, energy: u128) -> Line
-    ensures { result ≡ line (codes "idle" ∷ position_text from ∷ position_text to ∷ decimal units ∷ decimal energy ∷ []) }
+    ensures { result ≡ line (idle_fields from to units energy) }
 {
     line_of(&[
         Part::Word(b"idle "),
@@ -130,7 +130,7 @@ fn idle_line(from: Pos, to: Pos, units: u64, energy: u128) -> Line
 
 fn done_line(at: Pos, name: Part<'_>, job: u64, used: u64) -> Line
     requires { most_bytes name ≤ 32 }
-    ensures { result ≡ line (codes "done" ∷ position_text at ∷ part_text name.entry ∷ decimal job ∷ decimal used ∷ []) }
+    ensures { result ≡ line (done_fields at (part_text name.entry) job used) }
 {
     line_of(&[
         Part::Word(b"done "),
@@ -160,7 +160,7 @@ fn end_line(ticks: u64, run: u128, idle: u128) -> Line
 }
 
 /// Writes the line of a note, with its line feed; a task without a name has an empty one. Each line has at most 203 bytes.
-#[tactic(auto, unfolding(dvs_base::specs::TraceLines::note_text))]
+#[tactic(auto, unfolding(crate::specs::TraceLines::note_text))]
 pub fn write_note(line: &mut Line, note: &Note, names: &[Name])
     requires { line.old ≡ [] }
     ensures { line.new ≡ note_text names.now note.now }

@@ -1,47 +1,122 @@
-// The kernel against the schedule computed straight from its definition, on the example of Pillai and Shin 2001 with 4
-// units for a millisecond at full speed.
-ghost use Rattle.std.specs.Prelude.{◌≡◌, IfOk};
+// The kernel from event to event, the kernel tick by tick, and the schedule computed straight from its definition: all
+// three agree, under each pair of a scheduler and a governor.
+ghost use Rattle.std.specs.Prelude.{◌≤◌, ◌<◌, ◌^◌};
 ghost use Rattle.sched_model.specs.States.{opening};
+ghost use Rattle.governor.specs.Serving.{ServesEdf, ServesRm};
 ghost use Rattle.event_kernel.specs.Runs.{IsListOf};
 
-use crate::calls::PAPER_DEMANDS;
-use crate::plans::{edf_plan, late_tasks, paper_tasks, rm_plan};
+use crate::case::Case;
+use crate::example::{
+    CONTROLLER_DEMANDS, CONTROLLER_MACHINE, CONTROLLER_TASKS, LATE_TASKS, PAPER_DEMANDS,
+    PAPER_MACHINE, PAPER_TASKS,
+};
+use crate::generator::MadeFiles;
+use crate::offsets::{BOTH_AT_2, FIRST_LATE, ONE_BEYOND};
 use cc_edf::CcEdf;
 use cc_rm::CcRm;
 use demand_list::Demands;
-use dvs_base::{Note, Pos};
+use dvs_base::{GovernorKind, Note, Pos, Totals};
+use edf_admit::{EdfFault, edf_admit};
 use event_kernel::{Kernel, Listener, Stopped};
+use freq_table::Machine;
 use governor::Governor;
 use look_ahead::LookAhead;
 use plain_schedule::{PlainTick, plain_schedule};
+use rm_admit::{RmFault, rm_admit};
 use sched_model::Admitted;
 use static_gov::{Full, Static};
-use std::alloc::Global;
+use std::alloc::{AllocError, Global};
+use std::process::Abort;
 use std::test::Fail;
 use task_model::TaskSet;
 
-// A tick as its notes tell it: the speed, and the units that each task has had.
+const MOST_NOTES: usize = 1024;
+
+const MOST_TASKS: usize = 8;
+
+// The notes of a run, as far as there is room for them, and how many there were.
+#[derive(Drop)]
+struct HeardNotes {
+    notes: Vec<Note>,
+    count: usize,
+}
+
+impl HeardNotes {
+    fn new(alloc: Global) -> Result<HeardNotes, AllocError> {
+        let none = Note::End {
+            ticks: 0,
+            run: 0,
+            idle: 0,
+        };
+        Ok(HeardNotes {
+            notes: vec![in alloc; none; MOST_NOTES]?,
+            count: 0,
+        })
+    }
+}
+
+impl Listener for HeardNotes {
+    ghost heard = { λ a n b. Unit {0} };
+
+    ghost balked = { λ a n b. Unit {0} };
+
+    ghost stops = { λ a. 0 };
+
+    fn hear(&mut self, note: &Note) -> Result<(), Stopped> {
+        if let Some(place) = self.notes.get_mut(self.count) {
+            *place = *note;
+        }
+        self.count = self.count.saturating_add(1);
+        Ok(())
+    }
+}
+
+// The sums and counts of notes, one by one.
+fn totals_of(notes: &[Note]) -> Totals {
+    let mut totals = Totals {
+        run: 0,
+        idle: 0,
+        released: 0,
+        finished: 0,
+        decisions: 0,
+    };
+    for note in notes {
+        match note {
+            Note::Release { .. } => totals.released = totals.released.saturating_add(1),
+            Note::Speed { .. } => totals.decisions = totals.decisions.saturating_add(1),
+            Note::Run { energy, .. } => totals.run = totals.run.saturating_add(*energy),
+            Note::Idle { energy, .. } => totals.idle = totals.idle.saturating_add(*energy),
+            Note::Done { .. } => totals.finished = totals.finished.saturating_add(1),
+            Note::End { .. } => {}
+        }
+    }
+    totals
+}
+
+// A tick as the notes tell it: the speed, and the units that each task has had.
 #[derive(Clone, Copy)]
 struct HeardTick {
     speed: u64,
-    units: [u64; 3],
+    units: [u64; MOST_TASKS],
 }
 
-// The first 16 ticks of a run as its notes tell them.
+// The ticks of a run as its notes tell them.
 #[derive(Drop)]
 struct HeardTicks {
-    ticks: [HeardTick; 16],
+    ticks: Vec<HeardTick>,
 }
 
 impl HeardTicks {
-    fn new() -> HeardTicks {
+    fn new(alloc: Global, ticks: usize) -> Result<HeardTicks, AllocError>
+        requires { ticks < 2 ^ 32 }
+    {
         let silent = HeardTick {
             speed: 0,
-            units: [0; 3],
+            units: [0; MOST_TASKS],
         };
-        HeardTicks {
-            ticks: [silent; 16],
-        }
+        Ok(HeardTicks {
+            ticks: vec![in alloc; silent; ticks]?,
+        })
     }
 
     // A speed is in force from its tick on.
@@ -75,219 +150,271 @@ impl HeardTicks {
         }
     }
 
-    // Adds the units of a segment one after another.
-    fn add_units(&mut self, from: Pos, task: u32, units: u64) {
+    // Adds the units of a segment one after another; whether they end where it does.
+    fn add_segment(&mut self, from: Pos, to: Pos, task: u32, units: u64) -> bool {
         let mut at = from;
         for _ in 0..units {
             at = self.add_unit(at, task);
+        }
+        at == to
+    }
+
+    // Adds what a note tells; whether its positions are right.
+    fn add(&mut self, note: &Note) -> bool {
+        match note {
+            Note::Speed { tick, speed, .. } => {
+                self.set_speed(*tick, *speed);
+                true
+            }
+            Note::Run {
+                from,
+                to,
+                task,
+                units,
+                ..
+            } => self.add_segment(*from, *to, *task, *units),
+            _ => true,
         }
     }
 
     // Whether these are the ticks of a schedule.
     fn are(&self, plan: &Admitted, ticks: &[PlainTick]) -> bool {
-        ticks.len() == 16
+        self.ticks.len() == ticks.len()
             && self.ticks.iter().zip(ticks).all(|(heard, tick)| tick.entry < plan.machine().count()
                 && heard.speed == plan.machine().point(tick.entry).speed
-                && heard.units.as_slice() == tick.shares.as_slice())
+                && heard.units.starts_with(tick.shares.as_slice()))
     }
 }
 
-impl Listener for HeardTicks {
-    ghost heard = { λ a n b. Unit {0} };
-
-    ghost balked = { λ a n b. Unit {0} };
-
-    ghost stops = { λ a. 0 };
-
-    fn hear(&mut self, note: &Note) -> Result<(), Stopped> {
-        match note {
-            Note::Speed { tick, speed, .. } => self.set_speed(*tick, *speed),
-            Note::Run {
-                from,
-                task,
-                units,
-                ..
-            } => self.add_units(*from, *task, *units),
-            _ => {}
-        }
-        Ok(())
-    }
+// A plan and its demands, for how many ticks it runs, and the words that name it.
+#[derive(Clone, Copy)]
+struct Setup<'a> {
+    name: &'a str,
+    plan: &'a Admitted,
+    demands: &'a Demands,
+    ticks: u64,
 }
 
-// The notes of a run, as far as there is room for them.
-#[derive(Drop)]
-struct HeardNotes {
-    notes: [Note; 128],
-    count: usize,
-}
-
-impl HeardNotes {
-    fn new() -> HeardNotes {
-        let none = Note::End {
-            ticks: 0,
-            run: 0,
-            idle: 0,
-        };
-        HeardNotes {
-            notes: [none; 128],
-            count: 0,
-        }
-    }
-}
-
-impl Listener for HeardNotes {
-    ghost heard = { λ a n b. Unit {0} };
-
-    ghost balked = { λ a n b. Unit {0} };
-
-    ghost stops = { λ a. 0 };
-
-    fn hear(&mut self, note: &Note) -> Result<(), Stopped> {
-        if let Some(place) = self.notes.get_mut(self.count) {
-            *place = *note;
-        }
-        self.count = self.count.saturating_add(1);
-        Ok(())
-    }
-}
-
-// Whether a run of 16 ticks from event to event has the notes and the totals of one tick by tick.
-fn is_same_by_ticks<G: Governor>(
-    alloc: Global,
-    plan: &Admitted,
-    demands: &Demands,
-    governor: G,
-    other: G,
-) -> Result<bool, Fail>
-    requires list { IsListOf plan.now demands.now }
-    requires stands { G.stands governor plan.now (opening plan.now) }
-    requires stands_too { G.stands other plan.now (opening plan.now) }
+// The notes of a run are those of the definition's schedule, as far as they tell of speeds and units.
+fn expect_definition(
+    rt: &(impl Abort + AllocGlobal),
+    setup: &Setup<'_>,
+    kind: GovernorKind,
+    notes: &[Note],
+) -> Result<(), Fail>
+    requires list { IsListOf setup.now.plan.now setup.now.demands.now }
+    requires ticks { setup.now.ticks < 2 ^ 32 }
 {
-    let mut heard = HeardNotes::new();
-    let kernel = Kernel::new(alloc, plan, demands, governor, 16).map_err(|_| "kernel")?;
+    let alloc = rt.alloc();
+    let name = setup.name;
+    let want = plain_schedule(alloc, setup.plan, setup.demands, kind, setup.ticks).map_err(
+        |_| "ticks",
+    )?;
+    let mut ticks = HeardTicks::new(alloc, setup.ticks as usize)?;
+    for note in notes {
+        assert!(rt; ticks.add(note), "{name}, {kind:?}: {note:?}");
+    }
+    assert!(rt; ticks.are(setup.plan, &want), "{name}, {kind:?}");
+    Ok(())
+}
+
+// A run from event to event has the notes and the totals of one tick by tick, and these are the definition's.
+fn compare<G: Governor>(
+    rt: &(impl Abort + AllocGlobal),
+    setup: &Setup<'_>,
+    governors: (G, G),
+) -> Result<(), Fail>
+    requires list { IsListOf setup.now.plan.now setup.now.demands.now }
+    requires some_ticks { 1 ≤ setup.now.ticks }
+    requires ticks { setup.now.ticks < 2 ^ 32 }
+    requires stands { G.stands governors.0 setup.now.plan.now (opening setup.now.plan.now) }
+    requires stands_too { G.stands governors.1 setup.now.plan.now (opening setup.now.plan.now) }
+{
+    let (governor, other) = governors;
+    let alloc = rt.alloc();
+    let name = setup.name;
+    let kind = governor.kind();
+    let mut heard = HeardNotes::new(alloc)?;
+    let kernel = Kernel::new(alloc, setup.plan, setup.demands, governor, setup.ticks).map_err(
+        |_| "kernel",
+    )?;
     let totals = kernel.drive(&mut heard).map_err(|_| "run")?;
-    let mut by_ticks = HeardNotes::new();
-    let kernel = Kernel::new(alloc, plan, demands, other, 16).map_err(|_| "kernel")?;
+    let mut by_ticks = HeardNotes::new(alloc)?;
+    let kernel = Kernel::new(alloc, setup.plan, setup.demands, other, setup.ticks).map_err(
+        |_| "kernel",
+    )?;
     let totals_by_ticks = kernel.tick_drive(&mut by_ticks).map_err(|_| "run")?;
-    Ok(
-        heard.count <= 128
-            && heard.count == by_ticks.count
-            && heard.notes.as_slice() == by_ticks.notes.as_slice()
-            && totals == totals_by_ticks,
-    )
-}
-
-// Whether the kernel's run of 16 ticks under a governor is the definition's schedule.
-fn agrees<G: Governor>(
-    alloc: Global,
-    plan: &Admitted,
-    demands: &Demands,
-    governor: G,
-) -> Result<bool, Fail>
-    requires list { IsListOf plan.now demands.now }
-    requires stands { G.stands governor plan.now (opening plan.now) }
-{
-    let ticks = plain_schedule(alloc, plan, demands, governor.kind(), 16).map_err(|_| "ticks")?;
-    let kernel = Kernel::new(alloc, plan, demands, governor, 16).map_err(|_| "kernel")?;
-    let mut heard = HeardTicks::new();
-    kernel.drive(&mut heard).map_err(|_| "run")?;
-    Ok(heard.are(plan, &ticks))
-}
-
-// The example's demands for a plan of these tasks.
-fn demands_of(alloc: Global, tasks: &TaskSet, plan: &Admitted) -> Result<Demands, Fail>
-    requires { plan.now.tasks ≡ tasks.now }
-    ensures { IfOk result (λ demands. IsListOf plan.now demands) }
-{
-    match Demands::read(alloc, PAPER_DEMANDS.as_bytes(), tasks) {
-        Ok(demands) => Ok(demands),
-        Err(_) => Err("demands")?,
+    assert!(rt; heard.count <= heard.notes.len(), "{name}, {kind:?}");
+    assert_eq!(rt; heard.count, by_ticks.count, "{name}, {kind:?}");
+    for (note, by_tick) in heard.notes.iter().zip(by_ticks.notes.iter()) {
+        assert_eq!(rt; note, by_tick, "{name}, {kind:?}");
     }
+    assert_eq!(rt; totals, totals_by_ticks, "{name}, {kind:?}");
+    assert_eq!(rt;
+        totals,
+        totals_of(&heard.notes[..heard.count]),
+        "{name}, {kind:?}"
+    );
+    expect_definition(rt, setup, kind, &heard.notes[..heard.count])
 }
 
-// Whether the runs of these tasks under each governor that serves EDF are the definition's.
-fn edf_agrees(alloc: Global, tasks: &TaskSet) -> Result<bool, Fail> {
-    let plan = edf_plan(alloc, tasks)?;
-    let demands = demands_of(alloc, tasks, &plan)?;
-    let full = Full::new(alloc, &plan)?;
-    let fixed = Static::new(alloc, &plan)?;
-    let cycle = CcEdf::new(alloc, &plan)?;
-    let ahead = LookAhead::new(alloc, &plan)?;
-    Ok(
-        agrees(alloc, &plan, &demands, full)?
-            && agrees(alloc, &plan, &demands, fixed)?
-            && agrees(alloc, &plan, &demands, cycle)?
-            && agrees(alloc, &plan, &demands, ahead)?,
+// The same under each governor that serves EDF.
+fn compare_under_edf(rt: &(impl Abort + AllocGlobal), setup: &Setup<'_>) -> Result<(), Fail>
+    requires list { IsListOf setup.now.plan.now setup.now.demands.now }
+    requires some_ticks { 1 ≤ setup.now.ticks }
+    requires ticks { setup.now.ticks < 2 ^ 32 }
+    requires serves { ServesEdf setup.now.plan.now.scheduler }
+{
+    let alloc = rt.alloc();
+    let plan = setup.plan;
+    compare(
+        rt,
+        setup,
+        (Full::new(alloc, plan)?, Full::new(alloc, plan)?),
+    )?;
+    compare(
+        rt,
+        setup,
+        (Static::new(alloc, plan)?, Static::new(alloc, plan)?),
+    )?;
+    compare(
+        rt,
+        setup,
+        (CcEdf::new(alloc, plan)?, CcEdf::new(alloc, plan)?),
+    )?;
+    compare(
+        rt,
+        setup,
+        (LookAhead::new(alloc, plan)?, LookAhead::new(alloc, plan)?),
     )
 }
 
-// Whether they are under each governor that serves RM.
-fn rm_agrees(alloc: Global, tasks: &TaskSet) -> Result<bool, Fail> {
-    let plan = rm_plan(alloc, tasks)?;
-    let demands = demands_of(alloc, tasks, &plan)?;
-    let full = Full::new(alloc, &plan)?;
-    let fixed = Static::new(alloc, &plan)?;
-    let cycle = CcRm::new(alloc, &plan)?;
-    Ok(
-        agrees(alloc, &plan, &demands, full)?
-            && agrees(alloc, &plan, &demands, fixed)?
-            && agrees(alloc, &plan, &demands, cycle)?,
+// The same under each governor that serves RM.
+fn compare_under_rm(rt: &(impl Abort + AllocGlobal), setup: &Setup<'_>) -> Result<(), Fail>
+    requires list { IsListOf setup.now.plan.now setup.now.demands.now }
+    requires some_ticks { 1 ≤ setup.now.ticks }
+    requires ticks { setup.now.ticks < 2 ^ 32 }
+    requires serves { ServesRm setup.now.plan.now.scheduler }
+{
+    let alloc = rt.alloc();
+    let plan = setup.plan;
+    compare(
+        rt,
+        setup,
+        (Full::new(alloc, plan)?, Full::new(alloc, plan)?),
+    )?;
+    compare(
+        rt,
+        setup,
+        (Static::new(alloc, plan)?, Static::new(alloc, plan)?),
+    )?;
+    compare(
+        rt,
+        setup,
+        (CcRm::new(alloc, plan)?, CcRm::new(alloc, plan)?),
     )
 }
 
-#[test]
-fn runs_are_the_definition(rt: HostRuntime) -> Result<(), Fail> {
+// Compares the runs of a case under each pair whose test it passes; whether it passes that of EDF and that of RM.
+fn compare_case(
+    rt: &(impl Abort + AllocGlobal),
+    case: Case<'_>,
+    ticks: u64,
+) -> Result<(bool, bool), Fail>
+    requires some_ticks { 1 ≤ ticks }
+    requires ticks { ticks < 2 ^ 32 }
+{
     let alloc = rt.alloc();
-    let tasks = paper_tasks(alloc)?;
-    assert!(rt; edf_agrees(alloc, &tasks)?);
-    assert!(rt; rm_agrees(alloc, &tasks)?);
+    let name = case.words;
+    let tasks = TaskSet::read(alloc, case.tasks.as_bytes()).map_err(|_| "tasks")?;
+    let machine = Machine::read(alloc, case.machine.as_bytes()).map_err(|_| "machine")?;
+    let Ok(demands) = Demands::read(alloc, case.demands.as_bytes(), &tasks) else {
+        return Err("demands")?;
+    };
+    let under_edf = match edf_admit(alloc, &tasks, &machine) {
+        Ok(plan) => {
+            compare_under_edf(
+                rt,
+                &Setup {
+                    name,
+                    plan: &plan,
+                    demands: &demands,
+                    ticks,
+                },
+            )?;
+            true
+        }
+        Err(EdfFault::Denied { .. }) => false,
+        Err(EdfFault::NoMemory) => return Err("memory")?,
+    };
+    let under_rm = match rm_admit(alloc, &tasks, &machine) {
+        Ok(plan) => {
+            compare_under_rm(
+                rt,
+                &Setup {
+                    name,
+                    plan: &plan,
+                    demands: &demands,
+                    ticks,
+                },
+            )?;
+            true
+        }
+        Err(RmFault::Denied { .. }) => false,
+        Err(RmFault::NoMemory) => return Err("memory")?,
+    };
+    Ok((under_edf, under_rm))
+}
+
+#[test]
+fn example_runs_agree(rt: HostRuntime) -> Result<(), Fail> {
+    let worst_cases = "task,job,units\n";
+    for (tasks, demands) in [
+        (PAPER_TASKS, PAPER_DEMANDS),
+        (PAPER_TASKS, worst_cases),
+        (LATE_TASKS, PAPER_DEMANDS),
+        (LATE_TASKS, worst_cases),
+        (FIRST_LATE, worst_cases),
+        (FIRST_LATE, "task,job,units\nx,1,3\ny,1,5\nx,2,0\n"),
+        (ONE_BEYOND, worst_cases),
+        (BOTH_AT_2, worst_cases),
+    ] {
+        let case = Case {
+            tasks,
+            machine: PAPER_MACHINE,
+            demands,
+            words: tasks,
+        };
+        assert_eq!(rt; compare_case(&rt, case, 40)?, (true, true), "{tasks}");
+    }
     Ok(())
 }
 
 #[test]
-fn runs_with_offsets_are_the_definition(rt: HostRuntime) -> Result<(), Fail> {
-    let alloc = rt.alloc();
-    let tasks = late_tasks(alloc)?;
-    assert!(rt; edf_agrees(alloc, &tasks)?);
-    assert!(rt; rm_agrees(alloc, &tasks)?);
+fn controller_runs_agree(rt: HostRuntime) -> Result<(), Fail> {
+    let case = Case {
+        tasks: CONTROLLER_TASKS,
+        machine: CONTROLLER_MACHINE,
+        demands: CONTROLLER_DEMANDS,
+        words: "controller",
+    };
+    assert_eq!(rt; compare_case(&rt, case, 100)?, (true, true));
     Ok(())
 }
 
 #[test]
-fn edf_runs_are_the_same_by_ticks(rt: HostRuntime) -> Result<(), Fail> {
+fn made_runs_agree(rt: HostRuntime) -> Result<(), Fail> {
     let alloc = rt.alloc();
-    let tasks = paper_tasks(alloc)?;
-    let plan = edf_plan(alloc, &tasks)?;
-    let demands = demands_of(alloc, &tasks, &plan)?;
-    let full = Full::new(alloc, &plan)?;
-    let full_too = Full::new(alloc, &plan)?;
-    assert!(rt; is_same_by_ticks(alloc, &plan, &demands, full, full_too)?);
-    let fixed = Static::new(alloc, &plan)?;
-    let fixed_too = Static::new(alloc, &plan)?;
-    assert!(rt; is_same_by_ticks(alloc, &plan, &demands, fixed, fixed_too)?);
-    let cycle = CcEdf::new(alloc, &plan)?;
-    let cycle_too = CcEdf::new(alloc, &plan)?;
-    assert!(rt; is_same_by_ticks(alloc, &plan, &demands, cycle, cycle_too)?);
-    let ahead = LookAhead::new(alloc, &plan)?;
-    let ahead_too = LookAhead::new(alloc, &plan)?;
-    assert!(rt; is_same_by_ticks(alloc, &plan, &demands, ahead, ahead_too)?);
-    Ok(())
-}
-
-#[test]
-fn rm_runs_are_the_same_by_ticks(rt: HostRuntime) -> Result<(), Fail> {
-    let alloc = rt.alloc();
-    let tasks = paper_tasks(alloc)?;
-    let plan = rm_plan(alloc, &tasks)?;
-    let demands = demands_of(alloc, &tasks, &plan)?;
-    let full = Full::new(alloc, &plan)?;
-    let full_too = Full::new(alloc, &plan)?;
-    assert!(rt; is_same_by_ticks(alloc, &plan, &demands, full, full_too)?);
-    let fixed = Static::new(alloc, &plan)?;
-    let fixed_too = Static::new(alloc, &plan)?;
-    assert!(rt; is_same_by_ticks(alloc, &plan, &demands, fixed, fixed_too)?);
-    let cycle = CcRm::new(alloc, &plan)?;
-    let cycle_too = CcRm::new(alloc, &plan)?;
-    assert!(rt; is_same_by_ticks(alloc, &plan, &demands, cycle, cycle_too)?);
+    let mut under_edf: u64 = 0;
+    let mut under_rm: u64 = 0;
+    for seed in 0..300 {
+        let made = MadeFiles::from_seed(alloc, seed)?;
+        let name = format!(in alloc; "made case {seed}")?;
+        let passed = compare_case(&rt, made.case().asked(name.as_str()), 30)?;
+        under_edf = under_edf.saturating_add(passed.0 as u64);
+        under_rm = under_rm.saturating_add(passed.1 as u64);
+    }
+    assert!(rt; under_edf >= 200, "{under_edf}");
+    assert!(rt; under_rm >= 200, "{under_rm}");
     Ok(())
 }

@@ -4,11 +4,19 @@
 #[cfg(test)]
 mod against_definition;
 #[cfg(test)]
-mod calls;
+mod case;
 #[cfg(test)]
 mod choices;
 #[cfg(test)]
+mod events;
+#[cfg(test)]
+mod example;
+#[cfg(test)]
+mod generator;
+#[cfg(test)]
 mod made;
+#[cfg(test)]
+mod offsets;
 #[cfg(test)]
 mod outside;
 #[cfg(test)]

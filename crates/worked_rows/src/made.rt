@@ -1,10 +1,14 @@
 // Plans, the states that they open with, and the governors that are made for them.
+ghost use Rattle.std.specs.Prelude.{◌≤◌, ◌^◌};
 ghost use Rattle.governor.specs.Serving.{ServesEdf, ServesRm};
 
-use crate::calls::{PAPER_MACHINE, PAPER_TASKS};
+use crate::example::{PAPER_MACHINE, PAPER_TASKS};
+use crate::plans::{edf_plan, paper_tasks};
 use cc_edf::CcEdf;
 use cc_rm::CcRm;
+use demand_list::Demands;
 use edf_admit::edf_admit;
+use event_kernel::{Kernel, KernelFault};
 use freq_table::Machine;
 use look_ahead::LookAhead;
 use rm_admit::rm_admit;
@@ -81,5 +85,27 @@ fn first_release_opens_job_one(rt: HostRuntime) -> Result<(), Fail> {
             worst: 12
         }
     );
+    Ok(())
+}
+
+// How many jobs are too many for a run of these ticks.
+fn refused_jobs(alloc: Global, tasks: &TaskSet, ticks: u64) -> Result<Option<KernelFault>, Fail>
+    requires some_ticks { 1 ≤ ticks }
+    requires low_ticks { ticks ≤ 2 ^ 40 }
+{
+    let plan = edf_plan(alloc, tasks)?;
+    let Ok(demands) = Demands::read(alloc, b"task,job,units\n", tasks) else {
+        return Err("demands")?;
+    };
+    let full = Full::new(alloc, &plan)?;
+    Ok(Kernel::new(alloc, &plan, &demands, full, ticks).err())
+}
+
+#[test]
+fn a_kernel_takes_so_many_jobs(rt: HostRuntime) -> Result<(), Fail> {
+    let tasks = paper_tasks(rt.alloc())?;
+    let refused = refused_jobs(rt.alloc(), &tasks, 1_000_000)?;
+    assert_eq!(rt; refused, Some(KernelFault::TooManyJobs { count: 296_429 }));
+    assert_eq!(rt; refused_jobs(rt.alloc(), &tasks, 300_000)?, None);
     Ok(())
 }

@@ -1,9 +1,11 @@
 // Worked rows of single calls: numbers, fractions, entries, files and admissions.
-use crate::calls::PAPER_TASKS;
-use dvs_base::{MemShelf, Shelf, whole};
+use crate::example::PAPER_TASKS;
+use dvs_base::{MemShelf, Scheduler, Shelf, whole};
+use edf_admit::edf_admit;
 use freq_table::{Machine, Pick};
 use grid_fraction::{Frac, greater, lcm_within, meets, mul_down, up};
 use rm_admit::{RmFault, rm_admit};
+use sched_model::Admitted;
 use std::alloc::{AllocError, Global};
 use std::test::Fail;
 use task_model::{TaskFault, TaskSet};
@@ -97,7 +99,7 @@ fn rm_denies_at_the_first_failing_task(rt: HostRuntime) -> Result<(), Fail> {
 }
 
 // A task file with this many tasks of period 64 and worst case 1.
-fn file_of(alloc: Global, count: u32) -> Result<String, AllocError> {
+pub(crate) fn file_of(alloc: Global, count: u32) -> Result<String, AllocError> {
     let mut text = String::new(alloc);
     for i in 0..count {
         let entry = format!(in alloc; "[[task]]\nname = \"t{i}\"\nperiod = 64\nworst = 1\n")?;
@@ -123,6 +125,82 @@ fn written_task_set_is_read_again(rt: HostRuntime) -> Result<(), Fail> {
     let text = set.write(alloc).map_err(|_| "text")?;
     let back = TaskSet::read(alloc, text.as_bytes()).map_err(|_| "written")?;
     assert_eq!(rt; (back.count(), back.hyper()), (3, 280));
-    assert_eq!(rt; back.find(b"t2"), Some(1));
+    for (i, (name, period, worst)) in [("t1", 8, 12), ("t2", 10, 12), ("t3", 14, 4)]
+        .iter()
+        .enumerate()
+    {
+        let i = i as u32;
+        assert_eq!(rt; back.find(name.as_bytes()), Some(i), "{name}");
+        if i < back.count() {
+            let task = back.task(i);
+            assert_eq!(rt; (task.period, task.worst), (*period, *worst), "{name}");
+        }
+    }
+    Ok(())
+}
+
+// Tasks whose RM order is another than their file's, on a machine with a charge.
+const UNSORTED: &str = r#"
+task = [
+    {name = "slow", period = 12, worst = 1, offset = 7},
+    {name = "fast", period = 4, worst = 1},
+    {name = "even", period = 6, worst = 2},
+]
+"#;
+
+const CHARGED: &str =
+    "charge = 1\npoint = [{speed = 2, millivolts = 1000}, {speed = 4, millivolts = 2000}]";
+
+// The name, the period, the offset, the declared worst case and the worst case with the charge of a task.
+fn row_of(plan: &Admitted, task: u32) -> Option<(&[u8], [u64; 4])> {
+    if task >= plan.count() {
+        return None;
+    }
+    let name = plan.names().get(task as usize)?;
+    let numbers = [
+        plan.period(task),
+        plan.offset(task),
+        plan.declared(task),
+        plan.worst(task),
+    ];
+    Some((name.as_bytes(), numbers))
+}
+
+// The tasks of a plan in RM order.
+fn rm_order(alloc: Global, plan: &Admitted) -> Result<Vec<u32>, AllocError> {
+    let mut tasks = Vec::new(alloc);
+    for rank in 0..plan.count() {
+        tasks.push(plan.ranked(rank))?;
+    }
+    Ok(tasks)
+}
+
+#[test]
+fn parts_of_a_plan(rt: HostRuntime) -> Result<(), Fail> {
+    let alloc = rt.alloc();
+    let tasks = TaskSet::read(alloc, UNSORTED.as_bytes()).map_err(|_| "tasks")?;
+    let machine = Machine::read(alloc, CHARGED.as_bytes()).map_err(|_| "machine")?;
+    let plan = edf_admit(alloc, &tasks, &machine).map_err(|_| "edf")?;
+    for (task, (name, numbers)) in [
+        ("slow", [12, 7, 1, 3]),
+        ("fast", [4, 0, 1, 3]),
+        ("even", [6, 0, 2, 4]),
+    ]
+    .iter()
+    .enumerate()
+    {
+        let row = row_of(&plan, task as u32).ok_or("task")?;
+        assert_eq!(rt; row.0, name.as_bytes());
+        assert_eq!(rt; row.1, *numbers);
+    }
+    assert_eq!(rt; (plan.count(), plan.hyper()), (3, 12));
+    assert_eq!(rt; plan.scheduler(), Scheduler::Edf);
+    assert_eq!(rt; plan.machine().charge(), 1);
+    assert_eq!(rt; rm_order(alloc, &plan)?.as_slice(), [1, 2, 0].as_slice());
+    assert_eq!(rt; plan.static_demand(), Frac { num: 20, den: 12 });
+    // The levels of `even` and of `slow` are equally steep, and `even` comes first.
+    let plan = rm_admit(alloc, &tasks, &machine).map_err(|_| "rm")?;
+    assert_eq!(rt; plan.scheduler(), Scheduler::Rm);
+    assert_eq!(rt; plan.static_demand(), Frac { num: 10, den: 6 });
     Ok(())
 }

@@ -2,7 +2,7 @@
 ghost use Rattle.std.specs.Prelude.{◌≡◌, IfOk};
 ghost use Rattle.governor.specs.Serving.{ServesEdf, ServesRm};
 
-use crate::calls::{LATE_TASKS, PAPER_MACHINE, PAPER_TASKS};
+use crate::example::{LATE_TASKS, PAPER_MACHINE, PAPER_TASKS};
 use edf_admit::edf_admit;
 use freq_table::Machine;
 use rm_admit::rm_admit;

@@ -10,7 +10,7 @@ overflow_add-result c =
     omega (
       arith,
       c.units.ensures,
-      c.charge.ensures,
+      c.charge.ensures.charge,
       ap (λ (m : Table). m.charge) c.machine.ensures,
       c.known-2.ensures c.args.task c.args.job (omega (arith, worsts-long p.tasks d c.requires.list, c.requires.task)),
       worst-listed p.tasks d c.requires.list c.args.task c.requires.task,

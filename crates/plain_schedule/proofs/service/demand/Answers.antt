@@ -8,7 +8,7 @@ overflow_add-result c =
     omega (
       arith,
       c.units.ensures,
-      c.charge.ensures,
+      c.charge.ensures.charge,
       ap (λ (m : Table). m.charge) c.machine.ensures,
       low_units c.args.plan.now c.args.demands.now c.requires.list c.known.ensures c.known-2.ensures c.args.task c.args.job c.requires.task,
     )
@@ -18,7 +18,7 @@ returns-clause-low c =
     omega (
       arith,
       c.units.ensures,
-      c.charge.ensures,
+      c.charge.ensures.charge,
       ap (λ (m : Table). m.charge) c.machine.ensures,
       low_units c.args.plan.now c.args.demands.now c.requires.list c.known.ensures c.known-2.ensures c.args.task c.args.job c.requires.task,
     )

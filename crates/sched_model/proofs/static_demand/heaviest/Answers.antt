@@ -12,7 +12,7 @@ loop-i-preserved c =
     let i = c.loop-i.i in
     let s : ℕ → ℕ = level_work p in
     let q : ℕ → ℕ = period p in
-    let some : (k : ℕ) → k ≤ i → 0 < q k = λ k h. (c.known.ensures.each k (omega arith)).some_period in
+    let some : (k : ℕ) → k ≤ i → 0 < q k = λ k h. (c.requires.tasks.each k (omega arith)).some_period in
     elim c.if-outweighs.branch [
       | then-outweighs w ↦
           subst (λ (m : ℕ). IsHeaviest s q (i + 1) m) (sym w.found-is)

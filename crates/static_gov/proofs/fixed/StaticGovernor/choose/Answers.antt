@@ -3,7 +3,7 @@ use Rattle.grid_fraction.specs.declared.Frac.{Frac}
 use Rattle.freq_table.specs.declared.machine.Pick.{Pick}
 use Rattle.freq_table.specs.Tables.{Table, lowest_pick}
 use Rattle.sched_model.proofs.Weights.{static_den}
-use Rattle.one_speed.proofs.Fits.{static_met}
+use Rattle.governor.proofs.Fits.{static_met}
 use Rattle.static_gov.proofs.fixed.StaticGovernor.choose.Goals as goal
 
 pub lowest-pick-requires-clause-some : goal.lowest-pick-requires-clause-some

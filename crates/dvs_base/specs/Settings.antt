@@ -1,0 +1,54 @@
+-- What a settings file holds: its document, and what the document's keys hold.
+use Rattle.std.specs.Prelude.{ℕ, pos, negsuc, ℤ, ◌+◌, ◌&&◌, Bool, List, nat_le, Option, Some, None, Result, Ok, Err, if◌then◌else◌}
+use Rattle.std.specs.List.{list_any}
+use Rattle.std.specs.Str.{bytes_eq, is_utf8}
+use Rattle.std.specs.Cmp.Lexicographic.{slice_cmp}
+use Rattle.std.specs.Ordering.{nat_cmp, is_lt}
+use Rattle.toml.specs.Data.{Data, Items, no_items, item, Members, no_members, member, as_integer, as_str}
+use Rattle.toml.specs.Parse.{parse_document}
+use Rattle.dvs_base.specs.declared.settings.MemberFault.{MemberFault}
+use Rattle.dvs_base.specs.declared.settings.MemberFault.TheVariants as fault
+
+-- the document that the bytes are, by TOML's grammar; bytes that are no UTF-8 are none
+abbrev pub document_of : List ℕ → Option Members
+document_of bytes = if is_utf8 bytes then parse_document bytes else None
+
+-- the lesser of a key and another, if there is one, by their bytes
+abbrev pub lesser : List ℕ → Option (List ℕ) → List ℕ
+lesser key None = key
+lesser key (Some other) = if is_lt (slice_cmp nat_cmp key other) then key else other
+
+-- the key is among these
+abbrev pub is_known : List (List ℕ) → List ℕ → Bool
+is_known keys key = list_any (λ k. bytes_eq k key) keys
+
+-- the least key that is not known
+abbrev pub unknown_key : List (List ℕ) → Members → Option (List ℕ)
+unknown_key keys no_members = None
+unknown_key keys (member key value rest) = if is_known keys key then unknown_key keys rest else Some (lesser key (unknown_key keys rest))
+
+-- a whole number within its limits
+abbrev pub number_from : ℕ → ℕ → Option ℤ → Result ℕ MemberFault
+number_from low high None = Err fault.Kind
+number_from low high (Some (pos n)) = if nat_le low n && nat_le n high then Ok n else Err fault.Range
+number_from low high (Some (negsuc n)) = Err fault.Range
+
+-- the whole number of a key, where there is one within its limits
+abbrev pub number_at : ℕ → ℕ → Option Data → Result ℕ MemberFault
+number_at low high None = Err fault.Missing
+number_at low high (Some value) = number_from low high (as_integer value)
+
+-- a text
+abbrev pub text_from : Option (List ℕ) → Result (List ℕ) MemberFault
+text_from None = Err fault.Kind
+text_from (Some text) = Ok text
+
+-- the text of a key
+abbrev pub text_at : Option Data → Result (List ℕ) MemberFault
+text_at None = Err fault.Missing
+text_at (Some value) = text_from (as_str value)
+
+-- how many entries an array has
+abbrev pub count_of : Items → ℕ
+count_of no_items = 0
+count_of (item value rest) = count_of rest + 1

@@ -1,0 +1,133 @@
+// A document and what its keys hold.
+ghost use Rattle.std.specs.Prelude.{◌≡◌, ◌≤◌, ◌<◌, ◌^◌, Some, None, Ok, IfOk, IsErrOf, not, find, map, option_map, string_bytes};
+ghost use Rattle.std.specs.List.{list_any};
+ghost use Rattle.std.specs.Str.{bytes_eq};
+ghost use Rattle.std.specs.Option.{option_copied};
+ghost use Rattle.std.specs.Result.{result_map_both};
+ghost use Rattle.std.specs.BTreeMap.{keys, IsOrdered};
+ghost use Rattle.std.specs.String.{string_cmp};
+ghost use Rattle.dvs_base.specs.Text.{short_of};
+ghost use Rattle.toml.specs.Data.{get_member, as_integer, as_str};
+ghost use Rattle.toml.specs.View.{view, table_view};
+ghost use Rattle.dvs_base.specs.Settings.{document_of, is_known, unknown_key, number_from, number_at, text_from, text_at};
+
+use crate::Short;
+use std::alloc::Global;
+use toml::{Table, Value};
+
+/// Why bytes give no document.
+#[derive(Clone, Copy, Debug, PartialEq, Eq)]
+pub enum DocumentFault {
+    /// They are no TOML document.
+    NotToml,
+    /// Memory ran out, which says nothing of the bytes.
+    NoMemory,
+}
+
+/// Why a key gives no value: nothing stands there, a value of another kind, or a number outside its limits.
+#[derive(Clone, Copy, Debug, PartialEq, Eq)]
+pub enum MemberFault {
+    /// The table lacks the key.
+    Missing,
+    /// A value of another kind stands there.
+    Kind,
+    /// The number is outside its limits.
+    Range,
+}
+
+/// The document of the bytes, as an untyped table. Bytes that are not UTF-8 are not TOML.
+pub fn read_document(alloc: Global, bytes: &[u8]) -> Result<Table, DocumentFault>
+    ensures document { IfOk result (λ t. document_of bytes.now ≡ Some (table_view t)) }
+    ensures refused { IsErrOf result DocumentFault.NotToml → document_of bytes.now ≡ None }
+{
+    match toml::table_from_slice(alloc, bytes) {
+        Ok(table) => Ok(table),
+        Err(e) => {
+            if e.is_memory() {
+                Err(DocumentFault::NoMemory)
+            } else {
+                Err(DocumentFault::NotToml)
+            }
+        }
+    }
+}
+
+fn is_among(known: &[&str], key: &str) -> bool
+    ensures { result ≡ list_any (λ k. bytes_eq k.now key.now) known.now }
+{
+    known.iter().any(|k| *k == key)
+}
+
+fn is_known(known: &[&str], key: &str) -> bool
+    ensures { result ≡ is_known (map (λ k. k.now) known.now) key.now }
+{
+    is_among(known, key)
+}
+
+fn first_unknown<'a>(known: &[&str], table: &'a Table) -> Option<&'a String>
+    ensures found { option_copied result ≡ find (λ k. not (is_known (map (λ k. k.now) known.now) (string_bytes k))) (keys table.now) }
+    ensures ordered { IsOrdered string_cmp table.now }
+{
+    table.keys().find(|k| !is_known(known, k.as_str()))
+}
+
+/// The least key of the table, in order of bytes, that is not `known`.
+pub fn unknown_key(table: &Table, known: &[&str]) -> Option<Short>
+    ensures { result ≡ option_map short_of (unknown_key (map (λ k. k.now) known.now) (table_view table.now)) }
+{
+    match first_unknown(known, table) {
+        Some(key) => Some(Short::of(key.as_bytes())),
+        None => None,
+    }
+}
+
+/// The value at a key.
+pub fn member_at<'a>(table: &'a Table, key: &str) -> Option<&'a Value>
+    ensures { option_map (λ v. view v.now) result ≡ get_member key.now (table_view table.now) }
+{
+    table.get(key)
+}
+
+fn number_of(value: &Value, low: u64, high: u64) -> Result<u64, MemberFault>
+    ensures { result ≡ number_from low high (as_integer (view value.now)) }
+{
+    match value.as_integer() {
+        Some(n) => {
+            if n >= 0 && n as u64 >= low && n as u64 <= high {
+                Ok(n as u64)
+            } else {
+                Err(MemberFault::Range)
+            }
+        }
+        None => Err(MemberFault::Kind),
+    }
+}
+
+/// The whole number at a key, where it is within `low` and `high`.
+pub fn number_at(table: &Table, key: &str, low: u64, high: u64) -> Result<u64, MemberFault>
+    ensures { result ≡ number_at low high (get_member key.now (table_view table.now)) }
+{
+    match member_at(table, key) {
+        Some(value) => number_of(value, low, high),
+        None => Err(MemberFault::Missing),
+    }
+}
+
+fn text_of(value: &Value) -> Result<&str, MemberFault>
+    ensures { text_from (as_str (view value.now)) ≡ result_map_both (λ t. t.now) (λ e. e) result }
+{
+    match value.as_str() {
+        Some(text) => Ok(text),
+        None => Err(MemberFault::Kind),
+    }
+}
+
+/// The text at a key.
+pub fn text_at<'a>(table: &'a Table, key: &str) -> Result<&'a str, MemberFault>
+    ensures { text_at (get_member key.now (table_view table.now)) ≡ result_map_both (λ t. t.now) (λ e. e) result }
+{
+    match member_at(table, key) {
+        Some(value) => text_of(value),
+        None => Err(MemberFault::Missing),
+    }
+}

@@ -1,0 +1,81 @@
+-- What an account keeps, and that it is the sums over the notes it was told.
+use Rattle.std.specs.Prelude.{◌≡◌, ℕ, ◌+◌, ◌<◌, ◌^◌, nat_eq, List, [], ◌∷◌, ◌++◌, length, map, sum_by, slice_index, slice_set, if◌then◌else◌}
+use Rattle.dvs_base.specs.declared.note.Note.{Note}
+use Rattle.dvs_base.specs.declared.note.Note.TheVariants.{Release, Speed, Run, Idle, Done, End}
+use Rattle.dvs_base.specs.declared.note.Totals.{Totals}
+use Rattle.grid_fraction.specs.Numbers.{list_below}
+use Rattle.sched_model.specs.Notes.{energy_run, energy_idle}
+use Rattle.sched_model.specs.Totals.{totals_of}
+
+-- the totals, the energy of each task's segments, and that of the segments at each entry, idle ones too
+pub record Books : Type 0 where
+  pub totals : Totals
+  pub by_task : List ℕ
+  pub by_point : List ℕ
+
+-- a note, and the entry in force
+abbrev pub Told : Type 0
+Told = Note × ℕ
+
+-- the energy that a note adds to a task, and with the entry in force to an entry
+abbrev pub energy_of_task : ℕ → Note → ℕ
+energy_of_task i (Run from to j k units energy) = if nat_eq j i then energy else 0
+energy_of_task i _ = 0
+
+abbrev pub energy_at_point : ℕ → Told → ℕ
+energy_at_point e told = if nat_eq told.1 e then energy_run told.0 + energy_idle told.0 else 0
+
+-- the books for so many tasks and entries after these notes: sums over the notes
+abbrev pub books_of : ℕ → ℕ → List Told → Books
+books_of tasks points told = record {
+  totals = totals_of (map (λ t. t.0) told);
+  by_task = list_below tasks (λ i. sum_by (λ t. energy_of_task i t.0) told);
+  by_point = list_below points (λ e. sum_by (energy_at_point e) told);
+}
+
+-- what was the sums over some notes is the sums over them and this one
+abbrev pub KeepsSums : Books → Books → Note → ℕ → Type 0
+KeepsSums old new note e = (tasks points : ℕ) (told : List Told)
+    → old ≡ books_of tasks points told → new ≡ books_of tasks points (told ++ (note, e) ∷ [])
+
+-- more at one place of a list
+abbrev pub raised : List ℕ → ℕ → ℕ → List ℕ
+raised xs i more = slice_set xs i (slice_index xs i + more)
+
+-- the books after one more note
+abbrev pub booked : Books → Note → ℕ → Books
+booked b (Release tick i k) e = record b { totals = record b.totals { released = b.totals.released + 1 } }
+booked b (Speed tick speed num den) e = record b { totals = record b.totals { decisions = b.totals.decisions + 1 } }
+booked b (Run from to i k units energy) e = record {
+  totals = record b.totals { run = b.totals.run + energy };
+  by_task = raised b.by_task i energy;
+  by_point = raised b.by_point e energy;
+}
+booked b (Idle from to units energy) e = record {
+  totals = record b.totals { idle = b.totals.idle + energy };
+  by_task = b.by_task;
+  by_point = raised b.by_point e energy;
+}
+booked b (Done at_end i k used) e = record b { totals = record b.totals { finished = b.totals.finished + 1 } }
+booked b (End ticks run idle) e = b
+
+-- the task that the note names is one of the books
+abbrev pub HasTask : Books → Note → Type 0
+HasTask b (Release tick i k) = i < length b.by_task
+HasTask b (Speed tick speed num den) = Unit {0}
+HasTask b (Run from to i k units energy) = i < length b.by_task
+HasTask b (Idle from to units energy) = Unit {0}
+HasTask b (Done at_end i k used) = i < length b.by_task
+HasTask b (End ticks run idle) = Unit {0}
+
+-- the sums and counts after the note are within their types
+abbrev pub HasRoom : Books → Note → ℕ → Type 0
+HasRoom b (Release tick i k) e = b.totals.released + 1 < 2 ^ 64
+HasRoom b (Speed tick speed num den) e = b.totals.decisions + 1 < 2 ^ 64
+HasRoom b (Run from to i k units energy) e =
+    (b.totals.run + energy < 2 ^ 128) × (slice_index b.by_task i + energy < 2 ^ 128)
+    × (slice_index b.by_point e + energy < 2 ^ 128)
+HasRoom b (Idle from to units energy) e =
+    (b.totals.idle + energy < 2 ^ 128) × (slice_index b.by_point e + energy < 2 ^ 128)
+HasRoom b (Done at_end i k used) e = b.totals.finished + 1 < 2 ^ 64
+HasRoom b (End ticks run idle) e = Unit {0}

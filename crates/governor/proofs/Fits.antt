@@ -1,0 +1,75 @@
+-- The speeds of the two governors pass the scheduler's test, and meet what they publish.
+use Rattle.std.proofs.Common.{◌≡◌, ℕ, ◌*◌, ◌<◌, ◌≤◌, true, sym, subst, arith}
+use Rattle.std.proofs.Math.Nat.{mul-le-mul_right, le_of_mul-le-mul_right}
+use Rattle.dvs_base.specs.declared.kind.Scheduler.{Scheduler}
+use Rattle.dvs_base.specs.declared.kind.Scheduler.TheVariants.{Edf, Rm}
+use Rattle.freq_table.specs.Tables.{speed_at, lowest_entry, lowest_pick}
+use Rattle.freq_table.proofs.Chosen.{below_highest, lowest_within, picked_meets, picked_met}
+use Rattle.sched_model.specs.Plan.{Plan, count, period, hyper, top_speed}
+use Rattle.sched_model.specs.Tests.{IsEdfFeasible, IsRmFeasible, total_rate, level_work}
+use Rattle.sched_model.specs.StaticDemand.{full_demand, rm_static, static_demand_of, static_demand}
+use Rattle.sched_model.specs.Admission.{IsWithinLimits, IsAdmitted, PassesTest}
+use Rattle.sched_model.proofs.Limits.{some_period}
+use Rattle.sched_model.proofs.Weights.{heaviest_task, heaviest_within, heaviest_greatest}
+pub use Rattle.sched_model.proofs.Weights.{static_den}
+use Rattle.governor.specs.Speeds.{fixed_speed}
+
+-- the speed F passes the test of the plan's scheduler
+pub record IsEnough (F : ℕ) (plan : Plan) : Type 0 where
+  pub edf : plan.scheduler ≡ Edf → total_rate plan ≤ F * hyper plan
+  pub rm : plan.scheduler ≡ Rm → (i : ℕ) → i < count plan → level_work plan i ≤ F * period plan i
+
+edf_test : (plan : Plan) → IsAdmitted plan → plan.scheduler ≡ Edf → IsEdfFeasible plan
+edf_test plan adm e = subst (λ (sch : Scheduler). PassesTest sch plan) e adm.test
+
+rm_test : (plan : Plan) → IsAdmitted plan → plan.scheduler ≡ Rm → IsRmFeasible plan
+rm_test plan adm e = subst (λ (sch : Scheduler). PassesTest sch plan) e adm.test
+
+pub full_enough : (plan : Plan) → IsAdmitted plan → IsEnough (top_speed plan) plan
+full_enough plan adm = record { edf = edf_test plan adm; rm = rm_test plan adm }
+
+-- the entry for the highest speed has it
+pub full_speed : (plan : Plan) → IsWithinLimits plan → speed_at plan.machine (lowest_entry plan.machine (full_demand plan)) ≡ top_speed plan
+full_speed plan lim =
+    let k = lowest_entry plan.machine (full_demand plan) in
+    let fits : top_speed plan ≤ speed_at plan.machine k * 1 = picked_meets plan.machine lim.machine (full_demand plan) (omega arith) in
+    let most : speed_at plan.machine k ≤ top_speed plan = below_highest plan.machine lim.machine k (lowest_within plan.machine (full_demand plan) lim.machine.some) in
+    omega arith
+
+pub full_met : (plan : Plan) → IsWithinLimits plan → (lowest_pick plan.machine (full_demand plan)).met ≡ true
+full_met plan lim = picked_met plan.machine lim.machine (full_demand plan) (omega arith)
+
+-- the highest speed meets the static demand
+below_top_by : (plan : Plan) (lim : IsWithinLimits plan) (sch : Scheduler) → PassesTest sch plan → (static_demand_of sch plan).num ≤ top_speed plan * (static_demand_of sch plan).den
+below_top_by plan lim Edf test = test
+below_top_by plan lim Rm test = test (heaviest_task plan lim) (heaviest_within plan lim)
+
+pub static_met : (plan : Plan) → IsAdmitted plan → (lowest_pick plan.machine (static_demand plan)).met ≡ true
+static_met plan adm = picked_met plan.machine adm.limits.machine (static_demand plan) (below_top_by plan adm.limits plan.scheduler adm.test)
+
+-- the entry for a demand that the highest speed meets
+met_by : (plan : Plan) (lim : IsWithinLimits plan) (sch : Scheduler) → PassesTest sch plan
+    → (static_demand_of sch plan).num ≤ speed_at plan.machine (lowest_entry plan.machine (static_demand_of sch plan)) * (static_demand_of sch plan).den
+met_by plan lim sch test = picked_meets plan.machine lim.machine (static_demand_of sch plan) (below_top_by plan lim sch test)
+
+-- a speed that meets the greatest fraction meets each
+meets_each : (s p g d F : ℕ) → 0 < d → s * d ≤ g * p → g ≤ F * d → s ≤ F * p
+meets_each s p g d F pos greatest meets =
+    let a : g * p ≤ F * d * p = mul-le-mul_right p meets in
+    let swap : F * d * p ≡ F * p * d = omega arith in
+    le_of_mul-le-mul_right {m = s} {n = F * p} {k = d} (omega (arith, a, swap, greatest)) pos
+
+pub rm_each : (plan : Plan) (lim : IsWithinLimits plan) (F : ℕ) → (rm_static plan).num ≤ F * (rm_static plan).den → (i : ℕ) → i < count plan → level_work plan i ≤ F * period plan i
+rm_each plan lim F meets i h =
+    meets_each (level_work plan i) (period plan i) (level_work plan (heaviest_task plan lim)) (period plan (heaviest_task plan lim)) F
+    (some_period plan lim (heaviest_task plan lim) (heaviest_within plan lim)) (heaviest_greatest plan lim i h) meets
+
+pub static_enough : (plan : Plan) → IsAdmitted plan → IsEnough (fixed_speed plan) plan
+static_enough plan adm = record {
+  edf = λ e.
+      let P : Scheduler → Type 0 = λ (sch : Scheduler). total_rate plan ≤ speed_at plan.machine (lowest_entry plan.machine (static_demand_of sch plan)) * hyper plan in
+      subst P (sym e) (met_by plan adm.limits Edf (edf_test plan adm e));
+  rm = λ e i h.
+      let P : Scheduler → Type 0 = λ (sch : Scheduler). level_work plan i ≤ speed_at plan.machine (lowest_entry plan.machine (static_demand_of sch plan)) * period plan i in
+      subst P (sym e) (rm_each plan adm.limits (speed_at plan.machine (lowest_entry plan.machine (rm_static plan))) (met_by plan adm.limits Rm (rm_test plan adm e)) i h);
+}

@@ -1,0 +1,54 @@
+-- The schedule under static with every job at its worst case meets every deadline, whatever its length.
+use Rattle.std.proofs.Common.{◌≡◌, ℕ, ◌-◌, ◌<◌, ◌≤◌, List, length, refl, arith, ap, ◌∙◌, sym, subst}
+use Rattle.dvs_base.specs.declared.kind.GovernorKind.TheVariants.{Fixed}
+use Rattle.grid_fraction.specs.declared.Frac.{Frac}
+use Rattle.sched_model.specs.Plan.{Plan, count}
+use Rattle.sched_model.specs.Jobs.{latest, due}
+use Rattle.sched_model.specs.Ticks.{Tick, at, exec}
+use Rattle.sched_model.specs.Demand.{published}
+use Rattle.sched_model.specs.Demands.{IsWithin, worst_demand, JobDemands}
+use Rattle.sched_model.specs.Deadlines.{IsMet}
+use Rattle.sched_model.specs.Schedule.{schedule, schedule_by}
+use Rattle.sched_model.specs.StaticDemand.{static_demand}
+use Rattle.sched_model.specs.Backlog.{lacking}
+use Rattle.sched_model.specs.Admission.{IsAdmitted}
+use Rattle.sched_model.proofs.Limits.{some_period}
+use Rattle.sched_model.proofs.ScheduleLemmas.{schedule_exists}
+use Rattle.sched_model.proofs.JobLaws.{latest-is, release-due, worst_demand-le}
+use Rattle.governor.specs.Schedule.{ask_of, course}
+use Rattle.governor.proofs.Course.{course-met, at-schedule}
+use Rattle.governor.specs.Serving.{ServesBoth}
+use Rattle.governor.specs.Speeds.{unchanging, fixed_speed}
+use Rattle.governor.specs.OneSpeed.{CalmAt, SafeAt}
+use Rattle.governor.specs.Worst.{MeetsAtWorst}
+use Rattle.governor.proofs.OneSpeedLaws.{pairs_fixed, static_laws}
+use Rattle.governor.proofs.PlanDemands.{published-fixed}
+
+-- the schedule under static is the course of its own demand
+pub published-fixed_by : (p : Plan) (dem : JobDemands) → published p Fixed dem ≡ ask_of (unchanging static_demand) p dem
+published-fixed_by p dem = λ j past. published-fixed p dem past j
+
+pub schedule-fixed : (p : Plan) (dem : JobDemands) (t : ℕ) → schedule p Fixed dem t ≡ course (unchanging static_demand) p dem t
+schedule-fixed p dem t = ap (λ (ask : List Tick → Frac). schedule_by p dem ask t) (published-fixed_by p dem)
+
+pub worst-within : (p : Plan) → IsWithin p (worst_demand p)
+worst-within p = record { most = λ i k h. worst_demand-le p i k; none = λ i. refl }
+
+pub worst-met : (p : Plan) → IsAdmitted p → MeetsAtWorst p
+worst-met p adm t =
+    subst (λ (ticks : List Tick). IsMet p (worst_demand p) ticks) (sym (schedule-fixed p (worst_demand p) t))
+    (course-met Fixed ServesBoth (unchanging static_demand) (CalmAt fixed_speed) (SafeAt fixed_speed) (static_laws pairs_fixed) p (worst_demand p) adm (worst-within p) tt t)
+
+-- where task i is released at t, its job released before lacks nothing
+pub lacking-none : (p : Plan) → IsAdmitted p → (t i k : ℕ) → i < count p → 1 ≤ k → t ≡ due p i k → lacking p (schedule p Fixed (worst_demand p) t) i ≡ 0
+lacking-none p adm t i k h pos e =
+    let dem = worst_demand p in
+    let ticks = schedule p Fixed dem t in
+    let long : length ticks ≡ t = (schedule_exists p dem (published p Fixed dem) t).1 in
+    let span = release-due p i k pos in
+    let some = some_period p adm.limits i h in
+    let job : latest p i (length ticks - 1) ≡ k = latest-is p i k (length ticks - 1) (omega (arith, long, e, span, some)) (omega (arith, long, e, span, some)) in
+    let met : exec p (at (due p i k) ticks) i k ≡ dem i k = worst-met p adm t i k h pos (omega (arith, long, e)) in
+    let whole : at (due p i k) ticks ≡ ticks = ap (λ n. at n ticks) (sym e) ∙ at-schedule p dem (published p Fixed dem) t t (omega arith) in
+    let had : exec p ticks i k ≡ dem i k = ap (λ (ps : List Tick). exec p ps i k) (sym whole) ∙ met in
+    ap (λ m. dem i m - exec p ticks i m) job ∙ omega (arith, had)

@@ -1,0 +1,22 @@
+-- What a type of governors means, over plain data.
+use Rattle.std.specs.Prelude.{ℕ}
+use Rattle.dvs_base.specs.declared.kind.Scheduler.{Scheduler}
+use Rattle.grid_fraction.specs.declared.Frac.{Frac}
+use Rattle.sched_model.specs.Plan.{Plan}
+use Rattle.sched_model.specs.States.{StateOf}
+
+-- the schedulers that it serves
+abbrev pub Serving : Type 1
+Serving = Scheduler → Type 0
+
+-- its published demand, in units per tick
+abbrev pub OwnDemand : Type 0
+OwnDemand = Plan → StateOf → Frac
+
+-- a condition on the states of a plan's runs
+abbrev pub Condition : Type 1
+Condition = Plan → StateOf → Type 0
+
+-- one on the states and the entry in force
+abbrev pub EntryCondition : Type 1
+EntryCondition = Plan → StateOf → ℕ → Type 0

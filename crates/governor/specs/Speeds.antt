@@ -1,0 +1,15 @@
+-- What the two governors of one speed publish, and their speeds.
+use Rattle.std.specs.Prelude.{ℕ}
+use Rattle.grid_fraction.specs.declared.Frac.{Frac}
+use Rattle.freq_table.specs.Tables.{speed_at, lowest_entry}
+use Rattle.sched_model.specs.Plan.{Plan}
+use Rattle.sched_model.specs.StaticDemand.{static_demand}
+use Rattle.sched_model.specs.States.{StateOf}
+
+-- a published demand that no state changes
+abbrev pub unchanging : (Plan → Frac) → Plan → StateOf → Frac
+unchanging demand plan s = demand plan
+
+-- the speed of the lowest entry that meets the scheduler's static demand
+abbrev pub fixed_speed : Plan → ℕ
+fixed_speed plan = speed_at plan.machine (lowest_entry plan.machine (static_demand plan))

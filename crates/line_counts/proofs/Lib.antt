@@ -1,0 +1,2 @@
+pub mod SpanHeads
+pub mod CountLemmas

@@ -1,5 +1,0 @@
-use Rattle.toml_tree.proofs.Keys.{is_known-map}
-use Rattle.toml_tree.proofs.tree.is_known.Goals as goal
-
-pub returns : goal.returns
-returns c = rw (is_known-map c.args.known.now c.args.key.now) c.is_among.ensures

@@ -1,0 +1,120 @@
+-- The lines of a text whose fields have neither a space nor a line feed.
+use Rattle.std.proofs.Common.{◌≡◌, ◌≢◌, ℕ, zero, suc, ◌+◌, ◌/◌, ◌%◌, Bool, true, false, ◌&&◌, List, [], ◌∷◌, ◌++◌, length, drop, refl, arith, if◌then◌else◌, ap, ap₂, ◌∙◌, sym, true≢false, append_assoc, nat_le, nat_lt, get_or}
+use Rattle.std.specs.Prelude.{decimal, ◌==◌}
+use Rattle.std.specs.List.{All, AllByRecursion, list_all}
+use Rattle.std.proofs.lemmas.Bool.Decides.{nat_tests}
+use Rattle.std.specs.Fmt.{digit_glyph, digits_onto, digits}
+use Rattle.dvs_base.specs.Text.{is_name, is_name_byte}
+use Rattle.trace_text.specs.TraceLines.{line}
+use Rattle.trace_text.specs.TextLines.{lines_of, with_byte}
+
+-- a byte that is neither a space nor a line feed
+abbrev pub IsPlain : ℕ → Type 0
+IsPlain b = (b ≢ 32) × (b ≢ 10)
+
+-- what holds of each by recursion holds of each
+pub all-each : {A : Type 0} (P : A → Type 0) (xs : List A) → AllByRecursion P xs → All P xs
+all-each P [] e = λ k d lt. absurd (omega arith)
+all-each P (x ∷ xs) e = go (all-each P xs e.1)
+  where
+    go : All P xs → All P (x ∷ xs)
+    go h zero d lt = e.0
+    go h (suc k) d lt = h k d (omega arith)
+
+pub each-append : {A : Type 0} (P : A → Type 0) (xs ys : List A) → AllByRecursion P xs → AllByRecursion P ys → AllByRecursion P (xs ++ ys)
+each-append P [] ys e f = f
+each-append P (x ∷ xs) ys e f = (e.0, each-append P xs ys e.1 f)
+
+abbrev pub ArePlain : List ℕ → Type 0
+ArePlain = AllByRecursion IsPlain
+
+plain-digits : (k n : ℕ) (acc : List ℕ) → ArePlain acc → ArePlain (digits_onto k 10 false n acc)
+plain-digits zero n acc plain = plain
+plain-digits (suc k) n acc plain = either (n / 10 == 0) _ _ (glyph (nat_lt (n % 10) 10), plain) (plain-digits k (n / 10) (digit_glyph false (n % 10) ∷ acc) (glyph (nat_lt (n % 10) 10), plain))
+  where
+    glyph : (b : Bool) → IsPlain (if b then 48 + n % 10 else 87 + n % 10)
+    glyph true = (λ e. omega (arith, e), λ e. omega (arith, e))
+    glyph false = (λ e. omega (arith, e), λ e. omega (arith, e))
+
+    either : (b : Bool) (xs ys : List ℕ) → ArePlain xs → ArePlain ys → ArePlain (if b then xs else ys)
+    either true xs ys p q = p
+    either false xs ys p q = q
+
+-- a number's text is plain
+pub plain-decimal : (n : ℕ) → ArePlain (decimal n)
+unfolding digits
+plain-decimal n = plain-digits 64 n [] tt
+
+pub and-left : (a b : Bool) → (a && b) ≡ true → a ≡ true
+and-left true b e = refl
+and-left false b e = e
+
+pub and-right : (a b : Bool) → (a && b) ≡ true → b ≡ true
+and-right true b e = e
+and-right false b e = absurd (true≢false (sym e))
+
+plain-name_byte : (b : ℕ) → is_name_byte b ≡ true → IsPlain b
+plain-name_byte b e = (λ q. off 32 refl q, λ q. off 10 refl q)
+  where
+    off : (m : ℕ) → is_name_byte m ≡ false → b ≡ m → ⊥
+    off m none q = true≢false (sym e ∙ (ap is_name_byte q ∙ none))
+
+plain-name_bytes : (bytes : List ℕ) → list_all is_name_byte bytes ≡ true → ArePlain bytes
+plain-name_bytes [] e = tt
+plain-name_bytes (b ∷ bytes) e = (plain-name_byte b (and-left (is_name_byte b) _ e), plain-name_bytes bytes (and-right (is_name_byte b) _ e))
+
+-- a name is plain, and has a byte
+pub plain-name : (name : List ℕ) → is_name name ≡ true → ArePlain name
+plain-name name e = plain-name_bytes name (and-right (nat_le 1 (length name) && nat_le (length name) 32) (list_all is_name_byte name) e)
+
+pub some-name : (name : List ℕ) → is_name name ≡ true → name ≢ []
+some-name name e q = true≢false (sym e ∙ ap is_name q)
+
+-- a line's fields before its line feed
+abbrev pub body : List (List ℕ) → List ℕ
+body [] = []
+body (field ∷ []) = field
+body (field ∷ other ∷ fields) = field ++ (32 ∷ body (other ∷ fields))
+
+line-body : (fields : List (List ℕ)) → line fields ≡ body fields ++ (10 ∷ [])
+line-body [] = refl
+line-body (field ∷ []) = refl
+line-body (field ∷ other ∷ fields) =
+    ap (λ l. field ++ (32 ∷ l)) (line-body (other ∷ fields)) ∙ sym (append_assoc field (32 ∷ body (other ∷ fields)) (10 ∷ []))
+
+-- no byte is a line feed
+abbrev pub NoFeed : List ℕ → Type 0
+NoFeed = AllByRecursion (λ b. b ≢ 10)
+
+plain-feed : (bytes : List ℕ) → ArePlain bytes → NoFeed bytes
+plain-feed [] p = tt
+plain-feed (b ∷ bytes) p = (p.0.1, plain-feed bytes p.1)
+
+body-feed : (fields : List (List ℕ)) → AllByRecursion ArePlain fields → NoFeed (body fields)
+body-feed [] p = tt
+body-feed (field ∷ []) p = plain-feed field p.0
+body-feed (field ∷ other ∷ fields) p =
+    each-append (λ b. b ≢ 10) field (32 ∷ body (other ∷ fields)) (plain-feed field p.0) (λ e. omega (arith, e), body-feed (other ∷ fields) p.1)
+
+first-line : (bytes rest : List ℕ) → NoFeed bytes → lines_of (bytes ++ (10 ∷ rest)) ≡ (bytes ++ (10 ∷ [])) ∷ lines_of rest
+first-line [] rest none = refl
+first-line (b ∷ bytes) rest none =
+    let other : (b == 10) ≡ false = (let ne : b ≢ 10 = none.0 in grind (arith, nat_tests)) in
+    rw other (ap (with_byte b) (first-line bytes rest none.1))
+
+-- a line of plain fields is the first of a text that begins with it
+pub lines-line : (fields : List (List ℕ)) (rest : List ℕ) → AllByRecursion ArePlain fields → lines_of (line fields ++ rest) ≡ line fields ∷ lines_of rest
+lines-line fields rest p =
+    ap (λ l. lines_of (l ++ rest)) (line-body fields)
+    ∙ (ap lines_of (append_assoc (body fields) (10 ∷ []) rest)
+    ∙ (first-line (body fields) rest (body-feed fields p)
+    ∙ ap (λ l. l ∷ lines_of rest) (sym (line-body fields))))
+
+-- plain fields before a space are known by what stands there
+pub field-same : (a b r s : List ℕ) → ArePlain a → ArePlain b → a ++ (32 ∷ r) ≡ b ++ (32 ∷ s) → (a ≡ b) × (r ≡ s)
+field-same [] [] r s p q e = (refl, ap (drop 1) e)
+field-same [] (b ∷ bs) r s p q e = absurd (q.0.0 (sym (ap (λ l. get_or l 0 0) e)))
+field-same (a ∷ rest_a) [] r s p q e = absurd (p.0.0 (ap (λ l. get_or l 0 0) e))
+field-same (a ∷ rest_a) (b ∷ bs) r s p q e =
+    let rest = field-same rest_a bs r s p.1 q.1 (ap (drop 1) e) in
+    (ap₂ (λ x xs. x ∷ xs) (ap (λ l. get_or l 0 0) e) rest.0, rest.1)

@@ -1,0 +1,119 @@
+// Made cases: a task, a machine and a demand file for each number.
+ghost use Rattle.std.specs.Prelude.{◌<◌};
+
+use crate::case::Case;
+use std::alloc::{AllocError, Global};
+
+// A sequence of draws (SplitMix64; Steele, Lea and Flood 2014).
+#[derive(Drop)]
+struct Draws {
+    state: u64,
+}
+
+impl Draws {
+    fn next(&mut self) -> u64 {
+        self.state = self.state.wrapping_add(0x9e37_79b9_7f4a_7c15);
+        let mixed = (self.state ^ (self.state >> 30)).wrapping_mul(0xbf58_476d_1ce4_e5b9);
+        let mixed = (mixed ^ (mixed >> 27)).wrapping_mul(0x94d0_49bb_1331_11eb);
+        mixed ^ (mixed >> 31)
+    }
+
+    // A number below this one.
+    fn below(&mut self, most: u64) -> u64
+        requires { 0 < most }
+        ensures { result < most }
+    {
+        self.next() % most
+    }
+
+    // One of these eight.
+    fn one_of(&mut self, choices: [u64; 8]) -> u64 {
+        choices[self.below(8) as usize]
+    }
+}
+
+// The files of a made case.
+#[derive(Drop)]
+pub(crate) struct MadeFiles {
+    tasks: String,
+    machine: String,
+    demands: String,
+}
+
+// A machine with one to three points, and its highest speed.
+fn make_machine(alloc: Global, draws: &mut Draws) -> Result<(String, u64), AllocError> {
+    let idle = draws.one_of([0, 0, 0, 100, 100, 500, 999, 1000]);
+    let charge = draws.one_of([0, 0, 0, 0, 0, 1, 1, 2]);
+    let mut text = format!(in alloc; "idle = {idle}\ncharge = {charge}\n")?;
+    let mut speed: u64 = 0;
+    let mut millivolts: u64 = 1000;
+    for _ in 0..1 + draws.below(3) {
+        speed = speed.saturating_add(1 + draws.below(3));
+        let point = format!(in alloc; "[[point]]\nspeed = {speed}\nmillivolts = {millivolts}\n")?;
+        text.push_str(point.as_str())?;
+        millivolts = millivolts.saturating_add(draws.one_of([
+            0, 1, 250, 500, 500, 750, 1000, 1500,
+        ]));
+    }
+    Ok((text, speed))
+}
+
+// Rows for some of the first six jobs of a task, one in four of them with no work.
+fn make_rows(
+    alloc: Global,
+    draws: &mut Draws,
+    task: u64,
+    worst: u64,
+) -> Result<String, AllocError> {
+    let mut text = String::new(alloc);
+    for job in 1..7 {
+        if draws.below(3) > 0 {
+            let units = draws.below(worst.max(1)).saturating_add(draws.below(2));
+            let units = if draws.below(4) == 0 { 0 } else { units };
+            let row = format!(in alloc; "t{task},{job},{units}\n")?;
+            text.push_str(row.as_str())?;
+        }
+    }
+    Ok(text)
+}
+
+impl MadeFiles {
+    // One to four tasks whose hyperperiod divides 24, on a machine that most such sets fit.
+    pub(crate) fn from_seed(alloc: Global, seed: u64) -> Result<MadeFiles, AllocError> {
+        let mut draws = Draws { state: seed };
+        let (machine, top) = make_machine(alloc, &mut draws)?;
+        let mut tasks = String::new(alloc);
+        let mut demands = String::from_str(alloc, "task,job,units\n")?;
+        let count = 1 + draws.below(4);
+        for task in 0..count {
+            let period = draws.one_of([2, 3, 4, 6, 6, 8, 12, 24]);
+            let offset = draws.one_of([0, 0, 0, 1, 2, 5, 7, 40]);
+            let most = (period.saturating_mul(top) / count).max(1);
+            let worst = if draws.below(3) == 0 {
+                most
+            } else {
+                1 + draws.below(most)
+            };
+            let entry = format!(in alloc;
+                "[[task]]\nname = \"t{task}\"\nperiod = {period}\nworst = {worst}\noffset = {offset}\n"
+            )?;
+            tasks.push_str(entry.as_str())?;
+            demands.push_str(make_rows(alloc, &mut draws, task, worst)?.as_str())?;
+        }
+        Ok(MadeFiles {
+            tasks,
+            machine,
+            demands,
+        })
+    }
+
+    // Their case.
+    pub(crate) fn case(&self) -> Case<'_> {
+        Case {
+            tasks: self.tasks.as_str(),
+            machine: self.machine.as_str(),
+            demands: self.demands.as_str(),
+            words: "",
+        }
+    }
+}

@@ -1,0 +1,65 @@
+-- Made rows stand in order, and each is for a job of its own.
+use Rattle.std.proofs.Common.{◌≡◌, ℕ, ◌+◌, ◌/◌, ◌%◌, ◌<◌, Bool, true, false, ◌&&◌, ◌||◌, List, [], ◌∷◌, ◌++◌, length, map, None, refl, arith, ap, ◌∙◌, sym, mod-lt, nat_eq, nat_lt}
+use Rattle.std.specs.Prelude.{slice_index}
+use Rattle.std.specs.List.{AllByRecursion}
+use Rattle.std.proofs.Math.Nat.{mod-add-div}
+use Rattle.std.proofs.lemmas.Bool.Decides.{nat_tests}
+use Rattle.std.proofs.lemmas.List.{get_or-map}
+use Rattle.grid_fraction.specs.Numbers.{list_below}
+use Rattle.task_model.specs.declared.task.Task.{Task}
+use Rattle.task_model.specs.Tasks.{no_task, task_at}
+use Rattle.task_model.specs.DemandRows.{DemandRow, named}
+use Rattle.demand_list.specs.Demands.{precedes, with_row}
+use Rattle.workload.specs.Workload.{made_row}
+use Rattle.workload.proofs.Drawing.{each-below, list_below-more}
+
+-- rows for other jobs name nothing for this one
+others-name_none : (i k : ℕ) (rows : List DemandRow) → AllByRecursion (λ (s : DemandRow). (nat_eq s.task i && nat_eq s.job k) ≡ false) rows → named rows i k ≡ None
+others-name_none i k [] each = refl
+others-name_none i k (s ∷ rows) each = rw each.0 (others-name_none i k rows each.1)
+
+-- a row that stands before none of them comes last
+with_row-last : (r : DemandRow) (rows : List DemandRow) → AllByRecursion (λ (s : DemandRow). precedes r s ≡ false) rows → with_row rows r ≡ rows ++ r ∷ []
+with_row-last r [] each = refl
+with_row-last r (s ∷ rows) each = rw each.0 (ap (λ rest. s ∷ rest) (with_row-last r rows each.1))
+
+-- of two numbers by quotient and remainder
+apart : (s r : ℕ) → s < r → (nat_eq (s / 4) (r / 4) && nat_eq (s % 4 + 1) (r % 4 + 1)) ≡ false
+apart s r lt = go (nat_eq (s / 4) (r / 4)) refl (nat_eq (s % 4 + 1) (r % 4 + 1)) refl
+  where
+    go : (a : Bool) → nat_eq (s / 4) (r / 4) ≡ a → (b : Bool) → nat_eq (s % 4 + 1) (r % 4 + 1) ≡ b → (a && b) ≡ false
+    go false ea b eb = refl
+    go true ea false eb = refl
+    go true ea true eb =
+        let quotient : s / 4 ≡ r / 4 = grind (arith, nat_tests) in
+        let remainder : s % 4 + 1 ≡ r % 4 + 1 = grind (arith, nat_tests) in
+        absurd (omega (arith, lt, quotient, remainder, mod-add-div s 4, mod-add-div r 4))
+
+in-order : (s r : ℕ) → s < r → (nat_lt (r / 4) (s / 4) || nat_eq (r / 4) (s / 4) && nat_lt (r % 4 + 1) (s % 4 + 1)) ≡ false
+in-order s r lt = go (nat_lt (r / 4) (s / 4)) refl (nat_eq (r / 4) (s / 4)) refl (nat_lt (r % 4 + 1) (s % 4 + 1)) refl
+  where
+    go : (a : Bool) → nat_lt (r / 4) (s / 4) ≡ a → (b : Bool) → nat_eq (r / 4) (s / 4) ≡ b → (c : Bool) → nat_lt (r % 4 + 1) (s % 4 + 1) ≡ c → (a || b && c) ≡ false
+    go true ea b eb c ec =
+        let less : r / 4 < s / 4 = grind (arith, nat_tests) in
+        let low : r % 4 < 4 = mod-lt r (omega arith) in
+        absurd (omega (arith, lt, less, low, mod-add-div s 4, mod-add-div r 4))
+    go false ea false eb c ec = refl
+    go false ea true eb false ec = refl
+    go false ea true eb true ec =
+        let quotient : r / 4 ≡ s / 4 = grind (arith, nat_tests) in
+        let less : r % 4 + 1 < s % 4 + 1 = grind (arith, nat_tests) in
+        absurd (omega (arith, lt, quotient, less, mod-add-div s 4, mod-add-div r 4))
+
+module _ (tasks : List Task) (x : ℕ) where
+  -- the job of a row has none before it
+  pub made_row-free : (r : ℕ) → named (list_below r (made_row tasks x)) (r / 4) (r % 4 + 1) ≡ None
+  made_row-free r = others-name_none (r / 4) (r % 4 + 1) (list_below r (made_row tasks x)) (each-below _ r (made_row tasks x) (λ s lt. apart s r lt))
+
+  -- so it comes last
+  pub made_row-last : (r : ℕ) → with_row (list_below r (made_row tasks x)) (made_row tasks x r) ≡ list_below (r + 1) (made_row tasks x)
+  made_row-last r =
+      with_row-last (made_row tasks x r) (list_below r (made_row tasks x)) (each-below _ r (made_row tasks x) (λ s lt. in-order s r lt))
+      ∙ sym (list_below-more r (made_row tasks x))
+
+pub worst-listed : (tasks : List Task) (i : ℕ) → i < length tasks → slice_index (map (λ (t : Task). t.worst) tasks) i ≡ (task_at tasks i).worst
+worst-listed tasks i lt = get_or-map (λ (t : Task). t.worst) tasks i no_task 0 lt

@@ -1,0 +1,175 @@
+-- Made tasks are within the limits, and the highest speed does their work.
+use Rattle.std.proofs.Common.{◌≡◌, ℕ, zero, suc, ◌+◌, ◌-◌, ◌*◌, ◌/◌, ◌%◌, ◌<◌, ◌≤◌, true, List, [], ◌∷◌, length, refl, arith, ap, ◌∙◌, sym, subst, mod-lt, nat_eq, add-one, add-mul, mul-add, one-mul, mul_assoc, mul_comm}
+use Rattle.std.specs.Prelude.{slice_index}
+use Rattle.std.specs.List.{All, AllByRecursion}
+use Rattle.std.proofs.Math.Nat.{mul-div-le, mul-le-mul_left, mul-le-mul_right, le_of_mul-le-mul_left, div-lt_iff_lt-mul}
+use Rattle.std.proofs.lemmas.Nat.{le-div}
+use Rattle.std.proofs.lemmas.List.Elements.{All-from_get_or}
+use Rattle.dvs_base.specs.declared.kind.Scheduler.{Scheduler}
+use Rattle.dvs_base.specs.declared.kind.Scheduler.TheVariants.{Edf}
+use Rattle.grid_fraction.specs.Numbers.{list_below, sum_below, ceil_div}
+use Rattle.grid_fraction.specs.Fraction.{divides_all, least_common_multiple}
+use Rattle.grid_fraction.proofs.Multiples.{divides_all-append, le-least_common_multiple}
+use Rattle.task_model.specs.declared.task.Task.{Task}
+use Rattle.task_model.specs.Tasks.{hyper_of, no_task, task_at, IsTask, IsTaskSet}
+use Rattle.freq_table.specs.Tables.{Table}
+use Rattle.sched_model.specs.Plan.{Plan, plan_of, period, offset, rate, hyper}
+use Rattle.sched_model.specs.Tests.{IsEdfFeasible}
+use Rattle.sched_model.proofs.ScheduleLemmas.{length-list_below}
+use Rattle.sched_model.proofs.Tables.{get-table, map-table}
+use Rattle.workload.specs.Draws.{draw}
+use Rattle.workload.specs.Workload.{periods, share_of, made_task, made_tasks, made_machine}
+use Rattle.workload.proofs.Drawing.{at-each}
+use Rattle.workload.proofs.Naming.{made_name-is, made_name-same}
+
+-- what the periods have in common
+pub record IsPeriod (n : ℕ) : Type 0 where
+  pub low : 20 ≤ n
+  pub high : n ≤ 250
+  pub divides : nat_eq (1000 % n) 0 ≡ true
+
+is_period : (k : ℕ) → IsPeriod (slice_index periods (k % 8))
+is_period k = at-each IsPeriod periods (k % 8) 0 all (mod-lt k (omega arith))
+  where
+    all : AllByRecursion IsPeriod periods
+    all = (
+      record { low = omega arith; high = omega arith; divides = refl },
+      (
+        record { low = omega arith; high = omega arith; divides = refl },
+        (
+          record { low = omega arith; high = omega arith; divides = refl },
+          (
+            record { low = omega arith; high = omega arith; divides = refl },
+            (
+              record { low = omega arith; high = omega arith; divides = refl },
+              (
+                record { low = omega arith; high = omega arith; divides = refl },
+                (record { low = omega arith; high = omega arith; divides = refl }, (record { low = omega arith; high = omega arith; divides = refl }, tt)),
+              ),
+            ),
+          ),
+        ),
+      ),
+    )
+
+-- n times a sum is within the terms' bound, if n times each term is
+share-sum : (n m bound : ℕ) (f : ℕ → ℕ) → ((i : ℕ) → i < m → n * f i ≤ bound) → n * sum_below m f ≤ m * bound
+share-sum n zero bound f each = omega arith
+share-sum n (suc m) bound f each =
+    let before : n * sum_below m f ≤ m * bound = share-sum n m bound f (λ i lt. each i (omega arith)) in
+    let last : n * f m ≤ bound = each m (omega arith) in
+    omega (arith, before, last, mul-add n (sum_below m f) (f m), add-one m, ap (λ k. k * bound) (add-one m), add-mul m 1 bound, one-mul bound)
+
+-- whatever the draw, a share has a unit, and a worst case is within it
+pub share-some : (n period : ℕ) → 1 ≤ n → n ≤ 64 → 20 ≤ period → 1 ≤ share_of n period
+share-some n period some few low = le-div 1 (1000 * period) n some (omega arith)
+
+within-share : (n period second : ℕ) → 1 ≤ n → n ≤ 64 → 20 ≤ period → n * (1 + second % share_of n period) ≤ 1000 * period
+within-share n period second some few low =
+    let rest : second % share_of n period < share_of n period = mod-lt second (share-some n period some few low) in
+    let whole : n * share_of n period ≤ 1000 * period = mul-div-le (1000 * period) n in
+    let part : n * (1 + second % share_of n period) ≤ n * share_of n period = mul-le-mul_left n (omega (arith, rest)) in
+    omega (arith, whole, part)
+
+-- so is the work of as many ticks as the periods divide
+within-rate : (n worst period all : ℕ) → n * worst ≤ 1000 * period → n * (worst * (all / period)) ≤ 1000 * all
+within-rate n worst period all fits =
+    let q : ℕ = all / period in
+    let work : n * worst * q ≤ 1000 * period * q = mul-le-mul_right q fits in
+    let ticks : period * q ≤ all = mul-div-le all period in
+    omega (arith, work, ticks, mul_assoc n worst q, mul_assoc 1000 period q)
+
+module _ (x n : ℕ) (some : 1 ≤ n) (few : n ≤ 64) where
+  abbrev tasks : List Task
+  tasks = made_tasks x n
+
+  long : length tasks ≡ n
+  long = length-list_below n (made_task x n)
+
+  task-is : (i : ℕ) → i < n → task_at tasks i ≡ made_task x n i
+  task-is i lt = get-table n (made_task x n) i no_task lt
+
+  pub period-is : (i : ℕ) → IsPeriod ((made_task x n i).period)
+  period-is i = is_period (draw x (2 * i))
+
+  pub worst-fits : (i : ℕ) → n * (made_task x n i).worst ≤ 1000 * (made_task x n i).period
+  worst-fits i = within-share n ((made_task x n i).period) (draw x (2 * i + 1)) some few (period-is i).low
+
+  worst-low : (i : ℕ) → (made_task x n i).worst ≤ 250000
+  worst-low i =
+      let most : 1 * (made_task x n i).worst ≤ n * (made_task x n i).worst = mul-le-mul_right ((made_task x n i).worst) some in
+      omega (arith, most, worst-fits i, (period-is i).high)
+
+  made_task-is : (i : ℕ) → i < n → IsTask (made_task x n i)
+  made_task-is i lt = record {
+    name = made_name-is i (omega (arith, lt, few));
+    some_period = omega (arith, (period-is i).low);
+    low_period = omega (arith, (period-is i).high);
+    some_worst = omega arith;
+    low_worst = omega (arith, worst-low i);
+    low_offset = omega arith;
+  }
+
+  -- each period divides 1000
+  all-divide : (m : ℕ) → divides_all (list_below m (λ i. (made_task x n i).period)) 1000 ≡ true
+  all-divide zero = refl
+  all-divide (suc m) =
+      divides_all-append (list_below m (λ i. (made_task x n i).period)) ((made_task x n m).period ∷ []) 1000
+      ∙ rw (all-divide m, (period-is m).divides) refl
+
+  some-periods : All (λ k. 0 < k) (list_below n (λ i. (made_task x n i).period))
+  some-periods =
+      let f : ℕ → ℕ = λ i. (made_task x n i).period in
+      All-from_get_or (λ k. 0 < k) (list_below n f) 0
+      (λ i lt. subst (λ k. 0 < k) (sym (get-table n f i 0 (omega (arith, lt, length-list_below n f)))) (omega (arith, (period-is i).low)))
+
+  low-hyper : hyper_of tasks ≤ 1000
+  low-hyper =
+      subst (λ ns. least_common_multiple ns ≤ 1000) (sym (map-table n (made_task x n) (λ (t : Task). t.period)))
+      (le-least_common_multiple (list_below n (λ i. (made_task x n i).period)) 1000 some-periods (omega arith) (all-divide n))
+
+  pub made_tasks-are : IsTaskSet tasks
+  made_tasks-are = record {
+    some = omega (arith, long, some);
+    few = omega (arith, long, few);
+    each = λ i lt. subst IsTask (sym (task-is i (omega (arith, lt, long)))) (made_task-is i (omega (arith, lt, long)));
+    distinct = λ i j lt lj same.
+        let li : i < n = omega (arith, lt, lj, long) in
+        let here : j < n = omega (arith, lj, long) in
+        let names = ap (λ (t : Task). t.name) (sym (task-is i li)) ∙ (same ∙ ap (λ (t : Task). t.name) (task-is j here)) in
+        absurd (omega (arith, lt, made_name-same i j (omega (arith, li, few)) (omega (arith, here, few)) names));
+    hyper = omega (arith, low-hyper);
+  }
+
+  pub made_tasks-feasible : IsEdfFeasible (plan_of tasks made_machine Edf)
+  made_tasks-feasible =
+      let p : Plan = plan_of tasks made_machine Edf in
+      let sum : n * sum_below n (rate p) ≤ n * (1000 * hyper p) = share-sum n n (1000 * hyper p) (rate p) (λ i lt. each i lt) in
+      subst (λ m. sum_below m (rate p) ≤ 1000 * hyper p) (sym long) (le_of_mul-le-mul_left sum some)
+    where
+      each : (i : ℕ) → i < n → n * rate (plan_of tasks made_machine Edf) i ≤ 1000 * hyper_of tasks
+      each i lt =
+          subst (λ (t : Task). n * ((t.worst + 0) * (hyper_of tasks / t.period)) ≤ 1000 * hyper_of tasks) (sym (task-is i lt))
+          (within-rate n ((made_task x n i).worst + 0) ((made_task x n i).period) (hyper_of tasks) (omega (arith, worst-fits i)))
+
+  -- so few jobs are released: of each task at most one more than one for every 20 ticks
+  pub few-released : (machine : Table) (scheduler : Scheduler) (ticks : ℕ)
+      → sum_below n (λ i. ceil_div (ticks - offset (plan_of tasks machine scheduler) i) (period (plan_of tasks machine scheduler) i)) ≤ n * (ticks / 20 + 1)
+  few-released machine scheduler ticks =
+      let p : Plan = plan_of tasks machine scheduler in
+      let f : ℕ → ℕ = λ i. ceil_div (ticks - offset p i) (period p i) in
+      let all : 1 * sum_below n f ≤ n * (ticks / 20 + 1) = share-sum 1 n (ticks / 20 + 1) f (λ i lt. omega (arith, each i lt)) in
+      omega (arith, all)
+    where
+      most : (d a : ℕ) → 20 ≤ d → a ≤ ticks → ceil_div a d ≤ ticks / 20 + 1
+      most d a low le =
+          let pos : 0 < d = omega (arith, low) in
+          let more : 20 * (ticks / 20 + 1) ≤ d * (ticks / 20 + 1) = mul-le-mul_right (ticks / 20 + 1) low in
+          let below : a + (d - 1) < (ticks / 20 + 1 + 1) * d = omega (arith, le, pos, more, add-mul (ticks / 20 + 1) 1 d, one-mul d, mul_comm d (ticks / 20 + 1)) in
+          let lt : ceil_div a d < ticks / 20 + 1 + 1 = (div-lt_iff_lt-mul pos).1 below in
+          omega (arith, lt)
+
+      each : (i : ℕ) → i < n → ceil_div (ticks - offset (plan_of tasks machine scheduler) i) (period (plan_of tasks machine scheduler) i) ≤ ticks / 20 + 1
+      each i lt =
+          subst (λ (t : Task). ceil_div (ticks - t.offset) t.period ≤ ticks / 20 + 1) (sym (task-is i lt))
+          (most ((made_task x n i).period) (ticks - 0) (period-is i).low (omega arith))

@@ -1,0 +1,22 @@
+-- The stream of numbers that a workload is made from.
+use Rattle.std.specs.Prelude.{ℕ, zero, suc, ◌+◌, ◌*◌, ◌/◌, ◌%◌, ◌^◌}
+
+-- the state that a seed begins with
+abbrev pub first_state : ℕ → ℕ
+first_state seed = seed % 2 ^ 31
+
+-- a draw: the state after it, and the number from 0 to 32767 that this state gives
+abbrev pub next_state : ℕ → ℕ
+next_state x = (1103515245 * x + 12345) % 2 ^ 31
+
+abbrev pub number_of : ℕ → ℕ
+number_of x = x / 65536
+
+-- the state after so many draws
+abbrev pub state_after : ℕ → ℕ → ℕ
+state_after x zero = x
+state_after x (suc n) = next_state (state_after x n)
+
+-- the draws from a state on, counted from 0
+abbrev pub draw : ℕ → ℕ → ℕ
+draw x n = number_of (state_after x (suc n))
