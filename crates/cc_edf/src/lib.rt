@@ -6,7 +6,5 @@
 #![tactic(auto)]
 
 mod cycle;
-mod published;
 
 pub use cycle::CcEdf;
-pub use published::published_demands;

@@ -7,7 +7,5 @@
 
 mod allotments;
 mod cycle;
-mod published;
 
 pub use cycle::CcRm;
-pub use published::published_demands;

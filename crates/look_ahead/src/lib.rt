@@ -8,8 +8,6 @@
 
 mod ahead;
 mod order;
-mod published;
 mod walk;
 
 pub use ahead::LookAhead;
-pub use published::published_demands;

@@ -1,174 +1,61 @@
 -- The headline, from how an answer ends and what its run met.
-use Rattle.std.proofs.Common.{◌≡◌, ℕ, ◌*◌, Bool, true, false, List, [], length, Option, Some, None, Result, Ok, Err, refl, sym, ◌∙◌, ap, subst, arith, true≢false, nat_lt, if◌then◌else◌}
+use Rattle.std.proofs.Common.{◌≡◌, ◌≢◌, ◌⊎◌, inl, inr, ℕ, ◌≤◌, Bool, true, false, List, [], Option, Some, None, Result, Ok, Err, refl, sym, ◌∙◌, ap, subst, arith, true≢false, nat_lt, if◌then◌else◌}
 use Rattle.std.proofs.lemmas.Bool.Decides.{nat_tests}
 use Rattle.std.specs.Io.KnownBytes.{Appends}
-use Rattle.dvs_base.specs.Outside.{Files, file_of}
+use Rattle.dvs_base.specs.Outside.{Files, SinkView, Rose}
 use Rattle.dvs_base.specs.Checks.{and_then}
-use Rattle.dvs_base.specs.declared.kind.Scheduler.{Scheduler}
-use Rattle.dvs_base.specs.declared.kind.Scheduler.TheVariants.{Edf, Rm}
 use Rattle.task_model.specs.declared.task.Task.{Task}
-use Rattle.task_model.specs.declared.fault.TaskFault.{TaskFault}
-use Rattle.task_model.specs.declared.fault.TaskFault.TheVariants as task_fault
-use Rattle.task_model.specs.TaskFile.{task_file}
 use Rattle.freq_table.specs.Tables.{Table}
-use Rattle.freq_table.specs.MachineFile.{machine_file}
-use Rattle.freq_table.specs.declared.fault.MachineFault.{MachineFault}
-use Rattle.freq_table.specs.declared.fault.MachineFault.TheVariants as machine_fault
 use Rattle.demand_list.specs.Demands.{DemandsOf}
-use Rattle.demand_list.specs.DemandFile.{demand_file}
-use Rattle.demand_list.specs.declared.fault.DemandFault.{DemandFault}
-use Rattle.demand_list.specs.declared.fault.DemandFault.TheVariants as demand_fault
-use Rattle.sched_model.specs.Plan.{Plan, plan_of, hyper, top_speed}
-use Rattle.sched_model.specs.Tests.{total_rate}
-use Rattle.sched_model.specs.Admission.{PassesTest}
+use Rattle.sched_model.specs.Plan.{Plan, plan_of}
 use Rattle.sched_model.specs.Demands.{demand_of}
 use Rattle.sched_model.specs.Text.{run_text}
-use Rattle.event_kernel.specs.Runs.{released_jobs, most_jobs}
+use Rattle.sched_model.specs.Jobs.{released_jobs}
+use Rattle.event_kernel.specs.Runs.{most_jobs}
 use Rattle.rtdvs_top.specs.Words.{RunOf, CommandOf, run, admit}
-use Rattle.rtdvs_top.specs.Answer.{bytes_from, bytes_at, tasks_from, machine_from, demands_from, tasks_at, machine_at, demands_at, admission, admission_by, admission_from, within_jobs, prepared_of, answer_of_prepared, answer_of_tasks, answer_of_command, longest}
-use Rattle.rtdvs_top.specs.Promises.{Headline}
-use Rattle.rtdvs_top.specs.Ending.{EndedAs, MetIn}
+use Rattle.rtdvs_top.specs.Answer.{tasks_at, machine_at, demands_at, admission, within_jobs, prepared_of, answer_of_prepared, answer_of_tasks, answer_of_command}
+use Rattle.rtdvs_top.specs.Promises.{Means, DoneRun, DeniedPlan, OfRun, RunsOrIsDenied, Answers, Headline}
+use Rattle.rtdvs_top.specs.Ending.{EndsAs, MetIn, HasMet, run_with}
 use Rattle.rtdvs_top.specs.declared.status.Denied.{Denied}
-use Rattle.rtdvs_top.specs.declared.status.FileKind.{FileKind}
-use Rattle.rtdvs_top.specs.declared.status.FileKind.TheVariants as file
-use Rattle.rtdvs_top.specs.declared.status.TextFault.TheVariants as text
 use Rattle.rtdvs_top.specs.declared.status.Status.{Status}
 use Rattle.rtdvs_top.specs.declared.status.Status.TheVariants as status
-use Rattle.rtdvs_top.proofs.Overloads.{overloaded-none}
+use Rattle.rtdvs_top.proofs.Denying.{status_of, is_given, denied-later, denied-first, given-both, tasks_at-denies-not, machine_at-denies-not, demands_at-denies-not, within-denies-not, admission-is, admission-same, denied-plan}
 
--- whether a status is a denial
-abbrev is_denial : Status → Bool
-is_denial (status.NotAdmitted why) = true
-is_denial s = false
-
--- the status of a step that gave no value
-abbrev status_of : {A : Type 0} → Result A Status → Status
-status_of (Ok a) = status.Done
-status_of (Err s) = s
-
-abbrev is_given : {A : Type 0} → Result A Status → Bool
-is_given (Ok a) = true
-is_given (Err s) = false
-
--- a step that denies nothing
-abbrev DeniesNot : {A : Type 0} → Result A Status → Type 0
-DeniesNot step = is_denial (status_of step) ≡ false
-
-then-denies-not : {A B : Type 0} (step : Result A Status) (next : A → Result B Status) → DeniesNot step → ((a : A) → DeniesNot (next a)) → DeniesNot (and_then step next)
-then-denies-not (Ok a) next here later = later a
-then-denies-not (Err s) next here later = here
-
--- a chain that denies does so in a later step, where the first denies nothing
-denied-later : {A B : Type 0} (step : Result A Status) (next : A → Result B Status) (why : Denied) → DeniesNot step → and_then step next ≡ Err (status.NotAdmitted why)
-    → (a : A) × (step ≡ Ok a) × (next a ≡ Err (status.NotAdmitted why))
-denied-later (Ok a) next why here e = (a, refl, e)
-denied-later (Err s) next why here e = absurd (true≢false (sym (ap (λ r. is_denial (status_of r)) e) ∙ here))
-
--- and in the first one, where the later ones deny nothing
-denied-first : {A B : Type 0} (step : Result A Status) (next : A → Result B Status) (why : Denied) → ((a : A) → DeniesNot (next a)) → and_then step next ≡ Err (status.NotAdmitted why)
-    → is_given step ≡ false
-denied-first (Ok a) next why later e = absurd (true≢false (sym (ap (λ r. is_denial (status_of r)) e) ∙ later a))
-denied-first (Err s) next why later e = refl
-
-bytes-deny-not : (kind : FileKind) (held : Option (List ℕ)) → DeniesNot (bytes_from kind held)
-bytes-deny-not kind None = refl
-bytes-deny-not kind (Some bytes) = go (nat_lt longest (length bytes))
+-- what the files of a run that was prepared mean
+prepared-means : (r : RunOf) (files : Files) (tasks : List Task) (p : Plan) (d : DemandsOf)
+    → tasks_at r.tasks files ≡ Ok tasks → prepared_of r tasks files ≡ Ok (p, d)
+    → (machine : Table) × (demands : DemandsOf) × Means r files tasks machine demands × (p ≡ plan_of tasks machine r.scheduler) × (d ≡ demands)
+prepared-means r files tasks p d t e =
+    let m = given-both (machine_at r.machine files) (λ machine. and_then (demands_at tasks r.demands files) (λ demands. and_then (admission (plan_of tasks machine r.scheduler)) (λ q. Ok (q, demands)))) (p, d) e in
+    let machine : Table = m.0 in
+    let g = given-both (demands_at tasks r.demands files) (λ demands. and_then (admission (plan_of tasks machine r.scheduler)) (λ q. Ok (q, demands))) (p, d) m.2 in
+    let demands : DemandsOf = g.0 in
+    let a = given-both (admission (plan_of tasks machine r.scheduler)) (λ q. Ok (q, demands)) (p, d) g.2 in
+    let pair : (a.0, demands) ≡ (p, d) = ap (λ x. pair_of x) a.2 in
+    (machine, demands, record { tasks_are = t; machine_is = m.1; demands_are = g.1 }, ap (λ x. x.0) (sym pair) ∙ admission-same (plan_of tasks machine r.scheduler) a.0 a.1, ap (λ x. x.1) (sym pair))
   where
-    go : (b : Bool) → DeniesNot (if b then Err (status.Text (text.TooLong kind)) else Ok bytes)
-    go true = refl
-    go false = refl
+    pair_of : Result (Plan × DemandsOf) Status → Plan × DemandsOf
+    pair_of (Ok x) = x
+    pair_of (Err s) = (p, d)
 
-tasks-deny-not : (r : Result (List Task) TaskFault) → DeniesNot (tasks_from r)
-tasks-deny-not (Ok tasks) = refl
-tasks-deny-not (Err task_fault.NotToml) = refl
-tasks-deny-not (Err (task_fault.UnknownKey place key)) = refl
-tasks-deny-not (Err task_fault.NoTasks) = refl
-tasks-deny-not (Err (task_fault.TooMany count)) = refl
-tasks-deny-not (Err (task_fault.Missing place field)) = refl
-tasks-deny-not (Err (task_fault.Kind place field)) = refl
-tasks-deny-not (Err (task_fault.Range place field)) = refl
-tasks-deny-not (Err (task_fault.BadName place)) = refl
-tasks-deny-not (Err (task_fault.SameName first second)) = refl
-tasks-deny-not (Err task_fault.Hyper) = refl
-tasks-deny-not (Err task_fault.NoMemory) = refl
-
-machine-denies-not : (r : Result Table MachineFault) → DeniesNot (machine_from r)
-machine-denies-not (Ok machine) = refl
-machine-denies-not (Err machine_fault.NotToml) = refl
-machine-denies-not (Err (machine_fault.UnknownKey place key)) = refl
-machine-denies-not (Err machine_fault.NoPoints) = refl
-machine-denies-not (Err (machine_fault.TooMany count)) = refl
-machine-denies-not (Err (machine_fault.Missing place field)) = refl
-machine-denies-not (Err (machine_fault.Kind place field)) = refl
-machine-denies-not (Err (machine_fault.Range place field)) = refl
-machine-denies-not (Err (machine_fault.NotRising place)) = refl
-machine-denies-not (Err machine_fault.NoMemory) = refl
-
-demands-deny-not : (r : Result DemandsOf DemandFault) → DeniesNot (demands_from r)
-demands-deny-not (Ok d) = refl
-demands-deny-not (Err demand_fault.Header) = refl
-demands-deny-not (Err (demand_fault.Fields row count)) = refl
-demands-deny-not (Err (demand_fault.UnknownTask row name)) = refl
-demands-deny-not (Err (demand_fault.BadNumber row column)) = refl
-demands-deny-not (Err (demand_fault.JobZero row)) = refl
-demands-deny-not (Err (demand_fault.Repeated row task job)) = refl
-demands-deny-not (Err (demand_fault.OverWorst task job units worst)) = refl
-demands-deny-not (Err demand_fault.NoMemory) = refl
-
-tasks_at-denies-not : (name : List ℕ) (files : Files) → DeniesNot (tasks_at name files)
-tasks_at-denies-not name files =
-    then-denies-not (bytes_at file.Tasks name files) (λ bytes. tasks_from (task_file bytes)) (bytes-deny-not file.Tasks (file_of files name)) (λ bytes. tasks-deny-not (task_file bytes))
-
-machine_at-denies-not : (name : List ℕ) (files : Files) → DeniesNot (machine_at name files)
-machine_at-denies-not name files =
-    then-denies-not (bytes_at file.Machine name files) (λ bytes. machine_from (machine_file bytes)) (bytes-deny-not file.Machine (file_of files name)) (λ bytes. machine-denies-not (machine_file bytes))
-
-demands_at-denies-not : (tasks : List Task) (name : Option (List ℕ)) (files : Files) → DeniesNot (demands_at tasks name files)
-demands_at-denies-not tasks None files = refl
-demands_at-denies-not tasks (Some name) files =
-    then-denies-not (bytes_at file.Demands name files) (λ bytes. demands_from (demand_file tasks bytes)) (bytes-deny-not file.Demands (file_of files name)) (λ bytes. demands-deny-not (demand_file tasks bytes))
-
-within-denies-not : (jobs : ℕ) (bytes : List ℕ) → DeniesNot (within_jobs jobs bytes)
-within-denies-not jobs bytes = go (nat_lt most_jobs jobs)
-  where
-    go : (b : Bool) → DeniesNot (if b then Err (status.Limit jobs) else Ok bytes)
-    go true = refl
-    go false = refl
-
--- a plan that passes its scheduler's test is admitted
-passes-admission : (sch : Scheduler) (p : Plan) → PassesTest sch p → admission_by sch p ≡ Ok p
-passes-admission Edf p h =
-    let fits : nat_lt (top_speed p * hyper p) (total_rate p) ≡ false = grind (arith, nat_tests) in
-    rw fits refl
-passes-admission Rm p h = ap (admission_from p) (overloaded-none p h)
-
--- a run that is denied fails the test
-abbrev Fails : RunOf → Files → Type 0
-Fails r files =
-    (tasks : List Task) × (machine : Table) × (d : DemandsOf)
-    × (tasks_at r.tasks files ≡ Ok tasks)
-    × (machine_at r.machine files ≡ Ok machine)
-    × (demands_at tasks r.demands files ≡ Ok d)
-    × (PassesTest r.scheduler (plan_of tasks machine r.scheduler) → ⊥)
-
-denied-fails : (r : RunOf) (files : Files) (why : Denied) → answer_of_command (run r) files ≡ Err (status.NotAdmitted why) → Fails r files
-denied-fails r files why e =
+-- what the files of a run that is denied mean
+denied-means : (r : RunOf) (files : Files) (why : Denied)
+    → answer_of_command (run r) files ≡ Err (status.NotAdmitted why)
+    → (tasks : List Task) × (machine : Table) × (demands : DemandsOf) × Means r files tasks machine demands × DeniedPlan (plan_of tasks machine r.scheduler) why
+denied-means r files why e =
     let t = denied-later (tasks_at r.tasks files) (λ tasks. answer_of_tasks (run r) tasks files) why (tasks_at-denies-not r.tasks files) e in
     let tasks : List Task = t.0 in
-    let prepared = denied-in (prepared_of r tasks files) (answer_of_prepared r) why (λ x. within-denies-not (released_jobs x.0 r.ticks) (run_text x.0 r.governor (demand_of x.0 x.1.rows) r.ticks)) t.2 in
+    let prepared = denied-first (prepared_of r tasks files) (answer_of_prepared r) why (λ x. within-denies-not (released_jobs x.0 r.ticks) (run_text x.0 r.governor (demand_of x.0 x.1.rows) r.ticks)) t.2 in
     let m = denied-later (machine_at r.machine files)
     (λ machine. and_then (demands_at tasks r.demands files) (λ d. and_then (admission (plan_of tasks machine r.scheduler)) (λ p. Ok (p, d)))) why (machine_at-denies-not r.machine files) prepared in
     let machine : Table = m.0 in
     let g = denied-later (demands_at tasks r.demands files) (λ d. and_then (admission (plan_of tasks machine r.scheduler)) (λ p. Ok (p, d))) why (demands_at-denies-not tasks r.demands files) m.2 in
-    let denied = denied-first (admission (plan_of tasks machine r.scheduler)) (λ p. Ok (p, g.0)) why (λ p. refl) g.2 in
-    (tasks, machine, g.0, t.1, m.1, g.1, λ h. true≢false (sym (ap is_given (passes-admission r.scheduler (plan_of tasks machine r.scheduler) h)) ∙ denied))
-  where
-    denied-in : {A B : Type 0} (step : Result A Status) (next : A → Result B Status) (why : Denied) → ((a : A) → DeniesNot (next a)) → and_then step next ≡ Err (status.NotAdmitted why) → step ≡ Err (status.NotAdmitted why)
-    denied-in (Ok a) next why later e = absurd (true≢false (sym (ap (λ r. is_denial (status_of r)) e) ∙ later a))
-    denied-in (Err s) next why later e = ap (λ r. Err (status_of r)) e
+    let numbers = denied-first (admission (plan_of tasks machine r.scheduler)) (λ p. Ok (p, g.0)) why (λ p. refl) g.2 in
+    (tasks, machine, g.0, record { tasks_are = t.1; machine_is = m.1; demands_are = g.1 }, denied-plan (plan_of tasks machine r.scheduler) why numbers)
 
 -- the text of a run that is done
-done-text : (r : RunOf) (files : Files) (tasks : List Task) (p : Plan) (d : DemandsOf) (bytes : List ℕ) → tasks_at r.tasks files ≡ Ok tasks → prepared_of r tasks files ≡ Ok (p, d)
+done-text : (r : RunOf) (files : Files) (tasks : List Task) (p : Plan) (d : DemandsOf) (bytes : List ℕ)
+    → tasks_at r.tasks files ≡ Ok tasks → prepared_of r tasks files ≡ Ok (p, d)
     → answer_of_command (run r) files ≡ Ok bytes → bytes ≡ run_text p r.governor (demand_of p d.rows) r.ticks
 done-text r files tasks p d bytes t q e =
     within-text (released_jobs p r.ticks) (run_text p r.governor (demand_of p d.rows) r.ticks) bytes
@@ -185,22 +72,108 @@ done-text r files tasks p d bytes t q e =
         go true e = absurd (true≢false (sym (ap is_given e)))
         go false e = sym (ap text_of e)
 
-pub headline-of : (told : Option Files) (c : CommandOf) (s : Status) (same : Type 0) (wrote some : List ℕ → Type 0) (old new : Option (List ℕ)) → ((bytes : List ℕ) → wrote bytes → Appends old new bytes)
-    → EndedAs told (answer_of_command c) s same wrote some → MetIn told c s → Headline told (Some c) s old new
-headline-of None c s same wrote some old new appends ended met = tt
-headline-of (Some files) (admit a) s same wrote some old new appends ended met = tt
-headline-of (Some files) (run r) status.Done same wrote some old new appends ended met =
-    let tasks = met.0 in
-    let by = met.2 in
-    let p = by.0 in
-    let d = by.1 in
-    let whole = done-text r files tasks p d ended.0 met.1 by.2 ended.1 in
-    (tasks, p, d, met.1, by.2, by.5, subst (Appends old new) whole (appends ended.0 ended.2), by.3.0, by.4, by.3.1, by.6, by.7)
-headline-of (Some files) (run r) (status.NotAdmitted why) same wrote some old new appends ended met = denied-fails r files why ended.0
-headline-of (Some files) (run r) status.Words same wrote some old new appends ended met = tt
-headline-of (Some files) (run r) (status.Load kind) same wrote some old new appends ended met = tt
-headline-of (Some files) (run r) (status.Text why) same wrote some old new appends ended met = tt
-headline-of (Some files) (run r) (status.Limit jobs) same wrote some old new appends ended met = tt
-headline-of (Some files) (run r) (status.OverWorst task job units worst) same wrote some old new appends ended met = tt
-headline-of (Some files) (run r) status.Write same wrote some old new appends ended met = tt
-headline-of (Some files) (run r) status.NoMemory same wrote some old new appends ended met = tt
+-- a run that is done, of the tasks, the machine and the demands that its files mean
+done-run : (r : RunOf) (files : Files) (old new : SinkView) (tasks : List Task) (p : Plan) (d : DemandsOf) (bytes : List ℕ)
+    → tasks_at r.tasks files ≡ Ok tasks → prepared_of r tasks files ≡ Ok (p, d)
+    → answer_of_command (run r) files ≡ Ok bytes
+    → Appends old.written new.written bytes → HasMet r.governor (run_with r p d)
+    → OfRun (Some files) (Some (run r)) old new status.Done
+done-run r files old new tasks p d bytes t q e wrote met =
+    let m = prepared-means r files tasks p d t q in
+    let whole = done-text r files tasks p d bytes t q e in
+    let done : DoneRun r.governor (run_with r p d) old new = record { text = subst (Appends old.written new.written) whole wrote; run = met } in
+    let P : Plan → DemandsOf → Type 0 = λ x y. (prepared_of r tasks files ≡ Ok (x, y)) × DoneRun r.governor (run_with r x y) old new in
+    let whole_run = subst (λ (x : Plan). P x m.1) m.3 (subst (λ (y : DemandsOf). P p y) m.4 (q, done)) in
+    (tasks, m.0, m.1, m.2, whole_run.0, whole_run.1)
+
+-- the run of told files, from how its answer ends and what it met
+pub of-run : (told : Option Files) (c : CommandOf) (s : Status) (old new : SinkView)
+    → EndsAs old new told (answer_of_command c) s → MetIn told c s → OfRun told (Some c) old new s
+of-run None c s old new ends met = tt
+of-run (Some files) (admit a) s old new ends met = tt
+of-run (Some files) (run r) status.Done old new ends met =
+    done-run r files old new met.0 met.2.0 met.2.1 ends.0 met.1 met.2.2 ends.1 ends.2.bytes met.2.3
+of-run (Some files) (run r) (status.NotAdmitted why) old new ends met = denied-means r files why ends
+of-run (Some files) (run r) status.Words old new ends met = tt
+of-run (Some files) (run r) (status.Load kind) old new ends met = tt
+of-run (Some files) (run r) (status.Text why) old new ends met = tt
+of-run (Some files) (run r) (status.Limit jobs) old new ends met = tt
+of-run (Some files) (run r) (status.OverWorst task job units worst) old new ends met = tt
+of-run (Some files) (run r) status.Write old new ends met = tt
+of-run (Some files) (run r) status.NoMemory old new ends met = tt
+
+-- the answer of a run whose files mean this, and which releases no more jobs than the limit
+module _ (r : RunOf) (files : Files) (tasks : List Task) (machine : Table) (demands : DemandsOf) (means : Means r files tasks machine demands)
+    (few : released_jobs (plan_of tasks machine r.scheduler) r.ticks ≤ most_jobs) where
+  abbrev plan : Plan
+  plan = plan_of tasks machine r.scheduler
+
+  abbrev after : Result Plan Status → Result (List ℕ) Status
+  after admitted = and_then (and_then admitted (λ p. Ok (p, demands))) (answer_of_prepared r)
+
+  answer-is : answer_of_command (run r) files ≡ after (admission plan)
+  answer-is = rw (means.tasks_are, means.machine_is, means.demands_are) refl
+
+  abbrev whole : List ℕ
+  whole = run_text plan r.governor (demand_of plan demands.rows) r.ticks
+
+  few-text : within_jobs (released_jobs plan r.ticks) whole ≡ Ok whole
+  few-text = grind (arith, nat_tests)
+
+  -- a status that the answer refuses with is a denial
+  denied-only : (s : Status) → answer_of_command (run r) files ≡ Err s
+      → (why : Denied) × (s ≡ status.NotAdmitted why) × DeniedPlan plan why
+  denied-only s e = go (admission-is plan)
+    where
+      go : (admission plan ≡ Ok plan) ⊎ ((why : Denied) × (admission plan ≡ Err (status.NotAdmitted why)))
+          → (why : Denied) × (s ≡ status.NotAdmitted why) × DeniedPlan plan why
+      go (inl ok) = absurd (true≢false (ap is_given (sym few-text ∙ (sym (ap after ok) ∙ (sym answer-is ∙ e)))))
+      go (inr denial) = (denial.0, ap status_of (sym e ∙ (answer-is ∙ ap after denial.1)), denied-plan plan denial.0 denial.1)
+
+  -- a run that is done is of what its files mean
+  done-only : (old new : SinkView) → OfRun (Some files) (Some (run r)) old new status.Done
+      → DoneRun r.governor (run_with r plan demands) old new
+  done-only old new x =
+      let ts = ap given_tasks (sym x.3.tasks_are ∙ means.tasks_are) in
+      let ms = ap given_machine (sym x.3.machine_is ∙ means.machine_is) in
+      let ds = ap given_demands (sym (subst (λ (ts : List Task). demands_at ts r.demands files ≡ Ok x.2) ts x.3.demands_are) ∙ means.demands_are) in
+      let P : List Task → Table → DemandsOf → Type 0 = λ a b c. DoneRun r.governor (run_with r (plan_of a b r.scheduler) c) old new in
+      subst (λ (c : DemandsOf). P tasks machine c) ds (subst (λ (b : Table). P tasks b x.2) ms (subst (λ (a : List Task). P a x.1 x.2) ts x.5))
+    where
+      given_tasks : Result (List Task) Status → List Task
+      given_tasks (Ok a) = a
+      given_tasks (Err s) = tasks
+
+      given_machine : Result Table Status → Table
+      given_machine (Ok a) = a
+      given_machine (Err s) = machine
+
+      given_demands : Result DemandsOf Status → DemandsOf
+      given_demands (Ok a) = a
+      given_demands (Err s) = demands
+
+  pub runs-or-is-denied : (loads_rose : Type 0) (old new : SinkView) (s : Status)
+      → OfRun (Some files) (Some (run r)) old new s
+      → Answers (Some files) (Some (run r)) loads_rose (Rose old.faults new.faults) s → (loads_rose → ⊥)
+      → (Rose old.faults new.faults → ⊥) → s ≢ status.NoMemory
+      → RunsOrIsDenied r.governor (run_with r plan demands) old new s
+  runs-or-is-denied loads_rose old new status.Done of answers still whole_out memory = inl (refl, done-only old new of)
+  runs-or-is-denied loads_rose old new (status.NotAdmitted why) of answers still whole_out memory = inr (denied-only (status.NotAdmitted why) answers)
+  runs-or-is-denied loads_rose old new status.Words of answers still whole_out memory = inr (denied-only status.Words answers)
+  runs-or-is-denied loads_rose old new (status.Load kind) of (inl answers) still whole_out memory = inr (denied-only (status.Load kind) answers)
+  runs-or-is-denied loads_rose old new (status.Load kind) of (inr rose) still whole_out memory = absurd (still rose)
+  runs-or-is-denied loads_rose old new (status.Text why) of answers still whole_out memory = inr (denied-only (status.Text why) answers)
+  runs-or-is-denied loads_rose old new (status.Limit jobs) of answers still whole_out memory = inr (denied-only (status.Limit jobs) answers)
+  runs-or-is-denied loads_rose old new (status.OverWorst task job units worst) of answers still whole_out memory = inr (denied-only (status.OverWorst task job units worst) answers)
+  runs-or-is-denied loads_rose old new status.Write of answers still whole_out memory = absurd (whole_out answers.1)
+  runs-or-is-denied loads_rose old new status.NoMemory of answers still whole_out memory = absurd (memory refl)
+
+-- the headline, from what holds of each run and from whose answer the status is
+pub headline-of : (told : Option Files) (c : Option CommandOf) (loads_rose : Type 0) (old new : SinkView) (s : Status)
+    → OfRun told c old new s
+    → Answers told c loads_rose (Rose old.faults new.faults) s → Headline told c loads_rose old new s
+headline-of None c loads_rose old new s of answers = tt
+headline-of (Some files) None loads_rose old new s of answers = tt
+headline-of (Some files) (Some (admit a)) loads_rose old new s of answers = tt
+headline-of (Some files) (Some (run r)) loads_rose old new s of answers =
+    λ tasks machine demands means few still whole_out memory. runs-or-is-denied r files tasks machine demands means few loads_rose old new s of answers still whole_out memory

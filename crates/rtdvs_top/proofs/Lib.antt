@@ -8,4 +8,7 @@ pub mod Published
 pub mod Picks
 pub mod Endings
 pub mod Telling
+pub mod Denying
 pub mod Headlines
+pub mod Answering
+pub mod Shows

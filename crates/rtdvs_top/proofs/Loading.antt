@@ -10,14 +10,16 @@ use Rattle.rtdvs_top.specs.declared.status.Status.TheVariants as status
 use Rattle.rtdvs_top.specs.Answer.{longest, bytes_from, bytes_at}
 use Rattle.rtdvs_top.specs.Causes.{Gives, Refuses}
 
-whole_file : (f : Option (List ℕ)) (m : ℕ) (v : List ℕ) → option_map (take (m + 1)) f ≡ Some v → length v ≤ m → f ≡ Some v
+whole_file : (f : Option (List ℕ)) (m : ℕ) (v : List ℕ) → option_map (take (m + 1)) f ≡ Some v → length v ≤ m
+    → f ≡ Some v
 whole_file None m v e h = absurd (cc)
 whole_file (Some x) m v e h =
     let s : take (m + 1) x ≡ v = same_Some _ _ e in
     let short : length x ≤ m + 1 = omega (arith, length-take (m + 1) x, ap length s) in
     ap Some (sym (take_all (m + 1) x short) ∙ s)
 
-long_file : (kind : FileKind) (f : Option (List ℕ)) (v : List ℕ) → option_map (take (longest + 1)) f ≡ Some v → longest < length v → bytes_from kind f ≡ Err (status.Text (text.TooLong kind))
+long_file : (kind : FileKind) (f : Option (List ℕ)) (v : List ℕ) → option_map (take (longest + 1)) f ≡ Some v
+    → longest < length v → bytes_from kind f ≡ Err (status.Text (text.TooLong kind))
 long_file kind None v e h = absurd (cc)
 long_file kind (Some x) v e h =
     let s : take (longest + 1) x ≡ v = same_Some _ _ e in
@@ -28,11 +30,13 @@ short_file : (kind : FileKind) (v : List ℕ) → length v ≤ longest → bytes
 short_file kind v h = grind (arith, nat_tests)
 
 -- a file that is too long is refused
-pub too_long : (told : Option Files) (kind : FileKind) (name v : List ℕ) → LoadsFrom told name (longest + 1) v → longest < length v → Refuses told (bytes_at kind name) (status.Text (text.TooLong kind))
+pub too_long : (told : Option Files) (kind : FileKind) (name v : List ℕ) → LoadsFrom told name (longest + 1) v
+    → longest < length v → Refuses told (bytes_at kind name) (status.Text (text.TooLong kind))
 too_long None kind name v l h = tt
 too_long (Some files) kind name v l h = long_file kind (file_of files name) v l h
 
 -- a file that isn't is given whole
-pub gives_bytes : (told : Option Files) (kind : FileKind) (name v : List ℕ) → LoadsFrom told name (longest + 1) v → length v ≤ longest → Gives told (bytes_at kind name) v
+pub gives_bytes : (told : Option Files) (kind : FileKind) (name v : List ℕ) → LoadsFrom told name (longest + 1) v
+    → length v ≤ longest → Gives told (bytes_at kind name) v
 gives_bytes None kind name v l h = tt
 gives_bytes (Some files) kind name v l h = rw (whole_file (file_of files name) longest v l h) (short_file kind v h)

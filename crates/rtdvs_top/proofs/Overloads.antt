@@ -10,13 +10,15 @@ use Rattle.sched_model.proofs.OrderLemmas.{IsOrdered, AreBelow, in_order-below, 
 use Rattle.rm_admit.specs.Denials.{IsFirstOverloaded}
 use Rattle.rtdvs_top.specs.Answer.{first_overloaded}
 
-find-here : (test : ℕ → Bool) (key : ℕ → ℕ) (n i : ℕ) (pre post : List ℕ) → AreBelow n (pre ++ i ∷ post) → IsOrdered key (pre ++ i ∷ post) → test i ≡ true
+find-here : (test : ℕ → Bool) (key : ℕ → ℕ) (n i : ℕ) (pre post : List ℕ) → AreBelow n (pre ++ i ∷ post)
+    → IsOrdered key (pre ++ i ∷ post) → test i ≡ true
     → ((k : ℕ) → k < n → stands_before key k i ≡ true → test k ≡ false) → find test (pre ++ i ∷ post) ≡ Some i
 find-here test key n i [] post b o found others = rw found refl
 find-here test key n i (j ∷ pre) post b o found others =
     rw (others j b.0 (first_ahead key j i pre post o.0)) (find-here test key n i pre post b.1 o.1 found others)
 
-find-none : (test : ℕ → Bool) (n : ℕ) (js : List ℕ) → AreBelow n js → ((k : ℕ) → k < n → test k ≡ false) → find test js ≡ None
+find-none : (test : ℕ → Bool) (n : ℕ) (js : List ℕ) → AreBelow n js → ((k : ℕ) → k < n → test k ≡ false)
+    → find test js ≡ None
 find-none test n [] b none = refl
 find-none test n (j ∷ js) b none = rw (none j b.0) (find-none test n js b.1 none)
 

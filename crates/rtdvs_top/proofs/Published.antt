@@ -1,5 +1,6 @@
 -- A run by a governor's own demand is the run by the published one.
 use Rattle.std.proofs.Common.{◌≡◌, ℕ, true, List, ap, ◌∙◌, sym, subst}
+use Rattle.dvs_base.specs.Outside.{SinkView}
 use Rattle.dvs_base.specs.declared.note.Note.{Note}
 use Rattle.dvs_base.specs.declared.kind.GovernorKind.{GovernorKind}
 use Rattle.grid_fraction.specs.declared.Frac.{Frac}
@@ -11,7 +12,8 @@ use Rattle.sched_model.specs.Schedule.{schedule_by}
 use Rattle.sched_model.specs.Deadlines.{IsMet}
 use Rattle.sched_model.specs.Decision.{is_decision}
 use Rattle.freq_table.specs.Tables.{lowest_pick}
-use Rattle.event_kernel.specs.Runs.{released_jobs, IsListOf}
+use Rattle.sched_model.specs.Jobs.{released_jobs}
+use Rattle.event_kernel.specs.Runs.{Run, IsListOf}
 use Rattle.event_kernel.proofs.Demanding.{demand-within}
 use Rattle.sched_model.specs.Ticks.{Tick}
 use Rattle.sched_model.specs.States.{StateOf}
@@ -20,15 +22,10 @@ use Rattle.sched_model.specs.Demands.{demand_of}
 use Rattle.sched_model.proofs.ScheduleLemmas.{schedule_exists}
 use Rattle.sched_model.proofs.Agreeing.{AgreeOnSchedules, same-schedule, same-notes}
 use Rattle.governor.specs.Schedule.{ask_of, Publishes}
-use Rattle.governor.specs.Published.{AlwaysPublishes}
-use Rattle.rtdvs_top.specs.Answer.{answer_of_plan, within_jobs}
-use Rattle.rtdvs_top.specs.Ending.{Ended, governed_answer, MeetsAll, MeetsAllOf}
+use Rattle.rtdvs_top.specs.Answer.{answer_of_run, within_jobs}
+use Rattle.rtdvs_top.specs.Ending.{Ends, governed_answer, MeetsAll, MeetsAllOf}
 use Rattle.rtdvs_top.specs.declared.status.Status.{Status}
 use Rattle.rtdvs_top.specs.declared.status.Status.TheVariants as status
-
--- what holds after each list of ticks holds on each schedule
-pub publishes-always : (demand : Plan → StateOf → Frac) (kind : GovernorKind) (p : Plan) → AlwaysPublishes demand kind p → Publishes demand kind p
-publishes-always demand kind p always dem within ask past h = always dem past
 
 module _ (demand : Plan → StateOf → Frac) (kind : GovernorKind) (p : Plan) (d : DemandsOf) (list : IsListOf p d) (low : IsWithinWorsts d) (publishes : Publishes demand kind p) where
   abbrev dem : ℕ → ℕ → ℕ
@@ -46,26 +43,34 @@ module _ (demand : Plan → StateOf → Frac) (kind : GovernorKind) (p : Plan) (
   same-ticks : (t : ℕ) → schedule_by p dem own t ≡ schedule_by p dem asked t
   same-ticks t = same-schedule p dem own asked agree t
 
-  same-run : (ticks : ℕ) → notes_of p dem own (schedule_by p dem own ticks) ≡ notes_of p dem asked (schedule_by p dem asked ticks)
+  same-run : (ticks : ℕ)
+      → notes_of p dem own (schedule_by p dem own ticks) ≡ notes_of p dem asked (schedule_by p dem asked ticks)
   same-run ticks =
       same-notes p dem own asked agree own (schedule_by p dem own ticks) (schedule_exists p dem own ticks).0
       ∙ ap (notes_of p dem asked) (same-ticks ticks)
 
-  pub ended-published : (ticks : ℕ) (s : Status) (same : Type 0) (wrote some : List ℕ → Type 0)
-      → Ended (governed_answer kind demand p d ticks) s same wrote some → Ended (answer_of_plan kind d ticks p) s same wrote some
-  ended-published ticks s same wrote some h =
-      let P : List Note → Type 0 = λ notes. Ended (within_jobs (released_jobs p ticks) (trace_text p.scheduler kind ticks (names p) notes)) s same wrote some in
+  -- the run of so many ticks
+  abbrev pub run_of : ℕ → Run
+  run_of ticks = record { plan = p; demands = d; ticks = ticks }
+
+  pub ended-published : (old new : SinkView) (ticks : ℕ) (s : Status)
+      → Ends old new (governed_answer kind demand (run_of ticks)) s → Ends old new (answer_of_run kind (run_of ticks)) s
+  ended-published old new ticks s h =
+      let P : List Note → Type 0 = λ notes. Ends old new (within_jobs (released_jobs p ticks) (trace_text p.scheduler kind ticks (names p) notes)) s in
       subst P (same-run ticks) h
 
   -- a demand that is met where a schedule's own demand decides is met where the published one does
-  met-there : (t : ℕ) → (is_decision p dem (schedule_by p dem own t) ≡ true → (lowest_pick p.machine (own (schedule_by p dem own t))).met ≡ true)
-      → is_decision p dem (schedule_by p dem asked t) ≡ true → (lowest_pick p.machine (asked (schedule_by p dem asked t))).met ≡ true
+  met-there : (t : ℕ)
+      → (is_decision p dem (schedule_by p dem own t) ≡ true → (lowest_pick p.machine (own (schedule_by p dem own t))).met ≡ true)
+      → is_decision p dem (schedule_by p dem asked t) ≡ true
+      → (lowest_pick p.machine (asked (schedule_by p dem asked t))).met ≡ true
   met-there t h =
       let Met : List Tick → Frac → Type 0 = λ ticks f. is_decision p dem ticks ≡ true → (lowest_pick p.machine f).met ≡ true in
       subst (λ (ticks : List Tick). Met ticks (asked ticks)) (same-ticks t)
       (subst (Met (schedule_by p dem own t)) (agree own (schedule_by p dem own t) (schedule_exists p dem own t).0) h)
 
-  pub met-published : (ticks : ℕ) (s : Status) → MeetsAll kind demand p d ticks s → MeetsAllOf kind p d ticks s
+  pub met-published : (ticks : ℕ) (s : Status) → MeetsAll kind demand (run_of ticks) s
+      → MeetsAllOf kind (run_of ticks) s
   met-published ticks status.Done h = (subst (IsMet p dem) (same-ticks ticks) h.0, λ n t lt. met-there t (h.1 n t lt))
   met-published ticks (status.NotAdmitted why) h = tt
   met-published ticks status.Words h = tt

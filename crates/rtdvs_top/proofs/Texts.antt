@@ -1,84 +1,94 @@
 -- Texts written one after another.
-use Rattle.std.proofs.Common.{◌≡◌, inl, inr, ℕ, ◌+◌, List, [], ◌∷◌, ◌++◌, length, length-append, take, Option, Some, None, refl, ap, sym, ◌∙◌, subst, arith, append-nil}
+use Rattle.std.proofs.Common.{◌≡◌, inl, inr, ℕ, ◌+◌, List, [], ◌∷◌, ◌++◌, length, length-append, take, Option, Some, None, Result, Ok, Err, refl, ap, sym, ◌∙◌, subst, arith, append-nil}
 use Rattle.std.specs.Prelude.{flat_map}
 use Rattle.std.specs.Io.KnownBytes.{Appends}
 use Rattle.std.proofs.KnownBytes.{Appends-trans}
 use Rattle.std.proofs.lemmas.List.{take-append-le}
 use Rattle.std.proofs.Math.Seq.{take-append-add}
 use Rattle.dvs_base.specs.declared.note.Note.{Note}
-use Rattle.dvs_base.specs.Outside.{Rose}
+use Rattle.dvs_base.specs.Outside.{SinkView, Rose}
 use Rattle.event_kernel.specs.Heard.{HasHeard, HasBalked}
-use Rattle.rtdvs_top.specs.Writing.{Wrote, WroteSome}
+use Rattle.rtdvs_top.specs.Writing.{Wrote, WroteSome, Writing}
 
 -- nothing was written
 appends-none : (a : Option (List ℕ)) → Appends a a []
 appends-none None = tt
 appends-none (Some xs) = sym (append-nil xs)
 
-pub wrote-nothing : (a : Option (List ℕ)) (f s : ℕ) → Wrote a a f f s s []
-wrote-nothing a f s = record { bytes = appends-none a; steady = refl; surety = omega arith }
+wrote-nothing : (a : SinkView) → Wrote a a []
+wrote-nothing a = record { bytes = appends-none a.written; steady = refl; surety = omega arith }
 
-pub wrote-then : (a b c : Option (List ℕ)) (fa fb fc sa sb sc : ℕ) (t u : List ℕ) → Wrote a b fa fb sa sb t → Wrote b c fb fc sb sc u → Wrote a c fa fc sa sc (t ++ u)
-wrote-then a b c fa fb fc sa sb sc t u w x = record {
-  bytes = Appends-trans a b c t u w.bytes x.bytes;
+-- a text that was written whole, and then another, whole or in part
+pub wrote-then : (a b c : SinkView) (t u : List ℕ) → Wrote a b t → Wrote b c u → Wrote a c (t ++ u)
+wrote-then a b c t u w x = record {
+  bytes = Appends-trans a.written b.written c.written t u w.bytes x.bytes;
   steady = x.steady ∙ w.steady;
   surety = omega (arith, length-append t u, w.surety, x.surety);
 }
 
-pub wrote-then-some : (a b c : Option (List ℕ)) (fa fb fc sa sb : ℕ) (t u : List ℕ) → Wrote a b fa fb sa sb t → WroteSome b c fb fc sb u → WroteSome a c fa fc sa (t ++ u)
-wrote-then-some a b c fa fb fc sa sb t u w x = record {
+pub wrote-then-some : (a b c : SinkView) (t u : List ℕ) → Wrote a b t → WroteSome b c u → WroteSome a c (t ++ u)
+wrote-then-some a b c t u w x = record {
   part = (
     length t + x.part.0,
     omega (arith, length-append t u, x.part.1),
-    rw (take-append-add t u x.part.0) (Appends-trans a b c t (take x.part.0 u) w.bytes x.part.2),
+    rw (take-append-add t u x.part.0) (Appends-trans a.written b.written c.written t (take x.part.0 u) w.bytes x.part.2),
   );
-  rose = subst (λ (f : ℕ). Rose f fc) w.steady x.rose;
+  rose = subst (λ (f : ℕ). Rose f c.faults) w.steady x.rose;
+  later = omega (arith, w.steady, x.later);
   unsure = omega (arith, length-append t u, w.surety, x.unsure);
 }
 
-pub wrote-some-more : (a b : Option (List ℕ)) (fa fb sa : ℕ) (t u : List ℕ) → WroteSome a b fa fb sa t → WroteSome a b fa fb sa (t ++ u)
-wrote-some-more a b fa fb sa t u w = record {
+-- a text of which a part was written is a part of a longer one
+pub wrote-some-more : (a b : SinkView) (t u : List ℕ) → WroteSome a b t → WroteSome a b (t ++ u)
+wrote-some-more a b t u w = record {
   part = (
     w.part.0,
     omega (arith, length-append t u, w.part.1),
     rw (take-append-le w.part.0 t u w.part.1) w.part.2,
   );
   rose = w.rose;
+  later = w.later;
   unsure = omega (arith, length-append t u, w.unsure);
 }
 
+-- the writing of a second text, after the first was written whole
+pub writing-then : {T E : Type 0} (a b c : SinkView) (t u : List ℕ) (r : Result T E) → Wrote a b t → Writing b c u r
+    → Writing a c (t ++ u) r
+writing-then a b c t u (Ok v) w x = wrote-then a b c t u w x
+writing-then a b c t u (Err e) w x = wrote-then-some a b c t u w x
+
 -- what a listener heard was written, and what it balked at was written in part; `Same` is what its value keeps
-module _ {L : Type 0} (heard balked : L → Note → L → Type 0) (written : L → Option (List ℕ)) (faults sure : L → ℕ) (text : L → Note → List ℕ) (Same : L → L → Type 0)
+module _ {L : Type 0} (heard balked : L → Note → L → Type 0) (shows : L → SinkView) (text : L → Note → List ℕ) (Same : L → L → Type 0)
     (same-self : (a : L) → Same a a) (same-trans : (a b c : L) → Same a b → Same b c → Same a c) (same-text : (a b : L) → Same a b → (n : Note) → text b n ≡ text a n)
-    (step : (a : L) (n : Note) (b : L) → heard a n b → Wrote (written a) (written b) (faults a) (faults b) (sure a) (sure b) (text a n) × Same a b)
-    (stop : (a : L) (n : Note) (b : L) → balked a n b → WroteSome (written a) (written b) (faults a) (faults b) (sure a) (text a n) × Same a b) where
+    (step : (a : L) (n : Note) (b : L) → heard a n b → Wrote (shows a) (shows b) (text a n) × Same a b)
+    (stop : (a : L) (n : Note) (b : L) → balked a n b → WroteSome (shows a) (shows b) (text a n) × Same a b) where
   same-texts : (a b : L) (notes : List Note) → Same a b → flat_map (text b) notes ≡ flat_map (text a) notes
   same-texts a b notes s = ap (λ (t : Note → List ℕ). flat_map t notes) (λ i n. same-text a b s n i)
 
   pub heard-wrote : (from : L) (notes : List Note) (to : L) → HasHeard heard from notes to
-      → Wrote (written from) (written to) (faults from) (faults to) (sure from) (sure to) (flat_map (text from) notes) × Same from to
+      → Wrote (shows from) (shows to) (flat_map (text from) notes) × Same from to
   heard-wrote from [] to e =
-      subst (λ (b : L). Wrote (written from) (written b) (faults from) (faults b) (sure from) (sure b) [] × Same from b) e (wrote-nothing (written from) (faults from) (sure from), same-self from)
+      subst (λ (b : L). Wrote (shows from) (shows b) [] × Same from b) e (wrote-nothing (shows from), same-self from)
   heard-wrote from (note ∷ notes) to h =
       let next : L = h.0 in
       let first = step from note next h.1 in
       let rest = heard-wrote next notes to h.2 in (
-        wrote-then (written from) (written next) (written to) (faults from) (faults next) (faults to) (sure from) (sure next) (sure to) (text from note) (flat_map (text from) notes) first.0
-            (subst (λ (t : List ℕ). Wrote (written next) (written to) (faults next) (faults to) (sure next) (sure to) t) (same-texts from next notes first.1) rest.0),
+        wrote-then (shows from) (shows next) (shows to) (text from note) (flat_map (text from) notes) first.0
+            (subst (λ (t : List ℕ). Wrote (shows next) (shows to) t) (same-texts from next notes first.1) rest.0),
         same-trans from next to first.1 rest.1,
       )
 
   pub balked-wrote : (from : L) (notes : List Note) (to : L) → HasBalked heard balked from notes to
-      → WroteSome (written from) (written to) (faults from) (faults to) (sure from) (flat_map (text from) notes) × Same from to
+      → WroteSome (shows from) (shows to) (flat_map (text from) notes) × Same from to
   balked-wrote from [] to h = absurd h
   balked-wrote from (note ∷ notes) to (inl b) =
       let end = stop from note to b in
-      (wrote-some-more (written from) (written to) (faults from) (faults to) (sure from) (text from note) (flat_map (text from) notes) end.0, end.1)
+      (wrote-some-more (shows from) (shows to) (text from note) (flat_map (text from) notes) end.0, end.1)
   balked-wrote from (note ∷ notes) to (inr h) =
       let next : L = h.0 in
       let first = step from note next h.1 in
       let rest = balked-wrote next notes to h.2 in (
-        wrote-then-some (written from) (written next) (written to) (faults from) (faults next) (faults to) (sure from) (sure next) (text from note) (flat_map (text from) notes) first.0
-            (subst (λ (t : List ℕ). WroteSome (written next) (written to) (faults next) (faults to) (sure next) t) (same-texts from next notes first.1) rest.0),
+        wrote-then-some (shows from) (shows next) (shows to) (text from note) (flat_map (text from) notes) first.0
+            (subst (λ (t : List ℕ). WroteSome (shows next) (shows to) t) (same-texts from next notes first.1) rest.0),
         same-trans from next to first.1 rest.1,
       )

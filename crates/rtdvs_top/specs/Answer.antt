@@ -26,7 +26,8 @@ use Rattle.sched_model.specs.Demands.{demand_of}
 use Rattle.sched_model.specs.Tests.{total_rate, level_work}
 use Rattle.sched_model.specs.StaticDemand.{static_demand}
 use Rattle.sched_model.specs.Text.{run_text}
-use Rattle.event_kernel.specs.Runs.{released_jobs, most_jobs}
+use Rattle.sched_model.specs.Jobs.{released_jobs}
+use Rattle.event_kernel.specs.Runs.{Run, most_jobs}
 use Rattle.rtdvs_top.specs.Words.{RunOf, AdmitOf, CommandOf, run, admit}
 use Rattle.rtdvs_top.specs.declared.status.FileKind.{FileKind}
 use Rattle.rtdvs_top.specs.declared.status.FileKind.TheVariants as file
@@ -48,53 +49,61 @@ bytes_from kind (Some bytes) = if nat_lt longest (length bytes) then Err (status
 abbrev pub bytes_at : FileKind → List ℕ → Files → Result (List ℕ) Status
 bytes_at kind name files = bytes_from kind (file_of files name)
 
--- refusals of the readers as statuses; want of memory and a demand above its worst case have their own
+-- a refusal of a task file as a status; want of memory and a demand above its worst case have their own
 abbrev pub task_status : TaskFault → Status
 task_status task_fault.NoMemory = status.NoMemory
 task_status e = status.Text (text.Tasks e)
 
+-- the same of a machine file
 abbrev pub machine_status : MachineFault → Status
 machine_status machine_fault.NoMemory = status.NoMemory
 machine_status e = status.Text (text.Machine e)
 
+-- the same of a demand file
 abbrev pub demand_status : DemandFault → Status
 demand_status demand_fault.NoMemory = status.NoMemory
 demand_status (demand_fault.OverWorst task job units worst) = status.OverWorst task job units worst
 demand_status e = status.Text (text.Demands e)
 
+-- what a task file means, with its refusal as a status
 abbrev pub tasks_from : Result (List Task) TaskFault → Result (List Task) Status
 tasks_from (Ok tasks) = Ok tasks
 tasks_from (Err e) = Err (task_status e)
 
+-- the same of a machine file
 abbrev pub machine_from : Result Table MachineFault → Result Table Status
 machine_from (Ok machine) = Ok machine
 machine_from (Err e) = Err (machine_status e)
 
+-- the same of a demand file
 abbrev pub demands_from : Result DemandsOf DemandFault → Result DemandsOf Status
 demands_from (Ok demands) = Ok demands
 demands_from (Err e) = Err (demand_status e)
 
--- the tasks, the machine and the demands of named files
+-- the tasks of a named file
 abbrev pub tasks_at : List ℕ → Files → Result (List Task) Status
 tasks_at name files = and_then (bytes_at file.Tasks name files) (λ bytes. tasks_from (task_file bytes))
 
+-- the machine of a named file
 abbrev pub machine_at : List ℕ → Files → Result Table Status
 machine_at name files = and_then (bytes_at file.Machine name files) (λ bytes. machine_from (machine_file bytes))
 
--- where no file of demands is named, every job needs its worst case
+-- the demands of a file; where none is named, every job needs its worst case
 abbrev pub demands_at : List Task → Option (List ℕ) → Files → Result DemandsOf Status
 demands_at tasks None files = Ok (worst_list tasks)
-demands_at tasks (Some name) files = and_then (bytes_at file.Demands name files) (λ bytes. demands_from (demand_file tasks bytes))
+demands_at tasks (Some name) files =
+    and_then (bytes_at file.Demands name files) (λ bytes. demands_from (demand_file tasks bytes))
 
 -- the first task in RM order whose level asks for more in its period than the highest speed does in it
 abbrev pub first_overloaded : Plan → Option ℕ
 first_overloaded p = find (λ i. nat_lt (top_speed p * period p i) (level_work p i)) (in_order (period p) (count p))
 
+-- an admission under RM: the plan, where no task is overloaded
 abbrev pub admission_from : Plan → Option ℕ → Result Plan Status
 admission_from p None = Ok p
 admission_from p (Some i) = Err (status.NotAdmitted (denied.Rm i (level_work p i) (top_speed p * period p i)))
 
--- the plan, where its scheduler's test passes
+-- the plan, where the test of a scheduler passes
 abbrev pub admission_by : Scheduler → Plan → Result Plan Status
 admission_by Edf p =
     if nat_lt (top_speed p * hyper p) (total_rate p)
@@ -102,6 +111,7 @@ admission_by Edf p =
     else Ok p
 admission_by Rm p = admission_from p (first_overloaded p)
 
+-- the plan, where the test of its own scheduler passes
 abbrev pub admission : Plan → Result Plan Status
 admission p = admission_by p.scheduler p
 
@@ -113,6 +123,10 @@ within_jobs jobs bytes = if nat_lt most_jobs jobs then Err (status.Limit jobs) e
 abbrev pub answer_of_plan : GovernorKind → DemandsOf → ℕ → Plan → Result (List ℕ) Status
 answer_of_plan g demands ticks p = within_jobs (released_jobs p ticks) (run_text p g (demand_of p demands.rows) ticks)
 
+-- the same of a run that was put together
+abbrev pub answer_of_run : GovernorKind → Run → Result (List ℕ) Status
+answer_of_run g r = answer_of_plan g r.demands r.ticks r.plan
+
 -- the admitted plan and the demands of a run, after its tasks
 abbrev pub prepared_of : RunOf → List Task → Files → Result (Plan × DemandsOf) Status
 prepared_of r tasks files =
@@ -121,6 +135,7 @@ prepared_of r tasks files =
     and_then (admission (plan_of tasks machine r.scheduler)) (λ p.
     Ok (p, demands))))
 
+-- the answer of a run that was prepared
 abbrev pub answer_of_prepared : RunOf → Plan × DemandsOf → Result (List ℕ) Status
 answer_of_prepared r x = answer_of_plan r.governor x.1 r.ticks x.0
 
@@ -128,11 +143,13 @@ answer_of_prepared r x = answer_of_plan r.governor x.1 r.ticks x.0
 abbrev pub admitted_text : Plan → List ℕ
 admitted_text p =
     let d = static_demand p in
-    line (codes "admitted" ∷ scheduler_word p.scheduler ∷ fraction_text d.num d.den ∷ decimal (speed_at p.machine (lowest_entry p.machine d)) ∷ [])
+    let speed = speed_at p.machine (lowest_entry p.machine d) in
+    line (codes "admitted" ∷ scheduler_word p.scheduler ∷ fraction_text d.num d.den ∷ decimal speed ∷ [])
 
 -- the admitted plan of an admission, after its tasks
 abbrev pub admitted_of : AdmitOf → List Task → Files → Result Plan Status
-admitted_of a tasks files = and_then (machine_at a.machine files) (λ machine. admission (plan_of tasks machine a.scheduler))
+admitted_of a tasks files =
+    and_then (machine_at a.machine files) (λ machine. admission (plan_of tasks machine a.scheduler))
 
 -- the file of tasks that a command names
 abbrev pub tasks_name : CommandOf → List ℕ

@@ -1,6 +1,6 @@
 -- What a status says, and why it comes.
-use Rattle.std.specs.Prelude.{IsOk, ◌≡◌, ◌⊎◌, ℕ, ◌+◌, ◌<◌, List, Option, Some, None, Result, Ok, Err, ⊤}
-use Rattle.dvs_base.specs.Outside.{Files, Lacks, Rose}
+use Rattle.std.specs.Prelude.{IsOk, ◌≡◌, ◌⊎◌, ℕ, ◌+◌, ◌<◌, ◌≤◌, List, Option, Some, None, Result, Ok, Err, ⊤}
+use Rattle.dvs_base.specs.Outside.{Files, ShelfView, Lacks, Rose}
 use Rattle.rtdvs_top.specs.Words.{RunOf, CommandOf, run, admit}
 use Rattle.rtdvs_top.specs.Answer.{tasks_at, machine_at, tasks_name}
 use Rattle.rtdvs_top.specs.declared.status.FileKind.{FileKind}
@@ -39,59 +39,75 @@ abbrev pub Refuses : {A : Type 0} → Option Files → (Files → Result A Statu
 Refuses None step s = IsRefusal s
 Refuses (Some files) step s = EndsWith (step files) s
 
--- a load fails by its name, or by a count that rose in a call that was not sure of it; the place counts the command's loads
-abbrev pub LoadExplained : Option Files → List ℕ → ℕ → ℕ → ℕ → ℕ → Type 0
-LoadExplained told name place before now sure = Lacks told name ⊎ (Rose before now × (sure < place))
+-- a load failed: the files are told and lack the name, or the count of faults rose and the shelf was not sure of so
+-- many loads; the place is the load's number among those since the old shelf
+abbrev pub LoadFails : ShelfView → ShelfView → ℕ → List ℕ → Type 0
+LoadFails old new place name = Lacks old.held name ⊎ (Rose old.faults new.faults × (old.sure < place))
 
 -- the same of a file that may be named
-abbrev pub NamedLoadExplained : Option Files → Option (List ℕ) → ℕ → ℕ → ℕ → ℕ → Type 0
-NamedLoadExplained told None place before now sure = ⊥
-NamedLoadExplained told (Some name) place before now sure = LoadExplained told name place before now sure
+abbrev pub NamedLoadFails : ShelfView → ShelfView → ℕ → Option (List ℕ) → Type 0
+NamedLoadFails old new place None = ⊥
+NamedLoadFails old new place (Some name) = LoadFails old new place name
 
--- how many loads that is
+-- at most so many loads were made: the files stay, the count never falls, and it stays where the shelf was sure of them
+pub record MakesLoads (most : ℕ) (old new : ShelfView) : Type 0 where
+  pub held : new.held ≡ old.held
+  pub later : old.faults ≤ new.faults
+  pub steady : most ≤ old.sure → new.faults ≡ old.faults
+  pub surety : old.sure ≤ new.sure + most
+
+-- how many loads a file that may be named takes
 abbrev pub loads_named : Option (List ℕ) → ℕ
 loads_named None = 0
 loads_named (Some name) = 1
 
--- a status that says a load failed names this file, and is explained
-abbrev pub IsLoadOf : FileKind → Type 0 → Status → Type 0
-IsLoadOf kind why (status.Load other) = (other ≡ kind) × why
-IsLoadOf kind why s = ⊤
+-- a status that says a load failed names this file, whose load failed
+abbrev pub IsLoadOf : ShelfView → ShelfView → FileKind → List ℕ → Status → Type 0
+IsLoadOf old new kind name (status.Load other) = (other ≡ kind) × LoadFails old new 1 name
+IsLoadOf old new kind name s = ⊤
 
--- the loads of a run after its tasks: the machine first, and then the demands
-abbrev pub LaterLoad : Option Files → RunOf → ℕ → ℕ → ℕ → Status → Type 0
-LaterLoad told r before now sure (status.Load file.Tasks) = ⊥
-LaterLoad told r before now sure (status.Load file.Machine) = LoadExplained told r.machine 1 before now sure
-LaterLoad told r before now sure (status.Load file.Demands) = NamedLoadExplained told r.demands 2 before now sure
-LaterLoad told r before now sure s = ⊤
+-- the same of a file that may be named
+abbrev pub IsNamedLoadOf : ShelfView → ShelfView → FileKind → Option (List ℕ) → Status → Type 0
+IsNamedLoadOf old new kind name (status.Load other) = (other ≡ kind) × NamedLoadFails old new 1 name
+IsNamedLoadOf old new kind name s = ⊤
 
--- the loads of a command after its tasks
-abbrev pub LaterLoadOf : Option Files → CommandOf → ℕ → ℕ → ℕ → Status → Type 0
-LaterLoadOf told (run r) before now sure s = LaterLoad told r before now sure s
-LaterLoadOf told (admit a) before now sure s = IsLoadOf file.Machine (LoadExplained told a.machine 1 before now sure) s
+-- why a load of a run failed after its tasks: the machine first, and then the demands
+abbrev pub LaterLoad : ShelfView → ShelfView → RunOf → Status → Type 0
+LaterLoad old new r (status.Load file.Tasks) = ⊥
+LaterLoad old new r (status.Load file.Machine) = LoadFails old new 1 r.machine
+LaterLoad old new r (status.Load file.Demands) = NamedLoadFails old new 2 r.demands
+LaterLoad old new r s = ⊤
 
--- how many files a command loads after its tasks, and in all
+-- the same of a command
+abbrev pub LaterLoadOf : ShelfView → ShelfView → CommandOf → Status → Type 0
+LaterLoadOf old new (run r) s = LaterLoad old new r s
+LaterLoadOf old new (admit a) s = IsLoadOf old new file.Machine a.machine s
+
+-- how many files a command loads after its tasks
 abbrev pub later_loads : CommandOf → ℕ
 later_loads (run r) = 1 + loads_named r.demands
 later_loads (admit a) = 1
 
+-- how many files it loads in all
 abbrev pub loads_of : CommandOf → ℕ
 loads_of c = later_loads c + 1
 
+-- the file of a machine that a command names
 abbrev pub machine_name : CommandOf → List ℕ
 machine_name (run r) = r.machine
 machine_name (admit a) = a.machine
 
+-- the file of demands that a command names, where it names one
 abbrev pub demands_name : CommandOf → Option (List ℕ)
 demands_name (run r) = r.demands
 demands_name (admit a) = None
 
 -- why a load of a command failed, by its place: the tasks first, then the machine, and then the demands
-abbrev pub LoadOf : Option Files → CommandOf → ℕ → ℕ → ℕ → Status → Type 0
-LoadOf told c before now sure (status.Load file.Tasks) = LoadExplained told (tasks_name c) 1 before now sure
-LoadOf told c before now sure (status.Load file.Machine) = LoadExplained told (machine_name c) 2 before now sure
-LoadOf told c before now sure (status.Load file.Demands) = NamedLoadExplained told (demands_name c) 3 before now sure
-LoadOf told c before now sure s = ⊤
+abbrev pub LoadOf : ShelfView → ShelfView → CommandOf → Status → Type 0
+LoadOf old new c (status.Load file.Tasks) = LoadFails old new 1 (tasks_name c)
+LoadOf old new c (status.Load file.Machine) = LoadFails old new 2 (machine_name c)
+LoadOf old new c (status.Load file.Demands) = NamedLoadFails old new 3 (demands_name c)
+LoadOf old new c s = ⊤
 
 -- a load of demands fails only after the machine was read, where the files are told
 abbrev pub PassesMachine : Option Files → CommandOf → Status → Type 0
@@ -101,5 +117,6 @@ PassesMachine told c s = ⊤
 -- a load fails only after the files before it were read, where they are told
 abbrev pub PassesBefore : Option Files → CommandOf → Status → Type 0
 PassesBefore (Some files) c (status.Load file.Machine) = IsOk (tasks_at (tasks_name c) files)
-PassesBefore (Some files) c (status.Load file.Demands) = IsOk (tasks_at (tasks_name c) files) × IsOk (machine_at (machine_name c) files)
+PassesBefore (Some files) c (status.Load file.Demands) =
+    IsOk (tasks_at (tasks_name c) files) × IsOk (machine_at (machine_name c) files)
 PassesBefore told c s = ⊤

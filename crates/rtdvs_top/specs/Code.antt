@@ -3,6 +3,7 @@ use Rattle.std.specs.Prelude.{ℕ}
 use Rattle.rtdvs_top.specs.declared.status.Status.{Status}
 use Rattle.rtdvs_top.specs.declared.status.Status.TheVariants as status
 
+-- the exit status of the program
 abbrev pub code_of : Status → ℕ
 code_of status.Done = 0
 code_of (status.NotAdmitted denied) = 1

@@ -1,92 +1,128 @@
--- How the writing of an answer ends.
-use Rattle.std.specs.Prelude.{◌≡◌, ◌≢◌, ◌<◌, ℕ, true, List, Option, Some, None, Result, Ok, ⊤}
-use Rattle.dvs_base.specs.Outside.{Files}
+-- How the writing of an answer ends, and what a run that is done has met.
+use Rattle.std.specs.Prelude.{◌≡◌, ◌≢◌, ℕ, List, Option, Some, None, Result, Ok, ⊤}
+use Rattle.dvs_base.specs.Outside.{Files, SinkView}
 use Rattle.dvs_base.specs.declared.kind.GovernorKind.{GovernorKind}
 use Rattle.dvs_base.specs.declared.kind.GovernorKind.TheVariants.{Ahead}
-use Rattle.grid_fraction.specs.declared.Frac.{Frac}
+use Rattle.governor.specs.Meanings.{OwnDemand}
 use Rattle.demand_list.specs.Demands.{DemandsOf}
+use Rattle.task_model.specs.declared.task.Task.{Task}
 use Rattle.sched_model.specs.Plan.{Plan, names}
-use Rattle.sched_model.specs.States.{StateOf}
+use Rattle.sched_model.specs.Demands.{JobDemands}
+use Rattle.sched_model.specs.Jobs.{released_jobs}
+use Rattle.sched_model.specs.Ticks.{Tick}
 use Rattle.sched_model.specs.Text.{trace_text, run_text}
-use Rattle.done_lines.specs.DoneLines.{TellsDeadlines}
-use Rattle.sched_model.specs.Demands.{demand_of}
-use Rattle.sched_model.specs.Demand.{published}
-use Rattle.sched_model.specs.Decision.{is_decision}
 use Rattle.sched_model.specs.Deadlines.{IsMet}
 use Rattle.sched_model.specs.Admission.{PassesTest}
-use Rattle.sched_model.specs.Schedule.{schedule, HasSchedule, HasNoOther}
-use Rattle.freq_table.specs.Tables.{lowest_pick}
-use Rattle.event_kernel.specs.Runs.{Run, notes_of_run, released_jobs, MeetsDeadlines, MeetsDemands}
+use Rattle.sched_model.specs.Schedule.{schedule, AlwaysMeets, HasSchedule, HasNoOther}
+use Rattle.sched_model.specs.TheSchedule.{IsTheSchedule}
+use Rattle.done_lines.specs.DoneLines.{TellsDeadlines}
+use Rattle.event_kernel.specs.Runs.{Run, demands_of, notes_of_run, MeetsDeadlines, MeetsDemands}
 use Rattle.rtdvs_top.specs.Answer.{within_jobs, prepared_of, tasks_at}
 use Rattle.rtdvs_top.specs.Words.{RunOf, CommandOf, run, admit}
-use Rattle.task_model.specs.declared.task.Task.{Task}
 use Rattle.rtdvs_top.specs.Causes.{EndsWith, IsRefusal, Gives}
+use Rattle.rtdvs_top.specs.Writing.{Wrote, WroteSome}
 use Rattle.rtdvs_top.specs.declared.status.Status.{Status}
 use Rattle.rtdvs_top.specs.declared.status.Status.TheVariants as status
 
--- the answer's text was written, or a first part of it, or nothing changed
-abbrev pub Ended : Result (List ℕ) Status → Status → Type 0 → (List ℕ → Type 0) → (List ℕ → Type 0) → Type 0
-Ended answer status.Done same wrote some = (text : List ℕ) × (answer ≡ Ok text) × wrote text
-Ended answer status.Write same wrote some = (text : List ℕ) × (answer ≡ Ok text) × some text
-Ended answer s same wrote some = EndsWith answer s × same
+-- the answer's text was written, or a first part of it, or the answer is refused
+abbrev pub Ends : SinkView → SinkView → Result (List ℕ) Status → Status → Type 0
+Ends old new answer status.Done = (text : List ℕ) × (answer ≡ Ok text) × Wrote old new text
+Ends old new answer status.Write = (text : List ℕ) × (answer ≡ Ok text) × WroteSome old new text
+Ends old new answer s = EndsWith answer s
 
 -- the same where no file is told: some text was written
-abbrev pub EndedSomehow : Status → Type 0 → (List ℕ → Type 0) → (List ℕ → Type 0) → Type 0
-EndedSomehow status.Done same wrote some = (text : List ℕ) × wrote text
-EndedSomehow status.Write same wrote some = (text : List ℕ) × some text
-EndedSomehow s same wrote some = IsRefusal s × same
+abbrev pub EndsSomehow : SinkView → SinkView → Status → Type 0
+EndsSomehow old new status.Done = (text : List ℕ) × Wrote old new text
+EndsSomehow old new status.Write = (text : List ℕ) × WroteSome old new text
+EndsSomehow old new s = IsRefusal s
 
 -- how the answer of told files ends, and that of others
-abbrev pub EndedAs : Option Files → (Files → Result (List ℕ) Status) → Status → Type 0 → (List ℕ → Type 0) → (List ℕ → Type 0) → Type 0
-EndedAs None answer s same wrote some = EndedSomehow s same wrote some
-EndedAs (Some files) answer s same wrote some = Ended (answer files) s same wrote some
+abbrev pub EndsAs : SinkView → SinkView → Option Files → (Files → Result (List ℕ) Status) → Status → Type 0
+EndsAs old new None answer s = EndsSomehow old new s
+EndsAs old new (Some files) answer s = Ends old new (answer files) s
 
--- the run of a plan, a demand list and a number of ticks
-abbrev pub run_of : Plan → DemandsOf → ℕ → Run
-run_of p d ticks = record { plan = p; demands = d; ticks = ticks }
+-- every status but `Done` and `Write` leaves a thing as it was
+abbrev pub Leaves : {W : Type 0} → Status → W → W → Type 0
+Leaves status.Done old new = ⊤
+Leaves status.Write old new = ⊤
+Leaves s old new = new ≡ old
 
 -- the text of a run under a governor's own demand
-abbrev pub governed_text : GovernorKind → (Plan → StateOf → Frac) → Plan → DemandsOf → ℕ → List ℕ
-governed_text kind demand p d ticks = trace_text p.scheduler kind ticks (names p) (notes_of_run demand (run_of p d ticks))
+abbrev pub governed_text : GovernorKind → OwnDemand → Run → List ℕ
+governed_text kind demand r = trace_text r.plan.scheduler kind r.ticks (names r.plan) (notes_of_run demand r)
 
-abbrev pub governed_answer : GovernorKind → (Plan → StateOf → Frac) → Plan → DemandsOf → ℕ → Result (List ℕ) Status
-governed_answer kind demand p d ticks = within_jobs (released_jobs p ticks) (governed_text kind demand p d ticks)
-
--- at each decision within a run some entry of the table meets the published demand
-abbrev pub AlwaysMeets : Plan → GovernorKind → (ℕ → ℕ → ℕ) → ℕ → Type 0
-AlwaysMeets p kind dem ticks =
-    (t : ℕ) → t < ticks → is_decision p dem (schedule p kind dem t) ≡ true
-    → (lowest_pick p.machine (published p kind dem (schedule p kind dem t))).met ≡ true
+-- its answer
+abbrev pub governed_answer : GovernorKind → OwnDemand → Run → Result (List ℕ) Status
+governed_answer kind demand r = within_jobs (released_jobs r.plan r.ticks) (governed_text kind demand r)
 
 -- a run that was done meets every deadline, and every demand unless it looks ahead
-abbrev pub MeetsAll : GovernorKind → (Plan → StateOf → Frac) → Plan → DemandsOf → ℕ → Status → Type 0
-MeetsAll kind demand p d ticks status.Done = MeetsDeadlines demand (run_of p d ticks) × (kind ≢ Ahead → MeetsDemands demand (run_of p d ticks))
-MeetsAll kind demand p d ticks s = ⊤
+abbrev pub MeetsAll : GovernorKind → OwnDemand → Run → Status → Type 0
+MeetsAll kind demand r status.Done = MeetsDeadlines demand r × (kind ≢ Ahead → MeetsDemands demand r)
+MeetsAll kind demand r s = ⊤
 
--- the same, by the published demand of the governor's kind
-abbrev pub MeetsAllOf : GovernorKind → Plan → DemandsOf → ℕ → Status → Type 0
-MeetsAllOf kind p d ticks status.Done =
-    let dem = demand_of p d.rows in
-    IsMet p dem (schedule p kind dem ticks) × (kind ≢ Ahead → AlwaysMeets p kind dem ticks)
-MeetsAllOf kind p d ticks s = ⊤
+-- the demand of each job of a run
+abbrev pub job_demands : Run → JobDemands
+job_demands r = demands_of r.plan r.demands
 
--- the text of a run that was done tells each deadline
-abbrev pub TellsAllOf : GovernorKind → Plan → DemandsOf → ℕ → Status → Type 0
-TellsAllOf kind p d ticks status.Done = TellsDeadlines p ticks (run_text p kind (demand_of p d.rows) ticks)
-TellsAllOf kind p d ticks s = ⊤
+-- the ticks of its schedule, by the published demand of the governor's kind
+abbrev pub ticks_under : GovernorKind → Run → List Tick
+ticks_under kind r = schedule r.plan kind (job_demands r) r.ticks
 
--- a run that was done, of these tasks, was of an admitted plan; it met every deadline, its text tells each, and some entry
--- met each published demand unless it looks ahead
+-- the text of its trace
+abbrev pub text_under : GovernorKind → Run → List ℕ
+text_under kind r = run_text r.plan kind (job_demands r) r.ticks
+
+-- some entry of the table meets each published demand
+abbrev pub AlwaysMeetsIn : GovernorKind → Run → Type 0
+AlwaysMeetsIn kind r = AlwaysMeets r.plan kind (job_demands r) r.ticks
+
+-- a run that was done meets every deadline, by the published demand of the governor's kind, and every demand unless it
+-- looks ahead
+abbrev pub MeetsAllOf : GovernorKind → Run → Status → Type 0
+MeetsAllOf kind r status.Done =
+    IsMet r.plan (job_demands r) (ticks_under kind r) × (kind ≢ Ahead → AlwaysMeetsIn kind r)
+MeetsAllOf kind r s = ⊤
+
+-- what a run of an admitted plan has met
+pub record HasMet (kind : GovernorKind) (r : Run) : Type 0 where
+  -- the scheduler's stated test passes at the highest speed
+  pub admitted : PassesTest r.plan.scheduler r.plan
+  -- its ticks are the one schedule, in which each speed is the lowest entry that meets the published demand, else the
+  -- highest
+  pub schedule : IsTheSchedule r.plan kind (job_demands r) r.ticks (ticks_under kind r)
+  -- each job that is due within the run has had its demand by its deadline
+  pub deadlines : IsMet r.plan (job_demands r) (ticks_under kind r)
+  -- and of the text's lines exactly one tells its end, not after the deadline
+  pub told : TellsDeadlines r.plan r.ticks (text_under kind r)
+  -- some entry meets each published demand, unless the governor looks ahead
+  pub speeds : kind ≢ Ahead → AlwaysMeetsIn kind r
+  -- whatever demand is published, the plan has one schedule of each length
+  pub exists : HasSchedule r.plan
+  pub unique : HasNoOther r.plan
+
+-- a run that was done has met all that
+abbrev pub HasMetIfDone : GovernorKind → Run → Status → Type 0
+HasMetIfDone kind r status.Done = HasMet kind r
+HasMetIfDone kind r s = ⊤
+
+-- the run of a plan and demands that the words of a run ask for
+abbrev pub run_with : RunOf → Plan → DemandsOf → Run
+run_with r p d = record { plan = p; demands = d; ticks = r.ticks }
+
+-- a run that was done, of these tasks, was of the plan and the demands that were prepared
 abbrev pub MetBy : Option Files → RunOf → List Task → Status → Type 0
 MetBy told r tasks status.Done =
-    (p : Plan) × (d : DemandsOf) × Gives told (prepared_of r tasks) (p, d) × MeetsAllOf r.governor p d r.ticks status.Done × TellsAllOf r.governor p d r.ticks status.Done × PassesTest p.scheduler p × HasSchedule p × HasNoOther p
+    (p : Plan) × (d : DemandsOf) × Gives told (prepared_of r tasks) (p, d)
+    × HasMet r.governor (run_with r p d)
 MetBy told r tasks s = ⊤
 
+-- the same of a command
 abbrev pub MetByCommand : Option Files → CommandOf → List Task → Status → Type 0
 MetByCommand told (run r) tasks s = MetBy told r tasks s
 MetByCommand told (admit a) tasks s = ⊤
 
 -- the same of a command, with the tasks of its file
 abbrev pub MetIn : Option Files → CommandOf → Status → Type 0
-MetIn told (run r) status.Done = (tasks : List Task) × Gives told (tasks_at r.tasks) tasks × MetBy told r tasks status.Done
+MetIn told (run r) status.Done =
+    (tasks : List Task) × Gives told (tasks_at r.tasks) tasks × MetBy told r tasks status.Done
 MetIn told c s = ⊤

@@ -1,4 +1,5 @@
 pub mod Code
+pub mod Shown
 pub mod Words
 pub mod Asked
 pub mod Naming

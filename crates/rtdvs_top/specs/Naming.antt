@@ -17,11 +17,12 @@ abbrev pub name_text : Option (List ℕ) → List ℕ
 name_text None = []
 name_text (Some name) = name
 
--- the names of the tasks that a command's file gives
+-- the names of the tasks that a file gives
 abbrev pub names_from : Result (List Task) Status → List (List ℕ)
 names_from (Ok tasks) = names_of (Some tasks)
 names_from (Err s) = []
 
+-- the names of the tasks that a command's files give
 abbrev pub names_by : CommandOf → Files → List (List ℕ)
 names_by c files = names_from (tasks_at (tasks_name c) files)
 

@@ -1,66 +1,67 @@
 -- What the top call promises, clause by clause. The command is what the words are, and nothing where they are none.
-use Rattle.std.specs.Prelude.{◌≡◌, ◌≢◌, ℕ, ◌≤◌, List, [], length, Option, Some, None, Result, Ok, Err, IsOk, ⊤}
+use Rattle.std.specs.Prelude.{◌≡◌, ◌≢◌, ◌⊎◌, ℕ, ◌≤◌, List, [], length, map, string_bytes, String, Option, Some, None, Result, Ok, Err, IsOk, ⊤}
 use Rattle.std.specs.Io.KnownBytes.{Appends}
-use Rattle.dvs_base.specs.Outside.{Files, AppendsPrefix}
-use Rattle.dvs_base.specs.declared.kind.GovernorKind.TheVariants.{Ahead}
+use Rattle.std.specs.declared.alloc.Global.{Global}
+use Rattle.dvs_base.specs.Outside.{Files, ShelfView, SinkView, Rose, AppendsPrefix}
+use Rattle.dvs_base.specs.declared.kind.GovernorKind.{GovernorKind}
 use Rattle.task_model.specs.declared.task.Task.{Task}
 use Rattle.demand_list.specs.Demands.{DemandsOf}
 use Rattle.freq_table.specs.Tables.{Table}
 use Rattle.sched_model.specs.Plan.{Plan, plan_of}
 use Rattle.sched_model.specs.Admission.{PassesTest}
-use Rattle.sched_model.specs.Demands.{demand_of}
-use Rattle.sched_model.specs.Deadlines.{IsMet}
-use Rattle.sched_model.specs.Schedule.{schedule, HasSchedule, HasNoOther}
-use Rattle.sched_model.specs.Text.{run_text}
-use Rattle.done_lines.specs.DoneLines.{TellsDeadlines}
-use Rattle.rtdvs_top.specs.Words.{CommandOf, run}
-use Rattle.rtdvs_top.specs.Answer.{answer_of_command, prepared_of, tasks_at, machine_at, demands_at}
+use Rattle.sched_model.specs.Jobs.{released_jobs}
+use Rattle.event_kernel.specs.Runs.{Run, most_jobs}
+use Rattle.rtdvs_top.specs.Words.{RunOf, CommandOf, command_of, run}
+use Rattle.rtdvs_top.specs.Answer.{answer_of_command, prepared_of, admission, tasks_at, machine_at, demands_at}
 use Rattle.rtdvs_top.specs.Naming.{names_by}
 use Rattle.rtdvs_top.specs.Refusals.{status_text}
 use Rattle.rtdvs_top.specs.Causes.{LoadOf, PassesBefore, loads_of}
-use Rattle.rtdvs_top.specs.Ending.{AlwaysMeets}
+use Rattle.rtdvs_top.specs.Ending.{HasMet, run_with, text_under}
 use Rattle.rtdvs_top.specs.Writing.{NotedAs}
+use Rattle.rtdvs_top.specs.declared.status.Denied.{Denied}
 use Rattle.rtdvs_top.specs.declared.status.Status.{Status}
 use Rattle.rtdvs_top.specs.declared.status.Status.TheVariants as status
 
--- a status is the answer's, or one of those that memory and the outside explain; the answer of `Done` and `Write` has a text
-abbrev pub IsAnswer : Result (List ℕ) Status → Status → Type 0
-IsAnswer answer status.NoMemory = ⊤
-IsAnswer answer (status.Load kind) = ⊤
-IsAnswer answer status.Done = IsOk answer
-IsAnswer answer status.Write = IsOk answer
-IsAnswer answer s = answer ≡ Err s
+-- the command that the words are
+abbrev pub asked : List (String Global) → Option CommandOf
+asked words = command_of (map string_bytes words)
 
--- where the files are told, the status is that of the command's answer
-abbrev pub Answers : Option Files → Option CommandOf → Status → Type 0
-Answers None c s = ⊤
-Answers (Some files) None s = s ≡ status.Words
-Answers (Some files) (Some c) s = IsAnswer (answer_of_command c files) s
+-- The status is the answer's; or a load failed, and the shelf's count of faults rose; or a put failed, where the answer
+-- has a text, and the sink's count rose; or memory was wanting.
+abbrev pub IsAnswer : Type 0 → Type 0 → Result (List ℕ) Status → Status → Type 0
+IsAnswer loads_rose puts_rose answer status.NoMemory = ⊤
+IsAnswer loads_rose puts_rose answer (status.Load kind) = (answer ≡ Err (status.Load kind)) ⊎ loads_rose
+IsAnswer loads_rose puts_rose answer status.Done = IsOk answer
+IsAnswer loads_rose puts_rose answer status.Write = IsOk answer × puts_rose
+IsAnswer loads_rose puts_rose answer s = answer ≡ Err s
 
--- every status but `Done` and `Write` leaves a thing as it was
-abbrev pub Leaves : Status → Type 0 → Type 0
-Leaves status.Done same = ⊤
-Leaves status.Write same = ⊤
-Leaves s same = same
+-- where the files are told, the status is that of the command's answer, but for what the outside and memory explain
+abbrev pub Answers : Option Files → Option CommandOf → Type 0 → Type 0 → Status → Type 0
+Answers None c loads_rose puts_rose s = ⊤
+Answers (Some files) None loads_rose puts_rose s = s ≡ status.Words
+Answers (Some files) (Some c) loads_rose puts_rose s = IsAnswer loads_rose puts_rose (answer_of_command c files) s
 
--- where the files are told, the bytes grow by the whole answer, or by a first part of it
-abbrev pub Writes : Option Files → Option CommandOf → Option (List ℕ) → Option (List ℕ) → Type 0
-Writes (Some files) (Some c) old new = (text : List ℕ) × (answer_of_command c files ≡ Ok text) × Appends old new text
+-- where the files are told, the bytes grow by the whole answer
+abbrev pub Writes : Option Files → Option CommandOf → SinkView → SinkView → Type 0
+Writes (Some files) (Some c) old new =
+    (text : List ℕ) × (answer_of_command c files ≡ Ok text) × Appends old.written new.written text
 Writes _ _ old new = ⊤
 
-abbrev pub WritesPart : Option Files → Option CommandOf → Option (List ℕ) → Option (List ℕ) → Type 0
-WritesPart (Some files) (Some c) old new = (text : List ℕ) × (answer_of_command c files ≡ Ok text) × AppendsPrefix old new text
+-- where the files are told, the bytes grow by a first part of the answer
+abbrev pub WritesPart : Option Files → Option CommandOf → SinkView → SinkView → Type 0
+WritesPart (Some files) (Some c) old new =
+    (text : List ℕ) × (answer_of_command c files ≡ Ok text) × AppendsPrefix old.written new.written text
 WritesPart _ _ old new = ⊤
 
 -- the sink is sure of the whole answer
-abbrev pub IsSureOf : Option Files → Option CommandOf → ℕ → Type 0
-IsSureOf (Some files) (Some c) sure = (text : List ℕ) → answer_of_command c files ≡ Ok text → length text ≤ sure
-IsSureOf _ _ sure = ⊥
+abbrev pub IsSureOf : Option Files → Option CommandOf → SinkView → Type 0
+IsSureOf (Some files) (Some c) sink = (text : List ℕ) → answer_of_command c files ≡ Ok text → length text ≤ sink.sure
+IsSureOf _ _ sink = ⊥
 
 -- why a load failed
-abbrev pub LoadFailed : Option Files → Option CommandOf → ℕ → ℕ → ℕ → Status → Type 0
-LoadFailed told (Some c) before now sure s = LoadOf told c before now sure s
-LoadFailed told None before now sure s = ⊤
+abbrev pub LoadFailed : ShelfView → ShelfView → Option CommandOf → Status → Type 0
+LoadFailed old new (Some c) s = LoadOf old new c s
+LoadFailed old new None s = ⊤
 
 -- the files before a load that failed were read
 abbrev pub LoadsInOrder : Option Files → Option CommandOf → Status → Type 0
@@ -72,35 +73,53 @@ abbrev pub loads_asked : Option CommandOf → ℕ
 loads_asked (Some c) = loads_of c
 loads_asked None = 0
 
--- The headline, of a run whose files are told.
--- One that is done is of the tasks, the admitted plan and the demands that its files give. The scheduler's stated test
--- passes at the highest speed. What was written is the text of the one plain tick schedule, in which each speed is the
--- lowest entry that meets the governor's published demand, else the highest, and which has the energies of its segments
--- and their sums. Each job that is due within the run has had its demand by its deadline, and of the text's lines exactly
--- one tells its end, not after the deadline. Some entry meets each published demand, unless the governor looks ahead.
--- One that is denied is of the tasks, the machine and the demands that its files give, and the test fails for them.
-abbrev pub Headline : Option Files → Option CommandOf → Status → Option (List ℕ) → Option (List ℕ) → Type 0
-Headline (Some files) (Some (run r)) status.Done old new =
-    (tasks : List Task) × (p : Plan) × (d : DemandsOf)
-    × (tasks_at r.tasks files ≡ Ok tasks)
-    × (prepared_of r tasks files ≡ Ok (p, d))
-    × PassesTest p.scheduler p
-    × Appends old new (run_text p r.governor (demand_of p d.rows) r.ticks)
-    × IsMet p (demand_of p d.rows) (schedule p r.governor (demand_of p d.rows) r.ticks)
-    × TellsDeadlines p r.ticks (run_text p r.governor (demand_of p d.rows) r.ticks)
-    × (r.governor ≢ Ahead → AlwaysMeets p r.governor (demand_of p d.rows) r.ticks)
-    × HasSchedule p
-    × HasNoOther p
-Headline (Some files) (Some (run r)) (status.NotAdmitted why) old new =
-    (tasks : List Task) × (machine : Table) × (d : DemandsOf)
-    × (tasks_at r.tasks files ≡ Ok tasks)
-    × (machine_at r.machine files ≡ Ok machine)
-    × (demands_at tasks r.demands files ≡ Ok d)
-    × (PassesTest r.scheduler (plan_of tasks machine r.scheduler) → ⊥)
-Headline told c s old new = ⊤
+-- what the files of a run mean
+pub record Means (r : RunOf) (files : Files) (tasks : List Task) (machine : Table) (demands : DemandsOf) : Type 0 where
+  pub tasks_are : tasks_at r.tasks files ≡ Ok tasks
+  pub machine_is : machine_at r.machine files ≡ Ok machine
+  pub demands_are : demands_at tasks r.demands files ≡ Ok demands
+
+-- what holds of a run that is done: its text was written, and it has met all that an admitted plan meets
+pub record DoneRun (kind : GovernorKind) (r : Run) (old new : SinkView) : Type 0 where
+  pub text : Appends old.written new.written (text_under kind r)
+  pub run : HasMet kind r
+
+-- what holds of a plan that is denied: the two numbers are those of its scheduler's test, and the test fails
+pub record DeniedPlan (p : Plan) (why : Denied) : Type 0 where
+  pub numbers : admission p ≡ Err (status.NotAdmitted why)
+  pub fails : PassesTest p.scheduler p → ⊥
+
+-- The run of told files, without a premise. One that is done is of the tasks, the machine and the demands that its
+-- files mean, and so is one that is denied.
+abbrev pub OfRun : Option Files → Option CommandOf → SinkView → SinkView → Status → Type 0
+OfRun (Some files) (Some (run r)) old new status.Done =
+    (tasks : List Task) × (machine : Table) × (demands : DemandsOf) × Means r files tasks machine demands
+    × (prepared_of r tasks files ≡ Ok (plan_of tasks machine r.scheduler, demands))
+    × DoneRun r.governor (run_with r (plan_of tasks machine r.scheduler) demands) old new
+OfRun (Some files) (Some (run r)) old new (status.NotAdmitted why) =
+    (tasks : List Task) × (machine : Table) × (demands : DemandsOf) × Means r files tasks machine demands
+    × DeniedPlan (plan_of tasks machine r.scheduler) why
+OfRun told c old new s = ⊤
+
+-- a run of a plan is done, and then it has met all that; or the plan is denied, and then its scheduler's test fails
+abbrev pub RunsOrIsDenied : GovernorKind → Run → SinkView → SinkView → Status → Type 0
+RunsOrIsDenied kind r old new s =
+    ((s ≡ status.Done) × DoneRun kind r old new)
+    ⊎ ((why : Denied) × (s ≡ status.NotAdmitted why) × DeniedPlan r.plan why)
+
+-- The headline. The files of a run are told, and mean these tasks, this machine and these demands; the run releases no
+-- more jobs than the limit; no load and no put failed, and memory was found. Then the plan of these tasks, this machine
+-- and the words' scheduler runs with these demands, or it is denied.
+abbrev pub Headline : Option Files → Option CommandOf → Type 0 → SinkView → SinkView → Status → Type 0
+Headline (Some files) (Some (run r)) loads_rose old new s =
+    (tasks : List Task) (machine : Table) (demands : DemandsOf) → Means r files tasks machine demands
+    → released_jobs (plan_of tasks machine r.scheduler) r.ticks ≤ most_jobs
+    → (loads_rose → ⊥) → (Rose old.faults new.faults → ⊥) → s ≢ status.NoMemory
+    → RunsOrIsDenied r.governor (run_with r (plan_of tasks machine r.scheduler) demands) old new s
+Headline told c loads_rose old new s = ⊤
 
 -- the line of a status is noted, whole or in part, with the names of the command's tasks
-abbrev pub Notes : Option Files → Option CommandOf → Status → Option (List ℕ) → Option (List ℕ) → ℕ → ℕ → ℕ → ℕ → Type 0
-Notes (Some files) (Some c) s old new faults_old faults_new sure_old sure_new = NotedAs old new faults_old faults_new sure_old sure_new (status_text (names_by c files) s)
-Notes told None s old new faults_old faults_new sure_old sure_new = NotedAs old new faults_old faults_new sure_old sure_new (status_text [] s)
-Notes None (Some c) s old new faults_old faults_new sure_old sure_new = (names : List (List ℕ)) × NotedAs old new faults_old faults_new sure_old sure_new (status_text names s)
+abbrev pub Notes : Option Files → Option CommandOf → Status → SinkView → SinkView → Type 0
+Notes (Some files) (Some c) s old new = NotedAs old new (status_text (names_by c files) s)
+Notes told None s old new = NotedAs old new (status_text [] s)
+Notes None (Some c) s old new = (names : List (List ℕ)) × NotedAs old new (status_text names s)

@@ -24,11 +24,13 @@ use Rattle.rtdvs_top.specs.declared.status.Denied.TheVariants as denied
 use Rattle.rtdvs_top.specs.declared.status.Status.{Status}
 use Rattle.rtdvs_top.specs.declared.status.Status.TheVariants as status
 
+-- the word of a file
 abbrev pub file_word : FileKind → List ℕ
 file_word file.Tasks = codes "tasks"
 file_word file.Machine = codes "machine"
 file_word file.Demands = codes "demands"
 
+-- the word of a task file's field
 abbrev pub task_field_word : Field → List ℕ
 task_field_word task_field.Task = codes "task"
 task_field_word task_field.Entry = codes "entry"
@@ -37,6 +39,7 @@ task_field_word task_field.Period = codes "period"
 task_field_word task_field.Worst = codes "worst"
 task_field_word task_field.Offset = codes "offset"
 
+-- the word of a machine file's field
 abbrev pub machine_field_word : MachineField → List ℕ
 machine_field_word machine_field.Idle = codes "idle"
 machine_field_word machine_field.Charge = codes "charge"
@@ -45,6 +48,7 @@ machine_field_word machine_field.Entry = codes "entry"
 machine_field_word machine_field.Speed = codes "speed"
 machine_field_word machine_field.Millivolts = codes "millivolts"
 
+-- the word of a demand file's column
 abbrev pub column_word : Column → List ℕ
 column_word column.Job = codes "job"
 column_word column.Units = codes "units"
@@ -56,57 +60,87 @@ at_place of_document of_entry place what which =
     then joined (of_document ∷ what ∷ which ∷ codes "\n" ∷ [])
     else joined (of_entry ∷ decimal place ∷ codes ": " ∷ what ∷ which ∷ codes "\n" ∷ [])
 
+-- the same of a task file
+abbrev pub at_task : ℕ → List ℕ → List ℕ → List ℕ
+at_task place what which = at_place (codes "tasks: ") (codes "tasks: task ") place what which
+
+-- the same of a machine file
+abbrev pub at_point : ℕ → List ℕ → List ℕ → List ℕ
+at_point place what which = at_place (codes "machine: ") (codes "machine: point ") place what which
+
+-- the line of a task file's refusal
 abbrev pub task_fault_text : TaskFault → List ℕ
 task_fault_text task_fault.NotToml = codes "tasks: not TOML\n"
-task_fault_text (task_fault.UnknownKey place key) = at_place (codes "tasks: ") (codes "tasks: task ") place (codes "unknown key ") key
+task_fault_text (task_fault.UnknownKey place key) = at_task place (codes "unknown key ") key
 task_fault_text task_fault.NoTasks = codes "tasks: no tasks\n"
-task_fault_text (task_fault.TooMany count) = joined (codes "tasks: " ∷ decimal count ∷ codes " tasks, at most 64\n" ∷ [])
-task_fault_text (task_fault.Missing place field) = at_place (codes "tasks: ") (codes "tasks: task ") place (codes "missing ") (task_field_word field)
-task_fault_text (task_fault.Kind place field) = at_place (codes "tasks: ") (codes "tasks: task ") place (codes "wrong kind of ") (task_field_word field)
-task_fault_text (task_fault.Range place field) = at_place (codes "tasks: ") (codes "tasks: task ") place (task_field_word field) (codes " out of range")
+task_fault_text (task_fault.TooMany count) =
+    joined (codes "tasks: " ∷ decimal count ∷ codes " tasks, at most 64\n" ∷ [])
+task_fault_text (task_fault.Missing place field) = at_task place (codes "missing ") (task_field_word field)
+task_fault_text (task_fault.Kind place field) = at_task place (codes "wrong kind of ") (task_field_word field)
+task_fault_text (task_fault.Range place field) = at_task place (task_field_word field) (codes " out of range")
 task_fault_text (task_fault.BadName place) = joined (codes "tasks: task " ∷ decimal place ∷ codes ": bad name\n" ∷ [])
-task_fault_text (task_fault.SameName first second) = joined (codes "tasks: tasks " ∷ decimal first ∷ codes " and " ∷ decimal second ∷ codes " have one name\n" ∷ [])
+task_fault_text (task_fault.SameName first second) =
+    joined (codes "tasks: tasks " ∷ decimal first ∷ codes " and " ∷ decimal second ∷ codes " have one name\n" ∷ [])
 task_fault_text task_fault.Hyper = codes "tasks: periods have no common multiple up to 281474976710656\n"
 task_fault_text task_fault.NoMemory = codes "no memory\n"
 
+-- the line of a machine file's refusal
 abbrev pub machine_fault_text : MachineFault → List ℕ
 machine_fault_text machine_fault.NotToml = codes "machine: not TOML\n"
-machine_fault_text (machine_fault.UnknownKey place key) = at_place (codes "machine: ") (codes "machine: point ") place (codes "unknown key ") key
+machine_fault_text (machine_fault.UnknownKey place key) = at_point place (codes "unknown key ") key
 machine_fault_text machine_fault.NoPoints = codes "machine: no points\n"
-machine_fault_text (machine_fault.TooMany count) = joined (codes "machine: " ∷ decimal count ∷ codes " points, at most 32\n" ∷ [])
-machine_fault_text (machine_fault.Missing place field) = at_place (codes "machine: ") (codes "machine: point ") place (codes "missing ") (machine_field_word field)
-machine_fault_text (machine_fault.Kind place field) = at_place (codes "machine: ") (codes "machine: point ") place (codes "wrong kind of ") (machine_field_word field)
-machine_fault_text (machine_fault.Range place field) = at_place (codes "machine: ") (codes "machine: point ") place (machine_field_word field) (codes " out of range")
-machine_fault_text (machine_fault.NotRising place) = joined (codes "machine: point " ∷ decimal place ∷ codes ": not rising\n" ∷ [])
+machine_fault_text (machine_fault.TooMany count) =
+    joined (codes "machine: " ∷ decimal count ∷ codes " points, at most 32\n" ∷ [])
+machine_fault_text (machine_fault.Missing place field) = at_point place (codes "missing ") (machine_field_word field)
+machine_fault_text (machine_fault.Kind place field) = at_point place (codes "wrong kind of ") (machine_field_word field)
+machine_fault_text (machine_fault.Range place field) = at_point place (machine_field_word field) (codes " out of range")
+machine_fault_text (machine_fault.NotRising place) =
+    joined (codes "machine: point " ∷ decimal place ∷ codes ": not rising\n" ∷ [])
 machine_fault_text machine_fault.NoMemory = codes "no memory\n"
 
 -- a refusal of a row
 abbrev pub at_row : ℕ → List (List ℕ) → List ℕ
 at_row row texts = joined (codes "demands: row " ∷ decimal row ∷ codes ": " ∷ texts)
 
-abbrev pub over_worst_text : List (List ℕ) → ℕ → ℕ → ℕ → ℕ → List ℕ
-over_worst_text names task job units worst =
-    joined (codes "over worst: " ∷ name_of names task ∷ codes " " ∷ decimal job ∷ codes " " ∷ decimal units ∷ codes " " ∷ decimal worst ∷ codes "\n" ∷ [])
+-- the line of a demand over its worst case: the task's name, the job, its units and the declared worst case
+abbrev pub over_worst_of : List ℕ → ℕ → ℕ → ℕ → List ℕ
+over_worst_of name job units worst =
+    joined (
+    codes "over worst: " ∷ name ∷ codes " " ∷ decimal job ∷ codes " " ∷ decimal units
+    ∷ codes " " ∷ decimal worst ∷ codes "\n" ∷ [])
 
+-- the line of a job that has two rows
+abbrev pub repeated_text : ℕ → List ℕ → ℕ → List ℕ
+repeated_text row name job =
+    at_row row (codes "task " ∷ name ∷ codes " job " ∷ decimal job ∷ codes " stands twice\n" ∷ [])
+
+-- the line of a demand file's refusal, with the tasks' names
 abbrev pub demand_fault_text : List (List ℕ) → DemandFault → List ℕ
 demand_fault_text names demand_fault.Header = codes "demands: wrong header\n"
 demand_fault_text names (demand_fault.Fields row count) = at_row row (decimal count ∷ codes " fields\n" ∷ [])
-demand_fault_text names (demand_fault.UnknownTask row word) = at_row row (codes "unknown task " ∷ word ∷ codes "\n" ∷ [])
+demand_fault_text names (demand_fault.UnknownTask row word) =
+    at_row row (codes "unknown task " ∷ word ∷ codes "\n" ∷ [])
 demand_fault_text names (demand_fault.BadNumber row at) = at_row row (codes "bad " ∷ column_word at ∷ codes "\n" ∷ [])
 demand_fault_text names (demand_fault.JobZero row) = at_row row (codes "job 0\n" ∷ [])
-demand_fault_text names (demand_fault.Repeated row task job) = at_row row (codes "task " ∷ name_of names task ∷ codes " job " ∷ decimal job ∷ codes " stands twice\n" ∷ [])
-demand_fault_text names (demand_fault.OverWorst task job units worst) = over_worst_text names task job units worst
+demand_fault_text names (demand_fault.Repeated row task job) = repeated_text row (name_of names task) job
+demand_fault_text names (demand_fault.OverWorst task job units worst) =
+    over_worst_of (name_of names task) job units worst
 demand_fault_text names demand_fault.NoMemory = codes "no memory\n"
 
+-- the line of a refused file
 abbrev pub text_fault_text : List (List ℕ) → TextFault → List ℕ
 text_fault_text names (text.TooLong kind) = joined (file_word kind ∷ codes ": too long\n" ∷ [])
 text_fault_text names (text.Tasks why) = task_fault_text why
 text_fault_text names (text.Machine why) = machine_fault_text why
 text_fault_text names (text.Demands why) = demand_fault_text names why
 
+-- the line of a denial
 abbrev pub denied_text : List (List ℕ) → Denied → List ℕ
-denied_text names (denied.Edf num cap) = joined (codes "denied edf " ∷ decimal num ∷ codes " " ∷ decimal cap ∷ codes "\n" ∷ [])
-denied_text names (denied.Rm task num cap) = joined (codes "denied rm " ∷ name_of names task ∷ codes " " ∷ decimal num ∷ codes " " ∷ decimal cap ∷ codes "\n" ∷ [])
+denied_text names (denied.Edf num cap) =
+    joined (codes "denied edf " ∷ decimal num ∷ codes " " ∷ decimal cap ∷ codes "\n" ∷ [])
+denied_text names (denied.Rm task num cap) =
+    joined (
+    codes "denied rm " ∷ name_of names task ∷ codes " " ∷ decimal num ∷ codes " " ∷ decimal cap ∷ codes "\n" ∷ [])
 
 -- the line of a status; `Done` has none
 abbrev pub status_text : List (List ℕ) → Status → List ℕ
@@ -116,6 +150,6 @@ status_text names status.Words = codes "words: refused\n"
 status_text names (status.Load kind) = joined (codes "load: " ∷ file_word kind ∷ codes "\n" ∷ [])
 status_text names (status.Text why) = text_fault_text names why
 status_text names (status.Limit jobs) = joined (codes "limit: " ∷ decimal jobs ∷ codes " jobs, at most 100000\n" ∷ [])
-status_text names (status.OverWorst task job units worst) = over_worst_text names task job units worst
+status_text names (status.OverWorst task job units worst) = over_worst_of (name_of names task) job units worst
 status_text names status.Write = codes "write: out failed\n"
 status_text names status.NoMemory = codes "no memory\n"

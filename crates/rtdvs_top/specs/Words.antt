@@ -2,6 +2,7 @@
 use Rattle.std.specs.Prelude.{◌≡◌, ℕ, Bool, true, false, ◌^◌, ◌==◌, ◌&&◌, List, [], ◌∷◌, length, nat_le, codes, Option, Some, None, option_map, if◌then◌else◌}
 use Rattle.std.specs.Str.{bytes_eq}
 use Rattle.dvs_base.specs.Text.{number_below}
+use Rattle.trace_text.specs.Words.{is_pair}
 use Rattle.dvs_base.specs.declared.kind.Scheduler.{Scheduler}
 use Rattle.dvs_base.specs.declared.kind.Scheduler.TheVariants.{Edf, Rm}
 use Rattle.dvs_base.specs.declared.kind.GovernorKind.{GovernorKind}
@@ -41,29 +42,19 @@ value_after option _ = None
 abbrev pub file_name : List ℕ → Option (List ℕ)
 file_name name = if length name == 0 then None else Some name
 
+-- the scheduler of a word
 abbrev pub scheduler_of : List ℕ → Option Scheduler
-scheduler_of word = if bytes_eq word (codes "edf") then Some Edf else (if bytes_eq word (codes "rm") then Some Rm else None)
+scheduler_of word =
+    if bytes_eq word (codes "edf") then Some Edf
+    else (if bytes_eq word (codes "rm") then Some Rm else None)
 
+-- the governor of a word
 abbrev pub governor_of : List ℕ → Option GovernorKind
 governor_of word =
     if bytes_eq word (codes "none") then Some Plain
     else (if bytes_eq word (codes "static") then Some Fixed
     else (if bytes_eq word (codes "cc") then Some Cycle
     else (if bytes_eq word (codes "la") then Some Ahead else None)))
-
--- the seven pairs of a scheduler and a governor: look-ahead stands under EDF alone
-abbrev pub is_pair : Scheduler → GovernorKind → Bool
-is_pair Edf Plain = true
-is_pair Edf Fixed = true
-is_pair Edf Cycle = true
-is_pair Edf Ahead = true
-is_pair Rm Plain = true
-is_pair Rm Fixed = true
-is_pair Rm Cycle = true
-is_pair Rm Ahead = false
-
-abbrev pub IsPair : Scheduler → GovernorKind → Type 0
-IsPair scheduler governor = is_pair scheduler governor ≡ true
 
 -- a governor that makes a pair with the scheduler
 abbrev pub paired : Scheduler → GovernorKind → Option GovernorKind
@@ -74,13 +65,15 @@ abbrev pub ticks_from : Option ℕ → Option ℕ
 ticks_from None = None
 ticks_from (Some n) = if nat_le 1 n && nat_le n (2 ^ 40) then Some n else None
 
+-- the number of ticks that a word is
 abbrev pub ticks_of : List ℕ → Option ℕ
 ticks_of word = ticks_from (number_below (2 ^ 64) word)
 
 -- the file of demands, where one is named, and nothing after it
 abbrev pub demands_of_words : List (List ℕ) → Option (Option (List ℕ))
 demands_of_words [] = Some None
-demands_of_words (key ∷ value ∷ []) = if bytes_eq key (codes "--demands") then option_map Some (file_name value) else None
+demands_of_words (key ∷ value ∷ []) =
+    if bytes_eq key (codes "--demands") then option_map Some (file_name value) else None
 demands_of_words _ = None
 
 -- no word is left
@@ -103,7 +96,14 @@ run_of_options words =
     then_some (value_after (codes "--ticks") g.1) (λ n.
     then_some (ticks_of n.0) (λ ticks.
     then_some (demands_of_words n.1) (λ demands.
-    Some (record { tasks = tasks; machine = machine; scheduler = scheduler; governor = governor; ticks = ticks; demands = demands })))))))))))))
+    Some (record {
+      tasks = tasks;
+      machine = machine;
+      scheduler = scheduler;
+      governor = governor;
+      ticks = ticks;
+      demands = demands;
+    })))))))))))))
 
 -- the options of an admission, in their order
 abbrev pub admit_of_options : List (List ℕ) → Option AdmitOf

@@ -1,8 +1,8 @@
 // The files that the words name: loaded, and read.
-ghost use Rattle.std.specs.Prelude.{◌≡◌, ◌+◌, ◌≤◌, Ok, Err, Some, None, map, option_map, IfOk, IfErr};
-ghost use Rattle.dvs_base.specs.Outside.{Lacks, Rose};
-ghost use Rattle.rtdvs_top.specs.Answer.{bytes_at, tasks_at, machine_at, demands_at, task_status, machine_status, demand_status, tasks_from, machine_from, demands_from};
-ghost use Rattle.rtdvs_top.specs.Causes.{Gives, Refuses, LoadExplained, NamedLoadExplained, IsLoadOf, loads_named};
+ghost use Rattle.std.specs.Prelude.{◌≡◌, Some, map, option_map, IfOk, IfErr};
+ghost use Rattle.rtdvs_top.specs.Answer.{bytes_at, tasks_at, machine_at, demands_at, task_status, machine_status, demand_status};
+ghost use Rattle.rtdvs_top.specs.Causes.{Gives, Refuses, MakesLoads, IsLoadOf, IsNamedLoadOf, loads_named};
+ghost use Rattle.rtdvs_top.specs.Shown.{IsShown};
 
 use crate::{FileKind, Status, TextFault};
 use demand_list::{DemandFault, Demands, worst_list};
@@ -20,13 +20,11 @@ fn load_file<S: Shelf>(
     name: &str,
     shelf: &mut S,
 ) -> Result<Vec<u8>, Status>
-    ensures read { IfOk result (λ v. Gives (S.held shelf.old) (bytes_at file name.now) v.items) }
-    ensures refused { IfErr result (Refuses (S.held shelf.old) (bytes_at file name.now)) }
-    ensures explained { IfErr result (IsLoadOf file (LoadExplained (S.held shelf.old) name.now 1 (S.faults shelf.old) (S.faults shelf.new) (S.sure shelf.old))) }
-    ensures held { S.held shelf.new ≡ S.held shelf.old }
-    ensures later { S.faults shelf.old ≤ S.faults shelf.new }
-    ensures steady { 1 ≤ S.sure shelf.old → S.faults shelf.new ≡ S.faults shelf.old }
-    ensures surety { S.sure shelf.old ≤ S.sure shelf.new + 1 }
+    ensures read { IfOk result (λ v. Gives (S.shows shelf.old).held (bytes_at file name.now) v.items) }
+    ensures refused { IfErr result (Refuses (S.shows shelf.old).held (bytes_at file name.now)) }
+    ensures explained { IfErr result (IsLoadOf (S.shows shelf.old) (S.shows shelf.new) file name.now) }
+    ensures loads { MakesLoads 1 (S.shows shelf.old) (S.shows shelf.new) }
+    ensures shown { IfErr result IsShown }
 {
     let bytes = match shelf.load(alloc, name, LONGEST) {
         Ok(bytes) => bytes,
@@ -42,7 +40,8 @@ fn load_file<S: Shelf>(
 
 // A refusal of a task file as a status.
 fn task_status(why: TaskFault) -> Status
-    ensures { result ≡ task_status why }
+    ensures is { result ≡ task_status why }
+    ensures shown { IsShown result }
 {
     match why {
         TaskFault::NoMemory => Status::NoMemory,
@@ -52,7 +51,8 @@ fn task_status(why: TaskFault) -> Status
 
 // A refusal of a machine file as a status.
 fn machine_status(why: MachineFault) -> Status
-    ensures { result ≡ machine_status why }
+    ensures is { result ≡ machine_status why }
+    ensures shown { IsShown result }
 {
     match why {
         MachineFault::NoMemory => Status::NoMemory,
@@ -87,13 +87,11 @@ pub(crate) fn load_tasks<S: Shelf>(
     name: &str,
     shelf: &mut S,
 ) -> Result<TaskSet, Status>
-    ensures read { IfOk result (Gives (S.held shelf.old) (tasks_at name.now)) }
-    ensures refused { IfErr result (Refuses (S.held shelf.old) (tasks_at name.now)) }
-    ensures explained { IfErr result (IsLoadOf FileKind.Tasks (LoadExplained (S.held shelf.old) name.now 1 (S.faults shelf.old) (S.faults shelf.new) (S.sure shelf.old))) }
-    ensures held { S.held shelf.new ≡ S.held shelf.old }
-    ensures later { S.faults shelf.old ≤ S.faults shelf.new }
-    ensures steady { 1 ≤ S.sure shelf.old → S.faults shelf.new ≡ S.faults shelf.old }
-    ensures surety { S.sure shelf.old ≤ S.sure shelf.new + 1 }
+    ensures read { IfOk result (Gives (S.shows shelf.old).held (tasks_at name.now)) }
+    ensures refused { IfErr result (Refuses (S.shows shelf.old).held (tasks_at name.now)) }
+    ensures explained { IfErr result (IsLoadOf (S.shows shelf.old) (S.shows shelf.new) FileKind.Tasks name.now) }
+    ensures loads { MakesLoads 1 (S.shows shelf.old) (S.shows shelf.new) }
+    ensures shown { IfErr result IsShown }
 {
     let bytes = load_file(alloc, FileKind::Tasks, name, shelf)?;
     match TaskSet::read(alloc, &bytes) {
@@ -108,13 +106,11 @@ pub(crate) fn load_machine<S: Shelf>(
     name: &str,
     shelf: &mut S,
 ) -> Result<Machine, Status>
-    ensures read { IfOk result (Gives (S.held shelf.old) (machine_at name.now)) }
-    ensures refused { IfErr result (Refuses (S.held shelf.old) (machine_at name.now)) }
-    ensures explained { IfErr result (IsLoadOf FileKind.Machine (LoadExplained (S.held shelf.old) name.now 1 (S.faults shelf.old) (S.faults shelf.new) (S.sure shelf.old))) }
-    ensures held { S.held shelf.new ≡ S.held shelf.old }
-    ensures later { S.faults shelf.old ≤ S.faults shelf.new }
-    ensures steady { 1 ≤ S.sure shelf.old → S.faults shelf.new ≡ S.faults shelf.old }
-    ensures surety { S.sure shelf.old ≤ S.sure shelf.new + 1 }
+    ensures read { IfOk result (Gives (S.shows shelf.old).held (machine_at name.now)) }
+    ensures refused { IfErr result (Refuses (S.shows shelf.old).held (machine_at name.now)) }
+    ensures explained { IfErr result (IsLoadOf (S.shows shelf.old) (S.shows shelf.new) FileKind.Machine name.now) }
+    ensures loads { MakesLoads 1 (S.shows shelf.old) (S.shows shelf.new) }
+    ensures shown { IfErr result IsShown }
 {
     let bytes = load_file(alloc, FileKind::Machine, name, shelf)?;
     match Machine::read(alloc, &bytes) {
@@ -130,14 +126,12 @@ fn load_named_demands<S: Shelf>(
     tasks: &TaskSet,
     shelf: &mut S,
 ) -> Result<Demands, Status>
-    ensures read { IfOk result (Gives (S.held shelf.old) (demands_at tasks.now (Some name.now))) }
+    ensures read { IfOk result (Gives (S.shows shelf.old).held (demands_at tasks.now (Some name.now))) }
     ensures worsts { IfOk result (λ d. d.worsts ≡ map (λ t. t.worst) tasks.now) }
-    ensures refused { IfErr result (Refuses (S.held shelf.old) (demands_at tasks.now (Some name.now))) }
-    ensures explained { IfErr result (IsLoadOf FileKind.Demands (LoadExplained (S.held shelf.old) name.now 1 (S.faults shelf.old) (S.faults shelf.new) (S.sure shelf.old))) }
-    ensures held { S.held shelf.new ≡ S.held shelf.old }
-    ensures later { S.faults shelf.old ≤ S.faults shelf.new }
-    ensures steady { 1 ≤ S.sure shelf.old → S.faults shelf.new ≡ S.faults shelf.old }
-    ensures surety { S.sure shelf.old ≤ S.sure shelf.new + 1 }
+    ensures refused { IfErr result (Refuses (S.shows shelf.old).held (demands_at tasks.now (Some name.now))) }
+    ensures explained { IfErr result (IsLoadOf (S.shows shelf.old) (S.shows shelf.new) FileKind.Demands name.now) }
+    ensures loads { MakesLoads 1 (S.shows shelf.old) (S.shows shelf.new) }
+    ensures shown { IfErr result IsShown }
 {
     let bytes = load_file(alloc, FileKind::Demands, name, shelf)?;
     match Demands::read(alloc, &bytes, tasks) {
@@ -153,14 +147,16 @@ pub(crate) fn load_demands<S: Shelf>(
     tasks: &TaskSet,
     shelf: &mut S,
 ) -> Result<Demands, Status>
-    ensures read { IfOk result (Gives (S.held shelf.old) (demands_at tasks.now (option_map (λ s. s.now) name.entry))) }
+    ensures read { IfOk result
+        (Gives (S.shows shelf.old).held (demands_at tasks.now (option_map (λ s. s.now) name.entry))) }
     ensures worsts { IfOk result (λ d. d.worsts ≡ map (λ t. t.worst) tasks.now) }
-    ensures refused { IfErr result (Refuses (S.held shelf.old) (demands_at tasks.now (option_map (λ s. s.now) name.entry))) }
-    ensures explained { IfErr result (IsLoadOf FileKind.Demands (NamedLoadExplained (S.held shelf.old) (option_map (λ s. s.now) name.entry) 1 (S.faults shelf.old) (S.faults shelf.new) (S.sure shelf.old))) }
-    ensures held { S.held shelf.new ≡ S.held shelf.old }
-    ensures later { S.faults shelf.old ≤ S.faults shelf.new }
-    ensures steady { loads_named (option_map (λ s. s.now) name.entry) ≤ S.sure shelf.old → S.faults shelf.new ≡ S.faults shelf.old }
-    ensures surety { S.sure shelf.old ≤ S.sure shelf.new + 1 }
+    ensures refused { IfErr result
+        (Refuses (S.shows shelf.old).held (demands_at tasks.now (option_map (λ s. s.now) name.entry))) }
+    ensures explained { IfErr result (IsNamedLoadOf (S.shows shelf.old) (S.shows shelf.new) FileKind.Demands
+        (option_map (λ s. s.now) name.entry)) }
+    ensures loads { MakesLoads (loads_named (option_map (λ s. s.now) name.entry))
+        (S.shows shelf.old) (S.shows shelf.new) }
+    ensures shown { IfErr result IsShown }
 {
     match name {
         Some(name) => load_named_demands(alloc, name, tasks, shelf),

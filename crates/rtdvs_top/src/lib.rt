@@ -1,7 +1,8 @@
 //! All that the program does: the words are read, files loaded and read, a task set admitted, and its run written.
 //!
-//! Callers may rely on `rtdvs` to answer exactly what `specs/Answer.antt` says for the words and the files, to write it
-//! line by line, and to say of each refusal why it came; and on every deadline of a run that it writes.
+//! Callers may rely on `rtdvs` to answer exactly what `specs/Answer.antt` says for the words and the files, to say of
+//! each refusal why it came, and on every deadline of a run that it writes. That it puts line by line is tested, not
+//! proved.
 #![tactic(auto)]
 
 mod files;

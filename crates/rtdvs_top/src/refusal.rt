@@ -3,7 +3,7 @@ ghost use Rattle.std.specs.Prelude.{◌≡◌, ◌+◌, ◌≤◌, ◌<◌, [], 
 ghost use Rattle.std.specs.Fmt.{decimal};
 ghost use Rattle.dvs_base.specs.Parts.{joined, part_text, most_bytes};
 ghost use Rattle.trace_text.specs.TraceLines.{name_of};
-ghost use Rattle.rtdvs_top.specs.Refusals.{file_word, task_field_word, machine_field_word, column_word, at_place, at_row, task_fault_text, machine_fault_text, demand_fault_text, over_worst_text, text_fault_text, denied_text, status_text};
+ghost use Rattle.rtdvs_top.specs.Refusals.{file_word, task_field_word, machine_field_word, column_word, at_place, at_task, at_point, at_row, repeated_text, task_fault_text, machine_fault_text, demand_fault_text, over_worst_of, text_fault_text, denied_text, status_text};
 ghost use Rattle.std.specs.Option.{option_copied};
 ghost use Rattle.rtdvs_top.specs.Naming.{names_of, name_text};
 
@@ -89,7 +89,7 @@ fn line_at<'a>(
 fn task_line<'a>(place: u32, what: Part<'a>, which: Part<'a>) -> Line
     requires what { most_bytes what ≤ 40 }
     requires which { most_bytes which ≤ 40 }
-    ensures { result ≡ at_place (codes "tasks: ") (codes "tasks: task ") place (part_text what.entry) (part_text which.entry) }
+    ensures { result ≡ at_task place (part_text what.entry) (part_text which.entry) }
 {
     line_at(b"tasks: ", b"tasks: task ", place, what, which)
 }
@@ -97,7 +97,7 @@ fn task_line<'a>(place: u32, what: Part<'a>, which: Part<'a>) -> Line
 fn point_line<'a>(place: u32, what: Part<'a>, which: Part<'a>) -> Line
     requires what { most_bytes what ≤ 40 }
     requires which { most_bytes which ≤ 40 }
-    ensures { result ≡ at_place (codes "machine: ") (codes "machine: point ") place (part_text what.entry) (part_text which.entry) }
+    ensures { result ≡ at_point place (part_text what.entry) (part_text which.entry) }
 {
     line_at(b"machine: ", b"machine: point ", place, what, which)
 }
@@ -213,7 +213,7 @@ fn name_part(name: &Option<Name>) -> Part<'_>
 }
 
 fn over_worst_line(name: &Option<Name>, job: u64, units: u64, worst: u64) -> Line
-    ensures { result ≡ joined (codes "over worst: " ∷ name_text name.now ∷ codes " " ∷ decimal job ∷ codes " " ∷ decimal units ∷ codes " " ∷ decimal worst ∷ codes "\n" ∷ []) }
+    ensures { result ≡ over_worst_of (name_text name.now) job units worst }
 {
     line_of(&[
         Part::Word(b"over worst: "),
@@ -229,7 +229,7 @@ fn over_worst_line(name: &Option<Name>, job: u64, units: u64, worst: u64) -> Lin
 }
 
 fn repeated_line(row: u64, name: &Option<Name>, job: u64) -> Line
-    ensures { result ≡ at_row row (codes "task " ∷ name_text name.now ∷ codes " job " ∷ decimal job ∷ codes " stands twice\n" ∷ []) }
+    ensures { result ≡ repeated_text row (name_text name.now) job }
 {
     line_of(&[
         Part::Word(b"demands: row "),

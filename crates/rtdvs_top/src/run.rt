@@ -1,18 +1,18 @@
 // Admission, and the run of an admitted plan.
-ghost use Rattle.std.specs.Prelude.{◌≡◌, ◌≢◌, ◌≤◌, ◌^◌, Ok, Err, IfOk, IfErr, OnOk, OnErr, flat_map, ◌<◌, length};
-ghost use Rattle.sched_model.specs.StaticDemand.{static_demand};
-ghost use Rattle.sched_model.specs.Plan.{plan_of};
-ghost use Rattle.sched_model.specs.Admission.{PassesTest};
-ghost use Rattle.sched_model.specs.States.{opening};
-ghost use Rattle.sched_model.specs.Schedule.{HasSchedule, HasNoOther};
-ghost use Rattle.sched_model.specs.Text.{trace_text};
+ghost use Rattle.std.specs.Prelude.{◌≡◌, ◌≢◌, ◌≤◌, ◌<◌, ◌^◌, length, flat_map, Ok, IfOk, IfErr, OnOk};
 ghost use Rattle.trace_text.specs.TraceLines.{note_text};
-ghost use Rattle.event_kernel.specs.Runs.{IsListOf, notes_of_run, MeetsDeadlines, MeetsDemands};
-ghost use Rattle.rtdvs_top.specs.Answer.{admission, answer_of_plan, admitted_text};
+ghost use Rattle.sched_model.specs.Plan.{plan_of};
+ghost use Rattle.sched_model.specs.StaticDemand.{static_demand};
+ghost use Rattle.sched_model.specs.States.{opening};
+ghost use Rattle.sched_model.specs.Text.{trace_text};
+ghost use Rattle.event_kernel.specs.Runs.{notes_of_run, MeetsDeadlines, MeetsDemands};
+ghost use Rattle.rtdvs_top.specs.Answer.{admission, answer_of_run, admitted_text};
+ghost use Rattle.rtdvs_top.specs.Asked.{planned, IsRunnable};
 ghost use Rattle.rtdvs_top.specs.Causes.{EndsWith, IsNoLoad};
-ghost use Rattle.rtdvs_top.specs.Ending.{Ended, governed_answer, MeetsAll, MeetsAllOf, TellsAllOf};
-ghost use Rattle.rtdvs_top.specs.Words.{IsPair};
-ghost use Rattle.rtdvs_top.specs.Writing.{Wrote, WroteSome};
+ghost use Rattle.rtdvs_top.specs.Ending.{Ends, Leaves, governed_answer, MeetsAll, MeetsAllOf, HasMetIfDone};
+ghost use Rattle.rtdvs_top.specs.Shown.{IsShown};
+ghost use Rattle.trace_text.specs.Words.{IsPair};
+ghost use Rattle.rtdvs_top.specs.Writing.{Writing};
 
 use crate::writer::{TraceWriter, put_head, put_line};
 use crate::{Denied, Status};
@@ -20,11 +20,11 @@ use cc_edf::CcEdf;
 use cc_rm::CcRm;
 use demand_list::Demands;
 use done_lines::told_deadlines;
-use dvs_base::{Failed, GovernorKind, Line, Name, Part, Scheduler, Sink, line_of};
+use dvs_base::{Failed, GovernorKind, Line, Name, NoMemory, Part, Scheduler, Sink, line_of};
 use edf_admit::{EdfFault, edf_admit};
 use event_kernel::{Kernel, KernelFault, Stopped};
 use freq_table::Machine;
-use governor::Governor;
+use governor::{Governor, Publishing};
 use look_ahead::LookAhead;
 use rm_admit::{RmFault, rm_admit};
 use sched_model::{Admitted, one_schedule};
@@ -37,6 +37,7 @@ fn admit_edf(alloc: Global, tasks: &TaskSet, machine: &Machine) -> Result<Admitt
     ensures plan { IfOk result (λ p. admission (plan_of tasks.now machine.now Scheduler.Edf) ≡ Ok p) }
     ensures denied { IfErr result (EndsWith (admission (plan_of tasks.now machine.now Scheduler.Edf))) }
     ensures loads { IfErr result IsNoLoad }
+    ensures shown { IfErr result IsShown }
 {
     match edf_admit(alloc, tasks, machine) {
         Ok(plan) => Ok(plan),
@@ -49,6 +50,7 @@ fn admit_rm(alloc: Global, tasks: &TaskSet, machine: &Machine) -> Result<Admitte
     ensures plan { IfOk result (λ p. admission (plan_of tasks.now machine.now Scheduler.Rm) ≡ Ok p) }
     ensures denied { IfErr result (EndsWith (admission (plan_of tasks.now machine.now Scheduler.Rm))) }
     ensures loads { IfErr result IsNoLoad }
+    ensures shown { IfErr result IsShown }
 {
     match rm_admit(alloc, tasks, machine) {
         Ok(plan) => Ok(plan),
@@ -72,6 +74,7 @@ pub(crate) fn admit(
     ensures same { IfOk result (λ p. p ≡ plan_of tasks.now machine.now scheduler) }
     ensures denied { IfErr result (EndsWith (admission (plan_of tasks.now machine.now scheduler))) }
     ensures loads { IfErr result IsNoLoad }
+    ensures shown { IfErr result IsShown }
 {
     match scheduler {
         Scheduler::Edf => admit_edf(alloc, tasks, machine),
@@ -79,13 +82,21 @@ pub(crate) fn admit(
     }
 }
 
+/// What is run: an admitted plan, the demands of its jobs, and a number of ticks.
+#[derive(Clone, Copy)]
+pub(crate) struct PlannedRun<'a> {
+    pub(crate) plan: &'a Admitted,
+    pub(crate) demands: &'a Demands,
+    pub(crate) ticks: u64,
+}
+
 // Tells the notes of a run to a writer.
 fn drive_into<G: Governor, W: Sink>(
     kernel: Kernel<'_, G>,
     writer: &mut TraceWriter<'_, W>,
 ) -> Result<(), Failed>
-    ensures ok { OnOk result (Wrote (W.written writer.old.out.now) (W.written writer.new.out.now) (W.faults writer.old.out.now) (W.faults writer.new.out.now) (W.sure writer.old.out.now) (W.sure writer.new.out.now) (flat_map (note_text writer.old.names.now) (notes_of_run G.demand kernel.entry))) }
-    ensures part { OnErr result (WroteSome (W.written writer.old.out.now) (W.written writer.new.out.now) (W.faults writer.old.out.now) (W.faults writer.new.out.now) (W.sure writer.old.out.now) (flat_map (note_text writer.old.names.now) (notes_of_run G.demand kernel.entry))) }
+    ensures wrote { Writing (W.shows writer.old.out.now) (W.shows writer.new.out.now)
+        (flat_map (note_text writer.old.names.now) (notes_of_run G.demand kernel.entry)) result }
     ensures same_sink { writer.new.out.ghost_name ≡ writer.old.out.ghost_name }
     ensures deadlines { MeetsDeadlines G.demand kernel.entry }
     ensures demands { G.the_kind ≢ GovernorKind.Ahead → MeetsDemands G.demand kernel.entry }
@@ -102,8 +113,8 @@ fn put_notes<G: Governor, W: Sink>(
     names: &[Name],
     out: &mut W,
 ) -> Result<(), Failed>
-    ensures ok { OnOk result (Wrote (W.written out.old) (W.written out.new) (W.faults out.old) (W.faults out.new) (W.sure out.old) (W.sure out.new) (flat_map (note_text names.now) (notes_of_run G.demand kernel.entry))) }
-    ensures part { OnErr result (WroteSome (W.written out.old) (W.written out.new) (W.faults out.old) (W.faults out.new) (W.sure out.old) (flat_map (note_text names.now) (notes_of_run G.demand kernel.entry))) }
+    ensures wrote { Writing (W.shows out.old) (W.shows out.new)
+        (flat_map (note_text names.now) (notes_of_run G.demand kernel.entry)) result }
     ensures deadlines { MeetsDeadlines G.demand kernel.entry }
     ensures demands { G.the_kind ≢ GovernorKind.Ahead → MeetsDemands G.demand kernel.entry }
 {
@@ -120,8 +131,8 @@ fn put_trace<G: Governor, W: Sink>(
     names: &[Name],
     out: &mut W,
 ) -> Result<(), Failed>
-    ensures ok { OnOk result (Wrote (W.written out.old) (W.written out.new) (W.faults out.old) (W.faults out.new) (W.sure out.old) (W.sure out.new) (trace_text head.scheduler head.governor head.ticks names.now (notes_of_run G.demand kernel.entry))) }
-    ensures part { OnErr result (WroteSome (W.written out.old) (W.written out.new) (W.faults out.old) (W.faults out.new) (W.sure out.old) (trace_text head.scheduler head.governor head.ticks names.now (notes_of_run G.demand kernel.entry))) }
+    ensures wrote { Writing (W.shows out.old) (W.shows out.new)
+        (trace_text head.scheduler head.governor head.ticks names.now (notes_of_run G.demand kernel.entry)) result }
     ensures deadlines { OnOk result (MeetsDeadlines G.demand kernel.entry) }
     ensures demands { OnOk result (G.the_kind ≢ GovernorKind.Ahead → MeetsDemands G.demand kernel.entry) }
 {
@@ -134,180 +145,77 @@ fn put_trace<G: Governor, W: Sink>(
     }
 }
 
-// The trace of a run under a governor.
-fn run_governed<G: Governor, W: Sink>(
+// The trace of a run under a governor that stands for the opening of its plan.
+fn run_from_opening<G: Governor, W: Sink>(
     alloc: Global,
-    plan: &Admitted,
-    demands: &Demands,
+    run: &PlannedRun<'_>,
     governor: G,
-    ticks: u64,
     out: &mut W,
 ) -> Status
-    requires list { IsListOf plan.now demands.now }
-    requires stands { G.stands governor plan.now (opening plan.now) }
-    requires some_ticks { 1 ≤ ticks }
-    requires low_ticks { ticks ≤ 2 ^ 40 }
-    ensures ended { Ended (governed_answer G.the_kind G.demand plan.now demands.now ticks) result (out.new ≡ out.old) (Wrote (W.written out.old) (W.written out.new) (W.faults out.old) (W.faults out.new) (W.sure out.old) (W.sure out.new)) (WroteSome (W.written out.old) (W.written out.new) (W.faults out.old) (W.faults out.new) (W.sure out.old)) }
-    ensures met { MeetsAll G.the_kind G.demand plan.now demands.now ticks result }
+    requires run { IsRunnable (planned run.now) }
+    requires stands { G.stands governor run.now.plan.now (opening run.now.plan.now) }
+    ensures ended { Ends (W.shows out.old) (W.shows out.new)
+        (governed_answer G.the_kind G.demand (planned run.now)) result }
+    ensures met { MeetsAll G.the_kind G.demand (planned run.now) result }
+    ensures leaves { Leaves result out.old out.new }
     ensures loads { IsNoLoad result }
+    ensures shown { IsShown result }
 {
     let head = PlanLine {
-        scheduler: plan.scheduler(),
+        scheduler: run.plan.scheduler(),
         governor: governor.kind(),
-        ticks,
+        ticks: run.ticks,
     };
-    let kernel = match Kernel::new(alloc, plan, demands, governor, ticks) {
+    let kernel = match Kernel::new(alloc, run.plan, run.demands, governor, run.ticks) {
         Ok(kernel) => kernel,
         Err(KernelFault::TooManyJobs { count }) => return Status::Limit { jobs: count },
         Err(KernelFault::NoMemory) => return Status::NoMemory,
     };
-    match put_trace(head, kernel, plan.names(), out) {
+    match put_trace(head, kernel, run.plan.names(), out) {
         Ok(()) => Status::Done,
         Err(Failed) => Status::Write,
     }
 }
 
-// A run under none.
-fn run_full<W: Sink>(
-    alloc: Global,
-    plan: &Admitted,
-    demands: &Demands,
-    ticks: u64,
-    out: &mut W,
-) -> Status
-    requires list { IsListOf plan.now demands.now }
-    requires some_ticks { 1 ≤ ticks }
-    requires low_ticks { ticks ≤ 2 ^ 40 }
-    ensures ended { Ended (answer_of_plan GovernorKind.Plain demands.now ticks plan.now) result (out.new ≡ out.old) (Wrote (W.written out.old) (W.written out.new) (W.faults out.old) (W.faults out.new) (W.sure out.old) (W.sure out.new)) (WroteSome (W.written out.old) (W.written out.new) (W.faults out.old) (W.faults out.new) (W.sure out.old)) }
-    ensures met { MeetsAllOf GovernorKind.Plain plan.now demands.now ticks result }
+// The trace of a run under a governor of this type.
+fn run_governed<G: Publishing, W: Sink>(alloc: Global, run: &PlannedRun<'_>, out: &mut W) -> Status
+    requires run { IsRunnable (planned run.now) }
+    requires serves { G.serves run.now.plan.now.scheduler }
+    ensures ended { Ends (W.shows out.old) (W.shows out.new) (answer_of_run G.the_kind (planned run.now)) result }
+    ensures met { MeetsAllOf G.the_kind (planned run.now) result }
+    ensures leaves { Leaves result out.old out.new }
     ensures loads { IsNoLoad result }
+    ensures shown { IsShown result }
 {
-    demands.known();
-    static_gov::published_demands(plan);
-    match Full::new(alloc, plan) {
-        Ok(governor) => run_governed(alloc, plan, demands, governor, ticks, out),
-        Err(_) => Status::NoMemory,
-    }
-}
-
-// A run under static.
-fn run_static<W: Sink>(
-    alloc: Global,
-    plan: &Admitted,
-    demands: &Demands,
-    ticks: u64,
-    out: &mut W,
-) -> Status
-    requires list { IsListOf plan.now demands.now }
-    requires some_ticks { 1 ≤ ticks }
-    requires low_ticks { ticks ≤ 2 ^ 40 }
-    ensures ended { Ended (answer_of_plan GovernorKind.Fixed demands.now ticks plan.now) result (out.new ≡ out.old) (Wrote (W.written out.old) (W.written out.new) (W.faults out.old) (W.faults out.new) (W.sure out.old) (W.sure out.new)) (WroteSome (W.written out.old) (W.written out.new) (W.faults out.old) (W.faults out.new) (W.sure out.old)) }
-    ensures met { MeetsAllOf GovernorKind.Fixed plan.now demands.now ticks result }
-    ensures loads { IsNoLoad result }
-{
-    demands.known();
-    static_gov::published_demands(plan);
-    match Static::new(alloc, plan) {
-        Ok(governor) => run_governed(alloc, plan, demands, governor, ticks, out),
-        Err(_) => Status::NoMemory,
-    }
-}
-
-// A run under cycle-conserving EDF.
-fn run_cc_edf<W: Sink>(
-    alloc: Global,
-    plan: &Admitted,
-    demands: &Demands,
-    ticks: u64,
-    out: &mut W,
-) -> Status
-    requires serves { plan.now.scheduler ≡ Scheduler.Edf }
-    requires list { IsListOf plan.now demands.now }
-    requires some_ticks { 1 ≤ ticks }
-    requires low_ticks { ticks ≤ 2 ^ 40 }
-    ensures ended { Ended (answer_of_plan GovernorKind.Cycle demands.now ticks plan.now) result (out.new ≡ out.old) (Wrote (W.written out.old) (W.written out.new) (W.faults out.old) (W.faults out.new) (W.sure out.old) (W.sure out.new)) (WroteSome (W.written out.old) (W.written out.new) (W.faults out.old) (W.faults out.new) (W.sure out.old)) }
-    ensures met { MeetsAllOf GovernorKind.Cycle plan.now demands.now ticks result }
-    ensures loads { IsNoLoad result }
-{
-    demands.known();
-    cc_edf::published_demands(plan);
-    match CcEdf::new(alloc, plan) {
-        Ok(governor) => run_governed(alloc, plan, demands, governor, ticks, out),
-        Err(_) => Status::NoMemory,
-    }
-}
-
-// A run under cycle-conserving RM.
-fn run_cc_rm<W: Sink>(
-    alloc: Global,
-    plan: &Admitted,
-    demands: &Demands,
-    ticks: u64,
-    out: &mut W,
-) -> Status
-    requires serves { plan.now.scheduler ≡ Scheduler.Rm }
-    requires list { IsListOf plan.now demands.now }
-    requires some_ticks { 1 ≤ ticks }
-    requires low_ticks { ticks ≤ 2 ^ 40 }
-    ensures ended { Ended (answer_of_plan GovernorKind.Cycle demands.now ticks plan.now) result (out.new ≡ out.old) (Wrote (W.written out.old) (W.written out.new) (W.faults out.old) (W.faults out.new) (W.sure out.old) (W.sure out.new)) (WroteSome (W.written out.old) (W.written out.new) (W.faults out.old) (W.faults out.new) (W.sure out.old)) }
-    ensures met { MeetsAllOf GovernorKind.Cycle plan.now demands.now ticks result }
-    ensures loads { IsNoLoad result }
-{
-    demands.known();
-    cc_rm::published_demands(plan);
-    match CcRm::new(alloc, plan) {
-        Ok(governor) => run_governed(alloc, plan, demands, governor, ticks, out),
-        Err(_) => Status::NoMemory,
-    }
-}
-
-// A run under look-ahead.
-fn run_look_ahead<W: Sink>(
-    alloc: Global,
-    plan: &Admitted,
-    demands: &Demands,
-    ticks: u64,
-    out: &mut W,
-) -> Status
-    requires serves { plan.now.scheduler ≡ Scheduler.Edf }
-    requires list { IsListOf plan.now demands.now }
-    requires some_ticks { 1 ≤ ticks }
-    requires low_ticks { ticks ≤ 2 ^ 40 }
-    ensures ended { Ended (answer_of_plan GovernorKind.Ahead demands.now ticks plan.now) result (out.new ≡ out.old) (Wrote (W.written out.old) (W.written out.new) (W.faults out.old) (W.faults out.new) (W.sure out.old) (W.sure out.new)) (WroteSome (W.written out.old) (W.written out.new) (W.faults out.old) (W.faults out.new) (W.sure out.old)) }
-    ensures met { MeetsAllOf GovernorKind.Ahead plan.now demands.now ticks result }
-    ensures loads { IsNoLoad result }
-{
-    demands.known();
-    look_ahead::published_demands(plan);
-    match LookAhead::new(alloc, plan) {
-        Ok(governor) => run_governed(alloc, plan, demands, governor, ticks, out),
-        Err(_) => Status::NoMemory,
+    run.demands.known();
+    run.plan.known();
+    match G::made(alloc, run.plan) {
+        Ok(governor) => run_from_opening(alloc, run, governor, out),
+        Err(NoMemory) => Status::NoMemory,
     }
 }
 
 // The trace of a run under the governor of a pair.
 fn run_pair<W: Sink>(
     alloc: Global,
-    plan: &Admitted,
-    demands: &Demands,
+    run: &PlannedRun<'_>,
     governor: GovernorKind,
-    ticks: u64,
     out: &mut W,
 ) -> Status
-    requires list { IsListOf plan.now demands.now }
-    requires pair { IsPair plan.now.scheduler governor }
-    requires some_ticks { 1 ≤ ticks }
-    requires low_ticks { ticks ≤ 2 ^ 40 }
-    ensures ended { Ended (answer_of_plan governor demands.now ticks plan.now) result (out.new ≡ out.old) (Wrote (W.written out.old) (W.written out.new) (W.faults out.old) (W.faults out.new) (W.sure out.old) (W.sure out.new)) (WroteSome (W.written out.old) (W.written out.new) (W.faults out.old) (W.faults out.new) (W.sure out.old)) }
-    ensures met { MeetsAllOf governor plan.now demands.now ticks result }
+    requires run { IsRunnable (planned run.now) }
+    requires pair { IsPair run.now.plan.now.scheduler governor }
+    ensures ended { Ends (W.shows out.old) (W.shows out.new) (answer_of_run governor (planned run.now)) result }
+    ensures met { MeetsAllOf governor (planned run.now) result }
+    ensures leaves { Leaves result out.old out.new }
     ensures loads { IsNoLoad result }
+    ensures shown { IsShown result }
 {
-    match (plan.scheduler(), governor) {
-        (_, GovernorKind::Plain) => run_full(alloc, plan, demands, ticks, out),
-        (_, GovernorKind::Fixed) => run_static(alloc, plan, demands, ticks, out),
-        (Scheduler::Edf, GovernorKind::Cycle) => run_cc_edf(alloc, plan, demands, ticks, out),
-        (Scheduler::Rm, GovernorKind::Cycle) => run_cc_rm(alloc, plan, demands, ticks, out),
-        (Scheduler::Edf, GovernorKind::Ahead) => run_look_ahead(alloc, plan, demands, ticks, out),
+    match (run.plan.scheduler(), governor) {
+        (_, GovernorKind::Plain) => run_governed::<Full, W>(alloc, run, out),
+        (_, GovernorKind::Fixed) => run_governed::<Static, W>(alloc, run, out),
+        (Scheduler::Edf, GovernorKind::Cycle) => run_governed::<CcEdf, W>(alloc, run, out),
+        (Scheduler::Rm, GovernorKind::Cycle) => run_governed::<CcRm, W>(alloc, run, out),
+        (Scheduler::Edf, GovernorKind::Ahead) => run_governed::<LookAhead, W>(alloc, run, out),
         (Scheduler::Rm, GovernorKind::Ahead) => unreachable!(),
     }
 }
@@ -315,34 +223,30 @@ fn run_pair<W: Sink>(
 /// The trace of a run of an admitted plan.
 pub(crate) fn run_plan<W: Sink>(
     alloc: Global,
-    plan: &Admitted,
-    demands: &Demands,
+    run: &PlannedRun<'_>,
     governor: GovernorKind,
-    ticks: u64,
     out: &mut W,
 ) -> Status
-    requires list { IsListOf plan.now demands.now }
-    requires pair { IsPair plan.now.scheduler governor }
-    requires some_ticks { 1 ≤ ticks }
-    requires low_ticks { ticks ≤ 2 ^ 40 }
-    ensures ended { Ended (answer_of_plan governor demands.now ticks plan.now) result (out.new ≡ out.old) (Wrote (W.written out.old) (W.written out.new) (W.faults out.old) (W.faults out.new) (W.sure out.old) (W.sure out.new)) (WroteSome (W.written out.old) (W.written out.new) (W.faults out.old) (W.faults out.new) (W.sure out.old)) }
-    ensures met { MeetsAllOf governor plan.now demands.now ticks result }
-    ensures told { TellsAllOf governor plan.now demands.now ticks result }
-    ensures test { PassesTest plan.now.scheduler plan.now }
-    ensures exists { HasSchedule plan.now }
-    ensures unique { HasNoOther plan.now }
+    requires run { IsRunnable (planned run.now) }
+    requires pair { IsPair run.now.plan.now.scheduler governor }
+    ensures ended { Ends (W.shows out.old) (W.shows out.new) (answer_of_run governor (planned run.now)) result }
+    ensures met { HasMetIfDone governor (planned run.now) result }
+    ensures leaves { Leaves result out.old out.new }
     ensures loads { IsNoLoad result }
+    ensures shown { IsShown result }
 {
-    plan.known();
-    one_schedule(plan);
-    told_deadlines(plan);
-    run_pair(alloc, plan, demands, governor, ticks, out)
+    run.plan.known();
+    one_schedule(run.plan);
+    told_deadlines(run.plan);
+    run_pair(alloc, run, governor, out)
 }
 
 /// The line of an admission.
 pub(crate) fn put_admitted<W: Sink>(plan: &Admitted, out: &mut W) -> Status
-    ensures ended { Ended (Ok (admitted_text plan.now)) result (out.new ≡ out.old) (Wrote (W.written out.old) (W.written out.new) (W.faults out.old) (W.faults out.new) (W.sure out.old) (W.sure out.new)) (WroteSome (W.written out.old) (W.written out.new) (W.faults out.old) (W.faults out.new) (W.sure out.old)) }
+    ensures ended { Ends (W.shows out.old) (W.shows out.new) (Ok (admitted_text plan.now)) result }
+    ensures leaves { Leaves result out.old out.new }
     ensures loads { IsNoLoad result }
+    ensures shown { IsShown result }
 {
     let line = admitted_line(plan);
     match put_line(&line, out) {

@@ -9,18 +9,24 @@ use task_model::TaskFault;
 /// The files that words name.
 #[derive(Clone, Copy, Debug, PartialEq, Eq)]
 pub enum FileKind {
+    /// The file of tasks.
     Tasks,
+    /// The file of the machine.
     Machine,
+    /// The file of demands.
     Demands,
 }
 
 /// Why a file that was loaded is refused.
-#[derive(Drop)]
+#[derive(Clone, Copy, Debug, PartialEq, Eq)]
 pub enum TextFault {
     /// It is longer than 16777216 bytes.
     TooLong { file: FileKind },
+    /// The tasks are refused, and not for want of memory.
     Tasks(TaskFault),
+    /// The machine is refused, and not for want of memory.
     Machine(MachineFault),
+    /// The demands are refused, for neither want of memory nor a demand over its worst case.
     Demands(DemandFault),
 }
 
@@ -35,7 +41,7 @@ pub enum Denied {
 }
 
 /// How a call ends.
-#[derive(Drop)]
+#[derive(Clone, Copy, Debug, PartialEq, Eq)]
 pub enum Status {
     /// The whole answer was written.
     Done,
@@ -67,7 +73,19 @@ pub enum Status {
 }
 
 impl Status {
-    /// The exit status of the program.
+    /// The exit status of the program. 7 is not used.
+    ///
+    /// | Status | Code |
+    /// |---|---|
+    /// | `Done` | 0 |
+    /// | `NotAdmitted` | 1 |
+    /// | `Words` | 2 |
+    /// | `Load` | 3 |
+    /// | `Text` | 4 |
+    /// | `Limit` | 5 |
+    /// | `OverWorst` | 6 |
+    /// | `Write` | 8 |
+    /// | `NoMemory` | 9 |
     pub fn code(&self) -> u8
         ensures { result ≡ code_of self.now }
     {

@@ -1,6 +1,7 @@
 // The words of a command.
 ghost use Rattle.std.specs.Prelude.{◌≡◌, ◌≤◌, ◌^◌, IfSome, Some, None, [], map, string_bytes, option_map};
-ghost use Rattle.rtdvs_top.specs.Words.{value_after, file_name, scheduler_of, governor_of, is_pair, paired, IsPair, ticks_of, demands_of_words, nothing_after, run_of_options, admit_of_options, command_of};
+ghost use Rattle.trace_text.specs.Words.{IsPair};
+ghost use Rattle.rtdvs_top.specs.Words.{value_after, file_name, scheduler_of, governor_of, paired, ticks_of, demands_of_words, nothing_after, run_of_options, admit_of_options, command_of};
 ghost use Rattle.rtdvs_top.specs.Asked.{shown, shown_run, shown_admit, IsReady, IsReadyCommand};
 
 use dvs_base::{GovernorKind, Scheduler, whole};
@@ -33,7 +34,8 @@ pub enum Command<'a> {
 
 // The value of an option that stands first, and the words after it.
 fn value_after<'a>(option: &str, words: &'a [String]) -> Option<(&'a str, &'a [String])>
-    ensures { option_map (λ r. (r.0.now, map string_bytes r.1.now)) result ≡ value_after option.now (map string_bytes words.now) }
+    ensures { option_map (λ r. (r.0.now, map string_bytes r.1.now)) result
+        ≡ value_after option.now (map string_bytes words.now) }
 {
     match words {
         [key, value, rest @ ..] if key.as_str() == option => Some((value.as_str(), rest)),

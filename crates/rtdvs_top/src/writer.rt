@@ -1,7 +1,7 @@
 // The trace, written to a sink line by line.
-ghost use Rattle.std.specs.Prelude.{◌≡◌, ◌++◌, ◌<◌, ◌≤◌, length, OnOk, OnErr};
+ghost use Rattle.std.specs.Prelude.{◌≡◌, ◌++◌, ◌<◌, length};
 ghost use Rattle.trace_text.specs.TraceLines.{version_text, plan_text, note_text};
-ghost use Rattle.rtdvs_top.specs.Writing.{Wrote, WroteSome};
+ghost use Rattle.rtdvs_top.specs.Writing.{Wrote, WroteSome, Writing, head_text};
 
 use dvs_base::{Failed, Line, Name, Note, Sink};
 use event_kernel::{Listener, Stopped};
@@ -14,11 +14,13 @@ pub(crate) struct TraceWriter<'a, W: Sink> {
 }
 
 impl<'a, W: Sink> Listener for TraceWriter<'a, W> {
-    ghost heard = { λ a n b. Wrote (W.written a.out.now) (W.written b.out.now) (W.faults a.out.now) (W.faults b.out.now) (W.sure a.out.now) (W.sure b.out.now) (note_text a.names.now n) × (b.out.ghost_name ≡ a.out.ghost_name) × (b.names.now ≡ a.names.now) };
+    ghost heard = { λ a n b. Wrote (W.shows a.out.now) (W.shows b.out.now) (note_text a.names.now n)
+        × (b.out.ghost_name ≡ a.out.ghost_name) × (b.names.now ≡ a.names.now) };
 
-    ghost balked = { λ a n b. WroteSome (W.written a.out.now) (W.written b.out.now) (W.faults a.out.now) (W.faults b.out.now) (W.sure a.out.now) (note_text a.names.now n) × (b.out.ghost_name ≡ a.out.ghost_name) × (b.names.now ≡ a.names.now) };
+    ghost balked = { λ a n b. WroteSome (W.shows a.out.now) (W.shows b.out.now) (note_text a.names.now n)
+        × (b.out.ghost_name ≡ a.out.ghost_name) × (b.names.now ≡ a.names.now) };
 
-    ghost stops = { λ a. W.faults a.out.now };
+    ghost stops = { λ a. (W.shows a.out.now).faults };
 
     fn hear(&mut self, note: &Note) -> Result<(), Stopped> {
         let mut line = Line::new();
@@ -33,9 +35,7 @@ impl<'a, W: Sink> Listener for TraceWriter<'a, W> {
 /// Puts a line that isn't empty.
 pub(crate) fn put_line<W: Sink>(line: &Line, out: &mut W) -> Result<(), Failed>
     requires { 0 < length line.now }
-    ensures ok { OnOk result (Wrote (W.written out.old) (W.written out.new) (W.faults out.old) (W.faults out.new) (W.sure out.old) (W.sure out.new) line.now) }
-    ensures part { OnErr result (WroteSome (W.written out.old) (W.written out.new) (W.faults out.old) (W.faults out.new) (W.sure out.old) line.now) }
-    ensures later { W.faults out.old ≤ W.faults out.new }
+    ensures { Writing (W.shows out.old) (W.shows out.new) line.now result }
 {
     out.put(line.as_bytes())
 }
@@ -44,8 +44,7 @@ pub(crate) fn put_line<W: Sink>(line: &Line, out: &mut W) -> Result<(), Failed>
 fn put_two<W: Sink>(first: &Line, second: &Line, out: &mut W) -> Result<(), Failed>
     requires first { 0 < length first.now }
     requires second { 0 < length second.now }
-    ensures ok { OnOk result (Wrote (W.written out.old) (W.written out.new) (W.faults out.old) (W.faults out.new) (W.sure out.old) (W.sure out.new) (first.now ++ second.now)) }
-    ensures part { OnErr result (WroteSome (W.written out.old) (W.written out.new) (W.faults out.old) (W.faults out.new) (W.sure out.old) (first.now ++ second.now)) }
+    ensures { Writing (W.shows out.old) (W.shows out.new) (first.now ++ second.now) result }
 {
     match put_line(first, out) {
         Ok(()) => match put_line(second, out) {
@@ -74,8 +73,7 @@ fn head_line(plan: PlanLine) -> Line
 
 /// Puts the two lines before the notes of a trace.
 pub(crate) fn put_head<W: Sink>(plan: PlanLine, out: &mut W) -> Result<(), Failed>
-    ensures ok { OnOk result (Wrote (W.written out.old) (W.written out.new) (W.faults out.old) (W.faults out.new) (W.sure out.old) (W.sure out.new) (version_text ++ plan_text plan.scheduler plan.governor plan.ticks)) }
-    ensures part { OnErr result (WroteSome (W.written out.old) (W.written out.new) (W.faults out.old) (W.faults out.new) (W.sure out.old) (version_text ++ plan_text plan.scheduler plan.governor plan.ticks)) }
+    ensures { Writing (W.shows out.old) (W.shows out.new) (head_text plan) result }
 {
     let version = version_line();
     let head = head_line(plan);

@@ -11,6 +11,7 @@ pub mod CycleDemand
 pub mod AheadDemand
 pub mod Demand
 pub mod Schedule
+pub mod TheSchedule
 pub mod Segments
 pub mod Notes
 pub mod Totals

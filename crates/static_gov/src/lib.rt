@@ -6,8 +6,6 @@
 
 mod fixed;
 mod full;
-mod published;
 
 pub use fixed::Static;
 pub use full::Full;
-pub use published::published_demands;

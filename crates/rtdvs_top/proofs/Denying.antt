@@ -1,0 +1,188 @@
+-- Which steps of an answer can deny a plan, and when.
+use Rattle.std.proofs.Common.{◌≡◌, ◌≢◌, ◌⊎◌, inl, inr, ℕ, ◌*◌, Bool, true, false, List, length, Option, Some, None, Result, Ok, Err, refl, sym, ◌∙◌, ap, arith, true≢false, nat_lt, if◌then◌else◌}
+use Rattle.std.proofs.lemmas.Bool.Decides.{nat_tests}
+use Rattle.dvs_base.specs.Outside.{Files, file_of}
+use Rattle.dvs_base.specs.Checks.{and_then}
+use Rattle.dvs_base.specs.declared.kind.Scheduler.{Scheduler}
+use Rattle.dvs_base.specs.declared.kind.Scheduler.TheVariants.{Edf, Rm}
+use Rattle.task_model.specs.declared.task.Task.{Task}
+use Rattle.task_model.specs.declared.fault.TaskFault.{TaskFault}
+use Rattle.task_model.specs.declared.fault.TaskFault.TheVariants as task_fault
+use Rattle.task_model.specs.TaskFile.{task_file}
+use Rattle.freq_table.specs.Tables.{Table}
+use Rattle.freq_table.specs.MachineFile.{machine_file}
+use Rattle.freq_table.specs.declared.fault.MachineFault.{MachineFault}
+use Rattle.freq_table.specs.declared.fault.MachineFault.TheVariants as machine_fault
+use Rattle.demand_list.specs.Demands.{DemandsOf}
+use Rattle.demand_list.specs.DemandFile.{demand_file}
+use Rattle.demand_list.specs.declared.fault.DemandFault.{DemandFault}
+use Rattle.demand_list.specs.declared.fault.DemandFault.TheVariants as demand_fault
+use Rattle.sched_model.specs.Plan.{Plan, period, hyper, top_speed}
+use Rattle.sched_model.specs.Tests.{total_rate, level_work}
+use Rattle.sched_model.specs.Admission.{PassesTest}
+use Rattle.event_kernel.specs.Runs.{most_jobs}
+use Rattle.rtdvs_top.specs.Answer.{bytes_from, bytes_at, tasks_from, machine_from, demands_from, tasks_at, machine_at, demands_at, admission, admission_by, admission_from, first_overloaded, within_jobs, longest}
+use Rattle.rtdvs_top.specs.Promises.{DeniedPlan}
+use Rattle.rtdvs_top.specs.declared.status.Denied.{Denied}
+use Rattle.rtdvs_top.specs.declared.status.Denied.TheVariants as denied
+use Rattle.rtdvs_top.specs.declared.status.FileKind.{FileKind}
+use Rattle.rtdvs_top.specs.declared.status.FileKind.TheVariants as file
+use Rattle.rtdvs_top.specs.declared.status.TextFault.TheVariants as text
+use Rattle.rtdvs_top.specs.declared.status.Status.{Status}
+use Rattle.rtdvs_top.specs.declared.status.Status.TheVariants as status
+use Rattle.rtdvs_top.proofs.Overloads.{overloaded-none}
+
+-- whether a status is a denial
+abbrev pub is_denial : Status → Bool
+is_denial (status.NotAdmitted why) = true
+is_denial s = false
+
+-- the status of a step that gave no value
+abbrev pub status_of : {A : Type 0} → Result A Status → Status
+status_of (Ok a) = status.Done
+status_of (Err s) = s
+
+-- whether a step gave a value
+abbrev pub is_given : {A : Type 0} → Result A Status → Bool
+is_given (Ok a) = true
+is_given (Err s) = false
+
+-- a step that denies nothing
+abbrev pub DeniesNot : {A : Type 0} → Result A Status → Type 0
+DeniesNot step = is_denial (status_of step) ≡ false
+
+then-denies-not : {A B : Type 0} (step : Result A Status) (next : A → Result B Status) → DeniesNot step
+    → ((a : A) → DeniesNot (next a)) → DeniesNot (and_then step next)
+then-denies-not (Ok a) next here later = later a
+then-denies-not (Err s) next here later = here
+
+-- a chain that denies does so in a later step, where the first denies nothing
+pub denied-later : {A B : Type 0} (step : Result A Status) (next : A → Result B Status) (why : Denied)
+    → DeniesNot step → and_then step next ≡ Err (status.NotAdmitted why)
+    → (a : A) × (step ≡ Ok a) × (next a ≡ Err (status.NotAdmitted why))
+denied-later (Ok a) next why here e = (a, refl, e)
+denied-later (Err s) next why here e = absurd (true≢false (sym (ap (λ r. is_denial (status_of r)) e) ∙ here))
+
+-- and in the first one, where the later ones deny nothing
+pub denied-first : {A B : Type 0} (step : Result A Status) (next : A → Result B Status) (why : Denied)
+    → ((a : A) → DeniesNot (next a)) → and_then step next ≡ Err (status.NotAdmitted why)
+    → step ≡ Err (status.NotAdmitted why)
+denied-first (Ok a) next why later e = absurd (true≢false (sym (ap (λ r. is_denial (status_of r)) e) ∙ later a))
+denied-first (Err s) next why later e = ap (λ r. Err (status_of r)) e
+
+-- a chain that gives a value does so in each of its steps
+pub given-both : {A B : Type 0} (step : Result A Status) (next : A → Result B Status) (b : B)
+    → and_then step next ≡ Ok b → (a : A) × (step ≡ Ok a) × (next a ≡ Ok b)
+given-both (Ok a) next b e = (a, refl, e)
+given-both (Err s) next b e = absurd (true≢false (sym (ap is_given e)))
+
+bytes-deny-not : (kind : FileKind) (held : Option (List ℕ)) → DeniesNot (bytes_from kind held)
+bytes-deny-not kind None = refl
+bytes-deny-not kind (Some bytes) = go (nat_lt longest (length bytes))
+  where
+    go : (b : Bool) → DeniesNot (if b then Err (status.Text (text.TooLong kind)) else Ok bytes)
+    go true = refl
+    go false = refl
+
+tasks-deny-not : (r : Result (List Task) TaskFault) → DeniesNot (tasks_from r)
+tasks-deny-not (Ok tasks) = refl
+tasks-deny-not (Err task_fault.NotToml) = refl
+tasks-deny-not (Err (task_fault.UnknownKey place key)) = refl
+tasks-deny-not (Err task_fault.NoTasks) = refl
+tasks-deny-not (Err (task_fault.TooMany count)) = refl
+tasks-deny-not (Err (task_fault.Missing place field)) = refl
+tasks-deny-not (Err (task_fault.Kind place field)) = refl
+tasks-deny-not (Err (task_fault.Range place field)) = refl
+tasks-deny-not (Err (task_fault.BadName place)) = refl
+tasks-deny-not (Err (task_fault.SameName first second)) = refl
+tasks-deny-not (Err task_fault.Hyper) = refl
+tasks-deny-not (Err task_fault.NoMemory) = refl
+
+machine-denies-not : (r : Result Table MachineFault) → DeniesNot (machine_from r)
+machine-denies-not (Ok machine) = refl
+machine-denies-not (Err machine_fault.NotToml) = refl
+machine-denies-not (Err (machine_fault.UnknownKey place key)) = refl
+machine-denies-not (Err machine_fault.NoPoints) = refl
+machine-denies-not (Err (machine_fault.TooMany count)) = refl
+machine-denies-not (Err (machine_fault.Missing place field)) = refl
+machine-denies-not (Err (machine_fault.Kind place field)) = refl
+machine-denies-not (Err (machine_fault.Range place field)) = refl
+machine-denies-not (Err (machine_fault.NotRising place)) = refl
+machine-denies-not (Err machine_fault.NoMemory) = refl
+
+demands-deny-not : (r : Result DemandsOf DemandFault) → DeniesNot (demands_from r)
+demands-deny-not (Ok d) = refl
+demands-deny-not (Err demand_fault.Header) = refl
+demands-deny-not (Err (demand_fault.Fields row count)) = refl
+demands-deny-not (Err (demand_fault.UnknownTask row name)) = refl
+demands-deny-not (Err (demand_fault.BadNumber row column)) = refl
+demands-deny-not (Err (demand_fault.JobZero row)) = refl
+demands-deny-not (Err (demand_fault.Repeated row task job)) = refl
+demands-deny-not (Err (demand_fault.OverWorst task job units worst)) = refl
+demands-deny-not (Err demand_fault.NoMemory) = refl
+
+pub tasks_at-denies-not : (name : List ℕ) (files : Files) → DeniesNot (tasks_at name files)
+tasks_at-denies-not name files =
+    then-denies-not (bytes_at file.Tasks name files) (λ bytes. tasks_from (task_file bytes)) (bytes-deny-not file.Tasks (file_of files name)) (λ bytes. tasks-deny-not (task_file bytes))
+
+pub machine_at-denies-not : (name : List ℕ) (files : Files) → DeniesNot (machine_at name files)
+machine_at-denies-not name files =
+    then-denies-not (bytes_at file.Machine name files) (λ bytes. machine_from (machine_file bytes)) (bytes-deny-not file.Machine (file_of files name)) (λ bytes. machine-denies-not (machine_file bytes))
+
+pub demands_at-denies-not : (tasks : List Task) (name : Option (List ℕ)) (files : Files)
+    → DeniesNot (demands_at tasks name files)
+demands_at-denies-not tasks None files = refl
+demands_at-denies-not tasks (Some name) files =
+    then-denies-not (bytes_at file.Demands name files) (λ bytes. demands_from (demand_file tasks bytes)) (bytes-deny-not file.Demands (file_of files name)) (λ bytes. demands-deny-not (demand_file tasks bytes))
+
+pub within-denies-not : (jobs : ℕ) (bytes : List ℕ) → DeniesNot (within_jobs jobs bytes)
+within-denies-not jobs bytes = go (nat_lt most_jobs jobs)
+  where
+    go : (b : Bool) → DeniesNot (if b then Err (status.Limit jobs) else Ok bytes)
+    go true = refl
+    go false = refl
+
+-- a plan that passes its scheduler's test is admitted
+passes-admission : (sch : Scheduler) (p : Plan) → PassesTest sch p → admission_by sch p ≡ Ok p
+passes-admission Edf p h =
+    let fits : nat_lt (top_speed p * hyper p) (total_rate p) ≡ false = grind (arith, nat_tests) in
+    rw fits refl
+passes-admission Rm p h = ap (admission_from p) (overloaded-none p h)
+
+-- what an admission answers: the plan itself, or a denial
+pub admission-is : (p : Plan) → (admission p ≡ Ok p) ⊎ ((why : Denied) × (admission p ≡ Err (status.NotAdmitted why)))
+admission-is p = by p.scheduler
+  where
+    by-edf : (b : Bool) (why : Denied)
+        → let r = if b then Err (status.NotAdmitted why) else Ok p in (r ≡ Ok p) ⊎ ((d : Denied) × (r ≡ Err (status.NotAdmitted d)))
+    by-edf true why = inr (why, refl)
+    by-edf false why = inl refl
+
+    by-rm : (o : Option ℕ)
+        → (admission_from p o ≡ Ok p) ⊎ ((d : Denied) × (admission_from p o ≡ Err (status.NotAdmitted d)))
+    by-rm None = inl refl
+    by-rm (Some i) = inr (denied.Rm i (level_work p i) (top_speed p * period p i), refl)
+
+    by : (sch : Scheduler)
+        → (admission_by sch p ≡ Ok p) ⊎ ((d : Denied) × (admission_by sch p ≡ Err (status.NotAdmitted d)))
+    by Edf = by-edf (nat_lt (top_speed p * hyper p) (total_rate p)) (denied.Edf (total_rate p) (top_speed p * hyper p))
+    by Rm = by-rm (first_overloaded p)
+
+-- a plan that is admitted is itself
+pub admission-same : (p q : Plan) → admission p ≡ Ok q → q ≡ p
+admission-same p q e = go (admission-is p)
+  where
+    plan_or : Result Plan Status → Plan
+    plan_or (Ok x) = x
+    plan_or (Err s) = p
+
+    go : (admission p ≡ Ok p) ⊎ ((why : Denied) × (admission p ≡ Err (status.NotAdmitted why))) → q ≡ p
+    go (inl same) = ap plan_or (sym e ∙ same)
+    go (inr denial) = absurd (true≢false (ap is_given (sym e ∙ denial.1)))
+
+-- a plan that is denied fails its test
+pub denied-plan : (p : Plan) (why : Denied) → admission p ≡ Err (status.NotAdmitted why) → DeniedPlan p why
+denied-plan p why e = record {
+  numbers = e;
+  fails = λ h. true≢false (ap is_given (sym (passes-admission p.scheduler p h) ∙ e));
+}

@@ -1,9 +1,0 @@
-use Rattle.cc_edf.specs.contracts.cycle.CcEdfGovernor.TheImpl.{ghosts}
-use Rattle.rtdvs_top.proofs.Published.{ended-published, met-published}
-use Rattle.rtdvs_top.proofs.run.run_cc_edf.Goals as goal
-
-pub returns-in-Ok-clause-ended : goal.returns-in-Ok-clause-ended
-returns-in-Ok-clause-ended g c = ended-published ghosts.demand _ c.args.plan.now c.args.demands.now c.requires.list c.known.ensures c.published_demands.ensures c.args.ticks _ _ _ _ c.run_governed.ensures.ended
-
-pub returns-in-Ok-clause-met : goal.returns-in-Ok-clause-met
-returns-in-Ok-clause-met g c = met-published ghosts.demand _ c.args.plan.now c.args.demands.now c.requires.list c.known.ensures c.published_demands.ensures c.args.ticks _ c.run_governed.ensures.met

@@ -1,0 +1,33 @@
+-- What a status shows by itself, whatever the outside tells.
+use Rattle.std.specs.Prelude.{◌<◌, ⊤}
+use Rattle.task_model.specs.declared.fault.TaskFault.TheVariants as task_fault
+use Rattle.freq_table.specs.declared.fault.MachineFault.TheVariants as machine_fault
+use Rattle.demand_list.specs.declared.fault.DemandFault.TheVariants as demand_fault
+use Rattle.event_kernel.specs.Runs.{most_jobs}
+use Rattle.rtdvs_top.specs.declared.status.TextFault.{TextFault}
+use Rattle.rtdvs_top.specs.declared.status.TextFault.TheVariants as text
+use Rattle.rtdvs_top.specs.declared.status.Denied.{Denied}
+use Rattle.rtdvs_top.specs.declared.status.Denied.TheVariants as denied
+use Rattle.rtdvs_top.specs.declared.status.Status.{Status}
+use Rattle.rtdvs_top.specs.declared.status.Status.TheVariants as status
+
+-- the work asked for exceeds what the highest speed does
+abbrev pub IsShownDenial : Denied → Type 0
+IsShownDenial (denied.Edf num cap) = cap < num
+IsShownDenial (denied.Rm task num cap) = cap < num
+
+-- a refusal of a file is none of those that are a status of their own: want of memory, and a demand over its worst case
+abbrev pub IsShownText : TextFault → Type 0
+IsShownText (text.Tasks task_fault.NoMemory) = ⊥
+IsShownText (text.Machine machine_fault.NoMemory) = ⊥
+IsShownText (text.Demands demand_fault.NoMemory) = ⊥
+IsShownText (text.Demands (demand_fault.OverWorst task job units worst)) = ⊥
+IsShownText why = ⊤
+
+-- the numbers of a status are such that they are its cause
+abbrev pub IsShown : Status → Type 0
+IsShown (status.NotAdmitted why) = IsShownDenial why
+IsShown (status.Limit jobs) = most_jobs < jobs
+IsShown (status.OverWorst task job units worst) = worst < units
+IsShown (status.Text why) = IsShownText why
+IsShown s = ⊤
