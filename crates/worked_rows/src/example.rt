@@ -1,5 +1,5 @@
-// Files that several tests share: the example of Pillai and Shin 2001, with 4 units for a millisecond at full speed, and
-// a battery-driven controller.
+// Files that several tests share: the example of Pillai and Shin 2001, with 4 units for a millisecond at full speed,
+// and a battery-driven controller.
 use crate::case::Case;
 
 pub(crate) const PAPER_TASKS: &str = r#"

@@ -1,4 +1,5 @@
-//! Worked rows of the whole program, run through its one public call over files and sinks in memory, and of single calls.
+//! Worked rows of the whole program, run through its one public call over files and sinks in memory, and of single
+//! calls. The kernel's runs are compared with its walk over ticks and with the schedule's definition.
 #![tactic(auto)]
 
 #[cfg(test)]
