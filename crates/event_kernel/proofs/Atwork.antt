@@ -130,7 +130,9 @@ module _ {demand : Plan → StateOf → Frac} {p : Plan} {dem : ℕ → ℕ → 
           let later : tick_at demand p dem t ∷ past ≡ course demand p dem (t + 1) = sym (course-next p dem ask t) in (
             record {
               state = is ∙ (ap (λ n. after_advance st (n + 1)) (sym course-long) ∙ (h.state ∙ ap (λ ps. prior_state p dem ps) later));
-              writing = subst (λ (ps : List Tick). Writing p dem ask t (whole_span demand p dem t) (λ i. exec p ps i (latest p i t)) (1000000 * (t + 1)) trace') later
+              writing =
+                  subst
+                  (λ (ps : List Tick). Writing p dem ask t (whole_span demand p dem t) (λ i. exec p ps i (latest p i t)) (1000000 * (t + 1)) trace') later
                   (subst (λ n. Writing p dem ask n (whole_span demand p dem t) (λ i. exec p (tick_at demand p dem t ∷ past) i (latest p i n)) (1000000 * (n + 1)) trace') course-long h.writing);
               completes = h.completes;
             },

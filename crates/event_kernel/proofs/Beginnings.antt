@@ -128,7 +128,9 @@ unit-begins p dem ask s h =
 
 pub open-begins : (p : Plan) (dem : ℕ → ℕ → ℕ) (ask : List Tick → Frac) (s : Span) (us : List Holder)
     → Begins (open_notes p dem ask s) (open_notes p dem ask (grown s us))
-open-begins p dem ask s [] = subst (λ vs. Begins (open_notes p dem ask s) (open_notes p dem ask (record { past = s.past; entry = s.entry; units = vs }))) (sym (append-nil s.units)) (begins-self (open_notes p dem ask s))
+open-begins p dem ask s [] =
+    subst (λ vs. Begins (open_notes p dem ask s) (open_notes p dem ask (record { past = s.past; entry = s.entry; units = vs })))
+    (sym (append-nil s.units)) (begins-self (open_notes p dem ask s))
 open-begins p dem ask s (h ∷ us) =
     subst (λ vs. Begins (open_notes p dem ask s) (open_notes p dem ask (record { past = s.past; entry = s.entry; units = vs }))) (append_assoc s.units (h ∷ []) us)
     (begins-trans (open_notes p dem ask s) (open_notes p dem ask (grown s (h ∷ []))) (open_notes p dem ask (grown (grown s (h ∷ [])) us))

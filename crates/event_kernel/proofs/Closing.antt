@@ -65,7 +65,9 @@ module _ {demand : Plan → StateOf → Frac} {p : Plan} {dem : ℕ → ℕ → 
   notes = ap (told_before demand p dem) (sym next) ∙ closing-notes demand p dem adm ticks t0 (s.now - 1) e s trace h early from_is
 
   pub close-between : (trace' : Trace) → trace' ≡ ended_trace p s e trace → IsBetween demand p dem ticks s.now s trace'
-  close-between trace' pe = subst (λ n. IsBetween demand p dem ticks n s trace') next (closing-between demand p dem adm ticks t0 (s.now - 1) e s trace h early from_is trace' pe)
+  close-between trace' pe =
+      subst (λ n. IsBetween demand p dem ticks n s trace') next
+      (closing-between demand p dem adm ticks t0 (s.now - 1) e s trace h early from_is trace' pe)
 
   pub close-later : t0 < s.now
   close-later = omega (arith, h.later, h.now)
@@ -75,7 +77,9 @@ module _ {demand : Plan → StateOf → Frac} {p : Plan} {dem : ℕ → ℕ → 
 
   pub close-heard : {L : Type 0} (heard balked : L → Note → L → Type 0) (a mid to : L) → HasHeard heard a (told_after demand p dem (s.now - 1)) mid
       → HasHeard heard mid (ended_notes p s t0 e trace) to → HasHeard heard a (told_before demand p dem s.now) to
-  close-heard heard balked a mid to x y = subst (λ ns. HasHeard heard a ns to) (sym notes) (heard-append heard balked (told_after demand p dem (s.now - 1)) (ended_notes p s t0 e trace) a mid to x y)
+  close-heard heard balked a mid to x y =
+      subst (λ ns. HasHeard heard a ns to) (sym notes)
+      (heard-append heard balked (told_after demand p dem (s.now - 1)) (ended_notes p s t0 e trace) a mid to x y)
 
   pub close-balked : {L : Type 0} (heard balked : L → Note → L → Type 0) (a mid to : L) → HasHeard heard a (told_after demand p dem (s.now - 1)) mid
       → HasBalked heard balked mid (ended_notes p s t0 e trace) to → HasBalked heard balked a (told_before demand p dem ticks) to
@@ -146,7 +150,9 @@ module _ {L : Type 0} (heard balked : L → Note → L → Type 0) (demand : Pla
       sym (sum_by-append f (told_before demand p dem ticks) (last_note ∷ []) ∙ (ap (λ n. sum_by f (told_before demand p dem ticks) + n) one ∙ omega arith))
     where
       last_note : Note
-      last_note = End (length (course demand p dem ticks)) (sum_by energy_run (told_before demand p dem ticks)) (sum_by energy_idle (told_before demand p dem ticks))
+      last_note =
+          End (length (course demand p dem ticks)) (sum_by energy_run (told_before demand p dem ticks))
+          (sum_by energy_idle (told_before demand p dem ticks))
 
       one : sum_by f (last_note ∷ []) ≡ 0
       one = omega (arith, sum_by-cons f last_note [], none)

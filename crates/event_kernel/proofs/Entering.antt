@@ -227,7 +227,9 @@ module _ (p : Plan) (dem : ℕ → ℕ → ℕ) (ask : List Tick → Frac) (t : 
         where
           go : (b : Bool)
               → added trace.sums (if b then written_notes p st (length s.past) s.entry trace else []) ≡ (if b then (told_trace p st s.entry trace).sums else trace.sums)
-          go true = added-holder p st (position_of (length s.past) ((point p s.entry).speed)) s.entry trace.segment.start trace.segment.units trace.segment.holder trace.sums
+          go true =
+              added-holder p st
+              (position_of (length s.past) ((point p s.entry).speed)) s.entry trace.segment.start trace.segment.units trace.segment.holder trace.sums
           go false = added-none trace.sums
 
       some_turn : is_turn trace h ≡ true → 0 < trace.segment.units
@@ -238,29 +240,35 @@ module _ (p : Plan) (dem : ℕ → ℕ → ℕ) (ask : List Tick → Frac) (t : 
           go false f = absurd (true≢false (sym e ∙ ap (λ b. b && not (same_holder trace.segment.holder h)) f))
 
       by_turn : (b : Bool) → Grows s h n trace b → Writing p dem ask t (grown s (replicate n h)) used' (most + n) (entered p st s.entry h n trace)
-      by_turn true g = subst (λ b. Writing p dem ask t (grown s (replicate n h)) used' (most + n) (with_units h n (if b then told_trace p st s.entry trace else trace))) (sym g.is) (record {
-        units = sym (ap (λ (x : Piece). x.units) g.last);
-        holder = sym (ap (λ (x : Piece). x.holder) g.last);
-        place = omega (arith, w.place, long);
-        taken = now;
-        had = had;
-        few = omega (arith, w.few, long);
-        money = omega (arith, w.money, parts-most p adm s.entry trace.segment.units trace.segment.holder);
-        sums = sym (sums true g.is);
-        few_released = w.few_released;
-        few_finished = omega (arith, w.few_finished, ended-most st trace.segment.holder, some_turn g.is);
-        few_decisions = w.few_decisions;
-      })
-      by_turn false g = subst (λ b. Writing p dem ask t (grown s (replicate n h)) used' (most + n) (with_units h n (if b then told_trace p st s.entry trace else trace))) (sym g.is) (record {
-        units = sym (ap (λ (x : Piece). x.units) g.last);
-        holder = sym (ap (λ (x : Piece). x.holder) g.last);
-        place = omega (arith, w.place, long);
-        taken = now;
-        had = had;
-        few = omega (arith, w.few, long);
-        money = omega (arith, w.money);
-        sums = sym (sums false g.is);
-        few_released = w.few_released;
-        few_finished = omega (arith, w.few_finished);
-        few_decisions = w.few_decisions;
-      })
+      by_turn true g =
+          subst
+          (λ b. Writing p dem ask t (grown s (replicate n h)) used' (most + n) (with_units h n (if b then told_trace p st s.entry trace else trace)))
+          (sym g.is) (record {
+            units = sym (ap (λ (x : Piece). x.units) g.last);
+            holder = sym (ap (λ (x : Piece). x.holder) g.last);
+            place = omega (arith, w.place, long);
+            taken = now;
+            had = had;
+            few = omega (arith, w.few, long);
+            money = omega (arith, w.money, parts-most p adm s.entry trace.segment.units trace.segment.holder);
+            sums = sym (sums true g.is);
+            few_released = w.few_released;
+            few_finished = omega (arith, w.few_finished, ended-most st trace.segment.holder, some_turn g.is);
+            few_decisions = w.few_decisions;
+          })
+      by_turn false g =
+          subst
+          (λ b. Writing p dem ask t (grown s (replicate n h)) used' (most + n) (with_units h n (if b then told_trace p st s.entry trace else trace)))
+          (sym g.is) (record {
+            units = sym (ap (λ (x : Piece). x.units) g.last);
+            holder = sym (ap (λ (x : Piece). x.holder) g.last);
+            place = omega (arith, w.place, long);
+            taken = now;
+            had = had;
+            few = omega (arith, w.few, long);
+            money = omega (arith, w.money);
+            sums = sym (sums false g.is);
+            few_released = w.few_released;
+            few_finished = omega (arith, w.few_finished);
+            few_decisions = w.few_decisions;
+          })

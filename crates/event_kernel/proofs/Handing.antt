@@ -260,7 +260,8 @@ module _ (p : Plan) (dem : ℕ → ℕ → ℕ) (past : List Tick) where
           ∙ ap (λ (r : Row). row_by r.deadline r.job (r.used + share) whole r.worst) (sym (given-row given (given_state given) i refl o.below)))
 
       there : (k : ℕ) → k < count p → k ≢ i → given_row (raised given i share) k ≡ given_row given k
-      there k lt other = ap (λ g. row_by (due p k (job k)) (job k) (had k + g) (nat_le (dem k (job k)) (had k + g)) (worst p k)) (raised-there given i share k other)
+      there k lt other =
+          ap (λ g. row_by (due p k (job k)) (job k) (had k + g) (nat_le (dem k (job k)) (had k + g)) (worst p k)) (raised-there given i share k other)
 
       not_before : nat_le (dem i (job i)) (had i) ≡ false
       not_before = let lt : had i < dem i (job i) = omega (arith, needs) in grind (arith, nat_tests, lt)

@@ -23,10 +23,13 @@ module _ (p : Plan) where
   }
 
   pub of-state : (dem : ℕ → ℕ → ℕ) (past : List Tick) → ((i k : ℕ) → i < count p → exec p past i k ≤ worst p i) → IsOfPlan p (state_of p dem past)
-  of-state dem past low = of-table (length past) (state_of p dem past).base_at (row_of p dem past) _ (λ i lt. refl) (λ i lt. low i (latest p i (length past)) lt)
+  of-state dem past low =
+      of-table (length past) (state_of p dem past).base_at (row_of p dem past) _ (λ i lt. refl) (λ i lt. low i (latest p i (length past)) lt)
 
   pub of-prior : (dem : ℕ → ℕ → ℕ) (past : List Tick) → ((i k : ℕ) → i < count p → exec p past i k ≤ worst p i) → IsOfPlan p (prior_state p dem past)
-  of-prior dem past low = of-table (length past) (prior_state p dem past).base_at (prior_row p dem past) (prior_base p dem past) (λ i lt. worst-is past i) (λ i lt. used-in past i lt low)
+  of-prior dem past low =
+      of-table (length past) (prior_state p dem past).base_at (prior_row p dem past) (prior_base p dem past) (λ i lt. worst-is past i)
+      (λ i lt. used-in past i lt low)
     where
       worst-is : (past : List Tick) (i : ℕ) → (prior_row p dem past i).worst ≡ worst p i
       worst-is [] i = refl

@@ -38,7 +38,9 @@ module _ {L : Type 0} (heard balked : L → Note → L → Type 0) (demand : Pla
   the_note t = speed_note p t (demand p (state_of p dem (course demand p dem t)))
 
   pub note-is : (t : ℕ) (s : StateOf) → s ≡ state_of p dem (course demand p dem t) → speed_note p s.now (demand p s) ≡ the_note t
-  note-is t s e = ap (λ (v : StateOf). speed_note p v.now (demand p v)) e ∙ ap (λ n. speed_note p n (demand p (state_of p dem (course demand p dem t)))) (course-len demand p dem t)
+  note-is t s e =
+      ap (λ (v : StateOf). speed_note p v.now (demand p v)) e ∙ ap (λ n. speed_note p n (demand p (state_of p dem (course demand p dem t))))
+      (course-len demand p dem t)
 
   pub in-begins : (t : ℕ) → t < ticks → Begins (told_in demand p dem t) (told_before demand p dem ticks)
   in-begins t lt =
@@ -76,7 +78,8 @@ module _ {L : Type 0} (heard balked : L → Note → L → Type 0) (demand : Pla
   -- a tick
   pub tick-balked : (t : ℕ) (a to : L) → t < ticks → HasBalked heard balked a (told_after demand p dem t) to
       → HasBalked heard balked a (told_before demand p dem ticks) to
-  tick-balked t a to lt b = balked-begins heard balked (told_after demand p dem t) (told_before demand p dem ticks) a to (whole-begins demand p dem t ticks lt) b
+  tick-balked t a to lt b =
+      balked-begins heard balked (told_after demand p dem t) (told_before demand p dem ticks) a to (whole-begins demand p dem t ticks lt) b
 
 module _ {demand : Plan → StateOf → Frac} {p : Plan} {dem : ℕ → ℕ → ℕ} {ticks : ℕ} (adm : Bounds p) (low_ticks : ticks ≤ 2 ^ 40) {t0 t e : ℕ} {s0 s : StateOf} {trace0 trace : Trace} {completed : Bool} (i : IsInSpan demand p dem ticks t0 t e s0 trace0) (h : HasWorked demand p dem t s trace completed) where
   pub now-next : s.now ≡ t + 1

@@ -83,7 +83,9 @@ module _ {demand : Plan → StateOf → Frac} {p : Plan} {dem : ℕ → ℕ → 
   w0 = begin adm here.work f refl
 
   pub of-plan : IsOfPlan p st
-  of-plan = subst (λ (s : StateOf). IsOfPlan p s) (sym here.work.state) (of-state p dem (course demand p dem st.now) (low-exec demand p dem st.now here.work.within))
+  of-plan =
+      subst (λ (s : StateOf). IsOfPlan p s) (sym here.work.state)
+      (of-state p dem (course demand p dem st.now) (low-exec demand p dem st.now here.work.within))
 
   now-is : st.now ≡ length (course demand p dem st.now)
   now-is = ap (λ (s : StateOf). s.now) here.work.state
@@ -238,7 +240,9 @@ module _ {demand : Plan → StateOf → Frac} {p : Plan} {dem : ℕ → ℕ → 
   row-then i lt = ap (λ (v : StateOf). row_at v i) here.work.state ∙ get-table (count p) (row_of p dem past) i no_row lt
 
   row-now : (i : ℕ) → i < count p → row_at s i ≡ prior_row p dem (x ∷ past) i
-  row-now i lt = ap (λ (v : StateOf). row_at v i) (h.state ∙ ap (prior_state p dem) (course-next p dem (ask_of demand p dem) s0.now)) ∙ get-table (count p) (prior_row p dem (x ∷ past)) i no_row lt
+  row-now i lt =
+      ap (λ (v : StateOf). row_at v i) (h.state ∙ ap (prior_state p dem) (course-next p dem (ask_of demand p dem) s0.now)) ∙ get-table (count p)
+      (prior_row p dem (x ∷ past)) i no_row lt
 
   is-due : (i : ℕ) → i < count p → (row_at s0 i).deadline ≡ s0.now + 1 → some_due p s ≡ true
   is-due i lt d =
@@ -269,7 +273,9 @@ module _ {demand : Plan → StateOf → Frac} {p : Plan} {dem : ℕ → ℕ → 
       speed = ap (λ m. (point p m).speed) here.work.in_force
 
       o : IsFirstOpen (count p) (key p dem past) (left p dem past) (λ _. 0) i
-      o = first-open p dem past (point p e).speed (point p e).speed (λ _. 0) false s0 i (subst (λ (v : StateOf). Handing p dem past (point p e).speed (λ _. 0) (point p e).speed false v) (sym here.work.state) (start p dem past (point p e).speed)) first
+      o =
+          first-open p dem past (point p e).speed (point p e).speed (λ _. 0) false s0 i
+          (subst (λ (v : StateOf). Handing p dem past (point p e).speed (λ _. 0) (point p e).speed false v) (sym here.work.state) (start p dem past (point p e).speed)) first
 
       none : 0 ≡ sum_before (count p) (key p dem past) (left p dem past) i
       none = (let b = (handed_before (count p) (key p dem past) (point p e).speed (left p dem past) (λ _. 0) (point p e).speed (start p dem past (point p e).speed).handed (some-speed adm low_ticks here) i o).1 in omega (arith, b))

@@ -149,7 +149,9 @@ module _ (p : Plan) (dem : ℕ → ℕ → ℕ) (past : List Tick) where
         sym (ap₂ (λ a b. nat_eq a b) (ap (λ (q : Row). q.deadline) (row-there m any st to r lt)) (ap (λ (s : StateOf). s.now) r.state)) ∙ early in
         let none : releases_at p m (length past) ≡ false = due_released p dem periods past m false not_due in
         record {
-          state = r.state ∙ ap (λ rows. record { now = length past; rows = rows; base_at = prior_base_at p past; base = list_below (count p) (prior_base p dem past) })
+          state =
+              r.state ∙ ap
+              (λ rows. record { now = length past; rows = rows; base_at = prior_base_at p past; base = list_below (count p) (prior_base p dem past) })
               (table-same (count p) (mixed m) (mixed (m + 1)) (λ i l. same i (eqb i m) refl not_due));
           any_is = r.any_is ∙ (or_false (any_below m (λ i. releases_at p i (length past))) ∙ sym (any-more m false none));
           told = subst (λ ns. HasHeard heard from ns to)
@@ -193,12 +195,16 @@ module _ (p : Plan) (dem : ℕ → ℕ → ℕ) (past : List Tick) where
             ∙ ap (λ rows. record { now = length past; rows = rows; base_at = prior_base_at p past; base = list_below (count p) (prior_base p dem past) })
             (set-table (count p) (mixed m) (mixed (m + 1)) m _ lt here (λ k l ne. mixed-other m k ne)));
         any_is = or_true (any_below m (λ i. releases_at p i (length past))) ∙ sym (any-more m true released_there);
-        told = subst (λ ns. HasHeard heard from ns to) (sym (notes-more m)) (heard-append heard balked (notes_upto m) (release_notes p dem (length past) m) from mid to r.told
+        told =
+            subst (λ ns. HasHeard heard from ns to) (sym (notes-more m))
+            (heard-append heard balked (notes_upto m) (release_notes p dem (length past) m) from mid to r.told
             (subst (λ ns. HasHeard heard mid ns to) opening_are tells));
       }
         where
           here : mixed (m + 1) m ≡ opened_row p dem m (row_at (mixed_state m) m)
-          here = mixed-done m ∙ (row-opened p dem periods past m due_there ∙ ap (λ (q : Row). opened_row p dem m q) (sym (get-table (count p) (mixed m) m no_row lt ∙ mixed-here m)))
+          here =
+              mixed-done m ∙
+              (row-opened p dem periods past m due_there ∙ ap (λ (q : Row). opened_row p dem m q) (sym (get-table (count p) (mixed m) m no_row lt ∙ mixed-here m)))
 
       pub opens-trace : (trace0 trace trace' : Trace) → trace ≡ with_notes trace0 (notes_upto m) → trace' ≡ with_notes trace (opening_notes dem st m)
           → trace' ≡ with_notes trace0 (notes_upto (m + 1))

@@ -87,7 +87,9 @@ module _ (demand : Plan → StateOf → Frac) (p : Plan) (dem : ℕ → ℕ → 
       ∙ ap first_span (spans-whole t))
 
   pub span-new : (t : ℕ) → is_decision p dem (course demand p dem t) ≡ true → span_at demand p dem t ≡ record { past = course demand p dem t; entry = entry_in_force p dem asks (course demand p dem t); units = [] }
-  span-new t e = ap (λ b. if b then record { past = course demand p dem t; entry = entry_in_force p dem asks (course demand p dem t); units = [] } else first_span (spans_of p dem (course demand p dem t))) e
+  span-new t e =
+      ap
+      (λ b. if b then record { past = course demand p dem t; entry = entry_in_force p dem asks (course demand p dem t); units = [] } else first_span (spans_of p dem (course demand p dem t))) e
 
   -- all notes of a span, and all notes of its ticks
   abbrev pub whole_notes : Span → List Note
@@ -107,7 +109,9 @@ module _ (demand : Plan → StateOf → Frac) (p : Plan) (dem : ℕ → ℕ → 
 
   -- the notes of the last segment
   abbrev pub last_notes : Span → List Note
-  last_notes s = if nat_lt 0 (last_of (pieces_of s.units)).units then segment_notes p dem s (length s.units - (last_of (pieces_of s.units)).units) (last_of (pieces_of s.units)).units (last_of (pieces_of s.units)).holder else []
+  last_notes s =
+      if nat_lt 0 (last_of (pieces_of s.units)).units then segment_notes p dem s (length s.units - (last_of (pieces_of s.units)).units)
+      (last_of (pieces_of s.units)).units (last_of (pieces_of s.units)).holder else []
 
   pub whole-open : (s : Span) → whole_notes s ≡ open_notes p dem asks s ++ last_notes s
   whole-open s = go (split_last (pieces_of s.units))
@@ -185,7 +189,9 @@ module _ (demand : Plan → StateOf → Frac) (p : Plan) (dem : ℕ → ℕ → 
 
         one : (i : ℕ) → row_at s i ≡ prior_row p dem past i → (b : Bool) → nat_eq (prior_row p dem past i).deadline (length past) ≡ b
             → nat_eq (row_at s i).deadline s.now ≡ releases_at p i (length past)
-        one i is b q = ap₂ (λ x y. nat_eq x y) (ap (λ (r : Row). r.deadline) is) (ap (λ (v : StateOf). v.now) e) ∙ (q ∙ sym (due_released p dem periods past i b q))
+        one i is b q =
+            ap₂ (λ x y. nat_eq x y) (ap (λ (r : Row). r.deadline) is) (ap (λ (v : StateOf). v.now) e) ∙
+            (q ∙ sym (due_released p dem periods past i b q))
 
     pub decision-is : (t : ℕ) (s : StateOf) (trace : Trace) (completed : Bool) → HasWorked demand p dem t s trace completed
         → is_decision p dem (course demand p dem (t + 1)) ≡ (some_due p s || completed)
@@ -333,7 +339,9 @@ module _ (demand : Plan → StateOf → Frac) (p : Plan) (dem : ℕ → ℕ → 
             holder = h.writing.holder;
             place = h.writing.place;
             taken = held trace.segment.holder h.writing.taken;
-            had = λ k l. subst (λ n. exec p (whole_span demand p dem t).past k n + count_by (same_holder (Held k n)) (whole_span demand p dem t).units ≡ exec p (course demand p dem (t + 1)) k (latest p k (length (course demand p dem (t + 1))))) (sym (steady k l))
+            had =
+                λ k l. subst
+                (λ n. exec p (whole_span demand p dem t).past k n + count_by (same_holder (Held k n)) (whole_span demand p dem t).units ≡ exec p (course demand p dem (t + 1)) k (latest p k (length (course demand p dem (t + 1))))) (sym (steady k l))
                 (h.writing.had k l ∙ ap (λ n. exec p (course demand p dem (t + 1)) k n) (sym (steady k l) ∙ ap (latest p k) (sym (course-len demand p dem (t + 1)))));
             few = h.writing.few;
             money = h.writing.money;
@@ -368,7 +376,9 @@ module _ (demand : Plan → StateOf → Frac) (p : Plan) (dem : ℕ → ℕ → 
 
         not_due : (k : ℕ) → k < count p → (b : Bool) → nat_eq (prior_row p dem (x ∷ past) k).deadline (length (x ∷ past)) ≡ b
             → nat_eq (prior_row p dem (x ∷ past) k).deadline (length (x ∷ past)) ≡ false
-        not_due k l true q = absurd (true≢false (sym (due_released p dem adm.some_period (x ∷ past) k true q) ∙ any_below-false (count p) (λ i. releases_at p i (length (x ∷ past))) no_release' k l))
+        not_due k l true q =
+            absurd
+            (true≢false (sym (due_released p dem adm.some_period (x ∷ past) k true q) ∙ any_below-false (count p) (λ i. releases_at p i (length (x ∷ past))) no_release' k l))
         not_due k l false q = q
 
         steady : (k : ℕ) → k < count p → latest p k (t + 1) ≡ latest p k t
@@ -377,7 +387,10 @@ module _ (demand : Plan → StateOf → Frac) (p : Plan) (dem : ℕ → ℕ → 
             ap (latest p k) (sym after) ∙ (same_job p dem adm.some_period x past k (not_due k l (nat_eq (prior_row p dem (x ∷ past) k).deadline (length (x ∷ past))) refl) ∙ ap (latest p k) (course-len demand p dem t))
 
         force : entry_in_force p dem asks (course demand p dem (t + 1)) ≡ entry_in_force p dem asks past
-        force = ap (entry_in_force p dem asks) (course_next t) ∙ ap (λ b. if b then lowest_entry p.machine (asks (x ∷ past)) else entry_in_force p dem asks past) (ap (is_decision p dem) (sym (course_next t)) ∙ none)
+        force =
+            ap (entry_in_force p dem asks) (course_next t) ∙ ap
+            (λ b. if b then lowest_entry p.machine (asks (x ∷ past)) else entry_in_force p dem asks past)
+            (ap (is_decision p dem) (sym (course_next t)) ∙ none)
 
         held : (k : Holder) → HeldNow p t k → HeldNow p (t + 1) k
         held Nobody q = tt
@@ -417,7 +430,9 @@ module _ (demand : Plan → StateOf → Frac) (p : Plan) (dem : ℕ → ℕ → 
       w = h.worked.writing
 
       row-last : (i : ℕ) → i < count p → row_at s i ≡ prior_row p dem (tick_at demand p dem last ∷ course demand p dem last) i
-      row-last i lt = ap (λ (v : StateOf). row_at v i) (h.worked.state ∙ ap (prior_state p dem) (course_next last)) ∙ get-table (count p) (prior_row p dem (tick_at demand p dem last ∷ course demand p dem last)) i no_row lt
+      row-last i lt =
+          ap (λ (v : StateOf). row_at v i) (h.worked.state ∙ ap (prior_state p dem) (course_next last)) ∙ get-table (count p)
+          (prior_row p dem (tick_at demand p dem last ∷ course demand p dem last)) i no_row lt
 
       had-last : (i : ℕ)
           → exec p (tick_at demand p dem last ∷ course demand p dem last) i (latest p i (length (course demand p dem last))) ≡ exec p (course demand p dem (last + 1)) i (latest p i last)

@@ -110,7 +110,9 @@ module _ {L : Type 0} (heard balked : L → Note → L → Type 0) (demand : Pla
 
   -- what a step of so many ticks leads to
   abbrev pub Stays : (t n : ℕ) (to next : L) (st : StateOf) (trace : Trace) → Type 0
-  Stays t n to next st trace = IsInSpan demand p dem ticks t0 n e st trace × ((a : L) → HasHeard heard a (told_in demand p dem t) to → HasHeard heard a (told_in demand p dem n) next)
+  Stays t n to next st trace =
+      IsInSpan demand p dem ticks t0 n e st trace ×
+      ((a : L) → HasHeard heard a (told_in demand p dem t) to → HasHeard heard a (told_in demand p dem n) next)
 
   module _ (t : ℕ) (st : StateOf) (trace : Trace) (here : IsInSpan demand p dem ticks t0 t e st trace) (to next : L) where
     some_units : 0 < f
@@ -228,7 +230,9 @@ module _ {L : Type 0} (heard balked : L → Note → L → Type 0) (demand : Pla
       same = ap (λ (r : Row). Held i r.job) row
 
       silent : HasHeard heard next (entering_notes p mid t0 e (Held i (row_at mid i).job) (entered p st e h u trace)) next
-      silent = subst (λ ns. HasHeard heard next ns next) (sym (ap (λ k. entering_notes p mid t0 e k (entered p st e h u trace)) same ∙ no_notes h u some told p mid t0 e)) refl
+      silent =
+          subst (λ ns. HasHeard heard next ns next)
+          (sym (ap (λ k. entering_notes p mid t0 e k (entered p st e h u trace)) same ∙ no_notes h u some told p mid t0 e)) refl
 
       more : Stays m (m + 1) next next (run_on mid i f (m + 1)) (entered p mid e (Held i (row_at mid i).job) f (entered p st e h u trace))
       more =
@@ -331,7 +335,8 @@ module _ {L : Type 0} (heard balked : L → Note → L → Type 0) {demand : Pla
           → HasHeard heard to (entering_notes p st t0 e (holder_at st first) trace) next
           → IsInSpan demand p dem ticks t0 (st.now + n) e (after_advance (gives st first (n * (point p e).speed)) (st.now + n)) (entered p st e (holder_at st first) (n * (point p e).speed) trace)
           × ((a : L) → HasHeard heard a (told_in demand p dem st.now) to → HasHeard heard a (told_in demand p dem (st.now + n)) next)
-      go None is quiet tells = idle-stays heard balked demand p dem ticks adm low_ticks t0 e n st.now st trace to next some here is quiet.before_end quiet.no_release tells
+      go None is quiet tells =
+          idle-stays heard balked demand p dem ticks adm low_ticks t0 e n st.now st trace to next some here is quiet.before_end quiet.no_release tells
       go (Some i) is quiet tells = held-stays heard balked demand p dem ticks adm low_ticks t0 e n st.now i st trace to next some here is (quiet.not_done i refl) quiet.before_end quiet.no_release tells
 
   pub stays-balked : (first : Option ℕ) {n : ℕ} → IsFirst p st first → AreQuiet p dem ticks e st first n → (to next : L) → 0 < n

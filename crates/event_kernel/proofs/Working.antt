@@ -61,7 +61,9 @@ module _ {L : Type 0} (heard balked : L → Note → L → Type 0) (p : Plan) (d
       record {
         given = λ _. 0;
         hand = start p dem past (speed_now p dem ask past);
-        writing = subst (λ us. Writing p dem ask (length past) (with_list s0 us) (λ i. had p dem past i + 0) (1000000 * length past + sum_below (count p) (λ _. 0)) trace) same
+        writing =
+            subst
+            (λ us. Writing p dem ask (length past) (with_list s0 us) (λ i. had p dem past i + 0) (1000000 * length past + sum_below (count p) (λ _. 0)) trace) same
             (subst (λ m. Writing p dem ask (length past) s0 (λ i. had p dem past i + 0) m trace) most
             (subst (λ u. Writing p dem ask (length past) s0 u (1000000 * length past) trace) used w));
         told = λ a h. subst (λ us. HasHeard heard a (open_notes p dem ask (with_list s0 us)) from) same h;
@@ -115,7 +117,9 @@ module _ {L : Type 0} (heard balked : L → Note → L → Type 0) (p : Plan) (d
         record {
           given = raised w.given i share;
           hand = gives p dem past (speed_now p dem ask past) rest w.given completed st st' i share whole now w.hand pos within o se' we' is (ne ∙ or_if completed whole);
-          writing = subst (λ us. Writing p dem ask (length past) (with_list s0 us) (λ k. had p dem past k + raised w.given i share k) (1000000 * length past + sum_below (count p) (raised w.given i share)) (entered p st s0.entry (Held i ((row_at st i).job)) share trace)) units
+          writing =
+              subst
+              (λ us. Writing p dem ask (length past) (with_list s0 us) (λ k. had p dem past k + raised w.given i share k) (1000000 * length past + sum_below (count p) (raised w.given i share)) (entered p st s0.entry (Held i ((row_at st i).job)) share trace)) units
               (subst (λ m. Writing p dem ask (length past) (grown (grown s0 (units_by p dem past w.given)) (replicate share (Held i ((row_at st i).job)))) (λ k. had p dem past k + raised w.given i share k) m (entered p st s0.entry (Held i ((row_at st i).job)) share trace)) most
               (enters p dem ask (length past) adm (grown s0 (units_by p dem past w.given)) (λ k. had p dem past k + w.given k) (λ k. had p dem past k + raised w.given i share k) (1000000 * length past + sum_below (count p) w.given) st (Held i ((row_at st i).job)) share trace some w.writing sh
               (u.below, job_is)
@@ -256,7 +260,9 @@ module _ {L : Type 0} (heard balked : L → Note → L → Type 0) (p : Plan) (d
         ap (λ us. s0.units ++ us) (sym (ap (λ n. units_by p dem past w.given ++ replicate n Nobody) none ∙ append-nil (units_by p dem past w.given))) in
         let most : 1000000 * length past + sum_below (count p) w.given ≡ 1000000 * length past + sum_below (count p) w.given + rest = omega (arith, none) in
         record {
-          writing = subst (λ us. Writing p dem ask (length past) (with_list s0 us) (λ i. had p dem past i + w.given i) (1000000 * length past + sum_below (count p) w.given + rest) trace) same
+          writing =
+              subst
+              (λ us. Writing p dem ask (length past) (with_list s0 us) (λ i. had p dem past i + w.given i) (1000000 * length past + sum_below (count p) w.given + rest) trace) same
               (subst (λ m. Writing p dem ask (length past) (grown s0 (units_by p dem past w.given)) (λ i. had p dem past i + w.given i) m trace) most w.writing);
           told = λ a h. subst (λ us. HasHeard heard a (open_notes p dem ask (with_list s0 us)) to) same (w.told a h);
         }
@@ -272,7 +278,9 @@ module _ {L : Type 0} (heard balked : L → Note → L → Type 0) (p : Plan) (d
         → HasHeard heard to (entering_notes p st (length s0.past) s0.entry Nobody trace) next
         → Idled next w.given rest (entered p st s0.entry Nobody rest trace)
     working-idle to next rest completed st trace w some tells = record {
-      writing = subst (λ us. Writing p dem ask (length past) (with_list s0 us) (λ i. had p dem past i + w.given i) (1000000 * length past + sum_below (count p) w.given + rest) (entered p st s0.entry Nobody rest trace)) (idle-units w.given rest)
+      writing =
+          subst
+          (λ us. Writing p dem ask (length past) (with_list s0 us) (λ i. had p dem past i + w.given i) (1000000 * length past + sum_below (count p) w.given + rest) (entered p st s0.entry Nobody rest trace)) (idle-units w.given rest)
           (enters p dem ask (length past) adm (grown s0 (units_by p dem past w.given)) (λ k. had p dem past k + w.given k) (λ k. had p dem past k + w.given k) (1000000 * length past + sum_below (count p) w.given) st Nobody rest trace some w.writing
           (shows p dem past within (speed_now p dem ask past) rest w.given completed st w.hand) tt
           (λ k lt. idle-had (had p dem past k + w.given k) rest k (job p dem past k)));
@@ -345,7 +353,9 @@ module _ {L : Type 0} (heard balked : L → Note → L → Type 0) (p : Plan) (d
         ap (λ us. s0.units ++ us) (end-units p dem ask past adm.some_period w.given rest same w.hand.sum) in
         record {
           state = end-state p dem ask past adm.some_period none w.given st same w.hand.state;
-          writing = subst (λ us. Writing p dem ask (length past) (with_list s0 us) (λ i. exec p (tick_now p dem ask past ∷ past) i (latest p i (length past))) (1000000 * (length past + 1)) trace') units
+          writing =
+              subst
+              (λ us. Writing p dem ask (length past) (with_list s0 us) (λ i. exec p (tick_now p dem ask past ∷ past) i (latest p i (length past))) (1000000 * (length past + 1)) trace') units
               (writing-more (grown s0 (units_by p dem past w.given ++ replicate rest Nobody)) (λ i. had p dem past i + w.given i) (λ i. exec p (tick_now p dem ask past ∷ past) i (latest p i (length past)))
               (1000000 * length past + sum_below (count p) w.given + rest) (1000000 * (length past + 1)) trace'
               (λ i lt. end-had p dem ask past adm.some_period none w.given i lt (same i lt))
