@@ -24,7 +24,8 @@ use Rattle.event_kernel.proofs.Ending.{exec-within, speed_now}
 use Rattle.event_kernel.proofs.Working.{course-next, Working, working-start, rows-long, can-tell, can-run, working-turn, working-balk, Idled, working-full, working-idle, working-idle-balk, Worked, working-done}
 
 -- how far the units of the tick t are handed out and told
-abbrev pub AtWork : {L : Type 0} → (L → Note → L → Type 0) → (L → Note → L → Type 0) → (Plan → StateOf → Frac) → Plan → (ℕ → ℕ → ℕ) → ℕ → L → L → ℕ → Bool → StateOf → Trace → Type 0
+abbrev pub AtWork : {L : Type 0} → (L → Note → L → Type 0) → (L → Note → L → Type 0) → (Plan → StateOf → Frac) → Plan → (ℕ → ℕ → ℕ) → ℕ → L → L → ℕ
+    → Bool → StateOf → Trace → Type 0
 AtWork heard balked demand p dem t to0 to rest completed st trace =
     Working heard balked p dem (ask_of demand p dem) (course demand p dem t) (span_at demand p dem t) to0 to rest completed st trace
 
@@ -110,7 +111,8 @@ module _ {demand : Plan → StateOf → Frac} {p : Plan} {dem : ℕ → ℕ → 
       abbrev pub HasIdled : L → Trace → Type 0
       HasIdled next trace' = Idled heard balked p dem ask past adm within s0 to0 next w.given rest trace'
 
-      pub idled : (next : L) (trace' : Trace) → 0 < rest → HasHeard heard to (entering_notes p st from e Nobody trace) next → trace' ≡ entered p st e Nobody rest trace → HasIdled next trace'
+      pub idled : (next : L) (trace' : Trace) → 0 < rest → HasHeard heard to (entering_notes p st from e Nobody trace) next
+          → trace' ≡ entered p st e Nobody rest trace → HasIdled next trace'
       idled next trace' pos =
           subst (λ f. HasHeard heard to (entering_notes p st f e Nobody trace) next → trace' ≡ entered p st e Nobody rest trace → HasIdled next trace') (sym at.from_is)
           (subst (λ m. HasHeard heard to (entering_notes p st (length s0.past) m Nobody trace) next → trace' ≡ entered p st m Nobody rest trace → HasIdled next trace') (sym at.entry_is)
@@ -119,7 +121,8 @@ module _ {demand : Plan → StateOf → Frac} {p : Plan} {dem : ℕ → ℕ → 
       pub full : rest ≡ 0 → HasIdled to trace
       full z = working-full heard balked p dem ask past adm within s0 to0 to rest completed st trace w z
 
-      pub finished : (next : L) (trace' : Trace) (st' : StateOf) → (rest ≡ 0) ⊎ ((k : ℕ) → k < count p → (row_at st k).done ≡ true) → HasIdled next trace' → st' ≡ after_advance st (t + 1)
+      pub finished : (next : L) (trace' : Trace) (st' : StateOf) → (rest ≡ 0) ⊎ ((k : ℕ) → k < count p → (row_at st k).done ≡ true)
+          → HasIdled next trace' → st' ≡ after_advance st (t + 1)
           → HasWorked demand p dem t st' trace' completed × ((a : L) → HasHeard heard a (open_notes p dem ask s0) to0 → HasHeard heard a (open_notes p dem ask (whole_span demand p dem t)) next)
       finished next trace' st' ends d is =
           let h : Worked heard balked p dem ask past adm within s0 to0 next completed (after_advance st (length past + 1)) trace' =
@@ -127,7 +130,9 @@ module _ {demand : Plan → StateOf → Frac} {p : Plan} {dem : ℕ → ℕ → 
           let later : tick_at demand p dem t ∷ past ≡ course demand p dem (t + 1) = sym (course-next p dem ask t) in (
             record {
               state = is ∙ (ap (λ n. after_advance st (n + 1)) (sym course-long) ∙ (h.state ∙ ap (λ ps. prior_state p dem ps) later));
-              writing = subst (λ (ps : List Tick). Writing p dem ask t (whole_span demand p dem t) (λ i. exec p ps i (latest p i t)) (1000000 * (t + 1)) trace') later
+              writing =
+                  subst
+                  (λ (ps : List Tick). Writing p dem ask t (whole_span demand p dem t) (λ i. exec p ps i (latest p i t)) (1000000 * (t + 1)) trace') later
                   (subst (λ n. Writing p dem ask n (whole_span demand p dem t) (λ i. exec p (tick_at demand p dem t ∷ past) i (latest p i n)) (1000000 * (n + 1)) trace') course-long h.writing);
               completes = h.completes;
             },

@@ -28,7 +28,8 @@ abbrev pub fill : (ℕ → ℕ) → (ℕ → ℕ) → ℕ → List ℕ → List 
 fill job need r [] = []
 fill job need r (j ∷ js) = replicate (min r (need j)) (Held j (job j)) ++ fill job need (r - need j) js
 
-laid_out-fill : (key job need : ℕ → ℕ) (n r : ℕ) (pre js : List ℕ) → in_order key n ≡ pre ++ js → laid_out job (allotment n key r need) js ≡ fill job need (r - sum_list need pre) js
+laid_out-fill : (key job need : ℕ → ℕ) (n r : ℕ) (pre js : List ℕ) → in_order key n ≡ pre ++ js
+    → laid_out job (allotment n key r need) js ≡ fill job need (r - sum_list need pre) js
 laid_out-fill key job need n r pre [] e = refl
 laid_out-fill key job need n r pre (j ∷ js) e =
     ap₂ (λ m us. replicate m (Held j (job j)) ++ us) here
@@ -56,7 +57,8 @@ fill-begins job need r r' (j ∷ js) le = go (cases_lt r (need j)) (fill-begins 
     h : Holder
     h = Held j (job j)
 
-    go : (r < need j) ⊎ (need j ≤ r) → Begins (fill job need (r - need j) js) (fill job need (r' - need j) js) → Begins (fill job need r (j ∷ js)) (fill job need r' (j ∷ js))
+    go : (r < need j) ⊎ (need j ≤ r) → Begins (fill job need (r - need j) js) (fill job need (r' - need j) js)
+        → Begins (fill job need r (j ∷ js)) (fill job need r' (j ∷ js))
     go (inr le') ih =
         let same : min r' (need j) ≡ min r (need j) = omega arith in
         subst (λ m. Begins (fill job need r (j ∷ js)) (replicate m h ++ fill job need (r' - need j) js)) (sym same)
@@ -101,7 +103,8 @@ units-begin p dem ask past given rest h =
     below = in_order-below (key p dem past) (count p)
 
 -- one more unit of a span leaves the notes so far
-unit-begins : (p : Plan) (dem : ℕ → ℕ → ℕ) (ask : List Tick → Frac) (s : Span) (h : Holder) → Begins (open_notes p dem ask s) (open_notes p dem ask (grown s (h ∷ [])))
+unit-begins : (p : Plan) (dem : ℕ → ℕ → ℕ) (ask : List Tick → Frac) (s : Span) (h : Holder)
+    → Begins (open_notes p dem ask s) (open_notes p dem ask (grown s (h ∷ [])))
 unit-begins p dem ask s h =
     let g = grows p dem ask 0 s h 1 trace (omega arith) refl refl place in
     begins-under (notes_before_end p dem ask s.past ++ head_notes p dem ask s) (pieces_notes p dem s 0 (closed (pieces_of s.units))) (pieces_notes p dem (grown s (h ∷ [])) 0 (closed (pieces_of (s.units ++ h ∷ []))))
@@ -123,8 +126,11 @@ unit-begins p dem ask s h =
     place : length s.units - last + last ≡ length s.units
     place = omega (arith, last-le)
 
-pub open-begins : (p : Plan) (dem : ℕ → ℕ → ℕ) (ask : List Tick → Frac) (s : Span) (us : List Holder) → Begins (open_notes p dem ask s) (open_notes p dem ask (grown s us))
-open-begins p dem ask s [] = subst (λ vs. Begins (open_notes p dem ask s) (open_notes p dem ask (record { past = s.past; entry = s.entry; units = vs }))) (sym (append-nil s.units)) (begins-self (open_notes p dem ask s))
+pub open-begins : (p : Plan) (dem : ℕ → ℕ → ℕ) (ask : List Tick → Frac) (s : Span) (us : List Holder)
+    → Begins (open_notes p dem ask s) (open_notes p dem ask (grown s us))
+open-begins p dem ask s [] =
+    subst (λ vs. Begins (open_notes p dem ask s) (open_notes p dem ask (record { past = s.past; entry = s.entry; units = vs })))
+    (sym (append-nil s.units)) (begins-self (open_notes p dem ask s))
 open-begins p dem ask s (h ∷ us) =
     subst (λ vs. Begins (open_notes p dem ask s) (open_notes p dem ask (record { past = s.past; entry = s.entry; units = vs }))) (append_assoc s.units (h ∷ []) us)
     (begins-trans (open_notes p dem ask s) (open_notes p dem ask (grown s (h ∷ []))) (open_notes p dem ask (grown (grown s (h ∷ [])) us))

@@ -30,7 +30,8 @@ use Rattle.event_kernel.proofs.Onward.{in-begins}
 use Rattle.event_kernel.proofs.Releasing.{course-len}
 
 -- the notes before a decision, or before the end, begin all of them
-pub before-begins : (demand : Plan → StateOf → Frac) (p : Plan) (dem : ℕ → ℕ → ℕ) (ticks t : ℕ) → t ≤ ticks → (t < ticks → is_decision p dem (course demand p dem t) ≡ true)
+pub before-begins : (demand : Plan → StateOf → Frac) (p : Plan) (dem : ℕ → ℕ → ℕ) (ticks t : ℕ) → t ≤ ticks
+    → (t < ticks → is_decision p dem (course demand p dem t) ≡ true)
     → Begins (told_before demand p dem t) (told_before demand p dem ticks)
 before-begins demand p dem ticks t le decision = go (cases_lt t ticks)
   where
@@ -64,7 +65,9 @@ module _ {demand : Plan → StateOf → Frac} {p : Plan} {dem : ℕ → ℕ → 
   notes = ap (told_before demand p dem) (sym next) ∙ closing-notes demand p dem adm ticks t0 (s.now - 1) e s trace h early from_is
 
   pub close-between : (trace' : Trace) → trace' ≡ ended_trace p s e trace → IsBetween demand p dem ticks s.now s trace'
-  close-between trace' pe = subst (λ n. IsBetween demand p dem ticks n s trace') next (closing-between demand p dem adm ticks t0 (s.now - 1) e s trace h early from_is trace' pe)
+  close-between trace' pe =
+      subst (λ n. IsBetween demand p dem ticks n s trace') next
+      (closing-between demand p dem adm ticks t0 (s.now - 1) e s trace h early from_is trace' pe)
 
   pub close-later : t0 < s.now
   close-later = omega (arith, h.later, h.now)
@@ -72,10 +75,14 @@ module _ {demand : Plan → StateOf → Frac} {p : Plan} {dem : ℕ → ℕ → 
   pub close-limit : s.now ≤ ticks
   close-limit = omega (arith, h.before_end, h.now)
 
-  pub close-heard : {L : Type 0} (heard balked : L → Note → L → Type 0) (a mid to : L) → HasHeard heard a (told_after demand p dem (s.now - 1)) mid → HasHeard heard mid (ended_notes p s t0 e trace) to → HasHeard heard a (told_before demand p dem s.now) to
-  close-heard heard balked a mid to x y = subst (λ ns. HasHeard heard a ns to) (sym notes) (heard-append heard balked (told_after demand p dem (s.now - 1)) (ended_notes p s t0 e trace) a mid to x y)
+  pub close-heard : {L : Type 0} (heard balked : L → Note → L → Type 0) (a mid to : L) → HasHeard heard a (told_after demand p dem (s.now - 1)) mid
+      → HasHeard heard mid (ended_notes p s t0 e trace) to → HasHeard heard a (told_before demand p dem s.now) to
+  close-heard heard balked a mid to x y =
+      subst (λ ns. HasHeard heard a ns to) (sym notes)
+      (heard-append heard balked (told_after demand p dem (s.now - 1)) (ended_notes p s t0 e trace) a mid to x y)
 
-  pub close-balked : {L : Type 0} (heard balked : L → Note → L → Type 0) (a mid to : L) → HasHeard heard a (told_after demand p dem (s.now - 1)) mid → HasBalked heard balked mid (ended_notes p s t0 e trace) to → HasBalked heard balked a (told_before demand p dem ticks) to
+  pub close-balked : {L : Type 0} (heard balked : L → Note → L → Type 0) (a mid to : L) → HasHeard heard a (told_after demand p dem (s.now - 1)) mid
+      → HasBalked heard balked mid (ended_notes p s t0 e trace) to → HasBalked heard balked a (told_before demand p dem ticks) to
   close-balked heard balked a mid to x y =
       balked-begins heard balked (told_before demand p dem s.now) (told_before demand p dem ticks) a to
       (before-begins demand p dem ticks s.now close-limit (λ lt. subst (λ n. is_decision p dem (course demand p dem n) ≡ true) next (h.decision (omega (arith, lt, next)))))
@@ -89,7 +96,8 @@ module _ {L : Type 0} (heard balked : L → Note → L → Type 0) (demand : Pla
   abbrev pub all_notes : List Note
   all_notes = notes_of p dem (ask_of demand p dem) (course demand p dem ticks)
 
-  pub first-between : (s : StateOf) (trace : Trace) → s ≡ prior_state p dem [] → trace.sums ≡ sums_of [] → IsBetween demand p dem ticks s.now s trace × (s.now ≡ 0)
+  pub first-between : (s : StateOf) (trace : Trace) → s ≡ prior_state p dem [] → trace.sums ≡ sums_of []
+      → IsBetween demand p dem ticks s.now s trace × (s.now ≡ 0)
   unfolding schedule_by notes_before_end
   first-between s trace e c =
       let now : s.now ≡ 0 = ap (λ (v : StateOf). v.now) e in (
@@ -117,12 +125,15 @@ module _ {L : Type 0} (heard balked : L → Note → L → Type 0) (demand : Pla
       ∙ (ap (λ n. told_before demand p dem n ++ End ticks (sum_by energy_run (told_before demand p dem n)) (sum_by energy_idle (told_before demand p dem n)) ∷ []) e
       ∙ ap (λ n. told_before demand p dem ticks ++ End n (sum_by energy_run (told_before demand p dem ticks)) (sum_by energy_idle (told_before demand p dem ticks)) ∷ []) (sym (course-len demand p dem ticks))))
 
-  pub end-heard : (t : ℕ) (s : StateOf) (trace : Trace) (a mid to : L) → IsBetween demand p dem ticks t s trace → t ≡ ticks → HasHeard heard a (told_before demand p dem t) mid → heard mid (End ticks trace.sums.run trace.sums.idle) to → HasHeard heard a all_notes to
+  pub end-heard : (t : ℕ) (s : StateOf) (trace : Trace) (a mid to : L) → IsBetween demand p dem ticks t s trace → t ≡ ticks
+      → HasHeard heard a (told_before demand p dem t) mid → heard mid (End ticks trace.sums.run trace.sums.idle) to → HasHeard heard a all_notes to
   end-heard t s trace a mid to b e h x =
       subst (λ ns. HasHeard heard a ns to) (end-is t trace.sums.run trace.sums.idle e (ap (λ (x : Sums). x.run) b.sums) (ap (λ (x : Sums). x.idle) b.sums))
       (heard-append heard balked (told_before demand p dem t) (End ticks trace.sums.run trace.sums.idle ∷ []) a mid to h (to, x, refl))
 
-  pub end-balked : (t : ℕ) (s : StateOf) (trace : Trace) (a mid to : L) → IsBetween demand p dem ticks t s trace → t ≡ ticks → HasHeard heard a (told_before demand p dem t) mid → balked mid (End ticks trace.sums.run trace.sums.idle) to → HasBalked heard balked a all_notes to
+  pub end-balked : (t : ℕ) (s : StateOf) (trace : Trace) (a mid to : L) → IsBetween demand p dem ticks t s trace → t ≡ ticks
+      → HasHeard heard a (told_before demand p dem t) mid → balked mid (End ticks trace.sums.run trace.sums.idle) to
+      → HasBalked heard balked a all_notes to
   end-balked t s trace a mid to b e h x =
       subst (λ ns. HasBalked heard balked a ns to) (end-is t trace.sums.run trace.sums.idle e (ap (λ (x : Sums). x.run) b.sums) (ap (λ (x : Sums). x.idle) b.sums))
       (balked_after heard balked (told_before demand p dem t) (End ticks trace.sums.run trace.sums.idle ∷ []) a mid to h (inl x))
@@ -132,13 +143,16 @@ module _ {L : Type 0} (heard balked : L → Note → L → Type 0) (demand : Pla
       balked-append heard balked (told_before demand p dem ticks) (End (length (course demand p dem ticks)) (sum_by energy_run (told_before demand p dem ticks)) (sum_by energy_idle (told_before demand p dem ticks)) ∷ []) a to b
 
   -- the totals are those of all notes
-  sum-end : (f : Note → ℕ) → f (End (length (course demand p dem ticks)) (sum_by energy_run (told_before demand p dem ticks)) (sum_by energy_idle (told_before demand p dem ticks))) ≡ 0
+  sum-end : (f : Note → ℕ)
+      → f (End (length (course demand p dem ticks)) (sum_by energy_run (told_before demand p dem ticks)) (sum_by energy_idle (told_before demand p dem ticks))) ≡ 0
       → sum_by f (told_before demand p dem ticks) ≡ sum_by f all_notes
   sum-end f none =
       sym (sum_by-append f (told_before demand p dem ticks) (last_note ∷ []) ∙ (ap (λ n. sum_by f (told_before demand p dem ticks) + n) one ∙ omega arith))
     where
       last_note : Note
-      last_note = End (length (course demand p dem ticks)) (sum_by energy_run (told_before demand p dem ticks)) (sum_by energy_idle (told_before demand p dem ticks))
+      last_note =
+          End (length (course demand p dem ticks)) (sum_by energy_run (told_before demand p dem ticks))
+          (sum_by energy_idle (told_before demand p dem ticks))
 
       one : sum_by f (last_note ∷ []) ≡ 0
       one = omega (arith, sum_by-cons f last_note [], none)

@@ -9,7 +9,8 @@ use Rattle.demand_list.proofs.Worsts.{worst-listed, worsts-long}
 use Rattle.event_kernel.specs.Runs.{demands_of, IsListOf}
 
 module _ (p : Plan) (d : DemandsOf) (list : IsListOf p d) where
-  charged : (i k : ℕ) → i < count p → unwrap_or (option_map (λ u. u + 2 * p.machine.charge) (named d.rows i k)) (worst p i) ≡ units_of d i k + 2 * p.machine.charge
+  charged : (i k : ℕ) → i < count p
+      → unwrap_or (option_map (λ u. u + 2 * p.machine.charge) (named d.rows i k)) (worst p i) ≡ units_of d i k + 2 * p.machine.charge
   charged i k lt = go (named d.rows i k) (worst-listed p.tasks d list i lt)
     where
       go : (o : Option ℕ) → slice_index d.worsts i ≡ (task p i).worst

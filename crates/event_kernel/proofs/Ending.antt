@@ -40,7 +40,8 @@ module _ (p : Plan) (dem : ℕ → ℕ → ℕ) (ask : List Tick → Frac) (past
       handed-end (count p) (key p dem past) (speed_now p dem ask past) (left p dem past) given rest h.handed e i lt
       ∙ sym (get-table (count p) (allotment (count p) (key_of p.scheduler p (length past)) (speed_now p dem ask past) (left p dem past)) i 0 lt)
 
-  pub end-units : (given : ℕ → ℕ) (rest : ℕ) → ((i : ℕ) → i < count p → given i ≡ share (tick_now p dem ask past) i) → sum_below (count p) given + rest ≡ (speed_now p dem ask past)
+  pub end-units : (given : ℕ → ℕ) (rest : ℕ) → ((i : ℕ) → i < count p → given i ≡ share (tick_now p dem ask past) i)
+      → sum_below (count p) given + rest ≡ (speed_now p dem ask past)
       → units_by p dem past given ++ replicate rest Nobody ≡ units_of p past (tick_now p dem ask past)
   end-units given rest same sum =
       ap₂ (λ us m. us ++ replicate m Nobody)
@@ -50,13 +51,16 @@ module _ (p : Plan) (dem : ℕ → ℕ → ℕ) (ask : List Tick → Frac) (past
   own : (i : ℕ) → i < count p → share (tick_now p dem ask past) i ≤ left p dem past i
   own i lt = omega (arith, get-table (count p) (allotment (count p) (key_of p.scheduler p (length past)) (speed_now p dem ask past) (left p dem past)) i 0 lt)
 
-  had-next : ((i : ℕ) → dem i 0 ≡ 0) → (i : ℕ) → i < count p → exec p ((tick_now p dem ask past) ∷ past) i (job p dem past i) ≡ had p dem past i + share (tick_now p dem ask past) i
+  had-next : ((i : ℕ) → dem i 0 ≡ 0) → (i : ℕ) → i < count p
+      → exec p ((tick_now p dem ask past) ∷ past) i (job p dem past i) ≡ had p dem past i + share (tick_now p dem ask past) i
   had-next none i lt = exec-legal p dem (tick_now p dem ask past) past i (periods i) (none i) (own i lt)
 
-  pub end-had : ((i : ℕ) → dem i 0 ≡ 0) → (given : ℕ → ℕ) (i : ℕ) → i < count p → given i ≡ share (tick_now p dem ask past) i → had p dem past i + given i ≡ exec p ((tick_now p dem ask past) ∷ past) i (job p dem past i)
+  pub end-had : ((i : ℕ) → dem i 0 ≡ 0) → (given : ℕ → ℕ) (i : ℕ) → i < count p → given i ≡ share (tick_now p dem ask past) i
+      → had p dem past i + given i ≡ exec p ((tick_now p dem ask past) ∷ past) i (job p dem past i)
   end-had none given i lt same = ap (λ v. had p dem past i + v) same ∙ sym (had-next none i lt)
 
-  pub end-state : ((i : ℕ) → dem i 0 ≡ 0) → (given : ℕ → ℕ) (st : StateOf) → ((i : ℕ) → i < count p → given i ≡ share (tick_now p dem ask past) i) → st ≡ given_state p dem past given
+  pub end-state : ((i : ℕ) → dem i 0 ≡ 0) → (given : ℕ → ℕ) (st : StateOf) → ((i : ℕ) → i < count p → given i ≡ share (tick_now p dem ask past) i)
+      → st ≡ given_state p dem past given
       → after_advance st (length past + 1) ≡ prior_state p dem ((tick_now p dem ask past) ∷ past)
   end-state none given st same is =
       ap (λ (s : StateOf). after_advance s (length past + 1)) is

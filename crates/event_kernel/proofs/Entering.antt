@@ -74,7 +74,8 @@ module _ (p : Plan) (dem : ℕ → ℕ → ℕ) (ask : List Tick → Frac) (t : 
       whole : had_by p s (q + u) i now ≡ used i
       whole = ap (λ us. exec p s.past i now + count_by (same_holder (Held i now)) us) (take_all (q + u) s.units (omega (arith, place))) ∙ had i taken.0
 
-      go : (b : Bool) → nat_eq (used i) (dem i now) ≡ b → (if b then Done (at_unit (q + u)) i k (dem i now) ∷ [] else []) ≡ (if b then Done (at_unit (q + u)) i k (used i) ∷ [] else [])
+      go : (b : Bool) → nat_eq (used i) (dem i now) ≡ b
+          → (if b then Done (at_unit (q + u)) i k (dem i now) ∷ [] else []) ≡ (if b then Done (at_unit (q + u)) i k (used i) ∷ [] else [])
       go true e = sym (done_same (at_unit (q + u)) (at_unit q) i k (dem i now) (used i) e)
       go false e = refl
 
@@ -85,15 +86,18 @@ module _ (p : Plan) (dem : ℕ → ℕ → ℕ) (ask : List Tick → Frac) (t : 
     pub notes : pieces_notes p dem (grown s (replicate n h)) 0 (closed (pieces_of (s.units ++ replicate n h))) ≡ pieces_notes p dem s 0 (closed (pieces_of s.units)) ++ (if turn then segment_notes p dem s trace.segment.start trace.segment.units trace.segment.holder else [])
 
   pub grows : (s : Span) (h : Holder) (n : ℕ) (trace : Trace) → 0 < n
-      → trace.segment.units ≡ (last_of (pieces_of s.units)).units → trace.segment.holder ≡ (last_of (pieces_of s.units)).holder → trace.segment.start + trace.segment.units ≡ length s.units
+      → trace.segment.units ≡ (last_of (pieces_of s.units)).units → trace.segment.holder ≡ (last_of (pieces_of s.units)).holder
+      → trace.segment.start + trace.segment.units ≡ length s.units
       → (turn : Bool) × Grows s h n trace turn
   grows s h zero trace some ue he place = absurd (omega arith)
   grows s h (suc n) trace some ue he place = by_last (split_last (pieces_of s.units))
     where
-      stable : (done : List Piece) (r : Piece) → pieces_of s.units ≡ done ++ r ∷ [] → pieces_notes p dem (grown s (replicate (suc n) h)) 0 done ≡ pieces_notes p dem s 0 done
+      stable : (done : List Piece) (r : Piece) → pieces_of s.units ≡ done ++ r ∷ []
+          → pieces_notes p dem (grown s (replicate (suc n) h)) 0 done ≡ pieces_notes p dem s 0 done
       stable done r e = pieces_notes-grown p dem s (replicate (suc n) h) 0 done (omega (arith, total-pieces s.units, ap total e, total-append done (r ∷ [])))
 
-      by_last : (pieces_of s.units ≡ []) ⊎ ((done : List Piece) × (r : Piece) × (pieces_of s.units ≡ done ++ r ∷ [])) → (turn : Bool) × Grows s h (suc n) trace turn
+      by_last : (pieces_of s.units ≡ []) ⊎ ((done : List Piece) × (r : Piece) × (pieces_of s.units ≡ done ++ r ∷ []))
+          → (turn : Bool) × Grows s h (suc n) trace turn
       by_last (inl e) =
           let none : s.units ≡ [] = no_pieces s.units e in
           let zero_units : trace.segment.units ≡ 0 = ue ∙ ap (λ rs. (last_of rs).units) e in
@@ -169,7 +173,8 @@ module _ (p : Plan) (dem : ℕ → ℕ → ℕ) (ask : List Tick → Frac) (t : 
               )
 
   -- the notes of the longer span
-  pub enters-notes : (s : Span) (used : ℕ → ℕ) (most : ℕ) (st : StateOf) (h : Holder) (n : ℕ) (trace : Trace) → 0 < n → Writing p dem ask t s used most trace → Shows p dem t st used
+  pub enters-notes : (s : Span) (used : ℕ → ℕ) (most : ℕ) (st : StateOf) (h : Holder) (n : ℕ) (trace : Trace) → 0 < n
+      → Writing p dem ask t s used most trace → Shows p dem t st used
       → open_notes p dem ask (grown s (replicate n h)) ≡ open_notes p dem ask s ++ entering_notes p st (length s.past) s.entry h trace
   enters-notes s used most st h n trace some w shows =
       let g = grows s h n trace some w.units w.holder w.place in
@@ -181,7 +186,8 @@ module _ (p : Plan) (dem : ℕ → ℕ → ℕ) (ask : List Tick → Frac) (t : 
       told : List Note
       told = pieces_notes p dem s 0 (closed (pieces_of s.units))
 
-      by_turn : (b : Bool) → Grows s h n trace b → open_notes p dem ask (grown s (replicate n h)) ≡ open_notes p dem ask s ++ entering_notes p st (length s.past) s.entry h trace
+      by_turn : (b : Bool) → Grows s h n trace b
+          → open_notes p dem ask (grown s (replicate n h)) ≡ open_notes p dem ask s ++ entering_notes p st (length s.past) s.entry h trace
       by_turn true g =
           ap (λ ns. before ++ ns) g.notes
           ∙ (sym (append_assoc before told (segment_notes p dem s trace.segment.start trace.segment.units trace.segment.holder))
@@ -193,7 +199,8 @@ module _ (p : Plan) (dem : ℕ → ℕ → ℕ) (ask : List Tick → Frac) (t : 
           ∙ ap (λ b. (before ++ told) ++ (if b then written_notes p st (length s.past) s.entry trace else [])) (sym g.is))
 
   -- and the trace
-  pub enters : Bounds p → (s : Span) (used used' : ℕ → ℕ) (most : ℕ) (st : StateOf) (h : Holder) (n : ℕ) (trace : Trace) → 0 < n → Writing p dem ask t s used most trace → Shows p dem t st used
+  pub enters : Bounds p → (s : Span) (used used' : ℕ → ℕ) (most : ℕ) (st : StateOf) (h : Holder) (n : ℕ) (trace : Trace) → 0 < n
+      → Writing p dem ask t s used most trace → Shows p dem t st used
       → HeldNow p t h
       → ((i : ℕ) → i < count p → used i + count_by (same_holder (Held i (latest p i t))) (replicate n h) ≡ used' i)
       → Writing p dem ask t (grown s (replicate n h)) used' (most + n) (entered p st s.entry h n trace)
@@ -210,15 +217,19 @@ module _ (p : Plan) (dem : ℕ → ℕ → ℕ) (ask : List Tick → Frac) (t : 
       had : (i : ℕ) → i < count p → exec p s.past i (latest p i t) + count_by (same_holder (Held i (latest p i t))) (s.units ++ replicate n h) ≡ used' i
       had i lt = omega (arith, count-append (same_holder (Held i (latest p i t))) s.units (replicate n h), w.had i lt, more i lt)
 
-      sums : (b : Bool) → is_turn trace h ≡ b → sums_of (open_notes p dem ask (grown s (replicate n h))) ≡ (if b then (told_trace p st s.entry trace).sums else trace.sums)
+      sums : (b : Bool) → is_turn trace h ≡ b
+          → sums_of (open_notes p dem ask (grown s (replicate n h))) ≡ (if b then (told_trace p st s.entry trace).sums else trace.sums)
       sums b e =
           ap sums_of notes
           ∙ (sums-append (open_notes p dem ask s) (entering_notes p st (length s.past) s.entry h trace)
           ∙ (ap (λ c. added c (entering_notes p st (length s.past) s.entry h trace)) (sym w.sums)
           ∙ (ap (λ c. added trace.sums (if c then written_notes p st (length s.past) s.entry trace else [])) e ∙ go b)))
         where
-          go : (b : Bool) → added trace.sums (if b then written_notes p st (length s.past) s.entry trace else []) ≡ (if b then (told_trace p st s.entry trace).sums else trace.sums)
-          go true = added-holder p st (position_of (length s.past) ((point p s.entry).speed)) s.entry trace.segment.start trace.segment.units trace.segment.holder trace.sums
+          go : (b : Bool)
+              → added trace.sums (if b then written_notes p st (length s.past) s.entry trace else []) ≡ (if b then (told_trace p st s.entry trace).sums else trace.sums)
+          go true =
+              added-holder p st
+              (position_of (length s.past) ((point p s.entry).speed)) s.entry trace.segment.start trace.segment.units trace.segment.holder trace.sums
           go false = added-none trace.sums
 
       some_turn : is_turn trace h ≡ true → 0 < trace.segment.units
@@ -229,29 +240,35 @@ module _ (p : Plan) (dem : ℕ → ℕ → ℕ) (ask : List Tick → Frac) (t : 
           go false f = absurd (true≢false (sym e ∙ ap (λ b. b && not (same_holder trace.segment.holder h)) f))
 
       by_turn : (b : Bool) → Grows s h n trace b → Writing p dem ask t (grown s (replicate n h)) used' (most + n) (entered p st s.entry h n trace)
-      by_turn true g = subst (λ b. Writing p dem ask t (grown s (replicate n h)) used' (most + n) (with_units h n (if b then told_trace p st s.entry trace else trace))) (sym g.is) (record {
-        units = sym (ap (λ (x : Piece). x.units) g.last);
-        holder = sym (ap (λ (x : Piece). x.holder) g.last);
-        place = omega (arith, w.place, long);
-        taken = now;
-        had = had;
-        few = omega (arith, w.few, long);
-        money = omega (arith, w.money, parts-most p adm s.entry trace.segment.units trace.segment.holder);
-        sums = sym (sums true g.is);
-        few_released = w.few_released;
-        few_finished = omega (arith, w.few_finished, ended-most st trace.segment.holder, some_turn g.is);
-        few_decisions = w.few_decisions;
-      })
-      by_turn false g = subst (λ b. Writing p dem ask t (grown s (replicate n h)) used' (most + n) (with_units h n (if b then told_trace p st s.entry trace else trace))) (sym g.is) (record {
-        units = sym (ap (λ (x : Piece). x.units) g.last);
-        holder = sym (ap (λ (x : Piece). x.holder) g.last);
-        place = omega (arith, w.place, long);
-        taken = now;
-        had = had;
-        few = omega (arith, w.few, long);
-        money = omega (arith, w.money);
-        sums = sym (sums false g.is);
-        few_released = w.few_released;
-        few_finished = omega (arith, w.few_finished);
-        few_decisions = w.few_decisions;
-      })
+      by_turn true g =
+          subst
+          (λ b. Writing p dem ask t (grown s (replicate n h)) used' (most + n) (with_units h n (if b then told_trace p st s.entry trace else trace)))
+          (sym g.is) (record {
+            units = sym (ap (λ (x : Piece). x.units) g.last);
+            holder = sym (ap (λ (x : Piece). x.holder) g.last);
+            place = omega (arith, w.place, long);
+            taken = now;
+            had = had;
+            few = omega (arith, w.few, long);
+            money = omega (arith, w.money, parts-most p adm s.entry trace.segment.units trace.segment.holder);
+            sums = sym (sums true g.is);
+            few_released = w.few_released;
+            few_finished = omega (arith, w.few_finished, ended-most st trace.segment.holder, some_turn g.is);
+            few_decisions = w.few_decisions;
+          })
+      by_turn false g =
+          subst
+          (λ b. Writing p dem ask t (grown s (replicate n h)) used' (most + n) (with_units h n (if b then told_trace p st s.entry trace else trace)))
+          (sym g.is) (record {
+            units = sym (ap (λ (x : Piece). x.units) g.last);
+            holder = sym (ap (λ (x : Piece). x.holder) g.last);
+            place = omega (arith, w.place, long);
+            taken = now;
+            had = had;
+            few = omega (arith, w.few, long);
+            money = omega (arith, w.money);
+            sums = sym (sums false g.is);
+            few_released = w.few_released;
+            few_finished = omega (arith, w.few_finished);
+            few_decisions = w.few_decisions;
+          })

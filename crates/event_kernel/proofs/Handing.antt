@@ -32,13 +32,15 @@ use Rattle.event_kernel.proofs.Entering.{Shows}
 abbrev pub laid_out : (ℕ → ℕ) → (ℕ → ℕ) → List ℕ → List Holder
 laid_out job given js = flat_map (λ i. replicate (given i) (Held i (job i))) js
 
-pub laid_out-same : (job given given' : ℕ → ℕ) (n : ℕ) (js : List ℕ) → AreBelow n js → ((j : ℕ) → j < n → given j ≡ given' j) → laid_out job given js ≡ laid_out job given' js
+pub laid_out-same : (job given given' : ℕ → ℕ) (n : ℕ) (js : List ℕ) → AreBelow n js → ((j : ℕ) → j < n → given j ≡ given' j)
+    → laid_out job given js ≡ laid_out job given' js
 laid_out-same job given given' n [] below same = refl
 laid_out-same job given given' n (j ∷ js) below same =
     ap₂ (λ m us. replicate m (Held j (job j)) ++ us) (same j below.0) (laid_out-same job given given' n js below.1 same)
 
 -- behind i nobody has anything
-laid_out-after : (key job given : ℕ → ℕ) (n i : ℕ) (js : List ℕ) → AreBelow n js → IsAhead key i js → ((j : ℕ) → j < n → stands_before key i j ≡ true → given j ≡ 0) → laid_out job given js ≡ []
+laid_out-after : (key job given : ℕ → ℕ) (n i : ℕ) (js : List ℕ) → AreBelow n js → IsAhead key i js
+    → ((j : ℕ) → j < n → stands_before key i j ≡ true → given j ≡ 0) → laid_out job given js ≡ []
 laid_out-after key job given n i [] below ahead none = refl
 laid_out-after key job given n i (j ∷ js) below ahead none =
     ap₂ (λ m us. replicate m (Held j (job j)) ++ us) (none j below.0 ahead.0) (laid_out-after key job given n i js below.1 ahead.1 none)
@@ -169,7 +171,8 @@ module _ (p : Plan) (dem : ℕ → ℕ → ℕ) (past : List Tick) where
   pub given-row : (given : ℕ → ℕ) (st : StateOf) (i : ℕ) → st ≡ given_state given → i < count p → row_at st i ≡ given_row given i
   given-row given st i e lt = ap (λ (s : StateOf). row_at s i) e ∙ get-table (count p) (given_row given) i no_row lt
 
-  pub shows : ((i : ℕ) → i < count p → had i ≤ dem i (job i)) → (f rest : ℕ) (given : ℕ → ℕ) (completed : Bool) (st : StateOf) → Handing f given rest completed st
+  pub shows : ((i : ℕ) → i < count p → had i ≤ dem i (job i)) → (f rest : ℕ) (given : ℕ → ℕ) (completed : Bool) (st : StateOf)
+      → Handing f given rest completed st
       → Shows p dem (length past) st (λ i. had i + given i)
   shows within f rest given completed st h = record {
     used_is = λ i lt. ap (λ (r : Row). r.used) (given-row given st i h.state lt);
@@ -211,7 +214,8 @@ module _ (p : Plan) (dem : ℕ → ℕ → ℕ) (past : List Tick) where
       omega (arith, enough)
 
   -- one task gets units
-  pub gives : (f rest : ℕ) (given : ℕ → ℕ) (completed : Bool) (st next : StateOf) (i share : ℕ) (whole now : Bool) → Handing f given rest completed st → 0 < rest
+  pub gives : (f rest : ℕ) (given : ℕ → ℕ) (completed : Bool) (st next : StateOf) (i share : ℕ) (whole now : Bool) → Handing f given rest completed st
+      → 0 < rest
       → ((i : ℕ) → i < count p → had i ≤ dem i (job i))
       → IsFirstOpen (count p) key (left p dem past) given i
       → share ≡ min rest (dem i (job i) - (had i + given i))
@@ -256,12 +260,14 @@ module _ (p : Plan) (dem : ℕ → ℕ → ℕ) (past : List Tick) where
           ∙ ap (λ (r : Row). row_by r.deadline r.job (r.used + share) whole r.worst) (sym (given-row given (given_state given) i refl o.below)))
 
       there : (k : ℕ) → k < count p → k ≢ i → given_row (raised given i share) k ≡ given_row given k
-      there k lt other = ap (λ g. row_by (due p k (job k)) (job k) (had k + g) (nat_le (dem k (job k)) (had k + g)) (worst p k)) (raised-there given i share k other)
+      there k lt other =
+          ap (λ g. row_by (due p k (job k)) (job k) (had k + g) (nat_le (dem k (job k)) (had k + g)) (worst p k)) (raised-there given i share k other)
 
       not_before : nat_le (dem i (job i)) (had i) ≡ false
       not_before = let lt : had i < dem i (job i) = omega (arith, needs) in grind (arith, nat_tests, lt)
 
-      by_whole : (b : Bool) → nat_eq share (dem i (job i) - (had i + given i)) ≡ b → (if b then true else completed) ≡ any_below (count p) (ends_in (raised given i share))
+      by_whole : (b : Bool) → nat_eq share (dem i (job i) - (had i + given i)) ≡ b
+          → (if b then true else completed) ≡ any_below (count p) (ends_in (raised given i share))
       by_whole true e =
           sym (any_below-found (count p) (ends_in (raised given i share)) i o.below
           (ap₂ (λ a b. not a && b) not_before (ap (λ u. nat_le (dem i (job i)) u) raised_is ∙ is_whole true e)))
@@ -299,10 +305,12 @@ module _ (p : Plan) (dem : ℕ → ℕ → ℕ) (past : List Tick) where
       now = handed_before (count p) key f (left p dem past) given rest h.handed pos i o
 
   -- what each task has had by then
-  pub gives-had : (given : ℕ → ℕ) (i share k : ℕ) → (had k + given k) + count_by (same_holder (Held k (job k))) (replicate share (Held i (job i))) ≡ had k + raised given i share k
+  pub gives-had : (given : ℕ → ℕ) (i share k : ℕ)
+      → (had k + given k) + count_by (same_holder (Held k (job k))) (replicate share (Held i (job i))) ≡ had k + raised given i share k
   gives-had given i share k = go (eqb k i) refl
     where
-      go : (b : Bool) → eqb k i ≡ b → (had k + given k) + count_by (same_holder (Held k (job k))) (replicate share (Held i (job i))) ≡ had k + (if b then given k + share else given k)
+      go : (b : Bool) → eqb k i ≡ b
+          → (had k + given k) + count_by (same_holder (Held k (job k))) (replicate share (Held i (job i))) ≡ had k + (if b then given k + share else given k)
       go true e =
           let same : k ≡ i = grind (arith, nat_tests) in
           let jobs : job k ≡ job i = ap job same in

@@ -12,7 +12,8 @@ use Rattle.sched_model.proofs.Tables.{get-table}
 use Rattle.event_kernel.specs.Tickwork.{served}
 
 module _ (p : Plan) where
-  pub of-table : (now base_at : ℕ) (row : ℕ → Row) (base : ℕ → ℕ) → ((i : ℕ) → i < count p → (row i).worst ≡ worst p i) → ((i : ℕ) → i < count p → (row i).used ≤ worst p i)
+  pub of-table : (now base_at : ℕ) (row : ℕ → Row) (base : ℕ → ℕ) → ((i : ℕ) → i < count p → (row i).worst ≡ worst p i)
+      → ((i : ℕ) → i < count p → (row i).used ≤ worst p i)
       → IsOfPlan p (record { now = now; rows = list_below (count p) row; base_at = base_at; base = list_below (count p) base })
   of-table now base_at row base w u = record {
     rows = length-list_below (count p) row;
@@ -22,10 +23,13 @@ module _ (p : Plan) where
   }
 
   pub of-state : (dem : ℕ → ℕ → ℕ) (past : List Tick) → ((i k : ℕ) → i < count p → exec p past i k ≤ worst p i) → IsOfPlan p (state_of p dem past)
-  of-state dem past low = of-table (length past) (state_of p dem past).base_at (row_of p dem past) _ (λ i lt. refl) (λ i lt. low i (latest p i (length past)) lt)
+  of-state dem past low =
+      of-table (length past) (state_of p dem past).base_at (row_of p dem past) _ (λ i lt. refl) (λ i lt. low i (latest p i (length past)) lt)
 
   pub of-prior : (dem : ℕ → ℕ → ℕ) (past : List Tick) → ((i k : ℕ) → i < count p → exec p past i k ≤ worst p i) → IsOfPlan p (prior_state p dem past)
-  of-prior dem past low = of-table (length past) (prior_state p dem past).base_at (prior_row p dem past) (prior_base p dem past) (λ i lt. worst-is past i) (λ i lt. used-in past i lt low)
+  of-prior dem past low =
+      of-table (length past) (prior_state p dem past).base_at (prior_row p dem past) (prior_base p dem past) (λ i lt. worst-is past i)
+      (λ i lt. used-in past i lt low)
     where
       worst-is : (past : List Tick) (i : ℕ) → (prior_row p dem past i).worst ≡ worst p i
       worst-is [] i = refl
@@ -36,7 +40,8 @@ module _ (p : Plan) where
       used-in (x ∷ past) i lt low = low i (latest p i (length past)) lt
 
   -- one row changed
-  pub of-set : (s : StateOf) (i : ℕ) (r : Row) → IsOfPlan p s → i < length s.rows → r.worst ≡ (row_at s i).worst → r.used ≤ (row_at s i).worst → IsOfPlan p (record s { rows = set s.rows i r })
+  pub of-set : (s : StateOf) (i : ℕ) (r : Row) → IsOfPlan p s → i < length s.rows → r.worst ≡ (row_at s i).worst → r.used ≤ (row_at s i).worst
+      → IsOfPlan p (record s { rows = set s.rows i r })
   of-set s i r o lt w u = record {
     rows = length-set s.rows i r ∙ o.rows;
     base = o.base;
@@ -56,7 +61,8 @@ module _ (p : Plan) where
           let other : k ≢ i = grind (arith, nat_tests) in
           ap (λ (q : Row). q.worst) (get_or-set_other s.rows i k r no_row other) ∙ o.worst k l
 
-      in-it : (k : ℕ) → k < count p → (b : Bool) → eqb k i ≡ b → (row_at (record s { rows = set s.rows i r }) k).used ≤ (row_at (record s { rows = set s.rows i r }) k).worst
+      in-it : (k : ℕ) → k < count p → (b : Bool) → eqb k i ≡ b
+          → (row_at (record s { rows = set s.rows i r }) k).used ≤ (row_at (record s { rows = set s.rows i r }) k).worst
       in-it k l true e =
           let same : i ≡ k = grind (arith, nat_tests) in
           subst (λ m. (row_at (record s { rows = set s.rows i r }) m).used ≤ (row_at (record s { rows = set s.rows i r }) m).worst) same

@@ -38,7 +38,9 @@ module _ {L : Type 0} (heard balked : L → Note → L → Type 0) (demand : Pla
   the_note t = speed_note p t (demand p (state_of p dem (course demand p dem t)))
 
   pub note-is : (t : ℕ) (s : StateOf) → s ≡ state_of p dem (course demand p dem t) → speed_note p s.now (demand p s) ≡ the_note t
-  note-is t s e = ap (λ (v : StateOf). speed_note p v.now (demand p v)) e ∙ ap (λ n. speed_note p n (demand p (state_of p dem (course demand p dem t)))) (course-len demand p dem t)
+  note-is t s e =
+      ap (λ (v : StateOf). speed_note p v.now (demand p v)) e ∙ ap (λ n. speed_note p n (demand p (state_of p dem (course demand p dem t))))
+      (course-len demand p dem t)
 
   pub in-begins : (t : ℕ) → t < ticks → Begins (told_in demand p dem t) (told_before demand p dem ticks)
   in-begins t lt =
@@ -63,7 +65,8 @@ module _ {L : Type 0} (heard balked : L → Note → L → Type 0) (demand : Pla
       (balked_after heard balked (told_before demand p dem t) (all_release_notes p dem t ++ the_note t ∷ []) a from to before
       (balked-append heard balked (all_release_notes p dem t) (the_note t ∷ []) from to b)))
 
-  pub speed-balked : (t : ℕ) (s : StateOf) (from mid to : L) → t < ticks → is_decision p dem (course demand p dem t) ≡ true → s ≡ state_of p dem (course demand p dem t)
+  pub speed-balked : (t : ℕ) (s : StateOf) (from mid to : L) → t < ticks → is_decision p dem (course demand p dem t) ≡ true
+      → s ≡ state_of p dem (course demand p dem t)
       → HasHeard heard from (all_release_notes p dem t) mid → HasBalked heard balked mid (speed_note p s.now (demand p s) ∷ []) to
       → (a : L) → HasHeard heard a (told_before demand p dem t) from → HasBalked heard balked a (told_before demand p dem ticks) to
   speed-balked t s from mid to lt e is h g a before =
@@ -73,8 +76,10 @@ module _ {L : Type 0} (heard balked : L → Note → L → Type 0) (demand : Pla
       (balked_after heard balked (all_release_notes p dem t) (the_note t ∷ []) from mid to h (subst (λ n. HasBalked heard balked mid (n ∷ []) to) (note-is t s is) g))))
 
   -- a tick
-  pub tick-balked : (t : ℕ) (a to : L) → t < ticks → HasBalked heard balked a (told_after demand p dem t) to → HasBalked heard balked a (told_before demand p dem ticks) to
-  tick-balked t a to lt b = balked-begins heard balked (told_after demand p dem t) (told_before demand p dem ticks) a to (whole-begins demand p dem t ticks lt) b
+  pub tick-balked : (t : ℕ) (a to : L) → t < ticks → HasBalked heard balked a (told_after demand p dem t) to
+      → HasBalked heard balked a (told_before demand p dem ticks) to
+  tick-balked t a to lt b =
+      balked-begins heard balked (told_after demand p dem t) (told_before demand p dem ticks) a to (whole-begins demand p dem t ticks lt) b
 
 module _ {demand : Plan → StateOf → Frac} {p : Plan} {dem : ℕ → ℕ → ℕ} {ticks : ℕ} (adm : Bounds p) (low_ticks : ticks ≤ 2 ^ 40) {t0 t e : ℕ} {s0 s : StateOf} {trace0 trace : Trace} {completed : Bool} (i : IsInSpan demand p dem ticks t0 t e s0 trace0) (h : HasWorked demand p dem t s trace completed) where
   pub now-next : s.now ≡ t + 1
@@ -96,7 +101,8 @@ module _ {demand : Plan → StateOf → Frac} {p : Plan} {dem : ℕ → ℕ → 
       go (inr (inl q)) = inr (inl (let same : s.now ≡ ticks = grind (arith, nat_tests) in sym now-next ∙ same))
       go (inr (inr q)) = inr (inr q)
 
-  pub heard-end : {L : Type 0} (heard : L → Note → L → Type 0) (a to : L) → HasHeard heard a (told_after demand p dem t) to → HasHeard heard a (told_after demand p dem (s.now - 1)) to
+  pub heard-end : {L : Type 0} (heard : L → Note → L → Type 0) (a to : L) → HasHeard heard a (told_after demand p dem t) to
+      → HasHeard heard a (told_after demand p dem (s.now - 1)) to
   heard-end heard a to g = subst (λ n. HasHeard heard a (told_after demand p dem n) to) last-is g
 
   pub walked-on : (completed || (nat_eq s.now ticks || some_due p s)) ≡ false

@@ -17,7 +17,8 @@ pub split_last : (rs : List Piece) → (rs ≡ []) ⊎ ((done : List Piece) × (
 split_last [] = inl refl
 split_last (r ∷ rs) = go (split_last rs)
   where
-    go : (rs ≡ []) ⊎ ((done : List Piece) × (q : Piece) × (rs ≡ done ++ q ∷ [])) → (r ∷ rs ≡ []) ⊎ ((done : List Piece) × (q : Piece) × (r ∷ rs ≡ done ++ q ∷ []))
+    go : (rs ≡ []) ⊎ ((done : List Piece) × (q : Piece) × (rs ≡ done ++ q ∷ []))
+        → (r ∷ rs ≡ []) ⊎ ((done : List Piece) × (q : Piece) × (r ∷ rs ≡ done ++ q ∷ []))
     go (inl e) = inr ([], r, ap (λ xs. r ∷ xs) e)
     go (inr f) = inr (r ∷ f.0, f.1, ap (λ xs. r ∷ xs) f.2)
 
@@ -37,7 +38,8 @@ unit-snoc (a ∷ []) r h = refl
 unit-snoc (a ∷ b ∷ ds) r h = ap (λ xs. a ∷ xs) (unit-snoc (b ∷ ds) r h)
 
 -- more units of the last holder
-pub pieces_of-more : (n : ℕ) (us : List Holder) (done : List Piece) (h : Holder) (m : ℕ) → pieces_of us ≡ done ++ piece h m ∷ [] → pieces_of (us ++ replicate n h) ≡ done ++ piece h (m + n) ∷ []
+pub pieces_of-more : (n : ℕ) (us : List Holder) (done : List Piece) (h : Holder) (m : ℕ) → pieces_of us ≡ done ++ piece h m ∷ []
+    → pieces_of (us ++ replicate n h) ≡ done ++ piece h (m + n) ∷ []
 pieces_of-more zero us done h m e = ap pieces_of (append-nil us) ∙ (e ∙ ap (λ k. done ++ piece h k ∷ []) (omega arith))
 pieces_of-more (suc n) us done h m e =
     ap pieces_of (sym (append_assoc us (h ∷ []) (replicate n h)))
@@ -88,7 +90,8 @@ no_pieces [] e = refl
 no_pieces (h ∷ us) e = absurd (omega (arith, total-pieces (h ∷ us), ap total e))
 
 -- the notes of segments one after another
-pub pieces_notes-append : (p : Plan) (dem : ℕ → ℕ → ℕ) (s : Span) (q : ℕ) (rs qs : List Piece) → pieces_notes p dem s q (rs ++ qs) ≡ pieces_notes p dem s q rs ++ pieces_notes p dem s (q + total rs) qs
+pub pieces_notes-append : (p : Plan) (dem : ℕ → ℕ → ℕ) (s : Span) (q : ℕ) (rs qs : List Piece)
+    → pieces_notes p dem s q (rs ++ qs) ≡ pieces_notes p dem s q rs ++ pieces_notes p dem s (q + total rs) qs
 pieces_notes-append p dem s q [] qs = ap (λ k. pieces_notes p dem s k qs) (omega arith)
 pieces_notes-append p dem s q (r ∷ rs) qs =
     ap (λ ns. segment_notes p dem s q r.units r.holder ++ ns)

@@ -42,7 +42,8 @@ least-found zero f some = absurd (omega arith)
 least-found (suc zero) f some = (0, omega arith, refl)
 least-found (suc (suc n)) f some = go (least-found (suc n) f (omega arith)) (cases_lt (f (suc n)) (least_below (suc n) f))
   where
-    go : ((i : ℕ) × (i < suc n) × (f i ≡ least_below (suc n) f)) → (f (suc n) < least_below (suc n) f) ⊎ (least_below (suc n) f ≤ f (suc n)) → (i : ℕ) × (i < suc (suc n)) × (f i ≡ min (least_below (suc n) f) (f (suc n)))
+    go : ((i : ℕ) × (i < suc n) × (f i ≡ least_below (suc n) f)) → (f (suc n) < least_below (suc n) f) ⊎ (least_below (suc n) f ≤ f (suc n))
+        → (i : ℕ) × (i < suc (suc n)) × (f i ≡ min (least_below (suc n) f) (f (suc n)))
     go r (inl lt) = (suc n, omega arith, omega (arith, lt))
     go r (inr le) = (r.0, (let l = r.1 in omega (arith, l)), (let q = r.2 in omega (arith, q, le)))
 
@@ -58,7 +59,8 @@ silent : ℕ → Note → ℕ → Type 0
 silent a n b = Unit {0}
 
 -- the first row that is not done, from the two clauses of the search for it
-pub is-first : (p : Plan) (s : StateOf) (r : Option ℕ) → IfNone r ((k : ℕ) → k < count p → (row_at s k).done ≡ true) → IfSome r (λ i. IsFirstUndone p s (count p) i) → IsFirst p s r
+pub is-first : (p : Plan) (s : StateOf) (r : Option ℕ) → IfNone r ((k : ℕ) → k < count p → (row_at s k).done ≡ true)
+    → IfSome r (λ i. IsFirstUndone p s (count p) i) → IsFirst p s r
 is-first p s None none first = none
 is-first p s (Some i) none first = first
 
@@ -81,7 +83,9 @@ module _ {demand : Plan → StateOf → Frac} {p : Plan} {dem : ℕ → ℕ → 
   w0 = begin adm here.work f refl
 
   pub of-plan : IsOfPlan p st
-  of-plan = subst (λ (s : StateOf). IsOfPlan p s) (sym here.work.state) (of-state p dem (course demand p dem st.now) (low-exec demand p dem st.now here.work.within))
+  of-plan =
+      subst (λ (s : StateOf). IsOfPlan p s) (sym here.work.state)
+      (of-state p dem (course demand p dem st.now) (low-exec demand p dem st.now here.work.within))
 
   now-is : st.now ≡ length (course demand p dem st.now)
   now-is = ap (λ (s : StateOf). s.now) here.work.state
@@ -151,7 +155,8 @@ module _ {demand : Plan → StateOf → Frac} {p : Plan} {dem : ℕ → ℕ → 
       room = omega (arith, short, here.work.within.most i (row_at st i).job first.below, of-plan.worst i first.below);
     }
 
-    pub quiet-held : (n lacks : ℕ) → lacks ≡ dem i (row_at st i).job - (row_at st i).used → n ≡ min most ((lacks - 1) / f) → AreQuiet p dem ticks e st (Some i) n
+    pub quiet-held : (n lacks : ℕ) → lacks ≡ dem i (row_at st i).job - (row_at st i).used → n ≡ min most ((lacks - 1) / f)
+        → AreQuiet p dem ticks e st (Some i) n
     quiet-held n lacks oe ne = record {
       before_end = within-end n (omega (arith, ne));
       no_release = within-releases n (omega (arith, ne));
@@ -197,7 +202,8 @@ module _ {demand : Plan → StateOf → Frac} {p : Plan} {dem : ℕ → ℕ → 
       go (inr (inr q)) = inr (inr (q.0, first-is q.0 q.1, (let d = q.2 in omega (arith, d, ap (λ m. m * f) none, zero-mul f))))
 
   -- after them it is
-  pub last-then : (first : Option ℕ) {n : ℕ} → IsFirst p st first → AreQuiet p dem ticks e st first n → IsLastTick p dem ticks e (after_advance (gives st first (n * f)) (st.now + n))
+  pub last-then : (first : Option ℕ) {n : ℕ} → IsFirst p st first → AreQuiet p dem ticks e st first n
+      → IsLastTick p dem ticks e (after_advance (gives st first (n * f)) (st.now + n))
   last-then None {n} is quiet = go quiet.last
     where
       go : (st.now + n + 1 ≡ ticks) ⊎ (((i : ℕ) × (i < count p) × ((row_at st i).deadline ≡ st.now + n + 1)) ⊎ ((i : ℕ) × (None ≡ Some i) × (dem i (row_at st i).job ≤ (row_at st i).used + n * f + f)))
@@ -234,7 +240,9 @@ module _ {demand : Plan → StateOf → Frac} {p : Plan} {dem : ℕ → ℕ → 
   row-then i lt = ap (λ (v : StateOf). row_at v i) here.work.state ∙ get-table (count p) (row_of p dem past) i no_row lt
 
   row-now : (i : ℕ) → i < count p → row_at s i ≡ prior_row p dem (x ∷ past) i
-  row-now i lt = ap (λ (v : StateOf). row_at v i) (h.state ∙ ap (prior_state p dem) (course-next p dem (ask_of demand p dem) s0.now)) ∙ get-table (count p) (prior_row p dem (x ∷ past)) i no_row lt
+  row-now i lt =
+      ap (λ (v : StateOf). row_at v i) (h.state ∙ ap (prior_state p dem) (course-next p dem (ask_of demand p dem) s0.now)) ∙ get-table (count p)
+      (prior_row p dem (x ∷ past)) i no_row lt
 
   is-due : (i : ℕ) → i < count p → (row_at s0 i).deadline ≡ s0.now + 1 → some_due p s ≡ true
   is-due i lt d =
@@ -265,7 +273,9 @@ module _ {demand : Plan → StateOf → Frac} {p : Plan} {dem : ℕ → ℕ → 
       speed = ap (λ m. (point p m).speed) here.work.in_force
 
       o : IsFirstOpen (count p) (key p dem past) (left p dem past) (λ _. 0) i
-      o = first-open p dem past (point p e).speed (point p e).speed (λ _. 0) false s0 i (subst (λ (v : StateOf). Handing p dem past (point p e).speed (λ _. 0) (point p e).speed false v) (sym here.work.state) (start p dem past (point p e).speed)) first
+      o =
+          first-open p dem past (point p e).speed (point p e).speed (λ _. 0) false s0 i
+          (subst (λ (v : StateOf). Handing p dem past (point p e).speed (λ _. 0) (point p e).speed false v) (sym here.work.state) (start p dem past (point p e).speed)) first
 
       none : 0 ≡ sum_before (count p) (key p dem past) (left p dem past) i
       none = (let b = (handed_before (count p) (key p dem past) (point p e).speed (left p dem past) (λ _. 0) (point p e).speed (start p dem past (point p e).speed).handed (some-speed adm low_ticks here) i o).1 in omega (arith, b))

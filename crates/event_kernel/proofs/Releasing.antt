@@ -100,13 +100,15 @@ module _ (p : Plan) (dem : ℕ → ℕ → ℕ) (past : List Tick) where
   mixed-other : (m i : ℕ) → i ≢ m → mixed (m + 1) i ≡ mixed m i
   mixed-other m i ne = go (nat_lt i m) refl (nat_lt i (m + 1)) refl
     where
-      go : (a : Bool) → nat_lt i m ≡ a → (b : Bool) → nat_lt i (m + 1) ≡ b → (if b then row_of p dem past i else prior_row p dem past i) ≡ (if a then row_of p dem past i else prior_row p dem past i)
+      go : (a : Bool) → nat_lt i m ≡ a → (b : Bool) → nat_lt i (m + 1) ≡ b
+          → (if b then row_of p dem past i else prior_row p dem past i) ≡ (if a then row_of p dem past i else prior_row p dem past i)
       go true e true f = refl
       go false e false f = refl
       go true e false f = absurd (grind (arith, nat_tests))
       go false e true f = absurd (ne (grind (arith, nat_tests)))
 
-  any-more : (m : ℕ) (b : Bool) → releases_at p m (length past) ≡ b → any_below (m + 1) (λ i. releases_at p i (length past)) ≡ (any_below m (λ i. releases_at p i (length past)) || b)
+  any-more : (m : ℕ) (b : Bool) → releases_at p m (length past) ≡ b
+      → any_below (m + 1) (λ i. releases_at p i (length past)) ≡ (any_below m (λ i. releases_at p i (length past)) || b)
   any-more m b e = ap (λ k. any_below k (λ i. releases_at p i (length past))) (add-one m) ∙ ap (λ c. any_below m (λ i. releases_at p i (length past)) || c) e
 
   or_false : (a : Bool) → a ≡ (a || false)
@@ -140,13 +142,16 @@ module _ (p : Plan) (dem : ℕ → ℕ → ℕ) (past : List Tick) where
     long-there m any st to r = ap (λ (s : StateOf). length s.rows) r.state ∙ length-list_below (count p) (mixed m)
 
     -- a row that is not due
-    pub passed : (m : ℕ) (any : Bool) (st : StateOf) (to : L) → Releasing heard m any st from to → m < count p → dem m 0 ≡ 0 → nat_eq (row_at st m).deadline st.now ≡ false → Releasing heard (m + 1) any st from to
+    pub passed : (m : ℕ) (any : Bool) (st : StateOf) (to : L) → Releasing heard m any st from to → m < count p → dem m 0 ≡ 0
+        → nat_eq (row_at st m).deadline st.now ≡ false → Releasing heard (m + 1) any st from to
     passed m any st to r lt unneeded early =
         let not_due : nat_eq (prior_row p dem past m).deadline (length past) ≡ false =
         sym (ap₂ (λ a b. nat_eq a b) (ap (λ (q : Row). q.deadline) (row-there m any st to r lt)) (ap (λ (s : StateOf). s.now) r.state)) ∙ early in
         let none : releases_at p m (length past) ≡ false = due_released p dem periods past m false not_due in
         record {
-          state = r.state ∙ ap (λ rows. record { now = length past; rows = rows; base_at = prior_base_at p past; base = list_below (count p) (prior_base p dem past) })
+          state =
+              r.state ∙ ap
+              (λ rows. record { now = length past; rows = rows; base_at = prior_base_at p past; base = list_below (count p) (prior_base p dem past) })
               (table-same (count p) (mixed m) (mixed (m + 1)) (λ i l. same i (eqb i m) refl not_due));
           any_is = r.any_is ∙ (or_false (any_below m (λ i. releases_at p i (length past))) ∙ sym (any-more m false none));
           told = subst (λ ns. HasHeard heard from ns to)
@@ -159,7 +164,8 @@ module _ (p : Plan) (dem : ℕ → ℕ → ℕ) (past : List Tick) where
             subst (λ k. mixed m k ≡ mixed (m + 1) k) is (mixed-here m ∙ (sym (row-kept p dem periods past m unneeded not_due) ∙ sym (mixed-done m)))
         same i false e not_due = sym (mixed-other m i (grind (arith, nat_tests)))
 
-    pub passed-notes : (m : ℕ) (any : Bool) (st : StateOf) (to : L) → Releasing heard m any st from to → m < count p → nat_eq (row_at st m).deadline st.now ≡ false → notes_upto (m + 1) ≡ notes_upto m
+    pub passed-notes : (m : ℕ) (any : Bool) (st : StateOf) (to : L) → Releasing heard m any st from to → m < count p
+        → nat_eq (row_at st m).deadline st.now ≡ false → notes_upto (m + 1) ≡ notes_upto m
     passed-notes m any st to r lt early =
         let not_due : nat_eq (prior_row p dem past m).deadline (length past) ≡ false =
         sym (ap₂ (λ a b. nat_eq a b) (ap (λ (q : Row). q.deadline) (row-there m any st to r lt)) (ap (λ (s : StateOf). s.now) r.state)) ∙ early in
@@ -182,20 +188,26 @@ module _ (p : Plan) (dem : ℕ → ℕ → ℕ) (past : List Tick) where
           ∙ sym (ap (λ b. if b then notes (length past) (latest p m (length past)) else []) released_there)
 
       -- a row that is due
-      pub opens : (next : StateOf) (to : L) → HasHeard heard mid (opening_notes dem st m) to → next ≡ opened p dem st m → Releasing heard (m + 1) true next from to
+      pub opens : (next : StateOf) (to : L) → HasHeard heard mid (opening_notes dem st m) to → next ≡ opened p dem st m
+          → Releasing heard (m + 1) true next from to
       opens next to tells is = record {
         state = is ∙ (ap (λ (s : StateOf). opened p dem s m) r.state
             ∙ ap (λ rows. record { now = length past; rows = rows; base_at = prior_base_at p past; base = list_below (count p) (prior_base p dem past) })
             (set-table (count p) (mixed m) (mixed (m + 1)) m _ lt here (λ k l ne. mixed-other m k ne)));
         any_is = or_true (any_below m (λ i. releases_at p i (length past))) ∙ sym (any-more m true released_there);
-        told = subst (λ ns. HasHeard heard from ns to) (sym (notes-more m)) (heard-append heard balked (notes_upto m) (release_notes p dem (length past) m) from mid to r.told
+        told =
+            subst (λ ns. HasHeard heard from ns to) (sym (notes-more m))
+            (heard-append heard balked (notes_upto m) (release_notes p dem (length past) m) from mid to r.told
             (subst (λ ns. HasHeard heard mid ns to) opening_are tells));
       }
         where
           here : mixed (m + 1) m ≡ opened_row p dem m (row_at (mixed_state m) m)
-          here = mixed-done m ∙ (row-opened p dem periods past m due_there ∙ ap (λ (q : Row). opened_row p dem m q) (sym (get-table (count p) (mixed m) m no_row lt ∙ mixed-here m)))
+          here =
+              mixed-done m ∙
+              (row-opened p dem periods past m due_there ∙ ap (λ (q : Row). opened_row p dem m q) (sym (get-table (count p) (mixed m) m no_row lt ∙ mixed-here m)))
 
-      pub opens-trace : (trace0 trace trace' : Trace) → trace ≡ with_notes trace0 (notes_upto m) → trace' ≡ with_notes trace (opening_notes dem st m) → trace' ≡ with_notes trace0 (notes_upto (m + 1))
+      pub opens-trace : (trace0 trace trace' : Trace) → trace ≡ with_notes trace0 (notes_upto m) → trace' ≡ with_notes trace (opening_notes dem st m)
+          → trace' ≡ with_notes trace0 (notes_upto (m + 1))
       opens-trace trace0 trace trace' a b =
           b
           ∙ (ap (λ ns. with_notes trace ns) opening_are
@@ -203,7 +215,8 @@ module _ (p : Plan) (dem : ℕ → ℕ → ℕ) (past : List Tick) where
           ∙ (with-append trace0 (notes_upto m) (release_notes p dem (length past) m)
           ∙ ap (λ ns. with_notes trace0 ns) (sym (notes-more m)))))
 
-      pub opens-balked : (to : L) → HasBalked heard balked mid (opening_notes dem st m) to → HasBalked heard balked from (all_release_notes p dem (length past)) to
+      pub opens-balked : (to : L) → HasBalked heard balked mid (opening_notes dem st m) to
+          → HasBalked heard balked from (all_release_notes p dem (length past)) to
       opens-balked to balks =
           let b = upto-begins (m + 1) (count p) (omega arith) in
           balked-begins heard balked (notes_upto (m + 1)) (notes_upto (count p)) from to
@@ -211,7 +224,8 @@ module _ (p : Plan) (dem : ℕ → ℕ → ℕ) (past : List Tick) where
           (subst (λ ns. HasBalked heard balked from ns to) (sym (notes-more m)) (balked_after heard balked (notes_upto m) (release_notes p dem (length past) m) from mid to r.told
           (subst (λ ns. HasBalked heard balked mid ns to) opening_are balks)))
 
-      pub can-release : Bounds p → length past < 2 ^ 40 → ((prior_row p dem past m).deadline ≡ length past → (prior_row p dem past m).done ≡ true) → CanRelease p st m
+      pub can-release : Bounds p → length past < 2 ^ 40 → ((prior_row p dem past m).deadline ≡ length past → (prior_row p dem past m).done ≡ true)
+          → CanRelease p st m
       can-release adm early done = record {
         task = omega (arith, long-there m any st mid r);
         below = lt;
@@ -234,13 +248,15 @@ module _ (p : Plan) (dem : ℕ → ℕ → ℕ) (past : List Tick) where
         ap after_mark (r.state ∙ ap (λ rows. record { now = length past; rows = rows; base_at = prior_base_at p past; base = list_below (count p) (prior_base p dem past) }) (all-rows m e))
         ∙ state-marked p dem periods past (ap (λ k. any_below k (λ i. releases_at p i (length past))) (sym e) ∙ sym r.any_is)
 
-    pub released-unmarked : (m : ℕ) (st : StateOf) (to : L) → ((i : ℕ) → dem i 0 ≡ 0) → m ≡ count p → Releasing heard m false st from to → st ≡ state_of p dem past
+    pub released-unmarked : (m : ℕ) (st : StateOf) (to : L) → ((i : ℕ) → dem i 0 ≡ 0) → m ≡ count p → Releasing heard m false st from to
+        → st ≡ state_of p dem past
     released-unmarked m st to unneeded e r =
         r.state ∙ (ap (λ rows. record { now = length past; rows = rows; base_at = prior_base_at p past; base = list_below (count p) (prior_base p dem past) }) (all-rows m e)
         ∙ state-unmarked p dem periods past unneeded (ap (λ k. any_below k (λ i. releases_at p i (length past))) (sym e) ∙ sym r.any_is))
 
 -- a release that is complete at once
-pub opened-done : (p : Plan) (dem : ℕ → ℕ → ℕ) (s : StateOf) (i : ℕ) → i < length s.rows → nat_eq (dem i ((row_at s i).job + 1)) 0 ≡ true → after_finish (after_release p s i) i ≡ opened p dem s i
+pub opened-done : (p : Plan) (dem : ℕ → ℕ → ℕ) (s : StateOf) (i : ℕ) → i < length s.rows → nat_eq (dem i ((row_at s i).job + 1)) 0 ≡ true
+    → after_finish (after_release p s i) i ≡ opened p dem s i
 opened-done p dem s i lt e =
     let row : Row = released_row (period p i) (row_at s i) in
     let read : row_at (after_release p s i) i ≡ row = get_or-set_same s.rows i row no_row lt in
@@ -250,13 +266,15 @@ opened-done p dem s i lt e =
 
 -- what is due is done
 pub prior-done : (demand : Plan → StateOf → Frac) (p : Plan) (dem : ℕ → ℕ → ℕ) (t : ℕ) (s : StateOf) → IsAtBoundary demand p dem t s
-    → (i : ℕ) → i < count p → (prior_row p dem (course demand p dem t) i).deadline ≡ length (course demand p dem t) → (prior_row p dem (course demand p dem t) i).done ≡ true
+    → (i : ℕ) → i < count p → (prior_row p dem (course demand p dem t) i).deadline ≡ length (course demand p dem t)
+    → (prior_row p dem (course demand p dem t) i).done ≡ true
 prior-done demand p dem t s b i lt due =
     let is : row_at s i ≡ prior_row p dem (course demand p dem t) i = ap (λ (v : StateOf). row_at v i) b.state ∙ get-table (count p) (prior_row p dem (course demand p dem t)) i no_row lt in
     sym (ap (λ (r : Row). r.done) is)
     ∙ b.due_done i lt (ap (λ (r : Row). r.deadline) is ∙ (due ∙ sym (ap (λ (v : StateOf). v.now) b.state)))
 
-pub low-exec : (demand : Plan → StateOf → Frac) (p : Plan) (dem : ℕ → ℕ → ℕ) (t : ℕ) → IsWithin p dem → (i k : ℕ) → i < count p → exec p (course demand p dem t) i k ≤ worst p i
+pub low-exec : (demand : Plan → StateOf → Frac) (p : Plan) (dem : ℕ → ℕ → ℕ) (t : ℕ) → IsWithin p dem → (i k : ℕ) → i < count p
+    → exec p (course demand p dem t) i k ≤ worst p i
 low-exec demand p dem t low i k lt = omega (arith, exec-within p dem (ask_of demand p dem) t i k lt, low.most i k lt)
 
 pub course-len : (demand : Plan → StateOf → Frac) (p : Plan) (dem : ℕ → ℕ → ℕ) (t : ℕ) → length (course demand p dem t) ≡ t

@@ -59,7 +59,8 @@ module _ (demand : Plan → StateOf → Frac) (p : Plan) (dem : ℕ → ℕ → 
   course_next t = course-next p dem asks t
 
   -- the last span of some ticks, with the tick's units
-  pub spans-whole : (t : ℕ) → spans_of p dem (tick_at demand p dem t ∷ course demand p dem t) ≡ whole_span demand p dem t ∷ spans_of p dem (whole_span demand p dem t).past
+  pub spans-whole : (t : ℕ)
+      → spans_of p dem (tick_at demand p dem t ∷ course demand p dem t) ≡ whole_span demand p dem t ∷ spans_of p dem (whole_span demand p dem t).past
   spans-whole t = go t (is_decision p dem (course demand p dem t)) refl
     where
       at_decision : (past : List Tick) → is_decision p dem past ≡ true
@@ -86,7 +87,9 @@ module _ (demand : Plan → StateOf → Frac) (p : Plan) (dem : ℕ → ℕ → 
       ∙ ap first_span (spans-whole t))
 
   pub span-new : (t : ℕ) → is_decision p dem (course demand p dem t) ≡ true → span_at demand p dem t ≡ record { past = course demand p dem t; entry = entry_in_force p dem asks (course demand p dem t); units = [] }
-  span-new t e = ap (λ b. if b then record { past = course demand p dem t; entry = entry_in_force p dem asks (course demand p dem t); units = [] } else first_span (spans_of p dem (course demand p dem t))) e
+  span-new t e =
+      ap
+      (λ b. if b then record { past = course demand p dem t; entry = entry_in_force p dem asks (course demand p dem t); units = [] } else first_span (spans_of p dem (course demand p dem t))) e
 
   -- all notes of a span, and all notes of its ticks
   abbrev pub whole_notes : Span → List Note
@@ -106,7 +109,9 @@ module _ (demand : Plan → StateOf → Frac) (p : Plan) (dem : ℕ → ℕ → 
 
   -- the notes of the last segment
   abbrev pub last_notes : Span → List Note
-  last_notes s = if nat_lt 0 (last_of (pieces_of s.units)).units then segment_notes p dem s (length s.units - (last_of (pieces_of s.units)).units) (last_of (pieces_of s.units)).units (last_of (pieces_of s.units)).holder else []
+  last_notes s =
+      if nat_lt 0 (last_of (pieces_of s.units)).units then segment_notes p dem s (length s.units - (last_of (pieces_of s.units)).units)
+      (last_of (pieces_of s.units)).units (last_of (pieces_of s.units)).holder else []
 
   pub whole-open : (s : Span) → whole_notes s ≡ open_notes p dem asks s ++ last_notes s
   whole-open s = go (split_last (pieces_of s.units))
@@ -114,7 +119,8 @@ module _ (demand : Plan → StateOf → Frac) (p : Plan) (dem : ℕ → ℕ → 
       before : List Note
       before = notes_before_end p dem asks s.past ++ head_notes p dem asks s
 
-      go : (pieces_of s.units ≡ []) ⊎ ((done : List Piece) × (r : Piece) × (pieces_of s.units ≡ done ++ r ∷ [])) → whole_notes s ≡ open_notes p dem asks s ++ last_notes s
+      go : (pieces_of s.units ≡ []) ⊎ ((done : List Piece) × (r : Piece) × (pieces_of s.units ≡ done ++ r ∷ []))
+          → whole_notes s ≡ open_notes p dem asks s ++ last_notes s
       go (inl e) = rw e (sym (append-nil (before ++ [])))
       go (inr f) =
           let is_last : last_of (pieces_of s.units) ≡ f.1 = ap last_of f.2 ∙ last-snoc f.0 f.1 in
@@ -140,7 +146,8 @@ module _ (demand : Plan → StateOf → Frac) (p : Plan) (dem : ℕ → ℕ → 
       us : List Holder
       us = units_of p (course demand p dem (t + 1)) (tick_at demand p dem (t + 1))
 
-      go : (b : Bool) → is_decision p dem (course demand p dem (t + 1)) ≡ b → Begins (open_notes p dem asks (whole_span demand p dem t)) (open_notes p dem asks (grown s us))
+      go : (b : Bool) → is_decision p dem (course demand p dem (t + 1)) ≡ b
+          → Begins (open_notes p dem asks (whole_span demand p dem t)) (open_notes p dem asks (grown s us))
       go false e = subst (λ x. Begins (open_notes p dem asks x) (open_notes p dem asks (grown s us))) (span-on t e) (open-begins p dem asks s us)
       go true e =
           let fresh : Span = record { past = course demand p dem (t + 1); entry = entry_in_force p dem asks (course demand p dem (t + 1)); units = [] } in
@@ -162,7 +169,8 @@ module _ (demand : Plan → StateOf → Frac) (p : Plan) (dem : ℕ → ℕ → 
       subst (λ m. Begins (open_notes p dem asks (whole_span demand p dem t)) (open_notes p dem asks (whole_span demand p dem m))) e
       (begins-trans (open_notes p dem asks (whole_span demand p dem t)) (open_notes p dem asks (whole_span demand p dem (t + n))) (open_notes p dem asks (whole_span demand p dem (t + n + 1))) (later-begins t n) (next-begins (t + n)))
 
-  pub whole-begins : (t ticks : ℕ) → t < ticks → Begins (open_notes p dem asks (whole_span demand p dem t)) (notes_before_end p dem asks (course demand p dem ticks))
+  pub whole-begins : (t ticks : ℕ) → t < ticks
+      → Begins (open_notes p dem asks (whole_span demand p dem t)) (notes_before_end p dem asks (course demand p dem ticks))
   whole-begins t ticks lt =
       let e : t + (ticks - t - 1) + 1 ≡ ticks = omega arith in
       subst (λ m. Begins (open_notes p dem asks (whole_span demand p dem t)) (notes_before_end p dem asks (course demand p dem m))) e
@@ -179,10 +187,14 @@ module _ (demand : Plan → StateOf → Frac) (p : Plan) (dem : ℕ → ℕ → 
         row-is : (i : ℕ) → i < count p → row_at s i ≡ prior_row p dem past i
         row-is i lt = ap (λ (v : StateOf). row_at v i) e ∙ get-table (count p) (prior_row p dem past) i no_row lt
 
-        one : (i : ℕ) → row_at s i ≡ prior_row p dem past i → (b : Bool) → nat_eq (prior_row p dem past i).deadline (length past) ≡ b → nat_eq (row_at s i).deadline s.now ≡ releases_at p i (length past)
-        one i is b q = ap₂ (λ x y. nat_eq x y) (ap (λ (r : Row). r.deadline) is) (ap (λ (v : StateOf). v.now) e) ∙ (q ∙ sym (due_released p dem periods past i b q))
+        one : (i : ℕ) → row_at s i ≡ prior_row p dem past i → (b : Bool) → nat_eq (prior_row p dem past i).deadline (length past) ≡ b
+            → nat_eq (row_at s i).deadline s.now ≡ releases_at p i (length past)
+        one i is b q =
+            ap₂ (λ x y. nat_eq x y) (ap (λ (r : Row). r.deadline) is) (ap (λ (v : StateOf). v.now) e) ∙
+            (q ∙ sym (due_released p dem periods past i b q))
 
-    pub decision-is : (t : ℕ) (s : StateOf) (trace : Trace) (completed : Bool) → HasWorked demand p dem t s trace completed → is_decision p dem (course demand p dem (t + 1)) ≡ (some_due p s || completed)
+    pub decision-is : (t : ℕ) (s : StateOf) (trace : Trace) (completed : Bool) → HasWorked demand p dem t s trace completed
+        → is_decision p dem (course demand p dem (t + 1)) ≡ (some_due p s || completed)
     decision-is t s trace completed h =
         ap (is_decision p dem) (course_next t)
         ∙ ap₂ (λ a b. a || b)
@@ -190,7 +202,8 @@ module _ (demand : Plan → StateOf → Frac) (p : Plan) (dem : ℕ → ℕ → 
         (sym h.completes)
 
     -- the state between two spans is at a boundary
-    pub at-boundary : (t : ℕ) (s : StateOf) → t < 2 ^ 40 → IsWithin p dem → IsMet p dem (course demand p dem t) → s ≡ prior_state p dem (course demand p dem t) → IsAtBoundary demand p dem t s
+    pub at-boundary : (t : ℕ) (s : StateOf) → t < 2 ^ 40 → IsWithin p dem → IsMet p dem (course demand p dem t)
+        → s ≡ prior_state p dem (course demand p dem t) → IsAtBoundary demand p dem t s
     at-boundary t s early low met e = record {
       early = early;
       within = low;
@@ -201,7 +214,8 @@ module _ (demand : Plan → StateOf → Frac) (p : Plan) (dem : ℕ → ℕ → 
         row-is : (i : ℕ) → i < count p → row_at s i ≡ prior_row p dem (course demand p dem t) i
         row-is i lt = ap (λ (v : StateOf). row_at v i) e ∙ get-table (count p) (prior_row p dem (course demand p dem t)) i no_row lt
 
-        done : (past : List Tick) → IsMet p dem past → (i : ℕ) → i < count p → (prior_row p dem past i).deadline ≡ length past → (prior_row p dem past i).done ≡ true
+        done : (past : List Tick) → IsMet p dem past → (i : ℕ) → i < count p → (prior_row p dem past i).deadline ≡ length past
+            → (prior_row p dem past i).done ≡ true
         done [] met i lt q = refl
         done (x ∷ past) met i lt q = closed_at (latest p i (length past)) refl
           where
@@ -219,15 +233,18 @@ module _ (demand : Plan → StateOf → Frac) (p : Plan) (dem : ℕ → ℕ → 
                 grind (arith, nat_tests, enough)
 
   -- the span begins
-  release-cost : (f : Note → ℕ) → ((t i k : ℕ) → f (Release t i k) ≡ 0) → ((q : Pos) (i k u : ℕ) → f (Done q i k u) ≡ 0) → (t i : ℕ) → sum_by f (release_notes p dem t i) ≡ 0
+  release-cost : (f : Note → ℕ) → ((t i k : ℕ) → f (Release t i k) ≡ 0) → ((q : Pos) (i k u : ℕ) → f (Done q i k u) ≡ 0) → (t i : ℕ)
+      → sum_by f (release_notes p dem t i) ≡ 0
   release-cost f rel don t i = go (releases_at p i t) (nat_eq (dem i (latest p i t)) 0)
     where
-      go : (a b : Bool) → sum_by f (if a then Release t i (latest p i t) ∷ (if b then Done (record { tick = t; offset = 0 }) i (latest p i t) 0 ∷ [] else []) else []) ≡ 0
+      go : (a b : Bool)
+          → sum_by f (if a then Release t i (latest p i t) ∷ (if b then Done (record { tick = t; offset = 0 }) i (latest p i t) 0 ∷ [] else []) else []) ≡ 0
       go false b = refl
       go true false = omega (arith, rel t i (latest p i t))
       go true true = omega (arith, rel t i (latest p i t), don (record { tick = t; offset = 0 }) i (latest p i t) 0)
 
-  releases-cost : (f : Note → ℕ) → ((t i k : ℕ) → f (Release t i k) ≡ 0) → ((q : Pos) (i k u : ℕ) → f (Done q i k u) ≡ 0) → (t : ℕ) (js : List ℕ) → sum_by f (flat_map (release_notes p dem t) js) ≡ 0
+  releases-cost : (f : Note → ℕ) → ((t i k : ℕ) → f (Release t i k) ≡ 0) → ((q : Pos) (i k u : ℕ) → f (Done q i k u) ≡ 0) → (t : ℕ) (js : List ℕ)
+      → sum_by f (flat_map (release_notes p dem t) js) ≡ 0
   releases-cost f rel don t [] = refl
   releases-cost f rel don t (j ∷ js) = sum_by-append f (release_notes p dem t j) (flat_map (release_notes p dem t) js) ∙ omega (arith, release-cost f rel don t j, releases-cost f rel don t js)
 
@@ -241,7 +258,8 @@ module _ (demand : Plan → StateOf → Frac) (p : Plan) (dem : ℕ → ℕ → 
       ∙ ap (λ ns. notes_before_end p dem asks (course demand p dem t) ++ ns)
       (ap₂ (λ n m. all_release_notes p dem n ++ Speed n ((point p m).speed) ((asks (course demand p dem t)).num) ((asks (course demand p dem t)).den) ∷ []) (course-len demand p dem t) (force-decided p dem asks (course demand p dem t) e)))
 
-  pub begins-span : (ticks t e : ℕ) (s0 s : StateOf) (trace trace' : Trace) → count p ≤ 64 → t < ticks → ticks ≤ 2 ^ 40 → IsWithin p dem → IsBetween demand p dem ticks t s0 trace
+  pub begins-span : (ticks t e : ℕ) (s0 s : StateOf) (trace trace' : Trace) → count p ≤ 64 → t < ticks → ticks ≤ 2 ^ 40 → IsWithin p dem
+      → IsBetween demand p dem ticks t s0 trace
       → s ≡ state_of p dem (course demand p dem t) → e ≡ lowest_entry p.machine (demand p s)
       → trace' ≡ record { segment = record { holder = Nobody; start = 0; units = 0 }; sums = added (added trace.sums (all_release_notes p dem t)) (speed_note p t (demand p (state_of p dem (course demand p dem t))) ∷ []) }
       → IsInSpan demand p dem ticks t t e s trace'
@@ -301,7 +319,8 @@ module _ (demand : Plan → StateOf → Frac) (p : Plan) (dem : ℕ → ℕ → 
 
   module _ (adm : Bounds p) where
     -- it goes on
-    pub goes-on : (ticks t0 t e : ℕ) (s0 s : StateOf) (trace0 trace : Trace) → IsInSpan demand p dem ticks t0 t e s0 trace0 → HasWorked demand p dem t s trace false → some_due p s ≡ false → t + 1 < ticks → ticks ≤ 2 ^ 40
+    pub goes-on : (ticks t0 t e : ℕ) (s0 s : StateOf) (trace0 trace : Trace) → IsInSpan demand p dem ticks t0 t e s0 trace0
+        → HasWorked demand p dem t s trace false → some_due p s ≡ false → t + 1 < ticks → ticks ≤ 2 ^ 40
         → IsInSpan demand p dem ticks t0 (t + 1) e s trace × (span_at demand p dem (t + 1) ≡ whole_span demand p dem t)
     goes-on ticks t0 t e s0 s trace0 trace i h quiet lt few = (
       record {
@@ -320,7 +339,9 @@ module _ (demand : Plan → StateOf → Frac) (p : Plan) (dem : ℕ → ℕ → 
             holder = h.writing.holder;
             place = h.writing.place;
             taken = held trace.segment.holder h.writing.taken;
-            had = λ k l. subst (λ n. exec p (whole_span demand p dem t).past k n + count_by (same_holder (Held k n)) (whole_span demand p dem t).units ≡ exec p (course demand p dem (t + 1)) k (latest p k (length (course demand p dem (t + 1))))) (sym (steady k l))
+            had =
+                λ k l. subst
+                (λ n. exec p (whole_span demand p dem t).past k n + count_by (same_holder (Held k n)) (whole_span demand p dem t).units ≡ exec p (course demand p dem (t + 1)) k (latest p k (length (course demand p dem (t + 1))))) (sym (steady k l))
                 (h.writing.had k l ∙ ap (λ n. exec p (course demand p dem (t + 1)) k n) (sym (steady k l) ∙ ap (latest p k) (sym (course-len demand p dem (t + 1)))));
             few = h.writing.few;
             money = h.writing.money;
@@ -353,8 +374,11 @@ module _ (demand : Plan → StateOf → Frac) (p : Plan) (dem : ℕ → ℕ → 
         no_release' : is_release p (length (x ∷ past)) ≡ false
         no_release' = ap (λ (ps : List Tick). is_release p (length ps)) (sym (course_next t)) ∙ no_release
 
-        not_due : (k : ℕ) → k < count p → (b : Bool) → nat_eq (prior_row p dem (x ∷ past) k).deadline (length (x ∷ past)) ≡ b → nat_eq (prior_row p dem (x ∷ past) k).deadline (length (x ∷ past)) ≡ false
-        not_due k l true q = absurd (true≢false (sym (due_released p dem adm.some_period (x ∷ past) k true q) ∙ any_below-false (count p) (λ i. releases_at p i (length (x ∷ past))) no_release' k l))
+        not_due : (k : ℕ) → k < count p → (b : Bool) → nat_eq (prior_row p dem (x ∷ past) k).deadline (length (x ∷ past)) ≡ b
+            → nat_eq (prior_row p dem (x ∷ past) k).deadline (length (x ∷ past)) ≡ false
+        not_due k l true q =
+            absurd
+            (true≢false (sym (due_released p dem adm.some_period (x ∷ past) k true q) ∙ any_below-false (count p) (λ i. releases_at p i (length (x ∷ past))) no_release' k l))
         not_due k l false q = q
 
         steady : (k : ℕ) → k < count p → latest p k (t + 1) ≡ latest p k t
@@ -363,14 +387,18 @@ module _ (demand : Plan → StateOf → Frac) (p : Plan) (dem : ℕ → ℕ → 
             ap (latest p k) (sym after) ∙ (same_job p dem adm.some_period x past k (not_due k l (nat_eq (prior_row p dem (x ∷ past) k).deadline (length (x ∷ past))) refl) ∙ ap (latest p k) (course-len demand p dem t))
 
         force : entry_in_force p dem asks (course demand p dem (t + 1)) ≡ entry_in_force p dem asks past
-        force = ap (entry_in_force p dem asks) (course_next t) ∙ ap (λ b. if b then lowest_entry p.machine (asks (x ∷ past)) else entry_in_force p dem asks past) (ap (is_decision p dem) (sym (course_next t)) ∙ none)
+        force =
+            ap (entry_in_force p dem asks) (course_next t) ∙ ap
+            (λ b. if b then lowest_entry p.machine (asks (x ∷ past)) else entry_in_force p dem asks past)
+            (ap (is_decision p dem) (sym (course_next t)) ∙ none)
 
         held : (k : Holder) → HeldNow p t k → HeldNow p (t + 1) k
         held Nobody q = tt
         held (Held k j) q = (q.0, q.1 ∙ sym (steady k q.0))
 
     -- or it ends
-    pub ends-span : (ticks t0 t e : ℕ) (s0 s : StateOf) (trace0 trace : Trace) (completed : Bool) → IsInSpan demand p dem ticks t0 t e s0 trace0 → HasWorked demand p dem t s trace completed
+    pub ends-span : (ticks t0 t e : ℕ) (s0 s : StateOf) (trace0 trace : Trace) (completed : Bool) → IsInSpan demand p dem ticks t0 t e s0 trace0
+        → HasWorked demand p dem t s trace completed
         → (completed ≡ true) ⊎ ((t + 1 ≡ ticks) ⊎ (some_due p s ≡ true))
         → HasWalked demand p dem ticks t0 t e s trace
     ends-span ticks t0 t e s0 s trace0 trace completed i h why = record {
@@ -402,9 +430,12 @@ module _ (demand : Plan → StateOf → Frac) (p : Plan) (dem : ℕ → ℕ → 
       w = h.worked.writing
 
       row-last : (i : ℕ) → i < count p → row_at s i ≡ prior_row p dem (tick_at demand p dem last ∷ course demand p dem last) i
-      row-last i lt = ap (λ (v : StateOf). row_at v i) (h.worked.state ∙ ap (prior_state p dem) (course_next last)) ∙ get-table (count p) (prior_row p dem (tick_at demand p dem last ∷ course demand p dem last)) i no_row lt
+      row-last i lt =
+          ap (λ (v : StateOf). row_at v i) (h.worked.state ∙ ap (prior_state p dem) (course_next last)) ∙ get-table (count p)
+          (prior_row p dem (tick_at demand p dem last ∷ course demand p dem last)) i no_row lt
 
-      had-last : (i : ℕ) → exec p (tick_at demand p dem last ∷ course demand p dem last) i (latest p i (length (course demand p dem last))) ≡ exec p (course demand p dem (last + 1)) i (latest p i last)
+      had-last : (i : ℕ)
+          → exec p (tick_at demand p dem last ∷ course demand p dem last) i (latest p i (length (course demand p dem last))) ≡ exec p (course demand p dem (last + 1)) i (latest p i last)
       had-last i = ap₂ (λ (ps : List Tick) n. exec p ps i (latest p i n)) (sym (course_next last)) (course-len demand p dem last)
 
       shown : Shows p dem last s (λ i. exec p (course demand p dem (last + 1)) i (latest p i last))
@@ -448,7 +479,8 @@ module _ (demand : Plan → StateOf → Frac) (p : Plan) (dem : ℕ → ℕ → 
       pub closing-between : (trace' : Trace) → trace' ≡ ended_trace p s e trace → IsBetween demand p dem ticks (last + 1) s trace'
       closing-between trace' pe = subst (λ q. IsBetween demand p dem ticks (last + 1) s q) (sym pe) (go (nat_lt 0 trace.segment.units) refl)
         where
-          sums : (b : Bool) → nat_lt 0 trace.segment.units ≡ b → sums_of (notes_before_end p dem asks (course demand p dem (last + 1))) ≡ (if b then (told_trace p s e trace).sums else trace.sums)
+          sums : (b : Bool) → nat_lt 0 trace.segment.units ≡ b
+              → sums_of (notes_before_end p dem asks (course demand p dem (last + 1))) ≡ (if b then (told_trace p s e trace).sums else trace.sums)
           sums b q =
               ap sums_of closing-notes
               ∙ (sums-append (open_notes p dem asks whole) (ended_notes p s t0 e trace)

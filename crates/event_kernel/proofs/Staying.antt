@@ -110,7 +110,9 @@ module _ {L : Type 0} (heard balked : L → Note → L → Type 0) (demand : Pla
 
   -- what a step of so many ticks leads to
   abbrev pub Stays : (t n : ℕ) (to next : L) (st : StateOf) (trace : Trace) → Type 0
-  Stays t n to next st trace = IsInSpan demand p dem ticks t0 n e st trace × ((a : L) → HasHeard heard a (told_in demand p dem t) to → HasHeard heard a (told_in demand p dem n) next)
+  Stays t n to next st trace =
+      IsInSpan demand p dem ticks t0 n e st trace ×
+      ((a : L) → HasHeard heard a (told_in demand p dem t) to → HasHeard heard a (told_in demand p dem n) next)
 
   module _ (t : ℕ) (st : StateOf) (trace : Trace) (here : IsInSpan demand p dem ticks t0 t e st trace) (to next : L) where
     some_units : 0 < f
@@ -120,7 +122,8 @@ module _ {L : Type 0} (heard balked : L → Note → L → Type 0) (demand : Pla
     w0 = begin adm here.work f refl
 
     -- the next tick of the span
-    next_tick : (st' : StateOf) (trace' : Trace) → t + 1 < ticks → QuietTo (t + 1) st → st'.now ≡ t + 1 → ((k : ℕ) → (row_at st' k).deadline ≡ (row_at st k).deadline)
+    next_tick : (st' : StateOf) (trace' : Trace) → t + 1 < ticks → QuietTo (t + 1) st → st'.now ≡ t + 1
+        → ((k : ℕ) → (row_at st' k).deadline ≡ (row_at st k).deadline)
         → HasWorked demand p dem t st' trace' false × ((a : L) → HasHeard heard a (told_in demand p dem t) to → HasHeard heard a (open_notes p dem (ask_of demand p dem) (whole_span demand p dem t)) next)
         → Stays t (t + 1) to next st' trace'
     next_tick st' trace' lt quiet now due done =
@@ -227,7 +230,9 @@ module _ {L : Type 0} (heard balked : L → Note → L → Type 0) (demand : Pla
       same = ap (λ (r : Row). Held i r.job) row
 
       silent : HasHeard heard next (entering_notes p mid t0 e (Held i (row_at mid i).job) (entered p st e h u trace)) next
-      silent = subst (λ ns. HasHeard heard next ns next) (sym (ap (λ k. entering_notes p mid t0 e k (entered p st e h u trace)) same ∙ no_notes h u some told p mid t0 e)) refl
+      silent =
+          subst (λ ns. HasHeard heard next ns next)
+          (sym (ap (λ k. entering_notes p mid t0 e k (entered p st e h u trace)) same ∙ no_notes h u some told p mid t0 e)) refl
 
       more : Stays m (m + 1) next next (run_on mid i f (m + 1)) (entered p mid e (Held i (row_at mid i).job) f (entered p st e h u trace))
       more =
@@ -250,7 +255,8 @@ module _ {L : Type 0} (heard balked : L → Note → L → Type 0) (demand : Pla
       (held_by n t i st trace to next here first (omega (arith, short)) (omega (arith, lt)) (λ k l. (let q = quiet k l in omega (arith, q))) tells))
 
   -- and one more tick of nobody
-  idle_more : (n t : ℕ) (st : StateOf) (trace : Trace) (to next : L) → IsInSpan demand p dem ticks t0 t e st trace → ((k : ℕ) → k < count p → (row_at st k).done ≡ true)
+  idle_more : (n t : ℕ) (st : StateOf) (trace : Trace) (to next : L) → IsInSpan demand p dem ticks t0 t e st trace
+      → ((k : ℕ) → k < count p → (row_at st k).done ≡ true)
       → t + suc n + 1 < ticks → QuietTo (t + suc n + 1) st
       → Stays t (t + suc n) to next (after_advance st (t + suc n)) (entered p st e Nobody (units_in f n) trace)
       → Stays t (t + suc n + 1) to next (after_advance st (t + suc n + 1)) (entered p st e Nobody (units_in f n + f) trace)
@@ -281,7 +287,8 @@ module _ {L : Type 0} (heard balked : L → Note → L → Type 0) (demand : Pla
       more = one-idle m mid (entered p st e Nobody u trace) before.0 next next all_done lt quiet silent
 
   -- so many ticks of nobody
-  idle_by : (n t : ℕ) (st : StateOf) (trace : Trace) (to next : L) → IsInSpan demand p dem ticks t0 t e st trace → ((k : ℕ) → k < count p → (row_at st k).done ≡ true)
+  idle_by : (n t : ℕ) (st : StateOf) (trace : Trace) (to next : L) → IsInSpan demand p dem ticks t0 t e st trace
+      → ((k : ℕ) → k < count p → (row_at st k).done ≡ true)
       → t + suc n < ticks → QuietTo (t + suc n) st
       → HasHeard heard to (entering_notes p st t0 e Nobody trace) next
       → Stays t (t + suc n) to next (after_advance st (t + suc n)) (entered p st e Nobody (units_in f n) trace)
@@ -292,7 +299,8 @@ module _ {L : Type 0} (heard balked : L → Note → L → Type 0) (demand : Pla
       (idle_by n t st trace to next here all_done (omega (arith, lt)) (λ k l. (let q = quiet k l in omega (arith, q))) tells))
 
   -- the same with the ticks counted
-  pub held-stays : (n t i : ℕ) (st : StateOf) (trace : Trace) (to next : L) → 0 < n → IsInSpan demand p dem ticks t0 t e st trace → IsFirstUndone p st (count p) i
+  pub held-stays : (n t i : ℕ) (st : StateOf) (trace : Trace) (to next : L) → 0 < n → IsInSpan demand p dem ticks t0 t e st trace
+      → IsFirstUndone p st (count p) i
       → (row_at st i).used + n * f < dem i (row_at st i).job → t + n < ticks → QuietTo (t + n) st
       → HasHeard heard to (entering_notes p st t0 e (Held i (row_at st i).job) trace) next
       → Stays t (t + n) to next (run_on st i (n * f) (t + n)) (entered p st e (Held i (row_at st i).job) (n * f) trace)
@@ -301,7 +309,8 @@ module _ {L : Type 0} (heard balked : L → Note → L → Type 0) (demand : Pla
       subst (λ u. Stays t (t + suc n) to next (run_on st i u (t + suc n)) (entered p st e (Held i (row_at st i).job) u trace)) (units_in-is f n)
       (held_by n t i st trace to next here first (omega (arith, short, units_in-is f n)) lt quiet tells)
 
-  pub idle-stays : (n t : ℕ) (st : StateOf) (trace : Trace) (to next : L) → 0 < n → IsInSpan demand p dem ticks t0 t e st trace → ((k : ℕ) → k < count p → (row_at st k).done ≡ true)
+  pub idle-stays : (n t : ℕ) (st : StateOf) (trace : Trace) (to next : L) → 0 < n → IsInSpan demand p dem ticks t0 t e st trace
+      → ((k : ℕ) → k < count p → (row_at st k).done ≡ true)
       → t + n < ticks → QuietTo (t + n) st
       → HasHeard heard to (entering_notes p st t0 e Nobody trace) next
       → Stays t (t + n) to next (after_advance st (t + n)) (entered p st e Nobody (n * f) trace)
@@ -314,17 +323,20 @@ module _ {L : Type 0} (heard balked : L → Note → L → Type 0) (demand : Pla
 module _ {L : Type 0} (heard balked : L → Note → L → Type 0) {demand : Plan → StateOf → Frac} {p : Plan} {dem : ℕ → ℕ → ℕ} {ticks : ℕ} (adm : Bounds p) (low_ticks : ticks ≤ 2 ^ 40) {t0 e : ℕ} {st : StateOf} {trace : Trace} (here : IsInSpan demand p dem ticks t0 st.now e st trace) where
   pub stays : (first : Option ℕ) {n : ℕ} → IsFirst p st first → AreQuiet p dem ticks e st first n → (to next : L) → 0 < n
       → HasHeard heard to (entering_notes p st t0 e (holder_at st first) trace) next
-      → (st' : StateOf) (trace' : Trace) → st' ≡ after_advance (gives st first (n * (point p e).speed)) (st.now + n) → trace' ≡ entered p st e (holder_at st first) (n * (point p e).speed) trace
+      → (st' : StateOf) (trace' : Trace) → st' ≡ after_advance (gives st first (n * (point p e).speed)) (st.now + n)
+      → trace' ≡ entered p st e (holder_at st first) (n * (point p e).speed) trace
       → IsInSpan demand p dem ticks t0 st'.now e st' trace' × ((a : L) → HasHeard heard a (told_in demand p dem st.now) to → HasHeard heard a (told_in demand p dem st'.now) next)
   stays first {n} is quiet to next some tells st' trace' moved traces =
       subst (λ (v : StateOf). IsInSpan demand p dem ticks t0 v.now e v trace' × ((a : L) → HasHeard heard a (told_in demand p dem st.now) to → HasHeard heard a (told_in demand p dem v.now) next)) (sym moved)
       (subst (λ q. IsInSpan demand p dem ticks t0 (st.now + n) e (after_advance (gives st first (n * (point p e).speed)) (st.now + n)) q × ((a : L) → HasHeard heard a (told_in demand p dem st.now) to → HasHeard heard a (told_in demand p dem (st.now + n)) next)) (sym traces)
       (go first is quiet tells))
     where
-      go : (first : Option ℕ) → IsFirst p st first → AreQuiet p dem ticks e st first n → HasHeard heard to (entering_notes p st t0 e (holder_at st first) trace) next
+      go : (first : Option ℕ) → IsFirst p st first → AreQuiet p dem ticks e st first n
+          → HasHeard heard to (entering_notes p st t0 e (holder_at st first) trace) next
           → IsInSpan demand p dem ticks t0 (st.now + n) e (after_advance (gives st first (n * (point p e).speed)) (st.now + n)) (entered p st e (holder_at st first) (n * (point p e).speed) trace)
           × ((a : L) → HasHeard heard a (told_in demand p dem st.now) to → HasHeard heard a (told_in demand p dem (st.now + n)) next)
-      go None is quiet tells = idle-stays heard balked demand p dem ticks adm low_ticks t0 e n st.now st trace to next some here is quiet.before_end quiet.no_release tells
+      go None is quiet tells =
+          idle-stays heard balked demand p dem ticks adm low_ticks t0 e n st.now st trace to next some here is quiet.before_end quiet.no_release tells
       go (Some i) is quiet tells = held-stays heard balked demand p dem ticks adm low_ticks t0 e n st.now i st trace to next some here is (quiet.not_done i refl) quiet.before_end quiet.no_release tells
 
   pub stays-balked : (first : Option ℕ) {n : ℕ} → IsFirst p st first → AreQuiet p dem ticks e st first n → (to next : L) → 0 < n

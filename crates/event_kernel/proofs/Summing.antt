@@ -60,7 +60,8 @@ notes-run : (p : Plan) (st : StateOf) (at_unit : ℕ → Pos) (e q u : ℕ) (h :
 notes-run p st at_unit e q u Nobody = omega arith
 notes-run p st at_unit e q u (Held i k) = go (row_at st i).done
   where
-    go : (b : Bool) → sum_by energy_run (Run (at_unit q) (at_unit (q + u)) i k u (run_energy p e u) ∷ (if b then Done (at_unit (q + u)) i k (row_at st i).used ∷ [] else [])) ≡ run_energy p e u
+    go : (b : Bool)
+        → sum_by energy_run (Run (at_unit q) (at_unit (q + u)) i k u (run_energy p e u) ∷ (if b then Done (at_unit (q + u)) i k (row_at st i).used ∷ [] else [])) ≡ run_energy p e u
     go true = omega arith
     go false = omega arith
 
@@ -68,7 +69,8 @@ notes-idle : (p : Plan) (st : StateOf) (at_unit : ℕ → Pos) (e q u : ℕ) (h 
 notes-idle p st at_unit e q u Nobody = omega arith
 notes-idle p st at_unit e q u (Held i k) = go (row_at st i).done
   where
-    go : (b : Bool) → sum_by energy_idle (Run (at_unit q) (at_unit (q + u)) i k u (run_energy p e u) ∷ (if b then Done (at_unit (q + u)) i k (row_at st i).used ∷ [] else [])) ≡ 0
+    go : (b : Bool)
+        → sum_by energy_idle (Run (at_unit q) (at_unit (q + u)) i k u (run_energy p e u) ∷ (if b then Done (at_unit (q + u)) i k (row_at st i).used ∷ [] else [])) ≡ 0
     go true = omega arith
     go false = omega arith
 
@@ -83,7 +85,8 @@ added-holder p st at_unit e q u h s =
     none Nobody = omega arith
     none (Held i k) = go (row_at st i).done
       where
-        go : (b : Bool) → s.released + count_by is_released (Run (at_unit q) (at_unit (q + u)) i k u (run_energy p e u) ∷ (if b then Done (at_unit (q + u)) i k (row_at st i).used ∷ [] else [])) ≡ s.released
+        go : (b : Bool)
+            → s.released + count_by is_released (Run (at_unit q) (at_unit (q + u)) i k u (run_energy p e u) ∷ (if b then Done (at_unit (q + u)) i k (row_at st i).used ∷ [] else [])) ≡ s.released
         go true = omega arith
         go false = omega arith
 
@@ -91,7 +94,8 @@ added-holder p st at_unit e q u h s =
     ends Nobody = omega arith
     ends (Held i k) = go (row_at st i).done
       where
-        go : (b : Bool) → s.finished + count_by is_finished (Run (at_unit q) (at_unit (q + u)) i k u (run_energy p e u) ∷ (if b then Done (at_unit (q + u)) i k (row_at st i).used ∷ [] else [])) ≡ s.finished + (if b then 1 else 0)
+        go : (b : Bool)
+            → s.finished + count_by is_finished (Run (at_unit q) (at_unit (q + u)) i k u (run_energy p e u) ∷ (if b then Done (at_unit (q + u)) i k (row_at st i).used ∷ [] else [])) ≡ s.finished + (if b then 1 else 0)
         go true = omega arith
         go false = omega arith
 
@@ -99,7 +103,8 @@ added-holder p st at_unit e q u h s =
     no Nobody = omega arith
     no (Held i k) = go (row_at st i).done
       where
-        go : (b : Bool) → s.decisions + count_by is_decided (Run (at_unit q) (at_unit (q + u)) i k u (run_energy p e u) ∷ (if b then Done (at_unit (q + u)) i k (row_at st i).used ∷ [] else [])) ≡ s.decisions
+        go : (b : Bool)
+            → s.decisions + count_by is_decided (Run (at_unit q) (at_unit (q + u)) i k u (run_energy p e u) ∷ (if b then Done (at_unit (q + u)) i k (row_at st i).used ∷ [] else [])) ≡ s.decisions
         go true = omega arith
         go false = omega arith
 
@@ -112,10 +117,13 @@ ended-most st (Held i k) = go (row_at st i).done
     go false = omega arith
 
 -- each task has one release and one end at most at a boundary
-one-each : (f : Note → Bool) (p : Plan) (dem : ℕ → ℕ → ℕ) (t i : ℕ) → ((k : ℕ) (q : Pos) → count_by f (Release t i k ∷ []) ≤ 1 × (count_by f (Release t i k ∷ Done q i k 0 ∷ []) ≤ 1)) → count_by f (release_notes p dem t i) ≤ 1
+one-each : (f : Note → Bool) (p : Plan) (dem : ℕ → ℕ → ℕ) (t i : ℕ)
+    → ((k : ℕ) (q : Pos) → count_by f (Release t i k ∷ []) ≤ 1 × (count_by f (Release t i k ∷ Done q i k 0 ∷ []) ≤ 1))
+    → count_by f (release_notes p dem t i) ≤ 1
 one-each f p dem t i h = go (releases_at p i t) (nat_eq (dem i (latest p i t)) 0)
   where
-    go : (a b : Bool) → count_by f (if a then Release t i (latest p i t) ∷ (if b then Done (record { tick = t; offset = 0 }) i (latest p i t) 0 ∷ [] else []) else []) ≤ 1
+    go : (a b : Bool)
+        → count_by f (if a then Release t i (latest p i t) ∷ (if b then Done (record { tick = t; offset = 0 }) i (latest p i t) 0 ∷ [] else []) else []) ≤ 1
     go false b = omega arith
     go true false = (h (latest p i t) (record { tick = t; offset = 0 })).0
     go true true = (h (latest p i t) (record { tick = t; offset = 0 })).1
@@ -144,7 +152,8 @@ few-finished p dem t n = few-each is_finished (release_notes p dem t) (λ i. one
 none-decided : (p : Plan) (dem : ℕ → ℕ → ℕ) (t i : ℕ) → count_by is_decided (release_notes p dem t i) ≡ 0
 none-decided p dem t i = go (releases_at p i t) (nat_eq (dem i (latest p i t)) 0)
   where
-    go : (a b : Bool) → count_by is_decided (if a then Release t i (latest p i t) ∷ (if b then Done (record { tick = t; offset = 0 }) i (latest p i t) 0 ∷ [] else []) else []) ≡ 0
+    go : (a b : Bool)
+        → count_by is_decided (if a then Release t i (latest p i t) ∷ (if b then Done (record { tick = t; offset = 0 }) i (latest p i t) 0 ∷ [] else []) else []) ≡ 0
     go false b = refl
     go true false = refl
     go true true = refl

@@ -31,7 +31,8 @@ use Rattle.event_kernel.proofs.Hearing.{Begins, heard-append, balked-begins, bal
 use Rattle.event_kernel.proofs.Beginnings.{units-begin, open-begins}
 use Rattle.sched_model.specs.Demands.{IsWithin}
 
-pub course-next : (p : Plan) (dem : ℕ → ℕ → ℕ) (ask : List Tick → Frac) (t : ℕ) → schedule_by p dem ask (t + 1) ≡ next_tick p dem ask (schedule_by p dem ask t) ∷ schedule_by p dem ask t
+pub course-next : (p : Plan) (dem : ℕ → ℕ → ℕ) (ask : List Tick → Frac) (t : ℕ)
+    → schedule_by p dem ask (t + 1) ≡ next_tick p dem ask (schedule_by p dem ask t) ∷ schedule_by p dem ask t
 unfolding schedule_by
 course-next p dem ask t = ap (schedule_by p dem ask) (add-one t)
 
@@ -60,7 +61,9 @@ module _ {L : Type 0} (heard balked : L → Note → L → Type 0) (p : Plan) (d
       record {
         given = λ _. 0;
         hand = start p dem past (speed_now p dem ask past);
-        writing = subst (λ us. Writing p dem ask (length past) (with_list s0 us) (λ i. had p dem past i + 0) (1000000 * length past + sum_below (count p) (λ _. 0)) trace) same
+        writing =
+            subst
+            (λ us. Writing p dem ask (length past) (with_list s0 us) (λ i. had p dem past i + 0) (1000000 * length past + sum_below (count p) (λ _. 0)) trace) same
             (subst (λ m. Writing p dem ask (length past) s0 (λ i. had p dem past i + 0) m trace) most
             (subst (λ u. Writing p dem ask (length past) s0 u (1000000 * length past) trace) used w));
         told = λ a h. subst (λ us. HasHeard heard a (open_notes p dem ask (with_list s0 us)) from) same h;
@@ -78,11 +81,13 @@ module _ {L : Type 0} (heard balked : L → Note → L → Type 0) (p : Plan) (d
         → row_at st i ≡ given_row p dem past w.given i
     row-is to rest completed st trace w i lt = given-row p dem past w.given st i w.hand.state lt
 
-    pub rows-long : (to : L) (rest : ℕ) (completed : Bool) (st : StateOf) (trace : Trace) → Working s0 from to rest completed st trace → length st.rows ≡ count p
+    pub rows-long : (to : L) (rest : ℕ) (completed : Bool) (st : StateOf) (trace : Trace) → Working s0 from to rest completed st trace
+        → length st.rows ≡ count p
     rows-long to rest completed st trace w = ap (λ (s : StateOf). length s.rows) w.hand.state ∙ length-list_below (count p) (given_row p dem past w.given)
 
     pub can-tell : length past < 2 ^ 40 → length s0.past ≤ length past → s0.entry ≡ entry_in_force p dem ask past
-        → (to : L) (rest : ℕ) (completed : Bool) (st : StateOf) (trace : Trace) → Working s0 from to rest completed st trace → CanTell p st (length s0.past) s0.entry trace × (trace.segment.units + speed_now p dem ask past < 2 ^ 64)
+        → (to : L) (rest : ℕ) (completed : Bool) (st : StateOf) (trace : Trace) → Working s0 from to rest completed st trace
+        → CanTell p st (length s0.past) s0.entry trace × (trace.segment.units + speed_now p dem ask past < 2 ^ 64)
     can-tell early before e to rest completed st trace w = (
       record {
         entry = subst (λ m. m < length p.machine.points) (sym e) (force-within p dem ask adm.some_point past);
@@ -99,7 +104,8 @@ module _ {L : Type 0} (heard balked : L → Note → L → Type 0) (p : Plan) (d
         held_in (Held i k) t = t.0
 
     -- one task gets units
-    pub working-turn : (to next : L) (rest i share : ℕ) (completed whole now : Bool) (st st' : StateOf) (trace : Trace) → Working s0 from to rest completed st trace → 0 < rest
+    pub working-turn : (to next : L) (rest i share : ℕ) (completed whole now : Bool) (st st' : StateOf) (trace : Trace)
+        → Working s0 from to rest completed st trace → 0 < rest
         → IsFirstUndone p st (count p) i
         → share ≡ min rest (dem i ((row_at st i).job) - (row_at st i).used)
         → whole ≡ nat_eq share (dem i ((row_at st i).job) - (row_at st i).used)
@@ -111,7 +117,9 @@ module _ {L : Type 0} (heard balked : L → Note → L → Type 0) (p : Plan) (d
         record {
           given = raised w.given i share;
           hand = gives p dem past (speed_now p dem ask past) rest w.given completed st st' i share whole now w.hand pos within o se' we' is (ne ∙ or_if completed whole);
-          writing = subst (λ us. Writing p dem ask (length past) (with_list s0 us) (λ k. had p dem past k + raised w.given i share k) (1000000 * length past + sum_below (count p) (raised w.given i share)) (entered p st s0.entry (Held i ((row_at st i).job)) share trace)) units
+          writing =
+              subst
+              (λ us. Writing p dem ask (length past) (with_list s0 us) (λ k. had p dem past k + raised w.given i share k) (1000000 * length past + sum_below (count p) (raised w.given i share)) (entered p st s0.entry (Held i ((row_at st i).job)) share trace)) units
               (subst (λ m. Writing p dem ask (length past) (grown (grown s0 (units_by p dem past w.given)) (replicate share (Held i ((row_at st i).job)))) (λ k. had p dem past k + raised w.given i share k) m (entered p st s0.entry (Held i ((row_at st i).job)) share trace)) most
               (enters p dem ask (length past) adm (grown s0 (units_by p dem past w.given)) (λ k. had p dem past k + w.given k) (λ k. had p dem past k + raised w.given i share k) (1000000 * length past + sum_below (count p) w.given) st (Held i ((row_at st i).job)) share trace some w.writing sh
               (u.below, job_is)
@@ -163,12 +171,14 @@ module _ {L : Type 0} (heard balked : L → Note → L → Type 0) (p : Plan) (d
         most = omega (arith, sum-raised (count p) w.given i share u.below)
 
     -- the listener balked there
-    pub working-balk : (to next : L) (rest i share : ℕ) (completed whole : Bool) (st : StateOf) (trace : Trace) → Working s0 from to rest completed st trace → 0 < rest
+    pub working-balk : (to next : L) (rest i share : ℕ) (completed whole : Bool) (st : StateOf) (trace : Trace)
+        → Working s0 from to rest completed st trace → 0 < rest
         → IsFirstUndone p st (count p) i
         → share ≡ min rest (dem i ((row_at st i).job) - (row_at st i).used)
         → whole ≡ nat_eq share (dem i ((row_at st i).job) - (row_at st i).used)
         → HasBalked heard balked to (entering_notes p st (length s0.past) s0.entry (Held i ((row_at st i).job)) trace) next
-        → (a : L) → HasHeard heard a (open_notes p dem ask s0) from → HasBalked heard balked a (open_notes p dem ask (grown s0 (units_of p past (tick_now p dem ask past)))) next
+        → (a : L) → HasHeard heard a (open_notes p dem ask s0) from
+        → HasBalked heard balked a (open_notes p dem ask (grown s0 (units_of p past (tick_now p dem ask past)))) next
     working-balk to next rest i share completed whole st trace w pos u se we balks a h =
         let so_far : List Note = open_notes p dem ask (grown s0 (units_by p dem past w.given)) in
         let here : HasBalked heard balked a (so_far ++ entering_notes p st (length s0.past) s0.entry (Held i ((row_at st i).job)) trace) next =
@@ -240,20 +250,25 @@ module _ {L : Type 0} (heard balked : L → Note → L → Type 0) (p : Plan) (d
     -- the whole tick is told, with the units that nobody took
     pub record Idled (to : L) (given : ℕ → ℕ) (rest : ℕ) (trace : Trace) : Type 0 where
       pub writing : Writing p dem ask (length past) (grown s0 (units_by p dem past given ++ replicate rest Nobody)) (λ i. had p dem past i + given i) (1000000 * length past + sum_below (count p) given + rest) trace
-      pub told : (a : L) → HasHeard heard a (open_notes p dem ask s0) from → HasHeard heard a (open_notes p dem ask (grown s0 (units_by p dem past given ++ replicate rest Nobody))) to
+      pub told : (a : L) → HasHeard heard a (open_notes p dem ask s0) from
+          → HasHeard heard a (open_notes p dem ask (grown s0 (units_by p dem past given ++ replicate rest Nobody))) to
 
-    pub working-full : (to : L) (rest : ℕ) (completed : Bool) (st : StateOf) (trace : Trace) (w : Working s0 from to rest completed st trace) → rest ≡ 0 → Idled to w.given rest trace
+    pub working-full : (to : L) (rest : ℕ) (completed : Bool) (st : StateOf) (trace : Trace) (w : Working s0 from to rest completed st trace)
+        → rest ≡ 0 → Idled to w.given rest trace
     working-full to rest completed st trace w none =
         let same : s0.units ++ units_by p dem past w.given ≡ s0.units ++ (units_by p dem past w.given ++ replicate rest Nobody) =
         ap (λ us. s0.units ++ us) (sym (ap (λ n. units_by p dem past w.given ++ replicate n Nobody) none ∙ append-nil (units_by p dem past w.given))) in
         let most : 1000000 * length past + sum_below (count p) w.given ≡ 1000000 * length past + sum_below (count p) w.given + rest = omega (arith, none) in
         record {
-          writing = subst (λ us. Writing p dem ask (length past) (with_list s0 us) (λ i. had p dem past i + w.given i) (1000000 * length past + sum_below (count p) w.given + rest) trace) same
+          writing =
+              subst
+              (λ us. Writing p dem ask (length past) (with_list s0 us) (λ i. had p dem past i + w.given i) (1000000 * length past + sum_below (count p) w.given + rest) trace) same
               (subst (λ m. Writing p dem ask (length past) (grown s0 (units_by p dem past w.given)) (λ i. had p dem past i + w.given i) m trace) most w.writing);
           told = λ a h. subst (λ us. HasHeard heard a (open_notes p dem ask (with_list s0 us)) to) same (w.told a h);
         }
 
-    idle-units : (given : ℕ → ℕ) (rest : ℕ) → (s0.units ++ units_by p dem past given) ++ replicate rest Nobody ≡ s0.units ++ (units_by p dem past given ++ replicate rest Nobody)
+    idle-units : (given : ℕ → ℕ) (rest : ℕ)
+        → (s0.units ++ units_by p dem past given) ++ replicate rest Nobody ≡ s0.units ++ (units_by p dem past given ++ replicate rest Nobody)
     idle-units given rest = append_assoc s0.units (units_by p dem past given) (replicate rest Nobody)
 
     idle-had : (x rest i k : ℕ) → x + count_by (same_holder (Held i k)) (replicate rest Nobody) ≡ x
@@ -263,7 +278,9 @@ module _ {L : Type 0} (heard balked : L → Note → L → Type 0) (p : Plan) (d
         → HasHeard heard to (entering_notes p st (length s0.past) s0.entry Nobody trace) next
         → Idled next w.given rest (entered p st s0.entry Nobody rest trace)
     working-idle to next rest completed st trace w some tells = record {
-      writing = subst (λ us. Writing p dem ask (length past) (with_list s0 us) (λ i. had p dem past i + w.given i) (1000000 * length past + sum_below (count p) w.given + rest) (entered p st s0.entry Nobody rest trace)) (idle-units w.given rest)
+      writing =
+          subst
+          (λ us. Writing p dem ask (length past) (with_list s0 us) (λ i. had p dem past i + w.given i) (1000000 * length past + sum_below (count p) w.given + rest) (entered p st s0.entry Nobody rest trace)) (idle-units w.given rest)
           (enters p dem ask (length past) adm (grown s0 (units_by p dem past w.given)) (λ k. had p dem past k + w.given k) (λ k. had p dem past k + w.given k) (1000000 * length past + sum_below (count p) w.given) st Nobody rest trace some w.writing
           (shows p dem past within (speed_now p dem ask past) rest w.given completed st w.hand) tt
           (λ k lt. idle-had (had p dem past k + w.given k) rest k (job p dem past k)));
@@ -285,10 +302,12 @@ module _ {L : Type 0} (heard balked : L → Note → L → Type 0) (p : Plan) (d
         go (inl z) = inl z
         go (inr d) = inr (none-open p dem past (speed_now p dem ask past) rest w.given completed st w.hand d)
 
-    pub working-idle-balk : (to next : L) (rest : ℕ) (completed : Bool) (st : StateOf) (trace : Trace) (w : Working s0 from to rest completed st trace) → 0 < rest
+    pub working-idle-balk : (to next : L) (rest : ℕ) (completed : Bool) (st : StateOf) (trace : Trace) (w : Working s0 from to rest completed st trace)
+        → 0 < rest
         → (rest ≡ 0) ⊎ ((k : ℕ) → k < count p → (row_at st k).done ≡ true)
         → HasBalked heard balked to (entering_notes p st (length s0.past) s0.entry Nobody trace) next
-        → (a : L) → HasHeard heard a (open_notes p dem ask s0) from → HasBalked heard balked a (open_notes p dem ask (grown s0 (units_of p past (tick_now p dem ask past)))) next
+        → (a : L) → HasHeard heard a (open_notes p dem ask s0) from
+        → HasBalked heard balked a (open_notes p dem ask (grown s0 (units_of p past (tick_now p dem ask past)))) next
     working-idle-balk to next rest completed st trace w some ends balks a h =
         let so_far : List Note = open_notes p dem ask (grown s0 (units_by p dem past w.given)) in
         let here : HasBalked heard balked a (so_far ++ entering_notes p st (length s0.past) s0.entry Nobody trace) next =
@@ -303,10 +322,12 @@ module _ {L : Type 0} (heard balked : L → Note → L → Type 0) (p : Plan) (d
     pub record Worked (to : L) (completed : Bool) (st : StateOf) (trace : Trace) : Type 0 where
       pub state : st ≡ prior_state p dem (tick_now p dem ask past ∷ past)
       pub writing : Writing p dem ask (length past) (grown s0 (units_of p past (tick_now p dem ask past))) (λ i. exec p (tick_now p dem ask past ∷ past) i (latest p i (length past))) (1000000 * (length past + 1)) trace
-      pub told : (a : L) → HasHeard heard a (open_notes p dem ask s0) from → HasHeard heard a (open_notes p dem ask (grown s0 (units_of p past (tick_now p dem ask past)))) to
+      pub told : (a : L) → HasHeard heard a (open_notes p dem ask s0) from
+          → HasHeard heard a (open_notes p dem ask (grown s0 (units_of p past (tick_now p dem ask past)))) to
       pub completes : completed ≡ any_below (count p) (completes_in p dem (tick_now p dem ask past) past)
 
-    writing-more : (s : Span) (used used' : ℕ → ℕ) (most most' : ℕ) (trace : Trace) → ((i : ℕ) → i < count p → used i ≡ used' i) → most ≤ most' → Writing p dem ask (length past) s used most trace → Writing p dem ask (length past) s used' most' trace
+    writing-more : (s : Span) (used used' : ℕ → ℕ) (most most' : ℕ) (trace : Trace) → ((i : ℕ) → i < count p → used i ≡ used' i) → most ≤ most'
+        → Writing p dem ask (length past) s used most trace → Writing p dem ask (length past) s used' most' trace
     writing-more s used used' most most' trace same le w = record {
       units = w.units;
       holder = w.holder;
@@ -332,7 +353,9 @@ module _ {L : Type 0} (heard balked : L → Note → L → Type 0) (p : Plan) (d
         ap (λ us. s0.units ++ us) (end-units p dem ask past adm.some_period w.given rest same w.hand.sum) in
         record {
           state = end-state p dem ask past adm.some_period none w.given st same w.hand.state;
-          writing = subst (λ us. Writing p dem ask (length past) (with_list s0 us) (λ i. exec p (tick_now p dem ask past ∷ past) i (latest p i (length past))) (1000000 * (length past + 1)) trace') units
+          writing =
+              subst
+              (λ us. Writing p dem ask (length past) (with_list s0 us) (λ i. exec p (tick_now p dem ask past ∷ past) i (latest p i (length past))) (1000000 * (length past + 1)) trace') units
               (writing-more (grown s0 (units_by p dem past w.given ++ replicate rest Nobody)) (λ i. had p dem past i + w.given i) (λ i. exec p (tick_now p dem ask past ∷ past) i (latest p i (length past)))
               (1000000 * length past + sum_below (count p) w.given + rest) (1000000 * (length past + 1)) trace'
               (λ i lt. end-had p dem ask past adm.some_period none w.given i lt (same i lt))

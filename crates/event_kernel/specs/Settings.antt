@@ -81,6 +81,7 @@ abbrev pub notes_after : StateOf → NotesUpTo
 notes_after s demand set = told_after demand set.plan.now (jobs_of set) (s.now - 1)
 
 -- a step within a run: what the listener had heard before it, and has heard after it, or where it balked
-abbrev pub Leads : {L T E : Type 0} → (L → Note → L → Type 0) → (L → Note → L → Type 0) → (L → ℕ) → (Plan → StateOf → Frac) → Setting → L → L → NotesUpTo → NotesUpTo → Result T E → Type 0
+abbrev pub Leads : {L T E : Type 0} → (L → Note → L → Type 0) → (L → Note → L → Type 0) → (L → ℕ) → (Plan → StateOf → Frac) → Setting → L → L
+    → NotesUpTo → NotesUpTo → Result T E → Type 0
 Leads heard balked stops demand set from to before after result =
     TellsOn heard balked stops from to (before demand set) (after demand set) (told_before demand set.plan.now (jobs_of set) set.ticks) result

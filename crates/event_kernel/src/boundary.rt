@@ -1,7 +1,7 @@
 // The releases and the decision of a boundary.
-ghost use Rattle.std.specs.Prelude.{◌≡◌, ◌<◌, ◌^◌, ℕ, OnOk, IfOk, List, [], ◌∷◌};
+ghost use Rattle.std.specs.Prelude.{◌≡◌, ◌<◌, ◌^◌, ℕ, OnOk, IfOk, List, [], ◌∷◌, nat_eq, length};
 ghost use Rattle.freq_table.specs.Tables.{lowest_entry};
-ghost use Rattle.sched_model.specs.States.{state_of, CanRelease, IsOfPlan};
+ghost use Rattle.sched_model.specs.States.{row_at, CanRelease, IsOfPlan};
 ghost use Rattle.sched_model.specs.Notes.{all_release_notes};
 ghost use Rattle.governor.specs.Steps.{IsAtDecision};
 ghost use Rattle.governor.specs.Schedule.{course};
@@ -19,6 +19,14 @@ use crate::{Listener, Stopped};
 use dvs_base::{Note, Pos};
 use governor::Governor;
 use sched_model::{Admitted, Holder, State};
+
+/// Whether a task's deadline is now, so that its next job is released.
+pub(crate) fn is_due(state: &State, task: u32) -> bool
+    requires { task < length state.now.rows }
+    ensures { result ≡ nat_eq (row_at state.entry.now task).deadline state.entry.now.now }
+{
+    state.rows[task as usize].deadline == state.now
+}
 
 // Makes one decision, and tells it.
 fn decide<G: Governor, L: Listener>(
@@ -109,12 +117,9 @@ impl<G: Governor> Run<G> {
         ensures told { Tells L.heard L.balked L.stops to.old to.new
             (all_release_notes set.now.plan.now (jobs_of set.now) self.old.state.now) result }
     {
-        let state = &self.state;
-        let now = state.now;
         let mut any = false;
         for task in 0..set.plan.count() {
-            let state = &self.state;
-            if state.rows[task as usize].deadline == now {
+            if is_due(&self.state, task) {
                 self.release_one(set, task, to)?;
                 any = true;
             }

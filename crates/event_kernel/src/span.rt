@@ -5,6 +5,7 @@ ghost use Rattle.event_kernel.specs.Boundary.{some_due};
 ghost use Rattle.event_kernel.specs.Settings.{IsSetting, Between, InSpan, Walked, IsMetBy, Leads};
 ghost use Rattle.event_kernel.specs.Settings.{notes_before, notes_in, notes_after};
 
+use crate::boundary::is_due;
 use crate::run::{InForce, Run, Setting};
 use crate::trace::Moment;
 use crate::{Listener, Stopped};
@@ -26,7 +27,7 @@ fn any_due(plan: &Admitted, state: &State) -> bool
     plan.known();
     let mut any = false;
     for task in 0..plan.count() {
-        if state.rows[task as usize].deadline == state.now {
+        if is_due(state, task) {
             any = true;
         }
     }

@@ -1,7 +1,6 @@
-use Rattle.std.proofs.Common.{◌≡◌, ◌<◌, true, false, length, arith, ap, ◌∙◌, sym, subst, nat_eq, ◌+◌, ap₂}
+use Rattle.std.proofs.lemmas.Bool.Decides.{nat_tests}
+use Rattle.std.proofs.Common.{ℕ, Bool, ◌≡◌, ◌<◌, true, false, length, arith, ap, ◌∙◌, sym, subst, nat_eq, ◌+◌}
 use Rattle.event_kernel.proofs.Bounds.{bounds}
-use Rattle.std.proofs.lemmas.Bool.{ne_eqb}
-use Rattle.sched_model.specs.declared.state.Row.{Row}
 use Rattle.event_kernel.specs.Settings.{jobs_of}
 use Rattle.sched_model.specs.Plan.{count}
 use Rattle.sched_model.specs.States.{row_at, StateOf, IsOfPlan}
@@ -11,10 +10,9 @@ use Rattle.event_kernel.specs.Heard.{HasBalked, Tells}
 use Rattle.event_kernel.proofs.Ofplan.{of-prior}
 use Rattle.event_kernel.specs.Segment.{with_notes}
 use Rattle.event_kernel.proofs.Hearing.{at_error}
-use Rattle.event_kernel.proofs.Atwork.{read_row}
 use Rattle.event_kernel.proofs.Releasing.{Releasing, notes_upto, releasing-start, long-there, passed, passed-notes, opens, opens-trace, start-trace, has-room, opens-balked, can-release, released-marked, released-unmarked, prior-done, low-exec, course-len}
 use Rattle.event_kernel.proofs.run.Run.release_all.Goals as goal
-use Rattle.event_kernel.proofs.run.Run.release_all.Goals.{then-index-now+in_ok-release_one, else-index-now}
+use Rattle.event_kernel.proofs.run.Run.release_all.Goals.{then-is_due+in_ok-release_one, else-is_due}
 
 pub loop-task-init : goal.loop-task-init
 loop-task-init g c =
@@ -37,24 +35,17 @@ release_one-requires-clause-of g c = c.loop-task.invariant.2
 pub settled-requires-clause-of : goal.settled-requires-clause-of
 settled-requires-clause-of g c = c.loop-task.invariant.2
 
-pub index-requires : goal.index-requires
-index-requires g c =
-    let m = g.G.Governor.demand in
+-- a test that holds, and one that doesn't
+due-now : (a b : ℕ) (r : Bool) → r ≡ nat_eq a b → r ≡ true → a ≡ b
+due-now a b r is on = (let e : nat_eq a b ≡ true = sym is ∙ on in grind (arith, nat_tests))
+
+pub is_due-requires : goal.is_due-requires
+is_due-requires g c =
     let p = c.args.set.now.plan.now in
-    let dem = jobs_of c.args.set.now in
-    let t = c.args.self.now.state.now in
-    let here = c.requires.at in
-    let adm = bounds c.args.set.now.plan.now c.requires.set.admitted in
-    let past = course m p dem t in
-    let len : length past ≡ t = course-len m p dem t in
-    let r = c.loop-task.invariant.0 in
-    let any = c.loop-task.any in
-    let st = c.loop-task.self.state in
-    let i = c.loop-task.task in
-    let lt : i < count p = rw (← c.count-task-end.ensures.count) c.loop-task-test.true in
-    let long : length st.rows ≡ count p = long-there p dem past adm.some_period g.L.Listener.heard g.L.Listener.balked c.args.to.now i any st c.loop-task.to r in
-    let rows_are = ap (λ (v : StateOf). length v.rows) c.state-in-loop-task.view_is in
-    omega (arith, lt, long, rows_are)
+    let lt : c.loop-task.task < count p = rw (← c.count-task-end.ensures.count) c.loop-task-test.true in
+    let long : length c.loop-task.self.state.rows ≡ count p =
+    long-there _ _ _ (bounds p c.requires.set.admitted).some_period _ g.L.Listener.balked _ _ _ _ _ c.loop-task.invariant.0 in
+    omega (arith, lt, long)
 
 pub release_one-requires-clause-can : goal.release_one-requires-clause-can
 release_one-requires-clause-can g c =
@@ -62,22 +53,11 @@ release_one-requires-clause-can g c =
     let p = c.args.set.now.plan.now in
     let dem = jobs_of c.args.set.now in
     let t = c.args.self.now.state.now in
-    let here = c.requires.at in
-    let adm = bounds c.args.set.now.plan.now c.requires.set.admitted in
-    let past = course m p dem t in
-    let len : length past ≡ t = course-len m p dem t in
-    let r = c.loop-task.invariant.0 in
-    let any = c.loop-task.any in
-    let st = c.loop-task.self.state in
-    let i = c.loop-task.task in
-    let lt : i < count p = rw (← c.count-task-end.ensures.count) c.loop-task-test.true in
-    let long : length st.rows ≡ count p = long-there p dem past adm.some_period g.L.Listener.heard g.L.Listener.balked c.args.to.now i any st c.loop-task.to r in
-    let row = c.index.result.now in
-    let rows_are : c.state-in-loop-task.inside.rows.items ≡ st.rows = ap (λ (v : StateOf). v.rows) c.state-in-loop-task.view_is in
-    let is : row ≡ row_at st i = read_row st c.state-in-loop-task.inside.rows.items i row rows_are (omega (arith, lt, long)) c.index.ensures in
-    let clock : c.state.inside.now ≡ st.now = ap (λ (v : StateOf). v.now) c.state.view_is ∙ (sym len ∙ sym (ap (λ (v : StateOf). v.now) r.state)) in
-    let due : (row_at st i).deadline ≡ st.now = sym (ap (λ (q : Row). q.deadline) is) ∙ (c.if-index-now.true ∙ clock) in
-    can-release p dem past adm.some_period g.L.Listener.heard g.L.Listener.balked c.args.to.now i any st c.loop-task.to r lt due adm (omega (arith, len, here.early)) (prior-done m p dem t c.args.self.now.state here i lt)
+    let adm = bounds p c.requires.set.admitted in
+    let lt : c.loop-task.task < count p = rw (← c.count-task-end.ensures.count) c.loop-task-test.true in
+    can-release p dem (course m p dem t) adm.some_period g.L.Listener.heard g.L.Listener.balked c.args.to.now _ _ _ _ c.loop-task.invariant.0 lt
+    (due-now _ _ _ c.is_due.ensures c.if-is_due.true) adm (omega (arith, course-len m p dem t, c.requires.at.early))
+    (prior-done m p dem t c.args.self.now.state c.requires.at c.loop-task.task lt)
 
 pub returns-in_err-release_one-clause-told : goal.returns-in_err-release_one-clause-told
 returns-in_err-release_one-clause-told g c =
@@ -85,26 +65,13 @@ returns-in_err-release_one-clause-told g c =
     let p = c.args.set.now.plan.now in
     let dem = jobs_of c.args.set.now in
     let t = c.args.self.now.state.now in
-    let here = c.requires.at in
-    let adm = bounds c.args.set.now.plan.now c.requires.set.admitted in
-    let past = course m p dem t in
-    let len : length past ≡ t = course-len m p dem t in
-    let r = c.loop-task.invariant.0 in
-    let any = c.loop-task.any in
-    let st = c.loop-task.self.state in
-    let i = c.loop-task.task in
-    let lt : i < count p = rw (← c.count-task-end.ensures.count) c.loop-task-test.true in
-    let long : length st.rows ≡ count p = long-there p dem past adm.some_period g.L.Listener.heard g.L.Listener.balked c.args.to.now i any st c.loop-task.to r in
-    let row = c.index.result.now in
-    let rows_are : c.state-in-loop-task.inside.rows.items ≡ st.rows = ap (λ (v : StateOf). v.rows) c.state-in-loop-task.view_is in
-    let is : row ≡ row_at st i = read_row st c.state-in-loop-task.inside.rows.items i row rows_are (omega (arith, lt, long)) c.index.ensures in
-    let clock : c.state.inside.now ≡ st.now = ap (λ (v : StateOf). v.now) c.state.view_is ∙ (sym len ∙ sym (ap (λ (v : StateOf). v.now) r.state)) in
-    let due : (row_at st i).deadline ≡ st.now = sym (ap (λ (q : Row). q.deadline) is) ∙ (c.if-index-now.true ∙ clock) in
+    let lt : c.loop-task.task < count p = rw (← c.count-task-end.ensures.count) c.loop-task-test.true in
     let told = c.in_err-release_one.ensures.told in
     at_error (Tells g.L.Listener.heard g.L.Listener.balked g.L.Listener.stops c.args.to.now c.release_one.new.to (all_release_notes p dem t)) c.from_residual.result c.from_residual.ensures.0
     (λ x. (
-      subst (λ n. HasBalked g.L.Listener.heard g.L.Listener.balked c.args.to.now (all_release_notes p dem n) c.release_one.new.to) len
-          (opens-balked p dem past adm.some_period g.L.Listener.heard g.L.Listener.balked c.args.to.now i any st c.loop-task.to r lt due c.release_one.new.to told.0),
+      subst (λ n. HasBalked g.L.Listener.heard g.L.Listener.balked c.args.to.now (all_release_notes p dem n) c.release_one.new.to) (course-len m p dem t)
+          (opens-balked p dem (course m p dem t) (bounds p c.requires.set.admitted).some_period g.L.Listener.heard g.L.Listener.balked c.args.to.now _ _ _ _ c.loop-task.invariant.0 lt
+          (due-now _ _ _ c.is_due.ensures c.if-is_due.true) c.release_one.new.to told.0),
       omega (arith, told.1, c.loop-task.invariant.4),
       omega (arith, told.2, c.loop-task.invariant.4),
     ))
@@ -114,29 +81,34 @@ loop-task-preserved g c =
     let m = g.G.Governor.demand in
     let p = c.args.set.now.plan.now in
     let dem = jobs_of c.args.set.now in
-    let t = c.args.self.now.state.now in
-    let here = c.requires.at in
-    let adm = bounds c.args.set.now.plan.now c.requires.set.admitted in
-    let past = course m p dem t in
-    let len : length past ≡ t = course-len m p dem t in
-    let r = c.loop-task.invariant.0 in
-    let any = c.loop-task.any in
-    let st = c.loop-task.self.state in
+    let past = course m p dem c.args.self.now.state.now in
+    let periods = (bounds p c.requires.set.admitted).some_period in
     let i = c.loop-task.task in
+    let st = c.loop-task.self.state in
+    let r = c.loop-task.invariant.0 in
     let lt : i < count p = rw (← c.count-task-end.ensures.count) c.loop-task-test.true in
-    let long : length st.rows ≡ count p = long-there p dem past adm.some_period g.L.Listener.heard g.L.Listener.balked c.args.to.now i any st c.loop-task.to r in
-    let row = c.index.result.now in
-    let rows_are : c.state-in-loop-task.inside.rows.items ≡ st.rows = ap (λ (v : StateOf). v.rows) c.state-in-loop-task.view_is in
-    let is : row ≡ row_at st i = read_row st c.state-in-loop-task.inside.rows.items i row rows_are (omega (arith, lt, long)) c.index.ensures in
-    let clock : c.state.inside.now ≡ st.now = ap (λ (v : StateOf). v.now) c.state.view_is ∙ (sym len ∙ sym (ap (λ (v : StateOf). v.now) r.state)) in
-    elim c.if-index-now.branch [
-      | then-index-now+in_ok-release_one w ↦ (let due : (row_at st i).deadline ≡ st.now = sym (ap (λ (q : Row). q.deadline) is) ∙ (w.if-index-now.true ∙ clock) in
+    elim c.if-is_due.branch [
+      | then-is_due+in_ok-release_one w ↦ (let due : (row_at st i).deadline ≡ st.now = due-now _ _ _ c.is_due.ensures w.if-is_due.true in
+          let opened = w.in_ok-release_one.ensures in
           let next : Releasing p dem past g.L.Listener.heard (i + 1) true w.release_one.new.self.state c.args.to.now w.release_one.new.to =
-          opens p dem past adm.some_period g.L.Listener.heard g.L.Listener.balked c.args.to.now i any st c.loop-task.to r lt due w.release_one.new.self.state w.release_one.new.to w.in_ok-release_one.ensures.told.0 w.in_ok-release_one.ensures.state in
-          rw (w.any-is, w.self-is, w.to-is) (next, w.in_ok-release_one.ensures.counters, w.in_ok-release_one.ensures.of, opens-trace p dem past adm.some_period g.L.Listener.heard g.L.Listener.balked c.args.to.now i any st c.loop-task.to r lt due c.args.self.now.trace c.loop-task.self.trace w.release_one.new.self.trace c.loop-task.invariant.3 w.in_ok-release_one.ensures.trace, omega (arith, c.loop-task.invariant.4, w.in_ok-release_one.ensures.told.1)))
-      | else-index-now w ↦ (let early : nat_eq (row_at st i).deadline st.now ≡ false = ap₂ (λ a b. nat_eq a b) (sym (ap (λ (q : Row). q.deadline) is)) (sym clock) ∙ ne_eqb _ _ w.if-index-now.false in
-          let next : Releasing p dem past g.L.Listener.heard (i + 1) any st c.args.to.now c.loop-task.to = passed p dem past adm.some_period g.L.Listener.heard g.L.Listener.balked c.args.to.now i any st c.loop-task.to r lt (here.within.none i) early in
-          rw (w.any-is, w.self-is, w.to-is) (next, c.loop-task.invariant.1, c.loop-task.invariant.2, c.loop-task.invariant.3 ∙ ap (λ ns. with_notes c.args.self.now.trace ns) (sym (passed-notes p dem past adm.some_period g.L.Listener.heard g.L.Listener.balked c.args.to.now i any st c.loop-task.to r lt early)), c.loop-task.invariant.4))
+          opens p dem past periods g.L.Listener.heard g.L.Listener.balked c.args.to.now i c.loop-task.any st c.loop-task.to r lt due w.release_one.new.self.state w.release_one.new.to opened.told.0 opened.state in
+          rw (w.any-is, w.self-is, w.to-is) (
+            next,
+            opened.counters,
+            opened.of,
+            opens-trace p dem past periods g.L.Listener.heard g.L.Listener.balked c.args.to.now i c.loop-task.any st c.loop-task.to r lt due c.args.self.now.trace c.loop-task.self.trace w.release_one.new.self.trace c.loop-task.invariant.3 opened.trace,
+            omega (arith, c.loop-task.invariant.4, opened.told.1),
+          ))
+      | else-is_due w ↦ (let early : nat_eq (row_at st i).deadline st.now ≡ false = sym c.is_due.ensures ∙ w.if-is_due.false in
+          let next : Releasing p dem past g.L.Listener.heard (i + 1) c.loop-task.any st c.args.to.now c.loop-task.to =
+          passed p dem past periods g.L.Listener.heard g.L.Listener.balked c.args.to.now i c.loop-task.any st c.loop-task.to r lt (c.requires.at.within.none i) early in
+          rw (w.any-is, w.self-is, w.to-is) (
+            next,
+            c.loop-task.invariant.1,
+            c.loop-task.invariant.2,
+            c.loop-task.invariant.3 ∙ ap (λ ns. with_notes c.args.self.now.trace ns) (sym (passed-notes p dem past periods g.L.Listener.heard g.L.Listener.balked c.args.to.now i c.loop-task.any st c.loop-task.to r lt early)),
+            c.loop-task.invariant.4,
+          ))
     ]
 
 pub returns-then-any-clause-state : goal.returns-then-any-clause-state
@@ -144,34 +116,25 @@ returns-then-any-clause-state g c =
     let m = g.G.Governor.demand in
     let p = c.args.set.now.plan.now in
     let dem = jobs_of c.args.set.now in
-    let t = c.args.self.now.state.now in
-    let here = c.requires.at in
-    let adm = bounds c.args.set.now.plan.now c.requires.set.admitted in
-    let past = course m p dem t in
-    let len : length past ≡ t = course-len m p dem t in
-    let r = c.loop-task.invariant.0 in
-    let any = c.loop-task.any in
-    let st = c.loop-task.self.state in
+    let past = course m p dem c.args.self.now.state.now in
     let i = c.loop-task.task in
+    let st = c.loop-task.self.state in
     let whole : i ≡ count p = omega (arith, c.count-task-end.ensures.count) in
-    c.mark.ensures ∙ released-marked p dem past adm.some_period g.L.Listener.heard g.L.Listener.balked c.args.to.now i st c.loop-task.to whole (subst (λ b. Releasing p dem past g.L.Listener.heard i b st c.args.to.now c.loop-task.to) c.if-any.true r)
+    c.mark.ensures
+    ∙ released-marked p dem past (bounds p c.requires.set.admitted).some_period g.L.Listener.heard g.L.Listener.balked c.args.to.now i st c.loop-task.to whole
+    (subst (λ b. Releasing p dem past g.L.Listener.heard i b st c.args.to.now c.loop-task.to) c.if-any.true c.loop-task.invariant.0)
 
 pub returns-else-any-clause-state : goal.returns-else-any-clause-state
 returns-else-any-clause-state g c =
     let m = g.G.Governor.demand in
     let p = c.args.set.now.plan.now in
     let dem = jobs_of c.args.set.now in
-    let t = c.args.self.now.state.now in
-    let here = c.requires.at in
-    let adm = bounds c.args.set.now.plan.now c.requires.set.admitted in
-    let past = course m p dem t in
-    let len : length past ≡ t = course-len m p dem t in
-    let r = c.loop-task.invariant.0 in
-    let any = c.loop-task.any in
-    let st = c.loop-task.self.state in
+    let past = course m p dem c.args.self.now.state.now in
     let i = c.loop-task.task in
+    let st = c.loop-task.self.state in
     let whole : i ≡ count p = omega (arith, c.count-task-end.ensures.count) in
-    released-unmarked p dem past adm.some_period g.L.Listener.heard g.L.Listener.balked c.args.to.now i st c.loop-task.to c.requires.at.within.none whole (subst (λ b. Releasing p dem past g.L.Listener.heard i b st c.args.to.now c.loop-task.to) c.if-any.false r)
+    released-unmarked p dem past (bounds p c.requires.set.admitted).some_period g.L.Listener.heard g.L.Listener.balked c.args.to.now i st c.loop-task.to c.requires.at.within.none whole
+    (subst (λ b. Releasing p dem past g.L.Listener.heard i b st c.args.to.now c.loop-task.to) c.if-any.false c.loop-task.invariant.0)
 
 pub release_one-requires-clause-room : goal.release_one-requires-clause-room
 release_one-requires-clause-room g c =

@@ -104,10 +104,14 @@ module _ (g : Over) (c : goal.After-advance g) where
       ∙ ap₂ (λ f t. after_advance (gives st first (n * f)) (t + n)) speed (ap (λ (v : StateOf). v.now) c.state.view_is))
 
   traces : c.serve_first.new.self.trace ≡ entered p st e (holder_at st first) (n * (point p e).speed) c.args.self.now.trace
-  traces = c.serve_first.ensures.trace ∙ (c.in_ok-enter.ensures.trace ∙ ap₂ (λ h f. entered p st e h (n * f) c.args.self.now.trace) c.holder_of-holder.ensures speed)
+  traces =
+      c.serve_first.ensures.trace ∙
+      (c.in_ok-enter.ensures.trace ∙ ap₂ (λ h f. entered p st e h (n * f) c.args.self.now.trace) c.holder_of-holder.ensures speed)
 
   tells : HasHeard g.L.Listener.heard c.args.to.now (entering_notes p st c.args.force.from e (holder_at st first) c.args.self.now.trace) c.enter.new.to
-  tells = subst (λ h. HasHeard g.L.Listener.heard c.args.to.now (entering_notes p st c.args.force.from e h c.args.self.now.trace) c.enter.new.to) c.holder_of-holder.ensures c.in_ok-enter.ensures.told.0
+  tells =
+      subst
+      (λ h. HasHeard g.L.Listener.heard c.args.to.now (entering_notes p st c.args.force.from e h c.args.self.now.trace) c.enter.new.to) c.holder_of-holder.ensures c.in_ok-enter.ensures.told.0
 
   step : InSpan g.G.Governor.demand c.args.set.now c.args.force c.advance.new.self c.serve_first.new.self.trace
       × ((a : g.row.L.Denot) → HasHeard g.L.Listener.heard a (notes_in st g.G.Governor.demand c.args.set.now) c.args.to.now → HasHeard g.L.Listener.heard a (notes_in c.advance.new.self g.G.Governor.demand c.args.set.now) c.enter.new.to)

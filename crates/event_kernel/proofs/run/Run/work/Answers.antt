@@ -136,7 +136,9 @@ module _ (g : Over) (c : goal.After-advance g) where
       ]
 
   moved : c.if-rest-gt0.self.state ≡ c.loop-rest.self.state → c.advance.new.self ≡ after_advance c.loop-rest.self.state (c.args.self.now.state.now + 1)
-  moved same = c.advance.ensures ∙ (ap (λ n. after_advance c.if-rest-gt0.self.state (n + 1)) (ap (λ (v : StateOf). v.now) c.state.view_is) ∙ ap (λ (v : StateOf). after_advance v (c.args.self.now.state.now + 1)) same)
+  moved same =
+      c.advance.ensures ∙
+      (ap (λ n. after_advance c.if-rest-gt0.self.state (n + 1)) (ap (λ (v : StateOf). v.now) c.state.view_is) ∙ ap (λ (v : StateOf). after_advance v (c.args.self.now.state.now + 1)) same)
 
   step : Worked g.G.Governor.demand c.args.set.now c.args.self.now.state c.advance.new.self c.if-rest-gt0.self.trace c.loop-rest.completed
       × ((a : g.row.L.Denot) → HasHeard g.L.Listener.heard a (notes_in c.args.self.now.state g.G.Governor.demand c.args.set.now) c.args.to.now → HasHeard g.L.Listener.heard a (notes_with c.args.self.now.state g.G.Governor.demand c.args.set.now) c.if-rest-gt0.to)
