@@ -5,15 +5,14 @@ use Rattle.dvs_base.specs.declared.kind.Scheduler.TheVariants.{Edf, Rm}
 use Rattle.dvs_base.specs.declared.kind.GovernorKind.{GovernorKind}
 use Rattle.dvs_base.specs.declared.kind.GovernorKind.TheVariants.{Plain, Fixed}
 use Rattle.dvs_base.specs.Pairs.{IsPair}
-use Rattle.freq_table.specs.Tables.{speed_at, lowest_entry}
+use Rattle.grid_fraction.specs.declared.Frac.{Frac}
+use Rattle.freq_table.specs.Tables.{speed_at, lowest_entry, lowest_pick}
 use Rattle.sched_model.specs.Plan.{Plan, count, period, top_speed}
 use Rattle.sched_model.specs.Demands.{JobDemands}
 use Rattle.sched_model.specs.StaticDemand.{full_demand, static_demand}
 use Rattle.sched_model.specs.Admission.{IsWithinLimits, IsAdmitted}
 use Rattle.sched_model.specs.States.{StateOf, row_at, opening}
 use Rattle.sched_model.proofs.Limits.{some_period}
-use Rattle.grid_fraction.specs.declared.Frac.{Frac}
-use Rattle.freq_table.specs.Tables.{lowest_pick}
 use Rattle.governor.specs.Steps.{after_boundary, after_tick, IsLegalIn, IsBeforeAll, Belongs}
 use Rattle.governor.specs.Laws.{GovernorLaws, HasLowDen}
 use Rattle.governor.specs.Serving.{ServesBoth}

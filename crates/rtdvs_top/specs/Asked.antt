@@ -3,7 +3,7 @@ use Rattle.std.specs.Prelude.{◌≤◌, ◌^◌, option_map, ⊤}
 use Rattle.event_kernel.specs.Runs.{Run, IsListOf}
 use Rattle.rtdvs_top.specs.declared.run.PlannedRun.{PlannedRun}
 use Rattle.rtdvs_top.specs.Words.{RunOf, AdmitOf, CommandOf, run, admit}
-use Rattle.trace_text.specs.Words.{IsPair}
+use Rattle.dvs_base.specs.Pairs.{IsPair}
 use Rattle.rtdvs_top.specs.declared.words.RunWords.{RunWords}
 use Rattle.rtdvs_top.specs.declared.words.AdmitWords.{AdmitWords}
 use Rattle.rtdvs_top.specs.declared.words.Command.{Command}

@@ -11,7 +11,7 @@ ghost use Rattle.rtdvs_top.specs.Asked.{planned, IsRunnable};
 ghost use Rattle.rtdvs_top.specs.Causes.{EndsWith, IsNoLoad};
 ghost use Rattle.rtdvs_top.specs.Ending.{Ends, Leaves, governed_answer, MeetsAll, MeetsAllOf, HasMetIfDone};
 ghost use Rattle.rtdvs_top.specs.Shown.{IsShown};
-ghost use Rattle.trace_text.specs.Words.{IsPair};
+ghost use Rattle.dvs_base.specs.Pairs.{IsPair};
 ghost use Rattle.rtdvs_top.specs.Writing.{Writing};
 
 use crate::writer::{TraceWriter, put_head, put_line};

@@ -1,6 +1,6 @@
 // The words of a command.
 ghost use Rattle.std.specs.Prelude.{◌≡◌, ◌≤◌, ◌^◌, IfSome, Some, None, [], map, string_bytes, option_map};
-ghost use Rattle.trace_text.specs.Words.{IsPair};
+ghost use Rattle.dvs_base.specs.Pairs.{IsPair};
 ghost use Rattle.rtdvs_top.specs.Words.{value_after, file_name, scheduler_of, governor_of, paired, ticks_of, demands_of_words, nothing_after, run_of_options, admit_of_options, command_of};
 ghost use Rattle.rtdvs_top.specs.Asked.{shown, shown_run, shown_admit, IsReady, IsReadyCommand};
 
