@@ -12,7 +12,7 @@ use Rattle.sched_model.specs.States.{row_at, released_row, prior_state, StateOf}
 use Rattle.event_kernel.specs.declared.trace.Trace.{Trace}
 use Rattle.governor.specs.Schedule.{ask_of, course}
 use Rattle.event_kernel.specs.Sums.{sums_of}
-use Rattle.event_kernel.specs.Runs.{most_ticks}
+use Rattle.sched_model.specs.declared.bounds.TheConstants.{MOST_TICKS}
 use Rattle.event_kernel.specs.Segment.{cost, told_trace, written_notes}
 use Rattle.sched_model.specs.Demands.{IsWithin}
 use Rattle.freq_table.specs.Tables.{lowest_entry}
@@ -41,7 +41,7 @@ speed_note p t d = Speed t ((point p (lowest_entry p.machine d)).speed) d.num d.
 
 -- at the boundary of tick t, before its releases
 pub record IsAtBoundary (demand : Plan → StateOf → Frac) (p : Plan) (dem : ℕ → ℕ → ℕ) (t : ℕ) (s : StateOf) : Type 0 where
-  pub early : t < most_ticks
+  pub early : t < MOST_TICKS
   pub within : IsWithin p dem
   pub state : s ≡ prior_state p dem (course demand p dem t)
   pub due_done : (i : ℕ) → i < count p → (row_at s i).deadline ≡ s.now → (row_at s i).done ≡ true

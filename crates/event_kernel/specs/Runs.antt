@@ -1,12 +1,10 @@
 -- What a kernel runs, and what it is to tell.
-use Rattle.event_kernel.specs.declared.kernel.TheConstants.{MOST_JOBS}
-use Rattle.std.specs.Prelude.{◌≡◌, ◌<◌, ◌-◌, ◌^◌, ℕ, true, List}
+use Rattle.std.specs.Prelude.{◌≡◌, ◌<◌, ℕ, true, List}
 use Rattle.freq_table.specs.Tables.{lowest_pick}
 use Rattle.grid_fraction.specs.declared.Frac.{Frac}
 use Rattle.dvs_base.specs.declared.note.Note.{Note}
 use Rattle.demand_list.specs.Demands.{DemandsOf, HasWorstsOf}
-use Rattle.grid_fraction.specs.Numbers.{sum_below, ceil_div}
-use Rattle.sched_model.specs.Plan.{Plan, count, period, offset}
+use Rattle.sched_model.specs.Plan.{Plan}
 use Rattle.sched_model.specs.Ticks.{Tick}
 use Rattle.sched_model.specs.Demands.{demand_of}
 use Rattle.sched_model.specs.Deadlines.{IsMet}
@@ -20,18 +18,6 @@ pub record Run : Type 0 where
   pub plan : Plan
   pub demands : DemandsOf
   pub ticks : ℕ
-
--- how many jobs are released below so many ticks: of each task one for each period that begins between its offset and there
-abbrev pub released_jobs : Plan → ℕ → ℕ
-released_jobs p ticks = sum_below (count p) (λ i. ceil_div (ticks - offset p i) (period p i))
-
--- a run has at most so many
-abbrev pub most_jobs : ℕ
-most_jobs = MOST_JOBS
-
--- and at most so many ticks
-abbrev pub most_ticks : ℕ
-most_ticks = 2 ^ 40
 
 -- the list has the plan's declared worst cases
 abbrev pub IsListOf : Plan → DemandsOf → Type 0

@@ -12,7 +12,8 @@ use Rattle.event_kernel.specs.declared.run.Setting.{Setting}
 use Rattle.event_kernel.specs.declared.run.InForce.{InForce}
 use Rattle.event_kernel.specs.declared.trace.Trace.{Trace}
 use Rattle.event_kernel.specs.Heard.{TellsOn}
-use Rattle.event_kernel.specs.Runs.{demands_of, most_ticks, IsListOf}
+use Rattle.event_kernel.specs.Runs.{demands_of, IsListOf}
+use Rattle.sched_model.specs.declared.bounds.TheConstants.{MOST_TICKS}
 use Rattle.event_kernel.specs.Boundary.{IsAtBoundary, IsBetween}
 use Rattle.event_kernel.specs.Tickwork.{HasWorked}
 use Rattle.event_kernel.specs.Walking.{IsInSpan, IsLastTick, HasWalked, told_before, told_in, told_after}
@@ -26,7 +27,7 @@ pub record IsSetting (set : Setting) : Type 0 where
   pub admitted : IsAdmitted set.plan.now
   pub list : IsListOf set.plan.now set.demands.now
   pub within : IsWithin set.plan.now (jobs_of set)
-  pub low_ticks : set.ticks ≤ most_ticks
+  pub low_ticks : set.ticks ≤ MOST_TICKS
 
 -- the state at the tick t of a governor's schedule, after its releases
 abbrev pub state_at : (Plan → StateOf → Frac) → Setting → ℕ → StateOf

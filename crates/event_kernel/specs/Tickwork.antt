@@ -11,7 +11,7 @@ use Rattle.sched_model.specs.Segments.{Span, units_of}
 use Rattle.sched_model.specs.States.{row_at, prior_state, StateOf, state_of}
 use Rattle.event_kernel.specs.declared.trace.Trace.{Trace}
 use Rattle.governor.specs.Schedule.{ask_of, course}
-use Rattle.event_kernel.specs.Runs.{most_ticks}
+use Rattle.sched_model.specs.declared.bounds.TheConstants.{MOST_TICKS}
 use Rattle.event_kernel.specs.Segment.{grown, open_span}
 use Rattle.event_kernel.specs.Writing.{Writing}
 use Rattle.sched_model.specs.Demands.{IsWithin}
@@ -38,7 +38,7 @@ whole_span demand p dem t = grown (span_at demand p dem t) (units_of p (course d
 
 -- at the tick t, after its releases and its decision
 pub record IsAtWork (demand : Plan → StateOf → Frac) (p : Plan) (dem : ℕ → ℕ → ℕ) (t from e : ℕ) (s : StateOf) (trace : Trace) : Type 0 where
-  pub early : t < most_ticks
+  pub early : t < MOST_TICKS
   pub within : IsWithin p dem
   pub state : s ≡ state_of p dem (course demand p dem t)
   pub from_le : from ≤ t

@@ -4,8 +4,9 @@ ghost use Rattle.dvs_base.specs.declared.kind.GovernorKind.TheVariants.{Ahead};
 ghost use Rattle.sched_model.specs.Totals.{totals_of};
 ghost use Rattle.sched_model.specs.States.{opening};
 ghost use Rattle.event_kernel.specs.Heard.{HasHeard, HasBalked};
-ghost use Rattle.event_kernel.specs.Runs.{IsListOf, released_jobs, most_jobs, most_ticks};
-ghost use Rattle.event_kernel.specs.Runs.{notes_of_run, MeetsDeadlines, MeetsDemands};
+ghost use Rattle.sched_model.specs.Jobs.{released_jobs};
+ghost use Rattle.sched_model.specs.declared.bounds.TheConstants.{MOST_JOBS, MOST_TICKS};
+ghost use Rattle.event_kernel.specs.Runs.{IsListOf, notes_of_run, MeetsDeadlines, MeetsDemands};
 ghost use Rattle.dvs_base.specs.Outside.{Rose};
 
 use crate::run::{Run, Setting};
@@ -15,12 +16,9 @@ use crate::{Listener, Stopped};
 use demand_list::Demands;
 use dvs_base::{Note, Totals};
 use governor::Governor;
-use sched_model::{Admitted, State};
+use sched_model::{Admitted, MOST_JOBS, State};
 use std::alloc::Global;
 use std::marker::Model;
-
-/// The most jobs that a run may release.
-pub const MOST_JOBS: u64 = 100_000;
 
 /// Why there is no kernel: the run has too many jobs, and how many; or memory was not found.
 #[derive(Clone, Copy, Debug, PartialEq, Eq)]
@@ -31,7 +29,7 @@ pub enum KernelFault {
 
 // How many jobs are released below `ticks`.
 fn count_jobs(plan: &Admitted, ticks: u64) -> u64
-    requires { ticks ≤ most_ticks }
+    requires { ticks ≤ MOST_TICKS }
     ensures { result ≡ released_jobs plan.now ticks }
 {
     plan.known();
@@ -56,14 +54,15 @@ pub struct Kernel<'a, G: Governor> {
 impl<'a, G: Governor> Model for Kernel<'a, G> {
     ghost use Rattle.std.specs.Prelude.{◌≡◌, ◌≤◌};
     ghost use Rattle.sched_model.specs.States.{opening};
-    ghost use Rattle.event_kernel.specs.Runs.{Run, IsListOf, most_ticks};
+    ghost use Rattle.sched_model.specs.declared.bounds.TheConstants.{MOST_TICKS};
+    ghost use Rattle.event_kernel.specs.Runs.{Run, IsListOf};
 
     ghost Value = { Run };
 
     ghost view = { λ k. record { plan = k.plan.now; demands = k.demands.now; ticks = k.ticks } };
 
     ghost invariant = { λ k. (k.state ≡ opening k.plan.now) × G.stands k.governor k.plan.now (opening k.plan.now)
-        × IsListOf k.plan.now k.demands.now × (k.ticks ≤ most_ticks) };
+        × IsListOf k.plan.now k.demands.now × (k.ticks ≤ MOST_TICKS) };
 }
 
 impl<'a, G: Governor> Kernel<'a, G> {
@@ -79,12 +78,12 @@ impl<'a, G: Governor> Kernel<'a, G> {
         requires list { IsListOf plan.now demands.now }
         requires stands { G.stands governor plan.now (opening plan.now) }
         requires some_ticks { 1 ≤ ticks }
-        requires low_ticks { ticks ≤ most_ticks }
+        requires low_ticks { ticks ≤ MOST_TICKS }
         ensures kernel { IfOk result (λ k. k ≡ record { plan = plan.now; demands = demands.now; ticks = ticks }) }
-        ensures few { OnOk result (released_jobs plan.now ticks ≤ most_jobs) }
+        ensures few { OnOk result (released_jobs plan.now ticks ≤ MOST_JOBS) }
         ensures many { (n : ℕ) → IsErrOf result (KernelFault.TooManyJobs n)
-            → (n ≡ released_jobs plan.now ticks) × (most_jobs < n) }
-        ensures memory { IsErrOf result KernelFault.NoMemory → released_jobs plan.now ticks ≤ most_jobs }
+            → (n ≡ released_jobs plan.now ticks) × (MOST_JOBS < n) }
+        ensures memory { IsErrOf result KernelFault.NoMemory → released_jobs plan.now ticks ≤ MOST_JOBS }
     {
         let count = count_jobs(plan, ticks);
         if count > MOST_JOBS {

@@ -15,5 +15,5 @@ mod sums;
 mod tick;
 mod trace;
 
-pub use kernel::{Kernel, KernelFault, MOST_JOBS};
+pub use kernel::{Kernel, KernelFault};
 pub use listener::{Listener, Stopped};

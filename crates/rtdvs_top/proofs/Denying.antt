@@ -20,7 +20,7 @@ use Rattle.demand_list.specs.declared.fault.DemandFault.TheVariants as demand_fa
 use Rattle.sched_model.specs.Plan.{Plan, period, hyper, top_speed}
 use Rattle.sched_model.specs.Tests.{total_rate, level_work}
 use Rattle.sched_model.specs.Admission.{PassesTest}
-use Rattle.event_kernel.specs.Runs.{most_jobs}
+use Rattle.sched_model.specs.declared.bounds.TheConstants.{MOST_JOBS}
 use Rattle.rtdvs_top.specs.Answer.{bytes_from, bytes_at, tasks_from, machine_from, demands_from, tasks_at, machine_at, demands_at, admission, admission_by, admission_from, first_overloaded, within_jobs, longest}
 use Rattle.rtdvs_top.specs.Promises.{DeniedPlan}
 use Rattle.rtdvs_top.specs.declared.status.Denied.{Denied}
@@ -136,7 +136,7 @@ demands_at-denies-not tasks (Some name) files =
     then-denies-not (bytes_at file.Demands name files) (λ bytes. demands_from (demand_file tasks bytes)) (bytes-deny-not file.Demands (file_of files name)) (λ bytes. demands-deny-not (demand_file tasks bytes))
 
 pub within-denies-not : (jobs : ℕ) (bytes : List ℕ) → DeniesNot (within_jobs jobs bytes)
-within-denies-not jobs bytes = go (nat_lt most_jobs jobs)
+within-denies-not jobs bytes = go (nat_lt MOST_JOBS jobs)
   where
     go : (b : Bool) → DeniesNot (if b then Err (status.Limit jobs) else Ok bytes)
     go true = refl

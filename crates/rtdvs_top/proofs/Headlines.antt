@@ -11,7 +11,7 @@ use Rattle.sched_model.specs.Plan.{Plan, plan_of}
 use Rattle.sched_model.specs.Demands.{demand_of}
 use Rattle.sched_model.specs.Text.{run_text}
 use Rattle.sched_model.specs.Jobs.{released_jobs}
-use Rattle.event_kernel.specs.Runs.{most_jobs}
+use Rattle.sched_model.specs.declared.bounds.TheConstants.{MOST_JOBS}
 use Rattle.rtdvs_top.specs.Words.{RunOf, CommandOf, run, admit}
 use Rattle.rtdvs_top.specs.Answer.{tasks_at, machine_at, demands_at, admission, within_jobs, prepared_of, answer_of_prepared, answer_of_tasks, answer_of_command}
 use Rattle.rtdvs_top.specs.Promises.{Means, DoneRun, DeniedPlan, OfRun, RunsOrIsDenied, Answers, Headline}
@@ -66,7 +66,7 @@ done-text r files tasks p d bytes t q e =
     text_of (Err s) = []
 
     within-text : (jobs : ℕ) (whole bytes : List ℕ) → within_jobs jobs whole ≡ Ok bytes → bytes ≡ whole
-    within-text jobs whole bytes e = go (nat_lt most_jobs jobs) e
+    within-text jobs whole bytes e = go (nat_lt MOST_JOBS jobs) e
       where
         go : (b : Bool) → (if b then Err (status.Limit jobs) else Ok whole) ≡ Ok bytes → bytes ≡ whole
         go true e = absurd (true≢false (sym (ap is_given e)))
@@ -104,7 +104,7 @@ of-run (Some files) (run r) status.NoMemory old new ends met = tt
 
 -- the answer of a run whose files mean this, and which releases no more jobs than the limit
 module _ (r : RunOf) (files : Files) (tasks : List Task) (machine : Table) (demands : DemandsOf) (means : Means r files tasks machine demands)
-    (few : released_jobs (plan_of tasks machine r.scheduler) r.ticks ≤ most_jobs) where
+    (few : released_jobs (plan_of tasks machine r.scheduler) r.ticks ≤ MOST_JOBS) where
   abbrev plan : Plan
   plan = plan_of tasks machine r.scheduler
 

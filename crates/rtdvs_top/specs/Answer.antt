@@ -27,7 +27,8 @@ use Rattle.sched_model.specs.Tests.{total_rate, level_work}
 use Rattle.sched_model.specs.StaticDemand.{static_demand}
 use Rattle.sched_model.specs.Text.{run_text}
 use Rattle.sched_model.specs.Jobs.{released_jobs}
-use Rattle.event_kernel.specs.Runs.{Run, most_jobs}
+use Rattle.event_kernel.specs.Runs.{Run}
+use Rattle.sched_model.specs.declared.bounds.TheConstants.{MOST_JOBS}
 use Rattle.rtdvs_top.specs.Words.{RunOf, AdmitOf, CommandOf, run, admit}
 use Rattle.rtdvs_top.specs.declared.status.FileKind.{FileKind}
 use Rattle.rtdvs_top.specs.declared.status.FileKind.TheVariants as file
@@ -117,7 +118,7 @@ admission p = admission_by p.scheduler p
 
 -- the text, where the run doesn't release too many jobs
 abbrev pub within_jobs : ℕ → List ℕ → Result (List ℕ) Status
-within_jobs jobs bytes = if nat_lt most_jobs jobs then Err (status.Limit jobs) else Ok bytes
+within_jobs jobs bytes = if nat_lt MOST_JOBS jobs then Err (status.Limit jobs) else Ok bytes
 
 -- the answer of an admitted plan: the text of its run
 abbrev pub answer_of_plan : GovernorKind → DemandsOf → ℕ → Plan → Result (List ℕ) Status

@@ -10,7 +10,8 @@ use Rattle.freq_table.specs.Tables.{Table}
 use Rattle.sched_model.specs.Plan.{Plan, plan_of}
 use Rattle.sched_model.specs.Admission.{PassesTest}
 use Rattle.sched_model.specs.Jobs.{released_jobs}
-use Rattle.event_kernel.specs.Runs.{Run, most_jobs}
+use Rattle.event_kernel.specs.Runs.{Run}
+use Rattle.sched_model.specs.declared.bounds.TheConstants.{MOST_JOBS}
 use Rattle.rtdvs_top.specs.Words.{RunOf, CommandOf, command_of, run}
 use Rattle.rtdvs_top.specs.Answer.{answer_of_command, prepared_of, admission, tasks_at, machine_at, demands_at}
 use Rattle.rtdvs_top.specs.Naming.{names_by}
@@ -113,7 +114,7 @@ RunsOrIsDenied kind r old new s =
 abbrev pub Headline : Option Files → Option CommandOf → Type 0 → SinkView → SinkView → Status → Type 0
 Headline (Some files) (Some (run r)) loads_rose old new s =
     (tasks : List Task) (machine : Table) (demands : DemandsOf) → Means r files tasks machine demands
-    → released_jobs (plan_of tasks machine r.scheduler) r.ticks ≤ most_jobs
+    → released_jobs (plan_of tasks machine r.scheduler) r.ticks ≤ MOST_JOBS
     → (loads_rose → ⊥) → (Rose old.faults new.faults → ⊥) → s ≢ status.NoMemory
     → RunsOrIsDenied r.governor (run_with r (plan_of tasks machine r.scheduler) demands) old new s
 Headline told c loads_rose old new s = ⊤

@@ -3,7 +3,7 @@ use Rattle.std.specs.Prelude.{◌<◌, ⊤}
 use Rattle.task_model.specs.declared.fault.TaskFault.TheVariants as task_fault
 use Rattle.freq_table.specs.declared.fault.MachineFault.TheVariants as machine_fault
 use Rattle.demand_list.specs.declared.fault.DemandFault.TheVariants as demand_fault
-use Rattle.event_kernel.specs.Runs.{most_jobs}
+use Rattle.sched_model.specs.declared.bounds.TheConstants.{MOST_JOBS}
 use Rattle.rtdvs_top.specs.declared.status.TextFault.{TextFault}
 use Rattle.rtdvs_top.specs.declared.status.TextFault.TheVariants as text
 use Rattle.rtdvs_top.specs.declared.status.Denied.{Denied}
@@ -27,7 +27,7 @@ IsShownText why = ⊤
 -- the numbers of a status are such that they are its cause
 abbrev pub IsShown : Status → Type 0
 IsShown (status.NotAdmitted why) = IsShownDenial why
-IsShown (status.Limit jobs) = most_jobs < jobs
+IsShown (status.Limit jobs) = MOST_JOBS < jobs
 IsShown (status.OverWorst task job units worst) = worst < units
 IsShown (status.Text why) = IsShownText why
 IsShown s = ⊤
