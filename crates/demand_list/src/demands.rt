@@ -41,7 +41,8 @@ fn add_row(
     units: u64,
 ) -> Result<(), NoMemory>
     requires { named (rows_of rows.old.entries) task job ≡ None }
-    ensures ok { OnOk result (rows_of rows.new.entries ≡ with_row (rows_of rows.old.entries) (demand_row task job units)) }
+    ensures ok { OnOk result (rows_of rows.new.entries
+        ≡ with_row (rows_of rows.old.entries) (demand_row task job units)) }
     ensures err { OnErr result (rows.new.entries ≡ rows.old.entries) }
 {
     match rows.insert((task, job), units) {

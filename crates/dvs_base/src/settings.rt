@@ -65,7 +65,8 @@ fn is_known(known: &[&str], key: &str) -> bool
 }
 
 fn first_unknown<'a>(known: &[&str], table: &'a Table) -> Option<&'a String>
-    ensures found { option_copied result ≡ find (λ k. not (is_known (map (λ k. k.now) known.now) (string_bytes k))) (keys table.now) }
+    ensures found { option_copied result
+        ≡ find (λ k. not (is_known (map (λ k. k.now) known.now) (string_bytes k))) (keys table.now) }
     ensures ordered { IsOrdered string_cmp table.now }
 {
     table.keys().find(|k| !is_known(known, k.as_str()))

@@ -115,6 +115,14 @@ impl Machine {
         self.points[i as usize]
     }
 
+    /// The entries, in their order, and the limits that every machine keeps.
+    pub fn as_slice(&self) -> &[Point]
+        ensures points { result.now ≡ self.now.points }
+        ensures limits { IsTable self.now }
+    {
+        &self.points
+    }
+
     /// The highest speed in units per tick.
     pub fn top(&self) -> u64
         ensures { result ≡ highest_speed self.now }

@@ -45,7 +45,8 @@ pub fn total_rate(tasks: &TaskSet, machine: &Machine) -> u128
 fn demanded(tasks: &TaskSet, machine: &Machine, i: u32, j: u32) -> u128
     requires of { i < length tasks.now }
     requires by { j < length tasks.now }
-    ensures value { result ≡ (let p = plan_of tasks.now machine.now Rm in ceil_div (period p i) (period p j) * worst p j) }
+    ensures value { result ≡ (let p = plan_of tasks.now machine.now Rm in
+        ceil_div (period p i) (period p j) * worst p j) }
     ensures low { result ≤ 2 ^ 101 }
 {
     let jobs = up(u128::from(tasks.task(i).period), tasks.task(j).period);

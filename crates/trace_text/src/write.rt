@@ -15,6 +15,13 @@ pub struct PlanLine {
     pub ticks: u64,
 }
 
+// Where a segment begins and where it ends.
+#[derive(Clone, Copy)]
+struct Span {
+    from: Pos,
+    to: Pos,
+}
+
 fn word_of_scheduler(scheduler: Scheduler) -> &'static [u8]
     ensures { result.now ≡ scheduler_word scheduler }
 {
@@ -91,15 +98,15 @@ fn speed_line(tick: u64, speed: u64, num: u128, den: u128) -> Line
     ])
 }
 
-fn run_line(from: Pos, to: Pos, name: Part<'_>, job: u64, units: u64, energy: u128) -> Line
+fn run_line(span: Span, name: Part<'_>, job: u64, units: u64, energy: u128) -> Line
     requires { most_bytes name ≤ 32 }
-    ensures { result ≡ line (run_fields from to (part_text name.entry) job units energy) }
+    ensures { result ≡ line (run_fields span.from span.to (part_text name.entry) job units energy) }
 {
     line_of(&[
         Part::Word(b"run "),
-        Part::At(from),
+        Part::At(span.from),
         Part::Word(b" "),
-        Part::At(to),
+        Part::At(span.to),
         Part::Word(b" "),
         name,
         Part::Word(b" "),
@@ -112,14 +119,14 @@ fn run_line(from: Pos, to: Pos, name: Part<'_>, job: u64, units: u64, energy: u1
     ])
 }
 
-fn idle_line(from: Pos, to: Pos, units: u64, energy: u128) -> Line
-    ensures { result ≡ line (idle_fields from to units energy) }
+fn idle_line(span: Span, units: u64, energy: u128) -> Line
+    ensures { result ≡ line (idle_fields span.from span.to units energy) }
 {
     line_of(&[
         Part::Word(b"idle "),
-        Part::At(from),
+        Part::At(span.from),
         Part::Word(b" "),
-        Part::At(to),
+        Part::At(span.to),
         Part::Word(b" "),
         Part::Number(units),
         Part::Word(b" "),
@@ -180,13 +187,19 @@ pub fn write_note(line: &mut Line, note: &Note, names: &[Name])
             job,
             units,
             energy,
-        } => run_line(from, to, name_part(names, task), job, units, energy),
+        } => run_line(
+            Span { from, to },
+            name_part(names, task),
+            job,
+            units,
+            energy,
+        ),
         Note::Idle {
             from,
             to,
             units,
             energy,
-        } => idle_line(from, to, units, energy),
+        } => idle_line(Span { from, to }, units, energy),
         Note::Done {
             at,
             task,
