@@ -36,7 +36,6 @@ impl Account {
     pub fn new(alloc: Global, tasks: u32, machine: &Machine) -> Result<Account, NoMemory>
         ensures { IfOk result (λ a. a ≡ books_of tasks (length machine.now.points) []) }
     {
-        machine.known();
         let tasks = zeros(alloc, tasks)?;
         let points = zeros(alloc, machine.count())?;
         Ok(Account {

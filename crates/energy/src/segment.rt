@@ -19,7 +19,7 @@ pub fn energy_of(machine: &Machine, point: u32, units: u64, idle: bool) -> u128
     ensures value { result ≡ segment_energy machine.now point units idle }
     ensures most { result ≤ most_unit_energy * units }
 {
-    machine.known();
+    let _entries = machine.as_slice();
     let millivolts = u128::from(machine.point(point).millivolts);
     u128::from(units) * millivolts * millivolts * u128::from(thousandths(machine, idle))
 }

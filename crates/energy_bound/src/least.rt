@@ -38,7 +38,7 @@ fn least_of(machine: &Machine, units: u64, ticks: u64, a: u32, b: u32) -> Least
     requires low_ticks { ticks ≤ 2 ^ 40 }
     ensures { result ≡ least_of machine.now units ticks a b }
 {
-    machine.known();
+    let _entries = machine.as_slice();
     let low = nth_corner(machine, a);
     let high = nth_corner(machine, b);
     let low_ticks = ticks * high.units - units;
@@ -64,7 +64,7 @@ fn first_partner(machine: &Machine, units: u64, ticks: u64, a: u32) -> Option<u3
     requires low_ticks { ticks ≤ 2 ^ 40 }
     ensures { MatchOption result (HasNoPartner machine.now units ticks a) (IsFirstPartner machine.now units ticks a) }
 {
-    machine.known();
+    let _entries = machine.as_slice();
     for b in a + 1..machine.count() + 1 {
         if holds(machine, units, ticks, a, b) {
             return Some(b);
@@ -85,7 +85,7 @@ pub fn least_energy(machine: &Machine, units: u64, ticks: u64) -> Result<Least, 
     // No choice and no schedule costs less, and over `rounds` repetitions some choice costs no more.
     ensures least { IfOk result (IsLeast machine.now units ticks) }
 {
-    machine.known();
+    let _entries = machine.as_slice();
     let num = u128::from(units);
     let cap = u128::from(ticks) * u128::from(machine.top());
     if num > cap {
@@ -107,7 +107,7 @@ pub fn check(machine: &Machine, units: u64, ticks: u64, given: &Least) -> bool
     // Then no choice and no schedule costs less, and over `rounds` repetitions some choice costs no more.
     ensures least { IsTrue result → IsLeast machine.now units ticks given.now }
 {
-    machine.known();
+    let _entries = machine.as_slice();
     match (
         corner_with(machine, given.low),
         corner_with(machine, given.high),

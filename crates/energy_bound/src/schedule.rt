@@ -8,5 +8,5 @@ use freq_table::Machine;
 pub fn schedules_cost_their_ticks(machine: &Machine)
     ensures { SchedulesCostTheirTicks machine.now }
 {
-    machine.known();
+    let _entries = machine.as_slice();
 }

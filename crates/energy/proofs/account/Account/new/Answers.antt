@@ -6,4 +6,4 @@ use Rattle.energy.proofs.account.Account.new.Goals as goal
 pub returns : goal.returns
 returns c =
     ap₂ (books_by 0 0 0 0 0) c.in_ok-tasks.ensures c.in_ok-points.ensures
-    ∙ (no-books c.args.tasks c.count.result ∙ ap (λ n. books_of c.args.tasks n []) c.count.ensures.count)
+    ∙ (no-books c.args.tasks c.count.result ∙ ap (λ n. books_of c.args.tasks n []) c.count.ensures)
