@@ -1,0 +1,508 @@
+-- What a ready queue and a calendar say of the state for which they stand, and how they keep up with it.
+use Rattle.std.proofs.Common.{◌≡◌, ◌≢◌, ℕ, ◌+◌, ◌<◌, ◌≤◌, Bool, true, false, not, nat_eq, nat_lt, ◌⊎◌, inl, inr, refl, sym, ap, ap₂, subst, ◌∙◌, arith, if◌then◌else◌, List, [], ◌∷◌, length, true≢false, Option, Some, None, MatchOption, IfSome, slice_get, set, get_or-set_same, get_or-set_other}
+use Rattle.std.specs.Prelude.{Contains, ◌||◌, ◌&&◌}
+use Rattle.std.proofs.lemmas.Bool.{cases_eq}
+use Rattle.std.proofs.lemmas.Bool.Decides.{nat_tests}
+use Rattle.dvs_base.specs.declared.kind.Scheduler.{Scheduler}
+use Rattle.dvs_base.specs.declared.kind.Scheduler.TheVariants.{Edf, Rm}
+use Rattle.grid_fraction.specs.Numbers.{sum_below, any_below}
+use Rattle.grid_fraction.proofs.Least.{least-below, least-above}
+use Rattle.grid_fraction.proofs.Searches.{any_below-none, any_below-false}
+use Rattle.grid_fraction.proofs.Sums.{sum_below-same, sum_below-add, sum_below-own}
+use Rattle.sched_model.specs.declared.state.Row.{Row}
+use Rattle.sched_model.specs.Plan.{Plan, count, period, offset, worst}
+use Rattle.sched_model.specs.Priority.{stands_before}
+use Rattle.sched_model.specs.States.{StateOf, row_at, no_row, opening, opening_row, after_run, after_finish, after_advance, after_mark}
+use Rattle.sched_model.proofs.Tables.{get-table}
+use Rattle.sched_model.proofs.PriorityLemmas.{before-self, before-not, before-total}
+use Rattle.ready_queue.specs.declared.entry.Entry.{Entry}
+use Rattle.ready_queue.specs.Orders.{due_before}
+use Rattle.ready_queue.specs.Entries.{QueueOf, IsAbsent, placed, ComesFirst}
+use Rattle.ready_queue.proofs.Placing.{All-at, Has-contains}
+use Rattle.agenda.specs.Agenda.{before_of, entry_of, HoldsTasks, is_open, HoldsReady, HoldsCalendar, ReadyOf, StandFor, row_key, IsFirstUndone, next_release, IsFirstDue, NonePast, opened_row, opened, due_left}
+use Rattle.agenda.proofs.Tasks.{without, without-other, without-apart, held, absent, holds-keep, holds-drop, holds-without, holds-add}
+
+-- the entries of two tasks stand as the tasks do
+entries-before : (sch : Scheduler) (p : Plan) (s : StateOf) (i k : ℕ) → before_of sch (entry_of p s i) (entry_of p s k) ≡ stands_before (row_key sch p s) i k
+entries-before Edf p s i k = refl
+entries-before Rm p s i k = refl
+
+module _ (p : Plan) (s : StateOf) where
+  is-open : (i : ℕ) → is_open s i ≡ true → (row_at s i).done ≡ false
+  is-open i h = go (row_at s i).done h
+    where
+      go : (b : Bool) → not b ≡ true → b ≡ false
+      go true e = absurd (true≢false (sym e))
+      go false e = refl
+
+  -- the first entry of a ready queue is that of the first job that is not done
+  pub first-undone : (xs : List Entry) (x : Entry) → HoldsReady p s xs → ComesFirst (before_of p.scheduler) x xs → IsFirstUndone p s (count p) x.task
+  first-undone xs x h f = record { below = own.0; open_job = is-open x.task own.1; first = λ k lt b. go k lt b (row_at s k).done refl (cases_eq k x.task) }
+    where
+      own : (x.task < count p) × (is_open s x.task ≡ true) × (x ≡ entry_of p s x.task)
+      own = held p s (is_open s) xs h x (Has-contains xs x f.among)
+
+      go : (k : ℕ) → k < count p → stands_before (row_key p.scheduler p s) k x.task ≡ true → (d : Bool) → (row_at s k).done ≡ d → (k ≡ x.task) ⊎ (k ≢ x.task) → (row_at s k).done ≡ true
+      go k lt b true e c = e
+      go k lt b false e (inl same) =
+          absurd (true≢false (sym b ∙ ap (λ (j : ℕ). stands_before (row_key p.scheduler p s) j x.task) same ∙ before-self (row_key p.scheduler p s) x.task))
+      go k lt b false e (inr ne) =
+          let there : before_of p.scheduler x (entry_of p s k) ≡ true =
+          All-at (λ z. z.task ≢ x.task → before_of p.scheduler x z ≡ true) xs (entry_of p s k) f.others (Has-contains xs (entry_of p s k) (h.all k lt (ap not e))) ne in
+          let ahead : stands_before (row_key p.scheduler p s) x.task k ≡ true =
+          sym (entries-before p.scheduler p s x.task k) ∙ ap (λ (z : Entry). before_of p.scheduler z (entry_of p s k)) (sym own.2) ∙ there in
+          absurd (true≢false (sym b ∙ before-not (row_key p.scheduler p s) x.task k ahead))
+
+  -- and there is only one
+  pub first-undone-own : (xs : List Entry) (x : Entry) (i : ℕ) → HoldsReady p s xs → ComesFirst (before_of p.scheduler) x xs → IsFirstUndone p s (count p) i → x.task ≡ i
+  first-undone-own xs x i h f o = go (cases_eq x.task i)
+    where
+      u : IsFirstUndone p s (count p) x.task
+      u = first-undone xs x h f
+
+      go : (x.task ≡ i) ⊎ (x.task ≢ i) → x.task ≡ i
+      go (inl e) = e
+      go (inr ne) = by_order (stands_before (row_key p.scheduler p s) x.task i) refl
+        where
+          by_order : (b : Bool) → stands_before (row_key p.scheduler p s) x.task i ≡ b → x.task ≡ i
+          by_order true b = absurd (true≢false (sym (o.first x.task u.below b) ∙ u.open_job))
+          by_order false b = absurd (true≢false (sym (u.first i o.below (before-total (row_key p.scheduler p s) x.task i ne b)) ∙ o.open_job))
+
+  -- an empty one says that all are done
+  pub all-done : HoldsReady p s [] → (k : ℕ) → k < count p → (row_at s k).done ≡ true
+  all-done h k lt = go (row_at s k).done refl
+    where
+      go : (d : Bool) → (row_at s k).done ≡ d → (row_at s k).done ≡ true
+      go true e = e
+      go false e = absurd (Has-contains [] (entry_of p s k) (h.all k lt (ap not e)))
+
+  module _ (xs : List Entry) (x : Entry) (h : HoldsCalendar p s xs) (f : ComesFirst due_before x xs) where
+    next-own : (x.task < count p) × (true ≡ true) × (x ≡ entry_of p s x.task)
+    next-own = held p s (λ i. true) xs h x (Has-contains xs x f.among)
+
+    next-due : x.due ≡ (row_at s x.task).deadline
+    next-due = ap (λ (z : Entry). z.due) next-own.2
+
+    next-before : (k : ℕ) → k < count p → k ≢ x.task → due_before x (entry_of p s k) ≡ true
+    next-before k lt ne = All-at (λ z. z.task ≢ x.task → due_before x z ≡ true) xs (entry_of p s k) f.others (Has-contains xs (entry_of p s k) (h.all k lt refl)) ne
+
+    next-least : (k : ℕ) → k < count p → x.due ≤ (row_at s k).deadline
+    next-least k lt = go (cases_eq k x.task)
+      where
+        go : (k ≡ x.task) ⊎ (k ≢ x.task) → x.due ≤ (row_at s k).deadline
+        go (inl e) = let same : (row_at s k).deadline ≡ (row_at s x.task).deadline = ap (λ (j : ℕ). (row_at s j).deadline) e in omega (arith, next-due, same)
+        go (inr ne) = let b = next-before k lt ne in grind (arith, nat_tests)
+
+    -- the first entry of a calendar has the next release
+    pub next-release : x.due ≡ next_release p s
+    next-release =
+        let low : next_release p s ≤ (row_at s x.task).deadline = least-below (count p) (λ i. (row_at s i).deadline) x.task next-own.0 in
+        let high : x.due ≤ next_release p s = least-above (count p) (λ i. (row_at s i).deadline) x.due (omega (arith, next-own.0)) next-least in
+        omega (arith, low, high, next-due)
+
+    -- and is the first task that is released now, where one is
+    pub first-due : x.due ≡ s.now → IsFirstDue p s x.task
+    first-due e = record {
+      below = next-own.0;
+      due = sym next-due ∙ e;
+      first = λ k lt same. let b = next-before k (omega (arith, lt, next-own.0)) (omega (arith, lt)) in
+          absurd (omega (arith, lt, order k b, same, e));
+    }
+      where
+        order : (k : ℕ) → due_before x (entry_of p s k) ≡ true → (x.due ≡ (row_at s k).deadline) → x.task < k
+        order k b is = grind (arith, nat_tests)
+
+    -- there is only one
+    pub first-due-own : (i : ℕ) → NonePast p s → IsFirstDue p s i → x.task ≡ i
+    first-due-own i past d = go (cases_eq i x.task)
+      where
+        go : (i ≡ x.task) ⊎ (i ≢ x.task) → x.task ≡ i
+        go (inl e) = sym e
+        go (inr ne) =
+            let b : due_before x (entry_of p s i) ≡ true = next-before i d.below ne in
+            let now : x.due ≡ s.now = omega (arith, next-least i d.below, d.due, next-due, past x.task next-own.0) in
+            let low : x.task < i = earlier b (now ∙ sym d.due) in
+            absurd (d.first x.task low (sym next-due ∙ now))
+          where
+            earlier : due_before x (entry_of p s i) ≡ true → x.due ≡ (row_at s i).deadline → x.task < i
+            earlier b e = grind (arith, nat_tests)
+
+    pub none-due : NonePast p s → x.due ≢ s.now → (k : ℕ) → k < count p → (row_at s k).deadline ≢ s.now
+    none-due past ne k lt is = omega (arith, next-least k lt, is, past x.task next-own.0, next-due, ne)
+
+-- a state with another row of task i
+abbrev with_row : StateOf → ℕ → Row → StateOf
+with_row s i r = record s { rows = set s.rows i r }
+
+row-here : (s : StateOf) (i : ℕ) (r : Row) → i < length s.rows → row_at (with_row s i r) i ≡ r
+row-here s i r lt = get_or-set_same s.rows i r no_row lt
+
+row-there : (s : StateOf) (i : ℕ) (r : Row) (k : ℕ) → k ≢ i → row_at (with_row s i r) k ≡ row_at s k
+row-there s i r k ne = get_or-set_other s.rows i k r no_row ne
+
+module _ (p : Plan) (s : StateOf) (i : ℕ) (r : Row) where
+  entry-there : (k : ℕ) → k ≢ i → entry_of p s k ≡ entry_of p (with_row s i r) k
+  entry-there k ne = ap (λ (q : Row). record { task = k; due = q.deadline; period = period p k }) (sym (row-there s i r k ne))
+
+  open-there : (k : ℕ) → k ≢ i → is_open s k ≡ is_open (with_row s i r) k
+  open-there k ne = ap (λ (q : Row). not q.done) (sym (row-there s i r k ne))
+
+  -- entries of other tasks stay
+  others-kept : (test : ℕ → Bool) (xs : List Entry) → HoldsTasks p s (without i test) xs → HoldsTasks p (with_row s i r) (without i test) xs
+  others-kept test xs h = holds-keep p s (without i test) (with_row s i r) (without i test) xs (λ k lt. refl) (λ k lt t. entry-there k (without-apart i test k t)) h
+
+  -- a row with its deadline
+  entries-kept : (test : ℕ → Bool) (xs : List Entry) → i < length s.rows → r.deadline ≡ (row_at s i).deadline → HoldsTasks p s test xs → HoldsTasks p (with_row s i r) test xs
+  entries-kept test xs lt same h = holds-keep p s test (with_row s i r) test xs (λ k lk. refl) (λ k lk t. go k (cases_eq k i)) h
+    where
+      go : (k : ℕ) → (k ≡ i) ⊎ (k ≢ i) → entry_of p s k ≡ entry_of p (with_row s i r) k
+      go k (inl e) = ap (λ (d : ℕ). record { task = k; due = d; period = period p k })
+          (ap (λ (j : ℕ). (row_at s j).deadline) e ∙ sym same ∙ ap (λ (q : Row). q.deadline) (sym (row-here s i r lt)) ∙ ap (λ (j : ℕ). (row_at (with_row s i r) j).deadline) (sym e))
+      go k (inr ne) = entry-there k ne
+
+  -- the tests of a ready queue, but for task i
+  open-without : (k : ℕ) → without i (is_open s) k ≡ without i (is_open (with_row s i r)) k
+  open-without k = go (cases_eq k i)
+    where
+      none : (test : ℕ → Bool) → k ≡ i → without i test k ≡ false
+      none test e = ap (λ (b : Bool). if b then false else test k) (let h : nat_eq k i ≡ true = grind (arith, nat_tests) in h)
+
+      go : (k ≡ i) ⊎ (k ≢ i) → without i (is_open s) k ≡ without i (is_open (with_row s i r)) k
+      go (inl e) = none (is_open s) e ∙ sym (none (is_open (with_row s i r)) e)
+      go (inr ne) = without-other i (is_open s) k ne ∙ open-there k ne ∙ sym (without-other i (is_open (with_row s i r)) k ne)
+
+  ready-others : (xs : List Entry) → HoldsTasks p s (without i (is_open s)) xs → HoldsTasks p (with_row s i r) (without i (is_open (with_row s i r))) xs
+  ready-others xs h =
+      holds-keep p (with_row s i r) (without i (is_open s)) (with_row s i r) (without i (is_open (with_row s i r))) xs (λ k lt. open-without k) (λ k lt t. refl) (others-kept (is_open s) xs h)
+
+  -- the job of task i is done
+  ready-closed : (xs : List Entry) → i < length s.rows → r.done ≡ true → HoldsTasks p s (without i (is_open s)) xs → HoldsReady p (with_row s i r) xs
+  ready-closed xs lt done h =
+      holds-keep p (with_row s i r) (without i (is_open (with_row s i r))) (with_row s i r) (is_open (with_row s i r)) xs (λ k lk. go k (cases_eq k i)) (λ k lk t. refl) (ready-others xs h)
+    where
+      go : (k : ℕ) → (k ≡ i) ⊎ (k ≢ i) → without i (is_open (with_row s i r)) k ≡ is_open (with_row s i r) k
+      go k (inl e) =
+          ap (λ (b : Bool). if b then false else is_open (with_row s i r) k) (let t : nat_eq k i ≡ true = grind (arith, nat_tests) in t)
+          ∙ sym (ap (λ (q : Row). not q.done) (ap (row_at (with_row s i r)) e ∙ row-here s i r lt) ∙ ap not done)
+      go k (inr ne) = without-other i (is_open (with_row s i r)) k ne
+
+  -- and here it is open
+  ready-opened : (xs : List Entry) → i < count p → i < length s.rows → r.done ≡ false → HoldsTasks p s (without i (is_open s)) xs
+      → HoldsReady p (with_row s i r) (placed (before_of p.scheduler) (entry_of p (with_row s i r) i) xs)
+  ready-opened xs lp lt unfinished h =
+      holds-add p (with_row s i r) (is_open (with_row s i r)) (before_of p.scheduler) i xs lp
+      (ap (λ (q : Row). not q.done) (row-here s i r lt) ∙ ap not unfinished) (ready-others xs h)
+
+module _ (p : Plan) (s : StateOf) (ready : ReadyOf) (calendar : QueueOf) (h : StandFor p s ready calendar) where
+  -- units change neither
+  pub stand-run : (i units : ℕ) → i < length s.rows → StandFor p (after_run s i units) ready calendar
+  stand-run i units lt = record {
+    scheduler = h.scheduler;
+    ready_limit = h.ready_limit;
+    ready_jobs = holds-keep p s' (is_open s) s' (is_open s') ready.entries (λ k lk. go k (cases_eq k i)) (λ k lk t. refl) (entries-kept p s i r (is_open s) ready.entries lt refl h.ready_jobs);
+    calendar_limit = h.calendar_limit;
+    releases = entries-kept p s i r (λ k. true) calendar.entries lt refl h.releases;
+  }
+    where
+      r : Row
+      r = record (row_at s i) { used = (row_at s i).used + units }
+
+      s' : StateOf
+      s' = after_run s i units
+
+      go : (k : ℕ) → (k ≡ i) ⊎ (k ≢ i) → is_open s k ≡ is_open s' k
+      go k (inl e) = ap (is_open s) e ∙ ap (λ (q : Row). not q.done) (sym (row-here s i r lt)) ∙ ap (is_open s') (sym e)
+      go k (inr ne) = open-there p s i r k ne
+
+  -- nor does time, or a mark
+  pub stand-advance : (to : ℕ) → StandFor p (after_advance s to) ready calendar
+  stand-advance to = record {
+    scheduler = h.scheduler;
+    ready_limit = h.ready_limit;
+    ready_jobs = record { each = h.ready_jobs.each; all = h.ready_jobs.all };
+    calendar_limit = h.calendar_limit;
+    releases = record { each = h.releases.each; all = h.releases.all };
+  }
+
+  pub stand-mark : StandFor p (after_mark s) ready calendar
+  stand-mark = record {
+    scheduler = h.scheduler;
+    ready_limit = h.ready_limit;
+    ready_jobs = record { each = h.ready_jobs.each; all = h.ready_jobs.all };
+    calendar_limit = h.calendar_limit;
+    releases = record { each = h.releases.each; all = h.releases.all };
+  }
+
+  -- the first of the ready jobs is done, and taken out
+  pub stand-finish : (x : Entry) (rest : List Entry) (i : ℕ) → ready.entries ≡ x ∷ rest → IsAbsent x.task rest → x.task ≡ i → i < length s.rows
+      → StandFor p (after_finish s i) (record ready { entries = rest }) calendar
+  stand-finish x rest i is apart own lt = record {
+    scheduler = h.scheduler;
+    ready_limit = h.ready_limit;
+    ready_jobs = ready-closed p s i r rest lt refl (subst (λ (j : ℕ). HoldsTasks p s (without j (is_open s)) rest) own
+        (holds-drop p s (is_open s) x rest apart (subst (HoldsReady p s) is h.ready_jobs)));
+    calendar_limit = h.calendar_limit;
+    releases = entries-kept p s i r (λ k. true) calendar.entries lt refl h.releases;
+  }
+    where
+      r : Row
+      r = record (row_at s i) { done = true }
+
+  -- the first release of the calendar takes place
+  module _ (x : Entry) (rest : List Entry) (i : ℕ) (is : calendar.entries ≡ x ∷ rest) (apart : IsAbsent x.task rest) (own : x.task ≡ i)
+      (lp : i < count p) (lt : i < length s.rows) (done : (row_at s i).done ≡ true) where
+    opened-releases : (r : Row) → HoldsCalendar p (with_row s i r) (placed due_before (entry_of p (with_row s i r) i) rest)
+    opened-releases r =
+        holds-add p (with_row s i r) (λ k. true) due_before i rest lp refl
+        (others-kept p s i r (λ k. true) rest
+        (subst (λ (j : ℕ). HoldsTasks p s (without j (λ k. true)) rest) own (holds-drop p s (λ k. true) x rest apart (subst (HoldsCalendar p s) is h.releases))))
+
+    ready-absent : HoldsTasks p s (without i (is_open s)) ready.entries
+    ready-absent = holds-without p s (is_open s) i ready.entries (absent p s (is_open s) i ready.entries h.ready_jobs (ap not done)) h.ready_jobs
+
+    -- of a job that needs something
+    pub stand-opened : StandFor p (opened p s i false)
+        (record ready { entries = placed (before_of p.scheduler) (entry_of p (opened p s i false) i) ready.entries })
+        (record calendar { entries = placed due_before (entry_of p (opened p s i false) i) rest })
+    stand-opened = record {
+      scheduler = h.scheduler;
+      ready_limit = h.ready_limit;
+      ready_jobs = ready-opened p s i (opened_row (period p i) false (row_at s i)) ready.entries lp lt refl ready-absent;
+      calendar_limit = h.calendar_limit;
+      releases = opened-releases (opened_row (period p i) false (row_at s i));
+    }
+
+    -- and of one that needs nothing
+    pub stand-closed : StandFor p (opened p s i true) ready (record calendar { entries = placed due_before (entry_of p (opened p s i true) i) rest })
+    stand-closed = record {
+      scheduler = h.scheduler;
+      ready_limit = h.ready_limit;
+      ready_jobs = ready-closed p s i (opened_row (period p i) true (row_at s i)) ready.entries lt refl ready-absent;
+      calendar_limit = h.calendar_limit;
+      releases = opened-releases (opened_row (period p i) true (row_at s i));
+    }
+
+    -- the job of the entry is not among the ready ones
+    pub opened-absent : IsAbsent i ready.entries
+    opened-absent = absent p s (is_open s) i ready.entries h.ready_jobs (ap not done)
+
+-- what a calendar gives and leaves where a task is due
+pub record TakesDue (p : Plan) (s : StateOf) (i : ℕ) (xs rest : List Entry) : Type 0 where
+  pub entry : Entry
+  pub is : xs ≡ entry ∷ rest
+  pub out : IsAbsent entry.task rest
+  pub own : entry.task ≡ i
+
+pub takes-due : (p : Plan) (s : StateOf) (i : ℕ) (xs rest : List Entry) (r : Option Entry) → HoldsCalendar p s xs → NonePast p s → IsFirstDue p s i
+    → MatchOption r ((xs ≡ []) × (rest ≡ [])) (λ e. xs ≡ e ∷ rest) → IfSome r (λ e. ComesFirst due_before e xs) → IfSome r (λ e. IsAbsent e.task rest)
+    → TakesDue p s i xs rest
+takes-due p s i xs rest None h past d e f o = absurd (Has-contains [] (entry_of p s i) (subst (λ (l : List Entry). Contains l (entry_of p s i)) e.0 (h.all i d.below refl)))
+takes-due p s i xs rest (Some x) h past d e f o = record { entry = x; is = e; out = o; own = first-due-own p s xs x h f i past d }
+
+-- and of a ready queue where a job is not done
+pub takes-undone : (p : Plan) (s : StateOf) (i : ℕ) (xs rest : List Entry) (r : Option Entry) (sch : Scheduler) → sch ≡ p.scheduler → HoldsReady p s xs → IsFirstUndone p s (count p) i
+    → MatchOption r ((xs ≡ []) × (rest ≡ [])) (λ e. xs ≡ e ∷ rest) → IfSome r (λ e. ComesFirst (before_of sch) e xs) → IfSome r (λ e. IsAbsent e.task rest)
+    → TakesDue p s i xs rest
+takes-undone p s i xs rest None sch same h u m f o =
+    absurd (Has-contains [] (entry_of p s i) (subst (λ (l : List Entry). Contains l (entry_of p s i)) m.0 (h.all i u.below (ap not u.open_job))))
+takes-undone p s i xs rest (Some x) sch same h u m f o =
+    record { entry = x; is = m; out = o; own = first-undone-own p s xs x i h (subst (λ (c : Scheduler). ComesFirst (before_of c) x xs) same f) u }
+
+-- a queue without a first entry is empty
+pub no-first : (xs : List Entry) → slice_get xs 0 ≡ None → xs ≡ []
+no-first [] e = refl
+no-first (x ∷ xs) e = absurd (cc)
+
+module _ (p : Plan) (s : StateOf) (ready : ReadyOf) (calendar : QueueOf) (h : StandFor p s ready calendar) where
+  pub ready-first : (x : Entry) → ComesFirst (before_of ready.scheduler) x ready.entries → IsFirstUndone p s (count p) x.task
+  ready-first x f = first-undone p s ready.entries x h.ready_jobs (subst (λ (c : Scheduler). ComesFirst (before_of c) x ready.entries) h.scheduler f)
+
+  pub ready-none : ready.entries ≡ [] → (k : ℕ) → k < count p → (row_at s k).done ≡ true
+  ready-none e = all-done p s (subst (HoldsReady p s) e h.ready_jobs)
+
+  -- of one task or more, a calendar has a first
+  pub calendar-some : 0 < count p → calendar.entries ≢ []
+  calendar-some lt e = Has-contains [] (entry_of p s 0) (subst (λ (l : List Entry). Contains l (entry_of p s 0)) e (h.releases.all 0 lt refl))
+
+  -- what `finish` leaves
+  pub after-finish : (i : ℕ) (ready' : ReadyOf) (r : Option Entry) → IsFirstUndone p s (count p) i → length s.rows ≡ count p
+      → ready' ≡ record ready { entries = ready'.entries }
+      → MatchOption r ((ready.entries ≡ []) × (ready'.entries ≡ [])) (λ e. ready.entries ≡ e ∷ ready'.entries)
+      → IfSome r (λ e. ComesFirst (before_of ready.scheduler) e ready.entries) → IfSome r (λ e. IsAbsent e.task ready'.entries)
+      → StandFor p (after_finish s i) ready' calendar
+  after-finish i ready' r u long same m f o =
+      let t : TakesDue p s i ready.entries ready'.entries = takes-undone p s i ready.entries ready'.entries r ready.scheduler h.scheduler h.ready_jobs u m f o in
+      subst (λ (q : ReadyOf). StandFor p (after_finish s i) q calendar) (sym same)
+      (stand-finish p s ready calendar h t.entry ready'.entries i t.is t.out t.own (omega (arith, u.below, long)))
+
+  -- what `release` leaves
+  module _ (i : ℕ) (calendar' : QueueOf) (r : Option Entry) (past : NonePast p s) (d : IsFirstDue p s i) (lt : i < length s.rows) (done : (row_at s i).done ≡ true)
+      (limit : calendar'.limit ≡ calendar.limit) (m : MatchOption r ((calendar.entries ≡ []) × (calendar'.entries ≡ [])) (λ e. calendar.entries ≡ e ∷ calendar'.entries))
+      (f : IfSome r (λ e. ComesFirst due_before e calendar.entries)) (o : IfSome r (λ e. IsAbsent e.task calendar'.entries)) where
+    taken : TakesDue p s i calendar.entries calendar'.entries
+    taken = takes-due p s i calendar.entries calendar'.entries r h.releases past d m f o
+
+    pub due-absent : IsAbsent i calendar'.entries
+    due-absent = subst (λ (j : ℕ). IsAbsent j calendar'.entries) taken.own taken.out
+
+    pub due-below : i < calendar'.limit
+    due-below = omega (arith, limit, h.calendar_limit, d.below)
+
+    pub job-absent : IsAbsent i ready.entries
+    job-absent = opened-absent p s ready calendar h taken.entry calendar'.entries i taken.is taken.out taken.own d.below lt done
+
+    pub job-below : i < ready.limit
+    job-below = omega (arith, h.ready_limit, d.below)
+
+    module _ (next : Entry) (calendar'' : QueueOf) (limit' : calendar''.limit ≡ calendar'.limit) (entries : calendar''.entries ≡ placed due_before next calendar'.entries) where
+      as_calendar : (e : Entry) → next ≡ e → calendar'' ≡ record calendar { entries = placed due_before e calendar'.entries }
+      as_calendar e is = ap₂ (λ (l : ℕ) (xs : List Entry). record { limit = l; entries = xs }) (limit' ∙ limit) (entries ∙ ap (λ (x : Entry). placed due_before x calendar'.entries) is)
+
+      pub after-open : (ready' : ReadyOf) → next ≡ entry_of p (opened p s i false) i
+          → ready' ≡ record ready { entries = placed (before_of ready.scheduler) next ready.entries } → StandFor p (opened p s i false) ready' calendar''
+      after-open ready' is put =
+          let all : StandFor p (opened p s i false) (record ready { entries = placed (before_of p.scheduler) (entry_of p (opened p s i false) i) ready.entries })
+          (record calendar { entries = placed due_before (entry_of p (opened p s i false) i) calendar'.entries }) =
+          stand-opened p s ready calendar h taken.entry calendar'.entries i taken.is taken.out taken.own d.below lt done in
+          subst (λ (q : ReadyOf). StandFor p (opened p s i false) q calendar'')
+          (ap₂ (λ (c : Scheduler) (x : Entry). record ready { entries = placed (before_of c) x ready.entries }) (sym h.scheduler) (sym is) ∙ sym put)
+          (subst (λ (q : QueueOf). StandFor p (opened p s i false) (record ready { entries = placed (before_of p.scheduler) (entry_of p (opened p s i false) i) ready.entries }) q)
+          (sym (as_calendar (entry_of p (opened p s i false) i) is)) all)
+
+      pub after-closed : next ≡ entry_of p (opened p s i true) i → StandFor p (opened p s i true) ready calendar''
+      after-closed is =
+          subst (λ (q : QueueOf). StandFor p (opened p s i true) ready q) (sym (as_calendar (entry_of p (opened p s i true) i) is))
+          (stand-closed p s ready calendar h taken.entry calendar'.entries i taken.is taken.out taken.own d.below lt done)
+
+-- the entry of a task's next job
+pub opened-entry : (p : Plan) (s : StateOf) (i : ℕ) (done : Bool) (per due : ℕ) → i < length s.rows → per ≡ period p i → due ≡ (row_at s i).deadline
+    → record { task = i; due = due + per; period = per } ≡ entry_of p (opened p s i done) i
+opened-entry p s i done per due lt is same =
+    ap₂ (λ (d n : ℕ). record { task = i; due = d; period = n })
+    (ap₂ (λ (a b : ℕ). a + b) same is ∙ ap (λ (q : Row). q.deadline) (sym (row-here s i (opened_row (period p i) done (row_at s i)) lt)))
+    is
+
+-- the calendar of an opening state, as far as the tasks are put in
+pub none-held : (p : Plan) (s : StateOf) (xs : List Entry) → xs ≡ [] → HoldsTasks p s (λ i. nat_lt i 0) xs
+none-held p s xs e = subst (HoldsTasks p s (λ i. nat_lt i 0)) (sym e) (record { each = tt; all = λ i lt t. absurd (grind (arith, nat_tests)) })
+
+pub next-absent : (p : Plan) (s : StateOf) (m : ℕ) (xs : List Entry) → HoldsTasks p s (λ i. nat_lt i m) xs → IsAbsent m xs
+next-absent p s m xs h = absent p s (λ i. nat_lt i m) m xs h (grind (arith, nat_tests))
+
+pub more-held : (p : Plan) (s : StateOf) (m : ℕ) (e : Entry) (xs ys : List Entry) → m < count p → HoldsTasks p s (λ i. nat_lt i m) xs → e ≡ entry_of p s m
+    → ys ≡ placed due_before e xs → HoldsTasks p s (λ i. nat_lt i (m + 1)) ys
+more-held p s m e xs ys lt h is put =
+    subst (HoldsTasks p s (λ i. nat_lt i (m + 1))) (sym (put ∙ ap (λ (z : Entry). placed due_before z xs) is))
+    (holds-add p s (λ i. nat_lt i (m + 1)) due_before m xs lt (grind (arith, nat_tests))
+    (holds-keep p s (λ i. nat_lt i m) s (without m (λ i. nat_lt i (m + 1))) xs (λ k lk. go k (cases_eq k m)) (λ k lk t. refl) h))
+  where
+    go : (k : ℕ) → (k ≡ m) ⊎ (k ≢ m) → nat_lt k m ≡ without m (λ i. nat_lt i (m + 1)) k
+    go k (inl q) = grind (arith, nat_tests)
+    go k (inr ne) = (let same : nat_lt k m ≡ nat_lt k (m + 1) = grind (arith, nat_tests) in same) ∙ sym (without-other m (λ i. nat_lt i (m + 1)) k ne)
+
+pub all-held : (p : Plan) (s : StateOf) (n : ℕ) (xs : List Entry) → count p ≤ n → HoldsTasks p s (λ i. nat_lt i n) xs → HoldsCalendar p s xs
+all-held p s n xs le h = holds-keep p s (λ i. nat_lt i n) s (λ i. true) xs (λ k lt. grind (arith, nat_tests)) (λ k lt t. refl) h
+
+-- an opening state has no incomplete job
+pub opening-ready : (p : Plan) (xs : List Entry) → xs ≡ [] → HoldsReady p (opening p) xs
+opening-ready p xs e = subst (HoldsReady p (opening p)) (sym e) (record {
+  each = tt;
+  all = λ i lt t. absurd (true≢false (sym t ∙ ap (λ (q : Row). not q.done) (get-table (count p) (λ j. opening_row (offset p j) (worst p j)) i no_row lt)));
+})
+
+pub opening-entry : (p : Plan) (m first per : ℕ) → m < count p → first ≡ offset p m → per ≡ period p m → record { task = m; due = first; period = per } ≡ entry_of p (opening p) m
+opening-entry p m first per lt begins is =
+    ap₂ (λ (d n : ℕ). record { task = m; due = d; period = n }) (begins ∙ ap (λ (q : Row). q.deadline) (sym (get-table (count p) (λ j. opening_row (offset p j) (worst p j)) m no_row lt))) is
+
+-- each release leaves fewer
+pub due-falls : (p : Plan) (s : StateOf) (i : ℕ) (done : Bool) → i < length s.rows → 0 < period p i → IsFirstDue p s i → due_left p (opened p s i done) < due_left p s
+due-falls p s i done lt some d =
+    let n : due_left p s ≡ sum_below (count p) (λ k. after k + own k) = sum_below-same (count p) before (λ k. after k + own k) (λ k lk. split k (cases_eq k i)) in
+    omega (arith, n, sum_below-add (count p) after own, sum_below-own (count p) i (λ k. 1) d.below)
+  where
+    s' : StateOf
+    s' = opened p s i done
+
+    before : ℕ → ℕ
+    before k = if nat_eq (row_at s k).deadline s.now then 1 else 0
+
+    after : ℕ → ℕ
+    after k = if nat_eq (row_at s' k).deadline s.now then 1 else 0
+
+    own : ℕ → ℕ
+    own k = if nat_eq k i then 1 else 0
+
+    here : row_at s' i ≡ opened_row (period p i) done (row_at s i)
+    here = row-here s i (opened_row (period p i) done (row_at s i)) lt
+
+    split : (k : ℕ) → (k ≡ i) ⊎ (k ≢ i) → before k ≡ after k + own k
+    split k (inl e) =
+        let past : nat_eq (row_at s' i).deadline s.now ≡ false = ap (λ (r : Row). nat_eq r.deadline s.now) here ∙ later in
+        let now : nat_eq (row_at s i).deadline s.now ≡ true = grind (arith, nat_tests, d.due) in
+        let same : nat_eq i i ≡ true = grind (arith, nat_tests) in
+        subst (λ (j : ℕ). before j ≡ after j + own j) (sym e) (rw (now, past, same) refl)
+      where
+        later : nat_eq ((row_at s i).deadline + period p i) s.now ≡ false
+        later = let is : (row_at s i).deadline ≡ s.now = d.due in grind (arith, nat_tests)
+    split k (inr ne) =
+        let other : nat_eq k i ≡ false = grind (arith, nat_tests) in
+        rw (row-there s i (opened_row (period p i) done (row_at s i)) k ne, other) (omega arith)
+
+-- units change neither who is done nor the order
+pub first-run : (p : Plan) (s : StateOf) (n i units : ℕ) → i < length s.rows → IsFirstUndone p s n i → IsFirstUndone p (after_run s i units) n i
+first-run p s n i units lt u = record {
+  below = u.below;
+  open_job = done-same i ∙ u.open_job;
+  first = λ k lk b. done-same k ∙ u.first k lk (sym (ap₂ (λ (x y : ℕ). nat_lt x y || (nat_eq x y && nat_lt k i)) (key-same p.scheduler k) (key-same p.scheduler i)) ∙ b);
+}
+  where
+    r : Row
+    r = record (row_at s i) { used = (row_at s i).used + units }
+
+    s' : StateOf
+    s' = after_run s i units
+
+    row-same : (k : ℕ) → (k ≡ i) ⊎ (k ≢ i) → ((row_at s' k).deadline ≡ (row_at s k).deadline) × ((row_at s' k).done ≡ (row_at s k).done)
+    row-same k (inl e) =
+        let here : row_at s' k ≡ r = ap (row_at s') e ∙ row-here s i r lt in
+        (ap (λ (q : Row). q.deadline) here ∙ ap (λ (j : ℕ). (row_at s j).deadline) (sym e), ap (λ (q : Row). q.done) here ∙ ap (λ (j : ℕ). (row_at s j).done) (sym e))
+    row-same k (inr ne) = (ap (λ (q : Row). q.deadline) (row-there s i r k ne), ap (λ (q : Row). q.done) (row-there s i r k ne))
+
+    done-same : (k : ℕ) → (row_at s' k).done ≡ (row_at s k).done
+    done-same k = (row-same k (cases_eq k i)).1
+
+    key-same : (sch : Scheduler) (k : ℕ) → row_key sch p s' k ≡ row_key sch p s k
+    key-same Edf k = (row-same k (cases_eq k i)).0
+    key-same Rm k = refl
+
+-- the next release is now exactly where some task is to be released now
+pub release-now : (p : Plan) (s : StateOf) → 0 < count p → NonePast p s → nat_eq (next_release p s) s.now ≡ any_below (count p) (λ i. nat_eq (row_at s i).deadline s.now)
+release-now p s some past = go (any_below (count p) (λ i. nat_eq (row_at s i).deadline s.now)) refl
+  where
+    low : s.now ≤ next_release p s
+    low = least-above (count p) (λ i. (row_at s i).deadline) s.now some past
+
+    test : ℕ → Bool
+    test i = nat_eq (row_at s i).deadline s.now
+
+    later : any_below (count p) test ≡ false → (i : ℕ) → i < count p → s.now + 1 ≤ (row_at s i).deadline
+    later e i lt =
+        let off : nat_eq (row_at s i).deadline s.now ≡ false = any_below-false (count p) test e i lt in
+        let le : s.now ≤ (row_at s i).deadline = past i lt in
+        grind (arith, nat_tests)
+
+    here : next_release p s ≢ s.now → (i : ℕ) → i < count p → test i ≡ false
+    here ne i lt =
+        let le : next_release p s ≤ (row_at s i).deadline = least-below (count p) (λ j. (row_at s j).deadline) i lt in
+        let lo : s.now ≤ next_release p s = low in
+        grind (arith, nat_tests)
+
+    go : (b : Bool) → any_below (count p) test ≡ b → nat_eq (next_release p s) s.now ≡ any_below (count p) test
+    go false e =
+        let high : s.now + 1 ≤ next_release p s = least-above (count p) (λ i. (row_at s i).deadline) (s.now + 1) some (later e) in
+        (let off : nat_eq (next_release p s) s.now ≡ false = grind (arith, nat_tests) in off) ∙ sym e
+    go true e = by_eq (cases_eq (next_release p s) s.now)
+      where
+        by_eq : (next_release p s ≡ s.now) ⊎ (next_release p s ≢ s.now) → nat_eq (next_release p s) s.now ≡ any_below (count p) test
+        by_eq (inl q) = (let on : nat_eq (next_release p s) s.now ≡ true = grind (arith, nat_tests) in on) ∙ sym e
+        by_eq (inr ne) = absurd (true≢false (sym e ∙ any_below-none (count p) test (here ne)))

@@ -1,0 +1,37 @@
+use Rattle.std.proofs.Common.{◌<◌, ◌∙◌, ap, arith}
+use Rattle.sched_model.specs.Plan.{count}
+use Rattle.sched_model.specs.States.{opening}
+use Rattle.ready_queue.specs.Entries.{QueueOf}
+use Rattle.agenda.specs.Agenda.{ReadyOf}
+use Rattle.agenda.proofs.Standing.{none-held, next-absent, more-held, all-held, opening-ready, opening-entry}
+use Rattle.agenda.proofs.agenda.Agenda.new.Goals as goal
+
+pub insert-requires-clause-task : goal.insert-requires-clause-task
+insert-requires-clause-task c = omega (arith, c.loop-task.invariant.limit, c.loop-task-test.true, c.count-task-end.ensures.count)
+
+pub insert-requires-clause-absent : goal.insert-requires-clause-absent
+insert-requires-clause-absent c = next-absent c.args.plan.now (opening c.args.plan.now) c.loop-task.task c.loop-task.calendar.entries c.loop-task.invariant.held
+
+pub loop-task-init : goal.loop-task-init
+loop-task-init c = record {
+  limit = ap (λ (q : QueueOf). q.limit) c.in_ok-calendar.ensures ∙ c.count-2.ensures.count;
+  held = none-held c.args.plan.now (opening c.args.plan.now) c.in_ok-calendar.calendar.entries (ap (λ (q : QueueOf). q.entries) c.in_ok-calendar.ensures);
+}
+
+pub loop-task-preserved : goal.loop-task-preserved
+loop-task-preserved c =
+    let below : c.loop-task.task < count c.args.plan.now = omega (arith, c.loop-task-test.true, c.count-task-end.ensures.count) in
+    record {
+      limit = c.insert.ensures.limit ∙ c.loop-task.invariant.limit;
+      held = more-held c.args.plan.now (opening c.args.plan.now) c.loop-task.task (record { task = c.loop-task.task; due = c.offset.result; period = c.period.result }) c.loop-task.calendar.entries
+          c.insert.new.self.entries below c.loop-task.invariant.held (opening-entry c.args.plan.now c.loop-task.task c.offset.result c.period.result below c.offset.ensures.offset c.period.ensures.period) c.insert.ensures.entries;
+    }
+
+pub returns : goal.returns
+returns c = record {
+  scheduler = ap (λ (r : ReadyOf). r.scheduler) c.in_ok-ready.ensures ∙ c.scheduler.ensures;
+  ready_limit = ap (λ (r : ReadyOf). r.limit) c.in_ok-ready.ensures ∙ c.count.ensures.count;
+  ready_jobs = opening-ready c.args.plan.now c.in_ok-ready.ready.entries (ap (λ (r : ReadyOf). r.entries) c.in_ok-ready.ensures);
+  calendar_limit = c.loop-task.invariant.limit;
+  releases = all-held c.args.plan.now (opening c.args.plan.now) c.loop-task.task c.loop-task.calendar.entries (omega (arith, c.loop-task-test.false, c.count-task-end.ensures.count)) c.loop-task.invariant.held;
+}

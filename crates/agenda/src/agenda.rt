@@ -1,0 +1,105 @@
+// The ready jobs and the calendar of a state.
+ghost use Rattle.std.specs.Prelude.{◌≡◌, ◌≢◌, ◌<◌, ℕ, true, IfOk, IfNone, IfSome};
+ghost use Rattle.sched_model.specs.Plan.{count};
+ghost use Rattle.sched_model.specs.States.{row_at, opening, after_run, after_finish, after_advance, after_mark, CanRelease, CanRun, IsOfPlan};
+ghost use Rattle.agenda.specs.Agenda.{IsFirstUndone, IsFirstDue, NonePast, next_release, opened};
+
+use crate::Ready;
+use dvs_base::NoMemory;
+use ready_queue::{ByDue, Entry, Queue};
+use sched_model::{Admitted, State};
+use std::alloc::Global;
+
+/// The incomplete latest jobs in the scheduler's order, and each task with its next release.
+#[derive(Drop)]
+pub struct Agenda {
+    pub ready: Ready,
+    pub calendar: Queue<ByDue>,
+}
+
+impl Agenda {
+    ghost use Rattle.agenda.specs.Stands.{Stands};
+
+    /// For the state before the first release. All memory is taken here.
+    pub fn new(alloc: Global, plan: &Admitted) -> Result<Agenda, NoMemory>
+        ensures { IfOk result (Stands plan.now (opening plan.now)) }
+    {
+        plan.known();
+        let ready = Ready::new(alloc, plan.scheduler(), plan.count())?;
+        let mut calendar = Queue::new(alloc, plan.count(), ByDue)?;
+        for task in 0..plan.count() {
+            calendar.insert(Entry {
+                task,
+                due: plan.offset(task),
+                period: plan.period(task),
+            });
+        }
+        Ok(Agenda { ready, calendar })
+    }
+
+    /// The first task by the order whose job is not done.
+    pub fn first_ready(&self, _plan: &Admitted, _state: &State) -> Option<u32>
+        requires { Stands _plan.now _state.now self.now }
+        ensures none { IfNone result ((k : ℕ) → k < count _plan.now → (row_at _state.entry.now k).done ≡ true) }
+        ensures first { IfSome result (λ i. IsFirstUndone _plan.now _state.entry.now (count _plan.now) i) }
+    {
+        match self.ready.first() {
+            Some(e) => Some(e.task),
+            None => None,
+        }
+    }
+
+    /// The next release, in ticks.
+    pub fn next_release(&self, plan: &Admitted, state: &State) -> u64
+        requires { Stands plan.now state.now self.now }
+        ensures { result ≡ next_release plan.now state.entry.now }
+    {
+        plan.known();
+        match self.calendar.first() {
+            Some(e) => e.due,
+            None => 0,
+        }
+    }
+
+    /// The first task in file order that is to be released now.
+    pub fn first_due(&self, plan: &Admitted, state: &State) -> Option<u32>
+        requires stand { Stands plan.now state.now self.now }
+        requires past { NonePast plan.now state.now }
+        ensures none { IfNone result
+            ((k : ℕ) → k < count plan.now → (row_at state.entry.now k).deadline ≢ state.entry.now.now) }
+        ensures due { IfSome result (λ i. IsFirstDue plan.now state.entry.now i) }
+    {
+        match self.calendar.first() {
+            Some(e) if e.due == state.now => Some(e.task),
+            _ => None,
+        }
+    }
+
+    /// The next job of the first task that is due is released; `done` where it is complete at once, since it needs nothing.
+    pub fn renew(&mut self, plan: &Admitted, state: &State, task: u32, done: bool)
+        requires stand { Stands plan.now state.now self.old }
+        requires past { NonePast plan.now state.now }
+        requires due { IsFirstDue plan.now state.now task }
+        requires can { CanRelease plan.now state.now task }
+        ensures { Stands plan.now (opened plan.now state.entry.now task done) self.new }
+    {
+        let period = plan.period(task);
+        let due = state.rows[task as usize].deadline + period;
+        let next = Entry { task, due, period };
+        let _due = self.calendar.take_first();
+        self.calendar.insert(next);
+        if !done {
+            self.ready.insert(next);
+        }
+    }
+
+    /// The first job that is not done is complete.
+    pub fn complete(&mut self, plan: &Admitted, state: &State, task: u32)
+        requires stand { Stands plan.now state.now self.old }
+        requires of { IsOfPlan plan.now state.now }
+        requires first { IsFirstUndone plan.now state.now (count plan.now) task }
+        ensures { Stands plan.now (after_finish state.entry.now task) self.new }
+    {
+        let _first = self.ready.take_first();
+    }
+}

@@ -1,0 +1,89 @@
+// The ready jobs, by the order of a scheduler.
+ghost use Rattle.std.specs.Prelude.{◌≡◌, ◌<◌, [], ◌∷◌, IfOk, IfSome, MatchOption, slice_get};
+ghost use Rattle.ready_queue.specs.Entries.{IsAbsent, placed, ComesFirst};
+ghost use Rattle.agenda.specs.Agenda.{before_of, IsReadyQueue};
+
+use dvs_base::{NoMemory, Scheduler};
+use ready_queue::{ByDue, ByPeriod, Entry, Queue};
+use std::alloc::Global;
+use std::marker::Model;
+
+#[derive(Drop)]
+enum Ordered {
+    Edf(Queue<ByDue>),
+    Rm(Queue<ByPeriod>),
+}
+
+/// Ready jobs: by the deadline under EDF, by the period under RM.
+#[derive(Drop)]
+pub struct Ready {
+    ordered: Ordered,
+}
+
+impl Model for Ready {
+    ghost use Rattle.agenda.specs.Ready.{ReadyOf, ready_of};
+
+    ghost Value = { ReadyOf };
+
+    ghost view = { λ r. ready_of r.ordered };
+}
+
+impl Ready {
+    /// No ready jobs of the tasks below `n`. All memory is taken here.
+    pub fn new(alloc: Global, scheduler: Scheduler, n: u32) -> Result<Ready, NoMemory>
+        ensures { IfOk result (λ r. r ≡ record { scheduler = scheduler; limit = n; entries = [] }) }
+    {
+        let ordered = match scheduler {
+            Scheduler::Edf => Ordered::Edf(Queue::new(alloc, n, ByDue)?),
+            Scheduler::Rm => Ordered::Rm(Queue::new(alloc, n, ByPeriod)?),
+        };
+        Ok(Ready { ordered })
+    }
+
+    /// What it keeps.
+    pub fn known(&self)
+        ensures { IsReadyQueue self.now }
+    {
+        match &self.ordered {
+            Ordered::Edf(queue) => queue.known(),
+            Ordered::Rm(queue) => queue.known(),
+        }
+    }
+
+    /// Adds a job of a task that is not in.
+    pub fn insert(&mut self, e: Entry)
+        requires task { e.task < self.old.limit }
+        requires absent { IsAbsent e.task self.old.entries }
+        ensures { self.new ≡ record self.old { entries = placed (before_of self.old.scheduler) e self.old.entries } }
+    {
+        match &mut self.ordered {
+            Ordered::Edf(queue) => queue.insert(e),
+            Ordered::Rm(queue) => queue.insert(e),
+        }
+    }
+
+    /// The job that comes before all others, and none exactly where there is none.
+    pub fn first(&self) -> Option<Entry>
+        ensures value { result ≡ slice_get self.now.entries 0 }
+        ensures first { IfSome result (λ e. ComesFirst (before_of self.now.scheduler) e self.now.entries) }
+    {
+        match &self.ordered {
+            Ordered::Edf(queue) => queue.first(),
+            Ordered::Rm(queue) => queue.first(),
+        }
+    }
+
+    /// Takes that job out.
+    pub fn take_first(&mut self) -> Option<Entry>
+        ensures entries { MatchOption result ((self.old.entries ≡ []) × (self.new.entries ≡ []))
+            (λ e. self.old.entries ≡ e ∷ self.new.entries) }
+        ensures first { IfSome result (λ e. ComesFirst (before_of self.old.scheduler) e self.old.entries) }
+        ensures out { IfSome result (λ e. IsAbsent e.task self.new.entries) }
+        ensures same { self.new ≡ record self.old { entries = self.new.entries } }
+    {
+        match &mut self.ordered {
+            Ordered::Edf(queue) => queue.take_first(),
+            Ordered::Rm(queue) => queue.take_first(),
+        }
+    }
+}

@@ -1,0 +1,88 @@
+// The queue.
+ghost use Rattle.std.specs.Prelude.{◌≡◌, ◌<◌, [], ◌∷◌, length, IfOk, IfSome, MatchOption, slice_get};
+ghost use Rattle.ready_queue.specs.Entries.{IsAbsent, IsQueue, placed, ComesFirst};
+
+use crate::heap::{rise, sink};
+use crate::{Entry, Order};
+use dvs_base::NoMemory;
+use std::alloc::Global;
+use std::marker::Model;
+
+/// Entries of distinct tasks below a limit, by an order.
+#[derive(Drop)]
+pub struct Queue<O: Order> {
+    heap: Vec<Entry>,
+    order: O,
+}
+
+impl<O: Order> Model for Queue<O> {
+    ghost use Rattle.std.specs.Prelude.{vec_capacity};
+    ghost use Rattle.ready_queue.specs.Entries.{QueueOf, in_order};
+    ghost use Rattle.ready_queue.specs.Heaps.{HoldsQueue};
+
+    ghost Value = { QueueOf };
+
+    ghost view = { λ q. record { limit = vec_capacity q.heap; entries = in_order O.comes_before q.heap.items } };
+
+    ghost invariant = { λ q. HoldsQueue O.comes_before (vec_capacity q.heap) q.heap.items };
+}
+
+impl<O: Order> Queue<O> {
+    /// An empty queue for the tasks below `n`. All its memory is taken here.
+    pub fn new(alloc: Global, n: u32, order: O) -> Result<Queue<O>, NoMemory>
+        ensures { IfOk result (λ q. q ≡ record { limit = n; entries = [] }) }
+    {
+        let heap = Vec::with_capacity(alloc, n as usize).map_err(|_| NoMemory)?;
+        Ok(Queue { heap, order })
+    }
+
+    /// What every queue keeps: its entries are in order, of distinct tasks, and below its limit.
+    pub fn known(&self)
+        ensures { IsQueue O.comes_before self.now }
+    {
+        let _heap = &self.heap;
+    }
+
+    /// Adds an entry of a task that is not in.
+    pub fn insert(&mut self, e: Entry)
+        requires task { e.task < self.old.limit }
+        requires absent { IsAbsent e.task self.old.entries }
+        ensures entries { self.new.entries ≡ placed O.comes_before e self.old.entries }
+        ensures limit { self.new.limit ≡ self.old.limit }
+    {
+        let at = self.heap.len();
+        self.heap.push_reserved(e);
+        rise(&mut self.heap, &self.order, at);
+    }
+
+    /// The entry that comes before all others, and none exactly where the queue is empty.
+    pub fn first(&self) -> Option<Entry>
+        ensures value { result ≡ slice_get self.now.entries 0 }
+        ensures first { IfSome result (λ e. ComesFirst O.comes_before e self.now.entries) }
+    {
+        self.heap.first().copied()
+    }
+
+    /// Takes the entry that comes before all others out, and the rest stays; none exactly where the queue is empty.
+    pub fn take_first(&mut self) -> Option<Entry>
+        ensures entries { MatchOption result ((self.old.entries ≡ []) × (self.new.entries ≡ []))
+            (λ e. self.old.entries ≡ e ∷ self.new.entries) }
+        ensures first { IfSome result (λ e. ComesFirst O.comes_before e self.old.entries) }
+        ensures out { IfSome result (λ e. IsAbsent e.task self.new.entries) }
+        ensures limit { self.new.limit ≡ self.old.limit }
+    {
+        if self.heap.is_empty() {
+            return None;
+        }
+        let first = self.heap.swap_remove(0);
+        sink(&mut self.heap, &self.order);
+        Some(first)
+    }
+
+    /// How many entries there are.
+    pub fn len(&self) -> u32
+        ensures { result ≡ length self.now.entries }
+    {
+        self.heap.len() as u32
+    }
+}
