@@ -1,16 +1,13 @@
 -- The text of a schedule that meets its deadlines tells each of them.
-use Rattle.std.proofs.Common.{◌≡◌, ℕ, zero, suc, ◌+◌, ◌-◌, ◌^◌, ◌<◌, ◌≤◌, Bool, true, false, not, ◌&&◌, ◌||◌, List, [], ◌∷◌, ◌++◌, length, drop, flat_map, map, refl, arith, if◌then◌else◌, ap, ap₂, ◌∙◌, sym, subst, true≢false, nat_eq, nat_lt, codes, get_or, ◌⊎◌, inl, inr}
-use Rattle.std.specs.Prelude.{decimal, sum_by}
-use Rattle.std.specs.List.{AllByRecursion, list_all}
+use Rattle.std.proofs.Common.{◌≡◌, ℕ, zero, suc, ◌+◌, ◌-◌, ◌^◌, ◌<◌, ◌≤◌, Bool, true, false, ◌&&◌, ◌||◌, List, [], ◌∷◌, ◌++◌, length, flat_map, map, refl, arith, if◌then◌else◌, ap, ap₂, ◌∙◌, sym, subst, true≢false, nat_eq, nat_lt, codes, get_or, ◌⊎◌, inl, inr}
+use Rattle.std.specs.Prelude.{sum_by}
+use Rattle.std.specs.List.{AllByRecursion}
 use Rattle.std.proofs.lemmas.Fmt.{decimal_injective}
 use Rattle.std.proofs.lemmas.List.{get_or-map, length-map, map-append}
 use Rattle.std.proofs.Math.ListN.{get_or-eq_default}
 use Rattle.std.proofs.lemmas.Bool.{cases_lt}
 use Rattle.std.proofs.lemmas.Bool.Decides.{nat_tests}
-use Rattle.dvs_base.specs.declared.kind.Scheduler.{Scheduler}
-use Rattle.dvs_base.specs.declared.kind.Scheduler.TheVariants.{Edf, Rm}
 use Rattle.dvs_base.specs.declared.kind.GovernorKind.{GovernorKind}
-use Rattle.dvs_base.specs.declared.kind.GovernorKind.TheVariants.{Plain, Fixed, Cycle, Ahead}
 use Rattle.dvs_base.specs.declared.note.Note.{Note}
 use Rattle.dvs_base.specs.declared.note.Note.TheVariants.{Release, Speed, Run, Idle, Done, End}
 use Rattle.dvs_base.specs.declared.note.Pos.{Pos}
@@ -35,7 +32,7 @@ use Rattle.sched_model.proofs.ScheduleLemmas.{schedule_exists}
 use Rattle.sched_model.proofs.Service.{exec-most, exec-drop}
 use Rattle.sched_model.proofs.JobLaws.{le-due, release-due}
 use Rattle.done_lines.specs.DoneLines.{IsDoneLine, IsBy, IsToldBy, TellsDeadlines, TextTellsDeadlines}
-use Rattle.trace_text.proofs.PlainLines.{IsPlain, ArePlain, all-each, each-append, plain-decimal, plain-name, some-name, lines-line, field-same, and-left, and-right}
+use Rattle.trace_text.proofs.PlainLines.{ArePlain, all-each, plain-decimal, plain-name, some-name, lines-line, and-left, and-right}
 use Rattle.done_lines.proofs.DoneNotes.{tells_done, tells_late, times, times-append}
 use Rattle.done_lines.proofs.DoneCounts.{told-once, told-never, none-late}
 

@@ -1,5 +1,5 @@
 -- A written document means the tasks that it was written from.
-use Rattle.std.proofs.Common.{pos, codes, ◌≡◌, ◌<◌, ◌≤◌, ◌^◌, ℕ, zero, suc, ◌+◌, ◌&&◌, nat_lt, nat_le, if◌then◌else◌, Bool, true, false, List, [], ◌∷◌, ◌++◌, length, map, Option, Some, None, inl, inr, append_assoc, append-nil, sym, Ok, Err, String, Global, Ordering, Less, Equal, Greater, string_bytes, slice_index, refl, ap, ◌∙◌, subst, arith}
+use Rattle.std.proofs.Common.{pos, codes, ◌≡◌, ◌<◌, ◌≤◌, ℕ, zero, suc, ◌+◌, ◌&&◌, nat_lt, nat_le, if◌then◌else◌, Bool, true, false, List, [], ◌∷◌, ◌++◌, length, map, Option, Some, None, inl, inr, append_assoc, append-nil, sym, Ok, Err, String, Global, Ordering, Less, Equal, Greater, string_bytes, slice_index, refl, ap, ◌∙◌, subst, arith}
 use Rattle.std.specs.List.{list_all, position_or_len}
 use Rattle.std.specs.Str.{bytes_eq, IsUtf8, is_utf8}
 use Rattle.std.specs.String.{string_cmp}

@@ -1,5 +1,5 @@
 -- The fields of a trace's lines have neither a space nor a line feed, so each line is read back.
-use Rattle.std.proofs.Common.{◌≡◌, ℕ, Bool, true, false, not, ◌&&◌, List, [], ◌∷◌, ◌++◌, drop, flat_map, map, refl, ap, ap₂, ◌∙◌, sym, true≢false, nat_eq, codes}
+use Rattle.std.proofs.Common.{◌≡◌, ℕ, Bool, true, not, ◌&&◌, List, [], ◌∷◌, ◌++◌, drop, flat_map, map, refl, ap, ap₂, ◌∙◌, sym, true≢false, nat_eq, codes}
 use Rattle.std.specs.Prelude.{decimal}
 use Rattle.std.specs.List.{AllByRecursion, list_all}
 use Rattle.dvs_base.specs.declared.kind.Scheduler.{Scheduler}

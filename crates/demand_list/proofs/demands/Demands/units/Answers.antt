@@ -1,4 +1,4 @@
-use Rattle.std.proofs.Common.{◌≡◌, ◌≤◌, ℕ, List, Option, sym, subst}
+use Rattle.std.proofs.Common.{◌≤◌, ℕ, List, Option, sym, subst}
 use Rattle.std.specs.Prelude.{slice_index, unwrap_or}
 use Rattle.demand_list.specs.Demands.{rows_of}
 use Rattle.demand_list.proofs.Rows.{named-within}

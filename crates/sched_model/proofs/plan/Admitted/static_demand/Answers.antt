@@ -1,4 +1,4 @@
-use Rattle.std.proofs.Common.{◌≡◌, ◌<◌, ◌≤◌, sym, subst, arith}
+use Rattle.std.proofs.Common.{◌<◌, sym, subst, arith}
 use Rattle.grid_fraction.specs.declared.Frac.{Frac}
 use Rattle.sched_model.proofs.Weights.{static_den}
 use Rattle.sched_model.proofs.plan.Admitted.static_demand.Goals as goal
