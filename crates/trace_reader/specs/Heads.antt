@@ -25,7 +25,8 @@ line_at n _ = Err (Refused n kind.NoEnd)
 abbrev pub version_of : Version → List ℕ → Result Version TraceKind
 version_of One line = if bytes_eq line (codes "trace 1") then Ok One else Err kind.Version
 version_of Two line =
-    if bytes_eq line (codes "trace 1") then Ok One else (if bytes_eq line (codes "trace 2") then Ok Two else Err kind.Version)
+    if bytes_eq line (codes "trace 1") then Ok One
+    else (if bytes_eq line (codes "trace 2") then Ok Two else Err kind.Version)
 
 -- the plan that the fields of the second line tell
 unfoldable pub plan_of : List (List ℕ) → Result PlanLine TraceKind
@@ -43,7 +44,8 @@ abbrev pub at_line : {A : Type 0} → ℕ → Result A TraceKind → Result A Tr
 at_line n (Ok x) = Ok x
 at_line n (Err k) = Err (Refused n k)
 
--- the lines of the tasks, from line n on: each with its line feed is the text of its task. The number of the next line, and the parts after
+-- the lines of the tasks, from line n on: each with its line feed is the text of its task. The number of the next line,
+-- and the parts after
 unfoldable pub tasks_from : ℕ → List (List ℕ) → List (List ℕ) → Result (ℕ × List (List ℕ)) TraceFault
 tasks_from n [] rest = Ok (n, rest)
 tasks_from n (task ∷ tasks) rest = do

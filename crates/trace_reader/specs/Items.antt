@@ -1,5 +1,6 @@
 -- What a line after the head of a trace tells: a note, or in version 2 the energy of a task.
--- A line is split at each single space. First it has to have its word's number of fields; then they are read from left to right.
+-- A line is split at each single space. First it has to have its word's number of fields; then they are read from left to
+-- right.
 use Rattle.std.specs.Prelude.{ℕ, ◌<◌, List, [], ◌∷◌, codes, Result, Ok, Err, if◌then◌else◌}
 use Rattle.std.specs.Option.{ok_or}
 use Rattle.std.specs.Str.{bytes_eq}
@@ -12,6 +13,7 @@ use Rattle.trace_reader.specs.declared.trace.TraceKind.{TraceKind}
 use Rattle.trace_reader.specs.declared.trace.TraceKind.TheVariants as kind
 use Rattle.trace_reader.specs.Fields.{◌>>=◌, two_of, three_of, four_of, six_of, whole_in, wide_in, position_in, fraction_in, task_in}
 
+-- a release, by the fields after its word
 unfoldable pub release_in : List (List ℕ) → List (List ℕ) → Result Item TraceKind
 release_in names fields = do
   three ← ok_or (three_of fields) kind.Word
@@ -20,6 +22,7 @@ release_in names fields = do
   job ← whole_in three.2
   Ok (Told (Release tick task job))
 
+-- a decision
 unfoldable pub speed_in : List (List ℕ) → Result Item TraceKind
 speed_in fields = do
   three ← ok_or (three_of fields) kind.Word
@@ -28,6 +31,7 @@ speed_in fields = do
   demand ← fraction_in three.2
   Ok (Told (Speed tick speed demand.0 demand.1))
 
+-- a running segment
 unfoldable pub run_in : List (List ℕ) → List (List ℕ) → Result Item TraceKind
 run_in names fields = do
   six ← ok_or (six_of fields) kind.Word
@@ -39,6 +43,7 @@ run_in names fields = do
   energy ← wide_in six.5
   Ok (Told (Run from to task job units energy))
 
+-- an idle segment
 unfoldable pub idle_in : List (List ℕ) → Result Item TraceKind
 idle_in fields = do
   four ← ok_or (four_of fields) kind.Word
@@ -48,6 +53,7 @@ idle_in fields = do
   energy ← wide_in four.3
   Ok (Told (Idle from to units energy))
 
+-- the end of a job
 unfoldable pub done_in : List (List ℕ) → List (List ℕ) → Result Item TraceKind
 done_in names fields = do
   four ← ok_or (four_of fields) kind.Word
@@ -57,6 +63,7 @@ done_in names fields = do
   used ← whole_in four.3
   Ok (Told (Done at_end task job used))
 
+-- the end of the run
 unfoldable pub end_in : List (List ℕ) → Result Item TraceKind
 end_in fields = do
   three ← ok_or (three_of fields) kind.Word
@@ -65,7 +72,7 @@ end_in fields = do
   idle ← wide_in three.2
   Ok (Told (End ticks run idle))
 
--- version 1 has no such line
+-- the energy of a task; version 1 has no such line
 unfoldable pub share_in : Version → List (List ℕ) → List (List ℕ) → Result Item TraceKind
 share_in One names fields = Err kind.Word
 share_in Two names fields = do

@@ -21,6 +21,7 @@ pub record SoFar : Type 0 where
   pub notes : List Note
   pub told : ℕ
 
+-- before the first of these lines
 abbrev pub nothing_yet : SoFar
 nothing_yet = record { notes = []; told = 0 }
 
@@ -48,10 +49,12 @@ next_item v names s fields = do
       then (if is_right_share s.notes item then Ok item else Err kind.Share)
       else Err kind.Order
 
+-- what was read with one item more
 abbrev pub with_item : SoFar → Item → SoFar
 with_item s (Told n) = record { notes = s.notes ++ n ∷ []; told = s.told }
 with_item s (Share i energy) = record { notes = s.notes; told = s.told + 1 }
 
+-- whether the item is the end of the run
 abbrev pub ends : Item → Bool
 ends (Told (End t run idle)) = true
 ends _ = false

@@ -28,6 +28,7 @@ task_lines (name ∷ names) (t ∷ tasks) = task_text name t.period t.offset t.w
 abbrev pub text_of : List (List ℕ) → List (List ℕ) → TraceOf → List ℕ
 text_of names tasks t = whole_text t.version t.plan.scheduler t.plan.governor t.plan.ticks names tasks t.notes
 
+-- the two numbers of a position have their width
 abbrev pub IsPlace : Pos → Type 0
 IsPlace q = (q.tick < 2 ^ 64) × (q.offset < 2 ^ 64)
 
@@ -35,11 +36,13 @@ IsPlace q = (q.tick < 2 ^ 64) × (q.offset < 2 ^ 64)
 abbrev pub IsNoteOf : ℕ → Note → Type 0
 IsNoteOf c (Release t i k) = (t < 2 ^ 64) × (i < c) × (k < 2 ^ 64)
 IsNoteOf c (Speed t f num den) = (t < 2 ^ 64) × (f < 2 ^ 64) × (num < 2 ^ 128) × (den < 2 ^ 128)
-IsNoteOf c (Run from to i k units energy) = IsPlace from × IsPlace to × (i < c) × (k < 2 ^ 64) × (units < 2 ^ 64) × (energy < 2 ^ 128)
+IsNoteOf c (Run from to i k units energy) =
+    IsPlace from × IsPlace to × (i < c) × (k < 2 ^ 64) × (units < 2 ^ 64) × (energy < 2 ^ 128)
 IsNoteOf c (Idle from to units energy) = IsPlace from × IsPlace to × (units < 2 ^ 64) × (energy < 2 ^ 128)
 IsNoteOf c (Done q i k used) = IsPlace q × (i < c) × (k < 2 ^ 64) × (used < 2 ^ 64)
 IsNoteOf c (End t run idle) = (t < 2 ^ 64) × (run < 2 ^ 128) × (idle < 2 ^ 128)
 
+-- the note ends the run
 abbrev pub is_end : Note → Bool
 is_end (End t run idle) = true
 is_end _ = false

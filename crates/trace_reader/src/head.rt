@@ -65,7 +65,8 @@ fn read_task_lines<'a>(
     bytes: &'a [u8],
 ) -> Result<(u64, &'a [u8]), TraceFault>
     requires { length tasks.now ≡ length names.now }
-    ensures read { IsUnlessMemory TraceFault.NoMemory (λ p. (p.0, parts 10 p.1.now)) result (tasks_from 3 (task_lines names.now tasks.now) (parts 10 bytes.now)) }
+    ensures read { IsUnlessMemory TraceFault.NoMemory (λ p. (p.0, parts 10 p.1.now)) result
+        (tasks_from 3 (task_lines names.now tasks.now) (parts 10 bytes.now)) }
     ensures few { IfOk result (λ p. p.0 ≤ 800001) }
 {
     let mut number = 3;
@@ -93,7 +94,8 @@ pub(crate) fn read_tasks<'a>(
     bytes: &'a [u8],
 ) -> Result<(u64, &'a [u8]), TraceFault>
     requires { version ≡ Version.Two → length tasks.now ≡ length names.now }
-    ensures read { IsUnlessMemory TraceFault.NoMemory (λ p. (p.0, parts 10 p.1.now)) result (tasks_from 3 (lines_of_tasks version (task_lines names.now tasks.now)) (parts 10 bytes.now)) }
+    ensures read { IsUnlessMemory TraceFault.NoMemory (λ p. (p.0, parts 10 p.1.now)) result
+        (tasks_from 3 (lines_of_tasks version (task_lines names.now tasks.now)) (parts 10 bytes.now)) }
     ensures few { IfOk result (λ p. p.0 ≤ 800001) }
 {
     match version {

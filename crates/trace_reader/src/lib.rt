@@ -1,7 +1,7 @@
 //! The text of a trace of either version, read again.
 //!
-//! The reader takes exactly the texts of a trace, and says of every other text what is wrong first. The lines that version 2
-//! adds are written here too, each with its line feed and without memory.
+//! The reader takes exactly the texts of a trace, and says of every other text what is wrong first. The lines that
+//! version 2 adds are written here too, each with its line feed and without memory.
 #![tactic(auto)]
 
 mod fields;

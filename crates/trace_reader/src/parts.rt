@@ -59,7 +59,8 @@ pub(crate) fn four(bytes: &[u8], at: u8) -> Option<(&[u8], &[u8], &[u8], &[u8])>
 
 // The parts, if they are six.
 pub(crate) fn six(bytes: &[u8], at: u8) -> Option<(&[u8], &[u8], &[u8], &[u8], &[u8], &[u8])>
-    ensures { option_map (λ p. (p.0.now, p.1.now, p.2.now, p.3.now, p.4.now, p.5.now)) result ≡ six_of (parts at bytes.now) }
+    ensures { option_map (λ p. (p.0.now, p.1.now, p.2.now, p.3.now, p.4.now, p.5.now)) result
+        ≡ six_of (parts at bytes.now) }
 {
     let (a, rest) = cut(bytes, at)?;
     let (b, rest) = cut(rest, at)?;

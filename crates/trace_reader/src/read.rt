@@ -1,7 +1,6 @@
 // Reading a trace, line by line.
-ghost use Rattle.std.specs.Prelude.{◌≡◌, ℕ, ◌≤◌, ◌<◌, ◌∷◌, [], List, length, IfOk, Ok, Err, true, if◌then◌else◌};
+ghost use Rattle.std.specs.Prelude.{◌≡◌, ◌≢◌, ℕ, ◌≤◌, ◌<◌, ◌∷◌, [], List, length, IfOk, Ok, Err, true, if◌then◌else◌};
 ghost use Rattle.std.specs.List.{AllPairs};
-ghost use Rattle.std.specs.Prelude.{◌≢◌};
 ghost use Rattle.dvs_base.specs.declared.note.Note.{Note};
 ghost use Rattle.trace_reader.specs.declared.trace.Version.TheVariants.{Two};
 ghost use Rattle.dvs_base.specs.Checks.{IsUnlessMemory};
@@ -32,7 +31,8 @@ fn refused(line: u64, kind: TraceKind) -> TraceFault
 
 // The line of this number without its line feed, and what follows it.
 pub(crate) fn line_at(number: u64, bytes: &[u8]) -> Result<(&[u8], &[u8]), TraceFault>
-    ensures line { IsUnlessMemory TraceFault.NoMemory (λ p. (p.0.now, parts 10 p.1.now)) result (line_at number (parts 10 bytes.now)) }
+    ensures line { IsUnlessMemory TraceFault.NoMemory (λ p. (p.0.now, parts 10 p.1.now)) result
+        (line_at number (parts 10 bytes.now)) }
     ensures rest { IfOk result (λ p. parts 10 bytes.now ≡ p.0.now ∷ parts 10 p.1.now) }
     ensures less { IfOk result (λ p. length p.1.now < length bytes.now) }
     ensures few { IfOk result (λ p. number ≤ 800000) }
@@ -104,7 +104,8 @@ fn next_item(
     line: &[u8],
 ) -> Result<Item, TraceKind>
     requires { length names.now ≤ 64 }
-    ensures item { (notes : List Note) → HasSums notes shares.now.sums → result ≡ next_item version names.now (record { notes = notes; told = told }) (parts 32 line.now) }
+    ensures item { (notes : List Note) → HasSums notes shares.now.sums
+        → result ≡ next_item version names.now (record { notes = notes; told = told }) (parts 32 line.now) }
     ensures task { IfOk result (HasTask (length names.now)) }
 {
     let item = item_of(version, names, line)?;
@@ -119,7 +120,8 @@ fn next_item(
 
 // The notes, if nothing stands after the last line. The number is the next line's.
 fn ended(notes: Vec<Note>, number: u64, rest: &[u8]) -> Result<Vec<Note>, TraceFault>
-    ensures { IsUnlessMemory TraceFault.NoMemory (λ v. v.items) result (if is_nothing (parts 10 rest.now) then Ok notes.items else Err (fault.Refused number kind.AfterEnd)) }
+    ensures { IsUnlessMemory TraceFault.NoMemory (λ v. v.items) result
+        (if is_nothing (parts 10 rest.now) then Ok notes.items else Err (fault.Refused number kind.AfterEnd)) }
 {
     if rest.is_empty() {
         Ok(notes)
@@ -139,7 +141,8 @@ fn read_notes(
 ) -> Result<Vec<Note>, TraceFault>
     requires names { length names.now ≤ 64 }
     requires first { first ≤ 800001 }
-    ensures { IsUnlessMemory TraceFault.NoMemory (λ v. v.items) result (notes_from version names.now first nothing_yet (parts 10 bytes.now)) }
+    ensures { IsUnlessMemory TraceFault.NoMemory (λ v. v.items) result
+        (notes_from version names.now first nothing_yet (parts 10 bytes.now)) }
 {
     let mut notes = Vec::new(alloc);
     let mut shares = Shares::new();
@@ -178,7 +181,8 @@ fn read(
 ) -> Result<Trace, TraceFault>
     requires names { length names.now ≤ 64 }
     requires lists { newest ≡ Two → length tasks.now ≡ length names.now }
-    ensures { IsUnlessMemory TraceFault.NoMemory (λ t. t) result (trace_file newest names.now (task_lines names.now tasks.now) bytes.now) }
+    ensures { IsUnlessMemory TraceFault.NoMemory (λ t. t) result
+        (trace_file newest names.now (task_lines names.now tasks.now) bytes.now) }
 {
     let (line, rest) = line_at(1, bytes)?;
     let version = at_line(1, version_of(newest, line))?;
@@ -213,14 +217,16 @@ pub fn read_trace(alloc: Global, bytes: &[u8], names: &[Name]) -> Result<Trace, 
 
     // What is read is a trace, and the bytes are its text; what is the text of a trace is read.
     ensures found { IfOk result (λ t. IsTextOf names.now [] bytes.now t × (t.version ≡ Version.One)) }
-    ensures only { (t : TraceOf) → IsTextOf names.now [] bytes.now t → t.version ≡ Version.One → IsUnlessMemory TraceFault.NoMemory (λ t. t) result (Ok t) }
+    ensures only { (t : TraceOf) → IsTextOf names.now [] bytes.now t → t.version ≡ Version.One
+        → IsUnlessMemory TraceFault.NoMemory (λ t. t) result (Ok t) }
 {
     known_names(names);
     read(alloc, Version::One, bytes, names, &[])
 }
 
-/// The trace of a text of either version, for tasks with these names, which are distinct and at most 64, and these lines.
-/// `Refused` names the first line that is wrong, and what is wrong first in it. Memory is taken for the notes alone.
+/// The trace of a text of either version, for tasks with these names, which are distinct and at most 64, and these
+/// lines. `Refused` names the first line that is wrong, and what is wrong first in it. Memory is taken for the notes
+/// alone.
 pub fn read_any(
     alloc: Global,
     bytes: &[u8],
@@ -232,11 +238,13 @@ pub fn read_any(
     requires lists { length tasks.now ≡ length names.now }
 
     // The answer is what the text means, refusals too, unless memory ran out.
-    ensures file { IsUnlessMemory TraceFault.NoMemory (λ t. t) result (trace_file Version.Two names.now (task_lines names.now tasks.now) bytes.now) }
+    ensures file { IsUnlessMemory TraceFault.NoMemory (λ t. t) result
+        (trace_file Version.Two names.now (task_lines names.now tasks.now) bytes.now) }
 
     // What is read is a trace, and the bytes are its text; what is the text of a trace is read.
     ensures found { IfOk result (IsTextOf names.now (task_lines names.now tasks.now) bytes.now) }
-    ensures only { (t : TraceOf) → IsTextOf names.now (task_lines names.now tasks.now) bytes.now t → IsUnlessMemory TraceFault.NoMemory (λ t. t) result (Ok t) }
+    ensures only { (t : TraceOf) → IsTextOf names.now (task_lines names.now tasks.now) bytes.now t
+        → IsUnlessMemory TraceFault.NoMemory (λ t. t) result (Ok t) }
 
     // Each trace has one text, and no text begins that of another trace.
     ensures one_text { HaveOneText names.now (task_lines names.now tasks.now) }

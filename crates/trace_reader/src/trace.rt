@@ -13,7 +13,8 @@ pub enum Version {
     Two,
 }
 
-/// A task of a trace of version 2: its period and its first release in ticks, and its declared worst case in work units.
+/// A task of a trace of version 2: its period and its first release in ticks, and its declared worst case in work
+/// units.
 #[derive(Clone, Copy, Debug, PartialEq, Eq)]
 pub struct TaskLine {
     pub period: u64,
