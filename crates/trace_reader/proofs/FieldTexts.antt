@@ -1,0 +1,138 @@
+-- A field that is read is the text of its value, and the text of a value is read.
+use Rattle.std.proofs.Common.{◌≡◌, ◌≢◌, ℕ, ◌+◌, ◌^◌, ◌<◌, Bool, true, false, List, [], ◌∷◌, ◌++◌, length, get_or, Option, Some, None, Result, Ok, Err, refl, sym, ap, ap₂, subst, ◌∙◌, append_assoc, arith}
+use Rattle.std.specs.Prelude.{nat_lt, position, decimal, codes}
+use Rattle.std.specs.List.{AllPairs, join_with_byte, position_or_len}
+use Rattle.std.specs.Option.{ok_or}
+use Rattle.std.specs.Str.{bytes_eq}
+use Rattle.std.proofs.lemmas.Bool.Decides.{nat_tests}
+use Rattle.std.proofs.lemmas.List.Quantifiers.{position-Some}
+use Rattle.std.proofs.lemmas.List.Sums.{position_or_len_is}
+use Rattle.std.proofs.lemmas.List.Splits.{join_with_byte-slice_split}
+use Rattle.std.proofs.lemmas.Slice.Eq.{bytes_eq-Decides}
+use Rattle.std.proofs.lemmas.Option.{some_pair_parts}
+use Rattle.dvs_base.specs.Text.{number_below}
+use Rattle.dvs_base.specs.Parts.{position_text, fraction_text}
+use Rattle.trace_text.specs.TraceLines.{name_of}
+use Rattle.dvs_base.specs.declared.note.Pos.{Pos}
+use Rattle.trace_reader.proofs.Spelled.{number_below-decimal, number_below-found}
+use Rattle.trace_reader.specs.declared.trace.TraceKind.{TraceKind}
+use Rattle.trace_reader.specs.declared.trace.TraceKind.TheVariants as kind
+use Rattle.trace_reader.specs.Fields.{◌>>=◌, parts, two_of, whole_in, wide_in, position_in, fraction_in, task_in}
+use Rattle.trace_reader.specs.Traces.{IsPlace}
+use Rattle.trace_reader.proofs.Plain.{lacks-decimal, parts-first, parts-alone}
+
+-- the value of a step that was not refused
+pub step-ok : {A B F : Type 0} (r : Result A F) (f : A → Result B F) (y : B) → (r >>= f) ≡ Ok y → (x : A) × (r ≡ Ok x) × (f x ≡ Ok y)
+step-ok (Ok x) f y e = (x, refl, e)
+step-ok (Err d) f y e = absurd cc
+
+abbrev done : {A F : Type 0} → A → Result A F
+done x = Ok x
+
+pub ok-is : {A F : Type 0} (x y : A) → done {F = F} x ≡ done {F = F} y → x ≡ y
+ok-is x y e = cc
+
+pub ok_or-ok : {A F : Type 0} (o : Option A) (k : F) (x : A) → ok_or o k ≡ Ok x → o ≡ Some x
+ok_or-ok None k x e = absurd cc
+ok_or-ok {F = F} (Some y) k x e = ap Some (ok-is {F = F} y x e)
+
+pub whole_in-text : (n : ℕ) → n < 2 ^ 64 → whole_in (decimal n) ≡ Ok n
+whole_in-text n fits = ap (λ o. ok_or o kind.Number) (number_below-decimal (2 ^ 64) n fits (omega arith))
+
+pub whole_in-found : (field : List ℕ) (n : ℕ) → whole_in field ≡ Ok n → (field ≡ decimal n) × (n < 2 ^ 64)
+whole_in-found field n e = number_below-found (2 ^ 64) field n (omega arith) (ok_or-ok (number_below (2 ^ 64) field) kind.Number n e)
+
+pub wide_in-text : (n : ℕ) → n < 2 ^ 128 → wide_in (decimal n) ≡ Ok n
+wide_in-text n fits = ap (λ o. ok_or o kind.Number) (number_below-decimal (2 ^ 128) n fits (omega arith))
+
+pub wide_in-found : (field : List ℕ) (n : ℕ) → wide_in field ≡ Ok n → (field ≡ decimal n) × (n < 2 ^ 128)
+wide_in-found field n e = number_below-found (2 ^ 128) field n (omega arith) (ok_or-ok (number_below (2 ^ 128) field) kind.Number n e)
+
+two-is : (ps : List (List ℕ)) (a b : List ℕ) → two_of ps ≡ Some (a, b) → ps ≡ a ∷ b ∷ []
+two-is [] a b e = absurd cc
+two-is (x ∷ []) a b e = absurd cc
+two-is (x ∷ y ∷ []) a b e = let p = some_pair_parts x a y b e in ap₂ (λ p q. p ∷ q ∷ []) p.0 p.1
+two-is (x ∷ y ∷ z ∷ ps) a b e = absurd cc
+
+-- two halves are the text with the byte between them
+two-joined : (byte : ℕ) (field a b : List ℕ) → two_of (parts byte field) ≡ Some (a, b) → field ≡ a ++ byte ∷ b
+two-joined byte field a b e = sym (join_with_byte-slice_split byte field) ∙ ap (join_with_byte byte) (two-is (parts byte field) a b e)
+
+-- numbers with the byte between them are two halves
+two-text : (byte : ℕ) → ((d : ℕ) → d < 10 → 48 + d ≢ byte) → (m n : ℕ) → two_of (parts byte (decimal m ++ byte ∷ decimal n)) ≡ Some (decimal m, decimal n)
+two-text byte free m n =
+    ap two_of (parts-first byte (decimal m) (decimal n) (lacks-decimal byte free m) ∙ ap (λ ps. decimal m ∷ ps) (parts-alone byte (decimal n) (lacks-decimal byte free n)))
+
+colon : (m n : ℕ) → two_of (parts 58 (decimal m ++ 58 ∷ decimal n)) ≡ Some (decimal m, decimal n)
+colon = two-text 58 (λ d small e. omega (arith, e))
+
+slash : (m n : ℕ) → two_of (parts 47 (decimal m ++ 47 ∷ decimal n)) ≡ Some (decimal m, decimal n)
+slash = two-text 47 (λ d small e. omega (arith, e))
+
+pub position_in-text : (q : Pos) → IsPlace q → position_in (position_text q) ≡ Ok q
+unfolding position_in
+position_in-text q fits =
+    ap position_in (append_assoc (decimal q.tick) (codes ":") (decimal q.offset))
+    ∙ rw (colon q.tick q.offset, whole_in-text q.tick fits.0, whole_in-text q.offset fits.1) refl
+
+pub position_in-found : (field : List ℕ) (q : Pos) → position_in field ≡ Ok q → (field ≡ position_text q) × IsPlace q
+unfolding position_in
+position_in-found field q e =
+    let a = step-ok (ok_or (two_of (parts 58 field)) kind.Number) (λ halves. whole_in halves.0 >>= λ tick. whole_in halves.1 >>= λ offset. Ok (record { tick = tick; offset = offset })) q e in
+    let b = step-ok (whole_in a.0.0) (λ tick. whole_in a.0.1 >>= λ offset. Ok (record { tick = tick; offset = offset })) q a.2 in
+    let c = step-ok (whole_in a.0.1) (λ offset. Ok (record { tick = b.0; offset = offset })) q b.2 in
+    let tick = whole_in-found a.0.0 b.0 b.1 in
+    let offset = whole_in-found a.0.1 c.0 c.1 in
+    let made : Pos = record { tick = b.0; offset = c.0 } in
+    let joined : field ≡ a.0.0 ++ 58 ∷ a.0.1 = two-joined 58 field a.0.0 a.0.1 (ok_or-ok (two_of (parts 58 field)) kind.Number a.0 a.1) in
+    let text : field ≡ position_text made = joined ∙ (ap₂ (λ x y. x ++ 58 ∷ y) tick.0 offset.0 ∙ sym (append_assoc (decimal b.0) (codes ":") (decimal c.0))) in
+    subst (λ (r : Pos). (field ≡ position_text r) × IsPlace r) (ok-is {F = TraceKind} made q c.2) (text, (tick.1, offset.1))
+
+pub fraction_in-text : (num den : ℕ) → num < 2 ^ 128 → den < 2 ^ 128 → fraction_in (fraction_text num den) ≡ Ok (num, den)
+unfolding fraction_in
+fraction_in-text num den above below =
+    ap fraction_in (append_assoc (decimal num) (codes "/") (decimal den))
+    ∙ rw (slash num den, wide_in-text num above, wide_in-text den below) refl
+
+pub fraction_in-found : (field : List ℕ) (d : ℕ × ℕ) → fraction_in field ≡ Ok d → (field ≡ fraction_text d.0 d.1) × (d.0 < 2 ^ 128) × (d.1 < 2 ^ 128)
+unfolding fraction_in
+fraction_in-found field d e =
+    let a = step-ok (ok_or (two_of (parts 47 field)) kind.Number) (λ halves. wide_in halves.0 >>= λ num. wide_in halves.1 >>= λ den. Ok (num, den)) d e in
+    let b = step-ok (wide_in a.0.0) (λ num. wide_in a.0.1 >>= λ den. Ok (num, den)) d a.2 in
+    let c = step-ok (wide_in a.0.1) (λ den. Ok (b.0, den)) d b.2 in
+    let num = wide_in-found a.0.0 b.0 b.1 in
+    let den = wide_in-found a.0.1 c.0 c.1 in
+    let made : ℕ × ℕ = (b.0, c.0) in
+    let joined : field ≡ a.0.0 ++ 47 ∷ a.0.1 = two-joined 47 field a.0.0 a.0.1 (ok_or-ok (two_of (parts 47 field)) kind.Number a.0 a.1) in
+    let text : field ≡ fraction_text b.0 c.0 = joined ∙ (ap₂ (λ x y. x ++ 47 ∷ y) num.0 den.0 ∙ sym (append_assoc (decimal b.0) (codes "/") (decimal c.0))) in
+    subst (λ (r : ℕ × ℕ). (field ≡ fraction_text r.0 r.1) × (r.0 < 2 ^ 128) × (r.1 < 2 ^ 128)) (ok-is {F = TraceKind} made d c.2) (text, num.1, den.1)
+
+-- no two tasks have one name
+abbrev pub AreApart : List (List ℕ) → Type 0
+AreApart names = AllPairs (λ a b. a ≢ b) names
+
+place : (names : List (List ℕ)) (i : ℕ) → AreApart names → i < length names → position_or_len (λ name. bytes_eq name (name_of names i)) names ≡ i
+place names i apart lt =
+    position_or_len_is (λ name. bytes_eq name (name_of names i)) names i [] (omega arith) earlier here
+  where
+    earlier : (k : ℕ) → k < i → bytes_eq (get_or names k []) (name_of names i) ≡ false
+    earlier k less = differs (bytes_eq (get_or names k []) (name_of names i)) refl
+      where
+        differs : (b : Bool) → bytes_eq (get_or names k []) (name_of names i) ≡ b → b ≡ false
+        differs true e = absurd (apart k i [] less lt ((bytes_eq-Decides (get_or names k []) (name_of names i)).0 e))
+        differs false e = refl
+
+    here : i < length names → bytes_eq (get_or names i []) (name_of names i) ≡ true
+    here _ = (bytes_eq-Decides (name_of names i) (name_of names i)).1 refl
+
+pub task_in-text : (names : List (List ℕ)) (i : ℕ) → AreApart names → i < length names → task_in names (name_of names i) ≡ Ok i
+unfolding task_in
+task_in-text names i apart lt =
+    let within : nat_lt i (length names) ≡ true = grind (arith, nat_tests) in
+    rw (place names i apart lt, within) refl
+
+pub task_in-found : (names : List (List ℕ)) (field : List ℕ) (i : ℕ) → task_in names field ≡ Ok i → (field ≡ name_of names i) × (i < length names)
+unfolding task_in
+task_in-found names field i e =
+    let found = position-Some (λ name. bytes_eq name field) names i [] (ok_or-ok (position (λ name. bytes_eq name field) names) kind.Task i e) in
+    (sym ((bytes_eq-Decides (name_of names i) field).0 found.1), found.0)

@@ -1,0 +1,14 @@
+pub mod Spelled
+pub mod Splitting
+pub mod Reading
+pub mod Summing
+pub mod Lined
+pub mod Plain
+pub mod FieldTexts
+pub mod ItemTexts
+pub mod LineTexts
+pub mod ShareTexts
+pub mod NoteTexts
+pub mod HeadTexts
+pub mod TraceTexts
+pub mod Apart

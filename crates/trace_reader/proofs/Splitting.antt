@@ -1,0 +1,70 @@
+-- A text is cut at the first place of a byte.
+use Rattle.std.proofs.Common.{◌≡◌, ℕ, ◌+◌, ◌<◌, ◌≤◌, Bool, List, [], ◌∷◌, length, take, drop, Some, None, option_map, refl, arith}
+use Rattle.std.specs.Prelude.{position, ◌==◌, count_by}
+use Rattle.std.specs.List.{position_or_len}
+use Rattle.std.proofs.lemmas.List.Splits.{slice_split_first, slice_split_none, length-slice_split}
+use Rattle.std.proofs.lemmas.List.Sums.{fails_before_first}
+use Rattle.std.proofs.lemmas.Bool.Decides.{nat_tests}
+use Rattle.trace_reader.specs.Fields.{parts, one_of, two_of, three_of, four_of, six_of}
+
+module _ (byte : ℕ) (text : List ℕ) where
+  abbrev at_byte : ℕ → Bool
+  at_byte b = b == byte
+
+  pub parts-none : position (λ b. b == byte) text ≡ None → parts byte text ≡ text ∷ []
+  parts-none e =
+      let far : length text ≤ position_or_len at_byte text = grind (arith, nat_tests) in
+      slice_split_none at_byte text (λ k d lt. fails_before_first at_byte text k d (omega arith))
+
+  pub parts-found : (i : ℕ) → position (λ b. b == byte) text ≡ Some i → parts byte text ≡ take i text ∷ parts byte (drop (i + 1) text)
+  parts-found i e =
+      let near : position_or_len at_byte text < length text = grind (arith, nat_tests) in
+      let here : position_or_len at_byte text ≡ i = grind (arith, nat_tests) in
+      rw (← here) (slice_split_first at_byte text 0 near)
+
+-- a text has a part
+pub record HasPart (found : List (List ℕ)) : Type 0 where
+  pub first : List ℕ
+  pub rest : List (List ℕ)
+  pub all : found ≡ first ∷ rest
+
+pub some-part : (byte : ℕ) (text : List ℕ) → HasPart (parts byte text)
+some-part byte text = by (parts byte text) (length-slice_split (λ b. b == byte) text)
+  where
+    by : (found : List (List ℕ)) → length found ≡ count_by (λ b. b == byte) text + 1 → HasPart found
+    by [] e = absurd (omega arith)
+    by (x ∷ xs) e = record { first = x; rest = xs; all = refl }
+
+-- two parts are not one, and so on
+pub one_of-more : (a : List ℕ) (byte : ℕ) (text : List ℕ) → one_of (a ∷ parts byte text) ≡ None
+one_of-more a byte text = let p = some-part byte text in rw p.all refl
+
+pub two_of-more : (a : List ℕ) (found : List (List ℕ)) → two_of (a ∷ found) ≡ option_map (λ b. (a, b)) (one_of found)
+two_of-more a [] = refl
+two_of-more a (x ∷ []) = refl
+two_of-more a (x ∷ y ∷ xs) = refl
+
+pub three_of-more : (a : List ℕ) (found : List (List ℕ)) → three_of (a ∷ found) ≡ option_map (λ p. (a, p.0, p.1)) (two_of found)
+three_of-more a [] = refl
+three_of-more a (x ∷ []) = refl
+three_of-more a (x ∷ y ∷ []) = refl
+three_of-more a (x ∷ y ∷ z ∷ xs) = refl
+
+pub four_of-more : (a : List ℕ) (found : List (List ℕ)) → four_of (a ∷ found) ≡ option_map (λ p. (a, p.0, p.1, p.2)) (three_of found)
+four_of-more a [] = refl
+four_of-more a (x ∷ []) = refl
+four_of-more a (x ∷ y ∷ []) = refl
+four_of-more a (x ∷ y ∷ z ∷ []) = refl
+four_of-more a (x ∷ y ∷ z ∷ w ∷ xs) = refl
+
+pub six_of-more : (a b : List ℕ) (found : List (List ℕ)) → six_of (a ∷ b ∷ found) ≡ option_map (λ p. (a, b, p.0, p.1, p.2, p.3)) (four_of found)
+six_of-more a b [] = refl
+six_of-more a b (x ∷ []) = refl
+six_of-more a b (x ∷ y ∷ []) = refl
+six_of-more a b (x ∷ y ∷ z ∷ []) = refl
+six_of-more a b (x ∷ y ∷ z ∷ w ∷ []) = refl
+six_of-more a b (x ∷ y ∷ z ∷ w ∷ v ∷ xs) = refl
+
+-- one part alone is not six
+pub six_of-alone : (a : List ℕ) (byte : ℕ) (text : List ℕ) → parts byte text ≡ text ∷ [] → six_of (a ∷ parts byte text) ≡ None
+six_of-alone a byte text e = rw e refl

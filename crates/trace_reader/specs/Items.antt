@@ -1,0 +1,103 @@
+-- What a line after the head of a trace tells: a note, or in version 2 the energy of a task.
+-- A line is split at each single space. First it has to have its word's number of fields; then they are read from left to
+-- right.
+use Rattle.std.specs.Prelude.{ℕ, ◌<◌, List, [], ◌∷◌, codes, Result, Ok, Err, if◌then◌else◌}
+use Rattle.std.specs.Option.{ok_or}
+use Rattle.std.specs.Str.{bytes_eq}
+use Rattle.dvs_base.specs.declared.note.Note.TheVariants.{Release, Speed, Run, Idle, Done, End}
+use Rattle.trace_reader.specs.declared.trace.Version.{Version}
+use Rattle.trace_reader.specs.declared.trace.Version.TheVariants.{One, Two}
+use Rattle.trace_reader.specs.declared.line.Item.{Item}
+use Rattle.trace_reader.specs.declared.line.Item.TheVariants.{Told, Share}
+use Rattle.trace_reader.specs.declared.trace.TraceKind.{TraceKind}
+use Rattle.trace_reader.specs.declared.trace.TraceKind.TheVariants as kind
+use Rattle.trace_reader.specs.Fields.{◌>>=◌, two_of, three_of, four_of, six_of, whole_in, wide_in, position_in, fraction_in, task_in}
+
+-- a release, by the fields after its word
+unfoldable pub release_in : List (List ℕ) → List (List ℕ) → Result Item TraceKind
+release_in names fields = do
+  three ← ok_or (three_of fields) kind.Word
+  tick ← whole_in three.0
+  task ← task_in names three.1
+  job ← whole_in three.2
+  Ok (Told (Release tick task job))
+
+-- a decision
+unfoldable pub speed_in : List (List ℕ) → Result Item TraceKind
+speed_in fields = do
+  three ← ok_or (three_of fields) kind.Word
+  tick ← whole_in three.0
+  speed ← whole_in three.1
+  demand ← fraction_in three.2
+  Ok (Told (Speed tick speed demand.0 demand.1))
+
+-- a running segment
+unfoldable pub run_in : List (List ℕ) → List (List ℕ) → Result Item TraceKind
+run_in names fields = do
+  six ← ok_or (six_of fields) kind.Word
+  from ← position_in six.0
+  to ← position_in six.1
+  task ← task_in names six.2
+  job ← whole_in six.3
+  units ← whole_in six.4
+  energy ← wide_in six.5
+  Ok (Told (Run from to task job units energy))
+
+-- an idle segment
+unfoldable pub idle_in : List (List ℕ) → Result Item TraceKind
+idle_in fields = do
+  four ← ok_or (four_of fields) kind.Word
+  from ← position_in four.0
+  to ← position_in four.1
+  units ← whole_in four.2
+  energy ← wide_in four.3
+  Ok (Told (Idle from to units energy))
+
+-- the end of a job
+unfoldable pub done_in : List (List ℕ) → List (List ℕ) → Result Item TraceKind
+done_in names fields = do
+  four ← ok_or (four_of fields) kind.Word
+  at_end ← position_in four.0
+  task ← task_in names four.1
+  job ← whole_in four.2
+  used ← whole_in four.3
+  Ok (Told (Done at_end task job used))
+
+-- the end of the run
+unfoldable pub end_in : List (List ℕ) → Result Item TraceKind
+end_in fields = do
+  three ← ok_or (three_of fields) kind.Word
+  ticks ← whole_in three.0
+  run ← wide_in three.1
+  idle ← wide_in three.2
+  Ok (Told (End ticks run idle))
+
+-- the energy of a task; version 1 has no such line
+unfoldable pub share_in : Version → List (List ℕ) → List (List ℕ) → Result Item TraceKind
+share_in One names fields = Err kind.Word
+share_in Two names fields = do
+  two ← ok_or (two_of fields) kind.Word
+  task ← task_in names two.0
+  energy ← wide_in two.1
+  Ok (Share task energy)
+
+-- what the fields of a line tell
+unfoldable pub item_of : Version → List (List ℕ) → List (List ℕ) → Result Item TraceKind
+item_of v names [] = Err kind.Word
+item_of v names (word ∷ fields) =
+    if bytes_eq word (codes "release") then release_in names fields
+    else (if bytes_eq word (codes "speed") then speed_in fields
+    else (if bytes_eq word (codes "run") then run_in names fields
+    else (if bytes_eq word (codes "idle") then idle_in fields
+    else (if bytes_eq word (codes "done") then done_in names fields
+    else (if bytes_eq word (codes "end") then end_in fields
+    else (if bytes_eq word (codes "energy") then share_in v names fields
+    else Err kind.Word))))))
+
+-- the task that the item names is one of so many
+abbrev pub HasTask : ℕ → Item → Type 0
+HasTask c (Told (Release t i k)) = i < c
+HasTask c (Told (Run from to i k units energy)) = i < c
+HasTask c (Told (Done q i k used)) = i < c
+HasTask c (Share i energy) = i < c
+HasTask c _ = Unit {0}

@@ -1,0 +1,31 @@
+-- What the words of a plan line say.
+use Rattle.std.specs.Prelude.{ℕ, ◌^◌, ◌&&◌, List, codes, nat_le, Option, Some, None, if◌then◌else◌}
+use Rattle.std.specs.Str.{bytes_eq}
+use Rattle.dvs_base.specs.Text.{number_below}
+use Rattle.dvs_base.specs.declared.kind.Scheduler.{Scheduler}
+use Rattle.dvs_base.specs.declared.kind.Scheduler.TheVariants.{Edf, Rm}
+use Rattle.dvs_base.specs.declared.kind.GovernorKind.{GovernorKind}
+use Rattle.dvs_base.specs.declared.kind.GovernorKind.TheVariants.{Plain, Fixed, Cycle, Ahead}
+
+-- the scheduler of a word
+abbrev pub scheduler_of : List ℕ → Option Scheduler
+scheduler_of word =
+    if bytes_eq word (codes "edf") then Some Edf
+    else (if bytes_eq word (codes "rm") then Some Rm else None)
+
+-- the governor of a word
+abbrev pub governor_of : List ℕ → Option GovernorKind
+governor_of word =
+    if bytes_eq word (codes "none") then Some Plain
+    else (if bytes_eq word (codes "static") then Some Fixed
+    else (if bytes_eq word (codes "cc") then Some Cycle
+    else (if bytes_eq word (codes "la") then Some Ahead else None)))
+
+-- a number of ticks of a run: 1 to 2^40
+abbrev pub ticks_from : Option ℕ → Option ℕ
+ticks_from None = None
+ticks_from (Some n) = if nat_le 1 n && nat_le n (2 ^ 40) then Some n else None
+
+-- the number of ticks that a word is
+abbrev pub ticks_of : List ℕ → Option ℕ
+ticks_of word = ticks_from (number_below (2 ^ 64) word)

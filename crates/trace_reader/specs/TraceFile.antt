@@ -1,0 +1,86 @@
+-- What a text means: the trace, or the first refusal.
+use Rattle.std.specs.Prelude.{ℕ, ◌+◌, ◌==◌, Bool, true, false, List, [], ◌∷◌, ◌++◌, length, nat_le, Result, Ok, Err, if◌then◌else◌}
+use Rattle.dvs_base.specs.declared.note.Note.{Note}
+use Rattle.dvs_base.specs.declared.note.Note.TheVariants.{End}
+use Rattle.trace_reader.specs.declared.trace.Version.{Version}
+use Rattle.trace_reader.specs.declared.trace.Version.TheVariants.{One, Two}
+use Rattle.trace_reader.specs.TraceText.{energy_of_task}
+use Rattle.trace_reader.specs.declared.line.Item.{Item}
+use Rattle.trace_reader.specs.declared.line.Item.TheVariants.{Told, Share}
+use Rattle.trace_reader.specs.declared.trace.TraceFault.{TraceFault}
+use Rattle.trace_reader.specs.declared.trace.TraceFault.TheVariants.{Refused}
+use Rattle.trace_reader.specs.declared.trace.TraceKind.{TraceKind}
+use Rattle.trace_reader.specs.declared.trace.TraceKind.TheVariants as kind
+use Rattle.trace_reader.specs.Fields.{◌>>=◌, parts}
+use Rattle.trace_reader.specs.Items.{item_of}
+use Rattle.trace_reader.specs.Heads.{line_at, at_line, version_of, plan_of, tasks_from, lines_of_tasks}
+use Rattle.trace_reader.specs.Traces.{TraceOf}
+
+-- what was read so far: the notes, and how many energies of tasks
+pub record SoFar : Type 0 where
+  pub notes : List Note
+  pub told : ℕ
+
+-- before the first of these lines
+abbrev pub nothing_yet : SoFar
+nothing_yet = record { notes = []; told = 0 }
+
+-- how many energies of tasks a trace tells
+abbrev pub wanted : Version → List (List ℕ) → ℕ
+wanted One names = 0
+wanted Two names = length names
+
+-- whether the item may come next: the energies of the tasks, in file order, stand between the other notes and the last
+abbrev pub is_in_order : ℕ → ℕ → Item → Bool
+is_in_order told wanted (Share i energy) = i == told
+is_in_order told wanted (Told (End t run idle)) = nat_le wanted told
+is_in_order told wanted (Told n) = told == 0
+
+-- whether the energy of a task is the sum over its runs
+abbrev pub is_right_share : List Note → Item → Bool
+is_right_share notes (Share i energy) = energy == energy_of_task notes i
+is_right_share notes (Told n) = true
+
+-- the next item, after all checks
+unfoldable pub next_item : Version → List (List ℕ) → SoFar → List (List ℕ) → Result Item TraceKind
+next_item v names s fields = do
+  item ← item_of v names fields
+  if is_in_order s.told (wanted v names) item
+      then (if is_right_share s.notes item then Ok item else Err kind.Share)
+      else Err kind.Order
+
+-- what was read with one item more
+abbrev pub with_item : SoFar → Item → SoFar
+with_item s (Told n) = record { notes = s.notes ++ n ∷ []; told = s.told }
+with_item s (Share i energy) = record { notes = s.notes; told = s.told + 1 }
+
+-- whether the item is the end of the run
+abbrev pub ends : Item → Bool
+ends (Told (End t run idle)) = true
+ends _ = false
+
+-- nothing stands after the last line
+abbrev pub is_nothing : List (List ℕ) → Bool
+is_nothing ([] ∷ []) = true
+is_nothing _ = false
+
+-- the notes so far, and then those of the lines from line n on
+unfoldable pub notes_from : Version → List (List ℕ) → ℕ → SoFar → List (List ℕ) → Result (List Note) TraceFault
+notes_from v names n s [] = Err (Refused n kind.NoEnd)
+notes_from v names n s (line ∷ rest) = do
+  first ← line_at n (line ∷ rest)
+  item ← at_line n (next_item v names s (parts 32 first.0))
+  if ends item
+      then (if is_nothing rest then Ok ((with_item s item).notes) else Err (Refused (n + 1) kind.AfterEnd))
+      else notes_from v names (n + 1) (with_item s item) rest
+
+-- the trace of a text for tasks with these names and lines, of a version up to the newest that is read
+unfoldable pub trace_file : Version → List (List ℕ) → List (List ℕ) → List ℕ → Result TraceOf TraceFault
+trace_file newest names tasks bytes = do
+  first ← line_at 1 (parts 10 bytes)
+  version ← at_line 1 (version_of newest first.0)
+  second ← line_at 2 first.1
+  plan ← at_line 2 (plan_of (parts 32 second.0))
+  rest ← tasks_from 3 (lines_of_tasks version tasks) second.1
+  notes ← notes_from version names rest.0 nothing_yet rest.1
+  Ok (record { version = version; plan = plan; notes = notes })

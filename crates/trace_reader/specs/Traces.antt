@@ -1,0 +1,83 @@
+-- Traces, and the one text of each.
+use Rattle.std.specs.Prelude.{◌≡◌, ℕ, ◌+◌, ◌<◌, ◌≤◌, ◌^◌, Bool, true, false, List, [], ◌∷◌, ◌++◌, length}
+use Rattle.std.specs.List.{AllByRecursion}
+use Rattle.dvs_base.specs.declared.note.Note.{Note}
+use Rattle.dvs_base.specs.declared.note.Note.TheVariants.{Release, Speed, Run, Idle, Done, End}
+use Rattle.dvs_base.specs.declared.note.Pos.{Pos}
+use Rattle.trace_reader.specs.declared.trace.Version.{Version}
+use Rattle.trace_reader.specs.declared.trace.Version.TheVariants.{One, Two}
+use Rattle.dvs_base.specs.Pairs.{is_pair}
+use Rattle.trace_reader.specs.VersionLines.{task_text}
+use Rattle.trace_reader.specs.TraceText.{energy_of_task, whole_text}
+use Rattle.trace_text.specs.declared.write.PlanLine.{PlanLine}
+use Rattle.trace_reader.specs.declared.trace.TaskLine.{TaskLine}
+
+-- a trace: its version, its plan and its notes
+pub record TraceOf : Type 0 where
+  pub version : Version
+  pub plan : PlanLine
+  pub notes : List Note
+
+-- the lines of the tasks with these names
+abbrev pub task_lines : List (List ℕ) → List TaskLine → List (List ℕ)
+task_lines [] tasks = []
+task_lines (name ∷ names) [] = []
+task_lines (name ∷ names) (t ∷ tasks) = task_text name t.period t.offset t.worst ∷ task_lines names tasks
+
+-- the text of a trace, for tasks with these names and lines
+abbrev pub text_of : List (List ℕ) → List (List ℕ) → TraceOf → List ℕ
+text_of names tasks t = whole_text t.version t.plan.scheduler t.plan.governor t.plan.ticks names tasks t.notes
+
+-- the two numbers of a position have their width
+abbrev pub IsPlace : Pos → Type 0
+IsPlace q = (q.tick < 2 ^ 64) × (q.offset < 2 ^ 64)
+
+-- the note's numbers have their widths, and its task is one of so many
+abbrev pub IsNoteOf : ℕ → Note → Type 0
+IsNoteOf c (Release t i k) = (t < 2 ^ 64) × (i < c) × (k < 2 ^ 64)
+IsNoteOf c (Speed t f num den) = (t < 2 ^ 64) × (f < 2 ^ 64) × (num < 2 ^ 128) × (den < 2 ^ 128)
+IsNoteOf c (Run from to i k units energy) =
+    IsPlace from × IsPlace to × (i < c) × (k < 2 ^ 64) × (units < 2 ^ 64) × (energy < 2 ^ 128)
+IsNoteOf c (Idle from to units energy) = IsPlace from × IsPlace to × (units < 2 ^ 64) × (energy < 2 ^ 128)
+IsNoteOf c (Done q i k used) = IsPlace q × (i < c) × (k < 2 ^ 64) × (used < 2 ^ 64)
+IsNoteOf c (End t run idle) = (t < 2 ^ 64) × (run < 2 ^ 128) × (idle < 2 ^ 128)
+
+-- the note ends the run
+abbrev pub is_end : Note → Bool
+is_end (End t run idle) = true
+is_end _ = false
+
+-- the last note, and no other, ends the run
+abbrev pub IsEnded : List Note → Type 0
+IsEnded [] = ⊥
+IsEnded (n ∷ []) = is_end n ≡ true
+IsEnded (n ∷ m ∷ notes) = (is_end n ≡ false) × IsEnded (m ∷ notes)
+
+-- version 2 writes the energy of each task, which has its width
+abbrev pub HasShares : Version → ℕ → List Note → Type 0
+HasShares One c notes = Unit {0}
+HasShares Two c notes = (i : ℕ) → i < c → energy_of_task notes i < 2 ^ 128
+
+-- the lines that a version has for each task
+abbrev pub lines_for_tasks : Version → ℕ → ℕ → ℕ
+lines_for_tasks One names tasks = 0
+lines_for_tasks Two names tasks = tasks + names
+
+-- what has a text, for tasks with these names and lines
+pub record IsTrace (names tasks : List (List ℕ)) (t : TraceOf) : Type 0 where
+  pub pair : is_pair t.plan.scheduler t.plan.governor ≡ true
+  pub some_ticks : 1 ≤ t.plan.ticks
+  pub low_ticks : t.plan.ticks ≤ 2 ^ 40
+  pub each : AllByRecursion (IsNoteOf (length names)) t.notes
+  pub ended : IsEnded t.notes
+  pub shares : HasShares t.version (length names) t.notes
+  pub lines : 2 + lines_for_tasks t.version (length names) (length tasks) + length t.notes ≤ 800000
+
+-- the bytes are the text of the trace
+abbrev pub IsTextOf : List (List ℕ) → List (List ℕ) → List ℕ → TraceOf → Type 0
+IsTextOf names tasks bytes t = IsTrace names tasks t × (bytes ≡ text_of names tasks t)
+
+-- each trace has one text, and no text of a trace begins that of another
+abbrev pub HaveOneText : List (List ℕ) → List (List ℕ) → Type 0
+HaveOneText names tasks = (t u : TraceOf) (more : List ℕ) → IsTrace names tasks t → IsTrace names tasks u
+    → text_of names tasks t ++ more ≡ text_of names tasks u → (t ≡ u) × (more ≡ [])

@@ -1,0 +1,65 @@
+// The fields of a line.
+ghost use Rattle.std.specs.Prelude.{◌≡◌, ◌^◌, ◌<◌, ◌≤◌, length, position, IfOk, IfSome};
+ghost use Rattle.std.specs.Str.{bytes_eq};
+ghost use Rattle.trace_reader.specs.Fields.{whole_in, wide_in, position_in, fraction_in, task_in};
+
+use crate::TraceKind;
+use crate::parts::two;
+use dvs_base::{Name, Pos, whole, wide};
+
+// A number below 2^64.
+pub(crate) fn whole_in(field: &[u8]) -> Result<u64, TraceKind>
+    ensures { result ≡ whole_in field.now }
+{
+    whole(field).ok_or(TraceKind::Number)
+}
+
+// A number below 2^128.
+pub(crate) fn wide_in(field: &[u8]) -> Result<u128, TraceKind>
+    ensures { result ≡ wide_in field.now }
+{
+    wide(field).ok_or(TraceKind::Number)
+}
+
+// A position, `tick:offset`.
+#[tactic(auto, unfolding(crate::specs::Fields::position_in))]
+pub(crate) fn position_in(field: &[u8]) -> Result<Pos, TraceKind>
+    ensures { result ≡ position_in field.now }
+{
+    let (tick, offset) = two(field, b':').ok_or(TraceKind::Number)?;
+    let tick = whole_in(tick)?;
+    let offset = whole_in(offset)?;
+    Ok(Pos { tick, offset })
+}
+
+// A fraction, `num/den`.
+#[tactic(auto, unfolding(crate::specs::Fields::fraction_in))]
+pub(crate) fn fraction_in(field: &[u8]) -> Result<(u128, u128), TraceKind>
+    ensures { result ≡ fraction_in field.now }
+{
+    let (num, den) = two(field, b'/').ok_or(TraceKind::Number)?;
+    let num = wide_in(num)?;
+    let den = wide_in(den)?;
+    Ok((num, den))
+}
+
+// The place of a name.
+fn place_in(names: &[Name], field: &[u8]) -> Option<usize>
+    ensures place { result ≡ position (λ name. bytes_eq name field.now) names.now }
+    ensures within { IfSome result (λ i. i < length names.now) }
+{
+    names.iter().position(|name| name.as_bytes() == field)
+}
+
+// The number of the task with this name.
+#[tactic(auto, unfolding(crate::specs::Fields::task_in))]
+pub(crate) fn task_in(names: &[Name], field: &[u8]) -> Result<u32, TraceKind>
+    requires { length names.now ≤ 64 }
+    ensures task { result ≡ task_in names.now field.now }
+    ensures within { IfOk result (λ i. i < length names.now) }
+{
+    match place_in(names, field) {
+        Some(i) => Ok(i as u32),
+        None => Err(TraceKind::Task),
+    }
+}

@@ -1,0 +1,105 @@
+// The lines before the notes.
+ghost use Rattle.std.specs.Prelude.{◌≡◌, ◌≤◌, ◌++◌, ◌∷◌, [], length, IfOk};
+ghost use Rattle.std.specs.Str.{bytes_eq};
+ghost use Rattle.dvs_base.specs.Checks.{IsUnlessMemory};
+ghost use Rattle.trace_reader.specs.VersionLines.{task_text};
+ghost use Rattle.trace_reader.specs.Fields.{parts};
+ghost use Rattle.trace_reader.specs.Heads.{version_of, plan_of, tasks_from, lines_of_tasks};
+ghost use Rattle.trace_reader.specs.Traces.{task_lines};
+
+use crate::parts::four;
+use crate::read::line_at;
+use crate::words::{governor_of, is_pair, scheduler_of, ticks_of};
+use crate::{TaskLine, TraceFault, TraceKind, Version, write_task};
+use dvs_base::{Line, Name};
+use trace_text::PlanLine;
+
+// The version that the first line names, of those up to the newest that is read.
+pub(crate) fn version_of(newest: Version, line: &[u8]) -> Result<Version, TraceKind>
+    ensures { result ≡ version_of newest line.now }
+{
+    if line == b"trace 1".as_slice() {
+        Ok(Version::One)
+    } else if newest == Version::Two && line == b"trace 2".as_slice() {
+        Ok(Version::Two)
+    } else {
+        Err(TraceKind::Version)
+    }
+}
+
+// The plan that the second line tells.
+#[tactic(auto, unfolding(crate::specs::Heads::plan_of))]
+pub(crate) fn plan_of(line: &[u8]) -> Result<PlanLine, TraceKind>
+    ensures { result ≡ plan_of (parts 32 line.now) }
+{
+    let (word, scheduler, governor, ticks) = four(line, b' ').ok_or(TraceKind::Plan)?;
+    let scheduler = scheduler_of(scheduler).ok_or(TraceKind::Plan)?;
+    let governor = governor_of(governor).ok_or(TraceKind::Plan)?;
+    let ticks = ticks_of(ticks).ok_or(TraceKind::Plan)?;
+    if word == b"plan".as_slice() && is_pair(scheduler, governor) {
+        Ok(PlanLine {
+            scheduler,
+            governor,
+            ticks,
+        })
+    } else {
+        Err(TraceKind::Plan)
+    }
+}
+
+// Whether the line is that of the task.
+fn is_task_line(line: &[u8], name: &Name, task: TaskLine) -> bool
+    ensures { result ≡ bytes_eq (line.now ++ 10 ∷ []) (task_text name.now task.period task.offset task.worst) }
+{
+    let mut text = Line::new();
+    write_task(&mut text, name, task);
+    let bytes = text.as_bytes();
+    line == &bytes[..bytes.len() - 1]
+}
+
+// Reads the lines of the tasks, which begin at line 3. The number of the next line, and what is left.
+#[tactic(auto, unfolding(crate::specs::Heads::tasks_from))]
+fn read_task_lines<'a>(
+    names: &[Name],
+    tasks: &[TaskLine],
+    bytes: &'a [u8],
+) -> Result<(u64, &'a [u8]), TraceFault>
+    requires { length tasks.now ≡ length names.now }
+    ensures read { IsUnlessMemory TraceFault.NoMemory (λ p. (p.0, parts 10 p.1.now)) result
+        (tasks_from 3 (task_lines names.now tasks.now) (parts 10 bytes.now)) }
+    ensures few { IfOk result (λ p. p.0 ≤ 800001) }
+{
+    let mut number = 3;
+    let mut rest = bytes;
+    for i in 0..names.len() {
+        let (line, after) = line_at(number, rest)?;
+        if !is_task_line(line, &names[i], tasks[i]) {
+            return Err(TraceFault::Refused {
+                line: number,
+                kind: TraceKind::TaskLine,
+            });
+        }
+        rest = after;
+        number += 1;
+    }
+    Ok((number, rest))
+}
+
+// Reads the lines that the version has for the tasks. The number of the next line, and what is left.
+#[tactic(auto, unfolding(crate::specs::Heads::tasks_from))]
+pub(crate) fn read_tasks<'a>(
+    version: Version,
+    names: &[Name],
+    tasks: &[TaskLine],
+    bytes: &'a [u8],
+) -> Result<(u64, &'a [u8]), TraceFault>
+    requires { version ≡ Version.Two → length tasks.now ≡ length names.now }
+    ensures read { IsUnlessMemory TraceFault.NoMemory (λ p. (p.0, parts 10 p.1.now)) result
+        (tasks_from 3 (lines_of_tasks version (task_lines names.now tasks.now)) (parts 10 bytes.now)) }
+    ensures few { IfOk result (λ p. p.0 ≤ 800001) }
+{
+    match version {
+        Version::One => Ok((3, bytes)),
+        Version::Two => read_task_lines(names, tasks, bytes),
+    }
+}

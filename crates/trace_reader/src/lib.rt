@@ -1,0 +1,22 @@
+//! The text of a trace of either version, read again.
+//!
+//! The reader takes exactly the texts of a trace, and says of every other text what is wrong first. The lines that
+//! version 2 adds are written here too, each with its line feed and without memory.
+#![tactic(auto)]
+
+mod fields;
+mod head;
+mod line;
+mod parts;
+mod read;
+mod shares;
+mod trace;
+mod words;
+mod write;
+
+pub use read::{read_any, read_trace};
+pub use trace::{TaskLine, Trace, TraceFault, TraceKind, Version};
+pub use write::{write_share, write_task, write_version};
+
+#[cfg(test)]
+mod tests;

@@ -1,0 +1,163 @@
+// What a line after the head of a trace tells.
+ghost use Rattle.std.specs.Prelude.{◌≡◌, ◌≤◌, ℕ, length, IfOk};
+ghost use Rattle.trace_reader.specs.Fields.{parts};
+ghost use Rattle.trace_reader.specs.Items.{release_in, speed_in, run_in, idle_in, done_in, end_in, share_in, item_of, HasTask};
+
+use crate::fields::{fraction_in, position_in, task_in, whole_in, wide_in};
+use crate::parts::{cut, four, six, three, two};
+use crate::{TraceKind, Version};
+use dvs_base::{Name, Note};
+
+/// A note, or in version 2 the energy of a task.
+#[derive(Clone, Copy, Debug, PartialEq, Eq)]
+pub enum Item {
+    Told(Note),
+    Share { task: u32, energy: u128 },
+}
+
+#[tactic(auto, unfolding(crate::specs::Items::release_in))]
+fn release_in(names: &[Name], fields: &[u8]) -> Result<Item, TraceKind>
+    requires { length names.now ≤ 64 }
+    ensures item { result ≡ release_in names.now (parts 32 fields.now) }
+    ensures task { IfOk result (HasTask (length names.now)) }
+{
+    let (tick, task, job) = three(fields, b' ').ok_or(TraceKind::Word)?;
+    let tick = whole_in(tick)?;
+    let task = task_in(names, task)?;
+    let job = whole_in(job)?;
+    Ok(Item::Told(Note::Release { tick, task, job }))
+}
+
+#[tactic(auto, unfolding(crate::specs::Items::speed_in))]
+fn speed_in(fields: &[u8]) -> Result<Item, TraceKind>
+    ensures item { result ≡ speed_in (parts 32 fields.now) }
+    ensures task { (c : ℕ) → IfOk result (HasTask c) }
+{
+    let (tick, speed, demand) = three(fields, b' ').ok_or(TraceKind::Word)?;
+    let tick = whole_in(tick)?;
+    let speed = whole_in(speed)?;
+    let (num, den) = fraction_in(demand)?;
+    Ok(Item::Told(Note::Speed {
+        tick,
+        speed,
+        num,
+        den,
+    }))
+}
+
+#[tactic(auto, unfolding(crate::specs::Items::run_in))]
+fn run_in(names: &[Name], fields: &[u8]) -> Result<Item, TraceKind>
+    requires { length names.now ≤ 64 }
+    ensures item { result ≡ run_in names.now (parts 32 fields.now) }
+    ensures task { IfOk result (HasTask (length names.now)) }
+{
+    let (from, to, task, job, units, energy) = six(fields, b' ').ok_or(TraceKind::Word)?;
+    let from = position_in(from)?;
+    let to = position_in(to)?;
+    let task = task_in(names, task)?;
+    let job = whole_in(job)?;
+    let units = whole_in(units)?;
+    let energy = wide_in(energy)?;
+    Ok(Item::Told(Note::Run {
+        from,
+        to,
+        task,
+        job,
+        units,
+        energy,
+    }))
+}
+
+#[tactic(auto, unfolding(crate::specs::Items::idle_in))]
+fn idle_in(fields: &[u8]) -> Result<Item, TraceKind>
+    ensures item { result ≡ idle_in (parts 32 fields.now) }
+    ensures task { (c : ℕ) → IfOk result (HasTask c) }
+{
+    let (from, to, units, energy) = four(fields, b' ').ok_or(TraceKind::Word)?;
+    let from = position_in(from)?;
+    let to = position_in(to)?;
+    let units = whole_in(units)?;
+    let energy = wide_in(energy)?;
+    Ok(Item::Told(Note::Idle {
+        from,
+        to,
+        units,
+        energy,
+    }))
+}
+
+#[tactic(auto, unfolding(crate::specs::Items::done_in))]
+fn done_in(names: &[Name], fields: &[u8]) -> Result<Item, TraceKind>
+    requires { length names.now ≤ 64 }
+    ensures item { result ≡ done_in names.now (parts 32 fields.now) }
+    ensures task { IfOk result (HasTask (length names.now)) }
+{
+    let (at, task, job, used) = four(fields, b' ').ok_or(TraceKind::Word)?;
+    let at = position_in(at)?;
+    let task = task_in(names, task)?;
+    let job = whole_in(job)?;
+    let used = whole_in(used)?;
+    Ok(Item::Told(Note::Done {
+        at,
+        task,
+        job,
+        used,
+    }))
+}
+
+#[tactic(auto, unfolding(crate::specs::Items::end_in))]
+fn end_in(fields: &[u8]) -> Result<Item, TraceKind>
+    ensures item { result ≡ end_in (parts 32 fields.now) }
+    ensures task { (c : ℕ) → IfOk result (HasTask c) }
+{
+    let (ticks, run, idle) = three(fields, b' ').ok_or(TraceKind::Word)?;
+    let ticks = whole_in(ticks)?;
+    let run = wide_in(run)?;
+    let idle = wide_in(idle)?;
+    Ok(Item::Told(Note::End { ticks, run, idle }))
+}
+
+#[tactic(auto, unfolding(crate::specs::Items::share_in))]
+fn share_in(version: Version, names: &[Name], fields: &[u8]) -> Result<Item, TraceKind>
+    requires { length names.now ≤ 64 }
+    ensures item { result ≡ share_in version names.now (parts 32 fields.now) }
+    ensures task { IfOk result (HasTask (length names.now)) }
+{
+    if version == Version::One {
+        return Err(TraceKind::Word);
+    }
+    let (task, energy) = two(fields, b' ').ok_or(TraceKind::Word)?;
+    let task = task_in(names, task)?;
+    let energy = wide_in(energy)?;
+    Ok(Item::Share { task, energy })
+}
+
+// What the line tells, or what it has wrong when it is read alone.
+#[tactic(auto, unfolding(crate::specs::Items::item_of))]
+pub(crate) fn item_of(version: Version, names: &[Name], line: &[u8]) -> Result<Item, TraceKind>
+    requires { length names.now ≤ 64 }
+    ensures item { result ≡ item_of version names.now (parts 32 line.now) }
+    ensures task { IfOk result (HasTask (length names.now)) }
+{
+    let (word, fields) = match cut(line, b' ') {
+        Some(parts) => parts,
+        None => return Err(TraceKind::Word),
+    };
+    if word == b"release".as_slice() {
+        release_in(names, fields)
+    } else if word == b"speed".as_slice() {
+        speed_in(fields)
+    } else if word == b"run".as_slice() {
+        run_in(names, fields)
+    } else if word == b"idle".as_slice() {
+        idle_in(fields)
+    } else if word == b"done".as_slice() {
+        done_in(names, fields)
+    } else if word == b"end".as_slice() {
+        end_in(fields)
+    } else if word == b"energy".as_slice() {
+        share_in(version, names, fields)
+    } else {
+        Err(TraceKind::Word)
+    }
+}

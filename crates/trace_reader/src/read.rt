@@ -1,0 +1,254 @@
+// Reading a trace, line by line.
+ghost use Rattle.std.specs.Prelude.{◌≡◌, ◌≢◌, ℕ, ◌≤◌, ◌<◌, ◌∷◌, [], List, length, IfOk, Ok, Err, true, if◌then◌else◌};
+ghost use Rattle.std.specs.List.{AllPairs};
+ghost use Rattle.dvs_base.specs.declared.note.Note.{Note};
+ghost use Rattle.trace_reader.specs.declared.trace.Version.TheVariants.{Two};
+ghost use Rattle.dvs_base.specs.Checks.{IsUnlessMemory};
+ghost use Rattle.dvs_base.specs.Text.{is_name};
+ghost use Rattle.trace_text.specs.TraceLines.{name_of};
+ghost use Rattle.trace_reader.specs.declared.trace.TraceFault.TheVariants as fault;
+ghost use Rattle.trace_reader.specs.declared.trace.TraceKind.TheVariants as kind;
+ghost use Rattle.trace_reader.specs.Fields.{parts};
+ghost use Rattle.trace_reader.specs.Heads.{line_at, at_line};
+ghost use Rattle.trace_reader.specs.Items.{HasTask};
+ghost use Rattle.trace_reader.specs.Sums.{HasSums};
+ghost use Rattle.trace_reader.specs.TraceFile.{is_in_order, is_right_share, wanted, next_item, nothing_yet, is_nothing, notes_from, trace_file};
+ghost use Rattle.trace_reader.specs.Traces.{TraceOf, task_lines, IsTextOf, HaveOneText};
+
+use crate::head::{plan_of, read_tasks, version_of};
+use crate::line::{Item, item_of};
+use crate::parts::cut;
+use crate::shares::Shares;
+use crate::{TaskLine, Trace, TraceFault, TraceKind, Version};
+use dvs_base::{Name, Note};
+use std::alloc::Global;
+
+fn refused(line: u64, kind: TraceKind) -> TraceFault
+    ensures { result ≡ fault.Refused line kind }
+{
+    TraceFault::Refused { line, kind }
+}
+
+// The line of this number without its line feed, and what follows it.
+pub(crate) fn line_at(number: u64, bytes: &[u8]) -> Result<(&[u8], &[u8]), TraceFault>
+    ensures line { IsUnlessMemory TraceFault.NoMemory (λ p. (p.0.now, parts 10 p.1.now)) result
+        (line_at number (parts 10 bytes.now)) }
+    ensures rest { IfOk result (λ p. parts 10 bytes.now ≡ p.0.now ∷ parts 10 p.1.now) }
+    ensures less { IfOk result (λ p. length p.1.now < length bytes.now) }
+    ensures few { IfOk result (λ p. number ≤ 800000) }
+{
+    match cut(bytes, b'\n') {
+        None => Err(refused(number, TraceKind::NoEnd)),
+        Some((line, rest)) => {
+            if number > 800000 {
+                Err(refused(number, TraceKind::TooMany))
+            } else if line.len() > 255 {
+                Err(refused(number, TraceKind::TooLong))
+            } else {
+                Ok((line, rest))
+            }
+        }
+    }
+}
+
+// What is refused of a line.
+fn at_line<T>(line: u64, read: Result<T, TraceKind>) -> Result<T, TraceFault>
+    ensures { result ≡ at_line line read }
+{
+    match read {
+        Ok(value) => Ok(value),
+        Err(kind) => Err(refused(line, kind)),
+    }
+}
+
+// How many energies of tasks a trace tells.
+fn wanted_of(version: Version, names: &[Name]) -> u32
+    requires { length names.now ≤ 64 }
+    ensures { result ≡ wanted version names.now }
+{
+    match version {
+        Version::One => 0,
+        Version::Two => names.len() as u32,
+    }
+}
+
+// Whether the item may come next: the energies of the tasks, in file order, stand between the other notes and the last.
+fn is_in_order(told: u32, wanted: u32, item: &Item) -> bool
+    ensures { result ≡ is_in_order told wanted item.now }
+{
+    match *item {
+        Item::Share { task, .. } => task == told,
+        Item::Told(Note::End { .. }) => wanted <= told,
+        Item::Told(_) => told == 0,
+    }
+}
+
+// Whether the energy of a task is the sum over its runs.
+fn is_right_share(shares: &Shares, item: &Item) -> bool
+    requires { HasTask 64 item.now }
+    ensures { (notes : List Note) → HasSums notes shares.now.sums → result ≡ is_right_share notes item.now }
+{
+    match *item {
+        Item::Share { task, energy } => shares.is_sum(task, energy),
+        Item::Told(_) => true,
+    }
+}
+
+// The next item, after all checks.
+#[tactic(auto, unfolding(crate::specs::TraceFile::next_item))]
+fn next_item(
+    version: Version,
+    names: &[Name],
+    shares: &Shares,
+    told: u32,
+    line: &[u8],
+) -> Result<Item, TraceKind>
+    requires { length names.now ≤ 64 }
+    ensures item { (notes : List Note) → HasSums notes shares.now.sums
+        → result ≡ next_item version names.now (record { notes = notes; told = told }) (parts 32 line.now) }
+    ensures task { IfOk result (HasTask (length names.now)) }
+{
+    let item = item_of(version, names, line)?;
+    if !is_in_order(told, wanted_of(version, names), &item) {
+        return Err(TraceKind::Order);
+    }
+    if !is_right_share(shares, &item) {
+        return Err(TraceKind::Share);
+    }
+    Ok(item)
+}
+
+// The notes, if nothing stands after the last line. The number is the next line's.
+fn ended(notes: Vec<Note>, number: u64, rest: &[u8]) -> Result<Vec<Note>, TraceFault>
+    ensures { IsUnlessMemory TraceFault.NoMemory (λ v. v.items) result
+        (if is_nothing (parts 10 rest.now) then Ok notes.items else Err (fault.Refused number kind.AfterEnd)) }
+{
+    if rest.is_empty() {
+        Ok(notes)
+    } else {
+        Err(refused(number, TraceKind::AfterEnd))
+    }
+}
+
+// The notes, from the line of this number on.
+#[tactic(auto, unfolding(crate::specs::TraceFile::notes_from))]
+fn read_notes(
+    alloc: Global,
+    version: Version,
+    names: &[Name],
+    first: u64,
+    bytes: &[u8],
+) -> Result<Vec<Note>, TraceFault>
+    requires names { length names.now ≤ 64 }
+    requires first { first ≤ 800001 }
+    ensures { IsUnlessMemory TraceFault.NoMemory (λ v. v.items) result
+        (notes_from version names.now first nothing_yet (parts 10 bytes.now)) }
+{
+    let mut notes = Vec::new(alloc);
+    let mut shares = Shares::new();
+    let mut told = 0;
+    let mut number = first;
+    let mut rest = bytes;
+    loop {
+        let (line, after) = line_at(number, rest)?;
+        let item = at_line(number, next_item(version, names, &shares, told, line))?;
+        rest = after;
+        number += 1;
+        match item {
+            Item::Share { .. } => told += 1,
+            Item::Told(note) => {
+                if notes.push(note).is_err() {
+                    return Err(TraceFault::NoMemory);
+                }
+                if let Note::End { .. } = note {
+                    break;
+                }
+                shares.add(&note);
+            }
+        }
+    }
+    ended(notes, number, rest)
+}
+
+// The trace of a text, of a version up to the newest that is read.
+#[tactic(auto, unfolding(crate::specs::TraceFile::trace_file))]
+fn read(
+    alloc: Global,
+    newest: Version,
+    bytes: &[u8],
+    names: &[Name],
+    tasks: &[TaskLine],
+) -> Result<Trace, TraceFault>
+    requires names { length names.now ≤ 64 }
+    requires lists { newest ≡ Two → length tasks.now ≡ length names.now }
+    ensures { IsUnlessMemory TraceFault.NoMemory (λ t. t) result
+        (trace_file newest names.now (task_lines names.now tasks.now) bytes.now) }
+{
+    let (line, rest) = line_at(1, bytes)?;
+    let version = at_line(1, version_of(newest, line))?;
+    let (line, rest) = line_at(2, rest)?;
+    let plan = at_line(2, plan_of(line))?;
+    let (number, rest) = read_tasks(version, names, tasks, rest)?;
+    let notes = read_notes(alloc, version, names, number, rest)?;
+    Ok(Trace {
+        version,
+        plan,
+        notes,
+    })
+}
+
+// Each name is one.
+fn known_names(names: &[Name])
+    ensures { (i : ℕ) → i < length names.now → is_name (name_of names.now i) ≡ true }
+{
+    for name in names {
+        let _bytes = name.as_bytes();
+    }
+}
+
+/// The trace of a text of version 1, for tasks with these names, which are distinct and at most 64. `Refused` names the
+/// first line that is wrong, and what is wrong first in it. Memory is taken for the notes alone.
+pub fn read_trace(alloc: Global, bytes: &[u8], names: &[Name]) -> Result<Trace, TraceFault>
+    requires few { length names.now ≤ 64 }
+    requires distinct { AllPairs (λ a b. a ≢ b) names.now }
+
+    // The answer is what the text means, refusals too, unless memory ran out.
+    ensures file { IsUnlessMemory TraceFault.NoMemory (λ t. t) result (trace_file Version.One names.now [] bytes.now) }
+
+    // What is read is a trace, and the bytes are its text; what is the text of a trace is read.
+    ensures found { IfOk result (λ t. IsTextOf names.now [] bytes.now t × (t.version ≡ Version.One)) }
+    ensures only { (t : TraceOf) → IsTextOf names.now [] bytes.now t → t.version ≡ Version.One
+        → IsUnlessMemory TraceFault.NoMemory (λ t. t) result (Ok t) }
+{
+    known_names(names);
+    read(alloc, Version::One, bytes, names, &[])
+}
+
+/// The trace of a text of either version, for tasks with these names, which are distinct and at most 64, and these
+/// lines. `Refused` names the first line that is wrong, and what is wrong first in it. Memory is taken for the notes
+/// alone.
+pub fn read_any(
+    alloc: Global,
+    bytes: &[u8],
+    names: &[Name],
+    tasks: &[TaskLine],
+) -> Result<Trace, TraceFault>
+    requires few { length names.now ≤ 64 }
+    requires distinct { AllPairs (λ a b. a ≢ b) names.now }
+    requires lists { length tasks.now ≡ length names.now }
+
+    // The answer is what the text means, refusals too, unless memory ran out.
+    ensures file { IsUnlessMemory TraceFault.NoMemory (λ t. t) result
+        (trace_file Version.Two names.now (task_lines names.now tasks.now) bytes.now) }
+
+    // What is read is a trace, and the bytes are its text; what is the text of a trace is read.
+    ensures found { IfOk result (IsTextOf names.now (task_lines names.now tasks.now) bytes.now) }
+    ensures only { (t : TraceOf) → IsTextOf names.now (task_lines names.now tasks.now) bytes.now t
+        → IsUnlessMemory TraceFault.NoMemory (λ t. t) result (Ok t) }
+
+    // Each trace has one text, and no text begins that of another trace.
+    ensures one_text { HaveOneText names.now (task_lines names.now tasks.now) }
+{
+    known_names(names);
+    read(alloc, Version::Two, bytes, names, tasks)
+}

@@ -1,0 +1,57 @@
+// The energies of the tasks, as the notes of a trace have them.
+ghost use Rattle.std.specs.Prelude.{◌≡◌, ◌<◌, ◌==◌, ◌++◌, ◌∷◌, [], List};
+ghost use Rattle.dvs_base.specs.declared.note.Note.{Note};
+ghost use Rattle.trace_reader.specs.TraceText.{energy_of_task};
+ghost use Rattle.trace_reader.specs.Items.{HasTask};
+ghost use Rattle.trace_reader.specs.Sums.{with_energy, HasSums};
+
+use crate::line::Item;
+use dvs_base::Note;
+
+/// The sum of the energies of each task's runs, while it is below 2^128.
+#[derive(Drop)]
+pub(crate) struct Shares {
+    sums: [Option<u128>; 64],
+}
+
+// The sum with one energy more, while it is below 2^128.
+fn with_energy(sum: Option<u128>, energy: u128) -> Option<u128>
+    ensures { result ≡ with_energy sum energy }
+{
+    match sum {
+        Some(sum) => sum.checked_add(energy),
+        None => None,
+    }
+}
+
+impl Shares {
+    pub(crate) fn new() -> Shares
+        ensures { HasSums [] result.sums }
+    {
+        Shares {
+            sums: [Some(0); 64],
+        }
+    }
+
+    // Adds what the note has, where it is a run.
+    pub(crate) fn add(&mut self, note: &Note)
+        requires { HasTask 64 (Item.Told note.now) }
+        ensures { (notes : List Note) → HasSums notes self.old.sums → HasSums (notes ++ note.now ∷ []) self.new.sums }
+    {
+        if let Note::Run { task, energy, .. } = *note {
+            let i = task as usize;
+            self.sums[i] = with_energy(self.sums[i], energy);
+        }
+    }
+
+    // Whether this is the sum of the task.
+    pub(crate) fn is_sum(&self, task: u32, energy: u128) -> bool
+        requires { task < 64 }
+        ensures { (notes : List Note) → HasSums notes self.now.sums → result ≡ (energy == energy_of_task notes task) }
+    {
+        match self.sums[task as usize] {
+            Some(sum) => sum == energy,
+            None => false,
+        }
+    }
+}

@@ -1,0 +1,76 @@
+// What a trace holds, and why a text is none.
+
+use dvs_base::Note;
+use std::marker::Model;
+use trace_text::PlanLine;
+
+/// What the text of a trace has.
+#[derive(Clone, Copy, Debug, PartialEq, Eq)]
+pub enum Version {
+    /// The plan and the notes.
+    One,
+    /// The tasks too, and the energy of each.
+    Two,
+}
+
+/// A task of a trace of version 2: its period and its first release in ticks, and its declared worst case in work
+/// units.
+#[derive(Clone, Copy, Debug, PartialEq, Eq)]
+pub struct TaskLine {
+    pub period: u64,
+    pub offset: u64,
+    pub worst: u64,
+}
+
+/// A trace: its version, its plan and its notes, the last of which ends it.
+#[derive(Drop)]
+pub struct Trace {
+    pub version: Version,
+    pub plan: PlanLine,
+    pub notes: Vec<Note>,
+}
+
+impl Model for Trace {
+    ghost use Rattle.trace_reader.specs.Traces.{TraceOf};
+
+    ghost Value = { TraceOf };
+
+    ghost view = { λ t. record { version = t.version; plan = t.plan; notes = t.notes.items } };
+}
+
+/// What a line of a text has wrong.
+#[derive(Clone, Copy, Debug, PartialEq, Eq)]
+pub enum TraceKind {
+    /// The first line names no version that is read.
+    Version,
+    /// The second line is no plan line.
+    Plan,
+    /// The line begins with none of the words, or has another number of fields than its word's.
+    Word,
+    /// A number, a position or a fraction isn't spelled as one.
+    Number,
+    /// A name is no task's.
+    Task,
+    /// There is no line: no line feed is left, and no `end` line came.
+    NoEnd,
+    /// Something stands after the `end` line.
+    AfterEnd,
+    /// The line has more than 255 bytes before its line feed.
+    TooLong,
+    /// The line is the 800001st.
+    TooMany,
+    /// The line isn't that of the task whose place it is.
+    TaskLine,
+    /// The energies of the tasks don't stand in file order between the notes and the `end` line.
+    Order,
+    /// The energy of a task isn't the sum over its runs.
+    Share,
+}
+
+/// Why a text isn't read: the first line that is refused, counted from 1, or want of memory.
+#[derive(Clone, Copy, Debug, PartialEq, Eq)]
+pub enum TraceFault {
+    Refused { line: u64, kind: TraceKind },
+    /// Memory ran out.
+    NoMemory,
+}

@@ -1,0 +1,49 @@
+// The lines that tell a version, and those that version 2 alone has.
+ghost use Rattle.std.specs.Prelude.{◌≡◌, []};
+ghost use Rattle.trace_reader.specs.VersionLines.{version_line, task_text, share_text};
+
+use crate::{TaskLine, Version};
+use dvs_base::{Line, Name, Part, line_of};
+
+/// Writes the first line of a trace, its version, with its line feed.
+pub fn write_version(line: &mut Line, version: Version)
+    requires { line.old ≡ [] }
+    ensures { line.new ≡ version_line version }
+{
+    match version {
+        Version::One => line.push(b"trace 1\n"),
+        Version::Two => line.push(b"trace 2\n"),
+    }
+}
+
+/// Writes the line of a task, which version 2 has, with its line feed.
+pub fn write_task(line: &mut Line, name: &Name, task: TaskLine)
+    requires { line.old ≡ [] }
+    ensures { line.new ≡ task_text name.now task.period task.offset task.worst }
+{
+    *line = line_of(&[
+        Part::Word(b"task "),
+        Part::Named(name),
+        Part::Word(b" "),
+        Part::Number(task.period),
+        Part::Word(b" "),
+        Part::Number(task.offset),
+        Part::Word(b" "),
+        Part::Number(task.worst),
+        Part::Word(b"\n"),
+    ]);
+}
+
+/// Writes the line of a task's energy, which version 2 has, with its line feed.
+pub fn write_share(line: &mut Line, name: &Name, energy: u128)
+    requires { line.old ≡ [] }
+    ensures { line.new ≡ share_text name.now energy }
+{
+    *line = line_of(&[
+        Part::Word(b"energy "),
+        Part::Named(name),
+        Part::Word(b" "),
+        Part::Wide(energy),
+        Part::Word(b"\n"),
+    ]);
+}
