@@ -22,6 +22,7 @@ abbrev pub energy_of_task : ℕ → Note → ℕ
 energy_of_task i (Run from to j k units energy) = if nat_eq j i then energy else 0
 energy_of_task i _ = 0
 
+-- the energy that a note told with its entry brings to an entry
 abbrev pub energy_at_point : ℕ → Told → ℕ
 energy_at_point e told = if nat_eq told.1 e then energy_run told.0 + energy_idle told.0 else 0
 

@@ -38,6 +38,7 @@ pub record IsReached (m : Table) (units ticks : ℕ) (l : Least) : Type 0 where
 abbrev pub tick_due : Least → ℕ
 tick_due l = if l.tick_minus then 0 else l.tick_price
 
+-- and what is given back for it
 abbrev pub tick_refund : Least → ℕ
 tick_refund l = if l.tick_minus then l.tick_price else 0
 

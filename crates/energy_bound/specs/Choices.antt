@@ -13,6 +13,7 @@ pub record IsChoice (m : Table) (x : Choice) : Type 0 where
   pub entry : x.entry < length m.points
   pub units : x.units ≤ speed_at m x.entry
 
+-- each tick of a list is a choice
 abbrev pub AreChoices : Table → List Choice → Type 0
 AreChoices m xs = All (IsChoice m) xs
 
@@ -22,8 +23,10 @@ abbrev pub choice_cost : Table → Choice → ℕ
 choice_cost m x =
     let mv = (point_at m x.entry).millivolts in mv * mv * (1000 * x.units + m.idle * (speed_at m x.entry - x.units))
 
+-- the units that run in all ticks of a list
 abbrev pub total_units : List Choice → ℕ
 total_units xs = sum_by (λ x. x.units) xs
 
+-- and the energy of all of them
 abbrev pub total_cost : Table → List Choice → ℕ
 total_cost m xs = sum_by (choice_cost m) xs

@@ -8,6 +8,7 @@ abbrev pub corner : Table → ℕ → Choice
 corner m zero = record { entry = 0; units = 0 }
 corner m (suc e) = record { entry = e; units = speed_at m e }
 
+-- the number of the last corner, a full tick at the highest entry
 abbrev pub last_corner : Table → ℕ
 last_corner m = length m.points
 
@@ -15,6 +16,7 @@ last_corner m = length m.points
 abbrev pub corner_units : Table → ℕ → ℕ
 corner_units m k = (corner m k).units
 
+-- and its cost
 abbrev pub corner_cost : Table → ℕ → ℕ
 corner_cost m k = choice_cost m (corner m k)
 

@@ -18,6 +18,7 @@ use Rattle.energy_bound.specs.Bounds.{BoundsChoices, IsReached, HavePrices}
 abbrev pub choice_of : Plan → Tick → Choice
 choice_of p x = record { entry = x.entry; units = sum_below (count p) (share x) }
 
+-- what all ticks of a schedule choose
 abbrev pub choices_of : Plan → List Tick → List Choice
 choices_of p ticks = map (choice_of p) ticks
 
@@ -30,6 +31,7 @@ run_units _ = 0
 abbrev pub units_run : List Note → ℕ
 units_run notes = sum_by run_units notes
 
+-- the energy of the segments that some notes tell
 abbrev pub energy_spent : List Note → ℕ
 energy_spent notes = (totals_of notes).run + (totals_of notes).idle
 

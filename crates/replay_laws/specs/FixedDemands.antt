@@ -12,6 +12,7 @@ abbrev pub end_before : Plan → ℕ → ℕ → ℕ → List DemandRow → List
 end_before p i zero used rows = rows
 end_before p i (suc k) used rows = record { task = i; job = suc k; units = used - 2 * p.machine.charge } ∷ rows
 
+-- the rows after one more note: the end of a job fixes its demand before those that later notes fix
 abbrev pub fixed_before : Plan → Note → List DemandRow → List DemandRow
 fixed_before p (Done at_end i k used) rows = end_before p i k used rows
 fixed_before p _ rows = rows

@@ -9,6 +9,7 @@ first_state seed = seed % 2 ^ 31
 abbrev pub next_state : ℕ → ℕ
 next_state x = (1103515245 * x + 12345) % 2 ^ 31
 
+-- the number that a state gives
 abbrev pub number_of : ℕ → ℕ
 number_of x = x / 65536
 

@@ -32,6 +32,7 @@ task_by n i first second =
 abbrev pub made_task : ℕ → ℕ → ℕ → Task
 made_task x n i = task_by n i (draw x (2 * i)) (draw x (2 * i + 1))
 
+-- all n tasks
 abbrev pub made_tasks : ℕ → ℕ → List Task
 made_tasks x n = list_below n (made_task x n)
 
@@ -40,6 +41,7 @@ abbrev pub made_row : List Task → ℕ → ℕ → DemandRow
 made_row tasks x r =
     let i = r / 4 in record { task = i; job = r % 4 + 1; units = draw x r % ((task_at tasks i).worst + 1) }
 
+-- the demand list of all rows
 abbrev pub made_demands : List Task → ℕ → DemandsOf
 made_demands tasks x = record {
   worsts = map (λ t. t.worst) tasks;
