@@ -17,7 +17,7 @@ use Rattle.trace_text.proofs.NoteLines.{plain-word, plain-scheduler, plain-gover
 use Rattle.task_model.specs.declared.task.Task.{Task}
 use Rattle.task_model.specs.Tasks.{no_task, task_at}
 use Rattle.grid_fraction.specs.declared.Frac.{Frac}
-use Rattle.sched_model.specs.declared.bounds.TheConstants.{MOST_TICKS}
+use Rattle.dvs_base.specs.declared.limits.TheConstants.{MOST_TICKS}
 use Rattle.sched_model.specs.Plan.{Plan, count, names, period}
 use Rattle.sched_model.specs.Jobs.{release, due}
 use Rattle.sched_model.specs.Ticks.{Tick, at, exec}

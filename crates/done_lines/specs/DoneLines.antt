@@ -5,7 +5,7 @@ use Rattle.dvs_base.specs.declared.kind.GovernorKind.{GovernorKind}
 use Rattle.dvs_base.specs.declared.note.Pos.{Pos}
 use Rattle.trace_text.specs.TraceLines.{line, done_fields, name_of}
 use Rattle.trace_text.specs.TextLines.{lines_of}
-use Rattle.sched_model.specs.declared.bounds.TheConstants.{MOST_TICKS}
+use Rattle.dvs_base.specs.declared.limits.TheConstants.{MOST_TICKS}
 use Rattle.sched_model.specs.Plan.{Plan, count, names}
 use Rattle.sched_model.specs.Schedule.{schedule}
 use Rattle.sched_model.specs.Deadlines.{IsMet}

@@ -6,3 +6,4 @@ pub mod Parts
 pub mod Checks
 pub mod Settings
 pub mod Pairs
+pub mod PlanWords

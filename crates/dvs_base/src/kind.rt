@@ -1,4 +1,4 @@
-// The schedulers and the kinds of governors.
+// The schedulers, the kinds of governors and the versions of a trace.
 
 /// How the released jobs are ordered (Liu and Layland 1973).
 #[derive(Clone, Copy, Debug, PartialEq, Eq)]
@@ -20,4 +20,13 @@ pub enum GovernorKind {
     Cycle,
     /// `la`, look-ahead: work is put off as far as the deadlines allow.
     Ahead,
+}
+
+/// What the text of a trace has.
+#[derive(Clone, Copy, Debug, PartialEq, Eq)]
+pub enum Version {
+    /// The plan and the notes.
+    One,
+    /// The tasks too, and the energy of each.
+    Two,
 }

@@ -4,7 +4,8 @@
 //! the count of faults rose in that call, the count never falls, and what is sure does not fail. `MemShelf` and `MemSink`
 //! stand for the outside in memory and say exactly what each call does, `VoidSink` keeps nothing, and `HostShelf` and
 //! `HostSink` are the edge to the system.
-//! [`whole`], [`wide`], [`Name`] and [`Short`] read text exactly; [`Line`] and what fills it take no memory.
+//! [`whole`], [`wide`], [`Name`] and [`Short`] read text exactly, and so do the calls that read the words of a plan,
+//! [`scheduler_of`], [`governor_of`] and [`ticks_of`]; [`Line`] and what fills it take no memory.
 //! [`read_document`] gives a settings file's TOML document, and the calls beside it what stands at its keys: each answer
 //! is that of `specs/Settings.antt`, and no other call of them takes memory.
 #![tactic(auto)]
@@ -19,12 +20,13 @@ mod note;
 mod number;
 mod outside;
 mod part;
+mod plan_word;
 mod settings;
 mod void;
 
 pub use host::{HostShelf, HostSink};
-pub use kind::{GovernorKind, Scheduler};
-pub use limits::LONGEST_FILE;
+pub use kind::{GovernorKind, Scheduler, Version};
+pub use limits::{LONGEST_FILE, LONGEST_TRACE, MOST_JOBS, MOST_TICKS};
 pub use line::{Line, put_num};
 pub use memory::{FailAt, MemShelf, MemSink};
 pub use name::{Name, Short};
@@ -32,6 +34,7 @@ pub use note::{Note, Pos, Totals};
 pub use number::{whole, wide};
 pub use outside::{Failed, LoadFault, NoMemory, Shelf, Sink};
 pub use part::{Part, line_of};
+pub use plan_word::{governor_of, is_pair, scheduler_of, ticks_of};
 pub use settings::{
     DocumentFault, MemberFault, member_at, number_at, read_document, text_at, unknown_key,
 };

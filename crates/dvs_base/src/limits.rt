@@ -1,4 +1,13 @@
-// The limits of files.
+// The limits of runs and of files.
+
+/// The most ticks of a run.
+pub const MOST_TICKS: u64 = 1 << 40;
+
+/// The most jobs that a run may release.
+pub const MOST_JOBS: u64 = 100_000;
 
 /// The most bytes of a task, machine or demand file: 16 MiB.
 pub const LONGEST_FILE: u64 = 1 << 24;
+
+/// The most bytes of a trace file: 256 MiB.
+pub const LONGEST_TRACE: u64 = 1 << 28;

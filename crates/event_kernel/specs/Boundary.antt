@@ -12,7 +12,7 @@ use Rattle.sched_model.specs.States.{row_at, released_row, prior_state, StateOf}
 use Rattle.event_kernel.specs.declared.trace.Trace.{Trace}
 use Rattle.governor.specs.Schedule.{ask_of, course}
 use Rattle.event_kernel.specs.Sums.{sums_of}
-use Rattle.sched_model.specs.declared.bounds.TheConstants.{MOST_TICKS}
+use Rattle.dvs_base.specs.declared.limits.TheConstants.{MOST_TICKS}
 use Rattle.event_kernel.specs.Segment.{cost, told_trace, written_notes}
 use Rattle.sched_model.specs.Demands.{IsWithin}
 use Rattle.freq_table.specs.Tables.{lowest_entry}

@@ -13,7 +13,7 @@ use Rattle.event_kernel.specs.declared.run.InForce.{InForce}
 use Rattle.event_kernel.specs.declared.trace.Trace.{Trace}
 use Rattle.event_kernel.specs.Heard.{TellsOn}
 use Rattle.event_kernel.specs.Runs.{demands_of, IsListOf}
-use Rattle.sched_model.specs.declared.bounds.TheConstants.{MOST_TICKS}
+use Rattle.dvs_base.specs.declared.limits.TheConstants.{MOST_TICKS}
 use Rattle.event_kernel.specs.Boundary.{IsAtBoundary, IsBetween}
 use Rattle.event_kernel.specs.Tickwork.{HasWorked}
 use Rattle.event_kernel.specs.Walking.{IsInSpan, IsLastTick, HasWalked, told_before, told_in, told_after}

@@ -11,7 +11,7 @@ use Rattle.sched_model.specs.Segments.{Span, units_of}
 use Rattle.sched_model.specs.States.{row_at, prior_state, StateOf, state_of}
 use Rattle.event_kernel.specs.declared.trace.Trace.{Trace}
 use Rattle.governor.specs.Schedule.{ask_of, course}
-use Rattle.sched_model.specs.declared.bounds.TheConstants.{MOST_TICKS}
+use Rattle.dvs_base.specs.declared.limits.TheConstants.{MOST_TICKS}
 use Rattle.event_kernel.specs.Segment.{grown, open_span}
 use Rattle.event_kernel.specs.Writing.{Writing}
 use Rattle.sched_model.specs.Demands.{IsWithin}

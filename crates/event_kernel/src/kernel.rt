@@ -5,7 +5,7 @@ ghost use Rattle.sched_model.specs.Totals.{totals_of};
 ghost use Rattle.sched_model.specs.States.{opening};
 ghost use Rattle.event_kernel.specs.Heard.{HasHeard, HasBalked};
 ghost use Rattle.sched_model.specs.Jobs.{released_jobs};
-ghost use Rattle.sched_model.specs.declared.bounds.TheConstants.{MOST_JOBS, MOST_TICKS};
+ghost use Rattle.dvs_base.specs.declared.limits.TheConstants.{MOST_JOBS, MOST_TICKS};
 ghost use Rattle.event_kernel.specs.Runs.{IsListOf, notes_of_run, MeetsDeadlines, MeetsDemands};
 ghost use Rattle.dvs_base.specs.Outside.{Rose};
 
@@ -14,9 +14,9 @@ use crate::span::Walk;
 use crate::trace::Trace;
 use crate::{Listener, Stopped};
 use demand_list::Demands;
-use dvs_base::{Note, Totals};
+use dvs_base::{MOST_JOBS, Note, Totals};
 use governor::Governor;
-use sched_model::{Admitted, MOST_JOBS, State};
+use sched_model::{Admitted, State};
 use std::alloc::Global;
 use std::marker::Model;
 
@@ -54,7 +54,7 @@ pub struct Kernel<'a, G: Governor> {
 impl<'a, G: Governor> Model for Kernel<'a, G> {
     ghost use Rattle.std.specs.Prelude.{◌≡◌, ◌≤◌};
     ghost use Rattle.sched_model.specs.States.{opening};
-    ghost use Rattle.sched_model.specs.declared.bounds.TheConstants.{MOST_TICKS};
+    ghost use Rattle.dvs_base.specs.declared.limits.TheConstants.{MOST_TICKS};
     ghost use Rattle.event_kernel.specs.Runs.{Run, IsListOf};
 
     ghost Value = { Run };

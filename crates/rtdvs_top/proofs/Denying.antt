@@ -20,7 +20,7 @@ use Rattle.demand_list.specs.declared.fault.DemandFault.TheVariants as demand_fa
 use Rattle.sched_model.specs.Plan.{Plan, period, hyper, top_speed}
 use Rattle.sched_model.specs.Tests.{total_rate, level_work}
 use Rattle.sched_model.specs.Admission.{PassesTest}
-use Rattle.sched_model.specs.declared.bounds.TheConstants.{MOST_JOBS}
+use Rattle.dvs_base.specs.declared.limits.TheConstants.{MOST_JOBS}
 use Rattle.rtdvs_top.specs.Answer.{bytes_from, bytes_at, tasks_from, machine_from, demands_from, tasks_at, machine_at, demands_at, admission, admission_by, admission_from, first_overloaded, within_jobs, longest}
 use Rattle.rtdvs_top.specs.Promises.{DeniedPlan}
 use Rattle.rtdvs_top.specs.declared.status.Denied.{Denied}

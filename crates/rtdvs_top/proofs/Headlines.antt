@@ -11,7 +11,7 @@ use Rattle.sched_model.specs.Plan.{Plan, plan_of}
 use Rattle.sched_model.specs.Demands.{demand_of}
 use Rattle.sched_model.specs.Text.{run_text}
 use Rattle.sched_model.specs.Jobs.{released_jobs}
-use Rattle.sched_model.specs.declared.bounds.TheConstants.{MOST_JOBS}
+use Rattle.dvs_base.specs.declared.limits.TheConstants.{MOST_JOBS}
 use Rattle.rtdvs_top.specs.Words.{RunOf, CommandOf, run, admit}
 use Rattle.rtdvs_top.specs.Answer.{tasks_at, machine_at, demands_at, admission, within_jobs, prepared_of, answer_of_prepared, answer_of_tasks, answer_of_command}
 use Rattle.rtdvs_top.specs.Promises.{Means, DoneRun, DeniedPlan, OfRun, RunsOrIsDenied, Answers, Headline}

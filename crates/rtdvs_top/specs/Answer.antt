@@ -28,7 +28,7 @@ use Rattle.sched_model.specs.StaticDemand.{static_demand}
 use Rattle.sched_model.specs.Text.{run_text}
 use Rattle.sched_model.specs.Jobs.{released_jobs}
 use Rattle.event_kernel.specs.Runs.{Run}
-use Rattle.sched_model.specs.declared.bounds.TheConstants.{MOST_JOBS}
+use Rattle.dvs_base.specs.declared.limits.TheConstants.{MOST_JOBS}
 use Rattle.rtdvs_top.specs.Words.{RunOf, AdmitOf, CommandOf, run, admit}
 use Rattle.rtdvs_top.specs.declared.status.FileKind.{FileKind}
 use Rattle.rtdvs_top.specs.declared.status.FileKind.TheVariants as file

@@ -11,7 +11,7 @@ use Rattle.sched_model.specs.Plan.{Plan, plan_of}
 use Rattle.sched_model.specs.Admission.{PassesTest}
 use Rattle.sched_model.specs.Jobs.{released_jobs}
 use Rattle.event_kernel.specs.Runs.{Run}
-use Rattle.sched_model.specs.declared.bounds.TheConstants.{MOST_JOBS}
+use Rattle.dvs_base.specs.declared.limits.TheConstants.{MOST_JOBS}
 use Rattle.rtdvs_top.specs.Words.{RunOf, CommandOf, command_of, run}
 use Rattle.rtdvs_top.specs.Answer.{answer_of_command, prepared_of, admission, tasks_at, machine_at, demands_at}
 use Rattle.rtdvs_top.specs.Naming.{names_by}

@@ -3,7 +3,7 @@ use Rattle.std.specs.Prelude.{◌<◌, ⊤}
 use Rattle.task_model.specs.declared.fault.TaskFault.TheVariants as task_fault
 use Rattle.freq_table.specs.declared.fault.MachineFault.TheVariants as machine_fault
 use Rattle.demand_list.specs.declared.fault.DemandFault.TheVariants as demand_fault
-use Rattle.sched_model.specs.declared.bounds.TheConstants.{MOST_JOBS}
+use Rattle.dvs_base.specs.declared.limits.TheConstants.{MOST_JOBS}
 use Rattle.rtdvs_top.specs.declared.status.TextFault.{TextFault}
 use Rattle.rtdvs_top.specs.declared.status.TextFault.TheVariants as text
 use Rattle.rtdvs_top.specs.declared.status.Denied.{Denied}

@@ -5,7 +5,6 @@
 //! `State` to change exactly what it says, and on a plan to have exactly one schedule of each length.
 #![tactic(auto)]
 
-mod bounds;
 mod holder;
 mod order;
 mod plan;
@@ -14,7 +13,6 @@ mod state;
 mod static_demand;
 mod sums;
 
-pub use bounds::{MOST_JOBS, MOST_TICKS};
 pub use holder::Holder;
 pub use order::stands_before;
 pub use plan::Admitted;

@@ -9,7 +9,7 @@ use Rattle.std.proofs.lemmas.Option.{same_Some}
 use Rattle.std.proofs.lemmas.Slice.Eq.{bytes_eq-Decides}
 use Rattle.dvs_base.specs.Text.{number_below}
 use Rattle.trace_text.specs.Words.{scheduler_word, governor_word}
-use Rattle.trace_reader.specs.PlanWords.{scheduler_of, governor_of, ticks_from, ticks_of}
+use Rattle.dvs_base.specs.PlanWords.{scheduler_of, governor_of, ticks_from, ticks_of}
 use Rattle.dvs_base.specs.Pairs.{is_pair}
 use Rattle.dvs_base.specs.Parts.{joined}
 use Rattle.trace_text.specs.TraceLines.{line, plan_text}
@@ -18,8 +18,8 @@ use Rattle.dvs_base.specs.declared.kind.Scheduler.{Scheduler}
 use Rattle.dvs_base.specs.declared.kind.Scheduler.TheVariants.{Edf, Rm}
 use Rattle.dvs_base.specs.declared.kind.GovernorKind.{GovernorKind}
 use Rattle.dvs_base.specs.declared.kind.GovernorKind.TheVariants.{Plain, Fixed, Cycle, Ahead}
-use Rattle.trace_reader.specs.declared.trace.Version.{Version}
-use Rattle.trace_reader.specs.declared.trace.Version.TheVariants.{One, Two}
+use Rattle.dvs_base.specs.declared.kind.Version.{Version}
+use Rattle.dvs_base.specs.declared.kind.Version.TheVariants.{One, Two}
 use Rattle.trace_reader.proofs.Spelled.{number_below-decimal, number_below-found}
 use Rattle.trace_text.specs.declared.write.PlanLine.{PlanLine}
 use Rattle.trace_reader.specs.declared.trace.TaskLine.{TaskLine}

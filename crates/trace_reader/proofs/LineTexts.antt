@@ -10,7 +10,7 @@ use Rattle.dvs_base.specs.Parts.{position_text, fraction_text}
 use Rattle.dvs_base.proofs.Decimals.{length-decimal_u64, length-decimal_u128, length-position_text, length-fraction_text}
 use Rattle.dvs_base.specs.declared.note.Pos.{Pos}
 use Rattle.dvs_base.specs.declared.note.Note.TheVariants.{Release, Speed, Run, Idle, Done, End}
-use Rattle.trace_reader.specs.declared.trace.Version.{Version}
+use Rattle.dvs_base.specs.declared.kind.Version.{Version}
 use Rattle.trace_reader.specs.declared.line.Item.{Item}
 use Rattle.trace_reader.specs.declared.line.Item.TheVariants.{Told, Share}
 use Rattle.trace_reader.specs.declared.trace.TraceFault.TheVariants.{Refused}

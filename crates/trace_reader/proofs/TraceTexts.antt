@@ -10,8 +10,8 @@ use Rattle.trace_text.specs.TraceLines.{note_text, plan_text}
 use Rattle.trace_reader.specs.VersionLines.{version_line}
 use Rattle.trace_reader.specs.TraceText.{energy_of_task, told_text, whole_text}
 use Rattle.dvs_base.specs.declared.note.Note.{Note}
-use Rattle.trace_reader.specs.declared.trace.Version.{Version}
-use Rattle.trace_reader.specs.declared.trace.Version.TheVariants.{One, Two}
+use Rattle.dvs_base.specs.declared.kind.Version.{Version}
+use Rattle.dvs_base.specs.declared.kind.Version.TheVariants.{One, Two}
 use Rattle.trace_text.specs.declared.write.PlanLine.{PlanLine}
 use Rattle.trace_reader.specs.declared.trace.TraceFault.{TraceFault}
 use Rattle.trace_reader.specs.declared.trace.TraceFault.TheVariants.{Refused, NoMemory}

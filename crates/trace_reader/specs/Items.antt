@@ -5,8 +5,8 @@ use Rattle.std.specs.Prelude.{ℕ, ◌<◌, List, [], ◌∷◌, codes, Result, 
 use Rattle.std.specs.Option.{ok_or}
 use Rattle.std.specs.Str.{bytes_eq}
 use Rattle.dvs_base.specs.declared.note.Note.TheVariants.{Release, Speed, Run, Idle, Done, End}
-use Rattle.trace_reader.specs.declared.trace.Version.{Version}
-use Rattle.trace_reader.specs.declared.trace.Version.TheVariants.{One, Two}
+use Rattle.dvs_base.specs.declared.kind.Version.{Version}
+use Rattle.dvs_base.specs.declared.kind.Version.TheVariants.{One, Two}
 use Rattle.trace_reader.specs.declared.line.Item.{Item}
 use Rattle.trace_reader.specs.declared.line.Item.TheVariants.{Told, Share}
 use Rattle.trace_reader.specs.declared.trace.TraceKind.{TraceKind}

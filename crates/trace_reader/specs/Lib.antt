@@ -1,5 +1,4 @@
 pub mod VersionLines
-pub mod PlanWords
 pub mod TraceText
 pub mod Fields
 pub mod Items

@@ -1,8 +1,8 @@
 -- The lines that tell a version, and those that version 2 alone has.
 use Rattle.std.specs.Prelude.{ℕ, List, [], ◌∷◌, codes, decimal}
 use Rattle.trace_text.specs.TraceLines.{line, version_text}
-use Rattle.trace_reader.specs.declared.trace.Version.{Version}
-use Rattle.trace_reader.specs.declared.trace.Version.TheVariants.{One, Two}
+use Rattle.dvs_base.specs.declared.kind.Version.{Version}
+use Rattle.dvs_base.specs.declared.kind.Version.TheVariants.{One, Two}
 
 -- the first line of a trace, its version
 abbrev pub version_line : Version → List ℕ

@@ -9,9 +9,8 @@ ghost use Rattle.trace_reader.specs.Traces.{task_lines};
 
 use crate::parts::four;
 use crate::read::line_at;
-use crate::words::{governor_of, is_pair, scheduler_of, ticks_of};
-use crate::{TaskLine, TraceFault, TraceKind, Version, write_task};
-use dvs_base::{Line, Name};
+use crate::{TaskLine, TraceFault, TraceKind, write_task};
+use dvs_base::{Line, Name, Version, governor_of, is_pair, scheduler_of, ticks_of};
 use trace_text::PlanLine;
 
 // The version that the first line names, of those up to the newest that is read.

@@ -11,11 +11,10 @@ mod parts;
 mod read;
 mod shares;
 mod trace;
-mod words;
 mod write;
 
 pub use read::{read_any, read_trace};
-pub use trace::{TaskLine, Trace, TraceFault, TraceKind, Version};
+pub use trace::{TaskLine, Trace, TraceFault, TraceKind};
 pub use write::{write_share, write_task, write_version};
 
 #[cfg(test)]

@@ -5,8 +5,8 @@ ghost use Rattle.trace_reader.specs.Items.{release_in, speed_in, run_in, idle_in
 
 use crate::fields::{fraction_in, position_in, task_in, whole_in, wide_in};
 use crate::parts::{cut, four, six, three, two};
-use crate::{TraceKind, Version};
-use dvs_base::{Name, Note};
+use crate::TraceKind;
+use dvs_base::{Name, Note, Version};
 
 /// A note, or in version 2 the energy of a task.
 #[derive(Clone, Copy, Debug, PartialEq, Eq)]

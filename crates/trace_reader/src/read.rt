@@ -2,7 +2,7 @@
 ghost use Rattle.std.specs.Prelude.{◌≡◌, ◌≢◌, ℕ, ◌≤◌, ◌<◌, ◌∷◌, [], List, length, IfOk, Ok, Err, true, if◌then◌else◌};
 ghost use Rattle.std.specs.List.{AllPairs};
 ghost use Rattle.dvs_base.specs.declared.note.Note.{Note};
-ghost use Rattle.trace_reader.specs.declared.trace.Version.TheVariants.{Two};
+ghost use Rattle.dvs_base.specs.declared.kind.Version.TheVariants.{Two};
 ghost use Rattle.dvs_base.specs.Checks.{IsUnlessMemory};
 ghost use Rattle.dvs_base.specs.Text.{is_name};
 ghost use Rattle.trace_text.specs.TraceLines.{name_of};
@@ -19,8 +19,8 @@ use crate::head::{plan_of, read_tasks, version_of};
 use crate::line::{Item, item_of};
 use crate::parts::cut;
 use crate::shares::Shares;
-use crate::{TaskLine, Trace, TraceFault, TraceKind, Version};
-use dvs_base::{Name, Note};
+use crate::{TaskLine, Trace, TraceFault, TraceKind};
+use dvs_base::{Name, Note, Version};
 use std::alloc::Global;
 
 fn refused(line: u64, kind: TraceKind) -> TraceFault

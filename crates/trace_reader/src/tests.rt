@@ -2,7 +2,7 @@
 ghost use Rattle.std.specs.Prelude.{◌≡◌, [], ◌∷◌, codes, IfOk};
 
 use super::*;
-use dvs_base::{Line, Name, Note, Pos};
+use dvs_base::{Line, Name, Note, Pos, Version};
 use std::alloc::Global;
 use std::test::Fail;
 

@@ -1,17 +1,8 @@
 // What a trace holds, and why a text is none.
 
-use dvs_base::Note;
+use dvs_base::{Note, Version};
 use std::marker::Model;
 use trace_text::PlanLine;
-
-/// What the text of a trace has.
-#[derive(Clone, Copy, Debug, PartialEq, Eq)]
-pub enum Version {
-    /// The plan and the notes.
-    One,
-    /// The tasks too, and the energy of each.
-    Two,
-}
 
 /// A task of a trace of version 2: its period and its first release in ticks, and its declared worst case in work
 /// units.

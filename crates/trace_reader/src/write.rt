@@ -2,8 +2,8 @@
 ghost use Rattle.std.specs.Prelude.{◌≡◌, []};
 ghost use Rattle.trace_reader.specs.VersionLines.{version_line, task_text, share_text};
 
-use crate::{TaskLine, Version};
-use dvs_base::{Line, Name, Part, line_of};
+use crate::TaskLine;
+use dvs_base::{Line, Name, Part, Version, line_of};
 
 /// Writes the first line of a trace, its version, with its line feed.
 pub fn write_version(line: &mut Line, version: Version)

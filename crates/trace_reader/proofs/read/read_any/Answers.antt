@@ -1,5 +1,5 @@
 use Rattle.std.proofs.Common.{subst}
-use Rattle.trace_reader.specs.declared.trace.Version.TheVariants.{Two}
+use Rattle.dvs_base.specs.declared.kind.Version.TheVariants.{Two}
 use Rattle.dvs_base.specs.Checks.{IsUnlessMemory}
 use Rattle.trace_reader.specs.declared.trace.TraceFault.TheVariants.{NoMemory}
 use Rattle.trace_reader.specs.TraceFile.{trace_file}

@@ -1,5 +1,5 @@
 use Rattle.std.proofs.Common.{◌≡◌, ℕ, List, [], ◌∷◌, refl, subst}
-use Rattle.trace_reader.specs.declared.trace.Version.TheVariants.{One}
+use Rattle.dvs_base.specs.declared.kind.Version.TheVariants.{One}
 use Rattle.dvs_base.specs.Checks.{IsUnlessMemory}
 use Rattle.trace_reader.specs.declared.trace.TraceFault.TheVariants.{NoMemory}
 use Rattle.trace_reader.specs.TraceFile.{trace_file}

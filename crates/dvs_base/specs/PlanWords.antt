@@ -1,7 +1,8 @@
--- What the words of a plan line say.
+-- What the words of a plan say: its scheduler, its governor and its number of ticks.
 use Rattle.std.specs.Prelude.{ℕ, ◌^◌, ◌&&◌, List, codes, nat_le, Option, Some, None, if◌then◌else◌}
 use Rattle.std.specs.Str.{bytes_eq}
 use Rattle.dvs_base.specs.Text.{number_below}
+use Rattle.dvs_base.specs.declared.limits.TheConstants.{MOST_TICKS}
 use Rattle.dvs_base.specs.declared.kind.Scheduler.{Scheduler}
 use Rattle.dvs_base.specs.declared.kind.Scheduler.TheVariants.{Edf, Rm}
 use Rattle.dvs_base.specs.declared.kind.GovernorKind.{GovernorKind}
@@ -21,10 +22,10 @@ governor_of word =
     else (if bytes_eq word (codes "cc") then Some Cycle
     else (if bytes_eq word (codes "la") then Some Ahead else None)))
 
--- a number of ticks of a run: 1 to 2^40
+-- a number of ticks of a run: 1 to the most
 abbrev pub ticks_from : Option ℕ → Option ℕ
 ticks_from None = None
-ticks_from (Some n) = if nat_le 1 n && nat_le n (2 ^ 40) then Some n else None
+ticks_from (Some n) = if nat_le 1 n && nat_le n MOST_TICKS then Some n else None
 
 -- the number of ticks that a word is
 abbrev pub ticks_of : List ℕ → Option ℕ

@@ -1,15 +1,12 @@
-// What the words of a plan line say.
+// What the words of a plan say.
 ghost use Rattle.std.specs.Prelude.{◌≡◌};
 ghost use Rattle.dvs_base.specs.Pairs.{is_pair};
-ghost use Rattle.trace_reader.specs.PlanWords.{scheduler_of, governor_of, ticks_of};
+ghost use Rattle.dvs_base.specs.PlanWords.{scheduler_of, governor_of, ticks_of};
 
-use dvs_base::{GovernorKind, Scheduler, whole};
+use crate::{GovernorKind, MOST_TICKS, Scheduler, whole};
 
-// The most ticks of a run.
-const MOST_TICKS: u64 = 1 << 40;
-
-// The scheduler of a word. None exactly for every other text.
-pub(crate) fn scheduler_of(word: &[u8]) -> Option<Scheduler>
+/// The scheduler of a word, `edf` or `rm`. None exactly for every other text.
+pub fn scheduler_of(word: &[u8]) -> Option<Scheduler>
     ensures { result ≡ scheduler_of word.now }
 {
     if word == b"edf".as_slice() {
@@ -21,8 +18,8 @@ pub(crate) fn scheduler_of(word: &[u8]) -> Option<Scheduler>
     }
 }
 
-// The governor of a word. None exactly for every other text.
-pub(crate) fn governor_of(word: &[u8]) -> Option<GovernorKind>
+/// The governor of a word: `none`, `static`, `cc` or `la`. None exactly for every other text.
+pub fn governor_of(word: &[u8]) -> Option<GovernorKind>
     ensures { result ≡ governor_of word.now }
 {
     if word == b"none".as_slice() {
@@ -38,15 +35,15 @@ pub(crate) fn governor_of(word: &[u8]) -> Option<GovernorKind>
     }
 }
 
-// Whether the scheduler and the governor are one of the seven pairs: look-ahead stands under EDF alone.
-pub(crate) fn is_pair(scheduler: Scheduler, governor: GovernorKind) -> bool
+/// Whether the scheduler and the governor are one of the seven pairs: look-ahead stands under EDF alone.
+pub fn is_pair(scheduler: Scheduler, governor: GovernorKind) -> bool
     ensures { result ≡ is_pair scheduler governor }
 {
     scheduler == Scheduler::Edf || governor != GovernorKind::Ahead
 }
 
-// A number of ticks of a run, 1 to 2^40. None exactly for every other text.
-pub(crate) fn ticks_of(word: &[u8]) -> Option<u64>
+/// The number of ticks of a run that a word is, 1 to [`MOST_TICKS`]. None exactly for every other text.
+pub fn ticks_of(word: &[u8]) -> Option<u64>
     ensures { result ≡ ticks_of word.now }
 {
     match whole(word) {
