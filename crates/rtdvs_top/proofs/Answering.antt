@@ -1,14 +1,14 @@
 -- The status is the answer's, from how the answer ends and why its loads failed.
-use Rattle.std.proofs.Common.{◌≡◌, ◌⊎◌, inl, inr, ℕ, List, Option, Some, None, Result, Ok, Err, IsOk, refl, sym, subst, true≢false, ◌∙◌}
+use Rattle.std.proofs.Common.{◌≡◌, ◌⊎◌, inl, inr, ℕ, List, Option, Some, None, Result, Ok, Err, IsOk, refl, ap, sym, subst, arith, true≢false, ◌∙◌}
 use Rattle.dvs_base.specs.Outside.{Files, ShelfView, SinkView, Rose, Lacks, file_of}
 use Rattle.dvs_base.specs.Checks.{and_then}
 use Rattle.task_model.specs.declared.task.Task.{Task}
 use Rattle.freq_table.specs.Tables.{Table}
-use Rattle.rtdvs_top.specs.Words.{RunOf, CommandOf, run, admit}
-use Rattle.rtdvs_top.specs.Answer.{tasks_at, machine_at, demands_at, tasks_name, answer_of_tasks, answer_of_command}
-use Rattle.rtdvs_top.specs.Causes.{LoadOf, NamedLoadFails, PassesBefore, machine_name}
-use Rattle.rtdvs_top.specs.Ending.{EndsAs}
-use Rattle.rtdvs_top.specs.Promises.{Answers}
+use Rattle.rtdvs_top.specs.Words.{RunOf, CommandOf, run, admit, workload}
+use Rattle.rtdvs_top.specs.Answer.{tasks_at, machine_at, demands_at, run_after_tasks, admit_after_tasks, answer_of_command}
+use Rattle.rtdvs_top.specs.Causes.{LoadOf, NamedLoadFails, PassesBefore, files_for}
+use Rattle.rtdvs_top.specs.Ending.{EndsAs, Leaves}
+use Rattle.rtdvs_top.specs.Promises.{Answers, IsSureOf}
 use Rattle.rtdvs_top.specs.declared.status.FileKind.{FileKind}
 use Rattle.rtdvs_top.specs.declared.status.FileKind.TheVariants as file
 use Rattle.rtdvs_top.specs.declared.status.Status.{Status}
@@ -25,15 +25,6 @@ given-value (Ok a) h = (a, refl)
 given-value (Err s) h = absurd (true≢false (sym h))
 
 module _ (files : Files) where
-  lacks-tasks : (c : CommandOf) → file_of files (tasks_name c) ≡ None
-      → answer_of_command c files ≡ Err (status.Load file.Tasks)
-  lacks-tasks c lacks = rw lacks refl
-
-  lacks-machine : (c : CommandOf) (tasks : List Task) → file_of files (machine_name c) ≡ None
-      → answer_of_tasks c tasks files ≡ Err (status.Load file.Machine)
-  lacks-machine (run r) tasks lacks = rw lacks refl
-  lacks-machine (admit a) tasks lacks = rw lacks refl
-
   lacks-demands : (old new : ShelfView) (tasks : List Task) (name : Option (List ℕ)) → old.held ≡ Some files
       → NamedLoadFails old new 3 name
       → (demands_at tasks name files ≡ Err (status.Load file.Demands)) ⊎ Rose old.faults new.faults
@@ -45,26 +36,41 @@ module _ (files : Files) where
 
   demands-answer : (r : RunOf) (tasks : List Task) (machine : Table) → machine_at r.machine files ≡ Ok machine
       → demands_at tasks r.demands files ≡ Err (status.Load file.Demands)
-      → answer_of_tasks (run r) tasks files ≡ Err (status.Load file.Demands)
+      → run_after_tasks r tasks files ≡ Err (status.Load file.Demands)
   demands-answer r tasks machine m e = rw (m, e) refl
 
+  -- a told shelf lacks a name that its files lack
+  gone : (old : ShelfView) (name : List ℕ) → old.held ≡ Some files → Lacks old.held name → file_of files name ≡ None
+  gone old name told lacks = subst (λ (t : Option Files). Lacks t name) told lacks
+
   -- where a file of the command is lacking, and those before it were read, the answer is that its load fails
-  lacks-answer : (old new : ShelfView) (c : CommandOf) (kind : FileKind) → old.held ≡ Some files
+  lacks-answer : (old new : ShelfView) (c : CommandOf) (kind : FileKind) → files_for old.held c ≡ Some files
       → LoadOf old new c (status.Load kind) → PassesBefore (Some files) c (status.Load kind)
       → (answer_of_command c files ≡ Err (status.Load kind)) ⊎ Rose old.faults new.faults
-  lacks-answer old new c file.Tasks told (inl lacks) passes = inl (lacks-tasks c (subst (λ (t : Option Files). Lacks t (tasks_name c)) told lacks))
-  lacks-answer old new c file.Tasks told (inr rose) passes = inr rose.0
-  lacks-answer old new c file.Machine told (inl lacks) passes =
-      let g = given-next (tasks_at (tasks_name c) files) (λ tasks. answer_of_tasks c tasks files) passes in
-      inl (g.2 ∙ lacks-machine c g.0 (subst (λ (t : Option Files). Lacks t (machine_name c)) told lacks))
-  lacks-answer old new c file.Machine told (inr rose) passes = inr rose.0
+  lacks-answer old new (workload seed) file.Tasks told fails passes = absurd fails
+  lacks-answer old new (workload seed) file.Machine told fails passes = absurd fails
+  lacks-answer old new (workload seed) file.Demands told fails passes = absurd fails
+  lacks-answer old new (run r) file.Tasks told (inl lacks) passes = inl (rw (gone old r.tasks told lacks) refl)
+  lacks-answer old new (run r) file.Tasks told (inr rose) passes = inr rose.0
+  lacks-answer old new (admit a) file.Tasks told (inl lacks) passes = inl (rw (gone old a.tasks told lacks) refl)
+  lacks-answer old new (admit a) file.Tasks told (inr rose) passes = inr rose.0
+  lacks-answer old new (run r) file.Machine told (inl lacks) passes =
+      let g = given-next (tasks_at r.tasks files) (λ tasks. run_after_tasks r tasks files) passes in
+      let after : run_after_tasks r g.0 files ≡ Err (status.Load file.Machine) = rw (gone old r.machine told lacks) refl in
+      inl (g.2 ∙ after)
+  lacks-answer old new (run r) file.Machine told (inr rose) passes = inr rose.0
+  lacks-answer old new (admit a) file.Machine told (inl lacks) passes =
+      let g = given-next (tasks_at a.tasks files) (λ tasks. admit_after_tasks a tasks files) passes in
+      let after : admit_after_tasks a g.0 files ≡ Err (status.Load file.Machine) = rw (gone old a.machine told lacks) refl in
+      inl (g.2 ∙ after)
+  lacks-answer old new (admit a) file.Machine told (inr rose) passes = inr rose.0
   lacks-answer old new (admit a) file.Demands told fails passes = absurd fails
   lacks-answer old new (run r) file.Demands told fails passes =
-      let g = given-next (tasks_at r.tasks files) (λ tasks. answer_of_tasks (run r) tasks files) passes.0 in
+      let g = given-next (tasks_at r.tasks files) (λ tasks. run_after_tasks r tasks files) passes.0 in
       let m = given-value (machine_at r.machine files) passes.1 in
       go g.0 g.2 m.0 m.1 (lacks-demands old new g.0 r.demands told fails)
     where
-      go : (tasks : List Task) → answer_of_command (run r) files ≡ answer_of_tasks (run r) tasks files
+      go : (tasks : List Task) → answer_of_command (run r) files ≡ run_after_tasks r tasks files
           → (machine : Table) → machine_at r.machine files ≡ Ok machine
           → (demands_at tasks r.demands files ≡ Err (status.Load file.Demands)) ⊎ Rose old.faults new.faults
           → (answer_of_command (run r) files ≡ Err (status.Load file.Demands)) ⊎ Rose old.faults new.faults
@@ -72,7 +78,7 @@ module _ (files : Files) where
       go tasks next machine m (inr rose) = inr rose
 
 pub answers-of : (told : Option Files) (c : CommandOf) (old new : ShelfView) (out_old out_new : SinkView) (s : Status)
-    → old.held ≡ told
+    → files_for old.held c ≡ told
     → EndsAs out_old out_new told (answer_of_command c) s → LoadOf old new c s → PassesBefore told c s
     → Answers told (Some c) (Rose old.faults new.faults) (Rose out_old.faults out_new.faults) s
 answers-of None c old new out_old out_new s told ends load passes = tt
@@ -85,3 +91,20 @@ answers-of (Some files) c old new out_old out_new (status.Text why) told ends lo
 answers-of (Some files) c old new out_old out_new (status.Limit jobs) told ends load passes = ends
 answers-of (Some files) c old new out_old out_new (status.OverWorst task job units worst) told ends load passes = ends
 answers-of (Some files) c old new out_old out_new status.NoMemory told ends load passes = tt
+
+-- a sink that is sure of the whole answer counts no fault
+pub sure-of : {W : Type 0} (shows : W → SinkView) (told : Option Files) (c : CommandOf) (s : Status) (old new : W)
+    → EndsAs (shows old) (shows new) told (answer_of_command c) s → Leaves s old new → IsSureOf told (Some c) (shows old)
+    → (shows new).faults ≡ (shows old).faults
+sure-of shows None c s old new ends leaves sure = absurd sure
+sure-of shows (Some files) c status.Done old new ends leaves sure = ends.2.steady
+sure-of shows (Some files) c status.Write old new ends leaves sure =
+    let whole = sure ends.0 ends.1 in omega (arith, whole, ends.2.unsure)
+sure-of shows (Some files) c status.Words old new ends leaves sure = ap (λ w. (shows w).faults) leaves
+sure-of shows (Some files) c (status.NotAdmitted why) old new ends leaves sure = ap (λ w. (shows w).faults) leaves
+sure-of shows (Some files) c (status.Load kind) old new ends leaves sure = ap (λ w. (shows w).faults) leaves
+sure-of shows (Some files) c (status.Text why) old new ends leaves sure = ap (λ w. (shows w).faults) leaves
+sure-of shows (Some files) c (status.Limit jobs) old new ends leaves sure = ap (λ w. (shows w).faults) leaves
+sure-of shows (Some files) c (status.OverWorst task job units worst) old new ends leaves sure =
+    ap (λ w. (shows w).faults) leaves
+sure-of shows (Some files) c status.NoMemory old new ends leaves sure = ap (λ w. (shows w).faults) leaves

@@ -12,8 +12,8 @@ use Rattle.sched_model.specs.Demands.{demand_of}
 use Rattle.sched_model.specs.Text.{run_text}
 use Rattle.sched_model.specs.Jobs.{released_jobs}
 use Rattle.dvs_base.specs.declared.limits.TheConstants.{MOST_JOBS}
-use Rattle.rtdvs_top.specs.Words.{RunOf, CommandOf, run, admit}
-use Rattle.rtdvs_top.specs.Answer.{tasks_at, machine_at, demands_at, admission, within_jobs, prepared_of, answer_of_prepared, answer_of_tasks, answer_of_command}
+use Rattle.rtdvs_top.specs.Words.{RunOf, CommandOf, run, admit, workload}
+use Rattle.rtdvs_top.specs.Answer.{tasks_at, machine_at, demands_at, admission, within_jobs, prepared_of, answer_of_prepared, run_after_tasks, answer_of_command}
 use Rattle.rtdvs_top.specs.Promises.{Means, DoneRun, DeniedPlan, OfRun, RunsOrIsDenied, Answers, Headline}
 use Rattle.rtdvs_top.specs.Ending.{EndsAs, MetIn, HasMet, run_with}
 use Rattle.rtdvs_top.specs.declared.status.Denied.{Denied}
@@ -43,7 +43,7 @@ denied-means : (r : RunOf) (files : Files) (why : Denied)
     → answer_of_command (run r) files ≡ Err (status.NotAdmitted why)
     → (tasks : List Task) × (machine : Table) × (demands : DemandsOf) × Means r files tasks machine demands × DeniedPlan (plan_of tasks machine r.scheduler) why
 denied-means r files why e =
-    let t = denied-later (tasks_at r.tasks files) (λ tasks. answer_of_tasks (run r) tasks files) why (tasks_at-denies-not r.tasks files) e in
+    let t = denied-later (tasks_at r.tasks files) (λ tasks. run_after_tasks r tasks files) why (tasks_at-denies-not r.tasks files) e in
     let tasks : List Task = t.0 in
     let prepared = denied-first (prepared_of r tasks files) (answer_of_prepared r) why (λ x. within-denies-not (released_jobs x.0 r.ticks) (run_text x.0 r.governor (demand_of x.0 x.1.rows) r.ticks)) t.2 in
     let m = denied-later (machine_at r.machine files)
@@ -59,7 +59,7 @@ done-text : (r : RunOf) (files : Files) (tasks : List Task) (p : Plan) (d : Dema
     → answer_of_command (run r) files ≡ Ok bytes → bytes ≡ run_text p r.governor (demand_of p d.rows) r.ticks
 done-text r files tasks p d bytes t q e =
     within-text (released_jobs p r.ticks) (run_text p r.governor (demand_of p d.rows) r.ticks) bytes
-    (sym (ap (λ x. and_then x (answer_of_prepared r)) q) ∙ (sym (ap (λ x. and_then x (λ ts. answer_of_tasks (run r) ts files)) t) ∙ e))
+    (sym (ap (λ x. and_then x (answer_of_prepared r)) q) ∙ (sym (ap (λ x. and_then x (λ ts. run_after_tasks r ts files)) t) ∙ e))
   where
     text_of : Result (List ℕ) Status → List ℕ
     text_of (Ok bytes) = bytes
@@ -91,6 +91,7 @@ pub of-run : (told : Option Files) (c : CommandOf) (s : Status) (old new : SinkV
     → EndsAs old new told (answer_of_command c) s → MetIn told c s → OfRun told (Some c) old new s
 of-run None c s old new ends met = tt
 of-run (Some files) (admit a) s old new ends met = tt
+of-run (Some files) (workload seed) s old new ends met = tt
 of-run (Some files) (run r) status.Done old new ends met =
     done-run r files old new met.0 met.2.0 met.2.1 ends.0 met.1 met.2.2 ends.1 ends.2.bytes met.2.3
 of-run (Some files) (run r) (status.NotAdmitted why) old new ends met = denied-means r files why ends
@@ -175,5 +176,6 @@ pub headline-of : (told : Option Files) (c : Option CommandOf) (loads_rose : Typ
 headline-of None c loads_rose old new s of answers = tt
 headline-of (Some files) None loads_rose old new s of answers = tt
 headline-of (Some files) (Some (admit a)) loads_rose old new s of answers = tt
+headline-of (Some files) (Some (workload seed)) loads_rose old new s of answers = tt
 headline-of (Some files) (Some (run r)) loads_rose old new s of answers =
     λ tasks machine demands means few still whole_out memory. runs-or-is-denied r files tasks machine demands means few loads_rose old new s of answers still whole_out memory

@@ -12,3 +12,5 @@ pub mod Denying
 pub mod Headlines
 pub mod Answering
 pub mod Shows
+pub mod FewJobs
+pub mod FiveLines

@@ -13,7 +13,7 @@ use Rattle.sched_model.specs.Deadlines.{IsMet}
 use Rattle.sched_model.specs.Decision.{is_decision}
 use Rattle.freq_table.specs.Tables.{lowest_pick}
 use Rattle.sched_model.specs.Jobs.{released_jobs}
-use Rattle.event_kernel.specs.Runs.{Run, IsListOf}
+use Rattle.event_kernel.specs.Runs.{Run, IsListOf, notes_of_run}
 use Rattle.event_kernel.proofs.Demanding.{demand-within}
 use Rattle.sched_model.specs.Ticks.{Tick}
 use Rattle.sched_model.specs.States.{StateOf}
@@ -21,7 +21,9 @@ use Rattle.sched_model.specs.Demand.{published}
 use Rattle.sched_model.specs.Demands.{demand_of}
 use Rattle.sched_model.proofs.ScheduleLemmas.{schedule_exists}
 use Rattle.sched_model.proofs.Agreeing.{AgreeOnSchedules, same-schedule, same-notes}
+use Rattle.sched_model.specs.Totals.{totals_of}
 use Rattle.governor.specs.Schedule.{ask_of, Publishes}
+use Rattle.rtdvs_top.specs.WorkloadLines.{run_totals}
 use Rattle.rtdvs_top.specs.Answer.{answer_of_run, within_jobs}
 use Rattle.rtdvs_top.specs.Ending.{Ends, governed_answer, MeetsAll, MeetsAllOf}
 use Rattle.rtdvs_top.specs.declared.status.Status.{Status}
@@ -52,6 +54,9 @@ module _ (demand : Plan → StateOf → Frac) (kind : GovernorKind) (p : Plan) (
   -- the run of so many ticks
   abbrev pub run_of : ℕ → Run
   run_of ticks = record { plan = p; demands = d; ticks = ticks }
+
+  pub totals-published : (ticks : ℕ) → totals_of (notes_of_run demand (run_of ticks)) ≡ run_totals p d ticks kind
+  totals-published ticks = ap totals_of (same-run ticks)
 
   pub ended-published : (old new : SinkView) (ticks : ℕ) (s : Status)
       → Ends old new (governed_answer kind demand (run_of ticks)) s → Ends old new (answer_of_run kind (run_of ticks)) s

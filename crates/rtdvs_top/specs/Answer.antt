@@ -29,7 +29,8 @@ use Rattle.sched_model.specs.Text.{run_text}
 use Rattle.sched_model.specs.Jobs.{released_jobs}
 use Rattle.event_kernel.specs.Runs.{Run}
 use Rattle.dvs_base.specs.declared.limits.TheConstants.{MOST_JOBS}
-use Rattle.rtdvs_top.specs.Words.{RunOf, AdmitOf, CommandOf, run, admit}
+use Rattle.rtdvs_top.specs.Words.{RunOf, AdmitOf, CommandOf, run, admit, workload}
+use Rattle.rtdvs_top.specs.WorkloadLines.{workload_text, workload_tasks, workload_ticks}
 use Rattle.rtdvs_top.specs.declared.status.FileKind.{FileKind}
 use Rattle.rtdvs_top.specs.declared.status.FileKind.TheVariants as file
 use Rattle.rtdvs_top.specs.declared.status.TextFault.TheVariants as text
@@ -152,16 +153,28 @@ abbrev pub admitted_of : AdmitOf → List Task → Files → Result Plan Status
 admitted_of a tasks files =
     and_then (machine_at a.machine files) (λ machine. admission (plan_of tasks machine a.scheduler))
 
--- the file of tasks that a command names
-abbrev pub tasks_name : CommandOf → List ℕ
-tasks_name (run r) = r.tasks
-tasks_name (admit a) = a.tasks
+-- the answer of a run, after its tasks
+abbrev pub run_after_tasks : RunOf → List Task → Files → Result (List ℕ) Status
+run_after_tasks r tasks files = and_then (prepared_of r tasks files) (answer_of_prepared r)
 
--- the answer of a command after its tasks
-abbrev pub answer_of_tasks : CommandOf → List Task → Files → Result (List ℕ) Status
-answer_of_tasks (run r) tasks files = and_then (prepared_of r tasks files) (answer_of_prepared r)
-answer_of_tasks (admit a) tasks files = and_then (admitted_of a tasks files) (λ p. Ok (admitted_text p))
+-- the answer of a run
+abbrev pub run_answer : RunOf → Files → Result (List ℕ) Status
+run_answer r files = and_then (tasks_at r.tasks files) (λ tasks. run_after_tasks r tasks files)
+
+-- the answer of an admission, after its tasks
+abbrev pub admit_after_tasks : AdmitOf → List Task → Files → Result (List ℕ) Status
+admit_after_tasks a tasks files = and_then (admitted_of a tasks files) (λ p. Ok (admitted_text p))
+
+-- the answer of an admission
+abbrev pub admit_answer : AdmitOf → Files → Result (List ℕ) Status
+admit_answer a files = and_then (tasks_at a.tasks files) (λ tasks. admit_after_tasks a tasks files)
+
+-- the answer of a made workload: its lines, which need no file
+abbrev pub workload_answer : ℕ → Result (List ℕ) Status
+workload_answer seed = Ok (workload_text seed workload_tasks workload_ticks)
 
 -- the answer of a command
 abbrev pub answer_of_command : CommandOf → Files → Result (List ℕ) Status
-answer_of_command c files = and_then (tasks_at (tasks_name c) files) (λ tasks. answer_of_tasks c tasks files)
+answer_of_command (run r) files = run_answer r files
+answer_of_command (admit a) files = admit_answer a files
+answer_of_command (workload seed) files = workload_answer seed

@@ -2,7 +2,7 @@
 use Rattle.std.specs.Prelude.{◌≤◌, ◌^◌, option_map, ⊤}
 use Rattle.event_kernel.specs.Runs.{Run, IsListOf}
 use Rattle.rtdvs_top.specs.declared.run.PlannedRun.{PlannedRun}
-use Rattle.rtdvs_top.specs.Words.{RunOf, AdmitOf, CommandOf, run, admit}
+use Rattle.rtdvs_top.specs.Words.{RunOf, AdmitOf, CommandOf, run, admit, workload}
 use Rattle.dvs_base.specs.Pairs.{IsPair}
 use Rattle.rtdvs_top.specs.declared.words.RunWords.{RunWords}
 use Rattle.rtdvs_top.specs.declared.words.AdmitWords.{AdmitWords}
@@ -28,6 +28,7 @@ shown_admit a = record { tasks = a.tasks.now; machine = a.machine.now; scheduler
 abbrev pub shown : Command → CommandOf
 shown (command.Run r) = run (shown_run r)
 shown (command.Admit a) = admit (shown_admit a)
+shown (command.Workload seed) = workload seed
 
 -- the scheduler and the governor of a run are a pair, and its number of ticks is within the limits
 pub record IsReady (r : RunWords) : Type 0 where
@@ -39,6 +40,7 @@ pub record IsReady (r : RunWords) : Type 0 where
 abbrev pub IsReadyCommand : Command → Type 0
 IsReadyCommand (command.Run r) = IsReady r
 IsReadyCommand (command.Admit a) = ⊤
+IsReadyCommand (command.Workload seed) = ⊤
 
 -- the run that was planned
 abbrev pub planned : PlannedRun → Run

@@ -18,7 +18,7 @@ use Rattle.sched_model.specs.TheSchedule.{IsTheSchedule}
 use Rattle.done_lines.specs.DoneLines.{TellsDeadlines}
 use Rattle.event_kernel.specs.Runs.{Run, demands_of, notes_of_run, MeetsDeadlines, MeetsDemands}
 use Rattle.rtdvs_top.specs.Answer.{within_jobs, prepared_of, tasks_at}
-use Rattle.rtdvs_top.specs.Words.{RunOf, CommandOf, run, admit}
+use Rattle.rtdvs_top.specs.Words.{RunOf, CommandOf, run}
 use Rattle.rtdvs_top.specs.Causes.{EndsWith, IsRefusal, Gives}
 use Rattle.rtdvs_top.specs.Writing.{Wrote, WroteSome}
 use Rattle.rtdvs_top.specs.declared.status.Status.{Status}
@@ -115,11 +115,6 @@ MetBy told r tasks status.Done =
     (p : Plan) × (d : DemandsOf) × Gives told (prepared_of r tasks) (p, d)
     × HasMet r.governor (run_with r p d)
 MetBy told r tasks s = ⊤
-
--- the same of a command
-abbrev pub MetByCommand : Option Files → CommandOf → List Task → Status → Type 0
-MetByCommand told (run r) tasks s = MetBy told r tasks s
-MetByCommand told (admit a) tasks s = ⊤
 
 -- the same of a command, with the tasks of its file
 abbrev pub MetIn : Option Files → CommandOf → Status → Type 0

@@ -4,8 +4,10 @@ pub mod Words
 pub mod Asked
 pub mod Naming
 pub mod Refusals
+pub mod WorkloadLines
 pub mod Answer
 pub mod Writing
 pub mod Causes
 pub mod Ending
 pub mod Promises
+pub mod EdfRuns

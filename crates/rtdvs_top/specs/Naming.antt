@@ -3,8 +3,9 @@ use Rattle.std.specs.Prelude.{◌≡◌, ℕ, List, [], map, Option, Some, None,
 use Rattle.dvs_base.specs.Outside.{Files}
 use Rattle.task_model.specs.declared.task.Task.{Task}
 use Rattle.rtdvs_top.specs.Words.{CommandOf}
-use Rattle.rtdvs_top.specs.Answer.{tasks_at, tasks_name}
+use Rattle.rtdvs_top.specs.Answer.{tasks_at}
 use Rattle.rtdvs_top.specs.Refusals.{status_text}
+use Rattle.rtdvs_top.specs.Causes.{tasks_name}
 use Rattle.rtdvs_top.specs.declared.status.Status.{Status}
 
 -- the names of the tasks, where they were read
@@ -22,9 +23,14 @@ abbrev pub names_from : Result (List Task) Status → List (List ℕ)
 names_from (Ok tasks) = names_of (Some tasks)
 names_from (Err s) = []
 
+-- the names of the tasks of a file that may be named
+abbrev pub names_at : Option (List ℕ) → Files → List (List ℕ)
+names_at None files = []
+names_at (Some name) files = names_from (tasks_at name files)
+
 -- the names of the tasks that a command's files give
 abbrev pub names_by : CommandOf → Files → List (List ℕ)
-names_by c files = names_from (tasks_at (tasks_name c) files)
+names_by c files = names_at (tasks_name c) files
 
 -- where the files are told, a status is noted with the names of the command's tasks
 abbrev pub NamedBy : Option Files → CommandOf → Option (List Task) → Status → Type 0

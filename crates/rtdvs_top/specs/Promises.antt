@@ -16,7 +16,7 @@ use Rattle.rtdvs_top.specs.Words.{RunOf, CommandOf, command_of, run}
 use Rattle.rtdvs_top.specs.Answer.{answer_of_command, prepared_of, admission, tasks_at, machine_at, demands_at}
 use Rattle.rtdvs_top.specs.Naming.{names_by}
 use Rattle.rtdvs_top.specs.Refusals.{status_text}
-use Rattle.rtdvs_top.specs.Causes.{LoadOf, PassesBefore, loads_of}
+use Rattle.rtdvs_top.specs.Causes.{LoadOf, PassesBefore, files_for, loads_of}
 use Rattle.rtdvs_top.specs.Ending.{HasMet, run_with, text_under}
 use Rattle.rtdvs_top.specs.Writing.{NotedAs}
 use Rattle.rtdvs_top.specs.declared.status.Denied.{Denied}
@@ -26,6 +26,11 @@ use Rattle.rtdvs_top.specs.declared.status.Status.TheVariants as status
 -- the command that the words are
 abbrev pub asked : List (String Global) → Option CommandOf
 asked words = command_of (map string_bytes words)
+
+-- the files that the answer to the words is of: those of the command's answer, and none where the words are refused
+abbrev pub files_told : Option Files → Option CommandOf → Option Files
+files_told held (Some c) = files_for held c
+files_told held None = Some []
 
 -- The status is the answer's; or a load failed, and the shelf's count of faults rose; or a put failed, where the answer
 -- has a text, and the sink's count rose; or memory was wanting.

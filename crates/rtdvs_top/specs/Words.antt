@@ -1,5 +1,5 @@
 -- The words of a command.
-use Rattle.std.specs.Prelude.{◌≡◌, ℕ, Bool, true, false, ◌^◌, ◌==◌, ◌&&◌, List, [], ◌∷◌, length, nat_le, codes, Option, Some, None, option_map, if◌then◌else◌}
+use Rattle.std.specs.Prelude.{ℕ, ◌^◌, ◌==◌, ◌&&◌, List, [], ◌∷◌, length, nat_le, codes, Option, Some, None, option_map, if◌then◌else◌}
 use Rattle.std.specs.Str.{bytes_eq}
 use Rattle.dvs_base.specs.Text.{number_below}
 use Rattle.dvs_base.specs.Pairs.{is_pair}
@@ -32,6 +32,7 @@ pub record AdmitOf : Type 0 where
 pub data CommandOf : Type 0 where
   run : RunOf → CommandOf
   admit : AdmitOf → CommandOf
+  workload : ℕ → CommandOf
 
 -- the value of an option that stands first, and the words after it
 abbrev pub value_after : List ℕ → List (List ℕ) → Option (List ℕ × List (List ℕ))
@@ -117,10 +118,19 @@ admit_of_options words =
     then_some (nothing_after s.1) (λ end.
     Some (record { tasks = tasks; machine = machine; scheduler = scheduler }))))))))
 
+-- the seed of a made workload, and nothing after it
+abbrev pub workload_of_options : List (List ℕ) → Option ℕ
+workload_of_options words =
+    then_some (value_after (codes "--seed") words) (λ s.
+    then_some (number_below (2 ^ 64) s.0) (λ seed.
+    then_some (nothing_after s.1) (λ end.
+    Some seed)))
+
 -- the command that the words are
 abbrev pub command_of : List (List ℕ) → Option CommandOf
 command_of [] = None
 command_of (command ∷ words) =
     if bytes_eq command (codes "run")
     then option_map run (run_of_options words)
-    else (if bytes_eq command (codes "admit") then option_map admit (admit_of_options words) else None)
+    else (if bytes_eq command (codes "admit") then option_map admit (admit_of_options words)
+    else (if bytes_eq command (codes "workload") then option_map workload (workload_of_options words) else None))

@@ -5,9 +5,13 @@
 //! proved.
 #![tactic(auto)]
 
+mod admit_answer;
 mod files;
+mod made_lines;
+mod made_runs;
 mod refusal;
 mod run;
+mod run_answer;
 mod status;
 mod top;
 mod words;

@@ -1,7 +1,7 @@
 // The words of a command.
 ghost use Rattle.std.specs.Prelude.{◌≡◌, ◌≤◌, ◌^◌, IfSome, Some, None, [], map, string_bytes, option_map};
 ghost use Rattle.dvs_base.specs.Pairs.{IsPair};
-ghost use Rattle.rtdvs_top.specs.Words.{value_after, file_name, scheduler_of, governor_of, paired, ticks_of, demands_of_words, nothing_after, run_of_options, admit_of_options, command_of};
+ghost use Rattle.rtdvs_top.specs.Words.{value_after, file_name, scheduler_of, governor_of, paired, ticks_of, demands_of_words, nothing_after, run_of_options, admit_of_options, workload_of_options, command_of};
 ghost use Rattle.rtdvs_top.specs.Asked.{shown, shown_run, shown_admit, IsReady, IsReadyCommand};
 
 use dvs_base::{GovernorKind, Scheduler, whole};
@@ -30,6 +30,8 @@ pub struct AdmitWords<'a> {
 pub enum Command<'a> {
     Run(RunWords<'a>),
     Admit(AdmitWords<'a>),
+    /// The workload that is made from this seed.
+    Workload { seed: u64 },
 }
 
 // The value of an option that stands first, and the words after it.
@@ -157,6 +159,15 @@ fn read_admit(words: &[String]) -> Option<AdmitWords<'_>>
     })
 }
 
+fn read_workload(words: &[String]) -> Option<u64>
+    ensures { result ≡ workload_of_options (map string_bytes words.now) }
+{
+    let (seed, words) = value_after("--seed", words)?;
+    let seed = whole(seed.as_bytes())?;
+    nothing_after(words)?;
+    Some(seed)
+}
+
 /// The command that the words are. None exactly where they are none.
 pub fn read_command(words: &[String]) -> Option<Command<'_>>
     ensures read { option_map shown result ≡ command_of (map string_bytes words.now) }
@@ -169,6 +180,10 @@ pub fn read_command(words: &[String]) -> Option<Command<'_>>
         },
         [command, options @ ..] if command.as_str() == "admit" => match read_admit(options) {
             Some(admit) => Some(Command::Admit(admit)),
+            None => None,
+        },
+        [command, options @ ..] if command.as_str() == "workload" => match read_workload(options) {
+            Some(seed) => Some(Command::Workload { seed }),
             None => None,
         },
         _ => None,

@@ -40,8 +40,8 @@ pub(crate) fn put_line<W: Sink>(line: &Line, out: &mut W) -> Result<(), Failed>
     out.put(line.as_bytes())
 }
 
-// Puts two lines, one after the other.
-fn put_two<W: Sink>(first: &Line, second: &Line, out: &mut W) -> Result<(), Failed>
+/// Puts two lines, one after the other.
+pub(crate) fn put_two<W: Sink>(first: &Line, second: &Line, out: &mut W) -> Result<(), Failed>
     requires first { 0 < length first.now }
     requires second { 0 < length second.now }
     ensures { Writing (W.shows out.old) (W.shows out.new) (first.now ++ second.now) result }

@@ -28,3 +28,5 @@ mod plans;
 mod refusals;
 #[cfg(test)]
 mod traces;
+#[cfg(test)]
+mod workloads;

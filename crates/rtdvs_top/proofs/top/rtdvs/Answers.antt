@@ -1,8 +1,8 @@
-use Rattle.std.proofs.Common.{Option, Some, refl, subst}
+use Rattle.std.proofs.Common.{◌≡◌, Option, Some, refl, subst}
 use Rattle.dvs_base.specs.Outside.{Rose}
 use Rattle.rtdvs_top.specs.Words.{CommandOf}
-use Rattle.rtdvs_top.specs.Promises.{Answers, OfRun, Headline}
-use Rattle.rtdvs_top.proofs.Answering.{answers-of}
+use Rattle.rtdvs_top.specs.Promises.{files_told, Answers, IsSureOf, OfRun, Headline}
+use Rattle.rtdvs_top.proofs.Answering.{answers-of, sure-of}
 use Rattle.rtdvs_top.proofs.Headlines.{of-run, headline-of}
 use Rattle.rtdvs_top.proofs.top.rtdvs.Goals as goal
 
@@ -13,16 +13,21 @@ returns-clause-answers g c =
     let out_old = g.W.Sink.shows c.args.out.now in
     let out_new = g.W.Sink.shows c.answer_command-status.new.out in
     let e = c.answer_command-status.ensures in
-    subst (λ (command : Option CommandOf). Answers old.held command (Rose old.faults new.faults) (Rose out_old.faults out_new.faults) c.answer_command-status.result.0) c.in-Some.ensures.read
-    (answers-of old.held _ old new out_old out_new c.answer_command-status.result.0 refl e.ended e.explained e.passed)
+    let s = c.answer_command-status.result.0 in
+    subst
+    (λ (command : Option CommandOf).
+    Answers (files_told old.held command) command (Rose old.faults new.faults) (Rose out_old.faults out_new.faults) s)
+    c.in-Some.ensures.read (answers-of _ _ old new out_old out_new s refl e.ended e.explained e.passed)
 
 pub returns-clause-run : goal.returns-clause-run
 returns-clause-run g c =
     let old = g.S.Shelf.shows c.args.shelf.now in
     let out_old = g.W.Sink.shows c.args.out.now in
     let out_new = g.W.Sink.shows c.answer_command-status.new.out in
-    subst (λ (command : Option CommandOf). OfRun old.held command out_old out_new c.answer_command-status.result.0) c.in-Some.ensures.read
-    (of-run old.held _ c.answer_command-status.result.0 out_old out_new c.answer_command-status.ensures.ended c.answer_command-status.ensures.met)
+    let e = c.answer_command-status.ensures in
+    let s = c.answer_command-status.result.0 in
+    subst (λ (command : Option CommandOf). OfRun (files_told old.held command) command out_old out_new s)
+    c.in-Some.ensures.read (of-run _ _ s out_old out_new e.ended e.met)
 
 pub returns-clause-headline : goal.returns-clause-headline
 returns-clause-headline g c =
@@ -32,7 +37,21 @@ returns-clause-headline g c =
     let out_new = g.W.Sink.shows c.answer_command-status.new.out in
     let e = c.answer_command-status.ensures in
     let s = c.answer_command-status.result.0 in
-    subst (λ (command : Option CommandOf). Headline old.held command (Rose old.faults new.faults) out_old out_new s) c.in-Some.ensures.read
-    (headline-of old.held (Some _) (Rose old.faults new.faults) out_old out_new s
-    (of-run old.held _ s out_old out_new e.ended e.met)
-    (answers-of old.held _ old new out_old out_new s refl e.ended e.explained e.passed))
+    subst
+    (λ (command : Option CommandOf).
+    Headline (files_told old.held command) command (Rose old.faults new.faults) out_old out_new s)
+    c.in-Some.ensures.read
+    (headline-of _ (Some _) (Rose old.faults new.faults) out_old out_new s (of-run _ _ s out_old out_new e.ended e.met)
+    (answers-of _ _ old new out_old out_new s refl e.ended e.explained e.passed))
+
+pub returns-clause-sure : goal.returns-clause-sure
+returns-clause-sure g c =
+    let old = g.S.Shelf.shows c.args.shelf.now in
+    let out_old = g.W.Sink.shows c.args.out.now in
+    let out_new = g.W.Sink.shows c.answer_command-status.new.out in
+    let e = c.answer_command-status.ensures in
+    subst
+    (λ (command : Option CommandOf).
+    IsSureOf (files_told old.held command) command out_old → out_new.faults ≡ out_old.faults)
+    c.in-Some.ensures.read
+    (sure-of g.W.Sink.shows _ _ c.answer_command-status.result.0 c.args.out.now _ e.ended e.leaves)

@@ -1,0 +1,50 @@
+-- Runs of made workloads under EDF, and their lines.
+use Rattle.std.specs.Prelude.{ℕ, ◌*◌, List, [], ◌∷◌, ◌++◌, codes, decimal, flat_map}
+use Rattle.dvs_base.specs.declared.kind.Scheduler.TheVariants.{Edf}
+use Rattle.dvs_base.specs.declared.kind.GovernorKind.{GovernorKind}
+use Rattle.dvs_base.specs.declared.kind.GovernorKind.TheVariants.{Plain, Fixed, Cycle, Ahead}
+use Rattle.dvs_base.specs.declared.note.Totals.{Totals}
+use Rattle.trace_text.specs.Words.{governor_word}
+use Rattle.trace_text.specs.TraceLines.{line}
+use Rattle.demand_list.specs.Demands.{DemandsOf}
+use Rattle.sched_model.specs.Plan.{Plan, plan_of}
+use Rattle.sched_model.specs.Demands.{demand_of}
+use Rattle.sched_model.specs.Text.{run_notes}
+use Rattle.sched_model.specs.Totals.{totals_of}
+use Rattle.workload.specs.Draws.{first_state, state_after}
+use Rattle.workload.specs.Workload.{made_tasks, made_machine, made_demands}
+
+-- how many tasks a made workload has
+abbrev pub workload_tasks : ℕ
+workload_tasks = 32
+
+-- how many ticks of it are run
+abbrev pub workload_ticks : ℕ
+workload_ticks = 50000
+
+-- the plan of so many made tasks under EDF, and the demands of their jobs
+abbrev pub workload_plan : ℕ → ℕ → Plan
+workload_plan seed n = plan_of (made_tasks (first_state seed) n) made_machine Edf
+
+abbrev pub workload_demands : ℕ → ℕ → DemandsOf
+workload_demands seed n = made_demands (made_tasks (first_state seed) n) (state_after (first_state seed) (2 * n))
+
+-- what a run of a plan of so many ticks comes to under a governor
+abbrev pub run_totals : Plan → DemandsOf → ℕ → GovernorKind → Totals
+run_totals p d ticks g = totals_of (run_notes p g (demand_of p d.rows) ticks)
+
+-- a governor's line: the releases, the completions, the decisions, and the energies of running and of idling
+abbrev pub totals_text : GovernorKind → Totals → List ℕ
+totals_text g t =
+    line
+    (governor_word g ∷ decimal t.released ∷ decimal t.finished ∷ decimal t.decisions ∷ decimal t.run ∷ decimal t.idle ∷ [])
+
+-- the lines of a workload: the seed, the tasks and the ticks, and a line for each governor that serves EDF
+abbrev pub head_text : ℕ → ℕ → ℕ → List ℕ
+head_text seed n ticks = line (codes "workload" ∷ decimal seed ∷ decimal n ∷ decimal ticks ∷ [])
+
+unfoldable pub workload_text : ℕ → ℕ → ℕ → List ℕ
+workload_text seed n ticks =
+    head_text seed n ticks
+    ++ flat_map (λ g. totals_text g (run_totals (workload_plan seed n) (workload_demands seed n) ticks g))
+    (Plain ∷ Fixed ∷ Cycle ∷ Ahead ∷ [])

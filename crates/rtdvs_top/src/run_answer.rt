@@ -1,0 +1,100 @@
+// The answer of a run.
+ghost use Rattle.std.specs.Prelude.{◌≡◌, ◌+◌, IfOk, IfErr};
+ghost use Rattle.event_kernel.specs.Runs.{IsListOf};
+ghost use Rattle.rtdvs_top.specs.Words.{run as run_of};
+ghost use Rattle.rtdvs_top.specs.Asked.{shown_run, IsReady};
+ghost use Rattle.rtdvs_top.specs.Answer.{prepared_of, run_after_tasks, run_answer};
+ghost use Rattle.rtdvs_top.specs.Causes.{Gives, Refuses, MakesLoads, LaterLoad, LoadOf, PassesMachine, PassesBefore, loads_named, loads_of};
+ghost use Rattle.rtdvs_top.specs.Naming.{NamedBy};
+ghost use Rattle.rtdvs_top.specs.Shown.{IsShown};
+ghost use Rattle.rtdvs_top.specs.Ending.{EndsAs, Leaves, MetBy, MetIn};
+
+use crate::Status;
+use crate::files::{load_demands, load_machine, load_tasks};
+use crate::run::{PlannedRun, admit, run_plan};
+use crate::words::RunWords;
+use demand_list::Demands;
+use dvs_base::{Shelf, Sink};
+use sched_model::Admitted;
+use std::alloc::Global;
+use task_model::TaskSet;
+
+// The admitted plan and the demands of a run, after its tasks.
+fn prepare<S: Shelf>(
+    alloc: Global,
+    run: &RunWords<'_>,
+    tasks: &TaskSet,
+    shelf: &mut S,
+) -> Result<(Admitted, Demands), Status>
+    ensures read { IfOk result
+        (λ x. Gives (S.shows shelf.old).held (prepared_of (shown_run run.now) tasks.now) (x.0, x.1)) }
+    ensures list { IfOk result (λ x. IsListOf x.0 x.1) }
+    ensures scheduler { IfOk result (λ x. x.0.scheduler ≡ run.now.scheduler) }
+    ensures refused { IfErr result (Refuses (S.shows shelf.old).held (prepared_of (shown_run run.now) tasks.now)) }
+    ensures passed { IfErr result (PassesMachine (S.shows shelf.old).held (run_of (shown_run run.now))) }
+    ensures explained { IfErr result (LaterLoad (S.shows shelf.old) (S.shows shelf.new) (shown_run run.now)) }
+    ensures loads { MakesLoads (1 + loads_named (shown_run run.now).demands) (S.shows shelf.old) (S.shows shelf.new) }
+    ensures shown { IfErr result IsShown }
+{
+    let machine = load_machine(alloc, run.machine, shelf)?;
+    let demands = load_demands(alloc, run.demands, tasks, shelf)?;
+    let plan = admit(alloc, run.scheduler, tasks, &machine)?;
+    Ok((plan, demands))
+}
+
+// The answer of a run, after its tasks.
+fn run_tasks<S: Shelf, W: Sink>(
+    alloc: Global,
+    run: &RunWords<'_>,
+    tasks: &TaskSet,
+    shelf: &mut S,
+    out: &mut W,
+) -> Status
+    requires { IsReady run.now }
+    ensures ended { EndsAs (W.shows out.old) (W.shows out.new) (S.shows shelf.old).held
+        (run_after_tasks (shown_run run.now) tasks.now) result }
+    ensures leaves { Leaves result out.old out.new }
+    ensures met { MetBy (S.shows shelf.old).held (shown_run run.now) tasks.now result }
+    ensures passed { PassesMachine (S.shows shelf.old).held (run_of (shown_run run.now)) result }
+    ensures explained { LaterLoad (S.shows shelf.old) (S.shows shelf.new) (shown_run run.now) result }
+    ensures loads { MakesLoads (1 + loads_named (shown_run run.now).demands) (S.shows shelf.old) (S.shows shelf.new) }
+    ensures shown { IsShown result }
+{
+    match prepare(alloc, run, tasks, shelf) {
+        Ok((plan, demands)) => {
+            let planned = PlannedRun {
+                plan: &plan,
+                demands: &demands,
+                ticks: run.ticks,
+            };
+            run_plan(alloc, &planned, run.governor, out)
+        }
+        Err(status) => status,
+    }
+}
+
+/// The answer of a run, and the tasks where they were read.
+pub(crate) fn answer_run<S: Shelf, W: Sink>(
+    alloc: Global,
+    run: &RunWords<'_>,
+    shelf: &mut S,
+    out: &mut W,
+) -> (Status, Option<TaskSet>)
+    requires { IsReady run.now }
+    ensures ended { EndsAs (W.shows out.old) (W.shows out.new) (S.shows shelf.old).held
+        (run_answer (shown_run run.now)) result.0 }
+    ensures leaves { Leaves result.0 out.old out.new }
+    ensures met { MetIn (S.shows shelf.old).held (run_of (shown_run run.now)) result.0 }
+    ensures named { NamedBy (S.shows shelf.old).held (run_of (shown_run run.now)) result.1 result.0 }
+    ensures passed { PassesBefore (S.shows shelf.old).held (run_of (shown_run run.now)) result.0 }
+    ensures explained { LoadOf (S.shows shelf.old) (S.shows shelf.new) (run_of (shown_run run.now)) result.0 }
+    ensures loads { MakesLoads (loads_of (run_of (shown_run run.now))) (S.shows shelf.old) (S.shows shelf.new) }
+    ensures shown { IsShown result.0 }
+{
+    let tasks = match load_tasks(alloc, run.tasks, shelf) {
+        Ok(tasks) => tasks,
+        Err(status) => return (status, None),
+    };
+    let status = run_tasks(alloc, run, &tasks, shelf, out);
+    (status, Some(tasks))
+}
