@@ -1,0 +1,114 @@
+-- Commands, and the row of each: its required options in order, and what stands for an optional one that was not given.
+use Rattle.std.specs.Prelude.{ℕ, ◌≤◌, Bool, List, Option, is_some, unwrap_or, Result, Ok, Err, ⊤, if◌then◌else◌}
+use Rattle.std.specs.Option.{ok_or}
+use Rattle.dvs_base.specs.Checks.{and_then}
+use Rattle.dvs_base.specs.Pairs.{is_pair, IsPair}
+use Rattle.dvs_base.specs.declared.limits.TheConstants.{MOST_TICKS}
+use Rattle.dvs_base.specs.declared.kind.Scheduler.{Scheduler}
+use Rattle.dvs_base.specs.declared.kind.GovernorKind.{GovernorKind}
+use Rattle.dvs_base.specs.declared.kind.Version.{Version}
+use Rattle.dvs_base.specs.declared.kind.Version.TheVariants.{One}
+use Rattle.words.specs.declared.table.Verb.{Verb}
+use Rattle.words.specs.declared.table.Verb.TheVariants as verb
+use Rattle.words.specs.declared.command.Opt.{Opt}
+use Rattle.words.specs.declared.command.Opt.TheVariants as opt
+use Rattle.words.specs.declared.command.WordFault.{WordFault}
+use Rattle.words.specs.declared.command.WordFault.TheVariants as fault
+use Rattle.words.specs.Values.{GivenOf}
+
+-- what the words of a run name: files by their names, the scheduler, the governor, the number of ticks, whether the
+-- probes are told, and the version of the trace
+pub record RunOf : Type 0 where
+  pub tasks : List ℕ
+  pub machine : List ℕ
+  pub scheduler : Scheduler
+  pub governor : GovernorKind
+  pub ticks : ℕ
+  pub demands : Option (List ℕ)
+  pub probes : Bool
+  pub version : Version
+
+-- what the words of an admission name
+pub record AdmitOf : Type 0 where
+  pub tasks : List ℕ
+  pub machine : List ℕ
+  pub scheduler : Scheduler
+
+-- what the words of a replay name
+pub record ReplayOf : Type 0 where
+  pub tasks : List ℕ
+  pub machine : List ℕ
+  pub trace : List ℕ
+
+-- a command; that of a workload names its seed
+pub data CommandOf : Type 0 where
+  run : RunOf → CommandOf
+  admit : AdmitOf → CommandOf
+  replay : ReplayOf → CommandOf
+  migrate : ReplayOf → CommandOf
+  workload : ℕ → CommandOf
+
+-- the scheduler and the governor of a run are a pair, and its number of ticks is within the limits
+pub record IsReady (r : RunOf) : Type 0 where
+  pub pair : IsPair r.scheduler r.governor
+  pub some_ticks : 1 ≤ r.ticks
+  pub few_ticks : r.ticks ≤ MOST_TICKS
+
+-- the same of a command
+abbrev pub IsReadyCommand : CommandOf → Type 0
+IsReadyCommand (run r) = IsReady r
+IsReadyCommand c = ⊤
+
+-- the next step, where this one gives a value
+infixl 10 ◌>>=◌
+abbrev pub ◌>>=◌ : {A B : Type 0} → Result A WordFault → (A → Result B WordFault) → Result B WordFault
+r >>= next = and_then r next
+
+-- the value of a required option
+abbrev pub need : {A : Type 0} → Opt → Option A → Result A WordFault
+need option value = ok_or value (fault.Missing option)
+
+-- a run by the values that were given: the first required option that was not is missing, and last comes the pair
+abbrev pub run_of : GivenOf → Result RunOf WordFault
+run_of g = do
+  tasks ← need opt.Tasks g.tasks
+  machine ← need opt.Machine g.machine
+  scheduler ← need opt.Scheduler g.scheduler
+  governor ← need opt.Governor g.governor
+  ticks ← need opt.Ticks g.ticks
+  if is_pair scheduler governor
+      then Ok (record {
+        tasks = tasks;
+        machine = machine;
+        scheduler = scheduler;
+        governor = governor;
+        ticks = ticks;
+        demands = g.demands;
+        probes = is_some g.probes;
+        version = unwrap_or g.format One;
+      })
+      else Err fault.Pair
+
+-- an admission by the values that were given
+abbrev pub admit_of : GivenOf → Result AdmitOf WordFault
+admit_of g = do
+  tasks ← need opt.Tasks g.tasks
+  machine ← need opt.Machine g.machine
+  scheduler ← need opt.Scheduler g.scheduler
+  Ok (record { tasks = tasks; machine = machine; scheduler = scheduler })
+
+-- a replay by the values that were given
+abbrev pub replay_of : GivenOf → Result ReplayOf WordFault
+replay_of g = do
+  tasks ← need opt.Tasks g.tasks
+  machine ← need opt.Machine g.machine
+  trace ← need opt.Trace g.trace
+  Ok (record { tasks = tasks; machine = machine; trace = trace })
+
+-- the command by the values that were given, or the first required option that was not; last, a run's pair
+abbrev pub built : Verb → GivenOf → Result CommandOf WordFault
+built verb.Run g = run_of g >>= (λ r. Ok (run r))
+built verb.Admit g = admit_of g >>= (λ a. Ok (admit a))
+built verb.Replay g = replay_of g >>= (λ r. Ok (replay r))
+built verb.Migrate g = replay_of g >>= (λ r. Ok (migrate r))
+built verb.Workload g = need opt.Seed g.seed >>= (λ seed. Ok (workload seed))

@@ -1,0 +1,59 @@
+-- What words mean: they are read from left to right, with the table.
+use Rattle.std.specs.Prelude.{ℕ, ◌+◌, List, [], ◌∷◌, Option, Some, None, Result, Ok, Err, if◌then◌else◌}
+use Rattle.dvs_base.specs.Checks.{and_then}
+use Rattle.dvs_base.specs.Text.{short_of}
+use Rattle.words.specs.declared.table.Verb.{Verb}
+use Rattle.words.specs.declared.table.Key.{Key}
+use Rattle.words.specs.declared.command.WordFault.{WordFault}
+use Rattle.words.specs.declared.command.WordFault.TheVariants as fault
+use Rattle.words.specs.Table.{verb_of, options_of, word_of, option_named, takes_value}
+use Rattle.words.specs.Values.{GivenOf, nothing_given, has, with_value}
+use Rattle.words.specs.Commands.{CommandOf, built}
+
+-- the values so far, and the option whose value is the next word
+pub record ReadingOf : Type 0 where
+  pub given : GivenOf
+  pub waits : Option Key
+
+-- no word was read
+abbrev pub nothing_read : ReadingOf
+nothing_read = record { given = nothing_given; waits = None }
+
+-- with one more value, where the word at this place is within its rule
+abbrev pub with_given : ℕ → List ℕ → Option GivenOf → Result ReadingOf WordFault
+with_given place word None = Err (fault.BadValue place (short_of word))
+with_given place word (Some g) = Ok (record { given = g; waits = None })
+
+-- the option of a word: it waits for its value, or has it at once
+abbrev pub with_option : GivenOf → ℕ → List ℕ → Option Key → Result ReadingOf WordFault
+with_option g place word None = Err (fault.Unexpected place (short_of word))
+with_option g place word (Some k) =
+    if has g k then Err (fault.Repeated place (short_of word))
+    else (if takes_value k then Ok (record { given = g; waits = Some k })
+    else with_given place word (with_value g k word))
+
+-- one word: the value that an option waits for, else an option
+abbrev pub word_at : Verb → ReadingOf → Option Key → ℕ → List ℕ → Result ReadingOf WordFault
+word_at v r (Some k) place word = with_given place word (with_value r.given k word)
+word_at v r None place word = with_option r.given place word (option_named (options_of v) word)
+
+-- after the last word, at this place
+abbrev pub ended : Verb → GivenOf → Option Key → ℕ → Result CommandOf WordFault
+ended v g (Some k) place = Err (fault.NoValue place (short_of (word_of k)))
+ended v g None place = built v g
+
+-- the words after this place, one by one
+abbrev pub words_after : Verb → ReadingOf → ℕ → List (List ℕ) → Result CommandOf WordFault
+words_after v r place [] = ended v r.given r.waits place
+words_after v r place (word ∷ words) =
+    and_then (word_at v r r.waits (place + 1) word) (λ r. words_after v r (place + 1) words)
+
+-- the options of a command, if the first word is one; it stands at place 1
+abbrev pub options_after : Option Verb → List ℕ → List (List ℕ) → Result CommandOf WordFault
+options_after None word words = Err (fault.BadCommand (short_of word))
+options_after (Some v) word words = words_after v nothing_read 1 words
+
+-- the command that the words are, or the first trouble from left to right
+abbrev pub command_of : List (List ℕ) → Result CommandOf WordFault
+command_of [] = Err fault.NoCommand
+command_of (word ∷ words) = options_after (verb_of word) word words

@@ -1,0 +1,64 @@
+-- Values and commands as they are declared, with texts in the place of what lies in memory.
+use Rattle.std.specs.Prelude.{option_map, Result, Ok, Err}
+use Rattle.words.specs.declared.command.Command.{Command}
+use Rattle.words.specs.declared.command.Command.TheVariants as command
+use Rattle.words.specs.declared.command.WordFault.{WordFault}
+use Rattle.words.specs.declared.given.Given.{Given}
+use Rattle.words.specs.declared.given.TraceFiles.{TraceFiles}
+use Rattle.words.specs.declared.read.Reading.{Reading}
+use Rattle.words.specs.Values.{GivenOf}
+use Rattle.words.specs.Commands.{CommandOf, ReplayOf, run, admit, replay, migrate, workload}
+use Rattle.words.specs.Reading.{ReadingOf}
+
+-- the values that were given, with the texts of names
+abbrev pub shown_given : Given → GivenOf
+shown_given g = record {
+  tasks = option_map (λ s. s.now) g.tasks;
+  machine = option_map (λ s. s.now) g.machine;
+  demands = option_map (λ s. s.now) g.demands;
+  trace = option_map (λ s. s.now) g.trace;
+  scheduler = g.scheduler;
+  governor = g.governor;
+  ticks = option_map (λ t. t.number) g.ticks;
+  seed = g.seed;
+  probes = g.probes;
+  format = g.format;
+}
+
+-- what was read so far, or why it was refused
+abbrev pub shown_reading : Reading → ReadingOf
+shown_reading r = record { given = shown_given r.given; waits = r.waits }
+
+abbrev pub reading_answer : Result Reading WordFault → Result ReadingOf WordFault
+reading_answer (Ok r) = Ok (shown_reading r)
+reading_answer (Err e) = Err e
+
+-- the files of a trace, with the texts of their names
+abbrev pub files_answer : Result TraceFiles WordFault → Result ReplayOf WordFault
+files_answer (Ok f) = Ok (record { tasks = f.tasks.now; machine = f.machine.now; trace = f.trace.now })
+files_answer (Err e) = Err e
+
+-- a command, with the texts of names
+abbrev pub shown : Command → CommandOf
+shown (command.Run tasks machine demands scheduler governor ticks probes version) = run (record {
+  tasks = tasks.now;
+  machine = machine.now;
+  scheduler = scheduler;
+  governor = governor;
+  ticks = ticks;
+  demands = option_map (λ s. s.now) demands;
+  probes = probes;
+  version = version;
+})
+shown (command.Admit tasks machine scheduler) =
+    admit (record { tasks = tasks.now; machine = machine.now; scheduler = scheduler })
+shown (command.Replay tasks machine trace) =
+    replay (record { tasks = tasks.now; machine = machine.now; trace = trace.now })
+shown (command.Migrate tasks machine trace) =
+    migrate (record { tasks = tasks.now; machine = machine.now; trace = trace.now })
+shown (command.Workload seed) = workload seed
+
+-- an answer, with the command so shown
+abbrev pub answer : Result Command WordFault → Result CommandOf WordFault
+answer (Ok c) = Ok (shown c)
+answer (Err e) = Err e

@@ -1,0 +1,121 @@
+// The row of each command: its required options in order, and what stands for an optional one that was not given.
+ghost use Rattle.std.specs.Prelude.{◌≡◌, IfOk};
+ghost use Rattle.words.specs.Commands.{IsReadyCommand, need, replay_of, built};
+ghost use Rattle.words.specs.Shown.{shown, shown_given, answer, files_answer};
+ghost use Rattle.words.specs.declared.table.Verb.TheVariants as verb;
+
+use crate::command::{Command, Opt, WordFault};
+use crate::given::{Given, TraceFiles};
+use crate::table::Verb;
+use dvs_base::{Version, is_pair};
+
+// The value of a required option.
+fn need<T>(value: Option<T>, option: Opt) -> Result<T, WordFault>
+    ensures { result ≡ need option value }
+{
+    value.ok_or(WordFault::Missing { option })
+}
+
+// A run by the values that were given.
+fn planned<'a>(given: Given<'a>) -> Result<Command<'a>, WordFault>
+    ensures read { answer result ≡ built verb.Run (shown_given given.entry) }
+    ensures ready { IfOk result (λ c. IsReadyCommand (shown c)) }
+{
+    let tasks = need(given.tasks, Opt::Tasks)?;
+    let machine = need(given.machine, Opt::Machine)?;
+    let scheduler = need(given.scheduler, Opt::Scheduler)?;
+    let governor = need(given.governor, Opt::Governor)?;
+    let ticks = need(given.ticks, Opt::Ticks)?;
+    if !is_pair(scheduler, governor) {
+        return Err(WordFault::Pair);
+    }
+    Ok(Command::Run {
+        tasks,
+        machine,
+        demands: given.demands,
+        scheduler,
+        governor,
+        ticks: ticks.number,
+        probes: given.probes.is_some(),
+        version: given.format.unwrap_or(Version::One),
+    })
+}
+
+// An admission by the values that were given.
+fn admitted<'a>(given: Given<'a>) -> Result<Command<'a>, WordFault>
+    ensures { answer result ≡ built verb.Admit (shown_given given.entry) }
+{
+    let tasks = need(given.tasks, Opt::Tasks)?;
+    let machine = need(given.machine, Opt::Machine)?;
+    let scheduler = need(given.scheduler, Opt::Scheduler)?;
+    Ok(Command::Admit {
+        tasks,
+        machine,
+        scheduler,
+    })
+}
+
+// The files of a trace, by the values that were given.
+fn files_of<'a>(given: Given<'a>) -> Result<TraceFiles<'a>, WordFault>
+    ensures { files_answer result ≡ replay_of (shown_given given.entry) }
+{
+    let tasks = need(given.tasks, Opt::Tasks)?;
+    let machine = need(given.machine, Opt::Machine)?;
+    let trace = need(given.trace, Opt::Trace)?;
+    Ok(TraceFiles {
+        tasks,
+        machine,
+        trace,
+    })
+}
+
+// A replay by the values that were given.
+fn replayed<'a>(given: Given<'a>) -> Result<Command<'a>, WordFault>
+    ensures { answer result ≡ built verb.Replay (shown_given given.entry) }
+{
+    match files_of(given) {
+        Ok(files) => Ok(Command::Replay {
+            tasks: files.tasks,
+            machine: files.machine,
+            trace: files.trace,
+        }),
+        Err(fault) => Err(fault),
+    }
+}
+
+// A migration by the values that were given, which are those of a replay.
+fn migrated<'a>(given: Given<'a>) -> Result<Command<'a>, WordFault>
+    ensures { answer result ≡ built verb.Migrate (shown_given given.entry) }
+{
+    match files_of(given) {
+        Ok(files) => Ok(Command::Migrate {
+            tasks: files.tasks,
+            machine: files.machine,
+            trace: files.trace,
+        }),
+        Err(fault) => Err(fault),
+    }
+}
+
+// A workload by the seed that was given.
+fn made<'a>(given: Given<'a>) -> Result<Command<'a>, WordFault>
+    ensures { answer result ≡ built verb.Workload (shown_given given.entry) }
+{
+    let seed = need(given.seed, Opt::Seed)?;
+    Ok(Command::Workload { seed })
+}
+
+/// The command by the values that were given. Missing exactly for the first required option that was not; then Pair for
+/// rate monotonic with look-ahead.
+pub fn built<'a>(verb: Verb, given: Given<'a>) -> Result<Command<'a>, WordFault>
+    ensures read { answer result ≡ built verb (shown_given given.entry) }
+    ensures ready { IfOk result (λ c. IsReadyCommand (shown c)) }
+{
+    match verb {
+        Verb::Run => planned(given),
+        Verb::Admit => admitted(given),
+        Verb::Replay => replayed(given),
+        Verb::Migrate => migrated(given),
+        Verb::Workload => made(given),
+    }
+}

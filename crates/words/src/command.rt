@@ -1,0 +1,82 @@
+// Commands, and why words are refused.
+use dvs_base::{GovernorKind, Scheduler, Short, Version};
+
+/// An option that a command can require, or that takes a value of its own.
+#[derive(Clone, Copy, Debug, PartialEq, Eq)]
+pub enum Opt {
+    /// `--tasks`: the file of tasks.
+    Tasks,
+    /// `--machine`: the file of the machine.
+    Machine,
+    /// `--demands`: the file of demands.
+    Demands,
+    /// `--scheduler`: `edf` or `rm`.
+    Scheduler,
+    /// `--governor`: `none`, `static`, `cc` or `la`.
+    Governor,
+    /// `--ticks`: the number of ticks of a run.
+    Ticks,
+    /// `--trace`: the file of a trace.
+    Trace,
+    /// `--seed`: the number from which a workload is made.
+    Seed,
+}
+
+/// What the words ask for. Files are named and not yet read.
+#[derive(Clone, Copy, Debug, PartialEq, Eq)]
+pub enum Command<'a> {
+    /// Print the trace of so many ticks, in this version; with probes, print what they counted too.
+    Run {
+        tasks: &'a str,
+        machine: &'a str,
+        demands: Option<&'a str>,
+        scheduler: Scheduler,
+        governor: GovernorKind,
+        ticks: u64,
+        probes: bool,
+        version: Version,
+    },
+    /// Say whether the scheduler's test admits the tasks.
+    Admit {
+        tasks: &'a str,
+        machine: &'a str,
+        scheduler: Scheduler,
+    },
+    /// Say whether a trace is that of the run that it tells.
+    Replay {
+        tasks: &'a str,
+        machine: &'a str,
+        trace: &'a str,
+    },
+    /// Print such a trace as its text of version 2.
+    Migrate {
+        tasks: &'a str,
+        machine: &'a str,
+        trace: &'a str,
+    },
+    /// Run what is made from a seed, under each governor.
+    Workload {
+        seed: u64,
+    },
+}
+
+/// The first trouble of the words, from left to right. Places count from 1, and the command stands at place 1.
+#[derive(Clone, Copy, Debug, PartialEq, Eq)]
+pub enum WordFault {
+    /// There is no word.
+    NoCommand,
+    /// The first word is no command.
+    BadCommand { word: Short },
+    /// A word in an option's place is no option of the command.
+    Unexpected { place: u64, word: Short },
+    /// The option was given before.
+    Repeated { place: u64, word: Short },
+    /// The option is the last word and needs a value.
+    NoValue { place: u64, word: Short },
+    /// The value is outside the rule of its option; the place is the value's.
+    BadValue { place: u64, word: Short },
+    /// The first required option, in the order of the table, that was not given.
+    Missing { option: Opt },
+    /// Rate monotonic has no look-ahead.
+    Pair,
+}

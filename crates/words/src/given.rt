@@ -1,0 +1,26 @@
+// The values of the options that were given.
+use crate::ticks::Ticks;
+use dvs_base::{GovernorKind, Scheduler, Version};
+
+/// The value of each option that was given, within its rule.
+#[derive(Clone, Copy, Debug, PartialEq, Eq)]
+pub struct Given<'a> {
+    pub tasks: Option<&'a str>,
+    pub machine: Option<&'a str>,
+    pub demands: Option<&'a str>,
+    pub trace: Option<&'a str>,
+    pub scheduler: Option<Scheduler>,
+    pub governor: Option<GovernorKind>,
+    pub ticks: Option<Ticks>,
+    pub seed: Option<u64>,
+    pub probes: Option<bool>,
+    pub format: Option<Version>,
+}
+
+/// The files of a trace: those of the plan that it tells, and its own.
+#[derive(Clone, Copy, Debug, PartialEq, Eq)]
+pub struct TraceFiles<'a> {
+    pub tasks: &'a str,
+    pub machine: &'a str,
+    pub trace: &'a str,
+}

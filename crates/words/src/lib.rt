@@ -1,0 +1,21 @@
+//! The words of a command: its name, and then its options in any order, each at most once.
+//!
+//! [`read_words`] answers the command, or the first trouble from left to right with its place; it takes no memory. What
+//! the words mean is one definition, `command_of` in `specs/Reading.antt`, over the table in `specs/Table.antt`. A new
+//! command is a row of that table, and a variant.
+#![tactic(auto)]
+
+mod build;
+mod command;
+mod given;
+mod read;
+mod table;
+mod ticks;
+mod value;
+
+pub use command::{Command, Opt, WordFault};
+pub use read::read_words;
+pub use table::option_word;
+
+#[cfg(test)]
+mod tests;

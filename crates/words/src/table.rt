@@ -1,0 +1,127 @@
+// The table of the commands: their words, and which options each takes.
+ghost use Rattle.std.specs.Prelude.{◌≡◌, ◌≤◌, length};
+ghost use Rattle.std.specs.Str.{bytes_eq};
+ghost use Rattle.words.specs.Table.{verb_of, options_of, option_word, word_of, option_named, takes_value};
+
+use crate::command::Opt;
+
+/// A command's name.
+#[derive(Clone, Copy, Debug, PartialEq, Eq)]
+pub enum Verb {
+    Run,
+    Admit,
+    Replay,
+    Migrate,
+    Workload,
+}
+
+/// An option.
+#[derive(Clone, Copy, Debug, PartialEq, Eq)]
+pub enum Key {
+    Tasks,
+    Machine,
+    Demands,
+    Scheduler,
+    Governor,
+    Ticks,
+    Trace,
+    Seed,
+    Probes,
+    Format,
+}
+
+/// The command of a word.
+pub fn verb_of(word: &str) -> Option<Verb>
+    ensures { result ≡ verb_of word.now }
+{
+    match word {
+        "run" => Some(Verb::Run),
+        "admit" => Some(Verb::Admit),
+        "replay" => Some(Verb::Replay),
+        "migrate" => Some(Verb::Migrate),
+        "workload" => Some(Verb::Workload),
+        _ => None,
+    }
+}
+
+/// The options that a command takes: the required ones in their order, then the others.
+pub fn options_of(verb: Verb) -> &'static [Key]
+    ensures { result.now ≡ options_of verb }
+{
+    match verb {
+        Verb::Run => &[
+            Key::Tasks,
+            Key::Machine,
+            Key::Scheduler,
+            Key::Governor,
+            Key::Ticks,
+            Key::Demands,
+            Key::Probes,
+            Key::Format,
+        ],
+        Verb::Admit => &[Key::Tasks, Key::Machine, Key::Scheduler],
+        Verb::Replay => &[Key::Tasks, Key::Machine, Key::Trace],
+        Verb::Migrate => &[Key::Tasks, Key::Machine, Key::Trace],
+        Verb::Workload => &[Key::Seed],
+    }
+}
+
+/// How an option is written, as `--tasks`: at most 11 bytes.
+pub fn option_word(option: Opt) -> &'static [u8]
+    ensures word { result.now ≡ option_word option }
+    ensures short { length result.now ≤ 11 }
+{
+    match option {
+        Opt::Tasks => b"--tasks",
+        Opt::Machine => b"--machine",
+        Opt::Demands => b"--demands",
+        Opt::Scheduler => b"--scheduler",
+        Opt::Governor => b"--governor",
+        Opt::Ticks => b"--ticks",
+        Opt::Trace => b"--trace",
+        Opt::Seed => b"--seed",
+    }
+}
+
+/// The word of an option.
+pub fn word_of(key: Key) -> &'static [u8]
+    ensures { result.now ≡ word_of key }
+{
+    match key {
+        Key::Tasks => option_word(Opt::Tasks),
+        Key::Machine => option_word(Opt::Machine),
+        Key::Demands => option_word(Opt::Demands),
+        Key::Scheduler => option_word(Opt::Scheduler),
+        Key::Governor => option_word(Opt::Governor),
+        Key::Ticks => option_word(Opt::Ticks),
+        Key::Trace => option_word(Opt::Trace),
+        Key::Seed => option_word(Opt::Seed),
+        Key::Probes => b"--probes",
+        Key::Format => b"--format",
+    }
+}
+
+/// Whether the next word is the option's value.
+pub fn takes_value(key: Key) -> bool
+    ensures { result ≡ takes_value key }
+{
+    !matches!(key, Key::Probes)
+}
+
+fn is_word_of(key: Key, word: &[u8]) -> bool
+    ensures { result ≡ bytes_eq word.now (word_of key) }
+{
+    word == word_of(key)
+}
+
+/// The first of these options that the word names.
+pub fn option_named(keys: &[Key], word: &[u8]) -> Option<Key>
+    ensures { result ≡ option_named keys.now word.now }
+{
+    for key in keys {
+        if is_word_of(*key, word) {
+            return Some(*key);
+        }
+    }
+    None
+}

@@ -1,0 +1,95 @@
+// What a word is as the value of an option.
+ghost use Rattle.std.specs.Prelude.{◌≡◌, option_map};
+ghost use Rattle.dvs_base.specs.PlanWords.{ticks_of};
+ghost use Rattle.words.specs.Values.{file_name, version_of, number_of, nothing_given, has, with_value};
+ghost use Rattle.words.specs.Shown.{shown_given};
+
+use crate::given::Given;
+use crate::table::Key;
+use crate::ticks::Ticks;
+use dvs_base::{Version, governor_of, scheduler_of, whole};
+
+fn file_name(word: &str) -> Option<&str>
+    ensures { option_map (λ s. s.now) result ≡ file_name word.now }
+{
+    if word.is_empty() { None } else { Some(word) }
+}
+
+fn version_of(word: &str) -> Option<Version>
+    ensures { result ≡ version_of word.now }
+{
+    match word {
+        "1" => Some(Version::One),
+        "2" => Some(Version::Two),
+        _ => None,
+    }
+}
+
+fn ticks_of(word: &str) -> Option<Ticks>
+    ensures { option_map (λ t. t.number) result ≡ ticks_of word.now }
+{
+    let number = dvs_base::ticks_of(word.as_bytes())?;
+    Some(Ticks { number })
+}
+
+fn number_of(word: &str) -> Option<u64>
+    ensures { result ≡ number_of word.now }
+{
+    whole(word.as_bytes())
+}
+
+impl<'a> Given<'a> {
+    pub fn nothing() -> Given<'a>
+        ensures { shown_given result ≡ nothing_given }
+    {
+        Given {
+            tasks: None,
+            machine: None,
+            demands: None,
+            trace: None,
+            scheduler: None,
+            governor: None,
+            ticks: None,
+            seed: None,
+            probes: None,
+            format: None,
+        }
+    }
+
+    /// Whether the option was given.
+    pub fn has(&self, key: Key) -> bool
+        ensures { result ≡ has (shown_given self.now) key }
+    {
+        match key {
+            Key::Tasks => self.tasks.is_some(),
+            Key::Machine => self.machine.is_some(),
+            Key::Demands => self.demands.is_some(),
+            Key::Scheduler => self.scheduler.is_some(),
+            Key::Governor => self.governor.is_some(),
+            Key::Ticks => self.ticks.is_some(),
+            Key::Trace => self.trace.is_some(),
+            Key::Seed => self.seed.is_some(),
+            Key::Probes => self.probes.is_some(),
+            Key::Format => self.format.is_some(),
+        }
+    }
+}
+
+/// With the value that the word is for this option. None exactly where the word is outside the option's rule.
+pub fn with_value<'a>(mut given: Given<'a>, key: Key, word: &'a str) -> Option<Given<'a>>
+    ensures { option_map shown_given result ≡ with_value (shown_given given.entry) key word.now }
+{
+    match key {
+        Key::Tasks => given.tasks = Some(file_name(word)?),
+        Key::Machine => given.machine = Some(file_name(word)?),
+        Key::Demands => given.demands = Some(file_name(word)?),
+        Key::Scheduler => given.scheduler = Some(scheduler_of(word.as_bytes())?),
+        Key::Governor => given.governor = Some(governor_of(word.as_bytes())?),
+        Key::Ticks => given.ticks = Some(ticks_of(word)?),
+        Key::Trace => given.trace = Some(file_name(word)?),
+        Key::Seed => given.seed = Some(number_of(word)?),
+        Key::Probes => given.probes = Some(true),
+        Key::Format => given.format = Some(version_of(word)?),
+    }
+    Some(given)
+}
