@@ -42,18 +42,6 @@ pub enum Command<'a> {
         machine: &'a str,
         scheduler: Scheduler,
     },
-    /// Say whether a trace is that of the run that it tells.
-    Replay {
-        tasks: &'a str,
-        machine: &'a str,
-        trace: &'a str,
-    },
-    /// Print such a trace as its text of version 2.
-    Migrate {
-        tasks: &'a str,
-        machine: &'a str,
-        trace: &'a str,
-    },
     /// Run what is made from a seed, under each governor.
     Workload {
         seed: u64,

@@ -10,8 +10,6 @@ use crate::command::Opt;
 pub enum Verb {
     Run,
     Admit,
-    Replay,
-    Migrate,
     Workload,
 }
 
@@ -37,8 +35,6 @@ pub fn verb_of(word: &str) -> Option<Verb>
     match word {
         "run" => Some(Verb::Run),
         "admit" => Some(Verb::Admit),
-        "replay" => Some(Verb::Replay),
-        "migrate" => Some(Verb::Migrate),
         "workload" => Some(Verb::Workload),
         _ => None,
     }
@@ -58,8 +54,6 @@ pub fn options_of(verb: Verb) -> &'static [Key]
             Key::Demands,
         ],
         Verb::Admit => &[Key::Tasks, Key::Machine, Key::Scheduler],
-        Verb::Replay => &[Key::Tasks, Key::Machine, Key::Trace],
-        Verb::Migrate => &[Key::Tasks, Key::Machine, Key::Trace],
         Verb::Workload => &[Key::Seed],
     }
 }
