@@ -4,7 +4,7 @@ use Rattle.dvs_base.specs.Outside.{Files, ShelfView, SinkView, Rose, Lacks, file
 use Rattle.dvs_base.specs.Checks.{and_then}
 use Rattle.task_model.specs.declared.task.Task.{Task}
 use Rattle.freq_table.specs.Tables.{Table}
-use Rattle.rtdvs_top.specs.Words.{RunOf, CommandOf, run, admit, workload}
+use Rattle.words.specs.Commands.{RunOf, CommandOf, run, admit, workload}
 use Rattle.rtdvs_top.specs.Answer.{tasks_at, machine_at, demands_at, run_after_tasks, admit_after_tasks, answer_of_command}
 use Rattle.rtdvs_top.specs.Causes.{LoadOf, NamedLoadFails, PassesBefore, files_for}
 use Rattle.rtdvs_top.specs.Ending.{EndsAs, Leaves}
@@ -80,11 +80,11 @@ module _ (files : Files) where
 pub answers-of : (told : Option Files) (c : CommandOf) (old new : ShelfView) (out_old out_new : SinkView) (s : Status)
     → files_for old.held c ≡ told
     → EndsAs out_old out_new told (answer_of_command c) s → LoadOf old new c s → PassesBefore told c s
-    → Answers told (Some c) (Rose old.faults new.faults) (Rose out_old.faults out_new.faults) s
+    → Answers told (Ok c) (Rose old.faults new.faults) (Rose out_old.faults out_new.faults) s
 answers-of None c old new out_old out_new s told ends load passes = tt
 answers-of (Some files) c old new out_old out_new status.Done told ends load passes = rw ends.1 refl
 answers-of (Some files) c old new out_old out_new status.Write told ends load passes = (rw ends.1 refl, ends.2.rose)
-answers-of (Some files) c old new out_old out_new status.Words told ends load passes = absurd ends
+answers-of (Some files) c old new out_old out_new (status.Words why) told ends load passes = absurd ends
 answers-of (Some files) c old new out_old out_new (status.NotAdmitted why) told ends load passes = ends
 answers-of (Some files) c old new out_old out_new (status.Load kind) told ends load passes = lacks-answer files old new c kind told load passes
 answers-of (Some files) c old new out_old out_new (status.Text why) told ends load passes = ends
@@ -94,13 +94,13 @@ answers-of (Some files) c old new out_old out_new status.NoMemory told ends load
 
 -- a sink that is sure of the whole answer counts no fault
 pub sure-of : {W : Type 0} (shows : W → SinkView) (told : Option Files) (c : CommandOf) (s : Status) (old new : W)
-    → EndsAs (shows old) (shows new) told (answer_of_command c) s → Leaves s old new → IsSureOf told (Some c) (shows old)
+    → EndsAs (shows old) (shows new) told (answer_of_command c) s → Leaves s old new → IsSureOf told (Ok c) (shows old)
     → (shows new).faults ≡ (shows old).faults
 sure-of shows None c s old new ends leaves sure = absurd sure
 sure-of shows (Some files) c status.Done old new ends leaves sure = ends.2.steady
 sure-of shows (Some files) c status.Write old new ends leaves sure =
     let whole = sure ends.0 ends.1 in omega (arith, whole, ends.2.unsure)
-sure-of shows (Some files) c status.Words old new ends leaves sure = ap (λ w. (shows w).faults) leaves
+sure-of shows (Some files) c (status.Words why) old new ends leaves sure = ap (λ w. (shows w).faults) leaves
 sure-of shows (Some files) c (status.NotAdmitted why) old new ends leaves sure = ap (λ w. (shows w).faults) leaves
 sure-of shows (Some files) c (status.Load kind) old new ends leaves sure = ap (λ w. (shows w).faults) leaves
 sure-of shows (Some files) c (status.Text why) old new ends leaves sure = ap (λ w. (shows w).faults) leaves

@@ -11,7 +11,7 @@ module _ (old new : SinkView) where
   ends-somehow : (answer : Result (List ℕ) Status) (s : Status) → Ends old new answer s → EndsSomehow old new s
   ends-somehow answer status.Done h = (h.0, h.2)
   ends-somehow answer status.Write h = (h.0, h.2)
-  ends-somehow answer status.Words h = absurd h
+  ends-somehow answer (status.Words why) h = absurd h
   ends-somehow answer (status.NotAdmitted why) h = tt
   ends-somehow answer (status.Load file) h = tt
   ends-somehow answer (status.Text why) h = tt
@@ -22,7 +22,7 @@ module _ (old new : SinkView) where
   refused-somehow : (s : Status) → IsRefusal s → EndsSomehow old new s
   refused-somehow status.Done h = absurd h
   refused-somehow status.Write h = absurd h
-  refused-somehow status.Words h = absurd h
+  refused-somehow (status.Words why) h = absurd h
   refused-somehow (status.NotAdmitted why) h = tt
   refused-somehow (status.Load file) h = tt
   refused-somehow (status.Text why) h = tt
@@ -34,7 +34,7 @@ module _ (old new : SinkView) where
       → Ends old new (and_then step k) s
   refused-ends step k status.Done h = absurd h
   refused-ends step k status.Write h = absurd h
-  refused-ends step k status.Words h = absurd h
+  refused-ends step k (status.Words why) h = absurd h
   refused-ends step k (status.NotAdmitted why) h = rw h refl
   refused-ends step k (status.Load file) h = tt
   refused-ends step k (status.Text why) h = rw h refl

@@ -12,7 +12,8 @@ use Rattle.sched_model.specs.Demands.{demand_of}
 use Rattle.sched_model.specs.Text.{run_text}
 use Rattle.sched_model.specs.Jobs.{released_jobs}
 use Rattle.dvs_base.specs.declared.limits.TheConstants.{MOST_JOBS}
-use Rattle.rtdvs_top.specs.Words.{RunOf, CommandOf, run, admit, workload}
+use Rattle.words.specs.declared.command.WordFault.{WordFault}
+use Rattle.words.specs.Commands.{RunOf, CommandOf, run, admit, workload}
 use Rattle.rtdvs_top.specs.Answer.{tasks_at, machine_at, demands_at, admission, within_jobs, prepared_of, answer_of_prepared, run_after_tasks, answer_of_command}
 use Rattle.rtdvs_top.specs.Promises.{Means, DoneRun, DeniedPlan, OfRun, RunsOrIsDenied, Answers, Headline}
 use Rattle.rtdvs_top.specs.Ending.{EndsAs, MetIn, HasMet, run_with}
@@ -77,7 +78,7 @@ done-run : (r : RunOf) (files : Files) (old new : SinkView) (tasks : List Task) 
     → tasks_at r.tasks files ≡ Ok tasks → prepared_of r tasks files ≡ Ok (p, d)
     → answer_of_command (run r) files ≡ Ok bytes
     → Appends old.written new.written bytes → HasMet r.governor (run_with r p d)
-    → OfRun (Some files) (Some (run r)) old new status.Done
+    → OfRun (Some files) (Ok (run r)) old new status.Done
 done-run r files old new tasks p d bytes t q e wrote met =
     let m = prepared-means r files tasks p d t q in
     let whole = done-text r files tasks p d bytes t q e in
@@ -88,14 +89,14 @@ done-run r files old new tasks p d bytes t q e wrote met =
 
 -- the run of told files, from how its answer ends and what it met
 pub of-run : (told : Option Files) (c : CommandOf) (s : Status) (old new : SinkView)
-    → EndsAs old new told (answer_of_command c) s → MetIn told c s → OfRun told (Some c) old new s
+    → EndsAs old new told (answer_of_command c) s → MetIn told c s → OfRun told (Ok c) old new s
 of-run None c s old new ends met = tt
 of-run (Some files) (admit a) s old new ends met = tt
 of-run (Some files) (workload seed) s old new ends met = tt
 of-run (Some files) (run r) status.Done old new ends met =
     done-run r files old new met.0 met.2.0 met.2.1 ends.0 met.1 met.2.2 ends.1 ends.2.bytes met.2.3
 of-run (Some files) (run r) (status.NotAdmitted why) old new ends met = denied-means r files why ends
-of-run (Some files) (run r) status.Words old new ends met = tt
+of-run (Some files) (run r) (status.Words why) old new ends met = tt
 of-run (Some files) (run r) (status.Load kind) old new ends met = tt
 of-run (Some files) (run r) (status.Text why) old new ends met = tt
 of-run (Some files) (run r) (status.Limit jobs) old new ends met = tt
@@ -132,7 +133,7 @@ module _ (r : RunOf) (files : Files) (tasks : List Task) (machine : Table) (dema
       go (inr denial) = (denial.0, ap status_of (sym e ∙ (answer-is ∙ ap after denial.1)), denied-plan plan denial.0 denial.1)
 
   -- a run that is done is of what its files mean
-  done-only : (old new : SinkView) → OfRun (Some files) (Some (run r)) old new status.Done
+  done-only : (old new : SinkView) → OfRun (Some files) (Ok (run r)) old new status.Done
       → DoneRun r.governor (run_with r plan demands) old new
   done-only old new x =
       let ts = ap given_tasks (sym x.3.tasks_are ∙ means.tasks_are) in
@@ -154,13 +155,14 @@ module _ (r : RunOf) (files : Files) (tasks : List Task) (machine : Table) (dema
       given_demands (Err s) = demands
 
   pub runs-or-is-denied : (loads_rose : Type 0) (old new : SinkView) (s : Status)
-      → OfRun (Some files) (Some (run r)) old new s
-      → Answers (Some files) (Some (run r)) loads_rose (Rose old.faults new.faults) s → (loads_rose → ⊥)
+      → OfRun (Some files) (Ok (run r)) old new s
+      → Answers (Some files) (Ok (run r)) loads_rose (Rose old.faults new.faults) s → (loads_rose → ⊥)
       → (Rose old.faults new.faults → ⊥) → s ≢ status.NoMemory
       → RunsOrIsDenied r.governor (run_with r plan demands) old new s
   runs-or-is-denied loads_rose old new status.Done of answers still whole_out memory = inl (refl, done-only old new of)
   runs-or-is-denied loads_rose old new (status.NotAdmitted why) of answers still whole_out memory = inr (denied-only (status.NotAdmitted why) answers)
-  runs-or-is-denied loads_rose old new status.Words of answers still whole_out memory = inr (denied-only status.Words answers)
+  runs-or-is-denied loads_rose old new (status.Words why) of answers still whole_out memory =
+      inr (denied-only (status.Words why) answers)
   runs-or-is-denied loads_rose old new (status.Load kind) of (inl answers) still whole_out memory = inr (denied-only (status.Load kind) answers)
   runs-or-is-denied loads_rose old new (status.Load kind) of (inr rose) still whole_out memory = absurd (still rose)
   runs-or-is-denied loads_rose old new (status.Text why) of answers still whole_out memory = inr (denied-only (status.Text why) answers)
@@ -170,12 +172,12 @@ module _ (r : RunOf) (files : Files) (tasks : List Task) (machine : Table) (dema
   runs-or-is-denied loads_rose old new status.NoMemory of answers still whole_out memory = absurd (memory refl)
 
 -- the headline, from what holds of each run and from whose answer the status is
-pub headline-of : (told : Option Files) (c : Option CommandOf) (loads_rose : Type 0) (old new : SinkView) (s : Status)
+pub headline-of : (told : Option Files) (c : Result CommandOf WordFault) (loads_rose : Type 0) (old new : SinkView) (s : Status)
     → OfRun told c old new s
     → Answers told c loads_rose (Rose old.faults new.faults) s → Headline told c loads_rose old new s
 headline-of None c loads_rose old new s of answers = tt
-headline-of (Some files) None loads_rose old new s of answers = tt
-headline-of (Some files) (Some (admit a)) loads_rose old new s of answers = tt
-headline-of (Some files) (Some (workload seed)) loads_rose old new s of answers = tt
-headline-of (Some files) (Some (run r)) loads_rose old new s of answers =
+headline-of (Some files) (Err why) loads_rose old new s of answers = tt
+headline-of (Some files) (Ok (admit a)) loads_rose old new s of answers = tt
+headline-of (Some files) (Ok (workload seed)) loads_rose old new s of answers = tt
+headline-of (Some files) (Ok (run r)) loads_rose old new s of answers =
     λ tasks machine demands means few still whole_out memory. runs-or-is-denied r files tasks machine demands means few loads_rose old new s of answers still whole_out memory

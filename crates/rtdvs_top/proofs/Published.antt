@@ -78,7 +78,7 @@ module _ (demand : Plan → StateOf → Frac) (kind : GovernorKind) (p : Plan) (
       → MeetsAllOf kind (run_of ticks) s
   met-published ticks status.Done h = (subst (IsMet p dem) (same-ticks ticks) h.0, λ n t lt. met-there t (h.1 n t lt))
   met-published ticks (status.NotAdmitted why) h = tt
-  met-published ticks status.Words h = tt
+  met-published ticks (status.Words why) h = tt
   met-published ticks (status.Load file) h = tt
   met-published ticks (status.Text why) h = tt
   met-published ticks (status.Limit jobs) h = tt

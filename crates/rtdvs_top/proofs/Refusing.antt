@@ -24,7 +24,7 @@ failed s = Err s
 -- a step that ends with a status gives a refusal
 pub ends-refusal : {A : Type 0} (step : Result A Status) (s : Status) → EndsWith step s → IsRefusal s
 ends-refusal step status.Done h = absurd h
-ends-refusal step status.Words h = absurd h
+ends-refusal step (status.Words why) h = absurd h
 ends-refusal step status.Write h = absurd h
 ends-refusal step (status.NotAdmitted why) h = tt
 ends-refusal step (status.Load kind) h = tt

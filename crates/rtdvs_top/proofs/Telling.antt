@@ -34,7 +34,7 @@ has-met kind r low tells test exists unique status.Done h = record {
   unique = unique;
 }
 has-met kind r low tells test exists unique (status.NotAdmitted why) h = tt
-has-met kind r low tells test exists unique status.Words h = tt
+has-met kind r low tells test exists unique (status.Words why) h = tt
 has-met kind r low tells test exists unique (status.Load file) h = tt
 has-met kind r low tells test exists unique (status.Text why) h = tt
 has-met kind r low tells test exists unique (status.Limit jobs) h = tt

@@ -29,7 +29,7 @@ use Rattle.sched_model.specs.Text.{run_text}
 use Rattle.sched_model.specs.Jobs.{released_jobs}
 use Rattle.event_kernel.specs.Runs.{Run}
 use Rattle.dvs_base.specs.declared.limits.TheConstants.{MOST_JOBS}
-use Rattle.rtdvs_top.specs.Words.{RunOf, AdmitOf, CommandOf, run, admit, workload}
+use Rattle.words.specs.Commands.{RunOf, AdmitOf, CommandOf, run, admit, workload}
 use Rattle.rtdvs_top.specs.WorkloadLines.{workload_text, workload_tasks, workload_ticks}
 use Rattle.rtdvs_top.specs.declared.status.FileKind.{FileKind}
 use Rattle.rtdvs_top.specs.declared.status.FileKind.TheVariants as file

@@ -1,13 +1,10 @@
--- The words that were read, as their texts.
-use Rattle.std.specs.Prelude.{◌≤◌, ◌^◌, option_map, ⊤}
+-- The words that were read, as their texts; and the run that is planned for them.
+use Rattle.std.specs.Prelude.{◌≤◌, ◌^◌, option_map}
 use Rattle.event_kernel.specs.Runs.{Run, IsListOf}
+use Rattle.words.specs.Commands.{RunOf, AdmitOf}
 use Rattle.rtdvs_top.specs.declared.run.PlannedRun.{PlannedRun}
-use Rattle.rtdvs_top.specs.Words.{RunOf, AdmitOf, CommandOf, run, admit, workload}
-use Rattle.dvs_base.specs.Pairs.{IsPair}
-use Rattle.rtdvs_top.specs.declared.words.RunWords.{RunWords}
-use Rattle.rtdvs_top.specs.declared.words.AdmitWords.{AdmitWords}
-use Rattle.rtdvs_top.specs.declared.words.Command.{Command}
-use Rattle.rtdvs_top.specs.declared.words.Command.TheVariants as command
+use Rattle.rtdvs_top.specs.declared.plan_words.RunWords.{RunWords}
+use Rattle.rtdvs_top.specs.declared.plan_words.AdmitWords.{AdmitWords}
 
 -- the texts of the words of a run
 abbrev pub shown_run : RunWords → RunOf
@@ -18,29 +15,13 @@ shown_run r = record {
   governor = r.governor;
   ticks = r.ticks;
   demands = option_map (λ s. s.now) r.demands;
+  probes = r.probes;
+  version = r.version;
 }
 
 -- the texts of the words of an admission
 abbrev pub shown_admit : AdmitWords → AdmitOf
 shown_admit a = record { tasks = a.tasks.now; machine = a.machine.now; scheduler = a.scheduler }
-
--- the texts of a command
-abbrev pub shown : Command → CommandOf
-shown (command.Run r) = run (shown_run r)
-shown (command.Admit a) = admit (shown_admit a)
-shown (command.Workload seed) = workload seed
-
--- the scheduler and the governor of a run are a pair, and its number of ticks is within the limits
-pub record IsReady (r : RunWords) : Type 0 where
-  pub pair : IsPair r.scheduler r.governor
-  pub some_ticks : 1 ≤ r.ticks
-  pub low_ticks : r.ticks ≤ 2 ^ 40
-
--- the same of a command
-abbrev pub IsReadyCommand : Command → Type 0
-IsReadyCommand (command.Run r) = IsReady r
-IsReadyCommand (command.Admit a) = ⊤
-IsReadyCommand (command.Workload seed) = ⊤
 
 -- the run that was planned
 abbrev pub planned : PlannedRun → Run

@@ -1,7 +1,7 @@
 -- What a status says, and why it comes.
 use Rattle.std.specs.Prelude.{IsOk, ◌≡◌, ◌⊎◌, ℕ, ◌+◌, ◌<◌, ◌≤◌, List, [], Option, Some, None, Result, Ok, Err, ⊤}
 use Rattle.dvs_base.specs.Outside.{Files, ShelfView, Lacks, Rose}
-use Rattle.rtdvs_top.specs.Words.{RunOf, CommandOf, run, admit, workload}
+use Rattle.words.specs.Commands.{RunOf, CommandOf, run, admit, workload}
 use Rattle.rtdvs_top.specs.Answer.{tasks_at, machine_at}
 use Rattle.rtdvs_top.specs.declared.status.FileKind.{FileKind}
 use Rattle.rtdvs_top.specs.declared.status.FileKind.TheVariants as file
@@ -11,7 +11,7 @@ use Rattle.rtdvs_top.specs.declared.status.Status.TheVariants as status
 -- the status of a step that didn't give a value, where it isn't one that the outside or memory explains
 abbrev pub EndsWith : {A : Type 0} → Result A Status → Status → Type 0
 EndsWith step status.Done = ⊥
-EndsWith step status.Words = ⊥
+EndsWith step (status.Words why) = ⊥
 EndsWith step status.Write = ⊥
 EndsWith step status.NoMemory = ⊤
 EndsWith step (status.Load kind) = ⊤
@@ -20,7 +20,7 @@ EndsWith step s = step ≡ Err s
 -- a status of a step whose files are not told
 abbrev pub IsRefusal : Status → Type 0
 IsRefusal status.Done = ⊥
-IsRefusal status.Words = ⊥
+IsRefusal (status.Words why) = ⊥
 IsRefusal status.Write = ⊥
 IsRefusal s = ⊤
 

@@ -7,7 +7,7 @@ use Rattle.rtdvs_top.specs.declared.status.Status.TheVariants as status
 abbrev pub code_of : Status → ℕ
 code_of status.Done = 0
 code_of (status.NotAdmitted denied) = 1
-code_of status.Words = 2
+code_of (status.Words why) = 2
 code_of (status.Load file) = 3
 code_of (status.Text why) = 4
 code_of (status.Limit jobs) = 5

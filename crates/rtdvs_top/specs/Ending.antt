@@ -18,7 +18,7 @@ use Rattle.sched_model.specs.TheSchedule.{IsTheSchedule}
 use Rattle.done_lines.specs.DoneLines.{TellsDeadlines}
 use Rattle.event_kernel.specs.Runs.{Run, demands_of, notes_of_run, MeetsDeadlines, MeetsDemands}
 use Rattle.rtdvs_top.specs.Answer.{within_jobs, prepared_of, tasks_at}
-use Rattle.rtdvs_top.specs.Words.{RunOf, CommandOf, run}
+use Rattle.words.specs.Commands.{RunOf, CommandOf, run}
 use Rattle.rtdvs_top.specs.Causes.{EndsWith, IsRefusal, Gives}
 use Rattle.rtdvs_top.specs.Writing.{Wrote, WroteSome}
 use Rattle.rtdvs_top.specs.declared.status.Status.{Status}

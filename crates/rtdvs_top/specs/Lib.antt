@@ -1,6 +1,6 @@
 pub mod Code
 pub mod Shown
-pub mod Words
+pub mod WordLines
 pub mod Asked
 pub mod Naming
 pub mod Refusals

@@ -2,7 +2,7 @@
 use Rattle.std.specs.Prelude.{◌≡◌, ℕ, List, [], map, Option, Some, None, Result, Ok, Err, ⊤}
 use Rattle.dvs_base.specs.Outside.{Files}
 use Rattle.task_model.specs.declared.task.Task.{Task}
-use Rattle.rtdvs_top.specs.Words.{CommandOf}
+use Rattle.words.specs.Commands.{CommandOf}
 use Rattle.rtdvs_top.specs.Answer.{tasks_at}
 use Rattle.rtdvs_top.specs.Refusals.{status_text}
 use Rattle.rtdvs_top.specs.Causes.{tasks_name}

@@ -1,4 +1,4 @@
--- What the top call promises, clause by clause. The command is what the words are, and nothing where they are none.
+-- What the top call promises, clause by clause. The command is what the words are, or why they are refused.
 use Rattle.std.specs.Prelude.{◌≡◌, ◌≢◌, ◌⊎◌, ℕ, ◌≤◌, List, [], length, map, string_bytes, String, Option, Some, None, Result, Ok, Err, IsOk, ⊤}
 use Rattle.std.specs.Io.KnownBytes.{Appends}
 use Rattle.std.specs.declared.alloc.Global.{Global}
@@ -12,7 +12,9 @@ use Rattle.sched_model.specs.Admission.{PassesTest}
 use Rattle.sched_model.specs.Jobs.{released_jobs}
 use Rattle.event_kernel.specs.Runs.{Run}
 use Rattle.dvs_base.specs.declared.limits.TheConstants.{MOST_JOBS}
-use Rattle.rtdvs_top.specs.Words.{RunOf, CommandOf, command_of, run}
+use Rattle.words.specs.Commands.{RunOf, CommandOf, run}
+use Rattle.words.specs.Reading.{command_of}
+use Rattle.words.specs.declared.command.WordFault.{WordFault}
 use Rattle.rtdvs_top.specs.Answer.{answer_of_command, prepared_of, admission, tasks_at, machine_at, demands_at}
 use Rattle.rtdvs_top.specs.Naming.{names_by}
 use Rattle.rtdvs_top.specs.Refusals.{status_text}
@@ -23,14 +25,14 @@ use Rattle.rtdvs_top.specs.declared.status.Denied.{Denied}
 use Rattle.rtdvs_top.specs.declared.status.Status.{Status}
 use Rattle.rtdvs_top.specs.declared.status.Status.TheVariants as status
 
--- the command that the words are
-abbrev pub asked : List (String Global) → Option CommandOf
+-- the command that the words are, or why they are refused
+abbrev pub asked : List (String Global) → Result CommandOf WordFault
 asked words = command_of (map string_bytes words)
 
 -- the files that the answer to the words is of: those of the command's answer, and none where the words are refused
-abbrev pub files_told : Option Files → Option CommandOf → Option Files
-files_told held (Some c) = files_for held c
-files_told held None = Some []
+abbrev pub files_told : Option Files → Result CommandOf WordFault → Option Files
+files_told held (Ok c) = files_for held c
+files_told held (Err why) = Some []
 
 -- The status is the answer's; or a load failed, and the shelf's count of faults rose; or a put failed, where the answer
 -- has a text, and the sink's count rose; or memory was wanting.
@@ -42,42 +44,42 @@ IsAnswer loads_rose puts_rose answer status.Write = IsOk answer × puts_rose
 IsAnswer loads_rose puts_rose answer s = answer ≡ Err s
 
 -- where the files are told, the status is that of the command's answer, but for what the outside and memory explain
-abbrev pub Answers : Option Files → Option CommandOf → Type 0 → Type 0 → Status → Type 0
+abbrev pub Answers : Option Files → Result CommandOf WordFault → Type 0 → Type 0 → Status → Type 0
 Answers None c loads_rose puts_rose s = ⊤
-Answers (Some files) None loads_rose puts_rose s = s ≡ status.Words
-Answers (Some files) (Some c) loads_rose puts_rose s = IsAnswer loads_rose puts_rose (answer_of_command c files) s
+Answers (Some files) (Err why) loads_rose puts_rose s = s ≡ status.Words why
+Answers (Some files) (Ok c) loads_rose puts_rose s = IsAnswer loads_rose puts_rose (answer_of_command c files) s
 
 -- where the files are told, the bytes grow by the whole answer
-abbrev pub Writes : Option Files → Option CommandOf → SinkView → SinkView → Type 0
-Writes (Some files) (Some c) old new =
+abbrev pub Writes : Option Files → Result CommandOf WordFault → SinkView → SinkView → Type 0
+Writes (Some files) (Ok c) old new =
     (text : List ℕ) × (answer_of_command c files ≡ Ok text) × Appends old.written new.written text
 Writes _ _ old new = ⊤
 
 -- where the files are told, the bytes grow by a first part of the answer
-abbrev pub WritesPart : Option Files → Option CommandOf → SinkView → SinkView → Type 0
-WritesPart (Some files) (Some c) old new =
+abbrev pub WritesPart : Option Files → Result CommandOf WordFault → SinkView → SinkView → Type 0
+WritesPart (Some files) (Ok c) old new =
     (text : List ℕ) × (answer_of_command c files ≡ Ok text) × AppendsPrefix old.written new.written text
 WritesPart _ _ old new = ⊤
 
 -- the sink is sure of the whole answer
-abbrev pub IsSureOf : Option Files → Option CommandOf → SinkView → Type 0
-IsSureOf (Some files) (Some c) sink = (text : List ℕ) → answer_of_command c files ≡ Ok text → length text ≤ sink.sure
+abbrev pub IsSureOf : Option Files → Result CommandOf WordFault → SinkView → Type 0
+IsSureOf (Some files) (Ok c) sink = (text : List ℕ) → answer_of_command c files ≡ Ok text → length text ≤ sink.sure
 IsSureOf _ _ sink = ⊥
 
 -- why a load failed
-abbrev pub LoadFailed : ShelfView → ShelfView → Option CommandOf → Status → Type 0
-LoadFailed old new (Some c) s = LoadOf old new c s
-LoadFailed old new None s = ⊤
+abbrev pub LoadFailed : ShelfView → ShelfView → Result CommandOf WordFault → Status → Type 0
+LoadFailed old new (Ok c) s = LoadOf old new c s
+LoadFailed old new (Err why) s = ⊤
 
 -- the files before a load that failed were read
-abbrev pub LoadsInOrder : Option Files → Option CommandOf → Status → Type 0
-LoadsInOrder told (Some c) s = PassesBefore told c s
-LoadsInOrder told None s = ⊤
+abbrev pub LoadsInOrder : Option Files → Result CommandOf WordFault → Status → Type 0
+LoadsInOrder told (Ok c) s = PassesBefore told c s
+LoadsInOrder told (Err why) s = ⊤
 
 -- how many files the words name
-abbrev pub loads_asked : Option CommandOf → ℕ
-loads_asked (Some c) = loads_of c
-loads_asked None = 0
+abbrev pub loads_asked : Result CommandOf WordFault → ℕ
+loads_asked (Ok c) = loads_of c
+loads_asked (Err why) = 0
 
 -- what the files of a run mean
 pub record Means (r : RunOf) (files : Files) (tasks : List Task) (machine : Table) (demands : DemandsOf) : Type 0 where
@@ -97,12 +99,12 @@ pub record DeniedPlan (p : Plan) (why : Denied) : Type 0 where
 
 -- The run of told files, without a premise. One that is done is of the tasks, the machine and the demands that its
 -- files mean, and so is one that is denied.
-abbrev pub OfRun : Option Files → Option CommandOf → SinkView → SinkView → Status → Type 0
-OfRun (Some files) (Some (run r)) old new status.Done =
+abbrev pub OfRun : Option Files → Result CommandOf WordFault → SinkView → SinkView → Status → Type 0
+OfRun (Some files) (Ok (run r)) old new status.Done =
     (tasks : List Task) × (machine : Table) × (demands : DemandsOf) × Means r files tasks machine demands
     × (prepared_of r tasks files ≡ Ok (plan_of tasks machine r.scheduler, demands))
     × DoneRun r.governor (run_with r (plan_of tasks machine r.scheduler) demands) old new
-OfRun (Some files) (Some (run r)) old new (status.NotAdmitted why) =
+OfRun (Some files) (Ok (run r)) old new (status.NotAdmitted why) =
     (tasks : List Task) × (machine : Table) × (demands : DemandsOf) × Means r files tasks machine demands
     × DeniedPlan (plan_of tasks machine r.scheduler) why
 OfRun told c old new s = ⊤
@@ -116,8 +118,8 @@ RunsOrIsDenied kind r old new s =
 -- The headline. The files of a run are told, and mean these tasks, this machine and these demands; the run releases no
 -- more jobs than the limit; no load and no put failed, and memory was found. Then the plan of these tasks, this machine
 -- and the words' scheduler runs with these demands, or it is denied.
-abbrev pub Headline : Option Files → Option CommandOf → Type 0 → SinkView → SinkView → Status → Type 0
-Headline (Some files) (Some (run r)) loads_rose old new s =
+abbrev pub Headline : Option Files → Result CommandOf WordFault → Type 0 → SinkView → SinkView → Status → Type 0
+Headline (Some files) (Ok (run r)) loads_rose old new s =
     (tasks : List Task) (machine : Table) (demands : DemandsOf) → Means r files tasks machine demands
     → released_jobs (plan_of tasks machine r.scheduler) r.ticks ≤ MOST_JOBS
     → (loads_rose → ⊥) → (Rose old.faults new.faults → ⊥) → s ≢ status.NoMemory
@@ -125,7 +127,7 @@ Headline (Some files) (Some (run r)) loads_rose old new s =
 Headline told c loads_rose old new s = ⊤
 
 -- the line of a status is noted, whole or in part, with the names of the command's tasks
-abbrev pub Notes : Option Files → Option CommandOf → Status → SinkView → SinkView → Type 0
-Notes (Some files) (Some c) s old new = NotedAs old new (status_text (names_by c files) s)
-Notes told None s old new = NotedAs old new (status_text [] s)
-Notes None (Some c) s old new = (names : List (List ℕ)) × NotedAs old new (status_text names s)
+abbrev pub Notes : Option Files → Result CommandOf WordFault → Status → SinkView → SinkView → Type 0
+Notes (Some files) (Ok c) s old new = NotedAs old new (status_text (names_by c files) s)
+Notes told (Err why) s old new = NotedAs old new (status_text [] s)
+Notes None (Ok c) s old new = (names : List (List ℕ)) × NotedAs old new (status_text names s)

@@ -15,6 +15,7 @@ use Rattle.demand_list.specs.declared.fault.Column.{Column}
 use Rattle.demand_list.specs.declared.fault.Column.TheVariants as column
 use Rattle.demand_list.specs.declared.fault.DemandFault.{DemandFault}
 use Rattle.demand_list.specs.declared.fault.DemandFault.TheVariants as demand_fault
+use Rattle.rtdvs_top.specs.WordLines.{word_fault_text}
 use Rattle.rtdvs_top.specs.declared.status.FileKind.{FileKind}
 use Rattle.rtdvs_top.specs.declared.status.FileKind.TheVariants as file
 use Rattle.rtdvs_top.specs.declared.status.TextFault.{TextFault}
@@ -146,7 +147,7 @@ denied_text names (denied.Rm task num cap) =
 abbrev pub status_text : List (List ℕ) → Status → List ℕ
 status_text names status.Done = []
 status_text names (status.NotAdmitted why) = denied_text names why
-status_text names status.Words = codes "words: refused\n"
+status_text names (status.Words why) = word_fault_text why
 status_text names (status.Load kind) = joined (codes "load: " ∷ file_word kind ∷ codes "\n" ∷ [])
 status_text names (status.Text why) = text_fault_text names why
 status_text names (status.Limit jobs) = joined (codes "limit: " ∷ decimal jobs ∷ codes " jobs, at most 100000\n" ∷ [])

@@ -1,6 +1,6 @@
 // The answer of an admission.
 ghost use Rattle.std.specs.Prelude.{IfOk, IfErr};
-ghost use Rattle.rtdvs_top.specs.Words.{admit as admit_of};
+ghost use Rattle.words.specs.Commands.{admit as admit_of};
 ghost use Rattle.rtdvs_top.specs.Asked.{shown_admit};
 ghost use Rattle.rtdvs_top.specs.Answer.{admitted_of, admit_after_tasks, admit_answer};
 ghost use Rattle.rtdvs_top.specs.Causes.{Gives, Refuses, MakesLoads, IsLoadOf, LoadOf, PassesBefore, loads_of};
@@ -9,8 +9,8 @@ ghost use Rattle.rtdvs_top.specs.Shown.{IsShown};
 ghost use Rattle.rtdvs_top.specs.Ending.{EndsAs, Leaves, MetIn};
 
 use crate::files::{load_machine, load_tasks};
+use crate::plan_words::AdmitWords;
 use crate::run::{admit, put_admitted};
-use crate::words::AdmitWords;
 use crate::{FileKind, Status};
 use dvs_base::{Shelf, Sink};
 use sched_model::Admitted;

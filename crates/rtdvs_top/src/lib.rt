@@ -9,12 +9,13 @@ mod admit_answer;
 mod files;
 mod made_lines;
 mod made_runs;
+mod plan_words;
 mod refusal;
 mod run;
 mod run_answer;
 mod status;
 mod top;
-mod words;
+mod word_line;
 mod writer;
 
 pub use status::{Denied, FileKind, Status, TextFault};

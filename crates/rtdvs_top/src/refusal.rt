@@ -7,6 +7,7 @@ ghost use Rattle.rtdvs_top.specs.Refusals.{file_word, task_field_word, machine_f
 ghost use Rattle.std.specs.Option.{option_copied};
 ghost use Rattle.rtdvs_top.specs.Naming.{names_of, name_text};
 
+use crate::word_line::word_fault_line;
 use crate::{Denied, FileKind, Status, TextFault};
 use demand_list::{Column, DemandFault};
 use dvs_base::{Line, Name, Part, Short, line_of};
@@ -360,7 +361,7 @@ pub(crate) fn status_line(status: &Status, tasks: Option<&TaskSet>) -> Line
     match status {
         Status::Done => Line::new(),
         Status::NotAdmitted(why) => denied_line(why, tasks),
-        Status::Words => line_of(&[Part::Word(b"words: refused\n")]),
+        Status::Words(why) => word_fault_line(why),
         Status::Load { file } => line_of(&[
             Part::Word(b"load: "),
             Part::Word(file_word(*file)),

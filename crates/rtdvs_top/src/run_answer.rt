@@ -1,8 +1,8 @@
 // The answer of a run.
 ghost use Rattle.std.specs.Prelude.{◌≡◌, ◌+◌, IfOk, IfErr};
 ghost use Rattle.event_kernel.specs.Runs.{IsListOf};
-ghost use Rattle.rtdvs_top.specs.Words.{run as run_of};
-ghost use Rattle.rtdvs_top.specs.Asked.{shown_run, IsReady};
+ghost use Rattle.words.specs.Commands.{IsReady, run as run_of};
+ghost use Rattle.rtdvs_top.specs.Asked.{shown_run};
 ghost use Rattle.rtdvs_top.specs.Answer.{prepared_of, run_after_tasks, run_answer};
 ghost use Rattle.rtdvs_top.specs.Causes.{Gives, Refuses, MakesLoads, LaterLoad, LoadOf, PassesMachine, PassesBefore, loads_named, loads_of};
 ghost use Rattle.rtdvs_top.specs.Naming.{NamedBy};
@@ -11,8 +11,8 @@ ghost use Rattle.rtdvs_top.specs.Ending.{EndsAs, Leaves, MetBy, MetIn};
 
 use crate::Status;
 use crate::files::{load_demands, load_machine, load_tasks};
+use crate::plan_words::RunWords;
 use crate::run::{PlannedRun, admit, run_plan};
-use crate::words::RunWords;
 use demand_list::Demands;
 use dvs_base::{Shelf, Sink};
 use sched_model::Admitted;
@@ -50,7 +50,7 @@ fn run_tasks<S: Shelf, W: Sink>(
     shelf: &mut S,
     out: &mut W,
 ) -> Status
-    requires { IsReady run.now }
+    requires { IsReady (shown_run run.now) }
     ensures ended { EndsAs (W.shows out.old) (W.shows out.new) (S.shows shelf.old).held
         (run_after_tasks (shown_run run.now) tasks.now) result }
     ensures leaves { Leaves result out.old out.new }
@@ -80,7 +80,7 @@ pub(crate) fn answer_run<S: Shelf, W: Sink>(
     shelf: &mut S,
     out: &mut W,
 ) -> (Status, Option<TaskSet>)
-    requires { IsReady run.now }
+    requires { IsReady (shown_run run.now) }
     ensures ended { EndsAs (W.shows out.old) (W.shows out.new) (S.shows shelf.old).held
         (run_answer (shown_run run.now)) result.0 }
     ensures leaves { Leaves result.0 out.old out.new }

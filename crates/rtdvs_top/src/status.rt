@@ -5,6 +5,7 @@ ghost use Rattle.rtdvs_top.specs.Code.{code_of};
 use demand_list::DemandFault;
 use freq_table::MachineFault;
 use task_model::TaskFault;
+use words::WordFault;
 
 /// The files that words name.
 #[derive(Clone, Copy, Debug, PartialEq, Eq)]
@@ -47,8 +48,8 @@ pub enum Status {
     Done,
     /// The scheduler's test fails.
     NotAdmitted(Denied),
-    /// The words aren't those of a command.
-    Words,
+    /// The words aren't those of a command: their first trouble, from left to right.
+    Words(WordFault),
     /// A file can't be loaded.
     Load {
         file: FileKind,
@@ -92,7 +93,7 @@ impl Status {
         match self {
             Status::Done => 0,
             Status::NotAdmitted(_) => 1,
-            Status::Words => 2,
+            Status::Words(_) => 2,
             Status::Load { .. } => 3,
             Status::Text(_) => 4,
             Status::Limit { .. } => 5,

@@ -1,8 +1,7 @@
 // The top call.
-ghost use Rattle.std.specs.Prelude.{◌≡◌, ◌≤◌, None, ◌↔◌};
+ghost use Rattle.std.specs.Prelude.{◌≡◌, ◌≤◌, ◌↔◌};
 ghost use Rattle.std.specs.Option.{option_copied};
 ghost use Rattle.dvs_base.specs.Outside.{Rose};
-ghost use Rattle.rtdvs_top.specs.Asked.{shown, IsReadyCommand};
 ghost use Rattle.rtdvs_top.specs.Answer.{answer_of_command};
 ghost use Rattle.rtdvs_top.specs.Causes.{MakesLoads, LoadOf, PassesBefore, files_for, loads_of};
 ghost use Rattle.rtdvs_top.specs.Naming.{names_of, NamedBy};
@@ -11,17 +10,21 @@ ghost use Rattle.rtdvs_top.specs.Shown.{IsShown};
 ghost use Rattle.rtdvs_top.specs.Ending.{EndsAs, Leaves, MetIn};
 ghost use Rattle.rtdvs_top.specs.Promises.{asked, files_told, Answers, Writes, WritesPart, IsSureOf, LoadFailed, LoadsInOrder, loads_asked, OfRun, Headline, Notes};
 ghost use Rattle.rtdvs_top.specs.Writing.{NotedAs};
+ghost use Rattle.words.specs.Commands.{IsReadyCommand};
+ghost use Rattle.words.specs.Shown.{shown};
+ghost use Rattle.words.specs.declared.command.WordFault.{WordFault};
 
 use crate::Status;
 use crate::admit_answer::answer_admit;
 use crate::made_lines::answer_workload;
+use crate::plan_words::{AdmitWords, RunWords};
 use crate::refusal::status_line;
 use crate::run_answer::answer_run;
-use crate::words::{Command, read_command};
 use crate::writer::put_line;
 use dvs_base::{Shelf, Sink};
 use std::alloc::Global;
 use task_model::TaskSet;
+use words::{Command, read_words};
 
 // Notes a status. A fault of the notes changes nothing else.
 fn note_status<E: Sink>(status: &Status, tasks: Option<&TaskSet>, notes: &mut E)
@@ -42,7 +45,7 @@ fn answer_command<S: Shelf, W: Sink>(
     shelf: &mut S,
     out: &mut W,
 ) -> (Status, Option<TaskSet>)
-    requires { IsReadyCommand command.now }
+    requires { IsReadyCommand (shown command.now) }
     ensures ended { EndsAs (W.shows out.old) (W.shows out.new)
         (files_for (S.shows shelf.old).held (shown command.now)) (answer_of_command (shown command.now)) result.0 }
     ensures leaves { Leaves result.0 out.old out.new }
@@ -56,8 +59,40 @@ fn answer_command<S: Shelf, W: Sink>(
     ensures shown { IsShown result.0 }
 {
     match command {
-        Command::Run(run) => answer_run(alloc, run, shelf, out),
-        Command::Admit(admit) => answer_admit(alloc, admit, shelf, out),
+        Command::Run {
+            tasks,
+            machine,
+            demands,
+            scheduler,
+            governor,
+            ticks,
+            probes,
+            version,
+        } => {
+            let run = RunWords {
+                tasks,
+                machine,
+                scheduler: *scheduler,
+                governor: *governor,
+                ticks: *ticks,
+                demands: *demands,
+                probes: *probes,
+                version: *version,
+            };
+            answer_run(alloc, &run, shelf, out)
+        }
+        Command::Admit {
+            tasks,
+            machine,
+            scheduler,
+        } => {
+            let admit = AdmitWords {
+                tasks,
+                machine,
+                scheduler: *scheduler,
+            };
+            answer_admit(alloc, &admit, shelf, out)
+        }
         Command::Workload { seed } => (answer_workload(alloc, *seed, out), None),
     }
 }
@@ -79,7 +114,7 @@ pub fn rtdvs<S: Shelf, W: Sink, E: Sink>(
     ensures answers { Answers (files_told (S.shows shelf.old).held (asked words.now)) (asked words.now)
         (Rose (S.shows shelf.old).faults (S.shows shelf.new).faults)
         (Rose (W.shows out.old).faults (W.shows out.new).faults) result }
-    ensures words { (result ≡ Status.Words) ↔ (asked words.now ≡ None) }
+    ensures words { (why : WordFault) → (result ≡ Status.Words why) ↔ (asked words.now ≡ Err why) }
     ensures load { LoadFailed (S.shows shelf.old) (S.shows shelf.new) (asked words.now) result }
     ensures in_order { LoadsInOrder (files_told (S.shows shelf.old).held (asked words.now)) (asked words.now) result }
     ensures write { result ≡ Status.Write → Rose (W.shows out.old).faults (W.shows out.new).faults }
@@ -112,9 +147,13 @@ pub fn rtdvs<S: Shelf, W: Sink, E: Sink>(
     ensures notes { Notes (files_told (S.shows shelf.old).held (asked words.now)) (asked words.now) result
         (E.shows notes.old) (E.shows notes.new) }
 {
-    let Some(command) = read_command(words) else {
-        note_status(&Status::Words, None, notes);
-        return Status::Words;
+    let command = match read_words(words) {
+        Ok(command) => command,
+        Err(fault) => {
+            let status = Status::Words(fault);
+            note_status(&status, None, notes);
+            return status;
+        }
     };
     let (status, tasks) = answer_command(alloc, &command, shelf, out);
     note_status(&status, tasks.as_ref(), notes);

@@ -29,4 +29,6 @@ mod refusals;
 #[cfg(test)]
 mod traces;
 #[cfg(test)]
+mod words;
+#[cfg(test)]
 mod workloads;

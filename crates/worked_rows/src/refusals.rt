@@ -147,21 +147,6 @@ fn a_file_over_the_limit_is_too_long(rt: HostRuntime) -> Result<(), Fail> {
 }
 
 #[test]
-fn missing_file_and_bad_words(rt: HostRuntime) -> Result<(), Fail> {
-    let absent = "run --tasks T --machine X --scheduler edf --governor none --ticks 16";
-    PAPER.asked(absent).refuses(&rt, 3, "load: machine")?;
-    for words in [
-        "",
-        "run --tasks a",
-        "run --tasks T --machine M --scheduler edf --governor none --ticks 0",
-        "run --tasks T --machine M --scheduler rm --governor la --ticks 16",
-    ] {
-        PAPER.asked(words).refuses(&rt, 2, "words: refused")?;
-    }
-    Ok(())
-}
-
-#[test]
 fn each_refusal_of_a_task_file_has_its_line(rt: HostRuntime) -> Result<(), Fail> {
     for (tasks, line) in [
         ("task = [", "tasks: not TOML"),

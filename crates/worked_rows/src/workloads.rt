@@ -58,17 +58,21 @@ fn failing_put_of_the_third_line(rt: HostRuntime) -> Result<(), Fail> {
 
 #[test]
 fn bad_words_of_a_workload(rt: HostRuntime) -> Result<(), Fail> {
-    for words in [
-        "workload",
-        "workload --seed",
-        "workload --seed -1",
-        "workload --seed 01",
-        "workload --seed one",
-        "workload --seed 18446744073709551616",
-        "workload --seed 1 2",
-        "workload --ticks 1",
+    for (words, line) in [
+        ("workload", "words: missing --seed"),
+        ("workload --seed", "words: 2: no value for --seed"),
+        ("workload --seed -1", "words: 3: bad value -1"),
+        ("workload --seed 01", "words: 3: bad value 01"),
+        ("workload --seed one", "words: 3: bad value one"),
+        (
+            "workload --seed 18446744073709551616",
+            "words: 3: bad value 18446744073709551616",
+        ),
+        ("workload --seed 1 2", "words: 4: unexpected 2"),
+        ("workload --seed 1 --seed 2", "words: 4: repeated --seed"),
+        ("workload --ticks 1", "words: 2: unexpected --ticks"),
     ] {
-        NO_FILES.asked(words).refuses(&rt, 2, "words: refused")?;
+        NO_FILES.asked(words).refuses(&rt, 2, line)?;
     }
     Ok(())
 }

@@ -1,6 +1,7 @@
-use Rattle.std.proofs.Common.{◌≡◌, Option, Some, refl, subst}
+use Rattle.std.proofs.Common.{◌≡◌, Result, Ok, refl, subst}
 use Rattle.dvs_base.specs.Outside.{Rose}
-use Rattle.rtdvs_top.specs.Words.{CommandOf}
+use Rattle.words.specs.Commands.{CommandOf}
+use Rattle.words.specs.declared.command.WordFault.{WordFault}
 use Rattle.rtdvs_top.specs.Promises.{files_told, Answers, IsSureOf, OfRun, Headline}
 use Rattle.rtdvs_top.proofs.Answering.{answers-of, sure-of}
 use Rattle.rtdvs_top.proofs.Headlines.{of-run, headline-of}
@@ -15,9 +16,9 @@ returns-clause-answers g c =
     let e = c.answer_command-status.ensures in
     let s = c.answer_command-status.result.0 in
     subst
-    (λ (command : Option CommandOf).
+    (λ (command : Result CommandOf WordFault).
     Answers (files_told old.held command) command (Rose old.faults new.faults) (Rose out_old.faults out_new.faults) s)
-    c.in-Some.ensures.read (answers-of _ _ old new out_old out_new s refl e.ended e.explained e.passed)
+    c.in-Ok.ensures.read (answers-of _ _ old new out_old out_new s refl e.ended e.explained e.passed)
 
 pub returns-clause-run : goal.returns-clause-run
 returns-clause-run g c =
@@ -26,8 +27,8 @@ returns-clause-run g c =
     let out_new = g.W.Sink.shows c.answer_command-status.new.out in
     let e = c.answer_command-status.ensures in
     let s = c.answer_command-status.result.0 in
-    subst (λ (command : Option CommandOf). OfRun (files_told old.held command) command out_old out_new s)
-    c.in-Some.ensures.read (of-run _ _ s out_old out_new e.ended e.met)
+    subst (λ (command : Result CommandOf WordFault). OfRun (files_told old.held command) command out_old out_new s)
+    c.in-Ok.ensures.read (of-run _ _ s out_old out_new e.ended e.met)
 
 pub returns-clause-headline : goal.returns-clause-headline
 returns-clause-headline g c =
@@ -38,10 +39,10 @@ returns-clause-headline g c =
     let e = c.answer_command-status.ensures in
     let s = c.answer_command-status.result.0 in
     subst
-    (λ (command : Option CommandOf).
+    (λ (command : Result CommandOf WordFault).
     Headline (files_told old.held command) command (Rose old.faults new.faults) out_old out_new s)
-    c.in-Some.ensures.read
-    (headline-of _ (Some _) (Rose old.faults new.faults) out_old out_new s (of-run _ _ s out_old out_new e.ended e.met)
+    c.in-Ok.ensures.read
+    (headline-of _ (Ok _) (Rose old.faults new.faults) out_old out_new s (of-run _ _ s out_old out_new e.ended e.met)
     (answers-of _ _ old new out_old out_new s refl e.ended e.explained e.passed))
 
 pub returns-clause-sure : goal.returns-clause-sure
@@ -51,7 +52,7 @@ returns-clause-sure g c =
     let out_new = g.W.Sink.shows c.answer_command-status.new.out in
     let e = c.answer_command-status.ensures in
     subst
-    (λ (command : Option CommandOf).
+    (λ (command : Result CommandOf WordFault).
     IsSureOf (files_told old.held command) command out_old → out_new.faults ≡ out_old.faults)
-    c.in-Some.ensures.read
+    c.in-Ok.ensures.read
     (sure-of g.W.Sink.shows _ _ c.answer_command-status.result.0 c.args.out.now _ e.ended e.leaves)

@@ -1,0 +1,23 @@
+// What the words of a command on files name.
+use dvs_base::{GovernorKind, Scheduler, Version};
+
+/// What the words of a run name.
+#[derive(Clone, Copy)]
+pub struct RunWords<'a> {
+    pub tasks: &'a str,
+    pub machine: &'a str,
+    pub scheduler: Scheduler,
+    pub governor: GovernorKind,
+    pub ticks: u64,
+    pub demands: Option<&'a str>,
+    pub probes: bool,
+    pub version: Version,
+}
+
+/// What the words of an admission name.
+#[derive(Clone, Copy)]
+pub struct AdmitWords<'a> {
+    pub tasks: &'a str,
+    pub machine: &'a str,
+    pub scheduler: Scheduler,
+}
