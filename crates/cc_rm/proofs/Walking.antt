@@ -48,6 +48,17 @@ left_most : (done : Bool) (al had : ℕ) → (if done then 0 else al - had) ≤ 
 left_most true al had = omega arith
 left_most false al had = omega arith
 
+-- what is left of what the k-th task gets
+pub ranked-left : (p : Plan) (v : StateOf) (units k rest sum given left : ℕ) → units ≡ allotted_units p v
+    → k < count p → IsWalked p v units k rest sum
+    → given ≡ min rest (base_of v (slice_index (order p) k))
+    → left ≡ (if (row_at v (slice_index (order p) k)).done then 0 else given - had_since_mark v (slice_index (order p) k))
+    → left ≡ allotment_left_in p v (slice_index (order p) k)
+ranked-left p v units k rest sum given left all h walked given_is left_is =
+    let i = slice_index (order p) k in
+    let same : given ≡ allotted_in p v i = omega (arith, given_is, all, walked.rest_is, ranked-allotted p v k h) in
+    left_is ∙ ap (λ (al : ℕ). if (row_at v i).done then 0 else al - had_since_mark v i) same
+
 pub walked-next : (p : Plan) (v : StateOf) (units k rest sum given left : ℕ) → units ≡ allotted_units p v
     → k < count p → IsWalked p v units k rest sum
     → given ≡ min rest (base_of v (slice_index (order p) k))
@@ -56,8 +67,7 @@ pub walked-next : (p : Plan) (v : StateOf) (units k rest sum given left : ℕ) �
 walked-next p v units k rest sum given left all h walked given_is left_is =
     let i = slice_index (order p) k in
     let long : k < length (order p) = omega (arith, length-in_order (period p) (count p)) in
-    let same : given ≡ allotted_in p v i = omega (arith, given_is, all, walked.rest_is, ranked-allotted p v k h) in
-    let mine : left ≡ allotment_left_in p v i = left_is ∙ ap (λ (al : ℕ). if (row_at v i).done then 0 else al - had_since_mark v i) same in
+    let mine : left ≡ allotment_left_in p v i = ranked-left p v units k rest sum given left all h walked given_is left_is in
     let most = left_most (row_at v i).done given (had_since_mark v i) in
     let next : take (k + 1) (order p) ≡ take k (order p) ++ i ∷ [] = take_more (order p) k 0 long in
     let bases = ap (sum_list (base_of v)) next ∙ sum_list-snoc (base_of v) (take k (order p)) i in

@@ -1,5 +1,6 @@
 // Cycle-conserving RM.
-ghost use Rattle.std.specs.Prelude.{◌≡◌, true, IfOk, IsOk};
+ghost use Rattle.std.specs.Prelude.{◌≡◌, ◌-◌, ◌<◌, ◌≤◌, true, IfOk, IfSome, slice_index, slice_set, length};
+ghost use Rattle.std.proofs.lemmas.Option.{IfSome_then};
 ghost use Rattle.dvs_base.specs.declared.kind.Scheduler.TheVariants.{Rm};
 ghost use Rattle.dvs_base.specs.declared.kind.GovernorKind.TheVariants.{Cycle};
 ghost use Rattle.freq_table.specs.Tables.{lowest_entry, lowest_pick};
@@ -12,8 +13,10 @@ ghost use Rattle.cc_rm_laws.specs.Allotments.{cycle_demand};
 ghost use Rattle.cc_rm_laws.specs.Conditions.{CcRmCalm, CcRmSafe};
 ghost use Rattle.cc_rm_laws.proofs.CcRmLaws.{cc_rm_laws};
 ghost use Rattle.cc_rm_laws.proofs.Publishing.{cycle_publishing};
+ghost use Rattle.cc_rm.specs.Counters.{Counts, lowered};
 
 use crate::allotments::{left_in_all, static_speed};
+use crate::counters::{Allotments, allot};
 use dvs_base::{GovernorKind, NoMemory};
 use governor::{Choice, Governor, Publishing, earliest_deadline};
 use grid_fraction::Frac;
@@ -25,25 +28,52 @@ use std::alloc::Global;
 #[derive(Drop)]
 pub struct CcRm {
     static_speed: u64,
+    // What is left of each task's allotment, and of all of them. There are none before the first mark, nor from a release
+    // to the next mark.
+    rests: Vec<u128>,
+    allotments: Option<Allotments>,
 }
 
 impl CcRm {
-    /// The governor for a plan under RM, before the first release. It takes no memory and is never refused.
+    /// The governor for a plan under RM, before the first release. It fails only where memory runs out.
     /// The worst static schedule, against which the allotments are measured, meets every deadline.
-    pub fn new(_alloc: Global, plan: &Admitted) -> Result<CcRm, NoMemory>
+    pub fn new(alloc: Global, plan: &Admitted) -> Result<CcRm, NoMemory>
         requires { plan.now.scheduler ≡ Rm }
-        ensures made { IsOk result }
         ensures stands { IfOk result (λ g. ⟦<CcRm as Governor>⟧.stands g plan.now (opening plan.now)) }
         ensures worst { MeetsAtWorst plan.now }
     {
         plan.known();
-        Ok(CcRm {
-            static_speed: static_speed(plan),
-        })
+        match vec![in alloc; 0; plan.count() as usize] {
+            Ok(rests) => Ok(CcRm {
+                static_speed: static_speed(plan),
+                rests,
+                allotments: None,
+            }),
+            Err(_) => Err(NoMemory),
+        }
     }
 
-    // The published demand at a decision, in work units per tick, not reduced.
-    fn demand(&self, plan: &Admitted, view: &State) -> Frac
+    // Lowers what is left of a task's allotment to so many units, and what is left of all with it.
+    fn lower(&mut self, task: u32, rest: u128)
+        requires task { task < length self.old.rests.items }
+        requires less { rest ≤ slice_index self.old.rests.items task }
+        requires part { IfSome self.old.allotments (λ all. slice_index self.old.rests.items task ≤ all.left) }
+        ensures speed { self.new.static_speed ≡ self.old.static_speed }
+        ensures rests { self.new.rests.items ≡ slice_set self.old.rests.items task rest }
+        ensures left { self.new.allotments ≡ lowered (slice_index self.old.rests.items task - rest) self.old.allotments }
+    {
+        let used = self.rests[task as usize] - rest;
+        self.rests[task as usize] = rest;
+        if let Some(all) = self.allotments {
+            self.allotments = Some(Allotments {
+                left: all.left - used,
+                ..all
+            });
+        }
+    }
+
+    // The demand worked out from the state alone, in work units per tick, not reduced.
+    fn demand_of(&self, plan: &Admitted, view: &State) -> Frac
         requires of { IsOfPlan plan.now view.now }
         requires speed { self.now.static_speed ≡ static_speed plan.now }
         requires decision { IsAtDecision plan.now view.now }
@@ -55,6 +85,22 @@ impl CcRm {
         Frac {
             num: left_in_all(plan, view, units),
             den: u128::from(first - view.now),
+        }
+    }
+
+    // The published demand at a decision, in work units per tick, not reduced.
+    fn demand(&self, plan: &Admitted, view: &State) -> Frac
+        requires of { IsOfPlan plan.now view.now }
+        requires counters { Counts self.now.static_speed self.now.rests.items self.now.allotments plan.now view.now }
+        requires decision { IsAtDecision plan.now view.now }
+        ensures { result ≡ cycle_demand plan.now view.entry.now }
+    {
+        match self.allotments {
+            Some(all) => Frac {
+                num: all.left,
+                den: u128::from(all.first.saturating_sub(view.now)),
+            },
+            None => self.demand_of(plan, view),
         }
     }
 }
@@ -70,11 +116,17 @@ impl Governor for CcRm {
 
     ghost safe = { CcRmSafe };
 
-    ghost stands = { λ g plan s. (g.static_speed ≡ static_speed plan) × ServesRm plan.scheduler };
+    ghost stands = { λ g plan s. Counts g.static_speed g.rests.items g.allotments plan s };
 
-    ghost serves_plan = { λ g plan s stands. stands.1 };
+    ghost serves_plan = { λ g plan s stands. stands.served };
 
-    ghost waits = { λ g plan s to later stands. stands };
+    ghost waits = { λ g plan s to later stands. record {
+        served = stands.served;
+        speed_is = stands.speed_is;
+        one_each = stands.one_each;
+        allotted = IfSome_then g.allotments stands.allotted
+            (λ all of. record { rests_are = of.rests_are; left_is = of.left_is; first_is = of.first_is; within = of.within });
+    } };
 
     ghost laws = { cc_rm_laws };
 
@@ -82,18 +134,30 @@ impl Governor for CcRm {
         GovernorKind::Cycle
     }
 
-    fn released(&mut self, _plan: &Admitted, _view: &State, _task: u32) {}
+    fn released(&mut self, _plan: &Admitted, _view: &State, _task: u32) {
+        self.allotments = None;
+    }
 
-    fn ran(&mut self, _plan: &Admitted, _view: &State, _task: u32, _units: u64) {}
+    fn ran(&mut self, _plan: &Admitted, _view: &State, task: u32, units: u64) {
+        let rest = self.rests[task as usize].saturating_sub(u128::from(units));
+        self.lower(task, rest);
+    }
 
-    fn finished(&mut self, _plan: &Admitted, _view: &State, _task: u32) {}
+    fn finished(&mut self, _plan: &Admitted, _view: &State, task: u32) {
+        self.lower(task, 0);
+    }
 
-    fn settled(&mut self, _plan: &Admitted, _view: &State) {}
+    fn settled(&mut self, plan: &Admitted, view: &State) {
+        let first = earliest_deadline(plan, view);
+        let units = u128::from(first.saturating_sub(view.now)) * u128::from(self.static_speed);
+        let left = allot(&mut self.rests, plan, view, units);
+        self.allotments = Some(Allotments { first, left });
+    }
 
     /// In a calm state the choice meets its demand: what is left of the allotments fits at the static speed.
     fn choose(&self, plan: &Admitted, view: &State) -> Choice
         requires of { IsOfPlan plan.now view.now }
-        requires counters { (self.now.static_speed ≡ static_speed plan.now) × ServesRm plan.now.scheduler }
+        requires counters { Counts self.now.static_speed self.now.rests.items self.now.allotments plan.now view.now }
         requires decision { IsAtDecision plan.now view.now }
         ensures demand { result.demand ≡ cycle_demand plan.now view.entry.now }
         ensures index { result.index ≡ lowest_entry plan.now.machine (cycle_demand plan.now view.entry.now) }

@@ -1,0 +1,5 @@
+use Rattle.cc_rm.proofs.Handing.{IsHanded}
+use Rattle.cc_rm.proofs.counters.allot.Given as goal
+
+abbrev pub invariant-loop-k : goal.invariant-loop-k
+invariant-loop-k l = IsHanded l.plan l.view l.units l.k l.rest l.sum l.rests

@@ -1,0 +1,47 @@
+// The counters: what is left of the allotments of the last mark.
+ghost use Rattle.std.specs.Prelude.{◌≡◌, ◌<◌, length};
+ghost use Rattle.grid_fraction.specs.Numbers.{sum_below};
+ghost use Rattle.sched_model.specs.Plan.{count};
+ghost use Rattle.sched_model.specs.States.{row_at, row_wleft, after_mark, IsOfPlan};
+ghost use Rattle.cc_rm_laws.specs.Allotments.{allotted_units, allotment_left_in};
+ghost use Rattle.cc_rm.specs.Counters.{AreRests};
+
+use sched_model::{Admitted, State};
+
+/// The allotments of a mark: the deadline in ticks up to which they were made, and how many work units are left of them all.
+#[derive(Clone, Copy)]
+pub(crate) struct Allotments {
+    pub(crate) first: u64,
+    pub(crate) left: u128,
+}
+
+// What a task's job may still need at most, in work units.
+fn worst_left(view: &State, task: u32) -> u64
+    requires { task < length view.now.rows }
+    ensures { result ≡ row_wleft (row_at view.entry.now task) }
+{
+    view.known();
+    let row = view.rows[task as usize];
+    if row.done { 0 } else { row.worst - row.used }
+}
+
+/// Hands out so many units in RM order, to each task at most what its job may still need: what each gets, and their sum.
+pub(crate) fn allot(rests: &mut [u128], plan: &Admitted, view: &State, units: u128) -> u128
+    requires of { IsOfPlan plan.now view.now }
+    requires one_each { length rests.old ≡ count plan.now }
+    requires units { units ≡ allotted_units plan.now (after_mark view.now) }
+    ensures one_each { length rests.new ≡ count plan.now }
+    ensures rests { AreRests rests.new plan.now (after_mark view.entry.now) }
+    ensures sum { result ≡ sum_below (count plan.now) (allotment_left_in plan.now (after_mark view.entry.now)) }
+{
+    let mut rest = units;
+    let mut sum = 0;
+    for k in 0..plan.count() {
+        let i = plan.ranked(k);
+        let given = rest.min(u128::from(worst_left(view, i)));
+        rests[i as usize] = given;
+        rest -= given;
+        sum += given;
+    }
+    sum
+}
