@@ -142,7 +142,7 @@ module _ (plan : Plan) (s : StateOf) (of : IsOfPlan plan s) (i : ℕ) (h : i < c
   -- an open job gets units
   pub counts-ran : (units : ℕ) → (row_at s i).done ≡ false → (row_at s i).used + units ≤ (row_at s i).worst
       → Counts speed (slice_set rests i (slice_index rests i - units))
-        (lowered (slice_index rests i - (slice_index rests i - units)) kept) plan (after_run s i units)
+      (lowered (slice_index rests i - (slice_index rests i - units)) kept) plan (after_run s i units)
   counts-ran units still room =
       counts-lowered plan s of i h row refl rests counts.one_each (slice_index rests i - units) (omega arith) (rw still (omega arith)) speed kept counts is
     where

@@ -121,11 +121,11 @@ impl Governor for CcRm {
     ghost serves_plan = { λ g plan s stands. stands.served };
 
     ghost waits = { λ g plan s to later stands. record {
-        served = stands.served;
-        speed_is = stands.speed_is;
-        one_each = stands.one_each;
-        allotted = IfSome_then g.allotments stands.allotted
-            (λ all of. record { rests_are = of.rests_are; left_is = of.left_is; first_is = of.first_is; within = of.within });
+      served = stands.served;
+      speed_is = stands.speed_is;
+      one_each = stands.one_each;
+      allotted = IfSome_then g.allotments stands.allotted
+          (λ all of. record { rests_are = of.rests_are; left_is = of.left_is; first_is = of.first_is; within = of.within });
     } };
 
     ghost laws = { cc_rm_laws };
