@@ -1,5 +1,6 @@
 -- The kept rests, call by call.
-use Rattle.std.proofs.Common.{◌≡◌, ◌≢◌, ℕ, ◌+◌, ◌-◌, ◌*◌, ◌<◌, ◌≤◌, Bool, true, false, eqb, List, length, length-set, get_or-set_same, get_or-set_other, refl, sym, ◌∙◌, ap, ap₂, arith, if◌then◌else◌}
+use Rattle.std.proofs.Common.{◌≡◌, ◌≢◌, ℕ, ◌+◌, ◌-◌, ◌*◌, ◌<◌, ◌≤◌, Bool, true, false, eqb, List, length, length-set}
+use Rattle.std.proofs.Common.{get_or-set_same, get_or-set_other, refl, sym, ◌∙◌, ap, ap₂, arith, if◌then◌else◌}
 use Rattle.std.specs.Prelude.{slice_set, slice_index, Option, None, Some, IfSome}
 use Rattle.std.proofs.lemmas.Bool.Decides.{nat_tests}
 use Rattle.std.proofs.lemmas.List.{get_or-map}
@@ -24,7 +25,8 @@ sum_below-fall : (n : ℕ) (f g : ℕ → ℕ) (i by : ℕ) → i < n → g i + 
 sum_below-fall n f g i by lt own other =
     let parts : sum_below n f ≡ sum_below n (λ k. g k + (if eqb k i then by else 0)) =
     sum_below-same n f (λ k. g k + (if eqb k i then by else 0)) (λ k l. at k (eqb k i) refl) in
-    let two : sum_below n (λ k. g k + (if eqb k i then by else 0)) ≡ sum_below n g + sum_below n (λ k. if eqb k i then by else 0) =
+    let two : sum_below n (λ k. g k + (if eqb k i then by else 0))
+    ≡ sum_below n g + sum_below n (λ k. if eqb k i then by else 0) =
     sum_below-add n g (λ k. if eqb k i then by else 0) in
     let mine : sum_below n (λ k. if eqb k i then by else 0) ≡ by = sum_below-own n i (λ k. by) lt in
     omega (arith, parts, two, mine)
@@ -42,17 +44,20 @@ left-falls : (al base w units : ℕ) → w ≤ base → units ≤ w → al - (ba
 left-falls al base w units a b = omega arith
 
 -- a rest is a part of what is left of all
-pub rest-most : (speed : ℕ) (rests : List ℕ) (kept : Option Allotments) (plan : Plan) (s : StateOf) (i : ℕ) → i < count plan
+pub rest-most : (speed : ℕ) (rests : List ℕ) (kept : Option Allotments) (plan : Plan) (s : StateOf) (i : ℕ)
+    → i < count plan
     → Counts speed rests kept plan s → IfSome kept (λ all. slice_index rests i ≤ all.left)
 rest-most speed rests kept plan s i h counts =
-    IfSome_then kept counts.allotted (λ all of. omega (arith, of.rests_are i h, of.left_is, sum_below-term (count plan) (allotment_left_in plan s) i h))
+    IfSome_then kept counts.allotted
+    (λ all of. omega (arith, of.rests_are i h, of.left_is, sum_below-term (count plan) (allotment_left_in plan s) i h))
 
 -- at a mark a job might need what it may need there
 pub marked-base : (s : StateOf) (i : ℕ) → i < length s.rows → base_of (after_mark s) i ≡ wleft_at s i
 marked-base s i h = get_or-map row_wleft s.rows i no_row 0 h
 
 -- the row of a task is written, with its deadline as it was
-module _ (plan : Plan) (s : StateOf) (of : IsOfPlan plan s) (i : ℕ) (h : i < count plan) (row : Row) (due : row.deadline ≡ (row_at s i).deadline) where
+module _ (plan : Plan) (s : StateOf) (of : IsOfPlan plan s) (i : ℕ)
+    (h : i < count plan) (row : Row) (due : row.deadline ≡ (row_at s i).deadline) where
   abbrev written : StateOf
   written = record s { rows = slice_set s.rows i row }
 
@@ -64,7 +69,8 @@ module _ (plan : Plan) (s : StateOf) (of : IsOfPlan plan s) (i : ℕ) (h : i < c
 
   first-same : earliest_in plan written ≡ earliest_in plan s
   first-same =
-      least-same (count plan) (λ k. (row_at written k).deadline) (λ k. (row_at s k).deadline) (λ k lt. at k (eqb k i) refl)
+      least-same (count plan) (λ k. (row_at written k).deadline)
+      (λ k. (row_at s k).deadline) (λ k lt. at k (eqb k i) refl)
     where
       at : (k : ℕ) (b : Bool) → eqb k i ≡ b → (row_at written k).deadline ≡ (row_at s k).deadline
       at k true e =
@@ -77,20 +83,24 @@ module _ (plan : Plan) (s : StateOf) (of : IsOfPlan plan s) (i : ℕ) (h : i < c
 
   allotted-same : (k : ℕ) → allotted_in plan written k ≡ allotted_in plan s k
   allotted-same k =
-      ap (λ (n : ℕ). allotment (count plan) (period plan) ((n - s.base_at) * static_speed plan) (base_of s) k) first-same
+      ap (λ (n : ℕ). allotment (count plan) (period plan) ((n - s.base_at) * static_speed plan) (base_of s) k)
+      first-same
 
   left-other : (k : ℕ) → k ≢ i → allotment_left_in plan written k ≡ allotment_left_in plan s k
   left-other k ne =
-      ap₂ (λ (r : Row) (al : ℕ). if r.done then 0 else al - (base_of s k - row_wleft r)) (row-other k ne) (allotted-same k)
+      ap₂ (λ (r : Row) (al : ℕ). if r.done then 0 else al - (base_of s k - row_wleft r))
+      (row-other k ne) (allotted-same k)
 
   -- what is left of the task's allotment, with the new row
   abbrev pub left_with : ℕ
   left_with = if row.done then 0 else allotted_in plan s i - (base_of s i - row_wleft row)
 
   left-own : allotment_left_in plan written i ≡ left_with
-  left-own = ap₂ (λ (r : Row) (al : ℕ). if r.done then 0 else al - (base_of s i - row_wleft r)) row-same (allotted-same i)
+  left-own = ap₂ (λ (r : Row) (al : ℕ). if r.done then 0
+      else al - (base_of s i - row_wleft r)) row-same (allotted-same i)
 
-  module _ (rests : List ℕ) (long : length rests ≡ count plan) (rest : ℕ) (less : rest ≤ slice_index rests i) (most : row_wleft row ≤ wleft_at s i) where
+  module _ (rests : List ℕ) (long : length rests ≡ count plan) (rest : ℕ)
+      (less : rest ≤ slice_index rests i) (most : row_wleft row ≤ wleft_at s i) where
     in-rests : i < length rests
     in-rests = omega (arith, long)
 
@@ -100,17 +110,20 @@ module _ (plan : Plan) (s : StateOf) (of : IsOfPlan plan s) (i : ℕ) (h : i < c
       rests_are = λ k lt. rest-at k lt (eqb k i) refl;
       left_is =
           let fall =
-          sum_below-fall (count plan) (allotment_left_in plan s) (allotment_left_in plan written) i (slice_index rests i - rest) h (omega (arith, left-own, is, less, kept.rests_are i h)) left-other in
+          sum_below-fall (count plan) (allotment_left_in plan s) (allotment_left_in plan written) i
+          (slice_index rests i - rest) h (omega (arith, left-own, is, less, kept.rests_are i h)) left-other in
           omega (arith, fall, kept.left_is);
       first_is = kept.first_is ∙ sym first-same;
       within = λ k lt. within-at k lt (eqb k i) refl;
     }
       where
-        rest-at : (k : ℕ) → k < count plan → (b : Bool) → eqb k i ≡ b → slice_index (slice_set rests i rest) k ≡ allotment_left_in plan written k
+        rest-at : (k : ℕ) → k < count plan → (b : Bool) → eqb k i ≡ b
+            → slice_index (slice_set rests i rest) k ≡ allotment_left_in plan written k
         rest-at k lt true e =
             let same : k ≡ i = grind (arith, nat_tests) in
             ap (slice_index (slice_set rests i rest)) same
-            ∙ (get_or-set_same rests i rest 0 in-rests ∙ (sym (left-own ∙ is) ∙ ap (allotment_left_in plan written) (sym same)))
+            ∙ (get_or-set_same rests i rest 0 in-rests
+            ∙ (sym (left-own ∙ is) ∙ ap (allotment_left_in plan written) (sym same)))
         rest-at k lt false e =
             let ne : k ≢ i = grind (arith, nat_tests) in
             get_or-set_other rests i k rest 0 ne ∙ (kept.rests_are k lt ∙ sym (left-other k ne))
@@ -138,25 +151,33 @@ module _ (plan : Plan) (s : StateOf) (of : IsOfPlan plan s) (i : ℕ) (h : i < c
         go None none = none
         go (Some all) of_all = are-lowered all of_all (is all of_all)
 
-module _ (plan : Plan) (s : StateOf) (of : IsOfPlan plan s) (i : ℕ) (h : i < count plan) (speed : ℕ) (rests : List ℕ) (kept : Option Allotments) (counts : Counts speed rests kept plan s) where
+module _ (plan : Plan) (s : StateOf) (of : IsOfPlan plan s) (i : ℕ) (h : i < count plan) (speed : ℕ)
+    (rests : List ℕ) (kept : Option Allotments) (counts : Counts speed rests kept plan s) where
   -- an open job gets units
   pub counts-ran : (units : ℕ) → (row_at s i).done ≡ false → (row_at s i).used + units ≤ (row_at s i).worst
       → Counts speed (slice_set rests i (slice_index rests i - units))
       (lowered (slice_index rests i - (slice_index rests i - units)) kept) plan (after_run s i units)
   counts-ran units still room =
-      counts-lowered plan s of i h row refl rests counts.one_each (slice_index rests i - units) (omega arith) (rw still (omega arith)) speed kept counts is
+      counts-lowered plan s of i h row refl rests counts.one_each (slice_index rests i - units)
+      (omega arith) (rw still (omega arith)) speed kept counts is
     where
       row : Row
       row = record (row_at s i) { used = (row_at s i).used + units }
 
       is : (all : Allotments) → AreOf rests all plan s → left_with plan s of i h row refl ≡ slice_index rests i - units
       is all kept =
-          let open_left : allotment_left_in plan s i ≡ allotted_in plan s i - (base_of s i - ((row_at s i).worst - (row_at s i).used)) = rw still refl in
-          let mine : left_with plan s of i h row refl ≡ allotted_in plan s i - (base_of s i - ((row_at s i).worst - ((row_at s i).used + units))) = rw still refl in
-          let most : (row_at s i).worst - (row_at s i).used ≤ base_of s i = (let w : wleft_at s i ≡ (row_at s i).worst - (row_at s i).used = rw still refl in omega (arith, w, kept.within i h)) in
+          let open_left : allotment_left_in plan s i
+          ≡ allotted_in plan s i - (base_of s i - ((row_at s i).worst - (row_at s i).used)) = rw still refl in
+          let mine : left_with plan s of i h row refl
+          ≡ allotted_in plan s i - (base_of s i - ((row_at s i).worst - ((row_at s i).used + units))) = rw still refl in
+          let most : (row_at s i).worst - (row_at s i).used ≤ base_of s i =
+          (let w : wleft_at s i ≡ (row_at s i).worst - (row_at s i).used
+          = rw still refl in omega (arith, w, kept.within i h)) in
           omega (arith, open_left, mine, most, kept.rests_are i h, room)
 
   -- a job completes
-  pub counts-finished : Counts speed (slice_set rests i 0) (lowered (slice_index rests i - 0) kept) plan (after_finish s i)
+  pub counts-finished : Counts speed (slice_set rests i 0)
+      (lowered (slice_index rests i - 0) kept) plan (after_finish s i)
   counts-finished =
-      counts-lowered plan s of i h (record (row_at s i) { done = true }) refl rests counts.one_each 0 (omega arith) (omega arith) speed kept counts (λ all kept. refl)
+      counts-lowered plan s of i h (record (row_at s i) { done = true }) refl rests counts.one_each 0
+      (omega arith) (omega arith) speed kept counts (λ all kept. refl)

@@ -1,5 +1,6 @@
 -- Handing out the units of a mark in RM order: what each task gets is what is left of its allotment there.
-use Rattle.std.proofs.Common.{◌≡◌, ◌≢◌, ℕ, ◌+◌, ◌-◌, ◌<◌, min, Bool, true, false, eqb, List, ◌∷◌, length, length-set, get_or-set_same, get_or-set_other, refl, sym, ◌∙◌, ap, arith, if◌then◌else◌}
+use Rattle.std.proofs.Common.{◌≡◌, ◌≢◌, ℕ, ◌+◌, ◌-◌, ◌<◌, min, Bool, true, false, eqb, List, ◌∷◌, length, length-set}
+use Rattle.std.proofs.Common.{get_or-set_same, get_or-set_other, refl, sym, ◌∙◌, ap, arith, if◌then◌else◌}
 use Rattle.std.specs.Prelude.{slice_set, slice_index}
 use Rattle.std.proofs.lemmas.Bool.Decides.{nat_tests}
 use Rattle.std.proofs.lemmas.List.{get_or_at, length-append}
@@ -28,9 +29,14 @@ module _ (plan : Plan) (s : StateOf) (units : ℕ) where
     pub rests_are : (m : ℕ) → m < k → slice_index rests (place m) ≡ allotment_left_in plan marked (place m)
 
   pub handed-start : (rests : List ℕ) → length rests ≡ count plan → IsHanded 0 units 0 rests
-  handed-start rests long = record { walked = walked-start plan marked units; one_each = long; rests_are = λ m lt. absurd (omega arith) }
+  handed-start rests long = record {
+    walked = walked-start plan marked units;
+    one_each = long;
+    rests_are = λ m lt. absurd (omega arith);
+  }
 
-  pub handed-next : IsOfPlan plan s → (k rest sum given : ℕ) (rests : List ℕ) → units ≡ allotted_units plan marked → k < count plan
+  pub handed-next : IsOfPlan plan s → (k rest sum given : ℕ) (rests : List ℕ)
+      → units ≡ allotted_units plan marked → k < count plan
       → IsHanded k rest sum rests → given ≡ min rest (wleft_at s (place k))
       → IsHanded (k + 1) (rest - given) (sum + given) (slice_set rests (place k) given)
   handed-next of k rest sum given rests all h handed is = record {
@@ -50,7 +56,8 @@ module _ (plan : Plan) (s : StateOf) (units : ℕ) where
 
       left_is : given ≡ (if (row_at s (place k)).done then 0 else given - had_since_mark marked (place k))
       left_is =
-          sym (left-marked (row_at s (place k)).done given (base_of marked (place k)) (wleft_at s (place k)) base (omega (arith, given_is)) (done_none (row_at s (place k))))
+          sym (left-marked (row_at s (place k)).done given (base_of marked (place k))
+          (wleft_at s (place k)) base (omega (arith, given_is)) (done_none (row_at s (place k))))
 
       mine : given ≡ allotment_left_in plan marked (place k)
       mine = ranked-left plan marked units k rest sum given given all h handed.walked given_is left_is
@@ -60,7 +67,8 @@ module _ (plan : Plan) (s : StateOf) (units : ℕ) where
       at m lt true e =
           let same : place m ≡ place k = grind (arith, nat_tests) in
           ap (slice_index (slice_set rests (place k) given)) same
-          ∙ (get_or-set_same rests (place k) given 0 (omega (arith, handed.one_each, below)) ∙ (mine ∙ ap (allotment_left_in plan marked) (sym same)))
+          ∙ (get_or-set_same rests (place k) given 0 (omega (arith, handed.one_each, below))
+          ∙ (mine ∙ ap (allotment_left_in plan marked) (sym same)))
       at m lt false e =
           let ne : place m ≢ place k = grind (arith, nat_tests) in
           let other : m ≢ k = λ q. ne (ap place q) in
@@ -70,7 +78,13 @@ module _ (plan : Plan) (s : StateOf) (units : ℕ) where
   handed-end rest sum rests handed i h =
       let there = stands-in_order (period plan) (count plan) i h in
       let m = length there.0 in
-      let here : place m ≡ i = ap (λ (js : List ℕ). slice_index js m) there.1.1 ∙ get_or_at there.0 i there.1.0 0 m refl in
+      let here : place m ≡ i = ap (λ (js : List ℕ). slice_index js m) there.1.1
+      ∙ get_or_at there.0 i there.1.0 0 m refl in
       let long : m < count plan =
-      omega (arith, ap length there.1.1, length-append there.0 (i ∷ there.1.0), length-in_order (period plan) (count plan)) in
+      omega (
+        arith,
+        ap length there.1.1,
+        length-append there.0 (i ∷ there.1.0),
+        length-in_order (period plan) (count plan),
+      ) in
       sym (ap (slice_index rests) here) ∙ (handed.rests_are m long ∙ ap (allotment_left_in plan marked) here)

@@ -1,5 +1,6 @@
 -- Walking the tasks in RM order: what is allotted and what is left of it.
-use Rattle.std.proofs.Common.{◌≡◌, ℕ, suc, ◌+◌, ◌-◌, ◌<◌, ◌≤◌, min, Bool, true, false, List, [], ◌∷◌, ◌++◌, length, take, drop, refl, sym, ◌∙◌, ap, arith, if◌then◌else◌, drop-cons}
+use Rattle.std.proofs.Common.{◌≡◌, ℕ, suc, ◌+◌, ◌-◌, ◌<◌, ◌≤◌, min, Bool, true, false, List, [], ◌∷◌, ◌++◌, length}
+use Rattle.std.proofs.Common.{take, drop, refl, sym, ◌∙◌, ap, arith, if◌then◌else◌, drop-cons}
 use Rattle.std.specs.Prelude.{slice_index}
 use Rattle.std.proofs.lemmas.List.{take-append-drop, take_more, take_all}
 use Rattle.grid_fraction.specs.Numbers.{sum_below}
@@ -7,7 +8,8 @@ use Rattle.sched_model.specs.Plan.{Plan, count, period}
 use Rattle.sched_model.specs.Order.{in_order}
 use Rattle.sched_model.specs.Priority.{sum_before}
 use Rattle.sched_model.specs.States.{StateOf, row_at}
-use Rattle.sched_model.proofs.OrderLemmas.{sum_list, sum_list-snoc, below-at, in_order-below, length-in_order, sum_list-in_order, sum_before-prefix}
+use Rattle.sched_model.proofs.OrderLemmas.{sum_list, sum_list-snoc, below-at, in_order-below, length-in_order}
+use Rattle.sched_model.proofs.OrderLemmas.{sum_list-in_order, sum_before-prefix}
 use Rattle.cc_rm_laws.specs.Allotments.{base_of, allotted_units, allotted_in, had_since_mark, allotment_left_in}
 
 -- the tasks in RM order
@@ -16,7 +18,8 @@ order p = in_order (period p) (count p)
 
 pub ranked-below : (p : Plan) (k : ℕ) → k < count p → slice_index (order p) k < count p
 ranked-below p k h =
-    below-at (count p) (order p) k (in_order-below (period p) (count p)) (omega (arith, length-in_order (period p) (count p)))
+    below-at (count p) (order p) k (in_order-below (period p) (count p))
+    (omega (arith, length-in_order (period p) (count p)))
 
 -- an allotment in the terms of what is left of the units before it
 share_of : (units before need : ℕ) → min units (before + need) - min units before ≡ min (units - before) need
@@ -24,7 +27,8 @@ share_of units before need = omega arith
 
 -- the k-th task gets what the tasks before it left, up to its base
 ranked-allotted : (p : Plan) (v : StateOf) (k : ℕ) → k < count p
-    → allotted_in p v (slice_index (order p) k) ≡ min (allotted_units p v - sum_list (base_of v) (take k (order p))) (base_of v (slice_index (order p) k))
+    → allotted_in p v (slice_index (order p) k)
+    ≡ min (allotted_units p v - sum_list (base_of v) (take k (order p))) (base_of v (slice_index (order p) k))
 ranked-allotted p v k h =
     let i = slice_index (order p) k in
     let long : k < length (order p) = omega (arith, length-in_order (period p) (count p)) in
@@ -52,7 +56,8 @@ left_most false al had = omega arith
 pub ranked-left : (p : Plan) (v : StateOf) (units k rest sum given left : ℕ) → units ≡ allotted_units p v
     → k < count p → IsWalked p v units k rest sum
     → given ≡ min rest (base_of v (slice_index (order p) k))
-    → left ≡ (if (row_at v (slice_index (order p) k)).done then 0 else given - had_since_mark v (slice_index (order p) k))
+    → left ≡ (if (row_at v (slice_index (order p) k)).done then 0
+    else given - had_since_mark v (slice_index (order p) k))
     → left ≡ allotment_left_in p v (slice_index (order p) k)
 ranked-left p v units k rest sum given left all h walked given_is left_is =
     let i = slice_index (order p) k in
@@ -62,16 +67,19 @@ ranked-left p v units k rest sum given left all h walked given_is left_is =
 pub walked-next : (p : Plan) (v : StateOf) (units k rest sum given left : ℕ) → units ≡ allotted_units p v
     → k < count p → IsWalked p v units k rest sum
     → given ≡ min rest (base_of v (slice_index (order p) k))
-    → left ≡ (if (row_at v (slice_index (order p) k)).done then 0 else given - had_since_mark v (slice_index (order p) k))
+    → left ≡ (if (row_at v (slice_index (order p) k)).done then 0
+    else given - had_since_mark v (slice_index (order p) k))
     → IsWalked p v units (k + 1) (rest - given) (sum + left)
 walked-next p v units k rest sum given left all h walked given_is left_is =
     let i = slice_index (order p) k in
     let long : k < length (order p) = omega (arith, length-in_order (period p) (count p)) in
-    let mine : left ≡ allotment_left_in p v i = ranked-left p v units k rest sum given left all h walked given_is left_is in
+    let mine : left ≡ allotment_left_in p v i =
+    ranked-left p v units k rest sum given left all h walked given_is left_is in
     let most = left_most (row_at v i).done given (had_since_mark v i) in
     let next : take (k + 1) (order p) ≡ take k (order p) ++ i ∷ [] = take_more (order p) k 0 long in
     let bases = ap (sum_list (base_of v)) next ∙ sum_list-snoc (base_of v) (take k (order p)) i in
-    let lefts = ap (sum_list (allotment_left_in p v)) next ∙ sum_list-snoc (allotment_left_in p v) (take k (order p)) i in
+    let lefts = ap (sum_list (allotment_left_in p v)) next
+    ∙ sum_list-snoc (allotment_left_in p v) (take k (order p)) i in
     record {
       rest_is = omega (arith, given_is, walked.rest_is, bases);
       sum_is = omega (arith, walked.sum_is, lefts, mine);
@@ -81,5 +89,7 @@ walked-next p v units k rest sum given left all h walked given_is left_is =
 pub walked-end : (p : Plan) (v : StateOf) (units rest sum : ℕ) → IsWalked p v units (count p) rest sum
     → sum ≡ sum_below (count p) (allotment_left_in p v)
 walked-end p v units rest sum walked =
-    let all : take (count p) (order p) ≡ order p = take_all (count p) (order p) (omega (arith, length-in_order (period p) (count p))) in
-    walked.sum_is ∙ (ap (sum_list (allotment_left_in p v)) all ∙ sum_list-in_order (allotment_left_in p v) (period p) (count p))
+    let all : take (count p) (order p) ≡ order p =
+    take_all (count p) (order p) (omega (arith, length-in_order (period p) (count p))) in
+    walked.sum_is ∙ (ap (sum_list (allotment_left_in p v)) all
+    ∙ sum_list-in_order (allotment_left_in p v) (period p) (count p))

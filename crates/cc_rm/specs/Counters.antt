@@ -12,15 +12,15 @@ use Rattle.cc_rm.specs.declared.counters.Allotments.{Allotments}
 abbrev pub AreRests : List ℕ → Plan → StateOf → Type 0
 AreRests rests plan s = (i : ℕ) → i < count plan → slice_index rests i ≡ allotment_left_in plan s i
 
--- what is kept of the last mark's allotments is its formula: the rest of each, their sum, and the deadline up to which they
--- were made; and no job may need more than it might at the mark
+-- what is kept of the last mark's allotments is its formula: the rest of each, their sum, and the deadline up to which
+-- they were made; and no job may need more than it might at the mark
 pub record AreOf (rests : List ℕ) (all : Allotments) (plan : Plan) (s : StateOf) : Type 0 where
   pub rests_are : AreRests rests plan s
   pub left_is : all.left ≡ (cycle_demand plan s).num
   pub first_is : all.first ≡ earliest_in plan s
   pub within : (i : ℕ) → i < count plan → wleft_at s i ≤ base_of s i
 
--- the kept speed is the static one, there is a rest for each task, and the allotments are the state's where there are some
+-- the kept speed is the static one, there is a rest for each task, and where allotments are kept they are the state's
 pub record Counts (speed : ℕ) (rests : List ℕ) (kept : Option Allotments) (plan : Plan) (s : StateOf) : Type 0 where
   pub served : ServesRm plan.scheduler
   pub speed_is : speed ≡ static_speed plan

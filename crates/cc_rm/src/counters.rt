@@ -8,7 +8,8 @@ ghost use Rattle.cc_rm.specs.Counters.{AreRests};
 
 use sched_model::{Admitted, State};
 
-/// The allotments of a mark: the deadline in ticks up to which they were made, and how many work units are left of them all.
+/// The allotments of a mark: the deadline in ticks up to which they were made, and how many work units are left of them
+/// all.
 #[derive(Clone, Copy)]
 pub(crate) struct Allotments {
     pub(crate) first: u64,
@@ -25,7 +26,8 @@ fn worst_left(view: &State, task: u32) -> u64
     if row.done { 0 } else { row.worst - row.used }
 }
 
-/// Hands out so many units in RM order, to each task at most what its job may still need: what each gets, and their sum.
+/// Hands out so many work units in RM order, to each task at most what its job may still need. It writes what each
+/// gets, and returns the sum.
 pub(crate) fn allot(rests: &mut [u128], plan: &Admitted, view: &State, units: u128) -> u128
     requires of { IsOfPlan plan.now view.now }
     requires one_each { length rests.old ≡ count plan.now }

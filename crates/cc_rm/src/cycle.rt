@@ -23,13 +23,13 @@ use grid_fraction::Frac;
 use sched_model::{Admitted, State};
 use std::alloc::Global;
 
-/// Cycle-conserving RM: the speed does what is left of the allotments of the last release in the time up to the earliest
-/// deadline (Pillai and Shin 2001).
+/// Cycle-conserving RM: the speed does what is left of the allotments of the last release in the time up to the
+/// earliest deadline (Pillai and Shin 2001).
 #[derive(Drop)]
 pub struct CcRm {
     static_speed: u64,
-    // What is left of each task's allotment, and of all of them. There are none before the first mark, nor from a release
-    // to the next mark.
+    // What is left of each task's allotment, and of all of them. There are none before the first mark, nor from a
+    // release to the next mark.
     rests: Vec<u128>,
     allotments: Option<Allotments>,
 }
@@ -60,7 +60,8 @@ impl CcRm {
         requires part { IfSome self.old.allotments (λ all. slice_index self.old.rests.items task ≤ all.left) }
         ensures speed { self.new.static_speed ≡ self.old.static_speed }
         ensures rests { self.new.rests.items ≡ slice_set self.old.rests.items task rest }
-        ensures left { self.new.allotments ≡ lowered (slice_index self.old.rests.items task - rest) self.old.allotments }
+        ensures left { self.new.allotments ≡
+            lowered (slice_index self.old.rests.items task - rest) self.old.allotments }
     {
         let used = self.rests[task as usize] - rest;
         self.rests[task as usize] = rest;
@@ -125,7 +126,12 @@ impl Governor for CcRm {
       speed_is = stands.speed_is;
       one_each = stands.one_each;
       allotted = IfSome_then g.allotments stands.allotted
-          (λ all of. record { rests_are = of.rests_are; left_is = of.left_is; first_is = of.first_is; within = of.within });
+          (λ all of. record {
+            rests_are = of.rests_are;
+            left_is = of.left_is;
+            first_is = of.first_is;
+            within = of.within;
+          });
     } };
 
     ghost laws = { cc_rm_laws };

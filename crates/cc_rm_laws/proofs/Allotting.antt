@@ -1,5 +1,6 @@
 -- Units handed out in an order: what one task's allotment says of the others.
-use Rattle.std.proofs.Common.{◌≡◌, ◌⊎◌, inl, inr, ℕ, zero, suc, ◌+◌, ◌-◌, ◌<◌, ◌≤◌, min, true, ap, ap₂, arith, if◌then◌else◌}
+use Rattle.std.proofs.Common.{◌≡◌, ◌⊎◌, inl, inr, ℕ, zero, suc, ◌+◌, ◌-◌, ◌<◌, ◌≤◌, min, true, ap, ap₂, arith}
+use Rattle.std.proofs.Common.{if◌then◌else◌}
 use Rattle.std.proofs.lemmas.Bool.{cases_lt}
 use Rattle.grid_fraction.specs.Numbers.{sum_below}
 use Rattle.grid_fraction.proofs.Sums.{sum_below-same}
@@ -19,13 +20,15 @@ most_of c b g = omega arith
 pub allotment-full : (n : ℕ) (key : ℕ → ℕ) (room : ℕ) (need : ℕ → ℕ) (k j : ℕ) → k < n → stands_before key k j ≡ true
     → 0 < allotment n key room need j → allotment n key room need k ≡ need k
 allotment-full n key room need k j lt h pos =
-    full_of room (sum_before n key need j) (need j) (sum_before n key need k) (need k) pos (up_to-before n key need k j lt h)
+    full_of room (sum_before n key need j) (need j) (sum_before n key need k)
+    (need k) pos (up_to-before n key need k j lt h)
 
 -- where it does not get all, each task after it gets none
 pub allotment-none : (n : ℕ) (key : ℕ → ℕ) (room : ℕ) (need : ℕ → ℕ) (j k : ℕ) → j < n → stands_before key j k ≡ true
     → allotment n key room need j < need j → allotment n key room need k ≡ 0
 allotment-none n key room need j k lt h less =
-    none_of room (sum_before n key need j) (need j) (sum_before n key need k) (need k) less (up_to-before n key need j k lt h)
+    none_of room (sum_before n key need j) (need j) (sum_before n key need k)
+    (need k) less (up_to-before n key need j k lt h)
 
 pub allotment-most : (n : ℕ) (key : ℕ → ℕ) (room : ℕ) (need : ℕ → ℕ) (k : ℕ) → allotment n key room need k ≤ need k
 allotment-most n key room need k = most_of room (sum_before n key need k) (need k)
@@ -35,7 +38,8 @@ pub allotment-same : (n : ℕ) (key : ℕ → ℕ) (room : ℕ) (f g : ℕ → �
     → allotment n key room f k ≡ allotment n key room g k
 allotment-same n key room f g e k lt =
     let before : sum_before n key f k ≡ sum_before n key g k =
-    sum_below-same n (λ j. if stands_before key j k then f j else 0) (λ j. if stands_before key j k then g j else 0) (λ j l. ap (λ (x : ℕ). if stands_before key j k then x else 0) (e j l)) in
+    sum_below-same n (λ j. if stands_before key j k then f j else 0) (λ j. if stands_before key j k then g j else 0)
+    (λ j l. ap (λ (x : ℕ). if stands_before key j k then x else 0) (e j l)) in
     ap₂ (λ a b. min room (a + b) - min room a) before (e k lt)
 
 -- a sum above 0 has a term above 0

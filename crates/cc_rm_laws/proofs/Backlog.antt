@@ -1,5 +1,6 @@
 -- The schedule under static with every job at its worst case: what releases and ticks make of what its jobs lack.
-use Rattle.std.proofs.Common.{◌≡◌, ◌≢◌, ℕ, zero, suc, ◌+◌, ◌-◌, ◌*◌, ◌<◌, ◌≤◌, Bool, true, false, List, [], ◌∷◌, length, refl, sym, ◌∙◌, ap, subst, arith, if◌then◌else◌, nat_eq, inl, inr}
+use Rattle.std.proofs.Common.{◌≡◌, ◌≢◌, ℕ, zero, suc, ◌+◌, ◌-◌, ◌*◌, ◌<◌, ◌≤◌, Bool, true, false, List, [], ◌∷◌}
+use Rattle.std.proofs.Common.{length, refl, sym, ◌∙◌, ap, subst, arith, if◌then◌else◌, nat_eq, inl, inr}
 use Rattle.std.proofs.Math.Nat.{zero-sub}
 use Rattle.std.proofs.lemmas.Bool.{cases_lt}
 use Rattle.std.proofs.lemmas.Bool.Decides.{nat_tests}
@@ -22,7 +23,8 @@ use Rattle.sched_model.specs.StaticDemand.{static_demand_of, static_demand, rm_s
 use Rattle.sched_model.specs.Backlog.{lacking, level_lacking, backlog}
 use Rattle.sched_model.specs.Admission.{IsAdmitted}
 use Rattle.sched_model.proofs.Limits.{some_period}
-use Rattle.sched_model.proofs.JobLaws.{due-none, release-suc, due-suc, lt-due, latest-is, latest-none, latest-stays, exec-legal, exec-early, worst_demand-pos}
+use Rattle.sched_model.proofs.JobLaws.{due-none, release-suc, due-suc, lt-due, latest-is, latest-none, latest-stays}
+use Rattle.sched_model.proofs.JobLaws.{exec-legal, exec-early, worst_demand-pos}
 use Rattle.sched_model.proofs.PriorityLemmas.{before-trans}
 use Rattle.sched_model.proofs.DownSets.{down-set-gets}
 use Rattle.sched_model.proofs.LevelSums.{sum_where-plus, sum_where-zero, share-most, up_to-trans, sum_up_to-where}
@@ -64,22 +66,27 @@ ticks-long p t = (schedule_exists p (worst_demand p) (asked p) t).1
 pub backlog-is : (p : Plan) (t i : ℕ) → backlog p t i ≡ sum_up_to (count p) (period p) (lack p t) i
 unfolding backlog
 backlog-is p zero i =
-    let none : sum_before (count p) (period p) (λ j. 0) i ≡ 0 = sum_where-zero (count p) (λ j. stands_before (period p) j i) (λ j. 0) (λ j h on. refl) in
-    ap (λ (ticks : List Tick). level_lacking p ticks i) (schedule-none p (worst_demand p) (asked p)) ∙ omega (arith, none)
+    let none : sum_before (count p) (period p) (λ j. 0) i ≡ 0 =
+    sum_where-zero (count p) (λ j. stands_before (period p) j i) (λ j. 0) (λ j h on. refl) in
+    ap (λ (ticks : List Tick). level_lacking p ticks i) (schedule-none p (worst_demand p) (asked p))
+    ∙ omega (arith, none)
 backlog-is p (suc t) i =
     ap (λ (ticks : List Tick). level_lacking p ticks i) (ticks-suc p t)
     ∙ sym (ap (λ (ticks : List Tick). sum_up_to (count p) (period p) (lacking p ticks) i) (ticks-suc p t))
 
-pub backlog-where : (p : Plan) (t i : ℕ) → i < count p → backlog p t i ≡ sum_where (count p) (is_up_to (period p) i) (lack p t)
+pub backlog-where : (p : Plan) (t i : ℕ) → i < count p
+    → backlog p t i ≡ sum_where (count p) (is_up_to (period p) i) (lack p t)
 backlog-where p t i h = backlog-is p t i ∙ sum_up_to-where (count p) (period p) (lack p t) i h
 
 -- the entry in force is always the static one
-static-entry : (p : Plan) (past : List Tick) → entry_in_force p (worst_demand p) (asked p) past ≡ lowest_entry p.machine (static_demand p)
+static-entry : (p : Plan) (past : List Tick)
+    → entry_in_force p (worst_demand p) (asked p) past ≡ lowest_entry p.machine (static_demand p)
 static-entry p [] = ap (lowest_entry p.machine) (published-fixed p (worst_demand p) [])
 static-entry p (x ∷ past) = go (is_decision p (worst_demand p) (x ∷ past)) (static-entry p past)
   where
     go : (b : Bool) → entry_in_force p (worst_demand p) (asked p) past ≡ lowest_entry p.machine (static_demand p)
-        → (if b then lowest_entry p.machine (asked p (x ∷ past)) else entry_in_force p (worst_demand p) (asked p) past) ≡ lowest_entry p.machine (static_demand p)
+        → (if b then lowest_entry p.machine (asked p (x ∷ past)) else entry_in_force p (worst_demand p) (asked p) past)
+        ≡ lowest_entry p.machine (static_demand p)
     go true ih = ap (lowest_entry p.machine) (published-fixed p (worst_demand p) (x ∷ past))
     go false ih = ih
 
@@ -92,12 +99,14 @@ tick-legal p rm t =
     let speed : (point p (tick_at p t).entry).speed ≡ static_speed p =
     ap (speed_at p.machine) (static-entry p past ∙ ap (lowest_entry p.machine) same) in
     subst (λ (f : ℕ). SharesOut (count p) (period p) f (lack_after p t) (share (tick_at p t))) speed
-    (subst (λ (sch : Scheduler). SharesOut (count p) (key_of sch p (length past)) ((point p (tick_at p t).entry).speed) (lack_after p t) (share (tick_at p t))) rm
+    (subst (λ (sch : Scheduler). SharesOut (count p) (key_of sch p (length past))
+    ((point p (tick_at p t).entry).speed) (lack_after p t) (share (tick_at p t))) rm
     (next_tick-may p (worst_demand p) (asked p) past).legal)
 
 -- a set that holds with each task those before it
 abbrev pub IsDown : Plan → (ℕ → Bool) → Type 0
-IsDown p test = (j i : ℕ) → j < count p → i < count p → stands_before (period p) j i ≡ true → test i ≡ true → test j ≡ true
+IsDown p test = (j i : ℕ) → j < count p → i < count p
+    → stands_before (period p) j i ≡ true → test i ≡ true → test j ≡ true
 
 pub level_down : (p : Plan) (i : ℕ) → IsDown p (is_up_to (period p) i)
 level_down p i = λ j k hj hk b on. up_to-trans (period p) j k i b on
@@ -118,7 +127,8 @@ module _ (p : Plan) (adm : IsAdmitted p) where
       let k = latest p i (length past) in
       let back : length (x ∷ past) - 1 ≡ length past = omega arith in
       let now : lack p (suc t) i ≡ worst_demand p i k - exec p (x ∷ past) i k =
-      ap (λ (ticks : List Tick). lacking p ticks i) (ticks-suc p t) ∙ ap (λ (n : ℕ). worst_demand p i (latest p i n) - exec p (x ∷ past) i (latest p i n)) back in
+      ap (λ (ticks : List Tick). lacking p ticks i) (ticks-suc p t)
+      ∙ ap (λ (n : ℕ). worst_demand p i (latest p i n) - exec p (x ∷ past) i (latest p i n)) back in
       let most = share-most (count p) (period p) (static_speed p) (lack_after p t) (share x) (tick-legal p rm t) i h in
       let more = exec-legal p (worst_demand p) x past i (some_period p adm.limits i h) refl most in
       omega (arith, now, more, most)
@@ -132,7 +142,9 @@ module _ (p : Plan) (adm : IsAdmitted p) where
       let gets = down-set-gets n (period p) test (static_speed p) (lack_after p t) (share x) down (tick-legal p rm t) in
       let split = sum_where-plus n test (lack p (suc t)) (share x) in
       let whole : sum_where n test (λ i. lack p (suc t) i + share x i) ≡ sum_where n test (lack_after p t) =
-      sum_below-same n (λ i. if test i then lack p (suc t) i + share x i else 0) (λ i. if test i then lack_after p t i else 0) (λ i h. ap (λ (y : ℕ). if test i then y else 0) (lack-suc rm t i h)) in
+      sum_below-same n (λ i. if test i then lack p (suc t) i + share x i else 0)
+      (λ i. if test i then lack_after p t i else 0)
+      (λ i h. ap (λ (y : ℕ). if test i then y else 0) (lack-suc rm t i h)) in
       omega (arith, gets, split, whole)
 
   -- a job goes on being the latest until it is due
@@ -156,7 +168,8 @@ module _ (p : Plan) (adm : IsAdmitted p) where
   quiet_row zero j h quiet =
       let ticks = worst_ticks p 0 in
       let late : 0 < offset p j =
-      elim (cases_lt 0 (offset p j)) [ inl late ↦ late | inr now ↦ absurd (quiet 0 (omega (arith, now, due-none p j))) ] in
+      elim (cases_lt 0 (offset p j))
+      [ inl late ↦ late | inr now ↦ absurd (quiet 0 (omega (arith, now, due-none p j))) ] in
       let job : latest p j (length ticks) ≡ 0 = ap (latest p j) (ticks-long p 0) ∙ latest-none p j 0 late in
       ap (λ (k : ℕ). worst_demand p j k - exec p ticks j k) job ∙ zero-sub (exec p ticks j 0)
   quiet_row (suc t) j h quiet = same_job t j h (quiet (latest p j t))
@@ -167,7 +180,8 @@ module _ (p : Plan) (adm : IsAdmitted p) where
   lack-none (suc t) i zero h e =
       let ticks = worst_ticks p (suc t) in
       let before : length ticks - 1 < offset p i = omega (arith, ticks-long p (suc t), e, due-none p i) in
-      ap (λ (k : ℕ). worst_demand p i k - exec p ticks i k) (latest-none p i (length ticks - 1) before) ∙ zero-sub (exec p ticks i 0)
+      ap (λ (k : ℕ). worst_demand p i k - exec p ticks i k) (latest-none p i (length ticks - 1) before)
+      ∙ zero-sub (exec p ticks i 0)
   lack-none (suc t) i (suc k) h e = lacking-none p adm (suc t) i (suc k) h (omega arith) e
 
   -- and the next one its whole worst case
@@ -200,7 +214,8 @@ module _ (p : Plan) (adm : IsAdmitted p) where
   backlog-quiet : (t : ℕ) (test : ℕ → Bool) → ((j : ℕ) → j < count p → IsQuiet p t j)
       → sum_where (count p) test (lack_after p t) ≡ sum_where (count p) test (lack p t)
   backlog-quiet t test quiet =
-      sum_below-same (count p) (λ i. if test i then lack_after p t i else 0) (λ i. if test i then lack p t i else 0) (λ i h. ap (λ (y : ℕ). if test i then y else 0) (quiet_row t i h (quiet i h)))
+      sum_below-same (count p) (λ i. if test i then lack_after p t i else 0) (λ i. if test i then lack p t i else 0)
+      (λ i h. ap (λ (y : ℕ). if test i then y else 0) (quiet_row t i h (quiet i h)))
 
   less : (x a b f : ℕ) → (x - a * f) - f ≡ x - suc a * f
   less x a b f = omega arith
@@ -208,7 +223,8 @@ module _ (p : Plan) (adm : IsAdmitted p) where
   -- from one release to the next
   pub backlog-span : p.scheduler ≡ Rm → (test : ℕ → Bool) → IsDown p test → (r d : ℕ)
       → ((u j : ℕ) → r < u → u < r + suc d → j < count p → IsQuiet p u j)
-      → sum_where (count p) test (lack p (r + suc d)) ≡ sum_where (count p) test (lack_after p r) - suc d * static_speed p
+      → sum_where (count p) test (lack p (r + suc d))
+      ≡ sum_where (count p) test (lack_after p r) - suc d * static_speed p
   backlog-span rm test down r zero quiet =
       let place : r + suc zero ≡ suc r = omega arith in
       let one : suc zero * static_speed p ≡ static_speed p = omega arith in
@@ -226,7 +242,8 @@ module _ (p : Plan) (adm : IsAdmitted p) where
   empties b l x a c pos e g z = omega arith
 
   -- where task i's job is complete at the next release, its level lacks nothing
-  pub backlog-empties : p.scheduler ≡ Rm → (i r d : ℕ) → i < count p → ((u j : ℕ) → r < u → u < r + suc d → j < count p → IsQuiet p u j)
+  pub backlog-empties : p.scheduler ≡ Rm → (i r d : ℕ) → i < count p
+      → ((u j : ℕ) → r < u → u < r + suc d → j < count p → IsQuiet p u j)
       → 0 < lack_after p r i → lack p (r + suc d) i ≡ 0 → backlog p (r + suc d) i ≡ 0
   backlog-empties rm i r d h quiet pos none =
       let n = count p in
@@ -237,4 +254,5 @@ module _ (p : Plan) (adm : IsAdmitted p) where
       ∙ backlog-span rm (is_up_to (period p) i) (level_down p i) r d quiet
       ∙ ap (λ (x : ℕ). x - c) (sym (sum_up_to-where n (period p) (lack_after p r) i h)) in
       backlog-is p (r + suc d) i
-      ∙ empties (sum_before n (period p) (lack p (r + suc d)) i) (lack p (r + suc d) i) (sum_before n (period p) (lack_after p r) i) (lack_after p r i) c pos before whole none
+      ∙ empties (sum_before n (period p) (lack p (r + suc d)) i) (lack p (r + suc d) i)
+      (sum_before n (period p) (lack_after p r) i) (lack_after p r i) c pos before whole none

@@ -31,7 +31,8 @@ module _ (plan : Plan) (adm : IsAdmitted plan) (s : StateOf) where
 
   demand_below_top : CcRmCalm plan s → (cycle_demand plan s).num ≤ top_speed plan * (cycle_demand plan s).den
   demand_below_top calm =
-      let most : static_speed plan ≤ top_speed plan = below_highest plan.machine adm.limits.machine static_entry static_within in
+      let most : static_speed plan ≤ top_speed plan =
+      below_highest plan.machine adm.limits.machine static_entry static_within in
       omega (arith, calm.total, mul-le-mul_right (earliest_in plan s - s.now) most)
 
   chooses : CcRmCalm plan s → CcRmSafe plan s (lowest_entry plan.machine (cycle_demand plan s))
@@ -64,8 +65,10 @@ cc_rm_laws = record {
   chooses = λ plan dem s run dec calm. chooses plan run.admitted s calm;
   meets = λ plan dem s run dec calm kind. meets_it plan run.admitted s calm;
   ticks = λ plan dem s run k safe shares may. record {
-    calm = cc_rm_ticks plan run.admitted run.served dem s run.belongs (speed_at plan.machine k) shares may.before may.legal safe.slower safe.calm safe.enough;
-    enough = cc_rm_enough plan run.admitted run.served dem s run.belongs (speed_at plan.machine k) shares may.before may.legal safe.enough;
+    calm = cc_rm_ticks plan run.admitted run.served dem s run.belongs
+        (speed_at plan.machine k) shares may.before may.legal safe.slower safe.calm safe.enough;
+    enough = cc_rm_enough plan run.admitted run.served dem s run.belongs
+        (speed_at plan.machine k) shares may.before may.legal safe.enough;
     slower = safe.slower;
   };
   stays_calm = λ plan dem s run k safe. safe.calm;

@@ -1,5 +1,6 @@
 -- In a calm state of cycle-conserving RM each job that is due is complete.
-use Rattle.std.proofs.Common.{◌≡◌, inl, inr, ℕ, suc, ◌+◌, ◌-◌, ◌*◌, ◌<◌, ◌≤◌, Bool, true, sym, ◌∙◌, ap, subst, arith, mul-zero}
+use Rattle.std.proofs.Common.{◌≡◌, inl, inr, ℕ, suc, ◌+◌, ◌-◌, ◌*◌, ◌<◌, ◌≤◌, Bool, true, sym, ◌∙◌, ap, subst, arith}
+use Rattle.std.proofs.Common.{mul-zero}
 use Rattle.std.specs.Prelude.{if◌then◌else◌}
 use Rattle.std.proofs.lemmas.Bool.{cases_Bool, cases_lt, eqb-true}
 use Rattle.dvs_base.specs.declared.kind.Scheduler.TheVariants.{Rm}
@@ -26,7 +27,8 @@ use Rattle.governor.proofs.EdfLaws.{closed_row}
 use Rattle.cc_rm_laws.specs.Allotments.{base_of, allotted_units, allotted_in, allotment_left_in}
 use Rattle.cc_rm_laws.specs.Conditions.{CcRmCalm}
 use Rattle.cc_rm_laws.proofs.Allotting.{allotment-most}
-use Rattle.cc_rm_laws.proofs.Backlog.{lack, lack_after, lack-is, IsQuiet, quiet_row, lack-none, released-lack, after-least, backlog-empties}
+use Rattle.cc_rm_laws.proofs.Backlog.{lack, lack_after, lack-is, IsQuiet, quiet_row, lack-none, released-lack}
+use Rattle.cc_rm_laws.proofs.Backlog.{after-least, backlog-empties}
 
 module _ (plan : Plan) (adm : IsAdmitted plan) (dem : JobDemands) (s : StateOf) (bel : Belongs plan dem s) where
   pub first-due : (i : ℕ) → i < count plan → earliest_in plan s ≤ (row_at s i).deadline
@@ -36,7 +38,11 @@ module _ (plan : Plan) (adm : IsAdmitted plan) (dem : JobDemands) (s : StateOf) 
   released-by i h = omega (arith, greatest-above (count plan) (λ j. release_of plan j (row_at s j)) i h, bel.base_at)
 
   base-by : s.base_at ≤ s.now
-  base-by = omega (arith, greatest-least (count plan) (λ j. release_of plan j (row_at s j)) s.now bel.released, bel.base_at)
+  base-by = omega (
+    arith,
+    greatest-least (count plan) (λ j. release_of plan j (row_at s j)) s.now bel.released,
+    bel.base_at,
+  )
 
   pub allotted-most : (i : ℕ) → allotted_in plan s i ≤ base_of s i
   allotted-most i = allotment-most (count plan) (period plan) (allotted_units plan s) (base_of s) i
@@ -49,7 +55,8 @@ module _ (plan : Plan) (adm : IsAdmitted plan) (dem : JobDemands) (s : StateOf) 
   row-release i born = sym (latest_since-pos plan i (row_at s i).job born)
 
   -- no release of a task lies between that of its job and its deadline
-  quiet-between : (u i : ℕ) → i < count plan → release_of plan i (row_at s i) < u → u < (row_at s i).deadline → IsQuiet plan u i
+  quiet-between : (u i : ℕ) → i < count plan → release_of plan i (row_at s i) < u
+      → u < (row_at s i).deadline → IsQuiet plan u i
   quiet-between u i h after before k e =
       let job = (row_at s i).job in
       let mine : latest plan i u ≡ job =
@@ -57,7 +64,8 @@ module _ (plan : Plan) (adm : IsAdmitted plan) (dem : JobDemands) (s : StateOf) 
       let some = some_period plan adm.limits i h in
       let from = release-suc plan i k in
       let until = due-suc plan i k in
-      let next : latest plan i u ≡ k + 1 = latest-is plan i (k + 1) u (omega (arith, from, e)) (omega (arith, until, e, some)) in
+      let next : latest plan i u ≡ k + 1 =
+      latest-is plan i (k + 1) u (omega (arith, from, e)) (omega (arith, until, e, some)) in
       let same : release plan i (k + 1) ≡ release plan i job = ap (release plan i) (sym next ∙ mine) in
       omega (arith, same, from, e, after, row-release i (omega (arith, mine, next)))
 
@@ -66,9 +74,10 @@ module _ (plan : Plan) (adm : IsAdmitted plan) (dem : JobDemands) (s : StateOf) 
   quiet u j after before h = quiet-between u j h (omega (arith, released-by j h)) (omega (arith, first-due j h))
 
   closes : (i : ℕ) → i < count plan → wleft_at s i ≡ 0 → (row_at s i).done ≡ true
-  closes i h none = closed_row (row_at s i) (dem i (row_at s i).job) none (bel.open_job i h) (demand_most plan dem s bel i h)
+  closes i h none = closed_row (row_at s i) (dem i (row_at s i).job) none
+      (bel.open_job i h) (demand_most plan dem s bel i h)
 
-  -- at the earliest deadline nothing is left of the allotments, so a level lacks no more than in the worst static schedule
+  -- at the earliest deadline nothing is left of the allotments: a level lacks no more than in the worst static schedule
   pub level-most : CcRmCalm plan s → s.now ≡ earliest_in plan s → (i : ℕ) → i < count plan
       → sum_where (count plan) (level plan i) (wleft_at s) ≤ backlog plan (earliest_in plan s) i
   level-most calm at_due i h =
@@ -108,7 +117,8 @@ module _ (plan : Plan) (adm : IsAdmitted plan) (dem : JobDemands) (s : StateOf) 
           | inl earlier ↦ elim (cases_lt 0 (lack plan r i)) [
             | inl lacks ↦
                 let apart : r ≡ earliest_in plan s → ⊥ =
-                λ e. (let g : lack plan r i ≡ lack plan (earliest_in plan s) i = ap (λ (u : ℕ). lack plan u i) e in omega arith) in
+                λ e. (let g : lack plan r i ≡ lack plan (earliest_in plan s) i =
+                ap (λ (u : ℕ). lack plan u i) e in omega arith) in
                 let lt : r < earliest_in plan s = omega arith in
                 let still : lack_after plan r i ≡ lack plan r i =
                 quiet_row plan adm r i h (quiet-between r i h earlier (omega (arith, first-due i h))) in
@@ -127,10 +137,12 @@ module _ (plan : Plan) (adm : IsAdmitted plan) (dem : JobDemands) (s : StateOf) 
               ]
         ]
 
-    pub cc_rm_completes : CcRmCalm plan s → (i : ℕ) → i < count plan → (row_at s i).deadline ≡ s.now → (row_at s i).done ≡ true
+    pub cc_rm_completes : CcRmCalm plan s → (i : ℕ) → i < count plan
+        → (row_at s i).deadline ≡ s.now → (row_at s i).done ≡ true
     cc_rm_completes calm i h e =
         let row = row_at s i in
-        let at_due : s.now ≡ earliest_in plan s = omega (arith, earliest-from plan adm.limits dem s bel, first-due i h) in
+        let at_due : s.now ≡ earliest_in plan s =
+        omega (arith, earliest-from plan adm.limits dem s bel, first-due i h) in
         elim (cases_lt 0 row.job) [
           | inl born ↦
               let long = release-due plan i row.job born in
@@ -145,7 +157,8 @@ module _ (plan : Plan) (adm : IsAdmitted plan) (dem : JobDemands) (s : StateOf) 
         → wleft_at (after_boundary plan dem s) j + lack plan s.now j ≤ wleft_at s j + lack_after plan s.now j
     row-adds j h =
         let row = row_at s j in
-        let P : Row → Type 0 = λ (new : Row). row_wleft new + lack plan s.now j ≤ row_wleft row + lack_after plan s.now j in
+        let P : Row → Type 0 = λ (new : Row). row_wleft new + lack plan s.now j
+        ≤ row_wleft row + lack_after plan s.now j in
         let Q : Bool → Type 0 = λ (c : Bool). P (if c then opened_row plan dem j row else row) in
         subst P (sym (boundary_at plan dem s j (in_rows plan dem s bel j h)))
         (elim (cases_Bool (is_due s.now row)) [

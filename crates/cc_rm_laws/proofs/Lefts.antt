@@ -1,11 +1,13 @@
 -- What is left of an allotment, over plain numbers: the allotment, the base, and what the job may still need.
-use Rattle.std.proofs.Common.{◌≡◌, ℕ, ◌+◌, ◌-◌, ◌<◌, ◌≤◌, Bool, true, false, refl, arith, if◌then◌else◌, true≢false, sym}
+use Rattle.std.proofs.Common.{◌≡◌, ℕ, ◌+◌, ◌-◌, ◌<◌, ◌≤◌, Bool, true, false, refl, arith, if◌then◌else◌, true≢false}
+use Rattle.std.proofs.Common.{sym}
 
 abbrev pub left_by : Bool → ℕ → ℕ → ℕ → ℕ
 left_by done allot base w = if done then 0 else allot - (base - w)
 
 -- at a mark all of it is left
-pub left-marked : (done : Bool) (al base w : ℕ) → base ≡ w → al ≤ base → (done ≡ true → w ≡ 0) → left_by done al base w ≡ al
+pub left-marked : (done : Bool) (al base w : ℕ) → base ≡ w
+    → al ≤ base → (done ≡ true → w ≡ 0) → left_by done al base w ≡ al
 left-marked true al base w e a z = omega (arith, z refl)
 left-marked false al base w e a z = omega arith
 

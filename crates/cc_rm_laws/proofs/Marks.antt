@@ -1,5 +1,6 @@
 -- The opening state is calm, and each boundary keeps it calm.
-use Rattle.std.proofs.Common.{◌≡◌, inl, inr, ℕ, suc, ◌+◌, ◌-◌, ◌*◌, ◌<◌, ◌≤◌, min, Bool, true, false, List, [], ◌∷◌, refl, sym, ◌∙◌, ap, subst, arith}
+use Rattle.std.proofs.Common.{◌≡◌, inl, inr, ℕ, suc, ◌+◌, ◌-◌, ◌*◌, ◌<◌, ◌≤◌, min, Bool, true, false, List, [], ◌∷◌}
+use Rattle.std.proofs.Common.{refl, sym, ◌∙◌, ap, subst, arith}
 use Rattle.std.specs.Prelude.{if◌then◌else◌, map, slice_index}
 use Rattle.std.specs.List.{list_any}
 use Rattle.std.proofs.lemmas.Bool.{cases_Bool, eqb-true}
@@ -18,9 +19,11 @@ use Rattle.sched_model.specs.States.{StateOf, row_at, no_row, row_wleft, opening
 use Rattle.sched_model.proofs.PriorityLemmas.{allotment-shares}
 use Rattle.sched_model.proofs.DownSets.{down-set-gets}
 use Rattle.sched_model.proofs.LevelSums.{sum_where-mono, sum_where-plus, sum_where-zero, level-gets}
-use Rattle.governor.specs.Steps.{each_row, is_due, boundary_row, opened_row, after_boundary, wleft_at, release_of, earliest_in, Belongs}
+use Rattle.governor.specs.Steps.{each_row, is_due, boundary_row, opened_row, after_boundary, wleft_at, release_of}
+use Rattle.governor.specs.Steps.{earliest_in, Belongs}
 use Rattle.governor.proofs.Rows.{none_due_at, some_due_at, or_false_right, done_none}
-use Rattle.governor.proofs.Belonging.{earliest-from, in_rows, opening_at, boundary_at, belongs_boundary, decision_boundary, opened_release, earliest-later}
+use Rattle.governor.proofs.Belonging.{earliest-from, in_rows, opening_at, boundary_at, belongs_boundary}
+use Rattle.governor.proofs.Belonging.{decision_boundary, opened_release, earliest-later}
 use Rattle.governor.specs.Rm.{level}
 use Rattle.cc_rm_laws.specs.Allotments.{base_of, allotted_units, allotted_in, allotment_left_in}
 use Rattle.cc_rm_laws.specs.Conditions.{LacksNothing, CcRmCalm}
@@ -37,9 +40,11 @@ module _ (plan : Plan) where
   cc_rm_opens = record {
     levels = λ i h.
         let none =
-        sum_where-zero (count plan) (level plan i) (wleft_at (opening plan)) (λ j hj on. done_none (row_at (opening plan) j) (opening-done j hj)) in
+        sum_where-zero (count plan) (level plan i) (wleft_at (opening plan))
+        (λ j hj on. done_none (row_at (opening plan) j) (opening-done j hj)) in
         omega (arith, none);
-    total = (let none = sum_below-zero (count plan) (allotment_left_in plan (opening plan)) (λ j hj. rw (opening-done j hj) refl) in omega (arith, none));
+    total = (let none = sum_below-zero (count plan) (allotment_left_in plan (opening plan))
+        (λ j hj. rw (opening-done j hj) refl) in omega (arith, none));
     since = λ i h born before none. opening-done i h;
   }
 
@@ -49,16 +54,20 @@ rows-still : (plan : Plan) (dem : JobDemands) (now i : ℕ) (rows : List Row) �
 rows-still plan dem now i [] none = refl
 rows-still plan dem now i (row ∷ rows) none =
     let here : is_due now row ≡ false = none_due_at (is_due now) (row ∷ rows) 0 none (omega arith) in
-    let head : boundary_row plan dem now i row ≡ row = ap (λ (b : Bool). if b then opened_row plan dem i row else row) here in
-    let rest = rows-still plan dem now (suc i) rows (or_false_right (is_due now row) (list_any (is_due now) rows) none) in
+    let head : boundary_row plan dem now i row ≡ row =
+    ap (λ (b : Bool). if b then opened_row plan dem i row else row) here in
+    let rest = rows-still plan dem now (suc i) rows
+    (or_false_right (is_due now row) (list_any (is_due now) rows) none) in
     λ j. head j ∷ rest j
 
-state-still : (plan : Plan) (dem : JobDemands) (s : StateOf) → list_any (is_due s.now) s.rows ≡ false → after_boundary plan dem s ≡ s
+state-still : (plan : Plan) (dem : JobDemands) (s : StateOf)
+    → list_any (is_due s.now) s.rows ≡ false → after_boundary plan dem s ≡ s
 state-still plan dem s none =
     let rows = rows-still plan dem s.now 0 s.rows none in
     let at : (if list_any (is_due s.now) s.rows then s.now else s.base_at) ≡ s.base_at =
     ap (λ (b : Bool). if b then s.now else s.base_at) none in
-    let base : (if list_any (is_due s.now) s.rows then map row_wleft (after_boundary plan dem s).rows else s.base) ≡ s.base =
+    let base : (if list_any (is_due s.now) s.rows then map row_wleft (after_boundary plan dem s).rows else s.base)
+    ≡ s.base =
     ap (λ (b : Bool). if b then map row_wleft (after_boundary plan dem s).rows else s.base) none in
     λ j. record { now = s.now; rows = rows j; base_at = at j; base = base j }
 
@@ -66,7 +75,8 @@ state-still plan dem s none =
 marked_level : (w left room a b : ℕ) → left ≡ min room w → w ≤ a → b ≡ a - room → w ≤ left + b
 marked_level w left room a b e le f = omega arith
 
-module _ (plan : Plan) (adm : IsAdmitted plan) (rm : plan.scheduler ≡ Rm) (dem : JobDemands) (s : StateOf) (bel : Belongs plan dem s) (calm : CcRmCalm plan s) (some : list_any (is_due s.now) s.rows ≡ true) where
+module _ (plan : Plan) (adm : IsAdmitted plan) (rm : plan.scheduler ≡ Rm) (dem : JobDemands) (s : StateOf)
+    (bel : Belongs plan dem s) (calm : CcRmCalm plan s) (some : list_any (is_due s.now) s.rows ≡ true) where
   abbrev marked : StateOf
   marked = after_boundary plan dem s
 
@@ -96,7 +106,8 @@ module _ (plan : Plan) (adm : IsAdmitted plan) (rm : plan.scheduler ≡ Rm) (dem
   place = omega (arith, later)
 
   room_is : room ≡ suc gap * static_speed plan
-  room_is = let span : earliest_in plan marked - marked.base_at ≡ suc gap = omega (arith, mark_now, later) in ap (λ (x : ℕ). x * static_speed plan) span
+  room_is = let span : earliest_in plan marked - marked.base_at ≡ suc gap =
+      omega (arith, mark_now, later) in ap (λ (x : ℕ). x * static_speed plan) span
 
   base_is : (j : ℕ) → j < count plan → base_of marked j ≡ wleft_at marked j
   base_is j h =
@@ -106,7 +117,8 @@ module _ (plan : Plan) (adm : IsAdmitted plan) (rm : plan.scheduler ≡ Rm) (dem
   -- all of an allotment is left
   left_is : (j : ℕ) → j < count plan → allotment_left_in plan marked j ≡ allotted_in plan marked j
   left_is j h =
-      left-marked (row_at marked j).done (allotted_in plan marked j) (base_of marked j) (wleft_at marked j) (base_is j h)
+      left-marked (row_at marked j).done (allotted_in plan marked j)
+      (base_of marked j) (wleft_at marked j) (base_is j h)
       (allotted-most plan adm dem marked bel' j) (done_none (row_at marked j))
 
   shares : SharesOut (count plan) (period plan) room (base_of marked) (allotted_in plan marked)
@@ -115,11 +127,13 @@ module _ (plan : Plan) (adm : IsAdmitted plan) (rm : plan.scheduler ≡ Rm) (dem
   where_same : (test : ℕ → Bool) (f g : ℕ → ℕ) → ((j : ℕ) → j < count plan → f j ≡ g j)
       → sum_where (count plan) test f ≡ sum_where (count plan) test g
   where_same test f g e =
-      sum_below-same (count plan) (λ j. if test j then f j else 0) (λ j. if test j then g j else 0) (λ j h. ap (λ (x : ℕ). if test j then x else 0) (e j h))
+      sum_below-same (count plan) (λ j. if test j then f j else 0)
+      (λ j. if test j then g j else 0) (λ j h. ap (λ (x : ℕ). if test j then x else 0) (e j h))
 
   -- a level has the smaller of the room and what it may need
   level_left : (i : ℕ)
-      → sum_where (count plan) (level plan i) (allotment_left_in plan marked) ≡ min room (sum_where (count plan) (level plan i) (wleft_at marked))
+      → sum_where (count plan) (level plan i) (allotment_left_in plan marked)
+      ≡ min room (sum_where (count plan) (level plan i) (wleft_at marked))
   level_left i =
       where_same (level plan i) (allotment_left_in plan marked) (allotted_in plan marked) left_is
       ∙ (level-gets (count plan) (period plan) room (base_of marked) (allotted_in plan marked) shares i
@@ -127,12 +141,15 @@ module _ (plan : Plan) (adm : IsAdmitted plan) (rm : plan.scheduler ≡ Rm) (dem
 
   -- and may need no more than the worst static schedule lacks there
   level_needs : (i : ℕ) → i < count plan
-      → sum_where (count plan) (level plan i) (wleft_at marked) ≤ sum_where (count plan) (level plan i) (lack_after plan s.now)
+      → sum_where (count plan) (level plan i) (wleft_at marked)
+      ≤ sum_where (count plan) (level plan i) (lack_after plan s.now)
   level_needs i h =
       let n = count plan in
       let lv = level plan i in
-      let adds : sum_where n lv (λ j. wleft_at marked j + lack plan s.now j) ≤ sum_where n lv (λ j. wleft_at s j + lack_after plan s.now j) =
-      sum_where-mono n lv (λ j. wleft_at marked j + lack plan s.now j) (λ j. wleft_at s j + lack_after plan s.now j) (λ j hj on. row-adds plan adm dem s bel rm j hj) in
+      let adds : sum_where n lv (λ j. wleft_at marked j + lack plan s.now j)
+      ≤ sum_where n lv (λ j. wleft_at s j + lack_after plan s.now j) =
+      sum_where-mono n lv (λ j. wleft_at marked j + lack plan s.now j)
+      (λ j. wleft_at s j + lack_after plan s.now j) (λ j hj on. row-adds plan adm dem s bel rm j hj) in
       let left_sum = sum_where-plus n lv (wleft_at marked) (lack plan s.now) in
       let right_sum = sum_where-plus n lv (wleft_at s) (lack_after plan s.now) in
       let old : sum_where n lv (wleft_at s) ≤ sum_where n lv (lack plan s.now) =
@@ -147,7 +164,8 @@ module _ (plan : Plan) (adm : IsAdmitted plan) (rm : plan.scheduler ≡ Rm) (dem
       let lv = level plan i in
       backlog-where plan (earliest_in plan marked) i h
       ∙ (ap (λ (u : ℕ). sum_where n lv (lack plan u)) (sym place)
-      ∙ (backlog-span plan adm rm lv (level_down plan i) s.now gap (λ u j a b hj. quiet plan adm dem marked bel' u j (omega (arith, mark_now)) (omega (arith, place)) hj)
+      ∙ (backlog-span plan adm rm lv (level_down plan i) s.now gap
+      (λ u j a b hj. quiet plan adm dem marked bel' u j (omega (arith, mark_now)) (omega (arith, place)) hj)
       ∙ ap (λ (c : ℕ). sum_where n lv (lack_after plan s.now) - c) (sym room_is)))
 
   marked_since : (i : ℕ) → i < count plan → 0 < (row_at marked i).job
@@ -165,17 +183,20 @@ module _ (plan : Plan) (adm : IsAdmitted plan) (rm : plan.scheduler ≡ Rm) (dem
             let e = opened_release plan dem i row (bel.deadline i h) in
             let at_now : row.deadline ≡ s.now = eqb-true row.deadline s.now due in
             absurd (omega (arith, e, at_now, lt)))
-        | inr later_ ↦ subst Q (sym later_) (λ b lt. completed-too plan adm dem s bel rm calm at_due i h b (omega (arith, at_due, lt)) there)
+        | inr later_ ↦ subst Q (sym later_)
+            (λ b lt. completed-too plan adm dem s bel rm calm at_due i h b (omega (arith, at_due, lt)) there)
       ]) in
       here born (subst (λ (u : ℕ). release_of plan i (row_at marked i) < u) mark_now before)
 
-  marked_total : sum_below (count plan) (allotment_left_in plan marked) ≤ static_speed plan * (earliest_in plan marked - marked.now)
+  marked_total : sum_below (count plan) (allotment_left_in plan marked)
+      ≤ static_speed plan * (earliest_in plan marked - marked.now)
   marked_total =
       let n = count plan in
       let left_sum : sum_below n (allotment_left_in plan marked) ≡ sum_below n (allotted_in plan marked) =
       sum_below-same n (allotment_left_in plan marked) (allotted_in plan marked) left_is in
       let gets : sum_below n (allotted_in plan marked) ≡ min room (sum_below n (base_of marked)) =
-      down-set-gets n (period plan) (λ j. true) room (base_of marked) (allotted_in plan marked) (λ j k hj hk b on. refl) shares in
+      down-set-gets n (period plan) (λ j. true) room (base_of marked)
+      (allotted_in plan marked) (λ j k hj hk b on. refl) shares in
       let clock : earliest_in plan marked - marked.now ≡ suc gap = omega (arith, later) in
       let turned : static_speed plan * suc gap ≡ suc gap * static_speed plan = omega arith in
       let fits : static_speed plan * (earliest_in plan marked - marked.now) ≡ room =
@@ -186,7 +207,8 @@ module _ (plan : Plan) (adm : IsAdmitted plan) (rm : plan.scheduler ≡ Rm) (dem
   marked_calm : CcRmCalm plan marked
   marked_calm = record {
     levels = λ i h.
-        marked_level (sum_where (count plan) (level plan i) (wleft_at marked)) (sum_where (count plan) (level plan i) (allotment_left_in plan marked)) room
+        marked_level (sum_where (count plan) (level plan i) (wleft_at marked))
+        (sum_where (count plan) (level plan i) (allotment_left_in plan marked)) room
         (sum_where (count plan) (level plan i) (lack_after plan s.now)) (backlog plan (earliest_in plan marked) i)
         (level_left i) (level_needs i h) (level_backlog i h);
     total = marked_total;

@@ -1,5 +1,6 @@
 -- The published demand of cycle-conserving RM is that of the state.
-use Rattle.std.proofs.Common.{◌≡◌, ℕ, zero, suc, ◌+◌, ◌-◌, ◌*◌, ◌<◌, ◌≤◌, Bool, true, false, List, [], ◌∷◌, length, drop, refl, sym, ◌∙◌, ap, ap₂, arith, if◌then◌else◌, nat_eq, nat_le, length-drop}
+use Rattle.std.proofs.Common.{◌≡◌, ℕ, zero, suc, ◌+◌, ◌-◌, ◌*◌, ◌<◌, ◌≤◌, Bool, true, false, List, [], ◌∷◌, length}
+use Rattle.std.proofs.Common.{drop, refl, sym, ◌∙◌, ap, ap₂, arith, if◌then◌else◌, nat_eq, nat_le, length-drop}
 use Rattle.std.proofs.lemmas.Bool.Decides.{nat_tests}
 use Rattle.dvs_base.specs.declared.kind.Scheduler.{Scheduler}
 use Rattle.dvs_base.specs.declared.kind.Scheduler.TheVariants.{Rm}
@@ -38,7 +39,8 @@ exec-drop p i k (suc n) [] = omega arith
 exec-drop p i k (suc n) (x ∷ past) = omega (arith, exec-drop p i k n past)
 
 -- what a job has had since the mark, by what it might need at most then and now
-since_mark : (worst need now first : ℕ) → first ≤ now → now < need → need ≤ worst → (worst - first) - (worst - now) ≡ now - first
+since_mark : (worst need now first : ℕ) → first ≤ now → now < need
+    → need ≤ worst → (worst - first) - (worst - now) ≡ now - first
 since_mark worst need now first a b c = omega arith
 
 module _ (p : Plan) (adm : IsAdmitted p) where
@@ -55,8 +57,10 @@ module _ (p : Plan) (adm : IsAdmitted p) where
       go : (b : Bool) → nat_eq (suc t) (due p i (latest p i t)) ≡ b → latest p i (suc t) ≡ latest p i t
       go true e =
           let is_due : suc t ≡ due p i (latest p i t) = grind (arith, nat_tests) in
-          let job : latest p i (suc t) ≡ latest p i t + 1 = ap (latest p i) next ∙ latest-next p i t some (omega (arith, is_due)) in
-          let there : release p i (latest p i (suc t)) ≡ suc t = ap (release p i) job ∙ (release-suc p i (latest p i t) ∙ sym is_due) in
+          let job : latest p i (suc t) ≡ latest p i t + 1 =
+          ap (latest p i) next ∙ latest-next p i t some (omega (arith, is_due)) in
+          let there : release p i (latest p i (suc t)) ≡ suc t =
+          ap (release p i) job ∙ (release-suc p i (latest p i t) ∙ sym is_due) in
           absurd (grind (arith, nat_tests, none, there))
       go false e =
           let other : (suc t ≡ due p i (latest p i t)) → ⊥ = grind (arith, nat_tests) in
@@ -70,7 +74,8 @@ module _ (p : Plan) (adm : IsAdmitted p) where
       go : (b : Bool) → is_release p (suc t) ≡ b → latest p i (last_release p t) ≡ latest p i t
           → latest p i (last_release p (suc t)) ≡ latest p i (suc t)
       go true e ih = rw (e, last_up_to) refl
-      go false e ih = rw (e, last_up_to) (ih ∙ sym (job-stays t i h (any_below-false (count p) (λ j. releases_at p j (suc t)) e i h)))
+      go false e ih = rw (e, last_up_to) (ih
+          ∙ sym (job-stays t i h (any_below-false (count p) (λ j. releases_at p j (suc t)) e i h)))
 
   module _ (dem : JobDemands) (within : IsWithin p dem) (past : List Tick) where
     abbrev now : ℕ
@@ -99,11 +104,14 @@ module _ (p : Plan) (adm : IsAdmitted p) where
 
     allotted-is : (i : ℕ) → i < count p → allotted p dem past i ≡ allotted_in p here i
     allotted-is i h =
-        ap (λ (n : ℕ). allotment (count p) (period p) ((n - mark) * static_speed p) (wleft p dem (at mark past)) i) first-is
-        ∙ sym (allotment-same (count p) (period p) ((earliest_in p here - mark) * static_speed p) (base_of here) (wleft p dem (at mark past)) base-is i h)
+        ap (λ (n : ℕ). allotment (count p) (period p) ((n - mark) * static_speed p) (wleft p dem (at mark past)) i)
+        first-is
+        ∙ sym (allotment-same (count p) (period p) ((earliest_in p here - mark) * static_speed p)
+        (base_of here) (wleft p dem (at mark past)) base-is i h)
 
     -- what an open job has had since the mark
-    had-is : (i : ℕ) → i < count p → is_complete p dem past i ≡ false → had_since_release p past i ≡ had_since_mark here i
+    had-is : (i : ℕ) → i < count p → is_complete p dem past i ≡ false
+        → had_since_release p past i ≡ had_since_mark here i
     had-is i h open_job =
         let k = latest p i now in
         let job : latest p i mark ≡ k = since-release now i h in
@@ -117,12 +125,14 @@ module _ (p : Plan) (adm : IsAdmitted p) where
         go (nat_le (dem i k) (exec p (at mark past) i k)) refl less fewer in
         let base : base_of here i ≡ worst p i - exec p (at mark past) i k =
         base-is i h
-        ∙ (ap (λ (m : ℕ). if nat_le (dem i m) (exec p (at mark past) i m) then 0 else worst p i - exec p (at mark past) i m) job_then
+        ∙ (ap (λ (m : ℕ). if nat_le (dem i m) (exec p (at mark past) i m)
+        then 0 else worst p i - exec p (at mark past) i m) job_then
         ∙ ap (λ (b : Bool). if b then 0 else worst p i - exec p (at mark past) i k) open_then) in
         let rest : wleft_at here i ≡ worst p i - exec p past i k =
         ap row_wleft (row-is i h) ∙ ap (λ (b : Bool). if b then 0 else worst p i - exec p past i k) open_job in
         had
-        ∙ sym (ap₂ (λ a b. a - b) base rest ∙ since_mark (worst p i) (dem i k) (exec p past i k) (exec p (at mark past) i k) fewer less most)
+        ∙ sym (ap₂ (λ a b. a - b) base rest
+        ∙ since_mark (worst p i) (dem i k) (exec p past i k) (exec p (at mark past) i k) fewer less most)
       where
         go : {a b c : ℕ} (t : Bool) → nat_le a b ≡ t → c < a → b ≤ c → nat_le a b ≡ false
         go true e lt le = absurd (grind (arith, nat_tests))
@@ -130,10 +140,12 @@ module _ (p : Plan) (adm : IsAdmitted p) where
 
     left-is : (i : ℕ) → i < count p → allotment_left p dem past i ≡ allotment_left_in p here i
     left-is i h =
-        go (is_complete p dem past i) refl ∙ sym (ap (λ (row : Row). if row.done then 0 else allotted_in p here i - had_since_mark here i) (row-is i h))
+        go (is_complete p dem past i) refl
+        ∙ sym (ap (λ (row : Row). if row.done then 0 else allotted_in p here i - had_since_mark here i) (row-is i h))
       where
         go : (b : Bool) → is_complete p dem past i ≡ b
-            → (if is_complete p dem past i then 0 else allotted p dem past i - had_since_release p past i) ≡ (if is_complete p dem past i then 0 else allotted_in p here i - had_since_mark here i)
+            → (if is_complete p dem past i then 0 else allotted p dem past i - had_since_release p past i)
+            ≡ (if is_complete p dem past i then 0 else allotted_in p here i - had_since_mark here i)
         go true e = rw e refl
         go false e = rw e (ap₂ (λ a b. a - b) (allotted-is i h) (had-is i h e))
 
@@ -142,7 +154,8 @@ module _ (p : Plan) (adm : IsAdmitted p) where
 
     cycle-is : rm_cycle p dem past ≡ cycle_demand p here
     cycle-is =
-        ap₂ frac (sum_below-same (count p) (allotment_left p dem past) (allotment_left_in p here) left-is) (ap (λ (n : ℕ). n - now) first-is)
+        ap₂ frac (sum_below-same (count p) (allotment_left p dem past) (allotment_left_in p here) left-is)
+        (ap (λ (n : ℕ). n - now) first-is)
 
 pub published-cycle : (p : Plan) → IsAdmitted p → p.scheduler ≡ Rm → Publishes cycle_demand Cycle p
 unfolding published

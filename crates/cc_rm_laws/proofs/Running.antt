@@ -1,5 +1,6 @@
 -- A legal tick keeps a state of cycle-conserving RM safe.
-use Rattle.std.proofs.Common.{◌≡◌, ◌⊎◌, inl, inr, ℕ, ◌+◌, ◌-◌, ◌*◌, ◌<◌, ◌≤◌, min, Bool, true, false, List, length, refl, sym, ◌∙◌, ap, subst, arith, true≢false}
+use Rattle.std.proofs.Common.{◌≡◌, ◌⊎◌, inl, inr, ℕ, ◌+◌, ◌-◌, ◌*◌, ◌<◌, ◌≤◌, min, Bool, true, false, List, length}
+use Rattle.std.proofs.Common.{refl, sym, ◌∙◌, ap, subst, arith, true≢false}
 use Rattle.std.proofs.Math.Nat.{mul-le-mul_right}
 use Rattle.std.specs.Prelude.{◌==◌}
 use Rattle.std.proofs.lemmas.Bool.{cases_Bool, cases_lt, eqb-true, eqb-false}
@@ -19,7 +20,8 @@ use Rattle.sched_model.specs.States.{StateOf, row_at}
 use Rattle.sched_model.proofs.PriorityLemmas.{before-total, allotment_of}
 use Rattle.sched_model.proofs.DownSets.{down-set-gets}
 use Rattle.sched_model.proofs.LevelSums.{sum_where-mono, sum_where-plus, sum_where-tight}
-use Rattle.governor.specs.Steps.{wleft_at, release_of, earliest_in, share_in, left_in, key_in, IsLegalIn, after_tick, IsBeforeAll, Belongs}
+use Rattle.governor.specs.Steps.{wleft_at, release_of, earliest_in, share_in, left_in, key_in, IsLegalIn, after_tick}
+use Rattle.governor.specs.Steps.{IsBeforeAll, Belongs}
 use Rattle.governor.proofs.Rows.{done_none}
 use Rattle.governor.proofs.Belonging.{in_rows, tick_at, legal_most, earliest-later}
 use Rattle.governor.proofs.Ticks.{tick-falls, tick-closes}
@@ -31,11 +33,14 @@ use Rattle.cc_rm_laws.proofs.Lefts.{left_by, left-part, left-full, left-some, le
 use Rattle.cc_rm_laws.proofs.Deadlines.{allotted-most}
 
 -- what is left fits in the rest of the time, where it is nothing or fell by the speed
-room_falls : (left_in left' f x y : ℕ) → x ≡ y + 1 → (left' ≡ 0) ⊎ (left' + f ≤ left_in) → left_in ≤ f * x → left' ≤ f * y
+room_falls : (left_in left' f x y : ℕ) → x ≡ y + 1
+    → (left' ≡ 0) ⊎ (left' + f ≤ left_in) → left_in ≤ f * x → left' ≤ f * y
 room_falls left_in left' f x y e (inl z) le = rw z (omega arith)
 room_falls left_in left' f x y e (inr g) le = (let le' = rw e at le in omega arith)
 
-module _ (plan : Plan) (adm : IsAdmitted plan) (rm : plan.scheduler ≡ Rm) (dem : JobDemands) (s : StateOf) (bel : Belongs plan dem s) (f : ℕ) (shares : List ℕ) (before : IsBeforeAll plan s) (legal : IsLegalIn plan dem f s shares) where
+module _ (plan : Plan) (adm : IsAdmitted plan) (rm : plan.scheduler ≡ Rm) (dem : JobDemands) (s : StateOf)
+    (bel : Belongs plan dem s) (f : ℕ) (shares : List ℕ)
+    (before : IsBeforeAll plan s) (legal : IsLegalIn plan dem f s shares) where
   abbrev ticked : StateOf
   ticked = after_tick dem shares s
 
@@ -47,25 +52,33 @@ module _ (plan : Plan) (adm : IsAdmitted plan) (rm : plan.scheduler ≡ Rm) (dem
 
   same_earliest : earliest_in plan ticked ≡ earliest_in plan s
   same_earliest =
-      least-same (count plan) (λ i. (row_at ticked i).deadline) (λ i. (row_at s i).deadline) (λ i h. ap (λ (row : Row). row.deadline) (tick_at dem shares s i (here i h)))
+      least-same (count plan) (λ i. (row_at ticked i).deadline) (λ i. (row_at s i).deadline)
+      (λ i h. ap (λ (row : Row). row.deadline) (tick_at dem shares s i (here i h)))
 
   -- what is left after the tick, by the allotments before it
   left_then : (j : ℕ)
-      → allotment_left_in plan ticked j ≡ left_by (row_at ticked j).done (allotted_in plan s j) (base_of s j) (wleft_at ticked j)
+      → allotment_left_in plan ticked j
+      ≡ left_by (row_at ticked j).done (allotted_in plan s j) (base_of s j) (wleft_at ticked j)
   left_then j =
-      ap (λ (x : ℕ). left_by (row_at ticked j).done (allotment (count plan) (period plan) ((x - s.base_at) * static_speed plan) (base_of s) j) (base_of s j) (wleft_at ticked j)) same_earliest
+      ap (λ (x : ℕ). left_by (row_at ticked j).done
+      (allotment (count plan) (period plan) ((x - s.base_at) * static_speed plan) (base_of s) j)
+      (base_of s j) (wleft_at ticked j)) same_earliest
 
   falls : (j : ℕ) → j < count plan → wleft_at ticked j + share_in shares j ≤ wleft_at s j
   falls j h = tick-falls plan dem f s shares bel legal j h
 
-  part : (j : ℕ) → j < count plan → wleft_at ticked j + allotment_left_in plan s j ≤ wleft_at s j + allotment_left_in plan ticked j
+  part : (j : ℕ) → j < count plan
+      → wleft_at ticked j + allotment_left_in plan s j ≤ wleft_at s j + allotment_left_in plan ticked j
   part j h =
       rw (left_then j)
-      (left-part (row_at s j).done (row_at ticked j).done (allotted_in plan s j) (base_of s j) (wleft_at s j) (wleft_at ticked j)
-      (allotted-most plan adm dem s bel j) (bel.base j h) (omega (arith, falls j h)) (done_stays j h) (done_none (row_at ticked j)))
+      (left-part (row_at s j).done (row_at ticked j).done
+      (allotted_in plan s j) (base_of s j) (wleft_at s j) (wleft_at ticked j)
+      (allotted-most plan adm dem s bel j) (bel.base j h)
+      (omega (arith, falls j h)) (done_stays j h) (done_none (row_at ticked j)))
 
   out : SharesOut (count plan) (period plan) f (left_in dem s) (share_in shares)
-  out = subst (λ (sch : Scheduler). SharesOut (count plan) (key_in sch plan s) f (left_in dem s) (share_in shares)) rm legal.out
+  out = subst (λ (sch : Scheduler). SharesOut (count plan) (key_in sch plan s) f (left_in dem s) (share_in shares))
+      rm legal.out
 
   -- a task with some left after the tick is open, and got less than it needed
   module _ (k : ℕ) (hk : k < count plan) (pos : 0 < allotment_left_in plan ticked k) where
@@ -84,30 +97,39 @@ module _ (plan : Plan) (adm : IsAdmitted plan) (rm : plan.scheduler ≡ Rm) (dem
 
     short_allotment : allotment (count plan) (period plan) f (left_in dem s) k < left_in dem s k
     short_allotment =
-        subst (λ (x : ℕ). x < left_in dem s k) (allotment_of (count plan) (period plan) f (left_in dem s) (share_in shares) out k hk) short
+        subst (λ (x : ℕ). x < left_in dem s k)
+        (allotment_of (count plan) (period plan) f (left_in dem s) (share_in shares) out k hk) short
 
     -- then each unit of the tick lowers what is left
     takes_before : (j : ℕ) → j < count plan → stands_before (period plan) j k ≡ true
-        → left_by (row_at ticked j).done (allotted_in plan s j) (base_of s j) (wleft_at ticked j) + share_in shares j ≤ allotment_left_in plan s j
+        → left_by (row_at ticked j).done (allotted_in plan s j) (base_of s j) (wleft_at ticked j) + share_in shares j
+        ≤ allotment_left_in plan s j
     takes_before j h ahead =
         let full : allotted_in plan s j ≡ base_of s j =
         allotment-full (count plan) (period plan) (allotted_units plan s) (base_of s) j k h ahead still_open.1 in
-        left-full (row_at s j).done (row_at ticked j).done (allotted_in plan s j) (base_of s j) (wleft_at s j) (wleft_at ticked j) (share_in shares j)
+        left-full (row_at s j).done (row_at ticked j).done (allotted_in plan s j)
+        (base_of s j) (wleft_at s j) (wleft_at ticked j) (share_in shares j)
         full (bel.base j h) (falls j h) (done_none (row_at s j)) (done_none (row_at ticked j)) (done_stays j h)
 
     takes_own : (j : ℕ) → j < count plan → k ≡ j
-        → left_by (row_at ticked j).done (allotted_in plan s j) (base_of s j) (wleft_at ticked j) + share_in shares j ≤ allotment_left_in plan s j
+        → left_by (row_at ticked j).done (allotted_in plan s j) (base_of s j) (wleft_at ticked j) + share_in shares j
+        ≤ allotment_left_in plan s j
     takes_own j h same =
-        left-some (row_at s j).done (row_at ticked j).done (allotted_in plan s j) (base_of s j) (wleft_at s j) (wleft_at ticked j) (share_in shares j)
+        left-some (row_at s j).done (row_at ticked j).done (allotted_in plan s j)
+        (base_of s j) (wleft_at s j) (wleft_at ticked j) (share_in shares j)
         (bel.base j h) (falls j h) (done_stays j h)
-        (subst (λ (i : ℕ). 0 < left_by (row_at ticked i).done (allotted_in plan s i) (base_of s i) (wleft_at ticked i)) same some_left)
+        (subst (λ (i : ℕ). 0 < left_by (row_at ticked i).done (allotted_in plan s i) (base_of s i) (wleft_at ticked i))
+        same some_left)
 
     takes_after : (j : ℕ) → j < count plan → stands_before (period plan) k j ≡ true
-        → left_by (row_at ticked j).done (allotted_in plan s j) (base_of s j) (wleft_at ticked j) + share_in shares j ≤ allotment_left_in plan s j
+        → left_by (row_at ticked j).done (allotted_in plan s j) (base_of s j) (wleft_at ticked j) + share_in shares j
+        ≤ allotment_left_in plan s j
     takes_after j h behind =
         let none : share_in shares j ≡ 0 =
-        allotment_of (count plan) (period plan) f (left_in dem s) (share_in shares) out j h ∙ allotment-none (count plan) (period plan) f (left_in dem s) k j hk behind short_allotment in
-        left-idle (row_at s j).done (row_at ticked j).done (allotted_in plan s j) (base_of s j) (wleft_at s j) (wleft_at ticked j) (share_in shares j)
+        allotment_of (count plan) (period plan) f (left_in dem s) (share_in shares) out j h
+        ∙ allotment-none (count plan) (period plan) f (left_in dem s) k j hk behind short_allotment in
+        left-idle (row_at s j).done (row_at ticked j).done (allotted_in plan s j)
+        (base_of s j) (wleft_at s j) (wleft_at ticked j) (share_in shares j)
         (falls j h) none (done_stays j h)
 
     takes : (j : ℕ) → j < count plan → allotment_left_in plan ticked j + share_in shares j ≤ allotment_left_in plan s j
@@ -131,19 +153,24 @@ module _ (plan : Plan) (adm : IsAdmitted plan) (rm : plan.scheduler ≡ Rm) (dem
         elim (cases_lt (sum_below n (left_in dem s)) f) [
           | inl small ↦
               let all : left_in dem s k ≤ share_in shares k =
-              sum_where-tight n every (left_in dem s) (share_in shares) (legal_most plan dem f s shares legal) (omega arith) k hk refl in
+              sum_where-tight n every (left_in dem s) (share_in shares)
+              (legal_most plan dem f s shares legal) (omega arith) k hk refl in
               absurd (omega (arith, short))
           | inr full ↦ omega arith
         ]
 
-    takes_all : sum_below (count plan) (allotment_left_in plan ticked) + f ≤ sum_below (count plan) (allotment_left_in plan s)
+    takes_all : sum_below (count plan) (allotment_left_in plan ticked) + f
+        ≤ sum_below (count plan) (allotment_left_in plan s)
     takes_all =
         let n = count plan in
-        let each : sum_below n (λ j. allotment_left_in plan ticked j + share_in shares j) ≤ sum_below n (allotment_left_in plan s) = sum_below-le n (λ j. allotment_left_in plan ticked j + share_in shares j) (allotment_left_in plan s) takes in
+        let each : sum_below n (λ j. allotment_left_in plan ticked j + share_in shares j)
+        ≤ sum_below n (allotment_left_in plan s) =
+        sum_below-le n (λ j. allotment_left_in plan ticked j + share_in shares j) (allotment_left_in plan s) takes in
         let split = sum_below-add n (allotment_left_in plan ticked) (share_in shares) in
         omega (arith, each, split, all_out)
 
-  left_falls : (sum_below (count plan) (allotment_left_in plan ticked) ≡ 0) ⊎ (sum_below (count plan) (allotment_left_in plan ticked) + f ≤ sum_below (count plan) (allotment_left_in plan s))
+  left_falls : (sum_below (count plan) (allotment_left_in plan ticked) ≡ 0)
+      ⊎ (sum_below (count plan) (allotment_left_in plan ticked) + f ≤ sum_below (count plan) (allotment_left_in plan s))
   left_falls =
       elim (cases_lt 0 (sum_below (count plan) (allotment_left_in plan ticked))) [
         | inl some ↦
@@ -158,7 +185,9 @@ module _ (plan : Plan) (adm : IsAdmitted plan) (rm : plan.scheduler ≡ Rm) (dem
   cc_rm_enough enough =
       let span : earliest_in plan s - s.now ≡ (earliest_in plan ticked - ticked.now) + 1 =
       omega (arith, same_earliest, earliest-later plan adm.limits s before) in
-      room_falls (sum_below (count plan) (allotment_left_in plan s)) (sum_below (count plan) (allotment_left_in plan ticked)) f (earliest_in plan s - s.now) (earliest_in plan ticked - ticked.now) span left_falls enough
+      room_falls (sum_below (count plan) (allotment_left_in plan s))
+      (sum_below (count plan) (allotment_left_in plan ticked)) f (earliest_in plan s - s.now)
+      (earliest_in plan ticked - ticked.now) span left_falls enough
 
   pub cc_rm_ticks : f ≤ static_speed plan → CcRmCalm plan s
       → sum_below (count plan) (allotment_left_in plan s) ≤ f * (earliest_in plan s - s.now) → CcRmCalm plan ticked
@@ -166,8 +195,10 @@ module _ (plan : Plan) (adm : IsAdmitted plan) (rm : plan.scheduler ≡ Rm) (dem
     levels = λ i h.
         let n = count plan in
         let lv = level plan i in
-        let each : sum_where n lv (λ j. wleft_at ticked j + allotment_left_in plan s j) ≤ sum_where n lv (λ j. wleft_at s j + allotment_left_in plan ticked j) =
-        sum_where-mono n lv (λ j. wleft_at ticked j + allotment_left_in plan s j) (λ j. wleft_at s j + allotment_left_in plan ticked j) (λ j hj on. part j hj) in
+        let each : sum_where n lv (λ j. wleft_at ticked j + allotment_left_in plan s j)
+        ≤ sum_where n lv (λ j. wleft_at s j + allotment_left_in plan ticked j) =
+        sum_where-mono n lv (λ j. wleft_at ticked j + allotment_left_in plan s j)
+        (λ j. wleft_at s j + allotment_left_in plan ticked j) (λ j hj on. part j hj) in
         let a = sum_where-plus n lv (wleft_at ticked) (allotment_left_in plan s) in
         let b = sum_where-plus n lv (wleft_at s) (allotment_left_in plan ticked) in
         let worst : backlog plan (earliest_in plan ticked) i ≡ backlog plan (earliest_in plan s) i =
@@ -177,6 +208,7 @@ module _ (plan : Plan) (adm : IsAdmitted plan) (rm : plan.scheduler ≡ Rm) (dem
     since = λ i h born early none.
         let at = tick_at dem shares s i (here i h) in
         let born' : 0 < (row_at s i).job = subst (λ (row : Row). 0 < row.job) at born in
-        let early' : release_of plan i (row_at s i) < s.base_at = subst (λ (row : Row). release_of plan i row < s.base_at) at early in
+        let early' : release_of plan i (row_at s i) < s.base_at =
+        subst (λ (row : Row). release_of plan i row < s.base_at) at early in
         done_stays i h (calm.since i h born' early' none);
   }

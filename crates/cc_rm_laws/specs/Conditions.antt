@@ -18,8 +18,8 @@ abbrev pub LacksNothing : Plan → ℕ → ℕ → Type 0
 LacksNothing plan t i = lacking plan (schedule plan Fixed (worst_demand plan) t) i ≡ 0
 
 -- each level may need no more than what is left of its allotments and its worst static backlog at the earliest
--- deadline; what is left in all fits up to that deadline at the static speed; and a job that was released before the mark
--- is complete where the worst static schedule had completed it by the mark
+-- deadline; what is left in all fits up to that deadline at the static speed; and a job that was released before the
+-- mark is complete where the worst static schedule had completed it by the mark
 pub record CcRmCalm (plan : Plan) (s : StateOf) : Type 0 where
   pub levels : (i : ℕ) → i < count plan → sum_where (count plan) (level plan i) (wleft_at s)
       ≤ sum_where (count plan) (level plan i) (allotment_left_in plan s) + backlog plan (earliest_in plan s) i
@@ -30,5 +30,6 @@ pub record CcRmCalm (plan : Plan) (s : StateOf) : Type 0 where
 -- what is left in all also fits at the speed of the entry k, which is at most the static speed
 pub record CcRmSafe (plan : Plan) (s : StateOf) (k : ℕ) : Type 0 where
   pub calm : CcRmCalm plan s
-  pub enough : sum_below (count plan) (allotment_left_in plan s) ≤ speed_at plan.machine k * (earliest_in plan s - s.now)
+  pub enough : sum_below (count plan) (allotment_left_in plan s)
+      ≤ speed_at plan.machine k * (earliest_in plan s - s.now)
   pub slower : speed_at plan.machine k ≤ static_speed plan

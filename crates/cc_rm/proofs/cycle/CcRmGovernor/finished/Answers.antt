@@ -7,11 +7,13 @@ pub lower-requires-clause-part : goal.lower-requires-clause-part
 lower-requires-clause-part c =
     let g = c.args.self.now in
     let below : c.args.task < count c.args._plan.now = omega (arith, c.requires.can.task, c.requires.of.rows) in
-    rest-most g.static_speed g.rests.items g.allotments c.args._plan.now c.args._view.now c.args.task below c.requires.counters
+    rest-most g.static_speed g.rests.items g.allotments c.args._plan.now
+    c.args._view.now c.args.task below c.requires.counters
 
 pub returns : goal.returns
 returns c =
     let g = c.args.self.now in
     let below : c.args.task < count c.args._plan.now = omega (arith, c.requires.can.task, c.requires.of.rows) in
     rw (c.lower.ensures.speed, c.lower.ensures.rests, c.lower.ensures.left)
-    (counts-finished c.args._plan.now c.args._view.now c.requires.of c.args.task below g.static_speed g.rests.items g.allotments c.requires.counters)
+    (counts-finished c.args._plan.now c.args._view.now c.requires.of c.args.task
+    below g.static_speed g.rests.items g.allotments c.requires.counters)
