@@ -17,6 +17,7 @@ use Rattle.sched_model.proofs.Tables.{get-table}
 use Rattle.sched_model.proofs.OrderLemmas.{sum_list, AreBelow, in_order-below, sum_list-snoc, sum_before-prefix}
 use Rattle.sched_model.proofs.GreedyLemmas.{IsHandedOut}
 use Rattle.event_kernel.specs.declared.trace.Trace.{Trace}
+use Rattle.event_kernel.specs.Sums.{sums_of}
 use Rattle.event_kernel.specs.Segment.{closed, last_of, grown, head_notes, open_notes}
 use Rattle.event_kernel.proofs.Hearing.{Begins, begins-self, begins-more, begins-trans, begins-under}
 use Rattle.event_kernel.proofs.Pieces.{split_last, last-snoc, total, total-pieces, total-append}
@@ -114,7 +115,7 @@ unit-begins p dem ask s h =
     last = (last_of (pieces_of s.units)).units
 
     trace : Trace
-    trace = record { segment = record { holder = (last_of (pieces_of s.units)).holder; start = length s.units - last; units = last }; sums = record { run = 0; idle = 0; released = 0; finished = 0; decisions = 0 } }
+    trace = record { segment = record { holder = (last_of (pieces_of s.units)).holder; start = length s.units - last; units = last }; sums = sums_of p [] }
 
     last-le : last ≤ length s.units
     last-le = go (split_last (pieces_of s.units))

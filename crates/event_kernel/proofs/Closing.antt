@@ -1,5 +1,5 @@
 -- The end of a span, as its function tells it.
-use Rattle.std.proofs.Common.{◌≡◌, ℕ, ◌+◌, ◌-◌, ◌<◌, ◌≤◌, ◌^◌, true, List, [], ◌∷◌, ◌++◌, length, refl, arith, ap, ◌∙◌, sym, subst, ◌⊎◌, inl, inr, if◌then◌else◌}
+use Rattle.std.proofs.Common.{◌≡◌, ℕ, ◌+◌, ◌-◌, ◌<◌, ◌≤◌, ◌^◌, true, List, [], ◌∷◌, ◌++◌, length, refl, arith, ap, ap₂, ◌∙◌, sym, subst, ◌⊎◌, inl, inr, if◌then◌else◌}
 use Rattle.std.proofs.lemmas.Bool.{cases_lt}
 use Rattle.std.specs.Prelude.{sum_by}
 use Rattle.std.proofs.lemmas.List.Sums.{sum_by-append, sum_by-cons}
@@ -13,10 +13,9 @@ use Rattle.sched_model.specs.Schedule.{schedule_by}
 use Rattle.sched_model.specs.Notes.{notes_before_end, notes_of, energy_run, energy_idle}
 use Rattle.sched_model.specs.States.{prior_state, StateOf}
 use Rattle.event_kernel.specs.declared.trace.Trace.{Trace}
-use Rattle.event_kernel.specs.declared.sums.Sums.{Sums}
-use Rattle.event_kernel.specs.Sums.{sums_of}
-use Rattle.event_kernel.proofs.Summing.{sums-same}
 use Rattle.dvs_base.specs.declared.note.Totals.{Totals}
+use Rattle.event_kernel.specs.Sums.{SumsOf, sums_of}
+use Rattle.event_kernel.proofs.Summing.{totals-same}
 use Rattle.sched_model.specs.Totals.{totals_of, is_released, is_finished, is_decided}
 use Rattle.event_kernel.specs.Heard.{HasHeard, HasBalked}
 use Rattle.governor.specs.Schedule.{ask_of, course}
@@ -88,15 +87,12 @@ module _ {demand : Plan → StateOf → Frac} {p : Plan} {dem : ℕ → ℕ → 
       (before-begins demand p dem ticks s.now close-limit (λ lt. subst (λ n. is_decision p dem (course demand p dem n) ≡ true) next (h.decision (omega (arith, lt, next)))))
       (subst (λ ns. HasBalked heard balked a ns to) (sym notes) (balked_after heard balked (told_after demand p dem (s.now - 1)) (ended_notes p s t0 e trace) a mid to x y))
 
-abbrev pub totals_by : Sums → Totals
-totals_by s = record { run = s.run; idle = s.idle; released = s.released; finished = s.finished; decisions = s.decisions }
-
 -- all notes of a schedule
 module _ {L : Type 0} (heard balked : L → Note → L → Type 0) (demand : Plan → StateOf → Frac) (p : Plan) (dem : ℕ → ℕ → ℕ) (ticks : ℕ) where
   abbrev pub all_notes : List Note
   all_notes = notes_of p dem (ask_of demand p dem) (course demand p dem ticks)
 
-  pub first-between : (s : StateOf) (trace : Trace) → s ≡ prior_state p dem [] → trace.sums ≡ sums_of []
+  pub first-between : (s : StateOf) (trace : Trace) → s ≡ prior_state p dem [] → trace.sums ≡ sums_of p []
       → IsBetween demand p dem ticks s.now s trace × (s.now ≡ 0)
   unfolding schedule_by notes_before_end
   first-between s trace e c =
@@ -104,11 +100,11 @@ module _ {L : Type 0} (heard balked : L → Note → L → Type 0) (demand : Pla
         subst (λ n. IsBetween demand p dem ticks n s trace) (sym now) (record {
           state = e;
           decision = λ lt. refl;
-          money = omega (arith, ap (λ (x : Sums). x.run) c, ap (λ (x : Sums). x.idle) c);
+          money = omega (arith, ap (λ (x : SumsOf). x.totals.run) c, ap (λ (x : SumsOf). x.totals.idle) c);
           sums = c;
-          few_released = omega (arith, ap (λ (x : Sums). x.released) c);
-          few_finished = omega (arith, ap (λ (x : Sums). x.finished) c);
-          few_decisions = omega (arith, ap (λ (x : Sums). x.decisions) c);
+          few_released = omega (arith, ap (λ (x : SumsOf). x.totals.released) c);
+          few_finished = omega (arith, ap (λ (x : SumsOf). x.totals.finished) c);
+          few_decisions = omega (arith, ap (λ (x : SumsOf). x.totals.decisions) c);
         }),
         now,
       )
@@ -117,26 +113,26 @@ module _ {L : Type 0} (heard balked : L → Note → L → Type 0) (demand : Pla
   unfolding schedule_by notes_before_end
   nothing-told t a e = subst (λ n. HasHeard heard a (told_before demand p dem n) a) (sym e) refl
 
-  end-is : (t run idle : ℕ) → t ≡ ticks → run ≡ sum_by energy_run (told_before demand p dem t) → idle ≡ sum_by energy_idle (told_before demand p dem t)
-      → told_before demand p dem t ++ End ticks run idle ∷ [] ≡ all_notes
-  end-is t run idle e r i =
-      ap (λ x. told_before demand p dem t ++ End ticks x idle ∷ []) r
-      ∙ (ap (λ x. told_before demand p dem t ++ End ticks (sum_by energy_run (told_before demand p dem t)) x ∷ []) i
-      ∙ (ap (λ n. told_before demand p dem n ++ End ticks (sum_by energy_run (told_before demand p dem n)) (sum_by energy_idle (told_before demand p dem n)) ∷ []) e
-      ∙ ap (λ n. told_before demand p dem ticks ++ End n (sum_by energy_run (told_before demand p dem ticks)) (sum_by energy_idle (told_before demand p dem ticks)) ∷ []) (sym (course-len demand p dem ticks))))
+  abbrev before : List Note
+  before = told_before demand p dem ticks
 
-  pub end-heard : (t : ℕ) (s : StateOf) (trace : Trace) (a mid to : L) → IsBetween demand p dem ticks t s trace → t ≡ ticks
-      → HasHeard heard a (told_before demand p dem t) mid → heard mid (End ticks trace.sums.run trace.sums.idle) to → HasHeard heard a all_notes to
-  end-heard t s trace a mid to b e h x =
-      subst (λ ns. HasHeard heard a ns to) (end-is t trace.sums.run trace.sums.idle e (ap (λ (x : Sums). x.run) b.sums) (ap (λ (x : Sums). x.idle) b.sums))
-      (heard-append heard balked (told_before demand p dem t) (End ticks trace.sums.run trace.sums.idle ∷ []) a mid to h (to, x, refl))
+  end-is : (n : ℕ) (t : Totals) (sums : SumsOf) → n ≡ ticks → t ≡ sums.totals → sums ≡ sums_of p before
+      → before ++ End n t.run t.idle ∷ [] ≡ all_notes
+  end-is n t sums whole total is =
+      ap₂ (λ m (x : Totals). before ++ End m x.run x.idle ∷ []) whole (total ∙ ap (λ (x : SumsOf). x.totals) is)
+      ∙ ap (λ m. before ++ End m (sum_by energy_run before) (sum_by energy_idle before) ∷ []) (sym (course-len demand p dem ticks))
 
-  pub end-balked : (t : ℕ) (s : StateOf) (trace : Trace) (a mid to : L) → IsBetween demand p dem ticks t s trace → t ≡ ticks
-      → HasHeard heard a (told_before demand p dem t) mid → balked mid (End ticks trace.sums.run trace.sums.idle) to
-      → HasBalked heard balked a all_notes to
-  end-balked t s trace a mid to b e h x =
-      subst (λ ns. HasBalked heard balked a ns to) (end-is t trace.sums.run trace.sums.idle e (ap (λ (x : Sums). x.run) b.sums) (ap (λ (x : Sums). x.idle) b.sums))
-      (balked_after heard balked (told_before demand p dem t) (End ticks trace.sums.run trace.sums.idle ∷ []) a mid to h (inl x))
+  pub end-heard : (n : ℕ) (t : Totals) (sums : SumsOf) (a mid to : L) → n ≡ ticks → t ≡ sums.totals → sums ≡ sums_of p before
+      → HasHeard heard a before mid → heard mid (End n t.run t.idle) to → HasHeard heard a all_notes to
+  end-heard n t sums a mid to whole total is h x =
+      subst (λ ns. HasHeard heard a ns to) (end-is n t sums whole total is)
+      (heard-append heard balked before (End n t.run t.idle ∷ []) a mid to h (to, x, refl))
+
+  pub end-balked : (n : ℕ) (t : Totals) (sums : SumsOf) (a mid to : L) → n ≡ ticks → t ≡ sums.totals → sums ≡ sums_of p before
+      → HasHeard heard a before mid → balked mid (End n t.run t.idle) to → HasBalked heard balked a all_notes to
+  end-balked n t sums a mid to whole total is h x =
+      subst (λ ns. HasBalked heard balked a ns to) (end-is n t sums whole total is)
+      (balked_after heard balked before (End n t.run t.idle ∷ []) a mid to h (inl x))
 
   pub before-balked : (a to : L) → HasBalked heard balked a (told_before demand p dem ticks) to → HasBalked heard balked a all_notes to
   before-balked a to b =
@@ -157,8 +153,9 @@ module _ {L : Type 0} (heard balked : L → Note → L → Type 0) (demand : Pla
       one : sum_by f (last_note ∷ []) ≡ 0
       one = omega (arith, sum_by-cons f last_note [], none)
 
-  pub end-totals : (t : ℕ) (s : StateOf) (trace : Trace) → IsBetween demand p dem ticks t s trace → t ≡ ticks → totals_by trace.sums ≡ totals_of all_notes
-  end-totals t s trace b e =
-      ap totals_by (b.sums ∙ ap (λ n. sums_of (told_before demand p dem n)) e)
-      ∙ ap totals_by (sums-same _ _ _ _ _ _ _ _ _ _ (sum-end energy_run refl) (sum-end energy_idle refl)
-      (sum-end (λ n. if is_released n then 1 else 0) refl) (sum-end (λ n. if is_finished n then 1 else 0) refl) (sum-end (λ n. if is_decided n then 1 else 0) refl))
+  pub end-totals : (sums : SumsOf) → sums ≡ sums_of p before → sums.totals ≡ totals_of all_notes
+  end-totals sums is =
+      ap (λ (x : SumsOf). x.totals) is
+      ∙ totals-same _ _ (sum-end energy_run refl) (sum-end energy_idle refl)
+      (sum-end (λ n. if is_released n then 1 else 0) refl) (sum-end (λ n. if is_finished n then 1 else 0) refl)
+      (sum-end (λ n. if is_decided n then 1 else 0) refl)

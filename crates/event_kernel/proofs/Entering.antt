@@ -218,10 +218,10 @@ module _ (p : Plan) (dem : ℕ → ℕ → ℕ) (ask : List Tick → Frac) (t : 
       had i lt = omega (arith, count-append (same_holder (Held i (latest p i t))) s.units (replicate n h), w.had i lt, more i lt)
 
       sums : (b : Bool) → is_turn trace h ≡ b
-          → sums_of (open_notes p dem ask (grown s (replicate n h))) ≡ (if b then (told_trace p st s.entry trace).sums else trace.sums)
+          → sums_of p (open_notes p dem ask (grown s (replicate n h))) ≡ (if b then (told_trace p st s.entry trace).sums else trace.sums)
       sums b e =
-          ap sums_of notes
-          ∙ (sums-append (open_notes p dem ask s) (entering_notes p st (length s.past) s.entry h trace)
+          ap (sums_of p) notes
+          ∙ (sums-append p (open_notes p dem ask s) (entering_notes p st (length s.past) s.entry h trace)
           ∙ (ap (λ c. added c (entering_notes p st (length s.past) s.entry h trace)) (sym w.sums)
           ∙ (ap (λ c. added trace.sums (if c then written_notes p st (length s.past) s.entry trace else [])) e ∙ go b)))
         where

@@ -1,6 +1,8 @@
 pub mod Bounds
 pub mod Pieces
 pub mod Summing
+pub mod Booking
+pub mod Telling
 pub mod Entering
 pub mod Handing
 pub mod Ending

@@ -1,5 +1,5 @@
 -- The releases of one boundary.
-use Rattle.std.proofs.Common.{◌≡◌, ◌≢◌, ℕ, zero, suc, ◌+◌, ◌<◌, ◌≤◌, ◌^◌, Bool, true, false, eqb, ◌||◌, List, [], ◌∷◌, ◌++◌, length, refl, arith, if◌then◌else◌, ap, ap₂, ◌∙◌, sym, subst, ◌⊎◌, inl, inr, append-nil, nat_eq, nat_lt, add-one, eq-or-lt_of_le, set, get_or-set_same}
+use Rattle.std.proofs.Common.{eq-eqb, ◌≡◌, ◌≢◌, ℕ, zero, suc, ◌+◌, ◌<◌, ◌≤◌, ◌^◌, Bool, true, false, eqb, ◌||◌, List, [], ◌∷◌, ◌++◌, length, refl, arith, if◌then◌else◌, ap, ap₂, ◌∙◌, sym, subst, ◌⊎◌, inl, inr, append-nil, nat_eq, nat_lt, add-one, eq-or-lt_of_le, set, get_or-set_same}
 use Rattle.std.specs.Prelude.{flat_map}
 use Rattle.std.proofs.lemmas.Bool.Decides.{nat_tests}
 use Rattle.std.proofs.lemmas.List.{set-set}
@@ -21,7 +21,7 @@ use Rattle.sched_model.proofs.JobLaws.{latest-small}
 use Rattle.sched_model.proofs.Joining.{next_job, due_released, row-opened, row-kept, state-marked, state-unmarked}
 use Rattle.event_kernel.specs.declared.trace.Trace.{Trace}
 use Rattle.event_kernel.specs.Segment.{with_notes, HasRoom}
-use Rattle.event_kernel.proofs.Summing.{with-append, with-none, few-released, few-finished}
+use Rattle.event_kernel.proofs.Summing.{added-long, with-append, with-none, few-released, few-finished}
 use Rattle.event_kernel.specs.Heard.{HasHeard, HasBalked}
 use Rattle.governor.specs.Schedule.{ask_of, course}
 use Rattle.event_kernel.specs.Boundary.{opened_row, opened, opening_notes, IsAtBoundary}
@@ -128,8 +128,9 @@ module _ (p : Plan) (dem : ℕ → ℕ → ℕ) (past : List Tick) where
   pub start-trace : (trace : Trace) → trace ≡ with_notes trace (notes_upto 0)
   start-trace trace = sym (with-none trace)
 
-  pub has-room : (m : ℕ) (trace0 trace : Trace) → m ≤ 64 → HasRoom (2 ^ 62) trace0.sums → trace ≡ with_notes trace0 (notes_upto m) → HasRoom (2 ^ 63) trace.sums
-  has-room m trace0 trace le room is = subst (λ (q : Trace). HasRoom (2 ^ 63) q.sums) (sym is) (record {
+  pub has-room : (m : ℕ) (trace0 trace : Trace) → m ≤ 64 → HasRoom (count p) (2 ^ 62) trace0.sums → trace ≡ with_notes trace0 (notes_upto m) → HasRoom (count p) (2 ^ 63) trace.sums
+  has-room m trace0 trace le room is = subst (λ (q : Trace). HasRoom (count p) (2 ^ 63) q.sums) (sym is) (record {
+    tasks_in = omega (arith, room.tasks_in, added-long trace0.sums (notes_upto m));
     released = omega (arith, room.released, le, few-released p dem (length past) m);
     finished = omega (arith, room.finished, le, few-finished p dem (length past) m);
   })
@@ -279,3 +280,11 @@ low-exec demand p dem t low i k lt = omega (arith, exec-within p dem (ask_of dem
 
 pub course-len : (demand : Plan → StateOf → Frac) (p : Plan) (dem : ℕ → ℕ → ℕ) (t : ℕ) → length (course demand p dem t) ≡ t
 course-len demand p dem t = (schedule_exists p dem (ask_of demand p dem) t).1
+
+-- the notes of the release of a job that needs nothing
+pub opening-done : (dem : ℕ → ℕ → ℕ) (s : StateOf) (i : ℕ) → dem i ((row_at s i).job + 1) ≡ 0
+    → opening_notes dem s i
+    ≡ Release s.now i ((row_at s i).job + 1) ∷ Done (record { tick = s.now; offset = 0 }) i ((row_at s i).job + 1) 0 ∷ []
+opening-done dem s i none =
+    let job = (row_at s i).job + 1 in
+    ap (λ b. Release s.now i job ∷ (if b then Done (record { tick = s.now; offset = 0 }) i job 0 ∷ [] else [])) (eq-eqb (dem i job) 0 none)

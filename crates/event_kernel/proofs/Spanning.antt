@@ -29,7 +29,7 @@ use Rattle.event_kernel.specs.declared.trace.Trace.{Trace}
 use Rattle.governor.specs.Schedule.{ask_of, course}
 use Rattle.event_kernel.specs.Segment.{closed, last_of, grown, first_span, open_span, head_notes, open_notes, holder_notes, written_notes, told_trace, CanTell, HeldIn}
 use Rattle.event_kernel.specs.Sums.{sums_of, added}
-use Rattle.event_kernel.proofs.Summing.{sums-append, added-append, added-none, added-holder, ended-most, few-released, few-finished, no-decided}
+use Rattle.event_kernel.proofs.Summing.{books-in, sums-append, added-append, added-none, added-holder, ended-most, few-released, few-finished, no-decided}
 use Rattle.event_kernel.specs.Writing.{HeldNow, Writing}
 use Rattle.event_kernel.specs.Tickwork.{had_at, span_at, tick_at, whole_span, HasWorked}
 use Rattle.event_kernel.specs.Boundary.{ended_trace, ended_notes, some_due, speed_note, IsAtBoundary, IsBetween}
@@ -292,8 +292,8 @@ module _ (demand : Plan → StateOf → Frac) (p : Plan) (dem : ℕ → ℕ → 
                 let rel : List Note = all_release_notes p dem t in
                 let dec : List Note = speed_note p t (demand p (state_of p dem (course demand p dem t))) ∷ [] in
                 ap (λ c. added (added c rel) dec) b.sums
-                ∙ (added-append (sums_of before) rel dec
-                ∙ (sym (sums-append before (rel ++ dec)) ∙ ap sums_of (sym (open-new t (b.decision lt)) ∙ ap (open_notes p dem asks) new)));
+                ∙ (added-append (sums_of p before) rel dec
+                ∙ (sym (sums-append p before (rel ++ dec)) ∙ ap (sums_of p) (sym (open-new t (b.decision lt)) ∙ ap (open_notes p dem asks) new)));
             few_released = omega (arith, b.few_released, few-released p dem t (count p), few_tasks);
             few_finished = omega (arith, b.few_finished, few-finished p dem t (count p), few_tasks);
             few_decisions = omega (arith, b.few_decisions, no-decided p dem t (list_below (count p) (λ i. i)));
@@ -465,25 +465,26 @@ module _ (demand : Plan → StateOf → Frac) (p : Plan) (dem : ℕ → ℕ → 
         entry = there;
         place = omega (arith, w.place, w.few, h.later, early);
         money = omega (arith, w.money, early);
-        task = held trace.segment.holder w.taken;
+        task = held (length s.rows) rows trace.segment.holder w.taken;
         ends = omega (arith, w.few_finished, early);
+        books = books-in p trace.sums (open_notes p dem asks whole) trace.segment.holder e w.sums (held (count p) refl trace.segment.holder w.taken) there;
       }
         where
           rows : length s.rows ≡ count p
           rows = ap (λ (v : StateOf). length v.rows) h.worked.state ∙ length-list_below (count p) (prior_row p dem (course demand p dem (last + 1)))
 
-          held : (k : Holder) → HeldNow p last k → HeldIn (length s.rows) k
-          held Nobody q = tt
-          held (Held k j) q = omega (arith, q.0, rows)
+          held : (n : ℕ) → n ≡ count p → (k : Holder) → HeldNow p last k → HeldIn n k
+          held n same Nobody q = tt
+          held n same (Held k j) q = omega (arith, q.0, same)
 
       pub closing-between : (trace' : Trace) → trace' ≡ ended_trace p s e trace → IsBetween demand p dem ticks (last + 1) s trace'
       closing-between trace' pe = subst (λ q. IsBetween demand p dem ticks (last + 1) s q) (sym pe) (go (nat_lt 0 trace.segment.units) refl)
         where
           sums : (b : Bool) → nat_lt 0 trace.segment.units ≡ b
-              → sums_of (notes_before_end p dem asks (course demand p dem (last + 1))) ≡ (if b then (told_trace p s e trace).sums else trace.sums)
+              → sums_of p (notes_before_end p dem asks (course demand p dem (last + 1))) ≡ (if b then (told_trace p s e trace).sums else trace.sums)
           sums b q =
-              ap sums_of closing-notes
-              ∙ (sums-append (open_notes p dem asks whole) (ended_notes p s t0 e trace)
+              ap (sums_of p) closing-notes
+              ∙ (sums-append p (open_notes p dem asks whole) (ended_notes p s t0 e trace)
               ∙ (ap (λ c. added c (ended_notes p s t0 e trace)) (sym w.sums)
               ∙ (ap (λ c. added trace.sums (if c then written_notes p s t0 e trace else [])) q ∙ part b)))
             where

@@ -6,6 +6,7 @@ use Rattle.sched_model.specs.declared.state.Row.{Row}
 use Rattle.sched_model.specs.declared.holder.Holder.{Holder}
 use Rattle.sched_model.specs.declared.holder.Holder.TheVariants.{Nobody, Held}
 use Rattle.sched_model.proofs.ScheduleLemmas.{force-within}
+use Rattle.event_kernel.proofs.Summing.{books-in}
 use Rattle.event_kernel.proofs.Bounds.{Bounds}
 use Rattle.grid_fraction.specs.Numbers.{sum_below, any_below}
 use Rattle.sched_model.specs.Plan.{Plan, count, worst}
@@ -95,6 +96,8 @@ module _ {L : Type 0} (heard balked : L → Note → L → Type 0) (p : Plan) (d
         money = omega (arith, w.writing.money, w.hand.sum, adm.low_speed (entry_in_force p dem ask past));
         ends = omega (arith, w.writing.few_finished, w.hand.sum, adm.low_speed (entry_in_force p dem ask past), early);
         task = subst (λ n. HeldIn n trace.segment.holder) (sym (rows-long to rest completed st trace w)) (held_in trace.segment.holder w.writing.taken);
+        books = books-in p trace.sums (open_notes p dem ask (grown s0 (units_by p dem past w.given))) trace.segment.holder s0.entry w.writing.sums (held_in trace.segment.holder w.writing.taken)
+            (subst (λ m. m < length p.machine.points) (sym e) (force-within p dem ask adm.some_point past));
       },
       omega (arith, w.writing.place, w.writing.few, w.hand.sum, adm.low_speed (entry_in_force p dem ask past)),
     )

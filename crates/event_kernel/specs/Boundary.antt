@@ -50,11 +50,11 @@ pub record IsAtBoundary (demand : Plan → StateOf → Frac) (p : Plan) (dem : �
 pub record IsBetween (demand : Plan → StateOf → Frac) (p : Plan) (dem : ℕ → ℕ → ℕ) (ticks t : ℕ) (s : StateOf) (trace : Trace) : Type 0 where
   pub state : s ≡ prior_state p dem (course demand p dem t)
   pub decision : t < ticks → is_decision p dem (course demand p dem t) ≡ true
-  pub money : trace.sums.run + trace.sums.idle ≤ cost * (1000000 * t)
-  pub sums : trace.sums ≡ sums_of (notes_before_end p dem (ask_of demand p dem) (course demand p dem t))
-  pub few_released : trace.sums.released ≤ 64 * t
-  pub few_finished : trace.sums.finished ≤ 1000000 * t + 64 * t
-  pub few_decisions : trace.sums.decisions ≤ t
+  pub money : trace.sums.totals.run + trace.sums.totals.idle ≤ cost * (1000000 * t)
+  pub sums : trace.sums ≡ sums_of p (notes_before_end p dem (ask_of demand p dem) (course demand p dem t))
+  pub few_released : trace.sums.totals.released ≤ 64 * t
+  pub few_finished : trace.sums.totals.finished ≤ 1000000 * t + 64 * t
+  pub few_decisions : trace.sums.totals.decisions ≤ t
 
 -- the trace at the end of a span
 abbrev pub ended_trace : Plan → StateOf → ℕ → Trace → Trace

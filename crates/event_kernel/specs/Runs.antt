@@ -10,7 +10,7 @@ use Rattle.sched_model.specs.Demands.{demand_of}
 use Rattle.sched_model.specs.Deadlines.{IsMet}
 use Rattle.sched_model.specs.Decision.{is_decision}
 use Rattle.sched_model.specs.States.{StateOf}
-use Rattle.sched_model.specs.Notes.{notes_of}
+use Rattle.sched_model.specs.Notes.{notes_before_end, notes_of}
 use Rattle.governor.specs.Schedule.{ask_of, course}
 
 -- a plan, a demand list and a number of ticks
@@ -42,7 +42,12 @@ MeetsDemands demand r =
     (t : ℕ) → t < r.ticks → is_decision r.plan dem (course demand r.plan dem t) ≡ true
     → (lowest_pick r.plan.machine (ask_of demand r.plan dem (course demand r.plan dem t))).met ≡ true
 
--- their notes
+-- their notes before the `End`
+abbrev pub notes_before_end_of : (Plan → StateOf → Frac) → Run → List Note
+notes_before_end_of demand r =
+    let dem = demands_of r.plan r.demands in notes_before_end r.plan dem (ask_of demand r.plan dem) (ticks_of demand r)
+
+-- all their notes
 abbrev pub notes_of_run : (Plan → StateOf → Frac) → Run → List Note
 notes_of_run demand r =
     let dem = demands_of r.plan r.demands in notes_of r.plan dem (ask_of demand r.plan dem) (ticks_of demand r)

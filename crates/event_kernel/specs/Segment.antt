@@ -1,5 +1,5 @@
 -- The open segment, and the notes of a span up to it.
-use Rattle.std.specs.Prelude.{◌≡◌, ℕ, ◌+◌, ◌*◌, ◌<◌, ◌^◌, Bool, true, false, ◌&&◌, not, nat_lt, if◌then◌else◌, List, [], ◌∷◌, ◌++◌, length, Option, None, Some}
+use Rattle.std.specs.Prelude.{◌≡◌, ℕ, ◌+◌, ◌*◌, ◌<◌, ◌≤◌, ◌^◌, Bool, true, false, ◌&&◌, not, nat_eq, nat_lt, if◌then◌else◌, List, [], ◌∷◌, ◌++◌, length, Option, None, Some}
 use Rattle.dvs_base.specs.declared.note.Note.{Note}
 use Rattle.dvs_base.specs.declared.note.Note.TheVariants.{Run, Idle, Done, Speed}
 use Rattle.dvs_base.specs.declared.note.Pos.{Pos}
@@ -17,8 +17,7 @@ use Rattle.sched_model.specs.Segments.{same_holder, Span, spans_of, Piece, piece
 use Rattle.sched_model.specs.Notes.{all_release_notes, pieces_notes, notes_before_end}
 use Rattle.sched_model.specs.States.{row_at, StateOf}
 use Rattle.event_kernel.specs.declared.trace.Trace.{Trace}
-use Rattle.event_kernel.specs.declared.sums.Sums.{Sums}
-use Rattle.event_kernel.specs.Sums.{sums_of, added}
+use Rattle.event_kernel.specs.Sums.{SumsOf, each_raised, added}
 
 -- all segments but the last
 abbrev pub closed : List Piece → List Piece
@@ -80,22 +79,32 @@ abbrev pub idle_part : Plan → ℕ → ℕ → Holder → ℕ
 idle_part p e units Nobody = idle_energy p e units
 idle_part p e units (Held i k) = 0
 
+-- the energy that it adds to a task
+abbrev pub task_part : Plan → ℕ → ℕ → Holder → ℕ → ℕ
+task_part p e units Nobody j = 0
+task_part p e units (Held i k) j = if nat_eq i j then run_energy p e units else 0
+
 -- how many ends of jobs it adds: one where the holder's row is done
 abbrev pub ended_part : StateOf → Holder → ℕ
 ended_part s Nobody = 0
 ended_part s (Held i k) = if (row_at s i).done then 1 else 0
 
+-- the sums after the notes of a segment of a holder at a state
+abbrev pub told_sums : Plan → StateOf → ℕ → ℕ → Holder → SumsOf → SumsOf
+told_sums p s e units h sums = record sums {
+  totals = record sums.totals {
+    run = sums.totals.run + run_part p e units h;
+    idle = sums.totals.idle + idle_part p e units h;
+    finished = sums.totals.finished + ended_part s h;
+  };
+  by_task = each_raised sums.by_task (task_part p e units h);
+}
+
 -- the trace after its segment is told
 abbrev pub told_trace : Plan → StateOf → ℕ → Trace → Trace
 told_trace p s e trace = record {
   segment = record { holder = trace.segment.holder; start = trace.segment.start + trace.segment.units; units = 0 };
-  sums = record {
-    run = trace.sums.run + run_part p e trace.segment.units trace.segment.holder;
-    idle = trace.sums.idle + idle_part p e trace.segment.units trace.segment.holder;
-    released = trace.sums.released;
-    finished = trace.sums.finished + ended_part s trace.segment.holder;
-    decisions = trace.sums.decisions;
-  };
+  sums = told_sums p s e trace.segment.units trace.segment.holder trace.sums;
 }
 
 -- whether a unit of this holder ends the segment
@@ -118,10 +127,11 @@ entering_notes p s from e h trace = if is_turn trace h then written_notes p s fr
 abbrev pub with_notes : Trace → List Note → Trace
 with_notes trace notes = record { segment = trace.segment; sums = added trace.sums notes }
 
--- the counts of releases and of ends are below a limit
-pub record HasRoom (limit : ℕ) (c : Sums) : Type 0 where
-  pub released : c.released < limit
-  pub finished : c.finished < limit
+-- there are books for so many tasks, and the counts of releases and of ends are below a limit
+pub record HasRoom (tasks limit : ℕ) (c : SumsOf) : Type 0 where
+  pub tasks_in : tasks ≤ length c.by_task
+  pub released : c.totals.released < limit
+  pub finished : c.totals.finished < limit
 
 -- the most that one unit can cost
 abbrev pub cost : ℕ
@@ -136,9 +146,10 @@ HeldIn n (Held i k) = i < n
 pub record CanTell (p : Plan) (s : StateOf) (from e : ℕ) (trace : Trace) : Type 0 where
   pub entry : e < length p.machine.points
   pub place : from + trace.segment.start + trace.segment.units < 2 ^ 63
-  pub money : trace.sums.run + trace.sums.idle + cost * trace.segment.units < 2 ^ 120
+  pub money : trace.sums.totals.run + trace.sums.totals.idle + cost * trace.segment.units < 2 ^ 120
   pub task : HeldIn (length s.rows) trace.segment.holder
-  pub ends : trace.sums.finished < 2 ^ 63
+  pub ends : trace.sums.totals.finished < 2 ^ 63
+  pub books : HeldIn (length trace.sums.by_task) trace.segment.holder × (e < trace.sums.points)
 
 -- the key of a row: the smaller stands first
 abbrev pub row_key : Scheduler → Plan → StateOf → ℕ → ℕ
@@ -151,9 +162,9 @@ pub record IsFirstUndone (p : Plan) (s : StateOf) (n i : ℕ) : Type 0 where
   pub open_job : (row_at s i).done ≡ false
   pub first : (k : ℕ) → k < n → stands_before (row_key p.scheduler p s) k i ≡ true → (row_at s k).done ≡ true
 
--- nothing written yet
-abbrev pub new_trace : Trace
-new_trace = record { segment = record { holder = Nobody; start = 0; units = 0 }; sums = sums_of [] }
+-- a trace with no segment yet, after notes with these sums
+abbrev pub new_trace : SumsOf → Trace
+new_trace sums = record { segment = record { holder = Nobody; start = 0; units = 0 }; sums = sums }
 
 -- the first row that is not done, where there is one
 abbrev pub IsFirst : Plan → StateOf → Option ℕ → Type 0

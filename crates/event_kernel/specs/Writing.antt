@@ -25,8 +25,8 @@ pub record Writing (p : Plan) (dem : ℕ → ℕ → ℕ) (ask : List Tick → F
   pub taken : HeldNow p t trace.segment.holder
   pub had : (i : ℕ) → i < count p → exec p s.past i (latest p i t) + count_by (same_holder (Held i (latest p i t))) s.units ≡ used i
   pub few : length s.units ≤ most
-  pub money : trace.sums.run + trace.sums.idle + cost * trace.segment.units ≤ cost * most
-  pub sums : trace.sums ≡ sums_of (open_notes p dem ask s)
-  pub few_released : trace.sums.released ≤ 64 * (t + 1)
-  pub few_finished : trace.sums.finished + trace.segment.units ≤ most + 64 * (t + 1)
-  pub few_decisions : trace.sums.decisions ≤ t + 1
+  pub money : trace.sums.totals.run + trace.sums.totals.idle + cost * trace.segment.units ≤ cost * most
+  pub sums : trace.sums ≡ sums_of p (open_notes p dem ask s)
+  pub few_released : trace.sums.totals.released ≤ 64 * (t + 1)
+  pub few_finished : trace.sums.totals.finished + trace.segment.units ≤ most + 64 * (t + 1)
+  pub few_decisions : trace.sums.totals.decisions ≤ t + 1

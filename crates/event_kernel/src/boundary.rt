@@ -1,6 +1,7 @@
 // The releases and the decision of a boundary.
 ghost use Rattle.std.specs.Prelude.{◌≡◌, ◌<◌, ◌^◌, ℕ, OnOk, IfOk, List, [], ◌∷◌, nat_eq, length};
 ghost use Rattle.freq_table.specs.Tables.{lowest_entry};
+ghost use Rattle.sched_model.specs.Plan.{count};
 ghost use Rattle.sched_model.specs.States.{row_at, CanRelease, IsOfPlan};
 ghost use Rattle.sched_model.specs.Notes.{all_release_notes};
 ghost use Rattle.governor.specs.Steps.{IsAtDecision};
@@ -14,7 +15,7 @@ ghost use Rattle.event_kernel.specs.Settings.{state_at, notes_before, notes_in};
 
 use crate::run::{InForce, Run, Setting};
 use crate::tick::demand;
-use crate::trace::{Trace, tell_done};
+use crate::trace::Trace;
 use crate::{Listener, Stopped};
 use dvs_base::{Note, Pos};
 use governor::Governor;
@@ -39,7 +40,7 @@ fn decide<G: Governor, L: Listener>(
     requires of { IsOfPlan plan.now state.now }
     requires counters { G.stands governor.now plan.now state.now }
     requires decision { IsAtDecision plan.now state.now }
-    requires room { trace.old.sums.decisions < 2 ^ 63 }
+    requires room { trace.old.sums.totals.decisions < 2 ^ 63 }
     ensures trace { OnOk result (trace.new ≡ with_notes trace.old
         (speed_note plan.now state.entry.now.now (G.demand plan.now state.entry.now) ∷ [])) }
     ensures index { IfOk result (λ k. k ≡ lowest_entry plan.now.machine (G.demand plan.now state.entry.now)) }
@@ -49,13 +50,13 @@ fn decide<G: Governor, L: Listener>(
     plan.known();
     let choice = governor.choose(plan, state);
     let point = plan.machine().point(choice.index);
-    to.hear(&Note::Speed {
+    let note = Note::Speed {
         tick: state.now,
         speed: point.speed,
         num: choice.demand.num,
         den: choice.demand.den,
-    })?;
-    trace.sums.decisions += 1;
+    };
+    trace.tell(&note, to)?;
     Ok(choice.index)
 }
 
@@ -70,7 +71,7 @@ impl<G: Governor> Run<G> {
         requires list { IsListOf set.now.plan.now set.now.demands.now }
         requires of { IsOfPlan set.now.plan.now self.old.state }
         requires can { CanRelease set.now.plan.now self.old.state task }
-        requires room { HasRoom (2 ^ 63) self.old.trace.sums }
+        requires room { HasRoom (count set.now.plan.now) (2 ^ 63) self.old.trace.sums }
         requires counters { G.stands self.old.governor set.now.plan.now self.old.state }
         ensures trace { OnOk result (self.new.trace ≡ with_notes self.old.trace
             (opening_notes (jobs_of set.now) self.old.state task)) }
@@ -83,12 +84,12 @@ impl<G: Governor> Run<G> {
         let state = &self.state;
         let now = state.now;
         let job = state.rows[task as usize].job + 1;
-        to.hear(&Note::Release {
+        let release = Note::Release {
             tick: now,
             task,
             job,
-        })?;
-        self.trace.sums.released += 1;
+        };
+        self.trace.tell(&release, to)?;
         self.governor.released(set.plan, &self.state, task);
         self.state.release(set.plan, task);
         if demand(set.plan, set.demands, task, job) == 0 {
@@ -98,8 +99,13 @@ impl<G: Governor> Run<G> {
                 tick: now,
                 offset: 0,
             };
-            tell_done(at, task, job, 0, to)?;
-            self.trace.sums.finished += 1;
+            let done = Note::Done {
+                at,
+                task,
+                job,
+                used: 0,
+            };
+            self.trace.tell(&done, to)?;
         }
         Ok(())
     }
@@ -108,7 +114,7 @@ impl<G: Governor> Run<G> {
     fn release_all<L: Listener>(&mut self, set: &Setting<'_>, to: &mut L) -> Result<(), Stopped>
         requires set { IsSetting set.now }
         requires at { AtBoundary G.demand set.now self.old.state }
-        requires room { HasRoom (2 ^ 62) self.old.trace.sums }
+        requires room { HasRoom (count set.now.plan.now) (2 ^ 62) self.old.trace.sums }
         requires counters { G.stands self.old.governor set.now.plan.now self.old.state }
         ensures trace { OnOk result (self.new.trace ≡ with_notes self.old.trace
             (all_release_notes set.now.plan.now (jobs_of set.now) self.old.state.now)) }

@@ -6,11 +6,16 @@ ghost use Rattle.sched_model.specs.States.{opening};
 ghost use Rattle.event_kernel.specs.Heard.{HasHeard, HasBalked};
 ghost use Rattle.sched_model.specs.Jobs.{released_jobs};
 ghost use Rattle.dvs_base.specs.declared.limits.TheConstants.{MOST_JOBS, MOST_TICKS};
+ghost use Rattle.line_counts.specs.LineCounts.{AreFew};
 ghost use Rattle.event_kernel.specs.Runs.{IsListOf, notes_of_run, MeetsDeadlines, MeetsDemands};
+ghost use Rattle.event_kernel.specs.Runs.{notes_before_end_of};
+ghost use Rattle.event_kernel.specs.Sums.{sums_of};
+ghost use Rattle.sched_model.specs.Admission.{IsAdmitted};
 ghost use Rattle.dvs_base.specs.Outside.{Rose};
 
 use crate::run::{Run, Setting};
 use crate::span::Walk;
+use crate::sums::Sums;
 use crate::trace::Trace;
 use crate::{Listener, Stopped};
 use demand_list::Demands;
@@ -49,11 +54,13 @@ pub struct Kernel<'a, G: Governor> {
     ticks: u64,
     governor: G,
     state: State,
+    sums: Sums,
 }
 
 impl<'a, G: Governor> Model for Kernel<'a, G> {
-    ghost use Rattle.std.specs.Prelude.{◌≡◌, ◌≤◌};
+    ghost use Rattle.std.specs.Prelude.{◌≡◌, ◌≤◌, []};
     ghost use Rattle.sched_model.specs.States.{opening};
+    ghost use Rattle.event_kernel.specs.Sums.{sums_of};
     ghost use Rattle.dvs_base.specs.declared.limits.TheConstants.{MOST_TICKS};
     ghost use Rattle.event_kernel.specs.Runs.{Run, IsListOf};
 
@@ -62,7 +69,7 @@ impl<'a, G: Governor> Model for Kernel<'a, G> {
     ghost view = { λ k. record { plan = k.plan.now; demands = k.demands.now; ticks = k.ticks } };
 
     ghost invariant = { λ k. (k.state ≡ opening k.plan.now) × G.stands k.governor k.plan.now (opening k.plan.now)
-        × IsListOf k.plan.now k.demands.now × (k.ticks ≤ MOST_TICKS) };
+        × IsListOf k.plan.now k.demands.now × (k.ticks ≤ MOST_TICKS) × (k.sums ≡ sums_of k.plan.now []) };
 }
 
 impl<'a, G: Governor> Kernel<'a, G> {
@@ -90,12 +97,14 @@ impl<'a, G: Governor> Kernel<'a, G> {
             return Err(KernelFault::TooManyJobs { count });
         }
         let state = State::new(alloc, plan).map_err(|_| KernelFault::NoMemory)?;
+        let sums = Sums::new(alloc, plan).map_err(|_| KernelFault::NoMemory)?;
         Ok(Kernel {
             plan,
             demands,
             ticks,
             governor,
             state,
+            sums,
         })
     }
 
@@ -104,6 +113,8 @@ impl<'a, G: Governor> Kernel<'a, G> {
     /// demand by its deadline.
     pub fn drive<L: Listener>(self, to: &mut L) -> Result<Totals, Stopped>
         ensures totals { IfOk result (λ t. t ≡ totals_of (notes_of_run G.demand self.entry)) }
+        // At most one more decision than releases and completions together, so at most one more than two a job.
+        ensures few { IfOk result AreFew }
         ensures deadlines { MeetsDeadlines G.demand self.entry }
         ensures demands { G.the_kind ≢ Ahead → MeetsDemands G.demand self.entry }
         ensures ran { OnOk result (HasHeard L.heard to.old (notes_of_run G.demand self.entry) to.new) }
@@ -117,6 +128,8 @@ impl<'a, G: Governor> Kernel<'a, G> {
     /// The same as `drive`, but it goes from tick to tick and not from event to event.
     pub fn tick_drive<L: Listener>(self, to: &mut L) -> Result<Totals, Stopped>
         ensures totals { IfOk result (λ t. t ≡ totals_of (notes_of_run G.demand self.entry)) }
+        // At most one more decision than releases and completions together, so at most one more than two a job.
+        ensures few { IfOk result AreFew }
         ensures deadlines { MeetsDeadlines G.demand self.entry }
         ensures demands { G.the_kind ≢ Ahead → MeetsDemands G.demand self.entry }
         ensures ran { OnOk result (HasHeard L.heard to.old (notes_of_run G.demand self.entry) to.new) }
@@ -127,13 +140,15 @@ impl<'a, G: Governor> Kernel<'a, G> {
         self.walk(Walk::Ticks, to)
     }
 
-    // The run, by one walk or the other.
-    fn walk<L: Listener>(self, walk: Walk, to: &mut L) -> Result<Totals, Stopped>
-        ensures totals { IfOk result (λ t. t ≡ totals_of (notes_of_run G.demand self.entry)) }
+    // The spans of the run, by one walk or the other: all notes before the `End`, and their sums.
+    fn spans<L: Listener>(self, walk: Walk, to: &mut L) -> Result<Sums, Stopped>
+        ensures sums { IfOk result (λ s. s ≡ sums_of self.entry.plan (notes_before_end_of G.demand self.entry)) }
+        ensures admitted { IsAdmitted self.entry.plan }
         ensures deadlines { MeetsDeadlines G.demand self.entry }
         ensures demands { G.the_kind ≢ Ahead → MeetsDemands G.demand self.entry }
-        ensures ran { OnOk result (HasHeard L.heard to.old (notes_of_run G.demand self.entry) to.new) }
-        ensures broke_off { OnErr result (HasBalked L.heard L.balked to.old (notes_of_run G.demand self.entry) to.new) }
+        ensures ran { OnOk result (HasHeard L.heard to.old (notes_before_end_of G.demand self.entry) to.new) }
+        ensures broke_off { OnErr result (HasBalked L.heard L.balked to.old
+            (notes_before_end_of G.demand self.entry) to.new) }
         ensures never_falls { L.stops to.old ≤ L.stops to.new }
         ensures rose { OnErr result (Rose (L.stops to.old) (L.stops to.new)) }
     {
@@ -143,6 +158,7 @@ impl<'a, G: Governor> Kernel<'a, G> {
             ticks,
             governor,
             state,
+            sums,
         } = self;
         plan.known();
         demands.known();
@@ -154,22 +170,33 @@ impl<'a, G: Governor> Kernel<'a, G> {
         let mut run = Run {
             governor,
             state,
-            trace: Trace::new(),
+            trace: Trace::new(sums),
         };
         while run.now() < ticks {
             run.span(walk, &set, to)?;
         }
+        Ok(run.trace.sums)
+    }
+
+    // The run, by one walk or the other.
+    fn walk<L: Listener>(self, walk: Walk, to: &mut L) -> Result<Totals, Stopped>
+        ensures totals { IfOk result (λ t. t ≡ totals_of (notes_of_run G.demand self.entry)) }
+        ensures few { IfOk result AreFew }
+        ensures deadlines { MeetsDeadlines G.demand self.entry }
+        ensures demands { G.the_kind ≢ Ahead → MeetsDemands G.demand self.entry }
+        ensures ran { OnOk result (HasHeard L.heard to.old (notes_of_run G.demand self.entry) to.new) }
+        ensures broke_off { OnErr result (HasBalked L.heard L.balked to.old (notes_of_run G.demand self.entry) to.new) }
+        ensures never_falls { L.stops to.old ≤ L.stops to.new }
+        ensures rose { OnErr result (Rose (L.stops to.old) (L.stops to.new)) }
+    {
+        let ticks = self.ticks;
+        let sums = self.spans(walk, to)?;
+        let totals = sums.totals();
         to.hear(&Note::End {
             ticks,
-            run: run.trace.sums.run,
-            idle: run.trace.sums.idle,
+            run: totals.run,
+            idle: totals.idle,
         })?;
-        Ok(Totals {
-            run: run.trace.sums.run,
-            idle: run.trace.sums.idle,
-            released: run.trace.sums.released,
-            finished: run.trace.sums.finished,
-            decisions: run.trace.sums.decisions,
-        })
+        Ok(totals)
     }
 }

@@ -1,10 +1,10 @@
 // What is written of a trace, and how it is told.
-ghost use Rattle.std.specs.Prelude.{◌≡◌, ◌+◌, ◌*◌, ◌<◌, ◌≤◌, ◌^◌, OnOk, [], ◌∷◌};
-ghost use Rattle.dvs_base.specs.declared.note.Note.TheVariants.{Done};
+ghost use Rattle.std.specs.Prelude.{◌≡◌, ◌+◌, ◌<◌, ◌^◌, OnOk, [], ◌∷◌};
 ghost use Rattle.sched_model.specs.Segments.{same_holder, position_of};
 ghost use Rattle.event_kernel.specs.Heard.{Tells};
-ghost use Rattle.event_kernel.specs.Segment.{cost, written_notes, told_trace, is_turn, entered, entering_notes};
-ghost use Rattle.event_kernel.specs.Segment.{new_trace, CanTell};
+ghost use Rattle.event_kernel.specs.Sums.{Takes};
+ghost use Rattle.event_kernel.specs.Segment.{written_notes, told_trace, is_turn, entered, entering_notes};
+ghost use Rattle.event_kernel.specs.Segment.{new_trace, with_notes, CanTell};
 ghost use Rattle.event_kernel.specs.Boundary.{ended_trace, ended_notes};
 
 use crate::run::InForce;
@@ -12,10 +12,11 @@ use crate::segment::{Segment, is_same};
 use crate::sums::Sums;
 use crate::{Listener, Stopped};
 use dvs_base::{Note, Pos};
+use energy::energy_of;
 use sched_model::{Admitted, Holder, State};
 
 /// What is written of a trace: the open segment, and the sums of all notes before it.
-#[derive(Clone, Copy)]
+#[derive(Drop)]
 pub struct Trace {
     pub segment: Segment,
     pub sums: Sums,
@@ -46,39 +47,10 @@ fn position(from: u64, speed: u64, unit: u64) -> Pos
     }
 }
 
-// What so many units cost.
-fn energy_of(units: u64, millivolts: u64, rate: u64) -> u128
-    requires units { units < 2 ^ 64 }
-    requires millivolts { millivolts ≤ 20000 }
-    requires rate { rate ≤ 1000 }
-    ensures value { result ≡ units * millivolts * millivolts * rate }
-    ensures most { result ≤ cost * units }
-{
-    units as u128 * millivolts as u128 * millivolts as u128 * rate as u128
-}
-
-/// Tells the end of a job, and what it has used.
-pub(crate) fn tell_done<L: Listener>(
-    at: Pos,
-    task: u32,
-    job: u64,
-    used: u64,
-    to: &mut L,
-) -> Result<(), Stopped>
-    ensures { Tells L.heard L.balked L.stops to.old to.new (Done at task job used ∷ []) result }
-{
-    to.hear(&Note::Done {
-        at,
-        task,
-        job,
-        used,
-    })
-}
-
 impl Trace {
-    /// Nothing written yet.
-    pub(crate) fn new() -> Trace
-        ensures { result ≡ new_trace }
+    /// No segment yet, after notes with these sums.
+    pub(crate) fn new(sums: Sums) -> Trace
+        ensures { result ≡ new_trace sums }
     {
         Trace {
             segment: Segment {
@@ -86,18 +58,40 @@ impl Trace {
                 start: 0,
                 units: 0,
             },
-            sums: Sums {
-                run: 0,
-                idle: 0,
-                released: 0,
-                finished: 0,
-                decisions: 0,
-            },
+            sums,
         }
     }
 
+    /// Tells a note without energy, and counts it.
+    pub(crate) fn tell<L: Listener>(&mut self, note: &Note, to: &mut L) -> Result<(), Stopped>
+        requires { Takes self.old.sums note.now }
+        ensures trace { OnOk result (self.new ≡ with_notes self.old (note.now ∷ [])) }
+        ensures told { Tells L.heard L.balked L.stops to.old to.new (note.now ∷ []) result }
+    {
+        to.hear(note)?;
+        self.sums.count(note);
+        Ok(())
+    }
+
+    // Tells a note of a segment, with the entry in force.
+    fn tell_energy<L: Listener>(
+        &mut self,
+        note: &Note,
+        point: u32,
+        to: &mut L,
+    ) -> Result<(), Stopped>
+        requires takes { Takes self.old.sums note.now }
+        requires point { point < self.old.sums.points }
+        ensures trace { OnOk result (self.new ≡ with_notes self.old (note.now ∷ [])) }
+        ensures told { Tells L.heard L.balked L.stops to.old to.new (note.now ∷ []) result }
+    {
+        to.hear(note)?;
+        self.sums.add(note, point);
+        Ok(())
+    }
+
     // Tells the segment, and the end of its job where the row is done.
-    fn tell<L: Listener>(&mut self, at: Moment<'_>, to: &mut L) -> Result<(), Stopped>
+    fn tell_segment<L: Listener>(&mut self, at: Moment<'_>, to: &mut L) -> Result<(), Stopped>
         requires { CanTell at.plan.now at.state.now at.force.from at.force.index self.old }
         ensures trace { OnOk result (self.new ≡ told_trace at.entry.plan.now at.entry.state.now
             at.entry.force.index self.old) }
@@ -106,45 +100,47 @@ impl Trace {
             at.entry.force.index self.old) result }
     {
         at.plan.known();
-        let point = at.plan.machine().point(at.force.index);
-        let first = position(at.force.from, point.speed, self.segment.start);
-        let end = position(
-            at.force.from,
-            point.speed,
-            self.segment.start + self.segment.units,
-        );
-        match self.segment.holder {
+        let machine = at.plan.machine();
+        let index = at.force.index;
+        let speed = machine.point(index).speed;
+        let Segment {
+            holder,
+            start,
+            units,
+        } = self.segment;
+        let first = position(at.force.from, speed, start);
+        let end = position(at.force.from, speed, start + units);
+        match holder {
             Holder::Nobody => {
-                let energy = energy_of(
-                    self.segment.units,
-                    point.millivolts,
-                    at.plan.machine().idle(),
-                );
-                to.hear(&Note::Idle {
+                let note = Note::Idle {
                     from: first,
                     to: end,
-                    units: self.segment.units,
-                    energy,
-                })?;
-                self.sums.idle += energy;
+                    units,
+                    energy: energy_of(machine, index, units, true),
+                };
+                self.tell_energy(&note, index, to)?;
             }
             Holder::Held(task, job) => {
-                let energy = energy_of(self.segment.units, point.millivolts, 1000);
-                to.hear(&Note::Run {
+                let note = Note::Run {
                     from: first,
                     to: end,
                     task,
                     job,
-                    units: self.segment.units,
-                    energy,
-                })?;
+                    units,
+                    energy: energy_of(machine, index, units, false),
+                };
+                self.tell_energy(&note, index, to)?;
                 let state = at.state;
                 let row = state.rows[task as usize];
                 if row.done {
-                    tell_done(end, task, job, row.used, to)?;
-                    self.sums.finished += 1;
+                    let done = Note::Done {
+                        at: end,
+                        task,
+                        job,
+                        used: row.used,
+                    };
+                    self.tell(&done, to)?;
                 }
-                self.sums.run += energy;
             }
         }
         self.segment.pass();
@@ -168,7 +164,7 @@ impl Trace {
             at.entry.force.index holder self.old) result }
     {
         if turns(self, holder) {
-            self.tell(at, to)?;
+            self.tell_segment(at, to)?;
         }
         self.segment.holder = holder;
         self.segment.units += units;
@@ -185,7 +181,7 @@ impl Trace {
             at.entry.force.index self.old) result }
     {
         if self.segment.units > 0 {
-            self.tell(at, to)?;
+            self.tell_segment(at, to)?;
         }
         Ok(())
     }

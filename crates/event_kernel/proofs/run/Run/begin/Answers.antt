@@ -19,7 +19,7 @@ use Rattle.event_kernel.proofs.Ofplan.{of-state}
 use Rattle.event_kernel.proofs.Onward.{note-is, begun, begin-balked, speed-balked}
 use Rattle.event_kernel.proofs.Releasing.{course-len, low-exec}
 use Rattle.event_kernel.proofs.Spanning.{at-boundary, begins-span}
-use Rattle.event_kernel.proofs.Summing.{no-decided}
+use Rattle.event_kernel.proofs.Summing.{no-decided, by-task-long}
 use Rattle.event_kernel.proofs.run.Run.begin.Goals as goal
 
 pub release_all-requires-clause-at : goal.release_all-requires-clause-at
@@ -32,6 +32,7 @@ pub release_all-requires-clause-room : goal.release_all-requires-clause-room
 release_all-requires-clause-room g c =
     let b = c.requires.between in
     record {
+      tasks_in = omega (arith, by-task-long c.args.set.now.plan.now c.args.self.now.trace.sums (notes_before c.args.self.now.state g.G.Governor.demand c.args.set.now) b.sums);
       released = omega (arith, b.few_released, c.requires.early, c.requires.set.low_ticks);
       finished = omega (arith, b.few_finished, c.requires.early, c.requires.set.low_ticks);
     }
@@ -67,7 +68,7 @@ decide-requires-clause-room g c =
     let p = c.args.set.now.plan.now in
     omega (
       arith,
-      ap (λ (q : Trace). q.sums.decisions) c.in_ok-release_all.ensures.trace,
+      ap (λ (q : Trace). q.sums.totals.decisions) c.in_ok-release_all.ensures.trace,
       no-decided p (jobs_of c.args.set.now) c.args.self.now.state.now (list_below (count p) (λ i. i)),
       c.requires.between.few_decisions,
       c.requires.early,

@@ -1,7 +1,7 @@
 use Rattle.std.proofs.Common.{◌≤◌, ◌-◌}
 use Rattle.event_kernel.specs.Heard.{HasHeard}
 use Rattle.event_kernel.specs.Settings.{Between, notes_before}
-use Rattle.event_kernel.proofs.kernel.Kernel.walk.Given as goal
+use Rattle.event_kernel.proofs.kernel.Kernel.spans.Given as goal
 
 abbrev pub invariant-loop-set : goal.invariant-loop-set
 invariant-loop-set g l =
