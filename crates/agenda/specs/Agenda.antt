@@ -10,7 +10,7 @@ use Rattle.sched_model.specs.Priority.{stands_before}
 use Rattle.sched_model.specs.States.{StateOf, row_at, released_row}
 use Rattle.ready_queue.specs.declared.entry.Entry.{Entry}
 use Rattle.ready_queue.specs.Orders.{due_before, period_before}
-use Rattle.ready_queue.specs.Entries.{QueueOf, IsQueue}
+use Rattle.ready_queue.specs.Entries.{QueueOf}
 
 -- the order of a scheduler's ready queue: by the deadline under EDF, by the period under RM
 abbrev pub before_of : Scheduler → Entry → Entry → Bool
@@ -43,10 +43,6 @@ pub record ReadyOf : Type 0 where
   pub scheduler : Scheduler
   pub limit : ℕ
   pub entries : List Entry
-
--- what every ready queue keeps
-abbrev pub IsReadyQueue : ReadyOf → Type 0
-IsReadyQueue r = IsQueue (before_of r.scheduler) (record { limit = r.limit; entries = r.entries })
 
 -- a ready queue and a calendar stand for a state of a plan
 pub record StandFor (p : Plan) (s : StateOf) (ready : ReadyOf) (calendar : QueueOf) : Type 0 where

@@ -1,7 +1,7 @@
 // The ready jobs, by the order of a scheduler.
 ghost use Rattle.std.specs.Prelude.{◌≡◌, ◌<◌, [], ◌∷◌, IfOk, IfSome, MatchOption, slice_get};
 ghost use Rattle.ready_queue.specs.Entries.{IsAbsent, placed, ComesFirst};
-ghost use Rattle.agenda.specs.Agenda.{before_of, IsReadyQueue};
+ghost use Rattle.agenda.specs.Agenda.{before_of};
 
 use dvs_base::{NoMemory, Scheduler};
 use ready_queue::{ByDue, ByPeriod, Entry, Queue};
@@ -38,16 +38,6 @@ impl Ready {
             Scheduler::Rm => Ordered::Rm(Queue::new(alloc, n, ByPeriod)?),
         };
         Ok(Ready { ordered })
-    }
-
-    /// What it keeps.
-    pub fn known(&self)
-        ensures { IsReadyQueue self.now }
-    {
-        match &self.ordered {
-            Ordered::Edf(queue) => queue.known(),
-            Ordered::Rm(queue) => queue.known(),
-        }
     }
 
     /// Adds a job of a task that is not in.

@@ -16,7 +16,8 @@ use Rattle.sched_model.proofs.ScheduleLemmas.{schedule_exists}
 use Rattle.event_kernel.specs.declared.trace.Trace.{Trace}
 use Rattle.event_kernel.specs.Heard.{HasHeard, HasBalked}
 use Rattle.governor.specs.Schedule.{ask_of, course}
-use Rattle.event_kernel.specs.Segment.{open_notes, entered, entering_notes, IsFirstUndone, CanTell}
+use Rattle.agenda.specs.Agenda.{IsFirstUndone}
+use Rattle.event_kernel.specs.Segment.{open_notes, entered, entering_notes, CanTell}
 use Rattle.event_kernel.specs.Writing.{Writing}
 use Rattle.event_kernel.specs.Tickwork.{served, span_at, tick_at, whole_span, IsAtWork, HasWorked}
 use Rattle.event_kernel.proofs.Handing.{had, job}

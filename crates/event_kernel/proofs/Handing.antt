@@ -24,7 +24,7 @@ use Rattle.sched_model.proofs.GreedyLemmas.{IsHandedOut, handed-start, handed-st
 use Rattle.sched_model.proofs.OrderLemmas.{IsAhead, IsOrdered, AreBelow, Stands, first_ahead, stands-in_order, in_order-below, in_order-ordered}
 use Rattle.grid_fraction.proofs.Searches.{any_below-none, any_below-same, any_below-found}
 use Rattle.sched_model.proofs.Joining.{row_by}
-use Rattle.event_kernel.specs.Segment.{row_key, IsFirstUndone}
+use Rattle.agenda.specs.Agenda.{row_key, IsFirstUndone}
 use Rattle.event_kernel.specs.Tickwork.{served}
 use Rattle.event_kernel.proofs.Entering.{Shows}
 

@@ -1,15 +1,15 @@
 -- The steps of a span, as its functions tell them.
-use Rattle.std.proofs.Common.{◌≡◌, ℕ, ◌+◌, ◌-◌, ◌<◌, ◌≤◌, ◌^◌, Bool, true, false, ◌||◌, [], ◌∷◌, ◌++◌, length, refl, arith, ap, ◌∙◌, sym, subst, true≢false, ◌⊎◌, inl, inr, nat_eq}
+use Rattle.std.proofs.Common.{◌≡◌, ℕ, ◌+◌, ◌-◌, ◌<◌, ◌≤◌, ◌^◌, Bool, true, false, ◌||◌, [], ◌∷◌, ◌++◌, refl, arith, ap, ◌∙◌, sym, subst, true≢false, ◌⊎◌, inl, inr, nat_eq}
 use Rattle.std.proofs.lemmas.Bool.Decides.{nat_tests}
 use Rattle.grid_fraction.specs.declared.Frac.{Frac}
 use Rattle.dvs_base.specs.declared.note.Note.{Note}
 use Rattle.event_kernel.proofs.Bounds.{Bounds}
-use Rattle.sched_model.specs.Plan.{Plan, count}
+use Rattle.sched_model.specs.Plan.{Plan}
 use Rattle.sched_model.specs.Decision.{is_decision}
 use Rattle.sched_model.specs.Segments.{units_of}
 use Rattle.sched_model.specs.Notes.{all_release_notes}
-use Rattle.sched_model.specs.States.{prior_row, StateOf, state_of}
-use Rattle.sched_model.proofs.ScheduleLemmas.{length-list_below}
+use Rattle.sched_model.specs.States.{StateOf, state_of}
+use Rattle.agenda.specs.Agenda.{NonePast}
 use Rattle.event_kernel.specs.declared.trace.Trace.{Trace}
 use Rattle.event_kernel.specs.Heard.{HasHeard, HasBalked}
 use Rattle.governor.specs.Schedule.{ask_of, course}
@@ -20,7 +20,7 @@ use Rattle.event_kernel.specs.Walking.{IsInSpan, HasWalked, told_before, told_in
 use Rattle.event_kernel.proofs.Hearing.{Begins, begins-trans, heard-append, balked-append, balked-begins, balked_after}
 use Rattle.event_kernel.proofs.Beginnings.{open-begins}
 use Rattle.event_kernel.proofs.Spanning.{whole-begins, open-new, goes-on, ends-span}
-use Rattle.event_kernel.proofs.Releasing.{course-len}
+use Rattle.event_kernel.proofs.Releasing.{course-len, prior-past}
 
 or-cases : (a b c : Bool) → (a || (b || c)) ≡ true → (a ≡ true) ⊎ ((b ≡ true) ⊎ (c ≡ true))
 or-cases true b c e = inl refl
@@ -85,8 +85,8 @@ module _ {demand : Plan → StateOf → Frac} {p : Plan} {dem : ℕ → ℕ → 
   pub now-next : s.now ≡ t + 1
   now-next = ap (λ (v : StateOf). v.now) h.state ∙ course-len demand p dem (t + 1)
 
-  pub rows-next : length s.rows ≡ count p
-  rows-next = ap (λ (v : StateOf). length v.rows) h.state ∙ length-list_below (count p) (prior_row p dem (course demand p dem (t + 1)))
+  pub past-next : NonePast p s
+  past-next = subst (λ (v : StateOf). NonePast p v) (sym h.state) (prior-past p dem (course demand p dem (t + 1)) adm.some_period)
 
   last-is : t ≡ s.now - 1
   last-is = omega (arith, now-next)

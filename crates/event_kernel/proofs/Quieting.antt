@@ -22,7 +22,8 @@ use Rattle.sched_model.proofs.JobLaws.{exec-legal}
 use Rattle.governor.specs.Schedule.{ask_of, course}
 use Rattle.governor.specs.Steps.{earliest_in, IsBeforeAll}
 use Rattle.event_kernel.specs.declared.trace.Trace.{Trace}
-use Rattle.event_kernel.specs.Segment.{CanTell, IsFirst, IsFirstUndone}
+use Rattle.agenda.specs.Agenda.{IsFirstUndone}
+use Rattle.event_kernel.specs.Segment.{CanTell, IsFirst}
 use Rattle.event_kernel.specs.Tickwork.{tick_at, HasWorked}
 use Rattle.event_kernel.specs.Boundary.{some_due}
 use Rattle.event_kernel.specs.Walking.{run_on, gives, AreQuiet, IsInSpan, IsLastTick, HasWalked}

@@ -1,5 +1,5 @@
 -- The releases of one boundary.
-use Rattle.std.proofs.Common.{eq-eqb, ◌≡◌, ◌≢◌, ℕ, zero, suc, ◌+◌, ◌<◌, ◌≤◌, ◌^◌, Bool, true, false, eqb, ◌||◌, List, [], ◌∷◌, ◌++◌, length, refl, arith, if◌then◌else◌, ap, ap₂, ◌∙◌, sym, subst, ◌⊎◌, inl, inr, append-nil, nat_eq, nat_lt, add-one, eq-or-lt_of_le, set, get_or-set_same}
+use Rattle.std.proofs.Common.{eq-eqb, ◌≡◌, ◌≢◌, ℕ, zero, suc, ◌+◌, ◌-◌, ◌<◌, ◌≤◌, ◌^◌, Bool, true, false, eqb, ◌||◌, List, [], ◌∷◌, ◌++◌, length, refl, arith, if◌then◌else◌, ap, ap₂, ◌∙◌, sym, subst, ◌⊎◌, inl, inr, append-nil, nat_eq, nat_lt, add-one, eq-or-lt_of_le, set, get_or-set_same}
 use Rattle.std.specs.Prelude.{flat_map}
 use Rattle.std.proofs.lemmas.Bool.Decides.{nat_tests}
 use Rattle.std.proofs.lemmas.List.{set-set}
@@ -17,8 +17,9 @@ use Rattle.sched_model.specs.Notes.{release_notes, all_release_notes}
 use Rattle.sched_model.specs.States.{no_row, row_at, prior_row, prior_base_at, prior_base, released_row, prior_state, after_mark, after_release, after_finish, CanRelease, StateOf, row_of, state_of}
 use Rattle.sched_model.proofs.ScheduleLemmas.{length-list_below, schedule_exists}
 use Rattle.sched_model.proofs.Tables.{get-table, table-same, set-table}
-use Rattle.sched_model.proofs.JobLaws.{latest-small}
-use Rattle.sched_model.proofs.Joining.{next_job, due_released, row-opened, row-kept, state-marked, state-unmarked}
+use Rattle.sched_model.proofs.JobLaws.{latest-small, lt-due}
+use Rattle.sched_model.proofs.Joining.{next_job, prior-due, due_released, row-opened, row-kept, state-marked, state-unmarked}
+use Rattle.agenda.specs.Agenda.{NonePast, IsFirstDue}
 use Rattle.event_kernel.specs.declared.trace.Trace.{Trace}
 use Rattle.event_kernel.specs.Segment.{with_notes, HasRoom}
 use Rattle.event_kernel.proofs.Summing.{added-long, with-append, with-none, few-released, few-finished}
@@ -174,6 +175,63 @@ module _ (p : Plan) (dem : ℕ → ℕ → ℕ) (past : List Tick) where
         ∙ (ap (λ b. notes_upto m ++ (if b then Release (length past) m (latest p m (length past)) ∷ (if nat_eq (dem m (latest p m (length past))) 0 then Done (record { tick = length past; offset = 0 }) m (latest p m (length past)) 0 ∷ [] else []) else [])) (due_released p dem periods past m false not_due)
         ∙ append-nil (notes_upto m))
 
+    -- rows up to the next one that is due
+    skipped : (n m : ℕ) (any : Bool) (st : StateOf) (to : L) → ((i : ℕ) → dem i 0 ≡ 0) → m + n ≤ count p
+        → ((k : ℕ) → m ≤ k → k < m + n → (row_at st k).deadline ≢ st.now)
+        → Releasing heard m any st from to → Releasing heard (m + n) any st from to × (notes_upto (m + n) ≡ notes_upto m)
+    skipped zero m any st to unneeded le early r =
+        let same : m + zero ≡ m = omega arith in
+        (subst (λ k. Releasing heard k any st from to) (sym same) r, ap notes_upto same)
+    skipped (suc n) m any st to unneeded le early r =
+        let here : nat_eq (row_at st m).deadline st.now ≡ false = (let ne : (row_at st m).deadline ≢ st.now = early m (omega arith) (omega arith) in grind (arith, nat_tests)) in
+        let next : Releasing heard (m + 1) any st from to = passed m any st to r (omega arith) (unneeded m) here in
+        let rest = skipped n (m + 1) any st to unneeded (omega arith) (λ k lo hi. early k (omega arith) (omega arith)) next in
+        let same : m + 1 + n ≡ m + suc n = omega arith in (
+          subst (λ k. Releasing heard k any st from to) same rest.0,
+          ap notes_upto (sym same) ∙ rest.1 ∙ passed-notes m any st to r (omega arith) here,
+        )
+
+    skips : (m i : ℕ) (any : Bool) (st : StateOf) (to : L) → ((i : ℕ) → dem i 0 ≡ 0) → m ≤ i → i ≤ count p
+        → ((k : ℕ) → m ≤ k → k < i → (row_at st k).deadline ≢ st.now)
+        → Releasing heard m any st from to → Releasing heard i any st from to × (notes_upto i ≡ notes_upto m)
+    skips m i any st to unneeded lo hi early r =
+        let there : m + (i - m) ≡ i = omega arith in
+        let all = skipped (i - m) m any st to unneeded (omega arith) (λ k l h. early k l (omega arith)) r in
+        (subst (λ k. Releasing heard k any st from to) there all.0, ap notes_upto (sym there) ∙ all.1)
+
+    mixed-past : (m i : ℕ) → length past ≤ (mixed m i).deadline
+    mixed-past m i = go (nat_lt i m) refl
+      where
+        go : (b : Bool) → nat_lt i m ≡ b → length past ≤ (if b then row_of p dem past i else prior_row p dem past i).deadline
+        go true e = omega (arith, lt-due p i (length past) (periods i))
+        go false e = prior-due p dem periods past i
+
+    -- no release is past
+    pub none-past : (m : ℕ) (any : Bool) (st : StateOf) (to : L) → Releasing heard m any st from to → NonePast p st
+    none-past m any st to r i lt =
+        omega (arith, ap (λ (s : StateOf). s.now) r.state, ap (λ (s : StateOf). (row_at s i).deadline) r.state, ap (λ (q : Row). q.deadline) (get-table (count p) (mixed m) i no_row lt), mixed-past m i)
+
+    -- a row that is due is still to be released
+    still : (m i : ℕ) (any : Bool) (st : StateOf) (to : L) → Releasing heard m any st from to → i < count p → (row_at st i).deadline ≡ st.now → m ≤ i
+    still m i any st to r lt due = go (nat_lt i m) refl
+      where
+        go : (b : Bool) → nat_lt i m ≡ b → m ≤ i
+        go false e = grind (arith, nat_tests)
+        go true e =
+            let is : (row_at st i).deadline ≡ (mixed m i).deadline = ap (λ (s : StateOf). (row_at s i).deadline) r.state ∙ ap (λ (q : Row). q.deadline) (get-table (count p) (mixed m) i no_row lt) in
+            let late : (mixed m i).deadline ≡ (row_of p dem past i).deadline = ap (λ (b : Bool). (if b then row_of p dem past i else prior_row p dem past i).deadline) e in
+            absurd (omega (arith, is, late, due, ap (λ (s : StateOf). s.now) r.state, lt-due p i (length past) (periods i)))
+
+    -- up to the first row that is due, and to the end where none is
+    pub at-due : (m i : ℕ) (any : Bool) (st : StateOf) (to : L) → ((i : ℕ) → dem i 0 ≡ 0) → Releasing heard m any st from to → IsFirstDue p st i
+        → Releasing heard i any st from to × (notes_upto i ≡ notes_upto m)
+    at-due m i any st to unneeded r d = skips m i any st to unneeded (still m i any st to r d.below d.due) (omega (arith, d.below)) (λ k lo hi. d.first k hi) r
+
+    pub at-end : (m : ℕ) (any : Bool) (st : StateOf) (to : L) → ((i : ℕ) → dem i 0 ≡ 0) → m ≤ count p → Releasing heard m any st from to
+        → ((k : ℕ) → k < count p → (row_at st k).deadline ≢ st.now)
+        → Releasing heard (count p) any st from to × (notes_upto (count p) ≡ notes_upto m)
+    at-end m any st to unneeded le r none = skips m (count p) any st to unneeded le (omega arith) (λ k lo hi. none k hi) r
+
     module _ (m : ℕ) (any : Bool) (st : StateOf) (mid : L) (r : Releasing heard m any st from mid) (lt : m < count p) (due : (row_at st m).deadline ≡ st.now) where
       due_there : (prior_row p dem past m).deadline ≡ length past
       due_there = sym (ap (λ (q : Row). q.deadline) (row-there m any st mid r lt)) ∙ (due ∙ ap (λ (s : StateOf). s.now) r.state)
@@ -288,3 +346,8 @@ pub opening-done : (dem : ℕ → ℕ → ℕ) (s : StateOf) (i : ℕ) → dem i
 opening-done dem s i none =
     let job = (row_at s i).job + 1 in
     ap (λ b. Release s.now i job ∷ (if b then Done (record { tick = s.now; offset = 0 }) i job 0 ∷ [] else [])) (eq-eqb (dem i job) 0 none)
+
+-- before a boundary no release is past
+pub prior-past : (p : Plan) (dem : ℕ → ℕ → ℕ) (past : List Tick) → ((i : ℕ) → 0 < period p i) → NonePast p (prior_state p dem past)
+prior-past p dem past periods i lt =
+    omega (arith, ap (λ (q : Row). q.deadline) (get-table (count p) (prior_row p dem past) i no_row lt), prior-due p dem periods past i)

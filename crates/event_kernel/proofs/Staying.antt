@@ -16,7 +16,8 @@ use Rattle.sched_model.specs.States.{no_row, row_at, after_advance, StateOf}
 use Rattle.governor.specs.Schedule.{ask_of}
 use Rattle.event_kernel.specs.declared.trace.Trace.{Trace}
 use Rattle.event_kernel.specs.Heard.{HasHeard, HasBalked}
-use Rattle.event_kernel.specs.Segment.{open_notes, row_key, told_trace, is_turn, with_units, entered, entering_notes, holder_at, IsFirst, IsFirstUndone}
+use Rattle.agenda.specs.Agenda.{row_key, IsFirstUndone}
+use Rattle.event_kernel.specs.Segment.{open_notes, told_trace, is_turn, with_units, entered, entering_notes, holder_at, IsFirst}
 use Rattle.event_kernel.specs.Tickwork.{served, whole_span, HasWorked}
 use Rattle.event_kernel.specs.Boundary.{some_due}
 use Rattle.event_kernel.specs.Walking.{run_on, gives, AreQuiet, IsInSpan, told_before, told_in}

@@ -22,7 +22,8 @@ use Rattle.sched_model.specs.Segments.{same_holder}
 use Rattle.sched_model.proofs.ScheduleLemmas.{length-list_below}
 use Rattle.event_kernel.specs.declared.trace.Trace.{Trace}
 use Rattle.event_kernel.specs.Heard.{HasHeard, HasBalked}
-use Rattle.event_kernel.specs.Segment.{grown, open_notes, entered, entering_notes, IsFirstUndone, CanTell, HeldIn}
+use Rattle.agenda.specs.Agenda.{IsFirstUndone}
+use Rattle.event_kernel.specs.Segment.{grown, open_notes, entered, entering_notes, CanTell, HeldIn}
 use Rattle.event_kernel.specs.Writing.{HeldNow, Writing}
 use Rattle.event_kernel.specs.Tickwork.{served}
 use Rattle.event_kernel.proofs.Entering.{Shows, enters-notes, enters}

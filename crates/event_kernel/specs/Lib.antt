@@ -7,3 +7,4 @@ pub mod Tickwork
 pub mod Boundary
 pub mod Walking
 pub mod Settings
+pub mod Current

@@ -4,18 +4,16 @@ use Rattle.dvs_base.specs.declared.note.Note.{Note}
 use Rattle.dvs_base.specs.declared.note.Note.TheVariants.{Run, Idle, Done, Speed}
 use Rattle.dvs_base.specs.declared.note.Pos.{Pos}
 use Rattle.grid_fraction.specs.declared.Frac.{Frac}
-use Rattle.dvs_base.specs.declared.kind.Scheduler.{Scheduler}
-use Rattle.dvs_base.specs.declared.kind.Scheduler.TheVariants.{Edf, Rm}
 use Rattle.sched_model.specs.declared.holder.Holder.{Holder}
 use Rattle.sched_model.specs.declared.holder.Holder.TheVariants.{Nobody, Held}
-use Rattle.sched_model.specs.Plan.{Plan, count, point, period}
+use Rattle.sched_model.specs.Plan.{Plan, count, point}
 use Rattle.sched_model.specs.Ticks.{Tick}
 use Rattle.sched_model.specs.Decision.{is_decision}
-use Rattle.sched_model.specs.Priority.{stands_before}
 use Rattle.sched_model.specs.Schedule.{entry_in_force}
 use Rattle.sched_model.specs.Segments.{same_holder, Span, spans_of, Piece, pieces_of, position_of, run_energy, idle_energy}
 use Rattle.sched_model.specs.Notes.{all_release_notes, pieces_notes, notes_before_end}
 use Rattle.sched_model.specs.States.{row_at, StateOf}
+use Rattle.agenda.specs.Agenda.{IsFirstUndone}
 use Rattle.event_kernel.specs.declared.trace.Trace.{Trace}
 use Rattle.event_kernel.specs.Sums.{SumsOf, each_raised, added}
 
@@ -150,17 +148,6 @@ pub record CanTell (p : Plan) (s : StateOf) (from e : ℕ) (trace : Trace) : Typ
   pub task : HeldIn (length s.rows) trace.segment.holder
   pub ends : trace.sums.totals.finished < 2 ^ 63
   pub books : HeldIn (length trace.sums.by_task) trace.segment.holder × (e < trace.sums.points)
-
--- the key of a row: the smaller stands first
-abbrev pub row_key : Scheduler → Plan → StateOf → ℕ → ℕ
-row_key Edf p s i = (row_at s i).deadline
-row_key Rm p s i = period p i
-
--- the first of the first n rows by the order that is not done
-pub record IsFirstUndone (p : Plan) (s : StateOf) (n i : ℕ) : Type 0 where
-  pub below : i < n
-  pub open_job : (row_at s i).done ≡ false
-  pub first : (k : ℕ) → k < n → stands_before (row_key p.scheduler p s) k i ≡ true → (row_at s k).done ≡ true
 
 -- a trace with no segment yet, after notes with these sums
 abbrev pub new_trace : SumsOf → Trace

@@ -1,14 +1,16 @@
 // The releases and the decision of a boundary.
-ghost use Rattle.std.specs.Prelude.{◌≡◌, ◌<◌, ◌^◌, ℕ, OnOk, IfOk, List, [], ◌∷◌, nat_eq, length};
+ghost use Rattle.std.specs.Prelude.{◌≡◌, ◌<◌, ◌^◌, ℕ, OnOk, IfOk, List, [], ◌∷◌};
 ghost use Rattle.freq_table.specs.Tables.{lowest_entry};
 ghost use Rattle.sched_model.specs.Plan.{count};
-ghost use Rattle.sched_model.specs.States.{row_at, CanRelease, IsOfPlan};
+ghost use Rattle.sched_model.specs.States.{CanRelease, IsOfPlan};
+ghost use Rattle.agenda.specs.Agenda.{NonePast, IsFirstDue};
 ghost use Rattle.sched_model.specs.Notes.{all_release_notes};
 ghost use Rattle.governor.specs.Steps.{IsAtDecision};
 ghost use Rattle.governor.specs.Schedule.{course};
 ghost use Rattle.event_kernel.specs.Heard.{Tells};
 ghost use Rattle.event_kernel.specs.Runs.{IsListOf};
 ghost use Rattle.event_kernel.specs.Segment.{HasRoom, with_notes};
+ghost use Rattle.event_kernel.specs.Current.{IsCurrent};
 ghost use Rattle.event_kernel.specs.Boundary.{opened, opening_notes, speed_note};
 ghost use Rattle.event_kernel.specs.Settings.{jobs_of, IsSetting, AtBoundary, Between, InSpan, IsMetBy, Leads};
 ghost use Rattle.event_kernel.specs.Settings.{state_at, notes_before, notes_in};
@@ -20,14 +22,6 @@ use crate::{Listener, Stopped};
 use dvs_base::{Note, Pos};
 use governor::Governor;
 use sched_model::{Admitted, Holder, State};
-
-/// Whether a task's deadline is now, so that its next job is released.
-pub(crate) fn is_due(state: &State, task: u32) -> bool
-    requires { task < length state.now.rows }
-    ensures { result ≡ nat_eq (row_at state.entry.now task).deadline state.entry.now.now }
-{
-    state.rows[task as usize].deadline == state.now
-}
 
 // Makes one decision, and tells it.
 fn decide<G: Governor, L: Listener>(
@@ -70,14 +64,16 @@ impl<G: Governor> Run<G> {
     ) -> Result<(), Stopped>
         requires list { IsListOf set.now.plan.now set.now.demands.now }
         requires of { IsOfPlan set.now.plan.now self.old.state }
+        requires past { NonePast set.now.plan.now self.old.state }
+        requires due { IsFirstDue set.now.plan.now self.old.state task }
         requires can { CanRelease set.now.plan.now self.old.state task }
         requires room { HasRoom (count set.now.plan.now) (2 ^ 63) self.old.trace.sums }
-        requires counters { G.stands self.old.governor set.now.plan.now self.old.state }
+        requires current { IsCurrent G.stands set.now.plan.now self.old }
         ensures trace { OnOk result (self.new.trace ≡ with_notes self.old.trace
             (opening_notes (jobs_of set.now) self.old.state task)) }
         ensures state { OnOk result (self.new.state ≡ opened set.now.plan.now (jobs_of set.now) self.old.state task) }
         ensures of { OnOk result (IsOfPlan set.now.plan.now self.new.state) }
-        ensures counters { OnOk result (G.stands self.new.governor set.now.plan.now self.new.state) }
+        ensures current { OnOk result (IsCurrent G.stands set.now.plan.now self.new) }
         ensures told { Tells L.heard L.balked L.stops to.old to.new
             (opening_notes (jobs_of set.now) self.old.state task) result }
     {
@@ -90,9 +86,11 @@ impl<G: Governor> Run<G> {
             job,
         };
         self.trace.tell(&release, to)?;
+        let complete = demand(set.plan, set.demands, task, job) == 0;
         self.governor.released(set.plan, &self.state, task);
+        self.agenda.renew(set.plan, &self.state, task, complete);
         self.state.release(set.plan, task);
-        if demand(set.plan, set.demands, task, job) == 0 {
+        if complete {
             self.governor.finished(set.plan, &self.state, task);
             self.state.finish(task);
             let at = Pos {
@@ -115,20 +113,18 @@ impl<G: Governor> Run<G> {
         requires set { IsSetting set.now }
         requires at { AtBoundary G.demand set.now self.old.state }
         requires room { HasRoom (count set.now.plan.now) (2 ^ 62) self.old.trace.sums }
-        requires counters { G.stands self.old.governor set.now.plan.now self.old.state }
+        requires current { IsCurrent G.stands set.now.plan.now self.old }
         ensures trace { OnOk result (self.new.trace ≡ with_notes self.old.trace
             (all_release_notes set.now.plan.now (jobs_of set.now) self.old.state.now)) }
         ensures state { OnOk result (self.new.state ≡ state_at G.demand set.now self.old.state.now) }
-        ensures counters { OnOk result (G.stands self.new.governor set.now.plan.now self.new.state) }
+        ensures current { OnOk result (IsCurrent G.stands set.now.plan.now self.new) }
         ensures told { Tells L.heard L.balked L.stops to.old to.new
             (all_release_notes set.now.plan.now (jobs_of set.now) self.old.state.now) result }
     {
         let mut any = false;
-        for task in 0..set.plan.count() {
-            if is_due(&self.state, task) {
-                self.release_one(set, task, to)?;
-                any = true;
-            }
+        while let Some(task) = self.agenda.first_due(set.plan, &self.state) {
+            self.release_one(set, task, to)?;
+            any = true;
         }
         if any {
             self.governor.settled(set.plan, &self.state);
@@ -147,11 +143,11 @@ impl<G: Governor> Run<G> {
         requires between { Between G.demand set.now self.old.state self.old.trace }
         requires early { self.old.state.now < set.now.ticks }
         requires met { IsMetBy G.demand set.now self.old.state }
-        requires counters { G.stands self.old.governor set.now.plan.now self.old.state }
+        requires current { IsCurrent G.stands set.now.plan.now self.old }
         ensures in_span { IfOk result (λ force. InSpan G.demand set.now force self.new.state self.new.trace) }
         ensures from { IfOk result (λ force. force.from ≡ self.old.state.now) }
         ensures same { OnOk result (self.new.state.now ≡ self.old.state.now) }
-        ensures counters { OnOk result (G.stands self.new.governor set.now.plan.now self.new.state) }
+        ensures current { OnOk result (IsCurrent G.stands set.now.plan.now self.new) }
         ensures told { Leads L.heard L.balked L.stops G.demand set.now to.old to.new
             (notes_before self.old.state) (notes_in self.new.state) result }
     {

@@ -18,6 +18,7 @@ use crate::span::Walk;
 use crate::sums::Sums;
 use crate::trace::Trace;
 use crate::{Listener, Stopped};
+use agenda::Agenda;
 use demand_list::Demands;
 use dvs_base::{MOST_JOBS, Note, Totals};
 use governor::Governor;
@@ -54,6 +55,7 @@ pub struct Kernel<'a, G: Governor> {
     ticks: u64,
     governor: G,
     state: State,
+    agenda: Agenda,
     sums: Sums,
 }
 
@@ -63,13 +65,15 @@ impl<'a, G: Governor> Model for Kernel<'a, G> {
     ghost use Rattle.event_kernel.specs.Sums.{sums_of};
     ghost use Rattle.dvs_base.specs.declared.limits.TheConstants.{MOST_TICKS};
     ghost use Rattle.event_kernel.specs.Runs.{Run, IsListOf};
+    ghost use Rattle.agenda.specs.Stands.{Stands};
 
     ghost Value = { Run };
 
     ghost view = { λ k. record { plan = k.plan.now; demands = k.demands.now; ticks = k.ticks } };
 
     ghost invariant = { λ k. (k.state ≡ opening k.plan.now) × G.stands k.governor k.plan.now (opening k.plan.now)
-        × IsListOf k.plan.now k.demands.now × (k.ticks ≤ MOST_TICKS) × (k.sums ≡ sums_of k.plan.now []) };
+        × IsListOf k.plan.now k.demands.now × (k.ticks ≤ MOST_TICKS) × (k.sums ≡ sums_of k.plan.now [])
+        × Stands k.plan.now (opening k.plan.now) k.agenda };
 }
 
 impl<'a, G: Governor> Kernel<'a, G> {
@@ -97,6 +101,7 @@ impl<'a, G: Governor> Kernel<'a, G> {
             return Err(KernelFault::TooManyJobs { count });
         }
         let state = State::new(alloc, plan).map_err(|_| KernelFault::NoMemory)?;
+        let agenda = Agenda::new(alloc, plan).map_err(|_| KernelFault::NoMemory)?;
         let sums = Sums::new(alloc, plan).map_err(|_| KernelFault::NoMemory)?;
         Ok(Kernel {
             plan,
@@ -104,6 +109,7 @@ impl<'a, G: Governor> Kernel<'a, G> {
             ticks,
             governor,
             state,
+            agenda,
             sums,
         })
     }
@@ -158,6 +164,7 @@ impl<'a, G: Governor> Kernel<'a, G> {
             ticks,
             governor,
             state,
+            agenda,
             sums,
         } = self;
         plan.known();
@@ -170,6 +177,7 @@ impl<'a, G: Governor> Kernel<'a, G> {
         let mut run = Run {
             governor,
             state,
+            agenda,
             trace: Trace::new(sums),
         };
         while run.now() < ticks {

@@ -3,14 +3,15 @@ ghost use Rattle.std.specs.Prelude.{◌≡◌, ◌*◌, ◌<◌, OnOk, IfSome};
 ghost use Rattle.sched_model.specs.Plan.{point};
 ghost use Rattle.sched_model.specs.States.{CanRun, IsOfPlan};
 ghost use Rattle.event_kernel.specs.Segment.{IsFirst};
+ghost use Rattle.event_kernel.specs.Current.{IsCurrent};
 ghost use Rattle.event_kernel.specs.Walking.{gives, AreQuiet};
 ghost use Rattle.event_kernel.specs.Settings.{jobs_of, IsSetting, InSpan, AtLastTick, Leads, notes_in};
 
 use crate::run::{InForce, Run, Setting};
-use crate::tick::{first_undone, holder_of, lacking};
+use crate::tick::{holder_of, lacking};
 use crate::trace::Moment;
 use crate::{Listener, Stopped};
-use governor::{Governor, earliest_deadline};
+use governor::Governor;
 use sched_model::Admitted;
 
 impl<G: Governor> Run<G> {
@@ -19,11 +20,12 @@ impl<G: Governor> Run<G> {
         requires set { IsSetting set.now }
         requires at { InSpan G.demand set.now force self.now.state self.now.trace }
         requires first { IsFirst set.now.plan.now self.now.state first }
+        requires current { IsCurrent G.stands set.now.plan.now self.now }
         ensures { AreQuiet set.now.plan.now (jobs_of set.now) set.now.ticks force.index self.now.state first result }
     {
         let state = &self.state;
         let speed = set.plan.machine().point(force.index).speed;
-        let event = set.ticks.min(earliest_deadline(set.plan, state));
+        let event = set.ticks.min(self.agenda.next_release(set.plan, state));
         let most = event - 1 - state.now;
         match first {
             Some(task) => most.min((lacking(set, state, task) - 1) / speed),
@@ -35,9 +37,10 @@ impl<G: Governor> Run<G> {
     fn serve_first(&mut self, plan: &Admitted, first: Option<u32>, units: u64)
         requires of { IsOfPlan plan.now self.old.state }
         requires can { IfSome first (λ i. CanRun self.old.state i units) }
-        requires counters { G.stands self.old.governor plan.now self.old.state }
+        requires first { IsFirst plan.now self.old.state first }
+        requires current { IsCurrent G.stands plan.now self.old }
         ensures state { self.new.state ≡ gives self.old.state first units }
-        ensures counters { G.stands self.new.governor plan.now self.new.state }
+        ensures current { IsCurrent G.stands plan.now self.new }
         ensures trace { self.new.trace ≡ self.old.trace }
     {
         if let Some(task) = first {
@@ -55,16 +58,16 @@ impl<G: Governor> Run<G> {
     ) -> Result<(), Stopped>
         requires set { IsSetting set.now }
         requires at { InSpan G.demand set.now force self.old.state self.old.trace }
-        requires counters { G.stands self.old.governor set.now.plan.now self.old.state }
+        requires current { IsCurrent G.stands set.now.plan.now self.old }
         ensures in_span { OnOk result (InSpan G.demand set.now force self.new.state self.new.trace) }
         ensures last { OnOk result (AtLastTick set.now force self.new.state) }
-        ensures counters { OnOk result (G.stands self.new.governor set.now.plan.now self.new.state) }
+        ensures current { OnOk result (IsCurrent G.stands set.now.plan.now self.new) }
         ensures told { Leads L.heard L.balked L.stops G.demand set.now to.old to.new
             (notes_in self.old.state) (notes_in self.new.state) result }
     {
         let state = &self.state;
         let now = state.now;
-        let first = first_undone(set.plan, state);
+        let first = self.agenda.first_ready(set.plan, state);
         let quiet = self.quiet_ticks(set, force, first);
         if quiet == 0 {
             return Ok(());

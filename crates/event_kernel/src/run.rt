@@ -2,6 +2,7 @@
 ghost use Rattle.std.specs.Prelude.{◌≡◌};
 
 use crate::trace::Trace;
+use agenda::Agenda;
 use demand_list::Demands;
 use governor::Governor;
 use sched_model::{Admitted, State};
@@ -21,11 +22,13 @@ pub struct InForce {
     pub index: u32,
 }
 
-/// What changes in a run: the governor, the state that its counters are of, and what is written of the trace.
+/// What changes in a run: the state, the governor with its counters and the agenda, which both follow the state, and what is
+/// written of the trace.
 #[derive(Drop)]
 pub struct Run<G: Governor> {
     pub governor: G,
     pub state: State,
+    pub agenda: Agenda,
     pub trace: Trace,
 }
 

@@ -1,16 +1,15 @@
 // From one decision to the next.
-ghost use Rattle.std.specs.Prelude.{◌≡◌, ◌<◌, ◌≤◌, ◌||◌, nat_eq, OnOk, length};
-ghost use Rattle.sched_model.specs.Plan.{count};
+ghost use Rattle.std.specs.Prelude.{◌≡◌, ◌<◌, ◌≤◌, ◌||◌, nat_eq, OnOk};
+ghost use Rattle.agenda.specs.Agenda.{NonePast};
+ghost use Rattle.event_kernel.specs.Current.{IsCurrent};
 ghost use Rattle.event_kernel.specs.Boundary.{some_due};
 ghost use Rattle.event_kernel.specs.Settings.{IsSetting, Between, InSpan, Walked, IsMetBy, Leads};
 ghost use Rattle.event_kernel.specs.Settings.{notes_before, notes_in, notes_after};
 
-use crate::boundary::is_due;
 use crate::run::{InForce, Run, Setting};
 use crate::trace::Moment;
 use crate::{Listener, Stopped};
 use governor::Governor;
-use sched_model::{Admitted, State};
 
 /// How a span's ticks are walked: all but the last at once, or one by one.
 #[derive(Clone, Copy)]
@@ -19,30 +18,28 @@ pub enum Walk {
     Ticks,
 }
 
-// Whether some row is due.
-fn any_due(plan: &Admitted, state: &State) -> bool
-    requires { length state.now.rows ≡ count plan.now }
-    ensures { result ≡ some_due plan.now state.entry.now }
-{
-    plan.known();
-    let mut any = false;
-    for task in 0..plan.count() {
-        if is_due(state, task) {
-            any = true;
-        }
-    }
-    any
-}
-
-// Whether the span ends here.
-fn is_end(plan: &Admitted, state: &State, ticks: u64, completed: bool) -> bool
-    requires { length state.now.rows ≡ count plan.now }
-    ensures { result ≡ (completed || (nat_eq state.entry.now.now ticks || some_due plan.now state.entry.now)) }
-{
-    completed || state.now == ticks || any_due(plan, state)
-}
-
 impl<G: Governor> Run<G> {
+    // Whether some job is released now.
+    fn any_due(&self, set: &Setting<'_>) -> bool
+        requires set { IsSetting set.now }
+        requires past { NonePast set.now.plan.now self.now.state }
+        requires current { IsCurrent G.stands set.now.plan.now self.now }
+        ensures { result ≡ some_due set.now.plan.now self.entry.now.state }
+    {
+        self.agenda.next_release(set.plan, &self.state) == self.now()
+    }
+
+    // Whether the span ends here.
+    fn is_end(&self, set: &Setting<'_>, completed: bool) -> bool
+        requires set { IsSetting set.now }
+        requires past { NonePast set.now.plan.now self.now.state }
+        requires current { IsCurrent G.stands set.now.plan.now self.now }
+        ensures { result ≡ (completed || (nat_eq self.entry.now.state.now set.now.ticks
+            || some_due set.now.plan.now self.entry.now.state)) }
+    {
+        completed || self.now() == set.ticks || self.any_due(set)
+    }
+
     // The ticks of a span, up to the next decision or the end: all but the last at once.
     fn by_events<L: Listener>(
         &mut self,
@@ -52,9 +49,9 @@ impl<G: Governor> Run<G> {
     ) -> Result<(), Stopped>
         requires set { IsSetting set.now }
         requires at { InSpan G.demand set.now force self.old.state self.old.trace }
-        requires counters { G.stands self.old.governor set.now.plan.now self.old.state }
+        requires current { IsCurrent G.stands set.now.plan.now self.old }
         ensures walked { OnOk result (Walked G.demand set.now force self.new.state self.new.trace) }
-        ensures counters { OnOk result (G.stands self.new.governor set.now.plan.now self.new.state) }
+        ensures current { OnOk result (IsCurrent G.stands set.now.plan.now self.new) }
         ensures told { Leads L.heard L.balked L.stops G.demand set.now to.old to.new
             (notes_in self.old.state) (notes_after self.new.state) result }
     {
@@ -72,15 +69,15 @@ impl<G: Governor> Run<G> {
     ) -> Result<(), Stopped>
         requires set { IsSetting set.now }
         requires at { InSpan G.demand set.now force self.old.state self.old.trace }
-        requires counters { G.stands self.old.governor set.now.plan.now self.old.state }
+        requires current { IsCurrent G.stands set.now.plan.now self.old }
         ensures walked { OnOk result (Walked G.demand set.now force self.new.state self.new.trace) }
-        ensures counters { OnOk result (G.stands self.new.governor set.now.plan.now self.new.state) }
+        ensures current { OnOk result (IsCurrent G.stands set.now.plan.now self.new) }
         ensures told { Leads L.heard L.balked L.stops G.demand set.now to.old to.new
             (notes_in self.old.state) (notes_after self.new.state) result }
     {
         loop {
             let completed = self.work(set, force, to)?;
-            if is_end(set.plan, &self.state, set.ticks, completed) {
+            if self.is_end(set, completed) {
                 return Ok(());
             }
         }
@@ -96,9 +93,9 @@ impl<G: Governor> Run<G> {
     ) -> Result<(), Stopped>
         requires set { IsSetting set.now }
         requires at { InSpan G.demand set.now force self.old.state self.old.trace }
-        requires counters { G.stands self.old.governor set.now.plan.now self.old.state }
+        requires current { IsCurrent G.stands set.now.plan.now self.old }
         ensures walked { OnOk result (Walked G.demand set.now force self.new.state self.new.trace) }
-        ensures counters { OnOk result (G.stands self.new.governor set.now.plan.now self.new.state) }
+        ensures current { OnOk result (IsCurrent G.stands set.now.plan.now self.new) }
         ensures told { Leads L.heard L.balked L.stops G.demand set.now to.old to.new
             (notes_in self.old.state) (notes_after self.new.state) result }
     {
@@ -119,11 +116,11 @@ impl<G: Governor> Run<G> {
         requires between { Between G.demand set.now self.old.state self.old.trace }
         requires early { self.old.state.now < set.now.ticks }
         requires met { IsMetBy G.demand set.now self.old.state }
-        requires counters { G.stands self.old.governor set.now.plan.now self.old.state }
+        requires current { IsCurrent G.stands set.now.plan.now self.old }
         ensures between { OnOk result (Between G.demand set.now self.new.state self.new.trace) }
         ensures later { OnOk result (self.old.state.now < self.new.state.now) }
         ensures limit { OnOk result (self.new.state.now ≤ set.now.ticks) }
-        ensures counters { OnOk result (G.stands self.new.governor set.now.plan.now self.new.state) }
+        ensures current { OnOk result (IsCurrent G.stands set.now.plan.now self.new) }
         ensures told { Leads L.heard L.balked L.stops G.demand set.now to.old to.new
             (notes_before self.old.state) (notes_before self.new.state) result }
     {

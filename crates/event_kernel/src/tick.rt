@@ -1,10 +1,11 @@
 // The work of one tick.
 ghost use Rattle.std.specs.Prelude.{◌≡◌, ℕ, ◌-◌, ◌<◌, OnOk, IfOk, IfNone, IfSome, true, length, ◌≤◌};
 ghost use Rattle.sched_model.specs.Plan.{count};
-ghost use Rattle.sched_model.specs.Priority.{stands_before};
 ghost use Rattle.sched_model.specs.States.{row_at, CanRun, IsOfPlan};
 ghost use Rattle.event_kernel.specs.Runs.{demands_of, IsListOf};
-ghost use Rattle.event_kernel.specs.Segment.{row_key, holder_at, IsFirstUndone};
+ghost use Rattle.event_kernel.specs.Segment.{holder_at};
+ghost use Rattle.agenda.specs.Agenda.{IsFirstUndone};
+ghost use Rattle.event_kernel.specs.Current.{IsCurrent};
 ghost use Rattle.event_kernel.specs.Tickwork.{served};
 ghost use Rattle.event_kernel.specs.Settings.{jobs_of, IsSetting, InSpan, Worked, Leads, notes_in, notes_with};
 
@@ -12,7 +13,6 @@ use crate::run::{InForce, Run, Setting};
 use crate::trace::Moment;
 use crate::{Listener, Stopped};
 use demand_list::Demands;
-use dvs_base::Scheduler;
 use governor::Governor;
 use sched_model::{Admitted, Holder, State};
 
@@ -28,46 +28,6 @@ pub(crate) fn demand(plan: &Admitted, demands: &Demands, task: u32, job: u64) ->
         return 0;
     }
     demands.units(task, job) + 2 * plan.machine().charge()
-}
-
-// Whether one task stands before another.
-fn is_ahead(plan: &Admitted, state: &State, j: u32, i: u32) -> bool
-    requires rows { length state.now.rows ≡ count plan.now }
-    requires one { j < count plan.now }
-    requires other { i < count plan.now }
-    ensures { result ≡ stands_before (row_key plan.now.scheduler plan.now state.entry.now) j i }
-{
-    match plan.scheduler() {
-        Scheduler::Edf => {
-            let a = state.rows[j as usize].deadline;
-            let b = state.rows[i as usize].deadline;
-            a < b || (a == b && j < i)
-        }
-        Scheduler::Rm => {
-            let a = plan.period(j);
-            let b = plan.period(i);
-            a < b || (a == b && j < i)
-        }
-    }
-}
-
-/// The first task by the order whose job is not done.
-pub(crate) fn first_undone(plan: &Admitted, state: &State) -> Option<u32>
-    requires { length state.now.rows ≡ count plan.now }
-    ensures none { IfNone result ((k : ℕ) → k < count plan.now → (row_at state.entry.now k).done ≡ true) }
-    ensures first { IfSome result (λ i. IsFirstUndone plan.now state.entry.now (count plan.now) i) }
-{
-    plan.known();
-    let mut best = None;
-    for i in 0..plan.count() {
-        if !state.rows[i as usize].done {
-            best = match best {
-                Some(b) if is_ahead(plan, state, b, i) => Some(b),
-                _ => Some(i),
-            };
-        }
-    }
-    best
 }
 
 /// What the job of a task still lacks, in work units.
@@ -94,13 +54,14 @@ pub(crate) fn holder_of(state: &State, first: Option<u32>) -> Holder
 }
 
 impl<G: Governor> Run<G> {
-    /// Units of a task, at whose end its job is done or not, each announced to the governor.
+    /// Units of the first task that is not done, at whose end its job is done or not, each announced to the governor.
     pub(crate) fn serve(&mut self, plan: &Admitted, task: u32, units: u64, ends: bool)
         requires of { IsOfPlan plan.now self.old.state }
         requires can { CanRun self.old.state task units }
-        requires counters { G.stands self.old.governor plan.now self.old.state }
+        requires first { IsFirstUndone plan.now self.old.state (count plan.now) task }
+        requires current { IsCurrent G.stands plan.now self.old }
         ensures state { self.new.state ≡ served self.old.state task units ends }
-        ensures counters { G.stands self.new.governor plan.now self.new.state }
+        ensures current { IsCurrent G.stands plan.now self.new }
         ensures of { IsOfPlan plan.now self.new.state }
         ensures trace { self.new.trace ≡ self.old.trace }
     {
@@ -108,6 +69,7 @@ impl<G: Governor> Run<G> {
         self.state.run(task, units);
         if ends {
             self.governor.finished(plan, &self.state, task);
+            self.agenda.complete(plan, &self.state, task);
             self.state.finish(task);
         }
     }
@@ -121,9 +83,9 @@ impl<G: Governor> Run<G> {
     ) -> Result<bool, Stopped>
         requires set { IsSetting set.now }
         requires at { InSpan G.demand set.now force self.old.state self.old.trace }
-        requires counters { G.stands self.old.governor set.now.plan.now self.old.state }
+        requires current { IsCurrent G.stands set.now.plan.now self.old }
         ensures worked { IfOk result (Worked G.demand set.now self.old.state self.new.state self.new.trace) }
-        ensures counters { OnOk result (G.stands self.new.governor set.now.plan.now self.new.state) }
+        ensures current { OnOk result (IsCurrent G.stands set.now.plan.now self.new) }
         ensures told { Leads L.heard L.balked L.stops G.demand set.now to.old to.new
             (notes_in self.old.state) (notes_with self.old.state) result }
     {
@@ -132,7 +94,7 @@ impl<G: Governor> Run<G> {
         let mut rest = set.plan.machine().point(force.index).speed;
         let mut completed = false;
         while rest > 0 {
-            let Some(task) = first_undone(set.plan, &self.state) else {
+            let Some(task) = self.agenda.first_ready(set.plan, &self.state) else {
                 break;
             };
             let lacks = lacking(set, &self.state, task);

@@ -1,6 +1,6 @@
 // The queue.
 ghost use Rattle.std.specs.Prelude.{◌≡◌, ◌<◌, [], ◌∷◌, length, IfOk, IfSome, MatchOption, slice_get};
-ghost use Rattle.ready_queue.specs.Entries.{IsAbsent, IsQueue, placed, ComesFirst};
+ghost use Rattle.ready_queue.specs.Entries.{IsAbsent, placed, ComesFirst};
 
 use crate::heap::{rise, sink};
 use crate::{Entry, Order};
@@ -34,13 +34,6 @@ impl<O: Order> Queue<O> {
     {
         let heap = Vec::with_capacity(alloc, n as usize).map_err(|_| NoMemory)?;
         Ok(Queue { heap, order })
-    }
-
-    /// What every queue keeps: its entries are in order, of distinct tasks, and below its limit.
-    pub fn known(&self)
-        ensures { IsQueue O.comes_before self.now }
-    {
-        let _heap = &self.heap;
     }
 
     /// Adds an entry of a task that is not in.

@@ -17,6 +17,8 @@ mod generator;
 #[cfg(test)]
 mod made;
 #[cfg(test)]
+mod many;
+#[cfg(test)]
 mod offsets;
 #[cfg(test)]
 mod outside;

@@ -1,6 +1,7 @@
 use Rattle.std.proofs.Common.{◌≡◌, arith, ap, ◌∙◌, sym, subst}
 use Rattle.event_kernel.specs.declared.trace.Trace.{Trace}
 use Rattle.sched_model.specs.States.{StateOf, opening}
+use Rattle.event_kernel.specs.Current.{Follow}
 use Rattle.event_kernel.specs.Heard.{HasHeard, HasBalked}
 use Rattle.event_kernel.specs.Sums.{sums_of}
 use Rattle.event_kernel.specs.Runs.{Run, demands_of, notes_before_end_of, MeetsDeadlines, MeetsDemands}
@@ -19,7 +20,8 @@ loop-set-init g c =
     let dem = demands_of p c.self.inside.demands.now in
     let first = first-between g.L.Listener.heard g.L.Listener.balked m p dem c.self.inside.ticks c.self.inside.state c.new.result c.self.invariant.0 (ap (λ (q : Trace). q.sums) c.new.ensures ∙ c.self.invariant.4) in (
       first.0,
-      subst (λ (s : StateOf). g.G.Governor.stands c.self.inside.governor p s) (sym c.self.invariant.0) c.self.invariant.1,
+      subst (λ (s : StateOf). Follow g.G.Governor.stands p c.self.inside.governor s c.self.inside.agenda)
+          (sym c.self.invariant.0) (record { counters = c.self.invariant.1; agenda = c.self.invariant.5 }),
       omega (arith, first.1),
       omega arith,
       nothing-told g.L.Listener.heard g.L.Listener.balked m p dem c.self.inside.ticks c.self.inside.state.now c.args.to.now first.1,
@@ -51,8 +53,8 @@ pub span-requires-clause-early : goal.span-requires-clause-early
 span-requires-clause-early g c =
     omega (arith, c.now.ensures, c.loop-set-test.true)
 
-pub span-requires-clause-counters : goal.span-requires-clause-counters
-span-requires-clause-counters g c = c.loop-set.invariant.1
+pub span-requires-clause-current : goal.span-requires-clause-current
+span-requires-clause-current g c = c.loop-set.invariant.1
 
 pub loop-set-smaller : goal.loop-set-smaller
 loop-set-smaller g c = omega (arith, c.in_ok-span.ensures.later, c.in_ok-span.ensures.limit)
@@ -60,7 +62,7 @@ loop-set-smaller g c = omega (arith, c.in_ok-span.ensures.later, c.in_ok-span.en
 pub loop-set-preserved : goal.loop-set-preserved
 loop-set-preserved g c = (
   c.in_ok-span.ensures.between,
-  c.in_ok-span.ensures.counters,
+  c.in_ok-span.ensures.current,
   c.in_ok-span.ensures.limit,
   omega (arith, c.loop-set.invariant.3, c.in_ok-span.ensures.told.1),
   c.in_ok-span.ensures.told.0 c.args.to.now c.loop-set.invariant.4,

@@ -15,12 +15,9 @@ pub point-speed-requires : goal.point-speed-requires
 point-speed-requires g c =
     subst (λ (x : Table). c.args.force.index < length x.points) (sym c.machine.ensures.machine) (entry-in (bounds _ c.requires.set.admitted) c.requires.set.low_ticks c.requires.at)
 
-pub earliest_deadline-requires : goal.earliest_deadline-requires
-earliest_deadline-requires g c = of-plan (bounds _ c.requires.set.admitted) c.requires.set.low_ticks c.requires.at
-
 pub overflow_sub-most : goal.overflow_sub-most
 overflow_sub-most g c =
-    omega (arith, first-event (bounds _ c.requires.set.admitted) c.requires.set.low_ticks c.requires.at, c.min-event.ensures, c.earliest_deadline.ensures)
+    omega (arith, first-event (bounds _ c.requires.set.admitted) c.requires.set.low_ticks c.requires.at, c.min-event.ensures, c.next_release.ensures)
 
 pub overflow_sub-most-2 : goal.overflow_sub-most-2
 overflow_sub-most-2 g c =
@@ -29,7 +26,7 @@ overflow_sub-most-2 g c =
       first-event (bounds _ c.requires.set.admitted) c.requires.set.low_ticks c.requires.at,
       ap (λ (v : StateOf). v.now) c.state.view_is,
       c.min-event.ensures,
-      c.earliest_deadline.ensures,
+      c.next_release.ensures,
     )
 
 pub lacking-requires-clause-rows : goal.lacking-requires-clause-rows
@@ -65,7 +62,7 @@ returns-in-Some g c =
       arith,
       ap (λ (v : StateOf). v.now) c.state.view_is,
       c.min-event.ensures,
-      c.earliest_deadline.ensures,
+      c.next_release.ensures,
       c.min.ensures,
       ap (λ f. (c.lacking.result - 1) / f) speed,
     )))
@@ -75,4 +72,4 @@ returns-in-None g c =
     let n = c.min-event.result - 1 - c.state.inside.now in
     subst (λ (r : Option ℕ). AreQuiet c.args.set.now.plan.now (jobs_of c.args.set.now) c.args.set.now.ticks c.args.force.index c.args.self.now.state r n) (sym c.in-None.is)
     (quiet-idle (bounds _ c.requires.set.admitted) c.requires.set.low_ticks c.requires.at n
-    (omega (arith, ap (λ (v : StateOf). v.now) c.state.view_is, c.min-event.ensures, c.earliest_deadline.ensures)))
+    (omega (arith, ap (λ (v : StateOf). v.now) c.state.view_is, c.min-event.ensures, c.next_release.ensures)))

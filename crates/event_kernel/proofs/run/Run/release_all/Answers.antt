@@ -1,18 +1,19 @@
-use Rattle.std.proofs.lemmas.Bool.Decides.{nat_tests}
-use Rattle.std.proofs.Common.{ℕ, Bool, ◌≡◌, ◌<◌, true, false, length, arith, ap, ◌∙◌, sym, subst, nat_eq, ◌+◌}
-use Rattle.event_kernel.proofs.Bounds.{bounds}
-use Rattle.event_kernel.specs.Settings.{jobs_of}
+use Rattle.std.proofs.Common.{◌+◌, ◌<◌, arith, refl, ap, ◌∙◌, sym, subst, false, rules}
 use Rattle.sched_model.specs.Plan.{count}
-use Rattle.sched_model.specs.States.{row_at, StateOf, IsOfPlan}
+use Rattle.sched_model.specs.States.{StateOf, IsOfPlan}
 use Rattle.sched_model.specs.Notes.{all_release_notes}
 use Rattle.governor.specs.Schedule.{course}
-use Rattle.event_kernel.specs.Heard.{HasBalked, Tells}
-use Rattle.event_kernel.proofs.Ofplan.{of-prior}
+use Rattle.agenda.specs.Agenda.{due_left}
+use Rattle.agenda.specs.Stands.{Stands}
+use Rattle.agenda.proofs.Standing.{stand-mark, due-falls}
+use Rattle.event_kernel.specs.Heard.{HasHeard, HasBalked, Tells}
 use Rattle.event_kernel.specs.Segment.{with_notes}
+use Rattle.event_kernel.specs.Settings.{jobs_of}
+use Rattle.event_kernel.proofs.Bounds.{bounds}
 use Rattle.event_kernel.proofs.Hearing.{at_error}
-use Rattle.event_kernel.proofs.Releasing.{Releasing, notes_upto, releasing-start, long-there, passed, passed-notes, opens, opens-trace, start-trace, has-room, opens-balked, can-release, released-marked, released-unmarked, prior-done, low-exec, course-len}
+use Rattle.event_kernel.proofs.Ofplan.{of-prior}
+use Rattle.event_kernel.proofs.Releasing.{Releasing, releasing-start, none-past, at-due, at-end, opens, opens-trace, start-trace, has-room, opens-balked, can-release, released-marked, released-unmarked, prior-done, low-exec, course-len}
 use Rattle.event_kernel.proofs.run.Run.release_all.Goals as goal
-use Rattle.event_kernel.proofs.run.Run.release_all.Goals.{then-is_due+in_ok-release_one, else-is_due}
 
 pub loop-task-init : goal.loop-task-init
 loop-task-init g c =
@@ -22,58 +23,93 @@ loop-task-init g c =
     let t = c.args.self.now.state.now in
     let here = c.requires.at in
     let past = course m p dem t in (
+      0,
+      omega arith,
       subst (λ (s : StateOf). Releasing p dem past g.L.Listener.heard 0 false s c.args.to.now c.args.to.now) (sym here.state) (releasing-start p dem past g.L.Listener.heard c.args.to.now),
-      c.requires.counters,
+      c.requires.current,
       subst (λ (s : StateOf). IsOfPlan p s) (sym here.state) (of-prior p dem past (low-exec m p dem t here.within)),
       start-trace p dem past c.args.self.now.trace,
       omega arith,
     )
 
-pub release_one-requires-clause-of : goal.release_one-requires-clause-of
-release_one-requires-clause-of g c = c.loop-task.invariant.2
+pub first_due-requires-clause-stand : goal.first_due-requires-clause-stand
+first_due-requires-clause-stand g c = c.loop-task.invariant.3.agenda
 
-pub settled-requires-clause-of : goal.settled-requires-clause-of
-settled-requires-clause-of g c = c.loop-task.invariant.2
-
--- a test that holds, and one that doesn't
-due-now : (a b : ℕ) (r : Bool) → r ≡ nat_eq a b → r ≡ true → a ≡ b
-due-now a b r is on = (let e : nat_eq a b ≡ true = sym is ∙ on in grind (arith, nat_tests))
-
-pub is_due-requires : goal.is_due-requires
-is_due-requires g c =
+pub first_due-requires-clause-past : goal.first_due-requires-clause-past
+first_due-requires-clause-past g c =
+    let m = g.G.Governor.demand in
     let p = c.args.set.now.plan.now in
-    let lt : c.loop-task.task < count p = rw (← c.count-task-end.ensures.count) c.loop-task-test.true in
-    let long : length c.loop-task.self.state.rows ≡ count p =
-    long-there _ _ _ (bounds p c.requires.set.admitted).some_period _ g.L.Listener.balked _ _ _ _ _ c.loop-task.invariant.0 in
-    omega (arith, lt, long)
+    let dem = jobs_of c.args.set.now in
+    let past = course m p dem c.args.self.now.state.now in
+    let adm = bounds p c.requires.set.admitted in
+    let i = c.loop-task.invariant in
+    let st = c.loop-task.self.state in
+    none-past p dem past adm.some_period g.L.Listener.heard g.L.Listener.balked c.args.to.now i.0 c.loop-task.any st c.loop-task.to i.2
+
+pub release_one-requires-clause-of : goal.release_one-requires-clause-of
+release_one-requires-clause-of g c = c.loop-task.invariant.4
+
+pub release_one-requires-clause-current : goal.release_one-requires-clause-current
+release_one-requires-clause-current g c = c.loop-task.invariant.3
+
+pub release_one-requires-clause-past : goal.release_one-requires-clause-past
+release_one-requires-clause-past g c =
+    let m = g.G.Governor.demand in
+    let p = c.args.set.now.plan.now in
+    let dem = jobs_of c.args.set.now in
+    let past = course m p dem c.args.self.now.state.now in
+    let adm = bounds p c.requires.set.admitted in
+    let i = c.loop-task.invariant in
+    let st = c.loop-task.self.state in
+    none-past p dem past adm.some_period g.L.Listener.heard g.L.Listener.balked c.args.to.now i.0 c.loop-task.any st c.loop-task.to i.2
 
 pub release_one-requires-clause-can : goal.release_one-requires-clause-can
 release_one-requires-clause-can g c =
+    let t = c.args.self.now.state.now in
     let m = g.G.Governor.demand in
     let p = c.args.set.now.plan.now in
     let dem = jobs_of c.args.set.now in
-    let t = c.args.self.now.state.now in
+    let past = course m p dem c.args.self.now.state.now in
     let adm = bounds p c.requires.set.admitted in
-    let lt : c.loop-task.task < count p = rw (← c.count-task-end.ensures.count) c.loop-task-test.true in
-    can-release p dem (course m p dem t) adm.some_period g.L.Listener.heard g.L.Listener.balked c.args.to.now _ _ _ _ c.loop-task.invariant.0 lt
-    (due-now _ _ _ c.is_due.ensures c.if-is_due.true) adm (omega (arith, course-len m p dem t, c.requires.at.early))
-    (prior-done m p dem t c.args.self.now.state c.requires.at c.loop-task.task lt)
+    let i = c.loop-task.invariant in
+    let st = c.loop-task.self.state in
+    let task = c.in-Some.task in
+    let d = c.in-Some.ensures.due in
+    let at = at-due p dem past adm.some_period g.L.Listener.heard g.L.Listener.balked c.args.to.now i.0 task c.loop-task.any st c.loop-task.to c.requires.at.within.none i.2 d in
+    can-release p dem past adm.some_period g.L.Listener.heard g.L.Listener.balked c.args.to.now task c.loop-task.any st c.loop-task.to at.0 d.below d.due adm (omega (arith, course-len m p dem t, c.requires.at.early))
+    (prior-done m p dem t c.args.self.now.state c.requires.at task d.below)
+
+pub release_one-requires-clause-room : goal.release_one-requires-clause-room
+release_one-requires-clause-room g c =
+    let m = g.G.Governor.demand in
+    let p = c.args.set.now.plan.now in
+    let dem = jobs_of c.args.set.now in
+    let past = course m p dem c.args.self.now.state.now in
+    let adm = bounds p c.requires.set.admitted in
+    let i = c.loop-task.invariant in
+    let st = c.loop-task.self.state in
+    has-room p dem past i.0 c.args.self.now.trace c.loop-task.self.trace (omega (arith, adm.few_tasks, i.1)) c.requires.room i.5
 
 pub returns-in_err-release_one-clause-told : goal.returns-in_err-release_one-clause-told
 returns-in_err-release_one-clause-told g c =
+    let t = c.args.self.now.state.now in
     let m = g.G.Governor.demand in
     let p = c.args.set.now.plan.now in
     let dem = jobs_of c.args.set.now in
-    let t = c.args.self.now.state.now in
-    let lt : c.loop-task.task < count p = rw (← c.count-task-end.ensures.count) c.loop-task-test.true in
+    let past = course m p dem c.args.self.now.state.now in
+    let adm = bounds p c.requires.set.admitted in
+    let i = c.loop-task.invariant in
+    let st = c.loop-task.self.state in
+    let task = c.in-Some.task in
+    let d = c.in-Some.ensures.due in
+    let at = at-due p dem past adm.some_period g.L.Listener.heard g.L.Listener.balked c.args.to.now i.0 task c.loop-task.any st c.loop-task.to c.requires.at.within.none i.2 d in
     let told = c.in_err-release_one.ensures.told in
     at_error (Tells g.L.Listener.heard g.L.Listener.balked g.L.Listener.stops c.args.to.now c.release_one.new.to (all_release_notes p dem t)) c.from_residual.result c.from_residual.ensures.0
     (λ x. (
       subst (λ n. HasBalked g.L.Listener.heard g.L.Listener.balked c.args.to.now (all_release_notes p dem n) c.release_one.new.to) (course-len m p dem t)
-          (opens-balked p dem (course m p dem t) (bounds p c.requires.set.admitted).some_period g.L.Listener.heard g.L.Listener.balked c.args.to.now _ _ _ _ c.loop-task.invariant.0 lt
-          (due-now _ _ _ c.is_due.ensures c.if-is_due.true) c.release_one.new.to told.0),
-      omega (arith, told.1, c.loop-task.invariant.4),
-      omega (arith, told.2, c.loop-task.invariant.4),
+          (opens-balked p dem past adm.some_period g.L.Listener.heard g.L.Listener.balked c.args.to.now task c.loop-task.any st c.loop-task.to at.0 d.below d.due c.release_one.new.to told.0),
+      omega (arith, told.1, i.6),
+      omega (arith, told.2, i.6),
     ))
 
 pub loop-task-preserved : goal.loop-task-preserved
@@ -82,34 +118,47 @@ loop-task-preserved g c =
     let p = c.args.set.now.plan.now in
     let dem = jobs_of c.args.set.now in
     let past = course m p dem c.args.self.now.state.now in
-    let periods = (bounds p c.requires.set.admitted).some_period in
-    let i = c.loop-task.task in
+    let adm = bounds p c.requires.set.admitted in
+    let i = c.loop-task.invariant in
     let st = c.loop-task.self.state in
-    let r = c.loop-task.invariant.0 in
-    let lt : i < count p = rw (← c.count-task-end.ensures.count) c.loop-task-test.true in
-    elim c.if-is_due.branch [
-      | then-is_due+in_ok-release_one w ↦ (let due : (row_at st i).deadline ≡ st.now = due-now _ _ _ c.is_due.ensures w.if-is_due.true in
-          let opened = w.in_ok-release_one.ensures in
-          let next : Releasing p dem past g.L.Listener.heard (i + 1) true w.release_one.new.self.state c.args.to.now w.release_one.new.to =
-          opens p dem past periods g.L.Listener.heard g.L.Listener.balked c.args.to.now i c.loop-task.any st c.loop-task.to r lt due w.release_one.new.self.state w.release_one.new.to opened.told.0 opened.state in
-          rw (w.any-is, w.self-is, w.to-is) (
-            next,
-            opened.counters,
-            opened.of,
-            opens-trace p dem past periods g.L.Listener.heard g.L.Listener.balked c.args.to.now i c.loop-task.any st c.loop-task.to r lt due c.args.self.now.trace c.loop-task.self.trace w.release_one.new.self.trace c.loop-task.invariant.3 opened.trace,
-            omega (arith, c.loop-task.invariant.4, opened.told.1),
-          ))
-      | else-is_due w ↦ (let early : nat_eq (row_at st i).deadline st.now ≡ false = sym c.is_due.ensures ∙ w.if-is_due.false in
-          let next : Releasing p dem past g.L.Listener.heard (i + 1) c.loop-task.any st c.args.to.now c.loop-task.to =
-          passed p dem past periods g.L.Listener.heard g.L.Listener.balked c.args.to.now i c.loop-task.any st c.loop-task.to r lt (c.requires.at.within.none i) early in
-          rw (w.any-is, w.self-is, w.to-is) (
-            next,
-            c.loop-task.invariant.1,
-            c.loop-task.invariant.2,
-            c.loop-task.invariant.3 ∙ ap (λ ns. with_notes c.args.self.now.trace ns) (sym (passed-notes p dem past periods g.L.Listener.heard g.L.Listener.balked c.args.to.now i c.loop-task.any st c.loop-task.to r lt early)),
-            c.loop-task.invariant.4,
-          ))
-    ]
+    let task = c.in-Some.task in
+    let d = c.in-Some.ensures.due in
+    let at = at-due p dem past adm.some_period g.L.Listener.heard g.L.Listener.balked c.args.to.now i.0 task c.loop-task.any st c.loop-task.to c.requires.at.within.none i.2 d in
+    let w = c.in_ok-release_one.ensures in (
+      task + 1,
+      omega (arith, d.below),
+      opens p dem past adm.some_period g.L.Listener.heard g.L.Listener.balked c.args.to.now task c.loop-task.any st c.loop-task.to at.0 d.below d.due c.release_one.new.self.state c.release_one.new.to w.told.0 w.state,
+      w.current,
+      w.of,
+      opens-trace p dem past adm.some_period g.L.Listener.heard g.L.Listener.balked c.args.to.now task c.loop-task.any st c.loop-task.to at.0 d.below d.due c.args.self.now.trace c.loop-task.self.trace c.release_one.new.self.trace
+          (i.5 ∙ ap (λ ns. with_notes c.args.self.now.trace ns) (sym at.1)) w.trace,
+      omega (arith, i.6, w.told.1),
+    )
+
+pub loop-task-smaller : goal.loop-task-smaller
+loop-task-smaller g c =
+    let p = c.args.set.now.plan.now in
+    let adm = bounds p c.requires.set.admitted in
+    let d = c.in-Some.ensures.due in
+    let long = c.loop-task.invariant.4 in
+    subst (λ (s : StateOf). due_left p s < due_left p c.loop-task.self.state) (sym c.in_ok-release_one.ensures.state)
+    (due-falls p c.loop-task.self.state c.in-Some.task _ (omega (arith, d.below, long.rows)) (adm.some_period c.in-Some.task) d)
+
+pub settled-requires-clause-of : goal.settled-requires-clause-of
+settled-requires-clause-of g c = c.loop-task.invariant.4
+
+pub returns-then-any-clause-trace : goal.returns-then-any-clause-trace
+returns-then-any-clause-trace g c =
+    let t = c.args.self.now.state.now in
+    let m = g.G.Governor.demand in
+    let p = c.args.set.now.plan.now in
+    let dem = jobs_of c.args.set.now in
+    let past = course m p dem c.args.self.now.state.now in
+    let adm = bounds p c.requires.set.admitted in
+    let i = c.loop-task.invariant in
+    let st = c.loop-task.self.state in
+    let at = at-end p dem past adm.some_period g.L.Listener.heard g.L.Listener.balked c.args.to.now i.0 c.loop-task.any st c.loop-task.to c.requires.at.within.none i.1 i.2 c.in_default.ensures.none in
+    i.5 ∙ (ap (λ ns. with_notes c.args.self.now.trace ns) (sym at.1) ∙ ap (λ n. with_notes c.args.self.now.trace (all_release_notes p dem n)) (course-len m p dem t))
 
 pub returns-then-any-clause-state : goal.returns-then-any-clause-state
 returns-then-any-clause-state g c =
@@ -117,12 +166,39 @@ returns-then-any-clause-state g c =
     let p = c.args.set.now.plan.now in
     let dem = jobs_of c.args.set.now in
     let past = course m p dem c.args.self.now.state.now in
-    let i = c.loop-task.task in
+    let adm = bounds p c.requires.set.admitted in
+    let i = c.loop-task.invariant in
     let st = c.loop-task.self.state in
-    let whole : i ≡ count p = omega (arith, c.count-task-end.ensures.count) in
+    let at = at-end p dem past adm.some_period g.L.Listener.heard g.L.Listener.balked c.args.to.now i.0 c.loop-task.any st c.loop-task.to c.requires.at.within.none i.1 i.2 c.in_default.ensures.none in
     c.mark.ensures
-    ∙ released-marked p dem past (bounds p c.requires.set.admitted).some_period g.L.Listener.heard g.L.Listener.balked c.args.to.now i st c.loop-task.to whole
-    (subst (λ b. Releasing p dem past g.L.Listener.heard i b st c.args.to.now c.loop-task.to) c.if-any.true c.loop-task.invariant.0)
+    ∙ released-marked p dem past adm.some_period g.L.Listener.heard g.L.Listener.balked c.args.to.now (count p) st c.loop-task.to refl
+    (subst (λ b. Releasing p dem past g.L.Listener.heard (count p) b st c.args.to.now c.loop-task.to) c.if-any.true at.0)
+
+pub returns-then-any-clause-told : goal.returns-then-any-clause-told
+returns-then-any-clause-told g c =
+    let t = c.args.self.now.state.now in
+    let m = g.G.Governor.demand in
+    let p = c.args.set.now.plan.now in
+    let dem = jobs_of c.args.set.now in
+    let past = course m p dem c.args.self.now.state.now in
+    let adm = bounds p c.requires.set.admitted in
+    let i = c.loop-task.invariant in
+    let st = c.loop-task.self.state in
+    let at = at-end p dem past adm.some_period g.L.Listener.heard g.L.Listener.balked c.args.to.now i.0 c.loop-task.any st c.loop-task.to c.requires.at.within.none i.1 i.2 c.in_default.ensures.none in
+    (subst (λ n. HasHeard g.L.Listener.heard c.args.to.now (all_release_notes p dem n) c.loop-task.to) (course-len m p dem t) at.0.told, i.6)
+
+pub returns-else-any-clause-trace : goal.returns-else-any-clause-trace
+returns-else-any-clause-trace g c =
+    let t = c.args.self.now.state.now in
+    let m = g.G.Governor.demand in
+    let p = c.args.set.now.plan.now in
+    let dem = jobs_of c.args.set.now in
+    let past = course m p dem c.args.self.now.state.now in
+    let adm = bounds p c.requires.set.admitted in
+    let i = c.loop-task.invariant in
+    let st = c.loop-task.self.state in
+    let at = at-end p dem past adm.some_period g.L.Listener.heard g.L.Listener.balked c.args.to.now i.0 c.loop-task.any st c.loop-task.to c.requires.at.within.none i.1 i.2 c.in_default.ensures.none in
+    i.5 ∙ (ap (λ ns. with_notes c.args.self.now.trace ns) (sym at.1) ∙ ap (λ n. with_notes c.args.self.now.trace (all_release_notes p dem n)) (course-len m p dem t))
 
 pub returns-else-any-clause-state : goal.returns-else-any-clause-state
 returns-else-any-clause-state g c =
@@ -130,38 +206,31 @@ returns-else-any-clause-state g c =
     let p = c.args.set.now.plan.now in
     let dem = jobs_of c.args.set.now in
     let past = course m p dem c.args.self.now.state.now in
-    let i = c.loop-task.task in
+    let adm = bounds p c.requires.set.admitted in
+    let i = c.loop-task.invariant in
     let st = c.loop-task.self.state in
-    let whole : i ≡ count p = omega (arith, c.count-task-end.ensures.count) in
-    released-unmarked p dem past (bounds p c.requires.set.admitted).some_period g.L.Listener.heard g.L.Listener.balked c.args.to.now i st c.loop-task.to c.requires.at.within.none whole
-    (subst (λ b. Releasing p dem past g.L.Listener.heard i b st c.args.to.now c.loop-task.to) c.if-any.false c.loop-task.invariant.0)
+    let at = at-end p dem past adm.some_period g.L.Listener.heard g.L.Listener.balked c.args.to.now i.0 c.loop-task.any st c.loop-task.to c.requires.at.within.none i.1 i.2 c.in_default.ensures.none in
+    released-unmarked p dem past adm.some_period g.L.Listener.heard g.L.Listener.balked c.args.to.now (count p) st c.loop-task.to c.requires.at.within.none refl
+    (subst (λ b. Releasing p dem past g.L.Listener.heard (count p) b st c.args.to.now c.loop-task.to) c.if-any.false at.0)
 
-pub release_one-requires-clause-room : goal.release_one-requires-clause-room
-release_one-requires-clause-room g c =
-    let m = g.G.Governor.demand in
-    let p = c.args.set.now.plan.now in
-    let dem = jobs_of c.args.set.now in
-    has-room p dem (course m p dem c.args.self.now.state.now) c.loop-task.task c.args.self.now.trace c.loop-task.self.trace
-    (omega (arith, (bounds p c.requires.set.admitted).few_tasks, c.loop-task-test.true, c.count-task-end.ensures.count)) c.requires.room c.loop-task.invariant.3
-
-pub returns-then-any-clause-trace : goal.returns-then-any-clause-trace
-returns-then-any-clause-trace g c =
-    let m = g.G.Governor.demand in
-    let p = c.args.set.now.plan.now in
-    let dem = jobs_of c.args.set.now in
+pub returns-else-any-clause-told : goal.returns-else-any-clause-told
+returns-else-any-clause-told g c =
     let t = c.args.self.now.state.now in
-    let whole : c.loop-task.task ≡ count p = omega (arith, c.count-task-end.ensures.count) in
-    c.loop-task.invariant.3
-    ∙ (ap (λ n. with_notes c.args.self.now.trace (notes_upto p dem (course m p dem t) n)) whole
-    ∙ ap (λ n. with_notes c.args.self.now.trace (all_release_notes p dem n)) (course-len m p dem t))
-
-pub returns-else-any-clause-trace : goal.returns-else-any-clause-trace
-returns-else-any-clause-trace g c =
     let m = g.G.Governor.demand in
     let p = c.args.set.now.plan.now in
     let dem = jobs_of c.args.set.now in
-    let t = c.args.self.now.state.now in
-    let whole : c.loop-task.task ≡ count p = omega (arith, c.count-task-end.ensures.count) in
-    c.loop-task.invariant.3
-    ∙ (ap (λ n. with_notes c.args.self.now.trace (notes_upto p dem (course m p dem t) n)) whole
-    ∙ ap (λ n. with_notes c.args.self.now.trace (all_release_notes p dem n)) (course-len m p dem t))
+    let past = course m p dem c.args.self.now.state.now in
+    let adm = bounds p c.requires.set.admitted in
+    let i = c.loop-task.invariant in
+    let st = c.loop-task.self.state in
+    let at = at-end p dem past adm.some_period g.L.Listener.heard g.L.Listener.balked c.args.to.now i.0 c.loop-task.any st c.loop-task.to c.requires.at.within.none i.1 i.2 c.in_default.ensures.none in
+    (subst (λ n. HasHeard g.L.Listener.heard c.args.to.now (all_release_notes p dem n) c.loop-task.to) (course-len m p dem t) at.0.told, i.6)
+
+pub returns-then-any-clause-current : goal.returns-then-any-clause-current
+returns-then-any-clause-current g c =
+    let p = c.args.set.now.plan.now in
+    let run = c.loop-task.self in
+    record {
+      counters = search rules;
+      agenda = subst (λ (s : StateOf). Stands p s run.agenda) (sym c.mark.ensures) (stand-mark p run.state run.agenda.ready run.agenda.calendar c.loop-task.invariant.3.agenda);
+    }

@@ -1,9 +1,11 @@
-use Rattle.std.proofs.Common.{◌≡◌, ℕ, ◌+◌, ◌*◌, ◌<◌, length, arith, ap, ap₂, ◌∙◌, sym, subst}
+use Rattle.std.proofs.Common.{◌≡◌, ℕ, ◌+◌, ◌*◌, ◌<◌, ◌≤◌, length, arith, ap, ap₂, ◌∙◌, sym, subst, refl}
 use Rattle.freq_table.specs.declared.machine.Point.{Point}
 use Rattle.freq_table.specs.Tables.{Table, speed_at}
 use Rattle.sched_model.specs.Plan.{Plan, point}
 use Rattle.sched_model.specs.States.{after_advance, CanRun, StateOf}
-use Rattle.std.specs.Prelude.{Option, IfSome}
+use Rattle.std.specs.Prelude.{Option, None, Some, IfSome}
+use Rattle.agenda.specs.Stands.{Stands}
+use Rattle.agenda.proofs.Standing.{stand-advance}
 use Rattle.event_kernel.specs.Heard.{HasHeard, HasBalked}
 use Rattle.event_kernel.specs.Settings.{jobs_of, InSpan, Leads, notes_in}
 use Rattle.event_kernel.specs.Segment.{entered, entering_notes, holder_at, IsFirst}
@@ -19,13 +21,10 @@ pub point-requires : goal.point-requires
 point-requires g c =
     subst (λ (x : Table). c.args.force.index < length x.points) (sym c.machine.ensures.machine) (entry-in (bounds _ c.requires.set.admitted) c.requires.set.low_ticks c.requires.at)
 
-pub first_undone-first-requires : goal.first_undone-first-requires
-first_undone-first-requires g c = (of-plan (bounds _ c.requires.set.admitted) c.requires.set.low_ticks c.requires.at).rows
-
 pub holder_of-holder-requires : goal.holder_of-holder-requires
 holder_of-holder-requires g c =
-    first-in c.args.set.now.plan.now c.args.self.now.state c.first_undone-first.result (of-plan (bounds _ c.requires.set.admitted) c.requires.set.low_ticks c.requires.at).rows
-    (is-first c.args.set.now.plan.now c.args.self.now.state c.first_undone-first.result c.first_undone-first.ensures.none c.first_undone-first.ensures.first)
+    first-in c.args.set.now.plan.now c.args.self.now.state c.first_ready-first.result (of-plan (bounds _ c.requires.set.admitted) c.requires.set.low_ticks c.requires.at).rows
+    (is-first c.args.set.now.plan.now c.args.self.now.state c.first_ready-first.result c.first_ready-first.ensures.none c.first_ready-first.ensures.first)
 
 pub overflow_mul-units : goal.overflow_mul-units
 overflow_mul-units g c =
@@ -47,12 +46,12 @@ enter-requires-clause-fits g c =
 pub returns-in_err-enter-clause-told : goal.returns-in_err-enter-clause-told
 returns-in_err-enter-clause-told g c =
     let st = c.args.self.now.state in
-    let is = is-first c.args.set.now.plan.now st c.first_undone-first.result c.first_undone-first.ensures.none c.first_undone-first.ensures.first in
+    let is = is-first c.args.set.now.plan.now st c.first_ready-first.result c.first_ready-first.ensures.none c.first_ready-first.ensures.first in
     let told = c.in_err-enter.ensures.told in
     let balks = subst (λ h. HasBalked g.L.Listener.heard g.L.Listener.balked c.args.to.now (entering_notes c.args.set.now.plan.now st c.args.force.from c.args.force.index h c.args.self.now.trace) c.enter.new.to) c.holder_of-holder.ensures told.0 in
     at_error (Leads g.L.Listener.heard g.L.Listener.balked g.L.Listener.stops g.G.Governor.demand c.args.set.now c.args.to.now c.enter.new.to (notes_in st) (notes_in st)) c.from_residual.result c.from_residual.ensures.0
     (λ x. (
-      stays-balked g.L.Listener.heard g.L.Listener.balked (bounds _ c.requires.set.admitted) c.requires.set.low_ticks c.requires.at c.first_undone-first.result is c.quiet_ticks-quiet.ensures c.args.to.now c.enter.new.to (omega (arith, c.if-quiet-eq0.false)) balks,
+      stays-balked g.L.Listener.heard g.L.Listener.balked (bounds _ c.requires.set.admitted) c.requires.set.low_ticks c.requires.at c.first_ready-first.result is c.quiet_ticks-quiet.ensures c.args.to.now c.enter.new.to (omega (arith, c.if-quiet-eq0.false)) balks,
       told.1,
       told.2,
     ))
@@ -63,16 +62,21 @@ serve_first-requires-clause-of g c = of-plan (bounds _ c.requires.set.admitted) 
 pub serve_first-requires-clause-can : goal.serve_first-requires-clause-can
 serve_first-requires-clause-can g c =
     let st = c.args.self.now.state in
-    let is = is-first c.args.set.now.plan.now st c.first_undone-first.result c.first_undone-first.ensures.none c.first_undone-first.ensures.first in
+    let is = is-first c.args.set.now.plan.now st c.first_ready-first.result c.first_ready-first.ensures.none c.first_ready-first.ensures.first in
     let speed : c.point.result.speed ≡ (point c.args.set.now.plan.now c.args.force.index).speed =
     ap (λ (q : Point). q.speed) c.point.ensures ∙ ap (λ (x : Table). speed_at x c.args.force.index) c.machine.ensures.machine in
-    subst (λ f. IfSome c.first_undone-first.result (λ i. CanRun st i (c.quiet_ticks-quiet.result * f))) (sym speed)
-    (can-run-first (bounds _ c.requires.set.admitted) c.requires.set.low_ticks c.requires.at c.first_undone-first.result is c.quiet_ticks-quiet.ensures)
+    subst (λ f. IfSome c.first_ready-first.result (λ i. CanRun st i (c.quiet_ticks-quiet.result * f))) (sym speed)
+    (can-run-first (bounds _ c.requires.set.admitted) c.requires.set.low_ticks c.requires.at c.first_ready-first.result is c.quiet_ticks-quiet.ensures)
 
 pub returns-then-quiet-eq0-clause-last : goal.returns-then-quiet-eq0-clause-last
 returns-then-quiet-eq0-clause-last g c =
-    let is = is-first c.args.set.now.plan.now c.args.self.now.state c.first_undone-first.result c.first_undone-first.ensures.none c.first_undone-first.ensures.first in
-    last-now (bounds _ c.requires.set.admitted) c.requires.set.low_ticks c.requires.at c.first_undone-first.result is c.if-quiet-eq0.true c.quiet_ticks-quiet.ensures
+    let is = is-first c.args.set.now.plan.now c.args.self.now.state c.first_ready-first.result c.first_ready-first.ensures.none c.first_ready-first.ensures.first in
+    last-now (bounds _ c.requires.set.admitted) c.requires.set.low_ticks c.requires.at c.first_ready-first.result is c.if-quiet-eq0.true c.quiet_ticks-quiet.ensures
+
+-- units take no time
+gives-now : (s : StateOf) (first : Option ℕ) (units : ℕ) → (gives s first units).now ≡ s.now
+gives-now s None units = refl
+gives-now s (Some i) units = refl
 
 -- the step
 module _ (g : Over) (c : goal.After-advance g) where
@@ -89,10 +93,10 @@ module _ (g : Over) (c : goal.After-advance g) where
   n = c.quiet_ticks-quiet.result
 
   abbrev first : Option ℕ
-  first = c.first_undone-first.result
+  first = c.first_ready-first.result
 
   is : IsFirst p st first
-  is = is-first p st first c.first_undone-first.ensures.none c.first_undone-first.ensures.first
+  is = is-first p st first c.first_ready-first.ensures.none c.first_ready-first.ensures.first
 
   speed : c.point.result.speed ≡ (point p e).speed
   speed = ap (λ (q : Point). q.speed) c.point.ensures ∙ ap (λ (x : Table). speed_at x e) c.machine.ensures.machine
@@ -129,3 +133,16 @@ returns-clause-last g c =
 
 pub returns-clause-told : goal.returns-clause-told
 returns-clause-told g c = ((step g c).1, c.in_ok-enter.ensures.told.1)
+
+pub returns-clause-current : goal.returns-clause-current
+returns-clause-current g c =
+    let plan = c.args.set.now.plan.now in
+    let run = c.serve_first.new.self in
+    let to = c.state.inside.now + c.quiet_ticks-quiet.result in
+    let same : run.state.now ≡ c.args.self.now.state.now = ap (λ (v : StateOf). v.now) c.serve_first.ensures.state ∙ gives-now _ _ _ in
+    let later : run.state.now ≤ to = omega (arith, same, ap (λ (v : StateOf). v.now) c.state.view_is) in
+    let before = c.serve_first.ensures.current in
+    record {
+      counters = subst (λ (s : StateOf). g.G.Governor.stands run.governor plan s) (sym c.advance.ensures) (g.met.G.Governor.waits run.governor plan run.state to later before.counters);
+      agenda = subst (λ (s : StateOf). Stands plan s run.agenda) (sym c.advance.ensures) (stand-advance plan run.state run.agenda.ready run.agenda.calendar before.agenda to);
+    }

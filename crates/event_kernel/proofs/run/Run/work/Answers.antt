@@ -1,10 +1,13 @@
-use Rattle.std.proofs.Common.{◌≡◌, ℕ, ◌+◌, ◌<◌, ◌≤◌, min, Bool, true, ◌||◌, length, arith, refl, ap, ◌∙◌, sym, subst, inl, inr, ◌⊎◌, nat_eq}
+use Rattle.std.proofs.Common.{◌≡◌, ℕ, ◌+◌, ◌<◌, ◌≤◌, min, Bool, true, ◌||◌, length, arith, refl, ap, ◌∙◌, sym, subst, inl, inr, ◌⊎◌, nat_eq, rules}
 use Rattle.freq_table.specs.declared.machine.Point.{Point}
 use Rattle.freq_table.specs.Tables.{Table, speed_at}
 use Rattle.sched_model.specs.declared.holder.Holder.TheVariants.{Nobody}
 use Rattle.sched_model.specs.Plan.{count}
 use Rattle.sched_model.specs.States.{row_at, after_advance, StateOf}
+use Rattle.agenda.specs.Stands.{Stands}
+use Rattle.agenda.proofs.Standing.{stand-advance}
 use Rattle.event_kernel.specs.declared.run.Run.{Run}
+use Rattle.event_kernel.specs.Current.{IsCurrent}
 use Rattle.event_kernel.specs.Heard.{HasHeard, HasBalked}
 use Rattle.event_kernel.specs.Segment.{entered, entering_notes}
 use Rattle.event_kernel.specs.Settings.{jobs_of, Worked, Leads, notes_in, notes_with}
@@ -25,7 +28,7 @@ pub loop-rest-init : goal.loop-rest-init
 loop-rest-init g c = (
   begin (bounds _ c.requires.set.admitted) c.requires.at.work c.point-rest.result.speed
       (ap (λ (q : Point). q.speed) c.point-rest.ensures ∙ ap (λ (x : Table). speed_at x c.args.force.index) c.machine.ensures.machine),
-  c.requires.counters,
+  c.requires.current,
   of-plan (bounds _ c.requires.set.admitted) c.requires.set.low_ticks c.requires.at,
   omega arith,
 )
@@ -33,8 +36,8 @@ loop-rest-init g c = (
 pub serve-requires-clause-of : goal.serve-requires-clause-of
 serve-requires-clause-of g c = c.loop-rest.invariant.2
 
-pub first_undone-requires : goal.first_undone-requires
-first_undone-requires g c = rows-there (bounds _ c.requires.set.admitted) c.requires.at.work c.loop-rest.invariant.0
+pub first_ready-requires : goal.first_ready-requires
+first_ready-requires g c = c.loop-rest.invariant.1.agenda
 
 pub lacking-lacks-requires-clause-rows : goal.lacking-lacks-requires-clause-rows
 lacking-lacks-requires-clause-rows g c = rows-there (bounds _ c.requires.set.admitted) c.requires.at.work c.loop-rest.invariant.0
@@ -97,7 +100,7 @@ loop-rest-preserved g c =
           c.loop-rest-test.true c.in-Some.ensures.first (c.min-share.ensures ∙ ap (λ u. min c.loop-rest.rest u) c.lacking-lacks.ensures)
           (ap (λ u. nat_eq share u) c.lacking-lacks.ensures) now_is tells c.serve.ensures.state
           (c.serve.ensures.trace ∙ (c.in_ok-enter.ensures.trace ∙ ap (λ h. entered p st c.args.force.index h share trace) c.holder_of-holder.ensures)),
-      c.serve.ensures.counters,
+      c.serve.ensures.current,
       c.serve.ensures.of,
       omega (arith, c.loop-rest.invariant.3, c.in_ok-enter.ensures.told.1),
     )
@@ -169,3 +172,20 @@ returns-clause-worked g c = (step g c).0
 
 pub returns-clause-told : goal.returns-clause-told
 returns-clause-told g c = ((step g c).1, (step g c).2)
+
+-- what the run looks up before the tick ends
+current : (g : Over) (c : goal.After-advance g) → IsCurrent g.G.Governor.stands c.args.set.now.plan.now c.if-rest-gt0.self
+current g c =
+    elim c.if-rest-gt0.branch [
+      | then-rest-gt0+in_ok-enter-2 w ↦ subst (λ (x : Run g.row.G.Denot). IsCurrent g.G.Governor.stands c.args.set.now.plan.now x) (sym w.self-is) c.loop-rest.invariant.1
+      | else-rest-gt0 w ↦ subst (λ (x : Run g.row.G.Denot). IsCurrent g.G.Governor.stands c.args.set.now.plan.now x) (sym w.self-is) c.loop-rest.invariant.1
+    ]
+
+pub returns-clause-current : goal.returns-clause-current
+returns-clause-current g c =
+    let run = c.if-rest-gt0.self in
+    record {
+      counters = search rules;
+      agenda = subst (λ (s : StateOf). Stands c.args.set.now.plan.now s run.agenda) (sym c.advance.ensures)
+          (stand-advance c.args.set.now.plan.now run.state run.agenda.ready run.agenda.calendar (current g c).agenda (c.state.inside.now + 1));
+    }

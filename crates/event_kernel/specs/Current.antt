@@ -1,0 +1,16 @@
+-- What a run looks up follows its state.
+use Rattle.sched_model.specs.Plan.{Plan}
+use Rattle.sched_model.specs.States.{StateOf}
+use Rattle.agenda.specs.declared.agenda.Agenda.{Agenda}
+use Rattle.agenda.specs.Stands.{Stands}
+use Rattle.event_kernel.specs.declared.run.Run.{Run}
+
+-- The governor's counters are those of a state, and so is the agenda: its ready queue holds exactly the incomplete latest jobs
+-- with their keys, and its calendar each task with its next release.
+pub record Follow {G : Type 0} (stands : G → Plan → StateOf → Type 0) (p : Plan) (governor : G) (s : StateOf) (a : Agenda) : Type 0 where
+  pub counters : stands governor p s
+  pub agenda : Stands p s a
+
+-- those of a run are those of its state
+abbrev pub IsCurrent : {G : Type 0} → (G → Plan → StateOf → Type 0) → Plan → Run G → Type 0
+IsCurrent stands p run = Follow stands p run.governor run.state run.agenda
