@@ -1,5 +1,5 @@
 // The kernel.
-ghost use Rattle.std.specs.Prelude.{◌≡◌, ◌≢◌, ◌≤◌, ◌<◌, ℕ, OnOk, OnErr, IfOk, IsErrOf};
+ghost use Rattle.std.specs.Prelude.{◌≡◌, ◌≢◌, ◌≤◌, ◌<◌, ℕ, OnOk, OnErr, IfOk, IsErrOf, []};
 ghost use Rattle.dvs_base.specs.declared.kind.GovernorKind.TheVariants.{Ahead};
 ghost use Rattle.sched_model.specs.Totals.{totals_of};
 ghost use Rattle.sched_model.specs.States.{opening};
@@ -10,6 +10,7 @@ ghost use Rattle.line_counts.specs.LineCounts.{AreFew};
 ghost use Rattle.event_kernel.specs.Runs.{IsListOf, notes_of_run, MeetsDeadlines, MeetsDemands};
 ghost use Rattle.event_kernel.specs.Runs.{notes_before_end_of};
 ghost use Rattle.event_kernel.specs.Sums.{sums_of};
+ghost use Rattle.agenda.specs.Stands.{Stands};
 ghost use Rattle.sched_model.specs.Admission.{IsAdmitted};
 ghost use Rattle.dvs_base.specs.Outside.{Rose};
 
@@ -20,7 +21,7 @@ use crate::trace::Trace;
 use crate::{Listener, Stopped};
 use agenda::Agenda;
 use demand_list::Demands;
-use dvs_base::{MOST_JOBS, Note, Totals};
+use dvs_base::{MOST_JOBS, NoMemory, Note, Totals};
 use governor::Governor;
 use sched_model::{Admitted, State};
 use std::alloc::Global;
@@ -45,6 +46,31 @@ fn count_jobs(plan: &Admitted, ticks: u64) -> u64
         count += span.div_ceil(plan.period(task));
     }
     count
+}
+
+// What a run begins with: the opening state, the agenda that stands for it, and the sums of no notes.
+#[derive(Drop)]
+struct Opening {
+    state: State,
+    agenda: Agenda,
+    sums: Sums,
+}
+
+impl Opening {
+    fn of(alloc: Global, plan: &Admitted) -> Result<Opening, NoMemory>
+        ensures state { IfOk result (λ o. o.state ≡ opening plan.now) }
+        ensures agenda { IfOk result (λ o. Stands plan.now (opening plan.now) o.agenda) }
+        ensures sums { IfOk result (λ o. o.sums ≡ sums_of plan.now []) }
+    {
+        let state = State::new(alloc, plan)?;
+        let agenda = Agenda::new(alloc, plan)?;
+        let sums = Sums::new(alloc, plan)?;
+        Ok(Opening {
+            state,
+            agenda,
+            sums,
+        })
+    }
 }
 
 /// A kernel at the opening state of its plan.
@@ -100,9 +126,11 @@ impl<'a, G: Governor> Kernel<'a, G> {
         if count > MOST_JOBS {
             return Err(KernelFault::TooManyJobs { count });
         }
-        let state = State::new(alloc, plan).map_err(|_| KernelFault::NoMemory)?;
-        let agenda = Agenda::new(alloc, plan).map_err(|_| KernelFault::NoMemory)?;
-        let sums = Sums::new(alloc, plan).map_err(|_| KernelFault::NoMemory)?;
+        let Opening {
+            state,
+            agenda,
+            sums,
+        } = Opening::of(alloc, plan).map_err(|_| KernelFault::NoMemory)?;
         Ok(Kernel {
             plan,
             demands,
