@@ -1,0 +1,27 @@
+// What every probe does.
+ghost use Rattle.std.specs.Prelude.{◌≡◌};
+ghost use Rattle.probes.specs.Tallies.{ProbeOf, NamesATask, told, stay_of};
+
+use crate::rule::{Rule, Stay};
+use dvs_base::Note;
+
+/// Counts notes by a rule.
+pub trait Probe: Drop {
+    /// Its rule and its tally.
+    ghost seen: { Self → ProbeOf };
+
+    /// What it counts, and until when.
+    fn rule(&self) -> Rule
+        ensures { result ≡ (seen self.now).rule };
+
+    /// What it has counted, at most 2^64 - 1.
+    fn tally(&self) -> u64
+        ensures { result ≡ (seen self.now).tally };
+
+    /// Adds the weight of the note under the rule. Leave comes exactly where the rule has a limit and the tally is then
+    /// at least that.
+    fn tell(&mut self, note: &Note) -> Stay
+        requires { NamesATask note.now }
+        ensures seen { seen self.new ≡ told note.now (seen self.old) }
+        ensures stay { result ≡ stay_of (seen self.new) };
+}

@@ -1,0 +1,67 @@
+// A probe with a counter for each task.
+ghost use Rattle.std.specs.Prelude.{◌≡◌, ◌≤◌, ◌+◌, sum};
+ghost use Rattle.probes.specs.Tallies.{ProbeOf, NamesATask, told, stay_of, capped};
+ghost use Rattle.probes.specs.Seen.{seen_table};
+
+use crate::probe::Probe;
+use crate::rule::{Rule, Stay, stay_at, task_of, weight};
+use dvs_base::Note;
+use task_model::MOST_TASKS;
+
+const COUNTERS: usize = MOST_TASKS as usize;
+
+/// Keeps a counter for each task that a set can have, and one for the notes that name no task. Its tally is their sum.
+#[derive(Debug, Drop)]
+pub struct TableProbe {
+    rule: Rule,
+    counts: [u64; COUNTERS],
+    others: u64,
+}
+
+// The sum of counts, stopping at the highest.
+fn capped_sum(counts: &[u64]) -> u64
+    ensures { result ≡ capped (sum counts.now) }
+{
+    let mut total: u64 = 0;
+    for count in counts {
+        total = total.saturating_add(*count);
+    }
+    total
+}
+
+impl TableProbe {
+    /// Nothing is counted yet.
+    pub fn new(rule: Rule) -> TableProbe
+        ensures { seen_table result ≡ record { rule = rule; tally = 0 } }
+    {
+        TableProbe {
+            rule,
+            counts: [0; COUNTERS],
+            others: 0,
+        }
+    }
+}
+
+impl Probe for TableProbe {
+    ghost seen = { seen_table };
+
+    fn rule(&self) -> Rule {
+        self.rule
+    }
+
+    fn tally(&self) -> u64 {
+        capped_sum(&self.counts).saturating_add(self.others)
+    }
+
+    fn tell(&mut self, note: &Note) -> Stay {
+        let more = weight(self.rule, note);
+        match task_of(note) {
+            Some(task) => {
+                let task = task as usize;
+                self.counts[task] = self.counts[task].saturating_add(more);
+            }
+            None => self.others = self.others.saturating_add(more),
+        }
+        stay_at(self.rule.limit, self.tally())
+    }
+}
