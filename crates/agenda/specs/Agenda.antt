@@ -30,11 +30,11 @@ pub record HoldsTasks (p : Plan) (s : StateOf) (test : ℕ → Bool) (entries : 
 abbrev pub is_open : StateOf → ℕ → Bool
 is_open s i = not (row_at s i).done
 
--- a ready queue holds exactly the incomplete latest jobs
+-- a ready queue holds exactly the incomplete latest jobs, each with the keys of its task: its deadline and the period
 abbrev pub HoldsReady : Plan → StateOf → List Entry → Type 0
 HoldsReady p s entries = HoldsTasks p s (is_open s) entries
 
--- a calendar holds each task with its next release
+-- a calendar holds each task with its next release, which is the deadline of its latest job
 abbrev pub HoldsCalendar : Plan → StateOf → List Entry → Type 0
 HoldsCalendar p s entries = HoldsTasks p s (λ i. true) entries
 

@@ -86,7 +86,7 @@ impl Agenda {
         let period = plan.period(task);
         let due = state.rows[task as usize].deadline + period;
         let next = Entry { task, due, period };
-        let _due = self.calendar.take_first();
+        self.calendar.take_first();
         self.calendar.insert(next);
         if !done {
             self.ready.insert(next);
@@ -100,6 +100,6 @@ impl Agenda {
         requires first { IsFirstUndone plan.now state.now (count plan.now) task }
         ensures { Stands plan.now (after_finish state.entry.now task) self.new }
     {
-        let _first = self.ready.take_first();
+        self.ready.take_first();
     }
 }

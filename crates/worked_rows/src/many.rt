@@ -1,4 +1,4 @@
-// As many tasks as a file may have, all released at tick 0. The lines are worked out by hand.
+// As many tasks as a file may have, all released at tick 0, and the first 40 ticks. The lines are worked out by hand.
 use crate::case::Case;
 use crate::example::SLOW;
 use std::alloc::{AllocError, Global};
@@ -19,12 +19,12 @@ fn task_file(alloc: Global) -> Result<String, AllocError> {
 // All are released in the order of the file. The last 32 have the earlier deadline and the shorter period, so they go
 // first, and equal ones go in the order of the file: each has one tick, and a decision follows its completion.
 fn lines(alloc: Global, scheduler: &str) -> Result<String, AllocError> {
-    let mut text = format!(in alloc; "trace 1\nplan {scheduler} none 64\n")?;
+    let mut text = format!(in alloc; "trace 1\nplan {scheduler} none 40\n")?;
     for task in 0..64 {
         let line = format!(in alloc; "release 0 t{task} 1\n")?;
         text.push_str(line.as_str())?;
     }
-    for tick in 0u64..64 {
+    for tick in 0u64..40 {
         let task = if tick < 32 { 32 + tick } else { tick - 32 };
         let end = 1 + tick;
         let piece = format!(in alloc;
@@ -32,7 +32,7 @@ fn lines(alloc: Global, scheduler: &str) -> Result<String, AllocError> {
         )?;
         text.push_str(piece.as_str())?;
     }
-    text.push_str("end 64 64000000000 0")?;
+    text.push_str("end 40 40000000000 0")?;
     Ok(text)
 }
 
@@ -43,11 +43,11 @@ fn sixty_four_tasks_released_at_tick_0(rt: HostRuntime) -> Result<(), Fail> {
     for (scheduler, words) in [
         (
             "edf",
-            "run --tasks T --machine M --scheduler edf --governor none --ticks 64",
+            "run --tasks T --machine M --scheduler edf --governor none --ticks 40",
         ),
         (
             "rm",
-            "run --tasks T --machine M --scheduler rm --governor none --ticks 64",
+            "run --tasks T --machine M --scheduler rm --governor none --ticks 40",
         ),
     ] {
         let text = lines(alloc, scheduler)?;
