@@ -283,6 +283,59 @@ fn a_trace_has_at_most_800000_lines(rt: HostRuntime) -> Result<(), Fail> {
 }
 
 #[test]
+fn nothing_stands_after_the_last_line_that_may_be(rt: HostRuntime) -> Result<(), Fail> {
+    let text = long_trace(rt.alloc(), 800000)?;
+    let more = joined(rt.alloc(), &[&text, b"\n"])?;
+    assert_eq!(rt;
+        read_paper(rt.alloc(), &more)?.err(),
+        refused(800001, TraceKind::AfterEnd)
+    );
+    let open = long_trace(rt.alloc(), 800001)?;
+    assert_eq!(rt;
+        read_paper(rt.alloc(), &open[..open.len() - 1])?.err(),
+        refused(800001, TraceKind::NoEnd)
+    );
+    Ok(())
+}
+
+#[test]
+fn numbers_reach_their_last_value(rt: HostRuntime) -> Result<(), Fail> {
+    let third: &[u8] =
+        b"release 18446744073709551615 t3 18446744073709551615\nspeed 0 18446744073709551615 340282366920938463463374607431768211455/340282366920938463463374607431768211455\n";
+    assert_eq!(rt; paper_refused(rt.alloc(), HEAD, third, b"")?, None);
+    let last = b"trace 1\nplan rm cc 1099511627776\nend 18446744073709551615 340282366920938463463374607431768211455 0\n";
+    let trace = read_paper(rt.alloc(), last)?.map_err(|_| "refused")?;
+    assert_eq!(rt; trace.plan.ticks, 1 << 40);
+    assert_eq!(rt;
+        trace.notes[0],
+        Note::End {
+            ticks: u64::MAX,
+            run: u128::MAX,
+            idle: 0,
+        }
+    );
+    Ok(())
+}
+
+#[test]
+fn a_carriage_return_ends_no_line(rt: HostRuntime) -> Result<(), Fail> {
+    let heads: [(&[u8], &[u8], u64, TraceKind); 4] = [
+        (b"trace 1\r\nplan edf cc 16\n", THIRD, 1, TraceKind::Version),
+        (b"trace 1\nplan edf cc 16\r\n", THIRD, 2, TraceKind::Plan),
+        (HEAD, b"release 0 t1 1\r\n", 3, TraceKind::Number),
+        (HEAD, b"end 16 364000000000 0\r\n", 3, TraceKind::Number),
+    ];
+    for (head, third, line, kind) in heads {
+        assert_eq!(rt;
+            paper_refused(rt.alloc(), head, third, b"")?,
+            refused(line, kind),
+            "{line}"
+        );
+    }
+    Ok(())
+}
+
+#[test]
 fn both_versions_are_read(rt: HostRuntime) -> Result<(), Fail> {
     let text = joined(
         rt.alloc(),

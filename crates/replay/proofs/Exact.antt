@@ -1,0 +1,275 @@
+-- What a replay answers, of traces of schedules and of others.
+use Rattle.std.proofs.Common.{◌≡◌, ◌≢◌, ◌+◌, ◌≤◌, ℕ, Bool, true, false, List, [], ◌∷◌, refl, if◌then◌else◌, ap, ap₂, ◌∙◌, sym, subst, true≢false, arith}
+use Rattle.std.specs.Prelude.{nat_lt, unwrap_or, Option, Some, None, Result, Ok, Err, IfOk, IsErrOf}
+use Rattle.std.specs.Option.{option_or}
+use Rattle.std.proofs.lemmas.Bool.Decides.{nat_tests}
+use Rattle.dvs_base.specs.Checks.{IsUnlessMemory}
+use Rattle.dvs_base.specs.declared.note.Note.{Note}
+use Rattle.dvs_base.specs.declared.note.Note.TheVariants.{Release, Speed, Run, Idle, Done, End}
+use Rattle.dvs_base.specs.declared.note.Totals.{Totals}
+use Rattle.dvs_base.specs.declared.limits.TheConstants.{MOST_JOBS}
+use Rattle.task_model.specs.DemandRows.{DemandRow}
+use Rattle.sched_model.specs.Plan.{Plan, count, worst}
+use Rattle.sched_model.specs.Ticks.{Tick}
+use Rattle.grid_fraction.specs.declared.Frac.{Frac}
+use Rattle.sched_model.specs.Jobs.{released_jobs}
+use Rattle.sched_model.specs.Demands.{demand_of}
+use Rattle.sched_model.specs.Notes.{notes_of}
+use Rattle.sched_model.specs.Totals.{totals_of}
+use Rattle.sched_model.specs.Admission.{IsWithinLimits}
+use Rattle.trace_reader.specs.Traces.{TraceOf, is_end}
+use Rattle.replay_laws.specs.FixedDemands.{fixed_of}
+use Rattle.replay_laws.specs.OwnList.{Asking, ticks_by, AreNotesFor, AreOwn, HasOwnList}
+use Rattle.replay_laws.proofs.FitNotes.{IsBeforeEnd}
+use Rattle.replay_laws.proofs.OneEnd.{EndsOnce, notes-end-once}
+use Rattle.replay.specs.Comparing.{same_note, line_of, first_unequal, FirstUnequal, unless_unequal}
+use Rattle.replay.specs.Replays.{first_over, too_many, unless, own_notes, replay_of, IsReplayed, IsFirstDifference}
+use Rattle.replay.specs.declared.fault.ReplayFault.{ReplayFault}
+use Rattle.replay.specs.declared.fault.ReplayFault.TheVariants as fault
+use Rattle.replay.proofs.Comparing.{same-self, compared-same}
+use Rattle.replay.proofs.Fixing.{over-fit, fit-over}
+
+-- the notes of a schedule end once
+pub schedule-ended : (p : Plan) → IsWithinLimits p → (dem : ℕ → ℕ → ℕ) (ask : List Tick → Frac) (ticks : List Tick) → EndsOnce is_end (notes_of p dem ask ticks)
+schedule-ended p lim dem ask = notes-end-once p lim dem ask is_end (λ ticks run idle. refl) others
+  where
+    others : (n : Note) → IsBeforeEnd p dem n → is_end n ≡ false
+    others (Done q i k used) h = refl
+    others (End ticks run idle) h = absurd h
+    others (Release tick i k) h = refl
+    others (Speed tick f num den) h = refl
+    others (Run from to i k units energy) h = refl
+    others (Idle from to units energy) h = refl
+
+-- notes that are the same by their test are equal
+pub same-is : (m n : Note) → same_note m n ≡ true → m ≡ n
+same-is (Release t i k) (Release t2 i2 k2) e = grind (arith, e)
+same-is (Release t i k) (Speed t2 f2 num2 den2) e = absurd (true≢false (sym e))
+same-is (Release t i k) (Run from2 to2 i2 k2 units2 energy2) e = absurd (true≢false (sym e))
+same-is (Release t i k) (Idle from2 to2 units2 energy2) e = absurd (true≢false (sym e))
+same-is (Release t i k) (Done q2 i2 k2 used2) e = absurd (true≢false (sym e))
+same-is (Release t i k) (End t2 run2 idle2) e = absurd (true≢false (sym e))
+same-is (Speed t f num den) (Release t2 i2 k2) e = absurd (true≢false (sym e))
+same-is (Speed t f num den) (Speed t2 f2 num2 den2) e = grind (arith, e)
+same-is (Speed t f num den) (Run from2 to2 i2 k2 units2 energy2) e = absurd (true≢false (sym e))
+same-is (Speed t f num den) (Idle from2 to2 units2 energy2) e = absurd (true≢false (sym e))
+same-is (Speed t f num den) (Done q2 i2 k2 used2) e = absurd (true≢false (sym e))
+same-is (Speed t f num den) (End t2 run2 idle2) e = absurd (true≢false (sym e))
+same-is (Run from to i k units energy) (Release t2 i2 k2) e = absurd (true≢false (sym e))
+same-is (Run from to i k units energy) (Speed t2 f2 num2 den2) e = absurd (true≢false (sym e))
+same-is (Run from to i k units energy) (Run from2 to2 i2 k2 units2 energy2) e = grind (arith, e)
+same-is (Run from to i k units energy) (Idle from2 to2 units2 energy2) e = absurd (true≢false (sym e))
+same-is (Run from to i k units energy) (Done q2 i2 k2 used2) e = absurd (true≢false (sym e))
+same-is (Run from to i k units energy) (End t2 run2 idle2) e = absurd (true≢false (sym e))
+same-is (Idle from to units energy) (Release t2 i2 k2) e = absurd (true≢false (sym e))
+same-is (Idle from to units energy) (Speed t2 f2 num2 den2) e = absurd (true≢false (sym e))
+same-is (Idle from to units energy) (Run from2 to2 i2 k2 units2 energy2) e = absurd (true≢false (sym e))
+same-is (Idle from to units energy) (Idle from2 to2 units2 energy2) e = grind (arith, e)
+same-is (Idle from to units energy) (Done q2 i2 k2 used2) e = absurd (true≢false (sym e))
+same-is (Idle from to units energy) (End t2 run2 idle2) e = absurd (true≢false (sym e))
+same-is (Done q i k used) (Release t2 i2 k2) e = absurd (true≢false (sym e))
+same-is (Done q i k used) (Speed t2 f2 num2 den2) e = absurd (true≢false (sym e))
+same-is (Done q i k used) (Run from2 to2 i2 k2 units2 energy2) e = absurd (true≢false (sym e))
+same-is (Done q i k used) (Idle from2 to2 units2 energy2) e = absurd (true≢false (sym e))
+same-is (Done q i k used) (Done q2 i2 k2 used2) e = grind (arith, e)
+same-is (Done q i k used) (End t2 run2 idle2) e = absurd (true≢false (sym e))
+same-is (End t run idle) (Release t2 i2 k2) e = absurd (true≢false (sym e))
+same-is (End t run idle) (Speed t2 f2 num2 den2) e = absurd (true≢false (sym e))
+same-is (End t run idle) (Run from2 to2 i2 k2 units2 energy2) e = absurd (true≢false (sym e))
+same-is (End t run idle) (Idle from2 to2 units2 energy2) e = absurd (true≢false (sym e))
+same-is (End t run idle) (Done q2 i2 k2 used2) e = absurd (true≢false (sym e))
+same-is (End t run idle) (End t2 run2 idle2) e = grind (arith, e)
+
+-- notes that end once and differ nowhere are equal
+same-rest : (at : ℕ) (w f : Note) (wanted found : List Note) → f ≡ w → EndsOnce is_end (w ∷ wanted) → EndsOnce is_end (f ∷ found)
+    → (EndsOnce is_end wanted → EndsOnce is_end found → wanted ≡ found) → wanted ≡ found
+same-rest at w f [] [] is once ends next = refl
+same-rest at w f [] (g ∷ found) is once ends next = absurd (true≢false (sym once ∙ (ap is_end (sym is) ∙ ends.0)))
+same-rest at w f (v ∷ wanted) [] is once ends next = absurd (true≢false (sym ends ∙ (ap is_end is ∙ once.0)))
+same-rest at w f (v ∷ wanted) (g ∷ found) is once ends next = next once.1 ends.1
+
+same-by : (at : ℕ) (w f : Note) (wanted found : List Note) (b : Bool) → same_note f w ≡ b → EndsOnce is_end (w ∷ wanted) → EndsOnce is_end (f ∷ found)
+    → (first_unequal (at + 1) wanted found ≡ None → EndsOnce is_end wanted → EndsOnce is_end found → wanted ≡ found)
+    → (if b then first_unequal (at + 1) wanted found else Some (at, w, f)) ≡ None → w ∷ wanted ≡ f ∷ found
+same-by at w f wanted found true is once ends next h =
+    let note : f ≡ w = same-is f w is in
+    ap₂ (λ (n : Note) (l : List Note). n ∷ l) (sym note) (same-rest at w f wanted found note once ends (next h))
+same-by at w f wanted found false is once ends next h = absurd cc
+
+pub nowhere-same : (at : ℕ) (wanted found : List Note) → EndsOnce is_end wanted → EndsOnce is_end found → first_unequal at wanted found ≡ None → wanted ≡ found
+nowhere-same at [] found once ends e = absurd once
+nowhere-same at (w ∷ wanted) [] once ends e = absurd ends
+nowhere-same at (w ∷ wanted) (f ∷ found) once ends e =
+    same-by at w f wanted found (same_note f w) refl once ends (λ none first second. nowhere-same (at + 1) wanted found first second none) e
+
+-- the place where they first differ is that of the first two unequal ones
+abbrev FirstFrom : ℕ → List Note → List Note → ℕ → Note → Note → Type 0
+FirstFrom at wanted found place w f = (more : ℕ) × (place ≡ at + more) × FirstUnequal wanted found more w f
+
+first-later : (at : ℕ) (v g : Note) (wanted found : List Note) (place : ℕ) (w f : Note) → g ≡ v → FirstFrom (at + 1) wanted found place w f → FirstFrom at (v ∷ wanted) (g ∷ found) place w f
+first-later at v g wanted found place w f is h = (
+  h.0 + 1,
+  omega (arith, h.1),
+  record {
+    before = v ∷ h.2.before;
+    more = h.2.more;
+    others = h.2.others;
+    place_is = omega (arith, h.2.place_is);
+    wanted_are = ap (λ (l : List Note). v ∷ l) h.2.wanted_are;
+    found_are = ap₂ (λ (n : Note) (l : List Note). n ∷ l) is h.2.found_are;
+    unequal = h.2.unequal;
+  },
+)
+
+first-by : (at : ℕ) (v g : Note) (wanted found : List Note) (place : ℕ) (w f : Note) (b : Bool) → same_note g v ≡ b
+    → (first_unequal (at + 1) wanted found ≡ Some (place, w, f) → FirstFrom (at + 1) wanted found place w f)
+    → (if b then first_unequal (at + 1) wanted found else Some (at, v, g)) ≡ Some (place, w, f) → FirstFrom at (v ∷ wanted) (g ∷ found) place w f
+first-by at v g wanted found place w f true is next h = first-later at v g wanted found place w f (same-is g v is) (next h)
+first-by at v g wanted found place w f false is next h =
+    let three : (at, v, g) ≡ (place, w, f) = ap (λ (o : Option (ℕ × Note × Note)). unwrap_or o (at, v, g)) h in
+    let place_is : place ≡ at + 0 = sym (ap (λ (x : ℕ × Note × Note). x.0) three) ∙ omega arith in
+    let wanted_is : v ≡ w = ap (λ (x : ℕ × Note × Note). x.1) three in
+    let found_is : g ≡ f = ap (λ (x : ℕ × Note × Note). x.2) three in (
+      0,
+      place_is,
+      record {
+        before = [];
+        more = wanted;
+        others = found;
+        place_is = refl;
+        wanted_are = ap (λ (n : Note). n ∷ wanted) wanted_is;
+        found_are = ap (λ (n : Note). n ∷ found) found_is;
+        unequal = λ same. true≢false (sym (same-self v) ∙ (ap (λ (n : Note). same_note n v) (wanted_is ∙ (same ∙ sym found_is)) ∙ is));
+      },
+    )
+
+pub somewhere-first : (at : ℕ) (wanted found : List Note) (place : ℕ) (w f : Note) → first_unequal at wanted found ≡ Some (place, w, f) → FirstFrom at wanted found place w f
+somewhere-first at [] found place w f e = absurd cc
+somewhere-first at (v ∷ wanted) [] place w f e = absurd cc
+somewhere-first at (v ∷ wanted) (g ∷ found) place w f e =
+    first-by at v g wanted found place w f (same_note g v) refl (somewhere-first (at + 1) wanted found place w f) e
+
+-- the first end over its worst case is no difference
+over-other : (p : Plan) (notes : List Note) (line : ℕ) (w f : Note) → first_over p notes ≡ Some (fault.Differs line w f) → ⊥
+over-other p [] line w f e = cc
+over-other p (Release tick i k ∷ notes) line w f e = over-other p notes line w f e
+over-other p (Speed tick s num den ∷ notes) line w f e = over-other p notes line w f e
+over-other p (Run from to i k units energy ∷ notes) line w f e = over-other p notes line w f e
+over-other p (Idle from to units energy ∷ notes) line w f e = over-other p notes line w f e
+over-other p (End ticks run idle ∷ notes) line w f e = over-other p notes line w f e
+over-other p (Done q i k used ∷ notes) line w f e = go (nat_lt (worst p i) used) (over-other p notes line w f) e
+  where
+    go : (b : Bool) → (first_over p notes ≡ Some (fault.Differs line w f) → ⊥)
+        → option_or (if b then Some (fault.OverWorst i k used (worst p i)) else None) (first_over p notes) ≡ Some (fault.Differs line w f) → ⊥
+    go true rest e = cc
+    go false rest e = rest e
+
+-- and neither is the refusal of too many jobs
+many-other : (p : Plan) (ticks line : ℕ) (w f : Note) → too_many p ticks ≡ Some (fault.Differs line w f) → ⊥
+many-other p ticks line w f = go (nat_lt MOST_JOBS (released_jobs p ticks))
+  where
+    go : (b : Bool) → (if b then Some (fault.TooManyJobs (released_jobs p ticks)) else None) ≡ Some (fault.Differs line w f) → ⊥
+    go true e = cc
+    go false e = cc
+
+-- few jobs are not too many
+pub few-jobs : (p : Plan) (ticks : ℕ) → released_jobs p ticks ≤ MOST_JOBS → too_many p ticks ≡ None
+few-jobs p ticks few =
+    let low : nat_lt MOST_JOBS (released_jobs p ticks) ≡ false = grind (arith, nat_tests, few) in
+    rw low refl
+
+-- a refusal as a result
+abbrev result_of : ReplayFault → Result Totals ReplayFault
+result_of why = Err why
+
+-- a difference is no want of memory
+other-fault : (why : ReplayFault) (line : ℕ) (w f : Note) → IsErrOf (result_of why) (fault.Differs line w f) → why ≢ fault.NoMemory
+other-fault why line w f is memory = cc
+
+module _ (p : Plan) (lim : IsWithinLimits p) (asked : Asking) (t : TraceOf) (ends : EndsOnce is_end t.notes) where
+  once : EndsOnce is_end (own_notes p asked t)
+  once = let own : ℕ → ℕ → ℕ = demand_of p (fixed_of p t.notes) in schedule-ended p lim own (asked own) (ticks_by p asked own t.plan.ticks)
+
+  -- the trace is replayed where no end is over, the jobs are few and its notes are those of its own list
+  pub record Passes : Type 0 where
+    pub none_over : first_over p t.notes ≡ None
+    pub few : too_many p t.plan.ticks ≡ None
+    pub same : t.notes ≡ own_notes p asked t
+
+  pub passes-replayed : Passes → replay_of p asked t ≡ Ok (totals_of t.notes)
+  passes-replayed h =
+      rw (h.none_over, h.few)
+      (compared-same (count p) t (own_notes p asked t) h.same ∙ ap (λ (l : List Note). Ok (totals_of l)) (sym h.same))
+
+  replayed-by : (o m : Option ReplayFault) (d : Option (ℕ × Note × Note)) (totals : Totals) → first_over p t.notes ≡ o → too_many p t.plan.ticks ≡ m
+      → first_unequal 0 (own_notes p asked t) t.notes ≡ d → unless o (unless m (unless_unequal (count p) t d)) ≡ Ok totals → Passes × (totals ≡ totals_of t.notes)
+  replayed-by (Some why) m d totals e f g h = absurd cc
+  replayed-by None (Some why) d totals e f g h = absurd cc
+  replayed-by None None (Some x) totals e f g h = absurd cc
+  replayed-by None None None totals e f g h =
+      (record { none_over = e; few = f; same = sym (nowhere-same 0 (own_notes p asked t) t.notes once ends g) }, cc)
+
+  -- a trace that is replayed passes, with its totals
+  pub replayed-passes : (totals : Totals) → replay_of p asked t ≡ Ok totals → Passes × (totals ≡ totals_of t.notes)
+  replayed-passes totals h = replayed-by (first_over p t.notes) (too_many p t.plan.ticks) (first_unequal 0 (own_notes p asked t) t.notes) totals refl refl refl h
+
+  differs-by : (o m : Option ReplayFault) (d : Option (ℕ × Note × Note)) (line : ℕ) (w f : Note) → first_over p t.notes ≡ o → too_many p t.plan.ticks ≡ m
+      → first_unequal 0 (own_notes p asked t) t.notes ≡ d → unless o (unless m (unless_unequal (count p) t d)) ≡ Err (fault.Differs line w f)
+      → IsFirstDifference p asked t line w f
+  differs-by (Some why) m d line w f e g h r = absurd (over-other p t.notes line w f (e ∙ cc))
+  differs-by None (Some why) d line w f e g h r = absurd (many-other p t.plan.ticks line w f (g ∙ cc))
+  differs-by None None None line w f e g h r = absurd cc
+  differs-by None None (Some (place, wanted, found)) line w f e g h r =
+      let want_is : wanted ≡ w = cc in
+      let found_is : found ≡ f = cc in
+      let line_is : line_of t.version (count p) place found ≡ line = cc in
+      let first = somewhere-first 0 (own_notes p asked t) t.notes place wanted found h in
+      let more : first.0 ≡ place = omega (arith, first.1) in (
+        place,
+        sym line_is ∙ ap (line_of t.version (count p) place) found_is,
+        subst (λ (n : ℕ). FirstUnequal (own_notes p asked t) t.notes n w f) more
+            (subst (λ (n : Note). FirstUnequal (own_notes p asked t) t.notes first.0 w n) found_is
+            (subst (λ (n : Note). FirstUnequal (own_notes p asked t) t.notes first.0 n found) want_is first.2)),
+      )
+
+  -- a difference is that of the first two unequal notes
+  pub differs-first : (line : ℕ) (w f : Note) → replay_of p asked t ≡ Err (fault.Differs line w f) → IsFirstDifference p asked t line w f
+  differs-first line w f h = differs-by (first_over p t.notes) (too_many p t.plan.ticks) (first_unequal 0 (own_notes p asked t) t.notes) line w f refl refl refl h
+
+  module _ (law : HasOwnList p asked) where
+    own-passes : AreOwn p asked t.plan.ticks t.notes → released_jobs p t.plan.ticks ≤ MOST_JOBS → Passes
+    own-passes own few = record {
+      none_over = fit-over p t.notes own.fit;
+      few = few-jobs p t.plan.ticks few;
+      same = own.notes_are;
+    }
+
+    -- notes of the schedule for some list are those for their own list
+    pub some-replayed : (rows : List DemandRow) → AreNotesFor p asked t.plan.ticks t.notes rows → released_jobs p t.plan.ticks ≤ MOST_JOBS
+        → replay_of p asked t ≡ Ok (totals_of t.notes)
+    some-replayed rows h few = passes-replayed (own-passes (law.of_some t.plan.ticks t.notes rows h) few)
+
+    passes-own : Passes → AreOwn p asked t.plan.ticks t.notes
+    passes-own h = record { fit = over-fit p t.notes h.none_over; notes_are = h.same }
+
+    -- a trace that is replayed shows its list
+    pub is-replayed : (totals : Totals) → replay_of p asked t ≡ Ok totals → IsReplayed p asked t totals
+    is-replayed totals h =
+        let passes = replayed-passes totals h in
+        let own = passes-own passes.0 in
+        record {
+          totals_are = passes.1;
+          notes = law.of_own t.plan.ticks t.notes own;
+          list = law.list t.plan.ticks t.notes own;
+        }
+
+    -- the same of what a call answers
+    pub ok-replayed : (r : Result Totals ReplayFault) → IsUnlessMemory fault.NoMemory (λ (totals : Totals). totals) r (replay_of p asked t)
+        → IfOk r (λ totals. IsReplayed p asked t totals)
+    ok-replayed (Ok totals) h = is-replayed totals h
+    ok-replayed (Err why) h = tt
+
+  pub err-differs : (r : Result Totals ReplayFault) → IsUnlessMemory fault.NoMemory (λ (totals : Totals). totals) r (replay_of p asked t)
+      → (line : ℕ) (w f : Note) → IsErrOf r (fault.Differs line w f) → IsFirstDifference p asked t line w f
+  err-differs (Ok totals) h line w f is = absurd cc
+  err-differs (Err why) h line w f is = differs-first line w f (h (other-fault why line w f is) ∙ is)

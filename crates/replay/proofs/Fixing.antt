@@ -1,0 +1,140 @@
+-- The demands that notes fix, note by note.
+use Rattle.std.proofs.Common.{◌≡◌, ◌+◌, ◌-◌, ◌*◌, ◌<◌, ◌≤◌, ℕ, zero, suc, Bool, true, false, ◌&&◌, List, [], ◌∷◌, length, drop, get_or, refl, if◌then◌else◌, ap, ◌∙◌, sym, subst, true≢false, arith, add-one, nat_eq}
+use Rattle.std.specs.Prelude.{nat_lt, Option, Some, None, is_some, unwrap_or, option_map}
+use Rattle.std.specs.Option.{option_or}
+use Rattle.std.specs.List.{AllByRecursion}
+use Rattle.std.proofs.Math.Seq.{drop-cons}
+use Rattle.std.proofs.lemmas.Bool.Decides.{nat_tests}
+use Rattle.dvs_base.specs.declared.note.Note.{Note}
+use Rattle.dvs_base.specs.declared.note.Note.TheVariants.{Release, Speed, Run, Idle, Done, End}
+use Rattle.dvs_base.specs.declared.note.Pos.{Pos}
+use Rattle.task_model.specs.DemandRows.{DemandRow, named, demand_row}
+use Rattle.demand_list.specs.Demands.{DemandsOf, AddsRow}
+use Rattle.sched_model.specs.Plan.{Plan, worst}
+use Rattle.sched_model.specs.Demands.{demand_of}
+use Rattle.replay_laws.specs.FixedDemands.{fixed_before, fixed_of}
+use Rattle.replay_laws.specs.OwnList.{IsFit}
+use Rattle.replay_laws.proofs.FixedRows.{fixed-end, fixed-other}
+use Rattle.replay.specs.Replays.{first_over, Fixes}
+use Rattle.replay.specs.declared.fault.ReplayFault.TheVariants as fault
+
+-- what is left from a place on begins with what stands there
+pub drop-next : {A : Type 0} (l : List A) (i : ℕ) (x : A) → i < length l → drop i l ≡ get_or l i x ∷ drop (i + 1) l
+drop-next l i x lt = rw add-one (drop-cons l i x lt)
+
+or-none : {A : Type 0} (o : Option A) → option_or o None ≡ o
+or-none None = refl
+or-none (Some x) = refl
+
+or-assoc : {A : Type 0} (o p q : Option A) → option_or (option_or o p) q ≡ option_or o (option_or p q)
+or-assoc None p q = refl
+or-assoc (Some x) p q = refl
+
+-- where no end is over its worst case, each is fit
+pub over-fit : (p : Plan) (notes : List Note) → first_over p notes ≡ None → AllByRecursion (IsFit p) notes
+over-fit p [] none = tt
+over-fit p (Release tick i k ∷ notes) none = (tt, over-fit p notes none)
+over-fit p (Speed tick f num den ∷ notes) none = (tt, over-fit p notes none)
+over-fit p (Run from to i k units energy ∷ notes) none = (tt, over-fit p notes none)
+over-fit p (Idle from to units energy ∷ notes) none = (tt, over-fit p notes none)
+over-fit p (End ticks run idle ∷ notes) none = (tt, over-fit p notes none)
+over-fit p (Done q i k used ∷ notes) none = go (nat_lt (worst p i) used) refl none (over-fit p notes)
+  where
+    go : (b : Bool) → nat_lt (worst p i) used ≡ b → option_or (if b then Some (fault.OverWorst i k used (worst p i)) else None) (first_over p notes) ≡ None
+        → (first_over p notes ≡ None → AllByRecursion (IsFit p) notes) → (used ≤ worst p i) × AllByRecursion (IsFit p) notes
+    go true over e rest = absurd cc
+    go false low e rest = (grind (arith, nat_tests, low), rest e)
+
+-- and the other way round
+pub fit-over : (p : Plan) (notes : List Note) → AllByRecursion (IsFit p) notes → first_over p notes ≡ None
+fit-over p [] fit = refl
+fit-over p (Release tick i k ∷ notes) fit = fit-over p notes fit.1
+fit-over p (Speed tick f num den ∷ notes) fit = fit-over p notes fit.1
+fit-over p (Run from to i k units energy ∷ notes) fit = fit-over p notes fit.1
+fit-over p (Idle from to units energy ∷ notes) fit = fit-over p notes fit.1
+fit-over p (End ticks run idle ∷ notes) fit = fit-over p notes fit.1
+fit-over p (Done q i k used ∷ notes) fit =
+    let low : nat_lt (worst p i) used ≡ false = grind (arith, nat_tests, fit.0) in
+    rw low (fit-over p notes fit.1)
+
+-- the end of a job fixes its row, unless it has one
+pub fixes-end : (p : Plan) (q : Pos) (i k used : ℕ) (old new : DemandsOf) → 1 ≤ k
+    → AddsRow old new (demand_row i k (used - 2 * p.machine.charge)) → Fixes (fixed_before p (Done q i k used) []) old new
+fixes-end p q i k used old new some h j l = go (nat_eq i j && nat_eq k l) refl
+  where
+    go : (b : Bool) → (nat_eq i j && nat_eq k l) ≡ b → named new.rows j l ≡ option_or (named old.rows j l) (named (fixed_before p (Done q i k used) []) j l)
+    go true e =
+        let task : i ≡ j = grind (arith, nat_tests, e) in
+        let job : k ≡ l = grind (arith, nat_tests, e) in
+        let own : named new.rows i k ≡ option_or (named old.rows i k) (named (fixed_before p (Done q i k used) []) i k) =
+        rw (h.row, h.free, fixed-end p q i k used some) refl in
+        subst (λ (m : ℕ). named new.rows m l ≡ option_or (named old.rows m l) (named (fixed_before p (Done q i k used) []) m l)) task
+        (subst (λ (m : ℕ). named new.rows i m ≡ option_or (named old.rows i m) (named (fixed_before p (Done q i k used) []) i m)) job own)
+    go false e =
+        let other : (j ≡ i) → (l ≡ k) → ⊥ = λ t u. true≢false (grind (arith, nat_tests, t, u, e)) in
+        rw (h.others j l other, fixed-other p q i k used j l other, or-none (named old.rows j l)) refl
+
+-- a job that has a row keeps it
+pub fixes-none : (p : Plan) (q : Pos) (i k used : ℕ) (old : DemandsOf) → is_some (named old.rows i k) ≡ true
+    → Fixes (fixed_before p (Done q i k used) []) old old
+fixes-none p q i k used old has j l = go (nat_eq i j && nat_eq k l) refl
+  where
+    keeps : (o more : Option ℕ) → is_some o ≡ true → o ≡ option_or o more
+    keeps None more e = absurd (true≢false (sym e))
+    keeps (Some u) more e = refl
+
+    go : (b : Bool) → (nat_eq i j && nat_eq k l) ≡ b → named old.rows j l ≡ option_or (named old.rows j l) (named (fixed_before p (Done q i k used) []) j l)
+    go true e =
+        let task : i ≡ j = grind (arith, nat_tests, e) in
+        let job : k ≡ l = grind (arith, nat_tests, e) in
+        keeps (named old.rows j l) _ (subst (λ (m : ℕ). is_some (named old.rows j m) ≡ true) job (subst (λ (m : ℕ). is_some (named old.rows m k) ≡ true) task has))
+    go false e =
+        let other : (j ≡ i) → (l ≡ k) → ⊥ = λ t u. true≢false (grind (arith, nat_tests, t, u, e)) in
+        rw (fixed-other p q i k used j l other) (sym (or-none (named old.rows j l)))
+
+-- nothing is fixed
+pub fixes-nothing : (old : DemandsOf) → Fixes [] old old
+fixes-nothing old i k = sym (or-none (named old.rows i k))
+
+-- a note fixes its row before those of the notes after it
+fixed-first : (p : Plan) (n : Note) (rows : List DemandRow) (i k : ℕ) → named (fixed_before p n rows) i k ≡ option_or (named (fixed_before p n []) i k) (named rows i k)
+fixed-first p (Release tick j l) rows i k = refl
+fixed-first p (Speed tick f num den) rows i k = refl
+fixed-first p (Run from to j l units energy) rows i k = refl
+fixed-first p (Idle from to units energy) rows i k = refl
+fixed-first p (End ticks run idle) rows i k = refl
+fixed-first p (Done q j zero used) rows i k = refl
+fixed-first p (Done q j (suc l) used) rows i k = go (nat_eq j i && nat_eq (suc l) k)
+  where
+    go : (b : Bool) → (if b then Some (used - 2 * p.machine.charge) else named rows i k) ≡ option_or (if b then Some (used - 2 * p.machine.charge) else None) (named rows i k)
+    go true = refl
+    go false = refl
+
+-- the rows of a list, and those that the notes from a place on fix, are those that all the notes fix
+abbrev pub AreFixedFrom : Plan → List Note → ℕ → DemandsOf → Type 0
+AreFixedFrom p notes at d =
+    (i k : ℕ) → option_or (named d.rows i k) (named (fixed_of p (drop at notes)) i k) ≡ named (fixed_of p notes) i k
+
+-- a list without rows, and those that all the notes fix
+pub fixed-none : (p : Plan) (notes : List Note) (d : DemandsOf) → d.rows ≡ [] → AreFixedFrom p notes 0 d
+fixed-none p notes d none i k = ap (λ (rows : List DemandRow). option_or (named rows i k) (named (fixed_of p notes) i k)) none
+
+pub fixed-next : (p : Plan) (notes : List Note) (at : ℕ) (n : Note) (old new : DemandsOf) → drop at notes ≡ n ∷ drop (at + 1) notes
+    → AreFixedFrom p notes at old → Fixes (fixed_before p n []) old new → AreFixedFrom p notes (at + 1) new
+fixed-next p notes at n old new is before h i k =
+    ap (λ (o : Option ℕ). option_or o (named (fixed_of p (drop (at + 1) notes)) i k)) (h i k)
+    ∙ (or-assoc (named old.rows i k) (named (fixed_before p n []) i k) (named (fixed_of p (drop (at + 1) notes)) i k)
+    ∙ (ap (option_or (named old.rows i k)) (sym (fixed-first p n (fixed_of p (drop (at + 1) notes)) i k) ∙ ap (λ (l : List Note). named (fixed_of p l) i k) (sym is))
+    ∙ before i k))
+
+-- the same rows by each job are the same demands
+same-demand : (p : Plan) (rows others : List DemandRow) → ((i k : ℕ) → named rows i k ≡ named others i k) → (i k : ℕ) → demand_of p rows i k ≡ demand_of p others i k
+same-demand p rows others same i zero = refl
+same-demand p rows others same i (suc k) = ap (λ (o : Option ℕ). unwrap_or (option_map (λ u. u + 2 * p.machine.charge) o) (worst p i)) (same i (suc k))
+
+pub fixed-whole : (p : Plan) (notes : List Note) (at : ℕ) (d : DemandsOf) → drop at notes ≡ [] → AreFixedFrom p notes at d
+    → demand_of p d.rows ≡ demand_of p (fixed_of p notes)
+fixed-whole p notes at d none h =
+    let same : (i k : ℕ) → demand_of p d.rows i k ≡ demand_of p (fixed_of p notes) i k =
+    same-demand p d.rows (fixed_of p notes) (λ i k. sym (or-none (named d.rows i k)) ∙ (ap (λ (l : List Note). option_or (named d.rows i k) (named (fixed_of p l) i k)) (sym none) ∙ h i k)) in
+    λ n i k. same i k n

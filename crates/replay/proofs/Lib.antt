@@ -1,0 +1,5 @@
+pub mod Comparing
+pub mod Fixing
+pub mod Exact
+pub mod Texts
+pub mod Running

@@ -1,0 +1,34 @@
+-- Traces that were read, as replays ask for them, and the text of a run as that of a trace.
+use Rattle.std.proofs.Common.{◌≡◌, ℕ, List, [], ◌∷◌, refl}
+use Rattle.std.specs.List.{AllByRecursion}
+use Rattle.dvs_base.specs.declared.note.Note.{Note}
+use Rattle.dvs_base.specs.declared.note.Note.TheVariants.{Release, Speed, Run, Idle, Done, End}
+use Rattle.dvs_base.specs.declared.kind.GovernorKind.{GovernorKind}
+use Rattle.dvs_base.specs.declared.kind.Version.TheVariants.{One}
+use Rattle.sched_model.specs.Plan.{Plan, names}
+use Rattle.sched_model.specs.Text.{run_notes, run_text}
+use Rattle.trace_reader.specs.Traces.{TraceOf, IsNoteOf, text_of}
+use Rattle.replay.specs.Replays.{NamesTask}
+
+-- a note of a trace for so many tasks names one of them
+pub names-each : (c : ℕ) (notes : List Note) → AllByRecursion (IsNoteOf c) notes → AllByRecursion (NamesTask c) notes
+names-each c [] h = tt
+names-each c (Release tick i k ∷ notes) h = (h.0.1, names-each c notes h.1)
+names-each c (Speed tick f num den ∷ notes) h = (tt, names-each c notes h.1)
+names-each c (Run from to i k units energy ∷ notes) h = (h.0.2, names-each c notes h.1)
+names-each c (Idle from to units energy ∷ notes) h = (tt, names-each c notes h.1)
+names-each c (Done q i k used ∷ notes) h = (h.0.1, names-each c notes h.1)
+names-each c (End ticks run idle ∷ notes) h = (tt, names-each c notes h.1)
+
+-- the trace of a run, in version 1
+abbrev pub run_trace : Plan → GovernorKind → (ℕ → ℕ → ℕ) → ℕ → TraceOf
+run_trace p kind dem ticks = record {
+  version = One;
+  plan = record { scheduler = p.scheduler; governor = kind; ticks = ticks };
+  notes = run_notes p kind dem ticks;
+}
+
+-- its text is that of the run
+pub text-of-run : (p : Plan) (kind : GovernorKind) (dem : ℕ → ℕ → ℕ) (ticks : ℕ) (lines : List (List ℕ))
+    → text_of (names p) lines (run_trace p kind dem ticks) ≡ run_text p kind dem ticks
+text-of-run p kind dem ticks lines = refl

@@ -1,0 +1,68 @@
+-- Two lists of notes compared, and the line of the first unequal note.
+use Rattle.std.specs.Prelude.{◌≡◌, ◌≢◌, ◌++◌, length, ℕ, ◌+◌, ◌*◌, ◌==◌, ◌&&◌, Bool, false, List, [], ◌∷◌, Option, Some, None, Result, Ok, Err, if◌then◌else◌}
+use Rattle.dvs_base.specs.declared.note.Note.{Note}
+use Rattle.dvs_base.specs.declared.note.Note.TheVariants.{Release, Speed, Run, Idle, Done, End}
+use Rattle.dvs_base.specs.declared.note.Pos.{Pos}
+use Rattle.dvs_base.specs.declared.note.Totals.{Totals}
+use Rattle.dvs_base.specs.declared.kind.Version.{Version}
+use Rattle.dvs_base.specs.declared.kind.Version.TheVariants.{One, Two}
+use Rattle.sched_model.specs.Totals.{totals_of}
+use Rattle.trace_reader.specs.Traces.{TraceOf}
+use Rattle.replay.specs.declared.fault.ReplayFault.{ReplayFault}
+use Rattle.replay.specs.declared.fault.ReplayFault.TheVariants as fault
+
+-- one position
+abbrev pub same_place : Pos → Pos → Bool
+same_place q r = q.tick == r.tick && q.offset == r.offset
+
+-- the notes are one
+abbrev pub same_note : Note → Note → Bool
+same_note (Release t i k) (Release u j l) = t == u && i == j && k == l
+same_note (Speed t f num den) (Speed u g n d) = t == u && f == g && num == n && den == d
+same_note (Run from to i k units energy) (Run start end j l us en) =
+    same_place from start && same_place to end && i == j && k == l && units == us && energy == en
+same_note (Idle from to units energy) (Idle start end us en) =
+    same_place from start && same_place to end && units == us && energy == en
+same_note (Done q i k used) (Done r j l us) = same_place q r && i == j && k == l && used == us
+same_note (End t run idle) (End u running idling) = t == u && run == running && idle == idling
+same_note _ _ = false
+
+-- the note isn't the first of these
+abbrev pub IsOther : Note → List Note → Type 0
+IsOther n [] = Unit {0}
+IsOther n (m ∷ notes) = same_note m n ≡ false
+
+-- where two lists of notes first differ: the place, counted from `at`, the note wanted there, and the one that is found
+abbrev pub first_unequal : ℕ → List Note → List Note → Option (ℕ × Note × Note)
+first_unequal at (w ∷ wanted) (f ∷ found) = if same_note f w then first_unequal (at + 1) wanted found else Some (at, w, f)
+first_unequal at _ _ = None
+
+-- the line of a note of a trace for so many tasks, by the note's place from 0: two lines stand before the notes; in
+-- version 2 also the lines of the tasks, and before the end of the run those of their energies
+abbrev pub line_of : Version → ℕ → ℕ → Note → ℕ
+line_of One tasks place n = place + 3
+line_of Two tasks place (End ticks run idle) = place + 3 + 2 * tasks
+line_of Two tasks place n = place + 3 + tasks
+
+-- the refusal at this place of a trace for so many tasks
+abbrev pub differs : ℕ → TraceOf → ℕ → Note → Note → ReplayFault
+differs tasks t place wanted found = fault.Differs (line_of t.version tasks place found) wanted found
+
+-- the totals of a trace for so many tasks, where its notes don't differ from those wanted
+abbrev pub unless_unequal : ℕ → TraceOf → Option (ℕ × Note × Note) → Result Totals ReplayFault
+unless_unequal tasks t None = Ok (totals_of t.notes)
+unless_unequal tasks t (Some (place, wanted, found)) = Err (differs tasks t place wanted found)
+
+-- the trace compared with the notes wanted
+abbrev pub compared : ℕ → TraceOf → List Note → Result Totals ReplayFault
+compared tasks t wanted = unless_unequal tasks t (first_unequal 0 wanted t.notes)
+
+-- after equal notes, as many as the place says, these two stand in the lists, and they are unequal
+pub record FirstUnequal (wanted found : List Note) (place : ℕ) (w f : Note) : Type 0 where
+  pub before : List Note
+  pub more : List Note
+  pub others : List Note
+  pub place_is : length before ≡ place
+  pub wanted_are : wanted ≡ before ++ w ∷ more
+  pub found_are : found ≡ before ++ f ∷ others
+  pub unequal : w ≢ f

@@ -1,0 +1,148 @@
+// Whether the notes of a trace are those of a schedule.
+ghost use Rattle.std.specs.Prelude.{◌≡◌, ◌≤◌, ◌<◌, ◌-◌, ◌^◌, ℕ, List, Ok, IfOk, IsErrOf, ◌∷◌, length};
+ghost use Rattle.dvs_base.specs.declared.note.Note.{Note as NoteOf};
+ghost use Rattle.std.specs.List.{AllByRecursion};
+ghost use Rattle.dvs_base.specs.Checks.{IsUnlessMemory};
+ghost use Rattle.dvs_base.specs.declared.limits.TheConstants.{MOST_JOBS, MOST_TICKS};
+ghost use Rattle.task_model.specs.DemandRows.{DemandRow};
+ghost use Rattle.sched_model.specs.Plan.{count};
+ghost use Rattle.sched_model.specs.Jobs.{released_jobs};
+ghost use Rattle.sched_model.specs.States.{opening};
+ghost use Rattle.sched_model.specs.Totals.{totals_of};
+ghost use Rattle.governor.specs.Schedule.{ask_of};
+ghost use Rattle.event_kernel.specs.Runs.{notes_of_run};
+ghost use Rattle.trace_reader.specs.Traces.{IsEnded};
+ghost use Rattle.replay_laws.specs.OwnList.{AreNotesFor};
+ghost use Rattle.replay.specs.Comparing.{line_of, differs, compared};
+ghost use Rattle.replay.specs.Replays.{NamesTask, replay_of, IsReplayed, IsFirstDifference};
+
+use crate::ReplayFault;
+use crate::compared::Compared;
+use crate::ends::{first_over, fixed_demands};
+use dvs_base::{Note, Totals, Version};
+use event_kernel::{Kernel, Stopped};
+use governor::Governor;
+use replay_laws::own_list;
+use sched_model::Admitted;
+use std::alloc::Global;
+use trace_reader::Trace;
+
+// The line of a note of a trace, by its place from 0.
+fn line_of(version: Version, tasks: u32, place: u64, note: &Note) -> u64
+    requires tasks { tasks ≤ 64 }
+    requires place { place < 2 ^ 63 }
+    ensures { result ≡ line_of version tasks place note.now }
+{
+    match (version, note) {
+        (Version::One, _) => place + 3,
+        (Version::Two, Note::End { .. }) => place + 3 + 2 * tasks as u64,
+        (Version::Two, _) => place + 3 + tasks as u64,
+    }
+}
+
+// The refusal of a trace at the first of these last notes, in whose place another note is wanted.
+fn differs(tasks: u32, trace: &Trace, rest: &[Note], wanted: Note) -> ReplayFault
+    requires tasks { tasks ≤ 64 }
+    requires some { 0 < length rest.now }
+    ensures { (found : NoteOf) (more : List NoteOf) → rest.now ≡ found ∷ more
+        → result ≡ differs tasks trace.now (length trace.now.notes - length rest.now) wanted found }
+{
+    let place = trace.notes.len().saturating_sub(rest.len()) as u64;
+    let found = rest[0];
+    let line = line_of(trace.version, tasks, place, &found);
+    ReplayFault::Differs {
+        line,
+        wanted,
+        found,
+    }
+}
+
+// Runs the kernel against the notes of a trace.
+fn compare<G: Governor>(
+    kernel: Kernel<'_, G>,
+    plan: &Admitted,
+    trace: &Trace,
+) -> Result<Totals, ReplayFault>
+    requires plan { kernel.plan ≡ plan.now }
+    requires ended { IsEnded trace.now.notes }
+    ensures { result ≡ compared (count plan.now) trace.now (notes_of_run G.demand kernel.entry) }
+{
+    plan.known();
+    let mut compared = Compared {
+        rest: &trace.notes,
+        wanted: None,
+        stops: 0,
+    };
+    match kernel.drive(&mut compared) {
+        Ok(totals) => Ok(totals),
+        Err(Stopped) => match compared.wanted {
+            Some(wanted) => Err(differs(plan.count(), trace, compared.rest, wanted)),
+            None => unreachable!(),
+        },
+    }
+}
+
+// The answer, step by step.
+fn check<G: Governor>(
+    alloc: Global,
+    plan: &Admitted,
+    trace: &Trace,
+    governor: G,
+) -> Result<Totals, ReplayFault>
+    requires some_ticks { 1 ≤ trace.now.plan.ticks }
+    requires low_ticks { trace.now.plan.ticks ≤ MOST_TICKS }
+    requires tasks { AllByRecursion (NamesTask (count plan.now)) trace.now.notes }
+    requires ended { IsEnded trace.now.notes }
+    requires stands { G.stands governor plan.now (opening plan.now) }
+    ensures { IsUnlessMemory ReplayFault.NoMemory (λ totals. totals) result
+        (replay_of plan.now (ask_of G.demand plan.now) trace.now) }
+{
+    if let Some(why) = first_over(plan, &trace.notes) {
+        return Err(why);
+    }
+    let demands = fixed_demands(alloc, plan, &trace.notes)?;
+    let kernel = Kernel::new(alloc, plan, &demands, governor, trace.plan.ticks)?;
+    compare(kernel, plan, trace)
+}
+
+/// Whether the notes of a trace are those of the governor's schedule for the demands that they fix, and their totals.
+///
+/// The first `Done` of a job fixes its demand: the units used, or the charge where that is more. A job without one has
+/// its worst case, and `Done` of job 0 fixes nothing. The refusals come in their order: `OverWorst` at the first `Done`
+/// whose units exceed the worst case of its task; `TooManyJobs` where more than `MOST_JOBS` jobs would be released;
+/// `Differs` at the first unequal note, which stands on that line.
+pub fn replay<G: Governor>(
+    alloc: Global,
+    plan: &Admitted,
+    trace: &Trace,
+    governor: G,
+) -> Result<Totals, ReplayFault>
+    requires scheduler { trace.now.plan.scheduler ≡ plan.now.scheduler }
+    requires kind { trace.now.plan.governor ≡ G.the_kind }
+    requires some_ticks { 1 ≤ trace.now.plan.ticks }
+    requires low_ticks { trace.now.plan.ticks ≤ MOST_TICKS }
+    requires tasks { AllByRecursion (NamesTask (count plan.now)) trace.now.notes }
+    requires ended { IsEnded trace.now.notes }
+    requires stands { G.stands governor plan.now (opening plan.now) }
+
+    // The answer is the one stated, refusals too, unless memory ran out.
+    ensures answer { IsUnlessMemory ReplayFault.NoMemory (λ totals. totals) result
+        (replay_of plan.now (ask_of G.demand plan.now) trace.now) }
+
+    // At Ok the notes are those of the schedule for the demand list that they fix; and notes of the schedule for some
+    // demand list are never refused.
+    ensures own_list { IfOk result (λ totals. IsReplayed plan.now (ask_of G.demand plan.now) trace.now totals) }
+    ensures some_list { (rows : List DemandRow)
+        → AreNotesFor plan.now (ask_of G.demand plan.now) trace.now.plan.ticks trace.now.notes rows
+        → released_jobs plan.now trace.now.plan.ticks ≤ MOST_JOBS
+        → IsUnlessMemory ReplayFault.NoMemory (λ totals. totals) result (Ok (totals_of trace.now.notes)) }
+
+    // A difference is the first one.
+    ensures differs { (line : ℕ) (wanted found : NoteOf)
+        → IsErrOf result (ReplayFault.Differs line wanted found)
+        → IsFirstDifference plan.now (ask_of G.demand plan.now) trace.now line wanted found }
+{
+    plan.known();
+    own_list(plan);
+    check(alloc, plan, trace, governor)
+}

@@ -1,0 +1,112 @@
+// The ends of jobs that notes tell, and the demands that they fix.
+ghost use Rattle.std.specs.Prelude.{◌≡◌, ◌<◌, ◌≤◌, ◌^◌, ℕ, [], ◌∷◌, map, length, OnOk, IfOk, None, vec_len};
+ghost use Rattle.std.specs.List.{AllByRecursion};
+ghost use Rattle.task_model.specs.DemandRows.{named};
+ghost use Rattle.sched_model.specs.Plan.{count};
+ghost use Rattle.sched_model.specs.Demands.{demand_of};
+ghost use Rattle.event_kernel.specs.Runs.{IsListOf};
+ghost use Rattle.replay_laws.specs.FixedDemands.{fixed_before, fixed_of};
+ghost use Rattle.replay_laws.specs.OwnList.{IsFit};
+ghost use Rattle.replay.specs.Replays.{NamesTask, over_in, first_over, Fixes};
+
+use crate::ReplayFault;
+use demand_list::Demands;
+use dvs_base::{NoMemory, Note};
+use sched_model::Admitted;
+use std::alloc::Global;
+
+// The refusal of a note: it tells the end of a job with more units than its task's worst case.
+fn over_in(plan: &Admitted, note: &Note) -> Option<ReplayFault>
+    requires { NamesTask (count plan.now) note.now }
+    ensures { result ≡ over_in plan.now note.now }
+{
+    let Note::Done {
+        task,
+        job,
+        used,
+        ..
+    } = *note
+    else {
+        return None;
+    };
+    let worst = plan.worst(task);
+    if used > worst {
+        Some(ReplayFault::OverWorst {
+            task,
+            job,
+            used,
+            worst,
+        })
+    } else {
+        None
+    }
+}
+
+/// The refusal of the first note that tells the end of a job with more units than its task's worst case.
+pub(crate) fn first_over(plan: &Admitted, notes: &[Note]) -> Option<ReplayFault>
+    requires { AllByRecursion (NamesTask (count plan.now)) notes.now }
+    ensures { result ≡ first_over plan.now notes.now }
+{
+    for note in notes {
+        if let Some(why) = over_in(plan, note) {
+            return Some(why);
+        }
+    }
+    None
+}
+
+// The declared worst cases of the tasks of a plan.
+fn worst_cases(alloc: Global, plan: &Admitted) -> Result<Vec<u64>, NoMemory>
+    ensures worsts { IfOk result (λ v. v.items ≡ map (λ t. t.worst) plan.now.tasks) }
+    ensures few { IfOk result (λ v. vec_len v < 2 ^ 32) }
+{
+    let mut worsts = Vec::new(alloc);
+    for task in 0..plan.count() {
+        if worsts.push(plan.declared(task)).is_err() {
+            return Err(NoMemory);
+        }
+    }
+    Ok(worsts)
+}
+
+// Adds what a note fixes: the end of a job that has no row fixes its units, without the charge.
+fn fix(plan: &Admitted, note: &Note, demands: &mut Demands) -> Result<(), NoMemory>
+    requires task { NamesTask (count plan.now) note.now }
+    requires fit { IsFit plan.now note.now }
+    requires list { IsListOf plan.now demands.old }
+    ensures list { OnOk result (IsListOf plan.now demands.new) }
+    ensures rows { OnOk result (Fixes (fixed_before plan.now note.now []) demands.old demands.new) }
+{
+    if let Note::Done {
+        task,
+        job,
+        used,
+        ..
+    } = *note
+    {
+        if job > 0 {
+            let charged = 2 * plan.machine().charge();
+            demands.set(task, job, used.saturating_sub(charged))?;
+        }
+    }
+    Ok(())
+}
+
+/// The demand list that notes fix, whose ends of jobs tell at most their worst cases.
+pub(crate) fn fixed_demands(
+    alloc: Global,
+    plan: &Admitted,
+    notes: &[Note],
+) -> Result<Demands, NoMemory>
+    requires tasks { AllByRecursion (NamesTask (count plan.now)) notes.now }
+    requires fit { first_over plan.now notes.now ≡ None }
+    ensures list { IfOk result (IsListOf plan.now) }
+    ensures demands { IfOk result (λ d. demand_of plan.now d.rows ≡ demand_of plan.now (fixed_of plan.now notes.now)) }
+{
+    let worsts = worst_cases(alloc, plan)?;
+    let mut demands = Demands::worst_only(alloc, &worsts)?;
+    for note in notes {
+        fix(plan, note, &mut demands)?;
+    }
+    Ok(demands)
+}

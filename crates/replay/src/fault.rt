@@ -1,0 +1,50 @@
+// Why a trace isn't that of a schedule.
+ghost use Rattle.std.specs.Prelude.{◌≡◌};
+ghost use Rattle.replay.specs.declared.fault.ReplayFault.TheVariants as fault;
+ghost use Rattle.replay.specs.Replays.{refusal_of};
+
+use dvs_base::{NoMemory, Note};
+use event_kernel::KernelFault;
+
+/// Why a trace isn't that of a schedule.
+#[derive(Clone, Copy, Debug, PartialEq, Eq)]
+pub enum ReplayFault {
+    /// The end of a job tells more work units than its task's worst case with the charge, which is `worst`.
+    OverWorst {
+        task: u32,
+        job: u64,
+        used: u64,
+        worst: u64,
+    },
+    /// So many jobs would be released, and the limit is `MOST_JOBS`.
+    TooManyJobs {
+        count: u64,
+    },
+    /// On this line, counted from 1, the schedule has the note `wanted`, and the trace the note `found`.
+    Differs {
+        line: u64,
+        wanted: Note,
+        found: Note,
+    },
+    /// Memory ran out.
+    NoMemory,
+}
+
+impl From<NoMemory> for ReplayFault {
+    ghost from_gives = { λ _ e. e ≡ fault.NoMemory };
+
+    fn from(_e: NoMemory) -> ReplayFault {
+        ReplayFault::NoMemory
+    }
+}
+
+impl From<KernelFault> for ReplayFault {
+    ghost from_gives = { λ why e. e ≡ refusal_of why };
+
+    fn from(why: KernelFault) -> ReplayFault {
+        match why {
+            KernelFault::TooManyJobs { count } => ReplayFault::TooManyJobs { count },
+            KernelFault::NoMemory => ReplayFault::NoMemory,
+        }
+    }
+}
