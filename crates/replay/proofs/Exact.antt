@@ -1,8 +1,9 @@
 -- What a replay answers, of traces of schedules and of others.
 use Rattle.std.proofs.Common.{◌≡◌, ◌≢◌, ◌+◌, ◌≤◌, ℕ, Bool, true, false, List, [], ◌∷◌, refl, if◌then◌else◌, ap, ap₂, ◌∙◌, sym, subst, true≢false, arith}
-use Rattle.std.specs.Prelude.{nat_lt, unwrap_or, Option, Some, None, Result, Ok, Err, IfOk, IsErrOf}
+use Rattle.std.specs.Prelude.{nat_lt, unwrap_or, Option, Some, None, Result, Ok, Err, IfOk, IfErr, IsErrOf}
 use Rattle.std.specs.Option.{option_or}
 use Rattle.std.proofs.lemmas.Bool.Decides.{nat_tests}
+use Rattle.std.proofs.lemmas.Option.{same_Some}
 use Rattle.dvs_base.specs.Checks.{IsUnlessMemory}
 use Rattle.dvs_base.specs.declared.note.Note.{Note}
 use Rattle.dvs_base.specs.declared.note.Note.TheVariants.{Release, Speed, Run, Idle, Done, End}
@@ -22,8 +23,8 @@ use Rattle.replay_laws.specs.FixedDemands.{fixed_of}
 use Rattle.replay_laws.specs.OwnList.{Asking, ticks_by, AreNotesFor, AreOwn, HasOwnList}
 use Rattle.replay_laws.proofs.FitNotes.{IsBeforeEnd}
 use Rattle.replay_laws.proofs.OneEnd.{EndsOnce, notes-end-once}
-use Rattle.replay.specs.Comparing.{same_note, line_of, first_unequal, FirstUnequal, unless_unequal}
-use Rattle.replay.specs.Replays.{first_over, too_many, unless, own_notes, replay_of, IsReplayed, IsFirstDifference}
+use Rattle.replay.specs.Comparing.{same_note, line_of, first_unequal, FirstUnequal, differs, unless_unequal}
+use Rattle.replay.specs.Replays.{first_over, too_many, unless, own_notes, replay_of, IsCause, IsReplayed, IsFirstDifference}
 use Rattle.replay.specs.declared.fault.ReplayFault.{ReplayFault}
 use Rattle.replay.specs.declared.fault.ReplayFault.TheVariants as fault
 use Rattle.replay.proofs.Comparing.{same-self, compared-same}
@@ -172,6 +173,31 @@ many-other p ticks line w f = go (nat_lt MOST_JOBS (released_jobs p ticks))
     go true e = cc
     go false e = cc
 
+-- the first end over its worst case shows it
+over-cause : (p : Plan) (notes : List Note) (why : ReplayFault) → first_over p notes ≡ Some why → IsCause why
+over-cause p [] why e = absurd cc
+over-cause p (Release tick i k ∷ notes) why e = over-cause p notes why e
+over-cause p (Speed tick s num den ∷ notes) why e = over-cause p notes why e
+over-cause p (Run from to i k units energy ∷ notes) why e = over-cause p notes why e
+over-cause p (Idle from to units energy ∷ notes) why e = over-cause p notes why e
+over-cause p (End ticks run idle ∷ notes) why e = over-cause p notes why e
+over-cause p (Done q i k used ∷ notes) why e = go (nat_lt (worst p i) used) refl (over-cause p notes why) e
+  where
+    go : (b : Bool) → nat_lt (worst p i) used ≡ b → (first_over p notes ≡ Some why → IsCause why)
+        → option_or (if b then Some (fault.OverWorst i k used (worst p i)) else None) (first_over p notes) ≡ Some why
+        → IsCause why
+    go true over rest e = subst IsCause (same_Some _ _ e) (grind (arith, nat_tests, over))
+    go false low rest e = rest e
+
+-- and so do too many jobs
+many-cause : (p : Plan) (ticks : ℕ) (why : ReplayFault) → too_many p ticks ≡ Some why → IsCause why
+many-cause p ticks why = go (nat_lt MOST_JOBS (released_jobs p ticks)) refl
+  where
+    go : (b : Bool) → nat_lt MOST_JOBS (released_jobs p ticks) ≡ b
+        → (if b then Some (fault.TooManyJobs (released_jobs p ticks)) else None) ≡ Some why → IsCause why
+    go true many e = subst IsCause (same_Some _ _ e) (grind (arith, nat_tests, many))
+    go false few e = absurd cc
+
 -- few jobs are not too many
 pub few-jobs : (p : Plan) (ticks : ℕ) → released_jobs p ticks ≤ MOST_JOBS → too_many p ticks ≡ None
 few-jobs p ticks few =
@@ -181,6 +207,10 @@ few-jobs p ticks few =
 -- a refusal as a result
 abbrev result_of : ReplayFault → Result Totals ReplayFault
 result_of why = Err why
+
+-- equal refusals
+same_Err : (e why : ReplayFault) → result_of e ≡ result_of why → e ≡ why
+same_Err e why h = cc
 
 -- a difference is no want of memory
 other-fault : (why : ReplayFault) (line : ℕ) (w f : Note) → IsErrOf (result_of why) (fault.Differs line w f) → why ≢ fault.NoMemory
@@ -235,6 +265,30 @@ module _ (p : Plan) (lim : IsWithinLimits p) (asked : Asking) (t : TraceOf) (end
   -- a difference is that of the first two unequal notes
   pub differs-first : (line : ℕ) (w f : Note) → replay_of p asked t ≡ Err (fault.Differs line w f) → IsFirstDifference p asked t line w f
   differs-first line w f h = differs-by (first_over p t.notes) (too_many p t.plan.ticks) (first_unequal 0 (own_notes p asked t) t.notes) line w f refl refl refl h
+
+  cause-by : (o m : Option ReplayFault) (d : Option (ℕ × Note × Note)) (why : ReplayFault) → first_over p t.notes ≡ o
+      → too_many p t.plan.ticks ≡ m → first_unequal 0 (own_notes p asked t) t.notes ≡ d
+      → unless o (unless m (unless_unequal (count p) t d)) ≡ Err why → IsCause why
+  cause-by (Some e) m d why over many unequal h = over-cause p t.notes why (over ∙ ap Some (same_Err e why h))
+  cause-by None (Some e) d why over many unequal h = many-cause p t.plan.ticks why (many ∙ ap Some (same_Err e why h))
+  cause-by None None None why over many unequal h = absurd cc
+  cause-by None None (Some (place, w, f)) why over many unequal h =
+      subst IsCause (same_Err (differs (count p) t place w f) why h)
+      (somewhere-first 0 (own_notes p asked t) t.notes place w f unequal).2.unequal
+
+  -- a refusal shows its cause
+  pub refusal-cause : (why : ReplayFault) → replay_of p asked t ≡ Err why → IsCause why
+  refusal-cause why h =
+      cause-by (first_over p t.notes) (too_many p t.plan.ticks) (first_unequal 0 (own_notes p asked t) t.notes) why
+      refl refl refl h
+
+  pub err-shown : (r : Result Totals ReplayFault)
+      → IsUnlessMemory fault.NoMemory (λ (totals : Totals). totals) r (replay_of p asked t) → IfErr r IsCause
+  err-shown (Ok totals) h = tt
+  err-shown (Err (fault.OverWorst i k used worst)) h = refusal-cause (fault.OverWorst i k used worst) (h (λ no. absurd cc))
+  err-shown (Err (fault.TooManyJobs jobs)) h = refusal-cause (fault.TooManyJobs jobs) (h (λ no. absurd cc))
+  err-shown (Err (fault.Differs line w f)) h = refusal-cause (fault.Differs line w f) (h (λ no. absurd cc))
+  err-shown (Err fault.NoMemory) h = tt
 
   module _ (law : HasOwnList p asked) where
     own-passes : AreOwn p asked t.plan.ticks t.notes → released_jobs p t.plan.ticks ≤ MOST_JOBS → Passes

@@ -1,6 +1,6 @@
 -- Traces that were read, as replays ask for them, and the text of a run as that of a trace.
 use Rattle.std.proofs.Common.{◌≡◌, ℕ, List, [], ◌∷◌, refl}
-use Rattle.std.specs.List.{AllByRecursion}
+use Rattle.std.specs.List.{AllByRecursion, AllPairs}
 use Rattle.dvs_base.specs.declared.note.Note.{Note}
 use Rattle.dvs_base.specs.declared.note.Note.TheVariants.{Release, Speed, Run, Idle, Done, End}
 use Rattle.dvs_base.specs.declared.kind.GovernorKind.{GovernorKind}
@@ -19,6 +19,20 @@ names-each c (Run from to i k units energy ∷ notes) h = (h.0.2, names-each c n
 names-each c (Idle from to units energy ∷ notes) h = (tt, names-each c notes h.1)
 names-each c (Done q i k used ∷ notes) h = (h.0.1, names-each c notes h.1)
 names-each c (End ticks run idle ∷ notes) h = (tt, names-each c notes h.1)
+
+-- the name of a task in the list of the names
+name-at : (tasks : List Task) (i : ℕ) (d : List ℕ) → i < length tasks
+    → slice_index_or (map (λ (t : Task). t.name) tasks) i d ≡ (task_at tasks i).name
+name-at [] i d lt = absurd (omega (arith, lt))
+name-at (t ∷ tasks) zero d lt = refl
+name-at (t ∷ tasks) (suc i) d lt = name-at tasks i d (omega (arith, lt))
+
+-- the names of a set of tasks are distinct
+pub names-distinct : (tasks : List Task) → IsTaskSet tasks → AllPairs (λ a b. a ≢ b) (map (λ (t : Task). t.name) tasks)
+names-distinct tasks h i j d lt high same =
+    let long : length (map (λ (t : Task). t.name) tasks) ≡ length tasks = length-map tasks (λ (t : Task). t.name) in
+    let last : j < length tasks = omega (arith, high, long) in
+    h.distinct i j lt last (sym (name-at tasks i d (omega (arith, lt, last))) ∙ (same ∙ name-at tasks j d last))
 
 -- the trace of a run, in version 1
 abbrev pub run_trace : Plan → GovernorKind → (ℕ → ℕ → ℕ) → ℕ → TraceOf

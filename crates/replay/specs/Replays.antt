@@ -1,5 +1,5 @@
 -- What a replay of a trace answers.
-use Rattle.std.specs.Prelude.{◌≡◌, ℕ, ◌<◌, nat_lt, List, [], ◌∷◌, Option, Some, None, Result, Err, if◌then◌else◌}
+use Rattle.std.specs.Prelude.{◌≡◌, ◌≢◌, ⊤, ℕ, ◌<◌, nat_lt, List, [], ◌∷◌, Option, Some, None, Result, Err, if◌then◌else◌}
 use Rattle.std.specs.Option.{option_or}
 use Rattle.dvs_base.specs.declared.note.Note.{Note}
 use Rattle.dvs_base.specs.declared.note.Note.TheVariants.{Release, Run, Done}
@@ -67,6 +67,13 @@ replay_of p asked t =
     unless (first_over p t.notes) (
     unless (too_many p t.plan.ticks) (
     compared (count p) t (own_notes p asked t)))
+
+-- the numbers of a refusal are such that they are its cause
+abbrev pub IsCause : ReplayFault → Type 0
+IsCause (fault.OverWorst i k used worst) = worst < used
+IsCause (fault.TooManyJobs jobs) = MOST_JOBS < jobs
+IsCause (fault.Differs line wanted found) = wanted ≢ found
+IsCause fault.NoMemory = ⊤
 
 -- the trace has these totals, its notes are those of the schedule for the list that they fix, and this is a demand list
 -- of the plan

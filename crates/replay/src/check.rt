@@ -1,5 +1,5 @@
 // Whether the notes of a trace are those of a schedule.
-ghost use Rattle.std.specs.Prelude.{◌≡◌, ◌≤◌, ◌<◌, ◌-◌, ◌^◌, ℕ, List, Ok, IfOk, IsErrOf, ◌∷◌, length};
+ghost use Rattle.std.specs.Prelude.{◌≡◌, ◌≤◌, ◌<◌, ◌-◌, ◌^◌, ℕ, List, Ok, IfOk, IfErr, IsErrOf, ◌∷◌, length};
 ghost use Rattle.dvs_base.specs.declared.note.Note.{Note as NoteOf};
 ghost use Rattle.std.specs.List.{AllByRecursion};
 ghost use Rattle.dvs_base.specs.Checks.{IsUnlessMemory};
@@ -14,7 +14,7 @@ ghost use Rattle.event_kernel.specs.Runs.{notes_of_run};
 ghost use Rattle.trace_reader.specs.Traces.{IsEnded};
 ghost use Rattle.replay_laws.specs.OwnList.{AreNotesFor};
 ghost use Rattle.replay.specs.Comparing.{line_of, differs, compared};
-ghost use Rattle.replay.specs.Replays.{NamesTask, replay_of, IsReplayed, IsFirstDifference};
+ghost use Rattle.replay.specs.Replays.{NamesTask, replay_of, IsCause, IsReplayed, IsFirstDifference};
 
 use crate::ReplayFault;
 use crate::compared::Compared;
@@ -137,7 +137,8 @@ pub fn replay<G: Governor>(
         → released_jobs plan.now trace.now.plan.ticks ≤ MOST_JOBS
         → IsUnlessMemory ReplayFault.NoMemory (λ totals. totals) result (Ok (totals_of trace.now.notes)) }
 
-    // A difference is the first one.
+    // A refusal shows its cause, and a difference is the first one.
+    ensures shown { IfErr result IsCause }
     ensures differs { (line : ℕ) (wanted found : NoteOf)
         → IsErrOf result (ReplayFault.Differs line wanted found)
         → IsFirstDifference plan.now (ask_of G.demand plan.now) trace.now line wanted found }

@@ -12,3 +12,6 @@ mod fault;
 
 pub use check::replay;
 pub use fault::ReplayFault;
+
+#[cfg(test)]
+mod tests;

@@ -283,16 +283,21 @@ fn a_trace_has_at_most_800000_lines(rt: HostRuntime) -> Result<(), Fail> {
 }
 
 #[test]
-fn nothing_stands_after_the_last_line_that_may_be(rt: HostRuntime) -> Result<(), Fail> {
-    let text = long_trace(rt.alloc(), 800000)?;
-    let more = joined(rt.alloc(), &[&text, b"\n"])?;
+fn nothing_stands_after_an_end_on_line_800000(rt: HostRuntime) -> Result<(), Fail> {
+    let mut text = long_trace(rt.alloc(), 800000)?;
+    text.push(b'\n').map_err(|_| "memory")?;
     assert_eq!(rt;
-        read_paper(rt.alloc(), &more)?.err(),
+        read_paper(rt.alloc(), &text)?.err(),
         refused(800001, TraceKind::AfterEnd)
     );
-    let open = long_trace(rt.alloc(), 800001)?;
+    Ok(())
+}
+
+#[test]
+fn a_piece_on_line_800001_has_no_end(rt: HostRuntime) -> Result<(), Fail> {
+    let text = long_trace(rt.alloc(), 800001)?;
     assert_eq!(rt;
-        read_paper(rt.alloc(), &open[..open.len() - 1])?.err(),
+        read_paper(rt.alloc(), &text[..text.len() - 1])?.err(),
         refused(800001, TraceKind::NoEnd)
     );
     Ok(())
@@ -303,7 +308,8 @@ fn numbers_reach_their_last_value(rt: HostRuntime) -> Result<(), Fail> {
     let third: &[u8] =
         b"release 18446744073709551615 t3 18446744073709551615\nspeed 0 18446744073709551615 340282366920938463463374607431768211455/340282366920938463463374607431768211455\n";
     assert_eq!(rt; paper_refused(rt.alloc(), HEAD, third, b"")?, None);
-    let last = b"trace 1\nplan rm cc 1099511627776\nend 18446744073709551615 340282366920938463463374607431768211455 0\n";
+    let last =
+        b"trace 1\nplan rm cc 1099511627776\nend 18446744073709551615 340282366920938463463374607431768211455 0\n";
     let trace = read_paper(rt.alloc(), last)?.map_err(|_| "refused")?;
     assert_eq!(rt; trace.plan.ticks, 1 << 40);
     assert_eq!(rt;

@@ -6,7 +6,7 @@ use Rattle.governor.specs.Schedule.{ask_of}
 use Rattle.replay.specs.declared.fault.ReplayFault.{ReplayFault}
 use Rattle.replay.specs.declared.fault.ReplayFault.TheVariants as fault
 use Rattle.replay.proofs.Comparing.{ended-once}
-use Rattle.replay.proofs.Exact.{ok-replayed, some-replayed, err-differs}
+use Rattle.replay.proofs.Exact.{ok-replayed, some-replayed, err-shown, err-differs}
 use Rattle.replay.proofs.check.replay.Goals as goal
 
 pub returns-clause-own_list : goal.returns-clause-own_list
@@ -28,3 +28,9 @@ returns-clause-differs g c =
     let p = c.args.plan.now in
     let m = g.G.Governor.demand in
     err-differs p c.known.ensures.limits (ask_of m p) c.args.trace.now (ended-once c.args.trace.now.notes c.requires.ended) c.check.result c.check.ensures
+
+pub returns-clause-shown : goal.returns-clause-shown
+returns-clause-shown g c =
+    let p = c.args.plan.now in
+    err-shown p c.known.ensures.limits (ask_of g.G.Governor.demand p) c.args.trace.now
+    (ended-once c.args.trace.now.notes c.requires.ended) c.check.result c.check.ensures
