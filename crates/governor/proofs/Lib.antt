@@ -6,7 +6,9 @@ pub mod Course
 pub mod OneSchedule
 pub mod Fits
 pub mod EdfLaws
+pub mod RmLevels
 pub mod RmLaws
 pub mod OneSpeedLaws
 pub mod PlanDemands
 pub mod Worst
+pub mod Lacks

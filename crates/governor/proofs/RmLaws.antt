@@ -1,274 +1,32 @@
 -- The laws under RM at one speed.
-use Rattle.std.proofs.Common.{◌≡◌, ◌⊎◌, inl, inr, ℕ, zero, suc, ◌+◌, ◌-◌, ◌*◌, ◌<◌, ◌≤◌, Bool, true, false, List, length, refl, sym, ◌∙◌, ap, subst, arith, add-one}
-use Rattle.std.proofs.Math.Nat.{mul-le-mul_right, mul-zero}
-use Rattle.std.specs.Prelude.{if◌then◌else◌, nat_le, ◌==◌}
-use Rattle.std.proofs.lemmas.Bool.{le-leb, leb-true, cases_lt, cases_Bool, eqb-true}
-use Rattle.dvs_base.specs.declared.kind.Scheduler.{Scheduler}
+use Rattle.std.proofs.Common.{◌≡◌, ℕ, ◌*◌, ◌<◌, ◌≤◌, true, List}
 use Rattle.dvs_base.specs.declared.kind.Scheduler.TheVariants.{Rm}
-use Rattle.grid_fraction.specs.Numbers.{sum_where, ceil_div}
-use Rattle.sched_model.specs.declared.state.Row.{Row}
-use Rattle.sched_model.specs.Jobs.{release, latest_since}
-use Rattle.sched_model.specs.Jobs.{due as due_at}
-use Rattle.sched_model.specs.Priority.{stands_before}
-use Rattle.sched_model.specs.Plan.{Plan, count, period, worst}
+use Rattle.sched_model.specs.Plan.{Plan, count, period}
 use Rattle.sched_model.specs.Demands.{JobDemands}
 use Rattle.sched_model.specs.Admission.{IsWithinLimits}
-use Rattle.sched_model.specs.States.{StateOf, row_at, row_wleft, opening}
-use Rattle.sched_model.proofs.JobLaws.{due-suc, release-suc, release-due, latest_since-pos}
-use Rattle.sched_model.proofs.Limits.{some_period}
-use Rattle.sched_model.proofs.LevelSums.{sum_where-mono, sum_where-plus, sum_where-term, up_to-self, up_to-trans, sum_up_to-where}
-use Rattle.governor.specs.Steps.{is_due, opened_row, after_boundary, wleft_at, release_of, share_in, key_in, IsLegalIn, after_tick, IsBeforeAll, Belongs}
-use Rattle.governor.proofs.Rows.{done_none, wleft-most, or_false_left}
-use Rattle.governor.proofs.Belonging.{unborn_done, in_rows, opening_at, opened_release, boundary_at, tick_at, belongs_tick}
-use Rattle.governor.proofs.Ticks.{tick_set, demand_most}
-use Rattle.governor.specs.Rm.{level_work_in, level, released_since, asked_since, StretchCalm}
-use Rattle.governor.proofs.EdfLaws.{closed_row}
-
--- spacing: the jobs that were released at b or later lie a period apart
-spaced : (plan : Plan) (j b k : ℕ) → (released_since plan j b k ≡ 0) ⊎ (b + released_since plan j b k * period plan j ≤ due_at plan j k)
-spaced plan j b zero = inl refl
-spaced plan j b (suc k) = go (nat_le b (release plan j (suc k))) refl (spaced plan j b k)
-  where
-    p : ℕ
-    p = period plan j
-
-    later : due_at plan j (suc k) ≡ due_at plan j k + p
-    later = ap (due_at plan j) (sym (add-one k)) ∙ due-suc plan j k
-
-    go : (c : Bool) → nat_le b (release plan j (suc k)) ≡ c
-        → (released_since plan j b k ≡ 0) ⊎ (b + released_since plan j b k * p ≤ due_at plan j k)
-        → (released_since plan j b k + (if c then 1 else 0) ≡ 0) ⊎ (b + (released_since plan j b k + (if c then 1 else 0)) * p ≤ due_at plan j (suc k))
-    go true e (inl none) =
-        inr (let g : b ≤ release plan j (suc k) = leb-true b (release plan j (suc k)) e in rw none (omega (arith, g, release-due plan j (suc k) (omega arith))))
-    go true e (inr some) = inr (omega (arith, later))
-    go false e (inl none) = inl (omega arith)
-    go false e (inr some) = inr (omega (arith, later))
-
--- a window of length l has at most q of them, where q periods cover it
-in_window : (plan : Plan) (j b k l q : ℕ) → 0 < period plan j → (0 < k → release plan j k < b + l)
-    → l ≤ q * period plan j → released_since plan j b k ≤ q
-in_window plan j b zero l q pos last covers = omega arith
-in_window plan j b (suc k) l q pos last covers =
-    elim (spaced plan j b (suc k)) [
-      | inl none ↦ omega arith
-      | inr some ↦
-          let p = period plan j in
-          let c = released_since plan j b (suc k) in
-          let near : release plan j (suc k) < b + l = last (omega arith) in
-          elim (cases_lt q c) [
-            | inl more ↦
-                let m : suc q * p ≤ c * p = mul-le-mul_right p more in
-                absurd (omega (arith, m, some, near, release-due plan j (suc k) (omega arith)))
-            | inr most ↦ most
-          ]
-    ]
-
--- rounding up covers
-ceil_covers : (n d : ℕ) → 0 < d → n ≤ ceil_div n d * d
-ceil_covers n d pos = omega arith
-
--- a release at b or later counts
-counts_one : (plan : Plan) (j b k : ℕ) → b ≤ due_at plan j k → released_since plan j b (k + 1) ≡ released_since plan j b k + 1
-counts_one plan j b k le =
-    let next : k + 1 ≡ suc k = add-one k in
-    let there : release plan j (suc k) ≡ due_at plan j k = ap (release plan j) (sym next) ∙ release-suc plan j k in
-    rw (next, le-leb b (release plan j (suc k)) (omega (arith, there))) refl
-
--- what a release adds is counted
-pays : (plan : Plan) (j b c job w : ℕ) → b ≤ due_at plan j job → w ≤ c
-    → w + released_since plan j b job * c ≤ released_since plan j b (job + 1) * c
-pays plan j b c job w le most = rw (counts_one plan j b job le) (omega arith)
+use Rattle.sched_model.specs.States.{StateOf, row_at, opening}
+use Rattle.governor.specs.Steps.{after_boundary, IsLegalIn, after_tick, IsBeforeAll, Belongs}
+use Rattle.governor.specs.Rm.{level_work_in, StretchCalm}
+use Rattle.governor.proofs.RmLevels.{level_opens, level_completes, level_releases, level_ticks}
 
 module _ (F : ℕ) (span : ℕ → ℕ) (plan : Plan) (lim : IsWithinLimits plan) where
   pub rm_opens : StretchCalm F span plan (opening plan)
-  rm_opens i h = inl (λ j hj on. rw (opening_at plan j hj) refl)
+  rm_opens i h = level_opens F (span i) plan lim i h
 
   module _ (dem : JobDemands) (s : StateOf) (bel : Belongs plan dem s) where
-    here : (i : ℕ) → i < count plan → i < length s.rows
-    here = in_rows plan dem s bel
-
     pub rm_completes : ((i : ℕ) → i < count plan → span i ≤ period plan i) → StretchCalm F span plan s → (i : ℕ)
         → i < count plan → (row_at s i).deadline ≡ s.now → (row_at s i).done ≡ true
-    rm_completes within calm i h e =
-        let row = row_at s i in
-        elim (calm i h) [
-          | inl all ↦ all i h (up_to-self (period plan) i)
-          | inr some ↦
-              let b = some.0 in
-              let stretch = some.1 in
-              elim (cases_Bool row.done) [
-                | inl closed ↦ closed
-                | inr still ↦
-                    let from : b ≤ release_of plan i row = stretch.since i h (up_to-self (period plan) i) still in
-                    elim (cases_lt 0 row.job) [
-                      | inl born ↦
-                          let d : row.deadline ≡ due_at plan i row.job = bel.deadline i h in
-                          let r : latest_since plan i row.job ≡ release plan i row.job = latest_since-pos plan i row.job born in
-                          let short = stretch.short in
-                          let w = within i h in
-                          absurd (omega (arith, release-due plan i row.job born))
-                      | inr unborn ↦ unborn_done plan dem s bel i h (omega arith)
-                    ]
-              ]
-        ]
-
-    -- a boundary, row by row: where b is at most now, what is added is counted
-    row_pays : (b : ℕ) → b ≤ s.now
-        → ((i : ℕ) → i < count plan → (row_at s i).deadline ≡ s.now → (row_at s i).done ≡ true) → (j : ℕ)
-        → j < count plan
-        → wleft_at (after_boundary plan dem s) j + asked_since plan s b j ≤ wleft_at s j + asked_since plan (after_boundary plan dem s) b j
-    row_pays b le due j h =
-        let row = row_at s j in
-        let P : Row → Type 0 = λ (new : Row). row_wleft new + released_since plan j b row.job * worst plan j ≤ row_wleft row + released_since plan j b new.job * worst plan j in
-        let Q : Bool → Type 0 = λ (c : Bool). P (if c then opened_row plan dem j row else row) in
-        subst P (sym (boundary_at plan dem s j (here j h)))
-        (elim (cases_Bool (is_due s.now row)) [
-          | inl is_now ↦
-              let at_now : row.deadline ≡ s.now = eqb-true row.deadline s.now is_now in
-              let none : row_wleft row ≡ 0 = done_none row (due j h at_now) in
-              let d : row.deadline ≡ due_at plan j row.job = bel.deadline j h in
-              let small : row_wleft (opened_row plan dem j row) ≤ row.worst = wleft-most (opened_row plan dem j row) in
-              let w : row.worst ≡ worst plan j = bel.of.worst j h in
-              let paid = pays plan j b (worst plan j) row.job (row_wleft (opened_row plan dem j row)) (omega arith) (omega arith) in
-              subst Q (sym is_now) (omega (arith, none, paid))
-          | inr later ↦ subst Q (sym later) (omega arith)
-        ])
-
-    -- where the row was done, all of it is counted from now on
-    row_pays_alone : ((i : ℕ) → i < count plan → (row_at s i).deadline ≡ s.now → (row_at s i).done ≡ true) → (j : ℕ)
-        → j < count plan → (row_at s j).done ≡ true
-        → wleft_at (after_boundary plan dem s) j ≤ asked_since plan (after_boundary plan dem s) s.now j
-    row_pays_alone due j h closed =
-        let paid = row_pays s.now (omega arith) due j h in
-        let none : wleft_at s j ≡ 0 = done_none (row_at s j) closed in
-        omega arith
-
-    -- a row that is open after a boundary was open before, or is released now
-    row_open : (j : ℕ) → j < count plan → (row_at (after_boundary plan dem s) j).done ≡ false
-        → (release_of plan j (row_at (after_boundary plan dem s) j) ≡ s.now) ⊎ (((row_at s j).done ≡ false) × (release_of plan j (row_at (after_boundary plan dem s) j) ≡ release_of plan j (row_at s j)))
-    row_open j h =
-        let row = row_at s j in
-        let P : Row → Type 0 = λ (new : Row). new.done ≡ false → (release_of plan j new ≡ s.now) ⊎ ((row.done ≡ false) × (release_of plan j new ≡ release_of plan j row)) in
-        let Q : Bool → Type 0 = λ (c : Bool). P (if c then opened_row plan dem j row else row) in
-        subst P (sym (boundary_at plan dem s j (here j h)))
-        (elim (cases_Bool (is_due s.now row)) [
-          | inl is_now ↦
-              let at_now : row.deadline ≡ s.now = eqb-true row.deadline s.now is_now in
-              subst Q (sym is_now) (λ still. inl (opened_release plan dem j row (bel.deadline j h) ∙ at_now))
-          | inr later ↦ subst Q (sym later) (λ still. inr (still, refl))
-        ])
+    rm_completes within calm i h = level_completes F (span i) plan lim i h dem s bel (within i h) (calm i h)
 
     pub rm_releases : ((i : ℕ) → i < count plan → 0 < span i) → ((i : ℕ) → i < count plan → span i ≤ period plan i)
         → StretchCalm F span plan s → StretchCalm F span plan (after_boundary plan dem s)
     rm_releases some within calm i h =
-        let t = after_boundary plan dem s in
-        let n = count plan in
-        let due = rm_completes within calm in
-        elim (calm i h) [
-          | inl all ↦ inr (
-            s.now,
-            record {
-              begun = omega arith;
-              short = (let pos = some i h in omega arith);
-              since = λ j hj on still.
-                  elim (row_open j hj still) [
-                    | inl here ↦ omega (arith, here)
-                    | inr old ↦ absurd (let a : (row_at s j).done ≡ true = all j hj on in let o : (row_at s j).done ≡ false = old.0 in let bad : true ≡ false = sym a ∙ o in cc)
-                  ];
-              work =
-                  (let sums = sum_where-mono n (level plan i) (wleft_at t) (asked_since plan t s.now) (λ j hj on. row_pays_alone due j hj (all j hj on)) in
-                  let none : F * (s.now - s.now) ≡ 0 = (let z : s.now - s.now ≡ 0 = omega arith in rw z (mul-zero F)) in
-                  rw none (omega (arith, sums)));
-            },
-          )
-          | inr busy ↦
-              let b = busy.0 in
-              let stretch = busy.1 in
-              inr (
-                b,
-                record {
-                  begun = stretch.begun;
-                  short = stretch.short;
-                  since = λ j hj on still.
-                      elim (row_open j hj still) [
-                        | inl here ↦ (let g = stretch.begun in omega (arith, here))
-                        | inr old ↦ (let g = stretch.since j hj on old.0 in let e = old.1 in omega arith)
-                      ];
-                  work =
-                      (let sums : sum_where n (level plan i) (λ j. wleft_at t j + asked_since plan s b j) ≤ sum_where n (level plan i) (λ j. wleft_at s j + asked_since plan t b j) =
-                      sum_where-mono n (level plan i) (λ j. wleft_at t j + asked_since plan s b j) (λ j. wleft_at s j + asked_since plan t b j) (λ j hj on. row_pays b stretch.begun due j hj) in
-                      let left = sum_where-plus n (level plan i) (wleft_at t) (asked_since plan s b) in
-                      let right = sum_where-plus n (level plan i) (wleft_at s) (asked_since plan t b) in
-                      omega (arith, sums, left, right, stretch.work));
-                },
-              )
-        ]
-
-    -- counts do not change in a tick, nor do releases
-    tick_asked : (shares : List ℕ) (b j : ℕ) → j < count plan → asked_since plan (after_tick dem shares s) b j ≡ asked_since plan s b j
-    tick_asked shares b j h = rw (tick_at dem shares s j (here j h)) refl
-
-    tick_open : (shares : List ℕ) (j : ℕ) → j < count plan → (row_at (after_tick dem shares s) j).done ≡ false
-        → ((row_at s j).done ≡ false) × (release_of plan j (row_at (after_tick dem shares s) j) ≡ release_of plan j (row_at s j))
-    tick_open shares j h =
-        let row = row_at s j in
-        let P : Row → Type 0 = λ (new : Row). new.done ≡ false → (row.done ≡ false) × (release_of plan j new ≡ release_of plan j row) in
-        subst P (sym (tick_at dem shares s j (here j h))) (λ still. (or_false_left row.done (row.used + share_in shares j == dem j row.job) still, refl))
-
-    done_stays : (shares : List ℕ) (j : ℕ) → j < count plan → (row_at s j).done ≡ true → (row_at (after_tick dem shares s) j).done ≡ true
-    done_stays shares j h closed = rw (tick_at dem shares s j (here j h)) (rw closed refl)
+        level_releases F (span i) plan lim i h dem s bel (some i h)
+        (λ j hj on. rm_completes within calm j hj) (calm i h)
 
     pub rm_ticks : plan.scheduler ≡ Rm
         → ((i : ℕ) → i < count plan → level_work_in plan (span i) i ≤ F * span i)
-        → (shares : List ℕ) → IsBeforeAll plan s → IsLegalIn plan dem F s shares → StretchCalm F span plan s → StretchCalm F span plan (after_tick dem shares s)
+        → (shares : List ℕ) → IsBeforeAll plan s → IsLegalIn plan dem F s shares → StretchCalm F span plan s
+        → StretchCalm F span plan (after_tick dem shares s)
     rm_ticks rm fits shares before legal calm i h =
-        let t = after_tick dem shares s in
-        let n = count plan in
-        let lv = level plan i in
-        let down : (j k : ℕ) → j < n → k < n → stands_before (key_in plan.scheduler plan s) j k ≡ true → lv k ≡ true → lv j ≡ true =
-        subst (λ (sch : Scheduler). (j k : ℕ) → j < n → k < n → stands_before (key_in sch plan s) j k ≡ true → lv k ≡ true → lv j ≡ true) (sym rm) (λ j k lj lk b on. up_to-trans (period plan) j k i b on) in
-        elim (tick_set plan dem F s shares lv bel legal down) [
-          | inl all ↦ inl (λ j hj on. all j hj on)
-          | inr falls ↦ elim (calm i h) [
-            | inl done ↦ inl (λ j hj on. done_stays shares j hj (done j hj on))
-            | inr busy ↦
-                let b = busy.0 in
-                let stretch = busy.1 in
-                let begun : b ≤ s.now = stretch.begun in
-                let span_more : s.now + 1 - b ≡ (s.now - b) + 1 = omega arith in
-                let asked : sum_where n lv (asked_since plan s b) ≤ sum_where n lv (asked_since plan t b) =
-                sum_where-mono n lv (asked_since plan s b) (asked_since plan t b) (λ j hj on. let e = tick_asked shares b j hj in omega arith) in
-                let work' : sum_where n lv (wleft_at t) + F * (s.now + 1 - b) ≤ sum_where n lv (asked_since plan t b) =
-                rw span_more (omega (arith, stretch.work, falls, asked)) in
-                elim (cases_lt (s.now + 1 - b) (span i)) [
-                  | inl short ↦ inr (
-                    b,
-                    record {
-                      begun = omega arith;
-                      short = short;
-                      since = λ j hj on still. (let o = tick_open shares j hj still in let g = stretch.since j hj on o.0 in let e = o.1 in omega arith);
-                      work = work';
-                    },
-                  )
-                  | inr over ↦
-                      let whole : s.now + 1 - b ≡ span i = (let g = stretch.short in omega arith) in
-                      let most : sum_where n lv (asked_since plan s b) ≤ sum_where n lv (λ j. ceil_div (span i) (period plan j) * worst plan j) =
-                      sum_where-mono n lv (asked_since plan s b) (λ j. ceil_div (span i) (period plan j) * worst plan j) (λ j hj on.
-                      let p = period plan j in
-                      let q = ceil_div (span i) p in
-                      let row = row_at s j in
-                      let r : latest_since plan j row.job ≤ s.now = bel.released j hj in
-                      mul-le-mul_right (worst plan j) (in_window plan j b row.job (span i) q (some_period plan lim j hj) (λ born. omega (arith, latest_since-pos plan j row.job born)) (ceil_covers (span i) p (some_period plan lim j hj)))) in
-                      let same : sum_where n lv (asked_since plan t b) ≤ sum_where n lv (asked_since plan s b) =
-                      sum_where-mono n lv (asked_since plan t b) (asked_since plan s b) (λ j hj on. let e = tick_asked shares b j hj in omega arith) in
-                      let level_sum = sum_up_to-where n (period plan) (λ j. ceil_div (span i) (period plan j) * worst plan j) i h in
-                      let fit = fits i h in
-                      let full : F * (s.now + 1 - b) ≡ F * span i = ap (λ (x : ℕ). F * x) whole in
-                      let none : sum_where n lv (wleft_at t) ≤ 0 = omega (arith, work', most, same, level_sum, fit, full) in
-                      inl (λ j hj on.
-                      let mine = sum_where-term n lv (wleft_at t) j hj on in
-                      let bel' = belongs_tick plan dem F s shares bel before legal in
-                      closed_row (row_at t j) (dem j (row_at t j).job) (omega arith) (bel'.open_job j hj) (demand_most plan dem t bel' j hj))
-                ]
-          ]
-        ]
+        level_ticks F (span i) plan lim i h dem s bel rm (fits i h) shares before legal (calm i h)

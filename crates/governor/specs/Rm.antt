@@ -39,10 +39,13 @@ pub record IsStretch (F long : ℕ) (plan : Plan) (s : StateOf) (i b : ℕ) : Ty
 abbrev pub IsLevelDone : Plan → StateOf → ℕ → Type 0
 IsLevelDone plan s i = (j : ℕ) → j < count plan → level plan i j ≡ true → (row_at s j).done ≡ true
 
--- each level is done, or in a busy stretch shorter than its bound
+-- the level of task i is done, or in a busy stretch shorter than its bound
+abbrev pub LevelCalm : ℕ → ℕ → Plan → StateOf → ℕ → Type 0
+LevelCalm F long plan s i = IsLevelDone plan s i ⊎ ((b : ℕ) × IsStretch F long plan s i b)
+
+-- each level is
 abbrev pub StretchCalm : ℕ → (ℕ → ℕ) → Plan → StateOf → Type 0
-StretchCalm F long plan s =
-    (i : ℕ) → i < count plan → IsLevelDone plan s i ⊎ ((b : ℕ) × IsStretch F (long i) plan s i b)
+StretchCalm F long plan s = (i : ℕ) → i < count plan → LevelCalm F (long i) plan s i
 
 -- the bound of a level is the period of its task
 abbrev pub RmCalm : ℕ → Plan → StateOf → Type 0

@@ -1,0 +1,2 @@
+pub mod FirstLate
+pub mod Answering

@@ -1,0 +1,43 @@
+-- What the answers of exact admission under RM say.
+use Rattle.std.specs.Prelude.{◌≡◌, ℕ, ◌*◌, ◌<◌, false, List, slice_index}
+use Rattle.grid_fraction.specs.Numbers.{list_below}
+use Rattle.sched_model.specs.Plan.{Plan, count, period, offset, top_speed}
+use Rattle.governor.specs.Rm.{level_work_in}
+use Rattle.rm_response_laws.specs.Responses.{response, HasNoOffsets}
+use Rattle.rm_response_laws.specs.FirstJobs.{is_first_done, IsFirstDoneAt}
+use Rattle.rm_response.specs.declared.response.ResponseFault.{ResponseFault}
+use Rattle.rm_response.specs.declared.response.ResponseFault.TheVariants.{Offset, Misses, NoMemory}
+use Rattle.rm_response.specs.Offsets.{IsFirstOffset}
+use Rattle.rm_response.specs.Late.{IsFirstLate}
+
+-- the responses of the tasks, in file order
+abbrev pub responses : Plan → List ℕ
+responses p = list_below (count p) (response p)
+
+-- each is the least tick at which the task's first job is complete when all jobs have their worst cases
+abbrev pub AreLeast : Plan → List ℕ → Type 0
+AreLeast p ticks = (i : ℕ) → i < count p → IsFirstDoneAt p i (slice_index ticks i)
+
+-- a task without a response, by what its level can be asked for in its period and what the highest speed does in it
+abbrev pub misses_at : Plan → ℕ → ResponseFault
+misses_at p i = Misses i (level_work_in p (period p i) i) (top_speed p * period p i)
+
+-- the task is the first in RM order without a response, by the two numbers
+pub record IsFirstMiss (p : Plan) (task num cap : ℕ) : Type 0 where
+  pub no_offset : HasNoOffsets p
+  pub first : IsFirstLate (period p) (response p) (count p) task
+  pub num_is : num ≡ level_work_in p (period p task) task
+  pub cap_is : cap ≡ top_speed p * period p task
+
+-- the task is the first in file order with an offset; or no task has one, and either this one is the first that misses,
+-- or memory was wanting
+abbrev pub IsResponseDenial : Plan → ResponseFault → Type 0
+IsResponseDenial p (Offset task) = IsFirstOffset (offset p) (count p) task
+IsResponseDenial p (Misses task num cap) = IsFirstMiss p task num cap
+IsResponseDenial p NoMemory = HasNoOffsets p
+
+-- the first job of a task that misses is not complete at its period when all jobs have their worst cases
+abbrev pub IsMissed : Plan → ResponseFault → Type 0
+IsMissed p (Offset task) = Unit {0}
+IsMissed p (Misses task num cap) = is_first_done p task (period p task) ≡ false
+IsMissed p NoMemory = Unit {0}

@@ -1,0 +1,22 @@
+-- The first task in RM order whose response is beyond its period; `period i` and `response i` are those of task i.
+use Rattle.std.specs.Prelude.{◌≡◌, ℕ, ◌<◌, ◌≤◌, true, Option, Some, None, MatchOption, if◌then◌else◌}
+use Rattle.sched_model.specs.Priority.{stands_before}
+
+-- the response of none of the tasks below n is
+abbrev pub NoneLate : (ℕ → ℕ) → (ℕ → ℕ) → ℕ → Type 0
+NoneLate period response n = (k : ℕ) → k < n → response k ≤ period k
+
+-- of the tasks below n, task i is the first in RM order whose response is
+pub record IsFirstLate (period response : ℕ → ℕ) (n i : ℕ) : Type 0 where
+  pub task : i < n
+  pub late : period i < response i
+  pub first : (k : ℕ) → k < n → stands_before period k i ≡ true → response k ≤ period k
+
+-- it is what was found, or there is none
+abbrev pub FindsLate : (ℕ → ℕ) → (ℕ → ℕ) → ℕ → Option ℕ → Type 0
+FindsLate period response n found = MatchOption found (NoneLate period response n) (IsFirstLate period response n)
+
+-- the earlier in RM order of task i and another, where there is another
+abbrev pub earlier_of : (ℕ → ℕ) → Option ℕ → ℕ → ℕ
+earlier_of period None i = i
+earlier_of period (Some k) i = if stands_before period i k then i else k

@@ -1,0 +1,115 @@
+// The responses of a task set on a machine.
+ghost use Rattle.std.specs.Prelude.{◌≡◌, ◌<◌, IfOk, OnOk, IfErr, length, slice_index, ℕ};
+ghost use Rattle.grid_fraction.specs.Numbers.{list_below};
+ghost use Rattle.dvs_base.specs.declared.kind.Scheduler.TheVariants.{Rm};
+ghost use Rattle.sched_model.specs.Plan.{plan_of, count};
+ghost use Rattle.rm_response_laws.specs.Responses.{response, AllRespond, HasNoOffsets};
+ghost use Rattle.rm_response_laws.specs.FirstJobs.{AlwaysMeets};
+ghost use Rattle.rm_response.specs.Denials.{responses, AreLeast, misses_at, IsResponseDenial, IsMissed};
+
+use crate::late::first_late;
+use crate::offset::first_offset;
+use crate::work::{level_work_in, response_of};
+use dvs_base::NoMemory;
+use freq_table::Machine;
+use std::alloc::Global;
+use std::marker::Model;
+use task_model::TaskSet;
+
+/// The response of each task in ticks, in file order: the least tick at which its first job is complete under RM at the
+/// highest speed when all jobs have their worst cases.
+#[derive(Drop)]
+pub struct Response {
+    ticks: Vec<u64>,
+}
+
+impl Model for Response {
+    ghost use Rattle.std.specs.Prelude.{ℕ, List};
+
+    ghost Value = { List ℕ };
+
+    ghost view = { λ r. r.ticks.items };
+
+    ghost invariant = { λ r. Unit {0} };
+}
+
+impl Response {
+    /// The response of a task in ticks, 1 to its period; tasks count from 0.
+    pub fn of(&self, task: u32) -> u64
+        requires { task < length self.now }
+        ensures { result ≡ slice_index self.now task }
+    {
+        self.ticks[task as usize]
+    }
+}
+
+/// Why there are no responses.
+#[derive(Clone, Copy, Debug, PartialEq, Eq)]
+pub enum ResponseFault {
+    /// `task` has an offset, so first jobs don't show the worst; it is the first such in file order. Tasks count from
+    /// 0.
+    Offset { task: u32 },
+    /// No task has an offset, and in each number of ticks up to its period the work that `task` and those before it
+    /// can be asked for exceeds what the highest speed does. In the period itself it is `num` work units, against
+    /// `cap`. The task is the first such in RM order; tasks count from 0.
+    Misses { task: u32, num: u128, cap: u128 },
+    /// Memory ran out. No task has an offset, and nothing else is said of the tasks.
+    NoMemory,
+}
+
+// The response of each task, and one more than its period where it has none.
+fn responses_of(alloc: Global, tasks: &TaskSet, machine: &Machine) -> Result<Vec<u64>, NoMemory>
+    ensures { IfOk result (λ v. v.items ≡ responses (plan_of tasks.now machine.now Rm)) }
+{
+    let mut list = Vec::new(alloc);
+    for i in 0..tasks.count() {
+        list.push(response_of(tasks, machine, i))
+            .map_err(|_| NoMemory)?;
+    }
+    Ok(list)
+}
+
+// Why a task has no response, by the numbers of its period.
+fn missing(tasks: &TaskSet, machine: &Machine, task: u32) -> ResponseFault
+    requires { task < length tasks.now }
+    ensures { result ≡ misses_at (plan_of tasks.now machine.now Rm) task }
+{
+    let period = tasks.task(task).period;
+    ResponseFault::Misses {
+        task,
+        num: level_work_in(tasks, machine, period, task),
+        cap: u128::from(machine.top()) * u128::from(period),
+    }
+}
+
+/// The response of each task under RM at the highest speed `fm`, in file order: the least `t` from 1 to its period for
+/// which the sum of `ceil(t/Pj)*Cj`, over it and the tasks before it in RM order, is at most `fm*t` (Joseph and Pandya
+/// 1986). `Offset` exactly where some task has an offset, else `Misses` exactly where some task has no response, unless
+/// memory ran out.
+pub fn rm_response(
+    alloc: Global,
+    tasks: &TaskSet,
+    machine: &Machine,
+) -> Result<Response, ResponseFault>
+    ensures responses { IfOk result (λ r. r ≡ responses (plan_of tasks.now machine.now Rm)) }
+    ensures one_each { IfOk result (λ r. length r ≡ length tasks.now) }
+    ensures no_offset { OnOk result (HasNoOffsets (plan_of tasks.now machine.now Rm)) }
+    ensures each { OnOk result (AllRespond (plan_of tasks.now machine.now Rm)) }
+    ensures deadlines { OnOk result (AlwaysMeets (plan_of tasks.now machine.now Rm)) }
+    ensures least { IfOk result (AreLeast (plan_of tasks.now machine.now Rm)) }
+    ensures denial { IfErr result (IsResponseDenial (plan_of tasks.now machine.now Rm)) }
+    ensures missed { IfErr result (IsMissed (plan_of tasks.now machine.now Rm)) }
+{
+    let _tasks = tasks.as_slice();
+    let _entries = machine.as_slice();
+    if let Some(task) = first_offset(tasks) {
+        return Err(ResponseFault::Offset { task });
+    }
+    let Ok(ticks) = responses_of(alloc, tasks, machine) else {
+        return Err(ResponseFault::NoMemory);
+    };
+    match first_late(tasks, &ticks) {
+        Some(task) => Err(missing(tasks, machine, task)),
+        None => Ok(Response { ticks }),
+    }
+}

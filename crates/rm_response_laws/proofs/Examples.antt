@@ -1,0 +1,40 @@
+-- Responses, and when first jobs are complete, by evaluation.
+use Rattle.std.proofs.Common.{◌≡◌, ℕ, true, false, [], ◌∷◌, codes, refl}
+use Rattle.dvs_base.specs.declared.kind.Scheduler.TheVariants.{Rm}
+use Rattle.freq_table.specs.Tables.{Table}
+use Rattle.sched_model.specs.Plan.{Plan, plan_of}
+use Rattle.sched_model.specs.Jobs.{release, due, latest}
+use Rattle.sched_model.specs.Schedule.{schedule_by}
+use Rattle.sched_model.specs.Demand.{published}
+use Rattle.sched_model.proofs.Examples.{task_of, entry_of}
+use Rattle.governor.specs.Rm.{level_work_in}
+use Rattle.rm_response_laws.specs.Responses.{response}
+use Rattle.rm_response_laws.specs.FirstJobs.{is_first_done}
+
+abbrev one_speed_of : ℕ → Table
+one_speed_of speed = record { points = entry_of speed 1000 ∷ []; idle = 0; charge = 0 }
+
+-- two tasks that the published test denies, and that meet their deadlines
+abbrev close_pair : Plan
+close_pair = plan_of (task_of (codes "a") 4 2 ∷ task_of (codes "b") 5 2 ∷ []) (one_speed_of 1) Rm
+
+close_responses : (response close_pair 0 ≡ 2) × (response close_pair 1 ≡ 4)
+unfolding response
+close_responses = (refl, refl)
+
+-- the second one's first job is complete at its response, and not a tick before
+close_firsts : (is_first_done close_pair 1 3 ≡ false) × (is_first_done close_pair 1 4 ≡ true)
+unfolding schedule_by published release due latest
+close_firsts = (refl, refl)
+
+-- two tasks of which the second one has no response
+abbrev late_pair : Plan
+late_pair = plan_of (task_of (codes "a") 4 4 ∷ task_of (codes "b") 6 5 ∷ []) (one_speed_of 2) Rm
+
+late_response : (response late_pair 0 ≡ 2) × (response late_pair 1 ≡ 7) × (level_work_in late_pair 6 1 ≡ 13)
+unfolding response
+late_response = (refl, refl, refl)
+
+late_first : is_first_done late_pair 1 6 ≡ false
+unfolding schedule_by published release due latest
+late_first = refl

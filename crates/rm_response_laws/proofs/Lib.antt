@@ -1,0 +1,9 @@
+pub mod OneSpeed
+pub mod Ceilings
+pub mod Keeping
+pub mod Searching
+pub mod Asking
+pub mod Firsts
+pub mod Responding
+pub mod Iterating
+mod Examples

@@ -1,0 +1,30 @@
+-- The response of a task under RM at the highest speed (Joseph and Pandya 1986).
+use Rattle.std.specs.Prelude.{◌≡◌, ℕ, ◌*◌, ◌<◌, ◌≤◌, Bool, nat_le}
+use Rattle.grid_fraction.specs.Numbers.{first_from}
+use Rattle.sched_model.specs.Plan.{Plan, count, period, offset, top_speed}
+use Rattle.governor.specs.Rm.{level_work_in}
+
+-- in t ticks the highest speed does the work that task i and the tasks before it in RM order can be asked for in them
+abbrev pub is_served : Plan → ℕ → ℕ → Bool
+is_served p i t = nat_le (level_work_in p t i) (top_speed p * t)
+
+-- in no number of ticks below t it does
+abbrev pub IsUnserved : Plan → ℕ → ℕ → Type 0
+IsUnserved p i t = (u : ℕ) → 1 ≤ u → u < t → top_speed p * u < level_work_in p u i
+
+-- the response of task i: the least t from 1 to its period in which it does, and one more than the period where there
+-- is none
+unfoldable pub response : Plan → ℕ → ℕ
+response p i = first_from (period p i) 1 (is_served p i)
+
+-- task i has a response
+abbrev pub HasResponse : Plan → ℕ → Type 0
+HasResponse p i = response p i ≤ period p i
+
+-- each task has one
+abbrev pub AllRespond : Plan → Type 0
+AllRespond p = (i : ℕ) → i < count p → HasResponse p i
+
+-- each task is first released at tick 0
+abbrev pub HasNoOffsets : Plan → Type 0
+HasNoOffsets p = (i : ℕ) → i < count p → offset p i ≡ 0
