@@ -24,7 +24,8 @@ returns-in-Some-first_late-clause-denial c =
 pub returns-in-Some-first_late-clause-missed : goal.returns-in-Some-first_late-clause-missed
 returns-in-Some-first_late-clause-missed c =
     let p : Plan = plan_of c.args.tasks.now c.args.machine.now Rm in
-    let lim : IsWithinLimits p = record { tasks = c.as_slice-tasks.ensures.limits; machine = c.as_slice-entries.ensures.limits } in
+    let lim : IsWithinLimits p =
+    record { tasks = c.as_slice-tasks.ensures.limits; machine = c.as_slice-entries.ensures.limits } in
     let are = c.deref.ensures.value ∙ c.in-Ok.ensures in
     let i = c.in-Some-first_late.task in
     subst (IsMissed p) (sym c.missing.ensures)
@@ -43,14 +44,16 @@ returns-in-None-clause-each c =
 pub returns-in-None-clause-deadlines : goal.returns-in-None-clause-deadlines
 returns-in-None-clause-deadlines c =
     let p : Plan = plan_of c.args.tasks.now c.args.machine.now Rm in
-    let lim : IsWithinLimits p = record { tasks = c.as_slice-tasks.ensures.limits; machine = c.as_slice-entries.ensures.limits } in
+    let lim : IsWithinLimits p =
+    record { tasks = c.as_slice-tasks.ensures.limits; machine = c.as_slice-entries.ensures.limits } in
     let are = c.deref.ensures.value ∙ c.in-Ok.ensures in
     always-meets p lim refl (none-late p c.deref.result.now are c.in-None.ensures)
 
 pub returns-in-None-clause-least : goal.returns-in-None-clause-least
 returns-in-None-clause-least c =
     let p : Plan = plan_of c.args.tasks.now c.args.machine.now Rm in
-    let lim : IsWithinLimits p = record { tasks = c.as_slice-tasks.ensures.limits; machine = c.as_slice-entries.ensures.limits } in
+    let lim : IsWithinLimits p =
+    record { tasks = c.as_slice-tasks.ensures.limits; machine = c.as_slice-entries.ensures.limits } in
     let are = c.deref.ensures.value ∙ c.in-Ok.ensures in
     are-least p c.in-Ok.ticks.items c.in-Ok.ensures lim refl c.in_default.ensures
     (none-late p c.deref.result.now are c.in-None.ensures)
