@@ -1,3 +1,5 @@
-pub mod Inserting
+pub mod Keeping
+pub mod Moving
+pub mod Passing
 pub mod Walked
 pub mod Walking

@@ -50,7 +50,7 @@ module _ (plan : Plan) (s : StateOf) where
   }
 
   walked_slope : (l xs : List ℕ) (i rates first : ℕ) → nat_eq (slack plan due i) 0 ≡ false → Walked (l ++ i ∷ []) xs rates first
-      → Walked l (i ∷ xs) ((rates - rate plan i) + ceil_div ((left i - not_put_off plan s i rates) * hyper plan) (slack plan due i)) (first + not_put_off plan s i rates)
+      → Walked l (i ∷ xs) ((rates - rate plan i) + ceil_div ((left i - not_put_off plan i (left i) (slack plan due i) rates) * hyper plan) (slack plan due i)) (first + not_put_off plan i (left i) (slack plan due i) rates)
   walked_slope l xs i rates first slope was =
       let order : edf_order plan s ≡ l ++ i ∷ xs = was.order ∙ append_assoc l (i ∷ []) xs in
       let before = before_is plan due left l xs i order in
@@ -71,7 +71,7 @@ module _ (plan : Plan) (s : StateOf) where
       })
 
   pub walked_step : (l xs : List ℕ) (i rates first : ℕ) → Walked (l ++ i ∷ []) xs rates first
-      → Walked l (i ∷ xs) (next_rates plan s i rates) (next_first plan s i rates first)
+      → Walked l (i ∷ xs) (next_rates plan i (left i) (slack plan due i) rates) (next_first plan i (left i) (slack plan due i) rates first)
   walked_step l xs i rates first was =
       elim (cases_Bool (nat_eq (slack plan due i) 0)) [
         | inl flat ↦ rw flat (walked_flat l xs i rates first flat was)

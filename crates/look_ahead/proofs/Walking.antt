@@ -2,9 +2,8 @@
 use Rattle.std.proofs.Common.{◌≡◌, ℕ, ◌+◌, ◌-◌, ◌*◌, ◌^◌, ◌<◌, ◌≤◌, Bool, true, false, List, [], ◌∷◌, ◌++◌, length, get_or, take, drop, refl, sym, ◌∙◌, ap, subst, arith}
 use Rattle.std.specs.Prelude.{◌/◌, nat_eq, if◌then◌else◌}
 use Rattle.std.proofs.Math.ListN.{drop_of_length-le}
-use Rattle.std.proofs.lemmas.List.{append-nil, take_more, drop_more, take_all, get_or-take}
+use Rattle.std.proofs.lemmas.List.{append-nil, get_or_read, take_more, drop_more, take_all}
 use Rattle.sched_model.specs.Plan.{Plan, count, hyper, rate, top_speed}
-use Rattle.sched_model.specs.Order.{in_order}
 use Rattle.sched_model.specs.Tests.{total_rate}
 use Rattle.sched_model.specs.Admission.{IsWithinLimits, IsAdmitted}
 use Rattle.sched_model.specs.States.{StateOf, row_at, IsOfPlan}
@@ -28,21 +27,21 @@ module _ (plan : Plan) (s : StateOf) where
   order_long : length (edf_order plan s) ≡ count plan
   order_long = length-in_order (deadline_at s) (count plan)
 
-  -- the task in turn where the last j are done
+  -- the list has each task once, so few
+  pub tasks_long : (order : List ℕ) → order ≡ edf_order plan s → length order ≡ count plan
+  tasks_long order is = ap (λ (xs : List ℕ). length xs) is ∙ order_long
+
+  -- the task at a place
   abbrev pub turn : ℕ → ℕ
-  turn j = get_or (edf_order plan s) (count plan - 1 - j) 0
+  turn k = get_or (edf_order plan s) k 0
 
-  pub turn_below : (j : ℕ) → j < count plan → turn j < count plan
-  turn_below j lt =
-      below-at (count plan) (edf_order plan s) (count plan - 1 - j) (in_order-below (deadline_at s) (count plan)) (rw order_long (omega arith))
+  pub turn_below : (k : ℕ) → k < count plan → turn k < count plan
+  turn_below k lt = below-at (count plan) (edf_order plan s) k (in_order-below (deadline_at s) (count plan)) (rw order_long lt)
 
-  -- it stands in the sorted array
-  pub turn_is : (n j : ℕ) (order : List ℕ) → n ≡ count plan → take n order ≡ in_order (deadline_at s) n → j < n
-      → get_or order (n - 1 - j) 0 ≡ turn j
-  turn_is n j order same made lt =
-      let sorted : take n order ≡ edf_order plan s = made ∙ ap (in_order (deadline_at s)) same in
-      let place : n - 1 - j ≡ count plan - 1 - j = omega arith in
-      sym (get_or-take n order (n - 1 - j) 0 (omega arith)) ∙ (ap (λ (xs : List ℕ). get_or xs (n - 1 - j) 0) sorted ∙ ap (λ (k : ℕ). get_or (edf_order plan s) k 0) place)
+  -- where it was read
+  turn_read : (order : List ℕ) → order ≡ edf_order plan s → (k i : ℕ) → k < length order → i ≡ get_or order k i → i ≡ turn k
+  turn_read order is k i lt read =
+      get_or_read order k i lt read 0 ∙ ap (λ (xs : List ℕ). get_or xs k 0) is
 
   -- what a job may need is low
   pub left_low : IsWithinLimits plan → IsOfPlan plan s → (i : ℕ) → i < count plan → wleft_at s i ≤ 2 ^ 61
@@ -55,51 +54,79 @@ module _ (plan : Plan) (s : StateOf) where
       omega (arith, most, is, declared, charge)
 
   pub first_grows : IsWithinLimits plan → IsOfPlan plan s → (i rates first : ℕ) → i < count plan
-      → next_first plan s i rates first ≤ first + 2 ^ 61
+      → next_first plan i (wleft_at s i) (slack plan (deadline_at s) i) rates first ≤ first + 2 ^ 61
   first_grows lim of i rates first lt =
-      let by : next_first plan s i rates first ≤ first + wleft_at s i =
-      first_by (nat_eq (slack plan (deadline_at s) i) 0) first (wleft_at s i) ((top_speed plan * hyper plan - (rates - rate plan i)) * slack plan (deadline_at s) i / hyper plan) in
+      let late = slack plan (deadline_at s) i in
+      let room = (top_speed plan * hyper plan - (rates - rate plan i)) * late / hyper plan in
+      let by : next_first plan i (wleft_at s i) late rates first ≤ first + wleft_at s i =
+      first_by (nat_eq late 0) first (wleft_at s i) room in
       omega (arith, by, left_low lim of i lt)
 
-  -- the last j tasks are done
+  -- all tasks but the first k are done
   abbrev pub Done : ℕ → ℕ → ℕ → Type 0
-  Done j rates first = Walked plan s (take (count plan - j) (edf_order plan s)) (drop (count plan - j) (edf_order plan s)) rates first
+  Done k rates first = Walked plan s (take k (edf_order plan s)) (drop k (edf_order plan s)) rates first
 
-  pub done_none : (rates : ℕ) → rates ≡ total_rate plan → Done 0 rates 0
-  done_none rates is =
-      let long : length (edf_order plan s) ≤ count plan - 0 = rw order_long (omega arith) in
-      let front : take (count plan - 0) (edf_order plan s) ≡ edf_order plan s = take_all (count plan - 0) (edf_order plan s) long in
-      let back : drop (count plan - 0) (edf_order plan s) ≡ [] = drop_of_length-le (edf_order plan s) long in
-      rw (front, back) (record { order = sym (append-nil (edf_order plan s)); rates_are = omega (arith, is, total_is plan s); first_is = refl })
+  pub done_none : (n rates : ℕ) → n ≡ count plan → rates ≡ total_rate plan → Done n rates 0
+  done_none n rates all is =
+      let long : length (edf_order plan s) ≤ n = omega (arith, order_long) in
+      let front : take n (edf_order plan s) ≡ edf_order plan s = take_all n (edf_order plan s) long in
+      let back : drop n (edf_order plan s) ≡ [] = drop_of_length-le (edf_order plan s) long in
+      rw (front, back) (record {
+        order = sym (append-nil (edf_order plan s));
+        rates_are = omega (arith, is, total_is plan s);
+        first_is = refl;
+      })
 
-  module _ (j rates first : ℕ) (lt : j < count plan) (was : Done j rates first) where
-    abbrev place : ℕ
-    place = count plan - 1 - j
-
+  module _ (k rates first : ℕ) (lt : k < count plan) (was : Done (k + 1) rates first) where
     -- the tasks still to come end with the one in turn
-    in_turn : Walked plan s (take place (edf_order plan s) ++ turn j ∷ []) (drop (count plan - j) (edf_order plan s)) rates first
+    in_turn : Walked plan s (take k (edf_order plan s) ++ turn k ∷ []) (drop (k + 1) (edf_order plan s)) rates first
     in_turn =
-        let more : take (count plan - j) (edf_order plan s) ≡ take place (edf_order plan s) ++ turn j ∷ [] =
-        (let e : count plan - j ≡ place + 1 = omega arith in rw e (take_more (edf_order plan s) place 0 (rw order_long (omega arith)))) in
-        subst (λ (l : List ℕ). Walked plan s l (drop (count plan - j) (edf_order plan s)) rates first) more was
+        subst (λ (l : List ℕ). Walked plan s l (drop (k + 1) (edf_order plan s)) rates first)
+        (take_more (edf_order plan s) k 0 (rw order_long lt)) was
 
-    pub done_next : Done (j + 1) (next_rates plan s (turn j) rates) (next_first plan s (turn j) rates first)
+    pub done_next : Done k (next_rates plan (turn k) (wleft_at s (turn k)) (slack plan (deadline_at s) (turn k)) rates)
+        (next_first plan (turn k) (wleft_at s (turn k)) (slack plan (deadline_at s) (turn k)) rates first)
     done_next =
-        let at : count plan - (j + 1) ≡ place = omega arith in
-        let less : drop place (edf_order plan s) ≡ turn j ∷ drop (count plan - j) (edf_order plan s) =
-        (let e : count plan - j ≡ place + 1 = omega arith in rw e (drop_more (edf_order plan s) place 0 (rw order_long (omega arith)))) in
-        rw (at, less) (walked_step plan s (take place (edf_order plan s)) (drop (count plan - j) (edf_order plan s)) (turn j) rates first in_turn)
+        let less : drop k (edf_order plan s) ≡ turn k ∷ drop (k + 1) (edf_order plan s) =
+        drop_more (edf_order plan s) k 0 (rw order_long lt) in
+        rw less (walked_step plan s (take k (edf_order plan s)) (drop (k + 1) (edf_order plan s)) (turn k) rates first in_turn)
 
     -- the task's own rate is in the sum
-    pub has_rate : rate plan (turn j) ≤ rates
-    has_rate = omega (arith, sum_list-snoc (rate plan) (take place (edf_order plan s)) (turn j), in_turn.rates_are)
+    pub has_rate : rate plan (turn k) ≤ rates
+    has_rate = omega (arith, sum_list-snoc (rate plan) (take k (edf_order plan s)) (turn k), in_turn.rates_are)
 
     -- the sum is within what the highest speed has
     pub rates_low : IsAdmitted plan → ServesEdf plan.scheduler → rates ≤ top_speed plan * hyper plan
     rates_low adm serves =
-        let l = take (count plan - j) (edf_order plan s) in
-        let xs = drop (count plan - j) (edf_order plan s) in
+        let l = take (k + 1) (edf_order plan s) in
+        let xs = drop (k + 1) (edf_order plan s) in
         let whole : sum_list (rate plan) (edf_order plan s) ≡ sum_list (rate plan) l + sum_list (rate plan) xs =
         ap (sum_list (rate plan)) was.order ∙ sum_list-append (rate plan) l xs in
         let fits = rates_fit plan s adm serves in
-        rw was.rates_are (rate_within plan (deadline_at s) (wleft_at s) l xs was.order (some_hyper plan adm.limits) (omega (arith, whole, fits)))
+        let within = rate_within plan (deadline_at s) (wleft_at s) l xs was.order (some_hyper plan adm.limits) in
+        rw was.rates_are (within (omega (arith, whole, fits)))
+
+  -- the task of a step, read from the list, where the last task to come is the n-th
+  module _ (order : List ℕ) (is : order ≡ edf_order plan s) (n i : ℕ) (some : 0 < n) (low : n ≤ length order) (read : i ≡ get_or order (n - 1) i) where
+    place_low : n - 1 < count plan
+    place_low = omega (arith, tasks_long order is)
+
+    step_task : i ≡ turn (n - 1)
+    step_task = turn_read order is (n - 1) i (omega arith) read
+
+    pub step_below : i < count plan
+    step_below = rw step_task (turn_below (n - 1) place_low)
+
+    module _ (rates first : ℕ) (was : Done n rates first) where
+      up : Done (n - 1 + 1) rates first
+      up = let e : n ≡ n - 1 + 1 = omega arith in subst (λ (m : ℕ). Done m rates first) e was
+
+      pub step_part : rate plan i ≤ rates
+      step_part = rw step_task (has_rate (n - 1) rates first place_low up)
+
+      pub step_fits : IsAdmitted plan → ServesEdf plan.scheduler → rates ≤ top_speed plan * hyper plan
+      step_fits adm serves = rates_low (n - 1) rates first place_low up adm serves
+
+      pub step_next : Done (n - 1) (next_rates plan i (wleft_at s i) (slack plan (deadline_at s) i) rates)
+          (next_first plan i (wleft_at s i) (slack plan (deadline_at s) i) rates first)
+      step_next = rw step_task (done_next (n - 1) rates first place_low up)

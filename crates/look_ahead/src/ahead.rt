@@ -1,5 +1,5 @@
 // The governor of look-ahead.
-ghost use Rattle.std.specs.Prelude.{◌≡◌, IfOk, IsOk};
+ghost use Rattle.std.specs.Prelude.{◌≡◌, IfOk};
 ghost use Rattle.dvs_base.specs.declared.kind.GovernorKind.TheVariants.{Ahead};
 ghost use Rattle.freq_table.specs.Tables.{lowest_entry, lowest_pick};
 ghost use Rattle.sched_model.specs.States.{opening, IsOfPlan};
@@ -7,10 +7,11 @@ ghost use Rattle.governor.specs.Steps.{IsAtDecision};
 ghost use Rattle.governor.specs.Serving.{ServesEdf};
 ghost use Rattle.look_ahead_laws.specs.Ahead.{ahead_demand, AheadCalm, AheadSafe};
 ghost use Rattle.look_ahead_laws.specs.Whole.{HasSpread, IsDemandOfSpread, RatesFit};
+ghost use Rattle.look_ahead.specs.Counters.{Keeps};
 ghost use Rattle.look_ahead_laws.proofs.AheadLaws.{ahead_laws};
 ghost use Rattle.look_ahead_laws.proofs.Publishing.{ahead_publishing};
 
-use crate::walk::ahead_demand;
+use crate::order::{move_to_place, opening_order};
 use dvs_base::{GovernorKind, NoMemory};
 use governor::{Choice, Governor, Publishing};
 use sched_model::{Admitted, State};
@@ -20,18 +21,21 @@ use std::alloc::Global;
 /// then (Pillai and Shin 2001).
 #[derive(Drop)]
 pub struct LookAhead {
-    counters: (),
+    pub(crate) left: Vec<u64>,
+    pub(crate) order: Vec<u32>,
 }
 
 impl LookAhead {
-    /// The governor for a plan under EDF, before the first release. It takes no memory and is never refused.
-    pub fn new(_alloc: Global, plan: &Admitted) -> Result<LookAhead, NoMemory>
+    /// The governor for a plan under EDF, before the first release. It fails only where memory runs out.
+    pub fn new(alloc: Global, plan: &Admitted) -> Result<LookAhead, NoMemory>
         requires { ServesEdf plan.now.scheduler }
-        ensures made { IsOk result }
         ensures stands { IfOk result (λ g. ⟦<LookAhead as Governor>⟧.stands g plan.now (opening plan.now)) }
     {
-        let _tasks = plan.count();
-        Ok(LookAhead { counters: () })
+        let order = opening_order(alloc, plan)?;
+        match vec![in alloc; 0; plan.count() as usize] {
+            Ok(left) => Ok(LookAhead { left, order }),
+            Err(_) => Err(NoMemory),
+        }
     }
 }
 
@@ -46,11 +50,11 @@ impl Governor for LookAhead {
 
     ghost safe = { AheadSafe };
 
-    ghost stands = { λ g plan s. ServesEdf plan.scheduler };
+    ghost stands = { λ g plan s. Keeps g.left.items g.order.items plan s };
 
-    ghost serves_plan = { λ g plan s stands. stands };
+    ghost serves_plan = { λ g plan s stands. stands.served };
 
-    ghost waits = { λ g plan s to later stands. stands };
+    ghost waits = { λ g plan s to later stands. record { served = stands.served; left_is = stands.left_is; order_is = stands.order_is } };
 
     ghost laws = { ahead_laws };
 
@@ -58,11 +62,18 @@ impl Governor for LookAhead {
         GovernorKind::Ahead
     }
 
-    fn released(&mut self, _plan: &Admitted, _view: &State, _task: u32) {}
+    fn released(&mut self, plan: &Admitted, view: &State, task: u32) {
+        self.left[task as usize] = view.rows[task as usize].worst;
+        move_to_place(&mut self.order, plan, view, task);
+    }
 
-    fn ran(&mut self, _plan: &Admitted, _view: &State, _task: u32, _units: u64) {}
+    fn ran(&mut self, _plan: &Admitted, _view: &State, task: u32, units: u64) {
+        self.left[task as usize] -= units;
+    }
 
-    fn finished(&mut self, _plan: &Admitted, _view: &State, _task: u32) {}
+    fn finished(&mut self, _plan: &Admitted, _view: &State, task: u32) {
+        self.left[task as usize] = 0;
+    }
 
     fn settled(&mut self, _plan: &Admitted, _view: &State) {}
 
@@ -72,7 +83,7 @@ impl Governor for LookAhead {
     /// the highest speed does in a hyperperiod.
     fn choose(&self, plan: &Admitted, view: &State) -> Choice
         requires of { IsOfPlan plan.now view.now }
-        requires counters { ServesEdf plan.now.scheduler }
+        requires counters { Keeps self.now.left.items self.now.order.items plan.now view.now }
         requires decision { IsAtDecision plan.now view.now }
         ensures demand { result.demand ≡ ahead_demand plan.now view.entry.now }
         ensures index { result.index ≡ lowest_entry plan.now.machine (ahead_demand plan.now view.entry.now) }
@@ -82,7 +93,7 @@ impl Governor for LookAhead {
         ensures rates_fit { RatesFit plan.now view.entry.now }
     {
         plan.known();
-        let demand = ahead_demand(plan, view);
+        let demand = self.demand(plan, view);
         let pick = plan.machine().lowest(demand);
         Choice {
             index: pick.index,

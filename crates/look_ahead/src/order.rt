@@ -1,10 +1,47 @@
 // The tasks in EDF order.
-ghost use Rattle.std.specs.Prelude.{◌≡◌, ◌+◌, ◌<◌, ◌≤◌, take};
-ghost use Rattle.sched_model.specs.Priority.{stands_before};
-ghost use Rattle.sched_model.specs.Order.{insert_by, in_order};
-ghost use Rattle.look_ahead_laws.specs.Ahead.{deadline_at};
+ghost use Rattle.std.specs.Prelude.{◌≡◌, IfOk, map};
+ghost use Rattle.grid_fraction.specs.Numbers.{list_below};
+ghost use Rattle.sched_model.specs.Plan.{count, offset};
+ghost use Rattle.sched_model.specs.States.{opening, after_release, CanRelease};
+ghost use Rattle.look_ahead_laws.specs.Ahead.{deadline_at, edf_order};
+ghost use Rattle.look_ahead.specs.Counters.{stands_before_due};
 
-use sched_model::State;
+use dvs_base::NoMemory;
+use sched_model::{Admitted, State};
+use std::alloc::Global;
+
+// Each task's offset in ticks, at which its job 0 is due, and its number.
+fn offsets_of(alloc: Global, plan: &Admitted) -> Result<Vec<(u64, u32)>, NoMemory>
+    ensures { IfOk result (λ v. v.items ≡ list_below (count plan.now) (λ i. (offset plan.now i, i))) }
+{
+    let mut offsets = Vec::new(alloc);
+    for task in 0..plan.count() {
+        offsets
+            .push((plan.offset(task), task))
+            .map_err(|_| NoMemory)?;
+    }
+    Ok(offsets)
+}
+
+// The numbers of the tasks.
+fn tasks_of(alloc: Global, offsets: &[(u64, u32)]) -> Result<Vec<u32>, NoMemory>
+    ensures { IfOk result (λ v. v.items ≡ map (λ k. k.1) offsets.now) }
+{
+    offsets
+        .iter()
+        .map(|first| first.1)
+        .collect(alloc)
+        .map_err(|_| NoMemory)
+}
+
+// The tasks in EDF order before the first release.
+pub(crate) fn opening_order(alloc: Global, plan: &Admitted) -> Result<Vec<u32>, NoMemory>
+    ensures { IfOk result (λ v. v.items ≡ edf_order plan.now (opening plan.now)) }
+{
+    let mut offsets = offsets_of(alloc, plan)?;
+    offsets.sort_unstable();
+    tasks_of(alloc, &offsets)
+}
 
 // The deadline of a task's latest job, and 0 where there is no such task.
 fn deadline_of(view: &State, task: u32) -> u64
@@ -16,42 +53,26 @@ fn deadline_of(view: &State, task: u32) -> u64
     }
 }
 
-// Whether one task stands before another: by the deadline, and by the place among equal deadlines.
-fn is_before(view: &State, one: u32, other: u32) -> bool
-    ensures { result ≡ stands_before (deadline_at view.entry.now) one other }
+// Whether a task stands before another one that is due at such a tick.
+fn stands_before_due(view: &State, task: u32, other: u32, due: u64) -> bool
+    ensures { result ≡ stands_before_due (deadline_at view.entry.now) other due task }
 {
-    let mine = deadline_of(view, one);
-    let its = deadline_of(view, other);
-    mine < its || (mine == its && one < other)
+    let deadline = deadline_of(view, task);
+    deadline < due || (deadline == due && task < other)
 }
 
-// Puts a task in its place among the first `count` of the order.
-fn insert(view: &State, order: &mut [u32; 64], count: usize, task: u32)
-    requires { count < 64 }
-    ensures { take (count + 1) order.new ≡ insert_by (deadline_at view.entry.now) task (take count order.old) }
+// Moves a task whose next job is released to its place in EDF order.
+pub(crate) fn move_to_place(order: &mut [u32], plan: &Admitted, view: &State, task: u32)
+    requires can { CanRelease plan.now view.now task }
+    requires order { order.old ≡ edf_order plan.now view.now }
+    ensures { order.new ≡ edf_order plan.now (after_release plan.now view.entry.now task) }
 {
-    let mut carried = task;
-    let mut placed = false;
-    for k in 0..count {
-        let other = order[k];
-        let before = is_before(view, carried, other);
-        if placed || before {
-            order[k] = carried;
-            carried = other;
-            placed = true;
+    let due = view.rows[task as usize].deadline + plan.period(task);
+    for k in 0..order.len() - 1 {
+        let next = order[k + 1];
+        if order[k] == task && stands_before_due(view, next, task, due) {
+            order[k] = next;
+            order[k + 1] = task;
         }
     }
-    order[count] = carried;
-}
-
-// The first `count` tasks in EDF order.
-pub(crate) fn edf_order(view: &State, count: u32) -> [u32; 64]
-    requires { count ≤ 64 }
-    ensures { take count result ≡ in_order (deadline_at view.entry.now) count }
-{
-    let mut order = [0u32; 64];
-    for task in 0..count {
-        insert(view, &mut order, task as usize, task);
-    }
-    order
 }

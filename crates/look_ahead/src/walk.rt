@@ -2,16 +2,17 @@
 ghost use Rattle.std.specs.Prelude.{◌≡◌, ◌+◌, ◌*◌, ◌-◌, ◌/◌, ◌<◌, ◌≤◌, ◌^◌};
 ghost use Rattle.grid_fraction.specs.Numbers.{ceil_div};
 ghost use Rattle.sched_model.specs.Plan.{count, hyper, rate, top_speed};
-ghost use Rattle.sched_model.specs.States.{row_wleft, IsOfPlan};
-ghost use Rattle.governor.specs.Steps.{earliest_in, IsAtDecision};
-ghost use Rattle.governor.specs.Serving.{ServesEdf};
-ghost use Rattle.look_ahead_laws.specs.Ahead.{ahead_demand};
+ghost use Rattle.sched_model.specs.AheadDemand.{slack};
+ghost use Rattle.sched_model.specs.States.{IsOfPlan};
+ghost use Rattle.governor.specs.Steps.{earliest_in, wleft_at, IsAtDecision};
+ghost use Rattle.look_ahead_laws.specs.Ahead.{ahead_demand, deadline_at};
+ghost use Rattle.look_ahead.specs.Counters.{Keeps};
 ghost use Rattle.look_ahead.specs.Walk.{next_rates, next_first};
 
-use crate::order::edf_order;
+use crate::LookAhead;
 use governor::earliest_deadline;
 use grid_fraction::{Frac, mul_down, up};
-use sched_model::{Admitted, Row, State};
+use sched_model::{Admitted, State};
 
 // Of one task, or of the walk so far: rates in work units per hyperperiod, and the work units that have to run before the
 // earliest deadline.
@@ -21,12 +22,12 @@ struct Totals {
     first: u128,
 }
 
-// What a job may still need at most.
-fn worst_left(row: Row) -> u64
-    requires { row.used ≤ row.worst }
-    ensures { result ≡ row_wleft row }
-{
-    if row.done { 0 } else { row.worst - row.used }
+// A task's latest job: the work units that it may still need, and how many ticks after the earliest deadline it is due.
+#[derive(Clone, Copy)]
+struct Pending {
+    task: u32,
+    left: u64,
+    slack: u64,
 }
 
 // Of a job that may need so many units and is due `slack` ticks after the earliest deadline: the units that can't be put
@@ -48,59 +49,72 @@ fn spread(spare: u128, left: u64, slack: u64, hyper: u64) -> Totals
 }
 
 // One task of the walk.
-fn step(plan: &Admitted, view: &State, soonest: u64, task: u32, totals: Totals) -> Totals
-    requires of { IsOfPlan plan.now view.now }
-    requires decision { IsAtDecision plan.now view.now }
-    requires task { task < count plan.now }
-    requires soonest { soonest ≡ earliest_in plan.now view.now }
+fn step(plan: &Admitted, job: Pending, totals: Totals) -> Totals
+    requires task { job.task < count plan.now }
+    requires soon { job.slack ≤ 2 ^ 40 }
     requires fits { totals.rates ≤ top_speed plan.now * hyper plan.now }
-    requires part { rate plan.now task ≤ totals.rates }
+    requires part { rate plan.now job.task ≤ totals.rates }
     requires small { totals.first ≤ 2 ^ 67 }
-    ensures rates { result.rates ≡ next_rates plan.now view.entry.now task totals.rates }
-    ensures first { result.first ≡ next_first plan.now view.entry.now task totals.rates totals.first }
+    ensures rates { result.rates ≡ next_rates plan.now job.task job.left job.slack totals.rates }
+    ensures first { result.first ≡ next_first plan.now job.task job.left job.slack totals.rates totals.first }
 {
     plan.known();
-    let row = view.rows[task as usize];
-    let left = worst_left(row);
-    let slack = row.deadline - soonest;
-    if slack == 0 {
+    if job.slack == 0 {
         return Totals {
             rates: totals.rates,
-            first: totals.first + u128::from(left),
+            first: totals.first + u128::from(job.left),
         };
     }
     let hyper = plan.hyper();
-    let rest = totals.rates - u128::from(plan.worst(task)) * u128::from(hyper / plan.period(task));
+    let rest =
+        totals.rates - u128::from(plan.worst(job.task)) * u128::from(hyper / plan.period(job.task));
     let spare = u128::from(plan.machine().top()) * u128::from(hyper) - rest;
-    let part = spread(spare, left, slack, hyper);
+    let part = spread(spare, job.left, job.slack, hyper);
     Totals {
         rates: rest + part.rates,
         first: totals.first + part.first,
     }
 }
 
-/// The demand of look-ahead in work units per tick, not reduced: what can't be put off past the earliest deadline, over
-/// the time up to it (Pillai and Shin 2001).
-pub(crate) fn ahead_demand(plan: &Admitted, view: &State) -> Frac
-    requires serves { ServesEdf plan.now.scheduler }
-    requires of { IsOfPlan plan.now view.now }
-    requires decision { IsAtDecision plan.now view.now }
-    ensures { result ≡ ahead_demand plan.now view.entry.now }
-{
-    plan.known();
-    let count = plan.count();
-    let order = edf_order(view, count);
-    let soonest = earliest_deadline(plan, view);
-    let mut totals = Totals {
-        rates: plan.static_demand().num,
-        first: 0,
-    };
-    for j in 0..count {
-        let task = order[(count - 1 - j) as usize];
-        totals = step(plan, view, soonest, task, totals);
+impl LookAhead {
+    // The latest job of a task, where the earliest deadline is `soonest`.
+    fn pending(&self, plan: &Admitted, view: &State, soonest: u64, task: u32) -> Pending
+        requires of { IsOfPlan plan.now view.now }
+        requires counters { Keeps self.now.left.items self.now.order.items plan.now view.now }
+        requires soonest { soonest ≡ earliest_in plan.now view.now }
+        requires task { task < count plan.now }
+        ensures task { result.task ≡ task }
+        ensures left { result.left ≡ wleft_at view.entry.now task }
+        ensures slack { result.slack ≡ slack plan.now (deadline_at view.entry.now) task }
+    {
+        Pending {
+            task,
+            left: self.left[task as usize],
+            slack: view.rows[task as usize].deadline - soonest,
+        }
     }
-    Frac {
-        num: totals.first,
-        den: u128::from(soonest - view.now),
+
+    // The demand of look-ahead in work units per tick, not reduced: what can't be put off past the earliest deadline, over
+    // the time up to it (Pillai and Shin 2001).
+    pub(crate) fn demand(&self, plan: &Admitted, view: &State) -> Frac
+        requires of { IsOfPlan plan.now view.now }
+        requires counters { Keeps self.now.left.items self.now.order.items plan.now view.now }
+        requires decision { IsAtDecision plan.now view.now }
+        ensures { result ≡ ahead_demand plan.now view.entry.now }
+    {
+        plan.known();
+        let soonest = earliest_deadline(plan, view);
+        let mut totals = Totals {
+            rates: plan.static_demand().num,
+            first: 0,
+        };
+        for k in (0..self.order.len()).rev() {
+            let job = self.pending(plan, view, soonest, self.order[k]);
+            totals = step(plan, job, totals);
+        }
+        Frac {
+            num: totals.first,
+            den: u128::from(soonest - view.now),
+        }
     }
 }

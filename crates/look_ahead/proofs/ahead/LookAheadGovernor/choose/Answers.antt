@@ -6,13 +6,13 @@ use Rattle.look_ahead.proofs.ahead.LookAheadGovernor.choose.Goals as goal
 pub lowest-pick-requires-clause-some : goal.lowest-pick-requires-clause-some
 lowest-pick-requires-clause-some c =
     let den = ahead_den c.args.plan.now c.args.view.now c.known.ensures c.requires.decision in
-    let is = ap (λ d. d.den) c.ahead_demand-demand.ensures in
+    let is = ap (λ d. d.den) c.demand-demand.ensures in
     omega (arith, den.0, is)
 
 pub lowest-pick-requires-clause-fits : goal.lowest-pick-requires-clause-fits
 lowest-pick-requires-clause-fits c =
     let den = ahead_den c.args.plan.now c.args.view.now c.known.ensures c.requires.decision in
-    let is = ap (λ d. d.den) c.ahead_demand-demand.ensures in
+    let is = ap (λ d. d.den) c.demand-demand.ensures in
     omega (arith, den.1, is)
 
 pub returns-clause-spread_exists : goal.returns-clause-spread_exists
@@ -22,4 +22,4 @@ pub returns-clause-spread_demand : goal.returns-clause-spread_demand
 returns-clause-spread_demand c = is_demand c.args.plan.now c.args.view.now
 
 pub returns-clause-rates_fit : goal.returns-clause-rates_fit
-returns-clause-rates_fit c = rates_are_within c.args.plan.now c.args.view.now c.known.ensures c.requires.counters
+returns-clause-rates_fit c = rates_are_within c.args.plan.now c.args.view.now c.known.ensures c.requires.counters.served

@@ -1,0 +1,239 @@
+-- A task whose deadline grows, moved to its place in EDF order.
+use Rattle.std.proofs.Common.{◌≡◌, ◌≢◌, ◌⊎◌, inl, inr, eq-or-lt_of_le, le_of_suc-le-suc, ℕ, zero, suc, ◌<◌, ◌≤◌, Bool, true, false, List, [], ◌∷◌, length, get_or, drop, refl, arith, ap, ap₂, sym, subst, ◌∙◌, nat_eq, nat_lt, if◌then◌else◌, true≢false}
+use Rattle.std.specs.Prelude.{◌||◌, ◌&&◌}
+use Rattle.std.proofs.lemmas.Bool.Decides.{nat_tests}
+use Rattle.std.proofs.lemmas.List.{drop_more}
+use Rattle.sched_model.specs.Priority.{stands_before}
+use Rattle.sched_model.specs.Order.{insert_by, in_order}
+use Rattle.sched_model.proofs.PriorityLemmas.{before-self, before-trans, before-not, before-total}
+use Rattle.sched_model.proofs.OrderLemmas.{IsAhead, IsOrdered, AreBelow, in_order-below, in_order-ordered, in_order-same, length-in_order}
+use Rattle.look_ahead.specs.Counters.{stands_before_due}
+
+-- a list with x in front, in which task i goes back behind those that pass the test, up to the first that doesn't
+abbrev pub moved_back : (ℕ → Bool) → ℕ → ℕ → List ℕ → List ℕ
+moved_back test i x [] = x ∷ []
+moved_back test i x (y ∷ ys) =
+    if nat_eq x i && test y then y ∷ moved_back test i x ys else x ∷ moved_back test i y ys
+
+-- a list in which task i is inserted again, among those behind it
+abbrev reinserted : (ℕ → ℕ) → ℕ → List ℕ → List ℕ
+reinserted key i [] = []
+reinserted key i (x ∷ xs) = if nat_eq x i then insert_by key i xs else x ∷ reinserted key i xs
+
+insert-yes : (key : ℕ → ℕ) (i x : ℕ) (xs : List ℕ) → stands_before key i x ≡ true → insert_by key i (x ∷ xs) ≡ i ∷ x ∷ xs
+insert-yes key i x xs p = rw p refl
+
+insert-no : (key : ℕ → ℕ) (i x : ℕ) (xs : List ℕ) → stands_before key i x ≡ false
+    → insert_by key i (x ∷ xs) ≡ x ∷ insert_by key i xs
+insert-no key i x xs p = rw p refl
+
+-- the order in which two are inserted doesn't matter
+module _ (key : ℕ → ℕ) (i j : ℕ) (apart : i ≢ j) where
+  insert-two : (x : ℕ) (xs : List ℕ) → insert_by key i (insert_by key j xs) ≡ insert_by key j (insert_by key i xs)
+      → insert_by key i (insert_by key j (x ∷ xs)) ≡ insert_by key j (insert_by key i (x ∷ xs))
+  insert-two x xs ih = go (stands_before key i x) (stands_before key j x) (stands_before key i j) refl refl refl
+    where
+      go : (a b c : Bool) → stands_before key i x ≡ a → stands_before key j x ≡ b → stands_before key i j ≡ c
+          → insert_by key i (insert_by key j (x ∷ xs)) ≡ insert_by key j (insert_by key i (x ∷ xs))
+      go true true true p q r =
+          ap (insert_by key i) (insert-yes key j x xs q)
+          ∙ (insert-yes key i j (x ∷ xs) r
+          ∙ (ap (λ (ys : List ℕ). i ∷ ys) (sym (insert-yes key j x xs q))
+          ∙ (sym (insert-no key j i (x ∷ xs) (before-not key i j r))
+          ∙ ap (insert_by key j) (sym (insert-yes key i x xs p)))))
+      go true true false p q r =
+          let s : stands_before key j i ≡ true = before-total key i j apart r in
+          ap (insert_by key i) (insert-yes key j x xs q)
+          ∙ (insert-no key i j (x ∷ xs) r
+          ∙ (ap (λ (ys : List ℕ). j ∷ ys) (insert-yes key i x xs p)
+          ∙ (sym (insert-yes key j i (x ∷ xs) s)
+          ∙ ap (insert_by key j) (sym (insert-yes key i x xs p)))))
+      go true false c p q r =
+          let s : stands_before key j i ≡ false = grind (arith, nat_tests) in
+          ap (insert_by key i) (insert-no key j x xs q)
+          ∙ (insert-yes key i x (insert_by key j xs) p
+          ∙ (ap (λ (ys : List ℕ). i ∷ ys) (sym (insert-no key j x xs q))
+          ∙ (sym (insert-no key j i (x ∷ xs) s)
+          ∙ ap (insert_by key j) (sym (insert-yes key i x xs p)))))
+      go false true c p q r =
+          let s : stands_before key i j ≡ false = grind (arith, nat_tests) in
+          ap (insert_by key i) (insert-yes key j x xs q)
+          ∙ (insert-no key i j (x ∷ xs) s
+          ∙ (ap (λ (ys : List ℕ). j ∷ ys) (insert-no key i x xs p)
+          ∙ (sym (insert-yes key j x (insert_by key i xs) q)
+          ∙ ap (insert_by key j) (sym (insert-no key i x xs p)))))
+      go false false c p q r =
+          ap (insert_by key i) (insert-no key j x xs q)
+          ∙ (insert-no key i x (insert_by key j xs) p
+          ∙ (ap (λ (ys : List ℕ). x ∷ ys) ih
+          ∙ (sym (insert-no key j x (insert_by key i xs) q)
+          ∙ ap (insert_by key j) (sym (insert-no key i x xs p)))))
+
+  insert-swap : (xs : List ℕ) → insert_by key i (insert_by key j xs) ≡ insert_by key j (insert_by key i xs)
+  insert-swap [] = go (stands_before key i j) refl
+    where
+      go : (c : Bool) → stands_before key i j ≡ c → insert_by key i (j ∷ []) ≡ insert_by key j (i ∷ [])
+      go true r = insert-yes key i j [] r ∙ sym (insert-no key j i [] (before-not key i j r))
+      go false r =
+          let s : stands_before key j i ≡ true = before-total key i j apart r in
+          insert-no key i j [] r ∙ sym (insert-yes key j i [] s)
+  insert-swap (x ∷ xs) = insert-two x xs (insert-swap xs)
+
+-- each of them has another number
+abbrev AreOthers : ℕ → List ℕ → Type 0
+AreOthers i [] = Unit {0}
+AreOthers i (x ∷ xs) = (x ≢ i) × AreOthers i xs
+
+others-below : (i : ℕ) (xs : List ℕ) → AreBelow i xs → AreOthers i xs
+others-below i [] b = tt
+others-below i (x ∷ xs) b = let lt = b.0 in ((λ e. omega arith), others-below i xs b.1)
+
+others-ahead : (key : ℕ → ℕ) (i : ℕ) (xs : List ℕ) → IsAhead key i xs → AreOthers i xs
+others-ahead key i [] a = tt
+others-ahead key i (x ∷ xs) a = (
+  (λ e. let self : stands_before key i i ≡ true = subst (λ (j : ℕ). stands_before key i j ≡ true) e a.0 in absurd (true≢false (sym self ∙ before-self key i))),
+  others-ahead key i xs a.1,
+)
+
+not-eq : (x i : ℕ) → x ≢ i → nat_eq x i ≡ false
+not-eq x i ne = grind (arith, nat_tests)
+
+-- the key of task i grows, and no other changes
+module _ (key key' : ℕ → ℕ) (i : ℕ) (same : (j : ℕ) → j ≢ i → key' j ≡ key j) (later : key i ≤ key' i) where
+  -- two other tasks stand as before
+  before-others : (j k : ℕ) → j ≢ i → k ≢ i → stands_before key' j k ≡ stands_before key j k
+  before-others j k nj nk = ap₂ (λ (x y : ℕ). nat_lt x y || (nat_eq x y && nat_lt j k)) (same j nj) (same k nk)
+
+  -- a task that isn't after task i stands before it now
+  before-later : (j : ℕ) → j ≢ i → stands_before key i j ≡ false → stands_before key' i j ≡ false
+  before-later j ne h = let e = same j ne in grind (arith, nat_tests)
+
+  -- a task inserted before task i comes first among those behind it
+  insert-front : (n : ℕ) → n ≢ i → stands_before key n i ≡ true → (xs : List ℕ) → IsAhead key i xs
+      → insert_by key' n xs ≡ n ∷ xs
+  insert-front n ne h [] a = refl
+  insert-front n ne h (y ∷ ys) a =
+      let first : stands_before key' n y ≡ true =
+      before-others n y ne (others-ahead key i (y ∷ ys) a).0 ∙ before-trans key n i y h a.0 in
+      rw first refl
+
+  insert-others : (n : ℕ) → n ≢ i → (xs : List ℕ) → AreOthers i xs → insert_by key n xs ≡ insert_by key' n xs
+  insert-others n ne [] o = refl
+  insert-others n ne (y ∷ ys) o =
+      ap₂ (λ (c : Bool) (zs : List ℕ). if c then n ∷ y ∷ ys else y ∷ zs) (sym (before-others n y ne o.0)) (insert-others n ne ys o.1)
+
+  -- the task itself, where it was inserted
+  reinserted-own : (xs : List ℕ) → AreOthers i xs → reinserted key' i (insert_by key i xs) ≡ insert_by key' i xs
+  reinserted-own [] o = let self : nat_eq i i ≡ true = grind (arith, nat_tests) in rw self refl
+  reinserted-own (x ∷ xs) o = go (stands_before key i x) refl (reinserted-own xs o.1)
+    where
+      go : (c : Bool) → stands_before key i x ≡ c → reinserted key' i (insert_by key i xs) ≡ insert_by key' i xs
+          → reinserted key' i (if c then i ∷ x ∷ xs else x ∷ insert_by key i xs) ≡ insert_by key' i (x ∷ xs)
+      go true p ih = let self : nat_eq i i ≡ true = grind (arith, nat_tests) in rw self refl
+      go false p ih = rw (not-eq x i o.0, before-later x o.0 p) (ap (λ (ys : List ℕ). x ∷ ys) ih)
+
+  -- another task that was inserted
+  reinserted-other : (n : ℕ) → n ≢ i → (xs : List ℕ) → IsOrdered key xs
+      → reinserted key' i (insert_by key n xs) ≡ insert_by key' n (reinserted key' i xs)
+  reinserted-other n ne [] o = rw (not-eq n i ne) refl
+  reinserted-other n ne (x ∷ xs) o = go (nat_eq x i) (stands_before key n x) refl refl (reinserted-other n ne xs o.1)
+    where
+      own : (c : Bool) → stands_before key n i ≡ c → IsAhead key i xs
+          → reinserted key' i (if c then n ∷ i ∷ xs else i ∷ insert_by key n xs) ≡ insert_by key' n (insert_by key' i xs)
+      own true p a =
+          let self : nat_eq i i ≡ true = grind (arith, nat_tests) in
+          let late : stands_before key' i n ≡ false = before-later n ne (before-not key n i p) in
+          let swapped : insert_by key' n (insert_by key' i xs) ≡ insert_by key' i (n ∷ xs) =
+          insert-swap key' n i ne xs ∙ ap (insert_by key' i) (insert-front n ne p xs a) in
+          rw (not-eq n i ne, self) (sym (swapped ∙ rw late refl))
+      own false p a =
+          let self : nat_eq i i ≡ true = grind (arith, nat_tests) in
+          rw self (ap (insert_by key' i) (insert-others n ne xs (others-ahead key i xs a)) ∙ sym (insert-swap key' n i ne xs))
+
+      go : (b c : Bool) → nat_eq x i ≡ b → stands_before key n x ≡ c
+          → reinserted key' i (insert_by key n xs) ≡ insert_by key' n (reinserted key' i xs)
+          → reinserted key' i (if c then n ∷ x ∷ xs else x ∷ insert_by key n xs)
+          ≡ insert_by key' n (if b then insert_by key' i xs else x ∷ reinserted key' i xs)
+      go true c p q ih =
+          let e : i ≡ x = grind (arith, nat_tests) in
+          let a : IsAhead key i xs = subst (λ (j : ℕ). IsAhead key j xs) (sym e) o.0 in
+          let first : stands_before key n i ≡ c = ap (stands_before key n) e ∙ q in
+          subst (λ (j : ℕ). reinserted key' i (if c then n ∷ j ∷ xs else j ∷ insert_by key n xs) ≡ insert_by key' n (insert_by key' i xs)) e (own c first a)
+      go false true p q ih =
+          let other : x ≢ i = grind (arith, nat_tests) in
+          let first : stands_before key' n x ≡ true = before-others n x ne other ∙ q in
+          rw (not-eq n i ne, p, first) refl
+      go false false p q ih =
+          let other : x ≢ i = grind (arith, nat_tests) in
+          let first : stands_before key' n x ≡ false = before-others n x ne other ∙ q in
+          rw (p, first) (ap (λ (ys : List ℕ). x ∷ ys) ih)
+
+  reinserted-in_order : (n : ℕ) → i < n → reinserted key' i (in_order key n) ≡ in_order key' n
+  unfolding in_order
+  reinserted-in_order zero lt = absurd (omega arith)
+  reinserted-in_order (suc n) lt = go (eq-or-lt_of_le (le_of_suc-le-suc lt)) (reinserted-in_order n)
+    where
+      go : (i ≡ n) ⊎ (i < n) → (i < n → reinserted key' i (in_order key n) ≡ in_order key' n)
+          → reinserted key' i (insert_by key n (in_order key n)) ≡ insert_by key' n (in_order key' n)
+      go (inl e) ih =
+          let rest : in_order key i ≡ in_order key' i = in_order-same key key' i (λ k l. sym (same k (λ q. omega arith))) in
+          subst (λ (m : ℕ). reinserted key' i (insert_by key m (in_order key m)) ≡ insert_by key' m (in_order key' m)) e
+          (reinserted-own (in_order key i) (others-below i (in_order key i) (in_order-below key i)) ∙ ap (insert_by key' i) rest)
+      go (inr l) ih = reinserted-other n (λ q. omega arith) (in_order key n) (in_order-ordered key n) ∙ ap (insert_by key' n) (ih l)
+
+  -- where task i isn't, nothing moves
+  moved_back-none : (x : ℕ) (xs : List ℕ) → x ≢ i → AreOthers i xs → moved_back (stands_before_due key i (key' i)) i x xs ≡ x ∷ xs
+  moved_back-none x [] ne o = refl
+  moved_back-none x (y ∷ ys) ne o = rw (not-eq x i ne) (ap (λ (zs : List ℕ). x ∷ zs) (moved_back-none y ys o.0 o.1))
+
+  test-is : (j : ℕ) → j ≢ i → stands_before_due key i (key' i) j ≡ stands_before key' j i
+  test-is j ne = ap (λ (x : ℕ). nat_lt x (key' i) || (nat_eq x (key' i) && nat_lt j i)) (sym (same j ne))
+
+  -- task i goes to its place among those behind it
+  moved_back-own : (xs : List ℕ) → AreOthers i xs → moved_back (stands_before_due key i (key' i)) i i xs ≡ insert_by key' i xs
+  moved_back-own [] o = refl
+  moved_back-own (y ∷ ys) o = go (stands_before key' y i) refl (moved_back-own ys o.1)
+    where
+      go : (c : Bool) → stands_before key' y i ≡ c → moved_back (stands_before_due key i (key' i)) i i ys ≡ insert_by key' i ys
+          → moved_back (stands_before_due key i (key' i)) i i (y ∷ ys) ≡ insert_by key' i (y ∷ ys)
+      go true p ih =
+          let self : nat_eq i i ≡ true = grind (arith, nat_tests) in
+          let t : stands_before_due key i (key' i) y ≡ true = test-is y o.0 ∙ p in
+          rw (self, t, before-not key' y i p) (ap (λ (zs : List ℕ). y ∷ zs) ih)
+      go false p ih =
+          let self : nat_eq i i ≡ true = grind (arith, nat_tests) in
+          let t : stands_before_due key i (key' i) y ≡ false = test-is y o.0 ∙ p in
+          let first : stands_before key' i y ≡ true = before-total key' y i o.0 p in
+          rw (self, t, first) (ap (λ (zs : List ℕ). i ∷ zs) (moved_back-none y ys o.0 o.1))
+
+  moved_back-is : (x : ℕ) (xs : List ℕ) → IsOrdered key (x ∷ xs)
+      → moved_back (stands_before_due key i (key' i)) i x xs ≡ reinserted key' i (x ∷ xs)
+  moved_back-is x [] o = go (nat_eq x i) refl
+    where
+      go : (b : Bool) → nat_eq x i ≡ b → x ∷ [] ≡ (if b then i ∷ [] else x ∷ [])
+      go true p = let e : x ≡ i = grind (arith, nat_tests) in ap (λ (m : ℕ). m ∷ []) e
+      go false p = refl
+  moved_back-is x (y ∷ ys) o = go (nat_eq x i) refl (moved_back-is y ys o.1)
+    where
+      go : (b : Bool) → nat_eq x i ≡ b
+          → moved_back (stands_before_due key i (key' i)) i y ys ≡ reinserted key' i (y ∷ ys)
+          → moved_back (stands_before_due key i (key' i)) i x (y ∷ ys) ≡ reinserted key' i (x ∷ y ∷ ys)
+      go true p ih =
+          let e : i ≡ x = grind (arith, nat_tests) in
+          let self : nat_eq i i ≡ true = grind (arith, nat_tests) in
+          let a : IsAhead key i (y ∷ ys) = subst (λ (j : ℕ). IsAhead key j (y ∷ ys)) (sym e) o.0 in
+          let own : reinserted key' i (i ∷ y ∷ ys) ≡ insert_by key' i (y ∷ ys) = rw self refl in
+          subst (λ (m : ℕ). moved_back (stands_before_due key i (key' i)) i m (y ∷ ys) ≡ reinserted key' i (m ∷ y ∷ ys)) e
+          (moved_back-own (y ∷ ys) (others-ahead key i (y ∷ ys) a) ∙ sym own)
+      go false p ih = rw p (ap (λ (zs : List ℕ). x ∷ zs) ih)
+
+  -- so task i goes to its place among all
+  pub moved_back-in_order : (n : ℕ) (old : List ℕ) → i < n → old ≡ in_order key n
+      → moved_back (stands_before_due key i (key' i)) i (get_or old 0 0) (drop 1 old) ≡ in_order key' n
+  moved_back-in_order n old lt e =
+      let some : 0 < length old = omega (arith, ap (length {A = ℕ}) e, length-in_order key n) in
+      let parts : old ≡ get_or old 0 0 ∷ drop 1 old = drop_more old 0 0 some in
+      let ordered : IsOrdered key (get_or old 0 0 ∷ drop 1 old) =
+      subst (IsOrdered key) (sym e ∙ parts) (in_order-ordered key n) in
+      moved_back-is (get_or old 0 0) (drop 1 old) ordered
+      ∙ (ap (reinserted key' i) (sym parts ∙ e) ∙ reinserted-in_order n lt)
