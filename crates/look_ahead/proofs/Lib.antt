@@ -1,3 +1,4 @@
+pub mod First
 pub mod Keeping
 pub mod Moving
 pub mod Passing

@@ -8,15 +8,16 @@ use Rattle.sched_model.specs.Tests.{total_rate}
 use Rattle.sched_model.specs.Admission.{IsWithinLimits, IsAdmitted}
 use Rattle.sched_model.specs.States.{StateOf, row_at, IsOfPlan}
 use Rattle.sched_model.specs.AheadDemand.{slack}
-use Rattle.sched_model.proofs.Limits.{some_hyper}
+use Rattle.sched_model.proofs.Limits.{some_hyper, some_task}
 use Rattle.sched_model.proofs.OrderLemmas.{sum_list, in_order-below, length-in_order, below-at, sum_list-append, sum_list-snoc}
-use Rattle.governor.specs.Steps.{wleft_at}
+use Rattle.governor.specs.Steps.{earliest_in, wleft_at}
 use Rattle.governor.specs.Serving.{ServesEdf}
 use Rattle.governor.proofs.Rows.{wleft-most}
 use Rattle.look_ahead_laws.specs.Ahead.{deadline_at, edf_order}
 use Rattle.look_ahead_laws.proofs.Spreading.{rate_within}
 use Rattle.look_ahead_laws.proofs.AheadLaws.{rates_fit, total_is}
 use Rattle.look_ahead.specs.Walk.{next_rates, next_first}
+use Rattle.look_ahead.proofs.First.{first-in_order}
 use Rattle.look_ahead.proofs.Walked.{Walked, walked_step}
 
 first_by : (b : Bool) (first w room : ℕ) → (if b then first + w else first + (w - room)) ≤ first + w
@@ -42,6 +43,20 @@ module _ (plan : Plan) (s : StateOf) where
   turn_read : (order : List ℕ) → order ≡ edf_order plan s → (k i : ℕ) → k < length order → i ≡ get_or order k i → i ≡ turn k
   turn_read order is k i lt read =
       get_or_read order k i lt read 0 ∙ ap (λ (xs : List ℕ). get_or xs k 0) is
+
+  -- the first task is due first
+  pub some_first : IsWithinLimits plan → (order : List ℕ) → order ≡ edf_order plan s → 0 < length order
+  some_first lim order is = omega (arith, tasks_long order is, some_task plan lim)
+
+  module _ (lim : IsWithinLimits plan) (order : List ℕ) (is : order ≡ edf_order plan s) (i : ℕ) (read : i ≡ get_or order 0 i) where
+    first_turn : i ≡ turn 0
+    first_turn = turn_read order is 0 i (some_first lim order is) read
+
+    pub first_below : i < count plan
+    first_below = rw first_turn (turn_below 0 (some_task plan lim))
+
+    pub first_due : deadline_at s i ≡ earliest_in plan s
+    first_due = ap (deadline_at s) first_turn ∙ first-in_order (deadline_at s) (count plan) (some_task plan lim)
 
   -- what a job may need is low
   pub left_low : IsWithinLimits plan → IsOfPlan plan s → (i : ℕ) → i < count plan → wleft_at s i ≤ 2 ^ 61

@@ -10,7 +10,6 @@ ghost use Rattle.look_ahead.specs.Counters.{Keeps};
 ghost use Rattle.look_ahead.specs.Walk.{next_rates, next_first};
 
 use crate::LookAhead;
-use governor::earliest_deadline;
 use grid_fraction::{Frac, mul_down, up};
 use sched_model::{Admitted, State};
 
@@ -77,6 +76,16 @@ fn step(plan: &Admitted, job: Pending, totals: Totals) -> Totals
 }
 
 impl LookAhead {
+    // The earliest deadline, which is that of the first task in EDF order.
+    fn earliest_deadline(&self, plan: &Admitted, view: &State) -> u64
+        requires of { IsOfPlan plan.now view.now }
+        requires counters { Keeps self.now.left.items self.now.order.items plan.now view.now }
+        ensures { result ≡ earliest_in plan.now view.entry.now }
+    {
+        plan.known();
+        view.rows[self.order[0] as usize].deadline
+    }
+
     // The latest job of a task, where the earliest deadline is `soonest`.
     fn pending(&self, plan: &Admitted, view: &State, soonest: u64, task: u32) -> Pending
         requires of { IsOfPlan plan.now view.now }
@@ -103,7 +112,7 @@ impl LookAhead {
         ensures { result ≡ ahead_demand plan.now view.entry.now }
     {
         plan.known();
-        let soonest = earliest_deadline(plan, view);
+        let soonest = self.earliest_deadline(plan, view);
         let mut totals = Totals {
             rates: plan.static_demand().num,
             first: 0,
