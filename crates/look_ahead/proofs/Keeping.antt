@@ -1,5 +1,5 @@
 -- What is kept, call by call.
-use Rattle.std.proofs.Common.{◌≡◌, ◌≢◌, ℕ, zero, suc, ◌+◌, ◌-◌, ◌<◌, ◌≤◌, false, List, [], ◌∷◌, ◌++◌, length, get_or, drop, true, refl, sym, subst, ◌∙◌, ap, arith, add-one, get_or-set_same, get_or-set_other}
+use Rattle.std.proofs.Common.{◌≡◌, ◌≢◌, ℕ, zero, suc, ◌+◌, ◌-◌, ◌<◌, false, List, [], ◌∷◌, ◌++◌, length, get_or, drop, true, refl, sym, subst, ◌∙◌, ap, arith, add-one, get_or-set_same, get_or-set_other}
 use Rattle.std.specs.Prelude.{map, slice_set}
 use Rattle.std.proofs.Math.ListN.{replicate, get_or-map}
 use Rattle.std.proofs.Math.Seq.{map-set_same}

@@ -65,8 +65,8 @@ fn step(plan: &Admitted, job: Pending, totals: Totals) -> Totals
         };
     }
     let hyper = plan.hyper();
-    let rest =
-        totals.rates - u128::from(plan.worst(job.task)) * u128::from(hyper / plan.period(job.task));
+    let rest = totals.rates
+        - u128::from(plan.worst(job.task)) * u128::from(hyper / plan.period(job.task));
     let spare = u128::from(plan.machine().top()) * u128::from(hyper) - rest;
     let part = spread(spare, job.left, job.slack, hyper);
     Totals {

@@ -1,4 +1,4 @@
-use Rattle.std.proofs.Common.{◌≡◌, ◌≢◌, ℕ, ◌+◌, ◌<◌, length, get_or, true, false, sym, ◌∙◌, ap, ap₂, arith, nat_eq}
+use Rattle.std.proofs.Common.{◌≡◌, ℕ, ◌+◌, ◌<◌, length, get_or, true, false, sym, ◌∙◌, ap₂, arith, nat_eq}
 use Rattle.sched_model.specs.declared.state.Row.{Row}
 use Rattle.sched_model.specs.Plan.{period}
 use Rattle.look_ahead_laws.specs.Ahead.{deadline_at}
