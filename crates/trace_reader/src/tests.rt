@@ -295,9 +295,10 @@ fn nothing_stands_after_an_end_on_line_800000(rt: HostRuntime) -> Result<(), Fai
 
 #[test]
 fn a_piece_on_line_800001_has_no_end(rt: HostRuntime) -> Result<(), Fail> {
-    let text = long_trace(rt.alloc(), 800001)?;
+    let mut text = long_trace(rt.alloc(), 800001)?;
+    let _feed = text.pop();
     assert_eq!(rt;
-        read_paper(rt.alloc(), &text[..text.len() - 1])?.err(),
+        read_paper(rt.alloc(), &text)?.err(),
         refused(800001, TraceKind::NoEnd)
     );
     Ok(())
@@ -312,6 +313,7 @@ fn numbers_reach_their_last_value(rt: HostRuntime) -> Result<(), Fail> {
         b"trace 1\nplan rm cc 1099511627776\nend 18446744073709551615 340282366920938463463374607431768211455 0\n";
     let trace = read_paper(rt.alloc(), last)?.map_err(|_| "refused")?;
     assert_eq!(rt; trace.plan.ticks, 1 << 40);
+    assert_eq!(rt; trace.notes.len(), 1);
     assert_eq!(rt;
         trace.notes[0],
         Note::End {
