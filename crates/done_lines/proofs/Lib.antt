@@ -2,3 +2,5 @@ pub mod DoneNotes
 pub mod DoneSpans
 pub mod DoneCounts
 pub mod DoneText
+pub mod SpanHeads
+pub mod CountLemmas

@@ -1,1 +1,2 @@
 pub mod DoneLines
+pub mod LineCounts

@@ -10,8 +10,8 @@ use Rattle.sched_model.specs.Admission.{IsAdmitted}
 use Rattle.sched_model.specs.States.{StateOf}
 use Rattle.sched_model.specs.Totals.{totals_of}
 use Rattle.sched_model.proofs.ScheduleLemmas.{schedule_exists}
-use Rattle.line_counts.specs.LineCounts.{AreFew}
-use Rattle.line_counts.proofs.CountLemmas.{has-few}
+use Rattle.done_lines.specs.LineCounts.{AreFew}
+use Rattle.done_lines.proofs.CountLemmas.{has-few}
 use Rattle.governor.specs.Schedule.{ask_of}
 use Rattle.governor.specs.Laws.{GovernorLaws}
 use Rattle.governor.proofs.Course.{course-met, demand-met}

@@ -6,7 +6,7 @@ ghost use Rattle.sched_model.specs.States.{opening};
 ghost use Rattle.event_kernel.specs.Heard.{HasHeard, HasBalked};
 ghost use Rattle.sched_model.specs.Jobs.{released_jobs};
 ghost use Rattle.dvs_base.specs.declared.limits.TheConstants.{MOST_JOBS, MOST_TICKS};
-ghost use Rattle.line_counts.specs.LineCounts.{AreFew};
+ghost use Rattle.done_lines.specs.LineCounts.{AreFew};
 ghost use Rattle.event_kernel.specs.Runs.{IsListOf, notes_of_run, MeetsDeadlines, MeetsDemands};
 ghost use Rattle.event_kernel.specs.Runs.{notes_before_end_of};
 ghost use Rattle.event_kernel.specs.Sums.{sums_of};

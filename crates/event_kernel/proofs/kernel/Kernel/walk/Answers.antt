@@ -1,5 +1,5 @@
 use Rattle.std.proofs.Common.{◌∙◌, ap, sym, subst}
-use Rattle.line_counts.specs.LineCounts.{AreFew}
+use Rattle.done_lines.specs.LineCounts.{AreFew}
 use Rattle.event_kernel.specs.Runs.{Run, demands_of}
 use Rattle.event_kernel.proofs.Meeting.{run-few}
 use Rattle.event_kernel.proofs.Hearing.{at_exit}

@@ -32,8 +32,8 @@ use Rattle.sched_model.proofs.PieceLemmas.{have_units}
 use Rattle.sched_model.proofs.Service.{exec-most}
 use Rattle.done_lines.proofs.DoneNotes.{tells_done, times, times-append, ended, had_of, laid-pieces, pieces-ended}
 use Rattle.done_lines.proofs.DoneSpans.{IsLastSpan, last-span}
-use Rattle.line_counts.specs.LineCounts.{AreFew, HasFewDecisions}
-use Rattle.line_counts.proofs.SpanHeads.{IsNow, none-held, pieces-now, Head, Begins, begins}
+use Rattle.done_lines.specs.LineCounts.{AreFew, HasFewDecisions}
+use Rattle.done_lines.proofs.SpanHeads.{IsNow, none-held, pieces-now, Head, Begins, begins}
 
 -- 1 or 0
 abbrev one_if : Bool → ℕ

@@ -1,2 +1,0 @@
-pub mod SpanHeads
-pub mod CountLemmas
