@@ -1,5 +1,6 @@
 -- What is kept, call by call.
-use Rattle.std.proofs.Common.{◌≡◌, ◌≢◌, ℕ, zero, suc, ◌+◌, ◌-◌, ◌<◌, false, List, [], ◌∷◌, ◌++◌, length, get_or, drop, true, refl, sym, subst, ◌∙◌, ap, arith, add-one, get_or-set_same, get_or-set_other}
+use Rattle.std.proofs.Common.{◌≡◌, ◌≢◌, ℕ, zero, suc, ◌+◌, ◌-◌, ◌<◌, false, List, [], ◌∷◌, ◌++◌, length, get_or, drop}
+use Rattle.std.proofs.Common.{true, refl, sym, subst, ◌∙◌, ap, arith, add-one, get_or-set_same, get_or-set_other}
 use Rattle.std.specs.Prelude.{map, slice_set}
 use Rattle.std.proofs.Math.ListN.{replicate, get_or-map}
 use Rattle.std.proofs.Math.Seq.{map-set_same}
@@ -8,7 +9,8 @@ use Rattle.grid_fraction.specs.Numbers.{list_below}
 use Rattle.sched_model.specs.declared.state.Row.{Row}
 use Rattle.sched_model.specs.Plan.{Plan, count, period, offset, worst}
 use Rattle.sched_model.specs.Order.{in_order}
-use Rattle.sched_model.specs.States.{StateOf, no_row, row_at, row_wleft, released_row, opening_row, opening, after_release, after_run, after_finish, CanRelease}
+use Rattle.sched_model.specs.States.{StateOf, no_row, row_at, row_wleft, released_row, opening_row, opening}
+use Rattle.sched_model.specs.States.{after_release, after_run, after_finish, CanRelease}
 use Rattle.sched_model.proofs.OrderLemmas.{in_order-same}
 use Rattle.sched_model.proofs.Tables.{map-table}
 use Rattle.governor.specs.Steps.{wleft_at}
@@ -22,19 +24,22 @@ abbrev due_of : Row → ℕ
 due_of row = row.deadline
 
 -- a row that was read
-pub row_read : (s inside : StateOf) (i : ℕ) (row : Row) → inside ≡ s → i < length s.rows → row ≡ get_or inside.rows i row
-    → row ≡ row_at s i
+pub row_read : (s inside : StateOf) (i : ℕ) (row : Row) → inside ≡ s → i < length s.rows
+    → row ≡ get_or inside.rows i row → row ≡ row_at s i
 row_read s inside i row same lt read =
     get_or_read s.rows i row lt (subst (λ (v : StateOf). row ≡ get_or v.rows i row) same read) no_row
 
 -- a remainder
-pub left_at : (plan : Plan) (s : StateOf) (left order : List ℕ) → Keeps left order plan s → (i : ℕ) → get_or left i 0 ≡ wleft_at s i
-left_at plan s left order keeps i = ap (λ (xs : List ℕ). get_or xs i 0) keeps.left_is ∙ get_or-map row_wleft s.rows i no_row
+pub left_at : (plan : Plan) (s : StateOf) (left order : List ℕ) → Keeps left order plan s → (i : ℕ)
+    → get_or left i 0 ≡ wleft_at s i
+left_at plan s left order keeps i =
+    ap (λ (xs : List ℕ). get_or xs i 0) keeps.left_is ∙ get_or-map row_wleft s.rows i no_row
 
 module _ (plan : Plan) (s : StateOf) (left order : List ℕ) (keeps : Keeps left order plan s) (i : ℕ) where
   pub left_read : (w : ℕ) → i < length s.rows → w ≡ get_or left i w → w ≡ get_or left i 0
   left_read w lt read =
-      let long : length left ≡ length s.rows = ap (λ (xs : List ℕ). length xs) keeps.left_is ∙ length-map s.rows row_wleft in
+      let long : length left ≡ length s.rows =
+      ap (λ (xs : List ℕ). length xs) keeps.left_is ∙ length-map s.rows row_wleft in
       get_or_read left i w (omega (arith, long)) read 0
 
   -- the row of task i is written
@@ -50,7 +55,8 @@ module _ (plan : Plan) (s : StateOf) (left order : List ℕ) (keeps : Keeps left
   due-kept : (row : Row) → row.deadline ≡ deadline_at s i → (k : ℕ) → deadline_at (written row) k ≡ deadline_at s k
   due-kept row same k =
       sym (get_or-map due_of (slice_set s.rows i row) k no_row)
-      ∙ (ap (λ (ds : List ℕ). get_or ds k 0) (map-set_same due_of s.rows i row no_row same) ∙ get_or-map due_of s.rows k no_row)
+      ∙ (ap (λ (ds : List ℕ). get_or ds k 0) (map-set_same due_of s.rows i row no_row same)
+      ∙ get_or-map due_of s.rows k no_row)
 
   keeps-set : (row : Row) (w : ℕ) → row.deadline ≡ deadline_at s i → w ≡ row_wleft row
       → Keeps (slice_set left i w) order plan (written row)
@@ -76,7 +82,8 @@ module _ (plan : Plan) (s : StateOf) (left order : List ℕ) (keeps : Keeps left
       keeps-set row (w - units) refl (omega (arith, was, now))
 
   -- and a release brings the whole worst case, with the task in its place
-  pub keeps-released : (w : ℕ) (order' : List ℕ) → w ≡ (row_at s i).worst → order' ≡ edf_order plan (after_release plan s i)
+  pub keeps-released : (w : ℕ) (order' : List ℕ) → w ≡ (row_at s i).worst
+      → order' ≡ edf_order plan (after_release plan s i)
       → Keeps (slice_set left i w) order' plan (after_release plan s i)
   keeps-released w order' worst is = record {
     served = keeps.served;
@@ -88,11 +95,11 @@ module _ (plan : Plan) (s : StateOf) (left order : List ℕ) (keeps : Keeps left
 module _ (plan : Plan) (s : StateOf) (i : ℕ) (can : CanRelease plan s i) where
   pub due-released : deadline_at (after_release plan s i) i ≡ deadline_at s i + period plan i
   due-released =
-      ap (λ (r : Row). r.deadline) (get_or-set_same s.rows i (released_row (period plan i) (row_at s i)) no_row can.task)
+      ap due_of (get_or-set_same s.rows i (released_row (period plan i) (row_at s i)) no_row can.task)
 
   due-other : (j : ℕ) → j ≢ i → deadline_at (after_release plan s i) j ≡ deadline_at s j
   due-other j ne =
-      ap (λ (r : Row). r.deadline) (get_or-set_other s.rows i j (released_row (period plan i) (row_at s i)) no_row ne)
+      ap due_of (get_or-set_other s.rows i j (released_row (period plan i) (row_at s i)) no_row ne)
 
   -- so it goes back to its place
   pub order-released : (due : ℕ) (old : List ℕ) → due ≡ deadline_at s i + period plan i → old ≡ edf_order plan s
@@ -101,7 +108,8 @@ module _ (plan : Plan) (s : StateOf) (i : ℕ) (can : CanRelease plan s i) where
   order-released due old is e =
       let at : due ≡ deadline_at (after_release plan s i) i = is ∙ sym due-released in
       ap (λ (d : ℕ). moved_back (stands_before_due (deadline_at s) i d) i (get_or old 0 0) (drop 1 old)) at
-      ∙ moved_back-in_order (deadline_at s) (deadline_at (after_release plan s i)) i due-other (omega (arith, due-released)) (count plan) old can.below e
+      ∙ moved_back-in_order (deadline_at s) (deadline_at (after_release plan s i)) i due-other
+      (omega (arith, due-released)) (count plan) old can.below e
 
 zeros : (n : ℕ) → list_below {A = ℕ} n (λ i. 0) ≡ replicate n 0
 zeros zero = refl
@@ -119,6 +127,7 @@ pub keeps-opening : (plan : Plan) (order : List ℕ) → ServesEdf plan.schedule
     → Keeps (replicate (count plan) 0) order plan (opening plan)
 keeps-opening plan order edf is = record {
   served = edf;
-  left_is = sym (map-table (count plan) (λ i. opening_row (offset plan i) (worst plan i)) row_wleft ∙ zeros (count plan));
+  left_is =
+      sym (map-table (count plan) (λ i. opening_row (offset plan i) (worst plan i)) row_wleft ∙ zeros (count plan));
   order_is = is;
 }

@@ -1,12 +1,15 @@
 -- A task whose deadline grows, moved to its place in EDF order.
-use Rattle.std.proofs.Common.{◌≡◌, ◌≢◌, ◌⊎◌, inl, inr, eq-or-lt_of_le, le_of_suc-le-suc, ℕ, zero, suc, ◌<◌, ◌≤◌, Bool, true, false, List, [], ◌∷◌, length, get_or, drop, refl, arith, ap, ap₂, sym, subst, ◌∙◌, nat_eq, nat_lt, if◌then◌else◌, true≢false}
+use Rattle.std.proofs.Common.{◌≡◌, ◌≢◌, ◌⊎◌, inl, inr, eq-or-lt_of_le, le_of_suc-le-suc, ℕ, zero, suc, ◌<◌, ◌≤◌, Bool}
+use Rattle.std.proofs.Common.{true, false, List, [], ◌∷◌, length, get_or, drop, refl, arith, ap, ap₂, sym, subst, ◌∙◌}
+use Rattle.std.proofs.Common.{nat_eq, nat_lt, if◌then◌else◌, true≢false}
 use Rattle.std.specs.Prelude.{◌||◌, ◌&&◌}
 use Rattle.std.proofs.lemmas.Bool.Decides.{nat_tests}
 use Rattle.std.proofs.lemmas.List.{drop_more}
 use Rattle.sched_model.specs.Priority.{stands_before}
 use Rattle.sched_model.specs.Order.{insert_by, in_order}
 use Rattle.sched_model.proofs.PriorityLemmas.{before-self, before-trans, before-not, before-total}
-use Rattle.sched_model.proofs.OrderLemmas.{IsAhead, IsOrdered, AreBelow, in_order-below, in_order-ordered, in_order-same, length-in_order}
+use Rattle.sched_model.proofs.OrderLemmas.{IsAhead, IsOrdered, AreBelow, in_order-below, in_order-ordered}
+use Rattle.sched_model.proofs.OrderLemmas.{in_order-same, length-in_order}
 use Rattle.look_ahead.specs.Counters.{stands_before_due}
 
 -- a list with x in front, in which task i goes back behind those that pass the test, up to the first that doesn't
@@ -20,7 +23,8 @@ abbrev reinserted : (ℕ → ℕ) → ℕ → List ℕ → List ℕ
 reinserted key i [] = []
 reinserted key i (x ∷ xs) = if nat_eq x i then insert_by key i xs else x ∷ reinserted key i xs
 
-insert-yes : (key : ℕ → ℕ) (i x : ℕ) (xs : List ℕ) → stands_before key i x ≡ true → insert_by key i (x ∷ xs) ≡ i ∷ x ∷ xs
+insert-yes : (key : ℕ → ℕ) (i x : ℕ) (xs : List ℕ) → stands_before key i x ≡ true
+    → insert_by key i (x ∷ xs) ≡ i ∷ x ∷ xs
 insert-yes key i x xs p = rw p refl
 
 insert-no : (key : ℕ → ℕ) (i x : ℕ) (xs : List ℕ) → stands_before key i x ≡ false
@@ -91,7 +95,9 @@ others-below i (x ∷ xs) b = let lt = b.0 in ((λ e. omega arith), others-below
 others-ahead : (key : ℕ → ℕ) (i : ℕ) (xs : List ℕ) → IsAhead key i xs → AreOthers i xs
 others-ahead key i [] a = tt
 others-ahead key i (x ∷ xs) a = (
-  (λ e. let self : stands_before key i i ≡ true = subst (λ (j : ℕ). stands_before key i j ≡ true) e a.0 in absurd (true≢false (sym self ∙ before-self key i))),
+  (λ e.
+      let self : stands_before key i i ≡ true = subst (λ (j : ℕ). stands_before key i j ≡ true) e a.0 in
+      absurd (true≢false (sym self ∙ before-self key i))),
   others-ahead key i xs a.1,
 )
 
@@ -120,7 +126,8 @@ module _ (key key' : ℕ → ℕ) (i : ℕ) (same : (j : ℕ) → j ≢ i → ke
   insert-others : (n : ℕ) → n ≢ i → (xs : List ℕ) → AreOthers i xs → insert_by key n xs ≡ insert_by key' n xs
   insert-others n ne [] o = refl
   insert-others n ne (y ∷ ys) o =
-      ap₂ (λ (c : Bool) (zs : List ℕ). if c then n ∷ y ∷ ys else y ∷ zs) (sym (before-others n y ne o.0)) (insert-others n ne ys o.1)
+      ap₂ (λ (c : Bool) (zs : List ℕ). if c then n ∷ y ∷ ys else y ∷ zs)
+      (sym (before-others n y ne o.0)) (insert-others n ne ys o.1)
 
   -- the task itself, where it was inserted
   reinserted-own : (xs : List ℕ) → AreOthers i xs → reinserted key' i (insert_by key i xs) ≡ insert_by key' i xs
@@ -139,7 +146,8 @@ module _ (key key' : ℕ → ℕ) (i : ℕ) (same : (j : ℕ) → j ≢ i → ke
   reinserted-other n ne (x ∷ xs) o = go (nat_eq x i) (stands_before key n x) refl refl (reinserted-other n ne xs o.1)
     where
       own : (c : Bool) → stands_before key n i ≡ c → IsAhead key i xs
-          → reinserted key' i (if c then n ∷ i ∷ xs else i ∷ insert_by key n xs) ≡ insert_by key' n (insert_by key' i xs)
+          → reinserted key' i (if c then n ∷ i ∷ xs else i ∷ insert_by key n xs)
+          ≡ insert_by key' n (insert_by key' i xs)
       own true p a =
           let self : nat_eq i i ≡ true = grind (arith, nat_tests) in
           let late : stands_before key' i n ≡ false = before-later n ne (before-not key n i p) in
@@ -148,7 +156,8 @@ module _ (key key' : ℕ → ℕ) (i : ℕ) (same : (j : ℕ) → j ≢ i → ke
           rw (not-eq n i ne, self) (sym (swapped ∙ rw late refl))
       own false p a =
           let self : nat_eq i i ≡ true = grind (arith, nat_tests) in
-          rw self (ap (insert_by key' i) (insert-others n ne xs (others-ahead key i xs a)) ∙ sym (insert-swap key' n i ne xs))
+          let other = insert-others n ne xs (others-ahead key i xs a) in
+          rw self (ap (insert_by key' i) other ∙ sym (insert-swap key' n i ne xs))
 
       go : (b c : Bool) → nat_eq x i ≡ b → stands_before key n x ≡ c
           → reinserted key' i (insert_by key n xs) ≡ insert_by key' n (reinserted key' i xs)
@@ -158,7 +167,8 @@ module _ (key key' : ℕ → ℕ) (i : ℕ) (same : (j : ℕ) → j ≢ i → ke
           let e : i ≡ x = grind (arith, nat_tests) in
           let a : IsAhead key i xs = subst (λ (j : ℕ). IsAhead key j xs) (sym e) o.0 in
           let first : stands_before key n i ≡ c = ap (stands_before key n) e ∙ q in
-          subst (λ (j : ℕ). reinserted key' i (if c then n ∷ j ∷ xs else j ∷ insert_by key n xs) ≡ insert_by key' n (insert_by key' i xs)) e (own c first a)
+          let inserted : ℕ → List ℕ = λ j. if c then n ∷ j ∷ xs else j ∷ insert_by key n xs in
+          ap (λ (j : ℕ). reinserted key' i (inserted j)) (sym e) ∙ own c first a
       go false true p q ih =
           let other : x ≢ i = grind (arith, nat_tests) in
           let first : stands_before key' n x ≡ true = before-others n x ne other ∙ q in
@@ -176,13 +186,17 @@ module _ (key key' : ℕ → ℕ) (i : ℕ) (same : (j : ℕ) → j ≢ i → ke
       go : (i ≡ n) ⊎ (i < n) → (i < n → reinserted key' i (in_order key n) ≡ in_order key' n)
           → reinserted key' i (insert_by key n (in_order key n)) ≡ insert_by key' n (in_order key' n)
       go (inl e) ih =
-          let rest : in_order key i ≡ in_order key' i = in_order-same key key' i (λ k l. sym (same k (λ q. omega arith))) in
+          let rest : in_order key i ≡ in_order key' i =
+          in_order-same key key' i (λ k l. sym (same k (λ q. omega arith))) in
+          let others = others-below i (in_order key i) (in_order-below key i) in
           subst (λ (m : ℕ). reinserted key' i (insert_by key m (in_order key m)) ≡ insert_by key' m (in_order key' m)) e
-          (reinserted-own (in_order key i) (others-below i (in_order key i) (in_order-below key i)) ∙ ap (insert_by key' i) rest)
-      go (inr l) ih = reinserted-other n (λ q. omega arith) (in_order key n) (in_order-ordered key n) ∙ ap (insert_by key' n) (ih l)
+          (reinserted-own (in_order key i) others ∙ ap (insert_by key' i) rest)
+      go (inr l) ih =
+          reinserted-other n (λ q. omega arith) (in_order key n) (in_order-ordered key n) ∙ ap (insert_by key' n) (ih l)
 
   -- where task i isn't, nothing moves
-  moved_back-none : (x : ℕ) (xs : List ℕ) → x ≢ i → AreOthers i xs → moved_back (stands_before_due key i (key' i)) i x xs ≡ x ∷ xs
+  moved_back-none : (x : ℕ) (xs : List ℕ) → x ≢ i → AreOthers i xs
+      → moved_back (stands_before_due key i (key' i)) i x xs ≡ x ∷ xs
   moved_back-none x [] ne o = refl
   moved_back-none x (y ∷ ys) ne o = rw (not-eq x i ne) (ap (λ (zs : List ℕ). x ∷ zs) (moved_back-none y ys o.0 o.1))
 
@@ -190,11 +204,13 @@ module _ (key key' : ℕ → ℕ) (i : ℕ) (same : (j : ℕ) → j ≢ i → ke
   test-is j ne = ap (λ (x : ℕ). nat_lt x (key' i) || (nat_eq x (key' i) && nat_lt j i)) (sym (same j ne))
 
   -- task i goes to its place among those behind it
-  moved_back-own : (xs : List ℕ) → AreOthers i xs → moved_back (stands_before_due key i (key' i)) i i xs ≡ insert_by key' i xs
+  moved_back-own : (xs : List ℕ) → AreOthers i xs
+      → moved_back (stands_before_due key i (key' i)) i i xs ≡ insert_by key' i xs
   moved_back-own [] o = refl
   moved_back-own (y ∷ ys) o = go (stands_before key' y i) refl (moved_back-own ys o.1)
     where
-      go : (c : Bool) → stands_before key' y i ≡ c → moved_back (stands_before_due key i (key' i)) i i ys ≡ insert_by key' i ys
+      go : (c : Bool) → stands_before key' y i ≡ c
+          → moved_back (stands_before_due key i (key' i)) i i ys ≡ insert_by key' i ys
           → moved_back (stands_before_due key i (key' i)) i i (y ∷ ys) ≡ insert_by key' i (y ∷ ys)
       go true p ih =
           let self : nat_eq i i ≡ true = grind (arith, nat_tests) in
@@ -223,7 +239,8 @@ module _ (key key' : ℕ → ℕ) (i : ℕ) (same : (j : ℕ) → j ≢ i → ke
           let self : nat_eq i i ≡ true = grind (arith, nat_tests) in
           let a : IsAhead key i (y ∷ ys) = subst (λ (j : ℕ). IsAhead key j (y ∷ ys)) (sym e) o.0 in
           let own : reinserted key' i (i ∷ y ∷ ys) ≡ insert_by key' i (y ∷ ys) = rw self refl in
-          subst (λ (m : ℕ). moved_back (stands_before_due key i (key' i)) i m (y ∷ ys) ≡ reinserted key' i (m ∷ y ∷ ys)) e
+          let test = stands_before_due key i (key' i) in
+          subst (λ (m : ℕ). moved_back test i m (y ∷ ys) ≡ reinserted key' i (m ∷ y ∷ ys)) e
           (moved_back-own (y ∷ ys) (others-ahead key i (y ∷ ys) a) ∙ sym own)
       go false p ih = rw p (ap (λ (zs : List ℕ). x ∷ zs) ih)
 

@@ -1,5 +1,6 @@
 -- The loop that moves a task back in a list, in place.
-use Rattle.std.proofs.Common.{◌≡◌, ◌≢◌, ℕ, ◌+◌, ◌<◌, Bool, true, false, List, [], ◌∷◌, ◌++◌, length, get_or, take, drop, refl, sym, ◌∙◌, ap, ap₂, arith, append_assoc, nat_eq, get_or-set_same, length-set}
+use Rattle.std.proofs.Common.{◌≡◌, ◌≢◌, ℕ, ◌+◌, ◌<◌, Bool, true, false, List, [], ◌∷◌, ◌++◌, length, get_or, take, drop}
+use Rattle.std.proofs.Common.{refl, sym, ◌∙◌, ap, ap₂, arith, append_assoc, nat_eq, get_or-set_same, length-set}
 use Rattle.std.specs.Prelude.{slice_set, ◌&&◌}
 use Rattle.std.proofs.Math.ListN.{drop_of_length-le}
 use Rattle.std.proofs.lemmas.Bool.Decides.{nat_tests}
@@ -15,7 +16,8 @@ pub record Passing (test : ℕ → Bool) (i : ℕ) (old order : List ℕ) (k : �
 pub passing_start : (test : ℕ → Bool) (i : ℕ) (old : List ℕ) → Passing test i old old 0
 passing_start test i old = record { long = refl; made = refl }
 
-module _ (test : ℕ → Bool) (i : ℕ) (old order : List ℕ) (k : ℕ) (lt : k + 1 < length order) (was : Passing test i old order k) where
+module _ (test : ℕ → Bool) (i : ℕ) (old order : List ℕ) (k : ℕ)
+    (lt : k + 1 < length order) (was : Passing test i old order k) where
   abbrev here : ℕ
   here = get_or order k 0
 
@@ -39,7 +41,8 @@ module _ (test : ℕ → Bool) (i : ℕ) (old order : List ℕ) (k : ℕ) (lt : 
             ∙ ap (λ (ys : List ℕ). ys ++ moved_back test i next rest) (sym (take_more order k 0 (omega arith)))));
       }
 
-  pub passing_moves : here ≡ i → test next ≡ true → Passing test i old (slice_set (slice_set order k next) (k + 1) i) (k + 1)
+  pub passing_moves : here ≡ i → test next ≡ true
+      → Passing test i old (slice_set (slice_set order k next) (k + 1) i) (k + 1)
   passing_moves own moves =
       let self : nat_eq here i ≡ true = grind (arith, nat_tests) in
       let set_next = slice_set order k next in
@@ -76,8 +79,8 @@ written_back len old new long same =
     rw none (rw append-nil (take_all len new (omega arith)))
 
 -- at the last place all are in place
-pub passing_end : (test : ℕ → Bool) (i : ℕ) (old order : List ℕ) (k : ℕ) → k + 1 ≡ length order → Passing test i old order k
-    → order ≡ moved_back test i (get_or old 0 0) (drop 1 old)
+pub passing_end : (test : ℕ → Bool) (i : ℕ) (old order : List ℕ) (k : ℕ) → k + 1 ≡ length order
+    → Passing test i old order k → order ≡ moved_back test i (get_or old 0 0) (drop 1 old)
 passing_end test i old order k last was =
     let none : drop (k + 1) order ≡ [] = drop_of_length-le order (omega arith) in
     sym (was.made

@@ -1,5 +1,6 @@
 -- The walk from the last task to the first gives the demand.
-use Rattle.std.proofs.Common.{◌≡◌, inl, inr, ℕ, ◌+◌, ◌-◌, ◌*◌, min, true, false, List, [], ◌∷◌, ◌++◌, refl, ◌∙◌, ap, arith, append_assoc}
+use Rattle.std.proofs.Common.{◌≡◌, inl, inr, ℕ, ◌+◌, ◌-◌, ◌*◌, min, true, false, List, [], ◌∷◌, ◌++◌, refl, ◌∙◌, ap}
+use Rattle.std.proofs.Common.{arith, append_assoc}
 use Rattle.std.specs.Prelude.{◌/◌, nat_eq}
 use Rattle.std.proofs.lemmas.Bool.{cases_Bool}
 use Rattle.grid_fraction.specs.Numbers.{ceil_div}
@@ -13,14 +14,17 @@ use Rattle.look_ahead_laws.proofs.Spreading.{before_is}
 use Rattle.look_ahead.specs.Walk.{not_put_off, next_rates, next_first}
 
 -- one task of the walk, over plain numbers
-put_is : (u w l h most pre after : ℕ) → w - (w - (most - ((pre + u + after) - u)) * l / h) ≡ min w ((most - pre - after) * l / h)
+put_is : (u w l h most pre after : ℕ)
+    → w - (w - (most - ((pre + u + after) - u)) * l / h) ≡ min w ((most - pre - after) * l / h)
 put_is u w l h most pre after =
     let free : most - ((pre + u + after) - u) ≡ most - pre - after = omega arith in
     omega (arith, ap (λ (m : ℕ). m * l / h) free)
 
 slope_rates : (u w l h most pre after : ℕ)
-    → ((pre + u + after) - u) + ((w - (w - (most - ((pre + u + after) - u)) * l / h)) * h + (l - 1)) / l ≡ pre + ((min w ((most - pre - after) * l / h) * h + (l - 1)) / l + after)
-slope_rates u w l h most pre after = omega (arith, ap (λ (m : ℕ). (m * h + (l - 1)) / l) (put_is u w l h most pre after))
+    → ((pre + u + after) - u) + ((w - (w - (most - ((pre + u + after) - u)) * l / h)) * h + (l - 1)) / l
+    ≡ pre + ((min w ((most - pre - after) * l / h) * h + (l - 1)) / l + after)
+slope_rates u w l h most pre after =
+    omega (arith, ap (λ (m : ℕ). (m * h + (l - 1)) / l) (put_is u w l h most pre after))
 
 slope_first : (u w l h most pre after first : ℕ)
     → first + (w - (most - ((pre + u + after) - u)) * l / h) ≡ (w - min w ((most - pre - after) * l / h)) + first
@@ -35,22 +39,34 @@ module _ (plan : Plan) (s : StateOf) where
   abbrev left : ℕ → ℕ
   left = wleft_at s
 
+  abbrev late : ℕ → ℕ
+  late = slack plan due
+
+  abbrev soon : ℕ → ℕ → ℕ
+  soon i rates = not_put_off plan i (left i) (late i) rates
+
   -- the running sums with the tasks of xs done, and those of l to come
   pub record Walked (l xs : List ℕ) (rates first : ℕ) : Type 0 where
     pub order : edf_order plan s ≡ l ++ xs
     pub rates_are : rates ≡ sum_list (rate plan) l + spread_rates plan due left xs
     pub first_is : first ≡ due_first plan due left xs
 
-  walked_flat : (l xs : List ℕ) (i rates first : ℕ) → nat_eq (slack plan due i) 0 ≡ true
+  walked_flat : (l xs : List ℕ) (i rates first : ℕ) → nat_eq (late i) 0 ≡ true
       → Walked (l ++ i ∷ []) xs rates first → Walked l (i ∷ xs) rates (first + left i)
   walked_flat l xs i rates first flat was = record {
     order = was.order ∙ append_assoc l (i ∷ []) xs;
-    rates_are = (let e : spread_rate plan due left (spread_rates plan due left xs) i ≡ rate plan i = rw flat refl in omega (arith, was.rates_are, sum_list-snoc (rate plan) l i, e));
-    first_is = (let e : put_off plan due left (spread_rates plan due left xs) i ≡ 0 = rw flat refl in omega (arith, was.first_is, e));
+    rates_are =
+        let e : spread_rate plan due left (spread_rates plan due left xs) i ≡ rate plan i = rw flat refl in
+        omega (arith, was.rates_are, sum_list-snoc (rate plan) l i, e);
+    first_is =
+        let e : put_off plan due left (spread_rates plan due left xs) i ≡ 0 = rw flat refl in
+        omega (arith, was.first_is, e);
   }
 
-  walked_slope : (l xs : List ℕ) (i rates first : ℕ) → nat_eq (slack plan due i) 0 ≡ false → Walked (l ++ i ∷ []) xs rates first
-      → Walked l (i ∷ xs) ((rates - rate plan i) + ceil_div ((left i - not_put_off plan i (left i) (slack plan due i) rates) * hyper plan) (slack plan due i)) (first + not_put_off plan i (left i) (slack plan due i) rates)
+  walked_slope : (l xs : List ℕ) (i rates first : ℕ) → nat_eq (late i) 0 ≡ false
+      → Walked (l ++ i ∷ []) xs rates first
+      → Walked l (i ∷ xs) ((rates - rate plan i) + ceil_div ((left i - soon i rates) * hyper plan) (late i))
+      (first + soon i rates)
   walked_slope l xs i rates first slope was =
       let order : edf_order plan s ≡ l ++ i ∷ xs = was.order ∙ append_assoc l (i ∷ []) xs in
       let before = before_is plan due left l xs i order in
@@ -60,20 +76,21 @@ module _ (plan : Plan) (s : StateOf) where
       let w = left i in
       let most = top_speed plan * hyper plan in
       let sum_is : rates ≡ pre + u + after = omega (arith, was.rates_are, sum_list-snoc (rate plan) l i) in
-      let y : put_off plan due left after i ≡ min w ((most - pre - after) * slack plan due i / hyper plan) =
-      rw slope (ap (λ (m : ℕ). min w ((most - m - after) * slack plan due i / hyper plan)) before) in
-      let v : spread_rate plan due left after i ≡ ceil_div (min w ((most - pre - after) * slack plan due i / hyper plan) * hyper plan) (slack plan due i) =
-      rw slope (ap (λ (m : ℕ). ceil_div (m * hyper plan) (slack plan due i)) (let z = rw slope at y in z)) in
+      let room = (most - pre - after) * late i / hyper plan in
+      let y : put_off plan due left after i ≡ min w room =
+      rw slope (ap (λ (m : ℕ). min w ((most - m - after) * late i / hyper plan)) before) in
+      let v : spread_rate plan due left after i ≡ ceil_div (min w room * hyper plan) (late i) =
+      rw slope (ap (λ (m : ℕ). ceil_div (m * hyper plan) (late i)) (let z = rw slope at y in z)) in
       rw sum_is (record {
         order = order;
-        rates_are = omega (arith, slope_rates u w (slack plan due i) (hyper plan) most pre after, v);
-        first_is = omega (arith, slope_first u w (slack plan due i) (hyper plan) most pre after first, y, was.first_is);
+        rates_are = omega (arith, slope_rates u w (late i) (hyper plan) most pre after, v);
+        first_is = omega (arith, slope_first u w (late i) (hyper plan) most pre after first, y, was.first_is);
       })
 
   pub walked_step : (l xs : List ℕ) (i rates first : ℕ) → Walked (l ++ i ∷ []) xs rates first
-      → Walked l (i ∷ xs) (next_rates plan i (left i) (slack plan due i) rates) (next_first plan i (left i) (slack plan due i) rates first)
+      → Walked l (i ∷ xs) (next_rates plan i (left i) (late i) rates) (next_first plan i (left i) (late i) rates first)
   walked_step l xs i rates first was =
-      elim (cases_Bool (nat_eq (slack plan due i) 0)) [
+      elim (cases_Bool (nat_eq (late i) 0)) [
         | inl flat ↦ rw flat (walked_flat l xs i rates first flat was)
         | inr slope ↦ rw slope (walked_slope l xs i rates first slope was)
       ]

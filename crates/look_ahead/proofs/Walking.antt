@@ -1,5 +1,6 @@
 -- The loop of the walk.
-use Rattle.std.proofs.Common.{◌≡◌, ℕ, ◌+◌, ◌-◌, ◌*◌, ◌^◌, ◌<◌, ◌≤◌, Bool, true, false, List, [], ◌∷◌, ◌++◌, length, get_or, take, drop, refl, sym, ◌∙◌, ap, subst, arith}
+use Rattle.std.proofs.Common.{◌≡◌, ℕ, ◌+◌, ◌-◌, ◌*◌, ◌^◌, ◌<◌, ◌≤◌, Bool, true, false, List, [], ◌∷◌, ◌++◌, length}
+use Rattle.std.proofs.Common.{get_or, take, drop, refl, sym, ◌∙◌, ap, subst, arith}
 use Rattle.std.specs.Prelude.{◌/◌, nat_eq, if◌then◌else◌}
 use Rattle.std.proofs.Math.ListN.{drop_of_length-le}
 use Rattle.std.proofs.lemmas.List.{append-nil, get_or_read, take_more, drop_more, take_all}
@@ -9,7 +10,8 @@ use Rattle.sched_model.specs.Admission.{IsWithinLimits, IsAdmitted}
 use Rattle.sched_model.specs.States.{StateOf, row_at, IsOfPlan}
 use Rattle.sched_model.specs.AheadDemand.{slack}
 use Rattle.sched_model.proofs.Limits.{some_hyper, some_task}
-use Rattle.sched_model.proofs.OrderLemmas.{sum_list, in_order-below, length-in_order, below-at, sum_list-append, sum_list-snoc}
+use Rattle.sched_model.proofs.OrderLemmas.{sum_list, in_order-below, length-in_order, below-at, sum_list-append}
+use Rattle.sched_model.proofs.OrderLemmas.{sum_list-snoc}
 use Rattle.governor.specs.Steps.{earliest_in, wleft_at}
 use Rattle.governor.specs.Serving.{ServesEdf}
 use Rattle.governor.proofs.Rows.{wleft-most}
@@ -37,10 +39,12 @@ module _ (plan : Plan) (s : StateOf) where
   turn k = get_or (edf_order plan s) k 0
 
   pub turn_below : (k : ℕ) → k < count plan → turn k < count plan
-  turn_below k lt = below-at (count plan) (edf_order plan s) k (in_order-below (deadline_at s) (count plan)) (rw order_long lt)
+  turn_below k lt =
+      below-at (count plan) (edf_order plan s) k (in_order-below (deadline_at s) (count plan)) (rw order_long lt)
 
   -- where it was read
-  turn_read : (order : List ℕ) → order ≡ edf_order plan s → (k i : ℕ) → k < length order → i ≡ get_or order k i → i ≡ turn k
+  turn_read : (order : List ℕ) → order ≡ edf_order plan s → (k i : ℕ) → k < length order
+      → i ≡ get_or order k i → i ≡ turn k
   turn_read order is k i lt read =
       get_or_read order k i lt read 0 ∙ ap (λ (xs : List ℕ). get_or xs k 0) is
 
@@ -48,7 +52,8 @@ module _ (plan : Plan) (s : StateOf) where
   pub some_first : IsWithinLimits plan → (order : List ℕ) → order ≡ edf_order plan s → 0 < length order
   some_first lim order is = omega (arith, tasks_long order is, some_task plan lim)
 
-  module _ (lim : IsWithinLimits plan) (order : List ℕ) (is : order ≡ edf_order plan s) (i : ℕ) (read : i ≡ get_or order 0 i) where
+  module _ (lim : IsWithinLimits plan) (order : List ℕ) (is : order ≡ edf_order plan s)
+      (i : ℕ) (read : i ≡ get_or order 0 i) where
     first_turn : i ≡ turn 0
     first_turn = turn_read order is 0 i (some_first lim order is) read
 
@@ -104,7 +109,8 @@ module _ (plan : Plan) (s : StateOf) where
     done_next =
         let less : drop k (edf_order plan s) ≡ turn k ∷ drop (k + 1) (edf_order plan s) =
         drop_more (edf_order plan s) k 0 (rw order_long lt) in
-        rw less (walked_step plan s (take k (edf_order plan s)) (drop (k + 1) (edf_order plan s)) (turn k) rates first in_turn)
+        let rest = drop (k + 1) (edf_order plan s) in
+        rw less (walked_step plan s (take k (edf_order plan s)) rest (turn k) rates first in_turn)
 
     -- the task's own rate is in the sum
     pub has_rate : rate plan (turn k) ≤ rates
@@ -122,7 +128,8 @@ module _ (plan : Plan) (s : StateOf) where
         rw was.rates_are (within (omega (arith, whole, fits)))
 
   -- the task of a step, read from the list, where the last task to come is the n-th
-  module _ (order : List ℕ) (is : order ≡ edf_order plan s) (n i : ℕ) (some : 0 < n) (low : n ≤ length order) (read : i ≡ get_or order (n - 1) i) where
+  module _ (order : List ℕ) (is : order ≡ edf_order plan s) (n i : ℕ)
+      (some : 0 < n) (low : n ≤ length order) (read : i ≡ get_or order (n - 1) i) where
     place_low : n - 1 < count plan
     place_low = omega (arith, tasks_long order is)
 

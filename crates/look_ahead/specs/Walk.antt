@@ -1,6 +1,6 @@
--- One task of the walk from the last in EDF order to the first. `left` is what its job may still need, and `slack` how long
--- after the earliest deadline it is due. `rates` is the sum of the rates ui of the tasks that are still to come, with this
--- one, and of the vi of those that are done; `first` is what those have to run before the earliest deadline.
+-- One task of the walk from the last in EDF order to the first. `left` is what its job may still need, and `slack` how
+-- long after the earliest deadline it is due. `rates` is the sum of the rates ui of the tasks that are still to come,
+-- with this one, and of the vi of those that are done; `first` is what those have to run before the earliest deadline.
 use Rattle.std.specs.Prelude.{ℕ, ◌+◌, ◌-◌, ◌*◌, ◌/◌, nat_eq, if◌then◌else◌}
 use Rattle.grid_fraction.specs.Numbers.{ceil_div}
 use Rattle.sched_model.specs.Plan.{Plan, hyper, rate, top_speed}

@@ -17,8 +17,8 @@ use governor::{Choice, Governor, Publishing};
 use sched_model::{Admitted, State};
 use std::alloc::Global;
 
-/// The governor of look-ahead EDF: the lowest speed at which what can't be put off past the earliest deadline is done by
-/// then (Pillai and Shin 2001).
+/// The governor of look-ahead EDF: the lowest speed at which what can't be put off past the earliest deadline is done
+/// by then (Pillai and Shin 2001).
 #[derive(Drop)]
 pub struct LookAhead {
     pub(crate) left: Vec<u64>,
@@ -54,7 +54,7 @@ impl Governor for LookAhead {
 
     ghost serves_plan = { λ g plan s stands. stands.served };
 
-    ghost waits = { λ g plan s to later stands. record { served = stands.served; left_is = stands.left_is; order_is = stands.order_is } };
+    ghost waits = { λ g plan s to le it. record { served = it.served; left_is = it.left_is; order_is = it.order_is } };
 
     ghost laws = { ahead_laws };
 
@@ -78,9 +78,9 @@ impl Governor for LookAhead {
     fn settled(&mut self, _plan: &Admitted, _view: &State) {}
 
     /// Each choice rests on rates that fit. There are, for each task, the work units that are put off past the earliest
-    /// deadline and the rate that they then need, by formulas over all tasks at once. Whichever they are, the demand is the
-    /// sum of what is not put off, and the rate of each task, with those of the tasks after it and before it, is within what
-    /// the highest speed does in a hyperperiod.
+    /// deadline and the rate that they then need, by formulas over all tasks at once. Whichever they are, the demand is
+    /// the sum of what is not put off, and the rate of each task, with those of the tasks after it and before it, is
+    /// within what the highest speed does in a hyperperiod.
     fn choose(&self, plan: &Admitted, view: &State) -> Choice
         requires of { IsOfPlan plan.now view.now }
         requires counters { Keeps self.now.left.items self.now.order.items plan.now view.now }

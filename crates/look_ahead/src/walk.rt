@@ -13,8 +13,8 @@ use crate::LookAhead;
 use grid_fraction::{Frac, mul_down, up};
 use sched_model::{Admitted, State};
 
-// Of one task, or of the walk so far: rates in work units per hyperperiod, and the work units that have to run before the
-// earliest deadline.
+// Of one task, or of the walk so far: rates in work units per hyperperiod, and the work units that have to run before
+// the earliest deadline.
 #[derive(Clone, Copy)]
 struct Totals {
     rates: u128,
@@ -29,8 +29,8 @@ struct Pending {
     slack: u64,
 }
 
-// Of a job that may need so many units and is due `slack` ticks after the earliest deadline: the units that can't be put
-// off, and the rate of the others, where the highest speed has `spare` to give.
+// Of a job that may need so many units and is due `slack` ticks after the earliest deadline: the units that can't be
+// put off, and the rate of the others, where the highest speed has `spare` to give.
 fn spread(spare: u128, left: u64, slack: u64, hyper: u64) -> Totals
     requires some { 0 < slack }
     requires grid { 0 < hyper }
@@ -103,8 +103,8 @@ impl LookAhead {
         }
     }
 
-    // The demand of look-ahead in work units per tick, not reduced: what can't be put off past the earliest deadline, over
-    // the time up to it (Pillai and Shin 2001).
+    // The demand of look-ahead in work units per tick, not reduced: what can't be put off past the earliest deadline,
+    // over the time up to it (Pillai and Shin 2001).
     pub(crate) fn demand(&self, plan: &Admitted, view: &State) -> Frac
         requires of { IsOfPlan plan.now view.now }
         requires counters { Keeps self.now.left.items self.now.order.items plan.now view.now }

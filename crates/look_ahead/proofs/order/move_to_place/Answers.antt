@@ -7,29 +7,38 @@ use Rattle.look_ahead.proofs.Keeping.{order-released, row_read}
 use Rattle.look_ahead.proofs.Passing.{passing_end, passing_moves, passing_stays, stays_first, stays_other}
 use Rattle.look_ahead.proofs.Walking.{tasks_long}
 use Rattle.look_ahead.proofs.order.move_to_place.Goals as goal
-use Rattle.look_ahead.proofs.order.move_to_place.Goals.{then-order-k+then-stands_before_due, else-order-k, else-order-k-via-then-order-k+else-stands_before_due, else-order-k-via-else-order-k}
+use Rattle.look_ahead.proofs.order.move_to_place.Goals.{then-order-k+then-stands_before_due, else-order-k}
+use Rattle.look_ahead.proofs.order.move_to_place.Goals.{else-order-k-via-then-order-k+else-stands_before_due}
+use Rattle.look_ahead.proofs.order.move_to_place.Goals.{else-order-k-via-else-order-k}
 
 pub overflow_sub-k-end : goal.overflow_sub-k-end
-overflow_sub-k-end c = omega (arith, tasks_long c.args.plan.now c.args.view.now c.args.order.now c.requires.order, c.requires.can.below)
+overflow_sub-k-end c =
+    let long = tasks_long c.args.plan.now c.args.view.now c.args.order.now c.requires.order in
+    omega (arith, long, c.requires.can.below)
 
 pub loop-k-preserved : goal.loop-k-preserved
 loop-k-preserved c =
     let i = c.args.task in
     let test = stands_before_due (deadline_at c.args.view.now) i (c.index.result.now.deadline + c.period.result) in
+    let old = c.args.order.now in
     let order = c.loop-k.order in
     let k = c.loop-k.k in
+    let here = get_or order k 0 in
+    let next = get_or order (k + 1) 0 in
     let lt : k + 1 < length order = omega arith in
+    let was = c.loop-k.invariant in
     elim c.if-order-k.branch [
       | then-order-k+then-stands_before_due w ↦
-          let moves : test (get_or order (k + 1) 0) ≡ true = sym w.stands_before_due.ensures ∙ w.if-stands_before_due.true in
-          rw w.order-is (passing_moves test i c.args.order.now order k lt c.loop-k.invariant w.if-order-k.true moves)
+          let moves : test next ≡ true = sym w.stands_before_due.ensures ∙ w.if-stands_before_due.true in
+          rw w.order-is (passing_moves test i old order k lt was w.if-order-k.true moves)
       | else-order-k w ↦
           elim w.else-order-k.branch [
             | else-order-k-via-then-order-k+else-stands_before_due w' ↦
-                let first : test (get_or order (k + 1) 0) ≡ false = sym w'.stands_before_due.ensures ∙ w'.if-stands_before_due.false in
-                rw w.order-is (passing_stays test i c.args.order.now order k lt c.loop-k.invariant (stays_first (nat_eq (get_or order k 0) i) (test (get_or order (k + 1) 0)) first))
+                let first : test next ≡ false = sym w'.stands_before_due.ensures ∙ w'.if-stands_before_due.false in
+                rw w.order-is (passing_stays test i old order k lt was (stays_first (nat_eq here i) (test next) first))
             | else-order-k-via-else-order-k w' ↦
-                rw w.order-is (passing_stays test i c.args.order.now order k lt c.loop-k.invariant (stays_other (get_or order k 0) i (test (get_or order (k + 1) 0)) w'.if-order-k.false))
+                let other = stays_other here i (test next) w'.if-order-k.false in
+                rw w.order-is (passing_stays test i old order k lt was other)
           ]
     ]
 
@@ -40,8 +49,10 @@ returns c =
     let i = c.args.task in
     let due = c.index.result.now.deadline + c.period.result in
     let row = row_read s _ i c.index.result.now c.view.view_is c.requires.can.task c.index.ensures in
-    let later : due ≡ deadline_at s i + period plan i = ap₂ (λ (r : Row) (p : ℕ). r.deadline + p) row c.period.ensures.period in
+    let later : due ≡ deadline_at s i + period plan i =
+    ap₂ (λ (r : Row) (p : ℕ). r.deadline + p) row c.period.ensures.period in
     let last : c.loop-k.k + 1 ≡ length c.loop-k.order =
     omega (arith, tasks_long plan s c.args.order.now c.requires.order, c.requires.can.below) in
-    passing_end (stands_before_due (deadline_at s) i due) i c.args.order.now c.loop-k.order c.loop-k.k last c.loop-k.invariant
+    let test = stands_before_due (deadline_at s) i due in
+    passing_end test i c.args.order.now c.loop-k.order c.loop-k.k last c.loop-k.invariant
     ∙ order-released plan s i c.requires.can due c.args.order.now later c.requires.order

@@ -11,7 +11,8 @@ pub returns : goal.returns
 returns c =
     let plan = c.args.plan.now in
     let sorted = c.sort_unstable.new.self.items in
-    let moved = subst (λ (ks : List (ℕ × ℕ)). IsPermutation ks sorted) c.in_ok-offsets.ensures c.sort_unstable.ensures.permutation in
+    let permuted = c.sort_unstable.ensures.permutation in
+    let moved = subst (λ (ks : List (ℕ × ℕ)). IsPermutation ks sorted) c.in_ok-offsets.ensures permuted in
     let tasks : map (λ k. k.1) c.deref.result.now ≡ edf_order plan (opening plan) =
     ap (map (λ k. k.1)) c.deref.ensures.value
     ∙ (sorted_keys (offset plan) (count plan) sorted moved c.sort_unstable.ensures.sorted ∙ order-opening plan) in

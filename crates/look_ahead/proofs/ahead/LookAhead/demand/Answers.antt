@@ -21,20 +21,23 @@ loop-k-init c =
 
 pub pending-job-requires-clause-task : goal.pending-job-requires-clause-task
 pending-job-requires-clause-task c =
-    step_below c.args.plan.now c.args.view.now c.args.self.now.order.items c.requires.counters.order_is c.loop-k.k c.index.result.now
+    let order = c.args.self.now.order.items in
+    step_below c.args.plan.now c.args.view.now order c.requires.counters.order_is c.loop-k.k c.index.result.now
     c.loop-k-test.true (omega (arith, c.len-k.ensures)) c.index.ensures
 
 pub step-totals-requires-clause-task : goal.step-totals-requires-clause-task
 step-totals-requires-clause-task c =
+    let order = c.args.self.now.order.items in
     let below =
-    step_below c.args.plan.now c.args.view.now c.args.self.now.order.items c.requires.counters.order_is c.loop-k.k c.index.result.now
+    step_below c.args.plan.now c.args.view.now order c.requires.counters.order_is c.loop-k.k c.index.result.now
     c.loop-k-test.true (omega (arith, c.len-k.ensures)) c.index.ensures in
     rw c.pending-job.ensures.task below
 
 pub step-totals-requires-clause-soon : goal.step-totals-requires-clause-soon
 step-totals-requires-clause-soon c =
+    let order = c.args.self.now.order.items in
     let below =
-    step_below c.args.plan.now c.args.view.now c.args.self.now.order.items c.requires.counters.order_is c.loop-k.k c.index.result.now
+    step_below c.args.plan.now c.args.view.now order c.requires.counters.order_is c.loop-k.k c.index.result.now
     c.loop-k-test.true (omega (arith, c.len-k.ensures)) c.index.ensures in
     let near = c.requires.decision.soon c.index.result.now below in
     let next = earliest-later c.args.plan.now c.known.ensures.limits c.args.view.now c.requires.decision.before in
@@ -42,15 +45,20 @@ step-totals-requires-clause-soon c =
 
 pub step-totals-requires-clause-fits : goal.step-totals-requires-clause-fits
 step-totals-requires-clause-fits c =
-    step_fits c.args.plan.now c.args.view.now c.args.self.now.order.items c.requires.counters.order_is c.loop-k.k c.index.result.now
-    c.loop-k-test.true (omega (arith, c.len-k.ensures)) c.index.ensures c.loop-k.totals.rates c.loop-k.totals.first
+    let order = c.args.self.now.order.items in
+    let totals = c.loop-k.totals in
+    step_fits c.args.plan.now c.args.view.now order c.requires.counters.order_is c.loop-k.k c.index.result.now
+    c.loop-k-test.true (omega (arith, c.len-k.ensures)) c.index.ensures totals.rates totals.first
     c.loop-k.invariant.0 c.known.ensures c.requires.counters.served
 
 pub step-totals-requires-clause-part : goal.step-totals-requires-clause-part
 step-totals-requires-clause-part c =
+    let order = c.args.self.now.order.items in
+    let totals = c.loop-k.totals in
     let part =
-    step_part c.args.plan.now c.args.view.now c.args.self.now.order.items c.requires.counters.order_is c.loop-k.k c.index.result.now
-    c.loop-k-test.true (omega (arith, c.len-k.ensures)) c.index.ensures c.loop-k.totals.rates c.loop-k.totals.first c.loop-k.invariant.0 in
+    step_part c.args.plan.now c.args.view.now order c.requires.counters.order_is c.loop-k.k c.index.result.now
+    c.loop-k-test.true (omega (arith, c.len-k.ensures)) c.index.ensures totals.rates totals.first
+    c.loop-k.invariant.0 in
     rw c.pending-job.ensures.task part
 
 pub step-totals-requires-clause-small : goal.step-totals-requires-clause-small
@@ -66,14 +74,16 @@ loop-k-preserved c =
     let rates = c.loop-k.totals.rates in
     let first = c.loop-k.totals.first in
     let is = c.requires.counters.order_is in
-    let below = step_below plan s order is n i c.loop-k-test.true (omega (arith, c.len-k.ensures)) c.index.ensures in
+    let some = c.loop-k-test.true in
+    let below = step_below plan s order is n i some (omega (arith, c.len-k.ensures)) c.index.ensures in
     let next =
-    step_next plan s order is n i c.loop-k-test.true (omega (arith, c.len-k.ensures)) c.index.ensures rates first c.loop-k.invariant.0 in
+    step_next plan s order is n i some (omega (arith, c.len-k.ensures)) c.index.ensures rates first
+    c.loop-k.invariant.0 in
     let grows = first_grows plan s c.known.ensures.limits c.requires.of i rates first below in
     let job = c.pending-job.ensures in
     let rates_are = rw (job.task, job.left, job.slack) at c.step-totals.ensures.rates in
     let first_is = rw (job.task, job.left, job.slack) at c.step-totals.ensures.first in
-    (rw (rates_are, first_is) next, omega (arith, first_is, grows, c.loop-k.invariant.1, c.loop-k-test.true))
+    (rw (rates_are, first_is) next, omega (arith, first_is, grows, c.loop-k.invariant.1, some))
 
 pub overflow_sub-soonest : goal.overflow_sub-soonest
 overflow_sub-soonest c =

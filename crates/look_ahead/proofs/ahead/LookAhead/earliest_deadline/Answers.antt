@@ -14,8 +14,9 @@ index-requires c =
 pub index-requires-2 : goal.index-requires-2
 index-requires-2 c =
     let order = c.args.self.now.order.items in
-    let below =
-    first_below c.args.plan.now c.args.view.now c.known.ensures.limits order c.requires.counters.order_is c.index.result.now c.index.ensures in
+    let is = c.requires.counters.order_is in
+    let i = c.index.result.now in
+    let below = first_below c.args.plan.now c.args.view.now c.known.ensures.limits order is i c.index.ensures in
     let rows = ap (λ (v : StateOf). length v.rows) c.view.view_is in
     omega (arith, below, c.requires.of.rows, rows)
 
@@ -27,5 +28,6 @@ returns c =
     let is = c.requires.counters.order_is in
     let i = c.index.result.now in
     let below = first_below plan s c.known.ensures.limits order is i c.index.ensures in
-    let row = row_read s _ i c.index-2.result.now c.view.view_is (omega (arith, below, c.requires.of.rows)) c.index-2.ensures in
+    let read = c.index-2.result.now in
+    let row = row_read s _ i read c.view.view_is (omega (arith, below, c.requires.of.rows)) c.index-2.ensures in
     ap (λ (r : Row). r.deadline) row ∙ first_due plan s c.known.ensures.limits order is i c.index.ensures

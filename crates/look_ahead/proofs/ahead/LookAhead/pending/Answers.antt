@@ -1,4 +1,4 @@
-use Rattle.std.proofs.Common.{◌≡◌, ap, arith}
+use Rattle.std.proofs.Common.{◌≡◌, ◌<◌, length, ap, arith}
 use Rattle.grid_fraction.proofs.Least.{least-below}
 use Rattle.sched_model.specs.declared.state.Row.{Row}
 use Rattle.sched_model.specs.Plan.{count}
@@ -9,7 +9,9 @@ use Rattle.look_ahead.proofs.ahead.LookAhead.pending.Goals as goal
 pub overflow_sub-result : goal.overflow_sub-result
 overflow_sub-result c =
     let s = c.args.view.now in
-    let row = row_read s _ c.args.task c.index-2.result.now c.view.view_is (omega (arith, c.requires.task, c.requires.of.rows)) c.index-2.ensures in
+    let read = c.index-2.result.now in
+    let lt : c.args.task < length s.rows = omega (arith, c.requires.task, c.requires.of.rows) in
+    let row = row_read s _ c.args.task read c.view.view_is lt c.index-2.ensures in
     let due : c.index-2.result.now.deadline ≡ deadline_at s c.args.task = ap (λ (r : Row). r.deadline) row in
     let least = least-below (count c.args.plan.now) (deadline_at s) c.args.task c.requires.task in
     omega (arith, due, least, c.requires.soonest)

@@ -22,4 +22,5 @@ returns c =
     let whole : take order.len (moved ++ drop (length moved) order.items) ≡ moved =
     written_back order.len order.items moved order.ok.0 long in
     subst (λ (xs : List ℕ). Keeps (slice_set left i worst) xs plan (after_release plan s i)) (sym whole)
-    (keeps-released plan s left order.items c.requires.counters i worst moved (ap (λ (r : Row). r.worst) row) c.move_to_place.ensures)
+    (keeps-released plan s left order.items c.requires.counters i worst moved
+    (ap (λ (r : Row). r.worst) row) c.move_to_place.ensures)
