@@ -1,9 +1,8 @@
 -- What notes do to a probe, which is seen as its rule and its tally, and to a list of probes.
-use Rattle.std.specs.Prelude.{ℕ, ◌+◌, ◌-◌, ◌^◌, ◌<◌, min, Bool, true, false, List, [], ◌∷◌, nat_eq, nat_le}
-use Rattle.std.specs.Prelude.{Option, Some, None, IfSome, if◌then◌else◌}
+use Rattle.std.specs.Prelude.{ℕ, ◌+◌, ◌-◌, ◌^◌, min, Bool, true, false, List, [], ◌∷◌, nat_eq, nat_le}
+use Rattle.std.specs.Prelude.{Option, Some, None, if◌then◌else◌}
 use Rattle.dvs_base.specs.declared.note.Note.{Note}
 use Rattle.dvs_base.specs.declared.note.Note.TheVariants.{Release, Speed, Run, Idle, Done, End}
-use Rattle.task_model.specs.declared.limits.TheConstants.{MOST_TASKS}
 use Rattle.probes.specs.declared.rule.What.{What}
 use Rattle.probes.specs.declared.rule.What.TheVariants as what
 use Rattle.probes.specs.declared.rule.Rule.{Rule}
@@ -23,10 +22,6 @@ task_of (Run from to task job units energy) = Some task
 task_of (Idle from to units energy) = None
 task_of (Done at task job used) = Some task
 task_of (End ticks run idle) = None
-
--- a task that a note names is one of those that a set can have
-abbrev pub NamesATask : Note → Type 0
-NamesATask note = IfSome (task_of note) (λ task. task < MOST_TASKS)
 
 -- by its kind alone a note weighs 1 where it is of the kind that is counted, and under Units a run's segment weighs its
 -- units

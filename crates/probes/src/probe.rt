@@ -1,6 +1,6 @@
 // What every probe does.
 ghost use Rattle.std.specs.Prelude.{◌≡◌};
-ghost use Rattle.probes.specs.Tallies.{ProbeOf, NamesATask, told, stay_of};
+ghost use Rattle.probes.specs.Tallies.{ProbeOf, told, stay_of};
 
 use crate::rule::{Rule, Stay};
 use dvs_base::Note;
@@ -21,7 +21,6 @@ pub trait Probe: Drop {
     /// Adds the weight of the note under the rule. Leave comes exactly where the rule has a limit and the tally is then
     /// at least that.
     fn tell(&mut self, note: &Note) -> Stay
-        requires { NamesATask note.now }
         ensures seen { seen self.new ≡ told note.now (seen self.old) }
         ensures stay { result ≡ stay_of (seen self.new) };
 }

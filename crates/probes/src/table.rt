@@ -1,6 +1,6 @@
 // A probe with a counter for each task.
 ghost use Rattle.std.specs.Prelude.{◌≡◌, ◌≤◌, ◌+◌, sum};
-ghost use Rattle.probes.specs.Tallies.{ProbeOf, NamesATask, told, stay_of, capped};
+ghost use Rattle.probes.specs.Tallies.{ProbeOf, told, stay_of, capped};
 ghost use Rattle.probes.specs.Seen.{seen_table};
 
 use crate::probe::Probe;
@@ -8,13 +8,11 @@ use crate::rule::{Rule, Stay, stay_at, task_of, weight};
 use dvs_base::Note;
 use task_model::MOST_TASKS;
 
-const COUNTERS: usize = MOST_TASKS as usize;
-
-/// Keeps a counter for each task that a set can have, and one for the notes that name no task. Its tally is their sum.
+/// Keeps a counter for each task that a set can have, and one for all other notes. Its tally is their sum.
 #[derive(Debug, Drop)]
 pub struct TableProbe {
     rule: Rule,
-    counts: [u64; COUNTERS],
+    counts: [u64; MOST_TASKS],
     others: u64,
 }
 
@@ -36,7 +34,7 @@ impl TableProbe {
     {
         TableProbe {
             rule,
-            counts: [0; COUNTERS],
+            counts: [0; MOST_TASKS],
             others: 0,
         }
     }
@@ -56,11 +54,11 @@ impl Probe for TableProbe {
     fn tell(&mut self, note: &Note) -> Stay {
         let more = weight(self.rule, note);
         match task_of(note) {
-            Some(task) => {
+            Some(task) if (task as usize) < MOST_TASKS => {
                 let task = task as usize;
                 self.counts[task] = self.counts[task].saturating_add(more);
             }
-            None => self.others = self.others.saturating_add(more),
+            _ => self.others = self.others.saturating_add(more),
         }
         stay_at(self.rule.limit, self.tally())
     }
