@@ -27,8 +27,12 @@ fn edf_plan(alloc: Global, tasks: &[u8]) -> Result<Admitted, Fail> {
 // The first job that is not done, the next release and the first task that is released now.
 fn looked_up(alloc: Global, tasks: &[u8]) -> Result<(Option<u32>, u64, Option<u32>), Fail> {
     let plan = edf_plan(alloc, tasks)?;
-    let state = State::new(alloc, &plan).map_err(|_| "state")?;
-    let agenda = Agenda::new(alloc, &plan).map_err(|_| "agenda")?;
+    let Ok(state) = State::new(alloc, &plan) else {
+        return Err("state")?;
+    };
+    let Ok(agenda) = Agenda::new(alloc, &plan) else {
+        return Err("agenda")?;
+    };
     Ok((
         agenda.first_ready(&plan, &state),
         agenda.next_release(&plan, &state),

@@ -183,7 +183,8 @@ module _ (p : Plan) (dem : ℕ → ℕ → ℕ) (past : List Tick) where
         let same : m + zero ≡ m = omega arith in
         (subst (λ k. Releasing heard k any st from to) (sym same) r, ap notes_upto same)
     skipped (suc n) m any st to unneeded le early r =
-        let here : nat_eq (row_at st m).deadline st.now ≡ false = (let ne : (row_at st m).deadline ≢ st.now = early m (omega arith) (omega arith) in grind (arith, nat_tests)) in
+        let ne : (row_at st m).deadline ≢ st.now = early m (omega arith) (omega arith) in
+        let here : nat_eq (row_at st m).deadline st.now ≡ false = grind (arith, nat_tests) in
         let next : Releasing heard (m + 1) any st from to = passed m any st to r (omega arith) (unneeded m) here in
         let rest = skipped n (m + 1) any st to unneeded (omega arith) (λ k lo hi. early k (omega arith) (omega arith)) next in
         let same : m + 1 + n ≡ m + suc n = omega arith in (
@@ -209,7 +210,13 @@ module _ (p : Plan) (dem : ℕ → ℕ → ℕ) (past : List Tick) where
     -- no release is past
     pub none-past : (m : ℕ) (any : Bool) (st : StateOf) (to : L) → Releasing heard m any st from to → NonePast p st
     none-past m any st to r i lt =
-        omega (arith, ap (λ (s : StateOf). s.now) r.state, ap (λ (s : StateOf). (row_at s i).deadline) r.state, ap (λ (q : Row). q.deadline) (get-table (count p) (mixed m) i no_row lt), mixed-past m i)
+        omega (
+          arith,
+          ap (λ (s : StateOf). s.now) r.state,
+          ap (λ (s : StateOf). (row_at s i).deadline) r.state,
+          ap (λ (q : Row). q.deadline) (get-table (count p) (mixed m) i no_row lt),
+          mixed-past m i,
+        )
 
     -- a row that is due is still to be released
     still : (m i : ℕ) (any : Bool) (st : StateOf) (to : L) → Releasing heard m any st from to → i < count p → (row_at st i).deadline ≡ st.now → m ≤ i

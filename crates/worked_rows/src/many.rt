@@ -9,8 +9,9 @@ fn task_file(alloc: Global) -> Result<String, AllocError> {
     let mut text = String::new(alloc);
     for task in 0..64 {
         let period = if task < 32 { 128 } else { 96 };
-        let entry =
-            format!(in alloc; "[[task]]\nname = \"t{task}\"\nperiod = {period}\nworst = 1\n")?;
+        let entry = format!(in alloc;
+            "[[task]]\nname = \"t{task}\"\nperiod = {period}\nworst = 1\n"
+        )?;
         text.push_str(entry.as_str())?;
     }
     Ok(text)

@@ -25,7 +25,8 @@ loop-task-init g c =
     let past = course m p dem t in (
       0,
       omega arith,
-      subst (λ (s : StateOf). Releasing p dem past g.L.Listener.heard 0 false s c.args.to.now c.args.to.now) (sym here.state) (releasing-start p dem past g.L.Listener.heard c.args.to.now),
+      subst (λ (s : StateOf). Releasing p dem past g.L.Listener.heard 0 false s c.args.to.now c.args.to.now)
+          (sym here.state) (releasing-start p dem past g.L.Listener.heard c.args.to.now),
       c.requires.current,
       subst (λ (s : StateOf). IsOfPlan p s) (sym here.state) (of-prior p dem past (low-exec m p dem t here.within)),
       start-trace p dem past c.args.self.now.trace,
@@ -75,8 +76,10 @@ release_one-requires-clause-can g c =
     let st = c.loop-task.self.state in
     let task = c.in-Some.task in
     let d = c.in-Some.ensures.due in
-    let at = at-due p dem past adm.some_period g.L.Listener.heard g.L.Listener.balked c.args.to.now i.0 task c.loop-task.any st c.loop-task.to c.requires.at.within.none i.2 d in
-    can-release p dem past adm.some_period g.L.Listener.heard g.L.Listener.balked c.args.to.now task c.loop-task.any st c.loop-task.to at.0 d.below d.due adm (omega (arith, course-len m p dem t, c.requires.at.early))
+    let at = at-due p dem past adm.some_period g.L.Listener.heard g.L.Listener.balked c.args.to.now i.0 task
+        c.loop-task.any st c.loop-task.to c.requires.at.within.none i.2 d in
+    can-release p dem past adm.some_period g.L.Listener.heard g.L.Listener.balked c.args.to.now task c.loop-task.any
+        st c.loop-task.to at.0 d.below d.due adm (omega (arith, course-len m p dem t, c.requires.at.early))
     (prior-done m p dem t c.args.self.now.state c.requires.at task d.below)
 
 pub release_one-requires-clause-room : goal.release_one-requires-clause-room
@@ -102,12 +105,16 @@ returns-in_err-release_one-clause-told g c =
     let st = c.loop-task.self.state in
     let task = c.in-Some.task in
     let d = c.in-Some.ensures.due in
-    let at = at-due p dem past adm.some_period g.L.Listener.heard g.L.Listener.balked c.args.to.now i.0 task c.loop-task.any st c.loop-task.to c.requires.at.within.none i.2 d in
+    let at = at-due p dem past adm.some_period g.L.Listener.heard g.L.Listener.balked c.args.to.now i.0 task
+        c.loop-task.any st c.loop-task.to c.requires.at.within.none i.2 d in
     let told = c.in_err-release_one.ensures.told in
-    at_error (Tells g.L.Listener.heard g.L.Listener.balked g.L.Listener.stops c.args.to.now c.release_one.new.to (all_release_notes p dem t)) c.from_residual.result c.from_residual.ensures.0
+    at_error (Tells g.L.Listener.heard g.L.Listener.balked g.L.Listener.stops c.args.to.now c.release_one.new.to
+        (all_release_notes p dem t)) c.from_residual.result c.from_residual.ensures.0
     (λ x. (
-      subst (λ n. HasBalked g.L.Listener.heard g.L.Listener.balked c.args.to.now (all_release_notes p dem n) c.release_one.new.to) (course-len m p dem t)
-          (opens-balked p dem past adm.some_period g.L.Listener.heard g.L.Listener.balked c.args.to.now task c.loop-task.any st c.loop-task.to at.0 d.below d.due c.release_one.new.to told.0),
+      subst (λ n. HasBalked g.L.Listener.heard g.L.Listener.balked c.args.to.now (all_release_notes p dem n)
+          c.release_one.new.to) (course-len m p dem t)
+          (opens-balked p dem past adm.some_period g.L.Listener.heard g.L.Listener.balked c.args.to.now task
+              c.loop-task.any st c.loop-task.to at.0 d.below d.due c.release_one.new.to told.0),
       omega (arith, told.1, i.6),
       omega (arith, told.2, i.6),
     ))
@@ -123,14 +130,18 @@ loop-task-preserved g c =
     let st = c.loop-task.self.state in
     let task = c.in-Some.task in
     let d = c.in-Some.ensures.due in
-    let at = at-due p dem past adm.some_period g.L.Listener.heard g.L.Listener.balked c.args.to.now i.0 task c.loop-task.any st c.loop-task.to c.requires.at.within.none i.2 d in
+    let at = at-due p dem past adm.some_period g.L.Listener.heard g.L.Listener.balked c.args.to.now i.0 task
+        c.loop-task.any st c.loop-task.to c.requires.at.within.none i.2 d in
     let w = c.in_ok-release_one.ensures in (
       task + 1,
       omega (arith, d.below),
-      opens p dem past adm.some_period g.L.Listener.heard g.L.Listener.balked c.args.to.now task c.loop-task.any st c.loop-task.to at.0 d.below d.due c.release_one.new.self.state c.release_one.new.to w.told.0 w.state,
+      opens p dem past adm.some_period g.L.Listener.heard g.L.Listener.balked c.args.to.now task c.loop-task.any st
+          c.loop-task.to at.0 d.below d.due c.release_one.new.self.state c.release_one.new.to w.told.0 w.state,
       w.current,
       w.of,
-      opens-trace p dem past adm.some_period g.L.Listener.heard g.L.Listener.balked c.args.to.now task c.loop-task.any st c.loop-task.to at.0 d.below d.due c.args.self.now.trace c.loop-task.self.trace c.release_one.new.self.trace
+      opens-trace p dem past adm.some_period g.L.Listener.heard g.L.Listener.balked c.args.to.now task c.loop-task.any
+          st c.loop-task.to at.0 d.below d.due c.args.self.now.trace c.loop-task.self.trace
+              c.release_one.new.self.trace
           (i.5 ∙ ap (λ ns. with_notes c.args.self.now.trace ns) (sym at.1)) w.trace,
       omega (arith, i.6, w.told.1),
     )
@@ -157,8 +168,10 @@ returns-then-any-clause-trace g c =
     let adm = bounds p c.requires.set.admitted in
     let i = c.loop-task.invariant in
     let st = c.loop-task.self.state in
-    let at = at-end p dem past adm.some_period g.L.Listener.heard g.L.Listener.balked c.args.to.now i.0 c.loop-task.any st c.loop-task.to c.requires.at.within.none i.1 i.2 c.in_default.ensures.none in
-    i.5 ∙ (ap (λ ns. with_notes c.args.self.now.trace ns) (sym at.1) ∙ ap (λ n. with_notes c.args.self.now.trace (all_release_notes p dem n)) (course-len m p dem t))
+    let at = at-end p dem past adm.some_period g.L.Listener.heard g.L.Listener.balked c.args.to.now i.0
+        c.loop-task.any st c.loop-task.to c.requires.at.within.none i.1 i.2 c.in_default.ensures.none in
+    i.5 ∙ (ap (λ ns. with_notes c.args.self.now.trace ns) (sym at.1) ∙ ap
+        (λ n. with_notes c.args.self.now.trace (all_release_notes p dem n)) (course-len m p dem t))
 
 pub returns-then-any-clause-state : goal.returns-then-any-clause-state
 returns-then-any-clause-state g c =
@@ -169,7 +182,8 @@ returns-then-any-clause-state g c =
     let adm = bounds p c.requires.set.admitted in
     let i = c.loop-task.invariant in
     let st = c.loop-task.self.state in
-    let at = at-end p dem past adm.some_period g.L.Listener.heard g.L.Listener.balked c.args.to.now i.0 c.loop-task.any st c.loop-task.to c.requires.at.within.none i.1 i.2 c.in_default.ensures.none in
+    let at = at-end p dem past adm.some_period g.L.Listener.heard g.L.Listener.balked c.args.to.now i.0
+        c.loop-task.any st c.loop-task.to c.requires.at.within.none i.1 i.2 c.in_default.ensures.none in
     c.mark.ensures
     ∙ released-marked p dem past adm.some_period g.L.Listener.heard g.L.Listener.balked c.args.to.now (count p) st c.loop-task.to refl
     (subst (λ b. Releasing p dem past g.L.Listener.heard (count p) b st c.args.to.now c.loop-task.to) c.if-any.true at.0)
@@ -184,7 +198,8 @@ returns-then-any-clause-told g c =
     let adm = bounds p c.requires.set.admitted in
     let i = c.loop-task.invariant in
     let st = c.loop-task.self.state in
-    let at = at-end p dem past adm.some_period g.L.Listener.heard g.L.Listener.balked c.args.to.now i.0 c.loop-task.any st c.loop-task.to c.requires.at.within.none i.1 i.2 c.in_default.ensures.none in
+    let at = at-end p dem past adm.some_period g.L.Listener.heard g.L.Listener.balked c.args.to.now i.0
+        c.loop-task.any st c.loop-task.to c.requires.at.within.none i.1 i.2 c.in_default.ensures.none in
     (subst (λ n. HasHeard g.L.Listener.heard c.args.to.now (all_release_notes p dem n) c.loop-task.to) (course-len m p dem t) at.0.told, i.6)
 
 pub returns-else-any-clause-trace : goal.returns-else-any-clause-trace
@@ -197,8 +212,10 @@ returns-else-any-clause-trace g c =
     let adm = bounds p c.requires.set.admitted in
     let i = c.loop-task.invariant in
     let st = c.loop-task.self.state in
-    let at = at-end p dem past adm.some_period g.L.Listener.heard g.L.Listener.balked c.args.to.now i.0 c.loop-task.any st c.loop-task.to c.requires.at.within.none i.1 i.2 c.in_default.ensures.none in
-    i.5 ∙ (ap (λ ns. with_notes c.args.self.now.trace ns) (sym at.1) ∙ ap (λ n. with_notes c.args.self.now.trace (all_release_notes p dem n)) (course-len m p dem t))
+    let at = at-end p dem past adm.some_period g.L.Listener.heard g.L.Listener.balked c.args.to.now i.0
+        c.loop-task.any st c.loop-task.to c.requires.at.within.none i.1 i.2 c.in_default.ensures.none in
+    i.5 ∙ (ap (λ ns. with_notes c.args.self.now.trace ns) (sym at.1) ∙ ap
+        (λ n. with_notes c.args.self.now.trace (all_release_notes p dem n)) (course-len m p dem t))
 
 pub returns-else-any-clause-state : goal.returns-else-any-clause-state
 returns-else-any-clause-state g c =
@@ -209,8 +226,10 @@ returns-else-any-clause-state g c =
     let adm = bounds p c.requires.set.admitted in
     let i = c.loop-task.invariant in
     let st = c.loop-task.self.state in
-    let at = at-end p dem past adm.some_period g.L.Listener.heard g.L.Listener.balked c.args.to.now i.0 c.loop-task.any st c.loop-task.to c.requires.at.within.none i.1 i.2 c.in_default.ensures.none in
-    released-unmarked p dem past adm.some_period g.L.Listener.heard g.L.Listener.balked c.args.to.now (count p) st c.loop-task.to c.requires.at.within.none refl
+    let at = at-end p dem past adm.some_period g.L.Listener.heard g.L.Listener.balked c.args.to.now i.0
+        c.loop-task.any st c.loop-task.to c.requires.at.within.none i.1 i.2 c.in_default.ensures.none in
+    released-unmarked p dem past adm.some_period g.L.Listener.heard g.L.Listener.balked c.args.to.now (count p) st
+        c.loop-task.to c.requires.at.within.none refl
     (subst (λ b. Releasing p dem past g.L.Listener.heard (count p) b st c.args.to.now c.loop-task.to) c.if-any.false at.0)
 
 pub returns-else-any-clause-told : goal.returns-else-any-clause-told
@@ -223,7 +242,8 @@ returns-else-any-clause-told g c =
     let adm = bounds p c.requires.set.admitted in
     let i = c.loop-task.invariant in
     let st = c.loop-task.self.state in
-    let at = at-end p dem past adm.some_period g.L.Listener.heard g.L.Listener.balked c.args.to.now i.0 c.loop-task.any st c.loop-task.to c.requires.at.within.none i.1 i.2 c.in_default.ensures.none in
+    let at = at-end p dem past adm.some_period g.L.Listener.heard g.L.Listener.balked c.args.to.now i.0
+        c.loop-task.any st c.loop-task.to c.requires.at.within.none i.1 i.2 c.in_default.ensures.none in
     (subst (λ n. HasHeard g.L.Listener.heard c.args.to.now (all_release_notes p dem n) c.loop-task.to) (course-len m p dem t) at.0.told, i.6)
 
 pub returns-then-any-clause-current : goal.returns-then-any-clause-current
@@ -232,5 +252,6 @@ returns-then-any-clause-current g c =
     let run = c.loop-task.self in
     record {
       counters = search rules;
-      agenda = subst (λ (s : StateOf). Stands p s run.agenda) (sym c.mark.ensures) (stand-mark p run.state run.agenda.ready run.agenda.calendar c.loop-task.invariant.3.agenda);
+      agenda = subst (λ (s : StateOf). Stands p s run.agenda) (sym c.mark.ensures)
+          (stand-mark p run.state run.agenda.ready run.agenda.calendar c.loop-task.invariant.3.agenda);
     }

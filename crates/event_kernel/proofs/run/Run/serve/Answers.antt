@@ -25,5 +25,6 @@ returns-else-ends-clause-current g c =
     record {
       counters = search rules;
       agenda = subst (λ (s : StateOf). Stands c.args.plan.now s run.agenda) (sym c.run.ensures)
-          (stand-run c.args.plan.now run.state run.agenda.ready run.agenda.calendar c.requires.current.agenda c.args.task c.args.units c.requires.can.task);
+          (stand-run c.args.plan.now run.state run.agenda.ready run.agenda.calendar c.requires.current.agenda
+              c.args.task c.args.units c.requires.can.task);
     }
