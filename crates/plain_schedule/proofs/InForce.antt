@@ -10,7 +10,8 @@ use Rattle.sched_model.specs.Schedule.{entry_in_force, next_tick, schedule_by}
 use Rattle.sched_model.proofs.ScheduleLemmas.{schedule-none, schedule-suc, force-decided, force-within}
 
 -- between decisions it is the entry of the last tick
-kept : (p : Plan) (dem : ℕ → ℕ → ℕ) (ask : List Tick → Frac) (ticks : List Tick) (d : Tick) → ticks ≡ schedule_by p dem ask (length ticks) → is_decision p dem ticks ≡ false
+kept : (p : Plan) (dem : ℕ → ℕ → ℕ) (ask : List Tick → Frac) (ticks : List Tick) (d : Tick)
+    → ticks ≡ schedule_by p dem ask (length ticks) → is_decision p dem ticks ≡ false
     → (get_or ticks 0 d).entry ≡ entry_in_force p dem ask ticks
 unfolding schedule_by
 kept p dem ask [] d is e = absurd (true≢false e)

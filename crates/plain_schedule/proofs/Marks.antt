@@ -1,9 +1,10 @@
 -- The last release up to a tick, and the earliest deadline.
-use Rattle.std.proofs.Common.{◌≡◌, ℕ, ◌+◌, ◌-◌, ◌<◌, ◌≤◌, ◌^◌, List, ◌++◌, length, drop, take, reverse, arith, ap, ◌∙◌, sym}
+use Rattle.std.proofs.Common.{◌≡◌, ℕ, ◌+◌, ◌-◌, ◌<◌, ◌≤◌, List, ◌++◌, length, drop, take, reverse, arith, ap, ◌∙◌, sym}
 use Rattle.std.proofs.lemmas.List.{reverse-append, length-reverse, length-drop, take-append-drop, drop_at}
 use Rattle.grid_fraction.proofs.Least.{least-above, least-same, least-more}
 use Rattle.sched_model.specs.Plan.{Plan, count}
 use Rattle.sched_model.specs.Jobs.{due, deadline, earliest, last_release}
+use Rattle.task_model.specs.declared.limits.TheConstants.{LONGEST_PERIOD}
 use Rattle.sched_model.specs.Admission.{IsAdmitted}
 use Rattle.sched_model.proofs.JobLaws.{lt-due, latest-marked}
 use Rattle.sched_model.proofs.Limits.{every_period, deadline-soon}
@@ -11,14 +12,15 @@ use Rattle.sched_model.proofs.Limits.{every_period, deadline-soon}
 pub deadline_later : (p : Plan) → IsAdmitted p → (i t : ℕ) → t < deadline p i t
 deadline_later p adm i t = lt-due p i t (every_period p adm.limits i)
 
-pub deadline_low : (p : Plan) → IsAdmitted p → (i t : ℕ) → i < count p → deadline p i t ≤ t + 2 ^ 40
+pub deadline_low : (p : Plan) → IsAdmitted p → (i t : ℕ) → i < count p → deadline p i t ≤ t + LONGEST_PERIOD
 deadline_low p adm i t lt = deadline-soon p adm.limits i t lt
 
 -- the earliest deadline of then is still to come
 pub marked_later : (p : Plan) → IsAdmitted p → (t : ℕ) → t < earliest p (last_release p t)
 marked_later p adm t =
     let same : earliest p (last_release p t) ≡ earliest p t =
-    least-same (count p) (λ i. deadline p i (last_release p t)) (λ i. deadline p i t) (λ i lt. ap (due p i) (latest-marked p i t (every_period p adm.limits i) lt)) in
+    least-same (count p) (λ i. deadline p i (last_release p t)) (λ i. deadline p i t)
+        (λ i lt. ap (due p i) (latest-marked p i t (every_period p adm.limits i) lt)) in
     omega (arith, same, least-above (count p) (λ i. deadline p i t) (t + 1) adm.limits.tasks.some (λ i lt. omega (arith, deadline_later p adm i t)))
 
 -- the ticks before tick r, of more

@@ -2,6 +2,7 @@
 ghost use Rattle.std.specs.Prelude.{◌≡◌, ◌+◌, ◌-◌, ◌*◌, ◌/◌, ◌<◌, ◌≤◌, ◌^◌, length, reverse, if◌then◌else◌, IfOk};
 ghost use Rattle.std.specs.List.{AllByRecursion};
 ghost use Rattle.dvs_base.specs.declared.kind.Scheduler.TheVariants.{Edf};
+ghost use Rattle.task_model.specs.declared.limits.TheConstants.{LONGEST_PERIOD};
 ghost use Rattle.sched_model.specs.Plan.{count, rate, hyper, top_speed};
 ghost use Rattle.sched_model.specs.Jobs.{deadline};
 ghost use Rattle.sched_model.specs.Priority.{key_of, stands_before, sum_before};
@@ -67,7 +68,7 @@ fn slack(plan: &Admitted, tick: u64, task: u32) -> u64
     requires task { task < count plan.now }
     requires tick { tick + 1 < 2 ^ 64 }
     ensures value { result ≡ slack plan.now (λ i. deadline plan.now i tick) task }
-    ensures low { result ≤ 2 ^ 40 }
+    ensures low { result ≤ LONGEST_PERIOD }
 {
     deadline(plan, task, tick).saturating_sub(earliest(plan, tick)) as u64
 }
@@ -88,7 +89,9 @@ fn room_beside(plan: &Admitted, before: u128, after: u128) -> u128
 fn put_off(plan: &Admitted, demands: &Demands, past: &[PlainTick], after: u128, task: u32) -> u64
     requires list { HasWorstsOf plan.now.tasks demands.now }
     requires task { task < count plan.now }
-    ensures value { let ticks = reverse past.now in result ≡ put_off plan.now (λ i. deadline plan.now i (length ticks)) (wleft plan.now (demand_of plan.now demands.now.rows) ticks) after task }
+    ensures value { let ticks = reverse past.now in
+        result ≡ put_off plan.now (λ i. deadline plan.now i (length ticks))
+        (wleft plan.now (demand_of plan.now demands.now.rows) ticks) after task }
     ensures low { result ≤ 2 ^ 61 }
 {
     plan.known();
@@ -113,7 +116,9 @@ fn spread_rate(
 ) -> u128
     requires list { HasWorstsOf plan.now.tasks demands.now }
     requires task { task < count plan.now }
-    ensures value { let ticks = reverse past.now in result ≡ spread_rate plan.now (λ i. deadline plan.now i (length ticks)) (wleft plan.now (demand_of plan.now demands.now.rows) ticks) after task }
+    ensures value { let ticks = reverse past.now in
+        result ≡ spread_rate plan.now (λ i. deadline plan.now i (length ticks))
+        (wleft plan.now (demand_of plan.now demands.now.rows) ticks) after task }
     ensures low { result ≤ 2 ^ 110 }
 {
     plan.known();
@@ -130,7 +135,9 @@ fn spread_rates(plan: &Admitted, demands: &Demands, past: &[PlainTick], later: &
     requires list { HasWorstsOf plan.now.tasks demands.now }
     requires below { AllByRecursion (λ i. i < count plan.now) later.now }
     requires few { length later.now ≤ 64 }
-    ensures value { let ticks = reverse past.now in result ≡ spread_rates plan.now (λ i. deadline plan.now i (length ticks)) (wleft plan.now (demand_of plan.now demands.now.rows) ticks) later.now }
+    ensures value { let ticks = reverse past.now in
+        result ≡ spread_rates plan.now (λ i. deadline plan.now i (length ticks))
+        (wleft plan.now (demand_of plan.now demands.now.rows) ticks) later.now }
     ensures low { result ≤ length later.now * 2 ^ 110 }
 {
     match later {
@@ -146,7 +153,9 @@ fn spread_rates(plan: &Admitted, demands: &Demands, past: &[PlainTick], later: &
 fn kept_back(plan: &Admitted, demands: &Demands, past: &[PlainTick], after: u128, task: u32) -> u64
     requires list { HasWorstsOf plan.now.tasks demands.now }
     requires task { task < count plan.now }
-    ensures value { let ticks = reverse past.now in let left = wleft plan.now (demand_of plan.now demands.now.rows) ticks in result ≡ left task - put_off plan.now (λ i. deadline plan.now i (length ticks)) left after task }
+    ensures value { let ticks = reverse past.now in
+        let left = wleft plan.now (demand_of plan.now demands.now.rows) ticks in
+        result ≡ left task - put_off plan.now (λ i. deadline plan.now i (length ticks)) left after task }
     ensures low { result ≤ 2 ^ 61 }
 {
     wleft(plan, demands, past, task).saturating_sub(put_off(plan, demands, past, after, task))
@@ -157,7 +166,9 @@ fn due_first(plan: &Admitted, demands: &Demands, past: &[PlainTick], order: &[u3
     requires list { HasWorstsOf plan.now.tasks demands.now }
     requires below { AllByRecursion (λ i. i < count plan.now) order.now }
     requires few { length order.now ≤ 64 }
-    ensures value { let ticks = reverse past.now in result ≡ due_first plan.now (λ i. deadline plan.now i (length ticks)) (wleft plan.now (demand_of plan.now demands.now.rows) ticks) order.now }
+    ensures value { let ticks = reverse past.now in
+        result ≡ due_first plan.now (λ i. deadline plan.now i (length ticks))
+        (wleft plan.now (demand_of plan.now demands.now.rows) ticks) order.now }
     ensures low { result ≤ length order.now * 2 ^ 61 }
 {
     match order {

@@ -39,7 +39,8 @@ fn charged(plan: &Admitted, demands: &Demands, past: &[PlainTick], task: u32) ->
 fn charged_rate(plan: &Admitted, demands: &Demands, past: &[PlainTick], task: u32) -> u128
     requires list { HasWorstsOf plan.now.tasks demands.now }
     requires task { task < count plan.now }
-    ensures value { result ≡ charged plan.now (demand_of plan.now demands.now.rows) (reverse past.now) task * (hyper plan.now / period plan.now task) }
+    ensures value { result ≡ charged plan.now (demand_of plan.now demands.now.rows) (reverse past.now) task
+        * (hyper plan.now / period plan.now task) }
     ensures low { result ≤ 2 ^ 109 }
 {
     plan.known();
@@ -81,7 +82,9 @@ fn wleft_where_before(plan: &Admitted, demands: &Demands, past: &[PlainTick], j:
     requires list { HasWorstsOf plan.now.tasks demands.now }
     requires one { j < count plan.now }
     requires other { i < count plan.now }
-    ensures value { result ≡ (if stands_before (period plan.now) j i then wleft plan.now (demand_of plan.now demands.now.rows) (reverse past.now) j else 0) }
+    ensures value { result ≡ (if stands_before (period plan.now) j i
+        then wleft plan.now (demand_of plan.now demands.now.rows) (reverse past.now) j
+        else 0) }
     ensures low { result ≤ 2 ^ 61 }
 {
     if stands_before(plan, Scheduler::Rm, 0, j, i) {
@@ -95,7 +98,8 @@ fn wleft_where_before(plan: &Admitted, demands: &Demands, past: &[PlainTick], j:
 fn wleft_before(plan: &Admitted, demands: &Demands, past: &[PlainTick], task: u32) -> u128
     requires list { HasWorstsOf plan.now.tasks demands.now }
     requires task { task < count plan.now }
-    ensures value { result ≡ sum_before (count plan.now) (period plan.now) (wleft plan.now (demand_of plan.now demands.now.rows) (reverse past.now)) task }
+    ensures value { result ≡ sum_before (count plan.now) (period plan.now)
+        (wleft plan.now (demand_of plan.now demands.now.rows) (reverse past.now)) task }
     ensures low { result ≤ 2 ^ 93 }
 {
     let mut sum = 0;
@@ -125,7 +129,8 @@ fn worst_allotment(
 ) -> u64
     requires list { HasWorstsOf plan.now.tasks demands.now }
     requires task { task < count plan.now }
-    ensures value { result ≡ allotment (count plan.now) (period plan.now) room (wleft plan.now (demand_of plan.now demands.now.rows) (reverse past.now)) task }
+    ensures value { result ≡ allotment (count plan.now) (period plan.now) room
+        (wleft plan.now (demand_of plan.now demands.now.rows) (reverse past.now)) task }
     ensures low { result ≤ 2 ^ 61 }
 {
     let before = wleft_before(plan, demands, past, task);

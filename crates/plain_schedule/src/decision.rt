@@ -31,7 +31,8 @@ fn completes(plan: &Admitted, demands: &Demands, past: &[PlainTick], task: u32) 
 fn any_completes(plan: &Admitted, demands: &Demands, past: &[PlainTick]) -> bool
     requires list { HasWorstsOf plan.now.tasks demands.now }
     requires some { 1 ≤ length past.now }
-    ensures { result ≡ any_below (count plan.now) (completes_last plan.now (demand_of plan.now demands.now.rows) (reverse past.now)) }
+    ensures { result ≡ any_below (count plan.now)
+        (completes_last plan.now (demand_of plan.now demands.now.rows) (reverse past.now)) }
 {
     let mut any = false;
     for task in 0..plan.count() {

@@ -1,5 +1,6 @@
 // When jobs are released and due, and which is the latest.
 ghost use Rattle.std.specs.Prelude.{◌≡◌, ◌+◌, ◌<◌, ◌≤◌, ◌^◌};
+ghost use Rattle.task_model.specs.declared.limits.TheConstants.{LONGEST_PERIOD};
 ghost use Rattle.sched_model.specs.Plan.{count};
 ghost use Rattle.sched_model.specs.Jobs.{release, due, latest, deadline, releases_at, is_release, earliest, last_release, is_in_window};
 
@@ -47,7 +48,7 @@ pub(crate) fn deadline(plan: &Admitted, task: u32, tick: u64) -> u128
     requires tick { tick + 1 < 2 ^ 64 }
     ensures value { result ≡ deadline plan.now task tick }
     ensures later { tick < result }
-    ensures low { result ≤ tick + 2 ^ 40 }
+    ensures low { result ≤ tick + LONGEST_PERIOD }
 {
     plan.known();
     due(plan, task, latest(plan, task, tick))
@@ -59,7 +60,7 @@ pub(crate) fn earliest(plan: &Admitted, tick: u64) -> u128
     requires { tick + 1 < 2 ^ 64 }
     ensures value { result ≡ earliest plan.now tick }
     ensures later { tick < result }
-    ensures low { result ≤ tick + 2 ^ 40 }
+    ensures low { result ≤ tick + LONGEST_PERIOD }
 {
     plan.known();
     let mut least = deadline(plan, 0, tick);

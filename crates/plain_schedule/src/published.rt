@@ -38,7 +38,8 @@ pub(crate) fn static_demand(plan: &Admitted) -> Frac
 // The demand of cycle conservation.
 fn cycle_demand(plan: &Admitted, demands: &Demands, past: &[PlainTick]) -> Frac
     requires { HasWorstsOf plan.now.tasks demands.now }
-    ensures value { result ≡ demand_by plan.now.scheduler Cycle plan.now (demand_of plan.now demands.now.rows) (reverse past.now) }
+    ensures value { result ≡ demand_by plan.now.scheduler Cycle plan.now
+        (demand_of plan.now demands.now.rows) (reverse past.now) }
     ensures some_den { 1 ≤ result.den }
     ensures low_den { result.den ≤ 2 ^ 64 }
 {
@@ -56,7 +57,8 @@ fn ahead_demand(
     past: &[PlainTick],
 ) -> Result<Frac, NoMemory>
     requires { HasWorstsOf plan.now.tasks demands.now }
-    ensures value { IfOk result (λ d. d ≡ demand_by plan.now.scheduler Ahead plan.now (demand_of plan.now demands.now.rows) (reverse past.now)) }
+    ensures value { IfOk result (λ d. d ≡ demand_by plan.now.scheduler Ahead plan.now
+        (demand_of plan.now demands.now.rows) (reverse past.now)) }
     ensures some_den { IfOk result (λ d. 1 ≤ d.den) }
     ensures low_den { IfOk result (λ d. d.den ≤ 2 ^ 64) }
 {
@@ -76,7 +78,8 @@ pub(crate) fn published(
     past: &[PlainTick],
 ) -> Result<Frac, NoMemory>
     requires { HasWorstsOf plan.now.tasks demands.now }
-    ensures value { IfOk result (λ d. d ≡ published plan.now governor (demand_of plan.now demands.now.rows) (reverse past.now)) }
+    ensures value { IfOk result (λ d. d ≡ published plan.now governor
+        (demand_of plan.now demands.now.rows) (reverse past.now)) }
     ensures some_den { IfOk result (λ d. 1 ≤ d.den) }
     ensures low_den { IfOk result (λ d. d.den ≤ 2 ^ 64) }
 {

@@ -28,8 +28,10 @@ fn entry_in_force(
     past: &[PlainTick],
 ) -> Result<u32, NoMemory>
     requires list { HasWorstsOf plan.now.tasks demands.now }
-    requires past { reverse past.now ≡ schedule plan.now governor (demand_of plan.now demands.now.rows) (length past.now) }
-    ensures value { IfOk result (λ e. e ≡ entry_in_force plan.now (demand_of plan.now demands.now.rows) (published plan.now governor (demand_of plan.now demands.now.rows)) (reverse past.now)) }
+    requires past { reverse past.now
+        ≡ schedule plan.now governor (demand_of plan.now demands.now.rows) (length past.now) }
+    ensures value { IfOk result (λ e. e ≡ entry_in_force plan.now (demand_of plan.now demands.now.rows)
+        (published plan.now governor (demand_of plan.now demands.now.rows)) (reverse past.now)) }
     ensures low { IfOk result (λ e. e < length plan.now.machine.points) }
 {
     plan.known();
@@ -50,7 +52,9 @@ fn shares_of(
     units: u64,
 ) -> Result<Vec<u64>, NoMemory>
     requires { HasWorstsOf plan.now.tasks demands.now }
-    ensures { IfOk result (λ v. v.items ≡ list_below (count plan.now) (allotment (count plan.now) (key_of plan.now.scheduler plan.now (length (reverse past.now))) units (left plan.now (demand_of plan.now demands.now.rows) (reverse past.now)))) }
+    ensures { IfOk result (λ v. v.items ≡ list_below (count plan.now)
+        (allotment (count plan.now) (key_of plan.now.scheduler plan.now (length (reverse past.now)))
+        units (left plan.now (demand_of plan.now demands.now.rows) (reverse past.now)))) }
 {
     let mut shares = Vec::new(alloc);
     for task in 0..plan.count() {
@@ -69,8 +73,10 @@ fn next_tick(
     past: &[PlainTick],
 ) -> Result<PlainTick, NoMemory>
     requires list { HasWorstsOf plan.now.tasks demands.now }
-    requires past { reverse past.now ≡ schedule plan.now governor (demand_of plan.now demands.now.rows) (length past.now) }
-    ensures { IfOk result (λ x. x ≡ next_tick plan.now (demand_of plan.now demands.now.rows) (published plan.now governor (demand_of plan.now demands.now.rows)) (reverse past.now)) }
+    requires past { reverse past.now
+        ≡ schedule plan.now governor (demand_of plan.now demands.now.rows) (length past.now) }
+    ensures { IfOk result (λ x. x ≡ next_tick plan.now (demand_of plan.now demands.now.rows)
+        (published plan.now governor (demand_of plan.now demands.now.rows)) (reverse past.now)) }
 {
     let entry = entry_in_force(alloc, plan, demands, governor, past)?;
     let units = plan.machine().point(entry).speed;
@@ -89,7 +95,8 @@ pub fn plain_schedule(
     ticks: u64,
 ) -> Result<Vec<PlainTick>, NoMemory>
     requires { HasWorstsOf plan.now.tasks demands.now }
-    ensures { IfOk result (λ list. reverse list.items ≡ schedule plan.now governor (demand_of plan.now demands.now.rows) ticks) }
+    ensures { IfOk result (λ list. reverse list.items
+        ≡ schedule plan.now governor (demand_of plan.now demands.now.rows) ticks) }
 {
     let mut past = Vec::new(alloc);
     for _ in 0..ticks {

@@ -49,7 +49,9 @@ fn needed_before(plan: &Admitted, demands: &Demands, past: &[PlainTick], j: u32,
     requires list { HasWorstsOf plan.now.tasks demands.now }
     requires one { j < count plan.now }
     requires other { i < count plan.now }
-    ensures value { result ≡ (if stands_before (key_of plan.now.scheduler plan.now (length (reverse past.now))) j i then left plan.now (demand_of plan.now demands.now.rows) (reverse past.now) j else 0) }
+    ensures value { result ≡ (if stands_before (key_of plan.now.scheduler plan.now (length (reverse past.now))) j i
+        then left plan.now (demand_of plan.now demands.now.rows) (reverse past.now) j
+        else 0) }
     ensures low { result ≤ 2 ^ 61 }
 {
     if stands_before(plan, plan.scheduler(), now(past), j, i) {
@@ -63,7 +65,8 @@ fn needed_before(plan: &Admitted, demands: &Demands, past: &[PlainTick], j: u32,
 fn needs_before(plan: &Admitted, demands: &Demands, past: &[PlainTick], task: u32) -> u128
     requires list { HasWorstsOf plan.now.tasks demands.now }
     requires task { task < count plan.now }
-    ensures value { result ≡ sum_before (count plan.now) (key_of plan.now.scheduler plan.now (length (reverse past.now))) (left plan.now (demand_of plan.now demands.now.rows) (reverse past.now)) task }
+    ensures value { result ≡ sum_before (count plan.now) (key_of plan.now.scheduler plan.now (length (reverse past.now)))
+        (left plan.now (demand_of plan.now demands.now.rows) (reverse past.now)) task }
     ensures low { result ≤ 2 ^ 93 }
 {
     let mut sum = 0;
@@ -84,7 +87,8 @@ pub(crate) fn allotment(
 ) -> u64
     requires list { HasWorstsOf plan.now.tasks demands.now }
     requires task { task < count plan.now }
-    ensures { result ≡ allotment (count plan.now) (key_of plan.now.scheduler plan.now (length (reverse past.now))) units (left plan.now (demand_of plan.now demands.now.rows) (reverse past.now)) task }
+    ensures { result ≡ allotment (count plan.now) (key_of plan.now.scheduler plan.now (length (reverse past.now)))
+        units (left plan.now (demand_of plan.now demands.now.rows) (reverse past.now)) task }
 {
     let room = u128::from(units);
     let before = needs_before(plan, demands, past, task);

@@ -40,9 +40,8 @@ fn are(ticks: &[PlainTick], want: &[(u32, [u64; 3])]) -> bool {
 }
 
 #[test]
-fn edf_under_each_governor(rt: HostRuntime) -> Result<(), Fail> {
-    let alloc = rt.alloc();
-    let fixed = sixteen(alloc, true, GovernorKind::Fixed)?;
+fn edf_under_static_scaling(rt: HostRuntime) -> Result<(), Fail> {
+    let fixed = sixteen(rt.alloc(), true, GovernorKind::Fixed)?;
     assert!(rt;
         are(
             &fixed,
@@ -66,7 +65,12 @@ fn edf_under_each_governor(rt: HostRuntime) -> Result<(), Fail> {
             ]
         )
     );
-    let cycle = sixteen(alloc, true, GovernorKind::Cycle)?;
+    Ok(())
+}
+
+#[test]
+fn edf_under_cycle_conservation(rt: HostRuntime) -> Result<(), Fail> {
+    let cycle = sixteen(rt.alloc(), true, GovernorKind::Cycle)?;
     assert!(rt;
         are(
             &cycle,
@@ -90,7 +94,12 @@ fn edf_under_each_governor(rt: HostRuntime) -> Result<(), Fail> {
             ]
         )
     );
-    let ahead = sixteen(alloc, true, GovernorKind::Ahead)?;
+    Ok(())
+}
+
+#[test]
+fn edf_under_look_ahead(rt: HostRuntime) -> Result<(), Fail> {
+    let ahead = sixteen(rt.alloc(), true, GovernorKind::Ahead)?;
     assert!(rt;
         are(
             &ahead,

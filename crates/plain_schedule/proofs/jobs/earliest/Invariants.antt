@@ -1,7 +1,8 @@
-use Rattle.std.proofs.Common.{◌≡◌, ◌+◌, ◌<◌, ◌≤◌, ◌^◌}
+use Rattle.std.proofs.Common.{◌≡◌, ◌+◌, ◌<◌, ◌≤◌}
 use Rattle.grid_fraction.specs.Numbers.{least_below}
+use Rattle.task_model.specs.declared.limits.TheConstants.{LONGEST_PERIOD}
 use Rattle.sched_model.specs.Jobs.{deadline}
 use Rattle.plain_schedule.proofs.jobs.earliest.Given as goal
 
 abbrev pub invariant-loop-task : goal.invariant-loop-task
-invariant-loop-task l = (l.least ≡ least_below l.task (λ i. deadline l.plan i l.tick)) × (l.tick < l.least) × (l.least ≤ l.tick + 2 ^ 40)
+invariant-loop-task l = (l.least ≡ least_below l.task (λ i. deadline l.plan i l.tick)) × (l.tick < l.least) × (l.least ≤ l.tick + LONGEST_PERIOD)
