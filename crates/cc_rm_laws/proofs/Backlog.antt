@@ -68,7 +68,7 @@ static-entry p (x ∷ past) = go (is_decision p (worst_demand p) (x ∷ past)) (
   where
     go : (b : Bool) → entry_in_force p (worst_demand p) (asked p) past ≡ lowest_entry p.machine (static_demand p)
         → (if b then lowest_entry p.machine (asked p (x ∷ past)) else entry_in_force p (worst_demand p) (asked p) past)
-            ≡ lowest_entry p.machine (static_demand p)
+        ≡ lowest_entry p.machine (static_demand p)
     go true ih = ap (lowest_entry p.machine) (published-fixed p (worst_demand p) (x ∷ past))
     go false ih = ih
 
@@ -116,7 +116,7 @@ module _ (p : Plan) (adm : IsAdmitted p) where
   pub backlog-span : p.scheduler ≡ Rm → (test : ℕ → Bool) → IsDown p test → (r d : ℕ)
       → ((u j : ℕ) → r < u → u < r + suc d → j < count p → IsQuiet p u j)
       → sum_where (count p) test (lack p (r + suc d))
-          ≡ sum_where (count p) test (lack_after p r) - suc d * static_speed p
+      ≡ sum_where (count p) test (lack_after p r) - suc d * static_speed p
   backlog-span rm test down r d quiet =
       lack-span p adm.limits (asked p) rm (static_speed p) (static-same p rm) test down r d quiet
 
