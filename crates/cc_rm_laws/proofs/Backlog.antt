@@ -1,5 +1,6 @@
 -- The schedule under static with every job at its worst case: what releases and ticks make of what its jobs lack.
-use Rattle.std.proofs.Common.{◌≡◌, ◌≢◌, ℕ, zero, suc, ◌+◌, ◌-◌, ◌*◌, ◌<◌, ◌≤◌, Bool, true, false, List, length, [], ◌∷◌, refl, sym, ◌∙◌, ap, arith, if◌then◌else◌, nat_eq}
+use Rattle.std.proofs.Common.{◌≡◌, ◌≢◌, ℕ, zero, suc, ◌+◌, ◌-◌, ◌*◌, ◌<◌, ◌≤◌, Bool, true, false, List, length, []}
+use Rattle.std.proofs.Common.{◌∷◌, refl, sym, ◌∙◌, ap, arith, if◌then◌else◌, nat_eq}
 use Rattle.std.proofs.Math.Nat.{zero-sub}
 use Rattle.std.proofs.lemmas.Bool.Decides.{nat_tests}
 use Rattle.dvs_base.specs.declared.kind.Scheduler.{Scheduler}
@@ -24,7 +25,8 @@ use Rattle.sched_model.proofs.LevelSums.{sum_where-zero, sum_up_to-where}
 use Rattle.sched_model.proofs.ScheduleLemmas.{schedule-none, schedule-suc}
 use Rattle.governor.proofs.PlanDemands.{published-fixed}
 use Rattle.governor.proofs.Worst.{lacking-none}
-use Rattle.governor.proofs.Lacks.{worst_ticks, IsDown, lack-long, lack-same, lack-quiet, lack-released, lack-span, lack-empties}
+use Rattle.governor.proofs.Lacks.{worst_ticks, IsDown, lack-long, lack-same, lack-quiet, lack-released, lack-span}
+use Rattle.governor.proofs.Lacks.{lack-empties}
 use Rattle.governor.proofs.Lacks.{lack as lack_of, lack_after as lack_after_of}
 pub use Rattle.governor.proofs.Lacks.{IsQuiet, level_down}
 
