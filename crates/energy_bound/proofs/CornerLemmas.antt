@@ -42,7 +42,8 @@ module _ (m : Table) where
 pub corner-idle : (m : Table) (k : ℕ) (p : Point) (cost : ℕ) → k ≡ 0 → p ≡ point_at m 0 → cost ≡ segment_energy m 0 p.speed true → cost ≡ corner_cost m k
 corner-idle m k p cost z e is = is ∙ (ap (λ (q : Point). segment_energy m 0 q.speed true) e ∙ (idle-cost m ∙ ap (corner_cost m) (sym z)))
 
-pub corner-full : (m : Table) (k : ℕ) (p : Point) (cost : ℕ) → k ≢ 0 → p ≡ point_at m (k - 1) → cost ≡ segment_energy m (k - 1) p.speed false → cost ≡ corner_cost m k
+pub corner-full : (m : Table) (k : ℕ) (p : Point) (cost : ℕ) → k ≢ 0 → p ≡ point_at m (k - 1)
+    → cost ≡ segment_energy m (k - 1) p.speed false → cost ≡ corner_cost m k
 corner-full m zero p cost ne e is = absurd (ne refl)
 corner-full m (suc n) p cost ne e is =
     let before : suc n - 1 ≡ n = omega arith in
@@ -94,20 +95,27 @@ module _ (m : Table) (table : IsTable m) where
 
   next-cost : (k : ℕ) → suc k ≤ last_corner m → corner_cost m k ≤ corner_cost m (suc k)
   next-cost zero le =
-      let share : speed_at m 0 * volts m 0 * volts m 0 * m.idle ≤ speed_at m 0 * volts m 0 * volts m 0 * 1000 = mul-le-mul_left (speed_at m 0 * volts m 0 * volts m 0) table.low_idle in
+      let share : speed_at m 0 * volts m 0 * volts m 0 * m.idle ≤ speed_at m 0 * volts m 0 * volts m 0 * 1000 =
+          mul-le-mul_left (speed_at m 0 * volts m 0 * volts m 0) table.low_idle in
       omega (arith, share, idle-cost m, full-cost m 0)
   next-cost (suc e) le =
       let more : speed_at m e * volts m e * volts m e * 1000 ≤ speed_at m (suc e) * volts m (suc e) * volts m (suc e) * 1000 =
-      full-climb (speed_at m e) (speed_at m (suc e)) (volts m e) (volts m (suc e)) (let s = next-units (suc e) le in omega arith) (volts-climb e (suc e) (omega arith) (omega arith)) in
+      full-climb (speed_at m e) (speed_at m (suc e)) (volts m e) (volts m (suc e))
+          (let s = next-units (suc e) le in omega arith) (volts-climb e (suc e) (omega arith) (omega arith)) in
       omega (arith, more, full-cost m e, full-cost m (suc e))
 
   pub cost-climb : (j k : ℕ) → j ≤ k → k ≤ last_corner m → corner_cost m j ≤ corner_cost m k
   cost-climb = climb-le (corner_cost m) (last_corner m) next-cost
 
   -- a corner that lies above the line of a pair, said without a minus
-  pub lies-above : (a b k : ℕ) → a < b → b ≤ last_corner m → Above (corner_units m a) (corner_cost m a) (corner_units m b) (corner_cost m b) (corner_units m k) (corner_cost m k) → IsAbove (corner_units m a) (corner_cost m a) (corner_units m b) (corner_cost m b) (corner_units m k) (corner_cost m k)
+  pub lies-above : (a b k : ℕ) → a < b → b ≤ last_corner m
+      → Above (corner_units m a) (corner_cost m a) (corner_units m b) (corner_cost m b) (corner_units m k)
+      (corner_cost m k) → IsAbove (corner_units m a) (corner_cost m a) (corner_units m b) (corner_cost m b)
+      (corner_units m k) (corner_cost m k)
   lies-above a b k lt le =
-      above-rise (corner_units m a) (corner_cost m a) (corner_units m b) (corner_cost m b) (corner_units m b - corner_units m a) (corner_cost m b - corner_cost m a) (corner_units m k) (corner_cost m k)
+      above-rise (corner_units m a) (corner_cost m a) (corner_units m b) (corner_cost m b)
+          (corner_units m b - corner_units m a) (corner_cost m b - corner_cost m a) (corner_units m k)
+          (corner_cost m k)
       (let s = units-rise a b lt le in omega arith) (let s = cost-climb a b (omega arith) le in omega arith)
 
 -- by the units and the costs that were found

@@ -119,7 +119,8 @@ module _ (m : Table) (table : IsTable m) (units ticks a b : ℕ) (h : Holds m un
   mix_energy = (units - ticks * corner_units m a) * corner_cost m b + (ticks * corner_units m b - units) * corner_cost m a
 
   on-line : mix_energy + ticks * g ≡ M * units + ticks * s
-  on-line = mixed_energy M (corner_cost m a) (corner_units m b) (corner_cost m b) (corner_units m a) ticks units (units - ticks * corner_units m a) (ticks * corner_units m b - units) more-cost low-ticks high-ticks
+  on-line = mixed_energy M (corner_cost m a) (corner_units m b) (corner_cost m b) (corner_units m a) ticks units
+      (units - ticks * corner_units m a) (ticks * corner_units m b - units) more-cost low-ticks high-ticks
 
   all-above : (xs : List Choice) → AreChoices m xs → M * total_units xs + length xs * s ≤ D * total_cost m xs + length xs * g
   all-above xs each = over_all M D s g m xs (recursion_from_All _ xs (λ k d lt. tick-above _ (each k d lt)))
@@ -145,10 +146,12 @@ module _ (m : Table) (table : IsTable m) (units ticks a b : ℕ) (h : Holds m un
   abbrev high_part : List Choice
   high_part = replicate (units - ticks * corner_units m a) (corner m b)
 
-  mixed-sum : (f : Choice → ℕ) → sum_by f (low_part ++ high_part) ≡ (ticks * corner_units m b - units) * f (corner m a) + (units - ticks * corner_units m a) * f (corner m b)
+  mixed-sum : (f : Choice → ℕ) → sum_by f (low_part ++ high_part) ≡ (ticks * corner_units m b - units) * f
+      (corner m a) + (units - ticks * corner_units m a) * f (corner m b)
   mixed-sum f =
       sum_by-append f low_part high_part
-      ∙ ap₂ (λ v w. v + w) (sum_by-replicate f (ticks * corner_units m b - units) (corner m a)) (sum_by-replicate f (units - ticks * corner_units m a) (corner m b))
+      ∙ ap₂ (λ v w. v + w) (sum_by-replicate f (ticks * corner_units m b - units) (corner m a))
+          (sum_by-replicate f (units - ticks * corner_units m a) (corner m b))
 
   pub reached : IsReached m units ticks (least_of m units ticks a b)
   reached = record {
@@ -165,11 +168,14 @@ module _ (m : Table) (table : IsTable m) (units ticks a b : ℕ) (h : Holds m un
           (All-replicate (IsChoice m) (units - ticks * corner_units m a) (corner m b) (corner-choice b h.high));
       all_ticks =
           length-append low_part high_part
-          ∙ (ap₂ (λ v w. v + w) (length-replicate (ticks * corner_units m b - units) (corner m a)) (length-replicate (units - ticks * corner_units m a) (corner m b))
-          ∙ mixed_ticks D (corner_units m a) (corner_units m b) ticks units (units - ticks * corner_units m a) (ticks * corner_units m b - units) more-units low-ticks high-ticks);
+          ∙ (ap₂ (λ v w. v + w) (length-replicate (ticks * corner_units m b - units) (corner m a))
+              (length-replicate (units - ticks * corner_units m a) (corner m b))
+          ∙ mixed_ticks D (corner_units m a) (corner_units m b) ticks units (units - ticks * corner_units m a)
+              (ticks * corner_units m b - units) more-units low-ticks high-ticks);
       all_units =
           mixed-sum (λ (x : Choice). x.units)
-          ∙ mixed_units D (corner_units m a) (corner_units m b) ticks units (units - ticks * corner_units m a) (ticks * corner_units m b - units) more-units low-ticks high-ticks;
+          ∙ mixed_units D (corner_units m a) (corner_units m b) ticks units (units - ticks * corner_units m a)
+              (ticks * corner_units m b - units) more-units low-ticks high-ticks;
       cost = mixed-sum (choice_cost m) ∙ omega arith;
     };
   }

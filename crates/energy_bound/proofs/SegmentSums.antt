@@ -72,7 +72,8 @@ module _ (p : Plan) (dem : ℕ → ℕ → ℕ) (ask : List Tick → Frac) where
   release-sum : (f : Note → ℕ) → IsOfSegments f → (t i : ℕ) → sum_by f (release_notes p dem t i) ≡ 0
   release-sum f o t i = go (releases_at p i t) (nat_eq (dem i (latest p i t)) 0)
     where
-      go : (a b : Bool) → sum_by f (if a then Release t i (latest p i t) ∷ (if b then Done (record { tick = t; offset = 0 }) i (latest p i t) 0 ∷ [] else []) else []) ≡ 0
+      go : (a b : Bool) → sum_by f (if a then Release t i (latest p i t)
+          ∷ (if b then Done (record { tick = t; offset = 0 }) i (latest p i t) 0 ∷ [] else []) else []) ≡ 0
       go false b = refl
       go true false = omega (arith, o.release t i (latest p i t))
       go true true = omega (arith, o.release t i (latest p i t), o.done (record { tick = t; offset = 0 }) i (latest p i t) 0)
@@ -82,7 +83,8 @@ module _ (p : Plan) (dem : ℕ → ℕ → ℕ) (ask : List Tick → Frac) where
   releases-sum f o t (i ∷ tasks) =
       sum_by-append f (release_notes p dem t i) (flat_map (release_notes p dem t) tasks) ∙ omega (arith, release-sum f o t i, releases-sum f o t tasks)
 
-  segment-sum : (f : Note → ℕ) (t : ℕ → Holder → ℕ) → Counts f t → (s : Span) (q units : ℕ) (h : Holder) → sum_by f (segment_notes p dem s q units h) ≡ units * t s.entry h
+  segment-sum : (f : Note → ℕ) (t : ℕ → Holder → ℕ) → Counts f t → (s : Span) (q units : ℕ) (h : Holder)
+      → sum_by f (segment_notes p dem s q units h) ≡ units * t s.entry h
   segment-sum f t c s q units Nobody =
       let at_unit = position_of (length s.past) ((point p s.entry).speed) in
       omega (arith, c.idle (at_unit q) (at_unit (q + units)) units s.entry)
@@ -91,11 +93,13 @@ module _ (p : Plan) (dem : ℕ → ℕ → ℕ) (ask : List Tick → Frac) where
       at_unit : ℕ → Pos
       at_unit = position_of (length s.past) ((point p s.entry).speed)
 
-      go : (b : Bool) → sum_by f (Run (at_unit q) (at_unit (q + units)) i k units (run_energy p s.entry units) ∷ (if b then Done (at_unit (q + units)) i k (dem i k) ∷ [] else [])) ≡ units * t s.entry (Held i k)
+      go : (b : Bool) → sum_by f (Run (at_unit q) (at_unit (q + units)) i k units (run_energy p s.entry units)
+          ∷ (if b then Done (at_unit (q + units)) i k (dem i k) ∷ [] else [])) ≡ units * t s.entry (Held i k)
       go false = omega (arith, c.run (at_unit q) (at_unit (q + units)) i k units s.entry)
       go true = omega (arith, c.run (at_unit q) (at_unit (q + units)) i k units s.entry, c.others.done (at_unit (q + units)) i k (dem i k))
 
-  pieces-sum : (f : Note → ℕ) (t : ℕ → Holder → ℕ) → Counts f t → (s : Span) (q : ℕ) (rs : List Piece) → sum_by f (pieces_notes p dem s q rs) ≡ segment_weight (t s.entry) rs
+  pieces-sum : (f : Note → ℕ) (t : ℕ → Holder → ℕ) → Counts f t → (s : Span) (q : ℕ) (rs : List Piece)
+      → sum_by f (pieces_notes p dem s q rs) ≡ segment_weight (t s.entry) rs
   pieces-sum f t c s q [] = refl
   pieces-sum f t c s q (r ∷ rs) =
       sum_by-append f (segment_notes p dem s q r.units r.holder) (pieces_notes p dem s (q + r.units) rs)
@@ -124,7 +128,8 @@ module _ (p : Plan) (dem : ℕ → ℕ → ℕ) (ask : List Tick → Frac) where
   ticks_weight t [] = 0
   ticks_weight t (x ∷ past) = ticks_weight t past + weight_of (t x.entry) (units_of p past x)
 
-  spans-sum : (f : Note → ℕ) (t : ℕ → Holder → ℕ) → Counts f t → (spans : List Span) → sum_by f (flat_map (span_notes p dem ask) (reverse spans)) ≡ spans_weight t spans
+  spans-sum : (f : Note → ℕ) (t : ℕ → Holder → ℕ) → Counts f t → (spans : List Span)
+      → sum_by f (flat_map (span_notes p dem ask) (reverse spans)) ≡ spans_weight t spans
   spans-sum f t c [] = refl
   spans-sum f t c (s ∷ spans) =
       ap (sum_by f) (flat_map-last (span_notes p dem ask) s spans)
@@ -156,7 +161,8 @@ module _ (p : Plan) (dem : ℕ → ℕ → ℕ) (ask : List Tick → Frac) where
           let same : y.entry ≡ x.entry = entry-stays x y past h e in
           rw e (longer-begins (units_of p (y ∷ past) x) (spans_of p dem (y ∷ past)) y.entry x.entry same ih)
 
-  longer-weight : (t : ℕ → Holder → ℕ) (us : List Holder) (spans : List Span) (e : ℕ) → BeginsWith spans e → spans_weight t (lengthened us spans) ≡ spans_weight t spans + weight_of (t e) us
+  longer-weight : (t : ℕ → Holder → ℕ) (us : List Holder) (spans : List Span) (e : ℕ) → BeginsWith spans e
+      → spans_weight t (lengthened us spans) ≡ spans_weight t spans + weight_of (t e) us
   longer-weight t us [] e h = absurd h
   longer-weight t us (s ∷ spans) e h =
       omega (arith, weight_of-append (t s.entry) s.units us, ap (λ v. weight_of (t v) us) h)

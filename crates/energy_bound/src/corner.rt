@@ -1,5 +1,8 @@
 // The corners of a machine's choices.
-ghost use Rattle.std.specs.Prelude.{◌≡◌, ◌≤◌, ◌<◌, ◌^◌, ◌↔◌, ℕ, IsTrue, MatchOption};
+ghost use Rattle.std.specs.Prelude.{◌≡◌, ◌≤◌, ◌<◌, ◌*◌, ◌↔◌, ℕ, IsTrue, MatchOption};
+ghost use Rattle.freq_table.specs.declared.limits.TheConstants.{TOP_SPEED};
+ghost use Rattle.dvs_base.specs.declared.limits.TheConstants.{MOST_TICKS};
+ghost use Rattle.energy.specs.Segments.{most_unit_energy};
 ghost use Rattle.energy_bound.specs.Corners.{corner_units, corner_cost, last_corner, HasUnits, IsAbove, IsSupporting, Holds};
 
 use energy::energy_of;
@@ -10,8 +13,8 @@ use freq_table::Machine;
 pub(crate) struct Corner {
     pub units: u64,
     pub cost: u128,
-    ghost low_units: { units ≤ 1000000 },
-    ghost low_cost: { cost ≤ 400000000000000000 },
+    ghost low_units: { units ≤ TOP_SPEED },
+    ghost low_cost: { cost ≤ most_unit_energy * TOP_SPEED },
 }
 
 /// Corner `k`: an idle tick at the first entry for 0, and from 1 on a full tick at each entry.
@@ -82,7 +85,7 @@ fn is_supporting(machine: &Machine, a: u32, b: u32) -> bool
 pub(crate) fn holds(machine: &Machine, units: u64, ticks: u64, a: u32, b: u32) -> bool
     requires low { a ≤ last_corner machine.now }
     requires high { b ≤ last_corner machine.now }
-    requires low_ticks { ticks ≤ 2 ^ 40 }
+    requires low_ticks { ticks ≤ MOST_TICKS }
     ensures { IsTrue result ↔ Holds machine.now units ticks a b }
 {
     let _entries = machine.as_slice();

@@ -1,6 +1,8 @@
 // The least energy and its certificate.
-ghost use Rattle.std.specs.Prelude.{◌≡◌, ◌*◌, ◌≤◌, ◌<◌, ◌^◌, ◌↔◌, ℕ, IsTrue, IfOk, OnOk, IfErr, MatchOption};
+ghost use Rattle.std.specs.Prelude.{◌≡◌, ◌*◌, ◌≤◌, ◌<◌, ◌↔◌, ℕ, IsTrue, IfOk, OnOk, IfErr, MatchOption};
 ghost use Rattle.freq_table.specs.Tables.{highest_speed};
+ghost use Rattle.dvs_base.specs.declared.limits.TheConstants.{MOST_TICKS};
+ghost use Rattle.energy_bound.specs.Schedules.{SchedulesCostTheirTicks};
 ghost use Rattle.energy_bound.specs.Corners.{last_corner, Holds, IsFirstPartner, HasNoPartner};
 ghost use Rattle.energy_bound.specs.Certificates.{IsOver, least_of, IsCertificate, IsFirstCertificate};
 ghost use Rattle.energy_bound.specs.Schedules.{IsLeast};
@@ -35,7 +37,7 @@ pub struct Over {
 // The certificate of two corners that hold.
 fn least_of(machine: &Machine, units: u64, ticks: u64, a: u32, b: u32) -> Least
     requires holds { Holds machine.now units ticks a b }
-    requires low_ticks { ticks ≤ 2 ^ 40 }
+    requires low_ticks { ticks ≤ MOST_TICKS }
     ensures { result ≡ least_of machine.now units ticks a b }
 {
     let _entries = machine.as_slice();
@@ -61,7 +63,7 @@ fn least_of(machine: &Machine, units: u64, ticks: u64, a: u32, b: u32) -> Least
 // The first faster corner that holds with corner `a`.
 fn first_partner(machine: &Machine, units: u64, ticks: u64, a: u32) -> Option<u32>
     requires last { a < last_corner machine.now }
-    requires low_ticks { ticks ≤ 2 ^ 40 }
+    requires low_ticks { ticks ≤ MOST_TICKS }
     ensures { MatchOption result (HasNoPartner machine.now units ticks a) (IsFirstPartner machine.now units ticks a) }
 {
     let _entries = machine.as_slice();
@@ -77,7 +79,7 @@ fn first_partner(machine: &Machine, units: u64, ticks: u64, a: u32) -> Option<u3
 /// that hold with the least low speed, and then the least high one. `Over` exactly where the units are more than the
 /// highest speed does in the ticks, with these two numbers.
 pub fn least_energy(machine: &Machine, units: u64, ticks: u64) -> Result<Least, Over>
-    requires { ticks ≤ 2 ^ 40 }
+    requires { ticks ≤ MOST_TICKS }
     ensures over { IfErr result (IsOver machine.now units ticks) }
     ensures within { OnOk result (units ≤ ticks * highest_speed machine.now) }
     ensures first { IfOk result (IsFirstCertificate machine.now units ticks) }
@@ -102,10 +104,12 @@ pub fn least_energy(machine: &Machine, units: u64, ticks: u64) -> Result<Least, 
 /// Whether an answer is the certificate of two corners that hold for so many work units in so many ticks, at most 2^40.
 /// Every `Ok` of [`least_energy`] is one.
 pub fn check(machine: &Machine, units: u64, ticks: u64, given: &Least) -> bool
-    requires { ticks ≤ 2 ^ 40 }
+    requires { ticks ≤ MOST_TICKS }
     ensures exact { IsTrue result ↔ IsCertificate machine.now units ticks given.now }
     // Then no choice and no schedule costs less, and over `rounds` repetitions some choice costs no more.
     ensures least { IsTrue result → IsLeast machine.now units ticks given.now }
+    // Each schedule on this machine is a choice for each tick: its segments' energies add up to the costs of its ticks.
+    ensures costs { SchedulesCostTheirTicks machine.now }
 {
     let _entries = machine.as_slice();
     match (

@@ -8,10 +8,8 @@
 
 mod corner;
 mod least;
-mod schedule;
 
 pub use least::{Least, Over, check, least_energy};
-pub use schedule::schedules_cost_their_ticks;
 
 #[cfg(test)]
 mod tests;

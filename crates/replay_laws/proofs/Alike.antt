@@ -51,5 +51,6 @@ pub alike-before : (p : Plan) (dem other : ℕ → ℕ → ℕ) (now past : List
 alike-before p dem other now past t s le grows h i k lt early = indistinct-before p dem other now past i k (grows i k lt) (h i k lt (omega (arith, early, le)))
 
 -- before the last tick
-pub alike-earlier : (p : Plan) (dem other : ℕ → ℕ → ℕ) (x : Tick) (past : List Tick) (t s : ℕ) → s ≤ t → Alike p dem other (x ∷ past) t → Alike p dem other past s
+pub alike-earlier : (p : Plan) (dem other : ℕ → ℕ → ℕ) (x : Tick) (past : List Tick) (t s : ℕ) → s ≤ t
+    → Alike p dem other (x ∷ past) t → Alike p dem other past s
 alike-earlier p dem other x past t s le h = alike-before p dem other (x ∷ past) past t s le (λ i k lt. omega arith) h

@@ -21,7 +21,8 @@ use Rattle.replay_laws.proofs.Alike.{Alike, IsBlind}
 use Rattle.replay_laws.proofs.SameState.{latest-early, same-complete, same-wleft, alike-marked}
 
 -- an allotment reads the needs of the tasks alone
-allotment-reads : (n : ℕ) (key : ℕ → ℕ) (room : ℕ) (need other : ℕ → ℕ) → ((j : ℕ) → j < n → need j ≡ other j) → (i : ℕ) → i < n → allotment n key room need i ≡ allotment n key room other i
+allotment-reads : (n : ℕ) (key : ℕ → ℕ) (room : ℕ) (need other : ℕ → ℕ) → ((j : ℕ) → j < n → need j ≡ other j)
+    → (i : ℕ) → i < n → allotment n key room need i ≡ allotment n key room other i
 allotment-reads n key room need other same i lt =
     ap₂ (λ a b. min room (a + b) - min room a)
     (sum_below-same n _ _ (λ j l. ap (λ (v : ℕ). if stands_before key j i then v else 0) (same j l)))
@@ -31,13 +32,16 @@ allotment-reads n key room need other same i lt =
 module _ (p : Plan) (due left other : ℕ → ℕ) (same : (i : ℕ) → i < count p → left i ≡ other i) where
   put_off-reads : (after i : ℕ) → i < count p → put_off p due left after i ≡ put_off p due other after i
   put_off-reads after i lt =
-      ap (λ (n : ℕ). if nat_eq (slack p due i) 0 then 0 else min n (((top_speed p * hyper p) - sum_before (count p) due (rate p) i - after) * slack p due i / hyper p)) (same i lt)
+      ap (λ (n : ℕ). if nat_eq (slack p due i) 0 then 0
+          else min n (((top_speed p * hyper p) - sum_before (count p) due (rate p) i - after) * slack p due i / hyper
+          p)) (same i lt)
 
   spread_rates-reads : (is : List ℕ) → AreBelow (count p) is → spread_rates p due left is ≡ spread_rates p due other is
   spread_rates-reads [] b = refl
   spread_rates-reads (i ∷ is) b =
       ap (λ n. spread_rate p due left n i + n) (spread_rates-reads is b.1)
-      ∙ ap (λ (n : ℕ). (if nat_eq (slack p due i) 0 then rate p i else ceil_div (n * hyper p) (slack p due i)) + spread_rates p due other is) (put_off-reads (spread_rates p due other is) i b.0)
+      ∙ ap (λ (n : ℕ). (if nat_eq (slack p due i) 0 then rate p i else ceil_div (n * hyper p) (slack p due i))
+          + spread_rates p due other is) (put_off-reads (spread_rates p due other is) i b.0)
 
   due_first-reads : (is : List ℕ) → AreBelow (count p) is → due_first p due left is ≡ due_first p due other is
   due_first-reads [] b = refl
@@ -82,7 +86,8 @@ module _ (p : Plan) (lim : IsWithinLimits p) (dem other : ℕ → ℕ → ℕ) (
   edf_ahead-same =
       let due : ℕ → ℕ = λ i. deadline p i (length past) in
       ap (λ (n : ℕ). record { num = n; den = first_due p due - length past })
-      (due_first-reads p due (wleft p dem past) (wleft p other past) (same-wleft p lim dem other past h) (in_order due (count p)) (in_order-below due (count p)))
+      (due_first-reads p due (wleft p dem past) (wleft p other past) (same-wleft p lim dem other past h)
+          (in_order due (count p)) (in_order-below due (count p)))
 
   demand_by-same : (s : Scheduler) (kind : GovernorKind) → demand_by s kind p dem past ≡ demand_by s kind p other past
   demand_by-same Edf Plain = refl

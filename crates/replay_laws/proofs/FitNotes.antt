@@ -42,7 +42,8 @@ module _ (p : Plan) (lim : IsWithinLimits p) (dem : ℕ → ℕ → ℕ) (ask : 
   AreBeforeEnd = AllByRecursion (IsBeforeEnd p dem)
 
   releases-before : (t : ℕ) → AreBeforeEnd (all_release_notes p dem t)
-  releases-before t = each-flat (IsBeforeEnd p dem) (count p) (release_notes p dem t) (λ i lt. go i lt (releases_at p i t) (nat_eq (dem i (latest p i t)) 0) refl)
+  releases-before t = each-flat (IsBeforeEnd p dem) (count p) (release_notes p dem t)
+      (λ i lt. go i lt (releases_at p i t) (nat_eq (dem i (latest p i t)) 0) refl)
     where
       go : (i : ℕ) → i < count p → (a b : Bool) → nat_eq (dem i (latest p i t)) 0 ≡ b
           → AreBeforeEnd (if a then Release t i (latest p i t) ∷ (if b then Done (record { tick = t; offset = 0 }) i (latest p i t) 0 ∷ [] else []) else [])
@@ -58,7 +59,8 @@ module _ (p : Plan) (lim : IsWithinLimits p) (dem : ℕ → ℕ → ℕ) (ask : 
       go false = tt
       go true = ((held.0, refl), tt)
 
-  pieces-before : (s : Span) (t q : ℕ) (rs : List Piece) → AllByRecursion (λ (r : Piece). IsHeldBefore p t r.holder) rs → AreBeforeEnd (pieces_notes p dem s q rs)
+  pieces-before : (s : Span) (t q : ℕ) (rs : List Piece)
+      → AllByRecursion (λ (r : Piece). IsHeldBefore p t r.holder) rs → AreBeforeEnd (pieces_notes p dem s q rs)
   pieces-before s t q [] held = tt
   pieces-before s t q (r ∷ rs) held =
       each-append (IsBeforeEnd p dem) (segment_notes p dem s q r.units r.holder) (pieces_notes p dem s (q + r.units) rs)
@@ -71,11 +73,14 @@ module _ (p : Plan) (lim : IsWithinLimits p) (dem : ℕ → ℕ → ℕ) (ask : 
       each-append (IsBeforeEnd p dem) (all_release_notes p dem now) rest
       (releases-before now) (tt, pieces-before s t 0 (pieces_of s.units) (each-piece (IsHeldBefore p t) s.units held))
 
-  spans-before : (t : ℕ) (spans : List Span) → AllByRecursion (λ (s : Span). AllByRecursion (IsHeldBefore p t) s.units) spans → AreBeforeEnd (flat_map (span_notes p dem ask) (reverse spans))
+  spans-before : (t : ℕ) (spans : List Span)
+      → AllByRecursion (λ (s : Span). AllByRecursion (IsHeldBefore p t) s.units) spans
+      → AreBeforeEnd (flat_map (span_notes p dem ask) (reverse spans))
   spans-before t [] held = tt
   spans-before t (s ∷ spans) held =
       subst AreBeforeEnd (sym (flat_map-last (span_notes p dem ask) s spans))
-      (each-append (IsBeforeEnd p dem) (flat_map (span_notes p dem ask) (reverse spans)) (span_notes p dem ask s) (spans-before t spans held.1) (span-before s t held.0))
+      (each-append (IsBeforeEnd p dem) (flat_map (span_notes p dem ask) (reverse spans)) (span_notes p dem ask s)
+          (spans-before t spans held.1) (span-before s t held.0))
 
   -- so it is with all notes but the last
   pub before-end-each : (ticks : List Tick) → AreBeforeEnd (notes_before_end p dem ask ticks)
@@ -83,7 +88,9 @@ module _ (p : Plan) (lim : IsWithinLimits p) (dem : ℕ → ℕ → ℕ) (ask : 
   before-end-each ticks = spans-before (length ticks) (spans_of p dem ticks) (spans-held p lim dem ticks)
 
   -- what holds before the end, and of it, holds of all notes
-  notes-each : (P : Note → Type 0) → ((n : Note) → IsBeforeEnd p dem n → P n) → ((ticks run idle : ℕ) → P (End ticks run idle)) → (ticks : List Tick) → AllByRecursion P (notes_of p dem ask ticks)
+  notes-each : (P : Note → Type 0) → ((n : Note) → IsBeforeEnd p dem n → P n)
+      → ((ticks run idle : ℕ) → P (End ticks run idle)) → (ticks : List Tick)
+      → AllByRecursion P (notes_of p dem ask ticks)
   notes-each P before at_end ticks =
       let notes : List Note = notes_before_end p dem ask ticks in
       let run : ℕ = sum_by energy_run notes in
@@ -116,7 +123,8 @@ module _ (p : Plan) (lim : IsWithinLimits p) (dem : ℕ → ℕ → ℕ) (ask : 
       of (Idle from to units energy) h = tt
 
 -- the row of a job that fit notes fix is within its worst case
-row-fit : (p : Plan) (i k units : ℕ) (notes : List Note) → AllByRecursion (IsFit p) notes → named (fixed_of p notes) i k ≡ Some units → units + 2 * p.machine.charge ≤ worst p i
+row-fit : (p : Plan) (i k units : ℕ) (notes : List Note) → AllByRecursion (IsFit p) notes
+    → named (fixed_of p notes) i k ≡ Some units → units + 2 * p.machine.charge ≤ worst p i
 row-fit p i k units [] fit e = absurd cc
 row-fit p i k units (Release tick j l ∷ notes) fit e = row-fit p i k units notes fit.1 e
 row-fit p i k units (Speed tick f num den ∷ notes) fit e = row-fit p i k units notes fit.1 e
@@ -126,10 +134,14 @@ row-fit p i k units (End ticks run idle ∷ notes) fit e = row-fit p i k units n
 row-fit p i k units (Done at_end j zero used ∷ notes) fit e = row-fit p i k units notes fit.1 e
 row-fit p i k units (Done at_end j (suc l) used ∷ notes) fit e = go (nat_eq j i && nat_eq (suc l) k) refl (row-fit p i k units notes fit.1)
   where
-    go : (b : Bool) → (nat_eq j i && nat_eq (suc l) k) ≡ b → (named (fixed_of p notes) i k ≡ Some units → units + 2 * p.machine.charge ≤ worst p i) → units + 2 * p.machine.charge ≤ worst p i
+    go : (b : Bool) → (nat_eq j i && nat_eq (suc l) k) ≡ b
+        → (named (fixed_of p notes) i k ≡ Some units → units + 2 * p.machine.charge ≤ worst p i)
+        → units + 2 * p.machine.charge ≤ worst p i
     go true mine rest =
         let task : j ≡ i = grind (arith, nat_tests, mine) in
-        let row : Some (used - 2 * p.machine.charge) ≡ Some units = sym (ap (λ (b : Bool). if b then Some (used - 2 * p.machine.charge) else named (fixed_of p notes) i k) mine) ∙ e in
+        let row : Some (used - 2 * p.machine.charge) ≡ Some units =
+            sym (ap (λ (b : Bool). if b then Some (used - 2 * p.machine.charge) else named (fixed_of p notes) i k)
+            mine) ∙ e in
         let is : used - 2 * p.machine.charge ≡ units = ap (λ (o : Option ℕ). unwrap_or o 0) row in
         let most : used ≤ worst p i = subst (λ m. used ≤ worst p m) task fit.0 in
         omega (arith, is, most)
@@ -148,7 +160,8 @@ fixed-within p notes fit = record { most = λ i k lt. most i k; none = λ i. ref
         go (Some units) e = omega (arith, demand-row p (fixed_of p notes) i (suc k) units (omega arith) e, row-fit p i (suc k) units notes fit e)
 
 -- fit ends of tasks of the plan fix rows of a demand list
-rows-fit : (p : Plan) (all notes : List Note) → AllByRecursion (IsFit p) notes → AllByRecursion (IsOfTask p) notes → AllByRecursion (IsRow (fixed_list p all).worsts) (fixed_of p notes)
+rows-fit : (p : Plan) (all notes : List Note) → AllByRecursion (IsFit p) notes → AllByRecursion (IsOfTask p) notes
+    → AllByRecursion (IsRow (fixed_list p all).worsts) (fixed_of p notes)
 rows-fit p all [] fit of = tt
 rows-fit p all (Release tick j l ∷ notes) fit of = rows-fit p all notes fit.1 of.1
 rows-fit p all (Speed tick f num den ∷ notes) fit of = rows-fit p all notes fit.1 of.1
@@ -166,7 +179,8 @@ rows-fit p all (Done at_end j (suc l) used ∷ notes) fit of = (
 )
 
 -- so they fix a demand list
-pub fixed-demands : (p : Plan) → IsWithinLimits p → (notes : List Note) → AllByRecursion (IsFit p) notes → AllByRecursion (IsOfTask p) notes → IsDemands (fixed_list p notes)
+pub fixed-demands : (p : Plan) → IsWithinLimits p → (notes : List Note) → AllByRecursion (IsFit p) notes
+    → AllByRecursion (IsOfTask p) notes → IsDemands (fixed_list p notes)
 fixed-demands p lim notes fit of = record {
   few = omega (arith, worsts-long p.tasks (fixed_list p notes) refl, lim.tasks.few);
   each = rows-fit p notes notes fit of;

@@ -48,11 +48,13 @@ same-numbers f i j k l e =
     ap₂ f task job
 
 -- what holds of the notes of each number below n holds of all
-pub each-flat : (P : Note → Type 0) (n : ℕ) (f : ℕ → List Note) → ((i : ℕ) → i < n → AllByRecursion P (f i)) → AllByRecursion P (flat_map f (list_below n (λ i. i)))
+pub each-flat : (P : Note → Type 0) (n : ℕ) (f : ℕ → List Note) → ((i : ℕ) → i < n → AllByRecursion P (f i))
+    → AllByRecursion P (flat_map f (list_below n (λ i. i)))
 each-flat P zero f h = tt
 each-flat P (suc n) f h =
     subst (AllByRecursion P) (sym (flat_map-append f (list_below n (λ i. i)) (n ∷ [])))
-    (each-append P (flat_map f (list_below n (λ i. i))) (f n ++ []) (each-flat P n f (λ i lt. h i (omega (arith, lt)))) (each-append P (f n) [] (h n (omega arith)) tt))
+    (each-append P (flat_map f (list_below n (λ i. i))) (f n ++ [])
+        (each-flat P n f (λ i lt. h i (omega (arith, lt)))) (each-append P (f n) [] (h n (omega arith)) tt))
 
 -- what notes fix of a job: nothing, where none tells its end, and else its demand, which it has had
 abbrev pub Fixes : Plan → (ℕ → ℕ → ℕ) → ℕ → ℕ → ℕ → Option ℕ → ℕ → Type 0
@@ -64,7 +66,8 @@ module _ (p : Plan) (dem : ℕ → ℕ → ℕ) (ask : List Tick → Frac) (lim 
 
   -- at a release that needs nothing
   releases-true : (t had : ℕ) → AreTrue had (all_release_notes p dem t)
-  releases-true t had = each-flat (TellsTrue i k (dem i k) had) (count p) (release_notes p dem t) (λ j lt. at_release j (releases_at p j t) (nat_eq (dem j (latest p j t)) 0) refl)
+  releases-true t had = each-flat (TellsTrue i k (dem i k) had) (count p) (release_notes p dem t)
+      (λ j lt. at_release j (releases_at p j t) (nat_eq (dem j (latest p j t)) 0) refl)
     where
       at_release : (j : ℕ) (a b : Bool) → nat_eq (dem j (latest p j t)) 0 ≡ b
           → AreTrue had (if a then Release t j (latest p j t) ∷ (if b then Done (record { tick = t; offset = 0 }) j (latest p j t) 0 ∷ [] else []) else [])
@@ -115,7 +118,8 @@ module _ (p : Plan) (dem : ℕ → ℕ → ℕ) (ask : List Tick → Frac) (lim 
   before-end-none had = tt
 
   -- each note of a schedule tells true
-  before-end-true : (n : ℕ) (ticks : List Tick) → length ticks ≤ n → IsScheduleBy p dem ask ticks → AreTrue (exec p ticks i k) (notes_before_end p dem ask ticks)
+  before-end-true : (n : ℕ) (ticks : List Tick) → length ticks ≤ n → IsScheduleBy p dem ask ticks
+      → AreTrue (exec p ticks i k) (notes_before_end p dem ask ticks)
   before-end-true n [] le sched = before-end-none 0
   before-end-true zero (x ∷ past) le sched = absurd (omega (arith, le))
   before-end-true (suc n) (x ∷ past) le sched =
@@ -157,7 +161,8 @@ module _ (p : Plan) (dem : ℕ → ℕ → ℕ) (ask : List Tick → Frac) (lim 
           let mine : (nat_eq j i && nat_eq (suc l) k) ≡ true = grind (arith, nat_tests, e) in
           let tells : (used ≡ dem i k) × (dem i k ≤ had) = all.0 e in
           inr (
-            ap (λ (b : Bool). if b then Some (used - 2 * p.machine.charge) else named (fixed_of p notes) i k) mine ∙ ap (λ n. Some (n - 2 * p.machine.charge)) tells.0,
+            ap (λ (b : Bool). if b then Some (used - 2 * p.machine.charge) else named (fixed_of p notes) i k) mine
+                ∙ ap (λ n. Some (n - 2 * p.machine.charge)) tells.0,
             tells.1,
           )
       go false e rest =

@@ -44,7 +44,9 @@ fixed-append p [] more = refl
 fixed-append p (n ∷ notes) more = ap (fixed_before p n) (fixed-append p notes more) ∙ before-append p n (fixed_of p notes) (fixed_of p more)
 
 -- one more note fixes something only of a job of which nothing was fixed
-pub fixed-push : (p : Plan) (notes : List Note) (n : Note) (i k : ℕ) → named (fixed_of p (notes ++ n ∷ [])) i k ≡ option_or (named (fixed_of p notes) i k) (named (fixed_before p n []) i k)
+pub fixed-push : (p : Plan) (notes : List Note) (n : Note) (i k : ℕ)
+    → named (fixed_of p (notes ++ n ∷ [])) i k ≡ option_or (named (fixed_of p notes) i k)
+    (named (fixed_before p n []) i k)
 fixed-push p notes n i k = ap (λ rows. named rows i k) (fixed-append p notes (n ∷ [])) ∙ named-append (fixed_of p notes) (fixed_before p n []) i k
 
 -- the end of a job fixes its units without the charge
@@ -64,7 +66,8 @@ fixed-other p at_end j (suc l) used i k other = go (nat_eq j i && nat_eq (suc l)
     go false e = refl
 
 -- the row of a job has what its first end tells, without the charge
-named-fixed : (p : Plan) (notes : List Note) (i k : ℕ) → 1 ≤ k → named (fixed_of p notes) i k ≡ option_map (λ used. used - 2 * p.machine.charge) (first_end notes i k)
+named-fixed : (p : Plan) (notes : List Note) (i k : ℕ) → 1 ≤ k
+    → named (fixed_of p notes) i k ≡ option_map (λ used. used - 2 * p.machine.charge) (first_end notes i k)
 named-fixed p [] i k some = refl
 named-fixed p (Release tick j l ∷ notes) i k some = named-fixed p notes i k some
 named-fixed p (Speed tick f num den ∷ notes) i k some = named-fixed p notes i k some
@@ -77,7 +80,8 @@ named-fixed p (Done at_end j zero used ∷ notes) i k some =
 named-fixed p (Done at_end j (suc l) used ∷ notes) i k some = go (nat_eq j i && nat_eq (suc l) k) (named-fixed p notes i k some)
   where
     go : (b : Bool) → named (fixed_of p notes) i k ≡ option_map (λ n. n - 2 * p.machine.charge) (first_end notes i k)
-        → (if b then Some (used - 2 * p.machine.charge) else named (fixed_of p notes) i k) ≡ option_map (λ n. n - 2 * p.machine.charge) (option_or (if b then Some used else None) (first_end notes i k))
+        → (if b then Some (used - 2 * p.machine.charge) else named (fixed_of p notes) i k) ≡ option_map
+            (λ n. n - 2 * p.machine.charge) (option_or (if b then Some used else None) (first_end notes i k))
     go true ih = refl
     go false ih = ih
 
@@ -85,7 +89,8 @@ named-fixed p (Done at_end j (suc l) used ∷ notes) i k some = go (nat_eq j i &
 pub fixed-demand : (p : Plan) → HasFixedDemands p
 fixed-demand p notes i zero some = absurd (omega (arith, some))
 fixed-demand p notes i (suc k) some =
-    ap (λ (o : Option ℕ). unwrap_or (option_map (λ u. u + 2 * p.machine.charge) o) (worst p i)) (named-fixed p notes i (suc k) some) ∙ go (first_end notes i (suc k))
+    ap (λ (o : Option ℕ). unwrap_or (option_map (λ u. u + 2 * p.machine.charge) o) (worst p i))
+        (named-fixed p notes i (suc k) some) ∙ go (first_end notes i (suc k))
   where
     go : (o : Option ℕ) → unwrap_or (option_map (λ u. u + 2 * p.machine.charge) (option_map (λ used. used - 2 * p.machine.charge) o)) (worst p i)
         ≡ unwrap_or (option_map (λ used. max used (2 * p.machine.charge)) o) (worst p i)

@@ -62,26 +62,32 @@ module _ (p : Plan) (lim : IsWithinLimits p) where
       each-weaker (λ span. AllByRecursion (IsHeldBefore p s) span.units) (λ span. AllByRecursion (IsHeldBefore p t) span.units)
       (λ span all. each-weaker (IsHeldBefore p s) (IsHeldBefore p t) (held-later p s t le) span.units all) spans held
 
-  held-lengthened : (t : ℕ) (us : List Holder) (spans : List Span) → AllByRecursion (IsHeldBefore p t) us → AreHeldBefore t spans → AreHeldBefore t (lengthened us spans)
+  held-lengthened : (t : ℕ) (us : List Holder) (spans : List Span) → AllByRecursion (IsHeldBefore p t) us
+      → AreHeldBefore t spans → AreHeldBefore t (lengthened us spans)
   held-lengthened t us [] more held = tt
   held-lengthened t us (s ∷ spans) more held = (each-append (IsHeldBefore p t) s.units us held.0 more, held.1)
 
   -- those of all spans
   pub spans-held : (dem : ℕ → ℕ → ℕ) (ticks : List Tick) → AreHeldBefore (length ticks) (spans_of p dem ticks)
   spans-held dem [] = tt
-  spans-held dem (x ∷ past) = go (is_decision p dem past) (spans-later (length past) (length (x ∷ past)) (omega arith) (spans_of p dem past) (spans-held dem past))
+  spans-held dem (x ∷ past) = go (is_decision p dem past)
+      (spans-later (length past) (length (x ∷ past)) (omega arith) (spans_of p dem past) (spans-held dem past))
     where
       go : (b : Bool) → AreHeldBefore (length (x ∷ past)) (spans_of p dem past)
-          → AreHeldBefore (length (x ∷ past)) (if b then record { past = past; entry = x.entry; units = units_of p past x } ∷ spans_of p dem past else lengthened (units_of p past x) (spans_of p dem past))
+          → AreHeldBefore (length (x ∷ past)) (if b
+              then record { past = past; entry = x.entry; units = units_of p past x } ∷ spans_of p dem past
+              else lengthened (units_of p past x) (spans_of p dem past))
       go true held = (units-held past x, held)
       go false held = held-lengthened (length (x ∷ past)) (units_of p past x) (spans_of p dem past) (units-held past x) held
 
 -- what holds of each unit holds of each segment
-each-before : (P : Holder → Type 0) (h : Holder) (rs : List Piece) → P h → AllByRecursion (λ (r : Piece). P r.holder) rs → AllByRecursion (λ (r : Piece). P r.holder) (before_pieces h rs)
+each-before : (P : Holder → Type 0) (h : Holder) (rs : List Piece) → P h
+    → AllByRecursion (λ (r : Piece). P r.holder) rs → AllByRecursion (λ (r : Piece). P r.holder) (before_pieces h rs)
 each-before P h [] here all = (here, tt)
 each-before P h (r ∷ rs) here all = go (same_holder h r.holder)
   where
-    go : (b : Bool) → AllByRecursion (λ (q : Piece). P q.holder) (if b then record { holder = h; units = r.units + 1 } ∷ rs else record { holder = h; units = 1 } ∷ r ∷ rs)
+    go : (b : Bool) → AllByRecursion (λ (q : Piece). P q.holder)
+        (if b then record { holder = h; units = r.units + 1 } ∷ rs else record { holder = h; units = 1 } ∷ r ∷ rs)
     go true = (here, all.1)
     go false = (here, all)
 

@@ -25,7 +25,8 @@ whole-prefix test (x ∷ []) [] once all = refl
 whole-prefix test (x ∷ []) (y ∷ more) once all = absurd (true≢false (sym once ∙ all.0))
 whole-prefix test (x ∷ y ∷ xs) more once all = whole-prefix test (y ∷ xs) more once.1 all.1
 
-ends-once : {A : Type 0} (test : A → Bool) (front : List A) (last : A) → AllByRecursion (λ x. test x ≡ false) front → test last ≡ true → EndsOnce test (front ++ last ∷ [])
+ends-once : {A : Type 0} (test : A → Bool) (front : List A) (last : A) → AllByRecursion (λ x. test x ≡ false) front
+    → test last ≡ true → EndsOnce test (front ++ last ∷ [])
 ends-once test [] last none ends = ends
 ends-once test (x ∷ []) last none ends = (none.0, ends)
 ends-once test (x ∷ y ∷ front) last none ends = (none.0, ends-once test (y ∷ front) last none.1 ends)

@@ -29,11 +29,13 @@ module _ (p : Plan) (lim : IsWithinLimits p) (ask : Asking) (blind : IsBlind p a
       → ticks_by p ask other ticks ≡ ticks_by p ask dem ticks
   same-ticks dem other ticks none h =
       let exists = schedule_exists p dem (ask dem) ticks in
-      let by_other : IsScheduleBy p other (ask other) (ticks_by p ask dem ticks) = same-course p lim dem other none ask blind (ticks_by p ask dem ticks) h exists.0 in
+      let by_other : IsScheduleBy p other (ask other) (ticks_by p ask dem ticks) =
+          same-course p lim dem other none ask blind (ticks_by p ask dem ticks) h exists.0 in
       ap (schedule_by p other (ask other)) (sym exists.1) ∙ sym (schedule_unique p other (ask other) (ticks_by p ask dem ticks) by_other)
 
   -- and the same notes
-  same-told : (dem other : ℕ → ℕ → ℕ) (ticks : ℕ) → ((i : ℕ) → dem i 0 ≡ 0) → ((i : ℕ) → other i 0 ≡ 0) → Alike p dem other (ticks_by p ask dem ticks) (length (ticks_by p ask dem ticks))
+  same-told : (dem other : ℕ → ℕ → ℕ) (ticks : ℕ) → ((i : ℕ) → dem i 0 ≡ 0) → ((i : ℕ) → other i 0 ≡ 0)
+      → Alike p dem other (ticks_by p ask dem ticks) (length (ticks_by p ask dem ticks))
       → notes_by p ask other ticks ≡ notes_by p ask dem ticks
   same-told dem other ticks none none_other h =
       ap (notes_of p other (ask other)) (same-ticks dem other ticks none h)
@@ -69,7 +71,8 @@ charge-least p rows i k some = go (named rows i k) refl
     go None e = omega (arith, demand-none p rows i k some e)
     go (Some units) e = omega (arith, demand-row p rows i k units some e)
 
-module _ (p : Plan) (lim : IsWithinLimits p) (ask : Asking) (blind : IsBlind p ask) (rows : List DemandRow) (within : IsWithin p (demand_of p rows)) (t : ℕ) where
+module _ (p : Plan) (lim : IsWithinLimits p) (ask : Asking) (blind : IsBlind p ask) (rows : List DemandRow)
+    (within : IsWithin p (demand_of p rows)) (t : ℕ) where
   abbrev dem : ℕ → ℕ → ℕ
   dem = demand_of p rows
 

@@ -55,7 +55,8 @@ shares-alike n key room need other given h alike i lt = go (cases_lt (sum_up_to 
         before : sum_before n key need i ≡ sum_before n key other i
         before = sum_below-same n _ _ (λ j l. by j l (stands_before key j i) refl)
           where
-            by : (j : ℕ) → j < n → (b : Bool) → stands_before key j i ≡ b → (if stands_before key j i then need j else 0) ≡ (if stands_before key j i then other j else 0)
+            by : (j : ℕ) → j < n → (b : Bool) → stands_before key j i ≡ b
+                → (if stands_before key j i then need j else 0) ≡ (if stands_before key j i then other j else 0)
             by j l true e = ap (λ (v : ℕ). if stands_before key j i then v else 0) (whole j l (omega (arith, more, up_to-before n key given j i l e)))
             by j l false e = rw e refl
 
@@ -72,7 +73,8 @@ module _ (p : Plan) (lim : IsWithinLimits p) (dem other : ℕ → ℕ → ℕ) (
       now = h i k lt (omega (arith, latest-early p lim i (length past) lt))
 
       had : exec p (x ∷ past) i k ≡ exec p past i k + share x i
-      had = exec-legal p dem x past i (every_period p lim i) (none i) (share-most (count p) (key_of p.scheduler p (length past)) f (left p dem past) (share x) legal i lt)
+      had = exec-legal p dem x past i (every_period p lim i) (none i)
+          (share-most (count p) (key_of p.scheduler p (length past)) f (left p dem past) (share x) legal i lt)
 
       go : (b : Bool) → is_done p dem (x ∷ past) i k ≡ b → NeedsAlike (left p dem past) (left p other past) (share x) i
       go true e = inl (ap (λ n. n - exec p past i k) (now.0 e))
@@ -82,7 +84,8 @@ module _ (p : Plan) (lim : IsWithinLimits p) (dem other : ℕ → ℕ → ℕ) (
           inr (omega (arith, had, more), omega (arith, had, more_other))
 
   -- the tick may follow for the other demand too
-  pub same-next : (x : Tick) (past : List Tick) → Alike p dem other (x ∷ past) (length (x ∷ past)) → IsNext p dem (ask dem) past x → IsNext p other (ask other) past x
+  pub same-next : (x : Tick) (past : List Tick) → Alike p dem other (x ∷ past) (length (x ∷ past))
+      → IsNext p dem (ask dem) past x → IsNext p other (ask other) past x
   same-next x past h next = record {
     one_share_each = next.one_share_each;
     entry = next.entry ∙ same-entry p lim dem other ask blind past (alike-earlier p dem other x past (length (x ∷ past)) (suc (length past)) (omega arith) h);

@@ -55,7 +55,8 @@ module _ (p : Plan) (dem other : ℕ → ℕ → ℕ) (s : Span) where
   segment-same q u Nobody e = refl
   segment-same q u (Held i k) (inl e) =
       let at_unit = position_of (length s.past) ((point p s.entry).speed) in
-      ap (λ (n : ℕ). Run (at_unit q) (at_unit (q + u)) i k u (run_energy p s.entry u) ∷ (if nat_eq (had_by p s (q + u) i k) n then Done (at_unit (q + u)) i k n ∷ [] else [])) e
+      ap (λ (n : ℕ). Run (at_unit q) (at_unit (q + u)) i k u (run_energy p s.entry u)
+          ∷ (if nat_eq (had_by p s (q + u) i k) n then Done (at_unit (q + u)) i k n ∷ [] else [])) e
   segment-same q u (Held i k) (inr more) =
       let most : had_by p s (q + u) i k ≤ had_in p s i k = had-most p s (q + u) i k in
       let off : nat_eq (had_by p s (q + u) i k) (dem i k) ≡ false = unequal (had_by p s (q + u) i k) (dem i k) (omega (arith, most, more.0)) in
@@ -70,14 +71,17 @@ module _ (p : Plan) (dem other : ℕ → ℕ → ℕ) (s : Span) where
   pieces-same q (r ∷ rs) all = ap₂ (λ (ns ms : List Note). ns ++ ms) (segment-same q r.units r.holder all.0) (pieces-same (q + r.units) rs all.1)
 
 module _ (p : Plan) (lim : IsWithinLimits p) (dem other : ℕ → ℕ → ℕ) where
-  releases-same : (past : List Tick) → Alike p dem other past (suc (length past)) → all_release_notes p dem (length past) ≡ all_release_notes p other (length past)
+  releases-same : (past : List Tick) → Alike p dem other past (suc (length past))
+      → all_release_notes p dem (length past) ≡ all_release_notes p other (length past)
   releases-same past h = flat_map-same (count p) (release_notes p dem t) (release_notes p other t) each
     where
       t : ℕ
       t = length past
 
       each : (i : ℕ) → i < count p → release_notes p dem t i ≡ release_notes p other t i
-      each i lt = ap (λ (b : Bool). if releases_at p i t then Release t i k ∷ (if b then Done (record { tick = t; offset = 0 }) i k 0 ∷ [] else []) else []) (go (is_done p dem past i k) refl)
+      each i lt = ap (λ (b : Bool). if releases_at p i t then Release t i k
+          ∷ (if b then Done (record { tick = t; offset = 0 }) i k 0 ∷ [] else []) else [])
+          (go (is_done p dem past i k) refl)
         where
           k : ℕ
           k = latest p i t
@@ -98,7 +102,9 @@ module _ (p : Plan) (lim : IsWithinLimits p) (dem other : ℕ → ℕ → ℕ) w
   spans-same [] h = refl
   spans-same (x ∷ past) h =
       let before : Alike p dem other past (length past) = alike-earlier p dem other x past (length (x ∷ past)) (length past) (omega arith) h in
-      ap₂ (λ (b : Bool) (spans : List Span). if b then record { past = past; entry = x.entry; units = units_of p past x } ∷ spans else lengthened (units_of p past x) spans)
+      ap₂ (λ (b : Bool) (spans : List Span). if b
+          then record { past = past; entry = x.entry; units = units_of p past x } ∷ spans
+          else lengthened (units_of p past x) spans)
       (same-decision p lim dem other past before)
       (spans-same past before)
 
@@ -124,7 +130,8 @@ module _ (p : Plan) (lim : IsWithinLimits p) (dem other : ℕ → ℕ → ℕ) w
           now : Indistinct p dem other (x ∷ past) i k
           now = h i k held.0 held.1
 
-          go : (b : Bool) → is_done p dem (x ∷ past) i k ≡ b → (dem i k ≡ other i k) ⊎ (had_in p s i k ≡ exec p (x ∷ past) i k) → EndsAlike p dem other s (Held i k)
+          go : (b : Bool) → is_done p dem (x ∷ past) i k ≡ b → (dem i k ≡ other i k)
+              ⊎ (had_in p s i k ≡ exec p (x ∷ past) i k) → EndsAlike p dem other s (Held i k)
           go true e had = inl (now.0 e)
           go false e (inl same) = inl same
           go false e (inr had) =
@@ -149,13 +156,16 @@ module _ (p : Plan) (lim : IsWithinLimits p) (dem other : ℕ → ℕ → ℕ) w
           (pieces-same p dem other s 0 (pieces_of s.units) (each-piece (EndsAlike p dem other s) s.units (units-alike none))))
 
       spans-other : spans_of p other (x ∷ past) ≡ s ∷ spans_of p other s.past
-      spans-other = sym (spans-same (x ∷ past) h) ∙ (l.spans ∙ ap (λ spans. s ∷ spans) (spans-same s.past (alike-then (length s.past) (omega (arith, l.shorter)))))
+      spans-other = sym (spans-same (x ∷ past) h)
+          ∙ (l.spans ∙ ap (λ spans. s ∷ spans) (spans-same s.past
+          (alike-then (length s.past) (omega (arith, l.shorter)))))
 
     before-end-none : notes_before_end p dem (ask dem) [] ≡ notes_before_end p other (ask other) []
     unfolding notes_before_end
     before-end-none = refl
 
-    same-before-end : ((i : ℕ) → dem i 0 ≡ other i 0) → (n : ℕ) (ticks : List Tick) → length ticks ≤ n → IsScheduleBy p dem (ask dem) ticks → Alike p dem other ticks (length ticks)
+    same-before-end : ((i : ℕ) → dem i 0 ≡ other i 0) → (n : ℕ) (ticks : List Tick) → length ticks ≤ n
+        → IsScheduleBy p dem (ask dem) ticks → Alike p dem other ticks (length ticks)
         → notes_before_end p dem (ask dem) ticks ≡ notes_before_end p other (ask other) ticks
     same-before-end none n [] le sched h = before-end-none
     same-before-end none zero (x ∷ past) le sched h = absurd (omega (arith, le))

@@ -1,5 +1,5 @@
 -- Two demands that the ticks don't tell apart finish the same jobs, so they give one state and the same decisions.
-use Rattle.std.proofs.Common.{◌≡◌, ◌-◌, ◌<◌, ◌≤◌, ℕ, zero, suc, Bool, List, [], ◌∷◌, length, drop, refl, if◌then◌else◌, ap, ap₂, arith, not, ◌&&◌, ◌||◌, length-drop}
+use Rattle.std.proofs.Common.{◌≡◌, ◌-◌, ◌<◌, ℕ, suc, Bool, List, [], ◌∷◌, length, refl, if◌then◌else◌, ap, ap₂, arith, not, ◌&&◌, ◌||◌, length-drop}
 use Rattle.grid_fraction.specs.declared.Frac.{Frac}
 use Rattle.grid_fraction.proofs.Searches.{any_below-same}
 use Rattle.freq_table.specs.Tables.{lowest_entry}
@@ -13,23 +13,19 @@ use Rattle.sched_model.specs.States.{StateOf, row_of, state_of}
 use Rattle.sched_model.specs.Admission.{IsWithinLimits}
 use Rattle.sched_model.proofs.Limits.{every_period}
 use Rattle.sched_model.proofs.JobLaws.{latest_since-le, last_release-le}
+use Rattle.sched_model.proofs.Service.{exec-drop}
 use Rattle.sched_model.proofs.Tables.{table-same}
 use Rattle.governor.specs.Schedule.{ask_of}
 use Rattle.replay_laws.specs.OwnList.{Asking}
 use Rattle.replay_laws.proofs.Alike.{Indistinct, Alike, IsBlind, same-done, indistinct-before, alike-before, alike-earlier}
-
--- earlier ticks gave no more
-exec-drop : (p : Plan) (i k n : ℕ) (ticks : List Tick) → exec p (drop n ticks) i k ≤ exec p ticks i k
-exec-drop p i k zero ticks = omega arith
-exec-drop p i k (suc n) [] = omega arith
-exec-drop p i k (suc n) (x ∷ ticks) = omega (arith, exec-drop p i k n ticks)
 
 -- the latest job was released by now
 pub latest-early : (p : Plan) → IsWithinLimits p → (i t : ℕ) → i < count p → latest_since p i (latest p i t) < suc t
 latest-early p lim i t lt = omega (arith, latest_since-le p i t (every_period p lim i) lt, last_release-le p t)
 
 module _ (p : Plan) (lim : IsWithinLimits p) (dem other : ℕ → ℕ → ℕ) where
-  pub same-complete : (past : List Tick) → Alike p dem other past (suc (length past)) → (i : ℕ) → i < count p → is_complete p dem past i ≡ is_complete p other past i
+  pub same-complete : (past : List Tick) → Alike p dem other past (suc (length past)) → (i : ℕ) → i < count p
+      → is_complete p dem past i ≡ is_complete p other past i
   same-complete past h i lt =
       let k = latest p i (length past) in
       same-done p dem other past i k (h i k lt (latest-early p lim i (length past) lt))
@@ -63,7 +59,8 @@ module _ (p : Plan) (lim : IsWithinLimits p) (dem other : ℕ → ℕ → ℕ) w
       (table-same (count p) (wleft p dem (at r past)) (wleft p other (at r past)) (same-wleft (at r past) (alike-marked past h)))
 
   -- the same jobs complete in the last tick
-  pub same-completes : (x : Tick) (past : List Tick) → Alike p dem other (x ∷ past) (length (x ∷ past)) → (i : ℕ) → i < count p → completes_in p dem x past i ≡ completes_in p other x past i
+  pub same-completes : (x : Tick) (past : List Tick) → Alike p dem other (x ∷ past) (length (x ∷ past)) → (i : ℕ)
+      → i < count p → completes_in p dem x past i ≡ completes_in p other x past i
   same-completes x past h i lt =
       let k = latest p i (length past) in
       let now : Indistinct p dem other (x ∷ past) i k = h i k lt (omega (arith, latest-early p lim i (length past) lt)) in
@@ -74,10 +71,13 @@ module _ (p : Plan) (lim : IsWithinLimits p) (dem other : ℕ → ℕ → ℕ) w
   pub same-decision : (past : List Tick) → Alike p dem other past (length past) → is_decision p dem past ≡ is_decision p other past
   same-decision [] h = refl
   same-decision (x ∷ past) h =
-      ap (λ b. is_release p (length (x ∷ past)) || b) (any_below-same (count p) (λ i. completes_in p dem x past i) (λ i. completes_in p other x past i) (same-completes x past h))
+      ap (λ b. is_release p (length (x ∷ past)) || b)
+          (any_below-same (count p) (λ i. completes_in p dem x past i) (λ i. completes_in p other x past i)
+          (same-completes x past h))
 
   -- and the entry in force
-  pub same-entry : (ask : Asking) → IsBlind p ask → (past : List Tick) → Alike p dem other past (suc (length past)) → entry_in_force p dem (ask dem) past ≡ entry_in_force p other (ask other) past
+  pub same-entry : (ask : Asking) → IsBlind p ask → (past : List Tick) → Alike p dem other past (suc (length past))
+      → entry_in_force p dem (ask dem) past ≡ entry_in_force p other (ask other) past
   same-entry ask blind [] h = ap (lowest_entry p.machine) (blind dem other [] h)
   same-entry ask blind (x ∷ past) h =
       ap₂ (λ (d : Bool) (e : ℕ × ℕ). if d then e.0 else e.1)

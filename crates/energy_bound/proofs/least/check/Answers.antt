@@ -1,5 +1,6 @@
 use Rattle.std.proofs.Common.{sym, ◌∙◌, true≢false}
 use Rattle.energy_bound.proofs.Certifying.{certified, certificate-least}
+use Rattle.energy_bound.proofs.ScheduleCosts.{schedules-cost}
 use Rattle.energy_bound.proofs.LeastTest.{same_least-true, same_least-self}
 use Rattle.energy_bound.proofs.least.check.Goals as goal
 
@@ -18,12 +19,26 @@ returns-then-holds-clause-exact c =
 
 pub returns-then-holds-clause-least : goal.returns-then-holds-clause-least
 returns-then-holds-clause-least c = λ yes.
-    certificate-least c.args.machine.now c.as_slice-entries.ensures.limits c.args.units c.args.ticks c.args.given.now ((returns-then-holds-clause-exact c).0 yes)
+    certificate-least c.args.machine.now c.as_slice-entries.ensures.limits c.args.units c.args.ticks c.args.given.now
+        ((returns-then-holds-clause-exact c).0 yes)
 
 pub returns-else-holds-clause-exact : goal.returns-else-holds-clause-exact
 returns-else-holds-clause-exact c =
     let low = c.in-Some-Some.ensures in
     let high = c.in-Some-Some.ensures' in (
       λ yes. absurd (true≢false (sym yes ∙ c.if-holds.false)),
-      λ h. c.holds.ensures.1 (certified c.args.machine.now c.as_slice-entries.ensures.limits c.args.units c.args.ticks c.args.given.now c.in-Some-Some.a c.in-Some-Some.b low.0 high.0 low.1 high.1 h).0,
+      λ h. c.holds.ensures.1 (certified c.args.machine.now c.as_slice-entries.ensures.limits c.args.units c.args.ticks
+          c.args.given.now c.in-Some-Some.a c.in-Some-Some.b low.0 high.0 low.1 high.1 h).0,
     )
+
+pub returns-then-holds-clause-costs : goal.returns-then-holds-clause-costs
+returns-then-holds-clause-costs c = schedules-cost c.args.machine.now c.as_slice-entries.ensures.limits.some
+
+pub returns-else-holds-clause-costs : goal.returns-else-holds-clause-costs
+returns-else-holds-clause-costs c = schedules-cost c.args.machine.now c.as_slice-entries.ensures.limits.some
+
+pub returns-in_default-clause-costs : goal.returns-in_default-clause-costs
+returns-in_default-clause-costs c = schedules-cost c.args.machine.now c.as_slice-entries.ensures.limits.some
+
+pub returns-in_default-2-clause-costs : goal.returns-in_default-2-clause-costs
+returns-in_default-2-clause-costs c = schedules-cost c.args.machine.now c.as_slice-entries.ensures.limits.some
