@@ -1,5 +1,6 @@
 -- The laws of look-ahead EDF.
-use Rattle.std.proofs.Common.{◌≡◌, inl, inr, ℕ, ◌+◌, ◌-◌, ◌*◌, ◌^◌, ◌<◌, ◌≤◌, List, ◌∷◌, ◌++◌, length, refl, sym, ◌∙◌, ap, subst, arith}
+use Rattle.std.proofs.Common.{◌≡◌, inl, inr, ℕ, ◌+◌, ◌-◌, ◌*◌, ◌^◌, ◌<◌, ◌≤◌, List, ◌∷◌, ◌++◌, length, refl, sym, ◌∙◌}
+use Rattle.std.proofs.Common.{ap, subst, arith}
 use Rattle.std.proofs.Math.Nat.{mul-le-mul_left, mul-le-mul_right}
 use Rattle.std.proofs.lemmas.Bool.{lt-leb, cases_lt}
 use Rattle.dvs_base.specs.declared.kind.Scheduler.{Scheduler}
@@ -26,7 +27,8 @@ use Rattle.governor.specs.Laws.{GovernorLaws}
 use Rattle.governor.proofs.Belonging.{earliest-later}
 use Rattle.governor.specs.Edf.{load}
 use Rattle.governor.proofs.Fits.{full_enough}
-use Rattle.governor.proofs.EdfLaws.{load_is, edf_opens, edf_releases, edf_chooses, edf_ticks, edf_stays_calm, edf_completes}
+use Rattle.governor.proofs.EdfLaws.{load_is, edf_opens, edf_releases, edf_chooses, edf_ticks, edf_stays_calm}
+use Rattle.governor.proofs.EdfLaws.{edf_completes}
 use Rattle.look_ahead_laws.specs.Ahead.{deadline_at, edf_order, ahead_demand, AheadCalm, AheadSafe}
 use Rattle.look_ahead_laws.proofs.Spreading.{due_work, all_paid, before_is, rate_within, work_within}
 
@@ -42,12 +44,15 @@ module _ (plan : Plan) (s : StateOf) where
   pub total_is : total_rate plan ≡ sum_list (rate plan) (edf_order plan s)
   total_is = sym (sum_list-in_order (rate plan) (deadline_at s) (count plan))
 
-  pub rates_fit : IsAdmitted plan → ServesEdf plan.scheduler → sum_list (rate plan) (edf_order plan s) ≤ top_speed plan * hyper plan
+  pub rates_fit : IsAdmitted plan → ServesEdf plan.scheduler
+      → sum_list (rate plan) (edf_order plan s) ≤ top_speed plan * hyper plan
   rates_fit adm serves = let fits = (full_enough plan adm).edf serves in omega (arith, total_is, fits)
 
   -- each task's rate, with the rates of the tasks before it and the spread rates of those after it, does too
-  pub each_rate : IsAdmitted plan → ServesEdf plan.scheduler → (before later : List ℕ) (i : ℕ) → edf_order plan s ≡ before ++ i ∷ later
-      → sum_before (count plan) (deadline_at s) (rate plan) i + spread_rates plan (deadline_at s) (wleft_at s) (i ∷ later) ≤ top_speed plan * hyper plan
+  pub each_rate : IsAdmitted plan → ServesEdf plan.scheduler → (before later : List ℕ) (i : ℕ)
+      → edf_order plan s ≡ before ++ i ∷ later
+      → sum_before (count plan) (deadline_at s) (rate plan) i
+      + spread_rates plan (deadline_at s) (wleft_at s) (i ∷ later) ≤ top_speed plan * hyper plan
   each_rate adm serves before later i e =
       let whole : sum_list (rate plan) (edf_order plan s) ≡ sum_list (rate plan) before + sum_list (rate plan) (i ∷ later) =
       ap (sum_list (rate plan)) e ∙ sum_list-append (rate plan) before (i ∷ later) in
@@ -57,7 +62,9 @@ module _ (plan : Plan) (s : StateOf) where
       omega (arith, at, within)
 
   load_in_order : (d : ℕ) → load plan s d ≡ sum_list (due_work plan (deadline_at s) (wleft_at s) d) (edf_order plan s)
-  load_in_order d = load_is plan s d ∙ sym (sum_list-in_order (due_work plan (deadline_at s) (wleft_at s) d) (deadline_at s) (count plan))
+  load_in_order d =
+      load_is plan s d
+      ∙ sym (sum_list-in_order (due_work plan (deadline_at s) (wleft_at s) d) (deadline_at s) (count plan))
 
   -- a speed that meets the demand is safe
   meets_safe : (k : ℕ) → IsAdmitted plan → ServesEdf plan.scheduler → k < length plan.machine.points
@@ -83,10 +90,12 @@ module _ (plan : Plan) (s : StateOf) where
       ]
 
   -- the next deadline is ahead, and near
-  pub ahead_den : IsAdmitted plan → IsAtDecision plan s → (0 < (ahead_demand plan s).den) × ((ahead_demand plan s).den ≤ 2 ^ 64)
+  pub ahead_den : IsAdmitted plan → IsAtDecision plan s
+      → (0 < (ahead_demand plan s).den) × ((ahead_demand plan s).den ≤ 2 ^ 64)
   ahead_den adm dec =
       let next = earliest-later plan adm.limits s dec.before in
-      let first : earliest_in plan s ≤ deadline_at s 0 = least-below (count plan) (deadline_at s) 0 (some_task plan adm.limits) in
+      let first : earliest_in plan s ≤ deadline_at s 0 =
+      least-below (count plan) (deadline_at s) 0 (some_task plan adm.limits) in
       (omega arith, (let near = dec.soon 0 (some_task plan adm.limits) in omega (arith, near, first)))
 
 pub ahead_laws : GovernorLaws Ahead ServesEdf ahead_demand AheadCalm AheadSafe

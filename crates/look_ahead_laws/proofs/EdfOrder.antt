@@ -4,7 +4,8 @@ use Rattle.std.proofs.lemmas.Bool.Decides.{nat_tests}
 use Rattle.sched_model.specs.Priority.{stands_before}
 use Rattle.sched_model.specs.Order.{in_order}
 use Rattle.sched_model.proofs.PriorityLemmas.{before-self, before-not}
-use Rattle.sched_model.proofs.OrderLemmas.{sum_list, IsAhead, IsOrdered, first_ahead, sum_list-in_order, in_order-ordered}
+use Rattle.sched_model.proofs.OrderLemmas.{sum_list, IsAhead, IsOrdered, first_ahead, sum_list-in_order}
+use Rattle.sched_model.proofs.OrderLemmas.{in_order-ordered}
 use Rattle.sched_model.specs.AheadDemand.{sum_after}
 
 -- the keys rise along the order

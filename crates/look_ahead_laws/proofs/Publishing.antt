@@ -9,7 +9,8 @@ use Rattle.sched_model.specs.Demands.{JobDemands}
 use Rattle.sched_model.specs.Jobs.{deadline}
 use Rattle.sched_model.specs.Ticks.{Tick, wleft}
 use Rattle.sched_model.specs.Order.{in_order}
-use Rattle.sched_model.specs.AheadDemand.{first_due, slack, put_off, spread_rate, spread_rates, due_first, ahead_of, edf_ahead}
+use Rattle.sched_model.specs.AheadDemand.{first_due, slack, put_off, spread_rate, spread_rates, due_first, ahead_of}
+use Rattle.sched_model.specs.AheadDemand.{edf_ahead}
 use Rattle.sched_model.specs.Demand.{demand_by, published}
 use Rattle.sched_model.specs.States.{no_row, row_at, row_wleft, row_of, state_of}
 use Rattle.sched_model.proofs.OrderLemmas.{AreBelow, in_order-below, in_order-same, sum_before-same}
@@ -20,17 +21,21 @@ use Rattle.governor.specs.Serving.{ServesEdf}
 use Rattle.governor.proofs.OneSchedule.{publishing_laws}
 use Rattle.look_ahead_laws.specs.Ahead.{deadline_at, ahead_demand}
 
-module _ (p : Plan) (due due' left left' : ℕ → ℕ) (same : (i : ℕ) → i < count p → due i ≡ due' i) (same_left : (i : ℕ) → i < count p → left i ≡ left' i) where
+module _ (p : Plan) (due due' left left' : ℕ → ℕ) (same : (i : ℕ) → i < count p → due i ≡ due' i)
+    (same_left : (i : ℕ) → i < count p → left i ≡ left' i) where
   first_same : first_due p due ≡ first_due p due'
   first_same = least-same (count p) due due' same
 
   slack_same : (i : ℕ) → i < count p → slack p due i ≡ slack p due' i
   slack_same i lt = ap₂ (λ a b. a - b) (same i lt) first_same
 
-  put_same : (after after' i : ℕ) → i < count p → after ≡ after' → put_off p due left after i ≡ put_off p due' left' after' i
-  put_same after after' i lt e = rw (slack_same i lt, same_left i lt, sum_before-same due due' (rate p) (count p) i same lt, e) refl
+  put_same : (after after' i : ℕ) → i < count p → after ≡ after'
+      → put_off p due left after i ≡ put_off p due' left' after' i
+  put_same after after' i lt e =
+      rw (slack_same i lt, same_left i lt, sum_before-same due due' (rate p) (count p) i same lt, e) refl
 
-  rate_same : (after after' i : ℕ) → i < count p → after ≡ after' → spread_rate p due left after i ≡ spread_rate p due' left' after' i
+  rate_same : (after after' i : ℕ) → i < count p → after ≡ after'
+      → spread_rate p due left after i ≡ spread_rate p due' left' after' i
   rate_same after after' i lt e = rw (put_same after after' i lt e, slack_same i lt) refl
 
   rates_same : (is : List ℕ) → AreBelow (count p) is → spread_rates p due left is ≡ spread_rates p due' left' is

@@ -1,5 +1,6 @@
 -- What is put off fits in the time after the earliest deadline: the rates stay within the highest speed, and are enough.
-use Rattle.std.proofs.Common.{◌≡◌, inl, inr, ℕ, zero, suc, ◌+◌, ◌-◌, ◌*◌, ◌<◌, ◌≤◌, min, Bool, true, false, List, [], ◌∷◌, ◌++◌, refl, sym, ◌∙◌, ap, arith, append_assoc}
+use Rattle.std.proofs.Common.{◌≡◌, inl, inr, ℕ, zero, suc, ◌+◌, ◌-◌, ◌*◌, ◌<◌, ◌≤◌, min, Bool, true, false, List, []}
+use Rattle.std.proofs.Common.{◌∷◌, ◌++◌, refl, sym, ◌∙◌, ap, arith, append_assoc}
 use Rattle.std.specs.Prelude.{◌/◌, ◌%◌, nat_eq, nat_le, if◌then◌else◌}
 use Rattle.std.proofs.Math.Nat.{mul-le-mul_right, mul-zero, le_trans, div-mul-le_self}
 use Rattle.std.proofs.lemmas.Nat.{div_below, mod_below, div-add-mod'}
@@ -9,7 +10,8 @@ use Rattle.sched_model.specs.Plan.{Plan, count, hyper, rate, top_speed}
 use Rattle.sched_model.specs.Priority.{sum_before}
 use Rattle.sched_model.specs.Order.{in_order}
 use Rattle.sched_model.specs.AheadDemand.{first_due, slack, put_off, spread_rate, spread_rates, due_first}
-use Rattle.sched_model.proofs.OrderLemmas.{sum_list, IsAhead, IsOrdered, AreBelow, in_order-ordered, sum_before-prefix, sum_list-snoc}
+use Rattle.sched_model.proofs.OrderLemmas.{sum_list, IsAhead, IsOrdered, AreBelow, in_order-ordered, sum_before-prefix}
+use Rattle.sched_model.proofs.OrderLemmas.{sum_list-snoc}
 use Rattle.look_ahead_laws.proofs.EdfOrder.{key_rises}
 
 -- ONE TASK, over plain numbers: y is put off, v is its rate
@@ -69,7 +71,8 @@ term_pays h a end d w y u v la le fits =
     ]
 
 -- what a task works off in one tick more
-work_row : (v u l x : ℕ) → v * min (suc x) l + u * (suc x - l) ≡ (v * min x l + u * (x - l)) + (if nat_le l x then u else v)
+work_row : (v u l x : ℕ)
+    → v * min (suc x) l + u * (suc x - l) ≡ (v * min x l + u * (x - l)) + (if nat_le l x then u else v)
 work_row v u l x =
     elim (cases_lt x l) [
       | inl before ↦
@@ -117,7 +120,8 @@ module _ (plan : Plan) (due left : ℕ → ℕ) where
       omega (arith, work_more x xs, work_row (spread_rate plan due left (spread_rates plan due left xs) i) (rate plan i) (slack plan due i) x)
 
   -- the tasks after one whose slack is above x have their spread rates
-  all_spread : (x i : ℕ) (xs : List ℕ) → x < slack plan due i → IsAhead due i xs → past_rate x xs ≡ spread_rates plan due left xs
+  all_spread : (x i : ℕ) (xs : List ℕ) → x < slack plan due i → IsAhead due i xs
+      → past_rate x xs ≡ spread_rates plan due left xs
   all_spread x i [] lt ahead = refl
   all_spread x i (j ∷ js) lt ahead =
       let rises : due i ≤ due j = key_rises due i j ahead.0 in

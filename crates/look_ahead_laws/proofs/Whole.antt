@@ -1,6 +1,7 @@
 -- The formulas over all tasks at once have a solution, and each solution gives the demand and keeps the rates within the
 -- highest speed.
-use Rattle.std.proofs.Common.{◌≡◌, ℕ, ◌+◌, ◌-◌, ◌*◌, ◌<◌, ◌≤◌, Bool, true, false, eqb, List, [], ◌∷◌, ◌++◌, refl, sym, ◌∙◌, ap, subst, arith, append_assoc, true≢false}
+use Rattle.std.proofs.Common.{◌≡◌, ℕ, ◌+◌, ◌-◌, ◌*◌, ◌<◌, ◌≤◌, Bool, true, false, eqb, List, [], ◌∷◌, ◌++◌, refl, sym}
+use Rattle.std.proofs.Common.{◌∙◌, ap, subst, arith, append_assoc, true≢false}
 use Rattle.std.specs.Prelude.{nat_eq, if◌then◌else◌}
 use Rattle.std.proofs.lemmas.Bool.Decides.{nat_tests}
 use Rattle.grid_fraction.specs.Numbers.{sum_below, ceil_div}
@@ -10,7 +11,8 @@ use Rattle.sched_model.specs.AheadDemand.{slack, put_off, spread_rate, spread_ra
 use Rattle.sched_model.specs.Admission.{IsAdmitted}
 use Rattle.sched_model.specs.States.{StateOf}
 use Rattle.sched_model.proofs.PriorityLemmas.{before-self}
-use Rattle.sched_model.proofs.OrderLemmas.{sum_list, sum_list-in_order, IsOrdered, in_order-ordered, AreBelow, in_order-below, below-from, stands-in_order, first_ahead}
+use Rattle.sched_model.proofs.OrderLemmas.{sum_list, sum_list-in_order, IsOrdered, in_order-ordered, AreBelow}
+use Rattle.sched_model.proofs.OrderLemmas.{in_order-below, below-from, stands-in_order, first_ahead}
 use Rattle.governor.specs.Steps.{wleft_at}
 use Rattle.governor.specs.Serving.{ServesEdf}
 use Rattle.look_ahead_laws.specs.Ahead.{deadline_at, edf_order, ahead_demand}
@@ -25,7 +27,8 @@ module _ (plan : Plan) (s : StateOf) where
   abbrev left : ℕ → ℕ
   left = wleft_at s
 
-  after_is : (f : ℕ → ℕ) (l xs : List ℕ) (i : ℕ) → edf_order plan s ≡ l ++ i ∷ xs → rates_after plan s f i ≡ sum_list f xs
+  after_is : (f : ℕ → ℕ) (l xs : List ℕ) (i : ℕ) → edf_order plan s ≡ l ++ i ∷ xs
+      → rates_after plan s f i ≡ sum_list f xs
   after_is f l xs i e = sum_after-suffix due f (count plan) i l xs e
 
   back_below : (l xs : List ℕ) → edf_order plan s ≡ l ++ xs → AreBelow (count plan) xs
@@ -36,7 +39,8 @@ module _ (plan : Plan) (s : StateOf) where
     put_same : (i after : ℕ) → i < count plan → rates_after plan s v i ≡ after → y i ≡ put_off plan due left after i
     put_same i after lt e = spread.put i lt ∙ ap (λ (a : ℕ). put_off plan due left a i) e
 
-    rate_same : (i after : ℕ) → i < count plan → rates_after plan s v i ≡ after → v i ≡ spread_rate plan due left after i
+    rate_same : (i after : ℕ) → i < count plan → rates_after plan s v i ≡ after
+        → v i ≡ spread_rate plan due left after i
     rate_same i after lt e =
         spread.needs i lt ∙ ap (λ (m : ℕ). if nat_eq (slack plan due i) 0 then rate plan i else ceil_div (m * hyper plan) (slack plan due i)) (put_same i after lt e)
 
@@ -47,7 +51,8 @@ module _ (plan : Plan) (s : StateOf) where
         let at = rate_same i (spread_rates plan due left xs) (back_below l (i ∷ xs) e).0 (after_is v l xs i e ∙ rest) in
         omega (arith, rest, at)
 
-    whole_first : (l xs : List ℕ) → edf_order plan s ≡ l ++ xs → sum_list (λ i. left i - y i) xs ≡ due_first plan due left xs
+    whole_first : (l xs : List ℕ) → edf_order plan s ≡ l ++ xs
+        → sum_list (λ i. left i - y i) xs ≡ due_first plan due left xs
     whole_first l [] e = refl
     whole_first l (i ∷ xs) e =
         let next : edf_order plan s ≡ (l ++ i ∷ []) ++ xs = e ∙ sym (append_assoc l (i ∷ []) xs) in
@@ -118,7 +123,8 @@ module _ (plan : Plan) (s : StateOf) where
       → put_in (edf_order plan s) i ≡ put_off plan due left (spread_rates plan due left xs) i
   put_here l xs i e = ap (λ (ys : List ℕ). put_in ys i) e ∙ put_at_split l xs i (split_order l (i ∷ xs) e)
 
-  sum_here : (l xs : List ℕ) → edf_order plan s ≡ l ++ xs → sum_list (rate_in (edf_order plan s)) xs ≡ spread_rates plan due left xs
+  sum_here : (l xs : List ℕ) → edf_order plan s ≡ l ++ xs
+      → sum_list (rate_in (edf_order plan s)) xs ≡ spread_rates plan due left xs
   sum_here l [] e = refl
   sum_here l (i ∷ xs) e =
       let rest = sum_here (l ++ i ∷ []) xs (e ∙ sym (append_assoc l (i ∷ []) xs)) in
