@@ -54,10 +54,12 @@ module _ (plan : Plan) (s : StateOf) where
       → sum_before (count plan) (deadline_at s) (rate plan) i
       + spread_rates plan (deadline_at s) (wleft_at s) (i ∷ later) ≤ top_speed plan * hyper plan
   each_rate adm serves before later i e =
-      let whole : sum_list (rate plan) (edf_order plan s) ≡ sum_list (rate plan) before + sum_list (rate plan) (i ∷ later) =
+      let sum = sum_list (rate plan) in
+      let whole : sum (edf_order plan s) ≡ sum before + sum (i ∷ later) =
       ap (sum_list (rate plan)) e ∙ sum_list-append (rate plan) before (i ∷ later) in
       let within =
-      rate_within plan (deadline_at s) (wleft_at s) before (i ∷ later) e (some_hyper plan adm.limits) (let f = rates_fit adm serves in omega (arith, whole, f)) in
+      rate_within plan (deadline_at s) (wleft_at s) before (i ∷ later) e (some_hyper plan adm.limits)
+      (let f = rates_fit adm serves in omega (arith, whole, f)) in
       let at = before_is plan (deadline_at s) (wleft_at s) before later i e in
       omega (arith, at, within)
 
@@ -72,8 +74,10 @@ module _ (plan : Plan) (s : StateOf) where
   meets_safe k adm serves lt met = record {
     bound = λ d le.
         let x = d - earliest_in plan s in
-        let paid = all_paid plan (deadline_at s) (wleft_at s) d (edf_order plan s) (in_order-below (deadline_at s) (count plan)) in
-        let worked = work_within plan (deadline_at s) (wleft_at s) x (some_hyper plan adm.limits) (rates_fit adm serves) in
+        let below = in_order-below (deadline_at s) (count plan) in
+        let paid = all_paid plan (deadline_at s) (wleft_at s) d (edf_order plan s) below in
+        let some = some_hyper plan adm.limits in
+        let worked = work_within plan (deadline_at s) (wleft_at s) x some (rates_fit adm serves) in
         let first = mul-le-mul_left (hyper plan) met in
         omega (arith, load_in_order d, paid, worked, first);
     slower = below_highest plan.machine adm.limits.machine k lt;
@@ -85,8 +89,12 @@ module _ (plan : Plan) (s : StateOf) where
       let d = ahead_demand plan s in
       let k = lowest_entry plan.machine d in
       elim (cases_lt (top_speed plan * d.den) d.num) [
-        | inl over ↦ edf_chooses (top_speed plan) plan adm.limits dem s bel k (ap (speed_at plan.machine) (last_picked plan.machine adm.limits.machine d over)) calm
-        | inr within ↦ meets_safe k adm serves (lowest_within plan.machine d adm.limits.machine.some) (picked_meets plan.machine adm.limits.machine d within)
+        | inl over ↦
+            let last = ap (speed_at plan.machine) (last_picked plan.machine adm.limits.machine d over) in
+            edf_chooses (top_speed plan) plan adm.limits dem s bel k last calm
+        | inr within ↦
+            let met = picked_meets plan.machine adm.limits.machine d within in
+            meets_safe k adm serves (lowest_within plan.machine d adm.limits.machine.some) met
       ]
 
   -- the next deadline is ahead, and near
@@ -107,7 +115,8 @@ ahead_laws = record {
   chooses = λ plan dem s run dec calm. ahead_chooses plan s dem run.admitted run.served run.belongs calm;
   meets = λ plan dem s run dec calm kind. absurd (kind refl);
   ticks = λ plan dem s run k safe shares may.
-      edf_ticks (top_speed plan) plan run.admitted.limits dem s run.belongs run.served ((full_enough plan run.admitted).edf run.served) k shares may.before may.legal safe;
+      edf_ticks (top_speed plan) plan run.admitted.limits dem s run.belongs run.served
+      ((full_enough plan run.admitted).edf run.served) k shares may.before may.legal safe;
   stays_calm = λ plan dem s run k safe. edf_stays_calm (top_speed plan) plan run.admitted.limits dem s run.belongs k safe;
   completes = λ plan dem s run calm. edf_completes (top_speed plan) plan run.admitted.limits dem s run.belongs calm;
 }

@@ -136,8 +136,11 @@ module _ (plan : Plan) (due left : ℕ → ℕ) where
       let b = nat_eq (slack plan due i) 0 in
       let after = spread_rates plan due left xs in
       let g = ((top_speed plan * hyper plan) - sum_before (count plan) due (rate plan) i - after) * slack plan due i / hyper plan in
-      let one = term_pays (hyper plan) (first_due plan due) (due i) d (left i) (put_off plan due left after i) (rate plan i) (spread_rate plan due left after i)
-      (least-below (count plan) due i below.0) (put_most b (left i) g) (put_fits b (rate plan i) (left i) g (slack plan due i) (hyper plan) (some_slack (slack plan due i))) in
+      let late = slack plan due i in
+      let fits = put_fits b (rate plan i) (left i) g late (hyper plan) (some_slack late) in
+      let one =
+      term_pays (hyper plan) (first_due plan due) (due i) d (left i) (put_off plan due left after i) (rate plan i)
+      (spread_rate plan due left after i) (least-below (count plan) due i below.0) (put_most b (left i) g) fits in
       omega (arith, one, all_paid d xs below.1)
 
   pub before_is : (l xs : List ℕ) (i : ℕ) → in_order due (count plan) ≡ l ++ i ∷ xs
@@ -156,7 +159,9 @@ module _ (plan : Plan) (due left : ℕ → ℕ) where
       let room : sum_list (rate plan) l + rate plan i + after ≤ top_speed plan * hyper plan = omega (arith, next, ih) in
       let before = before_is l xs i e in
       let one =
-      step_within (nat_eq (slack plan due i) 0) (rate plan i) (left i) (slack plan due i) (hyper plan) (sum_before (count plan) due (rate plan) i) after (top_speed plan * hyper plan) ph (some_slack (slack plan due i)) (rw before room) in
+      let late = slack plan due i in
+      step_within (nat_eq late 0) (rate plan i) (left i) late (hyper plan) (sum_before (count plan) due (rate plan) i) after
+      (top_speed plan * hyper plan) ph (some_slack late) (rw before room) in
       omega (arith, before, one)
 
   past_within : (x : ℕ) (l xs : List ℕ) → in_order due (count plan) ≡ l ++ xs → IsOrdered due xs → 0 < hyper plan

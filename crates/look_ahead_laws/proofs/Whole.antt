@@ -42,7 +42,9 @@ module _ (plan : Plan) (s : StateOf) where
     rate_same : (i after : ℕ) → i < count plan → rates_after plan s v i ≡ after
         → v i ≡ spread_rate plan due left after i
     rate_same i after lt e =
-        spread.needs i lt ∙ ap (λ (m : ℕ). if nat_eq (slack plan due i) 0 then rate plan i else ceil_div (m * hyper plan) (slack plan due i)) (put_same i after lt e)
+        let late = slack plan due i in
+        spread.needs i lt
+        ∙ ap (λ (m : ℕ). if nat_eq late 0 then rate plan i else ceil_div (m * hyper plan) late) (put_same i after lt e)
 
     whole_rates : (l xs : List ℕ) → edf_order plan s ≡ l ++ xs → sum_list v xs ≡ spread_rates plan due left xs
     whole_rates l [] e = refl
@@ -140,7 +142,10 @@ module _ (plan : Plan) (s : StateOf) where
         put_here at.0 at.1.0 i at.1.1 ∙ ap (λ (a : ℕ). put_off plan due left a i) (sym later);
     needs = λ i lt.
         let at = stands-in_order due (count plan) i lt in
-        rate_here at.0 at.1.0 i at.1.1 ∙ ap (λ (m : ℕ). if nat_eq (slack plan due i) 0 then rate plan i else ceil_div (m * hyper plan) (slack plan due i)) (sym (put_here at.0 at.1.0 i at.1.1));
+        let late = slack plan due i in
+        rate_here at.0 at.1.0 i at.1.1
+        ∙ ap (λ (m : ℕ). if nat_eq late 0 then rate plan i else ceil_div (m * hyper plan) late)
+        (sym (put_here at.0 at.1.0 i at.1.1));
   }
 
   pub has_spread : HasSpread plan s
