@@ -29,7 +29,7 @@ module _ (m : Table) (table : IsTable m) (units ticks : ℕ) (l : Least) where
       let r : CostsItsTicks p past (notes_of p dem ask past) = schedules-cost m table.some p dem ask past machine sched in
       let each : AreChoices m (choices_of p past) = subst (λ (t : Table). AreChoices t (choices_of p past)) machine r.choices in
       let cost : energy_spent (notes_of p dem ask past) ≡ total_cost m (choices_of p past) =
-          r.cost ∙ ap (λ (t : Table). total_cost t (choices_of p past)) machine in
+      r.cost ∙ ap (λ (t : Table). total_cost t (choices_of p past)) machine in
       omega (
         arith,
         bound 1 (choices_of p past) each (omega (arith, length-map past (choice_of p), long)) (omega (arith, r.units, whole)),

@@ -96,12 +96,12 @@ module _ (m : Table) (table : IsTable m) where
   next-cost : (k : ℕ) → suc k ≤ last_corner m → corner_cost m k ≤ corner_cost m (suc k)
   next-cost zero le =
       let share : speed_at m 0 * volts m 0 * volts m 0 * m.idle ≤ speed_at m 0 * volts m 0 * volts m 0 * 1000 =
-          mul-le-mul_left (speed_at m 0 * volts m 0 * volts m 0) table.low_idle in
+      mul-le-mul_left (speed_at m 0 * volts m 0 * volts m 0) table.low_idle in
       omega (arith, share, idle-cost m, full-cost m 0)
   next-cost (suc e) le =
       let more : speed_at m e * volts m e * volts m e * 1000 ≤ speed_at m (suc e) * volts m (suc e) * volts m (suc e) * 1000 =
       full-climb (speed_at m e) (speed_at m (suc e)) (volts m e) (volts m (suc e))
-          (let s = next-units (suc e) le in omega arith) (volts-climb e (suc e) (omega arith) (omega arith)) in
+      (let s = next-units (suc e) le in omega arith) (volts-climb e (suc e) (omega arith) (omega arith)) in
       omega (arith, more, full-cost m e, full-cost m (suc e))
 
   pub cost-climb : (j k : ℕ) → j ≤ k → k ≤ last_corner m → corner_cost m j ≤ corner_cost m k
@@ -114,8 +114,8 @@ module _ (m : Table) (table : IsTable m) where
       (corner_units m k) (corner_cost m k)
   lies-above a b k lt le =
       above-rise (corner_units m a) (corner_cost m a) (corner_units m b) (corner_cost m b)
-          (corner_units m b - corner_units m a) (corner_cost m b - corner_cost m a) (corner_units m k)
-          (corner_cost m k)
+      (corner_units m b - corner_units m a) (corner_cost m b - corner_cost m a) (corner_units m k)
+      (corner_cost m k)
       (let s = units-rise a b lt le in omega arith) (let s = cost-climb a b (omega arith) le in omega arith)
 
 -- by the units and the costs that were found

@@ -151,7 +151,7 @@ module _ (m : Table) (table : IsTable m) (units ticks a b : ℕ) (h : Holds m un
   mixed-sum f =
       sum_by-append f low_part high_part
       ∙ ap₂ (λ v w. v + w) (sum_by-replicate f (ticks * corner_units m b - units) (corner m a))
-          (sum_by-replicate f (units - ticks * corner_units m a) (corner m b))
+      (sum_by-replicate f (units - ticks * corner_units m a) (corner m b))
 
   pub reached : IsReached m units ticks (least_of m units ticks a b)
   reached = record {
@@ -169,13 +169,13 @@ module _ (m : Table) (table : IsTable m) (units ticks a b : ℕ) (h : Holds m un
       all_ticks =
           length-append low_part high_part
           ∙ (ap₂ (λ v w. v + w) (length-replicate (ticks * corner_units m b - units) (corner m a))
-              (length-replicate (units - ticks * corner_units m a) (corner m b))
+          (length-replicate (units - ticks * corner_units m a) (corner m b))
           ∙ mixed_ticks D (corner_units m a) (corner_units m b) ticks units (units - ticks * corner_units m a)
-              (ticks * corner_units m b - units) more-units low-ticks high-ticks);
+          (ticks * corner_units m b - units) more-units low-ticks high-ticks);
       all_units =
           mixed-sum (λ (x : Choice). x.units)
           ∙ mixed_units D (corner_units m a) (corner_units m b) ticks units (units - ticks * corner_units m a)
-              (ticks * corner_units m b - units) more-units low-ticks high-ticks;
+          (ticks * corner_units m b - units) more-units low-ticks high-ticks;
       cost = mixed-sum (choice_cost m) ∙ omega arith;
     };
   }

@@ -31,7 +31,7 @@ module _ (m : Table) (table : IsTable m) (units ticks : ℕ) where
       go (suc n) e =
           let high : units ≤ ticks * corner_units m (suc n) = omega (arith, ap (λ v. ticks * v) (ap (corner_units m) (sym e) ∙ last-units)) in
           let (a, (b, r)) = enclosed (corner_units m) (corner_cost m) (last_corner m) (units-rise m table)
-              (cost-climb m table) ticks units n refl (omega arith) high in (
+          (cost-climb m table) ticks units n refl (omega arith) high in (
             a,
             (
               b,

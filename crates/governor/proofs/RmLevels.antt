@@ -39,7 +39,7 @@ spaced plan j b (suc k) = go (nat_le b (release plan j (suc k))) refl (spaced pl
     go : (c : Bool) → nat_le b (release plan j (suc k)) ≡ c
         → (released_since plan j b k ≡ 0) ⊎ (b + released_since plan j b k * p ≤ due_at plan j k)
         → (released_since plan j b k + (if c then 1 else 0) ≡ 0)
-            ⊎ (b + (released_since plan j b k + (if c then 1 else 0)) * p ≤ due_at plan j (suc k))
+        ⊎ (b + (released_since plan j b k + (if c then 1 else 0)) * p ≤ due_at plan j (suc k))
     go true e (inl none) =
         let g : b ≤ release plan j (suc k) = leb-true b (release plan j (suc k)) e in
         inr (rw none (omega (arith, g, release-due plan j (suc k) (omega arith))))
@@ -121,7 +121,7 @@ module _ (F long : ℕ) (plan : Plan) (lim : IsWithinLimits plan) (i : ℕ) (h :
     row_pays : (b : ℕ) → b ≤ s.now → (j : ℕ) → j < count plan
         → ((row_at s j).deadline ≡ s.now → (row_at s j).done ≡ true)
         → wleft_at (after_boundary plan dem s) j + asked_since plan s b j
-            ≤ wleft_at s j + asked_since plan (after_boundary plan dem s) b j
+        ≤ wleft_at s j + asked_since plan (after_boundary plan dem s) b j
     row_pays b le j hj due =
         let row = row_at s j in
         let asked : Row → ℕ = λ (r : Row). released_since plan j b r.job * worst plan j in
@@ -155,7 +155,7 @@ module _ (F long : ℕ) (plan : Plan) (lim : IsWithinLimits plan) (i : ℕ) (h :
 
     row_open : (j : ℕ) → j < count plan → (row_at (after_boundary plan dem s) j).done ≡ false
         → (release_of plan j (row_at (after_boundary plan dem s) j) ≡ s.now)
-            ⊎ StayedOpen j (row_at (after_boundary plan dem s) j)
+        ⊎ StayedOpen j (row_at (after_boundary plan dem s) j)
     row_open j hj =
         let row = row_at s j in
         let P : Row → Type 0 = λ (new : Row). new.done ≡ false → (release_of plan j new ≡ s.now) ⊎ StayedOpen j new in

@@ -14,6 +14,6 @@ later-all i later = let n : length (i ∷ later) - 1 ≡ length later = omega ar
 module _ (p : Plan) (due left : ℕ → ℕ) where
   pub rates-first : (order : List ℕ) (d : ℕ) → 0 < length order
       → spread_rate p due left (spread_rates p due left (later_of order)) (get_or order 0 d) + spread_rates p due left
-          (later_of order) ≡ spread_rates p due left order
+      (later_of order) ≡ spread_rates p due left order
   rates-first [] d some = absurd (omega arith)
   rates-first (i ∷ later) d some = ap (λ (l : List ℕ). spread_rate p due left (spread_rates p due left l) i + spread_rates p due left l) (later-all i later)

@@ -20,7 +20,7 @@ pub marked_later : (p : Plan) → IsAdmitted p → (t : ℕ) → t < earliest p 
 marked_later p adm t =
     let same : earliest p (last_release p t) ≡ earliest p t =
     least-same (count p) (λ i. deadline p i (last_release p t)) (λ i. deadline p i t)
-        (λ i lt. ap (due p i) (latest-marked p i t (every_period p adm.limits i) lt)) in
+    (λ i lt. ap (due p i) (latest-marked p i t (every_period p adm.limits i) lt)) in
     omega (arith, same, least-above (count p) (λ i. deadline p i t) (t + 1) adm.limits.tasks.some (λ i lt. omega (arith, deadline_later p adm i t)))
 
 -- the ticks before tick r, of more

@@ -154,7 +154,8 @@ fn a_trillion_ticks_are_replayed_at_once(rt: HostRuntime) -> Result<(), Fail> {
         b"task = [{name = \"t1\", period = 1000000000000, worst = 1}]",
         b"point = [{speed = 1, millivolts = 1000}]",
     )?;
-    let text = b"trace 1\nplan edf none 1000000000000\nrelease 0 t1 1\nspeed 0 1 1/1\nrun 0:0 1:0 t1 1 1 1000000000\ndone 1:0 t1 1 1\nspeed 1 1 1/1\nidle 1:0 1000000000000:0 999999999999 0\nend 1000000000000 1000000000 0\n";
+    let text =
+        b"trace 1\nplan edf none 1000000000000\nrelease 0 t1 1\nspeed 0 1 1/1\nrun 0:0 1:0 t1 1 1 1000000000\ndone 1:0 t1 1 1\nspeed 1 1 1/1\nidle 1:0 1000000000000:0 999999999999 0\nend 1000000000000 1000000000 0\n";
     let totals = Totals {
         run: 1000000000,
         idle: 0,

@@ -33,15 +33,15 @@ module _ (p : Plan) (due left other : ℕ → ℕ) (same : (i : ℕ) → i < cou
   put_off-reads : (after i : ℕ) → i < count p → put_off p due left after i ≡ put_off p due other after i
   put_off-reads after i lt =
       ap (λ (n : ℕ). if nat_eq (slack p due i) 0 then 0
-          else min n (((top_speed p * hyper p) - sum_before (count p) due (rate p) i - after) * slack p due i / hyper
-          p)) (same i lt)
+      else min n (((top_speed p * hyper p) - sum_before (count p) due (rate p) i - after) * slack p due i / hyper
+      p)) (same i lt)
 
   spread_rates-reads : (is : List ℕ) → AreBelow (count p) is → spread_rates p due left is ≡ spread_rates p due other is
   spread_rates-reads [] b = refl
   spread_rates-reads (i ∷ is) b =
       ap (λ n. spread_rate p due left n i + n) (spread_rates-reads is b.1)
       ∙ ap (λ (n : ℕ). (if nat_eq (slack p due i) 0 then rate p i else ceil_div (n * hyper p) (slack p due i))
-          + spread_rates p due other is) (put_off-reads (spread_rates p due other is) i b.0)
+      + spread_rates p due other is) (put_off-reads (spread_rates p due other is) i b.0)
 
   due_first-reads : (is : List ℕ) → AreBelow (count p) is → due_first p due left is ≡ due_first p due other is
   due_first-reads [] b = refl
@@ -87,7 +87,7 @@ module _ (p : Plan) (lim : IsWithinLimits p) (dem other : ℕ → ℕ → ℕ) (
       let due : ℕ → ℕ = λ i. deadline p i (length past) in
       ap (λ (n : ℕ). record { num = n; den = first_due p due - length past })
       (due_first-reads p due (wleft p dem past) (wleft p other past) (same-wleft p lim dem other past h)
-          (in_order due (count p)) (in_order-below due (count p)))
+      (in_order due (count p)) (in_order-below due (count p)))
 
   demand_by-same : (s : Scheduler) (kind : GovernorKind) → demand_by s kind p dem past ≡ demand_by s kind p other past
   demand_by-same Edf Plain = refl

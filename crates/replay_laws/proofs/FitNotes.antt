@@ -80,7 +80,7 @@ module _ (p : Plan) (lim : IsWithinLimits p) (dem : ℕ → ℕ → ℕ) (ask : 
   spans-before t (s ∷ spans) held =
       subst AreBeforeEnd (sym (flat_map-last (span_notes p dem ask) s spans))
       (each-append (IsBeforeEnd p dem) (flat_map (span_notes p dem ask) (reverse spans)) (span_notes p dem ask s)
-          (spans-before t spans held.1) (span-before s t held.0))
+      (spans-before t spans held.1) (span-before s t held.0))
 
   -- so it is with all notes but the last
   pub before-end-each : (ticks : List Tick) → AreBeforeEnd (notes_before_end p dem ask ticks)
@@ -140,8 +140,8 @@ row-fit p i k units (Done at_end j (suc l) used ∷ notes) fit e = go (nat_eq j 
     go true mine rest =
         let task : j ≡ i = grind (arith, nat_tests, mine) in
         let row : Some (used - 2 * p.machine.charge) ≡ Some units =
-            sym (ap (λ (b : Bool). if b then Some (used - 2 * p.machine.charge) else named (fixed_of p notes) i k)
-            mine) ∙ e in
+        sym (ap (λ (b : Bool). if b then Some (used - 2 * p.machine.charge) else named (fixed_of p notes) i k)
+        mine) ∙ e in
         let is : used - 2 * p.machine.charge ≡ units = ap (λ (o : Option ℕ). unwrap_or o 0) row in
         let most : used ≤ worst p i = subst (λ m. used ≤ worst p m) task fit.0 in
         omega (arith, is, most)

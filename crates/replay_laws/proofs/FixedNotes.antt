@@ -54,7 +54,7 @@ each-flat P zero f h = tt
 each-flat P (suc n) f h =
     subst (AllByRecursion P) (sym (flat_map-append f (list_below n (λ i. i)) (n ∷ [])))
     (each-append P (flat_map f (list_below n (λ i. i))) (f n ++ [])
-        (each-flat P n f (λ i lt. h i (omega (arith, lt)))) (each-append P (f n) [] (h n (omega arith)) tt))
+    (each-flat P n f (λ i lt. h i (omega (arith, lt)))) (each-append P (f n) [] (h n (omega arith)) tt))
 
 -- what notes fix of a job: nothing, where none tells its end, and else its demand, which it has had
 abbrev pub Fixes : Plan → (ℕ → ℕ → ℕ) → ℕ → ℕ → ℕ → Option ℕ → ℕ → Type 0

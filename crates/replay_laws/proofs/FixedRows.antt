@@ -81,7 +81,7 @@ named-fixed p (Done at_end j (suc l) used ∷ notes) i k some = go (nat_eq j i &
   where
     go : (b : Bool) → named (fixed_of p notes) i k ≡ option_map (λ n. n - 2 * p.machine.charge) (first_end notes i k)
         → (if b then Some (used - 2 * p.machine.charge) else named (fixed_of p notes) i k) ≡ option_map
-            (λ n. n - 2 * p.machine.charge) (option_or (if b then Some used else None) (first_end notes i k))
+        (λ n. n - 2 * p.machine.charge) (option_or (if b then Some used else None) (first_end notes i k))
     go true ih = refl
     go false ih = ih
 
@@ -90,7 +90,7 @@ pub fixed-demand : (p : Plan) → HasFixedDemands p
 fixed-demand p notes i zero some = absurd (omega (arith, some))
 fixed-demand p notes i (suc k) some =
     ap (λ (o : Option ℕ). unwrap_or (option_map (λ u. u + 2 * p.machine.charge) o) (worst p i))
-        (named-fixed p notes i (suc k) some) ∙ go (first_end notes i (suc k))
+    (named-fixed p notes i (suc k) some) ∙ go (first_end notes i (suc k))
   where
     go : (o : Option ℕ) → unwrap_or (option_map (λ u. u + 2 * p.machine.charge) (option_map (λ used. used - 2 * p.machine.charge) o)) (worst p i)
         ≡ unwrap_or (option_map (λ used. max used (2 * p.machine.charge)) o) (worst p i)

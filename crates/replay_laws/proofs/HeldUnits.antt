@@ -75,8 +75,8 @@ module _ (p : Plan) (lim : IsWithinLimits p) where
     where
       go : (b : Bool) → AreHeldBefore (length (x ∷ past)) (spans_of p dem past)
           → AreHeldBefore (length (x ∷ past)) (if b
-              then record { past = past; entry = x.entry; units = units_of p past x } ∷ spans_of p dem past
-              else lengthened (units_of p past x) (spans_of p dem past))
+          then record { past = past; entry = x.entry; units = units_of p past x } ∷ spans_of p dem past
+          else lengthened (units_of p past x) (spans_of p dem past))
       go true held = (units-held past x, held)
       go false held = held-lengthened (length (x ∷ past)) (units_of p past x) (spans_of p dem past) (units-held past x) held
 

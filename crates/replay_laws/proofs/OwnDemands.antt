@@ -30,7 +30,7 @@ module _ (p : Plan) (lim : IsWithinLimits p) (ask : Asking) (blind : IsBlind p a
   same-ticks dem other ticks none h =
       let exists = schedule_exists p dem (ask dem) ticks in
       let by_other : IsScheduleBy p other (ask other) (ticks_by p ask dem ticks) =
-          same-course p lim dem other none ask blind (ticks_by p ask dem ticks) h exists.0 in
+      same-course p lim dem other none ask blind (ticks_by p ask dem ticks) h exists.0 in
       ap (schedule_by p other (ask other)) (sym exists.1) ∙ sym (schedule_unique p other (ask other) (ticks_by p ask dem ticks) by_other)
 
   -- and the same notes

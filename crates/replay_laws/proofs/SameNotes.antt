@@ -56,7 +56,7 @@ module _ (p : Plan) (dem other : ℕ → ℕ → ℕ) (s : Span) where
   segment-same q u (Held i k) (inl e) =
       let at_unit = position_of (length s.past) ((point p s.entry).speed) in
       ap (λ (n : ℕ). Run (at_unit q) (at_unit (q + u)) i k u (run_energy p s.entry u)
-          ∷ (if nat_eq (had_by p s (q + u) i k) n then Done (at_unit (q + u)) i k n ∷ [] else [])) e
+      ∷ (if nat_eq (had_by p s (q + u) i k) n then Done (at_unit (q + u)) i k n ∷ [] else [])) e
   segment-same q u (Held i k) (inr more) =
       let most : had_by p s (q + u) i k ≤ had_in p s i k = had-most p s (q + u) i k in
       let off : nat_eq (had_by p s (q + u) i k) (dem i k) ≡ false = unequal (had_by p s (q + u) i k) (dem i k) (omega (arith, most, more.0)) in
@@ -103,8 +103,8 @@ module _ (p : Plan) (lim : IsWithinLimits p) (dem other : ℕ → ℕ → ℕ) w
   spans-same (x ∷ past) h =
       let before : Alike p dem other past (length past) = alike-earlier p dem other x past (length (x ∷ past)) (length past) (omega arith) h in
       ap₂ (λ (b : Bool) (spans : List Span). if b
-          then record { past = past; entry = x.entry; units = units_of p past x } ∷ spans
-          else lengthened (units_of p past x) spans)
+      then record { past = past; entry = x.entry; units = units_of p past x } ∷ spans
+      else lengthened (units_of p past x) spans)
       (same-decision p lim dem other past before)
       (spans-same past before)
 

@@ -72,8 +72,8 @@ module _ (p : Plan) (lim : IsWithinLimits p) (dem other : ℕ → ℕ → ℕ) w
   same-decision [] h = refl
   same-decision (x ∷ past) h =
       ap (λ b. is_release p (length (x ∷ past)) || b)
-          (any_below-same (count p) (λ i. completes_in p dem x past i) (λ i. completes_in p other x past i)
-          (same-completes x past h))
+      (any_below-same (count p) (λ i. completes_in p dem x past i) (λ i. completes_in p other x past i)
+      (same-completes x past h))
 
   -- and the entry in force
   pub same-entry : (ask : Asking) → IsBlind p ask → (past : List Tick) → Alike p dem other past (suc (length past))

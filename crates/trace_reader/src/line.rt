@@ -3,9 +3,9 @@ ghost use Rattle.std.specs.Prelude.{◌≡◌, ◌≤◌, ℕ, length, IfOk};
 ghost use Rattle.trace_reader.specs.Fields.{parts};
 ghost use Rattle.trace_reader.specs.Items.{release_in, speed_in, run_in, idle_in, done_in, end_in, share_in, item_of, HasTask};
 
+use crate::TraceKind;
 use crate::fields::{fraction_in, position_in, task_in, whole_in, wide_in};
 use crate::parts::{cut, four, six, three, two};
-use crate::TraceKind;
 use dvs_base::{Name, Note, Version};
 
 /// A note, or in version 2 the energy of a task.

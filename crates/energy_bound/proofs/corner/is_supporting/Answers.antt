@@ -5,14 +5,24 @@ use Rattle.energy_bound.proofs.corner.is_supporting.Goals as goal
 
 pub is_above-requires-clause-slower : goal.is_above-requires-clause-slower
 is_above-requires-clause-slower c =
-    omega (arith, units-rise c.args.machine.now c.as_slice-entries.ensures.limits c.args.a c.args.b c.requires.order
-        c.requires.last, c.nth_corner-low.ensures.units, c.nth_corner-high.ensures.units)
+    omega (
+      arith,
+      units-rise c.args.machine.now c.as_slice-entries.ensures.limits c.args.a c.args.b c.requires.order
+          c.requires.last,
+      c.nth_corner-low.ensures.units,
+      c.nth_corner-high.ensures.units,
+    )
 
 pub is_above-requires-clause-cheaper : goal.is_above-requires-clause-cheaper
 is_above-requires-clause-cheaper c =
     let le : c.args.a ≤ c.args.b = omega arith in
-    omega (arith, cost-climb c.args.machine.now c.as_slice-entries.ensures.limits c.args.a c.args.b le
-        c.requires.last, c.nth_corner-low.ensures.cost, c.nth_corner-high.ensures.cost)
+    omega (
+      arith,
+      cost-climb c.args.machine.now c.as_slice-entries.ensures.limits c.args.a c.args.b le
+          c.requires.last,
+      c.nth_corner-low.ensures.cost,
+      c.nth_corner-high.ensures.cost,
+    )
 
 pub loop-k-preserved : goal.loop-k-preserved
 loop-k-preserved c =
@@ -26,5 +36,5 @@ loop-k-preserved c =
           c.nth_corner-high.result.units c.nth_corner-high.result.cost (corner_units m k) (corner_cost m k))
           c.loop-k.k c.loop-k.invariant.above
           (above-found _ _ _ _ _ _ _ _ _ _ _ _ refl refl refl refl c.nth_corner.ensures.units
-              c.nth_corner.ensures.cost (c.is_above.ensures.0 c.if-not-is_above.false));
+          c.nth_corner.ensures.cost (c.is_above.ensures.0 c.if-not-is_above.false));
     }

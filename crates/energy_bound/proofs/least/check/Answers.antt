@@ -20,7 +20,7 @@ returns-then-holds-clause-exact c =
 pub returns-then-holds-clause-least : goal.returns-then-holds-clause-least
 returns-then-holds-clause-least c = λ yes.
     certificate-least c.args.machine.now c.as_slice-entries.ensures.limits c.args.units c.args.ticks c.args.given.now
-        ((returns-then-holds-clause-exact c).0 yes)
+    ((returns-then-holds-clause-exact c).0 yes)
 
 pub returns-else-holds-clause-exact : goal.returns-else-holds-clause-exact
 returns-else-holds-clause-exact c =

@@ -11,5 +11,5 @@ returns-in-len1-up-clause-value t c =
     let p = c.args.plan.now in
     rw (c.spread_rate.ensures.value, c.spread_rates-after.ensures.value)
     (rates-first p (λ i. deadline p i (length past))
-        (wleft p (demand_of p c.args.demands.now.rows) past) c.args.later.now 0
-        (omega (arith, c.in-len1-up.len_at_least)))
+    (wleft p (demand_of p c.args.demands.now.rows) past) c.args.later.now 0
+    (omega (arith, c.in-len1-up.len_at_least)))

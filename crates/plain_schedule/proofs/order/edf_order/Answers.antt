@@ -15,8 +15,8 @@ returns-clause-order c =
     let sorted = c.sort_unstable.new.self.items in
     let moved = subst (λ (ks : List (ℕ × ℕ)). IsPermutation ks sorted) c.in_ok-keys.ensures c.sort_unstable.ensures.permutation in
     let numbers : map (λ k. k.1) c.deref.result.now ≡ in_order key (count p) =
-        ap (map (λ k. k.1)) c.deref.ensures.value
-        ∙ sorted_keys key (count p) sorted moved c.sort_unstable.ensures.sorted in
+    ap (map (λ k. k.1)) c.deref.ensures.value
+    ∙ sorted_keys key (count p) sorted moved c.sort_unstable.ensures.sorted in
     rw (← numbers) c.numbers_of.ensures
 
 pub returns-clause-below : goal.returns-clause-below

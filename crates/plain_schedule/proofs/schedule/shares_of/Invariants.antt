@@ -9,5 +9,5 @@ use Rattle.plain_schedule.proofs.schedule.shares_of.Given as goal
 abbrev pub invariant-loop-task : goal.invariant-loop-task
 invariant-loop-task l =
     l.shares.items ≡ list_below l.task (allotment (count l.plan)
-        (key_of l.plan.scheduler l.plan (length (reverse l.past))) l.units
-        (left l.plan (demand_of l.plan l.demands.rows) (reverse l.past)))
+    (key_of l.plan.scheduler l.plan (length (reverse l.past))) l.units
+    (left l.plan (demand_of l.plan l.demands.rows) (reverse l.past)))

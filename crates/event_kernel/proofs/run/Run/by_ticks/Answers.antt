@@ -20,8 +20,8 @@ returns-in_err-completed-clause-told g c =
     let so_far = c.loop-completed.invariant in
     let told = c.in_err-completed.ensures.told in
     at_error (Leads g.L.Listener.heard g.L.Listener.balked g.L.Listener.stops g.G.Governor.demand c.args.set.now
-        c.args.to.now c.work.new.to (notes_in c.args.self.now.state) (notes_after c.work.new.self.state))
-            c.from_residual.result c.from_residual.ensures.0
+    c.args.to.now c.work.new.to (notes_in c.args.self.now.state) (notes_after c.work.new.self.state))
+    c.from_residual.result c.from_residual.ensures.0
     (λ x. (λ a h. told.0 a (so_far.3 a h), omega (arith, so_far.2, told.1), omega (arith, so_far.2, told.2)))
 
 pub is_end-requires-clause-past : goal.is_end-requires-clause-past
@@ -31,7 +31,7 @@ is_end-requires-clause-past g c = past-next (bounds _ c.requires.set.admitted) c
 pub returns-then-is_end-clause-walked : goal.returns-then-is_end-clause-walked
 returns-then-is_end-clause-walked g c =
     walked-end (bounds _ c.requires.set.admitted) c.requires.set.low_ticks c.loop-completed.invariant.0
-        c.in_ok-completed.ensures.worked (sym c.is_end.ensures ∙ c.if-is_end.true)
+    c.in_ok-completed.ensures.worked (sym c.is_end.ensures ∙ c.if-is_end.true)
 
 pub returns-then-is_end-clause-told : goal.returns-then-is_end-clause-told
 returns-then-is_end-clause-told g c =
@@ -55,7 +55,7 @@ loop-completed-preserved g c =
     let so_far = c.loop-completed.invariant in
     let told = c.in_ok-completed.ensures.told in
     let on = walked-on (bounds _ c.requires.set.admitted) c.requires.set.low_ticks so_far.0
-        c.in_ok-completed.ensures.worked (sym c.is_end.ensures ∙ c.if-is_end.false) in (
+    c.in_ok-completed.ensures.worked (sym c.is_end.ensures ∙ c.if-is_end.false) in (
       on.0,
       c.in_ok-completed.ensures.current,
       omega (arith, so_far.2, told.1),

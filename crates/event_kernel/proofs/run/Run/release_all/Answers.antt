@@ -77,9 +77,9 @@ release_one-requires-clause-can g c =
     let task = c.in-Some.task in
     let d = c.in-Some.ensures.due in
     let at = at-due p dem past adm.some_period g.L.Listener.heard g.L.Listener.balked c.args.to.now i.0 task
-        c.loop-task.any st c.loop-task.to c.requires.at.within.none i.2 d in
+    c.loop-task.any st c.loop-task.to c.requires.at.within.none i.2 d in
     can-release p dem past adm.some_period g.L.Listener.heard g.L.Listener.balked c.args.to.now task c.loop-task.any
-        st c.loop-task.to at.0 d.below d.due adm (omega (arith, course-len m p dem t, c.requires.at.early))
+    st c.loop-task.to at.0 d.below d.due adm (omega (arith, course-len m p dem t, c.requires.at.early))
     (prior-done m p dem t c.args.self.now.state c.requires.at task d.below)
 
 pub release_one-requires-clause-room : goal.release_one-requires-clause-room
@@ -106,15 +106,15 @@ returns-in_err-release_one-clause-told g c =
     let task = c.in-Some.task in
     let d = c.in-Some.ensures.due in
     let at = at-due p dem past adm.some_period g.L.Listener.heard g.L.Listener.balked c.args.to.now i.0 task
-        c.loop-task.any st c.loop-task.to c.requires.at.within.none i.2 d in
+    c.loop-task.any st c.loop-task.to c.requires.at.within.none i.2 d in
     let told = c.in_err-release_one.ensures.told in
     at_error (Tells g.L.Listener.heard g.L.Listener.balked g.L.Listener.stops c.args.to.now c.release_one.new.to
-        (all_release_notes p dem t)) c.from_residual.result c.from_residual.ensures.0
+    (all_release_notes p dem t)) c.from_residual.result c.from_residual.ensures.0
     (λ x. (
       subst (λ n. HasBalked g.L.Listener.heard g.L.Listener.balked c.args.to.now (all_release_notes p dem n)
           c.release_one.new.to) (course-len m p dem t)
           (opens-balked p dem past adm.some_period g.L.Listener.heard g.L.Listener.balked c.args.to.now task
-              c.loop-task.any st c.loop-task.to at.0 d.below d.due c.release_one.new.to told.0),
+          c.loop-task.any st c.loop-task.to at.0 d.below d.due c.release_one.new.to told.0),
       omega (arith, told.1, i.6),
       omega (arith, told.2, i.6),
     ))
@@ -131,7 +131,7 @@ loop-task-preserved g c =
     let task = c.in-Some.task in
     let d = c.in-Some.ensures.due in
     let at = at-due p dem past adm.some_period g.L.Listener.heard g.L.Listener.balked c.args.to.now i.0 task
-        c.loop-task.any st c.loop-task.to c.requires.at.within.none i.2 d in
+    c.loop-task.any st c.loop-task.to c.requires.at.within.none i.2 d in
     let w = c.in_ok-release_one.ensures in (
       task + 1,
       omega (arith, d.below),
@@ -141,7 +141,7 @@ loop-task-preserved g c =
       w.of,
       opens-trace p dem past adm.some_period g.L.Listener.heard g.L.Listener.balked c.args.to.now task c.loop-task.any
           st c.loop-task.to at.0 d.below d.due c.args.self.now.trace c.loop-task.self.trace
-              c.release_one.new.self.trace
+          c.release_one.new.self.trace
           (i.5 ∙ ap (λ ns. with_notes c.args.self.now.trace ns) (sym at.1)) w.trace,
       omega (arith, i.6, w.told.1),
     )
@@ -169,9 +169,9 @@ returns-then-any-clause-trace g c =
     let i = c.loop-task.invariant in
     let st = c.loop-task.self.state in
     let at = at-end p dem past adm.some_period g.L.Listener.heard g.L.Listener.balked c.args.to.now i.0
-        c.loop-task.any st c.loop-task.to c.requires.at.within.none i.1 i.2 c.in_default.ensures.none in
+    c.loop-task.any st c.loop-task.to c.requires.at.within.none i.1 i.2 c.in_default.ensures.none in
     i.5 ∙ (ap (λ ns. with_notes c.args.self.now.trace ns) (sym at.1) ∙ ap
-        (λ n. with_notes c.args.self.now.trace (all_release_notes p dem n)) (course-len m p dem t))
+    (λ n. with_notes c.args.self.now.trace (all_release_notes p dem n)) (course-len m p dem t))
 
 pub returns-then-any-clause-state : goal.returns-then-any-clause-state
 returns-then-any-clause-state g c =
@@ -183,7 +183,7 @@ returns-then-any-clause-state g c =
     let i = c.loop-task.invariant in
     let st = c.loop-task.self.state in
     let at = at-end p dem past adm.some_period g.L.Listener.heard g.L.Listener.balked c.args.to.now i.0
-        c.loop-task.any st c.loop-task.to c.requires.at.within.none i.1 i.2 c.in_default.ensures.none in
+    c.loop-task.any st c.loop-task.to c.requires.at.within.none i.1 i.2 c.in_default.ensures.none in
     c.mark.ensures
     ∙ released-marked p dem past adm.some_period g.L.Listener.heard g.L.Listener.balked c.args.to.now (count p) st c.loop-task.to refl
     (subst (λ b. Releasing p dem past g.L.Listener.heard (count p) b st c.args.to.now c.loop-task.to) c.if-any.true at.0)
@@ -199,7 +199,7 @@ returns-then-any-clause-told g c =
     let i = c.loop-task.invariant in
     let st = c.loop-task.self.state in
     let at = at-end p dem past adm.some_period g.L.Listener.heard g.L.Listener.balked c.args.to.now i.0
-        c.loop-task.any st c.loop-task.to c.requires.at.within.none i.1 i.2 c.in_default.ensures.none in
+    c.loop-task.any st c.loop-task.to c.requires.at.within.none i.1 i.2 c.in_default.ensures.none in
     (subst (λ n. HasHeard g.L.Listener.heard c.args.to.now (all_release_notes p dem n) c.loop-task.to) (course-len m p dem t) at.0.told, i.6)
 
 pub returns-else-any-clause-trace : goal.returns-else-any-clause-trace
@@ -213,9 +213,9 @@ returns-else-any-clause-trace g c =
     let i = c.loop-task.invariant in
     let st = c.loop-task.self.state in
     let at = at-end p dem past adm.some_period g.L.Listener.heard g.L.Listener.balked c.args.to.now i.0
-        c.loop-task.any st c.loop-task.to c.requires.at.within.none i.1 i.2 c.in_default.ensures.none in
+    c.loop-task.any st c.loop-task.to c.requires.at.within.none i.1 i.2 c.in_default.ensures.none in
     i.5 ∙ (ap (λ ns. with_notes c.args.self.now.trace ns) (sym at.1) ∙ ap
-        (λ n. with_notes c.args.self.now.trace (all_release_notes p dem n)) (course-len m p dem t))
+    (λ n. with_notes c.args.self.now.trace (all_release_notes p dem n)) (course-len m p dem t))
 
 pub returns-else-any-clause-state : goal.returns-else-any-clause-state
 returns-else-any-clause-state g c =
@@ -227,9 +227,9 @@ returns-else-any-clause-state g c =
     let i = c.loop-task.invariant in
     let st = c.loop-task.self.state in
     let at = at-end p dem past adm.some_period g.L.Listener.heard g.L.Listener.balked c.args.to.now i.0
-        c.loop-task.any st c.loop-task.to c.requires.at.within.none i.1 i.2 c.in_default.ensures.none in
+    c.loop-task.any st c.loop-task.to c.requires.at.within.none i.1 i.2 c.in_default.ensures.none in
     released-unmarked p dem past adm.some_period g.L.Listener.heard g.L.Listener.balked c.args.to.now (count p) st
-        c.loop-task.to c.requires.at.within.none refl
+    c.loop-task.to c.requires.at.within.none refl
     (subst (λ b. Releasing p dem past g.L.Listener.heard (count p) b st c.args.to.now c.loop-task.to) c.if-any.false at.0)
 
 pub returns-else-any-clause-told : goal.returns-else-any-clause-told
@@ -243,7 +243,7 @@ returns-else-any-clause-told g c =
     let i = c.loop-task.invariant in
     let st = c.loop-task.self.state in
     let at = at-end p dem past adm.some_period g.L.Listener.heard g.L.Listener.balked c.args.to.now i.0
-        c.loop-task.any st c.loop-task.to c.requires.at.within.none i.1 i.2 c.in_default.ensures.none in
+    c.loop-task.any st c.loop-task.to c.requires.at.within.none i.1 i.2 c.in_default.ensures.none in
     (subst (λ n. HasHeard g.L.Listener.heard c.args.to.now (all_release_notes p dem n) c.loop-task.to) (course-len m p dem t) at.0.told, i.6)
 
 pub returns-then-any-clause-current : goal.returns-then-any-clause-current

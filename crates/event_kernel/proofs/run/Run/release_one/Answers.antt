@@ -21,7 +21,7 @@ returns-in_ok-tell-2-clause-state g c =
     let is : c.index.result.now ≡ row_at s i =
     read_row s c.state.inside.rows.items i c.index.result.now (ap (λ (v : StateOf). v.rows) c.state.view_is) c.requires.can.task c.index.ensures in
     let none : dem i ((row_at s i).job + 1) ≡ 0 = sym
-        (ap (λ (r : Row). dem i (r.job + 1)) is) ∙ (sym c.demand-complete.ensures ∙ c.if-complete.true) in
+    (ap (λ (r : Row). dem i (r.job + 1)) is) ∙ (sym c.demand-complete.ensures ∙ c.if-complete.true) in
     c.finish.ensures
     ∙ (ap (λ (v : StateOf). after_finish v i) c.release.ensures
     ∙ opened-done c.args.set.now.plan.now dem s i c.requires.can.task (eq-eqb (dem i ((row_at s i).job + 1)) 0 none))
@@ -53,7 +53,7 @@ returns-in_ok-tell-2-clause-trace g c =
     let is : c.index.result.now ≡ row_at s i =
     read_row s c.state.inside.rows.items i c.index.result.now (ap (λ (v : StateOf). v.rows) c.state.view_is) c.requires.can.task c.index.ensures in
     let none : dem i ((row_at s i).job + 1) ≡ 0 = sym
-        (ap (λ (r : Row). dem i (r.job + 1)) is) ∙ (sym c.demand-complete.ensures ∙ c.if-complete.true) in
+    (ap (λ (r : Row). dem i (r.job + 1)) is) ∙ (sym c.demand-complete.ensures ∙ c.if-complete.true) in
     c.in_ok-tell-2.ensures.trace
     ∙ (ap (λ (q : Trace). with_notes q (done ∷ [])) c.in_ok-tell.ensures.trace
     ∙ (with-append trace (release ∷ []) (done ∷ [])

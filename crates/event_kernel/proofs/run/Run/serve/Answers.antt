@@ -26,5 +26,5 @@ returns-else-ends-clause-current g c =
       counters = search rules;
       agenda = subst (λ (s : StateOf). Stands c.args.plan.now s run.agenda) (sym c.run.ensures)
           (stand-run c.args.plan.now run.state run.agenda.ready run.agenda.calendar c.requires.current.agenda
-              c.args.task c.args.units c.requires.can.task);
+          c.args.task c.args.units c.requires.can.task);
     }

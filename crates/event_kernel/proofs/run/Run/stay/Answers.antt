@@ -20,14 +20,14 @@ use Rattle.event_kernel.proofs.run.Run.stay.Goals as goal
 pub point-requires : goal.point-requires
 point-requires g c =
     subst (λ (x : Table). c.args.force.index < length x.points) (sym c.machine.ensures.machine)
-        (entry-in (bounds _ c.requires.set.admitted) c.requires.set.low_ticks c.requires.at)
+    (entry-in (bounds _ c.requires.set.admitted) c.requires.set.low_ticks c.requires.at)
 
 pub holder_of-holder-requires : goal.holder_of-holder-requires
 holder_of-holder-requires g c =
     first-in c.args.set.now.plan.now c.args.self.now.state c.first_ready-first.result
-        (of-plan (bounds _ c.requires.set.admitted) c.requires.set.low_ticks c.requires.at).rows
+    (of-plan (bounds _ c.requires.set.admitted) c.requires.set.low_ticks c.requires.at).rows
     (is-first c.args.set.now.plan.now c.args.self.now.state c.first_ready-first.result
-        c.first_ready-first.ensures.none c.first_ready-first.ensures.first)
+    c.first_ready-first.ensures.none c.first_ready-first.ensures.first)
 
 pub overflow_mul-units : goal.overflow_mul-units
 overflow_mul-units g c =
@@ -52,14 +52,14 @@ returns-in_err-enter-clause-told g c =
     let is = is-first c.args.set.now.plan.now st c.first_ready-first.result c.first_ready-first.ensures.none c.first_ready-first.ensures.first in
     let told = c.in_err-enter.ensures.told in
     let balks = subst (λ h. HasBalked g.L.Listener.heard g.L.Listener.balked c.args.to.now
-        (entering_notes c.args.set.now.plan.now st c.args.force.from c.args.force.index h c.args.self.now.trace)
-            c.enter.new.to) c.holder_of-holder.ensures told.0 in
+    (entering_notes c.args.set.now.plan.now st c.args.force.from c.args.force.index h c.args.self.now.trace)
+    c.enter.new.to) c.holder_of-holder.ensures told.0 in
     at_error (Leads g.L.Listener.heard g.L.Listener.balked g.L.Listener.stops g.G.Governor.demand c.args.set.now
-        c.args.to.now c.enter.new.to (notes_in st) (notes_in st)) c.from_residual.result c.from_residual.ensures.0
+    c.args.to.now c.enter.new.to (notes_in st) (notes_in st)) c.from_residual.result c.from_residual.ensures.0
     (λ x. (
       stays-balked g.L.Listener.heard g.L.Listener.balked (bounds _ c.requires.set.admitted) c.requires.set.low_ticks
           c.requires.at c.first_ready-first.result is c.quiet_ticks-quiet.ensures c.args.to.now c.enter.new.to
-              (omega (arith, c.if-quiet-eq0.false)) balks,
+          (omega (arith, c.if-quiet-eq0.false)) balks,
       told.1,
       told.2,
     ))
@@ -75,14 +75,14 @@ serve_first-requires-clause-can g c =
     ap (λ (q : Point). q.speed) c.point.ensures ∙ ap (λ (x : Table). speed_at x c.args.force.index) c.machine.ensures.machine in
     subst (λ f. IfSome c.first_ready-first.result (λ i. CanRun st i (c.quiet_ticks-quiet.result * f))) (sym speed)
     (can-run-first (bounds _ c.requires.set.admitted) c.requires.set.low_ticks c.requires.at
-        c.first_ready-first.result is c.quiet_ticks-quiet.ensures)
+    c.first_ready-first.result is c.quiet_ticks-quiet.ensures)
 
 pub returns-then-quiet-eq0-clause-last : goal.returns-then-quiet-eq0-clause-last
 returns-then-quiet-eq0-clause-last g c =
     let is = is-first c.args.set.now.plan.now c.args.self.now.state c.first_ready-first.result
-        c.first_ready-first.ensures.none c.first_ready-first.ensures.first in
+    c.first_ready-first.ensures.none c.first_ready-first.ensures.first in
     last-now (bounds _ c.requires.set.admitted) c.requires.set.low_ticks c.requires.at c.first_ready-first.result is
-        c.if-quiet-eq0.true c.quiet_ticks-quiet.ensures
+    c.if-quiet-eq0.true c.quiet_ticks-quiet.ensures
 
 -- units take no time
 gives-now : (s : StateOf) (first : Option ℕ) (units : ℕ) → (gives s first units).now ≡ s.now
@@ -128,16 +128,16 @@ module _ (g : Over) (c : goal.After-advance g) where
   tells =
       subst
       (λ h. HasHeard g.L.Listener.heard c.args.to.now
-          (entering_notes p st c.args.force.from e h c.args.self.now.trace) c.enter.new.to) c.holder_of-holder.ensures
-              c.in_ok-enter.ensures.told.0
+      (entering_notes p st c.args.force.from e h c.args.self.now.trace) c.enter.new.to) c.holder_of-holder.ensures
+      c.in_ok-enter.ensures.told.0
 
   step : InSpan g.G.Governor.demand c.args.set.now c.args.force c.advance.new.self c.serve_first.new.self.trace
       × ((a : g.row.L.Denot) → HasHeard g.L.Listener.heard a (notes_in st g.G.Governor.demand c.args.set.now)
-          c.args.to.now → HasHeard g.L.Listener.heard a
-              (notes_in c.advance.new.self g.G.Governor.demand c.args.set.now) c.enter.new.to)
+      c.args.to.now → HasHeard g.L.Listener.heard a
+      (notes_in c.advance.new.self g.G.Governor.demand c.args.set.now) c.enter.new.to)
   step =
       stays g.L.Listener.heard g.L.Listener.balked (bounds _ c.requires.set.admitted) c.requires.set.low_ticks
-          c.requires.at first is c.quiet_ticks-quiet.ensures c.args.to.now c.enter.new.to
+      c.requires.at first is c.quiet_ticks-quiet.ensures c.args.to.now c.enter.new.to
       (omega (arith, c.if-quiet-eq0.false)) tells c.advance.new.self c.serve_first.new.self.trace moved traces
 
 pub returns-clause-in_span : goal.returns-clause-in_span

@@ -23,7 +23,7 @@ use Rattle.event_kernel.proofs.run.Run.work.Goals.{then-completed, else-complete
 pub point-rest-requires : goal.point-rest-requires
 point-rest-requires g c =
     subst (λ (x : Table). c.args.force.index < length x.points) (sym c.machine.ensures.machine)
-        (entry-there (bounds _ c.requires.set.admitted) c.requires.at.work)
+    (entry-there (bounds _ c.requires.set.admitted) c.requires.at.work)
 
 pub loop-rest-init : goal.loop-rest-init
 loop-rest-init g c = (
@@ -65,16 +65,16 @@ returns-in_err-enter-clause-told g c =
     let told = c.in_err-enter.ensures.told in
     let se = c.min-share.ensures ∙ ap (λ u. min c.loop-rest.rest u) c.lacking-lacks.ensures in
     let balks = subst (λ h. HasBalked g.L.Listener.heard g.L.Listener.balked c.loop-rest.to
-        (entering_notes p st c.args.force.from c.args.force.index h c.loop-rest.self.trace) c.enter.new.to)
-            c.holder_of-holder.ensures told.0 in
+    (entering_notes p st c.args.force.from c.args.force.index h c.loop-rest.self.trace) c.enter.new.to)
+    c.holder_of-holder.ensures told.0 in
     at_error (Leads g.L.Listener.heard g.L.Listener.balked g.L.Listener.stops g.G.Governor.demand c.args.set.now
-        c.args.to.now c.enter.new.to (notes_in c.args.self.now.state) (notes_with c.args.self.now.state))
-            c.from_residual.result c.from_residual.ensures.0
+    c.args.to.now c.enter.new.to (notes_in c.args.self.now.state) (notes_with c.args.self.now.state))
+    c.from_residual.result c.from_residual.ensures.0
     (λ x. (
       λ a h. tick-balked g.L.Listener.heard g.L.Listener.balked g.G.Governor.demand p (jobs_of c.args.set.now)
           c.args.set.now.ticks c.args.self.now.state.now a c.enter.new.to c.requires.at.before_end
           (balked_at (bounds _ c.requires.set.admitted) c.requires.at.work c.loop-rest.invariant.0 c.enter.new.to
-              c.in-Some.task c.min-share.result c.loop-rest-test.true c.in-Some.ensures.first se balks a h),
+          c.in-Some.task c.min-share.result c.loop-rest-test.true c.in-Some.ensures.first se balks a h),
       omega (arith, told.1, c.loop-rest.invariant.3),
       omega (arith, told.2, c.loop-rest.invariant.3),
     ))
@@ -83,14 +83,14 @@ pub serve-requires-clause-can : goal.serve-requires-clause-can
 serve-requires-clause-can g c =
     let se = c.min-share.ensures ∙ ap (λ u. min c.loop-rest.rest u) c.lacking-lacks.ensures in
     (ready (bounds _ c.requires.set.admitted) c.requires.at.work c.loop-rest.invariant.0 c.in-Some.task
-        c.min-share.result c.in-Some.ensures.first se).0
+    c.min-share.result c.in-Some.ensures.first se).0
 
 pub loop-rest-smaller : goal.loop-rest-smaller
 loop-rest-smaller g c =
     let se = c.min-share.ensures ∙ ap (λ u. min c.loop-rest.rest u) c.lacking-lacks.ensures in
     let some : 0 < c.min-share.result =
     (ready (bounds _ c.requires.set.admitted) c.requires.at.work c.loop-rest.invariant.0 c.in-Some.task
-        c.min-share.result c.in-Some.ensures.first se).2 c.loop-rest-test.true in
+    c.min-share.result c.in-Some.ensures.first se).2 c.loop-rest-test.true in
     omega (arith, c.loop-rest-test.true, some)
 
 pub loop-rest-preserved : goal.loop-rest-preserved
@@ -106,14 +106,14 @@ loop-rest-preserved g c =
       | else-completed w ↦ w.completed-is ∙ sym (ap (λ b. b || whole) w.if-completed.false)
     ] in
     let tells = subst (λ h. HasHeard g.L.Listener.heard c.loop-rest.to
-        (entering_notes p st c.args.force.from c.args.force.index h trace) c.enter.new.to) c.holder_of-holder.ensures
-            c.in_ok-enter.ensures.told.0 in (
+    (entering_notes p st c.args.force.from c.args.force.index h trace) c.enter.new.to) c.holder_of-holder.ensures
+    c.in_ok-enter.ensures.told.0 in (
       turned (bounds _ c.requires.set.admitted) c.requires.at.work c.loop-rest.invariant.0 c.enter.new.to
           c.in-Some.task share whole c.if-completed.completed c.serve.new.self.state c.serve.new.self.trace
           c.loop-rest-test.true c.in-Some.ensures.first (c.min-share.ensures ∙ ap (λ u. min c.loop-rest.rest u) c.lacking-lacks.ensures)
           (ap (λ u. nat_eq share u) c.lacking-lacks.ensures) now_is tells c.serve.ensures.state
           (c.serve.ensures.trace ∙ (c.in_ok-enter.ensures.trace ∙ ap
-              (λ h. entered p st c.args.force.index h share trace) c.holder_of-holder.ensures)),
+          (λ h. entered p st c.args.force.index h share trace) c.holder_of-holder.ensures)),
       c.serve.ensures.current,
       c.serve.ensures.of,
       omega (arith, c.loop-rest.invariant.3, c.in_ok-enter.ensures.told.1),
@@ -136,8 +136,8 @@ returns-in_err-enter-2-clause-told g c =
       | then-loop-rest-test+in_default w ↦ inr w.in_default.ensures.none
     ] in
     at_error (Leads g.L.Listener.heard g.L.Listener.balked g.L.Listener.stops g.G.Governor.demand c.args.set.now
-        c.args.to.now next (notes_in c.args.self.now.state) (notes_with c.args.self.now.state))
-            c.from_residual-in_err-enter-2.result c.from_residual-in_err-enter-2.ensures.0
+    c.args.to.now next (notes_in c.args.self.now.state) (notes_with c.args.self.now.state))
+    c.from_residual-in_err-enter-2.result c.from_residual-in_err-enter-2.ensures.0
     (λ x. (
       λ a h. tick-balked g.L.Listener.heard g.L.Listener.balked g.G.Governor.demand p (jobs_of c.args.set.now)
           c.args.set.now.ticks c.args.self.now.state.now a next c.requires.at.before_end
@@ -160,23 +160,23 @@ module _ (g : Over) (c : goal.After-advance g) where
   moved same =
       c.advance.ensures ∙
       (ap (λ n. after_advance c.if-rest-gt0.self.state (n + 1)) (ap (λ (v : StateOf). v.now) c.state.view_is) ∙ ap
-          (λ (v : StateOf). after_advance v (c.args.self.now.state.now + 1)) same)
+      (λ (v : StateOf). after_advance v (c.args.self.now.state.now + 1)) same)
 
   step : Worked g.G.Governor.demand c.args.set.now c.args.self.now.state c.advance.new.self c.if-rest-gt0.self.trace c.loop-rest.completed
       × ((a : g.row.L.Denot) → HasHeard g.L.Listener.heard a
-          (notes_in c.args.self.now.state g.G.Governor.demand c.args.set.now) c.args.to.now → HasHeard
-              g.L.Listener.heard a (notes_with c.args.self.now.state g.G.Governor.demand c.args.set.now)
-                  c.if-rest-gt0.to)
+      (notes_in c.args.self.now.state g.G.Governor.demand c.args.set.now) c.args.to.now → HasHeard
+      g.L.Listener.heard a (notes_with c.args.self.now.state g.G.Governor.demand c.args.set.now)
+      c.if-rest-gt0.to)
       × (g.L.Listener.stops c.args.to.now ≤ g.L.Listener.stops c.if-rest-gt0.to)
   step =
       elim c.if-rest-gt0.branch [
         | then-rest-gt0+in_ok-enter-2 w ↦ (let trace = c.if-rest-gt0.self.trace in
             let r = finished (bounds _ c.requires.set.admitted) c.requires.at.work c.loop-rest.invariant.0
-                c.if-rest-gt0.to trace c.advance.new.self ends
+            c.if-rest-gt0.to trace c.advance.new.self ends
             (idled (bounds _ c.requires.set.admitted) c.requires.at.work c.loop-rest.invariant.0 c.if-rest-gt0.to trace w.if-rest-gt0.true
             (subst (λ (x : g.row.L.Denot). HasHeard g.L.Listener.heard c.loop-rest.to
-                (entering_notes c.args.set.now.plan.now c.loop-rest.self.state c.args.force.from c.args.force.index
-                    Nobody c.loop-rest.self.trace) x) (sym w.to-is) w.in_ok-enter-2.ensures.told.0)
+            (entering_notes c.args.set.now.plan.now c.loop-rest.self.state c.args.force.from c.args.force.index
+            Nobody c.loop-rest.self.trace) x) (sym w.to-is) w.in_ok-enter-2.ensures.told.0)
             (ap (λ (x : Run g.row.G.Denot). x.trace) w.self-is ∙ w.in_ok-enter-2.ensures.trace))
             (moved (ap (λ (x : Run g.row.G.Denot). x.state) w.self-is)) in (
               r.0,
@@ -207,7 +207,7 @@ current g c =
     elim c.if-rest-gt0.branch [
       | then-rest-gt0+in_ok-enter-2 w ↦ subst
           (λ (x : Run g.row.G.Denot). IsCurrent g.G.Governor.stands c.args.set.now.plan.now x) (sym w.self-is)
-              c.loop-rest.invariant.1
+          c.loop-rest.invariant.1
       | else-rest-gt0 w ↦ subst (λ (x : Run g.row.G.Denot). IsCurrent g.G.Governor.stands c.args.set.now.plan.now x)
           (sym w.self-is) c.loop-rest.invariant.1
     ]
