@@ -24,3 +24,20 @@ pub trait Probe: Drop {
         ensures seen { seen self.new ≡ told note.now (seen self.old) }
         ensures stay { result ≡ stay_of (seen self.new) };
 }
+
+// A boxed probe is the probe in the box.
+impl Probe for Box<dyn Probe> {
+    ghost seen = { λ b. (Probe-box b).seen b.value };
+
+    fn rule(&self) -> Rule {
+        (**self).rule()
+    }
+
+    fn tally(&self) -> u64 {
+        (**self).tally()
+    }
+
+    fn tell(&mut self, note: &Note) -> Stay {
+        (**self).tell(note)
+    }
+}

@@ -8,7 +8,7 @@ loop-at-preserved-in-Stay g c =
     omega (arith, c.loop-at-test.true, c.len.ensures, c.loop-at.probes.ok) in
     record {
       within = omega (arith, c.loop-at-test.true, c.len.ensures);
-      rest = stays-at _ c.args.note.now c.loop-at.probes.items c.loop-at.at c.tell_one.new.probe
+      rest = stays-at g.P.Probe.seen c.args.note.now c.loop-at.probes.items c.loop-at.at c.tell_one.new.probe
           c.index_mut.result.now within c.index_mut.ensures.value c.tell_one.ensures.seen
           (sym c.tell_one.ensures.stay ∙ c.in-Stay.is)
           ∙ c.loop-at.invariant.rest;
@@ -20,7 +20,7 @@ loop-at-preserved g c =
     omega (arith, c.loop-at-test.true, c.len.ensures, c.loop-at.probes.ok) in
     record {
       within = omega (arith, c.remove.ensures.len, c.loop-at-test.true, c.len.ensures);
-      rest = leaves-at _ c.args.note.now c.loop-at.probes.items c.remove.new.self.items c.loop-at.at
+      rest = leaves-at g.P.Probe.seen c.args.note.now c.loop-at.probes.items c.remove.new.self.items c.loop-at.at
           c.tell_one.new.probe c.index_mut.result.now within c.index_mut.ensures.value
           (sym c.tell_one.ensures.stay ∙ c.in-Leave.is) c.remove.ensures.items
           ∙ c.loop-at.invariant.rest;
