@@ -9,6 +9,8 @@ mod case;
 #[cfg(test)]
 mod choices;
 #[cfg(test)]
+mod command_words;
+#[cfg(test)]
 mod events;
 #[cfg(test)]
 mod example;
@@ -30,7 +32,5 @@ mod plans;
 mod refusals;
 #[cfg(test)]
 mod traces;
-#[cfg(test)]
-mod words;
 #[cfg(test)]
 mod workloads;
