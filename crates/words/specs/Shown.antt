@@ -24,10 +24,11 @@ shown_given g = record {
   format = g.format;
 }
 
--- what was read so far, or why it was refused
+-- what was read so far, with the texts of names
 abbrev pub shown_reading : Reading → ReadingOf
 shown_reading r = record { given = shown_given r.given; waits = r.waits }
 
+-- the same, or why a word was refused
 abbrev pub reading_answer : Result Reading WordFault → Result ReadingOf WordFault
 reading_answer (Ok r) = Ok (shown_reading r)
 reading_answer (Err e) = Err e
