@@ -1,13 +1,13 @@
 -- What the answers of exact admission under RM say.
 use Rattle.std.specs.Prelude.{◌≡◌, ℕ, ◌*◌, ◌<◌, false, List, slice_index}
 use Rattle.grid_fraction.specs.Numbers.{list_below}
+use Rattle.offsets.specs.Offsets.{IsFirstOffset}
 use Rattle.sched_model.specs.Plan.{Plan, count, period, offset, top_speed}
 use Rattle.governor.specs.Rm.{level_work_in}
 use Rattle.rm_response_laws.specs.Responses.{response, HasNoOffsets}
 use Rattle.rm_response_laws.specs.FirstJobs.{is_first_done, IsFirstDoneAt}
 use Rattle.rm_response.specs.declared.response.ResponseFault.{ResponseFault}
 use Rattle.rm_response.specs.declared.response.ResponseFault.TheVariants.{Offset, Misses, NoMemory}
-use Rattle.rm_response.specs.Offsets.{IsFirstOffset}
 use Rattle.rm_response.specs.Late.{IsFirstLate}
 
 -- the responses of the tasks, in file order

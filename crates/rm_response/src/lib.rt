@@ -7,7 +7,6 @@
 #![tactic(auto)]
 
 mod late;
-mod offset;
 mod response;
 #[cfg(test)]
 mod tests;

@@ -8,10 +8,10 @@ ghost use Rattle.rm_response_laws.specs.FirstJobs.{AlwaysMeets};
 ghost use Rattle.rm_response.specs.Denials.{responses, AreLeast, misses_at, IsResponseDenial, IsMissed};
 
 use crate::late::first_late;
-use crate::offset::first_offset;
 use crate::work::{level_work_in, response_of};
 use dvs_base::NoMemory;
 use freq_table::Machine;
+use offsets::first_offset;
 use std::alloc::Global;
 use std::marker::Model;
 use task_model::TaskSet;

@@ -1,0 +1,146 @@
+-- One read of a record, as the records that are left.
+use Rattle.std.proofs.Common.{◌≡◌, ◌⊎◌, inl, inr, ◌<◌, ◌≤◌, ℕ, zero, suc, ◌+◌, List, [], ◌∷◌, ◌++◌, length, Bool, true, false, Option, Some, None, refl, ap, sym, ◌∙◌, arith, Bor, add-one, subst}
+use Rattle.std.specs.Prelude.{if◌then◌else◌, IsSome}
+use Rattle.csv.specs.Machine.{next_record, step, is_end, fields_after, field_after, ends_at_end, Read}
+use Rattle.csv.specs.Reading.{Reached, records, records_from, records_next, strip_bom, is_bom, default_config, ReadRecord}
+use Rattle.csv.specs.declared.parser.Config.{Config}
+use Rattle.csv.specs.declared.parser.State.{State}
+use Rattle.csv.specs.declared.parser.State.TheVariants as st
+use Rattle.csv.proofs.ReadFacts.{rows-end, rows-more}
+use Rattle.csv_text.specs.Records.{TextReader, IsPlain, records_left, records_in, unread}
+
+-- a record takes a byte, or ends the text
+abbrev Shrinks : List ℕ → Option Read → Type 0
+Shrinks xs None = Unit {0}
+Shrinks xs (Some p) = (length p.2 < length xs) ⊎ ((p.1 ≡ st.StartRecord) × (p.2 ≡ []))
+
+at_end : (b : Bool) (f : List (List ℕ)) (xs : List ℕ) → Shrinks xs (if b then Some (f, st.StartRecord, []) else None)
+at_end true f xs = inr (refl, refl)
+at_end false f xs = tt
+
+further : (c : ℕ) (rest : List ℕ) (o : Option Read) → Shrinks rest o → Shrinks (c ∷ rest) o
+further c rest None h = tt
+further c rest (Some p) (inl h) = inl (omega arith)
+further c rest (Some p) (inr h) = inr h
+
+by_end : (b : Bool) (c : ℕ) (rest : List ℕ) (f : List (List ℕ)) (s : State) (o : Option Read) → Shrinks rest o
+    → Shrinks (c ∷ rest) (if b then Some (f, s, rest) else o)
+by_end true c rest f s o h = inl (omega arith)
+by_end false c rest f s o h = further c rest o h
+
+next_record-shrinks : (cfg : Config) (s : State) (fields : List (List ℕ)) (field xs : List ℕ)
+    → Shrinks xs (next_record cfg s fields field xs)
+unfolding next_record
+next_record-shrinks cfg s fields field [] = at_end (ends_at_end s) (fields ++ (field ∷ [])) []
+next_record-shrinks cfg s fields field (c ∷ rest) =
+    let stepped = step cfg s c in
+    by_end (is_end stepped.1) c rest _ _ _
+    (next_record-shrinks cfg stepped.0 (fields_after stepped.1 fields field) (field_after stepped.1 c field) rest)
+
+nothing : (cfg : Config) → next_record cfg st.StartRecord [] [] [] ≡ None
+unfolding next_record
+nothing cfg = refl
+
+none_left : (cfg : Config) (n : ℕ) → records_from cfg n st.StartRecord [] ≡ []
+unfolding records_from
+none_left cfg zero = refl
+none_left cfg (suc n) = rw (nothing cfg) refl
+
+-- the records after one more, whatever numbers bound them
+more : (cfg : Config) (xs : List ℕ) (n m : ℕ) (p : Read) → Shrinks xs (Some p) → length xs < suc n → length xs < suc m
+    → (length p.2 < n → length p.2 < m → records_from cfg n p.1 p.2 ≡ records_from cfg m p.1 p.2)
+    → records_from cfg n p.1 p.2 ≡ records_from cfg m p.1 p.2
+more cfg xs n m p (inl less) h k same = same (omega arith) (omega arith)
+more cfg xs n m p (inr last) h k same = rw (last.0, last.1) (none_left cfg n ∙ sym (none_left cfg m))
+
+next_same : (cfg : Config) (xs : List ℕ) (n m : ℕ) (o : Option Read) → Shrinks xs o → length xs < suc n
+    → length xs < suc m
+    → ((p : Read) → length p.2 < n → length p.2 < m → records_from cfg n p.1 p.2 ≡ records_from cfg m p.1 p.2)
+    → records_next (records_from cfg n) o ≡ records_next (records_from cfg m) o
+next_same cfg xs n m None s h k same = refl
+next_same cfg xs n m (Some p) s h k same = ap (λ t. p.0 ∷ t) (more cfg xs n m p s h k (same p))
+
+-- any bound above the length of the text gives all its records
+records_from-bound : (cfg : Config) (n m : ℕ) (s : State) (xs : List ℕ) → length xs < n → length xs < m
+    → records_from cfg n s xs ≡ records_from cfg m s xs
+unfolding records_from
+records_from-bound cfg zero m s xs h k = absurd (omega arith)
+records_from-bound cfg (suc n) zero s xs h k = absurd (omega arith)
+records_from-bound cfg (suc n) (suc m) s xs h k =
+    next_same cfg xs n m (next_record cfg s [] [] xs) (next_record-shrinks cfg s [] [] xs) h k
+    (λ p. records_from-bound cfg n m p.1 p.2)
+
+-- the records of a text that has one, and of a text that has none
+records_in-Some : (s : State) (xs : List ℕ) (p : Read) → next_record default_config s [] [] xs ≡ Some p
+    → records_in s (Some xs) ≡ p.0 ∷ records_in p.1 (Some p.2)
+unfolding records_from
+records_in-Some s xs p e =
+    let shrinks : Shrinks xs (Some p) = subst (Shrinks xs) e (next_record-shrinks default_config s [] [] xs) in
+    rw (add-one (length xs), e) (ap (λ t. p.0 ∷ t) (by shrinks))
+  where
+    by : Shrinks xs (Some p)
+        → records_from default_config (length xs) p.1 p.2 ≡ records_from default_config (length p.2 + 1) p.1 p.2
+    by (inl less) = records_from-bound default_config (length xs) (length p.2 + 1) p.1 p.2 less (omega arith)
+    by (inr last) = rw (last.0, last.1) (none_left default_config (length xs) ∙ sym (none_left default_config 1))
+
+records_in-None : (s : State) (xs : List ℕ) → next_record default_config s [] [] xs ≡ None → records_in s (Some xs) ≡ []
+unfolding records_from
+records_in-None s xs e = rw (add-one (length xs), e) refl
+
+one_reached : (s s2 : State) (xs z : List ℕ) (f : List (List ℕ)) → Reached default_config s xs (f ∷ []) s2 z
+    → records_in s (Some xs) ≡ f ∷ records_in s2 (Some z)
+unfolding Reached
+one_reached s s2 xs z f h = records_in-Some s xs h.0 h.1 ∙ rw (h.2, h.3.0, h.3.1) refl
+
+reader_took : (a b : TextReader) (f : List (List ℕ)) (known : Option (List ℕ)) → a.config ≡ default_config
+    → unread a ≡ known → IsSome known → ReadRecord (λ s. Some s.now) a b true f
+    → IsSome (unread b) × (records_in a.state known ≡ f ∷ records_in b.state (unread b))
+unfolding Reached
+reader_took a b f None config e h r = absurd (cc)
+reader_took a b f (Some y) config e h r =
+    let m = rows-more (λ (s : Bor (List ℕ)). Some s.now) a b f default_config a.state y y [] config e (refl, refl) r in
+    rw m.1 (refl, one_reached a.state b.state y m.0 f m.2)
+
+reader_ended : (a b : TextReader) (f : List (List ℕ)) (known : Option (List ℕ)) → a.config ≡ default_config
+    → unread a ≡ known → IsSome known → ReadRecord (λ s. Some s.now) a b false f → records_in a.state known ≡ []
+reader_ended a b f None config e h r = refl
+reader_ended a b f (Some y) config e h r =
+    records_in-None a.state y (rows-end (λ (s : Bor (List ℕ)). Some s.now) a b f default_config y config e r)
+
+-- a record that is read is the first of those that were left
+pub left-read : (a b : TextReader) (f : List (List ℕ)) → IsPlain a → ReadRecord (λ s. Some s.now) a b true f
+    → records_left a ≡ f ∷ records_left b
+left-read a b f h r = (reader_took a b f (unread a) h.config refl h.known r).1
+
+-- where no record is read, none was left
+pub left-ended : (a b : TextReader) (f : List (List ℕ)) → IsPlain a → ReadRecord (λ s. Some s.now) a b false f
+    → records_left a ≡ []
+left-ended a b f h r = reader_ended a b f (unread a) h.config refl h.known r
+
+-- a text has at most one record a byte, and one more
+next_few : (n : ℕ) (cfg : Config) (o : Option Read) → ((p : Read) → length (records_from cfg n p.1 p.2) ≤ n)
+    → length (records_next (records_from cfg n) o) ≤ suc n
+next_few n cfg None few = omega arith
+next_few n cfg (Some p) few = let h = few p in omega arith
+
+records_from-few : (cfg : Config) (n : ℕ) (s : State) (xs : List ℕ) → length (records_from cfg n s xs) ≤ n
+unfolding records_from
+records_from-few cfg zero s xs = omega arith
+records_from-few cfg (suc n) s xs = next_few n cfg (next_record cfg s [] [] xs) (λ p. records_from-few cfg n p.1 p.2)
+
+strip_bom-shorter : (xs : List ℕ) → length (strip_bom xs) ≤ length xs
+unfolding strip_bom
+strip_bom-shorter [] = omega arith
+strip_bom-shorter (a ∷ []) = omega arith
+strip_bom-shorter (a ∷ b ∷ []) = omega arith
+strip_bom-shorter (a ∷ b ∷ c ∷ rest) = by (is_bom a b c)
+  where
+    by : (m : Bool) → length (if m then rest else a ∷ b ∷ c ∷ rest) ≤ length (a ∷ b ∷ c ∷ rest)
+    by true = omega arith
+    by false = omega arith
+
+pub records-few : (text : List ℕ) → length (records default_config (strip_bom text)) ≤ length text + 1
+records-few text =
+    let few = records_from-few default_config (length (strip_bom text) + 1) st.StartRecord (strip_bom text) in
+    let shorter = strip_bom-shorter text in
+    omega arith

@@ -1,0 +1,49 @@
+//! The records of a CSV text in memory, one after another.
+//!
+//! A text is read with the CSV reader's defaults, and records may have any number of fields. Callers may rely on
+//! `records_left`: what a reader has left are the records of the text by the reader's own specification, and each call
+//! of `next_record` takes the first of them. One record is used again for each row, so no text is kept twice.
+#![tactic(auto)]
+
+ghost use Rattle.std.specs.Prelude.{◌≡◌, ◌≤◌, ◌+◌, ◌∷◌, [], Ok, true, false, length, IfOk};
+ghost use Rattle.csv.specs.Reading.{default_config, records, strip_bom, error_kind, stops_reader};
+ghost use Rattle.csv.specs.Records.{fields_of};
+ghost use Rattle.csv_text.specs.Records.{IsPlain, records_left};
+
+use csv::{ByteRecord, Error, Reader, ReaderBuilder};
+use dvs_base::NoMemory;
+use std::alloc::Global;
+
+/// A reader of the records of a text, of any number of fields, and the first one like the others. It fails only where
+/// memory runs out. It has a header row beforehand, an empty one, so that it keeps no copy of the first record.
+pub fn text_reader(alloc: Global, text: &[u8]) -> Result<Reader<&[u8]>, NoMemory>
+    ensures plain { IfOk result (λ reader. IsPlain reader) }
+    ensures all { IfOk result (λ reader. records_left reader ≡ records default_config (strip_bom text.now)) }
+    ensures few { IfOk result (λ reader. length (records_left reader) ≤ length text.now + 1) }
+{
+    let mut reader = ReaderBuilder::new().flexible(true).from_reader(alloc, text);
+    match reader.set_byte_headers(ByteRecord::new(alloc)) {
+        Ok(()) => Ok(reader),
+        Err(_) => Err(NoMemory),
+    }
+}
+
+// Why a record of a text in memory can't be had: of the errors of csv, those of the bytes don't come.
+fn no_record(error: Error) -> NoMemory
+    requires { stops_reader (error_kind error) ≡ true }
+{
+    NoMemory
+}
+
+/// Reads the fields of the next record, and answers whether there is one. It fails only where memory runs out.
+pub fn next_record(reader: &mut Reader<&[u8]>, fields: &mut ByteRecord) -> Result<bool, NoMemory>
+    requires { IsPlain reader.old }
+    ensures some { result ≡ Ok true → records_left reader.old ≡ fields_of fields.new ∷ records_left reader.new }
+    ensures plain { result ≡ Ok true → IsPlain reader.new }
+    ensures none { result ≡ Ok false → records_left reader.old ≡ [] }
+{
+    match reader.read_byte_record(fields) {
+        Ok(found) => Ok(found),
+        Err(e) => Err(no_record(e)),
+    }
+}

@@ -1,0 +1,81 @@
+-- What the lowest entry that meets the constrained demand does.
+use Rattle.std.proofs.Common.{◌≡◌, inl, inr, ℕ, ◌*◌, ◌^◌, ◌<◌, ◌≤◌, Bool, true, false, length, refl, sym, ◌∙◌, ap, subst, arith, true≢false}
+use Rattle.std.proofs.Math.Nat.{mul-le-mul_right}
+use Rattle.std.proofs.lemmas.Bool.{cases_lt, le-leb, leb-true}
+use Rattle.grid_fraction.specs.declared.Frac.{Frac}
+use Rattle.grid_fraction.specs.Fraction.{meets}
+use Rattle.grid_fraction.proofs.Searches.{any_below-none, any_below-false}
+use Rattle.freq_table.specs.declared.machine.Pick.{Pick}
+use Rattle.freq_table.specs.Tables.{Table, IsTable, speed_at, last_entry, highest_speed, lowest_entry, lowest_pick}
+use Rattle.freq_table.proofs.Chosen.{below_highest, lowest_within, lowest-most, picked_meets}
+use Rattle.sched_model.specs.Plan.{Plan, top_speed}
+use Rattle.sched_model.specs.Admission.{IsWithinLimits}
+use Rattle.edf_demand_laws.specs.Constrained.{IsConstrained}
+use Rattle.edf_demand_laws.specs.ProcessorDemand.{IsConstrainedDemand}
+use Rattle.edf_demand_laws.proofs.Deciding.{meets-always, misses-at-worst}
+use Rattle.edf_demand.specs.Answers.{IsTested, IsLowestSpeed, IsOverload}
+
+-- where the highest speed doesn't meet a demand, no entry does
+none-meets : (m : Table) → IsTable m → (d : Frac) → highest_speed m * d.den < d.num → (lowest_pick m d).met ≡ false
+none-meets m table d over =
+    any_below-none (length m.points) (λ e. meets (speed_at m e) d) (λ e lt. go (meets (speed_at m e) d) e lt refl)
+  where
+    go : (b : Bool) → (e : ℕ) → e < length m.points → meets (speed_at m e) d ≡ b → meets (speed_at m e) d ≡ false
+    go false e lt is = is
+    go true e lt is =
+        let fits = leb-true d.num (speed_at m e * d.den) is in
+        absurd (omega (arith, over, fits, mul-le-mul_right d.den (below_highest m table e lt)))
+
+-- a demand that is met is met by the highest speed
+met-highest : (m : Table) → IsTable m → (d : Frac) → (lowest_pick m d).met ≡ true → d.num ≤ highest_speed m * d.den
+met-highest m table d met = elim (cases_lt (highest_speed m * d.den) d.num) [
+  | inl over ↦ absurd (true≢false (sym met ∙ none-meets m table d over))
+  | inr within ↦ within
+]
+
+module _ (p : Plan) (lim : IsWithinLimits p) (relative : ℕ → ℕ) (con : IsConstrained p relative) (demand : Frac)
+    (is : IsConstrainedDemand p relative demand) where
+  pub lowest-speed : (e : ℕ) → lowest_pick p.machine demand ≡ (record { index = e; met = true })
+      → IsLowestSpeed p relative (record { demand = demand; point = e })
+  lowest-speed e pick =
+      let here : lowest_entry p.machine demand ≡ e = ap (λ (x : Pick). x.index) pick in
+      let met : (lowest_pick p.machine demand).met ≡ true = ap (λ (x : Pick). x.met) pick in
+      let top = met-highest p.machine lim.machine demand met in
+      let does : demand.num ≤ speed_at p.machine e * demand.den =
+      subst (λ (k : ℕ). demand.num ≤ speed_at p.machine k * demand.den) here
+      (picked_meets p.machine lim.machine demand top) in
+      record {
+        meets = meets-always p lim relative con demand is (speed_at p.machine e) does;
+        lower = λ k lt.
+            let within = lowest_within p.machine demand lim.machine.some in
+            misses-at-worst p lim relative con demand is k (omega (arith, within, here))
+            (elim (cases_lt (speed_at p.machine k * demand.den) demand.num) [
+              | inl over ↦ over
+              | inr fits ↦ absurd (omega (arith, lowest-most p.machine demand k fits, here))
+            ]);
+      }
+
+  last-within : last_entry p.machine < length p.machine.points
+  last-within = let some : 1 ≤ length p.machine.points = lim.machine.some in omega arith
+
+  pub overload : IsTested p → (cap : ℕ) → cap ≡ top_speed p * demand.den → (lowest_pick p.machine demand).met ≡ false
+      → IsOverload p relative demand.den demand.num cap
+  overload tested cap cap_is met =
+      let each : ℕ → Bool = λ e. meets (speed_at p.machine e) demand in
+      let over : top_speed p * demand.den < demand.num = (elim (cases_lt (top_speed p * demand.den) demand.num) [
+        | inl more ↦ more
+        | inr fits ↦ absurd (
+            let off : each (last_entry p.machine) ≡ false =
+            any_below-false (length p.machine.points) each met (last_entry p.machine) last-within in
+            true≢false (sym (le-leb demand.num (top_speed p * demand.den) fits) ∙ off))
+      ]) in
+      record {
+        tested = tested;
+        demand = is;
+        cap_is = cap_is;
+        over = omega (arith, over, cap_is);
+        misses = misses-at-worst p lim relative con demand is (last_entry p.machine) last-within over;
+      }
+
+  pub low-den : demand.den ≤ 2 ^ 48
+  low-den = omega (arith, is.within, lim.tasks.hyper)

@@ -1,0 +1,6 @@
+pub mod Limits
+pub mod GivenDeadlines
+pub mod Taking
+pub mod NextDeadline
+pub mod Walking
+pub mod Answering

@@ -1,0 +1,4 @@
+pub mod Deadlines
+pub mod DeadlineFile
+pub mod Walk
+pub mod Answers

@@ -1,0 +1,83 @@
+// The test, and its answers.
+ghost use Rattle.std.specs.Prelude.{◌≡◌, ◌≤◌, true, IfOk, OnOk, IfErr, slice_index};
+ghost use Rattle.dvs_base.specs.declared.kind.Scheduler.TheVariants.{Edf};
+ghost use Rattle.freq_table.specs.Tables.{lowest_pick};
+ghost use Rattle.sched_model.specs.Plan.{plan_of};
+ghost use Rattle.edf_demand_laws.specs.ProcessorDemand.{IsConstrainedDemand};
+ghost use Rattle.edf_demand.specs.Deadlines.{AreFor};
+ghost use Rattle.edf_demand.specs.Answers.{IsTested, IsLowestSpeed, IsConstrainDenial};
+
+use crate::Deadlines;
+use crate::walk::{constrained_demand, hyper_jobs};
+use dvs_base::MOST_JOBS;
+use freq_table::Machine;
+use grid_fraction::Frac;
+use offsets::first_offset;
+use std::alloc::Global;
+use task_model::TaskSet;
+
+/// The demand that decides, in work units per tick and not reduced, and the lowest entry of the machine that meets it.
+#[derive(Clone, Copy, Debug, PartialEq, Eq)]
+pub struct Constrained {
+    pub demand: Frac,
+    pub point: u32,
+}
+
+/// Why no speed is found.
+#[derive(Clone, Copy, Debug, PartialEq, Eq)]
+pub enum ConstrainFault {
+    /// `task` is first released after tick 0; it is the first such in file order. Tasks count from 0.
+    Offset { task: u32 },
+    /// No task has an offset, and a hyperperiod has `count` jobs, more than 100000.
+    TooManyJobs { count: u64 },
+    /// Neither of these, and the work due within `at` ticks, `num` work units, exceeds what the highest speed does in
+    /// them, `cap` work units.
+    Denied { at: u64, num: u128, cap: u128 },
+    /// Memory ran out. No task has an offset, a hyperperiod has at most 100000 jobs, and nothing is said of the test.
+    NoMemory,
+}
+
+/// The lowest speed at which tasks with these deadlines meet them all under EDF: the lowest that meets the greatest
+/// processor demand per tick, over the absolute deadlines of one hyperperiod; of equal ones the earliest (Baruah,
+/// Rosier and Howell 1990). `Offset` exactly where a task is first released after tick 0; else `TooManyJobs` exactly
+/// where a hyperperiod has more than 100000 jobs; and else, unless memory ran out, `Denied` exactly where no entry
+/// meets the demand.
+pub fn constrain(
+    alloc: Global,
+    tasks: &TaskSet,
+    deadlines: &Deadlines,
+    machine: &Machine,
+) -> Result<Constrained, ConstrainFault>
+    requires { AreFor tasks.now deadlines.now }
+    ensures tested { OnOk result (IsTested (plan_of tasks.now machine.now Edf)) }
+    ensures demand { IfOk result (λ c.
+        IsConstrainedDemand (plan_of tasks.now machine.now Edf) (slice_index deadlines.now) c.demand) }
+    ensures lowest { IfOk result (λ c. lowest_pick machine.now c.demand ≡ record { index = c.point; met = true }) }
+    ensures speed { IfOk result (IsLowestSpeed (plan_of tasks.now machine.now Edf) (slice_index deadlines.now)) }
+    ensures denial { IfErr result (IsConstrainDenial (plan_of tasks.now machine.now Edf) (slice_index deadlines.now)) }
+{
+    let _tasks = tasks.as_slice();
+    let _entries = machine.as_slice();
+    if let Some(task) = first_offset(tasks) {
+        return Err(ConstrainFault::Offset { task });
+    }
+    let count = hyper_jobs(tasks);
+    if count > MOST_JOBS {
+        return Err(ConstrainFault::TooManyJobs { count });
+    }
+    let Ok(demand) = constrained_demand(alloc, tasks, deadlines.ticks(), machine) else {
+        return Err(ConstrainFault::NoMemory);
+    };
+    let pick = machine.lowest(demand);
+    if pick.met {
+        return Ok(Constrained {
+            demand,
+            point: pick.index,
+        });
+    }
+    Err(ConstrainFault::Denied {
+        at: demand.den as u64,
+        num: demand.num,
+        cap: u128::from(machine.top()) * demand.den,
+    })
+}

@@ -1,0 +1,215 @@
+// Deadline files.
+ghost use Rattle.std.specs.Prelude.{ℕ, codes, ◌≡◌, ◌≤◌, ◌<◌, ◌^◌, ◌+◌, ◌∷◌, [], Ok, Some, true, false, length, option_map, IfOk, IfErr, OnOk};
+ghost use Rattle.csv.specs.Records.{fields_of};
+ghost use Rattle.csv_text.specs.Records.{IsPlain, records_left};
+ghost use Rattle.dvs_base.specs.Checks.{IsUnlessMemory};
+ghost use Rattle.task_model.specs.Tasks.{task_at};
+ghost use Rattle.edf_demand.specs.declared.fault.DeadlineFault.TheVariants as fault;
+ghost use Rattle.edf_demand.specs.Deadlines.{AreFor};
+ghost use Rattle.edf_demand.specs.DeadlineFile.{two_of, is_header, row_of, with_row, given_from, none_given, all_deadlines, after_header, given_in, deadline_file, AreGiven};
+
+use crate::{DeadlineFault, Deadlines};
+use csv::{ByteRecord, Reader};
+use csv_text::{next_record, text_reader};
+use dvs_base::{NoMemory, Short, whole};
+use std::alloc::Global;
+use task_model::TaskSet;
+
+// The fields of a record of two.
+fn two_fields(fields: &ByteRecord) -> Option<(&[u8], &[u8])>
+    ensures { option_map (λ p. (p.0.now, p.1.now)) result ≡ two_of (fields_of fields.now) }
+{
+    if fields.len() != 2 {
+        return None;
+    }
+    let a = fields.get(0).unwrap();
+    let b = fields.get(1).unwrap();
+    Some((a, b))
+}
+
+fn is_header(fields: &ByteRecord) -> bool
+    ensures { result ≡ is_header (fields_of fields.now) }
+{
+    match two_fields(fields) {
+        Some((a, b)) => a == b"task".as_slice() && b == b"deadline".as_slice(),
+        None => false,
+    }
+}
+
+// A row read alone: its task and its deadline.
+fn read_row(tasks: &TaskSet, row: u64, fields: &ByteRecord) -> Result<(u32, u64), DeadlineFault>
+    ensures row { result ≡ row_of tasks.now row (fields_of fields.now) }
+    ensures task { IfOk result (λ r. r.0 < length tasks.now) }
+    ensures some { IfOk result (λ r. 1 ≤ r.1) }
+    ensures within { IfOk result (λ r. r.1 ≤ (task_at tasks.now r.0).period) }
+{
+    let (name, deadline) = match two_fields(fields) {
+        Some(two) => two,
+        None => {
+            return Err(DeadlineFault::Fields {
+                row,
+                count: fields.len() as u64,
+            });
+        }
+    };
+    let task = match tasks.find(name) {
+        Some(task) => task,
+        None => {
+            return Err(DeadlineFault::UnknownTask {
+                row,
+                name: Short::of(name),
+            });
+        }
+    };
+    let deadline = match whole(deadline) {
+        Some(deadline) => deadline,
+        None => return Err(DeadlineFault::BadNumber { row }),
+    };
+    if deadline == 0 || deadline > tasks.task(task).period {
+        return Err(DeadlineFault::Range { row });
+    }
+    Ok((task, deadline))
+}
+
+// Adds a row, after the check for an earlier one of the task.
+fn add_row(
+    given: &mut [Option<u64>],
+    tasks: &TaskSet,
+    row: u64,
+    task: u32,
+    deadline: u64,
+) -> Result<(), DeadlineFault>
+    requires given { AreGiven tasks.now given.old }
+    requires task { task < length tasks.now }
+    requires some { 1 ≤ deadline }
+    requires within { deadline ≤ (task_at tasks.now task).period }
+    ensures row { IsUnlessMemory DeadlineFault.NoMemory (λ _. given.new) result (with_row given.old row task deadline) }
+    ensures given { AreGiven tasks.now given.new }
+{
+    if given[task as usize].is_some() {
+        return Err(DeadlineFault::Repeated { row, task });
+    }
+    given[task as usize] = Some(deadline);
+    Ok(())
+}
+
+// Reads the fields of the next record. False where there is none.
+fn next_row(reader: &mut Reader<&[u8]>, fields: &mut ByteRecord) -> Result<bool, DeadlineFault>
+    requires { IsPlain reader.old }
+    ensures some { result ≡ Ok true → records_left reader.old ≡ fields_of fields.new ∷ records_left reader.new }
+    ensures plain { result ≡ Ok true → IsPlain reader.new }
+    ensures none { result ≡ Ok false → records_left reader.old ≡ [] }
+    ensures err { IfErr result (λ e. e ≡ fault.NoMemory) }
+{
+    match next_record(reader, fields) {
+        Ok(found) => Ok(found),
+        Err(_) => Err(DeadlineFault::NoMemory),
+    }
+}
+
+// Takes the header.
+fn read_header(reader: &mut Reader<&[u8]>, fields: &mut ByteRecord) -> Result<(), DeadlineFault>
+    requires { IsPlain reader.old }
+    ensures left { IsUnlessMemory DeadlineFault.NoMemory (λ _. records_left reader.new) result
+        (after_header (records_left reader.old)) }
+    ensures plain { OnOk result (IsPlain reader.new) }
+    ensures fewer { OnOk result (length (records_left reader.new) < length (records_left reader.old)) }
+{
+    if next_row(reader, fields)? && is_header(fields) {
+        return Ok(());
+    }
+    Err(DeadlineFault::Header)
+}
+
+// A place for each task, with no deadline yet.
+fn none_given(alloc: Global, tasks: &TaskSet) -> Result<Vec<Option<u64>>, DeadlineFault>
+    ensures none { IfOk result (λ v. v.items ≡ none_given tasks.now) }
+    ensures given { IfOk result (λ v. AreGiven tasks.now v.items) }
+    ensures err { IfErr result (λ e. e ≡ fault.NoMemory) }
+{
+    let mut given = Vec::new(alloc);
+    for _task in 0..tasks.count() {
+        if given.push(None).is_err() {
+            return Err(DeadlineFault::NoMemory);
+        }
+    }
+    Ok(given)
+}
+
+// The rows after the header, counted from 1.
+fn read_rows(
+    reader: &mut Reader<&[u8]>,
+    fields: &mut ByteRecord,
+    tasks: &TaskSet,
+    mut given: Vec<Option<u64>>,
+) -> Result<Vec<Option<u64>>, DeadlineFault>
+    requires plain { IsPlain reader.old }
+    requires few { length (records_left reader.old) + 1 < 2 ^ 64 }
+    requires given { AreGiven tasks.now given.items }
+    ensures rows { IsUnlessMemory DeadlineFault.NoMemory (λ v. v.items) result
+        (given_from tasks.now 1 given.items (records_left reader.old)) }
+    ensures given { IfOk result (λ v. AreGiven tasks.now v.items) }
+{
+    let mut row: u64 = 1;
+    while next_row(reader, fields)? {
+        let (task, deadline) = read_row(tasks, row, fields)?;
+        add_row(&mut given, tasks, row, task, deadline)?;
+        row += 1;
+    }
+    Ok(given)
+}
+
+// What the rows of a file give.
+fn read_given(
+    alloc: Global,
+    bytes: &[u8],
+    tasks: &TaskSet,
+) -> Result<Vec<Option<u64>>, DeadlineFault>
+    ensures rows { IsUnlessMemory DeadlineFault.NoMemory (λ v. v.items) result (given_in tasks.now bytes.now) }
+    ensures given { IfOk result (λ v. AreGiven tasks.now v.items) }
+{
+    let mut reader = match text_reader(alloc, bytes) {
+        Ok(reader) => reader,
+        Err(_) => return Err(DeadlineFault::NoMemory),
+    };
+    let mut fields = ByteRecord::new(alloc);
+    read_header(&mut reader, &mut fields)?;
+    let given = none_given(alloc, tasks)?;
+    read_rows(&mut reader, &mut fields, tasks, given)
+}
+
+// The deadline of each task: its row's, else its period.
+fn all_deadlines(
+    alloc: Global,
+    tasks: &TaskSet,
+    given: &[Option<u64>],
+) -> Result<Vec<u64>, NoMemory>
+    requires { AreGiven tasks.now given.now }
+    ensures deadlines { IfOk result (λ v. v.items ≡ all_deadlines tasks.now given.now) }
+    ensures for_tasks { IfOk result (λ v. AreFor tasks.now v.items) }
+{
+    let _tasks = tasks.as_slice();
+    let mut deadlines = Vec::new(alloc);
+    for i in 0..tasks.count() {
+        let deadline = given[i as usize].unwrap_or(tasks.task(i).period);
+        if deadlines.push(deadline).is_err() {
+            return Err(NoMemory);
+        }
+    }
+    Ok(deadlines)
+}
+
+impl Deadlines {
+    /// The deadlines of a file, in ticks; a task without a row has its period. The first refusal comes: the header, and
+    /// then row by row the number of fields, the task, the number, its range, and an earlier row of the task.
+    pub fn read(alloc: Global, bytes: &[u8], tasks: &TaskSet) -> Result<Deadlines, DeadlineFault>
+        ensures file { IsUnlessMemory DeadlineFault.NoMemory (λ d. d) result (deadline_file tasks.now bytes.now) }
+        ensures for_tasks { IfOk result (AreFor tasks.now) }
+    {
+        let given = read_given(alloc, bytes, tasks)?;
+        match all_deadlines(alloc, tasks, &given) {
+            Ok(ticks) => Ok(Deadlines { ticks }),
+            Err(_) => Err(DeadlineFault::NoMemory),
+        }
+    }
+}

@@ -1,0 +1,262 @@
+-- Where the processor demand of each span fits in what the speed does in it, every constrained schedule is met.
+use Rattle.std.proofs.Common.{◌≡◌, inl, inr, ℕ, zero, suc, ◌+◌, ◌-◌, ◌*◌, ◌/◌, ◌<◌, ◌≤◌, min, Bool, true, false, nat_le, List, [], ◌∷◌, length, refl, arith, if◌then◌else◌, ap, ◌∙◌, sym, subst, eq-or-lt_of_le, add-one}
+use Rattle.std.proofs.Math.Nat.{div-mul-le_self, mul-le-mul_right, add-div_right}
+use Rattle.std.proofs.lemmas.Bool.{le-leb, leb-true, cases_lt}
+use Rattle.grid_fraction.specs.Numbers.{sum_below, sum_where}
+use Rattle.grid_fraction.proofs.Sums.{sum_below-le}
+use Rattle.sched_model.specs.Plan.{Plan, count, period, offset, worst}
+use Rattle.sched_model.specs.Jobs.{release, due, latest}
+use Rattle.sched_model.specs.Demands.{IsWithin, JobDemands}
+use Rattle.sched_model.specs.Ticks.{Tick, at, exec, left, share}
+use Rattle.sched_model.proofs.DownSets.{due_by_gets}
+use Rattle.sched_model.proofs.LevelSums.{sum_where-plus, sum_where-mono, sum_where-all, sum_where-term}
+use Rattle.sched_model.proofs.JobLaws.{latest-is, latest-pos, latest-stays, latest-next, release-due, release-suc, lt-due, exec-latest}
+use Rattle.edf_demand_laws.specs.Constrained.{IsConstrained, absolute, key_at, IsNext, IsScheduleAt, IsMetBy}
+use Rattle.edf_demand_laws.specs.ProcessorDemand.{jobs_due, work_due, processor_demand}
+use Rattle.edf_demand_laws.proofs.Counting.{jobs_due-above}
+use Rattle.edf_demand_laws.proofs.Ticks.{at-now, at-before, own-share, had-most, latest-before}
+
+-- after a job with absolute deadline `key`, so many more of its task by d
+abbrev pub jobs_after : ℕ → ℕ → ℕ → ℕ
+jobs_after every key d = (d - key) / every
+
+jobs_after-step : (every key d : ℕ) → 0 < every → key + every ≤ d
+    → jobs_after every key d ≡ jobs_after every (key + every) d + 1
+jobs_after-step every key d some le =
+    let e : d - key ≡ (d - (key + every)) + every = omega arith in
+    ap (λ (m : ℕ). m / every) e ∙ add-div_right (d - (key + every)) some
+
+-- they are among the jobs of a span that begins at t or before the next release
+jobs_after-most : (every within key d t : ℕ) → 0 < every → t + within ≤ key + every
+    → jobs_after every key d ≤ jobs_due every within (d - t)
+jobs_after-most every within key d t some le = go (jobs_after every key d) (div-mul-le_self (d - key) every)
+  where
+    go : (m : ℕ) → m * every ≤ d - key → m ≤ jobs_due every within (d - t)
+    go zero low = omega arith
+    go (suc m) low = jobs_due-above every within (d - t) m some (omega arith)
+
+first-release : (p : Plan) (i : ℕ) → offset p i ≡ 0 → release p i 1 ≡ 0
+unfolding release
+first-release p i first = omega (arith, first)
+
+module _ (p : Plan) (relative : ℕ → ℕ) (dem : JobDemands) (f : ℕ) (periods : (i : ℕ) → 0 < period p i)
+    (con : IsConstrained p relative) (within : IsWithin p dem)
+    (fits : (d : ℕ) → processor_demand p relative d ≤ f * d) where
+  -- the latest job of task i has its absolute deadline by d
+  abbrev is_near : ℕ → ℕ → ℕ → Bool
+  is_near t d i = nat_le (key_at p relative t i) d
+
+  -- the work of the jobs after the latest ones, whose absolute deadlines are at most d
+  abbrev after : ℕ → ℕ → ℕ → ℕ
+  after t d i = jobs_after (period p i) (key_at p relative t i) d * worst p i
+
+  -- the work that is still to do by d: of the latest jobs, and of those after them
+  abbrev open_work : List Tick → ℕ → ℕ
+  open_work past d = sum_where (count p) (is_near (length past) d) (λ i. left p dem past i + after (length past) d i)
+
+  -- the work of the jobs of task i that are due by d
+  abbrev work_by : ℕ → ℕ → ℕ
+  work_by d i = work_due p relative d i
+
+  -- the open work fits in what the speed does up to d
+  abbrev IsCalm : List Tick → Type 0
+  IsCalm past = (d : ℕ) → length past ≤ d → open_work past d ≤ f * (d - length past)
+
+  -- the same after the tick x, before the releases that follow it
+  abbrev rest_work : Tick → List Tick → ℕ → ℕ
+  rest_work x past d =
+      sum_where (count p) (is_near (length past) d) (λ i. (left p dem past i - share x i) + after (length past) d i)
+
+  -- each task has its first job from tick 0 on
+  some-job : (i t : ℕ) → i < count p → 0 < latest p i t
+  some-job i t lt = latest-pos p i t (omega (arith, con.first i lt))
+
+  first-job : (i : ℕ) → i < count p → latest p i 0 ≡ 1
+  first-job i lt =
+      let from = first-release p i (con.first i lt) in
+      latest-is p i 1 0 (omega (arith, from)) (omega (arith, from, release-due p i 1 (omega arith), periods i))
+
+  calm-start : IsCalm []
+  calm-start d le =
+      let whole : d - 0 ≡ d = omega arith in
+      rw whole (omega (arith, fits d, all))
+    where
+      each : (i : ℕ) → i < count p → (b : Bool) → nat_le (key_at p relative 0 i) d ≡ b
+          → (if b then left p dem [] i + after 0 d i else 0) ≤ work_by d i
+      each i lt true e =
+          let key : key_at p relative 0 i ≡ relative i =
+          ap (absolute p relative i) (first-job i lt) ∙ omega (arith, first-release p i (con.first i lt)) in
+          let needs : left p dem [] i ≤ worst p i = omega (arith, within.most i (latest p i 0) lt) in
+          let near : nat_le (relative i) d ≡ true = subst (λ (k : ℕ). nat_le k d ≡ true) key e in
+          let later : after 0 d i ≡ (d - relative i) / period p i * worst p i =
+          ap (λ (k : ℕ). (d - k) / period p i * worst p i) key in
+          rw near (omega (arith, needs, later))
+      each i lt false e = omega arith
+
+      all : open_work [] d ≤ sum_below (count p) (work_by d)
+      all =
+          sum_below-le (count p) (λ i. if is_near 0 d i then left p dem [] i + after 0 d i else 0) (work_by d)
+          (λ i lt. each i lt (is_near 0 d i) refl)
+
+  -- a tick does f units of that work, or leaves none of the latest jobs
+  calm-tick : (x : Tick) (past : List Tick) → IsNext p relative dem f past x → IsCalm past
+      → (d : ℕ) → length past + 1 ≤ d → rest_work x past d ≤ f * (d - (length past + 1))
+  calm-tick x past next calm d le = elim (cases_lt (sum_where n near needs) f) [
+    | inl small ↦ omega (arith, split, gets, parts, some_rest, fits (d - (t + 1)), most)
+    | inr full ↦
+        let span : d - t ≡ (d - (t + 1)) + 1 = omega arith in
+        let before : open_work past d ≤ f * ((d - (t + 1)) + 1) =
+        subst (λ (m : ℕ). open_work past d ≤ f * m) span (calm d (omega arith)) in
+        omega (arith, split, gets, parts, some_rest, whole, before)
+  ]
+    where
+      n : ℕ
+      n = count p
+
+      t : ℕ
+      t = length past
+
+      near : ℕ → Bool
+      near = is_near t d
+
+      needs : ℕ → ℕ
+      needs = left p dem past
+
+      rest : ℕ → ℕ
+      rest = λ i. needs i - share x i
+
+      split : rest_work x past d ≡ sum_where n near rest + sum_where n near (after t d)
+      split = sum_where-plus n near rest (after t d)
+
+      whole : open_work past d ≡ sum_where n near needs + sum_where n near (after t d)
+      whole = sum_where-plus n near needs (after t d)
+
+      gets : sum_where n near (share x) ≡ min f (sum_where n near needs)
+      gets = due_by_gets n (key_at p relative t) d f needs (share x) next.legal
+
+      parts : sum_where n near (λ i. rest i + share x i) ≡ sum_where n near rest + sum_where n near (share x)
+      parts = sum_where-plus n near rest (share x)
+
+      some_rest : sum_where n near (λ i. rest i + share x i) ≤ sum_where n near needs
+      some_rest =
+          sum_where-mono n near (λ i. rest i + share x i) needs
+          (λ i lt on. let own = own-share p relative dem f past x next i lt in omega arith)
+
+      each : (i : ℕ) → i < n → after t d i ≤ work_by (d - (t + 1)) i
+      each i lt =
+          let k = latest p i t in
+          let later : t < due p i k = lt-due p i t (periods i) in
+          let long : release p i k + period p i ≡ due p i k = release-due p i k (some-job i t lt) in
+          let key = key_at p relative t i in
+          mul-le-mul_right (worst p i)
+          (jobs_after-most (period p i) (relative i) key d (t + 1) (periods i) (omega (arith, later, long)))
+
+      most : sum_where n near (after t d) ≤ processor_demand p relative (d - (t + 1))
+      most = sum_where-all n near (after t d) (work_by (d - (t + 1))) each
+
+  -- one task of that work over the boundary: a release moves a job from those after the latest one to it
+  calm-task : (x : Tick) (past : List Tick) (d i : ℕ) → i < count p
+      → (if is_near (length past + 1) d i then left p dem (x ∷ past) i + after (length past + 1) d i else 0)
+      ≤ (if is_near (length past) d i then (left p dem past i - share x i) + after (length past) d i else 0)
+  calm-task x past d i lt = elim (eq-or-lt_of_le later) [
+    | inr stays ↦
+        let same : latest p i (t + 1) ≡ k = latest-stays p i t (periods i) stays in
+        let key : key_at p relative (t + 1) i ≡ key_at p relative t i = ap (absolute p relative i) same in
+        let job : latest p i (length (x ∷ past)) ≡ k = subst (λ (m : ℕ). latest p i m ≡ k) (add-one t) same in
+        let needs : left p dem (x ∷ past) i ≡ dem i k - exec p (x ∷ past) i k =
+        ap (λ (m : ℕ). dem i m - exec p (x ∷ past) i m) job in
+        let had : exec p (x ∷ past) i k ≡ exec p past i k + share x i =
+        exec-latest p x past i (periods i) (some-job i t lt) in
+        let rest : left p dem (x ∷ past) i ≤ left p dem past i - share x i = omega (arith, needs, had) in
+        still (nat_le (key_at p relative t i) d) (nat_le (key_at p relative (t + 1) i) d)
+        (ap (λ (m : ℕ). nat_le m d) key) rest (ap (λ (m : ℕ). jobs_after (period p i) m d * worst p i) key)
+    | inl next ↦
+        let same : latest p i (t + 1) ≡ k + 1 = latest-next p i t (periods i) next in
+        let long = release-due p i k (some-job i t lt) in
+        let key : key_at p relative (t + 1) i ≡ key_at p relative t i + period p i =
+        ap (absolute p relative i) same ∙ omega (arith, release-suc p i k, long) in
+        let needs : left p dem (x ∷ past) i ≤ worst p i =
+        omega (arith, within.most i (latest p i (length (x ∷ past))) lt) in
+        moved (nat_le (key_at p relative (t + 1) i) d) refl key needs
+  ]
+    where
+      t : ℕ
+      t = length past
+
+      k : ℕ
+      k = latest p i t
+
+      later : t + 1 ≤ due p i k
+      later = omega (arith, lt-due p i t (periods i))
+
+      still : (b c : Bool) → c ≡ b → left p dem (x ∷ past) i ≤ left p dem past i - share x i
+          → after (t + 1) d i ≡ after t d i
+          → (if c then left p dem (x ∷ past) i + after (t + 1) d i else 0)
+          ≤ (if b then (left p dem past i - share x i) + after t d i else 0)
+      still true c e rest same = rw e (omega arith)
+      still false c e rest same = rw e (omega arith)
+
+      moved : (b : Bool) → nat_le (key_at p relative (t + 1) i) d ≡ b
+          → key_at p relative (t + 1) i ≡ key_at p relative t i + period p i → left p dem (x ∷ past) i ≤ worst p i
+          → (if b then left p dem (x ∷ past) i + after (t + 1) d i else 0)
+          ≤ (if is_near t d i then (left p dem past i - share x i) + after t d i else 0)
+      moved true e key needs =
+          let by : key_at p relative (t + 1) i ≤ d = leb-true (key_at p relative (t + 1) i) d e in
+          let near : is_near t d i ≡ true = le-leb (key_at p relative t i) d (omega arith) in
+          let one : jobs_after (period p i) (key_at p relative t i) d
+          ≡ jobs_after (period p i) (key_at p relative (t + 1) i) d + 1 =
+          jobs_after-step (period p i) (key_at p relative t i) d (periods i) (omega arith)
+          ∙ ap (λ (m : ℕ). jobs_after (period p i) m d + 1) (sym key) in
+          let more : after t d i ≡ after (t + 1) d i + worst p i = ap (λ (m : ℕ). m * worst p i) one ∙ omega arith in
+          rw near (omega (arith, needs, more))
+      moved false e key needs = omega arith
+
+  calm-next : (x : Tick) (past : List Tick) → IsNext p relative dem f past x → IsCalm past → IsCalm (x ∷ past)
+  calm-next x past next calm d le =
+      let t = length past in
+      let e : length (x ∷ past) ≡ t + 1 = omega arith in
+      let P : ℕ → Type 0 =
+      λ m. sum_where (count p) (is_near m d) (λ i. left p dem (x ∷ past) i + after m d i) ≤ f * (d - m) in
+      let falls =
+      sum_below-le (count p) (λ i. if is_near (t + 1) d i then left p dem (x ∷ past) i + after (t + 1) d i else 0)
+      (λ i. if is_near t d i then (left p dem past i - share x i) + after t d i else 0) (calm-task x past d) in
+      subst P (sym e) (omega (arith, falls, calm-tick x past next calm d (omega arith)))
+
+  calm : (past : List Tick) → IsScheduleAt p relative dem f past → IsCalm past
+  calm [] h = calm-start
+  calm (x ∷ past) h = calm-next x past h.1 (calm past h.0)
+
+  -- a job whose absolute deadline is the end of a tick had its demand
+  met-now : (x : Tick) (past : List Tick) → IsScheduleAt p relative dem f (x ∷ past) → (i k : ℕ) → i < count p → 1 ≤ k
+      → absolute p relative i k ≡ length past + 1 → exec p (x ∷ past) i k ≡ dem i k
+  met-now x past h i k lt some e =
+      let t = length past in
+      let job : latest p i t ≡ k = latest-before p relative con i k t lt some e in
+      let key : key_at p relative t i ≤ t + 1 = omega (arith, ap (absolute p relative i) job) in
+      let rest : ℕ → ℕ = λ j. (left p dem past j - share x j) + after t (t + 1) j in
+      let mine =
+      sum_where-term (count p) (is_near t (t + 1)) rest i lt (le-leb (key_at p relative t i) (t + 1) key) in
+      let none : (t + 1) - (t + 1) ≡ 0 = omega arith in
+      let now = calm-tick x past h.1 (calm past h.0) (t + 1) (omega arith) in
+      let all : rest_work x past (t + 1) ≤ f * 0 = subst (λ (m : ℕ). rest_work x past (t + 1) ≤ f * m) none now in
+      let needs : left p dem past i ≡ dem i k - exec p past i k = ap (λ (m : ℕ). dem i m - exec p past i m) job in
+      let had : exec p (x ∷ past) i k ≡ exec p past i k + share x i =
+      subst (λ (m : ℕ). exec p (x ∷ past) i m ≡ exec p past i m + share x i) job
+      (exec-latest p x past i (periods i) (some-job i t lt)) in
+      let own = own-share p relative dem f past x h.1 i lt in
+      let before = had-most p relative dem f past h.0 i k lt in
+      omega (arith, mine, all, needs, had, own, before)
+
+  -- every constrained schedule at the speed f is met, whatever its length
+  pub enough : (ticks : List Tick) → IsScheduleAt p relative dem f ticks → IsMetBy p relative dem ticks
+  enough [] h i k lt some le = absurd (omega (arith, con.some i lt))
+  enough (x ∷ past) h i k lt some le = elim (eq-or-lt_of_le le) [
+    | inl now ↦
+        let whole : at (absolute p relative i k) (x ∷ past) ≡ x ∷ past =
+        ap (λ (r : ℕ). at r (x ∷ past)) now ∙ at-now (x ∷ past) in
+        ap (λ (ps : List Tick). exec p ps i k) whole ∙ met-now x past h i k lt some (omega arith)
+    | inr earlier ↦
+        let shorter : at (absolute p relative i k) (x ∷ past) ≡ at (absolute p relative i k) past =
+        at-before (absolute p relative i k) x past (omega arith) in
+        ap (λ (ps : List Tick). exec p ps i k) shorter ∙ enough past h.0 i k lt some (omega arith)
+  ]

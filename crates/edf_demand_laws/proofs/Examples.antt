@@ -1,0 +1,45 @@
+-- Processor demands, and who comes first, by evaluation.
+use Rattle.std.proofs.Common.{◌≡◌, ℕ, zero, suc, [], ◌∷◌, codes, refl}
+use Rattle.dvs_base.specs.declared.kind.Scheduler.TheVariants.{Edf}
+use Rattle.sched_model.specs.Plan.{Plan, plan_of}
+use Rattle.sched_model.specs.Jobs.{release, due, latest}
+use Rattle.sched_model.specs.Ticks.{exec}
+use Rattle.sched_model.specs.Demands.{worst_demand}
+use Rattle.sched_model.proofs.Examples.{task_of, entry_of}
+use Rattle.edf_demand_laws.specs.Constrained.{schedule_at}
+use Rattle.edf_demand_laws.specs.ProcessorDemand.{processor_demand}
+
+abbrev pair : Plan
+pair =
+    plan_of (task_of (codes "a") 4 2 ∷ task_of (codes "b") 6 3 ∷ [])
+    (record { points = entry_of 1 1000 ∷ []; idle = 0; charge = 0 }) Edf
+
+-- a is due 2 ticks after its releases, b 5
+abbrev deadlines : ℕ → ℕ
+deadlines zero = 2
+deadlines (suc i) = 5
+
+abbrev work : ℕ → ℕ
+work d = processor_demand pair deadlines d
+
+-- the demands at the absolute deadlines of one hyperperiod; at 6 it is the greatest per tick, and more than one unit
+demands : (work 2 ≡ 2) × (work 5 ≡ 5) × (work 6 ≡ 7) × (work 10 ≡ 9) × (work 11 ≡ 12)
+demands = (refl, refl, refl, refl, refl)
+
+-- before the first absolute deadline nothing is due
+none_due : work 1 ≡ 0
+none_due = refl
+
+-- so with one unit a tick the second job of a, due at 6, has had 1 of its 2 units by then
+second_job : exec pair (schedule_at pair deadlines (worst_demand pair) 0 6) 0 2 ≡ 1
+unfolding release due latest
+second_job = refl
+
+-- where b is due earlier than a, it comes first, though a stands before it and has the shorter period
+abbrev turned : ℕ → ℕ
+turned zero = 4
+turned (suc i) = 3
+
+earlier_first : exec pair (schedule_at pair turned (worst_demand pair) 0 3) 1 1 ≡ 3
+unfolding release due latest
+earlier_first = refl

@@ -1,0 +1,83 @@
+-- There is exactly one constrained schedule of each length at a machine's speed.
+use Rattle.std.proofs.Common.{◌≡◌, inl, inr, ℕ, zero, suc, ◌+◌, ◌<◌, List, [], ◌∷◌, length, refl, arith, ap, ◌∙◌, sym, eq-or-lt_of_le}
+use Rattle.std.proofs.lemmas.Bool.{cases_lt}
+use Rattle.std.proofs.lemmas.List.{ext_get_or}
+use Rattle.std.proofs.Math.ListN.{get_or-eq_default}
+use Rattle.grid_fraction.specs.Numbers.{list_below}
+use Rattle.freq_table.specs.declared.machine.Point.{Point}
+use Rattle.freq_table.specs.Tables.{Table, speed_at, IsTable}
+use Rattle.freq_table.proofs.Chosen.{speeds_rise}
+use Rattle.sched_model.specs.Plan.{Plan, count}
+use Rattle.sched_model.specs.Demands.{JobDemands}
+use Rattle.sched_model.specs.Ticks.{Tick, left, share}
+use Rattle.sched_model.specs.Priority.{allotment}
+use Rattle.sched_model.proofs.PriorityLemmas.{allotment_of, allotment-shares, shares-same}
+use Rattle.sched_model.proofs.ScheduleLemmas.{length-list_below, get_or-list_below}
+use Rattle.edf_demand_laws.specs.Constrained.{key_at, IsNext, IsScheduleAt, tick_at, schedule_at}
+
+-- no other entry has the speed of one of the table's
+pub same-entry : (m : Table) → IsTable m → (e k : ℕ) → e < length m.points → speed_at m k ≡ speed_at m e → k ≡ e
+same-entry m table e k lt same = elim (cases_lt k (length m.points)) [
+  | inl within ↦ elim (cases_lt k e) [
+    | inl below ↦ absurd (
+        let up = table.rising k (omega arith) in
+        let rise = speeds_rise m table (k + 1) e (omega arith) lt in
+        omega arith)
+    | inr from ↦ elim (eq-or-lt_of_le from) [
+      | inl here ↦ sym here
+      | inr above ↦ absurd (
+          let up = table.rising e (omega arith) in
+          let rise = speeds_rise m table (e + 1) k (omega arith) within in
+          omega arith)
+    ]
+  ]
+  | inr past ↦ absurd (
+      let none : speed_at m k ≡ 0 =
+      ap (λ (x : Point). x.speed) (get_or-eq_default m.points (record { speed = 0; millivolts = 0 }) past) in
+      omega (arith, (table.each e lt).some_speed))
+]
+
+module _ (p : Plan) (relative : ℕ → ℕ) (dem : JobDemands) (e : ℕ) where
+  abbrev f : ℕ
+  f = speed_at p.machine e
+
+  abbrev key : List Tick → ℕ → ℕ
+  key past = key_at p relative (length past)
+
+  abbrev given : List Tick → ℕ → ℕ
+  given past = allotment (count p) (key past) f (left p dem past)
+
+  next-may : (past : List Tick) → IsNext p relative dem f past (tick_at p relative dem e past)
+  next-may past =
+      let n = count p in
+      record {
+        one_share_each = length-list_below n (given past);
+        speed = refl;
+        legal = shares-same n (key past) f (left p dem past) (given past) (share (tick_at p relative dem e past))
+            (λ i lt. sym (get_or-list_below n (given past) i lt)) (allotment-shares n (key past) f (left p dem past));
+      }
+
+  pub schedule-exists : (t : ℕ)
+      → IsScheduleAt p relative dem f (schedule_at p relative dem e t) × (length (schedule_at p relative dem e t) ≡ t)
+  schedule-exists zero = (tt, refl)
+  schedule-exists (suc t) =
+      let r = schedule-exists t in
+      ((r.0, next-may (schedule_at p relative dem e t)), omega (arith, r.1))
+
+  module _ (table : IsTable p.machine) (lt : e < length p.machine.points) where
+    next-same : (past : List Tick) (x : Tick) → IsNext p relative dem f past x → x ≡ tick_at p relative dem e past
+    next-same past x h = λ i. record { entry = same-entry p.machine table e x.entry lt h.speed i; shares = same i }
+      where
+        same : x.shares ≡ list_below (count p) (given past)
+        same = ext_get_or 0 x.shares (list_below (count p) (given past))
+            (h.one_share_each ∙ sym (length-list_below (count p) (given past)))
+            (λ i l.
+            let below : i < count p = omega (arith, h.one_share_each) in
+            allotment_of (count p) (key past) f (left p dem past) (share x) h.legal i below
+            ∙ sym (get_or-list_below (count p) (given past) i below))
+
+    pub schedule-only : (ticks : List Tick) → IsScheduleAt p relative dem f ticks
+        → ticks ≡ schedule_at p relative dem e (length ticks)
+    schedule-only [] h = refl
+    schedule-only (x ∷ past) h =
+        ap (λ y. y ∷ past) (next-same past x h.1) ∙ ap (λ ps. tick_at p relative dem e ps ∷ ps) (schedule-only past h.0)

@@ -1,0 +1,8 @@
+pub mod Counting
+pub mod AllSpans
+pub mod Ticks
+pub mod Enough
+pub mod Needed
+pub mod Existing
+pub mod Deciding
+mod Examples

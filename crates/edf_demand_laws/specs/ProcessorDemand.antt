@@ -1,0 +1,37 @@
+-- The processor demand of tasks whose deadlines lie below their periods (Baruah, Rosier and Howell 1990).
+use Rattle.std.specs.Prelude.{◌≡◌, ℕ, ◌+◌, ◌-◌, ◌*◌, ◌/◌, ◌<◌, ◌≤◌, nat_le, if◌then◌else◌}
+use Rattle.grid_fraction.specs.declared.Frac.{Frac}
+use Rattle.grid_fraction.specs.Numbers.{sum_below}
+use Rattle.sched_model.specs.Plan.{Plan, count, period, worst, hyper}
+use Rattle.edf_demand_laws.specs.Constrained.{absolute}
+
+-- how many jobs of a task with this period and relative deadline have absolute deadlines up to d
+abbrev pub jobs_due : ℕ → ℕ → ℕ → ℕ
+jobs_due every within d = if nat_le within d then (d - within) / every + 1 else 0
+
+-- the work of the jobs of task i whose absolute deadlines are at most d, each at its worst case
+abbrev pub work_due : Plan → (ℕ → ℕ) → ℕ → ℕ → ℕ
+work_due p relative d i = jobs_due (period p i) (relative i) d * worst p i
+
+-- h(d): that of all tasks
+abbrev pub processor_demand : Plan → (ℕ → ℕ) → ℕ → ℕ
+processor_demand p relative d = sum_below (count p) (work_due p relative d)
+
+-- some job's absolute deadline is d
+pub record IsDeadline (p : Plan) (relative : ℕ → ℕ) (d : ℕ) : Type 0 where
+  pub task : ℕ
+  pub job : ℕ
+  pub below : task < count p
+  pub some : 1 ≤ job
+  pub is : absolute p relative task job ≡ d
+
+-- the constrained demand is h(d)/d, not reduced, at the absolute deadline d up to the hyperperiod at which it is
+-- greatest; of equal ones it is the least d
+pub record IsConstrainedDemand (p : Plan) (relative : ℕ → ℕ) (demand : Frac) : Type 0 where
+  pub num : demand.num ≡ processor_demand p relative demand.den
+  pub deadline : IsDeadline p relative demand.den
+  pub within : demand.den ≤ hyper p
+  pub greatest : (d : ℕ) → IsDeadline p relative d → d ≤ hyper p
+      → processor_demand p relative d * demand.den ≤ demand.num * d
+  pub least : (d : ℕ) → IsDeadline p relative d → d < demand.den
+      → processor_demand p relative d * demand.den < demand.num * d
