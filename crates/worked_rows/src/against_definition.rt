@@ -11,7 +11,7 @@ use crate::example::{
     PAPER_MACHINE, PAPER_TASKS,
 };
 use crate::generator::MadeFiles;
-use crate::offsets::{BOTH_AT_2, FIRST_LATE, ONE_BEYOND};
+use crate::task_offsets::{BOTH_AT_2, FIRST_LATE, ONE_BEYOND};
 use cc_edf::CcEdf;
 use cc_rm::CcRm;
 use demand_list::Demands;

@@ -21,8 +21,6 @@ mod made;
 #[cfg(test)]
 mod many;
 #[cfg(test)]
-mod offsets;
-#[cfg(test)]
 mod outside;
 #[cfg(test)]
 mod parts;
@@ -30,6 +28,8 @@ mod parts;
 mod plans;
 #[cfg(test)]
 mod refusals;
+#[cfg(test)]
+mod task_offsets;
 #[cfg(test)]
 mod traces;
 #[cfg(test)]
