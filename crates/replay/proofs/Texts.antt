@@ -1,7 +1,10 @@
 -- Traces that were read, as replays ask for them, and the text of a run as that of a trace.
-use Rattle.std.proofs.Common.{◌≡◌, ℕ, List, [], ◌∷◌, refl}
+use Rattle.std.proofs.Common.{◌≡◌, ◌≢◌, ◌<◌, ℕ, zero, suc, List, [], ◌∷◌, length, map, slice_index_or, refl, sym, ◌∙◌, arith}
+use Rattle.std.proofs.lemmas.List.{length-map}
 use Rattle.std.specs.List.{AllByRecursion, AllPairs}
 use Rattle.dvs_base.specs.declared.note.Note.{Note}
+use Rattle.task_model.specs.declared.task.Task.{Task}
+use Rattle.task_model.specs.Tasks.{task_at, IsTaskSet}
 use Rattle.dvs_base.specs.declared.note.Note.TheVariants.{Release, Speed, Run, Idle, Done, End}
 use Rattle.dvs_base.specs.declared.kind.GovernorKind.{GovernorKind}
 use Rattle.dvs_base.specs.declared.kind.Version.TheVariants.{One}

@@ -1,4 +1,4 @@
-use Rattle.std.proofs.Common.{◌≡◌, ◌-◌, ℕ, List, length, ap, ◌∙◌, sym, arith}
+use Rattle.std.proofs.Common.{◌≡◌, ◌-◌, ℕ, List, ◌∷◌, length, ap, ◌∙◌, sym, arith}
 use Rattle.std.specs.Prelude.{Option, Some, None, Ok}
 use Rattle.dvs_base.specs.declared.note.Note.{Note}
 use Rattle.dvs_base.specs.declared.note.Totals.{Totals}
@@ -25,7 +25,8 @@ differs-requires-clause-some g c =
     let notes : rest from ≡ t.notes = c.deref.ensures.value ∙ ap (λ (t : TraceOf). t.notes) c.trace.view_is in
     let stopped = run-stopped rest wanted g.G.Governor.demand c.args.kernel c.args.plan.now c.known.ensures.limits
     c.requires.plan t c.requires.ended from c.drive.new.to notes c.in-Err.ensures.broke_off in
-    omega (arith, ap length stopped.finds)
+    let long : length (rest c.drive.new.to) ≡ length (stopped.found ∷ stopped.more) = ap length stopped.finds in
+    omega (arith, long)
 
 pub unreachable-requires : goal.unreachable-requires
 unreachable-requires g c =
