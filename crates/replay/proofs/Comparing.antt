@@ -103,7 +103,8 @@ module _ {L : Type 0} (rest : L → List Note) (wanted : L → Option Note) wher
       }
 
   -- a listener that balked at one of a run's notes stopped at the first unequal one
-  pub balked-first : (at : ℕ) (from : L) (notes : List Note) (to : L) → EndsOnce is_end notes → EndsOnce is_end (rest from)
+  pub balked-first : (at : ℕ) (from : L) (notes : List Note) (to : L) → EndsOnce is_end notes
+      → EndsOnce is_end (rest from)
       → HasBalked HeardNext HeardOther from notes to → StoppedAt at from notes to
   balked-first at from [] to once ends h = absurd h
   balked-first at from (n ∷ notes) to once ends (inl here) = stopped-here at from n notes to (rest from) refl ends here
@@ -125,7 +126,8 @@ module _ {L : Type 0} (rest : L → List Note) (wanted : L → Option Note) wher
       ∙ sym (ap (λ (l : List Note). unless_unequal tasks t (first_unequal 0 notes l)) (sym is) ∙ ap (unless_unequal tasks t) s.differ)
 
 -- a trace compared with its own notes
-pub compared-same : (tasks : ℕ) (t : TraceOf) (notes : List Note) → t.notes ≡ notes → compared tasks t notes ≡ Ok (totals_of notes)
+pub compared-same : (tasks : ℕ) (t : TraceOf) (notes : List Note) → t.notes ≡ notes
+    → compared tasks t notes ≡ Ok (totals_of notes)
 compared-same tasks t notes is =
     subst (λ (l : List Note). compared tasks t l ≡ Ok (totals_of l)) is
     (rw (unequal-self 0 t.notes) refl)

@@ -31,7 +31,8 @@ use Rattle.replay.proofs.Comparing.{same-self, compared-same}
 use Rattle.replay.proofs.Fixing.{over-fit, fit-over}
 
 -- the notes of a schedule end once
-pub schedule-ended : (p : Plan) → IsWithinLimits p → (dem : ℕ → ℕ → ℕ) (ask : List Tick → Frac) (ticks : List Tick) → EndsOnce is_end (notes_of p dem ask ticks)
+pub schedule-ended : (p : Plan) → IsWithinLimits p → (dem : ℕ → ℕ → ℕ) (ask : List Tick → Frac) (ticks : List Tick)
+    → EndsOnce is_end (notes_of p dem ask ticks)
 schedule-ended p lim dem ask = notes-end-once p lim dem ask is_end (λ ticks run idle. refl) others
   where
     others : (n : Note) → IsBeforeEnd p dem n → is_end n ≡ false
@@ -82,14 +83,16 @@ same-is (End t run idle) (Done q2 i2 k2 used2) e = absurd (true≢false (sym e))
 same-is (End t run idle) (End t2 run2 idle2) e = grind (arith, e)
 
 -- notes that end once and differ nowhere are equal
-same-rest : (at : ℕ) (w f : Note) (wanted found : List Note) → f ≡ w → EndsOnce is_end (w ∷ wanted) → EndsOnce is_end (f ∷ found)
+same-rest : (at : ℕ) (w f : Note) (wanted found : List Note) → f ≡ w → EndsOnce is_end (w ∷ wanted)
+    → EndsOnce is_end (f ∷ found)
     → (EndsOnce is_end wanted → EndsOnce is_end found → wanted ≡ found) → wanted ≡ found
 same-rest at w f [] [] is once ends next = refl
 same-rest at w f [] (g ∷ found) is once ends next = absurd (true≢false (sym once ∙ (ap is_end (sym is) ∙ ends.0)))
 same-rest at w f (v ∷ wanted) [] is once ends next = absurd (true≢false (sym ends ∙ (ap is_end is ∙ once.0)))
 same-rest at w f (v ∷ wanted) (g ∷ found) is once ends next = next once.1 ends.1
 
-same-by : (at : ℕ) (w f : Note) (wanted found : List Note) (b : Bool) → same_note f w ≡ b → EndsOnce is_end (w ∷ wanted) → EndsOnce is_end (f ∷ found)
+same-by : (at : ℕ) (w f : Note) (wanted found : List Note) (b : Bool) → same_note f w ≡ b → EndsOnce is_end (w ∷ wanted)
+    → EndsOnce is_end (f ∷ found)
     → (first_unequal (at + 1) wanted found ≡ None → EndsOnce is_end wanted → EndsOnce is_end found → wanted ≡ found)
     → (if b then first_unequal (at + 1) wanted found else Some (at, w, f)) ≡ None → w ∷ wanted ≡ f ∷ found
 same-by at w f wanted found true is once ends next h =
@@ -97,17 +100,20 @@ same-by at w f wanted found true is once ends next h =
     ap₂ (λ (n : Note) (l : List Note). n ∷ l) (sym note) (same-rest at w f wanted found note once ends (next h))
 same-by at w f wanted found false is once ends next h = absurd cc
 
-pub nowhere-same : (at : ℕ) (wanted found : List Note) → EndsOnce is_end wanted → EndsOnce is_end found → first_unequal at wanted found ≡ None → wanted ≡ found
+pub nowhere-same : (at : ℕ) (wanted found : List Note) → EndsOnce is_end wanted → EndsOnce is_end found
+    → first_unequal at wanted found ≡ None → wanted ≡ found
 nowhere-same at [] found once ends e = absurd once
 nowhere-same at (w ∷ wanted) [] once ends e = absurd ends
 nowhere-same at (w ∷ wanted) (f ∷ found) once ends e =
-    same-by at w f wanted found (same_note f w) refl once ends (λ none first second. nowhere-same (at + 1) wanted found first second none) e
+    same-by at w f wanted found (same_note f w) refl once ends
+    (λ none first second. nowhere-same (at + 1) wanted found first second none) e
 
 -- the place where they first differ is that of the first two unequal ones
 abbrev FirstFrom : ℕ → List Note → List Note → ℕ → Note → Note → Type 0
 FirstFrom at wanted found place w f = (more : ℕ) × (place ≡ at + more) × FirstUnequal wanted found more w f
 
-first-later : (at : ℕ) (v g : Note) (wanted found : List Note) (place : ℕ) (w f : Note) → g ≡ v → FirstFrom (at + 1) wanted found place w f → FirstFrom at (v ∷ wanted) (g ∷ found) place w f
+first-later : (at : ℕ) (v g : Note) (wanted found : List Note) (place : ℕ) (w f : Note) → g ≡ v
+    → FirstFrom (at + 1) wanted found place w f → FirstFrom at (v ∷ wanted) (g ∷ found) place w f
 first-later at v g wanted found place w f is h = (
   h.0 + 1,
   omega (arith, h.1),
@@ -124,7 +130,8 @@ first-later at v g wanted found place w f is h = (
 
 first-by : (at : ℕ) (v g : Note) (wanted found : List Note) (place : ℕ) (w f : Note) (b : Bool) → same_note g v ≡ b
     → (first_unequal (at + 1) wanted found ≡ Some (place, w, f) → FirstFrom (at + 1) wanted found place w f)
-    → (if b then first_unequal (at + 1) wanted found else Some (at, v, g)) ≡ Some (place, w, f) → FirstFrom at (v ∷ wanted) (g ∷ found) place w f
+    → (if b then first_unequal (at + 1) wanted found else Some (at, v, g)) ≡ Some (place, w, f)
+    → FirstFrom at (v ∷ wanted) (g ∷ found) place w f
 first-by at v g wanted found place w f true is next h = first-later at v g wanted found place w f (same-is g v is) (next h)
 first-by at v g wanted found place w f false is next h =
     let three : (at, v, g) ≡ (place, w, f) = ap (λ (o : Option (ℕ × Note × Note)). unwrap_or o (at, v, g)) h in
@@ -144,14 +151,16 @@ first-by at v g wanted found place w f false is next h =
       },
     )
 
-pub somewhere-first : (at : ℕ) (wanted found : List Note) (place : ℕ) (w f : Note) → first_unequal at wanted found ≡ Some (place, w, f) → FirstFrom at wanted found place w f
+pub somewhere-first : (at : ℕ) (wanted found : List Note) (place : ℕ) (w f : Note)
+    → first_unequal at wanted found ≡ Some (place, w, f) → FirstFrom at wanted found place w f
 somewhere-first at [] found place w f e = absurd cc
 somewhere-first at (v ∷ wanted) [] place w f e = absurd cc
 somewhere-first at (v ∷ wanted) (g ∷ found) place w f e =
     first-by at v g wanted found place w f (same_note g v) refl (somewhere-first (at + 1) wanted found place w f) e
 
 -- the first end over its worst case is no difference
-over-other : (p : Plan) (notes : List Note) (line : ℕ) (w f : Note) → first_over p notes ≡ Some (fault.Differs line w f) → ⊥
+over-other : (p : Plan) (notes : List Note) (line : ℕ) (w f : Note) → first_over p notes ≡ Some (fault.Differs line w f)
+    → ⊥
 over-other p [] line w f e = cc
 over-other p (Release tick i k ∷ notes) line w f e = over-other p notes line w f e
 over-other p (Speed tick s num den ∷ notes) line w f e = over-other p notes line w f e
@@ -169,7 +178,8 @@ over-other p (Done q i k used ∷ notes) line w f e = go (nat_lt (worst p i) use
 many-other : (p : Plan) (ticks line : ℕ) (w f : Note) → too_many p ticks ≡ Some (fault.Differs line w f) → ⊥
 many-other p ticks line w f = go (nat_lt MOST_JOBS (released_jobs p ticks))
   where
-    go : (b : Bool) → (if b then Some (fault.TooManyJobs (released_jobs p ticks)) else None) ≡ Some (fault.Differs line w f) → ⊥
+    go : (b : Bool)
+        → (if b then Some (fault.TooManyJobs (released_jobs p ticks)) else None) ≡ Some (fault.Differs line w f) → ⊥
     go true e = cc
     go false e = cc
 
@@ -213,12 +223,15 @@ same_Err : (e why : ReplayFault) → result_of e ≡ result_of why → e ≡ why
 same_Err e why h = cc
 
 -- a difference is no want of memory
-other-fault : (why : ReplayFault) (line : ℕ) (w f : Note) → IsErrOf (result_of why) (fault.Differs line w f) → why ≢ fault.NoMemory
+other-fault : (why : ReplayFault) (line : ℕ) (w f : Note) → IsErrOf (result_of why) (fault.Differs line w f)
+    → why ≢ fault.NoMemory
 other-fault why line w f is memory = cc
 
 module _ (p : Plan) (lim : IsWithinLimits p) (asked : Asking) (t : TraceOf) (ends : EndsOnce is_end t.notes) where
   once : EndsOnce is_end (own_notes p asked t)
-  once = let own : ℕ → ℕ → ℕ = demand_of p (fixed_of p t.notes) in schedule-ended p lim own (asked own) (ticks_by p asked own t.plan.ticks)
+  once =
+      let own : ℕ → ℕ → ℕ = demand_of p (fixed_of p t.notes) in
+      schedule-ended p lim own (asked own) (ticks_by p asked own t.plan.ticks)
 
   -- the trace is replayed where no end is over, the jobs are few and its notes are those of its own list
   pub record Passes : Type 0 where
@@ -231,8 +244,10 @@ module _ (p : Plan) (lim : IsWithinLimits p) (asked : Asking) (t : TraceOf) (end
       rw (h.none_over, h.few)
       (compared-same (count p) t (own_notes p asked t) h.same ∙ ap (λ (l : List Note). Ok (totals_of l)) (sym h.same))
 
-  replayed-by : (o m : Option ReplayFault) (d : Option (ℕ × Note × Note)) (totals : Totals) → first_over p t.notes ≡ o → too_many p t.plan.ticks ≡ m
-      → first_unequal 0 (own_notes p asked t) t.notes ≡ d → unless o (unless m (unless_unequal (count p) t d)) ≡ Ok totals → Passes × (totals ≡ totals_of t.notes)
+  replayed-by : (o m : Option ReplayFault) (d : Option (ℕ × Note × Note)) (totals : Totals) → first_over p t.notes ≡ o
+      → too_many p t.plan.ticks ≡ m
+      → first_unequal 0 (own_notes p asked t) t.notes ≡ d
+      → unless o (unless m (unless_unequal (count p) t d)) ≡ Ok totals → Passes × (totals ≡ totals_of t.notes)
   replayed-by (Some why) m d totals e f g h = absurd cc
   replayed-by None (Some why) d totals e f g h = absurd cc
   replayed-by None None (Some x) totals e f g h = absurd cc
@@ -241,10 +256,14 @@ module _ (p : Plan) (lim : IsWithinLimits p) (asked : Asking) (t : TraceOf) (end
 
   -- a trace that is replayed passes, with its totals
   pub replayed-passes : (totals : Totals) → replay_of p asked t ≡ Ok totals → Passes × (totals ≡ totals_of t.notes)
-  replayed-passes totals h = replayed-by (first_over p t.notes) (too_many p t.plan.ticks) (first_unequal 0 (own_notes p asked t) t.notes) totals refl refl refl h
+  replayed-passes totals h =
+      replayed-by (first_over p t.notes) (too_many p t.plan.ticks) (first_unequal 0 (own_notes p asked t) t.notes) totals
+      refl refl refl h
 
-  differs-by : (o m : Option ReplayFault) (d : Option (ℕ × Note × Note)) (line : ℕ) (w f : Note) → first_over p t.notes ≡ o → too_many p t.plan.ticks ≡ m
-      → first_unequal 0 (own_notes p asked t) t.notes ≡ d → unless o (unless m (unless_unequal (count p) t d)) ≡ Err (fault.Differs line w f)
+  differs-by : (o m : Option ReplayFault) (d : Option (ℕ × Note × Note)) (line : ℕ) (w f : Note)
+      → first_over p t.notes ≡ o → too_many p t.plan.ticks ≡ m
+      → first_unequal 0 (own_notes p asked t) t.notes ≡ d
+      → unless o (unless m (unless_unequal (count p) t d)) ≡ Err (fault.Differs line w f)
       → IsFirstDifference p asked t line w f
   differs-by (Some why) m d line w f e g h r = absurd (over-other p t.notes line w f (e ∙ cc))
   differs-by None (Some why) d line w f e g h r = absurd (many-other p t.plan.ticks line w f (g ∙ cc))
@@ -263,8 +282,11 @@ module _ (p : Plan) (lim : IsWithinLimits p) (asked : Asking) (t : TraceOf) (end
       )
 
   -- a difference is that of the first two unequal notes
-  pub differs-first : (line : ℕ) (w f : Note) → replay_of p asked t ≡ Err (fault.Differs line w f) → IsFirstDifference p asked t line w f
-  differs-first line w f h = differs-by (first_over p t.notes) (too_many p t.plan.ticks) (first_unequal 0 (own_notes p asked t) t.notes) line w f refl refl refl h
+  pub differs-first : (line : ℕ) (w f : Note) → replay_of p asked t ≡ Err (fault.Differs line w f)
+      → IsFirstDifference p asked t line w f
+  differs-first line w f h =
+      differs-by (first_over p t.notes) (too_many p t.plan.ticks) (first_unequal 0 (own_notes p asked t) t.notes) line w f
+      refl refl refl h
 
   cause-by : (o m : Option ReplayFault) (d : Option (ℕ × Note × Note)) (why : ReplayFault) → first_over p t.notes ≡ o
       → too_many p t.plan.ticks ≡ m → first_unequal 0 (own_notes p asked t) t.notes ≡ d
@@ -299,7 +321,8 @@ module _ (p : Plan) (lim : IsWithinLimits p) (asked : Asking) (t : TraceOf) (end
     }
 
     -- notes of the schedule for some list are those for their own list
-    pub some-replayed : (rows : List DemandRow) → AreNotesFor p asked t.plan.ticks t.notes rows → released_jobs p t.plan.ticks ≤ MOST_JOBS
+    pub some-replayed : (rows : List DemandRow) → AreNotesFor p asked t.plan.ticks t.notes rows
+        → released_jobs p t.plan.ticks ≤ MOST_JOBS
         → replay_of p asked t ≡ Ok (totals_of t.notes)
     some-replayed rows h few = passes-replayed (own-passes (law.of_some t.plan.ticks t.notes rows h) few)
 
@@ -318,12 +341,14 @@ module _ (p : Plan) (lim : IsWithinLimits p) (asked : Asking) (t : TraceOf) (end
         }
 
     -- the same of what a call answers
-    pub ok-replayed : (r : Result Totals ReplayFault) → IsUnlessMemory fault.NoMemory (λ (totals : Totals). totals) r (replay_of p asked t)
+    pub ok-replayed : (r : Result Totals ReplayFault)
+        → IsUnlessMemory fault.NoMemory (λ (totals : Totals). totals) r (replay_of p asked t)
         → IfOk r (λ totals. IsReplayed p asked t totals)
     ok-replayed (Ok totals) h = is-replayed totals h
     ok-replayed (Err why) h = tt
 
-  pub err-differs : (r : Result Totals ReplayFault) → IsUnlessMemory fault.NoMemory (λ (totals : Totals). totals) r (replay_of p asked t)
+  pub err-differs : (r : Result Totals ReplayFault)
+      → IsUnlessMemory fault.NoMemory (λ (totals : Totals). totals) r (replay_of p asked t)
       → (line : ℕ) (w f : Note) → IsErrOf r (fault.Differs line w f) → IsFirstDifference p asked t line w f
   err-differs (Ok totals) h line w f is = absurd cc
   err-differs (Err why) h line w f is = differs-first line w f (h (other-fault why line w f is) ∙ is)

@@ -40,8 +40,10 @@ over-fit p (Idle from to units energy ∷ notes) none = (tt, over-fit p notes no
 over-fit p (End ticks run idle ∷ notes) none = (tt, over-fit p notes none)
 over-fit p (Done q i k used ∷ notes) none = go (nat_lt (worst p i) used) refl none (over-fit p notes)
   where
-    go : (b : Bool) → nat_lt (worst p i) used ≡ b → option_or (if b then Some (fault.OverWorst i k used (worst p i)) else None) (first_over p notes) ≡ None
-        → (first_over p notes ≡ None → AllByRecursion (IsFit p) notes) → (used ≤ worst p i) × AllByRecursion (IsFit p) notes
+    go : (b : Bool) → nat_lt (worst p i) used ≡ b
+        → option_or (if b then Some (fault.OverWorst i k used (worst p i)) else None) (first_over p notes) ≡ None
+        → (first_over p notes ≡ None → AllByRecursion (IsFit p) notes)
+        → (used ≤ worst p i) × AllByRecursion (IsFit p) notes
     go true over e rest = absurd cc
     go false low e rest = (grind (arith, nat_tests, low), rest e)
 
@@ -59,10 +61,12 @@ fit-over p (Done q i k used ∷ notes) fit =
 
 -- the end of a job fixes its row, unless it has one
 pub fixes-end : (p : Plan) (q : Pos) (i k used : ℕ) (old new : DemandsOf) → 1 ≤ k
-    → AddsRow old new (demand_row i k (used - 2 * p.machine.charge)) → Fixes (fixed_before p (Done q i k used) []) old new
+    → AddsRow old new (demand_row i k (used - 2 * p.machine.charge))
+    → Fixes (fixed_before p (Done q i k used) []) old new
 fixes-end p q i k used old new some h j l = go (nat_eq i j && nat_eq k l) refl
   where
-    go : (b : Bool) → (nat_eq i j && nat_eq k l) ≡ b → named new.rows j l ≡ option_or (named old.rows j l) (named (fixed_before p (Done q i k used) []) j l)
+    go : (b : Bool) → (nat_eq i j && nat_eq k l) ≡ b
+        → named new.rows j l ≡ option_or (named old.rows j l) (named (fixed_before p (Done q i k used) []) j l)
     go true e =
         let task : i ≡ j = grind (arith, nat_tests, e) in
         let job : k ≡ l = grind (arith, nat_tests, e) in
@@ -83,11 +87,14 @@ fixes-none p q i k used old has j l = go (nat_eq i j && nat_eq k l) refl
     keeps None more e = absurd (true≢false (sym e))
     keeps (Some u) more e = refl
 
-    go : (b : Bool) → (nat_eq i j && nat_eq k l) ≡ b → named old.rows j l ≡ option_or (named old.rows j l) (named (fixed_before p (Done q i k used) []) j l)
+    go : (b : Bool) → (nat_eq i j && nat_eq k l) ≡ b
+        → named old.rows j l ≡ option_or (named old.rows j l) (named (fixed_before p (Done q i k used) []) j l)
     go true e =
         let task : i ≡ j = grind (arith, nat_tests, e) in
         let job : k ≡ l = grind (arith, nat_tests, e) in
-        keeps (named old.rows j l) _ (subst (λ (m : ℕ). is_some (named old.rows j m) ≡ true) job (subst (λ (m : ℕ). is_some (named old.rows m k) ≡ true) task has))
+        keeps (named old.rows j l) _
+        (subst (λ (m : ℕ). is_some (named old.rows j m) ≡ true) job
+        (subst (λ (m : ℕ). is_some (named old.rows m k) ≡ true) task has))
     go false e =
         let other : (j ≡ i) → (l ≡ k) → ⊥ = λ t u. true≢false (grind (arith, nat_tests, t, u, e)) in
         rw (fixed-other p q i k used j l other) (sym (or-none (named old.rows j l)))
@@ -97,7 +104,8 @@ pub fixes-nothing : (old : DemandsOf) → Fixes [] old old
 fixes-nothing old i k = sym (or-none (named old.rows i k))
 
 -- a note fixes its row before those of the notes after it
-fixed-first : (p : Plan) (n : Note) (rows : List DemandRow) (i k : ℕ) → named (fixed_before p n rows) i k ≡ option_or (named (fixed_before p n []) i k) (named rows i k)
+fixed-first : (p : Plan) (n : Note) (rows : List DemandRow) (i k : ℕ)
+    → named (fixed_before p n rows) i k ≡ option_or (named (fixed_before p n []) i k) (named rows i k)
 fixed-first p (Release tick j l) rows i k = refl
 fixed-first p (Speed tick f num den) rows i k = refl
 fixed-first p (Run from to j l units energy) rows i k = refl
@@ -106,7 +114,9 @@ fixed-first p (End ticks run idle) rows i k = refl
 fixed-first p (Done q j zero used) rows i k = refl
 fixed-first p (Done q j (suc l) used) rows i k = go (nat_eq j i && nat_eq (suc l) k)
   where
-    go : (b : Bool) → (if b then Some (used - 2 * p.machine.charge) else named rows i k) ≡ option_or (if b then Some (used - 2 * p.machine.charge) else None) (named rows i k)
+    go : (b : Bool)
+        → (if b then Some (used - 2 * p.machine.charge) else named rows i k)
+        ≡ option_or (if b then Some (used - 2 * p.machine.charge) else None) (named rows i k)
     go true = refl
     go false = refl
 
@@ -119,22 +129,28 @@ AreFixedFrom p notes at d =
 pub fixed-none : (p : Plan) (notes : List Note) (d : DemandsOf) → d.rows ≡ [] → AreFixedFrom p notes 0 d
 fixed-none p notes d none i k = ap (λ (rows : List DemandRow). option_or (named rows i k) (named (fixed_of p notes) i k)) none
 
-pub fixed-next : (p : Plan) (notes : List Note) (at : ℕ) (n : Note) (old new : DemandsOf) → drop at notes ≡ n ∷ drop (at + 1) notes
+pub fixed-next : (p : Plan) (notes : List Note) (at : ℕ) (n : Note) (old new : DemandsOf)
+    → drop at notes ≡ n ∷ drop (at + 1) notes
     → AreFixedFrom p notes at old → Fixes (fixed_before p n []) old new → AreFixedFrom p notes (at + 1) new
 fixed-next p notes at n old new is before h i k =
     ap (λ (o : Option ℕ). option_or o (named (fixed_of p (drop (at + 1) notes)) i k)) (h i k)
     ∙ (or-assoc (named old.rows i k) (named (fixed_before p n []) i k) (named (fixed_of p (drop (at + 1) notes)) i k)
-    ∙ (ap (option_or (named old.rows i k)) (sym (fixed-first p n (fixed_of p (drop (at + 1) notes)) i k) ∙ ap (λ (l : List Note). named (fixed_of p l) i k) (sym is))
+    ∙ (ap (option_or (named old.rows i k)) (sym (fixed-first p n (fixed_of p (drop (at + 1) notes)) i k)
+    ∙ ap (λ (l : List Note). named (fixed_of p l) i k) (sym is))
     ∙ before i k))
 
 -- the same rows by each job are the same demands
-same-demand : (p : Plan) (rows others : List DemandRow) → ((i k : ℕ) → named rows i k ≡ named others i k) → (i k : ℕ) → demand_of p rows i k ≡ demand_of p others i k
+same-demand : (p : Plan) (rows others : List DemandRow) → ((i k : ℕ) → named rows i k ≡ named others i k) → (i k : ℕ)
+    → demand_of p rows i k ≡ demand_of p others i k
 same-demand p rows others same i zero = refl
-same-demand p rows others same i (suc k) = ap (λ (o : Option ℕ). unwrap_or (option_map (λ u. u + 2 * p.machine.charge) o) (worst p i)) (same i (suc k))
+same-demand p rows others same i (suc k) =
+    ap (λ (o : Option ℕ). unwrap_or (option_map (λ u. u + 2 * p.machine.charge) o) (worst p i)) (same i (suc k))
 
-pub fixed-whole : (p : Plan) (notes : List Note) (at : ℕ) (d : DemandsOf) → drop at notes ≡ [] → AreFixedFrom p notes at d
+pub fixed-whole : (p : Plan) (notes : List Note) (at : ℕ) (d : DemandsOf) → drop at notes ≡ []
+    → AreFixedFrom p notes at d
     → demand_of p d.rows ≡ demand_of p (fixed_of p notes)
 fixed-whole p notes at d none h =
     let same : (i k : ℕ) → demand_of p d.rows i k ≡ demand_of p (fixed_of p notes) i k =
-    same-demand p d.rows (fixed_of p notes) (λ i k. sym (or-none (named d.rows i k)) ∙ (ap (λ (l : List Note). option_or (named d.rows i k) (named (fixed_of p l) i k)) (sym none) ∙ h i k)) in
+    same-demand p d.rows (fixed_of p notes) (λ i k. sym (or-none (named d.rows i k))
+      ∙ (ap (λ (l : List Note). option_or (named d.rows i k) (named (fixed_of p l) i k)) (sym none) ∙ h i k)) in
     λ n i k. same i k n

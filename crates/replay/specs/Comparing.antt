@@ -34,7 +34,8 @@ IsOther n (m ∷ notes) = same_note m n ≡ false
 
 -- where two lists of notes first differ: the place, counted from `at`, the note wanted there, and the one that is found
 abbrev pub first_unequal : ℕ → List Note → List Note → Option (ℕ × Note × Note)
-first_unequal at (w ∷ wanted) (f ∷ found) = if same_note f w then first_unequal (at + 1) wanted found else Some (at, w, f)
+first_unequal at (w ∷ wanted) (f ∷ found) =
+    if same_note f w then first_unequal (at + 1) wanted found else Some (at, w, f)
 first_unequal at _ _ = None
 
 -- the line of a note of a trace for so many tasks, by the note's place from 0: two lines stand before the notes; in

@@ -13,21 +13,24 @@ pub returns-clause-own_list : goal.returns-clause-own_list
 returns-clause-own_list g c =
     let p = c.args.plan.now in
     let m = g.G.Governor.demand in
-    ok-replayed p c.known.ensures.limits (ask_of m p) c.args.trace.now (ended-once c.args.trace.now.notes c.requires.ended) (c.own_list.ensures.own m) c.check.result c.check.ensures
+    ok-replayed p c.known.ensures.limits (ask_of m p) c.args.trace.now
+    (ended-once c.args.trace.now.notes c.requires.ended) (c.own_list.ensures.own m) c.check.result c.check.ensures
 
 pub returns-clause-some_list : goal.returns-clause-some_list
 returns-clause-some_list g c rows h few =
     let p = c.args.plan.now in
     let m = g.G.Governor.demand in
     subst (λ (r : Result Totals ReplayFault). IsUnlessMemory fault.NoMemory (λ (totals : Totals). totals) c.check.result r)
-    (some-replayed p c.known.ensures.limits (ask_of m p) c.args.trace.now (ended-once c.args.trace.now.notes c.requires.ended) (c.own_list.ensures.own m) rows h few)
+    (some-replayed p c.known.ensures.limits (ask_of m p) c.args.trace.now
+    (ended-once c.args.trace.now.notes c.requires.ended) (c.own_list.ensures.own m) rows h few)
     c.check.ensures
 
 pub returns-clause-differs : goal.returns-clause-differs
 returns-clause-differs g c =
     let p = c.args.plan.now in
     let m = g.G.Governor.demand in
-    err-differs p c.known.ensures.limits (ask_of m p) c.args.trace.now (ended-once c.args.trace.now.notes c.requires.ended) c.check.result c.check.ensures
+    err-differs p c.known.ensures.limits (ask_of m p) c.args.trace.now
+    (ended-once c.args.trace.now.notes c.requires.ended) c.check.result c.check.ensures
 
 pub returns-clause-shown : goal.returns-clause-shown
 returns-clause-shown g c =
