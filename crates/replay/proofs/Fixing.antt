@@ -152,5 +152,5 @@ pub fixed-whole : (p : Plan) (notes : List Note) (at : ℕ) (d : DemandsOf) → 
 fixed-whole p notes at d none h =
     let same : (i k : ℕ) → demand_of p d.rows i k ≡ demand_of p (fixed_of p notes) i k =
     same-demand p d.rows (fixed_of p notes) (λ i k. sym (or-none (named d.rows i k))
-      ∙ (ap (λ (l : List Note). option_or (named d.rows i k) (named (fixed_of p l) i k)) (sym none) ∙ h i k)) in
+    ∙ (ap (λ (l : List Note). option_or (named d.rows i k) (named (fixed_of p l) i k)) (sym none) ∙ h i k)) in
     λ n i k. same i k n

@@ -4,8 +4,11 @@ use Rattle.dvs_base.specs.Outside.{Files, ShelfView, SinkView, Rose, Lacks, file
 use Rattle.dvs_base.specs.Checks.{and_then}
 use Rattle.task_model.specs.declared.task.Task.{Task}
 use Rattle.freq_table.specs.Tables.{Table}
-use Rattle.words.specs.Commands.{RunOf, CommandOf, run, admit, workload}
-use Rattle.rtdvs_top.specs.Answer.{tasks_at, machine_at, demands_at, run_after_tasks, admit_after_tasks, answer_of_command}
+use Rattle.words.specs.Commands.{RunOf, CommandOf, run, admit, replay, workload}
+use Rattle.rtdvs_top.specs.Answer.{tasks_at, machine_at, demands_at, run_after_tasks, admit_after_tasks}
+use Rattle.words.specs.Commands.{ReplayOf}
+use Rattle.rtdvs_top.specs.ReplayAnswer.{replay_after_tasks}
+use Rattle.rtdvs_top.specs.CommandAnswer.{answer_of_command}
 use Rattle.rtdvs_top.specs.Causes.{LoadOf, NamedLoadFails, PassesBefore, files_for}
 use Rattle.rtdvs_top.specs.Ending.{EndsAs, Leaves}
 use Rattle.rtdvs_top.specs.Promises.{Answers, IsSureOf}
@@ -43,6 +46,10 @@ module _ (files : Files) where
   gone : (old : ShelfView) (name : List ℕ) → old.held ≡ Some files → Lacks old.held name → file_of files name ≡ None
   gone old name told lacks = subst (λ (t : Option Files). Lacks t name) told lacks
 
+  trace-answer : (r : ReplayOf) (tasks : List Task) (machine : Table) → machine_at r.machine files ≡ Ok machine
+      → file_of files r.trace ≡ None → replay_after_tasks r tasks files ≡ Err (status.Load file.Trace)
+  trace-answer r tasks machine m lacks = rw (m, lacks) refl
+
   -- where a file of the command is lacking, and those before it were read, the answer is that its load fails
   lacks-answer : (old new : ShelfView) (c : CommandOf) (kind : FileKind) → files_for old.held c ≡ Some files
       → LoadOf old new c (status.Load kind) → PassesBefore (Some files) c (status.Load kind)
@@ -50,6 +57,23 @@ module _ (files : Files) where
   lacks-answer old new (workload seed) file.Tasks told fails passes = absurd fails
   lacks-answer old new (workload seed) file.Machine told fails passes = absurd fails
   lacks-answer old new (workload seed) file.Demands told fails passes = absurd fails
+  lacks-answer old new (run r) file.Trace told fails passes = absurd fails
+  lacks-answer old new (admit a) file.Trace told fails passes = absurd fails
+  lacks-answer old new (workload seed) file.Trace told fails passes = absurd fails
+  lacks-answer old new (replay r) file.Tasks told (inl lacks) passes = inl (rw (gone old r.tasks told lacks) refl)
+  lacks-answer old new (replay r) file.Tasks told (inr rose) passes = inr rose.0
+  lacks-answer old new (replay r) file.Machine told (inl lacks) passes =
+      let g = given-next (tasks_at r.tasks files) (λ tasks. replay_after_tasks r tasks files) passes in
+      let after : replay_after_tasks r g.0 files ≡ Err (status.Load file.Machine) =
+      rw (gone old r.machine told lacks) refl in
+      inl (g.2 ∙ after)
+  lacks-answer old new (replay r) file.Machine told (inr rose) passes = inr rose.0
+  lacks-answer old new (replay r) file.Demands told fails passes = absurd fails
+  lacks-answer old new (replay r) file.Trace told (inl lacks) passes =
+      let g = given-next (tasks_at r.tasks files) (λ tasks. replay_after_tasks r tasks files) passes.0 in
+      let m = given-value (machine_at r.machine files) passes.1 in
+      inl (g.2 ∙ trace-answer r g.0 m.0 m.1 (gone old r.trace told lacks))
+  lacks-answer old new (replay r) file.Trace told (inr rose) passes = inr rose.0
   lacks-answer old new (run r) file.Tasks told (inl lacks) passes = inl (rw (gone old r.tasks told lacks) refl)
   lacks-answer old new (run r) file.Tasks told (inr rose) passes = inr rose.0
   lacks-answer old new (admit a) file.Tasks told (inl lacks) passes = inl (rw (gone old a.tasks told lacks) refl)
@@ -90,6 +114,7 @@ answers-of (Some files) c old new out_old out_new (status.Load kind) told ends l
 answers-of (Some files) c old new out_old out_new (status.Text why) told ends load passes = ends
 answers-of (Some files) c old new out_old out_new (status.Limit jobs) told ends load passes = ends
 answers-of (Some files) c old new out_old out_new (status.OverWorst task job units worst) told ends load passes = ends
+answers-of (Some files) c old new out_old out_new (status.Differs line wanted found) told ends load passes = ends
 answers-of (Some files) c old new out_old out_new status.NoMemory told ends load passes = tt
 
 -- a sink that is sure of the whole answer counts no fault
@@ -106,5 +131,7 @@ sure-of shows (Some files) c (status.Load kind) old new ends leaves sure = ap (�
 sure-of shows (Some files) c (status.Text why) old new ends leaves sure = ap (λ w. (shows w).faults) leaves
 sure-of shows (Some files) c (status.Limit jobs) old new ends leaves sure = ap (λ w. (shows w).faults) leaves
 sure-of shows (Some files) c (status.OverWorst task job units worst) old new ends leaves sure =
+    ap (λ w. (shows w).faults) leaves
+sure-of shows (Some files) c (status.Differs line wanted found) old new ends leaves sure =
     ap (λ w. (shows w).faults) leaves
 sure-of shows (Some files) c status.NoMemory old new ends leaves sure = ap (λ w. (shows w).faults) leaves

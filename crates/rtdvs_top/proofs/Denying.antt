@@ -78,7 +78,7 @@ given-both (Err s) next b e = absurd (true≢false (sym (ap is_given e)))
 
 bytes-deny-not : (kind : FileKind) (held : Option (List ℕ)) → DeniesNot (bytes_from kind held)
 bytes-deny-not kind None = refl
-bytes-deny-not kind (Some bytes) = go (nat_lt longest (length bytes))
+bytes-deny-not kind (Some bytes) = go (nat_lt (longest kind) (length bytes))
   where
     go : (b : Bool) → DeniesNot (if b then Err (status.Text (text.TooLong kind)) else Ok bytes)
     go true = refl

@@ -17,6 +17,7 @@ module _ (old new : SinkView) where
   ends-somehow answer (status.Text why) h = tt
   ends-somehow answer (status.Limit jobs) h = tt
   ends-somehow answer (status.OverWorst task job units worst) h = tt
+  ends-somehow answer (status.Differs line wanted found) h = tt
   ends-somehow answer status.NoMemory h = tt
 
   refused-somehow : (s : Status) → IsRefusal s → EndsSomehow old new s
@@ -28,6 +29,7 @@ module _ (old new : SinkView) where
   refused-somehow (status.Text why) h = tt
   refused-somehow (status.Limit jobs) h = tt
   refused-somehow (status.OverWorst task job units worst) h = tt
+  refused-somehow (status.Differs line wanted found) h = tt
   refused-somehow status.NoMemory h = tt
 
   refused-ends : {A : Type 0} (step : Result A Status) (k : A → Result (List ℕ) Status) (s : Status) → EndsWith step s
@@ -40,6 +42,7 @@ module _ (old new : SinkView) where
   refused-ends step k (status.Text why) h = rw h refl
   refused-ends step k (status.Limit jobs) h = rw h refl
   refused-ends step k (status.OverWorst task job units worst) h = rw h refl
+  refused-ends step k (status.Differs line wanted found) h = rw h refl
   refused-ends step k status.NoMemory h = tt
 
   -- a step that is refused ends the answer, and one that gives a value leaves it to the next

@@ -14,3 +14,4 @@ pub mod Answering
 pub mod Shows
 pub mod FewJobs
 pub mod FiveLines
+pub mod Comparisons

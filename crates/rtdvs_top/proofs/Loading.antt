@@ -18,25 +18,25 @@ whole_file (Some x) m v e h =
     let short : length x ≤ m + 1 = omega (arith, length-take (m + 1) x, ap length s) in
     ap Some (sym (take_all (m + 1) x short) ∙ s)
 
-long_file : (kind : FileKind) (f : Option (List ℕ)) (v : List ℕ) → option_map (take (longest + 1)) f ≡ Some v
-    → longest < length v → bytes_from kind f ≡ Err (status.Text (text.TooLong kind))
+long_file : (kind : FileKind) (f : Option (List ℕ)) (v : List ℕ) → option_map (take (longest kind + 1)) f ≡ Some v
+    → longest kind < length v → bytes_from kind f ≡ Err (status.Text (text.TooLong kind))
 long_file kind None v e h = absurd (cc)
 long_file kind (Some x) v e h =
-    let s : take (longest + 1) x ≡ v = same_Some _ _ e in
-    let long : longest < length x = omega (arith, length-take (longest + 1) x, ap length s) in
+    let s : take (longest kind + 1) x ≡ v = same_Some _ _ e in
+    let long : longest kind < length x = omega (arith, length-take (longest kind + 1) x, ap length s) in
     grind (arith, nat_tests)
 
-short_file : (kind : FileKind) (v : List ℕ) → length v ≤ longest → bytes_from kind (Some v) ≡ Ok v
+short_file : (kind : FileKind) (v : List ℕ) → length v ≤ longest kind → bytes_from kind (Some v) ≡ Ok v
 short_file kind v h = grind (arith, nat_tests)
 
 -- a file that is too long is refused
-pub too_long : (told : Option Files) (kind : FileKind) (name v : List ℕ) → LoadsFrom told name (longest + 1) v
-    → longest < length v → Refuses told (bytes_at kind name) (status.Text (text.TooLong kind))
+pub too_long : (told : Option Files) (kind : FileKind) (name v : List ℕ) → LoadsFrom told name (longest kind + 1) v
+    → longest kind < length v → Refuses told (bytes_at kind name) (status.Text (text.TooLong kind))
 too_long None kind name v l h = tt
 too_long (Some files) kind name v l h = long_file kind (file_of files name) v l h
 
 -- a file that isn't is given whole
-pub gives_bytes : (told : Option Files) (kind : FileKind) (name v : List ℕ) → LoadsFrom told name (longest + 1) v
-    → length v ≤ longest → Gives told (bytes_at kind name) v
+pub gives_bytes : (told : Option Files) (kind : FileKind) (name v : List ℕ) → LoadsFrom told name (longest kind + 1) v
+    → length v ≤ longest kind → Gives told (bytes_at kind name) v
 gives_bytes None kind name v l h = tt
-gives_bytes (Some files) kind name v l h = rw (whole_file (file_of files name) longest v l h) (short_file kind v h)
+gives_bytes (Some files) kind name v l h = rw (whole_file (file_of files name) (longest kind) v l h) (short_file kind v h)

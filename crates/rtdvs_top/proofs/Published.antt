@@ -83,5 +83,6 @@ module _ (demand : Plan → StateOf → Frac) (kind : GovernorKind) (p : Plan) (
   met-published ticks (status.Text why) h = tt
   met-published ticks (status.Limit jobs) h = tt
   met-published ticks (status.OverWorst task job units worst) h = tt
+  met-published ticks (status.Differs line wanted found) h = tt
   met-published ticks status.Write h = tt
   met-published ticks status.NoMemory h = tt

@@ -31,6 +31,7 @@ ends-refusal step (status.Load kind) h = tt
 ends-refusal step (status.Text why) h = tt
 ends-refusal step (status.Limit jobs) h = tt
 ends-refusal step (status.OverWorst task job units worst) h = tt
+ends-refusal step (status.Differs line wanted found) h = tt
 ends-refusal step status.NoMemory h = tt
 
 pub task-ends : {A : Type 0} (step : Result A Status) (e : TaskFault)

@@ -39,5 +39,6 @@ has-met kind r low tells test exists unique (status.Load file) h = tt
 has-met kind r low tells test exists unique (status.Text why) h = tt
 has-met kind r low tells test exists unique (status.Limit jobs) h = tt
 has-met kind r low tells test exists unique (status.OverWorst task job units worst) h = tt
+has-met kind r low tells test exists unique (status.Differs line wanted found) h = tt
 has-met kind r low tells test exists unique status.Write h = tt
 has-met kind r low tells test exists unique status.NoMemory h = tt

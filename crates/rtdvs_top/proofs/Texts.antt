@@ -8,7 +8,7 @@ use Rattle.std.proofs.Math.Seq.{take-append-add}
 use Rattle.dvs_base.specs.declared.note.Note.{Note}
 use Rattle.dvs_base.specs.Outside.{SinkView, Rose}
 use Rattle.event_kernel.specs.Heard.{HasHeard, HasBalked}
-use Rattle.rtdvs_top.specs.Writing.{Wrote, WroteSome, Writing}
+use Rattle.rtdvs_top.specs.Writing.{Wrote, WroteSome, Writing, NotedAs}
 
 -- nothing was written
 appends-none : (a : Option (List ℕ)) → Appends a a []
@@ -56,6 +56,11 @@ pub writing-then : {T E : Type 0} (a b c : SinkView) (t u : List ℕ) (r : Resul
     → Writing a c (t ++ u) r
 writing-then a b c t u (Ok v) w x = wrote-then a b c t u w x
 writing-then a b c t u (Err e) w x = wrote-then-some a b c t u w x
+
+-- a text that was put stands there whole or in part
+pub noted : {T E : Type 0} (a b : SinkView) (t : List ℕ) (r : Result T E) → Writing a b t r → NotedAs a b t
+noted a b t (Ok v) w = inl w
+noted a b t (Err e) w = inr w
 
 -- what a listener heard was written, and what it balked at was written in part; `Same` is what its value keeps
 module _ {L : Type 0} (heard balked : L → Note → L → Type 0) (shows : L → SinkView) (text : L → Note → List ℕ) (Same : L → L → Type 0)

@@ -28,8 +28,8 @@ use Rattle.sched_model.specs.StaticDemand.{static_demand}
 use Rattle.sched_model.specs.Text.{run_text}
 use Rattle.sched_model.specs.Jobs.{released_jobs}
 use Rattle.event_kernel.specs.Runs.{Run}
-use Rattle.dvs_base.specs.declared.limits.TheConstants.{MOST_JOBS}
-use Rattle.words.specs.Commands.{RunOf, AdmitOf, CommandOf, run, admit, workload}
+use Rattle.dvs_base.specs.declared.limits.TheConstants.{MOST_JOBS, LONGEST_FILE, LONGEST_TRACE}
+use Rattle.words.specs.Commands.{RunOf, AdmitOf}
 use Rattle.rtdvs_top.specs.WorkloadLines.{workload_text, workload_tasks, workload_ticks}
 use Rattle.rtdvs_top.specs.declared.status.FileKind.{FileKind}
 use Rattle.rtdvs_top.specs.declared.status.FileKind.TheVariants as file
@@ -38,14 +38,17 @@ use Rattle.rtdvs_top.specs.declared.status.Denied.TheVariants as denied
 use Rattle.rtdvs_top.specs.declared.status.Status.{Status}
 use Rattle.rtdvs_top.specs.declared.status.Status.TheVariants as status
 
--- the longest file that is read, in bytes
-abbrev pub longest : ℕ
-longest = 16777216
+-- the longest file of a kind that is read, in bytes
+abbrev pub longest : FileKind → ℕ
+longest file.Tasks = LONGEST_FILE
+longest file.Machine = LONGEST_FILE
+longest file.Demands = LONGEST_FILE
+longest file.Trace = LONGEST_TRACE
 
 -- the bytes of a file, where it is held and not too long
 abbrev pub bytes_from : FileKind → Option (List ℕ) → Result (List ℕ) Status
 bytes_from kind None = Err (status.Load kind)
-bytes_from kind (Some bytes) = if nat_lt longest (length bytes) then Err (status.Text (text.TooLong kind)) else Ok bytes
+bytes_from kind (Some bytes) = if nat_lt (longest kind) (length bytes) then Err (status.Text (text.TooLong kind)) else Ok bytes
 
 -- the bytes of a named file
 abbrev pub bytes_at : FileKind → List ℕ → Files → Result (List ℕ) Status
@@ -172,9 +175,3 @@ admit_answer a files = and_then (tasks_at a.tasks files) (λ tasks. admit_after_
 -- the answer of a made workload: its lines, which need no file
 abbrev pub workload_answer : ℕ → Result (List ℕ) Status
 workload_answer seed = Ok (workload_text seed workload_tasks workload_ticks)
-
--- the answer of a command
-abbrev pub answer_of_command : CommandOf → Files → Result (List ℕ) Status
-answer_of_command (run r) files = run_answer r files
-answer_of_command (admit a) files = admit_answer a files
-answer_of_command (workload seed) files = workload_answer seed

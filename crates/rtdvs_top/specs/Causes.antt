@@ -1,7 +1,7 @@
 -- What a status says, and why it comes.
 use Rattle.std.specs.Prelude.{IsOk, ◌≡◌, ◌⊎◌, ℕ, ◌+◌, ◌<◌, ◌≤◌, List, [], Option, Some, None, Result, Ok, Err, ⊤}
 use Rattle.dvs_base.specs.Outside.{Files, ShelfView, Lacks, Rose}
-use Rattle.words.specs.Commands.{RunOf, CommandOf, run, admit, workload}
+use Rattle.words.specs.Commands.{RunOf, CommandOf, run, admit, replay, workload}
 use Rattle.rtdvs_top.specs.Answer.{tasks_at, machine_at}
 use Rattle.rtdvs_top.specs.declared.status.FileKind.{FileKind}
 use Rattle.rtdvs_top.specs.declared.status.FileKind.TheVariants as file
@@ -76,49 +76,68 @@ abbrev pub LaterLoad : ShelfView → ShelfView → RunOf → Status → Type 0
 LaterLoad old new r (status.Load file.Tasks) = ⊥
 LaterLoad old new r (status.Load file.Machine) = LoadFails old new 1 r.machine
 LaterLoad old new r (status.Load file.Demands) = NamedLoadFails old new 2 r.demands
+LaterLoad old new r (status.Load file.Trace) = ⊥
 LaterLoad old new r s = ⊤
 
 -- how many files a command loads: its tasks, and those after them; a made workload loads none
 abbrev pub loads_of : CommandOf → ℕ
 loads_of (run r) = 1 + loads_named r.demands + 1
 loads_of (admit a) = 2
+loads_of (replay r) = 3
 loads_of (workload seed) = 0
 
 -- the files that a command's answer is of: those that the shelf tells; a made workload is of none
 abbrev pub files_for : Option Files → CommandOf → Option Files
 files_for held (run r) = held
 files_for held (admit a) = held
+files_for held (replay r) = held
 files_for held (workload seed) = Some []
 
 -- the file of tasks that a command names, where it names one
 abbrev pub tasks_name : CommandOf → Option (List ℕ)
 tasks_name (run r) = Some r.tasks
 tasks_name (admit a) = Some a.tasks
+tasks_name (replay r) = Some r.tasks
 tasks_name (workload seed) = None
 
 -- the file of a machine that a command names, where it names one
 abbrev pub machine_name : CommandOf → Option (List ℕ)
 machine_name (run r) = Some r.machine
 machine_name (admit a) = Some a.machine
+machine_name (replay r) = Some r.machine
 machine_name (workload seed) = None
 
 -- the file of demands that a command names, where it names one
 abbrev pub demands_name : CommandOf → Option (List ℕ)
 demands_name (run r) = r.demands
 demands_name (admit a) = None
+demands_name (replay r) = None
 demands_name (workload seed) = None
 
--- why a load of a command failed, by its place: the tasks first, then the machine, and then the demands
+-- the file of a trace that a command names, where it names one
+abbrev pub trace_name : CommandOf → Option (List ℕ)
+trace_name (run r) = None
+trace_name (admit a) = None
+trace_name (replay r) = Some r.trace
+trace_name (workload seed) = None
+
+-- why a load of a command failed, by its place: the tasks first, then the machine, and then the demands or the trace
 abbrev pub LoadOf : ShelfView → ShelfView → CommandOf → Status → Type 0
 LoadOf old new c (status.Load file.Tasks) = NamedLoadFails old new 1 (tasks_name c)
 LoadOf old new c (status.Load file.Machine) = NamedLoadFails old new 2 (machine_name c)
 LoadOf old new c (status.Load file.Demands) = NamedLoadFails old new 3 (demands_name c)
+LoadOf old new c (status.Load file.Trace) = NamedLoadFails old new 3 (trace_name c)
 LoadOf old new c s = ⊤
 
 -- a file that is named is read
 abbrev pub IsRead : {A : Type 0} → (List ℕ → Files → Result A Status) → Option (List ℕ) → Files → Type 0
 IsRead read None files = ⊤
 IsRead read (Some name) files = IsOk (read name files)
+
+-- what holds where a file is named
+abbrev pub WhereNamed : Option (List ℕ) → Type 0 → Type 0
+WhereNamed None Holds = ⊤
+WhereNamed (Some name) Holds = Holds
 
 -- a load of demands fails only after the machine was read, where the files are told
 abbrev pub PassesMachine : Option Files → CommandOf → Status → Type 0
@@ -130,4 +149,6 @@ abbrev pub PassesBefore : Option Files → CommandOf → Status → Type 0
 PassesBefore (Some files) c (status.Load file.Machine) = IsRead tasks_at (tasks_name c) files
 PassesBefore (Some files) c (status.Load file.Demands) =
     IsRead tasks_at (tasks_name c) files × IsRead machine_at (machine_name c) files
+PassesBefore (Some files) c (status.Load file.Trace) =
+    WhereNamed (trace_name c) (IsRead tasks_at (tasks_name c) files × IsRead machine_at (machine_name c) files)
 PassesBefore told c s = ⊤

@@ -12,5 +12,6 @@ code_of (status.Load file) = 3
 code_of (status.Text why) = 4
 code_of (status.Limit jobs) = 5
 code_of (status.OverWorst task job units worst) = 6
+code_of (status.Differs line wanted found) = 7
 code_of status.Write = 8
 code_of status.NoMemory = 9

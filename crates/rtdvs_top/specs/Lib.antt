@@ -11,3 +11,6 @@ pub mod Causes
 pub mod Ending
 pub mod Promises
 pub mod EdfRuns
+pub mod ReplayAnswer
+pub mod CommandAnswer
+pub mod ReplayCauses

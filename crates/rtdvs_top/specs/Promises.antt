@@ -15,7 +15,8 @@ use Rattle.dvs_base.specs.declared.limits.TheConstants.{MOST_JOBS}
 use Rattle.words.specs.Commands.{RunOf, CommandOf, run}
 use Rattle.words.specs.Reading.{command_of}
 use Rattle.words.specs.declared.command.WordFault.{WordFault}
-use Rattle.rtdvs_top.specs.Answer.{answer_of_command, prepared_of, admission, tasks_at, machine_at, demands_at}
+use Rattle.rtdvs_top.specs.CommandAnswer.{answer_of_command}
+use Rattle.rtdvs_top.specs.Answer.{prepared_of, admission, tasks_at, machine_at, demands_at}
 use Rattle.rtdvs_top.specs.Naming.{names_by}
 use Rattle.rtdvs_top.specs.Refusals.{status_text}
 use Rattle.rtdvs_top.specs.Causes.{LoadOf, PassesBefore, files_for, loads_of}

@@ -1,8 +1,13 @@
 -- The lines that say why a call ended.
-use Rattle.std.specs.Prelude.{ℕ, ◌==◌, List, [], ◌∷◌, codes, if◌then◌else◌}
+use Rattle.std.specs.Prelude.{⊤, ℕ, ◌==◌, List, [], ◌∷◌, ◌++◌, codes, if◌then◌else◌}
 use Rattle.std.specs.Fmt.{decimal}
 use Rattle.dvs_base.specs.Parts.{joined}
-use Rattle.trace_text.specs.TraceLines.{name_of}
+use Rattle.dvs_base.specs.declared.note.Note.{Note}
+use Rattle.trace_text.specs.TraceLines.{name_of, note_text}
+use Rattle.trace_reader.specs.declared.trace.TraceKind.{TraceKind}
+use Rattle.trace_reader.specs.declared.trace.TraceKind.TheVariants as trace_kind
+use Rattle.trace_reader.specs.declared.trace.TraceFault.{TraceFault}
+use Rattle.trace_reader.specs.declared.trace.TraceFault.TheVariants as trace_fault
 use Rattle.task_model.specs.declared.fault.Field.{Field}
 use Rattle.task_model.specs.declared.fault.Field.TheVariants as task_field
 use Rattle.task_model.specs.declared.fault.TaskFault.{TaskFault}
@@ -30,6 +35,7 @@ abbrev pub file_word : FileKind → List ℕ
 file_word file.Tasks = codes "tasks"
 file_word file.Machine = codes "machine"
 file_word file.Demands = codes "demands"
+file_word file.Trace = codes "trace"
 
 -- the word of a task file's field
 abbrev pub task_field_word : Field → List ℕ
@@ -128,12 +134,40 @@ demand_fault_text names (demand_fault.OverWorst task job units worst) =
     over_worst_of (name_of names task) job units worst
 demand_fault_text names demand_fault.NoMemory = codes "no memory\n"
 
+-- the words of what a line of a trace has wrong
+abbrev pub trace_kind_word : TraceKind → List ℕ
+trace_kind_word trace_kind.Version = codes "version"
+trace_kind_word trace_kind.Plan = codes "plan"
+trace_kind_word trace_kind.Word = codes "word"
+trace_kind_word trace_kind.Number = codes "number"
+trace_kind_word trace_kind.Task = codes "task"
+trace_kind_word trace_kind.NoEnd = codes "no end"
+trace_kind_word trace_kind.AfterEnd = codes "after end"
+trace_kind_word trace_kind.TooLong = codes "too long"
+trace_kind_word trace_kind.TooMany = codes "too many lines"
+trace_kind_word trace_kind.TaskLine = codes "task line"
+trace_kind_word trace_kind.Order = codes "order"
+trace_kind_word trace_kind.Share = codes "share"
+
+-- the line of a trace's refusal
+abbrev pub trace_fault_text : TraceFault → List ℕ
+trace_fault_text (trace_fault.Refused n kind) =
+    joined (codes "trace: line " ∷ decimal n ∷ codes ": " ∷ trace_kind_word kind ∷ codes "\n" ∷ [])
+trace_fault_text trace_fault.NoMemory = codes "no memory\n"
+
+-- the lines of a difference: its line, and the lines of the two notes
+abbrev pub difference_text : List (List ℕ) → ℕ → Note → Note → List ℕ
+difference_text names n wanted found =
+    joined (codes "differs: line " ∷ decimal n ∷ codes "\n" ∷ [])
+    ++ ((codes "wanted: " ++ note_text names wanted) ++ (codes "found: " ++ note_text names found))
+
 -- the line of a refused file
 abbrev pub text_fault_text : List (List ℕ) → TextFault → List ℕ
 text_fault_text names (text.TooLong kind) = joined (file_word kind ∷ codes ": too long\n" ∷ [])
 text_fault_text names (text.Tasks why) = task_fault_text why
 text_fault_text names (text.Machine why) = machine_fault_text why
 text_fault_text names (text.Demands why) = demand_fault_text names why
+text_fault_text names (text.Trace why) = trace_fault_text why
 
 -- the line of a denial
 abbrev pub denied_text : List (List ℕ) → Denied → List ℕ
@@ -143,7 +177,12 @@ denied_text names (denied.Rm task num cap) =
     joined (
     codes "denied rm " ∷ name_of names task ∷ codes " " ∷ decimal num ∷ codes " " ∷ decimal cap ∷ codes "\n" ∷ [])
 
--- the line of a status; `Done` has none
+-- the status is told by one line
+abbrev pub HasOneLine : Status → Type 0
+HasOneLine (status.Differs n wanted found) = ⊥
+HasOneLine s = ⊤
+
+-- the line or the lines of a status; `Done` has none
 abbrev pub status_text : List (List ℕ) → Status → List ℕ
 status_text names status.Done = []
 status_text names (status.NotAdmitted why) = denied_text names why
@@ -152,5 +191,6 @@ status_text names (status.Load kind) = joined (codes "load: " ∷ file_word kind
 status_text names (status.Text why) = text_fault_text names why
 status_text names (status.Limit jobs) = joined (codes "limit: " ∷ decimal jobs ∷ codes " jobs, at most 100000\n" ∷ [])
 status_text names (status.OverWorst task job units worst) = over_worst_of (name_of names task) job units worst
+status_text names (status.Differs n wanted found) = difference_text names n wanted found
 status_text names status.Write = codes "write: out failed\n"
 status_text names status.NoMemory = codes "no memory\n"

@@ -1,8 +1,9 @@
 -- What a status shows by itself, whatever the outside tells.
-use Rattle.std.specs.Prelude.{◌<◌, ⊤}
+use Rattle.std.specs.Prelude.{◌<◌, ◌≢◌, ⊤}
 use Rattle.task_model.specs.declared.fault.TaskFault.TheVariants as task_fault
 use Rattle.freq_table.specs.declared.fault.MachineFault.TheVariants as machine_fault
 use Rattle.demand_list.specs.declared.fault.DemandFault.TheVariants as demand_fault
+use Rattle.trace_reader.specs.declared.trace.TraceFault.TheVariants as trace_fault
 use Rattle.dvs_base.specs.declared.limits.TheConstants.{MOST_JOBS}
 use Rattle.rtdvs_top.specs.declared.status.TextFault.{TextFault}
 use Rattle.rtdvs_top.specs.declared.status.TextFault.TheVariants as text
@@ -22,6 +23,7 @@ IsShownText (text.Tasks task_fault.NoMemory) = ⊥
 IsShownText (text.Machine machine_fault.NoMemory) = ⊥
 IsShownText (text.Demands demand_fault.NoMemory) = ⊥
 IsShownText (text.Demands (demand_fault.OverWorst task job units worst)) = ⊥
+IsShownText (text.Trace trace_fault.NoMemory) = ⊥
 IsShownText why = ⊤
 
 -- the numbers of a status are such that they are its cause
@@ -29,5 +31,6 @@ abbrev pub IsShown : Status → Type 0
 IsShown (status.NotAdmitted why) = IsShownDenial why
 IsShown (status.Limit jobs) = MOST_JOBS < jobs
 IsShown (status.OverWorst task job units worst) = worst < units
+IsShown (status.Differs line wanted found) = wanted ≢ found
 IsShown (status.Text why) = IsShownText why
 IsShown s = ⊤

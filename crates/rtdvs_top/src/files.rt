@@ -1,20 +1,29 @@
 // The files that the words name: loaded, and read.
-ghost use Rattle.std.specs.Prelude.{◌≡◌, Some, map, option_map, IfOk, IfErr};
-ghost use Rattle.rtdvs_top.specs.Answer.{bytes_at, tasks_at, machine_at, demands_at, task_status, machine_status, demand_status};
+ghost use Rattle.std.specs.Prelude.{◌≡◌, ◌<◌, ◌^◌, Some, map, option_map, IfOk, IfErr};
+ghost use Rattle.rtdvs_top.specs.Answer.{longest, bytes_at, tasks_at, machine_at, demands_at, task_status, machine_status, demand_status};
 ghost use Rattle.rtdvs_top.specs.Causes.{Gives, Refuses, MakesLoads, IsLoadOf, IsNamedLoadOf, loads_named};
 ghost use Rattle.rtdvs_top.specs.Shown.{IsShown};
 
 use crate::{FileKind, Status, TextFault};
 use demand_list::{DemandFault, Demands, worst_list};
-use dvs_base::{LoadFault, Shelf};
+use dvs_base::{LONGEST_FILE, LONGEST_TRACE, LoadFault, Shelf};
 use freq_table::{Machine, MachineFault};
 use std::alloc::Global;
 use task_model::{TaskFault, TaskSet};
 
-const LONGEST: u64 = 16777216;
+// The longest file of a kind that is read, in bytes.
+fn longest(file: FileKind) -> u64
+    ensures longest { result ≡ longest file }
+    ensures room { result < 2 ^ 32 }
+{
+    match file {
+        FileKind::Tasks | FileKind::Machine | FileKind::Demands => LONGEST_FILE,
+        FileKind::Trace => LONGEST_TRACE,
+    }
+}
 
-// The bytes of a file that is not too long.
-fn load_file<S: Shelf>(
+/// The bytes of a file that is not too long.
+pub(crate) fn load_file<S: Shelf>(
     alloc: Global,
     file: FileKind,
     name: &str,
@@ -26,13 +35,14 @@ fn load_file<S: Shelf>(
     ensures loads { MakesLoads 1 (S.shows shelf.old) (S.shows shelf.new) }
     ensures shown { IfErr result IsShown }
 {
-    let bytes = match shelf.load(alloc, name, LONGEST) {
+    let most = longest(file);
+    let bytes = match shelf.load(alloc, name, most) {
         Ok(bytes) => bytes,
         Err(LoadFault::NoMemory) => return Err(Status::NoMemory),
         Err(LoadFault::Failed) => return Err(Status::Load { file }),
         Err(LoadFault::Absent) => return Err(Status::Load { file }),
     };
-    if bytes.len() as u64 > LONGEST {
+    if bytes.len() as u64 > most {
         return Err(Status::Text(TextFault::TooLong { file }));
     }
     Ok(bytes)

@@ -6,15 +6,18 @@
 #![tactic(auto)]
 
 mod admit_answer;
+mod difference;
 mod files;
 mod made_lines;
 mod made_runs;
 mod plan_words;
 mod refusal;
+mod replay_answer;
 mod run;
 mod run_answer;
 mod status;
 mod top;
+mod traced;
 mod word_line;
 mod writer;
 

@@ -3,7 +3,7 @@ ghost use Rattle.std.specs.Prelude.{◌≡◌, ◌+◌, ◌≤◌, ◌<◌, [], 
 ghost use Rattle.std.specs.Fmt.{decimal};
 ghost use Rattle.dvs_base.specs.Parts.{joined, part_text, most_bytes};
 ghost use Rattle.trace_text.specs.TraceLines.{name_of};
-ghost use Rattle.rtdvs_top.specs.Refusals.{file_word, task_field_word, machine_field_word, column_word, at_place, at_task, at_point, at_row, repeated_text, task_fault_text, machine_fault_text, demand_fault_text, over_worst_of, text_fault_text, denied_text, status_text};
+ghost use Rattle.rtdvs_top.specs.Refusals.{file_word, task_field_word, machine_field_word, column_word, at_place, at_task, at_point, at_row, repeated_text, task_fault_text, machine_fault_text, demand_fault_text, over_worst_of, text_fault_text, trace_kind_word, trace_fault_text, denied_text, HasOneLine, status_text};
 ghost use Rattle.std.specs.Option.{option_copied};
 ghost use Rattle.rtdvs_top.specs.Naming.{names_of, name_text};
 
@@ -13,6 +13,7 @@ use demand_list::{Column, DemandFault};
 use dvs_base::{Line, Name, Part, Short, line_of};
 use freq_table::{MachineFault, MachineField};
 use task_model::{Field, TaskFault, TaskSet};
+use trace_reader::{TraceFault, TraceKind};
 
 fn file_word(file: FileKind) -> &'static [u8]
     ensures { result.now ≡ file_word file }
@@ -21,6 +22,7 @@ fn file_word(file: FileKind) -> &'static [u8]
         FileKind::Tasks => b"tasks",
         FileKind::Machine => b"machine",
         FileKind::Demands => b"demands",
+        FileKind::Trace => b"trace",
     }
 }
 
@@ -194,7 +196,7 @@ fn machine_fault_line(why: &MachineFault) -> Line
 }
 
 // The name of a task of the set, where there is one.
-fn name_at(tasks: Option<&TaskSet>, task: u32) -> Option<Name>
+pub(crate) fn name_at(tasks: Option<&TaskSet>, task: u32) -> Option<Name>
     ensures { name_text result ≡ name_of (names_of (option_copied tasks.entry)) task }
 {
     match tasks {
@@ -203,7 +205,7 @@ fn name_at(tasks: Option<&TaskSet>, task: u32) -> Option<Name>
     }
 }
 
-fn name_part(name: &Option<Name>) -> Part<'_>
+pub(crate) fn name_part(name: &Option<Name>) -> Part<'_>
     ensures text { part_text result ≡ name_text name.now }
     ensures most { most_bytes result ≤ 32 }
 {
@@ -314,6 +316,40 @@ fn demand_fault_line(why: &DemandFault, tasks: Option<&TaskSet>) -> Line
     }
 }
 
+fn trace_kind_word(kind: TraceKind) -> &'static [u8]
+    ensures { result.now ≡ trace_kind_word kind }
+{
+    match kind {
+        TraceKind::Version => b"version",
+        TraceKind::Plan => b"plan",
+        TraceKind::Word => b"word",
+        TraceKind::Number => b"number",
+        TraceKind::Task => b"task",
+        TraceKind::NoEnd => b"no end",
+        TraceKind::AfterEnd => b"after end",
+        TraceKind::TooLong => b"too long",
+        TraceKind::TooMany => b"too many lines",
+        TraceKind::TaskLine => b"task line",
+        TraceKind::Order => b"order",
+        TraceKind::Share => b"share",
+    }
+}
+
+fn trace_fault_line(why: &TraceFault) -> Line
+    ensures { result ≡ trace_fault_text why.now }
+{
+    match why {
+        TraceFault::Refused { line, kind } => line_of(&[
+            Part::Word(b"trace: line "),
+            Part::Number(*line),
+            Part::Word(b": "),
+            Part::Word(trace_kind_word(*kind)),
+            Part::Word(b"\n"),
+        ]),
+        TraceFault::NoMemory => line_of(&[Part::Word(b"no memory\n")]),
+    }
+}
+
 fn text_fault_line(why: &TextFault, tasks: Option<&TaskSet>) -> Line
     ensures { result ≡ text_fault_text (names_of (option_copied tasks.entry)) why.now }
 {
@@ -325,6 +361,7 @@ fn text_fault_line(why: &TextFault, tasks: Option<&TaskSet>) -> Line
         TextFault::Tasks(why) => task_fault_line(why),
         TextFault::Machine(why) => machine_fault_line(why),
         TextFault::Demands(why) => demand_fault_line(why, tasks),
+        TextFault::Trace(why) => trace_fault_line(why),
     }
 }
 
@@ -354,8 +391,9 @@ fn denied_line(why: &Denied, tasks: Option<&TaskSet>) -> Line
     }
 }
 
-/// The line of a status, with the names of the tasks where they were read. It takes no memory.
+/// The line of a status that has one, with the names of the tasks where they were read. It takes no memory.
 pub(crate) fn status_line(status: &Status, tasks: Option<&TaskSet>) -> Line
+    requires { HasOneLine status.now }
     ensures { result ≡ status_text (names_of (option_copied tasks.entry)) status.now }
 {
     match status {
@@ -379,6 +417,7 @@ pub(crate) fn status_line(status: &Status, tasks: Option<&TaskSet>) -> Line
             units,
             worst,
         } => over_worst_line(&name_at(tasks, *task), *job, *units, *worst),
+        Status::Differs { .. } => unreachable!(),
         Status::Write => line_of(&[Part::Word(b"write: out failed\n")]),
         Status::NoMemory => line_of(&[Part::Word(b"no memory\n")]),
     }

@@ -3,8 +3,10 @@ ghost use Rattle.std.specs.Prelude.{◌≡◌};
 ghost use Rattle.rtdvs_top.specs.Code.{code_of};
 
 use demand_list::DemandFault;
+use dvs_base::Note;
 use freq_table::MachineFault;
 use task_model::TaskFault;
+use trace_reader::TraceFault;
 use words::WordFault;
 
 /// The files that words name.
@@ -16,12 +18,14 @@ pub enum FileKind {
     Machine,
     /// The file of demands.
     Demands,
+    /// The file of a trace.
+    Trace,
 }
 
 /// Why a file that was loaded is refused.
 #[derive(Clone, Copy, Debug, PartialEq, Eq)]
 pub enum TextFault {
-    /// It is longer than 16777216 bytes.
+    /// It is longer than 16777216 bytes, or a trace than 268435456.
     TooLong { file: FileKind },
     /// The tasks are refused, and not for want of memory.
     Tasks(TaskFault),
@@ -29,6 +33,8 @@ pub enum TextFault {
     Machine(MachineFault),
     /// The demands are refused, for neither want of memory nor a demand over its worst case.
     Demands(DemandFault),
+    /// The trace is refused, and not for want of memory.
+    Trace(TraceFault),
 }
 
 /// The two numbers by which a scheduler's test fails, in work units.
@@ -67,6 +73,12 @@ pub enum Status {
         units: u64,
         worst: u64,
     },
+    /// On this line of a trace, counted from 1, the schedule has the note `wanted`, and the trace the note `found`.
+    Differs {
+        line: u64,
+        wanted: Note,
+        found: Note,
+    },
     /// A write failed.
     Write,
     /// Memory ran out.
@@ -74,7 +86,7 @@ pub enum Status {
 }
 
 impl Status {
-    /// The exit status of the program. 7 is not used.
+    /// The exit status of the program.
     ///
     /// | Status | Code |
     /// |---|---|
@@ -85,6 +97,7 @@ impl Status {
     /// | `Text` | 4 |
     /// | `Limit` | 5 |
     /// | `OverWorst` | 6 |
+    /// | `Differs` | 7 |
     /// | `Write` | 8 |
     /// | `NoMemory` | 9 |
     pub fn code(&self) -> u8
@@ -98,6 +111,7 @@ impl Status {
             Status::Text(_) => 4,
             Status::Limit { .. } => 5,
             Status::OverWorst { .. } => 6,
+            Status::Differs { .. } => 7,
             Status::Write => 8,
             Status::NoMemory => 9,
         }

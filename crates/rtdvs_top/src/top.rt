@@ -2,7 +2,7 @@
 ghost use Rattle.std.specs.Prelude.{◌≡◌, ◌≤◌, ◌↔◌};
 ghost use Rattle.std.specs.Option.{option_copied};
 ghost use Rattle.dvs_base.specs.Outside.{Rose};
-ghost use Rattle.rtdvs_top.specs.Answer.{answer_of_command};
+ghost use Rattle.rtdvs_top.specs.CommandAnswer.{answer_of_command};
 ghost use Rattle.rtdvs_top.specs.Causes.{MakesLoads, LoadOf, PassesBefore, files_for, loads_of};
 ghost use Rattle.rtdvs_top.specs.Naming.{names_of, NamedBy};
 ghost use Rattle.rtdvs_top.specs.Refusals.{status_text};
@@ -16,10 +16,13 @@ ghost use Rattle.words.specs.declared.command.WordFault.{WordFault};
 
 use crate::Status;
 use crate::admit_answer::answer_admit;
+use crate::difference::{Difference, put_difference};
 use crate::made_lines::answer_workload;
 use crate::plan_words::{AdmitWords, RunWords};
 use crate::refusal::status_line;
+use crate::replay_answer::answer_replay;
 use crate::run_answer::answer_run;
+use crate::traced::TraceFiles;
 use crate::writer::put_line;
 use dvs_base::{Shelf, Sink};
 use std::alloc::Global;
@@ -31,11 +34,25 @@ fn note_status<E: Sink>(status: &Status, tasks: Option<&TaskSet>, notes: &mut E)
     ensures { NotedAs (E.shows notes.old) (E.shows notes.new)
         (status_text (names_of (option_copied tasks.entry)) status.now) }
 {
-    if let Status::Done = status {
-        return;
+    match *status {
+        Status::Done => {}
+        Status::Differs {
+            line,
+            wanted,
+            found,
+        } => {
+            let at = Difference {
+                line,
+                wanted,
+                found,
+            };
+            let _ = put_difference(at, tasks, notes);
+        }
+        _ => {
+            let line = status_line(status, tasks);
+            let _ = put_line(&line, notes);
+        }
     }
-    let line = status_line(status, tasks);
-    let _ = put_line(&line, notes);
 }
 
 // The answer of a command, and the tasks where they were read.
@@ -93,15 +110,27 @@ fn answer_command<S: Shelf, W: Sink>(
             };
             answer_admit(alloc, &admit, shelf, out)
         }
+        Command::Replay {
+            tasks,
+            machine,
+            trace,
+        } => {
+            let files = TraceFiles {
+                tasks,
+                machine,
+                trace,
+            };
+            answer_replay(alloc, &files, shelf, out)
+        }
         Command::Workload { seed } => (answer_workload(alloc, *seed, out), None),
     }
 }
 
-/// Does what the words ask for: runs a plan and writes its trace, tells whether a task set is admitted, or writes what
-/// the runs of a made workload come to.
+/// Does what the words ask for: runs a plan and writes its trace, tells whether a task set is admitted or whether a
+/// trace is that of the run that it tells, or writes what the runs of a made workload come to.
 ///
 /// The answer goes to `out`, and the line of a refusal to `notes`; both one put a line, which is tested, not proved.
-/// Files are loaded from `shelf` in the order tasks, machine, demands, each before it is read. `NoMemory` may come at
+/// Files are loaded from `shelf` in the order tasks, machine, demands or trace, each before it is read. `NoMemory` may come at
 /// any step before the first byte of `out`, and never after it; a fault of `notes` changes no status.
 pub fn rtdvs<S: Shelf, W: Sink, E: Sink>(
     alloc: Global,

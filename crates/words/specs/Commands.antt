@@ -34,10 +34,17 @@ pub record AdmitOf : Type 0 where
   pub machine : List ℕ
   pub scheduler : Scheduler
 
+-- what the words of a replay name
+pub record ReplayOf : Type 0 where
+  pub tasks : List ℕ
+  pub machine : List ℕ
+  pub trace : List ℕ
+
 -- a command; that of a workload names its seed
 pub data CommandOf : Type 0 where
   run : RunOf → CommandOf
   admit : AdmitOf → CommandOf
+  replay : ReplayOf → CommandOf
   workload : ℕ → CommandOf
 
 -- the scheduler and the governor of a run are a pair, and its number of ticks is within the limits
@@ -89,8 +96,17 @@ admit_of g = do
   scheduler ← need opt.Scheduler g.scheduler
   Ok (record { tasks = tasks; machine = machine; scheduler = scheduler })
 
+-- a replay by the values that were given
+abbrev pub replay_of : GivenOf → Result ReplayOf WordFault
+replay_of g = do
+  tasks ← need opt.Tasks g.tasks
+  machine ← need opt.Machine g.machine
+  trace ← need opt.Trace g.trace
+  Ok (record { tasks = tasks; machine = machine; trace = trace })
+
 -- the command by the values that were given, or the first required option that was not; last, a run's pair
 abbrev pub built : Verb → GivenOf → Result CommandOf WordFault
 built verb.Run g = run_of g >>= (λ r. Ok (run r))
 built verb.Admit g = admit_of g >>= (λ a. Ok (admit a))
+built verb.Replay g = replay_of g >>= (λ r. Ok (replay r))
 built verb.Workload g = need opt.Seed g.seed >>= (λ seed. Ok (workload seed))

@@ -19,6 +19,7 @@ commands =
     (codes "run", verb.Run)
     ∷ (codes "admit", verb.Admit)
     ∷ (codes "workload", verb.Workload)
+    ∷ (codes "replay", verb.Replay)
     ∷ []
 
 -- the command of a word
@@ -33,6 +34,7 @@ options_of verb.Run =
     ∷ []
 options_of verb.Admit = key.Tasks ∷ key.Machine ∷ key.Scheduler ∷ []
 options_of verb.Workload = key.Seed ∷ []
+options_of verb.Replay = key.Tasks ∷ key.Machine ∷ key.Trace ∷ []
 
 -- the word of an option that a command can require, or that takes a value of its own
 abbrev pub option_word : Opt → List ℕ

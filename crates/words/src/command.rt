@@ -42,6 +42,12 @@ pub enum Command<'a> {
         machine: &'a str,
         scheduler: Scheduler,
     },
+    /// Say whether a trace is that of the run that it tells.
+    Replay {
+        tasks: &'a str,
+        machine: &'a str,
+        trace: &'a str,
+    },
     /// Run what is made from a seed, under each governor.
     Workload {
         seed: u64,

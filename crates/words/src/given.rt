@@ -16,3 +16,11 @@ pub struct Given<'a> {
     pub probes: Option<bool>,
     pub format: Option<Version>,
 }
+
+/// The files of a trace: those of the plan that it tells, and its own.
+#[derive(Clone, Copy, Debug, PartialEq, Eq)]
+pub struct TraceFiles<'a> {
+    pub tasks: &'a str,
+    pub machine: &'a str,
+    pub trace: &'a str,
+}

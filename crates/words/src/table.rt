@@ -10,6 +10,7 @@ use crate::command::Opt;
 pub enum Verb {
     Run,
     Admit,
+    Replay,
     Workload,
 }
 
@@ -35,6 +36,7 @@ pub fn verb_of(word: &str) -> Option<Verb>
     match word {
         "run" => Some(Verb::Run),
         "admit" => Some(Verb::Admit),
+        "replay" => Some(Verb::Replay),
         "workload" => Some(Verb::Workload),
         _ => None,
     }
@@ -54,6 +56,7 @@ pub fn options_of(verb: Verb) -> &'static [Key]
             Key::Demands,
         ],
         Verb::Admit => &[Key::Tasks, Key::Machine, Key::Scheduler],
+        Verb::Replay => &[Key::Tasks, Key::Machine, Key::Trace],
         Verb::Workload => &[Key::Seed],
     }
 }

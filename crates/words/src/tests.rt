@@ -247,3 +247,23 @@ fn a_workload_has_a_seed(rt: HostRuntime) -> Result<(), Fail> {
     assert!(rt; fault_of(alloc, "workload")? == missing(Opt::Seed));
     Ok(())
 }
+
+#[test]
+fn a_trace_is_replayed(rt: HostRuntime) -> Result<(), Fail> {
+    let alloc = rt.alloc();
+    let replay = Command::Replay {
+        tasks: "t",
+        machine: "m",
+        trace: "r",
+    };
+    assert!(rt; is_read_as(alloc, "replay --trace r --machine m --tasks t", replay)?);
+    assert!(rt; fault_of(alloc, "replay --trace")? == no_value(2, "--trace"));
+    assert!(rt; fault_of(alloc, "replay --trace ")? == bad_value(3, ""));
+    assert!(rt; fault_of(alloc, "replay --trace r --trace r")? == repeated(4, "--trace"));
+    assert!(rt; fault_of(alloc, "replay --trace r --tasks t")? == missing(Opt::Machine));
+    assert!(rt; fault_of(alloc, "replay --tasks t --machine m")? == missing(Opt::Trace));
+    assert!(rt;
+        fault_of(alloc, "replay --tasks t --scheduler edf")? == unexpected(4, "--scheduler")
+    );
+    Ok(())
+}

@@ -28,7 +28,7 @@ loop-note-preserved c =
       fit = (subst (AllByRecursion (IsFit p)) next c.loop-note.invariant.fit).1;
       list = c.in_ok-fix.ensures.list;
       rows = fixed-next p notes c.loop-note.note-index _ c.loop-note.demands c.fix.new.demands next
-        c.loop-note.invariant.rows c.in_ok-fix.ensures.rows;
+          c.loop-note.invariant.rows c.in_ok-fix.ensures.rows;
     }
 
 pub returns-clause-demands : goal.returns-clause-demands

@@ -1,0 +1,232 @@
+// The lines that tell where a trace differs from its schedule.
+ghost use Rattle.std.specs.Prelude.{◌≡◌, ◌≤◌, ◌<◌, ◌++◌, ◌∷◌, [], codes, length};
+ghost use Rattle.std.specs.Fmt.{decimal};
+ghost use Rattle.std.specs.Option.{option_copied};
+ghost use Rattle.dvs_base.specs.Parts.{joined, part_text, most_bytes, fraction_text};
+ghost use Rattle.trace_text.specs.TraceLines.{line as line_text, name_of, run_fields, idle_fields, done_fields, note_text};
+ghost use Rattle.rtdvs_top.specs.Naming.{names_of};
+ghost use Rattle.rtdvs_top.specs.Refusals.{difference_text};
+ghost use Rattle.rtdvs_top.specs.Writing.{Writing};
+
+use crate::refusal::{name_at, name_part};
+use crate::writer::{put_line, put_two};
+use dvs_base::{Failed, Line, Note, Part, Pos, Sink, line_of};
+use task_model::TaskSet;
+
+// A segment: its two ends, its work units and its energy.
+#[derive(Clone, Copy)]
+struct Segment {
+    from: Pos,
+    to: Pos,
+    units: u64,
+    energy: u128,
+}
+
+fn release_line<'a>(word: &'a [u8], tick: u64, name: Part<'a>, job: u64) -> Line
+    requires word { length word.now ≤ 8 }
+    requires name { most_bytes name ≤ 32 }
+    ensures { result ≡ word.now
+        ++ line_text (codes "release" ∷ decimal tick ∷ part_text name.entry ∷ decimal job ∷ []) }
+{
+    line_of(&[
+        Part::Word(word),
+        Part::Word(b"release "),
+        Part::Number(tick),
+        Part::Word(b" "),
+        name,
+        Part::Word(b" "),
+        Part::Number(job),
+        Part::Word(b"\n"),
+    ])
+}
+
+fn speed_line(word: &[u8], tick: u64, speed: u64, demand: (u128, u128)) -> Line
+    requires { length word.now ≤ 8 }
+    ensures { result ≡ word.now
+        ++ line_text (codes "speed" ∷ decimal tick ∷ decimal speed ∷ fraction_text demand.0 demand.1 ∷ []) }
+{
+    line_of(&[
+        Part::Word(word),
+        Part::Word(b"speed "),
+        Part::Number(tick),
+        Part::Word(b" "),
+        Part::Number(speed),
+        Part::Word(b" "),
+        Part::Ratio(demand.0, demand.1),
+        Part::Word(b"\n"),
+    ])
+}
+
+fn run_line<'a>(word: &'a [u8], segment: Segment, name: Part<'a>, job: u64) -> Line
+    requires word { length word.now ≤ 8 }
+    requires name { most_bytes name ≤ 32 }
+    ensures { result ≡ word.now
+        ++ line_text (run_fields segment.from segment.to (part_text name.entry) job segment.units segment.energy) }
+{
+    line_of(&[
+        Part::Word(word),
+        Part::Word(b"run "),
+        Part::At(segment.from),
+        Part::Word(b" "),
+        Part::At(segment.to),
+        Part::Word(b" "),
+        name,
+        Part::Word(b" "),
+        Part::Number(job),
+        Part::Word(b" "),
+        Part::Number(segment.units),
+        Part::Word(b" "),
+        Part::Wide(segment.energy),
+        Part::Word(b"\n"),
+    ])
+}
+
+fn idle_line(word: &[u8], segment: Segment) -> Line
+    requires { length word.now ≤ 8 }
+    ensures { result ≡ word.now
+        ++ line_text (idle_fields segment.from segment.to segment.units segment.energy) }
+{
+    line_of(&[
+        Part::Word(word),
+        Part::Word(b"idle "),
+        Part::At(segment.from),
+        Part::Word(b" "),
+        Part::At(segment.to),
+        Part::Word(b" "),
+        Part::Number(segment.units),
+        Part::Word(b" "),
+        Part::Wide(segment.energy),
+        Part::Word(b"\n"),
+    ])
+}
+
+fn done_line<'a>(word: &'a [u8], at: Pos, name: Part<'a>, job: u64, used: u64) -> Line
+    requires word { length word.now ≤ 8 }
+    requires name { most_bytes name ≤ 32 }
+    ensures { result ≡ word.now ++ line_text (done_fields at (part_text name.entry) job used) }
+{
+    line_of(&[
+        Part::Word(word),
+        Part::Word(b"done "),
+        Part::At(at),
+        Part::Word(b" "),
+        name,
+        Part::Word(b" "),
+        Part::Number(job),
+        Part::Word(b" "),
+        Part::Number(used),
+        Part::Word(b"\n"),
+    ])
+}
+
+fn end_line(word: &[u8], ticks: u64, run: u128, idle: u128) -> Line
+    requires { length word.now ≤ 8 }
+    ensures { result ≡ word.now ++ line_text (codes "end" ∷ decimal ticks ∷ decimal run ∷ decimal idle ∷ []) }
+{
+    line_of(&[
+        Part::Word(word),
+        Part::Word(b"end "),
+        Part::Number(ticks),
+        Part::Word(b" "),
+        Part::Wide(run),
+        Part::Word(b" "),
+        Part::Wide(idle),
+        Part::Word(b"\n"),
+    ])
+}
+
+// A word, and then the line of a note.
+#[tactic(auto, unfolding(trace_text::specs::TraceLines::note_text))]
+fn told_line(word: &[u8], note: Note, tasks: Option<&TaskSet>) -> Line
+    requires { length word.now ≤ 8 }
+    ensures { result ≡ word.now ++ note_text (names_of (option_copied tasks.entry)) note }
+{
+    match note {
+        Note::Release { tick, task, job } => {
+            release_line(word, tick, name_part(&name_at(tasks, task)), job)
+        }
+        Note::Speed {
+            tick,
+            speed,
+            num,
+            den,
+        } => speed_line(word, tick, speed, (num, den)),
+        Note::Run {
+            from,
+            to,
+            task,
+            job,
+            units,
+            energy,
+        } => {
+            let segment = Segment {
+                from,
+                to,
+                units,
+                energy,
+            };
+            run_line(word, segment, name_part(&name_at(tasks, task)), job)
+        }
+        Note::Idle {
+            from,
+            to,
+            units,
+            energy,
+        } => idle_line(
+            word,
+            Segment {
+                from,
+                to,
+                units,
+                energy,
+            },
+        ),
+        Note::Done {
+            at,
+            task,
+            job,
+            used,
+        } => done_line(word, at, name_part(&name_at(tasks, task)), job, used),
+        Note::End { ticks, run, idle } => end_line(word, ticks, run, idle),
+    }
+}
+
+/// Where the schedule and the trace first differ: the line, and the note of each.
+#[derive(Clone, Copy)]
+pub(crate) struct Difference {
+    pub(crate) line: u64,
+    pub(crate) wanted: Note,
+    pub(crate) found: Note,
+}
+
+fn differs_line(number: u64) -> Line
+    ensures text { result ≡ joined (codes "differs: line " ∷ decimal number ∷ codes "\n" ∷ []) }
+    ensures some { 0 < length result }
+{
+    line_of(&[
+        Part::Word(b"differs: line "),
+        Part::Number(number),
+        Part::Word(b"\n"),
+    ])
+}
+
+/// Puts the lines of a difference.
+pub(crate) fn put_difference<E: Sink>(
+    at: Difference,
+    tasks: Option<&TaskSet>,
+    notes: &mut E,
+) -> Result<(), Failed>
+    ensures { Writing (E.shows notes.old) (E.shows notes.new)
+        (difference_text (names_of (option_copied tasks.entry)) at.line at.wanted at.found) result }
+{
+    let first = differs_line(at.line);
+    let wanted = told_line(b"wanted: ", at.wanted, tasks);
+    let found = told_line(b"found: ", at.found, tasks);
+    match put_line(&first, notes) {
+        Ok(()) => match put_two(&wanted, &found, notes) {
+            Ok(()) => Ok(()),
+            Err(Failed) => Err(Failed),
+        },
+        Err(Failed) => Err(Failed),
+    }
+}
