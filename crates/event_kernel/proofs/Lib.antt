@@ -3,6 +3,7 @@ pub mod Pieces
 pub mod Summing
 pub mod Booking
 pub mod Telling
+pub mod Writing
 pub mod Entering
 pub mod Handing
 pub mod Ending

@@ -8,3 +8,4 @@ pub mod Boundary
 pub mod Walking
 pub mod Settings
 pub mod Current
+pub mod Lines

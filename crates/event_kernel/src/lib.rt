@@ -12,8 +12,10 @@ mod run;
 mod segment;
 mod span;
 mod sums;
+mod teller;
 mod tick;
 mod trace;
+mod write;
 
 pub use kernel::{Kernel, KernelFault};
 pub use listener::{Listener, Stopped};

@@ -1,0 +1,104 @@
+-- The lines of a run's trace, and what their writing makes of a sink and of probes.
+use Rattle.std.specs.Prelude.{◌≡◌, ℕ, ◌+◌, ◌<◌, ◌≤◌, List, [], ◌∷◌, ◌++◌, length, flat_map, sum_by, Result, Ok, Err}
+use Rattle.std.specs.Io.KnownBytes.{Appends}
+use Rattle.grid_fraction.specs.Numbers.{list_below}
+use Rattle.dvs_base.specs.declared.kind.Version.{Version}
+use Rattle.dvs_base.specs.declared.kind.Version.TheVariants.{One, Two}
+use Rattle.dvs_base.specs.declared.kind.GovernorKind.{GovernorKind}
+use Rattle.dvs_base.specs.declared.note.Note.{Note}
+use Rattle.dvs_base.specs.declared.note.Note.TheVariants.{End}
+use Rattle.dvs_base.specs.Outside.{SinkView, Rose, AppendsPrefix}
+use Rattle.energy.specs.Books.{energy_of_task}
+use Rattle.sched_model.specs.Plan.{Plan, count, names, task, period, offset}
+use Rattle.trace_text.specs.TraceLines.{plan_text, note_text, name_of}
+use Rattle.trace_reader.specs.VersionLines.{version_line, task_text, share_text}
+use Rattle.probes.specs.Tallies.{ProbeOf, told_notes}
+
+-- a line of a trace, and the notes that it tells: one, or none
+pub record LineOf : Type 0 where
+  pub text : List ℕ
+  pub notes : List Note
+
+-- a line that tells no note
+abbrev pub plain : List ℕ → LineOf
+plain text = record { text = text; notes = [] }
+
+-- the line of a note
+abbrev pub noted : List (List ℕ) → Note → LineOf
+noted names n = record { text = note_text names n; notes = n ∷ [] }
+
+-- the lines of the tasks, which version 2 alone has: each task's period, offset and declared worst case
+abbrev pub task_lines : Version → Plan → List LineOf
+task_lines One p = []
+task_lines Two p = list_below (count p) (λ i. plain (task_text (name_of (names p) i) (period p i) (offset p i) ((task p i).worst)))
+
+-- the lines before the notes: the version, the plan, and in version 2 the tasks
+abbrev pub head_lines : Version → GovernorKind → Plan → ℕ → List LineOf
+head_lines v g p ticks = plain (version_line v) ∷ plain (plan_text p.scheduler g ticks) ∷ task_lines v p
+
+-- the lines of the tasks' energies, which version 2 alone has: each is the sum over the task's runs
+abbrev pub share_lines : Version → Plan → List Note → List LineOf
+share_lines One p notes = []
+share_lines Two p notes =
+    list_below (count p) (λ i. plain (share_text (name_of (names p) i) (sum_by (energy_of_task i) notes)))
+
+-- the lines of a note among all notes: its own, and in version 2 the energies before the `end` line
+abbrev pub lines_of : Version → Plan → List Note → Note → List LineOf
+lines_of v p notes (End t run idle) = share_lines v p notes ++ noted (names p) (End t run idle) ∷ []
+lines_of v p notes n = noted (names p) n ∷ []
+
+-- the lines of a trace of these notes
+abbrev pub trace_lines : Version → GovernorKind → Plan → ℕ → List Note → List LineOf
+trace_lines v g p ticks notes = head_lines v g p ticks ++ flat_map (lines_of v p notes) notes
+
+-- the text of some lines
+abbrev pub text_of : List LineOf → List ℕ
+text_of lines = flat_map (λ l. l.text) lines
+
+-- the notes that some lines tell
+abbrev pub notes_told : List LineOf → List Note
+notes_told lines = flat_map (λ l. l.notes) lines
+
+-- the whole text: the bytes that are told grow by it, the count of faults stays, and the sure room falls by no more
+pub record Wrote (old new : SinkView) (text : List ℕ) : Type 0 where
+  pub bytes : Appends old.written new.written text
+  pub steady : new.faults ≡ old.faults
+  pub surety : old.sure ≤ new.sure + length text
+
+-- a first part of it: the count of faults rose, and the sink was not sure of the whole text
+pub record WroteSome (old new : SinkView) (text : List ℕ) : Type 0 where
+  pub part : AppendsPrefix old.written new.written text
+  pub rose : Rose old.faults new.faults
+  pub later : old.faults ≤ new.faults
+  pub unsure : old.sure < length text
+
+-- what the writing of a text makes of a sink, by what it answers
+abbrev pub WritesText : {T E : Type 0} → SinkView → SinkView → List ℕ → Result T E → Type 0
+WritesText old new text (Ok v) = Wrote old new text
+WritesText old new text (Err e) = WroteSome old new text
+
+-- all lines were written, and the probes were told their notes
+pub record WroteLines (old new : SinkView) (before after : List ProbeOf) (lines : List LineOf) : Type 0 where
+  pub wrote : Wrote old new (text_of lines)
+  pub told : after ≡ told_notes (notes_told lines) before
+
+-- the writing stopped in one line: those before it were written, it was in part, and the probes were told the notes of
+-- those before it
+pub record StoppedIn (old new : SinkView) (before after : List ProbeOf) (lines : List LineOf) : Type 0 where
+  pub done : List LineOf
+  pub line : LineOf
+  pub rest : List LineOf
+  pub whole : lines ≡ done ++ line ∷ rest
+  pub middle : SinkView
+  pub wrote : Wrote old middle (text_of done)
+  pub part : WroteSome middle new line.text
+  pub told : after ≡ told_notes (notes_told done) before
+
+-- what the writing of lines makes of a sink and of probes, by what it answers
+abbrev pub Writes : {T E : Type 0} → SinkView → SinkView → List ProbeOf → List ProbeOf → List LineOf → Result T E → Type 0
+Writes old new before after lines (Ok v) = WroteLines old new before after lines
+Writes old new before after lines (Err e) = StoppedIn old new before after lines
+
+-- the same of lines that tell no note: the probes stay
+abbrev pub WritesPlain : {T E : Type 0} → SinkView → SinkView → List LineOf → Result T E → Type 0
+WritesPlain old new lines r = (probes : List ProbeOf) → Writes old new probes probes lines r

@@ -1,0 +1,121 @@
+// The lines of a run's trace that stand around its notes.
+ghost use Rattle.std.specs.Prelude.{◌≡◌, ◌<◌, [], ◌∷◌, length, slice_index};
+ghost use Rattle.grid_fraction.specs.Numbers.{list_below};
+ghost use Rattle.dvs_base.specs.declared.kind.Version.TheVariants.{Two};
+ghost use Rattle.sched_model.specs.Plan.{count, names, task, period, offset};
+ghost use Rattle.trace_text.specs.TraceLines.{plan_text, name_of};
+ghost use Rattle.trace_reader.specs.VersionLines.{version_line, task_text, share_text};
+ghost use Rattle.event_kernel.specs.Lines.{WritesText, WritesPlain, plain, head_lines, task_lines, share_lines};
+
+use crate::sums::Sums;
+use dvs_base::{Failed, GovernorKind, Line, Sink, Version};
+use sched_model::Admitted;
+use trace_reader::{TaskLine, write_share, write_task, write_version};
+use trace_text::{PlanLine, write_head};
+
+/// What the first lines of a trace tell.
+#[derive(Clone, Copy)]
+pub struct Head<'a> {
+    pub version: Version,
+    pub governor: GovernorKind,
+    pub plan: &'a Admitted,
+    pub ticks: u64,
+}
+
+/// Puts a line that isn't empty.
+pub(crate) fn put_line<W: Sink>(line: &Line, out: &mut W) -> Result<(), Failed>
+    requires { 0 < length line.now }
+    ensures { WritesText (W.shows out.old) (W.shows out.new) line.now result }
+{
+    out.put(line.as_bytes())
+}
+
+fn line_of_version(version: Version) -> Line
+    ensures { result ≡ version_line version }
+{
+    let mut line = Line::new();
+    write_version(&mut line, version);
+    line
+}
+
+fn line_of_plan(head: Head<'_>) -> Line
+    ensures { result ≡ plan_text head.entry.plan.now.scheduler head.entry.governor head.entry.ticks }
+{
+    let mut line = Line::new();
+    write_head(
+        &mut line,
+        PlanLine {
+            scheduler: head.plan.scheduler(),
+            governor: head.governor,
+            ticks: head.ticks,
+        },
+    );
+    line
+}
+
+fn line_of_task(plan: &Admitted, i: u32) -> Line
+    requires { i < count plan.now }
+    ensures { result ≡ task_text (name_of (names plan.now) i) (period plan.now i) (offset plan.now i)
+        (task plan.now i).worst }
+{
+    let mut line = Line::new();
+    let task = TaskLine {
+        period: plan.period(i),
+        offset: plan.offset(i),
+        worst: plan.declared(i),
+    };
+    write_task(&mut line, &plan.names()[i as usize], task);
+    line
+}
+
+fn line_of_share(plan: &Admitted, i: u32, energy: u128) -> Line
+    requires { i < count plan.now }
+    ensures { result ≡ share_text (name_of (names plan.now) i) energy }
+{
+    let mut line = Line::new();
+    write_share(&mut line, &plan.names()[i as usize], energy);
+    line
+}
+
+// Puts the lines of the tasks where the version has them.
+fn put_task_lines<W: Sink>(version: Version, plan: &Admitted, out: &mut W) -> Result<(), Failed>
+    ensures { WritesPlain (W.shows out.old) (W.shows out.new) (task_lines version plan.now) result }
+{
+    match version {
+        Version::One => Ok(()),
+        Version::Two => put_tasks(plan, out),
+    }
+}
+
+/// Puts the lines before the notes: the version, the plan, and in version 2 the tasks.
+pub(crate) fn put_head<W: Sink>(head: Head<'_>, out: &mut W) -> Result<(), Failed>
+    ensures { WritesPlain (W.shows out.old) (W.shows out.new)
+        (head_lines head.entry.version head.entry.governor head.entry.plan.now head.entry.ticks) result }
+{
+    put_line(&line_of_version(head.version), out)?;
+    put_line(&line_of_plan(head), out)?;
+    put_task_lines(head.version, head.plan, out)
+}
+
+// Puts the lines of the tasks.
+fn put_tasks<W: Sink>(plan: &Admitted, out: &mut W) -> Result<(), Failed>
+    ensures { WritesPlain (W.shows out.old) (W.shows out.new) (task_lines Two plan.now) result }
+{
+    for i in 0..plan.count() {
+        put_line(&line_of_task(plan, i), out)?;
+    }
+    Ok(())
+}
+
+// Puts the lines of the tasks' energies.
+fn put_shares<W: Sink>(plan: &Admitted, sums: &Sums, out: &mut W) -> Result<(), Failed>
+    requires { length sums.now.by_task ≡ count plan.now }
+    ensures { WritesPlain (W.shows out.old) (W.shows out.new)
+        (list_below (count plan.now) (λ i. plain (share_text (name_of (names plan.now) i)
+        (slice_index sums.now.by_task i)))) result }
+{
+    for i in 0..plan.count() {
+        put_line(&line_of_share(plan, i, sums.of_task(i)), out)?;
+    }
+    Ok(())
+}
