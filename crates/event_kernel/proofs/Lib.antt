@@ -4,6 +4,7 @@ pub mod Summing
 pub mod Booking
 pub mod Telling
 pub mod Writing
+pub mod Tellers
 pub mod Entering
 pub mod Handing
 pub mod Ending

@@ -3,13 +3,14 @@ use Rattle.std.proofs.Common.{◌≡◌, ℕ, ◌+◌, ◌<◌, List, [], ◌∷
 use Rattle.grid_fraction.specs.Numbers.{list_below}
 use Rattle.trace_text.specs.TraceLines.{line, fields_of, note_text}
 use Rattle.std.proofs.lemmas.Bool.{cases_lt}
-use Rattle.std.specs.Prelude.{IsErr}
+use Rattle.std.specs.Prelude.{IsErr, map}
 use Rattle.std.specs.Io.KnownBytes.{Appends}
 use Rattle.std.proofs.KnownBytes.{Appends-trans}
 use Rattle.std.proofs.lemmas.List.Concat.{flat_map-append}
 use Rattle.dvs_base.specs.declared.note.Note.{Note}
 use Rattle.dvs_base.specs.Outside.{SinkView, Puts}
 use Rattle.probes.specs.Tallies.{ProbeOf, told_all, told_notes}
+use Rattle.event_kernel.specs.Heard.{HasHeard, HasBalked}
 use Rattle.event_kernel.specs.Lines.{LineOf, plain, noted, WritesText, text_of, notes_told, Wrote, WroteSome, WroteLines, StoppedIn, Writes}
 
 appends-none : (a : Option (List ℕ)) → Appends a a []
@@ -178,3 +179,36 @@ plain-line a b ps line text is w = one-line a b ps ps (plain text) (subst (λ (t
 
 pub plain-part : (a b : SinkView) (ps : List ProbeOf) (line text : List ℕ) → line ≡ text → WroteSome a b line → StoppedIn a b ps ps (plain text ∷ [])
 plain-part a b ps line text is w = one-line-part a b ps (plain text) (subst (λ (t : List ℕ). WroteSome a b t) is w)
+
+-- what a listener heard was written and told, and what it balked at in part; `Same` is what its value keeps
+module _ {L : Type 0} (heard balked : L → Note → L → Type 0) (shows : L → SinkView) (probes : L → List ProbeOf) (names : L → List (List ℕ)) (Same : L → L → Type 0)
+    (same-self : (a : L) → Same a a) (same-trans : (a b c : L) → Same a b → Same b c → Same a c) (same-names : (a b : L) → Same a b → names b ≡ names a)
+    (step : (a : L) (n : Note) (b : L) → heard a n b → WroteLines (shows a) (shows b) (probes a) (probes b) (noted (names a) n ∷ []) × Same a b)
+    (stop : (a : L) (n : Note) (b : L) → balked a n b → StoppedIn (shows a) (shows b) (probes a) (probes b) (noted (names a) n ∷ []) × Same a b) where
+  pub heard-wrote : (from : L) (notes : List Note) (to : L) → HasHeard heard from notes to
+      → WroteLines (shows from) (shows to) (probes from) (probes to) (map (noted (names from)) notes) × Same from to
+  heard-wrote from [] to e =
+      subst (λ (b : L). WroteLines (shows from) (shows b) (probes from) (probes b) [] × Same from b) e (no-lines (shows from) (probes from), same-self from)
+  heard-wrote from (note ∷ notes) to h =
+      let next : L = h.0 in
+      let first = step from note next h.1 in
+      let rest = heard-wrote next notes to h.2 in (
+        lines-then (shows from) (shows next) (shows to) (probes from) (probes next) (probes to) (noted (names from) note ∷ []) (map (noted (names from)) notes) first.0
+            (subst (λ (ns : List (List ℕ)). WroteLines (shows next) (shows to) (probes next) (probes to) (map (noted ns) notes)) (same-names from next first.1) rest.0),
+        same-trans from next to first.1 rest.1,
+      )
+
+  pub balked-wrote : (from : L) (notes : List Note) (to : L) → HasBalked heard balked from notes to
+      → StoppedIn (shows from) (shows to) (probes from) (probes to) (map (noted (names from)) notes) × Same from to
+  balked-wrote from [] to h = absurd h
+  balked-wrote from (note ∷ notes) to (inl b) =
+      let end = stop from note to b in
+      (lines-some-more (shows from) (shows to) (probes from) (probes to) (noted (names from) note ∷ []) (map (noted (names from)) notes) end.0, end.1)
+  balked-wrote from (note ∷ notes) to (inr h) =
+      let next : L = h.0 in
+      let first = step from note next h.1 in
+      let rest = balked-wrote next notes to h.2 in (
+        lines-then-some (shows from) (shows next) (shows to) (probes from) (probes next) (probes to) (noted (names from) note ∷ []) (map (noted (names from)) notes) first.0
+            (subst (λ (ns : List (List ℕ)). StoppedIn (shows next) (shows to) (probes next) (probes to) (map (noted ns) notes)) (same-names from next first.1) rest.0),
+        same-trans from next to first.1 rest.1,
+      )

@@ -175,7 +175,7 @@ impl<'a, G: Governor> Kernel<'a, G> {
     }
 
     // The spans of the run, by one walk or the other: all notes before the `End`, and their sums.
-    fn spans<L: Listener>(self, walk: Walk, to: &mut L) -> Result<Sums, Stopped>
+    pub(crate) fn spans<L: Listener>(self, walk: Walk, to: &mut L) -> Result<Sums, Stopped>
         ensures sums { IfOk result (λ s. s ≡ sums_of self.entry.plan (notes_before_end_of G.demand self.entry)) }
         ensures admitted { IsAdmitted self.entry.plan }
         ensures deadlines { MeetsDeadlines G.demand self.entry }
