@@ -17,10 +17,12 @@ module _ {W P : Type 0} (shows : W → SinkView) (seen : P → ProbeOf) where
   sees a = map seen a.probes.now.items
 
   abbrev pub Heard : Teller W P → Note → Teller W P → Type 0
-  Heard a n b = WroteLines (shows a.out.now) (shows b.out.now) (sees a) (sees b) (noted a.names.now n ∷ []) × Same a b
+  Heard a n b = WroteLines (shows a.out.now) (shows b.out.now) (sees a) (sees b) (noted a.names.now n ∷ [])
+      × (b.out.ghost_name ≡ a.out.ghost_name) × (b.probes.ghost_name ≡ a.probes.ghost_name) × (b.names.now ≡ a.names.now)
 
   abbrev pub Balked : Teller W P → Note → Teller W P → Type 0
-  Balked a n b = StoppedIn (shows a.out.now) (shows b.out.now) (sees a) (sees b) (noted a.names.now n ∷ []) × Same a b
+  Balked a n b = StoppedIn (shows a.out.now) (shows b.out.now) (sees a) (sees b) (noted a.names.now n ∷ [])
+      × (b.out.ghost_name ≡ a.out.ghost_name) × (b.probes.ghost_name ≡ a.probes.ghost_name) × (b.names.now ≡ a.names.now)
 
   same-self : (a : Teller W P) → Same a a
   same-self a = (refl, refl, refl)
@@ -32,10 +34,10 @@ module _ {W P : Type 0} (shows : W → SinkView) (seen : P → ProbeOf) where
       → WroteLines (shows from.out.now) (shows to.out.now) (sees from) (sees to) (map (noted from.names.now) notes) × Same from to
   told from notes to h =
       heard-wrote Heard Balked (λ (a : Teller W P). shows a.out.now) sees (λ (a : Teller W P). a.names.now)
-      Same same-self same-trans (λ a b s. s.2) (λ a n b x. x) (λ a n b x. x) from notes to h
+      Same same-self same-trans (λ a b s. s.2) (λ a n b x. (x.0, (x.1, x.2, x.3))) (λ a n b x. (x.0, (x.1, x.2, x.3))) from notes to h
 
   pub balked : (from : Teller W P) (notes : List Note) (to : Teller W P) → HasBalked Heard Balked from notes to
       → StoppedIn (shows from.out.now) (shows to.out.now) (sees from) (sees to) (map (noted from.names.now) notes) × Same from to
   balked from notes to h =
       balked-wrote Heard Balked (λ (a : Teller W P). shows a.out.now) sees (λ (a : Teller W P). a.names.now)
-      Same same-self same-trans (λ a b s. s.2) (λ a n b x. x) (λ a n b x. x) from notes to h
+      Same same-self same-trans (λ a b s. s.2) (λ a n b x. (x.0, (x.1, x.2, x.3))) (λ a n b x. (x.0, (x.1, x.2, x.3))) from notes to h
