@@ -11,6 +11,7 @@ pub mod Ending
 pub mod Hearing
 pub mod Beginnings
 pub mod Serving
+pub mod Wholes
 pub mod Working
 pub mod Atwork
 pub mod Ofplan

@@ -31,7 +31,7 @@ told-append : (xs ys : List Note) (ps : List ProbeOf) → told_notes (xs ++ ys) 
 told-append [] ys ps = refl
 told-append (x ∷ xs) ys ps = told-append xs ys (told_all x ps)
 
-text-append : (xs ys : List LineOf) → text_of (xs ++ ys) ≡ text_of xs ++ text_of ys
+pub text-append : (xs ys : List LineOf) → text_of (xs ++ ys) ≡ text_of xs ++ text_of ys
 text-append xs ys = flat_map-append (λ (l : LineOf). l.text) xs ys
 
 notes-append : (xs ys : List LineOf) → notes_told (xs ++ ys) ≡ notes_told xs ++ notes_told ys

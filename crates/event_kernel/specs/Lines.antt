@@ -1,5 +1,5 @@
 -- The lines of a run's trace, and what their writing makes of a sink and of probes.
-use Rattle.std.specs.Prelude.{◌≡◌, ℕ, ◌+◌, ◌<◌, ◌≤◌, List, [], ◌∷◌, ◌++◌, length, flat_map, sum_by, Result, Ok, Err}
+use Rattle.std.specs.Prelude.{◌≡◌, ℕ, ◌+◌, ◌<◌, ◌≤◌, List, [], ◌∷◌, ◌++◌, length, flat_map, sum_by, slice_index, Result, Ok, Err}
 use Rattle.std.specs.Io.KnownBytes.{Appends}
 use Rattle.grid_fraction.specs.Numbers.{list_below}
 use Rattle.dvs_base.specs.declared.kind.Version.{Version}
@@ -13,6 +13,7 @@ use Rattle.sched_model.specs.Plan.{Plan, count, names, task, period, offset}
 use Rattle.trace_text.specs.TraceLines.{plan_text, note_text, name_of}
 use Rattle.trace_reader.specs.VersionLines.{version_line, task_text, share_text}
 use Rattle.probes.specs.Tallies.{ProbeOf, told_notes}
+use Rattle.event_kernel.specs.Sums.{SumsOf}
 
 -- a line of a trace, and the notes that it tells: one, or none
 pub record LineOf : Type 0 where
@@ -42,14 +43,23 @@ share_lines One p notes = []
 share_lines Two p notes =
     list_below (count p) (λ i. plain (share_text (name_of (names p) i) (sum_by (energy_of_task i) notes)))
 
+-- the same lines, from the sums of the notes
+abbrev pub sum_lines : Version → Plan → SumsOf → List LineOf
+sum_lines One p s = []
+sum_lines Two p s = list_below (count p) (λ i. plain (share_text (name_of (names p) i) (slice_index s.by_task i)))
+
 -- the lines of a note among all notes: its own, and in version 2 the energies before the `end` line
 abbrev pub lines_of : Version → Plan → List Note → Note → List LineOf
 lines_of v p notes (End t run idle) = share_lines v p notes ++ noted (names p) (End t run idle) ∷ []
 lines_of v p notes n = noted (names p) n ∷ []
 
+-- the lines after the head, of all notes
+abbrev pub note_lines : Version → Plan → List Note → List LineOf
+note_lines v p notes = flat_map (lines_of v p notes) notes
+
 -- the lines of a trace of these notes
 abbrev pub trace_lines : Version → GovernorKind → Plan → ℕ → List Note → List LineOf
-trace_lines v g p ticks notes = head_lines v g p ticks ++ flat_map (lines_of v p notes) notes
+trace_lines v g p ticks notes = head_lines v g p ticks ++ note_lines v p notes
 
 -- the text of some lines
 abbrev pub text_of : List LineOf → List ℕ

@@ -1,5 +1,5 @@
 // The kernel.
-ghost use Rattle.std.specs.Prelude.{◌≡◌, ◌≢◌, ◌≤◌, ◌<◌, ℕ, OnOk, OnErr, IfOk, IsErrOf, []};
+ghost use Rattle.std.specs.Prelude.{◌≡◌, ◌≢◌, ◌≤◌, ◌<◌, ℕ, OnOk, OnErr, IfOk, IsOk, IsErrOf, [], length, map};
 ghost use Rattle.dvs_base.specs.declared.kind.GovernorKind.TheVariants.{Ahead};
 ghost use Rattle.sched_model.specs.Totals.{totals_of};
 ghost use Rattle.sched_model.specs.States.{opening};
@@ -9,6 +9,7 @@ ghost use Rattle.dvs_base.specs.declared.limits.TheConstants.{MOST_JOBS, MOST_TI
 ghost use Rattle.done_lines.specs.LineCounts.{AreFew};
 ghost use Rattle.event_kernel.specs.Runs.{IsListOf, notes_of_run, MeetsDeadlines, MeetsDemands};
 ghost use Rattle.event_kernel.specs.Runs.{notes_before_end_of};
+ghost use Rattle.event_kernel.specs.Lines.{Writes, trace_lines, text_of};
 ghost use Rattle.event_kernel.specs.Sums.{sums_of};
 ghost use Rattle.agenda.specs.Stands.{Stands};
 ghost use Rattle.sched_model.specs.Admission.{IsAdmitted};
@@ -17,12 +18,15 @@ ghost use Rattle.dvs_base.specs.Outside.{Rose};
 use crate::run::{Run, Setting};
 use crate::span::Walk;
 use crate::sums::Sums;
+use crate::teller::{WriteFault, tell_notes};
 use crate::trace::Trace;
+use crate::write::{Head, put_head};
 use crate::{Listener, Stopped};
 use agenda::Agenda;
 use demand_list::Demands;
-use dvs_base::{MOST_JOBS, NoMemory, Note, Totals};
+use dvs_base::{Failed, MOST_JOBS, NoMemory, Note, Sink, Totals, Version};
 use governor::Governor;
+use probes::Probe;
 use sched_model::{Admitted, State};
 use std::alloc::Global;
 use std::marker::Model;
@@ -172,6 +176,44 @@ impl<'a, G: Governor> Kernel<'a, G> {
         ensures rose { OnErr result (Rose (L.stops to.old) (L.stops to.new)) }
     {
         self.walk(Walk::Ticks, to)
+    }
+
+    /// Writes the whole trace in this version into the sink, one `put` a line, and tells the probes each note after its
+    /// line was put; the totals of its notes. `WriteFault` comes only where the sink failed: every line before that one
+    /// was put and its note told, the line itself was put in part, and nothing after it. It never comes where the sink
+    /// was sure of as many bytes as the trace has.
+    pub fn run<W: Sink, P: Probe>(
+        self,
+        out: &mut W,
+        probes: &mut Vec<P>,
+        version: Version,
+    ) -> Result<Totals, WriteFault>
+        ensures wrote { Writes (W.shows out.old) (W.shows out.new)
+            (map P.seen probes.old.items) (map P.seen probes.new.items)
+            (trace_lines version G.the_kind self.entry.plan self.entry.ticks (notes_of_run G.demand self.entry))
+            result }
+        ensures sure { length (text_of (trace_lines version G.the_kind self.entry.plan self.entry.ticks
+            (notes_of_run G.demand self.entry))) ≤ (W.shows out.old).sure → IsOk result }
+        ensures totals { IfOk result (λ t. t ≡ totals_of (notes_of_run G.demand self.entry)) }
+        // At most one more decision than releases and completions together, so at most one more than two a job.
+        ensures few { IfOk result AreFew }
+        ensures deadlines { MeetsDeadlines G.demand self.entry }
+        ensures demands { G.the_kind ≢ Ahead → MeetsDemands G.demand self.entry }
+        ensures never_falls { (W.shows out.old).faults ≤ (W.shows out.new).faults }
+        ensures rose { OnErr result (Rose (W.shows out.old).faults (W.shows out.new).faults) }
+    {
+        self.plan.known();
+        self.demands.known();
+        let head = Head {
+            version,
+            governor: self.governor.kind(),
+            plan: self.plan,
+            ticks: self.ticks,
+        };
+        match put_head(head, out) {
+            Ok(()) => tell_notes(self, head, out, probes),
+            Err(Failed) => Err(WriteFault),
+        }
     }
 
     // The spans of the run, by one walk or the other: all notes before the `End`, and their sums.

@@ -19,3 +19,4 @@ mod write;
 
 pub use kernel::{Kernel, KernelFault};
 pub use listener::{Listener, Stopped};
+pub use teller::WriteFault;

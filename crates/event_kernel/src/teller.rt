@@ -1,18 +1,48 @@
 // The trace of a run, written to a sink line by line and told to probes.
-ghost use Rattle.std.specs.Prelude.{◌≡◌, ◌≢◌, [], ◌∷◌, map, IfOk};
+ghost use Rattle.std.specs.Prelude.{◌≡◌, ◌≢◌, [], ◌∷◌, ◌++◌, length, map, IfOk};
 ghost use Rattle.dvs_base.specs.declared.kind.GovernorKind.TheVariants.{Ahead};
-ghost use Rattle.event_kernel.specs.Lines.{Writes, WroteLines, StoppedIn, noted};
-ghost use Rattle.event_kernel.specs.Runs.{notes_before_end_of, MeetsDeadlines, MeetsDemands};
+ghost use Rattle.dvs_base.specs.declared.note.Note.TheVariants.{End};
+ghost use Rattle.done_lines.specs.LineCounts.{AreFew};
+ghost use Rattle.sched_model.specs.Admission.{IsAdmitted};
+ghost use Rattle.sched_model.specs.Plan.{count, names};
+ghost use Rattle.sched_model.specs.Totals.{totals_of};
+ghost use Rattle.event_kernel.specs.Lines.{Writes, WroteLines, StoppedIn, noted, note_lines, sum_lines};
+ghost use Rattle.event_kernel.specs.Runs.{notes_before_end_of, notes_of_run, MeetsDeadlines, MeetsDemands};
 ghost use Rattle.event_kernel.specs.Sums.{sums_of};
 
 use crate::span::Walk;
 use crate::sums::Sums;
-use crate::write::put_line;
+use crate::write::{Head, put_line, put_sums};
 use crate::{Kernel, Listener, Stopped};
-use dvs_base::{Failed, Line, Name, Note, Sink};
+use dvs_base::{Failed, Line, Name, Note, Sink, Totals};
 use governor::Governor;
 use probes::{Probe, tell_all};
 use trace_text::write_note;
+
+/// The sink failed before a run's whole text was in it.
+#[derive(Clone, Copy, Debug, PartialEq, Eq)]
+pub struct WriteFault;
+
+// Puts a note's line, and then tells the probes the note.
+fn tell_note<W: Sink, P: Probe>(
+    note: &Note,
+    names: &[Name],
+    out: &mut W,
+    probes: &mut Vec<P>,
+) -> Result<(), Failed>
+    ensures { Writes (W.shows out.old) (W.shows out.new) (map P.seen probes.old.items) (map P.seen probes.new.items)
+        (noted names.now note.now ∷ []) result }
+{
+    let mut line = Line::new();
+    write_note(&mut line, note, names);
+    match put_line(&line, out) {
+        Ok(()) => {
+            tell_all(probes, note);
+            Ok(())
+        }
+        Err(Failed) => Err(Failed),
+    }
+}
 
 /// Puts each note's line into a sink, and then tells the probes the note.
 pub(crate) struct Teller<'a, W: Sink, P: Probe> {
@@ -35,13 +65,8 @@ impl<'a, W: Sink, P: Probe> Listener for Teller<'a, W, P> {
     ghost stops = { λ a. (W.shows a.out.now).faults };
 
     fn hear(&mut self, note: &Note) -> Result<(), Stopped> {
-        let mut line = Line::new();
-        write_note(&mut line, note, self.names);
-        match put_line(&line, self.out) {
-            Ok(()) => {
-                tell_all(self.probes, note);
-                Ok(())
-            }
+        match tell_note(note, self.names, self.out, self.probes) {
+            Ok(()) => Ok(()),
             Err(Failed) => Err(Stopped),
         }
     }
@@ -56,6 +81,7 @@ fn spans_into<G: Governor, W: Sink, P: Probe>(
     ensures writes { Writes (W.shows teller.old.out.now) (W.shows teller.new.out.now)
         (map P.seen teller.old.probes.now.items) (map P.seen teller.new.probes.now.items)
         (map (noted teller.old.names.now) (notes_before_end_of G.demand kernel.entry)) result }
+    ensures admitted { IsAdmitted kernel.entry.plan }
     ensures same { (teller.new.out.ghost_name ≡ teller.old.out.ghost_name)
         × (teller.new.probes.ghost_name ≡ teller.old.probes.ghost_name) }
     ensures deadlines { MeetsDeadlines G.demand kernel.entry }
@@ -78,6 +104,7 @@ pub(crate) fn tell_spans<'a, G: Governor, W: Sink, P: Probe>(
     ensures writes { Writes (W.shows out.old) (W.shows out.new)
         (map P.seen probes.old.items) (map P.seen probes.new.items)
         (map (noted names.now) (notes_before_end_of G.demand kernel.entry)) result }
+    ensures admitted { IsAdmitted kernel.entry.plan }
     ensures deadlines { MeetsDeadlines G.demand kernel.entry }
     ensures demands { G.the_kind ≢ Ahead → MeetsDemands G.demand kernel.entry }
 {
@@ -89,4 +116,68 @@ pub(crate) fn tell_spans<'a, G: Governor, W: Sink, P: Probe>(
         names: _,
     } = teller;
     told
+}
+
+// Puts the `End` line, and then tells the probes that note; the totals.
+fn tell_end<W: Sink, P: Probe>(
+    head: Head<'_>,
+    totals: Totals,
+    out: &mut W,
+    probes: &mut Vec<P>,
+) -> Result<Totals, WriteFault>
+    ensures totals { IfOk result (λ t. t ≡ totals) }
+    ensures writes { Writes (W.shows out.old) (W.shows out.new)
+        (map P.seen probes.old.items) (map P.seen probes.new.items)
+        (noted (names head.entry.plan.now) (End head.entry.ticks totals.run totals.idle) ∷ []) result }
+{
+    let end = Note::End {
+        ticks: head.ticks,
+        run: totals.run,
+        idle: totals.idle,
+    };
+    match tell_note(&end, head.plan.names(), out, probes) {
+        Ok(()) => Ok(totals),
+        Err(Failed) => Err(WriteFault),
+    }
+}
+
+// Puts the lines after the other notes, and tells the probes the `End`; the totals.
+fn tell_tail<W: Sink, P: Probe>(
+    head: Head<'_>,
+    sums: &Sums,
+    out: &mut W,
+    probes: &mut Vec<P>,
+) -> Result<Totals, WriteFault>
+    requires { length sums.now.by_task ≡ count head.plan.now }
+    ensures totals { IfOk result (λ t. t ≡ sums.now.totals) }
+    ensures writes { Writes (W.shows out.old) (W.shows out.new)
+        (map P.seen probes.old.items) (map P.seen probes.new.items)
+        (sum_lines head.entry.version head.entry.plan.now sums.now ++ noted (names head.entry.plan.now)
+        (End head.entry.ticks sums.now.totals.run sums.now.totals.idle) ∷ []) result }
+{
+    match put_sums(head, sums, out) {
+        Ok(()) => tell_end(head, sums.totals(), out, probes),
+        Err(Failed) => Err(WriteFault),
+    }
+}
+
+/// Writes the lines of a run after its head, and tells its notes to probes; the totals.
+pub(crate) fn tell_notes<G: Governor, W: Sink, P: Probe>(
+    kernel: Kernel<'_, G>,
+    head: Head<'_>,
+    out: &mut W,
+    probes: &mut Vec<P>,
+) -> Result<Totals, WriteFault>
+    requires plan { head.plan.now ≡ kernel.plan }
+    requires ticks { head.ticks ≡ kernel.ticks }
+    ensures totals { IfOk result (λ t. t ≡ totals_of (notes_of_run G.demand kernel.entry)) }
+    ensures few { IfOk result AreFew }
+    ensures writes { Writes (W.shows out.old) (W.shows out.new)
+        (map P.seen probes.old.items) (map P.seen probes.new.items)
+        (note_lines head.entry.version kernel.entry.plan (notes_of_run G.demand kernel.entry)) result }
+{
+    match tell_spans(kernel, head.plan.names(), out, probes) {
+        Ok(sums) => tell_tail(head, &sums, out, probes),
+        Err(Stopped) => Err(WriteFault),
+    }
 }

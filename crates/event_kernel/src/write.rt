@@ -5,7 +5,7 @@ ghost use Rattle.dvs_base.specs.declared.kind.Version.TheVariants.{Two};
 ghost use Rattle.sched_model.specs.Plan.{count, names, task, period, offset};
 ghost use Rattle.trace_text.specs.TraceLines.{plan_text, name_of};
 ghost use Rattle.trace_reader.specs.VersionLines.{version_line, task_text, share_text};
-ghost use Rattle.event_kernel.specs.Lines.{WritesText, WritesPlain, plain, head_lines, task_lines, share_lines};
+ghost use Rattle.event_kernel.specs.Lines.{WritesText, WritesPlain, plain, head_lines, task_lines, sum_lines};
 
 use crate::sums::Sums;
 use dvs_base::{Failed, GovernorKind, Line, Sink, Version};
@@ -118,4 +118,16 @@ fn put_shares<W: Sink>(plan: &Admitted, sums: &Sums, out: &mut W) -> Result<(), 
         put_line(&line_of_share(plan, i, sums.of_task(i)), out)?;
     }
     Ok(())
+}
+
+/// Puts the lines of the tasks' energies where the version has them.
+pub(crate) fn put_sums<W: Sink>(head: Head<'_>, sums: &Sums, out: &mut W) -> Result<(), Failed>
+    requires { length sums.now.by_task ≡ count head.plan.now }
+    ensures { WritesPlain (W.shows out.old) (W.shows out.new)
+        (sum_lines head.entry.version head.entry.plan.now sums.now) result }
+{
+    match head.version {
+        Version::One => Ok(()),
+        Version::Two => put_shares(head.plan, sums, out),
+    }
 }

@@ -11,4 +11,4 @@ abbrev pub invariant-loop-i : goal.invariant-loop-i
 invariant-loop-i g l =
     let p = l.fn.plan in
     (ps : List ProbeOf) → WroteLines (g.W.Sink.shows l.fn.out) (g.W.Sink.shows l.out) ps ps
-        (list_below l.i (λ i. plain (task_text (name_of (names p) i) (period p i) (offset p i) ((task p i).worst))))
+    (list_below l.i (λ i. plain (task_text (name_of (names p) i) (period p i) (offset p i) ((task p i).worst))))

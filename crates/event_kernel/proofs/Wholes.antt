@@ -1,0 +1,118 @@
+-- The lines of a whole trace, and what their writing makes of a sink.
+use Rattle.std.proofs.Common.{◌≡◌, ℕ, ◌+◌, ◌<◌, ◌≤◌, List, [], ◌∷◌, ◌++◌, length, map, Result, Ok, Err, refl, ap, ap₂, sym, ◌∙◌, subst, arith, append-nil, length-append}
+use Rattle.std.specs.Prelude.{flat_map, sum_by, slice_index, IfOk, IsOk, OnErr}
+use Rattle.std.specs.List.{AllByRecursion}
+use Rattle.std.proofs.lemmas.List.Concat.{flat_map-append}
+use Rattle.std.proofs.lemmas.List.Sums.{sum_by-append, sum_by-cons}
+use Rattle.grid_fraction.specs.declared.Frac.{Frac}
+use Rattle.dvs_base.specs.declared.kind.Version.{Version}
+use Rattle.dvs_base.specs.declared.kind.Version.TheVariants.{One, Two}
+use Rattle.dvs_base.specs.declared.note.Note.{Note}
+use Rattle.dvs_base.specs.declared.note.Note.TheVariants.{Release, Speed, Run, Idle, Done, End}
+use Rattle.dvs_base.specs.declared.note.Totals.{Totals}
+use Rattle.dvs_base.specs.Outside.{SinkView, Rose}
+use Rattle.energy.specs.Books.{energy_of_task}
+use Rattle.sched_model.specs.Plan.{Plan, count, names}
+use Rattle.sched_model.specs.Admission.{IsWithinLimits}
+use Rattle.sched_model.specs.Notes.{energy_run, energy_idle}
+use Rattle.sched_model.specs.States.{StateOf}
+use Rattle.sched_model.proofs.Tables.{get-table, table-same}
+use Rattle.done_lines.specs.LineCounts.{AreFew}
+use Rattle.governor.specs.Schedule.{ask_of}
+use Rattle.trace_text.specs.TraceLines.{name_of}
+use Rattle.trace_reader.specs.VersionLines.{share_text}
+use Rattle.probes.specs.Tallies.{ProbeOf}
+use Rattle.replay_laws.proofs.FitNotes.{IsBeforeEnd, before-end-each}
+use Rattle.event_kernel.specs.Lines.{LineOf, plain, noted, share_lines, sum_lines, lines_of, note_lines, text_of, StoppedIn, Writes}
+use Rattle.event_kernel.specs.Runs as runs
+use Rattle.event_kernel.specs.Runs.{demands_of, ticks_of, notes_before_end_of, notes_of_run}
+use Rattle.event_kernel.specs.Sums.{SumsOf, sums_of}
+use Rattle.event_kernel.proofs.Releasing.{course-len}
+use Rattle.event_kernel.proofs.Writing.{text-append}
+
+-- a first part of the lines has stopped short of the sure room
+pub stopped-short : (a b : SinkView) (ps qs : List ProbeOf) (lines : List LineOf) → StoppedIn a b ps qs lines → a.sure < length (text_of lines)
+stopped-short a b ps qs lines s = omega (arith, s.wrote.surety, s.part.unsure, long)
+  where
+    long : length (text_of lines) ≡ length (text_of s.done) + (length s.line.text + length (text_of s.rest))
+    long =
+        ap (λ (ls : List LineOf). length (text_of ls)) s.whole
+        ∙ (ap (λ (t : List ℕ). length t) (text-append s.done (s.line ∷ s.rest))
+        ∙ (length-append (text_of s.done) (text_of (s.line ∷ s.rest))
+        ∙ ap (λ n. length (text_of s.done) + n) (length-append s.line.text (text_of s.rest))))
+
+module _ {T E : Type 0} (a b : SinkView) (ps qs : List ProbeOf) (lines : List LineOf) where
+  pub writes-sure : (r : Result T E) → Writes a b ps qs lines r → length (text_of lines) ≤ a.sure → IsOk r
+  writes-sure (Ok v) w le = refl
+  writes-sure (Err e) w le = absurd (omega (arith, stopped-short a b ps qs lines w, le))
+
+  pub writes-later : (r : Result T E) → Writes a b ps qs lines r → a.faults ≤ b.faults
+  writes-later (Ok v) w = omega (arith, w.wrote.steady)
+  writes-later (Err e) w = omega (arith, w.wrote.steady, w.part.later)
+
+  pub writes-rose : (r : Result T E) → Writes a b ps qs lines r → OnErr r (Rose a.faults b.faults)
+  writes-rose (Ok v) w = tt
+  writes-rose (Err e) w = subst (λ (n : ℕ). Rose n b.faults) w.wrote.steady w.part.rose
+
+pub few-of : {E : Type 0} (r : Result Totals E) (t : Totals) → AreFew t → IfOk r (λ x. x ≡ t) → IfOk r AreFew
+few-of (Ok x) t few is = subst AreFew (sym is) few
+few-of (Err e) t few is = tt
+
+-- the sums of the notes before the `End` are those of all notes
+sum-lines : (v : Version) (p : Plan) (before : List Note) (t run idle : ℕ)
+    → sum_lines v p (sums_of p before) ≡ share_lines v p (before ++ End t run idle ∷ [])
+sum-lines One p before t run idle = refl
+sum-lines Two p before t run idle =
+    table-same (count p)
+    (λ i. plain (share_text (name_of (names p) i) (slice_index (sums_of p before).by_task i)))
+    (λ i. plain (share_text (name_of (names p) i) (sum_by (energy_of_task i) (before ++ End t run idle ∷ []))))
+    (λ i lt. ap (λ (e : ℕ). plain (share_text (name_of (names p) i) e)) (get-table (count p) (λ k. sum_by (energy_of_task k) before) i 0 lt ∙ more i))
+  where
+    more : (i : ℕ) → sum_by (energy_of_task i) before ≡ sum_by (energy_of_task i) (before ++ End t run idle ∷ [])
+    more i =
+        let one : sum_by (energy_of_task i) (End t run idle ∷ []) ≡ 0 = omega (arith, sum_by-cons (energy_of_task i) (End t run idle) []) in
+        sym (sum_by-append (energy_of_task i) before (End t run idle ∷ []) ∙ (ap (λ n. sum_by (energy_of_task i) before + n) one ∙ omega arith))
+
+-- each note before the `End` has its own line alone
+own-lines : (v : Version) (p : Plan) (dem : ℕ → ℕ → ℕ) (all notes : List Note) → AllByRecursion (IsBeforeEnd p dem) notes
+    → flat_map (lines_of v p all) notes ≡ map (noted (names p)) notes
+own-lines v p dem all [] h = refl
+own-lines v p dem all (n ∷ ns) h = go n h.0 (own-lines v p dem all ns h.1)
+  where
+    go : (n : Note) → IsBeforeEnd p dem n → flat_map (lines_of v p all) ns ≡ map (noted (names p)) ns
+        → lines_of v p all n ++ flat_map (lines_of v p all) ns ≡ noted (names p) n ∷ map (noted (names p)) ns
+    go (Release t i k) b e = ap (λ ls. noted (names p) (Release t i k) ∷ ls) e
+    go (Speed t f num den) b e = ap (λ ls. noted (names p) (Speed t f num den) ∷ ls) e
+    go (Run from to i k units energy) b e = ap (λ ls. noted (names p) (Run from to i k units energy) ∷ ls) e
+    go (Idle from to units energy) b e = ap (λ ls. noted (names p) (Idle from to units energy) ∷ ls) e
+    go (Done at i k used) b e = ap (λ ls. noted (names p) (Done at i k used) ∷ ls) e
+    go (End t run idle) b e = absurd b
+
+module _ (demand : Plan → StateOf → Frac) (r : runs.Run) (lim : IsWithinLimits r.plan) (v : Version) where
+  abbrev pub before : List Note
+  before = notes_before_end_of demand r
+
+  -- the lines of all notes: those before the `End`, the energies, and the `End`
+  all-lines : map (noted (names r.plan)) before ++ (sum_lines v r.plan (sums_of r.plan before)
+      ++ noted (names r.plan) (End (length (ticks_of demand r)) (sum_by energy_run before) (sum_by energy_idle before)) ∷ [])
+      ≡ note_lines v r.plan (notes_of_run demand r)
+  all-lines =
+      let dem = demands_of r.plan r.demands in
+      let all : List Note = notes_of_run demand r in
+      let end : Note = End (length (ticks_of demand r)) (sum_by energy_run before) (sum_by energy_idle before) in
+      sym (flat_map-append (lines_of v r.plan all) before (end ∷ [])
+      ∙ ap₂ (λ (x y : List LineOf). x ++ y)
+      (own-lines v r.plan dem all before (before-end-each r.plan lim dem (ask_of demand r.plan dem) (ticks_of demand r)))
+      (append-nil (lines_of v r.plan all end)
+      ∙ ap (λ (ls : List LineOf). ls ++ noted (names r.plan) end ∷ [])
+      (sym (sum-lines v r.plan before (length (ticks_of demand r)) (sum_by energy_run before) (sum_by energy_idle before)))))
+
+  -- the same, from what a teller had of the plan, of the ticks and of the sums
+  pub told-lines : (ns : List (List ℕ)) (p : Plan) (ticks : ℕ) (s : SumsOf) → ns ≡ names p → p ≡ r.plan → ticks ≡ r.ticks → s ≡ sums_of r.plan before
+      → map (noted ns) before ++ (sum_lines v p s ++ noted (names p) (End ticks s.totals.run s.totals.idle) ∷ [])
+      ≡ note_lines v r.plan (notes_of_run demand r)
+  told-lines ns p ticks s en ep et es =
+      let whole : ticks ≡ length (ticks_of demand r) = et ∙ sym (course-len demand r.plan (demands_of r.plan r.demands) r.ticks) in
+      let own : ns ≡ names r.plan = en ∙ ap names ep in
+      (λ j. map (noted (own j)) before ++ (sum_lines v (ep j) (es j) ++ noted (names (ep j)) (End (whole j) ((es j).totals.run) ((es j).totals.idle)) ∷ []))
+      ∙ all-lines
