@@ -1,3 +1,4 @@
+pub mod NoEnd
 pub mod Bounds
 pub mod Pieces
 pub mod Summing

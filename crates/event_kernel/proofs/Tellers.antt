@@ -1,5 +1,5 @@
 -- What a teller of a trace heard, and what it balked at.
-use Rattle.std.proofs.Common.{◌≡◌, ℕ, List, [], ◌∷◌, map, refl, ◌∙◌}
+use Rattle.std.proofs.Common.{◌≡◌, List, [], ◌∷◌, map, refl, ◌∙◌}
 use Rattle.dvs_base.specs.Outside.{SinkView}
 use Rattle.dvs_base.specs.declared.note.Note.{Note}
 use Rattle.probes.specs.Tallies.{ProbeOf}

@@ -22,11 +22,11 @@ use Rattle.governor.specs.Schedule.{ask_of}
 use Rattle.trace_text.specs.TraceLines.{name_of}
 use Rattle.trace_reader.specs.VersionLines.{share_text}
 use Rattle.probes.specs.Tallies.{ProbeOf}
-use Rattle.replay_laws.proofs.FitNotes.{IsBeforeEnd, before-end-each}
 use Rattle.event_kernel.specs.Lines.{LineOf, plain, noted, share_lines, sum_lines, lines_of, note_lines, text_of, StoppedIn, Writes}
 use Rattle.event_kernel.specs.Runs as runs
 use Rattle.event_kernel.specs.Runs.{demands_of, ticks_of, notes_before_end_of, notes_of_run}
 use Rattle.event_kernel.specs.Sums.{SumsOf, sums_of}
+use Rattle.event_kernel.proofs.NoEnd.{IsNoEnd, none-ends}
 use Rattle.event_kernel.proofs.Releasing.{course-len}
 use Rattle.event_kernel.proofs.Writing.{text-append}
 
@@ -74,12 +74,12 @@ sum-lines Two p before t run idle =
         sym (sum_by-append (energy_of_task i) before (End t run idle ∷ []) ∙ (ap (λ n. sum_by (energy_of_task i) before + n) one ∙ omega arith))
 
 -- each note before the `End` has its own line alone
-own-lines : (v : Version) (p : Plan) (dem : ℕ → ℕ → ℕ) (all notes : List Note) → AllByRecursion (IsBeforeEnd p dem) notes
+own-lines : (v : Version) (p : Plan) (all notes : List Note) → AllByRecursion IsNoEnd notes
     → flat_map (lines_of v p all) notes ≡ map (noted (names p)) notes
-own-lines v p dem all [] h = refl
-own-lines v p dem all (n ∷ ns) h = go n h.0 (own-lines v p dem all ns h.1)
+own-lines v p all [] h = refl
+own-lines v p all (n ∷ ns) h = go n h.0 (own-lines v p all ns h.1)
   where
-    go : (n : Note) → IsBeforeEnd p dem n → flat_map (lines_of v p all) ns ≡ map (noted (names p)) ns
+    go : (n : Note) → IsNoEnd n → flat_map (lines_of v p all) ns ≡ map (noted (names p)) ns
         → lines_of v p all n ++ flat_map (lines_of v p all) ns ≡ noted (names p) n ∷ map (noted (names p)) ns
     go (Release t i k) b e = ap (λ ls. noted (names p) (Release t i k) ∷ ls) e
     go (Speed t f num den) b e = ap (λ ls. noted (names p) (Speed t f num den) ∷ ls) e
@@ -102,7 +102,7 @@ module _ (demand : Plan → StateOf → Frac) (r : runs.Run) (lim : IsWithinLimi
       let end : Note = End (length (ticks_of demand r)) (sum_by energy_run before) (sum_by energy_idle before) in
       sym (flat_map-append (lines_of v r.plan all) before (end ∷ [])
       ∙ ap₂ (λ (x y : List LineOf). x ++ y)
-      (own-lines v r.plan dem all before (before-end-each r.plan lim dem (ask_of demand r.plan dem) (ticks_of demand r)))
+      (own-lines v r.plan all before (none-ends r.plan dem (ask_of demand r.plan dem) (ticks_of demand r)))
       (append-nil (lines_of v r.plan all end)
       ∙ ap (λ (ls : List LineOf). ls ++ noted (names r.plan) end ∷ [])
       (sym (sum-lines v r.plan before (length (ticks_of demand r)) (sum_by energy_run before) (sum_by energy_idle before)))))

@@ -5,7 +5,7 @@ use Rattle.dvs_base.specs.declared.note.Note.TheVariants.{End}
 use Rattle.dvs_base.specs.declared.note.Totals.{Totals}
 use Rattle.dvs_base.specs.Outside.{SinkView}
 use Rattle.probes.specs.Tallies.{ProbeOf}
-use Rattle.sched_model.specs.Plan.{Plan, count, names}
+use Rattle.sched_model.specs.Plan.{count, names}
 use Rattle.sched_model.specs.Totals.{totals_of}
 use Rattle.sched_model.proofs.ScheduleLemmas.{length-list_below}
 use Rattle.event_kernel.specs.Lines.{LineOf, noted, sum_lines, Writes, StoppedIn}

@@ -1,4 +1,4 @@
-use Rattle.std.proofs.Common.{◌≡◌, ℕ, List, ap, map, subst, arith}
+use Rattle.std.proofs.Common.{ℕ, List, map, subst, arith}
 use Rattle.dvs_base.specs.Outside.{SinkView, Rose}
 use Rattle.probes.specs.Tallies.{ProbeOf}
 use Rattle.sched_model.specs.States.{opening}
