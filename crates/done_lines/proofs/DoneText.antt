@@ -1,24 +1,26 @@
 -- The text of a schedule that meets its deadlines tells each of them.
-use Rattle.std.proofs.Common.{◌≡◌, ℕ, zero, suc, ◌+◌, ◌-◌, ◌^◌, ◌<◌, ◌≤◌, Bool, true, false, ◌&&◌, ◌||◌, List, [], ◌∷◌, ◌++◌, length, flat_map, map, refl, arith, if◌then◌else◌, ap, ap₂, ◌∙◌, sym, subst, true≢false, nat_eq, nat_lt, codes, get_or, ◌⊎◌, inl, inr}
+use Rattle.std.proofs.Common.{◌≡◌, ℕ, zero, suc, ◌+◌, ◌-◌, ◌^◌, ◌<◌, ◌≤◌, Bool, true, false, ◌&&◌, ◌||◌, List, [], ◌∷◌, ◌++◌, length, flat_map, refl, arith, if◌then◌else◌, ap, ap₂, ◌∙◌, sym, subst, true≢false, nat_eq, nat_lt, get_or, append_assoc, ◌⊎◌, inl, inr}
 use Rattle.std.specs.Prelude.{sum_by}
 use Rattle.std.specs.List.{AllByRecursion}
 use Rattle.std.proofs.lemmas.Fmt.{decimal_injective}
-use Rattle.std.proofs.lemmas.List.{get_or-map, length-map, map-append}
+use Rattle.std.proofs.lemmas.List.{get_or-map, length-map}
+use Rattle.std.proofs.lemmas.Grind.{flat_map-append}
 use Rattle.std.proofs.Math.ListN.{get_or-eq_default}
 use Rattle.std.proofs.lemmas.Bool.{cases_lt}
 use Rattle.std.proofs.lemmas.Bool.Decides.{nat_tests}
 use Rattle.dvs_base.specs.declared.kind.GovernorKind.{GovernorKind}
+use Rattle.dvs_base.specs.declared.kind.Version.{Version}
 use Rattle.dvs_base.specs.declared.note.Note.{Note}
 use Rattle.dvs_base.specs.declared.note.Note.TheVariants.{Release, Speed, Run, Idle, Done, End}
 use Rattle.dvs_base.specs.declared.note.Pos.{Pos}
-use Rattle.trace_text.specs.TraceLines.{line, name_of, done_fields, fields_of, note_text, version_fields, version_text, plan_fields, plan_text}
+use Rattle.trace_text.specs.TraceLines.{line, name_of, done_fields, fields_of, note_text}
 use Rattle.trace_text.specs.TextLines.{lines_of}
-use Rattle.trace_text.proofs.NoteLines.{plain-word, plain-scheduler, plain-governor, note-fields, lines-notes, done-same}
+use Rattle.trace_text.proofs.NoteLines.{note-fields, done-same}
 use Rattle.task_model.specs.declared.task.Task.{Task}
 use Rattle.task_model.specs.Tasks.{no_task, task_at}
 use Rattle.grid_fraction.specs.declared.Frac.{Frac}
 use Rattle.dvs_base.specs.declared.limits.TheConstants.{MOST_TICKS}
-use Rattle.sched_model.specs.Plan.{Plan, count, names, period}
+use Rattle.sched_model.specs.Plan.{Plan, count, names, task, period, offset}
 use Rattle.sched_model.specs.Jobs.{release, due}
 use Rattle.sched_model.specs.Ticks.{Tick, at, exec}
 use Rattle.sched_model.specs.Demand.{published}
@@ -26,13 +28,15 @@ use Rattle.sched_model.specs.Schedule.{IsScheduleBy, schedule}
 use Rattle.sched_model.specs.Deadlines.{IsMet}
 use Rattle.sched_model.specs.Admission.{IsWithinLimits}
 use Rattle.sched_model.specs.Notes.{notes_of, notes_before_end, energy_run, energy_idle}
-use Rattle.sched_model.specs.Text.{trace_text}
 use Rattle.sched_model.proofs.Limits.{every_period, low_period}
 use Rattle.sched_model.proofs.ScheduleLemmas.{schedule_exists}
 use Rattle.sched_model.proofs.Service.{exec-most, exec-drop}
 use Rattle.sched_model.proofs.JobLaws.{le-due, release-due}
 use Rattle.done_lines.specs.DoneLines.{IsDoneLine, IsBy, IsToldBy, TellsDeadlines, TextTellsDeadlines}
-use Rattle.trace_text.proofs.PlainLines.{ArePlain, all-each, plain-decimal, plain-name, some-name, lines-line, and-left, and-right}
+use Rattle.trace_reader.specs.TraceText.{whole_text}
+use Rattle.trace_text.proofs.PlainLines.{ArePlain, all-each, each-append, plain-name, some-name, and-left, and-right}
+use Rattle.done_lines.specs.RunText.{task_texts}
+use Rattle.done_lines.proofs.RunLines.{IsLine, IsQuiet, before_note, lines_at, head_lines, each-below, quiet-task, quiet-before, quiet-head, task-line, lines-whole}
 use Rattle.done_lines.proofs.DoneNotes.{tells_done, tells_late, times, times-append}
 use Rattle.done_lines.proofs.DoneCounts.{told-once, told-never, none-late}
 
@@ -103,12 +107,20 @@ silent ns named i k apart low n off small at_end d = go n off small (d.0, sym (n
         let found : (nat_eq i j && nat_eq k l) ≡ true = rw (here, job, self k) refl in
         true≢false (sym found ∙ off)
 
-silent-lines : (ns : List (List ℕ)) → ((i : ℕ) → ArePlain (name_of ns i)) → (i k : ℕ) → ((j : ℕ) → name_of ns j ≡ name_of ns i → j ≡ i) → k < 2 ^ 64
-    → (notes : List Note) → AllByRecursion (λ n. tells_done i k n ≡ false) notes → AllByRecursion (λ n. (l : ℕ) → tells_done i l n ≡ true → l < 2 ^ 64) notes
-    → AllByRecursion (λ l. (at_end : Pos) → IsDoneLine (name_of ns i) k at_end l → ⊥) (map (note_text ns) notes)
-silent-lines ns named i k apart low [] off small = tt
-silent-lines ns named i k apart low (n ∷ notes) off small =
-    (silent ns named i k apart low n off.0 small.0, silent-lines ns named i k apart low notes off.1 small.1)
+-- a line that begins with another letter tells no end
+quiet-silent : (name : List ℕ) (k : ℕ) (ls : List (List ℕ)) → AllByRecursion IsQuiet ls → AllByRecursion (λ l. (at_end : Pos) → IsDoneLine name k at_end l → ⊥) ls
+quiet-silent name k [] quiet = tt
+quiet-silent name k (l ∷ ls) quiet = (other-line name k l quiet.0, quiet-silent name k ls quiet.1)
+
+silent-lines : (v : Version) (ns : List (List ℕ)) → ((i : ℕ) → ArePlain (name_of ns i)) → (i k : ℕ) → ((j : ℕ) → name_of ns j ≡ name_of ns i → j ≡ i) → k < 2 ^ 64
+    → (all notes : List Note) → AllByRecursion (λ n. tells_done i k n ≡ false) notes → AllByRecursion (λ n. (l : ℕ) → tells_done i l n ≡ true → l < 2 ^ 64) notes
+    → AllByRecursion (λ l. (at_end : Pos) → IsDoneLine (name_of ns i) k at_end l → ⊥) (flat_map (lines_at v ns all) notes)
+silent-lines v ns named i k apart low all [] off small = tt
+silent-lines v ns named i k apart low all (n ∷ notes) off small =
+    let before = before_note v ns all n in
+    each-append _ (lines_at v ns all n) (flat_map (lines_at v ns all) notes)
+    (each-append _ before (note_text ns n ∷ []) (quiet-silent (name_of ns i) k before (quiet-before v ns all n)) (silent ns named i k apart low n off.0 small.0, tt))
+    (silent-lines v ns named i k apart low all notes off.1 small.1)
 
 each-before : {A : Type 0} (P : A → Type 0) (xs ys : List A) → AllByRecursion P (xs ++ ys) → AllByRecursion P xs
 each-before P [] ys e = tt
@@ -208,17 +220,27 @@ module _ (p : Plan) (dem : ℕ → ℕ → ℕ) (ask : List Tick → Frac) (lim 
         absurd (omega (arith, some, same, never))
   ]
 
-  -- the text of the schedule, its first two lines before those of its notes
-  lines-text : (g : GovernorKind) (t : ℕ) → lines_of (trace_text p.scheduler g t (names p) notes) ≡ version_text ∷ plan_text p.scheduler g t ∷ map (note_text (names p)) notes
-  lines-text g t =
-      let rest = flat_map (note_text (names p)) notes in
-      lines-line version_fields (plan_text p.scheduler g t ++ rest) (plain-word (codes "trace") refl, (plain-word (codes "1") refl, tt))
-      ∙ ap (λ ls. version_text ∷ ls)
-      (lines-line (plan_fields p.scheduler g t) rest
-      (plain-word (codes "plan") refl, (plain-scheduler p.scheduler, (plain-governor g, (plain-decimal t, tt))))
-      ∙ ap (λ ls. plan_text p.scheduler g t ∷ ls) (lines-notes (names p) named notes))
+  -- the text of the schedule, and its lines
+  abbrev text : Version → GovernorKind → ℕ → List ℕ
+  text v g t = whole_text v p.scheduler g t (names p) (task_texts p) notes
 
-  module _ (g : GovernorKind) (t : ℕ) (i k : ℕ) (lt : i < count p) (some_job : 1 ≤ k) (had : exec p ticks i k ≡ dem i k) (within : due p i k ≤ length ticks) where
+  abbrev note_lines : Version → List Note → List (List ℕ)
+  note_lines v some = flat_map (lines_at v (names p) notes) some
+
+  abbrev heading : Version → GovernorKind → ℕ → List (List ℕ)
+  heading v g t = head_lines v p.scheduler g t (task_texts p)
+
+  lines-text : (v : Version) (g : GovernorKind) (t : ℕ) → lines_of (text v g t) ≡ heading v g t ++ note_lines v notes
+  lines-text v g t =
+      lines-whole (names p) named notes v p.scheduler g t (task_texts p)
+      (each-below IsLine _ (count p) (λ i. task-line (name_of (names p) i) (period p i) (offset p i) ((task p i).worst) (named i)))
+
+  quiet-heading : (v : Version) (g : GovernorKind) (t : ℕ) → AllByRecursion IsQuiet (heading v g t)
+  quiet-heading v g t =
+      quiet-head v p.scheduler g t (task_texts p)
+      (each-below IsQuiet _ (count p) (λ i. quiet-task (name_of (names p) i) (period p i) (offset p i) ((task p i).worst)))
+
+  module _ (v : Version) (g : GovernorKind) (t : ℕ) (i k : ℕ) (lt : i < count p) (some_job : 1 ≤ k) (had : exec p ticks i k ≡ dem i k) (within : due p i k ≤ length ticks) where
     once : times (tells_done i k) notes ≡ 1
     once =
         let began : release p i k < length ticks = omega (arith, release-due p i k some_job, every_period p lim i, within) in
@@ -231,7 +253,7 @@ module _ (p : Plan) (dem : ℕ → ℕ → ℕ) (ask : List Tick → Frac) (lim 
     low-job = omega (arith, le-due p i k (every_period p lim i), within, low)
 
     -- the one note
-    told-by : IsAlone (tells_done i k) notes → IsToldBy (name_of (names p) i) k (due p i k) (trace_text p.scheduler g t (names p) notes)
+    told-by : IsAlone (tells_done i k) notes → IsToldBy (name_of (names p) i) k (due p i k) (text v g t)
     told-by r = go r.one refl
       where
         all_small : AllByRecursion (λ n. (l : ℕ) → tells_done i l n ≡ true → l < 2 ^ 64) (r.front ++ r.one ∷ r.back)
@@ -240,31 +262,28 @@ module _ (p : Plan) (dem : ℕ → ℕ → ℕ) (ask : List Tick → Frac) (lim 
         not_late : AllByRecursion (λ n. tells_late (due p i k) i k n ≡ false) (r.front ++ r.one ∷ r.back)
         not_late = subst (AllByRecursion (λ n. tells_late (due p i k) i k n ≡ false)) r.parts (none-pass (tells_late (due p i k) i k) notes in-time)
 
-        go : (n : Note) → r.one ≡ n → IsToldBy (name_of (names p) i) k (due p i k) (trace_text p.scheduler g t (names p) notes)
+        go : (n : Note) → r.one ≡ n → IsToldBy (name_of (names p) i) k (due p i k) (text v g t)
         go (Release tick j l) e = absurd (true≢false (sym r.passes ∙ ap (tells_done i k) e))
         go (Speed tick f num den) e = absurd (true≢false (sym r.passes ∙ ap (tells_done i k) e))
         go (Run from to j l units energy) e = absurd (true≢false (sym r.passes ∙ ap (tells_done i k) e))
         go (Idle from to units energy) e = absurd (true≢false (sym r.passes ∙ ap (tells_done i k) e))
         go (End tick run idle) e = absurd (true≢false (sym r.passes ∙ ap (tells_done i k) e))
         go (Done q j l u) e = record {
-          before = version_text ∷ plan_text p.scheduler g t ∷ map (note_text (names p)) r.front;
+          before = heading v g t ++ note_lines v r.front;
           told = note_text (names p) (Done q j l u);
-          after = map (note_text (names p)) r.back;
+          after = note_lines v r.back;
           at_end = q;
-          lines = lines-text g t ∙ ap (λ ls. version_text ∷ plan_text p.scheduler g t ∷ ls)
-              (ap (map (note_text (names p))) r.parts ∙ (map-append (note_text (names p)) r.front (r.one ∷ r.back)
-              ∙ ap (λ n. map (note_text (names p)) r.front ++ note_text (names p) n ∷ map (note_text (names p)) r.back) e));
+          lines = lines-text v g t ∙ (ap (λ ls. heading v g t ++ ls)
+              (ap (note_lines v) r.parts ∙ (flat_map-append (lines_at v (names p) notes) r.front (r.one ∷ r.back)
+              ∙ ap (λ n. note_lines v r.front ++ (lines_at v (names p) notes n ++ note_lines v r.back)) e))
+              ∙ sym (append_assoc (heading v g t) (note_lines v r.front) (note_text (names p) (Done q j l u) ∷ note_lines v r.back)));
           done = (u, note-fields (names p) (Done q j l u) ∙ ap₂ (λ m n. line (done_fields q (name_of (names p) m) n u)) (sym task) (sym job));
           in_time = by;
-          none_before = all-each (λ l. (at_end : Pos) → IsDoneLine (name_of (names p) i) k at_end l → ⊥) (version_text ∷ plan_text p.scheduler g t ∷ map (note_text (names p)) r.front) (
-            other-line (name_of (names p) i) k version_text refl,
-            (
-              other-line (name_of (names p) i) k (plan_text p.scheduler g t) refl,
-              silent-lines (names p) named i k (apart i lt) low-job r.front (none-pass (tells_done i k) r.front r.none_front) (each-before _ r.front (r.one ∷ r.back) all_small),
-            ),
-          );
-          none_after = all-each (λ l. (at_end : Pos) → IsDoneLine (name_of (names p) i) k at_end l → ⊥) (map (note_text (names p)) r.back)
-              (silent-lines (names p) named i k (apart i lt) low-job r.back (none-pass (tells_done i k) r.back r.none_back) (each-after _ r.front (r.one ∷ r.back) all_small).1);
+          none_before = all-each (λ l. (at_end : Pos) → IsDoneLine (name_of (names p) i) k at_end l → ⊥) (heading v g t ++ note_lines v r.front)
+              (each-append _ (heading v g t) (note_lines v r.front) (quiet-silent (name_of (names p) i) k (heading v g t) (quiet-heading v g t))
+              (silent-lines v (names p) named i k (apart i lt) low-job notes r.front (none-pass (tells_done i k) r.front r.none_front) (each-before _ r.front (r.one ∷ r.back) all_small)));
+          none_after = all-each (λ l. (at_end : Pos) → IsDoneLine (name_of (names p) i) k at_end l → ⊥) (note_lines v r.back)
+              (silent-lines v (names p) named i k (apart i lt) low-job notes r.back (none-pass (tells_done i k) r.back r.none_back) (each-after _ r.front (r.one ∷ r.back) all_small).1);
         }
           where
             passes : (nat_eq i j && nat_eq k l) ≡ true
@@ -284,21 +303,21 @@ module _ (p : Plan) (dem : ℕ → ℕ → ℕ) (ask : List Tick → Frac) (lim 
             by : IsBy (due p i k) q
             by = is_by (due p i k) q early
 
-    pub told-text : IsToldBy (name_of (names p) i) k (due p i k) (trace_text p.scheduler g t (names p) notes)
+    pub told-text : IsToldBy (name_of (names p) i) k (due p i k) (text v g t)
     told-text = told-by (alone (tells_done i k) notes once)
 
   -- each deadline within the ticks that is met is told
-  pub tells-deadlines : (g : GovernorKind) → IsMet p dem ticks → TellsDeadlines p (length ticks) (trace_text p.scheduler g (length ticks) (names p) notes)
-  tells-deadlines g met i k lt some_job within =
+  pub tells-deadlines : (v : Version) (g : GovernorKind) → IsMet p dem ticks → TellsDeadlines p (length ticks) (text v g (length ticks))
+  tells-deadlines v g met i k lt some_job within =
       let by : exec p (at (due p i k) ticks) i k ≡ dem i k = met i k lt some_job within in
       let had : exec p ticks i k ≡ dem i k = omega (arith, by, exec-drop p i k (length ticks - due p i k) ticks, most i k lt) in
-      told-text g (length ticks) i k lt some_job had within
+      told-text v g (length ticks) i k lt some_job had within
 
 -- the text of each run that meets its deadlines
 pub text-tells : (p : Plan) → IsWithinLimits p → TextTellsDeadlines p
-text-tells p lim kind dem t low met =
+text-tells p lim v kind dem t low met =
     let ticks = schedule p kind dem t in
     let exists = schedule_exists p dem (published p kind dem) t in
     let long : length ticks ≡ t = exists.1 in
-    subst (λ n. TellsDeadlines p n (trace_text p.scheduler kind n (names p) (notes_of p dem (published p kind dem) ticks))) long
-    (tells-deadlines p dem (published p kind dem) lim ticks exists.0 (exec-most p dem (published p kind dem) ticks exists.0) (omega (arith, long, low)) kind met)
+    subst (λ n. TellsDeadlines p n (whole_text v p.scheduler kind n (names p) (task_texts p) (notes_of p dem (published p kind dem) ticks))) long
+    (tells-deadlines p dem (published p kind dem) lim ticks exists.0 (exec-most p dem (published p kind dem) ticks exists.0) (omega (arith, long, low)) v kind met)

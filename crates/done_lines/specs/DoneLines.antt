@@ -2,6 +2,7 @@
 use Rattle.std.specs.Prelude.{◌≡◌, ◌⊎◌, ℕ, ◌<◌, ◌≤◌, List, ◌∷◌, ◌++◌}
 use Rattle.std.specs.List.{All}
 use Rattle.dvs_base.specs.declared.kind.GovernorKind.{GovernorKind}
+use Rattle.dvs_base.specs.declared.kind.Version.{Version}
 use Rattle.dvs_base.specs.declared.note.Pos.{Pos}
 use Rattle.trace_text.specs.TraceLines.{line, done_fields, name_of}
 use Rattle.trace_text.specs.TextLines.{lines_of}
@@ -9,8 +10,8 @@ use Rattle.dvs_base.specs.declared.limits.TheConstants.{MOST_TICKS}
 use Rattle.sched_model.specs.Plan.{Plan, count, names}
 use Rattle.sched_model.specs.Schedule.{schedule}
 use Rattle.sched_model.specs.Deadlines.{IsMet}
-use Rattle.sched_model.specs.Text.{run_text}
 use Rattle.sched_model.specs.Jobs.{due}
+use Rattle.done_lines.specs.RunText.{run_text_in}
 
 -- the line tells that job k of the task of this name was done at a position
 abbrev pub IsDoneLine : List ℕ → ℕ → Pos → List ℕ → Type 0
@@ -41,8 +42,8 @@ abbrev pub TellsDeadlines : Plan → ℕ → List ℕ → Type 0
 TellsDeadlines p ticks text =
     (i k : ℕ) → i < count p → 1 ≤ k → due p i k ≤ ticks → IsToldBy (name_of (names p) i) k (due p i k) text
 
--- the text of each run that meets its deadlines tells each of them
+-- the text of each run that meets its deadlines, in either version, tells each of them
 abbrev pub TextTellsDeadlines : Plan → Type 0
 TextTellsDeadlines p =
-    (kind : GovernorKind) (dem : ℕ → ℕ → ℕ) (ticks : ℕ) → ticks ≤ MOST_TICKS
-    → IsMet p dem (schedule p kind dem ticks) → TellsDeadlines p ticks (run_text p kind dem ticks)
+    (v : Version) (kind : GovernorKind) (dem : ℕ → ℕ → ℕ) (ticks : ℕ) → ticks ≤ MOST_TICKS
+    → IsMet p dem (schedule p kind dem ticks) → TellsDeadlines p ticks (run_text_in v p kind dem ticks)

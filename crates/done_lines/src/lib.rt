@@ -10,8 +10,9 @@ ghost use Rattle.done_lines.specs.DoneLines.{TextTellsDeadlines};
 
 use sched_model::Admitted;
 
-/// For each governor's kind, all demands of the jobs and each length up to 2^40 ticks, the text of a run that meets its
-/// deadlines has, for each job that is due within it, exactly one `done` line, at a position not after the deadline.
+/// In either version, for each governor's kind, all demands of the jobs and each length up to 2^40 ticks, the text of a
+/// run that meets its deadlines has, for each job that is due within it, exactly one `done` line, at a position not after
+/// the deadline.
 pub fn told_deadlines(plan: &Admitted)
     ensures { TextTellsDeadlines plan.now }
 {

@@ -9,7 +9,7 @@ use Rattle.freq_table.specs.Tables.{Table}
 use Rattle.demand_list.specs.Demands.{DemandsOf}
 use Rattle.sched_model.specs.Plan.{Plan, plan_of}
 use Rattle.sched_model.specs.Demands.{demand_of}
-use Rattle.sched_model.specs.Text.{run_text}
+use Rattle.done_lines.specs.RunText.{run_text_in}
 use Rattle.sched_model.specs.Jobs.{released_jobs}
 use Rattle.dvs_base.specs.declared.limits.TheConstants.{MOST_JOBS}
 use Rattle.words.specs.declared.command.WordFault.{WordFault}
@@ -47,7 +47,7 @@ denied-means : (r : RunOf) (files : Files) (why : Denied)
 denied-means r files why e =
     let t = denied-later (tasks_at r.tasks files) (λ tasks. run_after_tasks r tasks files) why (tasks_at-denies-not r.tasks files) e in
     let tasks : List Task = t.0 in
-    let prepared = denied-first (prepared_of r tasks files) (answer_of_prepared r) why (λ x. within-denies-not (released_jobs x.0 r.ticks) (run_text x.0 r.governor (demand_of x.0 x.1.rows) r.ticks)) t.2 in
+    let prepared = denied-first (prepared_of r tasks files) (answer_of_prepared r) why (λ x. within-denies-not (released_jobs x.0 r.ticks) (run_text_in r.version x.0 r.governor (demand_of x.0 x.1.rows) r.ticks)) t.2 in
     let m = denied-later (machine_at r.machine files)
     (λ machine. and_then (demands_at tasks r.demands files) (λ d. and_then (admission (plan_of tasks machine r.scheduler)) (λ p. Ok (p, d)))) why (machine_at-denies-not r.machine files) prepared in
     let machine : Table = m.0 in
@@ -58,9 +58,9 @@ denied-means r files why e =
 -- the text of a run that is done
 done-text : (r : RunOf) (files : Files) (tasks : List Task) (p : Plan) (d : DemandsOf) (bytes : List ℕ)
     → tasks_at r.tasks files ≡ Ok tasks → prepared_of r tasks files ≡ Ok (p, d)
-    → answer_of_command (run r) files ≡ Ok bytes → bytes ≡ run_text p r.governor (demand_of p d.rows) r.ticks
+    → answer_of_command (run r) files ≡ Ok bytes → bytes ≡ run_text_in r.version p r.governor (demand_of p d.rows) r.ticks
 done-text r files tasks p d bytes t q e =
-    within-text (released_jobs p r.ticks) (run_text p r.governor (demand_of p d.rows) r.ticks) bytes
+    within-text (released_jobs p r.ticks) (run_text_in r.version p r.governor (demand_of p d.rows) r.ticks) bytes
     (sym (ap (λ x. and_then x (answer_of_prepared r)) q) ∙ (sym (ap (λ x. and_then x (λ ts. run_after_tasks r ts files)) t) ∙ e))
   where
     text_of : Result (List ℕ) Status → List ℕ
@@ -78,13 +78,13 @@ done-text r files tasks p d bytes t q e =
 done-run : (r : RunOf) (files : Files) (old new : SinkView) (tasks : List Task) (p : Plan) (d : DemandsOf) (bytes : List ℕ)
     → tasks_at r.tasks files ≡ Ok tasks → prepared_of r tasks files ≡ Ok (p, d)
     → answer_of_command (run r) files ≡ Ok bytes
-    → Appends old.written new.written bytes → HasMet r.governor (run_with r p d)
+    → Appends old.written new.written bytes → HasMet r.version r.governor (run_with r p d)
     → OfRun (Some files) (Ok (run r)) old new status.Done
 done-run r files old new tasks p d bytes t q e wrote met =
     let m = prepared-means r files tasks p d t q in
     let whole = done-text r files tasks p d bytes t q e in
-    let done : DoneRun r.governor (run_with r p d) old new = record { text = subst (Appends old.written new.written) whole wrote; run = met } in
-    let P : Plan → DemandsOf → Type 0 = λ x y. (prepared_of r tasks files ≡ Ok (x, y)) × DoneRun r.governor (run_with r x y) old new in
+    let done : DoneRun r.version r.governor (run_with r p d) old new = record { text = subst (Appends old.written new.written) whole wrote; run = met } in
+    let P : Plan → DemandsOf → Type 0 = λ x y. (prepared_of r tasks files ≡ Ok (x, y)) × DoneRun r.version r.governor (run_with r x y) old new in
     let whole_run = subst (λ (x : Plan). P x m.1) m.3 (subst (λ (y : DemandsOf). P p y) m.4 (q, done)) in
     (tasks, m.0, m.1, m.2, whole_run.0, whole_run.1)
 
@@ -120,7 +120,7 @@ module _ (r : RunOf) (files : Files) (tasks : List Task) (machine : Table) (dema
   answer-is = rw (means.tasks_are, means.machine_is, means.demands_are) refl
 
   abbrev whole : List ℕ
-  whole = run_text plan r.governor (demand_of plan demands.rows) r.ticks
+  whole = run_text_in r.version plan r.governor (demand_of plan demands.rows) r.ticks
 
   few-text : within_jobs (released_jobs plan r.ticks) whole ≡ Ok whole
   few-text = grind (arith, nat_tests)
@@ -137,12 +137,12 @@ module _ (r : RunOf) (files : Files) (tasks : List Task) (machine : Table) (dema
 
   -- a run that is done is of what its files mean
   done-only : (old new : SinkView) → OfRun (Some files) (Ok (run r)) old new status.Done
-      → DoneRun r.governor (run_with r plan demands) old new
+      → DoneRun r.version r.governor (run_with r plan demands) old new
   done-only old new x =
       let ts = ap given_tasks (sym x.3.tasks_are ∙ means.tasks_are) in
       let ms = ap given_machine (sym x.3.machine_is ∙ means.machine_is) in
       let ds = ap given_demands (sym (subst (λ (ts : List Task). demands_at ts r.demands files ≡ Ok x.2) ts x.3.demands_are) ∙ means.demands_are) in
-      let P : List Task → Table → DemandsOf → Type 0 = λ a b c. DoneRun r.governor (run_with r (plan_of a b r.scheduler) c) old new in
+      let P : List Task → Table → DemandsOf → Type 0 = λ a b c. DoneRun r.version r.governor (run_with r (plan_of a b r.scheduler) c) old new in
       subst (λ (c : DemandsOf). P tasks machine c) ds (subst (λ (b : Table). P tasks b x.2) ms (subst (λ (a : List Task). P a x.1 x.2) ts x.5))
     where
       given_tasks : Result (List Task) Status → List Task
@@ -161,7 +161,7 @@ module _ (r : RunOf) (files : Files) (tasks : List Task) (machine : Table) (dema
       → OfRun (Some files) (Ok (run r)) old new s
       → Answers (Some files) (Ok (run r)) loads_rose (Rose old.faults new.faults) s → (loads_rose → ⊥)
       → (Rose old.faults new.faults → ⊥) → s ≢ status.NoMemory
-      → RunsOrIsDenied r.governor (run_with r plan demands) old new s
+      → RunsOrIsDenied r.version r.governor (run_with r plan demands) old new s
   runs-or-is-denied loads_rose old new status.Done of answers still whole_out memory = inl (refl, done-only old new of)
   runs-or-is-denied loads_rose old new (status.NotAdmitted why) of answers still whole_out memory = inr (denied-only (status.NotAdmitted why) answers)
   runs-or-is-denied loads_rose old new (status.Words why) of answers still whole_out memory =

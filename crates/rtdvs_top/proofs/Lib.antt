@@ -1,9 +1,10 @@
 pub mod Loading
 pub mod Refusing
 pub mod Texts
-pub mod Lines
 pub mod Overloads
-pub mod Writers
+pub mod TraceTexts
+pub mod ProbePuts
+pub mod Noting
 pub mod Published
 pub mod Picks
 pub mod Endings

@@ -3,11 +3,13 @@ use Rattle.std.proofs.Common.{◌≡◌, ℕ, true, List, ap, ◌∙◌, sym, su
 use Rattle.dvs_base.specs.Outside.{SinkView}
 use Rattle.dvs_base.specs.declared.note.Note.{Note}
 use Rattle.dvs_base.specs.declared.kind.GovernorKind.{GovernorKind}
+use Rattle.dvs_base.specs.declared.kind.Version.{Version}
 use Rattle.grid_fraction.specs.declared.Frac.{Frac}
 use Rattle.demand_list.specs.Demands.{DemandsOf, IsWithinWorsts}
 use Rattle.sched_model.specs.Plan.{Plan, names}
 use Rattle.sched_model.specs.Notes.{notes_of}
-use Rattle.sched_model.specs.Text.{trace_text}
+use Rattle.trace_reader.specs.TraceText.{whole_text}
+use Rattle.done_lines.specs.RunText.{task_texts}
 use Rattle.sched_model.specs.Schedule.{schedule_by}
 use Rattle.sched_model.specs.Deadlines.{IsMet}
 use Rattle.sched_model.specs.Decision.{is_decision}
@@ -26,6 +28,8 @@ use Rattle.governor.specs.Schedule.{ask_of, Publishes}
 use Rattle.rtdvs_top.specs.WorkloadLines.{run_totals}
 use Rattle.rtdvs_top.specs.Answer.{answer_of_run, within_jobs}
 use Rattle.rtdvs_top.specs.Ending.{Ends, governed_answer, MeetsAll, MeetsAllOf}
+use Rattle.probes.specs.Tallies.{ProbeOf}
+use Rattle.rtdvs_top.specs.Probing.{NotesTold, GovernedTold, RunTold}
 use Rattle.rtdvs_top.specs.declared.status.Status.{Status}
 use Rattle.rtdvs_top.specs.declared.status.Status.TheVariants as status
 
@@ -58,11 +62,16 @@ module _ (demand : Plan → StateOf → Frac) (kind : GovernorKind) (p : Plan) (
   pub totals-published : (ticks : ℕ) → totals_of (notes_of_run demand (run_of ticks)) ≡ run_totals p d ticks kind
   totals-published ticks = ap totals_of (same-run ticks)
 
-  pub ended-published : (old new : SinkView) (ticks : ℕ) (s : Status)
-      → Ends old new (governed_answer kind demand (run_of ticks)) s → Ends old new (answer_of_run kind (run_of ticks)) s
-  ended-published old new ticks s h =
-      let P : List Note → Type 0 = λ notes. Ends old new (within_jobs (released_jobs p ticks) (trace_text p.scheduler kind ticks (names p) notes)) s in
+  pub ended-published : (v : Version) (old new : SinkView) (ticks : ℕ) (s : Status)
+      → Ends old new (governed_answer v kind demand (run_of ticks)) s → Ends old new (answer_of_run v kind (run_of ticks)) s
+  ended-published v old new ticks s h =
+      let P : List Note → Type 0 = λ notes. Ends old new (within_jobs (released_jobs p ticks) (whole_text v p.scheduler kind ticks (names p) (task_texts p) notes)) s in
       subst P (same-run ticks) h
+
+  pub told-published : (v : Version) (old new : SinkView) (before after : List ProbeOf) (ticks : ℕ) (s : Status)
+      → GovernedTold v kind demand (run_of ticks) old new before after s → RunTold v kind (run_of ticks) old new before after s
+  told-published v old new before after ticks s h =
+      subst (λ (notes : List Note). NotesTold v kind p ticks notes old new before after s) (same-run ticks) h
 
   -- a demand that is met where a schedule's own demand decides is met where the published one does
   met-there : (t : ℕ)

@@ -8,6 +8,7 @@ use Rattle.trace_text.specs.TraceLines.{line}
 use Rattle.dvs_base.specs.declared.kind.Scheduler.{Scheduler}
 use Rattle.dvs_base.specs.declared.kind.Scheduler.TheVariants.{Edf, Rm}
 use Rattle.dvs_base.specs.declared.kind.GovernorKind.{GovernorKind}
+use Rattle.dvs_base.specs.declared.kind.Version.{Version}
 use Rattle.task_model.specs.declared.task.Task.{Task}
 use Rattle.task_model.specs.declared.fault.TaskFault.{TaskFault}
 use Rattle.task_model.specs.declared.fault.TaskFault.TheVariants as task_fault
@@ -25,7 +26,7 @@ use Rattle.sched_model.specs.Order.{in_order}
 use Rattle.sched_model.specs.Demands.{demand_of}
 use Rattle.sched_model.specs.Tests.{total_rate, level_work}
 use Rattle.sched_model.specs.StaticDemand.{static_demand}
-use Rattle.sched_model.specs.Text.{run_text}
+use Rattle.done_lines.specs.RunText.{run_text_in}
 use Rattle.sched_model.specs.Jobs.{released_jobs}
 use Rattle.event_kernel.specs.Runs.{Run}
 use Rattle.dvs_base.specs.declared.limits.TheConstants.{MOST_JOBS, LONGEST_FILE, LONGEST_TRACE}
@@ -124,13 +125,14 @@ admission p = admission_by p.scheduler p
 abbrev pub within_jobs : ℕ → List ℕ → Result (List ℕ) Status
 within_jobs jobs bytes = if nat_lt MOST_JOBS jobs then Err (status.Limit jobs) else Ok bytes
 
--- the answer of an admitted plan: the text of its run
-abbrev pub answer_of_plan : GovernorKind → DemandsOf → ℕ → Plan → Result (List ℕ) Status
-answer_of_plan g demands ticks p = within_jobs (released_jobs p ticks) (run_text p g (demand_of p demands.rows) ticks)
+-- the answer of an admitted plan: the text of its run in this version
+abbrev pub answer_of_plan : Version → GovernorKind → DemandsOf → ℕ → Plan → Result (List ℕ) Status
+answer_of_plan v g demands ticks p =
+    within_jobs (released_jobs p ticks) (run_text_in v p g (demand_of p demands.rows) ticks)
 
 -- the same of a run that was put together
-abbrev pub answer_of_run : GovernorKind → Run → Result (List ℕ) Status
-answer_of_run g r = answer_of_plan g r.demands r.ticks r.plan
+abbrev pub answer_of_run : Version → GovernorKind → Run → Result (List ℕ) Status
+answer_of_run v g r = answer_of_plan v g r.demands r.ticks r.plan
 
 -- the admitted plan and the demands of a run, after its tasks
 abbrev pub prepared_of : RunOf → List Task → Files → Result (Plan × DemandsOf) Status
@@ -142,7 +144,7 @@ prepared_of r tasks files =
 
 -- the answer of a run that was prepared
 abbrev pub answer_of_prepared : RunOf → Plan × DemandsOf → Result (List ℕ) Status
-answer_of_prepared r x = answer_of_plan r.governor x.1 r.ticks x.0
+answer_of_prepared r x = answer_of_plan r.version r.governor x.1 r.ticks x.0
 
 -- the line of an admission: the static demand, and the lowest speed that meets it
 abbrev pub admitted_text : Plan → List ℕ

@@ -2,6 +2,7 @@
 use Rattle.std.specs.Prelude.{◌≡◌, ◌≢◌, ℕ, List, Option, Some, None, Result, Ok, ⊤}
 use Rattle.dvs_base.specs.Outside.{Files, SinkView}
 use Rattle.dvs_base.specs.declared.kind.GovernorKind.{GovernorKind}
+use Rattle.dvs_base.specs.declared.kind.Version.{Version}
 use Rattle.dvs_base.specs.declared.kind.GovernorKind.TheVariants.{Ahead}
 use Rattle.governor.specs.Meanings.{OwnDemand}
 use Rattle.demand_list.specs.Demands.{DemandsOf}
@@ -10,7 +11,8 @@ use Rattle.sched_model.specs.Plan.{Plan, names}
 use Rattle.sched_model.specs.Demands.{JobDemands}
 use Rattle.sched_model.specs.Jobs.{released_jobs}
 use Rattle.sched_model.specs.Ticks.{Tick}
-use Rattle.sched_model.specs.Text.{trace_text, run_text}
+use Rattle.trace_reader.specs.TraceText.{whole_text}
+use Rattle.done_lines.specs.RunText.{task_texts, run_text_in}
 use Rattle.sched_model.specs.Deadlines.{IsMet}
 use Rattle.sched_model.specs.Admission.{PassesTest}
 use Rattle.sched_model.specs.Schedule.{schedule, AlwaysMeets, HasSchedule, HasNoOther}
@@ -20,7 +22,7 @@ use Rattle.event_kernel.specs.Runs.{Run, demands_of, notes_of_run, MeetsDeadline
 use Rattle.rtdvs_top.specs.Answer.{within_jobs, prepared_of, tasks_at}
 use Rattle.words.specs.Commands.{RunOf, CommandOf, run}
 use Rattle.rtdvs_top.specs.Causes.{EndsWith, IsRefusal, Gives}
-use Rattle.rtdvs_top.specs.Writing.{Wrote, WroteSome}
+use Rattle.event_kernel.specs.Lines.{Wrote, WroteSome}
 use Rattle.rtdvs_top.specs.declared.status.Status.{Status}
 use Rattle.rtdvs_top.specs.declared.status.Status.TheVariants as status
 
@@ -48,12 +50,13 @@ Leaves status.Write old new = ⊤
 Leaves s old new = new ≡ old
 
 -- the text of a run under a governor's own demand
-abbrev pub governed_text : GovernorKind → OwnDemand → Run → List ℕ
-governed_text kind demand r = trace_text r.plan.scheduler kind r.ticks (names r.plan) (notes_of_run demand r)
+abbrev pub governed_text : Version → GovernorKind → OwnDemand → Run → List ℕ
+governed_text v kind demand r =
+    whole_text v r.plan.scheduler kind r.ticks (names r.plan) (task_texts r.plan) (notes_of_run demand r)
 
 -- its answer
-abbrev pub governed_answer : GovernorKind → OwnDemand → Run → Result (List ℕ) Status
-governed_answer kind demand r = within_jobs (released_jobs r.plan r.ticks) (governed_text kind demand r)
+abbrev pub governed_answer : Version → GovernorKind → OwnDemand → Run → Result (List ℕ) Status
+governed_answer v kind demand r = within_jobs (released_jobs r.plan r.ticks) (governed_text v kind demand r)
 
 -- a run that was done meets every deadline, and every demand unless it looks ahead
 abbrev pub MeetsAll : GovernorKind → OwnDemand → Run → Status → Type 0
@@ -68,9 +71,9 @@ job_demands r = demands_of r.plan r.demands
 abbrev pub ticks_under : GovernorKind → Run → List Tick
 ticks_under kind r = schedule r.plan kind (job_demands r) r.ticks
 
--- the text of its trace
-abbrev pub text_under : GovernorKind → Run → List ℕ
-text_under kind r = run_text r.plan kind (job_demands r) r.ticks
+-- the text of its trace in a version
+abbrev pub text_under : Version → GovernorKind → Run → List ℕ
+text_under v kind r = run_text_in v r.plan kind (job_demands r) r.ticks
 
 -- some entry of the table meets each published demand
 abbrev pub AlwaysMeetsIn : GovernorKind → Run → Type 0
@@ -83,8 +86,8 @@ MeetsAllOf kind r status.Done =
     IsMet r.plan (job_demands r) (ticks_under kind r) × (kind ≢ Ahead → AlwaysMeetsIn kind r)
 MeetsAllOf kind r s = ⊤
 
--- what a run of an admitted plan has met
-pub record HasMet (kind : GovernorKind) (r : Run) : Type 0 where
+-- what a run of an admitted plan, written in this version, has met
+pub record HasMet (v : Version) (kind : GovernorKind) (r : Run) : Type 0 where
   -- the scheduler's stated test passes at the highest speed
   pub admitted : PassesTest r.plan.scheduler r.plan
   -- its ticks are the one schedule, in which each speed is the lowest entry that meets the published demand, else the
@@ -93,7 +96,7 @@ pub record HasMet (kind : GovernorKind) (r : Run) : Type 0 where
   -- each job that is due within the run has had its demand by its deadline
   pub deadlines : IsMet r.plan (job_demands r) (ticks_under kind r)
   -- and of the text's lines exactly one tells its end, not after the deadline
-  pub told : TellsDeadlines r.plan r.ticks (text_under kind r)
+  pub told : TellsDeadlines r.plan r.ticks (text_under v kind r)
   -- some entry meets each published demand, unless the governor looks ahead
   pub speeds : kind ≢ Ahead → AlwaysMeetsIn kind r
   -- whatever demand is published, the plan has one schedule of each length
@@ -101,9 +104,9 @@ pub record HasMet (kind : GovernorKind) (r : Run) : Type 0 where
   pub unique : HasNoOther r.plan
 
 -- a run that was done has met all that
-abbrev pub HasMetIfDone : GovernorKind → Run → Status → Type 0
-HasMetIfDone kind r status.Done = HasMet kind r
-HasMetIfDone kind r s = ⊤
+abbrev pub HasMetIfDone : Version → GovernorKind → Run → Status → Type 0
+HasMetIfDone v kind r status.Done = HasMet v kind r
+HasMetIfDone v kind r s = ⊤
 
 -- the run of a plan and demands that the words of a run ask for
 abbrev pub run_with : RunOf → Plan → DemandsOf → Run
@@ -113,7 +116,7 @@ run_with r p d = record { plan = p; demands = d; ticks = r.ticks }
 abbrev pub MetBy : Option Files → RunOf → List Task → Status → Type 0
 MetBy told r tasks status.Done =
     (p : Plan) × (d : DemandsOf) × Gives told (prepared_of r tasks) (p, d)
-    × HasMet r.governor (run_with r p d)
+    × HasMet r.version r.governor (run_with r p d)
 MetBy told r tasks s = ⊤
 
 -- the same of a command, with the tasks of its file

@@ -9,6 +9,8 @@ pub mod Answer
 pub mod Writing
 pub mod Causes
 pub mod Ending
+pub mod ProbeLines
+pub mod Probing
 pub mod Promises
 pub mod EdfRuns
 pub mod ReplayAnswer

@@ -7,6 +7,7 @@ use Rattle.rtdvs_top.specs.Answer.{tasks_at}
 use Rattle.rtdvs_top.specs.Refusals.{status_text}
 use Rattle.rtdvs_top.specs.Causes.{tasks_name}
 use Rattle.rtdvs_top.specs.declared.status.Status.{Status}
+use Rattle.rtdvs_top.specs.declared.status.Status.TheVariants as status
 
 -- the names of the tasks, where they were read
 abbrev pub names_of : Option (List Task) → List (List ℕ)
@@ -36,3 +37,8 @@ names_by c files = names_at (tasks_name c) files
 abbrev pub NamedBy : Option Files → CommandOf → Option (List Task) → Status → Type 0
 NamedBy None c tasks s = ⊤
 NamedBy (Some files) c tasks s = status_text (names_of tasks) s ≡ status_text (names_by c files) s
+
+-- where a command is done, the names are those of its tasks
+abbrev pub NamedIfDone : Option Files → CommandOf → Option (List Task) → Status → Type 0
+NamedIfDone (Some files) c tasks status.Done = names_of tasks ≡ names_by c files
+NamedIfDone told c tasks s = ⊤

@@ -1,9 +1,10 @@
 -- What the top call promises, clause by clause. The command is what the words are, or why they are refused.
-use Rattle.std.specs.Prelude.{◌≡◌, ◌≢◌, ◌⊎◌, ℕ, ◌≤◌, List, [], length, map, string_bytes, String, Option, Some, None, Result, Ok, Err, IsOk, ⊤}
+use Rattle.std.specs.Prelude.{◌≡◌, ◌≢◌, ◌⊎◌, ℕ, ◌≤◌, Bool, false, List, [], length, map, string_bytes, String, Option, Some, None, Result, Ok, Err, IsOk, ⊤}
 use Rattle.std.specs.Io.KnownBytes.{Appends}
 use Rattle.std.specs.declared.alloc.Global.{Global}
 use Rattle.dvs_base.specs.Outside.{Files, ShelfView, SinkView, Rose, AppendsPrefix}
 use Rattle.dvs_base.specs.declared.kind.GovernorKind.{GovernorKind}
+use Rattle.dvs_base.specs.declared.kind.Version.{Version}
 use Rattle.task_model.specs.declared.task.Task.{Task}
 use Rattle.demand_list.specs.Demands.{DemandsOf}
 use Rattle.freq_table.specs.Tables.{Table}
@@ -22,6 +23,9 @@ use Rattle.rtdvs_top.specs.Refusals.{status_text}
 use Rattle.rtdvs_top.specs.Causes.{LoadOf, PassesBefore, files_for, loads_of}
 use Rattle.rtdvs_top.specs.Ending.{HasMet, run_with, text_under}
 use Rattle.rtdvs_top.specs.Writing.{NotedAs}
+use Rattle.rtdvs_top.specs.ProbeLines.{noted_text}
+use Rattle.rtdvs_top.specs.Probing.{asks_probes, ToldIn}
+use Rattle.probes.specs.Tallies.{ProbeOf}
 use Rattle.rtdvs_top.specs.declared.status.Denied.{Denied}
 use Rattle.rtdvs_top.specs.declared.status.Status.{Status}
 use Rattle.rtdvs_top.specs.declared.status.Status.TheVariants as status
@@ -89,9 +93,9 @@ pub record Means (r : RunOf) (files : Files) (tasks : List Task) (machine : Tabl
   pub demands_are : demands_at tasks r.demands files ≡ Ok demands
 
 -- what holds of a run that is done: its text was written, and it has met all that an admitted plan meets
-pub record DoneRun (kind : GovernorKind) (r : Run) (old new : SinkView) : Type 0 where
-  pub text : Appends old.written new.written (text_under kind r)
-  pub run : HasMet kind r
+pub record DoneRun (v : Version) (kind : GovernorKind) (r : Run) (old new : SinkView) : Type 0 where
+  pub text : Appends old.written new.written (text_under v kind r)
+  pub run : HasMet v kind r
 
 -- what holds of a plan that is denied: the two numbers are those of its scheduler's test, and the test fails
 pub record DeniedPlan (p : Plan) (why : Denied) : Type 0 where
@@ -104,16 +108,16 @@ abbrev pub OfRun : Option Files → Result CommandOf WordFault → SinkView → 
 OfRun (Some files) (Ok (run r)) old new status.Done =
     (tasks : List Task) × (machine : Table) × (demands : DemandsOf) × Means r files tasks machine demands
     × (prepared_of r tasks files ≡ Ok (plan_of tasks machine r.scheduler, demands))
-    × DoneRun r.governor (run_with r (plan_of tasks machine r.scheduler) demands) old new
+    × DoneRun r.version r.governor (run_with r (plan_of tasks machine r.scheduler) demands) old new
 OfRun (Some files) (Ok (run r)) old new (status.NotAdmitted why) =
     (tasks : List Task) × (machine : Table) × (demands : DemandsOf) × Means r files tasks machine demands
     × DeniedPlan (plan_of tasks machine r.scheduler) why
 OfRun told c old new s = ⊤
 
 -- a run of a plan is done, and then it has met all that; or the plan is denied, and then its scheduler's test fails
-abbrev pub RunsOrIsDenied : GovernorKind → Run → SinkView → SinkView → Status → Type 0
-RunsOrIsDenied kind r old new s =
-    ((s ≡ status.Done) × DoneRun kind r old new)
+abbrev pub RunsOrIsDenied : Version → GovernorKind → Run → SinkView → SinkView → Status → Type 0
+RunsOrIsDenied v kind r old new s =
+    ((s ≡ status.Done) × DoneRun v kind r old new)
     ⊎ ((why : Denied) × (s ≡ status.NotAdmitted why) × DeniedPlan r.plan why)
 
 -- The headline. The files of a run are told, and mean these tasks, this machine and these demands; the run releases no
@@ -124,11 +128,25 @@ Headline (Some files) (Ok (run r)) loads_rose old new s =
     (tasks : List Task) (machine : Table) (demands : DemandsOf) → Means r files tasks machine demands
     → released_jobs (plan_of tasks machine r.scheduler) r.ticks ≤ MOST_JOBS
     → (loads_rose → ⊥) → (Rose old.faults new.faults → ⊥) → s ≢ status.NoMemory
-    → RunsOrIsDenied r.governor (run_with r (plan_of tasks machine r.scheduler) demands) old new s
+    → RunsOrIsDenied r.version r.governor (run_with r (plan_of tasks machine r.scheduler) demands) old new s
 Headline told c loads_rose old new s = ⊤
 
--- the line of a status is noted, whole or in part, with the names of the command's tasks
-abbrev pub Notes : Option Files → Result CommandOf WordFault → Status → SinkView → SinkView → Type 0
-Notes (Some files) (Ok c) s old new = NotedAs old new (status_text (names_by c files) s)
-Notes told (Err why) s old new = NotedAs old new (status_text [] s)
-Notes None (Ok c) s old new = (names : List (List ℕ)) × NotedAs old new (status_text names s)
+-- the line of a status is noted, or after a run that asked for probes and is done the lines of those that are left; whole
+-- or in part, with the names of the command's tasks
+abbrev pub Notes : Option Files → Result CommandOf WordFault → List ProbeOf → Status → SinkView → SinkView → Type 0
+Notes (Some files) (Ok c) ps s old new = NotedAs old new (noted_text (asks_probes c) (names_by c files) ps s)
+Notes told (Err why) ps s old new = NotedAs old new (status_text [] s)
+Notes None (Ok c) ps s old new =
+    (names : List (List ℕ)) × NotedAs old new (noted_text (asks_probes c) names ps s)
+
+-- whether the words ask for probes
+abbrev pub probes_asked : Result CommandOf WordFault → Bool
+probes_asked (Ok c) = asks_probes c
+probes_asked (Err why) = false
+
+-- the probes that the words ask for were told the notes of a run that is done, and of one of which a write failed those
+-- of the lines before that write
+abbrev pub Tells : Option Files → Result CommandOf WordFault → SinkView → SinkView
+    → List ProbeOf → List ProbeOf → Status → Type 0
+Tells told (Ok c) old new before after s = ToldIn told c old new before after s
+Tells told (Err why) old new before after s = ⊤

@@ -1,26 +1,7 @@
 -- What a sink got of a text.
-use Rattle.std.specs.Prelude.{◌≡◌, ◌⊎◌, ℕ, ◌+◌, ◌<◌, ◌≤◌, List, ◌++◌, length, Result, Ok, Err}
-use Rattle.std.specs.Io.KnownBytes.{Appends}
-use Rattle.trace_text.specs.TraceLines.{version_text, plan_text}
-use Rattle.trace_text.specs.declared.write.PlanLine.{PlanLine}
-use Rattle.dvs_base.specs.Outside.{SinkView, Rose, AppendsPrefix}
-
--- the whole text: the bytes that are told grow by it, the count of faults stays, and the sure room falls by no more
-pub record Wrote (old new : SinkView) (text : List ℕ) : Type 0 where
-  pub bytes : Appends old.written new.written text
-  pub steady : new.faults ≡ old.faults
-  pub surety : old.sure ≤ new.sure + length text
-
--- a first part of it: the count of faults rose, and the sink was not sure of the whole text
-pub record WroteSome (old new : SinkView) (text : List ℕ) : Type 0 where
-  pub part : AppendsPrefix old.written new.written text
-  pub rose : Rose old.faults new.faults
-  pub later : old.faults ≤ new.faults
-  pub unsure : old.sure < length text
-
--- the two lines before the notes of a trace
-abbrev pub head_text : PlanLine → List ℕ
-head_text plan = version_text ++ plan_text plan.scheduler plan.governor plan.ticks
+use Rattle.std.specs.Prelude.{◌⊎◌, ℕ, List, Result, Ok, Err}
+use Rattle.dvs_base.specs.Outside.{SinkView}
+use Rattle.event_kernel.specs.Lines.{Wrote, WroteSome}
 
 -- what the writing of a text makes of a sink, and what it answers
 abbrev pub Writing : {T E : Type 0} → SinkView → SinkView → List ℕ → Result T E → Type 0

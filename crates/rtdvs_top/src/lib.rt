@@ -11,6 +11,7 @@ mod files;
 mod made_lines;
 mod made_runs;
 mod plan_words;
+mod probe_line;
 mod refusal;
 mod replay_answer;
 mod run;

@@ -5,7 +5,7 @@ ghost use Rattle.rtdvs_top.specs.ReplayAnswer.{shown_files, totals_at, replayed_
 ghost use Rattle.words.specs.Commands.{replay as replay_of};
 ghost use Rattle.rtdvs_top.specs.ReplayCauses.{IsComparable, PassesTraced, LaterTraceLoad};
 ghost use Rattle.rtdvs_top.specs.Causes.{MakesLoads, IsNoLoad, LoadOf, PassesBefore, loads_of};
-ghost use Rattle.rtdvs_top.specs.Naming.{NamedBy};
+ghost use Rattle.rtdvs_top.specs.Naming.{NamedBy, NamedIfDone};
 ghost use Rattle.rtdvs_top.specs.Ending.{Ends, EndsAs, Leaves, MetIn};
 ghost use Rattle.rtdvs_top.specs.Shown.{IsShown};
 
@@ -100,6 +100,7 @@ pub(crate) fn answer_replay<S: Shelf, W: Sink>(
     ensures leaves { Leaves result.0 out.old out.new }
     ensures met { MetIn (S.shows shelf.old).held (replay_of (shown_files files.now)) result.0 }
     ensures named { NamedBy (S.shows shelf.old).held (replay_of (shown_files files.now)) result.1 result.0 }
+    ensures named_done { NamedIfDone (S.shows shelf.old).held (replay_of (shown_files files.now)) result.1 result.0 }
     ensures passed { PassesBefore (S.shows shelf.old).held (replay_of (shown_files files.now)) result.0 }
     ensures explained { LoadOf (S.shows shelf.old) (S.shows shelf.new) (replay_of (shown_files files.now)) result.0 }
     ensures loads { MakesLoads (loads_of (replay_of (shown_files files.now))) (S.shows shelf.old) (S.shows shelf.new) }

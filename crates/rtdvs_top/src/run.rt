@@ -1,37 +1,36 @@
 // Admission, and the run of an admitted plan.
-ghost use Rattle.std.specs.Prelude.{◌≡◌, ◌≢◌, ◌≤◌, ◌<◌, ◌^◌, length, flat_map, Ok, IfOk, IfErr, OnOk};
-ghost use Rattle.trace_text.specs.TraceLines.{note_text};
+ghost use Rattle.std.specs.Prelude.{◌≡◌, ◌≢◌, ◌≤◌, ◌<◌, ◌^◌, length, map, Ok, IfOk, IfErr, OnOk};
 ghost use Rattle.sched_model.specs.Plan.{plan_of};
 ghost use Rattle.sched_model.specs.StaticDemand.{static_demand};
 ghost use Rattle.sched_model.specs.States.{opening};
-ghost use Rattle.sched_model.specs.Text.{trace_text};
 ghost use Rattle.event_kernel.specs.Runs.{notes_of_run, MeetsDeadlines, MeetsDemands};
 ghost use Rattle.rtdvs_top.specs.Answer.{admission, answer_of_run, admitted_text};
 ghost use Rattle.rtdvs_top.specs.Asked.{planned, IsRunnable};
 ghost use Rattle.rtdvs_top.specs.Causes.{EndsWith, IsNoLoad};
-ghost use Rattle.rtdvs_top.specs.Ending.{Ends, Leaves, governed_answer, MeetsAll, MeetsAllOf, HasMetIfDone};
+ghost use Rattle.rtdvs_top.specs.Ending.{Ends, Leaves, governed_text, governed_answer, MeetsAll, MeetsAllOf, HasMetIfDone};
+ghost use Rattle.rtdvs_top.specs.Probing.{IfAsked, LeavesProbes, TraceTold, GovernedTold, RunTold};
 ghost use Rattle.rtdvs_top.specs.Shown.{IsShown};
 ghost use Rattle.dvs_base.specs.Pairs.{IsPair};
 ghost use Rattle.rtdvs_top.specs.Writing.{Writing};
 
-use crate::writer::{TraceWriter, put_head, put_line};
+use crate::writer::put_line;
 use crate::{Denied, Status};
 use cc_edf::CcEdf;
 use cc_rm::CcRm;
 use demand_list::Demands;
 use done_lines::told_deadlines;
-use dvs_base::{Failed, GovernorKind, Line, Name, NoMemory, Part, Scheduler, Sink, line_of};
+use dvs_base::{Failed, GovernorKind, Line, NoMemory, Part, Scheduler, Sink, Version, line_of};
 use edf_admit::{EdfFault, edf_admit};
-use event_kernel::{Kernel, KernelFault, Stopped};
+use event_kernel::{Kernel, KernelFault, WriteFault};
 use freq_table::Machine;
 use governor::{Governor, Publishing};
 use look_ahead::LookAhead;
+use probes::Probe;
 use rm_admit::{RmFault, rm_admit};
 use sched_model::{Admitted, one_schedule};
 use static_gov::{Full, Static};
 use std::alloc::Global;
 use task_model::TaskSet;
-use trace_text::PlanLine;
 
 fn admit_edf(alloc: Global, tasks: &TaskSet, machine: &Machine) -> Result<Admitted, Status>
     ensures plan { IfOk result (λ p. admission (plan_of tasks.now machine.now Scheduler.Edf) ≡ Ok p) }
@@ -90,155 +89,178 @@ pub(crate) struct PlannedRun<'a> {
     pub(crate) ticks: u64,
 }
 
-// Tells the notes of a run to a writer.
-fn drive_into<G: Governor, W: Sink>(
-    kernel: Kernel<'_, G>,
-    writer: &mut TraceWriter<'_, W>,
-) -> Result<(), Failed>
-    ensures wrote { Writing (W.shows writer.old.out.now) (W.shows writer.new.out.now)
-        (flat_map (note_text writer.old.names.now) (notes_of_run G.demand kernel.entry)) result }
-    ensures same_sink { writer.new.out.ghost_name ≡ writer.old.out.ghost_name }
-    ensures deadlines { MeetsDeadlines G.demand kernel.entry }
-    ensures demands { G.the_kind ≢ GovernorKind.Ahead → MeetsDemands G.demand kernel.entry }
-{
-    match kernel.drive(writer) {
-        Ok(_) => Ok(()),
-        Err(Stopped) => Err(Failed),
-    }
+/// A run that is to be written: the version of its text, and whether the probes are told its notes.
+#[derive(Clone, Copy)]
+pub(crate) struct WrittenRun<'a> {
+    pub(crate) run: PlannedRun<'a>,
+    pub(crate) version: Version,
+    pub(crate) probes: bool,
 }
 
-// Writes the notes of a run.
-fn put_notes<G: Governor, W: Sink>(
+// Writes the whole trace of a run, and tells the probes its notes.
+fn put_trace<G: Governor, W: Sink, P: Probe>(
     kernel: Kernel<'_, G>,
-    names: &[Name],
+    version: Version,
     out: &mut W,
+    probes: &mut Vec<P>,
 ) -> Result<(), Failed>
     ensures wrote { Writing (W.shows out.old) (W.shows out.new)
-        (flat_map (note_text names.now) (notes_of_run G.demand kernel.entry)) result }
-    ensures deadlines { MeetsDeadlines G.demand kernel.entry }
-    ensures demands { G.the_kind ≢ GovernorKind.Ahead → MeetsDemands G.demand kernel.entry }
-{
-    let mut writer = TraceWriter { out, names };
-    let told = drive_into(kernel, &mut writer);
-    let TraceWriter { out: _, names: _ } = writer;
-    told
-}
-
-// Writes the whole trace of a run.
-fn put_trace<G: Governor, W: Sink>(
-    head: PlanLine,
-    kernel: Kernel<'_, G>,
-    names: &[Name],
-    out: &mut W,
-) -> Result<(), Failed>
-    ensures wrote { Writing (W.shows out.old) (W.shows out.new)
-        (trace_text head.scheduler head.governor head.ticks names.now (notes_of_run G.demand kernel.entry)) result }
+        (governed_text version G.the_kind G.demand kernel.entry) result }
+    ensures told { TraceTold version G.the_kind kernel.entry.plan kernel.entry.ticks (notes_of_run G.demand kernel.entry)
+        (W.shows out.old) (W.shows out.new)
+        (map P.seen probes.old.items) (map P.seen probes.new.items) result }
     ensures deadlines { OnOk result (MeetsDeadlines G.demand kernel.entry) }
     ensures demands { OnOk result (G.the_kind ≢ GovernorKind.Ahead → MeetsDemands G.demand kernel.entry) }
 {
-    match put_head(head, out) {
-        Ok(()) => match put_notes(kernel, names, out) {
-            Ok(()) => Ok(()),
-            Err(Failed) => Err(Failed),
-        },
-        Err(Failed) => Err(Failed),
+    match kernel.run(out, probes, version) {
+        Ok(_) => Ok(()),
+        Err(WriteFault) => Err(Failed),
     }
 }
 
 // The trace of a run under a governor that stands for the opening of its plan.
-fn run_from_opening<G: Governor, W: Sink>(
+fn run_from_opening<G: Governor, W: Sink, P: Probe>(
     alloc: Global,
-    run: &PlannedRun<'_>,
+    written: &WrittenRun<'_>,
     governor: G,
     out: &mut W,
+    probes: &mut Vec<P>,
 ) -> Status
-    requires run { IsRunnable (planned run.now) }
-    requires stands { G.stands governor run.now.plan.now (opening run.now.plan.now) }
+    requires run { IsRunnable (planned written.now.run) }
+    requires stands { G.stands governor written.now.run.plan.now (opening written.now.run.plan.now) }
     ensures ended { Ends (W.shows out.old) (W.shows out.new)
-        (governed_answer G.the_kind G.demand (planned run.now)) result }
-    ensures met { MeetsAll G.the_kind G.demand (planned run.now) result }
+        (governed_answer written.now.version G.the_kind G.demand (planned written.now.run)) result }
+    ensures told { GovernedTold written.now.version G.the_kind G.demand (planned written.now.run)
+        (W.shows out.old) (W.shows out.new)
+        (map P.seen probes.old.items) (map P.seen probes.new.items) result }
+    ensures met { MeetsAll G.the_kind G.demand (planned written.now.run) result }
     ensures leaves { Leaves result out.old out.new }
+    ensures kept { Leaves result probes.old probes.new }
     ensures loads { IsNoLoad result }
     ensures shown { IsShown result }
 {
-    let head = PlanLine {
-        scheduler: run.plan.scheduler(),
-        governor: governor.kind(),
-        ticks: run.ticks,
-    };
+    let run = written.run;
     let kernel = match Kernel::new(alloc, run.plan, run.demands, governor, run.ticks) {
         Ok(kernel) => kernel,
         Err(KernelFault::TooManyJobs { count }) => return Status::Limit { jobs: count },
         Err(KernelFault::NoMemory) => return Status::NoMemory,
     };
-    match put_trace(head, kernel, run.plan.names(), out) {
+    match put_trace(kernel, written.version, out, probes) {
         Ok(()) => Status::Done,
         Err(Failed) => Status::Write,
     }
 }
 
 // The trace of a run under a governor of this type.
-fn run_governed<G: Publishing, W: Sink>(alloc: Global, run: &PlannedRun<'_>, out: &mut W) -> Status
-    requires run { IsRunnable (planned run.now) }
-    requires serves { G.serves run.now.plan.now.scheduler }
-    ensures ended { Ends (W.shows out.old) (W.shows out.new) (answer_of_run G.the_kind (planned run.now)) result }
-    ensures met { MeetsAllOf G.the_kind (planned run.now) result }
+fn run_governed<G: Publishing, W: Sink, P: Probe>(
+    alloc: Global,
+    written: &WrittenRun<'_>,
+    out: &mut W,
+    probes: &mut Vec<P>,
+) -> Status
+    requires run { IsRunnable (planned written.now.run) }
+    requires serves { G.serves written.now.run.plan.now.scheduler }
+    ensures ended { Ends (W.shows out.old) (W.shows out.new)
+        (answer_of_run written.now.version G.the_kind (planned written.now.run)) result }
+    ensures told { RunTold written.now.version G.the_kind (planned written.now.run) (W.shows out.old) (W.shows out.new)
+        (map P.seen probes.old.items) (map P.seen probes.new.items) result }
+    ensures met { MeetsAllOf G.the_kind (planned written.now.run) result }
     ensures leaves { Leaves result out.old out.new }
+    ensures kept { Leaves result probes.old probes.new }
     ensures loads { IsNoLoad result }
     ensures shown { IsShown result }
 {
-    run.demands.known();
-    run.plan.known();
-    match G::made(alloc, run.plan) {
-        Ok(governor) => run_from_opening(alloc, run, governor, out),
+    written.run.demands.known();
+    written.run.plan.known();
+    match G::made(alloc, written.run.plan) {
+        Ok(governor) => run_from_opening(alloc, written, governor, out, probes),
         Err(NoMemory) => Status::NoMemory,
     }
 }
 
 // The trace of a run under the governor of a pair.
-fn run_pair<W: Sink>(
+fn run_pair<W: Sink, P: Probe>(
     alloc: Global,
-    run: &PlannedRun<'_>,
+    written: &WrittenRun<'_>,
     governor: GovernorKind,
     out: &mut W,
+    probes: &mut Vec<P>,
 ) -> Status
-    requires run { IsRunnable (planned run.now) }
-    requires pair { IsPair run.now.plan.now.scheduler governor }
-    ensures ended { Ends (W.shows out.old) (W.shows out.new) (answer_of_run governor (planned run.now)) result }
-    ensures met { MeetsAllOf governor (planned run.now) result }
+    requires run { IsRunnable (planned written.now.run) }
+    requires pair { IsPair written.now.run.plan.now.scheduler governor }
+    ensures ended { Ends (W.shows out.old) (W.shows out.new)
+        (answer_of_run written.now.version governor (planned written.now.run)) result }
+    ensures told { RunTold written.now.version governor (planned written.now.run) (W.shows out.old) (W.shows out.new)
+        (map P.seen probes.old.items) (map P.seen probes.new.items) result }
+    ensures met { MeetsAllOf governor (planned written.now.run) result }
     ensures leaves { Leaves result out.old out.new }
+    ensures kept { Leaves result probes.old probes.new }
     ensures loads { IsNoLoad result }
     ensures shown { IsShown result }
 {
-    match (run.plan.scheduler(), governor) {
-        (_, GovernorKind::Plain) => run_governed::<Full, W>(alloc, run, out),
-        (_, GovernorKind::Fixed) => run_governed::<Static, W>(alloc, run, out),
-        (Scheduler::Edf, GovernorKind::Cycle) => run_governed::<CcEdf, W>(alloc, run, out),
-        (Scheduler::Rm, GovernorKind::Cycle) => run_governed::<CcRm, W>(alloc, run, out),
-        (Scheduler::Edf, GovernorKind::Ahead) => run_governed::<LookAhead, W>(alloc, run, out),
+    match (written.run.plan.scheduler(), governor) {
+        (_, GovernorKind::Plain) => run_governed::<Full, W, P>(alloc, written, out, probes),
+        (_, GovernorKind::Fixed) => run_governed::<Static, W, P>(alloc, written, out, probes),
+        (Scheduler::Edf, GovernorKind::Cycle) => run_governed::<CcEdf, W, P>(alloc, written, out, probes),
+        (Scheduler::Rm, GovernorKind::Cycle) => run_governed::<CcRm, W, P>(alloc, written, out, probes),
+        (Scheduler::Edf, GovernorKind::Ahead) => run_governed::<LookAhead, W, P>(alloc, written, out, probes),
         (Scheduler::Rm, GovernorKind::Ahead) => unreachable!(),
     }
 }
 
-/// The trace of a run of an admitted plan.
-pub(crate) fn run_plan<W: Sink>(
+// The trace of a run of an admitted plan, whose notes these probes are told.
+fn run_told<W: Sink, P: Probe>(
     alloc: Global,
-    run: &PlannedRun<'_>,
+    written: &WrittenRun<'_>,
     governor: GovernorKind,
     out: &mut W,
+    probes: &mut Vec<P>,
 ) -> Status
-    requires run { IsRunnable (planned run.now) }
-    requires pair { IsPair run.now.plan.now.scheduler governor }
-    ensures ended { Ends (W.shows out.old) (W.shows out.new) (answer_of_run governor (planned run.now)) result }
-    ensures met { HasMetIfDone governor (planned run.now) result }
+    requires run { IsRunnable (planned written.now.run) }
+    requires pair { IsPair written.now.run.plan.now.scheduler governor }
+    ensures ended { Ends (W.shows out.old) (W.shows out.new)
+        (answer_of_run written.now.version governor (planned written.now.run)) result }
+    ensures told { RunTold written.now.version governor (planned written.now.run) (W.shows out.old) (W.shows out.new)
+        (map P.seen probes.old.items) (map P.seen probes.new.items) result }
+    ensures met { HasMetIfDone written.now.version governor (planned written.now.run) result }
     ensures leaves { Leaves result out.old out.new }
+    ensures kept { Leaves result probes.old probes.new }
     ensures loads { IsNoLoad result }
     ensures shown { IsShown result }
 {
-    run.plan.known();
-    one_schedule(run.plan);
-    told_deadlines(run.plan);
-    run_pair(alloc, run, governor, out)
+    written.run.plan.known();
+    one_schedule(written.run.plan);
+    told_deadlines(written.run.plan);
+    run_pair(alloc, written, governor, out, probes)
+}
+
+/// The trace of a run of an admitted plan. The probes are told its notes where they are asked for, and left as they are
+/// where they aren't.
+pub(crate) fn run_plan<W: Sink, P: Probe>(
+    alloc: Global,
+    written: &WrittenRun<'_>,
+    governor: GovernorKind,
+    out: &mut W,
+    probes: &mut Vec<P>,
+) -> Status
+    requires run { IsRunnable (planned written.now.run) }
+    requires pair { IsPair written.now.run.plan.now.scheduler governor }
+    ensures ended { Ends (W.shows out.old) (W.shows out.new)
+        (answer_of_run written.now.version governor (planned written.now.run)) result }
+    ensures told { IfAsked written.now.probes
+        (RunTold written.now.version governor (planned written.now.run) (W.shows out.old) (W.shows out.new)
+        (map P.seen probes.old.items) (map P.seen probes.new.items) result) }
+    ensures met { HasMetIfDone written.now.version governor (planned written.now.run) result }
+    ensures leaves { Leaves result out.old out.new }
+    ensures kept { LeavesProbes written.now.probes result probes.old probes.new }
+    ensures loads { IsNoLoad result }
+    ensures shown { IsShown result }
+{
+    if written.probes {
+        return run_told(alloc, written, governor, out, probes);
+    }
+    let mut none: Vec<P> = Vec::new(alloc);
+    run_told(alloc, written, governor, out, &mut none)
 }
 
 /// The line of an admission.

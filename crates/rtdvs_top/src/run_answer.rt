@@ -1,91 +1,118 @@
 // The answer of a run.
-ghost use Rattle.std.specs.Prelude.{◌≡◌, ◌+◌, IfOk, IfErr};
+ghost use Rattle.std.specs.Prelude.{◌≡◌, ◌+◌, map, IfOk, IfErr};
 ghost use Rattle.event_kernel.specs.Runs.{IsListOf};
 ghost use Rattle.words.specs.Commands.{IsReady, run as run_of};
 ghost use Rattle.rtdvs_top.specs.Asked.{shown_run};
 ghost use Rattle.rtdvs_top.specs.Answer.{prepared_of, run_after_tasks, run_answer};
 ghost use Rattle.rtdvs_top.specs.Causes.{Gives, Refuses, MakesLoads, LaterLoad, LoadOf, PassesMachine, PassesBefore, loads_named, loads_of};
-ghost use Rattle.rtdvs_top.specs.Naming.{NamedBy};
+ghost use Rattle.rtdvs_top.specs.Naming.{NamedBy, NamedIfDone};
+ghost use Rattle.rtdvs_top.specs.Probing.{LeavesProbes, ToldBy, ToldIn};
 ghost use Rattle.rtdvs_top.specs.Shown.{IsShown};
 ghost use Rattle.rtdvs_top.specs.Ending.{EndsAs, Leaves, MetBy, MetIn};
 
 use crate::Status;
 use crate::files::{load_demands, load_machine, load_tasks};
 use crate::plan_words::RunWords;
-use crate::run::{PlannedRun, admit, run_plan};
+use crate::run::{PlannedRun, WrittenRun, admit, run_plan};
 use demand_list::Demands;
 use dvs_base::{Shelf, Sink};
+use probes::Probe;
 use sched_model::Admitted;
 use std::alloc::Global;
 use task_model::TaskSet;
 
+// The words of a run, and the tasks that were read for it.
+#[derive(Clone, Copy)]
+struct TaskedRun<'a> {
+    words: &'a RunWords<'a>,
+    tasks: &'a TaskSet,
+}
+
 // The admitted plan and the demands of a run, after its tasks.
 fn prepare<S: Shelf>(
     alloc: Global,
-    run: &RunWords<'_>,
-    tasks: &TaskSet,
+    run: &TaskedRun<'_>,
     shelf: &mut S,
 ) -> Result<(Admitted, Demands), Status>
     ensures read { IfOk result
-        (λ x. Gives (S.shows shelf.old).held (prepared_of (shown_run run.now) tasks.now) (x.0, x.1)) }
+        (λ x. Gives (S.shows shelf.old).held (prepared_of (shown_run run.now.words.now) run.now.tasks.now) (x.0, x.1)) }
     ensures list { IfOk result (λ x. IsListOf x.0 x.1) }
-    ensures scheduler { IfOk result (λ x. x.0.scheduler ≡ run.now.scheduler) }
-    ensures refused { IfErr result (Refuses (S.shows shelf.old).held (prepared_of (shown_run run.now) tasks.now)) }
-    ensures passed { IfErr result (PassesMachine (S.shows shelf.old).held (run_of (shown_run run.now))) }
-    ensures explained { IfErr result (LaterLoad (S.shows shelf.old) (S.shows shelf.new) (shown_run run.now)) }
-    ensures loads { MakesLoads (1 + loads_named (shown_run run.now).demands) (S.shows shelf.old) (S.shows shelf.new) }
+    ensures scheduler { IfOk result (λ x. x.0.scheduler ≡ run.now.words.now.scheduler) }
+    ensures refused { IfErr result
+        (Refuses (S.shows shelf.old).held (prepared_of (shown_run run.now.words.now) run.now.tasks.now)) }
+    ensures passed { IfErr result (PassesMachine (S.shows shelf.old).held (run_of (shown_run run.now.words.now))) }
+    ensures explained { IfErr result
+        (LaterLoad (S.shows shelf.old) (S.shows shelf.new) (shown_run run.now.words.now)) }
+    ensures loads { MakesLoads (1 + loads_named (shown_run run.now.words.now).demands)
+        (S.shows shelf.old) (S.shows shelf.new) }
     ensures shown { IfErr result IsShown }
 {
-    let machine = load_machine(alloc, run.machine, shelf)?;
-    let demands = load_demands(alloc, run.demands, tasks, shelf)?;
-    let plan = admit(alloc, run.scheduler, tasks, &machine)?;
+    let machine = load_machine(alloc, run.words.machine, shelf)?;
+    let demands = load_demands(alloc, run.words.demands, run.tasks, shelf)?;
+    let plan = admit(alloc, run.words.scheduler, run.tasks, &machine)?;
     Ok((plan, demands))
 }
 
 // The answer of a run, after its tasks.
-fn run_tasks<S: Shelf, W: Sink>(
+fn run_tasks<S: Shelf, W: Sink, P: Probe>(
     alloc: Global,
-    run: &RunWords<'_>,
-    tasks: &TaskSet,
+    run: &TaskedRun<'_>,
     shelf: &mut S,
     out: &mut W,
+    probes: &mut Vec<P>,
 ) -> Status
-    requires { IsReady (shown_run run.now) }
+    requires { IsReady (shown_run run.now.words.now) }
     ensures ended { EndsAs (W.shows out.old) (W.shows out.new) (S.shows shelf.old).held
-        (run_after_tasks (shown_run run.now) tasks.now) result }
+        (run_after_tasks (shown_run run.now.words.now) run.now.tasks.now) result }
     ensures leaves { Leaves result out.old out.new }
-    ensures met { MetBy (S.shows shelf.old).held (shown_run run.now) tasks.now result }
-    ensures passed { PassesMachine (S.shows shelf.old).held (run_of (shown_run run.now)) result }
-    ensures explained { LaterLoad (S.shows shelf.old) (S.shows shelf.new) (shown_run run.now) result }
-    ensures loads { MakesLoads (1 + loads_named (shown_run run.now).demands) (S.shows shelf.old) (S.shows shelf.new) }
+    ensures kept { LeavesProbes run.now.words.now.probes result probes.old probes.new }
+    ensures told { ToldBy (S.shows shelf.old).held (shown_run run.now.words.now) run.now.tasks.now
+        (W.shows out.old) (W.shows out.new)
+        (map P.seen probes.old.items) (map P.seen probes.new.items) result }
+    ensures met { MetBy (S.shows shelf.old).held (shown_run run.now.words.now) run.now.tasks.now result }
+    ensures passed { PassesMachine (S.shows shelf.old).held (run_of (shown_run run.now.words.now)) result }
+    ensures explained { LaterLoad (S.shows shelf.old) (S.shows shelf.new) (shown_run run.now.words.now) result }
+    ensures loads { MakesLoads (1 + loads_named (shown_run run.now.words.now).demands)
+        (S.shows shelf.old) (S.shows shelf.new) }
     ensures shown { IsShown result }
 {
-    match prepare(alloc, run, tasks, shelf) {
+    match prepare(alloc, run, shelf) {
         Ok((plan, demands)) => {
             let planned = PlannedRun {
                 plan: &plan,
                 demands: &demands,
-                ticks: run.ticks,
+                ticks: run.words.ticks,
             };
-            run_plan(alloc, &planned, run.governor, out)
+            let written = WrittenRun {
+                run: planned,
+                version: run.words.version,
+                probes: run.words.probes,
+            };
+            run_plan(alloc, &written, run.words.governor, out, probes)
         }
         Err(status) => status,
     }
 }
 
-/// The answer of a run, and the tasks where they were read.
-pub(crate) fn answer_run<S: Shelf, W: Sink>(
+/// The answer of a run, and the tasks where they were read. The probes are told the run's notes where the words ask for
+/// them.
+pub(crate) fn answer_run<S: Shelf, W: Sink, P: Probe>(
     alloc: Global,
     run: &RunWords<'_>,
     shelf: &mut S,
     out: &mut W,
+    probes: &mut Vec<P>,
 ) -> (Status, Option<TaskSet>)
     requires { IsReady (shown_run run.now) }
     ensures ended { EndsAs (W.shows out.old) (W.shows out.new) (S.shows shelf.old).held
         (run_answer (shown_run run.now)) result.0 }
     ensures leaves { Leaves result.0 out.old out.new }
+    ensures kept { LeavesProbes run.now.probes result.0 probes.old probes.new }
+    ensures told { ToldIn (S.shows shelf.old).held (run_of (shown_run run.now)) (W.shows out.old) (W.shows out.new)
+        (map P.seen probes.old.items) (map P.seen probes.new.items) result.0 }
     ensures met { MetIn (S.shows shelf.old).held (run_of (shown_run run.now)) result.0 }
     ensures named { NamedBy (S.shows shelf.old).held (run_of (shown_run run.now)) result.1 result.0 }
+    ensures named_done { NamedIfDone (S.shows shelf.old).held (run_of (shown_run run.now)) result.1 result.0 }
     ensures passed { PassesBefore (S.shows shelf.old).held (run_of (shown_run run.now)) result.0 }
     ensures explained { LoadOf (S.shows shelf.old) (S.shows shelf.new) (run_of (shown_run run.now)) result.0 }
     ensures loads { MakesLoads (loads_of (run_of (shown_run run.now))) (S.shows shelf.old) (S.shows shelf.new) }
@@ -95,6 +122,10 @@ pub(crate) fn answer_run<S: Shelf, W: Sink>(
         Ok(tasks) => tasks,
         Err(status) => return (status, None),
     };
-    let status = run_tasks(alloc, run, &tasks, shelf, out);
+    let tasked = TaskedRun {
+        words: run,
+        tasks: &tasks,
+    };
+    let status = run_tasks(alloc, &tasked, shelf, out, probes);
     (status, Some(tasks))
 }

@@ -1,14 +1,16 @@
 // The top call.
-ghost use Rattle.std.specs.Prelude.{◌≡◌, ◌≤◌, ◌↔◌};
+ghost use Rattle.std.specs.Prelude.{◌≡◌, ◌≤◌, ◌↔◌, map};
 ghost use Rattle.std.specs.Option.{option_copied};
 ghost use Rattle.dvs_base.specs.Outside.{Rose};
 ghost use Rattle.rtdvs_top.specs.CommandAnswer.{answer_of_command};
 ghost use Rattle.rtdvs_top.specs.Causes.{MakesLoads, LoadOf, PassesBefore, files_for, loads_of};
-ghost use Rattle.rtdvs_top.specs.Naming.{names_of, NamedBy};
+ghost use Rattle.rtdvs_top.specs.Naming.{names_of, NamedBy, NamedIfDone};
 ghost use Rattle.rtdvs_top.specs.Refusals.{status_text};
+ghost use Rattle.rtdvs_top.specs.ProbeLines.{noted_text, probe_lines};
+ghost use Rattle.rtdvs_top.specs.Probing.{LeavesProbes, ToldIn, asks_probes};
 ghost use Rattle.rtdvs_top.specs.Shown.{IsShown};
 ghost use Rattle.rtdvs_top.specs.Ending.{EndsAs, Leaves, MetIn};
-ghost use Rattle.rtdvs_top.specs.Promises.{asked, files_told, Answers, Writes, WritesPart, IsSureOf, LoadFailed, LoadsInOrder, loads_asked, OfRun, Headline, Notes};
+ghost use Rattle.rtdvs_top.specs.Promises.{asked, files_told, Answers, Writes, WritesPart, IsSureOf, LoadFailed, LoadsInOrder, loads_asked, OfRun, Headline, Notes, Tells, probes_asked};
 ghost use Rattle.rtdvs_top.specs.Writing.{NotedAs};
 ghost use Rattle.words.specs.Commands.{IsReadyCommand};
 ghost use Rattle.words.specs.Shown.{shown};
@@ -19,12 +21,14 @@ use crate::admit_answer::answer_admit;
 use crate::difference::{Difference, put_difference};
 use crate::made_lines::answer_workload;
 use crate::plan_words::{AdmitWords, RunWords};
+use crate::probe_line::put_probes;
 use crate::refusal::status_line;
 use crate::replay_answer::answer_replay;
 use crate::run_answer::answer_run;
 use crate::traced::TraceFiles;
 use crate::writer::put_line;
 use dvs_base::{Shelf, Sink};
+use probes::Probe;
 use std::alloc::Global;
 use task_model::TaskSet;
 use words::{Command, read_words};
@@ -55,19 +59,54 @@ fn note_status<E: Sink>(status: &Status, tasks: Option<&TaskSet>, notes: &mut E)
     }
 }
 
+// Whether a command asks for probes.
+fn asks_probes(command: &Command<'_>) -> bool
+    ensures { result ≡ asks_probes (shown command.now) }
+{
+    match command {
+        Command::Run { probes, .. } => *probes,
+        _ => false,
+    }
+}
+
+// Notes how a command ended: the lines of the probes where they are told, and else the line of its status.
+fn note_end<E: Sink, P: Probe>(
+    told: bool,
+    status: &Status,
+    tasks: Option<&TaskSet>,
+    probes: &[P],
+    notes: &mut E,
+)
+    ensures { NotedAs (E.shows notes.old) (E.shows notes.new)
+        (noted_text told (names_of (option_copied tasks.entry)) (map P.seen probes.now)
+        status.now) }
+{
+    match status {
+        Status::Done if told => put_probes(probes, tasks, notes),
+        status => note_status(status, tasks, notes),
+    }
+}
+
 // The answer of a command, and the tasks where they were read.
-fn answer_command<S: Shelf, W: Sink>(
+fn answer_command<S: Shelf, W: Sink, P: Probe>(
     alloc: Global,
     command: &Command<'_>,
     shelf: &mut S,
     out: &mut W,
+    probes: &mut Vec<P>,
 ) -> (Status, Option<TaskSet>)
     requires { IsReadyCommand (shown command.now) }
     ensures ended { EndsAs (W.shows out.old) (W.shows out.new)
         (files_for (S.shows shelf.old).held (shown command.now)) (answer_of_command (shown command.now)) result.0 }
     ensures leaves { Leaves result.0 out.old out.new }
+    ensures kept { LeavesProbes (asks_probes (shown command.now)) result.0 probes.old probes.new }
+    ensures told { ToldIn (files_for (S.shows shelf.old).held (shown command.now)) (shown command.now)
+        (W.shows out.old) (W.shows out.new)
+        (map P.seen probes.old.items) (map P.seen probes.new.items) result.0 }
     ensures met { MetIn (files_for (S.shows shelf.old).held (shown command.now)) (shown command.now) result.0 }
     ensures named { NamedBy (files_for (S.shows shelf.old).held (shown command.now)) (shown command.now)
+        result.1 result.0 }
+    ensures named_done { NamedIfDone (files_for (S.shows shelf.old).held (shown command.now)) (shown command.now)
         result.1 result.0 }
     ensures passed { PassesBefore (files_for (S.shows shelf.old).held (shown command.now)) (shown command.now)
         result.0 }
@@ -83,7 +122,7 @@ fn answer_command<S: Shelf, W: Sink>(
             scheduler,
             governor,
             ticks,
-            probes,
+            probes: asked,
             version,
         } => {
             let run = RunWords {
@@ -93,10 +132,10 @@ fn answer_command<S: Shelf, W: Sink>(
                 governor: *governor,
                 ticks: *ticks,
                 demands: *demands,
-                probes: *probes,
+                probes: *asked,
                 version: *version,
             };
-            answer_run(alloc, &run, shelf, out)
+            answer_run(alloc, &run, shelf, out, probes)
         }
         Command::Admit {
             tasks,
@@ -129,7 +168,9 @@ fn answer_command<S: Shelf, W: Sink>(
 /// Does what the words ask for: runs a plan and writes its trace, tells whether a task set is admitted or whether a
 /// trace is that of the run that it tells, or writes what the runs of a made workload come to.
 ///
-/// The answer goes to `out`, and the line of a refusal to `notes`; both one put a line, which is tested, not proved.
+/// The answer goes to `out`, and the line of a refusal to `notes`; both one put a line, which is tested, not proved. After
+/// a run with `--probes` that is done, the line of each probe that is left goes to `notes`; after the first put that fails
+/// no more is put there.
 /// Files are loaded from `shelf` in the order tasks, machine, demands or trace, each before it is read. `NoMemory` may come at
 /// any step before the first byte of `out`, and never after it; a fault of `notes` changes no status.
 pub fn rtdvs<S: Shelf, W: Sink, E: Sink>(
@@ -138,6 +179,7 @@ pub fn rtdvs<S: Shelf, W: Sink, E: Sink>(
     shelf: &mut S,
     out: &mut W,
     notes: &mut E,
+    probes: &mut Vec<Box<dyn Probe>>,
 ) -> Status
     // which status, and when
     ensures answers { Answers (files_told (S.shows shelf.old).held (asked words.now)) (asked words.now)
@@ -173,8 +215,14 @@ pub fn rtdvs<S: Shelf, W: Sink, E: Sink>(
         → (S.shows shelf.new).faults ≡ (S.shows shelf.old).faults }
 
     // what is on `notes`
-    ensures notes { Notes (files_told (S.shows shelf.old).held (asked words.now)) (asked words.now) result
-        (E.shows notes.old) (E.shows notes.new) }
+    ensures notes { Notes (files_told (S.shows shelf.old).held (asked words.now)) (asked words.now)
+        (map (λ b. seen b) probes.new.items) result (E.shows notes.old) (E.shows notes.new) }
+
+    // the probes: told the run's notes where the words ask for them, and else left as they are
+    ensures kept { LeavesProbes (probes_asked (asked words.now)) result probes.old probes.new }
+    ensures told { Tells (files_told (S.shows shelf.old).held (asked words.now)) (asked words.now)
+        (W.shows out.old) (W.shows out.new)
+        (map (λ b. seen b) probes.old.items) (map (λ b. seen b) probes.new.items) result }
 {
     let command = match read_words(words) {
         Ok(command) => command,
@@ -184,7 +232,7 @@ pub fn rtdvs<S: Shelf, W: Sink, E: Sink>(
             return status;
         }
     };
-    let (status, tasks) = answer_command(alloc, &command, shelf, out);
-    note_status(&status, tasks.as_ref(), notes);
+    let (status, tasks) = answer_command(alloc, &command, shelf, out, probes);
+    note_end(asks_probes(&command), &status, tasks.as_ref(), probes, notes);
     status
 }

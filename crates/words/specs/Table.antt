@@ -31,6 +31,8 @@ abbrev pub options_of : Verb → List Key
 options_of verb.Run =
     key.Tasks ∷ key.Machine ∷ key.Scheduler ∷ key.Governor ∷ key.Ticks
     ∷ key.Demands
+    ∷ key.Probes
+    ∷ key.Format
     ∷ []
 options_of verb.Admit = key.Tasks ∷ key.Machine ∷ key.Scheduler ∷ []
 options_of verb.Workload = key.Seed ∷ []

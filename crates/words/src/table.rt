@@ -54,6 +54,8 @@ pub fn options_of(verb: Verb) -> &'static [Key]
             Key::Governor,
             Key::Ticks,
             Key::Demands,
+            Key::Probes,
+            Key::Format,
         ],
         Verb::Admit => &[Key::Tasks, Key::Machine, Key::Scheduler],
         Verb::Replay => &[Key::Tasks, Key::Machine, Key::Trace],

@@ -267,3 +267,34 @@ fn a_trace_is_replayed(rt: HostRuntime) -> Result<(), Fail> {
     );
     Ok(())
 }
+
+#[test]
+fn probes_and_a_version_may_be_asked_for(rt: HostRuntime) -> Result<(), Fail> {
+    let alloc = rt.alloc();
+    let run = Command::Run {
+        tasks: "t",
+        machine: "m",
+        demands: None,
+        scheduler: Scheduler::Edf,
+        governor: GovernorKind::Plain,
+        ticks: 1,
+        probes: true,
+        version: Version::Two,
+    };
+    let words =
+        "run --format 2 --ticks 1 --probes --governor none --scheduler edf --machine m --tasks t";
+    assert!(rt; is_read_as(alloc, words, run)?);
+    assert!(rt; fault_of(alloc, "run --probes")? == missing(Opt::Tasks));
+    assert!(rt; fault_of(alloc, "run --probes true")? == unexpected(3, "true"));
+    assert!(rt; fault_of(alloc, "run --probes --probes")? == repeated(3, "--probes"));
+    assert!(rt; fault_of(alloc, "run --probes --demands")? == no_value(3, "--demands"));
+    assert!(rt; fault_of(alloc, "run --probes --machine ")? == bad_value(4, ""));
+    assert!(rt; fault_of(alloc, "run --tasks a --probes --tasks b")? == repeated(5, "--tasks"));
+    assert!(rt; fault_of(alloc, "run --format 1 --format 2")? == repeated(4, "--format"));
+    assert!(rt; fault_of(alloc, "run --format")? == no_value(2, "--format"));
+    assert!(rt; fault_of(alloc, "run --format 3")? == bad_value(3, "3"));
+    assert!(rt; fault_of(alloc, "run --format 01")? == bad_value(3, "01"));
+    assert!(rt; fault_of(alloc, "admit --probes")? == unexpected(2, "--probes"));
+    assert!(rt; fault_of(alloc, "admit --format 1")? == unexpected(2, "--format"));
+    Ok(())
+}

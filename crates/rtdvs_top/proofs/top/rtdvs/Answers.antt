@@ -1,9 +1,11 @@
-use Rattle.std.proofs.Common.{◌≡◌, Result, Ok, refl, subst}
+use Rattle.std.proofs.Common.{◌≡◌, List, map, Result, Ok, refl, subst}
+use Rattle.probes.specs.Tallies.{ProbeOf}
 use Rattle.dvs_base.specs.Outside.{Rose}
 use Rattle.words.specs.Commands.{CommandOf}
 use Rattle.words.specs.declared.command.WordFault.{WordFault}
-use Rattle.rtdvs_top.specs.Promises.{files_told, Answers, IsSureOf, OfRun, Headline}
+use Rattle.rtdvs_top.specs.Promises.{files_told, Answers, IsSureOf, OfRun, Headline, Notes}
 use Rattle.rtdvs_top.proofs.Answering.{answers-of, sure-of}
+use Rattle.rtdvs_top.proofs.Noting.{notes-of}
 use Rattle.rtdvs_top.proofs.Headlines.{of-run, headline-of}
 use Rattle.rtdvs_top.proofs.top.rtdvs.Goals as goal
 
@@ -56,3 +58,14 @@ returns-clause-sure g c =
     IsSureOf (files_told old.held command) command out_old → out_new.faults ≡ out_old.faults)
     c.in-Ok.ensures.read
     (sure-of g.W.Sink.shows _ _ c.answer_command-status.result.0 c.args.out.now _ e.ended e.leaves)
+
+pub returns-clause-notes : goal.returns-clause-notes
+returns-clause-notes g c =
+    let old = g.S.Shelf.shows c.args.shelf.now in
+    let e = c.answer_command-status.ensures in
+    let s = c.answer_command-status.result.0 in
+    let ps : List ProbeOf = map (λ b. (goal.Probe-dyn g (b.vtable, b.value)).seen b.value) c.answer_command-status.new.probes.items in
+    subst
+    (λ (command : Result CommandOf WordFault). Notes (files_told old.held command) command ps s (g.E.Sink.shows c.args.notes.now) (g.E.Sink.shows c.note_end.new.notes))
+    c.in-Ok.ensures.read
+    (notes-of _ _ _ _ ps s _ _ _ c.asks_probes.ensures c.as_ref.ensures.value e.named e.named_done c.note_end.ensures)

@@ -1,0 +1,40 @@
+-- What is noted at the end, with the names of the command's tasks.
+use Rattle.std.proofs.Common.{◌≡◌, ℕ, Bool, true, false, List, Option, Some, None, Ok, ap, subst}
+use Rattle.dvs_base.specs.Outside.{Files, SinkView}
+use Rattle.task_model.specs.declared.task.Task.{Task}
+use Rattle.probes.specs.Tallies.{ProbeOf}
+use Rattle.words.specs.Commands.{CommandOf}
+use Rattle.rtdvs_top.specs.Naming.{names_of, names_by, NamedBy, NamedIfDone}
+use Rattle.rtdvs_top.specs.Refusals.{status_text}
+use Rattle.rtdvs_top.specs.ProbeLines.{probe_lines, noted_text}
+use Rattle.rtdvs_top.specs.Probing.{asks_probes}
+use Rattle.rtdvs_top.specs.Promises.{Notes}
+use Rattle.rtdvs_top.specs.Writing.{NotedAs}
+use Rattle.rtdvs_top.specs.declared.status.Status.{Status}
+use Rattle.rtdvs_top.specs.declared.status.Status.TheVariants as status
+
+module _ (files : Files) (c : CommandOf) (tasks : Option (List Task)) (ps : List ProbeOf) where
+  same-noted : (asks : Bool) (s : Status) → NamedBy (Some files) c tasks s → NamedIfDone (Some files) c tasks s
+      → noted_text asks (names_of tasks) ps s ≡ noted_text asks (names_by c files) ps s
+  same-noted false s named done = named
+  same-noted true status.Done named done = ap (λ (ns : List (List ℕ)). probe_lines ns 1 ps) done
+  same-noted true status.Write named done = named
+  same-noted true (status.Words why) named done = named
+  same-noted true (status.NotAdmitted why) named done = named
+  same-noted true (status.Load file) named done = named
+  same-noted true (status.Text why) named done = named
+  same-noted true (status.Limit jobs) named done = named
+  same-noted true (status.OverWorst task job units worst) named done = named
+  same-noted true (status.Differs line wanted found) named done = named
+  same-noted true status.NoMemory named done = named
+
+-- what was noted is what the call promises
+pub notes-of : (told : Option Files) (c : CommandOf) (tasks read : Option (List Task)) (ps : List ProbeOf) (s : Status) (old new : SinkView) (asks : Bool)
+    → asks ≡ asks_probes c → read ≡ tasks → NamedBy told c tasks s → NamedIfDone told c tasks s
+    → NotedAs old new (noted_text asks (names_of read) ps s) → Notes told (Ok c) ps s old new
+notes-of None c tasks read ps s old new asks a r named done h =
+    (names_of read, subst (λ (b : Bool). NotedAs old new (noted_text b (names_of read) ps s)) a h)
+notes-of (Some files) c tasks read ps s old new asks a r named done h =
+    subst (λ (t : List ℕ). NotedAs old new t) (same-noted files c tasks ps (asks_probes c) s named done)
+    (subst (λ (b : Bool). NotedAs old new (noted_text b (names_of tasks) ps s)) a
+    (subst (λ (t : Option (List Task)). NotedAs old new (noted_text asks (names_of t) ps s)) r h))

@@ -1,0 +1,165 @@
+-- The text of a trace's lines, and the notes that they tell.
+use Rattle.std.proofs.Common.{◌≡◌, ℕ, zero, suc, ◌+◌, List, [], ◌∷◌, ◌++◌, length, flat_map, refl, ap, ap₂, ◌∙◌, sym, subst, arith, append-nil, append_assoc}
+use Rattle.std.specs.Prelude.{map, sum_by}
+use Rattle.std.proofs.lemmas.Grind.{flat_map-append}
+use Rattle.std.proofs.lemmas.List.{length-map}
+use Rattle.grid_fraction.specs.Numbers.{list_below}
+use Rattle.dvs_base.specs.Parts.{joined}
+use Rattle.dvs_base.specs.Outside.{SinkView}
+use Rattle.dvs_base.specs.declared.kind.Version.{Version}
+use Rattle.dvs_base.specs.declared.kind.Version.TheVariants.{One, Two}
+use Rattle.dvs_base.specs.declared.kind.GovernorKind.{GovernorKind}
+use Rattle.dvs_base.specs.declared.note.Note.{Note}
+use Rattle.dvs_base.specs.declared.note.Note.TheVariants.{Release, Speed, Run, Idle, Done, End}
+use Rattle.trace_text.specs.TraceLines.{name_of, note_text, plan_text}
+use Rattle.trace_reader.specs.VersionLines.{version_line, task_text, share_text}
+use Rattle.trace_reader.specs.TraceText.{run_energy_of, energy_of_task, shares_from, told_text, whole_text}
+use Rattle.task_model.specs.declared.task.Task.{Task}
+use Rattle.energy.specs.Books.{energy_of_task as task_energy}
+use Rattle.sched_model.specs.Plan.{Plan, count, names, task, period, offset}
+use Rattle.done_lines.specs.RunText.{task_texts}
+use Rattle.probes.specs.Tallies.{ProbeOf, told_notes}
+use Rattle.event_kernel.specs.Lines.{LineOf, plain, task_lines, share_lines, head_lines, lines_of, trace_lines, text_of, notes_told, Wrote, WroteSome, WroteLines, StoppedIn}
+use Rattle.rtdvs_top.proofs.Texts.{wrote-then-some, wrote-some-more}
+
+text-append : (xs ys : List LineOf) → text_of (xs ++ ys) ≡ text_of xs ++ text_of ys
+text-append xs ys = flat_map-append (λ (l : LineOf). l.text) xs ys
+
+notes-append : (xs ys : List LineOf) → notes_told (xs ++ ys) ≡ notes_told xs ++ notes_told ys
+notes-append xs ys = flat_map-append (λ (l : LineOf). l.notes) xs ys
+
+joined-append : (xs ys : List (List ℕ)) → joined (xs ++ ys) ≡ joined xs ++ joined ys
+joined-append [] ys = refl
+joined-append (x ∷ xs) ys = ap (λ t. x ++ t) (joined-append xs ys) ∙ sym (append_assoc x (joined xs) (joined ys))
+
+-- lines that tell no note
+text-plain : (f : ℕ → List ℕ) (n : ℕ) → text_of (list_below n (λ i. plain (f i))) ≡ joined (list_below n f)
+text-plain f zero = refl
+text-plain f (suc n) =
+    text-append (list_below n (λ i. plain (f i))) (plain (f n) ∷ [])
+    ∙ (ap (λ t. t ++ (f n ++ [])) (text-plain f n) ∙ sym (joined-append (list_below n f) (f n ∷ [])))
+
+notes-plain : (f : ℕ → List ℕ) (n : ℕ) → notes_told (list_below n (λ i. plain (f i))) ≡ []
+notes-plain f zero = refl
+notes-plain f (suc n) =
+    notes-append (list_below n (λ i. plain (f i))) (plain (f n) ∷ []) ∙ ap (λ ns. ns ++ []) (notes-plain f n)
+
+-- the first of some numbered values stands before the others
+below-first : (f : ℕ → List ℕ) (n : ℕ) → list_below (suc n) f ≡ f 0 ∷ list_below n (λ i. f (suc i))
+below-first f zero = refl
+below-first f (suc n) = ap (λ xs. xs ++ f (suc n) ∷ []) (below-first f n)
+
+same-energy : (i : ℕ) (n : Note) → task_energy i n ≡ run_energy_of i n
+same-energy i (Release t j k) = refl
+same-energy i (Speed t f num den) = refl
+same-energy i (Run from to j k units energy) = refl
+same-energy i (Idle from to units energy) = refl
+same-energy i (Done at_end j k used) = refl
+same-energy i (End t run idle) = refl
+
+-- the lines of energies, from a task on
+shares-below : (notes : List Note) (i : ℕ) (ns : List (List ℕ))
+    → shares_from notes i ns ≡ list_below (length ns) (λ k. share_text (name_of ns k) (sum_by (task_energy (i + k)) notes))
+shares-below notes i [] = refl
+shares-below notes i (name ∷ ns) =
+    ap₂ (λ x xs. x ∷ xs)
+    (ap (λ (f : Note → ℕ). share_text name (sum_by f notes)) (λ j n. sym (same-energy i n) j) ∙ ap (λ k. share_text name (sum_by (task_energy k) notes)) (omega arith))
+    (shares-below notes (i + 1) ns ∙ ap (λ (f : ℕ → List ℕ). list_below (length ns) f) (λ j k. next k j))
+    ∙ sym (below-first (λ k. share_text (name_of (name ∷ ns) k) (sum_by (task_energy (i + k)) notes)) (length ns))
+  where
+    next : (k : ℕ) → share_text (name_of ns k) (sum_by (task_energy (i + 1 + k)) notes) ≡ share_text (name_of ns k) (sum_by (task_energy (i + suc k)) notes)
+    next k = ap (λ m. share_text (name_of ns k) (sum_by (task_energy m) notes)) (omega arith)
+
+module _ (p : Plan) (all : List Note) where
+  text-shares : text_of (share_lines Two p all) ≡ joined (shares_from all 0 (names p))
+  text-shares =
+      let line : ℕ → List ℕ = λ i. share_text (name_of (names p) i) (sum_by (task_energy i) all) in
+      text-plain line (count p)
+      ∙ (ap (λ n. joined (list_below n line)) (sym (length-map p.tasks (λ (t : Task). t.name)))
+      ∙ (ap (λ (f : ℕ → List ℕ). joined (list_below (length (names p)) f)) (λ j k. from-zero k j) ∙ sym (ap joined (shares-below all 0 (names p)))))
+    where
+      from-zero : (k : ℕ) → share_text (name_of (names p) k) (sum_by (task_energy k) all) ≡ share_text (name_of (names p) k) (sum_by (task_energy (0 + k)) all)
+      from-zero k = ap (λ m. share_text (name_of (names p) k) (sum_by (task_energy m) all)) (omega arith)
+
+  -- a note's lines have its text
+  text-note : (v : Version) (n : Note) → text_of (lines_of v p all n) ≡ told_text v (names p) all n
+  text-note One (Release t i k) = append-nil (note_text (names p) (Release t i k))
+  text-note One (Speed t f num den) = append-nil (note_text (names p) (Speed t f num den))
+  text-note One (Run from to i k units energy) = append-nil (note_text (names p) (Run from to i k units energy))
+  text-note One (Idle from to units energy) = append-nil (note_text (names p) (Idle from to units energy))
+  text-note One (Done q i k used) = append-nil (note_text (names p) (Done q i k used))
+  text-note One (End t run idle) = append-nil (note_text (names p) (End t run idle))
+  text-note Two (Release t i k) = append-nil (note_text (names p) (Release t i k))
+  text-note Two (Speed t f num den) = append-nil (note_text (names p) (Speed t f num den))
+  text-note Two (Run from to i k units energy) = append-nil (note_text (names p) (Run from to i k units energy))
+  text-note Two (Idle from to units energy) = append-nil (note_text (names p) (Idle from to units energy))
+  text-note Two (Done q i k used) = append-nil (note_text (names p) (Done q i k used))
+  text-note Two (End t run idle) =
+      let last = note_text (names p) (End t run idle) in
+      text-append (share_lines Two p all) (record { text = last; notes = End t run idle ∷ [] } ∷ [])
+      ∙ ap₂ (λ a b. a ++ b) text-shares (append-nil last)
+
+  text-notes : (v : Version) (notes : List Note) → text_of (flat_map (lines_of v p all) notes) ≡ flat_map (told_text v (names p) all) notes
+  text-notes v [] = refl
+  text-notes v (n ∷ notes) =
+      text-append (lines_of v p all n) (flat_map (lines_of v p all) notes) ∙ ap₂ (λ a b. a ++ b) (text-note v n) (text-notes v notes)
+
+  told-note : (v : Version) (n : Note) → notes_told (lines_of v p all n) ≡ n ∷ []
+  told-note v (Release t i k) = refl
+  told-note v (Speed t f num den) = refl
+  told-note v (Run from to i k units energy) = refl
+  told-note v (Idle from to units energy) = refl
+  told-note v (Done q i k used) = refl
+  told-note One (End t run idle) = refl
+  told-note Two (End t run idle) =
+      let line : ℕ → List ℕ = λ i. share_text (name_of (names p) i) (sum_by (task_energy i) all) in
+      notes-append (share_lines Two p all) (record { text = note_text (names p) (End t run idle); notes = End t run idle ∷ [] } ∷ [])
+      ∙ ap (λ ns. ns ++ End t run idle ∷ []) (notes-plain line (count p))
+
+  told-notes : (v : Version) (notes : List Note) → notes_told (flat_map (lines_of v p all) notes) ≡ notes
+  told-notes v [] = refl
+  told-notes v (n ∷ notes) =
+      notes-append (lines_of v p all n) (flat_map (lines_of v p all) notes) ∙ ap₂ (λ a b. a ++ b) (told-note v n) (told-notes v notes)
+
+  module _ (v : Version) (g : GovernorKind) (ticks : ℕ) where
+    -- the lines of a trace have its text
+    trace-text : text_of (trace_lines v g p ticks all) ≡ whole_text v p.scheduler g ticks (names p) (task_texts p) all
+    trace-text =
+        text-append (head_lines v g p ticks) (flat_map (lines_of v p all) all)
+        ∙ (ap (λ t. text_of (head_lines v g p ticks) ++ t) (text-notes v all) ∙ whole v)
+      where
+        line : ℕ → List ℕ
+        line i = task_text (name_of (names p) i) (period p i) (offset p i) ((task p i).worst)
+
+        whole : (v : Version) → text_of (head_lines v g p ticks) ++ flat_map (told_text v (names p) all) all ≡ whole_text v p.scheduler g ticks (names p) (task_texts p) all
+        whole One =
+            ap (λ t. (version_line One ++ t) ++ flat_map (told_text One (names p) all) all) (append-nil (plan_text p.scheduler g ticks))
+        whole Two =
+            ap (λ t. t ++ flat_map (told_text Two (names p) all) all)
+            (ap (λ t. version_line Two ++ (plan_text p.scheduler g ticks ++ t)) (text-plain line (count p))
+            ∙ sym (append_assoc (version_line Two) (plan_text p.scheduler g ticks) (joined (task_texts p))))
+
+    -- and tell its notes
+    trace-told : notes_told (trace_lines v g p ticks all) ≡ all
+    trace-told =
+        notes-append (head_lines v g p ticks) (flat_map (lines_of v p all) all)
+        ∙ ap₂ (λ a b. a ++ b) (none v) (told-notes v all)
+      where
+        none : (v : Version) → notes_told (head_lines v g p ticks) ≡ []
+        none One = refl
+        none Two = notes-plain (λ i. task_text (name_of (names p) i) (period p i) (offset p i) ((task p i).worst)) (count p)
+
+    module _ (old new : SinkView) (before after : List ProbeOf) where
+      pub wrote-text : WroteLines old new before after (trace_lines v g p ticks all)
+          → Wrote old new (whole_text v p.scheduler g ticks (names p) (task_texts p) all)
+      wrote-text w = subst (λ (t : List ℕ). Wrote old new t) trace-text w.wrote
+
+      pub wrote-told : WroteLines old new before after (trace_lines v g p ticks all) → after ≡ told_notes all before
+      wrote-told w = w.told ∙ ap (λ (ns : List Note). told_notes ns before) trace-told
+
+      pub stopped-text : StoppedIn old new before after (trace_lines v g p ticks all)
+          → WroteSome old new (whole_text v p.scheduler g ticks (names p) (task_texts p) all)
+      stopped-text s =
+          subst (λ (t : List ℕ). WroteSome old new t) (sym (ap text_of s.whole ∙ text-append s.done (s.line ∷ s.rest)) ∙ trace-text)
+          (wrote-then-some old s.middle new (text_of s.done) (s.line.text ++ text_of s.rest) s.wrote
+          (wrote-some-more s.middle new s.line.text (text_of s.rest) s.part))

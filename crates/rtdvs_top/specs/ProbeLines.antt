@@ -1,0 +1,50 @@
+-- The lines of the probes that are left after a run.
+use Rattle.std.specs.Prelude.{ℕ, ◌+◌, nat_lt, Bool, true, false, List, [], ◌∷◌, ◌++◌, length, codes, Option, Some, None, if◌then◌else◌}
+use Rattle.std.specs.Fmt.{decimal}
+use Rattle.dvs_base.specs.Parts.{joined}
+use Rattle.trace_text.specs.TraceLines.{name_of}
+use Rattle.probes.specs.Tallies.{ProbeOf}
+use Rattle.probes.specs.declared.rule.What.{What}
+use Rattle.probes.specs.declared.rule.What.TheVariants as what
+use Rattle.rtdvs_top.specs.Refusals.{status_text}
+use Rattle.rtdvs_top.specs.declared.probe_line.Counted.{Counted}
+use Rattle.rtdvs_top.specs.declared.status.Status.{Status}
+use Rattle.rtdvs_top.specs.declared.status.Status.TheVariants as status
+
+-- the word of what a probe counts
+abbrev pub what_word : What → List ℕ
+what_word what.Releases = codes "releases"
+what_word what.Speeds = codes "speeds"
+what_word what.Runs = codes "runs"
+what_word what.Idles = codes "idles"
+what_word what.Dones = codes "dones"
+what_word what.Units = codes "units"
+
+-- the word of a rule's task: its name, or that the rule is about all tasks, or that no task has this number
+abbrev pub task_word : List (List ℕ) → Option ℕ → List ℕ
+task_word names None = codes "all"
+task_word names (Some i) = if nat_lt i (length names) then name_of names i else codes "none"
+
+-- the probe that is shown
+abbrev pub probe_of : Counted → ProbeOf
+probe_of c = record { rule = c.rule; tally = c.tally }
+
+-- the line of the probe at a place: what it counts, of which task, and how much that is
+abbrev pub counted_text : ℕ → ProbeOf → List ℕ → List ℕ
+counted_text place p task =
+    joined (
+    codes "probe " ∷ decimal place ∷ codes " " ∷ what_word p.rule.what ∷ codes " " ∷ task ∷ codes " "
+    ∷ decimal p.tally ∷ codes "\n" ∷ [])
+
+abbrev pub probe_text : List (List ℕ) → ℕ → ProbeOf → List ℕ
+probe_text names place p = counted_text place p (task_word names p.rule.task)
+
+-- the lines of probes, the first of which stands at this place
+abbrev pub probe_lines : List (List ℕ) → ℕ → List ProbeOf → List ℕ
+probe_lines names place [] = []
+probe_lines names place (p ∷ ps) = probe_text names place p ++ probe_lines names (place + 1) ps
+
+-- what is noted at the end: the line of the status, or the lines of the probes where a run that asked for them is done
+abbrev pub noted_text : Bool → List (List ℕ) → List ProbeOf → Status → List ℕ
+noted_text true names ps status.Done = probe_lines names 1 ps
+noted_text asks names ps s = status_text names s

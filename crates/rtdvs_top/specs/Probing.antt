@@ -1,0 +1,92 @@
+-- What a run tells the probes that it is given.
+use Rattle.std.specs.Prelude.{◌≡◌, ℕ, Bool, true, false, List, Option, Result, Ok, Err, ⊤}
+use Rattle.dvs_base.specs.Outside.{Files, SinkView}
+use Rattle.dvs_base.specs.declared.kind.Version.{Version}
+use Rattle.dvs_base.specs.declared.kind.GovernorKind.{GovernorKind}
+use Rattle.dvs_base.specs.declared.note.Note.{Note}
+use Rattle.governor.specs.Meanings.{OwnDemand}
+use Rattle.demand_list.specs.Demands.{DemandsOf}
+use Rattle.task_model.specs.declared.task.Task.{Task}
+use Rattle.sched_model.specs.Plan.{Plan}
+use Rattle.sched_model.specs.Text.{run_notes}
+use Rattle.event_kernel.specs.Runs.{Run, notes_of_run}
+use Rattle.event_kernel.specs.Lines.{StoppedIn, trace_lines}
+use Rattle.probes.specs.Tallies.{ProbeOf, told_notes}
+use Rattle.words.specs.Commands.{RunOf, CommandOf, run, admit, replay, workload}
+use Rattle.words.specs.declared.command.WordFault.{WordFault}
+use Rattle.rtdvs_top.specs.Answer.{prepared_of, tasks_at}
+use Rattle.rtdvs_top.specs.Causes.{Gives}
+use Rattle.rtdvs_top.specs.Ending.{Leaves, job_demands, run_with}
+use Rattle.rtdvs_top.specs.declared.status.Status.{Status}
+use Rattle.rtdvs_top.specs.declared.status.Status.TheVariants as status
+
+-- whether a command asks for probes
+abbrev pub asks_probes : CommandOf → Bool
+asks_probes (run r) = r.probes
+asks_probes (admit a) = false
+asks_probes (replay r) = false
+asks_probes (workload seed) = false
+
+-- Probes under a trace of these notes. Where it is whole they were told the notes, one by one. Where a put failed they
+-- were told those of the lines before the one that was put.
+abbrev pub TraceTold : {T E : Type 0} → Version → GovernorKind → Plan → ℕ → List Note → SinkView → SinkView
+    → List ProbeOf → List ProbeOf → Result T E → Type 0
+TraceTold v kind p ticks notes old new before after (Ok x) = after ≡ told_notes notes before
+TraceTold v kind p ticks notes old new before after (Err e) =
+    StoppedIn old new before after (trace_lines v kind p ticks notes)
+
+-- the same by the status: a run that is done, and one of which a write failed
+abbrev pub NotesTold : Version → GovernorKind → Plan → ℕ → List Note → SinkView → SinkView
+    → List ProbeOf → List ProbeOf → Status → Type 0
+NotesTold v kind p ticks notes old new before after status.Done = after ≡ told_notes notes before
+NotesTold v kind p ticks notes old new before after status.Write =
+    StoppedIn old new before after (trace_lines v kind p ticks notes)
+NotesTold v kind p ticks notes old new before after s = ⊤
+
+-- a run told probes the notes of its schedule by a governor's own demand
+abbrev pub GovernedTold : Version → GovernorKind → OwnDemand → Run → SinkView → SinkView
+    → List ProbeOf → List ProbeOf → Status → Type 0
+GovernedTold v kind demand r old new before after s =
+    NotesTold v kind r.plan r.ticks (notes_of_run demand r) old new before after s
+
+-- and of its schedule by the published demand of the governor's kind
+abbrev pub RunTold : Version → GovernorKind → Run → SinkView → SinkView → List ProbeOf → List ProbeOf → Status → Type 0
+RunTold v kind r old new before after s =
+    NotesTold v kind r.plan r.ticks (run_notes r.plan kind (job_demands r) r.ticks) old new before after s
+
+-- it holds, where it is asked for
+abbrev pub IfAsked : Bool → Type 0 → Type 0
+IfAsked true X = X
+IfAsked false X = ⊤
+
+-- where no probes are asked for the list is as before; else under every status but `Done` and `Write`
+abbrev pub LeavesProbes : {V : Type 0} → Bool → Status → V → V → Type 0
+LeavesProbes true s old new = Leaves s old new
+LeavesProbes false s old new = new ≡ old
+
+-- a run of these tasks told its notes: that of the plan and the demands that were prepared
+abbrev pub PreparedTold : Option Files → RunOf → List Task → SinkView → SinkView
+    → List ProbeOf → List ProbeOf → Status → Type 0
+PreparedTold told r tasks old new before after s =
+    (p : Plan) × (d : DemandsOf) × Gives told (prepared_of r tasks) (p, d)
+    × RunTold r.version r.governor (run_with r p d) old new before after s
+
+-- the same by the status
+abbrev pub ToldBy : Option Files → RunOf → List Task → SinkView → SinkView
+    → List ProbeOf → List ProbeOf → Status → Type 0
+ToldBy told r tasks old new before after status.Done =
+    IfAsked r.probes (PreparedTold told r tasks old new before after status.Done)
+ToldBy told r tasks old new before after status.Write =
+    IfAsked r.probes (PreparedTold told r tasks old new before after status.Write)
+ToldBy told r tasks old new before after s = ⊤
+
+-- the same of the tasks of the command's file
+abbrev pub FileTold : Option Files → RunOf → SinkView → SinkView → List ProbeOf → List ProbeOf → Status → Type 0
+FileTold told r old new before after s =
+    (tasks : List Task) × Gives told (tasks_at r.tasks) tasks × ToldBy told r tasks old new before after s
+
+-- a command of which something is written told the probes that it asked for
+abbrev pub ToldIn : Option Files → CommandOf → SinkView → SinkView → List ProbeOf → List ProbeOf → Status → Type 0
+ToldIn told (run r) old new before after status.Done = FileTold told r old new before after status.Done
+ToldIn told (run r) old new before after status.Write = FileTold told r old new before after status.Write
+ToldIn told c old new before after s = ⊤
