@@ -29,12 +29,16 @@ module _ (files : Files) (c : CommandOf) (tasks : Option (List Task)) (ps : List
   same-noted true status.NoMemory named done = named
 
 -- what was noted is what the call promises
-pub notes-of : (told : Option Files) (c : CommandOf) (tasks read : Option (List Task)) (ps : List ProbeOf) (s : Status) (old new : SinkView) (asks : Bool)
-    → asks ≡ asks_probes c → read ≡ tasks → NamedBy told c tasks s → NamedIfDone told c tasks s
-    → NotedAs old new (noted_text asks (names_of read) ps s) → Notes told (Ok c) ps s old new
-notes-of None c tasks read ps s old new asks a r named done h =
-    (names_of read, subst (λ (b : Bool). NotedAs old new (noted_text b (names_of read) ps s)) a h)
-notes-of (Some files) c tasks read ps s old new asks a r named done h =
+pub notes-of : (told : Option Files) (c : CommandOf) (tasks read : Option (List Task)) (ps qs : List ProbeOf) (s : Status) (old new : SinkView) (asks : Bool)
+    → asks ≡ asks_probes c → read ≡ tasks → qs ≡ ps → NamedBy told c tasks s → NamedIfDone told c tasks s
+    → NotedAs old new (noted_text asks (names_of read) qs s) → Notes told (Ok c) ps s old new
+notes-of None c tasks read ps qs s old new asks a r q named done h = (
+  names_of read,
+  subst (λ (b : Bool). NotedAs old new (noted_text b (names_of read) ps s)) a
+      (subst (λ (xs : List ProbeOf). NotedAs old new (noted_text asks (names_of read) xs s)) q h),
+)
+notes-of (Some files) c tasks read ps qs s old new asks a r q named done h =
     subst (λ (t : List ℕ). NotedAs old new t) (same-noted files c tasks ps (asks_probes c) s named done)
     (subst (λ (b : Bool). NotedAs old new (noted_text b (names_of tasks) ps s)) a
-    (subst (λ (t : Option (List Task)). NotedAs old new (noted_text asks (names_of t) ps s)) r h))
+    (subst (λ (t : Option (List Task)). NotedAs old new (noted_text asks (names_of t) ps s)) r
+    (subst (λ (xs : List ProbeOf). NotedAs old new (noted_text asks (names_of read) xs s)) q h)))

@@ -81,11 +81,7 @@ fn probe_line(probe: Counted, tasks: Option<&TaskSet>) -> Line
 
 /// Puts the lines of the probes, with the names of the tasks where they were read. After the first put that fails no
 /// more is put.
-pub(crate) fn put_probes<E: Sink, P: Probe>(
-    probes: &[P],
-    tasks: Option<&TaskSet>,
-    notes: &mut E,
-)
+pub(crate) fn put_probes<E: Sink, P: Probe>(probes: &[P], tasks: Option<&TaskSet>, notes: &mut E)
     ensures { NotedAs (E.shows notes.old) (E.shows notes.new)
         (probe_lines (names_of (option_copied tasks.entry)) 1 (map P.seen probes.now)) }
 {

@@ -201,9 +201,15 @@ fn run_pair<W: Sink, P: Probe>(
     match (written.run.plan.scheduler(), governor) {
         (_, GovernorKind::Plain) => run_governed::<Full, W, P>(alloc, written, out, probes),
         (_, GovernorKind::Fixed) => run_governed::<Static, W, P>(alloc, written, out, probes),
-        (Scheduler::Edf, GovernorKind::Cycle) => run_governed::<CcEdf, W, P>(alloc, written, out, probes),
-        (Scheduler::Rm, GovernorKind::Cycle) => run_governed::<CcRm, W, P>(alloc, written, out, probes),
-        (Scheduler::Edf, GovernorKind::Ahead) => run_governed::<LookAhead, W, P>(alloc, written, out, probes),
+        (Scheduler::Edf, GovernorKind::Cycle) => run_governed::<CcEdf, W, P>(
+            alloc, written, out, probes,
+        ),
+        (Scheduler::Rm, GovernorKind::Cycle) => run_governed::<CcRm, W, P>(
+            alloc, written, out, probes,
+        ),
+        (Scheduler::Edf, GovernorKind::Ahead) => run_governed::<LookAhead, W, P>(
+            alloc, written, out, probes,
+        ),
         (Scheduler::Rm, GovernorKind::Ahead) => unreachable!(),
     }
 }

@@ -233,6 +233,12 @@ pub fn rtdvs<S: Shelf, W: Sink, E: Sink>(
         }
     };
     let (status, tasks) = answer_command(alloc, &command, shelf, out, probes);
-    note_end(asks_probes(&command), &status, tasks.as_ref(), probes, notes);
+    note_end(
+        asks_probes(&command),
+        &status,
+        tasks.as_ref(),
+        probes,
+        notes,
+    );
     status
 }

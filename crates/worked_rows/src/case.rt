@@ -1,5 +1,6 @@
 // Calls of the whole program over files and sinks in memory, and what they leave.
 use dvs_base::{FailAt, MemShelf, MemSink};
+use probes::Probe;
 use rtdvs_top::rtdvs;
 use std::alloc::Global;
 use std::process::Abort;
@@ -86,10 +87,22 @@ impl<'a> Case<'a> {
         shelf: &mut MemShelf,
         failing: &[FailAt],
     ) -> Result<Outcome, Fail> {
+        let mut probes: Vec<Box<dyn Probe>> = Vec::new(alloc);
+        self.probed(alloc, shelf, failing, &mut probes)
+    }
+
+    // The same with these probes.
+    pub(crate) fn probed(
+        self,
+        alloc: Global,
+        shelf: &mut MemShelf,
+        failing: &[FailAt],
+        probes: &mut Vec<Box<dyn Probe>>,
+    ) -> Result<Outcome, Fail> {
         let words = words_of(alloc, self.words)?;
         let mut out = MemSink::new(alloc, 4096, failing).map_err(|_| "out")?;
         let mut notes = MemSink::new(alloc, 4096, &[]).map_err(|_| "notes")?;
-        let status = rtdvs(alloc, &words, shelf, &mut out, &mut notes);
+        let status = rtdvs(alloc, &words, shelf, &mut out, &mut notes, probes);
         Ok(Outcome {
             code: status.code(),
             out: Vec::from_slice(alloc, out.bytes())?,

@@ -27,6 +27,8 @@ mod parts;
 #[cfg(test)]
 mod plans;
 #[cfg(test)]
+mod probing;
+#[cfg(test)]
 mod refusals;
 #[cfg(test)]
 mod task_offsets;

@@ -42,6 +42,44 @@ fn first_release_after_tick_0(rt: HostRuntime) -> Result<(), Fail> {
 }
 
 #[test]
+fn a_trace_of_version_2(rt: HostRuntime) -> Result<(), Fail> {
+    Case {
+        tasks: FIRST_LATE,
+        machine: PAPER_MACHINE,
+        demands: "",
+        words: "run --tasks T --machine M --scheduler edf --governor cc --ticks 8 --format 2",
+    }
+    .answers(
+        &rt,
+        &[
+            "trace 2",
+            "plan edf cc 8",
+            "task x 4 0 4",
+            "task y 6 2 6",
+            "release 0 x 1",
+            "speed 0 2 12/12",
+            "run 0:0 2:0 x 1 4 36000000000",
+            "done 2:0 x 1 4",
+            "release 2 y 1",
+            "speed 2 2 24/12",
+            "run 2:0 4:0 y 1 4 36000000000",
+            "release 4 x 2",
+            "speed 4 2 24/12",
+            "run 4:0 6:0 x 2 4 36000000000",
+            "done 6:0 x 2 4",
+            "speed 6 2 24/12",
+            "run 6:0 7:0 y 1 2 18000000000",
+            "done 7:0 y 1 6",
+            "speed 7 2 24/12",
+            "idle 7:0 8:0 2 0",
+            "energy x 72000000000",
+            "energy y 54000000000",
+            "end 8 126000000000 0",
+        ],
+    )
+}
+
+#[test]
 fn a_run_before_all_releases_idles(rt: HostRuntime) -> Result<(), Fail> {
     for (words, plan, speed) in [
         (

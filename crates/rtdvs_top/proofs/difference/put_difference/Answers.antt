@@ -4,7 +4,7 @@ use Rattle.std.specs.Option.{option_copied}
 use Rattle.trace_text.specs.TraceLines.{note_text}
 use Rattle.rtdvs_top.specs.Naming.{names_of}
 use Rattle.rtdvs_top.specs.Refusals.{difference_text}
-use Rattle.rtdvs_top.specs.Writing.{Wrote, WroteSome}
+use Rattle.event_kernel.specs.Lines.{Wrote, WroteSome}
 use Rattle.rtdvs_top.proofs.Texts.{wrote-then, wrote-then-some, wrote-some-more}
 use Rattle.rtdvs_top.proofs.difference.put_difference.Goals as goal
 

@@ -1,4 +1,4 @@
-use Rattle.std.proofs.Common.{◌≡◌, List, map, Result, Ok, refl, subst}
+use Rattle.std.proofs.Common.{◌≡◌, List, map, Result, Ok, refl, subst, ap}
 use Rattle.probes.specs.Tallies.{ProbeOf}
 use Rattle.dvs_base.specs.Outside.{Rose}
 use Rattle.words.specs.Commands.{CommandOf}
@@ -68,4 +68,4 @@ returns-clause-notes g c =
     subst
     (λ (command : Result CommandOf WordFault). Notes (files_told old.held command) command ps s (g.E.Sink.shows c.args.notes.now) (g.E.Sink.shows c.note_end.new.notes))
     c.in-Ok.ensures.read
-    (notes-of _ _ _ _ ps s _ _ _ c.asks_probes.ensures c.as_ref.ensures.value e.named e.named_done c.note_end.ensures)
+    (notes-of _ _ _ _ ps _ s _ _ _ c.asks_probes.ensures c.as_ref.ensures.value (ap (map (λ b. (goal.Probe-dyn g (b.vtable, b.value)).seen b.value)) c.deref.ensures.value) e.named e.named_done c.note_end.ensures)
