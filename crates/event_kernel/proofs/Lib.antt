@@ -13,6 +13,7 @@ pub mod Hearing
 pub mod Beginnings
 pub mod Serving
 pub mod Wholes
+pub mod Firstversion
 pub mod Working
 pub mod Atwork
 pub mod Ofplan

@@ -37,7 +37,12 @@ fn words_of(alloc: Global, line: &str) -> Result<Vec<String>, Fail> {
 }
 
 // A text is these lines, each ended by a line feed.
-fn expect_lines(rt: &impl Abort, text: &[u8], lines: &[&str], of: &str) -> Result<(), Fail> {
+pub(crate) fn expect_lines(
+    rt: &impl Abort,
+    text: &[u8],
+    lines: &[&str],
+    of: &str,
+) -> Result<(), Fail> {
     let text = std::str::from_utf8(text).map_err(|_| "text")?;
     let mut found = text.split('\n');
     for (before, line) in lines.iter().enumerate() {

@@ -17,6 +17,8 @@ mod example;
 #[cfg(test)]
 mod generator;
 #[cfg(test)]
+mod kernel_runs;
+#[cfg(test)]
 mod made;
 #[cfg(test)]
 mod many;
