@@ -5,7 +5,7 @@ ghost use Rattle.governor.specs.Serving.{ServesEdf};
 
 use crate::case::{Case, expect_lines};
 use crate::example::{NONE_TRACE, PAPER_MACHINE, PAPER_TASKS};
-use crate::offsets::FIRST_LATE;
+use crate::task_offsets::FIRST_LATE;
 use cc_edf::CcEdf;
 use demand_list::Demands;
 use dvs_base::{FailAt, MemSink, Version};

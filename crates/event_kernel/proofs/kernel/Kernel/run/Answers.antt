@@ -26,21 +26,24 @@ returns-in-Ok-clause-wrote g c =
 pub returns-in-Ok-clause-sure : goal.returns-in-Ok-clause-sure
 returns-in-Ok-clause-sure g c fits =
     let r = c.args.self in
-    writes-sure (g.W.Sink.shows c.args.out.now) (g.W.Sink.shows c.tell_notes.new.out) (map g.P.Probe.seen c.args.probes.now.items) (map g.P.Probe.seen c.tell_notes.new.probes.items)
+    writes-sure (g.W.Sink.shows c.args.out.now) (g.W.Sink.shows c.tell_notes.new.out)
+    (map g.P.Probe.seen c.args.probes.now.items) (map g.P.Probe.seen c.tell_notes.new.probes.items)
     (trace_lines c.args.version g.G.Governor.the_kind r.plan r.ticks (notes_of_run g.G.Governor.demand r)) c.tell_notes.result
     (returns-in-Ok-clause-wrote g c) fits
 
 pub returns-in-Ok-clause-never_falls : goal.returns-in-Ok-clause-never_falls
 returns-in-Ok-clause-never_falls g c =
     let r = c.args.self in
-    writes-later (g.W.Sink.shows c.args.out.now) (g.W.Sink.shows c.tell_notes.new.out) (map g.P.Probe.seen c.args.probes.now.items) (map g.P.Probe.seen c.tell_notes.new.probes.items)
+    writes-later (g.W.Sink.shows c.args.out.now) (g.W.Sink.shows c.tell_notes.new.out)
+    (map g.P.Probe.seen c.args.probes.now.items) (map g.P.Probe.seen c.tell_notes.new.probes.items)
     (trace_lines c.args.version g.G.Governor.the_kind r.plan r.ticks (notes_of_run g.G.Governor.demand r)) c.tell_notes.result
     (returns-in-Ok-clause-wrote g c)
 
 pub returns-in-Ok-clause-rose : goal.returns-in-Ok-clause-rose
 returns-in-Ok-clause-rose g c =
     let r = c.args.self in
-    writes-rose (g.W.Sink.shows c.args.out.now) (g.W.Sink.shows c.tell_notes.new.out) (map g.P.Probe.seen c.args.probes.now.items) (map g.P.Probe.seen c.tell_notes.new.probes.items)
+    writes-rose (g.W.Sink.shows c.args.out.now) (g.W.Sink.shows c.tell_notes.new.out)
+    (map g.P.Probe.seen c.args.probes.now.items) (map g.P.Probe.seen c.tell_notes.new.probes.items)
     (trace_lines c.args.version g.G.Governor.the_kind r.plan r.ticks (notes_of_run g.G.Governor.demand r)) c.tell_notes.result
     (returns-in-Ok-clause-wrote g c)
 
@@ -49,7 +52,8 @@ returns-in-Ok-clause-deadlines g c =
     let m = g.G.Governor in
     let k = c.self.inside in
     subst (λ (r : Run). MeetsDeadlines m.demand r) c.self.view_is
-    (run-met m.the_kind m.serves m.demand m.calm m.safe g.met.G.Governor.laws k.plan.now k.demands.now k.ticks c.known.ensures c.self.invariant.2 c.known-2.ensures
+    (run-met m.the_kind m.serves m.demand m.calm m.safe g.met.G.Governor.laws
+    k.plan.now k.demands.now k.ticks c.known.ensures c.self.invariant.2 c.known-2.ensures
     (g.met.G.Governor.serves_plan k.governor k.plan.now (opening k.plan.now) c.self.invariant.1))
 
 pub returns-in-Ok-clause-demands : goal.returns-in-Ok-clause-demands
@@ -57,7 +61,8 @@ returns-in-Ok-clause-demands g c other =
     let m = g.G.Governor in
     let k = c.self.inside in
     subst (λ (r : Run). MeetsDemands m.demand r) c.self.view_is
-    (run-demands m.the_kind m.serves m.demand m.calm m.safe g.met.G.Governor.laws k.plan.now k.demands.now k.ticks c.known.ensures c.self.invariant.2 c.known-2.ensures
+    (run-demands m.the_kind m.serves m.demand m.calm m.safe g.met.G.Governor.laws
+    k.plan.now k.demands.now k.ticks c.known.ensures c.self.invariant.2 c.known-2.ensures
     (g.met.G.Governor.serves_plan k.governor k.plan.now (opening k.plan.now) c.self.invariant.1) other)
 
 pub returns-in-Err-clause-wrote : goal.returns-in-Err-clause-wrote
@@ -76,14 +81,16 @@ returns-in-Err-clause-sure g c fits =
     let r = c.args.self in
     let ps : List ProbeOf = map g.P.Probe.seen c.args.probes.now.items in
     let lines : List LineOf = trace_lines c.args.version g.G.Governor.the_kind r.plan r.ticks (notes_of_run g.G.Governor.demand r) in
-    absurd (omega (arith, fits, stopped-short (g.W.Sink.shows c.args.out.now) (g.W.Sink.shows c.put_head.new.out) ps ps lines (returns-in-Err-clause-wrote g c)))
+    absurd (omega (arith, fits, stopped-short (g.W.Sink.shows c.args.out.now) (g.W.Sink.shows c.put_head.new.out) ps ps lines
+    (returns-in-Err-clause-wrote g c)))
 
 pub returns-in-Err-clause-deadlines : goal.returns-in-Err-clause-deadlines
 returns-in-Err-clause-deadlines g c =
     let m = g.G.Governor in
     let k = c.self.inside in
     subst (λ (r : Run). MeetsDeadlines m.demand r) c.self.view_is
-    (run-met m.the_kind m.serves m.demand m.calm m.safe g.met.G.Governor.laws k.plan.now k.demands.now k.ticks c.known.ensures c.self.invariant.2 c.known-2.ensures
+    (run-met m.the_kind m.serves m.demand m.calm m.safe g.met.G.Governor.laws
+    k.plan.now k.demands.now k.ticks c.known.ensures c.self.invariant.2 c.known-2.ensures
     (g.met.G.Governor.serves_plan k.governor k.plan.now (opening k.plan.now) c.self.invariant.1))
 
 pub returns-in-Err-clause-demands : goal.returns-in-Err-clause-demands
@@ -91,7 +98,8 @@ returns-in-Err-clause-demands g c other =
     let m = g.G.Governor in
     let k = c.self.inside in
     subst (λ (r : Run). MeetsDemands m.demand r) c.self.view_is
-    (run-demands m.the_kind m.serves m.demand m.calm m.safe g.met.G.Governor.laws k.plan.now k.demands.now k.ticks c.known.ensures c.self.invariant.2 c.known-2.ensures
+    (run-demands m.the_kind m.serves m.demand m.calm m.safe g.met.G.Governor.laws
+    k.plan.now k.demands.now k.ticks c.known.ensures c.self.invariant.2 c.known-2.ensures
     (g.met.G.Governor.serves_plan k.governor k.plan.now (opening k.plan.now) c.self.invariant.1) other)
 
 pub returns-in-Err-clause-never_falls : goal.returns-in-Err-clause-never_falls
