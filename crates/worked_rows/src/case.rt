@@ -142,10 +142,20 @@ impl<'a> Case<'a> {
         code: u8,
         line: &str,
     ) -> Result<(), Fail> {
+        self.tells(rt, code, &[line])
+    }
+
+    // The call ends with this status and leaves nothing on `out` and these lines on `notes`.
+    pub(crate) fn tells(
+        self,
+        rt: &(impl Abort + AllocGlobal),
+        code: u8,
+        lines: &[&str],
+    ) -> Result<(), Fail> {
         let left = self.ask(rt.alloc())?;
-        expect_lines(rt, &left.notes, &[line], self.words)?;
+        expect_lines(rt, &left.notes, lines, self.words)?;
         expect_lines(rt, &left.out, &[], self.words)?;
-        assert_eq!(rt; left.code, code, "{line}");
+        assert_eq!(rt; left.code, code, "{}", self.words);
         Ok(())
     }
 }

@@ -33,6 +33,8 @@ mod probing;
 #[cfg(test)]
 mod refusals;
 #[cfg(test)]
+mod replays;
+#[cfg(test)]
 mod task_offsets;
 #[cfg(test)]
 mod traces;
