@@ -1,5 +1,5 @@
 -- The lines of probes that were put one after another.
-use Rattle.std.proofs.Common.{◌≡◌, ℕ, zero, suc, ◌+◌, ◌<◌, ◌≤◌, List, [], ◌∷◌, ◌++◌, length, map, take, drop, get_or, refl, ap, ap₂, ◌∙◌, sym, subst, arith, append-nil, append_assoc, inl, inr}
+use Rattle.std.proofs.Common.{◌≡◌, ℕ, zero, suc, ◌+◌, ◌<◌, ◌≤◌, List, [], ◌∷◌, ◌++◌, length, map, take, get_or, ap, ap₂, ◌∙◌, sym, subst, arith, append-nil, append_assoc, inl, inr}
 use Rattle.std.proofs.lemmas.List.{take_all, length-map}
 use Rattle.dvs_base.specs.Outside.{SinkView}
 use Rattle.probes.specs.Tallies.{ProbeOf}

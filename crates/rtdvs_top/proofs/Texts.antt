@@ -1,13 +1,10 @@
 -- Texts written one after another.
-use Rattle.std.proofs.Common.{◌≡◌, inl, inr, ℕ, ◌+◌, List, [], ◌∷◌, ◌++◌, length, length-append, take, Option, Some, None, Result, Ok, Err, refl, ap, sym, ◌∙◌, subst, arith, append-nil}
-use Rattle.std.specs.Prelude.{flat_map}
+use Rattle.std.proofs.Common.{inl, inr, ℕ, ◌+◌, List, [], ◌++◌, length, length-append, take, Option, Some, None, Result, Ok, Err, refl, sym, ◌∙◌, subst, arith, append-nil}
 use Rattle.std.specs.Io.KnownBytes.{Appends}
 use Rattle.std.proofs.KnownBytes.{Appends-trans}
 use Rattle.std.proofs.lemmas.List.{take-append-le}
 use Rattle.std.proofs.Math.Seq.{take-append-add}
-use Rattle.dvs_base.specs.declared.note.Note.{Note}
 use Rattle.dvs_base.specs.Outside.{SinkView, Rose}
-use Rattle.event_kernel.specs.Heard.{HasHeard, HasBalked}
 use Rattle.event_kernel.specs.Lines.{Wrote, WroteSome}
 use Rattle.rtdvs_top.specs.Writing.{Writing, NotedAs}
 

@@ -1,6 +1,6 @@
 -- The text of a trace's lines, and the notes that they tell.
 use Rattle.std.proofs.Common.{◌≡◌, ℕ, zero, suc, ◌+◌, List, [], ◌∷◌, ◌++◌, length, flat_map, refl, ap, ap₂, ◌∙◌, sym, subst, arith, append-nil, append_assoc}
-use Rattle.std.specs.Prelude.{map, sum_by}
+use Rattle.std.specs.Prelude.{sum_by}
 use Rattle.std.proofs.lemmas.Grind.{flat_map-append}
 use Rattle.std.proofs.lemmas.List.{length-map}
 use Rattle.grid_fraction.specs.Numbers.{list_below}
@@ -13,13 +13,13 @@ use Rattle.dvs_base.specs.declared.note.Note.{Note}
 use Rattle.dvs_base.specs.declared.note.Note.TheVariants.{Release, Speed, Run, Idle, Done, End}
 use Rattle.trace_text.specs.TraceLines.{name_of, note_text, plan_text}
 use Rattle.trace_reader.specs.VersionLines.{version_line, task_text, share_text}
-use Rattle.trace_reader.specs.TraceText.{run_energy_of, energy_of_task, shares_from, told_text, whole_text}
+use Rattle.trace_reader.specs.TraceText.{run_energy_of, shares_from, told_text, whole_text}
 use Rattle.task_model.specs.declared.task.Task.{Task}
 use Rattle.energy.specs.Books.{energy_of_task as task_energy}
 use Rattle.sched_model.specs.Plan.{Plan, count, names, task, period, offset}
 use Rattle.done_lines.specs.RunText.{task_texts}
 use Rattle.probes.specs.Tallies.{ProbeOf, told_notes}
-use Rattle.event_kernel.specs.Lines.{LineOf, plain, task_lines, share_lines, head_lines, lines_of, trace_lines, text_of, notes_told, Wrote, WroteSome, WroteLines, StoppedIn}
+use Rattle.event_kernel.specs.Lines.{LineOf, plain, share_lines, head_lines, lines_of, trace_lines, text_of, notes_told, Wrote, WroteSome, WroteLines, StoppedIn}
 use Rattle.rtdvs_top.proofs.Texts.{wrote-then-some, wrote-some-more}
 
 text-append : (xs ys : List LineOf) → text_of (xs ++ ys) ≡ text_of xs ++ text_of ys

@@ -13,7 +13,6 @@ use Rattle.event_kernel.specs.Runs.{Run, notes_of_run}
 use Rattle.event_kernel.specs.Lines.{StoppedIn, trace_lines}
 use Rattle.probes.specs.Tallies.{ProbeOf, told_notes}
 use Rattle.words.specs.Commands.{RunOf, CommandOf, run, admit, replay, workload}
-use Rattle.words.specs.declared.command.WordFault.{WordFault}
 use Rattle.rtdvs_top.specs.Answer.{prepared_of, tasks_at}
 use Rattle.rtdvs_top.specs.Causes.{Gives}
 use Rattle.rtdvs_top.specs.Ending.{Leaves, job_demands, run_with}

@@ -1,4 +1,4 @@
-use Rattle.std.proofs.Common.{ℕ, ◌<◌, length, map, ap₂, ◌∙◌, arith}
+use Rattle.std.proofs.Common.{ap₂, ◌∙◌, arith}
 use Rattle.std.specs.Option.{option_copied}
 use Rattle.rtdvs_top.specs.Naming.{names_of}
 use Rattle.rtdvs_top.specs.ProbeLines.{probe_text}

@@ -81,8 +81,12 @@ returns-in-Err-clause-sure g c fits =
     let r = c.args.self in
     let ps : List ProbeOf = map g.P.Probe.seen c.args.probes.now.items in
     let lines : List LineOf = trace_lines c.args.version g.G.Governor.the_kind r.plan r.ticks (notes_of_run g.G.Governor.demand r) in
-    absurd (omega (arith, fits, stopped-short (g.W.Sink.shows c.args.out.now) (g.W.Sink.shows c.put_head.new.out) ps ps lines
-    (returns-in-Err-clause-wrote g c)))
+    absurd (omega (
+      arith,
+      fits,
+      stopped-short (g.W.Sink.shows c.args.out.now) (g.W.Sink.shows c.put_head.new.out) ps ps lines
+          (returns-in-Err-clause-wrote g c),
+    ))
 
 pub returns-in-Err-clause-deadlines : goal.returns-in-Err-clause-deadlines
 returns-in-Err-clause-deadlines g c =
