@@ -100,6 +100,7 @@ fn a_note_is_not_told_whose_put_fails(rt: HostRuntime) -> Result<(), Fail> {
     assert!(rt; failed == Err(WriteFault));
     assert_eq!(rt; out.faults(), 1);
     assert!(rt; out.bytes().ends_with(b"\ndon"));
+    assert_eq!(rt; probes.len(), 2);
     assert_eq!(rt; probes[0].tally(), 0);
     Ok(())
 }
@@ -121,6 +122,7 @@ fn a_run_in_version_2(rt: HostRuntime) -> Result<(), Fail> {
     kernel
         .run(&mut out, &mut probes, Version::Two)
         .map_err(|_| "run")?;
+    assert_eq!(rt; probes.len(), 2);
     assert_eq!(rt; probes[0].tally(), 3);
     assert_eq!(rt; probes[1].tally(), 6);
     expect_lines(
