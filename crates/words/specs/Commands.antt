@@ -14,6 +14,8 @@ use Rattle.words.specs.declared.command.Opt.{Opt}
 use Rattle.words.specs.declared.command.Opt.TheVariants as opt
 use Rattle.words.specs.declared.command.WordFault.{WordFault}
 use Rattle.words.specs.declared.command.WordFault.TheVariants as fault
+use Rattle.words.specs.declared.given.TraceUse.{TraceUse}
+use Rattle.words.specs.declared.given.TraceUse.TheVariants.{Replay, Migrate}
 use Rattle.words.specs.Values.{GivenOf}
 
 -- what the words of a run name: files by their names, the scheduler, the governor, the number of ticks, whether the
@@ -34,17 +36,18 @@ pub record AdmitOf : Type 0 where
   pub machine : List ℕ
   pub scheduler : Scheduler
 
--- what the words of a replay name
-pub record ReplayOf : Type 0 where
+-- what the words of a replay or of a migration name, and which of the two they ask for
+pub record TracedOf : Type 0 where
+  pub asked : TraceUse
   pub tasks : List ℕ
   pub machine : List ℕ
   pub trace : List ℕ
 
--- a command; that of a workload names its seed
+-- a command: what is done with a trace, be it a replay or a migration, is one; that of a workload names its seed
 pub data CommandOf : Type 0 where
   run : RunOf → CommandOf
   admit : AdmitOf → CommandOf
-  replay : ReplayOf → CommandOf
+  traced : TracedOf → CommandOf
   workload : ℕ → CommandOf
 
 -- the scheduler and the governor of a run are a pair, and its number of ticks is within the limits
@@ -96,17 +99,22 @@ admit_of g = do
   scheduler ← need opt.Scheduler g.scheduler
   Ok (record { tasks = tasks; machine = machine; scheduler = scheduler })
 
--- a replay by the values that were given
-abbrev pub replay_of : GivenOf → Result ReplayOf WordFault
-replay_of g = do
+-- a replay or a migration by the values that were given
+abbrev pub traced_of : TraceUse → GivenOf → Result TracedOf WordFault
+traced_of asked g = do
   tasks ← need opt.Tasks g.tasks
   machine ← need opt.Machine g.machine
   trace ← need opt.Trace g.trace
-  Ok (record { tasks = tasks; machine = machine; trace = trace })
+  Ok (record { asked = asked; tasks = tasks; machine = machine; trace = trace })
+
+-- the command of such a use
+abbrev pub trace_command : TraceUse → GivenOf → Result CommandOf WordFault
+trace_command asked g = traced_of asked g >>= (λ r. Ok (traced r))
 
 -- the command by the values that were given, or the first required option that was not; last, a run's pair
 abbrev pub built : Verb → GivenOf → Result CommandOf WordFault
 built verb.Run g = run_of g >>= (λ r. Ok (run r))
 built verb.Admit g = admit_of g >>= (λ a. Ok (admit a))
-built verb.Replay g = replay_of g >>= (λ r. Ok (replay r))
+built verb.Replay g = trace_command Replay g
+built verb.Migrate g = trace_command Migrate g
 built verb.Workload g = need opt.Seed g.seed >>= (λ seed. Ok (workload seed))

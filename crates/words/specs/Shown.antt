@@ -4,10 +4,10 @@ use Rattle.words.specs.declared.command.Command.{Command}
 use Rattle.words.specs.declared.command.Command.TheVariants as command
 use Rattle.words.specs.declared.command.WordFault.{WordFault}
 use Rattle.words.specs.declared.given.Given.{Given}
-use Rattle.words.specs.declared.given.TraceFiles.{TraceFiles}
+use Rattle.words.specs.declared.given.TraceUse.TheVariants.{Replay, Migrate}
 use Rattle.words.specs.declared.read.Reading.{Reading}
 use Rattle.words.specs.Values.{GivenOf}
-use Rattle.words.specs.Commands.{CommandOf, ReplayOf, run, admit, replay, workload}
+use Rattle.words.specs.Commands.{CommandOf, run, admit, traced, workload}
 use Rattle.words.specs.Reading.{ReadingOf}
 
 -- the values that were given, with the texts of names
@@ -34,11 +34,6 @@ abbrev pub reading_answer : Result Reading WordFault → Result ReadingOf WordFa
 reading_answer (Ok r) = Ok (shown_reading r)
 reading_answer (Err e) = Err e
 
--- the files of a trace, with the texts of their names
-abbrev pub files_answer : Result TraceFiles WordFault → Result ReplayOf WordFault
-files_answer (Ok f) = Ok (record { tasks = f.tasks.now; machine = f.machine.now; trace = f.trace.now })
-files_answer (Err e) = Err e
-
 -- a command, with the texts of names
 abbrev pub shown : Command → CommandOf
 shown (command.Run tasks machine demands scheduler governor ticks probes version) = run (record {
@@ -54,7 +49,9 @@ shown (command.Run tasks machine demands scheduler governor ticks probes version
 shown (command.Admit tasks machine scheduler) =
     admit (record { tasks = tasks.now; machine = machine.now; scheduler = scheduler })
 shown (command.Replay tasks machine trace) =
-    replay (record { tasks = tasks.now; machine = machine.now; trace = trace.now })
+    traced (record { asked = Replay; tasks = tasks.now; machine = machine.now; trace = trace.now })
+shown (command.Migrate tasks machine trace) =
+    traced (record { asked = Migrate; tasks = tasks.now; machine = machine.now; trace = trace.now })
 shown (command.Workload seed) = workload seed
 
 -- an answer, with the command so shown

@@ -20,6 +20,7 @@ commands =
     ∷ (codes "admit", verb.Admit)
     ∷ (codes "workload", verb.Workload)
     ∷ (codes "replay", verb.Replay)
+    ∷ (codes "migrate", verb.Migrate)
     ∷ []
 
 -- the command of a word
@@ -37,6 +38,7 @@ options_of verb.Run =
 options_of verb.Admit = key.Tasks ∷ key.Machine ∷ key.Scheduler ∷ []
 options_of verb.Workload = key.Seed ∷ []
 options_of verb.Replay = key.Tasks ∷ key.Machine ∷ key.Trace ∷ []
+options_of verb.Migrate = key.Tasks ∷ key.Machine ∷ key.Trace ∷ []
 
 -- the word of an option that a command can require, or that takes a value of its own
 abbrev pub option_word : Opt → List ℕ

@@ -1,11 +1,11 @@
 // The row of each command: its required options in order, and what stands for an optional one that was not given.
 ghost use Rattle.std.specs.Prelude.{◌≡◌, IfOk};
-ghost use Rattle.words.specs.Commands.{IsReadyCommand, need, replay_of, built};
-ghost use Rattle.words.specs.Shown.{shown, shown_given, answer, files_answer};
+ghost use Rattle.words.specs.Commands.{IsReadyCommand, need, trace_command, built};
+ghost use Rattle.words.specs.Shown.{shown, shown_given, answer};
 ghost use Rattle.words.specs.declared.table.Verb.TheVariants as verb;
 
 use crate::command::{Command, Opt, WordFault};
-use crate::given::{Given, TraceFiles};
+use crate::given::{Given, TraceUse};
 use crate::table::Verb;
 use dvs_base::{Version, is_pair};
 
@@ -55,32 +55,25 @@ fn admitted<'a>(given: Given<'a>) -> Result<Command<'a>, WordFault>
     })
 }
 
-// The files of a trace, by the values that were given.
-fn files_of<'a>(given: Given<'a>) -> Result<TraceFiles<'a>, WordFault>
-    ensures { files_answer result ≡ replay_of (shown_given given.entry) }
+// A replay or a migration by the values that were given.
+fn traced<'a>(given: Given<'a>, asked: TraceUse) -> Result<Command<'a>, WordFault>
+    ensures { answer result ≡ trace_command asked (shown_given given.entry) }
 {
     let tasks = need(given.tasks, Opt::Tasks)?;
     let machine = need(given.machine, Opt::Machine)?;
     let trace = need(given.trace, Opt::Trace)?;
-    Ok(TraceFiles {
-        tasks,
-        machine,
-        trace,
+    Ok(match asked {
+        TraceUse::Replay => Command::Replay {
+            tasks,
+            machine,
+            trace,
+        },
+        TraceUse::Migrate => Command::Migrate {
+            tasks,
+            machine,
+            trace,
+        },
     })
-}
-
-// A replay by the values that were given.
-fn replayed<'a>(given: Given<'a>) -> Result<Command<'a>, WordFault>
-    ensures { answer result ≡ built verb.Replay (shown_given given.entry) }
-{
-    match files_of(given) {
-        Ok(files) => Ok(Command::Replay {
-            tasks: files.tasks,
-            machine: files.machine,
-            trace: files.trace,
-        }),
-        Err(fault) => Err(fault),
-    }
 }
 
 // A workload by the seed that was given.
@@ -100,7 +93,8 @@ pub fn built<'a>(verb: Verb, given: Given<'a>) -> Result<Command<'a>, WordFault>
     match verb {
         Verb::Run => planned(given),
         Verb::Admit => admitted(given),
-        Verb::Replay => replayed(given),
+        Verb::Replay => traced(given, TraceUse::Replay),
+        Verb::Migrate => traced(given, TraceUse::Migrate),
         Verb::Workload => made(given),
     }
 }

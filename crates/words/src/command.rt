@@ -48,6 +48,12 @@ pub enum Command<'a> {
         machine: &'a str,
         trace: &'a str,
     },
+    /// Print a trace in version 2, if it is that of the run that it tells.
+    Migrate {
+        tasks: &'a str,
+        machine: &'a str,
+        trace: &'a str,
+    },
     /// Run what is made from a seed, under each governor.
     Workload {
         seed: u64,

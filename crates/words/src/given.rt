@@ -17,10 +17,11 @@ pub struct Given<'a> {
     pub format: Option<Version>,
 }
 
-/// The files of a trace: those of the plan that it tells, and its own.
+/// What is done with a trace that is that of the run that it tells.
 #[derive(Clone, Copy, Debug, PartialEq, Eq)]
-pub struct TraceFiles<'a> {
-    pub tasks: &'a str,
-    pub machine: &'a str,
-    pub trace: &'a str,
+pub enum TraceUse {
+    /// Its totals are printed.
+    Replay,
+    /// Its text in version 2 is printed.
+    Migrate,
 }

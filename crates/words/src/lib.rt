@@ -14,6 +14,7 @@ mod ticks;
 mod value;
 
 pub use command::{Command, Opt, WordFault};
+pub use given::TraceUse;
 pub use read::read_words;
 pub use table::option_word;
 

@@ -11,6 +11,7 @@ pub enum Verb {
     Run,
     Admit,
     Replay,
+    Migrate,
     Workload,
 }
 
@@ -37,6 +38,7 @@ pub fn verb_of(word: &str) -> Option<Verb>
         "run" => Some(Verb::Run),
         "admit" => Some(Verb::Admit),
         "replay" => Some(Verb::Replay),
+        "migrate" => Some(Verb::Migrate),
         "workload" => Some(Verb::Workload),
         _ => None,
     }
@@ -58,7 +60,7 @@ pub fn options_of(verb: Verb) -> &'static [Key]
             Key::Format,
         ],
         Verb::Admit => &[Key::Tasks, Key::Machine, Key::Scheduler],
-        Verb::Replay => &[Key::Tasks, Key::Machine, Key::Trace],
+        Verb::Replay | Verb::Migrate => &[Key::Tasks, Key::Machine, Key::Trace],
         Verb::Workload => &[Key::Seed],
     }
 }

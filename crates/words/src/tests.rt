@@ -269,6 +269,24 @@ fn a_trace_is_replayed(rt: HostRuntime) -> Result<(), Fail> {
 }
 
 #[test]
+fn a_trace_is_migrated(rt: HostRuntime) -> Result<(), Fail> {
+    let alloc = rt.alloc();
+    let migrate = Command::Migrate {
+        tasks: "t",
+        machine: "m",
+        trace: "r",
+    };
+    assert!(rt; is_read_as(alloc, "migrate --machine m --trace r --tasks t", migrate)?);
+    assert!(rt; fault_of(alloc, "migrate --trace")? == no_value(2, "--trace"));
+    assert!(rt; fault_of(alloc, "migrate --trace r --trace r")? == repeated(4, "--trace"));
+    assert!(rt; fault_of(alloc, "migrate --trace r --machine m")? == missing(Opt::Tasks));
+    assert!(rt; fault_of(alloc, "migrate --tasks t --machine m")? == missing(Opt::Trace));
+    assert!(rt; fault_of(alloc, "migrate --tasks t --format 2")? == unexpected(4, "--format"));
+    assert!(rt; fault_of(alloc, "Migrate --tasks t")? == bad_command("Migrate"));
+    Ok(())
+}
+
+#[test]
 fn probes_and_a_version_may_be_asked_for(rt: HostRuntime) -> Result<(), Fail> {
     let alloc = rt.alloc();
     let run = Command::Run {
