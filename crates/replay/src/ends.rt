@@ -92,8 +92,8 @@ fn fix(plan: &Admitted, note: &Note, demands: &mut Demands) -> Result<(), NoMemo
     Ok(())
 }
 
-/// The demand list that notes fix, whose ends of jobs tell at most their worst cases.
-pub(crate) fn fixed_demands(
+/// The demand list that notes fix, whose ends of jobs tell at most their worst cases. It fails only where memory runs out.
+pub fn fixed_demands(
     alloc: Global,
     plan: &Admitted,
     notes: &[Note],

@@ -11,6 +11,7 @@ mod ends;
 mod fault;
 
 pub use check::replay;
+pub use ends::fixed_demands;
 pub use fault::ReplayFault;
 
 #[cfg(test)]

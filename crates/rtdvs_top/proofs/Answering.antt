@@ -4,10 +4,10 @@ use Rattle.dvs_base.specs.Outside.{Files, ShelfView, SinkView, Rose, Lacks, file
 use Rattle.dvs_base.specs.Checks.{and_then}
 use Rattle.task_model.specs.declared.task.Task.{Task}
 use Rattle.freq_table.specs.Tables.{Table}
-use Rattle.words.specs.Commands.{RunOf, CommandOf, run, admit, replay, workload}
+use Rattle.words.specs.Commands.{RunOf, CommandOf, run, admit, traced, workload}
 use Rattle.rtdvs_top.specs.Answer.{tasks_at, machine_at, demands_at, run_after_tasks, admit_after_tasks}
-use Rattle.words.specs.Commands.{ReplayOf}
-use Rattle.rtdvs_top.specs.ReplayAnswer.{replay_after_tasks}
+use Rattle.words.specs.Commands.{TracedOf}
+use Rattle.rtdvs_top.specs.ReplayAnswer.{trace_after_tasks}
 use Rattle.rtdvs_top.specs.CommandAnswer.{answer_of_command}
 use Rattle.rtdvs_top.specs.Causes.{LoadOf, NamedLoadFails, PassesBefore, files_for}
 use Rattle.rtdvs_top.specs.Ending.{EndsAs, Leaves}
@@ -46,8 +46,8 @@ module _ (files : Files) where
   gone : (old : ShelfView) (name : List ℕ) → old.held ≡ Some files → Lacks old.held name → file_of files name ≡ None
   gone old name told lacks = subst (λ (t : Option Files). Lacks t name) told lacks
 
-  trace-answer : (r : ReplayOf) (tasks : List Task) (machine : Table) → machine_at r.machine files ≡ Ok machine
-      → file_of files r.trace ≡ None → replay_after_tasks r tasks files ≡ Err (status.Load file.Trace)
+  trace-answer : (r : TracedOf) (tasks : List Task) (machine : Table) → machine_at r.machine files ≡ Ok machine
+      → file_of files r.trace ≡ None → trace_after_tasks r tasks files ≡ Err (status.Load file.Trace)
   trace-answer r tasks machine m lacks = rw (m, lacks) refl
 
   -- where a file of the command is lacking, and those before it were read, the answer is that its load fails
@@ -60,20 +60,20 @@ module _ (files : Files) where
   lacks-answer old new (run r) file.Trace told fails passes = absurd fails
   lacks-answer old new (admit a) file.Trace told fails passes = absurd fails
   lacks-answer old new (workload seed) file.Trace told fails passes = absurd fails
-  lacks-answer old new (replay r) file.Tasks told (inl lacks) passes = inl (rw (gone old r.tasks told lacks) refl)
-  lacks-answer old new (replay r) file.Tasks told (inr rose) passes = inr rose.0
-  lacks-answer old new (replay r) file.Machine told (inl lacks) passes =
-      let g = given-next (tasks_at r.tasks files) (λ tasks. replay_after_tasks r tasks files) passes in
-      let after : replay_after_tasks r g.0 files ≡ Err (status.Load file.Machine) =
+  lacks-answer old new (traced r) file.Tasks told (inl lacks) passes = inl (rw (gone old r.tasks told lacks) refl)
+  lacks-answer old new (traced r) file.Tasks told (inr rose) passes = inr rose.0
+  lacks-answer old new (traced r) file.Machine told (inl lacks) passes =
+      let g = given-next (tasks_at r.tasks files) (λ tasks. trace_after_tasks r tasks files) passes in
+      let after : trace_after_tasks r g.0 files ≡ Err (status.Load file.Machine) =
       rw (gone old r.machine told lacks) refl in
       inl (g.2 ∙ after)
-  lacks-answer old new (replay r) file.Machine told (inr rose) passes = inr rose.0
-  lacks-answer old new (replay r) file.Demands told fails passes = absurd fails
-  lacks-answer old new (replay r) file.Trace told (inl lacks) passes =
-      let g = given-next (tasks_at r.tasks files) (λ tasks. replay_after_tasks r tasks files) passes.0 in
+  lacks-answer old new (traced r) file.Machine told (inr rose) passes = inr rose.0
+  lacks-answer old new (traced r) file.Demands told fails passes = absurd fails
+  lacks-answer old new (traced r) file.Trace told (inl lacks) passes =
+      let g = given-next (tasks_at r.tasks files) (λ tasks. trace_after_tasks r tasks files) passes.0 in
       let m = given-value (machine_at r.machine files) passes.1 in
       inl (g.2 ∙ trace-answer r g.0 m.0 m.1 (gone old r.trace told lacks))
-  lacks-answer old new (replay r) file.Trace told (inr rose) passes = inr rose.0
+  lacks-answer old new (traced r) file.Trace told (inr rose) passes = inr rose.0
   lacks-answer old new (run r) file.Tasks told (inl lacks) passes = inl (rw (gone old r.tasks told lacks) refl)
   lacks-answer old new (run r) file.Tasks told (inr rose) passes = inr rose.0
   lacks-answer old new (admit a) file.Tasks told (inl lacks) passes = inl (rw (gone old a.tasks told lacks) refl)

@@ -143,7 +143,7 @@ within-denies-not jobs bytes = go (nat_lt MOST_JOBS jobs)
     go false = refl
 
 -- a plan that passes its scheduler's test is admitted
-passes-admission : (sch : Scheduler) (p : Plan) → PassesTest sch p → admission_by sch p ≡ Ok p
+pub passes-admission : (sch : Scheduler) (p : Plan) → PassesTest sch p → admission_by sch p ≡ Ok p
 passes-admission Edf p h =
     let fits : nat_lt (top_speed p * hyper p) (total_rate p) ≡ false = grind (arith, nat_tests) in
     rw fits refl

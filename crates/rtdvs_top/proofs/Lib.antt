@@ -16,3 +16,5 @@ pub mod Shows
 pub mod FewJobs
 pub mod FiveLines
 pub mod Comparisons
+pub mod Migrating
+pub mod Exactness

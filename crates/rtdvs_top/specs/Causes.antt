@@ -1,7 +1,7 @@
 -- What a status says, and why it comes.
 use Rattle.std.specs.Prelude.{IsOk, ◌≡◌, ◌⊎◌, ℕ, ◌+◌, ◌<◌, ◌≤◌, List, [], Option, Some, None, Result, Ok, Err, ⊤}
 use Rattle.dvs_base.specs.Outside.{Files, ShelfView, Lacks, Rose}
-use Rattle.words.specs.Commands.{RunOf, CommandOf, run, admit, replay, workload}
+use Rattle.words.specs.Commands.{RunOf, CommandOf, run, admit, traced, workload}
 use Rattle.rtdvs_top.specs.Answer.{tasks_at, machine_at}
 use Rattle.rtdvs_top.specs.declared.status.FileKind.{FileKind}
 use Rattle.rtdvs_top.specs.declared.status.FileKind.TheVariants as file
@@ -83,42 +83,42 @@ LaterLoad old new r s = ⊤
 abbrev pub loads_of : CommandOf → ℕ
 loads_of (run r) = 1 + loads_named r.demands + 1
 loads_of (admit a) = 2
-loads_of (replay r) = 3
+loads_of (traced r) = 3
 loads_of (workload seed) = 0
 
 -- the files that a command's answer is of: those that the shelf tells; a made workload is of none
 abbrev pub files_for : Option Files → CommandOf → Option Files
 files_for held (run r) = held
 files_for held (admit a) = held
-files_for held (replay r) = held
+files_for held (traced r) = held
 files_for held (workload seed) = Some []
 
 -- the file of tasks that a command names, where it names one
 abbrev pub tasks_name : CommandOf → Option (List ℕ)
 tasks_name (run r) = Some r.tasks
 tasks_name (admit a) = Some a.tasks
-tasks_name (replay r) = Some r.tasks
+tasks_name (traced r) = Some r.tasks
 tasks_name (workload seed) = None
 
 -- the file of a machine that a command names, where it names one
 abbrev pub machine_name : CommandOf → Option (List ℕ)
 machine_name (run r) = Some r.machine
 machine_name (admit a) = Some a.machine
-machine_name (replay r) = Some r.machine
+machine_name (traced r) = Some r.machine
 machine_name (workload seed) = None
 
 -- the file of demands that a command names, where it names one
 abbrev pub demands_name : CommandOf → Option (List ℕ)
 demands_name (run r) = r.demands
 demands_name (admit a) = None
-demands_name (replay r) = None
+demands_name (traced r) = None
 demands_name (workload seed) = None
 
 -- the file of a trace that a command names, where it names one
 abbrev pub trace_name : CommandOf → Option (List ℕ)
 trace_name (run r) = None
 trace_name (admit a) = None
-trace_name (replay r) = Some r.trace
+trace_name (traced r) = Some r.trace
 trace_name (workload seed) = None
 
 -- why a load of a command failed, by its place: the tasks first, then the machine, and then the demands or the trace

@@ -14,13 +14,15 @@ use Rattle.sched_model.specs.Ticks.{Tick}
 use Rattle.trace_reader.specs.TraceText.{whole_text}
 use Rattle.done_lines.specs.RunText.{task_texts, run_text_in}
 use Rattle.sched_model.specs.Deadlines.{IsMet}
-use Rattle.sched_model.specs.Admission.{PassesTest}
+use Rattle.sched_model.specs.Admission.{PassesTest, IsAdmitted}
 use Rattle.sched_model.specs.Schedule.{schedule, AlwaysMeets, HasSchedule, HasNoOther}
 use Rattle.sched_model.specs.TheSchedule.{IsTheSchedule}
 use Rattle.done_lines.specs.DoneLines.{TellsDeadlines}
 use Rattle.event_kernel.specs.Runs.{Run, demands_of, notes_of_run, MeetsDeadlines, MeetsDemands}
 use Rattle.rtdvs_top.specs.Answer.{within_jobs, prepared_of, tasks_at}
-use Rattle.words.specs.Commands.{RunOf, CommandOf, run}
+use Rattle.words.specs.Commands.{RunOf, TracedOf, CommandOf, run, traced}
+use Rattle.trace_reader.specs.Traces.{TraceOf}
+use Rattle.rtdvs_top.specs.ReplayAnswer.{traced_of}
 use Rattle.rtdvs_top.specs.Causes.{EndsWith, IsRefusal, Gives}
 use Rattle.event_kernel.specs.Lines.{Wrote, WroteSome}
 use Rattle.rtdvs_top.specs.declared.status.Status.{Status}
@@ -119,8 +121,15 @@ MetBy told r tasks status.Done =
     × HasMet r.version r.governor (run_with r p d)
 MetBy told r tasks s = ⊤
 
+-- a replay or a migration that was done, of these tasks, compared a trace with the schedule of an admitted plan
+abbrev pub MetTraced : Option Files → TracedOf → List Task → Status → Type 0
+MetTraced told r tasks status.Done = (p : Plan) × (t : TraceOf) × Gives told (traced_of r tasks) (p, t) × IsAdmitted p
+MetTraced told r tasks s = ⊤
+
 -- the same of a command, with the tasks of its file
 abbrev pub MetIn : Option Files → CommandOf → Status → Type 0
 MetIn told (run r) status.Done =
     (tasks : List Task) × Gives told (tasks_at r.tasks) tasks × MetBy told r tasks status.Done
+MetIn told (traced r) status.Done =
+    (tasks : List Task) × Gives told (tasks_at r.tasks) tasks × MetTraced told r tasks status.Done
 MetIn told c s = ⊤

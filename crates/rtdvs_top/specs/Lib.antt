@@ -16,3 +16,4 @@ pub mod EdfRuns
 pub mod ReplayAnswer
 pub mod CommandAnswer
 pub mod ReplayCauses
+pub mod Exactness

@@ -1,4 +1,4 @@
--- The answer to a replay of a trace, where every file is told, nothing fails and memory is found.
+-- The answer to a replay or a migration of a trace, where every file is told, nothing fails and memory is found.
 use Rattle.std.specs.Prelude.{ℕ, List, [], ◌∷◌, map, codes, decimal, Result, Ok, Err}
 use Rattle.dvs_base.specs.Checks.{and_then}
 use Rattle.dvs_base.specs.Outside.{Files}
@@ -6,27 +6,30 @@ use Rattle.dvs_base.specs.declared.kind.Version.TheVariants.{Two}
 use Rattle.dvs_base.specs.declared.note.Totals.{Totals}
 use Rattle.trace_text.specs.TraceLines.{line}
 use Rattle.task_model.specs.declared.task.Task.{Task}
-use Rattle.sched_model.specs.Plan.{Plan, plan_of}
+use Rattle.sched_model.specs.Plan.{Plan, plan_of, names}
+use Rattle.done_lines.specs.RunText.{task_texts}
 use Rattle.sched_model.specs.Demand.{published}
 use Rattle.trace_reader.specs.declared.trace.TaskLine.{TaskLine}
 use Rattle.trace_reader.specs.declared.trace.TraceFault.{TraceFault}
 use Rattle.trace_reader.specs.declared.trace.TraceFault.TheVariants as trace_fault
 use Rattle.trace_reader.specs.TraceFile.{trace_file}
-use Rattle.trace_reader.specs.Traces.{TraceOf, task_lines}
+use Rattle.trace_reader.specs.Traces.{TraceOf, task_lines, text_of}
 use Rattle.replay.specs.Replays.{replay_of}
 use Rattle.replay.specs.declared.fault.ReplayFault.{ReplayFault}
 use Rattle.replay.specs.declared.fault.ReplayFault.TheVariants as replay_fault
-use Rattle.words.specs.Commands.{ReplayOf}
+use Rattle.words.specs.Commands.{TracedOf}
+use Rattle.words.specs.declared.given.TraceUse.{TraceUse}
+use Rattle.words.specs.declared.given.TraceUse.TheVariants.{Replay, Migrate}
 use Rattle.rtdvs_top.specs.Answer.{bytes_at, tasks_at, machine_at, admission}
-use Rattle.rtdvs_top.specs.declared.traced.TraceFiles.{TraceFiles}
+use Rattle.rtdvs_top.specs.declared.traced.TraceWords.{TraceWords}
 use Rattle.rtdvs_top.specs.declared.status.FileKind.TheVariants as file
 use Rattle.rtdvs_top.specs.declared.status.TextFault.TheVariants as text
 use Rattle.rtdvs_top.specs.declared.status.Status.{Status}
 use Rattle.rtdvs_top.specs.declared.status.Status.TheVariants as status
 
 -- the texts of the words
-abbrev pub shown_files : TraceFiles → ReplayOf
-shown_files f = record { tasks = f.tasks.now; machine = f.machine.now; trace = f.trace.now }
+abbrev pub shown_trace : TraceWords → TracedOf
+shown_trace f = record { asked = f.asked; tasks = f.tasks.now; machine = f.machine.now; trace = f.trace.now }
 
 -- the names of tasks
 abbrev pub task_names : List Task → List (List ℕ)
@@ -58,9 +61,9 @@ trace_of tasks bytes = trace_file Two (task_names tasks) (lines_of_tasks tasks) 
 abbrev pub trace_at : List Task → List ℕ → Files → Result TraceOf Status
 trace_at tasks name files = and_then (bytes_at file.Trace name files) (λ bytes. trace_from (trace_of tasks bytes))
 
--- the admitted plan and the trace of a replay, after its tasks: the machine, the trace, and the test of the scheduler that
--- the trace names
-abbrev pub traced_of : ReplayOf → List Task → Files → Result (Plan × TraceOf) Status
+-- the admitted plan and the trace, after the tasks: the machine, the trace, and the test of the scheduler that the trace
+-- names
+abbrev pub traced_of : TracedOf → List Task → Files → Result (Plan × TraceOf) Status
 traced_of r tasks files =
     and_then (machine_at r.machine files) (λ machine.
     and_then (trace_at tasks r.trace files) (λ t.
@@ -88,11 +91,23 @@ abbrev pub replayed_text : Totals → List ℕ
 replayed_text t =
     line (codes "replayed" ∷ decimal t.released ∷ decimal t.finished ∷ decimal t.run ∷ decimal t.idle ∷ [])
 
--- the answer of a replay, after its tasks
-abbrev pub replay_after_tasks : ReplayOf → List Task → Files → Result (List ℕ) Status
-replay_after_tasks r tasks files =
-    and_then (traced_of r tasks files) (λ x. and_then (totals_at x) (λ totals. Ok (replayed_text totals)))
+-- the text of version 2 of a trace of a plan
+abbrev pub migrated_text : Plan → TraceOf → List ℕ
+migrated_text p t = text_of (names p) (task_texts p) (record t { version = Two })
 
--- the answer of a replay
-abbrev pub replay_answer : ReplayOf → Files → Result (List ℕ) Status
-replay_answer r files = and_then (tasks_at r.tasks files) (λ tasks. replay_after_tasks r tasks files)
+-- what is printed of a trace that is that of its schedule: by a replay its totals, by a migration its text in version 2
+abbrev pub printed : TraceUse → Plan × TraceOf → Totals → List ℕ
+printed Replay x totals = replayed_text totals
+printed Migrate x totals = migrated_text x.0 x.1
+
+-- what is answered of a trace of a plan: it is compared first
+abbrev pub answer_of_traced : TraceUse → Plan × TraceOf → Result (List ℕ) Status
+answer_of_traced asked x = and_then (totals_at x) (λ totals. Ok (printed asked x totals))
+
+-- the answer, after its tasks
+abbrev pub trace_after_tasks : TracedOf → List Task → Files → Result (List ℕ) Status
+trace_after_tasks r tasks files = and_then (traced_of r tasks files) (answer_of_traced r.asked)
+
+-- the answer
+abbrev pub trace_answer : TracedOf → Files → Result (List ℕ) Status
+trace_answer r files = and_then (tasks_at r.tasks files) (λ tasks. trace_after_tasks r tasks files)

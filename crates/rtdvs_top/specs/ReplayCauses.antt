@@ -1,4 +1,4 @@
--- Why a replay ends before its comparison.
+-- Why a replay or a migration ends before its comparison.
 use Rattle.std.specs.Prelude.{◌≡◌, ◌≤◌, Option, Some, Ok, IsOk, ⊤}
 use Rattle.std.specs.List.{AllByRecursion}
 use Rattle.dvs_base.specs.Outside.{Files, ShelfView}
@@ -10,14 +10,14 @@ use Rattle.trace_reader.specs.Traces.{TraceOf, IsEnded}
 use Rattle.replay.specs.Replays.{NamesTask}
 use Rattle.rtdvs_top.specs.Answer.{machine_at}
 use Rattle.rtdvs_top.specs.Causes.{LoadFails}
-use Rattle.words.specs.Commands.{ReplayOf}
+use Rattle.words.specs.Commands.{TracedOf}
 use Rattle.rtdvs_top.specs.ReplayAnswer.{totals_at}
 use Rattle.rtdvs_top.specs.declared.status.FileKind.TheVariants as file
 use Rattle.rtdvs_top.specs.declared.status.Status.{Status}
 use Rattle.rtdvs_top.specs.declared.status.Status.TheVariants as status
 
 -- why a load failed after the tasks: the machine first, and then the trace
-abbrev pub LaterTraceLoad : ShelfView → ShelfView → ReplayOf → Status → Type 0
+abbrev pub LaterTraceLoad : ShelfView → ShelfView → TracedOf → Status → Type 0
 LaterTraceLoad old new r (status.Load file.Tasks) = ⊥
 LaterTraceLoad old new r (status.Load file.Machine) = LoadFails old new 1 r.machine
 LaterTraceLoad old new r (status.Load file.Demands) = ⊥
@@ -25,7 +25,7 @@ LaterTraceLoad old new r (status.Load file.Trace) = LoadFails old new 2 r.trace
 LaterTraceLoad old new r s = ⊤
 
 -- a load of the trace fails only after the machine was read, where the files are told
-abbrev pub PassesTraced : Option Files → ReplayOf → Status → Type 0
+abbrev pub PassesTraced : Option Files → TracedOf → Status → Type 0
 PassesTraced (Some files) r (status.Load file.Trace) = IsOk (machine_at r.machine files)
 PassesTraced told r s = ⊤
 

@@ -11,6 +11,7 @@ ghost use Rattle.rtdvs_top.specs.Probing.{LeavesProbes, ToldIn, asks_probes};
 ghost use Rattle.rtdvs_top.specs.Shown.{IsShown};
 ghost use Rattle.rtdvs_top.specs.Ending.{EndsAs, Leaves, MetIn};
 ghost use Rattle.rtdvs_top.specs.Promises.{asked, files_told, Answers, Writes, WritesPart, IsSureOf, LoadFailed, LoadsInOrder, loads_asked, OfRun, Headline, Notes, Tells, probes_asked};
+ghost use Rattle.rtdvs_top.specs.Exactness.{OfTrace};
 ghost use Rattle.rtdvs_top.specs.Writing.{NotedAs};
 ghost use Rattle.words.specs.Commands.{IsReadyCommand};
 ghost use Rattle.words.specs.Shown.{shown};
@@ -23,15 +24,15 @@ use crate::made_lines::answer_workload;
 use crate::plan_words::{AdmitWords, RunWords};
 use crate::probe_line::put_probes;
 use crate::refusal::status_line;
-use crate::replay_answer::answer_replay;
 use crate::run_answer::answer_run;
-use crate::traced::TraceFiles;
+use crate::trace_answer::answer_trace;
+use crate::traced::TraceWords;
 use crate::writer::put_line;
 use dvs_base::{Shelf, Sink};
 use probes::Probe;
 use std::alloc::Global;
 use task_model::TaskSet;
-use words::{Command, read_words};
+use words::{Command, TraceUse, read_words};
 
 // Notes a status. A fault of the notes changes nothing else.
 fn note_status<E: Sink>(status: &Status, tasks: Option<&TaskSet>, notes: &mut E)
@@ -154,19 +155,33 @@ fn answer_command<S: Shelf, W: Sink, P: Probe>(
             machine,
             trace,
         } => {
-            let files = TraceFiles {
+            let words = TraceWords {
+                asked: TraceUse::Replay,
                 tasks,
                 machine,
                 trace,
             };
-            answer_replay(alloc, &files, shelf, out)
+            answer_trace(alloc, &words, shelf, out)
+        }
+        Command::Migrate {
+            tasks,
+            machine,
+            trace,
+        } => {
+            let words = TraceWords {
+                asked: TraceUse::Migrate,
+                tasks,
+                machine,
+                trace,
+            };
+            answer_trace(alloc, &words, shelf, out)
         }
         Command::Workload { seed } => (answer_workload(alloc, *seed, out), None),
     }
 }
 
-/// Does what the words ask for: runs a plan and writes its trace, tells whether a task set is admitted or whether a
-/// trace is that of the run that it tells, or writes what the runs of a made workload come to.
+/// Does what the words ask for: runs a plan and writes its trace, tells whether a task set is admitted, writes what the
+/// runs of a made workload come to, or tells whether a trace is that of the run that it tells, or writes it in version 2.
 ///
 /// The answer goes to `out`, and the line of a refusal to `notes`; both one put a line, which is tested, not proved. After
 /// a run with `--probes` that is done, the line of each probe that is left goes to `notes`; after the first put that fails
@@ -207,6 +222,11 @@ pub fn rtdvs<S: Shelf, W: Sink, E: Sink>(
         (Rose (S.shows shelf.old).faults (S.shows shelf.new).faults) (W.shows out.old) (W.shows out.new) result }
     ensures run { OfRun (files_told (S.shows shelf.old).held (asked words.now)) (asked words.now)
         (W.shows out.old) (W.shows out.new) result }
+
+    // which trace files are replayed and migrated: those of a schedule, and for which demands
+    ensures exact { OfTrace (files_told (S.shows shelf.old).held (asked words.now)) (asked words.now)
+        (Rose (S.shows shelf.old).faults (S.shows shelf.new).faults)
+        (Rose (W.shows out.old).faults (W.shows out.new).faults) result }
 
     // where the outside is sure, it doesn't fail
     ensures sure { IsSureOf (files_told (S.shows shelf.old).held (asked words.now)) (asked words.now) (W.shows out.old)

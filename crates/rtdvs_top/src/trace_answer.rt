@@ -1,23 +1,26 @@
-// The answer of a replay.
-ghost use Rattle.std.specs.Prelude.{◌≡◌, ◌<◌, length, Ok};
-ghost use Rattle.dvs_base.specs.Checks.{and_then};
-ghost use Rattle.rtdvs_top.specs.ReplayAnswer.{shown_files, totals_at, replayed_text, replay_after_tasks, replay_answer};
-ghost use Rattle.words.specs.Commands.{replay as replay_of};
+// The answer of a replay or of a migration.
+ghost use Rattle.std.specs.Prelude.{◌<◌, ◌≡◌, length, IsOk, Ok};
+ghost use Rattle.rtdvs_top.specs.ReplayAnswer.{shown_trace, totals_at, replayed_text, migrated_text, answer_of_traced, trace_after_tasks, trace_answer};
+ghost use Rattle.words.specs.Commands.{traced};
 ghost use Rattle.rtdvs_top.specs.ReplayCauses.{IsComparable, PassesTraced, LaterTraceLoad};
 ghost use Rattle.rtdvs_top.specs.Causes.{MakesLoads, IsNoLoad, LoadOf, PassesBefore, loads_of};
 ghost use Rattle.rtdvs_top.specs.Naming.{NamedBy, NamedIfDone};
-ghost use Rattle.rtdvs_top.specs.Ending.{Ends, EndsAs, Leaves, MetIn};
+ghost use Rattle.rtdvs_top.specs.Ending.{Ends, EndsAs, Leaves, MetTraced, MetIn};
 ghost use Rattle.rtdvs_top.specs.Shown.{IsShown};
 
 use crate::Status;
 use crate::files::load_tasks;
-use crate::traced::{TraceFiles, compare_pair, load_traced};
+use crate::run::{PlannedRun, WrittenRun, run_plan};
+use crate::traced::{TraceWords, compare_pair, load_traced};
 use crate::writer::put_line;
-use dvs_base::{Failed, Line, Part, Shelf, Sink, Totals, line_of};
+use dvs_base::{Failed, Line, NoMemory, Part, Shelf, Sink, Totals, Version, line_of};
+use probes::Probe;
+use replay::fixed_demands;
 use sched_model::Admitted;
 use std::alloc::Global;
 use task_model::TaskSet;
 use trace_reader::Trace;
+use words::TraceUse;
 
 // The line of a replay.
 fn replayed_line(totals: Totals) -> Line
@@ -51,65 +54,104 @@ fn put_replayed<W: Sink>(totals: Totals, out: &mut W) -> Status
     }
 }
 
-// Compares a trace with its schedule, and puts the line of a replay.
-fn replay_traced<W: Sink>(alloc: Global, plan: &Admitted, trace: &Trace, out: &mut W) -> Status
-    requires { IsComparable plan.now trace.now }
-    ensures ended { Ends (W.shows out.old) (W.shows out.new)
-        (and_then (totals_at (plan.now, trace.now)) (λ totals. Ok (replayed_text totals))) result }
+// Puts the text of version 2 of a trace that was compared: the kernel writes the schedule for the demands that it fixes.
+fn put_migrated<W: Sink>(alloc: Global, plan: &Admitted, trace: &Trace, out: &mut W) -> Status
+    requires trace { IsComparable plan.now trace.now }
+    requires compared { IsOk (totals_at (plan.now, trace.now)) }
+    ensures ended { Ends (W.shows out.old) (W.shows out.new) (Ok (migrated_text plan.now trace.now)) result }
     ensures leaves { Leaves result out.old out.new }
     ensures loads { IsNoLoad result }
     ensures shown { IsShown result }
 {
-    match compare_pair(alloc, plan, trace) {
-        Ok(totals) => put_replayed(totals, out),
-        Err(status) => status,
+    plan.known();
+    let demands = match fixed_demands(alloc, plan, &trace.notes) {
+        Ok(demands) => demands,
+        Err(NoMemory) => return Status::NoMemory,
+    };
+    let run = PlannedRun {
+        plan,
+        demands: &demands,
+        ticks: trace.plan.ticks,
+    };
+    let written = WrittenRun {
+        run,
+        version: Version::Two,
+        probes: false,
+    };
+    let mut none: Vec<Box<dyn Probe>> = Vec::new(alloc);
+    run_plan(alloc, &written, trace.plan.governor, out, &mut none)
+}
+
+// Compares a trace with its schedule, and then puts what is asked for of it.
+fn answer_traced<W: Sink>(
+    alloc: Global,
+    asked: TraceUse,
+    plan: &Admitted,
+    trace: &Trace,
+    out: &mut W,
+) -> Status
+    requires { IsComparable plan.now trace.now }
+    ensures ended { Ends (W.shows out.old) (W.shows out.new) (answer_of_traced asked (plan.now, trace.now)) result }
+    ensures leaves { Leaves result out.old out.new }
+    ensures loads { IsNoLoad result }
+    ensures shown { IsShown result }
+{
+    let totals = match compare_pair(alloc, plan, trace) {
+        Ok(totals) => totals,
+        Err(status) => return status,
+    };
+    match asked {
+        TraceUse::Replay => put_replayed(totals, out),
+        TraceUse::Migrate => put_migrated(alloc, plan, trace, out),
     }
 }
 
-// The answer of a replay, after its tasks.
-fn replay_tasks<S: Shelf, W: Sink>(
+// The answer, after its tasks.
+fn trace_tasks<S: Shelf, W: Sink>(
     alloc: Global,
-    files: &TraceFiles<'_>,
+    words: &TraceWords<'_>,
     tasks: &TaskSet,
     shelf: &mut S,
     out: &mut W,
 ) -> Status
     ensures ended { EndsAs (W.shows out.old) (W.shows out.new) (S.shows shelf.old).held
-        (replay_after_tasks (shown_files files.now) tasks.now) result }
+        (trace_after_tasks (shown_trace words.now) tasks.now) result }
     ensures leaves { Leaves result out.old out.new }
-    ensures passed { PassesTraced (S.shows shelf.old).held (shown_files files.now) result }
-    ensures explained { LaterTraceLoad (S.shows shelf.old) (S.shows shelf.new) (shown_files files.now) result }
+    ensures met { MetTraced (S.shows shelf.old).held (shown_trace words.now) tasks.now result }
+    ensures passed { PassesTraced (S.shows shelf.old).held (shown_trace words.now) result }
+    ensures explained { LaterTraceLoad (S.shows shelf.old) (S.shows shelf.new) (shown_trace words.now) result }
     ensures loads { MakesLoads 2 (S.shows shelf.old) (S.shows shelf.new) }
     ensures shown { IsShown result }
 {
-    match load_traced(alloc, files, tasks, shelf) {
-        Ok((plan, trace)) => replay_traced(alloc, &plan, &trace, out),
+    match load_traced(alloc, words, tasks, shelf) {
+        Ok((plan, trace)) => answer_traced(alloc, words.asked, &plan, &trace, out),
         Err(status) => status,
     }
 }
 
-/// The answer of a replay, and the tasks where they were read.
-pub(crate) fn answer_replay<S: Shelf, W: Sink>(
+/// The answer of a replay or of a migration, and the tasks where they were read. Nothing is put before the whole trace
+/// was compared.
+pub(crate) fn answer_trace<S: Shelf, W: Sink>(
     alloc: Global,
-    files: &TraceFiles<'_>,
+    words: &TraceWords<'_>,
     shelf: &mut S,
     out: &mut W,
 ) -> (Status, Option<TaskSet>)
     ensures ended { EndsAs (W.shows out.old) (W.shows out.new) (S.shows shelf.old).held
-        (replay_answer (shown_files files.now)) result.0 }
+        (trace_answer (shown_trace words.now)) result.0 }
     ensures leaves { Leaves result.0 out.old out.new }
-    ensures met { MetIn (S.shows shelf.old).held (replay_of (shown_files files.now)) result.0 }
-    ensures named { NamedBy (S.shows shelf.old).held (replay_of (shown_files files.now)) result.1 result.0 }
-    ensures named_done { NamedIfDone (S.shows shelf.old).held (replay_of (shown_files files.now)) result.1 result.0 }
-    ensures passed { PassesBefore (S.shows shelf.old).held (replay_of (shown_files files.now)) result.0 }
-    ensures explained { LoadOf (S.shows shelf.old) (S.shows shelf.new) (replay_of (shown_files files.now)) result.0 }
-    ensures loads { MakesLoads (loads_of (replay_of (shown_files files.now))) (S.shows shelf.old) (S.shows shelf.new) }
+    ensures met { MetIn (S.shows shelf.old).held (traced (shown_trace words.now)) result.0 }
+    ensures named { NamedBy (S.shows shelf.old).held (traced (shown_trace words.now)) result.1 result.0 }
+    ensures named_done { NamedIfDone (S.shows shelf.old).held (traced (shown_trace words.now)) result.1 result.0 }
+    ensures passed { PassesBefore (S.shows shelf.old).held (traced (shown_trace words.now)) result.0 }
+    ensures explained { LoadOf (S.shows shelf.old) (S.shows shelf.new) (traced (shown_trace words.now)) result.0 }
+    ensures loads { MakesLoads (loads_of (traced (shown_trace words.now))) (S.shows shelf.old) (S.shows shelf.new) }
     ensures shown { IsShown result.0 }
 {
-    let tasks = match load_tasks(alloc, files.tasks, shelf) {
+    let tasks = match load_tasks(alloc, words.tasks, shelf) {
         Ok(tasks) => tasks,
         Err(status) => return (status, None),
     };
-    let status = replay_tasks(alloc, files, &tasks, shelf, out);
+    let status = trace_tasks(alloc, words, &tasks, shelf, out);
     (status, Some(tasks))
 }

@@ -2,7 +2,8 @@
 ghost use Rattle.std.specs.Prelude.{◌≡◌, map, IfOk, IfErr};
 ghost use Rattle.dvs_base.specs.Checks.{IsUnlessMemory};
 ghost use Rattle.trace_reader.specs.Traces.{IsTrace};
-ghost use Rattle.rtdvs_top.specs.ReplayAnswer.{shown_files, task_names, task_line, lines_of_tasks, trace_status, trace_of, trace_at, traced_of, replay_status, totals_at};
+ghost use Rattle.sched_model.specs.Admission.{IsAdmitted};
+ghost use Rattle.rtdvs_top.specs.ReplayAnswer.{shown_trace, task_names, task_line, lines_of_tasks, trace_status, trace_of, trace_at, traced_of, replay_status, totals_at};
 ghost use Rattle.rtdvs_top.specs.ReplayCauses.{IsComparable, IsCompared, PassesTraced, LaterTraceLoad};
 ghost use Rattle.rtdvs_top.specs.Causes.{EndsWith, Gives, Refuses, MakesLoads, IsLoadOf, IsNoLoad};
 ghost use Rattle.rtdvs_top.specs.Shown.{IsShown};
@@ -21,10 +22,12 @@ use static_gov::{Full, Static};
 use std::alloc::Global;
 use task_model::TaskSet;
 use trace_reader::{TaskLine, Trace, TraceFault, read_any};
+use words::TraceUse;
 
-/// What the words of a replay or of a migration name.
+/// What the words of a replay or of a migration name, and which of the two they ask for.
 #[derive(Clone, Copy)]
-pub struct TraceFiles<'a> {
+pub struct TraceWords<'a> {
+    pub asked: TraceUse,
     pub tasks: &'a str,
     pub machine: &'a str,
     pub trace: &'a str,
@@ -111,26 +114,27 @@ fn load_trace<S: Shelf>(
     }
 }
 
-/// The admitted plan and the trace of a replay, after its tasks.
+/// The admitted plan and the trace, after the tasks.
 pub(crate) fn load_traced<S: Shelf>(
     alloc: Global,
-    files: &TraceFiles<'_>,
+    words: &TraceWords<'_>,
     tasks: &TaskSet,
     shelf: &mut S,
 ) -> Result<(Admitted, Trace), Status>
     ensures read { IfOk result
-        (λ x. Gives (S.shows shelf.old).held (traced_of (shown_files files.now) tasks.now) (x.0, x.1)) }
+        (λ x. Gives (S.shows shelf.old).held (traced_of (shown_trace words.now) tasks.now) (x.0, x.1)) }
     ensures compared { IfOk result (λ x. IsComparable x.0 x.1) }
-    ensures tasks { IfOk result (λ x. x.0.tasks ≡ tasks.now) }
-    ensures refused { IfErr result (Refuses (S.shows shelf.old).held (traced_of (shown_files files.now) tasks.now)) }
-    ensures passed { IfErr result (PassesTraced (S.shows shelf.old).held (shown_files files.now)) }
-    ensures explained { IfErr result (LaterTraceLoad (S.shows shelf.old) (S.shows shelf.new) (shown_files files.now)) }
+    ensures admitted { IfOk result (λ x. IsAdmitted x.0) }
+    ensures refused { IfErr result (Refuses (S.shows shelf.old).held (traced_of (shown_trace words.now) tasks.now)) }
+    ensures passed { IfErr result (PassesTraced (S.shows shelf.old).held (shown_trace words.now)) }
+    ensures explained { IfErr result (LaterTraceLoad (S.shows shelf.old) (S.shows shelf.new) (shown_trace words.now)) }
     ensures loads { MakesLoads 2 (S.shows shelf.old) (S.shows shelf.new) }
     ensures shown { IfErr result IsShown }
 {
-    let machine = load_machine(alloc, files.machine, shelf)?;
-    let trace = load_trace(alloc, files.trace, tasks, shelf)?;
+    let machine = load_machine(alloc, words.machine, shelf)?;
+    let trace = load_trace(alloc, words.trace, tasks, shelf)?;
     let plan = admit(alloc, trace.plan.scheduler, tasks, &machine)?;
+    plan.known();
     Ok((plan, trace))
 }
 

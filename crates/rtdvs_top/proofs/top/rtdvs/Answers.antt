@@ -6,7 +6,9 @@ use Rattle.words.specs.declared.command.WordFault.{WordFault}
 use Rattle.rtdvs_top.specs.Promises.{files_told, Answers, IsSureOf, OfRun, Headline, Notes}
 use Rattle.rtdvs_top.proofs.Answering.{answers-of, sure-of}
 use Rattle.rtdvs_top.proofs.Noting.{notes-of}
+use Rattle.rtdvs_top.specs.Exactness.{OfTrace}
 use Rattle.rtdvs_top.proofs.Headlines.{of-run, headline-of}
+use Rattle.rtdvs_top.proofs.Exactness.{of-trace}
 use Rattle.rtdvs_top.proofs.top.rtdvs.Goals as goal
 
 pub returns-clause-answers : goal.returns-clause-answers
@@ -45,6 +47,21 @@ returns-clause-headline g c =
     Headline (files_told old.held command) command (Rose old.faults new.faults) out_old out_new s)
     c.in-Ok.ensures.read
     (headline-of _ (Ok _) (Rose old.faults new.faults) out_old out_new s (of-run _ _ s out_old out_new e.ended e.met)
+    (answers-of _ _ old new out_old out_new s refl e.ended e.explained e.passed))
+
+pub returns-clause-exact : goal.returns-clause-exact
+returns-clause-exact g c =
+    let old = g.S.Shelf.shows c.args.shelf.now in
+    let new = g.S.Shelf.shows c.answer_command-status.new.shelf in
+    let out_old = g.W.Sink.shows c.args.out.now in
+    let out_new = g.W.Sink.shows c.answer_command-status.new.out in
+    let e = c.answer_command-status.ensures in
+    let s = c.answer_command-status.result.0 in
+    subst
+    (λ (command : Result CommandOf WordFault).
+    OfTrace (files_told old.held command) command (Rose old.faults new.faults) (Rose out_old.faults out_new.faults) s)
+    c.in-Ok.ensures.read
+    (of-trace _ _ (Rose old.faults new.faults) (Rose out_old.faults out_new.faults) s e.met
     (answers-of _ _ old new out_old out_new s refl e.ended e.explained e.passed))
 
 pub returns-clause-sure : goal.returns-clause-sure

@@ -1,0 +1,225 @@
+-- A replay or a migration is done exactly where the trace file tells a schedule.
+use Rattle.std.proofs.Common.{◌≡◌, ◌⊎◌, inl, inr, ℕ, suc, ◌≤◌, ◌<◌, Bool, true, false, List, [], ◌∷◌, ◌++◌, length, map, Option, Some, None, Result, Ok, Err, IsOk, refl, sym, ap, ◌∙◌, subst, arith, true≢false, nat_lt, if◌then◌else◌}
+use Rattle.std.proofs.lemmas.Bool.Decides.{nat_tests}
+use Rattle.dvs_base.specs.Outside.{Files}
+use Rattle.dvs_base.specs.Checks.{and_then}
+use Rattle.dvs_base.specs.declared.kind.GovernorKind.{GovernorKind}
+use Rattle.dvs_base.specs.declared.kind.Version.{Version}
+use Rattle.dvs_base.specs.declared.kind.Version.TheVariants.{Two}
+use Rattle.dvs_base.specs.declared.note.Note.{Note}
+use Rattle.dvs_base.specs.declared.note.Totals.{Totals}
+use Rattle.dvs_base.specs.declared.limits.TheConstants.{MOST_JOBS}
+use Rattle.grid_fraction.specs.Numbers.{list_below}
+use Rattle.task_model.specs.declared.task.Task.{Task}
+use Rattle.task_model.specs.Tasks.{task_at, IsTask}
+use Rattle.task_model.specs.DemandRows.{DemandRow}
+use Rattle.freq_table.specs.Tables.{Table}
+use Rattle.sched_model.specs.Plan.{Plan, plan_of, names}
+use Rattle.sched_model.specs.Admission.{IsAdmitted}
+use Rattle.sched_model.specs.Demand.{published}
+use Rattle.sched_model.specs.Demands.{demand_of}
+use Rattle.sched_model.specs.Jobs.{released_jobs}
+use Rattle.sched_model.specs.Totals.{totals_of}
+use Rattle.done_lines.specs.RunText.{task_texts}
+use Rattle.trace_text.specs.TraceLines.{name_of}
+use Rattle.trace_reader.specs.VersionLines.{task_text}
+use Rattle.trace_reader.specs.declared.trace.TraceFault.{TraceFault}
+use Rattle.trace_reader.specs.Traces.{TraceOf, IsTrace, IsTextOf, text_of}
+use Rattle.trace_reader.proofs.LineTexts.{AreNames}
+use Rattle.trace_reader.proofs.HeadTexts.{task_lines-lines}
+use Rattle.trace_reader.proofs.TraceTexts.{reads-found, reads-only, version-lines}
+use Rattle.replay_laws.specs.FixedDemands.{fixed_of}
+use Rattle.replay_laws.proofs.Owning.{own-lists}
+use Rattle.replay.specs.Replays.{too_many, replay_of}
+use Rattle.replay.specs.declared.fault.ReplayFault.{ReplayFault}
+use Rattle.replay.specs.declared.fault.ReplayFault.TheVariants as replay_fault
+use Rattle.replay.proofs.Comparing.{ended-once}
+use Rattle.replay.proofs.Exact.{some-replayed, is-replayed}
+use Rattle.replay.proofs.Texts.{names-distinct}
+use Rattle.words.specs.Commands.{TracedOf, CommandOf, run, admit, traced, workload}
+use Rattle.rtdvs_top.specs.Answer.{bytes_at, tasks_at, machine_at, admission}
+use Rattle.rtdvs_top.specs.ReplayAnswer.{task_line, lines_of_tasks, trace_from, trace_of, trace_at, traced_of, totals_at, printed, answer_of_traced, trace_after_tasks, trace_answer}
+use Rattle.rtdvs_top.specs.Exactness.{trace_of_run, IsScheduleText, AreFilesOf, TellsOwn, IsDoneUnless, OfTrace}
+use Rattle.rtdvs_top.specs.Promises.{IsAnswer, Answers}
+use Rattle.rtdvs_top.specs.Ending.{MetIn}
+use Rattle.rtdvs_top.specs.declared.status.FileKind.TheVariants as file
+use Rattle.rtdvs_top.specs.declared.status.Status.{Status}
+use Rattle.rtdvs_top.specs.declared.status.Status.TheVariants as status
+use Rattle.rtdvs_top.proofs.Denying.{is_given, given-both, passes-admission, admission-same}
+use Rattle.rtdvs_top.proofs.Migrating.{replayed-some, passes, own-notes}
+
+-- a list of values, from the first on
+list_below-front : {A : Type 0} (n : ℕ) (f : ℕ → A) → list_below (suc n) f ≡ f 0 ∷ list_below n (λ i. f (suc i))
+list_below-front 0 f = refl
+list_below-front (suc n) f = ap (λ l. l ++ f (suc n) ∷ []) (list_below-front n f)
+
+-- the line of a task of a list
+abbrev line_of_task : List Task → ℕ → List ℕ
+line_of_task tasks i =
+    task_text (name_of (map (λ (t : Task). t.name) tasks) i) (task_at tasks i).period (task_at tasks i).offset (task_at tasks i).worst
+
+-- the lines of the tasks, by their numbers and one after another
+task-lines : (tasks : List Task) → list_below (length tasks) (line_of_task tasks) ≡ lines_of_tasks tasks
+task-lines [] = refl
+task-lines (t ∷ tasks) =
+    list_below-front (length tasks) (line_of_task (t ∷ tasks))
+    ∙ ap (λ (l : List (List ℕ)). task_text t.name t.period t.offset t.worst ∷ l) (task-lines tasks)
+
+-- the names of tasks within their limits
+names-named : (tasks : List Task) → ((i : ℕ) → i < length tasks → IsTask (task_at tasks i))
+    → AreNames (map (λ (t : Task). t.name) tasks)
+names-named [] h = tt
+names-named (t ∷ tasks) h = ((h 0 (omega arith)).name, names-named tasks (λ i lt. h (suc i) (omega (arith, lt))))
+
+-- the limit on jobs holds where it refuses nothing
+few-of-none : (p : Plan) (ticks : ℕ) → too_many p ticks ≡ None → released_jobs p ticks ≤ MOST_JOBS
+few-of-none p ticks = go (nat_lt MOST_JOBS (released_jobs p ticks)) refl
+  where
+    go : (b : Bool) → nat_lt MOST_JOBS (released_jobs p ticks) ≡ b
+        → (if b then Some (replay_fault.TooManyJobs (released_jobs p ticks)) else None) ≡ None
+        → released_jobs p ticks ≤ MOST_JOBS
+    go true e none = absurd cc
+    go false e none = grind (arith, nat_tests, e)
+
+-- a file that tells a schedule of a plan is read, its plan admitted, and its trace the same as its schedule's
+module _ (r : TracedOf) (files : Files) (v : Version) (p : Plan) (g : GovernorKind) (ticks : ℕ) (rows : List DemandRow)
+    (bytes : List ℕ) (of : AreFilesOf r files p bytes) (h : IsScheduleText v p g ticks rows bytes) where
+  abbrev t : TraceOf
+  t = trace_of_run v p g (demand_of p rows) ticks
+
+  fits : IsTrace (names p) (lines_of_tasks p.tasks) t
+  fits = subst (λ (l : List (List ℕ)). IsTrace (names p) l t) (task-lines p.tasks) h.fits
+
+  text : bytes ≡ text_of (names p) (lines_of_tasks p.tasks) t
+  text = h.text ∙ ap (λ (l : List (List ℕ)). text_of (names p) l t) (task-lines p.tasks)
+
+  read : trace_of p.tasks bytes ≡ Ok t
+  read =
+      let named = names-named p.tasks h.admitted.limits.tasks.each in
+      let lines = version-lines v (lines_of_tasks p.tasks) (task_lines-lines (names p) (map task_line p.tasks) named) in
+      reads-only Two (names p) (lines_of_tasks p.tasks) bytes t named (names-distinct p.tasks h.admitted.limits.tasks) lines tt (fits, text)
+
+  compared : replay_of p (published p g) t ≡ Ok (totals_of t.notes)
+  compared =
+      some-replayed p h.admitted.limits (published p g) t (ended-once t.notes h.fits.ended)
+      ((own-lists p h.admitted.limits).published_own g) rows (record { within = h.within; notes_are = refl }) h.few
+
+  read-at : trace_at p.tasks r.trace files ≡ Ok t
+  read-at = rw (of.bytes_are, read) refl
+
+  admitted : admission p ≡ Ok p
+  admitted = passes-admission p.scheduler p h.admitted.test
+
+  traced-is : traced_of r p.tasks files ≡ Ok (p, t)
+  traced-is = rw (of.machine_is, read-at, admitted) refl
+
+  -- so it is done
+  pub told-done : trace_answer r files ≡ Ok (printed r.asked (p, t) (totals_of t.notes))
+  told-done = rw (of.tasks_are, traced-is, compared) refl
+
+-- what a trace file means, where it has a meaning
+trace-given : (t : TraceOf) (r : Result TraceOf TraceFault) → trace_from r ≡ Ok t → r ≡ Ok t
+trace-given t (Ok u) h = ap (λ (r : Result TraceOf Status). ok_or_it r) h
+  where
+    ok_or_it : Result TraceOf Status → Result TraceOf TraceFault
+    ok_or_it (Ok x) = Ok x
+    ok_or_it (Err s) = Ok u
+trace-given t (Err e) h = absurd (true≢false (sym (ap is_given h)))
+
+-- a trace of an admitted plan that has totals
+module _ (r : TracedOf) (files : Files) (tasks : List Task) (machine : Table) (bytes : List ℕ) (t : TraceOf) where
+  abbrev plan : Plan
+  plan = plan_of tasks machine t.plan.scheduler
+
+  own-text : tasks_at r.tasks files ≡ Ok tasks → machine_at r.machine files ≡ Ok machine
+      → bytes_at file.Trace r.trace files ≡ Ok bytes → IsTextOf (names plan) (lines_of_tasks tasks) bytes t
+      → IsAdmitted plan → IsOk (totals_at (plan, t)) → TellsOwn r files plan t
+  own-text ts ms bs found adm ok =
+      let g = t.plan.governor in
+      let ended = found.0.ended in
+      let lim = adm.limits in
+      let some = replayed-some (replay_of plan (published plan g) t) ok in
+      let own = is-replayed plan lim (published plan g) t (ended-once t.notes ended) ((own-lists plan lim).published_own g) some.0 some.1 in
+      let same : trace_of_run t.version plan g (demand_of plan (fixed_of plan t.notes)) t.plan.ticks ≡ t =
+      ap (λ (l : List Note). record { version = t.version; plan = t.plan; notes = l }) (own-notes plan lim t ended ok) in
+      let lines = sym (task-lines tasks) in
+      let text : bytes ≡ text_of (names plan) (task_texts plan) t =
+      found.1 ∙ ap (λ (l : List (List ℕ)). text_of (names plan) l t) lines in
+      let fits : IsTrace (names plan) (task_texts plan) t =
+      subst (λ (l : List (List ℕ)). IsTrace (names plan) l t) lines found.0 in
+      record {
+        files_are = record {
+          tasks_are = ts;
+          machine_is = ms;
+          bytes_are = subst (λ (b : List ℕ). bytes_at file.Trace r.trace files ≡ Ok b) text bs;
+        };
+        list = own.list;
+        schedule = record {
+          admitted = adm;
+          within = own.notes.within;
+          few = few-of-none plan t.plan.ticks (passes plan lim t ended ok).few;
+          fits = subst (IsTrace (names plan) (task_texts plan)) (sym same) fits;
+          text = ap (text_of (names plan) (task_texts plan)) (sym same);
+        };
+      }
+
+-- one that is done is of the schedule for its own list
+pub done-own : (r : TracedOf) (files : Files) (tasks : List Task) (p : Plan) (t : TraceOf)
+    → tasks_at r.tasks files ≡ Ok tasks → traced_of r tasks files ≡ Ok (p, t) → IsAdmitted p → IsOk (trace_answer r files)
+    → (q : Plan) × (u : TraceOf) × TellsOwn r files q u
+done-own r files tasks p t ts e adm ok =
+    let m = given-both (machine_at r.machine files) (λ machine. and_then (trace_at tasks r.trace files) (λ u. and_then (admission (plan_of tasks machine u.plan.scheduler)) (λ q. Ok (q, u)))) (p, t) e in
+    let machine : Table = m.0 in
+    let x = given-both (trace_at tasks r.trace files) (λ u. and_then (admission (plan_of tasks machine u.plan.scheduler)) (λ q. Ok (q, u))) (p, t) m.2 in
+    let a = given-both (admission (plan_of tasks machine x.0.plan.scheduler)) (λ q. Ok (q, x.0)) (p, t) x.2 in
+    let b = given-both (bytes_at file.Trace r.trace files) (λ bytes. trace_from (trace_of tasks bytes)) x.0 x.1 in
+    let pair : (a.0, x.0) ≡ (p, t) = ap pair_of a.2 in
+    let plan_is : p ≡ plan_of tasks machine x.0.plan.scheduler =
+    ap (λ y. y.0) (sym pair) ∙ admission-same (plan_of tasks machine x.0.plan.scheduler) a.0 a.1 in
+    let trace_is : t ≡ x.0 = ap (λ y. y.1) (sym pair) in
+    let found = (reads-found Two (map (λ (t : Task). t.name) tasks) (lines_of_tasks tasks) b.0 x.0 (trace-given x.0 (trace_of tasks b.0) b.2)).0 in
+    let answer : trace_answer r files ≡ answer_of_traced r.asked (p, t) = rw (ts, e) refl in
+    let totals : IsOk (totals_at (p, t)) = first-ok (totals_at (p, t)) (λ totals. Ok (printed r.asked (p, t) totals)) (subst IsOk answer ok) in
+    let P : Plan → TraceOf → Type 0 = λ q u. IsAdmitted q × IsOk (totals_at (q, u)) in
+    let both = subst (λ (u : TraceOf). P (plan_of tasks machine x.0.plan.scheduler) u) trace_is (subst (λ (q : Plan). P q t) plan_is (adm, totals)) in
+    (plan_of tasks machine x.0.plan.scheduler, x.0, own-text r files tasks machine b.0 x.0 ts m.1 b.1 found both.0 both.1)
+  where
+    pair_of : Result (Plan × TraceOf) Status → Plan × TraceOf
+    pair_of (Ok y) = y
+    pair_of (Err s) = (p, t)
+
+    first-ok : {A B : Type 0} (step : Result A Status) (next : A → Result B Status) → IsOk (and_then step next) → IsOk step
+    first-ok (Ok y) next h = refl
+    first-ok (Err s) next h = absurd (true≢false (sym h))
+
+-- where the answer is one, the status is done, but for what the outside and memory explain
+pub done-unless : (loads_rose puts_rose : Type 0) (answer : Result (List ℕ) Status) (s : Status)
+    → IsAnswer loads_rose puts_rose answer s → IsOk answer → IsDoneUnless loads_rose puts_rose s
+done-unless loads_rose puts_rose answer status.Done h ok = tt
+done-unless loads_rose puts_rose answer status.NoMemory h ok = tt
+done-unless loads_rose puts_rose answer (status.Load kind) (inl e) ok = absurd (true≢false (sym (subst IsOk e ok)))
+done-unless loads_rose puts_rose answer (status.Load kind) (inr rose) ok = rose
+done-unless loads_rose puts_rose answer status.Write h ok = h.1
+done-unless loads_rose puts_rose answer (status.Words why) h ok = absurd (true≢false (sym (subst IsOk h ok)))
+done-unless loads_rose puts_rose answer (status.NotAdmitted why) h ok = absurd (true≢false (sym (subst IsOk h ok)))
+done-unless loads_rose puts_rose answer (status.Text why) h ok = absurd (true≢false (sym (subst IsOk h ok)))
+done-unless loads_rose puts_rose answer (status.Limit jobs) h ok = absurd (true≢false (sym (subst IsOk h ok)))
+done-unless loads_rose puts_rose answer (status.OverWorst task job units worst) h ok = absurd (true≢false (sym (subst IsOk h ok)))
+done-unless loads_rose puts_rose answer (status.Differs line wanted found) h ok = absurd (true≢false (sym (subst IsOk h ok)))
+
+-- the exactness of a command's ending, from what it met and whose answer its status is
+pub of-trace : (told : Option Files) (c : CommandOf) (loads_rose puts_rose : Type 0) (s : Status) → MetIn told c s
+    → Answers told (Ok c) loads_rose puts_rose s → OfTrace told (Ok c) loads_rose puts_rose s
+of-trace None c loads_rose puts_rose s met answers = tt
+of-trace (Some files) (run r) loads_rose puts_rose s met answers = tt
+of-trace (Some files) (admit a) loads_rose puts_rose s met answers = tt
+of-trace (Some files) (workload seed) loads_rose puts_rose s met answers = tt
+of-trace (Some files) (traced r) loads_rose puts_rose s met answers = (
+  λ e.
+      let m = subst (MetIn (Some files) (traced r)) e met in
+      let ok = subst (IsAnswer loads_rose puts_rose (trace_answer r files)) e answers in
+      done-own r files m.0 m.2.0 m.2.1 m.1 m.2.2.0 m.2.2.1 ok,
+  λ v p g ticks rows tells.
+      let ok = subst IsOk (sym (told-done r files v p g ticks rows tells.0 tells.1 tells.2)) refl in
+      done-unless loads_rose puts_rose (trace_answer r files) s answers ok,
+)

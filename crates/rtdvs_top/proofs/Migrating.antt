@@ -1,0 +1,77 @@
+-- A trace that was compared, and the run that writes it in version 2.
+use Rattle.std.proofs.Common.{◌≡◌, ℕ, Bool, true, false, List, Option, Some, None, Result, Ok, Err, IsOk, refl, sym, ap, ◌∙◌, subst, true≢false, nat_lt, if◌then◌else◌}
+use Rattle.dvs_base.specs.declared.kind.Scheduler.{Scheduler}
+use Rattle.dvs_base.specs.declared.kind.Version.TheVariants.{Two}
+use Rattle.dvs_base.specs.declared.note.Note.{Note}
+use Rattle.dvs_base.specs.declared.note.Totals.{Totals}
+use Rattle.dvs_base.specs.declared.limits.TheConstants.{MOST_JOBS}
+use Rattle.demand_list.specs.Demands.{DemandsOf}
+use Rattle.sched_model.specs.Plan.{Plan, names}
+use Rattle.sched_model.specs.Jobs.{released_jobs}
+use Rattle.sched_model.specs.Demand.{published}
+use Rattle.sched_model.specs.Demands.{demand_of}
+use Rattle.sched_model.specs.Admission.{IsWithinLimits}
+use Rattle.sched_model.specs.Text.{run_notes}
+use Rattle.done_lines.specs.RunText.{task_texts, run_text_in}
+use Rattle.trace_reader.specs.Traces.{TraceOf, is_end, IsEnded}
+use Rattle.trace_reader.specs.TraceText.{whole_text}
+use Rattle.replay_laws.specs.FixedDemands.{fixed_of}
+use Rattle.replay_laws.proofs.OneEnd.{EndsOnce}
+use Rattle.replay.specs.Replays.{first_over, too_many, own_notes, replay_of}
+use Rattle.replay.specs.declared.fault.ReplayFault.{ReplayFault}
+use Rattle.replay.specs.declared.fault.ReplayFault.TheVariants as replay_fault
+use Rattle.replay.proofs.Comparing.{ended-once}
+use Rattle.replay.proofs.Exact.{Passes, replayed-passes}
+use Rattle.rtdvs_top.specs.Answer.{within_jobs, answer_of_plan}
+use Rattle.rtdvs_top.specs.ReplayAnswer.{totals_from, totals_at, migrated_text}
+use Rattle.rtdvs_top.specs.declared.status.Status.{Status}
+use Rattle.rtdvs_top.specs.declared.status.Status.TheVariants as status
+
+-- a replay that has totals is done
+pub replayed-some : (r : Result Totals ReplayFault) → IsOk (totals_from r) → (totals : Totals) × (r ≡ Ok totals)
+replayed-some (Ok totals) h = (totals, refl)
+replayed-some (Err why) h = absurd (true≢false (sym h))
+
+-- where few jobs are released, the limit refuses nothing
+pub within-few : (p : Plan) (ticks : ℕ) (bytes : List ℕ) → too_many p ticks ≡ None
+    → within_jobs (released_jobs p ticks) bytes ≡ Ok bytes
+within-few p ticks bytes = go (nat_lt MOST_JOBS (released_jobs p ticks))
+  where
+    go : (b : Bool) → (if b then Some (replay_fault.TooManyJobs (released_jobs p ticks)) else None) ≡ None
+        → (if b then Err (status.Limit (released_jobs p ticks)) else Ok bytes) ≡ Ok bytes
+    go true e = absurd cc
+    go false e = refl
+
+module _ (p : Plan) (lim : IsWithinLimits p) (t : TraceOf) (ended : IsEnded t.notes) where
+  ends : EndsOnce is_end t.notes
+  ends = ended-once t.notes ended
+
+  -- a trace that has totals passes the comparison
+  pub passes : IsOk (totals_at (p, t)) → Passes p lim (published p t.plan.governor) t ends
+  passes ok =
+      let asked = published p t.plan.governor in
+      let done = replayed-some (replay_of p asked t) ok in
+      (replayed-passes p lim asked t ends done.0 done.1).0
+
+  -- so no end exceeds its worst case
+  pub none-over : IsOk (totals_at (p, t)) → first_over p t.notes ≡ None
+  none-over ok = (passes ok).none_over
+
+  -- and the run for the demands that it fixes has its notes
+  pub own-notes : IsOk (totals_at (p, t))
+      → run_notes p t.plan.governor (demand_of p (fixed_of p t.notes)) t.plan.ticks ≡ t.notes
+  own-notes ok = sym (passes ok).same
+
+  -- so that run is answered by its text in version 2
+  pub migrated : IsOk (totals_at (p, t)) → (d : DemandsOf) → demand_of p d.rows ≡ demand_of p (fixed_of p t.notes)
+      → t.plan.scheduler ≡ p.scheduler → answer_of_plan Two t.plan.governor d t.plan.ticks p ≡ Ok (migrated_text p t)
+  migrated ok d demands scheduler =
+      let g = t.plan.governor in
+      let ticks = t.plan.ticks in
+      let notes : run_notes p g (demand_of p d.rows) ticks ≡ t.notes =
+      ap (λ (dem : ℕ → ℕ → ℕ). run_notes p g dem ticks) demands ∙ own-notes ok in
+      let text : run_text_in Two p g (demand_of p d.rows) ticks ≡ migrated_text p t =
+      ap (λ (l : List Note). whole_text Two p.scheduler g ticks (names p) (task_texts p) l) notes
+      ∙ ap (λ (s : Scheduler). whole_text Two s g ticks (names p) (task_texts p) t.notes) (sym scheduler) in
+      within-few p ticks (run_text_in Two p g (demand_of p d.rows) ticks) (passes ok).few
+      ∙ ap (λ (text : List ℕ). Ok text) text

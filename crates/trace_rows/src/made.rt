@@ -1,0 +1,192 @@
+// Traces of made plans with random demands: replayed, migrated, and with one byte changed.
+ghost use Rattle.std.specs.Prelude.{◌≤◌};
+
+use crate::call::Files;
+use std::alloc::Global;
+use std::test::Fail;
+use workload::make;
+
+const REPLAY: &str = "replay --tasks T --machine M --trace R";
+
+const MIGRATE: &str = "migrate --tasks T --machine M --trace R";
+
+// Every scheduler with each of its governors.
+const PAIRS: [&str; 7] = [
+    "--scheduler edf --governor none",
+    "--scheduler edf --governor static",
+    "--scheduler edf --governor cc",
+    "--scheduler edf --governor la",
+    "--scheduler rm --governor none",
+    "--scheduler rm --governor static",
+    "--scheduler rm --governor cc",
+];
+
+// Seeds whose tasks rate monotonic admits too.
+const SEEDS: [u64; 3] = [1, 2, 3];
+
+// The machine of a made workload.
+const MACHINE: &str = r"
+idle = 100
+point = [
+    {speed = 250, millivolts = 2000},
+    {speed = 500, millivolts = 3000},
+    {speed = 750, millivolts = 4000},
+    {speed = 1000, millivolts = 5000},
+]
+";
+
+// The task and demand files of a made workload of three tasks.
+#[derive(Drop)]
+struct MadeFiles {
+    tasks: String,
+    demands: String,
+}
+
+fn made_files(alloc: Global, seed: u64) -> Result<MadeFiles, Fail> {
+    let (tasks, _, demands) = make(alloc, seed, 3).map_err(|_| "workload")?;
+    let mut rows = String::from_str(alloc, "task,job,units\n")?;
+    for i in 0..tasks.count() {
+        let name = tasks.task(i).name;
+        let name = std::str::from_utf8(name.as_bytes()).map_err(|_| "name")?;
+        for job in 1..5 {
+            let units = demands.units(i, job);
+            rows.push_str(&format!(in alloc; "{name},{job},{units}\n")?)?;
+        }
+    }
+    let text = tasks.write(alloc).map_err(|_| "tasks")?;
+    Ok(MadeFiles {
+        tasks: text,
+        demands: rows,
+    })
+}
+
+impl MadeFiles {
+    fn with_trace<'a>(&'a self, trace: &'a [u8]) -> Files<'a> {
+        Files {
+            tasks: self.tasks.as_str(),
+            machine: MACHINE,
+            demands: self.demands.as_str(),
+            trace,
+        }
+    }
+
+    // The trace of the run of this pair, in this version.
+    fn trace(&self, alloc: Global, pair: &str, version: u8) -> Result<Vec<u8>, Fail> {
+        let line = format!(in alloc;
+            "run --tasks T --machine M --demands D {pair} --ticks 100 --format {version}"
+        )?;
+        let left = self.with_trace(b"").call(alloc, line.as_str(), &[])?;
+        if left.code != 0 {
+            return Err(Fail::from("run"));
+        }
+        Ok(left.out)
+    }
+}
+
+// The line of a replay, counted from a trace's own lines.
+fn replayed_line(alloc: Global, trace: &[u8]) -> Result<String, Fail> {
+    let text = std::str::from_utf8(trace).map_err(|_| "text")?;
+    let mut releases = 0u64;
+    let mut ends = 0u64;
+    let mut energies = "";
+    for line in text.split('\n') {
+        if line.starts_with("release ") {
+            releases += 1;
+        } else if line.starts_with("done ") {
+            ends += 1;
+        } else if let Some(rest) = line.strip_prefix("end 100 ") {
+            energies = rest;
+        }
+    }
+    Ok(format!(in alloc; "replayed {releases} {ends} {energies}\n")?)
+}
+
+#[test]
+fn traces_of_made_plans_are_replayed_and_migrated(rt: HostRuntime) -> Result<(), Fail> {
+    let alloc = rt.alloc();
+    for seed in SEEDS {
+        let made = made_files(alloc, seed)?;
+        for pair in PAIRS {
+            let one = made.trace(alloc, pair, 1)?;
+            let two = made.trace(alloc, pair, 2)?;
+            let line = replayed_line(alloc, one.as_slice())?;
+            for trace in [one.as_slice(), two.as_slice()] {
+                let replayed = made.with_trace(trace).call(alloc, REPLAY, &[])?;
+                assert_eq!(rt; replayed.code, 0, "{seed} {pair}");
+                assert_eq!(rt; replayed.out.as_slice(), line.as_bytes());
+                let migrated = made.with_trace(trace).call(alloc, MIGRATE, &[])?;
+                assert_eq!(rt; migrated.code, 0, "{seed} {pair}");
+                assert_eq!(rt; migrated.out.as_slice(), two.as_slice());
+            }
+        }
+    }
+    Ok(())
+}
+
+// Numbers of a linear congruential generator, whose step is Knuth's (The Art of Computer Programming, volume 2).
+#[derive(Drop)]
+struct Draws {
+    state: u64,
+}
+
+impl Draws {
+    fn below(&mut self, bound: u64) -> u64
+        requires { 1 ≤ bound }
+    {
+        self.state = self
+            .state
+            .wrapping_mul(6364136223846793005)
+            .wrapping_add(1442695040888963407);
+        (self.state >> 33) % bound
+    }
+
+    // Another byte: in the place of a digit another digit.
+    fn other(&mut self, byte: u8) -> u8 {
+        if byte.is_ascii_digit() {
+            let step = 1 + self.below(9) as u8;
+            let digit = (byte - b'0' + step) % 10;
+            b'0' + digit
+        } else {
+            byte.wrapping_add(1 + self.below(255) as u8)
+        }
+    }
+}
+
+// The trace with one of its bytes changed.
+fn changed(alloc: Global, trace: &[u8], draws: &mut Draws) -> Result<Vec<u8>, Fail> {
+    let place = draws.below(trace.len().max(1) as u64);
+    let mut bytes = Vec::new(alloc);
+    for (at, byte) in trace.iter().enumerate() {
+        let byte = if at as u64 == place {
+            draws.other(*byte)
+        } else {
+            *byte
+        };
+        bytes.push(byte)?;
+    }
+    Ok(bytes)
+}
+
+#[test]
+fn a_changed_byte_is_never_replayed(rt: HostRuntime) -> Result<(), Fail> {
+    let alloc = rt.alloc();
+    let mut draws = Draws { state: 14 };
+    for seed in SEEDS {
+        let made = made_files(alloc, seed)?;
+        for pair in PAIRS {
+            for version in [1, 2] {
+                let trace = made.trace(alloc, pair, version)?;
+                for _ in 0..4 {
+                    let other = changed(alloc, trace.as_slice(), &mut draws)?;
+                    for line in [REPLAY, MIGRATE] {
+                        let left = made.with_trace(other.as_slice()).call(alloc, line, &[])?;
+                        assert!(rt; left.code != 0, "{seed} {pair}");
+                        assert!(rt; left.out.is_empty(), "{seed} {pair}");
+                        assert!(rt; !left.notes.is_empty(), "{seed} {pair}");
+                    }
+                }
+            }
+        }
+    }
+    Ok(())
+}
