@@ -1,7 +1,8 @@
 // Traces of made plans with random demands: replayed, migrated, and with one byte changed.
-ghost use Rattle.std.specs.Prelude.{◌≤◌};
+ghost use Rattle.std.specs.Prelude.{◌≤◌, ◌<◌};
 
 use crate::call::Files;
+use crate::changed;
 use std::alloc::Global;
 use std::test::Fail;
 use workload::make;
@@ -132,6 +133,7 @@ struct Draws {
 impl Draws {
     fn below(&mut self, bound: u64) -> u64
         requires { 1 ≤ bound }
+        ensures { result < bound }
     {
         self.state = self
             .state
@@ -140,31 +142,15 @@ impl Draws {
         (self.state >> 33) % bound
     }
 
-    // Another byte: in the place of a digit another digit.
-    fn other(&mut self, byte: u8) -> u8 {
-        if byte.is_ascii_digit() {
-            let step = 1 + self.below(9) as u8;
-            let digit = (byte - b'0' + step) % 10;
-            b'0' + digit
-        } else {
-            byte.wrapping_add(1 + self.below(255) as u8)
+    // The text with one of its bytes changed.
+    fn changed(&mut self, alloc: Global, text: &[u8]) -> Result<Vec<u8>, Fail> {
+        if text.is_empty() {
+            return Err(Fail::from("no byte"));
         }
+        let place = self.below(text.len() as u64) as usize;
+        let draw = self.below(1 << 31);
+        Ok(changed(alloc, text, place, draw)?)
     }
-}
-
-// The trace with one of its bytes changed.
-fn changed(alloc: Global, trace: &[u8], draws: &mut Draws) -> Result<Vec<u8>, Fail> {
-    let place = draws.below(trace.len().max(1) as u64);
-    let mut bytes = Vec::new(alloc);
-    for (at, byte) in trace.iter().enumerate() {
-        let byte = if at as u64 == place {
-            draws.other(*byte)
-        } else {
-            *byte
-        };
-        bytes.push(byte)?;
-    }
-    Ok(bytes)
 }
 
 #[test]
@@ -177,7 +163,7 @@ fn a_changed_byte_is_never_replayed(rt: HostRuntime) -> Result<(), Fail> {
             for version in [1, 2] {
                 let trace = made.trace(alloc, pair, version)?;
                 for _ in 0..4 {
-                    let other = changed(alloc, trace.as_slice(), &mut draws)?;
+                    let other = draws.changed(alloc, trace.as_slice())?;
                     for line in [REPLAY, MIGRATE] {
                         let left = made.with_trace(other.as_slice()).call(alloc, line, &[])?;
                         assert!(rt; left.code != 0, "{seed} {pair}");
