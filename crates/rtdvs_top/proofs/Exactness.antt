@@ -1,5 +1,5 @@
 -- A replay or a migration is done exactly where the trace file tells a schedule.
-use Rattle.std.proofs.Common.{◌≡◌, ◌⊎◌, inl, inr, ℕ, suc, ◌≤◌, ◌<◌, Bool, true, false, List, [], ◌∷◌, ◌++◌, length, map, Option, Some, None, Result, Ok, Err, IsOk, refl, sym, ap, ◌∙◌, subst, arith, true≢false, nat_lt, if◌then◌else◌}
+use Rattle.std.proofs.Common.{◌≡◌, ◌⊎◌, inl, inr, ℕ, zero, suc, ◌≤◌, ◌<◌, Bool, true, false, List, [], ◌∷◌, ◌++◌, length, map, Option, Some, None, Result, Ok, Err, IsOk, refl, sym, ap, ◌∙◌, subst, arith, true≢false, nat_lt, if◌then◌else◌}
 use Rattle.std.proofs.lemmas.Bool.Decides.{nat_tests}
 use Rattle.dvs_base.specs.Outside.{Files}
 use Rattle.dvs_base.specs.Checks.{and_then}
@@ -50,8 +50,8 @@ use Rattle.rtdvs_top.proofs.Migrating.{replayed-some, passes, own-notes}
 
 -- a list of values, from the first on
 list_below-front : {A : Type 0} (n : ℕ) (f : ℕ → A) → list_below (suc n) f ≡ f 0 ∷ list_below n (λ i. f (suc i))
-list_below-front 0 f = refl
-list_below-front (suc n) f = ap (λ l. l ++ f (suc n) ∷ []) (list_below-front n f)
+list_below-front zero f = refl
+list_below-front {A} (suc n) f = ap (λ (l : List A). l ++ f (suc n) ∷ []) (list_below-front n f)
 
 -- the line of a task of a list
 abbrev line_of_task : List Task → ℕ → List ℕ
@@ -126,6 +126,10 @@ trace-given t (Ok u) h = ap (λ (r : Result TraceOf Status). ok_or_it r) h
     ok_or_it (Err s) = Ok u
 trace-given t (Err e) h = absurd (true≢false (sym (ap is_given h)))
 
+-- a trace with other notes
+abbrev with_notes : TraceOf → List Note → TraceOf
+with_notes t notes = record { version = t.version; plan = t.plan; notes = notes }
+
 -- a trace of an admitted plan that has totals
 module _ (r : TracedOf) (files : Files) (tasks : List Task) (machine : Table) (bytes : List ℕ) (t : TraceOf) where
   abbrev plan : Plan
@@ -141,7 +145,7 @@ module _ (r : TracedOf) (files : Files) (tasks : List Task) (machine : Table) (b
       let some = replayed-some (replay_of plan (published plan g) t) ok in
       let own = is-replayed plan lim (published plan g) t (ended-once t.notes ended) ((own-lists plan lim).published_own g) some.0 some.1 in
       let same : trace_of_run t.version plan g (demand_of plan (fixed_of plan t.notes)) t.plan.ticks ≡ t =
-      ap (λ (l : List Note). record { version = t.version; plan = t.plan; notes = l }) (own-notes plan lim t ended ok) in
+      ap (with_notes t) (own-notes plan lim t ended ok) in
       let lines = sym (task-lines tasks) in
       let text : bytes ≡ text_of (names plan) (task_texts plan) t =
       found.1 ∙ ap (λ (l : List (List ℕ)). text_of (names plan) l t) lines in

@@ -14,7 +14,7 @@ use crate::run::{PlannedRun, WrittenRun, run_plan};
 use crate::traced::{TraceWords, compare_pair, load_traced};
 use crate::writer::put_line;
 use dvs_base::{Failed, Line, NoMemory, Part, Shelf, Sink, Totals, Version, line_of};
-use probes::Probe;
+use probes::CountProbe;
 use replay::fixed_demands;
 use sched_model::Admitted;
 use std::alloc::Global;
@@ -78,7 +78,7 @@ fn put_migrated<W: Sink>(alloc: Global, plan: &Admitted, trace: &Trace, out: &mu
         version: Version::Two,
         probes: false,
     };
-    let mut none: Vec<Box<dyn Probe>> = Vec::new(alloc);
+    let mut none: Vec<CountProbe> = Vec::new(alloc);
     run_plan(alloc, &written, trace.plan.governor, out, &mut none)
 }
 
