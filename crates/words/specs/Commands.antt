@@ -40,12 +40,19 @@ pub record ReplayOf : Type 0 where
   pub machine : List ℕ
   pub trace : List ℕ
 
+-- what the words of a least energy name: the machine's file, the work units, and the number of ticks
+pub record LeastOf : Type 0 where
+  pub machine : List ℕ
+  pub units : ℕ
+  pub ticks : ℕ
+
 -- a command; that of a workload names its seed
 pub data CommandOf : Type 0 where
   run : RunOf → CommandOf
   admit : AdmitOf → CommandOf
   replay : ReplayOf → CommandOf
   workload : ℕ → CommandOf
+  least : LeastOf → CommandOf
 
 -- the scheduler and the governor of a run are a pair, and its number of ticks is within the limits
 pub record IsReady (r : RunOf) : Type 0 where
@@ -53,9 +60,15 @@ pub record IsReady (r : RunOf) : Type 0 where
   pub some_ticks : 1 ≤ r.ticks
   pub few_ticks : r.ticks ≤ MOST_TICKS
 
--- the same of a command
+-- the number of ticks of a least energy is within the limits of a run
+pub record HasReadyTicks (l : LeastOf) : Type 0 where
+  pub some_ticks : 1 ≤ l.ticks
+  pub few_ticks : l.ticks ≤ MOST_TICKS
+
+-- a command is ready where its numbers are within the limits, and its scheduler and governor, if it has both, a pair
 abbrev pub IsReadyCommand : CommandOf → Type 0
 IsReadyCommand (run r) = IsReady r
+IsReadyCommand (least l) = HasReadyTicks l
 IsReadyCommand c = ⊤
 
 -- the next step, where this one gives a value
@@ -104,9 +117,18 @@ replay_of g = do
   trace ← need opt.Trace g.trace
   Ok (record { tasks = tasks; machine = machine; trace = trace })
 
+-- a least energy by the values that were given
+abbrev pub least_of : GivenOf → Result LeastOf WordFault
+least_of g = do
+  machine ← need opt.Machine g.machine
+  units ← need opt.Units g.units
+  ticks ← need opt.Ticks g.ticks
+  Ok (record { machine = machine; units = units; ticks = ticks })
+
 -- the command by the values that were given, or the first required option that was not; last, a run's pair
 abbrev pub built : Verb → GivenOf → Result CommandOf WordFault
 built verb.Run g = run_of g >>= (λ r. Ok (run r))
 built verb.Admit g = admit_of g >>= (λ a. Ok (admit a))
 built verb.Replay g = replay_of g >>= (λ r. Ok (replay r))
 built verb.Workload g = need opt.Seed g.seed >>= (λ seed. Ok (workload seed))
+built verb.Least g = least_of g >>= (λ l. Ok (least l))

@@ -7,7 +7,7 @@ use Rattle.words.specs.declared.given.Given.{Given}
 use Rattle.words.specs.declared.given.TraceFiles.{TraceFiles}
 use Rattle.words.specs.declared.read.Reading.{Reading}
 use Rattle.words.specs.Values.{GivenOf}
-use Rattle.words.specs.Commands.{CommandOf, ReplayOf, run, admit, replay, workload}
+use Rattle.words.specs.Commands.{CommandOf, ReplayOf, run, admit, replay, workload, least}
 use Rattle.words.specs.Reading.{ReadingOf}
 
 -- the values that were given, with the texts of names
@@ -21,6 +21,7 @@ shown_given g = record {
   governor = g.governor;
   ticks = option_map (λ t. t.number) g.ticks;
   seed = g.seed;
+  units = g.units;
   probes = g.probes;
   format = g.format;
 }
@@ -56,6 +57,7 @@ shown (command.Admit tasks machine scheduler) =
 shown (command.Replay tasks machine trace) =
     replay (record { tasks = tasks.now; machine = machine.now; trace = trace.now })
 shown (command.Workload seed) = workload seed
+shown (command.Least machine units ticks) = least (record { machine = machine.now; units = units; ticks = ticks })
 
 -- an answer, with the command so shown
 abbrev pub answer : Result Command WordFault → Result CommandOf WordFault

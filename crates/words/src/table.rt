@@ -12,6 +12,7 @@ pub enum Verb {
     Admit,
     Replay,
     Workload,
+    Least,
 }
 
 /// An option.
@@ -25,6 +26,7 @@ pub enum Key {
     Ticks,
     Trace,
     Seed,
+    Units,
     Probes,
     Format,
 }
@@ -38,6 +40,7 @@ pub fn verb_of(word: &str) -> Option<Verb>
         "admit" => Some(Verb::Admit),
         "replay" => Some(Verb::Replay),
         "workload" => Some(Verb::Workload),
+        "least" => Some(Verb::Least),
         _ => None,
     }
 }
@@ -60,6 +63,7 @@ pub fn options_of(verb: Verb) -> &'static [Key]
         Verb::Admit => &[Key::Tasks, Key::Machine, Key::Scheduler],
         Verb::Replay => &[Key::Tasks, Key::Machine, Key::Trace],
         Verb::Workload => &[Key::Seed],
+        Verb::Least => &[Key::Machine, Key::Units, Key::Ticks],
     }
 }
 
@@ -77,6 +81,7 @@ pub fn option_word(option: Opt) -> &'static [u8]
         Opt::Ticks => b"--ticks",
         Opt::Trace => b"--trace",
         Opt::Seed => b"--seed",
+        Opt::Units => b"--units",
     }
 }
 
@@ -93,6 +98,7 @@ pub fn word_of(key: Key) -> &'static [u8]
         Key::Ticks => option_word(Opt::Ticks),
         Key::Trace => option_word(Opt::Trace),
         Key::Seed => option_word(Opt::Seed),
+        Key::Units => option_word(Opt::Units),
         Key::Probes => b"--probes",
         Key::Format => b"--format",
     }
