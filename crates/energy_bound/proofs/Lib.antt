@@ -3,6 +3,7 @@ pub mod CornerLemmas
 pub mod Pairs
 pub mod Costs
 pub mod FirstPair
+pub mod FirstFound
 pub mod SegmentSums
 pub mod ScheduleCosts
 pub mod Certifying

@@ -4,6 +4,7 @@ ghost use Rattle.freq_table.specs.Tables.{highest_speed};
 ghost use Rattle.dvs_base.specs.declared.limits.TheConstants.{MOST_TICKS};
 ghost use Rattle.energy_bound.specs.Schedules.{SchedulesCostTheirTicks};
 ghost use Rattle.energy_bound.specs.Corners.{last_corner, Holds, IsFirstPartner, HasNoPartner};
+ghost use Rattle.energy_bound.specs.FirstPairs.{least_energy_of};
 ghost use Rattle.energy_bound.specs.Certificates.{IsOver, least_of, IsCertificate, IsFirstCertificate};
 ghost use Rattle.energy_bound.specs.Schedules.{IsLeast};
 
@@ -80,6 +81,7 @@ fn first_partner(machine: &Machine, units: u64, ticks: u64, a: u32) -> Option<u3
 /// highest speed does in the ticks, with these two numbers.
 pub fn least_energy(machine: &Machine, units: u64, ticks: u64) -> Result<Least, Over>
     requires { ticks ≤ MOST_TICKS }
+    ensures answer { result ≡ least_energy_of machine.now units ticks }
     ensures over { IfErr result (IsOver machine.now units ticks) }
     ensures within { OnOk result (units ≤ ticks * highest_speed machine.now) }
     ensures first { IfOk result (IsFirstCertificate machine.now units ticks) }

@@ -43,12 +43,19 @@ pub record TracedOf : Type 0 where
   pub machine : List ℕ
   pub trace : List ℕ
 
+-- what the words of a least energy name: the machine's file, the work units, and the number of ticks
+pub record LeastOf : Type 0 where
+  pub machine : List ℕ
+  pub units : ℕ
+  pub ticks : ℕ
+
 -- a command: what is done with a trace, be it a replay or a migration, is one; that of a workload names its seed
 pub data CommandOf : Type 0 where
   run : RunOf → CommandOf
   admit : AdmitOf → CommandOf
   traced : TracedOf → CommandOf
   workload : ℕ → CommandOf
+  least : LeastOf → CommandOf
 
 -- the scheduler and the governor of a run are a pair, and its number of ticks is within the limits
 pub record IsReady (r : RunOf) : Type 0 where
@@ -56,9 +63,15 @@ pub record IsReady (r : RunOf) : Type 0 where
   pub some_ticks : 1 ≤ r.ticks
   pub few_ticks : r.ticks ≤ MOST_TICKS
 
--- the same of a command
+-- the number of ticks of a least energy is within the limits of a run
+pub record HasReadyTicks (l : LeastOf) : Type 0 where
+  pub some_ticks : 1 ≤ l.ticks
+  pub few_ticks : l.ticks ≤ MOST_TICKS
+
+-- a command is ready where its numbers are within the limits, and its scheduler and governor, if it has both, a pair
 abbrev pub IsReadyCommand : CommandOf → Type 0
 IsReadyCommand (run r) = IsReady r
+IsReadyCommand (least l) = HasReadyTicks l
 IsReadyCommand c = ⊤
 
 -- the next step, where this one gives a value
@@ -111,6 +124,14 @@ traced_of asked g = do
 abbrev pub trace_command : TraceUse → GivenOf → Result CommandOf WordFault
 trace_command asked g = traced_of asked g >>= (λ r. Ok (traced r))
 
+-- a least energy by the values that were given
+abbrev pub least_of : GivenOf → Result LeastOf WordFault
+least_of g = do
+  machine ← need opt.Machine g.machine
+  units ← need opt.Units g.units
+  ticks ← need opt.Ticks g.ticks
+  Ok (record { machine = machine; units = units; ticks = ticks })
+
 -- the command by the values that were given, or the first required option that was not; last, a run's pair
 abbrev pub built : Verb → GivenOf → Result CommandOf WordFault
 built verb.Run g = run_of g >>= (λ r. Ok (run r))
@@ -118,3 +139,4 @@ built verb.Admit g = admit_of g >>= (λ a. Ok (admit a))
 built verb.Replay g = trace_command Replay g
 built verb.Migrate g = trace_command Migrate g
 built verb.Workload g = need opt.Seed g.seed >>= (λ seed. Ok (workload seed))
+built verb.Least g = least_of g >>= (λ l. Ok (least l))

@@ -7,7 +7,7 @@ use Rattle.words.specs.declared.given.Given.{Given}
 use Rattle.words.specs.declared.given.TraceUse.TheVariants.{Replay, Migrate}
 use Rattle.words.specs.declared.read.Reading.{Reading}
 use Rattle.words.specs.Values.{GivenOf}
-use Rattle.words.specs.Commands.{CommandOf, run, admit, traced, workload}
+use Rattle.words.specs.Commands.{CommandOf, run, admit, traced, workload, least}
 use Rattle.words.specs.Reading.{ReadingOf}
 
 -- the values that were given, with the texts of names
@@ -21,6 +21,7 @@ shown_given g = record {
   governor = g.governor;
   ticks = option_map (λ t. t.number) g.ticks;
   seed = g.seed;
+  units = g.units;
   probes = g.probes;
   format = g.format;
 }
@@ -53,6 +54,7 @@ shown (command.Replay tasks machine trace) =
 shown (command.Migrate tasks machine trace) =
     traced (record { asked = Migrate; tasks = tasks.now; machine = machine.now; trace = trace.now })
 shown (command.Workload seed) = workload seed
+shown (command.Least machine units ticks) = least (record { machine = machine.now; units = units; ticks = ticks })
 
 -- an answer, with the command so shown
 abbrev pub answer : Result Command WordFault → Result CommandOf WordFault

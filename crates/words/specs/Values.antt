@@ -35,6 +35,7 @@ pub record GivenOf : Type 0 where
   pub governor : Option GovernorKind
   pub ticks : Option ℕ
   pub seed : Option ℕ
+  pub units : Option ℕ
   pub probes : Option Bool
   pub format : Option Version
 
@@ -49,6 +50,7 @@ nothing_given = record {
   governor = None;
   ticks = None;
   seed = None;
+  units = None;
   probes = None;
   format = None;
 }
@@ -63,6 +65,7 @@ has g key.Governor = is_some g.governor
 has g key.Ticks = is_some g.ticks
 has g key.Trace = is_some g.trace
 has g key.Seed = is_some g.seed
+has g key.Units = is_some g.units
 has g key.Probes = is_some g.probes
 has g key.Format = is_some g.format
 
@@ -76,5 +79,6 @@ with_value g key.Governor word = option_map (λ v. record g { governor = Some v 
 with_value g key.Ticks word = option_map (λ v. record g { ticks = Some v }) (ticks_of word)
 with_value g key.Trace word = option_map (λ v. record g { trace = Some v }) (file_name word)
 with_value g key.Seed word = option_map (λ v. record g { seed = Some v }) (number_of word)
+with_value g key.Units word = option_map (λ v. record g { units = Some v }) (number_of word)
 with_value g key.Probes word = Some (record g { probes = Some true })
 with_value g key.Format word = option_map (λ v. record g { format = Some v }) (version_of word)

@@ -84,6 +84,21 @@ fn made<'a>(given: Given<'a>) -> Result<Command<'a>, WordFault>
     Ok(Command::Workload { seed })
 }
 
+// A least energy by the values that were given.
+fn bounded<'a>(given: Given<'a>) -> Result<Command<'a>, WordFault>
+    ensures read { answer result ≡ built verb.Least (shown_given given.entry) }
+    ensures ready { IfOk result (λ c. IsReadyCommand (shown c)) }
+{
+    let machine = need(given.machine, Opt::Machine)?;
+    let units = need(given.units, Opt::Units)?;
+    let length = need(given.ticks, Opt::Ticks)?;
+    Ok(Command::Least {
+        machine,
+        units,
+        ticks: length.number,
+    })
+}
+
 /// The command by the values that were given. Missing exactly for the first required option that was not; then Pair for
 /// rate monotonic with look-ahead.
 pub fn built<'a>(verb: Verb, given: Given<'a>) -> Result<Command<'a>, WordFault>
@@ -96,5 +111,6 @@ pub fn built<'a>(verb: Verb, given: Given<'a>) -> Result<Command<'a>, WordFault>
         Verb::Replay => traced(given, TraceUse::Replay),
         Verb::Migrate => traced(given, TraceUse::Migrate),
         Verb::Workload => made(given),
+        Verb::Least => bounded(given),
     }
 }

@@ -20,6 +20,8 @@ pub enum Opt {
     Trace,
     /// `--seed`: the number from which a workload is made.
     Seed,
+    /// `--units`: the work units whose least energy is asked for.
+    Units,
 }
 
 /// What the words ask for. Files are named and not yet read.
@@ -57,6 +59,12 @@ pub enum Command<'a> {
     /// Run what is made from a seed, under each governor.
     Workload {
         seed: u64,
+    },
+    /// Say what so many work units cost at least in so many ticks.
+    Least {
+        machine: &'a str,
+        units: u64,
+        ticks: u64,
     },
 }
 

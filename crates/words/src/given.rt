@@ -13,6 +13,7 @@ pub struct Given<'a> {
     pub governor: Option<GovernorKind>,
     pub ticks: Option<Ticks>,
     pub seed: Option<u64>,
+    pub units: Option<u64>,
     pub probes: Option<bool>,
     pub format: Option<Version>,
 }

@@ -13,6 +13,7 @@ pub enum Verb {
     Replay,
     Migrate,
     Workload,
+    Least,
 }
 
 /// An option.
@@ -26,6 +27,7 @@ pub enum Key {
     Ticks,
     Trace,
     Seed,
+    Units,
     Probes,
     Format,
 }
@@ -40,6 +42,7 @@ pub fn verb_of(word: &str) -> Option<Verb>
         "replay" => Some(Verb::Replay),
         "migrate" => Some(Verb::Migrate),
         "workload" => Some(Verb::Workload),
+        "least" => Some(Verb::Least),
         _ => None,
     }
 }
@@ -62,6 +65,7 @@ pub fn options_of(verb: Verb) -> &'static [Key]
         Verb::Admit => &[Key::Tasks, Key::Machine, Key::Scheduler],
         Verb::Replay | Verb::Migrate => &[Key::Tasks, Key::Machine, Key::Trace],
         Verb::Workload => &[Key::Seed],
+        Verb::Least => &[Key::Machine, Key::Units, Key::Ticks],
     }
 }
 
@@ -79,6 +83,7 @@ pub fn option_word(option: Opt) -> &'static [u8]
         Opt::Ticks => b"--ticks",
         Opt::Trace => b"--trace",
         Opt::Seed => b"--seed",
+        Opt::Units => b"--units",
     }
 }
 
@@ -95,6 +100,7 @@ pub fn word_of(key: Key) -> &'static [u8]
         Key::Ticks => option_word(Opt::Ticks),
         Key::Trace => option_word(Opt::Trace),
         Key::Seed => option_word(Opt::Seed),
+        Key::Units => option_word(Opt::Units),
         Key::Probes => b"--probes",
         Key::Format => b"--format",
     }

@@ -287,6 +287,53 @@ fn a_trace_is_migrated(rt: HostRuntime) -> Result<(), Fail> {
 }
 
 #[test]
+fn a_least_energy_names_units_and_ticks(rt: HostRuntime) -> Result<(), Fail> {
+    let alloc = rt.alloc();
+    let most = Command::Least {
+        machine: "m",
+        units: 18446744073709551615,
+        ticks: 1099511627776,
+    };
+    let backwards = "least --ticks 1099511627776 --units 18446744073709551615 --machine m";
+    assert!(rt; is_read_as(alloc, backwards, most)?);
+    let none = Command::Least {
+        machine: "--units",
+        units: 0,
+        ticks: 1,
+    };
+    assert!(rt; is_read_as(alloc, "least --units 0 --machine --units --ticks 1", none)?);
+    assert!(rt; fault_of(alloc, "least")? == missing(Opt::Machine));
+    assert!(rt; fault_of(alloc, "least --ticks 1 --machine m")? == missing(Opt::Units));
+    assert!(rt; fault_of(alloc, "least --machine m --units 1")? == missing(Opt::Ticks));
+    assert!(rt; fault_of(alloc, "least --units 1 --ticks 1")? == missing(Opt::Machine));
+    assert!(rt; fault_of(alloc, "least --tasks t --units 1")? == unexpected(2, "--tasks"));
+    assert!(rt; fault_of(alloc, "least --units 1 --units 1")? == repeated(4, "--units"));
+    assert!(rt; fault_of(alloc, "least --units 1 --units")? == repeated(4, "--units"));
+    assert!(rt; fault_of(alloc, "least --machine m --units")? == no_value(4, "--units"));
+    Ok(())
+}
+
+#[test]
+fn numbers_of_a_least_energy_keep_their_rules(rt: HostRuntime) -> Result<(), Fail> {
+    let alloc = rt.alloc();
+    assert!(rt; fault_of(alloc, "least --units 01")? == bad_value(3, "01"));
+    assert!(rt; fault_of(alloc, "least --units -1")? == bad_value(3, "-1"));
+    assert!(rt; fault_of(alloc, "least --units ")? == bad_value(3, ""));
+    assert!(rt;
+        fault_of(alloc, "least --units 18446744073709551616")?
+            == bad_value(3, "18446744073709551616")
+    );
+    assert!(rt; fault_of(alloc, "least --units 1 --ticks 0")? == bad_value(5, "0"));
+    assert!(rt;
+        fault_of(alloc, "least --units 1 --ticks 1099511627777")? == bad_value(5, "1099511627777")
+    );
+    assert!(rt; fault_of(alloc, "least --machine ")? == bad_value(3, ""));
+    assert!(rt; fault_of(alloc, "run --units 1")? == unexpected(2, "--units"));
+    assert!(rt; fault_of(alloc, "workload --units 1")? == unexpected(2, "--units"));
+    Ok(())
+}
+
+#[test]
 fn probes_and_a_version_may_be_asked_for(rt: HostRuntime) -> Result<(), Fail> {
     let alloc = rt.alloc();
     let run = Command::Run {

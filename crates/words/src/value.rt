@@ -51,6 +51,7 @@ impl<'a> Given<'a> {
             governor: None,
             ticks: None,
             seed: None,
+            units: None,
             probes: None,
             format: None,
         }
@@ -69,6 +70,7 @@ impl<'a> Given<'a> {
             Key::Ticks => self.ticks.is_some(),
             Key::Trace => self.trace.is_some(),
             Key::Seed => self.seed.is_some(),
+            Key::Units => self.units.is_some(),
             Key::Probes => self.probes.is_some(),
             Key::Format => self.format.is_some(),
         }
@@ -88,6 +90,7 @@ pub fn with_value<'a>(mut given: Given<'a>, key: Key, word: &'a str) -> Option<G
         Key::Ticks => given.ticks = Some(ticks_of(word)?),
         Key::Trace => given.trace = Some(file_name(word)?),
         Key::Seed => given.seed = Some(number_of(word)?),
+        Key::Units => given.units = Some(number_of(word)?),
         Key::Probes => given.probes = Some(true),
         Key::Format => given.format = Some(version_of(word)?),
     }

@@ -2,8 +2,23 @@ use Rattle.std.proofs.Common.{◌<◌, ◌≤◌, ◌*◌, arith, ap, ◌∙◌}
 use Rattle.freq_table.specs.Tables.{highest_speed}
 use Rattle.energy_bound.proofs.CornerLemmas.{units-order}
 use Rattle.energy_bound.proofs.FirstPair.{some-holds, first-pair}
+use Rattle.energy_bound.proofs.FirstFound.{over-is, found-is}
 use Rattle.energy_bound.proofs.Certifying.{certificate-least}
 use Rattle.energy_bound.proofs.least.least_energy.Goals as goal
+
+pub returns-in-Some-clause-answer : goal.returns-in-Some-clause-answer
+returns-in-Some-clause-answer c =
+    let m = c.args.machine.now in
+    let fits : c.args.units ≤ c.args.ticks * highest_speed m =
+    omega (
+      arith,
+      c.if-num-cap.false,
+      c.from-num.ensures,
+      ap (λ v. v * c.from-2.result) c.from.ensures,
+      ap (λ v. c.args.ticks * v) (c.from-2.ensures ∙ c.top.ensures),
+    ) in
+    found-is m c.args.units c.args.ticks c.loop-a.a c.in-Some.b c.least_of.result fits c.loop-a.invariant
+    c.in-Some.ensures c.least_of.ensures
 
 pub returns-in-Some-clause-first : goal.returns-in-Some-clause-first
 returns-in-Some-clause-first c =
