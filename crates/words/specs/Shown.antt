@@ -5,9 +5,10 @@ use Rattle.words.specs.declared.command.Command.TheVariants as command
 use Rattle.words.specs.declared.command.WordFault.{WordFault}
 use Rattle.words.specs.declared.given.Given.{Given}
 use Rattle.words.specs.declared.given.TraceFiles.{TraceFiles}
+use Rattle.words.specs.declared.given.Timed.{Timed}
 use Rattle.words.specs.declared.read.Reading.{Reading}
 use Rattle.words.specs.Values.{GivenOf}
-use Rattle.words.specs.Commands.{CommandOf, ReplayOf, run, admit, replay, workload}
+use Rattle.words.specs.Commands.{CommandOf, ReplayOf, TimedOf, run, admit, replay, workload, poll}
 use Rattle.words.specs.Reading.{ReadingOf}
 
 -- the values that were given, with the texts of names
@@ -17,6 +18,8 @@ shown_given g = record {
   machine = option_map (λ s. s.now) g.machine;
   demands = option_map (λ s. s.now) g.demands;
   trace = option_map (λ s. s.now) g.trace;
+  requests = option_map (λ s. s.now) g.requests;
+  server = option_map (λ s. s.now) g.server;
   scheduler = g.scheduler;
   governor = g.governor;
   ticks = option_map (λ t. t.number) g.ticks;
@@ -39,6 +42,11 @@ abbrev pub files_answer : Result TraceFiles WordFault → Result ReplayOf WordFa
 files_answer (Ok f) = Ok (record { tasks = f.tasks.now; machine = f.machine.now; trace = f.trace.now })
 files_answer (Err e) = Err e
 
+-- the pair of a run and its number of ticks
+abbrev pub timed_answer : Result Timed WordFault → Result TimedOf WordFault
+timed_answer (Ok t) = Ok (record { scheduler = t.scheduler; governor = t.governor; ticks = t.ticks.number })
+timed_answer (Err e) = Err e
+
 -- a command, with the texts of names
 abbrev pub shown : Command → CommandOf
 shown (command.Run tasks machine demands scheduler governor ticks probes version) = run (record {
@@ -56,6 +64,15 @@ shown (command.Admit tasks machine scheduler) =
 shown (command.Replay tasks machine trace) =
     replay (record { tasks = tasks.now; machine = machine.now; trace = trace.now })
 shown (command.Workload seed) = workload seed
+shown (command.Poll tasks machine requests server scheduler governor ticks) = poll (record {
+  tasks = tasks.now;
+  machine = machine.now;
+  requests = requests.now;
+  server = server.now;
+  scheduler = scheduler;
+  governor = governor;
+  ticks = ticks;
+})
 
 -- an answer, with the command so shown
 abbrev pub answer : Result Command WordFault → Result CommandOf WordFault

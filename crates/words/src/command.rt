@@ -20,6 +20,10 @@ pub enum Opt {
     Trace,
     /// `--seed`: the number from which a workload is made.
     Seed,
+    /// `--requests`: the file of requests.
+    Requests,
+    /// `--server`: the task that serves them.
+    Server,
 }
 
 /// What the words ask for. Files are named and not yet read.
@@ -51,6 +55,16 @@ pub enum Command<'a> {
     /// Run what is made from a seed, under each governor.
     Workload {
         seed: u64,
+    },
+    /// Print when a task serves each request, in so many ticks.
+    Poll {
+        tasks: &'a str,
+        machine: &'a str,
+        requests: &'a str,
+        server: &'a str,
+        scheduler: Scheduler,
+        governor: GovernorKind,
+        ticks: u64,
     },
 }
 

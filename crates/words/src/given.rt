@@ -9,6 +9,8 @@ pub struct Given<'a> {
     pub machine: Option<&'a str>,
     pub demands: Option<&'a str>,
     pub trace: Option<&'a str>,
+    pub requests: Option<&'a str>,
+    pub server: Option<&'a str>,
     pub scheduler: Option<Scheduler>,
     pub governor: Option<GovernorKind>,
     pub ticks: Option<Ticks>,
@@ -23,4 +25,12 @@ pub struct TraceFiles<'a> {
     pub tasks: &'a str,
     pub machine: &'a str,
     pub trace: &'a str,
+}
+
+/// The pair of a run and its number of ticks.
+#[derive(Clone, Copy, Debug, PartialEq, Eq)]
+pub struct Timed {
+    pub scheduler: Scheduler,
+    pub governor: GovernorKind,
+    pub ticks: Ticks,
 }

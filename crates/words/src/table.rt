@@ -12,6 +12,7 @@ pub enum Verb {
     Admit,
     Replay,
     Workload,
+    Poll,
 }
 
 /// An option.
@@ -25,6 +26,8 @@ pub enum Key {
     Ticks,
     Trace,
     Seed,
+    Requests,
+    Server,
     Probes,
     Format,
 }
@@ -37,6 +40,7 @@ pub fn verb_of(word: &str) -> Option<Verb>
         "run" => Some(Verb::Run),
         "admit" => Some(Verb::Admit),
         "replay" => Some(Verb::Replay),
+        "poll" => Some(Verb::Poll),
         "workload" => Some(Verb::Workload),
         _ => None,
     }
@@ -60,6 +64,15 @@ pub fn options_of(verb: Verb) -> &'static [Key]
         Verb::Admit => &[Key::Tasks, Key::Machine, Key::Scheduler],
         Verb::Replay => &[Key::Tasks, Key::Machine, Key::Trace],
         Verb::Workload => &[Key::Seed],
+        Verb::Poll => &[
+            Key::Tasks,
+            Key::Machine,
+            Key::Requests,
+            Key::Server,
+            Key::Scheduler,
+            Key::Governor,
+            Key::Ticks,
+        ],
     }
 }
 
@@ -77,6 +90,8 @@ pub fn option_word(option: Opt) -> &'static [u8]
         Opt::Ticks => b"--ticks",
         Opt::Trace => b"--trace",
         Opt::Seed => b"--seed",
+        Opt::Requests => b"--requests",
+        Opt::Server => b"--server",
     }
 }
 
@@ -93,6 +108,8 @@ pub fn word_of(key: Key) -> &'static [u8]
         Key::Ticks => option_word(Opt::Ticks),
         Key::Trace => option_word(Opt::Trace),
         Key::Seed => option_word(Opt::Seed),
+        Key::Requests => option_word(Opt::Requests),
+        Key::Server => option_word(Opt::Server),
         Key::Probes => b"--probes",
         Key::Format => b"--format",
     }
