@@ -4,6 +4,7 @@ pub mod Texts
 pub mod Overloads
 pub mod TraceTexts
 pub mod ProbePuts
+pub mod RequestPuts
 pub mod Noting
 pub mod Published
 pub mod Picks
@@ -16,3 +17,4 @@ pub mod Shows
 pub mod FewJobs
 pub mod FiveLines
 pub mod Comparisons
+pub mod Pollings
