@@ -1,5 +1,5 @@
 // Request files.
-ghost use Rattle.std.specs.Prelude.{ℕ, codes, ◌≡◌, ◌≤◌, ◌<◌, ◌^◌, ◌+◌, ◌∷◌, [], Ok, true, false, length, IfOk, IfErr, OnOk};
+ghost use Rattle.std.specs.Prelude.{ℕ, List, codes, ◌≡◌, ◌≤◌, ◌<◌, ◌^◌, ◌+◌, ◌∷◌, [], Ok, true, false, length, IfOk, IfErr, OnOk};
 ghost use Rattle.csv.specs.Reading.{default_config, records, strip_bom};
 ghost use Rattle.csv.specs.Records.{fields_of};
 ghost use Rattle.csv_text.specs.Records.{IsPlain, records_left};
@@ -8,6 +8,8 @@ ghost use Rattle.dvs_base.specs.Text.{number_below};
 ghost use Rattle.request_list.specs.declared.limits.TheConstants.{MOST_REQUESTS};
 ghost use Rattle.request_list.specs.declared.fault.RequestFault.TheVariants as fault;
 ghost use Rattle.request_list.specs.Requests.{IsRequest, AreRequests};
+ghost use Rattle.request_list.specs.declared.requests.Request.{Request};
+ghost use Rattle.request_list.specs.RequestText.{IsTextOf};
 ghost use Rattle.request_list.specs.RequestFile.{is_header, number_from, row_of, requests_from, after_header, request_file};
 
 use crate::limits::{MOST_REQUEST_UNITS, MOST_REQUESTS};
@@ -137,20 +139,32 @@ fn read_rows(
     Ok(requests)
 }
 
+// The requests of a file, or its first refusal.
+fn read_requests(alloc: Global, bytes: &[u8]) -> Result<Requests, RequestFault>
+    ensures file { IsUnlessMemory RequestFault.NoMemory (λ r. r) result (request_file bytes.now) }
+    ensures limits { IfOk result (λ requests. AreRequests requests) }
+{
+    let mut fields = ByteRecord::new(alloc);
+    let count = count_rows(&mut rows_reader(alloc, bytes, &mut fields)?, &mut fields)?;
+    if count > MOST_REQUESTS {
+        return Err(RequestFault::TooMany { count });
+    }
+    let mut reader = rows_reader(alloc, bytes, &mut fields)?;
+    let requests = read_rows(alloc, &mut reader, &mut fields)?;
+    Ok(Requests { requests })
+}
+
 impl Requests {
-    /// The requests of a file: arrivals in ticks, units in work units. The first refusal comes: the header; more than
-    /// 100000 rows; and then row by row the number of fields, the arrival as a number, the units as a number, their
-    /// range, and an arrival below that of the row before.
+    /// The requests of a file: arrivals in ticks, units in work units. A file is read exactly where it is the text of
+    /// some requests within the limits and in order, unless memory runs out. Else the first refusal comes: the header;
+    /// more than 100000 rows; and then row by row the number of fields, the arrival as a number, the units as a number,
+    /// their range, and an arrival below that of the row before.
     pub fn read(alloc: Global, bytes: &[u8]) -> Result<Requests, RequestFault>
-        ensures { IsUnlessMemory RequestFault.NoMemory (λ r. r) result (request_file bytes.now) }
+        ensures file { IsUnlessMemory RequestFault.NoMemory (λ r. r) result (request_file bytes.now) }
+        ensures found { IfOk result (λ requests. IsTextOf requests bytes.now) }
+        ensures texts { (requests : List Request) → IsTextOf requests bytes.now
+            → IsUnlessMemory RequestFault.NoMemory (λ r. r) result (Ok requests) }
     {
-        let mut fields = ByteRecord::new(alloc);
-        let count = count_rows(&mut rows_reader(alloc, bytes, &mut fields)?, &mut fields)?;
-        if count > MOST_REQUESTS {
-            return Err(RequestFault::TooMany { count });
-        }
-        let mut reader = rows_reader(alloc, bytes, &mut fields)?;
-        let requests = read_rows(alloc, &mut reader, &mut fields)?;
-        Ok(Requests { requests })
+        read_requests(alloc, bytes)
     }
 }
