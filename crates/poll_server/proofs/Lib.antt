@@ -9,3 +9,4 @@ pub mod Deciding
 pub mod Answering
 pub mod Whole
 pub mod Examples
+pub mod Within

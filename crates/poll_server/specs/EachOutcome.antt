@@ -29,8 +29,10 @@ outcome_of s notes m = outcome_by (job_of s m) (done_at notes s.task (job_of s m
 abbrev pub outcomes_of : ServerOf → List Note → List Outcome
 outcomes_of s notes = list_below (request_count s) (outcome_of s notes)
 
--- what polling answers: the outcomes by the notes of the governor's schedule, and their totals
+-- the outcomes by these notes, and their totals
+abbrev pub served_by : ServerOf → List Note → ServedOf
+served_by s notes = record { outcomes = outcomes_of s notes; totals = totals_of notes }
+
+-- what polling answers: what the notes of the governor's schedule make of the requests
 abbrev pub served_of : OwnDemand → ServerOf → ℕ → ServedOf
-served_of demand s ticks =
-    let notes = polled_notes demand s ticks in
-    record { outcomes = outcomes_of s notes; totals = totals_of notes }
+served_of demand s ticks = served_by s (polled_notes demand s ticks)
