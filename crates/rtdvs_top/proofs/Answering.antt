@@ -6,8 +6,9 @@ use Rattle.task_model.specs.declared.task.Task.{Task}
 use Rattle.freq_table.specs.Tables.{Table}
 use Rattle.words.specs.Commands.{RunOf, CommandOf, run, admit, traced, workload}
 use Rattle.rtdvs_top.specs.Answer.{tasks_at, machine_at, demands_at, run_after_tasks, admit_after_tasks}
-use Rattle.words.specs.Commands.{TracedOf}
+use Rattle.words.specs.Commands.{TracedOf, PollOf, poll}
 use Rattle.rtdvs_top.specs.ReplayAnswer.{trace_after_tasks}
+use Rattle.rtdvs_top.specs.PollAnswer.{server_at, poll_after_tasks}
 use Rattle.rtdvs_top.specs.CommandAnswer.{answer_of_command}
 use Rattle.rtdvs_top.specs.Causes.{LoadOf, NamedLoadFails, PassesBefore, files_for}
 use Rattle.rtdvs_top.specs.Ending.{EndsAs, Leaves}
@@ -26,6 +27,11 @@ given-next (Err s) next h = absurd (true≢false (sym h))
 given-value : {A : Type 0} (step : Result A Status) → IsOk step → (a : A) × (step ≡ Ok a)
 given-value (Ok a) h = (a, refl)
 given-value (Err s) h = absurd (true≢false (sym h))
+
+given-steps : {A B : Type 0} (step : Result A Status) (next : A → Result B Status) → IsOk (and_then step next)
+    → (a : A) × (b : B) × (step ≡ Ok a) × (next a ≡ Ok b)
+given-steps (Ok a) next h = let b = given-value (next a) h in (a, b.0, refl, b.1)
+given-steps (Err s) next h = absurd (true≢false (sym h))
 
 module _ (files : Files) where
   lacks-demands : (old new : ShelfView) (tasks : List Task) (name : Option (List ℕ)) → old.held ≡ Some files
@@ -50,6 +56,20 @@ module _ (files : Files) where
       → file_of files r.trace ≡ None → trace_after_tasks r tasks files ≡ Err (status.Load file.Trace)
   trace-answer r tasks machine m lacks = rw (m, lacks) refl
 
+  requests-answer : (q : PollOf) (tasks : List Task) (server : ℕ) (machine : Table) → server_at q.server tasks ≡ Ok server
+      → machine_at q.machine files ≡ Ok machine → file_of files q.requests ≡ None
+      → poll_after_tasks q tasks files ≡ Err (status.Load file.Requests)
+  requests-answer q tasks server machine i m lacks = rw (i, m, lacks) refl
+
+  polled-machine-answer : (q : PollOf) (tasks : List Task) (server : ℕ) → server_at q.server tasks ≡ Ok server
+      → file_of files q.machine ≡ None → poll_after_tasks q tasks files ≡ Err (status.Load file.Machine)
+  polled-machine-answer q tasks server i lacks = rw (i, lacks) refl
+
+  -- the answer of a polling whose tasks were read
+  polled-next : (q : PollOf) (tasks : List Task) → tasks_at q.tasks files ≡ Ok tasks
+      → answer_of_command (poll q) files ≡ poll_after_tasks q tasks files
+  polled-next q tasks t = rw t refl
+
   -- where a file of the command is lacking, and those before it were read, the answer is that its load fails
   lacks-answer : (old new : ShelfView) (c : CommandOf) (kind : FileKind) → files_for old.held c ≡ Some files
       → LoadOf old new c (status.Load kind) → PassesBefore (Some files) c (status.Load kind)
@@ -60,6 +80,23 @@ module _ (files : Files) where
   lacks-answer old new (run r) file.Trace told fails passes = absurd fails
   lacks-answer old new (admit a) file.Trace told fails passes = absurd fails
   lacks-answer old new (workload seed) file.Trace told fails passes = absurd fails
+  lacks-answer old new (poll q) file.Tasks told (inl lacks) passes = inl (rw (gone old q.tasks told lacks) refl)
+  lacks-answer old new (poll q) file.Tasks told (inr rose) passes = inr rose.0
+  lacks-answer old new (poll q) file.Machine told (inl lacks) passes =
+      let g = given-steps (tasks_at q.tasks files) (server_at q.server) passes in
+      inl (polled-next q g.0 g.2 ∙ polled-machine-answer q g.0 g.1 g.3 (gone old q.machine told lacks))
+  lacks-answer old new (poll q) file.Machine told (inr rose) passes = inr rose.0
+  lacks-answer old new (poll q) file.Demands told fails passes = absurd fails
+  lacks-answer old new (poll q) file.Trace told fails passes = absurd fails
+  lacks-answer old new (poll q) file.Requests told (inl lacks) passes =
+      let g = given-steps (tasks_at q.tasks files) (server_at q.server) passes.0 in
+      let m = given-value (machine_at q.machine files) passes.1 in
+      inl (polled-next q g.0 g.2 ∙ requests-answer q g.0 g.1 m.0 g.3 m.1 (gone old q.requests told lacks))
+  lacks-answer old new (poll q) file.Requests told (inr rose) passes = inr rose.0
+  lacks-answer old new (run r) file.Requests told fails passes = absurd fails
+  lacks-answer old new (admit a) file.Requests told fails passes = absurd fails
+  lacks-answer old new (traced r) file.Requests told fails passes = absurd fails
+  lacks-answer old new (workload seed) file.Requests told fails passes = absurd fails
   lacks-answer old new (traced r) file.Tasks told (inl lacks) passes = inl (rw (gone old r.tasks told lacks) refl)
   lacks-answer old new (traced r) file.Tasks told (inr rose) passes = inr rose.0
   lacks-answer old new (traced r) file.Machine told (inl lacks) passes =

@@ -78,7 +78,7 @@ module _ (demand : Plan → StateOf → Frac) (kind : GovernorKind) (p : Plan) (
     agree : AgreeOnSchedules p dem (ask_of demand p dem) (published p kind dem)
     agree ask past h = sym (publishes dem within ask past h)
 
-    same-run : (ticks : ℕ) → notes_by p (ask_of demand p) dem ticks ≡ notes_by p (published p kind) dem ticks
+    pub same-run : (ticks : ℕ) → notes_by p (ask_of demand p) dem ticks ≡ notes_by p (published p kind) dem ticks
     same-run ticks =
         let own = ask_of demand p dem in
         let asked = published p kind dem in

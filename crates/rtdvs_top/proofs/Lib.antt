@@ -4,6 +4,7 @@ pub mod Texts
 pub mod Overloads
 pub mod TraceTexts
 pub mod ProbePuts
+pub mod RequestPuts
 pub mod Noting
 pub mod Published
 pub mod Picks
@@ -18,3 +19,4 @@ pub mod FiveLines
 pub mod Comparisons
 pub mod Migrating
 pub mod Exactness
+pub mod Pollings

@@ -45,6 +45,7 @@ longest file.Tasks = LONGEST_FILE
 longest file.Machine = LONGEST_FILE
 longest file.Demands = LONGEST_FILE
 longest file.Trace = LONGEST_TRACE
+longest file.Requests = LONGEST_FILE
 
 -- the bytes of a file, where it is held and not too long
 abbrev pub bytes_from : FileKind → Option (List ℕ) → Result (List ℕ) Status

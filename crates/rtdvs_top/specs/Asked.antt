@@ -1,10 +1,11 @@
 -- The words that were read, as their texts; and the run that is planned for them.
 use Rattle.std.specs.Prelude.{◌≤◌, ◌^◌, option_map}
 use Rattle.event_kernel.specs.Runs.{Run, IsListOf}
-use Rattle.words.specs.Commands.{RunOf, AdmitOf}
+use Rattle.words.specs.Commands.{RunOf, AdmitOf, PollOf}
 use Rattle.rtdvs_top.specs.declared.run.PlannedRun.{PlannedRun}
 use Rattle.rtdvs_top.specs.declared.plan_words.RunWords.{RunWords}
 use Rattle.rtdvs_top.specs.declared.plan_words.AdmitWords.{AdmitWords}
+use Rattle.rtdvs_top.specs.declared.plan_words.PollWords.{PollWords}
 
 -- the texts of the words of a run
 abbrev pub shown_run : RunWords → RunOf
@@ -22,6 +23,18 @@ shown_run r = record {
 -- the texts of the words of an admission
 abbrev pub shown_admit : AdmitWords → AdmitOf
 shown_admit a = record { tasks = a.tasks.now; machine = a.machine.now; scheduler = a.scheduler }
+
+-- the texts of the words of a polling
+abbrev pub shown_poll : PollWords → PollOf
+shown_poll q = record {
+  tasks = q.tasks.now;
+  machine = q.machine.now;
+  requests = q.requests.now;
+  server = q.server.now;
+  scheduler = q.scheduler;
+  governor = q.governor;
+  ticks = q.ticks;
+}
 
 -- the run that was planned
 abbrev pub planned : PlannedRun → Run

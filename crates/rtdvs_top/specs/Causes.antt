@@ -1,8 +1,10 @@
 -- What a status says, and why it comes.
 use Rattle.std.specs.Prelude.{IsOk, ◌≡◌, ◌⊎◌, ℕ, ◌+◌, ◌<◌, ◌≤◌, List, [], Option, Some, None, Result, Ok, Err, ⊤}
 use Rattle.dvs_base.specs.Outside.{Files, ShelfView, Lacks, Rose}
-use Rattle.words.specs.Commands.{RunOf, CommandOf, run, admit, traced, workload}
+use Rattle.words.specs.Commands.{RunOf, PollOf, CommandOf, run, admit, traced, workload, poll}
+use Rattle.dvs_base.specs.Checks.{and_then}
 use Rattle.rtdvs_top.specs.Answer.{tasks_at, machine_at}
+use Rattle.rtdvs_top.specs.PollAnswer.{server_at}
 use Rattle.rtdvs_top.specs.declared.status.FileKind.{FileKind}
 use Rattle.rtdvs_top.specs.declared.status.FileKind.TheVariants as file
 use Rattle.rtdvs_top.specs.declared.status.Status.{Status}
@@ -77,6 +79,7 @@ LaterLoad old new r (status.Load file.Tasks) = ⊥
 LaterLoad old new r (status.Load file.Machine) = LoadFails old new 1 r.machine
 LaterLoad old new r (status.Load file.Demands) = NamedLoadFails old new 2 r.demands
 LaterLoad old new r (status.Load file.Trace) = ⊥
+LaterLoad old new r (status.Load file.Requests) = ⊥
 LaterLoad old new r s = ⊤
 
 -- how many files a command loads: its tasks, and those after them; a made workload loads none
@@ -85,6 +88,7 @@ loads_of (run r) = 1 + loads_named r.demands + 1
 loads_of (admit a) = 2
 loads_of (traced r) = 3
 loads_of (workload seed) = 0
+loads_of (poll q) = 3
 
 -- the files that a command's answer is of: those that the shelf tells; a made workload is of none
 abbrev pub files_for : Option Files → CommandOf → Option Files
@@ -92,6 +96,7 @@ files_for held (run r) = held
 files_for held (admit a) = held
 files_for held (traced r) = held
 files_for held (workload seed) = Some []
+files_for held (poll q) = held
 
 -- the file of tasks that a command names, where it names one
 abbrev pub tasks_name : CommandOf → Option (List ℕ)
@@ -99,6 +104,7 @@ tasks_name (run r) = Some r.tasks
 tasks_name (admit a) = Some a.tasks
 tasks_name (traced r) = Some r.tasks
 tasks_name (workload seed) = None
+tasks_name (poll q) = Some q.tasks
 
 -- the file of a machine that a command names, where it names one
 abbrev pub machine_name : CommandOf → Option (List ℕ)
@@ -106,6 +112,7 @@ machine_name (run r) = Some r.machine
 machine_name (admit a) = Some a.machine
 machine_name (traced r) = Some r.machine
 machine_name (workload seed) = None
+machine_name (poll q) = Some q.machine
 
 -- the file of demands that a command names, where it names one
 abbrev pub demands_name : CommandOf → Option (List ℕ)
@@ -113,6 +120,7 @@ demands_name (run r) = r.demands
 demands_name (admit a) = None
 demands_name (traced r) = None
 demands_name (workload seed) = None
+demands_name (poll q) = None
 
 -- the file of a trace that a command names, where it names one
 abbrev pub trace_name : CommandOf → Option (List ℕ)
@@ -120,13 +128,24 @@ trace_name (run r) = None
 trace_name (admit a) = None
 trace_name (traced r) = Some r.trace
 trace_name (workload seed) = None
+trace_name (poll q) = None
 
--- why a load of a command failed, by its place: the tasks first, then the machine, and then the demands or the trace
+-- the file of requests that a command names, where it names one
+abbrev pub requests_name : CommandOf → Option (List ℕ)
+requests_name (run r) = None
+requests_name (admit a) = None
+requests_name (traced r) = None
+requests_name (workload seed) = None
+requests_name (poll q) = Some q.requests
+
+-- why a load of a command failed, by its place: the tasks first, then the machine, and then the demands, the trace or the
+-- requests
 abbrev pub LoadOf : ShelfView → ShelfView → CommandOf → Status → Type 0
 LoadOf old new c (status.Load file.Tasks) = NamedLoadFails old new 1 (tasks_name c)
 LoadOf old new c (status.Load file.Machine) = NamedLoadFails old new 2 (machine_name c)
 LoadOf old new c (status.Load file.Demands) = NamedLoadFails old new 3 (demands_name c)
 LoadOf old new c (status.Load file.Trace) = NamedLoadFails old new 3 (trace_name c)
+LoadOf old new c (status.Load file.Requests) = NamedLoadFails old new 3 (requests_name c)
 LoadOf old new c s = ⊤
 
 -- a file that is named is read
@@ -144,8 +163,15 @@ abbrev pub PassesMachine : Option Files → CommandOf → Status → Type 0
 PassesMachine (Some files) c (status.Load file.Demands) = IsRead machine_at (machine_name c) files
 PassesMachine told c s = ⊤
 
--- a load fails only after the files before it were read, where they are told
+-- the tasks of a polling are read, and one of them has the server's name
+abbrev pub FindsServer : PollOf → Files → Type 0
+FindsServer q files = IsOk (and_then (tasks_at q.tasks files) (server_at q.server))
+
+-- a load fails only after the files before it were read, where they are told; that of a polling's machine only after its
+-- server was found
 abbrev pub PassesBefore : Option Files → CommandOf → Status → Type 0
+PassesBefore (Some files) (poll q) (status.Load file.Machine) = FindsServer q files
+PassesBefore (Some files) (poll q) (status.Load file.Requests) = FindsServer q files × IsOk (machine_at q.machine files)
 PassesBefore (Some files) c (status.Load file.Machine) = IsRead tasks_at (tasks_name c) files
 PassesBefore (Some files) c (status.Load file.Demands) =
     IsRead tasks_at (tasks_name c) files × IsRead machine_at (machine_name c) files

@@ -20,10 +20,11 @@ use Rattle.sched_model.specs.TheSchedule.{IsTheSchedule}
 use Rattle.done_lines.specs.DoneLines.{TellsDeadlines}
 use Rattle.event_kernel.specs.Runs.{Run, demands_of, notes_of_run, MeetsDeadlines, MeetsDemands}
 use Rattle.rtdvs_top.specs.Answer.{within_jobs, prepared_of, tasks_at}
-use Rattle.words.specs.Commands.{RunOf, TracedOf, CommandOf, run, traced}
+use Rattle.words.specs.Commands.{RunOf, TracedOf, CommandOf, run, traced, poll}
 use Rattle.trace_reader.specs.Traces.{TraceOf}
 use Rattle.rtdvs_top.specs.ReplayAnswer.{traced_of}
 use Rattle.rtdvs_top.specs.Causes.{EndsWith, IsRefusal, Gives}
+use Rattle.rtdvs_top.specs.PollCauses.{ServedIn}
 use Rattle.event_kernel.specs.Lines.{Wrote, WroteSome}
 use Rattle.rtdvs_top.specs.declared.status.Status.{Status}
 use Rattle.rtdvs_top.specs.declared.status.Status.TheVariants as status
@@ -132,4 +133,6 @@ MetIn told (run r) status.Done =
     (tasks : List Task) × Gives told (tasks_at r.tasks) tasks × MetBy told r tasks status.Done
 MetIn told (traced r) status.Done =
     (tasks : List Task) × Gives told (tasks_at r.tasks) tasks × MetTraced told r tasks status.Done
+MetIn told (poll q) status.Done =
+    (tasks : List Task) × Gives told (tasks_at q.tasks) tasks × ServedIn told q tasks status.Done
 MetIn told c s = ⊤

@@ -1,6 +1,7 @@
 pub mod Code
 pub mod Shown
 pub mod WordLines
+pub mod RequestLines
 pub mod Asked
 pub mod Naming
 pub mod Refusals
@@ -14,6 +15,8 @@ pub mod Probing
 pub mod Promises
 pub mod EdfRuns
 pub mod ReplayAnswer
+pub mod PollAnswer
 pub mod CommandAnswer
 pub mod ReplayCauses
 pub mod Exactness
+pub mod PollCauses

@@ -13,7 +13,7 @@ use Rattle.sched_model.specs.Admission.{PassesTest}
 use Rattle.sched_model.specs.Jobs.{released_jobs}
 use Rattle.event_kernel.specs.Runs.{Run}
 use Rattle.dvs_base.specs.declared.limits.TheConstants.{MOST_JOBS}
-use Rattle.words.specs.Commands.{RunOf, CommandOf, run}
+use Rattle.words.specs.Commands.{RunOf, CommandOf, run, poll}
 use Rattle.words.specs.Reading.{command_of}
 use Rattle.words.specs.declared.command.WordFault.{WordFault}
 use Rattle.rtdvs_top.specs.CommandAnswer.{answer_of_command}
@@ -26,6 +26,9 @@ use Rattle.rtdvs_top.specs.Writing.{NotedAs}
 use Rattle.rtdvs_top.specs.ProbeLines.{noted_text}
 use Rattle.rtdvs_top.specs.Probing.{asks_probes, ToldIn}
 use Rattle.probes.specs.Tallies.{ProbeOf}
+use Rattle.poll_server.specs.Serving.{ServerOf}
+use Rattle.rtdvs_top.specs.PollAnswer.{polling_of}
+use Rattle.rtdvs_top.specs.PollCauses.{HasServed}
 use Rattle.rtdvs_top.specs.declared.status.Denied.{Denied}
 use Rattle.rtdvs_top.specs.declared.status.Status.{Status}
 use Rattle.rtdvs_top.specs.declared.status.Status.TheVariants as status
@@ -113,6 +116,14 @@ OfRun (Some files) (Ok (run r)) old new (status.NotAdmitted why) =
     (tasks : List Task) × (machine : Table) × (demands : DemandsOf) × Means r files tasks machine demands
     × DeniedPlan (plan_of tasks machine r.scheduler) why
 OfRun told c old new s = ⊤
+
+-- A polling of told files that is done has served its requests in the one schedule of its server's plan: each exactly where
+-- its job is done, a later one never by an earlier job, and each by the deadline that its backlog bounds.
+abbrev pub OfPoll : Option Files → Result CommandOf WordFault → Status → Type 0
+OfPoll (Some files) (Ok (poll q)) status.Done =
+    (tasks : List Task) × (s : ServerOf) × (tasks_at q.tasks files ≡ Ok tasks) × (polling_of q tasks files ≡ Ok s)
+    × HasServed s q.governor q.ticks
+OfPoll told c s = ⊤
 
 -- a run of a plan is done, and then it has met all that; or the plan is denied, and then its scheduler's test fails
 abbrev pub RunsOrIsDenied : Version → GovernorKind → Run → SinkView → SinkView → Status → Type 0

@@ -21,6 +21,7 @@ use Rattle.demand_list.specs.declared.fault.Column.TheVariants as column
 use Rattle.demand_list.specs.declared.fault.DemandFault.{DemandFault}
 use Rattle.demand_list.specs.declared.fault.DemandFault.TheVariants as demand_fault
 use Rattle.rtdvs_top.specs.WordLines.{word_fault_text}
+use Rattle.rtdvs_top.specs.RequestLines.{request_fault_text, no_task_text}
 use Rattle.rtdvs_top.specs.declared.status.FileKind.{FileKind}
 use Rattle.rtdvs_top.specs.declared.status.FileKind.TheVariants as file
 use Rattle.rtdvs_top.specs.declared.status.TextFault.{TextFault}
@@ -36,6 +37,7 @@ file_word file.Tasks = codes "tasks"
 file_word file.Machine = codes "machine"
 file_word file.Demands = codes "demands"
 file_word file.Trace = codes "trace"
+file_word file.Requests = codes "requests"
 
 -- the word of a task file's field
 abbrev pub task_field_word : Field → List ℕ
@@ -168,6 +170,8 @@ text_fault_text names (text.Tasks why) = task_fault_text why
 text_fault_text names (text.Machine why) = machine_fault_text why
 text_fault_text names (text.Demands why) = demand_fault_text names why
 text_fault_text names (text.Trace why) = trace_fault_text why
+text_fault_text names (text.Requests why) = request_fault_text why
+text_fault_text names (text.Server name) = no_task_text name
 
 -- the line of a denial
 abbrev pub denied_text : List (List ℕ) → Denied → List ℕ

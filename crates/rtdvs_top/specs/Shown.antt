@@ -4,6 +4,7 @@ use Rattle.task_model.specs.declared.fault.TaskFault.TheVariants as task_fault
 use Rattle.freq_table.specs.declared.fault.MachineFault.TheVariants as machine_fault
 use Rattle.demand_list.specs.declared.fault.DemandFault.TheVariants as demand_fault
 use Rattle.trace_reader.specs.declared.trace.TraceFault.TheVariants as trace_fault
+use Rattle.request_list.specs.declared.fault.RequestFault.TheVariants as request_fault
 use Rattle.dvs_base.specs.declared.limits.TheConstants.{MOST_JOBS}
 use Rattle.rtdvs_top.specs.declared.status.TextFault.{TextFault}
 use Rattle.rtdvs_top.specs.declared.status.TextFault.TheVariants as text
@@ -24,6 +25,7 @@ IsShownText (text.Machine machine_fault.NoMemory) = ⊥
 IsShownText (text.Demands demand_fault.NoMemory) = ⊥
 IsShownText (text.Demands (demand_fault.OverWorst task job units worst)) = ⊥
 IsShownText (text.Trace trace_fault.NoMemory) = ⊥
+IsShownText (text.Requests request_fault.NoMemory) = ⊥
 IsShownText why = ⊤
 
 -- the numbers of a status are such that they are its cause

@@ -17,8 +17,10 @@ fn longest(file: FileKind) -> u64
     ensures room { result < 2 ^ 32 }
 {
     match file {
-        FileKind::Tasks | FileKind::Machine | FileKind::Demands => LONGEST_FILE,
         FileKind::Trace => LONGEST_TRACE,
+        FileKind::Tasks | FileKind::Machine | FileKind::Demands | FileKind::Requests => {
+            LONGEST_FILE
+        }
     }
 }
 

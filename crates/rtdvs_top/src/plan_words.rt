@@ -21,3 +21,15 @@ pub struct AdmitWords<'a> {
     pub machine: &'a str,
     pub scheduler: Scheduler,
 }
+
+/// What the words of a polling name.
+#[derive(Clone, Copy)]
+pub struct PollWords<'a> {
+    pub tasks: &'a str,
+    pub machine: &'a str,
+    pub requests: &'a str,
+    pub server: &'a str,
+    pub scheduler: Scheduler,
+    pub governor: GovernorKind,
+    pub ticks: u64,
+}

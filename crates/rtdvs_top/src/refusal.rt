@@ -7,6 +7,7 @@ ghost use Rattle.rtdvs_top.specs.Refusals.{file_word, task_field_word, machine_f
 ghost use Rattle.std.specs.Option.{option_copied};
 ghost use Rattle.rtdvs_top.specs.Naming.{names_of, name_text};
 
+use crate::request_line::{no_task_line, request_fault_line};
 use crate::word_line::word_fault_line;
 use crate::{Denied, FileKind, Status, TextFault};
 use demand_list::{Column, DemandFault};
@@ -23,6 +24,7 @@ fn file_word(file: FileKind) -> &'static [u8]
         FileKind::Machine => b"machine",
         FileKind::Demands => b"demands",
         FileKind::Trace => b"trace",
+        FileKind::Requests => b"requests",
     }
 }
 
@@ -362,6 +364,8 @@ fn text_fault_line(why: &TextFault, tasks: Option<&TaskSet>) -> Line
         TextFault::Machine(why) => machine_fault_line(why),
         TextFault::Demands(why) => demand_fault_line(why, tasks),
         TextFault::Trace(why) => trace_fault_line(why),
+        TextFault::Requests(why) => request_fault_line(why),
+        TextFault::Server { name } => no_task_line(name),
     }
 }
 

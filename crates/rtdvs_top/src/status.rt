@@ -3,8 +3,9 @@ ghost use Rattle.std.specs.Prelude.{◌≡◌};
 ghost use Rattle.rtdvs_top.specs.Code.{code_of};
 
 use demand_list::DemandFault;
-use dvs_base::Note;
+use dvs_base::{Note, Short};
 use freq_table::MachineFault;
+use request_list::RequestFault;
 use task_model::TaskFault;
 use trace_reader::TraceFault;
 use words::WordFault;
@@ -20,6 +21,8 @@ pub enum FileKind {
     Demands,
     /// The file of a trace.
     Trace,
+    /// The file of requests.
+    Requests,
 }
 
 /// Why a file that was loaded is refused.
@@ -35,6 +38,10 @@ pub enum TextFault {
     Demands(DemandFault),
     /// The trace is refused, and not for want of memory.
     Trace(TraceFault),
+    /// The requests are refused, and not for want of memory.
+    Requests(RequestFault),
+    /// No task has the name of the server.
+    Server { name: Short },
 }
 
 /// The two numbers by which a scheduler's test fails, in work units.

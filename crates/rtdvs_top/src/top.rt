@@ -10,7 +10,7 @@ ghost use Rattle.rtdvs_top.specs.ProbeLines.{noted_text, probe_lines};
 ghost use Rattle.rtdvs_top.specs.Probing.{LeavesProbes, ToldIn, asks_probes};
 ghost use Rattle.rtdvs_top.specs.Shown.{IsShown};
 ghost use Rattle.rtdvs_top.specs.Ending.{EndsAs, Leaves, MetIn};
-ghost use Rattle.rtdvs_top.specs.Promises.{asked, files_told, Answers, Writes, WritesPart, IsSureOf, LoadFailed, LoadsInOrder, loads_asked, OfRun, Headline, Notes, Tells, probes_asked};
+ghost use Rattle.rtdvs_top.specs.Promises.{asked, files_told, Answers, Writes, WritesPart, IsSureOf, LoadFailed, LoadsInOrder, loads_asked, OfRun, OfPoll, Headline, Notes, Tells, probes_asked};
 ghost use Rattle.rtdvs_top.specs.Exactness.{OfTrace};
 ghost use Rattle.rtdvs_top.specs.Writing.{NotedAs};
 ghost use Rattle.words.specs.Commands.{IsReadyCommand};
@@ -21,7 +21,8 @@ use crate::Status;
 use crate::admit_answer::answer_admit;
 use crate::difference::{Difference, put_difference};
 use crate::made_lines::answer_workload;
-use crate::plan_words::{AdmitWords, RunWords};
+use crate::plan_words::{AdmitWords, PollWords, RunWords};
+use crate::poll_answer::answer_poll;
 use crate::probe_line::put_probes;
 use crate::refusal::status_line;
 use crate::run_answer::answer_run;
@@ -177,6 +178,26 @@ fn answer_command<S: Shelf, W: Sink, P: Probe>(
             answer_trace(alloc, &words, shelf, out)
         }
         Command::Workload { seed } => (answer_workload(alloc, *seed, out), None),
+        Command::Poll {
+            tasks,
+            machine,
+            requests,
+            server,
+            scheduler,
+            governor,
+            ticks,
+        } => {
+            let poll = PollWords {
+                tasks,
+                machine,
+                requests,
+                server,
+                scheduler: *scheduler,
+                governor: *governor,
+                ticks: *ticks,
+            };
+            answer_poll(alloc, &poll, shelf, out)
+        }
     }
 }
 
@@ -227,6 +248,9 @@ pub fn rtdvs<S: Shelf, W: Sink, E: Sink>(
     ensures exact { OfTrace (files_told (S.shows shelf.old).held (asked words.now)) (asked words.now)
         (Rose (S.shows shelf.old).faults (S.shows shelf.new).faults)
         (Rose (W.shows out.old).faults (W.shows out.new).faults) result }
+
+    // what a polling that is done has kept
+    ensures polled { OfPoll (files_told (S.shows shelf.old).held (asked words.now)) (asked words.now) result }
 
     // where the outside is sure, it doesn't fail
     ensures sure { IsSureOf (files_told (S.shows shelf.old).held (asked words.now)) (asked words.now) (W.shows out.old)

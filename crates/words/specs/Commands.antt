@@ -43,6 +43,16 @@ pub record TracedOf : Type 0 where
   pub machine : List ℕ
   pub trace : List ℕ
 
+-- what the words of a polling name: files by their names, the task that serves, and the run as for a run
+pub record PollOf : Type 0 where
+  pub tasks : List ℕ
+  pub machine : List ℕ
+  pub requests : List ℕ
+  pub server : List ℕ
+  pub scheduler : Scheduler
+  pub governor : GovernorKind
+  pub ticks : ℕ
+
 -- what the words of a least energy name: the machine's file, the work units, and the number of ticks
 pub record LeastOf : Type 0 where
   pub machine : List ℕ
@@ -55,13 +65,18 @@ pub data CommandOf : Type 0 where
   admit : AdmitOf → CommandOf
   traced : TracedOf → CommandOf
   workload : ℕ → CommandOf
+  poll : PollOf → CommandOf
   least : LeastOf → CommandOf
 
+-- a scheduler and a governor that are a pair, and a number of ticks within the limits
+pub record IsReadyFor (scheduler : Scheduler) (governor : GovernorKind) (ticks : ℕ) : Type 0 where
+  pub pair : IsPair scheduler governor
+  pub some_ticks : 1 ≤ ticks
+  pub few_ticks : ticks ≤ MOST_TICKS
+
 -- the scheduler and the governor of a run are a pair, and its number of ticks is within the limits
-pub record IsReady (r : RunOf) : Type 0 where
-  pub pair : IsPair r.scheduler r.governor
-  pub some_ticks : 1 ≤ r.ticks
-  pub few_ticks : r.ticks ≤ MOST_TICKS
+abbrev pub IsReady : RunOf → Type 0
+IsReady r = IsReadyFor r.scheduler r.governor r.ticks
 
 -- the number of ticks of a least energy is within the limits of a run
 pub record HasReadyTicks (l : LeastOf) : Type 0 where
@@ -71,6 +86,7 @@ pub record HasReadyTicks (l : LeastOf) : Type 0 where
 -- a command is ready where its numbers are within the limits, and its scheduler and governor, if it has both, a pair
 abbrev pub IsReadyCommand : CommandOf → Type 0
 IsReadyCommand (run r) = IsReady r
+IsReadyCommand (poll q) = IsReadyFor q.scheduler q.governor q.ticks
 IsReadyCommand (least l) = HasReadyTicks l
 IsReadyCommand c = ⊤
 
@@ -83,26 +99,38 @@ r >>= next = and_then r next
 abbrev pub need : {A : Type 0} → Opt → Option A → Result A WordFault
 need option value = ok_or value (fault.Missing option)
 
+-- the pair of a run and its number of ticks
+pub record TimedOf : Type 0 where
+  pub scheduler : Scheduler
+  pub governor : GovernorKind
+  pub ticks : ℕ
+
+-- these by the values that were given: the first that was not is missing, and last comes the pair
+abbrev pub timed_of : GivenOf → Result TimedOf WordFault
+timed_of g = do
+  scheduler ← need opt.Scheduler g.scheduler
+  governor ← need opt.Governor g.governor
+  ticks ← need opt.Ticks g.ticks
+  if is_pair scheduler governor
+      then Ok (record { scheduler = scheduler; governor = governor; ticks = ticks })
+      else Err fault.Pair
+
 -- a run by the values that were given: the first required option that was not is missing, and last comes the pair
 abbrev pub run_of : GivenOf → Result RunOf WordFault
 run_of g = do
   tasks ← need opt.Tasks g.tasks
   machine ← need opt.Machine g.machine
-  scheduler ← need opt.Scheduler g.scheduler
-  governor ← need opt.Governor g.governor
-  ticks ← need opt.Ticks g.ticks
-  if is_pair scheduler governor
-      then Ok (record {
-        tasks = tasks;
-        machine = machine;
-        scheduler = scheduler;
-        governor = governor;
-        ticks = ticks;
-        demands = g.demands;
-        probes = is_some g.probes;
-        version = unwrap_or g.format One;
-      })
-      else Err fault.Pair
+  timed ← timed_of g
+  Ok (record {
+    tasks = tasks;
+    machine = machine;
+    scheduler = timed.scheduler;
+    governor = timed.governor;
+    ticks = timed.ticks;
+    demands = g.demands;
+    probes = is_some g.probes;
+    version = unwrap_or g.format One;
+  })
 
 -- an admission by the values that were given
 abbrev pub admit_of : GivenOf → Result AdmitOf WordFault
@@ -132,11 +160,30 @@ least_of g = do
   ticks ← need opt.Ticks g.ticks
   Ok (record { machine = machine; units = units; ticks = ticks })
 
--- the command by the values that were given, or the first required option that was not; last, a run's pair
+-- a polling by the values that were given
+abbrev pub poll_of : GivenOf → Result PollOf WordFault
+poll_of g = do
+  tasks ← need opt.Tasks g.tasks
+  machine ← need opt.Machine g.machine
+  requests ← need opt.Requests g.requests
+  server ← need opt.Server g.server
+  timed ← timed_of g
+  Ok (record {
+    tasks = tasks;
+    machine = machine;
+    requests = requests;
+    server = server;
+    scheduler = timed.scheduler;
+    governor = timed.governor;
+    ticks = timed.ticks;
+  })
+
+-- the command by the values that were given, or the first required option that was not; last, the pair of a run
 abbrev pub built : Verb → GivenOf → Result CommandOf WordFault
 built verb.Run g = run_of g >>= (λ r. Ok (run r))
 built verb.Admit g = admit_of g >>= (λ a. Ok (admit a))
 built verb.Replay g = trace_command Replay g
 built verb.Migrate g = trace_command Migrate g
 built verb.Workload g = need opt.Seed g.seed >>= (λ seed. Ok (workload seed))
+built verb.Poll g = poll_of g >>= (λ q. Ok (poll q))
 built verb.Least g = least_of g >>= (λ l. Ok (least l))

@@ -5,9 +5,10 @@ use Rattle.words.specs.declared.command.Command.TheVariants as command
 use Rattle.words.specs.declared.command.WordFault.{WordFault}
 use Rattle.words.specs.declared.given.Given.{Given}
 use Rattle.words.specs.declared.given.TraceUse.TheVariants.{Replay, Migrate}
+use Rattle.words.specs.declared.given.Timed.{Timed}
 use Rattle.words.specs.declared.read.Reading.{Reading}
 use Rattle.words.specs.Values.{GivenOf}
-use Rattle.words.specs.Commands.{CommandOf, run, admit, traced, workload, least}
+use Rattle.words.specs.Commands.{CommandOf, TimedOf, run, admit, traced, workload, poll, least}
 use Rattle.words.specs.Reading.{ReadingOf}
 
 -- the values that were given, with the texts of names
@@ -17,6 +18,8 @@ shown_given g = record {
   machine = option_map (λ s. s.now) g.machine;
   demands = option_map (λ s. s.now) g.demands;
   trace = option_map (λ s. s.now) g.trace;
+  requests = option_map (λ s. s.now) g.requests;
+  server = option_map (λ s. s.now) g.server;
   scheduler = g.scheduler;
   governor = g.governor;
   ticks = option_map (λ t. t.number) g.ticks;
@@ -34,6 +37,11 @@ shown_reading r = record { given = shown_given r.given; waits = r.waits }
 abbrev pub reading_answer : Result Reading WordFault → Result ReadingOf WordFault
 reading_answer (Ok r) = Ok (shown_reading r)
 reading_answer (Err e) = Err e
+
+-- the pair of a run and its number of ticks
+abbrev pub timed_answer : Result Timed WordFault → Result TimedOf WordFault
+timed_answer (Ok t) = Ok (record { scheduler = t.scheduler; governor = t.governor; ticks = t.ticks.number })
+timed_answer (Err e) = Err e
 
 -- a command, with the texts of names
 abbrev pub shown : Command → CommandOf
@@ -54,6 +62,15 @@ shown (command.Replay tasks machine trace) =
 shown (command.Migrate tasks machine trace) =
     traced (record { asked = Migrate; tasks = tasks.now; machine = machine.now; trace = trace.now })
 shown (command.Workload seed) = workload seed
+shown (command.Poll tasks machine requests server scheduler governor ticks) = poll (record {
+  tasks = tasks.now;
+  machine = machine.now;
+  requests = requests.now;
+  server = server.now;
+  scheduler = scheduler;
+  governor = governor;
+  ticks = ticks;
+})
 shown (command.Least machine units ticks) = least (record { machine = machine.now; units = units; ticks = ticks })
 
 -- an answer, with the command so shown

@@ -11,9 +11,9 @@ use Rattle.dvs_base.specs.declared.kind.Version.TheVariants.{One, Two}
 use Rattle.words.specs.declared.table.Key.{Key}
 use Rattle.words.specs.declared.table.Key.TheVariants as key
 
--- a file's name is not empty
-abbrev pub file_name : List ℕ → Option (List ℕ)
-file_name word = if length word == 0 then None else Some word
+-- the name of a file or of a task is not empty
+abbrev pub some_text : List ℕ → Option (List ℕ)
+some_text word = if length word == 0 then None else Some word
 
 -- the version of a trace that a word is
 abbrev pub version_of : List ℕ → Option Version
@@ -31,6 +31,8 @@ pub record GivenOf : Type 0 where
   pub machine : Option (List ℕ)
   pub demands : Option (List ℕ)
   pub trace : Option (List ℕ)
+  pub requests : Option (List ℕ)
+  pub server : Option (List ℕ)
   pub scheduler : Option Scheduler
   pub governor : Option GovernorKind
   pub ticks : Option ℕ
@@ -46,6 +48,8 @@ nothing_given = record {
   machine = None;
   demands = None;
   trace = None;
+  requests = None;
+  server = None;
   scheduler = None;
   governor = None;
   ticks = None;
@@ -65,20 +69,24 @@ has g key.Governor = is_some g.governor
 has g key.Ticks = is_some g.ticks
 has g key.Trace = is_some g.trace
 has g key.Seed = is_some g.seed
+has g key.Requests = is_some g.requests
+has g key.Server = is_some g.server
 has g key.Units = is_some g.units
 has g key.Probes = is_some g.probes
 has g key.Format = is_some g.format
 
 -- with the value that the word is for this option; none where the word is outside the option's rule
 abbrev pub with_value : GivenOf → Key → List ℕ → Option GivenOf
-with_value g key.Tasks word = option_map (λ v. record g { tasks = Some v }) (file_name word)
-with_value g key.Machine word = option_map (λ v. record g { machine = Some v }) (file_name word)
-with_value g key.Demands word = option_map (λ v. record g { demands = Some v }) (file_name word)
+with_value g key.Tasks word = option_map (λ v. record g { tasks = Some v }) (some_text word)
+with_value g key.Machine word = option_map (λ v. record g { machine = Some v }) (some_text word)
+with_value g key.Demands word = option_map (λ v. record g { demands = Some v }) (some_text word)
 with_value g key.Scheduler word = option_map (λ v. record g { scheduler = Some v }) (scheduler_of word)
 with_value g key.Governor word = option_map (λ v. record g { governor = Some v }) (governor_of word)
 with_value g key.Ticks word = option_map (λ v. record g { ticks = Some v }) (ticks_of word)
-with_value g key.Trace word = option_map (λ v. record g { trace = Some v }) (file_name word)
+with_value g key.Trace word = option_map (λ v. record g { trace = Some v }) (some_text word)
 with_value g key.Seed word = option_map (λ v. record g { seed = Some v }) (number_of word)
+with_value g key.Requests word = option_map (λ v. record g { requests = Some v }) (some_text word)
+with_value g key.Server word = option_map (λ v. record g { server = Some v }) (some_text word)
 with_value g key.Units word = option_map (λ v. record g { units = Some v }) (number_of word)
 with_value g key.Probes word = Some (record g { probes = Some true })
 with_value g key.Format word = option_map (λ v. record g { format = Some v }) (version_of word)

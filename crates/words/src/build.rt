@@ -1,11 +1,11 @@
 // The row of each command: its required options in order, and what stands for an optional one that was not given.
 ghost use Rattle.std.specs.Prelude.{◌≡◌, IfOk};
-ghost use Rattle.words.specs.Commands.{IsReadyCommand, need, trace_command, built};
-ghost use Rattle.words.specs.Shown.{shown, shown_given, answer};
+ghost use Rattle.words.specs.Commands.{IsReadyCommand, IsReadyFor, need, timed_of, trace_command, built};
+ghost use Rattle.words.specs.Shown.{shown, shown_given, answer, timed_answer};
 ghost use Rattle.words.specs.declared.table.Verb.TheVariants as verb;
 
 use crate::command::{Command, Opt, WordFault};
-use crate::given::{Given, TraceUse};
+use crate::given::{Given, Timed, TraceUse};
 use crate::table::Verb;
 use dvs_base::{Version, is_pair};
 
@@ -16,6 +16,24 @@ fn need<T>(value: Option<T>, option: Opt) -> Result<T, WordFault>
     value.ok_or(WordFault::Missing { option })
 }
 
+// The pair of a run and its number of ticks, by the values that were given.
+fn timed_of<'a>(given: Given<'a>) -> Result<Timed, WordFault>
+    ensures read { timed_answer result ≡ timed_of (shown_given given.entry) }
+    ensures ready { IfOk result (λ t. IsReadyFor t.scheduler t.governor t.ticks.number) }
+{
+    let scheduler = need(given.scheduler, Opt::Scheduler)?;
+    let governor = need(given.governor, Opt::Governor)?;
+    let ticks = need(given.ticks, Opt::Ticks)?;
+    if !is_pair(scheduler, governor) {
+        return Err(WordFault::Pair);
+    }
+    Ok(Timed {
+        scheduler,
+        governor,
+        ticks,
+    })
+}
+
 // A run by the values that were given.
 fn planned<'a>(given: Given<'a>) -> Result<Command<'a>, WordFault>
     ensures read { answer result ≡ built verb.Run (shown_given given.entry) }
@@ -23,22 +41,42 @@ fn planned<'a>(given: Given<'a>) -> Result<Command<'a>, WordFault>
 {
     let tasks = need(given.tasks, Opt::Tasks)?;
     let machine = need(given.machine, Opt::Machine)?;
-    let scheduler = need(given.scheduler, Opt::Scheduler)?;
-    let governor = need(given.governor, Opt::Governor)?;
-    let ticks = need(given.ticks, Opt::Ticks)?;
-    if !is_pair(scheduler, governor) {
-        return Err(WordFault::Pair);
+    match timed_of(given) {
+        Ok(timed) => Ok(Command::Run {
+            tasks,
+            machine,
+            demands: given.demands,
+            scheduler: timed.scheduler,
+            governor: timed.governor,
+            ticks: timed.ticks.number,
+            probes: given.probes.is_some(),
+            version: given.format.unwrap_or(Version::One),
+        }),
+        Err(fault) => Err(fault),
     }
-    Ok(Command::Run {
-        tasks,
-        machine,
-        demands: given.demands,
-        scheduler,
-        governor,
-        ticks: ticks.number,
-        probes: given.probes.is_some(),
-        version: given.format.unwrap_or(Version::One),
-    })
+}
+
+// A polling by the values that were given.
+fn polled<'a>(given: Given<'a>) -> Result<Command<'a>, WordFault>
+    ensures read { answer result ≡ built verb.Poll (shown_given given.entry) }
+    ensures ready { IfOk result (λ c. IsReadyCommand (shown c)) }
+{
+    let tasks = need(given.tasks, Opt::Tasks)?;
+    let machine = need(given.machine, Opt::Machine)?;
+    let requests = need(given.requests, Opt::Requests)?;
+    let server = need(given.server, Opt::Server)?;
+    match timed_of(given) {
+        Ok(timed) => Ok(Command::Poll {
+            tasks,
+            machine,
+            requests,
+            server,
+            scheduler: timed.scheduler,
+            governor: timed.governor,
+            ticks: timed.ticks.number,
+        }),
+        Err(fault) => Err(fault),
+    }
 }
 
 // An admission by the values that were given.
@@ -111,6 +149,7 @@ pub fn built<'a>(verb: Verb, given: Given<'a>) -> Result<Command<'a>, WordFault>
         Verb::Replay => traced(given, TraceUse::Replay),
         Verb::Migrate => traced(given, TraceUse::Migrate),
         Verb::Workload => made(given),
+        Verb::Poll => polled(given),
         Verb::Least => bounded(given),
     }
 }

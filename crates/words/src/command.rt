@@ -20,6 +20,10 @@ pub enum Opt {
     Trace,
     /// `--seed`: the number from which a workload is made.
     Seed,
+    /// `--requests`: the file of requests.
+    Requests,
+    /// `--server`: the task that serves them.
+    Server,
     /// `--units`: the work units whose least energy is asked for.
     Units,
 }
@@ -59,6 +63,16 @@ pub enum Command<'a> {
     /// Run what is made from a seed, under each governor.
     Workload {
         seed: u64,
+    },
+    /// Print when a task serves each request, in so many ticks.
+    Poll {
+        tasks: &'a str,
+        machine: &'a str,
+        requests: &'a str,
+        server: &'a str,
+        scheduler: Scheduler,
+        governor: GovernorKind,
+        ticks: u64,
     },
     /// Say what so many work units cost at least in so many ticks.
     Least {

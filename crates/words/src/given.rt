@@ -9,6 +9,8 @@ pub struct Given<'a> {
     pub machine: Option<&'a str>,
     pub demands: Option<&'a str>,
     pub trace: Option<&'a str>,
+    pub requests: Option<&'a str>,
+    pub server: Option<&'a str>,
     pub scheduler: Option<Scheduler>,
     pub governor: Option<GovernorKind>,
     pub ticks: Option<Ticks>,
@@ -25,4 +27,12 @@ pub enum TraceUse {
     Replay,
     /// Its text in version 2 is printed.
     Migrate,
+}
+
+/// The pair of a run and its number of ticks.
+#[derive(Clone, Copy, Debug, PartialEq, Eq)]
+pub struct Timed {
+    pub scheduler: Scheduler,
+    pub governor: GovernorKind,
+    pub ticks: Ticks,
 }

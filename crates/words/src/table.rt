@@ -13,6 +13,7 @@ pub enum Verb {
     Replay,
     Migrate,
     Workload,
+    Poll,
     Least,
 }
 
@@ -27,6 +28,8 @@ pub enum Key {
     Ticks,
     Trace,
     Seed,
+    Requests,
+    Server,
     Units,
     Probes,
     Format,
@@ -41,6 +44,7 @@ pub fn verb_of(word: &str) -> Option<Verb>
         "admit" => Some(Verb::Admit),
         "replay" => Some(Verb::Replay),
         "migrate" => Some(Verb::Migrate),
+        "poll" => Some(Verb::Poll),
         "workload" => Some(Verb::Workload),
         "least" => Some(Verb::Least),
         _ => None,
@@ -65,6 +69,15 @@ pub fn options_of(verb: Verb) -> &'static [Key]
         Verb::Admit => &[Key::Tasks, Key::Machine, Key::Scheduler],
         Verb::Replay | Verb::Migrate => &[Key::Tasks, Key::Machine, Key::Trace],
         Verb::Workload => &[Key::Seed],
+        Verb::Poll => &[
+            Key::Tasks,
+            Key::Machine,
+            Key::Requests,
+            Key::Server,
+            Key::Scheduler,
+            Key::Governor,
+            Key::Ticks,
+        ],
         Verb::Least => &[Key::Machine, Key::Units, Key::Ticks],
     }
 }
@@ -83,6 +96,8 @@ pub fn option_word(option: Opt) -> &'static [u8]
         Opt::Ticks => b"--ticks",
         Opt::Trace => b"--trace",
         Opt::Seed => b"--seed",
+        Opt::Requests => b"--requests",
+        Opt::Server => b"--server",
         Opt::Units => b"--units",
     }
 }
@@ -100,6 +115,8 @@ pub fn word_of(key: Key) -> &'static [u8]
         Key::Ticks => option_word(Opt::Ticks),
         Key::Trace => option_word(Opt::Trace),
         Key::Seed => option_word(Opt::Seed),
+        Key::Requests => option_word(Opt::Requests),
+        Key::Server => option_word(Opt::Server),
         Key::Units => option_word(Opt::Units),
         Key::Probes => b"--probes",
         Key::Format => b"--format",

@@ -363,3 +363,35 @@ fn probes_and_a_version_may_be_asked_for(rt: HostRuntime) -> Result<(), Fail> {
     assert!(rt; fault_of(alloc, "admit --format 1")? == unexpected(2, "--format"));
     Ok(())
 }
+
+#[test]
+fn a_polling_names_its_server(rt: HostRuntime) -> Result<(), Fail> {
+    let alloc = rt.alloc();
+    let poll = Command::Poll {
+        tasks: "t",
+        machine: "m",
+        requests: "r",
+        server: "s",
+        scheduler: Scheduler::Rm,
+        governor: GovernorKind::Cycle,
+        ticks: 15,
+    };
+    let words =
+        "poll --ticks 15 --server s --governor cc --requests r --scheduler rm --machine m --tasks t";
+    assert!(rt; is_read_as(alloc, words, poll)?);
+    assert!(rt; fault_of(alloc, "poll")? == missing(Opt::Tasks));
+    assert!(rt; fault_of(alloc, "poll --tasks t")? == missing(Opt::Machine));
+    let files = "poll --tasks t --machine m";
+    assert!(rt; fault_of(alloc, files)? == missing(Opt::Requests));
+    let no_server = "poll --tasks t --machine m --requests r --ticks 1";
+    assert!(rt; fault_of(alloc, no_server)? == missing(Opt::Server));
+    let no_pair = "poll --tasks t --machine m --server s --requests r --scheduler rm --governor la --ticks 1";
+    assert!(rt; fault_of(alloc, no_pair)? == Some(WordFault::Pair));
+    assert!(rt; fault_of(alloc, "poll --server ")? == bad_value(3, ""));
+    assert!(rt; fault_of(alloc, "poll --requests ")? == bad_value(3, ""));
+    assert!(rt; fault_of(alloc, "poll --server")? == no_value(2, "--server"));
+    assert!(rt; fault_of(alloc, "poll --requests r --requests r")? == repeated(4, "--requests"));
+    assert!(rt; fault_of(alloc, "poll --demands d")? == unexpected(2, "--demands"));
+    assert!(rt; fault_of(alloc, "run --server s")? == unexpected(2, "--server"));
+    Ok(())
+}

@@ -1,7 +1,7 @@
 // What a word is as the value of an option.
 ghost use Rattle.std.specs.Prelude.{◌≡◌, option_map};
 ghost use Rattle.dvs_base.specs.PlanWords.{ticks_of};
-ghost use Rattle.words.specs.Values.{file_name, version_of, number_of, nothing_given, has, with_value};
+ghost use Rattle.words.specs.Values.{some_text, version_of, number_of, nothing_given, has, with_value};
 ghost use Rattle.words.specs.Shown.{shown_given};
 
 use crate::given::Given;
@@ -9,8 +9,8 @@ use crate::table::Key;
 use crate::ticks::Ticks;
 use dvs_base::{Version, governor_of, scheduler_of, whole};
 
-fn file_name(word: &str) -> Option<&str>
-    ensures { option_map (λ s. s.now) result ≡ file_name word.now }
+fn some_text(word: &str) -> Option<&str>
+    ensures { option_map (λ s. s.now) result ≡ some_text word.now }
 {
     if word.is_empty() { None } else { Some(word) }
 }
@@ -47,6 +47,8 @@ impl<'a> Given<'a> {
             machine: None,
             demands: None,
             trace: None,
+            requests: None,
+            server: None,
             scheduler: None,
             governor: None,
             ticks: None,
@@ -70,6 +72,8 @@ impl<'a> Given<'a> {
             Key::Ticks => self.ticks.is_some(),
             Key::Trace => self.trace.is_some(),
             Key::Seed => self.seed.is_some(),
+            Key::Requests => self.requests.is_some(),
+            Key::Server => self.server.is_some(),
             Key::Units => self.units.is_some(),
             Key::Probes => self.probes.is_some(),
             Key::Format => self.format.is_some(),
@@ -82,14 +86,16 @@ pub fn with_value<'a>(mut given: Given<'a>, key: Key, word: &'a str) -> Option<G
     ensures { option_map shown_given result ≡ with_value (shown_given given.entry) key word.now }
 {
     match key {
-        Key::Tasks => given.tasks = Some(file_name(word)?),
-        Key::Machine => given.machine = Some(file_name(word)?),
-        Key::Demands => given.demands = Some(file_name(word)?),
+        Key::Tasks => given.tasks = Some(some_text(word)?),
+        Key::Machine => given.machine = Some(some_text(word)?),
+        Key::Demands => given.demands = Some(some_text(word)?),
         Key::Scheduler => given.scheduler = Some(scheduler_of(word.as_bytes())?),
         Key::Governor => given.governor = Some(governor_of(word.as_bytes())?),
         Key::Ticks => given.ticks = Some(ticks_of(word)?),
-        Key::Trace => given.trace = Some(file_name(word)?),
+        Key::Trace => given.trace = Some(some_text(word)?),
         Key::Seed => given.seed = Some(number_of(word)?),
+        Key::Requests => given.requests = Some(some_text(word)?),
+        Key::Server => given.server = Some(some_text(word)?),
         Key::Units => given.units = Some(number_of(word)?),
         Key::Probes => given.probes = Some(true),
         Key::Format => given.format = Some(version_of(word)?),

@@ -1,0 +1,83 @@
+// Pollings that are refused, each with its line.
+use crate::call::Files;
+use crate::rows::{MACHINE, SHORT, TASKS};
+use std::test::Fail;
+
+const POLL: &str =
+    "poll --tasks T --machine M --requests R --server s --scheduler edf --governor none --ticks 15";
+
+// A polling with this request file.
+fn with_requests(requests: &str) -> Files<'_> {
+    Files {
+        tasks: TASKS,
+        machine: MACHINE,
+        requests,
+    }
+}
+
+#[test]
+fn no_task_has_the_name(rt: HostRuntime) -> Result<(), Fail> {
+    let words =
+        "poll --tasks T --machine X --requests X --server z --scheduler edf --governor none --ticks 15";
+    SHORT.refuses(&rt, words, 4, "tasks: no task z\n")
+}
+
+#[test]
+fn files_are_loaded_in_order(rt: HostRuntime) -> Result<(), Fail> {
+    let machine =
+        "poll --tasks T --machine X --requests X --server s --scheduler edf --governor none --ticks 15";
+    SHORT.refuses(&rt, machine, 3, "load: machine\n")?;
+    let requests =
+        "poll --tasks T --machine M --requests X --server s --scheduler edf --governor none --ticks 15";
+    SHORT.refuses(&rt, requests, 3, "load: requests\n")
+}
+
+#[test]
+fn a_header_is_needed(rt: HostRuntime) -> Result<(), Fail> {
+    with_requests("").refuses(&rt, POLL, 4, "requests: wrong header\n")?;
+    with_requests("units,arrival\n").refuses(&rt, POLL, 4, "requests: wrong header\n")
+}
+
+#[test]
+fn a_row_has_two_fields(rt: HostRuntime) -> Result<(), Fail> {
+    with_requests("arrival,units\n0,1\n1\n").refuses(&rt, POLL, 4, "requests: row 2: 1 fields\n")
+}
+
+#[test]
+fn numbers_are_read_exactly(rt: HostRuntime) -> Result<(), Fail> {
+    with_requests("arrival,units\n-1,x\n").refuses(&rt, POLL, 4, "requests: row 1: bad arrival\n")?;
+    with_requests("arrival,units\n1,01\n").refuses(&rt, POLL, 4, "requests: row 1: bad units\n")
+}
+
+#[test]
+fn units_have_limits(rt: HostRuntime) -> Result<(), Fail> {
+    with_requests("arrival,units\n1,0\n").refuses(&rt, POLL, 4, "requests: row 1: units out of range\n")?;
+    with_requests("arrival,units\n1,1152921504606846977\n").refuses(
+        &rt,
+        POLL,
+        4,
+        "requests: row 1: units out of range\n",
+    )
+}
+
+#[test]
+fn no_row_is_earlier_than_the_one_before(rt: HostRuntime) -> Result<(), Fail> {
+    with_requests("arrival,units\n2,1\n1,1\n").refuses(&rt, POLL, 4, "requests: row 2: too early\n")
+}
+
+#[test]
+fn the_test_of_the_scheduler_comes_after_the_requests(rt: HostRuntime) -> Result<(), Fail> {
+    let heavy = Files {
+        tasks: r#"task = [{name = "s", period = 5, worst = 14}, {name = "a", period = 10, worst = 14}]"#,
+        machine: MACHINE,
+        requests: "arrival,units\n0,1\n",
+    };
+    heavy.refuses(&rt, POLL, 1, "denied edf 42 40\n")
+}
+
+#[test]
+fn jobs_have_a_limit(rt: HostRuntime) -> Result<(), Fail> {
+    let long =
+        "poll --tasks T --machine M --requests R --server s --scheduler rm --governor cc --ticks 1000000";
+    SHORT.refuses(&rt, long, 5, "limit: 300000 jobs, at most 100000\n")
+}

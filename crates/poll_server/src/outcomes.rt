@@ -1,0 +1,91 @@
+// The outcome of each request.
+ghost use Rattle.std.specs.Prelude.{◌≡◌, ◌+◌, ◌<◌, ◌≤◌, ℕ, List, length, IfOk};
+ghost use Rattle.dvs_base.specs.declared.note.Note.{Note as NoteOf};
+ghost use Rattle.poll_server.specs.EachOutcome.{outcome_of, outcomes_of};
+ghost use Rattle.poll_server.specs.Serving.{request_count};
+ghost use Rattle.poll_server.specs.Walking.{IsServable, AreEnds, HasReached};
+
+use crate::Outcome;
+use crate::ends::Ends;
+use crate::server::Server;
+use demand_list::Demands;
+use dvs_base::NoMemory;
+use std::alloc::Global;
+
+/// The first jobs of a server in a run: how many they are, their demands, and where they are done.
+#[derive(Clone, Copy)]
+pub(crate) struct Jobs<'a> {
+    pub(crate) server: &'a Server<'a>,
+    pub(crate) count: u64,
+    pub(crate) demands: &'a Demands,
+    pub(crate) ends: &'a Ends,
+}
+
+// The job that some first requests reach, the units that it and the jobs before it take, and those that were asked for.
+#[derive(Drop)]
+struct Reached {
+    job: u64,
+    taken: u128,
+    asked: u128,
+}
+
+impl Reached {
+    // Goes on with one more request, to the job that takes its last unit, and to the last job where none does.
+    fn add(&mut self, jobs: &Jobs<'_>, m: usize)
+        requires servable { IsServable jobs.now.server.now jobs.now.count jobs.now.demands.now }
+        requires request { m < request_count jobs.now.server.now }
+        requires reached { HasReached jobs.now.server.now jobs.now.count m self.old }
+        ensures reached { HasReached jobs.now.server.now jobs.now.count (m + 1) self.new }
+        ensures last { self.new.taken < self.new.asked → self.new.job ≡ jobs.now.count }
+        ensures some { 1 ≤ self.new.asked }
+    {
+        let server = jobs.server;
+        self.asked += u128::from(server.requests[m].units);
+        while self.job < jobs.count && self.taken < self.asked {
+            self.job += 1;
+            self.taken += u128::from(jobs.demands.units(server.task, self.job));
+        }
+    }
+
+    // The outcome of the next request.
+    fn serve(&mut self, jobs: &Jobs<'_>, m: usize) -> Outcome
+        requires servable { IsServable jobs.now.server.now jobs.now.count jobs.now.demands.now }
+        requires long { length jobs.now.ends.now.ends.items ≡ jobs.now.count }
+        requires request { m < request_count jobs.now.server.now }
+        requires reached { HasReached jobs.now.server.now jobs.now.count m self.old }
+        ensures reached { HasReached jobs.now.server.now jobs.now.count (m + 1) self.new }
+        ensures outcome { (notes : List NoteOf)
+            → AreEnds jobs.now.server.now notes jobs.now.count jobs.now.ends.now.ends.items
+            → result ≡ outcome_of jobs.now.server.now notes m }
+    {
+        self.add(jobs, m);
+        if self.taken < self.asked {
+            return Outcome::Pending;
+        }
+        match jobs.ends.end(self.job) {
+            Some(at) => Outcome::Served { job: self.job, at },
+            None => Outcome::Pending,
+        }
+    }
+}
+
+/// The outcomes of all requests of a server.
+pub(crate) fn outcomes(alloc: Global, jobs: &Jobs<'_>) -> Result<Vec<Outcome>, NoMemory>
+    requires servable { IsServable jobs.now.server.now jobs.now.count jobs.now.demands.now }
+    requires long { length jobs.now.ends.now.ends.items ≡ jobs.now.count }
+    ensures { (notes : List NoteOf)
+        → AreEnds jobs.now.server.now notes jobs.now.count jobs.now.ends.now.ends.items
+        → IfOk result (λ v. v.items ≡ outcomes_of jobs.now.server.now notes) }
+{
+    let mut reached = Reached {
+        job: 0,
+        taken: 0,
+        asked: 0,
+    };
+    let mut list = Vec::new(alloc);
+    let server = jobs.server;
+    for m in 0..server.requests.len() {
+        list.push(reached.serve(jobs, m)).map_err(|_| NoMemory)?;
+    }
+    Ok(list)
+}

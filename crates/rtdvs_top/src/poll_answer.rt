@@ -1,0 +1,195 @@
+// The answer of a polling.
+ghost use Rattle.std.specs.Prelude.{◌≡◌, ◌<◌, ◌≤◌, length, IfOk, if◌then◌else◌};
+ghost use Rattle.poll_server.specs.Serving.{request_count};
+ghost use Rattle.words.specs.Commands.{IsReadyCommand, poll as poll_of};
+ghost use Rattle.rtdvs_top.specs.Asked.{shown_poll};
+ghost use Rattle.rtdvs_top.specs.PollAnswer.{outcome_text, request_lines, is_served, served_among, polled_line, polled_text, answer_of_polling, poll_after_tasks, poll_answer};
+ghost use Rattle.rtdvs_top.specs.PollCauses.{LaterRequestLoad, PassesPolled, IsPollable, ServedIfDone, ServedIn};
+ghost use Rattle.rtdvs_top.specs.Causes.{MakesLoads, IsNoLoad, LoadOf, PassesBefore, loads_of};
+ghost use Rattle.rtdvs_top.specs.Naming.{NamedBy, NamedIfDone};
+ghost use Rattle.rtdvs_top.specs.Ending.{Ends, EndsAs, Leaves, MetIn};
+ghost use Rattle.rtdvs_top.specs.Shown.{IsShown};
+ghost use Rattle.rtdvs_top.specs.Writing.{Writing};
+
+use crate::Status;
+use crate::files::load_tasks;
+use crate::plan_words::PollWords;
+use crate::polled::{Polling, load_polling, serve_pair};
+use crate::writer::put_line;
+use dvs_base::{Failed, Line, Part, Shelf, Sink, Totals, line_of};
+use poll_server::{Outcome, Served};
+use std::alloc::Global;
+use task_model::TaskSet;
+
+// The line of a request: its number from 1, its arrival and its units; and where it is served, by which job and at which
+// position.
+fn outcome_line(polling: &Polling, m: u32, outcome: Outcome) -> Line
+    requires { m < request_count polling.now }
+    ensures text { result ≡ outcome_text polling.now m outcome }
+    ensures some { 0 < length result }
+{
+    let number = u64::from(m) + 1;
+    let arrival = polling.requests.arrival(m);
+    let units = polling.requests.units(m);
+    match outcome {
+        Outcome::Served { job, at } => line_of(&[
+            Part::Word(b"served "),
+            Part::Number(number),
+            Part::Word(b" "),
+            Part::Number(arrival),
+            Part::Word(b" "),
+            Part::Number(units),
+            Part::Word(b" "),
+            Part::Number(job),
+            Part::Word(b" "),
+            Part::At(at),
+            Part::Word(b"\n"),
+        ]),
+        Outcome::Pending => line_of(&[
+            Part::Word(b"pending "),
+            Part::Number(number),
+            Part::Word(b" "),
+            Part::Number(arrival),
+            Part::Word(b" "),
+            Part::Number(units),
+            Part::Word(b"\n"),
+        ]),
+    }
+}
+
+// The last line: how many requests are served, and the energies of running and of idling.
+fn last_line(served: u64, totals: Totals) -> Line
+    ensures text { result ≡ polled_line served totals }
+    ensures some { 0 < length result }
+{
+    line_of(&[
+        Part::Word(b"polled "),
+        Part::Number(served),
+        Part::Word(b" "),
+        Part::Wide(totals.run),
+        Part::Word(b" "),
+        Part::Wide(totals.idle),
+        Part::Word(b"\n"),
+    ])
+}
+
+// One for a request that is served.
+fn one_if_served(outcome: Outcome) -> u64
+    ensures { result ≡ (if is_served outcome then 1 else 0) }
+{
+    match outcome {
+        Outcome::Served { .. } => 1,
+        Outcome::Pending => 0,
+    }
+}
+
+// Puts the lines of the requests, and gives how many are served. After the first put that fails no more is put.
+fn put_requests<W: Sink>(polling: &Polling, served: &Served, out: &mut W) -> Result<u64, Failed>
+    requires { length served.now.outcomes ≡ request_count polling.now }
+    ensures wrote { Writing (W.shows out.old) (W.shows out.new)
+        (request_lines polling.now served.now.outcomes (request_count polling.now)) result }
+    ensures served { IfOk result (λ n. n ≡ served_among served.now.outcomes (request_count polling.now)) }
+{
+    let mut count = 0;
+    for m in 0..polling.requests.count() {
+        let outcome = served.outcome(m);
+        let line = outcome_line(polling, m, outcome);
+        match put_line(&line, out) {
+            Ok(()) => count += one_if_served(outcome),
+            Err(Failed) => return Err(Failed),
+        }
+    }
+    Ok(count)
+}
+
+// Puts the lines of a polling.
+fn put_polled<W: Sink>(polling: &Polling, served: &Served, out: &mut W) -> Result<(), Failed>
+    requires { length served.now.outcomes ≡ request_count polling.now }
+    ensures { Writing (W.shows out.old) (W.shows out.new) (polled_text polling.now served.now) result }
+{
+    match put_requests(polling, served, out) {
+        Ok(count) => {
+            let line = last_line(count, served.totals());
+            match put_line(&line, out) {
+                Ok(()) => Ok(()),
+                Err(Failed) => Err(Failed),
+            }
+        }
+        Err(Failed) => Err(Failed),
+    }
+}
+
+// Runs a polling, and puts its lines.
+fn poll_loaded<W: Sink>(
+    alloc: Global,
+    polling: &Polling,
+    words: &PollWords<'_>,
+    out: &mut W,
+) -> Status
+    requires { IsPollable polling.now words.now.governor words.now.ticks }
+    ensures ended { Ends (W.shows out.old) (W.shows out.new)
+        (answer_of_polling words.now.governor words.now.ticks polling.now) result }
+    ensures leaves { Leaves result out.old out.new }
+    ensures kept { ServedIfDone polling.now words.now.governor words.now.ticks result }
+    ensures loads { IsNoLoad result }
+    ensures shown { IsShown result }
+{
+    match serve_pair(alloc, polling, words.governor, words.ticks) {
+        Ok(served) => match put_polled(polling, &served, out) {
+            Ok(()) => Status::Done,
+            Err(Failed) => Status::Write,
+        },
+        Err(status) => status,
+    }
+}
+
+// The answer of a polling, after its tasks.
+fn poll_tasks<S: Shelf, W: Sink>(
+    alloc: Global,
+    words: &PollWords<'_>,
+    tasks: &TaskSet,
+    shelf: &mut S,
+    out: &mut W,
+) -> Status
+    requires { IsReadyCommand (poll_of (shown_poll words.now)) }
+    ensures ended { EndsAs (W.shows out.old) (W.shows out.new) (S.shows shelf.old).held
+        (poll_after_tasks (shown_poll words.now) tasks.now) result }
+    ensures leaves { Leaves result out.old out.new }
+    ensures kept { ServedIn (S.shows shelf.old).held (shown_poll words.now) tasks.now result }
+    ensures passed { PassesPolled (S.shows shelf.old).held (shown_poll words.now) tasks.now result }
+    ensures explained { LaterRequestLoad (S.shows shelf.old) (S.shows shelf.new) (shown_poll words.now) result }
+    ensures loads { MakesLoads 2 (S.shows shelf.old) (S.shows shelf.new) }
+    ensures shown { IsShown result }
+{
+    match load_polling(alloc, words, tasks, shelf) {
+        Ok(polling) => poll_loaded(alloc, &polling, words, out),
+        Err(status) => status,
+    }
+}
+
+/// The answer of a polling, and the tasks where they were read.
+pub(crate) fn answer_poll<S: Shelf, W: Sink>(
+    alloc: Global,
+    words: &PollWords<'_>,
+    shelf: &mut S,
+    out: &mut W,
+) -> (Status, Option<TaskSet>)
+    requires { IsReadyCommand (poll_of (shown_poll words.now)) }
+    ensures ended { EndsAs (W.shows out.old) (W.shows out.new) (S.shows shelf.old).held
+        (poll_answer (shown_poll words.now)) result.0 }
+    ensures leaves { Leaves result.0 out.old out.new }
+    ensures met { MetIn (S.shows shelf.old).held (poll_of (shown_poll words.now)) result.0 }
+    ensures named { NamedBy (S.shows shelf.old).held (poll_of (shown_poll words.now)) result.1 result.0 }
+    ensures named_done { NamedIfDone (S.shows shelf.old).held (poll_of (shown_poll words.now)) result.1 result.0 }
+    ensures passed { PassesBefore (S.shows shelf.old).held (poll_of (shown_poll words.now)) result.0 }
+    ensures explained { LoadOf (S.shows shelf.old) (S.shows shelf.new) (poll_of (shown_poll words.now)) result.0 }
+    ensures loads { MakesLoads (loads_of (poll_of (shown_poll words.now))) (S.shows shelf.old) (S.shows shelf.new) }
+    ensures shown { IsShown result.0 }
+{
+    let tasks = match load_tasks(alloc, words.tasks, shelf) {
+        Ok(tasks) => tasks,
+        Err(status) => return (status, None),
+    };
+    let status = poll_tasks(alloc, words, &tasks, shelf, out);
+    (status, Some(tasks))
+}
