@@ -1,0 +1,41 @@
+-- When a request is served at the latest.
+use Rattle.std.specs.Prelude.{ℕ, ◌+◌, ◌-◌, ◌<◌, ◌≤◌}
+use Rattle.grid_fraction.specs.Numbers.{ceil_div}
+use Rattle.sched_model.specs.Plan.{period, offset}
+use Rattle.sched_model.specs.Jobs.{due}
+use Rattle.done_lines.specs.DoneLines.{IsBy}
+use Rattle.poll_server.specs.declared.served.Outcome.{Outcome}
+use Rattle.poll_server.specs.declared.served.Outcome.TheVariants.{Served, Pending}
+use Rattle.poll_server.specs.Serving.{ServerOf, budget, request_count, arrival, asked_with, taken_up_to}
+use Rattle.poll_server.specs.Outcomes.{BelongsTo, ServedOf, outcome_at}
+
+-- how many jobs of the server are released before tick t: one for each period that begins between its offset and there
+abbrev pub jobs_before : ServerOf → ℕ → ℕ
+jobs_before s t = ceil_div (t - offset s.plan s.task) (period s.plan s.task)
+
+-- the backlog of request m at its arrival: the units up to and with it, less those that the jobs released before take
+abbrev pub backlog : ServerOf → ℕ → ℕ
+backlog s m = asked_with s m - taken_up_to s (jobs_before s (arrival s m))
+
+-- with a backlog of B units and a budget of Q, the ceil(B/Q)-th job released at or after the arrival
+abbrev pub latest_job : ServerOf → ℕ → ℕ
+latest_job s m = jobs_before s (arrival s m) + ceil_div (backlog s m) (budget s)
+
+-- the tick at which that job is due
+abbrev pub latest_end : ServerOf → ℕ → ℕ
+latest_end s m = due s.plan s.task (latest_job s m)
+
+-- the request is served, at a position not after tick t
+abbrev pub IsServedBy : ℕ → Outcome → Type 0
+IsServedBy t (Served job at_end) = IsBy t at_end
+IsServedBy t Pending = ⊥
+
+-- each request whose latest end lies within so many ticks is served by it
+abbrev pub KeepsBound : ServerOf → ℕ → ServedOf → Type 0
+KeepsBound s ticks r =
+    (m : ℕ) → m < request_count s → latest_end s m ≤ ticks → IsServedBy (latest_end s m) (outcome_at r.outcomes m)
+
+-- each request belongs to a job, no later one than its latest, and a later request never to an earlier job
+pub record HaveJobs (s : ServerOf) : Type 0 where
+  pub each : (m : ℕ) → m < request_count s → (k : ℕ) × BelongsTo s m k × (1 ≤ k) × (k ≤ latest_job s m)
+  pub in_order : (m n j k : ℕ) → m ≤ n → n < request_count s → BelongsTo s m j → BelongsTo s n k → j ≤ k

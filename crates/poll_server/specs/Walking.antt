@@ -1,0 +1,59 @@
+-- The walks over a server's jobs, over the notes of its run, and over its requests.
+use Rattle.std.specs.Prelude.{◌≡◌, ℕ, ◌+◌, ◌<◌, ◌≤◌, List, length, Option, Some, None}
+use Rattle.std.specs.Option.{option_or}
+use Rattle.std.specs.List.{slice_index_or}
+use Rattle.dvs_base.specs.declared.note.Note.{Note}
+use Rattle.dvs_base.specs.declared.note.Pos.{Pos}
+use Rattle.demand_list.specs.Demands.{DemandsOf, HasWorstsOf}
+use Rattle.task_model.specs.DemandRows.{DemandRow, named}
+use Rattle.poll_server.specs.declared.taking.Waiting.{Waiting}
+use Rattle.poll_server.specs.declared.ends.Ends.{Ends}
+use Rattle.poll_server.specs.declared.outcomes.Reached.{Reached}
+use Rattle.poll_server.specs.Serving.{ServerOf, request_count, arrival, asked, job_release, taken, taken_up_to}
+use Rattle.poll_server.specs.Outcomes.{done_in, done_at}
+
+-- the requests passed have arrived by tick t, and their units are counted
+pub record HasPassed (s : ServerOf) (t : ℕ) (w : Waiting) : Type 0 where
+  pub within : w.next ≤ request_count s
+  pub counted : w.arrived ≡ asked s w.next
+  pub early : (m : ℕ) → m < w.next → arrival s m ≤ t
+
+-- it stands after the first k jobs: the requests passed have arrived by the release of the next one
+pub record StandsAfter (s : ServerOf) (k : ℕ) (w : Waiting) : Type 0 where
+  pub passed : HasPassed s (job_release s (k + 1)) w
+  pub counted : w.taken ≡ taken_up_to s k
+
+-- the rows are those of the server's first n jobs, with what they take
+pub record AreTaken (s : ServerOf) (n : ℕ) (rows : List DemandRow) : Type 0 where
+  pub taken_by : (k : ℕ) → 1 ≤ k → k ≤ n → named rows s.task k ≡ Some (taken s k)
+  pub no_later : (k : ℕ) → n < k → named rows s.task k ≡ None
+  pub no_other : (i k : ℕ) → i < length s.plan.tasks → (i ≡ s.task → ⊥) → named rows i k ≡ None
+
+-- the demand list has the plan's worst cases, and these rows
+pub record IsPolledList (s : ServerOf) (n : ℕ) (d : DemandsOf) : Type 0 where
+  pub list : HasWorstsOf s.plan.tasks d
+  pub rows : AreTaken s n d.rows
+
+-- the end of a job, by its place from 0
+abbrev pub end_at : List (Option Pos) → ℕ → Option Pos
+end_at ends place = slice_index_or ends place None
+
+-- the ends as they are told after one more note: the first one of a job stays
+pub record Hears (a : Ends) (note : Note) (b : Ends) : Type 0 where
+  pub task : b.task ≡ a.task
+  pub long : length b.ends.items ≡ length a.ends.items
+  pub told : (k : ℕ) → k < length a.ends.items
+      → end_at b.ends.items k ≡ option_or (end_at a.ends.items k) (done_in note a.task (k + 1))
+
+-- the ends are those that the notes tell of the first n jobs, and no later job is told to be done
+pub record AreEnds (s : ServerOf) (notes : List Note) (n : ℕ) (ends : List (Option Pos)) : Type 0 where
+  pub long : length ends ≡ n
+  pub told : (k : ℕ) → k < n → end_at ends k ≡ done_at notes s.task (k + 1)
+  pub no_later : (k : ℕ) → n < k → done_at notes s.task k ≡ None
+
+-- after the first m requests it stands at a job of the first n, and the jobs before that one take less than was asked for
+pub record HasReached (s : ServerOf) (n m : ℕ) (r : Reached) : Type 0 where
+  pub within : r.job ≤ n
+  pub counted : r.taken ≡ taken_up_to s r.job
+  pub asked_for : r.asked ≡ asked s m
+  pub first : (j : ℕ) → j < r.job → taken_up_to s j < asked s m

@@ -1,0 +1,67 @@
+// Where the jobs of a task are done in a run.
+ghost use Rattle.std.specs.Prelude.{◌≡◌, ◌≤◌, ◌-◌, ◌^◌, ◌<◌, ℕ, IfOk, None, length};
+ghost use Rattle.dvs_base.specs.declared.limits.TheConstants.{MOST_JOBS};
+ghost use Rattle.poll_server.specs.Walking.{Hears, end_at};
+
+use dvs_base::{NoMemory, Note, Pos};
+use event_kernel::{Listener, Stopped};
+use std::alloc::Global;
+
+/// The positions at which the first jobs of a task are done, as far as the notes heard tell them.
+#[derive(Drop)]
+pub(crate) struct Ends {
+    task: u32,
+    ends: Vec<Option<Pos>>,
+}
+
+impl Ends {
+    /// Those of so many jobs of a task, of which none is told yet.
+    pub(crate) fn of(alloc: Global, task: u32, jobs: u64) -> Result<Ends, NoMemory>
+        requires { jobs ≤ MOST_JOBS }
+        ensures task { IfOk result (λ e. e.task ≡ task) }
+        ensures long { IfOk result (λ e. length e.ends.items ≡ jobs) }
+        ensures none { IfOk result (λ e. (k : ℕ) → end_at e.ends.items k ≡ None) }
+    {
+        let mut ends = Vec::new(alloc);
+        for _job in 0..jobs {
+            ends.push(None).map_err(|_| NoMemory)?;
+        }
+        Ok(Ends { task, ends })
+    }
+
+    /// The position at which a job is done, counted from 1.
+    pub(crate) fn end(&self, job: u64) -> Option<Pos>
+        requires some { 1 ≤ job }
+        requires within { job ≤ length self.now.ends.items }
+        ensures { result ≡ end_at self.now.ends.items (job - 1) }
+    {
+        self.ends[job as usize - 1]
+    }
+
+    // Keeps the first end of a job, counted from 1.
+    fn keep(&mut self, job: u64, at: Pos) {
+        if 1 <= job && job <= self.ends.len() as u64 {
+            let place = job as usize - 1;
+            if self.ends[place].is_none() {
+                self.ends[place] = Some(at);
+            }
+        }
+    }
+}
+
+impl Listener for Ends {
+    ghost heard = { λ a n b. Hears a n b };
+
+    ghost balked = { λ _ _ _. ⊥ };
+
+    ghost stops = { λ _. 0 };
+
+    fn hear(&mut self, note: &Note) -> Result<(), Stopped> {
+        if let Note::Done { at, task, job, .. } = *note {
+            if task == self.task {
+                self.keep(job, at);
+            }
+        }
+        Ok(())
+    }
+}

@@ -1,0 +1,99 @@
+// A run of a polling server.
+ghost use Rattle.std.specs.Prelude.{◌≡◌, ◌<◌, ◌≤◌, ℕ, IfOk, OnOk, IsErrOf};
+ghost use Rattle.dvs_base.specs.declared.limits.TheConstants.{MOST_JOBS, MOST_TICKS};
+ghost use Rattle.sched_model.specs.Plan.{count};
+ghost use Rattle.sched_model.specs.Jobs.{released_jobs};
+ghost use Rattle.sched_model.specs.States.{opening};
+ghost use Rattle.poll_server.specs.Serving.{server_of};
+ghost use Rattle.poll_server.specs.Bound.{HaveJobs, KeepsBound};
+ghost use Rattle.poll_server.specs.Polled.{IsPolled, polled_notes};
+ghost use Rattle.poll_server.specs.EachOutcome.{served_of};
+
+use crate::ends::Ends;
+use crate::outcomes::{Jobs, outcomes};
+use crate::server::{Server, all_jobs_below, jobs_below};
+use crate::taking::polled_demands;
+use crate::{PollFault, Served};
+use demand_list::Demands;
+use dvs_base::{MOST_JOBS, Totals};
+use event_kernel::{Kernel, Stopped};
+use governor::Governor;
+use replay_laws::own_list;
+use request_list::Requests;
+use sched_model::Admitted;
+use std::alloc::Global;
+
+/// Runs a plan for 1 to 2^40 ticks, in which the jobs of the task `server` serve requests, and gives the outcome of each
+/// request and the totals of the run.
+///
+/// A job of the server takes at its release what waits, up to the task's declared worst case, and needs that with the
+/// charge; all other jobs need their worst cases. A request is served where the job that takes its last unit is done.
+/// `TooManyJobs` comes exactly where more than `MOST_JOBS` jobs are released below `ticks`, with their number.
+pub fn poll<G: Governor>(
+    alloc: Global,
+    plan: &Admitted,
+    server: u32,
+    requests: &Requests,
+    governor: G,
+    ticks: u64,
+) -> Result<Served, PollFault>
+    requires server { server < count plan.now }
+    requires stands { G.stands governor plan.now (opening plan.now) }
+    requires some_ticks { 1 ≤ ticks }
+    requires low_ticks { ticks ≤ MOST_TICKS }
+
+    // The answer is this function of the arguments.
+    ensures served { IfOk result (λ r. r ≡ served_of G.demand (server_of plan.now server requests.now) ticks) }
+
+    // Each request is served exactly where its job is done in the governor's schedule within the run, at that position.
+    ensures outcomes { IfOk result (IsPolled (server_of plan.now server requests.now)
+        (polled_notes G.demand (server_of plan.now server requests.now) ticks)) }
+
+    // Each request has a job, and a later request never an earlier one.
+    ensures in_order { HaveJobs (server_of plan.now server requests.now) }
+
+    // A request with backlog B is served by the deadline of the ceil(B/Q)-th job released at or after its arrival, if that
+    // deadline lies within the run; Q is the budget.
+    ensures bound { IfOk result (KeepsBound (server_of plan.now server requests.now) ticks) }
+
+    // Each refusal exactly when.
+    ensures few { OnOk result (released_jobs plan.now ticks ≤ MOST_JOBS) }
+    ensures many { (n : ℕ) → IsErrOf result (PollFault.TooManyJobs n)
+        → (n ≡ released_jobs plan.now ticks) × (MOST_JOBS < n) }
+    ensures memory { IsErrOf result PollFault.NoMemory → released_jobs plan.now ticks ≤ MOST_JOBS }
+{
+    plan.known();
+    own_list(plan);
+    let count = all_jobs_below(plan, ticks);
+    if count > MOST_JOBS {
+        return Err(PollFault::TooManyJobs { count });
+    }
+    let own = Server {
+        plan,
+        task: server,
+        requests,
+    };
+    let jobs = jobs_below(plan, server, ticks);
+    let demands = polled_demands(alloc, &own, jobs)?;
+    let mut ends = Ends::of(alloc, server, jobs)?;
+    let kernel = Kernel::new(alloc, plan, &demands, governor, ticks)?;
+    let totals = heard(kernel, &mut ends);
+    let list = outcomes(
+        alloc,
+        &Jobs {
+            server: &own,
+            count: jobs,
+            demands: &demands,
+            ends: &ends,
+        },
+    )?;
+    Ok(Served::of(list, totals))
+}
+
+// Runs the kernel, and keeps where the server's jobs are done.
+fn heard<G: Governor>(kernel: Kernel<'_, G>, ends: &mut Ends) -> Totals {
+    match kernel.drive(ends) {
+        Ok(totals) => totals,
+        Err(Stopped) => unreachable!(),
+    }
+}

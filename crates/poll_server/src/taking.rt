@@ -1,0 +1,89 @@
+// What the jobs of a server take.
+ghost use Rattle.std.specs.Prelude.{◌≡◌, ◌+◌, ◌<◌, ◌≤◌, ◌^◌, IfOk, [], map};
+ghost use Rattle.dvs_base.specs.declared.limits.TheConstants.{MOST_JOBS};
+ghost use Rattle.sched_model.specs.Plan.{count};
+ghost use Rattle.event_kernel.specs.Runs.{IsListOf};
+ghost use Rattle.poll_server.specs.Serving.{server_of, arrived, job_release, taken};
+ghost use Rattle.poll_server.specs.Walking.{HasPassed, StandsAfter, IsPolledList};
+
+use crate::server::Server;
+use demand_list::Demands;
+use dvs_base::NoMemory;
+use sched_model::Admitted;
+use std::alloc::Global;
+
+// Where a server stands after some of its jobs: the next request that hasn't arrived, the units of those before it, and
+// the units that the jobs took.
+#[derive(Drop)]
+struct Waiting {
+    next: u32,
+    arrived: u128,
+    taken: u128,
+}
+
+impl Waiting {
+    // Passes the requests that arrive at or before a tick.
+    fn arrive(&mut self, server: &Server<'_>, tick: u64)
+        requires { HasPassed server.now tick self.old }
+        ensures passed { HasPassed server.now tick self.new }
+        ensures arrived { self.new.arrived ≡ arrived server.now tick }
+        ensures taken { self.new.taken ≡ self.old.taken }
+    {
+        let count = server.requests.count();
+        while self.next < count && server.requests.arrival(self.next) <= tick {
+            self.arrived += u128::from(server.requests.units(self.next));
+            self.next += 1;
+        }
+    }
+
+    // The units that the next job takes, which is released after so many jobs.
+    fn take(&mut self, server: &Server<'_>, jobs: u64) -> u64
+        requires task { server.now.task < count server.now.plan }
+        requires few { jobs < MOST_JOBS }
+        requires stands { StandsAfter server.now jobs self.old }
+        ensures taken { result ≡ taken server.now (jobs + 1) }
+        ensures stands { StandsAfter server.now (jobs + 1) self.new }
+    {
+        self.arrive(server, server.release_after(jobs));
+        let waiting = self.arrived.saturating_sub(self.taken);
+        let units = waiting.min(u128::from(server.budget())) as u64;
+        self.taken += u128::from(units);
+        units
+    }
+}
+
+// The demand list of a plan without rows.
+fn worst_demands(alloc: Global, plan: &Admitted) -> Result<Demands, NoMemory>
+    ensures list { IfOk result (IsListOf plan.now) }
+    ensures rows { IfOk result (λ d. d.rows ≡ []) }
+{
+    let mut worsts = Vec::new(alloc);
+    for task in 0..plan.count() {
+        worsts.push(plan.declared(task)).map_err(|_| NoMemory)?;
+    }
+    Demands::worst_only(alloc, &worsts)
+}
+
+/// The demand list in which the first `jobs` jobs of a server take what waits for them, and every other job needs its
+/// worst case.
+pub(crate) fn polled_demands(
+    alloc: Global,
+    server: &Server<'_>,
+    jobs: u64,
+) -> Result<Demands, NoMemory>
+    requires task { server.now.task < count server.now.plan }
+    requires few { jobs ≤ MOST_JOBS }
+    ensures { IfOk result (IsPolledList server.now jobs) }
+{
+    let mut demands = worst_demands(alloc, server.plan)?;
+    let mut waiting = Waiting {
+        next: 0,
+        arrived: 0,
+        taken: 0,
+    };
+    for job in 0..jobs {
+        let units = waiting.take(server, job);
+        demands.set(server.task, job + 1, units)?;
+    }
+    Ok(demands)
+}
