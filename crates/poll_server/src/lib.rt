@@ -10,13 +10,13 @@
 mod ends;
 mod fault;
 mod outcomes;
-mod poll;
+mod polling;
 mod served;
 mod server;
 mod taking;
 
 pub use fault::PollFault;
-pub use poll::poll;
+pub use polling::poll;
 pub use served::{Outcome, Served};
 
 #[cfg(test)]
