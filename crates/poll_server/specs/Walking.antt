@@ -4,6 +4,10 @@ use Rattle.std.specs.Option.{option_or}
 use Rattle.std.specs.List.{slice_index_or}
 use Rattle.dvs_base.specs.declared.note.Note.{Note}
 use Rattle.dvs_base.specs.declared.note.Pos.{Pos}
+use Rattle.dvs_base.specs.declared.limits.TheConstants.{MOST_JOBS}
+use Rattle.request_list.specs.Requests.{AreRequests}
+use Rattle.sched_model.specs.Plan.{count}
+use Rattle.sched_model.specs.Admission.{IsAdmitted}
 use Rattle.demand_list.specs.Demands.{DemandsOf, HasWorstsOf}
 use Rattle.task_model.specs.DemandRows.{DemandRow, named}
 use Rattle.poll_server.specs.declared.taking.Waiting.{Waiting}
@@ -27,10 +31,15 @@ pub record StandsAfter (s : ServerOf) (k : ℕ) (w : Waiting) : Type 0 where
 pub record AreTaken (s : ServerOf) (n : ℕ) (rows : List DemandRow) : Type 0 where
   pub taken_by : (k : ℕ) → 1 ≤ k → k ≤ n → named rows s.task k ≡ Some (taken s k)
   pub no_later : (k : ℕ) → n < k → named rows s.task k ≡ None
-  pub no_other : (i k : ℕ) → i < length s.plan.tasks → (i ≡ s.task → ⊥) → named rows i k ≡ None
+  pub no_other : (i k : ℕ) → i < count s.plan → (i ≡ s.task → ⊥) → named rows i k ≡ None
 
--- the demand list has the plan's worst cases, and these rows
-pub record IsPolledList (s : ServerOf) (n : ℕ) (d : DemandsOf) : Type 0 where
+-- a server that can be walked: a task of an admitted plan and requests within the limits, of which the demand list tells
+-- what the first n jobs take
+pub record IsServable (s : ServerOf) (n : ℕ) (d : DemandsOf) : Type 0 where
+  pub plan : IsAdmitted s.plan
+  pub task : s.task < count s.plan
+  pub requests : AreRequests s.requests
+  pub few : n ≤ MOST_JOBS
   pub list : HasWorstsOf s.plan.tasks d
   pub rows : AreTaken s n d.rows
 

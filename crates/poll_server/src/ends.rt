@@ -1,6 +1,7 @@
 // Where the jobs of a task are done in a run.
-ghost use Rattle.std.specs.Prelude.{◌≡◌, ◌≤◌, ◌-◌, ◌^◌, ◌<◌, ℕ, IfOk, None, length};
+ghost use Rattle.std.specs.Prelude.{◌≡◌, ◌≤◌, ◌-◌, ℕ, IfOk, None, length};
 ghost use Rattle.dvs_base.specs.declared.limits.TheConstants.{MOST_JOBS};
+ghost use Rattle.dvs_base.specs.declared.note.Note.TheVariants.{Done};
 ghost use Rattle.poll_server.specs.Walking.{Hears, end_at};
 
 use dvs_base::{NoMemory, Note, Pos};
@@ -23,7 +24,7 @@ impl Ends {
         ensures none { IfOk result (λ e. (k : ℕ) → end_at e.ends.items k ≡ None) }
     {
         let mut ends = Vec::new(alloc);
-        for _job in 0..jobs {
+        for _ in 0..jobs {
             ends.push(None).map_err(|_| NoMemory)?;
         }
         Ok(Ends { task, ends })
@@ -39,7 +40,9 @@ impl Ends {
     }
 
     // Keeps the first end of a job, counted from 1.
-    fn keep(&mut self, job: u64, at: Pos) {
+    fn keep(&mut self, job: u64, at: Pos)
+        ensures { (used : ℕ) → Hears self.old (Done at self.old.task job used) self.new }
+    {
         if 1 <= job && job <= self.ends.len() as u64 {
             let place = job as usize - 1;
             if self.ends[place].is_none() {

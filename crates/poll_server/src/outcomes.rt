@@ -1,12 +1,9 @@
 // The outcome of each request.
-ghost use Rattle.std.specs.Prelude.{◌≡◌, ◌+◌, ◌<◌, ◌≤◌, ℕ, List, IfOk};
-ghost use Rattle.dvs_base.specs.declared.limits.TheConstants.{MOST_JOBS};
+ghost use Rattle.std.specs.Prelude.{◌≡◌, ◌+◌, ◌<◌, ◌≤◌, ℕ, List, length, IfOk};
 ghost use Rattle.dvs_base.specs.declared.note.Note.{Note as NoteOf};
-ghost use Rattle.sched_model.specs.Plan.{count};
-ghost use Rattle.sched_model.specs.Admission.{IsAdmitted};
 ghost use Rattle.poll_server.specs.EachOutcome.{outcome_of, outcomes_of};
 ghost use Rattle.poll_server.specs.Serving.{request_count};
-ghost use Rattle.poll_server.specs.Walking.{IsPolledList, AreEnds, HasReached};
+ghost use Rattle.poll_server.specs.Walking.{IsServable, AreEnds, HasReached};
 
 use crate::Outcome;
 use crate::ends::Ends;
@@ -15,8 +12,7 @@ use demand_list::Demands;
 use dvs_base::NoMemory;
 use std::alloc::Global;
 
-/// The run of a server, as far as its outcomes need it: the demands of its first jobs, how many these are, and where they
-/// are done.
+/// The first jobs of a server in a run: how many they are, their demands, and where they are done.
 #[derive(Clone, Copy)]
 pub(crate) struct Jobs<'a> {
     pub(crate) server: &'a Server<'a>,
@@ -25,7 +21,7 @@ pub(crate) struct Jobs<'a> {
     pub(crate) ends: &'a Ends,
 }
 
-// The job that some first requests reach: the units that it and the jobs before it take, and those that were asked for.
+// The job that some first requests reach, the units that it and the jobs before it take, and those that were asked for.
 #[derive(Drop)]
 struct Reached {
     job: u64,
@@ -34,21 +30,38 @@ struct Reached {
 }
 
 impl Reached {
-    // Goes on with one more request, to the job that takes its last unit, or the last one.
-    fn add(&mut self, jobs: &Jobs<'_>, units: u64) {
-        self.asked += u128::from(units);
+    // Goes on with one more request, to the job that takes its last unit, and to the last job where none does.
+    fn add(&mut self, jobs: &Jobs<'_>, m: usize)
+        requires servable { IsServable jobs.now.server.now jobs.now.count jobs.now.demands.now }
+        requires request { m < request_count jobs.now.server.now }
+        requires reached { HasReached jobs.now.server.now jobs.now.count m self.old }
+        ensures reached { HasReached jobs.now.server.now jobs.now.count (m + 1) self.new }
+        ensures last { self.new.taken < self.new.asked → self.new.job ≡ jobs.now.count }
+        ensures some { 1 ≤ self.new.asked }
+    {
+        self.asked += u128::from(jobs.server.requests[m].units);
         while self.job < jobs.count && self.taken < self.asked {
             self.job += 1;
             self.taken += u128::from(jobs.demands.units(jobs.server.task, self.job));
         }
     }
 
-    // The outcome of the last request added.
-    fn outcome(&self, ends: &Ends) -> Outcome {
+    // The outcome of the next request.
+    fn serve(&mut self, jobs: &Jobs<'_>, m: usize) -> Outcome
+        requires servable { IsServable jobs.now.server.now jobs.now.count jobs.now.demands.now }
+        requires long { length jobs.now.ends.now.ends.items ≡ jobs.now.count }
+        requires request { m < request_count jobs.now.server.now }
+        requires reached { HasReached jobs.now.server.now jobs.now.count m self.old }
+        ensures reached { HasReached jobs.now.server.now jobs.now.count (m + 1) self.new }
+        ensures outcome { (notes : List NoteOf)
+            → AreEnds jobs.now.server.now notes jobs.now.count jobs.now.ends.now.ends.items
+            → result ≡ outcome_of jobs.now.server.now notes m }
+    {
+        self.add(jobs, m);
         if self.taken < self.asked {
             return Outcome::Pending;
         }
-        match ends.end(self.job) {
+        match jobs.ends.end(self.job) {
             Some(at) => Outcome::Served { job: self.job, at },
             None => Outcome::Pending,
         }
@@ -56,17 +69,21 @@ impl Reached {
 }
 
 /// The outcomes of all requests of a server.
-pub(crate) fn outcomes(alloc: Global, jobs: &Jobs<'_>) -> Result<Vec<Outcome>, NoMemory> {
-    let requests = jobs.server.requests;
+pub(crate) fn outcomes(alloc: Global, jobs: &Jobs<'_>) -> Result<Vec<Outcome>, NoMemory>
+    requires servable { IsServable jobs.now.server.now jobs.now.count jobs.now.demands.now }
+    requires long { length jobs.now.ends.now.ends.items ≡ jobs.now.count }
+    ensures { (notes : List NoteOf)
+        → AreEnds jobs.now.server.now notes jobs.now.count jobs.now.ends.now.ends.items
+        → IfOk result (λ v. v.items ≡ outcomes_of jobs.now.server.now notes) }
+{
     let mut reached = Reached {
         job: 0,
         taken: 0,
         asked: 0,
     };
     let mut list = Vec::new(alloc);
-    for m in 0..requests.count() {
-        reached.add(jobs, requests.units(m));
-        list.push(reached.outcome(jobs.ends)).map_err(|_| NoMemory)?;
+    for m in 0..jobs.server.requests.len() {
+        list.push(reached.serve(jobs, m)).map_err(|_| NoMemory)?;
     }
     Ok(list)
 }

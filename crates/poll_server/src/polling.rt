@@ -4,6 +4,10 @@ ghost use Rattle.dvs_base.specs.declared.limits.TheConstants.{MOST_JOBS, MOST_TI
 ghost use Rattle.sched_model.specs.Plan.{count};
 ghost use Rattle.sched_model.specs.Jobs.{released_jobs};
 ghost use Rattle.sched_model.specs.States.{opening};
+ghost use Rattle.sched_model.specs.Totals.{totals_of};
+ghost use Rattle.event_kernel.specs.Heard.{HasHeard};
+ghost use Rattle.event_kernel.specs.Runs.{notes_of_run, MeetsDeadlines};
+ghost use Rattle.poll_server.specs.Walking.{Hears};
 ghost use Rattle.poll_server.specs.Serving.{server_of};
 ghost use Rattle.poll_server.specs.Bound.{HaveJobs, KeepsBound};
 ghost use Rattle.poll_server.specs.Polled.{IsPolled, polled_notes};
@@ -14,7 +18,6 @@ use crate::outcomes::{Jobs, outcomes};
 use crate::server::{Server, all_jobs_below, jobs_below};
 use crate::taking::polled_demands;
 use crate::{PollFault, Served};
-use demand_list::Demands;
 use dvs_base::{MOST_JOBS, Totals};
 use event_kernel::{Kernel, Stopped};
 use governor::Governor;
@@ -71,13 +74,13 @@ pub fn poll<G: Governor>(
     let own = Server {
         plan,
         task: server,
-        requests,
+        requests: requests.as_slice(),
     };
     let jobs = jobs_below(plan, server, ticks);
     let demands = polled_demands(alloc, &own, jobs)?;
     let mut ends = Ends::of(alloc, server, jobs)?;
     let kernel = Kernel::new(alloc, plan, &demands, governor, ticks)?;
-    let totals = heard(kernel, &mut ends);
+    let totals = hear(kernel, &mut ends);
     let list = outcomes(
         alloc,
         &Jobs {
@@ -91,7 +94,11 @@ pub fn poll<G: Governor>(
 }
 
 // Runs the kernel, and keeps where the server's jobs are done.
-fn heard<G: Governor>(kernel: Kernel<'_, G>, ends: &mut Ends) -> Totals {
+fn hear<G: Governor>(kernel: Kernel<'_, G>, ends: &mut Ends) -> Totals
+    ensures totals { result ≡ totals_of (notes_of_run G.demand kernel.entry) }
+    ensures deadlines { MeetsDeadlines G.demand kernel.entry }
+    ensures heard { HasHeard Hears ends.old (notes_of_run G.demand kernel.entry) ends.new }
+{
     match kernel.drive(ends) {
         Ok(totals) => totals,
         Err(Stopped) => unreachable!(),

@@ -7,7 +7,7 @@ ghost use Rattle.sched_model.specs.Jobs.{released_jobs};
 ghost use Rattle.task_model.specs.declared.limits.TheConstants.{MOST_WORK};
 ghost use Rattle.poll_server.specs.Serving.{budget, job_release};
 
-use request_list::Requests;
+use request_list::Request;
 use sched_model::Admitted;
 use std::marker::Model;
 
@@ -16,7 +16,7 @@ use std::marker::Model;
 pub(crate) struct Server<'a> {
     pub(crate) plan: &'a Admitted,
     pub(crate) task: u32,
-    pub(crate) requests: &'a Requests,
+    pub(crate) requests: &'a [Request],
 }
 
 impl<'a> Model for Server<'a> {

@@ -1,10 +1,11 @@
 // What the jobs of a server take.
 ghost use Rattle.std.specs.Prelude.{◌≡◌, ◌+◌, ◌<◌, ◌≤◌, ◌^◌, IfOk, [], map};
 ghost use Rattle.dvs_base.specs.declared.limits.TheConstants.{MOST_JOBS};
+ghost use Rattle.request_list.specs.Requests.{AreRequests};
 ghost use Rattle.sched_model.specs.Plan.{count};
 ghost use Rattle.event_kernel.specs.Runs.{IsListOf};
 ghost use Rattle.poll_server.specs.Serving.{server_of, arrived, job_release, taken};
-ghost use Rattle.poll_server.specs.Walking.{HasPassed, StandsAfter, IsPolledList};
+ghost use Rattle.poll_server.specs.Walking.{HasPassed, StandsAfter, IsServable};
 
 use crate::server::Server;
 use demand_list::Demands;
@@ -16,7 +17,7 @@ use std::alloc::Global;
 // the units that the jobs took.
 #[derive(Drop)]
 struct Waiting {
-    next: u32,
+    next: usize,
     arrived: u128,
     taken: u128,
 }
@@ -24,14 +25,14 @@ struct Waiting {
 impl Waiting {
     // Passes the requests that arrive at or before a tick.
     fn arrive(&mut self, server: &Server<'_>, tick: u64)
-        requires { HasPassed server.now tick self.old }
+        requires requests { AreRequests server.now.requests }
+        requires passed { HasPassed server.now tick self.old }
         ensures passed { HasPassed server.now tick self.new }
         ensures arrived { self.new.arrived ≡ arrived server.now tick }
         ensures taken { self.new.taken ≡ self.old.taken }
     {
-        let count = server.requests.count();
-        while self.next < count && server.requests.arrival(self.next) <= tick {
-            self.arrived += u128::from(server.requests.units(self.next));
+        while self.next < server.requests.len() && server.requests[self.next].arrival <= tick {
+            self.arrived += u128::from(server.requests[self.next].units);
             self.next += 1;
         }
     }
@@ -39,6 +40,7 @@ impl Waiting {
     // The units that the next job takes, which is released after so many jobs.
     fn take(&mut self, server: &Server<'_>, jobs: u64) -> u64
         requires task { server.now.task < count server.now.plan }
+        requires requests { AreRequests server.now.requests }
         requires few { jobs < MOST_JOBS }
         requires stands { StandsAfter server.now jobs self.old }
         ensures taken { result ≡ taken server.now (jobs + 1) }
@@ -72,9 +74,11 @@ pub(crate) fn polled_demands(
     jobs: u64,
 ) -> Result<Demands, NoMemory>
     requires task { server.now.task < count server.now.plan }
+    requires requests { AreRequests server.now.requests }
     requires few { jobs ≤ MOST_JOBS }
-    ensures { IfOk result (IsPolledList server.now jobs) }
+    ensures { IfOk result (IsServable server.now jobs) }
 {
+    server.plan.known();
     let mut demands = worst_demands(alloc, server.plan)?;
     let mut waiting = Waiting {
         next: 0,

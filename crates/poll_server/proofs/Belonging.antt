@@ -1,0 +1,83 @@
+-- Which job a request belongs to.
+use Rattle.std.proofs.Common.{◌≡◌, ℕ, zero, suc, ◌+◌, ◌-◌, ◌*◌, ◌<◌, ◌≤◌, min, Bool, true, false, nat_le, ◌⊎◌, inl, inr, refl, arith, ap, ◌∙◌, sym, subst}
+use Rattle.std.proofs.lemmas.Bool.{cases_lt}
+use Rattle.std.proofs.lemmas.Bool.Decides.{nat_tests}
+use Rattle.grid_fraction.specs.Numbers.{ceil_div, first_from}
+use Rattle.grid_fraction.proofs.Searches.{first_from-found, first_from-before, first_from-most}
+use Rattle.grid_fraction.proofs.Sums.{sum_below-up}
+use Rattle.governor.proofs.RmLevels.{ceil_covers}
+use Rattle.request_list.specs.Requests.{AreRequests}
+use Rattle.sched_model.specs.Plan.{period}
+use Rattle.poll_server.specs.Serving.{ServerOf, budget, request_count, arrival, units, asked_with, taken_up_to}
+use Rattle.poll_server.specs.Outcomes.{BelongsTo}
+use Rattle.poll_server.specs.Bound.{jobs_before, backlog, latest_job, HaveJobs}
+use Rattle.poll_server.specs.EachOutcome.{job_of}
+use Rattle.poll_server.proofs.Taking.{taken-none, taken-up, arrived-all, before-released, reach}
+
+-- more requests ask for no less
+pub asked-up : (s : ServerOf) (m n : ℕ) → m ≤ n → asked_with s m ≤ asked_with s n
+asked-up s m n le = sum_below-up (suc m) (suc n) (units s) (omega arith)
+
+-- a later request never belongs to an earlier job
+pub in-order : (s : ServerOf) (m n j k : ℕ) → m ≤ n → BelongsTo s m j → BelongsTo s n k → j ≤ k
+in-order s m n j k le first later = go (cases_lt k j)
+  where
+    go : (k < j) ⊎ (j ≤ k) → j ≤ k
+    go (inl lt) = absurd (omega (arith, first.first k lt, later.reached, asked-up s m n le))
+    go (inr ge) = ge
+
+-- so it belongs to one job
+pub one-job : (s : ServerOf) (m j k : ℕ) → BelongsTo s m j → BelongsTo s m k → j ≡ k
+one-job s m j k a b = omega (arith, in-order s m m j k (omega arith) a b, in-order s m m k j (omega arith) b a)
+
+-- a server with a period and a budget, whose requests are in order and need some units
+module _ (s : ServerOf) (h : AreRequests s.requests) (some : 0 < period s.plan s.task) (room : 0 < budget s)
+    (m : ℕ) (lt : m < request_count s) where
+  pub asked-some : 0 < asked_with s m
+  asked-some = omega (arith, (h.each m lt).some)
+
+  -- the jobs up to the latest one reach it
+  pub reached-latest : asked_with s m ≤ taken_up_to s (latest_job s m)
+  reached-latest =
+      let b = jobs_before s (arrival s m) in
+      let d = ceil_div (backlog s m) (budget s) in
+      let all : (k : ℕ) → b < k → asked_with s m ≤ _ = λ k after. arrived-all s h m _ lt (before-released s (arrival s m) k some after) in
+      omega (arith, reach s m b all d (latest_job s m) refl, ceil_covers (backlog s m) (budget s) room)
+
+  abbrev test : ℕ → Bool
+  test k = nat_le (asked_with s m) (taken_up_to s k)
+
+  latest-some : 1 ≤ latest_job s m
+  latest-some = go (latest_job s m) reached-latest
+    where
+      go : (k : ℕ) → asked_with s m ≤ taken_up_to s k → 1 ≤ k
+      go zero le = absurd (omega (arith, le, taken-none s, asked-some))
+      go (suc k) le = omega arith
+
+  latest-passes : test (latest_job s m) ≡ true
+  latest-passes = let le = reached-latest in grind (arith, nat_tests)
+
+  pub job-some : 1 ≤ job_of s m
+  job-some = (first_from-found (latest_job s m) 1 (latest_job s m) test latest-some (omega arith) latest-passes).1
+
+  pub job-most : job_of s m ≤ latest_job s m
+  job-most = first_from-most (latest_job s m) 1 (latest_job s m) test latest-some latest-passes
+
+  pub belongs : BelongsTo s m (job_of s m)
+  belongs = record {
+    reached = (let e : test (job_of s m) ≡ true = (first_from-found (latest_job s m) 1 (latest_job s m) test latest-some (omega arith) latest-passes).0 in grind (arith, nat_tests));
+    first = before;
+  }
+    where
+      before : (j : ℕ) → j < job_of s m → taken_up_to s j < asked_with s m
+      before zero below = omega (arith, taken-none s, asked-some)
+      before (suc j) below =
+          let e : test (suc j) ≡ false = first_from-before (latest_job s m) 1 (suc j) test (omega arith) below in
+          grind (arith, nat_tests)
+
+-- each request has a job, and they are in order
+pub have-jobs : (s : ServerOf) → AreRequests s.requests → 0 < period s.plan s.task → 0 < budget s → HaveJobs s
+have-jobs s h some room = record {
+  each = λ m lt. (job_of s m, belongs s h some room m lt, job-some s h some room m lt, job-most s h some room m lt);
+  in_order = λ m n j k le lt first later. in-order s m n j k le first later;
+}

@@ -1,0 +1,72 @@
+-- The run of a list of what a server's jobs take is the run of all that they take.
+use Rattle.std.proofs.Common.{◌≡◌, ℕ, zero, suc, ◌+◌, ◌*◌, ◌<◌, ◌≤◌, Bool, true, false, ◌⊎◌, inl, inr, List, length, refl, arith, if◌then◌else◌, ap, ◌∙◌, sym, subst, nat_eq}
+use Rattle.std.specs.Prelude.{Option, Some, None, unwrap_or, option_map}
+use Rattle.std.proofs.lemmas.Bool.{cases_lt}
+use Rattle.std.proofs.lemmas.Bool.Decides.{nat_tests}
+use Rattle.dvs_base.specs.declared.note.Note.{Note}
+use Rattle.task_model.specs.DemandRows.{DemandRow, named}
+use Rattle.sched_model.specs.Plan.{Plan, count, worst, period}
+use Rattle.sched_model.specs.Jobs.{release}
+use Rattle.sched_model.specs.Ticks.{Tick, exec, is_done}
+use Rattle.sched_model.specs.Demands.{demand_of}
+use Rattle.governor.specs.Meanings.{OwnDemand}
+use Rattle.governor.specs.Schedule.{ask_of}
+use Rattle.replay_laws.specs.OwnList.{Asking, ticks_by, notes_by, TellSame, LooksAtNone}
+use Rattle.poll_server.specs.Serving.{ServerOf, taken, polled_demand, job_release}
+use Rattle.poll_server.specs.Bound.{jobs_before}
+use Rattle.poll_server.specs.Polled.{polled_notes}
+use Rattle.poll_server.specs.Walking.{AreTaken}
+use Rattle.poll_server.proofs.Taking.{before-released}
+
+-- a job with a row needs its units with the charge, and one without a row its worst case
+demand-row : (p : Plan) (rows : List DemandRow) (i k u : ℕ) → named rows i (suc k) ≡ Some u
+    → demand_of p rows i (suc k) ≡ u + 2 * p.machine.charge
+demand-row p rows i k u e = rw e refl
+
+demand-none : (p : Plan) (rows : List DemandRow) (i k : ℕ) → named rows i (suc k) ≡ None
+    → demand_of p rows i (suc k) ≡ worst p i
+demand-none p rows i k e = rw e refl
+
+-- a list of what the server's first jobs take has the demands of the jobs that are released within so many ticks
+pub same-demand : (s : ServerOf) → 0 < period s.plan s.task → (ticks : ℕ) (rows : List DemandRow)
+    → AreTaken s (jobs_before s ticks) rows → (i k : ℕ) → i < count s.plan → 1 ≤ k → release s.plan i k < ticks
+    → demand_of s.plan rows i k ≡ polled_demand s i k
+same-demand s some ticks rows are i zero lt first began = absurd (omega arith)
+same-demand s some ticks rows are i (suc k) lt first began = go (nat_eq i s.task) refl
+  where
+    go : (b : Bool) → nat_eq i s.task ≡ b
+        → demand_of s.plan rows i (suc k) ≡ (if b then taken s (suc k) + 2 * s.plan.machine.charge else worst s.plan i)
+    go true e =
+        let same : i ≡ s.task = grind (arith, nat_tests) in
+        let own : release s.plan s.task (suc k) < ticks = subst (λ (j : ℕ). release s.plan j (suc k) < ticks) same began in
+        let within : suc k ≤ jobs_before s ticks = elim (cases_lt (jobs_before s ticks) (suc k)) [
+          | inl over ↦ let late : ticks ≤ job_release s (suc k) = before-released s ticks (suc k) some over in absurd (omega (arith, late, own))
+          | inr most ↦ most
+        ] in
+        let row : named rows i (suc k) ≡ Some (taken s (suc k)) = ap (λ (j : ℕ). named rows j (suc k)) same ∙ are.taken_by (suc k) first within in
+        demand-row s.plan rows i k (taken s (suc k)) row
+    go false e =
+        let other : i ≡ s.task → ⊥ = grind (arith, nat_tests) in
+        demand-none s.plan rows i k (are.no_other i (suc k) lt other)
+
+-- two demands that agree on the jobs released within the ticks
+tell-same : (p : Plan) (dem other : ℕ → ℕ → ℕ) (ticks : List Tick) → ((i : ℕ) → dem i 0 ≡ 0) → ((i : ℕ) → other i 0 ≡ 0)
+    → ((i k : ℕ) → i < count p → 1 ≤ k → release p i k < length ticks → dem i k ≡ other i k)
+    → TellSame p dem other ticks
+tell-same p dem other ticks none other_none same = record {
+  finished = λ i k lt some began e. same i k lt some began;
+  unfinished = λ i k lt some began e. let one : dem i k ≡ other i k = same i k lt some began in grind (arith, nat_tests);
+  none = none;
+  other_none = other_none;
+}
+
+-- so its run has the same notes
+pub same-notes : (demand : OwnDemand) (s : ServerOf) → 0 < period s.plan s.task → LooksAtNone s.plan (ask_of demand s.plan)
+    → (ticks : ℕ) (rows : List DemandRow) → AreTaken s (jobs_before s ticks) rows
+    → length (ticks_by s.plan (ask_of demand s.plan) (demand_of s.plan rows) ticks) ≡ ticks
+    → polled_notes demand s ticks ≡ notes_by s.plan (ask_of demand s.plan) (demand_of s.plan rows) ticks
+same-notes demand s some looks ticks rows are long =
+    let dem = demand_of s.plan rows in
+    (looks dem (polled_demand s) ticks (
+    tell-same s.plan dem (polled_demand s) (ticks_by s.plan (ask_of demand s.plan) dem ticks) (λ i. refl) (λ i. refl)
+    (λ i k lt first began. same-demand s some ticks rows are i k lt first (omega (arith, began, long))))).1

@@ -1,0 +1,108 @@
+-- What a server's jobs take, job by job.
+use Rattle.std.proofs.Common.{◌≡◌, ℕ, zero, suc, ◌+◌, ◌-◌, ◌*◌, ◌^◌, ◌<◌, ◌≤◌, min, Bool, true, false, nat_le, ◌⊎◌, inl, inr, refl, arith, if◌then◌else◌, ap, ◌∙◌, sym, subst, add-one, eq-or-lt_of_le}
+use Rattle.std.proofs.Math.Nat.{mul-le-mul_right}
+use Rattle.std.proofs.lemmas.Bool.Decides.{nat_tests}
+use Rattle.grid_fraction.specs.Numbers.{sum_below, sum_where, ceil_div}
+use Rattle.grid_fraction.proofs.Sums.{sum_below-same, sum_below-up, sum_below-more}
+use Rattle.governor.proofs.RmLevels.{ceil_covers}
+use Rattle.request_list.specs.declared.limits.TheConstants.{MOST_REQUESTS, MOST_REQUEST_UNITS}
+use Rattle.request_list.specs.Requests.{AreRequests}
+use Rattle.sched_model.specs.Plan.{Plan, period, offset}
+use Rattle.sched_model.specs.Jobs.{release}
+use Rattle.poll_server.specs.Serving.{ServerOf, budget, job_release, request_count, arrival, units, arrived, taken_up_to, taken, asked, asked_with}
+use Rattle.poll_server.specs.Bound.{jobs_before}
+use Rattle.poll_server.proofs.Cutting.{sum_below-cut, sum_below-limit}
+
+pub taken-none : (s : ServerOf) → taken_up_to s 0 ≡ 0
+unfolding taken_up_to
+taken-none s = refl
+
+pub taken-suc : (s : ServerOf) (k : ℕ)
+    → taken_up_to s (suc k) ≡ taken_up_to s k + min (budget s) (arrived s (job_release s (suc k)) - taken_up_to s k)
+unfolding taken_up_to
+taken-suc s k = refl
+
+-- one job more takes what it takes
+pub taken-more : (s : ServerOf) (k : ℕ) → taken_up_to s (k + 1) ≡ taken_up_to s k + taken s (k + 1)
+taken-more s k =
+    let one : k + 1 ≡ suc k = add-one k in
+    let back : k + 1 - 1 ≡ k = omega arith in
+    ap (taken_up_to s) one
+    ∙ (taken-suc s k ∙ sym (
+    ap (λ (j : ℕ). taken_up_to s k + min (budget s) (arrived s (job_release s (k + 1)) - taken_up_to s j)) back
+    ∙ ap (λ (j : ℕ). taken_up_to s k + min (budget s) (arrived s (job_release s j) - taken_up_to s k)) one))
+
+-- more jobs take no less
+pub taken-up : (s : ServerOf) (j k : ℕ) → j ≤ k → taken_up_to s j ≤ taken_up_to s k
+taken-up s j zero le = let e : j ≡ 0 = omega arith in rw e (omega arith)
+taken-up s j (suc k) le = go (eq-or-lt_of_le le) (taken-up s j k)
+  where
+    go : (j ≡ suc k) ⊎ (j < suc k) → (j ≤ k → taken_up_to s j ≤ taken_up_to s k) → taken_up_to s j ≤ taken_up_to s (suc k)
+    go (inl e) ih = rw e (omega arith)
+    go (inr l) ih = omega (arith, ih (omega arith), taken-suc s k)
+
+-- and no job more than the budget
+pub taken-low : (s : ServerOf) (k : ℕ) → taken_up_to s k ≤ k * budget s
+taken-low s zero = omega (arith, taken-none s)
+taken-low s (suc k) = omega (arith, taken-low s k, taken-suc s k)
+
+-- the units of some first requests
+pub asked-low : (s : ServerOf) → AreRequests s.requests → (n : ℕ) → n ≤ request_count s → asked s n ≤ n * MOST_REQUEST_UNITS
+asked-low s h n le = sum_below-limit n MOST_REQUEST_UNITS (units s) (λ k lt. (h.each k (omega arith)).low)
+
+-- requests arrive in their order
+pub arrival-up : (s : ServerOf) → AreRequests s.requests → (m n : ℕ) → m ≤ n → n < request_count s → arrival s m ≤ arrival s n
+arrival-up s h m n le lt = go (eq-or-lt_of_le le)
+  where
+    go : (m ≡ n) ⊎ (m < n) → arrival s m ≤ arrival s n
+    go (inl e) = rw e (omega arith)
+    go (inr l) = h.in_order m n l lt
+
+-- what counts of a request by tick t
+abbrev counts : ServerOf → ℕ → ℕ → ℕ
+counts s t m = if nat_le (arrival s m) t then units s m else 0
+
+counts-early : (s : ServerOf) (t m : ℕ) → arrival s m ≤ t → counts s t m ≡ units s m
+counts-early s t m le = let e : nat_le (arrival s m) t ≡ true = grind (arith, nat_tests) in rw e refl
+
+counts-late : (s : ServerOf) (t m : ℕ) → t < arrival s m → counts s t m ≡ 0
+counts-late s t m lt = let e : nat_le (arrival s m) t ≡ false = grind (arith, nat_tests) in rw e refl
+
+-- where the requests before n have arrived and the others haven't, the units of those before n have arrived
+pub arrived-counted : (s : ServerOf) → AreRequests s.requests → (t n : ℕ) → n ≤ request_count s
+    → ((m : ℕ) → m < n → arrival s m ≤ t) → (n < request_count s → t < arrival s n) → arrived s t ≡ asked s n
+arrived-counted s h t n le early late =
+    sum_below-cut (request_count s) n (counts s t) (units s) le (λ m lt. counts-early s t m (early m lt))
+    (λ m low high. counts-late s t m (
+    let first : t < arrival s n = late (omega arith) in
+    omega (arith, first, arrival-up s h n m low high)))
+
+-- where a request has arrived, all units up to and with it have
+pub arrived-all : (s : ServerOf) → AreRequests s.requests → (m t : ℕ) → m < request_count s → arrival s m ≤ t
+    → asked_with s m ≤ arrived s t
+arrived-all s h m t lt le =
+    let same : sum_below (suc m) (counts s t) ≡ asked_with s m =
+    sum_below-same (suc m) (counts s t) (units s) (λ k low. counts-early s t k (
+    let before : arrival s k ≤ arrival s m = arrival-up s h k m (omega arith) lt in omega (arith, before))) in
+    omega (arith, same, sum_below-up (suc m) (request_count s) (counts s t) (omega arith))
+
+-- a job after those released before tick t is released at t or later
+pub before-released : (s : ServerOf) (t k : ℕ) → 0 < period s.plan s.task → jobs_before s t < k → t ≤ job_release s k
+unfolding release
+before-released s t k some lt =
+    let covers : t - offset s.plan s.task ≤ jobs_before s t * period s.plan s.task =
+    ceil_covers (t - offset s.plan s.task) (period s.plan s.task) some in
+    let more : jobs_before s t * period s.plan s.task ≤ (k - 1) * period s.plan s.task =
+    mul-le-mul_right (period s.plan s.task) (omega arith) in
+    omega (arith, covers, more)
+
+-- Where all units up to and with a request have arrived by the release of each job after the first b, d jobs more take d
+-- times the budget, or reach the request.
+pub reach : (s : ServerOf) (m b : ℕ) → ((k : ℕ) → b < k → asked_with s m ≤ arrived s (job_release s k)) → (d k : ℕ)
+    → k ≡ b + d → min (asked_with s m) (taken_up_to s b + d * budget s) ≤ taken_up_to s k
+reach s m b all zero k is = let e : k ≡ b = omega arith in rw e (omega arith)
+reach s m b all (suc d) zero is = absurd (omega arith)
+reach s m b all (suc d) (suc k) is =
+    let ih : min (asked_with s m) (taken_up_to s b + d * budget s) ≤ taken_up_to s k = reach s m b all d k (omega arith) in
+    let more : suc d * budget s ≡ d * budget s + budget s = omega arith in
+    omega (arith, ih, more, taken-suc s k, all (suc k) (omega arith))
