@@ -12,7 +12,7 @@ use Rattle.poll_server.specs.Serving.{ServerOf, budget, request_count, arrival, 
 use Rattle.poll_server.specs.Outcomes.{BelongsTo}
 use Rattle.poll_server.specs.Bound.{jobs_before, backlog, latest_job, HaveJobs}
 use Rattle.poll_server.specs.EachOutcome.{job_of}
-use Rattle.poll_server.proofs.Taking.{taken-none, taken-up, arrived-all, before-released, reach}
+use Rattle.poll_server.proofs.Takings.{taken-none, taken-up, arrived-all, before-released, reach}
 
 -- more requests ask for no less
 pub asked-up : (s : ServerOf) (m n : ℕ) → m ≤ n → asked_with s m ≤ asked_with s n

@@ -1,5 +1,5 @@
 pub mod Cutting
-pub mod Taking
+pub mod Takings
 pub mod Belonging
 pub mod Ending
 pub mod Running

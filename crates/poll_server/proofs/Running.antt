@@ -16,7 +16,7 @@ use Rattle.poll_server.specs.Serving.{ServerOf, taken, polled_demand, job_releas
 use Rattle.poll_server.specs.Bound.{jobs_before}
 use Rattle.poll_server.specs.Polled.{polled_notes}
 use Rattle.poll_server.specs.Walking.{AreTaken}
-use Rattle.poll_server.proofs.Taking.{before-released}
+use Rattle.poll_server.proofs.Takings.{before-released}
 
 -- a job with a row needs its units with the charge, and one without a row its worst case
 demand-row : (p : Plan) (rows : List DemandRow) (i k u : ℕ) → named rows i (suc k) ≡ Some u
