@@ -3,3 +3,7 @@ pub mod Takings
 pub mod Belonging
 pub mod Ending
 pub mod Running
+pub mod Telling
+pub mod Deciding
+pub mod Answering
+pub mod Examples

@@ -39,10 +39,11 @@ impl Reached {
         ensures last { self.new.taken < self.new.asked → self.new.job ≡ jobs.now.count }
         ensures some { 1 ≤ self.new.asked }
     {
-        self.asked += u128::from(jobs.server.requests[m].units);
+        let server = jobs.server;
+        self.asked += u128::from(server.requests[m].units);
         while self.job < jobs.count && self.taken < self.asked {
             self.job += 1;
-            self.taken += u128::from(jobs.demands.units(jobs.server.task, self.job));
+            self.taken += u128::from(jobs.demands.units(server.task, self.job));
         }
     }
 
@@ -82,7 +83,8 @@ pub(crate) fn outcomes(alloc: Global, jobs: &Jobs<'_>) -> Result<Vec<Outcome>, N
         asked: 0,
     };
     let mut list = Vec::new(alloc);
-    for m in 0..jobs.server.requests.len() {
+    let server = jobs.server;
+    for m in 0..server.requests.len() {
         list.push(reached.serve(jobs, m)).map_err(|_| NoMemory)?;
     }
     Ok(list)

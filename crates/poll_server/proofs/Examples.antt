@@ -1,0 +1,56 @@
+-- The definitions at work: the tasks s (period 5, worst case 4) and a (period 10, worst case 10), of which s serves three
+-- requests: 3 units at tick 0, 6 at tick 1 and 1 at tick 12.
+use Rattle.std.proofs.Common.{◌≡◌, ℕ, [], ◌∷◌, List, refl}
+use Rattle.dvs_base.specs.declared.kind.Scheduler.TheVariants.{Edf}
+use Rattle.freq_table.specs.Tables.{Table}
+use Rattle.request_list.specs.declared.requests.Request.{Request}
+use Rattle.sched_model.specs.Plan.{Plan, plan_of}
+use Rattle.sched_model.specs.Jobs.{release, due}
+use Rattle.task_model.specs.declared.task.Task.{Task}
+use Rattle.poll_server.specs.Serving.{ServerOf, server_of, taken_up_to, taken, polled_demand, asked_with}
+use Rattle.poll_server.specs.Bound.{jobs_before, backlog, latest_job, latest_end}
+use Rattle.poll_server.specs.EachOutcome.{job_of}
+
+abbrev task_with : ℕ → ℕ → Task
+task_with period worst = record { name = 115 ∷ []; period = period; worst = worst; offset = 0 }
+
+abbrev machine : Table
+machine = record { points = record { speed = 4; millivolts = 5000 } ∷ []; idle = 0; charge = 1 }
+
+abbrev plan : Plan
+plan = plan_of (task_with 5 4 ∷ task_with 10 10 ∷ []) machine Edf
+
+abbrev request : ℕ → ℕ → Request
+request arrival units = record { arrival = arrival; units = units }
+
+abbrev server : ServerOf
+server = server_of plan 0 (request 0 3 ∷ request 1 6 ∷ request 12 1 ∷ [])
+
+-- a request that arrives with the release counts, and one that arrives after it waits for the next
+takes : (taken server 1 ∷ taken server 2 ∷ taken server 3 ∷ taken server 4 ∷ taken server 5 ∷ []) ≡ (3 ∷ 4 ∷ 2 ∷ 1 ∷ 0 ∷ [])
+unfolding taken_up_to release
+takes = refl
+
+-- the jobs of the server need what they take with the charge, and the others their worst cases with it
+needs : (polled_demand server 0 0 ∷ polled_demand server 0 1 ∷ polled_demand server 0 5 ∷ polled_demand server 1 1 ∷ []) ≡ (0 ∷ 5 ∷ 2 ∷ 12 ∷ [])
+unfolding taken_up_to release
+needs = refl
+
+-- the second request waits for the third job, and the third for the fourth
+jobs : (job_of server 0 ∷ job_of server 1 ∷ job_of server 2 ∷ []) ≡ (1 ∷ 3 ∷ 4 ∷ [])
+unfolding taken_up_to release
+jobs = refl
+
+-- the second has a backlog of 6 units, after one job and two more it is served by tick 15
+bound : (jobs_before server 1 ∷ backlog server 1 ∷ latest_job server 1 ∷ latest_end server 1 ∷ []) ≡ (1 ∷ 6 ∷ 3 ∷ 15 ∷ [])
+unfolding taken_up_to release due
+bound = refl
+
+-- a job that is released with the arrival isn't before it
+releases_before : (jobs_before server 0 ∷ jobs_before server 5 ∷ jobs_before server 6 ∷ []) ≡ (0 ∷ 1 ∷ 2 ∷ [])
+releases_before = refl
+
+-- a request of 9 units takes three jobs, at the budget 4
+long : (taken (server_of plan 0 (request 0 9 ∷ [])) 1 ∷ taken (server_of plan 0 (request 0 9 ∷ [])) 3 ∷ job_of (server_of plan 0 (request 0 9 ∷ [])) 0 ∷ latest_job (server_of plan 0 (request 0 9 ∷ [])) 0 ∷ []) ≡ (4 ∷ 1 ∷ 3 ∷ 3 ∷ [])
+unfolding taken_up_to release
+long = refl

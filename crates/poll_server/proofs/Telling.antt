@@ -1,0 +1,52 @@
+-- What a listener that keeps the ends of jobs has heard.
+use Rattle.std.proofs.Common.{◌≡◌, ◌+◌, ◌<◌, ℕ, inl, inr, List, [], ◌∷◌, length, refl, ap, ap₂, ◌∙◌, sym, subst}
+use Rattle.std.specs.Prelude.{Option, Some, None}
+use Rattle.std.specs.Option.{option_or}
+use Rattle.dvs_base.specs.declared.note.Note.{Note}
+use Rattle.dvs_base.specs.declared.note.Pos.{Pos}
+use Rattle.event_kernel.specs.Heard.{HasHeard, HasBalked}
+use Rattle.poll_server.specs.declared.ends.Ends.{Ends}
+use Rattle.poll_server.specs.Outcomes.{done_in, done_at}
+use Rattle.poll_server.specs.Walking.{Hears, end_at}
+
+pub or-none : {A : Type 0} (o : Option A) → option_or o None ≡ o
+or-none None = refl
+or-none (Some x) = refl
+
+or-assoc : {A : Type 0} (o p q : Option A) → option_or (option_or o p) q ≡ option_or o (option_or p q)
+or-assoc None p q = refl
+or-assoc (Some x) p q = refl
+
+-- a listener that never balks heard all notes
+pub never-balked : {L : Type 0} (heard : L → Note → L → Type 0) (from : L) (notes : List Note) (to : L)
+    → HasBalked heard (λ a n b. ⊥) from notes to → ⊥
+never-balked heard from [] to h = h
+never-balked heard from (n ∷ notes) to (inl h) = h
+never-balked heard from (n ∷ notes) to (inr h) = never-balked heard h.0 notes to h.2
+
+-- the ends after a list of notes: the first one of a job stays
+pub record HearsAll (a : Ends) (notes : List Note) (b : Ends) : Type 0 where
+  pub task : b.task ≡ a.task
+  pub long : length b.ends.items ≡ length a.ends.items
+  pub told : (k : ℕ) → k < length a.ends.items
+      → end_at b.ends.items k ≡ option_or (end_at a.ends.items k) (done_at notes a.task (k + 1))
+
+hears-more : (a : Ends) (n : Note) (next : Ends) (notes : List Note) (b : Ends) → Hears a n next → HearsAll next notes b
+    → HearsAll a (n ∷ notes) b
+hears-more a n next notes b first rest = record {
+  task = rest.task ∙ first.task;
+  long = rest.long ∙ first.long;
+  told = λ k lt.
+      let low : k < length next.ends.items = subst (λ (l : ℕ). k < l) (sym first.long) lt in
+      rest.told k low
+      ∙ (ap₂ (λ (o p : Option Pos). option_or o p) (first.told k lt) (ap (λ (task : ℕ). done_at notes task (k + 1)) first.task)
+      ∙ or-assoc (end_at a.ends.items k) (done_in n a.task (k + 1)) (done_at notes a.task (k + 1)));
+}
+
+pub hears-all : (a : Ends) (notes : List Note) (b : Ends) → HasHeard Hears a notes b → HearsAll a notes b
+hears-all a [] b h = record {
+  task = ap (λ (e : Ends). e.task) (sym h);
+  long = ap (λ (e : Ends). length e.ends.items) (sym h);
+  told = λ k lt. ap (λ (e : Ends). end_at e.ends.items k) (sym h) ∙ sym (or-none (end_at a.ends.items k));
+}
+hears-all a (n ∷ notes) b h = hears-more a n h.0 notes b h.1 (hears-all h.0 notes b h.2)
