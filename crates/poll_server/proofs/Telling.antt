@@ -1,5 +1,5 @@
 -- What a listener that keeps the ends of jobs has heard.
-use Rattle.std.proofs.Common.{◌≡◌, ◌+◌, ◌<◌, ℕ, inl, inr, List, [], ◌∷◌, length, refl, ap, ap₂, ◌∙◌, sym, subst}
+use Rattle.std.proofs.Common.{◌≡◌, ◌+◌, ◌<◌, ℕ, zero, suc, inl, inr, List, [], ◌∷◌, length, replicate, refl, ap, ap₂, ◌∙◌, sym, subst}
 use Rattle.std.specs.Prelude.{Option, Some, None}
 use Rattle.std.specs.Option.{option_or}
 use Rattle.dvs_base.specs.declared.note.Note.{Note}
@@ -16,6 +16,12 @@ or-none (Some x) = refl
 or-assoc : {A : Type 0} (o p q : Option A) → option_or (option_or o p) q ≡ option_or o (option_or p q)
 or-assoc None p q = refl
 or-assoc (Some x) p q = refl
+
+-- before any note no job is told to be done
+pub none-told : (n k : ℕ) → end_at (replicate {A = Option Pos} n None) k ≡ None
+none-told zero k = refl
+none-told (suc n) zero = refl
+none-told (suc n) (suc k) = none-told n k
 
 -- a listener that never balks heard all notes
 pub never-balked : {L : Type 0} (heard : L → Note → L → Type 0) (from : L) (notes : List Note) (to : L)

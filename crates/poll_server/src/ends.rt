@@ -1,5 +1,5 @@
 // Where the jobs of a task are done in a run.
-ghost use Rattle.std.specs.Prelude.{◌≡◌, ◌≤◌, ◌-◌, ℕ, IfOk, None, length};
+ghost use Rattle.std.specs.Prelude.{◌≡◌, ◌≤◌, ◌-◌, ℕ, IfOk, None, length, replicate};
 ghost use Rattle.dvs_base.specs.declared.limits.TheConstants.{MOST_JOBS};
 ghost use Rattle.dvs_base.specs.declared.note.Note.TheVariants.{Done};
 ghost use Rattle.poll_server.specs.Walking.{Hears, end_at};
@@ -20,13 +20,10 @@ impl Ends {
     pub(crate) fn of(alloc: Global, task: u32, jobs: u64) -> Result<Ends, NoMemory>
         requires { jobs ≤ MOST_JOBS }
         ensures task { IfOk result (λ e. e.task ≡ task) }
-        ensures long { IfOk result (λ e. length e.ends.items ≡ jobs) }
-        ensures none { IfOk result (λ e. (k : ℕ) → end_at e.ends.items k ≡ None) }
+        ensures ends { IfOk result (λ e. e.ends.items ≡ replicate jobs None) }
     {
         let mut ends = Vec::new(alloc);
-        for _ in 0..jobs {
-            ends.push(None).map_err(|_| NoMemory)?;
-        }
+        ends.resize(jobs as usize, None).map_err(|_| NoMemory)?;
         Ok(Ends { task, ends })
     }
 

@@ -3,11 +3,11 @@ use Rattle.poll_server.specs.Walking.{HasPassed}
 use Rattle.poll_server.specs.Serving.{request_count}
 use Rattle.poll_server.proofs.taking.Waiting.arrive.Given as goal
 
-abbrev pub invariant-loop-next : goal.invariant-loop-next
-invariant-loop-next l = record {
+abbrev pub invariant-loop-self : goal.invariant-loop-self
+invariant-loop-self l = record {
   passed : HasPassed l.server l.tick l.self;
   taken : l.self.taken ≡ l.fn.self.taken;
 }
 
-abbrev pub decreases-loop-next : goal.decreases-loop-next
-decreases-loop-next l = request_count l.server - l.self.next
+abbrev pub decreases-loop-self : goal.decreases-loop-self
+decreases-loop-self l = request_count l.server - l.self.next
