@@ -16,10 +16,9 @@ use Rattle.poll_server.specs.Walking.{AreEnds, HasReached, end_at}
 use Rattle.poll_server.proofs.Takings.{taken-none, taken-up}
 use Rattle.poll_server.proofs.Belonging.{belongs, one-job, asked-some}
 
--- a server with a period and a budget, the ends of its first n jobs, and one of its requests
+-- a server with a period and a budget, and one of its requests
 module _ (s : ServerOf) (h : AreRequests s.requests) (some : 0 < period s.plan s.task) (room : 0 < budget s)
-    (notes : List Note) (n : ℕ) (ends : List (Option Pos)) (are : AreEnds s notes n ends) (m : ℕ) (lt : m < request_count s)
-    (r : Reached) (reached : HasReached s n (m + 1) r) where
+    (n m : ℕ) (lt : m < request_count s) (r : Reached) (reached : HasReached s n (m + 1) r) where
   asked-is : r.asked ≡ asked_with s m
   asked-is = reached.asked_for ∙ ap (asked s) (add-one m)
 
@@ -43,25 +42,27 @@ module _ (s : ServerOf) (h : AreRequests s.requests) (some : 0 < period s.plan s
           let nothing : r.taken ≡ 0 = reached.counted ∙ (ap (taken_up_to s) none ∙ taken-none s) in
           absurd (omega (arith, nothing, enough, asked-is, asked-some s h some room m lt))
 
-  pub outcome-reached : r.asked ≤ r.taken → outcome_of s notes m ≡ outcome_by r.job (end_at ends (r.job - 1))
-  outcome-reached enough =
-      let first : 1 ≤ r.job = reached-some enough in
-      let back : r.job - 1 + 1 ≡ r.job = omega arith in
-      let told : end_at ends (r.job - 1) ≡ done_at notes s.task r.job =
-      are.told (r.job - 1) (omega (arith, reached.within, first)) ∙ ap (done_at notes s.task) back in
-      ap (λ (k : ℕ). outcome_by k (done_at notes s.task k)) (job-is enough)
-      ∙ ap (outcome_by r.job) (sym told)
+  -- the ends of the first n jobs
+  module _ (notes : List Note) (ends : List (Option Pos)) (are : AreEnds s notes n ends) where
+    pub outcome-reached : r.asked ≤ r.taken → outcome_of s notes m ≡ outcome_by r.job (end_at ends (r.job - 1))
+    outcome-reached enough =
+        let first : 1 ≤ r.job = reached-some enough in
+        let back : r.job - 1 + 1 ≡ r.job = omega arith in
+        let told : end_at ends (r.job - 1) ≡ done_at notes s.task r.job =
+        are.told (r.job - 1) (omega (arith, reached.within, first)) ∙ ap (done_at notes s.task) back in
+        ap (λ (k : ℕ). outcome_by k (done_at notes s.task k)) (job-is enough)
+        ∙ ap (outcome_by r.job) (sym told)
 
-  -- where all n jobs take less, it is pending
-  pub outcome-pending : r.taken < r.asked → r.job ≡ n → outcome_of s notes m ≡ Pending
-  outcome-pending less last =
-      let own = belongs s h some room m lt in
-      let later : n < job_of s m = after (cases_lt n (job_of s m)) in
-      ap (outcome_by (job_of s m)) (are.no_later (job_of s m) later)
-    where
-      after : (n < job_of s m) ⊎ (job_of s m ≤ n) → n < job_of s m
-      after (inl l) = l
-      after (inr le) =
-          let up : taken_up_to s (job_of s m) ≤ taken_up_to s n = taken-up s (job_of s m) n le in
-          let all : r.taken ≡ taken_up_to s n = reached.counted ∙ ap (taken_up_to s) last in
-          absurd (omega (arith, up, all, less, asked-is, (belongs s h some room m lt).reached))
+    -- where all n jobs take less, it is pending
+    pub outcome-pending : r.taken < r.asked → r.job ≡ n → outcome_of s notes m ≡ Pending
+    outcome-pending less last =
+        let own = belongs s h some room m lt in
+        let later : n < job_of s m = after (cases_lt n (job_of s m)) in
+        ap (outcome_by (job_of s m)) (are.no_later (job_of s m) later)
+      where
+        after : (n < job_of s m) ⊎ (job_of s m ≤ n) → n < job_of s m
+        after (inl l) = l
+        after (inr le) =
+            let up : taken_up_to s (job_of s m) ≤ taken_up_to s n = taken-up s (job_of s m) n le in
+            let all : r.taken ≡ taken_up_to s n = reached.counted ∙ ap (taken_up_to s) last in
+            absurd (omega (arith, up, all, less, asked-is, (belongs s h some room m lt).reached))

@@ -4,6 +4,8 @@ pub mod Belonging
 pub mod Ending
 pub mod Running
 pub mod Telling
+pub mod Steps
 pub mod Deciding
 pub mod Answering
+pub mod Whole
 pub mod Examples

@@ -1,0 +1,111 @@
+-- The steps of the walks over a server's jobs and requests.
+use Rattle.std.proofs.Common.{◌≡◌, ℕ, zero, suc, ◌+◌, ◌-◌, ◌*◌, ◌^◌, ◌<◌, ◌≤◌, ◌⊎◌, inl, inr, List, [], ◌∷◌, ◌++◌, refl, arith, ap, ◌∙◌, sym, subst, add-one}
+use Rattle.std.specs.Prelude.{Option, Some, None, unwrap_or}
+use Rattle.std.proofs.Math.Nat.{mul-le-mul_right, mul-le-mul_left}
+use Rattle.std.proofs.lemmas.Bool.{cases_lt}
+use Rattle.dvs_base.specs.declared.limits.TheConstants.{MOST_JOBS}
+use Rattle.grid_fraction.specs.Numbers.{list_below}
+use Rattle.task_model.specs.DemandRows.{DemandRow, named}
+use Rattle.task_model.specs.declared.limits.TheConstants.{MOST_WORK}
+use Rattle.demand_list.specs.Demands.{DemandsOf, units_of}
+use Rattle.request_list.specs.Requests.{AreRequests}
+use Rattle.sched_model.specs.Plan.{Plan, count, period}
+use Rattle.sched_model.specs.Jobs.{release}
+use Rattle.sched_model.specs.Admission.{IsAdmitted}
+use Rattle.sched_model.proofs.Limits.{every_period}
+use Rattle.poll_server.specs.declared.taking.Waiting.{Waiting}
+use Rattle.poll_server.specs.declared.outcomes.Reached.{Reached}
+use Rattle.poll_server.specs.Serving.{ServerOf, budget, job_release, request_count, arrival, units, arrived, taken_up_to, taken, asked}
+use Rattle.poll_server.specs.Walking.{HasPassed, StandsAfter, AreTaken, IsServable, HasReached}
+use Rattle.poll_server.proofs.Takings.{taken-none, taken-more, taken-low, asked-low, arrived-counted}
+
+-- the server's budget and period
+pub some-budget : (s : ServerOf) → IsAdmitted s.plan → s.task < count s.plan → 0 < budget s
+some-budget s adm lt = (adm.limits.tasks.each s.task lt).some_worst
+
+pub some-period : (s : ServerOf) → IsAdmitted s.plan → 0 < period s.plan s.task
+some-period s adm = every_period s.plan adm.limits s.task
+
+-- the units of the requests up to one fit
+pub asked-fits : (s : ServerOf) → AreRequests s.requests → (m : ℕ) → m < request_count s → asked s m + units s m < 2 ^ 128
+asked-fits s h m lt = omega (arith, asked-low s h m (omega arith), (h.each m lt).low, h.few)
+
+-- those that the jobs take fit
+pub taken-fits : (s : ServerOf) → IsAdmitted s.plan → s.task < count s.plan → (k : ℕ) → k ≤ MOST_JOBS → taken_up_to s k ≤ 2 ^ 80
+taken-fits s adm lt k few =
+    let low : budget s ≤ MOST_WORK = (adm.limits.tasks.each s.task lt).low_worst in
+    let most : k * budget s ≤ k * MOST_WORK = mul-le-mul_left k low in
+    omega (arith, taken-low s k, most, few)
+
+-- where the next request arrives later, what was passed is what has arrived
+pub passed-arrived : (s : ServerOf) → AreRequests s.requests → (t : ℕ) (w : Waiting) → HasPassed s t w
+    → (w.next < request_count s → t < arrival s w.next) → w.arrived ≡ arrived s t
+passed-arrived s h t w passed late =
+    passed.counted ∙ sym (arrived-counted s h t w.next passed.within passed.early late)
+
+-- each release is after the one before
+release-up : (s : ServerOf) (k : ℕ) → job_release s (k + 1) ≤ job_release s (k + 1 + 1)
+unfolding release
+release-up s k =
+    let more : (k + 1 - 1) * period s.plan s.task ≤ (k + 1 + 1 - 1) * period s.plan s.task =
+    mul-le-mul_right (period s.plan s.task) (omega arith) in
+    omega (arith, more)
+
+-- one job takes what waits
+pub stands-next : (s : ServerOf) (k t u : ℕ) (w : Waiting) → HasPassed s t w → t ≡ job_release s (k + 1)
+    → w.taken ≡ taken_up_to s k → u ≡ taken s (k + 1)
+    → StandsAfter s (k + 1) (record { next = w.next; arrived = w.arrived; taken = w.taken + u })
+stands-next s k t u w passed at_release before takes = record {
+  passed = record {
+    within = passed.within;
+    counted = passed.counted;
+    early = λ m lt. omega (arith, passed.early m lt, at_release, release-up s k);
+  };
+  counted = omega (arith, before, takes, taken-more s k);
+}
+
+pub stands-first : (s : ServerOf) → StandsAfter s 0 (record { next = 0; arrived = 0; taken = 0 })
+stands-first s = record {
+  passed = record { within = omega arith; counted = refl; early = λ m lt. absurd (omega arith) };
+  counted = sym (taken-none s);
+}
+
+pub taken-first : (s : ServerOf) (rows : List DemandRow) → rows ≡ [] → AreTaken s 0 rows
+taken-first s rows none = record {
+  taken_by = λ k first most. absurd (omega arith);
+  no_later = λ k later. ap (λ (l : List DemandRow). named l s.task k) none;
+  no_other = λ i k lt other. ap (λ (l : List DemandRow). named l i k) none;
+}
+
+-- what the list says of a job of the server
+pub units-taken : (s : ServerOf) (n : ℕ) (d : DemandsOf) → IsServable s n d → (k : ℕ) → 1 ≤ k → k ≤ n
+    → units_of d s.task k ≡ taken s k
+units-taken s n d h k first most = ap (λ (o : Option ℕ). unwrap_or o _) (h.rows.taken_by k first most)
+
+-- one job further
+pub reached-next : (s : ServerOf) (n m u : ℕ) (r : Reached) → HasReached s n m r → r.job < n → r.taken < r.asked
+    → u ≡ taken s (r.job + 1)
+    → HasReached s n m (record { job = r.job + 1; taken = r.taken + u; asked = r.asked })
+reached-next s n m u r h lt less takes = record {
+  within = omega arith;
+  counted = omega (arith, h.counted, takes, taken-more s r.job);
+  asked_for = h.asked_for;
+  first = λ j below. go j (cases_lt j r.job) below;
+}
+  where
+    go : (j : ℕ) → (j < r.job) ⊎ (r.job ≤ j) → j < r.job + 1 → taken_up_to s j < asked s m
+    go j (inl before) below = h.first j before
+    go j (inr at_last) below =
+        let e : j ≡ r.job = omega arith in
+        rw e (omega (arith, h.counted, h.asked_for, less))
+
+pub reached-first : (s : ServerOf) (n : ℕ) → HasReached s n 0 (record { job = 0; taken = 0; asked = 0 })
+reached-first s n = record {
+  within = omega arith;
+  counted = sym (taken-none s);
+  asked_for = refl;
+  first = λ j below. absurd (omega arith);
+}
+
+pub list_below-more : {A : Type 0} (n : ℕ) (f : ℕ → A) → list_below (n + 1) f ≡ list_below n f ++ f n ∷ []
+list_below-more n f = rw add-one refl

@@ -1,0 +1,92 @@
+-- A run of a server as a whole: its notes, where the server's jobs are done, and what is answered.
+use Rattle.std.proofs.Common.{◌≡◌, ℕ, ◌+◌, ◌<◌, ◌≤◌, List, length, replicate, refl, arith, ap, ap₂, ◌∙◌, sym, subst}
+use Rattle.std.specs.Prelude.{Option, Some, None}
+use Rattle.std.specs.Option.{option_or}
+use Rattle.std.proofs.lemmas.List.{length-replicate}
+use Rattle.dvs_base.specs.declared.note.Note.{Note}
+use Rattle.dvs_base.specs.declared.note.Pos.{Pos}
+use Rattle.demand_list.specs.Demands.{DemandsOf}
+use Rattle.sched_model.specs.Plan.{Plan, count, period}
+use Rattle.sched_model.specs.Jobs.{due, release}
+use Rattle.sched_model.specs.Ticks.{Tick}
+use Rattle.sched_model.specs.Demands.{demand_of}
+use Rattle.sched_model.specs.Deadlines.{IsMet}
+use Rattle.sched_model.specs.Schedule.{schedule_by}
+use Rattle.sched_model.proofs.Limits.{every_period}
+use Rattle.sched_model.proofs.ScheduleLemmas.{schedule_exists}
+use Rattle.governor.specs.Meanings.{OwnDemand}
+use Rattle.governor.specs.Schedule.{ask_of}
+use Rattle.event_kernel.specs.Heard.{HasHeard}
+use Rattle.event_kernel.specs.Runs.{Run, notes_of_run, MeetsDeadlines}
+use Rattle.replay_laws.specs.OwnList.{LooksAtNone, ticks_by, notes_by}
+use Rattle.poll_server.specs.declared.ends.Ends.{Ends}
+use Rattle.poll_server.specs.Serving.{ServerOf, budget, polled_demand, job_release}
+use Rattle.poll_server.specs.Outcomes.{done_at}
+use Rattle.poll_server.specs.Bound.{jobs_before}
+use Rattle.poll_server.specs.Polled.{polled_notes}
+use Rattle.poll_server.specs.Walking.{IsServable, AreTaken, AreEnds, Hears, end_at}
+use Rattle.poll_server.proofs.Takings.{before-released}
+use Rattle.poll_server.proofs.Running.{same-notes}
+use Rattle.poll_server.proofs.Telling.{HearsAll, hears-all, none-told}
+use Rattle.poll_server.proofs.Ending.{IsEndBy, ends-never, ends-in-time}
+
+-- the run of a server's jobs released within so many ticks, by a list of what they take
+abbrev pub run_of : ServerOf → DemandsOf → ℕ → Run
+run_of s d ticks = record { plan = s.plan; demands = d; ticks = ticks }
+
+module _ (demand : OwnDemand) (s : ServerOf) (looks : LooksAtNone s.plan (ask_of demand s.plan)) (d : DemandsOf) (n ticks : ℕ)
+    (n_is : n ≡ jobs_before s ticks) (servable : IsServable s n d) where
+  some : 0 < period s.plan s.task
+  some = every_period s.plan servable.plan.limits s.task
+
+  abbrev dem : ℕ → ℕ → ℕ
+  dem = demand_of s.plan d.rows
+
+  abbrev ticks_run : List Tick
+  ticks_run = ticks_by s.plan (ask_of demand s.plan) dem ticks
+
+  -- its notes are those of the run of all that they take
+  pub notes-are : notes_of_run demand (run_of s d ticks) ≡ polled_notes demand s ticks
+  notes-are =
+      sym (same-notes demand s some looks ticks d.rows (subst (λ (m : ℕ). AreTaken s m d.rows) n_is servable.rows)
+      ((schedule_exists s.plan dem (ask_of demand s.plan dem) ticks).1))
+
+  -- what was heard of them
+  pub ends-are : (from to : Ends) → from.task ≡ s.task → from.ends.items ≡ replicate n None
+      → HasHeard Hears from (notes_of_run demand (run_of s d ticks)) to
+      → AreEnds s (polled_notes demand s ticks) n to.ends.items
+  ends-are from to task empty heard = record {
+    long = all.long ∙ from_long;
+    told = λ k lt.
+        all.told k (subst (λ (m : ℕ). k < m) (sym from_long) lt)
+        ∙ (ap (λ (o : Option Pos). option_or o (done_at notes from.task (k + 1))) (nothing k)
+        ∙ ap₂ (λ (l : List Note) (i : ℕ). done_at l i (k + 1)) notes-are task);
+    no_later = λ k later.
+        let over : jobs_before s ticks < k = subst (λ (m : ℕ). m < k) n_is later in
+        let polled = schedule_exists s.plan (polled_demand s) (ask_of demand s.plan (polled_demand s)) ticks in
+        let after : ticks ≤ job_release s k = before-released s ticks k some over in
+        ends-never s.plan (polled_demand s) (ask_of demand s.plan (polled_demand s)) servable.plan.limits
+        (ticks_by s.plan (ask_of demand s.plan) (polled_demand s) ticks) polled.0 s.task k servable.task (omega arith)
+        (subst (λ (m : ℕ). m ≤ release s.plan s.task k) (sym polled.1) after);
+  }
+    where
+      notes : List Note
+      notes = notes_of_run demand (run_of s d ticks)
+
+      all : HearsAll from (notes_of_run demand (run_of s d ticks)) to
+      all = hears-all from (notes_of_run demand (run_of s d ticks)) to heard
+
+      from_long : length from.ends.items ≡ n
+      from_long = ap length empty ∙ length-replicate n None
+
+      nothing : (k : ℕ) → end_at from.ends.items k ≡ None
+      nothing k = ap (λ (l : List (Option Pos)). end_at l k) empty ∙ none-told n k
+
+  -- each job of the server that is due within the run is done by then
+  pub ends-met : MeetsDeadlines demand (run_of s d ticks) → (k : ℕ) → 1 ≤ k → due s.plan s.task k ≤ ticks
+      → IsEndBy (due s.plan s.task k) (done_at (polled_notes demand s ticks) s.task k)
+  ends-met met k first within =
+      let run = schedule_exists s.plan dem (ask_of demand s.plan dem) ticks in
+      subst (λ (l : List Note). IsEndBy (due s.plan s.task k) (done_at l s.task k)) notes-are
+      (ends-in-time s.plan dem (ask_of demand s.plan dem) servable.plan.limits ticks_run run.0 s.task k servable.task first met
+      (subst (λ (m : ℕ). due s.plan s.task k ≤ m) (sym run.1) within))
