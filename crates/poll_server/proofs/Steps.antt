@@ -1,6 +1,6 @@
 -- The steps of the walks over a server's jobs and requests.
-use Rattle.std.proofs.Common.{◌≡◌, ℕ, zero, suc, ◌+◌, ◌-◌, ◌*◌, ◌^◌, ◌<◌, ◌≤◌, ◌⊎◌, inl, inr, List, [], ◌∷◌, ◌++◌, refl, arith, ap, ◌∙◌, sym, subst, add-one}
-use Rattle.std.specs.Prelude.{Option, Some, None, unwrap_or}
+use Rattle.std.proofs.Common.{◌≡◌, ℕ, zero, suc, ◌+◌, ◌-◌, ◌*◌, ◌^◌, ◌<◌, ◌≤◌, min, ◌⊎◌, inl, inr, List, [], ◌∷◌, ◌++◌, refl, arith, ap, ◌∙◌, sym, subst, add-one}
+use Rattle.std.specs.Prelude.{Option, Some, None, unwrap_or, slice_index}
 use Rattle.std.proofs.Math.Nat.{mul-le-mul_right, mul-le-mul_left}
 use Rattle.std.proofs.lemmas.Bool.{cases_lt}
 use Rattle.dvs_base.specs.declared.limits.TheConstants.{MOST_JOBS}
@@ -51,7 +51,14 @@ release-up s k =
     mul-le-mul_right (period s.plan s.task) (omega arith) in
     omega (arith, more)
 
--- one job takes what waits
+-- a job takes the smaller of what waits and the budget
+pub takes-is : (s : ServerOf) (k a before room u : ℕ) → a ≡ arrived s (job_release s (k + 1)) → before ≡ taken_up_to s k
+    → room ≡ budget s → u ≡ min (a - before) room → u ≡ taken s (k + 1)
+takes-is s k a before room u all had most is =
+    let back : k + 1 - 1 ≡ k = omega arith in
+    omega (arith, all, had, most, is, ap (taken_up_to s) back)
+
+-- after the next job what it takes is taken
 pub stands-next : (s : ServerOf) (k t u : ℕ) (w : Waiting) → HasPassed s t w → t ≡ job_release s (k + 1)
     → w.taken ≡ taken_up_to s k → u ≡ taken s (k + 1)
     → StandsAfter s (k + 1) (record { next = w.next; arrived = w.arrived; taken = w.taken + u })
@@ -80,7 +87,7 @@ taken-first s rows none = record {
 -- what the list says of a job of the server
 pub units-taken : (s : ServerOf) (n : ℕ) (d : DemandsOf) → IsServable s n d → (k : ℕ) → 1 ≤ k → k ≤ n
     → units_of d s.task k ≡ taken s k
-units-taken s n d h k first most = ap (λ (o : Option ℕ). unwrap_or o _) (h.rows.taken_by k first most)
+units-taken s n d h k first most = ap (λ (o : Option ℕ). unwrap_or o (slice_index d.worsts s.task)) (h.rows.taken_by k first most)
 
 -- one job further
 pub reached-next : (s : ServerOf) (n m u : ℕ) (r : Reached) → HasReached s n m r → r.job < n → r.taken < r.asked

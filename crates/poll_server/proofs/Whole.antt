@@ -1,13 +1,17 @@
 -- A run of a server as a whole: its notes, where the server's jobs are done, and what is answered.
-use Rattle.std.proofs.Common.{◌≡◌, ℕ, ◌+◌, ◌<◌, ◌≤◌, List, length, replicate, refl, arith, ap, ap₂, ◌∙◌, sym, subst}
+use Rattle.std.proofs.Common.{◌≡◌, ℕ, ◌+◌, ◌-◌, ◌<◌, ◌≤◌, false, List, length, replicate, refl, arith, ap, ap₂, ◌∙◌, sym, subst}
 use Rattle.std.specs.Prelude.{Option, Some, None}
 use Rattle.std.specs.Option.{option_or}
 use Rattle.std.proofs.lemmas.List.{length-replicate}
 use Rattle.dvs_base.specs.declared.note.Note.{Note}
 use Rattle.dvs_base.specs.declared.note.Pos.{Pos}
+use Rattle.dvs_base.specs.declared.note.Totals.{Totals}
 use Rattle.demand_list.specs.Demands.{DemandsOf}
-use Rattle.sched_model.specs.Plan.{Plan, count, period}
-use Rattle.sched_model.specs.Jobs.{due, release}
+use Rattle.grid_fraction.specs.Numbers.{ceil_div}
+use Rattle.grid_fraction.proofs.Sums.{sum_where-other}
+use Rattle.sched_model.specs.Plan.{Plan, count, period, offset}
+use Rattle.sched_model.specs.Jobs.{due, release, released_jobs}
+use Rattle.sched_model.specs.Totals.{totals_of}
 use Rattle.sched_model.specs.Ticks.{Tick}
 use Rattle.sched_model.specs.Demands.{demand_of}
 use Rattle.sched_model.specs.Deadlines.{IsMet}
@@ -20,22 +24,32 @@ use Rattle.event_kernel.specs.Heard.{HasHeard}
 use Rattle.event_kernel.specs.Runs.{Run, notes_of_run, MeetsDeadlines}
 use Rattle.replay_laws.specs.OwnList.{LooksAtNone, ticks_by, notes_by}
 use Rattle.poll_server.specs.declared.ends.Ends.{Ends}
+use Rattle.poll_server.specs.declared.served.Outcome.{Outcome}
 use Rattle.poll_server.specs.Serving.{ServerOf, budget, polled_demand, job_release}
-use Rattle.poll_server.specs.Outcomes.{done_at}
-use Rattle.poll_server.specs.Bound.{jobs_before}
-use Rattle.poll_server.specs.Polled.{polled_notes}
+use Rattle.poll_server.specs.Outcomes.{done_at, ServedOf}
+use Rattle.poll_server.specs.Bound.{jobs_before, KeepsBound}
+use Rattle.poll_server.specs.EachOutcome.{outcomes_of, served_of}
+use Rattle.poll_server.specs.Polled.{polled_notes, IsPolled}
 use Rattle.poll_server.specs.Walking.{IsServable, AreTaken, AreEnds, Hears, end_at}
 use Rattle.poll_server.proofs.Takings.{before-released}
 use Rattle.poll_server.proofs.Running.{same-notes}
 use Rattle.poll_server.proofs.Telling.{HearsAll, hears-all, none-told}
+use Rattle.poll_server.proofs.Steps.{some-budget}
+use Rattle.poll_server.proofs.Answering.{are-polled, keeps-bound}
 use Rattle.poll_server.proofs.Ending.{IsEndBy, ends-never, ends-in-time}
 
 -- the run of a server's jobs released within so many ticks, by a list of what they take
 abbrev pub run_of : ServerOf → DemandsOf → ℕ → Run
 run_of s d ticks = record { plan = s.plan; demands = d; ticks = ticks }
 
+-- the jobs of one task are some of all jobs
+pub jobs-within : (p : Plan) (i ticks : ℕ) → i < count p → ceil_div (ticks - offset p i) (period p i) ≤ released_jobs p ticks
+jobs-within p i ticks lt =
+    omega (arith, sum_where-other (count p) (λ j. false) (λ j. ceil_div (ticks - offset p j) (period p j)) i lt refl)
+
+-- a run by a governor's demand of a server and a list of what its first n jobs take
 module _ (demand : OwnDemand) (s : ServerOf) (looks : LooksAtNone s.plan (ask_of demand s.plan)) (d : DemandsOf) (n ticks : ℕ)
-    (n_is : n ≡ jobs_before s ticks) (servable : IsServable s n d) where
+    (n_is : n ≡ jobs_before s ticks) (servable : IsServable s n d) (run : Run) (run_is : run ≡ run_of s d ticks) where
   some : 0 < period s.plan s.task
   some = every_period s.plan servable.plan.limits s.task
 
@@ -46,20 +60,21 @@ module _ (demand : OwnDemand) (s : ServerOf) (looks : LooksAtNone s.plan (ask_of
   ticks_run = ticks_by s.plan (ask_of demand s.plan) dem ticks
 
   -- its notes are those of the run of all that they take
-  pub notes-are : notes_of_run demand (run_of s d ticks) ≡ polled_notes demand s ticks
+  notes-are : notes_of_run demand run ≡ polled_notes demand s ticks
   notes-are =
-      sym (same-notes demand s some looks ticks d.rows (subst (λ (m : ℕ). AreTaken s m d.rows) n_is servable.rows)
+      ap (notes_of_run demand) run_is
+      ∙ sym (same-notes demand s some looks ticks d.rows (subst (λ (m : ℕ). AreTaken s m d.rows) n_is servable.rows)
       ((schedule_exists s.plan dem (ask_of demand s.plan dem) ticks).1))
 
   -- what was heard of them
-  pub ends-are : (from to : Ends) → from.task ≡ s.task → from.ends.items ≡ replicate n None
-      → HasHeard Hears from (notes_of_run demand (run_of s d ticks)) to
+  ends-are : (from to : Ends) → from.task ≡ s.task → from.ends.items ≡ replicate n None
+      → HasHeard Hears from (notes_of_run demand run) to
       → AreEnds s (polled_notes demand s ticks) n to.ends.items
   ends-are from to task empty heard = record {
     long = all.long ∙ from_long;
     told = λ k lt.
         all.told k (subst (λ (m : ℕ). k < m) (sym from_long) lt)
-        ∙ (ap (λ (o : Option Pos). option_or o (done_at notes from.task (k + 1))) (nothing k)
+        ∙ (ap (λ (o : Option Pos). option_or o (done_at (notes_of_run demand run) from.task (k + 1))) (nothing k)
         ∙ ap₂ (λ (l : List Note) (i : ℕ). done_at l i (k + 1)) notes-are task);
     no_later = λ k later.
         let over : jobs_before s ticks < k = subst (λ (m : ℕ). m < k) n_is later in
@@ -70,11 +85,8 @@ module _ (demand : OwnDemand) (s : ServerOf) (looks : LooksAtNone s.plan (ask_of
         (subst (λ (m : ℕ). m ≤ release s.plan s.task k) (sym polled.1) after);
   }
     where
-      notes : List Note
-      notes = notes_of_run demand (run_of s d ticks)
-
-      all : HearsAll from (notes_of_run demand (run_of s d ticks)) to
-      all = hears-all from (notes_of_run demand (run_of s d ticks)) to heard
+      all : HearsAll from (notes_of_run demand run) to
+      all = hears-all from (notes_of_run demand run) to heard
 
       from_long : length from.ends.items ≡ n
       from_long = ap length empty ∙ length-replicate n None
@@ -83,10 +95,33 @@ module _ (demand : OwnDemand) (s : ServerOf) (looks : LooksAtNone s.plan (ask_of
       nothing k = ap (λ (l : List (Option Pos)). end_at l k) empty ∙ none-told n k
 
   -- each job of the server that is due within the run is done by then
-  pub ends-met : MeetsDeadlines demand (run_of s d ticks) → (k : ℕ) → 1 ≤ k → due s.plan s.task k ≤ ticks
+  ends-met : MeetsDeadlines demand run → (k : ℕ) → 1 ≤ k → due s.plan s.task k ≤ ticks
       → IsEndBy (due s.plan s.task k) (done_at (polled_notes demand s ticks) s.task k)
   ends-met met k first within =
       let run = schedule_exists s.plan dem (ask_of demand s.plan dem) ticks in
-      subst (λ (l : List Note). IsEndBy (due s.plan s.task k) (done_at l s.task k)) notes-are
-      (ends-in-time s.plan dem (ask_of demand s.plan dem) servable.plan.limits ticks_run run.0 s.task k servable.task first met
+      subst (λ (l : List Note). IsEndBy (due s.plan s.task k) (done_at l s.task k)) (sym (ap (notes_of_run demand) run_is) ∙ notes-are)
+      (ends-in-time s.plan dem (ask_of demand s.plan dem) servable.plan.limits ticks_run run.0 s.task k servable.task first (subst (MeetsDeadlines demand) run_is met)
       (subst (λ (m : ℕ). due s.plan s.task k ≤ m) (sym run.1) within))
+
+  -- what is answered is the function of the arguments
+  pub answers : (from to : Ends) → from.task ≡ s.task → from.ends.items ≡ replicate n None
+      → HasHeard Hears from (notes_of_run demand run) to → (outcomes : List Outcome) (totals : Totals)
+      → ((notes : List Note) → AreEnds s notes n to.ends.items → outcomes ≡ outcomes_of s notes)
+      → totals ≡ totals_of (notes_of_run demand run) → (r : ServedOf) → r ≡ record { outcomes = outcomes; totals = totals }
+      → r ≡ served_of demand s ticks
+  answers from to task empty heard outcomes totals each sums r is =
+      is
+      ∙ ap₂ (λ (o : List Outcome) (t : Totals). record { outcomes = o; totals = t })
+      (each (polled_notes demand s ticks) (ends-are from to task empty heard)) (sums ∙ ap totals_of notes-are)
+
+  -- so each request has the outcome that the notes make of it
+  pub answers-polled : (r : ServedOf) → r ≡ served_of demand s ticks → IsPolled s (polled_notes demand s ticks) r
+  answers-polled r is =
+      subst (IsPolled s (polled_notes demand s ticks)) (sym is)
+      (are-polled s servable.requests some (some-budget s servable.plan servable.task) (polled_notes demand s ticks))
+
+  -- and the bound is kept, where the deadlines are met
+  pub answers-bound : MeetsDeadlines demand run → (r : ServedOf) → r ≡ served_of demand s ticks → KeepsBound s ticks r
+  answers-bound met r is =
+      subst (KeepsBound s ticks) (sym is)
+      (keeps-bound s servable.requests some (some-budget s servable.plan servable.task) (polled_notes demand s ticks) ticks (ends-met met))
