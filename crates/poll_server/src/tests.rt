@@ -114,7 +114,7 @@ fn requests_are_served_in_order(rt: HostRuntime) -> Result<(), Fail> {
     let (outcomes, totals) = polled_full(rt.alloc(), &plan, 0, text, 15)?;
     assert_eq!(rt;
         outcomes.as_slice(),
-        &[served(1, 0, 3), served(3, 10, 2), Outcome::Pending]
+        [served(1, 0, 3), served(3, 10, 2), Outcome::Pending].as_slice()
     );
     assert_eq!(rt; (totals.run, totals.idle), (725000000000, 0));
     Ok(())
@@ -135,7 +135,7 @@ fn a_request_may_take_many_budgets(rt: HostRuntime) -> Result<(), Fail> {
     let (outcomes, totals) = polled_full(rt.alloc(), &plan, 0, MANY, 40)?;
     assert_eq!(rt;
         outcomes.as_slice(),
-        &[
+        [
             served(1, 1, 0),
             served(2, 5, 3),
             served(2, 5, 3),
@@ -143,6 +143,7 @@ fn a_request_may_take_many_budgets(rt: HostRuntime) -> Result<(), Fail> {
             served(8, 35, 2),
             Outcome::Pending,
         ]
+        .as_slice()
     );
     assert_eq!(rt; totals.run, 1700000000000);
     Ok(())
@@ -154,7 +155,7 @@ fn the_charge_serves_no_request(rt: HostRuntime) -> Result<(), Fail> {
     let (outcomes, totals) = polled_full(rt.alloc(), &plan, 0, MANY, 40)?;
     assert_eq!(rt;
         outcomes.as_slice(),
-        &[
+        [
             served(1, 1, 2),
             served(2, 6, 1),
             served(2, 6, 1),
@@ -162,6 +163,7 @@ fn the_charge_serves_no_request(rt: HostRuntime) -> Result<(), Fail> {
             served(8, 36, 0),
             Outcome::Pending,
         ]
+        .as_slice()
     );
     assert_eq!(rt; totals.run, 2300000000000);
     Ok(())
@@ -173,7 +175,7 @@ fn a_task_of_the_longest_period_may_serve(rt: HostRuntime) -> Result<(), Fail> {
     let (outcomes, totals) = polled_full(rt.alloc(), &plan, 1, MANY, 40)?;
     assert_eq!(rt;
         outcomes.as_slice(),
-        &[
+        [
             served(1, 2, 0),
             served(2, 13, 2),
             served(2, 13, 2),
@@ -181,6 +183,7 @@ fn a_task_of_the_longest_period_may_serve(rt: HostRuntime) -> Result<(), Fail> {
             Outcome::Pending,
             Outcome::Pending,
         ]
+        .as_slice()
     );
     assert_eq!(rt; totals.run, 1450000000000);
     Ok(())
@@ -192,7 +195,7 @@ fn a_server_may_begin_later(rt: HostRuntime) -> Result<(), Fail> {
     let (outcomes, totals) = polled_full(rt.alloc(), &plan, 0, MANY, 40)?;
     assert_eq!(rt;
         outcomes.as_slice(),
-        &[
+        [
             served(1, 4, 0),
             served(2, 9, 0),
             served(2, 9, 0),
@@ -200,6 +203,7 @@ fn a_server_may_begin_later(rt: HostRuntime) -> Result<(), Fail> {
             served(7, 34, 0),
             served(8, 38, 1),
         ]
+        .as_slice()
     );
     assert_eq!(rt; totals.run, 1725000000000);
     Ok(())
@@ -215,7 +219,7 @@ fn a_lower_speed_serves_later(rt: HostRuntime) -> Result<(), Fail> {
     let (outcomes, totals) = polled(rt.alloc(), &plan, 0, MANY, governor, 40)?;
     assert_eq!(rt;
         outcomes.as_slice(),
-        &[
+        [
             served(1, 2, 0),
             served(2, 6, 1),
             served(2, 6, 1),
@@ -223,6 +227,7 @@ fn a_lower_speed_serves_later(rt: HostRuntime) -> Result<(), Fail> {
             served(8, 36, 0),
             Outcome::Pending,
         ]
+        .as_slice()
     );
     assert_eq!(rt; totals.run, 612000000000);
     Ok(())
