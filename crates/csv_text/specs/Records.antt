@@ -1,5 +1,5 @@
 -- The records that a reader of a text has left.
-use Rattle.std.specs.Prelude.{◌≡◌, ℕ, ◌+◌, true, List, [], length, Option, Some, None, IsSome}
+use Rattle.std.specs.Prelude.{◌≡◌, ℕ, ◌+◌, true, List, [], ◌∷◌, length, Option, Some, None, IsSome}
 use Rattle.std.specs.Borrow.{Bor}
 use Rattle.csv.specs.Reading.{Ready, default_config, source_of, records_from, reader_config, reader_state, reader_trim, is_flexible}
 use Rattle.csv.specs.declared.parser.State.{State}
@@ -30,3 +30,8 @@ pub record IsPlain (reader : TextReader) : Type 0 where
   pub config : reader_config reader ≡ default_config
   pub flexible : is_flexible reader ≡ true
   pub known : IsSome (unread reader)
+
+-- the fields of a record that has two
+abbrev pub two_of : List (List ℕ) → Option (List ℕ × List ℕ)
+two_of (a ∷ b ∷ []) = Some (a, b)
+two_of _ = None

@@ -5,17 +5,13 @@ use Rattle.std.specs.Str.{bytes_eq}
 use Rattle.dvs_base.specs.Checks.{and_then}
 use Rattle.dvs_base.specs.Text.{number_below, short_of}
 use Rattle.csv.specs.Reading.{default_config, records, strip_bom}
+use Rattle.csv_text.specs.Records.{two_of}
 use Rattle.grid_fraction.specs.Numbers.{list_below}
 use Rattle.task_model.specs.declared.task.Task.{Task}
 use Rattle.task_model.specs.Tasks.{task_at}
 use Rattle.task_model.specs.TaskFile.{place_of}
 use Rattle.edf_demand.specs.declared.fault.DeadlineFault.{DeadlineFault}
 use Rattle.edf_demand.specs.declared.fault.DeadlineFault.TheVariants as fault
-
--- the fields of a record that has two
-abbrev pub two_of : List (List ℕ) → Option (List ℕ × List ℕ)
-two_of (a ∷ b ∷ []) = Some (a, b)
-two_of _ = None
 
 -- the check of the number of fields
 abbrev pub fields_from : ℕ → ℕ → Option (List ℕ × List ℕ) → Result (List ℕ × List ℕ) DeadlineFault

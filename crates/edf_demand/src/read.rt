@@ -1,31 +1,19 @@
 // Deadline files.
-ghost use Rattle.std.specs.Prelude.{ℕ, codes, ◌≡◌, ◌≤◌, ◌<◌, ◌^◌, ◌+◌, ◌∷◌, [], Ok, Some, true, false, length, option_map, IfOk, IfErr, OnOk};
+ghost use Rattle.std.specs.Prelude.{ℕ, codes, ◌≡◌, ◌≤◌, ◌<◌, ◌^◌, ◌+◌, ◌∷◌, [], Ok, Some, true, false, length, IfOk, IfErr, OnOk};
 ghost use Rattle.csv.specs.Records.{fields_of};
 ghost use Rattle.csv_text.specs.Records.{IsPlain, records_left};
 ghost use Rattle.dvs_base.specs.Checks.{IsUnlessMemory};
 ghost use Rattle.task_model.specs.Tasks.{task_at};
 ghost use Rattle.edf_demand.specs.declared.fault.DeadlineFault.TheVariants as fault;
 ghost use Rattle.edf_demand.specs.Deadlines.{AreFor};
-ghost use Rattle.edf_demand.specs.DeadlineFile.{two_of, is_header, row_of, with_row, given_from, none_given, all_deadlines, after_header, given_in, deadline_file, AreGiven};
+ghost use Rattle.edf_demand.specs.DeadlineFile.{is_header, row_of, with_row, given_from, none_given, all_deadlines, after_header, given_in, deadline_file, AreGiven};
 
 use crate::{DeadlineFault, Deadlines};
 use csv::{ByteRecord, Reader};
-use csv_text::{next_record, text_reader};
+use csv_text::{next_record, text_reader, two_fields};
 use dvs_base::{NoMemory, Short, whole};
 use std::alloc::Global;
 use task_model::TaskSet;
-
-// The fields of a record of two.
-fn two_fields(fields: &ByteRecord) -> Option<(&[u8], &[u8])>
-    ensures { option_map (λ p. (p.0.now, p.1.now)) result ≡ two_of (fields_of fields.now) }
-{
-    if fields.len() != 2 {
-        return None;
-    }
-    let a = fields.get(0).unwrap();
-    let b = fields.get(1).unwrap();
-    Some((a, b))
-}
 
 fn is_header(fields: &ByteRecord) -> bool
     ensures { result ≡ is_header (fields_of fields.now) }

@@ -6,8 +6,12 @@
 
 mod fault;
 mod limits;
+mod read;
 mod requests;
 
 pub use fault::{RequestColumn, RequestFault};
 pub use limits::{MOST_REQUEST_UNITS, MOST_REQUESTS};
 pub use requests::{Request, Requests};
+
+#[cfg(test)]
+mod tests;

@@ -15,7 +15,7 @@ pub struct Request {
 /// Requests within the limits, in order of arrival.
 #[derive(Drop)]
 pub struct Requests {
-    requests: Vec<Request>,
+    pub(crate) requests: Vec<Request>,
 }
 
 impl Model for Requests {

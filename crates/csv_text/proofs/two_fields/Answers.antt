@@ -1,7 +1,7 @@
 use Rattle.std.proofs.Common.{◌≡◌, ℕ, Bor, List, [], ◌∷◌, length, Option, Some, None, IsSome, option_map, refl, ◌∙◌, arith}
 use Rattle.csv.specs.Records.{field_at, fields_of}
-use Rattle.edf_demand.specs.DeadlineFile.{two_of}
-use Rattle.edf_demand.proofs.read.two_fields.Goals as goal
+use Rattle.csv_text.specs.Records.{two_of}
+use Rattle.csv_text.proofs.two_fields.Goals as goal
 
 -- the fields of a record of two
 record Two (fs : List (List ℕ)) : Type 0 where

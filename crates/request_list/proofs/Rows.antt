@@ -1,0 +1,111 @@
+-- A row that is read is the row of its request, and the row of a request is read.
+use Rattle.std.proofs.Common.{◌≡◌, ℕ, ◌^◌, ◌<◌, ◌≤◌, Bool, true, false, List, [], ◌∷◌, length, Option, Some, None, Result, Ok, Err, refl, ap, ap₂, subst, ◌∙◌, arith, if◌then◌else◌}
+use Rattle.std.specs.Prelude.{◌==◌, ◌||◌, nat_lt, codes, decimal}
+use Rattle.std.specs.Str.{bytes_eq}
+use Rattle.std.proofs.lemmas.Bool.{and_parts}
+use Rattle.std.proofs.lemmas.Bool.Decides.{nat_tests}
+use Rattle.std.proofs.lemmas.Slice.Eq.{bytes_eq-Decides}
+use Rattle.std.proofs.lemmas.Option.{some_pair_parts}
+use Rattle.dvs_base.specs.Checks.{and_then}
+use Rattle.dvs_base.specs.Text.{number_below}
+use Rattle.trace_reader.proofs.Spelled.{number_below-decimal, number_below-found}
+use Rattle.csv_text.specs.Records.{two_of}
+use Rattle.request_list.specs.declared.limits.TheConstants.{MOST_REQUEST_UNITS}
+use Rattle.request_list.specs.declared.requests.Request.{Request}
+use Rattle.request_list.specs.declared.fault.RequestColumn.{RequestColumn}
+use Rattle.request_list.specs.declared.fault.RequestColumn.TheVariants as column
+use Rattle.request_list.specs.declared.fault.RequestFault.TheVariants as fault
+use Rattle.request_list.specs.Requests.{IsRequest}
+use Rattle.request_list.specs.RequestText.{header, row_fields}
+use Rattle.request_list.specs.RequestFile.{fields_from, number_from, units_from, in_order, row_of, is_header}
+
+-- the value of a step that was not refused
+pub step-ok : {A B F : Type 0} (r : Result A F) (f : A → Result B F) (y : B) → and_then r f ≡ Ok y → (x : A) × (r ≡ Ok x) × (f x ≡ Ok y)
+step-ok (Ok x) f y e = (x, refl, e)
+step-ok (Err d) f y e = absurd cc
+
+two-is : (fs : List (List ℕ)) (a b : List ℕ) → two_of fs ≡ Some (a, b) → fs ≡ a ∷ b ∷ []
+two-is [] a b e = absurd cc
+two-is (x ∷ []) a b e = absurd cc
+two-is (x ∷ y ∷ []) a b e = let p = some_pair_parts x a y b e in ap₂ (λ p q. p ∷ q ∷ []) p.0 p.1
+two-is (x ∷ y ∷ z ∷ fs) a b e = absurd cc
+
+fields-ok : (row count : ℕ) (o : Option (List ℕ × List ℕ)) (two : List ℕ × List ℕ) → fields_from row count o ≡ Ok two → o ≡ Some two
+fields-ok row count None two e = absurd cc
+fields-ok row count (Some p) two e = let same : p ≡ two = cc in ap Some same
+
+number-ok : (row : ℕ) (at : RequestColumn) (o : Option ℕ) (n : ℕ) → number_from row at o ≡ Ok n → o ≡ Some n
+number-ok row at None n e = absurd cc
+number-ok row at (Some m) n e = let same : m ≡ n = cc in ap Some same
+
+-- units that pass their check are as they were, and within the limits
+units-ok : (row n u : ℕ) → units_from row n ≡ Ok u → (n ≡ u) × (1 ≤ n) × (n ≤ MOST_REQUEST_UNITS)
+units-ok row n u e = by (n == 0) (nat_lt MOST_REQUEST_UNITS n) refl refl e
+  where
+    by : (p q : Bool) → (n == 0) ≡ p → nat_lt MOST_REQUEST_UNITS n ≡ q → (if p || q then Err (fault.Range row) else Ok n) ≡ Ok u
+        → (n ≡ u) × (1 ≤ n) × (n ≤ MOST_REQUEST_UNITS)
+    by true q a b e = absurd cc
+    by false true a b e = absurd cc
+    by false false a b e = let same : n ≡ u = cc in (same, grind (arith, nat_tests), grind (arith, nat_tests))
+
+order-ok : (row earlier n a : ℕ) → in_order row earlier n ≡ Ok a → (n ≡ a) × (earlier ≤ n)
+order-ok row earlier n a e = by (nat_lt n earlier) refl e
+  where
+    by : (p : Bool) → nat_lt n earlier ≡ p → (if p then Err (fault.Early row) else Ok n) ≡ Ok a → (n ≡ a) × (earlier ≤ n)
+    by true h e = absurd cc
+    by false h e = let same : n ≡ a = cc in (same, grind (arith, nat_tests))
+
+units-pass : (row n : ℕ) → 1 ≤ n → n ≤ MOST_REQUEST_UNITS → units_from row n ≡ Ok n
+units-pass row n some low =
+    let a : (n == 0) ≡ false = grind (arith, nat_tests) in
+    let b : nat_lt MOST_REQUEST_UNITS n ≡ false = grind (arith, nat_tests) in
+    rw (a, b) refl
+
+order-passes : (row earlier n : ℕ) → earlier ≤ n → in_order row earlier n ≡ Ok n
+order-passes row earlier n later = let a : nat_lt n earlier ≡ false = grind (arith, nat_tests) in rw a refl
+
+-- what a row that is read says
+pub record IsRowOf (earlier : ℕ) (r : Request) (fields : List (List ℕ)) : Type 0 where
+  pub fields_are : fields ≡ row_fields r
+  pub later : earlier ≤ r.arrival
+  pub arrival : r.arrival < 2 ^ 64
+  pub within : IsRequest r
+
+pub row-found : (row earlier : ℕ) (fields : List (List ℕ)) (r : Request) → row_of row earlier fields ≡ Ok r → IsRowOf earlier r fields
+row-found row earlier fields r e =
+    let a = step-ok (fields_from row (length fields) (two_of fields)) _ r e in
+    let b = step-ok (number_from row column.Arrival (number_below (2 ^ 64) a.0.0)) _ r a.2 in
+    let c = step-ok (number_from row column.Units (number_below (2 ^ 64) a.0.1)) _ r b.2 in
+    let d = step-ok (units_from row c.0) _ r c.2 in
+    let f = step-ok (in_order row earlier b.0) _ r d.2 in
+    let two = two-is fields a.0.0 a.0.1 (fields-ok row (length fields) (two_of fields) a.0 a.1) in
+    let arrival = number_below-found (2 ^ 64) a.0.0 b.0 (omega arith) (number-ok row column.Arrival (number_below (2 ^ 64) a.0.0) b.0 b.1) in
+    let units = number_below-found (2 ^ 64) a.0.1 c.0 (omega arith) (number-ok row column.Units (number_below (2 ^ 64) a.0.1) c.0 c.1) in
+    let checked = units-ok row c.0 d.0 d.1 in
+    let ordered = order-ok row earlier b.0 f.0 f.1 in
+    let is : (record { arrival = f.0; units = d.0 }) ≡ r = cc in
+    subst (λ q. IsRowOf earlier q fields) is (record {
+      fields_are = two ∙ ap₂ (λ p q. p ∷ q ∷ []) (arrival.0 ∙ ap decimal ordered.0) (units.0 ∙ ap decimal checked.0);
+      later = omega (arith, ordered.0, ordered.1);
+      arrival = omega (arith, ordered.0, arrival.1);
+      within = record { some = omega (arith, checked.0, checked.1); low = omega (arith, checked.0, checked.2) };
+    })
+
+pub row-read : (row earlier : ℕ) (r : Request) → earlier ≤ r.arrival → r.arrival < 2 ^ 64 → IsRequest r → row_of row earlier (row_fields r) ≡ Ok r
+row-read row earlier r later fits within =
+    let low = within.low in
+    rw (
+      number_below-decimal (2 ^ 64) r.arrival fits (omega arith),
+      number_below-decimal (2 ^ 64) r.units (omega arith) (omega arith),
+      units-pass row r.units within.some within.low,
+      order-passes row earlier r.arrival later,
+    ) refl
+
+-- the one header
+pub header-is : (fs : List (List ℕ)) → is_header fs ≡ true → fs ≡ header
+header-is [] h = absurd cc
+header-is (a ∷ []) h = absurd cc
+header-is (a ∷ b ∷ []) h =
+    let p = and_parts (bytes_eq a (codes "arrival")) (bytes_eq b (codes "units")) h in
+    ap₂ (λ x y. x ∷ y ∷ []) ((bytes_eq-Decides a (codes "arrival")).0 p.0) ((bytes_eq-Decides b (codes "units")).0 p.1)
+header-is (a ∷ b ∷ c ∷ fs) h = absurd cc

@@ -1,0 +1,13 @@
+use Rattle.std.proofs.Common.{◌≡◌, ◌+◌, length}
+use Rattle.csv_text.specs.Records.{IsPlain, records_left}
+use Rattle.request_list.proofs.read.count_rows.Given as goal
+
+-- the rows so far and those that are left are all
+abbrev pub invariant-loop-count : goal.invariant-loop-count
+invariant-loop-count l = record {
+  plain : IsPlain l.reader;
+  all : l.count + length (records_left l.reader) ≡ length (records_left l.fn.reader);
+}
+
+abbrev pub decreases-loop-count : goal.decreases-loop-count
+decreases-loop-count l = length (records_left l.reader)

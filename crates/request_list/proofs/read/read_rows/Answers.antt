@@ -1,0 +1,23 @@
+use Rattle.std.proofs.Common.{rules, ◌≡◌, ◌≤◌, ◌+◌, [], ◌∷◌, ◌++◌, length, ap, ◌∙◌, length-append, arith}
+use Rattle.csv_text.specs.Records.{records_left}
+use Rattle.request_list.specs.declared.limits.TheConstants.{MOST_REQUESTS}
+use Rattle.request_list.proofs.Orders.{AreRequestsTo, one-more}
+use Rattle.request_list.proofs.read.read_rows.Goals as goal
+
+pub loop-requests-preserved : goal.loop-requests-preserved
+loop-requests-preserved c =
+    let so_far = c.loop-requests.requests.items in
+    let r = c.in_ok-request.request in
+    let all : c.push.new.self.items ≡ so_far ++ r ∷ [] = search rules in
+    let left : length (records_left c.loop-requests.reader) ≡ 1 + length (records_left c.next_row.new.reader) = search rules in
+    let long : length c.push.new.self.items ≡ length so_far + 1 = ap length all ∙ length-append so_far (r ∷ []) in
+    let few : length so_far + 1 ≤ MOST_REQUESTS = omega (arith, c.loop-requests.invariant.few) in
+    let to : AreRequestsTo (so_far ++ r ∷ []) r.arrival =
+    one-more so_far r c.loop-requests.earlier c.loop-requests.invariant.limits c.in_ok-request.ensures.limits c.in_ok-request.ensures.order few in
+    record {
+      plain = search rules;
+      count = omega (arith, c.loop-requests.invariant.count);
+      few = omega (arith, c.loop-requests.invariant.few);
+      limits = rw all to;
+      rest = search rules;
+    }

@@ -1,0 +1,170 @@
+// Request files.
+ghost use Rattle.std.specs.Prelude.{ℕ, List, codes, ◌≡◌, ◌≤◌, ◌<◌, ◌^◌, ◌+◌, ◌∷◌, [], Ok, true, false, length, IfOk, IfErr, OnOk};
+ghost use Rattle.csv.specs.Reading.{default_config, records, strip_bom};
+ghost use Rattle.csv.specs.Records.{fields_of};
+ghost use Rattle.csv_text.specs.Records.{IsPlain, records_left};
+ghost use Rattle.dvs_base.specs.Checks.{IsUnlessMemory};
+ghost use Rattle.dvs_base.specs.Text.{number_below};
+ghost use Rattle.request_list.specs.declared.limits.TheConstants.{MOST_REQUESTS};
+ghost use Rattle.request_list.specs.declared.fault.RequestFault.TheVariants as fault;
+ghost use Rattle.request_list.specs.Requests.{IsRequest, AreRequests};
+ghost use Rattle.request_list.specs.declared.requests.Request.{Request};
+ghost use Rattle.request_list.specs.RequestText.{IsTextOf};
+ghost use Rattle.request_list.specs.RequestFile.{is_header, number_from, row_of, requests_from, after_header, request_file};
+
+use crate::limits::{MOST_REQUEST_UNITS, MOST_REQUESTS};
+use crate::{Request, RequestColumn, RequestFault, Requests};
+use csv::{ByteRecord, Reader};
+use csv_text::{next_record, text_reader, two_fields};
+use dvs_base::whole;
+use std::alloc::Global;
+
+fn is_header(fields: &ByteRecord) -> bool
+    ensures { result ≡ is_header (fields_of fields.now) }
+{
+    match two_fields(fields) {
+        Some((a, b)) => a == b"arrival".as_slice() && b == b"units".as_slice(),
+        None => false,
+    }
+}
+
+// A number of a row.
+fn number_in(row: u64, column: RequestColumn, field: &[u8]) -> Result<u64, RequestFault>
+    ensures { result ≡ number_from row column (number_below (2 ^ 64) field.now) }
+{
+    match whole(field) {
+        Some(number) => Ok(number),
+        None => Err(RequestFault::BadNumber { row, column }),
+    }
+}
+
+// A row, where the row before it arrives at `earlier`.
+fn read_row(row: u64, earlier: u64, fields: &ByteRecord) -> Result<Request, RequestFault>
+    ensures row { result ≡ row_of row earlier (fields_of fields.now) }
+    ensures limits { IfOk result (λ r. IsRequest r) }
+    ensures order { IfOk result (λ r. earlier ≤ r.arrival) }
+{
+    let (arrival, units) = match two_fields(fields) {
+        Some(two) => two,
+        None => {
+            return Err(RequestFault::Fields {
+                row,
+                count: fields.len() as u64,
+            });
+        }
+    };
+    let arrival = number_in(row, RequestColumn::Arrival, arrival)?;
+    let units = number_in(row, RequestColumn::Units, units)?;
+    if units == 0 || units > MOST_REQUEST_UNITS {
+        return Err(RequestFault::Range { row });
+    }
+    if arrival < earlier {
+        return Err(RequestFault::Early { row });
+    }
+    Ok(Request { arrival, units })
+}
+
+// Reads the fields of the next record. False where there is none.
+fn next_row(reader: &mut Reader<&[u8]>, fields: &mut ByteRecord) -> Result<bool, RequestFault>
+    requires { IsPlain reader.old }
+    ensures some { result ≡ Ok true → records_left reader.old ≡ fields_of fields.new ∷ records_left reader.new }
+    ensures plain { result ≡ Ok true → IsPlain reader.new }
+    ensures none { result ≡ Ok false → records_left reader.old ≡ [] }
+    ensures err { IfErr result (λ e. e ≡ fault.NoMemory) }
+{
+    match next_record(reader, fields) {
+        Ok(found) => Ok(found),
+        Err(_) => Err(RequestFault::NoMemory),
+    }
+}
+
+// A reader of the rows of a file, after its header.
+fn rows_reader<'a>(
+    alloc: Global,
+    bytes: &'a [u8],
+    fields: &mut ByteRecord,
+) -> Result<Reader<&'a [u8]>, RequestFault>
+    ensures rows { IsUnlessMemory RequestFault.NoMemory (λ reader. records_left reader) result
+        (after_header (records default_config (strip_bom bytes.now))) }
+    ensures plain { IfOk result (λ reader. IsPlain reader) }
+    ensures few { IfOk result (λ reader. length (records_left reader) ≤ length bytes.now) }
+{
+    let mut reader = match text_reader(alloc, bytes) {
+        Ok(reader) => reader,
+        Err(_) => return Err(RequestFault::NoMemory),
+    };
+    if next_row(&mut reader, fields)? && is_header(fields) {
+        return Ok(reader);
+    }
+    Err(RequestFault::Header)
+}
+
+// How many rows a reader has left.
+fn count_rows(reader: &mut Reader<&[u8]>, fields: &mut ByteRecord) -> Result<u64, RequestFault>
+    requires plain { IsPlain reader.old }
+    requires few { length (records_left reader.old) < 2 ^ 64 }
+    ensures count { IfOk result (λ n. n ≡ length (records_left reader.old)) }
+    ensures err { IfErr result (λ e. e ≡ fault.NoMemory) }
+{
+    let mut count = 0;
+    while next_row(reader, fields)? {
+        count += 1;
+    }
+    Ok(count)
+}
+
+// The requests of the rows that a reader has left, counted from 1.
+fn read_rows(
+    alloc: Global,
+    reader: &mut Reader<&[u8]>,
+    fields: &mut ByteRecord,
+) -> Result<Vec<Request>, RequestFault>
+    requires plain { IsPlain reader.old }
+    requires few { length (records_left reader.old) ≤ MOST_REQUESTS }
+    ensures rows { IsUnlessMemory RequestFault.NoMemory (λ v. v.items) result
+        (requests_from 1 0 [] (records_left reader.old)) }
+    ensures limits { IfOk result (λ v. AreRequests v.items) }
+{
+    let mut requests = Vec::new(alloc);
+    let mut row: u64 = 1;
+    let mut earlier = 0;
+    while next_row(reader, fields)? {
+        let request = read_row(row, earlier, fields)?;
+        if requests.push(request).is_err() {
+            return Err(RequestFault::NoMemory);
+        }
+        row += 1;
+        earlier = request.arrival;
+    }
+    Ok(requests)
+}
+
+// The requests of a file, or its first refusal.
+fn read_requests(alloc: Global, bytes: &[u8]) -> Result<Requests, RequestFault>
+    ensures file { IsUnlessMemory RequestFault.NoMemory (λ r. r) result (request_file bytes.now) }
+    ensures limits { IfOk result (λ requests. AreRequests requests) }
+{
+    let mut fields = ByteRecord::new(alloc);
+    let count = count_rows(&mut rows_reader(alloc, bytes, &mut fields)?, &mut fields)?;
+    if count > MOST_REQUESTS {
+        return Err(RequestFault::TooMany { count });
+    }
+    let mut reader = rows_reader(alloc, bytes, &mut fields)?;
+    let requests = read_rows(alloc, &mut reader, &mut fields)?;
+    Ok(Requests { requests })
+}
+
+impl Requests {
+    /// The requests of a file: arrivals in ticks, units in work units. A file is read exactly where it is the text of
+    /// some requests within the limits and in order, unless memory runs out. Else the first refusal comes: the header;
+    /// more than 100000 rows; and then row by row the number of fields, the arrival as a number, the units as a number,
+    /// their range, and an arrival below that of the row before.
+    pub fn read(alloc: Global, bytes: &[u8]) -> Result<Requests, RequestFault>
+        ensures file { IsUnlessMemory RequestFault.NoMemory (λ r. r) result (request_file bytes.now) }
+        ensures found { IfOk result (λ requests. IsTextOf requests bytes.now) }
+        ensures texts { (requests : List Request) → IsTextOf requests bytes.now
+            → IsUnlessMemory RequestFault.NoMemory (λ r. r) result (Ok requests) }
+    {
+        read_requests(alloc, bytes)
+    }
+}

@@ -1,0 +1,121 @@
+// Request files, and the first thing that they have wrong.
+use super::*;
+use std::test::Fail;
+
+#[test]
+fn requests_of_a_file_are_read(rt: HostRuntime) -> Result<(), Fail> {
+    let alloc = rt.alloc();
+    for text in [
+        b"arrival,units\n0,3\n1,6\n1,1152921504606846976\n".as_slice(),
+        b"\xEF\xBB\xBFarrival,units\r\n0,\"3\"\r\n\"1\",6\r\n1,1152921504606846976",
+        b"\"arrival\",units\r0,3\r1,6\n\n1,1152921504606846976\n\n",
+    ] {
+        let requests = Requests::read(alloc, text).map_err(|_| "file")?;
+        assert_eq!(rt; requests.count(), 3);
+        if requests.count() == 3 {
+            assert_eq!(rt; (requests.arrival(0), requests.units(0)), (0, 3));
+            assert_eq!(rt; (requests.arrival(1), requests.units(1)), (1, 6));
+            assert_eq!(rt; (requests.arrival(2), requests.units(2)), (1, 1 << 60));
+        }
+    }
+    Ok(())
+}
+
+#[test]
+fn a_header_alone_has_no_requests(rt: HostRuntime) -> Result<(), Fail> {
+    for text in ["arrival,units", "arrival,units\n", "arrival,units\r\n\r\n"] {
+        let requests = Requests::read(rt.alloc(), text.as_bytes()).map_err(|_| "file")?;
+        assert_eq!(rt; requests.count(), 0, "{text}");
+    }
+    Ok(())
+}
+
+#[test]
+fn the_last_arrival_may_be_any_tick(rt: HostRuntime) -> Result<(), Fail> {
+    let text = b"arrival,units\n18446744073709551615,1\n18446744073709551615,2\n";
+    let requests = Requests::read(rt.alloc(), text).map_err(|_| "file")?;
+    assert_eq!(rt; requests.count(), 2);
+    if requests.count() == 2 {
+        assert_eq!(rt;
+            (requests.arrival(0), requests.arrival(1)),
+            (u64::MAX, u64::MAX)
+        );
+        assert_eq!(rt; (requests.units(0), requests.units(1)), (1, 2));
+    }
+    Ok(())
+}
+
+#[test]
+fn the_first_refusal_is_told(rt: HostRuntime) {
+    let arrival = |row| RequestFault::BadNumber {
+        row,
+        column: RequestColumn::Arrival,
+    };
+    let units = |row| RequestFault::BadNumber {
+        row,
+        column: RequestColumn::Units,
+    };
+    let fields = |row, count| RequestFault::Fields { row, count };
+    for (text, want) in [
+        (b"".as_slice(), RequestFault::Header),
+        (b"\n\n", RequestFault::Header),
+        (b"0,3\n", RequestFault::Header),
+        (b"arrival\n0,3\n", RequestFault::Header),
+        (b"units,arrival\n0,3\n", RequestFault::Header),
+        (b"arrival,units,task\n0,3\n", RequestFault::Header),
+        (b"Arrival,units\n0,3\n", RequestFault::Header),
+        (b"arrival, units\n0,3\n", RequestFault::Header),
+        (b"arrival,units\0\n0,3\n", RequestFault::Header),
+        (b"arrival,units\n5\n", fields(1, 1)),
+        (b"arrival,units\n0,3\n1,2,3\n", fields(2, 3)),
+        (b"arrival,units\n0,3\n,\n", arrival(2)),
+        (b"arrival,units\n00,3\n", arrival(1)),
+        (b"arrival,units\n-1,x\n", arrival(1)),
+        (b"arrival,units\n18446744073709551616,3\n", arrival(1)),
+        (b"arrival,units\n1\0,3\n", arrival(1)),
+        (b"arrival,units\n\xFF,3\n", arrival(1)),
+        (b"arrival,units\n0,\n", units(1)),
+        (b"arrival,units\n0, 3\n", units(1)),
+        (b"arrival,units\n0,18446744073709551616\n", units(1)),
+        (b"arrival,units\n0,3\xC3\n", units(1)),
+        (b"arrival,units\n2,1\n1,x\n", units(2)),
+        (b"arrival,units\n0,0\n", RequestFault::Range { row: 1 }),
+        (
+            b"arrival,units\n2,1\n1,1152921504606846977",
+            RequestFault::Range { row: 2 },
+        ),
+        (
+            b"arrival,units\n2,1\n1,1\n0,0\n",
+            RequestFault::Early { row: 2 },
+        ),
+        (
+            b"arrival,units\n0,1\n3,1\n3,1\n2,1",
+            RequestFault::Early { row: 4 },
+        ),
+    ] {
+        let found = Requests::read(rt.alloc(), text).err();
+        assert_eq!(rt; found, Some(want));
+    }
+}
+
+// A file of this many rows, the first of which isn't a request.
+fn rows_text(rt: HostRuntime, rows: u64) -> Result<Vec<u8>, Fail> {
+    let mut text = Vec::from_slice(rt.alloc(), b"arrival,units\n").map_err(|_| "memory")?;
+    for _row in 0..rows {
+        text.extend_from_slice(b"0,0\n").map_err(|_| "memory")?;
+    }
+    Ok(text)
+}
+
+#[test]
+fn too_many_rows_are_refused_before_each_row(rt: HostRuntime) -> Result<(), Fail> {
+    for (rows, want) in [
+        (100_000, RequestFault::Range { row: 1 }),
+        (100_001, RequestFault::TooMany { count: 100_001 }),
+    ] {
+        let text = rows_text(rt, rows)?;
+        let found = Requests::read(rt.alloc(), &text).err();
+        assert_eq!(rt; found, Some(want));
+    }
+    Ok(())
+}
