@@ -14,7 +14,9 @@ use Rattle.sched_model.specs.Jobs.{due, release, released_jobs}
 use Rattle.sched_model.specs.Totals.{totals_of}
 use Rattle.sched_model.specs.Ticks.{Tick}
 use Rattle.sched_model.specs.Demands.{demand_of}
-use Rattle.sched_model.specs.Deadlines.{IsMet}
+use Rattle.sched_model.specs.Admission.{IsAdmitted}
+use Rattle.request_list.specs.declared.requests.Request.{Request}
+use Rattle.request_list.specs.Requests.{AreRequests}
 use Rattle.sched_model.specs.Schedule.{schedule_by}
 use Rattle.sched_model.proofs.Limits.{every_period}
 use Rattle.sched_model.proofs.ScheduleLemmas.{schedule_exists}
@@ -25,16 +27,17 @@ use Rattle.event_kernel.specs.Runs.{Run, notes_of_run, MeetsDeadlines}
 use Rattle.replay_laws.specs.OwnList.{LooksAtNone, ticks_by, notes_by}
 use Rattle.poll_server.specs.declared.ends.Ends.{Ends}
 use Rattle.poll_server.specs.declared.served.Outcome.{Outcome}
-use Rattle.poll_server.specs.Serving.{ServerOf, budget, polled_demand, job_release}
+use Rattle.poll_server.specs.Serving.{ServerOf, server_of, budget, polled_demand, job_release}
 use Rattle.poll_server.specs.Outcomes.{done_at, ServedOf}
-use Rattle.poll_server.specs.Bound.{jobs_before, KeepsBound}
+use Rattle.poll_server.specs.Bound.{jobs_before, KeepsBound, HaveJobs}
 use Rattle.poll_server.specs.EachOutcome.{outcomes_of, served_of}
 use Rattle.poll_server.specs.Polled.{polled_notes, IsPolled}
 use Rattle.poll_server.specs.Walking.{IsServable, AreTaken, AreEnds, Hears, end_at}
 use Rattle.poll_server.proofs.Takings.{before-released}
 use Rattle.poll_server.proofs.Running.{same-notes}
 use Rattle.poll_server.proofs.Telling.{HearsAll, hears-all, none-told}
-use Rattle.poll_server.proofs.Steps.{some-budget}
+use Rattle.poll_server.proofs.Steps.{some-budget, some-period}
+use Rattle.poll_server.proofs.Belonging.{have-jobs}
 use Rattle.poll_server.proofs.Answering.{are-polled, keeps-bound}
 use Rattle.poll_server.proofs.Ending.{IsEndBy, ends-never, ends-in-time}
 
@@ -42,10 +45,22 @@ use Rattle.poll_server.proofs.Ending.{IsEndBy, ends-never, ends-in-time}
 abbrev pub run_of : ServerOf → DemandsOf → ℕ → Run
 run_of s d ticks = record { plan = s.plan; demands = d; ticks = ticks }
 
+-- each request of a server has a job, and they are in order
+pub server-jobs : (p : Plan) (i : ℕ) (requests : List Request) → IsAdmitted p → i < count p → AreRequests requests
+    → HaveJobs (server_of p i requests)
+server-jobs p i requests adm lt h =
+    have-jobs (server_of p i requests) h (some-period (server_of p i requests) adm) (some-budget (server_of p i requests) adm lt)
+
 -- the jobs of one task are some of all jobs
 pub jobs-within : (p : Plan) (i ticks : ℕ) → i < count p → ceil_div (ticks - offset p i) (period p i) ≤ released_jobs p ticks
 jobs-within p i ticks lt =
     omega (arith, sum_where-other (count p) (λ j. false) (λ j. ceil_div (ticks - offset p j) (period p j)) i lt refl)
+
+-- what is answered: the function of the arguments, with what it says of each request
+pub record Answered (demand : OwnDemand) (s : ServerOf) (ticks : ℕ) (r : ServedOf) : Type 0 where
+  pub served : r ≡ served_of demand s ticks
+  pub outcomes : IsPolled s (polled_notes demand s ticks) r
+  pub bound : KeepsBound s ticks r
 
 -- a run by a governor's demand of a server and a list of what its first n jobs take
 module _ (demand : OwnDemand) (s : ServerOf) (looks : LooksAtNone s.plan (ask_of demand s.plan)) (d : DemandsOf) (n ticks : ℕ)
@@ -104,7 +119,7 @@ module _ (demand : OwnDemand) (s : ServerOf) (looks : LooksAtNone s.plan (ask_of
       (subst (λ (m : ℕ). due s.plan s.task k ≤ m) (sym run.1) within))
 
   -- what is answered is the function of the arguments
-  pub answers : (from to : Ends) → from.task ≡ s.task → from.ends.items ≡ replicate n None
+  answers : (from to : Ends) → from.task ≡ s.task → from.ends.items ≡ replicate n None
       → HasHeard Hears from (notes_of_run demand run) to → (outcomes : List Outcome) (totals : Totals)
       → ((notes : List Note) → AreEnds s notes n to.ends.items → outcomes ≡ outcomes_of s notes)
       → totals ≡ totals_of (notes_of_run demand run) → (r : ServedOf) → r ≡ record { outcomes = outcomes; totals = totals }
@@ -115,13 +130,22 @@ module _ (demand : OwnDemand) (s : ServerOf) (looks : LooksAtNone s.plan (ask_of
       (each (polled_notes demand s ticks) (ends-are from to task empty heard)) (sums ∙ ap totals_of notes-are)
 
   -- so each request has the outcome that the notes make of it
-  pub answers-polled : (r : ServedOf) → r ≡ served_of demand s ticks → IsPolled s (polled_notes demand s ticks) r
+  answers-polled : (r : ServedOf) → r ≡ served_of demand s ticks → IsPolled s (polled_notes demand s ticks) r
   answers-polled r is =
       subst (IsPolled s (polled_notes demand s ticks)) (sym is)
       (are-polled s servable.requests some (some-budget s servable.plan servable.task) (polled_notes demand s ticks))
 
   -- and the bound is kept, where the deadlines are met
-  pub answers-bound : MeetsDeadlines demand run → (r : ServedOf) → r ≡ served_of demand s ticks → KeepsBound s ticks r
+  answers-bound : MeetsDeadlines demand run → (r : ServedOf) → r ≡ served_of demand s ticks → KeepsBound s ticks r
   answers-bound met r is =
       subst (KeepsBound s ticks) (sym is)
       (keeps-bound s servable.requests some (some-budget s servable.plan servable.task) (polled_notes demand s ticks) ticks (ends-met met))
+
+  pub answered : MeetsDeadlines demand run → (from to : Ends) → from.task ≡ s.task → from.ends.items ≡ replicate n None
+      → HasHeard Hears from (notes_of_run demand run) to → (outcomes : List Outcome) (totals : Totals)
+      → ((notes : List Note) → AreEnds s notes n to.ends.items → outcomes ≡ outcomes_of s notes)
+      → totals ≡ totals_of (notes_of_run demand run) → (r : ServedOf) → r ≡ record { outcomes = outcomes; totals = totals }
+      → Answered demand s ticks r
+  answered met from to task empty heard outcomes totals each sums r is =
+      let served : r ≡ served_of demand s ticks = answers from to task empty heard outcomes totals each sums r is in
+      record { served = served; outcomes = answers-polled r served; bound = answers-bound met r served }

@@ -67,15 +67,15 @@ pub fn poll<G: Governor>(
 {
     plan.known();
     own_list(plan);
-    let count = all_jobs_below(plan, ticks);
-    if count > MOST_JOBS {
-        return Err(PollFault::TooManyJobs { count });
-    }
     let own = Server {
         plan,
         task: server,
         requests: requests.as_slice(),
     };
+    let count = all_jobs_below(plan, ticks);
+    if count > MOST_JOBS {
+        return Err(PollFault::TooManyJobs { count });
+    }
     let jobs = jobs_below(plan, server, ticks);
     let demands = polled_demands(alloc, &own, jobs)?;
     let mut ends = Ends::of(alloc, server, jobs)?;

@@ -32,7 +32,11 @@ const CHARGED: &[u8] =
 
 // One request at a release, two at the next, one whose units exceed four budgets, one before the last release, and one
 // after it.
-const MANY: &[u8] = b"arrival,units\n0,4\n5,1\n5,2\n7,19\n33,2\n36,1\n";
+const MANY: Case<'static> = Case {
+    server: 0,
+    requests: b"arrival,units\n0,4\n5,1\n5,2\n7,19\n33,2\n36,1\n",
+    ticks: 40,
+};
 
 // The plan of tasks on a machine under EDF.
 fn edf_plan(alloc: Global, tasks: &[u8], machine: &[u8]) -> Result<Admitted, Fail> {
@@ -54,22 +58,28 @@ fn rm_plan(alloc: Global, tasks: &[u8], machine: &[u8]) -> Result<Admitted, Fail
     }
 }
 
+// Requests of a file for a server, and the ticks of a run.
+#[derive(Clone, Copy)]
+struct Case<'a> {
+    server: u32,
+    requests: &'a [u8],
+    ticks: u64,
+}
+
 // What a server makes of requests: their outcomes in order, and the totals.
 fn polled<G: Governor>(
     alloc: Global,
     plan: &Admitted,
-    server: u32,
-    requests: &[u8],
+    case: Case<'_>,
     governor: G,
-    ticks: u64,
 ) -> Result<(Vec<Outcome>, Totals), Fail>
-    requires server { server < count plan.now }
+    requires server { case.server < count plan.now }
     requires stands { G.stands governor plan.now (opening plan.now) }
-    requires some_ticks { 1 ≤ ticks }
-    requires low_ticks { ticks ≤ MOST_TICKS }
+    requires some_ticks { 1 ≤ case.ticks }
+    requires low_ticks { case.ticks ≤ MOST_TICKS }
 {
-    let requests = Requests::read(alloc, requests).map_err(|_| "requests")?;
-    match poll(alloc, plan, server, &requests, governor, ticks) {
+    let requests = Requests::read(alloc, case.requests).map_err(|_| "requests")?;
+    match poll(alloc, plan, case.server, &requests, governor, case.ticks) {
         Ok(served) => {
             let mut outcomes = Vec::new(alloc);
             for m in 0..requests.count() {
@@ -81,22 +91,20 @@ fn polled<G: Governor>(
     }
 }
 
-// The same at the highest speed, by a task of a plan of two.
+// The same at the highest speed.
 fn polled_full(
     alloc: Global,
     plan: &Admitted,
-    server: u32,
-    requests: &[u8],
-    ticks: u64,
+    case: Case<'_>,
 ) -> Result<(Vec<Outcome>, Totals), Fail>
-    requires some_ticks { 1 ≤ ticks }
-    requires low_ticks { ticks ≤ MOST_TICKS }
+    requires some_ticks { 1 ≤ case.ticks }
+    requires low_ticks { case.ticks ≤ MOST_TICKS }
 {
     let governor = Full::new(alloc, plan).map_err(|_| "governor")?;
-    if server >= plan.count() {
+    if case.server >= plan.count() {
         return Err("server".into());
     }
-    polled(alloc, plan, server, requests, governor, ticks)
+    polled(alloc, plan, case, governor)
 }
 
 // A request is served by a job at a position.
@@ -111,10 +119,15 @@ fn served(job: u64, tick: u64, offset: u64) -> Outcome {
 fn requests_are_served_in_order(rt: HostRuntime) -> Result<(), Fail> {
     let plan = edf_plan(rt.alloc(), TASKS, MACHINE)?;
     let text = b"arrival,units\n0,3\n1,6\n12,1\n";
-    let (outcomes, totals) = polled_full(rt.alloc(), &plan, 0, text, 15)?;
+    let case = Case {
+        server: 0,
+        requests: text,
+        ticks: 15,
+    };
+    let (outcomes, totals) = polled_full(rt.alloc(), &plan, case)?;
     assert_eq!(rt;
         outcomes.as_slice(),
-        &[served(1, 0, 3), served(3, 10, 2), Outcome::Pending]
+        [served(1, 0, 3), served(3, 10, 2), Outcome::Pending].as_slice()
     );
     assert_eq!(rt; (totals.run, totals.idle), (725000000000, 0));
     Ok(())
@@ -123,7 +136,12 @@ fn requests_are_served_in_order(rt: HostRuntime) -> Result<(), Fail> {
 #[test]
 fn a_server_without_requests_needs_nothing(rt: HostRuntime) -> Result<(), Fail> {
     let plan = edf_plan(rt.alloc(), TASKS, MACHINE)?;
-    let (outcomes, totals) = polled_full(rt.alloc(), &plan, 0, b"arrival,units\n", 15)?;
+    let case = Case {
+        server: 0,
+        requests: b"arrival,units\n",
+        ticks: 15,
+    };
+    let (outcomes, totals) = polled_full(rt.alloc(), &plan, case)?;
     assert_eq!(rt; outcomes.len(), 0);
     assert_eq!(rt; (totals.run, totals.idle), (500000000000, 0));
     Ok(())
@@ -132,10 +150,10 @@ fn a_server_without_requests_needs_nothing(rt: HostRuntime) -> Result<(), Fail> 
 #[test]
 fn a_request_may_take_many_budgets(rt: HostRuntime) -> Result<(), Fail> {
     let plan = edf_plan(rt.alloc(), TASKS, MACHINE)?;
-    let (outcomes, totals) = polled_full(rt.alloc(), &plan, 0, MANY, 40)?;
+    let (outcomes, totals) = polled_full(rt.alloc(), &plan, MANY)?;
     assert_eq!(rt;
         outcomes.as_slice(),
-        &[
+        [
             served(1, 1, 0),
             served(2, 5, 3),
             served(2, 5, 3),
@@ -143,6 +161,7 @@ fn a_request_may_take_many_budgets(rt: HostRuntime) -> Result<(), Fail> {
             served(8, 35, 2),
             Outcome::Pending,
         ]
+        .as_slice()
     );
     assert_eq!(rt; totals.run, 1700000000000);
     Ok(())
@@ -151,10 +170,10 @@ fn a_request_may_take_many_budgets(rt: HostRuntime) -> Result<(), Fail> {
 #[test]
 fn the_charge_serves_no_request(rt: HostRuntime) -> Result<(), Fail> {
     let plan = edf_plan(rt.alloc(), TASKS, CHARGED)?;
-    let (outcomes, totals) = polled_full(rt.alloc(), &plan, 0, MANY, 40)?;
+    let (outcomes, totals) = polled_full(rt.alloc(), &plan, MANY)?;
     assert_eq!(rt;
         outcomes.as_slice(),
-        &[
+        [
             served(1, 1, 2),
             served(2, 6, 1),
             served(2, 6, 1),
@@ -162,6 +181,7 @@ fn the_charge_serves_no_request(rt: HostRuntime) -> Result<(), Fail> {
             served(8, 36, 0),
             Outcome::Pending,
         ]
+        .as_slice()
     );
     assert_eq!(rt; totals.run, 2300000000000);
     Ok(())
@@ -170,10 +190,10 @@ fn the_charge_serves_no_request(rt: HostRuntime) -> Result<(), Fail> {
 #[test]
 fn a_task_of_the_longest_period_may_serve(rt: HostRuntime) -> Result<(), Fail> {
     let plan = rm_plan(rt.alloc(), TASKS, MACHINE)?;
-    let (outcomes, totals) = polled_full(rt.alloc(), &plan, 1, MANY, 40)?;
+    let (outcomes, totals) = polled_full(rt.alloc(), &plan, Case { server: 1, ..MANY })?;
     assert_eq!(rt;
         outcomes.as_slice(),
-        &[
+        [
             served(1, 2, 0),
             served(2, 13, 2),
             served(2, 13, 2),
@@ -181,6 +201,7 @@ fn a_task_of_the_longest_period_may_serve(rt: HostRuntime) -> Result<(), Fail> {
             Outcome::Pending,
             Outcome::Pending,
         ]
+        .as_slice()
     );
     assert_eq!(rt; totals.run, 1450000000000);
     Ok(())
@@ -189,10 +210,10 @@ fn a_task_of_the_longest_period_may_serve(rt: HostRuntime) -> Result<(), Fail> {
 #[test]
 fn a_server_may_begin_later(rt: HostRuntime) -> Result<(), Fail> {
     let plan = edf_plan(rt.alloc(), LATER, MACHINE)?;
-    let (outcomes, totals) = polled_full(rt.alloc(), &plan, 0, MANY, 40)?;
+    let (outcomes, totals) = polled_full(rt.alloc(), &plan, MANY)?;
     assert_eq!(rt;
         outcomes.as_slice(),
-        &[
+        [
             served(1, 4, 0),
             served(2, 9, 0),
             served(2, 9, 0),
@@ -200,6 +221,7 @@ fn a_server_may_begin_later(rt: HostRuntime) -> Result<(), Fail> {
             served(7, 34, 0),
             served(8, 38, 1),
         ]
+        .as_slice()
     );
     assert_eq!(rt; totals.run, 1725000000000);
     Ok(())
@@ -212,10 +234,10 @@ fn a_lower_speed_serves_later(rt: HostRuntime) -> Result<(), Fail> {
     if plan.count() == 0 {
         return Err("plan".into());
     }
-    let (outcomes, totals) = polled(rt.alloc(), &plan, 0, MANY, governor, 40)?;
+    let (outcomes, totals) = polled(rt.alloc(), &plan, MANY, governor)?;
     assert_eq!(rt;
         outcomes.as_slice(),
-        &[
+        [
             served(1, 2, 0),
             served(2, 6, 1),
             served(2, 6, 1),
@@ -223,6 +245,7 @@ fn a_lower_speed_serves_later(rt: HostRuntime) -> Result<(), Fail> {
             served(8, 36, 0),
             Outcome::Pending,
         ]
+        .as_slice()
     );
     assert_eq!(rt; totals.run, 612000000000);
     Ok(())

@@ -1,0 +1,66 @@
+use Rattle.std.proofs.Common.{◌≡◌, ◌≤◌, List, length, ap, ◌∙◌, subst, arith, rules}
+use Rattle.std.proofs.lemmas.List.{length-replicate}
+use Rattle.std.specs.Prelude.{Option, None}
+use Rattle.event_kernel.specs.Runs.{notes_of_run}
+use Rattle.request_list.specs.declared.requests.Request.{Request}
+use Rattle.poll_server.specs.Serving.{server_of}
+use Rattle.poll_server.proofs.Telling.{hears-all}
+use Rattle.poll_server.proofs.Whole.{Answered, answered, jobs-within, server-jobs}
+use Rattle.poll_server.proofs.polling.poll.Goals as goal
+
+pub returns-then-count-gt-MOST_JOBS-clause-in_order : goal.returns-then-count-gt-MOST_JOBS-clause-in_order
+returns-then-count-gt-MOST_JOBS-clause-in_order g c =
+    server-jobs c.args.plan.now c.args.server c.args.requests.now c.known.ensures c.requires.server c.as_slice.ensures.limits
+
+pub polled_demands-requires-clause-few : goal.polled_demands-requires-clause-few
+polled_demands-requires-clause-few g c =
+    omega (
+      arith,
+      jobs-within c.args.plan.now c.args.server c.args.ticks c.requires.server,
+      c.jobs_below-jobs.ensures.jobs,
+      c.all_jobs_below-count.ensures,
+      c.if-count-gt-MOST_JOBS.false,
+    )
+
+pub returns-in_err-demands-clause-in_order : goal.returns-in_err-demands-clause-in_order
+returns-in_err-demands-clause-in_order g c =
+    server-jobs c.args.plan.now c.args.server c.args.requests.now c.known.ensures c.requires.server c.as_slice.ensures.limits
+
+pub returns-in_err-ends-clause-in_order : goal.returns-in_err-ends-clause-in_order
+returns-in_err-ends-clause-in_order g c =
+    server-jobs c.args.plan.now c.args.server c.args.requests.now c.known.ensures c.requires.server c.as_slice.ensures.limits
+
+pub returns-in_err-kernel-clause-in_order : goal.returns-in_err-kernel-clause-in_order
+returns-in_err-kernel-clause-in_order g c =
+    server-jobs c.args.plan.now c.args.server c.args.requests.now c.known.ensures c.requires.server c.as_slice.ensures.limits
+
+pub outcomes-requires-clause-long : goal.outcomes-requires-clause-long
+outcomes-requires-clause-long g c =
+    let heard = hears-all c.in_ok-ends.ends (notes_of_run g.G.Governor.demand c.in_ok-kernel.kernel) c.hear-totals.new.ends c.hear-totals.ensures.heard in
+    heard.long ∙ (ap length c.in_ok-ends.ensures.ends ∙ length-replicate c.jobs_below-jobs.result None)
+
+pub returns-in_err-list-clause-in_order : goal.returns-in_err-list-clause-in_order
+returns-in_err-list-clause-in_order g c =
+    server-jobs c.args.plan.now c.args.server c.args.requests.now c.known.ensures c.requires.server c.as_slice.ensures.limits
+
+pub returns : goal.returns
+returns g c =
+    let demand = g.G.Governor.demand in
+    let p = c.args.plan.now in
+    let i = c.args.server in
+    let all : Answered demand (server_of p i c.args.requests.now) c.args.ticks c.of-2.result =
+    subst (λ (l : List Request). Answered demand (server_of p i l) c.args.ticks c.of-2.result) c.as_slice.ensures.requests
+    (answered demand (server_of p i c.as_slice.result.now) (c.own_list.ensures.looks demand) c.in_ok-demands.demands
+    c.jobs_below-jobs.result c.args.ticks c.jobs_below-jobs.ensures.jobs c.in_ok-demands.ensures c.in_ok-kernel.kernel
+    c.in_ok-kernel.ensures.kernel c.hear-totals.ensures.deadlines c.in_ok-ends.ends c.hear-totals.new.ends
+    c.in_ok-ends.ensures.task c.in_ok-ends.ensures.ends c.hear-totals.ensures.heard c.in_ok-list.list.items
+    c.hear-totals.result c.in_ok-list.ensures c.hear-totals.ensures.totals c.of-2.result c.of-2.ensures) in
+    record {
+      served = all.served;
+      outcomes = all.outcomes;
+      in_order = server-jobs p i c.args.requests.now c.known.ensures c.requires.server c.as_slice.ensures.limits;
+      bound = all.bound;
+      few = search rules;
+      many = search rules;
+      memory = search rules;
+    }
