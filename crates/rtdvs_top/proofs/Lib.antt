@@ -16,3 +16,4 @@ pub mod Shows
 pub mod FewJobs
 pub mod FiveLines
 pub mod Comparisons
+pub mod Bounding

@@ -1,7 +1,7 @@
 -- What a status says, and why it comes.
 use Rattle.std.specs.Prelude.{IsOk, ◌≡◌, ◌⊎◌, ℕ, ◌+◌, ◌<◌, ◌≤◌, List, [], Option, Some, None, Result, Ok, Err, ⊤}
 use Rattle.dvs_base.specs.Outside.{Files, ShelfView, Lacks, Rose}
-use Rattle.words.specs.Commands.{RunOf, CommandOf, run, admit, replay, workload}
+use Rattle.words.specs.Commands.{RunOf, CommandOf, run, admit, replay, workload, least}
 use Rattle.rtdvs_top.specs.Answer.{tasks_at, machine_at}
 use Rattle.rtdvs_top.specs.declared.status.FileKind.{FileKind}
 use Rattle.rtdvs_top.specs.declared.status.FileKind.TheVariants as file
@@ -79,12 +79,14 @@ LaterLoad old new r (status.Load file.Demands) = NamedLoadFails old new 2 r.dema
 LaterLoad old new r (status.Load file.Trace) = ⊥
 LaterLoad old new r s = ⊤
 
--- how many files a command loads: its tasks, and those after them; a made workload loads none
+-- how many files a command loads: its tasks, and those after them; a least energy loads the machine alone, and a made
+-- workload none
 abbrev pub loads_of : CommandOf → ℕ
 loads_of (run r) = 1 + loads_named r.demands + 1
 loads_of (admit a) = 2
 loads_of (replay r) = 3
 loads_of (workload seed) = 0
+loads_of (least l) = 1
 
 -- the files that a command's answer is of: those that the shelf tells; a made workload is of none
 abbrev pub files_for : Option Files → CommandOf → Option Files
@@ -92,6 +94,7 @@ files_for held (run r) = held
 files_for held (admit a) = held
 files_for held (replay r) = held
 files_for held (workload seed) = Some []
+files_for held (least l) = held
 
 -- the file of tasks that a command names, where it names one
 abbrev pub tasks_name : CommandOf → Option (List ℕ)
@@ -99,6 +102,7 @@ tasks_name (run r) = Some r.tasks
 tasks_name (admit a) = Some a.tasks
 tasks_name (replay r) = Some r.tasks
 tasks_name (workload seed) = None
+tasks_name (least l) = None
 
 -- the file of a machine that a command names, where it names one
 abbrev pub machine_name : CommandOf → Option (List ℕ)
@@ -106,6 +110,7 @@ machine_name (run r) = Some r.machine
 machine_name (admit a) = Some a.machine
 machine_name (replay r) = Some r.machine
 machine_name (workload seed) = None
+machine_name (least l) = Some l.machine
 
 -- the file of demands that a command names, where it names one
 abbrev pub demands_name : CommandOf → Option (List ℕ)
@@ -113,6 +118,7 @@ demands_name (run r) = r.demands
 demands_name (admit a) = None
 demands_name (replay r) = None
 demands_name (workload seed) = None
+demands_name (least l) = None
 
 -- the file of a trace that a command names, where it names one
 abbrev pub trace_name : CommandOf → Option (List ℕ)
@@ -120,11 +126,16 @@ trace_name (run r) = None
 trace_name (admit a) = None
 trace_name (replay r) = Some r.trace
 trace_name (workload seed) = None
+trace_name (least l) = None
+
+-- the place of the machine's load among a command's: after that of the tasks, where the command names them
+abbrev pub machine_place : CommandOf → ℕ
+machine_place c = loads_named (tasks_name c) + 1
 
 -- why a load of a command failed, by its place: the tasks first, then the machine, and then the demands or the trace
 abbrev pub LoadOf : ShelfView → ShelfView → CommandOf → Status → Type 0
 LoadOf old new c (status.Load file.Tasks) = NamedLoadFails old new 1 (tasks_name c)
-LoadOf old new c (status.Load file.Machine) = NamedLoadFails old new 2 (machine_name c)
+LoadOf old new c (status.Load file.Machine) = NamedLoadFails old new (machine_place c) (machine_name c)
 LoadOf old new c (status.Load file.Demands) = NamedLoadFails old new 3 (demands_name c)
 LoadOf old new c (status.Load file.Trace) = NamedLoadFails old new 3 (trace_name c)
 LoadOf old new c s = ⊤
@@ -144,7 +155,7 @@ abbrev pub PassesMachine : Option Files → CommandOf → Status → Type 0
 PassesMachine (Some files) c (status.Load file.Demands) = IsRead machine_at (machine_name c) files
 PassesMachine told c s = ⊤
 
--- a load fails only after the files before it were read, where they are told
+-- a load fails only after the files before it that the command names were read, where they are told
 abbrev pub PassesBefore : Option Files → CommandOf → Status → Type 0
 PassesBefore (Some files) c (status.Load file.Machine) = IsRead tasks_at (tasks_name c) files
 PassesBefore (Some files) c (status.Load file.Demands) =

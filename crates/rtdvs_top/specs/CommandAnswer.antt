@@ -1,9 +1,10 @@
 -- The answer to each command, where every file is told, nothing fails and memory is found.
 use Rattle.std.specs.Prelude.{ℕ, List, Result}
 use Rattle.dvs_base.specs.Outside.{Files}
-use Rattle.words.specs.Commands.{CommandOf, run, admit, replay, workload}
+use Rattle.words.specs.Commands.{CommandOf, run, admit, replay, workload, least}
 use Rattle.rtdvs_top.specs.Answer.{run_answer, admit_answer, workload_answer}
 use Rattle.rtdvs_top.specs.ReplayAnswer.{replay_answer}
+use Rattle.rtdvs_top.specs.LeastAnswer.{least_answer}
 use Rattle.rtdvs_top.specs.declared.status.Status.{Status}
 
 -- the answer of a command
@@ -12,3 +13,4 @@ answer_of_command (run r) files = run_answer r files
 answer_of_command (admit a) files = admit_answer a files
 answer_of_command (replay r) files = replay_answer r files
 answer_of_command (workload seed) files = workload_answer seed
+answer_of_command (least l) files = least_answer l files

@@ -20,7 +20,8 @@ use Rattle.sched_model.specs.TheSchedule.{IsTheSchedule}
 use Rattle.done_lines.specs.DoneLines.{TellsDeadlines}
 use Rattle.event_kernel.specs.Runs.{Run, demands_of, notes_of_run, MeetsDeadlines, MeetsDemands}
 use Rattle.rtdvs_top.specs.Answer.{within_jobs, prepared_of, tasks_at}
-use Rattle.words.specs.Commands.{RunOf, CommandOf, run}
+use Rattle.words.specs.Commands.{RunOf, CommandOf, run, least}
+use Rattle.rtdvs_top.specs.LeastAnswer.{LeastMet}
 use Rattle.rtdvs_top.specs.Causes.{EndsWith, IsRefusal, Gives}
 use Rattle.event_kernel.specs.Lines.{Wrote, WroteSome}
 use Rattle.rtdvs_top.specs.declared.status.Status.{Status}
@@ -119,8 +120,9 @@ MetBy told r tasks status.Done =
     × HasMet r.version r.governor (run_with r p d)
 MetBy told r tasks s = ⊤
 
--- the same of a command, with the tasks of its file
+-- the same of a command, with the tasks of its file; and what a least energy that was done has met
 abbrev pub MetIn : Option Files → CommandOf → Status → Type 0
 MetIn told (run r) status.Done =
     (tasks : List Task) × Gives told (tasks_at r.tasks) tasks × MetBy told r tasks status.Done
+MetIn told (least l) status.Done = LeastMet told l
 MetIn told c s = ⊤

@@ -14,5 +14,6 @@ pub mod Probing
 pub mod Promises
 pub mod EdfRuns
 pub mod ReplayAnswer
+pub mod LeastAnswer
 pub mod CommandAnswer
 pub mod ReplayCauses

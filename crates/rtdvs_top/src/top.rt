@@ -10,7 +10,7 @@ ghost use Rattle.rtdvs_top.specs.ProbeLines.{noted_text, probe_lines};
 ghost use Rattle.rtdvs_top.specs.Probing.{LeavesProbes, ToldIn, asks_probes};
 ghost use Rattle.rtdvs_top.specs.Shown.{IsShown};
 ghost use Rattle.rtdvs_top.specs.Ending.{EndsAs, Leaves, MetIn};
-ghost use Rattle.rtdvs_top.specs.Promises.{asked, files_told, Answers, Writes, WritesPart, IsSureOf, LoadFailed, LoadsInOrder, loads_asked, OfRun, Headline, Notes, Tells, probes_asked};
+ghost use Rattle.rtdvs_top.specs.Promises.{asked, files_told, Answers, Writes, WritesPart, IsSureOf, LoadFailed, LoadsInOrder, loads_asked, OfRun, Headline, OfLeast, Notes, Tells, probes_asked};
 ghost use Rattle.rtdvs_top.specs.Writing.{NotedAs};
 ghost use Rattle.words.specs.Commands.{IsReadyCommand};
 ghost use Rattle.words.specs.Shown.{shown};
@@ -19,6 +19,7 @@ ghost use Rattle.words.specs.declared.command.WordFault.{WordFault};
 use crate::Status;
 use crate::admit_answer::answer_admit;
 use crate::difference::{Difference, put_difference};
+use crate::least_answer::{LeastWords, answer_least};
 use crate::made_lines::answer_workload;
 use crate::plan_words::{AdmitWords, RunWords};
 use crate::probe_line::put_probes;
@@ -162,16 +163,30 @@ fn answer_command<S: Shelf, W: Sink, P: Probe>(
             answer_replay(alloc, &files, shelf, out)
         }
         Command::Workload { seed } => (answer_workload(alloc, *seed, out), None),
+        Command::Least {
+            machine,
+            units,
+            ticks,
+        } => {
+            let least = LeastWords {
+                machine,
+                units: *units,
+                ticks: *ticks,
+            };
+            (answer_least(alloc, &least, shelf, out), None)
+        }
     }
 }
 
 /// Does what the words ask for: runs a plan and writes its trace, tells whether a task set is admitted or whether a
-/// trace is that of the run that it tells, or writes what the runs of a made workload come to.
+/// trace is that of the run that it tells, writes what the runs of a made workload come to, or tells the least energy for
+/// some units in some ticks with its certificate.
 ///
 /// The answer goes to `out`, and the line of a refusal to `notes`; both one put a line, which is tested, not proved. After
 /// a run with `--probes` that is done, the line of each probe that is left goes to `notes`; after the first put that fails
 /// no more is put there.
-/// Files are loaded from `shelf` in the order tasks, machine, demands or trace, each before it is read. `NoMemory` may come at
+/// Files are loaded from `shelf` in the order tasks, machine, demands or trace, each before it is read; a least energy
+/// loads the machine alone. `NoMemory` may come at
 /// any step before the first byte of `out`, and never after it; a fault of `notes` changes no status.
 pub fn rtdvs<S: Shelf, W: Sink, E: Sink>(
     alloc: Global,
@@ -206,6 +221,10 @@ pub fn rtdvs<S: Shelf, W: Sink, E: Sink>(
     ensures headline { Headline (files_told (S.shows shelf.old).held (asked words.now)) (asked words.now)
         (Rose (S.shows shelf.old).faults (S.shows shelf.new).faults) (W.shows out.old) (W.shows out.new) result }
     ensures run { OfRun (files_told (S.shows shelf.old).held (asked words.now)) (asked words.now)
+        (W.shows out.old) (W.shows out.new) result }
+
+    // the least energy: a certificate that passes its check, and a bound on every choice and every schedule
+    ensures least { OfLeast (files_told (S.shows shelf.old).held (asked words.now)) (asked words.now)
         (W.shows out.old) (W.shows out.new) result }
 
     // where the outside is sure, it doesn't fail
