@@ -4,7 +4,7 @@ use Rattle.dvs_base.specs.Outside.{Files, ShelfView, SinkView, Rose, Lacks, file
 use Rattle.dvs_base.specs.Checks.{and_then}
 use Rattle.task_model.specs.declared.task.Task.{Task}
 use Rattle.freq_table.specs.Tables.{Table}
-use Rattle.words.specs.Commands.{RunOf, CommandOf, run, admit, traced, workload}
+use Rattle.words.specs.Commands.{RunOf, CommandOf, run, admit, traced, workload, least}
 use Rattle.rtdvs_top.specs.Answer.{tasks_at, machine_at, demands_at, run_after_tasks, admit_after_tasks}
 use Rattle.words.specs.Commands.{TracedOf, PollOf, poll}
 use Rattle.rtdvs_top.specs.ReplayAnswer.{trace_after_tasks}
@@ -77,6 +77,12 @@ module _ (files : Files) where
   lacks-answer old new (workload seed) file.Tasks told fails passes = absurd fails
   lacks-answer old new (workload seed) file.Machine told fails passes = absurd fails
   lacks-answer old new (workload seed) file.Demands told fails passes = absurd fails
+  lacks-answer old new (least l) file.Tasks told fails passes = absurd fails
+  lacks-answer old new (least l) file.Machine told (inl lacks) passes = inl (rw (gone old l.machine told lacks) refl)
+  lacks-answer old new (least l) file.Machine told (inr rose) passes = inr rose.0
+  lacks-answer old new (least l) file.Demands told fails passes = absurd fails
+  lacks-answer old new (least l) file.Trace told fails passes = absurd fails
+  lacks-answer old new (least l) file.Requests told fails passes = absurd fails
   lacks-answer old new (run r) file.Trace told fails passes = absurd fails
   lacks-answer old new (admit a) file.Trace told fails passes = absurd fails
   lacks-answer old new (workload seed) file.Trace told fails passes = absurd fails

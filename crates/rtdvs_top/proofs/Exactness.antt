@@ -36,7 +36,7 @@ use Rattle.replay.specs.declared.fault.ReplayFault.TheVariants as replay_fault
 use Rattle.replay.proofs.Comparing.{ended-once}
 use Rattle.replay.proofs.Exact.{some-replayed, is-replayed}
 use Rattle.replay.proofs.Texts.{names-distinct}
-use Rattle.words.specs.Commands.{TracedOf, CommandOf, run, admit, traced, workload, poll}
+use Rattle.words.specs.Commands.{TracedOf, CommandOf, run, admit, traced, workload, poll, least}
 use Rattle.rtdvs_top.specs.Answer.{bytes_at, tasks_at, machine_at, admission}
 use Rattle.rtdvs_top.specs.ReplayAnswer.{task_line, lines_of_tasks, trace_from, trace_of, trace_at, traced_of, totals_at, printed, answer_of_traced, trace_after_tasks, trace_answer}
 use Rattle.rtdvs_top.specs.Exactness.{trace_of_run, IsScheduleText, AreFilesOf, TellsOwn, IsDoneUnless, OfTrace}
@@ -219,6 +219,7 @@ of-trace (Some files) (run r) loads_rose puts_rose s met answers = tt
 of-trace (Some files) (admit a) loads_rose puts_rose s met answers = tt
 of-trace (Some files) (workload seed) loads_rose puts_rose s met answers = tt
 of-trace (Some files) (poll q) loads_rose puts_rose s met answers = tt
+of-trace (Some files) (least l) loads_rose puts_rose s met answers = tt
 of-trace (Some files) (traced r) loads_rose puts_rose s met answers = (
   λ e.
       let m = subst (MetIn (Some files) (traced r)) e met in

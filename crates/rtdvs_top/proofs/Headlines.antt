@@ -13,7 +13,7 @@ use Rattle.done_lines.specs.RunText.{run_text_in}
 use Rattle.sched_model.specs.Jobs.{released_jobs}
 use Rattle.dvs_base.specs.declared.limits.TheConstants.{MOST_JOBS}
 use Rattle.words.specs.declared.command.WordFault.{WordFault}
-use Rattle.words.specs.Commands.{RunOf, CommandOf, run, admit, traced, workload, poll}
+use Rattle.words.specs.Commands.{RunOf, CommandOf, run, admit, traced, workload, poll, least}
 use Rattle.rtdvs_top.specs.Answer.{tasks_at, machine_at, demands_at, admission, within_jobs, prepared_of, answer_of_prepared, run_after_tasks}
 use Rattle.rtdvs_top.specs.CommandAnswer.{answer_of_command}
 use Rattle.rtdvs_top.specs.Promises.{Means, DoneRun, DeniedPlan, OfRun, RunsOrIsDenied, Answers, Headline}
@@ -96,6 +96,7 @@ of-run (Some files) (admit a) s old new ends met = tt
 of-run (Some files) (traced r) s old new ends met = tt
 of-run (Some files) (workload seed) s old new ends met = tt
 of-run (Some files) (poll q) s old new ends met = tt
+of-run (Some files) (least l) s old new ends met = tt
 of-run (Some files) (run r) status.Done old new ends met =
     done-run r files old new met.0 met.2.0 met.2.1 ends.0 met.1 met.2.2 ends.1 ends.2.bytes met.2.3
 of-run (Some files) (run r) (status.NotAdmitted why) old new ends met = denied-means r files why ends
@@ -186,5 +187,6 @@ headline-of (Some files) (Ok (admit a)) loads_rose old new s of answers = tt
 headline-of (Some files) (Ok (traced r)) loads_rose old new s of answers = tt
 headline-of (Some files) (Ok (workload seed)) loads_rose old new s of answers = tt
 headline-of (Some files) (Ok (poll q)) loads_rose old new s of answers = tt
+headline-of (Some files) (Ok (least l)) loads_rose old new s of answers = tt
 headline-of (Some files) (Ok (run r)) loads_rose old new s of answers =
     λ tasks machine demands means few still whole_out memory. runs-or-is-denied r files tasks machine demands means few loads_rose old new s of answers still whole_out memory

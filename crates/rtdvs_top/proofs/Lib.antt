@@ -20,3 +20,4 @@ pub mod Comparisons
 pub mod Migrating
 pub mod Exactness
 pub mod Pollings
+pub mod Bounding

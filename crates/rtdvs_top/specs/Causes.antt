@@ -1,7 +1,7 @@
 -- What a status says, and why it comes.
 use Rattle.std.specs.Prelude.{IsOk, ◌≡◌, ◌⊎◌, ℕ, ◌+◌, ◌<◌, ◌≤◌, List, [], Option, Some, None, Result, Ok, Err, ⊤}
 use Rattle.dvs_base.specs.Outside.{Files, ShelfView, Lacks, Rose}
-use Rattle.words.specs.Commands.{RunOf, PollOf, CommandOf, run, admit, traced, workload, poll}
+use Rattle.words.specs.Commands.{RunOf, PollOf, CommandOf, run, admit, traced, workload, poll, least}
 use Rattle.dvs_base.specs.Checks.{and_then}
 use Rattle.rtdvs_top.specs.Answer.{tasks_at, machine_at}
 use Rattle.rtdvs_top.specs.PollAnswer.{server_at}
@@ -82,13 +82,15 @@ LaterLoad old new r (status.Load file.Trace) = ⊥
 LaterLoad old new r (status.Load file.Requests) = ⊥
 LaterLoad old new r s = ⊤
 
--- how many files a command loads: its tasks, and those after them; a made workload loads none
+-- how many files a command loads: its tasks, and those after them; a least energy loads the machine alone, and a made
+-- workload none
 abbrev pub loads_of : CommandOf → ℕ
 loads_of (run r) = 1 + loads_named r.demands + 1
 loads_of (admit a) = 2
 loads_of (traced r) = 3
 loads_of (workload seed) = 0
 loads_of (poll q) = 3
+loads_of (least l) = 1
 
 -- the files that a command's answer is of: those that the shelf tells; a made workload is of none
 abbrev pub files_for : Option Files → CommandOf → Option Files
@@ -97,6 +99,7 @@ files_for held (admit a) = held
 files_for held (traced r) = held
 files_for held (workload seed) = Some []
 files_for held (poll q) = held
+files_for held (least l) = held
 
 -- the file of tasks that a command names, where it names one
 abbrev pub tasks_name : CommandOf → Option (List ℕ)
@@ -105,6 +108,7 @@ tasks_name (admit a) = Some a.tasks
 tasks_name (traced r) = Some r.tasks
 tasks_name (workload seed) = None
 tasks_name (poll q) = Some q.tasks
+tasks_name (least l) = None
 
 -- the file of a machine that a command names, where it names one
 abbrev pub machine_name : CommandOf → Option (List ℕ)
@@ -113,6 +117,7 @@ machine_name (admit a) = Some a.machine
 machine_name (traced r) = Some r.machine
 machine_name (workload seed) = None
 machine_name (poll q) = Some q.machine
+machine_name (least l) = Some l.machine
 
 -- the file of demands that a command names, where it names one
 abbrev pub demands_name : CommandOf → Option (List ℕ)
@@ -121,6 +126,7 @@ demands_name (admit a) = None
 demands_name (traced r) = None
 demands_name (workload seed) = None
 demands_name (poll q) = None
+demands_name (least l) = None
 
 -- the file of a trace that a command names, where it names one
 abbrev pub trace_name : CommandOf → Option (List ℕ)
@@ -129,6 +135,11 @@ trace_name (admit a) = None
 trace_name (traced r) = Some r.trace
 trace_name (workload seed) = None
 trace_name (poll q) = None
+trace_name (least l) = None
+
+-- the place of the machine's load among a command's: after that of the tasks, where the command names them
+abbrev pub machine_place : CommandOf → ℕ
+machine_place c = loads_named (tasks_name c) + 1
 
 -- the file of requests that a command names, where it names one
 abbrev pub requests_name : CommandOf → Option (List ℕ)
@@ -142,7 +153,7 @@ requests_name (poll q) = Some q.requests
 -- requests
 abbrev pub LoadOf : ShelfView → ShelfView → CommandOf → Status → Type 0
 LoadOf old new c (status.Load file.Tasks) = NamedLoadFails old new 1 (tasks_name c)
-LoadOf old new c (status.Load file.Machine) = NamedLoadFails old new 2 (machine_name c)
+LoadOf old new c (status.Load file.Machine) = NamedLoadFails old new (machine_place c) (machine_name c)
 LoadOf old new c (status.Load file.Demands) = NamedLoadFails old new 3 (demands_name c)
 LoadOf old new c (status.Load file.Trace) = NamedLoadFails old new 3 (trace_name c)
 LoadOf old new c (status.Load file.Requests) = NamedLoadFails old new 3 (requests_name c)
@@ -167,8 +178,8 @@ PassesMachine told c s = ⊤
 abbrev pub FindsServer : PollOf → Files → Type 0
 FindsServer q files = IsOk (and_then (tasks_at q.tasks files) (server_at q.server))
 
--- a load fails only after the files before it were read, where they are told; that of a polling's machine only after its
--- server was found
+-- a load fails only after the files before it that the command names were read, where they are told; that of a polling's
+-- machine only after its server was found
 abbrev pub PassesBefore : Option Files → CommandOf → Status → Type 0
 PassesBefore (Some files) (poll q) (status.Load file.Machine) = FindsServer q files
 PassesBefore (Some files) (poll q) (status.Load file.Requests) = FindsServer q files × IsOk (machine_at q.machine files)

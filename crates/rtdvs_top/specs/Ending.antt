@@ -20,9 +20,10 @@ use Rattle.sched_model.specs.TheSchedule.{IsTheSchedule}
 use Rattle.done_lines.specs.DoneLines.{TellsDeadlines}
 use Rattle.event_kernel.specs.Runs.{Run, demands_of, notes_of_run, MeetsDeadlines, MeetsDemands}
 use Rattle.rtdvs_top.specs.Answer.{within_jobs, prepared_of, tasks_at}
-use Rattle.words.specs.Commands.{RunOf, TracedOf, CommandOf, run, traced, poll}
+use Rattle.words.specs.Commands.{RunOf, TracedOf, CommandOf, run, traced, poll, least}
 use Rattle.trace_reader.specs.Traces.{TraceOf}
 use Rattle.rtdvs_top.specs.ReplayAnswer.{traced_of}
+use Rattle.rtdvs_top.specs.LeastAnswer.{LeastMet}
 use Rattle.rtdvs_top.specs.Causes.{EndsWith, IsRefusal, Gives}
 use Rattle.rtdvs_top.specs.PollCauses.{ServedIn}
 use Rattle.event_kernel.specs.Lines.{Wrote, WroteSome}
@@ -127,7 +128,7 @@ abbrev pub MetTraced : Option Files → TracedOf → List Task → Status → Ty
 MetTraced told r tasks status.Done = (p : Plan) × (t : TraceOf) × Gives told (traced_of r tasks) (p, t) × IsAdmitted p
 MetTraced told r tasks s = ⊤
 
--- the same of a command, with the tasks of its file
+-- the same of a command, with the tasks of its file; and what a least energy that was done has met
 abbrev pub MetIn : Option Files → CommandOf → Status → Type 0
 MetIn told (run r) status.Done =
     (tasks : List Task) × Gives told (tasks_at r.tasks) tasks × MetBy told r tasks status.Done
@@ -135,4 +136,5 @@ MetIn told (traced r) status.Done =
     (tasks : List Task) × Gives told (tasks_at r.tasks) tasks × MetTraced told r tasks status.Done
 MetIn told (poll q) status.Done =
     (tasks : List Task) × Gives told (tasks_at q.tasks) tasks × ServedIn told q tasks status.Done
+MetIn told (least l) status.Done = LeastMet told l
 MetIn told c s = ⊤

@@ -16,6 +16,7 @@ pub mod Promises
 pub mod EdfRuns
 pub mod ReplayAnswer
 pub mod PollAnswer
+pub mod LeastAnswer
 pub mod CommandAnswer
 pub mod ReplayCauses
 pub mod Exactness

@@ -12,7 +12,7 @@ use Rattle.sched_model.specs.Text.{run_notes}
 use Rattle.event_kernel.specs.Runs.{Run, notes_of_run}
 use Rattle.event_kernel.specs.Lines.{StoppedIn, trace_lines}
 use Rattle.probes.specs.Tallies.{ProbeOf, told_notes}
-use Rattle.words.specs.Commands.{RunOf, CommandOf, run, admit, traced, workload, poll}
+use Rattle.words.specs.Commands.{RunOf, CommandOf, run, admit, traced, workload, poll, least}
 use Rattle.rtdvs_top.specs.Answer.{prepared_of, tasks_at}
 use Rattle.rtdvs_top.specs.Causes.{Gives}
 use Rattle.rtdvs_top.specs.Ending.{Leaves, job_demands, run_with}
@@ -26,6 +26,7 @@ asks_probes (admit a) = false
 asks_probes (traced r) = false
 asks_probes (workload seed) = false
 asks_probes (poll q) = false
+asks_probes (least l) = false
 
 -- Probes under a trace of these notes. Where it is whole they were told the notes, one by one. Where a put failed they
 -- were told those of the lines before the one that was put.

@@ -13,10 +13,12 @@ use Rattle.sched_model.specs.Admission.{PassesTest}
 use Rattle.sched_model.specs.Jobs.{released_jobs}
 use Rattle.event_kernel.specs.Runs.{Run}
 use Rattle.dvs_base.specs.declared.limits.TheConstants.{MOST_JOBS}
-use Rattle.words.specs.Commands.{RunOf, CommandOf, run, poll}
+use Rattle.words.specs.Commands.{RunOf, CommandOf, run, poll, least}
 use Rattle.words.specs.Reading.{command_of}
 use Rattle.words.specs.declared.command.WordFault.{WordFault}
 use Rattle.rtdvs_top.specs.CommandAnswer.{answer_of_command}
+use Rattle.rtdvs_top.specs.LeastAnswer.{least_text, IsLeastOn, AreTooMany}
+use Rattle.energy_bound.specs.declared.least.Least.{Least}
 use Rattle.rtdvs_top.specs.Answer.{prepared_of, admission, tasks_at, machine_at, demands_at}
 use Rattle.rtdvs_top.specs.Naming.{names_by}
 use Rattle.rtdvs_top.specs.Refusals.{status_text}
@@ -141,6 +143,17 @@ Headline (Some files) (Ok (run r)) loads_rose old new s =
     → (loads_rose → ⊥) → (Rose old.faults new.faults → ⊥) → s ≢ status.NoMemory
     → RunsOrIsDenied r.version r.governor (run_with r (plan_of tasks machine r.scheduler) demands) old new s
 Headline told c loads_rose old new s = ⊤
+
+-- A least energy of told files, without a premise. One that is done has written the lines of the answer for the machine
+-- that its file means, which passes the check and is the least; one that is denied asks for more units than that
+-- machine does in the ticks.
+abbrev pub OfLeast : Option Files → Result CommandOf WordFault → SinkView → SinkView → Status → Type 0
+OfLeast (Some files) (Ok (least l)) old new status.Done =
+    (m : Table) × (a : Least) × (machine_at l.machine files ≡ Ok m) × IsLeastOn m l a
+    × Appends old.written new.written (least_text a)
+OfLeast (Some files) (Ok (least l)) old new (status.NotAdmitted why) =
+    (m : Table) × (machine_at l.machine files ≡ Ok m) × AreTooMany m l why
+OfLeast told c old new s = ⊤
 
 -- the line of a status is noted, or after a run that asked for probes and is done the lines of those that are left; whole
 -- or in part, with the names of the command's tasks

@@ -180,6 +180,8 @@ denied_text names (denied.Edf num cap) =
 denied_text names (denied.Rm task num cap) =
     joined (
     codes "denied rm " ∷ name_of names task ∷ codes " " ∷ decimal num ∷ codes " " ∷ decimal cap ∷ codes "\n" ∷ [])
+denied_text names (denied.Units num cap) =
+    joined (codes "denied units " ∷ decimal num ∷ codes " " ∷ decimal cap ∷ codes "\n" ∷ [])
 
 -- the status is told by one line
 abbrev pub HasOneLine : Status → Type 0

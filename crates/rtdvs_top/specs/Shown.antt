@@ -17,6 +17,7 @@ use Rattle.rtdvs_top.specs.declared.status.Status.TheVariants as status
 abbrev pub IsShownDenial : Denied → Type 0
 IsShownDenial (denied.Edf num cap) = cap < num
 IsShownDenial (denied.Rm task num cap) = cap < num
+IsShownDenial (denied.Units num cap) = cap < num
 
 -- a refusal of a file is none of those that are a status of their own: want of memory, and a demand over its worst case
 abbrev pub IsShownText : TextFault → Type 0

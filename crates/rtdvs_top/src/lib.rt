@@ -8,6 +8,7 @@
 mod admit_answer;
 mod difference;
 mod files;
+mod least_answer;
 mod made_lines;
 mod made_runs;
 mod plan_words;

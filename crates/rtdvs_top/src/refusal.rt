@@ -392,6 +392,13 @@ fn denied_line(why: &Denied, tasks: Option<&TaskSet>) -> Line
                 Part::Word(b"\n"),
             ])
         }
+        Denied::Units { num, cap } => line_of(&[
+            Part::Word(b"denied units "),
+            Part::Wide(*num),
+            Part::Word(b" "),
+            Part::Wide(*cap),
+            Part::Word(b"\n"),
+        ]),
     }
 }
 

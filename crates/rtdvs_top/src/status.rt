@@ -44,7 +44,7 @@ pub enum TextFault {
     Server { name: Short },
 }
 
-/// The two numbers by which a scheduler's test fails, in work units.
+/// The two numbers, in work units, by which a scheduler's test fails, or by which more is asked for than can be done.
 #[derive(Clone, Copy, Debug, PartialEq, Eq)]
 pub enum Denied {
     /// The work of a hyperperiod, and what the highest speed does in it (Liu and Layland 1973).
@@ -52,6 +52,8 @@ pub enum Denied {
     /// The first task in RM order whose level asks for more work in its period than the highest speed does in it
     /// (Pillai and Shin 2001).
     Rm { task: u32, num: u128, cap: u128 },
+    /// The units whose least energy is asked for, and what the highest speed does in the ticks.
+    Units { num: u128, cap: u128 },
 }
 
 /// How a call ends.
@@ -59,7 +61,7 @@ pub enum Denied {
 pub enum Status {
     /// The whole answer was written.
     Done,
-    /// The scheduler's test fails.
+    /// The scheduler's test fails, or more units are asked for than the highest speed does in the ticks.
     NotAdmitted(Denied),
     /// The words aren't those of a command: their first trouble, from left to right.
     Words(WordFault),

@@ -10,7 +10,7 @@ ghost use Rattle.rtdvs_top.specs.ProbeLines.{noted_text, probe_lines};
 ghost use Rattle.rtdvs_top.specs.Probing.{LeavesProbes, ToldIn, asks_probes};
 ghost use Rattle.rtdvs_top.specs.Shown.{IsShown};
 ghost use Rattle.rtdvs_top.specs.Ending.{EndsAs, Leaves, MetIn};
-ghost use Rattle.rtdvs_top.specs.Promises.{asked, files_told, Answers, Writes, WritesPart, IsSureOf, LoadFailed, LoadsInOrder, loads_asked, OfRun, OfPoll, Headline, Notes, Tells, probes_asked};
+ghost use Rattle.rtdvs_top.specs.Promises.{asked, files_told, Answers, Writes, WritesPart, IsSureOf, LoadFailed, LoadsInOrder, loads_asked, OfRun, OfPoll, Headline, OfLeast, Notes, Tells, probes_asked};
 ghost use Rattle.rtdvs_top.specs.Exactness.{OfTrace};
 ghost use Rattle.rtdvs_top.specs.Writing.{NotedAs};
 ghost use Rattle.words.specs.Commands.{IsReadyCommand};
@@ -20,6 +20,7 @@ ghost use Rattle.words.specs.declared.command.WordFault.{WordFault};
 use crate::Status;
 use crate::admit_answer::answer_admit;
 use crate::difference::{Difference, put_difference};
+use crate::least_answer::{LeastWords, answer_least};
 use crate::made_lines::answer_workload;
 use crate::plan_words::{AdmitWords, PollWords, RunWords};
 use crate::poll_answer::answer_poll;
@@ -198,16 +199,30 @@ fn answer_command<S: Shelf, W: Sink, P: Probe>(
             };
             answer_poll(alloc, &poll, shelf, out)
         }
+        Command::Least {
+            machine,
+            units,
+            ticks,
+        } => {
+            let least = LeastWords {
+                machine,
+                units: *units,
+                ticks: *ticks,
+            };
+            (answer_least(alloc, &least, shelf, out), None)
+        }
     }
 }
 
 /// Does what the words ask for: runs a plan and writes its trace, tells whether a task set is admitted, writes what the
-/// runs of a made workload come to, or tells whether a trace is that of the run that it tells, or writes it in version 2.
+/// runs of a made workload come to, tells whether a trace is that of the run that it tells, or writes it in version 2,
+/// tells when a server serves requests, or the least energy for some units in some ticks with its certificate.
 ///
 /// The answer goes to `out`, and the line of a refusal to `notes`; both one put a line, which is tested, not proved. After
 /// a run with `--probes` that is done, the line of each probe that is left goes to `notes`; after the first put that fails
 /// no more is put there.
-/// Files are loaded from `shelf` in the order tasks, machine, demands or trace, each before it is read. `NoMemory` may come at
+/// Files are loaded from `shelf` in the order tasks, machine, demands or trace, each before it is read; a least energy
+/// loads the machine alone. `NoMemory` may come at
 /// any step before the first byte of `out`, and never after it; a fault of `notes` changes no status.
 pub fn rtdvs<S: Shelf, W: Sink, E: Sink>(
     alloc: Global,
@@ -251,6 +266,10 @@ pub fn rtdvs<S: Shelf, W: Sink, E: Sink>(
 
     // what a polling that is done has kept
     ensures polled { OfPoll (files_told (S.shows shelf.old).held (asked words.now)) (asked words.now) result }
+
+    // the least energy: a certificate that passes its check, and a bound on every choice and every schedule
+    ensures least { OfLeast (files_told (S.shows shelf.old).held (asked words.now)) (asked words.now)
+        (W.shows out.old) (W.shows out.new) result }
 
     // where the outside is sure, it doesn't fail
     ensures sure { IsSureOf (files_told (S.shows shelf.old).held (asked words.now)) (asked words.now) (W.shows out.old)

@@ -3,13 +3,14 @@ use Rattle.probes.specs.Tallies.{ProbeOf}
 use Rattle.dvs_base.specs.Outside.{Rose}
 use Rattle.words.specs.Commands.{CommandOf}
 use Rattle.words.specs.declared.command.WordFault.{WordFault}
-use Rattle.rtdvs_top.specs.Promises.{files_told, Answers, IsSureOf, OfRun, OfPoll, Headline, Notes}
+use Rattle.rtdvs_top.specs.Promises.{files_told, Answers, IsSureOf, OfRun, OfPoll, Headline, OfLeast, Notes}
 use Rattle.rtdvs_top.proofs.Answering.{answers-of, sure-of}
 use Rattle.rtdvs_top.proofs.Noting.{notes-of}
 use Rattle.rtdvs_top.specs.Exactness.{OfTrace}
 use Rattle.rtdvs_top.proofs.Headlines.{of-run, headline-of}
 use Rattle.rtdvs_top.proofs.Exactness.{of-trace}
 use Rattle.rtdvs_top.proofs.Pollings.{of-poll}
+use Rattle.rtdvs_top.proofs.Bounding.{of-least}
 use Rattle.rtdvs_top.proofs.top.rtdvs.Goals as goal
 
 pub returns-clause-answers : goal.returns-clause-answers
@@ -42,6 +43,16 @@ returns-clause-polled g c =
     let s = c.answer_command-status.result.0 in
     subst (λ (command : Result CommandOf WordFault). OfPoll (files_told old.held command) command s)
     c.in-Ok.ensures.read (of-poll _ _ s e.met)
+
+pub returns-clause-least : goal.returns-clause-least
+returns-clause-least g c =
+    let old = g.S.Shelf.shows c.args.shelf.now in
+    let out_old = g.W.Sink.shows c.args.out.now in
+    let out_new = g.W.Sink.shows c.answer_command-status.new.out in
+    let e = c.answer_command-status.ensures in
+    let s = c.answer_command-status.result.0 in
+    subst (λ (command : Result CommandOf WordFault). OfLeast (files_told old.held command) command out_old out_new s)
+    c.in-Ok.ensures.read (of-least _ _ s out_old out_new e.ended e.met)
 
 pub returns-clause-headline : goal.returns-clause-headline
 returns-clause-headline g c =
