@@ -1,5 +1,5 @@
 -- What the outcomes of all requests say.
-use Rattle.std.proofs.Common.{◌≡◌, ℕ, ◌+◌, ◌*◌, ◌<◌, ◌≤◌, ◌⊎◌, inl, inr, List, length, refl, arith, ap, ◌∙◌, sym, subst, eq-or-lt_of_le}
+use Rattle.std.proofs.Common.{◌≡◌, ℕ, ◌*◌, ◌<◌, ◌≤◌, ◌⊎◌, inl, inr, List, refl, arith, ap, ◌∙◌, sym, subst, eq-or-lt_of_le}
 use Rattle.std.specs.Prelude.{Option, Some, None}
 use Rattle.std.proofs.Math.Nat.{mul-le-mul_right}
 use Rattle.dvs_base.specs.declared.note.Note.{Note}
@@ -10,12 +10,10 @@ use Rattle.sched_model.specs.Jobs.{due}
 use Rattle.sched_model.specs.Totals.{totals_of}
 use Rattle.sched_model.proofs.ScheduleLemmas.{length-list_below}
 use Rattle.sched_model.proofs.Tables.{get-table}
-use Rattle.grid_fraction.specs.Numbers.{list_below}
 use Rattle.done_lines.specs.DoneLines.{IsBy}
-use Rattle.poll_server.specs.declared.served.Outcome.{Outcome}
-use Rattle.poll_server.specs.declared.served.Outcome.TheVariants.{Served, Pending}
+use Rattle.poll_server.specs.declared.served.Outcome.TheVariants.{Pending}
 use Rattle.poll_server.specs.Serving.{ServerOf, budget, request_count}
-use Rattle.poll_server.specs.Outcomes.{BelongsTo, done_at, IsOutcome, ServedOf, outcome_at}
+use Rattle.poll_server.specs.Outcomes.{done_at, IsOutcome, ServedOf}
 use Rattle.poll_server.specs.Bound.{latest_job, latest_end, IsServedBy, KeepsBound}
 use Rattle.poll_server.specs.Polled.{IsPolled}
 use Rattle.poll_server.specs.EachOutcome.{job_of, outcome_by, outcome_of, outcomes_of}

@@ -1,8 +1,8 @@
 -- Which job a request belongs to.
-use Rattle.std.proofs.Common.{◌≡◌, ℕ, zero, suc, ◌+◌, ◌-◌, ◌*◌, ◌<◌, ◌≤◌, min, Bool, true, false, nat_le, ◌⊎◌, inl, inr, refl, arith, ap, ◌∙◌, sym, subst}
+use Rattle.std.proofs.Common.{◌≡◌, ℕ, zero, suc, ◌<◌, ◌≤◌, Bool, true, false, nat_le, ◌⊎◌, inl, inr, refl, arith}
 use Rattle.std.proofs.lemmas.Bool.{cases_lt}
 use Rattle.std.proofs.lemmas.Bool.Decides.{nat_tests}
-use Rattle.grid_fraction.specs.Numbers.{ceil_div, first_from}
+use Rattle.grid_fraction.specs.Numbers.{ceil_div}
 use Rattle.grid_fraction.proofs.Searches.{first_from-found, first_from-before, first_from-most}
 use Rattle.grid_fraction.proofs.Sums.{sum_below-up}
 use Rattle.governor.proofs.RmLevels.{ceil_covers}
@@ -12,7 +12,7 @@ use Rattle.poll_server.specs.Serving.{ServerOf, budget, request_count, arrival, 
 use Rattle.poll_server.specs.Outcomes.{BelongsTo}
 use Rattle.poll_server.specs.Bound.{jobs_before, backlog, latest_job, HaveJobs}
 use Rattle.poll_server.specs.EachOutcome.{job_of}
-use Rattle.poll_server.proofs.Takings.{taken-none, taken-up, arrived-all, before-released, reach}
+use Rattle.poll_server.proofs.Takings.{taken-none, arrived-all, before-released, reach}
 
 -- more requests ask for no less
 pub asked-up : (s : ServerOf) (m n : ℕ) → m ≤ n → asked_with s m ≤ asked_with s n

@@ -1,13 +1,12 @@
 -- The outcome of a request, by the job at which the requests up to it stand.
-use Rattle.std.proofs.Common.{◌≡◌, ℕ, ◌+◌, ◌-◌, ◌<◌, ◌≤◌, ◌⊎◌, inl, inr, List, length, refl, arith, ap, ap₂, ◌∙◌, sym, subst, add-one}
-use Rattle.std.specs.Prelude.{Option, Some, None}
+use Rattle.std.proofs.Common.{◌≡◌, ℕ, ◌+◌, ◌-◌, ◌<◌, ◌≤◌, ◌⊎◌, inl, inr, List, arith, ap, ◌∙◌, sym, subst, add-one}
+use Rattle.std.specs.Prelude.{Option}
 use Rattle.std.proofs.lemmas.Bool.{cases_lt}
 use Rattle.dvs_base.specs.declared.note.Note.{Note}
 use Rattle.dvs_base.specs.declared.note.Pos.{Pos}
 use Rattle.request_list.specs.Requests.{AreRequests}
 use Rattle.sched_model.specs.Plan.{period}
-use Rattle.poll_server.specs.declared.served.Outcome.{Outcome}
-use Rattle.poll_server.specs.declared.served.Outcome.TheVariants.{Served, Pending}
+use Rattle.poll_server.specs.declared.served.Outcome.TheVariants.{Pending}
 use Rattle.poll_server.specs.declared.outcomes.Reached.{Reached}
 use Rattle.poll_server.specs.Serving.{ServerOf, budget, request_count, asked, asked_with, taken_up_to}
 use Rattle.poll_server.specs.Outcomes.{BelongsTo, done_at}

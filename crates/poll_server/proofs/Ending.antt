@@ -1,5 +1,5 @@
 -- Where the notes of a schedule tell that a job is done.
-use Rattle.std.proofs.Common.{◌≡◌, ℕ, zero, suc, ◌+◌, ◌-◌, ◌<◌, ◌≤◌, Bool, true, false, ◌&&◌, ◌||◌, ◌⊎◌, inl, inr, List, [], ◌∷◌, ◌++◌, length, refl, arith, if◌then◌else◌, ap, ◌∙◌, sym, subst, true≢false, nat_eq, nat_lt}
+use Rattle.std.proofs.Common.{◌≡◌, ℕ, suc, ◌+◌, ◌-◌, ◌<◌, ◌≤◌, Bool, true, false, ◌&&◌, ◌||◌, inl, inr, List, [], ◌∷◌, length, refl, arith, if◌then◌else◌, ap, ◌∙◌, true≢false, nat_eq, nat_lt}
 use Rattle.std.specs.Prelude.{sum_by, Option, Some, None}
 use Rattle.std.specs.Option.{option_or}
 use Rattle.std.proofs.lemmas.Bool.Decides.{nat_tests}
@@ -7,7 +7,7 @@ use Rattle.dvs_base.specs.declared.note.Note.{Note}
 use Rattle.dvs_base.specs.declared.note.Note.TheVariants.{Release, Speed, Run, Idle, Done, End}
 use Rattle.dvs_base.specs.declared.note.Pos.{Pos}
 use Rattle.grid_fraction.specs.declared.Frac.{Frac}
-use Rattle.sched_model.specs.Plan.{Plan, count, period}
+use Rattle.sched_model.specs.Plan.{Plan, count}
 use Rattle.sched_model.specs.Jobs.{release, due}
 use Rattle.sched_model.specs.Ticks.{Tick, at, exec}
 use Rattle.sched_model.specs.Schedule.{IsScheduleBy}
@@ -20,7 +20,7 @@ use Rattle.sched_model.proofs.JobLaws.{release-due}
 use Rattle.done_lines.specs.DoneLines.{IsBy}
 use Rattle.done_lines.proofs.DoneNotes.{tells_done, tells_late, times, times-append}
 use Rattle.done_lines.proofs.DoneCounts.{told-once, told-never, none-late}
-use Rattle.poll_server.specs.Outcomes.{done_in, done_at}
+use Rattle.poll_server.specs.Outcomes.{done_at}
 
 -- the job is told to be done, at a position not after tick t
 abbrev pub IsEndBy : ℕ → Option Pos → Type 0

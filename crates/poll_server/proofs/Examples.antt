@@ -1,13 +1,13 @@
 -- The definitions at work: the tasks s (period 5, worst case 4) and a (period 10, worst case 10), of which s serves three
 -- requests: 3 units at tick 0, 6 at tick 1 and 1 at tick 12.
-use Rattle.std.proofs.Common.{◌≡◌, ℕ, [], ◌∷◌, List, refl}
+use Rattle.std.proofs.Common.{◌≡◌, ℕ, [], ◌∷◌, refl}
 use Rattle.dvs_base.specs.declared.kind.Scheduler.TheVariants.{Edf}
 use Rattle.freq_table.specs.Tables.{Table}
 use Rattle.request_list.specs.declared.requests.Request.{Request}
 use Rattle.sched_model.specs.Plan.{Plan, plan_of}
 use Rattle.sched_model.specs.Jobs.{release, due}
 use Rattle.task_model.specs.declared.task.Task.{Task}
-use Rattle.poll_server.specs.Serving.{ServerOf, server_of, taken_up_to, taken, polled_demand, asked_with}
+use Rattle.poll_server.specs.Serving.{ServerOf, server_of, taken_up_to, taken, polled_demand}
 use Rattle.poll_server.specs.Bound.{jobs_before, backlog, latest_job, latest_end}
 use Rattle.poll_server.specs.EachOutcome.{job_of}
 

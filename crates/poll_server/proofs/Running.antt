@@ -1,17 +1,16 @@
 -- The run of a list of what a server's jobs take is the run of all that they take.
-use Rattle.std.proofs.Common.{◌≡◌, ℕ, zero, suc, ◌+◌, ◌*◌, ◌<◌, ◌≤◌, Bool, true, false, ◌⊎◌, inl, inr, List, length, refl, arith, if◌then◌else◌, ap, ◌∙◌, sym, subst, nat_eq}
-use Rattle.std.specs.Prelude.{Option, Some, None, unwrap_or, option_map}
+use Rattle.std.proofs.Common.{◌≡◌, ℕ, zero, suc, ◌+◌, ◌*◌, ◌<◌, ◌≤◌, Bool, true, false, inl, inr, List, length, refl, arith, if◌then◌else◌, ap, ◌∙◌, subst, nat_eq}
+use Rattle.std.specs.Prelude.{Some, None}
 use Rattle.std.proofs.lemmas.Bool.{cases_lt}
 use Rattle.std.proofs.lemmas.Bool.Decides.{nat_tests}
-use Rattle.dvs_base.specs.declared.note.Note.{Note}
 use Rattle.task_model.specs.DemandRows.{DemandRow, named}
 use Rattle.sched_model.specs.Plan.{Plan, count, worst, period}
 use Rattle.sched_model.specs.Jobs.{release}
-use Rattle.sched_model.specs.Ticks.{Tick, exec, is_done}
+use Rattle.sched_model.specs.Ticks.{Tick}
 use Rattle.sched_model.specs.Demands.{demand_of}
 use Rattle.governor.specs.Meanings.{OwnDemand}
 use Rattle.governor.specs.Schedule.{ask_of}
-use Rattle.replay_laws.specs.OwnList.{Asking, ticks_by, notes_by, TellSame, LooksAtNone}
+use Rattle.replay_laws.specs.OwnList.{ticks_by, notes_by, TellSame, LooksAtNone}
 use Rattle.poll_server.specs.Serving.{ServerOf, taken, polled_demand, job_release}
 use Rattle.poll_server.specs.Bound.{jobs_before}
 use Rattle.poll_server.specs.Polled.{polled_notes}

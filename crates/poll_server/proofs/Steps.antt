@@ -1,6 +1,6 @@
 -- The steps of the walks over a server's jobs and requests.
-use Rattle.std.proofs.Common.{◌≡◌, ℕ, zero, suc, ◌+◌, ◌-◌, ◌*◌, ◌^◌, ◌<◌, ◌≤◌, min, ◌⊎◌, inl, inr, List, [], ◌∷◌, ◌++◌, refl, arith, ap, ◌∙◌, sym, subst, add-one}
-use Rattle.std.specs.Prelude.{Option, Some, None, unwrap_or, slice_index}
+use Rattle.std.proofs.Common.{◌≡◌, ℕ, ◌+◌, ◌-◌, ◌*◌, ◌^◌, ◌<◌, ◌≤◌, min, ◌⊎◌, inl, inr, List, [], ◌∷◌, ◌++◌, refl, arith, ap, ◌∙◌, sym, add-one}
+use Rattle.std.specs.Prelude.{Option, unwrap_or, slice_index}
 use Rattle.std.proofs.Math.Nat.{mul-le-mul_right, mul-le-mul_left}
 use Rattle.std.proofs.lemmas.Bool.{cases_lt}
 use Rattle.dvs_base.specs.declared.limits.TheConstants.{MOST_JOBS}
@@ -9,7 +9,7 @@ use Rattle.task_model.specs.DemandRows.{DemandRow, named}
 use Rattle.task_model.specs.declared.limits.TheConstants.{MOST_WORK}
 use Rattle.demand_list.specs.Demands.{DemandsOf, units_of}
 use Rattle.request_list.specs.Requests.{AreRequests}
-use Rattle.sched_model.specs.Plan.{Plan, count, period}
+use Rattle.sched_model.specs.Plan.{count, period}
 use Rattle.sched_model.specs.Jobs.{release}
 use Rattle.sched_model.specs.Admission.{IsAdmitted}
 use Rattle.sched_model.proofs.Limits.{every_period}

@@ -1,13 +1,13 @@
 -- What a server's jobs take, job by job.
-use Rattle.std.proofs.Common.{◌≡◌, ℕ, zero, suc, ◌+◌, ◌-◌, ◌*◌, ◌^◌, ◌<◌, ◌≤◌, min, Bool, true, false, nat_le, ◌⊎◌, inl, inr, refl, arith, if◌then◌else◌, ap, ◌∙◌, sym, subst, add-one, eq-or-lt_of_le}
+use Rattle.std.proofs.Common.{◌≡◌, ℕ, zero, suc, ◌+◌, ◌-◌, ◌*◌, ◌<◌, ◌≤◌, min, true, false, nat_le, ◌⊎◌, inl, inr, refl, arith, if◌then◌else◌, ap, ◌∙◌, sym, add-one, eq-or-lt_of_le}
 use Rattle.std.proofs.Math.Nat.{mul-le-mul_right}
 use Rattle.std.proofs.lemmas.Bool.Decides.{nat_tests}
-use Rattle.grid_fraction.specs.Numbers.{sum_below, sum_where, ceil_div}
-use Rattle.grid_fraction.proofs.Sums.{sum_below-same, sum_below-up, sum_below-more}
+use Rattle.grid_fraction.specs.Numbers.{sum_below}
+use Rattle.grid_fraction.proofs.Sums.{sum_below-same, sum_below-up}
 use Rattle.governor.proofs.RmLevels.{ceil_covers}
-use Rattle.request_list.specs.declared.limits.TheConstants.{MOST_REQUESTS, MOST_REQUEST_UNITS}
+use Rattle.request_list.specs.declared.limits.TheConstants.{MOST_REQUEST_UNITS}
 use Rattle.request_list.specs.Requests.{AreRequests}
-use Rattle.sched_model.specs.Plan.{Plan, period, offset}
+use Rattle.sched_model.specs.Plan.{period, offset}
 use Rattle.sched_model.specs.Jobs.{release}
 use Rattle.poll_server.specs.Serving.{ServerOf, budget, job_release, request_count, arrival, units, arrived, taken_up_to, taken, asked, asked_with}
 use Rattle.poll_server.specs.Bound.{jobs_before}

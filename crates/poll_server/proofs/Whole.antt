@@ -1,6 +1,6 @@
 -- A run of a server as a whole: its notes, where the server's jobs are done, and what is answered.
 use Rattle.std.proofs.Common.{◌≡◌, ℕ, ◌+◌, ◌-◌, ◌<◌, ◌≤◌, false, List, length, replicate, refl, arith, ap, ap₂, ◌∙◌, sym, subst}
-use Rattle.std.specs.Prelude.{Option, Some, None}
+use Rattle.std.specs.Prelude.{Option, None}
 use Rattle.std.specs.Option.{option_or}
 use Rattle.std.proofs.lemmas.List.{length-replicate}
 use Rattle.dvs_base.specs.declared.note.Note.{Note}
@@ -17,17 +17,16 @@ use Rattle.sched_model.specs.Demands.{demand_of}
 use Rattle.sched_model.specs.Admission.{IsAdmitted}
 use Rattle.request_list.specs.declared.requests.Request.{Request}
 use Rattle.request_list.specs.Requests.{AreRequests}
-use Rattle.sched_model.specs.Schedule.{schedule_by}
 use Rattle.sched_model.proofs.Limits.{every_period}
 use Rattle.sched_model.proofs.ScheduleLemmas.{schedule_exists}
 use Rattle.governor.specs.Meanings.{OwnDemand}
 use Rattle.governor.specs.Schedule.{ask_of}
 use Rattle.event_kernel.specs.Heard.{HasHeard}
 use Rattle.event_kernel.specs.Runs.{Run, notes_of_run, MeetsDeadlines}
-use Rattle.replay_laws.specs.OwnList.{LooksAtNone, ticks_by, notes_by}
+use Rattle.replay_laws.specs.OwnList.{LooksAtNone, ticks_by}
 use Rattle.poll_server.specs.declared.ends.Ends.{Ends}
 use Rattle.poll_server.specs.declared.served.Outcome.{Outcome}
-use Rattle.poll_server.specs.Serving.{ServerOf, server_of, budget, polled_demand, job_release}
+use Rattle.poll_server.specs.Serving.{ServerOf, server_of, polled_demand, job_release}
 use Rattle.poll_server.specs.Outcomes.{done_at, ServedOf}
 use Rattle.poll_server.specs.Bound.{jobs_before, KeepsBound, HaveJobs}
 use Rattle.poll_server.specs.EachOutcome.{outcomes_of, served_of}

@@ -1,4 +1,4 @@
-use Rattle.std.proofs.Common.{◌≡◌, ℕ, List}
+use Rattle.std.proofs.Common.{◌≡◌, List}
 use Rattle.dvs_base.specs.declared.note.Note.{Note}
 use Rattle.grid_fraction.specs.Numbers.{list_below}
 use Rattle.poll_server.specs.EachOutcome.{outcome_of}

@@ -1,6 +1,6 @@
-use Rattle.std.proofs.Common.{◌≡◌, ◌≤◌, List, length, ap, ◌∙◌, subst, arith, rules}
+use Rattle.std.proofs.Common.{List, length, ap, ◌∙◌, subst, arith, rules}
 use Rattle.std.proofs.lemmas.List.{length-replicate}
-use Rattle.std.specs.Prelude.{Option, None}
+use Rattle.std.specs.Prelude.{None}
 use Rattle.event_kernel.specs.Runs.{notes_of_run}
 use Rattle.request_list.specs.declared.requests.Request.{Request}
 use Rattle.poll_server.specs.Serving.{server_of}

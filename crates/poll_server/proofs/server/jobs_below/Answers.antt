@@ -1,5 +1,4 @@
 use Rattle.std.proofs.Common.{◌≡◌, ◌+◌, ◌-◌, ◌/◌, ◌%◌, min, ap, ap₂, ◌∙◌}
-use Rattle.grid_fraction.specs.Numbers.{ceil_div}
 use Rattle.sched_model.specs.Plan.{period, offset}
 use Rattle.event_kernel.proofs.Bounds.{bounds}
 use Rattle.event_kernel.proofs.Counting.{ceil-is}

@@ -1,4 +1,4 @@
-use Rattle.std.proofs.Common.{◌≡◌, ◌+◌, ◌-◌, ◌≤◌}
+use Rattle.std.proofs.Common.{◌+◌, ◌-◌, ◌≤◌}
 use Rattle.poll_server.specs.Walking.{HasReached}
 use Rattle.poll_server.proofs.outcomes.Reached.add.Given as goal
 
