@@ -148,6 +148,7 @@ requests_name (admit a) = None
 requests_name (traced r) = None
 requests_name (workload seed) = None
 requests_name (poll q) = Some q.requests
+requests_name (least l) = None
 
 -- why a load of a command failed, by its place: the tasks first, then the machine, and then the demands, the trace or the
 -- requests
