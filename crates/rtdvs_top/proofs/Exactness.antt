@@ -1,5 +1,5 @@
 -- A replay or a migration is done exactly where the trace file tells a schedule.
-use Rattle.std.proofs.Common.{◌≡◌, ◌⊎◌, inl, inr, ℕ, zero, suc, ◌≤◌, ◌<◌, Bool, true, false, List, [], ◌∷◌, ◌++◌, length, map, Option, Some, None, Result, Ok, Err, IsOk, refl, sym, ap, ◌∙◌, subst, arith, true≢false, nat_lt, if◌then◌else◌}
+use Rattle.std.proofs.Common.{◌≡◌, inl, inr, ℕ, zero, suc, ◌≤◌, ◌<◌, Bool, true, false, List, [], ◌∷◌, ◌++◌, length, map, Option, Some, None, Result, Ok, Err, IsOk, refl, sym, ap, ◌∙◌, subst, arith, true≢false, nat_lt, if◌then◌else◌}
 use Rattle.std.proofs.lemmas.Bool.Decides.{nat_tests}
 use Rattle.dvs_base.specs.Outside.{Files}
 use Rattle.dvs_base.specs.Checks.{and_then}
@@ -7,7 +7,6 @@ use Rattle.dvs_base.specs.declared.kind.GovernorKind.{GovernorKind}
 use Rattle.dvs_base.specs.declared.kind.Version.{Version}
 use Rattle.dvs_base.specs.declared.kind.Version.TheVariants.{Two}
 use Rattle.dvs_base.specs.declared.note.Note.{Note}
-use Rattle.dvs_base.specs.declared.note.Totals.{Totals}
 use Rattle.dvs_base.specs.declared.limits.TheConstants.{MOST_JOBS}
 use Rattle.grid_fraction.specs.Numbers.{list_below}
 use Rattle.task_model.specs.declared.task.Task.{Task}
@@ -31,14 +30,13 @@ use Rattle.trace_reader.proofs.TraceTexts.{reads-found, reads-only, version-line
 use Rattle.replay_laws.specs.FixedDemands.{fixed_of}
 use Rattle.replay_laws.proofs.Owning.{own-lists}
 use Rattle.replay.specs.Replays.{too_many, replay_of}
-use Rattle.replay.specs.declared.fault.ReplayFault.{ReplayFault}
 use Rattle.replay.specs.declared.fault.ReplayFault.TheVariants as replay_fault
 use Rattle.replay.proofs.Comparing.{ended-once}
 use Rattle.replay.proofs.Exact.{some-replayed, is-replayed}
 use Rattle.replay.proofs.Texts.{names-distinct}
 use Rattle.words.specs.Commands.{TracedOf, CommandOf, run, admit, traced, workload, poll, least}
 use Rattle.rtdvs_top.specs.Answer.{bytes_at, tasks_at, machine_at, admission}
-use Rattle.rtdvs_top.specs.ReplayAnswer.{task_line, lines_of_tasks, trace_from, trace_of, trace_at, traced_of, totals_at, printed, answer_of_traced, trace_after_tasks, trace_answer}
+use Rattle.rtdvs_top.specs.ReplayAnswer.{task_line, lines_of_tasks, trace_from, trace_of, trace_at, traced_of, totals_at, printed, answer_of_traced, trace_answer}
 use Rattle.rtdvs_top.specs.Exactness.{trace_of_run, IsScheduleText, AreFilesOf, TellsOwn, IsDoneUnless, OfTrace}
 use Rattle.rtdvs_top.specs.Promises.{IsAnswer, Answers}
 use Rattle.rtdvs_top.specs.Ending.{MetIn}
@@ -224,7 +222,7 @@ of-trace (Some files) (traced r) loads_rose puts_rose s met answers = (
   λ e.
       let m = subst (MetIn (Some files) (traced r)) e met in
       let ok = subst (IsAnswer loads_rose puts_rose (trace_answer r files)) e answers in
-      done-own r files m.0 m.2.0 m.2.1 m.1 m.2.2.0 m.2.2.1 ok,
+      done-own r files m.0 m.2.0 m.2.1 m.1 m.2.2 m.2.3 ok,
   λ v p g ticks rows tells.
       let ok = subst IsOk (sym (told-done r files v p g ticks rows tells.0 tells.1 tells.2)) refl in
       done-unless loads_rose puts_rose (trace_answer r files) s answers ok,

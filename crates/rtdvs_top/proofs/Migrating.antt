@@ -1,5 +1,5 @@
 -- A trace that was compared, and the run that writes it in version 2.
-use Rattle.std.proofs.Common.{◌≡◌, ℕ, Bool, true, false, List, Option, Some, None, Result, Ok, Err, IsOk, refl, sym, ap, ◌∙◌, subst, true≢false, nat_lt, if◌then◌else◌}
+use Rattle.std.proofs.Common.{◌≡◌, ℕ, Bool, true, false, List, Some, None, Result, Ok, Err, IsOk, refl, sym, ap, ◌∙◌, true≢false, nat_lt, if◌then◌else◌}
 use Rattle.dvs_base.specs.declared.kind.Scheduler.{Scheduler}
 use Rattle.dvs_base.specs.declared.kind.Version.TheVariants.{Two}
 use Rattle.dvs_base.specs.declared.note.Note.{Note}
@@ -17,14 +17,13 @@ use Rattle.trace_reader.specs.Traces.{TraceOf, is_end, IsEnded}
 use Rattle.trace_reader.specs.TraceText.{whole_text}
 use Rattle.replay_laws.specs.FixedDemands.{fixed_of}
 use Rattle.replay_laws.proofs.OneEnd.{EndsOnce}
-use Rattle.replay.specs.Replays.{first_over, too_many, own_notes, replay_of}
+use Rattle.replay.specs.Replays.{first_over, too_many, replay_of}
 use Rattle.replay.specs.declared.fault.ReplayFault.{ReplayFault}
 use Rattle.replay.specs.declared.fault.ReplayFault.TheVariants as replay_fault
 use Rattle.replay.proofs.Comparing.{ended-once}
 use Rattle.replay.proofs.Exact.{Passes, replayed-passes}
 use Rattle.rtdvs_top.specs.Answer.{within_jobs, answer_of_plan}
 use Rattle.rtdvs_top.specs.ReplayAnswer.{totals_from, totals_at, migrated_text}
-use Rattle.rtdvs_top.specs.declared.status.Status.{Status}
 use Rattle.rtdvs_top.specs.declared.status.Status.TheVariants as status
 
 -- a replay that has totals is done
@@ -43,7 +42,7 @@ within-few p ticks bytes = go (nat_lt MOST_JOBS (released_jobs p ticks))
     go false e = refl
 
 module _ (p : Plan) (lim : IsWithinLimits p) (t : TraceOf) (ended : IsEnded t.notes) where
-  ends : EndsOnce is_end t.notes
+  pub ends : EndsOnce is_end t.notes
   ends = ended-once t.notes ended
 
   -- a trace that has totals passes the comparison

@@ -1,5 +1,5 @@
 -- A polling under a governor's own demand is that under the published one, and what follows for its answer.
-use Rattle.std.proofs.Common.{◌≡◌, ◌≢◌, ◌≤◌, ℕ, List, Option, Some, None, Result, Ok, Err, refl, ap, ◌∙◌, sym, subst}
+use Rattle.std.proofs.Common.{◌≡◌, ◌≢◌, ℕ, List, Option, Some, None, Result, Ok, Err, refl, ap, ◌∙◌, subst}
 use Rattle.dvs_base.specs.Outside.{Files}
 use Rattle.dvs_base.specs.declared.kind.GovernorKind.{GovernorKind}
 use Rattle.dvs_base.specs.declared.note.Note.{Note}
@@ -17,7 +17,6 @@ use Rattle.poll_server.specs.Outcomes.{ServedOf}
 use Rattle.poll_server.specs.Bound.{HaveJobs, KeepsBound}
 use Rattle.poll_server.specs.Polled.{IsPolled, polled_notes}
 use Rattle.poll_server.specs.EachOutcome.{served_by, served_of}
-use Rattle.words.specs.declared.command.WordFault.{WordFault}
 use Rattle.words.specs.Commands.{CommandOf, run, admit, traced, workload, poll, least}
 use Rattle.rtdvs_top.specs.Answer.{bytes_at}
 use Rattle.rtdvs_top.specs.PollAnswer.{request_status, requests_at, polling_notes, polling_served}
