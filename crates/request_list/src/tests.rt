@@ -46,55 +46,60 @@ fn the_last_arrival_may_be_any_tick(rt: HostRuntime) -> Result<(), Fail> {
 }
 
 #[test]
-fn the_first_refusal_is_told(rt: HostRuntime) {
-    let arrival = |row| RequestFault::BadNumber {
-        row,
-        column: RequestColumn::Arrival,
-    };
-    let units = |row| RequestFault::BadNumber {
-        row,
-        column: RequestColumn::Units,
-    };
-    let fields = |row, count| RequestFault::Fields { row, count };
-    for (text, want) in [
-        (b"".as_slice(), RequestFault::Header),
-        (b"\n\n", RequestFault::Header),
-        (b"0,3\n", RequestFault::Header),
-        (b"arrival\n0,3\n", RequestFault::Header),
-        (b"units,arrival\n0,3\n", RequestFault::Header),
-        (b"arrival,units,task\n0,3\n", RequestFault::Header),
-        (b"Arrival,units\n0,3\n", RequestFault::Header),
-        (b"arrival, units\n0,3\n", RequestFault::Header),
-        (b"arrival,units\0\n0,3\n", RequestFault::Header),
-        (b"arrival,units\n5\n", fields(1, 1)),
-        (b"arrival,units\n0,3\n1,2,3\n", fields(2, 3)),
-        (b"arrival,units\n0,3\n,\n", arrival(2)),
-        (b"arrival,units\n00,3\n", arrival(1)),
-        (b"arrival,units\n-1,x\n", arrival(1)),
-        (b"arrival,units\n18446744073709551616,3\n", arrival(1)),
-        (b"arrival,units\n1\0,3\n", arrival(1)),
-        (b"arrival,units\n\xFF,3\n", arrival(1)),
-        (b"arrival,units\n0,\n", units(1)),
-        (b"arrival,units\n0, 3\n", units(1)),
-        (b"arrival,units\n0,18446744073709551616\n", units(1)),
-        (b"arrival,units\n0,3\xC3\n", units(1)),
-        (b"arrival,units\n2,1\n1,x\n", units(2)),
-        (b"arrival,units\n0,0\n", RequestFault::Range { row: 1 }),
-        (
-            b"arrival,units\n2,1\n1,1152921504606846977",
-            RequestFault::Range { row: 2 },
-        ),
-        (
-            b"arrival,units\n2,1\n1,1\n0,0\n",
-            RequestFault::Early { row: 2 },
-        ),
-        (
-            b"arrival,units\n0,1\n3,1\n3,1\n2,1",
-            RequestFault::Early { row: 4 },
-        ),
+fn the_header_is_checked_first(rt: HostRuntime) {
+    for text in [
+        "",
+        "\n\n",
+        "0,3\n",
+        "arrival\n0,3\n",
+        "units,arrival\n0,3\n",
+        "arrival,units,task\n0,3\n",
+        "Arrival,units\n0,3\n",
+        "arrival, units\n0,3\n",
+        "arrival,units\0\n0,3\n",
+    ] {
+        let found = Requests::read(rt.alloc(), text.as_bytes()).err();
+        assert_eq!(rt; found, Some(RequestFault::Header), "{text}");
+    }
+}
+
+#[test]
+fn a_field_that_is_no_number_is_told(rt: HostRuntime) {
+    let arrival = RequestColumn::Arrival;
+    let units = RequestColumn::Units;
+    for (text, row, column) in [
+        (b"arrival,units\n0,3\n,\n".as_slice(), 2, arrival),
+        (b"arrival,units\n00,3\n", 1, arrival),
+        (b"arrival,units\n-1,x\n", 1, arrival),
+        (b"arrival,units\n18446744073709551616,3\n", 1, arrival),
+        (b"arrival,units\n1\0,3\n", 1, arrival),
+        (b"arrival,units\n\xFF,3\n", 1, arrival),
+        (b"arrival,units\n0,\n", 1, units),
+        (b"arrival,units\n0, 3\n", 1, units),
+        (b"arrival,units\n0,18446744073709551616\n", 1, units),
+        (b"arrival,units\n0,3\xC3\n", 1, units),
+        (b"arrival,units\n2,1\n1,x\n", 2, units),
     ] {
         let found = Requests::read(rt.alloc(), text).err();
-        assert_eq!(rt; found, Some(want));
+        assert_eq!(rt; found, Some(RequestFault::BadNumber { row, column }));
+    }
+}
+
+#[test]
+fn the_first_refusal_is_told(rt: HostRuntime) {
+    let fields = |row, count| RequestFault::Fields { row, count };
+    let range = |row| RequestFault::Range { row };
+    let early = |row| RequestFault::Early { row };
+    for (text, want) in [
+        ("arrival,units\n5\n", fields(1, 1)),
+        ("arrival,units\n0,3\n1,2,3\n", fields(2, 3)),
+        ("arrival,units\n0,0\n", range(1)),
+        ("arrival,units\n2,1\n1,1152921504606846977", range(2)),
+        ("arrival,units\n2,1\n1,1\n0,0\n", early(2)),
+        ("arrival,units\n0,1\n3,1\n3,1\n2,1", early(4)),
+    ] {
+        let found = Requests::read(rt.alloc(), text.as_bytes()).err();
+        assert_eq!(rt; found, Some(want), "{text}");
     }
 }
 
