@@ -12,7 +12,7 @@ use Rattle.poll_server.specs.Serving.{ServerOf, budget, request_count, arrival, 
 use Rattle.poll_server.specs.Outcomes.{BelongsTo}
 use Rattle.poll_server.specs.Bound.{jobs_before, backlog, latest_job, HaveJobs}
 use Rattle.poll_server.specs.EachOutcome.{job_of}
-use Rattle.poll_server.proofs.Takings.{taken-none, arrived-all, before-released, reach}
+use Rattle.poll_server.proofs.Takings.{taken-none, arrived-all, before-released, released-before, reach}
 
 -- more requests ask for no less
 pub asked-up : (s : ServerOf) (m n : ℕ) → m ≤ n → asked_with s m ≤ asked_with s n
@@ -78,6 +78,8 @@ module _ (s : ServerOf) (h : AreRequests s.requests) (some : 0 < period s.plan s
 -- each request has a job, and they are in order
 pub have-jobs : (s : ServerOf) → AreRequests s.requests → 0 < period s.plan s.task → 0 < budget s → HaveJobs s
 have-jobs s h some room = record {
+  before = λ t k first le. released-before s t k some first le;
+  after = λ t k lt. before-released s t k some lt;
   each = λ m lt. (job_of s m, belongs s h some room m lt, job-some s h some room m lt, job-most s h some room m lt);
   in_order = λ m n j k le lt first later. in-order s m n j k le first later;
 }

@@ -1,6 +1,6 @@
 -- What a server's jobs take, job by job.
 use Rattle.std.proofs.Common.{◌≡◌, ℕ, zero, suc, ◌+◌, ◌-◌, ◌*◌, ◌<◌, ◌≤◌, min, true, false, nat_le, ◌⊎◌, inl, inr, refl, arith, if◌then◌else◌, ap, ◌∙◌, sym, add-one, eq-or-lt_of_le}
-use Rattle.std.proofs.Math.Nat.{mul-le-mul_right}
+use Rattle.std.proofs.Math.Nat.{mul-le-mul_right, div-mul-le_self}
 use Rattle.std.proofs.lemmas.Bool.Decides.{nat_tests}
 use Rattle.grid_fraction.specs.Numbers.{sum_below}
 use Rattle.grid_fraction.proofs.Sums.{sum_below-same, sum_below-up}
@@ -95,6 +95,21 @@ before-released s t k some lt =
     let more : jobs_before s t * period s.plan s.task ≤ (k - 1) * period s.plan s.task =
     mul-le-mul_right (period s.plan s.task) (omega arith) in
     omega (arith, covers, more)
+
+-- and those are released before it
+pub released-before : (s : ServerOf) (t k : ℕ) → 0 < period s.plan s.task → 1 ≤ k → k ≤ jobs_before s t → job_release s k < t
+unfolding release
+released-before s t k some first le =
+    let p = period s.plan s.task in
+    let span = t - offset s.plan s.task in
+    let low = div-mul-le_self (span + (p - 1)) p in
+    let most : k * p ≤ jobs_before s t * p = mul-le-mul_right p le in
+    let one : k * p ≡ (k - 1) * p + p = take-one k p first in
+    omega (arith, low, most, one)
+  where
+    take-one : (j q : ℕ) → 1 ≤ j → j * q ≡ (j - 1) * q + q
+    take-one zero q lt = absurd (omega arith)
+    take-one (suc j) q lt = let e : suc j - 1 ≡ j = omega arith in rw e (omega arith)
 
 -- Where all units up to and with a request have arrived by the release of each job after the first b, d jobs more take d
 -- times the budget, or reach the request.

@@ -6,7 +6,7 @@ use Rattle.sched_model.specs.Jobs.{due}
 use Rattle.done_lines.specs.DoneLines.{IsBy}
 use Rattle.poll_server.specs.declared.served.Outcome.{Outcome}
 use Rattle.poll_server.specs.declared.served.Outcome.TheVariants.{Served, Pending}
-use Rattle.poll_server.specs.Serving.{ServerOf, budget, request_count, arrival, asked_with, taken_up_to}
+use Rattle.poll_server.specs.Serving.{ServerOf, budget, job_release, request_count, arrival, asked_with, taken_up_to}
 use Rattle.poll_server.specs.Outcomes.{BelongsTo, ServedOf, outcome_at}
 
 -- how many jobs of the server are released before tick t: one for each period that begins between its offset and there
@@ -35,7 +35,10 @@ abbrev pub KeepsBound : ServerOf → ℕ → ServedOf → Type 0
 KeepsBound s ticks r =
     (m : ℕ) → m < request_count s → latest_end s m ≤ ticks → IsServedBy (latest_end s m) (outcome_at r.outcomes m)
 
--- each request belongs to a job, no later one than its latest, and a later request never to an earlier job
+-- The jobs before a tick are those that are released before it. Each request belongs to a job, no later one than its
+-- latest, and a later request never to an earlier job.
 pub record HaveJobs (s : ServerOf) : Type 0 where
+  pub before : (t k : ℕ) → 1 ≤ k → k ≤ jobs_before s t → job_release s k < t
+  pub after : (t k : ℕ) → jobs_before s t < k → t ≤ job_release s k
   pub each : (m : ℕ) → m < request_count s → (k : ℕ) × BelongsTo s m k × (1 ≤ k) × (k ≤ latest_job s m)
   pub in_order : (m n j k : ℕ) → m ≤ n → n < request_count s → BelongsTo s m j → BelongsTo s n k → j ≤ k
