@@ -11,7 +11,7 @@ use Rattle.energy_bound.specs.Certificates.{least_of}
 use Rattle.energy_bound.specs.FirstPairs.{low_corner, high_corner, least_energy_of}
 use Rattle.words.specs.Commands.{LeastOf, CommandOf, run, admit, replay, workload, least}
 use Rattle.rtdvs_top.specs.Answer.{machine_at}
-use Rattle.rtdvs_top.specs.LeastAnswer.{least_text, least_from, least_on, IsLeastOn, AreTooMany}
+use Rattle.rtdvs_top.specs.LeastAnswer.{least_text, least_from, least_on, IsLeastOn, LeastMetOn, AreTooMany}
 use Rattle.rtdvs_top.specs.CommandAnswer.{answer_of_command}
 use Rattle.rtdvs_top.specs.Promises.{OfLeast}
 use Rattle.rtdvs_top.specs.Ending.{EndsAs, MetIn}
@@ -20,6 +20,19 @@ use Rattle.rtdvs_top.specs.declared.status.Denied.TheVariants as denied
 use Rattle.rtdvs_top.specs.declared.status.Status.{Status}
 use Rattle.rtdvs_top.specs.declared.status.Status.TheVariants as status
 use Rattle.rtdvs_top.proofs.Denying.{is_given, denied-later, machine_at-denies-not}
+
+-- an answer that is the least is so whatever its writing ends with
+pub met-on : (m : Table) (l : LeastOf) (a : Least) (s : Status) → IsLeastOn m l a → LeastMetOn m l s
+met-on m l a status.Done h = (a, h)
+met-on m l a (status.NotAdmitted why) h = tt
+met-on m l a (status.Words why) h = tt
+met-on m l a (status.Load kind) h = tt
+met-on m l a (status.Text why) h = tt
+met-on m l a (status.Limit jobs) h = tt
+met-on m l a (status.OverWorst task job units worst) h = tt
+met-on m l a (status.Differs line wanted found) h = tt
+met-on m l a status.Write h = tt
+met-on m l a status.NoMemory h = tt
 
 -- the text of the answer is that of the least energy
 text-is : (l : LeastOf) (files : Files) (m : Table) (a : Least) (text : List ℕ) → machine_at l.machine files ≡ Ok m
