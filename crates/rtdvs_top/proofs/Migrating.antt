@@ -43,7 +43,7 @@ within-few p ticks bytes = go (nat_lt MOST_JOBS (released_jobs p ticks))
     go false e = refl
 
 module _ (p : Plan) (lim : IsWithinLimits p) (t : TraceOf) (ended : IsEnded t.notes) where
-  ends : EndsOnce is_end t.notes
+  pub ends : EndsOnce is_end t.notes
   ends = ended-once t.notes ended
 
   -- a trace that has totals passes the comparison

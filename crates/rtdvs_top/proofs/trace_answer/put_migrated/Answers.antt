@@ -1,0 +1,23 @@
+use Rattle.std.proofs.Common.{ℕ, List, Result, ap, subst, ◌∙◌}
+use Rattle.dvs_base.specs.declared.kind.Version.TheVariants.{Two}
+use Rattle.dvs_base.specs.declared.note.Note.{Note}
+use Rattle.sched_model.specs.Demands.{demand_of}
+use Rattle.trace_reader.specs.Traces.{TraceOf}
+use Rattle.replay_laws.specs.FixedDemands.{fixed_of}
+use Rattle.rtdvs_top.specs.Answer.{answer_of_plan}
+use Rattle.rtdvs_top.specs.Ending.{Ends}
+use Rattle.rtdvs_top.specs.declared.status.Status.{Status}
+use Rattle.rtdvs_top.proofs.Migrating.{migrated}
+use Rattle.rtdvs_top.proofs.trace_answer.put_migrated.Goals as goal
+
+pub returns-clause-ended : goal.returns-clause-ended
+returns-clause-ended g c =
+    let p = c.args.plan.now in
+    let d = c.in-Ok.demands in
+    let P : Result (List ℕ) Status → Type 0 = λ answer. Ends (g.W.Sink.shows c.args.out.now) (g.W.Sink.shows c.run_plan.new.out) answer c.run_plan.result in
+    let demands =
+    c.in-Ok.ensures.demands ∙ ap (λ (notes : List Note). demand_of p (fixed_of p notes)) c.deref.ensures.value
+    ∙ ap (λ (u : TraceOf). demand_of p (fixed_of p u.notes)) c.trace.view_is in
+    let wrote = subst (λ (u : TraceOf). P (answer_of_plan Two u.plan.governor d u.plan.ticks p)) c.trace.view_is c.run_plan.ensures.ended in
+    let text = migrated p c.known.ensures.limits c.args.trace.now c.requires.trace.ended c.requires.compared d demands c.requires.trace.scheduler in
+    subst P text wrote
