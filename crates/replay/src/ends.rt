@@ -93,11 +93,7 @@ fn fix(plan: &Admitted, note: &Note, demands: &mut Demands) -> Result<(), NoMemo
 }
 
 /// The demand list that notes fix, whose ends of jobs tell at most their worst cases. It fails only where memory runs out.
-pub fn fixed_demands(
-    alloc: Global,
-    plan: &Admitted,
-    notes: &[Note],
-) -> Result<Demands, NoMemory>
+pub fn fixed_demands(alloc: Global, plan: &Admitted, notes: &[Note]) -> Result<Demands, NoMemory>
     requires tasks { AllByRecursion (NamesTask (count plan.now)) notes.now }
     requires fit { first_over plan.now notes.now ≡ None }
     ensures list { IfOk result (IsListOf plan.now) }
