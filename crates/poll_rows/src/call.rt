@@ -46,14 +46,7 @@ impl<'a> Files<'a> {
         let mut out = MemSink::new(alloc, 4096, failing).map_err(|_| "out")?;
         let mut notes = MemSink::new(alloc, 4096, &[]).map_err(|_| "notes")?;
         let mut probes: Vec<Box<dyn Probe>> = Vec::new(alloc);
-        let status = rtdvs(
-            alloc,
-            &words,
-            &mut shelf,
-            &mut out,
-            &mut notes,
-            &mut probes,
-        );
+        let status = rtdvs(alloc, &words, &mut shelf, &mut out, &mut notes, &mut probes);
         Ok(Left {
             code: status.code(),
             out: Vec::from_slice(alloc, out.bytes())?,

@@ -51,7 +51,12 @@ fn numbers_are_read_exactly(rt: HostRuntime) -> Result<(), Fail> {
 
 #[test]
 fn units_have_limits(rt: HostRuntime) -> Result<(), Fail> {
-    with_requests("arrival,units\n1,0\n").refuses(&rt, POLL, 4, "requests: row 1: units out of range\n")?;
+    with_requests("arrival,units\n1,0\n").refuses(
+        &rt,
+        POLL,
+        4,
+        "requests: row 1: units out of range\n",
+    )?;
     with_requests("arrival,units\n1,1152921504606846977\n").refuses(
         &rt,
         POLL,

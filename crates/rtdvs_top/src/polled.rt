@@ -70,11 +70,7 @@ fn request_status(why: RequestFault) -> Status
 }
 
 // The requests of a file.
-fn load_requests<S: Shelf>(
-    alloc: Global,
-    name: &str,
-    shelf: &mut S,
-) -> Result<Requests, Status>
+fn load_requests<S: Shelf>(alloc: Global, name: &str, shelf: &mut S) -> Result<Requests, Status>
     ensures read { IfOk result (Gives (S.shows shelf.old).held (requests_at name.now)) }
     ensures refused { IfErr result (Refuses (S.shows shelf.old).held (requests_at name.now)) }
     ensures explained { IfErr result (IsLoadOf (S.shows shelf.old) (S.shows shelf.new) FileKind.Requests name.now) }
@@ -135,7 +131,14 @@ fn serve_governed<G: Publishing>(
         Ok(governor) => governor,
         Err(NoMemory) => return Err(Status::NoMemory),
     };
-    match poll(alloc, &polling.plan, polling.server, &polling.requests, governor, ticks) {
+    match poll(
+        alloc,
+        &polling.plan,
+        polling.server,
+        &polling.requests,
+        governor,
+        ticks,
+    ) {
         Ok(served) => Ok(served),
         Err(PollFault::TooManyJobs { count }) => Err(Status::Limit { jobs: count }),
         Err(PollFault::NoMemory) => Err(Status::NoMemory),

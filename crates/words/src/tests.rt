@@ -385,7 +385,8 @@ fn a_polling_names_its_server(rt: HostRuntime) -> Result<(), Fail> {
     assert!(rt; fault_of(alloc, files)? == missing(Opt::Requests));
     let no_server = "poll --tasks t --machine m --requests r --ticks 1";
     assert!(rt; fault_of(alloc, no_server)? == missing(Opt::Server));
-    let no_pair = "poll --tasks t --machine m --server s --requests r --scheduler rm --governor la --ticks 1";
+    let no_pair =
+        "poll --tasks t --machine m --server s --requests r --scheduler rm --governor la --ticks 1";
     assert!(rt; fault_of(alloc, no_pair)? == Some(WordFault::Pair));
     assert!(rt; fault_of(alloc, "poll --server ")? == bad_value(3, ""));
     assert!(rt; fault_of(alloc, "poll --requests ")? == bad_value(3, ""));
