@@ -1,10 +1,13 @@
 // Traces of made plans with random demands: replayed, migrated, and with one byte changed.
 ghost use Rattle.std.specs.Prelude.{◌≤◌, ◌<◌};
+ghost use Rattle.demand_list.specs.Demands.{HasWorstsOf};
 
 use crate::call::Files;
 use crate::changed;
+use demand_list::Demands;
 use std::alloc::Global;
 use std::test::Fail;
+use task_model::TaskSet;
 use workload::make;
 
 const REPLAY: &str = "replay --tasks T --machine M --trace R";
@@ -43,8 +46,10 @@ struct MadeFiles {
     demands: String,
 }
 
-fn made_files(alloc: Global, seed: u64) -> Result<MadeFiles, Fail> {
-    let (tasks, _, demands) = make(alloc, seed, 3).map_err(|_| "workload")?;
+// The rows of a demand file for the first four jobs of each task.
+fn demand_rows(alloc: Global, tasks: &TaskSet, demands: &Demands) -> Result<String, Fail>
+    requires { HasWorstsOf tasks.now demands.now }
+{
     let mut rows = String::from_str(alloc, "task,job,units\n")?;
     for i in 0..tasks.count() {
         let name = tasks.task(i).name;
@@ -54,6 +59,12 @@ fn made_files(alloc: Global, seed: u64) -> Result<MadeFiles, Fail> {
             rows.push_str(&format!(in alloc; "{name},{job},{units}\n")?)?;
         }
     }
+    Ok(rows)
+}
+
+fn made_files(alloc: Global, seed: u64) -> Result<MadeFiles, Fail> {
+    let (tasks, _, demands) = make(alloc, seed, 3).map_err(|_| "workload")?;
+    let rows = demand_rows(alloc, &tasks, &demands)?;
     let text = tasks.write(alloc).map_err(|_| "tasks")?;
     Ok(MadeFiles {
         tasks: text,
@@ -92,9 +103,9 @@ fn replayed_line(alloc: Global, trace: &[u8]) -> Result<String, Fail> {
     let mut energies = "";
     for line in text.split('\n') {
         if line.starts_with("release ") {
-            releases += 1;
+            releases = releases.saturating_add(1);
         } else if line.starts_with("done ") {
-            ends += 1;
+            ends = ends.saturating_add(1);
         } else if let Some(rest) = line.strip_prefix("end 100 ") {
             energies = rest;
         }
