@@ -1,6 +1,9 @@
 // Pollings that are refused, each with its line.
 use crate::call::Files;
 use crate::rows::{MACHINE, SHORT, TASKS};
+use dvs_base::LONGEST_FILE;
+use request_list::MOST_REQUESTS;
+use std::alloc::Global;
 use std::test::Fail;
 
 const POLL: &str =
@@ -77,7 +80,34 @@ fn the_test_of_the_scheduler_comes_after_the_requests(rt: HostRuntime) -> Result
         machine: MACHINE,
         requests: "arrival,units\n0,1\n",
     };
-    heavy.refuses(&rt, POLL, 1, "denied edf 42 40\n")
+    heavy.refuses(&rt, POLL, 1, "denied edf 42 40\n")?;
+    let broken = Files {
+        tasks: heavy.tasks,
+        machine: MACHINE,
+        requests: "arrival,units\n0,0\n",
+    };
+    broken.refuses(&rt, POLL, 4, "requests: row 1: units out of range\n")
+}
+
+// A request file of so many equal rows.
+fn rows_of(alloc: Global, count: u64) -> Result<String, Fail> {
+    let mut text = String::from_str(alloc, "arrival,units\n")?;
+    for _ in 0..count {
+        text.push_str("0,1\n")?;
+    }
+    Ok(text)
+}
+
+#[test]
+fn rows_have_a_limit(rt: HostRuntime) -> Result<(), Fail> {
+    let text = rows_of(rt.alloc(), MOST_REQUESTS as u64 + 1)?;
+    with_requests(text.as_str()).refuses(&rt, POLL, 4, "requests: 100001 rows, at most 100000\n")
+}
+
+#[test]
+fn a_file_of_requests_has_a_length(rt: HostRuntime) -> Result<(), Fail> {
+    let text = rows_of(rt.alloc(), LONGEST_FILE / 4)?;
+    with_requests(text.as_str()).refuses(&rt, POLL, 4, "requests: too long\n")
 }
 
 #[test]
