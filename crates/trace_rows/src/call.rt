@@ -35,14 +35,14 @@ impl<'a> Files<'a> {
 
     fn shelf(self, alloc: Global) -> Result<MemShelf, Fail> {
         let mut shelf = MemShelf::new(alloc, &[]).map_err(|_| "shelf")?;
-        for (name, bytes) in [
-            ("T", self.tasks.as_bytes()),
-            ("M", self.machine.as_bytes()),
-            ("D", self.demands.as_bytes()),
-            ("R", self.trace),
-        ] {
-            shelf.add(name, bytes).map_err(|_| "file")?;
-        }
+        shelf.add("T", self.tasks.as_bytes()).map_err(|_| "tasks")?;
+        shelf
+            .add("M", self.machine.as_bytes())
+            .map_err(|_| "machine")?;
+        shelf
+            .add("D", self.demands.as_bytes())
+            .map_err(|_| "demands")?;
+        shelf.add("R", self.trace).map_err(|_| "trace")?;
         Ok(shelf)
     }
 
