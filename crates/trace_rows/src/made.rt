@@ -1,10 +1,8 @@
 // Traces of made plans with random demands: replayed, migrated, and with one byte changed.
 ghost use Rattle.std.specs.Prelude.{◌≤◌, ◌<◌};
-ghost use Rattle.demand_list.specs.Demands.{HasWorstsOf};
 
 use crate::call::Files;
 use crate::changed;
-use demand_list::Demands;
 use std::alloc::Global;
 use std::test::Fail;
 use task_model::TaskSet;
@@ -39,32 +37,45 @@ point = [
 ]
 ";
 
-// The task and demand files of a made workload of three tasks.
+// The task file of a made workload of three tasks, and demands of its first jobs.
 #[derive(Drop)]
 struct MadeFiles {
     tasks: String,
     demands: String,
 }
 
-// The rows of a demand file for the first four jobs of each task.
-fn demand_rows(alloc: Global, tasks: &TaskSet, demands: &Demands) -> Result<String, Fail>
-    requires { HasWorstsOf tasks.now demands.now }
+// Adds the rows of a task's first four jobs, each with fewer units than its worst case.
+fn add_rows(
+    alloc: Global,
+    rows: &mut String,
+    name: &str,
+    worst: u64,
+    draws: &mut Draws,
+) -> Result<(), Fail>
+    requires { 1 ≤ worst }
 {
+    for job in 1..5 {
+        let units = draws.below(worst);
+        rows.push_str(&format!(in alloc; "{name},{job},{units}\n")?)?;
+    }
+    Ok(())
+}
+
+// The rows of a demand file for the first jobs of each task.
+fn demand_rows(alloc: Global, tasks: &TaskSet, seed: u64) -> Result<String, Fail> {
+    let mut draws = Draws { state: seed };
     let mut rows = String::from_str(alloc, "task,job,units\n")?;
     for i in 0..tasks.count() {
-        let name = tasks.task(i).name;
-        let name = std::str::from_utf8(name.as_bytes()).map_err(|_| "name")?;
-        for job in 1..5 {
-            let units = demands.units(i, job);
-            rows.push_str(&format!(in alloc; "{name},{job},{units}\n")?)?;
-        }
+        let task = tasks.task(i);
+        let name = std::str::from_utf8(task.name.as_bytes()).map_err(|_| "name")?;
+        add_rows(alloc, &mut rows, name, task.worst, &mut draws)?;
     }
     Ok(rows)
 }
 
 fn made_files(alloc: Global, seed: u64) -> Result<MadeFiles, Fail> {
-    let (tasks, _, demands) = make(alloc, seed, 3).map_err(|_| "workload")?;
-    let rows = demand_rows(alloc, &tasks, &demands)?;
+    let (tasks, _, _) = make(alloc, seed, 3).map_err(|_| "workload")?;
+    let rows = demand_rows(alloc, &tasks, seed)?;
     let text = tasks.write(alloc).map_err(|_| "tasks")?;
     Ok(MadeFiles {
         tasks: text,
@@ -100,14 +111,14 @@ fn replayed_line(alloc: Global, trace: &[u8]) -> Result<String, Fail> {
     let text = std::str::from_utf8(trace).map_err(|_| "text")?;
     let mut releases = 0u64;
     let mut ends = 0u64;
-    let mut energies = "";
+    let mut energies = String::new(alloc);
     for line in text.split('\n') {
         if line.starts_with("release ") {
             releases = releases.saturating_add(1);
         } else if line.starts_with("done ") {
             ends = ends.saturating_add(1);
         } else if let Some(rest) = line.strip_prefix("end 100 ") {
-            energies = rest;
+            energies = String::from_str(alloc, rest)?;
         }
     }
     Ok(format!(in alloc; "replayed {releases} {ends} {energies}\n")?)
