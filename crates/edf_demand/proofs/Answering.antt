@@ -1,19 +1,52 @@
 -- What the lowest entry that meets the constrained demand does.
-use Rattle.std.proofs.Common.{◌≡◌, inl, inr, ℕ, ◌*◌, ◌^◌, ◌<◌, ◌≤◌, Bool, true, false, length, refl, sym, ◌∙◌, ap, subst, arith, true≢false}
+use Rattle.std.proofs.Common.{◌≡◌, inl, inr, ℕ, ◌*◌, ◌^◌, ◌<◌, ◌≤◌, nat_lt, Bool, true, false, length, Ok, Err, refl, sym, ◌∙◌, ap, subst, arith, true≢false}
 use Rattle.std.proofs.Math.Nat.{mul-le-mul_right}
 use Rattle.std.proofs.lemmas.Bool.{cases_lt, le-leb, leb-true}
+use Rattle.std.proofs.lemmas.Bool.Decides.{nat_tests}
+use Rattle.dvs_base.specs.declared.limits.TheConstants.{MOST_JOBS}
+use Rattle.offsets.specs.Offsets.{NoneOffset, IsFirstOffset}
+use Rattle.offsets.proofs.Finding.{none-found, first-found}
 use Rattle.grid_fraction.specs.declared.Frac.{Frac}
 use Rattle.grid_fraction.specs.Fraction.{meets}
 use Rattle.grid_fraction.proofs.Searches.{any_below-none, any_below-false}
 use Rattle.freq_table.specs.declared.machine.Pick.{Pick}
 use Rattle.freq_table.specs.Tables.{Table, IsTable, speed_at, last_entry, highest_speed, lowest_entry, lowest_pick}
 use Rattle.freq_table.proofs.Chosen.{below_highest, lowest_within, lowest-most, picked_meets}
-use Rattle.sched_model.specs.Plan.{Plan, top_speed}
+use Rattle.sched_model.specs.Plan.{Plan, count, offset, top_speed}
 use Rattle.sched_model.specs.Admission.{IsWithinLimits}
 use Rattle.edf_demand_laws.specs.Constrained.{IsConstrained}
-use Rattle.edf_demand_laws.specs.ProcessorDemand.{IsConstrainedDemand}
+use Rattle.edf_demand_laws.specs.ProcessorDemand.{IsConstrainedDemand, constrained_demand}
 use Rattle.edf_demand_laws.proofs.Deciding.{meets-always, misses-at-worst}
-use Rattle.edf_demand.specs.Answers.{IsTested, IsLowestSpeed, IsOverload}
+use Rattle.edf_demand.specs.declared.lowest_speed.ConstrainFault.TheVariants.{Offset, TooManyJobs, Denied}
+use Rattle.edf_demand.specs.Answers.{IsTested, IsLowestSpeed, IsOverload, hyper_jobs, pick_answer, demand_answer, answer_from, constrain_answer}
+
+module _ (p : Plan) (relative : ℕ → ℕ) where
+  pub answer-offset : (i : ℕ) → IsFirstOffset (offset p) (count p) i → constrain_answer p relative ≡ Err (Offset i)
+  answer-offset i first = ap (answer_from p relative) (first-found (offset p) (count p) i first)
+
+  module _ (none : NoneOffset (offset p) (count p)) where
+    pub answer-too_many : (jobs : ℕ) → jobs ≡ hyper_jobs p.tasks → MOST_JOBS < jobs
+        → constrain_answer p relative ≡ Err (TooManyJobs jobs)
+    answer-too_many jobs are many =
+        let over : nat_lt MOST_JOBS (hyper_jobs p.tasks) ≡ true = grind (arith, nat_tests) in
+        ap (answer_from p relative) (none-found (offset p) (count p) none)
+        ∙ (rw over refl ∙ ap (λ n. Err (TooManyJobs n)) (sym are))
+
+    module _ (few : hyper_jobs p.tasks ≤ MOST_JOBS) (demand : Frac) (is : demand ≡ constrained_demand p relative) where
+      looked_at : constrain_answer p relative ≡ demand_answer p demand
+      looked_at =
+          let under : nat_lt MOST_JOBS (hyper_jobs p.tasks) ≡ false = grind (arith, nat_tests) in
+          ap (answer_from p relative) (none-found (offset p) (count p) none)
+          ∙ (rw under refl ∙ ap (demand_answer p) (sym is))
+
+      pub answer-met : (e : ℕ) → lowest_pick p.machine demand ≡ (record { index = e; met = true })
+          → constrain_answer p relative ≡ Ok (record { demand = demand; point = e })
+      answer-met e pick = looked_at ∙ ap (pick_answer p demand) pick
+
+      pub answer-denied : (cap : ℕ) → cap ≡ top_speed p * demand.den → (lowest_pick p.machine demand).met ≡ false
+          → constrain_answer p relative ≡ Err (Denied demand.den demand.num cap)
+      answer-denied cap cap_is met =
+          looked_at ∙ (rw met refl ∙ ap (λ n. Err (Denied demand.den demand.num n)) (sym cap_is))
 
 -- where the highest speed doesn't meet a demand, no entry does
 none-meets : (m : Table) → IsTable m → (d : Frac) → highest_speed m * d.den < d.num → (lowest_pick m d).met ≡ false

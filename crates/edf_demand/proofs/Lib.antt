@@ -1,5 +1,6 @@
 pub mod Limits
 pub mod GivenDeadlines
+pub mod Calendars
 pub mod Taking
 pub mod NextDeadline
 pub mod Walking

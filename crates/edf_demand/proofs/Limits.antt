@@ -1,5 +1,5 @@
 -- Deadlines for tasks without offsets are constrained.
-use Rattle.std.proofs.Common.{◌≡◌, ℕ, List, length, slice_index, subst, sym}
+use Rattle.std.proofs.Common.{ℕ, List, length, slice_index}
 use Rattle.dvs_base.specs.declared.kind.Scheduler.TheVariants.{Edf}
 use Rattle.task_model.specs.declared.task.Task.{Task}
 use Rattle.task_model.specs.Tasks.{task_at}

@@ -1,5 +1,5 @@
 -- The walk finds the constrained demand.
-use Rattle.std.proofs.Common.{◌≡◌, ◌⊎◌, inl, inr, ℕ, zero, suc, ◌+◌, ◌*◌, ◌/◌, ◌^◌, ◌<◌, ◌≤◌, Bool, true, false, List, length, slice_index, nat_eq, if◌then◌else◌, refl, sym, ◌∙◌, ap, subst, arith, eq-or-lt_of_le}
+use Rattle.std.proofs.Common.{◌≡◌, ◌⊎◌, inl, inr, ℕ, zero, suc, ◌+◌, ◌*◌, ◌/◌, ◌^◌, ◌<◌, ◌≤◌, Bool, true, false, nat_eq, if◌then◌else◌, refl, sym, ◌∙◌, ap, subst, arith, eq-or-lt_of_le}
 use Rattle.std.proofs.Math.Nat.{mul-le-mul_left, mul-le-mul_right}
 use Rattle.std.proofs.lemmas.Bool.{cases_lt, eqb-true, eqb-false, ltb-true, ltb-false}
 use Rattle.dvs_base.specs.declared.limits.TheConstants.{MOST_JOBS}
@@ -44,11 +44,10 @@ pub record IsBusiest (p : Plan) (relative : ℕ → ℕ) (t : ℕ) (best : Frac)
       → processor_demand p relative d * best.den < best.num * d
 
 -- the next deadlines of the tasks, the first of them, the work due before it, and where that was greatest
-pub record Walking (p : Plan) (relative : ℕ → ℕ) (next : List ℕ) (now work : ℕ) (best : Frac) : Type 0 where
+pub record Walking (p : Plan) (relative : ℕ → ℕ) (next : ℕ → ℕ) (now work : ℕ) (best : Frac) : Type 0 where
   pub taken : ℕ
-  pub one_each : length next ≡ count p
-  pub nexts : (i : ℕ) → i < count p → slice_index next i ≡ next_deadline p relative taken i
-  pub now_is : now ≡ least_below (count p) (slice_index next)
+  pub nexts : (i : ℕ) → i < count p → next i ≡ next_deadline p relative taken i
+  pub now_is : now ≡ least_below (count p) next
   pub work_is : work ≡ processor_demand p relative taken
   pub busiest : IsBusiest p relative taken best
   pub within : taken ≤ hyper p
@@ -133,11 +132,10 @@ module _ (p : Plan) (lim : IsWithinLimits p) (relative : ℕ → ℕ) (con : IsC
   }
 
   -- before it, each task is at its first deadline, and nothing is due
-  pub walk-start : (next : List ℕ) → length next ≡ count p → ((i : ℕ) → i < count p → slice_index next i ≡ relative i)
-      → Walking p relative next (least_below (count p) (slice_index next)) 0 (record { num = 0; den = 1 })
-  walk-start next long same = record {
+  pub walk-start : (next : ℕ → ℕ) → ((i : ℕ) → i < count p → next i ≡ relative i)
+      → Walking p relative next (least_below (count p) next) 0 (record { num = 0; den = 1 })
+  walk-start next same = record {
     taken = 0;
-    one_each = long;
     nexts = λ i lt.
         let none : due_by 0 i ≤ 0 =
         jobs_due-most (period p i) (relative i) 0 0 (λ r le. absurd (omega (arith, con.some i lt))) in
@@ -150,24 +148,24 @@ module _ (p : Plan) (lim : IsWithinLimits p) (relative : ℕ → ℕ) (con : IsC
     within = omega arith;
   }
 
-  module _ (next : List ℕ) (now work : ℕ) (best : Frac) (w : Walking p relative next now work best) where
+  module _ (next : ℕ → ℕ) (now work : ℕ) (best : Frac) (w : Walking p relative next now work best) where
     now-first : (i : ℕ) → i < count p → now ≤ next_deadline p relative w.taken i
-    now-first i lt = omega (arith, w.now_is, w.nexts i lt, least-below (count p) (slice_index next) i lt)
+    now-first i lt = omega (arith, w.now_is, w.nexts i lt, least-below (count p) next i lt)
 
     pub now-later : w.taken < now
     now-later =
-        let each : (i : ℕ) → i < count p → w.taken + 1 ≤ slice_index next i =
+        let each : (i : ℕ) → i < count p → w.taken + 1 ≤ next i =
         λ i lt.
         let later = next-later (period p i) (relative i) (periods i) w.taken in
         omega (arith, later, w.nexts i lt) in
-        let above : w.taken + 1 ≤ least_below (count p) (slice_index next) =
-        least-above (count p) (slice_index next) (w.taken + 1) (some_task p lim) each in
+        let above : w.taken + 1 ≤ least_below (count p) next =
+        least-above (count p) next (w.taken + 1) (some_task p lim) each in
         omega (arith, above, w.now_is)
 
     -- the tick is an absolute deadline, and there is none between the last one and it
     now-deadline : IsDeadline p relative now
     now-deadline =
-        let r = least-found (count p) (slice_index next) (some_task p lim) in
+        let r = least-found (count p) next (some_task p lim) in
         let jobs = due_by w.taken r.0 in
         let place = absolute-suc p relative r.0 jobs (con.first r.0 r.1) in
         record {
@@ -197,15 +195,15 @@ module _ (p : Plan) (lim : IsWithinLimits p) (relative : ℕ → ℕ) (con : IsC
 
     -- by it, the jobs that are due at it are due too
     due-is : (i : ℕ) → i < count p
-        → due_by now i ≡ due_by w.taken i + (if nat_eq (slice_index next i) now then 1 else 0)
-    due-is i lt = go (nat_eq (slice_index next i) now) refl
+        → due_by now i ≡ due_by w.taken i + (if nat_eq (next i) now then 1 else 0)
+    due-is i lt = go (nat_eq (next i) now) refl
       where
-        go : (b : Bool) → nat_eq (slice_index next i) now ≡ b → due_by now i ≡ due_by w.taken i + (if b then 1 else 0)
+        go : (b : Bool) → nat_eq (next i) now ≡ b → due_by now i ≡ due_by w.taken i + (if b then 1 else 0)
         go true e =
-            let same = eqb-true (slice_index next i) now e in
+            let same = eqb-true (next i) now e in
             due-now (period p i) (relative i) (periods i) w.taken now (omega (arith, same, w.nexts i lt))
         go false e =
-            let other : slice_index next i ≡ now → ⊥ = eqb-false (slice_index next i) now e in
+            let other : next i ≡ now → ⊥ = eqb-false (next i) now e in
             let before : now < next_deadline p relative w.taken i = (elim (eq-or-lt_of_le (now-first i lt)) [
               | inl same ↦ absurd (other (omega (arith, same, w.nexts i lt)))
               | inr less ↦ less
@@ -213,14 +211,14 @@ module _ (p : Plan) (lim : IsWithinLimits p) (relative : ℕ → ℕ) (con : IsC
             let same = due-later (period p i) (relative i) (periods i) w.taken now (omega (arith, now-later)) before in
             omega (arith, same)
 
-    pub work-next : work + sum_where (count p) (λ i. nat_eq (slice_index next i) now) (worst p)
+    pub work-next : work + sum_where (count p) (λ i. nat_eq (next i) now) (worst p)
         ≡ processor_demand p relative now
     work-next =
         let n = count p in
-        let here : ℕ → ℕ = λ i. if nat_eq (slice_index next i) now then worst p i else 0 in
+        let here : ℕ → ℕ = λ i. if nat_eq (next i) now then worst p i else 0 in
         let whole = sum_below-add n (work_due p relative w.taken) here in
         let task : (i : ℕ) → i < n → work_due p relative w.taken i + here i ≡ work_due p relative now i =
-        λ i lt. rw (due-is i lt) (counted (nat_eq (slice_index next i) now) (due_by w.taken i) (worst p i)) in
+        λ i lt. rw (due-is i lt) (counted (nat_eq (next i) now) (due_by w.taken i) (worst p i)) in
         let each : sum_below n (λ i. work_due p relative w.taken i + here i) ≡ processor_demand p relative now =
         sum_below-same n (λ i. work_due p relative w.taken i + here i) (work_due p relative now) task in
         omega (arith, whole, each, w.work_is)
@@ -279,23 +277,22 @@ module _ (p : Plan) (lim : IsWithinLimits p) (relative : ℕ → ℕ) (con : IsC
     }
 
     -- the walk goes on
-    pub walk-on : (after : List ℕ) (then-best : Frac) → now ≤ hyper p → length after ≡ count p → Moved p next now after
+    pub walk-on : (after : ℕ → ℕ) (then-best : Frac) → now ≤ hyper p → Moved p next now after
         → IsBusiest p relative now then-best
-        → Walking p relative after (least_below (count p) (slice_index after)) (h now) then-best
-    walk-on after then-best le long moved is = record {
+        → Walking p relative after (least_below (count p) after) (h now) then-best
+    walk-on after then-best le moved is = record {
       taken = now;
-      one_each = long;
-      nexts = λ i lt. moved i lt ∙ follows i lt (nat_eq (slice_index next i) now) refl;
+      nexts = λ i lt. moved i lt ∙ follows i lt (nat_eq (next i) now) refl;
       now_is = refl;
       work_is = refl;
       busiest = is;
       within = le;
     }
       where
-        follows : (i : ℕ) → i < count p → (b : Bool) → nat_eq (slice_index next i) now ≡ b
-            → (if b then now + period p i else slice_index next i) ≡ next_deadline p relative now i
+        follows : (i : ℕ) → i < count p → (b : Bool) → nat_eq (next i) now ≡ b
+            → (if b then now + period p i else next i) ≡ next_deadline p relative now i
         follows i lt true e =
-            let same = eqb-true (slice_index next i) now e in
+            let same = eqb-true (next i) now e in
             let more : due_by now i ≡ due_by w.taken i + 1 =
             due-now (period p i) (relative i) (periods i) w.taken now (omega (arith, same, w.nexts i lt)) in
             let product : due_by now i * period p i ≡ (due_by w.taken i + 1) * period p i =
@@ -310,41 +307,37 @@ module _ (p : Plan) (lim : IsWithinLimits p) (relative : ℕ → ℕ) (con : IsC
             omega (arith, w.nexts i lt, product)
 
     -- each task's next deadline is later than the tick
-    pub goes-on : (after : List ℕ) (then_now : ℕ) → length after ≡ count p → Moved p next now after
-        → then_now ≡ least_below (length after) (slice_index after) → now < then_now
-    goes-on after then_now long moved e =
-        let each : (i : ℕ) → i < count p → now + 1 ≤ slice_index after i =
+    pub goes-on : (after : ℕ → ℕ) (then_now : ℕ) → Moved p next now after → then_now ≡ least_below (count p) after
+        → now < then_now
+    goes-on after then_now moved e =
+        let each : (i : ℕ) → i < count p → now + 1 ≤ after i =
         λ i lt.
-        subst (λ (m : ℕ). now + 1 ≤ m) (sym (moved i lt)) (beyond i lt (nat_eq (slice_index next i) now) refl) in
-        let above : now + 1 ≤ least_below (count p) (slice_index after) =
-        least-above (count p) (slice_index after) (now + 1) (some_task p lim) each in
-        let same : then_now ≡ least_below (count p) (slice_index after) =
-        e ∙ ap (λ (n : ℕ). least_below n (slice_index after)) long in
-        omega (arith, above, same)
+        subst (λ (m : ℕ). now + 1 ≤ m) (sym (moved i lt)) (beyond i lt (nat_eq (next i) now) refl) in
+        let above : now + 1 ≤ least_below (count p) after =
+        least-above (count p) after (now + 1) (some_task p lim) each in
+        omega (arith, above, e)
       where
-        beyond : (i : ℕ) → i < count p → (b : Bool) → nat_eq (slice_index next i) now ≡ b
-            → now + 1 ≤ (if b then now + period p i else slice_index next i)
+        beyond : (i : ℕ) → i < count p → (b : Bool) → nat_eq (next i) now ≡ b
+            → now + 1 ≤ (if b then now + period p i else next i)
         beyond i lt true e = omega (arith, periods i)
         beyond i lt false e =
-            let other : slice_index next i ≡ now → ⊥ = eqb-false (slice_index next i) now e in
+            let other : next i ≡ now → ⊥ = eqb-false (next i) now e in
             elim (eq-or-lt_of_le (now-first i lt)) [
               | inl same ↦ absurd (other (omega (arith, same, w.nexts i lt)))
               | inr less ↦ omega (arith, less, w.nexts i lt)
             ]
 
     -- a step of the walk, whether the demand at the tick is the greatest so far or not
-    module _ (few : hyper_jobs p.tasks ≤ MOST_JOBS) (le : now ≤ hyper p) (after : List ℕ) (then_now sum den : ℕ)
-        (long : length after ≡ count p) (moved : Moved p next now after)
-        (then_is : then_now ≡ least_below (length after) (slice_index after)) (sum_is : sum ≡ h now)
+    module _ (few : hyper_jobs p.tasks ≤ MOST_JOBS) (le : now ≤ hyper p) (after : ℕ → ℕ) (then_now sum den : ℕ)
+        (moved : Moved p next now after) (then_is : then_now ≡ least_below (count p) after) (sum_is : sum ≡ h now)
         (den_is : den ≡ now) where
       here-is : (then-best : Frac) → IsBusiest p relative now then-best
           → Walking p relative after then_now sum then-best
       here-is then-best is =
-          let least : ℕ = least_below (count p) (slice_index after) in
-          let same : then_now ≡ least = then_is ∙ ap (λ (n : ℕ). least_below n (slice_index after)) long in
-          subst (λ (n : ℕ). Walking p relative after n sum then-best) (sym same)
+          let least : ℕ = least_below (count p) after in
+          subst (λ (n : ℕ). Walking p relative after n sum then-best) (sym then_is)
           (subst (λ (n : ℕ). Walking p relative after least n then-best) (sym sum_is)
-          (walk-on after then-best le long moved is))
+          (walk-on after then-best le moved is))
 
       abbrev here : Frac
       here = record { num = sum; den = den }

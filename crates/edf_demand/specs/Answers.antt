@@ -1,13 +1,15 @@
 -- What the test of deadlines below periods answers.
-use Rattle.std.specs.Prelude.{◌≡◌, ℕ, ◌*◌, ◌/◌, ◌<◌, ◌≤◌, List, length}
+use Rattle.std.specs.Prelude.{◌≡◌, ⊤, ℕ, ◌*◌, ◌/◌, ◌<◌, ◌≤◌, nat_lt, List, length, Option, Some, None, Result, Ok, Err, if◌then◌else◌}
 use Rattle.dvs_base.specs.declared.limits.TheConstants.{MOST_JOBS}
 use Rattle.grid_fraction.specs.Numbers.{sum_below}
-use Rattle.freq_table.specs.Tables.{speed_at, last_entry}
+use Rattle.grid_fraction.specs.declared.Frac.{Frac}
+use Rattle.freq_table.specs.declared.machine.Pick.{Pick}
+use Rattle.freq_table.specs.Tables.{speed_at, last_entry, lowest_pick}
 use Rattle.task_model.specs.declared.task.Task.{Task}
 use Rattle.task_model.specs.Tasks.{hyper_of, task_at}
-use Rattle.offsets.specs.Offsets.{NoneOffset, IsFirstOffset}
+use Rattle.offsets.specs.Offsets.{NoneOffset, IsFirstOffset, first_offset}
 use Rattle.sched_model.specs.Plan.{Plan, count, offset, top_speed}
-use Rattle.edf_demand_laws.specs.ProcessorDemand.{IsConstrainedDemand}
+use Rattle.edf_demand_laws.specs.ProcessorDemand.{IsConstrainedDemand, constrained_demand}
 use Rattle.edf_demand_laws.specs.Deciding.{MeetsAlways, MissesAtWorst}
 use Rattle.edf_demand.specs.declared.lowest_speed.Constrained.{Constrained}
 use Rattle.edf_demand.specs.declared.lowest_speed.ConstrainFault.{ConstrainFault}
@@ -47,3 +49,33 @@ IsConstrainDenial p relative (Offset task) = IsFirstOffset (offset p) (count p) 
 IsConstrainDenial p relative (TooManyJobs jobs) = IsTooLong p jobs
 IsConstrainDenial p relative (Denied at num cap) = IsOverload p relative at num cap
 IsConstrainDenial p relative NoMemory = IsTested p
+
+-- the numbers of a refusal are such that they are its cause
+abbrev pub IsShownDenial : ConstrainFault → Type 0
+IsShownDenial (TooManyJobs jobs) = MOST_JOBS < jobs
+IsShownDenial (Denied at num cap) = cap < num
+IsShownDenial e = ⊤
+
+-- the demand with the entry that was picked, where this meets it, and else the denial
+abbrev pub pick_answer : Plan → Frac → Pick → Result Constrained ConstrainFault
+pick_answer p demand pick =
+    if pick.met
+    then Ok (record { demand = demand; point = pick.index })
+    else Err (Denied demand.den demand.num (top_speed p * demand.den))
+
+-- the constrained demand with the lowest entry that meets it
+abbrev pub demand_answer : Plan → Frac → Result Constrained ConstrainFault
+demand_answer p demand = pick_answer p demand (lowest_pick p.machine demand)
+
+-- the answer, by the first task with an offset
+abbrev pub answer_from : Plan → (ℕ → ℕ) → Option ℕ → Result Constrained ConstrainFault
+answer_from p relative (Some i) = Err (Offset i)
+answer_from p relative None =
+    if nat_lt MOST_JOBS (hyper_jobs p.tasks)
+    then Err (TooManyJobs (hyper_jobs p.tasks))
+    else demand_answer p (constrained_demand p relative)
+
+-- What the test answers: the first task in file order with an offset; where none has one, that a hyperperiod has too many
+-- jobs; and else the constrained demand with the lowest entry that meets it, or that none does.
+abbrev pub constrain_answer : Plan → (ℕ → ℕ) → Result Constrained ConstrainFault
+constrain_answer p relative = answer_from p relative (first_offset (offset p) (count p))

@@ -1,18 +1,19 @@
-// The walk over the absolute deadlines of one hyperperiod.
-ghost use Rattle.std.specs.Prelude.{◌≡◌, ◌+◌, ◌*◌, ◌<◌, ◌≤◌, ◌^◌, length, slice_index, nat_eq, IfOk};
+// The walk over the absolute deadlines of one hyperperiod. The tasks stand in a queue by their next ones.
+ghost use Rattle.std.specs.Prelude.{ℕ, ◌≡◌, ◌+◌, ◌*◌, ◌<◌, ◌≤◌, ◌^◌, length, slice_index, nat_eq, IfOk};
 ghost use Rattle.dvs_base.specs.declared.kind.Scheduler.TheVariants.{Edf};
 ghost use Rattle.grid_fraction.specs.Numbers.{least_below, sum_where};
-ghost use Rattle.sched_model.specs.Plan.{plan_of, worst, hyper};
+ghost use Rattle.sched_model.specs.Plan.{plan_of, worst};
 ghost use Rattle.dvs_base.specs.declared.limits.TheConstants.{MOST_JOBS};
 ghost use Rattle.task_model.specs.declared.limits.TheConstants.{LONGEST_HYPERPERIOD};
 ghost use Rattle.edf_demand_laws.specs.Constrained.{IsConstrained};
 ghost use Rattle.edf_demand_laws.specs.ProcessorDemand.{IsConstrainedDemand};
 ghost use Rattle.edf_demand.specs.Answers.{hyper_jobs};
-ghost use Rattle.edf_demand.specs.Walk.{Moved};
+ghost use Rattle.edf_demand.specs.Walk.{due_of, IsCalendar, Moved, TakesFirst};
 
 use dvs_base::NoMemory;
 use freq_table::Machine;
 use grid_fraction::{Frac, greater};
+use ready_queue::{ByDue, Entry, Queue};
 use std::alloc::Global;
 use task_model::TaskSet;
 
@@ -36,61 +37,84 @@ fn worst(tasks: &TaskSet, machine: &Machine, task: u32) -> u64
     tasks.task(task).worst + 2 * machine.charge()
 }
 
-// The earliest of the ticks.
-fn earliest(ticks: &[u64]) -> u64
-    requires { 1 ≤ length ticks.now }
-    ensures { result ≡ least_below (length ticks.now) (slice_index ticks.now) }
+// The tasks by their first absolute deadlines, the relative ones.
+fn first_deadlines(
+    alloc: Global,
+    tasks: &TaskSet,
+    deadlines: &[u64],
+) -> Result<Queue<ByDue>, NoMemory>
+    requires one_each { length deadlines.now ≡ length tasks.now }
+    requires some { (i : ℕ) → i < length tasks.now → 1 ≤ slice_index deadlines.now i }
+    ensures one_each { IfOk result (λ q. q.limit ≡ length tasks.now) }
+    ensures calendar { IfOk result IsCalendar }
+    ensures deadlines { IfOk result (λ q.
+        (i : ℕ) → i < length tasks.now → due_of q.entries i ≡ slice_index deadlines.now i) }
 {
-    let mut least = ticks[0];
-    for i in 1..ticks.len() {
-        least = least.min(ticks[i]);
+    let mut next = Queue::new(alloc, tasks.count(), ByDue)?;
+    for task in 0..tasks.count() {
+        next.insert(Entry {
+            task,
+            due: deadlines[task as usize],
+            period: tasks.task(task).period,
+        });
     }
-    least
+    Ok(next)
+}
+
+// The earliest of the tasks' next deadlines.
+fn earliest(next: &Queue<ByDue>) -> u64
+    requires { IsCalendar next.now }
+    ensures { result ≡ least_below next.now.limit (due_of next.now.entries) }
+{
+    match next.first() {
+        Some(job) => job.due,
+        None => 0,
+    }
+}
+
+// Takes the first job: its task's next deadline is a period later. Its work is returned.
+fn take_first(next: &mut Queue<ByDue>, tasks: &TaskSet, machine: &Machine) -> u64
+    requires one_each { next.old.limit ≡ length tasks.now }
+    requires calendar { IsCalendar next.old }
+    requires low { least_below next.old.limit (due_of next.old.entries) ≤ LONGEST_HYPERPERIOD }
+    ensures one_each { next.new.limit ≡ length tasks.now }
+    ensures calendar { IsCalendar next.new }
+    ensures first { TakesFirst (plan_of tasks.now machine.now Edf) (due_of next.old.entries) (due_of next.new.entries)
+        result }
+{
+    match next.take_first() {
+        Some(job) => {
+            let period = tasks.task(job.task).period;
+            next.insert(Entry {
+                task: job.task,
+                due: job.due + period,
+                period,
+            });
+            worst(tasks, machine, job.task)
+        }
+        None => 0,
+    }
 }
 
 // Takes the jobs that are due at `now`: each such task's next deadline is a period later. Their work is returned.
-fn take_due(next: &mut [u64], tasks: &TaskSet, machine: &Machine, now: u64) -> u128
-    requires one_each { length next.old ≡ length tasks.now }
+fn take_due(next: &mut Queue<ByDue>, tasks: &TaskSet, machine: &Machine, now: u64) -> u128
+    requires one_each { next.old.limit ≡ length tasks.now }
+    requires calendar { IsCalendar next.old }
+    requires first { now ≡ least_below next.old.limit (due_of next.old.entries) }
     requires low { now ≤ LONGEST_HYPERPERIOD }
-    ensures one_each { length next.new ≡ length tasks.now }
-    ensures later { Moved (plan_of tasks.now machine.now Edf) next.old now next.new }
+    ensures one_each { next.new.limit ≡ length tasks.now }
+    ensures calendar { IsCalendar next.new }
+    ensures later { Moved (plan_of tasks.now machine.now Edf) (due_of next.old.entries) now (due_of next.new.entries) }
     ensures work { result ≡ (let p = plan_of tasks.now machine.now Edf in
-        sum_where (length tasks.now) (λ i. nat_eq (slice_index next.old i) now) (worst p)) }
-{
-    let mut work = 0;
-    for i in 0..tasks.count() {
-        if next[i as usize] == now {
-            next[i as usize] = now + tasks.task(i).period;
-            work += u128::from(worst(tasks, machine, i));
-        }
-    }
-    work
-}
-
-// The constrained demand. `next` has each task's first absolute deadline, its relative one, and goes on with the walk.
-fn greatest_demand(next: &mut [u64], tasks: &TaskSet, machine: &Machine) -> Frac
-    requires one_each { length next.old ≡ length tasks.now }
-    requires deadlines { IsConstrained (plan_of tasks.now machine.now Edf) (slice_index next.old) }
-    requires few { hyper_jobs tasks.now ≤ MOST_JOBS }
-    ensures { IsConstrainedDemand (plan_of tasks.now machine.now Edf) (slice_index next.old) result }
+        sum_where (length tasks.now) (λ i. nat_eq (due_of next.old.entries i) now) (worst p)) }
 {
     let _tasks = tasks.as_slice();
     let _entries = machine.as_slice();
     let mut work = 0;
-    let mut busiest = Frac { num: 0, den: 1 };
-    let mut now = earliest(next);
-    while now <= tasks.hyper() {
-        work += take_due(next, tasks, machine, now);
-        let here = Frac {
-            num: work,
-            den: u128::from(now),
-        };
-        if greater(here, busiest) {
-            busiest = here;
-        }
-        now = earliest(next);
+    while earliest(next) == now {
+        work += u128::from(take_first(next, tasks, machine));
     }
-    busiest
+    work
 }
 
 // The constrained demand of these deadlines in work units per tick, not reduced. It fails only where memory runs out.
@@ -105,8 +129,22 @@ pub(crate) fn constrained_demand(
     requires few { hyper_jobs tasks.now ≤ MOST_JOBS }
     ensures { IfOk result (λ d. IsConstrainedDemand (plan_of tasks.now machine.now Edf) (slice_index deadlines.now) d) }
 {
-    match Vec::from_slice(alloc, deadlines) {
-        Ok(mut next) => Ok(greatest_demand(&mut next, tasks, machine)),
-        Err(_) => Err(NoMemory),
+    let _tasks = tasks.as_slice();
+    let _entries = machine.as_slice();
+    let mut next = first_deadlines(alloc, tasks, deadlines)?;
+    let mut work = 0;
+    let mut busiest = Frac { num: 0, den: 1 };
+    let mut now = earliest(&next);
+    while now <= tasks.hyper() {
+        work += take_due(&mut next, tasks, machine, now);
+        let here = Frac {
+            num: work,
+            den: u128::from(now),
+        };
+        if greater(here, busiest) {
+            busiest = here;
+        }
+        now = earliest(&next);
     }
+    Ok(busiest)
 }

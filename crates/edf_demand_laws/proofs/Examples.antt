@@ -1,13 +1,14 @@
 -- Processor demands, and who comes first, by evaluation.
 use Rattle.std.proofs.Common.{◌≡◌, ℕ, zero, suc, [], ◌∷◌, codes, refl}
 use Rattle.dvs_base.specs.declared.kind.Scheduler.TheVariants.{Edf}
+use Rattle.grid_fraction.specs.Fraction as fraction
 use Rattle.sched_model.specs.Plan.{Plan, plan_of}
 use Rattle.sched_model.specs.Jobs.{release, due, latest}
 use Rattle.sched_model.specs.Ticks.{exec}
 use Rattle.sched_model.specs.Demands.{worst_demand}
 use Rattle.sched_model.proofs.Examples.{task_of, entry_of}
 use Rattle.edf_demand_laws.specs.Constrained.{schedule_at}
-use Rattle.edf_demand_laws.specs.ProcessorDemand.{processor_demand}
+use Rattle.edf_demand_laws.specs.ProcessorDemand.{processor_demand, constrained_demand}
 
 abbrev pair : Plan
 pair =
@@ -25,6 +26,25 @@ work d = processor_demand pair deadlines d
 -- the demands at the absolute deadlines of one hyperperiod; at 6 it is the greatest per tick, and more than one unit
 demands : (work 2 ≡ 2) × (work 5 ≡ 5) × (work 6 ≡ 7) × (work 10 ≡ 9) × (work 11 ≡ 12)
 demands = (refl, refl, refl, refl, refl)
+
+-- that is the constrained demand
+busiest : constrained_demand pair deadlines ≡ record { num = 7; den = 6 }
+unfolding constrained_demand release fraction.least_common_multiple
+busiest = refl
+
+-- of equal ones it is the earliest: 2/2 at 2 and 8/8 at 8
+abbrev even_pair : Plan
+even_pair =
+    plan_of (task_of (codes "a") 4 2 ∷ task_of (codes "b") 8 4 ∷ [])
+    (record { points = entry_of 1 1000 ∷ []; idle = 0; charge = 0 }) Edf
+
+abbrev even_deadlines : ℕ → ℕ
+even_deadlines zero = 2
+even_deadlines (suc i) = 8
+
+earliest_of_equal : constrained_demand even_pair even_deadlines ≡ record { num = 2; den = 2 }
+unfolding constrained_demand release fraction.least_common_multiple
+earliest_of_equal = refl
 
 -- before the first absolute deadline nothing is due
 none_due : work 1 ≡ 0

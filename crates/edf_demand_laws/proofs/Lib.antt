@@ -5,4 +5,5 @@ pub mod Enough
 pub mod Needed
 pub mod Existing
 pub mod Deciding
+pub mod Busiest
 mod Examples

@@ -1,7 +1,7 @@
 -- The processor demand of tasks whose deadlines lie below their periods (Baruah, Rosier and Howell 1990).
-use Rattle.std.specs.Prelude.{◌≡◌, ℕ, ◌+◌, ◌-◌, ◌*◌, ◌/◌, ◌<◌, ◌≤◌, nat_le, if◌then◌else◌}
+use Rattle.std.specs.Prelude.{◌≡◌, ℕ, suc, ◌+◌, ◌-◌, ◌*◌, ◌/◌, ◌<◌, ◌≤◌, Bool, ◌&&◌, ◌||◌, not, nat_eq, nat_le, if◌then◌else◌}
 use Rattle.grid_fraction.specs.declared.Frac.{Frac}
-use Rattle.grid_fraction.specs.Numbers.{sum_below}
+use Rattle.grid_fraction.specs.Numbers.{sum_below, any_below, all_below, first_from}
 use Rattle.sched_model.specs.Plan.{Plan, count, period, worst, hyper}
 use Rattle.edf_demand_laws.specs.Constrained.{absolute}
 
@@ -35,3 +35,20 @@ pub record IsConstrainedDemand (p : Plan) (relative : ℕ → ℕ) (demand : Fra
       → processor_demand p relative d * demand.den ≤ demand.num * d
   pub least : (d : ℕ) → IsDeadline p relative d → d < demand.den
       → processor_demand p relative d * demand.den < demand.num * d
+
+-- whether some job's absolute deadline is d; it is one of the first d jobs of its task
+abbrev pub is_deadline : Plan → (ℕ → ℕ) → ℕ → Bool
+is_deadline p relative d =
+    any_below (count p) (λ i. any_below d (λ k. nat_eq (absolute p relative i (suc k)) d))
+
+-- whether it is, and at no absolute deadline up to the hyperperiod the demand per tick is greater
+abbrev pub is_busiest : Plan → (ℕ → ℕ) → ℕ → Bool
+is_busiest p relative d =
+    let h = processor_demand p relative in
+    is_deadline p relative d
+    && all_below (suc (hyper p)) (λ e. not (is_deadline p relative e) || nat_le (h e * d) (h d * e))
+
+-- the constrained demand: h(d)/d at the first such d
+unfoldable pub constrained_demand : Plan → (ℕ → ℕ) → Frac
+constrained_demand p relative =
+    let d = first_from (hyper p) 1 (is_busiest p relative) in record { num = processor_demand p relative d; den = d }

@@ -1,2 +1,3 @@
 pub mod FirstLate
+pub mod FirstInOrder
 pub mod Answering

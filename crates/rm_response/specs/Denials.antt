@@ -1,14 +1,14 @@
 -- What the answers of exact admission under RM say.
-use Rattle.std.specs.Prelude.{◌≡◌, ℕ, ◌*◌, ◌<◌, false, List, slice_index}
+use Rattle.std.specs.Prelude.{◌≡◌, ⊤, ℕ, ◌*◌, ◌<◌, false, List, Option, Some, None, Result, Ok, Err, slice_index}
 use Rattle.grid_fraction.specs.Numbers.{list_below}
-use Rattle.offsets.specs.Offsets.{IsFirstOffset}
+use Rattle.offsets.specs.Offsets.{IsFirstOffset, first_offset}
 use Rattle.sched_model.specs.Plan.{Plan, count, period, offset, top_speed}
 use Rattle.governor.specs.Rm.{level_work_in}
 use Rattle.rm_response_laws.specs.Responses.{response, HasNoOffsets}
 use Rattle.rm_response_laws.specs.FirstJobs.{is_first_done, IsFirstDoneAt}
 use Rattle.rm_response.specs.declared.response.ResponseFault.{ResponseFault}
 use Rattle.rm_response.specs.declared.response.ResponseFault.TheVariants.{Offset, Misses, NoMemory}
-use Rattle.rm_response.specs.Late.{IsFirstLate}
+use Rattle.rm_response.specs.Late.{IsFirstLate, first_late}
 
 -- the responses of the tasks, in file order
 abbrev pub responses : Plan → List ℕ
@@ -41,3 +41,19 @@ abbrev pub IsMissed : Plan → ResponseFault → Type 0
 IsMissed p (Offset task) = Unit {0}
 IsMissed p (Misses task num cap) = is_first_done p task (period p task) ≡ false
 IsMissed p NoMemory = Unit {0}
+
+-- the two numbers of a task that misses are such that it does
+abbrev pub IsShownMiss : ResponseFault → Type 0
+IsShownMiss (Misses task num cap) = cap < num
+IsShownMiss e = ⊤
+
+-- the answer of the test, by the first task with an offset and by the first one without a response
+abbrev pub answer_from : Plan → Option ℕ → Option ℕ → Result (List ℕ) ResponseFault
+answer_from p (Some i) late = Err (Offset i)
+answer_from p None (Some i) = Err (misses_at p i)
+answer_from p None None = Ok (responses p)
+
+-- What the test answers: the first task in file order with an offset; where none has one, the first task in RM order
+-- without a response; and where all have one, the responses.
+abbrev pub exact_answer : Plan → Result (List ℕ) ResponseFault
+exact_answer p = answer_from p (first_offset (offset p) (count p)) (first_late (period p) (response p) (count p))

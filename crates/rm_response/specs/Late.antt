@@ -1,6 +1,8 @@
 -- The first task in RM order whose response is beyond its period; `period i` and `response i` are those of task i.
-use Rattle.std.specs.Prelude.{◌≡◌, ℕ, ◌<◌, ◌≤◌, true, Option, Some, None, MatchOption, if◌then◌else◌}
+use Rattle.std.specs.Prelude.{◌≡◌, ℕ, ◌<◌, ◌≤◌, nat_lt, true, Option, Some, None, MatchOption, if◌then◌else◌}
+use Rattle.std.specs.List.{find}
 use Rattle.sched_model.specs.Priority.{stands_before}
+use Rattle.sched_model.specs.Order.{in_order}
 
 -- the response of none of the tasks below n is
 abbrev pub NoneLate : (ℕ → ℕ) → (ℕ → ℕ) → ℕ → Type 0
@@ -20,3 +22,7 @@ FindsLate period response n found = MatchOption found (NoneLate period response 
 abbrev pub earlier_of : (ℕ → ℕ) → Option ℕ → ℕ → ℕ
 earlier_of period None i = i
 earlier_of period (Some k) i = if stands_before period i k then i else k
+
+-- of the tasks below n, the first in RM order whose response is beyond its period, where there is one
+abbrev pub first_late : (ℕ → ℕ) → (ℕ → ℕ) → ℕ → Option ℕ
+first_late period response n = find (λ i. nat_lt (period i) (response i)) (in_order period n)

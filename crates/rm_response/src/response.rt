@@ -1,11 +1,12 @@
 // The responses of a task set on a machine.
 ghost use Rattle.std.specs.Prelude.{◌≡◌, ◌<◌, IfOk, OnOk, IfErr, length, slice_index, ℕ};
 ghost use Rattle.grid_fraction.specs.Numbers.{list_below};
+ghost use Rattle.dvs_base.specs.Checks.{IsUnlessMemory};
 ghost use Rattle.dvs_base.specs.declared.kind.Scheduler.TheVariants.{Rm};
 ghost use Rattle.sched_model.specs.Plan.{plan_of, count};
 ghost use Rattle.rm_response_laws.specs.Responses.{response, AllRespond, HasNoOffsets};
 ghost use Rattle.rm_response_laws.specs.FirstJobs.{AlwaysMeets};
-ghost use Rattle.rm_response.specs.Denials.{responses, AreLeast, misses_at, IsResponseDenial, IsMissed};
+ghost use Rattle.rm_response.specs.Denials.{responses, AreLeast, misses_at, IsResponseDenial, IsMissed, IsShownMiss, exact_answer};
 
 use crate::late::first_late;
 use crate::work::{level_work_in, response_of};
@@ -91,6 +92,8 @@ pub fn rm_response(
     tasks: &TaskSet,
     machine: &Machine,
 ) -> Result<Response, ResponseFault>
+    ensures answer { IsUnlessMemory ResponseFault.NoMemory (λ r. r) result
+        (exact_answer (plan_of tasks.now machine.now Rm)) }
     ensures responses { IfOk result (λ r. r ≡ responses (plan_of tasks.now machine.now Rm)) }
     ensures one_each { IfOk result (λ r. length r ≡ length tasks.now) }
     ensures no_offset { OnOk result (HasNoOffsets (plan_of tasks.now machine.now Rm)) }
@@ -99,6 +102,7 @@ pub fn rm_response(
     ensures least { IfOk result (AreLeast (plan_of tasks.now machine.now Rm)) }
     ensures denial { IfErr result (IsResponseDenial (plan_of tasks.now machine.now Rm)) }
     ensures missed { IfErr result (IsMissed (plan_of tasks.now machine.now Rm)) }
+    ensures shown { IfErr result IsShownMiss }
 {
     let _tasks = tasks.as_slice();
     let _entries = machine.as_slice();

@@ -1,15 +1,16 @@
 -- Responses, and when first jobs are complete, by evaluation.
-use Rattle.std.proofs.Common.{◌≡◌, ℕ, true, false, [], ◌∷◌, codes, refl}
+use Rattle.std.proofs.Common.{◌≡◌, ℕ, true, false, [], ◌∷◌, map, replicate, codes, refl}
 use Rattle.dvs_base.specs.declared.kind.Scheduler.TheVariants.{Rm}
 use Rattle.freq_table.specs.Tables.{Table}
 use Rattle.sched_model.specs.Plan.{Plan, plan_of}
 use Rattle.sched_model.specs.Jobs.{release, due, latest}
+use Rattle.sched_model.specs.Ticks.{at, exec}
 use Rattle.sched_model.specs.Schedule.{schedule_by}
 use Rattle.sched_model.specs.Demand.{published}
 use Rattle.sched_model.proofs.Examples.{task_of, entry_of}
 use Rattle.governor.specs.Rm.{level_work_in}
 use Rattle.rm_response_laws.specs.Responses.{response}
-use Rattle.rm_response_laws.specs.FirstJobs.{is_first_done}
+use Rattle.rm_response_laws.specs.FirstJobs.{full_worst_ticks, is_first_done}
 
 abbrev one_speed_of : ℕ → Table
 one_speed_of speed = record { points = entry_of speed 1000 ∷ []; idle = 0; charge = 0 }
@@ -26,6 +27,18 @@ close_responses = (refl, refl)
 close_firsts : (is_first_done close_pair 1 3 ≡ false) × (is_first_done close_pair 1 4 ≡ true)
 unfolding schedule_by published release due latest
 close_firsts = (refl, refl)
+
+-- and over their hyperperiod each job has had its two units by its deadline
+abbrev had_when_due : ℕ → ℕ → ℕ
+had_when_due i k = exec close_pair (at (due close_pair i k) (full_worst_ticks close_pair 20)) i k
+
+close_met_first : map (had_when_due 0) (1 ∷ 2 ∷ 3 ∷ 4 ∷ 5 ∷ []) ≡ replicate 5 2
+unfolding schedule_by published release due latest
+close_met_first = refl
+
+close_met_second : map (had_when_due 1) (1 ∷ 2 ∷ 3 ∷ 4 ∷ []) ≡ replicate 4 2
+unfolding schedule_by published release due latest
+close_met_second = refl
 
 -- two tasks of which the second one has no response
 abbrev late_pair : Plan

@@ -6,8 +6,10 @@ use Rattle.task_model.specs.declared.task.Task.{Task}
 use Rattle.freq_table.specs.Tables.{Table}
 use Rattle.words.specs.Commands.{RunOf, CommandOf, run, admit, traced, workload, least}
 use Rattle.rtdvs_top.specs.Answer.{tasks_at, machine_at, demands_at, run_after_tasks, admit_after_tasks}
-use Rattle.words.specs.Commands.{TracedOf, PollOf, poll}
+use Rattle.words.specs.Commands.{TracedOf, PollOf, ConstrainOf, response, constrain, poll}
 use Rattle.rtdvs_top.specs.ReplayAnswer.{trace_after_tasks}
+use Rattle.rtdvs_top.specs.ResponseAnswer.{response_after_tasks}
+use Rattle.rtdvs_top.specs.ConstrainAnswer.{constrain_after_tasks}
 use Rattle.rtdvs_top.specs.PollAnswer.{server_at, poll_after_tasks}
 use Rattle.rtdvs_top.specs.CommandAnswer.{answer_of_command}
 use Rattle.rtdvs_top.specs.Causes.{LoadOf, NamedLoadFails, PassesBefore, files_for}
@@ -56,6 +58,10 @@ module _ (files : Files) where
       → file_of files r.trace ≡ None → trace_after_tasks r tasks files ≡ Err (status.Load file.Trace)
   trace-answer r tasks machine m lacks = rw (m, lacks) refl
 
+  deadlines-answer : (r : ConstrainOf) (tasks : List Task) (machine : Table) → machine_at r.machine files ≡ Ok machine
+      → file_of files r.deadlines ≡ None → constrain_after_tasks r tasks files ≡ Err (status.Load file.Deadlines)
+  deadlines-answer r tasks machine m lacks = rw (m, lacks) refl
+
   requests-answer : (q : PollOf) (tasks : List Task) (server : ℕ) (machine : Table) → server_at q.server tasks ≡ Ok server
       → machine_at q.machine files ≡ Ok machine → file_of files q.requests ≡ None
       → poll_after_tasks q tasks files ≡ Err (status.Load file.Requests)
@@ -86,6 +92,40 @@ module _ (files : Files) where
   lacks-answer old new (run r) file.Trace told fails passes = absurd fails
   lacks-answer old new (admit a) file.Trace told fails passes = absurd fails
   lacks-answer old new (workload seed) file.Trace told fails passes = absurd fails
+  lacks-answer old new (response r) file.Tasks told (inl lacks) passes = inl (rw (gone old r.tasks told lacks) refl)
+  lacks-answer old new (response r) file.Tasks told (inr rose) passes = inr rose.0
+  lacks-answer old new (response r) file.Machine told (inl lacks) passes =
+      let g = given-next (tasks_at r.tasks files) (λ tasks. response_after_tasks r tasks files) passes in
+      let after : response_after_tasks r g.0 files ≡ Err (status.Load file.Machine) =
+      rw (gone old r.machine told lacks) refl in
+      inl (g.2 ∙ after)
+  lacks-answer old new (response r) file.Machine told (inr rose) passes = inr rose.0
+  lacks-answer old new (response r) file.Demands told fails passes = absurd fails
+  lacks-answer old new (response r) file.Trace told fails passes = absurd fails
+  lacks-answer old new (response r) file.Requests told fails passes = absurd fails
+  lacks-answer old new (constrain r) file.Tasks told (inl lacks) passes = inl (rw (gone old r.tasks told lacks) refl)
+  lacks-answer old new (constrain r) file.Tasks told (inr rose) passes = inr rose.0
+  lacks-answer old new (constrain r) file.Machine told (inl lacks) passes =
+      let g = given-next (tasks_at r.tasks files) (λ tasks. constrain_after_tasks r tasks files) passes in
+      let after : constrain_after_tasks r g.0 files ≡ Err (status.Load file.Machine) =
+      rw (gone old r.machine told lacks) refl in
+      inl (g.2 ∙ after)
+  lacks-answer old new (constrain r) file.Machine told (inr rose) passes = inr rose.0
+  lacks-answer old new (constrain r) file.Deadlines told (inl lacks) passes =
+      let g = given-next (tasks_at r.tasks files) (λ tasks. constrain_after_tasks r tasks files) passes.0 in
+      let m = given-value (machine_at r.machine files) passes.1 in
+      inl (g.2 ∙ deadlines-answer r g.0 m.0 m.1 (gone old r.deadlines told lacks))
+  lacks-answer old new (constrain r) file.Deadlines told (inr rose) passes = inr rose.0
+  lacks-answer old new (constrain r) file.Demands told fails passes = absurd fails
+  lacks-answer old new (constrain r) file.Trace told fails passes = absurd fails
+  lacks-answer old new (constrain r) file.Requests told fails passes = absurd fails
+  lacks-answer old new (run r) file.Deadlines told fails passes = absurd fails
+  lacks-answer old new (admit a) file.Deadlines told fails passes = absurd fails
+  lacks-answer old new (traced r) file.Deadlines told fails passes = absurd fails
+  lacks-answer old new (workload seed) file.Deadlines told fails passes = absurd fails
+  lacks-answer old new (response r) file.Deadlines told fails passes = absurd fails
+  lacks-answer old new (poll q) file.Deadlines told fails passes = absurd fails
+  lacks-answer old new (least l) file.Deadlines told fails passes = absurd fails
   lacks-answer old new (poll q) file.Tasks told (inl lacks) passes = inl (rw (gone old q.tasks told lacks) refl)
   lacks-answer old new (poll q) file.Tasks told (inr rose) passes = inr rose.0
   lacks-answer old new (poll q) file.Machine told (inl lacks) passes =

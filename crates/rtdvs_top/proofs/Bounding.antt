@@ -8,7 +8,7 @@ use Rattle.freq_table.specs.Tables.{Table, highest_speed}
 use Rattle.energy_bound.specs.declared.least.Least.{Least}
 use Rattle.energy_bound.specs.Certificates.{least_of}
 use Rattle.energy_bound.specs.FirstPairs.{low_corner, high_corner, least_energy_of}
-use Rattle.words.specs.Commands.{LeastOf, CommandOf, run, admit, traced, workload, poll, least}
+use Rattle.words.specs.Commands.{LeastOf, CommandOf, run, admit, traced, workload, response, constrain, poll, least}
 use Rattle.rtdvs_top.specs.Answer.{machine_at}
 use Rattle.rtdvs_top.specs.LeastAnswer.{least_text, least_from, least_on, IsLeastOn, LeastMetOn, AreTooMany}
 use Rattle.rtdvs_top.specs.CommandAnswer.{answer_of_command}
@@ -66,6 +66,8 @@ of-least (Some files) (run r) s old new ends met = tt
 of-least (Some files) (admit a) s old new ends met = tt
 of-least (Some files) (traced r) s old new ends met = tt
 of-least (Some files) (workload seed) s old new ends met = tt
+of-least (Some files) (response r) s old new ends met = tt
+of-least (Some files) (constrain r) s old new ends met = tt
 of-least (Some files) (poll q) s old new ends met = tt
 of-least (Some files) (least l) status.Done old new ends met =
     let whole : ends.0 ≡ least_text met.1 = text-is l files met.0 met.1 ends.0 met.2 met.3.answer ends.1 in

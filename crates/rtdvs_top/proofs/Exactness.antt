@@ -29,15 +29,17 @@ use Rattle.trace_reader.proofs.HeadTexts.{task_lines-lines}
 use Rattle.trace_reader.proofs.TraceTexts.{reads-found, reads-only, version-lines}
 use Rattle.replay_laws.specs.FixedDemands.{fixed_of}
 use Rattle.replay_laws.proofs.Owning.{own-lists}
+use Rattle.trace_limits.specs.RunTraces.{trace_of_run}
+use Rattle.trace_limits.proofs.TraceLimits.{keeps-limits}
 use Rattle.replay.specs.Replays.{too_many, replay_of}
 use Rattle.replay.specs.declared.fault.ReplayFault.TheVariants as replay_fault
 use Rattle.replay.proofs.Comparing.{ended-once}
 use Rattle.replay.proofs.Exact.{some-replayed, is-replayed}
 use Rattle.replay.proofs.Texts.{names-distinct}
-use Rattle.words.specs.Commands.{TracedOf, CommandOf, run, admit, traced, workload, poll, least}
+use Rattle.words.specs.Commands.{TracedOf, CommandOf, run, admit, traced, workload, response, constrain, poll, least}
 use Rattle.rtdvs_top.specs.Answer.{bytes_at, tasks_at, machine_at, admission}
 use Rattle.rtdvs_top.specs.ReplayAnswer.{task_line, lines_of_tasks, trace_from, trace_of, trace_at, traced_of, totals_at, printed, answer_of_traced, trace_answer}
-use Rattle.rtdvs_top.specs.Exactness.{trace_of_run, IsScheduleText, AreFilesOf, TellsOwn, IsDoneUnless, OfTrace}
+use Rattle.rtdvs_top.specs.Exactness.{IsScheduleText, AreFilesOf, TellsOwn, IsDoneUnless, OfTrace}
 use Rattle.rtdvs_top.specs.Promises.{IsAnswer, Answers}
 use Rattle.rtdvs_top.specs.Ending.{MetIn}
 use Rattle.rtdvs_top.specs.declared.status.FileKind.TheVariants as file
@@ -85,8 +87,14 @@ module _ (r : TracedOf) (files : Files) (v : Version) (p : Plan) (g : GovernorKi
   abbrev t : TraceOf
   t = trace_of_run v p g (demand_of p rows) ticks
 
+  -- it keeps the limits of traces
+  whole : IsTrace (names p) (task_texts p) t
+  whole =
+      keeps-limits p h.admitted v g (demand_of p rows) ticks
+      (record { pair = h.pair; some_ticks = h.some_ticks; low_ticks = h.low_ticks; within = h.within; few = h.few })
+
   fits : IsTrace (names p) (lines_of_tasks p.tasks) t
-  fits = subst (λ (l : List (List ℕ)). IsTrace (names p) l t) (task-lines p.tasks) h.fits
+  fits = subst (λ (l : List (List ℕ)). IsTrace (names p) l t) (task-lines p.tasks) whole
 
   text : bytes ≡ text_of (names p) (lines_of_tasks p.tasks) t
   text = h.text ∙ ap (λ (l : List (List ℕ)). text_of (names p) l t) (task-lines p.tasks)
@@ -99,7 +107,7 @@ module _ (r : TracedOf) (files : Files) (v : Version) (p : Plan) (g : GovernorKi
 
   compared : replay_of p (published p g) t ≡ Ok (totals_of t.notes)
   compared =
-      some-replayed p h.admitted.limits (published p g) t (ended-once t.notes h.fits.ended)
+      some-replayed p h.admitted.limits (published p g) t (ended-once t.notes whole.ended)
       ((own-lists p h.admitted.limits).published_own g) rows (record { within = h.within; notes_are = refl }) h.few
 
   read-at : trace_at p.tasks r.trace files ≡ Ok t
@@ -147,8 +155,6 @@ module _ (r : TracedOf) (files : Files) (tasks : List Task) (machine : Table) (b
       let lines = sym (task-lines tasks) in
       let text : bytes ≡ text_of (names plan) (task_texts plan) t =
       found.1 ∙ ap (λ (l : List (List ℕ)). text_of (names plan) l t) lines in
-      let fits : IsTrace (names plan) (task_texts plan) t =
-      subst (λ (l : List (List ℕ)). IsTrace (names plan) l t) lines found.0 in
       record {
         files_are = record {
           tasks_are = ts;
@@ -160,7 +166,9 @@ module _ (r : TracedOf) (files : Files) (tasks : List Task) (machine : Table) (b
           admitted = adm;
           within = own.notes.within;
           few = few-of-none plan t.plan.ticks (passes plan lim t ended ok).few;
-          fits = subst (IsTrace (names plan) (task_texts plan)) (sym same) fits;
+          pair = found.0.pair;
+          some_ticks = found.0.some_ticks;
+          low_ticks = found.0.low_ticks;
           text = ap (text_of (names plan) (task_texts plan)) (sym same);
         };
       }
@@ -216,6 +224,8 @@ of-trace None c loads_rose puts_rose s met answers = tt
 of-trace (Some files) (run r) loads_rose puts_rose s met answers = tt
 of-trace (Some files) (admit a) loads_rose puts_rose s met answers = tt
 of-trace (Some files) (workload seed) loads_rose puts_rose s met answers = tt
+of-trace (Some files) (response r) loads_rose puts_rose s met answers = tt
+of-trace (Some files) (constrain r) loads_rose puts_rose s met answers = tt
 of-trace (Some files) (poll q) loads_rose puts_rose s met answers = tt
 of-trace (Some files) (least l) loads_rose puts_rose s met answers = tt
 of-trace (Some files) (traced r) loads_rose puts_rose s met answers = (

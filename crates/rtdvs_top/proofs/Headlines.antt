@@ -13,14 +13,15 @@ use Rattle.done_lines.specs.RunText.{run_text_in}
 use Rattle.sched_model.specs.Jobs.{released_jobs}
 use Rattle.dvs_base.specs.declared.limits.TheConstants.{MOST_JOBS}
 use Rattle.words.specs.declared.command.WordFault.{WordFault}
-use Rattle.words.specs.Commands.{RunOf, CommandOf, run, admit, traced, workload, poll, least}
+use Rattle.words.specs.Commands.{RunOf, CommandOf, run, admit, traced, workload, response, constrain, poll, least}
 use Rattle.rtdvs_top.specs.Answer.{tasks_at, machine_at, demands_at, admission, within_jobs, prepared_of, answer_of_prepared, run_after_tasks}
 use Rattle.rtdvs_top.specs.CommandAnswer.{answer_of_command}
-use Rattle.rtdvs_top.specs.Promises.{Means, DoneRun, DeniedPlan, OfRun, RunsOrIsDenied, Answers, Headline}
+use Rattle.rtdvs_top.specs.Promises.{Means, DoneRun, DeniedPlan, OfRun, OfTests, RunsOrIsDenied, Answers, Headline}
 use Rattle.rtdvs_top.specs.Ending.{EndsAs, MetIn, HasMet, run_with}
 use Rattle.rtdvs_top.specs.declared.status.Denied.{Denied}
 use Rattle.rtdvs_top.specs.declared.status.Status.{Status}
 use Rattle.rtdvs_top.specs.declared.status.Status.TheVariants as status
+use Rattle.rtdvs_top.proofs.Responses.{responds-or-is-denied}
 use Rattle.rtdvs_top.proofs.Denying.{status_of, is_given, denied-later, denied-first, given-both, tasks_at-denies-not, machine_at-denies-not, demands_at-denies-not, within-denies-not, admission-is, admission-same, denied-plan}
 
 -- what the files of a run that was prepared mean
@@ -95,6 +96,8 @@ of-run None c s old new ends met = tt
 of-run (Some files) (admit a) s old new ends met = tt
 of-run (Some files) (traced r) s old new ends met = tt
 of-run (Some files) (workload seed) s old new ends met = tt
+of-run (Some files) (response r) s old new ends met = tt
+of-run (Some files) (constrain r) s old new ends met = tt
 of-run (Some files) (poll q) s old new ends met = tt
 of-run (Some files) (least l) s old new ends met = tt
 of-run (Some files) (run r) status.Done old new ends met =
@@ -179,14 +182,17 @@ module _ (r : RunOf) (files : Files) (tasks : List Task) (machine : Table) (dema
 
 -- the headline, from what holds of each run and from whose answer the status is
 pub headline-of : (told : Option Files) (c : Result CommandOf WordFault) (loads_rose : Type 0) (old new : SinkView) (s : Status)
-    → OfRun told c old new s
+    → OfRun told c old new s → OfTests told c s
     → Answers told c loads_rose (Rose old.faults new.faults) s → Headline told c loads_rose old new s
-headline-of None c loads_rose old new s of answers = tt
-headline-of (Some files) (Err why) loads_rose old new s of answers = tt
-headline-of (Some files) (Ok (admit a)) loads_rose old new s of answers = tt
-headline-of (Some files) (Ok (traced r)) loads_rose old new s of answers = tt
-headline-of (Some files) (Ok (workload seed)) loads_rose old new s of answers = tt
-headline-of (Some files) (Ok (poll q)) loads_rose old new s of answers = tt
-headline-of (Some files) (Ok (least l)) loads_rose old new s of answers = tt
-headline-of (Some files) (Ok (run r)) loads_rose old new s of answers =
+headline-of None c loads_rose old new s of tests answers = tt
+headline-of (Some files) (Err why) loads_rose old new s of tests answers = tt
+headline-of (Some files) (Ok (admit a)) loads_rose old new s of tests answers = tt
+headline-of (Some files) (Ok (traced r)) loads_rose old new s of tests answers = tt
+headline-of (Some files) (Ok (workload seed)) loads_rose old new s of tests answers = tt
+headline-of (Some files) (Ok (response r)) loads_rose old new s of tests answers =
+    λ tasks machine means still whole_out memory. responds-or-is-denied r files tasks machine means loads_rose (Rose old.faults new.faults) s tests answers still whole_out memory
+headline-of (Some files) (Ok (constrain r)) loads_rose old new s of tests answers = tt
+headline-of (Some files) (Ok (poll q)) loads_rose old new s of tests answers = tt
+headline-of (Some files) (Ok (least l)) loads_rose old new s of tests answers = tt
+headline-of (Some files) (Ok (run r)) loads_rose old new s of tests answers =
     λ tasks machine demands means few still whole_out memory. runs-or-is-denied r files tasks machine demands means few loads_rose old new s of answers still whole_out memory

@@ -4,6 +4,8 @@ pub mod Texts
 pub mod Overloads
 pub mod TraceTexts
 pub mod ProbePuts
+pub mod NumberedPuts
+pub mod ResponsePuts
 pub mod RequestPuts
 pub mod Noting
 pub mod Published
@@ -11,6 +13,8 @@ pub mod Picks
 pub mod Endings
 pub mod Telling
 pub mod Denying
+pub mod Responses
+pub mod Constraining
 pub mod Headlines
 pub mod Answering
 pub mod Shows

@@ -17,7 +17,7 @@ use Rattle.poll_server.specs.Outcomes.{ServedOf}
 use Rattle.poll_server.specs.Bound.{HaveJobs, KeepsBound}
 use Rattle.poll_server.specs.Polled.{IsPolled, polled_notes}
 use Rattle.poll_server.specs.EachOutcome.{served_by, served_of}
-use Rattle.words.specs.Commands.{CommandOf, run, admit, traced, workload, poll, least}
+use Rattle.words.specs.Commands.{CommandOf, run, admit, traced, workload, response, constrain, poll, least}
 use Rattle.rtdvs_top.specs.Answer.{bytes_at}
 use Rattle.rtdvs_top.specs.PollAnswer.{request_status, requests_at, polling_notes, polling_served}
 use Rattle.rtdvs_top.specs.PollCauses.{HasServed}
@@ -79,6 +79,8 @@ of-poll (Some files) (run r) s met = tt
 of-poll (Some files) (admit a) s met = tt
 of-poll (Some files) (traced r) s met = tt
 of-poll (Some files) (workload seed) s met = tt
+of-poll (Some files) (response r) s met = tt
+of-poll (Some files) (constrain r) s met = tt
 of-poll (Some files) (least l) s met = tt
 of-poll (Some files) (poll q) status.Done met = (met.0, met.2.0, met.1, met.2.1, met.2.2)
 of-poll (Some files) (poll q) (status.NotAdmitted why) met = tt

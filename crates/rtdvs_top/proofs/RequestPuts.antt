@@ -1,13 +1,12 @@
 -- The lines of requests that were put one after another.
-use Rattle.std.proofs.Common.{◌≡◌, ℕ, zero, suc, ◌+◌, ◌<◌, ◌≤◌, Bool, true, false, nat_lt, List, [], ◌++◌, ap, ◌∙◌, sym, refl, subst, arith, append-nil, append_assoc}
-use Rattle.std.proofs.lemmas.Bool.Decides.{nat_tests}
+use Rattle.std.proofs.Common.{◌≡◌, ℕ, ◌+◌, ◌<◌, List, refl}
 use Rattle.dvs_base.specs.Outside.{SinkView}
 use Rattle.event_kernel.specs.Lines.{Wrote, WroteSome}
 use Rattle.poll_server.specs.Serving.{ServerOf}
 use Rattle.poll_server.specs.Outcomes.{outcome_at}
 use Rattle.poll_server.specs.declared.served.Outcome.{Outcome}
 use Rattle.rtdvs_top.specs.PollAnswer.{outcome_text, request_lines}
-use Rattle.rtdvs_top.proofs.Texts.{wrote-then, wrote-then-some, wrote-some-more}
+use Rattle.rtdvs_top.proofs.NumberedPuts as puts
 
 module _ (s : ServerOf) (outcomes : List Outcome) where
   abbrev lines : ℕ → List ℕ
@@ -16,38 +15,12 @@ module _ (s : ServerOf) (outcomes : List Outcome) where
   abbrev line_at : ℕ → List ℕ
   line_at m = outcome_text s m (outcome_at outcomes m)
 
-  -- what is left of the lines of n requests after those of the first m
-  abbrev Left : ℕ → ℕ → Type 0
-  Left m n = (rest : List ℕ) × (lines n ≡ lines m ++ rest)
-
-  left : (m n : ℕ) → m ≤ n → Left m n
-  left m zero le =
-      let none : zero ≡ m = omega (arith, le) in
-      ([], subst (λ (k : ℕ). lines zero ≡ lines k ++ []) none refl)
-  left m (suc n) le = go (nat_lt m (suc n)) refl (λ h. left m n h)
-    where
-      go : (b : Bool) → nat_lt m (suc n) ≡ b → (m ≤ n → Left m n) → Left m (suc n)
-      go true e shorter =
-          let within : m ≤ n = grind (arith, nat_tests) in
-          let k = shorter within in
-          (k.0 ++ line_at n, ap (λ (t : List ℕ). t ++ line_at n) k.1 ∙ append_assoc (lines m) k.0 (line_at n))
-      go false e shorter =
-          let same : suc n ≡ m = grind (arith, nat_tests) in
-          ([], subst (λ (k : ℕ). lines (suc n) ≡ lines k ++ []) same (sym (append-nil (lines (suc n)))))
-
   -- one more line was put
   pub next-put : (a b c : SinkView) (m : ℕ) (line : List ℕ) → line ≡ line_at m
       → Wrote a b (lines m) → Wrote b c line → Wrote a c (lines (m + 1))
-  next-put a b c m line is w v =
-      let one : suc m ≡ m + 1 = omega arith in
-      subst (λ (k : ℕ). Wrote a c (lines k)) one
-      (wrote-then a b c (lines m) (line_at m) w (subst (λ (t : List ℕ). Wrote b c t) is v))
+  next-put = puts.next-put line_at lines (λ n. refl)
 
   -- a line was put in part, and nothing after it
   pub part-put : (a b c : SinkView) (m n : ℕ) (line : List ℕ) → m < n → line ≡ line_at m
       → Wrote a b (lines m) → WroteSome b c line → WroteSome a c (lines n)
-  part-put a b c m n line lt is w v =
-      let k = left (suc m) n (omega (arith, lt)) in
-      subst (λ (t : List ℕ). WroteSome a c t) (sym k.1)
-      (wrote-some-more a c (lines (suc m)) k.0
-      (wrote-then-some a b c (lines m) (line_at m) w (subst (λ (t : List ℕ). WroteSome b c t) is v)))
+  part-put = puts.part-put line_at lines (λ n. refl)

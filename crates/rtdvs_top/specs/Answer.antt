@@ -45,6 +45,7 @@ longest file.Tasks = LONGEST_FILE
 longest file.Machine = LONGEST_FILE
 longest file.Demands = LONGEST_FILE
 longest file.Trace = LONGEST_TRACE
+longest file.Deadlines = LONGEST_FILE
 longest file.Requests = LONGEST_FILE
 
 -- the bytes of a file, where it is held and not too long

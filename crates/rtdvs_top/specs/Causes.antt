@@ -1,7 +1,7 @@
 -- What a status says, and why it comes.
 use Rattle.std.specs.Prelude.{IsOk, ◌≡◌, ◌⊎◌, ℕ, ◌+◌, ◌<◌, ◌≤◌, List, [], Option, Some, None, Result, Ok, Err, ⊤}
 use Rattle.dvs_base.specs.Outside.{Files, ShelfView, Lacks, Rose}
-use Rattle.words.specs.Commands.{RunOf, PollOf, CommandOf, run, admit, traced, workload, poll, least}
+use Rattle.words.specs.Commands.{RunOf, PollOf, CommandOf, run, admit, traced, workload, response, constrain, poll, least}
 use Rattle.dvs_base.specs.Checks.{and_then}
 use Rattle.rtdvs_top.specs.Answer.{tasks_at, machine_at}
 use Rattle.rtdvs_top.specs.PollAnswer.{server_at}
@@ -30,6 +30,13 @@ IsRefusal s = ⊤
 abbrev pub IsNoLoad : Status → Type 0
 IsNoLoad (status.Load kind) = ⊥
 IsNoLoad s = ⊤
+
+-- the status of a file that wasn't loaded or is refused: it says nothing of a test
+abbrev pub IsOfFile : Status → Type 0
+IsOfFile (status.Load kind) = ⊤
+IsOfFile (status.Text why) = ⊤
+IsOfFile status.NoMemory = ⊤
+IsOfFile s = ⊥
 
 -- where the files are told, the step gives this value
 abbrev pub Gives : {A : Type 0} → Option Files → (Files → Result A Status) → A → Type 0
@@ -79,6 +86,7 @@ LaterLoad old new r (status.Load file.Tasks) = ⊥
 LaterLoad old new r (status.Load file.Machine) = LoadFails old new 1 r.machine
 LaterLoad old new r (status.Load file.Demands) = NamedLoadFails old new 2 r.demands
 LaterLoad old new r (status.Load file.Trace) = ⊥
+LaterLoad old new r (status.Load file.Deadlines) = ⊥
 LaterLoad old new r (status.Load file.Requests) = ⊥
 LaterLoad old new r s = ⊤
 
@@ -89,6 +97,8 @@ loads_of (run r) = 1 + loads_named r.demands + 1
 loads_of (admit a) = 2
 loads_of (traced r) = 3
 loads_of (workload seed) = 0
+loads_of (response r) = 2
+loads_of (constrain r) = 3
 loads_of (poll q) = 3
 loads_of (least l) = 1
 
@@ -98,6 +108,8 @@ files_for held (run r) = held
 files_for held (admit a) = held
 files_for held (traced r) = held
 files_for held (workload seed) = Some []
+files_for held (response r) = held
+files_for held (constrain r) = held
 files_for held (poll q) = held
 files_for held (least l) = held
 
@@ -107,6 +119,8 @@ tasks_name (run r) = Some r.tasks
 tasks_name (admit a) = Some a.tasks
 tasks_name (traced r) = Some r.tasks
 tasks_name (workload seed) = None
+tasks_name (response r) = Some r.tasks
+tasks_name (constrain r) = Some r.tasks
 tasks_name (poll q) = Some q.tasks
 tasks_name (least l) = None
 
@@ -116,6 +130,8 @@ machine_name (run r) = Some r.machine
 machine_name (admit a) = Some a.machine
 machine_name (traced r) = Some r.machine
 machine_name (workload seed) = None
+machine_name (response r) = Some r.machine
+machine_name (constrain r) = Some r.machine
 machine_name (poll q) = Some q.machine
 machine_name (least l) = Some l.machine
 
@@ -125,6 +141,8 @@ demands_name (run r) = r.demands
 demands_name (admit a) = None
 demands_name (traced r) = None
 demands_name (workload seed) = None
+demands_name (response r) = None
+demands_name (constrain r) = None
 demands_name (poll q) = None
 demands_name (least l) = None
 
@@ -134,6 +152,8 @@ trace_name (run r) = None
 trace_name (admit a) = None
 trace_name (traced r) = Some r.trace
 trace_name (workload seed) = None
+trace_name (response r) = None
+trace_name (constrain r) = None
 trace_name (poll q) = None
 trace_name (least l) = None
 
@@ -141,22 +161,36 @@ trace_name (least l) = None
 abbrev pub machine_place : CommandOf → ℕ
 machine_place c = loads_named (tasks_name c) + 1
 
+-- the file of relative deadlines that a command names, where it names one
+abbrev pub deadlines_name : CommandOf → Option (List ℕ)
+deadlines_name (run r) = None
+deadlines_name (admit a) = None
+deadlines_name (traced r) = None
+deadlines_name (workload seed) = None
+deadlines_name (response r) = None
+deadlines_name (constrain r) = Some r.deadlines
+deadlines_name (poll q) = None
+deadlines_name (least l) = None
+
 -- the file of requests that a command names, where it names one
 abbrev pub requests_name : CommandOf → Option (List ℕ)
 requests_name (run r) = None
 requests_name (admit a) = None
 requests_name (traced r) = None
 requests_name (workload seed) = None
+requests_name (response r) = None
+requests_name (constrain r) = None
 requests_name (poll q) = Some q.requests
 requests_name (least l) = None
 
--- why a load of a command failed, by its place: the tasks first, then the machine, and then the demands, the trace or the
--- requests
+-- why a load of a command failed, by its place: the tasks first, then the machine, and then the demands, the trace, the
+-- deadlines or the requests
 abbrev pub LoadOf : ShelfView → ShelfView → CommandOf → Status → Type 0
 LoadOf old new c (status.Load file.Tasks) = NamedLoadFails old new 1 (tasks_name c)
 LoadOf old new c (status.Load file.Machine) = NamedLoadFails old new (machine_place c) (machine_name c)
 LoadOf old new c (status.Load file.Demands) = NamedLoadFails old new 3 (demands_name c)
 LoadOf old new c (status.Load file.Trace) = NamedLoadFails old new 3 (trace_name c)
+LoadOf old new c (status.Load file.Deadlines) = NamedLoadFails old new 3 (deadlines_name c)
 LoadOf old new c (status.Load file.Requests) = NamedLoadFails old new 3 (requests_name c)
 LoadOf old new c s = ⊤
 
@@ -189,4 +223,6 @@ PassesBefore (Some files) c (status.Load file.Demands) =
     IsRead tasks_at (tasks_name c) files × IsRead machine_at (machine_name c) files
 PassesBefore (Some files) c (status.Load file.Trace) =
     WhereNamed (trace_name c) (IsRead tasks_at (tasks_name c) files × IsRead machine_at (machine_name c) files)
+PassesBefore (Some files) c (status.Load file.Deadlines) =
+    WhereNamed (deadlines_name c) (IsRead tasks_at (tasks_name c) files × IsRead machine_at (machine_name c) files)
 PassesBefore told c s = ⊤

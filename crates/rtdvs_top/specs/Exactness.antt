@@ -1,18 +1,18 @@
 -- Which trace files a replay and a migration take: exactly the texts of a schedule.
-use Rattle.std.specs.Prelude.{◌≡◌, ℕ, ◌≤◌, List, Option, Some, Result, Ok, ⊤}
+use Rattle.std.specs.Prelude.{◌≡◌, ℕ, ◌≤◌, true, List, Option, Some, Result, Ok, ⊤}
 use Rattle.dvs_base.specs.Outside.{Files}
 use Rattle.dvs_base.specs.declared.kind.GovernorKind.{GovernorKind}
 use Rattle.dvs_base.specs.declared.kind.Version.{Version}
-use Rattle.dvs_base.specs.declared.limits.TheConstants.{MOST_JOBS}
+use Rattle.dvs_base.specs.Pairs.{is_pair}
+use Rattle.dvs_base.specs.declared.limits.TheConstants.{MOST_JOBS, MOST_TICKS}
 use Rattle.task_model.specs.DemandRows.{DemandRow}
 use Rattle.demand_list.specs.Demands.{IsDemands}
 use Rattle.sched_model.specs.Plan.{Plan, names}
 use Rattle.sched_model.specs.Admission.{IsAdmitted}
 use Rattle.sched_model.specs.Demands.{demand_of, IsWithin}
 use Rattle.sched_model.specs.Jobs.{released_jobs}
-use Rattle.sched_model.specs.Text.{run_notes}
 use Rattle.done_lines.specs.RunText.{task_texts, run_text_in}
-use Rattle.trace_reader.specs.Traces.{TraceOf, IsTrace, text_of}
+use Rattle.trace_reader.specs.Traces.{TraceOf, text_of}
 use Rattle.replay_laws.specs.FixedDemands.{fixed_of, fixed_list}
 use Rattle.words.specs.declared.command.WordFault.{WordFault}
 use Rattle.words.specs.Commands.{CommandOf, TracedOf, traced}
@@ -20,14 +20,6 @@ use Rattle.rtdvs_top.specs.Answer.{bytes_at, tasks_at, machine_at}
 use Rattle.rtdvs_top.specs.declared.status.FileKind.TheVariants as file
 use Rattle.rtdvs_top.specs.declared.status.Status.{Status}
 use Rattle.rtdvs_top.specs.declared.status.Status.TheVariants as status
-
--- the trace, in a version, of a plan's run under a governor for these demands, in so many ticks
-abbrev pub trace_of_run : Version → Plan → GovernorKind → (ℕ → ℕ → ℕ) → ℕ → TraceOf
-trace_of_run v p g dem ticks = record {
-  version = v;
-  plan = record { scheduler = p.scheduler; governor = g; ticks = ticks };
-  notes = run_notes p g dem ticks;
-}
 
 -- the bytes are the text, in a version, of the schedule of an admitted plan for the demand list of these rows, by the
 -- published demand of this governor, in so many ticks
@@ -38,9 +30,11 @@ pub record IsScheduleText (v : Version) (p : Plan) (g : GovernorKind) (ticks : �
   pub within : IsWithin p (demand_of p rows)
   -- no more jobs are released than the limit
   pub few : released_jobs p ticks ≤ MOST_JOBS
-  -- scheduler and governor are a pair; and the number of ticks, the other numbers and the lines are within the format's
-  -- limits
-  pub fits : IsTrace (names p) (task_texts p) (trace_of_run v p g (demand_of p rows) ticks)
+  -- scheduler and governor are a pair
+  pub pair : is_pair p.scheduler g ≡ true
+  -- there is a tick, and no more of them than the limit
+  pub some_ticks : 1 ≤ ticks
+  pub low_ticks : ticks ≤ MOST_TICKS
   pub text : bytes ≡ run_text_in v p g (demand_of p rows) ticks
 
 -- the files that the words name mean the tasks and the machine of the plan, and the trace file holds these bytes

@@ -1,6 +1,7 @@
 pub mod Code
 pub mod Shown
 pub mod WordLines
+pub mod DeadlineLines
 pub mod RequestLines
 pub mod Asked
 pub mod Naming
@@ -16,8 +17,14 @@ pub mod Promises
 pub mod EdfRuns
 pub mod ReplayAnswer
 pub mod PollAnswer
+pub mod ResponseAnswer
+pub mod ConstrainAnswer
 pub mod LeastAnswer
 pub mod CommandAnswer
 pub mod ReplayCauses
 pub mod Exactness
+pub mod Responding
+pub mod Constraining
+pub mod ConstrainCauses
+pub mod Testing
 pub mod PollCauses

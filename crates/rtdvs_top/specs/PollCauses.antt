@@ -23,6 +23,7 @@ LaterRequestLoad old new q (status.Load file.Tasks) = ⊥
 LaterRequestLoad old new q (status.Load file.Machine) = LoadFails old new 1 q.machine
 LaterRequestLoad old new q (status.Load file.Demands) = ⊥
 LaterRequestLoad old new q (status.Load file.Trace) = ⊥
+LaterRequestLoad old new q (status.Load file.Deadlines) = ⊥
 LaterRequestLoad old new q (status.Load file.Requests) = LoadFails old new 2 q.requests
 LaterRequestLoad old new q s = ⊤
 

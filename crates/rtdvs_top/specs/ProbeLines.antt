@@ -36,6 +36,7 @@ counted_text place p task =
     codes "probe " ∷ decimal place ∷ codes " " ∷ what_word p.rule.what ∷ codes " " ∷ task ∷ codes " "
     ∷ decimal p.tally ∷ codes "\n" ∷ [])
 
+-- the same with the name of the task that the probe counts for
 abbrev pub probe_text : List (List ℕ) → ℕ → ProbeOf → List ℕ
 probe_text names place p = counted_text place p (task_word names p.rule.task)
 

@@ -12,7 +12,7 @@ use Rattle.sched_model.specs.Text.{run_notes}
 use Rattle.event_kernel.specs.Runs.{Run, notes_of_run}
 use Rattle.event_kernel.specs.Lines.{StoppedIn, trace_lines}
 use Rattle.probes.specs.Tallies.{ProbeOf, told_notes}
-use Rattle.words.specs.Commands.{RunOf, CommandOf, run, admit, traced, workload, poll, least}
+use Rattle.words.specs.Commands.{RunOf, CommandOf, run, admit, traced, workload, response, constrain, poll, least}
 use Rattle.rtdvs_top.specs.Answer.{prepared_of, tasks_at}
 use Rattle.rtdvs_top.specs.Causes.{Gives}
 use Rattle.rtdvs_top.specs.Ending.{Leaves, job_demands, run_with}
@@ -25,6 +25,8 @@ asks_probes (run r) = r.probes
 asks_probes (admit a) = false
 asks_probes (traced r) = false
 asks_probes (workload seed) = false
+asks_probes (response r) = false
+asks_probes (constrain r) = false
 asks_probes (poll q) = false
 asks_probes (least l) = false
 

@@ -5,6 +5,7 @@ use Rattle.std.specs.declared.alloc.Global.{Global}
 use Rattle.dvs_base.specs.Outside.{Files, ShelfView, SinkView, Rose, AppendsPrefix}
 use Rattle.dvs_base.specs.declared.kind.GovernorKind.{GovernorKind}
 use Rattle.dvs_base.specs.declared.kind.Version.{Version}
+use Rattle.dvs_base.specs.declared.kind.Scheduler.TheVariants.{Rm}
 use Rattle.task_model.specs.declared.task.Task.{Task}
 use Rattle.demand_list.specs.Demands.{DemandsOf}
 use Rattle.freq_table.specs.Tables.{Table}
@@ -13,7 +14,7 @@ use Rattle.sched_model.specs.Admission.{PassesTest}
 use Rattle.sched_model.specs.Jobs.{released_jobs}
 use Rattle.event_kernel.specs.Runs.{Run}
 use Rattle.dvs_base.specs.declared.limits.TheConstants.{MOST_JOBS}
-use Rattle.words.specs.Commands.{RunOf, CommandOf, run, poll, least}
+use Rattle.words.specs.Commands.{RunOf, CommandOf, run, response, poll, least}
 use Rattle.words.specs.Reading.{command_of}
 use Rattle.words.specs.declared.command.WordFault.{WordFault}
 use Rattle.rtdvs_top.specs.CommandAnswer.{answer_of_command}
@@ -25,6 +26,8 @@ use Rattle.rtdvs_top.specs.Refusals.{status_text}
 use Rattle.rtdvs_top.specs.Causes.{LoadOf, PassesBefore, files_for, loads_of}
 use Rattle.rtdvs_top.specs.Ending.{HasMet, run_with, text_under}
 use Rattle.rtdvs_top.specs.Writing.{NotedAs}
+use Rattle.rtdvs_top.specs.Responding.{MeansPlan, RespondsOrIsDenied}
+use Rattle.rtdvs_top.specs.Testing.{TestedIn}
 use Rattle.rtdvs_top.specs.ProbeLines.{noted_text}
 use Rattle.rtdvs_top.specs.Probing.{asks_probes, ToldIn}
 use Rattle.probes.specs.Tallies.{ProbeOf}
@@ -119,6 +122,11 @@ OfRun (Some files) (Ok (run r)) old new (status.NotAdmitted why) =
     × DeniedPlan (plan_of tasks machine r.scheduler) why
 OfRun told c old new s = ⊤
 
+-- what an exact test proves
+abbrev pub OfTests : Option Files → Result CommandOf WordFault → Status → Type 0
+OfTests told (Ok c) s = TestedIn told c s
+OfTests told (Err why) s = ⊤
+
 -- A polling of told files that is done has served its requests in the one schedule of its server's plan: each exactly where
 -- its job is done, a later one never by an earlier job, and each by the deadline that its backlog bounds.
 abbrev pub OfPoll : Option Files → Result CommandOf WordFault → Status → Type 0
@@ -135,13 +143,18 @@ RunsOrIsDenied v kind r old new s =
 
 -- The headline. The files of a run are told, and mean these tasks, this machine and these demands; the run releases no
 -- more jobs than the limit; no load and no put failed, and memory was found. Then the plan of these tasks, this machine
--- and the words' scheduler runs with these demands, or it is denied.
+-- and the words' scheduler runs with these demands, or it is denied. Under the same premises the exact test under RM is
+-- done where all tasks of its files have responses, and else it denies them.
 abbrev pub Headline : Option Files → Result CommandOf WordFault → Type 0 → SinkView → SinkView → Status → Type 0
 Headline (Some files) (Ok (run r)) loads_rose old new s =
     (tasks : List Task) (machine : Table) (demands : DemandsOf) → Means r files tasks machine demands
     → released_jobs (plan_of tasks machine r.scheduler) r.ticks ≤ MOST_JOBS
     → (loads_rose → ⊥) → (Rose old.faults new.faults → ⊥) → s ≢ status.NoMemory
     → RunsOrIsDenied r.version r.governor (run_with r (plan_of tasks machine r.scheduler) demands) old new s
+Headline (Some files) (Ok (response r)) loads_rose old new s =
+    (tasks : List Task) (machine : Table) → MeansPlan r files tasks machine
+    → (loads_rose → ⊥) → (Rose old.faults new.faults → ⊥) → s ≢ status.NoMemory
+    → RespondsOrIsDenied (plan_of tasks machine Rm) s
 Headline told c loads_rose old new s = ⊤
 
 -- A least energy of told files, without a premise. One that is done has written the lines of the answer for the machine

@@ -21,6 +21,7 @@ use Rattle.demand_list.specs.declared.fault.Column.TheVariants as column
 use Rattle.demand_list.specs.declared.fault.DemandFault.{DemandFault}
 use Rattle.demand_list.specs.declared.fault.DemandFault.TheVariants as demand_fault
 use Rattle.rtdvs_top.specs.WordLines.{word_fault_text}
+use Rattle.rtdvs_top.specs.DeadlineLines.{deadline_fault_text}
 use Rattle.rtdvs_top.specs.RequestLines.{request_fault_text, no_task_text}
 use Rattle.rtdvs_top.specs.declared.status.FileKind.{FileKind}
 use Rattle.rtdvs_top.specs.declared.status.FileKind.TheVariants as file
@@ -37,6 +38,7 @@ file_word file.Tasks = codes "tasks"
 file_word file.Machine = codes "machine"
 file_word file.Demands = codes "demands"
 file_word file.Trace = codes "trace"
+file_word file.Deadlines = codes "deadlines"
 file_word file.Requests = codes "requests"
 
 -- the word of a task file's field
@@ -170,16 +172,28 @@ text_fault_text names (text.Tasks why) = task_fault_text why
 text_fault_text names (text.Machine why) = machine_fault_text why
 text_fault_text names (text.Demands why) = demand_fault_text names why
 text_fault_text names (text.Trace why) = trace_fault_text why
+text_fault_text names (text.Deadlines why) = deadline_fault_text names why
 text_fault_text names (text.Requests why) = request_fault_text why
 text_fault_text names (text.Server name) = no_task_text name
+
+-- the line that says this of a task, and two numbers
+abbrev pub numbers_text : List ℕ → List ℕ → ℕ → ℕ → List ℕ
+numbers_text what name num cap =
+    joined (what ∷ name ∷ codes " " ∷ decimal num ∷ codes " " ∷ decimal cap ∷ codes "\n" ∷ [])
+
+-- the line of too much work due: the ticks, the work, and what the highest speed does in them
+abbrev pub demand_text : ℕ → ℕ → ℕ → List ℕ
+demand_text ticks num cap =
+    joined (codes "denied demand " ∷ decimal ticks ∷ codes " " ∷ decimal num ∷ codes " " ∷ decimal cap ∷ codes "\n" ∷ [])
 
 -- the line of a denial
 abbrev pub denied_text : List (List ℕ) → Denied → List ℕ
 denied_text names (denied.Edf num cap) =
     joined (codes "denied edf " ∷ decimal num ∷ codes " " ∷ decimal cap ∷ codes "\n" ∷ [])
-denied_text names (denied.Rm task num cap) =
-    joined (
-    codes "denied rm " ∷ name_of names task ∷ codes " " ∷ decimal num ∷ codes " " ∷ decimal cap ∷ codes "\n" ∷ [])
+denied_text names (denied.Rm task num cap) = numbers_text (codes "denied rm ") (name_of names task) num cap
+denied_text names (denied.Offset task) = joined (codes "denied offset " ∷ name_of names task ∷ codes "\n" ∷ [])
+denied_text names (denied.Response task num cap) = numbers_text (codes "misses ") (name_of names task) num cap
+denied_text names (denied.Demand at num cap) = demand_text at num cap
 denied_text names (denied.Units num cap) =
     joined (codes "denied units " ∷ decimal num ∷ codes " " ∷ decimal cap ∷ codes "\n" ∷ [])
 

@@ -22,6 +22,7 @@ LaterTraceLoad old new r (status.Load file.Tasks) = ⊥
 LaterTraceLoad old new r (status.Load file.Machine) = LoadFails old new 1 r.machine
 LaterTraceLoad old new r (status.Load file.Demands) = ⊥
 LaterTraceLoad old new r (status.Load file.Trace) = LoadFails old new 2 r.trace
+LaterTraceLoad old new r (status.Load file.Deadlines) = ⊥
 LaterTraceLoad old new r (status.Load file.Requests) = ⊥
 LaterTraceLoad old new r s = ⊤
 

@@ -4,6 +4,7 @@ use Rattle.task_model.specs.declared.fault.TaskFault.TheVariants as task_fault
 use Rattle.freq_table.specs.declared.fault.MachineFault.TheVariants as machine_fault
 use Rattle.demand_list.specs.declared.fault.DemandFault.TheVariants as demand_fault
 use Rattle.trace_reader.specs.declared.trace.TraceFault.TheVariants as trace_fault
+use Rattle.edf_demand.specs.declared.fault.DeadlineFault.TheVariants as deadline_fault
 use Rattle.request_list.specs.declared.fault.RequestFault.TheVariants as request_fault
 use Rattle.dvs_base.specs.declared.limits.TheConstants.{MOST_JOBS}
 use Rattle.rtdvs_top.specs.declared.status.TextFault.{TextFault}
@@ -13,10 +14,13 @@ use Rattle.rtdvs_top.specs.declared.status.Denied.TheVariants as denied
 use Rattle.rtdvs_top.specs.declared.status.Status.{Status}
 use Rattle.rtdvs_top.specs.declared.status.Status.TheVariants as status
 
--- the work asked for exceeds what the highest speed does
+-- the work asked for exceeds what the highest speed does; an offset shows nothing of it
 abbrev pub IsShownDenial : Denied → Type 0
 IsShownDenial (denied.Edf num cap) = cap < num
 IsShownDenial (denied.Rm task num cap) = cap < num
+IsShownDenial (denied.Offset task) = ⊤
+IsShownDenial (denied.Response task num cap) = cap < num
+IsShownDenial (denied.Demand at num cap) = cap < num
 IsShownDenial (denied.Units num cap) = cap < num
 
 -- a refusal of a file is none of those that are a status of their own: want of memory, and a demand over its worst case
@@ -26,6 +30,7 @@ IsShownText (text.Machine machine_fault.NoMemory) = ⊥
 IsShownText (text.Demands demand_fault.NoMemory) = ⊥
 IsShownText (text.Demands (demand_fault.OverWorst task job units worst)) = ⊥
 IsShownText (text.Trace trace_fault.NoMemory) = ⊥
+IsShownText (text.Deadlines deadline_fault.NoMemory) = ⊥
 IsShownText (text.Requests request_fault.NoMemory) = ⊥
 IsShownText why = ⊤
 

@@ -22,10 +22,11 @@ workload_tasks = 32
 abbrev pub workload_ticks : ℕ
 workload_ticks = 50000
 
--- the plan of so many made tasks under EDF, and the demands of their jobs
+-- the plan of so many made tasks under EDF
 abbrev pub workload_plan : ℕ → ℕ → Plan
 workload_plan seed n = plan_of (made_tasks (first_state seed) n) made_machine Edf
 
+-- the demands of their jobs, drawn after the tasks
 abbrev pub workload_demands : ℕ → ℕ → DemandsOf
 workload_demands seed n = made_demands (made_tasks (first_state seed) n) (state_after (first_state seed) (2 * n))
 
@@ -39,10 +40,11 @@ totals_text g t =
     line
     (governor_word g ∷ decimal t.released ∷ decimal t.finished ∷ decimal t.decisions ∷ decimal t.run ∷ decimal t.idle ∷ [])
 
--- the lines of a workload: the seed, the tasks and the ticks, and a line for each governor that serves EDF
+-- the first line of a workload: the seed, the number of tasks and the ticks of each run
 abbrev pub head_text : ℕ → ℕ → ℕ → List ℕ
 head_text seed n ticks = line (codes "workload" ∷ decimal seed ∷ decimal n ∷ decimal ticks ∷ [])
 
+-- the text of a workload: its first line, and the line of each governor
 unfoldable pub workload_text : ℕ → ℕ → ℕ → List ℕ
 workload_text seed n ticks =
     head_text seed n ticks

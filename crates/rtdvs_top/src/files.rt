@@ -1,7 +1,7 @@
 // The files that the words name: loaded, and read.
 ghost use Rattle.std.specs.Prelude.{◌≡◌, ◌<◌, ◌^◌, Some, map, option_map, IfOk, IfErr};
 ghost use Rattle.rtdvs_top.specs.Answer.{longest, bytes_at, tasks_at, machine_at, demands_at, task_status, machine_status, demand_status};
-ghost use Rattle.rtdvs_top.specs.Causes.{Gives, Refuses, MakesLoads, IsLoadOf, IsNamedLoadOf, loads_named};
+ghost use Rattle.rtdvs_top.specs.Causes.{Gives, Refuses, MakesLoads, IsLoadOf, IsNamedLoadOf, IsOfFile, loads_named};
 ghost use Rattle.rtdvs_top.specs.Shown.{IsShown};
 
 use crate::{FileKind, Status, TextFault};
@@ -18,9 +18,11 @@ fn longest(file: FileKind) -> u64
 {
     match file {
         FileKind::Trace => LONGEST_TRACE,
-        FileKind::Tasks | FileKind::Machine | FileKind::Demands | FileKind::Requests => {
-            LONGEST_FILE
-        }
+        FileKind::Tasks
+        | FileKind::Machine
+        | FileKind::Demands
+        | FileKind::Deadlines
+        | FileKind::Requests => LONGEST_FILE,
     }
 }
 
@@ -34,6 +36,7 @@ pub(crate) fn load_file<S: Shelf>(
     ensures read { IfOk result (λ v. Gives (S.shows shelf.old).held (bytes_at file name.now) v.items) }
     ensures refused { IfErr result (Refuses (S.shows shelf.old).held (bytes_at file name.now)) }
     ensures explained { IfErr result (IsLoadOf (S.shows shelf.old) (S.shows shelf.new) file name.now) }
+    ensures of_file { IfErr result IsOfFile }
     ensures loads { MakesLoads 1 (S.shows shelf.old) (S.shows shelf.new) }
     ensures shown { IfErr result IsShown }
 {
@@ -53,6 +56,7 @@ pub(crate) fn load_file<S: Shelf>(
 // A refusal of a task file as a status.
 fn task_status(why: TaskFault) -> Status
     ensures is { result ≡ task_status why }
+    ensures of_file { IsOfFile result }
     ensures shown { IsShown result }
 {
     match why {
@@ -64,6 +68,7 @@ fn task_status(why: TaskFault) -> Status
 // A refusal of a machine file as a status.
 fn machine_status(why: MachineFault) -> Status
     ensures is { result ≡ machine_status why }
+    ensures of_file { IsOfFile result }
     ensures shown { IsShown result }
 {
     match why {
@@ -102,6 +107,7 @@ pub(crate) fn load_tasks<S: Shelf>(
     ensures read { IfOk result (Gives (S.shows shelf.old).held (tasks_at name.now)) }
     ensures refused { IfErr result (Refuses (S.shows shelf.old).held (tasks_at name.now)) }
     ensures explained { IfErr result (IsLoadOf (S.shows shelf.old) (S.shows shelf.new) FileKind.Tasks name.now) }
+    ensures of_file { IfErr result IsOfFile }
     ensures loads { MakesLoads 1 (S.shows shelf.old) (S.shows shelf.new) }
     ensures shown { IfErr result IsShown }
 {
@@ -121,6 +127,7 @@ pub(crate) fn load_machine<S: Shelf>(
     ensures read { IfOk result (Gives (S.shows shelf.old).held (machine_at name.now)) }
     ensures refused { IfErr result (Refuses (S.shows shelf.old).held (machine_at name.now)) }
     ensures explained { IfErr result (IsLoadOf (S.shows shelf.old) (S.shows shelf.new) FileKind.Machine name.now) }
+    ensures of_file { IfErr result IsOfFile }
     ensures loads { MakesLoads 1 (S.shows shelf.old) (S.shows shelf.new) }
     ensures shown { IfErr result IsShown }
 {

@@ -6,6 +6,8 @@
 #![tactic(auto)]
 
 mod admit_answer;
+mod constrain_answer;
+mod deadline_line;
 mod difference;
 mod files;
 mod least_answer;
@@ -17,6 +19,7 @@ mod polled;
 mod probe_line;
 mod refusal;
 mod request_line;
+mod response_answer;
 mod run;
 mod run_answer;
 mod status;

@@ -14,6 +14,21 @@ pub struct RunWords<'a> {
     pub version: Version,
 }
 
+/// What the words of the exact test under RM name.
+#[derive(Clone, Copy)]
+pub struct ResponseWords<'a> {
+    pub tasks: &'a str,
+    pub machine: &'a str,
+}
+
+/// What the words of a test of deadlines below the periods name.
+#[derive(Clone, Copy)]
+pub struct ConstrainWords<'a> {
+    pub tasks: &'a str,
+    pub machine: &'a str,
+    pub deadlines: &'a str,
+}
+
 /// What the words of an admission name.
 #[derive(Clone, Copy)]
 pub struct AdmitWords<'a> {

@@ -3,10 +3,11 @@ ghost use Rattle.std.specs.Prelude.{◌≡◌, ◌+◌, ◌≤◌, ◌<◌, [], 
 ghost use Rattle.std.specs.Fmt.{decimal};
 ghost use Rattle.dvs_base.specs.Parts.{joined, part_text, most_bytes};
 ghost use Rattle.trace_text.specs.TraceLines.{name_of};
-ghost use Rattle.rtdvs_top.specs.Refusals.{file_word, task_field_word, machine_field_word, column_word, at_place, at_task, at_point, at_row, repeated_text, task_fault_text, machine_fault_text, demand_fault_text, over_worst_of, text_fault_text, trace_kind_word, trace_fault_text, denied_text, HasOneLine, status_text};
+ghost use Rattle.rtdvs_top.specs.Refusals.{file_word, task_field_word, machine_field_word, column_word, at_place, at_task, at_point, at_row, repeated_text, task_fault_text, machine_fault_text, demand_fault_text, over_worst_of, text_fault_text, trace_kind_word, trace_fault_text, numbers_text, demand_text, denied_text, HasOneLine, status_text};
 ghost use Rattle.std.specs.Option.{option_copied};
 ghost use Rattle.rtdvs_top.specs.Naming.{names_of, name_text};
 
+use crate::deadline_line::deadline_fault_line;
 use crate::request_line::{no_task_line, request_fault_line};
 use crate::word_line::word_fault_line;
 use crate::{Denied, FileKind, Status, TextFault};
@@ -24,6 +25,7 @@ fn file_word(file: FileKind) -> &'static [u8]
         FileKind::Machine => b"machine",
         FileKind::Demands => b"demands",
         FileKind::Trace => b"trace",
+        FileKind::Deadlines => b"deadlines",
         FileKind::Requests => b"requests",
     }
 }
@@ -364,9 +366,52 @@ fn text_fault_line(why: &TextFault, tasks: Option<&TaskSet>) -> Line
         TextFault::Machine(why) => machine_fault_line(why),
         TextFault::Demands(why) => demand_fault_line(why, tasks),
         TextFault::Trace(why) => trace_fault_line(why),
+        TextFault::Deadlines(why) => deadline_fault_line(why, tasks),
         TextFault::Requests(why) => request_fault_line(why),
         TextFault::Server { name } => no_task_line(name),
     }
+}
+
+// A line of what is said of a task, and two numbers.
+fn numbers_line<'a>(what: &'a [u8], name: &'a Option<Name>, num: u128, cap: u128) -> Line
+    requires { length what.now ≤ 20 }
+    ensures { result ≡ numbers_text what.now (name_text name.now) num cap }
+{
+    line_of(&[
+        Part::Word(what),
+        name_part(name),
+        Part::Word(b" "),
+        Part::Wide(num),
+        Part::Word(b" "),
+        Part::Wide(cap),
+        Part::Word(b"\n"),
+    ])
+}
+
+// The line of a task with an offset.
+fn offset_line(name: &Option<Name>) -> Line
+    ensures { result ≡ joined (codes "denied offset " ∷ name_text name.now ∷ codes "\n" ∷ []) }
+{
+    line_of(&[
+        Part::Word(b"denied offset "),
+        name_part(name),
+        Part::Word(b"\n"),
+    ])
+}
+
+// The line of too much work due.
+fn demand_line(at: u64, num: u128, cap: u128) -> Line
+    ensures { result ≡ demand_text at num cap }
+{
+    line_of(&[
+        Part::Word(b"denied demand "),
+        Part::Number(at),
+        Part::Word(b" "),
+        Part::Wide(num),
+        Part::Word(b" "),
+        Part::Wide(cap),
+        Part::Word(b"\n"),
+    ])
 }
 
 fn denied_line(why: &Denied, tasks: Option<&TaskSet>) -> Line
@@ -381,17 +426,13 @@ fn denied_line(why: &Denied, tasks: Option<&TaskSet>) -> Line
             Part::Word(b"\n"),
         ]),
         Denied::Rm { task, num, cap } => {
-            let name = name_at(tasks, *task);
-            line_of(&[
-                Part::Word(b"denied rm "),
-                name_part(&name),
-                Part::Word(b" "),
-                Part::Wide(*num),
-                Part::Word(b" "),
-                Part::Wide(*cap),
-                Part::Word(b"\n"),
-            ])
+            numbers_line(b"denied rm ", &name_at(tasks, *task), *num, *cap)
         }
+        Denied::Offset { task } => offset_line(&name_at(tasks, *task)),
+        Denied::Response { task, num, cap } => {
+            numbers_line(b"misses ", &name_at(tasks, *task), *num, *cap)
+        }
+        Denied::Demand { at, num, cap } => demand_line(*at, *num, *cap),
         Denied::Units { num, cap } => line_of(&[
             Part::Word(b"denied units "),
             Part::Wide(*num),

@@ -106,8 +106,8 @@ fn put_trace<G: Governor, W: Sink, P: Probe>(
 ) -> Result<(), Failed>
     ensures wrote { Writing (W.shows out.old) (W.shows out.new)
         (governed_text version G.the_kind G.demand kernel.entry) result }
-    ensures told { TraceTold version G.the_kind kernel.entry.plan kernel.entry.ticks (notes_of_run G.demand kernel.entry)
-        (W.shows out.old) (W.shows out.new)
+    ensures told { TraceTold version G.the_kind kernel.entry.plan kernel.entry.ticks
+        (notes_of_run G.demand kernel.entry) (W.shows out.old) (W.shows out.new)
         (map P.seen probes.old.items) (map P.seen probes.new.items) result }
     ensures deadlines { OnOk result (MeetsDeadlines G.demand kernel.entry) }
     ensures demands { OnOk result (G.the_kind ≢ GovernorKind.Ahead → MeetsDemands G.demand kernel.entry) }

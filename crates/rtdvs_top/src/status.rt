@@ -4,6 +4,7 @@ ghost use Rattle.rtdvs_top.specs.Code.{code_of};
 
 use demand_list::DemandFault;
 use dvs_base::{Note, Short};
+use edf_demand::DeadlineFault;
 use freq_table::MachineFault;
 use request_list::RequestFault;
 use task_model::TaskFault;
@@ -21,6 +22,8 @@ pub enum FileKind {
     Demands,
     /// The file of a trace.
     Trace,
+    /// The file of relative deadlines.
+    Deadlines,
     /// The file of requests.
     Requests,
 }
@@ -38,6 +41,8 @@ pub enum TextFault {
     Demands(DemandFault),
     /// The trace is refused, and not for want of memory.
     Trace(TraceFault),
+    /// The relative deadlines are refused, and not for want of memory.
+    Deadlines(DeadlineFault),
     /// The requests are refused, and not for want of memory.
     Requests(RequestFault),
     /// No task has the name of the server.
@@ -52,6 +57,14 @@ pub enum Denied {
     /// The first task in RM order whose level asks for more work in its period than the highest speed does in it
     /// (Pillai and Shin 2001).
     Rm { task: u32, num: u128, cap: u128 },
+    /// The first task in file order that is first released after tick 0; tests by first jobs serve no such set. Tasks count
+    /// from 0.
+    Offset { task: u32 },
+    /// The first task in RM order without a response: in its period the work that its level asks for is more than what
+    /// the highest speed does in it (Joseph and Pandya 1986).
+    Response { task: u32, num: u128, cap: u128 },
+    /// The work due within `at` ticks, and what the highest speed does in them (Baruah, Rosier and Howell 1990).
+    Demand { at: u64, num: u128, cap: u128 },
     /// The units whose least energy is asked for, and what the highest speed does in the ticks.
     Units { num: u128, cap: u128 },
 }
@@ -61,7 +74,7 @@ pub enum Denied {
 pub enum Status {
     /// The whole answer was written.
     Done,
-    /// The scheduler's test fails, or more units are asked for than the highest speed does in the ticks.
+    /// A test fails, or more units are asked for than the highest speed does in the ticks.
     NotAdmitted(Denied),
     /// The words aren't those of a command: their first trouble, from left to right.
     Words(WordFault),

@@ -10,8 +10,9 @@ ghost use Rattle.rtdvs_top.specs.ProbeLines.{noted_text, probe_lines};
 ghost use Rattle.rtdvs_top.specs.Probing.{LeavesProbes, ToldIn, asks_probes};
 ghost use Rattle.rtdvs_top.specs.Shown.{IsShown};
 ghost use Rattle.rtdvs_top.specs.Ending.{EndsAs, Leaves, MetIn};
-ghost use Rattle.rtdvs_top.specs.Promises.{asked, files_told, Answers, Writes, WritesPart, IsSureOf, LoadFailed, LoadsInOrder, loads_asked, OfRun, OfPoll, Headline, OfLeast, Notes, Tells, probes_asked};
+ghost use Rattle.rtdvs_top.specs.Promises.{asked, files_told, Answers, Writes, WritesPart, IsSureOf, LoadFailed, LoadsInOrder, loads_asked, OfRun, OfTests, OfPoll, Headline, OfLeast, Notes, Tells, probes_asked};
 ghost use Rattle.rtdvs_top.specs.Exactness.{OfTrace};
+ghost use Rattle.rtdvs_top.specs.Testing.{TestedIn};
 ghost use Rattle.rtdvs_top.specs.Writing.{NotedAs};
 ghost use Rattle.words.specs.Commands.{IsReadyCommand};
 ghost use Rattle.words.specs.Shown.{shown};
@@ -19,13 +20,15 @@ ghost use Rattle.words.specs.declared.command.WordFault.{WordFault};
 
 use crate::Status;
 use crate::admit_answer::answer_admit;
+use crate::constrain_answer::answer_constrain;
 use crate::difference::{Difference, put_difference};
 use crate::least_answer::{LeastWords, answer_least};
 use crate::made_lines::answer_workload;
-use crate::plan_words::{AdmitWords, PollWords, RunWords};
+use crate::plan_words::{AdmitWords, ConstrainWords, PollWords, ResponseWords, RunWords};
 use crate::poll_answer::answer_poll;
 use crate::probe_line::put_probes;
 use crate::refusal::status_line;
+use crate::response_answer::answer_response;
 use crate::run_answer::answer_run;
 use crate::trace_answer::answer_trace;
 use crate::traced::TraceWords;
@@ -107,6 +110,7 @@ fn answer_command<S: Shelf, W: Sink, P: Probe>(
         (W.shows out.old) (W.shows out.new)
         (map P.seen probes.old.items) (map P.seen probes.new.items) result.0 }
     ensures met { MetIn (files_for (S.shows shelf.old).held (shown command.now)) (shown command.now) result.0 }
+    ensures tested { TestedIn (files_for (S.shows shelf.old).held (shown command.now)) (shown command.now) result.0 }
     ensures named { NamedBy (files_for (S.shows shelf.old).held (shown command.now)) (shown command.now)
         result.1 result.0 }
     ensures named_done { NamedIfDone (files_for (S.shows shelf.old).held (shown command.now)) (shown command.now)
@@ -179,6 +183,22 @@ fn answer_command<S: Shelf, W: Sink, P: Probe>(
             answer_trace(alloc, &words, shelf, out)
         }
         Command::Workload { seed } => (answer_workload(alloc, *seed, out), None),
+        Command::Response { tasks, machine } => {
+            let files = ResponseWords { tasks, machine };
+            answer_response(alloc, &files, shelf, out)
+        }
+        Command::Constrain {
+            tasks,
+            machine,
+            deadlines,
+        } => {
+            let files = ConstrainWords {
+                tasks,
+                machine,
+                deadlines,
+            };
+            answer_constrain(alloc, &files, shelf, out)
+        }
         Command::Poll {
             tasks,
             machine,
@@ -216,14 +236,15 @@ fn answer_command<S: Shelf, W: Sink, P: Probe>(
 
 /// Does what the words ask for: runs a plan and writes its trace, tells whether a task set is admitted, writes what the
 /// runs of a made workload come to, tells whether a trace is that of the run that it tells, or writes it in version 2,
-/// tells when a server serves requests, or the least energy for some units in some ticks with its certificate.
+/// tells the responses of a task set under RM, the lowest speed for deadlines below the periods under EDF, when a server
+/// serves requests, or the least energy for some units in some ticks with its certificate.
 ///
 /// The answer goes to `out`, and the line of a refusal to `notes`; both one put a line, which is tested, not proved. After
 /// a run with `--probes` that is done, the line of each probe that is left goes to `notes`; after the first put that fails
 /// no more is put there.
-/// Files are loaded from `shelf` in the order tasks, machine, demands or trace, each before it is read; a least energy
-/// loads the machine alone. `NoMemory` may come at
-/// any step before the first byte of `out`, and never after it; a fault of `notes` changes no status.
+/// Files are loaded from `shelf` in the order tasks, machine, and then demands, trace, deadlines or requests, each before
+/// it is read; a least energy loads the machine alone. `NoMemory` may come at any step before the first byte of `out`, and
+/// never after it; a fault of `notes` changes no status.
 pub fn rtdvs<S: Shelf, W: Sink, E: Sink>(
     alloc: Global,
     words: &[String],
@@ -263,6 +284,9 @@ pub fn rtdvs<S: Shelf, W: Sink, E: Sink>(
     ensures exact { OfTrace (files_told (S.shows shelf.old).held (asked words.now)) (asked words.now)
         (Rose (S.shows shelf.old).faults (S.shows shelf.new).faults)
         (Rose (W.shows out.old).faults (W.shows out.new).faults) result }
+
+    // the exact tests: what one that is done proves of every schedule, and one that denies of that of the worst cases
+    ensures tested { OfTests (files_told (S.shows shelf.old).held (asked words.now)) (asked words.now) result }
 
     // what a polling that is done has kept
     ensures polled { OfPoll (files_told (S.shows shelf.old).held (asked words.now)) (asked words.now) result }

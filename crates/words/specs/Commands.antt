@@ -43,6 +43,17 @@ pub record TracedOf : Type 0 where
   pub machine : List ℕ
   pub trace : List ℕ
 
+-- what the words of a test by response times name
+pub record ResponseOf : Type 0 where
+  pub tasks : List ℕ
+  pub machine : List ℕ
+
+-- what the words of a test of deadlines below the periods name
+pub record ConstrainOf : Type 0 where
+  pub tasks : List ℕ
+  pub machine : List ℕ
+  pub deadlines : List ℕ
+
 -- what the words of a polling name: files by their names, the task that serves, and the run as for a run
 pub record PollOf : Type 0 where
   pub tasks : List ℕ
@@ -65,6 +76,8 @@ pub data CommandOf : Type 0 where
   admit : AdmitOf → CommandOf
   traced : TracedOf → CommandOf
   workload : ℕ → CommandOf
+  response : ResponseOf → CommandOf
+  constrain : ConstrainOf → CommandOf
   poll : PollOf → CommandOf
   least : LeastOf → CommandOf
 
@@ -152,6 +165,21 @@ traced_of asked g = do
 abbrev pub trace_command : TraceUse → GivenOf → Result CommandOf WordFault
 trace_command asked g = traced_of asked g >>= (λ r. Ok (traced r))
 
+-- a test by response times by the values that were given
+abbrev pub response_of : GivenOf → Result ResponseOf WordFault
+response_of g = do
+  tasks ← need opt.Tasks g.tasks
+  machine ← need opt.Machine g.machine
+  Ok (record { tasks = tasks; machine = machine })
+
+-- a test of deadlines below the periods by the values that were given
+abbrev pub constrain_of : GivenOf → Result ConstrainOf WordFault
+constrain_of g = do
+  tasks ← need opt.Tasks g.tasks
+  machine ← need opt.Machine g.machine
+  deadlines ← need opt.Deadlines g.deadlines
+  Ok (record { tasks = tasks; machine = machine; deadlines = deadlines })
+
 -- a least energy by the values that were given
 abbrev pub least_of : GivenOf → Result LeastOf WordFault
 least_of g = do
@@ -185,5 +213,7 @@ built verb.Admit g = admit_of g >>= (λ a. Ok (admit a))
 built verb.Replay g = trace_command Replay g
 built verb.Migrate g = trace_command Migrate g
 built verb.Workload g = need opt.Seed g.seed >>= (λ seed. Ok (workload seed))
+built verb.Response g = response_of g >>= (λ r. Ok (response r))
+built verb.Constrain g = constrain_of g >>= (λ c. Ok (constrain c))
 built verb.Poll g = poll_of g >>= (λ q. Ok (poll q))
 built verb.Least g = least_of g >>= (λ l. Ok (least l))

@@ -8,7 +8,7 @@ use Rattle.words.specs.declared.given.TraceUse.TheVariants.{Replay, Migrate}
 use Rattle.words.specs.declared.given.Timed.{Timed}
 use Rattle.words.specs.declared.read.Reading.{Reading}
 use Rattle.words.specs.Values.{GivenOf}
-use Rattle.words.specs.Commands.{CommandOf, TimedOf, run, admit, traced, workload, poll, least}
+use Rattle.words.specs.Commands.{CommandOf, TimedOf, run, admit, traced, workload, response, constrain, poll, least}
 use Rattle.words.specs.Reading.{ReadingOf}
 
 -- the values that were given, with the texts of names
@@ -18,6 +18,7 @@ shown_given g = record {
   machine = option_map (λ s. s.now) g.machine;
   demands = option_map (λ s. s.now) g.demands;
   trace = option_map (λ s. s.now) g.trace;
+  deadlines = option_map (λ s. s.now) g.deadlines;
   requests = option_map (λ s. s.now) g.requests;
   server = option_map (λ s. s.now) g.server;
   scheduler = g.scheduler;
@@ -62,6 +63,9 @@ shown (command.Replay tasks machine trace) =
 shown (command.Migrate tasks machine trace) =
     traced (record { asked = Migrate; tasks = tasks.now; machine = machine.now; trace = trace.now })
 shown (command.Workload seed) = workload seed
+shown (command.Response tasks machine) = response (record { tasks = tasks.now; machine = machine.now })
+shown (command.Constrain tasks machine deadlines) =
+    constrain (record { tasks = tasks.now; machine = machine.now; deadlines = deadlines.now })
 shown (command.Poll tasks machine requests server scheduler governor ticks) = poll (record {
   tasks = tasks.now;
   machine = machine.now;

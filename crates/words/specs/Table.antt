@@ -21,6 +21,8 @@ commands =
     ∷ (codes "workload", verb.Workload)
     ∷ (codes "replay", verb.Replay)
     ∷ (codes "migrate", verb.Migrate)
+    ∷ (codes "response", verb.Response)
+    ∷ (codes "constrain", verb.Constrain)
     ∷ (codes "poll", verb.Poll)
     ∷ (codes "least", verb.Least)
     ∷ []
@@ -41,6 +43,8 @@ options_of verb.Admit = key.Tasks ∷ key.Machine ∷ key.Scheduler ∷ []
 options_of verb.Workload = key.Seed ∷ []
 options_of verb.Replay = key.Tasks ∷ key.Machine ∷ key.Trace ∷ []
 options_of verb.Migrate = key.Tasks ∷ key.Machine ∷ key.Trace ∷ []
+options_of verb.Response = key.Tasks ∷ key.Machine ∷ []
+options_of verb.Constrain = key.Tasks ∷ key.Machine ∷ key.Deadlines ∷ []
 options_of verb.Poll =
     key.Tasks ∷ key.Machine ∷ key.Requests ∷ key.Server ∷ key.Scheduler ∷ key.Governor ∷ key.Ticks ∷ []
 options_of verb.Least = key.Machine ∷ key.Units ∷ key.Ticks ∷ []
@@ -55,6 +59,7 @@ option_word opt.Governor = codes "--governor"
 option_word opt.Ticks = codes "--ticks"
 option_word opt.Trace = codes "--trace"
 option_word opt.Seed = codes "--seed"
+option_word opt.Deadlines = codes "--deadlines"
 option_word opt.Requests = codes "--requests"
 option_word opt.Server = codes "--server"
 option_word opt.Units = codes "--units"
@@ -69,6 +74,7 @@ word_of key.Governor = option_word opt.Governor
 word_of key.Ticks = option_word opt.Ticks
 word_of key.Trace = option_word opt.Trace
 word_of key.Seed = option_word opt.Seed
+word_of key.Deadlines = option_word opt.Deadlines
 word_of key.Requests = option_word opt.Requests
 word_of key.Server = option_word opt.Server
 word_of key.Units = option_word opt.Units

@@ -31,6 +31,7 @@ pub record GivenOf : Type 0 where
   pub machine : Option (List ℕ)
   pub demands : Option (List ℕ)
   pub trace : Option (List ℕ)
+  pub deadlines : Option (List ℕ)
   pub requests : Option (List ℕ)
   pub server : Option (List ℕ)
   pub scheduler : Option Scheduler
@@ -48,6 +49,7 @@ nothing_given = record {
   machine = None;
   demands = None;
   trace = None;
+  deadlines = None;
   requests = None;
   server = None;
   scheduler = None;
@@ -69,6 +71,7 @@ has g key.Governor = is_some g.governor
 has g key.Ticks = is_some g.ticks
 has g key.Trace = is_some g.trace
 has g key.Seed = is_some g.seed
+has g key.Deadlines = is_some g.deadlines
 has g key.Requests = is_some g.requests
 has g key.Server = is_some g.server
 has g key.Units = is_some g.units
@@ -85,6 +88,7 @@ with_value g key.Governor word = option_map (λ v. record g { governor = Some v 
 with_value g key.Ticks word = option_map (λ v. record g { ticks = Some v }) (ticks_of word)
 with_value g key.Trace word = option_map (λ v. record g { trace = Some v }) (some_text word)
 with_value g key.Seed word = option_map (λ v. record g { seed = Some v }) (number_of word)
+with_value g key.Deadlines word = option_map (λ v. record g { deadlines = Some v }) (some_text word)
 with_value g key.Requests word = option_map (λ v. record g { requests = Some v }) (some_text word)
 with_value g key.Server word = option_map (λ v. record g { server = Some v }) (some_text word)
 with_value g key.Units word = option_map (λ v. record g { units = Some v }) (number_of word)

@@ -122,6 +122,29 @@ fn made<'a>(given: Given<'a>) -> Result<Command<'a>, WordFault>
     Ok(Command::Workload { seed })
 }
 
+// A test by response times, by the values that were given.
+fn responding<'a>(given: Given<'a>) -> Result<Command<'a>, WordFault>
+    ensures { answer result ≡ built verb.Response (shown_given given.entry) }
+{
+    let tasks = need(given.tasks, Opt::Tasks)?;
+    let machine = need(given.machine, Opt::Machine)?;
+    Ok(Command::Response { tasks, machine })
+}
+
+// A test of deadlines below the periods, by the values that were given.
+fn constrained<'a>(given: Given<'a>) -> Result<Command<'a>, WordFault>
+    ensures { answer result ≡ built verb.Constrain (shown_given given.entry) }
+{
+    let tasks = need(given.tasks, Opt::Tasks)?;
+    let machine = need(given.machine, Opt::Machine)?;
+    let deadlines = need(given.deadlines, Opt::Deadlines)?;
+    Ok(Command::Constrain {
+        tasks,
+        machine,
+        deadlines,
+    })
+}
+
 // A least energy by the values that were given.
 fn bounded<'a>(given: Given<'a>) -> Result<Command<'a>, WordFault>
     ensures read { answer result ≡ built verb.Least (shown_given given.entry) }
@@ -149,6 +172,8 @@ pub fn built<'a>(verb: Verb, given: Given<'a>) -> Result<Command<'a>, WordFault>
         Verb::Replay => traced(given, TraceUse::Replay),
         Verb::Migrate => traced(given, TraceUse::Migrate),
         Verb::Workload => made(given),
+        Verb::Response => responding(given),
+        Verb::Constrain => constrained(given),
         Verb::Poll => polled(given),
         Verb::Least => bounded(given),
     }

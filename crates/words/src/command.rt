@@ -20,6 +20,8 @@ pub enum Opt {
     Trace,
     /// `--seed`: the number from which a workload is made.
     Seed,
+    /// `--deadlines`: the file of relative deadlines.
+    Deadlines,
     /// `--requests`: the file of requests.
     Requests,
     /// `--server`: the task that serves them.
@@ -63,6 +65,17 @@ pub enum Command<'a> {
     /// Run what is made from a seed, under each governor.
     Workload {
         seed: u64,
+    },
+    /// Say when each task's first job is complete at the latest, under RM at the highest speed.
+    Response {
+        tasks: &'a str,
+        machine: &'a str,
+    },
+    /// Say the lowest speed at which every deadline is met under EDF, with deadlines below the periods.
+    Constrain {
+        tasks: &'a str,
+        machine: &'a str,
+        deadlines: &'a str,
     },
     /// Print when a task serves each request, in so many ticks.
     Poll {

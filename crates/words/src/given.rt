@@ -9,6 +9,7 @@ pub struct Given<'a> {
     pub machine: Option<&'a str>,
     pub demands: Option<&'a str>,
     pub trace: Option<&'a str>,
+    pub deadlines: Option<&'a str>,
     pub requests: Option<&'a str>,
     pub server: Option<&'a str>,
     pub scheduler: Option<Scheduler>,

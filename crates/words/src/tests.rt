@@ -365,6 +365,45 @@ fn probes_and_a_version_may_be_asked_for(rt: HostRuntime) -> Result<(), Fail> {
 }
 
 #[test]
+fn response_times_are_asked_for(rt: HostRuntime) -> Result<(), Fail> {
+    let alloc = rt.alloc();
+    let response = Command::Response {
+        tasks: "t",
+        machine: "m",
+    };
+    assert!(rt; is_read_as(alloc, "response --machine m --tasks t", response)?);
+    assert!(rt; fault_of(alloc, "response")? == missing(Opt::Tasks));
+    assert!(rt; fault_of(alloc, "response --tasks t")? == missing(Opt::Machine));
+    assert!(rt; fault_of(alloc, "response --machine ")? == bad_value(3, ""));
+    assert!(rt;
+        fault_of(alloc, "response --tasks t --scheduler rm")? == unexpected(4, "--scheduler")
+    );
+    Ok(())
+}
+
+#[test]
+fn deadlines_below_periods_are_asked_for(rt: HostRuntime) -> Result<(), Fail> {
+    let alloc = rt.alloc();
+    let constrain = Command::Constrain {
+        tasks: "t",
+        machine: "m",
+        deadlines: "d",
+    };
+    assert!(rt;
+        is_read_as(
+            alloc,
+            "constrain --deadlines d --machine m --tasks t",
+            constrain
+        )?
+    );
+    assert!(rt; fault_of(alloc, "constrain --tasks t --machine m")? == missing(Opt::Deadlines));
+    assert!(rt; fault_of(alloc, "constrain --deadlines d --tasks t")? == missing(Opt::Machine));
+    assert!(rt; fault_of(alloc, "constrain --deadlines ")? == bad_value(3, ""));
+    assert!(rt; fault_of(alloc, "constrain --tasks t --demands d")? == unexpected(4, "--demands"));
+    Ok(())
+}
+
+#[test]
 fn a_polling_names_its_server(rt: HostRuntime) -> Result<(), Fail> {
     let alloc = rt.alloc();
     let poll = Command::Poll {

@@ -1,4 +1,4 @@
-use Rattle.std.proofs.Common.{◌≡◌, ℕ, ◌*◌, ◌≤◌, List, true, slice_index, sym, ◌∙◌, ap, subst, arith}
+use Rattle.std.proofs.Common.{◌≡◌, ℕ, ◌*◌, List, true, slice_index, sym, ◌∙◌, ap, subst, arith}
 use Rattle.dvs_base.specs.declared.kind.Scheduler.TheVariants.{Edf}
 use Rattle.freq_table.specs.declared.machine.Pick.{Pick}
 use Rattle.freq_table.specs.Tables.{lowest_pick}
@@ -6,9 +6,50 @@ use Rattle.sched_model.specs.Plan.{Plan, plan_of, top_speed}
 use Rattle.sched_model.specs.Admission.{IsWithinLimits}
 use Rattle.edf_demand_laws.specs.ProcessorDemand.{IsConstrainedDemand}
 use Rattle.edf_demand.proofs.Limits.{constrained_of}
-use Rattle.edf_demand.proofs.Answering.{lowest-speed, overload}
+use Rattle.edf_demand.proofs.Answering.{lowest-speed, overload, answer-offset, answer-too_many, answer-met, answer-denied}
+use Rattle.edf_demand_laws.proofs.Busiest.{is-constrained_demand}
 use Rattle.edf_demand.specs.Answers.{IsTested}
 use Rattle.edf_demand.proofs.lowest_speed.constrain.Goals as goal
+
+pub returns-in-Some-clause-answer : goal.returns-in-Some-clause-answer
+returns-in-Some-clause-answer c =
+    let p : Plan = plan_of c.args.tasks.now c.args.machine.now Edf in
+    λ unless. answer-offset p (slice_index c.args.deadlines.now) c.in-Some.task c.in-Some.ensures.finds
+
+pub returns-then-count-gt-MOST_JOBS-clause-answer : goal.returns-then-count-gt-MOST_JOBS-clause-answer
+returns-then-count-gt-MOST_JOBS-clause-answer c =
+    let p : Plan = plan_of c.args.tasks.now c.args.machine.now Edf in
+    λ unless. answer-too_many p (slice_index c.args.deadlines.now) c.in_default.ensures.finds c.hyper_jobs-count.result c.hyper_jobs-count.ensures c.if-count-gt-MOST_JOBS.true
+
+pub returns-then-pick-clause-answer : goal.returns-then-pick-clause-answer
+returns-then-pick-clause-answer c =
+    let p : Plan = plan_of c.args.tasks.now c.args.machine.now Edf in
+    let deadlines = c.args.deadlines.now in
+    let con = constrained_of c.args.tasks.now c.args.machine.now deadlines c.requires c.in_default.ensures.finds in
+    let demand = c.in-Ok.demand in
+    let is : IsConstrainedDemand p (slice_index deadlines) demand =
+    subst (λ (ds : List ℕ). IsConstrainedDemand p (slice_index ds) demand) c.ticks.ensures c.in-Ok.ensures in
+    let e = c.lowest-pick.result.index in
+    let pick : lowest_pick p.machine demand ≡ (record { index = e; met = true }) =
+    sym c.lowest-pick.ensures ∙ (λ i. record { index = e; met = c.if-pick.true i }) in
+    answer-met p (slice_index deadlines) c.in_default.ensures.finds
+    (omega (arith, c.if-count-gt-MOST_JOBS.false, c.hyper_jobs-count.ensures)) demand
+    (is-constrained_demand p (slice_index deadlines) con demand is) e pick
+
+pub returns-clause-answer : goal.returns-clause-answer
+returns-clause-answer c =
+    let p : Plan = plan_of c.args.tasks.now c.args.machine.now Edf in
+    let deadlines = c.args.deadlines.now in
+    let con = constrained_of c.args.tasks.now c.args.machine.now deadlines c.requires c.in_default.ensures.finds in
+    let demand = c.in-Ok.demand in
+    let is : IsConstrainedDemand p (slice_index deadlines) demand =
+    subst (λ (ds : List ℕ). IsConstrainedDemand p (slice_index ds) demand) c.ticks.ensures c.in-Ok.ensures in
+    let top : c.from.result ≡ top_speed p = c.from.ensures ∙ c.top.ensures in
+    let none = ap (λ (x : Pick). x.met) (sym c.lowest-pick.ensures) ∙ c.if-pick.false in
+    λ unless. answer-denied p (slice_index deadlines) c.in_default.ensures.finds
+    (omega (arith, c.if-count-gt-MOST_JOBS.false, c.hyper_jobs-count.ensures)) demand
+    (is-constrained_demand p (slice_index deadlines) con demand is) (c.from.result * demand.den)
+    (ap (λ (n : ℕ). n * demand.den) top) none
 
 pub returns-then-pick-clause-speed : goal.returns-then-pick-clause-speed
 returns-then-pick-clause-speed c =
@@ -16,7 +57,7 @@ returns-then-pick-clause-speed c =
     let lim : IsWithinLimits p =
     record { tasks = c.as_slice-tasks.ensures.limits; machine = c.as_slice-entries.ensures.limits } in
     let deadlines = c.args.deadlines.now in
-    let con = constrained_of c.args.tasks.now c.args.machine.now deadlines c.requires c.in_default.ensures in
+    let con = constrained_of c.args.tasks.now c.args.machine.now deadlines c.requires c.in_default.ensures.finds in
     let demand = c.in-Ok.demand in
     let is : IsConstrainedDemand p (slice_index deadlines) demand =
     subst (λ (ds : List ℕ). IsConstrainedDemand p (slice_index ds) demand) c.ticks.ensures c.in-Ok.ensures in
@@ -31,12 +72,12 @@ returns-clause-denial c =
     let lim : IsWithinLimits p =
     record { tasks = c.as_slice-tasks.ensures.limits; machine = c.as_slice-entries.ensures.limits } in
     let deadlines = c.args.deadlines.now in
-    let con = constrained_of c.args.tasks.now c.args.machine.now deadlines c.requires c.in_default.ensures in
+    let con = constrained_of c.args.tasks.now c.args.machine.now deadlines c.requires c.in_default.ensures.finds in
     let demand = c.in-Ok.demand in
     let is : IsConstrainedDemand p (slice_index deadlines) demand =
     subst (λ (ds : List ℕ). IsConstrainedDemand p (slice_index ds) demand) c.ticks.ensures c.in-Ok.ensures in
     let tested : IsTested p = record {
-      no_offset = c.in_default.ensures;
+      no_offset = c.in_default.ensures.finds;
       few = omega (arith, c.if-count-gt-MOST_JOBS.false, c.hyper_jobs-count.ensures);
     } in
     let top : c.from.result ≡ top_speed p = c.from.ensures ∙ c.top.ensures in

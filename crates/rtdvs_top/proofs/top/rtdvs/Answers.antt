@@ -3,7 +3,7 @@ use Rattle.probes.specs.Tallies.{ProbeOf}
 use Rattle.dvs_base.specs.Outside.{Rose}
 use Rattle.words.specs.Commands.{CommandOf}
 use Rattle.words.specs.declared.command.WordFault.{WordFault}
-use Rattle.rtdvs_top.specs.Promises.{files_told, Answers, IsSureOf, OfRun, OfPoll, Headline, OfLeast, Notes}
+use Rattle.rtdvs_top.specs.Promises.{files_told, Answers, IsSureOf, OfRun, OfTests, OfPoll, Headline, OfLeast, Notes}
 use Rattle.rtdvs_top.proofs.Answering.{answers-of, sure-of}
 use Rattle.rtdvs_top.proofs.Noting.{notes-of}
 use Rattle.rtdvs_top.specs.Exactness.{OfTrace}
@@ -36,6 +36,13 @@ returns-clause-run g c =
     subst (λ (command : Result CommandOf WordFault). OfRun (files_told old.held command) command out_old out_new s)
     c.in-Ok.ensures.read (of-run _ _ s out_old out_new e.ended e.met)
 
+pub returns-clause-tested : goal.returns-clause-tested
+returns-clause-tested g c =
+    let old = g.S.Shelf.shows c.args.shelf.now in
+    let s = c.answer_command-status.result.0 in
+    subst (λ (command : Result CommandOf WordFault). OfTests (files_told old.held command) command s)
+    c.in-Ok.ensures.read c.answer_command-status.ensures.tested
+
 pub returns-clause-polled : goal.returns-clause-polled
 returns-clause-polled g c =
     let old = g.S.Shelf.shows c.args.shelf.now in
@@ -66,7 +73,7 @@ returns-clause-headline g c =
     (λ (command : Result CommandOf WordFault).
     Headline (files_told old.held command) command (Rose old.faults new.faults) out_old out_new s)
     c.in-Ok.ensures.read
-    (headline-of _ (Ok _) (Rose old.faults new.faults) out_old out_new s (of-run _ _ s out_old out_new e.ended e.met)
+    (headline-of _ (Ok _) (Rose old.faults new.faults) out_old out_new s (of-run _ _ s out_old out_new e.ended e.met) e.tested
     (answers-of _ _ old new out_old out_new s refl e.ended e.explained e.passed))
 
 pub returns-clause-exact : goal.returns-clause-exact

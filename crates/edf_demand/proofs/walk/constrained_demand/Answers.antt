@@ -1,4 +1,4 @@
-use Rattle.std.proofs.Common.{◌≡◌, ℕ, ◌+◌, ◌*◌, ◌<◌, ◌≤◌, ◌^◌, slice_index, refl, sym, ◌∙◌, ap, subst, arith}
+use Rattle.std.proofs.Common.{◌≡◌, ℕ, ◌+◌, ◌*◌, ◌<◌, ◌≤◌, ◌^◌, slice_index, sym, ◌∙◌, ap, subst, arith}
 use Rattle.std.proofs.Math.Nat.{mul-le-mul_left, mul-le-mul_right}
 use Rattle.dvs_base.specs.declared.kind.Scheduler.TheVariants.{Edf}
 use Rattle.grid_fraction.specs.declared.Frac.{Frac}
@@ -6,21 +6,33 @@ use Rattle.grid_fraction.specs.Numbers.{least_below}
 use Rattle.sched_model.specs.Plan.{Plan, plan_of, count, hyper}
 use Rattle.sched_model.specs.Admission.{IsWithinLimits}
 use Rattle.edf_demand_laws.specs.ProcessorDemand.{processor_demand}
+use Rattle.edf_demand.specs.Walk.{due_of}
 use Rattle.edf_demand.proofs.Walking.{Walking, walk-start, walk-takes, walk-keeps, walk-ends, work-next, low-demand, now-later, goes-on}
-use Rattle.edf_demand.proofs.walk.greatest_demand.Goals as goal
-use Rattle.edf_demand.proofs.walk.greatest_demand.Goals.{then-greater, else-greater}
+use Rattle.edf_demand.proofs.walk.constrained_demand.Goals as goal
+use Rattle.edf_demand.proofs.walk.constrained_demand.Goals.{then-greater, else-greater}
 
 pub loop-now-init : goal.loop-now-init
 loop-now-init c =
-    let next = c.args.next.now in
     let p : Plan = plan_of c.args.tasks.now c.args.machine.now Edf in
     let lim : IsWithinLimits p =
     record { tasks = c.as_slice-tasks.ensures.limits; machine = c.as_slice-entries.ensures.limits } in
-    let long = c.requires.one_each in
-    let start = walk-start p lim (slice_index next) c.requires.deadlines next long (λ i lt. refl) in
-    let now : c.earliest-now.result ≡ least_below (count p) (slice_index next) =
-    c.earliest-now.ensures ∙ ap (λ (n : ℕ). least_below n (slice_index next)) long in
-    subst (λ (n : ℕ). Walking p (slice_index next) next n 0 (record { num = 0; den = 1 })) (sym now) start
+    let relative = slice_index c.args.deadlines.now in
+    let made = c.in_ok-next.ensures in
+    let next = due_of c.in_ok-next.next.entries in
+    let start = walk-start p lim relative c.requires.deadlines next made.deadlines in
+    let now : c.earliest-now.result ≡ least_below (count p) next =
+    c.earliest-now.ensures ∙ ap (λ (n : ℕ). least_below n next) made.one_each in
+    record {
+      one_each = made.one_each;
+      calendar = made.calendar;
+      walking = subst (λ (n : ℕ). Walking p relative next n 0 (record { num = 0; den = 1 })) (sym now) start;
+    }
+
+pub take_due-work-requires-clause-first : goal.take_due-work-requires-clause-first
+take_due-work-requires-clause-first c =
+    let l = c.loop-now in
+    l.invariant.walking.now_is
+    ∙ ap (λ (n : ℕ). least_below n (due_of l.next.entries)) (sym l.invariant.one_each)
 
 pub overflow_add-work : goal.overflow_add-work
 overflow_add-work c =
@@ -28,10 +40,10 @@ overflow_add-work c =
     let lim : IsWithinLimits p =
     record { tasks = c.as_slice-tasks.ensures.limits; machine = c.as_slice-entries.ensures.limits } in
     let con = c.requires.deadlines in
-    let relative = slice_index c.args.next.now in
+    let relative = slice_index c.args.deadlines.now in
     let l = c.loop-now in
     let within : l.now ≤ hyper p = omega (arith, c.loop-now-test.true, c.hyper.ensures.hyper) in
-    let work = work-next p lim relative con l.next l.now l.work l.busiest l.invariant in
+    let work = work-next p lim relative con (due_of l.next.entries) l.now l.work l.busiest l.invariant.walking in
     omega (arith, work, low-demand p lim relative con c.requires.few l.now within, c.take_due-work.ensures.work)
 
 pub greater-requires-clause-left_den : goal.greater-requires-clause-left_den
@@ -39,9 +51,10 @@ greater-requires-clause-left_den c =
     let p : Plan = plan_of c.args.tasks.now c.args.machine.now Edf in
     let lim : IsWithinLimits p =
     record { tasks = c.as_slice-tasks.ensures.limits; machine = c.as_slice-entries.ensures.limits } in
-    let relative = slice_index c.args.next.now in
+    let relative = slice_index c.args.deadlines.now in
     let l = c.loop-now in
-    let later = now-later p lim relative c.requires.deadlines l.next l.now l.work l.busiest l.invariant in
+    let later =
+    now-later p lim relative c.requires.deadlines (due_of l.next.entries) l.now l.work l.busiest l.invariant.walking in
     omega (arith, later, c.from.ensures)
 
 pub greater-requires-clause-left_fits : goal.greater-requires-clause-left_fits
@@ -50,27 +63,29 @@ greater-requires-clause-left_fits c =
     let lim : IsWithinLimits p =
     record { tasks = c.as_slice-tasks.ensures.limits; machine = c.as_slice-entries.ensures.limits } in
     let con = c.requires.deadlines in
-    let relative = slice_index c.args.next.now in
+    let relative = slice_index c.args.deadlines.now in
     let l = c.loop-now in
     let within : l.now ≤ hyper p = omega (arith, c.loop-now-test.true, c.hyper.ensures.hyper) in
-    let work = work-next p lim relative con l.next l.now l.work l.busiest l.invariant in
+    let work = work-next p lim relative con (due_of l.next.entries) l.now l.work l.busiest l.invariant.walking in
     let low = low-demand p lim relative con c.requires.few l.now within in
     let most : ℕ = 100000 * 2 ^ 61 in
     let sum : l.work + c.take_due-work.result ≤ most = omega (arith, work, low, c.take_due-work.ensures.work) in
-    omega (arith, mul-le-mul_right l.busiest.den sum, mul-le-mul_left most l.invariant.busiest.low)
+    omega (arith, mul-le-mul_right l.busiest.den sum, mul-le-mul_left most l.invariant.walking.busiest.low)
 
 pub loop-now-smaller : goal.loop-now-smaller
 loop-now-smaller c =
     let p : Plan = plan_of c.args.tasks.now c.args.machine.now Edf in
     let lim : IsWithinLimits p =
     record { tasks = c.as_slice-tasks.ensures.limits; machine = c.as_slice-entries.ensures.limits } in
-    let relative = slice_index c.args.next.now in
+    let relative = slice_index c.args.deadlines.now in
     let l = c.loop-now in
     let taken = c.take_due-work in
+    let after = due_of taken.new.next.entries in
+    let then_is : c.earliest-now-in-loop-now.result ≡ least_below (count p) after =
+    c.earliest-now-in-loop-now.ensures ∙ ap (λ (n : ℕ). least_below n after) taken.ensures.one_each in
     let later : l.now < c.earliest-now-in-loop-now.result =
-    goes-on p lim relative c.requires.deadlines l.next l.now l.work l.busiest l.invariant
-    taken.new.next c.earliest-now-in-loop-now.result taken.ensures.one_each taken.ensures.later
-    c.earliest-now-in-loop-now.ensures in
+    goes-on p lim relative c.requires.deadlines (due_of l.next.entries) l.now l.work l.busiest l.invariant.walking
+    after c.earliest-now-in-loop-now.result taken.ensures.later then_is in
     omega (arith, later, c.loop-now-test.true, c.hyper.ensures.hyper)
 
 pub loop-now-preserved : goal.loop-now-preserved
@@ -79,35 +94,37 @@ loop-now-preserved c =
     let lim : IsWithinLimits p =
     record { tasks = c.as_slice-tasks.ensures.limits; machine = c.as_slice-entries.ensures.limits } in
     let con = c.requires.deadlines in
-    let relative = slice_index c.args.next.now in
+    let relative = slice_index c.args.deadlines.now in
     let l = c.loop-now in
     let taken = c.take_due-work in
-    let after = taken.new.next in
+    let after = due_of taken.new.next.entries in
     let then_now = c.earliest-now-in-loop-now.result in
-    let then_is = c.earliest-now-in-loop-now.ensures in
+    let then_is : then_now ≡ least_below (count p) after =
+    c.earliest-now-in-loop-now.ensures ∙ ap (λ (n : ℕ). least_below n after) taken.ensures.one_each in
     let sum = l.work + taken.result in
     let within : l.now ≤ hyper p = omega (arith, c.loop-now-test.true, c.hyper.ensures.hyper) in
-    let next = work-next p lim relative con l.next l.now l.work l.busiest l.invariant in
+    let next = work-next p lim relative con (due_of l.next.entries) l.now l.work l.busiest l.invariant.walking in
     let work : sum ≡ processor_demand p relative l.now = ap (λ (n : ℕ). l.work + n) taken.ensures.work ∙ next in
-    elim c.if-greater.branch [
+    let walking : Walking p relative after then_now sum c.if-greater.busiest = (elim c.if-greater.branch [
       | then-greater w ↦
           subst (λ (b : Frac). Walking p relative after then_now sum b) (sym w.busiest-is)
-          (walk-takes p lim relative con l.next l.now l.work l.busiest l.invariant c.requires.few within after then_now
-          sum c.from.result taken.ensures.one_each taken.ensures.later then_is work c.from.ensures
+          (walk-takes p lim relative con (due_of l.next.entries) l.now l.work l.busiest l.invariant.walking
+          c.requires.few within after then_now sum c.from.result taken.ensures.later then_is work c.from.ensures
           (sym c.greater.ensures ∙ w.if-greater.true))
       | else-greater w ↦
           subst (λ (b : Frac). Walking p relative after then_now sum b) (sym w.busiest-is)
-          (walk-keeps p lim relative con l.next l.now l.work l.busiest l.invariant c.requires.few within after then_now
-          sum c.from.result taken.ensures.one_each taken.ensures.later then_is work c.from.ensures
+          (walk-keeps p lim relative con (due_of l.next.entries) l.now l.work l.busiest l.invariant.walking
+          c.requires.few within after then_now sum c.from.result taken.ensures.later then_is work c.from.ensures
           (sym c.greater.ensures ∙ w.if-greater.false))
-    ]
+    ]) in
+    record { one_each = taken.ensures.one_each; calendar = taken.ensures.calendar; walking = walking }
 
 pub returns : goal.returns
 returns c =
     let p : Plan = plan_of c.args.tasks.now c.args.machine.now Edf in
     let lim : IsWithinLimits p =
     record { tasks = c.as_slice-tasks.ensures.limits; machine = c.as_slice-entries.ensures.limits } in
-    let relative = slice_index c.args.next.now in
+    let relative = slice_index c.args.deadlines.now in
     let l = c.loop-now in
-    walk-ends p lim relative c.requires.deadlines l.next l.now l.work l.busiest l.invariant
+    walk-ends p lim relative c.requires.deadlines (due_of l.next.entries) l.now l.work l.busiest l.invariant.walking
     (omega (arith, c.loop-now-test.false, c.hyper.ensures.hyper))

@@ -1,0 +1,75 @@
+use Rattle.std.proofs.Common.{◌≡◌, ◌≢◌, ℕ, ◌+◌, sym, ◌∙◌, ap, subst, arith}
+use Rattle.dvs_base.specs.declared.kind.Scheduler.TheVariants.{Edf}
+use Rattle.grid_fraction.specs.Numbers.{least_below}
+use Rattle.sched_model.specs.Plan.{Plan, plan_of, count}
+use Rattle.sched_model.specs.Admission.{IsWithinLimits}
+use Rattle.edf_demand.specs.Walk.{due_of}
+use Rattle.edf_demand.proofs.Taking.{Taken, taken-start, taken-on, falls, low-due, taken-work, taken-moved}
+use Rattle.edf_demand.proofs.walk.take_due.Goals as goal
+
+pub loop-next-init : goal.loop-next-init
+loop-next-init c =
+    let p : Plan = plan_of c.args.tasks.now c.args.machine.now Edf in
+    record {
+      one_each = c.requires.one_each;
+      calendar = c.requires.calendar;
+      taken = taken-start p (due_of c.args.next.now.entries) c.args.now
+          (c.requires.first ∙ ap (λ (n : ℕ). least_below n (due_of c.args.next.now.entries)) c.requires.one_each);
+    }
+
+pub overflow_add-work : goal.overflow_add-work
+overflow_add-work c =
+    let p : Plan = plan_of c.args.tasks.now c.args.machine.now Edf in
+    let lim : IsWithinLimits p =
+    record { tasks = c.as_slice-tasks.ensures.limits; machine = c.as_slice-entries.ensures.limits } in
+    let work = c.loop-next.invariant.taken.work_is in
+    omega (arith, work, low-due p lim (due_of c.args.next.now.entries) c.args.now, c.from-work.ensures)
+
+pub loop-next-preserved : goal.loop-next-preserved
+loop-next-preserved c =
+    let p : Plan = plan_of c.args.tasks.now c.args.machine.now Edf in
+    let lim : IsWithinLimits p =
+    record { tasks = c.as_slice-tasks.ensures.limits; machine = c.as_slice-entries.ensures.limits } in
+    let l = c.loop-next in
+    let next = due_of l.next.entries in
+    let old = due_of c.args.next.now.entries in
+    let after = due_of c.take_first.new.next.entries in
+    let is : least_below (count p) next ≡ c.args.now =
+    ap (λ (n : ℕ). least_below n next) (sym l.invariant.one_each) ∙ sym c.earliest.ensures ∙ c.loop-next-test.true in
+    let on = taken-on p lim old next after c.args.now l.work c.take_first.result l.invariant.taken
+    c.take_first.ensures.first is in
+    record {
+      one_each = c.take_first.ensures.one_each;
+      calendar = c.take_first.ensures.calendar;
+      taken = subst (λ (n : ℕ). Taken p old after c.args.now (l.work + n)) (sym c.from-work.ensures) on;
+    }
+
+pub loop-next-smaller : goal.loop-next-smaller
+loop-next-smaller c =
+    let p : Plan = plan_of c.args.tasks.now c.args.machine.now Edf in
+    let lim : IsWithinLimits p =
+    record { tasks = c.as_slice-tasks.ensures.limits; machine = c.as_slice-entries.ensures.limits } in
+    let l = c.loop-next in
+    let next = due_of l.next.entries in
+    let is : least_below (count p) next ≡ c.args.now =
+    ap (λ (n : ℕ). least_below n next) (sym l.invariant.one_each) ∙ sym c.earliest.ensures ∙ c.loop-next-test.true in
+    falls p lim (due_of c.args.next.now.entries) next (due_of c.take_first.new.next.entries) c.args.now l.work
+    c.take_first.result l.invariant.taken c.take_first.ensures.first is
+
+pub returns : goal.returns
+returns c =
+    let p : Plan = plan_of c.args.tasks.now c.args.machine.now Edf in
+    let lim : IsWithinLimits p =
+    record { tasks = c.as_slice-tasks.ensures.limits; machine = c.as_slice-entries.ensures.limits } in
+    let l = c.loop-next in
+    let next = due_of l.next.entries in
+    let old = due_of c.args.next.now.entries in
+    let other : least_below (count p) next ≢ c.args.now =
+    λ same. c.loop-next-test.false
+    (c.earliest.ensures ∙ ap (λ (n : ℕ). least_below n next) l.invariant.one_each ∙ same) in
+    record {
+      one_each = l.invariant.one_each;
+      calendar = l.invariant.calendar;
+      later = taken-moved p lim old next c.args.now l.work l.invariant.taken other;
+      work = taken-work p lim old next c.args.now l.work l.invariant.taken other;
+    }

@@ -1,0 +1,168 @@
+// The answer of the exact test under RM.
+ghost use Rattle.std.specs.Prelude.{◌≡◌, ◌<◌, length, IfOk, OnOk, IfErr, Ok};
+ghost use Rattle.sched_model.specs.Plan.{plan_of};
+ghost use Rattle.words.specs.Commands.{response as response_of};
+ghost use Rattle.rm_response.specs.Denials.{exact_answer};
+ghost use Rattle.rtdvs_top.specs.ResponseAnswer.{shown_response, responses_from, responses_at, response_text, responses_text, response_after_tasks, response_answer};
+ghost use Rattle.rtdvs_top.specs.Responding.{Responds, DeniesBy, IsWritten, IsTested};
+ghost use Rattle.rtdvs_top.specs.Testing.{TestedIn};
+ghost use Rattle.rtdvs_top.specs.Causes.{EndsWith, Gives, Refuses, MakesLoads, IsLoadOf, IsNoLoad, LoadOf, PassesBefore, loads_of};
+ghost use Rattle.rtdvs_top.specs.Naming.{NamedBy, NamedIfDone};
+ghost use Rattle.rtdvs_top.specs.Ending.{Ends, EndsAs, Leaves, MetIn};
+ghost use Rattle.rtdvs_top.specs.Shown.{IsShown};
+ghost use Rattle.rtdvs_top.specs.Writing.{Writing};
+
+use crate::files::{load_machine, load_tasks};
+use crate::plan_words::ResponseWords;
+use crate::writer::put_line;
+use crate::{Denied, FileKind, Status};
+use dvs_base::{Failed, Line, Part, Scheduler, Shelf, Sink, line_of};
+use freq_table::Machine;
+use rm_response::{Response, ResponseFault, rm_response};
+use std::alloc::Global;
+use task_model::TaskSet;
+
+// The responses of tasks on a machine.
+fn respond(alloc: Global, tasks: &TaskSet, machine: &Machine) -> Result<Response, Status>
+    ensures responses { IfOk result (λ r.
+        responses_from (exact_answer (plan_of tasks.now machine.now Scheduler.Rm)) ≡ Ok r) }
+    ensures one_each { IfOk result (λ r. length r ≡ length tasks.now) }
+    ensures proves { OnOk result (Responds (plan_of tasks.now machine.now Scheduler.Rm)) }
+    ensures denied { IfErr result
+        (EndsWith (responses_from (exact_answer (plan_of tasks.now machine.now Scheduler.Rm)))) }
+    ensures fails { IfErr result (DeniesBy (plan_of tasks.now machine.now Scheduler.Rm)) }
+    ensures loads { IfErr result IsNoLoad }
+    ensures shown { IfErr result IsShown }
+{
+    match rm_response(alloc, tasks, machine) {
+        Ok(response) => Ok(response),
+        Err(ResponseFault::Offset { task }) => Err(Status::NotAdmitted(Denied::Offset { task })),
+        Err(ResponseFault::Misses { task, num, cap }) => Err(Status::NotAdmitted(Denied::Response {
+            task,
+            num,
+            cap,
+        })),
+        Err(ResponseFault::NoMemory) => Err(Status::NoMemory),
+    }
+}
+
+// The responses, after the tasks.
+fn load_responses<S: Shelf>(
+    alloc: Global,
+    words: &ResponseWords<'_>,
+    tasks: &TaskSet,
+    shelf: &mut S,
+) -> Result<Response, Status>
+    ensures read { IfOk result (Gives (S.shows shelf.old).held (responses_at (shown_response words.now) tasks.now)) }
+    ensures one_each { IfOk result (λ r. length r ≡ length tasks.now) }
+    ensures proves { OnOk result (IsTested (S.shows shelf.old).held (shown_response words.now) tasks.now Status.Done) }
+    ensures refused { IfErr result
+        (Refuses (S.shows shelf.old).held (responses_at (shown_response words.now) tasks.now)) }
+    ensures fails { IfErr result (IsTested (S.shows shelf.old).held (shown_response words.now) tasks.now) }
+    ensures explained { IfErr result
+        (IsLoadOf (S.shows shelf.old) (S.shows shelf.new) FileKind.Machine words.now.machine.now) }
+    ensures loads { MakesLoads 1 (S.shows shelf.old) (S.shows shelf.new) }
+    ensures shown { IfErr result IsShown }
+{
+    let machine = load_machine(alloc, words.machine, shelf)?;
+    let response = respond(alloc, tasks, &machine)?;
+    Ok(response)
+}
+
+// The line of a task.
+fn response_line(tasks: &TaskSet, response: &Response, i: u32) -> Line
+    requires task { i < length tasks.now }
+    requires one_each { length response.now ≡ length tasks.now }
+    ensures text { result ≡ response_text tasks.now response.now i }
+    ensures some { 0 < length result }
+{
+    line_of(&[
+        Part::Word(b"response "),
+        Part::Named(&tasks.task(i).name),
+        Part::Word(b" "),
+        Part::Number(response.of(i)),
+        Part::Word(b"\n"),
+    ])
+}
+
+// Puts the lines of all tasks, in file order.
+fn put_responses<W: Sink>(tasks: &TaskSet, response: &Response, out: &mut W) -> Result<(), Failed>
+    requires { length response.now ≡ length tasks.now }
+    ensures { Writing (W.shows out.old) (W.shows out.new) (responses_text tasks.now response.now) result }
+{
+    for i in 0..tasks.count() {
+        let line = response_line(tasks, response, i);
+        match put_line(&line, out) {
+            Ok(()) => {}
+            Err(Failed) => return Err(Failed),
+        }
+    }
+    Ok(())
+}
+
+// Puts the lines of all tasks, and tells how that ended.
+fn answer_with<W: Sink>(tasks: &TaskSet, response: &Response, out: &mut W) -> Status
+    requires { length response.now ≡ length tasks.now }
+    ensures ended { Ends (W.shows out.old) (W.shows out.new) (Ok (responses_text tasks.now response.now)) result }
+    ensures leaves { Leaves result out.old out.new }
+    ensures written { IsWritten result }
+    ensures loads { IsNoLoad result }
+    ensures shown { IsShown result }
+{
+    match put_responses(tasks, response, out) {
+        Ok(()) => Status::Done,
+        Err(Failed) => Status::Write,
+    }
+}
+
+// The answer, after the tasks.
+fn respond_tasks<S: Shelf, W: Sink>(
+    alloc: Global,
+    words: &ResponseWords<'_>,
+    tasks: &TaskSet,
+    shelf: &mut S,
+    out: &mut W,
+) -> Status
+    ensures ended { EndsAs (W.shows out.old) (W.shows out.new) (S.shows shelf.old).held
+        (response_after_tasks (shown_response words.now) tasks.now) result }
+    ensures leaves { Leaves result out.old out.new }
+    ensures tested { IsTested (S.shows shelf.old).held (shown_response words.now) tasks.now result }
+    ensures explained { IsLoadOf (S.shows shelf.old) (S.shows shelf.new) FileKind.Machine words.now.machine.now result }
+    ensures loads { MakesLoads 1 (S.shows shelf.old) (S.shows shelf.new) }
+    ensures shown { IsShown result }
+{
+    match load_responses(alloc, words, tasks, shelf) {
+        Ok(response) => answer_with(tasks, &response, out),
+        Err(status) => status,
+    }
+}
+
+/// The answer of the exact test under RM, and the tasks where they were read.
+pub(crate) fn answer_response<S: Shelf, W: Sink>(
+    alloc: Global,
+    words: &ResponseWords<'_>,
+    shelf: &mut S,
+    out: &mut W,
+) -> (Status, Option<TaskSet>)
+    ensures ended { EndsAs (W.shows out.old) (W.shows out.new) (S.shows shelf.old).held
+        (response_answer (shown_response words.now)) result.0 }
+    ensures leaves { Leaves result.0 out.old out.new }
+    ensures tested { TestedIn (S.shows shelf.old).held (response_of (shown_response words.now)) result.0 }
+    ensures met { MetIn (S.shows shelf.old).held (response_of (shown_response words.now)) result.0 }
+    ensures named { NamedBy (S.shows shelf.old).held (response_of (shown_response words.now)) result.1 result.0 }
+    ensures named_done { NamedIfDone (S.shows shelf.old).held (response_of (shown_response words.now))
+        result.1 result.0 }
+    ensures passed { PassesBefore (S.shows shelf.old).held (response_of (shown_response words.now)) result.0 }
+    ensures explained { LoadOf (S.shows shelf.old) (S.shows shelf.new) (response_of (shown_response words.now))
+        result.0 }
+    ensures loads { MakesLoads (loads_of (response_of (shown_response words.now)))
+        (S.shows shelf.old) (S.shows shelf.new) }
+    ensures shown { IsShown result.0 }
+{
+    let tasks = match load_tasks(alloc, words.tasks, shelf) {
+        Ok(tasks) => tasks,
+        Err(status) => return (status, None),
+    };
+    let status = respond_tasks(alloc, words, &tasks, shelf, out);
+    (status, Some(tasks))
+}

@@ -1,0 +1,95 @@
+-- The notes of a schedule tell no more releases than the jobs that are released within it.
+use Rattle.std.proofs.Common.{◌≡◌, ℕ, zero, suc, ◌+◌, ◌-◌, ◌*◌, ◌<◌, ◌≤◌, Bool, true, false, List, [], ◌∷◌, flat_map, refl, arith, if◌then◌else◌, ap, ap₂, ◌∙◌, sym, append-nil, nat_eq}
+use Rattle.std.specs.Prelude.{count_by}
+use Rattle.std.proofs.Math.Nat.{le-div_iff_mul-le}
+use Rattle.std.proofs.lemmas.Bool.Decides.{nat_tests}
+use Rattle.std.proofs.lemmas.Grind.{flat_map-append}
+use Rattle.std.proofs.lemmas.Nat.{le-div}
+use Rattle.dvs_base.specs.declared.note.Note.{Note}
+use Rattle.dvs_base.specs.declared.note.Note.TheVariants.{Release, Done}
+use Rattle.grid_fraction.specs.Numbers.{sum_below, list_below, ceil_div}
+use Rattle.grid_fraction.proofs.Counts.{count-append}
+use Rattle.grid_fraction.proofs.Sums.{sum_below-add, sum_below-le, sum_below-same}
+use Rattle.sched_model.specs.Plan.{Plan, count, period, offset}
+use Rattle.sched_model.specs.Jobs.{latest, release, releases_at, released_jobs}
+use Rattle.sched_model.specs.Notes.{release_notes, all_release_notes}
+use Rattle.sched_model.specs.Totals.{is_released}
+use Rattle.sched_model.proofs.JobLaws.{quotient, release-none, latest-pos}
+
+-- the notes of the first n tasks, task by task
+pub count-each : (test : Note → Bool) (f : ℕ → List Note) (n : ℕ)
+    → count_by test (flat_map f (list_below n (λ i. i))) ≡ sum_below n (λ j. count_by test (f j))
+count-each test f zero = refl
+count-each test f (suc n) =
+    ap (count_by test) (flat_map-append f (list_below n (λ i. i)) (n ∷ []))
+    ∙ (count-append test (flat_map f (list_below n (λ i. i))) (flat_map f (n ∷ []))
+    ∙ ap₂ (λ a b. a + b) (count-each test f n) (ap (count_by test) (append-nil (f n))))
+
+-- 1 where a job of task i is released at tick t
+abbrev pub released : Plan → ℕ → ℕ → ℕ
+released p t i = if releases_at p i t then 1 else 0
+
+-- how many releases the notes of a tick tell
+pub released-at : (p : Plan) (dem : ℕ → ℕ → ℕ) (t : ℕ)
+    → count_by is_released (all_release_notes p dem t) ≡ sum_below (count p) (released p t)
+released-at p dem t =
+    count-each is_released (release_notes p dem t) (count p)
+    ∙ sum_below-same (count p) _ (released p t) (λ i lt. one i (releases_at p i t) (nat_eq (dem i (latest p i t)) 0))
+  where
+    one : (i : ℕ) (a b : Bool)
+        → count_by is_released (if a then Release t i (latest p i t)
+        ∷ (if b then Done (record { tick = t; offset = 0 }) i (latest p i t) 0 ∷ [] else []) else [])
+        ≡ (if a then 1 else 0)
+    one i false b = refl
+    one i true false = refl
+    one i true true = refl
+
+-- quotients that are rounded up: they grow with the number, a whole one is itself, and one is more beyond it
+ceil-mono : (m n d : ℕ) → 0 < d → m ≤ n → ceil_div m d ≤ ceil_div n d
+ceil-mono m n d some le =
+    le-div (ceil_div m d) (n + (d - 1)) d some
+    (omega (arith, (le-div_iff_mul-le {k = d} {x = ceil_div m d} {y = m + (d - 1)} some).0 (omega arith)))
+
+ceil-whole : (q d : ℕ) → 0 < d → ceil_div (q * d) d ≡ q
+ceil-whole q d some = quotient (q * d + (d - 1)) d q (omega arith) (omega (arith, some))
+
+ceil-over : (q n d : ℕ) → 0 < d → q * d < n → suc q ≤ ceil_div n d
+ceil-over q n d some over = le-div (suc q) (n + (d - 1)) d some (omega (arith, some, over))
+
+release-at : (p : Plan) (i k : ℕ) → release p i (suc k) ≡ offset p i + k * period p i
+unfolding release
+release-at p i k = let e : suc k - 1 ≡ k = omega arith in rw e refl
+
+-- a job that is released at a tick is one more of those released below a later tick
+released-more : (p : Plan) (i t later : ℕ) → 0 < period p i → t < later
+    → ceil_div (t - offset p i) (period p i) + released p t i ≤ ceil_div (later - offset p i) (period p i)
+released-more p i t later some lt = go (releases_at p i t) refl
+  where
+    go : (b : Bool) → releases_at p i t ≡ b
+        → ceil_div (t - offset p i) (period p i) + released p t i ≤ ceil_div (later - offset p i) (period p i)
+    go false e = rw e (omega (arith, ceil-mono (t - offset p i) (later - offset p i) (period p i) some (omega arith)))
+    go true e = rw e (job (latest p i t) refl (grind (arith, nat_tests)))
+      where
+        job : (k : ℕ) → latest p i t ≡ k → release p i (latest p i t) ≡ t
+            → ceil_div (t - offset p i) (period p i) + 1 ≤ ceil_div (later - offset p i) (period p i)
+        job zero none here =
+            let first : offset p i ≤ t = omega (arith, here, ap (release p i) none, release-none p i) in
+            absurd (omega (arith, none, latest-pos p i t first))
+        job (suc k) is here =
+            let at : offset p i + k * period p i ≡ t = sym (release-at p i k) ∙ (ap (release p i) (sym is) ∙ here) in
+            let whole : t - offset p i ≡ k * period p i = omega (arith, at) in
+            let jobs : ceil_div (t - offset p i) (period p i) ≡ k =
+            ap (λ n. ceil_div n (period p i)) whole ∙ ceil-whole k (period p i) some in
+            omega (arith, jobs, ceil-over k (later - offset p i) (period p i) some (omega (arith, at, lt)))
+
+-- so it is with all tasks
+pub releases-more : (p : Plan) (t later : ℕ) → ((i : ℕ) → 0 < period p i) → t < later
+    → released_jobs p t + sum_below (count p) (released p t) ≤ released_jobs p later
+releases-more p t later some lt =
+    let jobs : ℕ → ℕ → ℕ = λ m i. ceil_div (m - offset p i) (period p i) in
+    omega (
+      arith,
+      sum_below-add (count p) (jobs t) (released p t),
+      sum_below-le (count p) (λ i. jobs t i + released p t i) (jobs later)
+          (λ i inside. released-more p i t later (some i) lt),
+    )

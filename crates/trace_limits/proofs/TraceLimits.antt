@@ -1,0 +1,165 @@
+-- The trace of a schedule of an admitted plan is within the limits of traces.
+use Rattle.std.proofs.Common.{◌≡◌, ℕ, ◌+◌, ◌-◌, ◌*◌, ◌<◌, ◌≤◌, ◌^◌, Bool, true, false, List, [], ◌∷◌, ◌++◌, length, refl, arith, if◌then◌else◌, ap, sym, subst, nat_eq, mul-le-mul_right, length-append}
+use Rattle.std.specs.Prelude.{sum_by}
+use Rattle.std.specs.List.{AllByRecursion}
+use Rattle.std.proofs.lemmas.List.{length-map}
+use Rattle.std.proofs.lemmas.List.Sums.{sum_by-le}
+use Rattle.dvs_base.specs.declared.kind.GovernorKind.{GovernorKind}
+use Rattle.dvs_base.specs.declared.kind.Version.{Version}
+use Rattle.dvs_base.specs.declared.kind.Version.TheVariants.{One, Two}
+use Rattle.dvs_base.specs.declared.note.Note.{Note}
+use Rattle.dvs_base.specs.declared.note.Note.TheVariants.{Release, Speed, Run, Idle, Done, End}
+use Rattle.task_model.specs.declared.limits.TheConstants.{MOST_TASKS}
+use Rattle.task_model.specs.declared.task.Task.{Task}
+use Rattle.sched_model.specs.Plan.{Plan, count, names, task, period, offset}
+use Rattle.sched_model.specs.Admission.{IsAdmitted}
+use Rattle.sched_model.specs.Demand.{published}
+use Rattle.sched_model.specs.Demands.{JobDemands}
+use Rattle.sched_model.specs.Jobs.{released_jobs}
+use Rattle.sched_model.specs.Notes.{energy_run, energy_idle, notes_before_end}
+use Rattle.sched_model.specs.Schedule.{schedule, IsScheduleBy}
+use Rattle.sched_model.specs.Ticks.{Tick}
+use Rattle.sched_model.proofs.ScheduleLemmas.{length-list_below, schedule_exists}
+use Rattle.trace_text.specs.TraceLines.{name_of}
+use Rattle.trace_text.proofs.PlainLines.{all-each, each-append}
+use Rattle.trace_reader.specs.VersionLines.{task_text}
+use Rattle.trace_reader.specs.TraceText.{run_energy_of, energy_of_task}
+use Rattle.trace_reader.specs.Traces.{IsNoteOf, is_end, IsEnded, HasShares, lines_for_tasks, IsTrace}
+use Rattle.done_lines.specs.RunText.{task_texts}
+use Rattle.replay_laws.proofs.FitNotes.{IsBeforeEnd}
+use Rattle.replay_laws.proofs.HeldUnits.{each-weaker}
+use Rattle.replay_laws.proofs.OneEnd.{EndsOnce, notes-end-once}
+use Rattle.trace_limits.specs.RunTraces.{trace_of_run, IsLimitedRun, KeepsLimits}
+use Rattle.trace_limits.proofs.DemandWidths.{published-low}
+use Rattle.trace_limits.proofs.FewLines.{has-few-notes}
+use Rattle.trace_limits.proofs.NoteWidths.{most_energy, IsLowNote, notes-low}
+
+-- a list that ends once is ended
+once-ended : (notes : List Note) → EndsOnce is_end notes → IsEnded notes
+once-ended [] once = once
+once-ended (n ∷ []) once = once
+once-ended (n ∷ m ∷ notes) once = (once.0, once-ended (m ∷ notes) once.1)
+
+-- the energy of a task's run is that of a run
+own-most : (i : ℕ) (n : Note) → run_energy_of i n ≤ energy_run n
+own-most i (Run from to j k units energy) = go (nat_eq j i)
+  where
+    go : (b : Bool) → (if b then energy else 0) ≤ energy
+    go true = omega arith
+    go false = omega arith
+own-most i (Release t j k) = omega arith
+own-most i (Speed t f num den) = omega arith
+own-most i (Idle from to units energy) = omega arith
+own-most i (Done q j k used) = omega arith
+own-most i (End t run idle) = omega arith
+
+-- the most notes of a trace: its lines without the first two and without two for each task
+abbrev most_notes : ℕ
+most_notes = 800000 - (2 + 2 * MOST_TASKS)
+
+-- a sum over few notes, none of which has much
+sum-low : (f : Note → ℕ) (notes : List Note) → length notes ≤ most_notes
+    → AllByRecursion (λ n. f n ≤ most_energy) notes → sum_by f notes < 2 ^ 128
+sum-low f notes few each =
+    omega (
+      arith,
+      sum_by-le f most_energy notes (all-each (λ n. f n ≤ most_energy) notes each),
+      mul-le-mul_right most_energy few,
+    )
+
+module _ (v : Version) (p : Plan) (g : GovernorKind) (dem : JobDemands) (ticks : ℕ) (adm : IsAdmitted p)
+    (run : IsLimitedRun p g dem ticks) where
+  abbrev past : List Tick
+  past = schedule p g dem ticks
+
+  legal : IsScheduleBy p dem (published p g dem) past
+  legal = (schedule_exists p dem (published p g dem) ticks).0
+
+  long : length past ≡ ticks
+  long = (schedule_exists p dem (published p g dem) ticks).1
+
+  -- the notes before the last, and the last
+  abbrev notes : List Note
+  notes = notes_before_end p dem (published p g dem) past
+
+  abbrev last : Note
+  last = End (length past) (sum_by energy_run notes) (sum_by energy_idle notes)
+
+  each-low : AllByRecursion (IsLowNote p) notes
+  each-low =
+      notes-low p adm.limits dem run.within (published p g dem)
+      (λ past early. published-low p adm dem run.within past early g) past (omega (arith, long, run.low_ticks)) legal
+
+  few-lines : length (notes ++ last ∷ []) ≤ most_notes
+  few-lines =
+      omega (
+        arith,
+        has-few-notes p adm.limits dem run.within.none (published p g dem) past legal,
+        ap (released_jobs p) long,
+        run.few,
+      )
+
+  few-before : length notes ≤ most_notes
+  few-before = omega (arith, few-lines, length-append notes (last ∷ []))
+
+  run-low : sum_by energy_run notes < 2 ^ 128
+  run-low =
+      sum-low energy_run notes few-before
+      (each-weaker (IsLowNote p) (λ n. energy_run n ≤ most_energy) (λ n h. h.1) notes each-low)
+
+  idle-low : sum_by energy_idle notes < 2 ^ 128
+  idle-low =
+      sum-low energy_idle notes few-before
+      (each-weaker (IsLowNote p) (λ n. energy_idle n ≤ most_energy) (λ n h. h.2) notes each-low)
+
+  shares-low : (i : ℕ) → energy_of_task (notes ++ last ∷ []) i < 2 ^ 128
+  shares-low i =
+      sum-low (run_energy_of i) (notes ++ last ∷ []) few-lines
+      (each-append (λ n. run_energy_of i n ≤ most_energy) notes (last ∷ [])
+      (each-weaker (IsLowNote p) (λ n. run_energy_of i n ≤ most_energy) (λ n h. omega (arith, own-most i n, h.1)) notes
+      each-low)
+      (omega arith, tt))
+
+  named : length (names p) ≡ count p
+  named = length-map p.tasks (λ (t : Task). t.name)
+
+  listed : length (task_texts p) ≡ count p
+  listed = length-list_below (count p) (λ i. task_text (name_of (names p) i) (period p i) (offset p i) (task p i).worst)
+
+  lines-low : (w : Version) → lines_for_tasks w (length (names p)) (length (task_texts p)) ≤ 2 * MOST_TASKS
+  lines-low One = omega arith
+  lines-low Two = omega (arith, named, listed, adm.limits.tasks.few)
+
+  shared : (w : Version) → HasShares w (length (names p)) (notes ++ last ∷ [])
+  shared One = tt
+  shared Two = λ i lt. shares-low i
+
+  -- so the trace of the run is one, in either version
+  trace-fits : IsTrace (names p) (task_texts p) (trace_of_run v p g dem ticks)
+  trace-fits = record {
+    pair = run.pair;
+    some_ticks = run.some_ticks;
+    low_ticks = run.low_ticks;
+    each =
+        subst (λ c. AllByRecursion (IsNoteOf c) (notes ++ last ∷ [])) (sym named)
+        (each-append (IsNoteOf (count p)) notes (last ∷ [])
+        (each-weaker (IsLowNote p) (IsNoteOf (count p)) (λ n h. h.0) notes each-low)
+        ((omega (arith, long, run.low_ticks), run-low, idle-low), tt));
+    ended =
+        once-ended (notes ++ last ∷ [])
+        (notes-end-once p adm.limits dem (published p g dem) is_end (λ t run idle. refl) others past);
+    shares = shared v;
+    lines = omega (arith, lines-low v, few-lines);
+  }
+    where
+      others : (n : Note) → IsBeforeEnd p dem n → is_end n ≡ false
+      others (Release t i k) h = refl
+      others (Speed t f num den) h = refl
+      others (Run from to i k units energy) h = refl
+      others (Idle from to units energy) h = refl
+      others (Done q i k used) h = refl
+      others (End t run idle) h = absurd h
+
+-- every run of an admitted plan within the limits has a trace
+pub keeps-limits : (p : Plan) → IsAdmitted p → KeepsLimits p
+keeps-limits p adm v g dem ticks run = trace-fits v p g dem ticks adm run
