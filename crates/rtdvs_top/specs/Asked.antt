@@ -1,7 +1,7 @@
 -- The words that were read, as their texts; and the run that is planned for them.
-use Rattle.std.specs.Prelude.{◌≤◌, ◌^◌, option_map}
+use Rattle.std.specs.Prelude.{◌≤◌, ◌^◌, Bool, true, false, option_map}
 use Rattle.event_kernel.specs.Runs.{Run, IsListOf}
-use Rattle.words.specs.Commands.{RunOf, AdmitOf, PollOf}
+use Rattle.words.specs.Commands.{RunOf, AdmitOf, PollOf, CommandOf, run, admit, traced, response, constrain, poll, least}
 use Rattle.rtdvs_top.specs.declared.run.PlannedRun.{PlannedRun}
 use Rattle.rtdvs_top.specs.declared.plan_words.RunWords.{RunWords}
 use Rattle.rtdvs_top.specs.declared.plan_words.AdmitWords.{AdmitWords}
@@ -45,3 +45,38 @@ pub record IsRunnable (r : Run) : Type 0 where
   pub list : IsListOf r.plan r.demands
   pub some_ticks : 1 ≤ r.ticks
   pub low_ticks : r.ticks ≤ 2 ^ 40
+
+-- whether a command is a run
+abbrev pub is_run : CommandOf → Bool
+is_run (run w) = true
+is_run c = false
+
+-- whether a command is an admission
+abbrev pub is_admit : CommandOf → Bool
+is_admit (admit w) = true
+is_admit c = false
+
+-- whether a command is a replay or a migration
+abbrev pub is_traced : CommandOf → Bool
+is_traced (traced w) = true
+is_traced c = false
+
+-- whether a command is a test by response times
+abbrev pub is_response : CommandOf → Bool
+is_response (response w) = true
+is_response c = false
+
+-- whether a command is a test of deadlines below the periods
+abbrev pub is_constrain : CommandOf → Bool
+is_constrain (constrain w) = true
+is_constrain c = false
+
+-- whether a command is a polling
+abbrev pub is_poll : CommandOf → Bool
+is_poll (poll w) = true
+is_poll c = false
+
+-- whether a command is a least energy
+abbrev pub is_least : CommandOf → Bool
+is_least (least w) = true
+is_least c = false

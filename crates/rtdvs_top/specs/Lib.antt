@@ -27,4 +27,5 @@ pub mod Responding
 pub mod Constraining
 pub mod ConstrainCauses
 pub mod Testing
+pub mod Answered
 pub mod PollCauses

@@ -4,6 +4,7 @@ ghost use Rattle.words.specs.Commands.{admit as admit_of};
 ghost use Rattle.rtdvs_top.specs.Asked.{shown_admit};
 ghost use Rattle.rtdvs_top.specs.Answer.{admitted_of, admit_after_tasks, admit_answer};
 ghost use Rattle.rtdvs_top.specs.Causes.{Gives, Refuses, MakesLoads, IsLoadOf, LoadOf, PassesBefore, loads_of};
+ghost use Rattle.rtdvs_top.specs.Answered.{seen, IsAnswered};
 ghost use Rattle.rtdvs_top.specs.Naming.{NamedBy, NamedIfDone};
 ghost use Rattle.rtdvs_top.specs.Shown.{IsShown};
 ghost use Rattle.rtdvs_top.specs.Ending.{EndsAs, Leaves, MetIn};
@@ -64,16 +65,9 @@ pub(crate) fn answer_admit<S: Shelf, W: Sink>(
     shelf: &mut S,
     out: &mut W,
 ) -> (Status, Option<TaskSet>)
-    ensures ended { EndsAs (W.shows out.old) (W.shows out.new) (S.shows shelf.old).held
-        (admit_answer (shown_admit words.now)) result.0 }
+    ensures answered { IsAnswered (admit_of (shown_admit words.now)) (seen (S.shows shelf.old) (W.shows out.old))
+        (seen (S.shows shelf.new) (W.shows out.new)) result.0 result.1 }
     ensures leaves { Leaves result.0 out.old out.new }
-    ensures met { MetIn (S.shows shelf.old).held (admit_of (shown_admit words.now)) result.0 }
-    ensures named { NamedBy (S.shows shelf.old).held (admit_of (shown_admit words.now)) result.1 result.0 }
-    ensures named_done { NamedIfDone (S.shows shelf.old).held (admit_of (shown_admit words.now)) result.1 result.0 }
-    ensures passed { PassesBefore (S.shows shelf.old).held (admit_of (shown_admit words.now)) result.0 }
-    ensures explained { LoadOf (S.shows shelf.old) (S.shows shelf.new) (admit_of (shown_admit words.now)) result.0 }
-    ensures loads { MakesLoads (loads_of (admit_of (shown_admit words.now))) (S.shows shelf.old) (S.shows shelf.new) }
-    ensures shown { IsShown result.0 }
 {
     let tasks = match load_tasks(alloc, words.tasks, shelf) {
         Ok(tasks) => tasks,

@@ -10,6 +10,7 @@ ghost use Rattle.rtdvs_top.specs.ConstrainCauses.{LaterDeadlineLoad, PassesConst
 ghost use Rattle.rtdvs_top.specs.Responding.{IsWritten};
 ghost use Rattle.rtdvs_top.specs.Testing.{TestedIn};
 ghost use Rattle.rtdvs_top.specs.Causes.{EndsWith, Gives, Refuses, MakesLoads, IsLoadOf, IsNoLoad, IsOfFile, LoadOf, PassesBefore, loads_of};
+ghost use Rattle.rtdvs_top.specs.Answered.{seen, IsAnswered};
 ghost use Rattle.rtdvs_top.specs.Naming.{NamedBy, NamedIfDone};
 ghost use Rattle.rtdvs_top.specs.Ending.{Ends, EndsAs, Leaves, MetIn};
 ghost use Rattle.rtdvs_top.specs.Shown.{IsShown};
@@ -175,20 +176,9 @@ pub(crate) fn answer_constrain<S: Shelf, W: Sink>(
     shelf: &mut S,
     out: &mut W,
 ) -> (Status, Option<TaskSet>)
-    ensures ended { EndsAs (W.shows out.old) (W.shows out.new) (S.shows shelf.old).held
-        (constrain_answer (shown_constrain words.now)) result.0 }
+    ensures answered { IsAnswered (constrain_of (shown_constrain words.now)) (seen (S.shows shelf.old) (W.shows out.old))
+        (seen (S.shows shelf.new) (W.shows out.new)) result.0 result.1 }
     ensures leaves { Leaves result.0 out.old out.new }
-    ensures tested { TestedIn (S.shows shelf.old).held (constrain_of (shown_constrain words.now)) result.0 }
-    ensures met { MetIn (S.shows shelf.old).held (constrain_of (shown_constrain words.now)) result.0 }
-    ensures named { NamedBy (S.shows shelf.old).held (constrain_of (shown_constrain words.now)) result.1 result.0 }
-    ensures named_done { NamedIfDone (S.shows shelf.old).held (constrain_of (shown_constrain words.now))
-        result.1 result.0 }
-    ensures passed { PassesBefore (S.shows shelf.old).held (constrain_of (shown_constrain words.now)) result.0 }
-    ensures explained { LoadOf (S.shows shelf.old) (S.shows shelf.new) (constrain_of (shown_constrain words.now))
-        result.0 }
-    ensures loads { MakesLoads (loads_of (constrain_of (shown_constrain words.now)))
-        (S.shows shelf.old) (S.shows shelf.new) }
-    ensures shown { IsShown result.0 }
 {
     let tasks = match load_tasks(alloc, words.tasks, shelf) {
         Ok(tasks) => tasks,

@@ -13,15 +13,6 @@ use crate::writer::{put_line, put_two};
 use dvs_base::{Failed, Line, Note, Part, Pos, Sink, line_of};
 use task_model::TaskSet;
 
-// A segment: its two ends, its work units and its energy.
-#[derive(Clone, Copy)]
-struct Segment {
-    from: Pos,
-    to: Pos,
-    units: u64,
-    energy: u128,
-}
-
 fn release_line<'a>(word: &'a [u8], tick: u64, name: Part<'a>, job: u64) -> Line
     requires word { length word.now ≤ 8 }
     requires name { most_bytes name ≤ 32 }
@@ -57,45 +48,51 @@ fn speed_line(word: &[u8], tick: u64, speed: u64, demand: (u128, u128)) -> Line
     ])
 }
 
-fn run_line<'a>(word: &'a [u8], segment: Segment, name: Part<'a>, job: u64) -> Line
+// The two ends of a segment are a pair, and so are its work units and its energy.
+fn run_line<'a>(
+    word: &'a [u8],
+    ends: (Pos, Pos),
+    name: Part<'a>,
+    job: u64,
+    spent: (u64, u128),
+) -> Line
     requires word { length word.now ≤ 8 }
     requires name { most_bytes name ≤ 32 }
     ensures { result ≡ word.now
-        ++ line_text (run_fields segment.from segment.to (part_text name.entry) job segment.units segment.energy) }
+        ++ line_text (run_fields ends.0 ends.1 (part_text name.entry) job spent.0 spent.1) }
 {
     line_of(&[
         Part::Word(word),
         Part::Word(b"run "),
-        Part::At(segment.from),
+        Part::At(ends.0),
         Part::Word(b" "),
-        Part::At(segment.to),
+        Part::At(ends.1),
         Part::Word(b" "),
         name,
         Part::Word(b" "),
         Part::Number(job),
         Part::Word(b" "),
-        Part::Number(segment.units),
+        Part::Number(spent.0),
         Part::Word(b" "),
-        Part::Wide(segment.energy),
+        Part::Wide(spent.1),
         Part::Word(b"\n"),
     ])
 }
 
-fn idle_line(word: &[u8], segment: Segment) -> Line
+fn idle_line(word: &[u8], ends: (Pos, Pos), spent: (u64, u128)) -> Line
     requires { length word.now ≤ 8 }
-    ensures { result ≡ word.now
-        ++ line_text (idle_fields segment.from segment.to segment.units segment.energy) }
+    ensures { result ≡ word.now ++ line_text (idle_fields ends.0 ends.1 spent.0 spent.1) }
 {
     line_of(&[
         Part::Word(word),
         Part::Word(b"idle "),
-        Part::At(segment.from),
+        Part::At(ends.0),
         Part::Word(b" "),
-        Part::At(segment.to),
+        Part::At(ends.1),
         Part::Word(b" "),
-        Part::Number(segment.units),
+        Part::Number(spent.0),
         Part::Word(b" "),
-        Part::Wide(segment.energy),
+        Part::Wide(spent.1),
         Part::Word(b"\n"),
     ])
 }
@@ -158,29 +155,19 @@ fn told_line(word: &[u8], note: Note, tasks: Option<&TaskSet>) -> Line
             job,
             units,
             energy,
-        } => {
-            let segment = Segment {
-                from,
-                to,
-                units,
-                energy,
-            };
-            run_line(word, segment, name_part(&name_at(tasks, task)), job)
-        }
+        } => run_line(
+            word,
+            (from, to),
+            name_part(&name_at(tasks, task)),
+            job,
+            (units, energy),
+        ),
         Note::Idle {
             from,
             to,
             units,
             energy,
-        } => idle_line(
-            word,
-            Segment {
-                from,
-                to,
-                units,
-                energy,
-            },
-        ),
+        } => idle_line(word, (from, to), (units, energy)),
         Note::Done {
             at,
             task,

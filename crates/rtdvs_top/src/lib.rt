@@ -6,6 +6,7 @@
 #![tactic(auto)]
 
 mod admit_answer;
+mod command_words;
 mod constrain_answer;
 mod deadline_line;
 mod difference;

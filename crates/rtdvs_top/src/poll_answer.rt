@@ -6,6 +6,7 @@ ghost use Rattle.rtdvs_top.specs.Asked.{shown_poll};
 ghost use Rattle.rtdvs_top.specs.PollAnswer.{outcome_text, request_lines, is_served, served_among, polled_line, polled_text, answer_of_polling, poll_after_tasks, poll_answer};
 ghost use Rattle.rtdvs_top.specs.PollCauses.{LaterRequestLoad, PassesPolled, IsPollable, ServedIfDone, ServedIn};
 ghost use Rattle.rtdvs_top.specs.Causes.{MakesLoads, IsNoLoad, LoadOf, PassesBefore, loads_of};
+ghost use Rattle.rtdvs_top.specs.Answered.{seen, IsAnswered};
 ghost use Rattle.rtdvs_top.specs.Naming.{NamedBy, NamedIfDone};
 ghost use Rattle.rtdvs_top.specs.Ending.{Ends, EndsAs, Leaves, MetIn};
 ghost use Rattle.rtdvs_top.specs.Shown.{IsShown};
@@ -175,16 +176,9 @@ pub(crate) fn answer_poll<S: Shelf, W: Sink>(
     out: &mut W,
 ) -> (Status, Option<TaskSet>)
     requires { IsReadyCommand (poll_of (shown_poll words.now)) }
-    ensures ended { EndsAs (W.shows out.old) (W.shows out.new) (S.shows shelf.old).held
-        (poll_answer (shown_poll words.now)) result.0 }
+    ensures answered { IsAnswered (poll_of (shown_poll words.now)) (seen (S.shows shelf.old) (W.shows out.old))
+        (seen (S.shows shelf.new) (W.shows out.new)) result.0 result.1 }
     ensures leaves { Leaves result.0 out.old out.new }
-    ensures met { MetIn (S.shows shelf.old).held (poll_of (shown_poll words.now)) result.0 }
-    ensures named { NamedBy (S.shows shelf.old).held (poll_of (shown_poll words.now)) result.1 result.0 }
-    ensures named_done { NamedIfDone (S.shows shelf.old).held (poll_of (shown_poll words.now)) result.1 result.0 }
-    ensures passed { PassesBefore (S.shows shelf.old).held (poll_of (shown_poll words.now)) result.0 }
-    ensures explained { LoadOf (S.shows shelf.old) (S.shows shelf.new) (poll_of (shown_poll words.now)) result.0 }
-    ensures loads { MakesLoads (loads_of (poll_of (shown_poll words.now))) (S.shows shelf.old) (S.shows shelf.new) }
-    ensures shown { IsShown result.0 }
 {
     let tasks = match load_tasks(alloc, words.tasks, shelf) {
         Ok(tasks) => tasks,

@@ -2,6 +2,7 @@
 ghost use Rattle.std.specs.Prelude.{◌≡◌, ◌+◌, ◌≤◌, ◌<◌, [], ◌∷◌, length, map, codes, Option, if◌then◌else◌};
 ghost use Rattle.std.specs.Fmt.{decimal};
 ghost use Rattle.dvs_base.specs.Parts.{joined, part_text, most_bytes};
+ghost use Rattle.task_model.specs.declared.fault.TaskFault.TheVariants as task_fault;
 ghost use Rattle.trace_text.specs.TraceLines.{name_of};
 ghost use Rattle.rtdvs_top.specs.Refusals.{file_word, task_field_word, machine_field_word, column_word, at_place, at_task, at_point, at_row, repeated_text, task_fault_text, machine_fault_text, demand_fault_text, over_worst_of, text_fault_text, trace_kind_word, trace_fault_text, numbers_text, demand_text, denied_text, HasOneLine, status_text};
 ghost use Rattle.std.specs.Option.{option_copied};
@@ -109,6 +110,18 @@ fn point_line<'a>(place: u32, what: Part<'a>, which: Part<'a>) -> Line
     line_at(b"machine: ", b"machine: point ", place, what, which)
 }
 
+fn same_name_line(first: u32, second: u32) -> Line
+    ensures { result ≡ task_fault_text (task_fault.SameName first second) }
+{
+    line_of(&[
+        Part::Word(b"tasks: tasks "),
+        Part::Number(first as u64),
+        Part::Word(b" and "),
+        Part::Number(second as u64),
+        Part::Word(b" have one name\n"),
+    ])
+}
+
 fn task_fault_line(why: &TaskFault) -> Line
     ensures { result ≡ task_fault_text why.now }
 {
@@ -145,13 +158,7 @@ fn task_fault_line(why: &TaskFault) -> Line
             Part::Number(*place as u64),
             Part::Word(b": bad name\n"),
         ]),
-        TaskFault::SameName { first, second } => line_of(&[
-            Part::Word(b"tasks: tasks "),
-            Part::Number(*first as u64),
-            Part::Word(b" and "),
-            Part::Number(*second as u64),
-            Part::Word(b" have one name\n"),
-        ]),
+        TaskFault::SameName { first, second } => same_name_line(*first, *second),
         TaskFault::Hyper => line_of(&[Part::Word(
             b"tasks: periods have no common multiple up to 281474976710656\n",
         )]),

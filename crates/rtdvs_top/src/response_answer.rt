@@ -7,6 +7,7 @@ ghost use Rattle.rtdvs_top.specs.ResponseAnswer.{shown_response, responses_from,
 ghost use Rattle.rtdvs_top.specs.Responding.{Responds, DeniesBy, IsWritten, IsTested};
 ghost use Rattle.rtdvs_top.specs.Testing.{TestedIn};
 ghost use Rattle.rtdvs_top.specs.Causes.{EndsWith, Gives, Refuses, MakesLoads, IsLoadOf, IsNoLoad, LoadOf, PassesBefore, loads_of};
+ghost use Rattle.rtdvs_top.specs.Answered.{seen, IsAnswered};
 ghost use Rattle.rtdvs_top.specs.Naming.{NamedBy, NamedIfDone};
 ghost use Rattle.rtdvs_top.specs.Ending.{Ends, EndsAs, Leaves, MetIn};
 ghost use Rattle.rtdvs_top.specs.Shown.{IsShown};
@@ -144,20 +145,9 @@ pub(crate) fn answer_response<S: Shelf, W: Sink>(
     shelf: &mut S,
     out: &mut W,
 ) -> (Status, Option<TaskSet>)
-    ensures ended { EndsAs (W.shows out.old) (W.shows out.new) (S.shows shelf.old).held
-        (response_answer (shown_response words.now)) result.0 }
+    ensures answered { IsAnswered (response_of (shown_response words.now)) (seen (S.shows shelf.old) (W.shows out.old))
+        (seen (S.shows shelf.new) (W.shows out.new)) result.0 result.1 }
     ensures leaves { Leaves result.0 out.old out.new }
-    ensures tested { TestedIn (S.shows shelf.old).held (response_of (shown_response words.now)) result.0 }
-    ensures met { MetIn (S.shows shelf.old).held (response_of (shown_response words.now)) result.0 }
-    ensures named { NamedBy (S.shows shelf.old).held (response_of (shown_response words.now)) result.1 result.0 }
-    ensures named_done { NamedIfDone (S.shows shelf.old).held (response_of (shown_response words.now))
-        result.1 result.0 }
-    ensures passed { PassesBefore (S.shows shelf.old).held (response_of (shown_response words.now)) result.0 }
-    ensures explained { LoadOf (S.shows shelf.old) (S.shows shelf.new) (response_of (shown_response words.now))
-        result.0 }
-    ensures loads { MakesLoads (loads_of (response_of (shown_response words.now)))
-        (S.shows shelf.old) (S.shows shelf.new) }
-    ensures shown { IsShown result.0 }
 {
     let tasks = match load_tasks(alloc, words.tasks, shelf) {
         Ok(tasks) => tasks,

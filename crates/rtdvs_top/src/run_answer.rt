@@ -5,6 +5,7 @@ ghost use Rattle.words.specs.Commands.{IsReady, run as run_of};
 ghost use Rattle.rtdvs_top.specs.Asked.{shown_run};
 ghost use Rattle.rtdvs_top.specs.Answer.{prepared_of, run_after_tasks, run_answer};
 ghost use Rattle.rtdvs_top.specs.Causes.{Gives, Refuses, MakesLoads, LaterLoad, LoadOf, PassesMachine, PassesBefore, loads_named, loads_of};
+ghost use Rattle.rtdvs_top.specs.Answered.{seen, IsAnswered};
 ghost use Rattle.rtdvs_top.specs.Naming.{NamedBy, NamedIfDone};
 ghost use Rattle.rtdvs_top.specs.Probing.{LeavesProbes, ToldBy, ToldIn};
 ghost use Rattle.rtdvs_top.specs.Shown.{IsShown};
@@ -104,19 +105,12 @@ pub(crate) fn answer_run<S: Shelf, W: Sink, P: Probe>(
     probes: &mut Vec<P>,
 ) -> (Status, Option<TaskSet>)
     requires { IsReady (shown_run run.now) }
-    ensures ended { EndsAs (W.shows out.old) (W.shows out.new) (S.shows shelf.old).held
-        (run_answer (shown_run run.now)) result.0 }
+    ensures answered { IsAnswered (run_of (shown_run run.now)) (seen (S.shows shelf.old) (W.shows out.old))
+        (seen (S.shows shelf.new) (W.shows out.new)) result.0 result.1 }
     ensures leaves { Leaves result.0 out.old out.new }
     ensures kept { LeavesProbes run.now.probes result.0 probes.old probes.new }
     ensures told { ToldIn (S.shows shelf.old).held (run_of (shown_run run.now)) (W.shows out.old) (W.shows out.new)
         (map P.seen probes.old.items) (map P.seen probes.new.items) result.0 }
-    ensures met { MetIn (S.shows shelf.old).held (run_of (shown_run run.now)) result.0 }
-    ensures named { NamedBy (S.shows shelf.old).held (run_of (shown_run run.now)) result.1 result.0 }
-    ensures named_done { NamedIfDone (S.shows shelf.old).held (run_of (shown_run run.now)) result.1 result.0 }
-    ensures passed { PassesBefore (S.shows shelf.old).held (run_of (shown_run run.now)) result.0 }
-    ensures explained { LoadOf (S.shows shelf.old) (S.shows shelf.new) (run_of (shown_run run.now)) result.0 }
-    ensures loads { MakesLoads (loads_of (run_of (shown_run run.now))) (S.shows shelf.old) (S.shows shelf.new) }
-    ensures shown { IsShown result.0 }
 {
     let tasks = match load_tasks(alloc, run.tasks, shelf) {
         Ok(tasks) => tasks,

@@ -7,6 +7,7 @@ ghost use Rattle.rtdvs_top.specs.Causes.{MakesLoads, LoadOf, PassesBefore, files
 ghost use Rattle.rtdvs_top.specs.Naming.{names_of, NamedBy, NamedIfDone};
 ghost use Rattle.rtdvs_top.specs.Refusals.{status_text};
 ghost use Rattle.rtdvs_top.specs.ProbeLines.{noted_text, probe_lines};
+ghost use Rattle.rtdvs_top.specs.Answered.{seen, IsAnswered};
 ghost use Rattle.rtdvs_top.specs.Probing.{LeavesProbes, ToldIn, asks_probes};
 ghost use Rattle.rtdvs_top.specs.Shown.{IsShown};
 ghost use Rattle.rtdvs_top.specs.Ending.{EndsAs, Leaves, MetIn};
@@ -20,24 +21,25 @@ ghost use Rattle.words.specs.declared.command.WordFault.{WordFault};
 
 use crate::Status;
 use crate::admit_answer::answer_admit;
+use crate::command_words::{
+    admit_words, constrain_words, least_words, poll_words, response_words, run_words, trace_words,
+};
 use crate::constrain_answer::answer_constrain;
 use crate::difference::{Difference, put_difference};
-use crate::least_answer::{LeastWords, answer_least};
+use crate::least_answer::answer_least;
 use crate::made_lines::answer_workload;
-use crate::plan_words::{AdmitWords, ConstrainWords, PollWords, ResponseWords, RunWords};
 use crate::poll_answer::answer_poll;
 use crate::probe_line::put_probes;
 use crate::refusal::status_line;
 use crate::response_answer::answer_response;
 use crate::run_answer::answer_run;
 use crate::trace_answer::answer_trace;
-use crate::traced::TraceWords;
 use crate::writer::put_line;
 use dvs_base::{Shelf, Sink};
 use probes::Probe;
 use std::alloc::Global;
 use task_model::TaskSet;
-use words::{Command, TraceUse, read_words};
+use words::{Command, read_words};
 
 // Notes a status. A fault of the notes changes nothing else.
 fn note_status<E: Sink>(status: &Status, tasks: Option<&TaskSet>, notes: &mut E)
@@ -102,135 +104,24 @@ fn answer_command<S: Shelf, W: Sink, P: Probe>(
     probes: &mut Vec<P>,
 ) -> (Status, Option<TaskSet>)
     requires { IsReadyCommand (shown command.now) }
-    ensures ended { EndsAs (W.shows out.old) (W.shows out.new)
-        (files_for (S.shows shelf.old).held (shown command.now)) (answer_of_command (shown command.now)) result.0 }
+    ensures answered { IsAnswered (shown command.now) (seen (S.shows shelf.old) (W.shows out.old))
+        (seen (S.shows shelf.new) (W.shows out.new)) result.0 result.1 }
     ensures leaves { Leaves result.0 out.old out.new }
     ensures kept { LeavesProbes (asks_probes (shown command.now)) result.0 probes.old probes.new }
     ensures told { ToldIn (files_for (S.shows shelf.old).held (shown command.now)) (shown command.now)
         (W.shows out.old) (W.shows out.new)
         (map P.seen probes.old.items) (map P.seen probes.new.items) result.0 }
-    ensures met { MetIn (files_for (S.shows shelf.old).held (shown command.now)) (shown command.now) result.0 }
-    ensures tested { TestedIn (files_for (S.shows shelf.old).held (shown command.now)) (shown command.now) result.0 }
-    ensures named { NamedBy (files_for (S.shows shelf.old).held (shown command.now)) (shown command.now)
-        result.1 result.0 }
-    ensures named_done { NamedIfDone (files_for (S.shows shelf.old).held (shown command.now)) (shown command.now)
-        result.1 result.0 }
-    ensures passed { PassesBefore (files_for (S.shows shelf.old).held (shown command.now)) (shown command.now)
-        result.0 }
-    ensures explained { LoadOf (S.shows shelf.old) (S.shows shelf.new) (shown command.now) result.0 }
-    ensures loads { MakesLoads (loads_of (shown command.now)) (S.shows shelf.old) (S.shows shelf.new) }
-    ensures shown { IsShown result.0 }
 {
     match command {
-        Command::Run {
-            tasks,
-            machine,
-            demands,
-            scheduler,
-            governor,
-            ticks,
-            probes: asked,
-            version,
-        } => {
-            let run = RunWords {
-                tasks,
-                machine,
-                scheduler: *scheduler,
-                governor: *governor,
-                ticks: *ticks,
-                demands: *demands,
-                probes: *asked,
-                version: *version,
-            };
-            answer_run(alloc, &run, shelf, out, probes)
-        }
-        Command::Admit {
-            tasks,
-            machine,
-            scheduler,
-        } => {
-            let admit = AdmitWords {
-                tasks,
-                machine,
-                scheduler: *scheduler,
-            };
-            answer_admit(alloc, &admit, shelf, out)
-        }
-        Command::Replay {
-            tasks,
-            machine,
-            trace,
-        } => {
-            let words = TraceWords {
-                asked: TraceUse::Replay,
-                tasks,
-                machine,
-                trace,
-            };
-            answer_trace(alloc, &words, shelf, out)
-        }
-        Command::Migrate {
-            tasks,
-            machine,
-            trace,
-        } => {
-            let words = TraceWords {
-                asked: TraceUse::Migrate,
-                tasks,
-                machine,
-                trace,
-            };
-            answer_trace(alloc, &words, shelf, out)
-        }
+        Command::Run { .. } => answer_run(alloc, &run_words(command), shelf, out, probes),
+        Command::Admit { .. } => answer_admit(alloc, &admit_words(command), shelf, out),
+        Command::Replay { .. } => answer_trace(alloc, &trace_words(command), shelf, out),
+        Command::Migrate { .. } => answer_trace(alloc, &trace_words(command), shelf, out),
         Command::Workload { seed } => (answer_workload(alloc, *seed, out), None),
-        Command::Response { tasks, machine } => {
-            let files = ResponseWords { tasks, machine };
-            answer_response(alloc, &files, shelf, out)
-        }
-        Command::Constrain {
-            tasks,
-            machine,
-            deadlines,
-        } => {
-            let files = ConstrainWords {
-                tasks,
-                machine,
-                deadlines,
-            };
-            answer_constrain(alloc, &files, shelf, out)
-        }
-        Command::Poll {
-            tasks,
-            machine,
-            requests,
-            server,
-            scheduler,
-            governor,
-            ticks,
-        } => {
-            let poll = PollWords {
-                tasks,
-                machine,
-                requests,
-                server,
-                scheduler: *scheduler,
-                governor: *governor,
-                ticks: *ticks,
-            };
-            answer_poll(alloc, &poll, shelf, out)
-        }
-        Command::Least {
-            machine,
-            units,
-            ticks,
-        } => {
-            let least = LeastWords {
-                machine,
-                units: *units,
-                ticks: *ticks,
-            };
-            (answer_least(alloc, &least, shelf, out), None)
-        }
+        Command::Response { .. } => answer_response(alloc, &response_words(command), shelf, out),
+        Command::Constrain { .. } => answer_constrain(alloc, &constrain_words(command), shelf, out),
+        Command::Poll { .. } => answer_poll(alloc, &poll_words(command), shelf, out),
+        Command::Least { .. } => (answer_least(alloc, &least_words(command), shelf, out), None),
     }
 }
 

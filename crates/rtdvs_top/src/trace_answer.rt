@@ -4,6 +4,7 @@ ghost use Rattle.rtdvs_top.specs.ReplayAnswer.{shown_trace, totals_at, replayed_
 ghost use Rattle.words.specs.Commands.{traced};
 ghost use Rattle.rtdvs_top.specs.ReplayCauses.{IsComparable, PassesTraced, LaterTraceLoad};
 ghost use Rattle.rtdvs_top.specs.Causes.{MakesLoads, IsNoLoad, LoadOf, PassesBefore, loads_of};
+ghost use Rattle.rtdvs_top.specs.Answered.{seen, IsAnswered};
 ghost use Rattle.rtdvs_top.specs.Naming.{NamedBy, NamedIfDone};
 ghost use Rattle.rtdvs_top.specs.Ending.{Ends, EndsAs, Leaves, MetTraced, MetIn};
 ghost use Rattle.rtdvs_top.specs.Shown.{IsShown};
@@ -137,16 +138,9 @@ pub(crate) fn answer_trace<S: Shelf, W: Sink>(
     shelf: &mut S,
     out: &mut W,
 ) -> (Status, Option<TaskSet>)
-    ensures ended { EndsAs (W.shows out.old) (W.shows out.new) (S.shows shelf.old).held
-        (trace_answer (shown_trace words.now)) result.0 }
+    ensures answered { IsAnswered (traced (shown_trace words.now)) (seen (S.shows shelf.old) (W.shows out.old))
+        (seen (S.shows shelf.new) (W.shows out.new)) result.0 result.1 }
     ensures leaves { Leaves result.0 out.old out.new }
-    ensures met { MetIn (S.shows shelf.old).held (traced (shown_trace words.now)) result.0 }
-    ensures named { NamedBy (S.shows shelf.old).held (traced (shown_trace words.now)) result.1 result.0 }
-    ensures named_done { NamedIfDone (S.shows shelf.old).held (traced (shown_trace words.now)) result.1 result.0 }
-    ensures passed { PassesBefore (S.shows shelf.old).held (traced (shown_trace words.now)) result.0 }
-    ensures explained { LoadOf (S.shows shelf.old) (S.shows shelf.new) (traced (shown_trace words.now)) result.0 }
-    ensures loads { MakesLoads (loads_of (traced (shown_trace words.now))) (S.shows shelf.old) (S.shows shelf.new) }
-    ensures shown { IsShown result.0 }
 {
     let tasks = match load_tasks(alloc, words.tasks, shelf) {
         Ok(tasks) => tasks,

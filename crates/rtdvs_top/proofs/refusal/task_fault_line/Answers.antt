@@ -9,3 +9,6 @@ returns-in-Range c = rw (c.in-Range.is, c.task_line-in-Range.ensures, c.task_fie
 
 pub returns-in-BadName : goal.returns-in-BadName
 returns-in-BadName c = rw (c.in-BadName.is, c.line_of-in-BadName.ensures) refl
+
+pub returns-in-SameName : goal.returns-in-SameName
+returns-in-SameName c = rw (c.in-SameName.is, c.same_name_line.ensures) refl

@@ -19,7 +19,7 @@ returns-clause-answers g c =
     let new = g.S.Shelf.shows c.answer_command-status.new.shelf in
     let out_old = g.W.Sink.shows c.args.out.now in
     let out_new = g.W.Sink.shows c.answer_command-status.new.out in
-    let e = c.answer_command-status.ensures in
+    let e = c.answer_command-status.ensures.answered in
     let s = c.answer_command-status.result.0 in
     subst
     (λ (command : Result CommandOf WordFault).
@@ -31,7 +31,7 @@ returns-clause-run g c =
     let old = g.S.Shelf.shows c.args.shelf.now in
     let out_old = g.W.Sink.shows c.args.out.now in
     let out_new = g.W.Sink.shows c.answer_command-status.new.out in
-    let e = c.answer_command-status.ensures in
+    let e = c.answer_command-status.ensures.answered in
     let s = c.answer_command-status.result.0 in
     subst (λ (command : Result CommandOf WordFault). OfRun (files_told old.held command) command out_old out_new s)
     c.in-Ok.ensures.read (of-run _ _ s out_old out_new e.ended e.met)
@@ -41,12 +41,12 @@ returns-clause-tested g c =
     let old = g.S.Shelf.shows c.args.shelf.now in
     let s = c.answer_command-status.result.0 in
     subst (λ (command : Result CommandOf WordFault). OfTests (files_told old.held command) command s)
-    c.in-Ok.ensures.read c.answer_command-status.ensures.tested
+    c.in-Ok.ensures.read c.answer_command-status.ensures.answered.tested
 
 pub returns-clause-polled : goal.returns-clause-polled
 returns-clause-polled g c =
     let old = g.S.Shelf.shows c.args.shelf.now in
-    let e = c.answer_command-status.ensures in
+    let e = c.answer_command-status.ensures.answered in
     let s = c.answer_command-status.result.0 in
     subst (λ (command : Result CommandOf WordFault). OfPoll (files_told old.held command) command s)
     c.in-Ok.ensures.read (of-poll _ _ s e.met)
@@ -56,7 +56,7 @@ returns-clause-least g c =
     let old = g.S.Shelf.shows c.args.shelf.now in
     let out_old = g.W.Sink.shows c.args.out.now in
     let out_new = g.W.Sink.shows c.answer_command-status.new.out in
-    let e = c.answer_command-status.ensures in
+    let e = c.answer_command-status.ensures.answered in
     let s = c.answer_command-status.result.0 in
     subst (λ (command : Result CommandOf WordFault). OfLeast (files_told old.held command) command out_old out_new s)
     c.in-Ok.ensures.read (of-least _ _ s out_old out_new e.ended e.met)
@@ -67,7 +67,7 @@ returns-clause-headline g c =
     let new = g.S.Shelf.shows c.answer_command-status.new.shelf in
     let out_old = g.W.Sink.shows c.args.out.now in
     let out_new = g.W.Sink.shows c.answer_command-status.new.out in
-    let e = c.answer_command-status.ensures in
+    let e = c.answer_command-status.ensures.answered in
     let s = c.answer_command-status.result.0 in
     subst
     (λ (command : Result CommandOf WordFault).
@@ -82,7 +82,7 @@ returns-clause-exact g c =
     let new = g.S.Shelf.shows c.answer_command-status.new.shelf in
     let out_old = g.W.Sink.shows c.args.out.now in
     let out_new = g.W.Sink.shows c.answer_command-status.new.out in
-    let e = c.answer_command-status.ensures in
+    let e = c.answer_command-status.ensures.answered in
     let s = c.answer_command-status.result.0 in
     subst
     (λ (command : Result CommandOf WordFault).
@@ -96,17 +96,17 @@ returns-clause-sure g c =
     let old = g.S.Shelf.shows c.args.shelf.now in
     let out_old = g.W.Sink.shows c.args.out.now in
     let out_new = g.W.Sink.shows c.answer_command-status.new.out in
-    let e = c.answer_command-status.ensures in
+    let e = c.answer_command-status.ensures.answered in
     subst
     (λ (command : Result CommandOf WordFault).
     IsSureOf (files_told old.held command) command out_old → out_new.faults ≡ out_old.faults)
     c.in-Ok.ensures.read
-    (sure-of g.W.Sink.shows _ _ c.answer_command-status.result.0 c.args.out.now _ e.ended e.leaves)
+    (sure-of g.W.Sink.shows _ _ c.answer_command-status.result.0 c.args.out.now _ e.ended c.answer_command-status.ensures.leaves)
 
 pub returns-clause-notes : goal.returns-clause-notes
 returns-clause-notes g c =
     let old = g.S.Shelf.shows c.args.shelf.now in
-    let e = c.answer_command-status.ensures in
+    let e = c.answer_command-status.ensures.answered in
     let s = c.answer_command-status.result.0 in
     let ps : List ProbeOf = map (λ b. (goal.Probe-dyn g (b.vtable, b.value)).seen b.value) c.answer_command-status.new.probes.items in
     subst
