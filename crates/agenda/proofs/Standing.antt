@@ -1,7 +1,7 @@
 -- What a ready queue and a calendar say of the state for which they stand, and how they keep up with it.
 use Rattle.std.proofs.Common.{◌≡◌, ◌≢◌, ℕ, ◌+◌, ◌<◌, ◌≤◌, Bool, true, false, not, nat_eq, nat_lt, ◌⊎◌, inl, inr, refl, sym, ap, ap₂, subst, ◌∙◌, arith, if◌then◌else◌, List, [], ◌∷◌, length, true≢false, Option, Some, None, MatchOption, IfSome, slice_get, set, get_or-set_same, get_or-set_other}
-use Rattle.std.specs.Prelude.{Contains, ◌||◌, ◌&&◌}
-use Rattle.std.proofs.lemmas.Bool.{cases_eq}
+use Rattle.std.specs.Prelude.{Contains}
+use Rattle.std.proofs.lemmas.Bool.{cases_eq, not-true}
 use Rattle.std.proofs.lemmas.Bool.Decides.{nat_tests}
 use Rattle.dvs_base.specs.declared.kind.Scheduler.{Scheduler}
 use Rattle.dvs_base.specs.declared.kind.Scheduler.TheVariants.{Edf, Rm}
@@ -29,11 +29,7 @@ entries-before Rm p s i k = refl
 
 module _ (p : Plan) (s : StateOf) where
   is-open : (i : ℕ) → is_open s i ≡ true → (row_at s i).done ≡ false
-  is-open i h = go (row_at s i).done h
-    where
-      go : (b : Bool) → not b ≡ true → b ≡ false
-      go true e = absurd (true≢false (sym e))
-      go false e = refl
+  is-open i h = not-true (row_at s i).done h
 
   -- the first entry of a ready queue is that of the first job that is not done
   pub first-undone : (xs : List Entry) (x : Entry) → HoldsReady p s xs → ComesFirst (before_of p.scheduler) x xs → IsFirstUndone p s (count p) x.task
@@ -42,19 +38,22 @@ module _ (p : Plan) (s : StateOf) where
       own : (x.task < count p) × (is_open s x.task ≡ true) × (x ≡ entry_of p s x.task)
       own = held p s (is_open s) xs h x (Has-contains xs x f.among)
 
-      go : (k : ℕ) → k < count p → stands_before (row_key p.scheduler p s) k x.task ≡ true → (d : Bool) → (row_at s k).done ≡ d → (k ≡ x.task) ⊎ (k ≢ x.task) → (row_at s k).done ≡ true
+      go : (k : ℕ) → k < count p → stands_before (row_key p.scheduler p s) k x.task ≡ true → (d : Bool) → (row_at s k).done ≡ d
+          → (k ≡ x.task) ⊎ (k ≢ x.task) → (row_at s k).done ≡ true
       go k lt b true e c = e
       go k lt b false e (inl same) =
           absurd (true≢false (sym b ∙ ap (λ (j : ℕ). stands_before (row_key p.scheduler p s) j x.task) same ∙ before-self (row_key p.scheduler p s) x.task))
       go k lt b false e (inr ne) =
           let there : before_of p.scheduler x (entry_of p s k) ≡ true =
-          All-at (λ z. z.task ≢ x.task → before_of p.scheduler x z ≡ true) xs (entry_of p s k) f.others (Has-contains xs (entry_of p s k) (h.all k lt (ap not e))) ne in
+          All-at (λ z. z.task ≢ x.task → before_of p.scheduler x z ≡ true) xs (entry_of p s k) f.others
+          (Has-contains xs (entry_of p s k) (h.all k lt (ap not e))) ne in
           let ahead : stands_before (row_key p.scheduler p s) x.task k ≡ true =
           sym (entries-before p.scheduler p s x.task k) ∙ ap (λ (z : Entry). before_of p.scheduler z (entry_of p s k)) (sym own.2) ∙ there in
           absurd (true≢false (sym b ∙ before-not (row_key p.scheduler p s) x.task k ahead))
 
   -- and there is only one
-  pub first-undone-own : (xs : List Entry) (x : Entry) (i : ℕ) → HoldsReady p s xs → ComesFirst (before_of p.scheduler) x xs → IsFirstUndone p s (count p) i → x.task ≡ i
+  pub first-undone-own : (xs : List Entry) (x : Entry) (i : ℕ) → HoldsReady p s xs → ComesFirst (before_of p.scheduler) x xs
+      → IsFirstUndone p s (count p) i → x.task ≡ i
   first-undone-own xs x i h f o = go (cases_eq x.task i)
     where
       u : IsFirstUndone p s (count p) x.task
@@ -84,7 +83,8 @@ module _ (p : Plan) (s : StateOf) where
     next-due = ap (λ (z : Entry). z.due) next-own.2
 
     next-before : (k : ℕ) → k < count p → k ≢ x.task → due_before x (entry_of p s k) ≡ true
-    next-before k lt ne = All-at (λ z. z.task ≢ x.task → due_before x z ≡ true) xs (entry_of p s k) f.others (Has-contains xs (entry_of p s k) (h.all k lt refl)) ne
+    next-before k lt ne = All-at (λ z. z.task ≢ x.task → due_before x z ≡ true) xs (entry_of p s k) f.others
+        (Has-contains xs (entry_of p s k) (h.all k lt refl)) ne
 
     next-least : (k : ℕ) → k < count p → x.due ≤ (row_at s k).deadline
     next-least k lt = go (cases_eq k x.task)
@@ -149,15 +149,18 @@ module _ (p : Plan) (s : StateOf) (i : ℕ) (r : Row) where
 
   -- entries of other tasks stay
   others-kept : (test : ℕ → Bool) (xs : List Entry) → HoldsTasks p s (without i test) xs → HoldsTasks p (with_row s i r) (without i test) xs
-  others-kept test xs h = holds-keep p s (without i test) (with_row s i r) (without i test) xs (λ k lt. refl) (λ k lt t. entry-there k (without-apart i test k t)) h
+  others-kept test xs h = holds-keep p s (without i test) (with_row s i r) (without i test) xs (λ k lt. refl)
+      (λ k lt t. entry-there k (without-apart i test k t)) h
 
   -- a row with its deadline
-  entries-kept : (test : ℕ → Bool) (xs : List Entry) → i < length s.rows → r.deadline ≡ (row_at s i).deadline → HoldsTasks p s test xs → HoldsTasks p (with_row s i r) test xs
+  entries-kept : (test : ℕ → Bool) (xs : List Entry) → i < length s.rows → r.deadline ≡ (row_at s i).deadline → HoldsTasks p s test xs
+      → HoldsTasks p (with_row s i r) test xs
   entries-kept test xs lt same h = holds-keep p s test (with_row s i r) test xs (λ k lk. refl) (λ k lk t. go k (cases_eq k i)) h
     where
       go : (k : ℕ) → (k ≡ i) ⊎ (k ≢ i) → entry_of p s k ≡ entry_of p (with_row s i r) k
       go k (inl e) = ap (λ (d : ℕ). record { task = k; due = d; period = period p k })
-          (ap (λ (j : ℕ). (row_at s j).deadline) e ∙ sym same ∙ ap (λ (q : Row). q.deadline) (sym (row-here s i r lt)) ∙ ap (λ (j : ℕ). (row_at (with_row s i r) j).deadline) (sym e))
+          (ap (λ (j : ℕ). (row_at s j).deadline) e ∙ sym same ∙ ap (λ (q : Row). q.deadline) (sym (row-here s i r lt))
+          ∙ ap (λ (j : ℕ). (row_at (with_row s i r) j).deadline) (sym e))
       go k (inr ne) = entry-there k ne
 
   -- the tests of a ready queue, but for task i
@@ -173,12 +176,14 @@ module _ (p : Plan) (s : StateOf) (i : ℕ) (r : Row) where
 
   ready-others : (xs : List Entry) → HoldsTasks p s (without i (is_open s)) xs → HoldsTasks p (with_row s i r) (without i (is_open (with_row s i r))) xs
   ready-others xs h =
-      holds-keep p (with_row s i r) (without i (is_open s)) (with_row s i r) (without i (is_open (with_row s i r))) xs (λ k lt. open-without k) (λ k lt t. refl) (others-kept (is_open s) xs h)
+      holds-keep p (with_row s i r) (without i (is_open s)) (with_row s i r) (without i (is_open (with_row s i r))) xs
+      (λ k lt. open-without k) (λ k lt t. refl) (others-kept (is_open s) xs h)
 
   -- the job of task i is done
   ready-closed : (xs : List Entry) → i < length s.rows → r.done ≡ true → HoldsTasks p s (without i (is_open s)) xs → HoldsReady p (with_row s i r) xs
   ready-closed xs lt done h =
-      holds-keep p (with_row s i r) (without i (is_open (with_row s i r))) (with_row s i r) (is_open (with_row s i r)) xs (λ k lk. go k (cases_eq k i)) (λ k lk t. refl) (ready-others xs h)
+      holds-keep p (with_row s i r) (without i (is_open (with_row s i r))) (with_row s i r) (is_open (with_row s i r)) xs
+      (λ k lk. go k (cases_eq k i)) (λ k lk t. refl) (ready-others xs h)
     where
       go : (k : ℕ) → (k ≡ i) ⊎ (k ≢ i) → without i (is_open (with_row s i r)) k ≡ is_open (with_row s i r) k
       go k (inl e) =
@@ -199,7 +204,8 @@ module _ (p : Plan) (s : StateOf) (ready : ReadyOf) (calendar : QueueOf) (h : St
   stand-run i units lt = record {
     scheduler = h.scheduler;
     ready_limit = h.ready_limit;
-    ready_jobs = holds-keep p s' (is_open s) s' (is_open s') ready.entries (λ k lk. go k (cases_eq k i)) (λ k lk t. refl) (entries-kept p s i r (is_open s) ready.entries lt refl h.ready_jobs);
+    ready_jobs = holds-keep p s' (is_open s) s' (is_open s') ready.entries (λ k lk. go k (cases_eq k i)) (λ k lk t. refl)
+        (entries-kept p s i r (is_open s) ready.entries lt refl h.ready_jobs);
     calendar_limit = h.calendar_limit;
     releases = entries-kept p s i r (λ k. true) calendar.entries lt refl h.releases;
   }
@@ -215,14 +221,14 @@ module _ (p : Plan) (s : StateOf) (ready : ReadyOf) (calendar : QueueOf) (h : St
       go k (inr ne) = open-there p s i r k ne
 
   -- nor does time, or a mark
-  pub stand-advance : (to : ℕ) → StandFor p (after_advance s to) ready calendar
-  stand-advance to = record {
+  pub stand-advance : (to : ℕ) (after : StateOf) → after ≡ after_advance s to → StandFor p after ready calendar
+  stand-advance to after is = subst (λ (v : StateOf). StandFor p v ready calendar) (sym is) (record {
     scheduler = h.scheduler;
     ready_limit = h.ready_limit;
     ready_jobs = record { each = h.ready_jobs.each; all = h.ready_jobs.all };
     calendar_limit = h.calendar_limit;
     releases = record { each = h.releases.each; all = h.releases.all };
-  }
+  })
 
   pub stand-mark : StandFor p (after_mark s) ready calendar
   stand-mark = record {
@@ -255,7 +261,8 @@ module _ (p : Plan) (s : StateOf) (ready : ReadyOf) (calendar : QueueOf) (h : St
     opened-releases r =
         holds-add p (with_row s i r) (λ k. true) due_before i rest lp refl
         (others-kept p s i r (λ k. true) rest
-        (subst (λ (j : ℕ). HoldsTasks p s (without j (λ k. true)) rest) own (holds-drop p s (λ k. true) x rest apart (subst (HoldsCalendar p s) is h.releases))))
+        (subst (λ (j : ℕ). HoldsTasks p s (without j (λ k. true)) rest) own
+        (holds-drop p s (λ k. true) x rest apart (subst (HoldsCalendar p s) is h.releases))))
 
     ready-absent : HoldsTasks p s (without i (is_open s)) ready.entries
     ready-absent = holds-without p s (is_open s) i ready.entries (absent p s (is_open s) i ready.entries h.ready_jobs (ap not done)) h.ready_jobs
@@ -296,11 +303,13 @@ pub record TakesDue (p : Plan) (s : StateOf) (i : ℕ) (xs rest : List Entry) : 
 pub takes-due : (p : Plan) (s : StateOf) (i : ℕ) (xs rest : List Entry) (r : Option Entry) → HoldsCalendar p s xs → NonePast p s → IsFirstDue p s i
     → MatchOption r ((xs ≡ []) × (rest ≡ [])) (λ e. xs ≡ e ∷ rest) → IfSome r (λ e. ComesFirst due_before e xs) → IfSome r (λ e. IsAbsent e.task rest)
     → TakesDue p s i xs rest
-takes-due p s i xs rest None h past d e f o = absurd (Has-contains [] (entry_of p s i) (subst (λ (l : List Entry). Contains l (entry_of p s i)) e.0 (h.all i d.below refl)))
+takes-due p s i xs rest None h past d e f o =
+    absurd (Has-contains [] (entry_of p s i) (subst (λ (l : List Entry). Contains l (entry_of p s i)) e.0 (h.all i d.below refl)))
 takes-due p s i xs rest (Some x) h past d e f o = record { entry = x; is = e; out = o; own = first-due-own p s xs x h f i past d }
 
 -- and of a ready queue where a job is not done
-pub takes-undone : (p : Plan) (s : StateOf) (i : ℕ) (xs rest : List Entry) (r : Option Entry) (sch : Scheduler) → sch ≡ p.scheduler → HoldsReady p s xs → IsFirstUndone p s (count p) i
+pub takes-undone : (p : Plan) (s : StateOf) (i : ℕ) (xs rest : List Entry) (r : Option Entry) (sch : Scheduler) → sch ≡ p.scheduler
+    → HoldsReady p s xs → IsFirstUndone p s (count p) i
     → MatchOption r ((xs ≡ []) × (rest ≡ [])) (λ e. xs ≡ e ∷ rest) → IfSome r (λ e. ComesFirst (before_of sch) e xs) → IfSome r (λ e. IsAbsent e.task rest)
     → TakesDue p s i xs rest
 takes-undone p s i xs rest None sch same h u m f o =
@@ -331,13 +340,16 @@ module _ (p : Plan) (s : StateOf) (ready : ReadyOf) (calendar : QueueOf) (h : St
       → IfSome r (λ e. ComesFirst (before_of ready.scheduler) e ready.entries) → IfSome r (λ e. IsAbsent e.task ready'.entries)
       → StandFor p (after_finish s i) ready' calendar
   after-finish i ready' r u long same m f o =
-      let t : TakesDue p s i ready.entries ready'.entries = takes-undone p s i ready.entries ready'.entries r ready.scheduler h.scheduler h.ready_jobs u m f o in
+      let t : TakesDue p s i ready.entries ready'.entries =
+      takes-undone p s i ready.entries ready'.entries r ready.scheduler h.scheduler h.ready_jobs u m f o in
       subst (λ (q : ReadyOf). StandFor p (after_finish s i) q calendar) (sym same)
       (stand-finish p s ready calendar h t.entry ready'.entries i t.is t.out t.own (omega (arith, u.below, long)))
 
   -- what `release` leaves
-  module _ (i : ℕ) (calendar' : QueueOf) (r : Option Entry) (past : NonePast p s) (d : IsFirstDue p s i) (lt : i < length s.rows) (done : (row_at s i).done ≡ true)
-      (limit : calendar'.limit ≡ calendar.limit) (m : MatchOption r ((calendar.entries ≡ []) × (calendar'.entries ≡ [])) (λ e. calendar.entries ≡ e ∷ calendar'.entries))
+  module _ (i : ℕ) (calendar' : QueueOf) (r : Option Entry) (past : NonePast p s) (d : IsFirstDue p s i) (lt : i < length s.rows)
+      (done : (row_at s i).done ≡ true)
+      (limit : calendar'.limit ≡ calendar.limit)
+      (m : MatchOption r ((calendar.entries ≡ []) × (calendar'.entries ≡ [])) (λ e. calendar.entries ≡ e ∷ calendar'.entries))
       (f : IfSome r (λ e. ComesFirst due_before e calendar.entries)) (o : IfSome r (λ e. IsAbsent e.task calendar'.entries)) where
     taken : TakesDue p s i calendar.entries calendar'.entries
     taken = takes-due p s i calendar.entries calendar'.entries r h.releases past d m f o
@@ -354,19 +366,23 @@ module _ (p : Plan) (s : StateOf) (ready : ReadyOf) (calendar : QueueOf) (h : St
     pub job-below : i < ready.limit
     job-below = omega (arith, h.ready_limit, d.below)
 
-    module _ (next : Entry) (calendar'' : QueueOf) (limit' : calendar''.limit ≡ calendar'.limit) (entries : calendar''.entries ≡ placed due_before next calendar'.entries) where
+    module _ (next : Entry) (calendar'' : QueueOf) (limit' : calendar''.limit ≡ calendar'.limit)
+        (entries : calendar''.entries ≡ placed due_before next calendar'.entries) where
       as_calendar : (e : Entry) → next ≡ e → calendar'' ≡ record calendar { entries = placed due_before e calendar'.entries }
-      as_calendar e is = ap₂ (λ (l : ℕ) (xs : List Entry). record { limit = l; entries = xs }) (limit' ∙ limit) (entries ∙ ap (λ (x : Entry). placed due_before x calendar'.entries) is)
+      as_calendar e is = ap₂ (λ (l : ℕ) (xs : List Entry). record { limit = l; entries = xs }) (limit' ∙ limit)
+          (entries ∙ ap (λ (x : Entry). placed due_before x calendar'.entries) is)
 
       pub after-open : (ready' : ReadyOf) → next ≡ entry_of p (opened p s i false) i
           → ready' ≡ record ready { entries = placed (before_of ready.scheduler) next ready.entries } → StandFor p (opened p s i false) ready' calendar''
       after-open ready' is put =
-          let all : StandFor p (opened p s i false) (record ready { entries = placed (before_of p.scheduler) (entry_of p (opened p s i false) i) ready.entries })
+          let all : StandFor p (opened p s i false)
+          (record ready { entries = placed (before_of p.scheduler) (entry_of p (opened p s i false) i) ready.entries })
           (record calendar { entries = placed due_before (entry_of p (opened p s i false) i) calendar'.entries }) =
           stand-opened p s ready calendar h taken.entry calendar'.entries i taken.is taken.out taken.own d.below lt done in
           subst (λ (q : ReadyOf). StandFor p (opened p s i false) q calendar'')
           (ap₂ (λ (c : Scheduler) (x : Entry). record ready { entries = placed (before_of c) x ready.entries }) (sym h.scheduler) (sym is) ∙ sym put)
-          (subst (λ (q : QueueOf). StandFor p (opened p s i false) (record ready { entries = placed (before_of p.scheduler) (entry_of p (opened p s i false) i) ready.entries }) q)
+          (subst (λ (q : QueueOf). StandFor p (opened p s i false)
+          (record ready { entries = placed (before_of p.scheduler) (entry_of p (opened p s i false) i) ready.entries }) q)
           (sym (as_calendar (entry_of p (opened p s i false) i) is)) all)
 
       pub after-closed : next ≡ entry_of p (opened p s i true) i → StandFor p (opened p s i true) ready calendar''
@@ -410,14 +426,18 @@ opening-ready p xs e = subst (HoldsReady p (opening p)) (sym e) (record {
   all = λ i lt t. absurd (true≢false (sym t ∙ ap (λ (q : Row). not q.done) (get-table (count p) (λ j. opening_row (offset p j) (worst p j)) i no_row lt)));
 })
 
-pub opening-entry : (p : Plan) (m first per : ℕ) → m < count p → first ≡ offset p m → per ≡ period p m → record { task = m; due = first; period = per } ≡ entry_of p (opening p) m
+pub opening-entry : (p : Plan) (m first per : ℕ) → m < count p → first ≡ offset p m → per ≡ period p m
+    → record { task = m; due = first; period = per } ≡ entry_of p (opening p) m
 opening-entry p m first per lt begins is =
-    ap₂ (λ (d n : ℕ). record { task = m; due = d; period = n }) (begins ∙ ap (λ (q : Row). q.deadline) (sym (get-table (count p) (λ j. opening_row (offset p j) (worst p j)) m no_row lt))) is
+    ap₂ (λ (d n : ℕ). record { task = m; due = d; period = n })
+    (begins ∙ ap (λ (q : Row). q.deadline) (sym (get-table (count p) (λ j. opening_row (offset p j) (worst p j)) m no_row lt))) is
 
 -- each release leaves fewer
-pub due-falls : (p : Plan) (s : StateOf) (i : ℕ) (done : Bool) → i < length s.rows → 0 < period p i → IsFirstDue p s i → due_left p (opened p s i done) < due_left p s
+pub due-falls : (p : Plan) (s : StateOf) (i : ℕ) (done : Bool) → i < length s.rows → 0 < period p i → IsFirstDue p s i
+    → due_left p (opened p s i done) < due_left p s
 due-falls p s i done lt some d =
-    let n : due_left p s ≡ sum_below (count p) (λ k. after k + own k) = sum_below-same (count p) before (λ k. after k + own k) (λ k lk. split k (cases_eq k i)) in
+    let n : due_left p s ≡ sum_below (count p) (λ k. after k + own k) = sum_below-same (count p) before (λ k. after k + own k)
+    (λ k lk. split k (cases_eq k i)) in
     omega (arith, n, sum_below-add (count p) after own, sum_below-own (count p) i (λ k. 1) d.below)
   where
     s' : StateOf
@@ -448,35 +468,9 @@ due-falls p s i done lt some d =
         let other : nat_eq k i ≡ false = grind (arith, nat_tests) in
         rw (row-there s i (opened_row (period p i) done (row_at s i)) k ne, other) (omega arith)
 
--- units change neither who is done nor the order
-pub first-run : (p : Plan) (s : StateOf) (n i units : ℕ) → i < length s.rows → IsFirstUndone p s n i → IsFirstUndone p (after_run s i units) n i
-first-run p s n i units lt u = record {
-  below = u.below;
-  open_job = done-same i ∙ u.open_job;
-  first = λ k lk b. done-same k ∙ u.first k lk (sym (ap₂ (λ (x y : ℕ). nat_lt x y || (nat_eq x y && nat_lt k i)) (key-same p.scheduler k) (key-same p.scheduler i)) ∙ b);
-}
-  where
-    r : Row
-    r = record (row_at s i) { used = (row_at s i).used + units }
-
-    s' : StateOf
-    s' = after_run s i units
-
-    row-same : (k : ℕ) → (k ≡ i) ⊎ (k ≢ i) → ((row_at s' k).deadline ≡ (row_at s k).deadline) × ((row_at s' k).done ≡ (row_at s k).done)
-    row-same k (inl e) =
-        let here : row_at s' k ≡ r = ap (row_at s') e ∙ row-here s i r lt in
-        (ap (λ (q : Row). q.deadline) here ∙ ap (λ (j : ℕ). (row_at s j).deadline) (sym e), ap (λ (q : Row). q.done) here ∙ ap (λ (j : ℕ). (row_at s j).done) (sym e))
-    row-same k (inr ne) = (ap (λ (q : Row). q.deadline) (row-there s i r k ne), ap (λ (q : Row). q.done) (row-there s i r k ne))
-
-    done-same : (k : ℕ) → (row_at s' k).done ≡ (row_at s k).done
-    done-same k = (row-same k (cases_eq k i)).1
-
-    key-same : (sch : Scheduler) (k : ℕ) → row_key sch p s' k ≡ row_key sch p s k
-    key-same Edf k = (row-same k (cases_eq k i)).0
-    key-same Rm k = refl
-
 -- the next release is now exactly where some task is to be released now
-pub release-now : (p : Plan) (s : StateOf) → 0 < count p → NonePast p s → nat_eq (next_release p s) s.now ≡ any_below (count p) (λ i. nat_eq (row_at s i).deadline s.now)
+pub release-now : (p : Plan) (s : StateOf) → 0 < count p → NonePast p s
+    → nat_eq (next_release p s) s.now ≡ any_below (count p) (λ i. nat_eq (row_at s i).deadline s.now)
 release-now p s some past = go (any_below (count p) (λ i. nat_eq (row_at s i).deadline s.now)) refl
   where
     low : s.now ≤ next_release p s

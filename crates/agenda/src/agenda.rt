@@ -24,7 +24,6 @@ impl Agenda {
     pub fn new(alloc: Global, plan: &Admitted) -> Result<Agenda, NoMemory>
         ensures { IfOk result (Stands plan.now (opening plan.now)) }
     {
-        plan.known();
         let ready = Ready::new(alloc, plan.scheduler(), plan.count())?;
         let mut calendar = Queue::new(alloc, plan.count(), ByDue)?;
         for task in 0..plan.count() {
@@ -54,7 +53,7 @@ impl Agenda {
         requires { Stands plan.now state.now self.now }
         ensures { result ≡ next_release plan.now state.entry.now }
     {
-        plan.known();
+        let _scheduler = plan.scheduler();
         match self.calendar.first() {
             Some(e) => e.due,
             None => 0,

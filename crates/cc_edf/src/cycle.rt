@@ -54,7 +54,7 @@ impl CcEdf {
         ensures rates { self.new.rates.items ≡ slice_set self.old.rates.items task (rate_for plan.now task units) }
         ensures sum { self.new.sum ≡ sum_charged plan.now self.old.rates.items self.old.sum task units }
     {
-        plan.known();
+        let _scheduler = plan.scheduler();
         let rate = u128::from(units) * u128::from(plan.hyper() / plan.period(task));
         let old = self.rates[task as usize];
         self.sum = self.sum - old + rate;
@@ -119,7 +119,6 @@ impl Governor for CcEdf {
         ensures met { result.met ≡ (lowest_pick plan.now.machine (cycle_demand plan.now view.entry.now)).met }
         ensures always { result.met ≡ true }
     {
-        plan.known();
         let demand = self.sum_of_rates(plan, view);
         let pick = plan.machine().lowest(demand);
         Choice {

@@ -1,13 +1,12 @@
 -- The kept rates and their sum, call by call.
-use Rattle.std.proofs.Common.{◌≡◌, ◌≢◌, ℕ, zero, suc, ◌+◌, ◌-◌, ◌*◌, ◌/◌, ◌<◌, ◌≤◌, ◌^◌, Bool, true, false, eqb, List, length, length-set, get_or-set_same, get_or-set_other, refl, sym, ◌∙◌, ap, subst, arith, ◌⊎◌, inl, inr, eq-or-lt_of_le, le_of_suc-le-suc}
+use Rattle.std.proofs.Common.{◌≡◌, ◌≢◌, ℕ, ◌+◌, ◌-◌, ◌*◌, ◌/◌, ◌<◌, ◌≤◌, ◌^◌, Bool, true, false, eqb, List, length, length-set, get_or-set_same, get_or-set_other, refl, sym, ◌∙◌, ap, subst, arith}
 use Rattle.std.specs.Prelude.{slice_set, slice_index}
 use Rattle.std.proofs.Math.Nat.{mul-le-mul_right}
 use Rattle.std.proofs.Math.ListN.{replicate, get_or-replicate, length-replicate}
 use Rattle.std.proofs.lemmas.Bool.Decides.{nat_tests}
 use Rattle.std.proofs.lemmas.List.{set-get_or}
 use Rattle.std.proofs.lemmas.Nat.{mul-le}
-use Rattle.grid_fraction.specs.Numbers.{sum_below}
-use Rattle.grid_fraction.proofs.Sums.{sum_below-same, sum_below-zero}
+use Rattle.grid_fraction.proofs.Sums.{sum_below-zero, sum_below-change}
 use Rattle.freq_table.specs.Tables.{last_entry}
 use Rattle.sched_model.specs.declared.state.Row.{Row}
 use Rattle.sched_model.specs.Plan.{Plan, count, period, worst, hyper, rate, top_speed}
@@ -21,18 +20,6 @@ use Rattle.governor.proofs.Belonging.{opening_at}
 use Rattle.cc_edf_laws.specs.Cycle.{charged_of, charged_rate_in, Counts}
 use Rattle.governor.proofs.Fits.{full_enough}
 use Rattle.cc_edf_laws.proofs.CycleLaws.{cycle_within}
-
--- one term of a sum changes
-sum_below-change : (n : ℕ) (f g : ℕ → ℕ) (i : ℕ) → i < n → ((k : ℕ) → k < n → k ≢ i → g k ≡ f k) → sum_below n g + f i ≡ sum_below n f + g i
-sum_below-change zero f g i lt same = absurd (omega arith)
-sum_below-change (suc n) f g i lt same =
-    go (eq-or-lt_of_le (le_of_suc-le-suc lt)) (λ below. sum_below-change n f g i below (λ k l ne. same k (omega arith) ne))
-  where
-    go : (i ≡ n) ⊎ (i < n) → (i < n → sum_below n g + f i ≡ sum_below n f + g i) → sum_below n g + g n + f i ≡ sum_below n f + f n + g i
-    go (inl e) ih =
-        let rest : sum_below n g ≡ sum_below n f = sum_below-same n g f (λ k l. same k (omega arith) (λ q. omega arith)) in
-        omega (arith, rest, ap f e, ap g e)
-    go (inr l) ih = omega (arith, ih l, same n (omega arith) (λ q. omega arith))
 
 -- what the highest speed does in H ticks
 work_low : (plan : Plan) → IsAdmitted plan → top_speed plan * hyper plan ≤ 1000000 * 2 ^ 48
@@ -85,17 +72,20 @@ module _ (plan : Plan) (s : StateOf) (of : IsOfPlan plan s) (rates : List ℕ) (
           → slice_index (slice_set rates i new) k ≡ charged_rate_in plan (written row) k
       at k lt true e =
           let same : k ≡ i = grind (arith, nat_tests) in
-          ap (λ m. slice_index (slice_set rates i new) m) same ∙ (get_or-set_same rates i new 0 rate_place ∙ (sym own ∙ ap (charged_rate_in plan (written row)) (sym same)))
+          ap (λ m. slice_index (slice_set rates i new) m) same
+          ∙ (get_or-set_same rates i new 0 rate_place ∙ (sym own ∙ ap (charged_rate_in plan (written row)) (sym same)))
       at k lt false e =
           let ne : k ≢ i = grind (arith, nat_tests) in
           get_or-set_other rates i k new 0 ne ∙ (counts.rate_is k lt ∙ sym (other k ne))
 
   -- a release charges the worst case
-  pub counts-released : Counts (slice_set rates i ((row_at s i).worst * (hyper plan / period plan i))) (sum - slice_index rates i + (row_at s i).worst * (hyper plan / period plan i)) plan (after_release plan s i)
+  pub counts-released : Counts (slice_set rates i ((row_at s i).worst * (hyper plan / period plan i)))
+      (sum - slice_index rates i + (row_at s i).worst * (hyper plan / period plan i)) plan (after_release plan s i)
   counts-released = counts-set (released_row (period plan i) (row_at s i)) ((row_at s i).worst * (hyper plan / period plan i)) refl
 
   -- a completion charges what the job had
-  pub counts-finished : Counts (slice_set rates i ((row_at s i).used * (hyper plan / period plan i))) (sum - slice_index rates i + (row_at s i).used * (hyper plan / period plan i)) plan (after_finish s i)
+  pub counts-finished : Counts (slice_set rates i ((row_at s i).used * (hyper plan / period plan i)))
+      (sum - slice_index rates i + (row_at s i).used * (hyper plan / period plan i)) plan (after_finish s i)
   counts-finished = counts-set (record (row_at s i) { done = true }) ((row_at s i).used * (hyper plan / period plan i)) refl
 
   -- units of an open job change no charge

@@ -1,5 +1,5 @@
 -- The laws of cycle-conserving EDF.
-use Rattle.std.proofs.Common.{◌≡◌, inl, inr, ℕ, ◌+◌, ◌-◌, ◌*◌, ◌/◌, ◌<◌, ◌≤◌, ◌^◌, min, true, false, List, length, refl, ap, sym, ◌∙◌, subst, arith}
+use Rattle.std.proofs.Common.{◌≡◌, inl, inr, ℕ, ◌+◌, ◌-◌, ◌*◌, ◌/◌, ◌<◌, ◌≤◌, ◌^◌, min, true, false, List, refl, ap, sym, ◌∙◌, subst, arith}
 use Rattle.std.specs.Prelude.{if◌then◌else◌}
 use Rattle.std.proofs.Math.Nat.{mul-le-mul_right, mul-zero, le_of_mul-le-mul_left}
 use Rattle.std.proofs.lemmas.Bool.{le-leb, cases_lt}
@@ -20,7 +20,7 @@ use Rattle.sched_model.proofs.LevelSums.{sum_below-times, sum_where-term, sum_wh
 use Rattle.governor.specs.Laws.{GovernorLaws}
 use Rattle.governor.specs.Serving.{ServesEdf}
 use Rattle.governor.specs.Steps.{after_boundary, after_tick, wleft_at, left_in, share_in, IsLegalIn, IsBeforeAll, Belongs}
-use Rattle.governor.proofs.Belonging.{unborn_done, in_rows, opening_at, boundary_at, tick_at, due_soon, legal_most}
+use Rattle.governor.proofs.Belonging.{unborn_done, opening_at, boundary_at, tick_at, due_soon, legal_most}
 use Rattle.governor.proofs.Ticks.{demand_most}
 use Rattle.governor.specs.Edf.{due_by}
 use Rattle.governor.proofs.EdfLaws.{closed_row}
@@ -79,9 +79,6 @@ cycle_chooses plan s adm edf of calm = record {
 }
 
 module _ (plan : Plan) (lim : IsWithinLimits plan) (dem : JobDemands) (s : StateOf) (bel : Belongs plan dem s) where
-  here : (i : ℕ) → i < count plan → i < length s.rows
-  here = in_rows plan dem s bel
-
   -- H over the period of a task
   abbrev jobs : ℕ → ℕ
   jobs i = hyper plan / period plan i
@@ -104,8 +101,10 @@ module _ (plan : Plan) (lim : IsWithinLimits plan) (dem : JobDemands) (s : State
       let n = count plan in
       let h = hyper plan in
       let t = after_boundary plan dem s in
-      let each = sum-two n (λ i. h * owed d (row_at t i)) (λ i. credit_of (jobs i) s.now d (row_at s i)) (λ i. h * owed d (row_at s i)) (λ i. credit_of (jobs i) s.now d (row_at t i))
-      (λ i lt. rw (boundary_at plan dem s i (here i lt)) (boundary_pays plan dem h (jobs i) s.now d i (row_at s i) (period_divides plan lim i lt) (cycle_completes calm i lt) le)) in
+      let each = sum-two n (λ i. h * owed d (row_at t i)) (λ i. credit_of (jobs i) s.now d (row_at s i)) (λ i. h * owed d (row_at s i))
+      (λ i. credit_of (jobs i) s.now d (row_at t i))
+      (λ i lt. rw (boundary_at plan dem s bel i lt)
+      (boundary_pays plan dem h (jobs i) s.now d i (row_at s i) (period_divides plan lim i lt) (cycle_completes calm i lt) le)) in
       omega (arith, each, calm d le, sum_below-times n h (λ i. owed d (row_at t i)), sum_below-times n h (λ i. owed d (row_at s i)))
 
   module _ (edf : ServesEdf plan.scheduler) (f : ℕ) (shares : List ℕ) (before : IsBeforeAll plan s) (legal : IsLegalIn plan dem f s shares) where
@@ -121,14 +120,15 @@ module _ (plan : Plan) (lim : IsWithinLimits plan) (dem : JobDemands) (s : State
               let r = bel.released i h in
               let near = due_soon plan i (row_at s i).job born in
               omega arith
-          | inr none ↦ absurd (let closed : (row_at s i).done ≡ true = unborn_done plan dem s bel i h (omega arith) in let bad : true ≡ false = sym closed ∙ open_job in cc)
+          | inr none ↦ absurd (let closed : (row_at s i).done ≡ true = unborn_done plan dem s bel i h (omega arith) in
+              let bad : true ≡ false = sym closed ∙ open_job in cc)
         ]
 
     -- where the speed covers what is due by d, nothing is owed by then
     all_done : (d : ℕ) → sum_where (count plan) (due_by s d) (left_in dem s) ≤ f → due_work plan next d ≡ 0
     all_done d low =
         sum_where-zero (count plan) (due_by next d) (wleft_at next) (λ i h on.
-        let due : due_by s d i ≡ true = rw (tick_at dem shares s i (here i h)) at on in
+        let due : due_by s d i ≡ true = rw (tick_at plan dem shares s bel i h) at on in
         rw (due_closes plan dem f s shares edf bel legal d low i h due) refl)
 
     -- else each of its units is paid for
@@ -143,7 +143,7 @@ module _ (plan : Plan) (lim : IsWithinLimits plan) (dem : JobDemands) (s : State
         (λ i. h * owed d (row_at s i)) (λ i. credit_of (jobs i) (s.now + 1) d (row_at next i)) (charged_rate_in plan s)
         (λ i lt.
         let row = row_at s i in
-        rw (tick_at dem shares s i (here i lt))
+        rw (tick_at plan dem shares s bel i lt)
         (tick_pays row.done h (jobs i) (period plan i) (dem i row.job) row.used row.worst row.deadline s.now d (x i) (period_divides plan lim i lt)
         (let g = before i lt in omega arith) le (soon i lt) (bel.open_job i lt) (demand_most plan dem s bel i lt) (legal_most plan dem f s shares legal i lt)
         (later_none plan dem f s shares edf bel legal d high i lt))) in
@@ -161,8 +161,9 @@ module _ (plan : Plan) (lim : IsWithinLimits plan) (dem : JobDemands) (s : State
     rates_fall =
         sum_below-le (count plan) (charged_rate_in plan next) (charged_rate_in plan s) (λ i h.
         let row = row_at s i in
-        rw (tick_at dem shares s i (here i h))
-        (mul-le-mul_right (jobs i) (tick_charge row.done (dem i row.job) row.used row.worst (share_in shares i) (demand_most plan dem s bel i h) (legal_most plan dem f s shares legal i h))))
+        rw (tick_at plan dem shares s bel i h)
+        (mul-le-mul_right (jobs i) (tick_charge row.done (dem i row.job) row.used row.worst (share_in shares i)
+        (demand_most plan dem s bel i h) (legal_most plan dem f s shares legal i h))))
 
     cycle_ticks : (cycle_demand plan s).num ≤ f * hyper plan → CycleCalm plan s → CycleCalm plan next
     cycle_ticks fits calm d le =
@@ -181,7 +182,8 @@ cycle_laws = record {
   meets = λ plan dem s run dec calm kind. cycle_met plan s run.admitted run.served run.belongs.of;
   ticks = λ plan dem s run k safe shares may. record {
     calm = cycle_ticks plan run.admitted.limits dem s run.belongs run.served (speed_at plan.machine k) shares may.before may.legal safe.rate safe.calm;
-    rate = (let falls = rates_fall plan run.admitted.limits dem s run.belongs run.served (speed_at plan.machine k) shares may.before may.legal in let fits = safe.rate in omega arith);
+    rate = (let falls = rates_fall plan run.admitted.limits dem s run.belongs run.served (speed_at plan.machine k) shares may.before may.legal in
+        let fits = safe.rate in omega arith);
   };
   stays_calm = λ plan dem s run k safe. safe.calm;
   completes = λ plan dem s run calm. cycle_completes plan run.admitted.limits dem s run.belongs calm;

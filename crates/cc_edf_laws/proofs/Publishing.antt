@@ -13,9 +13,9 @@ use Rattle.sched_model.specs.Ticks.{Tick, exec, is_complete}
 use Rattle.sched_model.specs.CycleDemand.{charged, edf_cycle}
 use Rattle.sched_model.specs.Demand.{demand_by, published}
 use Rattle.sched_model.specs.Schedule.{IsScheduleBy}
-use Rattle.sched_model.specs.States.{no_row, row_at, row_of, state_of}
+use Rattle.sched_model.specs.States.{row_at, state_of}
 use Rattle.sched_model.proofs.Service.{exec-most}
-use Rattle.sched_model.proofs.Tables.{get-table}
+use Rattle.sched_model.proofs.Joining.{row_at-state_of}
 use Rattle.governor.specs.Schedule.{Publishes, PublishingLaws}
 use Rattle.governor.specs.Serving.{ServesEdf}
 use Rattle.governor.proofs.OneSchedule.{publishing_laws}
@@ -32,7 +32,7 @@ charged-state : (p : Plan) (dem : JobDemands) (ask : List Tick → Frac) (past :
 charged-state p dem ask past h i lt =
     let k = latest p i (length past) in
     charge-is (is_complete p dem past i) (dem i k) (exec p past i k) (worst p i) refl (exec-most p dem ask past h i k lt)
-    ∙ sym (ap charged_of (get-table (count p) (row_of p dem past) i no_row lt))
+    ∙ sym (ap charged_of (row_at-state_of p dem past i lt))
 
 cycle-state : (p : Plan) (dem : JobDemands) (ask : List Tick → Frac) (past : List Tick) → IsScheduleBy p dem ask past
     → edf_cycle p dem past ≡ cycle_demand p (state_of p dem past)

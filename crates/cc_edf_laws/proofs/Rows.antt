@@ -7,7 +7,8 @@ use Rattle.sched_model.specs.declared.state.Row.{Row}
 use Rattle.sched_model.specs.Plan.{Plan, period}
 use Rattle.sched_model.specs.Demands.{JobDemands}
 use Rattle.sched_model.specs.States.{row_wleft}
-use Rattle.governor.specs.Steps.{is_due, boundary_row, opened_row}
+use Rattle.governor.specs.Steps.{boundary_row}
+use Rattle.governor.proofs.Belonging.{boundary_row-by}
 use Rattle.cc_edf_laws.specs.Cycle.{charged_of}
 
 -- what a row due by d may still need
@@ -40,17 +41,14 @@ pub boundary_pays : (plan : Plan) (dem : JobDemands) (h q now d i : ℕ) (row : 
     → (row.deadline ≡ now → row.done ≡ true) → now ≤ d
     → h * owed d (boundary_row plan dem now i row) + credit_of q now d row ≤ h * owed d row + credit_of q now d (boundary_row plan dem now i row)
 boundary_pays plan dem h q now d i row whole closed le =
-    let P : Bool → Type 0 = λ (b : Bool). h * owed d (if b then opened_row plan dem i row else row) + credit_of q now d row ≤ h * owed d row + credit_of q now d (if b then opened_row plan dem i row else row) in
-    elim (cases_Bool (is_due now row)) [
-      | inl due ↦
-          let at_now : row.deadline ≡ now = eqb-true row.deadline now due in
-          let pays =
-          opened_pays (dem i (row.job + 1) == 0) h q (period plan i) row.worst now d (row.deadline + period plan i) whole le (omega arith) in
-          let none : credit_of q now d row ≡ 0 =
-          (let z : min d row.deadline - now ≡ 0 = omega arith in rw z (mul-zero (charged_of row * q))) in
-          subst P (sym due) (omega (arith, pays, none))
-      | inr later ↦ subst P (sym later) (omega arith)
-    ]
+    boundary_row-by plan dem now i row (λ new. h * owed d new + credit_of q now d row ≤ h * owed d row + credit_of q now d new)
+    (λ at_now.
+    let pays =
+    opened_pays (dem i (row.job + 1) == 0) h q (period plan i) row.worst now d (row.deadline + period plan i) whole le (omega arith) in
+    let none : credit_of q now d row ≡ 0 =
+    (let z : min d row.deadline - now ≡ 0 = omega arith in rw z (mul-zero (charged_of row * q))) in
+    omega (arith, pays, none))
+    (λ later. omega arith)
 
 -- c units less at a rate of c * q, over a part of the period
 complete_pays : (h q p c e : ℕ) → q * p ≡ h → e ≤ p → c * q * e ≤ h * c
@@ -66,7 +64,8 @@ tick_done false h q used k = omega arith
 
 -- for a job that goes on
 tick_open : (b : Bool) (h q used worst sh k : ℕ) → used + sh ≤ worst → (b ≡ false → sh ≡ 0)
-    → h * (if b then worst - (used + sh) else 0) + h * (if b then sh else 0) + worst * q * (k + 1) ≤ h * (if b then worst - used else 0) + worst * q * k + worst * q
+    → h * (if b then worst - (used + sh) else 0) + h * (if b then sh else 0) + worst * q * (k + 1) ≤ h *
+    (if b then worst - used else 0) + worst * q * k + worst * q
 tick_open true h q used worst sh k le none = let e : (worst - (used + sh)) + sh ≡ worst - used = omega arith in omega (arith, ap (λ (x : ℕ). h * x) e)
 tick_open false h q used worst sh k le none = omega arith
 
@@ -88,8 +87,10 @@ tick_close h q p need used worst sh k whole le is most =
 pub tick_pays : (done : Bool) (h q p need used worst due now d sh : ℕ) → q * p ≡ h → now + 1 ≤ due → now + 1 ≤ d
     → (done ≡ false → due ≤ now + p) → (done ≡ false → used < need) → need ≤ worst
     → sh ≤ (if done then 0 else need - used) → (d < due → sh ≡ 0)
-    → h * (if nat_le due d then (if (done || (used + sh == need)) then 0 else worst - (used + sh)) else 0) + h * (if nat_le due d then sh else 0) + (if done then used else worst) * q * (min d due - now)
-    ≤ h * (if nat_le due d then (if done then 0 else worst - used) else 0) + (if (done || (used + sh == need)) then used + sh else worst) * q * (min d due - (now + 1)) + (if done then used else worst) * q
+    → h * (if nat_le due d then (if (done || (used + sh == need)) then 0 else worst - (used + sh)) else 0) + h *
+    (if nat_le due d then sh else 0) + (if done then used else worst) * q * (min d due - now)
+    ≤ h * (if nat_le due d then (if done then 0 else worst - used) else 0) + (if (done || (used + sh == need)) then used + sh
+    else worst) * q * (min d due - (now + 1)) + (if done then used else worst) * q
 tick_pays true h q p need used worst due now d sh whole lo ld soon open_job most own none =
     let z : sh ≡ 0 = omega arith in
     let span : min d due - now ≡ (min d due - (now + 1)) + 1 = omega arith in

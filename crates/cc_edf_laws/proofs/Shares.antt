@@ -21,7 +21,8 @@ if-weaker : (a b : Bool) (x : ℕ) → (a ≡ true → b ≡ true) → (if a the
 if-weaker true b x h = rw (h refl) (omega arith)
 if-weaker false b x h = omega arith
 
-module _ (plan : Plan) (dem : JobDemands) (f : ℕ) (s : StateOf) (shares : List ℕ) (edf : ServesEdf plan.scheduler) (bel : Belongs plan dem s) (legal : IsLegalIn plan dem f s shares) where
+module _ (plan : Plan) (dem : JobDemands) (f : ℕ) (s : StateOf) (shares : List ℕ) (edf : ServesEdf plan.scheduler)
+    (bel : Belongs plan dem s) (legal : IsLegalIn plan dem f s shares) where
   abbrev deadlines : ℕ → ℕ
   deadlines i = (row_at s i).deadline
 

@@ -6,7 +6,7 @@ use Rattle.std.proofs.lemmas.Bool.Decides.{nat_tests}
 use Rattle.std.proofs.lemmas.List.{get_or-map}
 use Rattle.std.proofs.lemmas.Option.{IfSome_then}
 use Rattle.grid_fraction.specs.Numbers.{sum_below}
-use Rattle.grid_fraction.proofs.Sums.{sum_below-same, sum_below-add, sum_below-own}
+use Rattle.grid_fraction.proofs.Sums.{sum_below-change}
 use Rattle.grid_fraction.proofs.Least.{least-same}
 use Rattle.sched_model.specs.declared.state.Row.{Row}
 use Rattle.sched_model.specs.Plan.{Plan, count, period}
@@ -22,26 +22,7 @@ use Rattle.cc_rm.specs.Counters.{AreOf, Counts, lowered}
 -- one term of a sum falls
 sum_below-fall : (n : ℕ) (f g : ℕ → ℕ) (i by : ℕ) → i < n → g i + by ≡ f i → ((k : ℕ) → k ≢ i → g k ≡ f k)
     → sum_below n g ≡ sum_below n f - by
-sum_below-fall n f g i by lt own other =
-    let parts : sum_below n f ≡ sum_below n (λ k. g k + (if eqb k i then by else 0)) =
-    sum_below-same n f (λ k. g k + (if eqb k i then by else 0)) (λ k l. at k (eqb k i) refl) in
-    let two : sum_below n (λ k. g k + (if eqb k i then by else 0))
-    ≡ sum_below n g + sum_below n (λ k. if eqb k i then by else 0) =
-    sum_below-add n g (λ k. if eqb k i then by else 0) in
-    let mine : sum_below n (λ k. if eqb k i then by else 0) ≡ by = sum_below-own n i (λ k. by) lt in
-    omega (arith, parts, two, mine)
-  where
-    at : (k : ℕ) (b : Bool) → eqb k i ≡ b → f k ≡ g k + (if eqb k i then by else 0)
-    at k true e =
-        let same : k ≡ i = grind (arith, nat_tests) in
-        rw e (omega (arith, own, ap f same, ap g same))
-    at k false e =
-        let ne : k ≢ i = grind (arith, nat_tests) in
-        rw e (omega (arith, other k ne))
-
--- what is left falls by the units that an open job gets
-left-falls : (al base w units : ℕ) → w ≤ base → units ≤ w → al - (base - (w - units)) ≡ al - (base - w) - units
-left-falls al base w units a b = omega arith
+sum_below-fall n f g i by lt own other = omega (arith, own, sum_below-change n f g i lt (λ k l ne. other k ne))
 
 -- a rest is a part of what is left of all
 pub rest-most : (speed : ℕ) (rests : List ℕ) (kept : Option Allotments) (plan : Plan) (s : StateOf) (i : ℕ)

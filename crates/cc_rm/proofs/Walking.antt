@@ -52,39 +52,33 @@ left_most : (done : Bool) (al had : ℕ) → (if done then 0 else al - had) ≤ 
 left_most true al had = omega arith
 left_most false al had = omega arith
 
--- what is left of what the k-th task gets
-pub ranked-left : (p : Plan) (v : StateOf) (units k rest sum given left : ℕ) → units ≡ allotted_units p v
-    → k < count p → IsWalked p v units k rest sum
-    → given ≡ min rest (base_of v (slice_index (order p) k))
-    → left ≡ (if (row_at v (slice_index (order p) k)).done then 0
-    else given - had_since_mark v (slice_index (order p) k))
-    → left ≡ allotment_left_in p v (slice_index (order p) k)
-ranked-left p v units k rest sum given left all h walked given_is left_is =
-    let i = slice_index (order p) k in
-    let same : given ≡ allotted_in p v i = omega (arith, given_is, all, walked.rest_is, ranked-allotted p v k h) in
-    left_is ∙ ap (λ (al : ℕ). if (row_at v i).done then 0 else al - had_since_mark v i) same
+module _ (p : Plan) (v : StateOf) (units k rest sum given left : ℕ) (all : units ≡ allotted_units p v)
+    (h : k < count p) (walked : IsWalked p v units k rest sum)
+    (given_is : given ≡ min rest (base_of v (slice_index (order p) k)))
+    (left_is : left ≡ (if (row_at v (slice_index (order p) k)).done then 0
+    else given - had_since_mark v (slice_index (order p) k))) where
+  abbrev i : ℕ
+  i = slice_index (order p) k
 
-pub walked-next : (p : Plan) (v : StateOf) (units k rest sum given left : ℕ) → units ≡ allotted_units p v
-    → k < count p → IsWalked p v units k rest sum
-    → given ≡ min rest (base_of v (slice_index (order p) k))
-    → left ≡ (if (row_at v (slice_index (order p) k)).done then 0
-    else given - had_since_mark v (slice_index (order p) k))
-    → IsWalked p v units (k + 1) (rest - given) (sum + left)
-walked-next p v units k rest sum given left all h walked given_is left_is =
-    let i = slice_index (order p) k in
-    let long : k < length (order p) = omega (arith, length-in_order (period p) (count p)) in
-    let mine : left ≡ allotment_left_in p v i =
-    ranked-left p v units k rest sum given left all h walked given_is left_is in
-    let most = left_most (row_at v i).done given (had_since_mark v i) in
-    let next : take (k + 1) (order p) ≡ take k (order p) ++ i ∷ [] = take_more (order p) k 0 long in
-    let bases = ap (sum_list (base_of v)) next ∙ sum_list-snoc (base_of v) (take k (order p)) i in
-    let lefts = ap (sum_list (allotment_left_in p v)) next
-    ∙ sum_list-snoc (allotment_left_in p v) (take k (order p)) i in
-    record {
-      rest_is = omega (arith, given_is, walked.rest_is, bases);
-      sum_is = omega (arith, walked.sum_is, lefts, mine);
-      within = omega (arith, walked.within, given_is, left_is, most);
-    }
+  -- what is left of what the k-th task gets
+  pub ranked-left : left ≡ allotment_left_in p v i
+  ranked-left =
+      let same : given ≡ allotted_in p v i = omega (arith, given_is, all, walked.rest_is, ranked-allotted p v k h) in
+      left_is ∙ ap (λ (al : ℕ). if (row_at v i).done then 0 else al - had_since_mark v i) same
+
+  pub walked-next : IsWalked p v units (k + 1) (rest - given) (sum + left)
+  walked-next =
+      let most = left_most (row_at v i).done given (had_since_mark v i) in
+      let next : take (k + 1) (order p) ≡ take k (order p) ++ i ∷ [] =
+      take_more (order p) k 0 (omega (arith, length-in_order (period p) (count p))) in
+      let bases = ap (sum_list (base_of v)) next ∙ sum_list-snoc (base_of v) (take k (order p)) i in
+      let lefts = ap (sum_list (allotment_left_in p v)) next
+      ∙ sum_list-snoc (allotment_left_in p v) (take k (order p)) i in
+      record {
+        rest_is = omega (arith, given_is, walked.rest_is, bases);
+        sum_is = omega (arith, walked.sum_is, lefts, ranked-left);
+        within = omega (arith, walked.within, given_is, left_is, most);
+      }
 
 pub walked-end : (p : Plan) (v : StateOf) (units rest sum : ℕ) → IsWalked p v units (count p) rest sum
     → sum ≡ sum_below (count p) (allotment_left_in p v)

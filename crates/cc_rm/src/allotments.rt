@@ -15,7 +15,6 @@ pub(crate) fn static_speed(plan: &Admitted) -> u64
     requires { plan.now.scheduler ≡ Rm }
     ensures { result ≡ static_speed plan.now }
 {
-    plan.known();
     let pick = plan.machine().lowest(plan.static_demand());
     plan.machine().point(pick.index).speed
 }
@@ -34,12 +33,10 @@ fn left_of(view: &State, i: u32, allotted: u128) -> u128
     requires base { wleft_at view.now i ≤ base_of view.now i }
     ensures { result ≡ (if (row_at view.entry.now i).done then 0 else allotted - had_since_mark view.entry.now i) }
 {
-    view.known();
-    let row = view.rows[i as usize];
-    if row.done {
+    if view.rows[i as usize].done {
         return 0;
     }
-    let had = base_of(view, i) - (row.worst - row.used);
+    let had = base_of(view, i) - view.worst_left(i);
     allotted.saturating_sub(u128::from(had))
 }
 

@@ -1,8 +1,8 @@
 // The counters: what is left of the allotments of the last mark.
-ghost use Rattle.std.specs.Prelude.{◌≡◌, ◌<◌, length};
+ghost use Rattle.std.specs.Prelude.{◌≡◌, length};
 ghost use Rattle.grid_fraction.specs.Numbers.{sum_below};
 ghost use Rattle.sched_model.specs.Plan.{count};
-ghost use Rattle.sched_model.specs.States.{row_at, row_wleft, after_mark, IsOfPlan};
+ghost use Rattle.sched_model.specs.States.{after_mark, IsOfPlan};
 ghost use Rattle.cc_rm_laws.specs.Allotments.{allotted_units, allotment_left_in};
 ghost use Rattle.cc_rm.specs.Counters.{AreRests};
 
@@ -14,16 +14,6 @@ use sched_model::{Admitted, State};
 pub(crate) struct Allotments {
     pub(crate) first: u64,
     pub(crate) left: u128,
-}
-
-// What a task's job may still need at most, in work units.
-fn worst_left(view: &State, task: u32) -> u64
-    requires { task < length view.now.rows }
-    ensures { result ≡ row_wleft (row_at view.entry.now task) }
-{
-    view.known();
-    let row = view.rows[task as usize];
-    if row.done { 0 } else { row.worst - row.used }
 }
 
 /// Hands out so many work units in RM order, to each task at most what its job may still need. It writes what each
@@ -40,7 +30,7 @@ pub(crate) fn allot(rests: &mut [u128], plan: &Admitted, view: &State, units: u1
     let mut sum = 0;
     for k in 0..plan.count() {
         let i = plan.ranked(k);
-        let given = rest.min(u128::from(worst_left(view, i)));
+        let given = rest.min(u128::from(view.worst_left(i)));
         rests[i as usize] = given;
         rest -= given;
         sum += given;

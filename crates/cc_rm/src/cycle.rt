@@ -42,7 +42,7 @@ impl CcRm {
         ensures stands { IfOk result (λ g. ⟦<CcRm as Governor>⟧.stands g plan.now (opening plan.now)) }
         ensures worst { MeetsAtWorst plan.now }
     {
-        plan.known();
+        let _scheduler = plan.scheduler();
         match vec![in alloc; 0; plan.count() as usize] {
             Ok(rests) => Ok(CcRm {
                 static_speed: static_speed(plan),
@@ -80,7 +80,7 @@ impl CcRm {
         requires decision { IsAtDecision plan.now view.now }
         ensures { result ≡ cycle_demand plan.now view.entry.now }
     {
-        plan.known();
+        let _scheduler = plan.scheduler();
         let first = earliest_deadline(plan, view);
         let units = u128::from(first - view.base_at) * u128::from(self.static_speed);
         Frac {
@@ -170,7 +170,6 @@ impl Governor for CcRm {
         ensures met { result.met ≡ (lowest_pick plan.now.machine (cycle_demand plan.now view.entry.now)).met }
         ensures calm { CcRmCalm plan.now view.entry.now → result.met ≡ true }
     {
-        plan.known();
         let demand = self.demand(plan, view);
         let pick = plan.machine().lowest(demand);
         Choice {

@@ -1,9 +1,7 @@
 -- Units handed out in an order: what one task's allotment says of the others.
-use Rattle.std.proofs.Common.{◌≡◌, ◌⊎◌, inl, inr, ℕ, zero, suc, ◌+◌, ◌-◌, ◌<◌, ◌≤◌, min, true, ap, ap₂, arith}
-use Rattle.std.proofs.Common.{if◌then◌else◌}
+use Rattle.std.proofs.Common.{◌≡◌, ◌⊎◌, inl, inr, ℕ, zero, suc, ◌+◌, ◌-◌, ◌<◌, ◌≤◌, min, true, arith}
 use Rattle.std.proofs.lemmas.Bool.{cases_lt}
 use Rattle.grid_fraction.specs.Numbers.{sum_below}
-use Rattle.grid_fraction.proofs.Sums.{sum_below-same}
 use Rattle.sched_model.specs.Priority.{stands_before, sum_before, allotment}
 use Rattle.sched_model.proofs.GreedyLemmas.{up_to-before}
 
@@ -32,15 +30,6 @@ allotment-none n key room need j k lt h less =
 
 pub allotment-most : (n : ℕ) (key : ℕ → ℕ) (room : ℕ) (need : ℕ → ℕ) (k : ℕ) → allotment n key room need k ≤ need k
 allotment-most n key room need k = most_of room (sum_before n key need k) (need k)
-
--- it reads the tasks alone
-pub allotment-same : (n : ℕ) (key : ℕ → ℕ) (room : ℕ) (f g : ℕ → ℕ) → ((j : ℕ) → j < n → f j ≡ g j) → (k : ℕ) → k < n
-    → allotment n key room f k ≡ allotment n key room g k
-allotment-same n key room f g e k lt =
-    let before : sum_before n key f k ≡ sum_before n key g k =
-    sum_below-same n (λ j. if stands_before key j k then f j else 0) (λ j. if stands_before key j k then g j else 0)
-    (λ j l. ap (λ (x : ℕ). if stands_before key j k then x else 0) (e j l)) in
-    ap₂ (λ a b. min room (a + b) - min room a) before (e k lt)
 
 -- a sum above 0 has a term above 0
 pub some-term : (n : ℕ) (f : ℕ → ℕ) → 0 < sum_below n f → (k : ℕ) × (k < n) × (0 < f k)

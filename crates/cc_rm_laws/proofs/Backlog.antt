@@ -1,6 +1,6 @@
 -- The schedule under static with every job at its worst case: what releases and ticks make of what its jobs lack.
-use Rattle.std.proofs.Common.{◌≡◌, ◌≢◌, ℕ, zero, suc, ◌+◌, ◌-◌, ◌*◌, ◌<◌, ◌≤◌, Bool, true, false, List, length, []}
-use Rattle.std.proofs.Common.{◌∷◌, refl, sym, ◌∙◌, ap, arith, if◌then◌else◌, nat_eq}
+use Rattle.std.proofs.Common.{◌≡◌, ◌≢◌, ℕ, zero, suc, ◌+◌, ◌-◌, ◌*◌, ◌<◌, ◌≤◌, Bool, true, false, List, length}
+use Rattle.std.proofs.Common.{refl, sym, ◌∙◌, ap, arith, nat_eq}
 use Rattle.std.proofs.Math.Nat.{zero-sub}
 use Rattle.std.proofs.lemmas.Bool.Decides.{nat_tests}
 use Rattle.dvs_base.specs.declared.kind.Scheduler.{Scheduler}
@@ -14,7 +14,6 @@ use Rattle.sched_model.specs.Jobs.{due, latest}
 use Rattle.sched_model.specs.Ticks.{Tick, exec}
 use Rattle.sched_model.specs.Demand.{published}
 use Rattle.sched_model.specs.Demands.{worst_demand}
-use Rattle.sched_model.specs.Decision.{is_decision}
 use Rattle.sched_model.specs.Priority.{stands_before, is_up_to, sum_before, sum_up_to}
 use Rattle.sched_model.specs.Schedule.{entry_in_force}
 use Rattle.sched_model.specs.StaticDemand.{static_demand_of, static_demand, rm_static, static_speed}
@@ -23,7 +22,7 @@ use Rattle.sched_model.specs.Admission.{IsAdmitted}
 use Rattle.sched_model.proofs.JobLaws.{due-none, latest-none}
 use Rattle.sched_model.proofs.LevelSums.{sum_where-zero, sum_up_to-where}
 use Rattle.sched_model.proofs.ScheduleLemmas.{schedule-none, schedule-suc}
-use Rattle.governor.proofs.PlanDemands.{published-fixed}
+use Rattle.governor.proofs.PlanDemands.{published-fixed, entry-same}
 use Rattle.governor.proofs.Worst.{lacking-none}
 use Rattle.governor.proofs.Lacks.{worst_ticks, IsDown, lack-long, lack-same, lack-quiet, lack-released, lack-span}
 use Rattle.governor.proofs.Lacks.{lack-empties}
@@ -62,24 +61,13 @@ pub backlog-where : (p : Plan) (t i : ℕ) → i < count p
     → backlog p t i ≡ sum_where (count p) (is_up_to (period p) i) (lack p t)
 backlog-where p t i h = backlog-is p t i ∙ sum_up_to-where (count p) (period p) (lack p t) i h
 
--- the entry in force is always the static one
-static-entry : (p : Plan) (past : List Tick)
-    → entry_in_force p (worst_demand p) (asked p) past ≡ lowest_entry p.machine (static_demand p)
-static-entry p [] = ap (lowest_entry p.machine) (published-fixed p (worst_demand p) [])
-static-entry p (x ∷ past) = go (is_decision p (worst_demand p) (x ∷ past)) (static-entry p past)
-  where
-    go : (b : Bool) → entry_in_force p (worst_demand p) (asked p) past ≡ lowest_entry p.machine (static_demand p)
-        → (if b then lowest_entry p.machine (asked p (x ∷ past)) else entry_in_force p (worst_demand p) (asked p) past)
-        ≡ lowest_entry p.machine (static_demand p)
-    go true ih = ap (lowest_entry p.machine) (published-fixed p (worst_demand p) (x ∷ past))
-    go false ih = ih
-
--- so under RM the speed is
+-- under RM the speed is always the static one
 static-same : (p : Plan) → p.scheduler ≡ Rm → (past : List Tick)
     → (point p (entry_in_force p (worst_demand p) (asked p) past)).speed ≡ static_speed p
 static-same p rm past =
     let same : static_demand p ≡ rm_static p = ap (λ (sch : Scheduler). static_demand_of sch p) rm in
-    ap (speed_at p.machine) (static-entry p past ∙ ap (lowest_entry p.machine) same)
+    ap (speed_at p.machine) (entry-same p (worst_demand p) (asked p) (static_demand p) (published-fixed p (worst_demand p)) past
+    ∙ ap (lowest_entry p.machine) same)
 
 module _ (p : Plan) (adm : IsAdmitted p) where
   -- where a task has no release, nothing is added

@@ -1,13 +1,11 @@
 -- In a calm state of cycle-conserving RM each job that is due is complete.
-use Rattle.std.proofs.Common.{◌≡◌, inl, inr, ℕ, suc, ◌+◌, ◌-◌, ◌*◌, ◌<◌, ◌≤◌, Bool, true, sym, ◌∙◌, ap, subst, arith}
+use Rattle.std.proofs.Common.{◌≡◌, inl, inr, ℕ, suc, ◌+◌, ◌-◌, ◌*◌, ◌<◌, ◌≤◌, true, sym, ◌∙◌, ap, subst, arith}
 use Rattle.std.proofs.Common.{mul-zero}
-use Rattle.std.specs.Prelude.{if◌then◌else◌}
-use Rattle.std.proofs.lemmas.Bool.{cases_Bool, cases_lt, eqb-true}
+use Rattle.std.proofs.lemmas.Bool.{cases_lt}
 use Rattle.dvs_base.specs.declared.kind.Scheduler.TheVariants.{Rm}
 use Rattle.grid_fraction.specs.Numbers.{sum_where}
 use Rattle.grid_fraction.proofs.Sums.{sum_where-le}
 use Rattle.grid_fraction.proofs.Least.{least-below}
-use Rattle.sched_model.specs.declared.state.Row.{Row}
 use Rattle.sched_model.specs.Plan.{Plan, count, period, worst}
 use Rattle.sched_model.specs.Demands.{JobDemands}
 use Rattle.sched_model.specs.Jobs.{release, due, latest}
@@ -18,9 +16,9 @@ use Rattle.sched_model.specs.States.{StateOf, row_at, row_wleft}
 use Rattle.sched_model.proofs.Limits.{some_period}
 use Rattle.sched_model.proofs.JobLaws.{latest-is, latest-unique, latest_since-pos, release-suc, release-due, due-suc}
 use Rattle.sched_model.proofs.LevelSums.{sum_where-term, up_to-self, greatest-above, greatest-least}
-use Rattle.governor.specs.Steps.{is_due, opened_row, after_boundary, wleft_at, release_of, earliest_in, Belongs}
+use Rattle.governor.specs.Steps.{opened_row, after_boundary, wleft_at, release_of, earliest_in, Belongs}
 use Rattle.governor.proofs.Rows.{wleft-most}
-use Rattle.governor.proofs.Belonging.{earliest-from, unborn_done, in_rows, boundary_at}
+use Rattle.governor.proofs.Belonging.{earliest-from, unborn_done, boundary-by}
 use Rattle.governor.proofs.Ticks.{demand_most}
 use Rattle.governor.specs.Rm.{level}
 use Rattle.governor.proofs.EdfLaws.{closed_row}
@@ -157,18 +155,12 @@ module _ (plan : Plan) (adm : IsAdmitted plan) (dem : JobDemands) (s : StateOf) 
         → wleft_at (after_boundary plan dem s) j + lack plan s.now j ≤ wleft_at s j + lack_after plan s.now j
     row-adds j h =
         let row = row_at s j in
-        let P : Row → Type 0 = λ (new : Row). row_wleft new + lack plan s.now j
-        ≤ row_wleft row + lack_after plan s.now j in
-        let Q : Bool → Type 0 = λ (c : Bool). P (if c then opened_row plan dem j row else row) in
-        subst P (sym (boundary_at plan dem s j (in_rows plan dem s bel j h)))
-        (elim (cases_Bool (is_due s.now row)) [
-          | inl is_now ↦
-              let at_now : row.deadline ≡ s.now = eqb-true row.deadline s.now is_now in
-              let there : s.now ≡ due plan j row.job = sym at_now ∙ row-due j h in
-              let none = lack-none plan adm s.now j row.job h there in
-              let whole = released-lack plan adm s.now j row.job h there in
-              let w = bel.of.worst j h in
-              let small : row_wleft (opened_row plan dem j row) ≤ row.worst = wleft-most (opened_row plan dem j row) in
-              subst Q (sym is_now) (omega (arith, none, whole, w, small))
-          | inr later ↦ subst Q (sym later) (omega (arith, after-least plan adm s.now j h))
-        ])
+        boundary-by plan dem s bel j h (λ new. row_wleft new + lack plan s.now j ≤ row_wleft row + lack_after plan s.now j)
+        (λ at_now.
+        let there : s.now ≡ due plan j row.job = sym at_now ∙ row-due j h in
+        let none = lack-none plan adm s.now j row.job h there in
+        let whole = released-lack plan adm s.now j row.job h there in
+        let w = bel.of.worst j h in
+        let small : row_wleft (opened_row plan dem j row) ≤ row.worst = wleft-most (opened_row plan dem j row) in
+        omega (arith, none, whole, w, small))
+        (λ later. omega (arith, after-least plan adm s.now j h))

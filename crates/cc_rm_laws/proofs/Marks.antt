@@ -3,7 +3,7 @@ use Rattle.std.proofs.Common.{◌≡◌, inl, inr, ℕ, suc, ◌+◌, ◌-◌, �
 use Rattle.std.proofs.Common.{refl, sym, ◌∙◌, ap, subst, arith}
 use Rattle.std.specs.Prelude.{if◌then◌else◌, map, slice_index}
 use Rattle.std.specs.List.{list_any}
-use Rattle.std.proofs.lemmas.Bool.{cases_Bool, eqb-true}
+use Rattle.std.proofs.lemmas.Bool.{cases_Bool, eqb-true, or_parts}
 use Rattle.std.proofs.lemmas.List.{get_or-map}
 use Rattle.dvs_base.specs.declared.kind.Scheduler.TheVariants.{Rm}
 use Rattle.grid_fraction.specs.Numbers.{sum_below, sum_where}
@@ -16,13 +16,13 @@ use Rattle.sched_model.specs.StaticDemand.{static_speed}
 use Rattle.sched_model.specs.Backlog.{backlog}
 use Rattle.sched_model.specs.Admission.{IsAdmitted}
 use Rattle.sched_model.specs.States.{StateOf, row_at, no_row, row_wleft, opening}
-use Rattle.sched_model.proofs.PriorityLemmas.{allotment-shares}
+use Rattle.sched_model.proofs.Allotments.{allotment-shares}
 use Rattle.sched_model.proofs.DownSets.{down-set-gets}
 use Rattle.sched_model.proofs.LevelSums.{sum_where-mono, sum_where-plus, sum_where-zero, level-gets}
 use Rattle.governor.specs.Steps.{each_row, is_due, boundary_row, opened_row, after_boundary, wleft_at, release_of}
 use Rattle.governor.specs.Steps.{earliest_in, Belongs}
-use Rattle.governor.proofs.Rows.{none_due_at, some_due_at, or_false_right, done_none}
-use Rattle.governor.proofs.Belonging.{earliest-from, in_rows, opening_at, boundary_at, belongs_boundary}
+use Rattle.governor.proofs.Rows.{none_due_at, some_due_at, done_none}
+use Rattle.governor.proofs.Belonging.{earliest-from, in_rows, opening_at, boundary-by, belongs_boundary}
 use Rattle.governor.proofs.Belonging.{decision_boundary, opened_release, earliest-later}
 use Rattle.governor.specs.Rm.{level}
 use Rattle.cc_rm_laws.specs.Allotments.{base_of, allotted_units, allotted_in, allotment_left_in}
@@ -57,7 +57,7 @@ rows-still plan dem now i (row ∷ rows) none =
     let head : boundary_row plan dem now i row ≡ row =
     ap (λ (b : Bool). if b then opened_row plan dem i row else row) here in
     let rest = rows-still plan dem now (suc i) rows
-    (or_false_right (is_due now row) (list_any (is_due now) rows) none) in
+    (or_parts (is_due now row) (list_any (is_due now) rows) none).1 in
     λ j. head j ∷ rest j
 
 state-still : (plan : Plan) (dem : JobDemands) (s : StateOf)
@@ -173,20 +173,12 @@ module _ (plan : Plan) (adm : IsAdmitted plan) (rm : plan.scheduler ≡ Rm) (dem
       → (row_at marked i).done ≡ true
   marked_since i h born before none =
       let row = row_at s i in
-      let P : Row → Type 0 = λ (new : Row). 0 < new.job → release_of plan i new < s.now → new.done ≡ true in
-      let Q : Bool → Type 0 = λ (c : Bool). P (if c then opened_row plan dem i row else row) in
       let there : lack plan (earliest_in plan s) i ≡ 0 =
       subst (λ (u : ℕ). lack plan u i ≡ 0) (mark_now ∙ at_due) (lack-is plan marked.base_at i (omega arith) ∙ none) in
-      let here : P (row_at marked i) = subst P (sym (boundary_at plan dem s i (in_rows plan dem s bel i h)))
-      (elim (cases_Bool (is_due s.now row)) [
-        | inl due ↦ subst Q (sym due) (λ b lt.
-            let e = opened_release plan dem i row (bel.deadline i h) in
-            let at_now : row.deadline ≡ s.now = eqb-true row.deadline s.now due in
-            absurd (omega (arith, e, at_now, lt)))
-        | inr later_ ↦ subst Q (sym later_)
-            (λ b lt. completed-too plan adm dem s bel rm calm at_due i h b (omega (arith, at_due, lt)) there)
-      ]) in
-      here born (subst (λ (u : ℕ). release_of plan i (row_at marked i) < u) mark_now before)
+      boundary-by plan dem s bel i h (λ new. 0 < new.job → release_of plan i new < s.now → new.done ≡ true)
+      (λ at_now b lt. absurd (omega (arith, opened_release plan dem i row (bel.deadline i h), at_now, lt)))
+      (λ later_ b lt. completed-too plan adm dem s bel rm calm at_due i h b (omega (arith, at_due, lt)) there)
+      born (subst (λ (u : ℕ). release_of plan i (row_at marked i) < u) mark_now before)
 
   marked_total : sum_below (count plan) (allotment_left_in plan marked)
       ≤ static_speed plan * (earliest_in plan marked - marked.now)

@@ -1,6 +1,6 @@
 -- The published demand of cycle-conserving RM is that of the state.
-use Rattle.std.proofs.Common.{◌≡◌, ℕ, zero, suc, ◌+◌, ◌-◌, ◌*◌, ◌<◌, ◌≤◌, Bool, true, false, List, [], ◌∷◌, length}
-use Rattle.std.proofs.Common.{drop, refl, sym, ◌∙◌, ap, ap₂, arith, if◌then◌else◌, nat_eq, nat_le, length-drop}
+use Rattle.std.proofs.Common.{◌≡◌, ℕ, zero, suc, ◌+◌, ◌-◌, ◌*◌, ◌<◌, ◌≤◌, Bool, true, false, List, length}
+use Rattle.std.proofs.Common.{refl, sym, ◌∙◌, ap, ap₂, arith, if◌then◌else◌, nat_eq, nat_le, length-drop}
 use Rattle.std.proofs.lemmas.Bool.Decides.{nat_tests}
 use Rattle.dvs_base.specs.declared.kind.Scheduler.{Scheduler}
 use Rattle.dvs_base.specs.declared.kind.Scheduler.TheVariants.{Rm}
@@ -21,22 +21,18 @@ use Rattle.sched_model.specs.StaticDemand.{static_speed}
 use Rattle.sched_model.specs.Demand.{demand_by, published}
 use Rattle.sched_model.specs.Demands.{IsWithin, JobDemands}
 use Rattle.sched_model.specs.Admission.{IsAdmitted}
-use Rattle.sched_model.specs.States.{StateOf, no_row, row_at, row_wleft, row_of, state_of}
+use Rattle.sched_model.specs.States.{StateOf, row_at, row_wleft, state_of}
 use Rattle.sched_model.proofs.Limits.{some_period}
 use Rattle.sched_model.proofs.JobLaws.{lt-due, latest-stays, latest-next, release-suc, last_release-le}
 use Rattle.sched_model.proofs.Tables.{get-table}
+use Rattle.sched_model.proofs.Joining.{row_at-state_of}
+use Rattle.sched_model.proofs.Service.{exec-drop}
+use Rattle.sched_model.proofs.Allotments.{allotment-same}
 use Rattle.governor.specs.Steps.{wleft_at, earliest_in}
 use Rattle.governor.specs.Schedule.{Publishes, PublishingLaws}
 use Rattle.governor.specs.Serving.{ServesRm}
 use Rattle.governor.proofs.OneSchedule.{publishing_laws}
 use Rattle.cc_rm_laws.specs.Allotments.{base_of, allotted_in, had_since_mark, allotment_left_in, cycle_demand}
-use Rattle.cc_rm_laws.proofs.Allotting.{allotment-same}
-
--- a job has had no more at an earlier tick
-exec-drop : (p : Plan) (i k n : ℕ) (past : List Tick) → exec p (drop n past) i k ≤ exec p past i k
-exec-drop p i k zero past = omega arith
-exec-drop p i k (suc n) [] = omega arith
-exec-drop p i k (suc n) (x ∷ past) = omega (arith, exec-drop p i k n past)
 
 -- what a job has had since the mark, by what it might need at most then and now
 since_mark : (worst need now first : ℕ) → first ≤ now → now < need
@@ -87,9 +83,6 @@ module _ (p : Plan) (adm : IsAdmitted p) where
     abbrev here : StateOf
     here = state_of p dem past
 
-    row-is : (i : ℕ) → i < count p → row_at here i ≡ row_of p dem past i
-    row-is i h = get-table (count p) (row_of p dem past) i no_row h
-
     base-is : (i : ℕ) → i < count p → base_of here i ≡ wleft p dem (at mark past) i
     base-is i h = get-table (count p) (wleft p dem (at mark past)) i 0 h
 
@@ -100,7 +93,7 @@ module _ (p : Plan) (adm : IsAdmitted p) where
     first-is : earliest_at p mark ≡ earliest_in p here
     first-is =
         least-same (count p) (λ i. deadline p i mark) (λ i. (row_at here i).deadline)
-        (λ i h. ap (due p i) (since-release now i h) ∙ sym (ap (λ (row : Row). row.deadline) (row-is i h)))
+        (λ i h. ap (due p i) (since-release now i h) ∙ sym (ap (λ (row : Row). row.deadline) (row_at-state_of p dem past i h)))
 
     allotted-is : (i : ℕ) → i < count p → allotted p dem past i ≡ allotted_in p here i
     allotted-is i h =
@@ -129,7 +122,7 @@ module _ (p : Plan) (adm : IsAdmitted p) where
         then 0 else worst p i - exec p (at mark past) i m) job_then
         ∙ ap (λ (b : Bool). if b then 0 else worst p i - exec p (at mark past) i k) open_then) in
         let rest : wleft_at here i ≡ worst p i - exec p past i k =
-        ap row_wleft (row-is i h) ∙ ap (λ (b : Bool). if b then 0 else worst p i - exec p past i k) open_job in
+        ap row_wleft (row_at-state_of p dem past i h) ∙ ap (λ (b : Bool). if b then 0 else worst p i - exec p past i k) open_job in
         had
         ∙ sym (ap₂ (λ a b. a - b) base rest
         ∙ since_mark (worst p i) (dem i k) (exec p past i k) (exec p (at mark past) i k) fewer less most)
@@ -141,7 +134,7 @@ module _ (p : Plan) (adm : IsAdmitted p) where
     left-is : (i : ℕ) → i < count p → allotment_left p dem past i ≡ allotment_left_in p here i
     left-is i h =
         go (is_complete p dem past i) refl
-        ∙ sym (ap (λ (row : Row). if row.done then 0 else allotted_in p here i - had_since_mark here i) (row-is i h))
+        ∙ sym (ap (λ (row : Row). if row.done then 0 else allotted_in p here i - had_since_mark here i) (row_at-state_of p dem past i h))
       where
         go : (b : Bool) → is_complete p dem past i ≡ b
             → (if is_complete p dem past i then 0 else allotted p dem past i - had_since_release p past i)

@@ -1,5 +1,5 @@
 -- A legal tick keeps a state of cycle-conserving RM safe.
-use Rattle.std.proofs.Common.{◌≡◌, ◌⊎◌, inl, inr, ℕ, ◌+◌, ◌-◌, ◌*◌, ◌<◌, ◌≤◌, min, Bool, true, false, List, length}
+use Rattle.std.proofs.Common.{◌≡◌, ◌⊎◌, inl, inr, ℕ, ◌+◌, ◌-◌, ◌*◌, ◌<◌, ◌≤◌, min, Bool, true, false, List}
 use Rattle.std.proofs.Common.{refl, sym, ◌∙◌, ap, subst, arith, true≢false}
 use Rattle.std.proofs.Math.Nat.{mul-le-mul_right}
 use Rattle.std.specs.Prelude.{◌==◌}
@@ -17,13 +17,14 @@ use Rattle.sched_model.specs.StaticDemand.{static_speed}
 use Rattle.sched_model.specs.Backlog.{backlog}
 use Rattle.sched_model.specs.Admission.{IsAdmitted}
 use Rattle.sched_model.specs.States.{StateOf, row_at}
-use Rattle.sched_model.proofs.PriorityLemmas.{before-total, allotment_of}
+use Rattle.sched_model.proofs.PriorityLemmas.{before-total}
+use Rattle.sched_model.proofs.Allotments.{allotment_of}
 use Rattle.sched_model.proofs.DownSets.{down-set-gets}
 use Rattle.sched_model.proofs.LevelSums.{sum_where-mono, sum_where-plus, sum_where-tight}
 use Rattle.governor.specs.Steps.{wleft_at, release_of, earliest_in, share_in, left_in, key_in, IsLegalIn, after_tick}
 use Rattle.governor.specs.Steps.{IsBeforeAll, Belongs}
 use Rattle.governor.proofs.Rows.{done_none}
-use Rattle.governor.proofs.Belonging.{in_rows, tick_at, legal_most, earliest-later}
+use Rattle.governor.proofs.Belonging.{tick_at, legal_most, earliest-later}
 use Rattle.governor.proofs.Ticks.{tick-falls, tick-closes}
 use Rattle.governor.specs.Rm.{level}
 use Rattle.cc_rm_laws.specs.Allotments.{base_of, allotted_units, allotted_in, allotment_left_in}
@@ -44,16 +45,13 @@ module _ (plan : Plan) (adm : IsAdmitted plan) (rm : plan.scheduler ≡ Rm) (dem
   abbrev ticked : StateOf
   ticked = after_tick dem shares s
 
-  here : (j : ℕ) → j < count plan → j < length s.rows
-  here = in_rows plan dem s bel
-
   done_stays : (j : ℕ) → j < count plan → (row_at s j).done ≡ true → (row_at ticked j).done ≡ true
-  done_stays j h closed = rw (tick_at dem shares s j (here j h)) (rw closed refl)
+  done_stays j h closed = rw (tick_at plan dem shares s bel j h) (rw closed refl)
 
   same_earliest : earliest_in plan ticked ≡ earliest_in plan s
   same_earliest =
       least-same (count plan) (λ i. (row_at ticked i).deadline) (λ i. (row_at s i).deadline)
-      (λ i h. ap (λ (row : Row). row.deadline) (tick_at dem shares s i (here i h)))
+      (λ i h. ap (λ (row : Row). row.deadline) (tick_at plan dem shares s bel i h))
 
   -- what is left after the tick, by the allotments before it
   left_then : (j : ℕ)
@@ -206,7 +204,7 @@ module _ (plan : Plan) (adm : IsAdmitted plan) (rm : plan.scheduler ≡ Rm) (dem
         omega (arith, each, a, b, worst, calm.levels i h);
     total = omega (arith, mul-le-mul_right (earliest_in plan ticked - ticked.now) slower, cc_rm_enough enough);
     since = λ i h born early none.
-        let at = tick_at dem shares s i (here i h) in
+        let at = tick_at plan dem shares s bel i h in
         let born' : 0 < (row_at s i).job = subst (λ (row : Row). 0 < row.job) at born in
         let early' : release_of plan i (row_at s i) < s.base_at =
         subst (λ (row : Row). release_of plan i row < s.base_at) at early in

@@ -1,6 +1,7 @@
 -- The records that a reader of a text has left.
-use Rattle.std.specs.Prelude.{◌≡◌, ℕ, ◌+◌, true, List, [], ◌∷◌, length, Option, Some, None, IsSome}
+use Rattle.std.specs.Prelude.{◌≡◌, ℕ, ◌+◌, ◌<◌, true, List, [], ◌∷◌, length, Option, Some, None, IsSome}
 use Rattle.std.specs.Borrow.{Bor}
+use Rattle.dvs_base.specs.Widths.{u64_end}
 use Rattle.csv.specs.Reading.{Ready, default_config, source_of, records_from, reader_config, reader_state, reader_trim, is_flexible}
 use Rattle.csv.specs.declared.parser.State.{State}
 use Rattle.csv.specs.declared.reader.Reader.{Reader}
@@ -31,7 +32,16 @@ pub record IsPlain (reader : TextReader) : Type 0 where
   pub flexible : is_flexible reader ≡ true
   pub known : IsSome (unread reader)
 
+-- numbers below 2^64 count the records that are left, the first by this one, with one number to spare
+abbrev pub AreCountedFrom : ℕ → TextReader → Type 0
+AreCountedFrom row reader = row + length (records_left reader) < u64_end
+
 -- the fields of a record that has two
 abbrev pub two_of : List (List ℕ) → Option (List ℕ × List ℕ)
 two_of (a ∷ b ∷ []) = Some (a, b)
 two_of _ = None
+
+-- the fields of a record that has three
+abbrev pub three_of : List (List ℕ) → Option (List ℕ × List ℕ × List ℕ)
+three_of (a ∷ b ∷ c ∷ []) = Some (a, b, c)
+three_of _ = None

@@ -5,10 +5,10 @@
 //! of `next_record` takes the first of them. One record is used again for each row, so no text is kept twice.
 #![tactic(auto)]
 
-ghost use Rattle.std.specs.Prelude.{◌≡◌, ◌≤◌, ◌+◌, ◌∷◌, [], Ok, true, false, length, option_map, IfOk};
+ghost use Rattle.std.specs.Prelude.{◌≡◌, ◌<◌, ◌≤◌, ◌+◌, ◌∷◌, [], Ok, Some, true, false, length, option_map, IfOk};
 ghost use Rattle.csv.specs.Reading.{default_config, records, strip_bom, error_kind, stops_reader};
-ghost use Rattle.csv.specs.Records.{fields_of};
-ghost use Rattle.csv_text.specs.Records.{IsPlain, records_left, two_of};
+ghost use Rattle.csv.specs.Records.{field_at, fields_of};
+ghost use Rattle.csv_text.specs.Records.{IsPlain, records_left, two_of, three_of};
 
 use csv::{ByteRecord, Error, Reader, ReaderBuilder};
 use dvs_base::NoMemory;
@@ -48,6 +48,14 @@ pub fn next_record(reader: &mut Reader<&[u8]>, fields: &mut ByteRecord) -> Resul
     }
 }
 
+// The field of a record at one of its places, counted from 0.
+fn field(fields: &ByteRecord, place: usize) -> &[u8]
+    requires { place < length (fields_of fields.now) }
+    ensures { field_at (fields_of fields.now) place ≡ Some result.now }
+{
+    fields.get(place).unwrap()
+}
+
 /// The fields of a record of two, and None exactly for a record of another number of fields.
 pub fn two_fields(fields: &ByteRecord) -> Option<(&[u8], &[u8])>
     ensures { option_map (λ p. (p.0.now, p.1.now)) result ≡ two_of (fields_of fields.now) }
@@ -55,7 +63,15 @@ pub fn two_fields(fields: &ByteRecord) -> Option<(&[u8], &[u8])>
     if fields.len() != 2 {
         return None;
     }
-    let a = fields.get(0).unwrap();
-    let b = fields.get(1).unwrap();
-    Some((a, b))
+    Some((field(fields, 0), field(fields, 1)))
+}
+
+/// The fields of a record of three, and None exactly for a record of another number of fields.
+pub fn three_fields(fields: &ByteRecord) -> Option<(&[u8], &[u8], &[u8])>
+    ensures { option_map (λ p. (p.0.now, p.1.now, p.2.now)) result ≡ three_of (fields_of fields.now) }
+{
+    if fields.len() != 3 {
+        return None;
+    }
+    Some((field(fields, 0), field(fields, 1), field(fields, 2)))
 }

@@ -17,7 +17,8 @@ use Rattle.demand_list.specs.Demands.{DemandsOf, IsDemands, IsRow, IsWithinWorst
 abbrev pub job_cmp : ℕ × ℕ → ℕ × ℕ → Ordering
 job_cmp a b = ordering_then (nat_cmp a.0 b.0) (nat_cmp a.1 b.1)
 
-both_ways : (a b : ℕ) → ((a == b) ≡ true) × (a ≡ b) ⊎ ((a == b) ≡ false) × (a ≢ b) → ((b == a) ≡ true) × (b ≡ a) ⊎ ((b == a) ≡ false) × (b ≢ a) → (a == b) ≡ (b == a)
+both_ways : (a b : ℕ) → ((a == b) ≡ true) × (a ≡ b) ⊎ ((a == b) ≡ false) × (a ≢ b)
+    → ((b == a) ≡ true) × (b ≡ a) ⊎ ((b == a) ≡ false) × (b ≢ a) → (a == b) ≡ (b == a)
 both_ways a b (inl p) (inl q) = p.0 ∙ sym q.0
 both_ways a b (inl p) (inr q) = absurd (q.1 (sym p.1))
 both_ways a b (inr p) (inl q) = absurd (p.1 (sym q.1))
@@ -42,14 +43,16 @@ one-within worsts r i rest true true e h p = rw (sym (eqb-true r.task i e)) h.un
 one-within worsts r i rest true false e h p = p
 one-within worsts r i rest false job e h p = p
 
-pub named-within : (worsts : List ℕ) (rows : List DemandRow) (i k : ℕ) → AllByRecursion (IsRow worsts) rows → unwrap_or (named rows i k) (slice_index worsts i) ≤ slice_index worsts i
+pub named-within : (worsts : List ℕ) (rows : List DemandRow) (i k : ℕ) → AllByRecursion (IsRow worsts) rows
+    → unwrap_or (named rows i k) (slice_index worsts i) ≤ slice_index worsts i
 named-within worsts [] i k h = omega arith
 named-within worsts (r ∷ rows) i k h = one-within worsts r i (named rows i k) (nat_eq r.task i) (nat_eq r.job k) refl h.0 (named-within worsts rows i k h.1)
 
 pub IsWithinWorsts-rows : (d : DemandsOf) → AllByRecursion (IsRow d.worsts) d.rows → IsWithinWorsts d
 IsWithinWorsts-rows d h i k _ = named-within d.worsts d.rows i k h
 
-is_lt-job_cmp_by : (p q s t : Bool) → is_lt (ordering_then (if p then order.Less else (if q then order.Equal else order.Greater)) (if s then order.Less else (if t then order.Equal else order.Greater))) ≡ (p || (q && s))
+is_lt-job_cmp_by : (p q s t : Bool) → is_lt (ordering_then (if p then order.Less else (if q then order.Equal else order.Greater))
+    (if s then order.Less else (if t then order.Equal else order.Greater))) ≡ (p || (q && s))
 is_lt-job_cmp_by true q s t = refl
 is_lt-job_cmp_by false false s t = refl
 is_lt-job_cmp_by false true true t = refl

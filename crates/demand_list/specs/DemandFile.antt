@@ -1,9 +1,11 @@
 -- What a demand file means: the demand list, or the first refusal.
-use Rattle.std.specs.Prelude.{ℕ, ◌+◌, ◌^◌, ◌==◌, ◌&&◌, Bool, false, List, [], ◌∷◌, length, map, nat_lt, slice_index, codes, Option, Some, None, Result, Ok, Err, if◌then◌else◌}
+use Rattle.std.specs.Prelude.{ℕ, ◌+◌, ◌==◌, ◌&&◌, Bool, false, List, [], ◌∷◌, length, map, nat_lt, slice_index, codes, Option, Some, None, Result, Ok, Err, if◌then◌else◌}
 use Rattle.std.specs.Str.{bytes_eq}
+use Rattle.dvs_base.specs.Widths.{u64_end}
 use Rattle.dvs_base.specs.Checks.{and_then, IsUnlessMemory}
 use Rattle.dvs_base.specs.Text.{number_below, short_of}
 use Rattle.csv.specs.Reading.{default_config, records, strip_bom}
+use Rattle.csv_text.specs.Records.{three_of}
 use Rattle.task_model.specs.declared.task.Task.{Task}
 use Rattle.task_model.specs.DemandRows.{demand_row, named}
 use Rattle.task_model.specs.TaskFile.{place_of}
@@ -16,11 +18,6 @@ use Rattle.demand_list.specs.declared.fault.DemandFault.TheVariants as fault
 -- an answer is this one, seen as `shown`, unless memory ran out
 abbrev pub Means : {T A : Type 0} → (T → A) → Result T DemandFault → Result A DemandFault → Type 0
 Means shown = IsUnlessMemory fault.NoMemory shown
-
--- the fields of a record that has three
-abbrev pub three_of : List (List ℕ) → Option (List ℕ × List ℕ × List ℕ)
-three_of (a ∷ b ∷ c ∷ []) = Some (a, b, c)
-three_of _ = None
 
 -- the three fields of a row, or the refusal of another number of them
 abbrev pub fields_from : ℕ → ℕ → Option (List ℕ × List ℕ × List ℕ) → Result (List ℕ × List ℕ × List ℕ) DemandFault
@@ -46,9 +43,9 @@ abbrev pub row_of : List Task → ℕ → List (List ℕ) → Result (ℕ × ℕ
 row_of tasks row fields =
     and_then (fields_from row (length fields) (three_of fields)) (λ three.
     and_then (task_from row three.0 (place_of tasks three.0)) (λ task.
-    and_then (number_from row column.Job (number_below (2 ^ 64) three.1)) (λ number.
+    and_then (number_from row column.Job (number_below u64_end three.1)) (λ number.
     and_then (job_from row number) (λ job.
-    and_then (number_from row column.Units (number_below (2 ^ 64) three.2)) (λ units.
+    and_then (number_from row column.Units (number_below u64_end three.2)) (λ units.
     Ok (task, job, units))))))
 
 -- the check for an earlier row of the job

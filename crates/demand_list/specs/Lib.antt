@@ -1,3 +1,2 @@
 pub mod Demands
 pub mod DemandFile
-pub mod Records

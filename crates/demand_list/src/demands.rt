@@ -52,13 +52,6 @@ fn add_row(
 }
 
 impl Demands {
-    /// What each demand list keeps.
-    pub fn known(&self)
-        ensures { IsWithinWorsts self.now }
-    {
-        let _worsts = &self.worsts;
-    }
-
     /// The list without rows, in which every job needs its worst case.
     pub fn worst_only(alloc: Global, worsts: &[u64]) -> Result<Demands, NoMemory>
         requires { length worsts.now < 2 ^ 32 }
@@ -93,12 +86,12 @@ impl Demands {
         Ok(true)
     }
 
-    // The declared worst case of a task.
-    pub(crate) fn worst(&self, task: u32) -> u64
-        requires { task < length self.now.worsts }
-        ensures { result ≡ slice_index self.now.worsts task }
+    /// The declared worst cases of the tasks, which no job exceeds.
+    pub fn worsts(&self) -> &[u64]
+        ensures worsts { result.now ≡ self.now.worsts }
+        ensures within { IsWithinWorsts self.now }
     {
-        self.worsts[task as usize]
+        &self.worsts
     }
 
     // Whether a job has a row.

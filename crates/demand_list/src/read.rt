@@ -1,29 +1,15 @@
 // Demand files.
-ghost use Rattle.std.specs.Prelude.{codes, ◌≡◌, ◌≤◌, ◌<◌, ◌^◌, ◌+◌, ◌∷◌, [], Ok, Some, true, false, length, option_map, map, IfOk, IfErr, OnOk, vec_len};
-ghost use Rattle.csv.specs.Reading.{default_config, records, strip_bom, error_kind, stops_reader};
+ghost use Rattle.std.specs.Prelude.{codes, ◌≡◌, ◌≤◌, ◌<◌, ◌^◌, length, map, IfOk, OnOk, vec_len};
 ghost use Rattle.csv.specs.Records.{fields_of};
-ghost use Rattle.demand_list.specs.declared.fault.DemandFault.TheVariants as fault;
-ghost use Rattle.demand_list.specs.DemandFile.{Means, three_of, is_header, row_of, demands_from, after_header, with_checked, demand_file, worst_list};
-ghost use Rattle.demand_list.specs.Records.{IsPlain, records_left};
+ghost use Rattle.csv_text.specs.Records.{IsPlain, AreCountedFrom, records_left};
+ghost use Rattle.demand_list.specs.DemandFile.{Means, is_header, row_of, demands_from, after_header, with_checked, demand_file, worst_list};
 
 use crate::{Column, DemandFault, Demands};
-use csv::{ByteRecord, Error, Reader, ReaderBuilder};
+use csv::{ByteRecord, Reader};
+use csv_text::{next_record, text_reader, three_fields};
 use dvs_base::{NoMemory, Short, whole};
 use std::alloc::Global;
 use task_model::TaskSet;
-
-// The fields of a record of three.
-fn three_fields(fields: &ByteRecord) -> Option<(&[u8], &[u8], &[u8])>
-    ensures { option_map (λ p. (p.0.now, p.1.now, p.2.now)) result ≡ three_of (fields_of fields.now) }
-{
-    if fields.len() != 3 {
-        return None;
-    }
-    let a = fields.get(0).unwrap();
-    let b = fields.get(1).unwrap();
-    let c = fields.get(2).unwrap();
-    Some((a, b, c))
-}
 
 fn is_header(fields: &ByteRecord) -> bool
     ensures { result ≡ is_header (fields_of fields.now) }
@@ -97,7 +83,7 @@ fn add_checked(
     if demands.has_row(task, job) {
         return Err(DemandFault::Repeated { row, task, job });
     }
-    let worst = demands.worst(task);
+    let worst = demands.worsts()[task as usize];
     if worst < units {
         return Err(DemandFault::OverWorst {
             task,
@@ -108,43 +94,6 @@ fn add_checked(
     }
     demands.set(task, job, units)?;
     Ok(())
-}
-
-// A reader of the records of a text: of any number of fields, and the first one like the others. It has a header row
-// beforehand, an empty one, so that it keeps no copy of the first record.
-fn reader_of(alloc: Global, text: &[u8]) -> Result<Reader<&[u8]>, DemandFault>
-    ensures plain { IfOk result (λ reader. IsPlain reader) }
-    ensures all { IfOk result (λ reader. records_left reader ≡ records default_config (strip_bom text.now)) }
-    ensures few { IfOk result (λ reader. length (records_left reader) ≤ length text.now + 1) }
-    ensures err { IfErr result (λ e. e ≡ fault.NoMemory) }
-{
-    let mut reader = ReaderBuilder::new().flexible(true).from_reader(alloc, text);
-    match reader.set_byte_headers(ByteRecord::new(alloc)) {
-        Ok(()) => Ok(reader),
-        Err(_) => Err(DemandFault::NoMemory),
-    }
-}
-
-// Why a record of a text in memory can't be had: of the errors of csv, those of the bytes don't come.
-fn no_record(error: Error) -> DemandFault
-    requires { stops_reader (error_kind error) ≡ true }
-    ensures { result ≡ fault.NoMemory }
-{
-    DemandFault::NoMemory
-}
-
-// Reads the fields of the next record. False where there is none.
-fn next_record(reader: &mut Reader<&[u8]>, fields: &mut ByteRecord) -> Result<bool, DemandFault>
-    requires { IsPlain reader.old }
-    ensures some { result ≡ Ok true → records_left reader.old ≡ fields_of fields.new ∷ records_left reader.new }
-    ensures plain { result ≡ Ok true → IsPlain reader.new }
-    ensures none { result ≡ Ok false → records_left reader.old ≡ [] }
-    ensures err { IfErr result (λ e. e ≡ fault.NoMemory) }
-{
-    match reader.read_byte_record(fields) {
-        Ok(found) => Ok(found),
-        Err(e) => Err(no_record(e)),
-    }
 }
 
 // Takes the header.
@@ -190,7 +139,7 @@ fn read_rows(
     mut demands: Demands,
 ) -> Result<Demands, DemandFault>
     requires plain { IsPlain reader.old }
-    requires few { length (records_left reader.old) + 1 < 2 ^ 64 }
+    requires few { AreCountedFrom 1 reader.old }
     requires worsts { length demands.worsts ≡ length tasks.now }
     ensures worsts { IfOk result (λ d. d.worsts ≡ demands.worsts) }
     ensures rows { Means (λ d. d) result (demands_from tasks.now 1 demands (records_left reader.old)) }
@@ -212,7 +161,7 @@ impl Demands {
         ensures file { Means (λ d. d) result (demand_file tasks.now bytes.now) }
         ensures worsts { IfOk result (λ d. d.worsts ≡ map (λ t. t.worst) tasks.now) }
     {
-        let mut reader = reader_of(alloc, bytes)?;
+        let mut reader = text_reader(alloc, bytes)?;
         let mut fields = ByteRecord::new(alloc);
         read_header(&mut reader, &mut fields)?;
         let demands = worst_list(alloc, tasks)?;

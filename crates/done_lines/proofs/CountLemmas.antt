@@ -1,16 +1,16 @@
 -- The counts of a schedule's notes, span by span.
-use Rattle.std.proofs.Common.{◌≡◌, ◌≢◌, ℕ, zero, suc, ◌+◌, ◌<◌, ◌≤◌, Bool, true, false, not, ◌&&◌, ◌||◌, List, [], ◌∷◌, length, flat_map, refl, arith, if◌then◌else◌, ap, ap₂, ◌∙◌, sym, subst, true≢false, nat_eq, nat_le, nat_lt, append-nil}
-use Rattle.std.specs.Prelude.{sum_by, count_by}
+use Rattle.std.proofs.Common.{◌≡◌, ◌≢◌, ℕ, zero, suc, ◌+◌, ◌<◌, ◌≤◌, Bool, true, false, not, ◌&&◌, ◌||◌, List, [], ◌∷◌, length, refl, arith, if◌then◌else◌, ap, ap₂, ◌∙◌, sym, subst, true≢false, nat_eq, nat_le, nat_lt}
+use Rattle.std.specs.Prelude.{sum_by, count_by, flat_map}
 use Rattle.std.specs.List.{AllByRecursion}
-use Rattle.std.proofs.lemmas.Grind.{flat_map-append}
 use Rattle.std.proofs.lemmas.List.Recursion.{is_count_by}
-use Rattle.std.proofs.lemmas.Bool.{and_parts}
+use Rattle.std.proofs.lemmas.Bool.{and_parts, and_right, not-true}
 use Rattle.std.proofs.lemmas.Bool.Decides.{nat_tests}
 use Rattle.dvs_base.specs.declared.note.Note.{Note}
 use Rattle.dvs_base.specs.declared.note.Note.TheVariants.{Release, Speed, Done, End}
 use Rattle.grid_fraction.specs.declared.Frac.{Frac}
-use Rattle.grid_fraction.specs.Numbers.{sum_below, list_below, any_below}
+use Rattle.grid_fraction.specs.Numbers.{sum_below, any_below, list_below}
 use Rattle.grid_fraction.proofs.Sums.{sum_below-same, sum_below-add, sum_below-le, sum_below-zero, sum_below-one}
+use Rattle.grid_fraction.proofs.Searches.{any-some}
 use Rattle.sched_model.specs.declared.holder.Holder.{Holder}
 use Rattle.sched_model.specs.declared.holder.Holder.TheVariants.{Nobody, Held}
 use Rattle.sched_model.specs.Plan.{Plan, count, period, point}
@@ -22,31 +22,21 @@ use Rattle.sched_model.specs.Admission.{IsWithinLimits}
 use Rattle.sched_model.specs.Segments.{same_holder, Span, Piece, pieces_of, position_of}
 use Rattle.sched_model.specs.Notes.{release_notes, all_release_notes, had_by, segment_notes, pieces_notes, span_notes, energy_run, energy_idle, notes_before_end, notes_of}
 use Rattle.sched_model.specs.Totals.{is_released, is_finished, is_decided, totals_of}
-use Rattle.sched_model.specs.States.{prior_row}
 use Rattle.sched_model.proofs.Limits.{every_period}
 use Rattle.sched_model.proofs.LevelSums.{sum_below-term}
 use Rattle.sched_model.proofs.JobLaws.{release-le, exec-none, exec-early}
-use Rattle.sched_model.proofs.Joining.{due_released, same_job}
 use Rattle.sched_model.proofs.NoteLemmas.{notes-span}
-use Rattle.sched_model.proofs.PieceLemmas.{have_units}
+use Rattle.sched_model.proofs.PieceLemmas.{have_units, each-piece}
 use Rattle.sched_model.proofs.Service.{exec-most}
 use Rattle.done_lines.proofs.DoneNotes.{tells_done, times, times-append, ended, had_of, laid-pieces, pieces-ended}
 use Rattle.done_lines.proofs.DoneSpans.{IsLastSpan, last-span}
 use Rattle.done_lines.specs.LineCounts.{AreFew, HasFewDecisions}
-use Rattle.done_lines.proofs.SpanHeads.{IsNow, none-held, pieces-now, Head, Begins, begins}
+use Rattle.done_lines.proofs.SpanHeads.{IsNow, none-held, stays-unreleased, Head, Begins, begins}
+use Rattle.done_lines.proofs.DoneCounts.{times-each}
 
 -- 1 or 0
 abbrev one_if : Bool → ℕ
 one_if b = if b then 1 else 0
-
--- some number below n passes
-any-some : (n : ℕ) (test : ℕ → Bool) → any_below n test ≡ true → (i : ℕ) × (i < n) × (test i ≡ true)
-any-some zero test e = absurd (true≢false (sym e))
-any-some (suc n) test e = go (any_below n test) refl (any-some n test)
-  where
-    go : (b : Bool) → any_below n test ≡ b → (any_below n test ≡ true → (i : ℕ) × (i < n) × (test i ≡ true)) → (i : ℕ) × (i < suc n) × (test i ≡ true)
-    go true f ih = let (i, lt, on) = ih f in (i, omega arith, on)
-    go false f ih = (n, omega arith, sym (ap (λ (b : Bool). b || test n) f) ∙ e)
 
 -- std's count is the count by recursion
 times-count : (test : Note → Bool) (notes : List Note) → times test notes ≡ count_by test notes
@@ -59,19 +49,15 @@ times-count test notes = is_count_by (times test) test refl step notes
         go true = omega arith
         go false = refl
 
--- the notes of the first n tasks, task by task
-times-each : (test : Note → Bool) (f : ℕ → List Note) (n : ℕ) → times test (flat_map f (list_below n (λ i. i))) ≡ sum_below n (λ j. times test (f j))
-times-each test f zero = refl
-times-each test f (suc n) =
-    ap (times test) (flat_map-append f (list_below n (λ i. i)) (n ∷ []))
-    ∙ (times-append test (flat_map f (list_below n (λ i. i))) (flat_map f (n ∷ []))
-    ∙ ap₂ (λ a b. a + b) (times-each test f n) (ap (times test) (append-nil (f n))))
+-- the notes of the first n tasks, counted task by task
+pub count-each : (test : Note → Bool) (f : ℕ → List Note) (n : ℕ)
+    → count_by test (flat_map f (list_below n (λ i. i))) ≡ sum_below n (λ j. count_by test (f j))
+count-each test f n =
+    sym (times-count test (flat_map f (list_below n (λ i. i))))
+    ∙ (times-each test f n ∙ sum_below-same n (λ j. times test (f j)) (λ j. count_by test (f j)) (λ j lt. times-count test (f j)))
 
-and-false : (b : Bool) → (b && false) ≡ false
-and-false true = refl
-and-false false = refl
-
-one-or-none : (b : Bool) → (if b then 1 else 0) ≤ 1
+-- a test counts one at most
+pub one-or-none : (b : Bool) → (if b then 1 else 0) ≤ 1
 one-or-none true = omega arith
 one-or-none false = omega arith
 
@@ -83,7 +69,7 @@ ended-open a b need most = go (nat_eq b need) refl
     go true e =
         let whole : nat_le need b ≡ true = grind (arith, nat_tests) in
         rw (e, whole) (let le = one-or-none (nat_lt a b && true) in omega arith)
-    go false e = rw (e, and-false (nat_lt a b)) (waiting (nat_le need b))
+    go false e = rw (e, and_right (nat_lt a b) false refl) (waiting (nat_le need b))
       where
         waiting : (t : Bool) → 0 + (if t then 0 else 1) ≤ 1
         waiting true = omega arith
@@ -131,13 +117,15 @@ module _ (p : Plan) (dem : ℕ → ℕ → ℕ) (ask : List Tick → Frac) (lim 
       ap (times test) (notes-span p dem ask (x ∷ past) s.past s l.spans)
       ∙ (times-append test (notes s.past) (span_notes p dem ask s)
       ∙ ap (λ a. times test (notes s.past) + a)
-      (times-append test (all_release_notes p dem (length s.past)) (Speed (length s.past) ((point p s.entry).speed) ((ask s.past).num) ((ask s.past).den) ∷ pieces_notes p dem s 0 (pieces_of s.units))))
+      (times-append test (all_release_notes p dem (length s.past))
+      (Speed (length s.past) ((point p s.entry).speed) ((ask s.past).num) ((ask s.past).den) ∷ pieces_notes p dem s 0 (pieces_of s.units))))
 
   -- a release of each task that has one, and a completion where its job needs nothing
   released-by : (t i : ℕ) → times is_released (release_notes p dem t i) ≡ (if releases_at p i t then 1 else 0)
   released-by t i = go (releases_at p i t) (nat_eq (dem i (latest p i t)) 0)
     where
-      go : (a b : Bool) → times is_released (if a then Release t i (latest p i t) ∷ (if b then Done (record { tick = t; offset = 0 }) i (latest p i t) 0 ∷ [] else []) else []) ≡ (if a then 1 else 0)
+      go : (a b : Bool) → times is_released (if a then Release t i (latest p i t)
+          ∷ (if b then Done (record { tick = t; offset = 0 }) i (latest p i t) 0 ∷ [] else []) else []) ≡ (if a then 1 else 0)
       go false b = refl
       go true false = refl
       go true true = refl
@@ -145,7 +133,8 @@ module _ (p : Plan) (dem : ℕ → ℕ → ℕ) (ask : List Tick → Frac) (lim 
   finished-by : (t i : ℕ) → times is_finished (release_notes p dem t i) ≡ (if releases_at p i t && nat_eq (dem i (latest p i t)) 0 then 1 else 0)
   finished-by t i = go (releases_at p i t) (nat_eq (dem i (latest p i t)) 0)
     where
-      go : (a b : Bool) → times is_finished (if a then Release t i (latest p i t) ∷ (if b then Done (record { tick = t; offset = 0 }) i (latest p i t) 0 ∷ [] else []) else []) ≡ (if a && b then 1 else 0)
+      go : (a b : Bool) → times is_finished (if a then Release t i (latest p i t)
+          ∷ (if b then Done (record { tick = t; offset = 0 }) i (latest p i t) 0 ∷ [] else []) else []) ≡ (if a && b then 1 else 0)
       go false b = refl
       go true false = refl
       go true true = refl
@@ -153,7 +142,8 @@ module _ (p : Plan) (dem : ℕ → ℕ → ℕ) (ask : List Tick → Frac) (lim 
   decided-by : (t i : ℕ) → times is_decided (release_notes p dem t i) ≡ 0
   decided-by t i = go (releases_at p i t) (nat_eq (dem i (latest p i t)) 0)
     where
-      go : (a b : Bool) → times is_decided (if a then Release t i (latest p i t) ∷ (if b then Done (record { tick = t; offset = 0 }) i (latest p i t) 0 ∷ [] else []) else []) ≡ 0
+      go : (a b : Bool) → times is_decided (if a then Release t i (latest p i t)
+          ∷ (if b then Done (record { tick = t; offset = 0 }) i (latest p i t) 0 ∷ [] else []) else []) ≡ 0
       go false b = refl
       go true false = refl
       go true true = refl
@@ -209,7 +199,8 @@ module _ (p : Plan) (dem : ℕ → ℕ → ℕ) (ask : List Tick → Frac) (lim 
   segment-finished t s q u (Held j l) now = go (nat_eq (had_by p s (q + u) j l) (dem j l))
     where
       go : (b : Bool) → times is_finished (if b then Done (position_of (length s.past) ((point p s.entry).speed) (q + u)) j l (dem j l) ∷ [] else [])
-          ≡ sum_below (count p) (λ i. times (tells_done i (latest p i t)) (if b then Done (position_of (length s.past) ((point p s.entry).speed) (q + u)) j l (dem j l) ∷ [] else []))
+          ≡ sum_below (count p) (λ i. times (tells_done i (latest p i t))
+          (if b then Done (position_of (length s.past) ((point p s.entry).speed) (q + u)) j l (dem j l) ∷ [] else []))
       go false = sym (sum_below-zero (count p) (λ i. 0) (λ i lt. refl))
       go true =
           sym (sum_below-one (count p) j (λ i. one_if (nat_eq i j && nat_eq (latest p i t) l)) now.0 (λ i lt ne. off i ne (nat_eq i j) refl) ∙ on)
@@ -263,11 +254,13 @@ module _ (p : Plan) (dem : ℕ → ℕ → ℕ) (ask : List Tick → Frac) (lim 
           let (i, lt, on) = any-some (count p) (λ j. releases_at p j (length (x ∷ past))) f in
           omega (arith, sum_below-term (count p) (λ j. if releases_at p j (length (x ∷ past)) then 1 else 0) i lt, ap one_if on)
       go false f =
-          let ends : any_below (count p) (λ i. completes_in p dem x past i) ≡ true = sym (ap (λ (b : Bool). b || any_below (count p) (λ i. completes_in p dem x past i)) f) ∙ e in
+          let ends : any_below (count p) (λ i. completes_in p dem x past i) ≡ true =
+          sym (ap (λ (b : Bool). b || any_below (count p) (λ i. completes_in p dem x past i)) f) ∙ e in
           omega (arith, ap one_if ends)
 
   -- the latest job before is the latest now, where none is released
-  open-before : (past : List Tick) (i : ℕ) → releases_at p i (length past) ≡ false → open_job past i ≡ (if nat_le (dem i (latest p i (length past))) (exec p past i (latest p i (length past))) then 0 else 1)
+  open-before : (past : List Tick) (i : ℕ) → releases_at p i (length past) ≡ false
+      → open_job past i ≡ (if nat_le (dem i (latest p i (length past))) (exec p past i (latest p i (length past))) then 0 else 1)
   open-before [] i unreleased = rw (first (latest p i 0) refl) refl
     where
       first : (k : ℕ) → latest p i 0 ≡ k → nat_le (dem i (latest p i 0)) 0 ≡ true
@@ -279,13 +272,11 @@ module _ (p : Plan) (dem : ℕ → ℕ → ℕ) (ask : List Tick → Frac) (lim 
           let on : releases_at p i 0 ≡ true = grind (arith, nat_tests) in
           absurd (true≢false (sym on ∙ unreleased))
   open-before (x ∷ past) i unreleased =
-      ap (λ k. if is_done p dem (x ∷ past) i k then 0 else 1) (sym (same_job p dem periods x past i (not_due (nat_eq (prior_row p dem (x ∷ past) i).deadline (length (x ∷ past))) refl)))
-    where
-      not_due : (b : Bool) → nat_eq (prior_row p dem (x ∷ past) i).deadline (length (x ∷ past)) ≡ b → nat_eq (prior_row p dem (x ∷ past) i).deadline (length (x ∷ past)) ≡ false
-      not_due true q = absurd (true≢false (sym (due_released p dem periods (x ∷ past) i true q) ∙ unreleased))
-      not_due false q = q
+      ap (λ k. if is_done p dem (x ∷ past) i k then 0 else 1)
+      (sym (stays-unreleased p dem periods x past i unreleased))
 
-  module _ (x : Tick) (past : List Tick) (s : Span) (h : IsScheduleBy p dem ask (x ∷ past)) (l : IsLastSpan p dem ask lim x past s) (head : Head p dem ask periods needless past s) where
+  module _ (x : Tick) (past : List Tick) (s : Span) (h : IsScheduleBy p dem ask (x ∷ past)) (l : IsLastSpan p dem ask lim x past s)
+      (head : Head p dem ask periods needless past s) where
     -- the job of a task in the span, what it had before and has after it, and what it needs
     abbrev job : ℕ → ℕ
     job i = latest p i (length past)
@@ -310,7 +301,8 @@ module _ (p : Plan) (dem : ℕ → ℕ → ℕ) (ask : List Tick → Frac) (lim 
         go zero e =
             let now : exec p (x ∷ past) i (job i) ≡ 0 = ap (exec p (x ∷ past) i) e ∙ exec-none p (x ∷ past) i in
             let earlier : exec p s.past i (job i) ≡ 0 = ap (exec p s.past i) e ∙ exec-none p s.past i in
-            let held : count_by (same_holder (Held i (job i))) s.units ≡ 0 = ap (λ k. count_by (same_holder (Held i k)) s.units) e ∙ none-held p (length past) i s.units head.now in
+            let held : count_by (same_holder (Held i (job i))) s.units ≡ 0 = ap (λ k. count_by (same_holder (Held i k)) s.units) e
+            ∙ none-held p (length past) i s.units head.now in
             omega (arith, now, earlier, held)
         go (suc k) e = l.had i (job i) lt (omega (arith, e))
 
@@ -323,7 +315,7 @@ module _ (p : Plan) (dem : ℕ → ℕ → ℕ) (ask : List Tick → Frac) (lim 
     -- the completions in its segments
     finished-span : times is_finished (pieces_notes p dem s 0 (pieces_of s.units)) ≡ sum_below (count p) (λ i. ended (before i) (after i) (need i))
     finished-span =
-        pieces-finished (length past) s 0 (pieces_of s.units) (pieces-now (IsNow p (length past)) s.units head.now)
+        pieces-finished (length past) s 0 (pieces_of s.units) (each-piece (IsNow p (length past)) s.units head.now)
         ∙ sum_below-same (count p) _ _ (λ i lt. told i lt)
       where
         told : (i : ℕ) → i < count p → times (tells_done i (job i)) (pieces_notes p dem s 0 (pieces_of s.units)) ≡ ended (before i) (after i) (need i)
@@ -337,25 +329,23 @@ module _ (p : Plan) (dem : ℕ → ℕ → ℕ) (ask : List Tick → Frac) (lim 
     fresh-finished : fresh (x ∷ past) ≤ times is_finished (pieces_notes p dem s 0 (pieces_of s.units))
     fresh-finished = go (any_below (count p) (λ i. completes_in p dem x past i)) refl
       where
-        go : (b : Bool) → any_below (count p) (λ i. completes_in p dem x past i) ≡ b → fresh (x ∷ past) ≤ times is_finished (pieces_notes p dem s 0 (pieces_of s.units))
+        go : (b : Bool) → any_below (count p) (λ i. completes_in p dem x past i) ≡ b
+            → fresh (x ∷ past) ≤ times is_finished (pieces_notes p dem s 0 (pieces_of s.units))
         go false e = rw e (omega arith)
         go true e =
             let (i, lt, on) = any-some (count p) (λ i. completes_in p dem x past i) e in
             let parts = and_parts (not (is_done p dem past i (job i))) (is_done p dem (x ∷ past) i (job i)) on in
-            let undone : is_done p dem past i (job i) ≡ false = unset (is_done p dem past i (job i)) parts.0 in
+            let undone : is_done p dem past i (job i) ≡ false = not-true (is_done p dem past i (job i)) parts.0 in
             let less : exec p past i (job i) < need i = grind (arith, nat_tests) in
             let whole : need i ≤ after i = (let done = parts.1 in grind (arith, nat_tests)) in
             let rises : nat_lt (before i) (after i) ≡ true = (let le = head.earlier i (job i) in grind (arith, nat_tests)) in
             let full : nat_eq (after i) (need i) ≡ true = (let le = most i lt in grind (arith, nat_tests)) in
             let one : ended (before i) (after i) (need i) ≡ 1 = rw (rises, full) refl in
             rw e (omega (arith, finished-span, sum_below-term (count p) (λ j. ended (before j) (after j) (need j)) i lt, one))
-          where
-            unset : (b : Bool) → not b ≡ true → b ≡ false
-            unset true q = sym q
-            unset false q = refl
 
     -- completions and open jobs, against those open before and the releases
-    balance : empty_jobs (length s.past) + (times is_finished (pieces_notes p dem s 0 (pieces_of s.units)) + open_jobs (x ∷ past)) ≤ open_jobs s.past + releases (length s.past)
+    balance : empty_jobs (length s.past) + (times is_finished (pieces_notes p dem s 0 (pieces_of s.units)) + open_jobs (x ∷ past))
+        ≤ open_jobs s.past + releases (length s.past)
     balance =
         let n = count p in
         let first : ℕ → ℕ = λ i. if releases_at p i (length s.past) && nat_eq (dem i (latest p i (length s.past))) 0 then 1 else 0 in
@@ -371,10 +361,12 @@ module _ (p : Plan) (dem : ℕ → ℕ → ℕ) (ask : List Tick → Frac) (lim 
         )
       where
         each : (i : ℕ) → i < count p
-            → (if releases_at p i (length s.past) && nat_eq (dem i (latest p i (length s.past))) 0 then 1 else 0) + (ended (before i) (after i) (need i) + open_job (x ∷ past) i)
+            → (if releases_at p i (length s.past) && nat_eq (dem i (latest p i (length s.past))) 0 then 1
+            else 0) + (ended (before i) (after i) (need i) + open_job (x ∷ past) i)
             ≤ open_job s.past i + (if releases_at p i (length s.past) then 1 else 0)
         each i lt =
-            subst (λ k. (if releases_at p i (length s.past) && nat_eq (dem i k) 0 then 1 else 0) + (ended (before i) (after i) (need i) + open_job (x ∷ past) i) ≤ open_job s.past i + (if releases_at p i (length s.past) then 1 else 0))
+            subst (λ k. (if releases_at p i (length s.past) && nat_eq (dem i k) 0 then 1 else 0) + (ended (before i) (after i) (need i)
+            + open_job (x ∷ past) i) ≤ open_job s.past i + (if releases_at p i (length s.past) then 1 else 0))
             (sym (same-job i lt))
             (each-task (releases_at p i (length s.past)) (before i) (after i) (need i) (open_job s.past i) (more i lt) (most i lt) fresh-job kept)
           where
@@ -394,9 +386,13 @@ module _ (p : Plan) (dem : ℕ → ℕ → ℕ) (ask : List Tick → Frac) (lim 
 
   none-balanced : Balanced []
   unfolding notes_before_end
-  none-balanced = record { decisions = omega arith; completions = (let z : sum_below (count p) (λ i. 0) ≡ 0 = sum_below-zero (count p) (λ i. 0) (λ i lt. refl) in omega arith) }
+  none-balanced = record {
+    decisions = omega arith;
+    completions = (let z : sum_below (count p) (λ i. 0) ≡ 0 = sum_below-zero (count p) (λ i. 0) (λ i lt. refl) in omega arith);
+  }
 
-  next-balanced : (x : Tick) (past : List Tick) (s : Span) → IsScheduleBy p dem ask (x ∷ past) → IsLastSpan p dem ask lim x past s → Head p dem ask periods needless past s
+  next-balanced : (x : Tick) (past : List Tick) (s : Span) → IsScheduleBy p dem ask (x ∷ past) → IsLastSpan p dem ask lim x past s
+      → Head p dem ask periods needless past s
       → Balanced s.past → Balanced (x ∷ past)
   next-balanced x past s h l head ih = record {
     decisions =
@@ -435,12 +431,14 @@ module _ (p : Plan) (dem : ℕ → ℕ → ℕ) (ask : List Tick → Frac) (lim 
       next-balanced x past s h l head (balanced n s.past (omega (arith, le, l.shorter)) l.earlier)
 
   -- the last note counts nothing
-  with-end : (test : Note → Bool) → ((t run idle : ℕ) → test (End t run idle) ≡ false) → (ticks : List Tick) → count_by test (notes_of p dem ask ticks) ≡ times test (notes ticks)
+  with-end : (test : Note → Bool) → ((t run idle : ℕ) → test (End t run idle) ≡ false) → (ticks : List Tick)
+      → count_by test (notes_of p dem ask ticks) ≡ times test (notes ticks)
   with-end test quiet ticks =
       let end_note = End (length ticks) (sum_by energy_run (notes ticks)) (sum_by energy_idle (notes ticks)) in
       sym (times-count test (notes_of p dem ask ticks))
       ∙ (times-append test (notes ticks) (end_note ∷ [])
-      ∙ (ap (λ (b : Bool). times test (notes ticks) + (if b then 1 else 0)) (quiet (length ticks) (sum_by energy_run (notes ticks)) (sum_by energy_idle (notes ticks))) ∙ omega arith))
+      ∙ (ap (λ (b : Bool). times test (notes ticks) + (if b then 1 else 0)) (quiet (length ticks) (sum_by energy_run (notes ticks))
+      (sum_by energy_idle (notes ticks))) ∙ omega arith))
 
   pub few : (ticks : List Tick) → IsScheduleBy p dem ask ticks → AreFew (totals_of (notes_of p dem ask ticks))
   few ticks h =

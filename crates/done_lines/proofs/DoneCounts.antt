@@ -1,8 +1,8 @@
 -- The notes of a schedule tell once that a job is done, where it had its demand, and not after its deadline.
 use Rattle.std.proofs.Common.{◌≡◌, ◌≢◌, ℕ, zero, suc, ◌+◌, ◌-◌, ◌<◌, ◌≤◌, Bool, true, false, ◌&&◌, ◌||◌, List, [], ◌∷◌, length, flat_map, refl, arith, if◌then◌else◌, ap, ap₂, ◌∙◌, sym, subst, true≢false, ◌⊎◌, inl, inr, nat_eq, nat_lt, append-nil}
-use Rattle.std.specs.Prelude.{count_by}
+use Rattle.std.specs.Prelude.{count_by, sum_by}
 use Rattle.std.proofs.lemmas.Grind.{flat_map-append}
-use Rattle.std.proofs.lemmas.Bool.{cases_lt}
+use Rattle.std.proofs.lemmas.Bool.{cases_lt, and_right}
 use Rattle.std.proofs.lemmas.Bool.Decides.{nat_tests}
 use Rattle.dvs_base.specs.declared.note.Note.{Note}
 use Rattle.dvs_base.specs.declared.note.Note.TheVariants.{Release, Speed, Run, Idle, Done, End}
@@ -16,7 +16,7 @@ use Rattle.sched_model.specs.Ticks.{Tick, exec}
 use Rattle.sched_model.specs.Schedule.{IsScheduleBy}
 use Rattle.sched_model.specs.Admission.{IsWithinLimits}
 use Rattle.sched_model.specs.Segments.{same_holder, Span, pieces_of}
-use Rattle.sched_model.specs.Notes.{release_notes, all_release_notes, pieces_notes, span_notes, notes_before_end}
+use Rattle.sched_model.specs.Notes.{release_notes, all_release_notes, pieces_notes, span_notes, energy_run, energy_idle, notes_before_end, notes_of}
 use Rattle.sched_model.proofs.Limits.{every_period}
 use Rattle.sched_model.proofs.NoteLemmas.{notes-span}
 use Rattle.sched_model.proofs.JobLaws.{latest-is, release-le, lt-due, release-due, exec-early}
@@ -25,12 +25,22 @@ use Rattle.done_lines.proofs.DoneNotes.{tells_done, tells_late, times, times-app
 use Rattle.done_lines.proofs.DoneSpans.{IsLastSpan, last-span}
 
 -- the notes of the first n tasks, task by task
-times-each : (test : Note → Bool) (f : ℕ → List Note) (n : ℕ) → times test (flat_map f (list_below n (λ i. i))) ≡ sum_below n (λ j. times test (f j))
+pub times-each : (test : Note → Bool) (f : ℕ → List Note) (n : ℕ) → times test (flat_map f (list_below n (λ i. i))) ≡ sum_below n (λ j. times test (f j))
 times-each test f zero = refl
 times-each test f (suc n) =
     ap (times test) (flat_map-append f (list_below n (λ i. i)) (n ∷ []))
     ∙ (times-append test (flat_map f (list_below n (λ i. i))) (flat_map f (n ∷ []))
     ∙ ap₂ (λ a b. a + b) (times-each test f n) (ap (times test) (append-nil (f n))))
+
+-- the last note passes no test of the others
+pub times-end : (p : Plan) (dem : ℕ → ℕ → ℕ) (ask : List Tick → Frac) (ticks : List Tick) (test : Note → Bool)
+    → ((t run idle : ℕ) → test (End t run idle) ≡ false) → times test (notes_of p dem ask ticks) ≡ times test (notes_before_end p dem ask ticks)
+times-end p dem ask ticks test quiet =
+    let before = notes_before_end p dem ask ticks in
+    let last : List Note = End (length ticks) (sum_by energy_run before) (sum_by energy_idle before) ∷ [] in
+    times-append test before last
+    ∙ (ap (λ (b : Bool). times test before + (if b then 1 else 0)) (quiet (length ticks) (sum_by energy_run before) (sum_by energy_idle before))
+    ∙ omega arith)
 
 -- a late end is an end
 late-most : (t i k : ℕ) (notes : List Note) → times (tells_late t i k) notes ≤ times (tells_done i k) notes
@@ -40,10 +50,12 @@ late-most t i k (Speed at f num den ∷ notes) = late-most t i k notes
 late-most t i k (Run from to j l units energy ∷ notes) = late-most t i k notes
 late-most t i k (Idle from to units energy ∷ notes) = late-most t i k notes
 late-most t i k (End at run idle ∷ notes) = late-most t i k notes
-late-most t i k (Done at_end j l used ∷ notes) = go (nat_eq i j && nat_eq k l) (nat_lt t at_end.tick || (nat_eq t at_end.tick && nat_lt 0 at_end.offset)) (late-most t i k notes)
+late-most t i k (Done at_end j l used ∷ notes) =
+    go (nat_eq i j && nat_eq k l) (nat_lt t at_end.tick || (nat_eq t at_end.tick && nat_lt 0 at_end.offset)) (late-most t i k notes)
   where
     go : (a b : Bool) → times (tells_late t i k) notes ≤ times (tells_done i k) notes
-        → (if a && b then suc (times (tells_late t i k) notes) else times (tells_late t i k) notes) ≤ (if a then suc (times (tells_done i k) notes) else times (tells_done i k) notes)
+        → (if a && b then suc (times (tells_late t i k) notes) else times (tells_late t i k) notes) ≤
+        (if a then suc (times (tells_done i k) notes) else times (tells_done i k) notes)
     go true true ih = omega arith
     go true false ih = omega arith
     go false b ih = ih
@@ -56,11 +68,13 @@ module _ (p : Plan) (dem : ℕ → ℕ → ℕ) (ask : List Tick → Frac) (lim 
   at-release : (t : ℕ) → times (tells_done i k) (all_release_notes p dem t) ≡ (if nat_eq (release p i k) t && nat_eq (dem i k) 0 then 1 else 0)
   at-release t =
       times-each (tells_done i k) (release_notes p dem t) (count p)
-      ∙ (sum_below-one (count p) i (λ j. times (tells_done i k) (release_notes p dem t j)) inside (λ j lt ne. off j ne (releases_at p j t) (nat_eq (dem j (latest p j t)) 0) (nat_eq i j) refl)
+      ∙ (sum_below-one (count p) i (λ j. times (tells_done i k) (release_notes p dem t j)) inside
+      (λ j lt ne. off j ne (releases_at p j t) (nat_eq (dem j (latest p j t)) 0) (nat_eq i j) refl)
       ∙ on (nat_eq (release p i k) t) refl)
     where
       off : (j : ℕ) → j ≢ i → (a b c : Bool) → nat_eq i j ≡ c
-          → times (tells_done i k) (if a then Release t j (latest p j t) ∷ (if b then Done (record { tick = t; offset = 0 }) j (latest p j t) 0 ∷ [] else []) else []) ≡ 0
+          → times (tells_done i k) (if a then Release t j (latest p j t)
+          ∷ (if b then Done (record { tick = t; offset = 0 }) j (latest p j t) 0 ∷ [] else []) else []) ≡ 0
       off j ne a b true e = absurd (ne (grind (arith, nat_tests)))
       off j ne false b false e = refl
       off j ne true false false e = refl
@@ -69,7 +83,8 @@ module _ (p : Plan) (dem : ℕ → ℕ → ℕ) (ask : List Tick → Frac) (lim 
       self : nat_eq i i ≡ true
       self = grind (arith, nat_tests)
 
-      on : (b : Bool) → nat_eq (release p i k) t ≡ b → times (tells_done i k) (release_notes p dem t i) ≡ (if nat_eq (release p i k) t && nat_eq (dem i k) 0 then 1 else 0)
+      on : (b : Bool) → nat_eq (release p i k) t ≡ b
+          → times (tells_done i k) (release_notes p dem t i) ≡ (if nat_eq (release p i k) t && nat_eq (dem i k) 0 then 1 else 0)
       on true e =
           let now : release p i k ≡ t = grind (arith, nat_tests) in
           let job : latest p i t ≡ k = latest-is p i k t (omega arith) (omega (arith, release-due p i k some_job, some)) in
@@ -88,7 +103,8 @@ module _ (p : Plan) (dem : ℕ → ℕ → ℕ) (ask : List Tick → Frac) (lim 
           none false q = rw q refl
           none true q = rw q (other (nat_eq (dem i (latest p i t)) 0) (nat_eq k (latest p i t)) refl)
             where
-              other : (b c : Bool) → nat_eq k (latest p i t) ≡ c → times (tells_done i k) (if b then Done (record { tick = t; offset = 0 }) i (latest p i t) 0 ∷ [] else []) ≡ 0
+              other : (b c : Bool) → nat_eq k (latest p i t) ≡ c
+                  → times (tells_done i k) (if b then Done (record { tick = t; offset = 0 }) i (latest p i t) 0 ∷ [] else []) ≡ 0
               other false c r = refl
               other true false r = rw (self, r) refl
               other true true r =
@@ -99,16 +115,14 @@ module _ (p : Plan) (dem : ℕ → ℕ → ℕ) (ask : List Tick → Frac) (lim 
   release-late : (t : ℕ) → times (tells_late (due p i k) i k) (all_release_notes p dem t) ≡ 0
   release-late t =
       times-each (tells_late (due p i k) i k) (release_notes p dem t) (count p)
-      ∙ sum_below-zero (count p) (λ j. times (tells_late (due p i k) i k) (release_notes p dem t j)) (λ j lt. go j (releases_at p j t) (nat_eq (dem j (latest p j t)) 0))
+      ∙ sum_below-zero (count p) (λ j. times (tells_late (due p i k) i k) (release_notes p dem t j)) (λ j lt. go j (releases_at p j t)
+      (nat_eq (dem j (latest p j t)) 0))
     where
       late : (j : ℕ) → tells_late (due p i k) i k (Done (record { tick = t; offset = 0 }) j (latest p j t) 0) ≡ false
       late j = own (nat_eq i j) refl (nat_eq k (latest p j t)) refl
         where
-          and-false : (b : Bool) → (b && false) ≡ false
-          and-false true = refl
-          and-false false = refl
-
-          own : (a : Bool) → nat_eq i j ≡ a → (b : Bool) → nat_eq k (latest p j t) ≡ b → tells_late (due p i k) i k (Done (record { tick = t; offset = 0 }) j (latest p j t) 0) ≡ false
+          own : (a : Bool) → nat_eq i j ≡ a → (b : Bool) → nat_eq k (latest p j t) ≡ b
+              → tells_late (due p i k) i k (Done (record { tick = t; offset = 0 }) j (latest p j t) 0) ≡ false
           own false e b f = rw e refl
           own true e false f = rw (e, f) refl
           own true e true f =
@@ -116,9 +130,10 @@ module _ (p : Plan) (dem : ℕ → ℕ → ℕ) (ask : List Tick → Frac) (lim 
               let job : k ≡ latest p j t = grind (arith, nat_tests) in
               let until : t < due p i k = subst (λ m. t < due p i m) (ap (λ m. latest p m t) same ∙ sym job) (lt-due p i t some) in
               let early : nat_lt (due p i k) t ≡ false = grind (arith, nat_tests) in
-              rw (e, f, early) (and-false (nat_eq (due p i k) t))
+              rw (e, f, early) (and_right (nat_eq (due p i k) t) false refl)
 
-      go : (j : ℕ) (a b : Bool) → times (tells_late (due p i k) i k) (if a then Release t j (latest p j t) ∷ (if b then Done (record { tick = t; offset = 0 }) j (latest p j t) 0 ∷ [] else []) else []) ≡ 0
+      go : (j : ℕ) (a b : Bool) → times (tells_late (due p i k) i k) (if a then Release t j (latest p j t)
+          ∷ (if b then Done (record { tick = t; offset = 0 }) j (latest p j t) 0 ∷ [] else []) else []) ≡ 0
       go j false b = refl
       go j true false = refl
       go j true true = rw (late j) refl
@@ -152,7 +167,8 @@ module _ (p : Plan) (dem : ℕ → ℕ → ℕ) (ask : List Tick → Frac) (lim 
       → (if nat_lt r a then 1 else 0) + ((if nat_eq r a && true then 1 else 0) + 0) ≡ (if nat_lt r b then 1 else 0)
   sum-free r a b c less starts next = go (nat_lt r a) refl (nat_eq r a) refl
     where
-      go : (v : Bool) → nat_lt r a ≡ v → (w : Bool) → nat_eq r a ≡ w → (if nat_lt r a then 1 else 0) + ((if nat_eq r a && true then 1 else 0) + 0) ≡ (if nat_lt r b then 1 else 0)
+      go : (v : Bool) → nat_lt r a ≡ v → (w : Bool) → nat_eq r a ≡ w
+          → (if nat_lt r a then 1 else 0) + ((if nat_eq r a && true then 1 else 0) + 0) ≡ (if nat_lt r b then 1 else 0)
       go true e w f =
           let other : nat_eq r a ≡ false = grind (arith, nat_tests) in
           let within : nat_lt r b ≡ true = grind (arith, nat_tests) in
@@ -169,39 +185,42 @@ module _ (p : Plan) (dem : ℕ → ℕ → ℕ) (ask : List Tick → Frac) (lim 
           past_end (inl over) = grind (arith, nat_tests)
           past_end (inr le) = let low : r ≤ a = starts le in absurd (true≢false (grind (arith, nat_tests)))
 
-  sum-busy : (a b need : ℕ) (w : Bool) → a ≤ b → b ≤ need → (if nat_eq a need then 1 else 0) + ((if w && false then 1 else 0) + ended a b need) ≡ (if nat_eq b need then 1 else 0)
+  sum-busy : (a b need : ℕ) (w : Bool) → a ≤ b → b ≤ need
+      → (if nat_eq a need then 1 else 0) + ((if w && false then 1 else 0) + ended a b need) ≡ (if nat_eq b need then 1 else 0)
   sum-busy a b need w le most = go (nat_eq a need) refl
     where
-      none : (w : Bool) → (if w && false then suc zero else zero) ≡ zero
-      none true = refl
-      none false = refl
-
-      go : (v : Bool) → nat_eq a need ≡ v → (if nat_eq a need then 1 else 0) + ((if w && false then 1 else 0) + ended a b need) ≡ (if nat_eq b need then 1 else 0)
+      go : (v : Bool) → nat_eq a need ≡ v
+          → (if nat_eq a need then 1 else 0) + ((if w && false then 1 else 0) + ended a b need) ≡ (if nat_eq b need then 1 else 0)
       go true e =
           let stays : nat_lt a b ≡ false = grind (arith, nat_tests) in
           let whole : nat_eq b need ≡ true = grind (arith, nat_tests) in
-          rw (e, none w, stays, whole) refl
+          rw (e, and_right w false refl, stays, whole) refl
       go false e = go2 (nat_eq b need) refl
         where
-          go2 : (v : Bool) → nat_eq b need ≡ v → (if nat_eq a need then 1 else 0) + ((if w && false then 1 else 0) + ended a b need) ≡ (if nat_eq b need then 1 else 0)
+          go2 : (v : Bool) → nat_eq b need ≡ v
+              → (if nat_eq a need then 1 else 0) + ((if w && false then 1 else 0) + ended a b need) ≡ (if nat_eq b need then 1 else 0)
           go2 true f =
               let rises : nat_lt a b ≡ true = grind (arith, nat_tests) in
-              rw (e, none w, rises, f) refl
-          go2 false f = rw (e, none w, f) (unended (nat_lt a b))
+              rw (e, and_right w false refl, rises, f) refl
+          go2 false f = rw (e, and_right w false refl, f) (unended (nat_lt a b))
             where
               unended : (v : Bool) → zero + (zero + (if v && false then 1 else 0)) ≡ zero
               unended true = refl
               unended false = refl
 
-  notes-split : (test : Note → Bool) → ((t f num den : ℕ) → test (Speed t f num den) ≡ false) → (x : Tick) (past : List Tick) (s : Span) → IsLastSpan p dem ask lim x past s
+  notes-split : (test : Note → Bool) → ((t f num den : ℕ) → test (Speed t f num den) ≡ false) → (x : Tick) (past : List Tick) (s : Span)
+      → IsLastSpan p dem ask lim x past s
       → times test (notes_before_end p dem ask (x ∷ past))
-      ≡ times test (notes_before_end p dem ask s.past) + (times test (all_release_notes p dem (length s.past)) + times test (pieces_notes p dem s 0 (pieces_of s.units)))
+      ≡ times test (notes_before_end p dem ask s.past) + (times test (all_release_notes p dem (length s.past))
+      + times test (pieces_notes p dem s 0 (pieces_of s.units)))
   notes-split test quiet x past s l =
       ap (times test) (notes-span p dem ask (x ∷ past) s.past s l.spans)
       ∙ (times-append test (notes_before_end p dem ask s.past) (span_notes p dem ask s)
       ∙ ap (λ a. times test (notes_before_end p dem ask s.past) + a)
-      (times-append test (all_release_notes p dem (length s.past)) (Speed (length s.past) ((point p s.entry).speed) ((ask s.past).num) ((ask s.past).den) ∷ pieces_notes p dem s 0 (pieces_of s.units))
-      ∙ ap (λ b. times test (all_release_notes p dem (length s.past)) + (if b then suc (times test (pieces_notes p dem s 0 (pieces_of s.units))) else times test (pieces_notes p dem s 0 (pieces_of s.units))))
+      (times-append test (all_release_notes p dem (length s.past))
+      (Speed (length s.past) ((point p s.entry).speed) ((ask s.past).num) ((ask s.past).den) ∷ pieces_notes p dem s 0 (pieces_of s.units))
+      ∙ ap (λ b. times test (all_release_notes p dem (length s.past)) +
+      (if b then suc (times test (pieces_notes p dem s 0 (pieces_of s.units))) else times test (pieces_notes p dem s 0 (pieces_of s.units))))
       (quiet (length s.past) ((point p s.entry).speed) ((ask s.past).num) ((ask s.past).den))))
 
   told-none : times (tells_done i k) (notes_before_end p dem ask []) ≡ tally []
@@ -228,7 +247,8 @@ module _ (p : Plan) (dem : ℕ → ℕ → ℕ) (ask : List Tick → Frac) (lim 
       more = omega (arith, l.had i k inside some_job)
 
       go : (b : Bool) → nat_eq (dem i k) 0 ≡ b
-          → tally s.past + ((if nat_eq (release p i k) (length s.past) && nat_eq (dem i k) 0 then 1 else 0) + ended (exec p s.past i k) (exec p (x ∷ past) i k) (dem i k)) ≡ tally (x ∷ past)
+          → tally s.past + ((if nat_eq (release p i k) (length s.past) && nat_eq (dem i k) 0 then 1 else 0)
+          + ended (exec p s.past i k) (exec p (x ∷ past) i k) (dem i k)) ≡ tally (x ∷ past)
       go true e =
           let nothing : dem i k ≡ 0 = grind (arith, nat_tests) in
           let before : exec p s.past i k ≡ 0 = omega (arith, more, most, nothing) in
@@ -247,7 +267,8 @@ module _ (p : Plan) (dem : ℕ → ℕ → ℕ) (ask : List Tick → Frac) (lim 
       told-next x past l.0 l.1 most (told n l.0.past (omega (arith, le, l.1.shorter)) l.1.earlier (omega (arith, most, l.1.had i k inside some_job)))
 
   -- of a job that had its demand they tell it once
-  pub told-once : (ticks : List Tick) → IsScheduleBy p dem ask ticks → release p i k < length ticks → exec p ticks i k ≡ dem i k → times (tells_done i k) (notes_before_end p dem ask ticks) ≡ 1
+  pub told-once : (ticks : List Tick) → IsScheduleBy p dem ask ticks → release p i k < length ticks → exec p ticks i k ≡ dem i k
+      → times (tells_done i k) (notes_before_end p dem ask ticks) ≡ 1
   told-once ticks h began had = told (length ticks) ticks (omega arith) h (omega (arith, had)) ∙ go (nat_eq (dem i k) 0) refl
     where
       go : (b : Bool) → nat_eq (dem i k) 0 ≡ b → tally ticks ≡ 1
@@ -259,7 +280,8 @@ module _ (p : Plan) (dem : ℕ → ℕ → ℕ) (ask : List Tick → Frac) (lim 
           rw (e, whole) refl
 
   -- and of a job that isn't released yet never
-  pub told-never : (ticks : List Tick) → IsScheduleBy p dem ask ticks → length ticks ≤ release p i k → times (tells_done i k) (notes_before_end p dem ask ticks) ≡ 0
+  pub told-never : (ticks : List Tick) → IsScheduleBy p dem ask ticks → length ticks ≤ release p i k
+      → times (tells_done i k) (notes_before_end p dem ask ticks) ≡ 0
   told-never ticks h later = told (length ticks) ticks (omega arith) h (omega (arith, none)) ∙ go (nat_eq (dem i k) 0) refl
     where
       none : exec p ticks i k ≡ 0
@@ -287,7 +309,8 @@ module _ (p : Plan) (dem : ℕ → ℕ → ℕ) (ask : List Tick → Frac) (lim 
           let job : latest p i (length past) ≡ k = l.same i (length past) inside l.shorter (omega arith) ∙ l.held i k inside some_units in
           let until : length past < due p i k = subst (λ m. length past < due p i m) job (lt-due p i (length past) some) in
           let units : length (laid (pieces_of s.units)) ≡ length s.units = ap length (laid-pieces s.units) in
-          pieces-late p dem s i k (length (x ∷ past) - length s.past) (due p i k) (lim.machine.each s.entry l.entry).some_speed (omega (arith, until, l.shorter)) 0 (pieces_of s.units) (omega (arith, units, l.long))
+          pieces-late p dem s i k (length (x ∷ past) - length s.past) (due p i k) (lim.machine.each s.entry l.entry).some_speed
+          (omega (arith, until, l.shorter)) 0 (pieces_of s.units) (omega (arith, units, l.long))
       go (inr no_units) =
           let same : exec p s.past i k ≡ exec p (x ∷ past) i k = omega (arith, l.had i k inside some_job, no_units) in
           let flat : ended (exec p s.past i k) (exec p (x ∷ past) i k) (dem i k) ≡ 0 = rw same (ended-same (exec p (x ∷ past) i k) (dem i k)) in

@@ -1,10 +1,10 @@
 -- How often the notes of a schedule tell that a job is done, and when.
-use Rattle.std.proofs.Common.{◌≡◌, ◌≢◌, ℕ, zero, suc, ◌+◌, ◌*◌, ◌/◌, ◌%◌, ◌<◌, ◌≤◌, Bool, true, false, ◌&&◌, ◌||◌, List, [], ◌∷◌, ◌++◌, length, take, replicate, refl, arith, if◌then◌else◌, ap, ap₂, ◌∙◌, sym, subst, inl, inr, append_assoc, append-nil, nat_eq, nat_lt}
+use Rattle.std.proofs.Common.{◌≡◌, ◌≢◌, ℕ, suc, ◌+◌, ◌*◌, ◌/◌, ◌%◌, ◌<◌, ◌≤◌, Bool, true, false, ◌&&◌, ◌||◌, List, [], ◌∷◌, ◌++◌, length, take, replicate, refl, arith, if◌then◌else◌, ap, ap₂, ◌∙◌, sym, subst, inl, inr, append_assoc, append-nil, nat_eq, nat_lt}
 use Rattle.std.proofs.Common.{length-append, div-add-mod', mul-le-mul_right}
 use Rattle.std.proofs.Math.Nat.{le_of_mul-le-mul_right}
 use Rattle.std.proofs.Math.Seq.{take-append_seam}
 use Rattle.std.proofs.lemmas.List.{length-replicate}
-use Rattle.std.proofs.lemmas.Bool.{cases_lt}
+use Rattle.std.proofs.lemmas.Bool.{cases_lt, and_right}
 use Rattle.std.specs.Prelude.{count_by}
 use Rattle.std.proofs.lemmas.Bool.Decides.{nat_tests}
 use Rattle.dvs_base.specs.declared.note.Note.{Note}
@@ -51,7 +51,8 @@ laid-before : (h : Holder) (rs : List Piece) → laid (before_pieces h rs) ≡ h
 laid-before h [] = refl
 laid-before h (r ∷ rs) = go (same_holder h r.holder) refl
   where
-    go : (b : Bool) → same_holder h r.holder ≡ b → laid (if b then record { holder = h; units = r.units + 1 } ∷ rs else record { holder = h; units = 1 } ∷ r ∷ rs) ≡ h ∷ laid (r ∷ rs)
+    go : (b : Bool) → same_holder h r.holder ≡ b
+        → laid (if b then record { holder = h; units = r.units + 1 } ∷ rs else record { holder = h; units = 1 } ∷ r ∷ rs) ≡ h ∷ laid (r ∷ rs)
     go true e =
         let more : r.units + 1 ≡ suc r.units = omega arith in
         ap (λ n. replicate n h ++ laid rs) more ∙ ap (λ g. h ∷ (replicate r.units g ++ laid rs)) (same_holder-eq h r.holder e)
@@ -112,7 +113,8 @@ module _ (p : Plan) (dem : ℕ → ℕ → ℕ) (s : Span) (i k : ℕ) where
       self : (nat_eq i i && nat_eq k k) ≡ true
       self = grind (arith, nat_tests)
 
-      go : (b : Bool) → times (tells_done i k) (if b then Done (position_of (length s.past) ((point p s.entry).speed) (q + u)) i k (dem i k) ∷ [] else []) ≡ (if b then 1 else 0)
+      go : (b : Bool) → times (tells_done i k) (if b then Done (position_of (length s.past) ((point p s.entry).speed) (q + u)) i k (dem i k) ∷ []
+          else []) ≡ (if b then 1 else 0)
       go true = rw self refl
       go false = refl
 
@@ -148,21 +150,26 @@ module _ (p : Plan) (dem : ℕ → ℕ → ℕ) (s : Span) (i k : ℕ) where
       reached = ap (λ q. had_of (take q s.units)) (sym long) ∙ ap had_of (ap (take (length next)) units ∙ take-append_seam next (laid rs))
 
       parts : times (tells_done i k) (pieces_notes p dem s (length front) (r ∷ rs))
-          ≡ times (tells_done i k) (segment_notes p dem s (length front) r.units r.holder) + times (tells_done i k) (pieces_notes p dem s (length front + r.units) rs)
+          ≡ times (tells_done i k) (segment_notes p dem s (length front) r.units r.holder) + times (tells_done i k)
+          (pieces_notes p dem s (length front + r.units) rs)
       parts = times-append (tells_done i k) (segment_notes p dem s (length front) r.units r.holder) (pieces_notes p dem s (length front + r.units) rs)
 
       go : Rest (length next) → (b : Bool) → same_holder (Held i k) r.holder ≡ b
           → times (tells_done i k) (pieces_notes p dem s (length front) (r ∷ rs)) ≡ ended (had_of front) (had_of s.units) (dem i k)
       go ih true same =
           let own : times (tells_done i k) (segment_notes p dem s (length front) r.units r.holder) ≡ (if nat_eq (had_of next) (dem i k) then 1 else 0) =
-          subst (λ h. times (tells_done i k) (segment_notes p dem s (length front) r.units h) ≡ (if nat_eq (had_of next) (dem i k) then 1 else 0)) (same_holder-eq (Held i k) r.holder same)
+          subst (λ h. times (tells_done i k) (segment_notes p dem s (length front) r.units h) ≡ (if nat_eq (had_of next) (dem i k) then 1 else 0))
+          (same_holder-eq (Held i k) r.holder same)
           (segment-own (length front) r.units ∙ ap (λ n. if nat_eq n (dem i k) then 1 else 0) reached) in
-          let more : had_of next ≡ had_of front + r.units = had-more front r.units r.holder ∙ ap (λ (b : Bool). had_of front + (if b then r.units else 0)) same in
+          let more : had_of next ≡ had_of front + r.units = had-more front r.units r.holder
+          ∙ ap (λ (b : Bool). had_of front + (if b then r.units else 0)) same in
           let within : had_of next ≤ had_of s.units = omega (arith, ap had_of units, count-append (same_holder (Held i k)) next (laid rs)) in
-          parts ∙ (ap₂ (λ a b. a + b) own (subst Rest long ih) ∙ ended-now (had_of front) (had_of next) (had_of s.units) (dem i k) (omega (arith, more, some.0)) within most)
+          parts ∙ (ap₂ (λ a b. a + b) own (subst Rest long ih)
+          ∙ ended-now (had_of front) (had_of next) (had_of s.units) (dem i k) (omega (arith, more, some.0)) within most)
       go ih false other =
           let none : times (tells_done i k) (segment_notes p dem s (length front) r.units r.holder) ≡ 0 = segment-other (length front) r.units r.holder other in
-          let more : had_of next ≡ had_of front = had-more front r.units r.holder ∙ (ap (λ (b : Bool). had_of front + (if b then r.units else 0)) other ∙ omega arith) in
+          let more : had_of next ≡ had_of front = had-more front r.units r.holder
+          ∙ (ap (λ (b : Bool). had_of front + (if b then r.units else 0)) other ∙ omega arith) in
           parts ∙ (ap₂ (λ a b. a + b) none (subst Rest long ih) ∙ (omega arith ∙ ap (λ a. ended a (had_of s.units) (dem i k)) more))
 
   module _ (n t : ℕ) (some_speed : 0 < (point p s.entry).speed) (by : length s.past + n ≤ t) where
@@ -170,7 +177,8 @@ module _ (p : Plan) (dem : ℕ → ℕ → ℕ) (s : Span) (i k : ℕ) where
     f = (point p s.entry).speed
 
     -- a unit boundary within n ticks is not after their end
-    not-late : (q : ℕ) → q ≤ n * f → (nat_lt t (position_of (length s.past) f q).tick || (nat_eq t (position_of (length s.past) f q).tick && nat_lt 0 (position_of (length s.past) f q).offset)) ≡ false
+    not-late : (q : ℕ) → q ≤ n * f → (nat_lt t (position_of (length s.past) f q).tick
+        || (nat_eq t (position_of (length s.past) f q).tick && nat_lt 0 (position_of (length s.past) f q).offset)) ≡ false
     not-late q le =
         elim (cases_lt (q / f) n) [
           | inl before ↦
@@ -185,30 +193,23 @@ module _ (p : Plan) (dem : ℕ → ℕ → ℕ) (s : Span) (i k : ℕ) where
               let last : q / f ≤ n = le_of_mul-le-mul_right exact some_speed in
               let early : nat_lt t (length s.past + q / f) ≡ false = grind (arith, nat_tests) in
               let start : nat_lt 0 (q % f) ≡ false = grind (arith, nat_tests) in
-              rw (early, start) (and-false (nat_eq t (length s.past + q / f)))
+              rw (early, start) (and_right (nat_eq t (length s.past + q / f)) false refl)
         ]
-      where
-        and-false : (b : Bool) → (b && false) ≡ false
-        and-false true = refl
-        and-false false = refl
 
     segment-late : (q u : ℕ) (h : Holder) → q + u ≤ n * f → times (tells_late t i k) (segment_notes p dem s q u h) ≡ 0
     segment-late q u Nobody le = refl
     segment-late q u (Held j l) le = go (nat_eq (had_by p s (q + u) j l) (dem j l))
       where
         go : (b : Bool) → times (tells_late t i k) (if b then Done (position_of (length s.past) f (q + u)) j l (dem j l) ∷ [] else []) ≡ 0
-        go true = rw (not-late (q + u) le) (both (nat_eq i j && nat_eq k l))
-          where
-            both : (b : Bool) → (if b && false then suc zero else zero) ≡ zero
-            both true = refl
-            both false = refl
+        go true = rw (not-late (q + u) le, and_right (nat_eq i j && nat_eq k l) false refl) refl
         go false = refl
 
     -- segments within n ticks tell nothing late
     pub pieces-late : (q : ℕ) (rs : List Piece) → q + length (laid rs) ≤ n * f → times (tells_late t i k) (pieces_notes p dem s q rs) ≡ 0
     pieces-late q [] le = refl
     pieces-late q (r ∷ rs) le =
-        let long : length (laid (r ∷ rs)) ≡ r.units + length (laid rs) = omega (arith, length-append (replicate r.units r.holder) (laid rs), length-replicate r.units r.holder) in
+        let long : length (laid (r ∷ rs)) ≡ r.units + length (laid rs) =
+        omega (arith, length-append (replicate r.units r.holder) (laid rs), length-replicate r.units r.holder) in
         omega (
           arith,
           times-append (tells_late t i k) (segment_notes p dem s q r.units r.holder) (pieces_notes p dem s (q + r.units) rs),

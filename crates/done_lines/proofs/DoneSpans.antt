@@ -1,5 +1,5 @@
 -- What the spans of a schedule hold: their ticks, their units, and what each job has had by their end.
-use Rattle.std.proofs.Common.{◌≡◌, ◌≢◌, ℕ, suc, ◌+◌, ◌-◌, ◌*◌, ◌<◌, ◌≤◌, min, Bool, true, false, ◌&&◌, ◌||◌, List, [], ◌∷◌, ◌++◌, length, replicate, flat_map, refl, arith, if◌then◌else◌, ap, ◌∙◌, sym, subst, true≢false, ◌⊎◌, inl, inr, nat_eq, length-append, eq-or-lt_of_le}
+use Rattle.std.proofs.Common.{◌≡◌, ◌≢◌, ℕ, ◌+◌, ◌-◌, ◌*◌, ◌<◌, ◌≤◌, min, Bool, true, false, ◌&&◌, List, [], ◌∷◌, ◌++◌, length, replicate, flat_map, refl, arith, if◌then◌else◌, ap, ◌∙◌, sym, subst, true≢false, ◌⊎◌, inl, inr, nat_eq, length-append, eq-or-lt_of_le}
 use Rattle.std.specs.Prelude.{count_by}
 use Rattle.std.proofs.lemmas.List.{length-replicate}
 use Rattle.std.proofs.lemmas.Bool.{cases_lt}
@@ -9,10 +9,9 @@ use Rattle.sched_model.specs.declared.holder.Holder.TheVariants.{Nobody, Held}
 use Rattle.grid_fraction.specs.declared.Frac.{Frac}
 use Rattle.grid_fraction.specs.Numbers.{sum_below, sum_where}
 use Rattle.grid_fraction.proofs.Sums.{sum_below-one}
-use Rattle.grid_fraction.proofs.Searches.{any_below-false}
 use Rattle.freq_table.specs.Tables.{lowest_entry}
-use Rattle.sched_model.specs.Plan.{Plan, count, period, point}
-use Rattle.sched_model.specs.Jobs.{latest, release, due, is_release, releases_at, is_in_window}
+use Rattle.sched_model.specs.Plan.{Plan, count, point}
+use Rattle.sched_model.specs.Jobs.{latest, release, due, is_in_window}
 use Rattle.sched_model.specs.Ticks.{Tick, exec, share, left}
 use Rattle.sched_model.specs.Priority.{key_of}
 use Rattle.sched_model.specs.Order.{in_order}
@@ -25,8 +24,9 @@ use Rattle.sched_model.proofs.ScheduleLemmas.{force-within}
 use Rattle.sched_model.proofs.OrderLemmas.{sum_list, sum_list-in_order}
 use Rattle.sched_model.proofs.DownSets.{down-set-gets}
 use Rattle.sched_model.proofs.NoteLemmas.{span-opens, span-grows}
-use Rattle.sched_model.proofs.JobLaws.{latest-is, release-le, lt-due, latest-stays, latest-next, release-suc}
+use Rattle.sched_model.proofs.JobLaws.{latest-is, release-le, lt-due}
 use Rattle.grid_fraction.proofs.Counts.{count-append, count-replicate}
+use Rattle.done_lines.proofs.SpanHeads.{stays}
 
 -- the units that the tasks of a list get
 abbrev given_units : (ℕ → ℕ) → (ℕ → ℕ) → List ℕ → List Holder
@@ -34,13 +34,19 @@ given_units given job order = flat_map (λ i. replicate (given i) (Held i (job i
 
 given-long : (given job : ℕ → ℕ) (order : List ℕ) → length (given_units given job order) ≡ sum_list given order
 given-long given job [] = refl
-given-long given job (j ∷ js) = omega (arith, length-append (replicate (given j) (Held j (job j))) (given_units given job js), length-replicate (given j) (Held j (job j)), given-long given job js)
+given-long given job (j ∷ js) = omega (
+  arith,
+  length-append (replicate (given j) (Held j (job j))) (given_units given job js),
+  length-replicate (given j) (Held j (job j)),
+  given-long given job js,
+)
 
 -- how many of them the job k of task i holds
 abbrev own_units : (ℕ → ℕ) → (ℕ → ℕ) → ℕ → ℕ → ℕ → ℕ
 own_units given job i k j = if same_holder (Held i k) (Held j (job j)) then given j else 0
 
-given-count : (given job : ℕ → ℕ) (i k : ℕ) (order : List ℕ) → count_by (same_holder (Held i k)) (given_units given job order) ≡ sum_list (own_units given job i k) order
+given-count : (given job : ℕ → ℕ) (i k : ℕ) (order : List ℕ)
+    → count_by (same_holder (Held i k)) (given_units given job order) ≡ sum_list (own_units given job i k) order
 given-count given job i k [] = refl
 given-count given job i k (j ∷ js) =
     omega (
@@ -58,7 +64,8 @@ module _ (p : Plan) (dem : ℕ → ℕ → ℕ) (ask : List Tick → Frac) (lim 
   shares-fit : (past : List Tick) (x : Tick) → IsNext p dem ask past x → sum_below (count p) (share x) ≤ speed_of x.entry
   shares-fit past x h =
       let all : sum_where (count p) (λ j. true) (share x) ≡ min (speed_of x.entry) (sum_where (count p) (λ j. true) (left p dem past)) =
-      down-set-gets (count p) (key_of p.scheduler p (length past)) (λ j. true) (speed_of x.entry) (left p dem past) (share x) (λ j i lj li b on. refl) h.legal in
+      down-set-gets (count p) (key_of p.scheduler p (length past)) (λ j. true) (speed_of x.entry) (left p dem past) (share x)
+      (λ j i lj li b on. refl) h.legal in
       omega (arith, all)
 
   units-long : (past : List Tick) (x : Tick) → IsNext p dem ask past x → length (units_of p past x) ≡ speed_of x.entry
@@ -75,7 +82,8 @@ module _ (p : Plan) (dem : ℕ → ℕ → ℕ) (ask : List Tick → Frac) (lim 
       )
 
   -- the units of a job in a tick
-  units-own : (past : List Tick) (x : Tick) (i k : ℕ) → i < count p → count_by (same_holder (Held i k)) (units_of p past x) ≡ own_units (share x) (λ j. latest p j (length past)) i k i
+  units-own : (past : List Tick) (x : Tick) (i k : ℕ) → i < count p
+      → count_by (same_holder (Held i k)) (units_of p past x) ≡ own_units (share x) (λ j. latest p j (length past)) i k i
   units-own past x i k lt =
       let job : ℕ → ℕ = λ j. latest p j (length past) in
       let order : List ℕ = in_order (key_of p.scheduler p (length past)) (count p) in
@@ -91,7 +99,8 @@ module _ (p : Plan) (dem : ℕ → ℕ → ℕ) (ask : List Tick → Frac) (lim 
       off j ne false e = rw e refl
 
   -- it is the latest job
-  units-latest : (past : List Tick) (x : Tick) (i k : ℕ) → i < count p → 0 < count_by (same_holder (Held i k)) (units_of p past x) → latest p i (length past) ≡ k
+  units-latest : (past : List Tick) (x : Tick) (i k : ℕ) → i < count p → 0 < count_by (same_holder (Held i k)) (units_of p past x)
+      → latest p i (length past) ≡ k
   units-latest past x i k lt some = go (nat_eq k (latest p i (length past))) refl
     where
       go : (b : Bool) → nat_eq k (latest p i (length past)) ≡ b → latest p i (length past) ≡ k
@@ -103,15 +112,18 @@ module _ (p : Plan) (dem : ℕ → ℕ → ℕ) (ask : List Tick → Frac) (lim 
           none false = refl
 
   -- the units of a job in a tick are what the tick adds to it
-  units-had : (past : List Tick) (x : Tick) (i k : ℕ) → i < count p → 1 ≤ k → exec p (x ∷ past) i k ≡ exec p past i k + count_by (same_holder (Held i k)) (units_of p past x)
+  units-had : (past : List Tick) (x : Tick) (i k : ℕ) → i < count p → 1 ≤ k
+      → exec p (x ∷ past) i k ≡ exec p past i k + count_by (same_holder (Held i k)) (units_of p past x)
   units-had past x i k lt some_job =
-      let mine : (if is_in_window p i k (length past) then share x i else 0) ≡ own_units (share x) (λ j. latest p j (length past)) i k i = on (is_in_window p i k (length past)) refl in
+      let mine : (if is_in_window p i k (length past) then share x i else 0) ≡ own_units (share x) (λ j. latest p j (length past)) i k i =
+      on (is_in_window p i k (length past)) refl in
       omega (arith, units-own past x i k lt, mine)
     where
       self : nat_eq i i ≡ true
       self = grind (arith, nat_tests)
 
-      on : (b : Bool) → is_in_window p i k (length past) ≡ b → (if is_in_window p i k (length past) then share x i else 0) ≡ own_units (share x) (λ j. latest p j (length past)) i k i
+      on : (b : Bool) → is_in_window p i k (length past) ≡ b
+          → (if is_in_window p i k (length past) then share x i else 0) ≡ own_units (share x) (λ j. latest p j (length past)) i k i
       on true e =
           let from : release p i k ≤ length past = grind (arith, nat_tests) in
           let until : length past < due p i k = grind (arith, nat_tests) in
@@ -123,39 +135,14 @@ module _ (p : Plan) (dem : ℕ → ℕ → ℕ) (ask : List Tick → Frac) (lim 
           none true q =
               let same : k ≡ latest p i (length past) = grind (arith, nat_tests) in
               let some = every_period p lim i in
-              let low : release p i k ≤ length past = subst (λ m. release p i m ≤ length past) (sym same) (release-le p i (length past) some (omega (arith, same, some_job))) in
+              let low : release p i k ≤ length past = subst (λ m. release p i m ≤ length past) (sym same)
+              (release-le p i (length past) some (omega (arith, same, some_job))) in
               let high : length past < due p i k = subst (λ m. length past < due p i m) (sym same) (lt-due p i (length past) some) in
               absurd (true≢false (sym (the_window low high) ∙ e))
             where
               the_window : release p i k ≤ length past → length past < due p i k → is_in_window p i k (length past) ≡ true
               the_window low high = grind (arith, nat_tests)
           none false q = rw q refl
-
-  -- at a tick that is no decision instant the latest jobs stay
-  stays : (x : Tick) (past : List Tick) → is_decision p dem (x ∷ past) ≡ false → (i : ℕ) → i < count p → latest p i (length (x ∷ past)) ≡ latest p i (length past)
-  stays x past e i lt = go (eq-or-lt_of_le (lt-due p i (length past) some))
-    where
-      some : 0 < period p i
-      some = every_period p lim i
-
-      next : length past + 1 ≡ length (x ∷ past)
-      next = omega arith
-
-      or-left : (a b : Bool) → (a || b) ≡ false → a ≡ false
-      or-left true b q = absurd (true≢false q)
-      or-left false b q = refl
-
-      none : releases_at p i (length (x ∷ past)) ≡ false
-      none = any_below-false (count p) (λ j. releases_at p j (length (x ∷ past))) (or-left (is_release p (length (x ∷ past))) _ e) i lt
-
-      go : (suc (length past) ≡ due p i (latest p i (length past))) ⊎ (suc (length past) < due p i (latest p i (length past))) → latest p i (length (x ∷ past)) ≡ latest p i (length past)
-      go (inl here) =
-          let job : latest p i (length past + 1) ≡ latest p i (length past) + 1 = latest-next p i (length past) some (omega (arith, here)) in
-          let begins : release p i (latest p i (length (x ∷ past))) ≡ length (x ∷ past) =
-          ap (λ t. release p i (latest p i t)) (sym next) ∙ (ap (release p i) job ∙ (release-suc p i (latest p i (length past)) ∙ (sym here ∙ omega arith))) in
-          let found : releases_at p i (length (x ∷ past)) ≡ true = grind (arith, nat_tests) in
-          absurd (true≢false (sym found ∙ none))
-      go (inr later) = ap (latest p i) (sym next) ∙ latest-stays p i (length past) some (omega (arith, later))
 
   -- the last span of the ticks of `past` and x after them
   pub record IsLastSpan (x : Tick) (past : List Tick) (s : Span) : Type 0 where
@@ -206,15 +193,16 @@ module _ (p : Plan) (dem : ℕ → ℕ → ℕ) (ask : List Tick → Frac) (lim 
       kept = ap (λ b. if b then lowest_entry p.machine (ask (y ∷ past)) else entry_in_force p dem ask past) e
 
       go : (i t : ℕ) → i < count p → length s.past ≤ t → (t ≡ length (y ∷ past)) ⊎ (t < length (y ∷ past)) → latest p i t ≡ latest p i (length s.past)
-      go i t lt low (inl here) = ap (latest p i) here ∙ (stays y past e i lt ∙ l.same i (length past) lt l.shorter (omega arith))
+      go i t lt low (inl here) = ap (latest p i) here ∙ (stays p dem (every_period p lim) y past e i lt ∙ l.same i (length past) lt l.shorter (omega arith))
       go i t lt low (inr before) = l.same i t lt low (omega arith)
 
       either : (i k : ℕ) → i < count p → 0 < count_by (same_holder (Held i k)) (s.units ++ units_of p (y ∷ past) x)
           → (0 < count_by (same_holder (Held i k)) s.units) ⊎ (count_by (same_holder (Held i k)) s.units ≤ 0) → latest p i (length s.past) ≡ k
       either i k lt some (inl earlier) = l.held i k lt earlier
       either i k lt some (inr none) =
-          let here : 0 < count_by (same_holder (Held i k)) (units_of p (y ∷ past) x) = omega (arith, some, none, count-append (same_holder (Held i k)) s.units (units_of p (y ∷ past) x)) in
-          sym (stays y past e i lt ∙ l.same i (length past) lt l.shorter (omega arith)) ∙ units-latest (y ∷ past) x i k lt here
+          let here : 0 < count_by (same_holder (Held i k)) (units_of p (y ∷ past) x) =
+          omega (arith, some, none, count-append (same_holder (Held i k)) s.units (units_of p (y ∷ past) x)) in
+          sym (stays p dem (every_period p lim) y past e i lt ∙ l.same i (length past) lt l.shorter (omega arith)) ∙ units-latest (y ∷ past) x i k lt here
 
   -- a schedule of a tick or more has a last span
   pub last-span : (x : Tick) (past : List Tick) → IsScheduleBy p dem ask (x ∷ past) → (s : Span) × IsLastSpan x past s

@@ -1,12 +1,12 @@
 -- The text of a schedule that meets its deadlines tells each of them.
 use Rattle.std.proofs.Common.{◌≡◌, ℕ, zero, suc, ◌+◌, ◌-◌, ◌^◌, ◌<◌, ◌≤◌, Bool, true, false, ◌&&◌, ◌||◌, List, [], ◌∷◌, ◌++◌, length, flat_map, refl, arith, if◌then◌else◌, ap, ap₂, ◌∙◌, sym, subst, true≢false, nat_eq, nat_lt, get_or, append_assoc, ◌⊎◌, inl, inr}
-use Rattle.std.specs.Prelude.{sum_by}
 use Rattle.std.specs.List.{AllByRecursion}
 use Rattle.std.proofs.lemmas.Fmt.{decimal_injective}
 use Rattle.std.proofs.lemmas.List.{get_or-map, length-map}
+use Rattle.std.proofs.lemmas.List.Elements.{All-from_recursion}
 use Rattle.std.proofs.lemmas.Grind.{flat_map-append}
 use Rattle.std.proofs.Math.ListN.{get_or-eq_default}
-use Rattle.std.proofs.lemmas.Bool.{cases_lt}
+use Rattle.std.proofs.lemmas.Bool.{cases_lt, and_parts}
 use Rattle.std.proofs.lemmas.Bool.Decides.{nat_tests}
 use Rattle.dvs_base.specs.declared.kind.GovernorKind.{GovernorKind}
 use Rattle.dvs_base.specs.declared.kind.Version.{Version}
@@ -27,18 +27,18 @@ use Rattle.sched_model.specs.Demand.{published}
 use Rattle.sched_model.specs.Schedule.{IsScheduleBy, schedule}
 use Rattle.sched_model.specs.Deadlines.{IsMet}
 use Rattle.sched_model.specs.Admission.{IsWithinLimits}
-use Rattle.sched_model.specs.Notes.{notes_of, notes_before_end, energy_run, energy_idle}
+use Rattle.sched_model.specs.Notes.{notes_of}
 use Rattle.sched_model.proofs.Limits.{every_period, low_period}
 use Rattle.sched_model.proofs.ScheduleLemmas.{schedule_exists}
 use Rattle.sched_model.proofs.Service.{exec-most, exec-drop}
 use Rattle.sched_model.proofs.JobLaws.{le-due, release-due}
 use Rattle.done_lines.specs.DoneLines.{IsDoneLine, IsBy, IsToldBy, TellsDeadlines, TextTellsDeadlines}
 use Rattle.trace_reader.specs.TraceText.{whole_text}
-use Rattle.trace_text.proofs.PlainLines.{ArePlain, all-each, each-append, plain-name, some-name, and-left, and-right}
+use Rattle.trace_text.proofs.PlainLines.{ArePlain, each-append, plain-name, some-name}
 use Rattle.done_lines.specs.RunText.{task_texts}
 use Rattle.done_lines.proofs.RunLines.{IsLine, IsQuiet, before_note, lines_at, head_lines, each-below, quiet-task, quiet-before, quiet-head, task-line, lines-whole}
-use Rattle.done_lines.proofs.DoneNotes.{tells_done, tells_late, times, times-append}
-use Rattle.done_lines.proofs.DoneCounts.{told-once, told-never, none-late}
+use Rattle.done_lines.proofs.DoneNotes.{tells_done, tells_late, times}
+use Rattle.done_lines.proofs.DoneCounts.{times-end, told-once, told-never, none-late}
 
 -- a list with one element that passes
 record IsAlone {A : Type 0} (test : A → Bool) (xs : List A) : Type 0 where
@@ -86,13 +86,15 @@ other-line name k l other at_end d = true≢false (sym (ap (λ (m : List ℕ). n
 
 -- a note of another kind, or of another job, tells no end of this one
 silent : (ns : List (List ℕ)) → ((i : ℕ) → ArePlain (name_of ns i)) → (i k : ℕ) → ((j : ℕ) → name_of ns j ≡ name_of ns i → j ≡ i) → k < 2 ^ 64
-    → (n : Note) → tells_done i k n ≡ false → ((l : ℕ) → tells_done i l n ≡ true → l < 2 ^ 64) → (at_end : Pos) → IsDoneLine (name_of ns i) k at_end (note_text ns n) → ⊥
+    → (n : Note) → tells_done i k n ≡ false → ((l : ℕ) → tells_done i l n ≡ true → l < 2 ^ 64) → (at_end : Pos)
+    → IsDoneLine (name_of ns i) k at_end (note_text ns n) → ⊥
 silent ns named i k apart low n off small at_end d = go n off small (d.0, sym (note-fields ns n) ∙ d.1)
   where
     self : (m : ℕ) → nat_eq m m ≡ true
     self m = grind (arith, nat_tests)
 
-    go : (n : Note) → tells_done i k n ≡ false → ((l : ℕ) → tells_done i l n ≡ true → l < 2 ^ 64) → IsDoneLine (name_of ns i) k at_end (line (fields_of ns n)) → ⊥
+    go : (n : Note) → tells_done i k n ≡ false → ((l : ℕ) → tells_done i l n ≡ true → l < 2 ^ 64)
+        → IsDoneLine (name_of ns i) k at_end (line (fields_of ns n)) → ⊥
     go (Release t j l) off small d = other-line (name_of ns i) k (line (fields_of ns (Release t j l))) refl at_end d
     go (Speed t f num den) off small d = other-line (name_of ns i) k (line (fields_of ns (Speed t f num den))) refl at_end d
     go (Run from to j l units energy) off small d = other-line (name_of ns i) k (line (fields_of ns (Run from to j l units energy))) refl at_end d
@@ -108,18 +110,22 @@ silent ns named i k apart low n off small at_end d = go n off small (d.0, sym (n
         true≢false (sym found ∙ off)
 
 -- a line that begins with another letter tells no end
-quiet-silent : (name : List ℕ) (k : ℕ) (ls : List (List ℕ)) → AllByRecursion IsQuiet ls → AllByRecursion (λ l. (at_end : Pos) → IsDoneLine name k at_end l → ⊥) ls
+quiet-silent : (name : List ℕ) (k : ℕ) (ls : List (List ℕ)) → AllByRecursion IsQuiet ls
+    → AllByRecursion (λ l. (at_end : Pos) → IsDoneLine name k at_end l → ⊥) ls
 quiet-silent name k [] quiet = tt
 quiet-silent name k (l ∷ ls) quiet = (other-line name k l quiet.0, quiet-silent name k ls quiet.1)
 
-silent-lines : (v : Version) (ns : List (List ℕ)) → ((i : ℕ) → ArePlain (name_of ns i)) → (i k : ℕ) → ((j : ℕ) → name_of ns j ≡ name_of ns i → j ≡ i) → k < 2 ^ 64
-    → (all notes : List Note) → AllByRecursion (λ n. tells_done i k n ≡ false) notes → AllByRecursion (λ n. (l : ℕ) → tells_done i l n ≡ true → l < 2 ^ 64) notes
+silent-lines : (v : Version) (ns : List (List ℕ)) → ((i : ℕ) → ArePlain (name_of ns i)) → (i k : ℕ)
+    → ((j : ℕ) → name_of ns j ≡ name_of ns i → j ≡ i) → k < 2 ^ 64
+    → (all notes : List Note) → AllByRecursion (λ n. tells_done i k n ≡ false) notes
+    → AllByRecursion (λ n. (l : ℕ) → tells_done i l n ≡ true → l < 2 ^ 64) notes
     → AllByRecursion (λ l. (at_end : Pos) → IsDoneLine (name_of ns i) k at_end l → ⊥) (flat_map (lines_at v ns all) notes)
 silent-lines v ns named i k apart low all [] off small = tt
 silent-lines v ns named i k apart low all (n ∷ notes) off small =
     let before = before_note v ns all n in
     each-append _ (lines_at v ns all n) (flat_map (lines_at v ns all) notes)
-    (each-append _ before (note_text ns n ∷ []) (quiet-silent (name_of ns i) k before (quiet-before v ns all n)) (silent ns named i k apart low n off.0 small.0, tt))
+    (each-append _ before (note_text ns n ∷ []) (quiet-silent (name_of ns i) k before (quiet-before v ns all n))
+    (silent ns named i k apart low n off.0 small.0, tt))
     (silent-lines v ns named i k apart low all notes off.1 small.1)
 
 each-before : {A : Type 0} (P : A → Type 0) (xs ys : List A) → AllByRecursion P (xs ++ ys) → AllByRecursion P xs
@@ -131,19 +137,23 @@ each-after P [] ys e = e
 each-after P (x ∷ xs) ys e = each-after P xs ys e.1
 
 -- what holds where a test counts nothing or more
-each-counted : {A : Type 0} (tests : ℕ → A → Bool) (xs : List A) → ((l : ℕ) → 0 < times (tests l) xs → l < 2 ^ 64) → AllByRecursion (λ x. (l : ℕ) → tests l x ≡ true → l < 2 ^ 64) xs
+each-counted : {A : Type 0} (tests : ℕ → A → Bool) (xs : List A) → ((l : ℕ) → 0 < times (tests l) xs → l < 2 ^ 64)
+    → AllByRecursion (λ x. (l : ℕ) → tests l x ≡ true → l < 2 ^ 64) xs
 each-counted tests [] h = tt
 each-counted tests (x ∷ xs) h = (λ l e. h l (here l (tests l x) refl e), each-counted tests xs (λ l some. h l (there l (tests l x) refl some)))
   where
     here : (l : ℕ) (b : Bool) → tests l x ≡ b → tests l x ≡ true → 0 < times (tests l) (x ∷ xs)
-    here l b f e = let c : times (tests l) (x ∷ xs) ≡ suc (times (tests l) xs) = ap (λ (b : Bool). if b then suc (times (tests l) xs) else times (tests l) xs) e in omega (arith, c)
+    here l b f e = let c : times (tests l) (x ∷ xs) ≡ suc (times (tests l) xs) =
+        ap (λ (b : Bool). if b then suc (times (tests l) xs) else times (tests l) xs) e in omega (arith, c)
 
     there : (l : ℕ) (b : Bool) → tests l x ≡ b → 0 < times (tests l) xs → 0 < times (tests l) (x ∷ xs)
-    there l true f some = let c : times (tests l) (x ∷ xs) ≡ suc (times (tests l) xs) = ap (λ (b : Bool). if b then suc (times (tests l) xs) else times (tests l) xs) f in omega (arith, c)
-    there l false f some = let c : times (tests l) (x ∷ xs) ≡ times (tests l) xs = ap (λ (b : Bool). if b then suc (times (tests l) xs) else times (tests l) xs) f in omega (arith, c, some)
+    there l true f some = let c : times (tests l) (x ∷ xs) ≡ suc (times (tests l) xs) =
+        ap (λ (b : Bool). if b then suc (times (tests l) xs) else times (tests l) xs) f in omega (arith, c)
+    there l false f some = let c : times (tests l) (x ∷ xs) ≡ times (tests l) xs =
+        ap (λ (b : Bool). if b then suc (times (tests l) xs) else times (tests l) xs) f in omega (arith, c, some)
 
 -- what the test for a late position leaves
-is_by : (t : ℕ) (q : Pos) → (nat_lt t q.tick || (nat_eq t q.tick && nat_lt 0 q.offset)) ≡ false → IsBy t q
+pub is_by : (t : ℕ) (q : Pos) → (nat_lt t q.tick || (nat_eq t q.tick && nat_lt 0 q.offset)) ≡ false → IsBy t q
 is_by t q e = go (cases_lt q.tick t) (nat_lt t q.tick) refl (nat_lt 0 q.offset) refl
   where
     go : (q.tick < t) ⊎ (t ≤ q.tick) → (a : Bool) → nat_lt t q.tick ≡ a → (b : Bool) → nat_lt 0 q.offset ≡ b → IsBy t q
@@ -193,17 +203,6 @@ module _ (p : Plan) (dem : ℕ → ℕ → ℕ) (ask : List Tick → Frac) (lim 
       one same within (inr le) (inl under) = absurd (lim.tasks.distinct j i under lt same)
       one same within (inr le) (inr ge) = omega arith
 
-  -- the last note tells no end
-  times-end : (test : Note → Bool) → ((t run idle : ℕ) → test (End t run idle) ≡ false) → times test notes ≡ times test (notes_before_end p dem ask ticks)
-  times-end test quiet =
-      let before = notes_before_end p dem ask ticks in
-      let last = end_note in
-      times-append test before (last ∷ [])
-      ∙ (ap (λ (b : Bool). times test before + (if b then 1 else 0)) (quiet (length ticks) (sum_by energy_run before) (sum_by energy_idle before)) ∙ omega arith)
-    where
-      end_note : Note
-      end_note = End (length ticks) (sum_by energy_run (notes_before_end p dem ask ticks)) (sum_by energy_idle (notes_before_end p dem ask ticks))
-
   -- a job whose end is told was released by then
   small : (i : ℕ) → i < count p → (l : ℕ) → 0 < times (tells_done i l) notes → l < 2 ^ 64
   small i lt zero some = omega arith
@@ -216,7 +215,7 @@ module _ (p : Plan) (dem : ℕ → ℕ → ℕ) (ask : List Tick → Frac) (lim 
     | inr later ↦
         let first : 1 ≤ suc l = omega arith in
         let never = told-never p dem ask lim i (suc l) lt first ticks sched later in
-        let same = times-end (tells_done i (suc l)) (λ t run idle. refl) in
+        let same = times-end p dem ask ticks (tells_done i (suc l)) (λ t run idle. refl) in
         absurd (omega (arith, some, same, never))
   ]
 
@@ -240,14 +239,16 @@ module _ (p : Plan) (dem : ℕ → ℕ → ℕ) (ask : List Tick → Frac) (lim 
       quiet-head v p.scheduler g t (task_texts p)
       (each-below IsQuiet _ (count p) (λ i. quiet-task (name_of (names p) i) (period p i) (offset p i) ((task p i).worst)))
 
-  module _ (v : Version) (g : GovernorKind) (t : ℕ) (i k : ℕ) (lt : i < count p) (some_job : 1 ≤ k) (had : exec p ticks i k ≡ dem i k) (within : due p i k ≤ length ticks) where
+  module _ (v : Version) (g : GovernorKind) (t : ℕ) (i k : ℕ) (lt : i < count p) (some_job : 1 ≤ k) (had : exec p ticks i k ≡ dem i k)
+      (within : due p i k ≤ length ticks) where
     once : times (tells_done i k) notes ≡ 1
     once =
         let began : release p i k < length ticks = omega (arith, release-due p i k some_job, every_period p lim i, within) in
-        times-end (tells_done i k) (λ t run idle. refl) ∙ told-once p dem ask lim i k lt some_job ticks sched began had
+        times-end p dem ask ticks (tells_done i k) (λ t run idle. refl) ∙ told-once p dem ask lim i k lt some_job ticks sched began had
 
     in-time : times (tells_late (due p i k) i k) notes ≡ 0
-    in-time = times-end (tells_late (due p i k) i k) (λ t run idle. refl) ∙ none-late p dem ask lim i k lt some_job (length ticks) ticks (omega arith) sched (omega (arith, had))
+    in-time = times-end p dem ask ticks (tells_late (due p i k) i k) (λ t run idle. refl)
+        ∙ none-late p dem ask lim i k lt some_job (length ticks) ticks (omega arith) sched (omega (arith, had))
 
     low-job : k < 2 ^ 64
     low-job = omega (arith, le-due p i k (every_period p lim i), within, low)
@@ -279,21 +280,23 @@ module _ (p : Plan) (dem : ℕ → ℕ → ℕ) (ask : List Tick → Frac) (lim 
               ∙ sym (append_assoc (heading v g t) (note_lines v r.front) (note_text (names p) (Done q j l u) ∷ note_lines v r.back)));
           done = (u, note-fields (names p) (Done q j l u) ∙ ap₂ (λ m n. line (done_fields q (name_of (names p) m) n u)) (sym task) (sym job));
           in_time = by;
-          none_before = all-each (λ l. (at_end : Pos) → IsDoneLine (name_of (names p) i) k at_end l → ⊥) (heading v g t ++ note_lines v r.front)
+          none_before = All-from_recursion (λ l. (at_end : Pos) → IsDoneLine (name_of (names p) i) k at_end l → ⊥) (heading v g t ++ note_lines v r.front)
               (each-append _ (heading v g t) (note_lines v r.front) (quiet-silent (name_of (names p) i) k (heading v g t) (quiet-heading v g t))
-              (silent-lines v (names p) named i k (apart i lt) low-job notes r.front (none-pass (tells_done i k) r.front r.none_front) (each-before _ r.front (r.one ∷ r.back) all_small)));
-          none_after = all-each (λ l. (at_end : Pos) → IsDoneLine (name_of (names p) i) k at_end l → ⊥) (note_lines v r.back)
-              (silent-lines v (names p) named i k (apart i lt) low-job notes r.back (none-pass (tells_done i k) r.back r.none_back) (each-after _ r.front (r.one ∷ r.back) all_small).1);
+              (silent-lines v (names p) named i k (apart i lt) low-job notes r.front (none-pass (tells_done i k) r.front r.none_front)
+              (each-before _ r.front (r.one ∷ r.back) all_small)));
+          none_after = All-from_recursion (λ l. (at_end : Pos) → IsDoneLine (name_of (names p) i) k at_end l → ⊥) (note_lines v r.back)
+              (silent-lines v (names p) named i k (apart i lt) low-job notes r.back (none-pass (tells_done i k) r.back r.none_back)
+              (each-after _ r.front (r.one ∷ r.back) all_small).1);
         }
           where
             passes : (nat_eq i j && nat_eq k l) ≡ true
             passes = sym (ap (tells_done i k) e) ∙ r.passes
 
             task : i ≡ j
-            task = let f : nat_eq i j ≡ true = and-left (nat_eq i j) (nat_eq k l) passes in grind (arith, nat_tests)
+            task = let f : nat_eq i j ≡ true = (and_parts (nat_eq i j) (nat_eq k l) passes).0 in grind (arith, nat_tests)
 
             job : k ≡ l
-            job = let f : nat_eq k l ≡ true = and-right (nat_eq i j) (nat_eq k l) passes in grind (arith, nat_tests)
+            job = let f : nat_eq k l ≡ true = (and_parts (nat_eq i j) (nat_eq k l) passes).1 in grind (arith, nat_tests)
 
             early : (nat_lt (due p i k) q.tick || (nat_eq (due p i k) q.tick && nat_lt 0 q.offset)) ≡ false
             early =
@@ -320,4 +323,5 @@ text-tells p lim v kind dem t low met =
     let exists = schedule_exists p dem (published p kind dem) t in
     let long : length ticks ≡ t = exists.1 in
     subst (λ n. TellsDeadlines p n (whole_text v p.scheduler kind n (names p) (task_texts p) (notes_of p dem (published p kind dem) ticks))) long
-    (tells-deadlines p dem (published p kind dem) lim ticks exists.0 (exec-most p dem (published p kind dem) ticks exists.0) (omega (arith, long, low)) v kind met)
+    (tells-deadlines p dem (published p kind dem) lim ticks exists.0 (exec-most p dem (published p kind dem) ticks exists.0)
+    (omega (arith, long, low)) v kind met)

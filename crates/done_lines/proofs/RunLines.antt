@@ -86,13 +86,18 @@ quiet-head One s g t tasks h = (refl, (refl, tt))
 quiet-head Two s g t tasks h = (refl, (refl, h))
 
 pub task-line : (name : List ℕ) (period offset worst : ℕ) → ArePlain name → IsLine (task_text name period offset worst)
-task-line name period offset worst plain =
-    (codes "task" ∷ name ∷ _ ∷ _ ∷ _ ∷ [], refl, (plain-word (codes "task") refl, (plain, (plain-decimal period, (plain-decimal offset, (plain-decimal worst, tt))))))
+task-line name period offset worst plain = (
+  codes "task" ∷ name ∷ _ ∷ _ ∷ _ ∷ [],
+  refl,
+  (plain-word (codes "task") refl, (plain, (plain-decimal period, (plain-decimal offset, (plain-decimal worst, tt))))),
+)
 
 share-lines : (notes : List Note) (i : ℕ) (ns : List (List ℕ)) → AllByRecursion ArePlain ns → AllByRecursion IsLine (shares_from notes i ns)
 share-lines notes i [] plain = tt
-share-lines notes i (name ∷ ns) plain =
-    ((codes "energy" ∷ name ∷ _ ∷ [], refl, (plain-word (codes "energy") refl, (plain.0, (plain-decimal (energy_of_task notes i), tt)))), share-lines notes (i + 1) ns plain.1)
+share-lines notes i (name ∷ ns) plain = (
+  (codes "energy" ∷ name ∷ _ ∷ [], refl, (plain-word (codes "energy") refl, (plain.0, (plain-decimal (energy_of_task notes i), tt)))),
+  share-lines notes (i + 1) ns plain.1,
+)
 
 module _ (ns : List (List ℕ)) (named : (i : ℕ) → ArePlain (name_of ns i)) (all : List Note) where
   note-line : (n : Note) → IsLine (note_text ns n)

@@ -1,8 +1,9 @@
 -- The last span of a schedule begins at a decision, and its units are held by the latest jobs.
-use Rattle.std.proofs.Common.{◌≡◌, ℕ, zero, suc, ◌+◌, ◌<◌, ◌≤◌, Bool, true, false, ◌||◌, ◌&&◌, List, [], ◌∷◌, length, replicate, flat_map, refl, arith, if◌then◌else◌, ap, ◌∙◌, sym, true≢false, nat_eq}
+use Rattle.std.proofs.Common.{◌≡◌, ℕ, zero, suc, ◌+◌, ◌<◌, ◌≤◌, Bool, true, false, ◌&&◌, List, [], ◌∷◌, length, replicate, flat_map, refl, arith, if◌then◌else◌, ap, ◌∙◌, sym, true≢false, nat_eq}
 use Rattle.std.specs.Prelude.{count_by}
 use Rattle.std.specs.List.{AllByRecursion}
 use Rattle.std.proofs.lemmas.Bool.Decides.{nat_tests}
+use Rattle.std.proofs.lemmas.Bool.{or_parts, false_from_ne_true}
 use Rattle.grid_fraction.specs.declared.Frac.{Frac}
 use Rattle.grid_fraction.proofs.Counts.{count-append}
 use Rattle.grid_fraction.proofs.Searches.{any_below-false}
@@ -14,21 +15,12 @@ use Rattle.sched_model.specs.Ticks.{Tick, exec, share, left}
 use Rattle.sched_model.specs.Priority.{key_of}
 use Rattle.sched_model.specs.Order.{in_order}
 use Rattle.sched_model.specs.Decision.{is_decision}
-use Rattle.sched_model.specs.Segments.{same_holder, Span, spans_of, lengthened, units_of, Piece, before_pieces, pieces_of}
+use Rattle.sched_model.specs.Segments.{same_holder, Span, spans_of, lengthened, units_of}
 use Rattle.sched_model.specs.Schedule.{IsNext, IsScheduleBy}
-use Rattle.sched_model.specs.States.{prior_row}
 use Rattle.sched_model.proofs.LevelSums.{share-most}
 use Rattle.sched_model.proofs.Joining.{due_released, same_job}
 use Rattle.sched_model.proofs.OrderLemmas.{AreBelow, in_order-below}
-use Rattle.trace_text.proofs.PlainLines.{each-append}
-
-pub or-left : (a b : Bool) → (a || b) ≡ false → a ≡ false
-or-left true b e = absurd (true≢false e)
-or-left false b e = refl
-
-each-replicate : {A : Type 0} (P : A → Type 0) (n : ℕ) (x : A) → P x → AllByRecursion P (replicate n x)
-each-replicate P zero x h = tt
-each-replicate P (suc n) x h = (h, each-replicate P n x h)
+use Rattle.trace_text.proofs.PlainLines.{each-append, each-replicate}
 
 -- nobody, or the latest job of a task at a tick, which isn't job 0
 abbrev pub IsNow : Plan → ℕ → Holder → Type 0
@@ -49,31 +41,21 @@ none-held p t i (h ∷ us) each = omega (arith, count-append (same_holder (Held 
         go true false e = refl
         go true true e = (let some = now.2 in absurd (grind (arith, nat_tests)))
 
--- the segments of such units
-pub pieces-now : (P : Holder → Type 0) (us : List Holder) → AllByRecursion P us → AllByRecursion (λ (r : Piece). P r.holder) (pieces_of us)
-pieces-now P [] each = tt
-pieces-now P (h ∷ us) each = before (pieces_of us) (pieces-now P us each.1)
-  where
-    before : (rs : List Piece) → AllByRecursion (λ (r : Piece). P r.holder) rs → AllByRecursion (λ (r : Piece). P r.holder) (before_pieces h rs)
-    before [] e = (each.0, tt)
-    before (r ∷ rs) e = go (same_holder h r.holder)
-      where
-        go : (b : Bool) → AllByRecursion (λ (r : Piece). P r.holder) (if b then record { holder = h; units = r.units + 1 } ∷ rs else record { holder = h; units = 1 } ∷ r ∷ rs)
-        go true = (each.0, e.1)
-        go false = (each.0, e)
+module _ (p : Plan) (dem : ℕ → ℕ → ℕ) (periods : (i : ℕ) → 0 < period p i) where
+  -- the latest job of a task stays where none of it is released
+  pub stays-unreleased : (x : Tick) (past : List Tick) (i : ℕ) → releases_at p i (length (x ∷ past)) ≡ false
+      → latest p i (length (x ∷ past)) ≡ latest p i (length past)
+  stays-unreleased x past i none =
+      same_job p dem periods x past i (false_from_ne_true _ (λ q. true≢false (sym (due_released p dem periods (x ∷ past) i true q) ∙ none)))
+
+  -- the latest jobs stay where there is no decision
+  pub stays : (x : Tick) (past : List Tick) → is_decision p dem (x ∷ past) ≡ false → (i : ℕ) → i < count p
+      → latest p i (length (x ∷ past)) ≡ latest p i (length past)
+  stays x past e i lt =
+      stays-unreleased x past i
+      (any_below-false (count p) (λ j. releases_at p j (length (x ∷ past))) (or_parts (is_release p (length (x ∷ past))) _ e).0 i lt)
 
 module _ (p : Plan) (dem : ℕ → ℕ → ℕ) (ask : List Tick → Frac) (periods : (i : ℕ) → 0 < period p i) (needless : (i : ℕ) → dem i 0 ≡ 0) where
-  -- the latest jobs stay where there is no decision
-  pub stays : (x : Tick) (past : List Tick) → is_decision p dem (x ∷ past) ≡ false → (i : ℕ) → i < count p → latest p i (length (x ∷ past)) ≡ latest p i (length past)
-  stays x past e i lt = same_job p dem periods x past i (not_due (nat_eq (prior_row p dem (x ∷ past) i).deadline (length (x ∷ past))) refl)
-    where
-      none : releases_at p i (length (x ∷ past)) ≡ false
-      none = any_below-false (count p) (λ j. releases_at p j (length (x ∷ past))) (or-left (is_release p (length (x ∷ past))) _ e) i lt
-
-      not_due : (b : Bool) → nat_eq (prior_row p dem (x ∷ past) i).deadline (length (x ∷ past)) ≡ b → nat_eq (prior_row p dem (x ∷ past) i).deadline (length (x ∷ past)) ≡ false
-      not_due true q = absurd (true≢false (sym (due_released p dem periods (x ∷ past) i true q) ∙ none))
-      not_due false q = q
-
   given-now : (t : ℕ) (given : ℕ → ℕ) (order : List ℕ) → AreBelow (count p) order → ((j : ℕ) → j < count p → latest p j t ≡ 0 → given j ≡ 0)
       → AllByRecursion (IsNow p t) (flat_map (λ i. replicate (given i) (Held i (latest p i t))) order)
   given-now t given [] below idle = tt
@@ -88,7 +70,8 @@ module _ (p : Plan) (dem : ℕ → ℕ → ℕ) (ask : List Tick → Frac) (peri
   -- a legal tick gives job 0 nothing
   idle-none : (past : List Tick) (x : Tick) → IsNext p dem ask past x → (j : ℕ) → j < count p → latest p j (length past) ≡ 0 → share x j ≡ 0
   idle-none past x next j lt e =
-      let own : share x j ≤ left p dem past j = share-most (count p) (key_of p.scheduler p (length past)) ((point p x.entry).speed) (left p dem past) (share x) next.legal j lt in
+      let own : share x j ≤ left p dem past j = share-most (count p) (key_of p.scheduler p (length past)) ((point p x.entry).speed)
+      (left p dem past) (share x) next.legal j lt in
       let needs : dem j (latest p j (length past)) ≡ 0 = ap (dem j) e ∙ needless j in
       omega (arith, own, needs)
 
@@ -109,10 +92,11 @@ module _ (p : Plan) (dem : ℕ → ℕ → ℕ) (ask : List Tick → Frac) (peri
   Begins past [] = ⊥
   Begins past (s ∷ spans) = Head past s
 
-  later-now : (y : Tick) (past : List Tick) → is_decision p dem (y ∷ past) ≡ false → (us : List Holder) → AllByRecursion (IsNow p (length past)) us → AllByRecursion (IsNow p (length (y ∷ past))) us
+  later-now : (y : Tick) (past : List Tick) → is_decision p dem (y ∷ past) ≡ false → (us : List Holder)
+      → AllByRecursion (IsNow p (length past)) us → AllByRecursion (IsNow p (length (y ∷ past))) us
   later-now y past e [] each = tt
   later-now y past e (Nobody ∷ us) each = (tt, later-now y past e us each.1)
-  later-now y past e (Held i k ∷ us) each = ((each.0.0, each.0.1 ∙ sym (stays y past e i each.0.0), each.0.2), later-now y past e us each.1)
+  later-now y past e (Held i k ∷ us) each = ((each.0.0, each.0.1 ∙ sym (stays p dem periods y past e i each.0.0), each.0.2), later-now y past e us each.1)
 
   longer : (x y : Tick) (past : List Tick) (spans : List Span) → is_decision p dem (y ∷ past) ≡ false → IsNext p dem ask (y ∷ past) x
       → Begins past spans → Begins (y ∷ past) (lengthened (units_of p (y ∷ past) x) spans)

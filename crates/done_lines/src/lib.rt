@@ -5,16 +5,3 @@
 //! and completions together, and no more completions than releases (`specs/LineCounts.antt`), which the kernel's calls
 //! say of each run.
 #![tactic(auto)]
-
-ghost use Rattle.done_lines.specs.DoneLines.{TextTellsDeadlines};
-
-use sched_model::Admitted;
-
-/// In either version, for each governor's kind, all demands of the jobs and each length up to 2^40 ticks, the text of a
-/// run that meets its deadlines has, for each job that is due within it, exactly one `done` line, at a position not after
-/// the deadline.
-pub fn told_deadlines(plan: &Admitted)
-    ensures { TextTellsDeadlines plan.now }
-{
-    plan.known();
-}

@@ -5,9 +5,6 @@ use Rattle.std.proofs.lemmas.Fmt.{length-decimal-le, length-decimal-le_wide}
 use Rattle.dvs_base.specs.declared.note.Pos.{Pos}
 use Rattle.dvs_base.specs.Parts.{position_text, fraction_text}
 
-pub length-decimal_u32 : (n : ℕ) → n < 2 ^ 32 → length (decimal n) ≤ 10
-length-decimal_u32 n fits = length-decimal-le 10 n (omega arith) (omega arith) (omega arith)
-
 pub length-decimal_u64 : (n : ℕ) → n < 2 ^ 64 → length (decimal n) ≤ 20
 length-decimal_u64 n fits = length-decimal-le 20 n (omega arith) (omega arith) fits
 

@@ -1,3 +1,4 @@
+pub mod Widths
 pub mod Text
 pub mod Outside
 pub mod Memory

@@ -1,6 +1,7 @@
 -- What the words of a plan say: its scheduler, its governor and its number of ticks.
-use Rattle.std.specs.Prelude.{ℕ, ◌^◌, ◌&&◌, List, codes, nat_le, Option, Some, None, if◌then◌else◌}
+use Rattle.std.specs.Prelude.{ℕ, ◌&&◌, List, codes, nat_le, Option, Some, None, if◌then◌else◌}
 use Rattle.std.specs.Str.{bytes_eq}
+use Rattle.dvs_base.specs.Widths.{u64_end}
 use Rattle.dvs_base.specs.Text.{number_below}
 use Rattle.dvs_base.specs.declared.limits.TheConstants.{MOST_TICKS}
 use Rattle.dvs_base.specs.declared.kind.Scheduler.{Scheduler}
@@ -29,4 +30,4 @@ ticks_from (Some n) = if nat_le 1 n && nat_le n MOST_TICKS then Some n else None
 
 -- the number of ticks that a word is
 abbrev pub ticks_of : List ℕ → Option ℕ
-ticks_of word = ticks_from (number_below (2 ^ 64) word)
+ticks_of word = ticks_from (number_below u64_end word)

@@ -26,7 +26,7 @@ mod void;
 
 pub use host::{HostShelf, HostSink};
 pub use kind::{GovernorKind, Scheduler, Version};
-pub use limits::{LONGEST_FILE, LONGEST_TRACE, MOST_JOBS, MOST_TICKS};
+pub use limits::{LONGEST_FILE, LONGEST_LINE, LONGEST_TRACE, MOST_JOBS, MOST_LINES, MOST_TICKS};
 pub use line::{Line, put_num};
 pub use memory::{FailAt, MemShelf, MemSink};
 pub use name::{Name, Short};

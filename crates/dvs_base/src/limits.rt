@@ -11,3 +11,9 @@ pub const LONGEST_FILE: u64 = 1 << 24;
 
 /// The most bytes of a trace file: 256 MiB.
 pub const LONGEST_TRACE: u64 = 1 << 28;
+
+/// The most lines of a trace.
+pub const MOST_LINES: u64 = 800_000;
+
+/// The most bytes of a line of a trace, without its line feed.
+pub const LONGEST_LINE: usize = 255;

@@ -1,7 +1,7 @@
 -- The next deadlines of the tasks in a queue: of one entry more, and of the first entry.
 use Rattle.std.proofs.Common.{◌≡◌, ◌≢◌, ℕ, ◌+◌, ◌<◌, ◌≤◌, Bool, true, false, nat_eq, refl, sym, ap, subst, ◌∙◌, arith, if◌then◌else◌, List, [], ◌∷◌, Some, None, slice_get}
 use Rattle.std.specs.List.{AllByRecursion}
-use Rattle.std.proofs.lemmas.Bool.{eqb-true, eqb-false}
+use Rattle.std.proofs.lemmas.Bool.{eq-eqb, eqb-true, eqb-false}
 use Rattle.std.proofs.lemmas.Bool.Decides.{nat_tests}
 use Rattle.grid_fraction.specs.Numbers.{least_below}
 use Rattle.grid_fraction.proofs.Least.{least-below, least-above}
@@ -39,9 +39,6 @@ due_of-placed before e (x ∷ xs) i a = go (before e x) (due_of-placed before e 
 due-order : (e x : Entry) → due_before e x ≡ true → e.due ≤ x.due
 due-order e x b = grind (arith, nat_tests)
 
-same-test : (i : ℕ) → nat_eq i i ≡ true
-same-test i = grind (arith, nat_tests)
-
 -- an entry that comes before others is due no later than they are
 others-later : (e : Entry) (xs : List Entry) (i : ℕ)
     → AllByRecursion (λ x. x.task ≢ e.task → due_before e x ≡ true) xs → i ≢ e.task → 1 ≤ due_of xs i
@@ -75,7 +72,7 @@ module _ (q : QueueOf) (c : IsCalendar q) (e : Entry) (rest : List Entry) (is : 
 
   pub first-due : due_of q.entries e.task ≡ e.due
   first-due =
-      due-was e.task ∙ ap (λ (b : Bool). if b then e.due else due_of rest e.task) (same-test e.task)
+      due-was e.task ∙ ap (λ (b : Bool). if b then e.due else due_of rest e.task) (eq-eqb e.task e.task refl)
 
   pub first-below : e.task < q.limit
   first-below =

@@ -1,10 +1,10 @@
 -- The deadlines that rows give, with the periods of the other tasks, are deadlines of the tasks.
-use Rattle.std.proofs.Common.{◌≡◌, ℕ, ◌<◌, ◌≤◌, List, length, Option, Some, None, refl, sym, subst, arith}
+use Rattle.std.proofs.Common.{◌≡◌, ℕ, ◌<◌, ◌≤◌, List, length, Option, Some, None, refl, sym, ◌∙◌, subst, arith}
+use Rattle.std.proofs.lemmas.Option.{none-some}
 use Rattle.std.specs.Prelude.{unwrap_or}
 use Rattle.task_model.specs.declared.task.Task.{Task}
 use Rattle.task_model.specs.Tasks.{IsTaskSet, task_at}
-use Rattle.sched_model.proofs.ScheduleLemmas.{length-list_below, get_or-list_below}
-use Rattle.sched_model.proofs.Tables.{get-table}
+use Rattle.sched_model.proofs.Tables.{length-list_below, get-table}
 use Rattle.edf_demand.specs.Deadlines.{AreFor}
 use Rattle.edf_demand.specs.DeadlineFile.{given_to, none_given, deadline_at, all_deadlines, AreGiven}
 
@@ -12,15 +12,11 @@ use Rattle.edf_demand.specs.DeadlineFile.{given_to, none_given, deadline_at, all
 none-at : (tasks : List Task) (i : ℕ) → i < length tasks → given_to (none_given tasks) i ≡ None
 none-at tasks i lt = get-table (length tasks) (λ k. None) i None lt
 
-not-given : (o : Option ℕ) (n : ℕ) → o ≡ None → o ≡ Some n → ⊥
-not-given None n e f = absurd (cc)
-not-given (Some m) n e f = absurd (cc)
-
 pub none-are : (tasks : List Task) → AreGiven tasks (none_given tasks)
 none-are tasks = record {
   one_each = length-list_below (length tasks) (λ i. None);
-  some = λ i n lt e. absurd (not-given (given_to (none_given tasks) i) n (none-at tasks i lt) e);
-  within = λ i n lt e. absurd (not-given (given_to (none_given tasks) i) n (none-at tasks i lt) e);
+  some = λ i n lt e. absurd (none-some n (sym (none-at tasks i lt) ∙ e));
+  within = λ i n lt e. absurd (none-some n (sym (none-at tasks i lt) ∙ e));
 }
 
 module _ (tasks : List Task) (set : IsTaskSet tasks) (given : List (Option ℕ)) (are : AreGiven tasks given) where
@@ -33,9 +29,9 @@ module _ (tasks : List Task) (set : IsTaskSet tasks) (given : List (Option ℕ))
   all-for = record {
     one_each = length-list_below (length tasks) (deadline_at tasks given);
     some = λ i lt.
-        let is = get_or-list_below (length tasks) (deadline_at tasks given) i lt in
+        let is = get-table (length tasks) (deadline_at tasks given) i 0 lt in
         subst (λ (n : ℕ). 1 ≤ n) (sym is) (in-range i lt (given_to given i) refl).0;
     within = λ i lt.
-        let is = get_or-list_below (length tasks) (deadline_at tasks given) i lt in
+        let is = get-table (length tasks) (deadline_at tasks given) i 0 lt in
         subst (λ (n : ℕ). n ≤ (task_at tasks i).period) (sym is) (in-range i lt (given_to given i) refl).1;
   }

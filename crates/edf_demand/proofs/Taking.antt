@@ -1,13 +1,13 @@
 -- Taking the jobs that are due at a tick, one after another.
-use Rattle.std.proofs.Common.{◌≡◌, ◌≢◌, ◌⊎◌, inl, inr, ℕ, zero, suc, ◌+◌, ◌*◌, ◌^◌, ◌<◌, ◌≤◌, Bool, true, false, nat_eq, if◌then◌else◌, refl, sym, ◌∙◌, ap, arith}
-use Rattle.std.proofs.lemmas.Bool.{eqb-true}
+use Rattle.std.proofs.Common.{◌≡◌, ◌≢◌, ◌⊎◌, inl, inr, ℕ, ◌+◌, ◌*◌, ◌^◌, ◌<◌, ◌≤◌, Bool, true, false, nat_eq, if◌then◌else◌, refl, sym, ◌∙◌, ap, arith}
+use Rattle.std.proofs.lemmas.Bool.{eq-eqb, eqb-true}
 use Rattle.std.proofs.lemmas.Bool.Decides.{nat_tests}
 use Rattle.grid_fraction.specs.Numbers.{sum_below, sum_where, least_below}
-use Rattle.grid_fraction.proofs.Sums.{sum_below-same, sum_below-add, sum_below-own, sum_below-zero, sum_where-le}
+use Rattle.grid_fraction.proofs.Sums.{sum_below-limit, sum_below-same, sum_below-add, sum_below-own, sum_below-zero, sum_where-le}
 use Rattle.grid_fraction.proofs.Least.{least-below, least-above}
 use Rattle.sched_model.specs.Plan.{Plan, count, worst, period}
 use Rattle.sched_model.specs.Admission.{IsWithinLimits}
-use Rattle.sched_model.proofs.Limits.{some_task, every_period}
+use Rattle.sched_model.proofs.Limits.{some_task, every_period, low_worst}
 use Rattle.edf_demand.specs.Walk.{Moved, TakesFirst}
 
 -- the work that is due at `now`, by the tasks' next deadlines
@@ -39,22 +39,14 @@ stayed a b now c same = rw same (omega arith)
 not-due : (a now : ℕ) → now < a → nat_eq a now ≡ false
 not-due a now later = grind (arith, nat_tests)
 
-is-due : (a now : ℕ) → a ≡ now → nat_eq a now ≡ true
-is-due a now same = grind (arith, nat_tests)
-
 module _ (p : Plan) (lim : IsWithinLimits p) where
-  low-sum : (m : ℕ) → m ≤ count p → sum_below m (worst p) ≤ m * 2 ^ 61
-  low-sum zero le = omega arith
-  low-sum (suc m) le =
-      omega (arith, low-sum m (omega arith), (lim.tasks.each m (omega arith)).low_worst, lim.machine.low_charge)
-
   -- the work that is due at one tick is low
   pub low-due : (next : ℕ → ℕ) (now : ℕ) → due_at p next now ≤ 64 * 2 ^ 61
   low-due next now =
       omega (
         arith,
         sum_where-le (count p) (λ i. nat_eq (next i) now) (worst p),
-        low-sum (count p) (omega arith),
+        sum_below-limit (count p) (2 ^ 61) (worst p) (low_worst p lim),
         lim.tasks.few,
       )
 
@@ -137,5 +129,5 @@ module _ (p : Plan) (lim : IsWithinLimits p) where
       | inl stays ↦
           let off : nat_eq (old i) now ≡ false = not-due (old i) now (omega (arith, stays, all-later i lt)) in
           rw off stays
-      | inr goes ↦ (let on : nat_eq (old i) now ≡ true = is-due (old i) now goes.0 in rw on goes.1)
+      | inr goes ↦ (let on : nat_eq (old i) now ≡ true = eq-eqb (old i) now goes.0 in rw on goes.1)
     ]

@@ -7,10 +7,10 @@ use Rattle.grid_fraction.specs.declared.Frac.{Frac}
 use Rattle.grid_fraction.specs.Fraction.{is_greater}
 use Rattle.grid_fraction.specs.Numbers.{sum_below, sum_where, least_below}
 use Rattle.grid_fraction.proofs.Sums.{sum_below-le, sum_below-same, sum_below-add}
-use Rattle.grid_fraction.proofs.Least.{least-below, least-above}
+use Rattle.grid_fraction.proofs.Least.{least-below, least-above, least-found}
 use Rattle.sched_model.specs.Plan.{Plan, count, worst, period, hyper}
 use Rattle.sched_model.specs.Admission.{IsWithinLimits}
-use Rattle.sched_model.proofs.Limits.{some_task, every_period, some_hyper, period_divides}
+use Rattle.sched_model.proofs.Limits.{some_task, every_period, low_worst, some_hyper, period_divides}
 use Rattle.sched_model.proofs.LevelSums.{sum_below-times, sum_below-term}
 use Rattle.edf_demand_laws.specs.Constrained.{IsConstrained, absolute}
 use Rattle.edf_demand_laws.specs.ProcessorDemand.{jobs_due, work_due, processor_demand, IsDeadline, IsConstrainedDemand}
@@ -19,17 +19,6 @@ use Rattle.edf_demand_laws.proofs.AllSpans.{absolute-suc, none-demand}
 use Rattle.edf_demand.specs.Walk.{next_deadline, Moved}
 use Rattle.edf_demand.specs.Answers.{hyper_jobs}
 use Rattle.edf_demand.proofs.NextDeadline.{products, next-later, due-now, due-later}
-
--- the least of some values is one of them
-least-found : (n : ℕ) (f : ℕ → ℕ) → 0 < n → (i : ℕ) × (i < n) × (f i ≡ least_below n f)
-least-found zero f some = absurd (omega arith)
-least-found (suc zero) f some = (0, omega arith, refl)
-least-found (suc (suc n)) f some =
-    let r = least-found (suc n) f (omega arith) in
-    elim (cases_lt (f (suc n)) (least_below (suc n) f)) [
-      | inl less ↦ (suc n, omega arith, omega arith)
-      | inr most ↦ (r.0, omega (arith, r.1), omega (arith, r.2))
-    ]
 
 -- of the absolute deadlines up to t, h(d)/d is greatest at the deadline best.den
 pub record IsBusiest (p : Plan) (relative : ℕ → ℕ) (t : ℕ) (best : Frac) : Type 0 where
@@ -57,14 +46,8 @@ module _ (p : Plan) (lim : IsWithinLimits p) (relative : ℕ → ℕ) (con : IsC
   abbrev due_by : ℕ → ℕ → ℕ
   due_by d i = jobs_due (period p i) (relative i) d
 
-  periods : (i : ℕ) → 0 < period p i
-  periods = every_period p lim
-
   abbrev h : ℕ → ℕ
   h = processor_demand p relative
-
-  low-worst : (i : ℕ) → i < count p → worst p i ≤ 2 ^ 61
-  low-worst i lt = omega (arith, (lim.tasks.each i lt).low_worst, lim.machine.low_charge)
 
   some-worst : (i : ℕ) → i < count p → 1 ≤ worst p i
   some-worst i lt = omega (arith, (lim.tasks.each i lt).some_worst)
@@ -79,9 +62,9 @@ module _ (p : Plan) (lim : IsWithinLimits p) (relative : ℕ → ℕ) (con : IsC
       let q = hyper p / period p i in
       let whole : q * period p i ≡ hyper p = period_divides p lim i lt in
       let before : (r : ℕ) → relative i + r * period p i ≤ d → r < q =
-      λ r by. products (period p i) (relative i) (periods i) r q (omega (arith, con.some i lt)) in
+      λ r by. products (period p i) (relative i) (every_period p lim i) r q (omega (arith, con.some i lt)) in
       let jobs : due_by d i ≤ q = jobs_due-most (period p i) (relative i) d q before in
-      omega (arith, mul-le-mul_right (worst p i) jobs, mul-le-mul_left q (low-worst i lt)) in
+      omega (arith, mul-le-mul_right (worst p i) jobs, mul-le-mul_left q (low_worst p lim i lt)) in
       let each = sum_below-le (count p) (work_due p relative d) most task in
       omega (arith, each, sum_below-times (count p) (2 ^ 61) (λ i. hyper p / period p i))
 
@@ -94,7 +77,7 @@ module _ (p : Plan) (lim : IsWithinLimits p) (relative : ℕ → ℕ) (con : IsC
       go (suc q) some e =
           let i = at.task in
           let is = absolute-suc p relative i q (con.first i at.below) in
-          let by : q < due_by d i = jobs_due-above (period p i) (relative i) d q (periods i) (omega (arith, is)) in
+          let by : q < due_by d i = jobs_due-above (period p i) (relative i) d q (every_period p lim i) (omega (arith, is)) in
           let one : 1 ≤ due_by d i = omega (arith, by) in
           let term = sum_below-term (count p) (work_due p relative d) i at.below in
           omega (arith, term, mul-le-mul_right (worst p i) one, some-worst i at.below)
@@ -156,7 +139,7 @@ module _ (p : Plan) (lim : IsWithinLimits p) (relative : ℕ → ℕ) (con : IsC
     now-later =
         let each : (i : ℕ) → i < count p → w.taken + 1 ≤ next i =
         λ i lt.
-        let later = next-later (period p i) (relative i) (periods i) w.taken in
+        let later = next-later (period p i) (relative i) (every_period p lim i) w.taken in
         omega (arith, later, w.nexts i lt) in
         let above : w.taken + 1 ≤ least_below (count p) next =
         least-above (count p) next (w.taken + 1) (some_task p lim) each in
@@ -201,14 +184,14 @@ module _ (p : Plan) (lim : IsWithinLimits p) (relative : ℕ → ℕ) (con : IsC
         go : (b : Bool) → nat_eq (next i) now ≡ b → due_by now i ≡ due_by w.taken i + (if b then 1 else 0)
         go true e =
             let same = eqb-true (next i) now e in
-            due-now (period p i) (relative i) (periods i) w.taken now (omega (arith, same, w.nexts i lt))
+            due-now (period p i) (relative i) (every_period p lim i) w.taken now (omega (arith, same, w.nexts i lt))
         go false e =
             let other : next i ≡ now → ⊥ = eqb-false (next i) now e in
             let before : now < next_deadline p relative w.taken i = (elim (eq-or-lt_of_le (now-first i lt)) [
               | inl same ↦ absurd (other (omega (arith, same, w.nexts i lt)))
               | inr less ↦ less
             ]) in
-            let same = due-later (period p i) (relative i) (periods i) w.taken now (omega (arith, now-later)) before in
+            let same = due-later (period p i) (relative i) (every_period p lim i) w.taken now (omega (arith, now-later)) before in
             omega (arith, same)
 
     pub work-next : work + sum_where (count p) (λ i. nat_eq (next i) now) (worst p)
@@ -294,7 +277,7 @@ module _ (p : Plan) (lim : IsWithinLimits p) (relative : ℕ → ℕ) (con : IsC
         follows i lt true e =
             let same = eqb-true (next i) now e in
             let more : due_by now i ≡ due_by w.taken i + 1 =
-            due-now (period p i) (relative i) (periods i) w.taken now (omega (arith, same, w.nexts i lt)) in
+            due-now (period p i) (relative i) (every_period p lim i) w.taken now (omega (arith, same, w.nexts i lt)) in
             let product : due_by now i * period p i ≡ (due_by w.taken i + 1) * period p i =
             ap (λ (m : ℕ). m * period p i) more in
             omega (arith, same, w.nexts i lt, product)
@@ -319,7 +302,7 @@ module _ (p : Plan) (lim : IsWithinLimits p) (relative : ℕ → ℕ) (con : IsC
       where
         beyond : (i : ℕ) → i < count p → (b : Bool) → nat_eq (next i) now ≡ b
             → now + 1 ≤ (if b then now + period p i else next i)
-        beyond i lt true e = omega (arith, periods i)
+        beyond i lt true e = omega (arith, every_period p lim i)
         beyond i lt false e =
             let other : next i ≡ now → ⊥ = eqb-false (next i) now e in
             elim (eq-or-lt_of_le (now-first i lt)) [

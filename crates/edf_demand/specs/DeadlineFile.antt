@@ -1,7 +1,8 @@
 -- What a deadline file means: the relative deadline of each task, or the first refusal.
-use Rattle.std.specs.Prelude.{◌≡◌, ℕ, ◌+◌, ◌^◌, ◌<◌, ◌≤◌, ◌==◌, ◌&&◌, ◌||◌, Bool, false, nat_lt, List, [], ◌∷◌, length, codes, slice_set, Option, Some, None, unwrap_or, Result, Ok, Err, if◌then◌else◌}
+use Rattle.std.specs.Prelude.{◌≡◌, ℕ, ◌+◌, ◌<◌, ◌≤◌, ◌==◌, ◌&&◌, ◌||◌, Bool, false, nat_lt, List, [], ◌∷◌, length, codes, slice_set, Option, Some, None, unwrap_or, Result, Ok, Err, if◌then◌else◌}
 use Rattle.std.specs.List.{slice_index_or}
 use Rattle.std.specs.Str.{bytes_eq}
+use Rattle.dvs_base.specs.Widths.{u64_end}
 use Rattle.dvs_base.specs.Checks.{and_then}
 use Rattle.dvs_base.specs.Text.{number_below, short_of}
 use Rattle.csv.specs.Reading.{default_config, records, strip_bom}
@@ -37,7 +38,7 @@ abbrev pub row_of : List Task → ℕ → List (List ℕ) → Result (ℕ × ℕ
 row_of tasks row fields =
     and_then (fields_from row (length fields) (two_of fields)) (λ two.
     and_then (task_from row two.0 (place_of tasks two.0)) (λ task.
-    and_then (number_from row (number_below (2 ^ 64) two.1)) (λ number.
+    and_then (number_from row (number_below u64_end two.1)) (λ number.
     and_then (deadline_from row (task_at tasks task).period number) (λ deadline.
     Ok (task, deadline)))))
 

@@ -1,5 +1,8 @@
 // Why a deadline file is refused.
-use dvs_base::Short;
+ghost use Rattle.std.specs.Prelude.{◌≡◌};
+ghost use Rattle.edf_demand.specs.declared.fault.DeadlineFault.TheVariants as fault;
+
+use dvs_base::{NoMemory, Short};
 
 /// The first thing that a deadline file has wrong. Rows count from 1, tasks from 0.
 #[derive(Clone, Copy, Debug, PartialEq, Eq)]
@@ -18,4 +21,12 @@ pub enum DeadlineFault {
     Repeated { row: u64, task: u32 },
     /// Memory ran out.
     NoMemory,
+}
+
+impl From<NoMemory> for DeadlineFault {
+    ghost from_gives = { λ _ e. e ≡ fault.NoMemory };
+
+    fn from(_e: NoMemory) -> DeadlineFault {
+        DeadlineFault::NoMemory
+    }
 }

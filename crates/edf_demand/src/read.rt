@@ -1,10 +1,9 @@
 // Deadline files.
-ghost use Rattle.std.specs.Prelude.{ℕ, codes, ◌≡◌, ◌≤◌, ◌<◌, ◌^◌, ◌+◌, ◌∷◌, [], Ok, Some, true, false, length, IfOk, IfErr, OnOk};
+ghost use Rattle.std.specs.Prelude.{codes, ◌≡◌, ◌≤◌, ◌<◌, length, IfOk, OnOk};
 ghost use Rattle.csv.specs.Records.{fields_of};
-ghost use Rattle.csv_text.specs.Records.{IsPlain, records_left};
+ghost use Rattle.csv_text.specs.Records.{IsPlain, AreCountedFrom, records_left};
 ghost use Rattle.dvs_base.specs.Checks.{IsUnlessMemory};
 ghost use Rattle.task_model.specs.Tasks.{task_at};
-ghost use Rattle.edf_demand.specs.declared.fault.DeadlineFault.TheVariants as fault;
 ghost use Rattle.edf_demand.specs.Deadlines.{AreFor};
 ghost use Rattle.edf_demand.specs.DeadlineFile.{is_header, row_of, with_row, given_from, none_given, all_deadlines, after_header, given_in, deadline_file, AreGiven};
 
@@ -81,20 +80,6 @@ fn add_row(
     Ok(())
 }
 
-// Reads the fields of the next record. False where there is none.
-fn next_row(reader: &mut Reader<&[u8]>, fields: &mut ByteRecord) -> Result<bool, DeadlineFault>
-    requires { IsPlain reader.old }
-    ensures some { result ≡ Ok true → records_left reader.old ≡ fields_of fields.new ∷ records_left reader.new }
-    ensures plain { result ≡ Ok true → IsPlain reader.new }
-    ensures none { result ≡ Ok false → records_left reader.old ≡ [] }
-    ensures err { IfErr result (λ e. e ≡ fault.NoMemory) }
-{
-    match next_record(reader, fields) {
-        Ok(found) => Ok(found),
-        Err(_) => Err(DeadlineFault::NoMemory),
-    }
-}
-
 // Takes the header.
 fn read_header(reader: &mut Reader<&[u8]>, fields: &mut ByteRecord) -> Result<(), DeadlineFault>
     requires { IsPlain reader.old }
@@ -103,22 +88,21 @@ fn read_header(reader: &mut Reader<&[u8]>, fields: &mut ByteRecord) -> Result<()
     ensures plain { OnOk result (IsPlain reader.new) }
     ensures fewer { OnOk result (length (records_left reader.new) < length (records_left reader.old)) }
 {
-    if next_row(reader, fields)? && is_header(fields) {
+    if next_record(reader, fields)? && is_header(fields) {
         return Ok(());
     }
     Err(DeadlineFault::Header)
 }
 
 // A place for each task, with no deadline yet.
-fn none_given(alloc: Global, tasks: &TaskSet) -> Result<Vec<Option<u64>>, DeadlineFault>
+fn none_given(alloc: Global, tasks: &TaskSet) -> Result<Vec<Option<u64>>, NoMemory>
     ensures none { IfOk result (λ v. v.items ≡ none_given tasks.now) }
     ensures given { IfOk result (λ v. AreGiven tasks.now v.items) }
-    ensures err { IfErr result (λ e. e ≡ fault.NoMemory) }
 {
     let mut given = Vec::new(alloc);
     for _task in 0..tasks.count() {
         if given.push(None).is_err() {
-            return Err(DeadlineFault::NoMemory);
+            return Err(NoMemory);
         }
     }
     Ok(given)
@@ -132,14 +116,14 @@ fn read_rows(
     mut given: Vec<Option<u64>>,
 ) -> Result<Vec<Option<u64>>, DeadlineFault>
     requires plain { IsPlain reader.old }
-    requires few { length (records_left reader.old) + 1 < 2 ^ 64 }
+    requires few { AreCountedFrom 1 reader.old }
     requires given { AreGiven tasks.now given.items }
     ensures rows { IsUnlessMemory DeadlineFault.NoMemory (λ v. v.items) result
         (given_from tasks.now 1 given.items (records_left reader.old)) }
     ensures given { IfOk result (λ v. AreGiven tasks.now v.items) }
 {
     let mut row: u64 = 1;
-    while next_row(reader, fields)? {
+    while next_record(reader, fields)? {
         let (task, deadline) = read_row(tasks, row, fields)?;
         add_row(&mut given, tasks, row, task, deadline)?;
         row += 1;
@@ -156,10 +140,7 @@ fn read_given(
     ensures rows { IsUnlessMemory DeadlineFault.NoMemory (λ v. v.items) result (given_in tasks.now bytes.now) }
     ensures given { IfOk result (λ v. AreGiven tasks.now v.items) }
 {
-    let mut reader = match text_reader(alloc, bytes) {
-        Ok(reader) => reader,
-        Err(_) => return Err(DeadlineFault::NoMemory),
-    };
+    let mut reader = text_reader(alloc, bytes)?;
     let mut fields = ByteRecord::new(alloc);
     read_header(&mut reader, &mut fields)?;
     let given = none_given(alloc, tasks)?;
@@ -195,9 +176,7 @@ impl Deadlines {
         ensures for_tasks { IfOk result (AreFor tasks.now) }
     {
         let given = read_given(alloc, bytes, tasks)?;
-        match all_deadlines(alloc, tasks, &given) {
-            Ok(ticks) => Ok(Deadlines { ticks }),
-            Err(_) => Err(DeadlineFault::NoMemory),
-        }
+        let ticks = all_deadlines(alloc, tasks, &given)?;
+        Ok(Deadlines { ticks })
     }
 }

@@ -52,9 +52,6 @@ next_job every within d some = go (jobs_due every within (suc d)) (jobs_due-belo
     ]
 
 module _ (p : Plan) (lim : IsWithinLimits p) (relative : ℕ → ℕ) (con : IsConstrained p relative) where
-  periods : (i : ℕ) → 0 < period p i
-  periods = every_period p lim
-
   -- the jobs of task i that are due by d
   abbrev due_by : ℕ → ℕ → ℕ
   due_by d i = jobs_due (period p i) (relative i) d
@@ -70,7 +67,7 @@ module _ (p : Plan) (lim : IsWithinLimits p) (relative : ℕ → ℕ) (con : IsC
       let q = hyper p / period p i in
       let whole : q * period p i ≡ hyper p = period_divides p lim i lt in
       let all : q ≤ due_by (hyper p) i =
-      subst (λ (m : ℕ). q ≤ due_by m i) whole (hyper_jobs (period p i) (relative i) q (periods i) (con.within i lt)) in
+      subst (λ (m : ℕ). q ≤ due_by m i) whole (hyper_jobs (period p i) (relative i) q (every_period p lim i) (con.within i lt)) in
       omega (arith, mul-le-mul_right (worst p i) all))
 
   -- and a hyperperiod adds no more than that
@@ -83,7 +80,7 @@ module _ (p : Plan) (lim : IsWithinLimits p) (relative : ℕ → ℕ) (con : IsC
       let whole : q * period p i ≡ hyper p = period_divides p lim i lt in
       let all : due_by (d + hyper p) i ≤ due_by d i + q =
       subst (λ (m : ℕ). due_by (d + m) i ≤ due_by d i + q) whole
-      (more_jobs (period p i) (relative i) d q (periods i)) in
+      (more_jobs (period p i) (relative i) d q (every_period p lim i)) in
       omega (arith, mul-le-mul_right (worst p i) all) in
       subst (λ (m : ℕ). sum_below n (work_by (d + hyper p)) ≤ m) (sum_below-add n (work_by d) (rate p))
       (sum_below-le n (work_by (d + hyper p)) (λ i. work_by d i + rate p i) more)
@@ -109,7 +106,7 @@ module _ (p : Plan) (lim : IsWithinLimits p) (relative : ℕ → ℕ) (con : IsC
       look : (m : ℕ) → m ≤ count p
           → IsDeadline p relative (suc d) ⊎ ((i : ℕ) → i < m → due_by (suc d) i ≤ due_by d i)
       look zero le = inr (λ i lt. absurd (omega arith))
-      look (suc m) le = elim (next_job (period p m) (relative m) d (periods m)) [
+      look (suc m) le = elim (next_job (period p m) (relative m) d (every_period p lim m)) [
         | inl now ↦ inl (record {
           task = m;
           job = suc now.0;

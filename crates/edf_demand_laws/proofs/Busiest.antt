@@ -5,30 +5,14 @@ use Rattle.std.proofs.lemmas.Bool.Decides.{nat_tests}
 use Rattle.std.proofs.Math.Nat.{le-mul_of_pos_right}
 use Rattle.grid_fraction.specs.declared.Frac.{Frac}
 use Rattle.grid_fraction.specs.Numbers.{any_below, all_below, first_from}
-use Rattle.grid_fraction.proofs.Searches.{any_below-none, any_below-found, first_from-found, first_from-most}
+use Rattle.grid_fraction.proofs.Searches.{any_below-found, first_from-found, first_from-most, any-some, all-found}
 use Rattle.sched_model.specs.Plan.{Plan, count, period, hyper}
 use Rattle.sched_model.specs.Jobs.{release}
 use Rattle.edf_demand_laws.specs.Constrained.{IsConstrained, absolute}
 use Rattle.edf_demand_laws.specs.ProcessorDemand.{IsDeadline, IsConstrainedDemand, processor_demand, is_deadline, is_busiest, constrained_demand}
 
-any-some : (n : ℕ) (test : ℕ → Bool) → any_below n test ≡ true → (i : ℕ) × (i < n) × (test i ≡ true)
-any-some zero test h = absurd (true≢false (sym h))
-any-some (suc n) test h = go (any_below n test) refl (test n) refl (λ e. any-some n test e)
-  where
-    go : (a : Bool) → any_below n test ≡ a → (b : Bool) → test n ≡ b
-        → (any_below n test ≡ true → (i : ℕ) × (i < n) × (test i ≡ true)) → (i : ℕ) × (i < suc n) × (test i ≡ true)
-    go true e b f earlier = let x = earlier e in (x.0, omega (arith, x.1), x.2)
-    go false e true f earlier = (n, omega arith, f)
-    go false e false f earlier = absurd (true≢false (sym h ∙ rw (e, f) refl))
-
-all-true : (n : ℕ) (test : ℕ → Bool) → ((i : ℕ) → i < n → test i ≡ true) → all_below n test ≡ true
-all-true n test h = ap not (any_below-none n (λ j. not (test j)) (λ i lt. ap not (h i lt)))
-
 all-false : (n : ℕ) (test : ℕ → Bool) (i : ℕ) → i < n → test i ≡ false → all_below n test ≡ false
 all-false n test i lt h = ap not (any_below-found n (λ j. not (test j)) i lt (ap not h))
-
-less-one : (k : ℕ) → suc k - 1 ≡ k
-less-one k = omega arith
 
 module _ (p : Plan) (relative : ℕ → ℕ) (con : IsConstrained p relative) where
   some_period : (i : ℕ) → i < count p → 0 < period p i
@@ -38,7 +22,8 @@ module _ (p : Plan) (relative : ℕ → ℕ) (con : IsConstrained p relative) wh
   few_jobs : (i k : ℕ) → i < count p → suc k ≤ absolute p relative i (suc k)
   unfolding release
   few_jobs i k h =
-      let grown : (suc k - 1) * period p i ≡ k * period p i = ap (λ (n : ℕ). n * period p i) (less-one k) in
+      let less : suc k - 1 ≡ k = omega arith in
+      let grown : (suc k - 1) * period p i ≡ k * period p i = ap (λ (n : ℕ). n * period p i) less in
       omega (arith, grown, le-mul_of_pos_right k (some_period i h), con.some i h)
 
   found : (d : ℕ) → IsDeadline p relative d → is_deadline p relative d ≡ true
@@ -77,7 +62,7 @@ module _ (p : Plan) (relative : ℕ → ℕ) (con : IsConstrained p relative) wh
             grind (arith, nat_tests)
 
     busiest : is_busiest p relative demand.den ≡ true
-    busiest = rw (found demand.den is.deadline, all-true (suc (hyper p)) (over demand.den) none_over) refl
+    busiest = rw (found demand.den is.deadline, all-found (suc (hyper p)) (over demand.den) none_over) refl
 
     -- and at an earlier one this one is
     not_earlier : (d : ℕ) → d < demand.den → is_busiest p relative d ≡ false

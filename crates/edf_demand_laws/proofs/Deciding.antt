@@ -1,7 +1,6 @@
 -- The constrained demand decides: a speed that meets it meets every deadline, and one that doesn't misses one at worst.
-use Rattle.std.proofs.Common.{inl, inr, ℕ, ◌+◌, ◌*◌, ◌<◌, ◌≤◌, length, arith, ap, ◌∙◌, subst}
-use Rattle.std.proofs.Math.Nat.{mul-le-mul_right}
-use Rattle.std.proofs.lemmas.Bool.{cases_lt}
+use Rattle.std.proofs.Common.{ℕ, ◌*◌, ◌<◌, ◌≤◌, length, arith, ap, ◌∙◌, subst}
+use Rattle.std.proofs.Math.Nat.{mul-le-mul_right, le_of_mul-le-mul_right}
 use Rattle.grid_fraction.specs.declared.Frac.{Frac}
 use Rattle.freq_table.specs.Tables.{speed_at}
 use Rattle.sched_model.specs.Plan.{Plan}
@@ -16,12 +15,6 @@ use Rattle.edf_demand_laws.proofs.Enough.{enough}
 use Rattle.edf_demand_laws.proofs.Needed.{needed}
 use Rattle.edf_demand_laws.proofs.Existing.{schedule-exists, schedule-only}
 
-cancels : (a b n : ℕ) → 0 < n → a * n ≤ b * n → a ≤ b
-cancels a b n some le = elim (cases_lt b a) [
-  | inl over ↦ absurd (let times : (b + 1) * n ≤ a * n = mul-le-mul_right n (omega arith) in omega (arith, times))
-  | inr within ↦ within
-]
-
 module _ (p : Plan) (lim : IsWithinLimits p) (relative : ℕ → ℕ) (con : IsConstrained p relative) (demand : Frac)
     (is : IsConstrainedDemand p relative demand) where
   -- it is at a tick from 1 on
@@ -33,7 +26,7 @@ module _ (p : Plan) (lim : IsWithinLimits p) (relative : ℕ → ℕ) (con : IsC
   fits-everywhere f meets d =
       let all = demand-greatest p lim relative con demand is d in
       let times : demand.num * d ≤ f * demand.den * d = mul-le-mul_right d meets in
-      cancels (processor_demand p relative d) (f * d) demand.den some-den (omega (arith, all, times))
+      le_of_mul-le-mul_right {m = processor_demand p relative d} {n = f * d} {k = demand.den} (omega (arith, all, times)) some-den
 
   -- so it meets every deadline
   pub meets-always : (f : ℕ) → demand.num ≤ f * demand.den → MeetsAlways p relative f

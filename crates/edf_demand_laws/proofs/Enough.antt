@@ -11,10 +11,11 @@ use Rattle.sched_model.specs.Ticks.{Tick, at, exec, left, share}
 use Rattle.sched_model.proofs.DownSets.{due_by_gets}
 use Rattle.sched_model.proofs.LevelSums.{sum_where-plus, sum_where-mono, sum_where-all, sum_where-term}
 use Rattle.sched_model.proofs.JobLaws.{latest-is, latest-pos, latest-stays, latest-next, release-due, release-suc, lt-due, exec-latest}
+use Rattle.sched_model.proofs.Service.{at-now, at-before}
 use Rattle.edf_demand_laws.specs.Constrained.{IsConstrained, absolute, key_at, IsNext, IsScheduleAt, IsMetBy}
 use Rattle.edf_demand_laws.specs.ProcessorDemand.{jobs_due, work_due, processor_demand}
 use Rattle.edf_demand_laws.proofs.Counting.{jobs_due-above}
-use Rattle.edf_demand_laws.proofs.Ticks.{at-now, at-before, own-share, had-most, latest-before}
+use Rattle.edf_demand_laws.proofs.Ticks.{own-share, had-most, latest-before}
 
 -- after a job with absolute deadline `key`, so many more of its task by d
 abbrev pub jobs_after : ℕ → ℕ → ℕ → ℕ

@@ -11,8 +11,8 @@ use Rattle.sched_model.specs.Plan.{Plan, count}
 use Rattle.sched_model.specs.Demands.{JobDemands}
 use Rattle.sched_model.specs.Ticks.{Tick, left, share}
 use Rattle.sched_model.specs.Priority.{allotment}
-use Rattle.sched_model.proofs.PriorityLemmas.{allotment_of, allotment-shares, shares-same}
-use Rattle.sched_model.proofs.ScheduleLemmas.{length-list_below, get_or-list_below}
+use Rattle.sched_model.proofs.Allotments.{allotment_of, allotment-shares, shares-same}
+use Rattle.sched_model.proofs.Tables.{length-list_below, get-table}
 use Rattle.edf_demand_laws.specs.Constrained.{key_at, IsNext, IsScheduleAt, tick_at, schedule_at}
 
 -- no other entry has the speed of one of the table's
@@ -54,7 +54,7 @@ module _ (p : Plan) (relative : ℕ → ℕ) (dem : JobDemands) (e : ℕ) where
         one_share_each = length-list_below n (given past);
         speed = refl;
         legal = shares-same n (key past) f (left p dem past) (given past) (share (tick_at p relative dem e past))
-            (λ i lt. sym (get_or-list_below n (given past) i lt)) (allotment-shares n (key past) f (left p dem past));
+            (λ i lt. sym (get-table n (given past) i 0 lt)) (allotment-shares n (key past) f (left p dem past));
       }
 
   pub schedule-exists : (t : ℕ)
@@ -74,7 +74,7 @@ module _ (p : Plan) (relative : ℕ → ℕ) (dem : JobDemands) (e : ℕ) where
             (λ i l.
             let below : i < count p = omega (arith, h.one_share_each) in
             allotment_of (count p) (key past) f (left p dem past) (share x) h.legal i below
-            ∙ sym (get_or-list_below (count p) (given past) i below))
+            ∙ sym (get-table (count p) (given past) i 0 below))
 
     pub schedule-only : (ticks : List Tick) → IsScheduleAt p relative dem f ticks
         → ticks ≡ schedule_at p relative dem e (length ticks)

@@ -9,11 +9,11 @@ use Rattle.sched_model.specs.Demands.{JobDemands, worst_demand}
 use Rattle.sched_model.specs.Ticks.{Tick, exec, left, share}
 use Rattle.sched_model.proofs.DownSets.{down-set-gets}
 use Rattle.sched_model.proofs.JobLaws.{latest-is}
+use Rattle.sched_model.proofs.Service.{exec-drop}
 use Rattle.edf_demand_laws.specs.Constrained.{IsConstrained, absolute, key_at, IsScheduleAt, IsMetBy}
 use Rattle.edf_demand_laws.specs.ProcessorDemand.{jobs_due, work_due, processor_demand}
 use Rattle.edf_demand_laws.proofs.Counting.{jobs_due-below}
 use Rattle.edf_demand_laws.proofs.AllSpans.{absolute-suc}
-use Rattle.edf_demand_laws.proofs.Ticks.{had-before}
 
 -- the units of task i in all ticks
 abbrev pub served : List Tick → ℕ → ℕ
@@ -97,5 +97,5 @@ needed p relative con f ticks h met =
               let low = jobs_due-below (period p i) (relative i) (length ticks) k l in
               let by : absolute p relative i (suc k) ≤ length ticks = omega (arith, is, low) in
               let had = met i (suc k) lt (omega arith) by in
-              omega (arith, had, had-before p ticks (length ticks - absolute p relative i (suc k)) i (suc k))),
+              omega (arith, had, exec-drop p i (suc k) (length ticks - absolute p relative i (suc k)) ticks)),
         )

@@ -84,7 +84,8 @@ same-table n f g h = table-same n f (λ k. f k + g k) (λ k lt. omega (arith, h 
 
 -- and one to which something is added at one place
 added-table : (n i more : ℕ) (f : ℕ → ℕ) → i < n → raised (list_below n f) i more ≡ list_below n (λ k. f k + (if nat_eq i k then more else 0))
-added-table n i more f lt = raised-table n i more f (λ k. f k + (if nat_eq i k then more else 0)) lt (here (nat_eq i i) refl) (λ k l ne. there k ne (nat_eq i k) refl)
+added-table n i more f lt = raised-table n i more f (λ k. f k + (if nat_eq i k then more else 0)) lt (here (nat_eq i i) refl)
+    (λ k l ne. there k ne (nat_eq i k) refl)
   where
     here : (b : Bool) → nat_eq i i ≡ b → f i + (if nat_eq i i then more else 0) ≡ f i + more
     here true e = rw e refl
@@ -134,8 +135,10 @@ booked-sums tasks points told (Run from to i k units energy) e h lt = books-more
   released_is = omega arith;
   finished_is = omega arith;
   decisions_is = omega arith;
-  by_task_is = added-table tasks i energy (λ i. sum_by (λ (t : Told). energy_of_task i t.0) told) (omega (arith, length-list_below tasks (λ i. sum_by (λ (t : Told). energy_of_task i t.0) told)));
-  by_point_is = (let e : energy + 0 ≡ energy = omega arith in ap (raised (list_below points (λ k. sum_by (energy_at_point k) told)) _) (sym e)) ∙ point-table points e (Run from to i k units energy) told lt;
+  by_task_is = added-table tasks i energy (λ i. sum_by (λ (t : Told). energy_of_task i t.0) told)
+      (omega (arith, length-list_below tasks (λ i. sum_by (λ (t : Told). energy_of_task i t.0) told)));
+  by_point_is = (let e : energy + 0 ≡ energy = omega arith in ap (raised (list_below points (λ k. sum_by (energy_at_point k) told)) _) (sym e))
+      ∙ point-table points e (Run from to i k units energy) told lt;
 }
 booked-sums tasks points told (Idle from to units energy) e h lt = books-more tasks points told (Idle from to units energy) e _ _ _ _ _ _ _ record {
   run_is = omega arith;
@@ -144,7 +147,8 @@ booked-sums tasks points told (Idle from to units energy) e h lt = books-more ta
   finished_is = omega arith;
   decisions_is = omega arith;
   by_task_is = same-table tasks _ _ (λ k lt. refl);
-  by_point_is = (let e : 0 + energy ≡ energy = omega arith in ap (raised (list_below points (λ k. sum_by (energy_at_point k) told)) _) (sym e)) ∙ point-table points e (Idle from to units energy) told lt;
+  by_point_is = (let e : 0 + energy ≡ energy = omega arith in ap (raised (list_below points (λ k. sum_by (energy_at_point k) told)) _) (sym e))
+      ∙ point-table points e (Idle from to units energy) told lt;
 }
 booked-sums tasks points told (Done q i k used) e h lt = books-more tasks points told (Done q i k used) e _ _ _ _ _ _ _ record {
   run_is = omega arith;

@@ -1,5 +1,6 @@
 -- What an account keeps, and that it is the sums over the notes it was told.
 use Rattle.std.specs.Prelude.{◌≡◌, ℕ, ◌+◌, ◌<◌, ◌^◌, nat_eq, List, [], ◌∷◌, ◌++◌, length, map, sum_by, slice_index, slice_set, if◌then◌else◌}
+use Rattle.dvs_base.specs.Widths.{u64_end}
 use Rattle.dvs_base.specs.declared.note.Note.{Note}
 use Rattle.dvs_base.specs.declared.note.Note.TheVariants.{Release, Speed, Run, Idle, Done, End}
 use Rattle.dvs_base.specs.declared.note.Totals.{Totals}
@@ -71,12 +72,12 @@ HasTask b (End ticks run idle) = Unit {0}
 
 -- the sums and counts after the note are within their types
 abbrev pub HasRoom : Books → Note → ℕ → Type 0
-HasRoom b (Release tick i k) e = b.totals.released + 1 < 2 ^ 64
-HasRoom b (Speed tick speed num den) e = b.totals.decisions + 1 < 2 ^ 64
+HasRoom b (Release tick i k) e = b.totals.released + 1 < u64_end
+HasRoom b (Speed tick speed num den) e = b.totals.decisions + 1 < u64_end
 HasRoom b (Run from to i k units energy) e =
     (b.totals.run + energy < 2 ^ 128) × (slice_index b.by_task i + energy < 2 ^ 128)
     × (slice_index b.by_point e + energy < 2 ^ 128)
 HasRoom b (Idle from to units energy) e =
     (b.totals.idle + energy < 2 ^ 128) × (slice_index b.by_point e + energy < 2 ^ 128)
-HasRoom b (Done at_end i k used) e = b.totals.finished + 1 < 2 ^ 64
+HasRoom b (Done at_end i k used) e = b.totals.finished + 1 < u64_end
 HasRoom b (End ticks run idle) e = Unit {0}

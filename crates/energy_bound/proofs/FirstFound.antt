@@ -1,19 +1,14 @@
 -- The first pair of corners that holds is the one that the search finds.
-use Rattle.std.proofs.Common.{◌≡◌, ℕ, ◌+◌, ◌-◌, ◌*◌, ◌<◌, ◌≤◌, Bool, true, false, not, ◌&&◌, nat_lt, nat_le, Result, Ok, Err, refl, sym, ◌∙◌, ap, arith, true≢false}
-use Rattle.std.proofs.lemmas.Bool.{and_parts, and_from, not-false, ltb-true, leb-true, lt-ltb, le-leb}
+use Rattle.std.proofs.Common.{◌≡◌, ℕ, ◌*◌, ◌<◌, ◌≤◌, Bool, true, false, not, nat_lt, nat_le, Ok, refl, ap, arith}
+use Rattle.std.proofs.lemmas.Bool.{and_parts, and_from, not-true, not-false, ltb-true, leb-true, lt-ltb, le-leb}
 use Rattle.std.proofs.lemmas.Bool.Decides.{nat_tests}
-use Rattle.grid_fraction.specs.Numbers.{all_below, any_below, first_from}
-use Rattle.grid_fraction.proofs.Searches.{first_from-is, any_below-none, any_below-false, any_below-found, not-true}
-use Rattle.freq_table.specs.Tables.{Table, highest_speed, IsTable}
+use Rattle.grid_fraction.specs.Numbers.{all_below, any_below}
+use Rattle.grid_fraction.proofs.Searches.{first_from-is, any_below-none, any_below-false, any_below-found, all-found}
+use Rattle.freq_table.specs.Tables.{Table, highest_speed}
 use Rattle.energy_bound.specs.declared.least.Least.{Least}
-use Rattle.energy_bound.specs.declared.least.Over.{Over}
-use Rattle.energy_bound.specs.Corners.{corner_units, corner_cost, last_corner, IsAbove, IsSupporting, Holds, IsFirstPartner}
+use Rattle.energy_bound.specs.Corners.{corner_units, last_corner, IsAbove, Holds, IsFirstPartner}
 use Rattle.energy_bound.specs.Certificates.{least_of}
-use Rattle.energy_bound.specs.FirstPairs.{corner_count, is_above, is_supporting, is_holding, high_corner, low_corner, least_energy_of}
-
--- all numbers below n pass, one by one
-all-found : (n : ℕ) (test : ℕ → Bool) → ((k : ℕ) → k < n → test k ≡ true) → all_below n test ≡ true
-all-found n test each = ap not (any_below-none n (λ k. not (test k)) (λ k lt. ap not (each k lt)))
+use Rattle.energy_bound.specs.FirstPairs.{corner_count, is_above, is_holding, high_corner, low_corner, least_energy_of}
 
 all-each : (n : ℕ) (test : ℕ → Bool) → all_below n test ≡ true → (k : ℕ) → k < n → test k ≡ true
 all-each n test all k lt =
@@ -71,13 +66,6 @@ module _ (m : Table) (units ticks : ℕ) where
       (λ c lt. any_below-none (corner_count m) (is_holding m units ticks c)
       (λ d less. not-holding c d (omega arith) (omega arith) (none c d lt)))
       (any_below-found (corner_count m) (is_holding m units ticks a) b (omega (arith, h.high)) (holding-true a b h))
-
-  -- the answer, where the units are more than the highest speed does
-  pub over-is : (e : Over) → e.num ≡ units → e.cap ≡ ticks * highest_speed m → e.cap < e.num
-      → Err e ≡ least_energy_of m units ticks
-  over-is e num cap more =
-      let over : nat_lt (ticks * highest_speed m) units ≡ true = lt-ltb _ _ (omega arith) in
-      rw (over, ← num, ← cap) refl
 
   -- and where they are not, by the first corner with a partner and its first partner
   pub found-is : (a b : ℕ) (l : Least) → units ≤ ticks * highest_speed m

@@ -1,5 +1,5 @@
 -- The first pair of corners that holds, found by its numbers.
-use Rattle.std.proofs.Common.{◌≡◌, ◌⊎◌, inl, inr, ℕ, zero, suc, ◌-◌, ◌*◌, ◌<◌, ◌≤◌, length, refl, sym, ◌∙◌, ap, subst, arith, mul-le-mul_left}
+use Rattle.std.proofs.Common.{◌≡◌, ◌⊎◌, inl, inr, ℕ, zero, suc, ◌-◌, ◌*◌, ◌<◌, ◌≤◌, length, refl, sym, ◌∙◌, ap, subst, arith}
 use Rattle.std.proofs.lemmas.Bool.{cases_lt}
 use Rattle.freq_table.specs.Tables.{Table, highest_speed, speed_at, IsTable}
 use Rattle.energy_bound.specs.Corners.{corner_units, corner_cost, last_corner, Holds, IsNoLater, IsFirstPartner, IsFirstPair}
@@ -16,11 +16,6 @@ module _ (m : Table) (table : IsTable m) (units ticks : ℕ) where
       go (suc n) e =
           let before : length m.points - 1 ≡ n = omega arith in
           ap (corner_units m) e ∙ ap (speed_at m) (sym before)
-
-  -- no pair holds where the units are more than the highest speed does
-  pub none-holds : ticks * highest_speed m < units → (a b : ℕ) → Holds m units ticks a b → ⊥
-  none-holds over a b h =
-      omega (arith, h.within, mul-le-mul_left ticks (units-climb m table b (last_corner m) h.high (omega arith)), ap (λ v. ticks * v) last-units)
 
   -- and one does where they are not
   pub some-holds : units ≤ ticks * highest_speed m → (a : ℕ) × ((b : ℕ) × Holds m units ticks a b)

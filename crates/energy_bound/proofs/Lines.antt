@@ -16,9 +16,6 @@ above-second p c q d = omega arith
 pub above-rise : (p c q d D M x y : ℕ) → p + D ≡ q → c + M ≡ d → Above p c q d x y → M * x + c * q ≤ D * y + d * p
 above-rise p c q d D M x y e f h = omega (arith, ap (λ v. v * x) f, ap (λ v. v * y) e, h)
 
-pub rise-above : (p c q d D M x y : ℕ) → p + D ≡ q → c + M ≡ d → M * x + c * q ≤ D * y + d * p → Above p c q d x y
-rise-above p c q d D M x y e f h = omega (arith, ap (λ v. v * x) f, ap (λ v. v * y) e, h)
-
 -- a product can be cancelled
 pub cancel-le : (k m n : ℕ) → 0 < k → k * m ≤ k * n → m ≤ n
 cancel-le k m n pos h = go (cases_lt n m)

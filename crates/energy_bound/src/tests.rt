@@ -1,5 +1,6 @@
 // Least energies of worked machines.
 use super::*;
+use dvs_base::MOST_TICKS;
 use freq_table::Machine;
 use std::alloc::Global;
 use std::test::Fail;
@@ -357,11 +358,11 @@ fn numbers_at_the_limits(rt: HostRuntime) -> Result<(), Fail> {
         tick_price: 399999999000000000,
     };
     assert_eq!(rt;
-        least_energy(&machine, 1099511627775999999, 1099511627776),
+        least_energy(&machine, 1099511627775999999, MOST_TICKS),
         Ok(want)
     );
     assert_eq!(rt;
-        check(&machine, 1099511627775999999, 1099511627776, &want),
+        check(&machine, 1099511627775999999, MOST_TICKS, &want),
         true
     );
     let over = Over {
@@ -369,7 +370,7 @@ fn numbers_at_the_limits(rt: HostRuntime) -> Result<(), Fail> {
         cap: 1099511627776000000,
     };
     assert_eq!(rt;
-        least_energy(&machine, 1099511627776000001, 1099511627776),
+        least_energy(&machine, 1099511627776000001, MOST_TICKS),
         Err(over)
     );
     Ok(())

@@ -30,7 +30,8 @@ abbrev pub AtWork : {L : Type 0} → (L → Note → L → Type 0) → (L → No
 AtWork heard balked demand p dem t to0 to rest completed st trace =
     Working heard balked p dem (ask_of demand p dem) (course demand p dem t) (span_at demand p dem t) to0 to rest completed st trace
 
-module _ {demand : Plan → StateOf → Frac} {p : Plan} {dem : ℕ → ℕ → ℕ} {t from e : ℕ} {st0 : StateOf} {trace0 : Trace} (adm : Bounds p) (at : IsAtWork demand p dem t from e st0 trace0) where
+module _ {demand : Plan → StateOf → Frac} {p : Plan} {dem : ℕ → ℕ → ℕ} {t from e : ℕ} {st0 : StateOf} {trace0 : Trace}
+    (adm : Bounds p) (at : IsAtWork demand p dem t from e st0 trace0) where
   abbrev past : List Tick
   past = course demand p dem t
 
@@ -66,7 +67,8 @@ module _ {demand : Plan → StateOf → Frac} {p : Plan} {dem : ℕ → ℕ → 
 
       told-and-fits : CanTell p st (length s0.past) s0.entry trace × (trace.segment.units + speed_now p dem ask past < 2 ^ 64)
       told-and-fits =
-          can-tell heard balked p dem ask past adm within s0 to0 (omega (arith, at.early, course-long)) (omega (arith, at.from_le, at.from_is, course-long)) (sym at.entry_is ∙ at.in_force) to rest completed st trace w
+          can-tell heard balked p dem ask past adm within s0 to0 (omega (arith, at.early, course-long))
+          (omega (arith, at.from_le, at.from_is, course-long)) (sym at.entry_is ∙ at.in_force) to rest completed st trace w
 
       pub can : CanTell p st from e trace
       can = subst (λ m. CanTell p st m e trace) (sym at.from_is) (subst (λ m. CanTell p st (length s0.past) m trace) (sym at.entry_is) told-and-fits.0)
@@ -87,8 +89,12 @@ module _ {demand : Plan → StateOf → Frac} {p : Plan} {dem : ℕ → ℕ → 
           → trace' ≡ entered p st e (Held i (row_at st i).job) share trace
           → AtWork heard balked demand p dem t to0 next (rest - share) now st' trace'
       turned next i share whole now st' trace' pos u se we ne =
-          subst (λ f. HasHeard heard to (entering_notes p st f e (Held i (row_at st i).job) trace) next → st' ≡ served st i share whole → trace' ≡ entered p st e (Held i (row_at st i).job) share trace → AtWork heard balked demand p dem t to0 next (rest - share) now st' trace') (sym at.from_is)
-          (subst (λ m. HasHeard heard to (entering_notes p st (length s0.past) m (Held i (row_at st i).job) trace) next → st' ≡ served st i share whole → trace' ≡ entered p st m (Held i (row_at st i).job) share trace → AtWork heard balked demand p dem t to0 next (rest - share) now st' trace') (sym at.entry_is)
+          subst (λ f. HasHeard heard to (entering_notes p st f e (Held i (row_at st i).job) trace) next
+          → st' ≡ served st i share whole → trace' ≡ entered p st e (Held i (row_at st i).job) share trace
+          → AtWork heard balked demand p dem t to0 next (rest - share) now st' trace') (sym at.from_is)
+          (subst (λ m. HasHeard heard to (entering_notes p st (length s0.past) m (Held i (row_at st i).job) trace) next
+          → st' ≡ served st i share whole → trace' ≡ entered p st m (Held i (row_at st i).job) share trace
+          → AtWork heard balked demand p dem t to0 next (rest - share) now st' trace') (sym at.entry_is)
           (λ tells sis pis. subst (λ q. AtWork heard balked demand p dem t to0 next (rest - share) now st' q) (sym pis)
           (working-turn heard balked p dem ask past adm within s0 to0 to next rest i share completed whole now st st' trace w pos u se we ne tells sis)))
 
@@ -97,16 +103,22 @@ module _ {demand : Plan → StateOf → Frac} {p : Plan} {dem : ℕ → ℕ → 
           → HasBalked heard balked to (entering_notes p st from e (Held i (row_at st i).job) trace) next
           → (a : L) → HasHeard heard a (open_notes p dem ask s0) to0 → HasBalked heard balked a (open_notes p dem ask (whole_span demand p dem t)) next
       balked_at next i share pos u se =
-          subst (λ f. HasBalked heard balked to (entering_notes p st f e (Held i (row_at st i).job) trace) next → (a : L) → HasHeard heard a (open_notes p dem ask s0) to0 → HasBalked heard balked a (open_notes p dem ask (whole_span demand p dem t)) next) (sym at.from_is)
-          (subst (λ m. HasBalked heard balked to (entering_notes p st (length s0.past) m (Held i (row_at st i).job) trace) next → (a : L) → HasHeard heard a (open_notes p dem ask s0) to0 → HasBalked heard balked a (open_notes p dem ask (whole_span demand p dem t)) next) (sym at.entry_is)
-          (λ balks. working-balk heard balked p dem ask past adm within s0 to0 to next rest i share completed (nat_eq share (dem i (row_at st i).job - (row_at st i).used)) st trace w pos u se refl balks))
+          subst (λ f. HasBalked heard balked to (entering_notes p st f e (Held i (row_at st i).job) trace) next → (a : L)
+          → HasHeard heard a (open_notes p dem ask s0) to0 → HasBalked heard balked a (open_notes p dem ask (whole_span demand p dem t)) next) (sym at.from_is)
+          (subst (λ m. HasBalked heard balked to (entering_notes p st (length s0.past) m (Held i (row_at st i).job) trace) next
+          → (a : L) → HasHeard heard a (open_notes p dem ask s0) to0
+          → HasBalked heard balked a (open_notes p dem ask (whole_span demand p dem t)) next) (sym at.entry_is)
+          (λ balks. working-balk heard balked p dem ask past adm within s0 to0 to next rest i share completed
+          (nat_eq share (dem i (row_at st i).job - (row_at st i).used)) st trace w pos u se refl balks))
 
       pub idle_balked : (next : L) → 0 < rest → (rest ≡ 0) ⊎ ((k : ℕ) → k < count p → (row_at st k).done ≡ true)
           → HasBalked heard balked to (entering_notes p st from e Nobody trace) next
           → (a : L) → HasHeard heard a (open_notes p dem ask s0) to0 → HasBalked heard balked a (open_notes p dem ask (whole_span demand p dem t)) next
       idle_balked next pos ends =
-          subst (λ f. HasBalked heard balked to (entering_notes p st f e Nobody trace) next → (a : L) → HasHeard heard a (open_notes p dem ask s0) to0 → HasBalked heard balked a (open_notes p dem ask (whole_span demand p dem t)) next) (sym at.from_is)
-          (subst (λ m. HasBalked heard balked to (entering_notes p st (length s0.past) m Nobody trace) next → (a : L) → HasHeard heard a (open_notes p dem ask s0) to0 → HasBalked heard balked a (open_notes p dem ask (whole_span demand p dem t)) next) (sym at.entry_is)
+          subst (λ f. HasBalked heard balked to (entering_notes p st f e Nobody trace) next → (a : L) → HasHeard heard a (open_notes p dem ask s0) to0
+          → HasBalked heard balked a (open_notes p dem ask (whole_span demand p dem t)) next) (sym at.from_is)
+          (subst (λ m. HasBalked heard balked to (entering_notes p st (length s0.past) m Nobody trace) next → (a : L)
+          → HasHeard heard a (open_notes p dem ask s0) to0 → HasBalked heard balked a (open_notes p dem ask (whole_span demand p dem t)) next) (sym at.entry_is)
           (working-idle-balk heard balked p dem ask past adm within s0 to0 to next rest completed st trace w pos ends))
 
       abbrev pub HasIdled : L → Trace → Type 0
@@ -115,16 +127,20 @@ module _ {demand : Plan → StateOf → Frac} {p : Plan} {dem : ℕ → ℕ → 
       pub idled : (next : L) (trace' : Trace) → 0 < rest → HasHeard heard to (entering_notes p st from e Nobody trace) next
           → trace' ≡ entered p st e Nobody rest trace → HasIdled next trace'
       idled next trace' pos =
-          subst (λ f. HasHeard heard to (entering_notes p st f e Nobody trace) next → trace' ≡ entered p st e Nobody rest trace → HasIdled next trace') (sym at.from_is)
-          (subst (λ m. HasHeard heard to (entering_notes p st (length s0.past) m Nobody trace) next → trace' ≡ entered p st m Nobody rest trace → HasIdled next trace') (sym at.entry_is)
-          (λ tells pis. subst (λ q. HasIdled next q) (sym pis) (working-idle heard balked p dem ask past adm within s0 to0 to next rest completed st trace w pos tells)))
+          subst (λ f. HasHeard heard to (entering_notes p st f e Nobody trace) next → trace' ≡ entered p st e Nobody rest trace
+          → HasIdled next trace') (sym at.from_is)
+          (subst (λ m. HasHeard heard to (entering_notes p st (length s0.past) m Nobody trace) next
+          → trace' ≡ entered p st m Nobody rest trace → HasIdled next trace') (sym at.entry_is)
+          (λ tells pis. subst (λ q. HasIdled next q) (sym pis)
+          (working-idle heard balked p dem ask past adm within s0 to0 to next rest completed st trace w pos tells)))
 
       pub full : rest ≡ 0 → HasIdled to trace
       full z = working-full heard balked p dem ask past adm within s0 to0 to rest completed st trace w z
 
       pub finished : (next : L) (trace' : Trace) (st' : StateOf) → (rest ≡ 0) ⊎ ((k : ℕ) → k < count p → (row_at st k).done ≡ true)
           → HasIdled next trace' → st' ≡ after_advance st (t + 1)
-          → HasWorked demand p dem t st' trace' completed × ((a : L) → HasHeard heard a (open_notes p dem ask s0) to0 → HasHeard heard a (open_notes p dem ask (whole_span demand p dem t)) next)
+          → HasWorked demand p dem t st' trace' completed × ((a : L) → HasHeard heard a (open_notes p dem ask s0) to0
+          → HasHeard heard a (open_notes p dem ask (whole_span demand p dem t)) next)
       finished next trace' st' ends d is =
           let h : Worked heard balked p dem ask past adm within s0 to0 next completed (after_advance st (length past + 1)) trace' =
           working-done heard balked p dem ask past adm within s0 to0 to next rest completed st trace trace' w at.within.none ends d in
@@ -134,7 +150,8 @@ module _ {demand : Plan → StateOf → Frac} {p : Plan} {dem : ℕ → ℕ → 
               writing =
                   subst
                   (λ (ps : List Tick). Writing p dem ask t (whole_span demand p dem t) (λ i. exec p ps i (latest p i t)) (1000000 * (t + 1)) trace') later
-                  (subst (λ n. Writing p dem ask n (whole_span demand p dem t) (λ i. exec p (tick_at demand p dem t ∷ past) i (latest p i n)) (1000000 * (n + 1)) trace') course-long h.writing);
+                  (subst (λ n. Writing p dem ask n (whole_span demand p dem t) (λ i. exec p (tick_at demand p dem t ∷ past) i (latest p i n))
+                  (1000000 * (n + 1)) trace') course-long h.writing);
               completes = h.completes;
             },
             h.told,

@@ -66,7 +66,8 @@ fill-begins job need r r' (j ∷ js) le = go (cases_lt r (need j)) (fill-begins 
         (begins-under (replicate (min r (need j)) h) (fill job need (r - need j) js) (fill job need (r' - need j) js) ih)
     go (inl lt) ih =
         let all : fill job need r (j ∷ js) ≡ replicate r h =
-        ap₂ (λ m k. replicate m h ++ fill job need k js) (omega arith) (omega arith) ∙ (ap (λ us. replicate r h ++ us) (fill-none job need js) ∙ append-nil (replicate r h)) in
+        ap₂ (λ m k. replicate m h ++ fill job need k js) (omega arith) (omega arith)
+        ∙ (ap (λ us. replicate r h ++ us) (fill-none job need js) ∙ append-nil (replicate r h)) in
         let longer : replicate (min r' (need j)) h ≡ replicate r h ++ replicate (min r' (need j) - r) h =
         ap (λ m. replicate m h) (omega arith) ∙ sym (replicate-append-replicate r (min r' (need j) - r) h) in
         subst (λ us. Begins us (fill job need r' (j ∷ js))) (sym all)
@@ -92,7 +93,8 @@ units-begin p dem ask past given rest h =
     (subst (λ us. Begins us (laid_out (job p dem past) (share (next_tick p dem ask past)) order)) (sym a)
     (subst (λ us. Begins (fill (job p dem past) (left p dem past) (f - rest) order) us) (sym b)
     (fill-begins (job p dem past) (left p dem past) (f - rest) f order (omega arith))))
-    (begins-more (laid_out (job p dem past) (share (next_tick p dem ask past)) order) (replicate (f - sum_below (count p) (share (next_tick p dem ask past))) Nobody))
+    (begins-more (laid_out (job p dem past) (share (next_tick p dem ask past)) order)
+    (replicate (f - sum_below (count p) (share (next_tick p dem ask past))) Nobody))
   where
     f : ℕ
     f = (point p (entry_in_force p dem ask past)).speed
@@ -108,7 +110,8 @@ unit-begins : (p : Plan) (dem : ℕ → ℕ → ℕ) (ask : List Tick → Frac) 
     → Begins (open_notes p dem ask s) (open_notes p dem ask (grown s (h ∷ [])))
 unit-begins p dem ask s h =
     let g = grows p dem ask 0 s h 1 trace (omega arith) refl refl place in
-    begins-under (notes_before_end p dem ask s.past ++ head_notes p dem ask s) (pieces_notes p dem s 0 (closed (pieces_of s.units))) (pieces_notes p dem (grown s (h ∷ [])) 0 (closed (pieces_of (s.units ++ h ∷ []))))
+    begins-under (notes_before_end p dem ask s.past ++ head_notes p dem ask s) (pieces_notes p dem s 0 (closed (pieces_of s.units)))
+    (pieces_notes p dem (grown s (h ∷ [])) 0 (closed (pieces_of (s.units ++ h ∷ []))))
     (record { rest = _; whole = g.1.notes })
   where
     last : ℕ
@@ -122,7 +125,14 @@ unit-begins p dem ask s h =
       where
         go : (pieces_of s.units ≡ []) ⊎ ((done : List Piece) × (r : Piece) × (pieces_of s.units ≡ done ++ r ∷ [])) → last ≤ length s.units
         go (inl e) = omega (arith, ap (λ rs. (last_of rs).units) e)
-        go (inr f) = omega (arith, ap (λ rs. (last_of rs).units) f.2, ap (λ (r : Piece). r.units) (last-snoc f.0 f.1), total-pieces s.units, ap total f.2, total-append f.0 (f.1 ∷ []))
+        go (inr f) = omega (
+          arith,
+          ap (λ rs. (last_of rs).units) f.2,
+          ap (λ (r : Piece). r.units) (last-snoc f.0 f.1),
+          total-pieces s.units,
+          ap total f.2,
+          total-append f.0 (f.1 ∷ []),
+        )
 
     place : length s.units - last + last ≡ length s.units
     place = omega (arith, last-le)
@@ -133,6 +143,7 @@ open-begins p dem ask s [] =
     subst (λ vs. Begins (open_notes p dem ask s) (open_notes p dem ask (record { past = s.past; entry = s.entry; units = vs })))
     (sym (append-nil s.units)) (begins-self (open_notes p dem ask s))
 open-begins p dem ask s (h ∷ us) =
-    subst (λ vs. Begins (open_notes p dem ask s) (open_notes p dem ask (record { past = s.past; entry = s.entry; units = vs }))) (append_assoc s.units (h ∷ []) us)
+    subst (λ vs. Begins (open_notes p dem ask s) (open_notes p dem ask (record { past = s.past; entry = s.entry; units = vs })))
+    (append_assoc s.units (h ∷ []) us)
     (begins-trans (open_notes p dem ask s) (open_notes p dem ask (grown s (h ∷ []))) (open_notes p dem ask (grown (grown s (h ∷ [])) us))
     (unit-begins p dem ask s h) (open-begins p dem ask (grown s (h ∷ [])) us))

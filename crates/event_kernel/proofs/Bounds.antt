@@ -4,6 +4,7 @@ use Rattle.std.proofs.lemmas.Bool.{cases_lt}
 use Rattle.std.specs.List.{slice_index_or}
 use Rattle.task_model.specs.declared.task.Task.{Task}
 use Rattle.task_model.specs.Tasks.{no_task}
+use Rattle.task_model.specs.declared.limits.TheConstants.{LONGEST_PERIOD, LATEST_OFFSET}
 use Rattle.freq_table.specs.declared.machine.Point.{Point}
 use Rattle.sched_model.specs.Plan.{Plan, count, period, offset, worst, point}
 use Rattle.sched_model.specs.Admission.{IsAdmitted}
@@ -12,8 +13,8 @@ pub record Bounds (p : Plan) : Type 0 where
   pub some_task : 0 < count p
   pub few_tasks : count p ≤ 64
   pub some_period : (i : ℕ) → 0 < period p i
-  pub low_period : (i : ℕ) → period p i ≤ 2 ^ 40
-  pub low_offset : (i : ℕ) → offset p i ≤ 2 ^ 40
+  pub low_period : (i : ℕ) → period p i ≤ LONGEST_PERIOD
+  pub low_offset : (i : ℕ) → offset p i ≤ LATEST_OFFSET
   pub low_worst : (i : ℕ) → worst p i ≤ 2 ^ 61
   pub some_point : 0 < length p.machine.points
   pub some_speed : (e : ℕ) → e < length p.machine.points → 0 < (point p e).speed
@@ -46,17 +47,18 @@ bounds p adm = record {
     some i (inl lt) = omega (arith, (adm.limits.tasks.each i lt).some_period)
     some i (inr ge) = subst (λ (t : Task). 0 < t.period) (sym (past-end p.tasks i no_task ge)) (omega arith)
 
-    low : (i : ℕ) → (i < count p) ⊎ (count p ≤ i) → period p i ≤ 2 ^ 40
+    low : (i : ℕ) → (i < count p) ⊎ (count p ≤ i) → period p i ≤ LONGEST_PERIOD
     low i (inl lt) = (adm.limits.tasks.each i lt).low_period
-    low i (inr ge) = subst (λ (t : Task). t.period ≤ 2 ^ 40) (sym (past-end p.tasks i no_task ge)) (omega arith)
+    low i (inr ge) = subst (λ (t : Task). t.period ≤ LONGEST_PERIOD) (sym (past-end p.tasks i no_task ge)) (omega arith)
 
-    soon : (i : ℕ) → (i < count p) ⊎ (count p ≤ i) → offset p i ≤ 2 ^ 40
+    soon : (i : ℕ) → (i < count p) ⊎ (count p ≤ i) → offset p i ≤ LATEST_OFFSET
     soon i (inl lt) = (adm.limits.tasks.each i lt).low_offset
-    soon i (inr ge) = subst (λ (t : Task). t.offset ≤ 2 ^ 40) (sym (past-end p.tasks i no_task ge)) (omega arith)
+    soon i (inr ge) = subst (λ (t : Task). t.offset ≤ LATEST_OFFSET) (sym (past-end p.tasks i no_task ge)) (omega arith)
 
     small : (i : ℕ) → (i < count p) ⊎ (count p ≤ i) → worst p i ≤ 2 ^ 61
     small i (inl lt) = omega (arith, (adm.limits.tasks.each i lt).low_worst, adm.limits.machine.low_charge)
-    small i (inr ge) = subst (λ (t : Task). t.worst + 2 * p.machine.charge ≤ 2 ^ 61) (sym (past-end p.tasks i no_task ge)) (omega (arith, adm.limits.machine.low_charge))
+    small i (inr ge) = subst (λ (t : Task). t.worst + 2 * p.machine.charge ≤ 2 ^ 61) (sym (past-end p.tasks i no_task ge))
+        (omega (arith, adm.limits.machine.low_charge))
 
     slow : (e : ℕ) → (e < length p.machine.points) ⊎ (length p.machine.points ≤ e) → (point p e).speed ≤ 1000000
     slow e (inl lt) = (adm.limits.machine.each e lt).low_speed

@@ -1,5 +1,5 @@
 -- The end of a span, as its function tells it.
-use Rattle.std.proofs.Common.{◌≡◌, ℕ, ◌+◌, ◌-◌, ◌<◌, ◌≤◌, ◌^◌, true, List, [], ◌∷◌, ◌++◌, length, refl, arith, ap, ap₂, ◌∙◌, sym, subst, ◌⊎◌, inl, inr, if◌then◌else◌}
+use Rattle.std.proofs.Common.{◌≡◌, ℕ, ◌+◌, ◌-◌, ◌<◌, ◌≤◌, true, List, [], ◌∷◌, ◌++◌, length, refl, arith, ap, ap₂, ◌∙◌, sym, subst, ◌⊎◌, inl, inr, if◌then◌else◌}
 use Rattle.std.proofs.lemmas.Bool.{cases_lt}
 use Rattle.std.specs.Prelude.{sum_by}
 use Rattle.std.proofs.lemmas.List.Sums.{sum_by-append, sum_by-cons}
@@ -14,6 +14,7 @@ use Rattle.sched_model.specs.Notes.{notes_before_end, notes_of, energy_run, ener
 use Rattle.sched_model.specs.States.{prior_state, StateOf}
 use Rattle.event_kernel.specs.declared.trace.Trace.{Trace}
 use Rattle.dvs_base.specs.declared.note.Totals.{Totals}
+use Rattle.dvs_base.specs.declared.limits.TheConstants.{MOST_TICKS}
 use Rattle.event_kernel.specs.Sums.{SumsOf, sums_of}
 use Rattle.event_kernel.proofs.Summing.{totals-same}
 use Rattle.sched_model.specs.Totals.{totals_of, is_released, is_finished, is_decided}
@@ -35,7 +36,8 @@ pub before-begins : (demand : Plan → StateOf → Frac) (p : Plan) (dem : ℕ �
 before-begins demand p dem ticks t le decision = go (cases_lt t ticks)
   where
     go : (t < ticks) ⊎ (ticks ≤ t) → Begins (told_before demand p dem t) (told_before demand p dem ticks)
-    go (inr ge) = let e : t ≡ ticks = omega arith in subst (λ n. Begins (told_before demand p dem t) (told_before demand p dem n)) e (begins-self (told_before demand p dem t))
+    go (inr ge) = let e : t ≡ ticks = omega arith in
+        subst (λ n. Begins (told_before demand p dem t) (told_before demand p dem n)) e (begins-self (told_before demand p dem t))
     go (inl lt) =
         begins-trans (told_before demand p dem t) (told_in demand p dem t) (told_before demand p dem ticks)
         (record { rest = _; whole = open-new demand p dem t (decision lt) })
@@ -47,8 +49,9 @@ before-begins demand p dem ticks t le decision = go (cases_lt t ticks)
         balked : ℕ → Note → ℕ → Type 0
         balked a n b = Unit {0}
 
-module _ {demand : Plan → StateOf → Frac} {p : Plan} {dem : ℕ → ℕ → ℕ} {ticks : ℕ} (adm : Bounds p) (low_ticks : ticks ≤ 2 ^ 40) {t0 e : ℕ} {s : StateOf} {trace : Trace} (h : HasWalked demand p dem ticks t0 (s.now - 1) e s trace) where
-  early : s.now - 1 < 2 ^ 40
+module _ {demand : Plan → StateOf → Frac} {p : Plan} {dem : ℕ → ℕ → ℕ} {ticks : ℕ} (adm : Bounds p)
+    (low_ticks : ticks ≤ MOST_TICKS) {t0 e : ℕ} {s : StateOf} {trace : Trace} (h : HasWalked demand p dem ticks t0 (s.now - 1) e s trace) where
+  early : s.now - 1 < MOST_TICKS
   early = omega (arith, h.before_end, low_ticks)
 
   from_is : t0 ≡ length (whole_span demand p dem (s.now - 1)).past
@@ -84,8 +87,10 @@ module _ {demand : Plan → StateOf → Frac} {p : Plan} {dem : ℕ → ℕ → 
       → HasBalked heard balked mid (ended_notes p s t0 e trace) to → HasBalked heard balked a (told_before demand p dem ticks) to
   close-balked heard balked a mid to x y =
       balked-begins heard balked (told_before demand p dem s.now) (told_before demand p dem ticks) a to
-      (before-begins demand p dem ticks s.now close-limit (λ lt. subst (λ n. is_decision p dem (course demand p dem n) ≡ true) next (h.decision (omega (arith, lt, next)))))
-      (subst (λ ns. HasBalked heard balked a ns to) (sym notes) (balked_after heard balked (told_after demand p dem (s.now - 1)) (ended_notes p s t0 e trace) a mid to x y))
+      (before-begins demand p dem ticks s.now close-limit
+      (λ lt. subst (λ n. is_decision p dem (course demand p dem n) ≡ true) next (h.decision (omega (arith, lt, next)))))
+      (subst (λ ns. HasBalked heard balked a ns to) (sym notes)
+      (balked_after heard balked (told_after demand p dem (s.now - 1)) (ended_notes p s t0 e trace) a mid to x y))
 
 -- all notes of a schedule
 module _ {L : Type 0} (heard balked : L → Note → L → Type 0) (demand : Plan → StateOf → Frac) (p : Plan) (dem : ℕ → ℕ → ℕ) (ticks : ℕ) where
@@ -136,11 +141,13 @@ module _ {L : Type 0} (heard balked : L → Note → L → Type 0) (demand : Pla
 
   pub before-balked : (a to : L) → HasBalked heard balked a (told_before demand p dem ticks) to → HasBalked heard balked a all_notes to
   before-balked a to b =
-      balked-append heard balked (told_before demand p dem ticks) (End (length (course demand p dem ticks)) (sum_by energy_run (told_before demand p dem ticks)) (sum_by energy_idle (told_before demand p dem ticks)) ∷ []) a to b
+      balked-append heard balked (told_before demand p dem ticks) (End (length (course demand p dem ticks))
+      (sum_by energy_run (told_before demand p dem ticks)) (sum_by energy_idle (told_before demand p dem ticks)) ∷ []) a to b
 
   -- the totals are those of all notes
   sum-end : (f : Note → ℕ)
-      → f (End (length (course demand p dem ticks)) (sum_by energy_run (told_before demand p dem ticks)) (sum_by energy_idle (told_before demand p dem ticks))) ≡ 0
+      → f (End (length (course demand p dem ticks)) (sum_by energy_run (told_before demand p dem ticks))
+      (sum_by energy_idle (told_before demand p dem ticks))) ≡ 0
       → sum_by f (told_before demand p dem ticks) ≡ sum_by f all_notes
   sum-end f none =
       sym (sum_by-append f (told_before demand p dem ticks) (last_note ∷ []) ∙ (ap (λ n. sum_by f (told_before demand p dem ticks) + n) one ∙ omega arith))

@@ -1,9 +1,8 @@
 -- Quotients that are rounded up.
-use Rattle.std.proofs.Common.{◌≡◌, ℕ, ◌+◌, ◌-◌, ◌*◌, ◌/◌, ◌%◌, ◌<◌, ◌≤◌, ◌^◌, min, arith, sym}
-use Rattle.std.proofs.Math.Nat.{div-le_self}
+use Rattle.std.proofs.Common.{◌≡◌, ℕ, ◌+◌, ◌-◌, ◌*◌, ◌/◌, ◌%◌, ◌<◌, ◌≤◌, min, arith, sym}
 use Rattle.std.proofs.lemmas.Grind.{div_ceil_times}
 use Rattle.grid_fraction.specs.Numbers.{ceil_div}
-use Rattle.sched_model.proofs.JobLaws.{quotient}
+use Rattle.grid_fraction.proofs.Ceilings.{quotient}
 
 pub ceil-is : (n d : ℕ) → 0 < d → n / d + min 1 (n % d) ≡ ceil_div n d
 ceil-is n d pos =
@@ -15,6 +14,3 @@ ceil-is n d pos =
 
     high : (q : ℕ) → n ≤ q * d → n + (d - 1) < (q + 1) * d
     high q h = omega (arith, h, pos)
-
-pub ceil-most : (n d : ℕ) → n ≤ 2 ^ 40 → d ≤ 2 ^ 40 → ceil_div n d ≤ 2 ^ 41
-ceil-most n d few low = omega (arith, div-le_self (n + (d - 1)) d)

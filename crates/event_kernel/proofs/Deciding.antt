@@ -1,6 +1,7 @@
 -- The state of a schedule's ticks is a state of the plan at a decision: what `choose` may ask for.
-use Rattle.std.proofs.Common.{◌≡◌, ℕ, zero, suc, ◌+◌, ◌-◌, ◌<◌, ◌≤◌, ◌^◌, Bool, true, false, List, [], ◌∷◌, length, drop, length-drop, refl, arith, ap, ◌∙◌, sym, subst, true≢false}
+use Rattle.std.proofs.Common.{◌≡◌, ℕ, ◌+◌, ◌-◌, ◌<◌, ◌≤◌, Bool, true, false, List, length, length-drop, refl, arith, ap, ◌∙◌, sym, subst, true≢false}
 use Rattle.std.proofs.lemmas.Bool.Decides.{nat_tests}
+use Rattle.task_model.specs.declared.limits.TheConstants.{LONGEST_PERIOD}
 use Rattle.sched_model.specs.declared.state.Row.{Row}
 use Rattle.event_kernel.proofs.Bounds.{Bounds}
 use Rattle.sched_model.specs.Plan.{Plan, count}
@@ -9,16 +10,12 @@ use Rattle.sched_model.specs.Ticks.{Tick, at, exec, is_complete, wleft}
 use Rattle.sched_model.proofs.JobLaws.{lt-due, due-within, last_release-le, latest_since-le, latest-marked}
 use Rattle.sched_model.specs.States.{no_row, row_at, row_wleft, row_of, state_of}
 use Rattle.sched_model.proofs.Tables.{get-table}
+use Rattle.sched_model.proofs.Service.{exec-drop}
 use Rattle.governor.specs.Steps.{IsAtDecision, release_of}
 
-exec-grows : (p : Plan) (past : List Tick) (n i k : ℕ) → exec p (drop n past) i k ≤ exec p past i k
-exec-grows p past zero i k = omega arith
-exec-grows p [] (suc n) i k = omega arith
-exec-grows p (x ∷ past) (suc n) i k = omega (arith, exec-grows p past n i k)
-
 module _ (p : Plan) (adm : Bounds p) where
-  pub before-due : (i t : ℕ) → (t < due p i (latest p i t)) × (due p i (latest p i t) ≤ t + 2 ^ 40)
-  before-due i t = (lt-due p i t (adm.some_period i), due-within p i t (2 ^ 40) (adm.some_period i) (adm.low_offset i) (adm.low_period i))
+  pub before-due : (i t : ℕ) → (t < due p i (latest p i t)) × (due p i (latest p i t) ≤ t + LONGEST_PERIOD)
+  before-due i t = (lt-due p i t (adm.some_period i), due-within p i t LONGEST_PERIOD (adm.some_period i) (adm.low_offset i) (adm.low_period i))
 
   -- each base is at least what the job may still need
   pub base-high : (dem : ℕ → ℕ → ℕ) (past : List Tick) (i : ℕ) → i < count p → wleft p dem past i ≤ wleft p dem (at (last_release p (length past)) past) i
@@ -34,7 +31,7 @@ module _ (p : Plan) (adm : Bounds p) where
       job = ap (latest p i) long ∙ latest-marked p i (length past) (adm.some_period i) lt
 
       had : exec p earlier i (latest p i (length earlier)) ≤ exec p past i (latest p i (length past))
-      had = omega (arith, ap (exec p earlier i) job, exec-grows p past (length past - last_release p (length past)) i (latest p i (length past)))
+      had = omega (arith, ap (exec p earlier i) job, exec-drop p i (latest p i (length past)) (length past - last_release p (length past)) past)
 
       go : (a : Bool) → is_complete p dem past i ≡ a → (b : Bool) → is_complete p dem earlier i ≡ b → wleft p dem past i ≤ wleft p dem earlier i
       go true e b f = rw e (omega arith)

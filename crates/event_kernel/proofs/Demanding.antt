@@ -18,10 +18,6 @@ module _ (p : Plan) (d : DemandsOf) (list : IsListOf p d) where
       go None e = ap (λ n. n + 2 * p.machine.charge) (sym e)
       go (Some u) e = refl
 
-  pub demand-units : (i k : ℕ) → i < count p → 0 < k → demands_of p d i k ≡ units_of d i k + 2 * p.machine.charge
-  demand-units i zero lt pos = absurd (omega arith)
-  demand-units i (suc k) lt pos = charged i (suc k) lt
-
   pub demand-within : IsWithinWorsts d → IsWithin p (demands_of p d)
   demand-within low = record { most = most; none = λ i. refl }
     where

@@ -45,7 +45,8 @@ module _ (p : Plan) (dem : ℕ → ℕ → ℕ) (ask : List Tick → Frac) (past
       → units_by p dem past given ++ replicate rest Nobody ≡ units_of p past (tick_now p dem ask past)
   end-units given rest same sum =
       ap₂ (λ us m. us ++ replicate m Nobody)
-      (laid_out-same (job p dem past) given (share (tick_now p dem ask past)) (count p) (in_order (key p dem past) (count p)) (in_order-below (key p dem past) (count p)) same)
+      (laid_out-same (job p dem past) given (share (tick_now p dem ask past)) (count p) (in_order (key p dem past) (count p))
+      (in_order-below (key p dem past) (count p)) same)
       (omega (arith, sum, sum_below-same (count p) given (share (tick_now p dem ask past)) same))
 
   own : (i : ℕ) → i < count p → share (tick_now p dem ask past) i ≤ left p dem past i
@@ -66,7 +67,8 @@ module _ (p : Plan) (dem : ℕ → ℕ → ℕ) (ask : List Tick → Frac) (past
       ap (λ (s : StateOf). after_advance s (length past + 1)) is
       ∙ (ap (λ rows. record { now = length past + 1; rows = rows; base_at = (state_of p dem past).base_at; base = (state_of p dem past).base })
       (table-same (count p) (given_row p dem past given) (prior_row p dem ((tick_now p dem ask past) ∷ past)) (λ i lt.
-      ap (λ g. row_by (due p i (job p dem past i)) (job p dem past i) (had p dem past i + g) (nat_le (dem i (job p dem past i)) (had p dem past i + g)) (worst p i)) (same i lt)
+      ap (λ g. row_by (due p i (job p dem past i)) (job p dem past i) (had p dem past i + g)
+      (nat_le (dem i (job p dem past i)) (had p dem past i + g)) (worst p i)) (same i lt)
       ∙ sym (row-ran p dem periods (tick_now p dem ask past) past i (none i) (own i lt))))
       ∙ sym (state-ran p dem periods (tick_now p dem ask past) past))
 

@@ -1,5 +1,5 @@
 -- Units of a holder come after those of the trace's segment: the notes and the trace are then those of the longer span.
-use Rattle.std.proofs.Common.{◌≡◌, ℕ, zero, suc, ◌+◌, ◌*◌, ◌<◌, ◌≤◌, Bool, true, false, not, ◌&&◌, List, [], ◌∷◌, ◌++◌, length, replicate, refl, arith, if◌then◌else◌, ap, ap₂, ◌∙◌, sym, subst, true≢false, ◌⊎◌, inl, inr, append-nil, append_assoc, length-append, nat_eq, nat_le, nat_lt, mul-le-mul_left}
+use Rattle.std.proofs.Common.{◌≡◌, ℕ, zero, suc, ◌+◌, ◌*◌, ◌<◌, ◌≤◌, Bool, true, false, not, ◌&&◌, List, [], ◌∷◌, ◌++◌, length, replicate, refl, arith, if◌then◌else◌, ap, ap₂, ◌∙◌, sym, subst, true≢false, ◌⊎◌, inl, inr, append-nil, append_assoc, length-append, nat_eq, nat_le, nat_lt}
 use Rattle.std.specs.Prelude.{count_by}
 use Rattle.std.proofs.lemmas.List.{take_all, length-replicate}
 use Rattle.std.proofs.lemmas.Bool.Decides.{nat_tests}
@@ -20,13 +20,11 @@ use Rattle.sched_model.proofs.PieceLemmas.{piece, same_holder-eq, pieces_of-run,
 use Rattle.event_kernel.specs.declared.trace.Trace.{Trace}
 use Rattle.event_kernel.specs.Segment.{closed, last_of, grown, head_notes, open_notes, holder_notes, written_notes, run_part, idle_part, told_trace, is_turn, with_units, entered, entering_notes, cost}
 use Rattle.event_kernel.specs.Sums.{sums_of, added}
+use Rattle.energy.proofs.UnitCosts.{energy-most}
 use Rattle.grid_fraction.proofs.Counts.{count-append}
 use Rattle.event_kernel.proofs.Summing.{sums-append, added-none, added-holder, ended-most}
 use Rattle.event_kernel.specs.Writing.{HeldNow, Writing}
 use Rattle.event_kernel.proofs.Pieces.{split_last, closed-snoc, last-snoc, pieces_of-more, pieces_of-other, have-last, total, total-pieces, total-append, no_pieces, pieces_notes-append, segment_notes-grown, pieces_notes-grown}
-
-pub energy-most : (u m r : ℕ) → m ≤ 20000 → r ≤ 1000 → u * m * m * r ≤ 400000000000 * u
-energy-most u m r hm hr = omega (arith, mul-le-mul_left u hm, mul-le-mul_left (u * m) hm, mul-le-mul_left (u * m * m) hr)
 
 pub parts-most : (p : Plan) → Bounds p → (e u : ℕ) (h : Holder) → run_part p e u h + idle_part p e u h ≤ cost * u
 parts-most p adm e u Nobody = omega (arith, energy-most u (point p e).millivolts p.machine.idle (adm.low_millivolts e) adm.low_idle)
@@ -59,11 +57,13 @@ module _ (p : Plan) (dem : ℕ → ℕ → ℕ) (ask : List Tick → Frac) (t : 
   tells s used st q u Nobody taken place had shows = refl
   tells s used st q u (Held i k) taken place had shows =
       ap (λ ns. Run (at_unit q) (at_unit (q + u)) i k u (run_energy p s.entry u) ∷ ns)
-      (subst (λ n. (if nat_eq (had_by p s (q + u) i n) (dem i n) then Done (at_unit (q + u)) i k (dem i n) ∷ [] else []) ≡ (if (row_at st i).done then Done (at_unit (q + u)) i k (row_at st i).used ∷ [] else []))
+      (subst (λ n. (if nat_eq (had_by p s (q + u) i n) (dem i n) then Done (at_unit (q + u)) i k (dem i n) ∷ [] else [])
+      ≡ (if (row_at st i).done then Done (at_unit (q + u)) i k (row_at st i).used ∷ [] else []))
       (sym taken.1)
       (ap₂ (λ a b. if nat_eq a (dem i now) then Done (at_unit (q + u)) i k (dem i now) ∷ [] else b) whole refl
       ∙ (go (nat_eq (used i) (dem i now)) refl
-      ∙ ap₂ (λ b n. if b then Done (at_unit (q + u)) i k n ∷ [] else []) (sym (test_same (dem i now) (used i) (shows.within i taken.0)) ∙ sym (shows.done_is i taken.0)) (sym (shows.used_is i taken.0)))))
+      ∙ ap₂ (λ b n. if b then Done (at_unit (q + u)) i k n ∷ [] else []) (sym (test_same (dem i now) (used i) (shows.within i taken.0))
+      ∙ sym (shows.done_is i taken.0)) (sym (shows.used_is i taken.0)))))
     where
       now : ℕ
       now = latest p i t
@@ -83,7 +83,8 @@ module _ (p : Plan) (dem : ℕ → ℕ → ℕ) (ask : List Tick → Frac) (t : 
   pub record Grows (s : Span) (h : Holder) (n : ℕ) (trace : Trace) (turn : Bool) : Type 0 where
     pub is : is_turn trace h ≡ turn
     pub last : last_of (pieces_of (s.units ++ replicate n h)) ≡ piece h ((if turn then 0 else trace.segment.units) + n)
-    pub notes : pieces_notes p dem (grown s (replicate n h)) 0 (closed (pieces_of (s.units ++ replicate n h))) ≡ pieces_notes p dem s 0 (closed (pieces_of s.units)) ++ (if turn then segment_notes p dem s trace.segment.start trace.segment.units trace.segment.holder else [])
+    pub notes : pieces_notes p dem (grown s (replicate n h)) 0 (closed (pieces_of (s.units ++ replicate n h))) ≡ pieces_notes p dem s 0
+        (closed (pieces_of s.units)) ++ (if turn then segment_notes p dem s trace.segment.start trace.segment.units trace.segment.holder else [])
 
   pub grows : (s : Span) (h : Holder) (n : ℕ) (trace : Trace) → 0 < n
       → trace.segment.units ≡ (last_of (pieces_of s.units)).units → trace.segment.holder ≡ (last_of (pieces_of s.units)).holder
@@ -101,7 +102,8 @@ module _ (p : Plan) (dem : ℕ → ℕ → ℕ) (ask : List Tick → Frac) (t : 
       by_last (inl e) =
           let none : s.units ≡ [] = no_pieces s.units e in
           let zero_units : trace.segment.units ≡ 0 = ue ∙ ap (λ rs. (last_of rs).units) e in
-          let fresh : pieces_of (s.units ++ replicate (suc n) h) ≡ piece h (suc n) ∷ [] = ap (λ us. pieces_of (us ++ replicate (suc n) h)) none ∙ pieces_of-run n h in (
+          let fresh : pieces_of (s.units ++ replicate (suc n) h) ≡ piece h (suc n) ∷ [] =
+          ap (λ us. pieces_of (us ++ replicate (suc n) h)) none ∙ pieces_of-run n h in (
             false,
             record {
               is = ap (λ u. nat_lt 0 u && not (same_holder trace.segment.holder h)) zero_units;
@@ -154,9 +156,12 @@ module _ (p : Plan) (dem : ℕ → ℕ → ℕ) (ask : List Tick → Frac) (t : 
               )
           by_holder false e =
               let differs : same_holder r.holder h ≡ false = ap (λ x. same_holder x h) (sym same_hold) ∙ e in
-              let more : pieces_of (s.units ++ replicate (suc n) h) ≡ (done ++ r ∷ []) ++ piece h (suc n) ∷ [] = pieces_of-other n s.units done r h f.2 differs in
-              let start_is : total done ≡ trace.segment.start = omega (arith, total-pieces s.units, ap total f.2, total-append done (r ∷ []), place, same_units) in
-              let seg : segment_notes p dem (grown s (replicate (suc n) h)) (0 + total done) r.units r.holder ≡ segment_notes p dem s trace.segment.start trace.segment.units trace.segment.holder =
+              let more : pieces_of (s.units ++ replicate (suc n) h) ≡ (done ++ r ∷ []) ++ piece h (suc n) ∷ [] =
+              pieces_of-other n s.units done r h f.2 differs in
+              let start_is : total done ≡ trace.segment.start =
+              omega (arith, total-pieces s.units, ap total f.2, total-append done (r ∷ []), place, same_units) in
+              let seg : segment_notes p dem (grown s (replicate (suc n) h)) (0 + total done) r.units r.holder
+              ≡ segment_notes p dem s trace.segment.start trace.segment.units trace.segment.holder =
               ap (λ q. segment_notes p dem (grown s (replicate (suc n) h)) q r.units r.holder) (omega (arith, start_is))
               ∙ (ap₂ (λ u x. segment_notes p dem (grown s (replicate (suc n) h)) trace.segment.start u x) (sym same_units) (sym same_hold)
               ∙ segment_notes-grown p dem s (replicate (suc n) h) trace.segment.start trace.segment.units trace.segment.holder (omega (arith, place))) in (
@@ -226,7 +231,8 @@ module _ (p : Plan) (dem : ℕ → ℕ → ℕ) (ask : List Tick → Frac) (t : 
           ∙ (ap (λ c. added trace.sums (if c then written_notes p st (length s.past) s.entry trace else [])) e ∙ go b)))
         where
           go : (b : Bool)
-              → added trace.sums (if b then written_notes p st (length s.past) s.entry trace else []) ≡ (if b then (told_trace p st s.entry trace).sums else trace.sums)
+              → added trace.sums (if b then written_notes p st (length s.past) s.entry trace else [])
+              ≡ (if b then (told_trace p st s.entry trace).sums else trace.sums)
           go true =
               added-holder p st
               (position_of (length s.past) ((point p s.entry).speed)) s.entry trace.segment.start trace.segment.units trace.segment.holder trace.sums

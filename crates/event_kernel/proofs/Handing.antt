@@ -1,5 +1,5 @@
 -- The units of one tick, handed out to one task after the other.
-use Rattle.std.proofs.Common.{◌≡◌, ◌≢◌, ℕ, zero, suc, ◌+◌, ◌-◌, ◌*◌, ◌<◌, ◌≤◌, min, Bool, true, false, not, eqb, ◌&&◌, ◌||◌, List, [], ◌∷◌, ◌++◌, length, replicate, refl, arith, if◌then◌else◌, ap, ap₂, ◌∙◌, sym, subst, true≢false, append-nil, append_assoc, nat_eq, nat_le, nat_lt}
+use Rattle.std.proofs.Common.{◌≡◌, ◌≢◌, ℕ, ◌+◌, ◌-◌, ◌*◌, ◌<◌, ◌≤◌, min, Bool, true, false, not, eqb, ◌&&◌, ◌||◌, List, [], ◌∷◌, ◌++◌, length, replicate, refl, arith, if◌then◌else◌, ap, ap₂, ◌∙◌, sym, subst, true≢false, append-nil, append_assoc, nat_eq, nat_le, nat_lt}
 use Rattle.std.specs.Prelude.{count_by, flat_map}
 use Rattle.std.proofs.lemmas.Bool.Decides.{nat_tests}
 use Rattle.std.proofs.lemmas.List.Folds.{sum_by-replicate}
@@ -17,7 +17,7 @@ use Rattle.sched_model.specs.Priority.{key_of, stands_before, sum_before}
 use Rattle.sched_model.specs.Greedy.{IsFirstOpen}
 use Rattle.sched_model.specs.Segments.{same_holder}
 use Rattle.sched_model.specs.States.{no_row, row_at, StateOf, row_of, state_of}
-use Rattle.grid_fraction.proofs.Sums.{sum_below-same, sum_below-add, sum_below-own}
+use Rattle.grid_fraction.proofs.Sums.{sum_below-zero, sum_below-same, sum_below-add, sum_below-own}
 use Rattle.sched_model.proofs.Tables.{get-table, table-same, set-table}
 use Rattle.sched_model.proofs.PriorityLemmas.{before-self}
 use Rattle.sched_model.proofs.GreedyLemmas.{IsHandedOut, handed-start, handed-step, handed_before, up_to-before}
@@ -52,14 +52,16 @@ laid_out-step : (key job given given' : ℕ → ℕ) (n i : ℕ) (pre post : Lis
 laid_out-step key job given given' n i [] post below ordered zero_i others none =
     let here : stands_before key i i ≡ false = before-self key i in
     let nothing : laid_out job given post ≡ [] = laid_out-after key job given n i post below.1 ordered.0 none in
-    let still : laid_out job given' post ≡ [] = laid_out-after key job given' n i post below.1 ordered.0 (λ k lt h. others k lt (λ q. absurd (true≢false (sym h ∙ (ap (stands_before key i) q ∙ here)))) ∙ none k lt h) in
+    let still : laid_out job given' post ≡ [] = laid_out-after key job given' n i post below.1 ordered.0
+    (λ k lt h. others k lt (λ q. absurd (true≢false (sym h ∙ (ap (stands_before key i) q ∙ here)))) ∙ none k lt h) in
     ap (λ us. replicate (given' i) (Held i (job i)) ++ us) still
     ∙ (append-nil (replicate (given' i) (Held i (job i)))
     ∙ sym (ap₂ (λ m us. (replicate m (Held i (job i)) ++ us) ++ replicate (given' i) (Held i (job i))) zero_i nothing))
 laid_out-step key job given given' n i (j ∷ pre) post below ordered zero_i others none =
     let first : stands_before key j i ≡ true = first_ahead key j i pre post ordered.0 in
     let other : j ≢ i = λ q. absurd (true≢false (sym first ∙ (ap (λ m. stands_before key m i) q ∙ before-self key i))) in
-    ap₂ (λ m us. replicate m (Held j (job j)) ++ us) (others j below.0 other) (laid_out-step key job given given' n i pre post below.1 ordered.1 zero_i others none)
+    ap₂ (λ m us. replicate m (Held j (job j)) ++ us) (others j below.0 other)
+    (laid_out-step key job given given' n i pre post below.1 ordered.1 zero_i others none)
     ∙ sym (append_assoc (replicate (given j) (Held j (job j))) (laid_out job given (pre ++ i ∷ post)) (replicate (given' i) (Held i (job i))))
 
 -- one value of a function changed
@@ -121,7 +123,12 @@ module _ (p : Plan) (dem : ℕ → ℕ → ℕ) (past : List Tick) where
   given_row given i = row_by (due p i (job i)) (job i) (had i + given i) (nat_le (dem i (job i)) (had i + given i)) (worst p i)
 
   abbrev pub given_state : (ℕ → ℕ) → StateOf
-  given_state given = record { now = length past; rows = list_below (count p) (given_row given); base_at = (state_of p dem past).base_at; base = (state_of p dem past).base }
+  given_state given = record {
+    now = length past;
+    rows = list_below (count p) (given_row given);
+    base_at = (state_of p dem past).base_at;
+    base = (state_of p dem past).base;
+  }
 
   abbrev pub ends_in : (ℕ → ℕ) → ℕ → Bool
   ends_in given i = not (nat_le (dem i (job i)) (had i)) && nat_le (dem i (job i)) (had i + given i)
@@ -136,14 +143,11 @@ module _ (p : Plan) (dem : ℕ → ℕ → ℕ) (past : List Tick) where
   pub start-state : state_of p dem past ≡ given_state (λ _. 0)
   start-state =
       ap (λ rows. record { now = length past; rows = rows; base_at = (state_of p dem past).base_at; base = (state_of p dem past).base })
-      (table-same (count p) (row_of p dem past) (given_row (λ _. 0)) (λ i lt. ap (λ u. row_by (due p i (job i)) (job i) u (nat_le (dem i (job i)) u) (worst p i)) (plus_zero (had i))))
+      (table-same (count p) (row_of p dem past) (given_row (λ _. 0))
+      (λ i lt. ap (λ u. row_by (due p i (job i)) (job i) u (nat_le (dem i (job i)) u) (worst p i)) (plus_zero (had i))))
     where
       plus_zero : (n : ℕ) → n ≡ n + 0
       plus_zero n = omega arith
-
-  no_sum : (n : ℕ) → sum_below n (λ _. 0) ≡ 0
-  no_sum zero = refl
-  no_sum (suc n) = omega (arith, no_sum n)
 
   none_ends : (i : ℕ) → ends_in (λ _. 0) i ≡ false
   none_ends i = go (nat_le (dem i (job i)) (had i)) refl
@@ -156,7 +160,7 @@ module _ (p : Plan) (dem : ℕ → ℕ → ℕ) (past : List Tick) where
   start f = record {
     handed = handed-start (count p) key f (left p dem past);
     state = start-state;
-    sum = omega (arith, no_sum (count p));
+    sum = omega (arith, sum_below-zero (count p) (λ _. 0) (λ i lt. refl));
     ends = sym (any_below-none (count p) (ends_in (λ _. 0)) (λ i lt. none_ends i));
   }
 
@@ -253,7 +257,8 @@ module _ (p : Plan) (dem : ℕ → ℕ → ℕ) (past : List Tick) where
       raised_is : had i + raised given i share i ≡ had i + given i + share
       raised_is = omega (arith, raised-here given i share)
 
-      here : given_row (raised given i share) i ≡ row_by (row_at (given_state given) i).deadline (row_at (given_state given) i).job ((row_at (given_state given) i).used + share) whole (row_at (given_state given) i).worst
+      here : given_row (raised given i share) i ≡ row_by (row_at (given_state given) i).deadline (row_at (given_state given) i).job
+          ((row_at (given_state given) i).used + share) whole (row_at (given_state given) i).worst
       here =
           ap (λ u. row_by (due p i (job i)) (job i) u (nat_le (dem i (job i)) u) (worst p i)) raised_is
           ∙ (ap (λ b. row_by (due p i (job i)) (job i) (had i + given i + share) b (worst p i)) (is_whole whole (sym we))

@@ -3,7 +3,6 @@ pub mod Bounds
 pub mod Pieces
 pub mod Summing
 pub mod Booking
-pub mod Telling
 pub mod Writing
 pub mod Tellers
 pub mod Entering
@@ -13,7 +12,6 @@ pub mod Hearing
 pub mod Beginnings
 pub mod Serving
 pub mod Wholes
-pub mod Firstversion
 pub mod Working
 pub mod Atwork
 pub mod Ofplan

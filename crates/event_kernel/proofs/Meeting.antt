@@ -18,7 +18,9 @@ use Rattle.governor.proofs.Course.{course-met, demand-met}
 use Rattle.event_kernel.specs.Runs.{Run, demands_of, ticks_of, notes_of_run, IsListOf, MeetsDeadlines, MeetsDemands}
 use Rattle.event_kernel.proofs.Demanding.{demand-within}
 
-module _ (kind : GovernorKind) (serves : Scheduler → Type 0) (demand : Plan → StateOf → Frac) (calm : Plan → StateOf → Type 0) (safe : Plan → StateOf → ℕ → Type 0) (laws : GovernorLaws kind serves demand calm safe) (p : Plan) (d : DemandsOf) (ticks : ℕ) (adm : IsAdmitted p) (list : IsListOf p d) (low : IsWithinWorsts d) (served : serves p.scheduler) where
+module _ (kind : GovernorKind) (serves : Scheduler → Type 0) (demand : Plan → StateOf → Frac) (calm : Plan → StateOf → Type 0)
+    (safe : Plan → StateOf → ℕ → Type 0) (laws : GovernorLaws kind serves demand calm safe) (p : Plan) (d : DemandsOf) (ticks : ℕ)
+    (adm : IsAdmitted p) (list : IsListOf p d) (low : IsWithinWorsts d) (served : serves p.scheduler) where
   abbrev pub run : Run
   run = record { plan = p; demands = d; ticks = ticks }
 

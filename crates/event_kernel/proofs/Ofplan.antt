@@ -9,7 +9,6 @@ use Rattle.sched_model.specs.Ticks.{Tick, exec}
 use Rattle.sched_model.specs.States.{StateOf, no_row, row_at, prior_row, prior_state, row_of, state_of, prior_base, after_run, after_release, CanRun, CanRelease, IsOfPlan}
 use Rattle.sched_model.proofs.ScheduleLemmas.{length-list_below}
 use Rattle.sched_model.proofs.Tables.{get-table}
-use Rattle.event_kernel.specs.Tickwork.{served}
 
 module _ (p : Plan) where
   pub of-table : (now base_at : ℕ) (row : ℕ → Row) (base : ℕ → ℕ) → ((i : ℕ) → i < count p → (row i).worst ≡ worst p i)
@@ -19,7 +18,13 @@ module _ (p : Plan) where
     rows = length-list_below (count p) row;
     base = length-list_below (count p) base;
     worst = λ i lt. ap (λ (r : Row). r.worst) (get-table (count p) row i no_row lt) ∙ w i lt;
-    used = λ i lt. omega (arith, ap (λ (r : Row). r.used) (get-table (count p) row i no_row lt), ap (λ (r : Row). r.worst) (get-table (count p) row i no_row lt), w i lt, u i lt);
+    used = λ i lt. omega (
+      arith,
+      ap (λ (r : Row). r.used) (get-table (count p) row i no_row lt),
+      ap (λ (r : Row). r.worst) (get-table (count p) row i no_row lt),
+      w i lt,
+      u i lt,
+    );
   }
 
   pub of-state : (dem : ℕ → ℕ → ℕ) (past : List Tick) → ((i k : ℕ) → i < count p → exec p past i k ≤ worst p i) → IsOfPlan p (state_of p dem past)
@@ -69,13 +74,15 @@ module _ (p : Plan) where
           (omega (arith, ap (λ (q : Row). q.used) here, ap (λ (q : Row). q.worst) here, w, u))
       in-it k l false e =
           let other : k ≢ i = grind (arith, nat_tests) in
-          omega (arith, ap (λ (q : Row). q.used) (get_or-set_other s.rows i k r no_row other), ap (λ (q : Row). q.worst) (get_or-set_other s.rows i k r no_row other), o.used k l)
+          omega (
+            arith,
+            ap (λ (q : Row). q.used) (get_or-set_other s.rows i k r no_row other),
+            ap (λ (q : Row). q.worst) (get_or-set_other s.rows i k r no_row other),
+            o.used k l,
+          )
 
   pub of-run : (s : StateOf) (i units : ℕ) → IsOfPlan p s → CanRun s i units → IsOfPlan p (after_run s i units)
   of-run s i units o c = of-set s i (record (row_at s i) { used = (row_at s i).used + units }) o c.task refl c.room
-
-  pub of-served : (s : StateOf) (i units : ℕ) (ends : Bool) → IsOfPlan p s → CanRun s i units → IsOfPlan p (served s i units ends)
-  of-served s i units ends o c = of-set s i (record (row_at s i) { used = (row_at s i).used + units; done = ends }) o c.task refl c.room
 
   pub of-release : (s : StateOf) (i : ℕ) → IsOfPlan p s → CanRelease p s i → IsOfPlan p (after_release p s i)
   of-release s i o c = of-set s i _ o c.task refl (omega arith)

@@ -1,8 +1,9 @@
 -- The steps of a span, as its functions tell them.
-use Rattle.std.proofs.Common.{◌≡◌, ℕ, ◌+◌, ◌-◌, ◌<◌, ◌≤◌, ◌^◌, Bool, true, false, ◌||◌, [], ◌∷◌, ◌++◌, refl, arith, ap, ◌∙◌, sym, subst, true≢false, ◌⊎◌, inl, inr, nat_eq}
+use Rattle.std.proofs.Common.{◌≡◌, ℕ, ◌+◌, ◌-◌, ◌<◌, ◌≤◌, Bool, true, false, ◌||◌, [], ◌∷◌, ◌++◌, refl, arith, ap, ◌∙◌, sym, subst, true≢false, ◌⊎◌, inl, inr, nat_eq}
 use Rattle.std.proofs.lemmas.Bool.Decides.{nat_tests}
 use Rattle.grid_fraction.specs.declared.Frac.{Frac}
 use Rattle.dvs_base.specs.declared.note.Note.{Note}
+use Rattle.dvs_base.specs.declared.limits.TheConstants.{MOST_TICKS}
 use Rattle.event_kernel.proofs.Bounds.{Bounds}
 use Rattle.sched_model.specs.Plan.{Plan}
 use Rattle.sched_model.specs.Decision.{is_decision}
@@ -73,7 +74,8 @@ module _ {L : Type 0} (heard balked : L → Note → L → Type 0) (demand : Pla
       balked-begins heard balked (told_in demand p dem t) (told_before demand p dem ticks) a to (in-begins t lt)
       (subst (λ ns. HasBalked heard balked a ns to) (sym (open-new demand p dem t e))
       (balked_after heard balked (told_before demand p dem t) (all_release_notes p dem t ++ the_note t ∷ []) a from to before
-      (balked_after heard balked (all_release_notes p dem t) (the_note t ∷ []) from mid to h (subst (λ n. HasBalked heard balked mid (n ∷ []) to) (note-is t s is) g))))
+      (balked_after heard balked (all_release_notes p dem t) (the_note t ∷ []) from mid to h
+      (subst (λ n. HasBalked heard balked mid (n ∷ []) to) (note-is t s is) g))))
 
   -- a tick
   pub tick-balked : (t : ℕ) (a to : L) → t < ticks → HasBalked heard balked a (told_after demand p dem t) to
@@ -81,7 +83,9 @@ module _ {L : Type 0} (heard balked : L → Note → L → Type 0) (demand : Pla
   tick-balked t a to lt b =
       balked-begins heard balked (told_after demand p dem t) (told_before demand p dem ticks) a to (whole-begins demand p dem t ticks lt) b
 
-module _ {demand : Plan → StateOf → Frac} {p : Plan} {dem : ℕ → ℕ → ℕ} {ticks : ℕ} (adm : Bounds p) (low_ticks : ticks ≤ 2 ^ 40) {t0 t e : ℕ} {s0 s : StateOf} {trace0 trace : Trace} {completed : Bool} (i : IsInSpan demand p dem ticks t0 t e s0 trace0) (h : HasWorked demand p dem t s trace completed) where
+module _ {demand : Plan → StateOf → Frac} {p : Plan} {dem : ℕ → ℕ → ℕ} {ticks : ℕ} (adm : Bounds p)
+    (low_ticks : ticks ≤ MOST_TICKS) {t0 t e : ℕ} {s0 s : StateOf} {trace0 trace : Trace} {completed : Bool}
+    (i : IsInSpan demand p dem ticks t0 t e s0 trace0) (h : HasWorked demand p dem t s trace completed) where
   pub now-next : s.now ≡ t + 1
   now-next = ap (λ (v : StateOf). v.now) h.state ∙ course-len demand p dem (t + 1)
 

@@ -105,7 +105,8 @@ pub segment_notes-grown : (p : Plan) (dem : ℕ → ℕ → ℕ) (s : Span) (mor
 segment_notes-grown p dem s more q u Nobody le = refl
 segment_notes-grown p dem s more q u (Held i k) le =
     let same : take (q + u) (s.units ++ more) ≡ take (q + u) s.units = take-append-le (q + u) s.units more le in
-    ap (λ had. Run (position_of (length s.past) ((point p s.entry).speed) q) (position_of (length s.past) ((point p s.entry).speed) (q + u)) i k u (run_energy p s.entry u)
+    ap (λ had. Run (position_of (length s.past) ((point p s.entry).speed) q)
+    (position_of (length s.past) ((point p s.entry).speed) (q + u)) i k u (run_energy p s.entry u)
     ∷ (if nat_eq had (dem i k) then Done (position_of (length s.past) ((point p s.entry).speed) (q + u)) i k (dem i k) ∷ [] else []))
     (ap (λ us. exec p s.past i k + count_by (same_holder (Held i k)) us) same)
 

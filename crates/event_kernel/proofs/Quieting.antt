@@ -1,13 +1,13 @@
 -- How many ticks of a span come before its last one, and that it ends after that one.
-use Rattle.std.proofs.Common.{◌≡◌, ℕ, zero, suc, ◌+◌, ◌-◌, ◌*◌, ◌/◌, ◌^◌, ◌<◌, ◌≤◌, min, Bool, true, false, not, ◌&&◌, List, ◌∷◌, length, refl, arith, ap, ap₂, ◌∙◌, sym, subst, ◌⊎◌, inl, inr, nat_eq, nat_le, div-add-mod', mod-lt, mul-le-mul_left, zero-mul}
+use Rattle.std.proofs.Common.{◌≡◌, ℕ, ◌+◌, ◌-◌, ◌*◌, ◌/◌, ◌^◌, ◌<◌, ◌≤◌, min, Bool, true, false, not, ◌&&◌, List, ◌∷◌, length, refl, arith, ap, ap₂, ◌∙◌, sym, subst, ◌⊎◌, inl, inr, nat_eq, nat_le, div-add-mod', mod-lt, mul-le-mul_left, zero-mul}
 use Rattle.std.specs.Prelude.{Option, None, Some, IfSome, IfNone}
 use Rattle.std.proofs.lemmas.Bool.{cases_lt}
 use Rattle.std.proofs.lemmas.Bool.Decides.{nat_tests}
 use Rattle.grid_fraction.specs.declared.Frac.{Frac}
-use Rattle.grid_fraction.specs.Numbers.{least_below}
 use Rattle.grid_fraction.proofs.Searches.{any_below-found}
-use Rattle.grid_fraction.proofs.Least.{least-below, least-above}
+use Rattle.grid_fraction.proofs.Least.{least-below, least-above, least-found}
 use Rattle.dvs_base.specs.declared.note.Note.{Note}
+use Rattle.dvs_base.specs.declared.limits.TheConstants.{MOST_TICKS}
 use Rattle.sched_model.specs.declared.state.Row.{Row}
 use Rattle.sched_model.specs.Plan.{Plan, count, point}
 use Rattle.sched_model.specs.Jobs.{latest}
@@ -37,16 +37,10 @@ use Rattle.event_kernel.proofs.Working.{course-next}
 use Rattle.event_kernel.proofs.Spanning.{ends-span}
 use Rattle.event_kernel.proofs.Staying.{mul-le, row-served, due-served, first-served}
 
--- one of the numbers has the least value
-least-found : (n : ℕ) (f : ℕ → ℕ) → 0 < n → (i : ℕ) × (i < n) × (f i ≡ least_below n f)
-least-found zero f some = absurd (omega arith)
-least-found (suc zero) f some = (0, omega arith, refl)
-least-found (suc (suc n)) f some = go (least-found (suc n) f (omega arith)) (cases_lt (f (suc n)) (least_below (suc n) f))
-  where
-    go : ((i : ℕ) × (i < suc n) × (f i ≡ least_below (suc n) f)) → (f (suc n) < least_below (suc n) f) ⊎ (least_below (suc n) f ≤ f (suc n))
-        → (i : ℕ) × (i < suc (suc n)) × (f i ≡ min (least_below (suc n) f) (f (suc n)))
-    go r (inl lt) = (suc n, omega arith, omega (arith, lt))
-    go r (inr le) = (r.0, (let l = r.1 in omega (arith, l)), (let q = r.2 in omega (arith, q, le)))
+-- one of two is one of three
+two-of-three : {A B C : Type 0} → A ⊎ B → A ⊎ (B ⊎ C)
+two-of-three (inl a) = inl a
+two-of-three (inr b) = inr (inl b)
 
 -- whole ticks of what is needed, less one unit
 whole-most : (n f : ℕ) → (n / f) * f ≤ n
@@ -70,15 +64,13 @@ pub first-in : (p : Plan) (s : StateOf) (r : Option ℕ) → length s.rows ≡ c
 first-in p s None long is = tt
 first-in p s (Some i) long is = omega (arith, is.below, long)
 
-module _ {demand : Plan → StateOf → Frac} {p : Plan} {dem : ℕ → ℕ → ℕ} {ticks : ℕ} (adm : Bounds p) (low_ticks : ticks ≤ 2 ^ 40) {t0 e : ℕ} {st : StateOf} {trace : Trace} (here : IsInSpan demand p dem ticks t0 st.now e st trace) where
+module _ {demand : Plan → StateOf → Frac} {p : Plan} {dem : ℕ → ℕ → ℕ} {ticks : ℕ} (adm : Bounds p)
+    (low_ticks : ticks ≤ MOST_TICKS) {t0 e : ℕ} {st : StateOf} {trace : Trace} (here : IsInSpan demand p dem ticks t0 st.now e st trace) where
   abbrev f : ℕ
   f = (point p e).speed
 
-  pub entry-in : e < length p.machine.points
-  entry-in = entry-there adm here.work
-
   pub some-speed : 0 < f
-  some-speed = adm.some_speed e entry-in
+  some-speed = adm.some_speed e (entry-there adm here.work)
 
   w0 : AtWork silent silent demand p dem st.now 0 0 f false st trace
   w0 = begin adm here.work f refl
@@ -96,7 +88,8 @@ module _ {demand : Plan → StateOf → Frac} {p : Plan} {dem : ℕ → ℕ → 
 
   pub first-event : st.now < min ticks (earliest_in p st)
   first-event =
-      let late : st.now + 1 ≤ earliest_in p st = least-above (count p) (λ i. (row_at st i).deadline) (st.now + 1) adm.some_task (λ i l. (let b = before i l in omega (arith, b))) in
+      let late : st.now + 1 ≤ earliest_in p st = least-above (count p) (λ i. (row_at st i).deadline) (st.now + 1) adm.some_task
+      (λ i l. (let b = before i l in omega (arith, b))) in
       omega (arith, late, here.before_end)
 
   pub can-tell : CanTell p st t0 e trace
@@ -125,7 +118,8 @@ module _ {demand : Plan → StateOf → Frac} {p : Plan} {dem : ℕ → ℕ → 
       found : (i : ℕ) × (i < count p) × ((row_at st i).deadline ≡ earliest_in p st)
       found = least-found (count p) (λ i. (row_at st i).deadline) adm.some_task
 
-      go : (earliest_in p st < ticks) ⊎ (ticks ≤ earliest_in p st) → (st.now + n + 1 ≡ ticks) ⊎ ((i : ℕ) × (i < count p) × ((row_at st i).deadline ≡ st.now + n + 1))
+      go : (earliest_in p st < ticks) ⊎ (ticks ≤ earliest_in p st)
+          → (st.now + n + 1 ≡ ticks) ⊎ ((i : ℕ) × (i < count p) × ((row_at st i).deadline ≡ st.now + n + 1))
       go (inl lt) = inr (found.0, found.1, (let q = found.2 in omega (arith, q, lt, is, first-event)))
       go (inr le) = inl (omega (arith, le, is, first-event))
 
@@ -134,16 +128,12 @@ module _ {demand : Plan → StateOf → Frac} {p : Plan} {dem : ℕ → ℕ → 
     before_end = within-end n (omega (arith, is));
     no_release = within-releases n (omega (arith, is));
     not_done = λ i q. absurd (cc q);
-    last = go (at-event n is);
+    last = two-of-three (at-event n is);
   }
-    where
-      go : (st.now + n + 1 ≡ ticks) ⊎ ((i : ℕ) × (i < count p) × ((row_at st i).deadline ≡ st.now + n + 1))
-          → (st.now + n + 1 ≡ ticks) ⊎ (((i : ℕ) × (i < count p) × ((row_at st i).deadline ≡ st.now + n + 1)) ⊎ ((i : ℕ) × (None ≡ Some i) × (dem i (row_at st i).job ≤ (row_at st i).used + n * f + f)))
-      go (inl q) = inl q
-      go (inr q) = inr (inl q)
 
   module _ (i : ℕ) (first : IsFirstUndone p st (count p) i) where
-    step : CanRun st i (min f (dem i (row_at st i).job - (row_at st i).used)) × ((row_at st i).used ≤ dem i (row_at st i).job) × (0 < f → 0 < min f (dem i (row_at st i).job - (row_at st i).used))
+    step : CanRun st i (min f (dem i (row_at st i).job - (row_at st i).used)) × ((row_at st i).used ≤ dem i (row_at st i).job)
+        × (0 < f → 0 < min f (dem i (row_at st i).job - (row_at st i).used))
     step = ready adm here.work w0 i (min f (dem i (row_at st i).job - (row_at st i).used)) first refl
 
     pub needs : (row_at st i).used < dem i (row_at st i).job
@@ -175,14 +165,10 @@ module _ {demand : Plan → StateOf → Frac} {p : Plan} {dem : ℕ → ℕ → 
         last-done is = omega (arith, whole-next (lacks - 1) f some-speed, oe, needs, ap (λ m. m * f) is)
 
         go : ((lacks - 1) / f < most) ⊎ (most ≤ (lacks - 1) / f)
-            → (st.now + n + 1 ≡ ticks) ⊎ (((k : ℕ) × (k < count p) × ((row_at st k).deadline ≡ st.now + n + 1)) ⊎ ((k : ℕ) × (Some i ≡ Some k) × (dem k (row_at st k).job ≤ (row_at st k).used + n * f + f)))
+            → (st.now + n + 1 ≡ ticks) ⊎ (((k : ℕ) × (k < count p) × ((row_at st k).deadline ≡ st.now + n + 1))
+            ⊎ ((k : ℕ) × (Some i ≡ Some k) × (dem k (row_at st k).job ≤ (row_at st k).used + n * f + f)))
         go (inl lt) = inr (inr (i, refl, last-done (omega (arith, ne, lt))))
-        go (inr le) = at (at-event n (omega (arith, ne, le)))
-          where
-            at : (st.now + n + 1 ≡ ticks) ⊎ ((k : ℕ) × (k < count p) × ((row_at st k).deadline ≡ st.now + n + 1))
-                → (st.now + n + 1 ≡ ticks) ⊎ (((k : ℕ) × (k < count p) × ((row_at st k).deadline ≡ st.now + n + 1)) ⊎ ((k : ℕ) × (Some i ≡ Some k) × (dem k (row_at st k).job ≤ (row_at st k).used + n * f + f)))
-            at (inl q) = inl q
-            at (inr q) = inr (inl q)
+        go (inr le) = two-of-three (at-event n (omega (arith, ne, le)))
 
   -- the units of the quiet ticks can be run
   pub can-run-first : (first : Option ℕ) {n : ℕ} → IsFirst p st first → AreQuiet p dem ticks e st first n → IfSome first (λ i. CanRun st i (n * f))
@@ -196,7 +182,8 @@ module _ {demand : Plan → StateOf → Frac} {p : Plan} {dem : ℕ → ℕ → 
       first-is : (i : ℕ) → first ≡ Some i → IsFirstUndone p st (count p) i
       first-is i q = subst (IsFirst p st) q is
 
-      go : (st.now + n + 1 ≡ ticks) ⊎ (((i : ℕ) × (i < count p) × ((row_at st i).deadline ≡ st.now + n + 1)) ⊎ ((i : ℕ) × (first ≡ Some i) × (dem i (row_at st i).job ≤ (row_at st i).used + n * f + f)))
+      go : (st.now + n + 1 ≡ ticks) ⊎ (((i : ℕ) × (i < count p) × ((row_at st i).deadline ≡ st.now + n + 1))
+          ⊎ ((i : ℕ) × (first ≡ Some i) × (dem i (row_at st i).job ≤ (row_at st i).used + n * f + f)))
           → IsLastTick p dem ticks e st
       go (inl q) = inl (omega (arith, q, none))
       go (inr (inl q)) = inr (inl (q.0, q.1, (let d = q.2 in omega (arith, d, none))))
@@ -207,7 +194,8 @@ module _ {demand : Plan → StateOf → Frac} {p : Plan} {dem : ℕ → ℕ → 
       → IsLastTick p dem ticks e (after_advance (gives st first (n * f)) (st.now + n))
   last-then None {n} is quiet = go quiet.last
     where
-      go : (st.now + n + 1 ≡ ticks) ⊎ (((i : ℕ) × (i < count p) × ((row_at st i).deadline ≡ st.now + n + 1)) ⊎ ((i : ℕ) × (None ≡ Some i) × (dem i (row_at st i).job ≤ (row_at st i).used + n * f + f)))
+      go : (st.now + n + 1 ≡ ticks) ⊎ (((i : ℕ) × (i < count p) × ((row_at st i).deadline ≡ st.now + n + 1))
+          ⊎ ((i : ℕ) × (None ≡ Some i) × (dem i (row_at st i).job ≤ (row_at st i).used + n * f + f)))
           → IsLastTick p dem ticks e (after_advance st (st.now + n))
       go (inl q) = inl q
       go (inr (inl q)) = inr (inl q)
@@ -217,7 +205,8 @@ module _ {demand : Plan → StateOf → Frac} {p : Plan} {dem : ℕ → ℕ → 
       in_rows : i < length st.rows
       in_rows = omega (arith, is.below, of-plan.rows)
 
-      go : (st.now + n + 1 ≡ ticks) ⊎ (((k : ℕ) × (k < count p) × ((row_at st k).deadline ≡ st.now + n + 1)) ⊎ ((k : ℕ) × (Some i ≡ Some k) × (dem k (row_at st k).job ≤ (row_at st k).used + n * f + f)))
+      go : (st.now + n + 1 ≡ ticks) ⊎ (((k : ℕ) × (k < count p) × ((row_at st k).deadline ≡ st.now + n + 1))
+          ⊎ ((k : ℕ) × (Some i ≡ Some k) × (dem k (row_at st k).job ≤ (row_at st k).used + n * f + f)))
           → IsLastTick p dem ticks e (run_on st i (n * f) (st.now + n))
       go (inl q) = inl q
       go (inr (inl q)) = inr (inl (q.0, q.1, (let d = q.2 in omega (arith, d, due-served st i in_rows (n * f) q.0))))
@@ -225,12 +214,15 @@ module _ {demand : Plan → StateOf → Frac} {p : Plan} {dem : ℕ → ℕ → 
         i,
         first-served st i in_rows (n * f) p (st.now + n) is,
         (let same : q.0 ≡ i = (let r = q.1 in cc r) in
-            let enough : dem i (row_at st i).job ≤ (row_at st i).used + n * f + f = subst (λ k. dem k (row_at st k).job ≤ (row_at st k).used + n * f + f) same q.2 in
+            let enough : dem i (row_at st i).job ≤ (row_at st i).used + n * f + f =
+            subst (λ k. dem k (row_at st k).job ≤ (row_at st k).used + n * f + f) same q.2 in
             subst (λ (r : Row). dem i r.job ≤ r.used + f) (sym (row-served st i in_rows (n * f))) enough),
       ))
 
 -- the span ends after that tick
-module _ {demand : Plan → StateOf → Frac} {p : Plan} {dem : ℕ → ℕ → ℕ} {ticks : ℕ} (adm : Bounds p) (low_ticks : ticks ≤ 2 ^ 40) {t0 e : ℕ} {s0 s : StateOf} {trace0 trace : Trace} {completed : Bool} (here : IsInSpan demand p dem ticks t0 s0.now e s0 trace0) (h : HasWorked demand p dem s0.now s trace completed) where
+module _ {demand : Plan → StateOf → Frac} {p : Plan} {dem : ℕ → ℕ → ℕ} {ticks : ℕ}
+    (adm : Bounds p) (low_ticks : ticks ≤ MOST_TICKS) {t0 e : ℕ} {s0 s : StateOf} {trace0 trace : Trace} {completed : Bool}
+    (here : IsInSpan demand p dem ticks t0 s0.now e s0 trace0) (h : HasWorked demand p dem s0.now s trace completed) where
   abbrev past : List Tick
   past = course demand p dem s0.now
 
@@ -247,7 +239,8 @@ module _ {demand : Plan → StateOf → Frac} {p : Plan} {dem : ℕ → ℕ → 
 
   is-due : (i : ℕ) → i < count p → (row_at s0 i).deadline ≡ s0.now + 1 → some_due p s ≡ true
   is-due i lt d =
-      let same : (row_at s i).deadline ≡ (row_at s0 i).deadline = ap (λ (r : Row). r.deadline) (row-now i lt) ∙ sym (ap (λ (r : Row). r.deadline) (row-then i lt)) in
+      let same : (row_at s i).deadline ≡ (row_at s0 i).deadline = ap (λ (r : Row). r.deadline) (row-now i lt)
+      ∙ sym (ap (λ (r : Row). r.deadline) (row-then i lt)) in
       let now : s.now ≡ s0.now + 1 = ap (λ (v : StateOf). v.now) h.state ∙ course-len demand p dem (s0.now + 1) in
       any_below-found (count p) (λ k. nat_eq (row_at s k).deadline s.now) i lt (grind (arith, nat_tests, same, now, d))
 
@@ -276,10 +269,12 @@ module _ {demand : Plan → StateOf → Frac} {p : Plan} {dem : ℕ → ℕ → 
       o : IsFirstOpen (count p) (key p dem past) (left p dem past) (λ _. 0) i
       o =
           first-open p dem past (point p e).speed (point p e).speed (λ _. 0) false s0 i
-          (subst (λ (v : StateOf). Handing p dem past (point p e).speed (λ _. 0) (point p e).speed false v) (sym here.work.state) (start p dem past (point p e).speed)) first
+          (subst (λ (v : StateOf). Handing p dem past (point p e).speed (λ _. 0) (point p e).speed false v) (sym here.work.state)
+          (start p dem past (point p e).speed)) first
 
       none : 0 ≡ sum_before (count p) (key p dem past) (left p dem past) i
-      none = (let b = (handed_before (count p) (key p dem past) (point p e).speed (left p dem past) (λ _. 0) (point p e).speed (start p dem past (point p e).speed).handed (some-speed adm low_ticks here) i o).1 in omega (arith, b))
+      none = (let b = (handed_before (count p) (key p dem past) (point p e).speed (left p dem past) (λ _. 0) (point p e).speed
+          (start p dem past (point p e).speed).handed (some-speed adm low_ticks here) i o).1 in omega (arith, b))
 
       gets : share x i ≡ allotment (count p) (key p dem past) (point p x.entry).speed (left p dem past) i
       gets = get-table (count p) (allotment (count p) (key p dem past) (point p x.entry).speed (left p dem past)) i 0 first.below

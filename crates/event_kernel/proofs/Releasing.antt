@@ -7,6 +7,7 @@ use Rattle.std.proofs.lemmas.List.Concat.{flat_map-append}
 use Rattle.grid_fraction.specs.declared.Frac.{Frac}
 use Rattle.dvs_base.specs.declared.note.Note.{Note}
 use Rattle.dvs_base.specs.declared.note.Note.TheVariants.{Release, Done}
+use Rattle.dvs_base.specs.declared.limits.TheConstants.{MOST_TICKS}
 use Rattle.sched_model.specs.declared.state.Row.{Row}
 use Rattle.event_kernel.proofs.Bounds.{Bounds}
 use Rattle.grid_fraction.specs.Numbers.{any_below, list_below}
@@ -45,11 +46,11 @@ upto-begins m (suc n) le = go (eq-or-lt_of_le le) (upto-begins m n)
     go (inl e) ih = subst (λ k. Begins (upto k) (upto n ++ n ∷ [])) (sym e) (begins-self (upto n ++ n ∷ []))
     go (inr l) ih = begins-trans (upto m) (upto n) (upto n ++ n ∷ []) (ih (omega arith)) (begins-more (upto n) (n ∷ []))
 
-pub or-false : (a : Bool) → a ≡ (a || false)
+or-false : (a : Bool) → a ≡ (a || false)
 or-false true = refl
 or-false false = refl
 
-pub or-true : (a : Bool) → true ≡ (a || true)
+or-true : (a : Bool) → true ≡ (a || true)
 or-true true = refl
 or-true false = refl
 
@@ -59,7 +60,12 @@ module _ (p : Plan) (dem : ℕ → ℕ → ℕ) (past : List Tick) where
   mixed m i = if nat_lt i m then row_of p dem past i else prior_row p dem past i
 
   abbrev pub mixed_state : ℕ → StateOf
-  mixed_state m = record { now = length past; rows = list_below (count p) (mixed m); base_at = prior_base_at p past; base = list_below (count p) (prior_base p dem past) }
+  mixed_state m = record {
+    now = length past;
+    rows = list_below (count p) (mixed m);
+    base_at = prior_base_at p past;
+    base = list_below (count p) (prior_base p dem past);
+  }
 
   abbrev pub notes_upto : ℕ → List Note
   notes_upto m = flat_map (release_notes p dem (length past)) (upto m)
@@ -112,14 +118,6 @@ module _ (p : Plan) (dem : ℕ → ℕ → ℕ) (past : List Tick) where
       → any_below (m + 1) (λ i. releases_at p i (length past)) ≡ (any_below m (λ i. releases_at p i (length past)) || b)
   any-more m b e = ap (λ k. any_below k (λ i. releases_at p i (length past))) (add-one m) ∙ ap (λ c. any_below m (λ i. releases_at p i (length past)) || c) e
 
-  or_false : (a : Bool) → a ≡ (a || false)
-  or_false true = refl
-  or_false false = refl
-
-  or_true : (a : Bool) → true ≡ (a || true)
-  or_true true = refl
-  or_true false = refl
-
   notes-more : (m : ℕ) → notes_upto (m + 1) ≡ notes_upto m ++ release_notes p dem (length past) m
   notes-more m =
       ap (flat_map (release_notes p dem (length past))) (upto-more m)
@@ -129,7 +127,8 @@ module _ (p : Plan) (dem : ℕ → ℕ → ℕ) (past : List Tick) where
   pub start-trace : (trace : Trace) → trace ≡ with_notes trace (notes_upto 0)
   start-trace trace = sym (with-none trace)
 
-  pub has-room : (m : ℕ) (trace0 trace : Trace) → m ≤ 64 → HasRoom (count p) (2 ^ 62) trace0.sums → trace ≡ with_notes trace0 (notes_upto m) → HasRoom (count p) (2 ^ 63) trace.sums
+  pub has-room : (m : ℕ) (trace0 trace : Trace) → m ≤ 64 → HasRoom (count p) (2 ^ 62) trace0.sums
+      → trace ≡ with_notes trace0 (notes_upto m) → HasRoom (count p) (2 ^ 63) trace.sums
   has-room m trace0 trace le room is = subst (λ (q : Trace). HasRoom (count p) (2 ^ 63) q.sums) (sym is) (record {
     tasks_in = omega (arith, room.tasks_in, added-long trace0.sums (notes_upto m));
     released = omega (arith, room.released, le, few-released p dem (length past) m);
@@ -155,9 +154,11 @@ module _ (p : Plan) (dem : ℕ → ℕ → ℕ) (past : List Tick) where
               r.state ∙ ap
               (λ rows. record { now = length past; rows = rows; base_at = prior_base_at p past; base = list_below (count p) (prior_base p dem past) })
               (table-same (count p) (mixed m) (mixed (m + 1)) (λ i l. same i (eqb i m) refl not_due));
-          any_is = r.any_is ∙ (or_false (any_below m (λ i. releases_at p i (length past))) ∙ sym (any-more m false none));
+          any_is = r.any_is ∙ (or-false (any_below m (λ i. releases_at p i (length past))) ∙ sym (any-more m false none));
           told = subst (λ ns. HasHeard heard from ns to)
-              (sym (notes-more m ∙ (ap (λ b. notes_upto m ++ (if b then Release (length past) m (latest p m (length past)) ∷ (if nat_eq (dem m (latest p m (length past))) 0 then Done (record { tick = length past; offset = 0 }) m (latest p m (length past)) 0 ∷ [] else []) else [])) none ∙ append-nil (notes_upto m)))) r.told;
+              (sym (notes-more m ∙ (ap (λ b. notes_upto m ++ (if b then Release (length past) m (latest p m (length past))
+              ∷ (if nat_eq (dem m (latest p m (length past))) 0 then Done (record { tick = length past; offset = 0 }) m (latest p m (length past)) 0 ∷ []
+              else []) else [])) none ∙ append-nil (notes_upto m)))) r.told;
         }
       where
         same : (i : ℕ) (b : Bool) → eqb i m ≡ b → nat_eq (prior_row p dem past m).deadline (length past) ≡ false → mixed m i ≡ mixed (m + 1) i
@@ -172,7 +173,9 @@ module _ (p : Plan) (dem : ℕ → ℕ → ℕ) (past : List Tick) where
         let not_due : nat_eq (prior_row p dem past m).deadline (length past) ≡ false =
         sym (ap₂ (λ a b. nat_eq a b) (ap (λ (q : Row). q.deadline) (row-there m any st to r lt)) (ap (λ (s : StateOf). s.now) r.state)) ∙ early in
         notes-more m
-        ∙ (ap (λ b. notes_upto m ++ (if b then Release (length past) m (latest p m (length past)) ∷ (if nat_eq (dem m (latest p m (length past))) 0 then Done (record { tick = length past; offset = 0 }) m (latest p m (length past)) 0 ∷ [] else []) else [])) (due_released p dem periods past m false not_due)
+        ∙ (ap (λ b. notes_upto m ++ (if b then Release (length past) m (latest p m (length past)) ∷ (if nat_eq (dem m (latest p m (length past))) 0
+        then Done (record { tick = length past; offset = 0 }) m (latest p m (length past)) 0 ∷ [] else []) else []))
+        (due_released p dem periods past m false not_due)
         ∙ append-nil (notes_upto m))
 
     -- rows up to the next one that is due
@@ -225,8 +228,10 @@ module _ (p : Plan) (dem : ℕ → ℕ → ℕ) (past : List Tick) where
         go : (b : Bool) → nat_lt i m ≡ b → m ≤ i
         go false e = grind (arith, nat_tests)
         go true e =
-            let is : (row_at st i).deadline ≡ (mixed m i).deadline = ap (λ (s : StateOf). (row_at s i).deadline) r.state ∙ ap (λ (q : Row). q.deadline) (get-table (count p) (mixed m) i no_row lt) in
-            let late : (mixed m i).deadline ≡ (row_of p dem past i).deadline = ap (λ (b : Bool). (if b then row_of p dem past i else prior_row p dem past i).deadline) e in
+            let is : (row_at st i).deadline ≡ (mixed m i).deadline = ap (λ (s : StateOf). (row_at s i).deadline) r.state
+            ∙ ap (λ (q : Row). q.deadline) (get-table (count p) (mixed m) i no_row lt) in
+            let late : (mixed m i).deadline ≡ (row_of p dem past i).deadline =
+            ap (λ (b : Bool). (if b then row_of p dem past i else prior_row p dem past i).deadline) e in
             absurd (omega (arith, is, late, due, ap (λ (s : StateOf). s.now) r.state, lt-due p i (length past) (periods i)))
 
     -- up to the first row that is due, and to the end where none is
@@ -239,7 +244,8 @@ module _ (p : Plan) (dem : ℕ → ℕ → ℕ) (past : List Tick) where
         → Releasing heard (count p) any st from to × (notes_upto (count p) ≡ notes_upto m)
     at-end m any st to unneeded le r none = skips m (count p) any st to unneeded le (omega arith) (λ k lo hi. none k hi) r
 
-    module _ (m : ℕ) (any : Bool) (st : StateOf) (mid : L) (r : Releasing heard m any st from mid) (lt : m < count p) (due : (row_at st m).deadline ≡ st.now) where
+    module _ (m : ℕ) (any : Bool) (st : StateOf) (mid : L) (r : Releasing heard m any st from mid) (lt : m < count p)
+        (due : (row_at st m).deadline ≡ st.now) where
       due_there : (prior_row p dem past m).deadline ≡ length past
       due_there = sym (ap (λ (q : Row). q.deadline) (row-there m any st mid r lt)) ∙ (due ∙ ap (λ (s : StateOf). s.now) r.state)
 
@@ -248,7 +254,8 @@ module _ (p : Plan) (dem : ℕ → ℕ → ℕ) (past : List Tick) where
 
       opening_are : opening_notes dem st m ≡ release_notes p dem (length past) m
       opening_are =
-          let job_is : (row_at st m).job + 1 ≡ latest p m (length past) = ap (λ (q : Row). q.job + 1) (row-there m any st mid r lt) ∙ sym (next_job p dem periods past m due_there) in
+          let job_is : (row_at st m).job + 1 ≡ latest p m (length past) = ap (λ (q : Row). q.job + 1) (row-there m any st mid r lt)
+          ∙ sym (next_job p dem periods past m due_there) in
           let notes : ℕ → ℕ → List Note = λ t k. Release t m k ∷ (if nat_eq (dem m k) 0 then Done (record { tick = t; offset = 0 }) m k 0 ∷ [] else []) in
           ap₂ notes (ap (λ (s : StateOf). s.now) r.state) job_is
           ∙ sym (ap (λ b. if b then notes (length past) (latest p m (length past)) else []) released_there)
@@ -260,7 +267,7 @@ module _ (p : Plan) (dem : ℕ → ℕ → ℕ) (past : List Tick) where
         state = is ∙ (ap (λ (s : StateOf). opened p dem s m) r.state
             ∙ ap (λ rows. record { now = length past; rows = rows; base_at = prior_base_at p past; base = list_below (count p) (prior_base p dem past) })
             (set-table (count p) (mixed m) (mixed (m + 1)) m _ lt here (λ k l ne. mixed-other m k ne)));
-        any_is = or_true (any_below m (λ i. releases_at p i (length past))) ∙ sym (any-more m true released_there);
+        any_is = or-true (any_below m (λ i. releases_at p i (length past))) ∙ sym (any-more m true released_there);
         told =
             subst (λ ns. HasHeard heard from ns to) (sym (notes-more m))
             (heard-append heard balked (notes_upto m) (release_notes p dem (length past) m) from mid to r.told
@@ -270,7 +277,8 @@ module _ (p : Plan) (dem : ℕ → ℕ → ℕ) (past : List Tick) where
           here : mixed (m + 1) m ≡ opened_row p dem m (row_at (mixed_state m) m)
           here =
               mixed-done m ∙
-              (row-opened p dem periods past m due_there ∙ ap (λ (q : Row). opened_row p dem m q) (sym (get-table (count p) (mixed m) m no_row lt ∙ mixed-here m)))
+              (row-opened p dem periods past m due_there
+              ∙ ap (λ (q : Row). opened_row p dem m q) (sym (get-table (count p) (mixed m) m no_row lt ∙ mixed-here m)))
 
       pub opens-trace : (trace0 trace trace' : Trace) → trace ≡ with_notes trace0 (notes_upto m) → trace' ≡ with_notes trace (opening_notes dem st m)
           → trace' ≡ with_notes trace0 (notes_upto (m + 1))
@@ -286,11 +294,16 @@ module _ (p : Plan) (dem : ℕ → ℕ → ℕ) (past : List Tick) where
       opens-balked to balks =
           let b = upto-begins (m + 1) (count p) (omega arith) in
           balked-begins heard balked (notes_upto (m + 1)) (notes_upto (count p)) from to
-          (record { rest = flat_map (release_notes p dem (length past)) b.rest; whole = ap (flat_map (release_notes p dem (length past))) b.whole ∙ flat_map-append (release_notes p dem (length past)) (upto (m + 1)) b.rest })
-          (subst (λ ns. HasBalked heard balked from ns to) (sym (notes-more m)) (balked_after heard balked (notes_upto m) (release_notes p dem (length past) m) from mid to r.told
+          (record {
+            rest = flat_map (release_notes p dem (length past)) b.rest;
+            whole = ap (flat_map (release_notes p dem (length past))) b.whole
+                ∙ flat_map-append (release_notes p dem (length past)) (upto (m + 1)) b.rest;
+          })
+          (subst (λ ns. HasBalked heard balked from ns to) (sym (notes-more m))
+          (balked_after heard balked (notes_upto m) (release_notes p dem (length past) m) from mid to r.told
           (subst (λ ns. HasBalked heard balked mid ns to) opening_are balks)))
 
-      pub can-release : Bounds p → length past < 2 ^ 40 → ((prior_row p dem past m).deadline ≡ length past → (prior_row p dem past m).done ≡ true)
+      pub can-release : Bounds p → length past < MOST_TICKS → ((prior_row p dem past m).deadline ≡ length past → (prior_row p dem past m).done ≡ true)
           → CanRelease p st m
       can-release adm early done = record {
         task = omega (arith, long-there m any st mid r);
@@ -298,7 +311,12 @@ module _ (p : Plan) (dem : ℕ → ℕ → ℕ) (past : List Tick) where
         done = ap (λ (q : Row). q.done) (row-there m any st mid r lt) ∙ done due_there;
         due = due;
         deadline_fits = omega (arith, ap (λ (q : Row). q.deadline) (row-there m any st mid r lt), due_there, adm.low_period m);
-        job_fits = omega (arith, ap (λ (q : Row). q.job + 1) (row-there m any st mid r lt), next_job p dem periods past m due_there, latest-small p m (length past) (periods m));
+        job_fits = omega (
+          arith,
+          ap (λ (q : Row). q.job + 1) (row-there m any st mid r lt),
+          next_job p dem periods past m due_there,
+          latest-small p m (length past) (periods m),
+        );
       }
 
     -- all rows
@@ -311,13 +329,19 @@ module _ (p : Plan) (dem : ℕ → ℕ → ℕ) (past : List Tick) where
 
     pub released-marked : (m : ℕ) (st : StateOf) (to : L) → m ≡ count p → Releasing heard m true st from to → after_mark st ≡ state_of p dem past
     released-marked m st to e r =
-        ap after_mark (r.state ∙ ap (λ rows. record { now = length past; rows = rows; base_at = prior_base_at p past; base = list_below (count p) (prior_base p dem past) }) (all-rows m e))
+        ap after_mark (r.state ∙ ap (λ rows. record {
+          now = length past;
+          rows = rows;
+          base_at = prior_base_at p past;
+          base = list_below (count p) (prior_base p dem past);
+        }) (all-rows m e))
         ∙ state-marked p dem periods past (ap (λ k. any_below k (λ i. releases_at p i (length past))) (sym e) ∙ sym r.any_is)
 
     pub released-unmarked : (m : ℕ) (st : StateOf) (to : L) → ((i : ℕ) → dem i 0 ≡ 0) → m ≡ count p → Releasing heard m false st from to
         → st ≡ state_of p dem past
     released-unmarked m st to unneeded e r =
-        r.state ∙ (ap (λ rows. record { now = length past; rows = rows; base_at = prior_base_at p past; base = list_below (count p) (prior_base p dem past) }) (all-rows m e)
+        r.state ∙ (ap (λ rows.
+        record { now = length past; rows = rows; base_at = prior_base_at p past; base = list_below (count p) (prior_base p dem past) }) (all-rows m e)
         ∙ state-unmarked p dem periods past unneeded (ap (λ k. any_below k (λ i. releases_at p i (length past))) (sym e) ∙ sym r.any_is))
 
 -- a release that is complete at once
@@ -335,7 +359,8 @@ pub prior-done : (demand : Plan → StateOf → Frac) (p : Plan) (dem : ℕ → 
     → (i : ℕ) → i < count p → (prior_row p dem (course demand p dem t) i).deadline ≡ length (course demand p dem t)
     → (prior_row p dem (course demand p dem t) i).done ≡ true
 prior-done demand p dem t s b i lt due =
-    let is : row_at s i ≡ prior_row p dem (course demand p dem t) i = ap (λ (v : StateOf). row_at v i) b.state ∙ get-table (count p) (prior_row p dem (course demand p dem t)) i no_row lt in
+    let is : row_at s i ≡ prior_row p dem (course demand p dem t) i = ap (λ (v : StateOf). row_at v i) b.state
+    ∙ get-table (count p) (prior_row p dem (course demand p dem t)) i no_row lt in
     sym (ap (λ (r : Row). r.done) is)
     ∙ b.due_done i lt (ap (λ (r : Row). r.deadline) is ∙ (due ∙ sym (ap (λ (v : StateOf). v.now) b.state)))
 

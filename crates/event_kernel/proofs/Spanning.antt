@@ -1,5 +1,5 @@
 -- From one decision to the next.
-use Rattle.std.proofs.Common.{◌≡◌, ℕ, zero, suc, ◌+◌, ◌-◌, ◌*◌, ◌<◌, ◌≤◌, ◌^◌, Bool, true, false, ◌||◌, List, [], ◌∷◌, ◌++◌, length, refl, arith, if◌then◌else◌, ap, ap₂, ◌∙◌, sym, subst, true≢false, ◌⊎◌, inl, inr, append-nil, append_assoc, nat_eq, nat_lt, nat_le, add-one, drop}
+use Rattle.std.proofs.Common.{◌≡◌, ℕ, zero, suc, ◌+◌, ◌-◌, ◌*◌, ◌<◌, ◌≤◌, Bool, true, false, ◌||◌, List, [], ◌∷◌, ◌++◌, length, refl, arith, if◌then◌else◌, ap, ap₂, ◌∙◌, sym, subst, true≢false, ◌⊎◌, inl, inr, append-nil, append_assoc, nat_eq, nat_lt, nat_le, add-one, drop}
 use Rattle.std.specs.Prelude.{sum_by, count_by, flat_map}
 use Rattle.std.proofs.lemmas.List.Sums.{sum_by-append}
 use Rattle.std.proofs.lemmas.Bool.Decides.{nat_tests}
@@ -7,6 +7,7 @@ use Rattle.grid_fraction.specs.declared.Frac.{Frac}
 use Rattle.dvs_base.specs.declared.note.Note.{Note}
 use Rattle.dvs_base.specs.declared.note.Note.TheVariants.{Release, Speed, Done}
 use Rattle.dvs_base.specs.declared.note.Pos.{Pos}
+use Rattle.dvs_base.specs.declared.limits.TheConstants.{MOST_TICKS}
 use Rattle.sched_model.specs.declared.state.Row.{Row}
 use Rattle.sched_model.specs.declared.holder.Holder.{Holder}
 use Rattle.sched_model.specs.declared.holder.Holder.TheVariants.{Nobody, Held}
@@ -64,11 +65,13 @@ module _ (demand : Plan → StateOf → Frac) (p : Plan) (dem : ℕ → ℕ → 
   spans-whole t = go t (is_decision p dem (course demand p dem t)) refl
     where
       at_decision : (past : List Tick) → is_decision p dem past ≡ true
-          → spans_of p dem (next_tick p dem asks past ∷ past) ≡ grown (open_span p dem asks past) (units_of p past (next_tick p dem asks past)) ∷ spans_of p dem (grown (open_span p dem asks past) (units_of p past (next_tick p dem asks past))).past
+          → spans_of p dem (next_tick p dem asks past ∷ past) ≡ grown (open_span p dem asks past) (units_of p past
+          (next_tick p dem asks past)) ∷ spans_of p dem (grown (open_span p dem asks past) (units_of p past (next_tick p dem asks past))).past
       at_decision past e = rw e refl
 
       between : (past : List Tick) (s : Span) → is_decision p dem past ≡ false → spans_of p dem past ≡ s ∷ spans_of p dem s.past
-          → spans_of p dem (next_tick p dem asks past ∷ past) ≡ grown (open_span p dem asks past) (units_of p past (next_tick p dem asks past)) ∷ spans_of p dem (grown (open_span p dem asks past) (units_of p past (next_tick p dem asks past))).past
+          → spans_of p dem (next_tick p dem asks past ∷ past) ≡ grown (open_span p dem asks past) (units_of p past
+          (next_tick p dem asks past)) ∷ spans_of p dem (grown (open_span p dem asks past) (units_of p past (next_tick p dem asks past))).past
       between past s e is = rw (e, is) refl
 
       go : (t : ℕ) (b : Bool) → is_decision p dem (course demand p dem t) ≡ b
@@ -82,14 +85,17 @@ module _ (demand : Plan → StateOf → Frac) (p : Plan) (dem : ℕ → ℕ → 
   -- a span that goes on
   pub span-on : (t : ℕ) → is_decision p dem (course demand p dem (t + 1)) ≡ false → span_at demand p dem (t + 1) ≡ whole_span demand p dem t
   span-on t e =
-      ap (λ b. if b then record { past = course demand p dem (t + 1); entry = entry_in_force p dem asks (course demand p dem (t + 1)); units = [] } else first_span (spans_of p dem (course demand p dem (t + 1)))) e
+      ap (λ b. if b then record { past = course demand p dem (t + 1); entry = entry_in_force p dem asks (course demand p dem (t + 1)); units = [] }
+      else first_span (spans_of p dem (course demand p dem (t + 1)))) e
       ∙ (ap (λ (ps : List Tick). first_span (spans_of p dem ps)) (course_next t)
       ∙ ap first_span (spans-whole t))
 
-  pub span-new : (t : ℕ) → is_decision p dem (course demand p dem t) ≡ true → span_at demand p dem t ≡ record { past = course demand p dem t; entry = entry_in_force p dem asks (course demand p dem t); units = [] }
+  pub span-new : (t : ℕ) → is_decision p dem (course demand p dem t) ≡ true
+      → span_at demand p dem t ≡ record { past = course demand p dem t; entry = entry_in_force p dem asks (course demand p dem t); units = [] }
   span-new t e =
       ap
-      (λ b. if b then record { past = course demand p dem t; entry = entry_in_force p dem asks (course demand p dem t); units = [] } else first_span (spans_of p dem (course demand p dem t))) e
+      (λ b. if b then record { past = course demand p dem t; entry = entry_in_force p dem asks (course demand p dem t); units = [] }
+      else first_span (spans_of p dem (course demand p dem t))) e
 
   -- all notes of a span, and all notes of its ticks
   abbrev pub whole_notes : Span → List Note
@@ -104,7 +110,8 @@ module _ (demand : Plan → StateOf → Frac) (p : Plan) (dem : ℕ → ℕ → 
       joined : (s : Span) → notes_before_end p dem asks s.past ++ span_notes p dem asks s ≡ whole_notes s
       joined s =
           let note : Note = Speed (length s.past) ((point p s.entry).speed) ((asks s.past).num) ((asks s.past).den) in
-          ap (λ ns. notes_before_end p dem asks s.past ++ ns) (sym (append_assoc (all_release_notes p dem (length s.past)) (note ∷ []) (pieces_notes p dem s 0 (pieces_of s.units))))
+          ap (λ ns. notes_before_end p dem asks s.past ++ ns)
+          (sym (append_assoc (all_release_notes p dem (length s.past)) (note ∷ []) (pieces_notes p dem s 0 (pieces_of s.units))))
           ∙ sym (append_assoc (notes_before_end p dem asks s.past) (head_notes p dem asks s) (pieces_notes p dem s 0 (pieces_of s.units)))
 
   -- the notes of the last segment
@@ -129,7 +136,8 @@ module _ (demand : Plan → StateOf → Frac) (p : Plan) (dem : ℕ → ℕ → 
           let some : nat_lt 0 f.1.units ≡ true = grind (arith, nat_tests) in
           let place : 0 + total f.0 ≡ length s.units - f.1.units = omega (arith, total-pieces s.units, ap total f.2, total-append f.0 (f.1 ∷ [])) in
           ap (λ rs. before ++ pieces_notes p dem s 0 rs) f.2
-          ∙ (ap (λ ns. before ++ ns) (pieces_notes-append p dem s 0 f.0 (f.1 ∷ []) ∙ ap (λ ns. pieces_notes p dem s 0 f.0 ++ ns) (append-nil (segment_notes p dem s (0 + total f.0) f.1.units f.1.holder)))
+          ∙ (ap (λ ns. before ++ ns) (pieces_notes-append p dem s 0 f.0 (f.1 ∷ [])
+          ∙ ap (λ ns. pieces_notes p dem s 0 f.0 ++ ns) (append-nil (segment_notes p dem s (0 + total f.0) f.1.units f.1.holder)))
           ∙ (sym (append_assoc before (pieces_notes p dem s 0 f.0) (segment_notes p dem s (0 + total f.0) f.1.units f.1.holder))
           ∙ ap₂ (λ rs ns. (before ++ pieces_notes p dem s 0 rs) ++ ns) (sym is_closed)
           (ap (λ q. segment_notes p dem s q f.1.units f.1.holder) place
@@ -154,35 +162,45 @@ module _ (demand : Plan → StateOf → Frac) (p : Plan) (dem : ℕ → ℕ → 
           let a : Begins (open_notes p dem asks (whole_span demand p dem t)) (notes_before_end p dem asks (course demand p dem (t + 1))) =
           record { rest = last_notes (whole_span demand p dem t); whole = notes-whole t ∙ whole-open (whole_span demand p dem t) } in
           let b : Begins (notes_before_end p dem asks (course demand p dem (t + 1))) (open_notes p dem asks fresh) =
-          begins-trans (notes_before_end p dem asks (course demand p dem (t + 1))) (notes_before_end p dem asks (course demand p dem (t + 1)) ++ head_notes p dem asks fresh) (open_notes p dem asks fresh)
+          begins-trans (notes_before_end p dem asks (course demand p dem (t + 1)))
+          (notes_before_end p dem asks (course demand p dem (t + 1)) ++ head_notes p dem asks fresh) (open_notes p dem asks fresh)
           (begins-more (notes_before_end p dem asks (course demand p dem (t + 1))) (head_notes p dem asks fresh))
           (begins-more (notes_before_end p dem asks (course demand p dem (t + 1)) ++ head_notes p dem asks fresh) []) in
           let c : Begins (open_notes p dem asks fresh) (open_notes p dem asks (grown s us)) =
           subst (λ x. Begins (open_notes p dem asks x) (open_notes p dem asks (grown s us))) (span-new (t + 1) e) (open-begins p dem asks s us) in
-          begins-trans (open_notes p dem asks (whole_span demand p dem t)) (notes_before_end p dem asks (course demand p dem (t + 1))) (open_notes p dem asks (grown s us)) a
+          begins-trans (open_notes p dem asks (whole_span demand p dem t)) (notes_before_end p dem asks (course demand p dem (t + 1)))
+          (open_notes p dem asks (grown s us)) a
           (begins-trans (notes_before_end p dem asks (course demand p dem (t + 1))) (open_notes p dem asks fresh) (open_notes p dem asks (grown s us)) b c)
 
   later-begins : (t n : ℕ) → Begins (open_notes p dem asks (whole_span demand p dem t)) (open_notes p dem asks (whole_span demand p dem (t + n)))
-  later-begins t zero = let e : t ≡ t + 0 = omega arith in subst (λ m. Begins (open_notes p dem asks (whole_span demand p dem t)) (open_notes p dem asks (whole_span demand p dem m))) e (begins-self (open_notes p dem asks (whole_span demand p dem t)))
+  later-begins t zero = let e : t ≡ t + 0 = omega arith in subst (λ m. Begins (open_notes p dem asks (whole_span demand p dem t))
+      (open_notes p dem asks (whole_span demand p dem m))) e (begins-self (open_notes p dem asks (whole_span demand p dem t)))
   later-begins t (suc n) =
       let e : t + n + 1 ≡ t + suc n = omega arith in
       subst (λ m. Begins (open_notes p dem asks (whole_span demand p dem t)) (open_notes p dem asks (whole_span demand p dem m))) e
-      (begins-trans (open_notes p dem asks (whole_span demand p dem t)) (open_notes p dem asks (whole_span demand p dem (t + n))) (open_notes p dem asks (whole_span demand p dem (t + n + 1))) (later-begins t n) (next-begins (t + n)))
+      (begins-trans (open_notes p dem asks (whole_span demand p dem t)) (open_notes p dem asks (whole_span demand p dem (t + n)))
+      (open_notes p dem asks (whole_span demand p dem (t + n + 1))) (later-begins t n) (next-begins (t + n)))
 
   pub whole-begins : (t ticks : ℕ) → t < ticks
       → Begins (open_notes p dem asks (whole_span demand p dem t)) (notes_before_end p dem asks (course demand p dem ticks))
   whole-begins t ticks lt =
       let e : t + (ticks - t - 1) + 1 ≡ ticks = omega arith in
       subst (λ m. Begins (open_notes p dem asks (whole_span demand p dem t)) (notes_before_end p dem asks (course demand p dem m))) e
-      (begins-trans (open_notes p dem asks (whole_span demand p dem t)) (open_notes p dem asks (whole_span demand p dem (t + (ticks - t - 1)))) (notes_before_end p dem asks (course demand p dem (t + (ticks - t - 1) + 1)))
+      (begins-trans (open_notes p dem asks (whole_span demand p dem t)) (open_notes p dem asks (whole_span demand p dem (t + (ticks - t - 1))))
+      (notes_before_end p dem asks (course demand p dem (t + (ticks - t - 1) + 1)))
       (later-begins t (ticks - t - 1))
-      (record { rest = last_notes (whole_span demand p dem (t + (ticks - t - 1))); whole = notes-whole (t + (ticks - t - 1)) ∙ whole-open (whole_span demand p dem (t + (ticks - t - 1))) }))
+      (record {
+        rest = last_notes (whole_span demand p dem (t + (ticks - t - 1)));
+        whole = notes-whole (t + (ticks - t - 1))
+            ∙ whole-open (whole_span demand p dem (t + (ticks - t - 1)));
+      }))
 
   -- whether a decision comes next
   module _ (periods : (i : ℕ) → 0 < period p i) where
     pub due-is : (past : List Tick) (s : StateOf) → s ≡ prior_state p dem past → some_due p s ≡ is_release p (length past)
     due-is past s e =
-        any_below-same (count p) (λ i. nat_eq (row_at s i).deadline s.now) (λ i. releases_at p i (length past)) (λ i lt. one i (row-is i lt) (nat_eq (prior_row p dem past i).deadline (length past)) refl)
+        any_below-same (count p) (λ i. nat_eq (row_at s i).deadline s.now) (λ i. releases_at p i (length past))
+        (λ i lt. one i (row-is i lt) (nat_eq (prior_row p dem past i).deadline (length past)) refl)
       where
         row-is : (i : ℕ) → i < count p → row_at s i ≡ prior_row p dem past i
         row-is i lt = ap (λ (v : StateOf). row_at v i) e ∙ get-table (count p) (prior_row p dem past) i no_row lt
@@ -202,13 +220,14 @@ module _ (demand : Plan → StateOf → Frac) (p : Plan) (dem : ℕ → ℕ → 
         (sym h.completes)
 
     -- the state between two spans is at a boundary
-    pub at-boundary : (t : ℕ) (s : StateOf) → t < 2 ^ 40 → IsWithin p dem → IsMet p dem (course demand p dem t)
+    pub at-boundary : (t : ℕ) (s : StateOf) → t < MOST_TICKS → IsWithin p dem → IsMet p dem (course demand p dem t)
         → s ≡ prior_state p dem (course demand p dem t) → IsAtBoundary demand p dem t s
     at-boundary t s early low met e = record {
       early = early;
       within = low;
       state = e;
-      due_done = λ i lt q. ap (λ (r : Row). r.done) (row-is i lt) ∙ done (course demand p dem t) met i lt (sym (ap (λ (r : Row). r.deadline) (row-is i lt)) ∙ (q ∙ ap (λ (v : StateOf). v.now) e));
+      due_done = λ i lt q. ap (λ (r : Row). r.done) (row-is i lt)
+          ∙ done (course demand p dem t) met i lt (sym (ap (λ (r : Row). r.deadline) (row-is i lt)) ∙ (q ∙ ap (λ (v : StateOf). v.now) e));
     }
       where
         row-is : (i : ℕ) → i < count p → row_at s i ≡ prior_row p dem (course demand p dem t) i
@@ -246,22 +265,29 @@ module _ (demand : Plan → StateOf → Frac) (p : Plan) (dem : ℕ → ℕ → 
   releases-cost : (f : Note → ℕ) → ((t i k : ℕ) → f (Release t i k) ≡ 0) → ((q : Pos) (i k u : ℕ) → f (Done q i k u) ≡ 0) → (t : ℕ) (js : List ℕ)
       → sum_by f (flat_map (release_notes p dem t) js) ≡ 0
   releases-cost f rel don t [] = refl
-  releases-cost f rel don t (j ∷ js) = sum_by-append f (release_notes p dem t j) (flat_map (release_notes p dem t) js) ∙ omega (arith, release-cost f rel don t j, releases-cost f rel don t js)
+  releases-cost f rel don t (j ∷ js) = sum_by-append f (release_notes p dem t j) (flat_map (release_notes p dem t) js)
+      ∙ omega (arith, release-cost f rel don t j, releases-cost f rel don t js)
 
   -- what the listener has heard when it begins
   pub open-new : (t : ℕ) → is_decision p dem (course demand p dem t) ≡ true
-      → open_notes p dem asks (span_at demand p dem t) ≡ notes_before_end p dem asks (course demand p dem t) ++ (all_release_notes p dem t ++ speed_note p t (demand p (state_of p dem (course demand p dem t))) ∷ [])
+      → open_notes p dem asks (span_at demand p dem t) ≡ notes_before_end p dem asks
+      (course demand p dem t) ++ (all_release_notes p dem t ++ speed_note p t (demand p (state_of p dem (course demand p dem t))) ∷ [])
   open-new t e =
       let fresh : Span = record { past = course demand p dem t; entry = entry_in_force p dem asks (course demand p dem t); units = [] } in
       ap (open_notes p dem asks) (span-new t e)
       ∙ (append-nil (notes_before_end p dem asks (course demand p dem t) ++ head_notes p dem asks fresh)
       ∙ ap (λ ns. notes_before_end p dem asks (course demand p dem t) ++ ns)
-      (ap₂ (λ n m. all_release_notes p dem n ++ Speed n ((point p m).speed) ((asks (course demand p dem t)).num) ((asks (course demand p dem t)).den) ∷ []) (course-len demand p dem t) (force-decided p dem asks (course demand p dem t) e)))
+      (ap₂ (λ n m. all_release_notes p dem n ++ Speed n ((point p m).speed) ((asks (course demand p dem t)).num) ((asks (course demand p dem t)).den)
+      ∷ []) (course-len demand p dem t) (force-decided p dem asks (course demand p dem t) e)))
 
-  pub begins-span : (ticks t e : ℕ) (s0 s : StateOf) (trace trace' : Trace) → count p ≤ 64 → t < ticks → ticks ≤ 2 ^ 40 → IsWithin p dem
+  pub begins-span : (ticks t e : ℕ) (s0 s : StateOf) (trace trace' : Trace) → count p ≤ 64 → t < ticks → ticks ≤ MOST_TICKS → IsWithin p dem
       → IsBetween demand p dem ticks t s0 trace
       → s ≡ state_of p dem (course demand p dem t) → e ≡ lowest_entry p.machine (demand p s)
-      → trace' ≡ record { segment = record { holder = Nobody; start = 0; units = 0 }; sums = added (added trace.sums (all_release_notes p dem t)) (speed_note p t (demand p (state_of p dem (course demand p dem t))) ∷ []) }
+      → trace' ≡ record {
+        segment = record { holder = Nobody; start = 0; units = 0 };
+        sums = added
+            (added trace.sums (all_release_notes p dem t)) (speed_note p t (demand p (state_of p dem (course demand p dem t))) ∷ []);
+      }
       → IsInSpan demand p dem ticks t t e s trace'
   begins-span ticks t e s0 s trace trace' few_tasks lt few low b is ee pe = record {
     before_end = lt;
@@ -315,12 +341,13 @@ module _ (demand : Plan → StateOf → Frac) (p : Plan) (dem : ℕ → ℕ → 
       force = ee ∙ (ap (λ v. lowest_entry p.machine (demand p v)) is ∙ sym (force-decided p dem asks (course demand p dem t) (b.decision lt)))
 
       plus_none : (i : ℕ) → exec p (course demand p dem t) i (latest p i t) + 0 ≡ had_at p (course demand p dem t) i
-      plus_none i = let z : exec p (course demand p dem t) i (latest p i t) + 0 ≡ exec p (course demand p dem t) i (latest p i t) = omega arith in z ∙ ap (λ n. exec p (course demand p dem t) i (latest p i n)) (sym (course-len demand p dem t))
+      plus_none i = let z : exec p (course demand p dem t) i (latest p i t) + 0 ≡ exec p (course demand p dem t) i (latest p i t) = omega arith in
+          z ∙ ap (λ n. exec p (course demand p dem t) i (latest p i n)) (sym (course-len demand p dem t))
 
   module _ (adm : Bounds p) where
     -- it goes on
     pub goes-on : (ticks t0 t e : ℕ) (s0 s : StateOf) (trace0 trace : Trace) → IsInSpan demand p dem ticks t0 t e s0 trace0
-        → HasWorked demand p dem t s trace false → some_due p s ≡ false → t + 1 < ticks → ticks ≤ 2 ^ 40
+        → HasWorked demand p dem t s trace false → some_due p s ≡ false → t + 1 < ticks → ticks ≤ MOST_TICKS
         → IsInSpan demand p dem ticks t0 (t + 1) e s trace × (span_at demand p dem (t + 1) ≡ whole_span demand p dem t)
     goes-on ticks t0 t e s0 s trace0 trace i h quiet lt few = (
       record {
@@ -341,8 +368,10 @@ module _ (demand : Plan → StateOf → Frac) (p : Plan) (dem : ℕ → ℕ → 
             taken = held trace.segment.holder h.writing.taken;
             had =
                 λ k l. subst
-                (λ n. exec p (whole_span demand p dem t).past k n + count_by (same_holder (Held k n)) (whole_span demand p dem t).units ≡ exec p (course demand p dem (t + 1)) k (latest p k (length (course demand p dem (t + 1))))) (sym (steady k l))
-                (h.writing.had k l ∙ ap (λ n. exec p (course demand p dem (t + 1)) k n) (sym (steady k l) ∙ ap (latest p k) (sym (course-len demand p dem (t + 1)))));
+                (λ n. exec p (whole_span demand p dem t).past k n + count_by (same_holder (Held k n)) (whole_span demand p dem t).units
+                ≡ exec p (course demand p dem (t + 1)) k (latest p k (length (course demand p dem (t + 1))))) (sym (steady k l))
+                (h.writing.had k l ∙ ap (λ n. exec p (course demand p dem (t + 1)) k n)
+                (sym (steady k l) ∙ ap (latest p k) (sym (course-len demand p dem (t + 1)))));
             few = h.writing.few;
             money = h.writing.money;
             sums = h.writing.sums;
@@ -378,13 +407,15 @@ module _ (demand : Plan → StateOf → Frac) (p : Plan) (dem : ℕ → ℕ → 
             → nat_eq (prior_row p dem (x ∷ past) k).deadline (length (x ∷ past)) ≡ false
         not_due k l true q =
             absurd
-            (true≢false (sym (due_released p dem adm.some_period (x ∷ past) k true q) ∙ any_below-false (count p) (λ i. releases_at p i (length (x ∷ past))) no_release' k l))
+            (true≢false (sym (due_released p dem adm.some_period (x ∷ past) k true q)
+            ∙ any_below-false (count p) (λ i. releases_at p i (length (x ∷ past))) no_release' k l))
         not_due k l false q = q
 
         steady : (k : ℕ) → k < count p → latest p k (t + 1) ≡ latest p k t
         steady k l =
             let after : length (x ∷ past) ≡ t + 1 = omega (arith, course-len demand p dem t) in
-            ap (latest p k) (sym after) ∙ (same_job p dem adm.some_period x past k (not_due k l (nat_eq (prior_row p dem (x ∷ past) k).deadline (length (x ∷ past))) refl) ∙ ap (latest p k) (course-len demand p dem t))
+            ap (latest p k) (sym after) ∙ (same_job p dem adm.some_period x past k
+            (not_due k l (nat_eq (prior_row p dem (x ∷ past) k).deadline (length (x ∷ past))) refl) ∙ ap (latest p k) (course-len demand p dem t))
 
         force : entry_in_force p dem asks (course demand p dem (t + 1)) ≡ entry_in_force p dem asks past
         force =
@@ -422,7 +453,8 @@ module _ (demand : Plan → StateOf → Frac) (p : Plan) (dem : ℕ → ℕ → 
         go (inr (inr q)) lt = ap (λ b. b || completed) q
 
     -- what is left to tell at its end
-    module _ (ticks t0 last e : ℕ) (s : StateOf) (trace : Trace) (h : HasWalked demand p dem ticks t0 last e s trace) (early : last < 2 ^ 40) (from_is : t0 ≡ length (whole_span demand p dem last).past) where
+    module _ (ticks t0 last e : ℕ) (s : StateOf) (trace : Trace) (h : HasWalked demand p dem ticks t0 last e s trace)
+        (early : last < MOST_TICKS) (from_is : t0 ≡ length (whole_span demand p dem last).past) where
       abbrev pub whole : Span
       whole = whole_span demand p dem last
 
@@ -435,7 +467,8 @@ module _ (demand : Plan → StateOf → Frac) (p : Plan) (dem : ℕ → ℕ → 
           (prior_row p dem (tick_at demand p dem last ∷ course demand p dem last)) i no_row lt
 
       had-last : (i : ℕ)
-          → exec p (tick_at demand p dem last ∷ course demand p dem last) i (latest p i (length (course demand p dem last))) ≡ exec p (course demand p dem (last + 1)) i (latest p i last)
+          → exec p (tick_at demand p dem last ∷ course demand p dem last) i (latest p i (length (course demand p dem last)))
+          ≡ exec p (course demand p dem (last + 1)) i (latest p i last)
       had-last i = ap₂ (λ (ps : List Tick) n. exec p ps i (latest p i n)) (sym (course_next last)) (course-len demand p dem last)
 
       shown : Shows p dem last s (λ i. exec p (course demand p dem (last + 1)) i (latest p i last))
@@ -447,13 +480,16 @@ module _ (demand : Plan → StateOf → Frac) (p : Plan) (dem : ℕ → ℕ → 
 
       told-last : segment_notes p dem whole trace.segment.start trace.segment.units trace.segment.holder ≡ written_notes p s t0 e trace
       told-last =
-          tells p dem asks last whole (λ i. exec p (course demand p dem (last + 1)) i (latest p i last)) s trace.segment.start trace.segment.units trace.segment.holder w.taken w.place w.had shown
-          ∙ ap₂ (λ n m. holder_notes p s (position_of n ((point p m).speed)) m trace.segment.start trace.segment.units trace.segment.holder) (sym from_is) (sym h.entry)
+          tells p dem asks last whole (λ i. exec p (course demand p dem (last + 1)) i (latest p i last)) s trace.segment.start
+          trace.segment.units trace.segment.holder w.taken w.place w.had shown
+          ∙ ap₂ (λ n m. holder_notes p s (position_of n ((point p m).speed)) m trace.segment.start trace.segment.units trace.segment.holder)
+          (sym from_is) (sym h.entry)
 
       last-is : last_notes whole ≡ (if nat_lt 0 trace.segment.units then written_notes p s t0 e trace else [])
       last-is =
           let place : length whole.units - (last_of (pieces_of whole.units)).units ≡ trace.segment.start = omega (arith, w.place, w.units) in
-          ap (λ q. if nat_lt 0 (last_of (pieces_of whole.units)).units then segment_notes p dem whole q (last_of (pieces_of whole.units)).units (last_of (pieces_of whole.units)).holder else []) place
+          ap (λ q. if nat_lt 0 (last_of (pieces_of whole.units)).units then segment_notes p dem whole q
+          (last_of (pieces_of whole.units)).units (last_of (pieces_of whole.units)).holder else []) place
           ∙ (ap₂ (λ u k. if nat_lt 0 u then segment_notes p dem whole trace.segment.start u k else []) (sym w.units) (sym w.holder)
           ∙ ap (λ ns. if nat_lt 0 trace.segment.units then ns else []) told-last)
 
@@ -499,7 +535,8 @@ module _ (demand : Plan → StateOf → Frac) (p : Plan) (dem : ℕ → ℕ → 
             money = omega (arith, w.money, parts-most p adm e trace.segment.units trace.segment.holder);
             sums = sym (sums true q);
             few_released = w.few_released;
-            few_finished = omega (arith, w.few_finished, ended-most s trace.segment.holder, (let some : 0 < trace.segment.units = grind (arith, nat_tests) in some));
+            few_finished = omega
+                (arith, w.few_finished, ended-most s trace.segment.holder, (let some : 0 < trace.segment.units = grind (arith, nat_tests) in some));
             few_decisions = w.few_decisions;
           }
           go false q = record {

@@ -1,18 +1,20 @@
 -- Ticks of a span in which one job has every unit, or nobody: so many of them are one step.
-use Rattle.std.proofs.Common.{◌≡◌, ◌≢◌, ℕ, zero, suc, ◌+◌, ◌-◌, ◌*◌, ◌^◌, ◌<◌, ◌≤◌, min, Bool, true, false, not, ◌&&◌, ◌||◌, eqb, List, [], ◌∷◌, length, set, get_or-set_same, get_or-set_other, refl, arith, if◌then◌else◌, ap, ap₂, ◌∙◌, sym, subst, true≢false, inl, inr, nat_eq, nat_lt, mul-le-mul_left}
+use Rattle.std.proofs.Common.{◌≡◌, ◌≢◌, ℕ, zero, suc, ◌+◌, ◌-◌, ◌*◌, ◌<◌, ◌≤◌, min, Bool, true, false, not, ◌&&◌, ◌||◌, eqb, List, [], ◌∷◌, length, set, get_or-set_same, get_or-set_other, refl, arith, if◌then◌else◌, ap, ap₂, ◌∙◌, sym, subst, true≢false, inl, inr, nat_eq, nat_lt, mul-le-mul_left}
 use Rattle.std.specs.Prelude.{Option, None, Some}
 use Rattle.std.proofs.lemmas.Bool.Decides.{nat_tests}
+use Rattle.std.proofs.lemmas.Bool.{and_right}
 use Rattle.grid_fraction.specs.declared.Frac.{Frac}
 use Rattle.grid_fraction.proofs.Searches.{any_below-none}
 use Rattle.dvs_base.specs.declared.kind.Scheduler.{Scheduler}
 use Rattle.dvs_base.specs.declared.kind.Scheduler.TheVariants.{Edf, Rm}
 use Rattle.dvs_base.specs.declared.note.Note.{Note}
+use Rattle.dvs_base.specs.declared.limits.TheConstants.{MOST_TICKS}
 use Rattle.sched_model.specs.declared.state.Row.{Row}
 use Rattle.sched_model.specs.declared.holder.Holder.{Holder}
 use Rattle.sched_model.specs.declared.holder.Holder.TheVariants.{Nobody, Held}
 use Rattle.sched_model.specs.Plan.{Plan, count, point}
-use Rattle.sched_model.specs.Segments.{same_holder}
 use Rattle.sched_model.specs.States.{no_row, row_at, after_advance, StateOf}
+use Rattle.sched_model.proofs.PieceLemmas.{same_holder-refl}
 use Rattle.governor.specs.Schedule.{ask_of}
 use Rattle.event_kernel.specs.declared.trace.Trace.{Trace}
 use Rattle.event_kernel.specs.Heard.{HasHeard, HasBalked}
@@ -43,18 +45,10 @@ set_twice [] i a b = refl
 set_twice (r ∷ rows) zero a b = refl
 set_twice (r ∷ rows) (suc i) a b = ap (λ rs. r ∷ rs) (set_twice rows i a b)
 
-same_holder-self : (h : Holder) → same_holder h h ≡ true
-same_holder-self Nobody = refl
-same_holder-self (Held i k) = grind (arith, nat_tests)
-
 -- units of the same holder again turn nothing
 module _ (h : Holder) (m : ℕ) (some : 0 < m) (q : Trace) where
   no_turn : is_turn (with_units h m q) h ≡ false
-  no_turn = ap (λ b. nat_lt 0 (q.segment.units + m) && not b) (same_holder-self h) ∙ and-false (nat_lt 0 (q.segment.units + m))
-    where
-      and-false : (b : Bool) → (b && false) ≡ false
-      and-false true = refl
-      and-false false = refl
+  no_turn = ap (λ b. nat_lt 0 (q.segment.units + m) && not b) (same_holder-refl h) ∙ and_right (nat_lt 0 (q.segment.units + m)) false refl
 
   more_units : (p : Plan) (s : StateOf) (e n : ℕ) → entered p s e h n (with_units h m q) ≡ with_units h (m + n) q
   more_units p s e n =
@@ -76,13 +70,18 @@ module _ (st : StateOf) (i : ℕ) (lt : i < length st.rows) (m : ℕ) where
   due-served k = go (eqb k i) refl
     where
       go : (b : Bool) → eqb k i ≡ b → (row_at (served st i m false) k).deadline ≡ (row_at st k).deadline
-      go true e = let same : i ≡ k = grind (arith, nat_tests) in subst (λ j. (row_at (served st i m false) j).deadline ≡ (row_at st j).deadline) same (ap (λ (r : Row). r.deadline) row-served)
+      go true e = let same : i ≡ k = grind (arith, nat_tests) in
+          subst (λ j. (row_at (served st i m false) j).deadline ≡ (row_at st j).deadline) same (ap (λ (r : Row). r.deadline) row-served)
       go false e = ap (λ (r : Row). r.deadline) (row-other k (grind (arith, nat_tests)))
 
   -- and after more of them
   served-on : (n a b : ℕ) → run_on (run_on st i m a) i n b ≡ run_on st i (m + n) b
   served-on n a b =
-      ap (λ (r : Row). record st { now = b; rows = set (set st.rows i (record (row_at st i) { used = (row_at st i).used + m; done = false })) i (record r { used = r.used + n; done = false }) }) row-served
+      ap (λ (r : Row). record st {
+        now = b;
+        rows = set (set st.rows i (record (row_at st i) { used = (row_at st i).used + m; done = false })) i
+            (record r { used = r.used + n; done = false });
+      }) row-served
       ∙ (ap (λ rows. record st { now = b; rows = rows }) (set_twice st.rows i _ _)
       ∙ ap (λ u. record st { now = b; rows = set st.rows i (record (row_at st i) { used = u; done = false }) }) (omega arith))
 
@@ -90,7 +89,8 @@ module _ (st : StateOf) (i : ℕ) (lt : i < length st.rows) (m : ℕ) where
   first-served p a first = record {
     below = first.below;
     open_job = ap (λ (r : Row). r.done) row-served;
-    first = λ k l b. go k l (first.first k l (ap₂ (λ x y. nat_lt x y || (nat_eq x y && nat_lt k i)) (key-is p.scheduler k) (key-is p.scheduler i) ∙ b)) (eqb k i) refl;
+    first = λ k l b. go k l
+        (first.first k l (ap₂ (λ x y. nat_lt x y || (nat_eq x y && nat_lt k i)) (key-is p.scheduler k) (key-is p.scheduler i) ∙ b)) (eqb k i) refl;
   }
     where
       key-is : (s : Scheduler) (k : ℕ) → row_key s p st k ≡ row_key s p (run_on st i m a) k
@@ -101,7 +101,8 @@ module _ (st : StateOf) (i : ℕ) (lt : i < length st.rows) (m : ℕ) where
       go k l d true e = let same : k ≡ i = grind (arith, nat_tests) in absurd (true≢false (sym d ∙ (ap (λ j. (row_at st j).done) same ∙ first.open_job)))
       go k l d false e = ap (λ (r : Row). r.done) (row-other k (grind (arith, nat_tests))) ∙ d
 
-module _ {L : Type 0} (heard balked : L → Note → L → Type 0) (demand : Plan → StateOf → Frac) (p : Plan) (dem : ℕ → ℕ → ℕ) (ticks : ℕ) (adm : Bounds p) (low_ticks : ticks ≤ 2 ^ 40) (t0 e : ℕ) where
+module _ {L : Type 0} (heard balked : L → Note → L → Type 0) (demand : Plan → StateOf → Frac) (p : Plan) (dem : ℕ → ℕ → ℕ)
+    (ticks : ℕ) (adm : Bounds p) (low_ticks : ticks ≤ MOST_TICKS) (t0 e : ℕ) where
   abbrev pub f : ℕ
   f = (point p e).speed
 
@@ -125,10 +126,12 @@ module _ {L : Type 0} (heard balked : L → Note → L → Type 0) (demand : Pla
     -- the next tick of the span
     next_tick : (st' : StateOf) (trace' : Trace) → t + 1 < ticks → QuietTo (t + 1) st → st'.now ≡ t + 1
         → ((k : ℕ) → (row_at st' k).deadline ≡ (row_at st k).deadline)
-        → HasWorked demand p dem t st' trace' false × ((a : L) → HasHeard heard a (told_in demand p dem t) to → HasHeard heard a (open_notes p dem (ask_of demand p dem) (whole_span demand p dem t)) next)
+        → HasWorked demand p dem t st' trace' false × ((a : L) → HasHeard heard a (told_in demand p dem t) to
+        → HasHeard heard a (open_notes p dem (ask_of demand p dem) (whole_span demand p dem t)) next)
         → Stays t (t + 1) to next st' trace'
     next_tick st' trace' lt quiet now due done =
-        let none : some_due p st' ≡ false = any_below-none (count p) (λ k. nat_eq (row_at st' k).deadline st'.now) (λ k l. (let q = quiet k l in let d = due k in grind (arith, nat_tests, q, d, now))) in
+        let none : some_due p st' ≡ false = any_below-none (count p) (λ k. nat_eq (row_at st' k).deadline st'.now)
+        (λ k l. (let q = quiet k l in let d = due k in grind (arith, nat_tests, q, d, now))) in
         let on = goes-on demand p dem adm ticks t0 t e st st' trace trace' here done.0 none lt low_ticks in
         (on.0, λ a h. subst (λ x. HasHeard heard a (open_notes p dem (ask_of demand p dem) x) next) (sym on.1) (done.1 a h))
 
@@ -151,7 +154,8 @@ module _ {L : Type 0} (heard balked : L → Note → L → Type 0) (demand : Pla
           → Stays t (t + 1) to next (run_on st i f (t + 1)) (entered p st e holder f trace)
       one-held short lt quiet tells =
           let w1 : AtWork heard balked demand p dem t to next (f - f) false ran (entered p st e holder f trace) =
-          turned adm here.work w0 next i f false false ran (entered p st e holder f trace) some_units first (all_units (omega (arith, short))) (not_whole short) refl tells refl refl in
+          turned adm here.work w0 next i f false false ran (entered p st e holder f trace) some_units first
+          (all_units (omega (arith, short))) (not_whole short) refl tells refl refl in
           let d : HasIdled adm here.work w1 next (entered p st e holder f trace) =
           full adm here.work w1 (omega arith) in
           next_tick (run_on st i f (t + 1)) (entered p st e holder f trace) lt quiet refl (λ k. due-served st i in_rows f k)
@@ -321,24 +325,30 @@ module _ {L : Type 0} (heard balked : L → Note → L → Type 0) (demand : Pla
       (idle_by n t st trace to next here all_done lt quiet tells)
 
 -- quiet ticks at once, whoever has their units
-module _ {L : Type 0} (heard balked : L → Note → L → Type 0) {demand : Plan → StateOf → Frac} {p : Plan} {dem : ℕ → ℕ → ℕ} {ticks : ℕ} (adm : Bounds p) (low_ticks : ticks ≤ 2 ^ 40) {t0 e : ℕ} {st : StateOf} {trace : Trace} (here : IsInSpan demand p dem ticks t0 st.now e st trace) where
+module _ {L : Type 0} (heard balked : L → Note → L → Type 0) {demand : Plan → StateOf → Frac} {p : Plan} {dem : ℕ → ℕ → ℕ} {ticks : ℕ} (adm : Bounds p)
+    (low_ticks : ticks ≤ MOST_TICKS) {t0 e : ℕ} {st : StateOf} {trace : Trace} (here : IsInSpan demand p dem ticks t0 st.now e st trace) where
   pub stays : (first : Option ℕ) {n : ℕ} → IsFirst p st first → AreQuiet p dem ticks e st first n → (to next : L) → 0 < n
       → HasHeard heard to (entering_notes p st t0 e (holder_at st first) trace) next
       → (st' : StateOf) (trace' : Trace) → st' ≡ after_advance (gives st first (n * (point p e).speed)) (st.now + n)
       → trace' ≡ entered p st e (holder_at st first) (n * (point p e).speed) trace
-      → IsInSpan demand p dem ticks t0 st'.now e st' trace' × ((a : L) → HasHeard heard a (told_in demand p dem st.now) to → HasHeard heard a (told_in demand p dem st'.now) next)
+      → IsInSpan demand p dem ticks t0 st'.now e st' trace' × ((a : L) → HasHeard heard a (told_in demand p dem st.now) to
+      → HasHeard heard a (told_in demand p dem st'.now) next)
   stays first {n} is quiet to next some tells st' trace' moved traces =
-      subst (λ (v : StateOf). IsInSpan demand p dem ticks t0 v.now e v trace' × ((a : L) → HasHeard heard a (told_in demand p dem st.now) to → HasHeard heard a (told_in demand p dem v.now) next)) (sym moved)
-      (subst (λ q. IsInSpan demand p dem ticks t0 (st.now + n) e (after_advance (gives st first (n * (point p e).speed)) (st.now + n)) q × ((a : L) → HasHeard heard a (told_in demand p dem st.now) to → HasHeard heard a (told_in demand p dem (st.now + n)) next)) (sym traces)
+      subst (λ (v : StateOf). IsInSpan demand p dem ticks t0 v.now e v trace'
+      × ((a : L) → HasHeard heard a (told_in demand p dem st.now) to → HasHeard heard a (told_in demand p dem v.now) next)) (sym moved)
+      (subst (λ q. IsInSpan demand p dem ticks t0 (st.now + n) e (after_advance (gives st first (n * (point p e).speed)) (st.now + n)) q
+      × ((a : L) → HasHeard heard a (told_in demand p dem st.now) to → HasHeard heard a (told_in demand p dem (st.now + n)) next)) (sym traces)
       (go first is quiet tells))
     where
       go : (first : Option ℕ) → IsFirst p st first → AreQuiet p dem ticks e st first n
           → HasHeard heard to (entering_notes p st t0 e (holder_at st first) trace) next
-          → IsInSpan demand p dem ticks t0 (st.now + n) e (after_advance (gives st first (n * (point p e).speed)) (st.now + n)) (entered p st e (holder_at st first) (n * (point p e).speed) trace)
+          → IsInSpan demand p dem ticks t0 (st.now + n) e (after_advance (gives st first (n * (point p e).speed))
+          (st.now + n)) (entered p st e (holder_at st first) (n * (point p e).speed) trace)
           × ((a : L) → HasHeard heard a (told_in demand p dem st.now) to → HasHeard heard a (told_in demand p dem (st.now + n)) next)
       go None is quiet tells =
           idle-stays heard balked demand p dem ticks adm low_ticks t0 e n st.now st trace to next some here is quiet.before_end quiet.no_release tells
-      go (Some i) is quiet tells = held-stays heard balked demand p dem ticks adm low_ticks t0 e n st.now i st trace to next some here is (quiet.not_done i refl) quiet.before_end quiet.no_release tells
+      go (Some i) is quiet tells = held-stays heard balked demand p dem ticks adm low_ticks t0 e n st.now i st trace to next some here is
+          (quiet.not_done i refl) quiet.before_end quiet.no_release tells
 
   pub stays-balked : (first : Option ℕ) {n : ℕ} → IsFirst p st first → AreQuiet p dem ticks e st first n → (to next : L) → 0 < n
       → HasBalked heard balked to (entering_notes p st t0 e (holder_at st first) trace) next

@@ -1,16 +1,17 @@
 -- How the sums and counts of notes grow.
-use Rattle.std.proofs.Common.{◌≡◌, ℕ, zero, suc, ◌+◌, ◌≤◌, Bool, true, false, List, [], ◌∷◌, ◌++◌, refl, arith, if◌then◌else◌, ap, ◌∙◌, nat_eq, ◌<◌, length, sym, subst, get_or}
+use Rattle.std.proofs.Common.{◌≡◌, ℕ, ◌+◌, ◌≤◌, Bool, true, false, List, [], ◌∷◌, ◌++◌, refl, arith, if◌then◌else◌, ap, ◌∙◌, nat_eq, ◌<◌, length, sym, subst, get_or}
 use Rattle.std.specs.Prelude.{count_by, flat_map, slice_index, sum_by}
 use Rattle.std.proofs.lemmas.Grind.{same_number_lists}
 use Rattle.sched_model.proofs.ScheduleLemmas.{length-list_below}
 use Rattle.sched_model.proofs.Tables.{get-table, table-same}
 use Rattle.std.proofs.lemmas.List.Sums.{sum_by-append}
-use Rattle.std.proofs.lemmas.List.Concat.{flat_map-append}
 use Rattle.dvs_base.specs.declared.note.Note.{Note}
 use Rattle.dvs_base.specs.declared.note.Note.TheVariants.{Release, Run, Done}
 use Rattle.dvs_base.specs.declared.note.Pos.{Pos}
 use Rattle.grid_fraction.specs.Numbers.{list_below}
 use Rattle.grid_fraction.proofs.Counts.{count-append}
+use Rattle.grid_fraction.proofs.Sums.{sum_below-limit}
+use Rattle.done_lines.proofs.CountLemmas.{one-or-none, count-each}
 use Rattle.sched_model.specs.declared.holder.Holder.{Holder}
 use Rattle.sched_model.specs.declared.holder.Holder.TheVariants.{Nobody, Held}
 use Rattle.sched_model.specs.Plan.{Plan, count}
@@ -49,7 +50,8 @@ sums-append p xs ys =
     sums-same _ _
     (totals-same _ _ (sum_by-append energy_run xs ys) (sum_by-append energy_idle xs ys)
     (count-append is_released xs ys) (count-append is_finished xs ys) (count-append is_decided xs ys))
-    (table-same (count p) (λ i. sum_by (energy_of_task i) (xs ++ ys)) (λ i. sum_by (energy_of_task i) xs + sum_by (energy_of_task i) ys) (λ i lt. sum_by-append (energy_of_task i) xs ys)
+    (table-same (count p) (λ i. sum_by (energy_of_task i) (xs ++ ys)) (λ i. sum_by (energy_of_task i) xs + sum_by (energy_of_task i) ys)
+    (λ i lt. sum_by-append (energy_of_task i) xs ys)
     ∙ sym (raised-table (count p) (λ i. sum_by (energy_of_task i) xs) (λ i. sum_by (energy_of_task i) ys)))
     refl
 
@@ -68,7 +70,8 @@ added-append s xs ys =
     (totals-same _ _ (sums s.totals.run energy_run) (sums s.totals.idle energy_idle)
     (both s.totals.released is_released) (both s.totals.finished is_finished) (both s.totals.decisions is_decided))
     (raised-table (length s.by_task) (λ i. slice_index s.by_task i + sum_by (energy_of_task i) xs) (λ i. sum_by (energy_of_task i) ys)
-    ∙ table-same (length s.by_task) _ (λ i. slice_index s.by_task i + sum_by (energy_of_task i) (xs ++ ys)) (λ i lt. sums (slice_index s.by_task i) (energy_of_task i)))
+    ∙ table-same (length s.by_task) _ (λ i. slice_index s.by_task i + sum_by (energy_of_task i) (xs ++ ys))
+    (λ i lt. sums (slice_index s.by_task i) (energy_of_task i)))
     refl
   where
     sums : (n : ℕ) (f : Note → ℕ) → (n + sum_by f xs) + sum_by f ys ≡ n + sum_by f (xs ++ ys)
@@ -104,7 +107,8 @@ notes-run p st at_unit e q u Nobody = omega arith
 notes-run p st at_unit e q u (Held i k) = go (row_at st i).done
   where
     go : (b : Bool)
-        → sum_by energy_run (Run (at_unit q) (at_unit (q + u)) i k u (run_energy p e u) ∷ (if b then Done (at_unit (q + u)) i k (row_at st i).used ∷ [] else [])) ≡ run_energy p e u
+        → sum_by energy_run (Run (at_unit q) (at_unit (q + u)) i k u (run_energy p e u)
+        ∷ (if b then Done (at_unit (q + u)) i k (row_at st i).used ∷ [] else [])) ≡ run_energy p e u
     go true = omega arith
     go false = omega arith
 
@@ -113,7 +117,8 @@ notes-idle p st at_unit e q u Nobody = omega arith
 notes-idle p st at_unit e q u (Held i k) = go (row_at st i).done
   where
     go : (b : Bool)
-        → sum_by energy_idle (Run (at_unit q) (at_unit (q + u)) i k u (run_energy p e u) ∷ (if b then Done (at_unit (q + u)) i k (row_at st i).used ∷ [] else [])) ≡ 0
+        → sum_by energy_idle (Run (at_unit q) (at_unit (q + u)) i k u (run_energy p e u)
+        ∷ (if b then Done (at_unit (q + u)) i k (row_at st i).used ∷ [] else [])) ≡ 0
     go true = omega arith
     go false = omega arith
 
@@ -123,7 +128,8 @@ notes-task p st at_unit e q u Nobody j = refl
 notes-task p st at_unit e q u (Held i k) j = go (row_at st i).done
   where
     go : (b : Bool)
-        → sum_by (energy_of_task j) (Run (at_unit q) (at_unit (q + u)) i k u (run_energy p e u) ∷ (if b then Done (at_unit (q + u)) i k (row_at st i).used ∷ [] else [])) ≡ task_part p e u (Held i k) j
+        → sum_by (energy_of_task j) (Run (at_unit q) (at_unit (q + u)) i k u (run_energy p e u)
+        ∷ (if b then Done (at_unit (q + u)) i k (row_at st i).used ∷ [] else [])) ≡ task_part p e u (Held i k) j
     go true = omega arith
     go false = omega arith
 
@@ -142,7 +148,8 @@ added-holder p st at_unit e q u h s =
     none (Held i k) = go (row_at st i).done
       where
         go : (b : Bool)
-            → s.totals.released + count_by is_released (Run (at_unit q) (at_unit (q + u)) i k u (run_energy p e u) ∷ (if b then Done (at_unit (q + u)) i k (row_at st i).used ∷ [] else [])) ≡ s.totals.released
+            → s.totals.released + count_by is_released (Run (at_unit q) (at_unit (q + u)) i k u (run_energy p e u)
+            ∷ (if b then Done (at_unit (q + u)) i k (row_at st i).used ∷ [] else [])) ≡ s.totals.released
         go true = omega arith
         go false = omega arith
 
@@ -151,7 +158,8 @@ added-holder p st at_unit e q u h s =
     ends (Held i k) = go (row_at st i).done
       where
         go : (b : Bool)
-            → s.totals.finished + count_by is_finished (Run (at_unit q) (at_unit (q + u)) i k u (run_energy p e u) ∷ (if b then Done (at_unit (q + u)) i k (row_at st i).used ∷ [] else [])) ≡ s.totals.finished + (if b then 1 else 0)
+            → s.totals.finished + count_by is_finished (Run (at_unit q) (at_unit (q + u)) i k u (run_energy p e u)
+            ∷ (if b then Done (at_unit (q + u)) i k (row_at st i).used ∷ [] else [])) ≡ s.totals.finished + (if b then 1 else 0)
         go true = omega arith
         go false = omega arith
 
@@ -160,17 +168,14 @@ added-holder p st at_unit e q u h s =
     no (Held i k) = go (row_at st i).done
       where
         go : (b : Bool)
-            → s.totals.decisions + count_by is_decided (Run (at_unit q) (at_unit (q + u)) i k u (run_energy p e u) ∷ (if b then Done (at_unit (q + u)) i k (row_at st i).used ∷ [] else [])) ≡ s.totals.decisions
+            → s.totals.decisions + count_by is_decided (Run (at_unit q) (at_unit (q + u)) i k u (run_energy p e u)
+            ∷ (if b then Done (at_unit (q + u)) i k (row_at st i).used ∷ [] else [])) ≡ s.totals.decisions
         go true = omega arith
         go false = omega arith
 
 pub ended-most : (st : StateOf) (h : Holder) → ended_part st h ≤ 1
 ended-most st Nobody = omega arith
-ended-most st (Held i k) = go (row_at st i).done
-  where
-    go : (b : Bool) → (if b then 1 else 0) ≤ 1
-    go true = omega arith
-    go false = omega arith
+ended-most st (Held i k) = one-or-none (row_at st i).done
 
 -- each task has one release and one end at most at a boundary
 one-each : (f : Note → Bool) (p : Plan) (dem : ℕ → ℕ → ℕ) (t i : ℕ)
@@ -185,19 +190,7 @@ one-each f p dem t i h = go (releases_at p i t) (nat_eq (dem i (latest p i t)) 0
     go true true = (h (latest p i t) (record { tick = t; offset = 0 })).1
 
 few-each : (f : Note → Bool) (g : ℕ → List Note) → ((i : ℕ) → count_by f (g i) ≤ 1) → (n : ℕ) → count_by f (flat_map g (list_below n (λ i. i))) ≤ n
-few-each f g one zero = omega arith
-few-each f g one (suc n) =
-    let split : flat_map g (list_below n (λ i. i) ++ n ∷ []) ≡ flat_map g (list_below n (λ i. i)) ++ flat_map g (n ∷ []) = flat_map-append g (list_below n (λ i. i)) (n ∷ []) in
-    let last : flat_map g (n ∷ []) ≡ g n ++ [] = refl in
-    omega (
-      arith,
-      ap (count_by f) split,
-      count-append f (flat_map g (list_below n (λ i. i))) (flat_map g (n ∷ [])),
-      ap (count_by f) last,
-      count-append f (g n) [],
-      one n,
-      few-each f g one n,
-    )
+few-each f g one n = omega (arith, count-each f g n, sum_below-limit n 1 (λ i. count_by f (g i)) (λ i lt. one i))
 
 pub few-released : (p : Plan) (dem : ℕ → ℕ → ℕ) (t n : ℕ) → count_by is_released (flat_map (release_notes p dem t) (list_below n (λ i. i))) ≤ n
 few-released p dem t n = few-each is_released (release_notes p dem t) (λ i. one-each is_released p dem t i (λ k q. (omega arith, omega arith))) n
@@ -209,11 +202,13 @@ none-decided : (p : Plan) (dem : ℕ → ℕ → ℕ) (t i : ℕ) → count_by i
 none-decided p dem t i = go (releases_at p i t) (nat_eq (dem i (latest p i t)) 0)
   where
     go : (a b : Bool)
-        → count_by is_decided (if a then Release t i (latest p i t) ∷ (if b then Done (record { tick = t; offset = 0 }) i (latest p i t) 0 ∷ [] else []) else []) ≡ 0
+        → count_by is_decided (if a then Release t i (latest p i t)
+        ∷ (if b then Done (record { tick = t; offset = 0 }) i (latest p i t) 0 ∷ [] else []) else []) ≡ 0
     go false b = refl
     go true false = refl
     go true true = refl
 
 pub no-decided : (p : Plan) (dem : ℕ → ℕ → ℕ) (t : ℕ) (js : List ℕ) → count_by is_decided (flat_map (release_notes p dem t) js) ≡ 0
 no-decided p dem t [] = refl
-no-decided p dem t (j ∷ js) = count-append is_decided (release_notes p dem t j) (flat_map (release_notes p dem t) js) ∙ omega (arith, none-decided p dem t j, no-decided p dem t js)
+no-decided p dem t (j ∷ js) = count-append is_decided (release_notes p dem t j) (flat_map (release_notes p dem t) js)
+    ∙ omega (arith, none-decided p dem t j, no-decided p dem t js)

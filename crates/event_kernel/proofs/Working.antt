@@ -1,7 +1,8 @@
 -- The loop over the units of one tick.
-use Rattle.std.proofs.Common.{◌≡◌, ℕ, zero, suc, ◌+◌, ◌-◌, ◌*◌, ◌^◌, ◌<◌, ◌≤◌, min, Bool, true, false, ◌||◌, List, ◌∷◌, ◌++◌, length, replicate, refl, arith, if◌then◌else◌, ap, ◌∙◌, sym, subst, ◌⊎◌, inl, inr, append-nil, append_assoc, nat_eq, add-one}
+use Rattle.std.proofs.Common.{◌≡◌, ℕ, ◌+◌, ◌-◌, ◌*◌, ◌^◌, ◌<◌, ◌≤◌, min, Bool, true, false, ◌||◌, List, ◌∷◌, ◌++◌, length, replicate, refl, arith, if◌then◌else◌, ap, ◌∙◌, sym, subst, ◌⊎◌, inl, inr, append-nil, append_assoc, nat_eq, add-one}
 use Rattle.grid_fraction.specs.declared.Frac.{Frac}
 use Rattle.dvs_base.specs.declared.note.Note.{Note}
+use Rattle.dvs_base.specs.declared.limits.TheConstants.{MOST_TICKS}
 use Rattle.sched_model.specs.declared.state.Row.{Row}
 use Rattle.sched_model.specs.declared.holder.Holder.{Holder}
 use Rattle.sched_model.specs.declared.holder.Holder.TheVariants.{Nobody, Held}
@@ -9,6 +10,7 @@ use Rattle.sched_model.proofs.ScheduleLemmas.{force-within}
 use Rattle.event_kernel.proofs.Summing.{books-in}
 use Rattle.event_kernel.proofs.Bounds.{Bounds}
 use Rattle.grid_fraction.specs.Numbers.{sum_below, any_below}
+use Rattle.grid_fraction.proofs.Sums.{sum_below-zero}
 use Rattle.sched_model.specs.Plan.{Plan, count, worst}
 use Rattle.sched_model.specs.Jobs.{latest}
 use Rattle.sched_model.specs.Ticks.{Tick, exec, left, share}
@@ -46,7 +48,8 @@ module _ {L : Type 0} (heard balked : L → Note → L → Type 0) (p : Plan) (d
   pub record Working (s0 : Span) (from to : L) (rest : ℕ) (completed : Bool) (st : StateOf) (trace : Trace) : Type 0 where
     pub given : ℕ → ℕ
     pub hand : Handing p dem past (speed_now p dem ask past) given rest completed st
-    pub writing : Writing p dem ask (length past) (grown s0 (units_by p dem past given)) (λ i. had p dem past i + given i) (1000000 * length past + sum_below (count p) given) trace
+    pub writing : Writing p dem ask (length past) (grown s0 (units_by p dem past given)) (λ i. had p dem past i + given i)
+        (1000000 * length past + sum_below (count p) given) trace
     pub told : (a : L) → HasHeard heard a (open_notes p dem ask s0) from → HasHeard heard a (open_notes p dem ask (grown s0 (units_by p dem past given))) to
 
   -- the same with a list of units beside it
@@ -59,13 +62,15 @@ module _ {L : Type 0} (heard balked : L → Note → L → Type 0) (p : Plan) (d
   working-start s0 from trace w =
       let same : s0.units ≡ s0.units ++ units_by p dem past (λ _. 0) = sym (ap (λ us. s0.units ++ us) (start-units p dem past) ∙ append-nil s0.units) in
       let used : had p dem past ≡ (λ i. had p dem past i + 0) = λ j i. plus_zero (had p dem past i) j in
-      let most : 1000000 * length past ≡ 1000000 * length past + sum_below (count p) (λ _. 0) = omega (arith, no_sum (count p)) in
+      let most : 1000000 * length past ≡ 1000000 * length past + sum_below (count p) (λ _. 0) =
+      omega (arith, sum_below-zero (count p) (λ _. 0) (λ i lt. refl)) in
       record {
         given = λ _. 0;
         hand = start p dem past (speed_now p dem ask past);
         writing =
             subst
-            (λ us. Writing p dem ask (length past) (with_list s0 us) (λ i. had p dem past i + 0) (1000000 * length past + sum_below (count p) (λ _. 0)) trace) same
+            (λ us. Writing p dem ask (length past) (with_list s0 us) (λ i. had p dem past i + 0)
+            (1000000 * length past + sum_below (count p) (λ _. 0)) trace) same
             (subst (λ m. Writing p dem ask (length past) s0 (λ i. had p dem past i + 0) m trace) most
             (subst (λ u. Writing p dem ask (length past) s0 u (1000000 * length past) trace) used w));
         told = λ a h. subst (λ us. HasHeard heard a (open_notes p dem ask (with_list s0 us)) from) same h;
@@ -73,10 +78,6 @@ module _ {L : Type 0} (heard balked : L → Note → L → Type 0) (p : Plan) (d
     where
       plus_zero : (n : ℕ) → n ≡ n + 0
       plus_zero n = omega arith
-
-      no_sum : (n : ℕ) → sum_below n (λ _. 0) ≡ 0
-      no_sum zero = refl
-      no_sum (suc n) = omega (arith, no_sum n)
 
   module _ (adm : Bounds p) (within : within_now) (s0 : Span) (from : L) where
     pub row-is : (to : L) (rest : ℕ) (completed : Bool) (st : StateOf) (trace : Trace) (w : Working s0 from to rest completed st trace) (i : ℕ) → i < count p
@@ -87,7 +88,7 @@ module _ {L : Type 0} (heard balked : L → Note → L → Type 0) (p : Plan) (d
         → length st.rows ≡ count p
     rows-long to rest completed st trace w = ap (λ (s : StateOf). length s.rows) w.hand.state ∙ length-list_below (count p) (given_row p dem past w.given)
 
-    pub can-tell : length past < 2 ^ 40 → length s0.past ≤ length past → s0.entry ≡ entry_in_force p dem ask past
+    pub can-tell : length past < MOST_TICKS → length s0.past ≤ length past → s0.entry ≡ entry_in_force p dem ask past
         → (to : L) (rest : ℕ) (completed : Bool) (st : StateOf) (trace : Trace) → Working s0 from to rest completed st trace
         → CanTell p st (length s0.past) s0.entry trace × (trace.segment.units + speed_now p dem ask past < 2 ^ 64)
     can-tell early before e to rest completed st trace w = (
@@ -97,7 +98,8 @@ module _ {L : Type 0} (heard balked : L → Note → L → Type 0) (p : Plan) (d
         money = omega (arith, w.writing.money, w.hand.sum, adm.low_speed (entry_in_force p dem ask past));
         ends = omega (arith, w.writing.few_finished, w.hand.sum, adm.low_speed (entry_in_force p dem ask past), early);
         task = subst (λ n. HeldIn n trace.segment.holder) (sym (rows-long to rest completed st trace w)) (held_in trace.segment.holder w.writing.taken);
-        books = books-in p trace.sums (open_notes p dem ask (grown s0 (units_by p dem past w.given))) trace.segment.holder s0.entry w.writing.sums (held_in trace.segment.holder w.writing.taken)
+        books = books-in p trace.sums (open_notes p dem ask (grown s0 (units_by p dem past w.given))) trace.segment.holder s0.entry
+            w.writing.sums (held_in trace.segment.holder w.writing.taken)
             (subst (λ m. m < length p.machine.points) (sym e) (force-within p dem ask adm.some_point past));
       },
       omega (arith, w.writing.place, w.writing.few, w.hand.sum, adm.low_speed (entry_in_force p dem ask past)),
@@ -120,19 +122,27 @@ module _ {L : Type 0} (heard balked : L → Note → L → Type 0) (p : Plan) (d
     working-turn to next rest i share completed whole now st st' trace w pos u se we ne tells is =
         record {
           given = raised w.given i share;
-          hand = gives p dem past (speed_now p dem ask past) rest w.given completed st st' i share whole now w.hand pos within o se' we' is (ne ∙ or_if completed whole);
+          hand = gives p dem past (speed_now p dem ask past) rest w.given completed st st' i share whole now w.hand pos within o se' we' is
+              (ne ∙ or_if completed whole);
           writing =
               subst
-              (λ us. Writing p dem ask (length past) (with_list s0 us) (λ k. had p dem past k + raised w.given i share k) (1000000 * length past + sum_below (count p) (raised w.given i share)) (entered p st s0.entry (Held i ((row_at st i).job)) share trace)) units
-              (subst (λ m. Writing p dem ask (length past) (grown (grown s0 (units_by p dem past w.given)) (replicate share (Held i ((row_at st i).job)))) (λ k. had p dem past k + raised w.given i share k) m (entered p st s0.entry (Held i ((row_at st i).job)) share trace)) most
-              (enters p dem ask (length past) adm (grown s0 (units_by p dem past w.given)) (λ k. had p dem past k + w.given k) (λ k. had p dem past k + raised w.given i share k) (1000000 * length past + sum_below (count p) w.given) st (Held i ((row_at st i).job)) share trace some w.writing sh
+              (λ us. Writing p dem ask (length past) (with_list s0 us) (λ k. had p dem past k + raised w.given i share k)
+              (1000000 * length past + sum_below (count p) (raised w.given i share)) (entered p st s0.entry (Held i ((row_at st i).job)) share trace)) units
+              (subst (λ m. Writing p dem ask (length past) (grown (grown s0 (units_by p dem past w.given)) (replicate share (Held i ((row_at st i).job))))
+              (λ k. had p dem past k + raised w.given i share k) m (entered p st s0.entry (Held i ((row_at st i).job)) share trace)) most
+              (enters p dem ask (length past) adm (grown s0 (units_by p dem past w.given)) (λ k. had p dem past k + w.given k)
+              (λ k. had p dem past k + raised w.given i share k) (1000000 * length past + sum_below (count p) w.given) st
+              (Held i ((row_at st i).job)) share trace some w.writing sh
               (u.below, job_is)
-              (λ k lt. subst (λ j. (had p dem past k + w.given k) + count_by (same_holder (Held k (job p dem past k))) (replicate share (Held i j)) ≡ had p dem past k + raised w.given i share k) (sym job_is) (gives-had p dem past w.given i share k))));
+              (λ k lt. subst (λ j. (had p dem past k + w.given k) + count_by (same_holder (Held k (job p dem past k))) (replicate share (Held i j))
+              ≡ had p dem past k + raised w.given i share k) (sym job_is) (gives-had p dem past w.given i share k))));
           told = λ a h.
               subst (λ us. HasHeard heard a (open_notes p dem ask (with_list s0 us)) next) units
               (subst (λ ns. HasHeard heard a ns next)
-              (sym (enters-notes p dem ask (length past) (grown s0 (units_by p dem past w.given)) (λ k. had p dem past k + w.given k) (1000000 * length past + sum_below (count p) w.given) st (Held i ((row_at st i).job)) share trace some w.writing sh))
-              (heard-append heard balked (open_notes p dem ask (grown s0 (units_by p dem past w.given))) (entering_notes p st (length s0.past) s0.entry (Held i ((row_at st i).job)) trace) a to next (w.told a h) tells));
+              (sym (enters-notes p dem ask (length past) (grown s0 (units_by p dem past w.given)) (λ k. had p dem past k + w.given k)
+              (1000000 * length past + sum_below (count p) w.given) st (Held i ((row_at st i).job)) share trace some w.writing sh))
+              (heard-append heard balked (open_notes p dem ask (grown s0 (units_by p dem past w.given)))
+              (entering_notes p st (length s0.past) s0.entry (Held i ((row_at st i).job)) trace) a to next (w.told a h) tells));
         }
       where
         or_if : (a b : Bool) → (a || b) ≡ (if b then true else a)
@@ -165,7 +175,8 @@ module _ {L : Type 0} (heard balked : L → Note → L → Type 0) (p : Plan) (d
         sh : Shows p dem (length past) st (λ k. had p dem past k + w.given k)
         sh = shows p dem past within (speed_now p dem ask past) rest w.given completed st w.hand
 
-        units : (s0.units ++ units_by p dem past w.given) ++ replicate share (Held i ((row_at st i).job)) ≡ s0.units ++ units_by p dem past (raised w.given i share)
+        units : (s0.units ++ units_by p dem past w.given) ++ replicate share (Held i ((row_at st i).job))
+            ≡ s0.units ++ units_by p dem past (raised w.given i share)
         units =
             append_assoc s0.units (units_by p dem past w.given) (replicate share (Held i ((row_at st i).job)))
             ∙ ap (λ us. s0.units ++ us) (ap (λ j. units_by p dem past w.given ++ replicate share (Held i j)) job_is
@@ -190,12 +201,16 @@ module _ {L : Type 0} (heard balked : L → Note → L → Type 0) (p : Plan) (d
         let longer : HasBalked heard balked a (open_notes p dem ask (grown s0 (units_by p dem past (raised w.given i share)))) next =
         subst (λ us. HasBalked heard balked a (open_notes p dem ask (with_list s0 us)) next) units
         (subst (λ ns. HasBalked heard balked a ns next)
-        (sym (enters-notes p dem ask (length past) (grown s0 (units_by p dem past w.given)) (λ k. had p dem past k + w.given k) (1000000 * length past + sum_below (count p) w.given) st (Held i ((row_at st i).job)) share trace some w.writing sh)) here) in
-        let after : Handing p dem past (speed_now p dem ask past) (raised w.given i share) (rest - share) (if whole then true else completed) (served st i share whole) =
-        gives p dem past (speed_now p dem ask past) rest w.given completed st (served st i share whole) i share whole (if whole then true else completed) w.hand pos within o se' we' refl refl in
+        (sym (enters-notes p dem ask (length past) (grown s0 (units_by p dem past w.given)) (λ k. had p dem past k + w.given k)
+        (1000000 * length past + sum_below (count p) w.given) st (Held i ((row_at st i).job)) share trace some w.writing sh)) here) in
+        let after : Handing p dem past (speed_now p dem ask past) (raised w.given i share) (rest - share)
+        (if whole then true else completed) (served st i share whole) =
+        gives p dem past (speed_now p dem ask past) rest w.given completed st (served st i share whole) i share whole
+        (if whole then true else completed) w.hand pos within o se' we' refl refl in
         let more : Begins (units_by p dem past (raised w.given i share)) (units_of p past (tick_now p dem ask past)) =
         units-begin p dem ask past (raised w.given i share) (rest - share) after.handed in
-        balked-begins heard balked (open_notes p dem ask (grown s0 (units_by p dem past (raised w.given i share)))) (open_notes p dem ask (grown s0 (units_of p past (tick_now p dem ask past)))) a next
+        balked-begins heard balked (open_notes p dem ask (grown s0 (units_by p dem past (raised w.given i share))))
+        (open_notes p dem ask (grown s0 (units_of p past (tick_now p dem ask past)))) a next
         (subst (λ us. Begins (open_notes p dem ask (grown s0 (units_by p dem past (raised w.given i share)))) (open_notes p dem ask (with_list s0 us)))
         (append_assoc s0.units (units_by p dem past (raised w.given i share)) more.rest ∙ ap (λ us. s0.units ++ us) (sym more.whole))
         (open-begins p dem ask (grown s0 (units_by p dem past (raised w.given i share))) more.rest))
@@ -225,7 +240,8 @@ module _ {L : Type 0} (heard balked : L → Note → L → Type 0) (p : Plan) (d
         sh : Shows p dem (length past) st (λ k. had p dem past k + w.given k)
         sh = shows p dem past within (speed_now p dem ask past) rest w.given completed st w.hand
 
-        units : (s0.units ++ units_by p dem past w.given) ++ replicate share (Held i ((row_at st i).job)) ≡ s0.units ++ units_by p dem past (raised w.given i share)
+        units : (s0.units ++ units_by p dem past w.given) ++ replicate share (Held i ((row_at st i).job))
+            ≡ s0.units ++ units_by p dem past (raised w.given i share)
         units =
             append_assoc s0.units (units_by p dem past w.given) (replicate share (Held i ((row_at st i).job)))
             ∙ ap (λ us. s0.units ++ us) (ap (λ j. units_by p dem past w.given ++ replicate share (Held i j)) job_is
@@ -238,7 +254,8 @@ module _ {L : Type 0} (heard balked : L → Note → L → Type 0) (p : Plan) (d
         → CanRun st i share × ((row_at st i).used ≤ dem i ((row_at st i).job)) × (0 < rest → 0 < share)
     can-run low to rest i share completed st trace w u se =
         let row : row_at st i ≡ given_row p dem past w.given i = row-is to rest completed st trace w i u.below in
-        let o : IsFirstOpen (count p) (key p dem past) (left p dem past) w.given i = first-open p dem past (speed_now p dem ask past) rest w.given completed st i w.hand u in
+        let o : IsFirstOpen (count p) (key p dem past) (left p dem past) w.given i =
+        first-open p dem past (speed_now p dem ask past) rest w.given completed st i w.hand u in
         let used : (row_at st i).used ≡ had p dem past i + w.given i = ap (λ (r : Row). r.used) row in
         let need : dem i ((row_at st i).job) ≡ dem i (job p dem past i) = ap (λ (r : Row). dem i r.job) row in
         let most : (row_at st i).worst ≡ worst p i = ap (λ (r : Row). r.worst) row in (
@@ -253,7 +270,8 @@ module _ {L : Type 0} (heard balked : L → Note → L → Type 0) (p : Plan) (d
 
     -- the whole tick is told, with the units that nobody took
     pub record Idled (to : L) (given : ℕ → ℕ) (rest : ℕ) (trace : Trace) : Type 0 where
-      pub writing : Writing p dem ask (length past) (grown s0 (units_by p dem past given ++ replicate rest Nobody)) (λ i. had p dem past i + given i) (1000000 * length past + sum_below (count p) given + rest) trace
+      pub writing : Writing p dem ask (length past) (grown s0 (units_by p dem past given ++ replicate rest Nobody))
+          (λ i. had p dem past i + given i) (1000000 * length past + sum_below (count p) given + rest) trace
       pub told : (a : L) → HasHeard heard a (open_notes p dem ask s0) from
           → HasHeard heard a (open_notes p dem ask (grown s0 (units_by p dem past given ++ replicate rest Nobody))) to
 
@@ -266,8 +284,10 @@ module _ {L : Type 0} (heard balked : L → Note → L → Type 0) (p : Plan) (d
         record {
           writing =
               subst
-              (λ us. Writing p dem ask (length past) (with_list s0 us) (λ i. had p dem past i + w.given i) (1000000 * length past + sum_below (count p) w.given + rest) trace) same
-              (subst (λ m. Writing p dem ask (length past) (grown s0 (units_by p dem past w.given)) (λ i. had p dem past i + w.given i) m trace) most w.writing);
+              (λ us. Writing p dem ask (length past) (with_list s0 us) (λ i. had p dem past i + w.given i)
+              (1000000 * length past + sum_below (count p) w.given + rest) trace) same
+              (subst (λ m. Writing p dem ask (length past) (grown s0 (units_by p dem past w.given))
+              (λ i. had p dem past i + w.given i) m trace) most w.writing);
           told = λ a h. subst (λ us. HasHeard heard a (open_notes p dem ask (with_list s0 us)) to) same (w.told a h);
         }
 
@@ -284,16 +304,20 @@ module _ {L : Type 0} (heard balked : L → Note → L → Type 0) (p : Plan) (d
     working-idle to next rest completed st trace w some tells = record {
       writing =
           subst
-          (λ us. Writing p dem ask (length past) (with_list s0 us) (λ i. had p dem past i + w.given i) (1000000 * length past + sum_below (count p) w.given + rest) (entered p st s0.entry Nobody rest trace)) (idle-units w.given rest)
-          (enters p dem ask (length past) adm (grown s0 (units_by p dem past w.given)) (λ k. had p dem past k + w.given k) (λ k. had p dem past k + w.given k) (1000000 * length past + sum_below (count p) w.given) st Nobody rest trace some w.writing
+          (λ us. Writing p dem ask (length past) (with_list s0 us) (λ i. had p dem past i + w.given i)
+          (1000000 * length past + sum_below (count p) w.given + rest) (entered p st s0.entry Nobody rest trace)) (idle-units w.given rest)
+          (enters p dem ask (length past) adm (grown s0 (units_by p dem past w.given)) (λ k. had p dem past k + w.given k)
+          (λ k. had p dem past k + w.given k) (1000000 * length past + sum_below (count p) w.given) st Nobody rest trace some w.writing
           (shows p dem past within (speed_now p dem ask past) rest w.given completed st w.hand) tt
           (λ k lt. idle-had (had p dem past k + w.given k) rest k (job p dem past k)));
       told = λ a h.
           subst (λ us. HasHeard heard a (open_notes p dem ask (with_list s0 us)) next) (idle-units w.given rest)
           (subst (λ ns. HasHeard heard a ns next)
-          (sym (enters-notes p dem ask (length past) (grown s0 (units_by p dem past w.given)) (λ k. had p dem past k + w.given k) (1000000 * length past + sum_below (count p) w.given) st Nobody rest trace some w.writing
+          (sym (enters-notes p dem ask (length past) (grown s0 (units_by p dem past w.given)) (λ k. had p dem past k + w.given k)
+          (1000000 * length past + sum_below (count p) w.given) st Nobody rest trace some w.writing
           (shows p dem past within (speed_now p dem ask past) rest w.given completed st w.hand)))
-          (heard-append heard balked (open_notes p dem ask (grown s0 (units_by p dem past w.given))) (entering_notes p st (length s0.past) s0.entry Nobody trace) a to next (w.told a h) tells));
+          (heard-append heard balked (open_notes p dem ask (grown s0 (units_by p dem past w.given)))
+          (entering_notes p st (length s0.past) s0.entry Nobody trace) a to next (w.told a h) tells));
     }
 
     -- the units are those of the schedule's tick
@@ -317,15 +341,18 @@ module _ {L : Type 0} (heard balked : L → Note → L → Type 0) (p : Plan) (d
         let here : HasBalked heard balked a (so_far ++ entering_notes p st (length s0.past) s0.entry Nobody trace) next =
         balked_after heard balked so_far (entering_notes p st (length s0.past) s0.entry Nobody trace) a to next (w.told a h) balks in
         subst (λ us. HasBalked heard balked a (open_notes p dem ask (with_list s0 us)) next)
-        (idle-units w.given rest ∙ ap (λ us. s0.units ++ us) (end-units p dem ask past adm.some_period w.given rest (whole-units to rest completed st trace w ends) w.hand.sum))
+        (idle-units w.given rest ∙ ap (λ us. s0.units ++ us) (end-units p dem ask past adm.some_period w.given rest
+        (whole-units to rest completed st trace w ends) w.hand.sum))
         (subst (λ ns. HasBalked heard balked a ns next)
-        (sym (enters-notes p dem ask (length past) (grown s0 (units_by p dem past w.given)) (λ k. had p dem past k + w.given k) (1000000 * length past + sum_below (count p) w.given) st Nobody rest trace some w.writing
+        (sym (enters-notes p dem ask (length past) (grown s0 (units_by p dem past w.given)) (λ k. had p dem past k + w.given k)
+        (1000000 * length past + sum_below (count p) w.given) st Nobody rest trace some w.writing
         (shows p dem past within (speed_now p dem ask past) rest w.given completed st w.hand))) here)
 
     -- after the tick
     pub record Worked (to : L) (completed : Bool) (st : StateOf) (trace : Trace) : Type 0 where
       pub state : st ≡ prior_state p dem (tick_now p dem ask past ∷ past)
-      pub writing : Writing p dem ask (length past) (grown s0 (units_of p past (tick_now p dem ask past))) (λ i. exec p (tick_now p dem ask past ∷ past) i (latest p i (length past))) (1000000 * (length past + 1)) trace
+      pub writing : Writing p dem ask (length past) (grown s0 (units_of p past (tick_now p dem ask past)))
+          (λ i. exec p (tick_now p dem ask past ∷ past) i (latest p i (length past))) (1000000 * (length past + 1)) trace
       pub told : (a : L) → HasHeard heard a (open_notes p dem ask s0) from
           → HasHeard heard a (open_notes p dem ask (grown s0 (units_of p past (tick_now p dem ask past)))) to
       pub completes : completed ≡ any_below (count p) (completes_in p dem (tick_now p dem ask past) past)
@@ -359,8 +386,10 @@ module _ {L : Type 0} (heard balked : L → Note → L → Type 0) (p : Plan) (d
           state = end-state p dem ask past adm.some_period none w.given st same w.hand.state;
           writing =
               subst
-              (λ us. Writing p dem ask (length past) (with_list s0 us) (λ i. exec p (tick_now p dem ask past ∷ past) i (latest p i (length past))) (1000000 * (length past + 1)) trace') units
-              (writing-more (grown s0 (units_by p dem past w.given ++ replicate rest Nobody)) (λ i. had p dem past i + w.given i) (λ i. exec p (tick_now p dem ask past ∷ past) i (latest p i (length past)))
+              (λ us. Writing p dem ask (length past) (with_list s0 us) (λ i. exec p (tick_now p dem ask past ∷ past) i (latest p i (length past)))
+              (1000000 * (length past + 1)) trace') units
+              (writing-more (grown s0 (units_by p dem past w.given ++ replicate rest Nobody)) (λ i. had p dem past i + w.given i)
+              (λ i. exec p (tick_now p dem ask past ∷ past) i (latest p i (length past)))
               (1000000 * length past + sum_below (count p) w.given + rest) (1000000 * (length past + 1)) trace'
               (λ i lt. end-had p dem ask past adm.some_period none w.given i lt (same i lt))
               (omega (arith, w.hand.sum, adm.low_speed (entry_in_force p dem ask past))) d.writing);

@@ -34,7 +34,7 @@ told-append (x ∷ xs) ys ps = told-append xs ys (told_all x ps)
 pub text-append : (xs ys : List LineOf) → text_of (xs ++ ys) ≡ text_of xs ++ text_of ys
 text-append xs ys = flat_map-append (λ (l : LineOf). l.text) xs ys
 
-notes-append : (xs ys : List LineOf) → notes_told (xs ++ ys) ≡ notes_told xs ++ notes_told ys
+pub notes-append : (xs ys : List LineOf) → notes_told (xs ++ ys) ≡ notes_told xs ++ notes_told ys
 notes-append xs ys = flat_map-append (λ (l : LineOf). l.notes) xs ys
 
 -- no lines
@@ -158,11 +158,6 @@ note-some names n = line-some (fields_of names n)
     line-some (field ∷ []) = omega (arith, length-append field (10 ∷ []))
     line-some (field ∷ other ∷ fields) = omega (arith, length-append field (32 ∷ line (other ∷ fields)))
 
--- a note's line, and what the probes are then told
-pub noted-line : (a b : SinkView) (ps qs : List ProbeOf) (names : List (List ℕ)) (n : Note) → Wrote a b (note_text names n) → qs ≡ told_all n ps
-    → WroteLines a b ps qs (noted names n ∷ [])
-noted-line a b ps qs names n w t = one-line a b ps qs (noted names n) w t
-
 pub noted-part : (a b : SinkView) (ps : List ProbeOf) (names : List (List ℕ)) (n : Note) → WroteSome a b (note_text names n)
     → StoppedIn a b ps ps (noted names n ∷ [])
 noted-part a b ps names n w = one-line-part a b ps (noted names n) w
@@ -181,7 +176,8 @@ pub plain-part : (a b : SinkView) (ps : List ProbeOf) (line text : List ℕ) →
 plain-part a b ps line text is w = one-line-part a b ps (plain text) (subst (λ (t : List ℕ). WroteSome a b t) is w)
 
 -- what a listener heard was written and told, and what it balked at in part; `Same` is what its value keeps
-module _ {L : Type 0} (heard balked : L → Note → L → Type 0) (shows : L → SinkView) (probes : L → List ProbeOf) (names : L → List (List ℕ)) (Same : L → L → Type 0)
+module _ {L : Type 0} (heard balked : L → Note → L → Type 0) (shows : L → SinkView) (probes : L → List ProbeOf)
+    (names : L → List (List ℕ)) (Same : L → L → Type 0)
     (same-self : (a : L) → Same a a) (same-trans : (a b c : L) → Same a b → Same b c → Same a c) (same-names : (a b : L) → Same a b → names b ≡ names a)
     (step : (a : L) (n : Note) (b : L) → heard a n b → WroteLines (shows a) (shows b) (probes a) (probes b) (noted (names a) n ∷ []) × Same a b)
     (stop : (a : L) (n : Note) (b : L) → balked a n b → StoppedIn (shows a) (shows b) (probes a) (probes b) (noted (names a) n ∷ []) × Same a b) where
@@ -193,8 +189,10 @@ module _ {L : Type 0} (heard balked : L → Note → L → Type 0) (shows : L �
       let next : L = h.0 in
       let first = step from note next h.1 in
       let rest = heard-wrote next notes to h.2 in (
-        lines-then (shows from) (shows next) (shows to) (probes from) (probes next) (probes to) (noted (names from) note ∷ []) (map (noted (names from)) notes) first.0
-            (subst (λ (ns : List (List ℕ)). WroteLines (shows next) (shows to) (probes next) (probes to) (map (noted ns) notes)) (same-names from next first.1) rest.0),
+        lines-then (shows from) (shows next) (shows to) (probes from) (probes next) (probes to) (noted (names from) note ∷ [])
+            (map (noted (names from)) notes) first.0
+            (subst (λ (ns : List (List ℕ)). WroteLines (shows next) (shows to) (probes next) (probes to) (map (noted ns) notes))
+            (same-names from next first.1) rest.0),
         same-trans from next to first.1 rest.1,
       )
 
@@ -208,7 +206,9 @@ module _ {L : Type 0} (heard balked : L → Note → L → Type 0) (shows : L �
       let next : L = h.0 in
       let first = step from note next h.1 in
       let rest = balked-wrote next notes to h.2 in (
-        lines-then-some (shows from) (shows next) (shows to) (probes from) (probes next) (probes to) (noted (names from) note ∷ []) (map (noted (names from)) notes) first.0
-            (subst (λ (ns : List (List ℕ)). StoppedIn (shows next) (shows to) (probes next) (probes to) (map (noted ns) notes)) (same-names from next first.1) rest.0),
+        lines-then-some (shows from) (shows next) (shows to) (probes from) (probes next) (probes to) (noted (names from) note ∷ [])
+            (map (noted (names from)) notes) first.0
+            (subst (λ (ns : List (List ℕ)). StoppedIn (shows next) (shows to) (probes next) (probes to) (map (noted ns) notes))
+            (same-names from next first.1) rest.0),
         same-trans from next to first.1 rest.1,
       )

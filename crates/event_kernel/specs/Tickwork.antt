@@ -50,5 +50,6 @@ pub record IsAtWork (demand : Plan → StateOf → Frac) (p : Plan) (dem : ℕ �
 -- after its units
 pub record HasWorked (demand : Plan → StateOf → Frac) (p : Plan) (dem : ℕ → ℕ → ℕ) (t : ℕ) (s : StateOf) (trace : Trace) (completed : Bool) : Type 0 where
   pub state : s ≡ prior_state p dem (course demand p dem (t + 1))
-  pub writing : Writing p dem (ask_of demand p dem) t (whole_span demand p dem t) (λ i. exec p (course demand p dem (t + 1)) i (latest p i t)) (1000000 * (t + 1)) trace
+  pub writing : Writing p dem (ask_of demand p dem) t (whole_span demand p dem t)
+      (λ i. exec p (course demand p dem (t + 1)) i (latest p i t)) (1000000 * (t + 1)) trace
   pub completes : completed ≡ any_below (count p) (completes_in p dem (tick_at demand p dem t) (course demand p dem t))

@@ -41,7 +41,6 @@ fn decide<G: Governor, L: Listener>(
     ensures told { Tells L.heard L.balked L.stops to.old to.new
         (speed_note plan.now state.entry.now.now (G.demand plan.now state.entry.now) ∷ []) result }
 {
-    plan.known();
     let choice = governor.choose(plan, state);
     let point = plan.machine().point(choice.index);
     let note = Note::Speed {

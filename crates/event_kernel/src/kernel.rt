@@ -15,6 +15,7 @@ ghost use Rattle.agenda.specs.Stands.{Stands};
 ghost use Rattle.sched_model.specs.Admission.{IsAdmitted};
 ghost use Rattle.dvs_base.specs.Outside.{Rose};
 
+use crate::jobs::count_jobs;
 use crate::run::{Run, Setting};
 use crate::span::Walk;
 use crate::sums::Sums;
@@ -36,20 +37,6 @@ use std::marker::Model;
 pub enum KernelFault {
     TooManyJobs { count: u64 },
     NoMemory,
-}
-
-// How many jobs are released below `ticks`.
-fn count_jobs(plan: &Admitted, ticks: u64) -> u64
-    requires { ticks ≤ MOST_TICKS }
-    ensures { result ≡ released_jobs plan.now ticks }
-{
-    plan.known();
-    let mut count = 0;
-    for task in 0..plan.count() {
-        let span = ticks.saturating_sub(plan.offset(task));
-        count += span.div_ceil(plan.period(task));
-    }
-    count
 }
 
 // What a run begins with: the opening state, the agenda that stands for it, and the sums of no notes.
@@ -202,8 +189,8 @@ impl<'a, G: Governor> Kernel<'a, G> {
         ensures never_falls { (W.shows out.old).faults ≤ (W.shows out.new).faults }
         ensures rose { OnErr result (Rose (W.shows out.old).faults (W.shows out.new).faults) }
     {
-        self.plan.known();
-        self.demands.known();
+        let _scheduler = self.plan.scheduler();
+        let _worsts = self.demands.worsts();
         let head = Head {
             version,
             governor: self.governor.kind(),
@@ -237,8 +224,8 @@ impl<'a, G: Governor> Kernel<'a, G> {
             agenda,
             sums,
         } = self;
-        plan.known();
-        demands.known();
+        let _scheduler = plan.scheduler();
+        let _worsts = demands.worsts();
         let set = Setting {
             plan,
             demands,

@@ -5,6 +5,7 @@
 #![tactic(auto)]
 
 mod boundary;
+mod jobs;
 mod kernel;
 mod listener;
 mod quiet;
@@ -17,6 +18,7 @@ mod tick;
 mod trace;
 mod write;
 
+pub use jobs::{count_jobs, jobs_below, worst_demands};
 pub use kernel::{Kernel, KernelFault};
 pub use listener::{Listener, Stopped};
 pub use teller::WriteFault;

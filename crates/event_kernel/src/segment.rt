@@ -1,5 +1,6 @@
 // The segment that is open.
-ghost use Rattle.std.specs.Prelude.{◌≡◌, ◌+◌, ◌<◌, ◌^◌};
+ghost use Rattle.std.specs.Prelude.{◌≡◌, ◌+◌, ◌<◌};
+ghost use Rattle.dvs_base.specs.Widths.{u64_end};
 ghost use Rattle.sched_model.specs.Segments.{same_holder};
 
 use sched_model::Holder;
@@ -15,7 +16,7 @@ pub struct Segment {
 impl Segment {
     /// The next segment of the holder begins where this one ends.
     pub(crate) fn pass(&mut self)
-        requires { self.old.start + self.old.units < 2 ^ 64 }
+        requires { self.old.start + self.old.units < u64_end }
         ensures { self.new ≡ record { holder = self.old.holder; start = self.old.start + self.old.units; units = 0 } }
     {
         self.start += self.units;

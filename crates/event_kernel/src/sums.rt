@@ -29,7 +29,6 @@ impl Sums {
     pub(crate) fn new(alloc: Global, plan: &Admitted) -> Result<Sums, NoMemory>
         ensures { IfOk result (λ s. s ≡ sums_of plan.now []) }
     {
-        plan.known();
         let account = Account::new(alloc, plan.count(), plan.machine())?;
         Ok(Sums { account })
     }

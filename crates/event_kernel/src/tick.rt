@@ -22,8 +22,7 @@ pub(crate) fn demand(plan: &Admitted, demands: &Demands, task: u32, job: u64) ->
     requires task { task < count plan.now }
     ensures { result ≡ demands_of plan.now demands.now task job }
 {
-    plan.known();
-    demands.known();
+    let _worsts = demands.worsts();
     if job == 0 {
         return 0;
     }

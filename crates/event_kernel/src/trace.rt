@@ -1,5 +1,8 @@
 // What is written of a trace, and how it is told.
-ghost use Rattle.std.specs.Prelude.{◌≡◌, ◌+◌, ◌<◌, ◌^◌, OnOk, [], ◌∷◌};
+ghost use Rattle.std.specs.Prelude.{◌≡◌, ◌+◌, ◌<◌, OnOk, [], ◌∷◌};
+ghost use Rattle.dvs_base.specs.Widths.{u64_end};
+ghost use Rattle.sched_model.specs.declared.holder.Holder.TheVariants.{Nobody, Held};
+ghost use Rattle.sched_model.specs.Plan.{point};
 ghost use Rattle.sched_model.specs.Segments.{same_holder, position_of};
 ghost use Rattle.event_kernel.specs.Heard.{Tells};
 ghost use Rattle.event_kernel.specs.Sums.{Takes};
@@ -38,7 +41,7 @@ fn turns(trace: &Trace, holder: Holder) -> bool
 
 fn position(from: u64, speed: u64, unit: u64) -> Pos
     requires some { 0 < speed }
-    requires fits { from + unit < 2 ^ 64 }
+    requires fits { from + unit < u64_end }
     ensures { result ≡ position_of from speed unit }
 {
     Pos {
@@ -90,6 +93,88 @@ impl Trace {
         Ok(())
     }
 
+    // Where the segment begins and where it ends.
+    fn ends(&self, at: Moment<'_>) -> (Pos, Pos)
+        requires { CanTell at.plan.now at.state.now at.force.from at.force.index self.now }
+        ensures first { result.0 ≡ position_of at.entry.force.from
+            ((point at.entry.plan.now at.entry.force.index).speed) self.entry.now.segment.start }
+        ensures end { result.1 ≡ position_of at.entry.force.from
+            ((point at.entry.plan.now at.entry.force.index).speed)
+            (self.entry.now.segment.start + self.entry.now.segment.units) }
+    {
+        let speed = at.plan.machine().point(at.force.index).speed;
+        let start = self.segment.start;
+        let end = start + self.segment.units;
+        (
+            position(at.force.from, speed, start),
+            position(at.force.from, speed, end),
+        )
+    }
+
+    // Tells an idle segment.
+    fn tell_idle<L: Listener>(&mut self, at: Moment<'_>, to: &mut L) -> Result<(), Stopped>
+        requires can { CanTell at.plan.now at.state.now at.force.from at.force.index self.old }
+        requires idle { self.old.segment.holder ≡ Nobody }
+        ensures trace { OnOk result (self.new ≡ with_notes self.old (written_notes at.entry.plan.now
+            at.entry.state.now at.entry.force.from at.entry.force.index self.old)) }
+        ensures told { Tells L.heard L.balked L.stops to.old to.new
+            (written_notes at.entry.plan.now at.entry.state.now at.entry.force.from
+            at.entry.force.index self.old) result }
+    {
+        let (first, end) = self.ends(at);
+        let index = at.force.index;
+        let units = self.segment.units;
+        let note = Note::Idle {
+            from: first,
+            to: end,
+            units,
+            energy: energy_of(at.plan.machine(), index, units, true),
+        };
+        self.tell_energy(&note, index, to)
+    }
+
+    // Tells a segment of a job, and the end of the job where its row is done.
+    fn tell_run<L: Listener>(
+        &mut self,
+        at: Moment<'_>,
+        task: u32,
+        job: u64,
+        to: &mut L,
+    ) -> Result<(), Stopped>
+        requires can { CanTell at.plan.now at.state.now at.force.from at.force.index self.old }
+        requires held { self.old.segment.holder ≡ Held task job }
+        ensures trace { OnOk result (self.new ≡ with_notes self.old (written_notes at.entry.plan.now
+            at.entry.state.now at.entry.force.from at.entry.force.index self.old)) }
+        ensures told { Tells L.heard L.balked L.stops to.old to.new
+            (written_notes at.entry.plan.now at.entry.state.now at.entry.force.from
+            at.entry.force.index self.old) result }
+    {
+        let (first, end) = self.ends(at);
+        let index = at.force.index;
+        let units = self.segment.units;
+        let note = Note::Run {
+            from: first,
+            to: end,
+            task,
+            job,
+            units,
+            energy: energy_of(at.plan.machine(), index, units, false),
+        };
+        self.tell_energy(&note, index, to)?;
+        let state = at.state;
+        let row = state.rows[task as usize];
+        if row.done {
+            let done = Note::Done {
+                at: end,
+                task,
+                job,
+                used: row.used,
+            };
+            self.tell(&done, to)?;
+        }
+        Ok(())
+    }
+
     // Tells the segment, and the end of its job where the row is done.
     fn tell_segment<L: Listener>(&mut self, at: Moment<'_>, to: &mut L) -> Result<(), Stopped>
         requires { CanTell at.plan.now at.state.now at.force.from at.force.index self.old }
@@ -99,49 +184,9 @@ impl Trace {
             (written_notes at.entry.plan.now at.entry.state.now at.entry.force.from
             at.entry.force.index self.old) result }
     {
-        at.plan.known();
-        let machine = at.plan.machine();
-        let index = at.force.index;
-        let speed = machine.point(index).speed;
-        let Segment {
-            holder,
-            start,
-            units,
-        } = self.segment;
-        let first = position(at.force.from, speed, start);
-        let end = position(at.force.from, speed, start + units);
-        match holder {
-            Holder::Nobody => {
-                let note = Note::Idle {
-                    from: first,
-                    to: end,
-                    units,
-                    energy: energy_of(machine, index, units, true),
-                };
-                self.tell_energy(&note, index, to)?;
-            }
-            Holder::Held(task, job) => {
-                let note = Note::Run {
-                    from: first,
-                    to: end,
-                    task,
-                    job,
-                    units,
-                    energy: energy_of(machine, index, units, false),
-                };
-                self.tell_energy(&note, index, to)?;
-                let state = at.state;
-                let row = state.rows[task as usize];
-                if row.done {
-                    let done = Note::Done {
-                        at: end,
-                        task,
-                        job,
-                        used: row.used,
-                    };
-                    self.tell(&done, to)?;
-                }
-            }
+        match self.segment.holder {
+            Holder::Nobody => self.tell_idle(at, to)?,
+            Holder::Held(task, job) => self.tell_run(at, task, job, to)?,
         }
         self.segment.pass();
         Ok(())
@@ -156,7 +201,7 @@ impl Trace {
         to: &mut L,
     ) -> Result<(), Stopped>
         requires can { CanTell at.plan.now at.state.now at.force.from at.force.index self.old }
-        requires fits { self.old.segment.units + units < 2 ^ 64 }
+        requires fits { self.old.segment.units + units < u64_end }
         ensures trace { OnOk result (self.new ≡ entered at.entry.plan.now at.entry.state.now
             at.entry.force.index holder units self.old) }
         ensures told { Tells L.heard L.balked L.stops to.old to.new

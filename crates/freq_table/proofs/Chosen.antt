@@ -58,5 +58,6 @@ picked_met m table d h = go (any_below (length m.points) (λ e. meets (speed_at 
     go true e = e
     go false e =
         let some : 1 ≤ length m.points = table.some in
-        let off : meets (speed_at m (last_entry m)) d ≡ false = any_below-false (length m.points) (λ e. meets (speed_at m e) d) e (last_entry m) (omega arith) in
+        let off : meets (speed_at m (last_entry m)) d ≡ false = any_below-false (length m.points) (λ e. meets (speed_at m e) d) e
+        (last_entry m) (omega arith) in
         absurd (true≢false (sym (le-leb _ _ h) ∙ off))

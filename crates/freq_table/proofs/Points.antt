@@ -45,10 +45,14 @@ ArePoints-push points x known within after = record {
   each = λ e lt. last_or_before (λ e. IsPoint (entry_at (points ++ x ∷ []) e)) (length points) e (omega (arith, length-append points (x ∷ [])))
       (λ l. rw (entry_at-before points x e l) (known.each e l))
       (λ same. rw (entry_at-last points x e same) within);
-  rising = λ e lt. last_or_before (λ f. (entry_at (points ++ x ∷ []) e).speed < (entry_at (points ++ x ∷ []) f).speed) (length points) (e + 1) (omega (arith, length-append points (x ∷ [])))
+  rising = λ e lt. last_or_before (λ f. (entry_at (points ++ x ∷ []) e).speed < (entry_at (points ++ x ∷ []) f).speed) (length points)
+      (e + 1) (omega (arith, length-append points (x ∷ [])))
       (λ l. let inside : e < length points = omega arith in rw (entry_at-before points x e inside, entry_at-before points x (e + 1) l) (known.rising e l))
-      (λ same. let inside : e < length points = omega arith in rw (entry_at-before points x e inside, entry_at-last points x (e + 1) same) (follows points x e same after).0);
-  not_falling = λ e lt. last_or_before (λ f. (entry_at (points ++ x ∷ []) e).millivolts ≤ (entry_at (points ++ x ∷ []) f).millivolts) (length points) (e + 1) (omega (arith, length-append points (x ∷ [])))
+      (λ same. let inside : e < length points = omega arith in
+      rw (entry_at-before points x e inside, entry_at-last points x (e + 1) same) (follows points x e same after).0);
+  not_falling = λ e lt. last_or_before (λ f. (entry_at (points ++ x ∷ []) e).millivolts ≤ (entry_at (points ++ x ∷ []) f).millivolts)
+      (length points) (e + 1) (omega (arith, length-append points (x ∷ [])))
       (λ l. let inside : e < length points = omega arith in rw (entry_at-before points x e inside, entry_at-before points x (e + 1) l) (known.not_falling e l))
-      (λ same. let inside : e < length points = omega arith in rw (entry_at-before points x e inside, entry_at-last points x (e + 1) same) (follows points x e same after).1);
+      (λ same. let inside : e < length points = omega arith in
+      rw (entry_at-before points x e inside, entry_at-last points x (e + 1) same) (follows points x e same after).1);
 }

@@ -1,5 +1,6 @@
 // A machine's table of speeds.
-ghost use Rattle.std.specs.Prelude.{◌≡◌, ◌<◌, ◌≤◌, ◌^◌, length, vec_len, IfOk};
+ghost use Rattle.std.specs.Prelude.{◌≡◌, ◌<◌, ◌≤◌, length, vec_len, IfOk};
+ghost use Rattle.dvs_base.specs.Widths.{u64_end};
 ghost use Rattle.freq_table.specs.declared.limits.TheConstants.{MOST_POINTS, MOST_IDLE, MOST_CHARGE};
 ghost use Rattle.freq_table.specs.Tables.{Table, point_at, highest_speed, lowest_pick, IsTable};
 ghost use Rattle.freq_table.specs.Limits.{ArePoints};
@@ -83,7 +84,7 @@ impl Machine {
     /// The first entry whose speed meets the demand, with `met` true; where none does, the last with `met` false.
     pub fn lowest(&self, d: Frac) -> Pick
         requires some { 1 ≤ d.den }
-        requires fits { d.den ≤ 2 ^ 64 }
+        requires fits { d.den ≤ u64_end }
         ensures { result ≡ lowest_pick self.now d }
     {
         for (i, point) in self.points.iter().enumerate() {

@@ -1,10 +1,11 @@
 -- A state belongs to its demand list, and goes on to.
-use Rattle.std.proofs.Common.{◌≡◌, inl, inr, ℕ, zero, suc, ◌+◌, ◌-◌, ◌^◌, ◌<◌, ◌≤◌, Bool, true, false, List, length, refl, sym, ◌∙◌, ap, subst, arith}
+use Rattle.std.proofs.Common.{◌≡◌, ◌≢◌, inl, inr, ℕ, zero, suc, ◌+◌, ◌-◌, ◌<◌, ◌≤◌, Bool, true, false, List, length, refl, sym, ◌∙◌, ap, subst, arith}
 use Rattle.std.proofs.Math.Nat.{le_trans}
 use Rattle.std.specs.Prelude.{◌==◌, ◌||◌, if◌then◌else◌, map, slice_index}
 use Rattle.std.specs.List.{list_any}
 use Rattle.std.proofs.lemmas.Bool.{cases_Bool, eqb-true, eqb-false}
 use Rattle.std.proofs.lemmas.List.{length-map, get_or-map}
+use Rattle.task_model.specs.declared.limits.TheConstants.{LONGEST_PERIOD, LATEST_OFFSET}
 use Rattle.grid_fraction.specs.Numbers.{greatest_below}
 use Rattle.grid_fraction.proofs.Least.{least-above}
 use Rattle.sched_model.specs.declared.state.Row.{Row}
@@ -15,9 +16,8 @@ use Rattle.sched_model.specs.Demands.{IsWithin, JobDemands}
 use Rattle.sched_model.specs.Admission.{IsWithinLimits}
 use Rattle.sched_model.specs.States.{StateOf, row_at, no_row, row_wleft, opening, opening_row}
 use Rattle.sched_model.proofs.LevelSums.{share-most, greatest-above, greatest-least, greatest-same}
-use Rattle.sched_model.proofs.ScheduleLemmas.{length-list_below}
-use Rattle.sched_model.proofs.JobLaws.{due-none, due-suc, le-due, release-due, latest_since-pos, latest_since-suc}
-use Rattle.sched_model.proofs.Tables.{get-table}
+use Rattle.sched_model.proofs.JobLaws.{due-none, due-suc, release-due, latest_since-pos, latest_since-suc}
+use Rattle.sched_model.proofs.Tables.{length-list_below, get-table}
 use Rattle.sched_model.proofs.Limits.{some_task, some_period, low_period}
 use Rattle.governor.specs.Steps.{earliest_in, is_due, boundary_row, opened_row, after_boundary, share_in, left_in, left_of, key_in, release_of, last_marked, IsLegalIn, after_tick, tick_row, IsBeforeAll, IsAtDecision, Belongs}
 use Rattle.governor.proofs.Rows.{length-each_row, get-each_row, none_due_at, some_due_at}
@@ -95,13 +95,10 @@ belongs_opening plan dem fits =
     λ i h. subst (λ (row : Row). RowOk plan dem 0 i row) (sym (opening_at plan i h)) (opening_row_ok plan dem i) in
     let none : last_marked plan (opening plan) ≤ 0 =
     greatest-least (count plan) (λ i. release_of plan i (row_at (opening plan) i)) 0 (λ i h. (ok i h).released) in
-    belongs_of_rows plan dem (opening plan) (length-list_below (count plan) (λ i. opening_row (offset plan i) (worst plan i))) (length-list_below (count plan) (λ i. 0)) (omega (arith, none))
+    belongs_of_rows plan dem (opening plan) (length-list_below (count plan) (λ i. opening_row (offset plan i) (worst plan i)))
+    (length-list_below (count plan) (λ i. 0)) (omega (arith, none))
     (λ i h. subst (λ (row : Row). row_wleft row ≤ slice_index (opening plan).base i) (sym (opening_at plan i h)) (omega arith))
     fits ok
-
-eqb_pos : (n : ℕ) → (n == 0) ≡ false → 0 < n
-eqb_pos zero e = absurd (let t : true ≡ false = e in cc)
-eqb_pos (suc n) e = omega arith
 
 -- the next job is released where this one is due
 pub opened_release : (plan : Plan) (dem : JobDemands) (i : ℕ) (row : Row) → row.deadline ≡ due_at plan i row.job
@@ -117,29 +114,36 @@ opened_row_ok plan dem now i row at_now ok = record {
   due = omega (arith, ok.due);
   deadline = omega (arith, ok.deadline, due-suc plan i row.job);
   released = (let e = opened_release plan dem i row ok.deadline in omega arith);
-  open_job = λ e. eqb_pos (dem i (row.job + 1)) e;
+  open_job = λ e. omega (arith, eqb-false (dem i (row.job + 1)) 0 e);
   closed_job = λ e pos. sym (eqb-true (dem i (row.job + 1)) 0 e);
 }
 
-row_at_boundary : (plan : Plan) (dem : JobDemands) (now i : ℕ) (row : Row) → RowOk plan dem now i row
-    → RowOk plan dem now i (boundary_row plan dem now i row)
-row_at_boundary plan dem now i row ok =
-    let P : Bool → Type 0 = λ (b : Bool). RowOk plan dem now i (if b then opened_row plan dem i row else row) in
-    elim (cases_Bool (is_due now row)) [
-      | inl is_now ↦ subst P (sym is_now) (opened_row_ok plan dem now i row (eqb-true row.deadline now is_now) ok)
-      | inr later ↦ subst P (sym later) ok
-    ]
+-- what holds of the next job's row, where a row is due, and else of the row, holds of the row after the releases
+pub boundary_row-by : (plan : Plan) (dem : JobDemands) (now i : ℕ) (row : Row) (P : Row → Type 0)
+    → (row.deadline ≡ now → P (opened_row plan dem i row)) → (row.deadline ≢ now → P row) → P (boundary_row plan dem now i row)
+boundary_row-by plan dem now i row P opened still = go (is_due now row) refl
+  where
+    go : (b : Bool) → is_due now row ≡ b → P (if b then opened_row plan dem i row else row)
+    go true due = opened (eqb-true row.deadline now due)
+    go false later = still (eqb-false row.deadline now later)
 
-pub boundary_at : (plan : Plan) (dem : JobDemands) (s : StateOf) (i : ℕ) → i < length s.rows
+pub boundary_at : (plan : Plan) (dem : JobDemands) (s : StateOf) → Belongs plan dem s → (i : ℕ) → i < count plan
     → row_at (after_boundary plan dem s) i ≡ boundary_row plan dem s.now i (row_at s i)
-boundary_at plan dem s i h = get-each_row (boundary_row plan dem s.now) s.rows i h
+boundary_at plan dem s bel i h = get-each_row (boundary_row plan dem s.now) s.rows i (in_rows plan dem s bel i h)
+
+-- and of the row in the state after them
+pub boundary-by : (plan : Plan) (dem : JobDemands) (s : StateOf) → Belongs plan dem s → (i : ℕ) → i < count plan → (P : Row → Type 0)
+    → ((row_at s i).deadline ≡ s.now → P (opened_row plan dem i (row_at s i))) → ((row_at s i).deadline ≢ s.now → P (row_at s i))
+    → P (row_at (after_boundary plan dem s) i)
+boundary-by plan dem s bel i h P opened still =
+    subst P (sym (boundary_at plan dem s bel i h)) (boundary_row-by plan dem s.now i (row_at s i) P opened still)
 
 pub boundary_long : (plan : Plan) (dem : JobDemands) (s : StateOf) → length (after_boundary plan dem s).rows ≡ length s.rows
 boundary_long plan dem s = length-each_row (boundary_row plan dem s.now) 0 s.rows
 
-pub tick_at : (dem : JobDemands) (shares : List ℕ) (s : StateOf) (i : ℕ) → i < length s.rows
+pub tick_at : (plan : Plan) (dem : JobDemands) (shares : List ℕ) (s : StateOf) → Belongs plan dem s → (i : ℕ) → i < count plan
     → row_at (after_tick dem shares s) i ≡ tick_row dem shares i (row_at s i)
-tick_at dem shares s i h = get-each_row (tick_row dem shares) s.rows i h
+tick_at plan dem shares s bel i h = get-each_row (tick_row dem shares) s.rows i (in_rows plan dem s bel i h)
 
 pub tick_long : (dem : JobDemands) (shares : List ℕ) (s : StateOf) → length (after_tick dem shares s).rows ≡ length s.rows
 tick_long dem shares s = length-each_row (tick_row dem shares) 0 s.rows
@@ -147,8 +151,8 @@ tick_long dem shares s = length-each_row (tick_row dem shares) 0 s.rows
 boundary_rows_ok : (plan : Plan) (dem : JobDemands) (s : StateOf) → Belongs plan dem s → (i : ℕ) → i < count plan
     → RowOk plan dem s.now i (row_at (after_boundary plan dem s) i)
 boundary_rows_ok plan dem s bel i h =
-    rw (boundary_at plan dem s i (in_rows plan dem s bel i h))
-    (row_at_boundary plan dem s.now i (row_at s i) (row_ok plan dem s bel i h))
+    let ok = row_ok plan dem s bel i h in
+    boundary-by plan dem s bel i h (RowOk plan dem s.now i) (λ at_now. opened_row_ok plan dem s.now i (row_at s i) at_now ok) (λ later. ok)
 
 length_if : (b : Bool) (xs ys : List ℕ) (n : ℕ) → length xs ≡ n → length ys ≡ n → length (if b then xs else ys) ≡ n
 length_if true xs ys n p q = p
@@ -165,10 +169,9 @@ base_covers plan dem s bel i h true some =
     get_or-map row_wleft rows i no_row 0 within in
     omega arith
 base_covers plan dem s bel i h false none =
-    let here : i < length s.rows = in_rows plan dem s bel i h in
-    let still : is_due s.now (row_at s i) ≡ false = none_due_at (is_due s.now) s.rows i none here in
+    let still : is_due s.now (row_at s i) ≡ false = none_due_at (is_due s.now) s.rows i none (in_rows plan dem s bel i h) in
     let P : Bool → Type 0 = λ (b : Bool). row_wleft (if b then opened_row plan dem i (row_at s i) else row_at s i) ≤ slice_index s.base i in
-    rw (boundary_at plan dem s i here) (subst P (sym still) (bel.base i h))
+    rw (boundary_at plan dem s bel i h) (subst P (sym still) (bel.base i h))
 
 -- the mark is the last release
 marked_at : (plan : Plan) (dem : JobDemands) (s : StateOf) → Belongs plan dem s → (b : Bool)
@@ -181,12 +184,11 @@ marked_at plan dem s bel true some =
     greatest-least (count plan) release s.now (λ i h. (boundary_rows_ok plan dem s bel i h).released) in
     let found = some_due_at (is_due s.now) s.rows some in
     let i = found.0 in
-    let here : i < length s.rows = found.1 in
-    let h : i < count plan = omega (arith, bel.of.rows) in
+    let h : i < count plan = omega (arith, found.1, bel.of.rows) in
     let at_now : (row_at s i).deadline ≡ s.now = eqb-true (row_at s i).deadline s.now found.2 in
     let P : Bool → Type 0 = λ (b : Bool). release_of plan i (if b then opened_row plan dem i (row_at s i) else row_at s i) ≡ s.now in
     let last : release i ≡ s.now =
-    rw (boundary_at plan dem s i here) (subst P (sym found.2) (opened_release plan dem i (row_at s i) (bel.deadline i h) ∙ at_now)) in
+    rw (boundary_at plan dem s bel i h) (subst P (sym found.2) (opened_release plan dem i (row_at s i) (bel.deadline i h) ∙ at_now)) in
     let least : release i ≤ greatest_below (count plan) release = greatest-above (count plan) release i h in
     omega arith
 marked_at plan dem s bel false none =
@@ -194,10 +196,9 @@ marked_at plan dem s bel false none =
     bel.base_at
     ∙ greatest-same (count plan) (λ i. release_of plan i (row_at s i)) (λ i. release_of plan i (row_at t i))
     (λ i h.
-    let here : i < length s.rows = in_rows plan dem s bel i h in
-    let still : is_due s.now (row_at s i) ≡ false = none_due_at (is_due s.now) s.rows i none here in
+    let still : is_due s.now (row_at s i) ≡ false = none_due_at (is_due s.now) s.rows i none (in_rows plan dem s bel i h) in
     let P : Bool → Type 0 = λ (b : Bool). release_of plan i (row_at s i) ≡ release_of plan i (if b then opened_row plan dem i (row_at s i) else row_at s i) in
-    rw (boundary_at plan dem s i here) (subst P (sym still) refl))
+    rw (boundary_at plan dem s bel i h) (subst P (sym still) refl))
 
 pub belongs_boundary : (plan : Plan) (dem : JobDemands) (s : StateOf) → Belongs plan dem s → Belongs plan dem (after_boundary plan dem s)
 belongs_boundary plan dem s bel =
@@ -211,29 +212,13 @@ belongs_boundary plan dem s bel =
     bel.demand
     (boundary_rows_ok plan dem s bel)
 
--- a row at a boundary is due later
-due_later : (plan : Plan) (dem : JobDemands) (now i : ℕ) (row : Row) → 0 < period plan i → now ≤ row.deadline
-    → now < (boundary_row plan dem now i row).deadline
-due_later plan dem now i row pos due =
-    let P : Bool → Type 0 = λ (b : Bool). now < (if b then opened_row plan dem i row else row).deadline in
-    elim (cases_Bool (is_due now row)) [
-      | inl is_now ↦ subst P (sym is_now) (let e : row.deadline ≡ now = eqb-true row.deadline now is_now in omega arith)
-      | inr later ↦ subst P (sym later) (let other : row.deadline ≡ now → ⊥ = eqb-false row.deadline now later in omega arith)
-    ]
-
--- job numbers are at most the deadlines
-pub numbered : (plan : Plan) (dem : JobDemands) (s : StateOf) → IsWithinLimits plan → Belongs plan dem s → (i : ℕ)
-    → i < count plan → (row_at s i).job ≤ (row_at s i).deadline
-numbered plan dem s lim bel i h =
-    omega (arith, bel.deadline i h, le-due plan i (row_at s i).job (some_period plan lim i h))
-
 -- a deadline is at most a period after the release
 pub due_soon : (plan : Plan) (i job : ℕ) → 0 < job → due_at plan i job ≤ latest_since plan i job + period plan i
 due_soon plan i job some = omega (arith, latest_since-pos plan i job some, release-due plan i job some)
 
 -- and that of job 0 is the offset
-due_low : (plan : Plan) → IsWithinLimits plan → (i job : ℕ) → i < count plan → due_at plan i job ≤ latest_since plan i job + 2 ^ 40
-due_low plan lim i zero h = let first : offset plan i ≤ 2 ^ 40 = (lim.tasks.each i h).low_offset in omega (arith, due-none plan i, first)
+due_low : (plan : Plan) → IsWithinLimits plan → (i job : ℕ) → i < count plan → due_at plan i job ≤ latest_since plan i job + LONGEST_PERIOD
+due_low plan lim i zero h = let first : offset plan i ≤ LATEST_OFFSET = (lim.tasks.each i h).low_offset in omega (arith, due-none plan i, first)
 due_low plan lim i (suc k) h = omega (arith, due_soon plan i (suc k) (omega arith), low_period plan lim i h)
 
 pub decision_boundary : (plan : Plan) (dem : JobDemands) (s : StateOf) → IsWithinLimits plan → Belongs plan dem s
@@ -245,7 +230,8 @@ decision_boundary plan dem s lim bel =
     let most : greatest_below (count plan) release ≤ s.now = greatest-least (count plan) release s.now (λ i h. bel'.released i h) in
     record {
       before = λ i h.
-          rw (boundary_at plan dem s i (in_rows plan dem s bel i h)) (due_later plan dem s.now i (row_at s i) (some_period plan lim i h) (bel.due i h));
+          boundary-by plan dem s bel i h (λ row. s.now < row.deadline)
+          (λ at_now. omega (arith, at_now, some_period plan lim i h)) (λ later. omega (arith, later, bel.due i h));
       soon = λ i h.
           let d = bel'.deadline i h in
           let r = bel'.released i h in
@@ -304,14 +290,16 @@ pub belongs_tick : (plan : Plan) (dem : JobDemands) (f : ℕ) (s : StateOf) (sha
     → IsBeforeAll plan s → IsLegalIn plan dem f s shares → Belongs plan dem (after_tick dem shares s)
 belongs_tick plan dem f s shares bel before legal =
     let t = after_tick dem shares s in
-    let here : (i : ℕ) → i < count plan → i < length s.rows = in_rows plan dem s bel in
     let same : s.base_at ≡ last_marked plan t =
     bel.base_at
-    ∙ greatest-same (count plan) (λ i. release_of plan i (row_at s i)) (λ i. release_of plan i (row_at t i)) (λ i h. rw (tick_at dem shares s i (here i h)) refl) in
+    ∙ greatest-same (count plan) (λ i. release_of plan i (row_at s i)) (λ i. release_of plan i (row_at t i))
+    (λ i h. rw (tick_at plan dem shares s bel i h) refl) in
     belongs_of_rows plan dem t (tick_long dem shares s ∙ bel.of.rows) bel.of.base same
-    (λ i h. rw (tick_at dem shares s i (here i h)) (let r = wleft_falls (row_at s i).done (row_at s i).worst (row_at s i).used (share_in shares i) (dem i (row_at s i).job) in let b = bel.base i h in le_trans r b))
+    (λ i h. rw (tick_at plan dem shares s bel i h) (let r = wleft_falls (row_at s i).done (row_at s i).worst (row_at s i).used
+    (share_in shares i) (dem i (row_at s i).job) in let b = bel.base i h in le_trans r b))
     bel.demand
-    (λ i h. rw (tick_at dem shares s i (here i h)) (row_after_tick plan dem shares s.now i (row_at s i) (λ k. bel.demand.most i k h) (before i h) (legal_most plan dem f s shares legal i h) (row_ok plan dem s bel i h)))
+    (λ i h. rw (tick_at plan dem shares s bel i h) (row_after_tick plan dem shares s.now i (row_at s i) (λ k. bel.demand.most i k h)
+    (before i h) (legal_most plan dem f s shares legal i h) (row_ok plan dem s bel i h)))
 
 -- before all deadlines, the earliest one is later than now
 pub earliest-later : (plan : Plan) → IsWithinLimits plan → (s : StateOf) → IsBeforeAll plan s → s.now < earliest_in plan s

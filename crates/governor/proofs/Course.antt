@@ -1,31 +1,29 @@
 -- What the laws of a governor give along its schedule: every deadline is met, and every demand but that of a look-ahead.
 use Rattle.std.proofs.Common.{◌≡◌, ◌≢◌, ℕ, zero, suc, ◌-◌, ◌<◌, ◌≤◌, Bool, true, false, List, [], ◌∷◌, length, drop, refl, arith, if◌then◌else◌, ap, ◌∙◌, sym, subst, true≢false, ◌⊎◌, inl, inr, eq-or-lt_of_le}
+use Rattle.std.proofs.lemmas.Bool.{or_parts}
 use Rattle.dvs_base.specs.declared.kind.GovernorKind.{GovernorKind}
 use Rattle.dvs_base.specs.declared.kind.GovernorKind.TheVariants.{Ahead}
 use Rattle.grid_fraction.specs.declared.Frac.{Frac}
 use Rattle.freq_table.specs.Tables.{lowest_entry, lowest_pick, speed_at}
 use Rattle.sched_model.specs.declared.state.Row.{Row}
-use Rattle.sched_model.specs.Plan.{Plan, count, period}
+use Rattle.sched_model.specs.Plan.{Plan, count}
 use Rattle.sched_model.specs.Demands.{IsWithin, JobDemands}
-use Rattle.sched_model.specs.Admission.{IsAdmitted}
+use Rattle.sched_model.specs.Admission.{IsAdmitted, IsWithinLimits}
 use Rattle.sched_model.specs.Deadlines.{IsMet}
 use Rattle.sched_model.specs.Jobs.{latest, due, is_release}
-use Rattle.sched_model.specs.Ticks.{Tick, at, exec, share}
-use Rattle.sched_model.specs.Ticks.{left as left_at}
+use Rattle.sched_model.specs.Ticks.{Tick, at, exec}
 use Rattle.sched_model.specs.Decision.{is_decision}
-use Rattle.sched_model.specs.Priority.{allotment, key_of}
 use Rattle.sched_model.specs.Schedule.{entry_in_force, next_tick, schedule_by, IsNext}
-use Rattle.sched_model.specs.States.{StateOf, no_row, row_at, prior_row, prior_state, state_of}
+use Rattle.sched_model.specs.States.{StateOf, row_at, prior_state, state_of}
 use Rattle.sched_model.proofs.Limits.{every_period}
 use Rattle.sched_model.proofs.ScheduleLemmas.{next_tick-may, schedule_exists, schedule-none, schedule-suc, force-decided, force-within}
-use Rattle.sched_model.proofs.Tables.{get-table}
 use Rattle.sched_model.proofs.JobLaws.{latest-is, release-due}
-use Rattle.sched_model.proofs.Joining.{state-still}
+use Rattle.sched_model.proofs.Joining.{row_at-prior_state, state-still}
+use Rattle.sched_model.proofs.Service.{share-legal}
 use Rattle.governor.specs.Meanings.{Serving, OwnDemand, Condition, EntryCondition}
-use Rattle.governor.specs.Steps.{IsAtDecision, IsLegalIn, Belongs}
+use Rattle.governor.specs.Steps.{after_tick, IsAtDecision, IsLegalIn, Belongs}
 use Rattle.governor.specs.Laws.{GovernorLaws, InRun}
 use Rattle.governor.specs.Schedule.{ask_of, course}
-use Rattle.governor.proofs.Rows.{or_false_left}
 use Rattle.governor.proofs.Joins.{boundary-is, tick-is, legal-is}
 use Rattle.governor.proofs.Belonging.{belongs_opening, belongs_boundary, belongs_tick, decision_boundary}
 
@@ -47,10 +45,25 @@ at-schedule p dem ask t r le = ap (λ n. drop (n - r) (schedule_by p dem ask t))
             ∙ (ap (drop (suc (t - r))) (schedule-suc p dem ask t)
             ∙ ih (omega arith))
 
-module _ (kind : GovernorKind) (serves : Serving) (demand : OwnDemand) (calm : Condition) (safe : EntryCondition) (laws : GovernorLaws kind serves demand calm safe) (p : Plan) (dem : JobDemands) (adm : IsAdmitted p) (within : IsWithin p dem) (served : serves p.scheduler) where
-  periods : (i : ℕ) → 0 < period p i
-  periods = every_period p adm.limits
+-- what is due is complete, where the row of a job that is due is
+pub due-had : (p : Plan) → IsWithinLimits p → (dem : JobDemands) (past : List Tick) → Belongs p dem (prior_state p dem past)
+    → (i k : ℕ) → i < count p → 1 ≤ k → due p i k ≡ length past
+    → ((row_at (prior_state p dem past) i).deadline ≡ length past → (row_at (prior_state p dem past) i).done ≡ true)
+    → exec p past i k ≡ dem i k
+due-had p lim dem [] bel i k lt pos e closes = absurd (omega (arith, e, release-due p i k pos, every_period p lim i))
+due-had p lim dem (x ∷ past) bel i k lt pos e closes =
+    let job : latest p i (length past) ≡ k =
+    latest-is p i k (length past) (omega (arith, e, release-due p i k pos, every_period p lim i)) (omega (arith, e)) in
+    let row = row_at-prior_state p dem (x ∷ past) i lt in
+    let done = closes (ap (λ (r : Row). r.deadline) row ∙ (ap (due p i) job ∙ e)) in
+    let P : Row → Type 0 = λ (r : Row). r.done ≡ true → 0 < r.job → r.used ≡ dem i r.job in
+    let had : exec p (x ∷ past) i (latest p i (length past)) ≡ dem i (latest p i (length past)) =
+    subst P row (bel.closed_job i lt) (sym (ap (λ (r : Row). r.done) row) ∙ done) (omega (arith, job, pos)) in
+    ap (exec p (x ∷ past) i) (sym job) ∙ (had ∙ ap (dem i) job)
 
+module _ (kind : GovernorKind) (serves : Serving) (demand : OwnDemand) (calm : Condition) (safe : EntryCondition)
+    (laws : GovernorLaws kind serves demand calm safe) (p : Plan) (dem : JobDemands) (adm : IsAdmitted p) (within : IsWithin p dem)
+    (served : serves p.scheduler) where
   in_run : {s : StateOf} → Belongs p dem s → InRun serves p dem s
   in_run bel = record { admitted = adm; served = served; belongs = bel }
 
@@ -72,20 +85,21 @@ module _ (kind : GovernorKind) (serves : Serving) (demand : OwnDemand) (calm : C
   -- after them
   pub belongs-state : (past : List Tick) → Kept past → Belongs p dem (state_of p dem past)
   belongs-state past k =
-      subst (Belongs p dem) (boundary-is p dem periods within.none past) (belongs_boundary p dem (prior_state p dem past) k.belongs)
+      subst (Belongs p dem) (boundary-is p dem (every_period p adm.limits) within.none past) (belongs_boundary p dem (prior_state p dem past) k.belongs)
 
   pub calm-state : (past : List Tick) → Kept past → calm p (state_of p dem past)
   calm-state past k =
-      subst (calm p) (boundary-is p dem periods within.none past)
+      subst (calm p) (boundary-is p dem (every_period p adm.limits) within.none past)
       (laws.releases p dem (prior_state p dem past) (in_run k.belongs) k.is_calm)
 
   pub decides-state : (past : List Tick) → Kept past → IsAtDecision p (state_of p dem past)
   decides-state past k =
-      subst (IsAtDecision p) (boundary-is p dem periods within.none past) (decision_boundary p dem (prior_state p dem past) adm.limits k.belongs)
+      subst (IsAtDecision p) (boundary-is p dem (every_period p adm.limits) within.none past)
+      (decision_boundary p dem (prior_state p dem past) adm.limits k.belongs)
 
   no-release : (past : List Tick) → is_decision p dem past ≡ false → is_release p (length past) ≡ false
   no-release [] e = absurd (true≢false e)
-  no-release (x ∷ past) e = or_false_left (is_release p (length (x ∷ past))) _ e
+  no-release (x ∷ past) e = (or_parts (is_release p (length (x ∷ past))) _ e).0
 
   safe-state : (past : List Tick) → Kept past → safe p (state_of p dem past) (entry_at past)
   safe-state past k = go (is_decision p dem past) refl
@@ -95,24 +109,25 @@ module _ (kind : GovernorKind) (serves : Serving) (demand : OwnDemand) (calm : C
           subst (safe p (state_of p dem past)) (sym (force-decided p dem ask past e))
           (laws.chooses p dem (state_of p dem past) (in_run (belongs-state past k)) (decides-state past k) (calm-state past k))
       go false e =
-          subst (λ s. safe p s (entry_at past)) (state-still p dem periods past within.none (no-release past e))
+          subst (λ s. safe p s (entry_at past)) (state-still p dem (every_period p adm.limits) past within.none (no-release past e))
           (k.is_safe e)
 
   abbrev tick : List Tick → Tick
   tick past = next_tick p dem ask past
 
-  own : (past : List Tick) (i : ℕ) → i < count p → share (tick past) i ≤ left_at p dem past i
-  own past i lt =
-      omega (arith, get-table (count p) (allotment (count p) (key_of p.scheduler p (length past)) (speed_now past) (left_at p dem past)) i 0 lt)
+  ticked : (past : List Tick) → after_tick dem (tick past).shares (state_of p dem past) ≡ prior_state p dem (tick past ∷ past)
+  ticked past =
+      tick-is p dem (every_period p adm.limits) within.none (tick past) past
+      (share-legal p dem past (speed_now past) (tick past) (next_tick-may p dem ask past).legal)
 
   legal : (past : List Tick) → IsLegalIn p dem (speed_now past) (state_of p dem past) (tick past).shares
   legal past =
       let may : IsNext p dem ask past (tick past) = next_tick-may p dem ask past in
-      legal-is p dem periods within.none (tick past) past (speed_now past) may.one_share_each may.legal
+      legal-is p dem (every_period p adm.limits) within.none (tick past) past (speed_now past) may.one_share_each may.legal
 
   safe-next : (past : List Tick) → Kept past → safe p (prior_state p dem (tick past ∷ past)) (entry_at past)
   safe-next past k =
-      subst (λ s. safe p s (entry_at past)) (tick-is p dem periods within.none (tick past) past (own past))
+      subst (λ s. safe p s (entry_at past)) (ticked past)
       (laws.ticks p dem (state_of p dem past) (in_run (belongs-state past k)) (entry_at past) (safe-state past k) (tick past).shares (record {
         before = (decides-state past k).before;
         entry = force-within p dem ask adm.limits.machine.some past;
@@ -121,7 +136,7 @@ module _ (kind : GovernorKind) (serves : Serving) (demand : OwnDemand) (calm : C
 
   belongs-next : (past : List Tick) → Kept past → Belongs p dem (prior_state p dem (tick past ∷ past))
   belongs-next past k =
-      subst (Belongs p dem) (tick-is p dem periods within.none (tick past) past (own past))
+      subst (Belongs p dem) (ticked past)
       (belongs_tick p dem (speed_now past) (state_of p dem past) (tick past).shares (belongs-state past k) (decides-state past k).before (legal past))
 
   kept-next : (past : List Tick) → Kept past → Kept (tick past ∷ past)
@@ -146,30 +161,16 @@ module _ (kind : GovernorKind) (serves : Serving) (demand : OwnDemand) (calm : C
   kept zero = subst Kept (sym (schedule-none p dem ask)) kept-none
   kept (suc t) = subst Kept (sym (schedule-suc p dem ask t)) (kept-next (course demand p dem t) (kept t))
 
-  -- what is due is complete
-  due-had : (past : List Tick) (i k : ℕ) → Kept past → i < count p → 1 ≤ k → due p i k ≡ length past → exec p past i k ≡ dem i k
-  due-had [] i k kept lt pos e = absurd (omega (arith, e, release-due p i k pos, periods i))
-  due-had (x ∷ past) i k kept lt pos e =
-      let job : latest p i (length past) ≡ k =
-      latest-is p i k (length past) (omega (arith, e, release-due p i k pos, periods i)) (omega (arith, e)) in
-      let row : row_at (prior_state p dem (x ∷ past)) i ≡ prior_row p dem (x ∷ past) i =
-      get-table (count p) (prior_row p dem (x ∷ past)) i no_row lt in
-      let now : (row_at (prior_state p dem (x ∷ past)) i).deadline ≡ length (x ∷ past) =
-      ap (λ (r : Row). r.deadline) row ∙ (ap (due p i) job ∙ e) in
-      let done : (row_at (prior_state p dem (x ∷ past)) i).done ≡ true =
-      laws.completes p dem (prior_state p dem (x ∷ past)) (in_run kept.belongs) kept.is_calm i lt now in
-      let P : Row → Type 0 = λ (r : Row). r.done ≡ true → 0 < r.job → r.used ≡ dem i r.job in
-      let had : exec p (x ∷ past) i (latest p i (length past)) ≡ dem i (latest p i (length past)) =
-      subst P row (kept.belongs.closed_job i lt) (sym (ap (λ (r : Row). r.done) row) ∙ done) (omega (arith, job, pos)) in
-      ap (exec p (x ∷ past) i) (sym job) ∙ (had ∙ ap (dem i) job)
-
   -- every deadline is met
   pub course-met : (t : ℕ) → IsMet p dem (course demand p dem t)
   course-met t i k lt pos le =
       let long = (schedule_exists p dem ask t).1 in
       let there = (schedule_exists p dem ask (due p i k)).1 in
+      let past = course demand p dem (due p i k) in
+      let held = kept (due p i k) in
       ap (λ (ps : List Tick). exec p ps i k) (at-schedule p dem ask t (due p i k) (omega (arith, le, long)))
-      ∙ due-had (course demand p dem (due p i k)) i k (kept (due p i k)) lt pos (sym there)
+      ∙ due-had p adm.limits dem past held.belongs i k lt pos (sym there)
+      (laws.completes p dem (prior_state p dem past) (in_run held.belongs) held.is_calm i lt)
 
   -- at a decision the demand is met
   pub demand-met : kind ≢ Ahead → (t : ℕ) → (lowest_pick p.machine (demand p (state_of p dem (course demand p dem t)))).met ≡ true

@@ -1,8 +1,8 @@
 -- The laws under EDF at one speed.
-use Rattle.std.proofs.Common.{◌≡◌, inl, inr, ℕ, zero, suc, ◌+◌, ◌-◌, ◌*◌, ◌<◌, ◌≤◌, Bool, true, false, List, length, refl, sym, ◌∙◌, ap, subst, arith}
-use Rattle.std.proofs.Math.Nat.{mul-le-mul_left, mul-le-mul_right, mul-zero, sub-zero}
+use Rattle.std.proofs.Common.{◌≡◌, inl, inr, ℕ, ◌+◌, ◌-◌, ◌*◌, ◌<◌, ◌≤◌, Bool, true, false, List, refl, sym, ◌∙◌, ap, subst, arith}
+use Rattle.std.proofs.Math.Nat.{mul-le-mul_left, mul-le-mul_right, mul-zero, sub-zero, le_of_mul-le-mul_left}
 use Rattle.std.specs.Prelude.{if◌then◌else◌, nat_le, ◌/◌}
-use Rattle.std.proofs.lemmas.Bool.{le-leb, leb-true, cases_lt, cases_Bool, eqb-true}
+use Rattle.std.proofs.lemmas.Bool.{le-leb, leb-true, cases_lt, cases_Bool}
 use Rattle.std.proofs.lemmas.Bool.Decides.{nat_tests}
 use Rattle.dvs_base.specs.declared.kind.Scheduler.{Scheduler}
 use Rattle.dvs_base.specs.declared.kind.Scheduler.TheVariants.{Edf}
@@ -19,9 +19,9 @@ use Rattle.sched_model.specs.Admission.{IsWithinLimits}
 use Rattle.sched_model.specs.States.{StateOf, row_at, row_wleft, opening, opening_row}
 use Rattle.sched_model.proofs.Limits.{some_task, some_hyper, period_divides}
 use Rattle.sched_model.proofs.LevelSums.{sum_where-plus, sum_where-times, sum_where-term, sum_where-zero, sum_where-all, sum_below-times}
-use Rattle.governor.specs.Steps.{is_due, boundary_row, opened_row, after_boundary, wleft_at, earliest_in, key_in, IsLegalIn, after_tick, IsBeforeAll, Belongs}
+use Rattle.governor.specs.Steps.{boundary_row, opened_row, after_boundary, wleft_at, earliest_in, key_in, IsLegalIn, after_tick, IsBeforeAll, Belongs}
 use Rattle.governor.proofs.Rows.{wleft-most}
-use Rattle.governor.proofs.Belonging.{earliest-from, in_rows, opening_at, boundary_at, tick_at}
+use Rattle.governor.proofs.Belonging.{earliest-from, opening_at, boundary_row-by, boundary_at, tick_at}
 use Rattle.governor.proofs.Ticks.{tick_set, demand_most}
 use Rattle.governor.specs.Edf.{due_by, load, EdfCalm, EdfSafe}
 
@@ -31,13 +31,6 @@ same_speed F t a d ta ad = let e : d - t ≡ (a - t) + (d - a) = omega arith in 
 -- a piece at the lower speed and the rest at the higher one
 two_speeds : (f F t a d : ℕ) → f ≤ F → t ≤ a → a ≤ d → f * (a - t) + F * (d - a) ≤ F * (d - t)
 two_speeds f F t a d le ta ad = omega (arith, mul-le-mul_right (a - t) le, same_speed F t a d ta ad)
-
-zero_factor : (h w : ℕ) → 0 < h → h * w ≤ 0 → w ≡ 0
-zero_factor h zero p q = refl
-zero_factor h (suc w) p q = absurd (omega (arith, mul-le-mul_left h (suc_at_least w)))
-  where
-    suc_at_least : (n : ℕ) → 1 ≤ suc n
-    suc_at_least n = omega arith
 
 -- a job with nothing left at most is complete
 pub closed_row : (row : Row) (n : ℕ) → row_wleft row ≡ 0 → (row.done ≡ false → row.used < n) → n ≤ row.worst → row.done ≡ true
@@ -89,11 +82,8 @@ term_boundary : (plan : Plan) (dem : JobDemands) (h d now i p c : ℕ) (row : Ro
     → h / p * p ≡ h → (row.deadline ≡ now → row.done ≡ true) → now ≤ d
     → term h d (c * (h / p)) (boundary_row plan dem now i row) ≤ term h d (c * (h / p)) row
 term_boundary plan dem h d now i p c row per wor whole closed le =
-    let P : Bool → Type 0 = λ (b : Bool). term h d (c * (h / p)) (if b then opened_row plan dem i row else row) ≤ term h d (c * (h / p)) row in
-    elim (cases_Bool (is_due now row)) [
-      | inl due ↦ let at_now : row.deadline ≡ now = eqb-true row.deadline now due in subst P (sym due) (term_opened plan dem h d now i p c row per wor whole (closed at_now) at_now le)
-      | inr later ↦ subst P (sym later) (omega arith)
-    ]
+    boundary_row-by plan dem now i row (λ new. term h d (c * (h / p)) new ≤ term h d (c * (h / p)) row)
+    (λ at_now. term_opened plan dem h d now i p c row per wor whole (closed at_now) at_now le) (λ later. omega arith)
 
 by_rates : (h f F x y u w rest : ℕ) → w ≡ 0 → rest ≤ y * u → u ≤ F * h → h * w + rest ≤ h * (f * x + F * y)
 by_rates h f F x y u w rest none le fits = rw none (omega (arith, mul-le-mul_left y fits, mul-zero h))
@@ -121,9 +111,6 @@ module _ (F : ℕ) (plan : Plan) (lim : IsWithinLimits plan) where
       rw whole (omega (arith, load_is plan (opening plan) d, each, sum_below-times n d (rate plan), mul-le-mul_left d fits))
 
   module _ (dem : JobDemands) (s : StateOf) (bel : Belongs plan dem s) where
-    here : (i : ℕ) → i < count plan → i < length s.rows
-    here = in_rows plan dem s bel
-
     -- no task is due before the earliest deadline
     none_due : (d : ℕ) → d < earliest_in plan s → load plan s d ≡ 0
     none_due d lt =
@@ -138,7 +125,12 @@ module _ (F : ℕ) (plan : Plan) (lim : IsWithinLimits plan) where
         elim (cases_lt d (earliest_in plan s)) [
           | inl before ↦ rw (none_due d before) (omega arith)
           | inr from ↦
-              omega (arith, safe.bound d from, mul-le-mul_left (hyper plan) (two_speeds (speed_at plan.machine k) F s.now (earliest_in plan s) d safe.slower (earliest-from plan lim dem s bel) from))
+              omega (
+                arith,
+                safe.bound d from,
+                mul-le-mul_left (hyper plan)
+                    (two_speeds (speed_at plan.machine k) F s.now (earliest_in plan s) d safe.slower (earliest-from plan lim dem s bel) from),
+              )
         ]
 
     pub edf_chooses : (k : ℕ) → speed_at plan.machine k ≡ F → EdfCalm F plan s → EdfSafe F plan s k
@@ -153,18 +145,20 @@ module _ (F : ℕ) (plan : Plan) (lim : IsWithinLimits plan) where
     edf_completes calm i h e =
         let none : (hyper plan) * (F * (s.now - s.now)) ≡ 0 = (let z : s.now - s.now ≡ 0 = omega arith in rw z (omega arith)) in
         let all : load plan s s.now ≤ 0 = rw none at (calm s.now (omega arith)) in
-        let total : sum_where (count plan) (due_by s s.now) (wleft_at s) ≡ 0 =
-        zero_factor (hyper plan) (sum_where (count plan) (due_by s s.now) (wleft_at s)) (some_hyper plan lim) (omega arith) in
+        let total : sum_where (count plan) (due_by s s.now) (wleft_at s) ≤ 0 =
+        le_of_mul-le-mul_left {m = sum_where (count plan) (due_by s s.now) (wleft_at s)} {n = 0} {k = hyper plan} (omega (arith, all)) (some_hyper plan lim) in
         let mine = sum_where-term (count plan) (due_by s s.now) (wleft_at s) i h (le-leb (row_at s i).deadline s.now (omega arith)) in
         closed_row (row_at s i) (dem i (row_at s i).job) (omega arith) (bel.open_job i h) (demand_most plan dem s bel i h)
 
     pub edf_releases : EdfCalm F plan s → EdfCalm F plan (after_boundary plan dem s)
     edf_releases calm d le =
         let t = after_boundary plan dem s in
-        let falls : sum_below (count plan) (λ i. term (hyper plan) d (rate plan i) (row_at t i)) ≤ sum_below (count plan) (λ i. term (hyper plan) d (rate plan i) (row_at s i)) =
+        let falls : sum_below (count plan) (λ i. term (hyper plan) d (rate plan i) (row_at t i))
+        ≤ sum_below (count plan) (λ i. term (hyper plan) d (rate plan i) (row_at s i)) =
         sum_below-le (count plan) (λ i. term (hyper plan) d (rate plan i) (row_at t i)) (λ i. term (hyper plan) d (rate plan i) (row_at s i)) (λ i h.
-        rw (boundary_at plan dem s i (here i h))
-        (term_boundary plan dem (hyper plan) d s.now i (period plan i) (worst plan i) (row_at s i) refl (bel.of.worst i h) (period_divides plan lim i h) (edf_completes calm i h) le)) in
+        rw (boundary_at plan dem s bel i h)
+        (term_boundary plan dem (hyper plan) d s.now i (period plan i) (worst plan i) (row_at s i) refl (bel.of.worst i h)
+        (period_divides plan lim i h) (edf_completes calm i h) le)) in
         let now = calm d le in
         omega (arith, load_is plan t d, load_is plan s d, falls, now)
 
@@ -179,17 +173,21 @@ module _ (F : ℕ) (plan : Plan) (lim : IsWithinLimits plan) where
           let a = earliest_in plan s in
           let t = after_tick dem shares s in
           let kept : earliest_in plan t ≡ a =
-          least-same n (λ i. (row_at t i).deadline) (λ i. (row_at s i).deadline) (λ i lt. ap (λ (row : Row). row.deadline) (tick_at dem shares s i (here i lt))) in
+          least-same n (λ i. (row_at t i).deadline) (λ i. (row_at s i).deadline)
+          (λ i lt. ap (λ (row : Row). row.deadline) (tick_at plan dem shares s bel i lt)) in
           let due : a ≤ d = rw kept at le in
           let next : s.now + 1 ≤ a =
           least-above n (λ i. (row_at s i).deadline) (s.now + 1) (some_task plan lim) (λ i lt. let g = before i lt in omega (arith, g)) in
           let down : (j i : ℕ) → j < n → i < n → stands_before (key_in plan.scheduler plan s) j i ≡ true → due_by s d i ≡ true → due_by s d j ≡ true =
-          subst (λ (sch : Scheduler). (j i : ℕ) → j < n → i < n → stands_before (key_in sch plan s) j i ≡ true → due_by s d i ≡ true → due_by s d j ≡ true) (sym edf) (λ j i lj li b on. grind (arith, nat_tests)) in
+          subst (λ (sch : Scheduler). (j i : ℕ) → j < n → i < n → stands_before (key_in sch plan s) j i ≡ true → due_by s d i ≡ true
+          → due_by s d j ≡ true) (sym edf) (λ j i lj li b on. grind (arith, nat_tests)) in
           let x : ℕ → ℕ = λ i. rate plan i * (d - (row_at s i).deadline) in
           let work : sum_where n (due_by t d) (wleft_at t) ≡ sum_where n (due_by s d) (wleft_at t) =
-          sum_below-same n (λ i. if due_by t d i then wleft_at t i else 0) (λ i. if due_by s d i then wleft_at t i else 0) (λ i lt. ap (λ (row : Row). if nat_le row.deadline d then wleft_at t i else 0) (tick_at dem shares s i (here i lt))) in
+          sum_below-same n (λ i. if due_by t d i then wleft_at t i else 0) (λ i. if due_by s d i then wleft_at t i else 0)
+          (λ i lt. ap (λ (row : Row). if nat_le row.deadline d then wleft_at t i else 0) (tick_at plan dem shares s bel i lt)) in
           let rest : sum_where n (due_by t d) (λ i. rate plan i * (d - (row_at t i).deadline)) ≡ sum_where n (due_by s d) x =
-          sum_below-same n (λ i. if due_by t d i then rate plan i * (d - (row_at t i).deadline) else 0) (λ i. if due_by s d i then x i else 0) (λ i lt. ap (λ (row : Row). if nat_le row.deadline d then rate plan i * (d - row.deadline) else 0) (tick_at dem shares s i (here i lt))) in
+          sum_below-same n (λ i. if due_by t d i then rate plan i * (d - (row_at t i).deadline) else 0) (λ i. if due_by s d i then x i else 0)
+          (λ i lt. ap (λ (row : Row). if nat_le row.deadline d then rate plan i * (d - row.deadline) else 0) (tick_at plan dem shares s bel i lt)) in
           let room : h * sum_where n (due_by s d) (wleft_at t) + sum_where n (due_by s d) x ≤ h * (f * (a - (s.now + 1)) + F * (d - a)) =
           elim (tick_set plan dem f s shares (due_by s d) bel legal down) [
             | inl all ↦
@@ -199,11 +197,13 @@ module _ (F : ℕ) (plan : Plan) (lim : IsWithinLimits plan) where
                 let near : d - (row_at s i).deadline ≤ d - a = (let g = least-below n (λ i. (row_at s i).deadline) i lt in omega arith) in
                 omega (arith, mul-le-mul_left (rate plan i) near)) in
                 let whole = sum_below-times n (d - a) (rate plan) in
-                by_rates h f F (a - (s.now + 1)) (d - a) (total_rate plan) (sum_where n (due_by s d) (wleft_at t)) (sum_where n (due_by s d) x) none (omega (arith, rates, whole)) fits
+                by_rates h f F (a - (s.now + 1)) (d - a) (total_rate plan) (sum_where n (due_by s d) (wleft_at t))
+                (sum_where n (due_by s d) x) none (omega (arith, rates, whole)) fits
             | inr falls ↦
                 let span : a - s.now ≡ (a - (s.now + 1)) + 1 = omega arith in
                 let earlier : load plan s d ≤ h * (f * (a - s.now) + F * (d - a)) = safe.bound d due in
-                by_units h f F (a - (s.now + 1)) (d - a) (sum_where n (due_by s d) (wleft_at t)) (sum_where n (due_by s d) (wleft_at s)) (sum_where n (due_by s d) x) falls (rw span at earlier)
+                by_units h f F (a - (s.now + 1)) (d - a) (sum_where n (due_by s d) (wleft_at t)) (sum_where n (due_by s d) (wleft_at s))
+                (sum_where n (due_by s d) x) falls (rw span at earlier)
           ] in
           rw (kept, work, rest) room;
       slower = safe.slower;

@@ -1,16 +1,18 @@
 -- The speeds of the two governors pass the scheduler's test, and meet what they publish.
-use Rattle.std.proofs.Common.{◌≡◌, ℕ, ◌*◌, ◌<◌, ◌≤◌, true, sym, subst, arith}
+use Rattle.std.proofs.Common.{◌≡◌, ℕ, ◌*◌, ◌<◌, ◌≤◌, true, sym, ◌∙◌, ap, ap₂, subst, arith}
 use Rattle.std.proofs.Math.Nat.{mul-le-mul_right, le_of_mul-le-mul_right}
 use Rattle.dvs_base.specs.declared.kind.Scheduler.{Scheduler}
 use Rattle.dvs_base.specs.declared.kind.Scheduler.TheVariants.{Edf, Rm}
-use Rattle.freq_table.specs.Tables.{speed_at, lowest_entry, lowest_pick}
+use Rattle.grid_fraction.specs.declared.Frac.{Frac}
+use Rattle.freq_table.specs.declared.machine.Pick.{Pick}
+use Rattle.freq_table.specs.Tables.{Table, speed_at, lowest_entry, lowest_pick}
 use Rattle.freq_table.proofs.Chosen.{below_highest, lowest_within, picked_meets, picked_met}
 use Rattle.sched_model.specs.Plan.{Plan, count, period, hyper, top_speed}
 use Rattle.sched_model.specs.Tests.{IsEdfFeasible, IsRmFeasible, total_rate, level_work}
-use Rattle.sched_model.specs.StaticDemand.{full_demand, rm_static, static_demand_of, static_demand}
+use Rattle.sched_model.specs.StaticDemand.{heaviest, full_demand, rm_static, static_demand_of, static_demand}
 use Rattle.sched_model.specs.Admission.{IsWithinLimits, IsAdmitted, PassesTest}
 use Rattle.sched_model.proofs.Limits.{some_period}
-use Rattle.sched_model.proofs.Weights.{heaviest_task, heaviest_within, heaviest_greatest}
+use Rattle.sched_model.proofs.Weights.{heaviest_within, heaviest_greatest}
 pub use Rattle.sched_model.proofs.Weights.{static_den}
 use Rattle.governor.specs.Speeds.{fixed_speed}
 
@@ -44,7 +46,7 @@ full_met plan lim = picked_met plan.machine lim.machine (full_demand plan) (omeg
 below_top_by : (plan : Plan) (lim : IsWithinLimits plan) (sch : Scheduler) → PassesTest sch plan
     → (static_demand_of sch plan).num ≤ top_speed plan * (static_demand_of sch plan).den
 below_top_by plan lim Edf test = test
-below_top_by plan lim Rm test = test (heaviest_task plan lim) (heaviest_within plan lim)
+below_top_by plan lim Rm test = test (heaviest plan) (heaviest_within plan lim)
 
 pub static_met : (plan : Plan) → IsAdmitted plan → (lowest_pick plan.machine (static_demand plan)).met ≡ true
 static_met plan adm = picked_met plan.machine adm.limits.machine (static_demand plan) (below_top_by plan adm.limits plan.scheduler adm.test)
@@ -55,6 +57,12 @@ met_by : (plan : Plan) (lim : IsWithinLimits plan) (sch : Scheduler) → PassesT
 met_by plan lim sch test = picked_meets plan.machine lim.machine (static_demand_of sch plan) (below_top_by plan lim sch test)
 
 -- a speed that meets the greatest fraction meets each
+-- a choice meets its demand where the pick for it does
+pub choice_met : {m n : Table} {d e : Frac} (pick : Pick) → pick ≡ lowest_pick m d → m ≡ n → d ≡ e
+    → (lowest_pick n e).met ≡ true → pick.met ≡ true
+choice_met pick is machine demand met =
+    ap (λ (p : Pick). p.met) is ∙ (ap₂ (λ (t : Table) (f : Frac). (lowest_pick t f).met) machine demand ∙ met)
+
 meets_each : (s p g d F : ℕ) → 0 < d → s * d ≤ g * p → g ≤ F * d → s ≤ F * p
 meets_each s p g d F pos greatest meets =
     let a : g * p ≤ F * d * p = mul-le-mul_right p meets in
@@ -64,15 +72,18 @@ meets_each s p g d F pos greatest meets =
 pub rm_each : (plan : Plan) (lim : IsWithinLimits plan) (F : ℕ) → (rm_static plan).num ≤ F * (rm_static plan).den
     → (i : ℕ) → i < count plan → level_work plan i ≤ F * period plan i
 rm_each plan lim F meets i h =
-    meets_each (level_work plan i) (period plan i) (level_work plan (heaviest_task plan lim)) (period plan (heaviest_task plan lim)) F
-    (some_period plan lim (heaviest_task plan lim) (heaviest_within plan lim)) (heaviest_greatest plan lim i h) meets
+    meets_each (level_work plan i) (period plan i) (level_work plan (heaviest plan)) (period plan (heaviest plan)) F
+    (some_period plan lim (heaviest plan) (heaviest_within plan lim)) (heaviest_greatest plan lim i h) meets
 
 pub static_enough : (plan : Plan) → IsAdmitted plan → IsEnough (fixed_speed plan) plan
 static_enough plan adm = record {
   edf = λ e.
-      let P : Scheduler → Type 0 = λ (sch : Scheduler). total_rate plan ≤ speed_at plan.machine (lowest_entry plan.machine (static_demand_of sch plan)) * hyper plan in
+      let P : Scheduler → Type 0 = λ (sch : Scheduler). total_rate plan
+      ≤ speed_at plan.machine (lowest_entry plan.machine (static_demand_of sch plan)) * hyper plan in
       subst P (sym e) (met_by plan adm.limits Edf (edf_test plan adm e));
   rm = λ e i h.
-      let P : Scheduler → Type 0 = λ (sch : Scheduler). level_work plan i ≤ speed_at plan.machine (lowest_entry plan.machine (static_demand_of sch plan)) * period plan i in
-      subst P (sym e) (rm_each plan adm.limits (speed_at plan.machine (lowest_entry plan.machine (rm_static plan))) (met_by plan adm.limits Rm (rm_test plan adm e)) i h);
+      let P : Scheduler → Type 0 = λ (sch : Scheduler). level_work plan i
+      ≤ speed_at plan.machine (lowest_entry plan.machine (static_demand_of sch plan)) * period plan i in
+      subst P (sym e) (rm_each plan adm.limits (speed_at plan.machine (lowest_entry plan.machine (rm_static plan)))
+      (met_by plan adm.limits Rm (rm_test plan adm e)) i h);
 }

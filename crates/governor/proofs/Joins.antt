@@ -1,5 +1,7 @@
 -- The states of a list of ticks go on as the laws of a governor say: by a boundary, and by a legal tick.
 use Rattle.std.proofs.Common.{◌≡◌, ℕ, zero, suc, ◌+◌, ◌-◌, ◌<◌, ◌≤◌, min, Bool, true, false, ◌||◌, ◌&&◌, List, [], ◌∷◌, ◌++◌, length, refl, arith, if◌then◌else◌, ap, ap₂, ◌∙◌, sym, nat_eq, nat_le, nat_lt}
+use Rattle.std.proofs.Math.Bool.{or-false}
+use Rattle.std.proofs.lemmas.List.Folds.{list_any-append}
 use Rattle.std.proofs.lemmas.Bool.Decides.{nat_tests}
 use Rattle.std.specs.Prelude.{map, ◌==◌}
 use Rattle.std.specs.List.{list_any}
@@ -15,10 +17,9 @@ use Rattle.sched_model.specs.Ticks.{Tick, exec}
 use Rattle.sched_model.specs.Ticks.{left as left_at, share as share_at}
 use Rattle.sched_model.specs.Priority.{SharesOut, sum_up_to, stands_before}
 use Rattle.sched_model.specs.Priority.{key_of as key_at}
-use Rattle.sched_model.specs.States.{StateOf, no_row, row_at, row_wleft, prior_row, prior_base_at, prior_base, prior_state, row_of, state_of}
-use Rattle.sched_model.proofs.ScheduleLemmas.{length-list_below}
-use Rattle.sched_model.proofs.Tables.{get-table, table-same}
-use Rattle.sched_model.proofs.Joining.{row_by, due_released, row-opened, row-kept, state-marked, state-unmarked, row-ran, state-ran}
+use Rattle.sched_model.specs.States.{StateOf, row_wleft, prior_row, prior_base_at, prior_base, prior_state, row_of, state_of}
+use Rattle.sched_model.proofs.Tables.{length-list_below, table-same}
+use Rattle.sched_model.proofs.Joining.{row_at-state_of, row_by, due_released, row-opened, row-kept, state-marked, state-unmarked, row-ran, state-ran}
 use Rattle.governor.specs.Steps.{each_row, is_due, boundary_row, boundary_rows, after_boundary, tick_row, after_tick, left_in, left_of, key_in, share_in, IsLegalIn}
 use Rattle.grid_fraction.proofs.Searches.{any_below-same}
 
@@ -36,21 +37,10 @@ each_row-table f (suc n) g =
     each_row-snoc f 0 (list_below n g) (g n)
     ∙ ap₂ (λ rs m. rs ++ f m (g n) ∷ []) (each_row-table f n g) (omega (arith, length-list_below n g))
 
-or-assoc : (a b c : Bool) → (a || (b || c)) ≡ ((a || b) || c)
-or-assoc true b c = refl
-or-assoc false b c = refl
-
-or-false : (a : Bool) → (a || false) ≡ a
-or-false true = refl
-or-false false = refl
-
-any-snoc : (test : Row → Bool) (rows : List Row) (r : Row) → list_any test (rows ++ r ∷ []) ≡ (list_any test rows || test r)
-any-snoc test [] r = or-false (test r)
-any-snoc test (q ∷ rows) r = ap (λ b. test q || b) (any-snoc test rows r) ∙ or-assoc (test q) (list_any test rows) (test r)
-
 any-table : (test : Row → Bool) (n : ℕ) (g : ℕ → Row) → list_any test (list_below n g) ≡ any_below n (λ i. test (g i))
 any-table test zero g = refl
-any-table test (suc n) g = any-snoc test (list_below n g) (g n) ∙ ap (λ b. b || test (g n)) (any-table test n g)
+any-table test (suc n) g =
+    list_any-append test (list_below n g) (g n ∷ []) ∙ ap₂ (λ a b. a || b) (any-table test n g) (or-false (test (g n)))
 
 -- sums by the order are those of equal keys
 sum_up_to-same : (n : ℕ) (key key' f f' : ℕ → ℕ) → ((j : ℕ) → j < n → key j ≡ key' j) → ((j : ℕ) → j < n → f j ≡ f' j)
@@ -114,7 +104,8 @@ module _ (p : Plan) (dem : JobDemands) (periods : (i : ℕ) → 0 < period p i) 
       go false e true f true g = rw (e, f, g) refl
       go false e false f false g = rw (e, f, g) refl
       go false e true f false g =
-          absurd (let le : d ≤ u + sh = grind (arith, nat_tests) in let lt : u < d = grind (arith, nat_tests) in let ne : (u + sh ≡ d) → ⊥ = grind (arith, nat_tests) in ne (omega arith))
+          absurd (let le : d ≤ u + sh = grind (arith, nat_tests) in let lt : u < d = grind (arith, nat_tests) in
+          let ne : (u + sh ≡ d) → ⊥ = grind (arith, nat_tests) in ne (omega arith))
       go false e false f true g =
           absurd (let same : u + sh ≡ d = grind (arith, nat_tests) in let lt : u + sh < d = grind (arith, nat_tests) in omega arith)
 
@@ -134,16 +125,14 @@ module _ (p : Plan) (dem : JobDemands) (periods : (i : ℕ) → 0 < period p i) 
       ∙ sym (each_row-table (tick_row dem x.shares) (count p) (row_of p dem past))))
 
   -- a legal tick
-  row-is : (past : List Tick) (i : ℕ) → i < count p → row_at (state_of p dem past) i ≡ row_of p dem past i
-  row-is past i lt = get-table (count p) (row_of p dem past) i no_row lt
-
   key-is : (past : List Tick) (s : Scheduler) (i : ℕ) → i < count p → key_at s p (length past) i ≡ key_in s p (state_of p dem past) i
-  key-is past Edf i lt = sym (ap (λ (r : Row). r.deadline) (row-is past i lt))
+  key-is past Edf i lt = sym (ap (λ (r : Row). r.deadline) (row_at-state_of p dem past i lt))
   key-is past Rm i lt = refl
 
   left-is : (past : List Tick) (i : ℕ) → i < count p → left_at p dem past i ≡ left_in dem (state_of p dem past) i
   left-is past i lt =
-      go (nat_le (dem i (latest p i (length past))) (exec p past i (latest p i (length past)))) refl ∙ sym (ap (left_of dem i) (row-is past i lt))
+      go (nat_le (dem i (latest p i (length past))) (exec p past i (latest p i (length past)))) refl
+      ∙ sym (ap (left_of dem i) (row_at-state_of p dem past i lt))
     where
       go : (b : Bool) → nat_le (dem i (latest p i (length past))) (exec p past i (latest p i (length past))) ≡ b
           → left_at p dem past i ≡ left_of dem i (row_of p dem past i)
@@ -157,7 +146,9 @@ module _ (p : Plan) (dem : JobDemands) (periods : (i : ℕ) → 0 < period p i) 
   legal-is x past f long out = record {
     one_each = long;
     out = λ i lt.
-        sym (sum_up_to-same (count p) (key_at p.scheduler p (length past)) (key_in p.scheduler p (state_of p dem past)) (share_at x) (share_in x.shares) (key-is past p.scheduler) (λ j l. refl) i lt)
+        sym (sum_up_to-same (count p) (key_at p.scheduler p (length past)) (key_in p.scheduler p (state_of p dem past)) (share_at x)
+        (share_in x.shares) (key-is past p.scheduler) (λ j l. refl) i lt)
         ∙ (out i lt
-        ∙ ap (λ n. min f n) (sum_up_to-same (count p) (key_at p.scheduler p (length past)) (key_in p.scheduler p (state_of p dem past)) (left_at p dem past) (left_in dem (state_of p dem past)) (key-is past p.scheduler) (left-is past) i lt));
+        ∙ ap (λ n. min f n) (sum_up_to-same (count p) (key_at p.scheduler p (length past)) (key_in p.scheduler p (state_of p dem past))
+        (left_at p dem past) (left_in dem (state_of p dem past)) (key-is past p.scheduler) (left-is past) i lt));
   }

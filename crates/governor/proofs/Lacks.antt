@@ -1,13 +1,13 @@
 -- A schedule at one speed under RM with every job at its worst case: what releases and ticks make of what its jobs
 -- lack.
-use Rattle.std.proofs.Common.{◌≡◌, ◌≢◌, ℕ, zero, suc, ◌+◌, ◌-◌, ◌*◌, ◌<◌, Bool, true, List, ◌∷◌, length, refl, sym, ◌∙◌, ap, subst, arith, if◌then◌else◌, inl, inr}
+use Rattle.std.proofs.Common.{◌≡◌, ◌≢◌, ℕ, zero, suc, ◌+◌, ◌-◌, ◌*◌, ◌<◌, Bool, true, List, ◌∷◌, length, refl, sym, ◌∙◌, ap, subst, arith, inl, inr}
 use Rattle.std.proofs.Math.Nat.{zero-sub}
 use Rattle.std.proofs.lemmas.Bool.{cases_lt}
 use Rattle.dvs_base.specs.declared.kind.Scheduler.{Scheduler}
 use Rattle.dvs_base.specs.declared.kind.Scheduler.TheVariants.{Rm}
 use Rattle.grid_fraction.specs.declared.Frac.{Frac}
 use Rattle.grid_fraction.specs.Numbers.{sum_where}
-use Rattle.grid_fraction.proofs.Sums.{sum_below-same}
+use Rattle.grid_fraction.proofs.Sums.{sum_where-same}
 use Rattle.sched_model.specs.Plan.{Plan, count, period, offset, worst, point}
 use Rattle.sched_model.specs.Jobs.{due, latest}
 use Rattle.sched_model.specs.Ticks.{Tick, exec, share, left}
@@ -106,16 +106,9 @@ module _ (p : Plan) (lim : IsWithinLimits p) (ask : List Tick → Frac) where
       let all = worst_demand-pos p i (k + 1) (omega arith) in
       ap (λ (m : ℕ). worst_demand p i m - exec p ticks i m) job ∙ omega (arith, none, all)
 
-  -- where functions agree on the tasks, so do their sums
-  sums-same : (test : ℕ → Bool) (f g : ℕ → ℕ) → ((i : ℕ) → i < count p → f i ≡ g i)
-      → sum_where (count p) test f ≡ sum_where (count p) test g
-  sums-same test f g each =
-      sum_below-same (count p) (λ i. if test i then f i else 0) (λ i. if test i then g i else 0)
-      (λ i h. ap (λ (y : ℕ). if test i then y else 0) (each i h))
-
   all-quiet : (t : ℕ) (test : ℕ → Bool) → ((j : ℕ) → j < count p → IsQuiet p t j)
       → sum_where (count p) test (lack_after p ask t) ≡ sum_where (count p) test (lack p ask t)
-  all-quiet t test quiet = sums-same test (lack_after p ask t) (lack p ask t) (λ i h. lack-quiet t i h (quiet i h))
+  all-quiet t test quiet = sum_where-same (count p) test (lack_after p ask t) (lack p ask t) (λ i h. lack-quiet t i h (quiet i h))
 
   -- under RM, where the entries in force all have the speed F
   module _ (rm : p.scheduler ≡ Rm) (F : ℕ)
@@ -153,7 +146,7 @@ module _ (p : Plan) (lim : IsWithinLimits p) (ask : List Tick → Frac) where
         let gets = down-set-gets n (period p) test F (lack_after p ask t) (share x) down (lack-legal t) in
         let split = sum_where-plus n test (lack p ask (suc t)) (share x) in
         let whole : sum_where n test (λ i. lack p ask (suc t) i + share x i) ≡ sum_where n test (lack_after p ask t) =
-        sums-same test (λ i. lack p ask (suc t) i + share x i) (lack_after p ask t) (lack-suc t) in
+        sum_where-same (count p) test (λ i. lack p ask (suc t) i + share x i) (lack_after p ask t) (lack-suc t) in
         omega (arith, gets, split, whole)
 
     less : (x a f : ℕ) → (x - a * f) - f ≡ x - suc a * f

@@ -45,7 +45,8 @@ module _ (F : ℕ) (plan : Plan) (lim : IsWithinLimits plan) (enough : IsEnough 
         → SafeBy sch F plan (after_tick dem shares s) k
     ticks_by Edf e k shares before legal safe = edf_ticks F plan lim dem s bel e (enough.edf e) k shares before legal safe
     ticks_by Rm e k shares before legal safe = record {
-      calm = rm_ticks F (period plan) plan lim dem s bel e (enough.rm e) shares before (subst (λ (f : ℕ). IsLegalIn plan dem f s shares) safe.same legal) safe.calm;
+      calm = rm_ticks F (period plan) plan lim dem s bel e (enough.rm e) shares before
+          (subst (λ (f : ℕ). IsLegalIn plan dem f s shares) safe.same legal) safe.calm;
       same = safe.same;
     }
 

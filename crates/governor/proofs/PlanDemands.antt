@@ -1,9 +1,13 @@
 -- The published demands of none and static are those of the plan alone.
-use Rattle.std.proofs.Common.{◌≡◌, List, refl}
+use Rattle.std.proofs.Common.{◌≡◌, Bool, true, false, List, [], ◌∷◌, refl, ap, if◌then◌else◌}
 use Rattle.dvs_base.specs.declared.kind.Scheduler.{Scheduler}
 use Rattle.dvs_base.specs.declared.kind.Scheduler.TheVariants.{Edf, Rm}
 use Rattle.dvs_base.specs.declared.kind.GovernorKind.TheVariants.{Plain, Fixed}
+use Rattle.grid_fraction.specs.declared.Frac.{Frac}
+use Rattle.freq_table.specs.Tables.{lowest_entry}
 use Rattle.sched_model.specs.Plan.{Plan}
+use Rattle.sched_model.specs.Decision.{is_decision}
+use Rattle.sched_model.specs.Schedule.{entry_in_force}
 use Rattle.sched_model.specs.Demands.{JobDemands}
 use Rattle.sched_model.specs.Ticks.{Tick}
 use Rattle.sched_model.specs.Demand.{demand_by, published}
@@ -28,6 +32,17 @@ published-plain p dem past = plain_by p.scheduler p dem past
 pub published-fixed : (p : Plan) (dem : JobDemands) (past : List Tick) → published p Fixed dem past ≡ static_demand p
 unfolding published
 published-fixed p dem past = fixed_by p.scheduler p dem past
+
+-- where the demand is always the same, so is the entry in force
+pub entry-same : (p : Plan) (dem : JobDemands) (ask : List Tick → Frac) (d : Frac) → ((past : List Tick) → ask past ≡ d)
+    → (past : List Tick) → entry_in_force p dem ask past ≡ lowest_entry p.machine d
+entry-same p dem ask d same [] = ap (lowest_entry p.machine) (same [])
+entry-same p dem ask d same (x ∷ past) = go (is_decision p dem (x ∷ past)) (entry-same p dem ask d same past)
+  where
+    go : (b : Bool) → entry_in_force p dem ask past ≡ lowest_entry p.machine d
+        → (if b then lowest_entry p.machine (ask (x ∷ past)) else entry_in_force p dem ask past) ≡ lowest_entry p.machine d
+    go true ih = ap (lowest_entry p.machine) (same (x ∷ past))
+    go false ih = ih
 
 pub plain_publishing : PublishingLaws Plain ServesBoth (unchanging full_demand)
 plain_publishing =

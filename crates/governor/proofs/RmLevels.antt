@@ -1,8 +1,8 @@
 -- The laws under RM at one speed for one level: a task and those before it.
-use Rattle.std.proofs.Common.{◌≡◌, ◌⊎◌, inl, inr, ℕ, zero, suc, ◌+◌, ◌-◌, ◌*◌, ◌<◌, ◌≤◌, Bool, true, false, List, length, refl, sym, ◌∙◌, ap, subst, arith, add-one}
+use Rattle.std.proofs.Common.{◌≡◌, ◌⊎◌, inl, inr, ℕ, zero, suc, ◌+◌, ◌-◌, ◌*◌, ◌<◌, ◌≤◌, Bool, true, false, List, refl, sym, ◌∙◌, ap, subst, arith, add-one}
 use Rattle.std.proofs.Math.Nat.{mul-le-mul_right, mul-zero}
 use Rattle.std.specs.Prelude.{if◌then◌else◌, nat_le, ◌==◌}
-use Rattle.std.proofs.lemmas.Bool.{le-leb, leb-true, cases_lt, cases_Bool, eqb-true}
+use Rattle.std.proofs.lemmas.Bool.{le-leb, leb-true, cases_lt, cases_Bool, or_parts}
 use Rattle.dvs_base.specs.declared.kind.Scheduler.{Scheduler}
 use Rattle.dvs_base.specs.declared.kind.Scheduler.TheVariants.{Rm}
 use Rattle.grid_fraction.specs.Numbers.{sum_where, ceil_div}
@@ -17,9 +17,9 @@ use Rattle.sched_model.specs.States.{StateOf, row_at, row_wleft, opening}
 use Rattle.sched_model.proofs.JobLaws.{due-suc, release-suc, release-due, latest_since-pos}
 use Rattle.sched_model.proofs.Limits.{some_period}
 use Rattle.sched_model.proofs.LevelSums.{sum_where-mono, sum_where-plus, sum_where-term, up_to-self, up_to-trans, sum_up_to-where}
-use Rattle.governor.specs.Steps.{is_due, opened_row, after_boundary, wleft_at, release_of, share_in, key_in, IsLegalIn, after_tick, IsBeforeAll, Belongs}
-use Rattle.governor.proofs.Rows.{done_none, wleft-most, or_false_left}
-use Rattle.governor.proofs.Belonging.{unborn_done, in_rows, opening_at, opened_release, boundary_at, tick_at, belongs_tick}
+use Rattle.governor.specs.Steps.{opened_row, after_boundary, wleft_at, release_of, share_in, key_in, IsLegalIn, after_tick, IsBeforeAll, Belongs}
+use Rattle.governor.proofs.Rows.{done_none, wleft-most}
+use Rattle.governor.proofs.Belonging.{unborn_done, opening_at, opened_release, boundary-by, tick_at, belongs_tick}
 use Rattle.governor.proofs.Ticks.{tick_set, demand_most}
 use Rattle.governor.specs.Rm.{level_work_in, level, released_since, asked_since, LevelCalm}
 use Rattle.governor.proofs.EdfLaws.{closed_row}
@@ -89,9 +89,6 @@ module _ (F long : ℕ) (plan : Plan) (lim : IsWithinLimits plan) (i : ℕ) (h :
   level_opens = inl (λ j hj on. rw (opening_at plan j hj) refl)
 
   module _ (dem : JobDemands) (s : StateOf) (bel : Belongs plan dem s) where
-    here : (j : ℕ) → j < count plan → j < length s.rows
-    here = in_rows plan dem s bel
-
     pub level_completes : long ≤ period plan i → LevelCalm F long plan s i → (row_at s i).deadline ≡ s.now
         → (row_at s i).done ≡ true
     level_completes within calm e =
@@ -125,21 +122,16 @@ module _ (F long : ℕ) (plan : Plan) (lim : IsWithinLimits plan) (i : ℕ) (h :
     row_pays b le j hj due =
         let row = row_at s j in
         let asked : Row → ℕ = λ (r : Row). released_since plan j b r.job * worst plan j in
-        let P : Row → Type 0 = λ (new : Row). row_wleft new + asked row ≤ row_wleft row + asked new in
-        let Q : Bool → Type 0 = λ (c : Bool). P (if c then opened_row plan dem j row else row) in
-        subst P (sym (boundary_at plan dem s j (here j hj)))
-        (elim (cases_Bool (is_due s.now row)) [
-          | inl is_now ↦
-              let at_now : row.deadline ≡ s.now = eqb-true row.deadline s.now is_now in
-              let none : row_wleft row ≡ 0 = done_none row (due at_now) in
-              let d : row.deadline ≡ due_at plan j row.job = bel.deadline j hj in
-              let most : ℕ = row_wleft (opened_row plan dem j row) in
-              let small : most ≤ row.worst = wleft-most (opened_row plan dem j row) in
-              let w : row.worst ≡ worst plan j = bel.of.worst j hj in
-              let paid = pays plan j b (worst plan j) row.job most (omega arith) (omega arith) in
-              subst Q (sym is_now) (omega (arith, none, paid))
-          | inr later ↦ subst Q (sym later) (omega arith)
-        ])
+        boundary-by plan dem s bel j hj (λ new. row_wleft new + asked row ≤ row_wleft row + asked new)
+        (λ at_now.
+        let none : row_wleft row ≡ 0 = done_none row (due at_now) in
+        let d : row.deadline ≡ due_at plan j row.job = bel.deadline j hj in
+        let most : ℕ = row_wleft (opened_row plan dem j row) in
+        let small : most ≤ row.worst = wleft-most (opened_row plan dem j row) in
+        let w : row.worst ≡ worst plan j = bel.of.worst j hj in
+        let paid = pays plan j b (worst plan j) row.job most (omega arith) (omega arith) in
+        omega (arith, none, paid))
+        (λ later. omega arith)
 
     -- where the row was done, all of it is counted from now on
     row_pays_alone : (j : ℕ) → j < count plan → (row_at s j).done ≡ true
@@ -157,16 +149,8 @@ module _ (F long : ℕ) (plan : Plan) (lim : IsWithinLimits plan) (i : ℕ) (h :
         → (release_of plan j (row_at (after_boundary plan dem s) j) ≡ s.now)
         ⊎ StayedOpen j (row_at (after_boundary plan dem s) j)
     row_open j hj =
-        let row = row_at s j in
-        let P : Row → Type 0 = λ (new : Row). new.done ≡ false → (release_of plan j new ≡ s.now) ⊎ StayedOpen j new in
-        let Q : Bool → Type 0 = λ (c : Bool). P (if c then opened_row plan dem j row else row) in
-        subst P (sym (boundary_at plan dem s j (here j hj)))
-        (elim (cases_Bool (is_due s.now row)) [
-          | inl is_now ↦
-              let at_now : row.deadline ≡ s.now = eqb-true row.deadline s.now is_now in
-              subst Q (sym is_now) (λ still. inl (opened_release plan dem j row (bel.deadline j hj) ∙ at_now))
-          | inr later ↦ subst Q (sym later) (λ still. inr (still, refl))
-        ])
+        boundary-by plan dem s bel j hj (λ new. new.done ≡ false → (release_of plan j new ≡ s.now) ⊎ StayedOpen j new)
+        (λ at_now still. inl (opened_release plan dem j (row_at s j) (bel.deadline j hj) ∙ at_now)) (λ later still. inr (still, refl))
 
     pub level_releases : 0 < long
         → ((j : ℕ) → j < count plan → level plan i j ≡ true → (row_at s j).deadline ≡ s.now → (row_at s j).done ≡ true)
@@ -221,19 +205,19 @@ module _ (F long : ℕ) (plan : Plan) (lim : IsWithinLimits plan) (i : ℕ) (h :
     -- counts do not change in a tick, nor do releases
     tick_asked : (shares : List ℕ) (b j : ℕ) → j < count plan
         → asked_since plan (after_tick dem shares s) b j ≡ asked_since plan s b j
-    tick_asked shares b j hj = rw (tick_at dem shares s j (here j hj)) refl
+    tick_asked shares b j hj = rw (tick_at plan dem shares s bel j hj) refl
 
     tick_open : (shares : List ℕ) (j : ℕ) → j < count plan → (row_at (after_tick dem shares s) j).done ≡ false
         → StayedOpen j (row_at (after_tick dem shares s) j)
     tick_open shares j hj =
         let row = row_at s j in
         let P : Row → Type 0 = λ (new : Row). new.done ≡ false → StayedOpen j new in
-        subst P (sym (tick_at dem shares s j (here j hj)))
-        (λ still. (or_false_left row.done (row.used + share_in shares j == dem j row.job) still, refl))
+        subst P (sym (tick_at plan dem shares s bel j hj))
+        (λ still. ((or_parts row.done (row.used + share_in shares j == dem j row.job) still).0, refl))
 
     done_stays : (shares : List ℕ) (j : ℕ) → j < count plan → (row_at s j).done ≡ true
         → (row_at (after_tick dem shares s) j).done ≡ true
-    done_stays shares j hj closed = rw (tick_at dem shares s j (here j hj)) (rw closed refl)
+    done_stays shares j hj closed = rw (tick_at plan dem shares s bel j hj) (rw closed refl)
 
     -- in a stretch as long as the bound, a task is asked for no more than so many ticks can hold
     level_asked : (b j : ℕ) → j < count plan → s.now < b + long

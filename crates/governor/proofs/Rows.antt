@@ -1,7 +1,9 @@
 -- The rows of a state, one by one.
 use Rattle.std.proofs.Common.{◌≡◌, ℕ, zero, suc, ◌+◌, ◌-◌, ◌<◌, ◌≤◌, Bool, true, false, if◌then◌else◌, List, [], ◌∷◌, length, get_or, refl, ◌∙◌, ap, arith, add-zero}
-use Rattle.std.specs.Prelude.{◌||◌}
 use Rattle.std.specs.List.{list_any}
+use Rattle.std.proofs.lemmas.Bool.{or_parts}
+use Rattle.std.proofs.lemmas.List.{get_or_default}
+use Rattle.std.proofs.lemmas.List.Folds.{Any-from_list_any}
 use Rattle.sched_model.specs.declared.state.Row.{Row}
 use Rattle.sched_model.specs.States.{no_row, row_wleft}
 use Rattle.governor.specs.Steps.{each_row}
@@ -33,31 +35,15 @@ wleft-most row = go row.done
     go true = omega arith
     go false = omega arith
 
-pub or_false_left : (a b : Bool) → (a || b) ≡ false → a ≡ false
-or_false_left true b h = h
-or_false_left false b h = refl
-
-pub or_false_right : (a b : Bool) → (a || b) ≡ false → b ≡ false
-or_false_right true b h = absurd (let t : true ≡ false = h in cc)
-or_false_right false b h = h
-
 -- where no row is due, none at a place is
 pub none_due_at : (p : Row → Bool) (rows : List Row) (j : ℕ) → list_any p rows ≡ false → j < length rows → p (get_or rows j no_row) ≡ false
 none_due_at p [] j none h = absurd (omega arith)
-none_due_at p (row ∷ rows) zero none h = or_false_left (p row) (list_any p rows) none
-none_due_at p (row ∷ rows) (suc j) none h = none_due_at p rows j (or_false_right (p row) (list_any p rows) none) (omega arith)
+none_due_at p (row ∷ rows) zero none h = (or_parts (p row) (list_any p rows) none).0
+none_due_at p (row ∷ rows) (suc j) none h = none_due_at p rows j (or_parts (p row) (list_any p rows) none).1 (omega arith)
 
 -- where some row is due, one at a place is
 pub some_due_at : (p : Row → Bool) (rows : List Row) → list_any p rows ≡ true
     → (j : ℕ) × (j < length rows) × (p (get_or rows j no_row) ≡ true)
-some_due_at p [] some = absurd (let t : false ≡ true = some in cc)
-some_due_at p (row ∷ rows) some = go (p row) refl (λ h. some_due_at p rows h) some
-  where
-    go : (b : Bool) → p row ≡ b
-        → (list_any p rows ≡ true → (j : ℕ) × (j < length rows) × (p (get_or rows j no_row) ≡ true))
-        → (b || list_any p rows) ≡ true
-        → (j : ℕ) × (j < length (row ∷ rows)) × (p (get_or (row ∷ rows) j no_row) ≡ true)
-    go true e more h = (0, omega arith, e)
-    go false e more h =
-        let rest = more h in
-        (suc rest.0, (let g = rest.1 in omega arith), rest.2)
+some_due_at p rows some =
+    let found = Any-from_list_any p rows some in
+    (found.0, found.2, ap p (get_or_default rows found.0 no_row found.1 found.2 ∙ found.3) ∙ found.4)

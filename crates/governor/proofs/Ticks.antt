@@ -8,9 +8,9 @@ use Rattle.sched_model.specs.Demands.{JobDemands}
 use Rattle.sched_model.specs.Priority.{stands_before}
 use Rattle.sched_model.specs.States.{StateOf, row_at}
 use Rattle.sched_model.proofs.DownSets.{down-set-gets}
-use Rattle.sched_model.proofs.LevelSums.{sum_where-mono, sum_where-plus, sum_where-tight, share-most}
+use Rattle.sched_model.proofs.LevelSums.{sum_where-mono, sum_where-plus, sum_where-tight}
 use Rattle.governor.specs.Steps.{wleft_at, share_in, left_in, key_in, IsLegalIn, after_tick, Belongs}
-use Rattle.governor.proofs.Belonging.{in_rows, tick_at, legal_most}
+use Rattle.governor.proofs.Belonging.{tick_at, legal_most}
 
 falls_by : (b : Bool) (used worst sh : ℕ) → used + sh ≤ worst → (if b then 0 else worst - (used + sh)) + sh ≤ worst - used
 falls_by true used worst sh fits = omega arith
@@ -38,7 +38,8 @@ pub tick-falls : (plan : Plan) (dem : JobDemands) (f : ℕ) (s : StateOf) (share
     → wleft_at (after_tick dem shares s) i + share_in shares i ≤ wleft_at s i
 tick-falls plan dem f s shares bel legal i h =
     let row = row_at s i in
-    rw (tick_at dem shares s i (in_rows plan dem s bel i h)) (tick_falls row.done row.used row.worst (dem i row.job) (share_in shares i) (bel.open_job i h) (demand_most plan dem s bel i h) (legal_most plan dem f s shares legal i h))
+    rw (tick_at plan dem shares s bel i h) (tick_falls row.done row.used row.worst (dem i row.job)
+    (share_in shares i) (bel.open_job i h) (demand_most plan dem s bel i h) (legal_most plan dem f s shares legal i h))
 
 -- a task that got all that it needs is complete
 pub tick-closes : (plan : Plan) (dem : JobDemands) (f : ℕ) (s : StateOf) (shares : List ℕ) → Belongs plan dem s
@@ -46,20 +47,22 @@ pub tick-closes : (plan : Plan) (dem : JobDemands) (f : ℕ) (s : StateOf) (shar
     → (row_at (after_tick dem shares s) i).done ≡ true
 tick-closes plan dem f s shares bel legal i h all =
     let row = row_at s i in
-    rw (tick_at dem shares s i (in_rows plan dem s bel i h)) (tick_closes row.done row.used (dem i row.job) (share_in shares i) (bel.open_job i h) (legal_most plan dem f s shares legal i h) all)
+    rw (tick_at plan dem shares s bel i h) (tick_closes row.done row.used (dem i row.job) (share_in shares i)
+    (bel.open_job i h) (legal_most plan dem f s shares legal i h) all)
 
 -- afterwards all of the set is complete, or f units of it were done
 pub tick_set : (plan : Plan) (dem : JobDemands) (f : ℕ) (s : StateOf) (shares : List ℕ) (test : ℕ → Bool)
     → Belongs plan dem s → IsLegalIn plan dem f s shares
     → ((j i : ℕ) → j < count plan → i < count plan → stands_before (key_in plan.scheduler plan s) j i ≡ true → test i ≡ true → test j ≡ true)
-    → ((i : ℕ) → i < count plan → test i ≡ true → (row_at (after_tick dem shares s) i).done ≡ true) ⊎ (sum_where (count plan) test (wleft_at (after_tick dem shares s)) + f ≤ sum_where (count plan) test (wleft_at s))
+    → ((i : ℕ) → i < count plan → test i ≡ true → (row_at (after_tick dem shares s) i).done ≡ true)
+    ⊎ (sum_where (count plan) test (wleft_at (after_tick dem shares s)) + f ≤ sum_where (count plan) test (wleft_at s))
 tick_set plan dem f s shares test bel legal down =
     let t = after_tick dem shares s in
     let n = count plan in
     let gets : sum_where n test (share_in shares) ≡ min f (sum_where n test (left_in dem s)) =
     down-set-gets n (key_in plan.scheduler plan s) test f (left_in dem s) (share_in shares) down legal.out in
     let most : (i : ℕ) → i < n → share_in shares i ≤ left_in dem s i =
-    share-most n (key_in plan.scheduler plan s) f (left_in dem s) (share_in shares) legal.out in
+    legal_most plan dem f s shares legal in
     elim (cases_lt (sum_where n test (left_in dem s)) f) [
       | inl small ↦ inl (λ i h on.
           let all : left_in dem s i ≤ share_in shares i =

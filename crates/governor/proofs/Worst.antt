@@ -37,7 +37,8 @@ worst-within p = record { most = λ i k h. worst_demand-le p i k; none = λ i. r
 pub worst-met : (p : Plan) → IsAdmitted p → MeetsAtWorst p
 worst-met p adm t =
     subst (λ (ticks : List Tick). IsMet p (worst_demand p) ticks) (sym (schedule-fixed p (worst_demand p) t))
-    (course-met Fixed ServesBoth (unchanging static_demand) (CalmAt fixed_speed) (SafeAt fixed_speed) (static_laws pairs_fixed) p (worst_demand p) adm (worst-within p) tt t)
+    (course-met Fixed ServesBoth (unchanging static_demand) (CalmAt fixed_speed) (SafeAt fixed_speed) (static_laws pairs_fixed) p
+    (worst_demand p) adm (worst-within p) tt t)
 
 -- where task i is released at t, its job released before lacks nothing
 pub lacking-none : (p : Plan) → IsAdmitted p → (t i k : ℕ) → i < count p → 1 ≤ k → t ≡ due p i k

@@ -1,5 +1,6 @@
 -- The laws of a governor, over plain data.
-use Rattle.std.specs.Prelude.{◌≡◌, ◌≢◌, ℕ, ◌<◌, ◌≤◌, ◌^◌, true, List}
+use Rattle.std.specs.Prelude.{◌≡◌, ◌≢◌, ℕ, ◌<◌, ◌≤◌, true, List}
+use Rattle.dvs_base.specs.Widths.{u64_end}
 use Rattle.dvs_base.specs.declared.kind.Scheduler.{Scheduler}
 use Rattle.dvs_base.specs.declared.kind.GovernorKind.{GovernorKind}
 use Rattle.dvs_base.specs.declared.kind.GovernorKind.TheVariants.{Ahead}
@@ -39,7 +40,7 @@ InEachRun serves Holds = (plan : Plan) (dem : JobDemands) (s : StateOf) → InRu
 
 -- the denominator is 1 to 2^64
 abbrev pub HasLowDen : Frac → Type 0
-HasLowDen d = (0 < d.den) × (d.den ≤ 2 ^ 64)
+HasLowDen d = (0 < d.den) × (d.den ≤ u64_end)
 
 -- the entry that is chosen: the lowest whose speed meets the demand, else the highest
 abbrev pub chosen : OwnDemand → Plan → StateOf → ℕ

@@ -1,8 +1,9 @@
 -- What a boundary and a tick make of a state, for a demand of each job.
-use Rattle.std.specs.Prelude.{◌≡◌, ◌==◌, ℕ, suc, ◌+◌, ◌-◌, ◌<◌, ◌≤◌, ◌^◌, Bool, true, false, if◌then◌else◌, ◌||◌, List, [], ◌∷◌, map, length, slice_index}
+use Rattle.std.specs.Prelude.{◌≡◌, ◌==◌, ℕ, suc, ◌+◌, ◌-◌, ◌<◌, ◌≤◌, Bool, true, false, if◌then◌else◌, ◌||◌, List, [], ◌∷◌, map, length, slice_index}
 use Rattle.std.specs.List.{list_any}
 use Rattle.dvs_base.specs.declared.kind.Scheduler.{Scheduler}
 use Rattle.dvs_base.specs.declared.kind.Scheduler.TheVariants.{Edf, Rm}
+use Rattle.task_model.specs.declared.limits.TheConstants.{LONGEST_PERIOD}
 use Rattle.freq_table.specs.Tables.{speed_at}
 use Rattle.sched_model.specs.declared.state.Row.{Row}
 use Rattle.sched_model.specs.Priority.{SharesOut}
@@ -105,7 +106,7 @@ pub record MayFollow (plan : Plan) (dem : JobDemands) (s : StateOf) (k : ℕ) (s
 -- at a decision
 pub record IsAtDecision (plan : Plan) (s : StateOf) : Type 0 where
   pub before : IsBeforeAll plan s
-  pub soon : (i : ℕ) → i < count plan → (row_at s i).deadline ≤ s.now + 2 ^ 40
+  pub soon : (i : ℕ) → i < count plan → (row_at s i).deadline ≤ s.now + LONGEST_PERIOD
   pub marked : s.base_at ≤ s.now
   pub since : (i : ℕ) → i < count plan → release_of plan i (row_at s i) ≤ s.base_at
   pub base : (i : ℕ) → i < count plan → row_wleft (row_at s i) ≤ slice_index s.base i

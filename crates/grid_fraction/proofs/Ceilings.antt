@@ -1,8 +1,25 @@
--- Quotients rounded up.
-use Rattle.std.proofs.Common.{◌≡◌, ℕ, zero, suc, ◌+◌, ◌-◌, ◌*◌, ◌/◌, ◌%◌, ◌<◌, ◌≤◌, min, arith, sym}
-use Rattle.std.proofs.Math.Nat.{div-eq_of_lt-le, add-mul}
+-- Quotients, and quotients rounded up.
+use Rattle.std.proofs.Common.{◌≡◌, ℕ, zero, suc, ◌+◌, ◌-◌, ◌*◌, ◌/◌, ◌%◌, ◌<◌, ◌≤◌, min, arith, ap, ◌∙◌, sym, one-mul}
+use Rattle.std.proofs.Math.Nat.{div-eq_of_lt-le, add-mul, div-mul-le_self}
+use Rattle.std.proofs.lemmas.Nat.{div-mul-add, le-div}
 use Rattle.std.specs.Int.{div_ceil}
 use Rattle.grid_fraction.specs.Numbers.{ceil_div}
+
+-- a quotient is known by its bounds
+pub quotient : (n d q : ℕ) → q * d ≤ n → n < (q + 1) * d → n / d ≡ q
+quotient n d q low high =
+    let e : q * d + (n - q * d) ≡ n = omega arith in
+    ap (λ m. m / d) (sym e) ∙ div-mul-add q d (n - q * d) (omega (arith, add-mul q 1 d, one-mul d))
+
+-- at a multiple
+pub ceil-at : (q d : ℕ) → 0 < d → ceil_div (q * d) d ≡ q
+ceil-at q d pos = quotient (q * d + (d - 1)) d q (omega arith) (omega (arith, add-mul q 1 d, one-mul d))
+
+-- in the order of what is divided
+pub ceil-mono : (m n d : ℕ) → 0 < d → m ≤ n → ceil_div m d ≤ ceil_div n d
+ceil-mono m n d pos le =
+    let low = div-mul-le_self (m + (d - 1)) d in
+    le-div (ceil_div m d) (n + (d - 1)) d pos (omega arith)
 
 above_quotient : (n d q r : ℕ) → q * d + r ≡ n → r < d → ((q + min 1 r) * d ≤ n + (d - 1)) × (n + (d - 1) < (q + min 1 r + 1) * d)
 above_quotient n d q zero e lt = (omega (arith, add-mul q 0 d), omega (arith, add-mul q 1 d))

@@ -1,5 +1,6 @@
 -- The least of finitely many values.
 use Rattle.std.proofs.Common.{◌≡◌, ◌⊎◌, inl, inr, ℕ, zero, suc, ◌+◌, ◌<◌, ◌≤◌, min, refl, arith, ap, ap₂, eq-or-lt_of_le, le_of_suc-le-suc}
+use Rattle.std.proofs.lemmas.Bool.{cases_lt}
 use Rattle.grid_fraction.specs.Numbers.{least_below}
 
 pub least-below : (n : ℕ) (f : ℕ → ℕ) (i : ℕ) → i < n → least_below n f ≤ f i
@@ -16,6 +17,17 @@ least-above zero f t some h = absurd (omega arith)
 least-above (suc zero) f t some h = h 0 (omega arith)
 least-above (suc (suc n)) f t some h =
     omega (arith, least-above (suc n) f t (omega arith) (λ i l. h i (omega arith)), h (suc n) (omega arith))
+
+-- some value is the least
+pub least-found : (n : ℕ) (f : ℕ → ℕ) → 0 < n → (i : ℕ) × (i < n) × (f i ≡ least_below n f)
+least-found zero f some = absurd (omega arith)
+least-found (suc zero) f some = (0, omega arith, refl)
+least-found (suc (suc n)) f some =
+    let r = least-found (suc n) f (omega arith) in
+    elim (cases_lt (f (suc n)) (least_below (suc n) f)) [
+      | inl less ↦ (suc n, omega arith, omega arith)
+      | inr most ↦ (r.0, omega (arith, r.1), omega (arith, r.2))
+    ]
 
 pub least-same : (n : ℕ) (f g : ℕ → ℕ) → ((i : ℕ) → i < n → f i ≡ g i) → least_below n f ≡ least_below n g
 least-same zero f g h = refl

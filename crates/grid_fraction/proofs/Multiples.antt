@@ -1,7 +1,8 @@
 -- The least common multiple: it is positive, each number divides it, and it divides every common multiple.
 use Prim.Native.Nat.{◌∣◌}
-use Rattle.std.proofs.Common.{◌≡◌, ℕ, zero, suc, ◌+◌, ◌*◌, ◌/◌, ◌%◌, ◌<◌, ◌≤◌, Bool, true, false, ◌&&◌, List, [], ◌∷◌, ◌++◌, length, get_or, ◌⊎◌, inl, inr, refl, arith, ap, ◌∙◌, sym, subst, nat_eq, eq-or-lt_of_le, mul_assoc, mul_comm, mul-add, true≢false, mul-pos, eq-eqb, eqb-true, append_assoc, append-nil, take, drop}
+use Rattle.std.proofs.Common.{◌≡◌, ℕ, zero, suc, ◌+◌, ◌*◌, ◌/◌, ◌%◌, ◌<◌, ◌≤◌, true, ◌&&◌, List, [], ◌∷◌, ◌++◌, length, get_or, ◌⊎◌, inl, inr, refl, arith, ap, ◌∙◌, sym, subst, nat_eq, eq-or-lt_of_le, mul_assoc, mul_comm, mul-add, true≢false, mul-pos, eq-eqb, eqb-true, append_assoc, append-nil, take, drop}
 use Rattle.std.proofs.Math.Nat.{dvd-mul_right_of_dvd, dvd-mul_left, dvd-mul_right, mul-dvd-mul_left, mul-dvd-mul_right, dvd_of_mul-dvd-mul_right, div-mul_cancel, mod-add-div, dvd-add_iff_left, one-dvd}
+use Rattle.std.proofs.lemmas.Bool.{and_parts}
 use Rattle.std.proofs.lemmas.Nat.Gcd.{dvd_refl, dvd_trans, dvd_antisymm, le_of_dvd, dvd_of_mod-eq-zero, mod-eq-zero_of_dvd, IsGcd-from_zero, IsGcd-from_mod, same_from_IsGcd}
 use Rattle.std.proofs.lemmas.List.{take_more, take-append-drop}
 use Rattle.std.proofs.lemmas.List.Folds.{list_all-append}
@@ -47,11 +48,6 @@ pub record IsLeastMultiple (ns : List ℕ) (m : ℕ) : Type 0 where
   pub divided : divides_all ns m ≡ true
   pub least : (k : ℕ) → divides_all ns k ≡ true → m ∣ k
 
-and-parts : (a b : Bool) → (a && b) ≡ true → (a ≡ true) × (b ≡ true)
-and-parts true true h = (refl, refl)
-and-parts true false h = absurd (true≢false (sym h))
-and-parts false b h = absurd (true≢false (sym h))
-
 divides-test : (n k : ℕ) → n ∣ k → nat_eq (k % n) 0 ≡ true
 divides-test n k h = eq-eqb _ _ (mod-eq-zero_of_dvd n h)
 
@@ -62,7 +58,7 @@ divides-from_test n k h = dvd_of_mod-eq-zero n (eqb-true _ _ h)
 divides_all-dvd : (ns : List ℕ) (m k : ℕ) → divides_all ns m ≡ true → m ∣ k → divides_all ns k ≡ true
 divides_all-dvd [] m k h d = refl
 divides_all-dvd (n ∷ ns) m k h d =
-    let parts : (nat_eq (m % n) 0 ≡ true) × (divides_all ns m ≡ true) = and-parts _ _ h in
+    let parts : (nat_eq (m % n) 0 ≡ true) × (divides_all ns m ≡ true) = and_parts _ _ h in
     rw (divides-test n k (dvd_trans n (divides-from_test n m parts.0) d), divides_all-dvd ns m k parts.1 d) refl
 
 -- one number more
@@ -71,8 +67,8 @@ divides_all-append ns ms k = list_all-append (λ n. nat_eq (k % n) 0) ns ms
 
 pub divides_all-get_or : (ns : List ℕ) (k i d : ℕ) → divides_all ns k ≡ true → i < length ns → get_or ns i d ∣ k
 divides_all-get_or [] k i d h lt = absurd (omega arith)
-divides_all-get_or (n ∷ ns) k zero d h lt = divides-from_test n k (and-parts _ _ h).0
-divides_all-get_or (n ∷ ns) k (suc i) d h lt = divides_all-get_or ns k i d (and-parts _ _ h).1 (omega arith)
+divides_all-get_or (n ∷ ns) k zero d h lt = divides-from_test n k (and_parts _ _ h).0
+divides_all-get_or (n ∷ ns) k (suc i) d h lt = divides_all-get_or ns k i d (and_parts _ _ h).1 (omega arith)
 
 factor-pos : (q x n : ℕ) → q * x ≡ n → 0 < n → 0 < q
 factor-pos zero x n e some = absurd (omega arith)
@@ -104,7 +100,8 @@ IsLeastMultiple-more ns m n g h some d = record { positive = positive; divided =
         same = ap (λ x. m / g * x) (sym whole ∙ mul_comm (n / g) g) ∙ (sym (mul_assoc (m / g) g (n / g)) ∙ ap (λ x. x * (n / g)) (div-mul_cancel g d.0))
 
     divided : divides_all (ns ++ n ∷ []) (m * (n / g)) ≡ true
-    divided = divides_all-append ns (n ∷ []) (m * (n / g)) ∙ rw (divides_all-dvd ns m (m * (n / g)) h.divided (dvd-mul_right_of_dvd m (dvd_refl m) (n / g)), divides-test n (m * (n / g)) by_n) refl
+    divided = divides_all-append ns (n ∷ []) (m * (n / g))
+        ∙ rw (divides_all-dvd ns m (m * (n / g)) h.divided (dvd-mul_right_of_dvd m (dvd_refl m) (n / g)), divides-test n (m * (n / g)) by_n) refl
 
     least : (k : ℕ) → divides_all (ns ++ n ∷ []) k ≡ true → m * (n / g) ∣ k
     least k all = dvd_of_mul-dvd-mul_right (m * (n / g)) g_pos (subst (λ x. x ∣ k * g) split product_dvd)
@@ -116,7 +113,7 @@ IsLeastMultiple-more ns m n g h some d = record { positive = positive; divided =
         split = ap (λ x. m * x) (sym whole) ∙ sym (mul_assoc m (n / g) g)
 
         parts : (divides_all ns k ≡ true) × (divides_all (n ∷ []) k ≡ true)
-        parts = and-parts _ _ (sym (divides_all-append ns (n ∷ []) k) ∙ all)
+        parts = and_parts _ _ (sym (divides_all-append ns (n ∷ []) k) ∙ all)
 
         by_m : m ∣ k
         by_m = h.least k parts.0
@@ -142,7 +139,8 @@ least_made : (ms ns : List ℕ) (m : ℕ) → IsLeastMultiple ns m → All (λ n
 least_made [] ns m h all = (m, rw append-nil h)
 least_made (n ∷ ms) ns m h all =
     let made : (g : ℕ) × IsScaledGcd m n g = scaled_gcd (suc n) m n (omega arith) in
-    let next : (k : ℕ) × IsLeastMultiple ((ns ++ n ∷ []) ++ ms) k = least_made ms (ns ++ n ∷ []) (m * (n / made.0)) (IsLeastMultiple-more ns m n made.0 h (All-head (λ x. 0 < x) n ms all) made.1.gcd) (All-tail (λ x. 0 < x) n ms all) in
+    let next : (k : ℕ) × IsLeastMultiple ((ns ++ n ∷ []) ++ ms) k = least_made ms (ns ++ n ∷ []) (m * (n / made.0))
+    (IsLeastMultiple-more ns m n made.0 h (All-head (λ x. 0 < x) n ms all) made.1.gcd) (All-tail (λ x. 0 < x) n ms all) in
     (next.0, rw append_assoc at next.1)
 
 product-pos : (ns : List ℕ) → All (λ n. 0 < n) ns → 0 < product ns
@@ -151,7 +149,10 @@ product-pos (n ∷ ns) all = mul-pos (All-head (λ x. 0 < x) n ns all) (product-
 
 product-divided : (ns : List ℕ) → divides_all ns (product ns) ≡ true
 product-divided [] = refl
-product-divided (n ∷ ns) = rw (divides-test n (n * product ns) (dvd-mul_right n (product ns)), divides_all-dvd ns (product ns) (n * product ns) (product-divided ns) (dvd-mul_left (product ns) n)) refl
+product-divided (n ∷ ns) = rw (
+  divides-test n (n * product ns) (dvd-mul_right n (product ns)),
+  divides_all-dvd ns (product ns) (n * product ns) (product-divided ns) (dvd-mul_left (product ns) n),
+) refl
 
 -- the first common multiple from 1 on is the least common multiple
 pub least_common_multiple-is : (ns : List ℕ) → All (λ n. 0 < n) ns → IsLeastMultiple ns (least_common_multiple ns)
@@ -183,10 +184,6 @@ pub mul-div-least_common_multiple : (ns : List ℕ) (i d : ℕ) → All (λ n. 0
 mul-div-least_common_multiple ns i d all lt =
     div-mul_cancel (get_or ns i d) (divides_all-get_or ns (least_common_multiple ns) i d (least_common_multiple-is ns all).divided lt)
 
-pub mod-least_common_multiple : (ns : List ℕ) (i d : ℕ) → All (λ n. 0 < n) ns → i < length ns → least_common_multiple ns % get_or ns i d ≡ 0
-mod-least_common_multiple ns i d all lt =
-    mod-eq-zero_of_dvd (get_or ns i d) (divides_all-get_or ns (least_common_multiple ns) i d (least_common_multiple-is ns all).divided lt)
-
 -- it divides every number that each of them divides
 pub least_common_multiple-dvd : (ns : List ℕ) (k : ℕ) → All (λ n. 0 < n) ns → divides_all ns k ≡ true → least_common_multiple ns ∣ k
 least_common_multiple-dvd ns k all h = (least_common_multiple-is ns all).least k h
@@ -197,7 +194,8 @@ le-least_common_multiple ns k all some h = le_of_dvd some (least_common_multiple
 -- of two numbers: their product over their greatest common divisor
 pub least_common_multiple-pair : (a b g : ℕ) → 0 < a → 0 < b → IsGcd a b g → least_common_multiple (a ∷ b ∷ []) ≡ a * (b / g)
 least_common_multiple-pair a b g p q d =
-    IsLeastMultiple-same (a ∷ b ∷ []) _ _ (least_common_multiple-is (a ∷ b ∷ []) (All-cons (λ x. 0 < x) a (b ∷ []) p (All-cons (λ x. 0 < x) b [] q (All-nil (λ x. 0 < x))))) (IsLeastMultiple-more (a ∷ []) a b g (IsLeastMultiple-one a p) q d)
+    IsLeastMultiple-same (a ∷ b ∷ []) _ _ (least_common_multiple-is (a ∷ b ∷ []) (All-cons (λ x. 0 < x) a (b ∷ []) p
+    (All-cons (λ x. 0 < x) b [] q (All-nil (λ x. 0 < x))))) (IsLeastMultiple-more (a ∷ []) a b g (IsLeastMultiple-one a p) q d)
 
 -- one number more: the least common multiple of what there was and the number
 pub least_common_multiple-more : (ns : List ℕ) (n : ℕ) → All (λ n. 0 < n) ns → 0 < n
@@ -214,7 +212,8 @@ least_common_multiple-more ns n all some =
 pub least_common_multiple-le-append : (ns ms : List ℕ) → All (λ n. 0 < n) ns → All (λ n. 0 < n) ms → least_common_multiple ns ≤ least_common_multiple (ns ++ ms)
 least_common_multiple-le-append ns ms p q =
     let is : IsLeastMultiple (ns ++ ms) (least_common_multiple (ns ++ ms)) = least_common_multiple-is (ns ++ ms) (All-append (λ n. 0 < n) ns ms p q) in
-    le-least_common_multiple ns (least_common_multiple (ns ++ ms)) p is.positive (and-parts _ _ (sym (divides_all-append ns ms (least_common_multiple (ns ++ ms))) ∙ is.divided)).0
+    le-least_common_multiple ns (least_common_multiple (ns ++ ms)) p is.positive
+    (and_parts _ _ (sym (divides_all-append ns ms (least_common_multiple (ns ++ ms))) ∙ is.divided)).0
 
 pub least_common_multiple-none : least_common_multiple [] ≡ 1
 unfolding least_common_multiple

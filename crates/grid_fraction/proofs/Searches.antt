@@ -1,7 +1,7 @@
 -- Searches among numbers.
 use Rattle.std.proofs.Common.{◌≡◌, ℕ, zero, suc, ◌+◌, ◌<◌, ◌≤◌, Bool, true, false, ◌||◌, not, ◌⊎◌, inl, inr, refl, arith, ap, ap₂, ◌∙◌, sym, eq-or-lt_of_le, le_of_suc-le-suc, subst, true≢false, nat_le}
 use Rattle.std.proofs.lemmas.Bool.Decides.{nat_tests}
-use Rattle.grid_fraction.specs.Numbers.{any_below, first_from, last_up_to}
+use Rattle.grid_fraction.specs.Numbers.{any_below, first_from, last_up_to, all_below}
 
 -- what holds below m and at m holds below m + 1
 pub below_suc : (P : ℕ → Type 0) (m : ℕ) → ((k : ℕ) → k < m → P k) → P m → (k : ℕ) → k < suc m → P k
@@ -45,19 +45,11 @@ pub any_below-false : (n : ℕ) (test : ℕ → Bool) → any_below n test ≡ f
 any_below-false zero test h = λ i lt. absurd (omega arith)
 any_below-false (suc n) test h = go (any_below n test) refl (test n) refl (any_below-false n test)
   where
-    go : (a : Bool) → any_below n test ≡ a → (b : Bool) → test n ≡ b → (any_below n test ≡ false → (i : ℕ) → i < n → test i ≡ false) → (i : ℕ) → i < suc n → test i ≡ false
+    go : (a : Bool) → any_below n test ≡ a → (b : Bool) → test n ≡ b → (any_below n test ≡ false → (i : ℕ) → i < n → test i ≡ false)
+        → (i : ℕ) → i < suc n → test i ≡ false
     go false p false q ih = below_suc (λ i. test i ≡ false) n (ih p) q
     go true p b q ih = absurd (true≢false (sym (ap (λ v. v || test n) p) ∙ h))
     go false p true q ih = absurd (true≢false (sym (ap₂ (λ v w. v || w) p q) ∙ h))
-
--- what is not so is false
-pub not-true : (b : Bool) → not b ≡ true → b ≡ false
-not-true true e = absurd (true≢false (sym e))
-not-true false e = refl
-
-not-false : (b : Bool) → not b ≡ false → b ≡ true
-not-false true e = refl
-not-false false e = absurd (true≢false e)
 
 -- and it is at most each that passes
 pub first_from-most : (n from m : ℕ) (test : ℕ → Bool) → from ≤ m → test m ≡ true → first_from n from test ≤ m
@@ -112,3 +104,16 @@ last_up_to-greatest (suc t) r test le e = go (test (suc t)) refl (eq-or-lt_of_le
     go true q c ih = rw (q, last_up_to) le
     go false q (inl c) ih = absurd (true≢false (sym e ∙ (ap test c ∙ q)))
     go false q (inr c) ih = rw (q, last_up_to) (ih (omega arith) e)
+
+-- some number below n passes
+pub any-some : (n : ℕ) (test : ℕ → Bool) → any_below n test ≡ true → (i : ℕ) × (i < n) × (test i ≡ true)
+any-some zero test e = absurd (true≢false (sym e))
+any-some (suc n) test e = go (any_below n test) refl (any-some n test)
+  where
+    go : (b : Bool) → any_below n test ≡ b → (any_below n test ≡ true → (i : ℕ) × (i < n) × (test i ≡ true)) → (i : ℕ) × (i < suc n) × (test i ≡ true)
+    go true f ih = let (i, lt, on) = ih f in (i, omega arith, on)
+    go false f ih = (n, omega arith, sym (ap (λ (b : Bool). b || test n) f) ∙ e)
+
+-- all numbers below n pass, one by one
+pub all-found : (n : ℕ) (test : ℕ → Bool) → ((k : ℕ) → k < n → test k ≡ true) → all_below n test ≡ true
+all-found n test each = ap not (any_below-none n (λ k. not (test k)) (λ k lt. ap not (each k lt)))

@@ -1,7 +1,7 @@
--- Sums over the numbers below n.
-use Rattle.std.proofs.Common.{◌≡◌, ◌≢◌, ℕ, zero, suc, ◌+◌, ◌<◌, ◌≤◌, Bool, true, false, eqb, ◌⊎◌, inl, inr, refl, arith, if◌then◌else◌, ap, ap₂, ◌∙◌, sym, add-one, eq-or-lt_of_le, le_of_suc-le-suc}
+-- Sums over the numbers below n, and lists of what stands at them.
+use Rattle.std.proofs.Common.{◌≡◌, ◌≢◌, ℕ, zero, suc, ◌+◌, ◌<◌, ◌≤◌, Bool, true, false, eqb, ◌⊎◌, inl, inr, refl, arith, if◌then◌else◌, ap, ap₂, ◌∙◌, sym, add-one, eq-or-lt_of_le, le_of_suc-le-suc, ◌*◌, [], ◌∷◌, ◌++◌}
 use Rattle.std.proofs.lemmas.Bool.Decides.{nat_tests}
-use Rattle.grid_fraction.specs.Numbers.{sum_below, sum_where}
+use Rattle.grid_fraction.specs.Numbers.{sum_below, sum_where, list_below}
 
 pub sum_below-same : (n : ℕ) (f g : ℕ → ℕ) → ((k : ℕ) → k < n → f k ≡ g k) → sum_below n f ≡ sum_below n g
 sum_below-same zero f g h = refl
@@ -11,6 +11,12 @@ sum_below-same (suc n) f g h =
 pub sum_below-add : (n : ℕ) (f g : ℕ → ℕ) → sum_below n (λ k. f k + g k) ≡ sum_below n f + sum_below n g
 sum_below-add zero f g = refl
 sum_below-add (suc n) f g = omega (arith, sum_below-add n f g)
+
+-- the sum of terms that are at most a limit
+pub sum_below-limit : (n most : ℕ) (f : ℕ → ℕ) → ((k : ℕ) → k < n → f k ≤ most) → sum_below n f ≤ n * most
+sum_below-limit zero most f h = omega arith
+sum_below-limit (suc n) most f h =
+    omega (arith, sum_below-limit n most f (λ k lt. h k (omega arith)), h n (omega arith))
 
 pub sum_below-le : (n : ℕ) (f g : ℕ → ℕ) → ((k : ℕ) → k < n → f k ≤ g k) → sum_below n f ≤ sum_below n g
 sum_below-le zero f g h = omega arith
@@ -34,6 +40,18 @@ sum_below-one (suc n) j f lt h =
         let other : n ≢ j = grind (arith, nat_tests) in
         omega (arith, ih (omega arith), h n (omega arith) other)
 
+-- one term of a sum changes
+pub sum_below-change : (n : ℕ) (f g : ℕ → ℕ) (i : ℕ) → i < n → ((k : ℕ) → k < n → k ≢ i → g k ≡ f k) → sum_below n g + f i ≡ sum_below n f + g i
+sum_below-change zero f g i lt same = absurd (omega arith)
+sum_below-change (suc n) f g i lt same =
+    go (eq-or-lt_of_le (le_of_suc-le-suc lt)) (λ below. sum_below-change n f g i below (λ k l ne. same k (omega arith) ne))
+  where
+    go : (i ≡ n) ⊎ (i < n) → (i < n → sum_below n g + f i ≡ sum_below n f + g i) → sum_below n g + g n + f i ≡ sum_below n f + f n + g i
+    go (inl e) ih =
+        let rest : sum_below n g ≡ sum_below n f = sum_below-same n g f (λ k l. same k (omega arith) (λ q. omega arith)) in
+        omega (arith, rest, ap f e, ap g e)
+    go (inr l) ih = omega (arith, ih l, same n (omega arith) (λ q. omega arith))
+
 -- the sum of f over i alone
 pub sum_below-own : (n i : ℕ) (f : ℕ → ℕ) → i < n → sum_below n (λ k. if eqb k i then f k else 0) ≡ f i
 sum_below-own n i f lt = sum_below-one n i (λ k. if eqb k i then f k else 0) lt (λ k l ne. off k ne (eqb k i) refl) ∙ on (eqb i i) refl
@@ -54,9 +72,6 @@ sum_below-up m (suc n) f h = go (eq-or-lt_of_le h) (sum_below-up m n f)
     go (inl e) ih = rw e (omega arith)
     go (inr l) ih = omega (arith, ih (omega arith))
 
-pub sum_below-more : (m : ℕ) (f : ℕ → ℕ) → sum_below (m + 1) f ≡ sum_below m f + f m
-sum_below-more m f = rw add-one refl
-
 pub if-le : (b : Bool) (x : ℕ) → (if b then x else 0) ≤ x
 if-le true x = omega arith
 if-le false x = omega arith
@@ -64,17 +79,21 @@ if-le false x = omega arith
 pub sum_where-le : (n : ℕ) (test : ℕ → Bool) (f : ℕ → ℕ) → sum_where n test f ≤ sum_below n f
 sum_where-le n test f = sum_below-le n (λ k. if test k then f k else 0) f (λ k lt. if-le (test k) (f k))
 
--- a part of the sum and the next term are within the whole
-pub sum_where-fits : (m n : ℕ) (test : ℕ → Bool) (f : ℕ → ℕ) → m < n → sum_where m test f + f m ≤ sum_below n f
-sum_where-fits m n test f lt = omega (arith, sum_where-le m test f, sum_below-more m f, sum_below-up (m + 1) n f (omega arith))
+pub sum_where-same : (n : ℕ) (test : ℕ → Bool) (f g : ℕ → ℕ) → ((k : ℕ) → k < n → f k ≡ g k) → sum_where n test f ≡ sum_where n test g
+sum_where-same n test f g h =
+    sum_below-same n (λ k. if test k then f k else 0) (λ k. if test k then g k else 0) (λ k lt. ap (λ (x : ℕ). if test k then x else 0) (h k lt))
 
 -- the sum over the others and one that does not pass are within the whole
 pub sum_where-other : (n : ℕ) (test : ℕ → Bool) (f : ℕ → ℕ) (i : ℕ) → i < n → test i ≡ false → sum_where n test f + f i ≤ sum_below n f
 sum_where-other zero test f i lt h = absurd (omega arith)
 sum_where-other (suc n) test f i lt h = go (eq-or-lt_of_le (le_of_suc-le-suc lt)) (sum_where-other n test f i)
   where
-    go : (i ≡ n) ⊎ (i < n) → (i < n → test i ≡ false → sum_where n test f + f i ≤ sum_below n f) → sum_where n test f + (if test n then f n else 0) + f i ≤ sum_below n f + f n
+    go : (i ≡ n) ⊎ (i < n) → (i < n → test i ≡ false → sum_where n test f + f i ≤ sum_below n f)
+        → sum_where n test f + (if test n then f n else 0) + f i ≤ sum_below n f + f n
     go (inl e) ih =
         let off : test n ≡ false = ap test (sym e) ∙ h in
         rw off (omega (arith, sum_where-le n test f, ap f e))
     go (inr l) ih = omega (arith, ih l h, if-le (test n) (f n))
+
+pub list_below-more : {A : Type 0} (n : ℕ) (f : ℕ → A) → list_below (n + 1) f ≡ list_below n f ++ f n ∷ []
+list_below-more n f = rw add-one refl

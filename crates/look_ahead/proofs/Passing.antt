@@ -13,9 +13,6 @@ pub record Passing (test : ℕ → Bool) (i : ℕ) (old order : List ℕ) (k : �
   pub made : moved_back test i (get_or old 0 0) (drop 1 old)
       ≡ take k order ++ moved_back test i (get_or order k 0) (drop (k + 1) order)
 
-pub passing_start : (test : ℕ → Bool) (i : ℕ) (old : List ℕ) → Passing test i old old 0
-passing_start test i old = record { long = refl; made = refl }
-
 module _ (test : ℕ → Bool) (i : ℕ) (old order : List ℕ) (k : ℕ)
     (lt : k + 1 < length order) (was : Passing test i old order k) where
   abbrev here : ℕ
@@ -63,13 +60,9 @@ module _ (test : ℕ → Bool) (i : ℕ) (old order : List ℕ) (k : ℕ)
             ∙ ap₂ (λ (x : ℕ) (ds : List ℕ). take (k + 1) order' ++ moved_back test i x ds) (sym at) (sym back))));
       }
 
--- a task that doesn't go back, by its number or by the test
+-- another task doesn't go back
 pub stays_other : (x i : ℕ) (b : Bool) → x ≢ i → (nat_eq x i && b) ≡ false
 stays_other x i b ne = let other : nat_eq x i ≡ false = grind (arith, nat_tests) in rw other refl
-
-pub stays_first : (a b : Bool) → b ≡ false → (a && b) ≡ false
-stays_first true b e = e
-stays_first false b e = refl
 
 -- a slice that was lent and written, in its vector
 pub written_back : (len : ℕ) (old new : List ℕ) → len ≡ length old → length new ≡ length old

@@ -92,7 +92,6 @@ impl Governor for LookAhead {
         ensures spread_demand { IsDemandOfSpread plan.now view.entry.now }
         ensures rates_fit { RatesFit plan.now view.entry.now }
     {
-        plan.known();
         let demand = self.demand(plan, view);
         let pick = plan.machine().lowest(demand);
         Choice {

@@ -1,6 +1,7 @@
 // The demand, by a walk over the tasks from the last in EDF order to the first.
 ghost use Rattle.std.specs.Prelude.{◌≡◌, ◌+◌, ◌*◌, ◌-◌, ◌/◌, ◌<◌, ◌≤◌, ◌^◌};
 ghost use Rattle.grid_fraction.specs.Numbers.{ceil_div};
+ghost use Rattle.task_model.specs.declared.limits.TheConstants.{LONGEST_PERIOD, LONGEST_HYPERPERIOD};
 ghost use Rattle.sched_model.specs.Plan.{count, hyper, rate, top_speed};
 ghost use Rattle.sched_model.specs.AheadDemand.{slack};
 ghost use Rattle.sched_model.specs.States.{IsOfPlan};
@@ -35,8 +36,8 @@ fn spread(spare: u128, left: u64, slack: u64, hyper: u64) -> Totals
     requires some { 0 < slack }
     requires grid { 0 < hyper }
     requires spare { spare ≤ 2 ^ 68 }
-    requires soon { slack ≤ 2 ^ 40 }
-    requires low { hyper ≤ 2 ^ 48 }
+    requires soon { slack ≤ LONGEST_PERIOD }
+    requires low { hyper ≤ LONGEST_HYPERPERIOD }
     ensures first { result.first ≡ left - spare * slack / hyper }
     ensures rates { result.rates ≡ ceil_div ((left - result.first) * hyper) slack }
     ensures within { result.rates ≤ spare }
@@ -50,14 +51,13 @@ fn spread(spare: u128, left: u64, slack: u64, hyper: u64) -> Totals
 // One task of the walk.
 fn step(plan: &Admitted, job: Pending, totals: Totals) -> Totals
     requires task { job.task < count plan.now }
-    requires soon { job.slack ≤ 2 ^ 40 }
+    requires soon { job.slack ≤ LONGEST_PERIOD }
     requires fits { totals.rates ≤ top_speed plan.now * hyper plan.now }
     requires part { rate plan.now job.task ≤ totals.rates }
     requires small { totals.first ≤ 2 ^ 67 }
     ensures rates { result.rates ≡ next_rates plan.now job.task job.left job.slack totals.rates }
     ensures first { result.first ≡ next_first plan.now job.task job.left job.slack totals.rates totals.first }
 {
-    plan.known();
     if job.slack == 0 {
         return Totals {
             rates: totals.rates,
@@ -82,7 +82,7 @@ impl LookAhead {
         requires counters { Keeps self.now.left.items self.now.order.items plan.now view.now }
         ensures { result ≡ earliest_in plan.now view.entry.now }
     {
-        plan.known();
+        let _scheduler = plan.scheduler();
         view.rows[self.order[0] as usize].deadline
     }
 
@@ -111,7 +111,7 @@ impl LookAhead {
         requires decision { IsAtDecision plan.now view.now }
         ensures { result ≡ ahead_demand plan.now view.entry.now }
     {
-        plan.known();
+        let _scheduler = plan.scheduler();
         let soonest = self.earliest_deadline(plan, view);
         let mut totals = Totals {
             rates: plan.static_demand().num,

@@ -12,9 +12,9 @@ use Rattle.sched_model.specs.Order.{in_order}
 use Rattle.sched_model.specs.AheadDemand.{first_due, slack, put_off, spread_rate, spread_rates, due_first, ahead_of}
 use Rattle.sched_model.specs.AheadDemand.{edf_ahead}
 use Rattle.sched_model.specs.Demand.{demand_by, published}
-use Rattle.sched_model.specs.States.{no_row, row_at, row_wleft, row_of, state_of}
+use Rattle.sched_model.specs.States.{row_wleft, state_of}
 use Rattle.sched_model.proofs.OrderLemmas.{AreBelow, in_order-below, in_order-same, sum_before-same}
-use Rattle.sched_model.proofs.Tables.{get-table}
+use Rattle.sched_model.proofs.Joining.{row_at-state_of}
 use Rattle.governor.specs.Steps.{wleft_at}
 use Rattle.governor.specs.Schedule.{Publishes, PublishingLaws}
 use Rattle.governor.specs.Serving.{ServesEdf}
@@ -59,15 +59,12 @@ module _ (p : Plan) (due due' left left' : ℕ → ℕ) (same : (i : ℕ) → i 
       (ap (λ a. a - t) first_same)
 
 module _ (p : Plan) (dem : JobDemands) (past : List Tick) where
-  row_is : (i : ℕ) → i < count p → row_at (state_of p dem past) i ≡ row_of p dem past i
-  row_is i lt = get-table (count p) (row_of p dem past) i no_row lt
-
   -- after any ticks the definition's demand is that of the state
   ahead-is : edf_ahead p dem past ≡ ahead_demand p (state_of p dem past)
   ahead-is =
       ahead_of-same p (λ i. deadline p i (length past)) (deadline_at (state_of p dem past)) (wleft p dem past) (wleft_at (state_of p dem past))
-      (λ i lt. sym (ap (λ (r : Row). r.deadline) (row_is i lt)))
-      (λ i lt. sym (ap row_wleft (row_is i lt)))
+      (λ i lt. sym (ap (λ (r : Row). r.deadline) (row_at-state_of p dem past i lt)))
+      (λ i lt. sym (ap row_wleft (row_at-state_of p dem past i lt)))
       (length past)
 
 -- after any ticks, whatever the demands of the jobs

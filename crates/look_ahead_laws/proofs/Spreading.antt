@@ -32,8 +32,7 @@ spread_enough l h y pl =
     omega arith
 
 some_slack : (l : ℕ) → nat_eq l 0 ≡ false → 0 < l
-some_slack zero h = absurd (eqb-false 0 0 h refl)
-some_slack (suc l) h = omega arith
+some_slack l h = omega (arith, eqb-false l 0 h)
 
 -- the rates stay within what the highest speed has
 step_within : (b : Bool) (u w l h pre after most : ℕ) → 0 < h → (b ≡ false → 0 < l) → pre + u + after ≤ most

@@ -1,6 +1,7 @@
 -- Bounds of the numbers that published demands are made of.
-use Rattle.std.proofs.Common.{ℕ, ◌+◌, ◌-◌, ◌≤◌, ◌^◌, length, arith}
+use Rattle.std.proofs.Common.{ℕ, ◌+◌, ◌-◌, ◌≤◌, length, arith}
 use Rattle.std.proofs.Math.Nat.{div-le_self}
+use Rattle.task_model.specs.declared.limits.TheConstants.{LONGEST_HYPERPERIOD}
 use Rattle.grid_fraction.specs.Numbers.{ceil_div}
 use Rattle.sched_model.specs.Plan.{Plan, hyper, top_speed}
 use Rattle.sched_model.specs.Admission.{IsAdmitted}
@@ -9,7 +10,7 @@ use Rattle.sched_model.proofs.Limits.{some_hyper, low_hyper}
 pub hyper_some : (p : Plan) → IsAdmitted p → 1 ≤ hyper p
 hyper_some p adm = some_hyper p adm.limits
 
-pub hyper_low : (p : Plan) → IsAdmitted p → hyper p ≤ 2 ^ 48
+pub hyper_low : (p : Plan) → IsAdmitted p → hyper p ≤ LONGEST_HYPERPERIOD
 hyper_low p adm = low_hyper p adm.limits
 
 pub top_low : (p : Plan) → IsAdmitted p → top_speed p ≤ 1000000

@@ -1,6 +1,7 @@
 // The published demand of look-ahead (Pillai and Shin 2001).
 ghost use Rattle.std.specs.Prelude.{◌≡◌, ◌+◌, ◌-◌, ◌*◌, ◌/◌, ◌<◌, ◌≤◌, ◌^◌, length, reverse, if◌then◌else◌, IfOk};
 ghost use Rattle.std.specs.List.{AllByRecursion};
+ghost use Rattle.dvs_base.specs.Widths.{u64_end};
 ghost use Rattle.dvs_base.specs.declared.kind.Scheduler.TheVariants.{Edf};
 ghost use Rattle.task_model.specs.declared.limits.TheConstants.{LONGEST_PERIOD};
 ghost use Rattle.sched_model.specs.Plan.{count, rate, hyper, top_speed};
@@ -29,7 +30,7 @@ fn rate(plan: &Admitted, task: u32) -> u128
     ensures value { result ≡ rate plan.now task }
     ensures low { result ≤ 2 ^ 109 }
 {
-    plan.known();
+    let _scheduler = plan.scheduler();
     let jobs = plan.hyper() / plan.period(task);
     u128::from(worst(plan, task)) * u128::from(jobs)
 }
@@ -38,7 +39,7 @@ fn rate(plan: &Admitted, task: u32) -> u128
 fn rate_where_before(plan: &Admitted, tick: u64, j: u32, i: u32) -> u128
     requires one { j < count plan.now }
     requires other { i < count plan.now }
-    requires tick { tick + 1 < 2 ^ 64 }
+    requires tick { tick + 1 < u64_end }
     ensures value { result ≡ (if stands_before (key_of Edf plan.now tick) j i then rate plan.now j else 0) }
     ensures low { result ≤ 2 ^ 109 }
 {
@@ -52,10 +53,10 @@ fn rate_where_before(plan: &Admitted, tick: u64, j: u32, i: u32) -> u128
 // That of all tasks before a task in EDF order.
 fn rates_before(plan: &Admitted, tick: u64, task: u32) -> u128
     requires task { task < count plan.now }
-    requires tick { tick + 1 < 2 ^ 64 }
+    requires tick { tick + 1 < u64_end }
     ensures { result ≡ sum_before (count plan.now) (key_of Edf plan.now tick) (rate plan.now) task }
 {
-    plan.known();
+    let _scheduler = plan.scheduler();
     let mut sum = 0;
     for j in 0..plan.count() {
         sum += rate_where_before(plan, tick, j, task);
@@ -66,7 +67,7 @@ fn rates_before(plan: &Admitted, tick: u64, task: u32) -> u128
 // How long after the earliest deadline that of a task is.
 fn slack(plan: &Admitted, tick: u64, task: u32) -> u64
     requires task { task < count plan.now }
-    requires tick { tick + 1 < 2 ^ 64 }
+    requires tick { tick + 1 < u64_end }
     ensures value { result ≡ slack plan.now (λ i. deadline plan.now i tick) task }
     ensures low { result ≤ LONGEST_PERIOD }
 {
@@ -79,7 +80,6 @@ fn room_beside(plan: &Admitted, before: u128, after: u128) -> u128
     ensures value { result ≡ top_speed plan.now * hyper plan.now - before - after }
     ensures low { result ≤ 2 ^ 68 }
 {
-    plan.known();
     let all = u128::from(plan.machine().top()) * u128::from(plan.hyper());
     all.saturating_sub(before).saturating_sub(after)
 }
@@ -94,7 +94,7 @@ fn put_off(plan: &Admitted, demands: &Demands, past: &[PlainTick], after: u128, 
         (wleft plan.now (demand_of plan.now demands.now.rows) ticks) after task }
     ensures low { result ≤ 2 ^ 61 }
 {
-    plan.known();
+    let _scheduler = plan.scheduler();
     let tick = now(past);
     let slack = slack(plan, tick, task);
     if slack == 0 {
@@ -121,7 +121,7 @@ fn spread_rate(
         (wleft plan.now (demand_of plan.now demands.now.rows) ticks) after task }
     ensures low { result ≤ 2 ^ 110 }
 {
-    plan.known();
+    let _scheduler = plan.scheduler();
     let slack = slack(plan, now(past), task);
     if slack == 0 {
         return rate(plan, task);
@@ -191,7 +191,7 @@ pub(crate) fn edf_ahead(
     requires { HasWorstsOf plan.now.tasks demands.now }
     ensures value { IfOk result (λ d. d ≡ edf_ahead plan.now (demand_of plan.now demands.now.rows) (reverse past.now)) }
     ensures some_den { IfOk result (λ d. 1 ≤ d.den) }
-    ensures low_den { IfOk result (λ d. d.den ≤ 2 ^ 64) }
+    ensures low_den { IfOk result (λ d. d.den ≤ u64_end) }
 {
     let tick = now(past);
     let order = edf_order(alloc, plan, tick)?;

@@ -1,5 +1,6 @@
 // The published demands of cycle conservation (Pillai and Shin 2001).
 ghost use Rattle.std.specs.Prelude.{◌≡◌, ◌+◌, ◌-◌, ◌*◌, ◌/◌, ◌<◌, ◌≤◌, ◌^◌, reverse, if◌then◌else◌};
+ghost use Rattle.dvs_base.specs.Widths.{u64_end};
 ghost use Rattle.dvs_base.specs.declared.kind.Scheduler.TheVariants.{Rm};
 ghost use Rattle.sched_model.specs.Plan.{count, period, hyper};
 ghost use Rattle.sched_model.specs.Jobs.{earliest};
@@ -43,7 +44,7 @@ fn charged_rate(plan: &Admitted, demands: &Demands, past: &[PlainTick], task: u3
         * (hyper plan.now / period plan.now task) }
     ensures low { result ≤ 2 ^ 109 }
 {
-    plan.known();
+    let _scheduler = plan.scheduler();
     let jobs = plan.hyper() / plan.period(task);
     u128::from(charged(plan, demands, past, task)) * u128::from(jobs)
 }
@@ -54,9 +55,9 @@ pub(crate) fn edf_cycle(plan: &Admitted, demands: &Demands, past: &[PlainTick]) 
     requires { HasWorstsOf plan.now.tasks demands.now }
     ensures value { result ≡ edf_cycle plan.now (demand_of plan.now demands.now.rows) (reverse past.now) }
     ensures some_den { 1 ≤ result.den }
-    ensures low_den { result.den ≤ 2 ^ 64 }
+    ensures low_den { result.den ≤ u64_end }
 {
-    plan.known();
+    let _scheduler = plan.scheduler();
     let mut sum = 0;
     for task in 0..plan.count() {
         sum += charged_rate(plan, demands, past, task);
@@ -72,7 +73,6 @@ fn static_speed(plan: &Admitted) -> u64
     requires { plan.now.scheduler ≡ Rm }
     ensures { result ≡ static_speed plan.now }
 {
-    plan.known();
     let pick = plan.machine().lowest(static_demand(plan));
     plan.machine().point(pick.index).speed
 }
@@ -112,7 +112,7 @@ fn wleft_before(plan: &Admitted, demands: &Demands, past: &[PlainTick], task: u3
 // The units that are allotted at a release.
 fn room_from(plan: &Admitted, from: u64) -> u128
     requires scheduler { plan.now.scheduler ≡ Rm }
-    requires from { from + 1 < 2 ^ 64 }
+    requires from { from + 1 < u64_end }
     ensures { result ≡ (earliest plan.now from - from) * static_speed plan.now }
 {
     let ticks = earliest(plan, from) - u128::from(from);
@@ -185,9 +185,9 @@ pub(crate) fn rm_cycle(plan: &Admitted, demands: &Demands, past: &[PlainTick]) -
     requires scheduler { plan.now.scheduler ≡ Rm }
     ensures value { result ≡ rm_cycle plan.now (demand_of plan.now demands.now.rows) (reverse past.now) }
     ensures some_den { 1 ≤ result.den }
-    ensures low_den { result.den ≤ 2 ^ 64 }
+    ensures low_den { result.den ≤ u64_end }
 {
-    plan.known();
+    let _scheduler = plan.scheduler();
     let tick = now(past);
     let mut sum = 0;
     for task in 0..plan.count() {

@@ -1,5 +1,6 @@
 // When jobs are released and due, and which is the latest.
-ghost use Rattle.std.specs.Prelude.{◌≡◌, ◌+◌, ◌<◌, ◌≤◌, ◌^◌};
+ghost use Rattle.std.specs.Prelude.{◌≡◌, ◌+◌, ◌<◌, ◌≤◌};
+ghost use Rattle.dvs_base.specs.Widths.{u64_end};
 ghost use Rattle.task_model.specs.declared.limits.TheConstants.{LONGEST_PERIOD};
 ghost use Rattle.sched_model.specs.Plan.{count};
 ghost use Rattle.sched_model.specs.Jobs.{release, due, latest, deadline, releases_at, is_release, earliest, last_release, is_in_window};
@@ -29,10 +30,10 @@ pub(crate) fn due(plan: &Admitted, task: u32, job: u64) -> u128
 #[tactic(auto, unfolding(sched_model::specs::Jobs::latest))]
 pub(crate) fn latest(plan: &Admitted, task: u32, tick: u64) -> u64
     requires task { task < count plan.now }
-    requires tick { tick + 1 < 2 ^ 64 }
+    requires tick { tick + 1 < u64_end }
     ensures { result ≡ latest plan.now task tick }
 {
-    plan.known();
+    let _scheduler = plan.scheduler();
     let offset = plan.offset(task);
     if offset <= tick {
         (tick - offset) / plan.period(task) + 1
@@ -45,24 +46,24 @@ pub(crate) fn latest(plan: &Admitted, task: u32, tick: u64) -> u64
 #[tactic(auto, using(crate::proofs::Marks::deadline_later, crate::proofs::Marks::deadline_low))]
 pub(crate) fn deadline(plan: &Admitted, task: u32, tick: u64) -> u128
     requires task { task < count plan.now }
-    requires tick { tick + 1 < 2 ^ 64 }
+    requires tick { tick + 1 < u64_end }
     ensures value { result ≡ deadline plan.now task tick }
     ensures later { tick < result }
     ensures low { result ≤ tick + LONGEST_PERIOD }
 {
-    plan.known();
+    let _scheduler = plan.scheduler();
     due(plan, task, latest(plan, task, tick))
 }
 
 /// The earliest deadline of the latest jobs.
 #[tactic(auto, using(crate::proofs::Marks::one_more))]
 pub(crate) fn earliest(plan: &Admitted, tick: u64) -> u128
-    requires { tick + 1 < 2 ^ 64 }
+    requires { tick + 1 < u64_end }
     ensures value { result ≡ earliest plan.now tick }
     ensures later { tick < result }
     ensures low { result ≤ tick + LONGEST_PERIOD }
 {
-    plan.known();
+    let _scheduler = plan.scheduler();
     let mut least = deadline(plan, 0, tick);
     for task in 1..plan.count() {
         least = least.min(deadline(plan, task, tick));
@@ -73,7 +74,7 @@ pub(crate) fn earliest(plan: &Admitted, tick: u64) -> u128
 // Whether a job of a task is released at a tick.
 fn releases_at(plan: &Admitted, task: u32, tick: u64) -> bool
     requires task { task < count plan.now }
-    requires tick { tick + 1 < 2 ^ 64 }
+    requires tick { tick + 1 < u64_end }
     ensures { result ≡ releases_at plan.now task tick }
 {
     release(plan, task, latest(plan, task, tick)) == u128::from(tick)
@@ -81,7 +82,7 @@ fn releases_at(plan: &Admitted, task: u32, tick: u64) -> bool
 
 /// Whether any job is released at a tick.
 pub(crate) fn is_release(plan: &Admitted, tick: u64) -> bool
-    requires { tick + 1 < 2 ^ 64 }
+    requires { tick + 1 < u64_end }
     ensures { result ≡ is_release plan.now tick }
 {
     let mut any = false;
@@ -93,7 +94,7 @@ pub(crate) fn is_release(plan: &Admitted, tick: u64) -> bool
 
 /// The last release up to a tick, and 0 where there is none.
 pub(crate) fn last_release(plan: &Admitted, tick: u64) -> u64
-    requires { tick + 1 < 2 ^ 64 }
+    requires { tick + 1 < u64_end }
     ensures value { result ≡ last_release plan.now tick }
     ensures low { result ≤ tick }
 {

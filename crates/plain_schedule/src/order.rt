@@ -1,6 +1,7 @@
 // The tasks in EDF order.
-ghost use Rattle.std.specs.Prelude.{◌≡◌, ◌+◌, ◌<◌, ◌≤◌, ◌^◌, IfOk, length, map};
+ghost use Rattle.std.specs.Prelude.{◌≡◌, ◌+◌, ◌<◌, ◌≤◌, IfOk, length, map};
 ghost use Rattle.std.specs.List.{AllByRecursion};
+ghost use Rattle.dvs_base.specs.Widths.{u64_end};
 ghost use Rattle.dvs_base.specs.declared.kind.Scheduler.TheVariants.{Edf};
 ghost use Rattle.grid_fraction.specs.Numbers.{list_below};
 ghost use Rattle.sched_model.specs.Plan.{count};
@@ -15,7 +16,7 @@ use std::alloc::Global;
 
 // Each task's deadline and number.
 fn keys_of(alloc: Global, plan: &Admitted, tick: u64) -> Result<Vec<(u128, u32)>, NoMemory>
-    requires { tick + 1 < 2 ^ 64 }
+    requires { tick + 1 < u64_end }
     ensures { IfOk result (λ v. v.items ≡ list_below (count plan.now) (λ i. (deadline plan.now i tick, i))) }
 {
     let mut keys = Vec::new(alloc);
@@ -38,12 +39,12 @@ fn numbers_of(alloc: Global, keys: &[(u128, u32)]) -> Result<Vec<u32>, NoMemory>
 
 /// The tasks' numbers in EDF order: by deadline, and by place among equal deadlines.
 pub(crate) fn edf_order(alloc: Global, plan: &Admitted, tick: u64) -> Result<Vec<u32>, NoMemory>
-    requires { tick + 1 < 2 ^ 64 }
+    requires { tick + 1 < u64_end }
     ensures order { IfOk result (λ v. v.items ≡ in_order (key_of Edf plan.now tick) (count plan.now)) }
     ensures below { IfOk result (λ v. AllByRecursion (λ i. i < count plan.now) v.items) }
     ensures few { IfOk result (λ v. length v.items ≤ 64) }
 {
-    plan.known();
+    let _scheduler = plan.scheduler();
     let mut keys = keys_of(alloc, plan, tick)?;
     keys.sort_unstable();
     numbers_of(alloc, &keys)

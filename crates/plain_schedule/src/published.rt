@@ -1,5 +1,6 @@
 // The published demands of the governors.
-ghost use Rattle.std.specs.Prelude.{◌≡◌, ◌≤◌, ◌^◌, reverse, IfOk};
+ghost use Rattle.std.specs.Prelude.{◌≡◌, ◌≤◌, reverse, IfOk};
+ghost use Rattle.dvs_base.specs.Widths.{u64_end};
 ghost use Rattle.dvs_base.specs.declared.kind.GovernorKind.TheVariants.{Cycle, Ahead};
 ghost use Rattle.sched_model.specs.StaticDemand.{full_demand, static_demand};
 ghost use Rattle.sched_model.specs.Demand.{demand_by, published};
@@ -29,9 +30,8 @@ fn full_demand(plan: &Admitted) -> Frac
 pub(crate) fn static_demand(plan: &Admitted) -> Frac
     ensures value { result ≡ static_demand plan.now }
     ensures some_den { 1 ≤ result.den }
-    ensures low_den { result.den ≤ 2 ^ 64 }
+    ensures low_den { result.den ≤ u64_end }
 {
-    plan.known();
     plan.static_demand()
 }
 
@@ -41,7 +41,7 @@ fn cycle_demand(plan: &Admitted, demands: &Demands, past: &[PlainTick]) -> Frac
     ensures value { result ≡ demand_by plan.now.scheduler Cycle plan.now
         (demand_of plan.now demands.now.rows) (reverse past.now) }
     ensures some_den { 1 ≤ result.den }
-    ensures low_den { result.den ≤ 2 ^ 64 }
+    ensures low_den { result.den ≤ u64_end }
 {
     match plan.scheduler() {
         Scheduler::Edf => edf_cycle(plan, demands, past),
@@ -60,7 +60,7 @@ fn ahead_demand(
     ensures value { IfOk result (λ d. d ≡ demand_by plan.now.scheduler Ahead plan.now
         (demand_of plan.now demands.now.rows) (reverse past.now)) }
     ensures some_den { IfOk result (λ d. 1 ≤ d.den) }
-    ensures low_den { IfOk result (λ d. d.den ≤ 2 ^ 64) }
+    ensures low_den { IfOk result (λ d. d.den ≤ u64_end) }
 {
     match plan.scheduler() {
         Scheduler::Edf => edf_ahead(alloc, plan, demands, past),
@@ -81,7 +81,7 @@ pub(crate) fn published(
     ensures value { IfOk result (λ d. d ≡ published plan.now governor
         (demand_of plan.now demands.now.rows) (reverse past.now)) }
     ensures some_den { IfOk result (λ d. 1 ≤ d.den) }
-    ensures low_den { IfOk result (λ d. d.den ≤ 2 ^ 64) }
+    ensures low_den { IfOk result (λ d. d.den ≤ u64_end) }
 {
     match governor {
         GovernorKind::Plain => Ok(full_demand(plan)),

@@ -19,8 +19,7 @@ pub(crate) fn demand(plan: &Admitted, demands: &Demands, task: u32, job: u64) ->
     ensures value { result ≡ demand_of plan.now demands.now.rows task job }
     ensures low { result ≤ 2 ^ 61 }
 {
-    plan.known();
-    demands.known();
+    let _worsts = demands.worsts();
     if job == 0 {
         return 0;
     }
@@ -99,7 +98,7 @@ pub(crate) fn worst(plan: &Admitted, task: u32) -> u64
     ensures value { result ≡ worst plan.now task }
     ensures low { result ≤ 2 ^ 61 }
 {
-    plan.known();
+    let _scheduler = plan.scheduler();
     plan.worst(task)
 }
 

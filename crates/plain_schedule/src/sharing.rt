@@ -1,5 +1,6 @@
 // How the tasks share the units of a tick.
 ghost use Rattle.std.specs.Prelude.{◌≡◌, ◌+◌, ◌<◌, ◌≤◌, ◌*◌, ◌^◌, length, reverse, if◌then◌else◌};
+ghost use Rattle.dvs_base.specs.Widths.{u64_end};
 ghost use Rattle.sched_model.specs.Plan.{count};
 ghost use Rattle.sched_model.specs.Ticks.{left};
 ghost use Rattle.sched_model.specs.Priority.{key_of, stands_before, sum_before, allotment};
@@ -17,7 +18,7 @@ use sched_model::Admitted;
 // What a scheduler orders the tasks by: the deadline under EDF, the period under RM.
 fn key(plan: &Admitted, scheduler: Scheduler, tick: u64, task: u32) -> u128
     requires task { task < count plan.now }
-    requires tick { tick + 1 < 2 ^ 64 }
+    requires tick { tick + 1 < u64_end }
     ensures { result ≡ key_of scheduler plan.now tick task }
 {
     match scheduler {
@@ -36,7 +37,7 @@ pub(crate) fn stands_before(
 ) -> bool
     requires one { j < count plan.now }
     requires other { i < count plan.now }
-    requires tick { tick + 1 < 2 ^ 64 }
+    requires tick { tick + 1 < u64_end }
     ensures { result ≡ stands_before (key_of scheduler plan.now tick) j i }
 {
     let first = key(plan, scheduler, tick, j);
@@ -65,7 +66,8 @@ fn needed_before(plan: &Admitted, demands: &Demands, past: &[PlainTick], j: u32,
 fn needs_before(plan: &Admitted, demands: &Demands, past: &[PlainTick], task: u32) -> u128
     requires list { HasWorstsOf plan.now.tasks demands.now }
     requires task { task < count plan.now }
-    ensures value { result ≡ sum_before (count plan.now) (key_of plan.now.scheduler plan.now (length (reverse past.now)))
+    ensures value { result ≡ sum_before (count plan.now)
+        (key_of plan.now.scheduler plan.now (length (reverse past.now)))
         (left plan.now (demand_of plan.now demands.now.rows) (reverse past.now)) task }
     ensures low { result ≤ 2 ^ 93 }
 {

@@ -1,5 +1,6 @@
 // Ticks.
-ghost use Rattle.std.specs.Prelude.{◌≡◌, ◌+◌, ◌-◌, ◌<◌, ◌≤◌, ◌^◌, length, reverse};
+ghost use Rattle.std.specs.Prelude.{◌≡◌, ◌+◌, ◌-◌, ◌<◌, ◌≤◌, length, reverse};
+ghost use Rattle.dvs_base.specs.Widths.{u64_end};
 ghost use Rattle.sched_model.specs.Ticks.{share, at};
 
 use std::marker::Model;
@@ -32,7 +33,7 @@ pub(crate) fn share(tick: &PlainTick, task: u32) -> u64
 /// The number of the tick after these.
 pub(crate) fn now(past: &[PlainTick]) -> u64
     ensures value { result ≡ length (reverse past.now) }
-    ensures low { result + 1 < 2 ^ 64 }
+    ensures low { result + 1 < u64_end }
 {
     past.len() as u64
 }

@@ -49,7 +49,8 @@ module _ (s : ServerOf) (h : AreRequests s.requests) (some : 0 < period s.plan s
   pub are-polled : IsPolled s notes (answer_by s notes)
   are-polled = record {
     all = length-list_below (request_count s) (outcome_of s notes);
-    outcomes = λ m lt. subst (IsOutcome s notes m) (sym (get-table (request_count s) (outcome_of s notes) m Pending lt)) (outcome-is m lt (done_at notes s.task (job_of s m)) refl);
+    outcomes = λ m lt. subst (IsOutcome s notes m) (sym (get-table (request_count s) (outcome_of s notes) m Pending lt))
+        (outcome-is m lt (done_at notes s.task (job_of s m)) refl);
     totals = refl;
   }
 

@@ -65,7 +65,8 @@ module _ (s : ServerOf) (h : AreRequests s.requests) (some : 0 < period s.plan s
 
   pub belongs : BelongsTo s m (job_of s m)
   belongs = record {
-    reached = (let e : test (job_of s m) ≡ true = (first_from-found (latest_job s m) 1 (latest_job s m) test latest-some (omega arith) latest-passes).0 in grind (arith, nat_tests));
+    reached = (let e : test (job_of s m) ≡ true = (first_from-found (latest_job s m) 1 (latest_job s m) test latest-some (omega arith) latest-passes).0 in
+        grind (arith, nat_tests));
     first = before;
   }
     where

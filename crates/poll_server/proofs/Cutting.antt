@@ -1,5 +1,5 @@
--- Sums whose terms past a place are none, and what a quotient rounded up covers.
-use Rattle.std.proofs.Common.{◌≡◌, ℕ, zero, suc, ◌*◌, ◌<◌, ◌≤◌, ◌⊎◌, inl, inr, refl, arith, eq-or-lt_of_le}
+-- Sums whose terms past a place are none.
+use Rattle.std.proofs.Common.{◌≡◌, ℕ, zero, suc, ◌<◌, ◌≤◌, ◌⊎◌, inl, inr, refl, arith, eq-or-lt_of_le}
 use Rattle.grid_fraction.specs.Numbers.{sum_below}
 use Rattle.grid_fraction.proofs.Sums.{sum_below-same}
 
@@ -16,9 +16,3 @@ sum_below-cut (suc c) n f g le same none = go (eq-or-lt_of_le le) (sum_below-cut
     go (inl e) ih = rw e (sum_below-same (suc c) f g (λ k lt. same k (omega arith)))
     go (inr l) ih =
         omega (arith, ih (omega arith) same (λ k low high. none k low (omega arith)), none c (omega arith) (omega arith))
-
--- the sum of terms that are at most a limit
-pub sum_below-limit : (n most : ℕ) (f : ℕ → ℕ) → ((k : ℕ) → k < n → f k ≤ most) → sum_below n f ≤ n * most
-sum_below-limit zero most f h = omega arith
-sum_below-limit (suc n) most f h =
-    omega (arith, sum_below-limit n most f (λ k lt. h k (omega arith)), h n (omega arith))

@@ -1,8 +1,7 @@
 -- Where the notes of a schedule tell that a job is done.
-use Rattle.std.proofs.Common.{◌≡◌, ℕ, suc, ◌+◌, ◌-◌, ◌<◌, ◌≤◌, Bool, true, false, ◌&&◌, ◌||◌, inl, inr, List, [], ◌∷◌, length, refl, arith, if◌then◌else◌, ap, ◌∙◌, true≢false, nat_eq, nat_lt}
-use Rattle.std.specs.Prelude.{sum_by, Option, Some, None}
+use Rattle.std.proofs.Common.{◌≡◌, ℕ, suc, ◌-◌, ◌<◌, ◌≤◌, Bool, true, false, ◌&&◌, ◌||◌, List, [], ◌∷◌, length, refl, arith, if◌then◌else◌, ◌∙◌, nat_eq, nat_lt}
+use Rattle.std.specs.Prelude.{Option, Some, None}
 use Rattle.std.specs.Option.{option_or}
-use Rattle.std.proofs.lemmas.Bool.Decides.{nat_tests}
 use Rattle.dvs_base.specs.declared.note.Note.{Note}
 use Rattle.dvs_base.specs.declared.note.Note.TheVariants.{Release, Speed, Run, Idle, Done, End}
 use Rattle.dvs_base.specs.declared.note.Pos.{Pos}
@@ -13,29 +12,20 @@ use Rattle.sched_model.specs.Ticks.{Tick, at, exec}
 use Rattle.sched_model.specs.Schedule.{IsScheduleBy}
 use Rattle.sched_model.specs.Deadlines.{IsMet}
 use Rattle.sched_model.specs.Admission.{IsWithinLimits}
-use Rattle.sched_model.specs.Notes.{notes_of, notes_before_end, energy_run, energy_idle}
+use Rattle.sched_model.specs.Notes.{notes_of}
 use Rattle.sched_model.proofs.Limits.{every_period}
 use Rattle.sched_model.proofs.Service.{exec-most, exec-drop}
 use Rattle.sched_model.proofs.JobLaws.{release-due}
 use Rattle.done_lines.specs.DoneLines.{IsBy}
-use Rattle.done_lines.proofs.DoneNotes.{tells_done, tells_late, times, times-append}
-use Rattle.done_lines.proofs.DoneCounts.{told-once, told-never, none-late}
+use Rattle.done_lines.proofs.DoneNotes.{tells_done, tells_late, times}
+use Rattle.done_lines.proofs.DoneCounts.{times-end, told-once, told-never, none-late}
+use Rattle.done_lines.proofs.DoneText.{is_by}
 use Rattle.poll_server.specs.Outcomes.{done_at}
 
 -- the job is told to be done, at a position not after tick t
 abbrev pub IsEndBy : ℕ → Option Pos → Type 0
 IsEndBy t (Some at_end) = IsBy t at_end
 IsEndBy t None = ⊥
-
-by-tick : (t : ℕ) (q : Pos) → (nat_lt t q.tick || (nat_eq t q.tick && nat_lt 0 q.offset)) ≡ false → IsBy t q
-by-tick t q e = go (nat_lt t q.tick) refl (nat_eq t q.tick) refl (nat_lt 0 q.offset) refl e
-  where
-    go : (a : Bool) → nat_lt t q.tick ≡ a → (b : Bool) → nat_eq t q.tick ≡ b → (c : Bool) → nat_lt 0 q.offset ≡ c
-        → (a || (b && c)) ≡ false → IsBy t q
-    go true ea b eb c ec f = absurd (true≢false f)
-    go false ea true eb true ec f = absurd (true≢false f)
-    go false ea true eb false ec f = inr (grind (arith, nat_tests, eb), grind (arith, nat_tests, ec))
-    go false ea false eb c ec f = inl (grind (arith, nat_tests, ea, eb))
 
 -- where no note tells it, none is the first
 pub never-done : (i k : ℕ) (notes : List Note) → times (tells_done i k) notes ≡ 0 → done_at notes i k ≡ None
@@ -71,7 +61,7 @@ ends-by t i k (Done q j l used ∷ notes) some late =
         → (0 < times (tells_done i k) notes → times (tells_late t i k) notes ≡ 0 → IsEndBy t (done_at notes i k))
         → IsEndBy t (option_or (if a then Some q else None) (done_at notes i k))
     go true true e some late ih = absurd (omega arith)
-    go true false e some late ih = by-tick t q e
+    go true false e some late ih = is_by t q e
     go false b e some late ih = ih some late
 
 -- a schedule of a plan within the limits, and a job of one of its tasks
@@ -80,19 +70,11 @@ module _ (p : Plan) (dem : ℕ → ℕ → ℕ) (ask : List Tick → Frac) (lim 
   abbrev notes : List Note
   notes = notes_of p dem ask ticks
 
-  times-end : (test : Note → Bool) → ((t run idle : ℕ) → test (End t run idle) ≡ false)
-      → times test notes ≡ times test (notes_before_end p dem ask ticks)
-  times-end test quiet =
-      let before = notes_before_end p dem ask ticks in
-      let last : List Note = End (length ticks) (sum_by energy_run before) (sum_by energy_idle before) ∷ [] in
-      times-append test before last
-      ∙ (ap (λ (b : Bool). times test before + (if b then 1 else 0)) (quiet (length ticks) (sum_by energy_run before) (sum_by energy_idle before)) ∙ omega arith)
-
   -- a job that isn't released within the ticks isn't done
   pub ends-never : length ticks ≤ release p i k → done_at notes i k ≡ None
   ends-never later =
       never-done i k notes
-      (times-end (tells_done i k) (λ t run idle. refl) ∙ told-never p dem ask lim i k lt some ticks sched later)
+      (times-end p dem ask ticks (tells_done i k) (λ t run idle. refl) ∙ told-never p dem ask lim i k lt some ticks sched later)
 
   -- where the deadlines are met, a job that is due within the ticks is done by then
   pub ends-in-time : IsMet p dem ticks → due p i k ≤ length ticks → IsEndBy (due p i k) (done_at notes i k)
@@ -101,6 +83,8 @@ module _ (p : Plan) (dem : ℕ → ℕ → ℕ) (ask : List Tick → Frac) (lim 
       let most : exec p ticks i k ≤ dem i k = exec-most p dem ask ticks sched i k lt in
       let had : exec p ticks i k ≡ dem i k = omega (arith, by, most, exec-drop p i k (length ticks - due p i k) ticks) in
       let began : release p i k < length ticks = omega (arith, release-due p i k some, every_period p lim i, within) in
-      let once : times (tells_done i k) notes ≡ 1 = times-end (tells_done i k) (λ t run idle. refl) ∙ told-once p dem ask lim i k lt some ticks sched began had in
-      let late : times (tells_late (due p i k) i k) notes ≡ 0 = times-end (tells_late (due p i k) i k) (λ t run idle. refl) ∙ none-late p dem ask lim i k lt some (length ticks) ticks (omega arith) sched most in
+      let once : times (tells_done i k) notes ≡ 1 = times-end p dem ask ticks (tells_done i k) (λ t run idle. refl)
+      ∙ told-once p dem ask lim i k lt some ticks sched began had in
+      let late : times (tells_late (due p i k) i k) notes ≡ 0 = times-end p dem ask ticks (tells_late (due p i k) i k) (λ t run idle. refl)
+      ∙ none-late p dem ask lim i k lt some (length ticks) ticks (omega arith) sched most in
       ends-by (due p i k) i k notes (omega (arith, once)) late

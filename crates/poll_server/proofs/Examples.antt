@@ -51,6 +51,7 @@ releases_before : (jobs_before server 0 ∷ jobs_before server 5 ∷ jobs_before
 releases_before = refl
 
 -- a request of 9 units takes three jobs, at the budget 4
-long : (taken (server_of plan 0 (request 0 9 ∷ [])) 1 ∷ taken (server_of plan 0 (request 0 9 ∷ [])) 3 ∷ job_of (server_of plan 0 (request 0 9 ∷ [])) 0 ∷ latest_job (server_of plan 0 (request 0 9 ∷ [])) 0 ∷ []) ≡ (4 ∷ 1 ∷ 3 ∷ 3 ∷ [])
+long : (taken (server_of plan 0 (request 0 9 ∷ [])) 1 ∷ taken (server_of plan 0 (request 0 9 ∷ [])) 3
+    ∷ job_of (server_of plan 0 (request 0 9 ∷ [])) 0 ∷ latest_job (server_of plan 0 (request 0 9 ∷ [])) 0 ∷ []) ≡ (4 ∷ 1 ∷ 3 ∷ 3 ∷ [])
 unfolding taken_up_to release
 long = refl

@@ -1,10 +1,9 @@
 -- The steps of the walks over a server's jobs and requests.
-use Rattle.std.proofs.Common.{◌≡◌, ℕ, ◌+◌, ◌-◌, ◌*◌, ◌^◌, ◌<◌, ◌≤◌, min, ◌⊎◌, inl, inr, List, [], ◌∷◌, ◌++◌, refl, arith, ap, ◌∙◌, sym, add-one}
+use Rattle.std.proofs.Common.{◌≡◌, ℕ, ◌+◌, ◌-◌, ◌*◌, ◌^◌, ◌<◌, ◌≤◌, min, ◌⊎◌, inl, inr, List, [], refl, arith, ap, ◌∙◌, sym}
 use Rattle.std.specs.Prelude.{Option, unwrap_or, slice_index}
 use Rattle.std.proofs.Math.Nat.{mul-le-mul_right, mul-le-mul_left}
 use Rattle.std.proofs.lemmas.Bool.{cases_lt}
 use Rattle.dvs_base.specs.declared.limits.TheConstants.{MOST_JOBS}
-use Rattle.grid_fraction.specs.Numbers.{list_below}
 use Rattle.task_model.specs.DemandRows.{DemandRow, named}
 use Rattle.task_model.specs.declared.limits.TheConstants.{MOST_WORK}
 use Rattle.demand_list.specs.Demands.{DemandsOf, units_of}
@@ -113,6 +112,3 @@ reached-first s n = record {
   asked_for = refl;
   first = λ j below. absurd (omega arith);
 }
-
-pub list_below-more : {A : Type 0} (n : ℕ) (f : ℕ → A) → list_below (n + 1) f ≡ list_below n f ++ f n ∷ []
-list_below-more n f = rw add-one refl

@@ -3,7 +3,7 @@ use Rattle.std.proofs.Common.{◌≡◌, ℕ, zero, suc, ◌+◌, ◌-◌, ◌*�
 use Rattle.std.proofs.Math.Nat.{mul-le-mul_right, div-mul-le_self}
 use Rattle.std.proofs.lemmas.Bool.Decides.{nat_tests}
 use Rattle.grid_fraction.specs.Numbers.{sum_below}
-use Rattle.grid_fraction.proofs.Sums.{sum_below-same, sum_below-up}
+use Rattle.grid_fraction.proofs.Sums.{sum_below-same, sum_below-up, sum_below-limit}
 use Rattle.governor.proofs.RmLevels.{ceil_covers}
 use Rattle.request_list.specs.declared.limits.TheConstants.{MOST_REQUEST_UNITS}
 use Rattle.request_list.specs.Requests.{AreRequests}
@@ -11,7 +11,7 @@ use Rattle.sched_model.specs.Plan.{period, offset}
 use Rattle.sched_model.specs.Jobs.{release}
 use Rattle.poll_server.specs.Serving.{ServerOf, budget, job_release, request_count, arrival, units, arrived, taken_up_to, taken, asked, asked_with}
 use Rattle.poll_server.specs.Bound.{jobs_before}
-use Rattle.poll_server.proofs.Cutting.{sum_below-cut, sum_below-limit}
+use Rattle.poll_server.proofs.Cutting.{sum_below-cut}
 
 pub taken-none : (s : ServerOf) → taken_up_to s 0 ≡ 0
 unfolding taken_up_to

@@ -1,21 +1,14 @@
 -- What a listener that keeps the ends of jobs has heard.
 use Rattle.std.proofs.Common.{◌≡◌, ◌+◌, ◌<◌, ℕ, zero, suc, inl, inr, List, [], ◌∷◌, length, replicate, refl, ap, ap₂, ◌∙◌, sym, subst}
-use Rattle.std.specs.Prelude.{Option, Some, None}
+use Rattle.std.specs.Prelude.{Option, None}
 use Rattle.std.specs.Option.{option_or}
 use Rattle.dvs_base.specs.declared.note.Note.{Note}
 use Rattle.dvs_base.specs.declared.note.Pos.{Pos}
+use Rattle.dvs_base.proofs.Options.{or-none, or-assoc}
 use Rattle.event_kernel.specs.Heard.{HasHeard, HasBalked}
 use Rattle.poll_server.specs.declared.ends.Ends.{Ends}
 use Rattle.poll_server.specs.Outcomes.{done_in, done_at}
 use Rattle.poll_server.specs.Walking.{Hears, end_at}
-
-pub or-none : {A : Type 0} (o : Option A) → option_or o None ≡ o
-or-none None = refl
-or-none (Some x) = refl
-
-or-assoc : {A : Type 0} (o p q : Option A) → option_or (option_or o p) q ≡ option_or o (option_or p q)
-or-assoc None p q = refl
-or-assoc (Some x) p q = refl
 
 -- before any note no job is told to be done
 pub none-told : (n k : ℕ) → end_at (replicate {A = Option Pos} n None) k ≡ None

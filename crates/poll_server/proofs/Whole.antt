@@ -23,7 +23,8 @@ use Rattle.governor.specs.Meanings.{OwnDemand}
 use Rattle.governor.specs.Schedule.{ask_of}
 use Rattle.event_kernel.specs.Heard.{HasHeard}
 use Rattle.event_kernel.specs.Runs.{Run, notes_of_run, MeetsDeadlines}
-use Rattle.replay_laws.specs.OwnList.{LooksAtNone, ticks_by}
+use Rattle.replay_laws.specs.OwnList.{ticks_by}
+use Rattle.replay_laws.proofs.Owning.{own-lists}
 use Rattle.poll_server.specs.declared.ends.Ends.{Ends}
 use Rattle.poll_server.specs.declared.served.Outcome.{Outcome}
 use Rattle.poll_server.specs.Serving.{ServerOf, server_of, polled_demand, job_release}
@@ -62,8 +63,8 @@ pub record Answered (demand : OwnDemand) (s : ServerOf) (ticks : ℕ) (r : Serve
   pub bound : KeepsBound s ticks r
 
 -- a run by a governor's demand of a server and a list of what its first n jobs take
-module _ (demand : OwnDemand) (s : ServerOf) (looks : LooksAtNone s.plan (ask_of demand s.plan)) (d : DemandsOf) (n ticks : ℕ)
-    (n_is : n ≡ jobs_before s ticks) (servable : IsServable s n d) (run : Run) (run_is : run ≡ run_of s d ticks) where
+module _ (demand : OwnDemand) (s : ServerOf) (d : DemandsOf) (n ticks : ℕ) (n_is : n ≡ jobs_before s ticks)
+    (servable : IsServable s n d) (run : Run) (run_is : run ≡ run_of s d ticks) where
   some : 0 < period s.plan s.task
   some = every_period s.plan servable.plan.limits s.task
 
@@ -77,7 +78,8 @@ module _ (demand : OwnDemand) (s : ServerOf) (looks : LooksAtNone s.plan (ask_of
   notes-are : notes_of_run demand run ≡ polled_notes demand s ticks
   notes-are =
       ap (notes_of_run demand) run_is
-      ∙ sym (same-notes demand s some looks ticks d.rows (subst (λ (m : ℕ). AreTaken s m d.rows) n_is servable.rows)
+      ∙ sym (same-notes demand s some ((own-lists s.plan servable.plan.limits).looks demand) ticks d.rows
+      (subst (λ (m : ℕ). AreTaken s m d.rows) n_is servable.rows)
       ((schedule_exists s.plan dem (ask_of demand s.plan dem) ticks).1))
 
   -- what was heard of them
@@ -114,7 +116,8 @@ module _ (demand : OwnDemand) (s : ServerOf) (looks : LooksAtNone s.plan (ask_of
   ends-met met k first within =
       let run = schedule_exists s.plan dem (ask_of demand s.plan dem) ticks in
       subst (λ (l : List Note). IsEndBy (due s.plan s.task k) (done_at l s.task k)) (sym (ap (notes_of_run demand) run_is) ∙ notes-are)
-      (ends-in-time s.plan dem (ask_of demand s.plan dem) servable.plan.limits ticks_run run.0 s.task k servable.task first (subst (MeetsDeadlines demand) run_is met)
+      (ends-in-time s.plan dem (ask_of demand s.plan dem) servable.plan.limits ticks_run run.0 s.task k servable.task first
+      (subst (MeetsDeadlines demand) run_is met)
       (subst (λ (m : ℕ). due s.plan s.task k ≤ m) (sym run.1) within))
 
   -- what is answered is the function of the arguments

@@ -1,9 +1,9 @@
 -- The jobs of a polling need no more than their worst cases.
-use Rattle.std.proofs.Common.{◌≡◌, ◌≤◌, ◌*◌, ◌+◌, ℕ, zero, suc, Bool, true, false, nat_eq, min, arith, refl, if◌then◌else◌}
+use Rattle.std.proofs.Common.{◌≡◌, ◌≤◌, ◌*◌, ◌+◌, ℕ, zero, suc, Bool, true, false, nat_eq, arith, refl, if◌then◌else◌}
 use Rattle.std.proofs.lemmas.Bool.Decides.{nat_tests}
-use Rattle.sched_model.specs.Plan.{Plan, worst}
+use Rattle.sched_model.specs.Plan.{worst}
 use Rattle.sched_model.specs.Demands.{IsWithin}
-use Rattle.poll_server.specs.Serving.{ServerOf, budget, taken, waiting, polled_demand}
+use Rattle.poll_server.specs.Serving.{ServerOf, budget, taken, polled_demand}
 
 module _ (s : ServerOf) where
   most-taken : (k : ℕ) → taken s k ≤ budget s

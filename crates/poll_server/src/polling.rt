@@ -15,13 +15,12 @@ ghost use Rattle.poll_server.specs.EachOutcome.{served_of};
 
 use crate::ends::Ends;
 use crate::outcomes::{Jobs, outcomes};
-use crate::server::{Server, all_jobs_below, jobs_below};
+use crate::server::Server;
 use crate::taking::polled_demands;
 use crate::{PollFault, Served};
 use dvs_base::{MOST_JOBS, Totals};
-use event_kernel::{Kernel, Stopped};
+use event_kernel::{Kernel, Stopped, count_jobs, jobs_below};
 use governor::Governor;
-use replay_laws::own_list;
 use request_list::Requests;
 use sched_model::Admitted;
 use std::alloc::Global;
@@ -65,14 +64,13 @@ pub fn poll<G: Governor>(
         → (n ≡ released_jobs plan.now ticks) × (MOST_JOBS < n) }
     ensures memory { IsErrOf result PollFault.NoMemory → released_jobs plan.now ticks ≤ MOST_JOBS }
 {
-    plan.known();
-    own_list(plan);
+    let _scheduler = plan.scheduler();
     let own = Server {
         plan,
         task: server,
         requests: requests.as_slice(),
     };
-    let count = all_jobs_below(plan, ticks);
+    let count = count_jobs(plan, ticks);
     if count > MOST_JOBS {
         return Err(PollFault::TooManyJobs { count });
     }

@@ -1,9 +1,7 @@
 // A polling server.
-ghost use Rattle.std.specs.Prelude.{◌≡◌, ◌+◌, ◌-◌, ◌<◌, ◌≤◌, ◌^◌};
-ghost use Rattle.dvs_base.specs.declared.limits.TheConstants.{MOST_JOBS, MOST_TICKS};
-ghost use Rattle.grid_fraction.specs.Numbers.{ceil_div};
-ghost use Rattle.sched_model.specs.Plan.{count, period, offset};
-ghost use Rattle.sched_model.specs.Jobs.{released_jobs};
+ghost use Rattle.std.specs.Prelude.{◌≡◌, ◌+◌, ◌<◌, ◌≤◌};
+ghost use Rattle.dvs_base.specs.declared.limits.TheConstants.{MOST_JOBS};
+ghost use Rattle.sched_model.specs.Plan.{count};
 ghost use Rattle.task_model.specs.declared.limits.TheConstants.{MOST_WORK};
 ghost use Rattle.poll_server.specs.Serving.{budget, job_release};
 
@@ -29,30 +27,6 @@ impl<'a> Model for Server<'a> {
     ghost invariant = { λ s. Unit {0} };
 }
 
-/// How many jobs of a task are released below `ticks`.
-pub(crate) fn jobs_below(plan: &Admitted, task: u32, ticks: u64) -> u64
-    requires task { task < count plan.now }
-    requires ticks { ticks ≤ MOST_TICKS }
-    ensures jobs { result ≡ ceil_div (ticks - offset plan.now task) (period plan.now task) }
-    ensures low { result ≤ 2 ^ 41 }
-{
-    plan.known();
-    let span = ticks.saturating_sub(plan.offset(task));
-    span.div_ceil(plan.period(task))
-}
-
-/// How many jobs of all tasks are released below `ticks`.
-pub(crate) fn all_jobs_below(plan: &Admitted, ticks: u64) -> u64
-    requires { ticks ≤ MOST_TICKS }
-    ensures { result ≡ released_jobs plan.now ticks }
-{
-    let mut jobs = 0;
-    for task in 0..plan.count() {
-        jobs += jobs_below(plan, task, ticks);
-    }
-    jobs
-}
-
 impl<'a> Server<'a> {
     /// The most work units that one job takes.
     pub(crate) fn budget(&self) -> u64
@@ -60,7 +34,7 @@ impl<'a> Server<'a> {
         ensures budget { result ≡ budget self.now }
         ensures low { result ≤ MOST_WORK }
     {
-        self.plan.known();
+        let _scheduler = self.plan.scheduler();
         self.plan.declared(self.task)
     }
 

@@ -1,16 +1,15 @@
 // What the jobs of a server take.
-ghost use Rattle.std.specs.Prelude.{◌≡◌, ◌+◌, ◌<◌, ◌≤◌, ◌^◌, IfOk, [], map};
+ghost use Rattle.std.specs.Prelude.{◌≡◌, ◌+◌, ◌<◌, ◌≤◌, IfOk};
 ghost use Rattle.dvs_base.specs.declared.limits.TheConstants.{MOST_JOBS};
 ghost use Rattle.request_list.specs.Requests.{AreRequests};
 ghost use Rattle.sched_model.specs.Plan.{count};
-ghost use Rattle.event_kernel.specs.Runs.{IsListOf};
 ghost use Rattle.poll_server.specs.Serving.{server_of, arrived, job_release, taken};
 ghost use Rattle.poll_server.specs.Walking.{HasPassed, StandsAfter, IsServable};
 
 use crate::server::Server;
 use demand_list::Demands;
 use dvs_base::NoMemory;
-use sched_model::Admitted;
+use event_kernel::worst_demands;
 use std::alloc::Global;
 
 // Where a server stands after some of its jobs: the next request that hasn't arrived, the units of those before it, and
@@ -54,18 +53,6 @@ impl Waiting {
     }
 }
 
-// The demand list of a plan without rows.
-fn worst_demands(alloc: Global, plan: &Admitted) -> Result<Demands, NoMemory>
-    ensures list { IfOk result (IsListOf plan.now) }
-    ensures rows { IfOk result (λ d. d.rows ≡ []) }
-{
-    let mut worsts = Vec::new(alloc);
-    for task in 0..plan.count() {
-        worsts.push(plan.declared(task)).map_err(|_| NoMemory)?;
-    }
-    Demands::worst_only(alloc, &worsts)
-}
-
 /// The demand list in which the first `jobs` jobs of a server take what waits for them, and every other job needs its
 /// worst case.
 pub(crate) fn polled_demands(
@@ -78,7 +65,7 @@ pub(crate) fn polled_demands(
     requires few { jobs ≤ MOST_JOBS }
     ensures { IfOk result (IsServable server.now jobs) }
 {
-    server.plan.known();
+    let _scheduler = server.plan.scheduler();
     let mut demands = worst_demands(alloc, server.plan)?;
     let mut waiting = Waiting {
         next: 0,

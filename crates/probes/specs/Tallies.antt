@@ -1,6 +1,7 @@
 -- What notes do to a probe, which is seen as its rule and its tally, and to a list of probes.
-use Rattle.std.specs.Prelude.{ℕ, ◌+◌, ◌-◌, ◌^◌, min, Bool, true, false, List, [], ◌∷◌, nat_eq, nat_le}
+use Rattle.std.specs.Prelude.{ℕ, ◌+◌, ◌-◌, min, Bool, true, false, List, [], ◌∷◌, nat_eq, nat_le}
 use Rattle.std.specs.Prelude.{Option, Some, None, if◌then◌else◌}
+use Rattle.dvs_base.specs.Widths.{u64_end}
 use Rattle.dvs_base.specs.declared.note.Note.{Note}
 use Rattle.dvs_base.specs.declared.note.Note.TheVariants.{Release, Speed, Run, Idle, Done, End}
 use Rattle.probes.specs.declared.rule.What.{What}
@@ -46,7 +47,7 @@ weight rule note = if is_about rule.task (task_of note) then weight_of_kind rule
 
 -- the highest count
 abbrev pub most : ℕ
-most = 2 ^ 64 - 1
+most = u64_end - 1
 
 -- a count stops at the highest
 abbrev pub capped : ℕ → ℕ

@@ -11,37 +11,20 @@ use Rattle.dvs_base.specs.declared.note.Totals.{Totals}
 use Rattle.dvs_base.specs.declared.limits.TheConstants.{MOST_JOBS}
 use Rattle.task_model.specs.DemandRows.{DemandRow}
 use Rattle.sched_model.specs.Plan.{Plan, count, worst}
-use Rattle.sched_model.specs.Ticks.{Tick}
-use Rattle.grid_fraction.specs.declared.Frac.{Frac}
 use Rattle.sched_model.specs.Jobs.{released_jobs}
 use Rattle.sched_model.specs.Demands.{demand_of}
-use Rattle.sched_model.specs.Notes.{notes_of}
 use Rattle.sched_model.specs.Totals.{totals_of}
 use Rattle.sched_model.specs.Admission.{IsWithinLimits}
 use Rattle.trace_reader.specs.Traces.{TraceOf, is_end}
 use Rattle.replay_laws.specs.FixedDemands.{fixed_of}
 use Rattle.replay_laws.specs.OwnList.{Asking, ticks_by, AreNotesFor, AreOwn, HasOwnList}
-use Rattle.replay_laws.proofs.FitNotes.{IsBeforeEnd}
-use Rattle.replay_laws.proofs.OneEnd.{EndsOnce, notes-end-once}
+use Rattle.replay_laws.proofs.OneEnd.{EndsOnce, schedule-ended}
 use Rattle.replay.specs.Comparing.{same_note, line_of, first_unequal, FirstUnequal, differs, unless_unequal}
 use Rattle.replay.specs.Replays.{first_over, too_many, unless, own_notes, replay_of, IsCause, IsReplayed, IsFirstDifference}
 use Rattle.replay.specs.declared.fault.ReplayFault.{ReplayFault}
 use Rattle.replay.specs.declared.fault.ReplayFault.TheVariants as fault
 use Rattle.replay.proofs.Comparing.{same-self, compared-same}
 use Rattle.replay.proofs.Fixing.{over-fit, fit-over}
-
--- the notes of a schedule end once
-pub schedule-ended : (p : Plan) → IsWithinLimits p → (dem : ℕ → ℕ → ℕ) (ask : List Tick → Frac) (ticks : List Tick)
-    → EndsOnce is_end (notes_of p dem ask ticks)
-schedule-ended p lim dem ask = notes-end-once p lim dem ask is_end (λ ticks run idle. refl) others
-  where
-    others : (n : Note) → IsBeforeEnd p dem n → is_end n ≡ false
-    others (Done q i k used) h = refl
-    others (End ticks run idle) h = absurd h
-    others (Release tick i k) h = refl
-    others (Speed tick f num den) h = refl
-    others (Run from to i k units energy) h = refl
-    others (Idle from to units energy) h = refl
 
 -- notes that are the same by their test are equal
 pub same-is : (m n : Note) → same_note m n ≡ true → m ≡ n

@@ -1,34 +1,25 @@
 -- The demands that notes fix, note by note.
-use Rattle.std.proofs.Common.{◌≡◌, ◌+◌, ◌-◌, ◌*◌, ◌<◌, ◌≤◌, ℕ, zero, suc, Bool, true, false, ◌&&◌, List, [], ◌∷◌, length, drop, get_or, refl, if◌then◌else◌, ap, ◌∙◌, sym, subst, true≢false, arith, add-one, nat_eq}
-use Rattle.std.specs.Prelude.{nat_lt, Option, Some, None, is_some, unwrap_or, option_map}
+use Rattle.std.proofs.Common.{◌≡◌, ◌+◌, ◌-◌, ◌*◌, ◌<◌, ◌≤◌, ℕ, zero, suc, Bool, true, false, ◌&&◌, List, [], ◌∷◌, length, drop, get_or, refl, if◌then◌else◌, ap, ◌∙◌, sym, arith, add-one, nat_eq}
+use Rattle.std.specs.Prelude.{nat_lt, Option, Some, None, unwrap_or, option_map}
 use Rattle.std.specs.Option.{option_or}
 use Rattle.std.specs.List.{AllByRecursion}
 use Rattle.std.proofs.Math.Seq.{drop-cons}
 use Rattle.std.proofs.lemmas.Bool.Decides.{nat_tests}
 use Rattle.dvs_base.specs.declared.note.Note.{Note}
 use Rattle.dvs_base.specs.declared.note.Note.TheVariants.{Release, Speed, Run, Idle, Done, End}
-use Rattle.dvs_base.specs.declared.note.Pos.{Pos}
-use Rattle.task_model.specs.DemandRows.{DemandRow, named, demand_row}
-use Rattle.demand_list.specs.Demands.{DemandsOf, AddsRow}
+use Rattle.dvs_base.proofs.Options.{or-none, or-assoc}
+use Rattle.task_model.specs.DemandRows.{DemandRow, named}
+use Rattle.demand_list.specs.Demands.{DemandsOf}
 use Rattle.sched_model.specs.Plan.{Plan, worst}
 use Rattle.sched_model.specs.Demands.{demand_of}
 use Rattle.replay_laws.specs.FixedDemands.{fixed_before, fixed_of}
 use Rattle.replay_laws.specs.OwnList.{IsFit}
-use Rattle.replay_laws.proofs.FixedRows.{fixed-end, fixed-other}
 use Rattle.replay.specs.Replays.{first_over, Fixes}
 use Rattle.replay.specs.declared.fault.ReplayFault.TheVariants as fault
 
 -- what is left from a place on begins with what stands there
 pub drop-next : {A : Type 0} (l : List A) (i : ℕ) (x : A) → i < length l → drop i l ≡ get_or l i x ∷ drop (i + 1) l
 drop-next l i x lt = rw add-one (drop-cons l i x lt)
-
-or-none : {A : Type 0} (o : Option A) → option_or o None ≡ o
-or-none None = refl
-or-none (Some x) = refl
-
-or-assoc : {A : Type 0} (o p q : Option A) → option_or (option_or o p) q ≡ option_or o (option_or p q)
-or-assoc None p q = refl
-or-assoc (Some x) p q = refl
 
 -- where no end is over its worst case, each is fit
 pub over-fit : (p : Plan) (notes : List Note) → first_over p notes ≡ None → AllByRecursion (IsFit p) notes
@@ -58,50 +49,6 @@ fit-over p (End ticks run idle ∷ notes) fit = fit-over p notes fit.1
 fit-over p (Done q i k used ∷ notes) fit =
     let low : nat_lt (worst p i) used ≡ false = grind (arith, nat_tests, fit.0) in
     rw low (fit-over p notes fit.1)
-
--- the end of a job fixes its row, unless it has one
-pub fixes-end : (p : Plan) (q : Pos) (i k used : ℕ) (old new : DemandsOf) → 1 ≤ k
-    → AddsRow old new (demand_row i k (used - 2 * p.machine.charge))
-    → Fixes (fixed_before p (Done q i k used) []) old new
-fixes-end p q i k used old new some h j l = go (nat_eq i j && nat_eq k l) refl
-  where
-    go : (b : Bool) → (nat_eq i j && nat_eq k l) ≡ b
-        → named new.rows j l ≡ option_or (named old.rows j l) (named (fixed_before p (Done q i k used) []) j l)
-    go true e =
-        let task : i ≡ j = grind (arith, nat_tests, e) in
-        let job : k ≡ l = grind (arith, nat_tests, e) in
-        let own : named new.rows i k ≡ option_or (named old.rows i k) (named (fixed_before p (Done q i k used) []) i k) =
-        rw (h.row, h.free, fixed-end p q i k used some) refl in
-        subst (λ (m : ℕ). named new.rows m l ≡ option_or (named old.rows m l) (named (fixed_before p (Done q i k used) []) m l)) task
-        (subst (λ (m : ℕ). named new.rows i m ≡ option_or (named old.rows i m) (named (fixed_before p (Done q i k used) []) i m)) job own)
-    go false e =
-        let other : (j ≡ i) → (l ≡ k) → ⊥ = λ t u. true≢false (grind (arith, nat_tests, t, u, e)) in
-        rw (h.others j l other, fixed-other p q i k used j l other, or-none (named old.rows j l)) refl
-
--- a job that has a row keeps it
-pub fixes-none : (p : Plan) (q : Pos) (i k used : ℕ) (old : DemandsOf) → is_some (named old.rows i k) ≡ true
-    → Fixes (fixed_before p (Done q i k used) []) old old
-fixes-none p q i k used old has j l = go (nat_eq i j && nat_eq k l) refl
-  where
-    keeps : (o more : Option ℕ) → is_some o ≡ true → o ≡ option_or o more
-    keeps None more e = absurd (true≢false (sym e))
-    keeps (Some u) more e = refl
-
-    go : (b : Bool) → (nat_eq i j && nat_eq k l) ≡ b
-        → named old.rows j l ≡ option_or (named old.rows j l) (named (fixed_before p (Done q i k used) []) j l)
-    go true e =
-        let task : i ≡ j = grind (arith, nat_tests, e) in
-        let job : k ≡ l = grind (arith, nat_tests, e) in
-        keeps (named old.rows j l) _
-        (subst (λ (m : ℕ). is_some (named old.rows j m) ≡ true) job
-        (subst (λ (m : ℕ). is_some (named old.rows m k) ≡ true) task has))
-    go false e =
-        let other : (j ≡ i) → (l ≡ k) → ⊥ = λ t u. true≢false (grind (arith, nat_tests, t, u, e)) in
-        rw (fixed-other p q i k used j l other) (sym (or-none (named old.rows j l)))
-
--- nothing is fixed
-pub fixes-nothing : (old : DemandsOf) → Fixes [] old old
-fixes-nothing old i k = sym (or-none (named old.rows i k))
 
 -- a note fixes its row before those of the notes after it
 fixed-first : (p : Plan) (n : Note) (rows : List DemandRow) (i k : ℕ)

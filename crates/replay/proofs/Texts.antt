@@ -6,11 +6,7 @@ use Rattle.dvs_base.specs.declared.note.Note.{Note}
 use Rattle.task_model.specs.declared.task.Task.{Task}
 use Rattle.task_model.specs.Tasks.{task_at, IsTaskSet}
 use Rattle.dvs_base.specs.declared.note.Note.TheVariants.{Release, Speed, Run, Idle, Done, End}
-use Rattle.dvs_base.specs.declared.kind.GovernorKind.{GovernorKind}
-use Rattle.dvs_base.specs.declared.kind.Version.TheVariants.{One}
-use Rattle.sched_model.specs.Plan.{Plan, names}
-use Rattle.sched_model.specs.Text.{run_notes, run_text}
-use Rattle.trace_reader.specs.Traces.{TraceOf, IsNoteOf, text_of}
+use Rattle.trace_reader.specs.Traces.{IsNoteOf}
 use Rattle.replay.specs.Replays.{NamesTask}
 
 -- a note of a trace for so many tasks names one of them
@@ -36,16 +32,3 @@ names-distinct tasks h i j d lt high same =
     let long : length (map (λ (t : Task). t.name) tasks) ≡ length tasks = length-map tasks (λ (t : Task). t.name) in
     let last : j < length tasks = omega (arith, high, long) in
     h.distinct i j lt last (sym (name-at tasks i d (omega (arith, lt, last))) ∙ (same ∙ name-at tasks j d last))
-
--- the trace of a run, in version 1
-abbrev pub run_trace : Plan → GovernorKind → (ℕ → ℕ → ℕ) → ℕ → TraceOf
-run_trace p kind dem ticks = record {
-  version = One;
-  plan = record { scheduler = p.scheduler; governor = kind; ticks = ticks };
-  notes = run_notes p kind dem ticks;
-}
-
--- its text is that of the run
-pub text-of-run : (p : Plan) (kind : GovernorKind) (dem : ℕ → ℕ → ℕ) (ticks : ℕ) (lines : List (List ℕ))
-    → text_of (names p) lines (run_trace p kind dem ticks) ≡ run_text p kind dem ticks
-text-of-run p kind dem ticks lines = refl

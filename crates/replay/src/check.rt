@@ -22,7 +22,6 @@ use crate::ends::{first_over, fixed_demands};
 use dvs_base::{Note, Totals, Version};
 use event_kernel::{Kernel, Stopped};
 use governor::Governor;
-use replay_laws::own_list;
 use sched_model::Admitted;
 use std::alloc::Global;
 use trace_reader::Trace;
@@ -67,7 +66,7 @@ fn compare<G: Governor>(
     requires ended { IsEnded trace.now.notes }
     ensures { result ≡ compared (count plan.now) trace.now (notes_of_run G.demand kernel.entry) }
 {
-    plan.known();
+    let _scheduler = plan.scheduler();
     let mut compared = Compared {
         rest: &trace.notes,
         wanted: None,
@@ -143,7 +142,6 @@ pub fn replay<G: Governor>(
         → IsErrOf result (ReplayFault.Differs line wanted found)
         → IsFirstDifference plan.now (ask_of G.demand plan.now) trace.now line wanted found }
 {
-    plan.known();
-    own_list(plan);
+    let _scheduler = plan.scheduler();
     check(alloc, plan, trace, governor)
 }

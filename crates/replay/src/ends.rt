@@ -1,5 +1,5 @@
 // The ends of jobs that notes tell, and the demands that they fix.
-ghost use Rattle.std.specs.Prelude.{◌≡◌, ◌<◌, ◌≤◌, ◌^◌, ℕ, [], ◌∷◌, map, length, OnOk, IfOk, None, vec_len};
+ghost use Rattle.std.specs.Prelude.{◌≡◌, [], OnOk, IfOk, None};
 ghost use Rattle.std.specs.List.{AllByRecursion};
 ghost use Rattle.task_model.specs.DemandRows.{named};
 ghost use Rattle.sched_model.specs.Plan.{count};
@@ -12,6 +12,7 @@ ghost use Rattle.replay.specs.Replays.{NamesTask, over_in, first_over, Fixes};
 use crate::ReplayFault;
 use demand_list::Demands;
 use dvs_base::{NoMemory, Note};
+use event_kernel::worst_demands;
 use sched_model::Admitted;
 use std::alloc::Global;
 
@@ -55,20 +56,6 @@ pub(crate) fn first_over(plan: &Admitted, notes: &[Note]) -> Option<ReplayFault>
     None
 }
 
-// The declared worst cases of the tasks of a plan.
-fn worst_cases(alloc: Global, plan: &Admitted) -> Result<Vec<u64>, NoMemory>
-    ensures worsts { IfOk result (λ v. v.items ≡ map (λ t. t.worst) plan.now.tasks) }
-    ensures few { IfOk result (λ v. vec_len v < 2 ^ 32) }
-{
-    let mut worsts = Vec::new(alloc);
-    for task in 0..plan.count() {
-        if worsts.push(plan.declared(task)).is_err() {
-            return Err(NoMemory);
-        }
-    }
-    Ok(worsts)
-}
-
 // Adds what a note fixes: the end of a job that has no row fixes its units, without the charge.
 fn fix(plan: &Admitted, note: &Note, demands: &mut Demands) -> Result<(), NoMemory>
     requires task { NamesTask (count plan.now) note.now }
@@ -99,8 +86,7 @@ pub fn fixed_demands(alloc: Global, plan: &Admitted, notes: &[Note]) -> Result<D
     ensures list { IfOk result (IsListOf plan.now) }
     ensures demands { IfOk result (λ d. demand_of plan.now d.rows ≡ demand_of plan.now (fixed_of plan.now notes.now)) }
 {
-    let worsts = worst_cases(alloc, plan)?;
-    let mut demands = Demands::worst_only(alloc, &worsts)?;
+    let mut demands = worst_demands(alloc, plan)?;
     for note in notes {
         fix(plan, note, &mut demands)?;
     }

@@ -44,12 +44,12 @@ fn replayed(
     plan: &Admitted,
     text: &[u8],
 ) -> Result<Result<Totals, ReplayFault>, Fail> {
-    plan.known();
+    let scheduler = plan.scheduler();
     let trace = match read_trace(alloc, text, plan.names()) {
         Ok(trace) => trace,
         Err(_) => return Err("trace".into()),
     };
-    if trace.plan.scheduler != plan.scheduler() || trace.plan.governor != GovernorKind::Plain {
+    if trace.plan.scheduler != scheduler || trace.plan.governor != GovernorKind::Plain {
         return Err("plan of the trace".into());
     }
     let governor = Full::new(alloc, plan).map_err(|_| "governor")?;

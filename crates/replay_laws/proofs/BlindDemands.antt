@@ -9,7 +9,7 @@ use Rattle.grid_fraction.proofs.Sums.{sum_below-same}
 use Rattle.sched_model.specs.Plan.{Plan, count, period, worst, hyper, rate, top_speed}
 use Rattle.sched_model.specs.Jobs.{latest, deadline, earliest, last_release}
 use Rattle.sched_model.specs.Ticks.{Tick, at, is_complete, wleft}
-use Rattle.sched_model.specs.Priority.{stands_before, sum_before, allotment}
+use Rattle.sched_model.specs.Priority.{sum_before}
 use Rattle.sched_model.specs.Order.{in_order}
 use Rattle.sched_model.specs.StaticDemand.{static_speed}
 use Rattle.sched_model.specs.CycleDemand.{charged, edf_cycle, allotted, had_since_release, allotment_left, rm_cycle}
@@ -17,18 +17,11 @@ use Rattle.sched_model.specs.AheadDemand.{first_due, slack, put_off, spread_rate
 use Rattle.sched_model.specs.Demand.{demand_by, published}
 use Rattle.sched_model.specs.Admission.{IsWithinLimits}
 use Rattle.sched_model.proofs.OrderLemmas.{AreBelow, in_order-below}
+use Rattle.sched_model.proofs.Allotments.{allotment-same}
 use Rattle.replay_laws.proofs.Alike.{Alike, IsBlind}
 use Rattle.replay_laws.proofs.SameState.{latest-early, same-complete, same-wleft, alike-marked}
 
--- an allotment reads the needs of the tasks alone
-allotment-reads : (n : ℕ) (key : ℕ → ℕ) (room : ℕ) (need other : ℕ → ℕ) → ((j : ℕ) → j < n → need j ≡ other j)
-    → (i : ℕ) → i < n → allotment n key room need i ≡ allotment n key room other i
-allotment-reads n key room need other same i lt =
-    ap₂ (λ a b. min room (a + b) - min room a)
-    (sum_below-same n _ _ (λ j l. ap (λ (v : ℕ). if stands_before key j i then v else 0) (same j l)))
-    (same i lt)
-
--- and so does what look-ahead puts off
+-- what look-ahead puts off reads the needs of the tasks alone
 module _ (p : Plan) (due left other : ℕ → ℕ) (same : (i : ℕ) → i < count p → left i ≡ other i) where
   put_off-reads : (after i : ℕ) → i < count p → put_off p due left after i ≡ put_off p due other after i
   put_off-reads after i lt =
@@ -72,7 +65,7 @@ module _ (p : Plan) (lim : IsWithinLimits p) (dem other : ℕ → ℕ → ℕ) (
   allotted-same : (i : ℕ) → i < count p → allotted p dem past i ≡ allotted p other past i
   allotted-same i lt =
       let r = last_release p (length past) in
-      allotment-reads (count p) (period p) ((earliest p r - r) * static_speed p) (wleft p dem (at r past)) (wleft p other (at r past))
+      allotment-same (count p) (period p) ((earliest p r - r) * static_speed p) (wleft p dem (at r past)) (wleft p other (at r past))
       (same-wleft p lim dem other (at r past) (alike-marked p lim dem other past h)) i lt
 
   rm_cycle-same : rm_cycle p dem past ≡ rm_cycle p other past

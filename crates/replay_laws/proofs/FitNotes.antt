@@ -17,12 +17,13 @@ use Rattle.sched_model.specs.Admission.{IsWithinLimits}
 use Rattle.sched_model.specs.Segments.{Span, spans_of, Piece, pieces_of, position_of}
 use Rattle.sched_model.specs.Notes.{release_notes, all_release_notes, had_by, segment_notes, pieces_notes, span_notes, energy_run, energy_idle, notes_before_end, notes_of}
 use Rattle.sched_model.proofs.NoteLemmas.{flat_map-last}
+use Rattle.sched_model.proofs.PieceLemmas.{each-piece}
 use Rattle.trace_text.proofs.PlainLines.{each-append}
 use Rattle.demand_list.specs.Demands.{IsDemands, IsRow}
 use Rattle.demand_list.proofs.Worsts.{worst-listed, worsts-long}
 use Rattle.replay_laws.specs.FixedDemands.{fixed_of, fixed_list}
 use Rattle.replay_laws.specs.OwnList.{IsFit}
-use Rattle.replay_laws.proofs.HeldUnits.{IsHeldBefore, each-weaker, each-piece, spans-held}
+use Rattle.replay_laws.proofs.HeldUnits.{IsHeldBefore, each-weaker, spans-held}
 use Rattle.replay_laws.proofs.FixedNotes.{each-flat}
 use Rattle.replay_laws.proofs.OwnDemands.{demand-row, demand-none}
 

@@ -1,5 +1,5 @@
 -- The units of a schedule are held by jobs of the plan that have been released.
-use Rattle.std.proofs.Common.{◌+◌, ◌-◌, ◌<◌, ◌≤◌, ℕ, zero, suc, Bool, true, false, List, [], ◌∷◌, length, replicate, flat_map, if◌then◌else◌, arith}
+use Rattle.std.proofs.Common.{◌-◌, ◌<◌, ◌≤◌, ℕ, suc, Bool, true, false, List, [], ◌∷◌, length, replicate, flat_map, if◌then◌else◌, arith}
 use Rattle.std.specs.List.{AllByRecursion}
 use Rattle.sched_model.specs.declared.holder.Holder.{Holder}
 use Rattle.sched_model.specs.declared.holder.Holder.TheVariants.{Nobody, Held}
@@ -11,19 +11,15 @@ use Rattle.sched_model.specs.Priority.{key_of}
 use Rattle.sched_model.specs.Order.{in_order}
 use Rattle.sched_model.specs.Decision.{is_decision}
 use Rattle.sched_model.specs.Admission.{IsWithinLimits}
-use Rattle.sched_model.specs.Segments.{same_holder, units_of, Span, lengthened, spans_of, Piece, before_pieces, pieces_of}
+use Rattle.sched_model.specs.Segments.{units_of, Span, lengthened, spans_of}
 use Rattle.sched_model.proofs.OrderLemmas.{AreBelow, in_order-below}
-use Rattle.trace_text.proofs.PlainLines.{each-append}
+use Rattle.trace_text.proofs.PlainLines.{each-append, each-replicate}
 use Rattle.replay_laws.proofs.SameState.{latest-early}
 
 -- what follows from a fact of each is a fact of each
 pub each-weaker : {A : Type 0} (P Q : A → Type 0) → ((x : A) → P x → Q x) → (xs : List A) → AllByRecursion P xs → AllByRecursion Q xs
 each-weaker P Q h [] all = tt
 each-weaker P Q h (x ∷ xs) all = (h x all.0, each-weaker P Q h xs all.1)
-
-each-replicate : {A : Type 0} (P : A → Type 0) (n : ℕ) (x : A) → P x → AllByRecursion P (replicate n x)
-each-replicate P zero x h = tt
-each-replicate P (suc n) x h = (h, each-replicate P n x h)
 
 -- the holder is a job of a task of the plan that is released before tick t
 abbrev pub IsHeldBefore : Plan → ℕ → Holder → Type 0
@@ -79,18 +75,3 @@ module _ (p : Plan) (lim : IsWithinLimits p) where
           else lengthened (units_of p past x) (spans_of p dem past))
       go true held = (units-held past x, held)
       go false held = held-lengthened (length (x ∷ past)) (units_of p past x) (spans_of p dem past) (units-held past x) held
-
--- what holds of each unit holds of each segment
-each-before : (P : Holder → Type 0) (h : Holder) (rs : List Piece) → P h
-    → AllByRecursion (λ (r : Piece). P r.holder) rs → AllByRecursion (λ (r : Piece). P r.holder) (before_pieces h rs)
-each-before P h [] here all = (here, tt)
-each-before P h (r ∷ rs) here all = go (same_holder h r.holder)
-  where
-    go : (b : Bool) → AllByRecursion (λ (q : Piece). P q.holder)
-        (if b then record { holder = h; units = r.units + 1 } ∷ rs else record { holder = h; units = 1 } ∷ r ∷ rs)
-    go true = (here, all.1)
-    go false = (here, all)
-
-pub each-piece : (P : Holder → Type 0) (us : List Holder) → AllByRecursion P us → AllByRecursion (λ (r : Piece). P r.holder) (pieces_of us)
-each-piece P [] all = tt
-each-piece P (u ∷ us) all = each-before P u (pieces_of us) all.0 (each-piece P us all.1)

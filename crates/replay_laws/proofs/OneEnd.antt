@@ -3,12 +3,13 @@ use Rattle.std.proofs.Common.{◌≡◌, ℕ, Bool, true, false, List, [], ◌�
 use Rattle.std.specs.Prelude.{sum_by}
 use Rattle.std.specs.List.{AllByRecursion}
 use Rattle.dvs_base.specs.declared.note.Note.{Note}
-use Rattle.dvs_base.specs.declared.note.Note.TheVariants.{End}
+use Rattle.dvs_base.specs.declared.note.Note.TheVariants.{Release, Speed, Run, Idle, Done, End}
 use Rattle.grid_fraction.specs.declared.Frac.{Frac}
 use Rattle.sched_model.specs.Plan.{Plan}
 use Rattle.sched_model.specs.Ticks.{Tick}
 use Rattle.sched_model.specs.Admission.{IsWithinLimits}
 use Rattle.sched_model.specs.Notes.{energy_run, energy_idle, notes_before_end, notes_of}
+use Rattle.trace_reader.specs.Traces.{is_end}
 use Rattle.replay_laws.proofs.FitNotes.{IsBeforeEnd, before-end-each}
 use Rattle.replay_laws.proofs.HeldUnits.{each-weaker}
 
@@ -31,12 +32,18 @@ ends-once test [] last none ends = ends
 ends-once test (x ∷ []) last none ends = (none.0, ends)
 ends-once test (x ∷ y ∷ front) last none ends = (none.0, ends-once test (y ∷ front) last none.1 ends)
 
--- the notes of a schedule end once, by any test for the end of a run
-pub notes-end-once : (p : Plan) → IsWithinLimits p → (dem : ℕ → ℕ → ℕ) (ask : List Tick → Frac) (test : Note → Bool)
-    → ((ticks run idle : ℕ) → test (End ticks run idle) ≡ true) → ((n : Note) → IsBeforeEnd p dem n → test n ≡ false)
-    → (ticks : List Tick) → EndsOnce test (notes_of p dem ask ticks)
-notes-end-once p lim dem ask test is others ticks =
+-- the notes of a schedule end once
+pub schedule-ended : (p : Plan) → IsWithinLimits p → (dem : ℕ → ℕ → ℕ) (ask : List Tick → Frac) (ticks : List Tick)
+    → EndsOnce is_end (notes_of p dem ask ticks)
+schedule-ended p lim dem ask ticks =
     let notes : List Note = notes_before_end p dem ask ticks in
-    ends-once test notes (End (length ticks) (sum_by energy_run notes) (sum_by energy_idle notes))
-    (each-weaker (IsBeforeEnd p dem) (λ n. test n ≡ false) others notes (before-end-each p lim dem ask ticks))
-    (is (length ticks) (sum_by energy_run notes) (sum_by energy_idle notes))
+    ends-once is_end notes (End (length ticks) (sum_by energy_run notes) (sum_by energy_idle notes))
+    (each-weaker (IsBeforeEnd p dem) (λ n. is_end n ≡ false) others notes (before-end-each p lim dem ask ticks)) refl
+  where
+    others : (n : Note) → IsBeforeEnd p dem n → is_end n ≡ false
+    others (Release tick i k) h = refl
+    others (Speed tick f num den) h = refl
+    others (Run from to i k units energy) h = refl
+    others (Idle from to units energy) h = refl
+    others (Done q i k used) h = refl
+    others (End ticks run idle) h = absurd h

@@ -11,8 +11,9 @@ use Rattle.sched_model.specs.Schedule.{IsNext, IsScheduleBy}
 use Rattle.sched_model.specs.Admission.{IsWithinLimits}
 use Rattle.sched_model.proofs.Limits.{every_period}
 use Rattle.sched_model.proofs.JobLaws.{exec-legal}
+use Rattle.sched_model.proofs.Service.{share-legal}
 use Rattle.sched_model.proofs.LevelSums.{share-most, sum_where-mono}
-use Rattle.sched_model.proofs.PriorityLemmas.{allotment_of}
+use Rattle.sched_model.proofs.Allotments.{allotment_of}
 use Rattle.sched_model.proofs.GreedyLemmas.{up_to-before}
 use Rattle.replay_laws.specs.OwnList.{Asking}
 use Rattle.replay_laws.proofs.Alike.{Indistinct, Alike, IsBlind, alike-earlier}
@@ -74,7 +75,7 @@ module _ (p : Plan) (lim : IsWithinLimits p) (dem other : ℕ → ℕ → ℕ) (
 
       had : exec p (x ∷ past) i k ≡ exec p past i k + share x i
       had = exec-legal p dem x past i (every_period p lim i) (none i)
-          (share-most (count p) (key_of p.scheduler p (length past)) f (left p dem past) (share x) legal i lt)
+          (share-legal p dem past f x legal i lt)
 
       go : (b : Bool) → is_done p dem (x ∷ past) i k ≡ b → NeedsAlike (left p dem past) (left p other past) (share x) i
       go true e = inl (ap (λ n. n - exec p past i k) (now.0 e))

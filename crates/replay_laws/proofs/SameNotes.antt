@@ -21,11 +21,12 @@ use Rattle.sched_model.specs.Segments.{same_holder, units_of, Span, lengthened, 
 use Rattle.sched_model.specs.Notes.{release_notes, all_release_notes, had_by, segment_notes, pieces_notes, span_notes, energy_run, energy_idle, notes_before_end, notes_of}
 use Rattle.sched_model.proofs.JobLaws.{exec-none}
 use Rattle.sched_model.proofs.NoteLemmas.{notes-span}
+use Rattle.sched_model.proofs.PieceLemmas.{each-piece}
 use Rattle.done_lines.proofs.DoneSpans.{IsLastSpan, last-span}
 use Rattle.replay_laws.specs.OwnList.{Asking}
 use Rattle.replay_laws.proofs.Alike.{Indistinct, Alike, IsBlind, alike-before, alike-earlier}
 use Rattle.replay_laws.proofs.SameState.{latest-early, same-decision}
-use Rattle.replay_laws.proofs.HeldUnits.{IsHeldBefore, each-weaker, each-piece, spans-held}
+use Rattle.replay_laws.proofs.HeldUnits.{IsHeldBefore, each-weaker, spans-held}
 
 -- both functions give one list for the numbers below n
 flat_map-same : (n : ℕ) (f g : ℕ → List Note) → ((i : ℕ) → i < n → f i ≡ g i) → flat_map f (list_below n (λ i. i)) ≡ flat_map g (list_below n (λ i. i))
@@ -127,16 +128,13 @@ module _ (p : Plan) (lim : IsWithinLimits p) (dem other : ℕ → ℕ → ℕ) w
       ends-alike none Nobody held = tt
       ends-alike none (Held i k) held = go (is_done p dem (x ∷ past) i k) refl (had-now i k held.0 (none i))
         where
-          now : Indistinct p dem other (x ∷ past) i k
-          now = h i k held.0 held.1
-
           go : (b : Bool) → is_done p dem (x ∷ past) i k ≡ b → (dem i k ≡ other i k)
               ⊎ (had_in p s i k ≡ exec p (x ∷ past) i k) → EndsAlike p dem other s (Held i k)
-          go true e had = inl (now.0 e)
+          go true e had = inl ((h i k held.0 held.1).0 e)
           go false e (inl same) = inl same
           go false e (inr had) =
               let more : exec p (x ∷ past) i k < dem i k = grind (arith, nat_tests, e) in
-              let more_other : exec p (x ∷ past) i k < other i k = now.1 e in
+              let more_other : exec p (x ∷ past) i k < other i k = (h i k held.0 held.1).1 e in
               inr (omega (arith, had, more), omega (arith, had, more_other))
 
       units-alike : ((i : ℕ) → dem i 0 ≡ other i 0) → AllByRecursion (EndsAlike p dem other s) s.units

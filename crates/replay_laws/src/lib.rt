@@ -4,15 +4,3 @@
 //! job's demand before its end, the schedule for that list is the same tick for tick, and so are its notes. So notes are
 //! those of a schedule for some demand list exactly where they are those for the list that they fix.
 #![tactic(auto)]
-
-ghost use Rattle.replay_laws.specs.OwnList.{OwnLists};
-
-use sched_model::Admitted;
-
-/// For whatever a governor makes of the states and for each published demand: no schedule looks into a job's demand, and
-/// notes are those of the schedule for some demand list exactly where they are those for the list that they fix.
-pub fn own_list(plan: &Admitted)
-    ensures { OwnLists plan.now }
-{
-    plan.known();
-}

@@ -13,16 +13,6 @@ pub record AreRequestsTo (requests : List Request) (last : ℕ) : Type 0 where
   pub are : AreRequests requests
   pub by_then : (m : ℕ) → m < length requests → (request_at requests m).arrival ≤ last
 
-pub none-are : AreRequestsTo [] 0
-none-are = record {
-  are = record {
-    few = omega arith;
-    each = λ m lt. absurd (omega arith);
-    in_order = λ m n before lt. absurd (omega arith);
-  };
-  by_then = λ m lt. absurd (omega arith);
-}
-
 module _ (requests : List Request) (r : Request) where
   at-before : (m : ℕ) → m < length requests → request_at (requests ++ r ∷ []) m ≡ request_at requests m
   at-before m lt = get_or_append_left requests (r ∷ []) no_request m lt

@@ -1,6 +1,7 @@
 -- What a request file means: the requests, or the first refusal.
-use Rattle.std.specs.Prelude.{ℕ, ◌+◌, ◌^◌, ◌==◌, ◌&&◌, ◌||◌, ◌++◌, Bool, false, nat_lt, List, [], ◌∷◌, length, codes, Option, Some, None, Result, Ok, Err, if◌then◌else◌}
+use Rattle.std.specs.Prelude.{ℕ, ◌+◌, ◌==◌, ◌&&◌, ◌||◌, ◌++◌, Bool, false, nat_lt, List, [], ◌∷◌, length, codes, Option, Some, None, Result, Ok, Err, if◌then◌else◌}
 use Rattle.std.specs.Str.{bytes_eq}
+use Rattle.dvs_base.specs.Widths.{u64_end}
 use Rattle.dvs_base.specs.Checks.{and_then}
 use Rattle.dvs_base.specs.Text.{number_below}
 use Rattle.csv.specs.Reading.{default_config, records, strip_bom}
@@ -34,8 +35,8 @@ in_order row earlier arrival = if nat_lt arrival earlier then Err (fault.Early r
 abbrev pub row_of : ℕ → ℕ → List (List ℕ) → Result Request RequestFault
 row_of row earlier fields =
     and_then (fields_from row (length fields) (two_of fields)) (λ two.
-    and_then (number_from row column.Arrival (number_below (2 ^ 64) two.0)) (λ arrival.
-    and_then (number_from row column.Units (number_below (2 ^ 64) two.1)) (λ number.
+    and_then (number_from row column.Arrival (number_below u64_end two.0)) (λ arrival.
+    and_then (number_from row column.Units (number_below u64_end two.1)) (λ number.
     and_then (units_from row number) (λ units.
     and_then (in_order row earlier arrival) (λ arrival. Ok (record { arrival = arrival; units = units }))))))
 

@@ -1,4 +1,8 @@
 // Why a request file is refused.
+ghost use Rattle.std.specs.Prelude.{◌≡◌};
+ghost use Rattle.request_list.specs.declared.fault.RequestFault.TheVariants as fault;
+
+use dvs_base::NoMemory;
 
 /// The columns of a request file.
 #[derive(Clone, Copy, Debug, PartialEq, Eq)]
@@ -26,4 +30,12 @@ pub enum RequestFault {
     Early { row: u64 },
     /// Memory ran out.
     NoMemory,
+}
+
+impl From<NoMemory> for RequestFault {
+    ghost from_gives = { λ _ e. e ≡ fault.NoMemory };
+
+    fn from(_e: NoMemory) -> RequestFault {
+        RequestFault::NoMemory
+    }
 }

@@ -1,5 +1,6 @@
 // Request files.
-ghost use Rattle.std.specs.Prelude.{ℕ, List, codes, ◌≡◌, ◌≤◌, ◌<◌, ◌^◌, ◌+◌, ◌∷◌, [], Ok, true, false, length, IfOk, IfErr, OnOk};
+ghost use Rattle.std.specs.Prelude.{List, codes, ◌≡◌, ◌≤◌, ◌<◌, [], Ok, length, IfOk, IfErr};
+ghost use Rattle.dvs_base.specs.Widths.{u64_end};
 ghost use Rattle.csv.specs.Reading.{default_config, records, strip_bom};
 ghost use Rattle.csv.specs.Records.{fields_of};
 ghost use Rattle.csv_text.specs.Records.{IsPlain, records_left};
@@ -30,7 +31,7 @@ fn is_header(fields: &ByteRecord) -> bool
 
 // A number of a row.
 fn number_in(row: u64, column: RequestColumn, field: &[u8]) -> Result<u64, RequestFault>
-    ensures { result ≡ number_from row column (number_below (2 ^ 64) field.now) }
+    ensures { result ≡ number_from row column (number_below u64_end field.now) }
 {
     match whole(field) {
         Some(number) => Ok(number),
@@ -64,20 +65,6 @@ fn read_row(row: u64, earlier: u64, fields: &ByteRecord) -> Result<Request, Requ
     Ok(Request { arrival, units })
 }
 
-// Reads the fields of the next record. False where there is none.
-fn next_row(reader: &mut Reader<&[u8]>, fields: &mut ByteRecord) -> Result<bool, RequestFault>
-    requires { IsPlain reader.old }
-    ensures some { result ≡ Ok true → records_left reader.old ≡ fields_of fields.new ∷ records_left reader.new }
-    ensures plain { result ≡ Ok true → IsPlain reader.new }
-    ensures none { result ≡ Ok false → records_left reader.old ≡ [] }
-    ensures err { IfErr result (λ e. e ≡ fault.NoMemory) }
-{
-    match next_record(reader, fields) {
-        Ok(found) => Ok(found),
-        Err(_) => Err(RequestFault::NoMemory),
-    }
-}
-
 // A reader of the rows of a file, after its header.
 fn rows_reader<'a>(
     alloc: Global,
@@ -89,11 +76,8 @@ fn rows_reader<'a>(
     ensures plain { IfOk result (λ reader. IsPlain reader) }
     ensures few { IfOk result (λ reader. length (records_left reader) ≤ length bytes.now) }
 {
-    let mut reader = match text_reader(alloc, bytes) {
-        Ok(reader) => reader,
-        Err(_) => return Err(RequestFault::NoMemory),
-    };
-    if next_row(&mut reader, fields)? && is_header(fields) {
+    let mut reader = text_reader(alloc, bytes)?;
+    if next_record(&mut reader, fields)? && is_header(fields) {
         return Ok(reader);
     }
     Err(RequestFault::Header)
@@ -102,12 +86,12 @@ fn rows_reader<'a>(
 // How many rows a reader has left.
 fn count_rows(reader: &mut Reader<&[u8]>, fields: &mut ByteRecord) -> Result<u64, RequestFault>
     requires plain { IsPlain reader.old }
-    requires few { length (records_left reader.old) < 2 ^ 64 }
+    requires few { length (records_left reader.old) < u64_end }
     ensures count { IfOk result (λ n. n ≡ length (records_left reader.old)) }
     ensures err { IfErr result (λ e. e ≡ fault.NoMemory) }
 {
     let mut count = 0;
-    while next_row(reader, fields)? {
+    while next_record(reader, fields)? {
         count += 1;
     }
     Ok(count)
@@ -128,7 +112,7 @@ fn read_rows(
     let mut requests = Vec::new(alloc);
     let mut row: u64 = 1;
     let mut earlier = 0;
-    while next_row(reader, fields)? {
+    while next_record(reader, fields)? {
         let request = read_row(row, earlier, fields)?;
         if requests.push(request).is_err() {
             return Err(RequestFault::NoMemory);

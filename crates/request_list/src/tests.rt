@@ -115,8 +115,13 @@ fn rows_text(rt: HostRuntime, rows: u64) -> Result<Vec<u8>, Fail> {
 #[test]
 fn too_many_rows_are_refused_before_each_row(rt: HostRuntime) -> Result<(), Fail> {
     for (rows, want) in [
-        (100_000, RequestFault::Range { row: 1 }),
-        (100_001, RequestFault::TooMany { count: 100_001 }),
+        (MOST_REQUESTS, RequestFault::Range { row: 1 }),
+        (
+            MOST_REQUESTS + 1,
+            RequestFault::TooMany {
+                count: MOST_REQUESTS + 1,
+            },
+        ),
     ] {
         let text = rows_text(rt, rows)?;
         let found = Requests::read(rt.alloc(), &text).err();

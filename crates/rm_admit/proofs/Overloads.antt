@@ -33,7 +33,8 @@ pub known_fails : (p : Plan) (m : ℕ) (first : Option ℕ) → Known p m first 
 known_fails p m None h fail = record {
   task = omega arith;
   fails = fail;
-  first = rw add-one (below_suc (λ k. stands_before (period p) k m ≡ true → level_work p k ≤ top_speed p * period p k) m (λ k lt b. h k lt) (λ b. absurd (true≢false (sym b ∙ before-self (period p) m))));
+  first = rw add-one (below_suc (λ k. stands_before (period p) k m ≡ true → level_work p k ≤ top_speed p * period p k) m
+      (λ k lt b. h k lt) (λ b. absurd (true≢false (sym b ∙ before-self (period p) m))));
 }
 known_fails p m (Some i) h fail = go (stands_before (period p) m i) refl
   where
@@ -47,5 +48,6 @@ known_fails p m (Some i) h fail = go (stands_before (period p) m i) refl
     go false e = record {
       task = omega (arith, h.task);
       fails = h.fails;
-      first = rw add-one (below_suc (λ k. stands_before (period p) k i ≡ true → level_work p k ≤ top_speed p * period p k) m h.first (λ b. absurd (true≢false (sym b ∙ e))));
+      first = rw add-one (below_suc (λ k. stands_before (period p) k i ≡ true → level_work p k ≤ top_speed p * period p k) m h.first
+          (λ b. absurd (true≢false (sym b ∙ e))));
     }

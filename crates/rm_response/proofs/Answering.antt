@@ -6,10 +6,10 @@ use Rattle.dvs_base.specs.declared.kind.Scheduler.TheVariants.{Rm}
 use Rattle.sched_model.specs.Plan.{Plan, count, period, offset}
 use Rattle.sched_model.specs.Admission.{IsWithinLimits}
 use Rattle.sched_model.proofs.Limits.{some_period}
-use Rattle.sched_model.proofs.ScheduleLemmas.{get_or-list_below}
-use Rattle.offsets.specs.Offsets.{IsFirstOffset}
+use Rattle.sched_model.proofs.Tables.{get-table}
+use Rattle.offsets.specs.Offsets.{NoneOffset, IsFirstOffset}
 use Rattle.offsets.proofs.Finding.{none-found, first-found}
-use Rattle.rm_response_laws.specs.Responses.{response, AllRespond, HasNoOffsets}
+use Rattle.rm_response_laws.specs.Responses.{response, AllRespond}
 use Rattle.rm_response_laws.specs.FirstJobs.{IsFirstDoneAt}
 use Rattle.rm_response_laws.proofs.Searching.{before-response}
 use Rattle.rm_response_laws.proofs.Responding.{first-at-response, first-misses}
@@ -37,17 +37,17 @@ module _ (p : Plan) where
       ap (λ o. answer_from p o (first_late (period p) (response p) (count p))) (first-found (offset p) (count p) i first)
 
   -- where none has one, the first that misses is
-  pub answer-misses : HasNoOffsets p → (i : ℕ) → IsFirstLate (period p) (response p) (count p) i
+  pub answer-misses : NoneOffset (offset p) (count p) → (i : ℕ) → IsFirstLate (period p) (response p) (count p) i
       → exact_answer p ≡ Err (misses_at p i)
   answer-misses none i first = ap₂ (answer_from p) (none-found (offset p) (count p) none) (late-found i first)
 
   -- and where all have responses, these are
-  pub answer-ok : HasNoOffsets p → AllRespond p → exact_answer p ≡ Ok (responses p)
+  pub answer-ok : NoneOffset (offset p) (count p) → AllRespond p → exact_answer p ≡ Ok (responses p)
   answer-ok none all = ap₂ (answer_from p) (none-found (offset p) (count p) none) (none-late-found all)
 
 module _ (p : Plan) (ticks : List ℕ) (are : ticks ≡ responses p) where
   ticks-at : (i : ℕ) → i < count p → slice_index ticks i ≡ response p i
-  ticks-at i h = ap (λ (xs : List ℕ). slice_index xs i) are ∙ get_or-list_below (count p) (response p) i h
+  ticks-at i h = ap (λ (xs : List ℕ). slice_index xs i) are ∙ get-table (count p) (response p) i 0 h
 
   pub none-late : NoneLate (period p) (slice_index ticks) (count p) → AllRespond p
   none-late none i h = omega (arith, none i h, ticks-at i h)
@@ -60,7 +60,7 @@ module _ (p : Plan) (ticks : List ℕ) (are : ticks ≡ responses p) where
     first = λ k h b. omega (arith, first.first k h b, ticks-at k h);
   }
 
-  pub denied-at : HasNoOffsets p → (i : ℕ) → IsFirstLate (period p) (slice_index ticks) (count p) i
+  pub denied-at : NoneOffset (offset p) (count p) → (i : ℕ) → IsFirstLate (period p) (slice_index ticks) (count p) i
       → IsResponseDenial p (misses_at p i)
   denied-at none i first = record { no_offset = none; first = first-late i first; num_is = refl; cap_is = refl }
 
@@ -70,7 +70,7 @@ module _ (p : Plan) (ticks : List ℕ) (are : ticks ≡ responses p) where
   shown-at lim i first =
       let late = first-late i first in before-response p i (period p i) (some_period p lim i late.task) late.late
 
-  module _ (lim : IsWithinLimits p) (rm : p.scheduler ≡ Rm) (none : HasNoOffsets p) where
+  module _ (lim : IsWithinLimits p) (rm : p.scheduler ≡ Rm) (none : NoneOffset (offset p) (count p)) where
     pub missed-at : (i : ℕ) → IsFirstLate (period p) (slice_index ticks) (count p) i → IsMissed p (misses_at p i)
     missed-at i first =
         let late = first-late i first in

@@ -17,14 +17,6 @@ module _ (period response : ℕ → ℕ) where
   itself : (i : ℕ) → InTime i i
   itself i b = absurd (true≢false (sym b ∙ before-self period i))
 
-  pub finds_passes : (m : ℕ) (first : Option ℕ) → Finds m first → response m ≤ period m → Finds (m + 1) first
-  finds_passes m None h pass = rw add-one (below_suc (λ k. response k ≤ period k) m h pass)
-  finds_passes m (Some i) h pass = record {
-    task = omega (arith, h.task);
-    late = h.late;
-    first = rw add-one (below_suc (InTime i) m h.first (λ _. pass));
-  }
-
   pub finds_late : (m : ℕ) (first : Option ℕ) → Finds m first → period m < response m
       → Finds (m + 1) (Some (earlier_of period first m))
   finds_late m None h late = record {

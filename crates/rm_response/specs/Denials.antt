@@ -1,10 +1,10 @@
 -- What the answers of exact admission under RM say.
 use Rattle.std.specs.Prelude.{◌≡◌, ⊤, ℕ, ◌*◌, ◌<◌, false, List, Option, Some, None, Result, Ok, Err, slice_index}
 use Rattle.grid_fraction.specs.Numbers.{list_below}
-use Rattle.offsets.specs.Offsets.{IsFirstOffset, first_offset}
+use Rattle.offsets.specs.Offsets.{NoneOffset, IsFirstOffset, first_offset}
 use Rattle.sched_model.specs.Plan.{Plan, count, period, offset, top_speed}
 use Rattle.governor.specs.Rm.{level_work_in}
-use Rattle.rm_response_laws.specs.Responses.{response, HasNoOffsets}
+use Rattle.rm_response_laws.specs.Responses.{response}
 use Rattle.rm_response_laws.specs.FirstJobs.{is_first_done, IsFirstDoneAt}
 use Rattle.rm_response.specs.declared.response.ResponseFault.{ResponseFault}
 use Rattle.rm_response.specs.declared.response.ResponseFault.TheVariants.{Offset, Misses, NoMemory}
@@ -24,7 +24,7 @@ misses_at p i = Misses i (level_work_in p (period p i) i) (top_speed p * period 
 
 -- the task is the first in RM order without a response, by the two numbers
 pub record IsFirstMiss (p : Plan) (task num cap : ℕ) : Type 0 where
-  pub no_offset : HasNoOffsets p
+  pub no_offset : NoneOffset (offset p) (count p)
   pub first : IsFirstLate (period p) (response p) (count p) task
   pub num_is : num ≡ level_work_in p (period p task) task
   pub cap_is : cap ≡ top_speed p * period p task
@@ -34,7 +34,7 @@ pub record IsFirstMiss (p : Plan) (task num cap : ℕ) : Type 0 where
 abbrev pub IsResponseDenial : Plan → ResponseFault → Type 0
 IsResponseDenial p (Offset task) = IsFirstOffset (offset p) (count p) task
 IsResponseDenial p (Misses task num cap) = IsFirstMiss p task num cap
-IsResponseDenial p NoMemory = HasNoOffsets p
+IsResponseDenial p NoMemory = NoneOffset (offset p) (count p)
 
 -- the first job of a task that misses is not complete at its period when all jobs have their worst cases
 abbrev pub IsMissed : Plan → ResponseFault → Type 0

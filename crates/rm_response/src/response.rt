@@ -3,8 +3,10 @@ ghost use Rattle.std.specs.Prelude.{◌≡◌, ◌<◌, IfOk, OnOk, IfErr, lengt
 ghost use Rattle.grid_fraction.specs.Numbers.{list_below};
 ghost use Rattle.dvs_base.specs.Checks.{IsUnlessMemory};
 ghost use Rattle.dvs_base.specs.declared.kind.Scheduler.TheVariants.{Rm};
+ghost use Rattle.task_model.specs.Tasks.{task_at};
+ghost use Rattle.offsets.specs.Offsets.{NoneOffset};
 ghost use Rattle.sched_model.specs.Plan.{plan_of, count};
-ghost use Rattle.rm_response_laws.specs.Responses.{response, AllRespond, HasNoOffsets};
+ghost use Rattle.rm_response_laws.specs.Responses.{response, AllRespond};
 ghost use Rattle.rm_response_laws.specs.FirstJobs.{AlwaysMeets};
 ghost use Rattle.rm_response.specs.Denials.{responses, AreLeast, misses_at, IsResponseDenial, IsMissed, IsShownMiss, exact_answer};
 
@@ -96,7 +98,7 @@ pub fn rm_response(
         (exact_answer (plan_of tasks.now machine.now Rm)) }
     ensures responses { IfOk result (λ r. r ≡ responses (plan_of tasks.now machine.now Rm)) }
     ensures one_each { IfOk result (λ r. length r ≡ length tasks.now) }
-    ensures no_offset { OnOk result (HasNoOffsets (plan_of tasks.now machine.now Rm)) }
+    ensures no_offset { OnOk result (NoneOffset (λ k. (task_at tasks.now k).offset) (length tasks.now)) }
     ensures each { OnOk result (AllRespond (plan_of tasks.now machine.now Rm)) }
     ensures deadlines { OnOk result (AlwaysMeets (plan_of tasks.now machine.now Rm)) }
     ensures least { IfOk result (AreLeast (plan_of tasks.now machine.now Rm)) }

@@ -6,6 +6,8 @@ use Rattle.std.proofs.lemmas.Bool.{cases_lt}
 use Rattle.grid_fraction.specs.declared.Frac.{Frac}
 use Rattle.grid_fraction.specs.Numbers.{sum_where, ceil_div}
 use Rattle.grid_fraction.proofs.Sums.{sum_below-same}
+use Rattle.grid_fraction.proofs.Ceilings.{ceil-at}
+use Rattle.offsets.specs.Offsets.{NoneOffset}
 use Rattle.sched_model.specs.Plan.{Plan, count, period, offset, worst}
 use Rattle.sched_model.specs.Jobs.{due}
 use Rattle.sched_model.specs.Ticks.{Tick}
@@ -14,8 +16,7 @@ use Rattle.sched_model.proofs.Limits.{some_period}
 use Rattle.sched_model.proofs.LevelSums.{sum_where-plus, sum_up_to-where}
 use Rattle.governor.specs.Rm.{level, level_work_in}
 use Rattle.governor.proofs.Lacks.{lack, lack_after, IsQuiet, lack-quiet, lack-released}
-use Rattle.rm_response_laws.specs.Responses.{HasNoOffsets}
-use Rattle.rm_response_laws.proofs.Ceilings.{ceil-at, ceil-after}
+use Rattle.rm_response_laws.proofs.Ceilings.{ceil-after}
 
 -- where a task is first released at tick 0, its deadlines are the multiples of its period
 pub due-is : (p : Plan) (i k : ℕ) → offset p i ≡ 0 → due p i k ≡ k * period p i
@@ -96,7 +97,7 @@ module _ (p : Plan) (lim : IsWithinLimits p) (ask : List Tick → Frac) where
   pick false x y e = refl
 
   -- and so does each level
-  pub level-asks : (i t : ℕ) → i < count p → HasNoOffsets p
+  pub level-asks : (i t : ℕ) → i < count p → NoneOffset (offset p) (count p)
       → ((j k : ℕ) → j < count p → level p i j ≡ true → t ≡ due p j k → lack p ask t j ≡ 0)
       → sum_where (count p) (level p i) (lack_after p ask t) + level_work_in p t i
       ≡ sum_where (count p) (level p i) (lack p ask t) + level_work_in p (suc t) i

@@ -6,6 +6,8 @@ use Rattle.std.proofs.lemmas.Bool.Decides.{nat_tests}
 use Rattle.dvs_base.specs.declared.kind.Scheduler.TheVariants.{Rm}
 use Rattle.grid_fraction.specs.declared.Frac.{Frac}
 use Rattle.grid_fraction.specs.Numbers.{sum_where, ceil_div}
+use Rattle.grid_fraction.proofs.Ceilings.{ceil-at}
+use Rattle.offsets.specs.Offsets.{NoneOffset}
 use Rattle.sched_model.specs.Plan.{Plan, count, period, offset, worst, top_speed}
 use Rattle.sched_model.specs.Jobs.{due, latest}
 use Rattle.sched_model.specs.Ticks.{Tick, exec}
@@ -16,9 +18,8 @@ use Rattle.sched_model.proofs.JobLaws.{due-none, release-suc, latest-is, exec-ea
 use Rattle.sched_model.proofs.LevelSums.{sum_where-term, sum_where-zero, up_to-self, sum_up_to-where}
 use Rattle.governor.specs.Rm.{level, level_work_in}
 use Rattle.governor.proofs.Lacks.{lack, lack_after, level_down, lack-long, lack-falls, lack-quiet, lack-released, lack-empties}
-use Rattle.rm_response_laws.specs.Responses.{HasNoOffsets, IsUnserved}
+use Rattle.rm_response_laws.specs.Responses.{IsUnserved}
 use Rattle.rm_response_laws.specs.FirstJobs.{full_worst_ticks, is_first_done}
-use Rattle.rm_response_laws.proofs.Ceilings.{ceil-at}
 use Rattle.rm_response_laws.proofs.Asking.{due-is, quiet-off, level-asks}
 use Rattle.rm_response_laws.proofs.OneSpeed.{full_ask, full-same}
 
@@ -55,7 +56,7 @@ abbrev pub IsKept : Plan → ℕ → Type 0
 IsKept p i = (t j k : ℕ) → j < count p → level p i j ≡ true → t < period p i → t ≡ due p j k → lacks p t j ≡ 0
 
 module _ (p : Plan) (lim : IsWithinLimits p) (rm : p.scheduler ≡ Rm) (i : ℕ) (h : i < count p)
-    (first : HasNoOffsets p) (met : IsKept p i) where
+    (first : NoneOffset (offset p) (count p)) (met : IsKept p i) where
   up_to_now : (t : ℕ) → IsUnserved p i (suc t) → top_speed p * t ≤ level_work_in p t i
   up_to_now zero un = omega (arith, mul-zero (top_speed p))
   up_to_now (suc t) un = let g = un (suc t) (omega arith) (omega arith) in omega arith

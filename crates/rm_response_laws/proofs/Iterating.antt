@@ -4,6 +4,7 @@ use Rattle.std.proofs.Common.{inl, inr, ℕ, ◌*◌, ◌<◌, ◌≤◌, arith}
 use Rattle.std.proofs.Math.Nat.{mul-le-mul_right}
 use Rattle.std.proofs.lemmas.Bool.{cases_lt}
 use Rattle.grid_fraction.specs.Numbers.{sum_where, ceil_div}
+use Rattle.grid_fraction.proofs.Ceilings.{ceil-mono}
 use Rattle.freq_table.specs.Tables.{last_entry}
 use Rattle.sched_model.specs.Plan.{Plan, count, period, worst, top_speed}
 use Rattle.sched_model.specs.Admission.{IsWithinLimits}
@@ -12,7 +13,7 @@ use Rattle.sched_model.proofs.LevelSums.{sum_where-mono, sum_where-term, up_to-s
 use Rattle.governor.specs.Rm.{level, level_work_in}
 use Rattle.governor.proofs.RmLevels.{ceil_covers}
 use Rattle.rm_response_laws.specs.Responses.{IsUnserved}
-use Rattle.rm_response_laws.proofs.Ceilings.{ceil-mono, ceil-least, ceil-some}
+use Rattle.rm_response_laws.proofs.Ceilings.{ceil-least, ceil-some}
 use Rattle.rm_response_laws.proofs.Firsts.{some_worst}
 
 -- the ticks that the work of t ticks takes

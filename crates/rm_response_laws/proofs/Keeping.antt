@@ -1,24 +1,19 @@
 -- Under RM at the highest speed, tasks that have a bound on their levels' busy stretches meet their deadlines.
-use Rattle.std.proofs.Common.{◌≡◌, ℕ, zero, suc, ◌*◌, ◌<◌, ◌≤◌, Bool, true, List, [], ◌∷◌, length, arith, ap, ◌∙◌, sym, subst}
+use Rattle.std.proofs.Common.{◌≡◌, ℕ, zero, suc, ◌*◌, ◌<◌, ◌≤◌, Bool, true, List, [], ◌∷◌, length, ap, ◌∙◌, sym, subst}
 use Rattle.dvs_base.specs.declared.kind.Scheduler.TheVariants.{Rm}
 use Rattle.dvs_base.specs.declared.kind.GovernorKind.TheVariants.{Plain}
-use Rattle.sched_model.specs.declared.state.Row.{Row}
 use Rattle.sched_model.specs.Plan.{Plan, count, period, top_speed}
-use Rattle.sched_model.specs.Jobs.{latest, due}
-use Rattle.sched_model.specs.Ticks.{Tick, at, exec, share}
-use Rattle.sched_model.specs.Ticks.{left as left_at}
+use Rattle.sched_model.specs.Jobs.{due}
+use Rattle.sched_model.specs.Ticks.{Tick, at, exec}
 use Rattle.sched_model.specs.Demands.{IsWithin, JobDemands}
-use Rattle.sched_model.specs.Priority.{key_of}
 use Rattle.sched_model.specs.Schedule.{schedule}
 use Rattle.sched_model.specs.Admission.{IsWithinLimits}
-use Rattle.sched_model.specs.States.{StateOf, no_row, row_at, prior_row, prior_state, state_of}
+use Rattle.sched_model.specs.States.{StateOf, row_at, prior_state, state_of}
 use Rattle.sched_model.proofs.Limits.{every_period}
-use Rattle.sched_model.proofs.LevelSums.{share-most}
+use Rattle.sched_model.proofs.Service.{share-legal}
 use Rattle.sched_model.proofs.ScheduleLemmas.{next_tick-may, schedule_exists, schedule-none, schedule-suc}
-use Rattle.sched_model.proofs.Tables.{get-table}
-use Rattle.sched_model.proofs.JobLaws.{latest-is, release-due}
 use Rattle.governor.specs.Steps.{after_boundary, after_tick, IsAtDecision, IsLegalIn, Belongs}
-use Rattle.governor.proofs.Course.{at-schedule}
+use Rattle.governor.proofs.Course.{at-schedule, due-had}
 use Rattle.governor.proofs.Joins.{boundary-is, tick-is, legal-is}
 use Rattle.governor.proofs.Belonging.{belongs_opening, belongs_boundary, belongs_tick, decision_boundary}
 use Rattle.governor.specs.Rm.{level, level_work_in, LevelCalm}
@@ -40,9 +35,6 @@ HoldsLevels p which = (i j : ℕ) → i < count p → j < count p → level p i 
 module _ (p : Plan) (lim : IsWithinLimits p) (rm : p.scheduler ≡ Rm) (which : ℕ → Bool) (span : ℕ → ℕ)
     (down : HoldsLevels p which) (bound : (i : ℕ) → i < count p → which i ≡ true → IsBound p i (span i))
     (dem : JobDemands) (within : IsWithin p dem) where
-  periods : (i : ℕ) → 0 < period p i
-  periods = every_period p lim
-
   abbrev F : ℕ
   F = top_speed p
 
@@ -69,7 +61,7 @@ module _ (p : Plan) (lim : IsWithinLimits p) (rm : p.scheduler ≡ Rm) (which : 
 
   -- after the releases
   released : (past : List Tick) → after_boundary p dem (prior past) ≡ state past
-  released past = boundary-is p dem periods within.none past
+  released past = boundary-is p dem (every_period p lim) within.none past
 
   belongs-state : (past : List Tick) → Kept past → Belongs p dem (state past)
   belongs-state past k = subst (Belongs p dem) (released past) (belongs_boundary p dem (prior past) k.belongs)
@@ -88,18 +80,15 @@ module _ (p : Plan) (lim : IsWithinLimits p) (rm : p.scheduler ≡ Rm) (which : 
   abbrev tick : List Tick → Tick
   tick past = full_tick p dem past
 
-  own : (past : List Tick) (i : ℕ) → i < count p → share (tick past) i ≤ left_at p dem past i
-  own past i h =
-      share-most (count p) (key_of p.scheduler p (length past)) F (left_at p dem past) (share (tick past))
-      (full-legal p lim dem past) i h
-
   legal : (past : List Tick) → IsLegalIn p dem F (state past) (tick past).shares
   legal past =
-      legal-is p dem periods within.none (tick past) past F (next_tick-may p dem (full_ask p dem) past).one_share_each
+      legal-is p dem (every_period p lim) within.none (tick past) past F (next_tick-may p dem (full_ask p dem) past).one_share_each
       (full-legal p lim dem past)
 
   ticked : (past : List Tick) → after_tick dem (tick past).shares (state past) ≡ prior (tick past ∷ past)
-  ticked past = tick-is p dem periods within.none (tick past) past (own past)
+  ticked past =
+      tick-is p dem (every_period p lim) within.none (tick past) past
+      (share-legal p dem past F (tick past) (full-legal p lim dem past))
 
   kept-next : (past : List Tick) → Kept past → Kept (tick past ∷ past)
   kept-next past k =
@@ -125,27 +114,11 @@ module _ (p : Plan) (lim : IsWithinLimits p) (rm : p.scheduler ≡ Rm) (which : 
   kept zero = subst Kept (sym (schedule-none p dem (full_ask p dem))) kept-none
   kept (suc t) = subst Kept (sym (schedule-suc p dem (full_ask p dem) t)) (kept-next (schedule p Plain dem t) (kept t))
 
-  due-had : (past : List Tick) (i k : ℕ) → Kept past → i < count p → which i ≡ true → 1 ≤ k → due p i k ≡ length past
-      → exec p past i k ≡ dem i k
-  due-had [] i k kept h on pos e = absurd (omega (arith, e, release-due p i k pos, periods i))
-  due-had (x ∷ past) i k kept h on pos e =
-      let now = x ∷ past in
-      let job : latest p i (length past) ≡ k =
-      latest-is p i k (length past) (omega (arith, e, release-due p i k pos, periods i)) (omega (arith, e)) in
-      let row : row_at (prior now) i ≡ prior_row p dem now i = get-table (count p) (prior_row p dem now) i no_row h in
-      let is_due : (row_at (prior now) i).deadline ≡ length now =
-      ap (λ (r : Row). r.deadline) row ∙ (ap (due p i) job ∙ e) in
-      let done : (row_at (prior now) i).done ≡ true = completes now kept i h on is_due in
-      let P : Row → Type 0 = λ (r : Row). r.done ≡ true → 0 < r.job → r.used ≡ dem i r.job in
-      let closed : (prior_row p dem now i).done ≡ true = sym (ap (λ (r : Row). r.done) row) ∙ done in
-      let had : exec p now i (latest p i (length past)) ≡ dem i (latest p i (length past)) =
-      subst P row (kept.belongs.closed_job i h) closed (omega (arith, job, pos)) in
-      ap (exec p now i) (sym job) ∙ (had ∙ ap (dem i) job)
-
   -- each deadline of these tasks is met
   pub bounded-met : (t i k : ℕ) → i < count p → which i ≡ true → 1 ≤ k → due p i k ≤ t
       → exec p (at (due p i k) (schedule p Plain dem t)) i k ≡ dem i k
   bounded-met t i k h on pos le =
       let there = (schedule_exists p dem (full_ask p dem) (due p i k)).1 in
+      let past = schedule p Plain dem (due p i k) in
       ap (λ (ps : List Tick). exec p ps i k) (at-schedule p dem (full_ask p dem) t (due p i k) le)
-      ∙ due-had (schedule p Plain dem (due p i k)) i k (kept (due p i k)) h on pos (sym there)
+      ∙ due-had p lim dem past (kept (due p i k)).belongs i k h pos (sym there) (completes past (kept (due p i k)) i h on)

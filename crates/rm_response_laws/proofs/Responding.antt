@@ -3,7 +3,8 @@ use Rattle.std.proofs.Common.{◌≡◌, inl, inr, ℕ, zero, suc, ◌-◌, ◌<
 use Rattle.std.proofs.lemmas.Bool.{cases_Bool}
 use Rattle.std.proofs.lemmas.Bool.Decides.{nat_tests}
 use Rattle.dvs_base.specs.declared.kind.Scheduler.TheVariants.{Rm}
-use Rattle.sched_model.specs.Plan.{Plan, count, period}
+use Rattle.offsets.specs.Offsets.{NoneOffset}
+use Rattle.sched_model.specs.Plan.{Plan, count, period, offset}
 use Rattle.sched_model.specs.Jobs.{latest, due}
 use Rattle.sched_model.specs.Ticks.{Tick, at, exec}
 use Rattle.sched_model.specs.Demands.{worst_demand}
@@ -16,7 +17,7 @@ use Rattle.sched_model.proofs.ScheduleLemmas.{schedule_exists}
 use Rattle.governor.proofs.Course.{at-schedule}
 use Rattle.governor.specs.Rm.{level}
 use Rattle.governor.proofs.Worst.{worst-within}
-use Rattle.rm_response_laws.specs.Responses.{response, HasResponse, AllRespond, HasNoOffsets}
+use Rattle.rm_response_laws.specs.Responses.{response, HasResponse, AllRespond}
 use Rattle.rm_response_laws.specs.FirstJobs.{full_worst_ticks, is_first_done, IsFirstDoneAt, AlwaysMeets}
 use Rattle.rm_response_laws.proofs.OneSpeed.{full_ask}
 use Rattle.rm_response_laws.proofs.Keeping.{bounded-met}
@@ -48,7 +49,7 @@ module _ (p : Plan) (lim : IsWithinLimits p) (rm : p.scheduler ≡ Rm) where
       bounded-met p lim rm (λ j. true) (response p) (λ a b ha hb lv on. refl) (λ j hj on. response-bound p j (all j hj))
       dem within t i k h refl pos (omega (arith, long))
 
-  module _ (i : ℕ) (h : i < count p) (first : HasNoOffsets p) (earlier : EarlierRespond p i) where
+  module _ (i : ℕ) (h : i < count p) (first : NoneOffset (offset p) (count p)) (earlier : EarlierRespond p i) where
     earlier-met : (t j k : ℕ) → j < count p → stands_before (period p) j i ≡ true → 1 ≤ k → due p j k ≤ t
         → exec p (at (due p j k) (full_worst_ticks p t)) j k ≡ worst_demand p j k
     earlier-met t j k hj on pos le =

@@ -1,7 +1,7 @@
 -- The response of a task under RM at the highest speed (Joseph and Pandya 1986).
-use Rattle.std.specs.Prelude.{◌≡◌, ℕ, ◌*◌, ◌<◌, ◌≤◌, Bool, nat_le}
+use Rattle.std.specs.Prelude.{ℕ, ◌*◌, ◌<◌, ◌≤◌, Bool, nat_le}
 use Rattle.grid_fraction.specs.Numbers.{first_from}
-use Rattle.sched_model.specs.Plan.{Plan, count, period, offset, top_speed}
+use Rattle.sched_model.specs.Plan.{Plan, count, period, top_speed}
 use Rattle.governor.specs.Rm.{level_work_in}
 
 -- in t ticks the highest speed does the work that task i and the tasks before it in RM order can be asked for in them
@@ -24,7 +24,3 @@ HasResponse p i = response p i ≤ period p i
 -- each task has one
 abbrev pub AllRespond : Plan → Type 0
 AllRespond p = (i : ℕ) → i < count p → HasResponse p i
-
--- each task is first released at tick 0
-abbrev pub HasNoOffsets : Plan → Type 0
-HasNoOffsets p = (i : ℕ) → i < count p → offset p i ≡ 0

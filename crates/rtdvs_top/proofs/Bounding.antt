@@ -1,5 +1,5 @@
 -- What a least energy of told files has met, from how its answer ends.
-use Rattle.std.proofs.Common.{◌≡◌, ◌*◌, ℕ, Bool, true, false, List, Option, Some, None, Result, Ok, Err, refl, sym, ◌∙◌, ap, subst, arith, true≢false, nat_lt, if◌then◌else◌}
+use Rattle.std.proofs.Common.{◌≡◌, ◌*◌, ℕ, Bool, true, false, List, Option, Some, Result, Ok, Err, refl, sym, ◌∙◌, ap, subst, arith, true≢false, nat_lt, if◌then◌else◌}
 use Rattle.std.proofs.lemmas.Bool.Decides.{nat_tests}
 use Rattle.std.specs.Io.KnownBytes.{Appends}
 use Rattle.dvs_base.specs.Outside.{Files, SinkView}
@@ -8,7 +8,7 @@ use Rattle.freq_table.specs.Tables.{Table, highest_speed}
 use Rattle.energy_bound.specs.declared.least.Least.{Least}
 use Rattle.energy_bound.specs.Certificates.{least_of}
 use Rattle.energy_bound.specs.FirstPairs.{low_corner, high_corner, least_energy_of}
-use Rattle.words.specs.Commands.{LeastOf, CommandOf, run, admit, traced, workload, response, constrain, poll, least}
+use Rattle.words.specs.Commands.{LeastOf, CommandOf, least}
 use Rattle.rtdvs_top.specs.Answer.{machine_at}
 use Rattle.rtdvs_top.specs.LeastAnswer.{least_text, least_from, least_on, IsLeastOn, LeastMetOn, AreTooMany}
 use Rattle.rtdvs_top.specs.CommandAnswer.{answer_of_command}
@@ -17,29 +17,17 @@ use Rattle.rtdvs_top.specs.Ending.{EndsAs, MetIn}
 use Rattle.rtdvs_top.specs.declared.status.Denied.{Denied}
 use Rattle.rtdvs_top.specs.declared.status.Status.{Status}
 use Rattle.rtdvs_top.specs.declared.status.Status.TheVariants as status
-use Rattle.rtdvs_top.proofs.Denying.{is_given, denied-later, machine_at-denies-not}
+use Rattle.rtdvs_top.proofs.Denying.{is_given, given-once, denied-later, machine_at-denies-not}
 
 -- an answer that is the least is so whatever its writing ends with
 pub met-on : (m : Table) (l : LeastOf) (a : Least) (s : Status) → IsLeastOn m l a → LeastMetOn m l s
 met-on m l a status.Done h = (a, h)
-met-on m l a (status.NotAdmitted why) h = tt
-met-on m l a (status.Words why) h = tt
-met-on m l a (status.Load kind) h = tt
-met-on m l a (status.Text why) h = tt
-met-on m l a (status.Limit jobs) h = tt
-met-on m l a (status.OverWorst task job units worst) h = tt
-met-on m l a (status.Differs line wanted found) h = tt
-met-on m l a status.Write h = tt
-met-on m l a status.NoMemory h = tt
+met-on m l a s h = tt
 
 -- the text of the answer is that of the least energy
 text-is : (l : LeastOf) (files : Files) (m : Table) (a : Least) (text : List ℕ) → machine_at l.machine files ≡ Ok m
     → least_energy_of m l.units l.ticks ≡ Ok a → answer_of_command (least l) files ≡ Ok text → text ≡ least_text a
-text-is l files m a text e f h = ap text_of (sym h ∙ (ap (λ x. and_then x (least_on l)) e ∙ ap least_from f))
-  where
-    text_of : Result (List ℕ) Status → List ℕ
-    text_of (Ok t) = t
-    text_of (Err s) = text
+text-is l files m a text e f h = given-once h (ap (λ x. and_then x (least_on l)) e ∙ ap least_from f)
 
 -- the machine does fewer units in the ticks than are asked for, where the answer is denied
 too-many : (l : LeastOf) (m : Table) (why : Denied) → least_on l m ≡ Err (status.NotAdmitted why) → AreTooMany m l why
@@ -61,25 +49,10 @@ too-many l m why h = go (nat_lt (l.ticks * highest_speed m) l.units) refl h
 -- a least energy of told files, from how its answer ends and what it met
 pub of-least : (told : Option Files) (c : CommandOf) (s : Status) (old new : SinkView)
     → EndsAs old new told (answer_of_command c) s → MetIn told c s → OfLeast told (Ok c) old new s
-of-least None c s old new ends met = tt
-of-least (Some files) (run r) s old new ends met = tt
-of-least (Some files) (admit a) s old new ends met = tt
-of-least (Some files) (traced r) s old new ends met = tt
-of-least (Some files) (workload seed) s old new ends met = tt
-of-least (Some files) (response r) s old new ends met = tt
-of-least (Some files) (constrain r) s old new ends met = tt
-of-least (Some files) (poll q) s old new ends met = tt
 of-least (Some files) (least l) status.Done old new ends met =
     let whole : ends.0 ≡ least_text met.1 = text-is l files met.0 met.1 ends.0 met.2 met.3.answer ends.1 in
     (met.0, met.1, met.2, met.3, subst (Appends old.written new.written) whole ends.2.bytes)
 of-least (Some files) (least l) (status.NotAdmitted why) old new ends met =
     let d = denied-later (machine_at l.machine files) (least_on l) why (machine_at-denies-not l.machine files) ends in
     (d.0, d.1, too-many l d.0 why d.2)
-of-least (Some files) (least l) (status.Words why) old new ends met = tt
-of-least (Some files) (least l) (status.Load kind) old new ends met = tt
-of-least (Some files) (least l) (status.Text why) old new ends met = tt
-of-least (Some files) (least l) (status.Limit jobs) old new ends met = tt
-of-least (Some files) (least l) (status.OverWorst task job units worst) old new ends met = tt
-of-least (Some files) (least l) (status.Differs line wanted found) old new ends met = tt
-of-least (Some files) (least l) status.Write old new ends met = tt
-of-least (Some files) (least l) status.NoMemory old new ends met = tt
+of-least told c s old new ends met = tt

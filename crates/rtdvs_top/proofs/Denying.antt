@@ -1,5 +1,5 @@
 -- Which steps of an answer can deny a plan, and when.
-use Rattle.std.proofs.Common.{◌≡◌, ◌⊎◌, inl, inr, ℕ, ◌*◌, Bool, true, false, List, length, Option, Some, None, Result, Ok, Err, refl, sym, ◌∙◌, ap, arith, true≢false, nat_lt, if◌then◌else◌}
+use Rattle.std.proofs.Common.{◌≡◌, ◌⊎◌, inl, inr, ℕ, ◌*◌, ◌≤◌, Bool, true, false, List, length, Option, Some, None, Result, Ok, Err, refl, sym, ◌∙◌, ap, arith, true≢false, nat_lt, if◌then◌else◌}
 use Rattle.std.proofs.lemmas.Bool.Decides.{nat_tests}
 use Rattle.dvs_base.specs.Outside.{Files, file_of}
 use Rattle.dvs_base.specs.Checks.{and_then}
@@ -76,6 +76,14 @@ pub given-both : {A B : Type 0} (step : Result A Status) (next : A → Result B 
 given-both (Ok a) next b e = (a, refl, e)
 given-both (Err s) next b e = absurd (true≢false (sym (ap is_given e)))
 
+-- two values of one step are one
+pub given-once : {A : Type 0} {step : Result A Status} {a b : A} → step ≡ Ok a → step ≡ Ok b → a ≡ b
+given-once {A} {step} {a} {b} first second = ap value (sym first ∙ second)
+  where
+    value : Result A Status → A
+    value (Ok x) = x
+    value (Err s) = a
+
 bytes-deny-not : (kind : FileKind) (held : Option (List ℕ)) → DeniesNot (bytes_from kind held)
 bytes-deny-not kind None = refl
 bytes-deny-not kind (Some bytes) = go (nat_lt (longest kind) (length bytes))
@@ -85,55 +93,33 @@ bytes-deny-not kind (Some bytes) = go (nat_lt (longest kind) (length bytes))
     go false = refl
 
 tasks-deny-not : (r : Result (List Task) TaskFault) → DeniesNot (tasks_from r)
-tasks-deny-not (Ok tasks) = refl
-tasks-deny-not (Err task_fault.NotToml) = refl
-tasks-deny-not (Err (task_fault.UnknownKey place key)) = refl
-tasks-deny-not (Err task_fault.NoTasks) = refl
-tasks-deny-not (Err (task_fault.TooMany count)) = refl
-tasks-deny-not (Err (task_fault.Missing place field)) = refl
-tasks-deny-not (Err (task_fault.Kind place field)) = refl
-tasks-deny-not (Err (task_fault.Range place field)) = refl
-tasks-deny-not (Err (task_fault.BadName place)) = refl
-tasks-deny-not (Err (task_fault.SameName first second)) = refl
-tasks-deny-not (Err task_fault.Hyper) = refl
 tasks-deny-not (Err task_fault.NoMemory) = refl
+tasks-deny-not r = refl
 
 machine-denies-not : (r : Result Table MachineFault) → DeniesNot (machine_from r)
-machine-denies-not (Ok machine) = refl
-machine-denies-not (Err machine_fault.NotToml) = refl
-machine-denies-not (Err (machine_fault.UnknownKey place key)) = refl
-machine-denies-not (Err machine_fault.NoPoints) = refl
-machine-denies-not (Err (machine_fault.TooMany count)) = refl
-machine-denies-not (Err (machine_fault.Missing place field)) = refl
-machine-denies-not (Err (machine_fault.Kind place field)) = refl
-machine-denies-not (Err (machine_fault.Range place field)) = refl
-machine-denies-not (Err (machine_fault.NotRising place)) = refl
 machine-denies-not (Err machine_fault.NoMemory) = refl
+machine-denies-not r = refl
 
 demands-deny-not : (r : Result DemandsOf DemandFault) → DeniesNot (demands_from r)
-demands-deny-not (Ok d) = refl
-demands-deny-not (Err demand_fault.Header) = refl
-demands-deny-not (Err (demand_fault.Fields row count)) = refl
-demands-deny-not (Err (demand_fault.UnknownTask row name)) = refl
-demands-deny-not (Err (demand_fault.BadNumber row column)) = refl
-demands-deny-not (Err (demand_fault.JobZero row)) = refl
-demands-deny-not (Err (demand_fault.Repeated row task job)) = refl
-demands-deny-not (Err (demand_fault.OverWorst task job units worst)) = refl
 demands-deny-not (Err demand_fault.NoMemory) = refl
+demands-deny-not r = refl
 
 pub tasks_at-denies-not : (name : List ℕ) (files : Files) → DeniesNot (tasks_at name files)
 tasks_at-denies-not name files =
-    then-denies-not (bytes_at file.Tasks name files) (λ bytes. tasks_from (task_file bytes)) (bytes-deny-not file.Tasks (file_of files name)) (λ bytes. tasks-deny-not (task_file bytes))
+    then-denies-not (bytes_at file.Tasks name files) (λ bytes. tasks_from (task_file bytes))
+    (bytes-deny-not file.Tasks (file_of files name)) (λ bytes. tasks-deny-not (task_file bytes))
 
 pub machine_at-denies-not : (name : List ℕ) (files : Files) → DeniesNot (machine_at name files)
 machine_at-denies-not name files =
-    then-denies-not (bytes_at file.Machine name files) (λ bytes. machine_from (machine_file bytes)) (bytes-deny-not file.Machine (file_of files name)) (λ bytes. machine-denies-not (machine_file bytes))
+    then-denies-not (bytes_at file.Machine name files) (λ bytes. machine_from (machine_file bytes))
+    (bytes-deny-not file.Machine (file_of files name)) (λ bytes. machine-denies-not (machine_file bytes))
 
 pub demands_at-denies-not : (tasks : List Task) (name : Option (List ℕ)) (files : Files)
     → DeniesNot (demands_at tasks name files)
 demands_at-denies-not tasks None files = refl
 demands_at-denies-not tasks (Some name) files =
-    then-denies-not (bytes_at file.Demands name files) (λ bytes. demands_from (demand_file tasks bytes)) (bytes-deny-not file.Demands (file_of files name)) (λ bytes. demands-deny-not (demand_file tasks bytes))
+    then-denies-not (bytes_at file.Demands name files) (λ bytes. demands_from (demand_file tasks bytes))
+    (bytes-deny-not file.Demands (file_of files name)) (λ bytes. demands-deny-not (demand_file tasks bytes))
 
 pub within-denies-not : (jobs : ℕ) (bytes : List ℕ) → DeniesNot (within_jobs jobs bytes)
 within-denies-not jobs bytes = go (nat_lt MOST_JOBS jobs)
@@ -141,6 +127,10 @@ within-denies-not jobs bytes = go (nat_lt MOST_JOBS jobs)
     go : (b : Bool) → DeniesNot (if b then Err (status.Limit jobs) else Ok bytes)
     go true = refl
     go false = refl
+
+-- few jobs are refused nothing
+pub within-few : (jobs : ℕ) (bytes : List ℕ) → jobs ≤ MOST_JOBS → within_jobs jobs bytes ≡ Ok bytes
+within-few jobs bytes few = grind (arith, nat_tests)
 
 -- a plan that passes its scheduler's test is admitted
 pub passes-admission : (sch : Scheduler) (p : Plan) → PassesTest sch p → admission_by sch p ≡ Ok p
@@ -172,12 +162,8 @@ admission-is p = by p.scheduler
 pub admission-same : (p q : Plan) → admission p ≡ Ok q → q ≡ p
 admission-same p q e = go (admission-is p)
   where
-    plan_or : Result Plan Status → Plan
-    plan_or (Ok x) = x
-    plan_or (Err s) = p
-
     go : (admission p ≡ Ok p) ⊎ ((why : Denied) × (admission p ≡ Err (status.NotAdmitted why))) → q ≡ p
-    go (inl same) = ap plan_or (sym e ∙ same)
+    go (inl same) = given-once e same
     go (inr denial) = absurd (true≢false (ap is_given (sym e ∙ denial.1)))
 
 -- a plan that is denied fails its test

@@ -1,13 +1,11 @@
 -- A replay or a migration is done exactly where the trace file tells a schedule.
-use Rattle.std.proofs.Common.{◌≡◌, inl, inr, ℕ, zero, suc, ◌≤◌, ◌<◌, Bool, true, false, List, [], ◌∷◌, ◌++◌, length, map, Option, Some, None, Result, Ok, Err, IsOk, refl, sym, ap, ◌∙◌, subst, arith, true≢false, nat_lt, if◌then◌else◌}
-use Rattle.std.proofs.lemmas.Bool.Decides.{nat_tests}
+use Rattle.std.proofs.Common.{◌≡◌, inl, inr, ℕ, suc, ◌<◌, List, [], ◌∷◌, length, map, Option, Some, Result, Ok, Err, IsOk, refl, sym, ap, ◌∙◌, subst, arith, true≢false}
 use Rattle.dvs_base.specs.Outside.{Files}
 use Rattle.dvs_base.specs.Checks.{and_then}
 use Rattle.dvs_base.specs.declared.kind.GovernorKind.{GovernorKind}
 use Rattle.dvs_base.specs.declared.kind.Version.{Version}
 use Rattle.dvs_base.specs.declared.kind.Version.TheVariants.{Two}
 use Rattle.dvs_base.specs.declared.note.Note.{Note}
-use Rattle.dvs_base.specs.declared.limits.TheConstants.{MOST_JOBS}
 use Rattle.grid_fraction.specs.Numbers.{list_below}
 use Rattle.task_model.specs.declared.task.Task.{Task}
 use Rattle.task_model.specs.Tasks.{task_at, IsTask}
@@ -17,7 +15,6 @@ use Rattle.sched_model.specs.Plan.{Plan, plan_of, names}
 use Rattle.sched_model.specs.Admission.{IsAdmitted}
 use Rattle.sched_model.specs.Demand.{published}
 use Rattle.sched_model.specs.Demands.{demand_of}
-use Rattle.sched_model.specs.Jobs.{released_jobs}
 use Rattle.sched_model.specs.Totals.{totals_of}
 use Rattle.done_lines.specs.RunText.{task_texts}
 use Rattle.trace_text.specs.TraceLines.{name_of}
@@ -31,12 +28,11 @@ use Rattle.replay_laws.specs.FixedDemands.{fixed_of}
 use Rattle.replay_laws.proofs.Owning.{own-lists}
 use Rattle.trace_limits.specs.RunTraces.{trace_of_run}
 use Rattle.trace_limits.proofs.TraceLimits.{keeps-limits}
-use Rattle.replay.specs.Replays.{too_many, replay_of}
-use Rattle.replay.specs.declared.fault.ReplayFault.TheVariants as replay_fault
+use Rattle.replay.specs.Replays.{replay_of}
 use Rattle.replay.proofs.Comparing.{ended-once}
 use Rattle.replay.proofs.Exact.{some-replayed, is-replayed}
 use Rattle.replay.proofs.Texts.{names-distinct}
-use Rattle.words.specs.Commands.{TracedOf, CommandOf, run, admit, traced, workload, response, constrain, poll, least}
+use Rattle.words.specs.Commands.{TracedOf, CommandOf, traced}
 use Rattle.rtdvs_top.specs.Answer.{bytes_at, tasks_at, machine_at, admission}
 use Rattle.rtdvs_top.specs.ReplayAnswer.{task_line, lines_of_tasks, trace_from, trace_of, trace_at, traced_of, totals_at, printed, answer_of_traced, trace_answer}
 use Rattle.rtdvs_top.specs.Exactness.{IsScheduleText, AreFilesOf, TellsOwn, IsDoneUnless, OfTrace}
@@ -45,13 +41,9 @@ use Rattle.rtdvs_top.specs.Ending.{MetIn}
 use Rattle.rtdvs_top.specs.declared.status.FileKind.TheVariants as file
 use Rattle.rtdvs_top.specs.declared.status.Status.{Status}
 use Rattle.rtdvs_top.specs.declared.status.Status.TheVariants as status
-use Rattle.rtdvs_top.proofs.Denying.{is_given, given-both, passes-admission, admission-same}
-use Rattle.rtdvs_top.proofs.Migrating.{replayed-some, passes, own-notes}
-
--- a list of values, from the first on
-list_below-front : {A : Type 0} (n : ℕ) (f : ℕ → A) → list_below (suc n) f ≡ f 0 ∷ list_below n (λ i. f (suc i))
-list_below-front zero f = refl
-list_below-front {A} (suc n) f = ap (λ (l : List A). l ++ f (suc n) ∷ []) (list_below-front n f)
+use Rattle.rtdvs_top.proofs.Denying.{is_given, given-once, given-both, passes-admission, admission-same}
+use Rattle.rtdvs_top.proofs.Migrating.{few-of-none, replayed-some, passes, own-notes}
+use Rattle.rtdvs_top.proofs.TraceTexts.{below-first}
 
 -- the line of a task of a list
 abbrev line_of_task : List Task → ℕ → List ℕ
@@ -62,7 +54,7 @@ line_of_task tasks i =
 task-lines : (tasks : List Task) → list_below (length tasks) (line_of_task tasks) ≡ lines_of_tasks tasks
 task-lines [] = refl
 task-lines (t ∷ tasks) =
-    list_below-front (length tasks) (line_of_task (t ∷ tasks))
+    below-first (length tasks) (line_of_task (t ∷ tasks))
     ∙ ap (λ (l : List (List ℕ)). task_text t.name t.period t.offset t.worst ∷ l) (task-lines tasks)
 
 -- the names of tasks within their limits
@@ -70,16 +62,6 @@ names-named : (tasks : List Task) → ((i : ℕ) → i < length tasks → IsTask
     → AreNames (map (λ (t : Task). t.name) tasks)
 names-named [] h = tt
 names-named (t ∷ tasks) h = ((h 0 (omega arith)).name, names-named tasks (λ i lt. h (suc i) (omega (arith, lt))))
-
--- the limit on jobs holds where it refuses nothing
-few-of-none : (p : Plan) (ticks : ℕ) → too_many p ticks ≡ None → released_jobs p ticks ≤ MOST_JOBS
-few-of-none p ticks = go (nat_lt MOST_JOBS (released_jobs p ticks)) refl
-  where
-    go : (b : Bool) → nat_lt MOST_JOBS (released_jobs p ticks) ≡ b
-        → (if b then Some (replay_fault.TooManyJobs (released_jobs p ticks)) else None) ≡ None
-        → released_jobs p ticks ≤ MOST_JOBS
-    go true e none = absurd cc
-    go false e none = grind (arith, nat_tests, e)
 
 -- a file that tells a schedule of a plan is read, its plan admitted, and its trace the same as its schedule's
 module _ (r : TracedOf) (files : Files) (v : Version) (p : Plan) (g : GovernorKind) (ticks : ℕ) (rows : List DemandRow)
@@ -178,15 +160,16 @@ pub done-own : (r : TracedOf) (files : Files) (tasks : List Task) (p : Plan) (t 
     → tasks_at r.tasks files ≡ Ok tasks → traced_of r tasks files ≡ Ok (p, t) → IsAdmitted p → IsOk (trace_answer r files)
     → (q : Plan) × (u : TraceOf) × TellsOwn r files q u
 done-own r files tasks p t ts e adm ok =
-    let m = given-both (machine_at r.machine files) (λ machine. and_then (trace_at tasks r.trace files) (λ u. and_then (admission (plan_of tasks machine u.plan.scheduler)) (λ q. Ok (q, u)))) (p, t) e in
+    let m = given-both (machine_at r.machine files) (λ machine. and_then (trace_at tasks r.trace files)
+    (λ u. and_then (admission (plan_of tasks machine u.plan.scheduler)) (λ q. Ok (q, u)))) (p, t) e in
     let machine : Table = m.0 in
     let x = given-both (trace_at tasks r.trace files) (λ u. and_then (admission (plan_of tasks machine u.plan.scheduler)) (λ q. Ok (q, u))) (p, t) m.2 in
     let a = given-both (admission (plan_of tasks machine x.0.plan.scheduler)) (λ q. Ok (q, x.0)) (p, t) x.2 in
     let b = given-both (bytes_at file.Trace r.trace files) (λ bytes. trace_from (trace_of tasks bytes)) x.0 x.1 in
-    let pair : (a.0, x.0) ≡ (p, t) = ap pair_of a.2 in
+    let pair : (p, t) ≡ (a.0, x.0) = given-once a.2 refl in
     let plan_is : p ≡ plan_of tasks machine x.0.plan.scheduler =
-    ap (λ y. y.0) (sym pair) ∙ admission-same (plan_of tasks machine x.0.plan.scheduler) a.0 a.1 in
-    let trace_is : t ≡ x.0 = ap (λ y. y.1) (sym pair) in
+    ap (λ y. y.0) pair ∙ admission-same (plan_of tasks machine x.0.plan.scheduler) a.0 a.1 in
+    let trace_is : t ≡ x.0 = ap (λ y. y.1) pair in
     let found = (reads-found Two (map (λ (t : Task). t.name) tasks) (lines_of_tasks tasks) b.0 x.0 (trace-given x.0 (trace_of tasks b.0) b.2)).0 in
     let answer : trace_answer r files ≡ answer_of_traced r.asked (p, t) = rw (ts, e) refl in
     let totals : IsOk (totals_at (p, t)) = first-ok (totals_at (p, t)) (λ totals. Ok (printed r.asked (p, t) totals)) (subst IsOk answer ok) in
@@ -194,10 +177,6 @@ done-own r files tasks p t ts e adm ok =
     let both = subst (λ (u : TraceOf). P (plan_of tasks machine x.0.plan.scheduler) u) trace_is (subst (λ (q : Plan). P q t) plan_is (adm, totals)) in
     (plan_of tasks machine x.0.plan.scheduler, x.0, own-text r files tasks machine b.0 x.0 ts m.1 b.1 found both.0 both.1)
   where
-    pair_of : Result (Plan × TraceOf) Status → Plan × TraceOf
-    pair_of (Ok y) = y
-    pair_of (Err s) = (p, t)
-
     first-ok : {A B : Type 0} (step : Result A Status) (next : A → Result B Status) → IsOk (and_then step next) → IsOk step
     first-ok (Ok y) next h = refl
     first-ok (Err s) next h = absurd (true≢false (sym h))
@@ -210,24 +189,11 @@ done-unless loads_rose puts_rose answer status.NoMemory h ok = tt
 done-unless loads_rose puts_rose answer (status.Load kind) (inl e) ok = absurd (true≢false (sym (subst IsOk e ok)))
 done-unless loads_rose puts_rose answer (status.Load kind) (inr rose) ok = rose
 done-unless loads_rose puts_rose answer status.Write h ok = h.1
-done-unless loads_rose puts_rose answer (status.Words why) h ok = absurd (true≢false (sym (subst IsOk h ok)))
-done-unless loads_rose puts_rose answer (status.NotAdmitted why) h ok = absurd (true≢false (sym (subst IsOk h ok)))
-done-unless loads_rose puts_rose answer (status.Text why) h ok = absurd (true≢false (sym (subst IsOk h ok)))
-done-unless loads_rose puts_rose answer (status.Limit jobs) h ok = absurd (true≢false (sym (subst IsOk h ok)))
-done-unless loads_rose puts_rose answer (status.OverWorst task job units worst) h ok = absurd (true≢false (sym (subst IsOk h ok)))
-done-unless loads_rose puts_rose answer (status.Differs line wanted found) h ok = absurd (true≢false (sym (subst IsOk h ok)))
+done-unless loads_rose puts_rose answer s h ok = absurd (true≢false (sym (subst IsOk h ok)))
 
 -- the exactness of a command's ending, from what it met and whose answer its status is
 pub of-trace : (told : Option Files) (c : CommandOf) (loads_rose puts_rose : Type 0) (s : Status) → MetIn told c s
     → Answers told (Ok c) loads_rose puts_rose s → OfTrace told (Ok c) loads_rose puts_rose s
-of-trace None c loads_rose puts_rose s met answers = tt
-of-trace (Some files) (run r) loads_rose puts_rose s met answers = tt
-of-trace (Some files) (admit a) loads_rose puts_rose s met answers = tt
-of-trace (Some files) (workload seed) loads_rose puts_rose s met answers = tt
-of-trace (Some files) (response r) loads_rose puts_rose s met answers = tt
-of-trace (Some files) (constrain r) loads_rose puts_rose s met answers = tt
-of-trace (Some files) (poll q) loads_rose puts_rose s met answers = tt
-of-trace (Some files) (least l) loads_rose puts_rose s met answers = tt
 of-trace (Some files) (traced r) loads_rose puts_rose s met answers = (
   λ e.
       let m = subst (MetIn (Some files) (traced r)) e met in
@@ -237,3 +203,4 @@ of-trace (Some files) (traced r) loads_rose puts_rose s met answers = (
       let ok = subst IsOk (sym (told-done r files v p g ticks rows tells.0 tells.1 tells.2)) refl in
       done-unless loads_rose puts_rose (trace_answer r files) s answers ok,
 )
+of-trace told c loads_rose puts_rose s met answers = tt

@@ -1,6 +1,5 @@
 -- The headline, from how an answer ends and what its run met.
-use Rattle.std.proofs.Common.{◌≡◌, ◌≢◌, ◌⊎◌, inl, inr, ℕ, ◌≤◌, Bool, true, false, List, [], Option, Some, None, Result, Ok, Err, refl, sym, ◌∙◌, ap, subst, arith, true≢false, nat_lt, if◌then◌else◌}
-use Rattle.std.proofs.lemmas.Bool.Decides.{nat_tests}
+use Rattle.std.proofs.Common.{◌≡◌, ◌≢◌, ◌⊎◌, inl, inr, ℕ, ◌≤◌, Bool, true, false, List, Option, Some, Result, Ok, Err, refl, sym, ◌∙◌, ap, subst, true≢false, nat_lt, if◌then◌else◌}
 use Rattle.std.specs.Io.KnownBytes.{Appends}
 use Rattle.dvs_base.specs.Outside.{Files, SinkView, Rose}
 use Rattle.dvs_base.specs.Checks.{and_then}
@@ -13,7 +12,7 @@ use Rattle.done_lines.specs.RunText.{run_text_in}
 use Rattle.sched_model.specs.Jobs.{released_jobs}
 use Rattle.dvs_base.specs.declared.limits.TheConstants.{MOST_JOBS}
 use Rattle.words.specs.declared.command.WordFault.{WordFault}
-use Rattle.words.specs.Commands.{RunOf, CommandOf, run, admit, traced, workload, response, constrain, poll, least}
+use Rattle.words.specs.Commands.{RunOf, CommandOf, run, response}
 use Rattle.rtdvs_top.specs.Answer.{tasks_at, machine_at, demands_at, admission, within_jobs, prepared_of, answer_of_prepared, run_after_tasks}
 use Rattle.rtdvs_top.specs.CommandAnswer.{answer_of_command}
 use Rattle.rtdvs_top.specs.Promises.{Means, DoneRun, DeniedPlan, OfRun, OfTests, RunsOrIsDenied, Answers, Headline}
@@ -22,24 +21,27 @@ use Rattle.rtdvs_top.specs.declared.status.Denied.{Denied}
 use Rattle.rtdvs_top.specs.declared.status.Status.{Status}
 use Rattle.rtdvs_top.specs.declared.status.Status.TheVariants as status
 use Rattle.rtdvs_top.proofs.Responses.{responds-or-is-denied}
-use Rattle.rtdvs_top.proofs.Denying.{status_of, is_given, denied-later, denied-first, given-both, tasks_at-denies-not, machine_at-denies-not, demands_at-denies-not, within-denies-not, admission-is, admission-same, denied-plan}
+use Rattle.rtdvs_top.proofs.Denying.{status_of, is_given, given-once, within-few, denied-later, denied-first, given-both, tasks_at-denies-not, machine_at-denies-not, demands_at-denies-not, within-denies-not, admission-is, admission-same, denied-plan}
 
 -- what the files of a run that was prepared mean
 prepared-means : (r : RunOf) (files : Files) (tasks : List Task) (p : Plan) (d : DemandsOf)
     → tasks_at r.tasks files ≡ Ok tasks → prepared_of r tasks files ≡ Ok (p, d)
     → (machine : Table) × (demands : DemandsOf) × Means r files tasks machine demands × (p ≡ plan_of tasks machine r.scheduler) × (d ≡ demands)
 prepared-means r files tasks p d t e =
-    let m = given-both (machine_at r.machine files) (λ machine. and_then (demands_at tasks r.demands files) (λ demands. and_then (admission (plan_of tasks machine r.scheduler)) (λ q. Ok (q, demands)))) (p, d) e in
+    let m = given-both (machine_at r.machine files) (λ machine. and_then (demands_at tasks r.demands files)
+    (λ demands. and_then (admission (plan_of tasks machine r.scheduler)) (λ q. Ok (q, demands)))) (p, d) e in
     let machine : Table = m.0 in
-    let g = given-both (demands_at tasks r.demands files) (λ demands. and_then (admission (plan_of tasks machine r.scheduler)) (λ q. Ok (q, demands))) (p, d) m.2 in
+    let g = given-both (demands_at tasks r.demands files)
+    (λ demands. and_then (admission (plan_of tasks machine r.scheduler)) (λ q. Ok (q, demands))) (p, d) m.2 in
     let demands : DemandsOf = g.0 in
     let a = given-both (admission (plan_of tasks machine r.scheduler)) (λ q. Ok (q, demands)) (p, d) g.2 in
-    let pair : (a.0, demands) ≡ (p, d) = ap (λ x. pair_of x) a.2 in
-    (machine, demands, record { tasks_are = t; machine_is = m.1; demands_are = g.1 }, ap (λ x. x.0) (sym pair) ∙ admission-same (plan_of tasks machine r.scheduler) a.0 a.1, ap (λ x. x.1) (sym pair))
-  where
-    pair_of : Result (Plan × DemandsOf) Status → Plan × DemandsOf
-    pair_of (Ok x) = x
-    pair_of (Err s) = (p, d)
+    let pair : (p, d) ≡ (a.0, demands) = given-once a.2 refl in (
+      machine,
+      demands,
+      record { tasks_are = t; machine_is = m.1; demands_are = g.1 },
+      ap (λ x. x.0) pair ∙ admission-same (plan_of tasks machine r.scheduler) a.0 a.1,
+      ap (λ x. x.1) pair,
+    )
 
 -- what the files of a run that is denied mean
 denied-means : (r : RunOf) (files : Files) (why : Denied)
@@ -48,11 +50,14 @@ denied-means : (r : RunOf) (files : Files) (why : Denied)
 denied-means r files why e =
     let t = denied-later (tasks_at r.tasks files) (λ tasks. run_after_tasks r tasks files) why (tasks_at-denies-not r.tasks files) e in
     let tasks : List Task = t.0 in
-    let prepared = denied-first (prepared_of r tasks files) (answer_of_prepared r) why (λ x. within-denies-not (released_jobs x.0 r.ticks) (run_text_in r.version x.0 r.governor (demand_of x.0 x.1.rows) r.ticks)) t.2 in
+    let prepared = denied-first (prepared_of r tasks files) (answer_of_prepared r) why
+    (λ x. within-denies-not (released_jobs x.0 r.ticks) (run_text_in r.version x.0 r.governor (demand_of x.0 x.1.rows) r.ticks)) t.2 in
     let m = denied-later (machine_at r.machine files)
-    (λ machine. and_then (demands_at tasks r.demands files) (λ d. and_then (admission (plan_of tasks machine r.scheduler)) (λ p. Ok (p, d)))) why (machine_at-denies-not r.machine files) prepared in
+    (λ machine. and_then (demands_at tasks r.demands files) (λ d. and_then (admission (plan_of tasks machine r.scheduler)) (λ p. Ok (p, d)))) why
+    (machine_at-denies-not r.machine files) prepared in
     let machine : Table = m.0 in
-    let g = denied-later (demands_at tasks r.demands files) (λ d. and_then (admission (plan_of tasks machine r.scheduler)) (λ p. Ok (p, d))) why (demands_at-denies-not tasks r.demands files) m.2 in
+    let g = denied-later (demands_at tasks r.demands files) (λ d. and_then (admission (plan_of tasks machine r.scheduler)) (λ p. Ok (p, d))) why
+    (demands_at-denies-not tasks r.demands files) m.2 in
     let numbers = denied-first (admission (plan_of tasks machine r.scheduler)) (λ p. Ok (p, g.0)) why (λ p. refl) g.2 in
     (tasks, machine, g.0, record { tasks_are = t.1; machine_is = m.1; demands_are = g.1 }, denied-plan (plan_of tasks machine r.scheduler) why numbers)
 
@@ -64,16 +69,12 @@ done-text r files tasks p d bytes t q e =
     within-text (released_jobs p r.ticks) (run_text_in r.version p r.governor (demand_of p d.rows) r.ticks) bytes
     (sym (ap (λ x. and_then x (answer_of_prepared r)) q) ∙ (sym (ap (λ x. and_then x (λ ts. run_after_tasks r ts files)) t) ∙ e))
   where
-    text_of : Result (List ℕ) Status → List ℕ
-    text_of (Ok bytes) = bytes
-    text_of (Err s) = []
-
     within-text : (jobs : ℕ) (whole bytes : List ℕ) → within_jobs jobs whole ≡ Ok bytes → bytes ≡ whole
     within-text jobs whole bytes e = go (nat_lt MOST_JOBS jobs) e
       where
         go : (b : Bool) → (if b then Err (status.Limit jobs) else Ok whole) ≡ Ok bytes → bytes ≡ whole
         go true e = absurd (true≢false (sym (ap is_given e)))
-        go false e = sym (ap text_of e)
+        go false e = given-once e refl
 
 -- a run that is done, of the tasks, the machine and the demands that its files mean
 done-run : (r : RunOf) (files : Files) (old new : SinkView) (tasks : List Task) (p : Plan) (d : DemandsOf) (bytes : List ℕ)
@@ -92,25 +93,10 @@ done-run r files old new tasks p d bytes t q e wrote met =
 -- the run of told files, from how its answer ends and what it met
 pub of-run : (told : Option Files) (c : CommandOf) (s : Status) (old new : SinkView)
     → EndsAs old new told (answer_of_command c) s → MetIn told c s → OfRun told (Ok c) old new s
-of-run None c s old new ends met = tt
-of-run (Some files) (admit a) s old new ends met = tt
-of-run (Some files) (traced r) s old new ends met = tt
-of-run (Some files) (workload seed) s old new ends met = tt
-of-run (Some files) (response r) s old new ends met = tt
-of-run (Some files) (constrain r) s old new ends met = tt
-of-run (Some files) (poll q) s old new ends met = tt
-of-run (Some files) (least l) s old new ends met = tt
 of-run (Some files) (run r) status.Done old new ends met =
     done-run r files old new met.0 met.2.0 met.2.1 ends.0 met.1 met.2.2 ends.1 ends.2.bytes met.2.3
 of-run (Some files) (run r) (status.NotAdmitted why) old new ends met = denied-means r files why ends
-of-run (Some files) (run r) (status.Words why) old new ends met = tt
-of-run (Some files) (run r) (status.Load kind) old new ends met = tt
-of-run (Some files) (run r) (status.Text why) old new ends met = tt
-of-run (Some files) (run r) (status.Limit jobs) old new ends met = tt
-of-run (Some files) (run r) (status.OverWorst task job units worst) old new ends met = tt
-of-run (Some files) (run r) (status.Differs line wanted found) old new ends met = tt
-of-run (Some files) (run r) status.Write old new ends met = tt
-of-run (Some files) (run r) status.NoMemory old new ends met = tt
+of-run told c s old new ends met = tt
 
 -- the answer of a run whose files mean this, and which releases no more jobs than the limit
 module _ (r : RunOf) (files : Files) (tasks : List Task) (machine : Table) (demands : DemandsOf) (means : Means r files tasks machine demands)
@@ -127,9 +113,6 @@ module _ (r : RunOf) (files : Files) (tasks : List Task) (machine : Table) (dema
   abbrev whole : List ℕ
   whole = run_text_in r.version plan r.governor (demand_of plan demands.rows) r.ticks
 
-  few-text : within_jobs (released_jobs plan r.ticks) whole ≡ Ok whole
-  few-text = grind (arith, nat_tests)
-
   -- a status that the answer refuses with is a denial
   denied-only : (s : Status) → answer_of_command (run r) files ≡ Err s
       → (why : Denied) × (s ≡ status.NotAdmitted why) × DeniedPlan plan why
@@ -137,30 +120,18 @@ module _ (r : RunOf) (files : Files) (tasks : List Task) (machine : Table) (dema
     where
       go : (admission plan ≡ Ok plan) ⊎ ((why : Denied) × (admission plan ≡ Err (status.NotAdmitted why)))
           → (why : Denied) × (s ≡ status.NotAdmitted why) × DeniedPlan plan why
-      go (inl ok) = absurd (true≢false (ap is_given (sym few-text ∙ (sym (ap after ok) ∙ (sym answer-is ∙ e)))))
+      go (inl ok) = absurd (true≢false (ap is_given (sym (within-few (released_jobs plan r.ticks) whole few) ∙ (sym (ap after ok) ∙ (sym answer-is ∙ e)))))
       go (inr denial) = (denial.0, ap status_of (sym e ∙ (answer-is ∙ ap after denial.1)), denied-plan plan denial.0 denial.1)
 
   -- a run that is done is of what its files mean
   done-only : (old new : SinkView) → OfRun (Some files) (Ok (run r)) old new status.Done
       → DoneRun r.version r.governor (run_with r plan demands) old new
   done-only old new x =
-      let ts = ap given_tasks (sym x.3.tasks_are ∙ means.tasks_are) in
-      let ms = ap given_machine (sym x.3.machine_is ∙ means.machine_is) in
-      let ds = ap given_demands (sym (subst (λ (ts : List Task). demands_at ts r.demands files ≡ Ok x.2) ts x.3.demands_are) ∙ means.demands_are) in
+      let ts = given-once x.3.tasks_are means.tasks_are in
+      let ms = given-once x.3.machine_is means.machine_is in
+      let ds = given-once (subst (λ (ts : List Task). demands_at ts r.demands files ≡ Ok x.2) ts x.3.demands_are) means.demands_are in
       let P : List Task → Table → DemandsOf → Type 0 = λ a b c. DoneRun r.version r.governor (run_with r (plan_of a b r.scheduler) c) old new in
       subst (λ (c : DemandsOf). P tasks machine c) ds (subst (λ (b : Table). P tasks b x.2) ms (subst (λ (a : List Task). P a x.1 x.2) ts x.5))
-    where
-      given_tasks : Result (List Task) Status → List Task
-      given_tasks (Ok a) = a
-      given_tasks (Err s) = tasks
-
-      given_machine : Result Table Status → Table
-      given_machine (Ok a) = a
-      given_machine (Err s) = machine
-
-      given_demands : Result DemandsOf Status → DemandsOf
-      given_demands (Ok a) = a
-      given_demands (Err s) = demands
 
   pub runs-or-is-denied : (loads_rose : Type 0) (old new : SinkView) (s : Status)
       → OfRun (Some files) (Ok (run r)) old new s
@@ -168,31 +139,20 @@ module _ (r : RunOf) (files : Files) (tasks : List Task) (machine : Table) (dema
       → (Rose old.faults new.faults → ⊥) → s ≢ status.NoMemory
       → RunsOrIsDenied r.version r.governor (run_with r plan demands) old new s
   runs-or-is-denied loads_rose old new status.Done of answers still whole_out memory = inl (refl, done-only old new of)
-  runs-or-is-denied loads_rose old new (status.NotAdmitted why) of answers still whole_out memory = inr (denied-only (status.NotAdmitted why) answers)
-  runs-or-is-denied loads_rose old new (status.Words why) of answers still whole_out memory =
-      inr (denied-only (status.Words why) answers)
   runs-or-is-denied loads_rose old new (status.Load kind) of (inl answers) still whole_out memory = inr (denied-only (status.Load kind) answers)
   runs-or-is-denied loads_rose old new (status.Load kind) of (inr rose) still whole_out memory = absurd (still rose)
-  runs-or-is-denied loads_rose old new (status.Text why) of answers still whole_out memory = inr (denied-only (status.Text why) answers)
-  runs-or-is-denied loads_rose old new (status.Limit jobs) of answers still whole_out memory = inr (denied-only (status.Limit jobs) answers)
-  runs-or-is-denied loads_rose old new (status.OverWorst task job units worst) of answers still whole_out memory = inr (denied-only (status.OverWorst task job units worst) answers)
-  runs-or-is-denied loads_rose old new (status.Differs line wanted found) of answers still whole_out memory = inr (denied-only (status.Differs line wanted found) answers)
   runs-or-is-denied loads_rose old new status.Write of answers still whole_out memory = absurd (whole_out answers.1)
   runs-or-is-denied loads_rose old new status.NoMemory of answers still whole_out memory = absurd (memory refl)
+  runs-or-is-denied loads_rose old new s of answers still whole_out memory = inr (denied-only s answers)
 
 -- the headline, from what holds of each run and from whose answer the status is
 pub headline-of : (told : Option Files) (c : Result CommandOf WordFault) (loads_rose : Type 0) (old new : SinkView) (s : Status)
     → OfRun told c old new s → OfTests told c s
     → Answers told c loads_rose (Rose old.faults new.faults) s → Headline told c loads_rose old new s
-headline-of None c loads_rose old new s of tests answers = tt
-headline-of (Some files) (Err why) loads_rose old new s of tests answers = tt
-headline-of (Some files) (Ok (admit a)) loads_rose old new s of tests answers = tt
-headline-of (Some files) (Ok (traced r)) loads_rose old new s of tests answers = tt
-headline-of (Some files) (Ok (workload seed)) loads_rose old new s of tests answers = tt
 headline-of (Some files) (Ok (response r)) loads_rose old new s of tests answers =
-    λ tasks machine means still whole_out memory. responds-or-is-denied r files tasks machine means loads_rose (Rose old.faults new.faults) s tests answers still whole_out memory
-headline-of (Some files) (Ok (constrain r)) loads_rose old new s of tests answers = tt
-headline-of (Some files) (Ok (poll q)) loads_rose old new s of tests answers = tt
-headline-of (Some files) (Ok (least l)) loads_rose old new s of tests answers = tt
+    λ tasks machine means still whole_out memory. responds-or-is-denied r files tasks machine means loads_rose
+    (Rose old.faults new.faults) s tests answers still whole_out memory
 headline-of (Some files) (Ok (run r)) loads_rose old new s of tests answers =
-    λ tasks machine demands means few still whole_out memory. runs-or-is-denied r files tasks machine demands means few loads_rose old new s of answers still whole_out memory
+    λ tasks machine demands means few still whole_out memory. runs-or-is-denied r files tasks machine demands means few loads_rose
+    old new s of answers still whole_out memory
+headline-of told c loads_rose old new s of tests answers = tt

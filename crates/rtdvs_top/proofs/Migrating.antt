@@ -1,5 +1,6 @@
 -- A trace that was compared, and the run that writes it in version 2.
-use Rattle.std.proofs.Common.{◌≡◌, ℕ, Bool, true, false, List, Some, None, Result, Ok, Err, IsOk, refl, sym, ap, ◌∙◌, true≢false, nat_lt, if◌then◌else◌}
+use Rattle.std.proofs.Common.{◌≡◌, ℕ, ◌≤◌, Bool, true, false, List, Some, None, Result, Ok, Err, IsOk, refl, sym, ap, ◌∙◌, true≢false, nat_lt, if◌then◌else◌, arith}
+use Rattle.std.proofs.lemmas.Bool.Decides.{nat_tests}
 use Rattle.dvs_base.specs.declared.kind.Scheduler.{Scheduler}
 use Rattle.dvs_base.specs.declared.kind.Version.TheVariants.{Two}
 use Rattle.dvs_base.specs.declared.note.Note.{Note}
@@ -17,29 +18,29 @@ use Rattle.trace_reader.specs.Traces.{TraceOf, is_end, IsEnded}
 use Rattle.trace_reader.specs.TraceText.{whole_text}
 use Rattle.replay_laws.specs.FixedDemands.{fixed_of}
 use Rattle.replay_laws.proofs.OneEnd.{EndsOnce}
-use Rattle.replay.specs.Replays.{first_over, too_many, replay_of}
+use Rattle.replay.specs.Replays.{too_many, replay_of}
 use Rattle.replay.specs.declared.fault.ReplayFault.{ReplayFault}
 use Rattle.replay.specs.declared.fault.ReplayFault.TheVariants as replay_fault
 use Rattle.replay.proofs.Comparing.{ended-once}
 use Rattle.replay.proofs.Exact.{Passes, replayed-passes}
-use Rattle.rtdvs_top.specs.Answer.{within_jobs, answer_of_plan}
+use Rattle.rtdvs_top.specs.Answer.{answer_of_plan}
 use Rattle.rtdvs_top.specs.ReplayAnswer.{totals_from, totals_at, migrated_text}
-use Rattle.rtdvs_top.specs.declared.status.Status.TheVariants as status
+use Rattle.rtdvs_top.proofs.Denying.{within-few}
 
 -- a replay that has totals is done
 pub replayed-some : (r : Result Totals ReplayFault) → IsOk (totals_from r) → (totals : Totals) × (r ≡ Ok totals)
 replayed-some (Ok totals) h = (totals, refl)
 replayed-some (Err why) h = absurd (true≢false (sym h))
 
--- where few jobs are released, the limit refuses nothing
-pub within-few : (p : Plan) (ticks : ℕ) (bytes : List ℕ) → too_many p ticks ≡ None
-    → within_jobs (released_jobs p ticks) bytes ≡ Ok bytes
-within-few p ticks bytes = go (nat_lt MOST_JOBS (released_jobs p ticks))
+-- the limit on jobs holds where it refuses nothing
+pub few-of-none : (p : Plan) (ticks : ℕ) → too_many p ticks ≡ None → released_jobs p ticks ≤ MOST_JOBS
+few-of-none p ticks = go (nat_lt MOST_JOBS (released_jobs p ticks)) refl
   where
-    go : (b : Bool) → (if b then Some (replay_fault.TooManyJobs (released_jobs p ticks)) else None) ≡ None
-        → (if b then Err (status.Limit (released_jobs p ticks)) else Ok bytes) ≡ Ok bytes
-    go true e = absurd cc
-    go false e = refl
+    go : (b : Bool) → nat_lt MOST_JOBS (released_jobs p ticks) ≡ b
+        → (if b then Some (replay_fault.TooManyJobs (released_jobs p ticks)) else None) ≡ None
+        → released_jobs p ticks ≤ MOST_JOBS
+    go true e none = absurd cc
+    go false e none = grind (arith, nat_tests, e)
 
 module _ (p : Plan) (lim : IsWithinLimits p) (t : TraceOf) (ended : IsEnded t.notes) where
   pub ends : EndsOnce is_end t.notes
@@ -52,16 +53,12 @@ module _ (p : Plan) (lim : IsWithinLimits p) (t : TraceOf) (ended : IsEnded t.no
       let done = replayed-some (replay_of p asked t) ok in
       (replayed-passes p lim asked t ends done.0 done.1).0
 
-  -- so no end exceeds its worst case
-  pub none-over : IsOk (totals_at (p, t)) → first_over p t.notes ≡ None
-  none-over ok = (passes ok).none_over
-
-  -- and the run for the demands that it fixes has its notes
+  -- so the run for the demands that it fixes has its notes
   pub own-notes : IsOk (totals_at (p, t))
       → run_notes p t.plan.governor (demand_of p (fixed_of p t.notes)) t.plan.ticks ≡ t.notes
   own-notes ok = sym (passes ok).same
 
-  -- so that run is answered by its text in version 2
+  -- and that run is answered by its text in version 2
   pub migrated : IsOk (totals_at (p, t)) → (d : DemandsOf) → demand_of p d.rows ≡ demand_of p (fixed_of p t.notes)
       → t.plan.scheduler ≡ p.scheduler → answer_of_plan Two t.plan.governor d t.plan.ticks p ≡ Ok (migrated_text p t)
   migrated ok d demands scheduler =
@@ -72,5 +69,5 @@ module _ (p : Plan) (lim : IsWithinLimits p) (t : TraceOf) (ended : IsEnded t.no
       let text : run_text_in Two p g (demand_of p d.rows) ticks ≡ migrated_text p t =
       ap (λ (l : List Note). whole_text Two p.scheduler g ticks (names p) (task_texts p) l) notes
       ∙ ap (λ (s : Scheduler). whole_text Two s g ticks (names p) (task_texts p) t.notes) (sym scheduler) in
-      within-few p ticks (run_text_in Two p g (demand_of p d.rows) ticks) (passes ok).few
+      within-few (released_jobs p ticks) (run_text_in Two p g (demand_of p d.rows) ticks) (few-of-none p ticks (passes ok).few)
       ∙ ap (λ (text : List ℕ). Ok text) text

@@ -1,5 +1,5 @@
 -- What is noted at the end, with the names of the command's tasks.
-use Rattle.std.proofs.Common.{◌≡◌, ℕ, Bool, true, false, List, Option, Some, None, Ok, ap, subst}
+use Rattle.std.proofs.Common.{◌≡◌, ℕ, Bool, true, List, Option, Some, None, Ok, ap, subst}
 use Rattle.dvs_base.specs.Outside.{Files, SinkView}
 use Rattle.task_model.specs.declared.task.Task.{Task}
 use Rattle.probes.specs.Tallies.{ProbeOf}
@@ -15,17 +15,8 @@ use Rattle.rtdvs_top.specs.declared.status.Status.TheVariants as status
 module _ (files : Files) (c : CommandOf) (tasks : Option (List Task)) (ps : List ProbeOf) where
   same-noted : (asks : Bool) (s : Status) → NamedBy (Some files) c tasks s → NamedIfDone (Some files) c tasks s
       → noted_text asks (names_of tasks) ps s ≡ noted_text asks (names_by c files) ps s
-  same-noted false s named done = named
   same-noted true status.Done named done = ap (λ (ns : List (List ℕ)). probe_lines ns 1 ps) done
-  same-noted true status.Write named done = named
-  same-noted true (status.Words why) named done = named
-  same-noted true (status.NotAdmitted why) named done = named
-  same-noted true (status.Load file) named done = named
-  same-noted true (status.Text why) named done = named
-  same-noted true (status.Limit jobs) named done = named
-  same-noted true (status.OverWorst task job units worst) named done = named
-  same-noted true (status.Differs line wanted found) named done = named
-  same-noted true status.NoMemory named done = named
+  same-noted asks s named done = named
 
 -- what was noted is what the call promises
 pub notes-of : (told : Option Files) (c : CommandOf) (tasks read : Option (List Task)) (ps qs : List ProbeOf) (s : Status) (old new : SinkView) (asks : Bool)

@@ -1,17 +1,20 @@
 -- A run by a governor's own demand is the run by the published one.
-use Rattle.std.proofs.Common.{◌≡◌, ℕ, true, List, ap, ◌∙◌, sym, subst}
+use Rattle.std.proofs.Common.{◌≡◌, ℕ, ◌≤◌, true, List, ap, ◌∙◌, subst}
 use Rattle.dvs_base.specs.Outside.{SinkView}
 use Rattle.dvs_base.specs.declared.note.Note.{Note}
 use Rattle.dvs_base.specs.declared.kind.GovernorKind.{GovernorKind}
 use Rattle.dvs_base.specs.declared.kind.Version.{Version}
+use Rattle.dvs_base.specs.declared.limits.TheConstants.{MOST_TICKS}
 use Rattle.grid_fraction.specs.declared.Frac.{Frac}
 use Rattle.demand_list.specs.Demands.{DemandsOf, IsWithinWorsts}
 use Rattle.sched_model.specs.Plan.{Plan, names}
 use Rattle.sched_model.specs.Notes.{notes_of}
 use Rattle.trace_reader.specs.TraceText.{whole_text}
 use Rattle.done_lines.specs.RunText.{task_texts}
+use Rattle.done_lines.proofs.DoneText.{text-tells}
 use Rattle.sched_model.specs.Schedule.{schedule_by}
 use Rattle.sched_model.specs.Deadlines.{IsMet}
+use Rattle.sched_model.specs.Admission.{IsAdmitted}
 use Rattle.sched_model.specs.Decision.{is_decision}
 use Rattle.freq_table.specs.Tables.{lowest_pick}
 use Rattle.sched_model.specs.Jobs.{released_jobs}
@@ -20,20 +23,21 @@ use Rattle.event_kernel.proofs.Demanding.{demand-within}
 use Rattle.sched_model.specs.Ticks.{Tick}
 use Rattle.sched_model.specs.States.{StateOf}
 use Rattle.sched_model.specs.Demand.{published}
-use Rattle.sched_model.specs.Demands.{demand_of}
-use Rattle.sched_model.proofs.ScheduleLemmas.{schedule_exists}
-use Rattle.sched_model.proofs.Agreeing.{AgreeOnSchedules, same-schedule, same-notes}
+use Rattle.sched_model.specs.Demands.{demand_of, IsWithin}
+use Rattle.sched_model.proofs.ScheduleLemmas.{schedule_exists, schedule_unique}
 use Rattle.sched_model.specs.Totals.{totals_of}
 use Rattle.governor.specs.Schedule.{ask_of, Publishes}
 use Rattle.rtdvs_top.specs.WorkloadLines.{run_totals}
 use Rattle.rtdvs_top.specs.Answer.{answer_of_run, within_jobs}
-use Rattle.rtdvs_top.specs.Ending.{Ends, governed_answer, MeetsAll, MeetsAllOf}
+use Rattle.rtdvs_top.specs.Ending.{Ends, governed_answer, MeetsAll, HasMetIfDone}
 use Rattle.probes.specs.Tallies.{ProbeOf}
 use Rattle.rtdvs_top.specs.Probing.{NotesTold, GovernedTold, RunTold}
 use Rattle.rtdvs_top.specs.declared.status.Status.{Status}
 use Rattle.rtdvs_top.specs.declared.status.Status.TheVariants as status
+use Rattle.rtdvs_top.proofs.Comparisons as comparisons
 
-module _ (demand : Plan → StateOf → Frac) (kind : GovernorKind) (p : Plan) (d : DemandsOf) (list : IsListOf p d) (low : IsWithinWorsts d) (publishes : Publishes demand kind p) where
+module _ (demand : Plan → StateOf → Frac) (kind : GovernorKind) (p : Plan) (d : DemandsOf) (list : IsListOf p d)
+    (low : IsWithinWorsts d) (publishes : Publishes demand kind p) where
   abbrev dem : ℕ → ℕ → ℕ
   dem = demand_of p d.rows
 
@@ -43,17 +47,15 @@ module _ (demand : Plan → StateOf → Frac) (kind : GovernorKind) (p : Plan) (
   abbrev asked : List Tick → Frac
   asked = published p kind dem
 
-  agree : AgreeOnSchedules p dem own asked
-  agree ask past h = sym (publishes dem (demand-within p d list low) ask past h)
+  within : IsWithin p dem
+  within = demand-within p d list low
 
   same-ticks : (t : ℕ) → schedule_by p dem own t ≡ schedule_by p dem asked t
-  same-ticks t = same-schedule p dem own asked agree t
+  same-ticks = comparisons.same-ticks demand kind p publishes dem within
 
   same-run : (ticks : ℕ)
       → notes_of p dem own (schedule_by p dem own ticks) ≡ notes_of p dem asked (schedule_by p dem asked ticks)
-  same-run ticks =
-      same-notes p dem own asked agree own (schedule_by p dem own ticks) (schedule_exists p dem own ticks).0
-      ∙ ap (notes_of p dem asked) (same-ticks ticks)
+  same-run = comparisons.same-run demand kind p publishes dem within
 
   -- the run of so many ticks
   abbrev pub run_of : ℕ → Run
@@ -65,7 +67,8 @@ module _ (demand : Plan → StateOf → Frac) (kind : GovernorKind) (p : Plan) (
   pub ended-published : (v : Version) (old new : SinkView) (ticks : ℕ) (s : Status)
       → Ends old new (governed_answer v kind demand (run_of ticks)) s → Ends old new (answer_of_run v kind (run_of ticks)) s
   ended-published v old new ticks s h =
-      let P : List Note → Type 0 = λ notes. Ends old new (within_jobs (released_jobs p ticks) (whole_text v p.scheduler kind ticks (names p) (task_texts p) notes)) s in
+      let P : List Note → Type 0 = λ notes. Ends old new
+      (within_jobs (released_jobs p ticks) (whole_text v p.scheduler kind ticks (names p) (task_texts p) notes)) s in
       subst P (same-run ticks) h
 
   pub told-published : (v : Version) (old new : SinkView) (before after : List ProbeOf) (ticks : ℕ) (s : Status)
@@ -81,17 +84,25 @@ module _ (demand : Plan → StateOf → Frac) (kind : GovernorKind) (p : Plan) (
   met-there t h =
       let Met : List Tick → Frac → Type 0 = λ ticks f. is_decision p dem ticks ≡ true → (lowest_pick p.machine f).met ≡ true in
       subst (λ (ticks : List Tick). Met ticks (asked ticks)) (same-ticks t)
-      (subst (Met (schedule_by p dem own t)) (agree own (schedule_by p dem own t) (schedule_exists p dem own t).0) h)
+      (subst (Met (schedule_by p dem own t))
+      (comparisons.agree demand kind p publishes dem within own (schedule_by p dem own t) (schedule_exists p dem own t).0) h)
 
-  pub met-published : (ticks : ℕ) (s : Status) → MeetsAll kind demand (run_of ticks) s
-      → MeetsAllOf kind (run_of ticks) s
-  met-published ticks status.Done h = (subst (IsMet p dem) (same-ticks ticks) h.0, λ n t lt. met-there t (h.1 n t lt))
-  met-published ticks (status.NotAdmitted why) h = tt
-  met-published ticks (status.Words why) h = tt
-  met-published ticks (status.Load file) h = tt
-  met-published ticks (status.Text why) h = tt
-  met-published ticks (status.Limit jobs) h = tt
-  met-published ticks (status.OverWorst task job units worst) h = tt
-  met-published ticks (status.Differs line wanted found) h = tt
-  met-published ticks status.Write h = tt
-  met-published ticks status.NoMemory h = tt
+  -- what a run that is done has met, from the deadlines and the demands that it met by its own demand
+  pub met-published : (v : Version) (ticks : ℕ) → ticks ≤ MOST_TICKS → IsAdmitted p → (s : Status)
+      → MeetsAll kind demand (run_of ticks) s → HasMetIfDone v kind (run_of ticks) s
+  met-published v ticks low_ticks adm status.Done h =
+      let met : IsMet p dem (schedule_by p dem asked ticks) = subst (IsMet p dem) (same-ticks ticks) h.0 in
+      record {
+        admitted = adm.test;
+        schedule = record {
+          legal = (schedule_exists p dem asked ticks).0;
+          whole = (schedule_exists p dem asked ticks).1;
+          only = λ other legal whole. schedule_unique p dem asked other legal ∙ ap (schedule_by p dem asked) whole;
+        };
+        deadlines = met;
+        told = text-tells p adm.limits v kind dem ticks low_ticks met;
+        speeds = λ n t lt. met-there t (h.1 n t lt);
+        exists = schedule_exists p;
+        unique = schedule_unique p;
+      }
+  met-published v ticks low_ticks adm s h = tt

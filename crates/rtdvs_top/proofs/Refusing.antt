@@ -26,50 +26,22 @@ pub ends-refusal : {A : Type 0} (step : Result A Status) (s : Status) → EndsWi
 ends-refusal step status.Done h = absurd h
 ends-refusal step (status.Words why) h = absurd h
 ends-refusal step status.Write h = absurd h
-ends-refusal step (status.NotAdmitted why) h = tt
-ends-refusal step (status.Load kind) h = tt
-ends-refusal step (status.Text why) h = tt
-ends-refusal step (status.Limit jobs) h = tt
-ends-refusal step (status.OverWorst task job units worst) h = tt
-ends-refusal step (status.Differs line wanted found) h = tt
-ends-refusal step status.NoMemory h = tt
+ends-refusal step s h = tt
 
 pub task-ends : {A : Type 0} (step : Result A Status) (e : TaskFault)
     → (e ≢ task_fault.NoMemory → step ≡ Err (task_status e)) → EndsWith step (task_status e)
 task-ends step task_fault.NoMemory h = tt
-task-ends step task_fault.NotToml h = h (λ q. cc)
-task-ends step (task_fault.UnknownKey place key) h = h (λ q. cc)
-task-ends step task_fault.NoTasks h = h (λ q. cc)
-task-ends step (task_fault.TooMany count) h = h (λ q. cc)
-task-ends step (task_fault.Missing place field) h = h (λ q. cc)
-task-ends step (task_fault.Kind place field) h = h (λ q. cc)
-task-ends step (task_fault.Range place field) h = h (λ q. cc)
-task-ends step (task_fault.BadName place) h = h (λ q. cc)
-task-ends step (task_fault.SameName first second) h = h (λ q. cc)
-task-ends step task_fault.Hyper h = h (λ q. cc)
+task-ends step e h = h (λ q. cc)
 
 pub machine-ends : {A : Type 0} (step : Result A Status) (e : MachineFault)
     → (e ≢ machine_fault.NoMemory → step ≡ Err (machine_status e)) → EndsWith step (machine_status e)
 machine-ends step machine_fault.NoMemory h = tt
-machine-ends step machine_fault.NotToml h = h (λ q. cc)
-machine-ends step (machine_fault.UnknownKey place key) h = h (λ q. cc)
-machine-ends step machine_fault.NoPoints h = h (λ q. cc)
-machine-ends step (machine_fault.TooMany count) h = h (λ q. cc)
-machine-ends step (machine_fault.Missing place field) h = h (λ q. cc)
-machine-ends step (machine_fault.Kind place field) h = h (λ q. cc)
-machine-ends step (machine_fault.Range place field) h = h (λ q. cc)
-machine-ends step (machine_fault.NotRising place) h = h (λ q. cc)
+machine-ends step e h = h (λ q. cc)
 
 pub demand-ends : {A : Type 0} (step : Result A Status) (e : DemandFault)
     → (e ≢ demand_fault.NoMemory → step ≡ Err (demand_status e)) → EndsWith step (demand_status e)
 demand-ends step demand_fault.NoMemory h = tt
-demand-ends step demand_fault.Header h = h (λ q. cc)
-demand-ends step (demand_fault.Fields row count) h = h (λ q. cc)
-demand-ends step (demand_fault.UnknownTask row name) h = h (λ q. cc)
-demand-ends step (demand_fault.BadNumber row column) h = h (λ q. cc)
-demand-ends step (demand_fault.JobZero row) h = h (λ q. cc)
-demand-ends step (demand_fault.Repeated row task job) h = h (λ q. cc)
-demand-ends step (demand_fault.OverWorst task job units worst) h = h (λ q. cc)
+demand-ends step e h = h (λ q. cc)
 
 -- the refusal of a task file that was loaded, of a machine file, and of a demand file
 pub tasks-refused : (told : Option Files) (name v : List ℕ) (e : TaskFault) → Gives told (bytes_at file.Tasks name) v
@@ -80,11 +52,13 @@ tasks-refused (Some files) name v e gives unless = task-ends (tasks_at name file
 pub machine-refused : (told : Option Files) (name v : List ℕ) (e : MachineFault)
     → Gives told (bytes_at file.Machine name) v → (e ≢ machine_fault.NoMemory → machine_file v ≡ Err e)
     → Refuses told (machine_at name) (machine_status e)
-machine-refused None name v e gives unless = ends-refusal (failed (machine_status e)) (machine_status e) (machine-ends (failed (machine_status e)) e (λ n. refl))
+machine-refused None name v e gives unless = ends-refusal (failed (machine_status e)) (machine_status e)
+    (machine-ends (failed (machine_status e)) e (λ n. refl))
 machine-refused (Some files) name v e gives unless = machine-ends (machine_at name files) e (λ n. rw (gives, unless n) refl)
 
 pub demands-refused : (told : Option Files) (tasks : List Task) (name v : List ℕ) (e : DemandFault)
     → Gives told (bytes_at file.Demands name) v → (e ≢ demand_fault.NoMemory → demand_file tasks v ≡ Err e)
     → Refuses told (demands_at tasks (Some name)) (demand_status e)
-demands-refused None tasks name v e gives unless = ends-refusal (failed (demand_status e)) (demand_status e) (demand-ends (failed (demand_status e)) e (λ n. refl))
+demands-refused None tasks name v e gives unless = ends-refusal (failed (demand_status e)) (demand_status e)
+    (demand-ends (failed (demand_status e)) e (λ n. refl))
 demands-refused (Some files) tasks name v e gives unless = demand-ends (demands_at tasks (Some name) files) e (λ n. rw (gives, unless n) refl)

@@ -8,7 +8,7 @@ use Rattle.task_model.specs.declared.task.Task.{Task}
 use Rattle.task_model.specs.DemandRows.{named}
 use Rattle.task_model.specs.TaskFile.{place_of}
 use Rattle.demand_list.specs.Demands.{DemandsOf}
-use Rattle.demand_list.specs.DemandFile.{three_of, fields_from, task_from, number_from, row_of, no_earlier, with_checked, demands_from, is_header, worst_list, after_header, demand_file}
+use Rattle.demand_list.specs.DemandFile.{fields_from, task_from, number_from, row_of, no_earlier, with_checked, demands_from, is_header, worst_list, after_header, demand_file}
 use Rattle.demand_list.specs.declared.fault.Column.{Column}
 use Rattle.demand_list.specs.declared.fault.Column.TheVariants as column
 use Rattle.demand_list.specs.declared.fault.DemandFault.{DemandFault}
@@ -50,7 +50,7 @@ choice-shown false x y h k = k
 
 row-shown : (tasks : List Task) (row : ℕ) (fields : List (List ℕ)) → IsShownStep (row_of tasks row fields)
 row-shown tasks row fields =
-    then-shown _ _ (fields-shown row _ (three_of fields)) (λ three.
+    then-shown _ _ (fields-shown row _ _) (λ three.
     then-shown _ _ (task-shown row three.0 (place_of tasks three.0)) (λ task.
     then-shown _ _ (number-shown row column.Job (number_below (2 ^ 64) three.1)) (λ number.
     then-shown _ _ (choice-shown (number == 0) (Err (fault.JobZero row)) (Ok number) (λ h. tt) tt) (λ job.
@@ -64,7 +64,8 @@ earlier-shown row task job (Some units) rest h = tt
 checked-shown : (d : DemandsOf) (row task job units : ℕ) → IsShownStep (with_checked d row task job units)
 checked-shown d row task job units =
     earlier-shown row task job (named d.rows task job) _
-    (choice-shown (nat_lt (slice_index d.worsts task) units) (Err (fault.OverWorst task job units (slice_index d.worsts task))) _ (λ h. grind (arith, nat_tests)) tt)
+    (choice-shown (nat_lt (slice_index d.worsts task) units)
+    (Err (fault.OverWorst task job units (slice_index d.worsts task))) _ (λ h. grind (arith, nat_tests)) tt)
 
 rows-shown : (tasks : List Task) (row : ℕ) (d : DemandsOf) (rows : List (List (List ℕ)))
     → IsShownStep (demands_from tasks row d rows)
@@ -82,12 +83,6 @@ file-shown tasks bytes = then-shown _ _ (search header-shown) (rows-shown tasks 
 
 pub demand-shown : (tasks : List Task) (bytes : List ℕ) (e : DemandFault)
     → (e ≢ fault.NoMemory → demand_file tasks bytes ≡ Err e) → IsShown (demand_status e)
-demand-shown tasks bytes fault.NoMemory h = tt
-demand-shown tasks bytes fault.Header h = tt
-demand-shown tasks bytes (fault.Fields row count) h = tt
-demand-shown tasks bytes (fault.UnknownTask row name) h = tt
-demand-shown tasks bytes (fault.BadNumber row at) h = tt
-demand-shown tasks bytes (fault.JobZero row) h = tt
-demand-shown tasks bytes (fault.Repeated row task job) h = tt
 demand-shown tasks bytes (fault.OverWorst task job units worst) h =
     subst (λ (r : Result DemandsOf DemandFault). IsShownStep r) (h (λ q. cc)) (file-shown tasks bytes)
+demand-shown tasks bytes e h = tt

@@ -1,6 +1,5 @@
 -- Texts written one after another.
-use Rattle.std.proofs.Common.{inl, inr, ℕ, ◌+◌, List, [], ◌++◌, length, length-append, take, Option, Some, None, Result, Ok, Err, refl, sym, ◌∙◌, subst, arith, append-nil}
-use Rattle.std.specs.Io.KnownBytes.{Appends}
+use Rattle.std.proofs.Common.{inl, inr, ℕ, ◌+◌, List, ◌++◌, length, length-append, take, Result, Ok, Err, subst, arith}
 use Rattle.std.proofs.KnownBytes.{Appends-trans}
 use Rattle.std.proofs.lemmas.List.{take-append-le}
 use Rattle.std.proofs.Math.Seq.{take-append-add}
@@ -8,22 +7,7 @@ use Rattle.dvs_base.specs.Outside.{SinkView, Rose}
 use Rattle.event_kernel.specs.Lines.{Wrote, WroteSome}
 use Rattle.rtdvs_top.specs.Writing.{Writing, NotedAs}
 
--- nothing was written
-appends-none : (a : Option (List ℕ)) → Appends a a []
-appends-none None = tt
-appends-none (Some xs) = sym (append-nil xs)
-
-pub wrote-nothing : (a : SinkView) → Wrote a a []
-wrote-nothing a = record { bytes = appends-none a.written; steady = refl; surety = omega arith }
-
--- a text that was written whole, and then another, whole or in part
-pub wrote-then : (a b c : SinkView) (t u : List ℕ) → Wrote a b t → Wrote b c u → Wrote a c (t ++ u)
-wrote-then a b c t u w x = record {
-  bytes = Appends-trans a.written b.written c.written t u w.bytes x.bytes;
-  steady = x.steady ∙ w.steady;
-  surety = omega (arith, length-append t u, w.surety, x.surety);
-}
-
+-- a text that was written whole, and then another in part
 pub wrote-then-some : (a b c : SinkView) (t u : List ℕ) → Wrote a b t → WroteSome b c u → WroteSome a c (t ++ u)
 wrote-then-some a b c t u w x = record {
   part = (
@@ -48,12 +32,6 @@ wrote-some-more a b t u w = record {
   later = w.later;
   unsure = omega (arith, length-append t u, w.unsure);
 }
-
--- the writing of a second text, after the first was written whole
-pub writing-then : {T E : Type 0} (a b c : SinkView) (t u : List ℕ) (r : Result T E) → Wrote a b t → Writing b c u r
-    → Writing a c (t ++ u) r
-writing-then a b c t u (Ok v) w x = wrote-then a b c t u w x
-writing-then a b c t u (Err e) w x = wrote-then-some a b c t u w x
 
 -- a text that was put stands there whole or in part
 pub noted : {T E : Type 0} (a b : SinkView) (t : List ℕ) (r : Result T E) → Writing a b t r → NotedAs a b t

@@ -1,7 +1,6 @@
 -- The text of a trace's lines, and the notes that they tell.
 use Rattle.std.proofs.Common.{◌≡◌, ℕ, zero, suc, ◌+◌, List, [], ◌∷◌, ◌++◌, length, flat_map, refl, ap, ap₂, ◌∙◌, sym, subst, arith, append-nil, append_assoc}
 use Rattle.std.specs.Prelude.{sum_by}
-use Rattle.std.proofs.lemmas.Grind.{flat_map-append}
 use Rattle.std.proofs.lemmas.List.{length-map}
 use Rattle.grid_fraction.specs.Numbers.{list_below}
 use Rattle.dvs_base.specs.Parts.{joined}
@@ -10,7 +9,8 @@ use Rattle.dvs_base.specs.declared.kind.Version.{Version}
 use Rattle.dvs_base.specs.declared.kind.Version.TheVariants.{One, Two}
 use Rattle.dvs_base.specs.declared.kind.GovernorKind.{GovernorKind}
 use Rattle.dvs_base.specs.declared.note.Note.{Note}
-use Rattle.dvs_base.specs.declared.note.Note.TheVariants.{Release, Speed, Run, Idle, Done, End}
+use Rattle.dvs_base.specs.declared.note.Note.TheVariants.{Run, End}
+use Rattle.dvs_base.proofs.Parting.{joined-append}
 use Rattle.trace_text.specs.TraceLines.{name_of, note_text, plan_text}
 use Rattle.trace_reader.specs.VersionLines.{version_line, task_text, share_text}
 use Rattle.trace_reader.specs.TraceText.{run_energy_of, shares_from, told_text, whole_text}
@@ -19,18 +19,9 @@ use Rattle.energy.specs.Books.{energy_of_task as task_energy}
 use Rattle.sched_model.specs.Plan.{Plan, count, names, task, period, offset}
 use Rattle.done_lines.specs.RunText.{task_texts}
 use Rattle.probes.specs.Tallies.{ProbeOf, told_notes}
-use Rattle.event_kernel.specs.Lines.{LineOf, plain, share_lines, head_lines, lines_of, trace_lines, text_of, notes_told, Wrote, WroteSome, WroteLines, StoppedIn}
+use Rattle.event_kernel.specs.Lines.{plain, share_lines, head_lines, lines_of, trace_lines, text_of, notes_told, Wrote, WroteSome, WroteLines, StoppedIn}
+use Rattle.event_kernel.proofs.Writing.{text-append, notes-append}
 use Rattle.rtdvs_top.proofs.Texts.{wrote-then-some, wrote-some-more}
-
-text-append : (xs ys : List LineOf) → text_of (xs ++ ys) ≡ text_of xs ++ text_of ys
-text-append xs ys = flat_map-append (λ (l : LineOf). l.text) xs ys
-
-notes-append : (xs ys : List LineOf) → notes_told (xs ++ ys) ≡ notes_told xs ++ notes_told ys
-notes-append xs ys = flat_map-append (λ (l : LineOf). l.notes) xs ys
-
-joined-append : (xs ys : List (List ℕ)) → joined (xs ++ ys) ≡ joined xs ++ joined ys
-joined-append [] ys = refl
-joined-append (x ∷ xs) ys = ap (λ t. x ++ t) (joined-append xs ys) ∙ sym (append_assoc x (joined xs) (joined ys))
 
 -- lines that tell no note
 text-plain : (f : ℕ → List ℕ) (n : ℕ) → text_of (list_below n (λ i. plain (f i))) ≡ joined (list_below n f)
@@ -45,17 +36,13 @@ notes-plain f (suc n) =
     notes-append (list_below n (λ i. plain (f i))) (plain (f n) ∷ []) ∙ ap (λ ns. ns ++ []) (notes-plain f n)
 
 -- the first of some numbered values stands before the others
-below-first : (f : ℕ → List ℕ) (n : ℕ) → list_below (suc n) f ≡ f 0 ∷ list_below n (λ i. f (suc i))
-below-first f zero = refl
-below-first f (suc n) = ap (λ xs. xs ++ f (suc n) ∷ []) (below-first f n)
+pub below-first : {A : Type 0} (n : ℕ) (f : ℕ → A) → list_below (suc n) f ≡ f 0 ∷ list_below n (λ i. f (suc i))
+below-first zero f = refl
+below-first {A} (suc n) f = ap (λ (xs : List A). xs ++ f (suc n) ∷ []) (below-first n f)
 
 same-energy : (i : ℕ) (n : Note) → task_energy i n ≡ run_energy_of i n
-same-energy i (Release t j k) = refl
-same-energy i (Speed t f num den) = refl
 same-energy i (Run from to j k units energy) = refl
-same-energy i (Idle from to units energy) = refl
-same-energy i (Done at_end j k used) = refl
-same-energy i (End t run idle) = refl
+same-energy i n = refl
 
 -- the lines of energies, from a task on
 shares-below : (notes : List Note) (i : ℕ) (ns : List (List ℕ))
@@ -63,9 +50,10 @@ shares-below : (notes : List Note) (i : ℕ) (ns : List (List ℕ))
 shares-below notes i [] = refl
 shares-below notes i (name ∷ ns) =
     ap₂ (λ x xs. x ∷ xs)
-    (ap (λ (f : Note → ℕ). share_text name (sum_by f notes)) (λ j n. sym (same-energy i n) j) ∙ ap (λ k. share_text name (sum_by (task_energy k) notes)) (omega arith))
+    (ap (λ (f : Note → ℕ). share_text name (sum_by f notes)) (λ j n. sym (same-energy i n) j)
+    ∙ ap (λ k. share_text name (sum_by (task_energy k) notes)) (omega arith))
     (shares-below notes (i + 1) ns ∙ ap (λ (f : ℕ → List ℕ). list_below (length ns) f) (λ j k. next k j))
-    ∙ sym (below-first (λ k. share_text (name_of (name ∷ ns) k) (sum_by (task_energy (i + k)) notes)) (length ns))
+    ∙ sym (below-first (length ns) (λ k. share_text (name_of (name ∷ ns) k) (sum_by (task_energy (i + k)) notes)))
   where
     next : (k : ℕ) → share_text (name_of ns k) (sum_by (task_energy (i + 1 + k)) notes) ≡ share_text (name_of ns k) (sum_by (task_energy (i + suc k)) notes)
     next k = ap (λ m. share_text (name_of ns k) (sum_by (task_energy m) notes)) (omega arith)
@@ -83,21 +71,12 @@ module _ (p : Plan) (all : List Note) where
 
   -- a note's lines have its text
   text-note : (v : Version) (n : Note) → text_of (lines_of v p all n) ≡ told_text v (names p) all n
-  text-note One (Release t i k) = append-nil (note_text (names p) (Release t i k))
-  text-note One (Speed t f num den) = append-nil (note_text (names p) (Speed t f num den))
-  text-note One (Run from to i k units energy) = append-nil (note_text (names p) (Run from to i k units energy))
-  text-note One (Idle from to units energy) = append-nil (note_text (names p) (Idle from to units energy))
-  text-note One (Done q i k used) = append-nil (note_text (names p) (Done q i k used))
   text-note One (End t run idle) = append-nil (note_text (names p) (End t run idle))
-  text-note Two (Release t i k) = append-nil (note_text (names p) (Release t i k))
-  text-note Two (Speed t f num den) = append-nil (note_text (names p) (Speed t f num den))
-  text-note Two (Run from to i k units energy) = append-nil (note_text (names p) (Run from to i k units energy))
-  text-note Two (Idle from to units energy) = append-nil (note_text (names p) (Idle from to units energy))
-  text-note Two (Done q i k used) = append-nil (note_text (names p) (Done q i k used))
   text-note Two (End t run idle) =
       let last = note_text (names p) (End t run idle) in
       text-append (share_lines Two p all) (record { text = last; notes = End t run idle ∷ [] } ∷ [])
       ∙ ap₂ (λ a b. a ++ b) text-shares (append-nil last)
+  text-note v n = append-nil (note_text (names p) n)
 
   text-notes : (v : Version) (notes : List Note) → text_of (flat_map (lines_of v p all) notes) ≡ flat_map (told_text v (names p) all) notes
   text-notes v [] = refl
@@ -105,16 +84,12 @@ module _ (p : Plan) (all : List Note) where
       text-append (lines_of v p all n) (flat_map (lines_of v p all) notes) ∙ ap₂ (λ a b. a ++ b) (text-note v n) (text-notes v notes)
 
   told-note : (v : Version) (n : Note) → notes_told (lines_of v p all n) ≡ n ∷ []
-  told-note v (Release t i k) = refl
-  told-note v (Speed t f num den) = refl
-  told-note v (Run from to i k units energy) = refl
-  told-note v (Idle from to units energy) = refl
-  told-note v (Done q i k used) = refl
   told-note One (End t run idle) = refl
   told-note Two (End t run idle) =
       let line : ℕ → List ℕ = λ i. share_text (name_of (names p) i) (sum_by (task_energy i) all) in
       notes-append (share_lines Two p all) (record { text = note_text (names p) (End t run idle); notes = End t run idle ∷ [] } ∷ [])
       ∙ ap (λ ns. ns ++ End t run idle ∷ []) (notes-plain line (count p))
+  told-note v n = refl
 
   told-notes : (v : Version) (notes : List Note) → notes_told (flat_map (lines_of v p all) notes) ≡ notes
   told-notes v [] = refl
@@ -131,7 +106,8 @@ module _ (p : Plan) (all : List Note) where
         line : ℕ → List ℕ
         line i = task_text (name_of (names p) i) (period p i) (offset p i) ((task p i).worst)
 
-        whole : (v : Version) → text_of (head_lines v g p ticks) ++ flat_map (told_text v (names p) all) all ≡ whole_text v p.scheduler g ticks (names p) (task_texts p) all
+        whole : (v : Version)
+            → text_of (head_lines v g p ticks) ++ flat_map (told_text v (names p) all) all ≡ whole_text v p.scheduler g ticks (names p) (task_texts p) all
         whole One =
             ap (λ t. (version_line One ++ t) ++ flat_map (told_text One (names p) all) all) (append-nil (plan_text p.scheduler g ticks))
         whole Two =

@@ -16,6 +16,7 @@ pub record Seen : Type 0 where
   pub shelf : ShelfView
   pub out : SinkView
 
+-- that of this shelf and this sink
 abbrev pub seen : ShelfView → SinkView → Seen
 seen shelf out = record { shelf = shelf; out = out }
 

@@ -1,5 +1,6 @@
 -- The words that were read, as their texts; and the run that is planned for them.
-use Rattle.std.specs.Prelude.{◌≤◌, ◌^◌, Bool, true, false, option_map}
+use Rattle.std.specs.Prelude.{◌≤◌, Bool, true, false, option_map}
+use Rattle.dvs_base.specs.declared.limits.TheConstants.{MOST_TICKS}
 use Rattle.event_kernel.specs.Runs.{Run, IsListOf}
 use Rattle.words.specs.Commands.{RunOf, AdmitOf, PollOf, CommandOf, run, admit, traced, response, constrain, poll, least}
 use Rattle.rtdvs_top.specs.declared.run.PlannedRun.{PlannedRun}
@@ -44,7 +45,7 @@ planned r = record { plan = r.plan.now; demands = r.demands.now; ticks = r.ticks
 pub record IsRunnable (r : Run) : Type 0 where
   pub list : IsListOf r.plan r.demands
   pub some_ticks : 1 ≤ r.ticks
-  pub low_ticks : r.ticks ≤ 2 ^ 40
+  pub low_ticks : r.ticks ≤ MOST_TICKS
 
 -- whether a command is a run
 abbrev pub is_run : CommandOf → Bool

@@ -83,13 +83,6 @@ text_under v kind r = run_text_in v r.plan kind (job_demands r) r.ticks
 abbrev pub AlwaysMeetsIn : GovernorKind → Run → Type 0
 AlwaysMeetsIn kind r = AlwaysMeets r.plan kind (job_demands r) r.ticks
 
--- a run that was done meets every deadline, by the published demand of the governor's kind, and every demand unless it
--- looks ahead
-abbrev pub MeetsAllOf : GovernorKind → Run → Status → Type 0
-MeetsAllOf kind r status.Done =
-    IsMet r.plan (job_demands r) (ticks_under kind r) × (kind ≢ Ahead → AlwaysMeetsIn kind r)
-MeetsAllOf kind r s = ⊤
-
 -- what a run of an admitted plan, written in this version, has met
 pub record HasMet (v : Version) (kind : GovernorKind) (r : Run) : Type 0 where
   -- the scheduler's stated test passes at the highest speed

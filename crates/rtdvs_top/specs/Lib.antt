@@ -2,6 +2,7 @@ pub mod Code
 pub mod Shown
 pub mod WordLines
 pub mod DeadlineLines
+pub mod TooMany
 pub mod RequestLines
 pub mod Asked
 pub mod Naming

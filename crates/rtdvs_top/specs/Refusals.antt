@@ -2,6 +2,7 @@
 use Rattle.std.specs.Prelude.{⊤, ℕ, ◌==◌, List, [], ◌∷◌, ◌++◌, codes, if◌then◌else◌}
 use Rattle.std.specs.Fmt.{decimal}
 use Rattle.dvs_base.specs.Parts.{joined}
+use Rattle.dvs_base.specs.declared.limits.TheConstants.{MOST_JOBS}
 use Rattle.dvs_base.specs.declared.note.Note.{Note}
 use Rattle.trace_text.specs.TraceLines.{name_of, note_text}
 use Rattle.trace_reader.specs.declared.trace.TraceKind.{TraceKind}
@@ -10,10 +11,12 @@ use Rattle.trace_reader.specs.declared.trace.TraceFault.{TraceFault}
 use Rattle.trace_reader.specs.declared.trace.TraceFault.TheVariants as trace_fault
 use Rattle.task_model.specs.declared.fault.Field.{Field}
 use Rattle.task_model.specs.declared.fault.Field.TheVariants as task_field
+use Rattle.task_model.specs.declared.limits.TheConstants.{MOST_TASKS, LONGEST_HYPERPERIOD}
 use Rattle.task_model.specs.declared.fault.TaskFault.{TaskFault}
 use Rattle.task_model.specs.declared.fault.TaskFault.TheVariants as task_fault
 use Rattle.freq_table.specs.declared.fault.MachineField.{MachineField}
 use Rattle.freq_table.specs.declared.fault.MachineField.TheVariants as machine_field
+use Rattle.freq_table.specs.declared.limits.TheConstants.{MOST_POINTS}
 use Rattle.freq_table.specs.declared.fault.MachineFault.{MachineFault}
 use Rattle.freq_table.specs.declared.fault.MachineFault.TheVariants as machine_fault
 use Rattle.demand_list.specs.declared.fault.Column.{Column}
@@ -23,6 +26,7 @@ use Rattle.demand_list.specs.declared.fault.DemandFault.TheVariants as demand_fa
 use Rattle.rtdvs_top.specs.WordLines.{word_fault_text}
 use Rattle.rtdvs_top.specs.DeadlineLines.{deadline_fault_text}
 use Rattle.rtdvs_top.specs.RequestLines.{request_fault_text, no_task_text}
+use Rattle.rtdvs_top.specs.TooMany.{too_many_text}
 use Rattle.rtdvs_top.specs.declared.status.FileKind.{FileKind}
 use Rattle.rtdvs_top.specs.declared.status.FileKind.TheVariants as file
 use Rattle.rtdvs_top.specs.declared.status.TextFault.{TextFault}
@@ -84,15 +88,15 @@ abbrev pub task_fault_text : TaskFault → List ℕ
 task_fault_text task_fault.NotToml = codes "tasks: not TOML\n"
 task_fault_text (task_fault.UnknownKey place key) = at_task place (codes "unknown key ") key
 task_fault_text task_fault.NoTasks = codes "tasks: no tasks\n"
-task_fault_text (task_fault.TooMany count) =
-    joined (codes "tasks: " ∷ decimal count ∷ codes " tasks, at most 64\n" ∷ [])
+task_fault_text (task_fault.TooMany count) = too_many_text (codes "tasks") count (codes "tasks") MOST_TASKS
 task_fault_text (task_fault.Missing place field) = at_task place (codes "missing ") (task_field_word field)
 task_fault_text (task_fault.Kind place field) = at_task place (codes "wrong kind of ") (task_field_word field)
 task_fault_text (task_fault.Range place field) = at_task place (task_field_word field) (codes " out of range")
 task_fault_text (task_fault.BadName place) = joined (codes "tasks: task " ∷ decimal place ∷ codes ": bad name\n" ∷ [])
 task_fault_text (task_fault.SameName first second) =
     joined (codes "tasks: tasks " ∷ decimal first ∷ codes " and " ∷ decimal second ∷ codes " have one name\n" ∷ [])
-task_fault_text task_fault.Hyper = codes "tasks: periods have no common multiple up to 281474976710656\n"
+task_fault_text task_fault.Hyper =
+    joined (codes "tasks: periods have no common multiple up to " ∷ decimal LONGEST_HYPERPERIOD ∷ codes "\n" ∷ [])
 task_fault_text task_fault.NoMemory = codes "no memory\n"
 
 -- the line of a machine file's refusal
@@ -100,8 +104,7 @@ abbrev pub machine_fault_text : MachineFault → List ℕ
 machine_fault_text machine_fault.NotToml = codes "machine: not TOML\n"
 machine_fault_text (machine_fault.UnknownKey place key) = at_point place (codes "unknown key ") key
 machine_fault_text machine_fault.NoPoints = codes "machine: no points\n"
-machine_fault_text (machine_fault.TooMany count) =
-    joined (codes "machine: " ∷ decimal count ∷ codes " points, at most 32\n" ∷ [])
+machine_fault_text (machine_fault.TooMany count) = too_many_text (codes "machine") count (codes "points") MOST_POINTS
 machine_fault_text (machine_fault.Missing place field) = at_point place (codes "missing ") (machine_field_word field)
 machine_fault_text (machine_fault.Kind place field) = at_point place (codes "wrong kind of ") (machine_field_word field)
 machine_fault_text (machine_fault.Range place field) = at_point place (machine_field_word field) (codes " out of range")
@@ -209,7 +212,7 @@ status_text names (status.NotAdmitted why) = denied_text names why
 status_text names (status.Words why) = word_fault_text why
 status_text names (status.Load kind) = joined (codes "load: " ∷ file_word kind ∷ codes "\n" ∷ [])
 status_text names (status.Text why) = text_fault_text names why
-status_text names (status.Limit jobs) = joined (codes "limit: " ∷ decimal jobs ∷ codes " jobs, at most 100000\n" ∷ [])
+status_text names (status.Limit jobs) = too_many_text (codes "limit") jobs (codes "jobs") MOST_JOBS
 status_text names (status.OverWorst task job units worst) = over_worst_of (name_of names task) job units worst
 status_text names (status.Differs n wanted found) = difference_text names n wanted found
 status_text names status.Write = codes "write: out failed\n"

@@ -6,6 +6,8 @@ use Rattle.request_list.specs.declared.fault.RequestColumn.{RequestColumn}
 use Rattle.request_list.specs.declared.fault.RequestColumn.TheVariants as request_column
 use Rattle.request_list.specs.declared.fault.RequestFault.{RequestFault}
 use Rattle.request_list.specs.declared.fault.RequestFault.TheVariants as request_fault
+use Rattle.request_list.specs.declared.limits.TheConstants.{MOST_REQUESTS}
+use Rattle.rtdvs_top.specs.TooMany.{too_many_text}
 
 -- the word of a request file's column
 abbrev pub request_column_word : RequestColumn → List ℕ
@@ -19,8 +21,7 @@ at_request row texts = joined (codes "requests: row " ∷ decimal row ∷ codes 
 -- the line of a request file's refusal
 abbrev pub request_fault_text : RequestFault → List ℕ
 request_fault_text request_fault.Header = codes "requests: wrong header\n"
-request_fault_text (request_fault.TooMany count) =
-    joined (codes "requests: " ∷ decimal count ∷ codes " rows, at most 100000\n" ∷ [])
+request_fault_text (request_fault.TooMany count) = too_many_text (codes "requests") count (codes "rows") MOST_REQUESTS
 request_fault_text (request_fault.Fields row count) = at_request row (decimal count ∷ codes " fields\n" ∷ [])
 request_fault_text (request_fault.BadNumber row at) =
     at_request row (codes "bad " ∷ request_column_word at ∷ codes "\n" ∷ [])

@@ -5,8 +5,8 @@ use Rattle.dvs_base.specs.declared.kind.Scheduler.TheVariants.{Rm}
 use Rattle.task_model.specs.declared.task.Task.{Task}
 use Rattle.freq_table.specs.Tables.{Table}
 use Rattle.sched_model.specs.Plan.{Plan, plan_of, count, period, offset}
-use Rattle.offsets.specs.Offsets.{IsFirstOffset}
-use Rattle.rm_response_laws.specs.Responses.{AllRespond, HasNoOffsets}
+use Rattle.offsets.specs.Offsets.{NoneOffset, IsFirstOffset}
+use Rattle.rm_response_laws.specs.Responses.{AllRespond}
 use Rattle.rm_response_laws.specs.FirstJobs.{AlwaysMeets, is_first_done}
 use Rattle.rm_response.specs.Denials.{responses, AreLeast, IsFirstMiss}
 use Rattle.words.specs.Commands.{ResponseOf}
@@ -18,7 +18,7 @@ use Rattle.rtdvs_top.specs.declared.status.Status.TheVariants as status
 
 -- what holds of a plan whose tasks all have responses
 pub record Responds (p : Plan) : Type 0 where
-  pub no_offset : HasNoOffsets p
+  pub no_offset : NoneOffset (offset p) (count p)
   pub each : AllRespond p
   -- whatever the jobs demand within their worst cases, in the schedule under RM and none of every length each job that
   -- is due has had exactly its demand by its deadline

@@ -176,8 +176,8 @@ pub(crate) fn answer_constrain<S: Shelf, W: Sink>(
     shelf: &mut S,
     out: &mut W,
 ) -> (Status, Option<TaskSet>)
-    ensures answered { IsAnswered (constrain_of (shown_constrain words.now)) (seen (S.shows shelf.old) (W.shows out.old))
-        (seen (S.shows shelf.new) (W.shows out.new)) result.0 result.1 }
+    ensures answered { IsAnswered (constrain_of (shown_constrain words.now))
+        (seen (S.shows shelf.old) (W.shows out.old)) (seen (S.shows shelf.new) (W.shows out.new)) result.0 result.1 }
     ensures leaves { Leaves result.0 out.old out.new }
 {
     let tasks = match load_tasks(alloc, words.tasks, shelf) {

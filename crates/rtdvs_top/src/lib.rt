@@ -24,6 +24,7 @@ mod response_answer;
 mod run;
 mod run_answer;
 mod status;
+mod too_many;
 mod top;
 mod trace_answer;
 mod traced;

@@ -109,8 +109,8 @@ fn governed_totals<G: Publishing>(alloc: Global, run: &PlannedRun<'_>) -> Result
     requires few { released_jobs run.now.plan.now run.now.ticks ≤ MOST_JOBS }
     ensures { IfOk result (λ t. t ≡ run_totals run.now.plan.now run.now.demands.now run.now.ticks G.the_kind) }
 {
-    run.demands.known();
-    run.plan.known();
+    let _worsts = run.demands.worsts();
+    let _scheduler = run.plan.scheduler();
     match G::made(alloc, run.plan) {
         Ok(governor) => totals_from_opening(alloc, run, governor),
         Err(NoMemory) => Err(NoMemory),

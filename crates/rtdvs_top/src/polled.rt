@@ -126,7 +126,7 @@ fn serve_governed<G: Publishing>(
     ensures loads { IfErr result IsNoLoad }
     ensures shown { IfErr result IsShown }
 {
-    polling.plan.known();
+    let _scheduler = polling.plan.scheduler();
     let governor = match G::made(alloc, &polling.plan) {
         Ok(governor) => governor,
         Err(NoMemory) => return Err(Status::NoMemory),

@@ -10,12 +10,13 @@ ghost use Rattle.rtdvs_top.specs.Naming.{names_of, name_text};
 
 use crate::deadline_line::deadline_fault_line;
 use crate::request_line::{no_task_line, request_fault_line};
+use crate::too_many::too_many_line;
 use crate::word_line::word_fault_line;
 use crate::{Denied, FileKind, Status, TextFault};
 use demand_list::{Column, DemandFault};
-use dvs_base::{Line, Name, Part, Short, line_of};
-use freq_table::{MachineFault, MachineField};
-use task_model::{Field, TaskFault, TaskSet};
+use dvs_base::{Line, MOST_JOBS, Name, Part, Short, line_of};
+use freq_table::{MOST_POINTS, MachineFault, MachineField};
+use task_model::{Field, LONGEST_HYPERPERIOD, MOST_TASKS, TaskFault, TaskSet};
 use trace_reader::{TraceFault, TraceKind};
 
 fn file_word(file: FileKind) -> &'static [u8]
@@ -122,6 +123,16 @@ fn same_name_line(first: u32, second: u32) -> Line
     ])
 }
 
+fn no_multiple_line() -> Line
+    ensures { result ≡ task_fault_text task_fault.Hyper }
+{
+    line_of(&[
+        Part::Word(b"tasks: periods have no common multiple up to "),
+        Part::Number(LONGEST_HYPERPERIOD),
+        Part::Word(b"\n"),
+    ])
+}
+
 fn task_fault_line(why: &TaskFault) -> Line
     ensures { result ≡ task_fault_text why.now }
 {
@@ -133,11 +144,12 @@ fn task_fault_line(why: &TaskFault) -> Line
             Part::Shown(key),
         ),
         TaskFault::NoTasks => line_of(&[Part::Word(b"tasks: no tasks\n")]),
-        TaskFault::TooMany { count } => line_of(&[
-            Part::Word(b"tasks: "),
-            Part::Number(*count),
-            Part::Word(b" tasks, at most 64\n"),
-        ]),
+        TaskFault::TooMany { count } => too_many_line(
+            b"tasks",
+            *count,
+            b"tasks",
+            MOST_TASKS as u64,
+        ),
         TaskFault::Missing { place, field } => task_line(
             *place,
             Part::Word(b"missing "),
@@ -159,9 +171,7 @@ fn task_fault_line(why: &TaskFault) -> Line
             Part::Word(b": bad name\n"),
         ]),
         TaskFault::SameName { first, second } => same_name_line(*first, *second),
-        TaskFault::Hyper => line_of(&[Part::Word(
-            b"tasks: periods have no common multiple up to 281474976710656\n",
-        )]),
+        TaskFault::Hyper => no_multiple_line(),
         TaskFault::NoMemory => line_of(&[Part::Word(b"no memory\n")]),
     }
 }
@@ -177,11 +187,12 @@ fn machine_fault_line(why: &MachineFault) -> Line
             Part::Shown(key),
         ),
         MachineFault::NoPoints => line_of(&[Part::Word(b"machine: no points\n")]),
-        MachineFault::TooMany { count } => line_of(&[
-            Part::Word(b"machine: "),
-            Part::Number(*count),
-            Part::Word(b" points, at most 32\n"),
-        ]),
+        MachineFault::TooMany { count } => too_many_line(
+            b"machine",
+            *count,
+            b"points",
+            MOST_POINTS as u64,
+        ),
         MachineFault::Missing { place, field } => point_line(
             *place,
             Part::Word(b"missing "),
@@ -465,11 +476,7 @@ pub(crate) fn status_line(status: &Status, tasks: Option<&TaskSet>) -> Line
             Part::Word(b"\n"),
         ]),
         Status::Text(why) => text_fault_line(why, tasks),
-        Status::Limit { jobs } => line_of(&[
-            Part::Word(b"limit: "),
-            Part::Number(*jobs),
-            Part::Word(b" jobs, at most 100000\n"),
-        ]),
+        Status::Limit { jobs } => too_many_line(b"limit", *jobs, b"jobs", MOST_JOBS),
         Status::OverWorst {
             task,
             job,

@@ -3,8 +3,9 @@ ghost use Rattle.std.specs.Prelude.{◌≡◌, ◌≤◌, [], ◌∷◌, codes, 
 ghost use Rattle.std.specs.Fmt.{decimal};
 ghost use Rattle.rtdvs_top.specs.RequestLines.{request_column_word, at_request, request_fault_text, no_task_text};
 
+use crate::too_many::too_many_line;
 use dvs_base::{Line, Part, Short, line_of};
-use request_list::{RequestColumn, RequestFault};
+use request_list::{MOST_REQUESTS, RequestColumn, RequestFault};
 
 fn request_column_word(column: RequestColumn) -> &'static [u8]
     ensures text { result.now ≡ request_column_word column }
@@ -60,11 +61,12 @@ pub(crate) fn request_fault_line(why: &RequestFault) -> Line
 {
     match why {
         RequestFault::Header => line_of(&[Part::Word(b"requests: wrong header\n")]),
-        RequestFault::TooMany { count } => line_of(&[
-            Part::Word(b"requests: "),
-            Part::Number(*count),
-            Part::Word(b" rows, at most 100000\n"),
-        ]),
+        RequestFault::TooMany { count } => too_many_line(
+            b"requests",
+            *count,
+            b"rows",
+            MOST_REQUESTS,
+        ),
         RequestFault::Fields { row, count } => fields_line(*row, *count),
         RequestFault::BadNumber { row, column } => bad_number_line(*row, *column),
         RequestFault::Range { row } => row_line(*row, b"units out of range\n"),

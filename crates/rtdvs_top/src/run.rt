@@ -1,13 +1,12 @@
 // Admission, and the run of an admitted plan.
-ghost use Rattle.std.specs.Prelude.{◌≡◌, ◌≢◌, ◌≤◌, ◌<◌, ◌^◌, length, map, Ok, IfOk, IfErr, OnOk};
+ghost use Rattle.std.specs.Prelude.{◌≡◌, ◌≢◌, ◌<◌, length, map, Ok, IfOk, IfErr, OnOk};
 ghost use Rattle.sched_model.specs.Plan.{plan_of};
-ghost use Rattle.sched_model.specs.StaticDemand.{static_demand};
 ghost use Rattle.sched_model.specs.States.{opening};
 ghost use Rattle.event_kernel.specs.Runs.{notes_of_run, MeetsDeadlines, MeetsDemands};
 ghost use Rattle.rtdvs_top.specs.Answer.{admission, answer_of_run, admitted_text};
 ghost use Rattle.rtdvs_top.specs.Asked.{planned, IsRunnable};
 ghost use Rattle.rtdvs_top.specs.Causes.{EndsWith, IsNoLoad};
-ghost use Rattle.rtdvs_top.specs.Ending.{Ends, Leaves, governed_text, governed_answer, MeetsAll, MeetsAllOf, HasMetIfDone};
+ghost use Rattle.rtdvs_top.specs.Ending.{Ends, Leaves, governed_text, governed_answer, MeetsAll, HasMetIfDone};
 ghost use Rattle.rtdvs_top.specs.Probing.{IfAsked, LeavesProbes, TraceTold, GovernedTold, RunTold};
 ghost use Rattle.rtdvs_top.specs.Shown.{IsShown};
 ghost use Rattle.dvs_base.specs.Pairs.{IsPair};
@@ -18,7 +17,6 @@ use crate::{Denied, Status};
 use cc_edf::CcEdf;
 use cc_rm::CcRm;
 use demand_list::Demands;
-use done_lines::told_deadlines;
 use dvs_base::{Failed, GovernorKind, Line, NoMemory, Part, Scheduler, Sink, Version, line_of};
 use edf_admit::{EdfFault, edf_admit};
 use event_kernel::{Kernel, KernelFault, WriteFault};
@@ -27,7 +25,7 @@ use governor::{Governor, Publishing};
 use look_ahead::LookAhead;
 use probes::Probe;
 use rm_admit::{RmFault, rm_admit};
-use sched_model::{Admitted, one_schedule};
+use sched_model::Admitted;
 use static_gov::{Full, Static};
 use std::alloc::Global;
 use task_model::TaskSet;
@@ -164,14 +162,14 @@ fn run_governed<G: Publishing, W: Sink, P: Probe>(
         (answer_of_run written.now.version G.the_kind (planned written.now.run)) result }
     ensures told { RunTold written.now.version G.the_kind (planned written.now.run) (W.shows out.old) (W.shows out.new)
         (map P.seen probes.old.items) (map P.seen probes.new.items) result }
-    ensures met { MeetsAllOf G.the_kind (planned written.now.run) result }
+    ensures met { HasMetIfDone written.now.version G.the_kind (planned written.now.run) result }
     ensures leaves { Leaves result out.old out.new }
     ensures kept { Leaves result probes.old probes.new }
     ensures loads { IsNoLoad result }
     ensures shown { IsShown result }
 {
-    written.run.demands.known();
-    written.run.plan.known();
+    let _worsts = written.run.demands.worsts();
+    let _scheduler = written.run.plan.scheduler();
     match G::made(alloc, written.run.plan) {
         Ok(governor) => run_from_opening(alloc, written, governor, out, probes),
         Err(NoMemory) => Status::NoMemory,
@@ -192,7 +190,7 @@ fn run_pair<W: Sink, P: Probe>(
         (answer_of_run written.now.version governor (planned written.now.run)) result }
     ensures told { RunTold written.now.version governor (planned written.now.run) (W.shows out.old) (W.shows out.new)
         (map P.seen probes.old.items) (map P.seen probes.new.items) result }
-    ensures met { MeetsAllOf governor (planned written.now.run) result }
+    ensures met { HasMetIfDone written.now.version governor (planned written.now.run) result }
     ensures leaves { Leaves result out.old out.new }
     ensures kept { Leaves result probes.old probes.new }
     ensures loads { IsNoLoad result }
@@ -212,32 +210,6 @@ fn run_pair<W: Sink, P: Probe>(
         ),
         (Scheduler::Rm, GovernorKind::Ahead) => unreachable!(),
     }
-}
-
-// The trace of a run of an admitted plan, whose notes these probes are told.
-fn run_told<W: Sink, P: Probe>(
-    alloc: Global,
-    written: &WrittenRun<'_>,
-    governor: GovernorKind,
-    out: &mut W,
-    probes: &mut Vec<P>,
-) -> Status
-    requires run { IsRunnable (planned written.now.run) }
-    requires pair { IsPair written.now.run.plan.now.scheduler governor }
-    ensures ended { Ends (W.shows out.old) (W.shows out.new)
-        (answer_of_run written.now.version governor (planned written.now.run)) result }
-    ensures told { RunTold written.now.version governor (planned written.now.run) (W.shows out.old) (W.shows out.new)
-        (map P.seen probes.old.items) (map P.seen probes.new.items) result }
-    ensures met { HasMetIfDone written.now.version governor (planned written.now.run) result }
-    ensures leaves { Leaves result out.old out.new }
-    ensures kept { Leaves result probes.old probes.new }
-    ensures loads { IsNoLoad result }
-    ensures shown { IsShown result }
-{
-    written.run.plan.known();
-    one_schedule(written.run.plan);
-    told_deadlines(written.run.plan);
-    run_pair(alloc, written, governor, out, probes)
 }
 
 /// The trace of a run of an admitted plan. The probes are told its notes where they are asked for, and left as they are
@@ -263,10 +235,10 @@ pub(crate) fn run_plan<W: Sink, P: Probe>(
     ensures shown { IsShown result }
 {
     if written.probes {
-        return run_told(alloc, written, governor, out, probes);
+        return run_pair(alloc, written, governor, out, probes);
     }
     let mut none: Vec<P> = Vec::new(alloc);
-    run_told(alloc, written, governor, out, &mut none)
+    run_pair(alloc, written, governor, out, &mut none)
 }
 
 /// The line of an admission.
@@ -288,8 +260,6 @@ fn admitted_line(plan: &Admitted) -> Line
     ensures some { 0 < length result }
 {
     let demand = plan.static_demand();
-    plan.known();
-    known_denominator(plan);
     let pick = plan.machine().lowest(demand);
     let point = plan.machine().point(pick.index);
     let word: &[u8] = match plan.scheduler() {
@@ -305,12 +275,4 @@ fn admitted_line(plan: &Admitted) -> Line
         Part::Number(point.speed),
         Part::Word(b"\n"),
     ])
-}
-
-// The denominator of a static demand is the hyperperiod or a period.
-fn known_denominator(plan: &Admitted)
-    ensures some { 1 ≤ (static_demand plan.now).den }
-    ensures low { (static_demand plan.now).den ≤ 2 ^ 64 }
-{
-    plan.known();
 }

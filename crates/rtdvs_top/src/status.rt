@@ -31,7 +31,7 @@ pub enum FileKind {
 /// Why a file that was loaded is refused.
 #[derive(Clone, Copy, Debug, PartialEq, Eq)]
 pub enum TextFault {
-    /// It is longer than 16777216 bytes, or a trace than 268435456.
+    /// It is longer than `LONGEST_FILE` bytes, or a trace than `LONGEST_TRACE`.
     TooLong { file: FileKind },
     /// The tasks are refused, and not for want of memory.
     Tasks(TaskFault),
@@ -84,7 +84,7 @@ pub enum Status {
     },
     /// A file is refused.
     Text(TextFault),
-    /// So many jobs would be released, and the limit is 100000.
+    /// So many jobs would be released, and the limit is `MOST_JOBS`.
     Limit {
         jobs: u64,
     },

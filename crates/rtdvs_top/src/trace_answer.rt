@@ -64,7 +64,7 @@ fn put_migrated<W: Sink>(alloc: Global, plan: &Admitted, trace: &Trace, out: &mu
     ensures loads { IsNoLoad result }
     ensures shown { IsShown result }
 {
-    plan.known();
+    let _scheduler = plan.scheduler();
     let demands = match fixed_demands(alloc, plan, &trace.notes) {
         Ok(demands) => demands,
         Err(NoMemory) => return Status::NoMemory,

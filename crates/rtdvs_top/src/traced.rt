@@ -134,7 +134,7 @@ pub(crate) fn load_traced<S: Shelf>(
     let machine = load_machine(alloc, words.machine, shelf)?;
     let trace = load_trace(alloc, words.trace, tasks, shelf)?;
     let plan = admit(alloc, trace.plan.scheduler, tasks, &machine)?;
-    plan.known();
+    let _scheduler = plan.scheduler();
     Ok((plan, trace))
 }
 
@@ -182,7 +182,7 @@ fn compare_governed<G: Publishing>(
     ensures loads { IfErr result IsNoLoad }
     ensures shown { IfErr result IsShown }
 {
-    plan.known();
+    let _scheduler = plan.scheduler();
     match G::made(alloc, plan) {
         Ok(governor) => match replay(alloc, plan, trace, governor) {
             Ok(totals) => Ok(totals),

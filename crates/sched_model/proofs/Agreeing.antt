@@ -24,11 +24,13 @@ module _ (p : Plan) (dem : ℕ → ℕ → ℕ) (a b : List Tick → Frac) (agre
   same-entry : (ask : List Tick → Frac) (past : List Tick) → IsScheduleBy p dem ask past → entry_in_force p dem a past ≡ entry_in_force p dem b past
   same-entry ask [] h = ap (lowest_entry p.machine) (agree ask [] h)
   same-entry ask (x ∷ past) h =
-      ap₂ (λ chosen kept. if is_decision p dem (x ∷ past) then chosen else kept) (ap (lowest_entry p.machine) (agree ask (x ∷ past) h)) (same-entry ask past h.0)
+      ap₂ (λ chosen kept. if is_decision p dem (x ∷ past) then chosen else kept) (ap (lowest_entry p.machine) (agree ask (x ∷ past) h))
+      (same-entry ask past h.0)
 
   -- the tick after `past` with an entry in force
   abbrev tick_by : List Tick → ℕ → Tick
-  tick_by past e = record { entry = e; shares = list_below (count p) (allotment (count p) (key_of p.scheduler p (length past)) ((point p e).speed) (left p dem past)) }
+  tick_by past e =
+      record { entry = e; shares = list_below (count p) (allotment (count p) (key_of p.scheduler p (length past)) ((point p e).speed) (left p dem past)) }
 
   pub same-schedule : (t : ℕ) → schedule_by p dem a t ≡ schedule_by p dem b t
   unfolding schedule_by
@@ -52,13 +54,15 @@ module _ (p : Plan) (dem : ℕ → ℕ → ℕ) (a b : List Tick → Frac) (agre
   agree-spans ask (x ∷ past) h = go (is_decision p dem past) (agree-spans ask past h.0)
     where
       go : (c : Bool) → AgreeAt (spans_of p dem past)
-          → AgreeAt (if c then record { past = past; entry = x.entry; units = units_of p past x } ∷ spans_of p dem past else lengthened (units_of p past x) (spans_of p dem past))
+          → AgreeAt (if c then record { past = past; entry = x.entry; units = units_of p past x } ∷ spans_of p dem past
+          else lengthened (units_of p past x) (spans_of p dem past))
       go true rest = (agree ask past h.0, rest)
       go false rest = agree-lengthened (units_of p past x) (spans_of p dem past) rest
 
   same-span : (s : Span) → a s.past ≡ b s.past → span_notes p dem a s ≡ span_notes p dem b s
   same-span s e =
-      ap (λ (f : Frac). all_release_notes p dem (length s.past) ++ Speed (length s.past) ((point p s.entry).speed) f.num f.den ∷ pieces_notes p dem s 0 (pieces_of s.units)) e
+      ap (λ (f : Frac). all_release_notes p dem (length s.past) ++ Speed (length s.past) ((point p s.entry).speed) f.num f.den
+      ∷ pieces_notes p dem s 0 (pieces_of s.units)) e
 
   same-spans : (spans : List Span) → AgreeAt spans → flat_map (span_notes p dem a) (reverse spans) ≡ flat_map (span_notes p dem b) (reverse spans)
   same-spans [] h = refl
@@ -70,4 +74,5 @@ module _ (p : Plan) (dem : ℕ → ℕ → ℕ) (a b : List Tick → Frac) (agre
   pub same-notes : (ask : List Tick → Frac) (ticks : List Tick) → IsScheduleBy p dem ask ticks → notes_of p dem a ticks ≡ notes_of p dem b ticks
   unfolding notes_before_end
   same-notes ask ticks h =
-      ap (λ (notes : List Note). notes ++ End (length ticks) (sum_by energy_run notes) (sum_by energy_idle notes) ∷ []) (same-spans (spans_of p dem ticks) (agree-spans ask ticks h))
+      ap (λ (notes : List Note). notes ++ End (length ticks) (sum_by energy_run notes) (sum_by energy_idle notes) ∷ [])
+      (same-spans (spans_of p dem ticks) (agree-spans ask ticks h))

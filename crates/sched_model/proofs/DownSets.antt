@@ -1,5 +1,6 @@
 -- A set of tasks that holds each task's forerunners gets the smaller of the room and what it needs.
 use Rattle.std.proofs.Common.{◌≡◌, ◌≢◌, ℕ, zero, suc, ◌+◌, ◌<◌, min, Bool, true, false, eqb, ◌||◌, ◌⊎◌, inl, inr, refl, arith, if◌then◌else◌, ap, ◌∙◌, sym, subst, true≢false, nat_le}
+use Rattle.std.proofs.lemmas.Bool.{or_left, or_right, or_from}
 use Rattle.std.proofs.lemmas.Bool.Decides.{nat_tests}
 use Rattle.grid_fraction.specs.Numbers.{sum_where}
 use Rattle.sched_model.specs.Priority.{stands_before, sum_before, sum_up_to, SharesOut}
@@ -60,49 +61,45 @@ last_of key test (suc m) = go (test m) refl (last_of key test m)
     )
     go true e (inr f) = inr (later f.0 (stands_before key f.0 m) refl e f.1)
 
-both : (a b : Bool) → (a ≡ true) ⊎ (b ≡ true) → (a || b) ≡ true
-both a b (inl e) = rw e refl
-both true b (inr e) = refl
-both false b (inr e) = e
+-- a set without a task
+pub sum_where-none : (n : ℕ) (test : ℕ → Bool) (f : ℕ → ℕ) → NonePasses test n → sum_where n test f ≡ 0
+sum_where-none n test f none = sum_below-zero n (λ k. if test k then f k else 0) (λ k lt. rw (none k lt) refl)
 
-neither : (a b : Bool) → a ≡ false → b ≡ false → (a || b) ≡ false
-neither a b p q = rw (p, q) refl
-
--- `test` holds with each task those before it
-
-pub down-set-gets : (n : ℕ) (key : ℕ → ℕ) (test : ℕ → Bool) (room : ℕ) (need given : ℕ → ℕ)
-    → ((j i : ℕ) → j < n → i < n → stands_before key j i ≡ true → test i ≡ true → test j ≡ true)
-    → SharesOut n key room need given → sum_where n test given ≡ min room (sum_where n test need)
-down-set-gets n key test room need given down h = go (last_of key test n)
+-- a set that holds with each task those before it: its last task and those before that one
+pub sum_where-last : (n : ℕ) (key : ℕ → ℕ) (test : ℕ → Bool) (f : ℕ → ℕ) (i : ℕ)
+    → ((j k : ℕ) → j < n → k < n → stands_before key j k ≡ true → test k ≡ true → test j ≡ true)
+    → IsLastOf key test n i → sum_where n test f ≡ sum_up_to n key f i
+sum_where-last n key test f i down r =
+    sum_below-same n (λ k. if test k then f k else 0) (λ k. (if stands_before key k i then f k else 0) + (if eqb k i then f k else 0))
+    (λ k lt. split_if (test k) (stands_before key k i) (eqb k i) (f k) (is k lt (eqb k i) refl (test k) refl) (same_not_before key k i))
+    ∙ (sum_below-add n (λ k. if stands_before key k i then f k else 0) (λ k. if eqb k i then f k else 0)
+    ∙ ap (λ a. sum_before n key f i + a) (sum_below-own n i f r.below))
   where
-    none_sum : (f : ℕ → ℕ) → NonePasses test n → sum_where n test f ≡ 0
-    none_sum f none = sum_below-zero n (λ k. if test k then f k else 0) (λ k lt. rw (none k lt) refl)
-
-    is : (i : ℕ) → IsLastOf key test n i → (k : ℕ) → k < n → (b : Bool) → eqb k i ≡ b → (c : Bool) → test k ≡ c → test k ≡ (stands_before key k i || eqb k i)
-    is i r k lt true e c g =
+    is : (k : ℕ) → k < n → (b : Bool) → eqb k i ≡ b → (c : Bool) → test k ≡ c → test k ≡ (stands_before key k i || eqb k i)
+    is k lt true e c g =
         let same : i ≡ k = grind (arith, nat_tests) in
-        let passes : test k ≡ true = subst (λ m. test m ≡ true) same r.passes in
-        passes ∙ sym (both (stands_before key k i) (eqb k i) (inr e))
-    is i r k lt false e true g =
+        subst (λ m. test m ≡ true) same r.passes ∙ sym (or_right (stands_before key k i) (eqb k i) e)
+    is k lt false e true g =
         let other : i ≢ k = λ q. absurd (true≢false (grind (arith, nat_tests))) in
-        g ∙ sym (both (stands_before key k i) (eqb k i) (inl (before-total key i k other (r.last k lt g))))
-    is i r k lt false e false g =
-        g ∙ sym (neither (stands_before key k i) (eqb k i) (not_before (stands_before key k i) refl) e)
+        g ∙ sym (or_left (stands_before key k i) (eqb k i) (before-total key i k other (r.last k lt g)))
+    is k lt false e false g =
+        g ∙ sym (or_from (stands_before key k i) (eqb k i) (not_before (stands_before key k i) refl) e)
       where
         not_before : (b : Bool) → stands_before key k i ≡ b → stands_before key k i ≡ false
         not_before true q = absurd (true≢false (sym (down k i lt r.below q r.passes) ∙ g))
         not_before false q = q
 
-    up : (i : ℕ) → IsLastOf key test n i → (f : ℕ → ℕ) → sum_where n test f ≡ sum_up_to n key f i
-    up i r f =
-        sum_below-same n (λ k. if test k then f k else 0) (λ k. (if stands_before key k i then f k else 0) + (if eqb k i then f k else 0))
-        (λ k lt. split_if (test k) (stands_before key k i) (eqb k i) (f k) (is i r k lt (eqb k i) refl (test k) refl) (same_not_before key k i))
-        ∙ (sum_below-add n (λ k. if stands_before key k i then f k else 0) (λ k. if eqb k i then f k else 0)
-        ∙ ap (λ a. sum_before n key f i + a) (sum_below-own n i f r.below))
-
+-- such a set gets the smaller of the room and what it needs
+pub down-set-gets : (n : ℕ) (key : ℕ → ℕ) (test : ℕ → Bool) (room : ℕ) (need given : ℕ → ℕ)
+    → ((j i : ℕ) → j < n → i < n → stands_before key j i ≡ true → test i ≡ true → test j ≡ true)
+    → SharesOut n key room need given → sum_where n test given ≡ min room (sum_where n test need)
+down-set-gets n key test room need given down h = go (last_of key test n)
+  where
     go : NonePasses test n ⊎ ((i : ℕ) × IsLastOf key test n i) → sum_where n test given ≡ min room (sum_where n test need)
-    go (inl none) = omega (arith, none_sum given none, none_sum need none)
-    go (inr f) = up f.0 f.1 given ∙ (h f.0 f.1.below ∙ ap (λ a. min room a) (sym (up f.0 f.1 need)))
+    go (inl none) = omega (arith, sum_where-none n test given none, sum_where-none n test need none)
+    go (inr f) =
+        sum_where-last n key test given f.0 down f.1
+        ∙ (h f.0 f.1.below ∙ ap (λ a. min room a) (sym (sum_where-last n key test need f.0 down f.1)))
 
 -- under EDF: the tasks due by d get the smaller of the room and what they need
 pub due_by_gets : (n : ℕ) (due : ℕ → ℕ) (d room : ℕ) (need given : ℕ → ℕ) → SharesOut n due room need given

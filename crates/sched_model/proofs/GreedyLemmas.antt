@@ -1,15 +1,12 @@
 -- Handing out units to one task after the other gives the allotments.
-use Rattle.std.proofs.Common.{◌≡◌, ◌≢◌, ℕ, ◌+◌, ◌-◌, ◌<◌, ◌≤◌, min, Bool, true, false, eqb, ◌⊎◌, inl, inr, refl, arith, if◌then◌else◌, ap, ◌∙◌, sym, subst, true≢false}
+use Rattle.std.proofs.Common.{◌≡◌, ◌≢◌, ℕ, ◌+◌, ◌-◌, ◌<◌, ◌≤◌, min, Bool, true, false, eqb, ◌⊎◌, inl, inr, refl, arith, if◌then◌else◌, ap, ◌∙◌, subst, true≢false}
 use Rattle.std.proofs.lemmas.Bool.Decides.{nat_tests}
 use Rattle.grid_fraction.specs.Numbers.{sum_below}
-use Rattle.std.proofs.Common.{List, length, slice_index, set, get_or, get_or-set_same, get_or-set_other}
-use Rattle.std.proofs.lemmas.List.{ext_get_or}
-use Rattle.grid_fraction.specs.Numbers.{list_below}
-use Rattle.sched_model.proofs.ScheduleLemmas.{length-list_below, get_or-list_below}
 use Rattle.sched_model.specs.Greedy.{IsFirstOpen}
 use Rattle.sched_model.specs.Priority.{stands_before, sum_before, sum_up_to, allotment}
 use Rattle.grid_fraction.proofs.Sums.{sum_below-same, sum_below-add, sum_below-own, sum_below-le}
-use Rattle.sched_model.proofs.PriorityLemmas.{before-trans, before_gets, allotment-shares}
+use Rattle.sched_model.proofs.PriorityLemmas.{before-trans}
+use Rattle.sched_model.proofs.Allotments.{before_gets, allotment-shares}
 
 -- what the tasks up to j need is within what those before i need, where j stands before i
 pub up_to-before : (n : ℕ) (key f : ℕ → ℕ) (j i : ℕ) → j < n → stands_before key j i ≡ true → sum_up_to n key f j ≤ sum_before n key f i
@@ -18,9 +15,16 @@ up_to-before n key f j i lt h =
     let a : sum_below n own ≡ f j = sum_below-own n j f lt in
     let b : sum_below n (λ k. (if stands_before key k j then f k else 0) + own k) ≡ sum_before n key f j + sum_below n own =
     sum_below-add n (λ k. if stands_before key k j then f k else 0) own in
-    omega (arith, a, b, sum_below-le n (λ k. (if stands_before key k j then f k else 0) + own k) (λ k. if stands_before key k i then f k else 0) (λ k l. within k (eqb k j) refl (stands_before key k j) refl))
+    omega (
+      arith,
+      a,
+      b,
+      sum_below-le n (λ k. (if stands_before key k j then f k else 0) + own k)
+          (λ k. if stands_before key k i then f k else 0) (λ k l. within k (eqb k j) refl (stands_before key k j) refl),
+    )
   where
-    lem : (a b c : Bool) → (b ≡ true → a ≡ true) → (c ≡ true → (a ≡ true) × (b ≡ false)) → (x : ℕ) → (if b then x else 0) + (if c then x else 0) ≤ (if a then x else 0)
+    lem : (a b c : Bool) → (b ≡ true → a ≡ true) → (c ≡ true → (a ≡ true) × (b ≡ false)) → (x : ℕ)
+        → (if b then x else 0) + (if c then x else 0) ≤ (if a then x else 0)
     lem a true true p q x = absurd (true≢false (q refl).1)
     lem a true false p q x = rw (p refl) (omega arith)
     lem a false true p q x = rw ((q refl).0) (omega arith)
@@ -46,12 +50,19 @@ handed_before n key room need given rest h pos i o = go (h.all_or_none pos i o.b
     same : sum_before n key (allotment n key (room - rest) need) i ≡ sum_before n key need i
     same = sum_below-same n _ _ (λ k l. step k l (stands_before key k i) refl)
       where
-        step : (k : ℕ) → k < n → (b : Bool) → stands_before key k i ≡ b → (if stands_before key k i then allotment n key (room - rest) need k else 0) ≡ (if stands_before key k i then need k else 0)
+        step : (k : ℕ) → k < n → (b : Bool) → stands_before key k i ≡ b
+            → (if stands_before key k i then allotment n key (room - rest) need k else 0) ≡ (if stands_before key k i then need k else 0)
         step k l true e = rw e (omega (arith, h.given_is k l, o.first k l e))
         step k l false e = rw e refl
 
     room_is : (given i ≡ 0) → room - rest ≡ sum_before n key need i
-    room_is z = omega (arith, h.given_is i o.below, o.needs, same, before_gets n key (room - rest) need (allotment n key (room - rest) need) (allotment-shares n key (room - rest) need) i)
+    room_is z = omega (
+      arith,
+      h.given_is i o.below,
+      o.needs,
+      same,
+      before_gets n key (room - rest) need (allotment n key (room - rest) need) (allotment-shares n key (room - rest) need) i,
+    )
 
     go : (given i ≡ 0) ⊎ (given i ≡ need i) → (given i ≡ 0) × (room - rest ≡ sum_before n key need i)
     go (inl z) = (z, room_is z)
@@ -80,7 +91,8 @@ handed-step n key room need given given' rest i h pos o here there = record {
     now : (given i ≡ 0) × (room - rest ≡ sum_before n key need i)
     now = handed_before n key room need given rest h pos i o
 
-    is : (k : ℕ) → k < n → (b : Bool) → eqb k i ≡ b → (c : Bool) → stands_before key k i ≡ c → given' k ≡ allotment n key (room - (rest - min rest (need i - given i))) need k
+    is : (k : ℕ) → k < n → (b : Bool) → eqb k i ≡ b → (c : Bool) → stands_before key k i ≡ c
+        → given' k ≡ allotment n key (room - (rest - min rest (need i - given i))) need k
     is k lt true e c g =
         let same : i ≡ k = grind (arith, nat_tests) in
         subst (λ m. given' m ≡ allotment n key (room - (rest - min rest (need i - given i))) need m) same
@@ -89,7 +101,15 @@ handed-step n key room need given given' rest i h pos o here there = record {
         omega (arith, there k lt (λ q. absurd (true≢false (grind (arith, nat_tests)))), h.given_is k lt, h.rest_in, now.1, up_to-before n key need k i lt g)
     is k lt false e false g =
         let after : stands_before key i k ≡ true = grind (arith, nat_tests) in
-        omega (arith, there k lt (λ q. absurd (true≢false (grind (arith, nat_tests)))), h.given_is k lt, h.rest_in, now.0, now.1, up_to-before n key need i k o.below after)
+        omega (
+          arith,
+          there k lt (λ q. absurd (true≢false (grind (arith, nat_tests)))),
+          h.given_is k lt,
+          h.rest_in,
+          now.0,
+          now.1,
+          up_to-before n key need i k o.below after,
+        )
 
     all : (k : ℕ) → k < n → 0 < rest - min rest (need i - given i) → (b : Bool) → eqb k i ≡ b → (given' k ≡ 0) ⊎ (given' k ≡ need k)
     all k lt pos' true e =
@@ -118,31 +138,3 @@ handed-end n key room need given rest h e i lt = go e
       where
         whole : (k : ℕ) → k < n → allotment n key (room - rest) need k ≡ need k
         whole k l = omega (arith, h.given_is k l, all k l)
-
--- then the list of what is given is that of the allotments
-pub handed-list : (n : ℕ) (key : ℕ → ℕ) (room : ℕ) (need : ℕ → ℕ) (rest : ℕ) (shares : List ℕ) → length shares ≡ n
-    → IsHandedOut n key room need (slice_index shares) rest
-    → (rest ≡ 0) ⊎ ((k : ℕ) → k < n → need k ≤ slice_index shares k) → shares ≡ list_below n (allotment n key room need)
-handed-list n key room need rest shares len h e =
-    ext_get_or 0 shares (list_below n (allotment n key room need)) (len ∙ sym (length-list_below n (allotment n key room need)))
-    (λ i lt. handed-end n key room need (slice_index shares) rest h e i (omega (arith, len))
-    ∙ sym (get_or-list_below n (allotment n key room need) i (omega (arith, len))))
-
--- a turn of the loop over a list of shares
-pub handed-turn : (n : ℕ) (key : ℕ → ℕ) (room : ℕ) (need : ℕ → ℕ) (rest i share read again : ℕ) (shares : List ℕ) → length shares ≡ n
-    → IsHandedOut n key room need (slice_index shares) rest → 0 < rest
-    → IsFirstOpen n key need (slice_index shares) i
-    → read ≡ get_or shares i 0 → again ≡ get_or shares i 0
-    → share ≡ min rest (need i - read)
-    → IsHandedOut n key room need (slice_index (set shares i (again + share))) (rest - share)
-handed-turn n key room need rest i share read again shares len h pos o r a s =
-    let same : share ≡ min rest (need i - get_or shares i 0) = s ∙ ap (λ v. min rest (need i - v)) r in
-    subst (λ v. IsHandedOut n key room need (slice_index (set shares i (again + share))) (rest - v)) (sym same)
-    (handed-step n key room need (slice_index shares) (slice_index (set shares i (again + share))) rest i h pos o
-    here (λ k lt ne. get_or-set_other shares i k (again + share) 0 ne))
-  where
-    lt_len : i < length shares
-    lt_len = omega (arith, o.below, len)
-
-    here : slice_index (set shares i (again + share)) i ≡ slice_index shares i + min rest (need i - slice_index shares i)
-    here = let in_list : i < length shares = lt_len in rw get_or-set_same (omega (arith, r, a, s, ap (λ v. min rest (need i - v)) r))

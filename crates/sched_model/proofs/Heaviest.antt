@@ -1,29 +1,14 @@
 -- The task whose level asks for the greatest share of its period.
-use Rattle.std.proofs.Common.{◌≡◌, ◌≢◌, ℕ, zero, suc, ◌+◌, ◌*◌, ◌<◌, ◌≤◌, Bool, true, false, ◌||◌, ◌&&◌, not, ◌⊎◌, inl, inr, nat_eq, nat_lt, refl, arith, ap, ◌∙◌, sym, true≢false, eq-or-lt_of_le, add-one}
+use Rattle.std.proofs.Common.{◌≡◌, ◌≢◌, ℕ, ◌+◌, ◌*◌, ◌<◌, ◌≤◌, Bool, true, false, ◌||◌, ◌&&◌, not, ◌⊎◌, inl, inr, nat_eq, nat_lt, refl, arith, ap, ◌∙◌, sym, true≢false, add-one}
 use Rattle.std.proofs.lemmas.Bool.Decides.{nat_tests}
 use Rattle.std.proofs.Math.Nat.{mul-le-mul_right, mul-lt-mul_of_pos_right, le_of_mul-le-mul_right, lt_of_mul-lt-mul_right}
-use Rattle.grid_fraction.specs.Numbers.{any_below, first_from}
-use Rattle.grid_fraction.proofs.Searches.{any_below-none, any_below-false, below_suc}
-use Rattle.freq_table.specs.Tables.{Table, highest_speed, last_entry, IsTable}
+use Rattle.grid_fraction.specs.Numbers.{any_below}
+use Rattle.grid_fraction.proofs.Searches.{any_below-none, any_below-false, below_suc, first_from-is}
 use Rattle.sched_model.specs.Plan.{Plan, count, period}
 use Rattle.sched_model.specs.Priority.{stands_before}
 use Rattle.sched_model.specs.Tests.{level_work}
 use Rattle.sched_model.specs.StaticDemand.{outweighs, heaviest}
 use Rattle.sched_model.proofs.PriorityLemmas.{before-self, before-trans, before-total}
-
-pub low_speed : (m : Table) → IsTable m → highest_speed m ≤ 1000000
-low_speed m h = (h.each (last_entry m) (omega (arith, h.some))).low_speed
-
--- the comparison by `greater` alone
-pub outweighs-by : (a b : ℕ) (c : Bool) → (nat_lt b a || (not (nat_lt a b) && c)) ≡ (nat_lt b a || (nat_eq a b && c))
-outweighs-by a b c = go (nat_lt b a) refl (nat_lt a b) refl (nat_eq a b) refl
-  where
-    go : (p : Bool) → nat_lt b a ≡ p → (q : Bool) → nat_lt a b ≡ q → (r : Bool) → nat_eq a b ≡ r → (p || (not q && c)) ≡ (p || (r && c))
-    go true e q f r g = refl
-    go false e true f true g = absurd (true≢false (grind (arith, nat_tests)))
-    go false e true f false g = refl
-    go false e false f true g = refl
-    go false e false f false g = absurd (true≢false (grind (arith, nat_tests)))
 
 -- what two numbers that outweigh each other say
 over : (a b : ℕ) (c : Bool) → (nat_lt b a || (nat_eq a b && c)) ≡ true → (b < a) ⊎ ((a ≡ b) × (c ≡ true))
@@ -95,33 +80,18 @@ beats-trans s q k j i pk pj pi f g =
 pub beats-total : (s q : ℕ → ℕ) (j i : ℕ) → j ≢ i → beats s q j i ≡ false → beats s q i j ≡ true
 beats-total s q j i ne h = go (nat_lt (s i * q j) (s j * q i)) refl (nat_eq (s j * q i) (s i * q j)) refl h
   where
-    go : (x : Bool) → nat_lt (s i * q j) (s j * q i) ≡ x → (y : Bool) → nat_eq (s j * q i) (s i * q j) ≡ y → (x || (y && stands_before q j i)) ≡ false → beats s q i j ≡ true
+    go : (x : Bool) → nat_lt (s i * q j) (s j * q i) ≡ x → (y : Bool) → nat_eq (s j * q i) (s i * q j) ≡ y
+        → (x || (y && stands_before q j i)) ≡ false → beats s q i j ≡ true
     go true e y f k = absurd (true≢false k)
     go false e true f k =
         let same : s j * q i ≡ s i * q j = grind (arith, nat_tests) in
         over_same (s i * q j) (s j * q i) (stands_before q i j) (sym same) (before-total q j i ne k)
     go false e false f k = over_less (s i * q j) (s j * q i) (stands_before q i j) (grind (arith, nat_tests))
 
--- a first number that passes, where none before it does
-first_from-is : (n from m : ℕ) (test : ℕ → Bool) → from ≤ m → m < from + n → test m ≡ true → ((k : ℕ) → from ≤ k → k < m → test k ≡ false) → first_from n from test ≡ m
-first_from-is zero from m test low high on off = absurd (omega arith)
-first_from-is (suc n) from m test low high on off = go (test from) refl (eq-or-lt_of_le low) (first_from-is n (suc from) m test)
-  where
-    go : (b : Bool) → test from ≡ b → (from ≡ m) ⊎ (from < m)
-        → (suc from ≤ m → m < suc from + n → test m ≡ true → ((k : ℕ) → suc from ≤ k → k < m → test k ≡ false) → first_from n (suc from) test ≡ m)
-        → first_from (suc n) from test ≡ m
-    go true e (inl c) ih = rw (e, first_from) c
-    go true e (inr c) ih = absurd (true≢false (sym e ∙ off from (omega arith) c))
-    go false e (inl c) ih = absurd (true≢false (sym on ∙ (ap test (sym c) ∙ e)))
-    go false e (inr c) ih = rw (e, first_from) (ih c (omega arith) on (λ k l h. off k (omega arith) h))
-
 -- none below m beats `found`, which is the heaviest of those
 pub record IsHeaviest (s q : ℕ → ℕ) (m found : ℕ) : Type 0 where
   pub below : found < m
   pub unbeaten : (k : ℕ) → k < m → beats s q k found ≡ false
-
-pub heaviest-one : (s q : ℕ → ℕ) → IsHeaviest s q 1 0
-heaviest-one s q = record { below = omega arith; unbeaten = λ k lt. let e : k ≡ 0 = omega arith in rw e (beats-self s q 0) }
 
 pub heaviest-kept : (s q : ℕ → ℕ) (m found : ℕ) → IsHeaviest s q m found → beats s q m found ≡ false → IsHeaviest s q (m + 1) found
 heaviest-kept s q m found h e = record {
@@ -138,17 +108,18 @@ heaviest-next s q m found some h e = record {
     none : (k : ℕ) → k < m → (b : Bool) → beats s q k m ≡ b → beats s q k m ≡ false
     none k lt false f = f
     none k lt true f =
-        absurd (true≢false (sym (beats-trans s q k m found (some k (omega arith)) (some m (omega arith)) (some found (omega (arith, h.below))) f e) ∙ h.unbeaten k lt))
+        absurd (true≢false
+        (sym (beats-trans s q k m found (some k (omega arith)) (some m (omega arith)) (some found (omega (arith, h.below))) f e) ∙ h.unbeaten k lt))
 
 pub heaviest-all : (p : Plan) (found : ℕ) → IsHeaviest (level_work p) (period p) (count p) found → found ≡ heaviest p
 heaviest-all p found h =
-    sym (first_from-is (count p) 0 found (λ i. not (any_below (count p) (λ j. outweighs p j i))) (omega arith) (omega (arith, h.below)) on off)
+    sym (first_from-is (count p) found (λ i. not (any_below (count p) (λ j. outweighs p j i))) h.below off on)
   where
     on : not (any_below (count p) (λ j. outweighs p j found)) ≡ true
     on = ap not (any_below-none (count p) (λ j. outweighs p j found) h.unbeaten)
 
-    off : (k : ℕ) → 0 ≤ k → k < found → not (any_below (count p) (λ j. outweighs p j k)) ≡ false
-    off k low lt = go (any_below (count p) (λ j. outweighs p j k)) refl
+    off : (k : ℕ) → k < found → not (any_below (count p) (λ j. outweighs p j k)) ≡ false
+    off k lt = go (any_below (count p) (λ j. outweighs p j k)) refl
       where
         beaten : outweighs p found k ≡ true
         beaten = beats-total (level_work p) (period p) k found (λ e. omega (arith, lt, e)) (h.unbeaten k (omega (arith, h.below, lt)))

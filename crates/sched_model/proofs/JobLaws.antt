@@ -1,21 +1,15 @@
 -- The laws of `release`, `due` and `latest`, all that other proofs know of them.
 use Rattle.std.proofs.Common.{◌≡◌, ℕ, zero, suc, ◌+◌, ◌-◌, ◌*◌, ◌/◌, ◌<◌, ◌≤◌, true, false, List, [], ◌∷◌, length, refl, inl, inr, nat_le, arith, ap, ◌∙◌, sym, div-add-mod', mod-lt, add-mul, one-mul, zero-mul, subst, add-one}
-use Rattle.std.proofs.lemmas.Nat.{div-mul-add}
 use Rattle.std.proofs.Math.Nat.{le-mul_of_pos_right}
 use Rattle.std.proofs.lemmas.Bool.{cases_lt}
 use Rattle.std.proofs.lemmas.Bool.Decides.{nat_tests}
 use Rattle.sched_model.specs.Plan.{Plan, count, period, offset, worst}
 use Rattle.grid_fraction.proofs.Searches.{any_below-found, last_up_to-le, last_up_to-greatest}
+use Rattle.grid_fraction.proofs.Ceilings.{quotient}
 use Rattle.sched_model.specs.Jobs.{release, due, latest, is_in_window, latest_since, releases_at, is_release, last_release}
 use Rattle.sched_model.specs.Demands.{worst_demand}
 use Rattle.sched_model.specs.Ticks.{Tick, exec}
 use Rattle.sched_model.specs.Ticks.{share, left}
-
--- a quotient is known by its bounds
-pub quotient : (n d q : ℕ) → q * d ≤ n → n < (q + 1) * d → n / d ≡ q
-quotient n d q low high =
-    let e : q * d + (n - q * d) ≡ n = omega arith in
-    ap (λ m. m / d) (sym e) ∙ div-mul-add q d (n - q * d) (omega (arith, add-mul q 1 d, one-mul d))
 
 -- from the offset on the latest job is counted from there, and before it there is job 0 alone
 latest-from : (p : Plan) (i t : ℕ) → offset p i ≤ t → latest p i t ≡ (t - offset p i) / period p i + 1
@@ -95,7 +89,8 @@ lt-due p i t pos =
       | inl early ↦ rw (latest-none p i t early) (omega (arith, early, zero-mul (period p i)))
       | inr since ↦
           let n : ℕ = t - offset p i in
-          rw (latest-from p i t since) (omega (arith, since, div-add-mod' n (period p i), mod-lt n pos, add-mul (n / period p i) 1 (period p i), one-mul (period p i)))
+          rw (latest-from p i t since)
+          (omega (arith, since, div-add-mod' n (period p i), mod-lt n pos, add-mul (n / period p i) 1 (period p i), one-mul (period p i)))
     ]
 
 pub due-le : (p : Plan) (i t : ℕ) → 0 < period p i → 0 < latest p i t → due p i (latest p i t) ≤ t + period p i
@@ -186,12 +181,6 @@ exec-early p [] i k h = refl
 exec-early p (x ∷ past) i k h =
     let outside : is_in_window p i k (length past) ≡ false = grind (arith, nat_tests) in
     rw outside (omega (arith, exec-early p past i k (omega arith)))
-
--- and nothing after its deadline
-pub exec-late : (p : Plan) (x : Tick) (past : List Tick) (i k : ℕ) → due p i k ≤ length past → exec p (x ∷ past) i k ≡ exec p past i k
-exec-late p x past i k h =
-    let outside : is_in_window p i k (length past) ≡ false = grind (arith, nat_tests) in
-    rw outside (omega arith)
 
 -- the last release is at most now
 pub last_release-le : (p : Plan) (t : ℕ) → last_release p t ≤ t

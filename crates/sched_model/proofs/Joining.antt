@@ -1,5 +1,5 @@
 -- The state of a list of ticks, boundary by boundary and tick by tick.
-use Rattle.std.proofs.Common.{◌≡◌, ℕ, zero, suc, ◌+◌, ◌-◌, ◌<◌, ◌≤◌, Bool, true, false, List, [], ◌∷◌, length, drop, refl, arith, ap, ap₂, ◌∙◌, sym, nat_eq, nat_le, true≢false}
+use Rattle.std.proofs.Common.{◌≡◌, ℕ, zero, suc, ◌+◌, ◌<◌, ◌≤◌, Bool, true, false, List, [], ◌∷◌, length, refl, arith, ap, ap₂, ◌∙◌, sym, nat_eq, nat_le, true≢false}
 use Rattle.std.specs.Prelude.{map}
 use Rattle.std.proofs.lemmas.Bool.Decides.{nat_tests}
 use Rattle.sched_model.specs.declared.state.Row.{Row}
@@ -9,12 +9,13 @@ use Rattle.sched_model.specs.Ticks.{Tick, at, exec, is_done, wleft}
 use Rattle.sched_model.specs.Ticks.{share, left}
 use Rattle.grid_fraction.specs.Numbers.{last_up_to}
 use Rattle.sched_model.specs.Jobs.{last_release}
-use Rattle.sched_model.specs.States.{StateOf, row_of, state_of}
+use Rattle.sched_model.specs.States.{StateOf, no_row, row_at, row_of, state_of}
 use Rattle.grid_fraction.specs.Numbers.{list_below}
 use Rattle.sched_model.specs.States.{released_row, row_wleft, prior_row, prior_base_at, prior_base, prior_state}
 use Rattle.sched_model.proofs.JobLaws.{due-none, release-none, release-suc, due-suc, lt-due, latest-unique, latest-none, latest-stays, latest-next, release-le, exec-early, exec-legal, last_release-le}
 use Rattle.grid_fraction.proofs.Searches.{any_below-false}
-use Rattle.sched_model.proofs.Tables.{table-same, map-table}
+use Rattle.sched_model.proofs.Tables.{get-table, table-same, map-table}
+use Rattle.sched_model.proofs.Service.{at-now, at-before}
 
 -- a row by its parts
 abbrev pub row_by : ℕ → ℕ → ℕ → Bool → ℕ → Row
@@ -23,6 +24,15 @@ row_by a b c d e = record { deadline = a; job = b; used = c; done = d; worst = e
 -- the row after its release, complete if its job has no demand
 abbrev pub opened_row : Plan → (ℕ → ℕ → ℕ) → ℕ → Row → Row
 opened_row p dem i row = record (released_row (period p i) row) { done = nat_eq (dem i (row.job + 1)) 0 }
+
+-- a row of the state after a list of ticks, and before the releases then
+pub row_at-state_of : (p : Plan) (dem : ℕ → ℕ → ℕ) (past : List Tick) (i : ℕ) → i < count p
+    → row_at (state_of p dem past) i ≡ row_of p dem past i
+row_at-state_of p dem past i lt = get-table (count p) (row_of p dem past) i no_row lt
+
+pub row_at-prior_state : (p : Plan) (dem : ℕ → ℕ → ℕ) (past : List Tick) (i : ℕ) → i < count p
+    → row_at (prior_state p dem past) i ≡ prior_row p dem past i
+row_at-prior_state p dem past i lt = get-table (count p) (prior_row p dem past) i no_row lt
 
 module _ (p : Plan) (dem : ℕ → ℕ → ℕ) (periods : (i : ℕ) → 0 < period p i) where
   -- the deadline of a row is that of its job
@@ -52,7 +62,8 @@ module _ (p : Plan) (dem : ℕ → ℕ → ℕ) (periods : (i : ℕ) → 0 < per
   due_next past i = due-suc p i (prior_row p dem past i).job ∙ ap (λ d. d + period p i) (sym (prior_due-is past i))
 
   -- and the latest job where it is not
-  pub same_job : (x : Tick) (past : List Tick) (i : ℕ) → nat_eq (prior_row p dem (x ∷ past) i).deadline (length (x ∷ past)) ≡ false → latest p i (length (x ∷ past)) ≡ latest p i (length past)
+  pub same_job : (x : Tick) (past : List Tick) (i : ℕ) → nat_eq (prior_row p dem (x ∷ past) i).deadline (length (x ∷ past)) ≡ false
+      → latest p i (length (x ∷ past)) ≡ latest p i (length past)
   same_job x past i e =
       let now : length (x ∷ past) ≡ length past + 1 = omega arith in
       let before : length past + 1 < due p i (latest p i (length past)) = grind (arith, nat_tests, lt-due p i (length past) (periods i)) in
@@ -75,14 +86,16 @@ module _ (p : Plan) (dem : ℕ → ℕ → ℕ) (periods : (i : ℕ) → 0 < per
 
       go : (k : ℕ) → latest p i (length past) ≡ k → releases_at p i (length (x ∷ past)) ≡ false
       go zero q =
-          let late : length (x ∷ past) < release p i (latest p i (length past)) = grind (arith, nat_tests, lt-due p i (length past) (periods i), ap (due p i) q, ap (release p i) q, due-none p i, release-none p i) in
+          let late : length (x ∷ past) < release p i (latest p i (length past)) = grind
+          (arith, nat_tests, lt-due p i (length past) (periods i), ap (due p i) q, ap (release p i) q, due-none p i, release-none p i) in
           grind (arith, nat_tests, is, late)
       go (suc k) q =
           let early : release p i (latest p i (length past)) ≤ length past = release-le p i (length past) (periods i) (omega (arith, q)) in
           grind (arith, nat_tests, is, early)
 
   -- a row that is due is released
-  pub row-opened : (past : List Tick) (i : ℕ) → (prior_row p dem past i).deadline ≡ length past → row_of p dem past i ≡ opened_row p dem i (prior_row p dem past i)
+  pub row-opened : (past : List Tick) (i : ℕ) → (prior_row p dem past i).deadline ≡ length past
+      → row_of p dem past i ≡ opened_row p dem i (prior_row p dem past i)
   row-opened past i e =
       ap (λ k. row_by (due p i k) k (exec p past i k) (nat_le (dem i k) (exec p past i k)) (worst p i)) (next_job past i e)
       ∙ (ap₂ (λ a b. row_by a next b (nat_le (dem i next) b) (worst p i)) (due_next past i) none
@@ -104,12 +117,14 @@ module _ (p : Plan) (dem : ℕ → ℕ → ℕ) (periods : (i : ℕ) → 0 < per
           go true e false f = absurd (grind (arith, nat_tests))
           go false e true f = absurd (grind (arith, nat_tests))
 
-      worst_is : (past : List Tick) → row_by ((prior_row p dem past i).deadline + period p i) ((prior_row p dem past i).job + 1) 0 (nat_eq (dem i ((prior_row p dem past i).job + 1)) 0) (worst p i) ≡ opened_row p dem i (prior_row p dem past i)
+      worst_is : (past : List Tick) → row_by ((prior_row p dem past i).deadline + period p i) ((prior_row p dem past i).job + 1) 0
+          (nat_eq (dem i ((prior_row p dem past i).job + 1)) 0) (worst p i) ≡ opened_row p dem i (prior_row p dem past i)
       worst_is [] = refl
       worst_is (x ∷ past) = refl
 
   -- the others stay
-  pub row-kept : (past : List Tick) (i : ℕ) → dem i 0 ≡ 0 → nat_eq (prior_row p dem past i).deadline (length past) ≡ false → row_of p dem past i ≡ prior_row p dem past i
+  pub row-kept : (past : List Tick) (i : ℕ) → dem i 0 ≡ 0 → nat_eq (prior_row p dem past i).deadline (length past) ≡ false
+      → row_of p dem past i ≡ prior_row p dem past i
   row-kept [] i none e =
       let late : 0 < offset p i = grind (arith, nat_tests) in
       ap (λ k. row_by (due p i k) k 0 (nat_le (dem i k) 0) (worst p i)) (latest-none p i 0 late)
@@ -125,20 +140,13 @@ module _ (p : Plan) (dem : ℕ → ℕ → ℕ) (periods : (i : ℕ) → 0 < per
   base_at-kept : (t : ℕ) → is_release p (suc t) ≡ false → last_release p (suc t) ≡ last_release p t
   base_at-kept t e = rw (e, last_up_to) refl
 
-  at-now : (past : List Tick) → at (length past) past ≡ past
-  at-now past = let z : length past - length past ≡ 0 = omega arith in rw z refl
-
-  at-earlier : (r : ℕ) (x : Tick) (past : List Tick) → r ≤ length past → at r (x ∷ past) ≡ at r past
-  at-earlier r x past le =
-      let e : length (x ∷ past) - r ≡ suc (length past - r) = omega arith in
-      ap (λ n. drop n (x ∷ past)) e
-
   abbrev pub state_by : ℕ → List Row → ℕ → List ℕ → StateOf
   state_by a b c d = record { now = a; rows = b; base_at = c; base = d }
 
   -- the first join: with all releases done and the mark set, the state is that of the past
   pub state-marked : (past : List Tick) → is_release p (length past) ≡ true
-      → state_by (length past) (list_below (count p) (row_of p dem past)) (length past) (map row_wleft (list_below (count p) (row_of p dem past))) ≡ state_of p dem past
+      → state_by (length past) (list_below (count p) (row_of p dem past)) (length past)
+      (map row_wleft (list_below (count p) (row_of p dem past))) ≡ state_of p dem past
   state-marked past e =
       let r : last_release p (length past) ≡ length past = base_at-marked (length past) e in
       let now : at (last_release p (length past)) past ≡ past = ap (λ n. at n past) r ∙ at-now past in
@@ -147,7 +155,8 @@ module _ (p : Plan) (dem : ℕ → ℕ → ℕ) (periods : (i : ℕ) → 0 < per
       ∙ ap (λ (ps : List Tick). list_below (count p) (wleft p dem ps)) (sym now))
 
   pub state-unmarked : (past : List Tick) → ((i : ℕ) → dem i 0 ≡ 0) → is_release p (length past) ≡ false
-      → state_by (length past) (list_below (count p) (row_of p dem past)) (prior_base_at p past) (list_below (count p) (prior_base p dem past)) ≡ state_of p dem past
+      → state_by (length past) (list_below (count p) (row_of p dem past)) (prior_base_at p past)
+      (list_below (count p) (prior_base p dem past)) ≡ state_of p dem past
   state-unmarked [] none e =
       ap (λ base. state_by 0 (list_below (count p) (row_of p dem [])) 0 base)
       (table-same (count p) (λ i. 0) (wleft p dem []) (λ i lt. sym (nothing i (not_due i lt (nat_eq (offset p i) 0) refl))))
@@ -164,29 +173,34 @@ module _ (p : Plan) (dem : ℕ → ℕ → ℕ) (periods : (i : ℕ) → 0 < per
   state-unmarked (x ∷ past) none e =
       let r : last_release p (length (x ∷ past)) ≡ last_release p (length past) = base_at-kept (length past) e in
       let back : at (last_release p (length (x ∷ past))) (x ∷ past) ≡ at (last_release p (length past)) past =
-      ap (λ n. at n (x ∷ past)) r ∙ at-earlier (last_release p (length past)) x past (last_release-le p (length past)) in
-      ap₂ (λ a (ps : List Tick). state_by (length (x ∷ past)) (list_below (count p) (row_of p dem (x ∷ past))) a (list_below (count p) (wleft p dem ps))) (sym r) (sym back)
+      ap (λ n. at n (x ∷ past)) r ∙ at-before (last_release p (length past)) x past (last_release-le p (length past)) in
+      ap₂ (λ a (ps : List Tick). state_by (length (x ∷ past)) (list_below (count p) (row_of p dem (x ∷ past))) a
+      (list_below (count p) (wleft p dem ps))) (sym r) (sym back)
 
   -- with no release at all the state before the boundary is that of the past
   pub state-still : (past : List Tick) → ((i : ℕ) → dem i 0 ≡ 0) → is_release p (length past) ≡ false → prior_state p dem past ≡ state_of p dem past
   state-still past none e =
       ap (λ rows. state_by (length past) rows (prior_base_at p past) (list_below (count p) (prior_base p dem past)))
-      (table-same (count p) (prior_row p dem past) (row_of p dem past) (λ i lt. sym (row-kept past i (none i) (not_due i lt (nat_eq (prior_row p dem past i).deadline (length past)) refl))))
+      (table-same (count p) (prior_row p dem past) (row_of p dem past)
+      (λ i lt. sym (row-kept past i (none i) (not_due i lt (nat_eq (prior_row p dem past i).deadline (length past)) refl))))
       ∙ state-unmarked past none e
     where
-      not_due : (i : ℕ) → i < count p → (b : Bool) → nat_eq (prior_row p dem past i).deadline (length past) ≡ b → nat_eq (prior_row p dem past i).deadline (length past) ≡ false
+      not_due : (i : ℕ) → i < count p → (b : Bool) → nat_eq (prior_row p dem past i).deadline (length past) ≡ b
+          → nat_eq (prior_row p dem past i).deadline (length past) ≡ false
       not_due i lt true q = absurd (true≢false (sym (due_released past i true q) ∙ any_below-false (count p) (λ i. releases_at p i (length past)) e i lt))
       not_due i lt false q = q
 
   -- the second join: a tick whose units are added to the rows, with the completions
   pub row-ran : (x : Tick) (past : List Tick) (i : ℕ) → dem i 0 ≡ 0 → share x i ≤ left p dem past i
-      → prior_row p dem (x ∷ past) i ≡ row_by (row_of p dem past i).deadline (row_of p dem past i).job ((row_of p dem past i).used + share x i) (nat_le (dem i (latest p i (length past))) ((row_of p dem past i).used + share x i)) (row_of p dem past i).worst
+      → prior_row p dem (x ∷ past) i ≡ row_by (row_of p dem past i).deadline (row_of p dem past i).job ((row_of p dem past i).used
+      + share x i) (nat_le (dem i (latest p i (length past))) ((row_of p dem past i).used + share x i)) (row_of p dem past i).worst
   row-ran x past i none fits =
       ap (λ u. row_by (due p i (latest p i (length past))) (latest p i (length past)) u (nat_le (dem i (latest p i (length past))) u) (worst p i))
       (exec-legal p dem x past i (periods i) none fits)
 
   pub state-ran : (x : Tick) (past : List Tick)
-      → prior_state p dem (x ∷ past) ≡ state_by (length past + 1) (list_below (count p) (prior_row p dem (x ∷ past))) (state_of p dem past).base_at (state_of p dem past).base
+      → prior_state p dem (x ∷ past) ≡ state_by (length past + 1) (list_below (count p) (prior_row p dem (x ∷ past)))
+      (state_of p dem past).base_at (state_of p dem past).base
   state-ran x past =
       let now : length (x ∷ past) ≡ length past + 1 = omega arith in
       ap (λ t. state_by t (list_below (count p) (prior_row p dem (x ∷ past))) (state_of p dem past).base_at (state_of p dem past).base) now

@@ -1,11 +1,11 @@
 -- Sums over sets of tasks, term by term, and over the level of a task.
-use Rattle.std.proofs.Common.{◌≡◌, ℕ, zero, suc, ◌+◌, ◌-◌, ◌*◌, ◌<◌, ◌≤◌, min, max, Bool, true, false, eqb, refl, arith, if◌then◌else◌, ap, ◌∙◌, sym, subst, mul-zero}
+use Rattle.std.proofs.Common.{◌≡◌, ℕ, zero, suc, ◌+◌, ◌-◌, ◌*◌, ◌<◌, ◌≤◌, min, max, Bool, true, false, eqb, refl, arith, if◌then◌else◌, ◌∙◌, sym, subst, mul-zero}
 use Rattle.std.proofs.lemmas.Bool.Decides.{nat_tests}
 use Rattle.grid_fraction.specs.Numbers.{sum_below, sum_where, greatest_below}
-use Rattle.sched_model.specs.Priority.{stands_before, is_up_to, sum_before, sum_up_to, SharesOut}
-use Rattle.grid_fraction.proofs.Sums.{sum_below-same, sum_below-add, sum_below-own, sum_below-zero, sum_below-le}
-use Rattle.sched_model.proofs.PriorityLemmas.{split_if, same_not_before, allotment_of}
-use Rattle.sched_model.proofs.DownSets.{down-set-gets}
+use Rattle.sched_model.specs.Priority.{stands_before, is_up_to, sum_up_to, SharesOut}
+use Rattle.grid_fraction.proofs.Sums.{sum_below-same, sum_below-add, sum_below-zero, sum_below-le}
+use Rattle.sched_model.proofs.Allotments.{allotment_of}
+use Rattle.sched_model.proofs.DownSets.{sum_where-last, down-set-gets}
 
 if-mono : (b : Bool) (x y : ℕ) → (b ≡ true → x ≤ y) → (if b then x else 0) ≤ (if b then y else 0)
 if-mono true x y h = h refl
@@ -25,7 +25,8 @@ sum_where-mono n test f g h =
 
 pub sum_where-plus : (n : ℕ) (test : ℕ → Bool) (f g : ℕ → ℕ) → sum_where n test (λ k. f k + g k) ≡ sum_where n test f + sum_where n test g
 sum_where-plus n test f g =
-    sum_below-same n (λ k. if test k then f k + g k else 0) (λ k. (if test k then f k else 0) + (if test k then g k else 0)) (λ k lt. if-plus (test k) (f k) (g k))
+    sum_below-same n (λ k. if test k then f k + g k else 0) (λ k. (if test k then f k else 0) + (if test k then g k else 0))
+    (λ k lt. if-plus (test k) (f k) (g k))
     ∙ sum_below-add n (λ k. if test k then f k else 0) (λ k. if test k then g k else 0)
 
 pub sum_below-times : (n h : ℕ) (f : ℕ → ℕ) → h * sum_below n f ≡ sum_below n (λ k. h * f k)
@@ -51,9 +52,11 @@ sum_where-term n test f i lt on =
     subst (λ (b : Bool). (if b then f i else 0) ≤ sum_where n test f) on all
 
 -- of two sums that bound each other, the terms do
-pub sum_where-tight : (n : ℕ) (test : ℕ → Bool) (f g : ℕ → ℕ) → ((k : ℕ) → k < n → g k ≤ f k) → sum_where n test f ≤ sum_where n test g → (i : ℕ) → i < n → test i ≡ true → f i ≤ g i
+pub sum_where-tight : (n : ℕ) (test : ℕ → Bool) (f g : ℕ → ℕ) → ((k : ℕ) → k < n → g k ≤ f k) → sum_where n test f ≤ sum_where n test g
+    → (i : ℕ) → i < n → test i ≡ true → f i ≤ g i
 sum_where-tight n test f g below tight i lt on =
-    let both : sum_where n test (λ k. g k + (f k - g k)) ≤ sum_where n test f = sum_where-mono n test (λ k. g k + (f k - g k)) f (λ k l t. let b = below k l in omega arith) in
+    let both : sum_where n test (λ k. g k + (f k - g k)) ≤ sum_where n test f = sum_where-mono n test (λ k. g k + (f k - g k)) f
+    (λ k l t. let b = below k l in omega arith) in
     let split = sum_where-plus n test g (λ k. f k - g k) in
     let mine : f i - g i ≤ sum_where n test (λ k. f k - g k) = sum_where-term n test (λ k. f k - g k) i lt on in
     omega (arith, both, split, mine)
@@ -81,13 +84,8 @@ up_to-trans key j k i h g = grind (arith, nat_tests)
 -- the two ways to add over a level
 pub sum_up_to-where : (n : ℕ) (key f : ℕ → ℕ) (i : ℕ) → i < n → sum_up_to n key f i ≡ sum_where n (is_up_to key i) f
 sum_up_to-where n key f i lt =
-    let before : ℕ → ℕ = λ k. if stands_before key k i then f k else 0 in
-    let own : ℕ → ℕ = λ k. if eqb k i then f k else 0 in
-    sym (
-    sum_below-same n (λ k. if is_up_to key i k then f k else 0) (λ k. before k + own k)
-    (λ k l. split_if (is_up_to key i k) (stands_before key k i) (eqb k i) (f k) refl (same_not_before key k i))
-    ∙ (sum_below-add n before own
-    ∙ ap (λ a. sum_before n key f i + a) (sum_below-own n i f lt)))
+    sym (sum_where-last n key (is_up_to key i) f i (λ j k lj lk b t. up_to-trans key j k i b t)
+    (record { below = lt; passes = up_to-self key i; last = λ k l on. grind (arith, nat_tests, on) }))
 
 -- a level gets the smaller of the room and what it needs
 pub level-gets : (n : ℕ) (key : ℕ → ℕ) (room : ℕ) (need given : ℕ → ℕ) → SharesOut n key room need given

@@ -10,6 +10,7 @@ pub mod PieceLemmas
 pub mod NoteLemmas
 pub mod Agreeing
 pub mod DownSets
+pub mod Allotments
 pub mod LevelSums
 pub mod Examples
 pub mod Traces

@@ -1,5 +1,5 @@
 -- What the limits say of a plan's numbers.
-use Rattle.std.proofs.Common.{◌≡◌, inl, inr, ℕ, ◌+◌, ◌*◌, ◌/◌, ◌<◌, ◌≤◌, get_or, arith, ap}
+use Rattle.std.proofs.Common.{◌≡◌, inl, inr, ℕ, ◌+◌, ◌*◌, ◌/◌, ◌^◌, ◌<◌, ◌≤◌, get_or, arith, ap}
 use Rattle.std.specs.Prelude.{map}
 use Rattle.std.specs.List.{All}
 use Rattle.std.proofs.lemmas.List.{length-map, get_or-map}
@@ -10,7 +10,7 @@ use Rattle.grid_fraction.proofs.Multiples.{least_common_multiple-pos, mul-div-le
 use Rattle.task_model.specs.declared.limits.TheConstants.{LONGEST_PERIOD, LONGEST_HYPERPERIOD}
 use Rattle.task_model.specs.declared.task.Task.{Task}
 use Rattle.task_model.specs.Tasks.{no_task}
-use Rattle.sched_model.specs.Plan.{Plan, count, period, hyper}
+use Rattle.sched_model.specs.Plan.{Plan, count, period, worst, hyper}
 use Rattle.sched_model.specs.Jobs.{deadline}
 use Rattle.sched_model.specs.Admission.{IsWithinLimits}
 use Rattle.sched_model.proofs.JobLaws.{due-within}
@@ -34,6 +34,9 @@ module _ (p : Plan) (lim : IsWithinLimits p) where
 
   pub low_period : (i : ℕ) → i < count p → period p i ≤ LONGEST_PERIOD
   low_period i h = (lim.tasks.each i h).low_period
+
+  pub low_worst : (i : ℕ) → i < count p → worst p i ≤ 2 ^ 61
+  low_worst i h = omega (arith, (lim.tasks.each i h).low_worst, lim.machine.low_charge)
 
   -- the latest job is due soon
   pub deadline-soon : (i t : ℕ) → i < count p → deadline p i t ≤ t + LONGEST_PERIOD

@@ -6,8 +6,7 @@ use Rattle.sched_model.specs.declared.state.Row.{Row}
 use Rattle.sched_model.specs.Plan.{Plan, count, period, offset, worst}
 use Rattle.sched_model.specs.States.{StateOf, no_row, row_at, opening, opening_row, IsStateOf, CanRelease}
 use Rattle.sched_model.specs.Admission.{IsWithinLimits}
-use Rattle.sched_model.proofs.ScheduleLemmas.{length-list_below}
-use Rattle.sched_model.proofs.Tables.{get-table}
+use Rattle.sched_model.proofs.Tables.{length-list_below, get-table}
 
 pub opening-is_state : (p : Plan) → IsStateOf (opening p)
 opening-is_state p = record {

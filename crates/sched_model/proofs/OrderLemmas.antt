@@ -1,6 +1,8 @@
 -- The list of the tasks in order: where each stands, and the sums over the tasks before one of them.
 use Rattle.std.proofs.Common.{◌≡◌, ◌≢◌, ◌⊎◌, inl, inr, eq-or-lt_of_le, le_of_suc-le-suc, ℕ, zero, suc, ◌+◌, ◌<◌, Bool, true, false, List, [], ◌∷◌, ◌++◌, length, get_or, refl, arith, if◌then◌else◌, ap, ap₂, ◌∙◌, sym, subst, nat_eq, nat_lt}
 use Rattle.std.specs.Prelude.{◌||◌, ◌&&◌}
+use Rattle.std.specs.List.{AllByRecursion}
+use Rattle.std.proofs.lemmas.List.Elements.{All-from_recursion}
 use Rattle.grid_fraction.specs.Numbers.{sum_below}
 use Rattle.grid_fraction.proofs.Sums.{sum_below-same}
 use Rattle.sched_model.specs.Priority.{stands_before, sum_before}
@@ -21,8 +23,7 @@ IsOrdered key [] = Unit {0}
 IsOrdered key (i ∷ js) = IsAhead key i js × IsOrdered key js
 
 abbrev pub AreBelow : ℕ → List ℕ → Type 0
-AreBelow n [] = Unit {0}
-AreBelow n (j ∷ js) = (j < n) × AreBelow n js
+AreBelow n = AllByRecursion (λ j. j < n)
 
 pub sum_list-append : (f : ℕ → ℕ) (xs ys : List ℕ) → sum_list f (xs ++ ys) ≡ sum_list f xs + sum_list f ys
 sum_list-append f [] ys = omega arith
@@ -35,7 +36,8 @@ sum_list-insert : (f key : ℕ → ℕ) (i : ℕ) (js : List ℕ) → sum_list f
 sum_list-insert f key i [] = omega arith
 sum_list-insert f key i (j ∷ js) = go (stands_before key i j) (sum_list-insert f key i js)
   where
-    go : (b : Bool) → sum_list f (insert_by key i js) ≡ sum_list f js + f i → sum_list f (if b then i ∷ j ∷ js else j ∷ insert_by key i js) ≡ f j + sum_list f js + f i
+    go : (b : Bool) → sum_list f (insert_by key i js) ≡ sum_list f js + f i
+        → sum_list f (if b then i ∷ j ∷ js else j ∷ insert_by key i js) ≡ f j + sum_list f js + f i
     go true ih = omega arith
     go false ih = omega (arith, ih)
 
@@ -83,9 +85,7 @@ below-from n [] post b = b
 below-from n (j ∷ pre) post b = below-from n pre post b.1
 
 pub below-at : (n : ℕ) (js : List ℕ) (k : ℕ) → AreBelow n js → k < length js → get_or js k 0 < n
-below-at n [] k b lt = absurd (omega arith)
-below-at n (j ∷ js) zero b lt = b.0
-below-at n (j ∷ js) (suc k) b lt = below-at n js k b.1 (omega arith)
+below-at n js k b lt = All-from_recursion (λ j. j < n) js b k 0 lt
 
 pub in_order-below : (key : ℕ → ℕ) (n : ℕ) → AreBelow n (in_order key n)
 unfolding in_order
@@ -157,7 +157,8 @@ stands-kept : (key : ℕ → ℕ) (k i : ℕ) (js : List ℕ) → Stands k js �
 stands-kept key k i [] at = stands-later k i [] at
 stands-kept key k i (j ∷ js) at = go (stands_before key i j) at.0 at.1.0 at.1.1 (λ rest. stands-kept key k i js rest)
   where
-    go : (b : Bool) (pre post : List ℕ) → j ∷ js ≡ pre ++ k ∷ post → (Stands k js → Stands k (insert_by key i js)) → Stands k (if b then i ∷ j ∷ js else j ∷ insert_by key i js)
+    go : (b : Bool) (pre post : List ℕ) → j ∷ js ≡ pre ++ k ∷ post → (Stands k js → Stands k (insert_by key i js))
+        → Stands k (if b then i ∷ j ∷ js else j ∷ insert_by key i js)
     go true pre post e ih = (i ∷ pre, (post, ap (λ (ys : List ℕ). i ∷ ys) e))
     go false [] post e ih = let same : j ≡ k = cc in ([], (insert_by key i js, ap (λ (m : ℕ). m ∷ insert_by key i js) same))
     go false (p ∷ pre) post e ih = let rest : js ≡ pre ++ k ∷ post = cc in stands-later k j (insert_by key i js) (ih (pre, (post, rest)))

@@ -1,6 +1,7 @@
 -- The segments of a list of units that grows at its end, and of a long run of one holder.
 use Rattle.std.proofs.Common.{◌≡◌, ℕ, zero, suc, ◌+◌, ◌<◌, Bool, true, false, List, [], ◌∷◌, ◌++◌, replicate, refl, arith, if◌then◌else◌, ap, ap₂, ◌∙◌, sym, subst, true≢false}
 use Rattle.std.proofs.lemmas.Bool.Decides.{nat_tests}
+use Rattle.std.specs.List.{AllByRecursion}
 use Rattle.sched_model.specs.declared.holder.Holder.{Holder}
 use Rattle.sched_model.specs.declared.holder.Holder.TheVariants.{Nobody, Held}
 use Rattle.sched_model.specs.Segments.{same_holder, Piece, before_pieces, pieces_of}
@@ -17,6 +18,21 @@ same_holder-eq (Held i k) (Held j l) e = ap₂ Held (grind (arith, nat_tests)) (
 pub same_holder-refl : (h : Holder) → same_holder h h ≡ true
 same_holder-refl Nobody = refl
 same_holder-refl (Held i k) = grind (arith, nat_tests)
+
+-- what holds of each unit holds of each segment
+each-before : (P : Holder → Type 0) (h : Holder) (rs : List Piece) → P h
+    → AllByRecursion (λ (r : Piece). P r.holder) rs → AllByRecursion (λ (r : Piece). P r.holder) (before_pieces h rs)
+each-before P h [] here all = (here, tt)
+each-before P h (r ∷ rs) here all = go (same_holder h r.holder)
+  where
+    go : (b : Bool) → AllByRecursion (λ (q : Piece). P q.holder)
+        (if b then record { holder = h; units = r.units + 1 } ∷ rs else record { holder = h; units = 1 } ∷ r ∷ rs)
+    go true = (here, all.1)
+    go false = (here, all)
+
+pub each-piece : (P : Holder → Type 0) (us : List Holder) → AllByRecursion P us → AllByRecursion (λ (r : Piece). P r.holder) (pieces_of us)
+each-piece P [] all = tt
+each-piece P (u ∷ us) all = each-before P u (pieces_of us) all.0 (each-piece P us all.1)
 
 -- one more unit at the end of a list of segments
 abbrev pub with_unit : List Piece → Holder → List Piece

@@ -1,7 +1,6 @@
 -- There is exactly one schedule, and the entry in force on it.
-use Rattle.std.proofs.Common.{◌≡◌, ℕ, zero, suc, ◌-◌, ◌<◌, Bool, true, false, if◌then◌else◌, List, [], ◌∷◌, ◌++◌, length, get_or, refl, arith, ap, ◌∙◌, sym, length-append, ◌⊎◌, inl, inr, subst, eq-or-lt_of_le, le_of_suc-le-suc}
-use Rattle.std.proofs.lemmas.List.{ext_get_or, get_or-append_right}
-use Rattle.std.proofs.Math.ListN.{get_or-append}
+use Rattle.std.proofs.Common.{◌≡◌, ℕ, zero, suc, ◌<◌, Bool, true, false, if◌then◌else◌, List, [], ◌∷◌, length, get_or, refl, arith, ap, ◌∙◌, sym, subst}
+use Rattle.std.proofs.lemmas.List.{ext_get_or}
 use Rattle.grid_fraction.specs.declared.Frac.{Frac}
 use Rattle.freq_table.specs.Tables.{lowest_entry}
 use Rattle.freq_table.proofs.Chosen.{lowest_within}
@@ -13,26 +12,9 @@ use Rattle.sched_model.specs.Priority.{allotment}
 use Rattle.sched_model.specs.Priority.{key_of}
 use Rattle.sched_model.specs.Schedule.{entry_in_force, IsNext, IsScheduleBy, next_tick, schedule_by}
 use Rattle.grid_fraction.specs.Numbers.{list_below}
-use Rattle.sched_model.proofs.PriorityLemmas.{allotment_of, allotment-shares, shares-same}
-
-pub length-list_below : {A : Type 0} (n : ℕ) (f : ℕ → A) → length (list_below n f) ≡ n
-length-list_below zero f = refl
-length-list_below (suc n) f = omega (arith, length-append (list_below n f) (f n ∷ []), length-list_below n f)
-
-pub get_or-list_below : (n : ℕ) (f : ℕ → ℕ) (i : ℕ) → i < n → get_or (list_below n f) i 0 ≡ f i
-get_or-list_below zero f i lt = absurd (omega arith)
-get_or-list_below (suc n) f i lt = go (eq-or-lt_of_le (le_of_suc-le-suc lt)) (get_or-list_below n f)
-  where
-    go : (i ≡ n) ⊎ (i < n) → ((i : ℕ) → i < n → get_or (list_below n f) i 0 ≡ f i) → get_or (list_below n f ++ f n ∷ []) i 0 ≡ f i
-    go (inl e) ih =
-        let len : length (list_below n f) ≡ n = length-list_below n f in
-        get_or-append_right (list_below n f) (f n ∷ []) n i 0 len (omega arith)
-        ∙ (ap (λ k. get_or (f n ∷ []) k 0) zero_there ∙ ap f (sym e))
-      where
-        zero_there : i - n ≡ 0
-        zero_there = omega (arith, e)
-    go (inr l) ih =
-        get_or-append (list_below n f) (f n ∷ []) 0 i (omega (arith, length-list_below n f)) ∙ ih i l
+use Rattle.sched_model.proofs.Tables.{get-table}
+pub use Rattle.sched_model.proofs.Tables.{length-list_below}
+use Rattle.sched_model.proofs.Allotments.{allotment_of, allotment-shares, shares-same}
 
 -- the tick that may follow is determined by the ticks before it
 pub next_unique : (p : Plan) (dem : ℕ → ℕ → ℕ) (ask : List Tick → Frac) (past : List Tick) (x : Tick)
@@ -55,8 +37,9 @@ next_unique p dem ask past x h =
         at i lt =
             allotment_of (count p) (key_of p.scheduler p (length past)) (f x.entry) (left p dem past) (share x) h.legal i lt
             ∙ (ap (λ e. given e i) h.entry
-            ∙ sym (get_or-list_below (count p) (given (entry_in_force p dem ask past)) i lt))
+            ∙ sym (get-table (count p) (given (entry_in_force p dem ask past)) i 0 lt))
 
+-- each schedule is that of its length
 pub schedule_unique : (p : Plan) (dem : ℕ → ℕ → ℕ) (ask : List Tick → Frac) (ticks : List Tick)
     → IsScheduleBy p dem ask ticks → ticks ≡ schedule_by p dem ask (length ticks)
 unfolding schedule_by
@@ -65,11 +48,6 @@ schedule_unique p dem ask (x ∷ past) h =
     let e : past ≡ schedule_by p dem ask (length past) = schedule_unique p dem ask past h.0 in
     ap (λ y. y ∷ past) (next_unique p dem ask past x h.1) ∙ ap (λ ps. next_tick p dem ask ps ∷ ps) e
 
-pub same_schedule : (p : Plan) (dem : ℕ → ℕ → ℕ) (ask : List Tick → Frac) (a b : List Tick)
-    → IsScheduleBy p dem ask a → IsScheduleBy p dem ask b → length a ≡ length b → a ≡ b
-same_schedule p dem ask a b h g e =
-    schedule_unique p dem ask a h ∙ (ap (schedule_by p dem ask) e ∙ sym (schedule_unique p dem ask b g))
-
 -- the tick that the definition computes may follow, so its ticks are a schedule
 pub next_tick-may : (p : Plan) (dem : ℕ → ℕ → ℕ) (ask : List Tick → Frac) (past : List Tick)
     → IsNext p dem ask past (next_tick p dem ask past)
@@ -77,7 +55,7 @@ next_tick-may p dem ask past = record {
   one_share_each = length-list_below (count p) given;
   entry = refl;
   legal = shares-same (count p) (key_of p.scheduler p (length past)) f (left p dem past) given (share (next_tick p dem ask past))
-      (λ i lt. sym (get_or-list_below (count p) given i lt))
+      (λ i lt. sym (get-table (count p) given i 0 lt))
       (allotment-shares (count p) (key_of p.scheduler p (length past)) f (left p dem past));
 }
   where
@@ -87,6 +65,7 @@ next_tick-may p dem ask past = record {
     given : ℕ → ℕ
     given = allotment (count p) (key_of p.scheduler p (length past)) f (left p dem past)
 
+-- there is a schedule of each length, whatever demand is published
 pub schedule_exists : (p : Plan) (dem : ℕ → ℕ → ℕ) (ask : List Tick → Frac) (t : ℕ)
     → IsScheduleBy p dem ask (schedule_by p dem ask t) × (length (schedule_by p dem ask t) ≡ t)
 unfolding schedule_by
@@ -100,19 +79,23 @@ pub schedule-none : (p : Plan) (dem : ℕ → ℕ → ℕ) (ask : List Tick → 
 unfolding schedule_by
 schedule-none p dem ask = refl
 
-pub schedule-suc : (p : Plan) (dem : ℕ → ℕ → ℕ) (ask : List Tick → Frac) (t : ℕ) → schedule_by p dem ask (suc t) ≡ next_tick p dem ask (schedule_by p dem ask t) ∷ schedule_by p dem ask t
+pub schedule-suc : (p : Plan) (dem : ℕ → ℕ → ℕ) (ask : List Tick → Frac) (t : ℕ)
+    → schedule_by p dem ask (suc t) ≡ next_tick p dem ask (schedule_by p dem ask t) ∷ schedule_by p dem ask t
 unfolding schedule_by
 schedule-suc p dem ask t = refl
 
 -- the entry at a decision is the one that the published demand picks there
-pub force-decided : (p : Plan) (dem : ℕ → ℕ → ℕ) (ask : List Tick → Frac) (past : List Tick) → is_decision p dem past ≡ true → entry_in_force p dem ask past ≡ lowest_entry p.machine (ask past)
+pub force-decided : (p : Plan) (dem : ℕ → ℕ → ℕ) (ask : List Tick → Frac) (past : List Tick) → is_decision p dem past ≡ true
+    → entry_in_force p dem ask past ≡ lowest_entry p.machine (ask past)
 force-decided p dem ask [] e = refl
 force-decided p dem ask (x ∷ past) e = ap (λ b. if b then lowest_entry p.machine (ask (x ∷ past)) else entry_in_force p dem ask past) e
 
-pub force-within : (p : Plan) (dem : ℕ → ℕ → ℕ) (ask : List Tick → Frac) → 0 < length p.machine.points → (past : List Tick) → entry_in_force p dem ask past < length p.machine.points
+pub force-within : (p : Plan) (dem : ℕ → ℕ → ℕ) (ask : List Tick → Frac) → 0 < length p.machine.points → (past : List Tick)
+    → entry_in_force p dem ask past < length p.machine.points
 force-within p dem ask some [] = lowest_within p.machine (ask []) some
 force-within p dem ask some (x ∷ past) = go (is_decision p dem (x ∷ past)) (force-within p dem ask some past)
   where
-    go : (b : Bool) → entry_in_force p dem ask past < length p.machine.points → (if b then lowest_entry p.machine (ask (x ∷ past)) else entry_in_force p dem ask past) < length p.machine.points
+    go : (b : Bool) → entry_in_force p dem ask past < length p.machine.points
+        → (if b then lowest_entry p.machine (ask (x ∷ past)) else entry_in_force p dem ask past) < length p.machine.points
     go true ih = lowest_within p.machine (ask (x ∷ past)) some
     go false ih = ih

@@ -15,8 +15,7 @@ use Rattle.sched_model.specs.Priority.{stands_before}
 use Rattle.sched_model.specs.Order.{in_order}
 use Rattle.sched_model.proofs.PriorityLemmas.{before-not, before-total}
 use Rattle.sched_model.proofs.OrderLemmas.{sum_list, IsAhead, IsOrdered, in_order-ordered, sum_list-in_order, sum_list-snoc}
-use Rattle.sched_model.proofs.ScheduleLemmas.{length-list_below}
-use Rattle.sched_model.proofs.Tables.{get-table, map-table}
+use Rattle.sched_model.proofs.Tables.{length-list_below, get-table, map-table}
 
 abbrev one : ℕ → ℕ → ℕ
 one v j = if nat_eq j v then 1 else 0
@@ -113,7 +112,8 @@ rising_from_sorted : (key : ℕ → ℕ) (k : ℕ × ℕ) (ks : List (ℕ × ℕ
     → NoneAhead key k.1 (map (λ q. q.1) ks) × IsRising key (map (λ q. q.1) ks)
 rising_from_sorted key k [] a h = (tt, tt)
 rising_from_sorted key k (l ∷ ks) a h =
-    let r : NoneAhead key l.1 (map (λ q. q.1) ks) × IsRising key (map (λ q. q.1) ks) = rising_from_sorted key l ks (All-tail (λ q. q.0 ≡ key q.1) k (l ∷ ks) a) later in
+    let r : NoneAhead key l.1 (map (λ q. q.1) ks) × IsRising key (map (λ q. q.1) ks) =
+    rising_from_sorted key l ks (All-tail (λ q. q.0 ≡ key q.1) k (l ∷ ks) a) later in
     ((late, none_trans key k.1 l.1 (map (λ q. q.1) ks) late r.0), r)
   where
     first : is_lt (pair_cmp l k) ≡ false
@@ -149,14 +149,16 @@ keyed key n = list_below n (λ i. (key i, i))
 
 pub sorted_keys : (key : ℕ → ℕ) (n : ℕ) (ks : List (ℕ × ℕ)) → IsPermutation (keyed key n) ks → IsSorted pair_cmp ks → map (λ q. q.1) ks ≡ in_order key n
 sorted_keys key n ks moved sorted =
-    rising_unique key (map (λ q. q.1) ks) (in_order key n) (rising_numbers key ks keys sorted) (rising_from_ordered key (in_order key n) (in_order-ordered key n)) counts
+    rising_unique key (map (λ q. q.1) ks) (in_order key n) (rising_numbers key ks keys sorted)
+    (rising_from_ordered key (in_order key n) (in_order-ordered key n)) counts
   where
     pair : ℕ → ℕ × ℕ
     pair i = (key i, i)
 
     keys : HasKeys key ks
     keys = All-permutation (λ q. q.0 ≡ key q.1) (keyed key n) ks moved
-        (λ i d lt. let at : get_or (keyed key n) i d ≡ pair i = get-table n (λ k. (key k, k)) i d (omega (arith, length-list_below n (λ k. pair k))) in subst (λ (q : ℕ × ℕ). q.0 ≡ key q.1) (sym at) refl)
+        (λ i d lt. let at : get_or (keyed key n) i d ≡ pair i = get-table n (λ k. (key k, k)) i d (omega (arith, length-list_below n (λ k. pair k))) in
+        subst (λ (q : ℕ × ℕ). q.0 ≡ key q.1) (sym at) refl)
 
     counts : (v : ℕ) → times v (map (λ q. q.1) ks) ≡ times v (in_order key n)
     counts v =

@@ -1,12 +1,15 @@
 -- Lists that are a function of the place.
-use Rattle.std.proofs.Common.{◌≡◌, ◌≢◌, ℕ, zero, suc, ◌-◌, ◌<◌, Bool, true, false, eqb, [], ◌∷◌, ◌++◌, length, get_or, set, refl, arith, ap, ap₂, ◌∙◌, sym, ◌⊎◌, inl, inr, eq-or-lt_of_le, le_of_suc-le-suc, length-set, get_or-set_same, get_or-set_other}
+use Rattle.std.proofs.Common.{◌≡◌, ◌≢◌, ℕ, zero, suc, ◌-◌, ◌<◌, Bool, true, false, eqb, [], ◌∷◌, ◌++◌, length, length-append, get_or, set, refl, arith, ap, ap₂, ◌∙◌, sym, ◌⊎◌, inl, inr, eq-or-lt_of_le, le_of_suc-le-suc, length-set, get_or-set_same, get_or-set_other}
 use Rattle.std.proofs.lemmas.List.{ext_get_or, get_or-append_right}
 use Rattle.std.proofs.Math.ListN.{get_or-append}
 use Rattle.std.proofs.lemmas.Bool.Decides.{nat_tests}
 use Rattle.std.specs.Prelude.{map}
 use Rattle.std.proofs.lemmas.List.{map-append}
 use Rattle.grid_fraction.specs.Numbers.{list_below}
-use Rattle.sched_model.proofs.ScheduleLemmas.{length-list_below}
+
+pub length-list_below : {A : Type 0} (n : ℕ) (f : ℕ → A) → length (list_below n f) ≡ n
+length-list_below zero f = refl
+length-list_below (suc n) f = omega (arith, length-append (list_below n f) (f n ∷ []), length-list_below n f)
 
 pub get-table : {A : Type 0} (n : ℕ) (f : ℕ → A) (i : ℕ) (d : A) → i < n → get_or (list_below n f) i d ≡ f i
 get-table {A = A} zero f i d lt = absurd (omega arith)

@@ -1,6 +1,7 @@
 -- The state of a run: a row for each task, and what each call makes of it.
-use Rattle.std.specs.Prelude.{◌≡◌, ℕ, ◌+◌, ◌-◌, ◌<◌, ◌≤◌, ◌^◌, true, false, if◌then◌else◌, List, [], ◌∷◌, map, length, slice_set}
+use Rattle.std.specs.Prelude.{◌≡◌, ℕ, ◌+◌, ◌-◌, ◌<◌, ◌≤◌, true, false, if◌then◌else◌, List, [], ◌∷◌, map, length, slice_set}
 use Rattle.std.specs.List.{slice_index_or}
+use Rattle.dvs_base.specs.Widths.{u64_end}
 use Rattle.grid_fraction.specs.Numbers.{list_below}
 use Rattle.sched_model.specs.declared.state.Row.{Row}
 use Rattle.sched_model.specs.Plan.{Plan, count, period, offset, worst}
@@ -81,8 +82,8 @@ pub record CanRelease (p : Plan) (s : StateOf) (i : ℕ) : Type 0 where
   pub below : i < count p
   pub done : (row_at s i).done ≡ true
   pub due : (row_at s i).deadline ≡ s.now
-  pub deadline_fits : (row_at s i).deadline + period p i < 2 ^ 64
-  pub job_fits : (row_at s i).job + 1 < 2 ^ 64
+  pub deadline_fits : (row_at s i).deadline + period p i < u64_end
+  pub job_fits : (row_at s i).job + 1 < u64_end
 
 -- the job of task i is incomplete, and its worst case has room for so many units
 pub record CanRun (s : StateOf) (i units : ℕ) : Type 0 where

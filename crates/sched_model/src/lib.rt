@@ -8,7 +8,6 @@
 mod holder;
 mod order;
 mod plan;
-mod schedule;
 mod state;
 mod static_demand;
 mod sums;
@@ -16,6 +15,5 @@ mod sums;
 pub use holder::Holder;
 pub use order::stands_before;
 pub use plan::Admitted;
-pub use schedule::one_schedule;
 pub use state::{Row, State};
 pub use sums::{level_work, total_rate};

@@ -1,5 +1,6 @@
 // Admitted plans.
-ghost use Rattle.std.specs.Prelude.{◌≡◌, ◌<◌, ◌≤◌, ◌^◌, IfOk, slice_index, map};
+ghost use Rattle.std.specs.Prelude.{◌≡◌, ◌<◌, ◌≤◌, IfOk, slice_index, map};
+ghost use Rattle.dvs_base.specs.Widths.{u64_end};
 ghost use Rattle.task_model.specs.declared.limits.TheConstants.{MOST_TASKS, LONGEST_PERIOD, LATEST_OFFSET, LONGEST_HYPERPERIOD};
 ghost use Rattle.freq_table.specs.Tables.{IsTable};
 ghost use Rattle.task_model.specs.Tasks.{IsTaskSet};
@@ -87,13 +88,6 @@ impl Admitted {
         })
     }
 
-    /// What each admitted plan keeps: it is within the limits, and its scheduler's test passes.
-    pub fn known(&self)
-        ensures { IsAdmitted self.now }
-    {
-        let _hyper = &self.hyperperiod;
-    }
-
     /// How many tasks there are, 1 to 64.
     pub fn count(&self) -> u32
         ensures count { result ≡ count self.now }
@@ -161,17 +155,19 @@ impl Admitted {
         self.hyperperiod
     }
 
-    /// The machine.
+    /// The machine, on which the plan is within the limits and its scheduler's test passes.
     pub fn machine(&self) -> &Machine
         ensures machine { result.now ≡ self.now.machine }
         ensures limits { IsTable result.now }
+        ensures admitted { IsAdmitted self.now }
     {
         &self.machine
     }
 
-    /// The scheduler whose test passed.
+    /// The scheduler, whose test a plan within the limits passes.
     pub fn scheduler(&self) -> Scheduler
-        ensures { result ≡ self.now.scheduler }
+        ensures scheduler { result ≡ self.now.scheduler }
+        ensures admitted { IsAdmitted self.now }
     {
         self.scheduler
     }
@@ -180,7 +176,7 @@ impl Admitted {
     pub fn static_demand(&self) -> Frac
         ensures static_demand { result ≡ static_demand self.now }
         ensures some_den { 1 ≤ result.den }
-        ensures low_den { result.den ≤ 2 ^ 64 }
+        ensures low_den { result.den ≤ u64_end }
     {
         self.static_fraction
     }

@@ -1,6 +1,6 @@
 // The state of a run.
-ghost use Rattle.std.specs.Prelude.{◌≡◌, ◌≤◌, IfOk};
-ghost use Rattle.sched_model.specs.States.{opening_row, opening, after_release, after_run, after_finish, after_advance, after_mark, row_wleft, IsStateOf, CanRelease, CanRun, CanFinish};
+ghost use Rattle.std.specs.Prelude.{◌≡◌, ◌<◌, ◌≤◌, IfOk, length};
+ghost use Rattle.sched_model.specs.States.{opening_row, opening, after_release, after_run, after_finish, after_advance, after_mark, row_at, row_wleft, CanRelease, CanRun, CanFinish};
 
 use crate::Admitted;
 use dvs_base::NoMemory;
@@ -80,11 +80,12 @@ impl State {
         })
     }
 
-    /// What every state keeps: one base for each row, and no job has had more than its worst case.
-    pub fn known(&self)
-        ensures { IsStateOf self.entry.now }
+    /// What a task's job may still need at most, in work units.
+    pub fn worst_left(&self, task: u32) -> u64
+        requires { task < length self.now.rows }
+        ensures { result ≡ row_wleft (row_at self.entry.now task) }
     {
-        let _now = &self.now;
+        worst_left(self.rows[task as usize])
     }
 
     /// The next job of a task is released: the job's number grows by 1 and the deadline by the period, and the job has

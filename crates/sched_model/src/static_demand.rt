@@ -1,7 +1,7 @@
 // The static demand of a plan (Pillai and Shin 2001).
-ghost use Rattle.std.specs.Prelude.{◌≡◌, ◌≤◌, ◌<◌, ◌^◌, length};
+ghost use Rattle.std.specs.Prelude.{◌≡◌, ◌≤◌, ◌<◌, length};
 ghost use Rattle.dvs_base.specs.declared.kind.Scheduler.TheVariants.{Rm};
-ghost use Rattle.task_model.specs.declared.limits.TheConstants.{LONGEST_PERIOD};
+ghost use Rattle.task_model.specs.declared.limits.TheConstants.{LONGEST_PERIOD, MOST_WORK};
 ghost use Rattle.task_model.specs.Tasks.{IsTaskSet};
 ghost use Rattle.freq_table.specs.Tables.{IsTable};
 ghost use Rattle.sched_model.specs.Plan.{plan_of};
@@ -22,7 +22,7 @@ fn level_share(tasks: &TaskSet, machine: &Machine, i: u32) -> Frac
     requires machine { IsTable machine.now }
     requires test { IsRmFeasible (plan_of tasks.now machine.now Rm) }
     ensures value { result ≡ level_share (plan_of tasks.now machine.now Rm) i }
-    ensures low_num { result.num ≤ 2 ^ 60 }
+    ensures low_num { result.num ≤ MOST_WORK }
     ensures some_den { 1 ≤ result.den }
     ensures low_den { result.den ≤ LONGEST_PERIOD }
 {

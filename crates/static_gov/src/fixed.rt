@@ -32,7 +32,7 @@ impl Static {
         ensures stands { IfOk result (λ g. ⟦<Static as Governor>⟧.stands g plan.now (opening plan.now)) }
         ensures worst { MeetsAtWorst plan.now }
     {
-        plan.known();
+        let _scheduler = plan.scheduler();
         Ok(Static {
             demand: plan.static_demand(),
         })
@@ -80,7 +80,6 @@ impl Governor for Static {
         ensures met { result.met ≡ (lowest_pick plan.now.machine (static_demand plan.now)).met }
         ensures always { result.met ≡ true }
     {
-        plan.known();
         let pick = plan.machine().lowest(self.demand);
         Choice {
             index: pick.index,

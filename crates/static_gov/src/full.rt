@@ -75,7 +75,6 @@ impl Governor for Full {
         ensures met { result.met ≡ (lowest_pick plan.now.machine (full_demand plan.now)).met }
         ensures always { result.met ≡ true }
     {
-        plan.known();
         let demand = Frac {
             num: u128::from(plan.machine().top()),
             den: 1,

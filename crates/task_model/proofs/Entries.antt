@@ -13,6 +13,7 @@ pub too_many : (vs : List Value) → MOST_TASKS < length vs → entries_from (So
 too_many [] h = absurd (omega arith)
 too_many (v ∷ vs) h = choose MOST_TASKS (count_of (items_view (v ∷ vs))) (length (v ∷ vs)) (λ n. Err (fault.TooMany n)) _ (count_of-items_view (v ∷ vs)) h
 
-pub few : (vs : List Value) → 0 < length vs → length vs ≤ MOST_TASKS → entries_from (Some (items_view vs)) ≡ and_then (tasks_from [] (items_view vs)) within_hyper
+pub few : (vs : List Value) → 0 < length vs → length vs ≤ MOST_TASKS
+    → entries_from (Some (items_view vs)) ≡ and_then (tasks_from [] (items_view vs)) within_hyper
 few [] s h = absurd (omega arith)
 few (v ∷ vs) s h = choose_not MOST_TASKS (count_of (items_view (v ∷ vs))) (length (v ∷ vs)) (λ n. Err (fault.TooMany n)) _ (count_of-items_view (v ∷ vs)) h

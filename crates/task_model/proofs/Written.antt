@@ -33,13 +33,15 @@ use Rattle.task_model.specs.Written.{put_member, offset_before, task_data, docum
 abbrev Entry : Type 0
 Entry = String Global × Value
 
-match_members : (o : Ordering) (a b c : List Entry) → members_view (match_ordering o a b c) ≡ match_ordering o (members_view a) (members_view b) (members_view c)
+match_members : (o : Ordering) (a b c : List Entry)
+    → members_view (match_ordering o a b c) ≡ match_ordering o (members_view a) (members_view b) (members_view c)
 match_members Less a b c = refl
 match_members Equal a b c = refl
 match_members Greater a b c = refl
 
 -- the map of a table after an insert
-pub members_view-insert_entry : (es : List Entry) (k : String Global) (v : Value) → members_view (insert_entry string_cmp es k v) ≡ put_member (string_bytes k) (view v) (members_view es)
+pub members_view-insert_entry : (es : List Entry) (k : String Global) (v : Value)
+    → members_view (insert_entry string_cmp es k v) ≡ put_member (string_bytes k) (view v) (members_view es)
 members_view-insert_entry [] k v = refl
 members_view-insert_entry (e ∷ es) k v = match_members (string_cmp k e.0) _ _ _ ∙ rw (members_view-insert_entry es k v)
 
@@ -85,7 +87,8 @@ task_of-task_data place t h = go (nat_lt 0 t.offset) refl
 pub place_of-absent : (tasks : List Task) (name : List ℕ) → ((i : ℕ) → i < length tasks → (task_at tasks i).name ≡ name → ⊥) → place_of tasks name ≡ None
 place_of-absent tasks name h =
     let past : position_or_len (λ t. bytes_eq t.name name) tasks ≡ length tasks =
-    position_or_len_is (λ t. bytes_eq t.name name) tasks (length tasks) no_task (omega arith) (λ k lt. other (task_at tasks k).name name (h k lt)) (λ lt. absurd (omega arith)) in
+    position_or_len_is (λ t. bytes_eq t.name name) tasks (length tasks) no_task (omega arith)
+    (λ k lt. other (task_at tasks k).name name (h k lt)) (λ lt. absurd (omega arith)) in
     rw past (past_end (length tasks))
   where
     other : (a b : List ℕ) → (a ≡ b → ⊥) → bytes_eq a b ≡ false
@@ -111,7 +114,8 @@ tasks_from-written before (t ∷ rest) h =
     let own : IsTask t = first_is before t rest h in
     let alone : place_of before t.name ≡ None = named_apart before t rest h in
     let joined : (before ++ t ∷ []) ++ rest ≡ before ++ t ∷ rest = append_assoc before (t ∷ []) rest in
-    let more : tasks_from (before ++ t ∷ []) (items_of (map task_data rest)) ≡ Ok ((before ++ t ∷ []) ++ rest) = tasks_from-written (before ++ t ∷ []) rest (subst AreTasks (sym joined) h) in
+    let more : tasks_from (before ++ t ∷ []) (items_of (map task_data rest)) ≡ Ok ((before ++ t ∷ []) ++ rest) =
+    tasks_from-written (before ++ t ∷ []) rest (subst AreTasks (sym joined) h) in
     rw (task_of-task_data (length before + 1) t own, alone, more) (ap Ok joined)
 
 count_of-written : (tasks : List Task) → count_of (items_of (map task_data tasks)) ≡ length tasks
@@ -125,7 +129,8 @@ AreTasks-from_set tasks h = record { each = h.each; distinct = h.distinct }
 tasks_of_document-written : (tasks : List Task) → IsTaskSet tasks → tasks_of_document (Some (document tasks)) ≡ Ok tasks
 tasks_of_document-written [] h = absurd (let some : 1 ≤ 0 = h.some in omega arith)
 tasks_of_document-written (t ∷ tasks) h =
-    choose_not MOST_TASKS (count_of (items_of (map task_data (t ∷ tasks)))) (length (t ∷ tasks)) (λ n. Err (fault.TooMany n)) _ (count_of-written (t ∷ tasks)) h.few
+    choose_not MOST_TASKS (count_of (items_of (map task_data (t ∷ tasks)))) (length (t ∷ tasks))
+    (λ n. Err (fault.TooMany n)) _ (count_of-written (t ∷ tasks)) h.few
     ∙ rw (tasks_from-written [] (t ∷ tasks) (AreTasks-from_set (t ∷ tasks) h)) (within_hyper-known (t ∷ tasks) h.hyper)
   where
     within_hyper-known : (ts : List Task) → hyper_of ts ≤ LONGEST_HYPERPERIOD → within_hyper ts ≡ Ok ts
@@ -134,8 +139,10 @@ tasks_of_document-written (t ∷ tasks) h =
 items_depth-written : (tasks : List Task) → items_depth (items_of (map task_data tasks)) ≤ 1
 items_depth-written [] = omega arith
 items_depth-written (t ∷ tasks) =
-    let flat : members_depth (member (codes "name") (string t.name) (offset_before t.offset numbers)) ≤ 0 = max-le (let low : 0 ≤ 0 = omega arith in low) (own (nat_lt 0 t.offset)) in
-    max-le (let one : suc (members_depth (member (codes "name") (string t.name) (offset_before t.offset numbers))) ≤ 1 = omega (arith, flat) in one) (items_depth-written tasks)
+    let flat : members_depth (member (codes "name") (string t.name) (offset_before t.offset numbers)) ≤ 0 =
+    max-le (let low : 0 ≤ 0 = omega arith in low) (own (nat_lt 0 t.offset)) in
+    max-le (let one : suc (members_depth (member (codes "name") (string t.name) (offset_before t.offset numbers))) ≤ 1 = omega (arith, flat) in one)
+    (items_depth-written tasks)
   where
     numbers : Members
     numbers = member (codes "period") (integer (pos t.period)) (member (codes "worst") (integer (pos t.worst)) no_members)
@@ -150,7 +157,8 @@ members_depth-written tasks =
     max-le (let deep : suc (items_depth (items_of (map task_data tasks))) ≤ 80 = omega arith in deep) (omega arith)
 
 -- a text that reads as the document of a set means that set
-pub task_file-written : (tasks : List Task) (text : String Global) → IsTaskSet tasks → (members_depth (document tasks) ≤ 80 → parse_document (string_bytes text) ≡ Some (document tasks)) → task_file (string_bytes text) ≡ Ok tasks
+pub task_file-written : (tasks : List Task) (text : String Global) → IsTaskSet tasks → (members_depth (document tasks) ≤ 80
+    → parse_document (string_bytes text) ≡ Some (document tasks)) → task_file (string_bytes text) ≡ Ok tasks
 task_file-written tasks text h back =
     let parsed : parse_document (string_bytes text) ≡ Some (document tasks) = back (members_depth-written tasks) in
     let encoded : is_utf8 (string_bytes text) ≡ true = is_utf8-from_IsUtf8 (string_bytes text) (IsUtf8-string_bytes text) in

@@ -96,7 +96,8 @@ abbrev pub entries_from : Option Items → Result (List Task) TaskFault
 entries_from None = Err (fault.Kind 0 field.Task)
 entries_from (Some no_items) = Err fault.NoTasks
 entries_from (Some (item value rest)) =
-    if nat_lt MOST_TASKS (count_of (item value rest)) then Err (fault.TooMany (count_of (item value rest))) else and_then (tasks_from [] (item value rest)) within_hyper
+    if nat_lt MOST_TASKS (count_of (item value rest)) then Err (fault.TooMany (count_of (item value rest)))
+    else and_then (tasks_from [] (item value rest)) within_hyper
 
 -- the tasks of the document, of the value at the key of the array
 abbrev pub entries_at : Option Data → Result (List Task) TaskFault

@@ -9,7 +9,8 @@ use Rattle.task_model.specs.declared.task.Task.{Task}
 -- the members with this value at the key, in the order of the keys
 abbrev pub put_member : List ℕ → Data → Members → Members
 put_member key value no_members = member key value no_members
-put_member key value (member k v ms) = match_ordering (slice_cmp nat_cmp key k) (member key value (member k v ms)) (member k value ms) (member k v (put_member key value ms))
+put_member key value (member k v ms) = match_ordering (slice_cmp nat_cmp key k) (member key value (member k v ms)) (member k value ms)
+    (member k v (put_member key value ms))
 
 -- the key of an offset that isn't 0, and then the rest
 abbrev pub offset_before : ℕ → Members → Members
@@ -17,7 +18,8 @@ offset_before n rest = if nat_lt 0 n then member (codes "offset") (integer (pos 
 
 -- a task as a table of its keys
 abbrev pub task_data : Task → Data
-task_data t = table (member (codes "name") (string t.name) (offset_before t.offset (member (codes "period") (integer (pos t.period)) (member (codes "worst") (integer (pos t.worst)) no_members))))
+task_data t = table (member (codes "name") (string t.name)
+    (offset_before t.offset (member (codes "period") (integer (pos t.period)) (member (codes "worst") (integer (pos t.worst)) no_members))))
 
 -- the tasks as the one array of the document
 abbrev pub document : List Task → Members

@@ -1,5 +1,5 @@
 -- The numbers of each governor's published demand are far within their width.
-use Rattle.std.proofs.Common.{◌≡◌, ℕ, zero, suc, ◌+◌, ◌-◌, ◌*◌, ◌/◌, ◌<◌, ◌≤◌, ◌^◌, Bool, true, false, List, [], ◌∷◌, length, refl, arith, if◌then◌else◌, mul-le-mul_right}
+use Rattle.std.proofs.Common.{◌≡◌, ℕ, ◌+◌, ◌-◌, ◌*◌, ◌/◌, ◌<◌, ◌≤◌, ◌^◌, Bool, true, false, List, [], ◌∷◌, length, refl, arith, if◌then◌else◌, mul-le-mul_right}
 use Rattle.std.proofs.Math.Nat.{mul-le-mul}
 use Rattle.dvs_base.specs.declared.kind.Scheduler.{Scheduler}
 use Rattle.dvs_base.specs.declared.kind.Scheduler.TheVariants.{Edf, Rm}
@@ -8,7 +8,7 @@ use Rattle.dvs_base.specs.declared.kind.GovernorKind.TheVariants.{Plain, Fixed, 
 use Rattle.dvs_base.specs.declared.limits.TheConstants.{MOST_TICKS}
 use Rattle.grid_fraction.specs.declared.Frac.{Frac}
 use Rattle.grid_fraction.specs.Numbers.{sum_below}
-use Rattle.grid_fraction.proofs.Sums.{sum_below-le}
+use Rattle.grid_fraction.proofs.Sums.{sum_below-le, sum_below-limit}
 use Rattle.grid_fraction.proofs.Least.{least-below}
 use Rattle.task_model.specs.declared.limits.TheConstants.{MOST_TASKS, LONGEST_PERIOD, LONGEST_HYPERPERIOD}
 use Rattle.freq_table.specs.declared.limits.TheConstants.{TOP_SPEED}
@@ -20,26 +20,21 @@ use Rattle.sched_model.specs.Ticks.{Tick, exec, is_complete, wleft}
 use Rattle.sched_model.specs.Demands.{IsWithin}
 use Rattle.sched_model.specs.Order.{in_order}
 use Rattle.sched_model.specs.Tests.{total_rate}
-use Rattle.sched_model.specs.StaticDemand.{full_demand, static_speed, rm_static}
+use Rattle.sched_model.specs.StaticDemand.{heaviest, full_demand, static_speed, rm_static}
 use Rattle.sched_model.specs.CycleDemand.{rate_for, charged, SinceRelease, units_of, allotted_of, allotment_left_of, since_release, edf_cycle, rm_cycle}
 use Rattle.sched_model.specs.AheadDemand.{due_first, edf_ahead}
 use Rattle.sched_model.specs.Demand.{demand_by, published}
 use Rattle.sched_model.specs.Admission.{IsAdmitted}
-use Rattle.sched_model.proofs.Limits.{low_period, low_hyper, deadline-soon}
+use Rattle.sched_model.proofs.Limits.{low_period, low_worst, low_hyper, deadline-soon}
 use Rattle.sched_model.proofs.JobLaws.{last_release-le}
 use Rattle.sched_model.proofs.OrderLemmas.{sum_list, sum_list-in_order}
-use Rattle.sched_model.proofs.Weights.{heaviest_task, heaviest_within}
+use Rattle.sched_model.proofs.Weights.{heaviest_within}
 use Rattle.governor.proofs.Fits.{full_enough}
 
 -- both numbers of a fraction have their width
 pub record IsLow (d : Frac) : Type 0 where
   pub num : d.num < 2 ^ 128
   pub den : d.den < 2 ^ 128
-
--- a sum of numbers up to a limit
-sum-limit : (n most : ℕ) (f : ℕ → ℕ) → ((i : ℕ) → i < n → f i ≤ most) → sum_below n f ≤ n * most
-sum-limit zero most f each = omega arith
-sum-limit (suc n) most f each = omega (arith, sum-limit n most f (λ i lt. each i (omega arith)), each n (omega arith))
 
 module _ (p : Plan) (adm : IsAdmitted p) (dem : ℕ → ℕ → ℕ) (within : IsWithin p dem) (past : List Tick)
     (few : length past ≤ MOST_TICKS) where
@@ -49,19 +44,12 @@ module _ (p : Plan) (adm : IsAdmitted p) (dem : ℕ → ℕ → ℕ) (within : I
   some_task : 0 < count p
   some_task = adm.limits.tasks.some
 
-  -- the charged worst case of a task
-  low_worst : (i : ℕ) → i < count p → worst p i ≤ 2 ^ 61
-  low_worst i lt = omega (arith, (adm.limits.tasks.each i lt).low_worst, adm.limits.machine.low_charge)
-
   -- each entry's speed
   low_speed : (e : ℕ) → e < length p.machine.points → speed_at p.machine e ≤ TOP_SPEED
   low_speed e lt = (adm.limits.machine.each e lt).low_speed
 
   low_top : top_speed p ≤ TOP_SPEED
   low_top = low_speed (length p.machine.points - 1) (omega (arith, adm.limits.machine.some))
-
-  hyper_low : hyper p ≤ LONGEST_HYPERPERIOD
-  hyper_low = low_hyper p adm.limits
 
   -- so much work has room in so many ticks at the highest speed
   room : (n ticks : ℕ) → n ≤ top_speed p * ticks → ticks ≤ LONGEST_HYPERPERIOD → n < 2 ^ 128
@@ -72,13 +60,13 @@ module _ (p : Plan) (adm : IsAdmitted p) (dem : ℕ → ℕ → ℕ) (within : I
 
   edf-static-low : p.scheduler ≡ Edf → IsLow (record { num = total_rate p; den = hyper p })
   edf-static-low e = record {
-    num = room (total_rate p) (hyper p) ((full_enough p adm).edf e) hyper_low;
-    den = omega (arith, hyper_low);
+    num = room (total_rate p) (hyper p) ((full_enough p adm).edf e) (low_hyper p adm.limits);
+    den = omega (arith, low_hyper p adm.limits);
   }
 
   rm-static-low : p.scheduler ≡ Rm → IsLow (rm_static p)
   rm-static-low e =
-      let i : ℕ = heaviest_task p adm.limits in
+      let i : ℕ = heaviest p in
       let lt : i < count p = heaviest_within p adm.limits in
       let short : period p i ≤ LONGEST_PERIOD = low_period p adm.limits i lt in
       record {
@@ -99,8 +87,8 @@ module _ (p : Plan) (adm : IsAdmitted p) (dem : ℕ → ℕ → ℕ) (within : I
       let most : sum_below (count p) rates ≤ total_rate p =
       sum_below-le (count p) rates (rate p) (λ i lt. mul-le-mul_right (hyper p / period p i) (charged-most i lt)) in
       record {
-        num = room (sum_below (count p) rates) (hyper p) (omega (arith, most, (full_enough p adm).edf e)) hyper_low;
-        den = omega (arith, hyper_low);
+        num = room (sum_below (count p) rates) (hyper p) (omega (arith, most, (full_enough p adm).edf e)) (low_hyper p adm.limits);
+        den = omega (arith, low_hyper p adm.limits);
       }
 
   -- the earliest deadline is soon
@@ -132,7 +120,7 @@ module _ (p : Plan) (adm : IsAdmitted p) (dem : ℕ → ℕ → ℕ) (within : I
         num =
             omega (
               arith,
-              sum-limit (count p) (units_of p v) (allotment_left_of p v) (λ i lt. allotted-most v i),
+              sum_below-limit (count p) (units_of p v) (allotment_left_of p v) (λ i lt. allotted-most v i),
               units,
               mul-le-mul_right (units_of p v) few_tasks,
             );
@@ -149,7 +137,7 @@ module _ (p : Plan) (adm : IsAdmitted p) (dem : ℕ → ℕ → ℕ) (within : I
     where
       go : (b : Bool) → (if b then 0 else worst p i - exec p past i (latest p i (length past))) ≤ 2 ^ 61
       go true = omega arith
-      go false = omega (arith, low_worst i lt)
+      go false = omega (arith, low_worst p adm.limits i lt)
 
   edf-ahead-low : IsLow (edf_ahead p dem past)
   edf-ahead-low =
@@ -161,7 +149,7 @@ module _ (p : Plan) (adm : IsAdmitted p) (dem : ℕ → ℕ → ℕ) (within : I
               arith,
               first-most due left (in_order due (count p)),
               sum_list-in_order left due (count p),
-              sum-limit (count p) (2 ^ 61) left left-most,
+              sum_below-limit (count p) (2 ^ 61) left left-most,
               few_tasks,
             );
         den = omega (arith, earliest-soon (length past), few);

@@ -2,7 +2,7 @@
 use Rattle.std.proofs.Common.{◌≡◌, ◌≢◌, ◌⊎◌, inl, inr, ℕ, zero, suc, ◌+◌, ◌*◌, ◌<◌, ◌≤◌, Bool, true, false, not, ◌&&◌, List, [], ◌∷◌, ◌++◌, length, refl, arith, if◌then◌else◌, ap, ◌∙◌, sym, subst, nat_eq, nat_lt, length-append}
 use Rattle.std.specs.Prelude.{count_by, sum_by}
 use Rattle.std.specs.List.{AllByRecursion}
-use Rattle.std.proofs.lemmas.Bool.{cases_lt, and_parts}
+use Rattle.std.proofs.lemmas.Bool.{cases_lt, and_parts, not-true, lt-ltb, eq-eqb}
 use Rattle.std.proofs.lemmas.Bool.Decides.{nat_tests}
 use Rattle.dvs_base.specs.declared.note.Note.{Note}
 use Rattle.dvs_base.specs.declared.note.Note.TheVariants.{Release, Speed, Run, Idle, Done, End}
@@ -11,10 +11,9 @@ use Rattle.grid_fraction.specs.declared.Frac.{Frac}
 use Rattle.grid_fraction.specs.Numbers.{sum_below}
 use Rattle.grid_fraction.proofs.Counts.{count-append}
 use Rattle.grid_fraction.proofs.Sums.{sum_below-add, sum_below-le, sum_below-zero, sum_below-one}
-use Rattle.grid_fraction.proofs.Searches.{not-true}
 use Rattle.sched_model.specs.declared.holder.Holder.{Holder}
 use Rattle.sched_model.specs.declared.holder.Holder.TheVariants.{Nobody, Held}
-use Rattle.sched_model.specs.Plan.{Plan, count, period, point}
+use Rattle.sched_model.specs.Plan.{Plan, count, point}
 use Rattle.sched_model.specs.Jobs.{latest, releases_at, released_jobs}
 use Rattle.sched_model.specs.Ticks.{Tick, exec, is_done}
 use Rattle.sched_model.specs.Decision.{completes_in}
@@ -28,13 +27,13 @@ use Rattle.sched_model.proofs.NoteLemmas.{notes-span}
 use Rattle.sched_model.proofs.PieceLemmas.{have_units}
 use Rattle.sched_model.proofs.Service.{exec-most}
 use Rattle.done_lines.specs.LineCounts.{AreFew}
-use Rattle.done_lines.proofs.CountLemmas.{has-few}
+use Rattle.done_lines.proofs.CountLemmas.{one-or-none, count-each, has-few}
 use Rattle.done_lines.proofs.DoneNotes.{tells_done, times, ended, had_of, laid-pieces, pieces-ended}
 use Rattle.done_lines.proofs.DoneSpans.{IsLastSpan, last-span}
 use Rattle.done_lines.proofs.SpanHeads.{Head, Begins, begins}
 use Rattle.replay_laws.proofs.FitNotes.{IsBeforeEnd, before-end-each}
 use Rattle.trace_limits.specs.RunTraces.{HasFewNotes}
-use Rattle.trace_limits.proofs.FewReleases.{count-each, released-at, releases-more}
+use Rattle.trace_limits.proofs.FewReleases.{released-at, releases-more}
 use Rattle.trace_limits.proofs.SpanPieces.{completed, HasFew, LastHasFew, last-few}
 
 -- a note of a segment
@@ -103,7 +102,7 @@ ends-most n job (Done q j l used ∷ notes) =
           (λ i. told i + times (tells_done i (job i)) notes)
           (λ i lt. each (nat_eq i j && nat_eq (job i) l) (times (tells_done i (job i)) notes)),
       sum_below-add n told (λ i. times (tells_done i (job i)) notes),
-      one-task n j told (λ i. one (nat_eq i j && nat_eq (job i) l)) (λ i ne. none i ne (nat_eq i j) refl),
+      one-task n j told (λ i. one-or-none (nat_eq i j && nat_eq (job i) l)) (λ i ne. none i ne (nat_eq i j) refl),
     )
   where
     told : ℕ → ℕ
@@ -113,19 +112,12 @@ ends-most n job (Done q j l used ∷ notes) =
     each true m = omega arith
     each false m = omega arith
 
-    one : (b : Bool) → (if b then 1 else 0) ≤ 1
-    one true = omega arith
-    one false = omega arith
-
     none : (i : ℕ) → i ≢ j → (b : Bool) → nat_eq i j ≡ b → told i ≡ 0
     none i ne true e = absurd (ne (grind (arith, nat_tests)))
     none i ne false e = rw e refl
 
 module _ (p : Plan) (dem : ℕ → ℕ → ℕ) (ask : List Tick → Frac) (lim : IsWithinLimits p)
     (needless : (i : ℕ) → dem i 0 ≡ 0) where
-  periods : (i : ℕ) → 0 < period p i
-  periods = every_period p lim
-
   abbrev notes : List Tick → List Note
   notes = notes_before_end p dem ask
 
@@ -201,7 +193,7 @@ module _ (p : Plan) (dem : ℕ → ℕ → ℕ) (ask : List Tick → Frac) (lim 
 
   -- a job that completes in the last tick has its end in the span
   completed-told : (x : Tick) (past : List Tick) (s : Span) → IsScheduleBy p dem ask (x ∷ past)
-      → IsLastSpan p dem ask lim x past s → Head p dem ask periods needless past s → (i : ℕ) → i < count p
+      → IsLastSpan p dem ask lim x past s → Head p dem ask (every_period p lim) needless past s → (i : ℕ) → i < count p
       → completed p dem ask lim needless x past i ≤ times (tells_done i (latest p i (length past))) (told s)
   completed-told x past s h l head i lt = go (completes_in p dem x past i) refl
     where
@@ -221,10 +213,10 @@ module _ (p : Plan) (dem : ℕ → ℕ → ℕ) (ask : List Tick → Frac) (lim 
           let before : had_of p dem s i k [] ≡ exec p s.past i k = omega arith in
           let after : had_of p dem s i k s.units ≡ exec p (x ∷ past) i k = sym (l.had i k lt some_job) in
           let rises : nat_lt (had_of p dem s i k []) (had_of p dem s i k s.units) ≡ true =
-          rising (had_of p dem s i k []) (had_of p dem s i k s.units)
+          lt-ltb (had_of p dem s i k []) (had_of p dem s i k s.units)
           (omega (arith, before, after, head.earlier i k, less, whole)) in
           let full : nat_eq (had_of p dem s i k s.units) (dem i k) ≡ true =
-          equal (had_of p dem s i k s.units) (dem i k) (omega (arith, after, whole, most)) in
+          eq-eqb (had_of p dem s i k s.units) (dem i k) (omega (arith, after, whole, most)) in
           let one : ended (had_of p dem s i k []) (had_of p dem s i k s.units) (dem i k) ≡ 1 = rw (rises, full) refl in
           let all = pieces-ended p dem s i k [] (pieces_of s.units) (have_units s.units) (sym (laid-pieces s.units))
           (omega (arith, after, most)) in
@@ -234,15 +226,9 @@ module _ (p : Plan) (dem : ℕ → ℕ → ℕ) (ask : List Tick → Frac) (lim 
           some zero q less = absurd (omega (arith, less, ap (dem i) q, needless i))
           some (suc j) q less = omega (arith, q)
 
-          rising : (a b : ℕ) → a < b → nat_lt a b ≡ true
-          rising a b less = grind (arith, nat_tests)
-
-          equal : (a b : ℕ) → a ≡ b → nat_eq a b ≡ true
-          equal a b same = grind (arith, nat_tests)
-
   -- so the segments of a span are at most one more than its ends
   span-few : (x : Tick) (past : List Tick) (s : Span) → IsScheduleBy p dem ask (x ∷ past)
-      → IsLastSpan p dem ask lim x past s → Head p dem ask periods needless past s
+      → IsLastSpan p dem ask lim x past s → Head p dem ask (every_period p lim) needless past s
       → HasFew p dem ask lim needless x past s
       → length (pieces_of s.units) ≤ 1 + count_by is_finished (told s)
   span-few x past s h l head few =
@@ -268,7 +254,7 @@ module _ (p : Plan) (dem : ℕ → ℕ → ℕ) (ask : List Tick → Frac) (lim 
   next-few : (x : Tick) (past : List Tick) (s : Span) → IsScheduleBy p dem ask (x ∷ past)
       → IsLastSpan p dem ask lim x past s → IsFew s.past → IsFew (x ∷ past)
   next-few x past s h l ih =
-      let head = subst (Begins p dem ask periods needless past) l.spans (begins p dem ask periods needless x past h) in
+      let head = subst (Begins p dem ask (every_period p lim) needless past) l.spans (begins p dem ask (every_period p lim) needless x past h) in
       let few = subst (LastHasFew p dem ask lim needless x past) l.spans (last-few p dem ask lim needless x past h) in
       let kinds = pieces-kinds s 0 (pieces_of s.units) in
       record {
@@ -279,7 +265,7 @@ module _ (p : Plan) (dem : ℕ → ℕ → ℕ) (ask : List Tick → Frac) (lim 
               split is_released x past s l,
               released-at p dem (length s.past),
               kinds.1,
-              releases-more p (length s.past) (length (x ∷ past)) periods (omega (arith, l.shorter)),
+              releases-more p (length s.past) (length (x ∷ past)) (every_period p lim) (omega (arith, l.shorter)),
             );
         segments =
             omega (

@@ -1,29 +1,18 @@
 -- The notes of a schedule tell no more releases than the jobs that are released within it.
-use Rattle.std.proofs.Common.{◌≡◌, ℕ, zero, suc, ◌+◌, ◌-◌, ◌*◌, ◌<◌, ◌≤◌, Bool, true, false, List, [], ◌∷◌, flat_map, refl, arith, if◌then◌else◌, ap, ap₂, ◌∙◌, sym, append-nil, nat_eq}
+use Rattle.std.proofs.Common.{◌≡◌, ℕ, zero, suc, ◌+◌, ◌-◌, ◌*◌, ◌<◌, ◌≤◌, Bool, true, false, [], ◌∷◌, refl, arith, if◌then◌else◌, ap, ◌∙◌, sym, nat_eq}
 use Rattle.std.specs.Prelude.{count_by}
-use Rattle.std.proofs.Math.Nat.{le-div_iff_mul-le}
 use Rattle.std.proofs.lemmas.Bool.Decides.{nat_tests}
-use Rattle.std.proofs.lemmas.Grind.{flat_map-append}
 use Rattle.std.proofs.lemmas.Nat.{le-div}
-use Rattle.dvs_base.specs.declared.note.Note.{Note}
 use Rattle.dvs_base.specs.declared.note.Note.TheVariants.{Release, Done}
-use Rattle.grid_fraction.specs.Numbers.{sum_below, list_below, ceil_div}
-use Rattle.grid_fraction.proofs.Counts.{count-append}
+use Rattle.grid_fraction.specs.Numbers.{sum_below, ceil_div}
 use Rattle.grid_fraction.proofs.Sums.{sum_below-add, sum_below-le, sum_below-same}
+use Rattle.grid_fraction.proofs.Ceilings.{ceil-at, ceil-mono}
 use Rattle.sched_model.specs.Plan.{Plan, count, period, offset}
 use Rattle.sched_model.specs.Jobs.{latest, release, releases_at, released_jobs}
 use Rattle.sched_model.specs.Notes.{release_notes, all_release_notes}
 use Rattle.sched_model.specs.Totals.{is_released}
-use Rattle.sched_model.proofs.JobLaws.{quotient, release-none, latest-pos}
-
--- the notes of the first n tasks, task by task
-pub count-each : (test : Note → Bool) (f : ℕ → List Note) (n : ℕ)
-    → count_by test (flat_map f (list_below n (λ i. i))) ≡ sum_below n (λ j. count_by test (f j))
-count-each test f zero = refl
-count-each test f (suc n) =
-    ap (count_by test) (flat_map-append f (list_below n (λ i. i)) (n ∷ []))
-    ∙ (count-append test (flat_map f (list_below n (λ i. i))) (flat_map f (n ∷ []))
-    ∙ ap₂ (λ a b. a + b) (count-each test f n) (ap (count_by test) (append-nil (f n))))
+use Rattle.sched_model.proofs.JobLaws.{release-none, latest-pos}
+use Rattle.done_lines.proofs.CountLemmas.{count-each}
 
 -- 1 where a job of task i is released at tick t
 abbrev pub released : Plan → ℕ → ℕ → ℕ
@@ -44,15 +33,7 @@ released-at p dem t =
     one i true false = refl
     one i true true = refl
 
--- quotients that are rounded up: they grow with the number, a whole one is itself, and one is more beyond it
-ceil-mono : (m n d : ℕ) → 0 < d → m ≤ n → ceil_div m d ≤ ceil_div n d
-ceil-mono m n d some le =
-    le-div (ceil_div m d) (n + (d - 1)) d some
-    (omega (arith, (le-div_iff_mul-le {k = d} {x = ceil_div m d} {y = m + (d - 1)} some).0 (omega arith)))
-
-ceil-whole : (q d : ℕ) → 0 < d → ceil_div (q * d) d ≡ q
-ceil-whole q d some = quotient (q * d + (d - 1)) d q (omega arith) (omega (arith, some))
-
+-- a quotient rounded up is one more beyond a whole one
 ceil-over : (q n d : ℕ) → 0 < d → q * d < n → suc q ≤ ceil_div n d
 ceil-over q n d some over = le-div (suc q) (n + (d - 1)) d some (omega (arith, some, over))
 
@@ -79,7 +60,7 @@ released-more p i t later some lt = go (releases_at p i t) refl
             let at : offset p i + k * period p i ≡ t = sym (release-at p i k) ∙ (ap (release p i) (sym is) ∙ here) in
             let whole : t - offset p i ≡ k * period p i = omega (arith, at) in
             let jobs : ceil_div (t - offset p i) (period p i) ≡ k =
-            ap (λ n. ceil_div n (period p i)) whole ∙ ceil-whole k (period p i) some in
+            ap (λ n. ceil_div n (period p i)) whole ∙ ceil-at k (period p i) some in
             omega (arith, jobs, ceil-over k (later - offset p i) (period p i) some (omega (arith, at, lt)))
 
 -- so it is with all tasks

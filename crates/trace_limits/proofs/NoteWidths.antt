@@ -11,7 +11,7 @@ use Rattle.grid_fraction.specs.declared.Frac.{Frac}
 use Rattle.freq_table.specs.declared.limits.TheConstants.{TOP_SPEED, MOST_MILLIVOLTS, MOST_IDLE}
 use Rattle.sched_model.specs.declared.holder.Holder.{Holder}
 use Rattle.sched_model.specs.declared.holder.Holder.TheVariants.{Nobody, Held}
-use Rattle.sched_model.specs.Plan.{Plan, count, period, point}
+use Rattle.sched_model.specs.Plan.{Plan, count, point}
 use Rattle.sched_model.specs.Jobs.{latest, releases_at}
 use Rattle.sched_model.specs.Ticks.{Tick}
 use Rattle.sched_model.specs.Demands.{IsWithin}
@@ -22,11 +22,12 @@ use Rattle.sched_model.specs.Notes.{release_notes, all_release_notes, had_by, se
 use Rattle.sched_model.proofs.Limits.{every_period}
 use Rattle.sched_model.proofs.JobLaws.{latest-small}
 use Rattle.sched_model.proofs.NoteLemmas.{notes-span}
+use Rattle.sched_model.proofs.PieceLemmas.{each-piece}
 use Rattle.trace_text.proofs.PlainLines.{each-append}
 use Rattle.trace_reader.specs.Traces.{IsPlace, IsNoteOf}
 use Rattle.done_lines.proofs.DoneNotes.{laid, laid-pieces}
 use Rattle.done_lines.proofs.DoneSpans.{IsLastSpan, last-span}
-use Rattle.done_lines.proofs.SpanHeads.{IsNow, Begins, begins, pieces-now}
+use Rattle.done_lines.proofs.SpanHeads.{IsNow, Begins, begins}
 use Rattle.replay_laws.proofs.FixedNotes.{each-flat}
 use Rattle.trace_limits.proofs.DemandWidths.{IsLow}
 
@@ -56,15 +57,12 @@ energy-low units mv rate few low cheap =
 
 module _ (p : Plan) (lim : IsWithinLimits p) (dem : ℕ → ℕ → ℕ) (within : IsWithin p dem) (ask : List Tick → Frac)
     (low : (past : List Tick) → length past ≤ MOST_TICKS → IsLow (ask past)) where
-  periods : (i : ℕ) → 0 < period p i
-  periods = every_period p lim
-
   abbrev AreLow : List Note → Type 0
   AreLow = AllByRecursion (IsLowNote p)
 
   -- the numbers of jobs are low
   job-low : (i t : ℕ) → t ≤ MOST_TICKS → latest p i t < 2 ^ 64
-  job-low i t early = omega (arith, latest-small p i t (periods i), early)
+  job-low i t early = omega (arith, latest-small p i t (every_period p lim i), early)
 
   releases-low : (t : ℕ) → t ≤ MOST_TICKS → AreLow (all_release_notes p dem t)
   releases-low t early = each-flat (IsLowNote p) (count p) (release_notes p dem t)
@@ -145,7 +143,7 @@ module _ (p : Plan) (lim : IsWithinLimits p) (dem : ℕ → ℕ → ℕ) (within
         each-append (IsLowNote p) (all_release_notes p dem (length s.past)) (decision ∷ segments)
         (releases-low (length s.past) early) (
           ((omega (arith, early), omega (arith, low_speed), asked.num, asked.den), omega arith, omega arith),
-          pieces-low 0 (pieces_of s.units) (pieces-now (IsNow p t) s.units now) (omega (arith, whole, few)),
+          pieces-low 0 (pieces_of s.units) (each-piece (IsNow p t) s.units now) (omega (arith, whole, few)),
         )
 
   none-low : AreLow (notes_before_end p dem ask [])
@@ -157,7 +155,7 @@ module _ (p : Plan) (lim : IsWithinLimits p) (dem : ℕ → ℕ → ℕ) (within
       → AreLow (notes_before_end p dem ask s.past) → AreLow (notes_before_end p dem ask (x ∷ past))
   next-low x past s few h l ih =
       let head =
-      subst (Begins p dem ask periods within.none past) l.spans (begins p dem ask periods within.none x past h) in
+      subst (Begins p dem ask (every_period p lim) within.none past) l.spans (begins p dem ask (every_period p lim) within.none x past h) in
       let speed : (point p s.entry).speed ≤ TOP_SPEED = (lim.machine.each s.entry l.entry).low_speed in
       let ticks : length (x ∷ past) - length s.past ≤ MOST_TICKS = omega (arith, few) in
       let units : length s.units ≤ most_units = omega (arith, l.long, mul-le-mul ticks speed) in

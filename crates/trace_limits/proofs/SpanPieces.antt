@@ -1,7 +1,7 @@
 -- The segments of a span: at most one more than the jobs that complete in its last tick.
-use Rattle.std.proofs.Common.{◌≡◌, ◌⊎◌, inl, inr, ℕ, suc, ◌+◌, ◌-◌, ◌<◌, ◌≤◌, Bool, true, false, not, ◌&&◌, ◌||◌, List, [], ◌∷◌, ◌++◌, length, replicate, flat_map, refl, arith, if◌then◌else◌, ap, ap₂, ◌∙◌, sym, subst, true≢false, nat_eq, nat_le, nat_lt}
+use Rattle.std.proofs.Common.{◌≡◌, ◌⊎◌, inl, inr, ℕ, suc, ◌+◌, ◌-◌, ◌<◌, ◌≤◌, Bool, true, false, not, ◌&&◌, List, [], ◌∷◌, ◌++◌, length, replicate, flat_map, refl, arith, if◌then◌else◌, ap, ap₂, ◌∙◌, sym, subst, nat_eq, nat_le, nat_lt}
 use Rattle.std.proofs.lemmas.List.{replicate-append-replicate}
-use Rattle.std.proofs.lemmas.Bool.{cases_lt, and_parts}
+use Rattle.std.proofs.lemmas.Bool.{cases_lt, and_parts, or_parts}
 use Rattle.std.proofs.lemmas.Bool.Decides.{nat_tests}
 use Rattle.dvs_base.specs.declared.kind.Scheduler.{Scheduler}
 use Rattle.dvs_base.specs.declared.kind.Scheduler.TheVariants.{Edf, Rm}
@@ -11,7 +11,7 @@ use Rattle.grid_fraction.proofs.Sums.{sum_below-le, sum_below-zero}
 use Rattle.grid_fraction.proofs.Searches.{any_below-false}
 use Rattle.sched_model.specs.declared.holder.Holder.{Holder}
 use Rattle.sched_model.specs.declared.holder.Holder.TheVariants.{Nobody, Held}
-use Rattle.sched_model.specs.Plan.{Plan, count, period, point}
+use Rattle.sched_model.specs.Plan.{Plan, count, point}
 use Rattle.sched_model.specs.Jobs.{latest, due, is_release}
 use Rattle.sched_model.specs.Ticks.{Tick, exec, is_done, share, left}
 use Rattle.sched_model.specs.Priority.{key_of}
@@ -37,15 +37,8 @@ first-same n need other job later (i ∷ is) below needs jobs =
     ∙ ap₂ (λ (h : Holder) (k : ℕ). if nat_eq (other i) 0 then h else Held i k)
     (first-same n need other job later is below.1 needs jobs) (jobs i below.0)
 
-or-right : (a b : Bool) → (a || b) ≡ false → b ≡ false
-or-right true b e = absurd (true≢false e)
-or-right false b e = e
-
 module _ (p : Plan) (dem : ℕ → ℕ → ℕ) (ask : List Tick → Frac) (lim : IsWithinLimits p)
     (needless : (i : ℕ) → dem i 0 ≡ 0) where
-  periods : (i : ℕ) → 0 < period p i
-  periods = every_period p lim
-
   abbrev speed : Tick → ℕ
   speed x = (point p x.entry).speed
 
@@ -94,7 +87,7 @@ module _ (p : Plan) (dem : ℕ → ℕ → ℕ) (ask : List Tick → Frac) (lim 
           let most : share x i ≤ left p dem past i =
           share-most (count p) (key_at past) (speed x) (left p dem past) (share x) next.legal i lt in
           let had : exec p (x ∷ past) i k ≡ exec p past i k + share x i =
-          exec-legal p dem x past i (periods i) (needless i) most in
+          exec-legal p dem x past i (every_period p lim i) (needless i) most in
           let undone : is_done p dem past i k ≡ false = grind (arith, nat_tests, some) in
           let done : is_done p dem (x ∷ past) i k ≡ true =
           all-had (exec p (x ∷ past) i k) (omega (arith, had, whole)) in
@@ -130,7 +123,7 @@ module _ (p : Plan) (dem : ℕ → ℕ → ℕ) (ask : List Tick → Frac) (lim 
       → (i : ℕ) → i < count p → served (left p dem past) (share x) i ≡ 0
   none-served past x next e i lt =
       let none : completes_in p dem x past i ≡ false =
-      any_below-false (count p) (completes_in p dem x past) (or-right (is_release p (length (x ∷ past))) _ e) i lt in
+      any_below-false (count p) (completes_in p dem x past) (or_parts (is_release p (length (x ∷ past))) _ e).1 i lt in
       let zero : completed x past i ≡ 0 = ap (λ (b : Bool). if b then 1 else 0) none in
       omega (arith, served-completes past x next i lt, zero)
 
@@ -154,7 +147,7 @@ module _ (p : Plan) (dem : ℕ → ℕ → ℕ) (ask : List Tick → Frac) (lim 
       (in_order-same (key_at (x ∷ past)) (key_at past) (count p) (same-key p.scheduler))
     where
       same-job : (i : ℕ) → i < count p → job_at (x ∷ past) i ≡ job_at past i
-      same-job = stays p dem ask periods needless x past e
+      same-job = stays p dem (every_period p lim) x past e
 
       same-key : (s : Scheduler) (i : ℕ) → i < count p → key_of s p (length (x ∷ past)) i ≡ key_of s p (length past) i
       same-key Edf i lt = ap (due p i) (same-job i lt)
@@ -180,7 +173,7 @@ module _ (p : Plan) (dem : ℕ → ℕ → ℕ) (ask : List Tick → Frac) (lim 
 
       needs : (i : ℕ) → i < count p → nat_eq (left p dem (x ∷ past) i) 0 ≡ nat_eq (left p dem past i) 0
       needs i lt =
-          ap (λ n. nat_eq n 0) (left-stays p dem x past i (periods i) (needless i) (same-job i lt))
+          ap (λ n. nat_eq n 0) (left-stays p dem x past i (every_period p lim i) (needless i) (same-job i lt))
           ∙ part (left p dem past i) (share x i) (none-served past x next e i lt)
 
   -- the segments of the span that has a tick as its last are few; where it goes on, it has one holder

@@ -1,14 +1,16 @@
 -- The trace of a schedule of an admitted plan is within the limits of traces.
-use Rattle.std.proofs.Common.{◌≡◌, ℕ, ◌+◌, ◌-◌, ◌*◌, ◌<◌, ◌≤◌, ◌^◌, Bool, true, false, List, [], ◌∷◌, ◌++◌, length, refl, arith, if◌then◌else◌, ap, sym, subst, nat_eq, mul-le-mul_right, length-append}
+use Rattle.std.proofs.Common.{◌≡◌, ℕ, ◌+◌, ◌-◌, ◌*◌, ◌<◌, ◌≤◌, ◌^◌, Bool, true, false, List, [], ◌∷◌, ◌++◌, length, arith, if◌then◌else◌, ap, sym, subst, nat_eq, mul-le-mul_right, length-append}
 use Rattle.std.specs.Prelude.{sum_by}
 use Rattle.std.specs.List.{AllByRecursion}
 use Rattle.std.proofs.lemmas.List.{length-map}
+use Rattle.std.proofs.lemmas.List.Elements.{All-from_recursion}
 use Rattle.std.proofs.lemmas.List.Sums.{sum_by-le}
 use Rattle.dvs_base.specs.declared.kind.GovernorKind.{GovernorKind}
 use Rattle.dvs_base.specs.declared.kind.Version.{Version}
 use Rattle.dvs_base.specs.declared.kind.Version.TheVariants.{One, Two}
 use Rattle.dvs_base.specs.declared.note.Note.{Note}
 use Rattle.dvs_base.specs.declared.note.Note.TheVariants.{Release, Speed, Run, Idle, Done, End}
+use Rattle.dvs_base.specs.declared.limits.TheConstants.{MOST_LINES}
 use Rattle.task_model.specs.declared.limits.TheConstants.{MOST_TASKS}
 use Rattle.task_model.specs.declared.task.Task.{Task}
 use Rattle.sched_model.specs.Plan.{Plan, count, names, task, period, offset}
@@ -21,14 +23,13 @@ use Rattle.sched_model.specs.Schedule.{schedule, IsScheduleBy}
 use Rattle.sched_model.specs.Ticks.{Tick}
 use Rattle.sched_model.proofs.ScheduleLemmas.{length-list_below, schedule_exists}
 use Rattle.trace_text.specs.TraceLines.{name_of}
-use Rattle.trace_text.proofs.PlainLines.{all-each, each-append}
+use Rattle.trace_text.proofs.PlainLines.{each-append}
 use Rattle.trace_reader.specs.VersionLines.{task_text}
 use Rattle.trace_reader.specs.TraceText.{run_energy_of, energy_of_task}
 use Rattle.trace_reader.specs.Traces.{IsNoteOf, is_end, IsEnded, HasShares, lines_for_tasks, IsTrace}
 use Rattle.done_lines.specs.RunText.{task_texts}
-use Rattle.replay_laws.proofs.FitNotes.{IsBeforeEnd}
 use Rattle.replay_laws.proofs.HeldUnits.{each-weaker}
-use Rattle.replay_laws.proofs.OneEnd.{EndsOnce, notes-end-once}
+use Rattle.replay_laws.proofs.OneEnd.{EndsOnce, schedule-ended}
 use Rattle.trace_limits.specs.RunTraces.{trace_of_run, IsLimitedRun, KeepsLimits}
 use Rattle.trace_limits.proofs.DemandWidths.{published-low}
 use Rattle.trace_limits.proofs.FewLines.{has-few-notes}
@@ -55,7 +56,7 @@ own-most i (End t run idle) = omega arith
 
 -- the most notes of a trace: its lines without the first two and without two for each task
 abbrev most_notes : ℕ
-most_notes = 800000 - (2 + 2 * MOST_TASKS)
+most_notes = MOST_LINES - (2 + 2 * MOST_TASKS)
 
 -- a sum over few notes, none of which has much
 sum-low : (f : Note → ℕ) (notes : List Note) → length notes ≤ most_notes
@@ -63,7 +64,7 @@ sum-low : (f : Note → ℕ) (notes : List Note) → length notes ≤ most_notes
 sum-low f notes few each =
     omega (
       arith,
-      sum_by-le f most_energy notes (all-each (λ n. f n ≤ most_energy) notes each),
+      sum_by-le f most_energy notes (All-from_recursion (λ n. f n ≤ most_energy) notes each),
       mul-le-mul_right most_energy few,
     )
 
@@ -147,18 +148,10 @@ module _ (v : Version) (p : Plan) (g : GovernorKind) (dem : JobDemands) (ticks :
         ((omega (arith, long, run.low_ticks), run-low, idle-low), tt));
     ended =
         once-ended (notes ++ last ∷ [])
-        (notes-end-once p adm.limits dem (published p g dem) is_end (λ t run idle. refl) others past);
+        (schedule-ended p adm.limits dem (published p g dem) past);
     shares = shared v;
     lines = omega (arith, lines-low v, few-lines);
   }
-    where
-      others : (n : Note) → IsBeforeEnd p dem n → is_end n ≡ false
-      others (Release t i k) h = refl
-      others (Speed t f num den) h = refl
-      others (Run from to i k units energy) h = refl
-      others (Idle from to units energy) h = refl
-      others (Done q i k used) h = refl
-      others (End t run idle) h = absurd h
 
 -- every run of an admitted plan within the limits has a trace
 pub keeps-limits : (p : Plan) → IsAdmitted p → KeepsLimits p

@@ -9,7 +9,7 @@ use Rattle.std.proofs.lemmas.List.Quantifiers.{position-Some}
 use Rattle.std.proofs.lemmas.List.Sums.{position_or_len_is}
 use Rattle.std.proofs.lemmas.List.Splits.{join_with_byte-slice_split}
 use Rattle.std.proofs.lemmas.Slice.Eq.{bytes_eq-Decides}
-use Rattle.std.proofs.lemmas.Option.{some_pair_parts}
+use Rattle.std.proofs.lemmas.Option.{same_Some}
 use Rattle.dvs_base.specs.Text.{number_below}
 use Rattle.dvs_base.specs.Parts.{position_text, fraction_text}
 use Rattle.trace_text.specs.TraceLines.{name_of}
@@ -48,20 +48,22 @@ wide_in-text n fits = ap (λ o. ok_or o kind.Number) (number_below-decimal (2 ^ 
 pub wide_in-found : (field : List ℕ) (n : ℕ) → wide_in field ≡ Ok n → (field ≡ decimal n) × (n < 2 ^ 128)
 wide_in-found field n e = number_below-found (2 ^ 128) field n (omega arith) (ok_or-ok (number_below (2 ^ 128) field) kind.Number n e)
 
-two-is : (ps : List (List ℕ)) (a b : List ℕ) → two_of ps ≡ Some (a, b) → ps ≡ a ∷ b ∷ []
-two-is [] a b e = absurd cc
-two-is (x ∷ []) a b e = absurd cc
-two-is (x ∷ y ∷ []) a b e = let p = some_pair_parts x a y b e in ap₂ (λ p q. p ∷ q ∷ []) p.0 p.1
-two-is (x ∷ y ∷ z ∷ ps) a b e = absurd cc
+-- what is two fields is the list of both
+pub two-is : (ps : List (List ℕ)) (p : List ℕ × List ℕ) → two_of ps ≡ Some p → ps ≡ p.0 ∷ p.1 ∷ []
+two-is [] p e = absurd cc
+two-is (a ∷ []) p e = absurd cc
+two-is (a ∷ b ∷ []) p e = subst (λ (q : List ℕ × List ℕ). a ∷ b ∷ [] ≡ q.0 ∷ q.1 ∷ []) (same_Some (a, b) p e) refl
+two-is (a ∷ b ∷ c ∷ ps) p e = absurd cc
 
 -- two halves are the text with the byte between them
 two-joined : (byte : ℕ) (field a b : List ℕ) → two_of (parts byte field) ≡ Some (a, b) → field ≡ a ++ byte ∷ b
-two-joined byte field a b e = sym (join_with_byte-slice_split byte field) ∙ ap (join_with_byte byte) (two-is (parts byte field) a b e)
+two-joined byte field a b e = sym (join_with_byte-slice_split byte field) ∙ ap (join_with_byte byte) (two-is (parts byte field) (a, b) e)
 
 -- numbers with the byte between them are two halves
 two-text : (byte : ℕ) → ((d : ℕ) → d < 10 → 48 + d ≢ byte) → (m n : ℕ) → two_of (parts byte (decimal m ++ byte ∷ decimal n)) ≡ Some (decimal m, decimal n)
 two-text byte free m n =
-    ap two_of (parts-first byte (decimal m) (decimal n) (lacks-decimal byte free m) ∙ ap (λ ps. decimal m ∷ ps) (parts-alone byte (decimal n) (lacks-decimal byte free n)))
+    ap two_of (parts-first byte (decimal m) (decimal n) (lacks-decimal byte free m)
+    ∙ ap (λ ps. decimal m ∷ ps) (parts-alone byte (decimal n) (lacks-decimal byte free n)))
 
 colon : (m n : ℕ) → two_of (parts 58 (decimal m ++ 58 ∷ decimal n)) ≡ Some (decimal m, decimal n)
 colon = two-text 58 (λ d small e. omega (arith, e))
@@ -78,9 +80,9 @@ position_in-text q fits =
 pub position_in-found : (field : List ℕ) (q : Pos) → position_in field ≡ Ok q → (field ≡ position_text q) × IsPlace q
 unfolding position_in
 position_in-found field q e =
-    let a = step-ok (ok_or (two_of (parts 58 field)) kind.Number) (λ halves. whole_in halves.0 >>= λ tick. whole_in halves.1 >>= λ offset. Ok (record { tick = tick; offset = offset })) q e in
-    let b = step-ok (whole_in a.0.0) (λ tick. whole_in a.0.1 >>= λ offset. Ok (record { tick = tick; offset = offset })) q a.2 in
-    let c = step-ok (whole_in a.0.1) (λ offset. Ok (record { tick = b.0; offset = offset })) q b.2 in
+    let a = step-ok _ _ q e in
+    let b = step-ok _ _ q a.2 in
+    let c = step-ok _ _ q b.2 in
     let tick = whole_in-found a.0.0 b.0 b.1 in
     let offset = whole_in-found a.0.1 c.0 c.1 in
     let made : Pos = record { tick = b.0; offset = c.0 } in
@@ -97,9 +99,9 @@ fraction_in-text num den above below =
 pub fraction_in-found : (field : List ℕ) (d : ℕ × ℕ) → fraction_in field ≡ Ok d → (field ≡ fraction_text d.0 d.1) × (d.0 < 2 ^ 128) × (d.1 < 2 ^ 128)
 unfolding fraction_in
 fraction_in-found field d e =
-    let a = step-ok (ok_or (two_of (parts 47 field)) kind.Number) (λ halves. wide_in halves.0 >>= λ num. wide_in halves.1 >>= λ den. Ok (num, den)) d e in
-    let b = step-ok (wide_in a.0.0) (λ num. wide_in a.0.1 >>= λ den. Ok (num, den)) d a.2 in
-    let c = step-ok (wide_in a.0.1) (λ den. Ok (b.0, den)) d b.2 in
+    let a = step-ok _ _ d e in
+    let b = step-ok _ _ d a.2 in
+    let c = step-ok _ _ d b.2 in
     let num = wide_in-found a.0.0 b.0 b.1 in
     let den = wide_in-found a.0.1 c.0 c.1 in
     let made : ℕ × ℕ = (b.0, c.0) in

@@ -2,7 +2,6 @@
 use Rattle.std.proofs.Common.{◌≡◌, ◌≢◌, ◌⊎◌, inl, inr, ℕ, suc, ◌+◌, ◌^◌, ◌<◌, ◌≤◌, Bool, true, false, ◌&&◌, List, [], ◌∷◌, ◌++◌, length, Option, Some, None, Ok, Err, refl, sym, ap, ap₂, subst, ◌∙◌, append_assoc, arith, if◌then◌else◌}
 use Rattle.std.specs.Prelude.{nat_le, decimal, codes}
 use Rattle.std.specs.List.{AllByRecursion, join_with_byte, list_all}
-use Rattle.std.specs.Option.{ok_or}
 use Rattle.std.specs.Str.{bytes_eq}
 use Rattle.std.proofs.lemmas.Bool.Decides.{nat_tests}
 use Rattle.std.proofs.lemmas.Option.{same_Some}
@@ -20,6 +19,8 @@ use Rattle.dvs_base.specs.declared.kind.GovernorKind.{GovernorKind}
 use Rattle.dvs_base.specs.declared.kind.GovernorKind.TheVariants.{Plain, Fixed, Cycle, Ahead}
 use Rattle.dvs_base.specs.declared.kind.Version.{Version}
 use Rattle.dvs_base.specs.declared.kind.Version.TheVariants.{One, Two}
+use Rattle.dvs_base.specs.declared.limits.TheConstants.{LONGEST_LINE, MOST_TICKS}
+use Rattle.dvs_base.proofs.Names.{length-name}
 use Rattle.trace_reader.proofs.Spelled.{number_below-decimal, number_below-found}
 use Rattle.trace_text.specs.declared.write.PlanLine.{PlanLine}
 use Rattle.trace_reader.specs.declared.trace.TaskLine.{TaskLine}
@@ -27,14 +28,14 @@ use Rattle.trace_reader.specs.declared.trace.TraceFault.{TraceFault}
 use Rattle.trace_reader.specs.declared.trace.TraceFault.TheVariants.{Refused}
 use Rattle.trace_reader.specs.declared.trace.TraceKind.{TraceKind}
 use Rattle.trace_reader.specs.declared.trace.TraceKind.TheVariants as kind
-use Rattle.trace_reader.specs.Fields.{◌>>=◌, parts, four_of}
+use Rattle.trace_reader.specs.Fields.{parts, four_of}
 use Rattle.trace_reader.specs.Heads.{line_at, version_of, plan_of, tasks_from, lines_of_tasks}
 use Rattle.trace_reader.specs.Traces.{task_lines}
 use Rattle.trace_reader.proofs.Lined.{spaced, line-spaced}
-use Rattle.trace_reader.proofs.Plain.{Lacks, lacks-all, lacks-decimal, lacks-name, lacks-spaced, length-decimal, length-name, parts-joined}
+use Rattle.trace_reader.proofs.Plain.{Lacks, lacks-all, lacks-decimal, lacks-name, lacks-spaced, length-decimal, parts-joined}
 use Rattle.trace_reader.proofs.FieldTexts.{step-ok, ok-is, ok_or-ok}
 use Rattle.trace_reader.proofs.ItemTexts.{four-is}
-use Rattle.trace_reader.proofs.LineTexts.{AreNames, line_at-found, line_at-text, join-line, join-spaced, length-spaced}
+use Rattle.trace_reader.proofs.LineTexts.{is_letter, AreNames, line_at-found, line_at-text, join-line, join-spaced, length-spaced}
 
 -- the versions up to the newest that is read
 abbrev pub IsUpTo : Version → Version → Type 0
@@ -51,7 +52,8 @@ abbrev pub version_body : Version → List ℕ
 version_body One = codes "trace 1"
 version_body Two = codes "trace 2"
 
-either-is : (a b : Bool) (x y v : Version) → (if a then Ok x else (if b then Ok y else Err kind.Version)) ≡ Ok v → ((a ≡ true) × (x ≡ v)) ⊎ ((b ≡ true) × (y ≡ v))
+either-is : (a b : Bool) (x y v : Version) → (if a then Ok x else (if b then Ok y else Err kind.Version)) ≡ Ok v
+    → ((a ≡ true) × (x ≡ v)) ⊎ ((b ≡ true) × (y ≡ v))
 either-is true b x y v e = inl (refl, ok-is {F = TraceKind} x v e)
 either-is false true x y v e = inr (refl, ok-is {F = TraceKind} y v e)
 either-is false false x y v e = absurd cc
@@ -66,7 +68,8 @@ version-found One v text e =
     subst (λ (w : Version). (text ≡ version_body w) × IsUpTo One w) found.1 ((bytes_eq-Decides text (codes "trace 1")).0 found.0, tt)
 version-found Two v text e = by (either-is (bytes_eq text (codes "trace 1")) (bytes_eq text (codes "trace 2")) One Two v e)
   where
-    by : ((bytes_eq text (codes "trace 1") ≡ true) × (One ≡ v)) ⊎ ((bytes_eq text (codes "trace 2") ≡ true) × (Two ≡ v)) → (text ≡ version_body v) × IsUpTo Two v
+    by : ((bytes_eq text (codes "trace 1") ≡ true) × (One ≡ v)) ⊎ ((bytes_eq text (codes "trace 2") ≡ true) × (Two ≡ v))
+        → (text ≡ version_body v) × IsUpTo Two v
     by (inl h) = subst (λ (w : Version). (text ≡ version_body w) × IsUpTo Two w) h.1 ((bytes_eq-Decides text (codes "trace 1")).0 h.0, tt)
     by (inr h) = subst (λ (w : Version). (text ≡ version_body w) × IsUpTo Two w) h.1 ((bytes_eq-Decides text (codes "trace 2")).0 h.0, tt)
 
@@ -83,15 +86,18 @@ version-line Two = refl
 scheduler-word : (word : List ℕ) (s : Scheduler) → scheduler_of word ≡ Some s → word ≡ scheduler_word s
 scheduler-word word s e = by (bytes_eq word (codes "edf")) (bytes_eq word (codes "rm")) refl refl e
   where
-    by : (a b : Bool) → bytes_eq word (codes "edf") ≡ a → bytes_eq word (codes "rm") ≡ b → (if a then Some Edf else (if b then Some Rm else None)) ≡ Some s → word ≡ scheduler_word s
+    by : (a b : Bool) → bytes_eq word (codes "edf") ≡ a → bytes_eq word (codes "rm") ≡ b
+        → (if a then Some Edf else (if b then Some Rm else None)) ≡ Some s → word ≡ scheduler_word s
     by true b p q f = (bytes_eq-Decides word (codes "edf")).0 p ∙ ap scheduler_word (same_Some Edf s f)
     by false true p q f = (bytes_eq-Decides word (codes "rm")).0 q ∙ ap scheduler_word (same_Some Rm s f)
     by false false p q f = absurd cc
 
 governor-word : (word : List ℕ) (g : GovernorKind) → governor_of word ≡ Some g → word ≡ governor_word g
-governor-word word g e = by (bytes_eq word (codes "none")) (bytes_eq word (codes "static")) (bytes_eq word (codes "cc")) (bytes_eq word (codes "la")) refl refl refl refl e
+governor-word word g e = by (bytes_eq word (codes "none")) (bytes_eq word (codes "static")) (bytes_eq word (codes "cc"))
+    (bytes_eq word (codes "la")) refl refl refl refl e
   where
-    by : (a b c d : Bool) → bytes_eq word (codes "none") ≡ a → bytes_eq word (codes "static") ≡ b → bytes_eq word (codes "cc") ≡ c → bytes_eq word (codes "la") ≡ d
+    by : (a b c d : Bool) → bytes_eq word (codes "none") ≡ a → bytes_eq word (codes "static") ≡ b → bytes_eq word (codes "cc") ≡ c
+        → bytes_eq word (codes "la") ≡ d
         → (if a then Some Plain else (if b then Some Fixed else (if c then Some Cycle else (if d then Some Ahead else None)))) ≡ Some g → word ≡ governor_word g
     by true b c d p q r t f = (bytes_eq-Decides word (codes "none")).0 p ∙ ap governor_word (same_Some Plain g f)
     by false true c d p q r t f = (bytes_eq-Decides word (codes "static")).0 q ∙ ap governor_word (same_Some Fixed g f)
@@ -99,18 +105,18 @@ governor-word word g e = by (bytes_eq word (codes "none")) (bytes_eq word (codes
     by false false false true p q r t f = (bytes_eq-Decides word (codes "la")).0 t ∙ ap governor_word (same_Some Ahead g f)
     by false false false false p q r t f = absurd cc
 
-ticks-word : (word : List ℕ) (n : ℕ) → ticks_of word ≡ Some n → (word ≡ decimal n) × (1 ≤ n) × (n ≤ 2 ^ 40)
+ticks-word : (word : List ℕ) (n : ℕ) → ticks_of word ≡ Some n → (word ≡ decimal n) × (1 ≤ n) × (n ≤ MOST_TICKS)
 ticks-word word n e = by (number_below (2 ^ 64) word) refl e
   where
-    choice : (m : ℕ) (a b : Bool) → nat_le 1 m ≡ a → nat_le m (2 ^ 40) ≡ b → (if a && b then Some m else None) ≡ Some n → (1 ≤ m) × (m ≤ 2 ^ 40) × (m ≡ n)
+    choice : (m : ℕ) (a b : Bool) → nat_le 1 m ≡ a → nat_le m MOST_TICKS ≡ b → (if a && b then Some m else None) ≡ Some n → (1 ≤ m) × (m ≤ MOST_TICKS) × (m ≡ n)
     choice m true true p q f = (grind (arith, nat_tests), grind (arith, nat_tests), same_Some m n f)
     choice m true false p q f = absurd cc
     choice m false b p q f = absurd cc
 
-    by : (o : Option ℕ) → number_below (2 ^ 64) word ≡ o → ticks_from o ≡ Some n → (word ≡ decimal n) × (1 ≤ n) × (n ≤ 2 ^ 40)
+    by : (o : Option ℕ) → number_below (2 ^ 64) word ≡ o → ticks_from o ≡ Some n → (word ≡ decimal n) × (1 ≤ n) × (n ≤ MOST_TICKS)
     by None p f = absurd cc
     by (Some m) p f =
-        let c = choice m (nat_le 1 m) (nat_le m (2 ^ 40)) refl refl f in
+        let c = choice m (nat_le 1 m) (nat_le m MOST_TICKS) refl refl f in
         let text = number_below-found (2 ^ 64) word m (omega arith) p in
         (text.0 ∙ ap decimal c.2, omega (arith, c.0, c.2), omega (arith, c.1, c.2))
 
@@ -118,36 +124,37 @@ ticks-word word n e = by (number_below (2 ^ 64) word) refl e
 pub record IsPlan (plan : PlanLine) : Type 0 where
   pub pair : is_pair plan.scheduler plan.governor ≡ true
   pub some : 1 ≤ plan.ticks
-  pub low : plan.ticks ≤ 2 ^ 40
+  pub low : plan.ticks ≤ MOST_TICKS
 
 abbrev pub plan_fields : PlanLine → List (List ℕ)
 plan_fields plan = codes "plan" ∷ scheduler_word plan.scheduler ∷ governor_word plan.governor ∷ decimal plan.ticks ∷ []
 
-made-plan : (word pair : Bool) (made plan : PlanLine) → (if word && pair then Ok made else Err kind.Plan) ≡ Ok plan → (word ≡ true) × (pair ≡ true) × (made ≡ plan)
+made-plan : (word pair : Bool) (made plan : PlanLine) → (if word && pair then Ok made else Err kind.Plan) ≡ Ok plan
+    → (word ≡ true) × (pair ≡ true) × (made ≡ plan)
 made-plan true true made plan e = (refl, refl, ok-is {F = TraceKind} made plan e)
 made-plan true false made plan e = absurd cc
 made-plan false pair made plan e = absurd cc
 
-pub plan-found : (text : List ℕ) (plan : PlanLine) → plan_of (parts 32 text) ≡ Ok plan → (text ++ 10 ∷ [] ≡ plan_text plan.scheduler plan.governor plan.ticks) × IsPlan plan
+pub plan-found : (text : List ℕ) (plan : PlanLine) → plan_of (parts 32 text) ≡ Ok plan
+    → (text ++ 10 ∷ [] ≡ plan_text plan.scheduler plan.governor plan.ticks) × IsPlan plan
 unfolding plan_of
 plan-found text plan e =
-    let a = step-ok (ok_or (four_of (parts 32 text)) kind.Plan) (λ four. ok_or (scheduler_of four.1) kind.Plan >>= λ s. ok_or (governor_of four.2) kind.Plan >>= λ g. ok_or (ticks_of four.3) kind.Plan >>= λ t.
-    if bytes_eq four.0 (codes "plan") && is_pair s g then Ok (record { scheduler = s; governor = g; ticks = t }) else Err kind.Plan) plan e in
-    let b = step-ok (ok_or (scheduler_of a.0.1) kind.Plan) (λ s. ok_or (governor_of a.0.2) kind.Plan >>= λ g. ok_or (ticks_of a.0.3) kind.Plan >>= λ t.
-    if bytes_eq a.0.0 (codes "plan") && is_pair s g then Ok (record { scheduler = s; governor = g; ticks = t }) else Err kind.Plan) plan a.2 in
-    let c = step-ok (ok_or (governor_of a.0.2) kind.Plan) (λ g. ok_or (ticks_of a.0.3) kind.Plan >>= λ t.
-    if bytes_eq a.0.0 (codes "plan") && is_pair b.0 g then Ok (record { scheduler = b.0; governor = g; ticks = t }) else Err kind.Plan) plan b.2 in
-    let d = step-ok (ok_or (ticks_of a.0.3) kind.Plan) (λ t.
-    if bytes_eq a.0.0 (codes "plan") && is_pair b.0 c.0 then Ok (record { scheduler = b.0; governor = c.0; ticks = t }) else Err kind.Plan) plan c.2 in
+    let a = step-ok _ _ plan e in
+    let b = step-ok _ _ plan a.2 in
+    let c = step-ok _ _ plan b.2 in
+    let d = step-ok _ _ plan c.2 in
     let made : PlanLine = record { scheduler = b.0; governor = c.0; ticks = d.0 } in
     let f = made-plan (bytes_eq a.0.0 (codes "plan")) (is_pair b.0 c.0) made plan d.2 in
     let word = (bytes_eq-Decides a.0.0 (codes "plan")).0 f.0 in
     let scheduler = scheduler-word a.0.1 b.0 (ok_or-ok (scheduler_of a.0.1) kind.Plan b.0 b.1) in
     let governor = governor-word a.0.2 c.0 (ok_or-ok (governor_of a.0.2) kind.Plan c.0 c.1) in
     let ticks = ticks-word a.0.3 d.0 (ok_or-ok (ticks_of a.0.3) kind.Plan d.0 d.1) in
-    let fields : parts 32 text ≡ plan_fields made = four-is (parts 32 text) a.0 (ok_or-ok (four_of (parts 32 text)) kind.Plan a.0 a.1) ∙ (λ j. word j ∷ scheduler j ∷ governor j ∷ ticks.0 j ∷ []) in
-    let whole : text ++ 10 ∷ [] ≡ line (plan_fields made) = ap (λ t. t ++ 10 ∷ []) (sym (join-spaced text) ∙ ap spaced fields) ∙ sym (line-spaced (plan_fields made)) in
-    subst (λ (p : PlanLine). (text ++ 10 ∷ [] ≡ plan_text p.scheduler p.governor p.ticks) × IsPlan p) f.2 (whole, record { pair = f.1; some = ticks.1; low = ticks.2 })
+    let fields : parts 32 text ≡ plan_fields made = four-is (parts 32 text) a.0 (ok_or-ok (four_of (parts 32 text)) kind.Plan a.0 a.1)
+    ∙ (λ j. word j ∷ scheduler j ∷ governor j ∷ ticks.0 j ∷ []) in
+    let whole : text ++ 10 ∷ [] ≡ line (plan_fields made) = ap (λ t. t ++ 10 ∷ []) (sym (join-spaced text) ∙ ap spaced fields)
+    ∙ sym (line-spaced (plan_fields made)) in
+    subst (λ (p : PlanLine). (text ++ 10 ∷ [] ≡ plan_text p.scheduler p.governor p.ticks) × IsPlan p) f.2
+    (whole, record { pair = f.1; some = ticks.1; low = ticks.2 })
 
 scheduler-read : (s : Scheduler) → scheduler_of (scheduler_word s) ≡ Some s
 scheduler-read Edf = refl
@@ -159,18 +166,15 @@ governor-read Fixed = refl
 governor-read Cycle = refl
 governor-read Ahead = refl
 
-ticks-read : (n : ℕ) → 1 ≤ n → n ≤ 2 ^ 40 → ticks_of (decimal n) ≡ Some n
+ticks-read : (n : ℕ) → 1 ≤ n → n ≤ MOST_TICKS → ticks_of (decimal n) ≡ Some n
 ticks-read n some low =
     let above : nat_le 1 n ≡ true = grind (arith, nat_tests) in
-    let below : nat_le n (2 ^ 40) ≡ true = grind (arith, nat_tests) in
+    let below : nat_le n MOST_TICKS ≡ true = grind (arith, nat_tests) in
     ap ticks_from (number_below-decimal (2 ^ 64) n (omega arith) (omega arith)) ∙ rw (above, below) refl
 
 plan-read : (plan : PlanLine) → IsPlan plan → plan_of (plan_fields plan) ≡ Ok plan
 unfolding plan_of
 plan-read plan h = rw (scheduler-read plan.scheduler, governor-read plan.governor, ticks-read plan.ticks h.some h.low, h.pair) refl
-
-is_letter : ℕ → Bool
-is_letter b = nat_le 97 b && nat_le b 122
 
 scheduler-letters : (s : Scheduler) → list_all is_letter (scheduler_word s) ≡ true
 unfolding is_letter
@@ -219,12 +223,15 @@ plan-text plan more h =
     let fields : List (List ℕ) = plan_fields plan in
     let spaces : AllByRecursion (Lacks 32) fields = plan-lacks 32 refl (λ d small e. omega (arith, e)) plan in
     let feeds : AllByRecursion (Lacks 10) fields = plan-lacks 10 refl (λ d small e. omega (arith, e)) plan in
-    let short : length (spaced fields) ≤ 255 = omega (arith, length-spaced fields, scheduler-short plan.scheduler, governor-short plan.governor, length-decimal plan.ticks) in
-    let whole : plan_text plan.scheduler plan.governor plan.ticks ++ more ≡ spaced fields ++ 10 ∷ more = ap (λ t. t ++ more) (line-spaced fields) ∙ append_assoc (spaced fields) (10 ∷ []) more in
+    let short : length (spaced fields) ≤ LONGEST_LINE =
+    omega (arith, length-spaced fields, scheduler-short plan.scheduler, governor-short plan.governor, length-decimal plan.ticks) in
+    let whole : plan_text plan.scheduler plan.governor plan.ticks ++ more ≡ spaced fields ++ 10 ∷ more =
+    ap (λ t. t ++ more) (line-spaced fields) ∙ append_assoc (spaced fields) (10 ∷ []) more in
     record {
       text = spaced fields;
       line_read = ap (λ t. line_at 2 (parts 10 t)) whole ∙ line_at-text 2 (spaced fields) more (lacks-spaced fields feeds) (omega arith) short;
-      plan_read = ap plan_of (parts-joined 32 (codes "plan") (scheduler_word plan.scheduler ∷ governor_word plan.governor ∷ decimal plan.ticks ∷ []) spaces) ∙ plan-read plan h;
+      plan_read = ap plan_of (parts-joined 32 (codes "plan")
+          (scheduler_word plan.scheduler ∷ governor_word plan.governor ∷ decimal plan.ticks ∷ []) spaces) ∙ plan-read plan h;
     }
 
 -- the first line is read
@@ -237,7 +244,7 @@ pub record IsLine (text : List ℕ) : Type 0 where
   pub body : List ℕ
   pub ended : text ≡ body ++ 10 ∷ []
   pub plain : Lacks 10 body
-  pub short : length body ≤ 255
+  pub short : length body ≤ LONGEST_LINE
 
 abbrev pub AreLines : List (List ℕ) → Type 0
 AreLines = AllByRecursion IsLine
@@ -250,7 +257,8 @@ task_lines-lines (name ∷ names) (t ∷ tasks) h =
     let fields : List (List ℕ) = codes "task" ∷ name ∷ decimal t.period ∷ decimal t.offset ∷ decimal t.worst ∷ [] in
     let digit : (d : ℕ) → d < 10 → 48 + d ≢ 10 = (λ d small e. omega (arith, e)) in
     let number = lacks-decimal 10 digit in
-    let feeds : AllByRecursion (Lacks 10) fields = (lacks-all is_letter 10 (codes "task") refl refl, (lacks-name 10 refl name h.0, (number t.period, (number t.offset, (number t.worst, tt))))) in (
+    let feeds : AllByRecursion (Lacks 10) fields =
+    (lacks-all is_letter 10 (codes "task") refl refl, (lacks-name 10 refl name h.0, (number t.period, (number t.offset, (number t.worst, tt))))) in (
       record {
         body = spaced fields;
         ended = line-spaced fields;
@@ -269,8 +277,10 @@ pub record TasksRead (n : ℕ) (tasks ps : List (List ℕ)) (p : ℕ × List (Li
   pub text : join_with_byte 10 ps ≡ joined tasks ++ join_with_byte 10 p.1
   pub next : p.0 ≡ n + length tasks
 
-task-step : (n : ℕ) (task : List ℕ) (tasks ps : List (List ℕ)) (l : List ℕ × List (List ℕ)) (p : ℕ × List (List ℕ)) (same : Bool) → line_at n ps ≡ Ok l → bytes_eq (l.0 ++ 10 ∷ []) task ≡ same
-    → (if same then tasks_from (n + 1) tasks l.1 else Err (Refused n kind.TaskLine)) ≡ Ok p → (tasks_from (n + 1) tasks l.1 ≡ Ok p → TasksRead (n + 1) tasks l.1 p) → TasksRead n (task ∷ tasks) ps p
+task-step : (n : ℕ) (task : List ℕ) (tasks ps : List (List ℕ)) (l : List ℕ × List (List ℕ)) (p : ℕ × List (List ℕ)) (same : Bool)
+    → line_at n ps ≡ Ok l → bytes_eq (l.0 ++ 10 ∷ []) task ≡ same
+    → (if same then tasks_from (n + 1) tasks l.1 else Err (Refused n kind.TaskLine)) ≡ Ok p
+    → (tasks_from (n + 1) tasks l.1 ≡ Ok p → TasksRead (n + 1) tasks l.1 p) → TasksRead n (task ∷ tasks) ps p
 task-step n task tasks ps l p false read same e later = absurd cc
 task-step n task tasks ps l p true read same e later =
     let line = line_at-found n ps l read in
@@ -284,12 +294,14 @@ task-step n task tasks ps l p true read same e later =
 
 pub tasks-found : (n : ℕ) (tasks ps : List (List ℕ)) (p : ℕ × List (List ℕ)) → tasks_from n tasks ps ≡ Ok p → TasksRead n tasks ps p
 unfolding tasks_from
-tasks-found n [] ps p e = subst (λ (q : ℕ × List (List ℕ)). TasksRead n [] ps q) (ok-is {F = TraceFault} (n, ps) p e) (record { text = refl; next = omega arith })
+tasks-found n [] ps p e = subst (λ (q : ℕ × List (List ℕ)). TasksRead n [] ps q) (ok-is {F = TraceFault} (n, ps) p e)
+    (record { text = refl; next = omega arith })
 tasks-found n (task ∷ tasks) ps p e =
-    let a = step-ok (line_at n ps) (λ l. if bytes_eq (l.0 ++ 10 ∷ []) task then tasks_from (n + 1) tasks l.1 else Err (Refused n kind.TaskLine)) p e in
+    let a = step-ok _ _ p e in
     task-step n task tasks ps a.0 p (bytes_eq (a.0.0 ++ 10 ∷ []) task) a.1 refl a.2 (λ later. tasks-found (n + 1) tasks a.0.1 p later)
 
-pub tasks-text : (n : ℕ) (tasks : List (List ℕ)) (more : List ℕ) → AreLines tasks → n + length tasks ≤ 800001 → tasks_from n tasks (parts 10 (joined tasks ++ more)) ≡ Ok (n + length tasks, parts 10 more)
+pub tasks-text : (n : ℕ) (tasks : List (List ℕ)) (more : List ℕ) → AreLines tasks → n + length tasks ≤ 800001
+    → tasks_from n tasks (parts 10 (joined tasks ++ more)) ≡ Ok (n + length tasks, parts 10 more)
 unfolding tasks_from
 tasks-text n [] more h few = let here : n ≡ n + 0 = omega arith in ap (λ m. Ok (m, parts 10 more)) here
 tasks-text n (task ∷ tasks) more h few =

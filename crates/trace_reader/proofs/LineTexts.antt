@@ -11,6 +11,8 @@ use Rattle.dvs_base.proofs.Decimals.{length-decimal_u64, length-decimal_u128, le
 use Rattle.dvs_base.specs.declared.note.Pos.{Pos}
 use Rattle.dvs_base.specs.declared.note.Note.TheVariants.{Release, Speed, Run, Idle, Done, End}
 use Rattle.dvs_base.specs.declared.kind.Version.{Version}
+use Rattle.dvs_base.specs.declared.limits.TheConstants.{MOST_LINES, LONGEST_LINE}
+use Rattle.dvs_base.proofs.Names.{length-name}
 use Rattle.trace_reader.specs.declared.line.Item.{Item}
 use Rattle.trace_reader.specs.declared.line.Item.TheVariants.{Told, Share}
 use Rattle.trace_reader.specs.declared.trace.TraceFault.TheVariants.{Refused}
@@ -20,7 +22,7 @@ use Rattle.trace_reader.specs.Heads.{line_at}
 use Rattle.trace_reader.specs.Items.{item_of}
 use Rattle.trace_reader.proofs.Splitting.{HasPart, some-part}
 use Rattle.trace_reader.proofs.Lined.{spaced, line-spaced}
-use Rattle.trace_reader.proofs.Plain.{Lacks, lacks-append, lacks-all, lacks-decimal, lacks-name, length-name, lacks-spaced, parts-first, parts-joined}
+use Rattle.trace_reader.proofs.Plain.{Lacks, lacks-append, lacks-all, lacks-decimal, lacks-name, lacks-spaced, parts-first, parts-joined}
 use Rattle.trace_reader.proofs.FieldTexts.{AreApart}
 use Rattle.trace_reader.proofs.ItemTexts.{item_fields, IsItemOf, item_of-found, item_of-text}
 
@@ -36,10 +38,11 @@ names-each (name ∷ names) h = (h 0 (omega arith), names-each names (λ i lt. h
 pub record IsLineOf (n : ℕ) (ps : List (List ℕ)) (text : List ℕ) (rest : List (List ℕ)) : Type 0 where
   pub all : ps ≡ text ∷ rest
   pub more : HasPart rest
-  pub few : n ≤ 800000
-  pub short : length text ≤ 255
+  pub few : n ≤ MOST_LINES
+  pub short : length text ≤ LONGEST_LINE
 
-line-found : (n : ℕ) (text next : List ℕ) (rest : List (List ℕ)) (p : List ℕ × List (List ℕ)) (many long : Bool) → nat_lt 800000 n ≡ many → nat_lt 255 (length text) ≡ long
+line-found : (n : ℕ) (text next : List ℕ) (rest : List (List ℕ)) (p : List ℕ × List (List ℕ)) (many long : Bool)
+    → nat_lt MOST_LINES n ≡ many → nat_lt LONGEST_LINE (length text) ≡ long
     → (if many then Err (Refused n kind.TooMany) else (if long then Err (Refused n kind.TooLong) else Ok (text, next ∷ rest))) ≡ Ok p
     → IsLineOf n (text ∷ next ∷ rest) p.0 p.1
 line-found n text next rest p true long a b e = absurd cc
@@ -52,18 +55,19 @@ line-found n text next rest p false false a b e =
 pub line_at-found : (n : ℕ) (ps : List (List ℕ)) (p : List ℕ × List (List ℕ)) → line_at n ps ≡ Ok p → IsLineOf n ps p.0 p.1
 line_at-found n [] p e = absurd cc
 line_at-found n (text ∷ []) p e = absurd cc
-line_at-found n (text ∷ next ∷ rest) p e = line-found n text next rest p (nat_lt 800000 n) (nat_lt 255 (length text)) refl refl e
+line_at-found n (text ∷ next ∷ rest) p e = line-found n text next rest p (nat_lt MOST_LINES n) (nat_lt LONGEST_LINE (length text)) refl refl e
 
 -- the text of a line and what follows
 pub join-line : (text : List ℕ) (rest : List (List ℕ)) → HasPart rest → join_with_byte 10 (text ∷ rest) ≡ text ++ 10 ∷ join_with_byte 10 rest
 join-line text rest p =
     subst (λ ps. join_with_byte 10 (text ∷ ps) ≡ text ++ 10 ∷ join_with_byte 10 ps) (sym p.all) refl
 
-pub line_at-text : (n : ℕ) (text more : List ℕ) → Lacks 10 text → n ≤ 800000 → length text ≤ 255 → line_at n (parts 10 (text ++ 10 ∷ more)) ≡ Ok (text, parts 10 more)
+pub line_at-text : (n : ℕ) (text more : List ℕ) → Lacks 10 text → n ≤ MOST_LINES → length text ≤ LONGEST_LINE
+    → line_at n (parts 10 (text ++ 10 ∷ more)) ≡ Ok (text, parts 10 more)
 line_at-text n text more plain few short =
     let p = some-part 10 more in
-    let in_time : nat_lt 800000 n ≡ false = grind (arith, nat_tests) in
-    let fits : nat_lt 255 (length text) ≡ false = grind (arith, nat_tests) in
+    let in_time : nat_lt MOST_LINES n ≡ false = grind (arith, nat_tests) in
+    let fits : nat_lt LONGEST_LINE (length text) ≡ false = grind (arith, nat_tests) in
     ap (line_at n) (parts-first 10 text more plain)
     ∙ subst (λ ps. line_at n (text ∷ ps) ≡ Ok (text, ps)) (sym p.all) (rw (in_time, fits) refl)
 
@@ -81,7 +85,8 @@ item-found v names text item e =
     let found = item_of-found v names (parts 32 text) item e in
     (ap (λ t. t ++ 10 ∷ []) (sym (join-spaced text) ∙ ap spaced found.0) ∙ sym (line-spaced (item_fields names item)), found.1)
 
-is_letter : ℕ → Bool
+-- a small letter
+unfoldable pub is_letter : ℕ → Bool
 is_letter b = nat_le 97 b && nat_le b 122
 
 -- a byte that no digit, no name and no word has, nor is it a colon or a slash
@@ -94,13 +99,26 @@ record IsApart (c : ℕ) : Type 0 where
 
 space : IsApart 32
 unfolding is_letter
-space = record { digit = λ d small e. omega (arith, e); letter = λ text e. lacks-all is_letter 32 text refl e; names = lacks-name 32 refl; position = (refl, tt); fraction = (refl, tt) }
+space = record {
+  digit = λ d small e. omega (arith, e);
+  letter = λ text e. lacks-all is_letter 32 text refl e;
+  names = lacks-name 32 refl;
+  position = (refl, tt);
+  fraction = (refl, tt);
+}
 
 feed : IsApart 10
 unfolding is_letter
-feed = record { digit = λ d small e. omega (arith, e); letter = λ text e. lacks-all is_letter 10 text refl e; names = lacks-name 10 refl; position = (refl, tt); fraction = (refl, tt) }
+feed = record {
+  digit = λ d small e. omega (arith, e);
+  letter = λ text e. lacks-all is_letter 10 text refl e;
+  names = lacks-name 10 refl;
+  position = (refl, tt);
+  fraction = (refl, tt);
+}
 
-name-of : (P : List ℕ → Type 0) → P [] → ((name : List ℕ) → is_name name ≡ true → P name) → (names : List (List ℕ)) (i : ℕ) → AreNames names → P (name_of names i)
+name-of : (P : List ℕ → Type 0) → P [] → ((name : List ℕ) → is_name name ≡ true → P name) → (names : List (List ℕ)) (i : ℕ)
+    → AreNames names → P (name_of names i)
 name-of P none each [] i h = none
 name-of P none each (name ∷ names) zero h = each name h.0
 name-of P none each (name ∷ names) (suc i) h = name-of P none each names i h.1
@@ -110,7 +128,8 @@ module _ (c : ℕ) (free : IsApart c) (names : List (List ℕ)) (named : AreName
   number = lacks-decimal c free.digit
 
   place : (q : Pos) → Lacks c (position_text q)
-  place q = lacks-append c (decimal q.tick ++ codes ":") (decimal q.offset) (lacks-append c (decimal q.tick) (codes ":") (number q.tick) free.position) (number q.offset)
+  place q = lacks-append c (decimal q.tick ++ codes ":") (decimal q.offset)
+      (lacks-append c (decimal q.tick) (codes ":") (number q.tick) free.position) (number q.offset)
 
   ratio : (num den : ℕ) → Lacks c (fraction_text num den)
   ratio num den = lacks-append c (decimal num ++ codes "/") (decimal den) (lacks-append c (decimal num) (codes "/") (number num) free.fraction) (number den)
@@ -118,18 +137,16 @@ module _ (c : ℕ) (free : IsApart c) (names : List (List ℕ)) (named : AreName
   task : (i : ℕ) → Lacks c (name_of names i)
   task i = name-of (Lacks c) tt free.names names i named
 
-  word : (text : List ℕ) → list_all is_letter text ≡ true → Lacks c text
-  word = free.letter
-
   lacks-fields : (item : Item) → AllByRecursion (Lacks c) (item_fields names item)
   unfolding is_letter
-  lacks-fields (Told (Release t i k)) = (word (codes "release") refl, (number t, (task i, (number k, tt))))
-  lacks-fields (Told (Speed t f num den)) = (word (codes "speed") refl, (number t, (number f, (ratio num den, tt))))
-  lacks-fields (Told (Run from to i k units energy)) = (word (codes "run") refl, (place from, (place to, (task i, (number k, (number units, (number energy, tt)))))))
-  lacks-fields (Told (Idle from to units energy)) = (word (codes "idle") refl, (place from, (place to, (number units, (number energy, tt)))))
-  lacks-fields (Told (Done q i k used)) = (word (codes "done") refl, (place q, (task i, (number k, (number used, tt)))))
-  lacks-fields (Told (End t run idle)) = (word (codes "end") refl, (number t, (number run, (number idle, tt))))
-  lacks-fields (Share i energy) = (word (codes "energy") refl, (task i, (number energy, tt)))
+  lacks-fields (Told (Release t i k)) = (free.letter (codes "release") refl, (number t, (task i, (number k, tt))))
+  lacks-fields (Told (Speed t f num den)) = (free.letter (codes "speed") refl, (number t, (number f, (ratio num den, tt))))
+  lacks-fields (Told (Run from to i k units energy)) =
+      (free.letter (codes "run") refl, (place from, (place to, (task i, (number k, (number units, (number energy, tt)))))))
+  lacks-fields (Told (Idle from to units energy)) = (free.letter (codes "idle") refl, (place from, (place to, (number units, (number energy, tt)))))
+  lacks-fields (Told (Done q i k used)) = (free.letter (codes "done") refl, (place q, (task i, (number k, (number used, tt)))))
+  lacks-fields (Told (End t run idle)) = (free.letter (codes "end") refl, (number t, (number run, (number idle, tt))))
+  lacks-fields (Share i energy) = (free.letter (codes "energy") refl, (task i, (number energy, tt)))
 
 -- the lengths of fields, with a byte after each
 abbrev pub lengths : List (List ℕ) → ℕ
@@ -144,11 +161,21 @@ length-spaced (field ∷ other ∷ fields) = omega (arith, length-append field (
 length-name_of : (names : List (List ℕ)) (i : ℕ) → AreNames names → length (name_of names i) ≤ 32
 length-name_of names i named = name-of (λ name. length name ≤ 32) (omega arith) length-name names i named
 
-lengths-item : (v : Version) (c : ℕ) (names : List (List ℕ)) (item : Item) → AreNames names → IsItemOf v c item → lengths (item_fields names item) ≤ 255
+lengths-item : (v : Version) (c : ℕ) (names : List (List ℕ)) (item : Item) → AreNames names → IsItemOf v c item
+    → lengths (item_fields names item) ≤ LONGEST_LINE
 lengths-item v c names (Told (Release t i k)) named h = omega (arith, length-decimal_u64 t h.0, length-name_of names i named, length-decimal_u64 k h.2)
-lengths-item v c names (Told (Speed t f num den)) named h = omega (arith, length-decimal_u64 t h.0, length-decimal_u64 f h.1, length-fraction_text num den h.2 h.3)
+lengths-item v c names (Told (Speed t f num den)) named h =
+    omega (arith, length-decimal_u64 t h.0, length-decimal_u64 f h.1, length-fraction_text num den h.2 h.3)
 lengths-item v c names (Told (Run from to i k units energy)) named h =
-    omega (arith, length-position_text from h.0.0 h.0.1, length-position_text to h.1.0 h.1.1, length-name_of names i named, length-decimal_u64 k h.3, length-decimal_u64 units h.4, length-decimal_u128 energy h.5)
+    omega (
+      arith,
+      length-position_text from h.0.0 h.0.1,
+      length-position_text to h.1.0 h.1.1,
+      length-name_of names i named,
+      length-decimal_u64 k h.3,
+      length-decimal_u64 units h.4,
+      length-decimal_u128 energy h.5,
+    )
 lengths-item v c names (Told (Idle from to units energy)) named h =
     omega (arith, length-position_text from h.0.0 h.0.1, length-position_text to h.1.0 h.1.1, length-decimal_u64 units h.2, length-decimal_u128 energy h.3)
 lengths-item v c names (Told (Done q i k used)) named h =
@@ -176,14 +203,16 @@ pub record IsRead (v : Version) (names : List (List ℕ)) (n : ℕ) (item : Item
   pub cut : parts 10 (item_text names item ++ more) ≡ text ∷ parts 10 more
   pub item_read : item_of v names (parts 32 text) ≡ Ok item
 
-pub item-read : (v : Version) (names : List (List ℕ)) (n : ℕ) (item : Item) (more : List ℕ) → AreNames names → AreApart names → IsItemOf v (length names) item → n ≤ 800000
+pub item-read : (v : Version) (names : List (List ℕ)) (n : ℕ) (item : Item) (more : List ℕ) → AreNames names → AreApart names
+    → IsItemOf v (length names) item → n ≤ MOST_LINES
     → IsRead v names n item more
 item-read v names n item more named apart fits few =
     let fields : List (List ℕ) = item_fields names item in
     let spaces : AllByRecursion (Lacks 32) fields = lacks-fields 32 space names named item in
     let feeds : AllByRecursion (Lacks 10) fields = lacks-fields 10 feed names named item in
-    let short : length (spaced fields) ≤ 255 = omega (arith, length-spaced fields, lengths-item v (length names) names item named fits) in
-    let whole : item_text names item ++ more ≡ spaced fields ++ 10 ∷ more = ap (λ t. t ++ more) (line-spaced fields) ∙ append_assoc (spaced fields) (10 ∷ []) more in
+    let short : length (spaced fields) ≤ LONGEST_LINE = omega (arith, length-spaced fields, lengths-item v (length names) names item named fits) in
+    let whole : item_text names item ++ more ≡ spaced fields ++ 10 ∷ more = ap (λ t. t ++ more) (line-spaced fields)
+    ∙ append_assoc (spaced fields) (10 ∷ []) more in
     record {
       text = spaced fields;
       line_read = ap (λ t. line_at n (parts 10 t)) whole ∙ line_at-text n (spaced fields) more (lacks-spaced fields feeds) few short;

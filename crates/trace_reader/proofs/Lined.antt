@@ -1,8 +1,9 @@
 -- The fields of a line with a space between each two, and its line feed.
-use Rattle.std.proofs.Common.{◌≡◌, ℕ, ◌-◌, Bool, true, false, List, [], ◌∷◌, ◌++◌, length, take, refl, sym, ap, ◌∙◌, append_assoc, length-append, arith, ◌&&◌}
+use Rattle.std.proofs.Common.{◌≡◌, ℕ, ◌-◌, List, [], ◌∷◌, ◌++◌, length, take, refl, sym, ap, ◌∙◌, append_assoc, length-append, arith, ◌&&◌}
 use Rattle.std.specs.Prelude.{nat_eq}
 use Rattle.std.specs.List.{join_with_byte}
 use Rattle.std.specs.Str.{bytes_eq}
+use Rattle.std.proofs.Math.Bool.{and-false}
 use Rattle.std.proofs.lemmas.List.{take_at}
 use Rattle.trace_text.specs.TraceLines.{line}
 
@@ -15,21 +16,18 @@ line-spaced (field ∷ []) = refl
 line-spaced (field ∷ other ∷ fields) =
     ap (λ l. field ++ (32 ∷ l)) (line-spaced (other ∷ fields)) ∙ sym (append_assoc field (32 ∷ spaced (other ∷ fields)) (10 ∷ []))
 
-and-false : (b : Bool) → false ≡ (b && false)
-and-false true = refl
-and-false false = refl
-
 -- texts are equal where they are with a line feed
 same-fed : (a b : List ℕ) → bytes_eq a b ≡ bytes_eq (a ++ (10 ∷ [])) (b ++ (10 ∷ []))
 same-fed [] [] = refl
-same-fed [] (y ∷ []) = and-false (nat_eq 10 y)
-same-fed [] (y ∷ z ∷ b) = and-false (nat_eq 10 y)
-same-fed (x ∷ []) [] = and-false (nat_eq x 10)
-same-fed (x ∷ w ∷ a) [] = and-false (nat_eq x 10)
+same-fed [] (y ∷ []) = sym (and-false (nat_eq 10 y))
+same-fed [] (y ∷ z ∷ b) = sym (and-false (nat_eq 10 y))
+same-fed (x ∷ []) [] = sym (and-false (nat_eq x 10))
+same-fed (x ∷ w ∷ a) [] = sym (and-false (nat_eq x 10))
 same-fed (x ∷ a) (y ∷ b) = ap (λ r. nat_eq x y && r) (same-fed a b)
 
 -- a text without its last byte, which is its line feed
-pub same-line : (l text : List ℕ) (fields : List (List ℕ)) → text ≡ line fields → bytes_eq l (take (length text - 1) text) ≡ bytes_eq (l ++ (10 ∷ [])) (line fields)
+pub same-line : (l text : List ℕ) (fields : List (List ℕ)) → text ≡ line fields
+    → bytes_eq l (take (length text - 1) text) ≡ bytes_eq (l ++ (10 ∷ [])) (line fields)
 same-line l text fields e =
     let body : List ℕ = spaced fields in
     let whole : text ≡ body ++ (10 ∷ []) = e ∙ line-spaced fields in

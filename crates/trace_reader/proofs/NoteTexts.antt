@@ -1,7 +1,8 @@
 -- The notes that are read are those of their text, and the text of notes is read.
 use Rattle.std.proofs.Common.{◌≡◌, ℕ, zero, suc, ◌+◌, ◌-◌, ◌^◌, ◌<◌, ◌≤◌, Bool, true, false, List, [], ◌∷◌, ◌++◌, length, drop, get_or, Result, Ok, Err, refl, sym, ap, ap₂, subst, ◌∙◌, append_assoc, arith, if◌then◌else◌}
-use Rattle.std.specs.Prelude.{nat_lt, ◌==◌, flat_map}
+use Rattle.std.specs.Prelude.{nat_lt, nat_le, ◌==◌, flat_map}
 use Rattle.std.specs.List.{AllByRecursion, join_with_byte}
+use Rattle.std.proofs.lemmas.Bool.{eq-eqb, eqb-true, le-leb, leb-true}
 use Rattle.std.proofs.lemmas.Bool.Decides.{nat_tests}
 use Rattle.std.proofs.lemmas.List.{append-nil}
 use Rattle.dvs_base.specs.Parts.{joined}
@@ -12,13 +13,14 @@ use Rattle.dvs_base.specs.declared.note.Note.{Note}
 use Rattle.dvs_base.specs.declared.note.Note.TheVariants.{Release, Speed, Run, Idle, Done, End}
 use Rattle.dvs_base.specs.declared.kind.Version.{Version}
 use Rattle.dvs_base.specs.declared.kind.Version.TheVariants.{One, Two}
+use Rattle.dvs_base.specs.declared.limits.TheConstants.{MOST_LINES, LONGEST_LINE}
 use Rattle.trace_reader.specs.declared.line.Item.{Item}
 use Rattle.trace_reader.specs.declared.line.Item.TheVariants.{Told, Share}
 use Rattle.trace_reader.specs.declared.trace.TraceFault.{TraceFault}
 use Rattle.trace_reader.specs.declared.trace.TraceFault.TheVariants.{Refused}
 use Rattle.trace_reader.specs.declared.trace.TraceKind.{TraceKind}
 use Rattle.trace_reader.specs.declared.trace.TraceKind.TheVariants as kind
-use Rattle.trace_reader.specs.Fields.{◌>>=◌, parts}
+use Rattle.trace_reader.specs.Fields.{parts}
 use Rattle.trace_reader.specs.Heads.{line_at, at_line}
 use Rattle.trace_reader.specs.Items.{item_of}
 use Rattle.trace_reader.specs.TraceFile.{SoFar, wanted, is_in_order, is_right_share, next_item, with_item, ends, is_nothing, notes_from}
@@ -39,15 +41,17 @@ record IsNextItem (v : Version) (names : List (List ℕ)) (s : SoFar) (fields : 
   order : is_in_order s.told (wanted v names) item ≡ true
   right : is_right_share s.notes item ≡ true
 
-checks : (order right : Bool) (x item : Item) → (if order then (if right then Ok x else Err kind.Share) else Err kind.Order) ≡ Ok item → (order ≡ true) × (right ≡ true) × (x ≡ item)
+checks : (order right : Bool) (x item : Item) → (if order then (if right then Ok x else Err kind.Share) else Err kind.Order) ≡ Ok item
+    → (order ≡ true) × (right ≡ true) × (x ≡ item)
 checks true true x item e = (refl, refl, ok-is {F = TraceKind} x item e)
 checks true false x item e = absurd cc
 checks false right x item e = absurd cc
 
-next_item-found : (v : Version) (names : List (List ℕ)) (s : SoFar) (fields : List (List ℕ)) (item : Item) → next_item v names s fields ≡ Ok item → IsNextItem v names s fields item
+next_item-found : (v : Version) (names : List (List ℕ)) (s : SoFar) (fields : List (List ℕ)) (item : Item)
+    → next_item v names s fields ≡ Ok item → IsNextItem v names s fields item
 unfolding next_item
 next_item-found v names s fields item e =
-    let a = step-ok (item_of v names fields) (λ x. if is_in_order s.told (wanted v names) x then (if is_right_share s.notes x then Ok x else Err kind.Share) else Err kind.Order) item e in
+    let a = step-ok _ _ item e in
     let c = checks (is_in_order s.told (wanted v names) a.0) (is_right_share s.notes a.0) a.0 item a.2 in
     subst (λ (x : Item). IsNextItem v names s fields x) c.2 (record { read = a.1; order = c.0; right = c.1 })
 
@@ -62,11 +66,7 @@ pub record Reads (v : Version) (names : List (List ℕ)) (n : ℕ) (s : SoFar) (
   pub none : 0 < s.told → body ≡ []
   pub text : join_with_byte 10 ps ≡ rest_text v names s.told s.notes body last
   pub widths : (i : ℕ) → s.told ≤ i → i < wanted v names → energy_of_task (s.notes ++ body) i < 2 ^ 128
-  pub lines : n + (length body + (wanted v names - s.told)) ≤ 800000
-
--- what was read so far tells no more energies than are wanted
-abbrev Fair : Version → List (List ℕ) → SoFar → Type 0
-Fair v names s = s.told ≤ wanted v names
+  pub lines : n + (length body + (wanted v names - s.told)) ≤ MOST_LINES
 
 nothing-is : (ps : List (List ℕ)) → is_nothing ps ≡ true → ps ≡ [] ∷ []
 nothing-is [] e = absurd cc
@@ -79,32 +79,36 @@ ended : (b : Bool) (notes all : List Note) (n : ℕ) → (if b then Ok notes els
 ended true notes all n e = (refl, ok-is {F = TraceFault} notes all e)
 ended false notes all n e = absurd cc
 
-order-end : (told w : ℕ) (n : Note) → is_end n ≡ true → is_in_order told w (Told n) ≡ true → w ≤ told
-order-end told w (Release t i k) end order = absurd cc
-order-end told w (Speed t f num den) end order = absurd cc
-order-end told w (Run from to i k units energy) end order = absurd cc
-order-end told w (Idle from to units energy) end order = absurd cc
-order-end told w (Done q i k used) end order = absurd cc
-order-end told w (End t run idle) end order = grind (arith, nat_tests)
+-- a note, by whether it ends the run
+ends-told : (n : Note) → ends (Told n) ≡ is_end n
+ends-told (Release t i k) = refl
+ends-told (Speed t f num den) = refl
+ends-told (Run from to i k units energy) = refl
+ends-told (Idle from to units energy) = refl
+ends-told (Done q i k used) = refl
+ends-told (End t run idle) = refl
 
-order-note : (told w : ℕ) (n : Note) → is_end n ≡ false → is_in_order told w (Told n) ≡ true → told ≡ 0
-order-note told w (Release t i k) other order = grind (arith, nat_tests)
-order-note told w (Speed t f num den) other order = grind (arith, nat_tests)
-order-note told w (Run from to i k units energy) other order = grind (arith, nat_tests)
-order-note told w (Idle from to units energy) other order = grind (arith, nat_tests)
-order-note told w (Done q i k used) other order = grind (arith, nat_tests)
-order-note told w (End t run idle) other order = absurd cc
+order-told : (told w : ℕ) (n : Note) (b : Bool) → is_end n ≡ b → is_in_order told w (Told n) ≡ (if b then nat_le w told else told == 0)
+order-told told w (Release t i k) b e = ap (λ (c : Bool). if c then nat_le w told else told == 0) e
+order-told told w (Speed t f num den) b e = ap (λ (c : Bool). if c then nat_le w told else told == 0) e
+order-told told w (Run from to i k units energy) b e = ap (λ (c : Bool). if c then nat_le w told else told == 0) e
+order-told told w (Idle from to units energy) b e = ap (λ (c : Bool). if c then nat_le w told else told == 0) e
+order-told told w (Done q i k used) b e = ap (λ (c : Bool). if c then nat_le w told else told == 0) e
+order-told told w (End t run idle) b e = ap (λ (c : Bool). if c then nat_le w told else told == 0) e
 
 note-line : (names : List (List ℕ)) (n : Note) → note_text names n ≡ item_text names (Told n)
 unfolding note_text
 note-line names n = refl
 
 -- the last note
-read-last : (v : Version) (names : List (List ℕ)) (n : ℕ) (s : SoFar) (text : List ℕ) (rest : List (List ℕ)) (last : Note) (all : List Note) → is_end last ≡ true
-    → IsLineOf n (text ∷ rest) text rest → IsNextItem v names s (parts 32 text) (Told last) → is_nothing rest ≡ true → s.notes ++ last ∷ [] ≡ all → Reads v names n s (text ∷ rest) all
+read-last : (v : Version) (names : List (List ℕ)) (n : ℕ) (s : SoFar) (text : List ℕ) (rest : List (List ℕ)) (last : Note) (all : List Note)
+    → is_end last ≡ true
+    → IsLineOf n (text ∷ rest) text rest → IsNextItem v names s (parts 32 text) (Told last) → is_nothing rest ≡ true
+    → s.notes ++ last ∷ [] ≡ all → Reads v names n s (text ∷ rest) all
 read-last v names n s text rest last all end read item nothing whole =
     let found = item-found v names text (Told last) item.read in
-    let told : wanted v names ≤ s.told = order-end s.told (wanted v names) last end item.order in
+    let told : wanted v names ≤ s.told =
+    leb-true (wanted v names) s.told (sym (order-told s.told (wanted v names) last true end) ∙ item.order) in
     let line : join_with_byte 10 (text ∷ rest) ≡ note_text names last =
     join-line text rest read.more ∙ (ap (λ ps. text ++ 10 ∷ join_with_byte 10 ps) (nothing-is rest nothing) ∙ (found.0 ∙ sym (note-line names last))) in
     record {
@@ -121,12 +125,13 @@ read-last v names n s text rest last all end read item nothing whole =
     }
 
 -- a note before the last
-read-note : (v : Version) (names : List (List ℕ)) (n : ℕ) (s : SoFar) (text : List ℕ) (rest : List (List ℕ)) (note : Note) (all : List Note) → is_end note ≡ false
+read-note : (v : Version) (names : List (List ℕ)) (n : ℕ) (s : SoFar) (text : List ℕ) (rest : List (List ℕ)) (note : Note) (all : List Note)
+    → is_end note ≡ false
     → IsLineOf n (text ∷ rest) text rest → IsNextItem v names s (parts 32 text) (Told note)
     → Reads v names (n + 1) (record { notes = s.notes ++ note ∷ []; told = s.told }) rest all → Reads v names n s (text ∷ rest) all
 read-note v names n s text rest note all other read item more =
     let found = item-found v names text (Told note) item.read in
-    let none : s.told ≡ 0 = order-note s.told (wanted v names) note other item.order in
+    let none : s.told ≡ 0 = eqb-true s.told 0 (sym (order-told s.told (wanted v names) note false other) ∙ item.order) in
     let joined_notes : (s.notes ++ note ∷ []) ++ more.body ≡ s.notes ++ note ∷ more.body = append_assoc s.notes (note ∷ []) more.body in
     let tail : List ℕ = joined (drop s.told (shares v names (s.notes ++ note ∷ more.body))) ++ note_text names more.last in
     let line : join_with_byte 10 (text ∷ rest) ≡ note_text names note ++ join_with_byte 10 rest =
@@ -140,19 +145,18 @@ read-note v names n s text rest note all other read item more =
       end = more.end;
       each = (found.1, more.each);
       none = λ some. absurd (omega arith);
-      text = line ∙ (ap (λ t. note_text names note ++ t) (more.text ∙ ap (λ ns. flat_map (note_text names) more.body ++ (joined (drop s.told (shares v names ns)) ++ note_text names more.last)) joined_notes)
+      text = line ∙ (ap (λ t. note_text names note ++ t) (more.text
+          ∙ ap (λ ns. flat_map (note_text names) more.body ++ (joined (drop s.told (shares v names ns)) ++ note_text names more.last)) joined_notes)
           ∙ sym (append_assoc (note_text names note) (flat_map (note_text names) more.body) tail));
       widths = λ i low high. subst (λ ns. energy_of_task ns i < 2 ^ 128) joined_notes (more.widths i low high);
       lines = omega (arith, more.lines);
     }
 
 share-facts : (v : Version) (names : List (List ℕ)) (notes : List Note) (told : ℕ) → v ≡ Two → told < length names
-    → (wanted v names ≡ length names) × (drop told (shares v names notes) ≡ share_text (name_of names told) (energy_of_task notes told) ∷ drop (told + 1) (shares v names notes))
+    → (wanted v names ≡ length names) × (drop told (shares v names notes)
+    ≡ share_text (name_of names told) (energy_of_task notes told) ∷ drop (told + 1) (shares v names notes))
 share-facts One names notes told e lt = absurd cc
 share-facts Two names notes told e lt = (refl, shares-next names notes told lt)
-
-same-number : (a b : ℕ) → (a == b) ≡ true → a ≡ b
-same-number a b e = grind (arith, nat_tests)
 
 -- the energy of a task has its width, and those after it have theirs
 share-widths : (notes body : List Note) (told j energy : ℕ) → body ≡ [] → energy ≡ energy_of_task notes told → energy < 2 ^ 128 → told ≤ j
@@ -172,8 +176,8 @@ read-share : (v : Version) (names : List (List ℕ)) (n : ℕ) (s : SoFar) (text
     → (s.told < wanted v names → Reads v names (n + 1) (record { notes = s.notes; told = s.told + 1 }) rest all) → Reads v names n s (text ∷ rest) all
 read-share v names n s text rest i energy all read item next =
     let found = item-found v names text (Share i energy) item.read in
-    let place : i ≡ s.told = same-number i s.told item.order in
-    let sum : energy ≡ energy_of_task s.notes i = same-number energy (energy_of_task s.notes i) item.right in
+    let place : i ≡ s.told = eqb-true i s.told item.order in
+    let sum : energy ≡ energy_of_task s.notes i = eqb-true energy (energy_of_task s.notes i) item.right in
     let within : s.told < length names = omega (arith, found.1.1) in
     let facts = share-facts v names (s.notes ++ []) s.told found.1.0 within in
     let wide : s.told < wanted v names = omega (arith, facts.0) in
@@ -195,44 +199,50 @@ read-share v names n s text rest i energy all read item next =
       text = line ∙ (ap₂ (λ t u. t ++ u) here (more.text ∙ ap (λ b. rest_text v names (s.told + 1) s.notes b more.last) none)
           ∙ (sym (append_assoc (share_text (name_of names s.told) (energy_of_task (s.notes ++ []) s.told)) (joined left) (note_text names more.last))
           ∙ ap (λ ls. joined ls ++ note_text names more.last) (sym facts.1)));
-      widths = λ j low high. share-widths s.notes more.body s.told j energy none (sum ∙ ap (energy_of_task s.notes) place) found.1.2 low (λ later. more.widths j later high);
+      widths = λ j low high. share-widths s.notes more.body s.told j energy none (sum ∙ ap (energy_of_task s.notes) place) found.1.2 low
+          (λ later. more.widths j later high);
       lines = omega (arith, more.lines);
     }
 
-item-step : (v : Version) (names : List (List ℕ)) (n : ℕ) (s : SoFar) (text : List ℕ) (rest : List (List ℕ)) (item : Item) (all : List Note) → IsLineOf n (text ∷ rest) text rest → IsNextItem v names s (parts 32 text) item
-    → (if ends item then (if is_nothing rest then Ok ((with_item s item).notes) else Err (Refused (n + 1) kind.AfterEnd)) else notes_from v names (n + 1) (with_item s item) rest) ≡ Ok all
+item-step : (v : Version) (names : List (List ℕ)) (n : ℕ) (s : SoFar) (text : List ℕ) (rest : List (List ℕ)) (item : Item) (all : List Note)
+    → IsLineOf n (text ∷ rest) text rest → IsNextItem v names s (parts 32 text) item
+    → (if ends item then (if is_nothing rest then Ok ((with_item s item).notes) else Err (Refused (n + 1) kind.AfterEnd))
+    else notes_from v names (n + 1) (with_item s item) rest) ≡ Ok all
     → ((t : SoFar) → notes_from v names (n + 1) t rest ≡ Ok all → Reads v names (n + 1) t rest all) → Reads v names n s (text ∷ rest) all
-item-step v names n s text rest (Share i energy) all read item e later = read-share v names n s text rest i energy all read item (λ _. later (record { notes = s.notes; told = s.told + 1 }) e)
-item-step v names n s text rest (Told (Release t i k)) all read item e later = read-note v names n s text rest (Release t i k) all refl read item (later (record { notes = s.notes ++ Release t i k ∷ []; told = s.told }) e)
-item-step v names n s text rest (Told (Speed t f num den)) all read item e later = read-note v names n s text rest (Speed t f num den) all refl read item (later (record { notes = s.notes ++ Speed t f num den ∷ []; told = s.told }) e)
-item-step v names n s text rest (Told (Run from to i k units energy)) all read item e later =
-    read-note v names n s text rest (Run from to i k units energy) all refl read item (later (record { notes = s.notes ++ Run from to i k units energy ∷ []; told = s.told }) e)
-item-step v names n s text rest (Told (Idle from to units energy)) all read item e later =
-    read-note v names n s text rest (Idle from to units energy) all refl read item (later (record { notes = s.notes ++ Idle from to units energy ∷ []; told = s.told }) e)
-item-step v names n s text rest (Told (Done q i k used)) all read item e later = read-note v names n s text rest (Done q i k used) all refl read item (later (record { notes = s.notes ++ Done q i k used ∷ []; told = s.told }) e)
-item-step v names n s text rest (Told (End t run idle)) all read item e later =
-    let last = ended (is_nothing rest) (s.notes ++ End t run idle ∷ []) all (n + 1) e in read-last v names n s text rest (End t run idle) all refl read item last.0 last.1
+item-step v names n s text rest (Share i energy) all read item e later = read-share v names n s text rest i energy all read item
+    (λ _. later (record { notes = s.notes; told = s.told + 1 }) e)
+item-step v names n s text rest (Told note) all read item e later = by (is_end note) refl
+  where
+    by : (b : Bool) → is_end note ≡ b → Reads v names n s (text ∷ rest) all
+    by true end =
+        let last = ended (is_nothing rest) (s.notes ++ note ∷ []) all (n + 1) (rw (ends-told note ∙ end) at e) in
+        read-last v names n s text rest note all end read item last.0 last.1
+    by false other = read-note v names n s text rest note all other read item
+        (later (record { notes = s.notes ++ note ∷ []; told = s.told }) (rw (ends-told note ∙ other) at e))
 
 -- the line and what follows it
-line-pair : (n : ℕ) (text : List ℕ) (rest : List (List ℕ)) (p : List ℕ × List (List ℕ)) → line_at n (text ∷ rest) ≡ Ok p → IsLineOf n (text ∷ rest) text rest × (p.0 ≡ text)
+line-pair : (n : ℕ) (text : List ℕ) (rest : List (List ℕ)) (p : List ℕ × List (List ℕ)) → line_at n (text ∷ rest) ≡ Ok p
+    → IsLineOf n (text ∷ rest) text rest × (p.0 ≡ text)
 line-pair n text rest p e =
     let read = line_at-found n (text ∷ rest) p e in
     let first : p.0 ≡ text = ap (λ ps. get_or ps 0 []) (sym read.all) in
     let others : p.1 ≡ rest = ap (λ ps. drop 1 ps) (sym read.all) in
-    (record { all = refl; more = subst HasPart others read.more; few = read.few; short = subst (λ t. length t ≤ 255) first read.short }, first)
+    (record { all = refl; more = subst HasPart others read.more; few = read.few; short = subst (λ t. length t ≤ LONGEST_LINE) first read.short }, first)
 
 -- what follows a line that tells an item
 abbrev after_item : Version → List (List ℕ) → ℕ → SoFar → List (List ℕ) → Item → Result (List Note) TraceFault
 after_item v names n s rest item =
-    if ends item then (if is_nothing rest then Ok ((with_item s item).notes) else Err (Refused (n + 1) kind.AfterEnd)) else notes_from v names (n + 1) (with_item s item) rest
+    if ends item then (if is_nothing rest then Ok ((with_item s item).notes) else Err (Refused (n + 1) kind.AfterEnd))
+    else notes_from v names (n + 1) (with_item s item) rest
 
 -- the notes that are read are those of their text
-pub notes_from-found : (v : Version) (names : List (List ℕ)) (n : ℕ) (s : SoFar) (ps : List (List ℕ)) (all : List Note) → notes_from v names n s ps ≡ Ok all → Reads v names n s ps all
+pub notes_from-found : (v : Version) (names : List (List ℕ)) (n : ℕ) (s : SoFar) (ps : List (List ℕ)) (all : List Note)
+    → notes_from v names n s ps ≡ Ok all → Reads v names n s ps all
 unfolding notes_from
 notes_from-found v names n s [] all e = absurd cc
 notes_from-found v names n s (text ∷ rest) all e =
-    let a = step-ok (line_at n (text ∷ rest)) (λ first. at_line n (next_item v names s (parts 32 first.0)) >>= after_item v names n s rest) all e in
-    let b = step-ok (at_line n (next_item v names s (parts 32 a.0.0))) (after_item v names n s rest) all a.2 in
+    let a = step-ok _ _ all e in
+    let b = step-ok _ _ all a.2 in
     let line = line-pair n text rest a.0 a.1 in
     let item = next_item-found v names s (parts 32 a.0.0) b.0 (at_line-ok n (next_item v names s (parts 32 a.0.0)) b.0 b.1) in
     item-step v names n s text rest b.0 all line.0 (subst (λ t. IsNextItem v names s (parts 32 t) b.0) line.1 item) b.2
@@ -242,12 +252,10 @@ notes_from-found v names n s (text ∷ rest) all e =
 abbrev pub answer : ℕ → List Note → List ℕ → Result (List Note) TraceFault
 answer n all more = if is_nothing (parts 10 more) then Ok all else Err (Refused n kind.AfterEnd)
 
-same-true : (n : ℕ) → (n == n) ≡ true
-same-true n = grind (arith, nat_tests)
-
 module _ (v : Version) (names : List (List ℕ)) (named : AreNames names) (apart : AreApart names) where
   -- the line of an item that may come next is read
-  item-next : (n : ℕ) (s : SoFar) (item : Item) (more : List ℕ) → IsItemOf v (length names) item → n ≤ 800000 → is_in_order s.told (wanted v names) item ≡ true → is_right_share s.notes item ≡ true
+  item-next : (n : ℕ) (s : SoFar) (item : Item) (more : List ℕ) → IsItemOf v (length names) item → n ≤ MOST_LINES
+      → is_in_order s.told (wanted v names) item ≡ true → is_right_share s.notes item ≡ true
       → notes_from v names n s (parts 10 (item_text names item ++ more)) ≡ after_item v names n s (parts 10 more) item
   unfolding notes_from next_item
   item-next n s item more fits few order right =
@@ -256,28 +264,16 @@ module _ (v : Version) (names : List (List ℕ)) (named : AreNames names) (apart
       let checked : next_item v names s (parts 32 r.text) ≡ Ok item = rw (r.item_read, order, right) refl in
       ap (notes_from v names n s) r.cut ∙ rw (line, checked) refl
 
-  end-order : (told : ℕ) (last : Note) → is_end last ≡ true → wanted v names ≤ told → is_in_order told (wanted v names) (Told last) ≡ true
-  end-order told (Release t i k) end h = absurd cc
-  end-order told (Speed t f num den) end h = absurd cc
-  end-order told (Run from to i k units energy) end h = absurd cc
-  end-order told (Idle from to units energy) end h = absurd cc
-  end-order told (Done q i k used) end h = absurd cc
-  end-order told (End t run idle) end h = grind (arith, nat_tests)
-
-  end-after : (n : ℕ) (s : SoFar) (last : Note) (more : List ℕ) → is_end last ≡ true → after_item v names n s (parts 10 more) (Told last) ≡ answer (n + 1) (s.notes ++ last ∷ []) more
-  end-after n s (Release t i k) more end = absurd cc
-  end-after n s (Speed t f num den) more end = absurd cc
-  end-after n s (Run from to i k units energy) more end = absurd cc
-  end-after n s (Idle from to units energy) more end = absurd cc
-  end-after n s (Done q i k used) more end = absurd cc
-  end-after n s (End t run idle) more end = refl
+  end-after : (n : ℕ) (s : SoFar) (last : Note) (more : List ℕ) → is_end last ≡ true
+      → after_item v names n s (parts 10 more) (Told last) ≡ answer (n + 1) (s.notes ++ last ∷ []) more
+  end-after n s last more end = rw (ends-told last ∙ end) refl
 
   -- the last note
-  last-text : (n : ℕ) (s : SoFar) (last : Note) (more : List ℕ) → is_end last ≡ true → IsNoteOf (length names) last → wanted v names ≤ s.told → n ≤ 800000
+  last-text : (n : ℕ) (s : SoFar) (last : Note) (more : List ℕ) → is_end last ≡ true → IsNoteOf (length names) last → wanted v names ≤ s.told → n ≤ MOST_LINES
       → notes_from v names n s (parts 10 (note_text names last ++ more)) ≡ answer (n + 1) (s.notes ++ last ∷ []) more
   last-text n s last more end fits told few =
       ap (λ t. notes_from v names n s (parts 10 (t ++ more))) (note-line names last)
-      ∙ (item-next n s (Told last) more fits few (end-order s.told last end told) refl
+      ∙ (item-next n s (Told last) more fits few (order-told s.told (wanted v names) last true end ∙ le-leb (wanted v names) s.told told) refl
       ∙ end-after n s last more end)
 
   two-wanted : (w : Version) (told : ℕ) → told < wanted w names → (w ≡ Two) × (told < length names)
@@ -286,8 +282,9 @@ module _ (v : Version) (names : List (List ℕ)) (named : AreNames names) (apart
 
   -- the energies that are left, and then the last note
   shares-text : (k n : ℕ) (s : SoFar) (last : Note) (more : List ℕ) → wanted v names - s.told ≡ k → is_end last ≡ true → IsNoteOf (length names) last
-      → ((i : ℕ) → s.told ≤ i → i < wanted v names → energy_of_task s.notes i < 2 ^ 128) → n + k ≤ 800000
-      → notes_from v names n s (parts 10 ((joined (drop s.told (shares v names s.notes)) ++ note_text names last) ++ more)) ≡ answer (n + k + 1) (s.notes ++ last ∷ []) more
+      → ((i : ℕ) → s.told ≤ i → i < wanted v names → energy_of_task s.notes i < 2 ^ 128) → n + k ≤ MOST_LINES
+      → notes_from v names n s (parts 10 ((joined (drop s.told (shares v names s.notes)) ++ note_text names last) ++ more)) ≡ answer
+      (n + k + 1) (s.notes ++ last ∷ []) more
   shares-text zero n s last more left end fits widths few =
       let told : wanted v names ≤ s.told = omega arith in
       let here : n + 1 ≡ n + 0 + 1 = omega arith in
@@ -309,49 +306,45 @@ module _ (v : Version) (names : List (List ℕ)) (named : AreNames names) (apart
       let later = shares-text k (n + 1) next last more (omega arith) end fits (λ i low high. widths i (omega arith) high) (omega arith) in
       let here : n + 1 + k + 1 ≡ n + suc k + 1 = omega arith in
       ap (λ t. notes_from v names n s (parts 10 t)) text
-      ∙ (item-next n s item (rest ++ more) (two.0, two.1, widths s.told (omega arith) wide) (omega arith) (same-true s.told) (same-true energy)
+      ∙ (item-next n s item (rest ++ more) (two.0, two.1, widths s.told (omega arith) wide) (omega arith)
+      (eq-eqb s.told s.told refl) (eq-eqb energy energy refl)
       ∙ (later ∙ ap (λ m. answer m (s.notes ++ last ∷ []) more) here))
-
-  note-order : (told : ℕ) (note : Note) → is_end note ≡ false → told ≡ 0 → is_in_order told (wanted v names) (Told note) ≡ true
-  note-order told (Release t i k) other none = grind (arith, nat_tests)
-  note-order told (Speed t f num den) other none = grind (arith, nat_tests)
-  note-order told (Run from to i k units energy) other none = grind (arith, nat_tests)
-  note-order told (Idle from to units energy) other none = grind (arith, nat_tests)
-  note-order told (Done q i k used) other none = grind (arith, nat_tests)
-  note-order told (End t run idle) other none = absurd cc
 
   note-after : (n : ℕ) (s : SoFar) (note : Note) (rest : List (List ℕ)) → is_end note ≡ false
       → after_item v names n s rest (Told note) ≡ notes_from v names (n + 1) (record { notes = s.notes ++ note ∷ []; told = s.told }) rest
-  note-after n s (Release t i k) rest other = refl
-  note-after n s (Speed t f num den) rest other = refl
-  note-after n s (Run from to i k units energy) rest other = refl
-  note-after n s (Idle from to units energy) rest other = refl
-  note-after n s (Done q i k used) rest other = refl
-  note-after n s (End t run idle) rest other = absurd cc
+  note-after n s note rest other = rw (ends-told note ∙ other) refl
 
   -- the notes, the energies and the last note
-  pub notes_from-text : (n : ℕ) (s : SoFar) (body : List Note) (last : Note) (more : List ℕ) → s.told ≡ 0 → AllByRecursion (λ m. is_end m ≡ false) body → is_end last ≡ true
-      → AllByRecursion (IsNoteOf (length names)) (body ++ last ∷ []) → ((i : ℕ) → i < wanted v names → energy_of_task (s.notes ++ body) i < 2 ^ 128) → n + (length body + wanted v names) ≤ 800000
-      → notes_from v names n s (parts 10 (rest_text v names s.told s.notes body last ++ more)) ≡ answer (n + (length body + wanted v names) + 1) (s.notes ++ (body ++ last ∷ [])) more
+  pub notes_from-text : (n : ℕ) (s : SoFar) (body : List Note) (last : Note) (more : List ℕ) → s.told ≡ 0
+      → AllByRecursion (λ m. is_end m ≡ false) body → is_end last ≡ true
+      → AllByRecursion (IsNoteOf (length names)) (body ++ last ∷ [])
+      → ((i : ℕ) → i < wanted v names → energy_of_task (s.notes ++ body) i < 2 ^ 128) → n + (length body + wanted v names) ≤ MOST_LINES
+      → notes_from v names n s (parts 10 (rest_text v names s.told s.notes body last ++ more)) ≡ answer
+      (n + (length body + wanted v names) + 1) (s.notes ++ (body ++ last ∷ [])) more
   notes_from-text n s [] last more none no_end end each widths few =
       let same : s.notes ++ [] ≡ s.notes = append-nil s.notes in
       let here : n + wanted v names + 1 ≡ n + (0 + wanted v names) + 1 = omega arith in
       ap (λ ns. notes_from v names n s (parts 10 ((joined (drop s.told (shares v names ns)) ++ note_text names last) ++ more))) same
-      ∙ (shares-text (wanted v names) n s last more (omega arith) end each.0 (λ i low high. subst (λ ns. energy_of_task ns i < 2 ^ 128) same (widths i high)) (omega arith)
+      ∙ (shares-text (wanted v names) n s last more (omega arith) end each.0
+      (λ i low high. subst (λ ns. energy_of_task ns i < 2 ^ 128) same (widths i high)) (omega arith)
       ∙ ap (λ m. answer m (s.notes ++ last ∷ []) more) here)
   notes_from-text n s (note ∷ body) last more none no_end end each widths few =
       let next : SoFar = record { notes = s.notes ++ note ∷ []; told = s.told } in
       let regrouped : (s.notes ++ note ∷ []) ++ body ≡ s.notes ++ note ∷ body = append_assoc s.notes (note ∷ []) body in
       let front : List ℕ = flat_map (note_text names) body in
       let tail : List ℕ = joined (drop s.told (shares v names (s.notes ++ note ∷ body))) ++ note_text names last in
-      let text : rest_text v names s.told s.notes (note ∷ body) last ++ more ≡ item_text names (Told note) ++ (rest_text v names s.told next.notes body last ++ more) =
+      let text : rest_text v names s.told s.notes (note ∷ body) last ++ more
+      ≡ item_text names (Told note) ++ (rest_text v names s.told next.notes body last ++ more) =
       ap (λ t. t ++ more) (append_assoc (note_text names note) front tail)
       ∙ (append_assoc (note_text names note) (front ++ tail) more
       ∙ ap₂ (λ t ns. t ++ ((front ++ (joined (drop s.told (shares v names ns)) ++ note_text names last)) ++ more)) (note-line names note) (sym regrouped)) in
-      let later = notes_from-text (n + 1) next body last more none no_end.1 end each.1 (λ i high. subst (λ ns. energy_of_task ns i < 2 ^ 128) (sym regrouped) (widths i high)) (omega arith) in
+      let later = notes_from-text (n + 1) next body last more none no_end.1 end each.1
+      (λ i high. subst (λ ns. energy_of_task ns i < 2 ^ 128) (sym regrouped) (widths i high)) (omega arith) in
       let here : n + 1 + (length body + wanted v names) + 1 ≡ n + (suc (length body) + wanted v names) + 1 = omega arith in
-      let whole : (s.notes ++ note ∷ []) ++ (body ++ last ∷ []) ≡ s.notes ++ note ∷ (body ++ last ∷ []) = append_assoc s.notes (note ∷ []) (body ++ last ∷ []) in
+      let whole : (s.notes ++ note ∷ []) ++ (body ++ last ∷ []) ≡ s.notes ++ note ∷ (body ++ last ∷ []) =
+      append_assoc s.notes (note ∷ []) (body ++ last ∷ []) in
       ap (λ t. notes_from v names n s (parts 10 t)) text
-      ∙ (item-next n s (Told note) (rest_text v names s.told next.notes body last ++ more) each.0 (omega arith) (note-order s.told note no_end.0 none) refl
+      ∙ (item-next n s (Told note) (rest_text v names s.told next.notes body last ++ more) each.0 (omega arith)
+      (order-told s.told (wanted v names) note false no_end.0 ∙ eq-eqb s.told 0 none) refl
       ∙ (note-after n s note (parts 10 (rest_text v names s.told next.notes body last ++ more)) no_end.0
       ∙ (later ∙ ap₂ (λ m ns. answer m ns more) here whole)))

@@ -1,13 +1,14 @@
 -- Texts in which a byte doesn't stand, and how they are split.
-use Rattle.std.proofs.Common.{◌≡◌, ◌≢◌, ℕ, zero, suc, ◌+◌, ◌/◌, ◌%◌, ◌<◌, ◌≤◌, Bool, true, false, ◌&&◌, List, [], ◌∷◌, ◌++◌, length, All, refl, ap, ◌∙◌, arith, if◌then◌else◌}
-use Rattle.std.specs.Prelude.{◌==◌, nat_lt, nat_le, decimal}
+use Rattle.std.proofs.Common.{◌≡◌, ◌≢◌, ℕ, zero, suc, ◌+◌, ◌/◌, ◌%◌, ◌<◌, ◌≤◌, Bool, true, false, List, [], ◌∷◌, ◌++◌, length, All, refl, ap, ◌∙◌, arith, if◌then◌else◌}
+use Rattle.std.specs.Prelude.{◌==◌, nat_lt, decimal}
 use Rattle.std.specs.Fmt.{digit_glyph, digits_onto, digits}
 use Rattle.std.specs.List.{AllByRecursion, list_all, join_with_byte}
-use Rattle.std.proofs.lemmas.Bool.{and_parts}
+use Rattle.std.proofs.lemmas.Bool.{and_parts, eq-eqb}
 use Rattle.std.proofs.lemmas.Bool.Decides.{nat_tests}
 use Rattle.std.proofs.lemmas.List.Elements.{All-from_recursion}
 use Rattle.std.proofs.lemmas.List.Splits.{slice_split_at, slice_split_none}
 use Rattle.dvs_base.specs.Text.{is_name, is_name_byte}
+use Rattle.dvs_base.proofs.Names.{name-parts}
 use Rattle.trace_reader.specs.Fields.{parts}
 use Rattle.trace_reader.proofs.Lined.{spaced}
 
@@ -55,7 +56,8 @@ lacks-decimal c free n = lacks-digits c free 64 n [] tt
 
 length-digits : (k n : ℕ) (acc : List ℕ) → length (digits_onto k 10 false n acc) ≤ k + length acc
 length-digits zero n acc = omega arith
-length-digits (suc k) n acc = either (n / 10 == 0) _ _ (omega arith) (let more = length-digits k (n / 10) (digit_glyph false (n % 10) ∷ acc) in omega (arith, more))
+length-digits (suc k) n acc = either (n / 10 == 0) _ _ (omega arith)
+    (let more = length-digits k (n / 10) (digit_glyph false (n % 10) ∷ acc) in omega (arith, more))
   where
     either : (b : Bool) (xs ys : List ℕ) → length xs ≤ suc k + length acc → length ys ≤ suc k + length acc → length (if b then xs else ys) ≤ suc k + length acc
     either true xs ys p q = p
@@ -65,23 +67,11 @@ pub length-decimal : (n : ℕ) → length (decimal n) ≤ 64
 unfolding digits
 length-decimal n = omega (arith, length-digits 64 n [])
 
-name-parts : (name : List ℕ) → is_name name ≡ true → (length name ≤ 32) × (list_all is_name_byte name ≡ true)
-name-parts name e =
-    let all = and_parts (nat_le 1 (length name) && nat_le (length name) 32) (list_all is_name_byte name) e in
-    let ends = and_parts (nat_le 1 (length name)) (nat_le (length name) 32) all.0 in
-    (grind (arith, nat_tests), all.1)
-
-pub length-name : (name : List ℕ) → is_name name ≡ true → length name ≤ 32
-length-name name e = (name-parts name e).0
-
 pub lacks-name : (c : ℕ) → is_name_byte c ≡ false → (name : List ℕ) → is_name name ≡ true → Lacks c name
 lacks-name c none name e = lacks-all is_name_byte c name none (name-parts name e).1
 
 lacked : (c : ℕ) (text : List ℕ) → Lacks c text → All (λ b. (b == c) ≡ false) text
 lacked c text h = All-from_recursion (λ b. (b == c) ≡ false) text h
-
-same-byte : (c : ℕ) → (c == c) ≡ true
-same-byte c = grind (arith, nat_tests)
 
 -- a text without the byte is one part
 pub parts-alone : (c : ℕ) (text : List ℕ) → Lacks c text → parts c text ≡ text ∷ []
@@ -89,10 +79,11 @@ parts-alone c text h = slice_split_none (λ b. b == c) text (lacked c text h)
 
 -- the first part ends at the first such byte
 pub parts-first : (c : ℕ) (text more : List ℕ) → Lacks c text → parts c (text ++ c ∷ more) ≡ text ∷ parts c more
-parts-first c text more h = slice_split_at (λ b. b == c) text c more (lacked c text h) (same-byte c)
+parts-first c text more h = slice_split_at (λ b. b == c) text c more (lacked c text h) (eq-eqb c c refl)
 
 -- texts that are joined by a byte that stands in none of them are its parts
-pub parts-joined : (c : ℕ) (first : List ℕ) (rest : List (List ℕ)) → AllByRecursion (Lacks c) (first ∷ rest) → parts c (join_with_byte c (first ∷ rest)) ≡ first ∷ rest
+pub parts-joined : (c : ℕ) (first : List ℕ) (rest : List (List ℕ)) → AllByRecursion (Lacks c) (first ∷ rest)
+    → parts c (join_with_byte c (first ∷ rest)) ≡ first ∷ rest
 parts-joined c first [] h = parts-alone c first h.0
 parts-joined c first (second ∷ rest) h =
     parts-first c first (join_with_byte c (second ∷ rest)) h.0 ∙ ap (λ ps. first ∷ ps) (parts-joined c second rest h.1)

@@ -2,6 +2,7 @@
 use Rattle.std.proofs.Common.{◌≡◌, ℕ, zero, suc, ◌<◌, Bool, true, false, List, [], ◌∷◌, length, drop, Result, Ok, Err, refl, arith, if◌then◌else◌}
 use Rattle.std.specs.Prelude.{nat_lt, ◌==◌}
 use Rattle.std.specs.List.{onto_first}
+use Rattle.dvs_base.specs.declared.limits.TheConstants.{MOST_LINES, LONGEST_LINE}
 use Rattle.trace_reader.specs.declared.trace.TraceFault.{TraceFault}
 use Rattle.trace_reader.specs.declared.trace.TraceFault.TheVariants.{Refused}
 use Rattle.trace_reader.specs.declared.trace.TraceKind.TheVariants as kind
@@ -16,8 +17,8 @@ use Rattle.trace_reader.proofs.Splitting.{HasPart, some-part}
 -- a part that others follow is a line
 abbrev pub checked_line : ℕ → List ℕ → List (List ℕ) → Result (List ℕ × List (List ℕ)) TraceFault
 checked_line n line rest =
-    if nat_lt 800000 n then Err (Refused n kind.TooMany)
-    else (if nat_lt 255 (length line) then Err (Refused n kind.TooLong)
+    if nat_lt MOST_LINES n then Err (Refused n kind.TooMany)
+    else (if nat_lt LONGEST_LINE (length line) then Err (Refused n kind.TooLong)
     else Ok (line, rest))
 
 pub line_at-more : (n : ℕ) (line text : List ℕ) → line_at n (line ∷ parts 10 text) ≡ checked_line n line (parts 10 text)
@@ -36,7 +37,8 @@ some-task_line (name ∷ names) (t ∷ tasks) (suc i) lt e =
     let more = some-task_line names tasks i (omega arith) (omega arith) in record { first = more.first; all = more.all }
 
 -- a line that is refused where a task's stands
-pub tasks-refused : (n : ℕ) (names : List (List ℕ)) (tasks : List TaskLine) (i : ℕ) (rest : List (List ℕ)) (e : TraceFault) → i < length names → length tasks ≡ length names
+pub tasks-refused : (n : ℕ) (names : List (List ℕ)) (tasks : List TaskLine) (i : ℕ) (rest : List (List ℕ)) (e : TraceFault)
+    → i < length names → length tasks ≡ length names
     → line_at n rest ≡ Err e → tasks_from n (task_lines (drop i names) (drop i tasks)) rest ≡ Err e
 unfolding tasks_from
 tasks-refused n names tasks i rest e lt same h = let t = some-task_line names tasks i lt same in rw (t.all, h) refl

@@ -2,7 +2,7 @@
 use Rattle.std.proofs.Common.{◌≡◌, ℕ, zero, suc, ◌+◌, ◌<◌, ◌≤◌, true, false, List, [], ◌∷◌, ◌++◌, length, drop, refl, sym, ap, ap₂, ◌∙◌, append_assoc, arith}
 use Rattle.std.specs.Prelude.{flat_map}
 use Rattle.std.specs.List.{AllByRecursion}
-use Rattle.std.proofs.lemmas.List.{append-nil}
+use Rattle.std.proofs.lemmas.List.{append-nil, drop_all}
 use Rattle.dvs_base.specs.Parts.{joined}
 use Rattle.trace_text.specs.TraceLines.{note_text, name_of}
 use Rattle.trace_reader.specs.VersionLines.{share_text}
@@ -34,7 +34,8 @@ energy-end notes (Done q j k used) i e = absurd cc
 energy-end notes (End t run idle) i e = energy-more notes (End t run idle) i ∙ omega arith
 
 -- energies that are the same have the same lines
-pub shares-same : (a b : List Note) (i : ℕ) (names : List (List ℕ)) → ((j : ℕ) → energy_of_task a j ≡ energy_of_task b j) → shares_from a i names ≡ shares_from b i names
+pub shares-same : (a b : List Note) (i : ℕ) (names : List (List ℕ)) → ((j : ℕ) → energy_of_task a j ≡ energy_of_task b j)
+    → shares_from a i names ≡ shares_from b i names
 shares-same a b i [] same = refl
 shares-same a b i (name ∷ names) same = ap₂ (λ e rest. share_text name e ∷ rest) (same i) (shares-same a b (i + 1) names same)
 
@@ -42,16 +43,10 @@ length-shares : (notes : List Note) (i : ℕ) (names : List (List ℕ)) → leng
 length-shares notes i [] = refl
 length-shares notes i (name ∷ names) = ap suc (length-shares notes (i + 1) names)
 
-drop-past : {A : Type 0} (xs : List A) (n : ℕ) → length xs ≤ n → drop n xs ≡ []
-drop-past [] zero h = refl
-drop-past [] (suc n) h = refl
-drop-past (x ∷ xs) zero h = absurd (omega arith)
-drop-past (x ∷ xs) (suc n) h = drop-past xs n (omega arith)
-
 -- no line is left after as many as are wanted
 pub shares-told : (v : Version) (names : List (List ℕ)) (notes : List Note) (told : ℕ) → wanted v names ≤ told → drop told (shares v names notes) ≡ []
-shares-told One names notes told h = drop-past [] told (omega arith)
-shares-told Two names notes told h = drop-past (shares_from notes 0 names) told (omega (arith, length-shares notes 0 names))
+shares-told One names notes told h = drop_all told [] (omega arith)
+shares-told Two names notes told h = drop_all told (shares_from notes 0 names) (omega (arith, length-shares notes 0 names))
 
 drop-from : (notes : List Note) (i j : ℕ) (names : List (List ℕ)) → j < length names
     → drop j (shares_from notes i names) ≡ share_text (name_of names j) (energy_of_task notes (i + j)) ∷ drop (suc j) (shares_from notes i names)
@@ -86,7 +81,8 @@ told-body v names all (n ∷ body) last h =
     plain Two (Done q j k used) e = refl
     plain Two (End t run idle) e = absurd cc
 
-told-last : (v : Version) (names : List (List ℕ)) (all : List Note) (last : Note) → is_end last ≡ true → told_text v names all last ≡ joined (shares v names all) ++ note_text names last
+told-last : (v : Version) (names : List (List ℕ)) (all : List Note) (last : Note) → is_end last ≡ true
+    → told_text v names all last ≡ joined (shares v names all) ++ note_text names last
 told-last One names all last e = refl
 told-last Two names all (Release t j k) e = absurd cc
 told-last Two names all (Speed t f num den) e = absurd cc
@@ -95,7 +91,8 @@ told-last Two names all (Idle from to units energy) e = absurd cc
 told-last Two names all (Done q j k used) e = absurd cc
 told-last Two names all (End t run idle) e = refl
 
-shares-before : (v : Version) (names : List (List ℕ)) (body : List Note) (last : Note) → is_end last ≡ true → shares v names (body ++ last ∷ []) ≡ shares v names body
+shares-before : (v : Version) (names : List (List ℕ)) (body : List Note) (last : Note) → is_end last ≡ true
+    → shares v names (body ++ last ∷ []) ≡ shares v names body
 shares-before One names body last e = refl
 shares-before Two names body last e = shares-same (body ++ last ∷ []) body 0 names (λ j. energy-end body last j e)
 

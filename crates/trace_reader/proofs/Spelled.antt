@@ -61,7 +61,8 @@ decimal-read_on m (c ∷ cs) above h fits =
     let next : ℕ = m * 10 + (c - 48) in
     let front : next / 10 ≡ m = omega (arith, range.0, range.1) in
     let last : 48 + next % 10 ≡ c = omega (arith, range.0, range.1) in
-    let step : decimal next ≡ decimal m ++ c ∷ [] = decimal_step_wide next (omega arith) (omega (arith, read_on-le next cs)) ∙ ap₂ (λ a b. decimal a ++ b ∷ []) front last in
+    let step : decimal next ≡ decimal m ++ c ∷ [] = decimal_step_wide next (omega arith) (omega (arith, read_on-le next cs))
+    ∙ ap₂ (λ a b. decimal a ++ b ∷ []) front last in
     decimal-read_on next cs (omega arith) parts.1 fits ∙ (ap (λ ds. ds ++ cs) step ∙ append_assoc (decimal m) (c ∷ []) cs)
 
 -- what is spelled is the text of its value
@@ -75,7 +76,8 @@ decimal-spelled (c ∷ d ∷ cs) h fits =
     let all = and_parts (is_ascii_digit c) (list_all is_ascii_digit (d ∷ cs)) parts.1 in
     let range = digit-range c all.0 in
     let other : c ≢ 48 = grind (arith, nat_tests) in
-    let first : decimal (0 * 10 + (c - 48)) ≡ c ∷ [] = decimal_digit (0 * 10 + (c - 48)) (omega (arith, range.0, range.1)) ∙ ap (λ d. d ∷ []) (omega (arith, range.0, range.1)) in
+    let first : decimal (0 * 10 + (c - 48)) ≡ c ∷ [] = decimal_digit (0 * 10 + (c - 48)) (omega (arith, range.0, range.1))
+    ∙ ap (λ d. d ∷ []) (omega (arith, range.0, range.1)) in
     decimal-read_on (0 * 10 + (c - 48)) (d ∷ cs) (omega (arith, range.0, range.1)) all.1 fits ∙ ap (λ ds. ds ++ (d ∷ cs)) first
 
 number-found : (limit : ℕ) (bs : List ℕ) (n : ℕ) (spelled below : Bool) → is_spelled bs ≡ spelled → nat_lt (read_on 0 bs) limit ≡ below

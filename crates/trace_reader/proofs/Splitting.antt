@@ -5,7 +5,7 @@ use Rattle.std.specs.List.{position_or_len}
 use Rattle.std.proofs.lemmas.List.Splits.{slice_split_first, slice_split_none, length-slice_split}
 use Rattle.std.proofs.lemmas.List.Sums.{fails_before_first}
 use Rattle.std.proofs.lemmas.Bool.Decides.{nat_tests}
-use Rattle.trace_reader.specs.Fields.{parts, one_of, two_of, three_of, four_of, six_of}
+use Rattle.trace_reader.specs.Fields.{parts, one_of, three_of, four_of, six_of}
 
 module _ (byte : ℕ) (text : List ℕ) where
   abbrev at_byte : ℕ → Bool
@@ -39,17 +39,6 @@ some-part byte text = by (parts byte text) (length-slice_split (λ b. b == byte)
 pub one_of-more : (a : List ℕ) (byte : ℕ) (text : List ℕ) → one_of (a ∷ parts byte text) ≡ None
 one_of-more a byte text = let p = some-part byte text in rw p.all refl
 
-pub two_of-more : (a : List ℕ) (found : List (List ℕ)) → two_of (a ∷ found) ≡ option_map (λ b. (a, b)) (one_of found)
-two_of-more a [] = refl
-two_of-more a (x ∷ []) = refl
-two_of-more a (x ∷ y ∷ xs) = refl
-
-pub three_of-more : (a : List ℕ) (found : List (List ℕ)) → three_of (a ∷ found) ≡ option_map (λ p. (a, p.0, p.1)) (two_of found)
-three_of-more a [] = refl
-three_of-more a (x ∷ []) = refl
-three_of-more a (x ∷ y ∷ []) = refl
-three_of-more a (x ∷ y ∷ z ∷ xs) = refl
-
 pub four_of-more : (a : List ℕ) (found : List (List ℕ)) → four_of (a ∷ found) ≡ option_map (λ p. (a, p.0, p.1, p.2)) (three_of found)
 four_of-more a [] = refl
 four_of-more a (x ∷ []) = refl
@@ -64,7 +53,3 @@ six_of-more a b (x ∷ y ∷ []) = refl
 six_of-more a b (x ∷ y ∷ z ∷ []) = refl
 six_of-more a b (x ∷ y ∷ z ∷ w ∷ []) = refl
 six_of-more a b (x ∷ y ∷ z ∷ w ∷ v ∷ xs) = refl
-
--- one part alone is not six
-pub six_of-alone : (a : List ℕ) (byte : ℕ) (text : List ℕ) → parts byte text ≡ text ∷ [] → six_of (a ∷ parts byte text) ≡ None
-six_of-alone a byte text e = rw e refl

@@ -26,13 +26,17 @@ pub sums-run : (sums : List (Option ℕ)) (notes : List Note) (from to : Pos) (j
     → HasSums notes sums → HasSums (notes ++ Run from to j k units energy ∷ []) (set sums j (with_energy (get_or sums j None) energy))
 sums-run sums notes from to j k units energy lt long h i below = by (nat_eq j i) refl
   where
-    by : (same : Bool) → nat_eq j i ≡ same → get_or (set sums j (with_energy (get_or sums j None) energy)) i None ≡ narrow (energy_of_task (notes ++ Run from to j k units energy ∷ []) i)
+    by : (same : Bool) → nat_eq j i ≡ same
+        → get_or (set sums j (with_energy (get_or sums j None) energy)) i None ≡ narrow (energy_of_task (notes ++ Run from to j k units energy ∷ []) i)
     by true e =
         let here : i ≡ j = grind (arith, nat_tests) in
-        let total : energy_of_task (notes ++ Run from to j k units energy ∷ []) i ≡ energy_of_task notes i + energy = energy-more notes (Run from to j k units energy) i ∙ ap (λ (same : Bool). energy_of_task notes i + (if same then energy else 0)) e in
-        let kept : get_or (set sums j (with_energy (get_or sums j None) energy)) i None ≡ with_energy (get_or sums i None) energy = rw here (get_or-set_same sums j (with_energy (get_or sums j None) energy) None (omega arith)) in
+        let total : energy_of_task (notes ++ Run from to j k units energy ∷ []) i ≡ energy_of_task notes i + energy =
+        energy-more notes (Run from to j k units energy) i ∙ ap (λ (same : Bool). energy_of_task notes i + (if same then energy else 0)) e in
+        let kept : get_or (set sums j (with_energy (get_or sums j None) energy)) i None ≡ with_energy (get_or sums i None) energy =
+        rw here (get_or-set_same sums j (with_energy (get_or sums j None) energy) None (omega arith)) in
         kept ∙ (ap (λ o. with_energy o energy) (h i below) ∙ (with-narrow (energy_of_task notes i) energy ∙ ap narrow (sym total)))
     by false e =
         let other : i ≢ j = grind (arith, nat_tests) in
-        let total : energy_of_task (notes ++ Run from to j k units energy ∷ []) i ≡ energy_of_task notes i = energy-more notes (Run from to j k units energy) i ∙ (ap (λ (same : Bool). energy_of_task notes i + (if same then energy else 0)) e ∙ omega arith) in
+        let total : energy_of_task (notes ++ Run from to j k units energy ∷ []) i ≡ energy_of_task notes i = energy-more notes
+        (Run from to j k units energy) i ∙ (ap (λ (same : Bool). energy_of_task notes i + (if same then energy else 0)) e ∙ omega arith) in
         get_or-set_other sums j i (with_energy (get_or sums j None) energy) None other ∙ (h i below ∙ ap narrow (sym total))

@@ -12,6 +12,7 @@ use Rattle.trace_reader.specs.TraceText.{energy_of_task, told_text, whole_text}
 use Rattle.dvs_base.specs.declared.note.Note.{Note}
 use Rattle.dvs_base.specs.declared.kind.Version.{Version}
 use Rattle.dvs_base.specs.declared.kind.Version.TheVariants.{One, Two}
+use Rattle.dvs_base.specs.declared.limits.TheConstants.{MOST_LINES}
 use Rattle.trace_text.specs.declared.write.PlanLine.{PlanLine}
 use Rattle.trace_reader.specs.declared.trace.TraceFault.{TraceFault}
 use Rattle.trace_reader.specs.declared.trace.TraceFault.TheVariants.{Refused, NoMemory}
@@ -57,11 +58,13 @@ is-ended (n ∷ []) last h end = (h.0, end)
 is-ended (n ∷ m ∷ body) last h end = (h.0, is-ended (m ∷ body) last h.1 end)
 
 -- the energies of the tasks have their widths
-shares-found : (v : Version) (names : List (List ℕ)) (body : List Note) (last : Note) → is_end last ≡ true → ((i : ℕ) → i < wanted v names → energy_of_task body i < 2 ^ 128) → HasShares v (length names) (body ++ last ∷ [])
+shares-found : (v : Version) (names : List (List ℕ)) (body : List Note) (last : Note) → is_end last ≡ true
+    → ((i : ℕ) → i < wanted v names → energy_of_task body i < 2 ^ 128) → HasShares v (length names) (body ++ last ∷ [])
 shares-found One names body last end h = tt
 shares-found Two names body last end h = λ i lt. let same = energy-end body last i end in omega (arith, h i lt, same)
 
-shares-wide : (v : Version) (names : List (List ℕ)) (body : List Note) (last : Note) → is_end last ≡ true → HasShares v (length names) (body ++ last ∷ []) → (i : ℕ) → i < wanted v names → energy_of_task body i < 2 ^ 128
+shares-wide : (v : Version) (names : List (List ℕ)) (body : List Note) (last : Note) → is_end last ≡ true
+    → HasShares v (length names) (body ++ last ∷ []) → (i : ℕ) → i < wanted v names → energy_of_task body i < 2 ^ 128
 shares-wide One names body last end h i lt = absurd (omega arith)
 shares-wide Two names body last end h i lt = let same = energy-end body last i end in omega (arith, h i lt, same)
 
@@ -78,15 +81,19 @@ pub record IsFound (newest : Version) (names tasks : List (List ℕ)) (bytes : L
   pub text : bytes ≡ text_of names tasks t
   pub version : IsUpTo newest t.version
 
-found-whole : (newest : Version) (names tasks : List (List ℕ)) (bytes : List ℕ) (v : Version) (plan : PlanLine) (ps : List (List ℕ)) (p : ℕ × List (List ℕ)) (notes : List Note)
+found-whole : (newest : Version) (names tasks : List (List ℕ)) (bytes : List ℕ) (v : Version) (plan : PlanLine) (ps : List (List ℕ))
+    (p : ℕ × List (List ℕ)) (notes : List Note)
     → IsUpTo newest v → IsPlan plan → bytes ≡ version_line v ++ (plan_text plan.scheduler plan.governor plan.ticks ++ join_with_byte 10 ps)
-    → TasksRead 3 (lines_of_tasks v tasks) ps p → Reads v names p.0 nothing_yet p.1 notes → IsFound newest names tasks bytes (record { version = v; plan = plan; notes = notes })
+    → TasksRead 3 (lines_of_tasks v tasks) ps p → Reads v names p.0 nothing_yet p.1 notes
+    → IsFound newest names tasks bytes (record { version = v; plan = plan; notes = notes })
 found-whole newest names tasks bytes v plan ps p notes up_to is_plan head tasks_read reads =
     let all : List Note = reads.body ++ reads.last ∷ [] in
     let made : TraceOf = record { version = v; plan = plan; notes = all } in
-    let told : join_with_byte 10 p.1 ≡ flat_map (told_text v names all) all = reads.text ∙ sym (told-notes v names reads.body reads.last reads.no_end reads.end) in
+    let told : join_with_byte 10 p.1 ≡ flat_map (told_text v names all) all = reads.text
+    ∙ sym (told-notes v names reads.body reads.last reads.no_end reads.end) in
     let text : bytes ≡ text_of names tasks made =
-    head ∙ (ap (λ t. version_line v ++ (plan_text plan.scheduler plan.governor plan.ticks ++ t)) (tasks_read.text ∙ ap (λ t. joined (lines_of_tasks v tasks) ++ t) told)
+    head ∙ (ap (λ t. version_line v ++ (plan_text plan.scheduler plan.governor plan.ticks ++ t))
+    (tasks_read.text ∙ ap (λ t. joined (lines_of_tasks v tasks) ++ t) told)
     ∙ sym (text-parts v plan names tasks all)) in
     let trace : IsTrace names tasks made = record {
       pair = is_plan.pair;
@@ -122,15 +129,16 @@ line-text n ps p e =
     let line = line_at-found n ps p e in
     ap (join_with_byte 10) line.all ∙ (join-line p.0 p.1 line.more ∙ sym (append_assoc p.0 (10 ∷ []) (join_with_byte 10 p.1)))
 
-pub trace_file-found : (newest : Version) (names tasks : List (List ℕ)) (bytes : List ℕ) (t : TraceOf) → trace_file newest names tasks bytes ≡ Ok t → IsFound newest names tasks bytes t
+pub trace_file-found : (newest : Version) (names tasks : List (List ℕ)) (bytes : List ℕ) (t : TraceOf)
+    → trace_file newest names tasks bytes ≡ Ok t → IsFound newest names tasks bytes t
 unfolding trace_file
 trace_file-found newest names tasks bytes t e =
-    let a = step-ok (line_at 1 (parts 10 bytes)) (from_first newest names tasks) t e in
-    let b = step-ok (at_line 1 (version_of newest a.0.0)) (from_version names tasks a.0.1) t a.2 in
-    let c = step-ok (line_at 2 a.0.1) (from_second b.0 names tasks) t b.2 in
-    let d = step-ok (at_line 2 (plan_of (parts 32 c.0.0))) (from_plan b.0 names tasks c.0.1) t c.2 in
-    let f = step-ok (tasks_from 3 (lines_of_tasks b.0 tasks) c.0.1) (from_tasks b.0 names d.0) t d.2 in
-    let g = step-ok (notes_from b.0 names f.0.0 nothing_yet f.0.1) (λ notes. Ok (record { version = b.0; plan = d.0; notes = notes })) t f.2 in
+    let a = step-ok _ _ t e in
+    let b = step-ok _ _ t a.2 in
+    let c = step-ok _ _ t b.2 in
+    let d = step-ok _ _ t c.2 in
+    let f = step-ok _ _ t d.2 in
+    let g = step-ok _ _ t f.2 in
     let version = version-found newest b.0 a.0.0 (at_line-ok 1 (version_of newest a.0.0) b.0 b.1) in
     let plan = plan-found c.0.0 d.0 (at_line-ok 2 (plan_of (parts 32 c.0.0)) d.0 d.1) in
     let first : a.0.0 ++ 10 ∷ [] ≡ version_line b.0 = ap (λ l. l ++ 10 ∷ []) version.0 ∙ sym (version-line b.0) in
@@ -140,7 +148,8 @@ trace_file-found newest names tasks bytes t e =
     ∙ ap₂ (λ l r. l ++ r) first (line-text 2 a.0.1 c.0 c.1 ∙ ap (λ l. l ++ join_with_byte 10 c.0.1) plan.0)) in
     let made : TraceOf = record { version = b.0; plan = d.0; notes = g.0 } in
     subst (λ (r : TraceOf). IsFound newest names tasks bytes r) (ok-is {F = TraceFault} made t g.2)
-    (found-whole newest names tasks bytes b.0 d.0 c.0.1 f.0 g.0 version.1 plan.1 head (tasks-found 3 (lines_of_tasks b.0 tasks) c.0.1 f.0 f.1) (notes_from-found b.0 names f.0.0 nothing_yet f.0.1 g.0 g.1))
+    (found-whole newest names tasks bytes b.0 d.0 c.0.1 f.0 g.0 version.1 plan.1 head
+    (tasks-found 3 (lines_of_tasks b.0 tasks) c.0.1 f.0 f.1) (notes_from-found b.0 names f.0.0 nothing_yet f.0.1 g.0 g.1))
 
 -- what the reader answers to the text of a trace and what stands after it
 abbrev pub whole_answer : List (List ℕ) → List (List ℕ) → TraceOf → List ℕ → Result TraceOf TraceFault
@@ -158,7 +167,8 @@ answer-then : (b : Bool) (v : Version) (plan : PlanLine) (notes : List Note) (fa
 answer-then true v plan notes fault = refl
 answer-then false v plan notes fault = refl
 
-pub trace_file-text : (newest : Version) (names tasks : List (List ℕ)) (t : TraceOf) (more : List ℕ) → AreNames names → AreApart names → AreLines (lines_of_tasks t.version tasks) → IsUpTo newest t.version → IsTrace names tasks t
+pub trace_file-text : (newest : Version) (names tasks : List (List ℕ)) (t : TraceOf) (more : List ℕ) → AreNames names → AreApart names
+    → AreLines (lines_of_tasks t.version tasks) → IsUpTo newest t.version → IsTrace names tasks t
     → trace_file newest names tasks (text_of names tasks t ++ more) ≡ whole_answer names tasks t more
 unfolding trace_file
 trace_file-text newest names tasks t more named apart lines up_to h =
@@ -179,13 +189,15 @@ trace_file-text newest names tasks t more named apart lines up_to h =
     let plan = plan-text t.plan third (record { pair = h.pair; some = h.some_ticks; low = h.low_ticks }) in
     let counted : length t.notes ≡ length ends.body + 1 = ap length ends.whole ∙ length-last ends.body ends.last in
     let size = lines-wanted v names tasks in
-    let few : n + (length ends.body + wanted v names) ≤ 800000 = omega (arith, h.lines, size, counted) in
-    let read_tasks : tasks_from 3 (lines_of_tasks v tasks) (parts 10 third) ≡ Ok (n, parts 10 last) = tasks-text 3 (lines_of_tasks v tasks) last lines (omega arith) in
+    let few : n + (length ends.body + wanted v names) ≤ MOST_LINES = omega (arith, h.lines, size, counted) in
+    let read_tasks : tasks_from 3 (lines_of_tasks v tasks) (parts 10 third) ≡ Ok (n, parts 10 last) =
+    tasks-text 3 (lines_of_tasks v tasks) last lines (omega arith) in
     let read_notes : notes_from v names n nothing_yet (parts 10 last) ≡ answer (n + (length ends.body + wanted v names) + 1) all more =
     notes_from-text v names named apart n nothing_yet ends.body ends.last more refl ends.no_end ends.end
     (subst (λ ns. AllByRecursion (IsNoteOf (length names)) ns) ends.whole h.each)
     (shares-wide v names ends.body ends.last ends.end (subst (λ ns. HasShares v (length names) ns) ends.whole h.shares)) few in
-    let place : n + (length ends.body + wanted v names) + 1 ≡ 3 + lines_for_tasks v (length names) (length tasks) + length t.notes = omega (arith, size, counted) in
+    let place : n + (length ends.body + wanted v names) + 1 ≡ 3 + lines_for_tasks v (length names) (length tasks) + length t.notes =
+    omega (arith, size, counted) in
     let notes : notes_from v names n nothing_yet (parts 10 last) ≡ answer (3 + lines_for_tasks v (length names) (length tasks) + length t.notes) t.notes more =
     read_notes ∙ ap₂ (λ m ns. answer m ns more) place (sym ends.whole) in
     ap (λ x. line_at 1 (parts 10 x) >>= from_first newest names tasks) whole
@@ -210,18 +222,22 @@ one-text names tasks named apart lines t u more h k e =
     let first = trace_file-text Two names tasks t more named apart (version-lines t.version tasks lines) tt h in
     let second = trace_file-text Two names tasks u [] named apart (version-lines u.version tasks lines) tt k in
     let same : whole_answer names tasks t more ≡ Ok u = sym first ∙ (ap (trace_file Two names tasks) (e ∙ sym (append-nil (text_of names tasks u))) ∙ second) in
-    let found = same-answer (is_nothing (parts 10 more)) t u (Refused (3 + lines_for_tasks t.version (length names) (length tasks) + length t.notes) kind.AfterEnd) same in
+    let found = same-answer (is_nothing (parts 10 more)) t u
+    (Refused (3 + lines_for_tasks t.version (length names) (length tasks) + length t.notes) kind.AfterEnd) same in
     (found.1, nothing-more more found.0)
 
 -- what a reader of the versions up to the newest gives, in the words of its clauses
-pub reads-found : (newest : Version) (names tasks : List (List ℕ)) (bytes : List ℕ) (t : TraceOf) → trace_file newest names tasks bytes ≡ Ok t → IsTextOf names tasks bytes t × IsUpTo newest t.version
+pub reads-found : (newest : Version) (names tasks : List (List ℕ)) (bytes : List ℕ) (t : TraceOf)
+    → trace_file newest names tasks bytes ≡ Ok t → IsTextOf names tasks bytes t × IsUpTo newest t.version
 reads-found newest names tasks bytes t e = let found = trace_file-found newest names tasks bytes t e in ((found.trace, found.text), found.version)
 
-pub reads-only : (newest : Version) (names tasks : List (List ℕ)) (bytes : List ℕ) (t : TraceOf) → AreNames names → AreApart names → AreLines (lines_of_tasks t.version tasks) → IsUpTo newest t.version
+pub reads-only : (newest : Version) (names tasks : List (List ℕ)) (bytes : List ℕ) (t : TraceOf) → AreNames names → AreApart names
+    → AreLines (lines_of_tasks t.version tasks) → IsUpTo newest t.version
     → IsTextOf names tasks bytes t → trace_file newest names tasks bytes ≡ Ok t
 reads-only newest names tasks bytes t named apart lines up_to h =
     ap (trace_file newest names tasks) (h.1 ∙ sym (append-nil (text_of names tasks t))) ∙ trace_file-text newest names tasks t [] named apart lines up_to h.0
 
-pub clause-found : (r meaning : Result TraceOf TraceFault) (P : TraceOf → Type 0) → IsUnlessMemory NoMemory (λ t. t) r meaning → ((t : TraceOf) → meaning ≡ Ok t → P t) → IfOk r P
+pub clause-found : (r meaning : Result TraceOf TraceFault) (P : TraceOf → Type 0) → IsUnlessMemory NoMemory (λ t. t) r meaning
+    → ((t : TraceOf) → meaning ≡ Ok t → P t) → IfOk r P
 clause-found (Ok t) meaning P h p = p t h
 clause-found (Err e) meaning P h p = tt

@@ -3,6 +3,7 @@ use Rattle.std.specs.Prelude.{ℕ, ◌^◌, ◌==◌, List, [], ◌∷◌, posit
 use Rattle.std.specs.List.{slice_split}
 use Rattle.std.specs.Option.{ok_or}
 use Rattle.std.specs.Str.{bytes_eq}
+use Rattle.dvs_base.specs.Widths.{u64_end}
 use Rattle.dvs_base.specs.Checks.{and_then}
 use Rattle.dvs_base.specs.Text.{number_below}
 use Rattle.dvs_base.specs.declared.note.Pos.{Pos}
@@ -45,7 +46,7 @@ six_of _ = None
 
 -- a number below 2^64
 abbrev pub whole_in : List ℕ → Result ℕ TraceKind
-whole_in field = ok_or (number_below (2 ^ 64) field) kind.Number
+whole_in field = ok_or (number_below u64_end field) kind.Number
 
 -- a number below 2^128
 abbrev pub wide_in : List ℕ → Result ℕ TraceKind

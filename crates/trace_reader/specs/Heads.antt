@@ -6,6 +6,7 @@ use Rattle.dvs_base.specs.PlanWords.{scheduler_of, governor_of, ticks_of}
 use Rattle.dvs_base.specs.Pairs.{is_pair}
 use Rattle.dvs_base.specs.declared.kind.Version.{Version}
 use Rattle.dvs_base.specs.declared.kind.Version.TheVariants.{One, Two}
+use Rattle.dvs_base.specs.declared.limits.TheConstants.{MOST_LINES, LONGEST_LINE}
 use Rattle.trace_text.specs.declared.write.PlanLine.{PlanLine}
 use Rattle.trace_reader.specs.declared.trace.TraceFault.{TraceFault}
 use Rattle.trace_reader.specs.declared.trace.TraceFault.TheVariants.{Refused}
@@ -16,8 +17,8 @@ use Rattle.trace_reader.specs.Fields.{◌>>=◌, four_of}
 -- line n, and the parts after it, of the parts between line feeds: what stands after the last line feed is no line
 abbrev pub line_at : ℕ → List (List ℕ) → Result (List ℕ × List (List ℕ)) TraceFault
 line_at n (line ∷ next ∷ rest) =
-    if nat_lt 800000 n then Err (Refused n kind.TooMany)
-    else (if nat_lt 255 (length line) then Err (Refused n kind.TooLong)
+    if nat_lt MOST_LINES n then Err (Refused n kind.TooMany)
+    else (if nat_lt LONGEST_LINE (length line) then Err (Refused n kind.TooLong)
     else Ok (line, next ∷ rest))
 line_at n _ = Err (Refused n kind.NoEnd)
 

@@ -30,11 +30,6 @@ told_text One names notes n = note_text names n
 told_text Two names notes (End t run idle) = joined (shares_from notes 0 names) ++ note_text names (End t run idle)
 told_text Two names notes n = note_text names n
 
--- the lines of the tasks, which version 2 alone has
-abbrev pub tasks_text : Version → List (List ℕ) → List ℕ
-tasks_text One tasks = []
-tasks_text Two tasks = joined tasks
-
 -- the text of a trace: its version, its plan, in version 2 the lines of its tasks, and its notes
 abbrev pub whole_text : Version → Scheduler → GovernorKind → ℕ → List (List ℕ) → List (List ℕ) → List Note → List ℕ
 whole_text One s g ticks names tasks notes = version_line One ++ plan_text s g ticks ++ flat_map (note_text names) notes

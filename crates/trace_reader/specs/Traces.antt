@@ -1,12 +1,14 @@
 -- Traces, and the one text of each.
 use Rattle.std.specs.Prelude.{◌≡◌, ℕ, ◌+◌, ◌<◌, ◌≤◌, ◌^◌, Bool, true, false, List, [], ◌∷◌, ◌++◌, length}
 use Rattle.std.specs.List.{AllByRecursion}
+use Rattle.dvs_base.specs.Widths.{u64_end}
 use Rattle.dvs_base.specs.declared.note.Note.{Note}
 use Rattle.dvs_base.specs.declared.note.Note.TheVariants.{Release, Speed, Run, Idle, Done, End}
 use Rattle.dvs_base.specs.declared.note.Pos.{Pos}
 use Rattle.dvs_base.specs.declared.kind.Version.{Version}
 use Rattle.dvs_base.specs.declared.kind.Version.TheVariants.{One, Two}
 use Rattle.dvs_base.specs.Pairs.{is_pair}
+use Rattle.dvs_base.specs.declared.limits.TheConstants.{MOST_TICKS, MOST_LINES}
 use Rattle.trace_reader.specs.VersionLines.{task_text}
 use Rattle.trace_reader.specs.TraceText.{energy_of_task, whole_text}
 use Rattle.trace_text.specs.declared.write.PlanLine.{PlanLine}
@@ -30,17 +32,17 @@ text_of names tasks t = whole_text t.version t.plan.scheduler t.plan.governor t.
 
 -- the two numbers of a position have their width
 abbrev pub IsPlace : Pos → Type 0
-IsPlace q = (q.tick < 2 ^ 64) × (q.offset < 2 ^ 64)
+IsPlace q = (q.tick < u64_end) × (q.offset < u64_end)
 
 -- the note's numbers have their widths, and its task is one of so many
 abbrev pub IsNoteOf : ℕ → Note → Type 0
-IsNoteOf c (Release t i k) = (t < 2 ^ 64) × (i < c) × (k < 2 ^ 64)
-IsNoteOf c (Speed t f num den) = (t < 2 ^ 64) × (f < 2 ^ 64) × (num < 2 ^ 128) × (den < 2 ^ 128)
+IsNoteOf c (Release t i k) = (t < u64_end) × (i < c) × (k < u64_end)
+IsNoteOf c (Speed t f num den) = (t < u64_end) × (f < u64_end) × (num < 2 ^ 128) × (den < 2 ^ 128)
 IsNoteOf c (Run from to i k units energy) =
-    IsPlace from × IsPlace to × (i < c) × (k < 2 ^ 64) × (units < 2 ^ 64) × (energy < 2 ^ 128)
-IsNoteOf c (Idle from to units energy) = IsPlace from × IsPlace to × (units < 2 ^ 64) × (energy < 2 ^ 128)
-IsNoteOf c (Done q i k used) = IsPlace q × (i < c) × (k < 2 ^ 64) × (used < 2 ^ 64)
-IsNoteOf c (End t run idle) = (t < 2 ^ 64) × (run < 2 ^ 128) × (idle < 2 ^ 128)
+    IsPlace from × IsPlace to × (i < c) × (k < u64_end) × (units < u64_end) × (energy < 2 ^ 128)
+IsNoteOf c (Idle from to units energy) = IsPlace from × IsPlace to × (units < u64_end) × (energy < 2 ^ 128)
+IsNoteOf c (Done q i k used) = IsPlace q × (i < c) × (k < u64_end) × (used < u64_end)
+IsNoteOf c (End t run idle) = (t < u64_end) × (run < 2 ^ 128) × (idle < 2 ^ 128)
 
 -- the note ends the run
 abbrev pub is_end : Note → Bool
@@ -67,11 +69,11 @@ lines_for_tasks Two names tasks = tasks + names
 pub record IsTrace (names tasks : List (List ℕ)) (t : TraceOf) : Type 0 where
   pub pair : is_pair t.plan.scheduler t.plan.governor ≡ true
   pub some_ticks : 1 ≤ t.plan.ticks
-  pub low_ticks : t.plan.ticks ≤ 2 ^ 40
+  pub low_ticks : t.plan.ticks ≤ MOST_TICKS
   pub each : AllByRecursion (IsNoteOf (length names)) t.notes
   pub ended : IsEnded t.notes
   pub shares : HasShares t.version (length names) t.notes
-  pub lines : 2 + lines_for_tasks t.version (length names) (length tasks) + length t.notes ≤ 800000
+  pub lines : 2 + lines_for_tasks t.version (length names) (length tasks) + length t.notes ≤ MOST_LINES
 
 -- the bytes are the text of the trace
 abbrev pub IsTextOf : List (List ℕ) → List (List ℕ) → List ℕ → TraceOf → Type 0

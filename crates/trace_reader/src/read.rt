@@ -5,6 +5,7 @@ ghost use Rattle.dvs_base.specs.declared.note.Note.{Note};
 ghost use Rattle.dvs_base.specs.declared.kind.Version.TheVariants.{Two};
 ghost use Rattle.dvs_base.specs.Checks.{IsUnlessMemory};
 ghost use Rattle.dvs_base.specs.Text.{is_name};
+ghost use Rattle.dvs_base.specs.declared.limits.TheConstants.{MOST_LINES};
 ghost use Rattle.trace_text.specs.TraceLines.{name_of};
 ghost use Rattle.trace_reader.specs.declared.trace.TraceFault.TheVariants as fault;
 ghost use Rattle.trace_reader.specs.declared.trace.TraceKind.TheVariants as kind;
@@ -20,7 +21,7 @@ use crate::line::{Item, item_of};
 use crate::parts::cut;
 use crate::shares::Shares;
 use crate::{TaskLine, Trace, TraceFault, TraceKind};
-use dvs_base::{Name, Note, Version};
+use dvs_base::{LONGEST_LINE, MOST_LINES, Name, Note, Version};
 use std::alloc::Global;
 
 fn refused(line: u64, kind: TraceKind) -> TraceFault
@@ -35,14 +36,14 @@ pub(crate) fn line_at(number: u64, bytes: &[u8]) -> Result<(&[u8], &[u8]), Trace
         (line_at number (parts 10 bytes.now)) }
     ensures rest { IfOk result (λ p. parts 10 bytes.now ≡ p.0.now ∷ parts 10 p.1.now) }
     ensures less { IfOk result (λ p. length p.1.now < length bytes.now) }
-    ensures few { IfOk result (λ p. number ≤ 800000) }
+    ensures few { IfOk result (λ p. number ≤ MOST_LINES) }
 {
     match cut(bytes, b'\n') {
         None => Err(refused(number, TraceKind::NoEnd)),
         Some((line, rest)) => {
-            if number > 800000 {
+            if number > MOST_LINES {
                 Err(refused(number, TraceKind::TooMany))
-            } else if line.len() > 255 {
+            } else if line.len() > LONGEST_LINE {
                 Err(refused(number, TraceKind::TooLong))
             } else {
                 Ok((line, rest))

@@ -2,7 +2,7 @@
 ghost use Rattle.std.specs.Prelude.{◌≡◌, [], ◌∷◌, codes, IfOk};
 
 use super::*;
-use dvs_base::{Line, Name, Note, Pos, Version};
+use dvs_base::{LONGEST_LINE, Line, MOST_LINES, Name, Note, Pos, Version};
 use std::alloc::Global;
 use std::test::Fail;
 
@@ -241,7 +241,7 @@ fn nothing_stands_after_the_end(rt: HostRuntime) -> Result<(), Fail> {
 #[test]
 fn a_line_has_at_most_255_bytes(rt: HostRuntime) -> Result<(), Fail> {
     let mut line = Vec::new(rt.alloc());
-    for _ in 0..255 {
+    for _ in 0..LONGEST_LINE {
         line.push(b'x').map_err(|_| "memory")?;
     }
     let kept = joined(rt.alloc(), &[&line, b"\n"])?;
@@ -258,7 +258,7 @@ fn a_line_has_at_most_255_bytes(rt: HostRuntime) -> Result<(), Fail> {
 }
 
 // A trace of so many lines.
-fn long_trace(alloc: Global, lines: usize) -> Result<Vec<u8>, Fail> {
+fn long_trace(alloc: Global, lines: u64) -> Result<Vec<u8>, Fail> {
     let mut text = joined(alloc, &[HEAD])?;
     for _ in 3..lines {
         text.extend_from_slice(b"idle 0:0 0:0 0 0\n")
@@ -271,35 +271,35 @@ fn long_trace(alloc: Global, lines: usize) -> Result<Vec<u8>, Fail> {
 
 #[test]
 fn a_trace_has_at_most_800000_lines(rt: HostRuntime) -> Result<(), Fail> {
-    let text = long_trace(rt.alloc(), 800000)?;
+    let text = long_trace(rt.alloc(), MOST_LINES)?;
     let trace = read_paper(rt.alloc(), &text)?.map_err(|_| "refused")?;
     assert_eq!(rt; trace.notes.len(), 799998);
-    let text = long_trace(rt.alloc(), 800001)?;
+    let text = long_trace(rt.alloc(), MOST_LINES + 1)?;
     assert_eq!(rt;
         read_paper(rt.alloc(), &text)?.err(),
-        refused(800001, TraceKind::TooMany)
+        refused(MOST_LINES + 1, TraceKind::TooMany)
     );
     Ok(())
 }
 
 #[test]
 fn nothing_stands_after_an_end_on_line_800000(rt: HostRuntime) -> Result<(), Fail> {
-    let mut text = long_trace(rt.alloc(), 800000)?;
+    let mut text = long_trace(rt.alloc(), MOST_LINES)?;
     text.push(b'\n').map_err(|_| "memory")?;
     assert_eq!(rt;
         read_paper(rt.alloc(), &text)?.err(),
-        refused(800001, TraceKind::AfterEnd)
+        refused(MOST_LINES + 1, TraceKind::AfterEnd)
     );
     Ok(())
 }
 
 #[test]
 fn a_piece_on_line_800001_has_no_end(rt: HostRuntime) -> Result<(), Fail> {
-    let mut text = long_trace(rt.alloc(), 800001)?;
+    let mut text = long_trace(rt.alloc(), MOST_LINES + 1)?;
     let _feed = text.pop();
     assert_eq!(rt;
         read_paper(rt.alloc(), &text)?.err(),
-        refused(800001, TraceKind::NoEnd)
+        refused(MOST_LINES + 1, TraceKind::NoEnd)
     );
     Ok(())
 }

@@ -46,7 +46,7 @@ pub enum TraceKind {
     NoEnd,
     /// Something stands after the `end` line.
     AfterEnd,
-    /// The line has more than 255 bytes before its line feed.
+    /// The line has more than `LONGEST_LINE` bytes before its line feed.
     TooLong,
     /// The line is the 800001st.
     TooMany,

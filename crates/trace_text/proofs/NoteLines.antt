@@ -1,7 +1,8 @@
 -- The fields of a trace's lines have neither a space nor a line feed, so each line is read back.
-use Rattle.std.proofs.Common.{◌≡◌, ℕ, Bool, true, not, ◌&&◌, List, [], ◌∷◌, ◌++◌, drop, flat_map, map, refl, ap, ap₂, ◌∙◌, sym, true≢false, nat_eq, codes}
+use Rattle.std.proofs.Common.{◌≡◌, ℕ, Bool, true, not, ◌&&◌, List, [], ◌∷◌, ◌++◌, drop, refl, ap, ◌∙◌, sym, true≢false, nat_eq, codes}
 use Rattle.std.specs.Prelude.{decimal}
 use Rattle.std.specs.List.{AllByRecursion, list_all}
+use Rattle.std.proofs.lemmas.Bool.{and_parts}
 use Rattle.dvs_base.specs.declared.kind.Scheduler.{Scheduler}
 use Rattle.dvs_base.specs.declared.kind.Scheduler.TheVariants.{Edf, Rm}
 use Rattle.dvs_base.specs.declared.kind.GovernorKind.{GovernorKind}
@@ -12,8 +13,7 @@ use Rattle.dvs_base.specs.declared.note.Pos.{Pos}
 use Rattle.dvs_base.specs.Parts.{position_text, fraction_text}
 use Rattle.trace_text.specs.Words.{scheduler_word, governor_word}
 use Rattle.trace_text.specs.TraceLines.{line, name_of, done_fields, fields_of, note_text}
-use Rattle.trace_text.specs.TextLines.{lines_of}
-use Rattle.trace_text.proofs.PlainLines.{IsPlain, ArePlain, each-append, plain-decimal, lines-line, field-same, and-left, and-right}
+use Rattle.trace_text.proofs.PlainLines.{IsPlain, ArePlain, each-append, plain-decimal, field-same}
 
 -- a word is plain if each of its bytes is
 abbrev plain_byte : ℕ → Bool
@@ -24,7 +24,9 @@ plain-byte b e = (λ q. true≢false (sym e ∙ ap plain_byte q), λ q. true≢f
 
 pub plain-word : (w : List ℕ) → list_all plain_byte w ≡ true → ArePlain w
 plain-word [] e = tt
-plain-word (b ∷ w) e = (plain-byte b (and-left (plain_byte b) (list_all plain_byte w) e), plain-word w (and-right (plain_byte b) (list_all plain_byte w) e))
+plain-word (b ∷ w) e =
+    let each = and_parts (plain_byte b) (list_all plain_byte w) e in
+    (plain-byte b each.0, plain-word w each.1)
 
 pub plain-position : (q : Pos) → ArePlain (position_text q)
 plain-position q =
@@ -61,20 +63,15 @@ plain-fields ns named (Idle from to units energy) =
 plain-fields ns named (Done q i k used) = (plain-word (codes "done") refl, (plain-position q, (named i, (plain-decimal k, (plain-decimal used, tt)))))
 plain-fields ns named (End t run idle) = (plain-word (codes "end") refl, (plain-decimal t, (plain-decimal run, (plain-decimal idle, tt))))
 
--- the lines of notes are their lines
-pub lines-notes : (ns : List (List ℕ)) → ((i : ℕ) → ArePlain (name_of ns i)) → (notes : List Note) → lines_of (flat_map (note_text ns) notes) ≡ map (note_text ns) notes
-lines-notes ns named [] = refl
-lines-notes ns named (n ∷ notes) =
-    ap (λ l. lines_of (l ++ flat_map (note_text ns) notes)) (note-fields ns n)
-    ∙ (lines-line (fields_of ns n) (flat_map (note_text ns) notes) (plain-fields ns named n)
-    ∙ ap₂ (λ l ls. l ∷ ls) (sym (note-fields ns n)) (lines-notes ns named notes))
-
 -- a line of a job's end says which job it is
-pub done-same : (ns : List (List ℕ)) → ((i : ℕ) → ArePlain (name_of ns i)) → (name : List ℕ) → ArePlain name → (k : ℕ) (at_end : Pos) (used : ℕ) (q : Pos) (j l u : ℕ)
+pub done-same : (ns : List (List ℕ)) → ((i : ℕ) → ArePlain (name_of ns i)) → (name : List ℕ) → ArePlain name
+    → (k : ℕ) (at_end : Pos) (used : ℕ) (q : Pos) (j l u : ℕ)
     → line (fields_of ns (Done q j l u)) ≡ line (done_fields at_end name k used)
     → (name_of ns j ≡ name) × (decimal l ≡ decimal k)
 done-same ns named name plain k at_end used q j l u e =
-    let after_word : line (position_text q ∷ name_of ns j ∷ decimal l ∷ decimal u ∷ []) ≡ line (position_text at_end ∷ name ∷ decimal k ∷ decimal used ∷ []) = ap (drop 5) e in
-    let after_position = (field-same (position_text q) (position_text at_end) (line (name_of ns j ∷ decimal l ∷ decimal u ∷ [])) (line (name ∷ decimal k ∷ decimal used ∷ [])) (plain-position q) (plain-position at_end) after_word).1 in
+    let after_word : line (position_text q ∷ name_of ns j ∷ decimal l ∷ decimal u ∷ [])
+    ≡ line (position_text at_end ∷ name ∷ decimal k ∷ decimal used ∷ []) = ap (drop 5) e in
+    let after_position = (field-same (position_text q) (position_text at_end) (line (name_of ns j ∷ decimal l ∷ decimal u ∷ []))
+    (line (name ∷ decimal k ∷ decimal used ∷ [])) (plain-position q) (plain-position at_end) after_word).1 in
     let own = field-same (name_of ns j) name (line (decimal l ∷ decimal u ∷ [])) (line (decimal k ∷ decimal used ∷ [])) (named j) plain after_position in
     (own.0, (field-same (decimal l) (decimal k) (decimal u ++ (10 ∷ [])) (decimal used ++ (10 ∷ [])) (plain-decimal l) (plain-decimal k) own.1).0)

@@ -1,7 +1,8 @@
 -- The lines of a text whose fields have neither a space nor a line feed.
-use Rattle.std.proofs.Common.{◌≡◌, ◌≢◌, ℕ, zero, suc, ◌+◌, ◌/◌, ◌%◌, Bool, true, false, ◌&&◌, List, [], ◌∷◌, ◌++◌, length, drop, refl, arith, if◌then◌else◌, ap, ap₂, ◌∙◌, sym, true≢false, append_assoc, nat_le, nat_lt, get_or}
+use Rattle.std.proofs.Common.{◌≡◌, ◌≢◌, ℕ, zero, suc, ◌+◌, ◌/◌, ◌%◌, Bool, true, false, ◌&&◌, List, [], ◌∷◌, ◌++◌, length, drop, refl, arith, if◌then◌else◌, ap, ap₂, ◌∙◌, sym, true≢false, append_assoc, nat_le, nat_lt, get_or, replicate}
 use Rattle.std.specs.Prelude.{decimal, ◌==◌}
-use Rattle.std.specs.List.{All, AllByRecursion, list_all}
+use Rattle.std.specs.List.{AllByRecursion, list_all}
+use Rattle.std.proofs.lemmas.Bool.{and_parts}
 use Rattle.std.proofs.lemmas.Bool.Decides.{nat_tests}
 use Rattle.std.specs.Fmt.{digit_glyph, digits_onto, digits}
 use Rattle.dvs_base.specs.Text.{is_name, is_name_byte}
@@ -12,25 +13,21 @@ use Rattle.trace_text.specs.TextLines.{lines_of, with_byte}
 abbrev pub IsPlain : ℕ → Type 0
 IsPlain b = (b ≢ 32) × (b ≢ 10)
 
--- what holds of each by recursion holds of each
-pub all-each : {A : Type 0} (P : A → Type 0) (xs : List A) → AllByRecursion P xs → All P xs
-all-each P [] e = λ k d lt. absurd (omega arith)
-all-each P (x ∷ xs) e = go (all-each P xs e.1)
-  where
-    go : All P xs → All P (x ∷ xs)
-    go h zero d lt = e.0
-    go h (suc k) d lt = h k d (omega arith)
-
 pub each-append : {A : Type 0} (P : A → Type 0) (xs ys : List A) → AllByRecursion P xs → AllByRecursion P ys → AllByRecursion P (xs ++ ys)
 each-append P [] ys e f = f
 each-append P (x ∷ xs) ys e f = (e.0, each-append P xs ys e.1 f)
+
+pub each-replicate : {A : Type 0} (P : A → Type 0) (n : ℕ) (x : A) → P x → AllByRecursion P (replicate n x)
+each-replicate P zero x h = tt
+each-replicate P (suc n) x h = (h, each-replicate P n x h)
 
 abbrev pub ArePlain : List ℕ → Type 0
 ArePlain = AllByRecursion IsPlain
 
 plain-digits : (k n : ℕ) (acc : List ℕ) → ArePlain acc → ArePlain (digits_onto k 10 false n acc)
 plain-digits zero n acc plain = plain
-plain-digits (suc k) n acc plain = either (n / 10 == 0) _ _ (glyph (nat_lt (n % 10) 10), plain) (plain-digits k (n / 10) (digit_glyph false (n % 10) ∷ acc) (glyph (nat_lt (n % 10) 10), plain))
+plain-digits (suc k) n acc plain = either (n / 10 == 0) _ _ (glyph (nat_lt (n % 10) 10), plain)
+    (plain-digits k (n / 10) (digit_glyph false (n % 10) ∷ acc) (glyph (nat_lt (n % 10) 10), plain))
   where
     glyph : (b : Bool) → IsPlain (if b then 48 + n % 10 else 87 + n % 10)
     glyph true = (λ e. omega (arith, e), λ e. omega (arith, e))
@@ -45,14 +42,6 @@ pub plain-decimal : (n : ℕ) → ArePlain (decimal n)
 unfolding digits
 plain-decimal n = plain-digits 64 n [] tt
 
-pub and-left : (a b : Bool) → (a && b) ≡ true → a ≡ true
-and-left true b e = refl
-and-left false b e = e
-
-pub and-right : (a b : Bool) → (a && b) ≡ true → b ≡ true
-and-right true b e = e
-and-right false b e = absurd (true≢false (sym e))
-
 plain-name_byte : (b : ℕ) → is_name_byte b ≡ true → IsPlain b
 plain-name_byte b e = (λ q. off 32 refl q, λ q. off 10 refl q)
   where
@@ -61,11 +50,13 @@ plain-name_byte b e = (λ q. off 32 refl q, λ q. off 10 refl q)
 
 plain-name_bytes : (bytes : List ℕ) → list_all is_name_byte bytes ≡ true → ArePlain bytes
 plain-name_bytes [] e = tt
-plain-name_bytes (b ∷ bytes) e = (plain-name_byte b (and-left (is_name_byte b) _ e), plain-name_bytes bytes (and-right (is_name_byte b) _ e))
+plain-name_bytes (b ∷ bytes) e =
+    let each = and_parts (is_name_byte b) _ e in
+    (plain-name_byte b each.0, plain-name_bytes bytes each.1)
 
 -- a name is plain, and has a byte
 pub plain-name : (name : List ℕ) → is_name name ≡ true → ArePlain name
-plain-name name e = plain-name_bytes name (and-right (nat_le 1 (length name) && nat_le (length name) 32) (list_all is_name_byte name) e)
+plain-name name e = plain-name_bytes name (and_parts (nat_le 1 (length name) && nat_le (length name) 32) (list_all is_name_byte name) e).1
 
 pub some-name : (name : List ℕ) → is_name name ≡ true → name ≢ []
 some-name name e q = true≢false (sym e ∙ ap is_name q)

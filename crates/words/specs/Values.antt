@@ -1,7 +1,8 @@
 -- The values of the options, each by its rule.
-use Rattle.std.specs.Prelude.{ℕ, Bool, true, ◌^◌, ◌==◌, List, length, codes, if◌then◌else◌}
+use Rattle.std.specs.Prelude.{ℕ, Bool, true, ◌==◌, List, length, codes, if◌then◌else◌}
 use Rattle.std.specs.Prelude.{Option, Some, None, option_map, is_some}
 use Rattle.std.specs.Str.{bytes_eq}
+use Rattle.dvs_base.specs.Widths.{u64_end}
 use Rattle.dvs_base.specs.Text.{number_below}
 use Rattle.dvs_base.specs.PlanWords.{scheduler_of, governor_of, ticks_of}
 use Rattle.dvs_base.specs.declared.kind.Scheduler.{Scheduler}
@@ -23,7 +24,7 @@ version_of word =
 
 -- the number that a word is
 abbrev pub number_of : List ℕ → Option ℕ
-number_of word = number_below (2 ^ 64) word
+number_of word = number_below u64_end word
 
 -- the values of the options that were given
 pub record GivenOf : Type 0 where

@@ -1,6 +1,6 @@
 // What each list of words is read as.
 use super::*;
-use dvs_base::{GovernorKind, Scheduler, Short, Version};
+use dvs_base::{GovernorKind, MOST_TICKS, Scheduler, Short, Version};
 use std::alloc::Global;
 use std::test::Fail;
 
@@ -118,7 +118,7 @@ fn a_value_may_look_like_an_option(rt: HostRuntime) -> Result<(), Fail> {
         demands: None,
         scheduler: Scheduler::Rm,
         governor: GovernorKind::Cycle,
-        ticks: 1099511627776,
+        ticks: MOST_TICKS,
         probes: false,
         version: Version::One,
     };
@@ -292,7 +292,7 @@ fn a_least_energy_names_units_and_ticks(rt: HostRuntime) -> Result<(), Fail> {
     let most = Command::Least {
         machine: "m",
         units: 18446744073709551615,
-        ticks: 1099511627776,
+        ticks: MOST_TICKS,
     };
     let backwards = "least --ticks 1099511627776 --units 18446744073709551615 --machine m";
     assert!(rt; is_read_as(alloc, backwards, most)?);

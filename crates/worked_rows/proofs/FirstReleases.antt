@@ -1,5 +1,5 @@
 -- The first release of each task, one after another, and the mark after them.
-use Rattle.std.proofs.Common.{◌≡◌, ℕ, ◌+◌, ◌<◌, ◌≤◌, ◌^◌, zero, suc, Bool, true, false, if◌then◌else◌, List, [], ◌∷◌, length, refl, arith, ap, ◌∙◌, sym, subst, add-one, nat_eq}
+use Rattle.std.proofs.Common.{◌≡◌, ℕ, ◌+◌, ◌<◌, zero, suc, Bool, true, false, if◌then◌else◌, [], ◌∷◌, refl, arith, ap, ◌∙◌, sym, subst, add-one, nat_eq}
 use Rattle.std.specs.Prelude.{slice_set}
 use Rattle.std.proofs.lemmas.Bool.Decides.{nat_tests}
 use Rattle.dvs_base.specs.declared.note.Note.{Note}
@@ -70,7 +70,8 @@ module _ (p : Plan) (adm : IsAdmitted p) where
         is = ap (λ c. record s { rows = slice_set s.rows m (record (released_row (period p m) (row_at s m)) { done = c }) }) (sym (needed m job))
 
         told : HasHeard takes 0 (opening_notes one_unit s m) 0
-        told = subst (λ c. HasHeard takes 0 (Release s.now m (job + 1) ∷ (if c then Done (record { tick = s.now; offset = 0 }) m (job + 1) 0 ∷ [] else [])) 0) (sym (needed m job)) (0, tt, refl)
+        told = subst (λ c. HasHeard takes 0 (Release s.now m (job + 1)
+            ∷ (if c then Done (record { tick = s.now; offset = 0 }) m (job + 1) 0 ∷ [] else [])) 0) (sym (needed m job)) (0, tt, refl)
 
     pub next-passed : (offset p m ≡ 0 → ⊥) → HasReleased p (m + 1) any s
     next-passed late = record { rows = passed p one_unit [] b.some_period takes takes 0 m any s 0 h.rows lt refl early; of = h.of }

@@ -5,6 +5,7 @@ use rtdvs_top::rtdvs;
 use std::alloc::Global;
 use std::process::Abort;
 use std::test::Fail;
+use test_inputs::words_of;
 
 // A call: its task, machine and demand file, which have the names T, M and D, and its words.
 #[derive(Clone, Copy)]
@@ -22,18 +23,6 @@ pub(crate) struct Outcome {
     pub(crate) out: Vec<u8>,
     pub(crate) notes: Vec<u8>,
     pub(crate) faults: u64,
-}
-
-// The words of a command line; an empty line has none.
-fn words_of(alloc: Global, line: &str) -> Result<Vec<String>, Fail> {
-    let mut words = Vec::new(alloc);
-    if line.is_empty() {
-        return Ok(words);
-    }
-    for word in line.split(' ') {
-        words.push(String::from_str(alloc, word)?)?;
-    }
-    Ok(words)
 }
 
 // A text is these lines, each ended by a line feed.

@@ -1,5 +1,6 @@
 // Plans, the states that they open with, and the governors that are made for them.
-ghost use Rattle.std.specs.Prelude.{◌≤◌, ◌^◌};
+ghost use Rattle.std.specs.Prelude.{◌≤◌};
+ghost use Rattle.dvs_base.specs.declared.limits.TheConstants.{MOST_TICKS};
 ghost use Rattle.governor.specs.Serving.{ServesEdf, ServesRm};
 
 use crate::example::{PAPER_MACHINE, PAPER_TASKS};
@@ -55,7 +56,7 @@ fn each_governor_is_made_for_its_plan(rt: HostRuntime) -> Result<(), Fail> {
 
 // The opening state of a plan, after the first release of its first task where that is at tick 0.
 fn opened(alloc: Global, plan: &Admitted) -> Result<State, Fail> {
-    plan.known();
+    let _scheduler = plan.scheduler();
     match State::new(alloc, plan) {
         Ok(mut state) => {
             if plan.offset(0) == 0 {
@@ -91,7 +92,7 @@ fn first_release_opens_job_one(rt: HostRuntime) -> Result<(), Fail> {
 // How many jobs are too many for a run of these ticks.
 fn refused_jobs(alloc: Global, tasks: &TaskSet, ticks: u64) -> Result<Option<KernelFault>, Fail>
     requires some_ticks { 1 ≤ ticks }
-    requires low_ticks { ticks ≤ 2 ^ 40 }
+    requires low_ticks { ticks ≤ MOST_TICKS }
 {
     let plan = edf_plan(alloc, tasks)?;
     let Ok(demands) = Demands::read(alloc, b"task,job,units\n", tasks) else {

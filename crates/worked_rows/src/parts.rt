@@ -8,7 +8,7 @@ use rm_admit::{RmFault, rm_admit};
 use sched_model::Admitted;
 use std::alloc::{AllocError, Global};
 use std::test::Fail;
-use task_model::{TaskFault, TaskSet};
+use task_model::{MOST_TASKS, TaskFault, TaskSet};
 
 #[test]
 fn numbers_have_one_spelling(rt: HostRuntime) {
@@ -99,7 +99,7 @@ fn rm_denies_at_the_first_failing_task(rt: HostRuntime) -> Result<(), Fail> {
 }
 
 // A task file with this many tasks of period 64 and worst case 1.
-pub(crate) fn file_of(alloc: Global, count: u32) -> Result<String, AllocError> {
+pub(crate) fn file_of(alloc: Global, count: usize) -> Result<String, AllocError> {
     let mut text = String::new(alloc);
     for i in 0..count {
         let entry = format!(in alloc; "[[task]]\nname = \"t{i}\"\nperiod = 64\nworst = 1\n")?;
@@ -111,9 +111,11 @@ pub(crate) fn file_of(alloc: Global, count: u32) -> Result<String, AllocError> {
 #[test]
 fn sixty_four_tasks_are_the_most(rt: HostRuntime) -> Result<(), Fail> {
     let alloc = rt.alloc();
-    let most = TaskSet::read(alloc, file_of(alloc, 64)?.as_bytes()).map_err(|_| "64 tasks")?;
+    let most = TaskSet::read(alloc, file_of(alloc, MOST_TASKS)?.as_bytes()).map_err(
+        |_| "64 tasks",
+    )?;
     assert_eq!(rt; (most.count(), most.hyper()), (64, 64));
-    let more = TaskSet::read(alloc, file_of(alloc, 65)?.as_bytes());
+    let more = TaskSet::read(alloc, file_of(alloc, MOST_TASKS + 1)?.as_bytes());
     assert!(rt; matches!(more, Err(TaskFault::TooMany { count: 65 })));
     Ok(())
 }

@@ -4,6 +4,7 @@ use crate::example::{CONTROLLER_DEMANDS, CONTROLLER_MACHINE, CONTROLLER_TASKS, P
 use dvs_base::FailAt;
 use probes::{CountProbe, Probe, Rule, TableProbe, What};
 use std::test::Fail;
+use test_inputs::of_all_tasks;
 
 const CONTROLLER: Case = Case {
     tasks: CONTROLLER_TASKS,
@@ -11,14 +12,6 @@ const CONTROLLER: Case = Case {
     demands: CONTROLLER_DEMANDS,
     words: "run --tasks T --machine M --scheduler edf --governor cc --ticks 100 --demands D --probes",
 };
-
-fn of_all_tasks(what: What, limit: Option<u64>) -> Rule {
-    Rule {
-        what,
-        task: None,
-        limit,
-    }
-}
 
 #[test]
 fn probes_of_a_controller(rt: HostRuntime) -> Result<(), Fail> {

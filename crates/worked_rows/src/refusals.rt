@@ -5,7 +5,9 @@ use crate::example::{
     TWO,
 };
 use crate::parts::file_of;
+use dvs_base::LONGEST_FILE;
 use std::test::Fail;
+use task_model::MOST_TASKS;
 
 #[test]
 fn admits_paper_example(rt: HostRuntime) -> Result<(), Fail> {
@@ -108,7 +110,7 @@ task = [
 
 #[test]
 fn more_tasks_than_the_most(rt: HostRuntime) -> Result<(), Fail> {
-    let tasks = file_of(rt.alloc(), 65)?;
+    let tasks = file_of(rt.alloc(), MOST_TASKS + 1)?;
     Case {
         tasks: tasks.as_str(),
         machine: SLOW,
@@ -120,7 +122,7 @@ fn more_tasks_than_the_most(rt: HostRuntime) -> Result<(), Fail> {
 
 #[test]
 fn a_file_over_the_limit_is_too_long(rt: HostRuntime) -> Result<(), Fail> {
-    let bytes = vec![in rt.alloc(); b'#'; 16777217]?;
+    let bytes = vec![in rt.alloc(); b'#'; LONGEST_FILE as usize + 1]?;
     let long = std::str::from_utf8(bytes.as_slice()).map_err(|_| "text")?;
     let words = RUN_NONE_WITH_DEMANDS;
     Case {

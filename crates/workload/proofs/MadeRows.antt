@@ -1,20 +1,19 @@
 -- Made rows stand in order, and each is for a job of its own.
-use Rattle.std.proofs.Common.{◌≡◌, ℕ, ◌+◌, ◌/◌, ◌%◌, ◌<◌, Bool, true, false, ◌&&◌, ◌||◌, List, [], ◌∷◌, ◌++◌, length, map, None, refl, arith, ap, ◌∙◌, sym, mod-lt, nat_eq, nat_lt}
-use Rattle.std.specs.Prelude.{slice_index}
+use Rattle.std.proofs.Common.{◌≡◌, ℕ, ◌+◌, ◌/◌, ◌%◌, ◌<◌, Bool, true, false, ◌&&◌, ◌||◌, List, [], ◌∷◌, ◌++◌, None, refl, arith, ap, ◌∙◌, sym, mod-lt, nat_eq, nat_lt}
 use Rattle.std.specs.List.{AllByRecursion}
 use Rattle.std.proofs.Math.Nat.{mod-add-div}
 use Rattle.std.proofs.lemmas.Bool.Decides.{nat_tests}
-use Rattle.std.proofs.lemmas.List.{get_or-map}
 use Rattle.grid_fraction.specs.Numbers.{list_below}
+use Rattle.grid_fraction.proofs.Sums.{list_below-more}
 use Rattle.task_model.specs.declared.task.Task.{Task}
-use Rattle.task_model.specs.Tasks.{no_task, task_at}
 use Rattle.task_model.specs.DemandRows.{DemandRow, named}
 use Rattle.demand_list.specs.Demands.{precedes, with_row}
 use Rattle.workload.specs.Workload.{made_row}
-use Rattle.workload.proofs.Drawing.{each-below, list_below-more}
+use Rattle.workload.proofs.Drawing.{each-below}
 
 -- rows for other jobs name nothing for this one
-others-name_none : (i k : ℕ) (rows : List DemandRow) → AllByRecursion (λ (s : DemandRow). (nat_eq s.task i && nat_eq s.job k) ≡ false) rows → named rows i k ≡ None
+others-name_none : (i k : ℕ) (rows : List DemandRow)
+    → AllByRecursion (λ (s : DemandRow). (nat_eq s.task i && nat_eq s.job k) ≡ false) rows → named rows i k ≡ None
 others-name_none i k [] each = refl
 others-name_none i k (s ∷ rows) each = rw each.0 (others-name_none i k rows each.1)
 
@@ -38,7 +37,8 @@ apart s r lt = go (nat_eq (s / 4) (r / 4)) refl (nat_eq (s % 4 + 1) (r % 4 + 1))
 in-order : (s r : ℕ) → s < r → (nat_lt (r / 4) (s / 4) || nat_eq (r / 4) (s / 4) && nat_lt (r % 4 + 1) (s % 4 + 1)) ≡ false
 in-order s r lt = go (nat_lt (r / 4) (s / 4)) refl (nat_eq (r / 4) (s / 4)) refl (nat_lt (r % 4 + 1) (s % 4 + 1)) refl
   where
-    go : (a : Bool) → nat_lt (r / 4) (s / 4) ≡ a → (b : Bool) → nat_eq (r / 4) (s / 4) ≡ b → (c : Bool) → nat_lt (r % 4 + 1) (s % 4 + 1) ≡ c → (a || b && c) ≡ false
+    go : (a : Bool) → nat_lt (r / 4) (s / 4) ≡ a → (b : Bool) → nat_eq (r / 4) (s / 4) ≡ b → (c : Bool)
+        → nat_lt (r % 4 + 1) (s % 4 + 1) ≡ c → (a || b && c) ≡ false
     go true ea b eb c ec =
         let less : r / 4 < s / 4 = grind (arith, nat_tests) in
         let low : r % 4 < 4 = mod-lt r (omega arith) in
@@ -60,6 +60,3 @@ module _ (tasks : List Task) (x : ℕ) where
   made_row-last r =
       with_row-last (made_row tasks x r) (list_below r (made_row tasks x)) (each-below _ r (made_row tasks x) (λ s lt. in-order s r lt))
       ∙ sym (list_below-more r (made_row tasks x))
-
-pub worst-listed : (tasks : List Task) (i : ℕ) → i < length tasks → slice_index (map (λ (t : Task). t.worst) tasks) i ≡ (task_at tasks i).worst
-worst-listed tasks i lt = get_or-map (λ (t : Task). t.worst) tasks i no_task 0 lt

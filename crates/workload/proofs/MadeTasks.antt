@@ -4,7 +4,7 @@ use Rattle.std.specs.Prelude.{slice_index}
 use Rattle.std.specs.List.{All, AllByRecursion}
 use Rattle.std.proofs.Math.Nat.{mul-div-le, mul-le-mul_left, mul-le-mul_right, le_of_mul-le-mul_left, div-lt_iff_lt-mul}
 use Rattle.std.proofs.lemmas.Nat.{le-div}
-use Rattle.std.proofs.lemmas.List.Elements.{All-from_get_or}
+use Rattle.std.proofs.lemmas.List.Elements.{All-from_get_or, All-from_recursion}
 use Rattle.dvs_base.specs.declared.kind.Scheduler.{Scheduler}
 use Rattle.dvs_base.specs.declared.kind.Scheduler.TheVariants.{Edf}
 use Rattle.grid_fraction.specs.Numbers.{list_below, sum_below, ceil_div}
@@ -15,11 +15,9 @@ use Rattle.task_model.specs.Tasks.{hyper_of, no_task, task_at, IsTask, IsTaskSet
 use Rattle.freq_table.specs.Tables.{Table}
 use Rattle.sched_model.specs.Plan.{Plan, plan_of, period, offset, rate, hyper}
 use Rattle.sched_model.specs.Tests.{IsEdfFeasible}
-use Rattle.sched_model.proofs.ScheduleLemmas.{length-list_below}
-use Rattle.sched_model.proofs.Tables.{get-table, map-table}
+use Rattle.sched_model.proofs.Tables.{length-list_below, get-table, map-table}
 use Rattle.workload.specs.Draws.{draw}
 use Rattle.workload.specs.Workload.{periods, share_of, made_task, made_tasks, made_machine}
-use Rattle.workload.proofs.Drawing.{at-each}
 use Rattle.workload.proofs.Naming.{made_name-is, made_name-same}
 
 -- what the periods have in common
@@ -29,7 +27,7 @@ pub record IsPeriod (n : ℕ) : Type 0 where
   pub divides : nat_eq (1000 % n) 0 ≡ true
 
 is_period : (k : ℕ) → IsPeriod (slice_index periods (k % 8))
-is_period k = at-each IsPeriod periods (k % 8) 0 all (mod-lt k (omega arith))
+is_period k = All-from_recursion IsPeriod periods all (k % 8) 0 (mod-lt k (omega arith))
   where
     all : AllByRecursion IsPeriod periods
     all = (
@@ -165,7 +163,8 @@ module _ (x n : ℕ) (some : 1 ≤ n) (few : n ≤ 64) where
       most d a low le =
           let pos : 0 < d = omega (arith, low) in
           let more : 20 * (ticks / 20 + 1) ≤ d * (ticks / 20 + 1) = mul-le-mul_right (ticks / 20 + 1) low in
-          let below : a + (d - 1) < (ticks / 20 + 1 + 1) * d = omega (arith, le, pos, more, add-mul (ticks / 20 + 1) 1 d, one-mul d, mul_comm d (ticks / 20 + 1)) in
+          let below : a + (d - 1) < (ticks / 20 + 1 + 1) * d =
+          omega (arith, le, pos, more, add-mul (ticks / 20 + 1) 1 d, one-mul d, mul_comm d (ticks / 20 + 1)) in
           let lt : ceil_div a d < ticks / 20 + 1 + 1 = (div-lt_iff_lt-mul pos).1 below in
           omega (arith, lt)
 

@@ -74,7 +74,8 @@ fn add_row(demands: &mut Demands, task: u32, job: u64, units: u64) -> Result<(),
     requires job { 1 ≤ job }
     requires units { units ≤ slice_index demands.old.worsts task }
     requires free { named demands.old.rows task job ≡ None }
-    ensures rows { OnOk result (demands.new.rows ≡ with_row demands.old.rows (record { task = task; job = job; units = units })) }
+    ensures rows { OnOk result
+        (demands.new.rows ≡ with_row demands.old.rows (record { task = task; job = job; units = units })) }
     ensures worsts { OnOk result (demands.new.worsts ≡ demands.old.worsts) }
 {
     demands.set(task, job, units)?;

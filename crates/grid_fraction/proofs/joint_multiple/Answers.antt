@@ -9,15 +9,18 @@ nonzero_div-b c = IsGcd-pos c.args.a c.args.b c.gcd.result c.requires.a c.gcd.en
 
 pub returns-in-Some-clause-multiple : goal.returns-in-Some-clause-multiple
 returns-in-Some-clause-multiple c =
-    let e : least_common_multiple (c.args.a ∷ c.args.b ∷ []) ≡ c.args.a * (c.args.b / c.gcd.result) = least_common_multiple-pair c.args.a c.args.b c.gcd.result c.requires.a c.requires.b c.gcd.ensures in
+    let e : least_common_multiple (c.args.a ∷ c.args.b ∷ []) ≡ c.args.a * (c.args.b / c.gcd.result) =
+    least_common_multiple-pair c.args.a c.args.b c.gcd.result c.requires.a c.requires.b c.gcd.ensures in
     omega (arith, c.in-Some.ensures)
 
 pub returns-in_default-clause-beyond : goal.returns-in_default-clause-beyond
 returns-in_default-clause-beyond c =
-    let e : least_common_multiple (c.args.a ∷ c.args.b ∷ []) ≡ c.args.a * (c.args.b / c.gcd.result) = least_common_multiple-pair c.args.a c.args.b c.gcd.result c.requires.a c.requires.b c.gcd.ensures in
+    let e : least_common_multiple (c.args.a ∷ c.args.b ∷ []) ≡ c.args.a * (c.args.b / c.gcd.result) =
+    least_common_multiple-pair c.args.a c.args.b c.gcd.result c.requires.a c.requires.b c.gcd.ensures in
     omega (arith, c.in-Some.ensures)
 
 pub returns-in_default-2-clause-beyond : goal.returns-in_default-2-clause-beyond
 returns-in_default-2-clause-beyond c =
-    let e : least_common_multiple (c.args.a ∷ c.args.b ∷ []) ≡ c.args.a * (c.args.b / c.gcd.result) = least_common_multiple-pair c.args.a c.args.b c.gcd.result c.requires.a c.requires.b c.gcd.ensures in
+    let e : least_common_multiple (c.args.a ∷ c.args.b ∷ []) ≡ c.args.a * (c.args.b / c.gcd.result) =
+    least_common_multiple-pair c.args.a c.args.b c.gcd.result c.requires.a c.requires.b c.gcd.ensures in
     omega (arith, c.in_default.ensures)

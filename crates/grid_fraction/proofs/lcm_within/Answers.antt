@@ -10,11 +10,17 @@ loop-period-init c = (sym least_common_multiple-none, c.requires.cap)
 
 pub joint_multiple-requires-clause-a : goal.joint_multiple-requires-clause-a
 joint_multiple-requires-clause-a c =
-    omega (arith, least_common_multiple-pos (take c.loop-period.period-index c.args.periods.now) (All-take (λ n. 0 < n) c.loop-period.period-index c.args.periods.now c.requires.periods), c.loop-period.invariant.0)
+    omega (
+      arith,
+      least_common_multiple-pos (take c.loop-period.period-index c.args.periods.now)
+          (All-take (λ n. 0 < n) c.loop-period.period-index c.args.periods.now c.requires.periods),
+      c.loop-period.invariant.0,
+    )
 
 pub returns-in-None-clause-beyond : goal.returns-in-None-clause-beyond
 returns-in-None-clause-beyond c =
-    let beyond : c.args.cap < least_common_multiple (c.loop-period.multiple ∷ get_or c.args.periods.now c.loop-period.period-index 0 ∷ []) = c.in-None.ensures.beyond in
+    let beyond : c.args.cap < least_common_multiple (c.loop-period.multiple ∷ get_or c.args.periods.now c.loop-period.period-index 0 ∷ []) =
+    c.in-None.ensures.beyond in
     let more = least_common_multiple-take_more c.args.periods.now c.loop-period.period-index 0 c.requires.periods c.loop-period-test.true in
     let grows = least_common_multiple-take c.args.periods.now (c.loop-period.period-index + 1) c.requires.periods in
     let same = rw c.loop-period.invariant.0 at beyond in
@@ -23,6 +29,7 @@ returns-in-None-clause-beyond c =
 pub loop-period-preserved : goal.loop-period-preserved
 loop-period-preserved c =
     let more = least_common_multiple-take_more c.args.periods.now c.loop-period.period-index 0 c.requires.periods c.loop-period-test.true in
-    let next : c.in-Some.next ≡ least_common_multiple (c.loop-period.multiple ∷ get_or c.args.periods.now c.loop-period.period-index 0 ∷ []) = c.in-Some.ensures.multiple in
+    let next : c.in-Some.next ≡ least_common_multiple (c.loop-period.multiple ∷ get_or c.args.periods.now c.loop-period.period-index 0 ∷ []) =
+    c.in-Some.ensures.multiple in
     let same = rw c.loop-period.invariant.0 at next in
     (same ∙ sym more, c.in-Some.ensures.within)

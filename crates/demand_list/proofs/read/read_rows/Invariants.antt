@@ -1,13 +1,13 @@
-use Rattle.std.proofs.Common.{◌≡◌, ◌<◌, ◌+◌, ◌^◌, length}
+use Rattle.std.proofs.Common.{◌≡◌, length}
+use Rattle.csv_text.specs.Records.{IsPlain, AreCountedFrom, records_left}
 use Rattle.demand_list.specs.DemandFile.{demands_from}
-use Rattle.demand_list.specs.Records.{IsPlain, records_left}
 use Rattle.demand_list.proofs.read.read_rows.Given as goal
 
 -- the list so far, and then the records that are left, are what all the records give
 abbrev pub invariant-loop-demands : goal.invariant-loop-demands
 invariant-loop-demands l = record {
   plain : IsPlain l.reader;
-  fits : l.row + length (records_left l.reader) < 2 ^ 64;
+  fits : AreCountedFrom l.row l.reader;
   worsts : l.demands.worsts ≡ l.fn.demands.worsts;
   rest : demands_from l.tasks 1 l.fn.demands (records_left l.fn.reader) ≡ demands_from l.tasks l.row l.demands (records_left l.reader);
 }

@@ -19,7 +19,8 @@ returns-in-Some-clause-answer c =
 pub returns-then-count-gt-MOST_JOBS-clause-answer : goal.returns-then-count-gt-MOST_JOBS-clause-answer
 returns-then-count-gt-MOST_JOBS-clause-answer c =
     let p : Plan = plan_of c.args.tasks.now c.args.machine.now Edf in
-    λ unless. answer-too_many p (slice_index c.args.deadlines.now) c.in_default.ensures.finds c.hyper_jobs-count.result c.hyper_jobs-count.ensures c.if-count-gt-MOST_JOBS.true
+    λ unless. answer-too_many p (slice_index c.args.deadlines.now) c.in_default.ensures.finds c.hyper_jobs-count.result
+    c.hyper_jobs-count.ensures c.if-count-gt-MOST_JOBS.true
 
 pub returns-then-pick-clause-answer : goal.returns-then-pick-clause-answer
 returns-then-pick-clause-answer c =

@@ -1,5 +1,5 @@
-use Rattle.std.proofs.Common.{◌≡◌, ◌<◌, ◌+◌, ◌^◌, length}
-use Rattle.csv_text.specs.Records.{IsPlain, records_left}
+use Rattle.std.proofs.Common.{◌≡◌, length}
+use Rattle.csv_text.specs.Records.{IsPlain, AreCountedFrom, records_left}
 use Rattle.edf_demand.specs.DeadlineFile.{given_from, AreGiven}
 use Rattle.edf_demand.proofs.read.read_rows.Given as goal
 
@@ -7,7 +7,7 @@ use Rattle.edf_demand.proofs.read.read_rows.Given as goal
 abbrev pub invariant-loop-given : goal.invariant-loop-given
 invariant-loop-given l = record {
   plain : IsPlain l.reader;
-  fits : l.row + length (records_left l.reader) < 2 ^ 64;
+  fits : AreCountedFrom l.row l.reader;
   given : AreGiven l.tasks l.given.items;
   rest : given_from l.tasks 1 l.fn.given.items (records_left l.fn.reader)
       ≡ given_from l.tasks l.row l.given.items (records_left l.reader);

@@ -25,7 +25,8 @@ pub returns-in-Ok-clause-totals : goal.returns-in-Ok-clause-totals
 returns-in-Ok-clause-totals g c =
     let r = c.args.kernel in
     subst (λ (t : Totals). IfOk c.tell_tail.result (λ x. x ≡ t))
-    (end-totals (λ (a : ℕ) (n : Note) (b : ℕ). Unit {0}) (λ (a : ℕ) (n : Note) (b : ℕ). Unit {0}) g.G.Governor.demand r.plan (demands_of r.plan r.demands) r.ticks
+    (end-totals (λ (a : ℕ) (n : Note) (b : ℕ). Unit {0}) (λ (a : ℕ) (n : Note) (b : ℕ). Unit {0}) g.G.Governor.demand r.plan
+    (demands_of r.plan r.demands) r.ticks
     c.in-Ok.sums c.in-Ok.ensures.sums) c.tell_tail.ensures.totals
 
 pub returns-in-Ok-clause-few : goal.returns-in-Ok-clause-few

@@ -19,7 +19,8 @@ returns-in-Ok-clause-writes g c =
     let s = c.args.sums.now in
     writes-then a b d ps ps rs (sum_lines h.version h.plan.now s) (noted (names h.plan.now) (End h.ticks s.totals.run s.totals.idle) ∷ []) c.tell_end.result
     (c.in-Ok.ensures ps)
-    (subst (λ (t : Totals). Writes b d ps rs (noted (names h.plan.now) (End h.ticks t.run t.idle) ∷ []) c.tell_end.result) c.totals.ensures c.tell_end.ensures.writes)
+    (subst (λ (t : Totals). Writes b d ps rs (noted (names h.plan.now) (End h.ticks t.run t.idle) ∷ []) c.tell_end.result)
+    c.totals.ensures c.tell_end.ensures.writes)
 
 pub returns-in-Err-clause-writes : goal.returns-in-Err-clause-writes
 returns-in-Err-clause-writes g c =

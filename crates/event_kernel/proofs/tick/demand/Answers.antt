@@ -12,8 +12,8 @@ overflow_add-result c =
       c.units.ensures.units,
       c.charge.ensures.charge,
       ap (λ (m : Table). m.charge) c.machine.ensures.machine,
-      c.known-2.ensures c.args.task c.args.job (omega (arith, worsts-long p.tasks d c.requires.list, c.requires.task)),
+      c.worsts-worsts.ensures.within c.args.task c.args.job (omega (arith, worsts-long p.tasks d c.requires.list, c.requires.task)),
       worst-listed p.tasks d c.requires.list c.args.task c.requires.task,
-      (c.known.ensures.limits.tasks.each c.args.task c.requires.task).low_worst,
-      c.known.ensures.limits.machine.low_charge,
+      (c.machine.ensures.admitted.limits.tasks.each c.args.task c.requires.task).low_worst,
+      c.machine.ensures.admitted.limits.machine.low_charge,
     )

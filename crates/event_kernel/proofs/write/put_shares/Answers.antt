@@ -14,7 +14,8 @@ loop-i-preserved g c ps =
     let text : ℕ → List ℕ = (λ i. share_text (name_of (names p) i) (slice_index c.args.sums.now.by_task i)) in
     below-next (g.W.Sink.shows c.args.out.now) (g.W.Sink.shows c.loop-i.out) (g.W.Sink.shows c.put_line.new.out) ps text c.loop-i.i
     (c.loop-i.invariant ps)
-    (subst (λ (t : List ℕ). Wrote (g.W.Sink.shows c.loop-i.out) (g.W.Sink.shows c.put_line.new.out) t) (c.line_of_share.ensures ∙ ap (share_text (name_of (names p) c.loop-i.i)) c.of_task.ensures) c.in_ok-put_line.ensures)
+    (subst (λ (t : List ℕ). Wrote (g.W.Sink.shows c.loop-i.out) (g.W.Sink.shows c.put_line.new.out) t)
+    (c.line_of_share.ensures ∙ ap (share_text (name_of (names p) c.loop-i.i)) c.of_task.ensures) c.in_ok-put_line.ensures)
 
 pub returns-in_err-put_line : goal.returns-in_err-put_line
 returns-in_err-put_line g c ps =
@@ -23,7 +24,8 @@ returns-in_err-put_line g c ps =
     stopped-exit (g.W.Sink.shows c.args.out.now) (g.W.Sink.shows c.put_line.new.out) ps ps _ c.from_residual.result c.from_residual.ensures.0
     (below-stopped (g.W.Sink.shows c.args.out.now) (g.W.Sink.shows c.loop-i.out) (g.W.Sink.shows c.put_line.new.out) ps text c.loop-i.i (count p)
     (omega (arith, c.loop-i-test.true, c.count-i-end.ensures.count)) (c.loop-i.invariant ps)
-    (subst (λ (t : List ℕ). WroteSome (g.W.Sink.shows c.loop-i.out) (g.W.Sink.shows c.put_line.new.out) t) (c.line_of_share.ensures ∙ ap (share_text (name_of (names p) c.loop-i.i)) c.of_task.ensures) c.in_err-put_line.ensures))
+    (subst (λ (t : List ℕ). WroteSome (g.W.Sink.shows c.loop-i.out) (g.W.Sink.shows c.put_line.new.out) t)
+    (c.line_of_share.ensures ∙ ap (share_text (name_of (names p) c.loop-i.i)) c.of_task.ensures) c.in_err-put_line.ensures))
 
 pub returns : goal.returns
 returns g c ps =

@@ -1,10 +1,11 @@
 use Rattle.std.proofs.Common.{◌≡◌, ℕ, ◌+◌, ◌<◌, length, get_or, true, false, sym, ◌∙◌, ap₂, arith, nat_eq}
+use Rattle.std.proofs.lemmas.Bool.{and_right}
 use Rattle.sched_model.specs.declared.state.Row.{Row}
 use Rattle.sched_model.specs.Plan.{period}
 use Rattle.look_ahead_laws.specs.Ahead.{deadline_at}
 use Rattle.look_ahead.specs.Counters.{stands_before_due}
 use Rattle.look_ahead.proofs.Keeping.{order-released, row_read}
-use Rattle.look_ahead.proofs.Passing.{passing_end, passing_moves, passing_stays, stays_first, stays_other}
+use Rattle.look_ahead.proofs.Passing.{passing_end, passing_moves, passing_stays, stays_other}
 use Rattle.look_ahead.proofs.Walking.{tasks_long}
 use Rattle.look_ahead.proofs.order.move_to_place.Goals as goal
 use Rattle.look_ahead.proofs.order.move_to_place.Goals.{then-order-k+then-stands_before_due, else-order-k}
@@ -35,7 +36,7 @@ loop-k-preserved c =
           elim w.else-order-k.branch [
             | else-order-k-via-then-order-k+else-stands_before_due w' ↦
                 let first : test next ≡ false = sym w'.stands_before_due.ensures ∙ w'.if-stands_before_due.false in
-                rw w.order-is (passing_stays test i old order k lt was (stays_first (nat_eq here i) (test next) first))
+                rw w.order-is (passing_stays test i old order k lt was (and_right (nat_eq here i) (test next) first))
             | else-order-k-via-else-order-k w' ↦
                 let other = stays_other here i (test next) w'.if-order-k.false in
                 rw w.order-is (passing_stays test i old order k lt was other)

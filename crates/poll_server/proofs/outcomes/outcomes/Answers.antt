@@ -1,7 +1,8 @@
 use Rattle.std.proofs.Common.{arith}
 use Rattle.std.proofs.lemmas.Grind.{common_steps}
+use Rattle.grid_fraction.proofs.Sums.{list_below-more}
 use Rattle.poll_server.specs.EachOutcome.{outcome_of}
-use Rattle.poll_server.proofs.Steps.{reached-first, list_below-more}
+use Rattle.poll_server.proofs.Steps.{reached-first}
 use Rattle.poll_server.proofs.outcomes.outcomes.Goals as goal
 
 pub loop-m-init : goal.loop-m-init

@@ -10,7 +10,7 @@ use Rattle.poll_server.proofs.polling.poll.Goals as goal
 
 pub returns-then-count-gt-MOST_JOBS-clause-in_order : goal.returns-then-count-gt-MOST_JOBS-clause-in_order
 returns-then-count-gt-MOST_JOBS-clause-in_order g c =
-    server-jobs c.args.plan.now c.args.server c.args.requests.now c.known.ensures c.requires.server c.as_slice.ensures.limits
+    server-jobs c.args.plan.now c.args.server c.args.requests.now c.scheduler-scheduler.ensures.admitted c.requires.server c.as_slice.ensures.limits
 
 pub polled_demands-requires-clause-few : goal.polled_demands-requires-clause-few
 polled_demands-requires-clause-few g c =
@@ -18,21 +18,21 @@ polled_demands-requires-clause-few g c =
       arith,
       jobs-within c.args.plan.now c.args.server c.args.ticks c.requires.server,
       c.jobs_below-jobs.ensures.jobs,
-      c.all_jobs_below-count.ensures,
+      c.count_jobs-count.ensures,
       c.if-count-gt-MOST_JOBS.false,
     )
 
 pub returns-in_err-demands-clause-in_order : goal.returns-in_err-demands-clause-in_order
 returns-in_err-demands-clause-in_order g c =
-    server-jobs c.args.plan.now c.args.server c.args.requests.now c.known.ensures c.requires.server c.as_slice.ensures.limits
+    server-jobs c.args.plan.now c.args.server c.args.requests.now c.scheduler-scheduler.ensures.admitted c.requires.server c.as_slice.ensures.limits
 
 pub returns-in_err-ends-clause-in_order : goal.returns-in_err-ends-clause-in_order
 returns-in_err-ends-clause-in_order g c =
-    server-jobs c.args.plan.now c.args.server c.args.requests.now c.known.ensures c.requires.server c.as_slice.ensures.limits
+    server-jobs c.args.plan.now c.args.server c.args.requests.now c.scheduler-scheduler.ensures.admitted c.requires.server c.as_slice.ensures.limits
 
 pub returns-in_err-kernel-clause-in_order : goal.returns-in_err-kernel-clause-in_order
 returns-in_err-kernel-clause-in_order g c =
-    server-jobs c.args.plan.now c.args.server c.args.requests.now c.known.ensures c.requires.server c.as_slice.ensures.limits
+    server-jobs c.args.plan.now c.args.server c.args.requests.now c.scheduler-scheduler.ensures.admitted c.requires.server c.as_slice.ensures.limits
 
 pub outcomes-requires-clause-long : goal.outcomes-requires-clause-long
 outcomes-requires-clause-long g c =
@@ -41,7 +41,7 @@ outcomes-requires-clause-long g c =
 
 pub returns-in_err-list-clause-in_order : goal.returns-in_err-list-clause-in_order
 returns-in_err-list-clause-in_order g c =
-    server-jobs c.args.plan.now c.args.server c.args.requests.now c.known.ensures c.requires.server c.as_slice.ensures.limits
+    server-jobs c.args.plan.now c.args.server c.args.requests.now c.scheduler-scheduler.ensures.admitted c.requires.server c.as_slice.ensures.limits
 
 pub returns : goal.returns
 returns g c =
@@ -50,7 +50,7 @@ returns g c =
     let i = c.args.server in
     let all : Answered demand (server_of p i c.args.requests.now) c.args.ticks c.of-2.result =
     subst (λ (l : List Request). Answered demand (server_of p i l) c.args.ticks c.of-2.result) c.as_slice.ensures.requests
-    (answered demand (server_of p i c.as_slice.result.now) (c.own_list.ensures.looks demand) c.in_ok-demands.demands
+    (answered demand (server_of p i c.as_slice.result.now) c.in_ok-demands.demands
     c.jobs_below-jobs.result c.args.ticks c.jobs_below-jobs.ensures.jobs c.in_ok-demands.ensures c.in_ok-kernel.kernel
     c.in_ok-kernel.ensures.kernel c.hear-totals.ensures.deadlines c.in_ok-ends.ends c.hear-totals.new.ends
     c.in_ok-ends.ensures.task c.in_ok-ends.ensures.ends c.hear-totals.ensures.heard c.in_ok-list.list.items
@@ -58,7 +58,7 @@ returns g c =
     record {
       served = all.served;
       outcomes = all.outcomes;
-      in_order = server-jobs p i c.args.requests.now c.known.ensures c.requires.server c.as_slice.ensures.limits;
+      in_order = server-jobs p i c.args.requests.now c.scheduler-scheduler.ensures.admitted c.requires.server c.as_slice.ensures.limits;
       bound = all.bound;
       few = search rules;
       many = search rules;

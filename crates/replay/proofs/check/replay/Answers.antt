@@ -3,6 +3,7 @@ use Rattle.std.specs.Prelude.{Result}
 use Rattle.dvs_base.specs.Checks.{IsUnlessMemory}
 use Rattle.dvs_base.specs.declared.note.Totals.{Totals}
 use Rattle.governor.specs.Schedule.{ask_of}
+use Rattle.replay_laws.proofs.Owning.{own-lists}
 use Rattle.replay.specs.declared.fault.ReplayFault.{ReplayFault}
 use Rattle.replay.specs.declared.fault.ReplayFault.TheVariants as fault
 use Rattle.replay.proofs.Comparing.{ended-once}
@@ -13,27 +14,27 @@ pub returns-clause-own_list : goal.returns-clause-own_list
 returns-clause-own_list g c =
     let p = c.args.plan.now in
     let m = g.G.Governor.demand in
-    ok-replayed p c.known.ensures.limits (ask_of m p) c.args.trace.now
-    (ended-once c.args.trace.now.notes c.requires.ended) (c.own_list.ensures.own m) c.check.result c.check.ensures
+    ok-replayed p c.scheduler-scheduler.ensures.admitted.limits (ask_of m p) c.args.trace.now
+    (ended-once c.args.trace.now.notes c.requires.ended) ((own-lists p c.scheduler-scheduler.ensures.admitted.limits).own m) c.check.result c.check.ensures
 
 pub returns-clause-some_list : goal.returns-clause-some_list
 returns-clause-some_list g c rows h few =
     let p = c.args.plan.now in
     let m = g.G.Governor.demand in
     subst (λ (r : Result Totals ReplayFault). IsUnlessMemory fault.NoMemory (λ (totals : Totals). totals) c.check.result r)
-    (some-replayed p c.known.ensures.limits (ask_of m p) c.args.trace.now
-    (ended-once c.args.trace.now.notes c.requires.ended) (c.own_list.ensures.own m) rows h few)
+    (some-replayed p c.scheduler-scheduler.ensures.admitted.limits (ask_of m p) c.args.trace.now
+    (ended-once c.args.trace.now.notes c.requires.ended) ((own-lists p c.scheduler-scheduler.ensures.admitted.limits).own m) rows h few)
     c.check.ensures
 
 pub returns-clause-differs : goal.returns-clause-differs
 returns-clause-differs g c =
     let p = c.args.plan.now in
     let m = g.G.Governor.demand in
-    err-differs p c.known.ensures.limits (ask_of m p) c.args.trace.now
+    err-differs p c.scheduler-scheduler.ensures.admitted.limits (ask_of m p) c.args.trace.now
     (ended-once c.args.trace.now.notes c.requires.ended) c.check.result c.check.ensures
 
 pub returns-clause-shown : goal.returns-clause-shown
 returns-clause-shown g c =
     let p = c.args.plan.now in
-    err-shown p c.known.ensures.limits (ask_of g.G.Governor.demand p) c.args.trace.now
+    err-shown p c.scheduler-scheduler.ensures.admitted.limits (ask_of g.G.Governor.demand p) c.args.trace.now
     (ended-once c.args.trace.now.notes c.requires.ended) c.check.result c.check.ensures

@@ -1,7 +1,6 @@
-use Rattle.std.proofs.Common.{ap, ◌∙◌, subst}
+use Rattle.std.proofs.Common.{subst}
 use Rattle.std.specs.List.{AllByRecursion}
 use Rattle.std.proofs.lemmas.List.{drop_all}
-use Rattle.demand_list.specs.Demands.{DemandsOf}
 use Rattle.sched_model.specs.Plan.{count}
 use Rattle.replay_laws.specs.OwnList.{IsFit}
 use Rattle.replay.specs.Replays.{NamesTask}
@@ -14,8 +13,8 @@ loop-note-init c =
     record {
       tasks = c.requires.tasks;
       fit = over-fit p c.args.notes.now c.requires.fit;
-      list = ap (λ (d : DemandsOf). d.worsts) c.in_ok-demands.ensures ∙ (c.deref.ensures.value ∙ c.in_ok-worsts.ensures.worsts);
-      rows = fixed-none p c.args.notes.now c.in_ok-demands.demands (ap (λ (d : DemandsOf). d.rows) c.in_ok-demands.ensures);
+      list = c.in_ok-demands.ensures.list;
+      rows = fixed-none p c.args.notes.now c.in_ok-demands.demands c.in_ok-demands.ensures.rows;
     }
 
 pub loop-note-preserved : goal.loop-note-preserved

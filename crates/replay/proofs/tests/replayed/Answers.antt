@@ -1,4 +1,4 @@
-use Rattle.std.proofs.Common.{◌≡◌, ◌≢◌, ℕ, List, length, ap, ◌∙◌, sym, subst}
+use Rattle.std.proofs.Common.{◌≢◌, ℕ, List, length, ap, ◌∙◌, sym, subst}
 use Rattle.std.specs.List.{AllByRecursion, AllPairs}
 use Rattle.std.proofs.lemmas.List.{length-map}
 use Rattle.task_model.specs.declared.task.Task.{Task}
@@ -9,7 +9,7 @@ use Rattle.replay.proofs.tests.replayed.Goals as goal
 pub read_trace-requires-clause-distinct : goal.read_trace-requires-clause-distinct
 read_trace-requires-clause-distinct c =
     subst (λ (names : List (List ℕ)). AllPairs (λ a b. a ≢ b) names) (sym c.names.ensures)
-    (names-distinct c.args.plan.now.tasks c.known.ensures.limits.tasks)
+    (names-distinct c.args.plan.now.tasks c.scheduler-scheduler.ensures.admitted.limits.tasks)
 
 pub replay-requires-clause-tasks : goal.replay-requires-clause-tasks
 replay-requires-clause-tasks c =

@@ -2,7 +2,7 @@ use Rattle.std.proofs.Common.{length, Err, Ok, refl, sym, ap, ◌∙◌, subst}
 use Rattle.dvs_base.specs.declared.kind.Scheduler.TheVariants.{Rm}
 use Rattle.sched_model.specs.Plan.{Plan, plan_of, count}
 use Rattle.sched_model.specs.Admission.{IsWithinLimits}
-use Rattle.sched_model.proofs.ScheduleLemmas.{length-list_below}
+use Rattle.sched_model.proofs.Tables.{length-list_below}
 use Rattle.rm_response_laws.specs.Responses.{response}
 use Rattle.rm_response_laws.proofs.Responding.{always-meets}
 use Rattle.rm_response.specs.Denials.{IsResponseDenial, IsMissed, IsShownMiss}

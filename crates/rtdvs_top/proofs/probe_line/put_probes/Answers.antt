@@ -8,8 +8,7 @@ use Rattle.rtdvs_top.proofs.probe_line.put_probes.Goals as goal
 pub returns-in-Err : goal.returns-in-Err
 returns-in-Err g c =
     let names = names_of (option_copied c.args.tasks) in
-    part-put names g.P.Probe.seen (g.E.Sink.shows c.args.notes.now) (g.E.Sink.shows c.loop-at.notes) (g.E.Sink.shows c.put_line.new.out)
-    c.args.probes.now c.loop-at.at c.index-probes-at.result _ c.probe_line-line.result
+    part-put names g.P.Probe.seen _ c.args.probes.now _ _ _ c.loop-at.at c.index-probes-at.result _
     (omega (arith, c.loop-at-test.true)) c.index-probes-at.is
     (c.probe_line-line.ensures.text ∙ ap₂ (probe_text names) c.shown_at.ensures.place c.shown_at.ensures.probe)
     c.loop-at.invariant c.in-Err.ensures
@@ -17,8 +16,7 @@ returns-in-Err g c =
 pub loop-at-preserved : goal.loop-at-preserved
 loop-at-preserved g c =
     let names = names_of (option_copied c.args.tasks) in
-    next-put names g.P.Probe.seen (g.E.Sink.shows c.args.notes.now) (g.E.Sink.shows c.loop-at.notes) (g.E.Sink.shows c.put_line.new.out)
-    c.args.probes.now c.loop-at.at c.index-probes-at.result _ c.probe_line-line.result
+    next-put names g.P.Probe.seen _ c.args.probes.now _ _ _ c.loop-at.at c.index-probes-at.result _
     (omega (arith, c.loop-at-test.true)) c.index-probes-at.is
     (c.probe_line-line.ensures.text ∙ ap₂ (probe_text names) c.shown_at.ensures.place c.shown_at.ensures.probe)
     c.loop-at.invariant c.in-Ok.ensures

@@ -1,16 +1,18 @@
 use Rattle.std.proofs.Common.{length, arith}
-use Rattle.rtdvs_top.proofs.ResponsePuts.{next-response, part-response}
+use Rattle.dvs_base.specs.Parts.{joined}
+use Rattle.grid_fraction.specs.Numbers.{list_below}
+use Rattle.rtdvs_top.specs.ResponseAnswer.{response_text}
+use Rattle.rtdvs_top.proofs.NumberedPuts.{joined-below, next-put, part-put}
 use Rattle.rtdvs_top.proofs.response_answer.put_responses.Goals as goal
 
 pub loop-i-preserved : goal.loop-i-preserved
 loop-i-preserved g c =
-    next-response c.args.tasks.now c.args.response.now
-    (g.W.Sink.shows c.args.out.now) (g.W.Sink.shows c.loop-i.out) (g.W.Sink.shows c.put_line.new.out)
-    c.loop-i.i c.response_line-line.result c.response_line-line.ensures.text c.loop-i.invariant c.in-Ok.ensures
+    let f = response_text c.args.tasks.now c.args.response.now in
+    next-put f (λ n. joined (list_below n f)) (length c.args.tasks.now) (λ n lt. joined-below f n) _ _ _ c.loop-i.i _
+    (omega (arith, c.loop-i-test.true, c.count-i-end.ensures.count)) c.response_line-line.ensures.text c.loop-i.invariant c.in-Ok.ensures
 
 pub returns-in-Err : goal.returns-in-Err
 returns-in-Err g c =
-    part-response c.args.tasks.now c.args.response.now
-    (g.W.Sink.shows c.args.out.now) (g.W.Sink.shows c.loop-i.out) (g.W.Sink.shows c.put_line.new.out)
-    c.loop-i.i (length c.args.tasks.now) c.response_line-line.result
+    let f = response_text c.args.tasks.now c.args.response.now in
+    part-put f (λ n. joined (list_below n f)) (length c.args.tasks.now) (λ n lt. joined-below f n) _ _ _ c.loop-i.i _
     (omega (arith, c.loop-i-test.true, c.count-i-end.ensures.count)) c.response_line-line.ensures.text c.loop-i.invariant c.in-Err.ensures

@@ -6,5 +6,5 @@ use Rattle.rtdvs_top.proofs.run.admitted_line.Goals as goal
 pub point-point-requires : goal.point-point-requires
 point-point-requires c =
     let d = c.static_demand-demand.result in
-    rw c.machine-2.ensures.machine (pick-within c.args.plan.now.machine d c.lowest-pick.result c.known.ensures.limits.machine
+    rw c.machine-2.ensures.machine (pick-within c.args.plan.now.machine d c.lowest-pick.result c.machine.ensures.admitted.limits.machine
     (c.lowest-pick.ensures ∙ ap (λ (x : Table). lowest_pick x d) c.machine.ensures.machine))

@@ -1,20 +1,22 @@
+use Rattle.std.proofs.Common.{rules}
 use Rattle.rtdvs_top.proofs.Published.{ended-published, told-published, met-published}
 use Rattle.rtdvs_top.proofs.run.run_governed.Goals as goal
 
-pub returns-in-Ok-clause-ended : goal.returns-in-Ok-clause-ended
-returns-in-Ok-clause-ended g c =
+pub returns-in-Ok : goal.returns-in-Ok
+returns-in-Ok g c =
     let r = c.args.written.now.run in
-    let publishes = g.met.G.Publishing.publishing.publishes r.plan.now c.known-2.ensures c.requires.serves in
-    ended-published g.G.Governor.demand _ r.plan.now r.demands.now c.requires.run.list c.known.ensures publishes c.args.written.now.version _ _ r.ticks _ c.run_from_opening.ensures.ended
-
-pub returns-in-Ok-clause-met : goal.returns-in-Ok-clause-met
-returns-in-Ok-clause-met g c =
-    let r = c.args.written.now.run in
-    let publishes = g.met.G.Publishing.publishing.publishes r.plan.now c.known-2.ensures c.requires.serves in
-    met-published g.G.Governor.demand _ r.plan.now r.demands.now c.requires.run.list c.known.ensures publishes r.ticks _ c.run_from_opening.ensures.met
-
-pub returns-in-Ok-clause-told : goal.returns-in-Ok-clause-told
-returns-in-Ok-clause-told g c =
-    let r = c.args.written.now.run in
-    let publishes = g.met.G.Publishing.publishing.publishes r.plan.now c.known-2.ensures c.requires.serves in
-    told-published g.G.Governor.demand _ r.plan.now r.demands.now c.requires.run.list c.known.ensures publishes c.args.written.now.version _ _ _ _ r.ticks _ c.run_from_opening.ensures.told
+    let demand = g.G.Governor.demand in
+    let list = c.requires.run.list in
+    let low = c.worsts-worsts.ensures.within in
+    let admitted = c.scheduler-scheduler.ensures.admitted in
+    let publishes = g.met.G.Publishing.publishing.publishes r.plan.now admitted c.requires.serves in
+    let v = c.args.written.now.version in
+    record {
+      ended = ended-published demand _ r.plan.now r.demands.now list low publishes v _ _ r.ticks _ c.run_from_opening.ensures.ended;
+      told = told-published demand _ r.plan.now r.demands.now list low publishes v _ _ _ _ r.ticks _ c.run_from_opening.ensures.told;
+      met = met-published demand _ r.plan.now r.demands.now list low publishes v r.ticks c.requires.run.low_ticks admitted _ c.run_from_opening.ensures.met;
+      leaves = search rules;
+      kept = search rules;
+      loads = search rules;
+      shown = search rules;
+    }

@@ -25,5 +25,5 @@ returns-clause-ended g c =
     subst (λ (x : TraceOf). Ends old new (answer_of_plan Two x.plan.governor d x.plan.ticks p) c.run_plan.result)
     c.trace.view_is c.run_plan.ensures.ended in
     subst (λ (answer : Result (List ℕ) Status). Ends old new answer c.run_plan.result)
-    (migrated p c.known.ensures.limits t c.requires.trace.ended c.requires.compared d demands c.requires.trace.scheduler)
+    (migrated p c.scheduler-scheduler.ensures.admitted.limits t c.requires.trace.ended c.requires.compared d demands c.requires.trace.scheduler)
     ended

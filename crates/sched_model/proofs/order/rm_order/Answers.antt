@@ -11,5 +11,6 @@ returns c =
     let n = length c.args.tasks.now in
     let sorted = c.sort_unstable.new.self.items in
     let moved = subst (λ (ks : List (ℕ × ℕ)). IsPermutation ks sorted) c.in_ok-keys.ensures c.sort_unstable.ensures.permutation in
-    let numbers : map (λ k. k.1) c.deref.result.now ≡ in_order key n = ap (map (λ k. k.1)) c.deref.ensures.value ∙ sorted_keys key n sorted moved c.sort_unstable.ensures.sorted in
+    let numbers : map (λ k. k.1) c.deref.result.now ≡ in_order key n = ap (map (λ k. k.1)) c.deref.ensures.value
+    ∙ sorted_keys key n sorted moved c.sort_unstable.ensures.sorted in
     rw (← numbers) c.numbers_of.ensures

@@ -9,4 +9,5 @@ returns-in_err-line-clause-read c =
     let p = err_from_is_err_and c.from_residual.result c.from_residual.ensures.1 in
     rw (p.1, p.2) (λ some.
     sym c.loop-i.invariant.left
-    ∙ tasks-refused c.loop-i.number c.args.names.now c.args.tasks.now c.loop-i.i (parts 10 c.loop-i.rest.now) c.in_err-line.field-0.0 c.loop-i-test.true c.requires (c.in_err-line.ensures.line some))
+    ∙ tasks-refused c.loop-i.number c.args.names.now c.args.tasks.now c.loop-i.i
+    (parts 10 c.loop-i.rest.now) c.in_err-line.field-0.0 c.loop-i-test.true c.requires (c.in_err-line.ensures.line some))

@@ -8,5 +8,6 @@ use Rattle.trace_reader.proofs.head.read_task_lines.Given as goal
 abbrev pub invariant-loop-i : goal.invariant-loop-i
 invariant-loop-i l = record {
   few : l.number ≤ 800001;
-  left : tasks_from l.number (task_lines (drop l.i l.names) (drop l.i l.tasks)) (parts 10 l.rest) ≡ tasks_from 3 (task_lines l.names l.tasks) (parts 10 l.bytes);
+  left : tasks_from l.number (task_lines (drop l.i l.names) (drop l.i l.tasks)) (parts 10 l.rest)
+      ≡ tasks_from 3 (task_lines l.names l.tasks) (parts 10 l.bytes);
 }

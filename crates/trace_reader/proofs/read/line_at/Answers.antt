@@ -2,11 +2,11 @@ use Rattle.std.proofs.Common.{rules}
 use Rattle.trace_reader.proofs.Reading.{line_at-more}
 use Rattle.trace_reader.proofs.read.line_at.Goals as goal
 
-pub returns-then-number-gt800000-clause-line : goal.returns-then-number-gt800000-clause-line
-returns-then-number-gt800000-clause-line c = rw (c.in-Some.ensures.found, line_at-more) (search rules)
+pub returns-then-number-gt-MOST_LINES-clause-line : goal.returns-then-number-gt-MOST_LINES-clause-line
+returns-then-number-gt-MOST_LINES-clause-line c = rw (c.in-Some.ensures.found, line_at-more) (search rules)
 
-pub returns-then-line-gt255-clause-line : goal.returns-then-line-gt255-clause-line
-returns-then-line-gt255-clause-line c = rw (c.in-Some.ensures.found, line_at-more) (search rules)
+pub returns-then-line-gt-LONGEST_LINE-clause-line : goal.returns-then-line-gt-LONGEST_LINE-clause-line
+returns-then-line-gt-LONGEST_LINE-clause-line c = rw (c.in-Some.ensures.found, line_at-more) (search rules)
 
-pub returns-else-line-gt255-clause-line : goal.returns-else-line-gt255-clause-line
-returns-else-line-gt255-clause-line c = rw (c.in-Some.ensures.found, line_at-more) (search rules)
+pub returns-else-line-gt-LONGEST_LINE-clause-line : goal.returns-else-line-gt-LONGEST_LINE-clause-line
+returns-else-line-gt-LONGEST_LINE-clause-line c = rw (c.in-Some.ensures.found, line_at-more) (search rules)

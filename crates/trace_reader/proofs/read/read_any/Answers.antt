@@ -20,9 +20,11 @@ returns-clause-only c = λ t h.
     let tasks = task_lines c.args.names.now c.args.tasks.now in
     let named = names-each c.args.names.now c.known_names.ensures in
     let lines = version-lines t.version tasks (task_lines-lines c.args.names.now c.args.tasks.now named) in
-    subst (λ meaning. IsUnlessMemory NoMemory (λ t. t) c.read.result meaning) (reads-only Two c.args.names.now tasks c.args.bytes.now t named c.requires.distinct lines tt h) c.read.ensures
+    subst (λ meaning. IsUnlessMemory NoMemory (λ t. t) c.read.result meaning)
+    (reads-only Two c.args.names.now tasks c.args.bytes.now t named c.requires.distinct lines tt h) c.read.ensures
 
 pub returns-clause-one_text : goal.returns-clause-one_text
 returns-clause-one_text c =
     let named = names-each c.args.names.now c.known_names.ensures in
-    one-text c.args.names.now (task_lines c.args.names.now c.args.tasks.now) named c.requires.distinct (task_lines-lines c.args.names.now c.args.tasks.now named)
+    one-text c.args.names.now (task_lines c.args.names.now c.args.tasks.now) named c.requires.distinct
+    (task_lines-lines c.args.names.now c.args.tasks.now named)

@@ -10,7 +10,8 @@ invariant-loop-notes l = record {
   few : l.number ≤ 800001;
   told : l.told ≤ l.number;
   sums : HasSums l.notes.items l.shares.sums;
-  left : notes_from l.version l.names l.number (record { notes = l.notes.items; told = l.told }) (parts 10 l.rest) ≡ notes_from l.version l.names l.first nothing_yet (parts 10 l.bytes);
+  left : notes_from l.version l.names l.number (record { notes = l.notes.items; told = l.told }) (parts 10 l.rest)
+      ≡ notes_from l.version l.names l.first nothing_yet (parts 10 l.bytes);
 }
 
 abbrev pub decreases-loop-notes : goal.decreases-loop-notes

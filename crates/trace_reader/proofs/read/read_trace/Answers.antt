@@ -14,15 +14,18 @@ no-tasks [] = refl
 no-tasks (name ∷ names) = refl
 
 pub returns-clause-file : goal.returns-clause-file
-returns-clause-file c = subst (λ tasks. IsUnlessMemory NoMemory (λ t. t) c.read.result (trace_file One c.args.names.now tasks c.args.bytes.now)) (no-tasks c.args.names.now) c.read.ensures
+returns-clause-file c = subst (λ tasks. IsUnlessMemory NoMemory (λ t. t) c.read.result (trace_file One c.args.names.now tasks c.args.bytes.now))
+    (no-tasks c.args.names.now) c.read.ensures
 
 pub returns-clause-found : goal.returns-clause-found
 returns-clause-found c =
-    clause-found c.read.result (trace_file One c.args.names.now [] c.args.bytes.now) (λ t. IsTextOf c.args.names.now [] c.args.bytes.now t × (t.version ≡ One)) (returns-clause-file c)
+    clause-found c.read.result (trace_file One c.args.names.now [] c.args.bytes.now)
+    (λ t. IsTextOf c.args.names.now [] c.args.bytes.now t × (t.version ≡ One)) (returns-clause-file c)
     (λ t e. let found = reads-found One c.args.names.now [] c.args.bytes.now t e in (found.0, version-up_to t.version found.1))
 
 pub returns-clause-only : goal.returns-clause-only
 returns-clause-only c = λ t h one.
     let named = names-each c.args.names.now c.known_names.ensures in
     let known = version-none t.version one in
-    subst (λ meaning. IsUnlessMemory NoMemory (λ t. t) c.read.result meaning) (reads-only One c.args.names.now [] c.args.bytes.now t named c.requires.distinct known.0 known.1 h) (returns-clause-file c)
+    subst (λ meaning. IsUnlessMemory NoMemory (λ t. t) c.read.result meaning)
+    (reads-only One c.args.names.now [] c.args.bytes.now t named c.requires.distinct known.0 known.1 h) (returns-clause-file c)

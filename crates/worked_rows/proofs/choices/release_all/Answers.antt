@@ -16,13 +16,13 @@ pub released-requires-clause-can : goal.released-requires-clause-can
 released-requires-clause-can g c =
     let lt : c.loop-task.task < count c.args.plan.now = omega (arith, c.loop-task-test.true, c.count-task-end.ensures.count) in
     let first : offset c.args.plan.now c.loop-task.task ≡ 0 = omega (arith, c.offset.ensures.offset, c.if-offset-eq0.true) in
-    next-can_release c.args.plan.now c.known.ensures c.loop-task.task c.loop-task.any c.loop-task.state c.loop-task.invariant.0 lt first
+    next-can_release c.args.plan.now c.scheduler-scheduler.ensures.admitted c.loop-task.task c.loop-task.any c.loop-task.state c.loop-task.invariant.0 lt first
 
 pub release-requires : goal.release-requires
 release-requires g c =
     let lt : c.loop-task.task < count c.args.plan.now = omega (arith, c.loop-task-test.true, c.count-task-end.ensures.count) in
     let first : offset c.args.plan.now c.loop-task.task ≡ 0 = omega (arith, c.offset.ensures.offset, c.if-offset-eq0.true) in
-    next-can_release c.args.plan.now c.known.ensures c.loop-task.task c.loop-task.any c.loop-task.state c.loop-task.invariant.0 lt first
+    next-can_release c.args.plan.now c.scheduler-scheduler.ensures.admitted c.loop-task.task c.loop-task.any c.loop-task.state c.loop-task.invariant.0 lt first
 
 pub loop-task-preserved : goal.loop-task-preserved
 loop-task-preserved g c =
@@ -33,12 +33,12 @@ loop-task-preserved g c =
       | then-offset-eq0 w ↦ (let first : offset p i ≡ 0 = omega (arith, c.offset.ensures.offset, w.if-offset-eq0.true) in
           rw (w.any-is, w.state-is, w.governor-is) (
             subst (HasReleased p (i + 1) true) (sym w.release.ensures)
-                (next-released p c.known.ensures i c.loop-task.any c.loop-task.state c.loop-task.invariant.0 lt first),
+                (next-released p c.scheduler-scheduler.ensures.admitted i c.loop-task.any c.loop-task.state c.loop-task.invariant.0 lt first),
             subst (λ (s : StateOf). g.G.Governor.stands w.released.new.self p s) (sym w.release.ensures) w.released.ensures,
           ))
       | else-offset-eq0 w ↦ (let late : offset p i ≡ 0 → ⊥ = (λ e. w.if-offset-eq0.false (c.offset.ensures.offset ∙ e)) in
           rw (w.any-is, w.state-is, w.governor-is) (
-            next-passed p c.known.ensures i c.loop-task.any c.loop-task.state c.loop-task.invariant.0 lt late,
+            next-passed p c.scheduler-scheduler.ensures.admitted i c.loop-task.any c.loop-task.state c.loop-task.invariant.0 lt late,
             c.loop-task.invariant.1,
           ))
     ]
@@ -50,8 +50,9 @@ pub returns-then-any-clause-of : goal.returns-then-any-clause-of
 returns-then-any-clause-of g c =
     let p = c.args.plan.now in
     let whole : c.loop-task.task ≡ count p = omega (arith, c.count-task-end.ensures.count) in
-    let some : HasReleased p c.loop-task.task true c.loop-task.state = subst (λ b. HasReleased p c.loop-task.task b c.loop-task.state) c.if-any.true c.loop-task.invariant.0 in
-    subst (IsOfPlan p) (sym c.mark.ensures) (marked-of p c.known.ensures c.loop-task.task c.loop-task.state whole some)
+    let some : HasReleased p c.loop-task.task true c.loop-task.state =
+    subst (λ b. HasReleased p c.loop-task.task b c.loop-task.state) c.if-any.true c.loop-task.invariant.0 in
+    subst (IsOfPlan p) (sym c.mark.ensures) (marked-of p c.scheduler-scheduler.ensures.admitted c.loop-task.task c.loop-task.state whole some)
 
 pub returns-else-any-clause-of : goal.returns-else-any-clause-of
 returns-else-any-clause-of g c = c.loop-task.invariant.0.of
@@ -60,12 +61,14 @@ pub returns-then-any-clause-decision : goal.returns-then-any-clause-decision
 returns-then-any-clause-decision g c =
     let p = c.args.plan.now in
     let whole : c.loop-task.task ≡ count p = omega (arith, c.count-task-end.ensures.count) in
-    let some : HasReleased p c.loop-task.task true c.loop-task.state = subst (λ b. HasReleased p c.loop-task.task b c.loop-task.state) c.if-any.true c.loop-task.invariant.0 in
-    subst (IsAtDecision p) (sym c.mark.ensures) (marked-decision p c.known.ensures c.loop-task.task c.loop-task.state whole some)
+    let some : HasReleased p c.loop-task.task true c.loop-task.state =
+    subst (λ b. HasReleased p c.loop-task.task b c.loop-task.state) c.if-any.true c.loop-task.invariant.0 in
+    subst (IsAtDecision p) (sym c.mark.ensures) (marked-decision p c.scheduler-scheduler.ensures.admitted c.loop-task.task c.loop-task.state whole some)
 
 pub returns-else-any-clause-decision : goal.returns-else-any-clause-decision
 returns-else-any-clause-decision g c =
     let p = c.args.plan.now in
     let whole : c.loop-task.task ≡ count p = omega (arith, c.count-task-end.ensures.count) in
-    let none : HasReleased p c.loop-task.task false c.loop-task.state = subst (λ b. HasReleased p c.loop-task.task b c.loop-task.state) c.if-any.false c.loop-task.invariant.0 in
-    unmarked-decision p c.known.ensures c.loop-task.task c.loop-task.state whole none
+    let none : HasReleased p c.loop-task.task false c.loop-task.state =
+    subst (λ b. HasReleased p c.loop-task.task b c.loop-task.state) c.if-any.false c.loop-task.invariant.0 in
+    unmarked-decision p c.scheduler-scheduler.ensures.admitted c.loop-task.task c.loop-task.state whole none

@@ -1,11 +1,12 @@
 use Rattle.std.proofs.Common.{◌≡◌, ◌+◌, ◌/◌, ◌%◌, ◌<◌, ℕ, length, arith, ap, ap₂, ◌∙◌, sym, get_or}
+use Rattle.std.proofs.lemmas.List.{get_or_default}
 use Rattle.task_model.specs.declared.task.Task.{Task}
 use Rattle.task_model.specs.Tasks.{no_task, task_at}
 use Rattle.task_model.specs.DemandRows.{DemandRow}
 use Rattle.demand_list.specs.Demands.{with_row}
 use Rattle.workload.specs.Draws.{next_state, number_of, draw}
 use Rattle.workload.specs.Workload.{made_row}
-use Rattle.workload.proofs.Drawing.{one-draw, get_or-default}
+use Rattle.workload.proofs.Drawing.{one-draw}
 use Rattle.workload.proofs.MadeRows.{made_row-free, made_row-last}
 use Rattle.workload.proofs.made.make_demands.Goals as goal
 
@@ -25,7 +26,7 @@ loop-row-preserved c =
     let place : r / 4 < length c.args.tasks.now = omega (arith, c.loop-row-test.true) in
     let found : Task = get_or c.args.tasks.now (r / 4) c.index-tasks-task.result in
     let task : found ≡ task_at c.args.tasks.now (r / 4) =
-    get_or-default c.args.tasks.now (r / 4) c.index-tasks-task.result no_task place in
+    get_or_default c.args.tasks.now (r / 4) c.index-tasks-task.result no_task place in
     let row : row_of (r / 4) (c.from.result + 1) (c.draw.result % (found.worst + 1)) ≡ made_row c.args.tasks.now x r =
     ap (λ job. row_of (r / 4) (job + 1) (c.draw.result % (found.worst + 1))) c.from.ensures
     ∙ ap₂ (λ number (t : Task). row_of (r / 4) (r % 4 + 1) (number % (t.worst + 1))) drawn task in

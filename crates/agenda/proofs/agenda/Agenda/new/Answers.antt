@@ -23,15 +23,18 @@ loop-task-preserved c =
     let below : c.loop-task.task < count c.args.plan.now = omega (arith, c.loop-task-test.true, c.count-task-end.ensures.count) in
     record {
       limit = c.insert.ensures.limit ∙ c.loop-task.invariant.limit;
-      held = more-held c.args.plan.now (opening c.args.plan.now) c.loop-task.task (record { task = c.loop-task.task; due = c.offset.result; period = c.period.result }) c.loop-task.calendar.entries
-          c.insert.new.self.entries below c.loop-task.invariant.held (opening-entry c.args.plan.now c.loop-task.task c.offset.result c.period.result below c.offset.ensures.offset c.period.ensures.period) c.insert.ensures.entries;
+      held = more-held c.args.plan.now (opening c.args.plan.now) c.loop-task.task
+          (record { task = c.loop-task.task; due = c.offset.result; period = c.period.result }) c.loop-task.calendar.entries
+          c.insert.new.self.entries below c.loop-task.invariant.held (opening-entry c.args.plan.now c.loop-task.task c.offset.result
+          c.period.result below c.offset.ensures.offset c.period.ensures.period) c.insert.ensures.entries;
     }
 
 pub returns : goal.returns
 returns c = record {
-  scheduler = ap (λ (r : ReadyOf). r.scheduler) c.in_ok-ready.ensures ∙ c.scheduler.ensures;
+  scheduler = ap (λ (r : ReadyOf). r.scheduler) c.in_ok-ready.ensures ∙ c.scheduler.ensures.scheduler;
   ready_limit = ap (λ (r : ReadyOf). r.limit) c.in_ok-ready.ensures ∙ c.count.ensures.count;
   ready_jobs = opening-ready c.args.plan.now c.in_ok-ready.ready.entries (ap (λ (r : ReadyOf). r.entries) c.in_ok-ready.ensures);
   calendar_limit = c.loop-task.invariant.limit;
-  releases = all-held c.args.plan.now (opening c.args.plan.now) c.loop-task.task c.loop-task.calendar.entries (omega (arith, c.loop-task-test.false, c.count-task-end.ensures.count)) c.loop-task.invariant.held;
+  releases = all-held c.args.plan.now (opening c.args.plan.now) c.loop-task.task c.loop-task.calendar.entries
+      (omega (arith, c.loop-task-test.false, c.count-task-end.ensures.count)) c.loop-task.invariant.held;
 }

@@ -4,4 +4,5 @@ use Rattle.cc_edf.proofs.cycle.CcEdfGovernor.released.Goals as goal
 pub returns : goal.returns
 returns c =
     rw (c.charge.ensures.rates, c.charge.ensures.sum, c.row_of-row.ensures)
-    (counts-released c.args.plan.now c.args.view.now c.requires.of c.args.self.now.rates.items c.args.self.now.sum c.requires.counters c.args.task c.requires.can.below)
+    (counts-released c.args.plan.now c.args.view.now c.requires.of c.args.self.now.rates.items c.args.self.now.sum c.requires.counters
+    c.args.task c.requires.can.below)

@@ -53,7 +53,7 @@ returns-in-Ok-clause-deadlines g c =
     let k = c.self.inside in
     subst (λ (r : Run). MeetsDeadlines m.demand r) c.self.view_is
     (run-met m.the_kind m.serves m.demand m.calm m.safe g.met.G.Governor.laws
-    k.plan.now k.demands.now k.ticks c.known.ensures c.self.invariant.2 c.known-2.ensures
+    k.plan.now k.demands.now k.ticks c.scheduler-scheduler.ensures.admitted c.self.invariant.2 c.worsts-worsts.ensures.within
     (g.met.G.Governor.serves_plan k.governor k.plan.now (opening k.plan.now) c.self.invariant.1))
 
 pub returns-in-Ok-clause-demands : goal.returns-in-Ok-clause-demands
@@ -62,7 +62,7 @@ returns-in-Ok-clause-demands g c other =
     let k = c.self.inside in
     subst (λ (r : Run). MeetsDemands m.demand r) c.self.view_is
     (run-demands m.the_kind m.serves m.demand m.calm m.safe g.met.G.Governor.laws
-    k.plan.now k.demands.now k.ticks c.known.ensures c.self.invariant.2 c.known-2.ensures
+    k.plan.now k.demands.now k.ticks c.scheduler-scheduler.ensures.admitted c.self.invariant.2 c.worsts-worsts.ensures.within
     (g.met.G.Governor.serves_plan k.governor k.plan.now (opening k.plan.now) c.self.invariant.1) other)
 
 pub returns-in-Err-clause-wrote : goal.returns-in-Err-clause-wrote
@@ -94,7 +94,7 @@ returns-in-Err-clause-deadlines g c =
     let k = c.self.inside in
     subst (λ (r : Run). MeetsDeadlines m.demand r) c.self.view_is
     (run-met m.the_kind m.serves m.demand m.calm m.safe g.met.G.Governor.laws
-    k.plan.now k.demands.now k.ticks c.known.ensures c.self.invariant.2 c.known-2.ensures
+    k.plan.now k.demands.now k.ticks c.scheduler-scheduler.ensures.admitted c.self.invariant.2 c.worsts-worsts.ensures.within
     (g.met.G.Governor.serves_plan k.governor k.plan.now (opening k.plan.now) c.self.invariant.1))
 
 pub returns-in-Err-clause-demands : goal.returns-in-Err-clause-demands
@@ -103,7 +103,7 @@ returns-in-Err-clause-demands g c other =
     let k = c.self.inside in
     subst (λ (r : Run). MeetsDemands m.demand r) c.self.view_is
     (run-demands m.the_kind m.serves m.demand m.calm m.safe g.met.G.Governor.laws
-    k.plan.now k.demands.now k.ticks c.known.ensures c.self.invariant.2 c.known-2.ensures
+    k.plan.now k.demands.now k.ticks c.scheduler-scheduler.ensures.admitted c.self.invariant.2 c.worsts-worsts.ensures.within
     (g.met.G.Governor.serves_plan k.governor k.plan.now (opening k.plan.now) c.self.invariant.1) other)
 
 pub returns-in-Err-clause-never_falls : goal.returns-in-Err-clause-never_falls

@@ -18,7 +18,8 @@ loop-set-init g c =
     let m = g.G.Governor.demand in
     let p = c.self.inside.plan.now in
     let dem = demands_of p c.self.inside.demands.now in
-    let first = first-between g.L.Listener.heard g.L.Listener.balked m p dem c.self.inside.ticks c.self.inside.state c.new.result c.self.invariant.0 (ap (λ (q : Trace). q.sums) c.new.ensures ∙ c.self.invariant.4) in (
+    let first = first-between g.L.Listener.heard g.L.Listener.balked m p dem c.self.inside.ticks c.self.inside.state c.new.result
+    c.self.invariant.0 (ap (λ (q : Trace). q.sums) c.new.ensures ∙ c.self.invariant.4) in (
       first.0,
       subst (λ (s : StateOf). Follow g.G.Governor.stands p c.self.inside.governor s c.self.inside.agenda)
           (sym c.self.invariant.0) (record { counters = c.self.invariant.1; agenda = c.self.invariant.5 }),
@@ -34,9 +35,9 @@ pub span-requires-clause-set : goal.span-requires-clause-set
 span-requires-clause-set g c =
     let k = c.self.inside in
     record {
-      admitted = c.known.ensures;
+      admitted = c.scheduler-scheduler.ensures.admitted;
       list = c.self.invariant.2;
-      within = demand-within k.plan.now k.demands.now c.self.invariant.2 c.known-2.ensures;
+      within = demand-within k.plan.now k.demands.now c.self.invariant.2 c.worsts-worsts.ensures.within;
       low_ticks = c.self.invariant.3;
     }
 
@@ -45,9 +46,9 @@ span-requires-clause-met g c =
     let m = g.G.Governor in
     let p = c.self.inside.plan.now in
     let dem = demands_of p c.self.inside.demands.now in
-    let within = demand-within p c.self.inside.demands.now c.self.invariant.2 c.known-2.ensures in
+    let within = demand-within p c.self.inside.demands.now c.self.invariant.2 c.worsts-worsts.ensures.within in
     let served = g.met.G.Governor.serves_plan c.self.inside.governor p (opening p) c.self.invariant.1 in
-    course-met m.the_kind m.serves m.demand m.calm m.safe g.met.G.Governor.laws p dem c.known.ensures within served c.loop-set.run.state.now
+    course-met m.the_kind m.serves m.demand m.calm m.safe g.met.G.Governor.laws p dem c.scheduler-scheduler.ensures.admitted within served c.loop-set.run.state.now
 
 pub span-requires-clause-early : goal.span-requires-clause-early
 span-requires-clause-early g c =
@@ -99,7 +100,8 @@ returns-in_err-span-clause-deadlines g c =
     let m = g.G.Governor in
     let k = c.self.inside in
     subst (λ (r : Run). MeetsDeadlines m.demand r) c.self.view_is
-    (run-met m.the_kind m.serves m.demand m.calm m.safe g.met.G.Governor.laws k.plan.now k.demands.now k.ticks c.known.ensures c.self.invariant.2 c.known-2.ensures
+    (run-met m.the_kind m.serves m.demand m.calm m.safe g.met.G.Governor.laws k.plan.now k.demands.now k.ticks c.scheduler-scheduler.ensures.admitted
+    c.self.invariant.2 c.worsts-worsts.ensures.within
     (g.met.G.Governor.serves_plan k.governor k.plan.now (opening k.plan.now) c.self.invariant.1))
 
 pub returns-in_err-span-clause-demands : goal.returns-in_err-span-clause-demands
@@ -107,7 +109,8 @@ returns-in_err-span-clause-demands g c other =
     let m = g.G.Governor in
     let k = c.self.inside in
     subst (λ (r : Run). MeetsDemands m.demand r) c.self.view_is
-    (run-demands m.the_kind m.serves m.demand m.calm m.safe g.met.G.Governor.laws k.plan.now k.demands.now k.ticks c.known.ensures c.self.invariant.2 c.known-2.ensures
+    (run-demands m.the_kind m.serves m.demand m.calm m.safe g.met.G.Governor.laws k.plan.now k.demands.now k.ticks c.scheduler-scheduler.ensures.admitted
+    c.self.invariant.2 c.worsts-worsts.ensures.within
     (g.met.G.Governor.serves_plan k.governor k.plan.now (opening k.plan.now) c.self.invariant.1) other)
 
 pub returns-clause-deadlines : goal.returns-clause-deadlines
@@ -115,7 +118,8 @@ returns-clause-deadlines g c =
     let m = g.G.Governor in
     let k = c.self.inside in
     subst (λ (r : Run). MeetsDeadlines m.demand r) c.self.view_is
-    (run-met m.the_kind m.serves m.demand m.calm m.safe g.met.G.Governor.laws k.plan.now k.demands.now k.ticks c.known.ensures c.self.invariant.2 c.known-2.ensures
+    (run-met m.the_kind m.serves m.demand m.calm m.safe g.met.G.Governor.laws k.plan.now k.demands.now k.ticks c.scheduler-scheduler.ensures.admitted
+    c.self.invariant.2 c.worsts-worsts.ensures.within
     (g.met.G.Governor.serves_plan k.governor k.plan.now (opening k.plan.now) c.self.invariant.1))
 
 pub returns-clause-demands : goal.returns-clause-demands
@@ -123,7 +127,8 @@ returns-clause-demands g c other =
     let m = g.G.Governor in
     let k = c.self.inside in
     subst (λ (r : Run). MeetsDemands m.demand r) c.self.view_is
-    (run-demands m.the_kind m.serves m.demand m.calm m.safe g.met.G.Governor.laws k.plan.now k.demands.now k.ticks c.known.ensures c.self.invariant.2 c.known-2.ensures
+    (run-demands m.the_kind m.serves m.demand m.calm m.safe g.met.G.Governor.laws k.plan.now k.demands.now k.ticks c.scheduler-scheduler.ensures.admitted
+    c.self.invariant.2 c.worsts-worsts.ensures.within
     (g.met.G.Governor.serves_plan k.governor k.plan.now (opening k.plan.now) c.self.invariant.1) other)
 
 pub returns-in_err-span-clause-never_falls : goal.returns-in_err-span-clause-never_falls

@@ -25,14 +25,19 @@ use Rattle.event_kernel.proofs.run.Run.begin.Goals as goal
 pub release_all-requires-clause-at : goal.release_all-requires-clause-at
 release_all-requires-clause-at g c =
     let set = c.requires.set in
-    at-boundary g.G.Governor.demand c.args.set.now.plan.now (jobs_of c.args.set.now) (bounds _ set.admitted).some_period c.args.self.now.state.now c.args.self.now.state
+    at-boundary g.G.Governor.demand c.args.set.now.plan.now (jobs_of c.args.set.now)
+    (bounds _ set.admitted).some_period c.args.self.now.state.now c.args.self.now.state
     (omega (arith, c.requires.early, set.low_ticks)) set.within c.requires.met c.requires.between.state
 
 pub release_all-requires-clause-room : goal.release_all-requires-clause-room
 release_all-requires-clause-room g c =
     let b = c.requires.between in
     record {
-      tasks_in = omega (arith, by-task-long c.args.set.now.plan.now c.args.self.now.trace.sums (notes_before c.args.self.now.state g.G.Governor.demand c.args.set.now) b.sums);
+      tasks_in = omega (
+        arith,
+        by-task-long c.args.set.now.plan.now c.args.self.now.trace.sums
+            (notes_before c.args.self.now.state g.G.Governor.demand c.args.set.now) b.sums,
+      );
       released = omega (arith, b.few_released, c.requires.early, c.requires.set.low_ticks);
       finished = omega (arith, b.few_finished, c.requires.early, c.requires.set.low_ticks);
     }
@@ -40,9 +45,11 @@ release_all-requires-clause-room g c =
 pub returns-in_err-release_all-clause-told : goal.returns-in_err-release_all-clause-told
 returns-in_err-release_all-clause-told g c =
     let told = c.in_err-release_all.ensures.told in
-    at_error (Leads g.L.Listener.heard g.L.Listener.balked g.L.Listener.stops g.G.Governor.demand c.args.set.now c.args.to.now c.release_all.new.to (notes_before c.args.self.now.state) (notes_in c.release_all.new.self.state)) c.from_residual.result c.from_residual.ensures.0
+    at_error (Leads g.L.Listener.heard g.L.Listener.balked g.L.Listener.stops g.G.Governor.demand c.args.set.now c.args.to.now c.release_all.new.to
+    (notes_before c.args.self.now.state) (notes_in c.release_all.new.self.state)) c.from_residual.result c.from_residual.ensures.0
     (λ x. (
-      begin-balked g.L.Listener.heard g.L.Listener.balked g.G.Governor.demand c.args.set.now.plan.now (jobs_of c.args.set.now) c.args.set.now.ticks c.args.self.now.state.now c.args.to.now c.release_all.new.to
+      begin-balked g.L.Listener.heard g.L.Listener.balked g.G.Governor.demand c.args.set.now.plan.now
+          (jobs_of c.args.set.now) c.args.set.now.ticks c.args.self.now.state.now c.args.to.now c.release_all.new.to
           c.requires.early (c.requires.between.decision c.requires.early) told.0,
       told.1,
       told.2,
@@ -79,9 +86,12 @@ pub returns-in_err-index-clause-told : goal.returns-in_err-index-clause-told
 returns-in_err-index-clause-told g c =
     let released = c.in_ok-release_all.ensures in
     let told = c.in_err-index.ensures.told in
-    at_error (Leads g.L.Listener.heard g.L.Listener.balked g.L.Listener.stops g.G.Governor.demand c.args.set.now c.args.to.now c.decide.new.to (notes_before c.args.self.now.state) (notes_in c.release_all.new.self.state)) c.from_residual-in_err-index.result c.from_residual-in_err-index.ensures.0
+    at_error (Leads g.L.Listener.heard g.L.Listener.balked g.L.Listener.stops g.G.Governor.demand c.args.set.now c.args.to.now c.decide.new.to
+    (notes_before c.args.self.now.state) (notes_in c.release_all.new.self.state)) c.from_residual-in_err-index.result
+    c.from_residual-in_err-index.ensures.0
     (λ x. (
-      speed-balked g.L.Listener.heard g.L.Listener.balked g.G.Governor.demand c.args.set.now.plan.now (jobs_of c.args.set.now) c.args.set.now.ticks c.args.self.now.state.now c.release_all.new.self.state c.args.to.now c.release_all.new.to c.decide.new.to
+      speed-balked g.L.Listener.heard g.L.Listener.balked g.G.Governor.demand c.args.set.now.plan.now (jobs_of c.args.set.now)
+          c.args.set.now.ticks c.args.self.now.state.now c.release_all.new.self.state c.args.to.now c.release_all.new.to c.decide.new.to
           c.requires.early (c.requires.between.decision c.requires.early) released.state released.told.0 told.0,
       omega (arith, released.told.1, told.1),
       omega (arith, released.told.1, told.2),
@@ -102,7 +112,8 @@ returns-clause-in_span g c =
     subst (λ n. IsInSpan m p dem c.args.set.now.ticks n st.now e st trace) (sym clock)
     (subst (λ n. IsInSpan m p dem c.args.set.now.ticks t n e st trace) (sym same)
     (begins-span m p dem c.args.set.now.ticks t e c.args.self.now.state st c.args.self.now.trace trace
-    adm.few_tasks c.requires.early c.requires.set.low_ticks c.requires.set.within c.requires.between c.in_ok-release_all.ensures.state c.in_ok-index.ensures.index
+    adm.few_tasks c.requires.early c.requires.set.low_ticks c.requires.set.within c.requires.between c.in_ok-release_all.ensures.state
+    c.in_ok-index.ensures.index
     (ap (λ (q : Trace). record { segment = record { holder = Nobody; start = 0; units = 0 }; sums = q.sums })
     (c.in_ok-index.ensures.trace
     ∙ (ap (λ (q : Trace). with_notes q (speed_note p st.now (m p st) ∷ [])) c.in_ok-release_all.ensures.trace

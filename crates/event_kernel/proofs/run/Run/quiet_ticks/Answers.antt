@@ -8,12 +8,14 @@ use Rattle.event_kernel.specs.Segment.{IsFirst}
 use Rattle.event_kernel.specs.Walking.{AreQuiet}
 use Rattle.event_kernel.specs.Settings.{jobs_of}
 use Rattle.event_kernel.proofs.Bounds.{bounds}
-use Rattle.event_kernel.proofs.Quieting.{entry-in, some-speed, of-plan, first-event, needs, quiet-held, quiet-idle}
+use Rattle.event_kernel.proofs.Atwork.{entry-there}
+use Rattle.event_kernel.proofs.Quieting.{some-speed, of-plan, first-event, needs, quiet-held, quiet-idle}
 use Rattle.event_kernel.proofs.run.Run.quiet_ticks.Goals as goal
 
 pub point-speed-requires : goal.point-speed-requires
 point-speed-requires g c =
-    subst (λ (x : Table). c.args.force.index < length x.points) (sym c.machine.ensures.machine) (entry-in (bounds _ c.requires.set.admitted) c.requires.set.low_ticks c.requires.at)
+    subst (λ (x : Table). c.args.force.index < length x.points) (sym c.machine.ensures.machine)
+    (entry-there (bounds _ c.requires.set.admitted) c.requires.at.work)
 
 pub overflow_sub-most : goal.overflow_sub-most
 overflow_sub-most g c =
@@ -56,7 +58,8 @@ returns-in-Some g c =
     let first = subst (IsFirst c.args.set.now.plan.now c.args.self.now.state) c.in-Some.is c.requires.first in
     let speed : c.point-speed.result.speed ≡ (point c.args.set.now.plan.now c.args.force.index).speed =
     ap (λ (q : Point). q.speed) c.point-speed.ensures ∙ ap (λ (x : Table). speed_at x c.args.force.index) c.machine.ensures.machine in
-    subst (λ (r : Option ℕ). AreQuiet c.args.set.now.plan.now (jobs_of c.args.set.now) c.args.set.now.ticks c.args.force.index c.args.self.now.state r c.min.result) (sym c.in-Some.is)
+    subst (λ (r : Option ℕ). AreQuiet c.args.set.now.plan.now
+    (jobs_of c.args.set.now) c.args.set.now.ticks c.args.force.index c.args.self.now.state r c.min.result) (sym c.in-Some.is)
     (quiet-held (bounds _ c.requires.set.admitted) c.requires.set.low_ticks c.requires.at c.in-Some.task first c.min.result c.lacking.result c.lacking.ensures
     (omega (
       arith,
@@ -70,6 +73,7 @@ returns-in-Some g c =
 pub returns-in-None : goal.returns-in-None
 returns-in-None g c =
     let n = c.min-event.result - 1 - c.state.inside.now in
-    subst (λ (r : Option ℕ). AreQuiet c.args.set.now.plan.now (jobs_of c.args.set.now) c.args.set.now.ticks c.args.force.index c.args.self.now.state r n) (sym c.in-None.is)
+    subst (λ (r : Option ℕ). AreQuiet c.args.set.now.plan.now
+    (jobs_of c.args.set.now) c.args.set.now.ticks c.args.force.index c.args.self.now.state r n) (sym c.in-None.is)
     (quiet-idle (bounds _ c.requires.set.admitted) c.requires.set.low_ticks c.requires.at n
     (omega (arith, ap (λ (v : StateOf). v.now) c.state.view_is, c.min-event.ensures, c.next_release.ensures)))

@@ -4,14 +4,14 @@ use Rattle.freq_table.specs.Tables.{Table, speed_at}
 use Rattle.sched_model.specs.Plan.{Plan, point}
 use Rattle.sched_model.specs.States.{after_advance, CanRun, StateOf}
 use Rattle.std.specs.Prelude.{Option, None, Some, IfSome}
-use Rattle.agenda.specs.Stands.{Stands}
 use Rattle.agenda.proofs.Standing.{stand-advance}
 use Rattle.event_kernel.specs.Heard.{HasHeard, HasBalked}
 use Rattle.event_kernel.specs.Settings.{jobs_of, InSpan, Leads, notes_in}
 use Rattle.event_kernel.specs.Segment.{entered, entering_notes, holder_at, IsFirst}
 use Rattle.event_kernel.specs.Walking.{gives, IsLastTick}
 use Rattle.event_kernel.proofs.Bounds.{bounds}
-use Rattle.event_kernel.proofs.Quieting.{is-first, first-in, entry-in, of-plan, can-tell, fit, can-run-first, last-now, last-then}
+use Rattle.event_kernel.proofs.Atwork.{entry-there}
+use Rattle.event_kernel.proofs.Quieting.{is-first, first-in, of-plan, can-tell, fit, can-run-first, last-now, last-then}
 use Rattle.event_kernel.proofs.Staying.{stays, stays-balked}
 use Rattle.event_kernel.proofs.Hearing.{at_error}
 use Rattle.event_kernel.proofs.run.Run.stay.Given.{Over}
@@ -20,7 +20,7 @@ use Rattle.event_kernel.proofs.run.Run.stay.Goals as goal
 pub point-requires : goal.point-requires
 point-requires g c =
     subst (λ (x : Table). c.args.force.index < length x.points) (sym c.machine.ensures.machine)
-    (entry-in (bounds _ c.requires.set.admitted) c.requires.set.low_ticks c.requires.at)
+    (entry-there (bounds _ c.requires.set.admitted) c.requires.at.work)
 
 pub holder_of-holder-requires : goal.holder_of-holder-requires
 holder_of-holder-requires g c =
@@ -162,6 +162,5 @@ returns-clause-current g c =
     record {
       counters = subst (λ (s : StateOf). g.G.Governor.stands run.governor plan s) (sym c.advance.ensures)
           (g.met.G.Governor.waits run.governor plan run.state to later before.counters);
-      agenda = subst (λ (s : StateOf). Stands plan s run.agenda) (sym c.advance.ensures)
-          (stand-advance plan run.state run.agenda.ready run.agenda.calendar before.agenda to);
+      agenda = stand-advance plan run.state run.agenda.ready run.agenda.calendar before.agenda to _ c.advance.ensures;
     }

@@ -4,7 +4,6 @@ use Rattle.freq_table.specs.Tables.{Table, speed_at}
 use Rattle.sched_model.specs.declared.holder.Holder.TheVariants.{Nobody}
 use Rattle.sched_model.specs.Plan.{count}
 use Rattle.sched_model.specs.States.{row_at, after_advance, StateOf}
-use Rattle.agenda.specs.Stands.{Stands}
 use Rattle.agenda.proofs.Standing.{stand-advance}
 use Rattle.event_kernel.specs.declared.run.Run.{Run}
 use Rattle.event_kernel.specs.Current.{IsCurrent}
@@ -217,6 +216,6 @@ returns-clause-current g c =
     let run = c.if-rest-gt0.self in
     record {
       counters = search rules;
-      agenda = subst (λ (s : StateOf). Stands c.args.set.now.plan.now s run.agenda) (sym c.advance.ensures)
-          (stand-advance c.args.set.now.plan.now run.state run.agenda.ready run.agenda.calendar (current g c).agenda (c.state.inside.now + 1));
+      agenda = stand-advance c.args.set.now.plan.now run.state run.agenda.ready run.agenda.calendar (current g c).agenda
+          (c.state.inside.now + 1) _ c.advance.ensures;
     }

@@ -13,7 +13,8 @@ invariant-loop-rest g l =
     let p = l.fn.set.plan.now in
     let dem = jobs_of l.fn.set in
     let t = l.fn.self.state.now in
-    Working g.L.Listener.heard g.L.Listener.balked p dem (ask_of m p dem) (course m p dem t) (span_at m p dem t) l.fn.to l.to l.rest l.completed l.self.state l.self.trace
+    Working g.L.Listener.heard g.L.Listener.balked p dem (ask_of m p dem) (course m p dem t)
+    (span_at m p dem t) l.fn.to l.to l.rest l.completed l.self.state l.self.trace
     × IsCurrent g.G.Governor.stands p l.self
     × IsOfPlan p l.self.state
     × (g.L.Listener.stops l.fn.to ≤ g.L.Listener.stops l.to)

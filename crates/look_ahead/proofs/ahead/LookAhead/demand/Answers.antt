@@ -40,7 +40,7 @@ step-totals-requires-clause-soon c =
     step_below c.args.plan.now c.args.view.now order c.requires.counters.order_is c.loop-k.k c.index.result.now
     c.loop-k-test.true (omega (arith, c.len-k.ensures)) c.index.ensures in
     let near = c.requires.decision.soon c.index.result.now below in
-    let next = earliest-later c.args.plan.now c.known.ensures.limits c.args.view.now c.requires.decision.before in
+    let next = earliest-later c.args.plan.now c.scheduler-scheduler.ensures.admitted.limits c.args.view.now c.requires.decision.before in
     omega (arith, c.pending-job.ensures.slack, near, next)
 
 pub step-totals-requires-clause-fits : goal.step-totals-requires-clause-fits
@@ -49,7 +49,7 @@ step-totals-requires-clause-fits c =
     let totals = c.loop-k.totals in
     step_fits c.args.plan.now c.args.view.now order c.requires.counters.order_is c.loop-k.k c.index.result.now
     c.loop-k-test.true (omega (arith, c.len-k.ensures)) c.index.ensures totals.rates totals.first
-    c.loop-k.invariant.0 c.known.ensures c.requires.counters.served
+    c.loop-k.invariant.0 c.scheduler-scheduler.ensures.admitted c.requires.counters.served
 
 pub step-totals-requires-clause-part : goal.step-totals-requires-clause-part
 step-totals-requires-clause-part c =
@@ -62,7 +62,7 @@ step-totals-requires-clause-part c =
     rw c.pending-job.ensures.task part
 
 pub step-totals-requires-clause-small : goal.step-totals-requires-clause-small
-step-totals-requires-clause-small c = omega (arith, c.known.ensures.limits.tasks.few, c.loop-k.invariant.1)
+step-totals-requires-clause-small c = omega (arith, c.scheduler-scheduler.ensures.admitted.limits.tasks.few, c.loop-k.invariant.1)
 
 pub loop-k-preserved : goal.loop-k-preserved
 loop-k-preserved c =
@@ -79,7 +79,7 @@ loop-k-preserved c =
     let next =
     step_next plan s order is n i some (omega (arith, c.len-k.ensures)) c.index.ensures rates first
     c.loop-k.invariant.0 in
-    let grows = first_grows plan s c.known.ensures.limits c.requires.of i rates first below in
+    let grows = first_grows plan s c.scheduler-scheduler.ensures.admitted.limits c.requires.of i rates first below in
     let job = c.pending-job.ensures in
     let rates_are = rw (job.task, job.left, job.slack) at c.step-totals.ensures.rates in
     let first_is = rw (job.task, job.left, job.slack) at c.step-totals.ensures.first in
@@ -87,6 +87,6 @@ loop-k-preserved c =
 
 pub overflow_sub-soonest : goal.overflow_sub-soonest
 overflow_sub-soonest c =
-    let next = earliest-later c.args.plan.now c.known.ensures.limits c.args.view.now c.requires.decision.before in
+    let next = earliest-later c.args.plan.now c.scheduler-scheduler.ensures.admitted.limits c.args.view.now c.requires.decision.before in
     let clock : c.view.inside.now ≡ c.args.view.now.now = ap (λ (v : StateOf). v.now) c.view.view_is in
     omega (arith, next, clock, c.earliest_deadline-soonest.ensures)

@@ -29,6 +29,7 @@ loop-self-preserved c =
     ∙ (ap (λ (v : ServerOf). units_of c.args.jobs.now.demands.now v.task job) c.server.view_is
     ∙ units-taken s n c.args.jobs.now.demands.now h job (omega arith) (omega arith))) in
     record {
-      reached = reached-next s n (c.args.m + 1) c.from-in-loop-self.result c.loop-self.self c.loop-self.invariant.reached c.loop-self-test.true c.if-self.true takes;
+      reached = reached-next s n (c.args.m + 1) c.from-in-loop-self.result c.loop-self.self c.loop-self.invariant.reached
+          c.loop-self-test.true c.if-self.true takes;
       some = c.loop-self.invariant.some;
     }

@@ -15,4 +15,5 @@ pub returns-else-server-self-clause-arrived : goal.returns-else-server-self-clau
 returns-else-server-self-clause-arrived c =
     let s = c.args.server.now in
     let next = c.loop-self.self.next in
-    passed-arrived s c.requires.requests c.args.tick c.loop-self.self c.loop-self.invariant.passed (λ lt. subst (λ (v : ServerOf). c.args.tick < arrival v next) c.server.view_is c.if-server-self.false)
+    passed-arrived s c.requires.requests c.args.tick c.loop-self.self c.loop-self.invariant.passed
+    (λ lt. subst (λ (v : ServerOf). c.args.tick < arrival v next) c.server.view_is c.if-server-self.false)

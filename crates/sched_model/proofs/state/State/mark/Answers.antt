@@ -12,5 +12,10 @@ loop-i-preserved c =
     let n : length c.self.inside.rows.items ≡ length c.self.inside.base.items =
     sym (c.self.invariant.base) in
     let in_rows : i < length rows = rw inv.2 (omega arith) in
-    let in_base : i < length base = omega arith in
-    (inv.0, inv.1, inv.2, grind (arith, common_steps, inv.3), rw c.worst_left.ensures (mark_step rows base i c.index-row.result.now in_rows in_base c.index-row.ensures inv.4))
+    let in_base : i < length base = omega arith in (
+      inv.0,
+      inv.1,
+      inv.2,
+      grind (arith, common_steps, inv.3),
+      rw c.worst_left.ensures (mark_step rows base i c.index-row.result.now in_rows in_base c.index-row.ensures inv.4),
+    )

@@ -1,16 +1,11 @@
-use Rattle.std.proofs.Common.{◌∙◌, ap, ap₂}
-use Rattle.grid_fraction.specs.declared.Frac.{Frac}
-use Rattle.freq_table.specs.declared.machine.Pick.{Pick}
-use Rattle.freq_table.specs.Tables.{Table, lowest_pick}
 use Rattle.sched_model.proofs.Weights.{static_den}
-use Rattle.governor.proofs.Fits.{static_met}
+use Rattle.governor.proofs.Fits.{static_met, choice_met}
 use Rattle.static_gov.proofs.fixed.StaticGovernor.choose.Goals as goal
 
 pub lowest-pick-requires-clause-some : goal.lowest-pick-requires-clause-some
-lowest-pick-requires-clause-some c = rw c.requires.counters (static_den c.args.plan.now c.known.ensures.limits).0
+lowest-pick-requires-clause-some c = rw c.requires.counters (static_den c.args.plan.now c.machine.ensures.admitted.limits).0
 
 pub returns-clause-always : goal.returns-clause-always
 returns-clause-always c =
-    ap (λ (p : Pick). p.met) c.lowest-pick.ensures
-    ∙ (ap₂ (λ (m : Table) (d : Frac). (lowest_pick m d).met) c.machine.ensures.machine c.requires.counters
-    ∙ static_met c.args.plan.now c.known.ensures)
+    choice_met c.lowest-pick.result c.lowest-pick.ensures c.machine.ensures.machine c.requires.counters
+    (static_met c.args.plan.now c.machine.ensures.admitted)

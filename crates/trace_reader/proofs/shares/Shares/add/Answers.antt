@@ -5,4 +5,5 @@ use Rattle.trace_reader.proofs.shares.Shares.add.Goals as goal
 pub returns-in-Run : goal.returns-in-Run
 returns-in-Run c = λ notes h.
     let long : length c.args.self.now.sums ≡ 64 = search rules in
-    rw (c.in-Run.is, c.with_energy.ensures) (sums-run c.args.self.now.sums notes c.in-Run.from c.in-Run.to c.in-Run.task c.in-Run.job c.in-Run.units c.in-Run.energy (rw c.in-Run.is at c.requires) long h)
+    rw (c.in-Run.is, c.with_energy.ensures) (sums-run c.args.self.now.sums notes c.in-Run.from c.in-Run.to c.in-Run.task c.in-Run.job
+    c.in-Run.units c.in-Run.energy (rw c.in-Run.is at c.requires) long h)

@@ -1,5 +1,0 @@
-use Rattle.demand_list.proofs.Records.{records-few}
-use Rattle.demand_list.proofs.read.reader_of.Goals as goal
-
-pub returns-in-Ok-clause-few : goal.returns-in-Ok-clause-few
-returns-in-Ok-clause-few c = rw (c.in-Ok.ensures.same, c.from_reader-reader.ensures.state, c.from_reader-reader.ensures.source) (records-few c.args.text.now)

@@ -1,0 +1,48 @@
+use Rattle.std.proofs.Common.{◌≡◌, ◌<◌, true, false, [], ◌∷◌, length, arith, ap, ◌∙◌, sym, subst, if◌then◌else◌}
+use Rattle.dvs_base.specs.declared.note.Note.{Note}
+use Rattle.dvs_base.specs.declared.note.Note.TheVariants.{Run, Done}
+use Rattle.freq_table.specs.Tables.{Table}
+use Rattle.sched_model.specs.declared.holder.Holder.{Holder}
+use Rattle.sched_model.specs.declared.state.Row.{Row}
+use Rattle.sched_model.specs.Plan.{point}
+use Rattle.sched_model.specs.Segments.{position_of}
+use Rattle.sched_model.specs.States.{StateOf, row_at}
+use Rattle.energy.specs.Segments.{segment_energy}
+use Rattle.event_kernel.specs.declared.trace.Trace.{Trace}
+use Rattle.event_kernel.specs.Segment.{holder_notes, with_notes, HeldIn}
+use Rattle.event_kernel.proofs.Summing.{added-long, with-append}
+use Rattle.event_kernel.proofs.Atwork.{read_row}
+use Rattle.event_kernel.proofs.trace.Trace.tell_run.Goals as goal
+
+pub tell-requires : goal.tell-requires
+tell-requires g c =
+    let trace = c.args.self.now in
+    let ran : Note = Run c.ends.result.0 c.ends.result.1 c.args.task c.args.job trace.segment.units c.energy_of.result in
+    let told = c.in_ok-tell_energy.ensures.trace in
+    let held : c.args.task < length trace.sums.by_task =
+    subst (λ (h : Holder). HeldIn (length trace.sums.by_task) h) c.requires.held c.requires.can.books.0 in (
+      omega (arith, ap (λ (q : Trace). length q.sums.by_task) told, added-long trace.sums (ran ∷ []), held),
+      omega (arith, ap (λ (q : Trace). q.sums.totals.finished) told, c.requires.can.ends),
+    )
+
+pub returns-in_ok-tell-clause-trace : goal.returns-in_ok-tell-clause-trace
+returns-in_ok-tell-clause-trace g c =
+    let p = c.args.at.plan.now in
+    let s = c.args.at.state.now in
+    let e = c.args.at.force.index in
+    let trace = c.args.self.now in
+    let ran : Note = Run c.ends.result.0 c.ends.result.1 c.args.task c.args.job trace.segment.units c.energy_of.result in
+    let done : Note = Done c.ends.result.1 c.args.task c.args.job c.index-row.result.now.used in
+    let row : c.index-row.result.now ≡ row_at s c.args.task = read_row s c.state.inside.rows.items c.args.task c.index-row.result.now
+    (ap (λ (v : StateOf). v.rows) c.state.view_is) (subst (λ (h : Holder). HeldIn (length s.rows) h) c.requires.held c.requires.can.task) c.index-row.ensures in
+    let energy = c.energy_of.ensures.value ∙ ap (λ (m : Table). segment_energy m e trace.segment.units false) c.machine.ensures.machine in
+    let ended : true ≡ (row_at s c.args.task).done = sym c.if-row.true ∙ ap (λ (r : Row). r.done) row in
+    let used = ap (λ (r : Row). r.used) row in
+    c.in_ok-tell.ensures.trace
+    ∙ (ap (λ (q : Trace). with_notes q (done ∷ [])) c.in_ok-tell_energy.ensures.trace
+    ∙ (with-append trace (ran ∷ []) (done ∷ [])
+    ∙ ap (λ ns. with_notes trace ns)
+    ((λ j. Run (c.ends.ensures.first j) (c.ends.ensures.end j) c.args.task c.args.job trace.segment.units (energy j)
+    ∷ (if ended j then Done (c.ends.ensures.end j) c.args.task c.args.job (used j) ∷ [] else []))
+    ∙ ap (λ (h : Holder). holder_notes p s (position_of c.args.at.force.from ((point p e).speed)) e trace.segment.start trace.segment.units h)
+    (sym c.requires.held))))

@@ -1,0 +1,174 @@
+// Calls that are done, and what they write, and two that aren't.
+use crate::call::Call;
+use test_inputs::example::{
+    CONTROLLER_DEMANDS, CONTROLLER_MACHINE, CONTROLLER_TASKS, CYCLE_TRACE, PAPER_MACHINE,
+    PAPER_TASKS, TWO_TASKS, TWO_TRACE_1,
+};
+
+pub(crate) const CONTROLLER_RUN: Call = Call {
+    tasks: CONTROLLER_TASKS,
+    machine: CONTROLLER_MACHINE,
+    third: CONTROLLER_DEMANDS,
+    words: "run --tasks T --machine M --scheduler edf --governor cc --ticks 100 --demands F",
+};
+
+pub(crate) const ROW_RUN: Call = Call {
+    tasks: PAPER_TASKS,
+    machine: PAPER_MACHINE,
+    third: b"",
+    words: "run --tasks T --machine M --scheduler edf --governor none --ticks 16",
+};
+
+// The example at the highest speed, with each job at its worst case.
+pub(crate) const ROW_TRACE: &str = "trace 1
+plan edf none 16
+release 0 t1 1
+release 0 t2 1
+release 0 t3 1
+speed 0 4 4/1
+run 0:0 3:0 t1 1 12 300000000000
+done 3:0 t1 1 12
+speed 3 4 4/1
+run 3:0 6:0 t2 1 12 300000000000
+done 6:0 t2 1 12
+speed 6 4 4/1
+run 6:0 7:0 t3 1 4 100000000000
+done 7:0 t3 1 4
+speed 7 4 4/1
+idle 7:0 8:0 4 0
+release 8 t1 2
+speed 8 4 4/1
+run 8:0 10:0 t1 2 8 200000000000
+release 10 t2 2
+speed 10 4 4/1
+run 10:0 11:0 t1 2 4 100000000000
+done 11:0 t1 2 12
+speed 11 4 4/1
+run 11:0 14:0 t2 2 12 300000000000
+done 14:0 t2 2 12
+release 14 t3 2
+speed 14 4 4/1
+run 14:0 15:0 t3 2 4 100000000000
+done 15:0 t3 2 4
+speed 15 4 4/1
+idle 15:0 16:0 4 0
+end 16 1400000000000 0
+";
+
+pub(crate) const TWO_RUN: Call = Call {
+    tasks: TWO_TASKS,
+    machine: PAPER_MACHINE,
+    third: b"",
+    words: "run --tasks T --machine M --scheduler edf --governor cc --ticks 8 --format 2",
+};
+
+pub(crate) const ADMIT: Call = Call {
+    tasks: PAPER_TASKS,
+    machine: PAPER_MACHINE,
+    third: b"",
+    words: "admit --tasks T --machine M --scheduler rm",
+};
+
+pub(crate) const ADMITTED: &str = "admitted rm 52/14 4\n";
+
+pub(crate) const REPLAY: Call = Call {
+    tasks: PAPER_TASKS,
+    machine: PAPER_MACHINE,
+    third: CYCLE_TRACE,
+    words: "replay --tasks T --machine M --trace F",
+};
+
+pub(crate) const REPLAYED: &str = "replayed 6 6 364000000000 0\n";
+
+pub(crate) const WORKLOAD: Call = Call {
+    tasks: b"",
+    machine: b"",
+    third: b"",
+    words: "workload --seed 1",
+};
+
+// What an independent script, which goes tick by tick, prints for the seed 1.
+pub(crate) const WORKLOADS: &str = "workload 1 32 50000
+none 29150 29150 19227 644393500000000000 60560650000000000
+static 29150 29150 23323 412411840000000000 18758816000000000
+cc 29150 29150 23379 409752736000000000 18301726400000000
+la 29150 29150 24710 375964840000000000 46516000000000
+";
+
+// The two tasks' trace in version 1, which is written in version 2.
+pub(crate) const MIGRATE: Call = Call {
+    tasks: TWO_TASKS,
+    machine: PAPER_MACHINE,
+    third: TWO_TRACE_1,
+    words: "migrate --tasks T --machine M --trace F",
+};
+
+// A server of 4 units in 5 ticks, and its requests.
+pub(crate) const POLL: Call = Call {
+    tasks: br#"task = [{name = "s", period = 5, worst = 4}, {name = "a", period = 10, worst = 10}]"#,
+    machine: PAPER_MACHINE,
+    third: b"arrival,units\n0,3\n1,6\n12,1\n",
+    words: "poll --tasks T --machine M --requests F --server s --scheduler edf --governor none --ticks 15",
+};
+
+pub(crate) const POLLED: &str = "served 1 0 3 1 0:3
+served 2 1 6 3 10:2
+pending 3 12 1
+polled 2 725000000000 0
+";
+
+// The responses of the example: 12 units, then 24 and 28, at 4 a tick.
+pub(crate) const RESPONSE: Call = Call {
+    tasks: PAPER_TASKS,
+    machine: PAPER_MACHINE,
+    third: b"",
+    words: "response --tasks T --machine M",
+};
+
+pub(crate) const RESPONSES: &str = "response t1 3
+response t2 6
+response t3 7
+";
+
+// Deadlines below the periods: the work due is 2, 5, 7, 9 and 12 at the ticks 2, 5, 6, 10 and 11.
+pub(crate) const CONSTRAIN: Call = Call {
+    tasks: br#"task = [{name = "a", period = 4, worst = 2}, {name = "b", period = 6, worst = 3}]"#,
+    machine: b"point = [{speed = 1, millivolts = 1000}, {speed = 2, millivolts = 1000}]",
+    third: b"task,deadline\na,2\nb,5\n",
+    words: "constrain --tasks T --machine M --deadlines F",
+};
+
+pub(crate) const CONSTRAINED: &str = "constrained 7/6 2\n";
+
+pub(crate) const LEAST: Call = Call {
+    tasks: b"",
+    machine: PAPER_MACHINE,
+    third: b"",
+    words: "least --machine M --units 28 --ticks 16",
+};
+
+pub(crate) const LEAST_ENERGY: &str = "least 2 0 4 2 28 504000000000
+prices 18000000000 plus 0
+";
+
+// Three tasks that ask for one unit more than the highest speed does.
+pub(crate) const DENIED: Call = Call {
+    tasks: br#"
+task = [
+    {name = "a", period = 3, worst = 12},
+    {name = "b", period = 4, worst = 12},
+    {name = "c", period = 12, worst = 61},
+]
+"#,
+    machine: b"point = [{speed = 6, millivolts = 3000}, {speed = 12, millivolts = 5000}]",
+    third: b"",
+    words: "run --tasks T --machine M --scheduler edf --governor none --ticks 3",
+};
+
+// A demand of one unit more than the worst case.
+pub(crate) const OVER_WORST: Call = Call {
+    tasks: PAPER_TASKS,
+    machine: PAPER_MACHINE,
+    third: b"task,job,units\nt2,2,13\n",
+    words: "run --tasks T --machine M --scheduler edf --governor cc --ticks 16 --demands F --probes",
+};

@@ -1,0 +1,198 @@
+// Files of one character: as long as a file may be, and one byte longer.
+ghost use Rattle.std.specs.Prelude.{None};
+
+use crate::call::Call;
+use crate::hostile::example::{ADMIT, CONSTRAIN, CONTROLLER_RUN, POLL, REPLAY};
+use dvs_base::{LONGEST_FILE, LONGEST_TRACE, LoadFault, MemSink, Shelf};
+use probes::Probe;
+use rtdvs_top::rtdvs;
+use std::alloc::{AllocError, Global};
+use std::process::Abort;
+use std::test::Fail;
+use test_inputs::words_of;
+
+// A kind of file: a call with such a file, its name, its word in a line, and the most bytes that it may have.
+#[derive(Clone, Copy)]
+struct Kind {
+    call: Call<'static>,
+    name: &'static str,
+    word: &'static str,
+    most: u64,
+}
+
+const TASKS: Kind = Kind {
+    call: ADMIT,
+    name: "T",
+    word: "tasks",
+    most: LONGEST_FILE,
+};
+
+const MACHINE: Kind = Kind {
+    call: ADMIT,
+    name: "M",
+    word: "machine",
+    most: LONGEST_FILE,
+};
+
+const DEMANDS: Kind = Kind {
+    call: CONTROLLER_RUN,
+    name: "F",
+    word: "demands",
+    most: LONGEST_FILE,
+};
+
+const DEADLINES: Kind = Kind {
+    call: CONSTRAIN,
+    name: "F",
+    word: "deadlines",
+    most: LONGEST_FILE,
+};
+
+const REQUESTS: Kind = Kind {
+    call: POLL,
+    name: "F",
+    word: "requests",
+    most: LONGEST_FILE,
+};
+
+const TRACE: Kind = Kind {
+    call: REPLAY,
+    name: "F",
+    word: "trace",
+    most: LONGEST_TRACE,
+};
+
+// A shelf with the files of a call, where that of the kind is all of one character: as long as there is room for it, or
+// one byte longer.
+#[derive(Drop)]
+struct LongShelf {
+    kind: Kind,
+    byte: u8,
+    over: bool,
+    room: u64,
+}
+
+impl LongShelf {
+    fn bytes_of(&mut self, alloc: Global, name: &str, room: u64) -> Result<Vec<u8>, AllocError> {
+        if name == self.kind.name {
+            self.room = room;
+            let more = if self.over { 1 } else { 0 };
+            vec![in alloc; self.byte; room.saturating_add(more) as usize]
+        } else if name == "T" {
+            Vec::from_slice(alloc, self.kind.call.tasks)
+        } else {
+            Vec::from_slice(alloc, self.kind.call.machine)
+        }
+    }
+}
+
+impl Shelf for LongShelf {
+    ghost shows = { λ s. record { held = None; faults = 0; sure = 0 } };
+
+    fn load(&mut self, alloc: Global, name: &str, room: u64) -> Result<Vec<u8>, LoadFault> {
+        match self.bytes_of(alloc, name, room) {
+            Ok(bytes) if bytes.len() as u64 <= room + 1 => Ok(bytes),
+            _ => Err(LoadFault::NoMemory),
+        }
+    }
+}
+
+// A file of this kind that is all of this character is refused with the line.
+fn is_refused(
+    rt: &(impl Abort + AllocGlobal),
+    kind: Kind,
+    byte: u8,
+    over: bool,
+    line: &str,
+) -> Result<(), Fail> {
+    let alloc = rt.alloc();
+    let words = words_of(alloc, kind.call.words)?;
+    let mut probes: Vec<Box<dyn Probe>> = Vec::new(alloc);
+    let mut shelf = LongShelf {
+        kind,
+        byte,
+        over,
+        room: 0,
+    };
+    let mut out = MemSink::new(alloc, 64, &[]).map_err(|_| "out")?;
+    let mut notes = MemSink::new(alloc, 64, &[]).map_err(|_| "notes")?;
+    let status = rtdvs(alloc, &words, &mut shelf, &mut out, &mut notes, &mut probes);
+    let whole = format!(in alloc; "{}: {line}\n", kind.word)?;
+    assert_eq!(rt; notes.bytes(), whole.as_bytes(), "{line}");
+    assert!(rt; out.bytes().is_empty(), "{line}");
+    assert_eq!(rt; status.code(), 4, "{line}");
+    assert_eq!(rt; shelf.room, kind.most, "{line}");
+    Ok(())
+}
+
+// Files of each of these characters, as long as they may be, and one that is a byte longer.
+fn each_is_refused(
+    rt: &(impl Abort + AllocGlobal),
+    kind: Kind,
+    files: &[(u8, &str)],
+) -> Result<(), Fail> {
+    for (byte, line) in files.iter().copied() {
+        is_refused(rt, kind, byte, false, line)?;
+    }
+    is_refused(rt, kind, b'a', true, "too long")
+}
+
+#[test]
+fn long_task_files(rt: HostRuntime) -> Result<(), Fail> {
+    each_is_refused(
+        &rt,
+        TASKS,
+        &[
+            (b'a', "not TOML"),
+            (b'[', "not TOML"),
+            (b'\n', "no tasks"),
+            (b'#', "no tasks"),
+        ],
+    )
+}
+
+#[test]
+fn long_machine_files(rt: HostRuntime) -> Result<(), Fail> {
+    each_is_refused(
+        &rt,
+        MACHINE,
+        &[
+            (b'a', "not TOML"),
+            (b'[', "not TOML"),
+            (b'\n', "no points"),
+            (b'#', "no points"),
+        ],
+    )
+}
+
+// All kinds of records: one field, many fields, none, and one that is never closed.
+const HEADERS: [(u8, &str); 4] = [
+    (b'a', "wrong header"),
+    (b',', "wrong header"),
+    (b'\n', "wrong header"),
+    (b'"', "wrong header"),
+];
+
+#[test]
+fn long_demand_files(rt: HostRuntime) -> Result<(), Fail> {
+    each_is_refused(&rt, DEMANDS, &HEADERS)
+}
+
+#[test]
+fn long_deadline_files(rt: HostRuntime) -> Result<(), Fail> {
+    each_is_refused(&rt, DEADLINES, &HEADERS)
+}
+
+#[test]
+fn long_request_files(rt: HostRuntime) -> Result<(), Fail> {
+    each_is_refused(&rt, REQUESTS, &HEADERS)
+}
+
+#[test]
+fn long_traces(rt: HostRuntime) -> Result<(), Fail> {
+    each_is_refused(
+        &rt,
+        TRACE,
+        &[(b'\n', "line 1: version"), (b'a', "line 1: no end")],
+    )
+}

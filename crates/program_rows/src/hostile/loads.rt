@@ -1,0 +1,64 @@
+// Loads that fail, one after the other, for each command.
+use crate::call::{Call, Faults, NO_FAULTS};
+use crate::hostile::example::{
+    ADMIT, CONSTRAIN, CONTROLLER_RUN, LEAST, MIGRATE, POLL, REPLAY, RESPONSE, WORKLOAD,
+};
+use std::test::Fail;
+use test_inputs::{Ending, shown};
+
+// Each load of the call is made to fail: nothing is on `out`, and the line names the file. A load that isn't made can't
+// fail the call.
+fn each_load_fails(rt: &impl AllocGlobal, call: Call<'_>, files: &[&str]) -> Result<(), Fail> {
+    let mut number = 1;
+    for file in files {
+        let line = format!(in rt.alloc(); "load: {file}\n")?;
+        let failed = Ending {
+            code: 3,
+            out: "",
+            notes: line.as_str(),
+            faults: [1, 0, 0],
+        };
+        load_fails(rt, call, number, failed)?;
+        number = number.saturating_add(1);
+    }
+    let whole = call.under(rt.alloc(), NO_FAULTS)?;
+    let done = Ending {
+        code: 0,
+        out: shown(whole.out.as_slice()),
+        notes: "",
+        faults: [0, 0, 0],
+    };
+    load_fails(rt, call, number, done)
+}
+
+// The load of this number fails.
+fn load_fails(
+    rt: &impl AllocGlobal,
+    call: Call<'_>,
+    number: u64,
+    ending: Ending<'_>,
+) -> Result<(), Fail> {
+    let faults = Faults {
+        loads: &[number],
+        puts: &[],
+        notes: &[],
+    };
+    call.ends(rt, faults, ending)
+}
+
+#[test]
+fn each_load_of_each_command_fails(rt: HostRuntime) -> Result<(), Fail> {
+    each_load_fails(&rt, CONTROLLER_RUN, &["tasks", "machine", "demands"])?;
+    each_load_fails(&rt, ADMIT, &["tasks", "machine"])?;
+    each_load_fails(&rt, REPLAY, &["tasks", "machine", "trace"])?;
+    each_load_fails(&rt, MIGRATE, &["tasks", "machine", "trace"])?;
+    each_load_fails(&rt, POLL, &["tasks", "machine", "requests"])?;
+    each_load_fails(&rt, RESPONSE, &["tasks", "machine"])?;
+    each_load_fails(&rt, CONSTRAIN, &["tasks", "machine", "deadlines"])?;
+    each_load_fails(&rt, LEAST, &["machine"])
+}
+
+#[test]
+fn a_workload_loads_nothing(rt: HostRuntime) -> Result<(), Fail> {
+    each_load_fails(&rt, WORKLOAD, &[])
+}

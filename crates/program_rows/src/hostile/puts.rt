@@ -1,0 +1,98 @@
+// Puts that fail, one after the other, for each command.
+use crate::call::{Call, Faults};
+use crate::hostile::example::{
+    ADMIT, ADMITTED, CONSTRAIN, CONSTRAINED, LEAST, LEAST_ENERGY, MIGRATE, POLL, POLLED, REPLAY,
+    REPLAYED, RESPONSE, RESPONSES, ROW_RUN, ROW_TRACE, TWO_RUN, WORKLOAD, WORKLOADS,
+};
+use dvs_base::FailAt;
+use std::test::Fail;
+use test_inputs::example::TWO_TRACE_2;
+use test_inputs::{Ending, first_part};
+
+// The first part that a put fails with, and its number of bytes.
+pub(crate) const TAKEN: [u64; 3] = [0, 1, 255];
+
+// The put of this number fails, with so many bytes.
+fn put_fails(
+    rt: &impl AllocGlobal,
+    call: Call<'_>,
+    failing: FailAt,
+    ending: Ending<'_>,
+) -> Result<(), Fail> {
+    let faults = Faults {
+        loads: &[],
+        puts: &[failing],
+        notes: &[],
+    };
+    call.ends(rt, faults, ending)
+}
+
+// Each put of the text, one for each line, is made to fail with each of these first parts: `out` holds the lines before
+// it and what the put took. A put that isn't made can't fail the call.
+fn each_put_fails(
+    rt: &impl AllocGlobal,
+    call: Call<'_>,
+    text: &str,
+    parts: &[u64],
+) -> Result<(), Fail> {
+    let mut before = 0;
+    let mut number = 1;
+    for line in text.split_inclusive('\n') {
+        for taken in parts.iter().copied() {
+            let failed = Ending {
+                code: 8,
+                out: first_part(text, before, line, taken),
+                notes: "write: out failed\n",
+                faults: [0, 1, 0],
+            };
+            put_fails(rt, call, at(number, taken), failed)?;
+        }
+        before = before.saturating_add(line.len());
+        number = number.saturating_add(1);
+    }
+    let whole = Ending {
+        code: 0,
+        out: text,
+        notes: "",
+        faults: [0, 0, 0],
+    };
+    put_fails(rt, call, at(number, 0), whole)
+}
+
+// The put of this number takes so many bytes and fails.
+pub(crate) fn at(call: u64, taken: u64) -> FailAt {
+    FailAt { call, taken }
+}
+
+#[test]
+fn each_put_of_a_trace_fails(rt: HostRuntime) -> Result<(), Fail> {
+    each_put_fails(&rt, ROW_RUN, ROW_TRACE, &TAKEN)?;
+    each_put_fails(&rt, TWO_RUN, TWO_TRACE_2, &TAKEN)?;
+    each_put_fails(&rt, MIGRATE, TWO_TRACE_2, &TAKEN)
+}
+
+#[test]
+fn each_put_of_the_other_commands_fails(rt: HostRuntime) -> Result<(), Fail> {
+    each_put_fails(&rt, ADMIT, ADMITTED, &TAKEN)?;
+    each_put_fails(&rt, REPLAY, REPLAYED, &TAKEN)?;
+    each_put_fails(&rt, RESPONSE, RESPONSES, &TAKEN)?;
+    each_put_fails(&rt, CONSTRAIN, CONSTRAINED, &TAKEN)?;
+    each_put_fails(&rt, POLL, POLLED, &TAKEN)?;
+    each_put_fails(&rt, LEAST, LEAST_ENERGY, &TAKEN)
+}
+
+// Each is four runs of 50000 ticks, so these are tests of their own.
+#[test]
+fn each_put_of_a_workload_takes_nothing(rt: HostRuntime) -> Result<(), Fail> {
+    each_put_fails(&rt, WORKLOAD, WORKLOADS, &[0])
+}
+
+#[test]
+fn each_put_of_a_workload_takes_a_byte(rt: HostRuntime) -> Result<(), Fail> {
+    each_put_fails(&rt, WORKLOAD, WORKLOADS, &[1])
+}
+
+#[test]
+fn each_put_of_a_workload_takes_all(rt: HostRuntime) -> Result<(), Fail> {
+    each_put_fails(&rt, WORKLOAD, WORKLOADS, &[255])
+}

@@ -1,0 +1,3 @@
+// Worked rows of the command `least`.
+mod machines;
+mod refusals;

@@ -1,0 +1,3 @@
+// Worked rows of the command `poll`.
+mod refusals;
+mod rows;

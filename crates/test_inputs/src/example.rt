@@ -1,0 +1,140 @@
+// The inputs that several crates of rows share: the example of Pillai and Shin 2001, with 4 units for a millisecond at
+// full speed; a battery-driven controller; and two tasks of which the second has its first release after tick 0.
+
+/// The tasks of the example.
+pub const PAPER_TASKS: &[u8] = br#"
+task = [
+    {name = "t1", period = 8, worst = 12},
+    {name = "t2", period = 10, worst = 12},
+    {name = "t3", period = 14, worst = 4},
+]
+"#;
+
+/// Its machine.
+pub const PAPER_MACHINE: &[u8] = br#"
+point = [
+    {speed = 2, millivolts = 3000},
+    {speed = 3, millivolts = 4000},
+    {speed = 4, millivolts = 5000},
+]
+"#;
+
+/// What its jobs need.
+pub const PAPER_DEMANDS: &[u8] =
+    b"task,job,units\nt1,1,8\nt1,2,4\nt2,1,4\nt2,2,4\nt3,1,4\nt3,2,4\n";
+
+/// Its trace under cycle-conserving EDF with these demands.
+pub const CYCLE_TRACE: &[u8] = b"trace 1
+plan edf cc 16
+release 0 t1 1
+release 0 t2 1
+release 0 t3 1
+speed 0 3 836/280
+run 0:0 2:2 t1 1 8 128000000000
+done 2:2 t1 1 8
+run 2:2 3:0 t2 1 1 16000000000
+speed 3 3 696/280
+run 3:0 4:0 t2 1 3 48000000000
+done 4:0 t2 1 4
+speed 4 2 472/280
+run 4:0 6:0 t3 1 4 36000000000
+done 6:0 t3 1 4
+speed 6 2 472/280
+idle 6:0 8:0 4 0
+release 8 t1 2
+speed 8 3 612/280
+run 8:0 9:1 t1 2 4 64000000000
+done 9:1 t1 2 4
+idle 9:1 10:0 2 0
+release 10 t2 2
+speed 10 2 556/280
+run 10:0 12:0 t2 2 4 36000000000
+done 12:0 t2 2 4
+speed 12 2 332/280
+idle 12:0 14:0 4 0
+release 14 t3 2
+speed 14 2 332/280
+run 14:0 16:0 t3 2 4 36000000000
+done 16:0 t3 2 4
+end 16 364000000000 0
+";
+
+/// The tasks of the controller.
+pub const CONTROLLER_TASKS: &[u8] = br#"
+task = [
+    {name = "imu", period = 50, worst = 796},
+    {name = "radio", period = 100, worst = 1196},
+    {name = "motor", period = 200, worst = 1996},
+    {name = "baro", period = 250, worst = 2496},
+    {name = "log", period = 400, worst = 3996},
+    {name = "ui", period = 1000, worst = 9996},
+]
+"#;
+
+/// Its machine.
+pub const CONTROLLER_MACHINE: &[u8] = br#"
+idle = 100
+charge = 2
+point = [
+    {speed = 40, millivolts = 1100},
+    {speed = 60, millivolts = 1250},
+    {speed = 80, millivolts = 1400},
+    {speed = 100, millivolts = 1600},
+]
+"#;
+
+/// What its jobs need: lines that end with a carriage return, and fields in quotes.
+pub const CONTROLLER_DEMANDS: &[u8] =
+    b"task,job,units\r\n\"imu\",1,196\r\n\"imu\",2,396\r\nradio,1,596\r\nmotor,1,996\r\nlog,\"1\",396\r\nui,1,196\r\n";
+
+/// Two tasks; the first release of the second is at tick 2.
+pub const TWO_TASKS: &[u8] =
+    br#"task = [{name = "x", period = 4, worst = 4}, {name = "y", period = 6, worst = 6, offset = 2}]"#;
+
+/// Their trace on the machine of the example under cycle-conserving EDF, in version 1.
+pub const TWO_TRACE_1: &[u8] = b"trace 1
+plan edf cc 8
+release 0 x 1
+speed 0 2 12/12
+run 0:0 2:0 x 1 4 36000000000
+done 2:0 x 1 4
+release 2 y 1
+speed 2 2 24/12
+run 2:0 4:0 y 1 4 36000000000
+release 4 x 2
+speed 4 2 24/12
+run 4:0 6:0 x 2 4 36000000000
+done 6:0 x 2 4
+speed 6 2 24/12
+run 6:0 7:0 y 1 2 18000000000
+done 7:0 y 1 6
+speed 7 2 24/12
+idle 7:0 8:0 2 0
+end 8 126000000000 0
+";
+
+/// The same trace in version 2.
+pub const TWO_TRACE_2: &str = "trace 2
+plan edf cc 8
+task x 4 0 4
+task y 6 2 6
+release 0 x 1
+speed 0 2 12/12
+run 0:0 2:0 x 1 4 36000000000
+done 2:0 x 1 4
+release 2 y 1
+speed 2 2 24/12
+run 2:0 4:0 y 1 4 36000000000
+release 4 x 2
+speed 4 2 24/12
+run 4:0 6:0 x 2 4 36000000000
+done 6:0 x 2 4
+speed 6 2 24/12
+run 6:0 7:0 y 1 2 18000000000
+done 7:0 y 1 6
+speed 7 2 24/12
+idle 7:0 8:0 2 0
+energy x 72000000000
+energy y 54000000000
+end 8 126000000000 0
+";
