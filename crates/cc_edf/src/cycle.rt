@@ -12,7 +12,7 @@ ghost use Rattle.cc_edf_laws.proofs.CycleLaws.{cycle_laws};
 ghost use Rattle.cc_edf_laws.proofs.Publishing.{cycle_publishing};
 
 use dvs_base::{GovernorKind, NoMemory};
-use governor::{Choice, Governor, Publishing};
+use governor::{Choice, Governor, Publishing, chosen};
 use grid_fraction::Frac;
 use sched_model::{Admitted, Row, State};
 use std::alloc::Global;
@@ -119,13 +119,7 @@ impl Governor for CcEdf {
         ensures met { result.met ≡ (lowest_pick plan.now.machine (cycle_demand plan.now view.entry.now)).met }
         ensures always { result.met ≡ true }
     {
-        let demand = self.sum_of_rates(plan, view);
-        let pick = plan.machine().lowest(demand);
-        Choice {
-            index: pick.index,
-            met: pick.met,
-            demand,
-        }
+        chosen(plan, self.sum_of_rates(plan, view))
     }
 }
 

@@ -18,7 +18,7 @@ ghost use Rattle.cc_rm.specs.Counters.{Counts, lowered};
 use crate::allotments::{left_in_all, static_speed};
 use crate::counters::{Allotments, allot};
 use dvs_base::{GovernorKind, NoMemory};
-use governor::{Choice, Governor, Publishing, earliest_deadline};
+use governor::{Choice, Governor, Publishing, chosen, earliest_deadline};
 use grid_fraction::Frac;
 use sched_model::{Admitted, State};
 use std::alloc::Global;
@@ -170,13 +170,7 @@ impl Governor for CcRm {
         ensures met { result.met ≡ (lowest_pick plan.now.machine (cycle_demand plan.now view.entry.now)).met }
         ensures calm { CcRmCalm plan.now view.entry.now → result.met ≡ true }
     {
-        let demand = self.demand(plan, view);
-        let pick = plan.machine().lowest(demand);
-        Choice {
-            index: pick.index,
-            met: pick.met,
-            demand,
-        }
+        chosen(plan, self.demand(plan, view))
     }
 }
 

@@ -2,21 +2,23 @@
 //!
 //! A text is read with the CSV reader's defaults, and records may have any number of fields. Callers may rely on
 //! `records_left`: what a reader has left are the records of the text by the reader's own specification, and each call
-//! of `next_record` takes the first of them. One record is used again for each row, so no text is kept twice.
+//! of `next_record` takes the first of them; and on `rows_reader` to find the rows after one header, field by field.
+//! One record is used again for each row, so no text is kept twice.
 #![tactic(auto)]
 
-ghost use Rattle.std.specs.Prelude.{◌≡◌, ◌<◌, ◌≤◌, ◌+◌, ◌∷◌, [], Ok, Some, true, false, length, option_map, IfOk};
+ghost use Rattle.std.specs.Prelude.{◌≡◌, ◌<◌, ◌≤◌, ◌+◌, ◌∷◌, [], Ok, Some, true, false, length, map, option_map, IfOk, IfSome};
 ghost use Rattle.csv.specs.Reading.{default_config, records, strip_bom, error_kind, stops_reader};
 ghost use Rattle.csv.specs.Records.{field_at, fields_of};
 ghost use Rattle.csv_text.specs.Records.{IsPlain, records_left, two_of, three_of};
+ghost use Rattle.csv_text.specs.Rows.{has_fields, text_rows};
 
 use csv::{ByteRecord, Error, Reader, ReaderBuilder};
 use dvs_base::NoMemory;
 use std::alloc::Global;
 
-/// A reader of the records of a text, of any number of fields, and the first one like the others. It fails only where
-/// memory runs out. It has a header row beforehand, an empty one, so that it keeps no copy of the first record.
-pub fn text_reader(alloc: Global, text: &[u8]) -> Result<Reader<&[u8]>, NoMemory>
+// A reader of the records of a text, of any number of fields, and the first one like the others. It fails only where
+// memory runs out. It has a header row beforehand, an empty one, so that it keeps no copy of the first record.
+fn text_reader(alloc: Global, text: &[u8]) -> Result<Reader<&[u8]>, NoMemory>
     ensures plain { IfOk result (λ reader. IsPlain reader) }
     ensures all { IfOk result (λ reader. records_left reader ≡ records default_config (strip_bom text.now)) }
     ensures few { IfOk result (λ reader. length (records_left reader) ≤ length text.now + 1) }
@@ -74,4 +76,38 @@ pub fn three_fields(fields: &ByteRecord) -> Option<(&[u8], &[u8], &[u8])>
         return None;
     }
     Some((field(fields, 0), field(fields, 1), field(fields, 2)))
+}
+
+// Whether these are the fields of a record.
+fn has_fields(fields: &ByteRecord, names: &[&str]) -> bool
+    ensures { result ≡ has_fields (map (λ n. n.now) names.now) (fields_of fields.now) }
+{
+    if fields.len() != names.len() {
+        return false;
+    }
+    for place in 0..names.len() {
+        if field(fields, place) != names[place].as_bytes() {
+            return false;
+        }
+    }
+    true
+}
+
+/// A reader of the rows of a text after its header, and None where the first record is another one or where there is
+/// none. It fails only where memory runs out.
+pub fn rows_reader<'a>(
+    alloc: Global,
+    text: &'a [u8],
+    header: &[&str],
+    fields: &mut ByteRecord,
+) -> Result<Option<Reader<&'a [u8]>>, NoMemory>
+    ensures rows { IfOk result (λ found. option_map records_left found ≡ text_rows (map (λ n. n.now) header.now) text.now) }
+    ensures plain { IfOk result (λ found. IfSome found IsPlain) }
+    ensures few { IfOk result (λ found. IfSome found (λ reader. length (records_left reader) ≤ length text.now)) }
+{
+    let mut reader = text_reader(alloc, text)?;
+    if next_record(&mut reader, fields)? && has_fields(fields, header) {
+        return Ok(Some(reader));
+    }
+    Ok(None)
 }

@@ -1,26 +1,15 @@
 // Demand files.
-ghost use Rattle.std.specs.Prelude.{codes, ◌≡◌, ◌≤◌, ◌<◌, ◌^◌, length, map, IfOk, OnOk, vec_len};
+ghost use Rattle.std.specs.Prelude.{codes, ◌≡◌, ◌≤◌, ◌<◌, ◌^◌, length, map, IfOk, vec_len};
 ghost use Rattle.csv.specs.Records.{fields_of};
 ghost use Rattle.csv_text.specs.Records.{IsPlain, AreCountedFrom, records_left};
-ghost use Rattle.demand_list.specs.DemandFile.{Means, is_header, row_of, demands_from, after_header, with_checked, demand_file, worst_list};
+ghost use Rattle.demand_list.specs.DemandFile.{Means, row_of, demands_from, with_checked, demand_file, worst_list};
 
 use crate::{Column, DemandFault, Demands};
 use csv::{ByteRecord, Reader};
-use csv_text::{next_record, text_reader, three_fields};
+use csv_text::{next_record, rows_reader, three_fields};
 use dvs_base::{NoMemory, Short, whole};
 use std::alloc::Global;
 use task_model::TaskSet;
-
-fn is_header(fields: &ByteRecord) -> bool
-    ensures { result ≡ is_header (fields_of fields.now) }
-{
-    match three_fields(fields) {
-        Some((a, b, c)) => a == b"task".as_slice()
-            && b == b"job".as_slice()
-            && c == b"units".as_slice(),
-        None => false,
-    }
-}
 
 // A row read alone: its task, its job and its units.
 fn read_row(tasks: &TaskSet, row: u64, fields: &ByteRecord) -> Result<(u32, u64, u64), DemandFault>
@@ -28,43 +17,24 @@ fn read_row(tasks: &TaskSet, row: u64, fields: &ByteRecord) -> Result<(u32, u64,
     ensures task { IfOk result (λ r. r.0 < length tasks.now) }
     ensures job { IfOk result (λ r. 1 ≤ r.1) }
 {
-    let (name, job, units) = match three_fields(fields) {
-        Some(three) => three,
-        None => {
-            return Err(DemandFault::Fields {
-                row,
-                count: fields.len() as u64,
-            });
-        }
-    };
-    let task = match tasks.find(name) {
-        Some(task) => task,
-        None => {
-            return Err(DemandFault::UnknownTask {
-                row,
-                name: Short::of(name),
-            });
-        }
-    };
-    let job = match whole(job) {
-        Some(job) => job,
-        None => {
-            return Err(DemandFault::BadNumber {
-                row,
-                column: Column::Job,
-            });
-        }
-    };
+    let count = fields.len() as u64;
+    let (name, job, units) = three_fields(fields).ok_or(DemandFault::Fields { row, count })?;
+    let task = tasks.find(name).ok_or(DemandFault::UnknownTask {
+        row,
+        name: Short::of(name),
+    })?;
+    let job = whole(job).ok_or(DemandFault::BadNumber {
+        row,
+        column: Column::Job,
+    })?;
     if job == 0 {
         return Err(DemandFault::JobZero { row });
     }
-    match whole(units) {
-        Some(units) => Ok((task, job, units)),
-        None => Err(DemandFault::BadNumber {
-            row,
-            column: Column::Units,
-        }),
-    }
+    let units = whole(units).ok_or(DemandFault::BadNumber {
+        row,
+        column: Column::Units,
+    })?;
+    Ok((task, job, units))
 }
 
 // Adds a row of a file, after the checks against the list.
@@ -94,19 +64,6 @@ fn add_checked(
     }
     demands.set(task, job, units)?;
     Ok(())
-}
-
-// Takes the header.
-fn read_header(reader: &mut Reader<&[u8]>, fields: &mut ByteRecord) -> Result<(), DemandFault>
-    requires { IsPlain reader.old }
-    ensures left { Means (λ _. records_left reader.new) result (after_header (records_left reader.old)) }
-    ensures plain { OnOk result (IsPlain reader.new) }
-    ensures fewer { OnOk result (length (records_left reader.new) < length (records_left reader.old)) }
-{
-    if next_record(reader, fields)? && is_header(fields) {
-        return Ok(());
-    }
-    Err(DemandFault::Header)
 }
 
 // The declared worst cases.
@@ -161,9 +118,9 @@ impl Demands {
         ensures file { Means (λ d. d) result (demand_file tasks.now bytes.now) }
         ensures worsts { IfOk result (λ d. d.worsts ≡ map (λ t. t.worst) tasks.now) }
     {
-        let mut reader = text_reader(alloc, bytes)?;
         let mut fields = ByteRecord::new(alloc);
-        read_header(&mut reader, &mut fields)?;
+        let rows = rows_reader(alloc, bytes, &["task", "job", "units"], &mut fields)?;
+        let mut reader = rows.ok_or(DemandFault::Header)?;
         let demands = worst_list(alloc, tasks)?;
         read_rows(&mut reader, &mut fields, tasks, demands)
     }

@@ -5,3 +5,7 @@ pub mod RunLines
 pub mod DoneText
 pub mod SpanHeads
 pub mod CountLemmas
+pub mod TickPieces
+pub mod SpanPieces
+pub mod SpanNotes
+pub mod OneEnd

@@ -1,6 +1,7 @@
 pub mod Widths
 pub mod Text
 pub mod Outside
+pub mod WritesText
 pub mod Memory
 pub mod Padded
 pub mod Parts

@@ -21,6 +21,7 @@ mod number;
 mod outside;
 mod part;
 mod plan_word;
+mod put;
 mod settings;
 mod void;
 
@@ -33,8 +34,12 @@ pub use name::{Name, Short};
 pub use note::{Note, Pos, Totals};
 pub use number::{whole, wide};
 pub use outside::{Failed, LoadFault, NoMemory, Shelf, Sink};
-pub use part::{Part, line_of};
+pub use part::{
+    Part, line_of, push_name, push_number, push_part, push_parts, push_position, push_ratio,
+    push_wide, push_word,
+};
 pub use plan_word::{governor_of, is_pair, scheduler_of, ticks_of};
+pub use put::{put_line, put_two};
 pub use settings::{
     DocumentFault, MemberFault, member_at, number_at, read_document, text_at, unknown_key,
 };

@@ -4,6 +4,7 @@ ghost use Rattle.std.specs.Fmt.{decimal};
 ghost use Rattle.dvs_base.specs.Parts.{part_text, most_bytes, most_of, joined};
 
 use crate::{Line, Name, Pos, Short, put_num};
+use itoa::Buffer;
 
 /// A part of a line.
 #[derive(Clone, Copy)]
@@ -24,17 +25,40 @@ pub enum Part<'a> {
     Ratio(u128, u128),
 }
 
-// A number of at most 20 digits.
-fn push_number(line: &mut Line, n: u64)
+/// Appends the bytes, which fit in the 256. It takes no memory.
+#[inline]
+pub fn push_word(line: &mut Line, bytes: &[u8])
+    requires { length line.old + length bytes.now ≤ 256 }
+    ensures text { line.new ≡ line.old ++ bytes.now }
+    ensures most { length line.new ≤ length line.old + length bytes.now }
+{
+    line.push(bytes);
+}
+
+/// Appends a name. It takes no memory.
+#[inline]
+pub fn push_name(line: &mut Line, name: &Name)
+    requires { length line.old + 32 ≤ 256 }
+    ensures text { line.new ≡ line.old ++ name.now }
+    ensures most { length line.new ≤ length line.old + 32 }
+{
+    line.push(name.as_bytes());
+}
+
+/// Appends a number of at most 20 digits. It takes no memory.
+#[inline]
+pub fn push_number(line: &mut Line, n: u64)
     requires { length line.old + 20 ≤ 256 }
     ensures text { line.new ≡ line.old ++ decimal n }
     ensures most { length line.new ≤ length line.old + 20 }
 {
-    put_num(line, n as u128);
+    let mut buffer = Buffer::new();
+    line.push(buffer.format(n).as_bytes());
 }
 
-// A number of at most 39 digits.
-fn push_wide(line: &mut Line, n: u128)
+/// Appends a number of at most 39 digits. It takes no memory.
+#[inline]
+pub fn push_wide(line: &mut Line, n: u128)
     requires { length line.old + 39 ≤ 256 }
     ensures text { line.new ≡ line.old ++ decimal n }
     ensures most { length line.new ≤ length line.old + 39 }
@@ -42,7 +66,9 @@ fn push_wide(line: &mut Line, n: u128)
     put_num(line, n);
 }
 
-fn push_position(line: &mut Line, pos: Pos)
+/// Appends a position as `tick:offset`, at most 41 bytes. It takes no memory.
+#[inline]
+pub fn push_position(line: &mut Line, pos: Pos)
     requires { length line.old + 41 ≤ 256 }
     ensures text { line.new ≡ line.old ++ part_text (Part.At pos) }
     ensures most { length line.new ≤ length line.old + 41 }
@@ -52,7 +78,9 @@ fn push_position(line: &mut Line, pos: Pos)
     push_number(line, pos.offset);
 }
 
-fn push_ratio(line: &mut Line, num: u128, den: u128)
+/// Appends a fraction as `num/den`, at most 79 bytes. It takes no memory.
+#[inline]
+pub fn push_ratio(line: &mut Line, num: u128, den: u128)
     requires { length line.old + 79 ≤ 256 }
     ensures text { line.new ≡ line.old ++ part_text (Part.Ratio num den) }
     ensures most { length line.new ≤ length line.old + 79 }
@@ -62,7 +90,8 @@ fn push_ratio(line: &mut Line, num: u128, den: u128)
     push_wide(line, den);
 }
 
-fn push_part(line: &mut Line, part: Part<'_>)
+/// Appends a part, which fits in the 256 bytes. It takes no memory.
+pub fn push_part(line: &mut Line, part: Part<'_>)
     requires { length line.old + most_bytes part ≤ 256 }
     ensures text { line.new ≡ line.old ++ part_text part.entry }
     ensures most { length line.new ≤ length line.old + most_bytes part.entry }
@@ -78,14 +107,22 @@ fn push_part(line: &mut Line, part: Part<'_>)
     }
 }
 
+/// Appends these parts, one after another, which fit in the 256 bytes. It takes no memory.
+pub fn push_parts(line: &mut Line, parts: &[Part<'_>])
+    requires { length line.old + most_of parts.now ≤ 256 }
+    ensures { line.new ≡ line.old ++ joined (map part_text parts.now) }
+{
+    for part in parts {
+        push_part(line, *part);
+    }
+}
+
 /// The line of these parts, one after another. It takes no memory.
 pub fn line_of(parts: &[Part<'_>]) -> Line
     requires { most_of parts.now ≤ 256 }
     ensures { result ≡ joined (map part_text parts.now) }
 {
     let mut line = Line::new();
-    for part in parts {
-        push_part(&mut line, *part);
-    }
+    push_parts(&mut line, parts);
     line
 }

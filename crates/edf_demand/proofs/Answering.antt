@@ -4,8 +4,8 @@ use Rattle.std.proofs.Math.Nat.{mul-le-mul_right}
 use Rattle.std.proofs.lemmas.Bool.{cases_lt, le-leb, leb-true}
 use Rattle.std.proofs.lemmas.Bool.Decides.{nat_tests}
 use Rattle.dvs_base.specs.declared.limits.TheConstants.{MOST_JOBS}
-use Rattle.offsets.specs.Offsets.{NoneOffset, IsFirstOffset}
-use Rattle.offsets.proofs.Finding.{none-found, first-found}
+use Rattle.task_model.specs.Offsets.{NoneOffset, IsFirstOffset}
+use Rattle.task_model.proofs.Finding.{none-found, first-found}
 use Rattle.grid_fraction.specs.declared.Frac.{Frac}
 use Rattle.grid_fraction.specs.Fraction.{meets}
 use Rattle.grid_fraction.proofs.Searches.{any_below-none, any_below-false}

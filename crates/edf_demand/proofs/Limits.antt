@@ -4,7 +4,7 @@ use Rattle.dvs_base.specs.declared.kind.Scheduler.TheVariants.{Edf}
 use Rattle.task_model.specs.declared.task.Task.{Task}
 use Rattle.task_model.specs.Tasks.{task_at}
 use Rattle.freq_table.specs.Tables.{Table}
-use Rattle.offsets.specs.Offsets.{NoneOffset}
+use Rattle.task_model.specs.Offsets.{NoneOffset}
 use Rattle.sched_model.specs.Plan.{plan_of}
 use Rattle.edf_demand_laws.specs.Constrained.{IsConstrained}
 use Rattle.edf_demand.specs.Deadlines.{AreFor}

@@ -7,7 +7,7 @@ use Rattle.freq_table.specs.declared.machine.Pick.{Pick}
 use Rattle.freq_table.specs.Tables.{speed_at, last_entry, lowest_pick}
 use Rattle.task_model.specs.declared.task.Task.{Task}
 use Rattle.task_model.specs.Tasks.{hyper_of, task_at}
-use Rattle.offsets.specs.Offsets.{NoneOffset, IsFirstOffset, first_offset}
+use Rattle.task_model.specs.Offsets.{NoneOffset, IsFirstOffset, first_offset}
 use Rattle.sched_model.specs.Plan.{Plan, count, offset, top_speed}
 use Rattle.edf_demand_laws.specs.ProcessorDemand.{IsConstrainedDemand, constrained_demand}
 use Rattle.edf_demand_laws.specs.Deciding.{MeetsAlways, MissesAtWorst}

@@ -13,7 +13,6 @@ use crate::walk::{constrained_demand, hyper_jobs};
 use dvs_base::MOST_JOBS;
 use freq_table::Machine;
 use grid_fraction::Frac;
-use offsets::first_offset;
 use std::alloc::Global;
 use task_model::TaskSet;
 
@@ -62,7 +61,7 @@ pub fn constrain(
 {
     let _tasks = tasks.as_slice();
     let _entries = machine.as_slice();
-    if let Some(task) = first_offset(tasks) {
+    if let Some(task) = tasks.first_offset() {
         return Err(ConstrainFault::Offset { task });
     }
     let count = hyper_jobs(tasks);

@@ -1,27 +1,18 @@
 // Deadline files.
-ghost use Rattle.std.specs.Prelude.{codes, ◌≡◌, ◌≤◌, ◌<◌, length, IfOk, OnOk};
+ghost use Rattle.std.specs.Prelude.{codes, ◌≡◌, ◌≤◌, ◌<◌, length, IfOk};
 ghost use Rattle.csv.specs.Records.{fields_of};
 ghost use Rattle.csv_text.specs.Records.{IsPlain, AreCountedFrom, records_left};
 ghost use Rattle.dvs_base.specs.Checks.{IsUnlessMemory};
 ghost use Rattle.task_model.specs.Tasks.{task_at};
 ghost use Rattle.edf_demand.specs.Deadlines.{AreFor};
-ghost use Rattle.edf_demand.specs.DeadlineFile.{is_header, row_of, with_row, given_from, none_given, all_deadlines, after_header, given_in, deadline_file, AreGiven};
+ghost use Rattle.edf_demand.specs.DeadlineFile.{row_of, with_row, given_from, none_given, all_deadlines, given_in, deadline_file, AreGiven};
 
 use crate::{DeadlineFault, Deadlines};
 use csv::{ByteRecord, Reader};
-use csv_text::{next_record, text_reader, two_fields};
+use csv_text::{next_record, rows_reader, two_fields};
 use dvs_base::{NoMemory, Short, whole};
 use std::alloc::Global;
 use task_model::TaskSet;
-
-fn is_header(fields: &ByteRecord) -> bool
-    ensures { result ≡ is_header (fields_of fields.now) }
-{
-    match two_fields(fields) {
-        Some((a, b)) => a == b"task".as_slice() && b == b"deadline".as_slice(),
-        None => false,
-    }
-}
 
 // A row read alone: its task and its deadline.
 fn read_row(tasks: &TaskSet, row: u64, fields: &ByteRecord) -> Result<(u32, u64), DeadlineFault>
@@ -30,28 +21,13 @@ fn read_row(tasks: &TaskSet, row: u64, fields: &ByteRecord) -> Result<(u32, u64)
     ensures some { IfOk result (λ r. 1 ≤ r.1) }
     ensures within { IfOk result (λ r. r.1 ≤ (task_at tasks.now r.0).period) }
 {
-    let (name, deadline) = match two_fields(fields) {
-        Some(two) => two,
-        None => {
-            return Err(DeadlineFault::Fields {
-                row,
-                count: fields.len() as u64,
-            });
-        }
-    };
-    let task = match tasks.find(name) {
-        Some(task) => task,
-        None => {
-            return Err(DeadlineFault::UnknownTask {
-                row,
-                name: Short::of(name),
-            });
-        }
-    };
-    let deadline = match whole(deadline) {
-        Some(deadline) => deadline,
-        None => return Err(DeadlineFault::BadNumber { row }),
-    };
+    let count = fields.len() as u64;
+    let (name, deadline) = two_fields(fields).ok_or(DeadlineFault::Fields { row, count })?;
+    let task = tasks.find(name).ok_or(DeadlineFault::UnknownTask {
+        row,
+        name: Short::of(name),
+    })?;
+    let deadline = whole(deadline).ok_or(DeadlineFault::BadNumber { row })?;
     if deadline == 0 || deadline > tasks.task(task).period {
         return Err(DeadlineFault::Range { row });
     }
@@ -78,20 +54,6 @@ fn add_row(
     }
     given[task as usize] = Some(deadline);
     Ok(())
-}
-
-// Takes the header.
-fn read_header(reader: &mut Reader<&[u8]>, fields: &mut ByteRecord) -> Result<(), DeadlineFault>
-    requires { IsPlain reader.old }
-    ensures left { IsUnlessMemory DeadlineFault.NoMemory (λ _. records_left reader.new) result
-        (after_header (records_left reader.old)) }
-    ensures plain { OnOk result (IsPlain reader.new) }
-    ensures fewer { OnOk result (length (records_left reader.new) < length (records_left reader.old)) }
-{
-    if next_record(reader, fields)? && is_header(fields) {
-        return Ok(());
-    }
-    Err(DeadlineFault::Header)
 }
 
 // A place for each task, with no deadline yet.
@@ -140,9 +102,9 @@ fn read_given(
     ensures rows { IsUnlessMemory DeadlineFault.NoMemory (λ v. v.items) result (given_in tasks.now bytes.now) }
     ensures given { IfOk result (λ v. AreGiven tasks.now v.items) }
 {
-    let mut reader = text_reader(alloc, bytes)?;
     let mut fields = ByteRecord::new(alloc);
-    read_header(&mut reader, &mut fields)?;
+    let rows = rows_reader(alloc, bytes, &["task", "deadline"], &mut fields)?;
+    let mut reader = rows.ok_or(DeadlineFault::Header)?;
     let given = none_given(alloc, tasks)?;
     read_rows(&mut reader, &mut fields, tasks, given)
 }

@@ -11,7 +11,6 @@ use Rattle.sched_model.specs.Admission.{IsAdmitted}
 
 pub record Bounds (p : Plan) : Type 0 where
   pub some_task : 0 < count p
-  pub few_tasks : count p ≤ 64
   pub some_period : (i : ℕ) → 0 < period p i
   pub low_period : (i : ℕ) → period p i ≤ LONGEST_PERIOD
   pub low_offset : (i : ℕ) → offset p i ≤ LATEST_OFFSET
@@ -19,8 +18,6 @@ pub record Bounds (p : Plan) : Type 0 where
   pub some_point : 0 < length p.machine.points
   pub some_speed : (e : ℕ) → e < length p.machine.points → 0 < (point p e).speed
   pub low_speed : (e : ℕ) → (point p e).speed ≤ 1000000
-  pub low_millivolts : (e : ℕ) → (point p e).millivolts ≤ 20000
-  pub low_idle : p.machine.idle ≤ 1000
 
 -- past the end stands the default
 past-end : {A : Type 0} (xs : List A) (i : ℕ) (d : A) → length xs ≤ i → slice_index_or xs i d ≡ d
@@ -28,42 +25,29 @@ past-end [] i d le = refl
 past-end (x ∷ xs) zero d le = absurd (omega arith)
 past-end (x ∷ xs) (suc i) d le = past-end xs i d (omega arith)
 
-pub bounds : (p : Plan) → IsAdmitted p → Bounds p
-bounds p adm = record {
-  some_task = adm.limits.tasks.some;
-  few_tasks = adm.limits.tasks.few;
-  some_period = λ i. some i (cases_lt i (count p));
-  low_period = λ i. low i (cases_lt i (count p));
-  low_offset = λ i. soon i (cases_lt i (count p));
-  low_worst = λ i. small i (cases_lt i (count p));
-  some_point = adm.limits.machine.some;
-  some_speed = λ e lt. (adm.limits.machine.each e lt).some_speed;
-  low_speed = λ e. slow e (cases_lt e (length p.machine.points));
-  low_millivolts = λ e. weak e (cases_lt e (length p.machine.points));
-  low_idle = adm.limits.machine.low_idle;
-}
+-- what holds of each element, and of the default, holds at each place
+at-each : {A : Type 0} (P : A → Type 0) (xs : List A) (d : A) → ((i : ℕ) → i < length xs → P (slice_index_or xs i d)) → P d
+    → (i : ℕ) → P (slice_index_or xs i d)
+at-each P xs d each here i = go (cases_lt i (length xs))
   where
-    some : (i : ℕ) → (i < count p) ⊎ (count p ≤ i) → 0 < period p i
-    some i (inl lt) = omega (arith, (adm.limits.tasks.each i lt).some_period)
-    some i (inr ge) = subst (λ (t : Task). 0 < t.period) (sym (past-end p.tasks i no_task ge)) (omega arith)
+    go : (i < length xs) ⊎ (length xs ≤ i) → P (slice_index_or xs i d)
+    go (inl lt) = each i lt
+    go (inr ge) = subst P (sym (past-end xs i d ge)) here
 
-    low : (i : ℕ) → (i < count p) ⊎ (count p ≤ i) → period p i ≤ LONGEST_PERIOD
-    low i (inl lt) = (adm.limits.tasks.each i lt).low_period
-    low i (inr ge) = subst (λ (t : Task). t.period ≤ LONGEST_PERIOD) (sym (past-end p.tasks i no_task ge)) (omega arith)
-
-    soon : (i : ℕ) → (i < count p) ⊎ (count p ≤ i) → offset p i ≤ LATEST_OFFSET
-    soon i (inl lt) = (adm.limits.tasks.each i lt).low_offset
-    soon i (inr ge) = subst (λ (t : Task). t.offset ≤ LATEST_OFFSET) (sym (past-end p.tasks i no_task ge)) (omega arith)
-
-    small : (i : ℕ) → (i < count p) ⊎ (count p ≤ i) → worst p i ≤ 2 ^ 61
-    small i (inl lt) = omega (arith, (adm.limits.tasks.each i lt).low_worst, adm.limits.machine.low_charge)
-    small i (inr ge) = subst (λ (t : Task). t.worst + 2 * p.machine.charge ≤ 2 ^ 61) (sym (past-end p.tasks i no_task ge))
-        (omega (arith, adm.limits.machine.low_charge))
-
-    slow : (e : ℕ) → (e < length p.machine.points) ⊎ (length p.machine.points ≤ e) → (point p e).speed ≤ 1000000
-    slow e (inl lt) = (adm.limits.machine.each e lt).low_speed
-    slow e (inr ge) = subst (λ (x : Point). x.speed ≤ 1000000) (sym (past-end p.machine.points e (record { speed = 0; millivolts = 0 }) ge)) (omega arith)
-
-    weak : (e : ℕ) → (e < length p.machine.points) ⊎ (length p.machine.points ≤ e) → (point p e).millivolts ≤ 20000
-    weak e (inl lt) = (adm.limits.machine.each e lt).low_millivolts
-    weak e (inr ge) = subst (λ (x : Point). x.millivolts ≤ 20000) (sym (past-end p.machine.points e (record { speed = 0; millivolts = 0 }) ge)) (omega arith)
+pub bounds : (p : Plan) → IsAdmitted p → Bounds p
+bounds p adm =
+    let task = adm.limits.tasks.each in
+    let entry = adm.limits.machine.each in
+    let charge = adm.limits.machine.low_charge in
+    let nothing : Point = record { speed = 0; millivolts = 0 } in
+    record {
+      some_task = adm.limits.tasks.some;
+      some_period = at-each (λ (t : Task). 0 < t.period) p.tasks no_task (λ i lt. omega (arith, (task i lt).some_period)) (omega arith);
+      low_period = at-each (λ (t : Task). t.period ≤ LONGEST_PERIOD) p.tasks no_task (λ i lt. (task i lt).low_period) (omega arith);
+      low_offset = at-each (λ (t : Task). t.offset ≤ LATEST_OFFSET) p.tasks no_task (λ i lt. (task i lt).low_offset) (omega arith);
+      low_worst = at-each (λ (t : Task). t.worst + 2 * p.machine.charge ≤ 2 ^ 61) p.tasks no_task
+          (λ i lt. omega (arith, (task i lt).low_worst, charge)) (omega (arith, charge));
+      some_point = adm.limits.machine.some;
+      some_speed = λ e lt. (entry e lt).some_speed;
+      low_speed = at-each (λ (x : Point). x.speed ≤ 1000000) p.machine.points nothing (λ e lt. (entry e lt).low_speed) (omega arith);
+    }

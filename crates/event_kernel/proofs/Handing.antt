@@ -1,5 +1,5 @@
 -- The units of one tick, handed out to one task after the other.
-use Rattle.std.proofs.Common.{◌≡◌, ◌≢◌, ℕ, ◌+◌, ◌-◌, ◌*◌, ◌<◌, ◌≤◌, min, Bool, true, false, not, eqb, ◌&&◌, ◌||◌, List, [], ◌∷◌, ◌++◌, length, replicate, refl, arith, if◌then◌else◌, ap, ap₂, ◌∙◌, sym, subst, true≢false, append-nil, append_assoc, nat_eq, nat_le, nat_lt}
+use Rattle.std.proofs.Common.{◌≡◌, ◌≢◌, ℕ, ◌+◌, ◌-◌, ◌*◌, ◌<◌, ◌≤◌, min, Bool, true, false, not, eqb, ◌&&◌, ◌||◌, List, [], ◌∷◌, ◌++◌, length, replicate, refl, arith, if◌then◌else◌, ap, ap₂, ◌∙◌, sym, subst, append-nil, append_assoc, nat_eq, nat_le, nat_lt, true≢false}
 use Rattle.std.specs.Prelude.{count_by, flat_map}
 use Rattle.std.proofs.lemmas.Bool.Decides.{nat_tests}
 use Rattle.std.proofs.lemmas.List.Folds.{sum_by-replicate}
@@ -171,143 +171,135 @@ module _ (p : Plan) (dem : ℕ → ℕ → ℕ) (past : List Tick) where
   pub start-units : units_by (λ _. 0) ≡ []
   start-units = laid_none (in_order key (count p))
 
-  -- what the rows show
-  pub given-row : (given : ℕ → ℕ) (st : StateOf) (i : ℕ) → st ≡ given_state given → i < count p → row_at st i ≡ given_row given i
-  given-row given st i e lt = ap (λ (s : StateOf). row_at s i) e ∙ get-table (count p) (given_row given) i no_row lt
+  module _ {f rest : ℕ} {given : ℕ → ℕ} {completed : Bool} {st : StateOf} (h : Handing f given rest completed st) where
+    -- what the rows show
+    pub row-is : (i : ℕ) → i < count p → row_at st i ≡ given_row given i
+    row-is i lt = ap (λ (s : StateOf). row_at s i) h.state ∙ get-table (count p) (given_row given) i no_row lt
 
-  pub shows : ((i : ℕ) → i < count p → had i ≤ dem i (job i)) → (f rest : ℕ) (given : ℕ → ℕ) (completed : Bool) (st : StateOf)
-      → Handing f given rest completed st
-      → Shows p dem (length past) st (λ i. had i + given i)
-  shows within f rest given completed st h = record {
-    used_is = λ i lt. ap (λ (r : Row). r.used) (given-row given st i h.state lt);
-    done_is = λ i lt. ap (λ (r : Row). r.done) (given-row given st i h.state lt);
-    within = λ i lt. omega (arith, within i lt, h.handed.given_is i lt);
-  }
+    pub shows : ((i : ℕ) → i < count p → had i ≤ dem i (job i)) → Shows p dem (length past) st (λ i. had i + given i)
+    shows within = record {
+      used_is = λ i lt. ap (λ (r : Row). r.used) (row-is i lt);
+      done_is = λ i lt. ap (λ (r : Row). r.done) (row-is i lt);
+      within = λ i lt. omega (arith, within i lt, h.handed.given_is i lt);
+    }
 
-  row_key-is : (given : ℕ → ℕ) (st : StateOf) (i : ℕ) → st ≡ given_state given → i < count p → row_key p.scheduler p st i ≡ key i
-  row_key-is given st i e lt = go p.scheduler
-    where
-      go : (s : Scheduler) → row_key s p st i ≡ key_of s p (length past) i
-      go Edf = ap (λ (r : Row). r.deadline) (given-row given st i e lt)
-      go Rm = refl
+    key-is : (i : ℕ) → i < count p → row_key p.scheduler p st i ≡ key i
+    key-is i lt = go p.scheduler
+      where
+        go : (s : Scheduler) → row_key s p st i ≡ key_of s p (length past) i
+        go Edf = ap (λ (r : Row). r.deadline) (row-is i lt)
+        go Rm = refl
 
-  -- the first row that is not done is the first open task
-  pub first-open : (f rest : ℕ) (given : ℕ → ℕ) (completed : Bool) (st : StateOf) (i : ℕ) → Handing f given rest completed st
-      → IsFirstUndone p st (count p) i → IsFirstOpen (count p) key (left p dem past) given i
-  first-open f rest given completed st i h u = record {
-    below = u.below;
-    needs =
-        let open_row : nat_le (dem i (job i)) (had i + given i) ≡ false = sym (ap (λ (r : Row). r.done) (given-row given st i h.state u.below)) ∙ u.open_job in
-        let short : had i + given i < dem i (job i) = grind (arith, nat_tests) in
-        omega (arith, short);
-    first = λ k lt b. all-had k lt (u.first k lt
-        (ap₂ (λ x y. nat_lt x y || (nat_eq x y && nat_lt k i)) (row_key-is given st k h.state lt) (row_key-is given st i h.state u.below) ∙ b));
-  }
-    where
-      all-had : (k : ℕ) → k < count p → (row_at st k).done ≡ true → left p dem past k ≤ given k
-      all-had k lt d =
-          let done_row : nat_le (dem k (job k)) (had k + given k) ≡ true = sym (ap (λ (r : Row). r.done) (given-row given st k h.state lt)) ∙ d in
-          let enough : dem k (job k) ≤ had k + given k = grind (arith, nat_tests) in
-          omega (arith, enough)
+    all-had : (k : ℕ) → k < count p → (row_at st k).done ≡ true → left p dem past k ≤ given k
+    all-had k lt d =
+        let done_row : nat_le (dem k (job k)) (had k + given k) ≡ true = sym (ap (λ (r : Row). r.done) (row-is k lt)) ∙ d in
+        let enough : dem k (job k) ≤ had k + given k = grind (arith, nat_tests) in
+        omega (arith, enough)
 
-  pub none-open : (f rest : ℕ) (given : ℕ → ℕ) (completed : Bool) (st : StateOf) → Handing f given rest completed st
-      → ((k : ℕ) → k < count p → (row_at st k).done ≡ true) → (k : ℕ) → k < count p → left p dem past k ≤ given k
-  none-open f rest given completed st h d k lt =
-      let done_row : nat_le (dem k (job k)) (had k + given k) ≡ true = sym (ap (λ (r : Row). r.done) (given-row given st k h.state lt)) ∙ d k lt in
-      let enough : dem k (job k) ≤ had k + given k = grind (arith, nat_tests) in
-      omega (arith, enough)
+    -- the first row that is not done is the first open task
+    pub first-open : (i : ℕ) → IsFirstUndone p st (count p) i → IsFirstOpen (count p) key (left p dem past) given i
+    first-open i u = record {
+      below = u.below;
+      needs =
+          let open_row : nat_le (dem i (job i)) (had i + given i) ≡ false = sym (ap (λ (r : Row). r.done) (row-is i u.below)) ∙ u.open_job in
+          let short : had i + given i < dem i (job i) = grind (arith, nat_tests) in
+          omega (arith, short);
+      first = λ k lt b. all-had k lt (u.first k lt
+          (ap₂ (λ x y. nat_lt x y || (nat_eq x y && nat_lt k i)) (key-is k lt) (key-is i u.below) ∙ b));
+    }
 
-  -- one task gets units
-  pub gives : (f rest : ℕ) (given : ℕ → ℕ) (completed : Bool) (st next : StateOf) (i share : ℕ) (whole now : Bool) → Handing f given rest completed st
-      → 0 < rest
-      → ((i : ℕ) → i < count p → had i ≤ dem i (job i))
-      → IsFirstOpen (count p) key (left p dem past) given i
-      → share ≡ min rest (dem i (job i) - (had i + given i))
-      → whole ≡ nat_eq share (dem i (job i) - (had i + given i))
-      → next ≡ served st i share whole
-      → now ≡ (if whole then true else completed)
-      → Handing f (raised given i share) (rest - share) now next
-  gives f rest given completed st next i share whole now h pos within o se we ne ce = record {
-    handed = subst (λ v. IsHandedOut (count p) key f (left p dem past) (raised given i share) (rest - v)) (sym short)
-        (handed-step (count p) key f (left p dem past) given (raised given i share) rest i h.handed pos o
-        (raised-here given i share ∙ ap (λ v. given i + v) short) (λ k lt other. raised-there given i share k other));
-    state = ne ∙ (ap (λ (s : StateOf). served s i share whole) h.state
-        ∙ ap (λ rows. record { now = length past; rows = rows; base_at = (state_of p dem past).base_at; base = (state_of p dem past).base })
-        (set-table (count p) (given_row given) (given_row (raised given i share)) i _ o.below here there));
-    sum = omega (arith, sum-raised (count p) given i share o.below, h.sum, se);
-    ends = ce ∙ by_whole whole (sym we);
-  }
-    where
-      short : share ≡ min rest (left p dem past i - given i)
-      short = se ∙ ap (λ v. min rest v) (omega arith)
+    pub none-open : ((k : ℕ) → k < count p → (row_at st k).done ≡ true) → (k : ℕ) → k < count p → left p dem past k ≤ given k
+    none-open d k lt = all-had k lt (d k lt)
 
-      needs : had i + given i < dem i (job i)
-      needs = omega (arith, o.needs)
+    -- one task gets units
+    pub gives : (next : StateOf) (i share : ℕ) (whole now : Bool) → 0 < rest
+        → ((i : ℕ) → i < count p → had i ≤ dem i (job i))
+        → IsFirstOpen (count p) key (left p dem past) given i
+        → share ≡ min rest (dem i (job i) - (had i + given i))
+        → whole ≡ nat_eq share (dem i (job i) - (had i + given i))
+        → next ≡ served st i share whole
+        → now ≡ (if whole then true else completed)
+        → Handing f (raised given i share) (rest - share) now next
+    gives next i share whole now pos within o se we ne ce = record {
+      handed = subst (λ v. IsHandedOut (count p) key f (left p dem past) (raised given i share) (rest - v)) (sym short)
+          (handed-step (count p) key f (left p dem past) given (raised given i share) rest i h.handed pos o
+          (raised-here given i share ∙ ap (λ v. given i + v) short) (λ k lt other. raised-there given i share k other));
+      state = ne ∙ (ap (λ (s : StateOf). served s i share whole) h.state
+          ∙ ap (λ rows. record { now = length past; rows = rows; base_at = (state_of p dem past).base_at; base = (state_of p dem past).base })
+          (set-table (count p) (given_row given) (given_row (raised given i share)) i _ o.below here there));
+      sum = omega (arith, sum-raised (count p) given i share o.below, h.sum, se);
+      ends = ce ∙ by_whole whole (sym we);
+    }
+      where
+        short : share ≡ min rest (left p dem past i - given i)
+        short = se ∙ ap (λ v. min rest v) (omega arith)
 
-      is_whole : (b : Bool) → nat_eq share (dem i (job i) - (had i + given i)) ≡ b → nat_le (dem i (job i)) (had i + given i + share) ≡ b
-      is_whole true e =
-          let all : share ≡ dem i (job i) - (had i + given i) = grind (arith, nat_tests) in
-          let le : dem i (job i) ≤ had i + given i + share = omega (arith, all, needs) in
-          grind (arith, nat_tests, le)
-      is_whole false e =
-          let part : share ≢ dem i (job i) - (had i + given i) = grind (arith, nat_tests) in
-          let lt : had i + given i + share < dem i (job i) = omega (arith, part, needs, se) in
-          grind (arith, nat_tests, lt)
+        needs : had i + given i < dem i (job i)
+        needs = omega (arith, o.needs)
 
-      raised_is : had i + raised given i share i ≡ had i + given i + share
-      raised_is = omega (arith, raised-here given i share)
+        is_whole : (b : Bool) → nat_eq share (dem i (job i) - (had i + given i)) ≡ b → nat_le (dem i (job i)) (had i + given i + share) ≡ b
+        is_whole true e =
+            let all : share ≡ dem i (job i) - (had i + given i) = grind (arith, nat_tests) in
+            let le : dem i (job i) ≤ had i + given i + share = omega (arith, all, needs) in
+            grind (arith, nat_tests, le)
+        is_whole false e =
+            let part : share ≢ dem i (job i) - (had i + given i) = grind (arith, nat_tests) in
+            let lt : had i + given i + share < dem i (job i) = omega (arith, part, needs, se) in
+            grind (arith, nat_tests, lt)
 
-      here : given_row (raised given i share) i ≡ row_by (row_at (given_state given) i).deadline (row_at (given_state given) i).job
-          ((row_at (given_state given) i).used + share) whole (row_at (given_state given) i).worst
-      here =
-          ap (λ u. row_by (due p i (job i)) (job i) u (nat_le (dem i (job i)) u) (worst p i)) raised_is
-          ∙ (ap (λ b. row_by (due p i (job i)) (job i) (had i + given i + share) b (worst p i)) (is_whole whole (sym we))
-          ∙ ap (λ (r : Row). row_by r.deadline r.job (r.used + share) whole r.worst) (sym (given-row given (given_state given) i refl o.below)))
+        raised_is : had i + raised given i share i ≡ had i + given i + share
+        raised_is = omega (arith, raised-here given i share)
 
-      there : (k : ℕ) → k < count p → k ≢ i → given_row (raised given i share) k ≡ given_row given k
-      there k lt other =
-          ap (λ g. row_by (due p k (job k)) (job k) (had k + g) (nat_le (dem k (job k)) (had k + g)) (worst p k)) (raised-there given i share k other)
+        here : given_row (raised given i share) i ≡ row_by (row_at (given_state given) i).deadline (row_at (given_state given) i).job
+            ((row_at (given_state given) i).used + share) whole (row_at (given_state given) i).worst
+        here =
+            ap (λ u. row_by (due p i (job i)) (job i) u (nat_le (dem i (job i)) u) (worst p i)) raised_is
+            ∙ (ap (λ b. row_by (due p i (job i)) (job i) (had i + given i + share) b (worst p i)) (is_whole whole (sym we))
+            ∙ ap (λ (r : Row). row_by r.deadline r.job (r.used + share) whole r.worst) (sym (get-table (count p) (given_row given) i no_row o.below)))
 
-      not_before : nat_le (dem i (job i)) (had i) ≡ false
-      not_before = let lt : had i < dem i (job i) = omega (arith, needs) in grind (arith, nat_tests, lt)
+        there : (k : ℕ) → k < count p → k ≢ i → given_row (raised given i share) k ≡ given_row given k
+        there k lt other =
+            ap (λ g. row_by (due p k (job k)) (job k) (had k + g) (nat_le (dem k (job k)) (had k + g)) (worst p k)) (raised-there given i share k other)
 
-      by_whole : (b : Bool) → nat_eq share (dem i (job i) - (had i + given i)) ≡ b
-          → (if b then true else completed) ≡ any_below (count p) (ends_in (raised given i share))
-      by_whole true e =
-          sym (any_below-found (count p) (ends_in (raised given i share)) i o.below
-          (ap₂ (λ a b. not a && b) not_before (ap (λ u. nat_le (dem i (job i)) u) raised_is ∙ is_whole true e)))
-      by_whole false e =
-          h.ends ∙ any_below-same (count p) (ends_in given) (ends_in (raised given i share)) (λ k lt. same k (eqb k i) refl)
-        where
-          still_open : nat_le (dem i (job i)) (had i + given i) ≡ false
-          still_open = grind (arith, nat_tests, needs)
+        not_before : nat_le (dem i (job i)) (had i) ≡ false
+        not_before = let lt : had i < dem i (job i) = omega (arith, needs) in grind (arith, nat_tests, lt)
 
-          same : (k : ℕ) (b : Bool) → eqb k i ≡ b → ends_in given k ≡ ends_in (raised given i share) k
-          same k true q =
-              let is_i : i ≡ k = grind (arith, nat_tests) in
-              subst (λ m. ends_in given m ≡ ends_in (raised given i share) m) is_i
-              (ap (λ b. not (nat_le (dem i (job i)) (had i)) && b) (still_open ∙ (sym (is_whole false e) ∙ ap (λ u. nat_le (dem i (job i)) u) (sym raised_is))))
-          same k false q =
-              let other : k ≢ i = grind (arith, nat_tests) in
-              ap (λ g. not (nat_le (dem k (job k)) (had k)) && nat_le (dem k (job k)) (had k + g)) (sym (raised-there given i share k other))
+        by_whole : (b : Bool) → nat_eq share (dem i (job i) - (had i + given i)) ≡ b
+            → (if b then true else completed) ≡ any_below (count p) (ends_in (raised given i share))
+        by_whole true e =
+            sym (any_below-found (count p) (ends_in (raised given i share)) i o.below
+            (ap₂ (λ a b. not a && b) not_before (ap (λ u. nat_le (dem i (job i)) u) raised_is ∙ is_whole true e)))
+        by_whole false e =
+            h.ends ∙ any_below-same (count p) (ends_in given) (ends_in (raised given i share)) (λ k lt. same k (eqb k i) refl)
+          where
+            still_open : nat_le (dem i (job i)) (had i + given i) ≡ false
+            still_open = grind (arith, nat_tests, needs)
 
-  -- and its units stand behind all others
-  pub gives-units : (f rest : ℕ) (given : ℕ → ℕ) (completed : Bool) (st : StateOf) (i share : ℕ) → Handing f given rest completed st → 0 < rest
-      → IsFirstOpen (count p) key (left p dem past) given i
-      → units_by (raised given i share) ≡ units_by given ++ replicate share (Held i (job i))
-  gives-units f rest given completed st i share h pos o =
-      subst (λ js. laid_out job (raised given i share) js ≡ laid_out job given js ++ replicate (raised given i share i) (Held i (job i))) (sym place.1.1)
-      (laid_out-step key job given (raised given i share) (count p) i place.0 place.1.0
-      (subst (AreBelow (count p)) place.1.1 (in_order-below key (count p))) (subst (IsOrdered key) place.1.1 (in_order-ordered key (count p)))
-      now.0 (λ j lt other. raised-there given i share j other)
-      (λ j lt b. omega (arith, h.handed.given_is j lt, now.0, now.1, up_to-before (count p) key (left p dem past) i j o.below b)))
-      ∙ ap (λ m. units_by given ++ replicate m (Held i (job i))) (raised-here given i share ∙ omega (arith, now.0))
-    where
-      place : Stands i (in_order key (count p))
-      place = stands-in_order key (count p) i o.below
+            same : (k : ℕ) (b : Bool) → eqb k i ≡ b → ends_in given k ≡ ends_in (raised given i share) k
+            same k true q =
+                let is_i : i ≡ k = grind (arith, nat_tests) in
+                subst (λ m. ends_in given m ≡ ends_in (raised given i share) m) is_i
+                (ap (λ b. not (nat_le (dem i (job i)) (had i)) && b) (still_open ∙ (sym (is_whole false e) ∙ ap (λ u. nat_le (dem i (job i)) u) (sym raised_is))))
+            same k false q =
+                let other : k ≢ i = grind (arith, nat_tests) in
+                ap (λ g. not (nat_le (dem k (job k)) (had k)) && nat_le (dem k (job k)) (had k + g)) (sym (raised-there given i share k other))
 
-      now : (given i ≡ 0) × (f - rest ≡ sum_before (count p) key (left p dem past) i)
-      now = handed_before (count p) key f (left p dem past) given rest h.handed pos i o
+    -- and its units stand behind all others
+    pub gives-units : (i share : ℕ) → 0 < rest → IsFirstOpen (count p) key (left p dem past) given i
+        → units_by (raised given i share) ≡ units_by given ++ replicate share (Held i (job i))
+    gives-units i share pos o =
+        subst (λ js. laid_out job (raised given i share) js ≡ laid_out job given js ++ replicate (raised given i share i) (Held i (job i))) (sym place.1.1)
+        (laid_out-step key job given (raised given i share) (count p) i place.0 place.1.0
+        (subst (AreBelow (count p)) place.1.1 (in_order-below key (count p))) (subst (IsOrdered key) place.1.1 (in_order-ordered key (count p)))
+        now.0 (λ j lt other. raised-there given i share j other)
+        (λ j lt b. omega (arith, h.handed.given_is j lt, now.0, now.1, up_to-before (count p) key (left p dem past) i j o.below b)))
+        ∙ ap (λ m. units_by given ++ replicate m (Held i (job i))) (raised-here given i share ∙ omega (arith, now.0))
+      where
+        place : Stands i (in_order key (count p))
+        place = stands-in_order key (count p) i o.below
+
+        now : (given i ≡ 0) × (f - rest ≡ sum_before (count p) key (left p dem past) i)
+        now = handed_before (count p) key f (left p dem past) given rest h.handed pos i o
 
   -- what each task has had by then
   pub gives-had : (given : ℕ → ℕ) (i share k : ℕ)

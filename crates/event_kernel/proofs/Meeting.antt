@@ -1,10 +1,9 @@
 -- What the laws of a governor give of a run: every deadline is met, and every demand but that of a look-ahead.
-use Rattle.std.proofs.Common.{◌≢◌, ℕ, refl}
+use Rattle.std.proofs.Common.{◌≡◌, ℕ, refl, subst}
 use Rattle.dvs_base.specs.declared.kind.Scheduler.{Scheduler}
 use Rattle.dvs_base.specs.declared.kind.GovernorKind.{GovernorKind}
-use Rattle.dvs_base.specs.declared.kind.GovernorKind.TheVariants.{Ahead}
 use Rattle.grid_fraction.specs.declared.Frac.{Frac}
-use Rattle.demand_list.specs.Demands.{DemandsOf, IsWithinWorsts}
+use Rattle.demand_list.specs.Demands.{IsWithinWorsts}
 use Rattle.sched_model.specs.Plan.{Plan}
 use Rattle.sched_model.specs.Admission.{IsAdmitted}
 use Rattle.sched_model.specs.States.{StateOf}
@@ -15,20 +14,23 @@ use Rattle.done_lines.proofs.CountLemmas.{has-few}
 use Rattle.governor.specs.Schedule.{ask_of}
 use Rattle.governor.specs.Laws.{GovernorLaws}
 use Rattle.governor.proofs.Course.{course-met, demand-met}
-use Rattle.event_kernel.specs.Runs.{Run, demands_of, ticks_of, notes_of_run, IsListOf, MeetsDeadlines, MeetsDemands}
+use Rattle.event_kernel.specs.Runs.{Run, demands_of, ticks_of, notes_of_run, IsListOf}
+use Rattle.event_kernel.specs.Meeting.{IsMetRun}
 use Rattle.event_kernel.proofs.Demanding.{demand-within}
 
-module _ (kind : GovernorKind) (serves : Scheduler → Type 0) (demand : Plan → StateOf → Frac) (calm : Plan → StateOf → Type 0)
-    (safe : Plan → StateOf → ℕ → Type 0) (laws : GovernorLaws kind serves demand calm safe) (p : Plan) (d : DemandsOf) (ticks : ℕ)
-    (adm : IsAdmitted p) (list : IsListOf p d) (low : IsWithinWorsts d) (served : serves p.scheduler) where
-  abbrev pub run : Run
-  run = record { plan = p; demands = d; ticks = ticks }
+pub run-met : (kind : GovernorKind) (serves : Scheduler → Type 0) (demand : Plan → StateOf → Frac) (calm : Plan → StateOf → Type 0)
+    (safe : Plan → StateOf → ℕ → Type 0) → GovernorLaws kind serves demand calm safe → (r : Run) → IsAdmitted r.plan → IsListOf r.plan r.demands
+    → IsWithinWorsts r.demands → serves r.plan.scheduler → IsMetRun kind demand r
+run-met kind serves demand calm safe laws r adm list low served =
+    let dem = demands_of r.plan r.demands in
+    let within = demand-within r.plan r.demands list low in
+    record {
+      deadlines = course-met kind serves demand calm safe laws r.plan dem adm within served r.ticks;
+      demands = λ other t lt e. demand-met kind serves demand calm safe laws r.plan dem adm within served other t;
+    }
 
-  pub run-met : MeetsDeadlines demand run
-  run-met = course-met kind serves demand calm safe laws p (demands_of p d) adm (demand-within p d list low) served ticks
-
-  pub run-demands : kind ≢ Ahead → MeetsDemands demand run
-  run-demands other t lt e = demand-met kind serves demand calm safe laws p (demands_of p d) adm (demand-within p d list low) served other t
+pub met-as : {kind : GovernorKind} {demand : Plan → StateOf → Frac} {a b : Run} → a ≡ b → IsMetRun kind demand a → IsMetRun kind demand b
+met-as {kind} {demand} is met = subst (λ (r : Run). IsMetRun kind demand r) is met
 
 -- the notes of a run have few decisions, whatever demand is published
 pub run-few : (demand : Plan → StateOf → Frac) (r : Run) → IsAdmitted r.plan → AreFew (totals_of (notes_of_run demand r))

@@ -1,5 +1,5 @@
 -- The segments of a list of units that grows by a run of one holder, and their notes.
-use Rattle.std.proofs.Common.{◌≡◌, ℕ, zero, suc, ◌+◌, ◌<◌, ◌≤◌, Bool, true, false, List, [], ◌∷◌, ◌++◌, length, take, replicate, refl, arith, if◌then◌else◌, ap, ap₂, ◌∙◌, sym, ◌⊎◌, inl, inr, append-nil, append_assoc, nat_eq}
+use Rattle.std.proofs.Common.{◌≡◌, ℕ, zero, suc, ◌+◌, ◌≤◌, false, List, [], ◌∷◌, ◌++◌, length, take, replicate, refl, arith, if◌then◌else◌, ap, ap₂, ◌∙◌, sym, append-nil, append_assoc, nat_eq}
 use Rattle.std.specs.Prelude.{count_by}
 use Rattle.std.proofs.lemmas.List.{take-append-le}
 use Rattle.dvs_base.specs.declared.note.Note.TheVariants.{Run, Done}
@@ -7,30 +7,11 @@ use Rattle.sched_model.specs.declared.holder.Holder.{Holder}
 use Rattle.sched_model.specs.declared.holder.Holder.TheVariants.{Nobody, Held}
 use Rattle.sched_model.specs.Plan.{Plan, point}
 use Rattle.sched_model.specs.Ticks.{exec}
-use Rattle.sched_model.specs.Segments.{same_holder, Span, Piece, before_pieces, pieces_of, position_of, run_energy}
+use Rattle.sched_model.specs.Segments.{same_holder, Span, Piece, pieces_of, position_of, run_energy}
 use Rattle.sched_model.specs.Notes.{segment_notes, pieces_notes}
-use Rattle.sched_model.proofs.PieceLemmas.{piece, HaveUnits, same_holder-refl, with_unit, pieces_of-push}
-use Rattle.event_kernel.specs.Segment.{closed, last_of, grown}
-
--- a list is empty, or has a last element
-pub split_last : (rs : List Piece) → (rs ≡ []) ⊎ ((done : List Piece) × (r : Piece) × (rs ≡ done ++ r ∷ []))
-split_last [] = inl refl
-split_last (r ∷ rs) = go (split_last rs)
-  where
-    go : (rs ≡ []) ⊎ ((done : List Piece) × (q : Piece) × (rs ≡ done ++ q ∷ []))
-        → (r ∷ rs ≡ []) ⊎ ((done : List Piece) × (q : Piece) × (r ∷ rs ≡ done ++ q ∷ []))
-    go (inl e) = inr ([], r, ap (λ xs. r ∷ xs) e)
-    go (inr f) = inr (r ∷ f.0, f.1, ap (λ xs. r ∷ xs) f.2)
-
-pub closed-snoc : (done : List Piece) (r : Piece) → closed (done ++ r ∷ []) ≡ done
-closed-snoc [] r = refl
-closed-snoc (a ∷ []) r = refl
-closed-snoc (a ∷ b ∷ ds) r = ap (λ xs. a ∷ xs) (closed-snoc (b ∷ ds) r)
-
-pub last-snoc : (done : List Piece) (r : Piece) → last_of (done ++ r ∷ []) ≡ r
-last-snoc [] r = refl
-last-snoc (a ∷ []) r = refl
-last-snoc (a ∷ b ∷ ds) r = last-snoc (b ∷ ds) r
+use Rattle.sched_model.proofs.PieceLemmas.{piece, same_holder-refl, with_unit, pieces_of-push}
+use Rattle.done_lines.proofs.SpanNotes.{total}
+use Rattle.event_kernel.specs.Segment.{grown}
 
 unit-snoc : (done : List Piece) (r : Piece) (h : Holder) → with_unit (done ++ r ∷ []) h ≡ done ++ with_unit (r ∷ []) h
 unit-snoc [] r h = refl
@@ -60,34 +41,9 @@ pieces_of-other n us done r h e other =
     one : pieces_of (us ++ h ∷ []) ≡ (done ++ r ∷ []) ++ piece h 1 ∷ []
     one = pieces_of-push us h ∙ (ap (λ rs. with_unit rs h) e ∙ (unit-snoc done r h ∙ (rw other (sym (append_assoc done (r ∷ []) (piece h 1 ∷ []))))))
 
-pub have-last : (done : List Piece) (r : Piece) → HaveUnits (done ++ r ∷ []) → 0 < r.units
-have-last [] r a = a.0
-have-last (d ∷ ds) r a = have-last ds r a.1
-
--- the units of all segments
-abbrev pub total : List Piece → ℕ
-total [] = 0
-total (r ∷ rs) = r.units + total rs
-
-total-before : (h : Holder) (rs : List Piece) → total (before_pieces h rs) ≡ total rs + 1
-total-before h [] = omega arith
-total-before h (r ∷ rs) = go (same_holder h r.holder)
-  where
-    go : (b : Bool) → total (if b then piece h (r.units + 1) ∷ rs else piece h 1 ∷ r ∷ rs) ≡ r.units + total rs + 1
-    go true = omega arith
-    go false = omega arith
-
-pub total-pieces : (us : List Holder) → total (pieces_of us) ≡ length us
-total-pieces [] = refl
-total-pieces (h ∷ us) = omega (arith, total-before h (pieces_of us), total-pieces us)
-
 pub total-append : (rs qs : List Piece) → total (rs ++ qs) ≡ total rs + total qs
 total-append [] qs = omega arith
 total-append (r ∷ rs) qs = omega (arith, total-append rs qs)
-
-pub no_pieces : (us : List Holder) → pieces_of us ≡ [] → us ≡ []
-no_pieces [] e = refl
-no_pieces (h ∷ us) e = absurd (omega (arith, total-pieces (h ∷ us), ap total e))
 
 -- the notes of segments one after another
 pub pieces_notes-append : (p : Plan) (dem : ℕ → ℕ → ℕ) (s : Span) (q : ℕ) (rs qs : List Piece)
@@ -100,7 +56,7 @@ pieces_notes-append p dem s q (r ∷ rs) qs =
     ∙ sym (append_assoc (segment_notes p dem s q r.units r.holder) (pieces_notes p dem s (q + r.units) rs) (pieces_notes p dem s (q + (r.units + total rs)) qs))
 
 -- they do not change as the span grows
-pub segment_notes-grown : (p : Plan) (dem : ℕ → ℕ → ℕ) (s : Span) (more : List Holder) (q u : ℕ) (h : Holder) → q + u ≤ length s.units
+segment_notes-grown : (p : Plan) (dem : ℕ → ℕ → ℕ) (s : Span) (more : List Holder) (q u : ℕ) (h : Holder) → q + u ≤ length s.units
     → segment_notes p dem (grown s more) q u h ≡ segment_notes p dem s q u h
 segment_notes-grown p dem s more q u Nobody le = refl
 segment_notes-grown p dem s more q u (Held i k) le =

@@ -1,13 +1,11 @@
 -- How many ticks of a span come before its last one, and that it ends after that one.
-use Rattle.std.proofs.Common.{◌≡◌, ℕ, ◌+◌, ◌-◌, ◌*◌, ◌/◌, ◌^◌, ◌<◌, ◌≤◌, min, Bool, true, false, not, ◌&&◌, List, ◌∷◌, length, refl, arith, ap, ap₂, ◌∙◌, sym, subst, ◌⊎◌, inl, inr, nat_eq, nat_le, div-add-mod', mod-lt, mul-le-mul_left, zero-mul}
+use Rattle.std.proofs.Common.{◌≡◌, ℕ, ◌+◌, ◌-◌, ◌*◌, ◌/◌, ◌^◌, ◌<◌, ◌≤◌, min, Bool, true, false, not, ◌&&◌, List, ◌∷◌, length, refl, arith, ap, ap₂, ◌∙◌, sym, subst, ◌⊎◌, inl, inr, nat_eq, nat_le, div-add-mod', mod-lt, mul-le-mul_left}
 use Rattle.std.specs.Prelude.{Option, None, Some, IfSome, IfNone}
 use Rattle.std.proofs.lemmas.Bool.{cases_lt}
 use Rattle.std.proofs.lemmas.Bool.Decides.{nat_tests}
 use Rattle.grid_fraction.specs.declared.Frac.{Frac}
 use Rattle.grid_fraction.proofs.Searches.{any_below-found}
 use Rattle.grid_fraction.proofs.Least.{least-below, least-above, least-found}
-use Rattle.dvs_base.specs.declared.note.Note.{Note}
-use Rattle.dvs_base.specs.declared.limits.TheConstants.{MOST_TICKS}
 use Rattle.sched_model.specs.declared.state.Row.{Row}
 use Rattle.sched_model.specs.Plan.{Plan, count, point}
 use Rattle.sched_model.specs.Jobs.{latest}
@@ -19,28 +17,25 @@ use Rattle.sched_model.specs.Greedy.{IsFirstOpen}
 use Rattle.sched_model.proofs.Tables.{get-table}
 use Rattle.sched_model.proofs.GreedyLemmas.{handed_before}
 use Rattle.sched_model.proofs.JobLaws.{exec-legal}
-use Rattle.governor.specs.Schedule.{ask_of, course}
+use Rattle.governor.specs.Schedule.{course}
 use Rattle.governor.specs.Steps.{earliest_in, IsBeforeAll}
-use Rattle.event_kernel.specs.declared.trace.Trace.{Trace}
+use Rattle.event_kernel.specs.declared.span_trace.SpanTrace.{SpanTrace}
 use Rattle.agenda.specs.Agenda.{IsFirstUndone}
-use Rattle.event_kernel.specs.Segment.{CanTell, IsFirst}
-use Rattle.event_kernel.specs.Tickwork.{tick_at, HasWorked}
+use Rattle.event_kernel.specs.Segment.{CanPut, IsFirst}
+use Rattle.event_kernel.specs.Tickwork.{tick_at, gives}
 use Rattle.event_kernel.specs.Boundary.{some_due}
-use Rattle.event_kernel.specs.Walking.{run_on, gives, AreQuiet, IsInSpan, IsLastTick, HasWalked}
-use Rattle.event_kernel.proofs.Bounds.{Bounds}
+use Rattle.event_kernel.specs.declared.progress.Setting.{Setting}
+use Rattle.event_kernel.specs.declared.progress.InForce.{InForce}
+use Rattle.event_kernel.specs.Runs.{demands_of}
+use Rattle.event_kernel.specs.Settings.{IsSetting, AreQuiet, IsInSpan, IsLastTick, IsLastAfter, HasWorked, HasWalked}
+use Rattle.event_kernel.proofs.Bounds.{Bounds, bounds}
 use Rattle.event_kernel.proofs.Handing.{Handing, key, start, first-open}
 use Rattle.event_kernel.proofs.Ofplan.{of-state}
-use Rattle.event_kernel.proofs.Releasing.{course-len, low-exec}
 use Rattle.event_kernel.proofs.Deciding.{at-decision}
-use Rattle.event_kernel.proofs.Atwork.{AtWork, entry-there, begin, can, ready}
-use Rattle.event_kernel.proofs.Working.{course-next}
+use Rattle.event_kernel.proofs.Courses.{course-next, course-len, low-exec}
+use Rattle.event_kernel.proofs.Working.{Working, entry-there, begin, can, ready}
 use Rattle.event_kernel.proofs.Spanning.{ends-span}
-use Rattle.event_kernel.proofs.Staying.{mul-le, row-served, due-served, first-served}
-
--- one of two is one of three
-two-of-three : {A B C : Type 0} → A ⊎ B → A ⊎ (B ⊎ C)
-two-of-three (inl a) = inl a
-two-of-three (inr b) = inr (inl b)
+use Rattle.event_kernel.proofs.Staying.{run_on, mul-le, row-served, due-served, first-served}
 
 -- whole ticks of what is needed, less one unit
 whole-most : (n f : ℕ) → (n / f) * f ≤ n
@@ -49,252 +44,229 @@ whole-most n f = omega (arith, div-add-mod' n f)
 whole-next : (n f : ℕ) → 0 < f → n < (n / f) * f + f
 whole-next n f pos = omega (arith, div-add-mod' n f, mod-lt n pos)
 
--- a listener of no matter
-silent : ℕ → Note → ℕ → Type 0
-silent a n b = Unit {0}
-
 -- the first row that is not done, from the two clauses of the search for it
 pub is-first : (p : Plan) (s : StateOf) (r : Option ℕ) → IfNone r ((k : ℕ) → k < count p → (row_at s k).done ≡ true)
     → IfSome r (λ i. IsFirstUndone p s (count p) i) → IsFirst p s r
 is-first p s None none first = none
 is-first p s (Some i) none first = first
 
--- it has a row
-pub first-in : (p : Plan) (s : StateOf) (r : Option ℕ) → length s.rows ≡ count p → IsFirst p s r → IfSome r (λ i. i < length s.rows)
-first-in p s None long is = tt
-first-in p s (Some i) long is = omega (arith, is.below, long)
+module _ {set : Setting} (ok : IsSetting set) where
+  abbrev p : Plan
+  p = set.plan.now
 
-module _ {demand : Plan → StateOf → Frac} {p : Plan} {dem : ℕ → ℕ → ℕ} {ticks : ℕ} (adm : Bounds p)
-    (low_ticks : ticks ≤ MOST_TICKS) {t0 e : ℕ} {st : StateOf} {trace : Trace} (here : IsInSpan demand p dem ticks t0 st.now e st trace) where
-  abbrev f : ℕ
-  f = (point p e).speed
+  abbrev dem : ℕ → ℕ → ℕ
+  dem = demands_of p set.demands.now
 
-  pub some-speed : 0 < f
-  some-speed = adm.some_speed e (entry-there adm here.work)
+  adm : Bounds p
+  adm = bounds p ok.admitted
 
-  w0 : AtWork silent silent demand p dem st.now 0 0 f false st trace
-  w0 = begin adm here.work f refl
+  module _ {demand : Plan → StateOf → Frac} {force : InForce} {st : StateOf} {trace : SpanTrace} (here : IsInSpan set demand force st.now st trace) where
+    abbrev f : ℕ
+    f = (point p force.index).speed
 
-  pub of-plan : IsOfPlan p st
-  of-plan =
-      subst (λ (s : StateOf). IsOfPlan p s) (sym here.work.state)
-      (of-state p dem (course demand p dem st.now) (low-exec demand p dem st.now here.work.within))
+    pub some-speed : 0 < f
+    some-speed = adm.some_speed force.index (entry-there ok here)
 
-  now-is : st.now ≡ length (course demand p dem st.now)
-  now-is = ap (λ (s : StateOf). s.now) here.work.state
+    w0 : Working demand p dem st.now f false st trace
+    w0 = begin ok here f refl
 
-  before : IsBeforeAll p st
-  before = subst (λ (s : StateOf). IsBeforeAll p s) (sym here.work.state) (at-decision p adm dem (course demand p dem st.now)).before
+    pub of-plan : IsOfPlan p st
+    of-plan =
+        subst (λ (s : StateOf). IsOfPlan p s) (sym here.state)
+        (of-state p dem (course demand p dem st.now) (low-exec demand p dem st.now ok.within))
 
-  pub first-event : st.now < min ticks (earliest_in p st)
-  first-event =
-      let late : st.now + 1 ≤ earliest_in p st = least-above (count p) (λ i. (row_at st i).deadline) (st.now + 1) adm.some_task
-      (λ i l. (let b = before i l in omega (arith, b))) in
-      omega (arith, late, here.before_end)
+    now-is : st.now ≡ length (course demand p dem st.now)
+    now-is = ap (λ (s : StateOf). s.now) here.state
 
-  pub can-tell : CanTell p st t0 e trace
-  can-tell = can adm here.work w0
+    before : IsBeforeAll p st
+    before = subst (λ (s : StateOf). IsBeforeAll p s) (sym here.state) (at-decision p adm dem (course demand p dem st.now)).before
 
-  pub fit : {first : Option ℕ} {n : ℕ} → AreQuiet p dem ticks e st first n → (n * f < 2 ^ 63) × (trace.segment.units + n * f < 2 ^ 64)
-  fit {first} {n} quiet =
-      let some : n * f ≤ n * 1000000 = mul-le-mul_left n (adm.low_speed e) in
-      let lt = quiet.before_end in
-      (omega (arith, some, lt, low_ticks), omega (arith, some, lt, low_ticks, here.work.writing.place, here.work.writing.few))
+    pub first-event : st.now < min set.ticks (earliest_in p st)
+    first-event =
+        let late : st.now + 1 ≤ earliest_in p st = least-above (count p) (λ i. (row_at st i).deadline) (st.now + 1) adm.some_task
+        (λ i l. (let b = before i l in omega (arith, b))) in
+        omega (arith, late, here.before_end)
 
-  -- all ticks up to the next release or the end, but one
-  abbrev most : ℕ
-  most = min ticks (earliest_in p st) - 1 - st.now
+    pub can-put : CanPut p st force.from force.index trace
+    can-put = can ok here w0
 
-  within-end : (n : ℕ) → n ≤ most → st.now + n < ticks
-  within-end n le = omega (arith, le, first-event)
+    pub fit : {first : Option ℕ} {n : ℕ} → AreQuiet set force st first n → (n * f < 2 ^ 63) × (trace.segment.units + n * f < 2 ^ 64)
+    fit {first} {n} quiet =
+        let some : n * f ≤ n * 1000000 = mul-le-mul_left n (adm.low_speed force.index) in
+        let lt = quiet.before_end in
+        (omega (arith, some, lt, ok.low_ticks), omega (arith, some, lt, ok.low_ticks, here.writing.place, here.writing.few))
 
-  within-releases : (n : ℕ) → n ≤ most → (k : ℕ) → k < count p → st.now + n < (row_at st k).deadline
-  within-releases n le k l = omega (arith, le, first-event, least-below (count p) (λ i. (row_at st i).deadline) k l)
+    -- all ticks up to the next release or the end, but one
+    abbrev most : ℕ
+    most = min set.ticks (earliest_in p st) - 1 - st.now
 
-  -- after all of them there is one left
-  at-event : (n : ℕ) → n ≡ most → (st.now + n + 1 ≡ ticks) ⊎ ((i : ℕ) × (i < count p) × ((row_at st i).deadline ≡ st.now + n + 1))
-  at-event n is = go (cases_lt (earliest_in p st) ticks)
-    where
-      found : (i : ℕ) × (i < count p) × ((row_at st i).deadline ≡ earliest_in p st)
-      found = least-found (count p) (λ i. (row_at st i).deadline) adm.some_task
+    within-end : (n : ℕ) → n ≤ most → st.now + n < set.ticks
+    within-end n le = omega (arith, le, first-event)
 
-      go : (earliest_in p st < ticks) ⊎ (ticks ≤ earliest_in p st)
-          → (st.now + n + 1 ≡ ticks) ⊎ ((i : ℕ) × (i < count p) × ((row_at st i).deadline ≡ st.now + n + 1))
-      go (inl lt) = inr (found.0, found.1, (let q = found.2 in omega (arith, q, lt, is, first-event)))
-      go (inr le) = inl (omega (arith, le, is, first-event))
+    within-releases : (n : ℕ) → n ≤ most → (k : ℕ) → k < count p → st.now + n < (row_at st k).deadline
+    within-releases n le k l = omega (arith, le, first-event, least-below (count p) (λ i. (row_at st i).deadline) k l)
 
-  pub quiet-idle : (n : ℕ) → n ≡ most → AreQuiet p dem ticks e st None n
-  quiet-idle n is = record {
-    before_end = within-end n (omega (arith, is));
-    no_release = within-releases n (omega (arith, is));
-    not_done = λ i q. absurd (cc q);
-    last = two-of-three (at-event n is);
-  }
-
-  module _ (i : ℕ) (first : IsFirstUndone p st (count p) i) where
-    step : CanRun st i (min f (dem i (row_at st i).job - (row_at st i).used)) × ((row_at st i).used ≤ dem i (row_at st i).job)
-        × (0 < f → 0 < min f (dem i (row_at st i).job - (row_at st i).used))
-    step = ready adm here.work w0 i (min f (dem i (row_at st i).job - (row_at st i).used)) first refl
-
-    pub needs : (row_at st i).used < dem i (row_at st i).job
-    needs = omega (arith, step.1, step.2 some-speed)
-
-    pub can-run : (n : ℕ) → (row_at st i).used + n * f < dem i (row_at st i).job → CanRun st i (n * f)
-    can-run n short = record {
-      task = step.0.task;
-      open_job = first.open_job;
-      room = omega (arith, short, here.work.within.most i (row_at st i).job first.below, of-plan.worst i first.below);
-    }
-
-    pub quiet-held : (n lacks : ℕ) → lacks ≡ dem i (row_at st i).job - (row_at st i).used → n ≡ min most ((lacks - 1) / f)
-        → AreQuiet p dem ticks e st (Some i) n
-    quiet-held n lacks oe ne = record {
-      before_end = within-end n (omega (arith, ne));
-      no_release = within-releases n (omega (arith, ne));
-      not_done = λ k q. (let same : i ≡ k = cc q in subst (λ j. (row_at st j).used + n * f < dem j (row_at st j).job) same short);
-      last = go (cases_lt ((lacks - 1) / f) most);
-    }
+    -- after all of them there is one left
+    at-event : (first : Option ℕ) (n : ℕ) → n ≡ most → IsLastAfter set force st first n
+    at-event first n is = go (cases_lt (earliest_in p st) set.ticks)
       where
-        short : (row_at st i).used + n * f < dem i (row_at st i).job
-        short =
-            let le : n ≤ (lacks - 1) / f = omega (arith, ne) in
-            let some : n * f ≤ ((lacks - 1) / f) * f = mul-le n ((lacks - 1) / f) f le in
-            omega (arith, some, whole-most (lacks - 1) f, oe, needs)
+        found : (i : ℕ) × (i < count p) × ((row_at st i).deadline ≡ earliest_in p st)
+        found = least-found (count p) (λ i. (row_at st i).deadline) adm.some_task
 
-        last-done : n ≡ (lacks - 1) / f → dem i (row_at st i).job ≤ (row_at st i).used + n * f + f
-        last-done is = omega (arith, whole-next (lacks - 1) f some-speed, oe, needs, ap (λ m. m * f) is)
+        go : (earliest_in p st < set.ticks) ⊎ (set.ticks ≤ earliest_in p st) → IsLastAfter set force st first n
+        go (inl lt) = inr (inl (found.0, found.1, (let q = found.2 in omega (arith, q, lt, is, first-event))))
+        go (inr le) = inl (omega (arith, le, is, first-event))
 
-        go : ((lacks - 1) / f < most) ⊎ (most ≤ (lacks - 1) / f)
-            → (st.now + n + 1 ≡ ticks) ⊎ (((k : ℕ) × (k < count p) × ((row_at st k).deadline ≡ st.now + n + 1))
-            ⊎ ((k : ℕ) × (Some i ≡ Some k) × (dem k (row_at st k).job ≤ (row_at st k).used + n * f + f)))
-        go (inl lt) = inr (inr (i, refl, last-done (omega (arith, ne, lt))))
-        go (inr le) = two-of-three (at-event n (omega (arith, ne, le)))
+    pub quiet-idle : (n : ℕ) → n ≡ most → AreQuiet set force st None n
+    quiet-idle n is = record {
+      before_end = within-end n (omega (arith, is));
+      no_release = within-releases n (omega (arith, is));
+      not_done = λ i q. absurd (cc q);
+      last = at-event None n is;
+    }
 
-  -- the units of the quiet ticks can be run
-  pub can-run-first : (first : Option ℕ) {n : ℕ} → IsFirst p st first → AreQuiet p dem ticks e st first n → IfSome first (λ i. CanRun st i (n * f))
-  can-run-first None is quiet = tt
-  can-run-first (Some i) {n} is quiet = can-run i is n (quiet.not_done i refl)
+    module _ (i : ℕ) (first : IsFirstUndone p st (count p) i) where
+      step : CanRun st i (min f (dem i (row_at st i).job - (row_at st i).used)) × ((row_at st i).used ≤ dem i (row_at st i).job)
+          × (0 < f → 0 < min f (dem i (row_at st i).job - (row_at st i).used))
+      step = ready ok here w0 i (min f (dem i (row_at st i).job - (row_at st i).used)) first refl
 
-  -- where no tick is quiet, the next one is the last
-  pub last-now : (first : Option ℕ) {n : ℕ} → IsFirst p st first → n ≡ 0 → AreQuiet p dem ticks e st first n → IsLastTick p dem ticks e st
-  last-now first {n} is none quiet = go quiet.last
-    where
-      first-is : (i : ℕ) → first ≡ Some i → IsFirstUndone p st (count p) i
-      first-is i q = subst (IsFirst p st) q is
+      pub needs : (row_at st i).used < dem i (row_at st i).job
+      needs = omega (arith, step.1, step.2 some-speed)
 
-      go : (st.now + n + 1 ≡ ticks) ⊎ (((i : ℕ) × (i < count p) × ((row_at st i).deadline ≡ st.now + n + 1))
-          ⊎ ((i : ℕ) × (first ≡ Some i) × (dem i (row_at st i).job ≤ (row_at st i).used + n * f + f)))
-          → IsLastTick p dem ticks e st
-      go (inl q) = inl (omega (arith, q, none))
-      go (inr (inl q)) = inr (inl (q.0, q.1, (let d = q.2 in omega (arith, d, none))))
-      go (inr (inr q)) = inr (inr (q.0, first-is q.0 q.1, (let d = q.2 in omega (arith, d, ap (λ m. m * f) none, zero-mul f))))
+      pub can-run : (n : ℕ) → (row_at st i).used + n * f < dem i (row_at st i).job → CanRun st i (n * f)
+      can-run n short = record {
+        task = step.0.task;
+        open_job = first.open_job;
+        room = omega (arith, short, ok.within.most i (row_at st i).job first.below, of-plan.worst i first.below);
+      }
 
-  -- after them it is
-  pub last-then : (first : Option ℕ) {n : ℕ} → IsFirst p st first → AreQuiet p dem ticks e st first n
-      → IsLastTick p dem ticks e (after_advance (gives st first (n * f)) (st.now + n))
-  last-then None {n} is quiet = go quiet.last
-    where
-      go : (st.now + n + 1 ≡ ticks) ⊎ (((i : ℕ) × (i < count p) × ((row_at st i).deadline ≡ st.now + n + 1))
-          ⊎ ((i : ℕ) × (None ≡ Some i) × (dem i (row_at st i).job ≤ (row_at st i).used + n * f + f)))
-          → IsLastTick p dem ticks e (after_advance st (st.now + n))
-      go (inl q) = inl q
-      go (inr (inl q)) = inr (inl q)
-      go (inr (inr q)) = absurd (let r = q.1 in cc r)
-  last-then (Some i) {n} is quiet = go quiet.last
-    where
-      in_rows : i < length st.rows
-      in_rows = omega (arith, is.below, of-plan.rows)
+      pub quiet-held : (n lacks : ℕ) → lacks ≡ dem i (row_at st i).job - (row_at st i).used → n ≡ min most ((lacks - 1) / f)
+          → AreQuiet set force st (Some i) n
+      quiet-held n lacks oe ne = record {
+        before_end = within-end n (omega (arith, ne));
+        no_release = within-releases n (omega (arith, ne));
+        not_done = λ k q. (let same : i ≡ k = cc q in subst (λ j. (row_at st j).used + n * f < dem j (row_at st j).job) same short);
+        last = go (cases_lt ((lacks - 1) / f) most);
+      }
+        where
+          short : (row_at st i).used + n * f < dem i (row_at st i).job
+          short =
+              let le : n ≤ (lacks - 1) / f = omega (arith, ne) in
+              let some : n * f ≤ ((lacks - 1) / f) * f = mul-le n ((lacks - 1) / f) f le in
+              omega (arith, some, whole-most (lacks - 1) f, oe, needs)
 
-      go : (st.now + n + 1 ≡ ticks) ⊎ (((k : ℕ) × (k < count p) × ((row_at st k).deadline ≡ st.now + n + 1))
-          ⊎ ((k : ℕ) × (Some i ≡ Some k) × (dem k (row_at st k).job ≤ (row_at st k).used + n * f + f)))
-          → IsLastTick p dem ticks e (run_on st i (n * f) (st.now + n))
-      go (inl q) = inl q
-      go (inr (inl q)) = inr (inl (q.0, q.1, (let d = q.2 in omega (arith, d, due-served st i in_rows (n * f) q.0))))
-      go (inr (inr q)) = inr (inr (
-        i,
-        first-served st i in_rows (n * f) p (st.now + n) is,
-        (let same : q.0 ≡ i = (let r = q.1 in cc r) in
-            let enough : dem i (row_at st i).job ≤ (row_at st i).used + n * f + f =
-            subst (λ k. dem k (row_at st k).job ≤ (row_at st k).used + n * f + f) same q.2 in
-            subst (λ (r : Row). dem i r.job ≤ r.used + f) (sym (row-served st i in_rows (n * f))) enough),
-      ))
+          last-done : n ≡ (lacks - 1) / f → dem i (row_at st i).job ≤ (row_at st i).used + n * f + f
+          last-done is = omega (arith, whole-next (lacks - 1) f some-speed, oe, needs, ap (λ m. m * f) is)
 
--- the span ends after that tick
-module _ {demand : Plan → StateOf → Frac} {p : Plan} {dem : ℕ → ℕ → ℕ} {ticks : ℕ}
-    (adm : Bounds p) (low_ticks : ticks ≤ MOST_TICKS) {t0 e : ℕ} {s0 s : StateOf} {trace0 trace : Trace} {completed : Bool}
-    (here : IsInSpan demand p dem ticks t0 s0.now e s0 trace0) (h : HasWorked demand p dem s0.now s trace completed) where
-  abbrev past : List Tick
-  past = course demand p dem s0.now
+          go : ((lacks - 1) / f < most) ⊎ (most ≤ (lacks - 1) / f) → IsLastAfter set force st (Some i) n
+          go (inl lt) = inr (inr (i, refl, last-done (omega (arith, ne, lt))))
+          go (inr le) = at-event (Some i) n (omega (arith, ne, le))
 
-  abbrev x : Tick
-  x = tick_at demand p dem s0.now
+    -- the units of the quiet ticks can be run
+    pub can-run-first : (first : Option ℕ) {n : ℕ} → IsFirst p st first → AreQuiet set force st first n → IfSome first (λ i. CanRun st i (n * f))
+    can-run-first None is quiet = tt
+    can-run-first (Some i) {n} is quiet = can-run i is n (quiet.not_done i refl)
 
-  row-then : (i : ℕ) → i < count p → row_at s0 i ≡ row_of p dem past i
-  row-then i lt = ap (λ (v : StateOf). row_at v i) here.work.state ∙ get-table (count p) (row_of p dem past) i no_row lt
+    -- after the quiet ticks the next one is the last
+    pub last-then : (first : Option ℕ) {n : ℕ} → IsFirst p st first → AreQuiet set force st first n
+        → IsLastTick set force (after_advance (gives st first (n * f)) (st.now + n))
+    last-then None {n} is quiet = go quiet.last
+      where
+        go : IsLastAfter set force st None n → IsLastTick set force (after_advance st (st.now + n))
+        go (inl q) = inl q
+        go (inr (inl q)) = inr (inl q)
+        go (inr (inr q)) = absurd (let r = q.1 in cc r)
+    last-then (Some i) {n} is quiet = go quiet.last
+      where
+        in_rows : i < length st.rows
+        in_rows = omega (arith, is.below, of-plan.rows)
 
-  row-now : (i : ℕ) → i < count p → row_at s i ≡ prior_row p dem (x ∷ past) i
-  row-now i lt =
-      ap (λ (v : StateOf). row_at v i) (h.state ∙ ap (prior_state p dem) (course-next p dem (ask_of demand p dem) s0.now)) ∙ get-table (count p)
-      (prior_row p dem (x ∷ past)) i no_row lt
+        go : IsLastAfter set force st (Some i) n → IsLastTick set force (run_on st i (n * f) (st.now + n))
+        go (inl q) = inl q
+        go (inr (inl q)) = inr (inl (q.0, q.1, (let d = q.2 in omega (arith, d, due-served st i in_rows (n * f) q.0))))
+        go (inr (inr q)) = inr (inr (
+          i,
+          first-served st i in_rows (n * f) p (st.now + n) is,
+          (let same : q.0 ≡ i = (let r = q.1 in cc r) in
+              let enough : dem i (row_at st i).job ≤ (row_at st i).used + n * f + f =
+              subst (λ k. dem k (row_at st k).job ≤ (row_at st k).used + n * f + f) same q.2 in
+              subst (λ (r : Row). dem i r.job ≤ r.used + f) (sym (row-served st i in_rows (n * f))) enough),
+        ))
 
-  is-due : (i : ℕ) → i < count p → (row_at s0 i).deadline ≡ s0.now + 1 → some_due p s ≡ true
-  is-due i lt d =
-      let same : (row_at s i).deadline ≡ (row_at s0 i).deadline = ap (λ (r : Row). r.deadline) (row-now i lt)
-      ∙ sym (ap (λ (r : Row). r.deadline) (row-then i lt)) in
-      let now : s.now ≡ s0.now + 1 = ap (λ (v : StateOf). v.now) h.state ∙ course-len demand p dem (s0.now + 1) in
-      any_below-found (count p) (λ k. nat_eq (row_at s k).deadline s.now) i lt (grind (arith, nat_tests, same, now, d))
+  -- the span ends after that tick
+  module _ {demand : Plan → StateOf → Frac} {force : InForce} {s0 s : StateOf} {trace0 trace : SpanTrace} {completed : Bool}
+      (here : IsInSpan set demand force s0.now s0 trace0) (h : HasWorked set demand s0.now s trace completed) where
+    abbrev past : List Tick
+    past = course demand p dem s0.now
 
-  is-complete : (i : ℕ) → IsFirstUndone p s0 (count p) i → dem i (row_at s0 i).job ≤ (row_at s0 i).used + (point p e).speed → completed ≡ true
-  is-complete i first le =
-      h.completes ∙ any_below-found (count p) (completes_in p dem x past) i first.below (ap₂ (λ a b. not a && b) open-before whole-after)
-    where
-      k : ℕ
-      k = latest p i (length past)
+    abbrev x : Tick
+    x = tick_at demand p dem s0.now
 
-      had : ℕ
-      had = exec p past i k
+    row-then : (i : ℕ) → i < count p → row_at s0 i ≡ row_of p dem past i
+    row-then i lt = ap (λ (v : StateOf). row_at v i) here.state ∙ get-table (count p) (row_of p dem past) i no_row lt
 
-      row : row_at s0 i ≡ row_of p dem past i
-      row = row-then i first.below
+    row-now : (i : ℕ) → i < count p → row_at s i ≡ prior_row p dem (x ∷ past) i
+    row-now i lt =
+        ap (λ (v : StateOf). row_at v i) (h.state ∙ ap (prior_state p dem) (course-next demand p dem s0.now)) ∙ get-table (count p)
+        (prior_row p dem (x ∷ past)) i no_row lt
 
-      open-before : nat_le (dem i k) had ≡ false
-      open-before = sym (ap (λ (r : Row). r.done) row) ∙ first.open_job
+    is-due : (i : ℕ) → i < count p → (row_at s0 i).deadline ≡ s0.now + 1 → some_due p s ≡ true
+    is-due i lt d =
+        let same : (row_at s i).deadline ≡ (row_at s0 i).deadline = ap (λ (r : Row). r.deadline) (row-now i lt)
+        ∙ sym (ap (λ (r : Row). r.deadline) (row-then i lt)) in
+        let now : s.now ≡ s0.now + 1 = ap (λ (v : StateOf). v.now) h.state ∙ course-len demand p dem (s0.now + 1) in
+        any_below-found (count p) (λ k. nat_eq (row_at s k).deadline s.now) i lt (grind (arith, nat_tests, same, now, d))
 
-      enough : dem i k ≤ had + (point p e).speed
-      enough = omega (arith, le, ap (λ (r : Row). dem i r.job) row, ap (λ (r : Row). r.used) row)
+    is-complete : (i : ℕ) → IsFirstUndone p s0 (count p) i → dem i (row_at s0 i).job ≤ (row_at s0 i).used + (point p force.index).speed → completed ≡ true
+    is-complete i first le =
+        h.completes ∙ any_below-found (count p) (completes_in p dem x past) i first.below (ap₂ (λ a b. not a && b) open-before whole-after)
+      where
+        k : ℕ
+        k = latest p i (length past)
 
-      speed : (point p e).speed ≡ (point p x.entry).speed
-      speed = ap (λ m. (point p m).speed) here.work.in_force
+        had : ℕ
+        had = exec p past i k
 
-      o : IsFirstOpen (count p) (key p dem past) (left p dem past) (λ _. 0) i
-      o =
-          first-open p dem past (point p e).speed (point p e).speed (λ _. 0) false s0 i
-          (subst (λ (v : StateOf). Handing p dem past (point p e).speed (λ _. 0) (point p e).speed false v) (sym here.work.state)
-          (start p dem past (point p e).speed)) first
+        row : row_at s0 i ≡ row_of p dem past i
+        row = row-then i first.below
 
-      none : 0 ≡ sum_before (count p) (key p dem past) (left p dem past) i
-      none = (let b = (handed_before (count p) (key p dem past) (point p e).speed (left p dem past) (λ _. 0) (point p e).speed
-          (start p dem past (point p e).speed).handed (some-speed adm low_ticks here) i o).1 in omega (arith, b))
+        open-before : nat_le (dem i k) had ≡ false
+        open-before = sym (ap (λ (r : Row). r.done) row) ∙ first.open_job
 
-      gets : share x i ≡ allotment (count p) (key p dem past) (point p x.entry).speed (left p dem past) i
-      gets = get-table (count p) (allotment (count p) (key p dem past) (point p x.entry).speed (left p dem past)) i 0 first.below
+        enough : dem i k ≤ had + (point p force.index).speed
+        enough = omega (arith, le, ap (λ (r : Row). dem i r.job) row, ap (λ (r : Row). r.used) row)
 
-      own : share x i ≤ left p dem past i
-      own = omega (arith, gets)
+        speed : (point p force.index).speed ≡ (point p x.entry).speed
+        speed = ap (λ m. (point p m).speed) here.in_force
 
-      all : had + share x i ≡ exec p (x ∷ past) i k
-      all = sym (exec-legal p dem x past i (adm.some_period i) (here.work.within.none i) own)
+        o : IsFirstOpen (count p) (key p dem past) (left p dem past) (λ _. 0) i
+        o =
+            first-open p dem past (subst (λ (v : StateOf). Handing p dem past (point p force.index).speed (λ _. 0) (point p force.index).speed false v) (sym here.state)
+            (start p dem past (point p force.index).speed)) i first
 
-      whole : dem i k ≤ exec p (x ∷ past) i k
-      whole = omega (arith, all, gets, none, speed, enough)
+        none : 0 ≡ sum_before (count p) (key p dem past) (left p dem past) i
+        none = (let b = (handed_before (count p) (key p dem past) (point p force.index).speed (left p dem past) (λ _. 0) (point p force.index).speed
+            (start p dem past (point p force.index).speed).handed (some-speed here) i o).1 in omega (arith, b))
 
-      whole-after : nat_le (dem i k) (exec p (x ∷ past) i k) ≡ true
-      whole-after = grind (arith, nat_tests, whole)
+        gets : share x i ≡ allotment (count p) (key p dem past) (point p x.entry).speed (left p dem past) i
+        gets = get-table (count p) (allotment (count p) (key p dem past) (point p x.entry).speed (left p dem past)) i 0 first.below
 
-  pub last-ends : IsLastTick p dem ticks e s0 → HasWalked demand p dem ticks t0 s0.now e s trace
-  last-ends last = ends-span demand p dem adm ticks t0 s0.now e s0 s trace0 trace completed here h (go last)
-    where
-      go : IsLastTick p dem ticks e s0 → (completed ≡ true) ⊎ ((s0.now + 1 ≡ ticks) ⊎ (some_due p s ≡ true))
-      go (inl q) = inr (inl (q))
-      go (inr (inl q)) = inr (inr (is-due q.0 q.1 (let d = q.2 in d)))
-      go (inr (inr q)) = inl (is-complete q.0 q.1 q.2)
+        own : share x i ≤ left p dem past i
+        own = omega (arith, gets)
+
+        all : had + share x i ≡ exec p (x ∷ past) i k
+        all = sym (exec-legal p dem x past i (adm.some_period i) (ok.within.none i) own)
+
+        whole : dem i k ≤ exec p (x ∷ past) i k
+        whole = omega (arith, all, gets, none, speed, enough)
+
+        whole-after : nat_le (dem i k) (exec p (x ∷ past) i k) ≡ true
+        whole-after = grind (arith, nat_tests, whole)
+
+    pub last-ends : IsLastTick set force s0 → HasWalked set demand force s0.now s trace
+    last-ends last = ends-span ok here h (go last)
+      where
+        go : IsLastTick set force s0 → (completed ≡ true) ⊎ ((s0.now + 1 ≡ set.ticks) ⊎ (some_due p s ≡ true))
+        go (inl q) = inr (inl (q))
+        go (inr (inl q)) = inr (inr (is-due q.0 q.1 (let d = q.2 in d)))
+        go (inr (inr q)) = inl (is-complete q.0 q.1 q.2)

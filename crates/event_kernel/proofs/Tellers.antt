@@ -1,12 +1,12 @@
--- What a teller of a trace heard, and what it balked at.
-use Rattle.std.proofs.Common.{◌≡◌, List, [], ◌∷◌, map, refl, ◌∙◌}
+-- What a teller of a trace was told was written, in part where it stopped.
+use Rattle.std.proofs.Common.{◌≡◌, ℕ, inl, inr, List, [], ◌∷◌, map, refl, ◌∙◌, subst}
 use Rattle.dvs_base.specs.Outside.{SinkView}
 use Rattle.dvs_base.specs.declared.note.Note.{Note}
 use Rattle.probes.specs.Tallies.{ProbeOf}
 use Rattle.event_kernel.specs.Heard.{HasHeard, HasBalked}
-use Rattle.event_kernel.specs.Lines.{WroteLines, StoppedIn, noted}
+use Rattle.event_kernel.specs.Lines.{LineOf, WroteLines, StoppedIn, noted}
 use Rattle.event_kernel.specs.declared.teller.Teller.{Teller}
-use Rattle.event_kernel.proofs.Writing.{heard-wrote, balked-wrote}
+use Rattle.event_kernel.proofs.Writing.{no-lines, lines-then, lines-then-some, lines-some-more}
 
 module _ {W P : Type 0} (shows : W → SinkView) (seen : P → ProbeOf) where
   -- the sink, the list of probes and the names stay
@@ -16,6 +16,12 @@ module _ {W P : Type 0} (shows : W → SinkView) (seen : P → ProbeOf) where
   abbrev pub sees : Teller W P → List ProbeOf
   sees a = map seen a.probes.now.items
 
+  abbrev pub HasWritten : Teller W P → List LineOf → Teller W P → Type 0
+  HasWritten a lines b = WroteLines (shows a.out.now) (shows b.out.now) (sees a) (sees b) lines
+
+  abbrev pub HasStopped : Teller W P → List LineOf → Teller W P → Type 0
+  HasStopped a lines b = StoppedIn (shows a.out.now) (shows b.out.now) (sees a) (sees b) lines
+
   abbrev pub Heard : Teller W P → Note → Teller W P → Type 0
   Heard a n b = WroteLines (shows a.out.now) (shows b.out.now) (sees a) (sees b) (noted a.names.now n ∷ [])
       × (b.out.ghost_name ≡ a.out.ghost_name) × (b.probes.ghost_name ≡ a.probes.ghost_name) × (b.names.now ≡ a.names.now)
@@ -24,20 +30,27 @@ module _ {W P : Type 0} (shows : W → SinkView) (seen : P → ProbeOf) where
   Balked a n b = StoppedIn (shows a.out.now) (shows b.out.now) (sees a) (sees b) (noted a.names.now n ∷ [])
       × (b.out.ghost_name ≡ a.out.ghost_name) × (b.probes.ghost_name ≡ a.probes.ghost_name) × (b.names.now ≡ a.names.now)
 
-  same-self : (a : Teller W P) → Same a a
-  same-self a = (refl, refl, refl)
+  pub heard-written : (a : Teller W P) (notes : List Note) (b : Teller W P) → HasHeard Heard a notes b
+      → HasWritten a (map (noted a.names.now) notes) b × Same a b
+  heard-written a [] b e =
+      subst (λ (c : Teller W P). HasWritten a [] c × Same a c) e (no-lines (shows a.out.now) (sees a), (refl, refl, refl))
+  heard-written a (note ∷ notes) b h =
+      let first = h.1 in
+      let rest = heard-written h.0 notes b h.2 in (
+        lines-then _ _ _ (sees a) (sees h.0) (sees b) (noted a.names.now note ∷ []) (map (noted a.names.now) notes) first.0
+            (subst (λ (ns : List (List ℕ)). HasWritten h.0 (map (noted ns) notes) b) first.3 rest.0),
+        (rest.1.0 ∙ first.1, rest.1.1 ∙ first.2, rest.1.2 ∙ first.3),
+      )
 
-  same-trans : (a b c : Teller W P) → Same a b → Same b c → Same a c
-  same-trans a b c s t = (t.0 ∙ s.0, t.1 ∙ s.1, t.2 ∙ s.2)
-
-  pub told : (from : Teller W P) (notes : List Note) (to : Teller W P) → HasHeard Heard from notes to
-      → WroteLines (shows from.out.now) (shows to.out.now) (sees from) (sees to) (map (noted from.names.now) notes) × Same from to
-  told from notes to h =
-      heard-wrote Heard Balked (λ (a : Teller W P). shows a.out.now) sees (λ (a : Teller W P). a.names.now)
-      Same same-self same-trans (λ a b s. s.2) (λ a n b x. (x.0, (x.1, x.2, x.3))) (λ a n b x. (x.0, (x.1, x.2, x.3))) from notes to h
-
-  pub balked : (from : Teller W P) (notes : List Note) (to : Teller W P) → HasBalked Heard Balked from notes to
-      → StoppedIn (shows from.out.now) (shows to.out.now) (sees from) (sees to) (map (noted from.names.now) notes) × Same from to
-  balked from notes to h =
-      balked-wrote Heard Balked (λ (a : Teller W P). shows a.out.now) sees (λ (a : Teller W P). a.names.now)
-      Same same-self same-trans (λ a b s. s.2) (λ a n b x. (x.0, (x.1, x.2, x.3))) (λ a n b x. (x.0, (x.1, x.2, x.3))) from notes to h
+  pub balked-written : (a : Teller W P) (notes : List Note) (b : Teller W P) → HasBalked Heard Balked a notes b
+      → HasStopped a (map (noted a.names.now) notes) b × Same a b
+  balked-written a [] b h = absurd h
+  balked-written a (note ∷ notes) b (inl h) =
+      (lines-some-more _ _ (sees a) (sees b) (noted a.names.now note ∷ []) (map (noted a.names.now) notes) h.0, (h.1, h.2, h.3))
+  balked-written a (note ∷ notes) b (inr h) =
+      let first = h.1 in
+      let rest = balked-written h.0 notes b h.2 in (
+        lines-then-some _ _ _ (sees a) (sees h.0) (sees b) (noted a.names.now note ∷ []) (map (noted a.names.now) notes) first.0
+            (subst (λ (ns : List (List ℕ)). HasStopped h.0 (map (noted ns) notes) b) first.3 rest.0),
+        (rest.1.0 ∙ first.1, rest.1.1 ∙ first.2, rest.1.2 ∙ first.3),
+      )

@@ -11,23 +11,26 @@ use Rattle.dvs_base.specs.declared.note.Note.{Note}
 use Rattle.dvs_base.specs.declared.note.Note.TheVariants.{Release, Speed, Run, Idle, Done, End}
 use Rattle.dvs_base.specs.declared.note.Totals.{Totals}
 use Rattle.dvs_base.specs.Outside.{SinkView, Rose}
-use Rattle.energy.specs.Books.{energy_of_task}
+use Rattle.energy.specs.Books.{Books, energy_of_task}
 use Rattle.sched_model.specs.Plan.{Plan, count, names}
-use Rattle.sched_model.specs.Admission.{IsWithinLimits}
+use Rattle.sched_model.specs.Admission.{IsAdmitted}
+use Rattle.sched_model.specs.Totals.{totals_of}
+use Rattle.grid_fraction.specs.Numbers.{list_below}
 use Rattle.sched_model.specs.Notes.{energy_run, energy_idle}
 use Rattle.sched_model.specs.States.{StateOf}
 use Rattle.sched_model.proofs.Tables.{get-table, table-same}
 use Rattle.done_lines.specs.LineCounts.{AreFew}
-use Rattle.governor.specs.Schedule.{ask_of}
 use Rattle.trace_text.specs.TraceLines.{name_of}
 use Rattle.trace_reader.specs.VersionLines.{share_text}
 use Rattle.probes.specs.Tallies.{ProbeOf}
 use Rattle.event_kernel.specs.Lines.{LineOf, plain, noted, share_lines, sum_lines, lines_of, note_lines, text_of, StoppedIn, Writes}
 use Rattle.event_kernel.specs.Runs as runs
 use Rattle.event_kernel.specs.Runs.{demands_of, ticks_of, notes_before_end_of, notes_of_run}
-use Rattle.event_kernel.specs.Sums.{SumsOf, sums_of}
-use Rattle.event_kernel.proofs.NoEnd.{IsNoEnd, none-ends}
-use Rattle.event_kernel.proofs.Releasing.{course-len}
+use Rattle.event_kernel.specs.SpanNotes.{HasBooked}
+use Rattle.done_lines.proofs.SpanNotes.{IsNoteIn}
+use Rattle.event_kernel.proofs.Booking.{booked-tasks, booked-totals}
+use Rattle.event_kernel.proofs.Fitting.{course-fits}
+use Rattle.event_kernel.proofs.Courses.{course-len}
 use Rattle.event_kernel.proofs.Writing.{text-append}
 
 -- a first part of the lines has stopped short of the sure room
@@ -58,28 +61,26 @@ pub few-of : {E : Type 0} (r : Result Totals E) (t : Totals) → AreFew t → If
 few-of (Ok x) t few is = subst AreFew (sym is) few
 few-of (Err e) t few is = tt
 
--- the sums of the notes before the `End` are those of all notes
+-- the energies of the tasks over the notes before the `End` are those over all notes
 sum-lines : (v : Version) (p : Plan) (before : List Note) (t run idle : ℕ)
-    → sum_lines v p (sums_of p before) ≡ share_lines v p (before ++ End t run idle ∷ [])
+    → sum_lines v p (list_below (count p) (λ i. sum_by (energy_of_task i) before)) ≡ share_lines v p (before ++ End t run idle ∷ [])
 sum-lines One p before t run idle = refl
 sum-lines Two p before t run idle =
     table-same (count p)
-    (λ i. plain (share_text (name_of (names p) i) (slice_index (sums_of p before).by_task i)))
+    (λ i. plain (share_text (name_of (names p) i) (slice_index (list_below (count p) (λ i. sum_by (energy_of_task i) before)) i)))
     (λ i. plain (share_text (name_of (names p) i) (sum_by (energy_of_task i) (before ++ End t run idle ∷ []))))
     (λ i lt. ap (λ (e : ℕ). plain (share_text (name_of (names p) i) e)) (get-table (count p) (λ k. sum_by (energy_of_task k) before) i 0 lt ∙ more i))
   where
     more : (i : ℕ) → sum_by (energy_of_task i) before ≡ sum_by (energy_of_task i) (before ++ End t run idle ∷ [])
-    more i =
-        let one : sum_by (energy_of_task i) (End t run idle ∷ []) ≡ 0 = omega (arith, sum_by-cons (energy_of_task i) (End t run idle) []) in
-        sym (sum_by-append (energy_of_task i) before (End t run idle ∷ []) ∙ (ap (λ n. sum_by (energy_of_task i) before + n) one ∙ omega arith))
+    more i = omega (arith, sum_by-append (energy_of_task i) before (End t run idle ∷ []), sum_by-cons (energy_of_task i) (End t run idle) [])
 
 -- each note before the `End` has its own line alone
-own-lines : (v : Version) (p : Plan) (all notes : List Note) → AllByRecursion IsNoEnd notes
+own-lines : (v : Version) (p : Plan) (all notes : List Note) → AllByRecursion (IsNoteIn p) notes
     → flat_map (lines_of v p all) notes ≡ map (noted (names p)) notes
 own-lines v p all [] h = refl
 own-lines v p all (n ∷ ns) h = go n h.0 (own-lines v p all ns h.1)
   where
-    go : (n : Note) → IsNoEnd n → flat_map (lines_of v p all) ns ≡ map (noted (names p)) ns
+    go : (n : Note) → IsNoteIn p n → flat_map (lines_of v p all) ns ≡ map (noted (names p)) ns
         → lines_of v p all n ++ flat_map (lines_of v p all) ns ≡ noted (names p) n ∷ map (noted (names p)) ns
     go (Release t i k) b e = ap (λ ls. noted (names p) (Release t i k) ∷ ls) e
     go (Speed t f num den) b e = ap (λ ls. noted (names p) (Speed t f num den) ∷ ls) e
@@ -88,31 +89,41 @@ own-lines v p all (n ∷ ns) h = go n h.0 (own-lines v p all ns h.1)
     go (Done at i k used) b e = ap (λ ls. noted (names p) (Done at i k used) ∷ ls) e
     go (End t run idle) b e = absurd b
 
-module _ (demand : Plan → StateOf → Frac) (r : runs.Run) (lim : IsWithinLimits r.plan) (v : Version) where
+module _ (demand : Plan → StateOf → Frac) (r : runs.Run) (adm : IsAdmitted r.plan) (v : Version) where
   abbrev pub before : List Note
   before = notes_before_end_of demand r
 
+  abbrev energies : List ℕ
+  energies = list_below (count r.plan) (λ i. sum_by (energy_of_task i) before)
+
   -- the lines of all notes: those before the `End`, the energies, and the `End`
-  all-lines : map (noted (names r.plan)) before ++ (sum_lines v r.plan (sums_of r.plan before)
+  all-lines : map (noted (names r.plan)) before ++ (sum_lines v r.plan energies
       ++ noted (names r.plan) (End (length (ticks_of demand r)) (sum_by energy_run before) (sum_by energy_idle before)) ∷ [])
       ≡ note_lines v r.plan (notes_of_run demand r)
   all-lines =
-      let dem = demands_of r.plan r.demands in
       let all : List Note = notes_of_run demand r in
       let end : Note = End (length (ticks_of demand r)) (sum_by energy_run before) (sum_by energy_idle before) in
       sym (flat_map-append (lines_of v r.plan all) before (end ∷ [])
       ∙ ap₂ (λ (x y : List LineOf). x ++ y)
-      (own-lines v r.plan all before (none-ends r.plan dem (ask_of demand r.plan dem) (ticks_of demand r)))
+      (own-lines v r.plan all before (course-fits demand r.plan (demands_of r.plan r.demands) adm (λ i. refl) r.ticks).each)
       (append-nil (lines_of v r.plan all end)
       ∙ ap (λ (ls : List LineOf). ls ++ noted (names r.plan) end ∷ [])
       (sym (sum-lines v r.plan before (length (ticks_of demand r)) (sum_by energy_run before) (sum_by energy_idle before)))))
 
-  -- the same, from what a teller had of the plan, of the ticks and of the sums
-  pub told-lines : (ns : List (List ℕ)) (p : Plan) (ticks : ℕ) (s : SumsOf) → ns ≡ names p → p ≡ r.plan → ticks ≡ r.ticks → s ≡ sums_of r.plan before
-      → map (noted ns) before ++ (sum_lines v p s ++ noted (names p) (End ticks s.totals.run s.totals.idle) ∷ [])
+  -- the same, from what a teller had of the plan, of the ticks and of the account
+  pub told-lines : (ns : List (List ℕ)) (p : Plan) (ticks : ℕ) (es : List ℕ) (t : Totals) → ns ≡ names p → p ≡ r.plan → ticks ≡ r.ticks
+      → es ≡ energies → t ≡ totals_of before
+      → map (noted ns) before ++ (sum_lines v p es ++ noted (names p) (End ticks t.run t.idle) ∷ [])
       ≡ note_lines v r.plan (notes_of_run demand r)
-  told-lines ns p ticks s en ep et es =
+  told-lines ns p ticks es t en ep et ee to =
       let whole : ticks ≡ length (ticks_of demand r) = et ∙ sym (course-len demand r.plan (demands_of r.plan r.demands) r.ticks) in
       let own : ns ≡ names r.plan = en ∙ ap names ep in
-      (λ j. map (noted (own j)) before ++ (sum_lines v (ep j) (es j) ++ noted (names (ep j)) (End (whole j) ((es j).totals.run) ((es j).totals.idle)) ∷ []))
+      (λ j. map (noted (own j)) before ++ (sum_lines v (ep j) (ee j) ++ noted (names (ep j)) (End (whole j) ((to j).run) ((to j).idle)) ∷ []))
       ∙ all-lines
+
+  -- and from an account of the notes
+  pub booked-lines : (ns : List (List ℕ)) (p : Plan) (ticks : ℕ) (b : Books) → ns ≡ names p → p ≡ r.plan → ticks ≡ r.ticks → HasBooked r.plan b before
+      → map (noted ns) before ++ (sum_lines v p b.by_task ++ noted (names p) (End ticks b.totals.run b.totals.idle) ∷ [])
+      ≡ note_lines v r.plan (notes_of_run demand r)
+  booked-lines ns p ticks b en ep et h =
+      told-lines ns p ticks b.by_task b.totals en ep et (booked-tasks r.plan b before h) (booked-totals r.plan b before h)

@@ -3,7 +3,7 @@ use Rattle.sched_model.specs.Plan.{Plan}
 use Rattle.sched_model.specs.States.{StateOf}
 use Rattle.agenda.specs.declared.agenda.Agenda.{Agenda}
 use Rattle.agenda.specs.Stands.{Stands}
-use Rattle.event_kernel.specs.declared.run.Run.{Run}
+use Rattle.event_kernel.specs.declared.progress.Progress.{Progress}
 
 -- The governor's counters are those of a state, and so is the agenda: its ready queue holds exactly the incomplete latest jobs
 -- with their keys, and its calendar each task with its next release.
@@ -12,5 +12,5 @@ pub record Follow {G : Type 0} (stands : G → Plan → StateOf → Type 0) (p :
   pub agenda : Stands p s a
 
 -- those of a run are those of its state
-abbrev pub IsCurrent : {G : Type 0} → (G → Plan → StateOf → Type 0) → Plan → Run G → Type 0
-IsCurrent stands p run = Follow stands p run.governor run.state run.agenda
+abbrev pub IsCurrent : {G : Type 0} → (G → Plan → StateOf → Type 0) → Plan → Progress G → Type 0
+IsCurrent stands p progress = Follow stands p progress.governor progress.state progress.agenda

@@ -18,11 +18,3 @@ HasBalked {L} heard balked from (note ∷ notes) to = balked from note to ⊎ ((
 abbrev pub Tells : {L T E : Type 0} → (L → Note → L → Type 0) → (L → Note → L → Type 0) → (L → ℕ) → L → L → List Note → Result T E → Type 0
 Tells heard balked stops from to notes (Ok v) = HasHeard heard from notes to × (stops from ≤ stops to)
 Tells heard balked stops from to notes (Err e) = HasBalked heard balked from notes to × (stops from ≤ stops to) × Rose (stops from) (stops to)
-
--- The same of a step within a run: where the listener had heard the notes before the step, it has heard those after it at Ok;
--- at an error it balked at one of all notes.
-abbrev pub TellsOn : {L T E : Type 0} → (L → Note → L → Type 0) → (L → Note → L → Type 0) → (L → ℕ) → L → L → List Note → List Note → List Note
-    → Result T E → Type 0
-TellsOn {L} heard balked stops from to before after all (Ok v) = ((a : L) → HasHeard heard a before from → HasHeard heard a after to) × (stops from ≤ stops to)
-TellsOn {L} heard balked stops from to before after all (Err e) =
-    ((a : L) → HasHeard heard a before from → HasBalked heard balked a all to) × (stops from ≤ stops to) × Rose (stops from) (stops to)

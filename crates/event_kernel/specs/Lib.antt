@@ -1,11 +1,11 @@
 pub mod Heard
 pub mod Runs
-pub mod Sums
+pub mod Meeting
+pub mod SpanNotes
 pub mod Segment
 pub mod Writing
 pub mod Tickwork
 pub mod Boundary
-pub mod Walking
 pub mod Settings
 pub mod Current
 pub mod Lines

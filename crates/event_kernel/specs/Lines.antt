@@ -1,19 +1,18 @@
 -- The lines of a run's trace, and what their writing makes of a sink and of probes.
-use Rattle.std.specs.Prelude.{◌≡◌, ℕ, ◌+◌, ◌<◌, ◌≤◌, List, [], ◌∷◌, ◌++◌, length, flat_map, sum_by, slice_index, Result, Ok, Err}
-use Rattle.std.specs.Io.KnownBytes.{Appends}
+use Rattle.std.specs.Prelude.{◌≡◌, ℕ, List, [], ◌∷◌, ◌++◌, flat_map, sum_by, slice_index, Result, Ok, Err}
 use Rattle.grid_fraction.specs.Numbers.{list_below}
 use Rattle.dvs_base.specs.declared.kind.Version.{Version}
 use Rattle.dvs_base.specs.declared.kind.Version.TheVariants.{One, Two}
 use Rattle.dvs_base.specs.declared.kind.GovernorKind.{GovernorKind}
 use Rattle.dvs_base.specs.declared.note.Note.{Note}
 use Rattle.dvs_base.specs.declared.note.Note.TheVariants.{End}
-use Rattle.dvs_base.specs.Outside.{SinkView, Rose, AppendsPrefix}
+use Rattle.dvs_base.specs.Outside.{SinkView}
+use Rattle.dvs_base.specs.WritesText.{Wrote, WroteSome}
 use Rattle.energy.specs.Books.{energy_of_task}
 use Rattle.sched_model.specs.Plan.{Plan, count, names, task, period, offset}
 use Rattle.trace_text.specs.TraceLines.{plan_text, note_text, name_of}
 use Rattle.trace_reader.specs.VersionLines.{version_line, task_text, share_text}
 use Rattle.probes.specs.Tallies.{ProbeOf, told_notes}
-use Rattle.event_kernel.specs.Sums.{SumsOf}
 
 -- a line of a trace, and the notes that it tells: one, or none
 pub record LineOf : Type 0 where
@@ -43,10 +42,10 @@ share_lines One p notes = []
 share_lines Two p notes =
     list_below (count p) (λ i. plain (share_text (name_of (names p) i) (sum_by (energy_of_task i) notes)))
 
--- the same lines, from the sums of the notes
-abbrev pub sum_lines : Version → Plan → SumsOf → List LineOf
-sum_lines One p s = []
-sum_lines Two p s = list_below (count p) (λ i. plain (share_text (name_of (names p) i) (slice_index s.by_task i)))
+-- the same lines, from the energies of the tasks
+abbrev pub sum_lines : Version → Plan → List ℕ → List LineOf
+sum_lines One p energies = []
+sum_lines Two p energies = list_below (count p) (λ i. plain (share_text (name_of (names p) i) (slice_index energies i)))
 
 -- the lines of a note among all notes: its own, and in version 2 the energies before the `end` line
 abbrev pub lines_of : Version → Plan → List Note → Note → List LineOf
@@ -68,24 +67,6 @@ text_of lines = flat_map (λ l. l.text) lines
 -- the notes that some lines tell
 abbrev pub notes_told : List LineOf → List Note
 notes_told lines = flat_map (λ l. l.notes) lines
-
--- the whole text: the bytes that are told grow by it, the count of faults stays, and the sure room falls by no more
-pub record Wrote (old new : SinkView) (text : List ℕ) : Type 0 where
-  pub bytes : Appends old.written new.written text
-  pub steady : new.faults ≡ old.faults
-  pub surety : old.sure ≤ new.sure + length text
-
--- a first part of it: the count of faults rose, and the sink was not sure of the whole text
-pub record WroteSome (old new : SinkView) (text : List ℕ) : Type 0 where
-  pub part : AppendsPrefix old.written new.written text
-  pub rose : Rose old.faults new.faults
-  pub later : old.faults ≤ new.faults
-  pub unsure : old.sure < length text
-
--- what the writing of a text makes of a sink, by what it answers
-abbrev pub WritesText : {T E : Type 0} → SinkView → SinkView → List ℕ → Result T E → Type 0
-WritesText old new text (Ok v) = Wrote old new text
-WritesText old new text (Err e) = WroteSome old new text
 
 -- all lines were written, and the probes were told their notes
 pub record WroteLines (old new : SinkView) (before after : List ProbeOf) (lines : List LineOf) : Type 0 where

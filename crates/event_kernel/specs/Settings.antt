@@ -1,88 +1,109 @@
 -- The words of a run's contracts: its setting, and where it stands.
-use Rattle.std.specs.Prelude.{ℕ, ◌-◌, ◌≤◌, Bool, List, Result}
+use Rattle.std.specs.Prelude.{◌≡◌, ◌⊎◌, ℕ, ◌+◌, ◌*◌, ◌<◌, ◌≤◌, Bool, true, Option, Some}
 use Rattle.grid_fraction.specs.declared.Frac.{Frac}
-use Rattle.dvs_base.specs.declared.note.Note.{Note}
-use Rattle.sched_model.specs.Plan.{Plan}
+use Rattle.grid_fraction.specs.Numbers.{any_below}
+use Rattle.dvs_base.specs.declared.limits.TheConstants.{MOST_TICKS}
+use Rattle.sched_model.specs.Plan.{Plan, count, point}
 use Rattle.sched_model.specs.Admission.{IsAdmitted}
+use Rattle.sched_model.specs.Jobs.{latest}
+use Rattle.sched_model.specs.Ticks.{exec}
 use Rattle.sched_model.specs.Demands.{IsWithin}
 use Rattle.sched_model.specs.Deadlines.{IsMet}
-use Rattle.sched_model.specs.States.{state_of, StateOf}
-use Rattle.governor.specs.Schedule.{course}
-use Rattle.event_kernel.specs.declared.run.Setting.{Setting}
-use Rattle.event_kernel.specs.declared.run.InForce.{InForce}
-use Rattle.event_kernel.specs.declared.trace.Trace.{Trace}
-use Rattle.event_kernel.specs.Heard.{TellsOn}
+use Rattle.sched_model.specs.Decision.{is_decision, completes_in}
+use Rattle.sched_model.specs.Schedule.{entry_in_force}
+use Rattle.sched_model.specs.States.{row_at, prior_state, state_of, StateOf}
+use Rattle.governor.specs.Schedule.{ask_of, course}
+use Rattle.agenda.specs.Agenda.{IsFirstUndone}
+use Rattle.event_kernel.specs.declared.progress.Setting.{Setting}
+use Rattle.event_kernel.specs.declared.progress.InForce.{InForce}
+use Rattle.event_kernel.specs.declared.span_trace.SpanTrace.{SpanTrace}
 use Rattle.event_kernel.specs.Runs.{demands_of, IsListOf}
-use Rattle.dvs_base.specs.declared.limits.TheConstants.{MOST_TICKS}
-use Rattle.event_kernel.specs.Boundary.{IsAtBoundary, IsBetween}
-use Rattle.event_kernel.specs.Tickwork.{HasWorked}
-use Rattle.event_kernel.specs.Walking.{IsInSpan, IsLastTick, HasWalked, told_before, told_in, told_after}
+use Rattle.event_kernel.specs.Tickwork.{had_at, span_at, tick_at, whole_span}
+use Rattle.event_kernel.specs.Writing.{Writing}
 
--- the demand of each job
-abbrev pub jobs_of : Setting → ℕ → ℕ → ℕ
-jobs_of set = demands_of set.plan.now set.demands.now
+module _ (set : Setting) where
+  abbrev p : Plan
+  p = set.plan.now
 
--- the plan is admitted, the list has its declared worst cases, no demand exceeds them, and the ticks are within the limits
-pub record IsSetting (set : Setting) : Type 0 where
-  pub admitted : IsAdmitted set.plan.now
-  pub list : IsListOf set.plan.now set.demands.now
-  pub within : IsWithin set.plan.now (jobs_of set)
-  pub low_ticks : set.ticks ≤ MOST_TICKS
+  abbrev dem : ℕ → ℕ → ℕ
+  dem = demands_of set.plan.now set.demands.now
 
--- the state at the tick t of a governor's schedule, after its releases
-abbrev pub state_at : (Plan → StateOf → Frac) → Setting → ℕ → StateOf
-state_at demand set t = state_of set.plan.now (jobs_of set) (course demand set.plan.now (jobs_of set) t)
+  -- the plan is admitted, the list has its declared worst cases, no demand exceeds them, and the ticks are within the limits
+  pub record IsSetting : Type 0 where
+    pub admitted : IsAdmitted p
+    pub list : IsListOf p set.demands.now
+    pub within : IsWithin p dem
+    pub low_ticks : set.ticks ≤ MOST_TICKS
 
--- every deadline before a state is met
-abbrev pub IsMetBy : (Plan → StateOf → Frac) → Setting → StateOf → Type 0
-IsMetBy demand set s = IsMet set.plan.now (jobs_of set) (course demand set.plan.now (jobs_of set) s.now)
+  -- The tick is the last of its span: the run ends after it, or a job is released, or the first job that is not done gets all
+  -- that it needs.
+  abbrev pub IsLastTick : InForce → StateOf → Type 0
+  IsLastTick force s =
+      (s.now + 1 ≡ set.ticks)
+      ⊎ (((i : ℕ) × (i < count p) × ((row_at s i).deadline ≡ s.now + 1))
+      ⊎ ((i : ℕ) × IsFirstUndone p s (count p) i × (dem i (row_at s i).job ≤ (row_at s i).used + (point p force.index).speed)))
 
--- at the boundary of a state's tick, before its releases
-abbrev pub AtBoundary : (Plan → StateOf → Frac) → Setting → StateOf → Type 0
-AtBoundary demand set s = IsAtBoundary demand set.plan.now (jobs_of set) s.now s
+  -- The tick after n more is the last of its span: the run ends after it, or a job is released, or the first job, which has all
+  -- units up to then, gets all that it needs.
+  abbrev pub IsLastAfter : InForce → StateOf → Option ℕ → ℕ → Type 0
+  IsLastAfter force s first n =
+      (s.now + n + 1 ≡ set.ticks)
+      ⊎ (((i : ℕ) × (i < count p) × ((row_at s i).deadline ≡ s.now + n + 1))
+      ⊎ ((i : ℕ) × (first ≡ Some i)
+      × (dem i (row_at s i).job ≤ (row_at s i).used + n * (point p force.index).speed + (point p force.index).speed)))
 
--- between two spans
-abbrev pub Between : (Plan → StateOf → Frac) → Setting → StateOf → Trace → Type 0
-Between demand set s trace = IsBetween demand set.plan.now (jobs_of set) set.ticks s.now s trace
+  -- The n ticks after a state are quiet: the run doesn't end in them, no job is released in them or at their end, and the first
+  -- job that is not done isn't completed. And the tick after them is the last of its span.
+  pub record AreQuiet (force : InForce) (s : StateOf) (first : Option ℕ) (n : ℕ) : Type 0 where
+    pub before_end : s.now + n < set.ticks
+    pub no_release : (k : ℕ) → k < count p → s.now + n < (row_at s k).deadline
+    pub not_done : (i : ℕ) → first ≡ Some i → (row_at s i).used + n * (point p force.index).speed < dem i (row_at s i).job
+    pub last : IsLastAfter force s first n
 
--- in the span of this entry, after the releases and the decision
-abbrev pub InSpan : (Plan → StateOf → Frac) → Setting → InForce → StateOf → Trace → Type 0
-InSpan demand set force s trace = IsInSpan demand set.plan.now (jobs_of set) set.ticks force.from s.now force.index s trace
+  module _ (demand : Plan → StateOf → Frac) where
+    -- the state at the tick t of a governor's schedule, after its releases
+    abbrev pub state_at : ℕ → StateOf
+    state_at t = state_of p dem (course demand p dem t)
 
--- the next tick is the span's last
-abbrev pub AtLastTick : Setting → InForce → StateOf → Type 0
-AtLastTick set force s = IsLastTick set.plan.now (jobs_of set) set.ticks force.index s
+    -- every deadline before the tick t is met
+    abbrev pub IsMetBy : ℕ → Type 0
+    IsMetBy t = IsMet p dem (course demand p dem t)
 
--- after the units of the tick of a state `before`
-abbrev pub Worked : (Plan → StateOf → Frac) → Setting → StateOf → StateOf → Trace → Bool → Type 0
-Worked demand set before s trace completed = HasWorked demand set.plan.now (jobs_of set) before.now s trace completed
+    -- at the boundary of a state's tick, before its releases
+    pub record IsAtBoundary (s : StateOf) : Type 0 where
+      pub early : s.now < MOST_TICKS
+      pub state : s ≡ prior_state p dem (course demand p dem s.now)
+      pub due_done : (i : ℕ) → i < count p → (row_at s i).deadline ≡ s.now → (row_at s i).done ≡ true
 
--- at the end of the span
-abbrev pub Walked : (Plan → StateOf → Frac) → Setting → InForce → StateOf → Trace → Type 0
-Walked demand set force s trace = HasWalked demand set.plan.now (jobs_of set) set.ticks force.from (s.now - 1) force.index s trace
+    -- between two spans
+    pub record IsBetween (s : StateOf) : Type 0 where
+      pub state : s ≡ prior_state p dem (course demand p dem s.now)
+      pub decision : s.now < set.ticks → is_decision p dem (course demand p dem s.now) ≡ true
 
--- the notes of a run up to some place of it
-abbrev pub NotesUpTo : Type 0
-NotesUpTo = (Plan → StateOf → Frac) → Setting → List Note
+    -- in a span, at the tick t, after the releases and the decision
+    pub record IsInSpan (force : InForce) (t : ℕ) (s : StateOf) (trace : SpanTrace) : Type 0 where
+      pub before_end : t < set.ticks
+      pub later : force.from ≤ t
+      pub state : s ≡ state_of p dem (course demand p dem t)
+      pub began : (span_at demand p dem t).past ≡ course demand p dem force.from
+      pub entry : force.index ≡ (span_at demand p dem t).entry
+      pub in_force : force.index ≡ entry_in_force p dem (ask_of demand p dem) (course demand p dem t)
+      pub writing : Writing p dem (ask_of demand p dem) t (span_at demand p dem t) (had_at p (course demand p dem t)) (1000000 * t) trace
 
--- those before the tick of a state
-abbrev pub notes_before : StateOf → NotesUpTo
-notes_before s demand set = told_before demand set.plan.now (jobs_of set) s.now
+    -- after the units of the tick t
+    pub record HasWorked (t : ℕ) (s : StateOf) (trace : SpanTrace) (completed : Bool) : Type 0 where
+      pub state : s ≡ prior_state p dem (course demand p dem (t + 1))
+      pub writing : Writing p dem (ask_of demand p dem) t (whole_span demand p dem t)
+          (λ i. exec p (course demand p dem (t + 1)) i (latest p i t)) (1000000 * (t + 1)) trace
+      pub completes : completed ≡ any_below (count p) (completes_in p dem (tick_at demand p dem t) (course demand p dem t))
 
--- those up to the segment that is open at a state
-abbrev pub notes_in : StateOf → NotesUpTo
-notes_in s demand set = told_in demand set.plan.now (jobs_of set) s.now
-
--- those up to the segment that is open after the units of the tick of a state
-abbrev pub notes_with : StateOf → NotesUpTo
-notes_with s demand set = told_after demand set.plan.now (jobs_of set) s.now
-
--- those up to the segment that is open after the units of the tick before a state
-abbrev pub notes_after : StateOf → NotesUpTo
-notes_after s demand set = told_after demand set.plan.now (jobs_of set) (s.now - 1)
-
--- a step within a run: what the listener had heard before it, and has heard after it, or where it balked
-abbrev pub Leads : {L T E : Type 0} → (L → Note → L → Type 0) → (L → Note → L → Type 0) → (L → ℕ) → (Plan → StateOf → Frac) → Setting → L → L
-    → NotesUpTo → NotesUpTo → Result T E → Type 0
-Leads heard balked stops demand set from to before after result =
-    TellsOn heard balked stops from to (before demand set) (after demand set) (told_before demand set.plan.now (jobs_of set) set.ticks) result
+    -- at the end of the span, whose last tick is `last`
+    pub record HasWalked (force : InForce) (last : ℕ) (s : StateOf) (trace : SpanTrace) : Type 0 where
+      pub now : s.now ≡ last + 1
+      pub before_end : last < set.ticks
+      pub later : force.from ≤ last
+      pub began : (span_at demand p dem last).past ≡ course demand p dem force.from
+      pub entry : force.index ≡ (span_at demand p dem last).entry
+      pub completed : Bool
+      pub worked : HasWorked last s trace completed
+      pub decision : last + 1 < set.ticks → is_decision p dem (course demand p dem (last + 1)) ≡ true

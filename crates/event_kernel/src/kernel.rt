@@ -3,29 +3,30 @@ ghost use Rattle.std.specs.Prelude.{◌≡◌, ◌≢◌, ◌≤◌, ◌<◌, �
 ghost use Rattle.dvs_base.specs.declared.kind.GovernorKind.TheVariants.{Ahead};
 ghost use Rattle.sched_model.specs.Totals.{totals_of};
 ghost use Rattle.sched_model.specs.States.{opening};
-ghost use Rattle.event_kernel.specs.Heard.{HasHeard, HasBalked};
+ghost use Rattle.event_kernel.specs.Heard.{HasHeard, HasBalked, Tells};
 ghost use Rattle.sched_model.specs.Jobs.{released_jobs};
 ghost use Rattle.dvs_base.specs.declared.limits.TheConstants.{MOST_JOBS, MOST_TICKS};
 ghost use Rattle.done_lines.specs.LineCounts.{AreFew};
 ghost use Rattle.event_kernel.specs.Runs.{IsListOf, notes_of_run, MeetsDeadlines, MeetsDemands};
+ghost use Rattle.event_kernel.specs.Meeting.{IsMetRun};
 ghost use Rattle.event_kernel.specs.Runs.{notes_before_end_of};
 ghost use Rattle.event_kernel.specs.Lines.{Writes, trace_lines, text_of};
-ghost use Rattle.event_kernel.specs.Sums.{sums_of};
+ghost use Rattle.event_kernel.specs.SpanNotes.{HasBooked};
 ghost use Rattle.agenda.specs.Stands.{Stands};
-ghost use Rattle.sched_model.specs.Admission.{IsAdmitted};
 ghost use Rattle.dvs_base.specs.Outside.{Rose};
 
 use crate::jobs::count_jobs;
-use crate::run::{Run, Setting};
+use crate::notes::SpanNotes;
+use crate::progress::{Progress, Setting};
 use crate::span::Walk;
-use crate::sums::Sums;
+use crate::span_trace::SpanTrace;
 use crate::teller::{WriteFault, tell_notes};
-use crate::trace::Trace;
 use crate::write::{Head, put_head};
 use crate::{Listener, Stopped};
 use agenda::Agenda;
 use demand_list::Demands;
 use dvs_base::{Failed, MOST_JOBS, NoMemory, Note, Sink, Totals, Version};
+use energy::Account;
 use governor::Governor;
 use probes::Probe;
 use sched_model::{Admitted, State};
@@ -39,27 +40,31 @@ pub enum KernelFault {
     NoMemory,
 }
 
-// What a run begins with: the opening state, the agenda that stands for it, and the sums of no notes.
+// What a run begins with: the opening state, the agenda that stands for it, an account of no notes, and room for those
+// of a span.
 #[derive(Drop)]
 struct Opening {
     state: State,
     agenda: Agenda,
-    sums: Sums,
+    account: Account,
+    notes: SpanNotes,
 }
 
 impl Opening {
     fn of(alloc: Global, plan: &Admitted) -> Result<Opening, NoMemory>
         ensures state { IfOk result (λ o. o.state ≡ opening plan.now) }
         ensures agenda { IfOk result (λ o. Stands plan.now (opening plan.now) o.agenda) }
-        ensures sums { IfOk result (λ o. o.sums ≡ sums_of plan.now []) }
+        ensures account { IfOk result (λ o. HasBooked plan.now o.account []) }
     {
         let state = State::new(alloc, plan)?;
         let agenda = Agenda::new(alloc, plan)?;
-        let sums = Sums::new(alloc, plan)?;
+        let account = Account::new(alloc, plan.count(), plan.machine())?;
+        let notes = SpanNotes::new(alloc)?;
         Ok(Opening {
             state,
             agenda,
-            sums,
+            account,
+            notes,
         })
     }
 }
@@ -73,15 +78,19 @@ pub struct Kernel<'a, G: Governor> {
     governor: G,
     state: State,
     agenda: Agenda,
-    sums: Sums,
+    account: Account,
+    notes: SpanNotes,
 }
 
 impl<'a, G: Governor> Model for Kernel<'a, G> {
     ghost use Rattle.std.specs.Prelude.{◌≡◌, ◌≤◌, []};
+    ghost use Rattle.demand_list.specs.Demands.{IsWithinWorsts};
+    ghost use Rattle.sched_model.specs.Admission.{IsAdmitted};
     ghost use Rattle.sched_model.specs.States.{opening};
-    ghost use Rattle.event_kernel.specs.Sums.{sums_of};
+    ghost use Rattle.event_kernel.specs.SpanNotes.{HasBooked};
     ghost use Rattle.dvs_base.specs.declared.limits.TheConstants.{MOST_TICKS};
     ghost use Rattle.event_kernel.specs.Runs.{Run, IsListOf};
+    ghost use Rattle.event_kernel.specs.Meeting.{IsMetRun};
     ghost use Rattle.agenda.specs.Stands.{Stands};
 
     ghost Value = { Run };
@@ -89,8 +98,9 @@ impl<'a, G: Governor> Model for Kernel<'a, G> {
     ghost view = { λ k. record { plan = k.plan.now; demands = k.demands.now; ticks = k.ticks } };
 
     ghost invariant = { λ k. (k.state ≡ opening k.plan.now) × G.stands k.governor k.plan.now (opening k.plan.now)
-        × IsListOf k.plan.now k.demands.now × (k.ticks ≤ MOST_TICKS) × (k.sums ≡ sums_of k.plan.now [])
-        × Stands k.plan.now (opening k.plan.now) k.agenda };
+        × IsListOf k.plan.now k.demands.now × (k.ticks ≤ MOST_TICKS) × HasBooked k.plan.now k.account []
+        × Stands k.plan.now (opening k.plan.now) k.agenda × IsAdmitted k.plan.now × IsWithinWorsts k.demands.now
+        × IsMetRun G.the_kind G.demand (record { plan = k.plan.now; demands = k.demands.now; ticks = k.ticks }) };
 }
 
 impl<'a, G: Governor> Kernel<'a, G> {
@@ -117,10 +127,13 @@ impl<'a, G: Governor> Kernel<'a, G> {
         if count > MOST_JOBS {
             return Err(KernelFault::TooManyJobs { count });
         }
+        let _scheduler = plan.scheduler();
+        let _worsts = demands.worsts();
         let Opening {
             state,
             agenda,
-            sums,
+            account,
+            notes,
         } = Opening::of(alloc, plan).map_err(|_| KernelFault::NoMemory)?;
         Ok(Kernel {
             plan,
@@ -129,7 +142,8 @@ impl<'a, G: Governor> Kernel<'a, G> {
             governor,
             state,
             agenda,
-            sums,
+            account,
+            notes,
         })
     }
 
@@ -147,7 +161,10 @@ impl<'a, G: Governor> Kernel<'a, G> {
         ensures never_falls { L.stops to.old ≤ L.stops to.new }
         ensures rose { OnErr result (Rose (L.stops to.old) (L.stops to.new)) }
     {
-        self.walk(Walk::Events, to)
+        match self.walk(Walk::Events, to) {
+            Ok(totals) => Ok(totals),
+            Err(Stopped) => Err(Stopped),
+        }
     }
 
     /// The same as `drive`, but it goes from tick to tick and not from event to event.
@@ -162,7 +179,10 @@ impl<'a, G: Governor> Kernel<'a, G> {
         ensures never_falls { L.stops to.old ≤ L.stops to.new }
         ensures rose { OnErr result (Rose (L.stops to.old) (L.stops to.new)) }
     {
-        self.walk(Walk::Ticks, to)
+        match self.walk(Walk::Ticks, to) {
+            Ok(totals) => Ok(totals),
+            Err(Stopped) => Err(Stopped),
+        }
     }
 
     /// Writes the whole trace in this version into the sink, one `put` a line, and tells the probes each note after its
@@ -189,8 +209,6 @@ impl<'a, G: Governor> Kernel<'a, G> {
         ensures never_falls { (W.shows out.old).faults ≤ (W.shows out.new).faults }
         ensures rose { OnErr result (Rose (W.shows out.old).faults (W.shows out.new).faults) }
     {
-        let _scheduler = self.plan.scheduler();
-        let _worsts = self.demands.worsts();
         let head = Head {
             version,
             governor: self.governor.kind(),
@@ -203,17 +221,11 @@ impl<'a, G: Governor> Kernel<'a, G> {
         }
     }
 
-    // The spans of the run, by one walk or the other: all notes before the `End`, and their sums.
-    pub(crate) fn spans<L: Listener>(self, walk: Walk, to: &mut L) -> Result<Sums, Stopped>
-        ensures sums { IfOk result (λ s. s ≡ sums_of self.entry.plan (notes_before_end_of G.demand self.entry)) }
-        ensures admitted { IsAdmitted self.entry.plan }
-        ensures deadlines { MeetsDeadlines G.demand self.entry }
-        ensures demands { G.the_kind ≢ Ahead → MeetsDemands G.demand self.entry }
-        ensures ran { OnOk result (HasHeard L.heard to.old (notes_before_end_of G.demand self.entry) to.new) }
-        ensures broke_off { OnErr result (HasBalked L.heard L.balked to.old
-            (notes_before_end_of G.demand self.entry) to.new) }
-        ensures never_falls { L.stops to.old ≤ L.stops to.new }
-        ensures rose { OnErr result (Rose (L.stops to.old) (L.stops to.new)) }
+    // The spans of the run, by one walk or the other: all notes before the `End`, told span by span, and an account of
+    // them.
+    pub(crate) fn spans<L: Listener>(self, walk: Walk, to: &mut L) -> Result<Account, Stopped>
+        ensures booked { IfOk result (λ a. HasBooked self.entry.plan a (notes_before_end_of G.demand self.entry)) }
+        ensures told { Tells L.heard L.balked L.stops to.old to.new (notes_before_end_of G.demand self.entry) result }
     {
         let Kernel {
             plan,
@@ -222,41 +234,37 @@ impl<'a, G: Governor> Kernel<'a, G> {
             governor,
             state,
             agenda,
-            sums,
+            mut account,
+            notes,
         } = self;
-        let _scheduler = plan.scheduler();
-        let _worsts = demands.worsts();
         let set = Setting {
             plan,
             demands,
             ticks,
         };
-        let mut run = Run {
+        let mut progress = Progress {
             governor,
             state,
             agenda,
-            trace: Trace::new(sums),
+            trace: SpanTrace::new(notes),
         };
-        while run.now() < ticks {
-            run.span(walk, &set, to)?;
+        while progress.now() < ticks {
+            let point = progress.span(walk, &set);
+            progress.trace.notes.tell(point, &mut account, to)?;
         }
-        Ok(run.trace.sums)
+        Ok(account)
     }
 
     // The run, by one walk or the other.
     fn walk<L: Listener>(self, walk: Walk, to: &mut L) -> Result<Totals, Stopped>
         ensures totals { IfOk result (λ t. t ≡ totals_of (notes_of_run G.demand self.entry)) }
         ensures few { IfOk result AreFew }
-        ensures deadlines { MeetsDeadlines G.demand self.entry }
-        ensures demands { G.the_kind ≢ Ahead → MeetsDemands G.demand self.entry }
-        ensures ran { OnOk result (HasHeard L.heard to.old (notes_of_run G.demand self.entry) to.new) }
-        ensures broke_off { OnErr result (HasBalked L.heard L.balked to.old (notes_of_run G.demand self.entry) to.new) }
-        ensures never_falls { L.stops to.old ≤ L.stops to.new }
-        ensures rose { OnErr result (Rose (L.stops to.old) (L.stops to.new)) }
+        ensures met { IsMetRun G.the_kind G.demand self.entry }
+        ensures told { Tells L.heard L.balked L.stops to.old to.new (notes_of_run G.demand self.entry) result }
     {
         let ticks = self.ticks;
-        let sums = self.spans(walk, to)?;
-        let totals = sums.totals();
+        let account = self.spans(walk, to)?;
+        let totals = account.totals();
         to.hear(&Note::End {
             ticks,
             run: totals.run,

@@ -8,14 +8,14 @@ mod boundary;
 mod jobs;
 mod kernel;
 mod listener;
+mod notes;
+mod progress;
 mod quiet;
-mod run;
 mod segment;
 mod span;
-mod sums;
+mod span_trace;
 mod teller;
 mod tick;
-mod trace;
 mod write;
 
 pub use jobs::{count_jobs, jobs_below, worst_demands};

@@ -1,27 +1,25 @@
 // The ticks of a span before its last one.
-ghost use Rattle.std.specs.Prelude.{◌≡◌, ◌*◌, ◌<◌, OnOk, IfSome};
-ghost use Rattle.sched_model.specs.Plan.{point};
+ghost use Rattle.std.specs.Prelude.{◌≡◌, ◌*◌, IfSome};
 ghost use Rattle.sched_model.specs.States.{CanRun, IsOfPlan};
 ghost use Rattle.event_kernel.specs.Segment.{IsFirst};
 ghost use Rattle.event_kernel.specs.Current.{IsCurrent};
-ghost use Rattle.event_kernel.specs.Walking.{gives, AreQuiet};
-ghost use Rattle.event_kernel.specs.Settings.{jobs_of, IsSetting, InSpan, AtLastTick, Leads, notes_in};
+ghost use Rattle.event_kernel.specs.Tickwork.{gives};
+ghost use Rattle.event_kernel.specs.Settings.{IsSetting, IsInSpan, IsLastTick, AreQuiet};
 
-use crate::run::{InForce, Run, Setting};
+use crate::progress::{InForce, Progress, Setting};
+use crate::span_trace::Moment;
 use crate::tick::{holder_of, lacking};
-use crate::trace::Moment;
-use crate::{Listener, Stopped};
 use governor::Governor;
 use sched_model::Admitted;
 
-impl<G: Governor> Run<G> {
+impl<G: Governor> Progress<G> {
     // How many ticks come before the span's last one.
     fn quiet_ticks(&self, set: &Setting<'_>, force: InForce, first: Option<u32>) -> u64
         requires set { IsSetting set.now }
-        requires at { InSpan G.demand set.now force self.now.state self.now.trace }
+        requires at { IsInSpan set.now G.demand force self.now.state.now self.now.state self.now.trace }
         requires first { IsFirst set.now.plan.now self.now.state first }
         requires current { IsCurrent G.stands set.now.plan.now self.now }
-        ensures { AreQuiet set.now.plan.now (jobs_of set.now) set.now.ticks force.index self.now.state first result }
+        ensures { AreQuiet set.now force self.now.state first result }
     {
         let state = &self.state;
         let speed = set.plan.machine().point(force.index).speed;
@@ -50,27 +48,20 @@ impl<G: Governor> Run<G> {
 
     /// All ticks of a span before its last one, at once: no job is released or completed in them, so one job has all
     /// their units, or nobody.
-    pub(crate) fn stay<L: Listener>(
-        &mut self,
-        set: &Setting<'_>,
-        force: InForce,
-        to: &mut L,
-    ) -> Result<(), Stopped>
+    pub(crate) fn stay(&mut self, set: &Setting<'_>, force: InForce)
         requires set { IsSetting set.now }
-        requires at { InSpan G.demand set.now force self.old.state self.old.trace }
+        requires at { IsInSpan set.now G.demand force self.old.state.now self.old.state self.old.trace }
         requires current { IsCurrent G.stands set.now.plan.now self.old }
-        ensures in_span { OnOk result (InSpan G.demand set.now force self.new.state self.new.trace) }
-        ensures last { OnOk result (AtLastTick set.now force self.new.state) }
-        ensures current { OnOk result (IsCurrent G.stands set.now.plan.now self.new) }
-        ensures told { Leads L.heard L.balked L.stops G.demand set.now to.old to.new
-            (notes_in self.old.state) (notes_in self.new.state) result }
+        ensures in_span { IsInSpan set.now G.demand force self.new.state.now self.new.state self.new.trace }
+        ensures last { IsLastTick set.now force self.new.state }
+        ensures current { IsCurrent G.stands set.now.plan.now self.new }
     {
         let state = &self.state;
         let now = state.now;
         let first = self.agenda.first_ready(set.plan, state);
         let quiet = self.quiet_ticks(set, force, first);
         if quiet == 0 {
-            return Ok(());
+            return;
         }
         let units = quiet * set.plan.machine().point(force.index).speed;
         let holder = holder_of(&self.state, first);
@@ -79,9 +70,8 @@ impl<G: Governor> Run<G> {
             state: &self.state,
             force,
         };
-        self.trace.enter(at, holder, units, to)?;
+        self.trace.enter(at, holder, units);
         self.serve_first(set.plan, first, units);
         self.state.advance(now + quiet);
-        Ok(())
     }
 }

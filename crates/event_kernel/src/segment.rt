@@ -1,6 +1,7 @@
 // The segment that is open.
 ghost use Rattle.std.specs.Prelude.{◌≡◌, ◌+◌, ◌<◌};
 ghost use Rattle.dvs_base.specs.Widths.{u64_end};
+ghost use Rattle.sched_model.specs.declared.holder.Holder.TheVariants.{Nobody};
 ghost use Rattle.sched_model.specs.Segments.{same_holder};
 
 use sched_model::Holder;
@@ -14,6 +15,17 @@ pub struct Segment {
 }
 
 impl Segment {
+    /// No units yet.
+    pub(crate) fn none() -> Segment
+        ensures { result ≡ record { holder = Nobody; start = 0; units = 0 } }
+    {
+        Segment {
+            holder: Holder::Nobody,
+            start: 0,
+            units: 0,
+        }
+    }
+
     /// The next segment of the holder begins where this one ends.
     pub(crate) fn pass(&mut self)
         requires { self.old.start + self.old.units < u64_end }

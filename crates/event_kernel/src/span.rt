@@ -1,14 +1,14 @@
 // From one decision to the next.
-ghost use Rattle.std.specs.Prelude.{◌≡◌, ◌<◌, ◌≤◌, ◌||◌, nat_eq, OnOk};
+ghost use Rattle.std.specs.Prelude.{◌≡◌, ◌-◌, ◌<◌, ◌≤◌, ◌||◌, ◌++◌, nat_eq, length};
 ghost use Rattle.agenda.specs.Agenda.{NonePast};
 ghost use Rattle.event_kernel.specs.Current.{IsCurrent};
 ghost use Rattle.event_kernel.specs.Boundary.{some_due};
-ghost use Rattle.event_kernel.specs.Settings.{IsSetting, Between, InSpan, Walked, IsMetBy, Leads};
-ghost use Rattle.event_kernel.specs.Settings.{notes_before, notes_in, notes_after};
+ghost use Rattle.event_kernel.specs.Runs.{demands_of};
+ghost use Rattle.event_kernel.specs.Settings.{IsSetting, IsBetween, IsInSpan, HasWalked, IsMetBy};
+ghost use Rattle.event_kernel.specs.Tickwork.{notes_before};
 
-use crate::run::{InForce, Run, Setting};
-use crate::trace::Moment;
-use crate::{Listener, Stopped};
+use crate::progress::{InForce, Progress, Setting};
+use crate::span_trace::Moment;
 use governor::Governor;
 
 /// How a span's ticks are walked: all but the last at once, or one by one.
@@ -18,7 +18,7 @@ pub enum Walk {
     Ticks,
 }
 
-impl<G: Governor> Run<G> {
+impl<G: Governor> Progress<G> {
     // Whether some job is released now.
     fn any_due(&self, set: &Setting<'_>) -> bool
         requires set { IsSetting set.now }
@@ -41,97 +41,72 @@ impl<G: Governor> Run<G> {
     }
 
     // The ticks of a span, up to the next decision or the end: all but the last at once.
-    fn by_events<L: Listener>(
-        &mut self,
-        set: &Setting<'_>,
-        force: InForce,
-        to: &mut L,
-    ) -> Result<(), Stopped>
+    fn by_events(&mut self, set: &Setting<'_>, force: InForce)
         requires set { IsSetting set.now }
-        requires at { InSpan G.demand set.now force self.old.state self.old.trace }
+        requires at { IsInSpan set.now G.demand force self.old.state.now self.old.state self.old.trace }
         requires current { IsCurrent G.stands set.now.plan.now self.old }
-        ensures walked { OnOk result (Walked G.demand set.now force self.new.state self.new.trace) }
-        ensures current { OnOk result (IsCurrent G.stands set.now.plan.now self.new) }
-        ensures told { Leads L.heard L.balked L.stops G.demand set.now to.old to.new
-            (notes_in self.old.state) (notes_after self.new.state) result }
+        ensures walked { HasWalked set.now G.demand force (self.new.state.now - 1) self.new.state self.new.trace }
+        ensures current { IsCurrent G.stands set.now.plan.now self.new }
     {
-        self.stay(set, force, to)?;
-        self.work(set, force, to)?;
-        Ok(())
+        self.stay(set, force);
+        self.work(set, force);
     }
 
     // The ticks of a span one by one, up to the next decision or the end.
-    fn by_ticks<L: Listener>(
-        &mut self,
-        set: &Setting<'_>,
-        force: InForce,
-        to: &mut L,
-    ) -> Result<(), Stopped>
+    fn by_ticks(&mut self, set: &Setting<'_>, force: InForce)
         requires set { IsSetting set.now }
-        requires at { InSpan G.demand set.now force self.old.state self.old.trace }
+        requires at { IsInSpan set.now G.demand force self.old.state.now self.old.state self.old.trace }
         requires current { IsCurrent G.stands set.now.plan.now self.old }
-        ensures walked { OnOk result (Walked G.demand set.now force self.new.state self.new.trace) }
-        ensures current { OnOk result (IsCurrent G.stands set.now.plan.now self.new) }
-        ensures told { Leads L.heard L.balked L.stops G.demand set.now to.old to.new
-            (notes_in self.old.state) (notes_after self.new.state) result }
+        ensures walked { HasWalked set.now G.demand force (self.new.state.now - 1) self.new.state self.new.trace }
+        ensures current { IsCurrent G.stands set.now.plan.now self.new }
     {
         loop {
-            let completed = self.work(set, force, to)?;
+            let completed = self.work(set, force);
             if self.is_end(set, completed) {
-                return Ok(());
+                return;
             }
         }
     }
 
     // The ticks of a span, up to the next decision or the end.
-    fn walk_span<L: Listener>(
-        &mut self,
-        walk: Walk,
-        set: &Setting<'_>,
-        force: InForce,
-        to: &mut L,
-    ) -> Result<(), Stopped>
+    fn walk_span(&mut self, walk: Walk, set: &Setting<'_>, force: InForce)
         requires set { IsSetting set.now }
-        requires at { InSpan G.demand set.now force self.old.state self.old.trace }
+        requires at { IsInSpan set.now G.demand force self.old.state.now self.old.state self.old.trace }
         requires current { IsCurrent G.stands set.now.plan.now self.old }
-        ensures walked { OnOk result (Walked G.demand set.now force self.new.state self.new.trace) }
-        ensures current { OnOk result (IsCurrent G.stands set.now.plan.now self.new) }
-        ensures told { Leads L.heard L.balked L.stops G.demand set.now to.old to.new
-            (notes_in self.old.state) (notes_after self.new.state) result }
+        ensures walked { HasWalked set.now G.demand force (self.new.state.now - 1) self.new.state self.new.trace }
+        ensures current { IsCurrent G.stands set.now.plan.now self.new }
     {
         match walk {
-            Walk::Events => self.by_events(set, force, to),
-            Walk::Ticks => self.by_ticks(set, force, to),
+            Walk::Events => self.by_events(set, force),
+            Walk::Ticks => self.by_ticks(set, force),
         }
     }
 
-    /// One span: a decision with its releases, and the ticks up to the next decision or the end.
-    pub(crate) fn span<L: Listener>(
-        &mut self,
-        walk: Walk,
-        set: &Setting<'_>,
-        to: &mut L,
-    ) -> Result<(), Stopped>
+    /// One span: a decision with its releases, and the ticks up to the next decision or the end. Its notes are then in
+    /// the trace. The entry that was in force.
+    pub(crate) fn span(&mut self, walk: Walk, set: &Setting<'_>) -> u32
         requires set { IsSetting set.now }
-        requires between { Between G.demand set.now self.old.state self.old.trace }
+        requires between { IsBetween set.now G.demand self.old.state }
         requires early { self.old.state.now < set.now.ticks }
-        requires met { IsMetBy G.demand set.now self.old.state }
+        requires met { IsMetBy set.now G.demand self.old.state.now }
         requires current { IsCurrent G.stands set.now.plan.now self.old }
-        ensures between { OnOk result (Between G.demand set.now self.new.state self.new.trace) }
-        ensures later { OnOk result (self.old.state.now < self.new.state.now) }
-        ensures limit { OnOk result (self.new.state.now ≤ set.now.ticks) }
-        ensures current { OnOk result (IsCurrent G.stands set.now.plan.now self.new) }
-        ensures told { Leads L.heard L.balked L.stops G.demand set.now to.old to.new
-            (notes_before self.old.state) (notes_before self.new.state) result }
+        ensures between { IsBetween set.now G.demand self.new.state }
+        ensures later { self.old.state.now < self.new.state.now }
+        ensures limit { self.new.state.now ≤ set.now.ticks }
+        ensures current { IsCurrent G.stands set.now.plan.now self.new }
+        ensures notes { let jobs = demands_of set.now.plan.now set.now.demands.now in
+            notes_before G.demand set.now.plan.now jobs self.new.state.now
+            ≡ notes_before G.demand set.now.plan.now jobs self.old.state.now ++ self.new.trace.notes }
+        ensures entry { result < length set.now.plan.now.machine.points }
     {
-        let force = self.begin(set, to)?;
-        self.walk_span(walk, set, force, to)?;
+        let force = self.begin(set);
+        self.walk_span(walk, set, force);
         let at = Moment {
             plan: set.plan,
             state: &self.state,
             force,
         };
-        self.trace.close(at, to)?;
-        Ok(())
+        self.trace.close(at);
+        force.index
     }
 }

@@ -1,5 +1,5 @@
 // The work of one tick.
-ghost use Rattle.std.specs.Prelude.{◌≡◌, ℕ, ◌-◌, ◌<◌, OnOk, IfOk, IfNone, IfSome, true, length, ◌≤◌};
+ghost use Rattle.std.specs.Prelude.{◌≡◌, ◌-◌, ◌<◌, ◌≤◌, IfSome, length};
 ghost use Rattle.sched_model.specs.Plan.{count};
 ghost use Rattle.sched_model.specs.States.{row_at, CanRun, IsOfPlan};
 ghost use Rattle.event_kernel.specs.Runs.{demands_of, IsListOf};
@@ -7,11 +7,10 @@ ghost use Rattle.event_kernel.specs.Segment.{holder_at};
 ghost use Rattle.agenda.specs.Agenda.{IsFirstUndone};
 ghost use Rattle.event_kernel.specs.Current.{IsCurrent};
 ghost use Rattle.event_kernel.specs.Tickwork.{served};
-ghost use Rattle.event_kernel.specs.Settings.{jobs_of, IsSetting, InSpan, Worked, Leads, notes_in, notes_with};
+ghost use Rattle.event_kernel.specs.Settings.{IsSetting, IsInSpan, HasWorked};
 
-use crate::run::{InForce, Run, Setting};
-use crate::trace::Moment;
-use crate::{Listener, Stopped};
+use crate::progress::{InForce, Progress, Setting};
+use crate::span_trace::Moment;
 use demand_list::Demands;
 use governor::Governor;
 use sched_model::{Admitted, Holder, State};
@@ -34,8 +33,10 @@ pub(crate) fn lacking(set: &Setting<'_>, state: &State, task: u32) -> u64
     requires list { IsListOf set.now.plan.now set.now.demands.now }
     requires rows { length state.now.rows ≡ count set.now.plan.now }
     requires task { task < count set.now.plan.now }
-    requires within { (row_at state.now task).used ≤ jobs_of set.now task (row_at state.now task).job }
-    ensures { result ≡ jobs_of set.now task (row_at state.entry.now task).job - (row_at state.entry.now task).used }
+    requires within { (row_at state.now task).used
+        ≤ demands_of set.now.plan.now set.now.demands.now task (row_at state.now task).job }
+    ensures { result ≡ demands_of set.now.plan.now set.now.demands.now task (row_at state.entry.now task).job
+        - (row_at state.entry.now task).used }
 {
     let row = state.rows[task as usize];
     demand(set.plan, set.demands, task, row.job) - row.used
@@ -52,7 +53,7 @@ pub(crate) fn holder_of(state: &State, first: Option<u32>) -> Holder
     }
 }
 
-impl<G: Governor> Run<G> {
+impl<G: Governor> Progress<G> {
     /// Units of the first task that is not done, at whose end its job is done or not, each announced to the governor.
     pub(crate) fn serve(&mut self, plan: &Admitted, task: u32, units: u64, ends: bool)
         requires of { IsOfPlan plan.now self.old.state }
@@ -73,20 +74,13 @@ impl<G: Governor> Run<G> {
         }
     }
 
-    /// The units of one tick, told where the holder changes; whether a job is complete at its end.
-    pub(crate) fn work<L: Listener>(
-        &mut self,
-        set: &Setting<'_>,
-        force: InForce,
-        to: &mut L,
-    ) -> Result<bool, Stopped>
+    /// The units of one tick; whether a job is complete at its end.
+    pub(crate) fn work(&mut self, set: &Setting<'_>, force: InForce) -> bool
         requires set { IsSetting set.now }
-        requires at { InSpan G.demand set.now force self.old.state self.old.trace }
+        requires at { IsInSpan set.now G.demand force self.old.state.now self.old.state self.old.trace }
         requires current { IsCurrent G.stands set.now.plan.now self.old }
-        ensures worked { IfOk result (Worked G.demand set.now self.old.state self.new.state self.new.trace) }
-        ensures current { OnOk result (IsCurrent G.stands set.now.plan.now self.new) }
-        ensures told { Leads L.heard L.balked L.stops G.demand set.now to.old to.new
-            (notes_in self.old.state) (notes_with self.old.state) result }
+        ensures worked { HasWorked set.now G.demand self.old.state.now self.new.state self.new.trace result }
+        ensures current { IsCurrent G.stands set.now.plan.now self.new }
     {
         let state = &self.state;
         let now = state.now;
@@ -104,7 +98,7 @@ impl<G: Governor> Run<G> {
                 state: &self.state,
                 force,
             };
-            self.trace.enter(at, holder, share, to)?;
+            self.trace.enter(at, holder, share);
             self.serve(set.plan, task, share, share == lacks);
             completed = completed || share == lacks;
             rest -= share;
@@ -115,9 +109,9 @@ impl<G: Governor> Run<G> {
                 state: &self.state,
                 force,
             };
-            self.trace.enter(at, Holder::Nobody, rest, to)?;
+            self.trace.enter(at, Holder::Nobody, rest);
         }
         self.state.advance(now + 1);
-        Ok(completed)
+        completed
     }
 }

@@ -1,14 +1,14 @@
 // The lines of a run's trace that stand around its notes.
-ghost use Rattle.std.specs.Prelude.{◌≡◌, ◌<◌, [], ◌∷◌, length, slice_index};
+ghost use Rattle.std.specs.Prelude.{◌≡◌, ◌<◌, length, slice_index};
 ghost use Rattle.grid_fraction.specs.Numbers.{list_below};
 ghost use Rattle.dvs_base.specs.declared.kind.Version.TheVariants.{Two};
 ghost use Rattle.sched_model.specs.Plan.{count, names, task, period, offset};
 ghost use Rattle.trace_text.specs.TraceLines.{plan_text, name_of};
 ghost use Rattle.trace_reader.specs.VersionLines.{version_line, task_text, share_text};
-ghost use Rattle.event_kernel.specs.Lines.{WritesText, WritesPlain, plain, head_lines, task_lines, sum_lines};
+ghost use Rattle.event_kernel.specs.Lines.{WritesPlain, plain, head_lines, task_lines, sum_lines};
 
-use crate::sums::Sums;
-use dvs_base::{Failed, GovernorKind, Line, Sink, Version};
+use dvs_base::{Failed, GovernorKind, Line, Sink, Version, put_line};
+use energy::Account;
 use sched_model::Admitted;
 use trace_reader::{TaskLine, write_share, write_task, write_version};
 use trace_text::{PlanLine, write_head};
@@ -20,14 +20,6 @@ pub struct Head<'a> {
     pub governor: GovernorKind,
     pub plan: &'a Admitted,
     pub ticks: u64,
-}
-
-/// Puts a line that isn't empty.
-pub(crate) fn put_line<W: Sink>(line: &Line, out: &mut W) -> Result<(), Failed>
-    requires { 0 < length line.now }
-    ensures { WritesText (W.shows out.old) (W.shows out.new) line.now result }
-{
-    out.put(line.as_bytes())
 }
 
 fn line_of_version(version: Version) -> Line
@@ -108,26 +100,30 @@ fn put_tasks<W: Sink>(plan: &Admitted, out: &mut W) -> Result<(), Failed>
 }
 
 // Puts the lines of the tasks' energies.
-fn put_shares<W: Sink>(plan: &Admitted, sums: &Sums, out: &mut W) -> Result<(), Failed>
-    requires { length sums.now.by_task ≡ count plan.now }
+fn put_shares<W: Sink>(plan: &Admitted, account: &Account, out: &mut W) -> Result<(), Failed>
+    requires { length account.now.by_task ≡ count plan.now }
     ensures { WritesPlain (W.shows out.old) (W.shows out.new)
         (list_below (count plan.now) (λ i. plain (share_text (name_of (names plan.now) i)
-        (slice_index sums.now.by_task i)))) result }
+        (slice_index account.now.by_task i)))) result }
 {
     for i in 0..plan.count() {
-        put_line(&line_of_share(plan, i, sums.of_task(i)), out)?;
+        put_line(&line_of_share(plan, i, account.of_task(i)), out)?;
     }
     Ok(())
 }
 
 /// Puts the lines of the tasks' energies where the version has them.
-pub(crate) fn put_sums<W: Sink>(head: Head<'_>, sums: &Sums, out: &mut W) -> Result<(), Failed>
-    requires { length sums.now.by_task ≡ count head.plan.now }
+pub(crate) fn put_sums<W: Sink>(
+    head: Head<'_>,
+    account: &Account,
+    out: &mut W,
+) -> Result<(), Failed>
+    requires { length account.now.by_task ≡ count head.plan.now }
     ensures { WritesPlain (W.shows out.old) (W.shows out.new)
-        (sum_lines head.entry.version head.entry.plan.now sums.now) result }
+        (sum_lines head.entry.version head.entry.plan.now account.now.by_task) result }
 {
     match head.version {
         Version::One => Ok(()),
-        Version::Two => put_shares(head.plan, sums, out),
+        Version::Two => put_shares(head.plan, account, out),
     }
 }

@@ -19,12 +19,15 @@ const NO_MEMORY: u8 = 9;
 // The most bytes of the list of calls.
 const MOST: u64 = 65536;
 
-// What a probe of all tasks counts.
-fn of_all_tasks(what: What) -> Rule {
+// The probe of completions leaves at this tally.
+const MOST_DONES: u64 = 50000;
+
+// What a probe of all tasks counts, and at which tally it leaves, if at any.
+fn of_all_tasks(what: What, limit: Option<u64>) -> Rule {
     Rule {
         what,
         task: None,
-        limit: None,
+        limit,
     }
 }
 
@@ -42,11 +45,13 @@ fn words_of(rt: &impl AllocGlobal, line: &str) -> Result<Vec<String>, AllocError
 fn call(rt: &HostRuntime, line: &str) -> Result<u8, AllocError> {
     let alloc = rt.alloc();
     let words = words_of(rt, line)?;
-    let speeds = CountProbe::new(of_all_tasks(What::Speeds));
-    let units = TableProbe::new(of_all_tasks(What::Units));
+    let speeds = CountProbe::new(of_all_tasks(What::Speeds, None));
+    let units = TableProbe::new(of_all_tasks(What::Units, None));
+    let dones = CountProbe::new(of_all_tasks(What::Dones, Some(MOST_DONES)));
     let mut probes: Vec<Box<dyn Probe>> = Vec::new(alloc);
     probes.push(Box::new(alloc, speeds)?)?;
     probes.push(Box::new(alloc, units)?)?;
+    probes.push(Box::new(alloc, dones)?)?;
     let mut shelf = HostShelf::new(rt);
     let mut out = HostSink::new(rt.stdout());
     let mut notes = HostSink::new(rt.stdout());

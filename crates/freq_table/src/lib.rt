@@ -18,6 +18,7 @@ mod tests {
     use super::*;
     use dvs_base::Short;
     use grid_fraction::Frac;
+    use std::process::Abort;
     use std::test::Fail;
 
     const PAPER_MACHINE: &str =
@@ -151,5 +152,30 @@ mod tests {
             );
         }
         Ok(())
+    }
+
+    // The three points of the example, idle and charge 0.
+    fn is_example(rt: &impl Abort, machine: &Machine) -> Result<(), Fail> {
+        assert_eq!(rt;
+            (machine.idle(), machine.charge(), machine.count()),
+            (0, 0, 3)
+        );
+        for (i, speed, millivolts) in [(0, 2, 3000), (1, 3, 4000), (2, 4, 5000)] {
+            if i < machine.count() {
+                assert_eq!(rt; machine.point(i), Point { speed, millivolts });
+            }
+        }
+        Ok(())
+    }
+
+    #[test]
+    fn the_example_is_read_copied_and_made(rt: HostRuntime) -> Result<(), Fail> {
+        let alloc = rt.alloc();
+        let read = Machine::read(alloc, PAPER_MACHINE.as_bytes()).map_err(|_| "machine")?;
+        is_example(&rt, &read)?;
+        let copy = read.copy(alloc).map_err(|_| "memory")?;
+        is_example(&rt, &copy)?;
+        let made = Machine::of(alloc, 0, 0, read.as_slice()).map_err(|_| "memory")?;
+        is_example(&rt, &made)
     }
 }

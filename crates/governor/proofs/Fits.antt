@@ -1,11 +1,9 @@
 -- The speeds of the two governors pass the scheduler's test, and meet what they publish.
-use Rattle.std.proofs.Common.{◌≡◌, ℕ, ◌*◌, ◌<◌, ◌≤◌, true, sym, ◌∙◌, ap, ap₂, subst, arith}
+use Rattle.std.proofs.Common.{◌≡◌, ℕ, ◌*◌, ◌<◌, ◌≤◌, true, sym, subst, arith}
 use Rattle.std.proofs.Math.Nat.{mul-le-mul_right, le_of_mul-le-mul_right}
 use Rattle.dvs_base.specs.declared.kind.Scheduler.{Scheduler}
 use Rattle.dvs_base.specs.declared.kind.Scheduler.TheVariants.{Edf, Rm}
-use Rattle.grid_fraction.specs.declared.Frac.{Frac}
-use Rattle.freq_table.specs.declared.machine.Pick.{Pick}
-use Rattle.freq_table.specs.Tables.{Table, speed_at, lowest_entry, lowest_pick}
+use Rattle.freq_table.specs.Tables.{speed_at, lowest_entry, lowest_pick}
 use Rattle.freq_table.proofs.Chosen.{below_highest, lowest_within, picked_meets, picked_met}
 use Rattle.sched_model.specs.Plan.{Plan, count, period, hyper, top_speed}
 use Rattle.sched_model.specs.Tests.{IsEdfFeasible, IsRmFeasible, total_rate, level_work}
@@ -57,12 +55,6 @@ met_by : (plan : Plan) (lim : IsWithinLimits plan) (sch : Scheduler) → PassesT
 met_by plan lim sch test = picked_meets plan.machine lim.machine (static_demand_of sch plan) (below_top_by plan lim sch test)
 
 -- a speed that meets the greatest fraction meets each
--- a choice meets its demand where the pick for it does
-pub choice_met : {m n : Table} {d e : Frac} (pick : Pick) → pick ≡ lowest_pick m d → m ≡ n → d ≡ e
-    → (lowest_pick n e).met ≡ true → pick.met ≡ true
-choice_met pick is machine demand met =
-    ap (λ (p : Pick). p.met) is ∙ (ap₂ (λ (t : Table) (f : Frac). (lowest_pick t f).met) machine demand ∙ met)
-
 meets_each : (s p g d F : ℕ) → 0 < d → s * d ≤ g * p → g ≤ F * d → s ≤ F * p
 meets_each s p g d F pos greatest meets =
     let a : g * p ≤ F * d * p = mul-le-mul_right p meets in

@@ -14,22 +14,14 @@ ghost use Rattle.governor.specs.Steps.{IsAtDecision};
 ghost use Rattle.governor.specs.Laws.{GovernorLaws};
 ghost use Rattle.governor.specs.Schedule.{PublishingLaws};
 
+mod choice;
 mod deadline;
 
+pub use choice::{Choice, chosen};
 pub use deadline::earliest_deadline;
 use dvs_base::{GovernorKind, NoMemory};
-use grid_fraction::Frac;
 use sched_model::{Admitted, State};
 use std::alloc::Global;
-
-/// A governor's answer at a decision: the entry of the machine's table, whether its speed meets the demand, and the
-/// published demand in units per tick, not reduced.
-#[derive(Clone, Copy, Debug, PartialEq, Eq)]
-pub struct Choice {
-    pub index: u32,
-    pub met: bool,
-    pub demand: Frac,
-}
 
 /// A rule for the speed. No call takes memory.
 pub trait Governor: Drop {

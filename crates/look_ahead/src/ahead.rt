@@ -13,7 +13,7 @@ ghost use Rattle.look_ahead_laws.proofs.Publishing.{ahead_publishing};
 
 use crate::order::{move_to_place, opening_order};
 use dvs_base::{GovernorKind, NoMemory};
-use governor::{Choice, Governor, Publishing};
+use governor::{Choice, Governor, Publishing, chosen};
 use sched_model::{Admitted, State};
 use std::alloc::Global;
 
@@ -92,13 +92,7 @@ impl Governor for LookAhead {
         ensures spread_demand { IsDemandOfSpread plan.now view.entry.now }
         ensures rates_fit { RatesFit plan.now view.entry.now }
     {
-        let demand = self.demand(plan, view);
-        let pick = plan.machine().lowest(demand);
-        Choice {
-            index: pick.index,
-            met: pick.met,
-            demand,
-        }
+        chosen(plan, self.demand(plan, view))
     }
 }
 

@@ -42,6 +42,16 @@ fn spread(spare: u128, left: u64, slack: u64, hyper: u64) -> Totals
     ensures rates { result.rates ≡ ceil_div ((left - result.first) * hyper) slack }
     ensures within { result.rates ≤ spare }
 {
+    if left == 0 {
+        return Totals { rates: 0, first: 0 };
+    }
+    let asked = u128::from(left) * u128::from(hyper);
+    if asked <= spare * u128::from(slack) {
+        return Totals {
+            rates: up(asked, slack),
+            first: 0,
+        };
+    }
     let room = mul_down(spare, slack, hyper);
     let first = u128::from(left).saturating_sub(room);
     let rates = up((u128::from(left) - first) * u128::from(hyper), slack);

@@ -1,11 +1,11 @@
 -- What a listener that keeps the ends of jobs has heard.
-use Rattle.std.proofs.Common.{◌≡◌, ◌+◌, ◌<◌, ℕ, zero, suc, inl, inr, List, [], ◌∷◌, length, replicate, refl, ap, ap₂, ◌∙◌, sym, subst}
+use Rattle.std.proofs.Common.{◌≡◌, ◌+◌, ◌<◌, ℕ, zero, suc, List, [], ◌∷◌, length, replicate, refl, ap, ap₂, ◌∙◌, sym, subst}
 use Rattle.std.specs.Prelude.{Option, None}
 use Rattle.std.specs.Option.{option_or}
 use Rattle.dvs_base.specs.declared.note.Note.{Note}
 use Rattle.dvs_base.specs.declared.note.Pos.{Pos}
 use Rattle.dvs_base.proofs.Options.{or-none, or-assoc}
-use Rattle.event_kernel.specs.Heard.{HasHeard, HasBalked}
+use Rattle.event_kernel.specs.Heard.{HasHeard}
 use Rattle.poll_server.specs.declared.ends.Ends.{Ends}
 use Rattle.poll_server.specs.Outcomes.{done_in, done_at}
 use Rattle.poll_server.specs.Walking.{Hears, end_at}
@@ -15,13 +15,6 @@ pub none-told : (n k : ℕ) → end_at (replicate {A = Option Pos} n None) k ≡
 none-told zero k = refl
 none-told (suc n) zero = refl
 none-told (suc n) (suc k) = none-told n k
-
--- a listener that never balks heard all notes
-pub never-balked : {L : Type 0} (heard : L → Note → L → Type 0) (from : L) (notes : List Note) (to : L)
-    → HasBalked heard (λ a n b. ⊥) from notes to → ⊥
-never-balked heard from [] to h = h
-never-balked heard from (n ∷ notes) to (inl h) = h
-never-balked heard from (n ∷ notes) to (inr h) = never-balked heard h.0 notes to h.2
 
 -- the ends after a list of notes: the first one of a job stays
 pub record HearsAll (a : Ends) (notes : List Note) (b : Ends) : Type 0 where

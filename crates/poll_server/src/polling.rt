@@ -4,10 +4,6 @@ ghost use Rattle.dvs_base.specs.declared.limits.TheConstants.{MOST_JOBS, MOST_TI
 ghost use Rattle.sched_model.specs.Plan.{count};
 ghost use Rattle.sched_model.specs.Jobs.{released_jobs};
 ghost use Rattle.sched_model.specs.States.{opening};
-ghost use Rattle.sched_model.specs.Totals.{totals_of};
-ghost use Rattle.event_kernel.specs.Heard.{HasHeard};
-ghost use Rattle.event_kernel.specs.Runs.{notes_of_run, MeetsDeadlines};
-ghost use Rattle.poll_server.specs.Walking.{Hears};
 ghost use Rattle.poll_server.specs.Serving.{server_of};
 ghost use Rattle.poll_server.specs.Bound.{HaveJobs, KeepsBound};
 ghost use Rattle.poll_server.specs.Polled.{IsPolled, polled_notes};
@@ -18,8 +14,8 @@ use crate::outcomes::{Jobs, outcomes};
 use crate::server::Server;
 use crate::taking::polled_demands;
 use crate::{PollFault, Served};
-use dvs_base::{MOST_JOBS, Totals};
-use event_kernel::{Kernel, Stopped, count_jobs, jobs_below};
+use dvs_base::MOST_JOBS;
+use event_kernel::{Kernel, count_jobs, jobs_below};
 use governor::Governor;
 use request_list::Requests;
 use sched_model::Admitted;
@@ -78,7 +74,7 @@ pub fn poll<G: Governor>(
     let demands = polled_demands(alloc, &own, jobs)?;
     let mut ends = Ends::of(alloc, server, jobs)?;
     let kernel = Kernel::new(alloc, plan, &demands, governor, ticks)?;
-    let totals = hear(kernel, &mut ends);
+    let totals = kernel.drive(&mut ends).unwrap();
     let list = outcomes(
         alloc,
         &Jobs {
@@ -89,16 +85,4 @@ pub fn poll<G: Governor>(
         },
     )?;
     Ok(Served::of(list, totals))
-}
-
-// Runs the kernel, and keeps where the server's jobs are done.
-fn hear<G: Governor>(kernel: Kernel<'_, G>, ends: &mut Ends) -> Totals
-    ensures totals { result ≡ totals_of (notes_of_run G.demand kernel.entry) }
-    ensures deadlines { MeetsDeadlines G.demand kernel.entry }
-    ensures heard { HasHeard Hears ends.old (notes_of_run G.demand kernel.entry) ends.new }
-{
-    match kernel.drive(ends) {
-        Ok(totals) => totals,
-        Err(Stopped) => unreachable!(),
-    }
 }

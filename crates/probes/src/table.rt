@@ -60,6 +60,9 @@ impl Probe for TableProbe {
             }
             _ => self.others = self.others.saturating_add(more),
         }
-        stay_at(self.rule.limit, self.tally())
+        match self.rule.limit {
+            Some(_) => stay_at(self.rule.limit, self.tally()),
+            None => Stay::Stay,
+        }
     }
 }

@@ -1,13 +1,7 @@
-// Hostile use: loads and puts that fail, and inputs that are cut, broken or too large.
-mod broken_deadlines;
-mod broken_demands;
-mod broken_requests;
-mod broken_tables;
-mod broken_traces;
-mod broken_words;
-mod differences;
+// Hostile use: each load and each put that fails, and inputs that are cut or too large.
+mod cuts;
 mod example;
-mod files;
+mod large;
 mod lengths;
 mod loads;
 mod memory;
@@ -15,4 +9,3 @@ mod notes;
 mod over_files;
 mod probing;
 mod puts;
-mod rows;

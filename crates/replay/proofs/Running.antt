@@ -9,7 +9,7 @@ use Rattle.governor.specs.Schedule.{ask_of}
 use Rattle.event_kernel.specs.Heard.{HasHeard, HasBalked}
 use Rattle.event_kernel.specs.Runs.{Run, demands_of, ticks_of, notes_of_run}
 use Rattle.trace_reader.specs.Traces.{TraceOf, is_end, IsEnded}
-use Rattle.replay_laws.proofs.OneEnd.{EndsOnce, schedule-ended}
+use Rattle.done_lines.proofs.OneEnd.{EndsOnce, schedule-ended}
 use Rattle.replay.proofs.Comparing.{HeardNext, HeardOther, StoppedAt, ended-once, heard-same, balked-first}
 
 -- the run, by a governor's own demand, of a plan within the limits; the trace; and the listener before and after

@@ -1,13 +1,11 @@
 -- What the notes of a schedule tell of the end of a job, and so which demands they fix.
-use Rattle.std.proofs.Common.{◌≡◌, ◌+◌, ◌-◌, ◌*◌, ◌<◌, ◌≤◌, ℕ, zero, suc, Bool, true, false, ◌&&◌, List, [], ◌∷◌, ◌++◌, length, flat_map, refl, if◌then◌else◌, ap, ap₂, ◌∙◌, sym, subst, arith, ◌⊎◌, inl, inr, nat_eq}
+use Rattle.std.proofs.Common.{◌≡◌, ◌+◌, ◌-◌, ◌*◌, ◌<◌, ◌≤◌, ℕ, zero, suc, Bool, true, false, ◌&&◌, List, [], ◌∷◌, length, refl, if◌then◌else◌, ap, ap₂, ◌∙◌, sym, subst, arith, ◌⊎◌, inl, inr, nat_eq}
 use Rattle.std.specs.Prelude.{sum_by, Option, Some, None}
 use Rattle.std.specs.List.{AllByRecursion}
-use Rattle.std.proofs.lemmas.Grind.{flat_map-append}
 use Rattle.std.proofs.lemmas.Bool.Decides.{nat_tests}
 use Rattle.dvs_base.specs.declared.note.Note.{Note}
 use Rattle.dvs_base.specs.declared.note.Note.TheVariants.{Release, Speed, Run, Idle, Done, End}
 use Rattle.grid_fraction.specs.declared.Frac.{Frac}
-use Rattle.grid_fraction.specs.Numbers.{list_below}
 use Rattle.task_model.specs.DemandRows.{named}
 use Rattle.sched_model.specs.declared.holder.Holder.{Holder}
 use Rattle.sched_model.specs.declared.holder.Holder.TheVariants.{Nobody, Held}
@@ -18,12 +16,13 @@ use Rattle.sched_model.specs.Schedule.{IsScheduleBy}
 use Rattle.sched_model.specs.Admission.{IsWithinLimits}
 use Rattle.sched_model.specs.Segments.{Span, Piece, pieces_of, position_of}
 use Rattle.sched_model.specs.Notes.{release_notes, all_release_notes, had_by, segment_notes, pieces_notes, span_notes, energy_run, energy_idle, notes_before_end, notes_of}
+use Rattle.sched_model.proofs.HeldUnits.{each-weaker}
 use Rattle.sched_model.proofs.NoteLemmas.{notes-span}
+use Rattle.sched_model.proofs.BeforeEnd.{each-flat}
 use Rattle.trace_text.proofs.PlainLines.{each-append}
 use Rattle.done_lines.proofs.DoneNotes.{tells_done, times}
 use Rattle.done_lines.proofs.DoneSpans.{IsLastSpan, last-span}
 use Rattle.replay_laws.specs.FixedDemands.{fixed_of}
-use Rattle.replay_laws.proofs.HeldUnits.{each-weaker}
 use Rattle.replay_laws.proofs.SameNotes.{had_in, had-most}
 
 -- where the note tells the end of job k of task i, the job has had so many units as it needs, and they are those
@@ -46,15 +45,6 @@ same-numbers f i j k l e =
     let task : j ≡ i = grind (arith, nat_tests, e) in
     let job : l ≡ k = grind (arith, nat_tests, e) in
     ap₂ f task job
-
--- what holds of the notes of each number below n holds of all
-pub each-flat : (P : Note → Type 0) (n : ℕ) (f : ℕ → List Note) → ((i : ℕ) → i < n → AllByRecursion P (f i))
-    → AllByRecursion P (flat_map f (list_below n (λ i. i)))
-each-flat P zero f h = tt
-each-flat P (suc n) f h =
-    subst (AllByRecursion P) (sym (flat_map-append f (list_below n (λ i. i)) (n ∷ [])))
-    (each-append P (flat_map f (list_below n (λ i. i))) (f n ++ [])
-    (each-flat P n f (λ i lt. h i (omega (arith, lt)))) (each-append P (f n) [] (h n (omega arith)) tt))
 
 -- what notes fix of a job: nothing, where none tells its end, and else its demand, which it has had
 abbrev pub Fixes : Plan → (ℕ → ℕ → ℕ) → ℕ → ℕ → ℕ → Option ℕ → ℕ → Type 0

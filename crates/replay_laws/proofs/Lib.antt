@@ -1,7 +1,6 @@
 pub mod Alike
 pub mod SameState
 pub mod SameCourse
-pub mod HeldUnits
 pub mod SameNotes
 pub mod FixedNotes
 pub mod OwnDemands
@@ -9,4 +8,3 @@ pub mod BlindDemands
 pub mod FitNotes
 pub mod Owning
 pub mod FixedRows
-pub mod OneEnd

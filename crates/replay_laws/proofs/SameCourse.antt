@@ -15,9 +15,10 @@ use Rattle.sched_model.proofs.Service.{share-legal}
 use Rattle.sched_model.proofs.LevelSums.{share-most, sum_where-mono}
 use Rattle.sched_model.proofs.Allotments.{allotment_of}
 use Rattle.sched_model.proofs.GreedyLemmas.{up_to-before}
+use Rattle.sched_model.proofs.HeldUnits.{latest-early}
 use Rattle.replay_laws.specs.OwnList.{Asking}
 use Rattle.replay_laws.proofs.Alike.{Indistinct, Alike, IsBlind, alike-earlier}
-use Rattle.replay_laws.proofs.SameState.{latest-early, same-entry}
+use Rattle.replay_laws.proofs.SameState.{same-entry}
 
 -- the task needs the same by both, or less than it needs was given, and no more than the other need
 abbrev pub NeedsAlike : (need other given : ℕ → ℕ) → ℕ → Type 0

@@ -25,8 +25,8 @@ use Rattle.sched_model.proofs.PieceLemmas.{each-piece}
 use Rattle.done_lines.proofs.DoneSpans.{IsLastSpan, last-span}
 use Rattle.replay_laws.specs.OwnList.{Asking}
 use Rattle.replay_laws.proofs.Alike.{Indistinct, Alike, IsBlind, alike-before, alike-earlier}
-use Rattle.replay_laws.proofs.SameState.{latest-early, same-decision}
-use Rattle.replay_laws.proofs.HeldUnits.{IsHeldBefore, each-weaker, spans-held}
+use Rattle.replay_laws.proofs.SameState.{same-decision}
+use Rattle.sched_model.proofs.HeldUnits.{latest-early, IsHeldBefore, each-weaker, spans-held}
 
 -- both functions give one list for the numbers below n
 flat_map-same : (n : ℕ) (f g : ℕ → List Note) → ((i : ℕ) → i < n → f i ≡ g i) → flat_map f (list_below n (λ i. i)) ≡ flat_map g (list_below n (λ i. i))

@@ -5,23 +5,18 @@ use Rattle.grid_fraction.proofs.Searches.{any_below-same}
 use Rattle.freq_table.specs.Tables.{lowest_entry}
 use Rattle.sched_model.specs.declared.state.Row.{Row}
 use Rattle.sched_model.specs.Plan.{Plan, count, worst}
-use Rattle.sched_model.specs.Jobs.{latest, due, last_release, latest_since, is_release}
+use Rattle.sched_model.specs.Jobs.{latest, due, last_release, is_release}
 use Rattle.sched_model.specs.Ticks.{Tick, at, exec, is_complete, wleft}
 use Rattle.sched_model.specs.Decision.{completes_in, is_decision}
 use Rattle.sched_model.specs.Schedule.{entry_in_force}
 use Rattle.sched_model.specs.States.{StateOf, row_of, state_of}
 use Rattle.sched_model.specs.Admission.{IsWithinLimits}
-use Rattle.sched_model.proofs.Limits.{every_period}
-use Rattle.sched_model.proofs.JobLaws.{latest_since-le, last_release-le}
+use Rattle.sched_model.proofs.HeldUnits.{latest-early}
 use Rattle.sched_model.proofs.Service.{exec-drop}
 use Rattle.sched_model.proofs.Tables.{table-same}
 use Rattle.governor.specs.Schedule.{ask_of}
 use Rattle.replay_laws.specs.OwnList.{Asking}
 use Rattle.replay_laws.proofs.Alike.{Indistinct, Alike, IsBlind, same-done, indistinct-before, alike-before, alike-earlier}
-
--- the latest job was released by now
-pub latest-early : (p : Plan) → IsWithinLimits p → (i t : ℕ) → i < count p → latest_since p i (latest p i t) < suc t
-latest-early p lim i t lt = omega (arith, latest_since-le p i t (every_period p lim i) lt, last_release-le p t)
 
 module _ (p : Plan) (lim : IsWithinLimits p) (dem other : ℕ → ℕ → ℕ) where
   pub same-complete : (past : List Tick) → Alike p dem other past (suc (length past)) → (i : ℕ) → i < count p

@@ -1,23 +1,19 @@
 -- A row that is read is the row of its request, and the row of a request is read.
 use Rattle.std.proofs.Common.{◌≡◌, ℕ, ◌^◌, ◌<◌, ◌≤◌, Bool, true, false, List, [], ◌∷◌, length, Option, Some, None, Result, Ok, Err, refl, ap, ap₂, subst, ◌∙◌, arith, if◌then◌else◌}
-use Rattle.std.specs.Prelude.{◌==◌, ◌||◌, nat_lt, codes, decimal}
-use Rattle.std.specs.Str.{bytes_eq}
-use Rattle.std.proofs.lemmas.Bool.{and_parts}
+use Rattle.std.specs.Prelude.{◌==◌, ◌||◌, nat_lt, ok_or, decimal}
 use Rattle.std.proofs.lemmas.Bool.Decides.{nat_tests}
-use Rattle.std.proofs.lemmas.Slice.Eq.{bytes_eq-Decides}
 use Rattle.std.proofs.lemmas.Option.{some_pair_parts}
 use Rattle.dvs_base.specs.Checks.{and_then}
 use Rattle.dvs_base.specs.Text.{number_below}
-use Rattle.trace_reader.proofs.Spelled.{number_below-decimal, number_below-found}
+use Rattle.dvs_base.proofs.Spelled.{number_below-decimal, number_below-found}
 use Rattle.csv_text.specs.Records.{two_of}
 use Rattle.request_list.specs.declared.limits.TheConstants.{MOST_REQUEST_UNITS}
 use Rattle.request_list.specs.declared.requests.Request.{Request}
-use Rattle.request_list.specs.declared.fault.RequestColumn.{RequestColumn}
 use Rattle.request_list.specs.declared.fault.RequestColumn.TheVariants as column
 use Rattle.request_list.specs.declared.fault.RequestFault.TheVariants as fault
 use Rattle.request_list.specs.Requests.{IsRequest}
-use Rattle.request_list.specs.RequestText.{header, row_fields}
-use Rattle.request_list.specs.RequestFile.{fields_from, number_from, units_from, in_order, row_of, is_header}
+use Rattle.request_list.specs.RequestText.{row_fields}
+use Rattle.request_list.specs.RequestFile.{units_from, in_order, row_of}
 
 -- the value of a step that was not refused
 pub step-ok : {A B F : Type 0} (r : Result A F) (f : A → Result B F) (y : B) → and_then r f ≡ Ok y → (x : A) × (r ≡ Ok x) × (f x ≡ Ok y)
@@ -30,13 +26,9 @@ two-is (x ∷ []) a b e = absurd cc
 two-is (x ∷ y ∷ []) a b e = let p = some_pair_parts x a y b e in ap₂ (λ p q. p ∷ q ∷ []) p.0 p.1
 two-is (x ∷ y ∷ z ∷ fs) a b e = absurd cc
 
-fields-ok : (row count : ℕ) (o : Option (List ℕ × List ℕ)) (two : List ℕ × List ℕ) → fields_from row count o ≡ Ok two → o ≡ Some two
-fields-ok row count None two e = absurd cc
-fields-ok row count (Some p) two e = let same : p ≡ two = cc in ap Some same
-
-number-ok : (row : ℕ) (at : RequestColumn) (o : Option ℕ) (n : ℕ) → number_from row at o ≡ Ok n → o ≡ Some n
-number-ok row at None n e = absurd cc
-number-ok row at (Some m) n e = let same : m ≡ n = cc in ap Some same
+pub found-ok : {A F : Type 0} (o : Option A) (e : F) (x : A) → ok_or o e ≡ Ok x → o ≡ Some x
+found-ok None e x h = absurd cc
+found-ok (Some y) e x h = let same : y ≡ x = cc in ap Some same
 
 -- units that pass their check are as they were, and within the limits
 units-ok : (row n u : ℕ) → units_from row n ≡ Ok u → (n ≡ u) × (1 ≤ n) × (n ≤ MOST_REQUEST_UNITS)
@@ -73,14 +65,14 @@ pub record IsRowOf (earlier : ℕ) (r : Request) (fields : List (List ℕ)) : Ty
 
 pub row-found : (row earlier : ℕ) (fields : List (List ℕ)) (r : Request) → row_of row earlier fields ≡ Ok r → IsRowOf earlier r fields
 row-found row earlier fields r e =
-    let a = step-ok (fields_from row (length fields) (two_of fields)) _ r e in
-    let b = step-ok (number_from row column.Arrival (number_below (2 ^ 64) a.0.0)) _ r a.2 in
-    let c = step-ok (number_from row column.Units (number_below (2 ^ 64) a.0.1)) _ r b.2 in
+    let a = step-ok (ok_or (two_of fields) (fault.Fields row (length fields))) _ r e in
+    let b = step-ok (ok_or (number_below (2 ^ 64) a.0.0) (fault.BadNumber row column.Arrival)) _ r a.2 in
+    let c = step-ok (ok_or (number_below (2 ^ 64) a.0.1) (fault.BadNumber row column.Units)) _ r b.2 in
     let d = step-ok (units_from row c.0) _ r c.2 in
     let f = step-ok (in_order row earlier b.0) _ r d.2 in
-    let two = two-is fields a.0.0 a.0.1 (fields-ok row (length fields) (two_of fields) a.0 a.1) in
-    let arrival = number_below-found (2 ^ 64) a.0.0 b.0 (omega arith) (number-ok row column.Arrival (number_below (2 ^ 64) a.0.0) b.0 b.1) in
-    let units = number_below-found (2 ^ 64) a.0.1 c.0 (omega arith) (number-ok row column.Units (number_below (2 ^ 64) a.0.1) c.0 c.1) in
+    let two = two-is fields a.0.0 a.0.1 (found-ok (two_of fields) _ a.0 a.1) in
+    let arrival = number_below-found (2 ^ 64) a.0.0 b.0 (omega arith) (found-ok (number_below (2 ^ 64) a.0.0) _ b.0 b.1) in
+    let units = number_below-found (2 ^ 64) a.0.1 c.0 (omega arith) (found-ok (number_below (2 ^ 64) a.0.1) _ c.0 c.1) in
     let checked = units-ok row c.0 d.0 d.1 in
     let ordered = order-ok row earlier b.0 f.0 f.1 in
     let is : (record { arrival = f.0; units = d.0 }) ≡ r = cc in
@@ -100,12 +92,3 @@ row-read row earlier r later fits within =
       units-pass row r.units within.some within.low,
       order-passes row earlier r.arrival later,
     ) refl
-
--- the one header
-pub header-is : (fs : List (List ℕ)) → is_header fs ≡ true → fs ≡ header
-header-is [] h = absurd cc
-header-is (a ∷ []) h = absurd cc
-header-is (a ∷ b ∷ []) h =
-    let p = and_parts (bytes_eq a (codes "arrival")) (bytes_eq b (codes "units")) h in
-    ap₂ (λ x y. x ∷ y ∷ []) ((bytes_eq-Decides a (codes "arrival")).0 p.0) ((bytes_eq-Decides b (codes "units")).0 p.1)
-header-is (a ∷ b ∷ c ∷ fs) h = absurd cc

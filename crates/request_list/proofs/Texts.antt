@@ -1,18 +1,20 @@
 -- What is read from a text is what it is a text of, and a text of requests is read.
 use Rattle.std.proofs.Common.{◌≡◌, ℕ, zero, suc, ◌+◌, ◌^◌, ◌<◌, ◌≤◌, Bool, true, false, List, [], ◌∷◌, ◌++◌, length, map, Result, Ok, Err, refl, sym, ap, ap₂, subst, ◌∙◌, append_assoc, arith, if◌then◌else◌}
-use Rattle.std.specs.Prelude.{nat_lt, IfOk}
+use Rattle.std.specs.Prelude.{nat_lt, ok_or, IfOk}
 use Rattle.std.proofs.lemmas.Bool.Decides.{nat_tests}
 use Rattle.std.proofs.lemmas.List.{append-nil, length-map}
 use Rattle.csv.specs.Reading.{default_config, records, strip_bom}
+use Rattle.csv_text.specs.Rows.{text_rows}
+use Rattle.csv_text.proofs.Rows.{rows_after-Some}
 use Rattle.dvs_base.specs.Checks.{IsUnlessMemory}
 use Rattle.request_list.specs.declared.limits.TheConstants.{MOST_REQUESTS}
 use Rattle.request_list.specs.declared.requests.Request.{Request}
 use Rattle.request_list.specs.declared.fault.RequestFault.{RequestFault}
 use Rattle.request_list.specs.declared.fault.RequestFault.TheVariants as fault
 use Rattle.request_list.specs.Requests.{IsRequest, AreRequests, request_at}
-use Rattle.request_list.specs.RequestText.{header, row_fields, IsTextOf}
-use Rattle.request_list.specs.RequestFile.{row_of, requests_from, is_header, after_header, few_rows, rows_in, request_file}
-use Rattle.request_list.proofs.Rows.{step-ok, row-found, row-read, header-is}
+use Rattle.request_list.specs.RequestText.{row_fields, IsTextOf}
+use Rattle.request_list.specs.RequestFile.{row_of, requests_from, header, few_rows, rows_in, request_file}
+use Rattle.request_list.proofs.Rows.{step-ok, found-ok, row-found, row-read}
 
 -- requests within the limits, in order from the tick `earlier` on
 abbrev IsFrom : ℕ → List Request → Type 0
@@ -72,14 +74,6 @@ in-order-from (r ∷ rs) earlier later each ordered fits = (
       (λ m lt. fits (suc m) (omega arith)),
 )
 
-after_header-ok : (all rows : List (List (List ℕ))) → after_header all ≡ Ok rows → all ≡ header ∷ rows
-after_header-ok [] rows e = absurd cc
-after_header-ok (first ∷ rest) rows e = by (is_header first) refl e
-  where
-    by : (p : Bool) → is_header first ≡ p → (if p then Ok rest else Err fault.Header) ≡ Ok rows → first ∷ rest ≡ header ∷ rows
-    by true h e = let same : rest ≡ rows = cc in ap₂ (λ f fs. f ∷ fs) (header-is first h) same
-    by false h e = absurd cc
-
 few_rows-ok : (all rows : List (List (List ℕ))) → few_rows all ≡ Ok rows → all ≡ rows
 few_rows-ok all rows e = by (nat_lt MOST_REQUESTS (length all)) e
   where
@@ -94,8 +88,8 @@ few-read rows few = let a : nat_lt MOST_REQUESTS (length rows) ≡ false = grind
 found : (requests : List Request) (bytes : List ℕ) → AreRequests requests → request_file bytes ≡ Ok requests → IsTextOf requests bytes
 found requests bytes are e =
     let a = step-ok (rows_in bytes) (requests_from 1 0 []) requests e in
-    let b = step-ok (after_header (records default_config (strip_bom bytes))) few_rows a.0 a.1 in
-    let rows = after_header-ok (records default_config (strip_bom bytes)) b.0 b.1 in
+    let b = step-ok (ok_or (text_rows header bytes) fault.Header) few_rows a.0 a.1 in
+    let rows = rows_after-Some header (records default_config (strip_bom bytes)) b.0 (found-ok (text_rows header bytes) fault.Header b.0 b.1) in
     let same = few_rows-ok b.0 a.0 b.2 in
     let read = rows-found a.0 1 0 [] requests a.2 in
     record {

@@ -1,3 +1,3 @@
 pub mod Requests
-pub mod RequestText
 pub mod RequestFile
+pub mod RequestText

@@ -1,27 +1,15 @@
 -- What a request file means: the requests, or the first refusal.
-use Rattle.std.specs.Prelude.{ℕ, ◌+◌, ◌==◌, ◌&&◌, ◌||◌, ◌++◌, Bool, false, nat_lt, List, [], ◌∷◌, length, codes, Option, Some, None, Result, Ok, Err, if◌then◌else◌}
-use Rattle.std.specs.Str.{bytes_eq}
+use Rattle.std.specs.Prelude.{ℕ, ◌+◌, ◌==◌, ◌||◌, ◌++◌, nat_lt, List, [], ◌∷◌, length, codes, ok_or, Result, Ok, Err, if◌then◌else◌}
 use Rattle.dvs_base.specs.Widths.{u64_end}
 use Rattle.dvs_base.specs.Checks.{and_then}
 use Rattle.dvs_base.specs.Text.{number_below}
-use Rattle.csv.specs.Reading.{default_config, records, strip_bom}
 use Rattle.csv_text.specs.Records.{two_of}
+use Rattle.csv_text.specs.Rows.{text_rows}
 use Rattle.request_list.specs.declared.limits.TheConstants.{MOST_REQUESTS, MOST_REQUEST_UNITS}
 use Rattle.request_list.specs.declared.requests.Request.{Request}
-use Rattle.request_list.specs.declared.fault.RequestColumn.{RequestColumn}
 use Rattle.request_list.specs.declared.fault.RequestColumn.TheVariants as column
 use Rattle.request_list.specs.declared.fault.RequestFault.{RequestFault}
 use Rattle.request_list.specs.declared.fault.RequestFault.TheVariants as fault
-
--- the check of the number of fields
-abbrev pub fields_from : ℕ → ℕ → Option (List ℕ × List ℕ) → Result (List ℕ × List ℕ) RequestFault
-fields_from row count None = Err (fault.Fields row count)
-fields_from row count (Some two) = Ok two
-
--- the check of a number
-abbrev pub number_from : ℕ → RequestColumn → Option ℕ → Result ℕ RequestFault
-number_from row at None = Err (fault.BadNumber row at)
-number_from row at (Some n) = Ok n
 
 -- the check of the units against their limits
 abbrev pub units_from : ℕ → ℕ → Result ℕ RequestFault
@@ -34,9 +22,9 @@ in_order row earlier arrival = if nat_lt arrival earlier then Err (fault.Early r
 -- a row, where the row before it arrives at `earlier`
 abbrev pub row_of : ℕ → ℕ → List (List ℕ) → Result Request RequestFault
 row_of row earlier fields =
-    and_then (fields_from row (length fields) (two_of fields)) (λ two.
-    and_then (number_from row column.Arrival (number_below u64_end two.0)) (λ arrival.
-    and_then (number_from row column.Units (number_below u64_end two.1)) (λ number.
+    and_then (ok_or (two_of fields) (fault.Fields row (length fields))) (λ two.
+    and_then (ok_or (number_below u64_end two.0) (fault.BadNumber row column.Arrival)) (λ arrival.
+    and_then (ok_or (number_below u64_end two.1) (fault.BadNumber row column.Units)) (λ number.
     and_then (units_from row number) (λ units.
     and_then (in_order row earlier arrival) (λ arrival. Ok (record { arrival = arrival; units = units }))))))
 
@@ -46,15 +34,9 @@ requests_from row earlier requests [] = Ok requests
 requests_from row earlier requests (fields ∷ rest) =
     and_then (row_of row earlier fields) (λ r. requests_from (row + 1) r.arrival (requests ++ (r ∷ [])) rest)
 
--- the first record's two fields are these words
-abbrev pub is_header : List (List ℕ) → Bool
-is_header (a ∷ b ∷ []) = bytes_eq a (codes "arrival") && bytes_eq b (codes "units")
-is_header _ = false
-
--- the records after the header
-abbrev pub after_header : List (List (List ℕ)) → Result (List (List (List ℕ))) RequestFault
-after_header [] = Err fault.Header
-after_header (header ∷ rows) = if is_header header then Ok rows else Err fault.Header
+-- the fields of the header
+abbrev pub header : List (List ℕ)
+header = codes "arrival" ∷ codes "units" ∷ []
 
 -- the check of the number of rows
 abbrev pub few_rows : List (List (List ℕ)) → Result (List (List (List ℕ))) RequestFault
@@ -62,7 +44,7 @@ few_rows rows = if nat_lt MOST_REQUESTS (length rows) then Err (fault.TooMany (l
 
 -- the rows of a file: after the header, and no more than the limit
 abbrev pub rows_in : List ℕ → Result (List (List (List ℕ))) RequestFault
-rows_in bytes = and_then (after_header (records default_config (strip_bom bytes))) few_rows
+rows_in bytes = and_then (ok_or (text_rows header bytes) fault.Header) few_rows
 
 -- what the bytes of a request file mean; rows count from 1
 abbrev pub request_file : List ℕ → Result (List Request) RequestFault

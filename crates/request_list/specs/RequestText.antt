@@ -1,14 +1,11 @@
 -- The text of a list of requests.
-use Rattle.std.specs.Prelude.{◌≡◌, ℕ, ◌<◌, List, [], ◌∷◌, length, map, codes}
+use Rattle.std.specs.Prelude.{◌≡◌, ℕ, ◌<◌, List, [], ◌∷◌, length, map}
 use Rattle.std.specs.Fmt.{decimal}
 use Rattle.dvs_base.specs.Widths.{u64_end}
 use Rattle.csv.specs.Reading.{default_config, records, strip_bom}
 use Rattle.request_list.specs.declared.requests.Request.{Request}
 use Rattle.request_list.specs.Requests.{AreRequests, request_at}
-
--- the fields of the header
-abbrev pub header : List (List ℕ)
-header = codes "arrival" ∷ codes "units" ∷ []
+use Rattle.request_list.specs.RequestFile.{header}
 
 -- the fields of a request's row, in decimal
 abbrev pub row_fields : Request → List (List ℕ)

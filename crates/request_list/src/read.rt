@@ -1,43 +1,23 @@
 // Request files.
-ghost use Rattle.std.specs.Prelude.{List, codes, ◌≡◌, ◌≤◌, ◌<◌, [], Ok, length, IfOk, IfErr};
+ghost use Rattle.std.specs.Prelude.{List, codes, ◌≡◌, ◌≤◌, ◌<◌, [], Ok, length, ok_or, IfOk, IfErr};
 ghost use Rattle.dvs_base.specs.Widths.{u64_end};
-ghost use Rattle.csv.specs.Reading.{default_config, records, strip_bom};
 ghost use Rattle.csv.specs.Records.{fields_of};
 ghost use Rattle.csv_text.specs.Records.{IsPlain, records_left};
+ghost use Rattle.csv_text.specs.Rows.{text_rows};
 ghost use Rattle.dvs_base.specs.Checks.{IsUnlessMemory};
-ghost use Rattle.dvs_base.specs.Text.{number_below};
 ghost use Rattle.request_list.specs.declared.limits.TheConstants.{MOST_REQUESTS};
 ghost use Rattle.request_list.specs.declared.fault.RequestFault.TheVariants as fault;
 ghost use Rattle.request_list.specs.Requests.{IsRequest, AreRequests};
 ghost use Rattle.request_list.specs.declared.requests.Request.{Request};
 ghost use Rattle.request_list.specs.RequestText.{IsTextOf};
-ghost use Rattle.request_list.specs.RequestFile.{is_header, number_from, row_of, requests_from, after_header, request_file};
+ghost use Rattle.request_list.specs.RequestFile.{row_of, requests_from, header, request_file};
 
 use crate::limits::{MOST_REQUEST_UNITS, MOST_REQUESTS};
 use crate::{Request, RequestColumn, RequestFault, Requests};
 use csv::{ByteRecord, Reader};
-use csv_text::{next_record, text_reader, two_fields};
+use csv_text::{next_record, rows_reader, two_fields};
 use dvs_base::whole;
 use std::alloc::Global;
-
-fn is_header(fields: &ByteRecord) -> bool
-    ensures { result ≡ is_header (fields_of fields.now) }
-{
-    match two_fields(fields) {
-        Some((a, b)) => a == b"arrival".as_slice() && b == b"units".as_slice(),
-        None => false,
-    }
-}
-
-// A number of a row.
-fn number_in(row: u64, column: RequestColumn, field: &[u8]) -> Result<u64, RequestFault>
-    ensures { result ≡ number_from row column (number_below u64_end field.now) }
-{
-    match whole(field) {
-        Some(number) => Ok(number),
-        None => Err(RequestFault::BadNumber { row, column }),
-    }
-}
 
 // A row, where the row before it arrives at `earlier`.
 fn read_row(row: u64, earlier: u64, fields: &ByteRecord) -> Result<Request, RequestFault>
@@ -45,17 +25,16 @@ fn read_row(row: u64, earlier: u64, fields: &ByteRecord) -> Result<Request, Requ
     ensures limits { IfOk result (λ r. IsRequest r) }
     ensures order { IfOk result (λ r. earlier ≤ r.arrival) }
 {
-    let (arrival, units) = match two_fields(fields) {
-        Some(two) => two,
-        None => {
-            return Err(RequestFault::Fields {
-                row,
-                count: fields.len() as u64,
-            });
-        }
-    };
-    let arrival = number_in(row, RequestColumn::Arrival, arrival)?;
-    let units = number_in(row, RequestColumn::Units, units)?;
+    let count = fields.len() as u64;
+    let (arrival, units) = two_fields(fields).ok_or(RequestFault::Fields { row, count })?;
+    let arrival = whole(arrival).ok_or(RequestFault::BadNumber {
+        row,
+        column: RequestColumn::Arrival,
+    })?;
+    let units = whole(units).ok_or(RequestFault::BadNumber {
+        row,
+        column: RequestColumn::Units,
+    })?;
     if units == 0 || units > MOST_REQUEST_UNITS {
         return Err(RequestFault::Range { row });
     }
@@ -66,21 +45,18 @@ fn read_row(row: u64, earlier: u64, fields: &ByteRecord) -> Result<Request, Requ
 }
 
 // A reader of the rows of a file, after its header.
-fn rows_reader<'a>(
+fn request_rows<'a>(
     alloc: Global,
     bytes: &'a [u8],
     fields: &mut ByteRecord,
 ) -> Result<Reader<&'a [u8]>, RequestFault>
     ensures rows { IsUnlessMemory RequestFault.NoMemory (λ reader. records_left reader) result
-        (after_header (records default_config (strip_bom bytes.now))) }
+        (ok_or (text_rows header bytes.now) RequestFault.Header) }
     ensures plain { IfOk result (λ reader. IsPlain reader) }
     ensures few { IfOk result (λ reader. length (records_left reader) ≤ length bytes.now) }
 {
-    let mut reader = text_reader(alloc, bytes)?;
-    if next_record(&mut reader, fields)? && is_header(fields) {
-        return Ok(reader);
-    }
-    Err(RequestFault::Header)
+    let rows = rows_reader(alloc, bytes, &["arrival", "units"], fields)?;
+    rows.ok_or(RequestFault::Header)
 }
 
 // How many rows a reader has left.
@@ -129,11 +105,11 @@ fn read_requests(alloc: Global, bytes: &[u8]) -> Result<Requests, RequestFault>
     ensures limits { IfOk result (λ requests. AreRequests requests) }
 {
     let mut fields = ByteRecord::new(alloc);
-    let count = count_rows(&mut rows_reader(alloc, bytes, &mut fields)?, &mut fields)?;
+    let count = count_rows(&mut request_rows(alloc, bytes, &mut fields)?, &mut fields)?;
     if count > MOST_REQUESTS {
         return Err(RequestFault::TooMany { count });
     }
-    let mut reader = rows_reader(alloc, bytes, &mut fields)?;
+    let mut reader = request_rows(alloc, bytes, &mut fields)?;
     let requests = read_rows(alloc, &mut reader, &mut fields)?;
     Ok(Requests { requests })
 }

@@ -7,8 +7,8 @@ use Rattle.sched_model.specs.Plan.{Plan, count, period, offset}
 use Rattle.sched_model.specs.Admission.{IsWithinLimits}
 use Rattle.sched_model.proofs.Limits.{some_period}
 use Rattle.sched_model.proofs.Tables.{get-table}
-use Rattle.offsets.specs.Offsets.{NoneOffset, IsFirstOffset}
-use Rattle.offsets.proofs.Finding.{none-found, first-found}
+use Rattle.task_model.specs.Offsets.{NoneOffset, IsFirstOffset}
+use Rattle.task_model.proofs.Finding.{none-found, first-found}
 use Rattle.rm_response_laws.specs.Responses.{response, AllRespond}
 use Rattle.rm_response_laws.specs.FirstJobs.{IsFirstDoneAt}
 use Rattle.rm_response_laws.proofs.Searching.{before-response}

@@ -1,3 +1,4 @@
 pub mod FirstLate
 pub mod FirstInOrder
 pub mod Answering
+pub mod Beside

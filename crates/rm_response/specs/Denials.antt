@@ -1,7 +1,7 @@
 -- What the answers of exact admission under RM say.
 use Rattle.std.specs.Prelude.{◌≡◌, ⊤, ℕ, ◌*◌, ◌<◌, false, List, Option, Some, None, Result, Ok, Err, slice_index}
 use Rattle.grid_fraction.specs.Numbers.{list_below}
-use Rattle.offsets.specs.Offsets.{NoneOffset, IsFirstOffset, first_offset}
+use Rattle.task_model.specs.Offsets.{NoneOffset, IsFirstOffset, first_offset}
 use Rattle.sched_model.specs.Plan.{Plan, count, period, offset, top_speed}
 use Rattle.governor.specs.Rm.{level_work_in}
 use Rattle.rm_response_laws.specs.Responses.{response}

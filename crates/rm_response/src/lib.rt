@@ -6,6 +6,8 @@
 //! `Misses` exactly where some task has no response, with the first such in RM order and the two numbers that show it.
 #![tactic(auto)]
 
+mod bound;
+mod iteration;
 mod late;
 mod response;
 #[cfg(test)]

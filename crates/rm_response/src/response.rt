@@ -4,17 +4,17 @@ ghost use Rattle.grid_fraction.specs.Numbers.{list_below};
 ghost use Rattle.dvs_base.specs.Checks.{IsUnlessMemory};
 ghost use Rattle.dvs_base.specs.declared.kind.Scheduler.TheVariants.{Rm};
 ghost use Rattle.task_model.specs.Tasks.{task_at};
-ghost use Rattle.offsets.specs.Offsets.{NoneOffset};
+ghost use Rattle.task_model.specs.Offsets.{NoneOffset};
 ghost use Rattle.sched_model.specs.Plan.{plan_of, count};
 ghost use Rattle.rm_response_laws.specs.Responses.{response, AllRespond};
 ghost use Rattle.rm_response_laws.specs.FirstJobs.{AlwaysMeets};
 ghost use Rattle.rm_response.specs.Denials.{responses, AreLeast, misses_at, IsResponseDenial, IsMissed, IsShownMiss, exact_answer};
 
+use crate::iteration::{longest_before, response_of};
 use crate::late::first_late;
-use crate::work::{level_work_in, response_of};
+use crate::work::level_work_in;
 use dvs_base::NoMemory;
 use freq_table::Machine;
-use offsets::first_offset;
 use std::alloc::Global;
 use std::marker::Model;
 use task_model::TaskSet;
@@ -66,7 +66,8 @@ fn responses_of(alloc: Global, tasks: &TaskSet, machine: &Machine) -> Result<Vec
 {
     let mut list = Vec::new(alloc);
     for i in 0..tasks.count() {
-        list.push(response_of(tasks, machine, i))
+        let from = longest_before(tasks, &list, i);
+        list.push(response_of(tasks, machine, from, i))
             .map_err(|_| NoMemory)?;
     }
     Ok(list)
@@ -108,7 +109,7 @@ pub fn rm_response(
 {
     let _tasks = tasks.as_slice();
     let _entries = machine.as_slice();
-    if let Some(task) = first_offset(tasks) {
+    if let Some(task) = tasks.first_offset() {
         return Err(ResponseFault::Offset { task });
     }
     let Ok(ticks) = responses_of(alloc, tasks, machine) else {

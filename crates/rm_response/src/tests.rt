@@ -13,6 +13,10 @@ const TWO: &str = "point = [{speed = 1, millivolts = 500}, {speed = 2, millivolt
 
 const FOUR: &str = "point = [{speed = 2, millivolts = 3000}, {speed = 4, millivolts = 5000}]";
 
+const FAST: &str = "point = [{speed = 1000000, millivolts = 1000}]";
+
+const THOUSAND: &str = "point = [{speed = 1000, millivolts = 1000}]";
+
 const CHARGED: &str = "charge = 1\npoint = [{speed = 1, millivolts = 1000}]";
 
 // Tasks on a machine, as the text of both files, and what is expected of them.
@@ -81,6 +85,27 @@ const RESPONSES: &[Case] = &[
 ]"#,
         machine: ONE,
         responses: &[250000000000, 500000000000],
+    },
+    // the first task leaves one unit of each 100 ticks, in the last of them; so the 5000000000 units of the second one
+    // take as many times 100 ticks
+    Case {
+        tasks: r#"task = [
+    {name = "a", period = 100, worst = 99999999},
+    {name = "b", period = 1099511627700, worst = 5000000000},
+]"#,
+        machine: FAST,
+        responses: &[100, 500000000000],
+    },
+    // "a" leaves one unit of each 10 ticks, so the 50000 units of "b" take 500000 ticks; "a" and "b" together leave
+    // 50000 units of each 1000000 ticks, in the second half of them, so the 1000000 units of "c" take 20 times as many
+    Case {
+        tasks: r#"task = [
+    {name = "c", period = 1000000000000, worst = 1000000},
+    {name = "b", period = 1000000, worst = 50000},
+    {name = "a", period = 10, worst = 9999},
+]"#,
+        machine: THOUSAND,
+        responses: &[20000000, 500000, 10],
     },
 ];
 
@@ -155,6 +180,17 @@ fn the_first_task_without_a_response_is_named(rt: HostRuntime) -> Result<(), Fai
             1,
             5,
             4,
+        ),
+        // the first task takes each tick whole: in one period of the second one 10995116277 times 100000000 units
+        (
+            r#"task = [
+    {name = "a", period = 100, worst = 100000000},
+    {name = "b", period = 1099511627700, worst = 1},
+]"#,
+            FAST,
+            1,
+            1099511627700000001,
+            1099511627700000000,
         ),
     ] {
         let found = answer(rt.alloc(), tasks, machine)?.err();

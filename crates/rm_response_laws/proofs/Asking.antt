@@ -7,7 +7,7 @@ use Rattle.grid_fraction.specs.declared.Frac.{Frac}
 use Rattle.grid_fraction.specs.Numbers.{sum_where, ceil_div}
 use Rattle.grid_fraction.proofs.Sums.{sum_below-same}
 use Rattle.grid_fraction.proofs.Ceilings.{ceil-at}
-use Rattle.offsets.specs.Offsets.{NoneOffset}
+use Rattle.task_model.specs.Offsets.{NoneOffset}
 use Rattle.sched_model.specs.Plan.{Plan, count, period, offset, worst}
 use Rattle.sched_model.specs.Jobs.{due}
 use Rattle.sched_model.specs.Ticks.{Tick}

@@ -7,7 +7,7 @@ use Rattle.dvs_base.specs.declared.kind.Scheduler.TheVariants.{Rm}
 use Rattle.grid_fraction.specs.declared.Frac.{Frac}
 use Rattle.grid_fraction.specs.Numbers.{sum_where, ceil_div}
 use Rattle.grid_fraction.proofs.Ceilings.{ceil-at}
-use Rattle.offsets.specs.Offsets.{NoneOffset}
+use Rattle.task_model.specs.Offsets.{NoneOffset}
 use Rattle.sched_model.specs.Plan.{Plan, count, period, offset, worst, top_speed}
 use Rattle.sched_model.specs.Jobs.{due, latest}
 use Rattle.sched_model.specs.Ticks.{Tick, exec}

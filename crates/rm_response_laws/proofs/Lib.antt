@@ -6,4 +6,5 @@ pub mod Asking
 pub mod Firsts
 pub mod Responding
 pub mod Iterating
+pub mod Bounding
 mod Examples

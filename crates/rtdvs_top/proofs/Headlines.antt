@@ -16,10 +16,12 @@ use Rattle.words.specs.Commands.{RunOf, CommandOf, run, response}
 use Rattle.rtdvs_top.specs.Answer.{tasks_at, machine_at, demands_at, admission, within_jobs, prepared_of, answer_of_prepared, run_after_tasks}
 use Rattle.rtdvs_top.specs.CommandAnswer.{answer_of_command}
 use Rattle.rtdvs_top.specs.Promises.{Means, DoneRun, DeniedPlan, OfRun, OfTests, RunsOrIsDenied, Answers, Headline}
-use Rattle.rtdvs_top.specs.Ending.{EndsAs, MetIn, HasMet, run_with}
+use Rattle.rtdvs_top.specs.Asked.{IsReadyRun}
+use Rattle.rtdvs_top.specs.Ending.{EndsAs, MetIn, run_with}
 use Rattle.rtdvs_top.specs.declared.status.Denied.{Denied}
 use Rattle.rtdvs_top.specs.declared.status.Status.{Status}
 use Rattle.rtdvs_top.specs.declared.status.Status.TheVariants as status
+use Rattle.rtdvs_top.proofs.EachPair.{has-met}
 use Rattle.rtdvs_top.proofs.Responses.{responds-or-is-denied}
 use Rattle.rtdvs_top.proofs.Denying.{status_of, is_given, given-once, within-few, denied-later, denied-first, given-both, tasks_at-denies-not, machine_at-denies-not, demands_at-denies-not, within-denies-not, admission-is, admission-same, denied-plan}
 
@@ -80,17 +82,18 @@ done-text r files tasks p d bytes t q e =
 done-run : (r : RunOf) (files : Files) (old new : SinkView) (tasks : List Task) (p : Plan) (d : DemandsOf) (bytes : List ℕ)
     → tasks_at r.tasks files ≡ Ok tasks → prepared_of r tasks files ≡ Ok (p, d)
     → answer_of_command (run r) files ≡ Ok bytes
-    → Appends old.written new.written bytes → HasMet r.version r.governor (run_with r p d)
+    → Appends old.written new.written bytes → IsReadyRun r.governor (run_with r p d)
     → OfRun (Some files) (Ok (run r)) old new status.Done
-done-run r files old new tasks p d bytes t q e wrote met =
+done-run r files old new tasks p d bytes t q e wrote ready =
     let m = prepared-means r files tasks p d t q in
     let whole = done-text r files tasks p d bytes t q e in
+    let met = has-met r.version p d r.ticks r.governor ready in
     let done : DoneRun r.version r.governor (run_with r p d) old new = record { text = subst (Appends old.written new.written) whole wrote; run = met } in
     let P : Plan → DemandsOf → Type 0 = λ x y. (prepared_of r tasks files ≡ Ok (x, y)) × DoneRun r.version r.governor (run_with r x y) old new in
     let whole_run = subst (λ (x : Plan). P x m.1) m.3 (subst (λ (y : DemandsOf). P p y) m.4 (q, done)) in
     (tasks, m.0, m.1, m.2, whole_run.0, whole_run.1)
 
--- the run of told files, from how its answer ends and what it met
+-- the run of told files, from how its answer ends and of what it was
 pub of-run : (told : Option Files) (c : CommandOf) (s : Status) (old new : SinkView)
     → EndsAs old new told (answer_of_command c) s → MetIn told c s → OfRun told (Ok c) old new s
 of-run (Some files) (run r) status.Done old new ends met =

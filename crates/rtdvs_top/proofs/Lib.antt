@@ -7,6 +7,7 @@ pub mod NumberedPuts
 pub mod ProbePuts
 pub mod Noting
 pub mod Published
+pub mod EachPair
 pub mod Picks
 pub mod Denying
 pub mod Responses

@@ -17,7 +17,7 @@ use Rattle.done_lines.specs.RunText.{task_texts, run_text_in}
 use Rattle.trace_reader.specs.Traces.{TraceOf, is_end, IsEnded}
 use Rattle.trace_reader.specs.TraceText.{whole_text}
 use Rattle.replay_laws.specs.FixedDemands.{fixed_of}
-use Rattle.replay_laws.proofs.OneEnd.{EndsOnce}
+use Rattle.done_lines.proofs.OneEnd.{EndsOnce}
 use Rattle.replay.specs.Replays.{too_many, replay_of}
 use Rattle.replay.specs.declared.fault.ReplayFault.{ReplayFault}
 use Rattle.replay.specs.declared.fault.ReplayFault.TheVariants as replay_fault

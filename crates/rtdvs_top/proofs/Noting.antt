@@ -5,10 +5,9 @@ use Rattle.task_model.specs.declared.task.Task.{Task}
 use Rattle.probes.specs.Tallies.{ProbeOf}
 use Rattle.words.specs.Commands.{CommandOf}
 use Rattle.rtdvs_top.specs.Naming.{names_of, names_by, NamedBy, NamedIfDone}
-use Rattle.rtdvs_top.specs.ProbeLines.{probe_lines, noted_text}
+use Rattle.rtdvs_top.specs.ProbeLines.{NotedAs, probe_lines, noted_text}
 use Rattle.rtdvs_top.specs.Probing.{asks_probes}
 use Rattle.rtdvs_top.specs.Promises.{Notes}
-use Rattle.rtdvs_top.specs.Writing.{NotedAs}
 use Rattle.rtdvs_top.specs.declared.status.Status.{Status}
 use Rattle.rtdvs_top.specs.declared.status.Status.TheVariants as status
 

@@ -4,9 +4,9 @@ use Rattle.dvs_base.specs.Outside.{SinkView}
 use Rattle.dvs_base.specs.Parts.{joined}
 use Rattle.dvs_base.proofs.Parting.{joined-append}
 use Rattle.grid_fraction.specs.Numbers.{list_below}
-use Rattle.event_kernel.specs.Lines.{Wrote, WroteSome}
-use Rattle.event_kernel.proofs.Writing.{wrote-then}
-use Rattle.rtdvs_top.proofs.Texts.{wrote-then-some, wrote-some-more}
+use Rattle.dvs_base.specs.WritesText.{Wrote, WroteSome}
+use Rattle.dvs_base.proofs.TextPuts.{wrote-then}
+use Rattle.dvs_base.proofs.TextPuts.{wrote-then-some, wrote-some-more}
 
 -- the lines of the first numbers, and of one more
 pub joined-below : (f : ℕ → List ℕ) (n : ℕ) → joined (list_below (suc n) f) ≡ joined (list_below n f) ++ f n

@@ -3,9 +3,8 @@ use Rattle.std.proofs.Common.{◌≡◌, ℕ, zero, suc, ◌+◌, ◌<◌, List,
 use Rattle.std.proofs.lemmas.List.{take_all, length-map}
 use Rattle.dvs_base.specs.Outside.{SinkView}
 use Rattle.probes.specs.Tallies.{ProbeOf}
-use Rattle.event_kernel.specs.Lines.{Wrote, WroteSome}
-use Rattle.rtdvs_top.specs.ProbeLines.{probe_text, probe_lines}
-use Rattle.rtdvs_top.specs.Writing.{NotedAs}
+use Rattle.dvs_base.specs.WritesText.{Wrote, WroteSome}
+use Rattle.rtdvs_top.specs.ProbeLines.{NotedAs, probe_text, probe_lines}
 use Rattle.rtdvs_top.proofs.NumberedPuts as puts
 
 module _ {X : Type 0} (names : List (List ℕ)) (f : X → ProbeOf) (d : X) where

@@ -7,10 +7,10 @@ use Rattle.dvs_base.specs.declared.kind.Version.{Version}
 use Rattle.dvs_base.specs.declared.limits.TheConstants.{MOST_TICKS}
 use Rattle.grid_fraction.specs.declared.Frac.{Frac}
 use Rattle.demand_list.specs.Demands.{DemandsOf, IsWithinWorsts}
-use Rattle.sched_model.specs.Plan.{Plan, names}
+use Rattle.dvs_base.specs.declared.limits.TheConstants.{MOST_JOBS}
+use Rattle.sched_model.specs.Plan.{Plan}
 use Rattle.sched_model.specs.Notes.{notes_of}
-use Rattle.trace_reader.specs.TraceText.{whole_text}
-use Rattle.done_lines.specs.RunText.{task_texts}
+use Rattle.sched_model.specs.Text.{run_notes}
 use Rattle.done_lines.proofs.DoneText.{text-tells}
 use Rattle.sched_model.specs.Schedule.{schedule_by}
 use Rattle.sched_model.specs.Deadlines.{IsMet}
@@ -19,6 +19,8 @@ use Rattle.sched_model.specs.Decision.{is_decision}
 use Rattle.freq_table.specs.Tables.{lowest_pick}
 use Rattle.sched_model.specs.Jobs.{released_jobs}
 use Rattle.event_kernel.specs.Runs.{Run, IsListOf, notes_of_run}
+use Rattle.event_kernel.specs.Meeting.{IsMetRun}
+use Rattle.event_kernel.specs.Lines.{LineOf, trace_lines, WroteLines, StoppedIn}
 use Rattle.event_kernel.proofs.Demanding.{demand-within}
 use Rattle.sched_model.specs.Ticks.{Tick}
 use Rattle.sched_model.specs.States.{StateOf}
@@ -28,12 +30,13 @@ use Rattle.sched_model.proofs.ScheduleLemmas.{schedule_exists, schedule_unique}
 use Rattle.sched_model.specs.Totals.{totals_of}
 use Rattle.governor.specs.Schedule.{ask_of, Publishes}
 use Rattle.rtdvs_top.specs.WorkloadLines.{run_totals}
-use Rattle.rtdvs_top.specs.Answer.{answer_of_run, within_jobs}
-use Rattle.rtdvs_top.specs.Ending.{Ends, governed_answer, MeetsAll, HasMetIfDone}
-use Rattle.probes.specs.Tallies.{ProbeOf}
-use Rattle.rtdvs_top.specs.Probing.{NotesTold, GovernedTold, RunTold}
+use Rattle.rtdvs_top.specs.Answer.{answer_of_run}
+use Rattle.rtdvs_top.specs.Ending.{Ends, HasMet, text_under}
+use Rattle.probes.specs.Tallies.{ProbeOf, told_notes}
 use Rattle.rtdvs_top.specs.declared.status.Status.{Status}
 use Rattle.rtdvs_top.specs.declared.status.Status.TheVariants as status
+use Rattle.rtdvs_top.proofs.TraceTexts.{wrote-text, wrote-told, stopped-text}
+use Rattle.rtdvs_top.proofs.Denying.{within-few}
 use Rattle.rtdvs_top.proofs.Comparisons as comparisons
 
 module _ (demand : Plan → StateOf → Frac) (kind : GovernorKind) (p : Plan) (d : DemandsOf) (list : IsListOf p d)
@@ -64,17 +67,45 @@ module _ (demand : Plan → StateOf → Frac) (kind : GovernorKind) (p : Plan) (
   pub totals-published : (ticks : ℕ) → totals_of (notes_of_run demand (run_of ticks)) ≡ run_totals p d ticks kind
   totals-published ticks = ap totals_of (same-run ticks)
 
-  pub ended-published : (v : Version) (old new : SinkView) (ticks : ℕ) (s : Status)
-      → Ends old new (governed_answer v kind demand (run_of ticks)) s → Ends old new (answer_of_run v kind (run_of ticks)) s
-  ended-published v old new ticks s h =
-      let P : List Note → Type 0 = λ notes. Ends old new
-      (within_jobs (released_jobs p ticks) (whole_text v p.scheduler kind ticks (names p) (task_texts p) notes)) s in
-      subst P (same-run ticks) h
+  -- the notes of the published schedule
+  abbrev notes : ℕ → List Note
+  notes ticks = run_notes p kind dem ticks
 
-  pub told-published : (v : Version) (old new : SinkView) (before after : List ProbeOf) (ticks : ℕ) (s : Status)
-      → GovernedTold v kind demand (run_of ticks) old new before after s → RunTold v kind (run_of ticks) old new before after s
-  told-published v old new before after ticks s h =
-      subst (λ (notes : List Note). NotesTold v kind p ticks notes old new before after s) (same-run ticks) h
+  -- what the writing of the lines of a run by a governor's own demand is by the published one
+  module _ (v : Version) (ticks : ℕ) (k : Run) (is : k ≡ run_of ticks) (old new : SinkView) (before after : List ProbeOf) where
+    abbrev own_lines : Run → List LineOf
+    own_lines r = trace_lines v kind r.plan r.ticks (notes_of_run demand r)
+
+    same-lines : own_lines k ≡ trace_lines v kind p ticks (notes ticks)
+    same-lines = ap own_lines is ∙ ap (trace_lines v kind p ticks) (same-run ticks)
+
+    abbrev text : List ℕ
+    text = text_under v kind (run_of ticks)
+
+    -- where all its lines are written, and where the writing stops in one of them
+    pub done-told : WroteLines old new before after (own_lines k) → after ≡ told_notes (notes ticks) before
+    done-told w =
+        wrote-told p (notes ticks) v kind ticks old new before after (subst (WroteLines old new before after) same-lines w)
+
+    pub stopped-told : StoppedIn old new before after (own_lines k)
+        → StoppedIn old new before after (trace_lines v kind p ticks (notes ticks))
+    stopped-told s = subst (StoppedIn old new before after) same-lines s
+
+    pub done-ends : released_jobs p ticks ≤ MOST_JOBS → WroteLines old new before after (own_lines k)
+        → Ends old new (answer_of_run v kind (run_of ticks)) status.Done
+    done-ends few w = (
+      text,
+      within-few (released_jobs p ticks) text few,
+      wrote-text p (notes ticks) v kind ticks old new before after (subst (WroteLines old new before after) same-lines w),
+    )
+
+    pub stopped-ends : released_jobs p ticks ≤ MOST_JOBS → StoppedIn old new before after (own_lines k)
+        → Ends old new (answer_of_run v kind (run_of ticks)) status.Write
+    stopped-ends few s = (
+      text,
+      within-few (released_jobs p ticks) text few,
+      stopped-text p (notes ticks) v kind ticks old new before after (stopped-told s),
+    )
 
   -- a demand that is met where a schedule's own demand decides is met where the published one does
   met-there : (t : ℕ)
@@ -87,11 +118,11 @@ module _ (demand : Plan → StateOf → Frac) (kind : GovernorKind) (p : Plan) (
       (subst (Met (schedule_by p dem own t))
       (comparisons.agree demand kind p publishes dem within own (schedule_by p dem own t) (schedule_exists p dem own t).0) h)
 
-  -- what a run that is done has met, from the deadlines and the demands that it met by its own demand
-  pub met-published : (v : Version) (ticks : ℕ) → ticks ≤ MOST_TICKS → IsAdmitted p → (s : Status)
-      → MeetsAll kind demand (run_of ticks) s → HasMetIfDone v kind (run_of ticks) s
-  met-published v ticks low_ticks adm status.Done h =
-      let met : IsMet p dem (schedule_by p dem asked ticks) = subst (IsMet p dem) (same-ticks ticks) h.0 in
+  -- what a run has met, from the deadlines and the demands that it met by its own demand
+  pub met-published : (v : Version) (ticks : ℕ) → ticks ≤ MOST_TICKS → IsAdmitted p → IsMetRun kind demand (run_of ticks)
+      → HasMet v kind (run_of ticks)
+  met-published v ticks low_ticks adm own_met =
+      let met : IsMet p dem (schedule_by p dem asked ticks) = subst (IsMet p dem) (same-ticks ticks) own_met.deadlines in
       record {
         admitted = adm.test;
         schedule = record {
@@ -101,8 +132,7 @@ module _ (demand : Plan → StateOf → Frac) (kind : GovernorKind) (p : Plan) (
         };
         deadlines = met;
         told = text-tells p adm.limits v kind dem ticks low_ticks met;
-        speeds = λ n t lt. met-there t (h.1 n t lt);
+        speeds = λ n t lt. met-there t (own_met.demands n t lt);
         exists = schedule_exists p;
         unique = schedule_unique p;
       }
-  met-published v ticks low_ticks adm s h = tt

@@ -6,7 +6,7 @@ use Rattle.dvs_base.specs.declared.kind.Scheduler.TheVariants.{Rm}
 use Rattle.task_model.specs.declared.task.Task.{Task}
 use Rattle.freq_table.specs.Tables.{Table}
 use Rattle.sched_model.specs.Plan.{Plan, plan_of, count, period, offset}
-use Rattle.offsets.specs.Offsets.{first_offset}
+use Rattle.task_model.specs.Offsets.{first_offset}
 use Rattle.rm_response_laws.specs.Responses.{response as response_of}
 use Rattle.rm_response.specs.Late.{first_late}
 use Rattle.rm_response.specs.Denials.{answer_from, exact_answer}

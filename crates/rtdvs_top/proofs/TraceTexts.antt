@@ -19,9 +19,10 @@ use Rattle.energy.specs.Books.{energy_of_task as task_energy}
 use Rattle.sched_model.specs.Plan.{Plan, count, names, task, period, offset}
 use Rattle.done_lines.specs.RunText.{task_texts}
 use Rattle.probes.specs.Tallies.{ProbeOf, told_notes}
-use Rattle.event_kernel.specs.Lines.{plain, share_lines, head_lines, lines_of, trace_lines, text_of, notes_told, Wrote, WroteSome, WroteLines, StoppedIn}
+use Rattle.event_kernel.specs.Lines.{plain, share_lines, head_lines, lines_of, trace_lines, text_of, notes_told, WroteLines, StoppedIn}
+use Rattle.dvs_base.specs.WritesText.{Wrote, WroteSome}
 use Rattle.event_kernel.proofs.Writing.{text-append, notes-append}
-use Rattle.rtdvs_top.proofs.Texts.{wrote-then-some, wrote-some-more}
+use Rattle.dvs_base.proofs.TextPuts.{wrote-then-some, wrote-some-more}
 
 -- lines that tell no note
 text-plain : (f : ℕ → List ℕ) (n : ℕ) → text_of (list_below n (λ i. plain (f i))) ≡ joined (list_below n f)

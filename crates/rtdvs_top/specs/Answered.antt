@@ -24,7 +24,7 @@ seen shelf out = record { shelf = shelf; out = out }
 pub record IsAnswered (c : CommandOf) (old new : Seen) (s : Status) (tasks : Option (List Task)) : Type 0 where
   -- the answer's text was written, or a first part of it, or the status is the answer's refusal
   pub ended : EndsAs old.out new.out (files_for old.shelf.held c) (answer_of_command c) s
-  -- what a run, a replay, a polling and a least energy that is done has met
+  -- what is known of a run, a replay, a polling and a least energy that is done
   pub met : MetIn (files_for old.shelf.held c) c s
   -- what an exact test proves
   pub tested : TestedIn (files_for old.shelf.held c) c s

@@ -1,6 +1,10 @@
 -- The words that were read, as their texts; and the run that is planned for them.
 use Rattle.std.specs.Prelude.{◌≤◌, Bool, true, false, option_map}
 use Rattle.dvs_base.specs.declared.limits.TheConstants.{MOST_TICKS}
+use Rattle.dvs_base.specs.declared.kind.GovernorKind.{GovernorKind}
+use Rattle.dvs_base.specs.Pairs.{IsPair}
+use Rattle.demand_list.specs.Demands.{IsWithinWorsts}
+use Rattle.sched_model.specs.Admission.{IsAdmitted}
 use Rattle.event_kernel.specs.Runs.{Run, IsListOf}
 use Rattle.words.specs.Commands.{RunOf, AdmitOf, PollOf, CommandOf, run, admit, traced, response, constrain, poll, least}
 use Rattle.rtdvs_top.specs.declared.run.PlannedRun.{PlannedRun}
@@ -46,6 +50,14 @@ pub record IsRunnable (r : Run) : Type 0 where
   pub list : IsListOf r.plan r.demands
   pub some_ticks : 1 ≤ r.ticks
   pub low_ticks : r.ticks ≤ MOST_TICKS
+
+-- A run that the governor of a kind is made for: the plan is admitted and its scheduler makes a pair with the kind, and no
+-- listed demand exceeds its worst case.
+pub record IsReadyRun (kind : GovernorKind) (r : Run) : Type 0 where
+  pub admitted : IsAdmitted r.plan
+  pub pair : IsPair r.plan.scheduler kind
+  pub worsts : IsWithinWorsts r.demands
+  pub runnable : IsRunnable r
 
 -- whether a command is a run
 abbrev pub is_run : CommandOf → Bool

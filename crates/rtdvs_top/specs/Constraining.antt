@@ -4,7 +4,7 @@ use Rattle.dvs_base.specs.Outside.{Files}
 use Rattle.dvs_base.specs.declared.kind.Scheduler.TheVariants.{Edf}
 use Rattle.task_model.specs.declared.task.Task.{Task}
 use Rattle.freq_table.specs.Tables.{Table}
-use Rattle.offsets.specs.Offsets.{IsFirstOffset}
+use Rattle.task_model.specs.Offsets.{IsFirstOffset}
 use Rattle.sched_model.specs.Plan.{Plan, plan_of, count, offset}
 use Rattle.edf_demand_laws.specs.ProcessorDemand.{IsConstrainedDemand}
 use Rattle.edf_demand.specs.Answers.{IsTested, IsTooLong, IsLowestSpeed, IsOverload, constrain_answer}

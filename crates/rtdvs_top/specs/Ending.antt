@@ -4,29 +4,27 @@ use Rattle.dvs_base.specs.Outside.{Files, SinkView}
 use Rattle.dvs_base.specs.declared.kind.GovernorKind.{GovernorKind}
 use Rattle.dvs_base.specs.declared.kind.Version.{Version}
 use Rattle.dvs_base.specs.declared.kind.GovernorKind.TheVariants.{Ahead}
-use Rattle.governor.specs.Meanings.{OwnDemand}
 use Rattle.demand_list.specs.Demands.{DemandsOf}
 use Rattle.task_model.specs.declared.task.Task.{Task}
-use Rattle.sched_model.specs.Plan.{Plan, names}
+use Rattle.sched_model.specs.Plan.{Plan}
 use Rattle.sched_model.specs.Demands.{JobDemands}
-use Rattle.sched_model.specs.Jobs.{released_jobs}
 use Rattle.sched_model.specs.Ticks.{Tick}
-use Rattle.trace_reader.specs.TraceText.{whole_text}
-use Rattle.done_lines.specs.RunText.{task_texts, run_text_in}
+use Rattle.done_lines.specs.RunText.{run_text_in}
 use Rattle.sched_model.specs.Deadlines.{IsMet}
 use Rattle.sched_model.specs.Admission.{PassesTest, IsAdmitted}
 use Rattle.sched_model.specs.Schedule.{schedule, AlwaysMeets, HasSchedule, HasNoOther}
 use Rattle.sched_model.specs.TheSchedule.{IsTheSchedule}
 use Rattle.done_lines.specs.DoneLines.{TellsDeadlines}
-use Rattle.event_kernel.specs.Runs.{Run, demands_of, notes_of_run, MeetsDeadlines, MeetsDemands}
-use Rattle.rtdvs_top.specs.Answer.{within_jobs, prepared_of, tasks_at}
+use Rattle.event_kernel.specs.Runs.{Run, demands_of}
+use Rattle.rtdvs_top.specs.Answer.{prepared_of, tasks_at}
+use Rattle.rtdvs_top.specs.Asked.{IsReadyRun}
 use Rattle.words.specs.Commands.{RunOf, TracedOf, CommandOf, run, traced, poll, least}
 use Rattle.trace_reader.specs.Traces.{TraceOf}
 use Rattle.rtdvs_top.specs.ReplayAnswer.{traced_of}
 use Rattle.rtdvs_top.specs.LeastAnswer.{LeastMet}
 use Rattle.rtdvs_top.specs.Causes.{EndsWith, IsRefusal, Gives}
 use Rattle.rtdvs_top.specs.PollCauses.{ServedIn}
-use Rattle.event_kernel.specs.Lines.{Wrote, WroteSome}
+use Rattle.dvs_base.specs.WritesText.{Wrote, WroteSome}
 use Rattle.rtdvs_top.specs.declared.status.Status.{Status}
 use Rattle.rtdvs_top.specs.declared.status.Status.TheVariants as status
 
@@ -52,20 +50,6 @@ abbrev pub Leaves : {W : Type 0} → Status → W → W → Type 0
 Leaves status.Done old new = ⊤
 Leaves status.Write old new = ⊤
 Leaves s old new = new ≡ old
-
--- the text of a run under a governor's own demand
-abbrev pub governed_text : Version → GovernorKind → OwnDemand → Run → List ℕ
-governed_text v kind demand r =
-    whole_text v r.plan.scheduler kind r.ticks (names r.plan) (task_texts r.plan) (notes_of_run demand r)
-
--- its answer
-abbrev pub governed_answer : Version → GovernorKind → OwnDemand → Run → Result (List ℕ) Status
-governed_answer v kind demand r = within_jobs (released_jobs r.plan r.ticks) (governed_text v kind demand r)
-
--- a run that was done meets every deadline, and every demand unless it looks ahead
-abbrev pub MeetsAll : GovernorKind → OwnDemand → Run → Status → Type 0
-MeetsAll kind demand r status.Done = MeetsDeadlines demand r × (kind ≢ Ahead → MeetsDemands demand r)
-MeetsAll kind demand r s = ⊤
 
 -- the demand of each job of a run
 abbrev pub job_demands : Run → JobDemands
@@ -100,31 +84,25 @@ pub record HasMet (v : Version) (kind : GovernorKind) (r : Run) : Type 0 where
   pub exists : HasSchedule r.plan
   pub unique : HasNoOther r.plan
 
--- a run that was done has met all that
-abbrev pub HasMetIfDone : Version → GovernorKind → Run → Status → Type 0
-HasMetIfDone v kind r status.Done = HasMet v kind r
-HasMetIfDone v kind r s = ⊤
-
 -- the run of a plan and demands that the words of a run ask for
 abbrev pub run_with : RunOf → Plan → DemandsOf → Run
 run_with r p d = record { plan = p; demands = d; ticks = r.ticks }
 
 -- a run that was done, of these tasks, was of the plan and the demands that were prepared
-abbrev pub MetBy : Option Files → RunOf → List Task → Status → Type 0
-MetBy told r tasks status.Done =
-    (p : Plan) × (d : DemandsOf) × Gives told (prepared_of r tasks) (p, d)
-    × HasMet r.version r.governor (run_with r p d)
-MetBy told r tasks s = ⊤
+abbrev pub RanBy : Option Files → RunOf → List Task → Status → Type 0
+RanBy told r tasks status.Done =
+    (p : Plan) × (d : DemandsOf) × Gives told (prepared_of r tasks) (p, d) × IsReadyRun r.governor (run_with r p d)
+RanBy told r tasks s = ⊤
 
 -- a replay or a migration that was done, of these tasks, compared a trace with the schedule of an admitted plan
 abbrev pub MetTraced : Option Files → TracedOf → List Task → Status → Type 0
 MetTraced told r tasks status.Done = (p : Plan) × (t : TraceOf) × Gives told (traced_of r tasks) (p, t) × IsAdmitted p
 MetTraced told r tasks s = ⊤
 
--- the same of a command, with the tasks of its file; and what a least energy that was done has met
+-- what is known of a command that was done, with the tasks of its file; of a least energy, what it has met
 abbrev pub MetIn : Option Files → CommandOf → Status → Type 0
 MetIn told (run r) status.Done =
-    (tasks : List Task) × Gives told (tasks_at r.tasks) tasks × MetBy told r tasks status.Done
+    (tasks : List Task) × Gives told (tasks_at r.tasks) tasks × RanBy told r tasks status.Done
 MetIn told (traced r) status.Done =
     (tasks : List Task) × Gives told (tasks_at r.tasks) tasks × MetTraced told r tasks status.Done
 MetIn told (poll q) status.Done =

@@ -9,7 +9,6 @@ pub mod Naming
 pub mod Refusals
 pub mod WorkloadLines
 pub mod Answer
-pub mod Writing
 pub mod Causes
 pub mod Ending
 pub mod ProbeLines

@@ -1,7 +1,9 @@
--- The lines of the probes that are left after a run.
-use Rattle.std.specs.Prelude.{ℕ, ◌+◌, nat_lt, Bool, true, List, [], ◌∷◌, ◌++◌, length, codes, Option, Some, None, if◌then◌else◌}
+-- What is noted at the end of a command: the line of its status, or those of the probes that are left after a run.
+use Rattle.std.specs.Prelude.{◌⊎◌, ℕ, ◌+◌, nat_lt, Bool, true, List, [], ◌∷◌, ◌++◌, length, codes, Option, Some, None, if◌then◌else◌}
 use Rattle.std.specs.Fmt.{decimal}
+use Rattle.dvs_base.specs.Outside.{SinkView}
 use Rattle.dvs_base.specs.Parts.{joined}
+use Rattle.dvs_base.specs.WritesText.{Wrote, WroteSome}
 use Rattle.trace_text.specs.TraceLines.{name_of}
 use Rattle.probes.specs.Tallies.{ProbeOf}
 use Rattle.probes.specs.declared.rule.What.{What}
@@ -49,3 +51,7 @@ probe_lines names place (p ∷ ps) = probe_text names place p ++ probe_lines nam
 abbrev pub noted_text : Bool → List (List ℕ) → List ProbeOf → Status → List ℕ
 noted_text true names ps status.Done = probe_lines names 1 ps
 noted_text asks names ps s = status_text names s
+
+-- a text of the notes: the whole text, or a first part of it where the count of faults rose
+abbrev pub NotedAs : SinkView → SinkView → List ℕ → Type 0
+NotedAs old new text = Wrote old new text ⊎ WroteSome old new text

@@ -1,15 +1,14 @@
 -- What a run tells the probes that it is given.
-use Rattle.std.specs.Prelude.{◌≡◌, ℕ, Bool, true, false, List, Option, Result, Ok, Err, ⊤}
+use Rattle.std.specs.Prelude.{◌≡◌, ℕ, Bool, true, false, List, Option, ⊤}
 use Rattle.dvs_base.specs.Outside.{Files, SinkView}
 use Rattle.dvs_base.specs.declared.kind.Version.{Version}
 use Rattle.dvs_base.specs.declared.kind.GovernorKind.{GovernorKind}
 use Rattle.dvs_base.specs.declared.note.Note.{Note}
-use Rattle.governor.specs.Meanings.{OwnDemand}
 use Rattle.demand_list.specs.Demands.{DemandsOf}
 use Rattle.task_model.specs.declared.task.Task.{Task}
 use Rattle.sched_model.specs.Plan.{Plan}
 use Rattle.sched_model.specs.Text.{run_notes}
-use Rattle.event_kernel.specs.Runs.{Run, notes_of_run}
+use Rattle.event_kernel.specs.Runs.{Run}
 use Rattle.event_kernel.specs.Lines.{StoppedIn, trace_lines}
 use Rattle.probes.specs.Tallies.{ProbeOf, told_notes}
 use Rattle.words.specs.Commands.{RunOf, CommandOf, run, admit, traced, workload, response, constrain, poll, least}
@@ -30,15 +29,8 @@ asks_probes (constrain r) = false
 asks_probes (poll q) = false
 asks_probes (least l) = false
 
--- Probes under a trace of these notes. Where it is whole they were told the notes, one by one. Where a put failed they
+-- Probes under a run of these notes. Where it is done they were told the notes, one by one. Where a write failed they
 -- were told those of the lines before the one that was put.
-abbrev pub TraceTold : {T E : Type 0} → Version → GovernorKind → Plan → ℕ → List Note → SinkView → SinkView
-    → List ProbeOf → List ProbeOf → Result T E → Type 0
-TraceTold v kind p ticks notes old new before after (Ok x) = after ≡ told_notes notes before
-TraceTold v kind p ticks notes old new before after (Err e) =
-    StoppedIn old new before after (trace_lines v kind p ticks notes)
-
--- the same by the status: a run that is done, and one of which a write failed
 abbrev pub NotesTold : Version → GovernorKind → Plan → ℕ → List Note → SinkView → SinkView
     → List ProbeOf → List ProbeOf → Status → Type 0
 NotesTold v kind p ticks notes old new before after status.Done = after ≡ told_notes notes before
@@ -46,13 +38,7 @@ NotesTold v kind p ticks notes old new before after status.Write =
     StoppedIn old new before after (trace_lines v kind p ticks notes)
 NotesTold v kind p ticks notes old new before after s = ⊤
 
--- a run told probes the notes of its schedule by a governor's own demand
-abbrev pub GovernedTold : Version → GovernorKind → OwnDemand → Run → SinkView → SinkView
-    → List ProbeOf → List ProbeOf → Status → Type 0
-GovernedTold v kind demand r old new before after s =
-    NotesTold v kind r.plan r.ticks (notes_of_run demand r) old new before after s
-
--- and of its schedule by the published demand of the governor's kind
+-- a run told probes the notes of its schedule by the published demand of the governor's kind
 abbrev pub RunTold : Version → GovernorKind → Run → SinkView → SinkView → List ProbeOf → List ProbeOf → Status → Type 0
 RunTold v kind r old new before after s =
     NotesTold v kind r.plan r.ticks (run_notes r.plan kind (job_demands r) r.ticks) old new before after s

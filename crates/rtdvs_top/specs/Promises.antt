@@ -25,10 +25,9 @@ use Rattle.rtdvs_top.specs.Naming.{names_by}
 use Rattle.rtdvs_top.specs.Refusals.{status_text}
 use Rattle.rtdvs_top.specs.Causes.{LoadOf, PassesBefore, files_for, loads_of}
 use Rattle.rtdvs_top.specs.Ending.{HasMet, run_with, text_under}
-use Rattle.rtdvs_top.specs.Writing.{NotedAs}
 use Rattle.rtdvs_top.specs.Responding.{MeansPlan, RespondsOrIsDenied}
 use Rattle.rtdvs_top.specs.Testing.{TestedIn}
-use Rattle.rtdvs_top.specs.ProbeLines.{noted_text}
+use Rattle.rtdvs_top.specs.ProbeLines.{NotedAs, noted_text}
 use Rattle.rtdvs_top.specs.Probing.{asks_probes, ToldIn}
 use Rattle.probes.specs.Tallies.{ProbeOf}
 use Rattle.poll_server.specs.Serving.{ServerOf}

@@ -5,7 +5,7 @@ use Rattle.dvs_base.specs.declared.kind.Scheduler.TheVariants.{Rm}
 use Rattle.task_model.specs.declared.task.Task.{Task}
 use Rattle.freq_table.specs.Tables.{Table}
 use Rattle.sched_model.specs.Plan.{Plan, plan_of, count, period, offset}
-use Rattle.offsets.specs.Offsets.{NoneOffset, IsFirstOffset}
+use Rattle.task_model.specs.Offsets.{NoneOffset, IsFirstOffset}
 use Rattle.rm_response_laws.specs.Responses.{AllRespond}
 use Rattle.rm_response_laws.specs.FirstJobs.{AlwaysMeets, is_first_done}
 use Rattle.rm_response.specs.Denials.{responses, AreLeast, IsFirstMiss}

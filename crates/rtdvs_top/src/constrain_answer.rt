@@ -17,9 +17,8 @@ ghost use Rattle.rtdvs_top.specs.Shown.{IsShown};
 
 use crate::files::{load_file, load_machine, load_tasks};
 use crate::plan_words::ConstrainWords;
-use crate::writer::put_line;
 use crate::{Denied, FileKind, Status, TextFault};
-use dvs_base::{Failed, Line, Part, Shelf, Sink, line_of};
+use dvs_base::{Failed, Line, Part, Shelf, Sink, line_of, put_line};
 use edf_demand::{ConstrainFault, Constrained, DeadlineFault, Deadlines, constrain};
 use freq_table::Machine;
 use std::alloc::Global;

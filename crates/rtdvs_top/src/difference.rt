@@ -6,11 +6,10 @@ ghost use Rattle.dvs_base.specs.Parts.{joined, part_text, most_bytes, fraction_t
 ghost use Rattle.trace_text.specs.TraceLines.{line as line_text, name_of, run_fields, idle_fields, done_fields, note_text};
 ghost use Rattle.rtdvs_top.specs.Naming.{names_of};
 ghost use Rattle.rtdvs_top.specs.Refusals.{difference_text};
-ghost use Rattle.rtdvs_top.specs.Writing.{Writing};
+ghost use Rattle.dvs_base.specs.WritesText.{WritesText};
 
 use crate::refusal::{name_at, name_part};
-use crate::writer::{put_line, put_two};
-use dvs_base::{Failed, Line, Note, Part, Pos, Sink, line_of};
+use dvs_base::{Failed, Line, Note, Part, Pos, Sink, line_of, put_line, put_two};
 use task_model::TaskSet;
 
 fn release_line<'a>(word: &'a [u8], tick: u64, name: Part<'a>, job: u64) -> Line
@@ -203,7 +202,7 @@ pub(crate) fn put_difference<E: Sink>(
     tasks: Option<&TaskSet>,
     notes: &mut E,
 ) -> Result<(), Failed>
-    ensures { Writing (E.shows notes.old) (E.shows notes.new)
+    ensures { WritesText (E.shows notes.old) (E.shows notes.new)
         (difference_text (names_of (option_copied tasks.entry)) at.line at.wanted at.found) result }
 {
     let first = differs_line(at.line);

@@ -7,9 +7,8 @@ ghost use Rattle.rtdvs_top.specs.Ending.{Ends, EndsAs, Leaves, MetIn};
 ghost use Rattle.rtdvs_top.specs.Shown.{IsShown};
 
 use crate::files::load_machine;
-use crate::writer::put_two;
 use crate::{Denied, Status};
-use dvs_base::{Failed, Line, Part, Shelf, Sink, line_of};
+use dvs_base::{Failed, Line, Part, Shelf, Sink, line_of, put_two};
 use energy_bound::{Least, Over, least_energy};
 use freq_table::Machine;
 use std::alloc::Global;

@@ -6,6 +6,7 @@
 #![tactic(auto)]
 
 mod admit_answer;
+mod at_pair;
 mod command_words;
 mod constrain_answer;
 mod deadline_line;
@@ -29,7 +30,6 @@ mod top;
 mod trace_answer;
 mod traced;
 mod word_line;
-mod writer;
 
 pub use status::{Denied, FileKind, Status, TextFault};
 pub use top::rtdvs;

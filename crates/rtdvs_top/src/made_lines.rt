@@ -6,12 +6,13 @@ ghost use Rattle.rtdvs_top.specs.Answer.{workload_answer};
 ghost use Rattle.rtdvs_top.specs.Causes.{IsNoLoad};
 ghost use Rattle.rtdvs_top.specs.Ending.{Ends, Leaves};
 ghost use Rattle.rtdvs_top.specs.Shown.{IsShown};
-ghost use Rattle.rtdvs_top.specs.Writing.{Writing};
+ghost use Rattle.dvs_base.specs.WritesText.{WritesText};
 
 use crate::Status;
 use crate::made_runs::{EdfTotals, Workload, made_totals};
-use crate::writer::{put_line, put_two};
-use dvs_base::{Failed, GovernorKind, Line, NoMemory, Part, Sink, Totals, line_of};
+use dvs_base::{
+    Failed, GovernorKind, Line, NoMemory, Part, Sink, Totals, line_of, put_line, put_two,
+};
 use std::alloc::Global;
 
 // How many tasks a made workload has.
@@ -69,7 +70,7 @@ fn put_governors<W: Sink>(
     second: (GovernorKind, Totals),
     out: &mut W,
 ) -> Result<(), Failed>
-    ensures { Writing (W.shows out.old) (W.shows out.new)
+    ensures { WritesText (W.shows out.old) (W.shows out.new)
         (totals_text first.0 first.1 ++ totals_text second.0 second.1) result }
 {
     let first = totals_line(first.0, first.1);
@@ -79,7 +80,7 @@ fn put_governors<W: Sink>(
 
 // Puts the lines of all governors.
 fn put_totals<W: Sink>(totals: &EdfTotals, out: &mut W) -> Result<(), Failed>
-    ensures { Writing (W.shows out.old) (W.shows out.new) (edf_text totals.now) result }
+    ensures { WritesText (W.shows out.old) (W.shows out.new) (edf_text totals.now) result }
 {
     let plain = (GovernorKind::Plain, totals.full);
     let fixed = (GovernorKind::Fixed, totals.fixed);
@@ -99,7 +100,7 @@ fn put_totals<W: Sink>(totals: &EdfTotals, out: &mut W) -> Result<(), Failed>
 // Puts the first line, and then the lines of all governors.
 fn put_all<W: Sink>(head: &Line, totals: &EdfTotals, out: &mut W) -> Result<(), Failed>
     requires { 0 < length head.now }
-    ensures { Writing (W.shows out.old) (W.shows out.new) (head.now ++ edf_text totals.now) result }
+    ensures { WritesText (W.shows out.old) (W.shows out.new) (head.now ++ edf_text totals.now) result }
 {
     match put_line(head, out) {
         Ok(()) => match put_totals(totals, out) {
@@ -113,7 +114,7 @@ fn put_all<W: Sink>(head: &Line, totals: &EdfTotals, out: &mut W) -> Result<(), 
 // Puts the lines of a workload whose runs come to this.
 fn put_made<W: Sink>(made: Workload, totals: &EdfTotals, out: &mut W) -> Result<(), Failed>
     requires { AreTotalsOf made totals.now }
-    ensures { Writing (W.shows out.old) (W.shows out.new) (workload_text made.seed made.tasks made.ticks) result }
+    ensures { WritesText (W.shows out.old) (W.shows out.new) (workload_text made.seed made.tasks made.ticks) result }
 {
     let head = head_line(made);
     put_all(&head, totals, out)

@@ -9,16 +9,14 @@ ghost use Rattle.rtdvs_top.specs.Asked.{planned, IsRunnable};
 ghost use Rattle.rtdvs_top.specs.WorkloadLines.{workload_plan, workload_demands, run_totals};
 ghost use Rattle.rtdvs_top.specs.EdfRuns.{AreEdfTotals, AreTotalsOf, IsSmall};
 
+use crate::at_pair::{CcEdf, Full, LookAhead, Static};
 use crate::run::PlannedRun;
-use cc_edf::CcEdf;
 use demand_list::Demands;
 use dvs_base::{Line, Name, NoMemory, Note, Scheduler, Sink, Totals, VoidSink};
 use edf_admit::{EdfFault, edf_admit};
 use event_kernel::{Kernel, KernelFault, Listener, Stopped};
 use governor::{Governor, Publishing};
-use look_ahead::LookAhead;
 use sched_model::Admitted;
-use static_gov::{Full, Static};
 use std::alloc::Global;
 use trace_text::write_note;
 use workload::make;

@@ -10,14 +10,13 @@ ghost use Rattle.rtdvs_top.specs.Answered.{seen, IsAnswered};
 ghost use Rattle.rtdvs_top.specs.Naming.{NamedBy, NamedIfDone};
 ghost use Rattle.rtdvs_top.specs.Ending.{Ends, EndsAs, Leaves, MetIn};
 ghost use Rattle.rtdvs_top.specs.Shown.{IsShown};
-ghost use Rattle.rtdvs_top.specs.Writing.{Writing};
+ghost use Rattle.dvs_base.specs.WritesText.{WritesText};
 
 use crate::Status;
 use crate::files::load_tasks;
 use crate::plan_words::PollWords;
 use crate::polled::{Polling, load_polling, serve_pair};
-use crate::writer::put_line;
-use dvs_base::{Failed, Line, Part, Shelf, Sink, Totals, line_of};
+use dvs_base::{Failed, Line, Part, Shelf, Sink, Totals, line_of, put_line};
 use poll_server::{Outcome, Served};
 use std::alloc::Global;
 use task_model::TaskSet;
@@ -87,7 +86,7 @@ fn one_if_served(outcome: Outcome) -> u64
 // Puts the lines of the requests, and gives how many are served. After the first put that fails no more is put.
 fn put_requests<W: Sink>(polling: &Polling, served: &Served, out: &mut W) -> Result<u64, Failed>
     requires { length served.now.outcomes ≡ request_count polling.now }
-    ensures wrote { Writing (W.shows out.old) (W.shows out.new)
+    ensures wrote { WritesText (W.shows out.old) (W.shows out.new)
         (request_lines polling.now served.now.outcomes (request_count polling.now)) result }
     ensures served { IfOk result (λ n. n ≡ served_among served.now.outcomes (request_count polling.now)) }
 {
@@ -106,7 +105,7 @@ fn put_requests<W: Sink>(polling: &Polling, served: &Served, out: &mut W) -> Res
 // Puts the lines of a polling.
 fn put_polled<W: Sink>(polling: &Polling, served: &Served, out: &mut W) -> Result<(), Failed>
     requires { length served.now.outcomes ≡ request_count polling.now }
-    ensures { Writing (W.shows out.old) (W.shows out.new) (polled_text polling.now served.now) result }
+    ensures { WritesText (W.shows out.old) (W.shows out.new) (polled_text polling.now served.now) result }
 {
     match put_requests(polling, served, out) {
         Ok(count) => {

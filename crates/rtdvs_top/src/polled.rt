@@ -8,19 +8,16 @@ ghost use Rattle.rtdvs_top.specs.PollCauses.{LaterRequestLoad, PassesPolled, IsS
 ghost use Rattle.rtdvs_top.specs.Causes.{EndsWith, Gives, Refuses, MakesLoads, IsLoadOf, IsNoLoad};
 ghost use Rattle.rtdvs_top.specs.Shown.{IsShown};
 
+use crate::at_pair::at_pair;
 use crate::files::{load_file, load_machine};
 use crate::plan_words::PollWords;
 use crate::run::admit;
 use crate::{FileKind, Status, TextFault};
-use cc_edf::CcEdf;
-use cc_rm::CcRm;
-use dvs_base::{GovernorKind, NoMemory, Scheduler, Shelf, Short};
+use dvs_base::{GovernorKind, NoMemory, Shelf, Short};
 use governor::Publishing;
-use look_ahead::LookAhead;
 use poll_server::{PollFault, Served, poll};
 use request_list::{RequestFault, Requests};
 use sched_model::Admitted;
-use static_gov::{Full, Static};
 use std::alloc::Global;
 use std::marker::Model;
 use task_model::TaskSet;
@@ -160,12 +157,13 @@ pub(crate) fn serve_pair(
     ensures loads { IfErr result IsNoLoad }
     ensures shown { IfErr result IsShown }
 {
-    match (polling.plan.scheduler(), governor) {
-        (_, GovernorKind::Plain) => serve_governed::<Full>(alloc, polling, ticks),
-        (_, GovernorKind::Fixed) => serve_governed::<Static>(alloc, polling, ticks),
-        (Scheduler::Edf, GovernorKind::Cycle) => serve_governed::<CcEdf>(alloc, polling, ticks),
-        (Scheduler::Rm, GovernorKind::Cycle) => serve_governed::<CcRm>(alloc, polling, ticks),
-        (Scheduler::Edf, GovernorKind::Ahead) => serve_governed::<LookAhead>(alloc, polling, ticks),
-        (Scheduler::Rm, GovernorKind::Ahead) => unreachable!(),
-    }
+    at_pair!(
+        polling.plan.scheduler(),
+        governor,
+        serve_governed,
+        [],
+        alloc,
+        polling,
+        ticks
+    )
 }

@@ -11,13 +11,12 @@ ghost use Rattle.rtdvs_top.specs.Answered.{seen, IsAnswered};
 ghost use Rattle.rtdvs_top.specs.Naming.{NamedBy, NamedIfDone};
 ghost use Rattle.rtdvs_top.specs.Ending.{Ends, EndsAs, Leaves, MetIn};
 ghost use Rattle.rtdvs_top.specs.Shown.{IsShown};
-ghost use Rattle.rtdvs_top.specs.Writing.{Writing};
+ghost use Rattle.dvs_base.specs.WritesText.{WritesText};
 
 use crate::files::{load_machine, load_tasks};
 use crate::plan_words::ResponseWords;
-use crate::writer::put_line;
 use crate::{Denied, FileKind, Status};
-use dvs_base::{Failed, Line, Part, Scheduler, Shelf, Sink, line_of};
+use dvs_base::{Failed, Line, Part, Scheduler, Shelf, Sink, line_of, put_line};
 use freq_table::Machine;
 use rm_response::{Response, ResponseFault, rm_response};
 use std::alloc::Global;
@@ -89,7 +88,7 @@ fn response_line(tasks: &TaskSet, response: &Response, i: u32) -> Line
 // Puts the lines of all tasks, in file order.
 fn put_responses<W: Sink>(tasks: &TaskSet, response: &Response, out: &mut W) -> Result<(), Failed>
     requires { length response.now ≡ length tasks.now }
-    ensures { Writing (W.shows out.old) (W.shows out.new) (responses_text tasks.now response.now) result }
+    ensures { WritesText (W.shows out.old) (W.shows out.new) (responses_text tasks.now response.now) result }
 {
     for i in 0..tasks.count() {
         let line = response_line(tasks, response, i);

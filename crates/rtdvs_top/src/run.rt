@@ -1,32 +1,27 @@
 // Admission, and the run of an admitted plan.
-ghost use Rattle.std.specs.Prelude.{◌≡◌, ◌≢◌, ◌<◌, length, map, Ok, IfOk, IfErr, OnOk};
+ghost use Rattle.std.specs.Prelude.{◌≡◌, ◌<◌, length, map, Ok, IfOk, IfErr};
 ghost use Rattle.sched_model.specs.Plan.{plan_of};
-ghost use Rattle.sched_model.specs.States.{opening};
-ghost use Rattle.event_kernel.specs.Runs.{notes_of_run, MeetsDeadlines, MeetsDemands};
 ghost use Rattle.rtdvs_top.specs.Answer.{admission, answer_of_run, admitted_text};
 ghost use Rattle.rtdvs_top.specs.Asked.{planned, IsRunnable};
 ghost use Rattle.rtdvs_top.specs.Causes.{EndsWith, IsNoLoad};
-ghost use Rattle.rtdvs_top.specs.Ending.{Ends, Leaves, governed_text, governed_answer, MeetsAll, HasMetIfDone};
-ghost use Rattle.rtdvs_top.specs.Probing.{IfAsked, LeavesProbes, TraceTold, GovernedTold, RunTold};
+ghost use Rattle.rtdvs_top.specs.Ending.{Ends, Leaves};
+ghost use Rattle.rtdvs_top.specs.Probing.{IfAsked, LeavesProbes, RunTold};
 ghost use Rattle.rtdvs_top.specs.Shown.{IsShown};
 ghost use Rattle.dvs_base.specs.Pairs.{IsPair};
-ghost use Rattle.rtdvs_top.specs.Writing.{Writing};
 
-use crate::writer::put_line;
+use crate::at_pair::at_pair;
 use crate::{Denied, Status};
-use cc_edf::CcEdf;
-use cc_rm::CcRm;
 use demand_list::Demands;
-use dvs_base::{Failed, GovernorKind, Line, NoMemory, Part, Scheduler, Sink, Version, line_of};
+use dvs_base::{
+    Failed, GovernorKind, Line, NoMemory, Part, Scheduler, Sink, Version, line_of, put_line,
+};
 use edf_admit::{EdfFault, edf_admit};
 use event_kernel::{Kernel, KernelFault, WriteFault};
 use freq_table::Machine;
-use governor::{Governor, Publishing};
-use look_ahead::LookAhead;
+use governor::Publishing;
 use probes::Probe;
 use rm_admit::{RmFault, rm_admit};
 use sched_model::Admitted;
-use static_gov::{Full, Static};
 use std::alloc::Global;
 use task_model::TaskSet;
 
@@ -95,60 +90,6 @@ pub(crate) struct WrittenRun<'a> {
     pub(crate) probes: bool,
 }
 
-// Writes the whole trace of a run, and tells the probes its notes.
-fn put_trace<G: Governor, W: Sink, P: Probe>(
-    kernel: Kernel<'_, G>,
-    version: Version,
-    out: &mut W,
-    probes: &mut Vec<P>,
-) -> Result<(), Failed>
-    ensures wrote { Writing (W.shows out.old) (W.shows out.new)
-        (governed_text version G.the_kind G.demand kernel.entry) result }
-    ensures told { TraceTold version G.the_kind kernel.entry.plan kernel.entry.ticks
-        (notes_of_run G.demand kernel.entry) (W.shows out.old) (W.shows out.new)
-        (map P.seen probes.old.items) (map P.seen probes.new.items) result }
-    ensures deadlines { OnOk result (MeetsDeadlines G.demand kernel.entry) }
-    ensures demands { OnOk result (G.the_kind ≢ GovernorKind.Ahead → MeetsDemands G.demand kernel.entry) }
-{
-    match kernel.run(out, probes, version) {
-        Ok(_) => Ok(()),
-        Err(WriteFault) => Err(Failed),
-    }
-}
-
-// The trace of a run under a governor that stands for the opening of its plan.
-fn run_from_opening<G: Governor, W: Sink, P: Probe>(
-    alloc: Global,
-    written: &WrittenRun<'_>,
-    governor: G,
-    out: &mut W,
-    probes: &mut Vec<P>,
-) -> Status
-    requires run { IsRunnable (planned written.now.run) }
-    requires stands { G.stands governor written.now.run.plan.now (opening written.now.run.plan.now) }
-    ensures ended { Ends (W.shows out.old) (W.shows out.new)
-        (governed_answer written.now.version G.the_kind G.demand (planned written.now.run)) result }
-    ensures told { GovernedTold written.now.version G.the_kind G.demand (planned written.now.run)
-        (W.shows out.old) (W.shows out.new)
-        (map P.seen probes.old.items) (map P.seen probes.new.items) result }
-    ensures met { MeetsAll G.the_kind G.demand (planned written.now.run) result }
-    ensures leaves { Leaves result out.old out.new }
-    ensures kept { Leaves result probes.old probes.new }
-    ensures loads { IsNoLoad result }
-    ensures shown { IsShown result }
-{
-    let run = written.run;
-    let kernel = match Kernel::new(alloc, run.plan, run.demands, governor, run.ticks) {
-        Ok(kernel) => kernel,
-        Err(KernelFault::TooManyJobs { count }) => return Status::Limit { jobs: count },
-        Err(KernelFault::NoMemory) => return Status::NoMemory,
-    };
-    match put_trace(kernel, written.version, out, probes) {
-        Ok(()) => Status::Done,
-        Err(Failed) => Status::Write,
-    }
-}
-
 // The trace of a run under a governor of this type.
 fn run_governed<G: Publishing, W: Sink, P: Probe>(
     alloc: Global,
@@ -162,17 +103,26 @@ fn run_governed<G: Publishing, W: Sink, P: Probe>(
         (answer_of_run written.now.version G.the_kind (planned written.now.run)) result }
     ensures told { RunTold written.now.version G.the_kind (planned written.now.run) (W.shows out.old) (W.shows out.new)
         (map P.seen probes.old.items) (map P.seen probes.new.items) result }
-    ensures met { HasMetIfDone written.now.version G.the_kind (planned written.now.run) result }
     ensures leaves { Leaves result out.old out.new }
     ensures kept { Leaves result probes.old probes.new }
     ensures loads { IsNoLoad result }
     ensures shown { IsShown result }
 {
-    let _worsts = written.run.demands.worsts();
-    let _scheduler = written.run.plan.scheduler();
-    match G::made(alloc, written.run.plan) {
-        Ok(governor) => run_from_opening(alloc, written, governor, out, probes),
-        Err(NoMemory) => Status::NoMemory,
+    let run = written.run;
+    let _worsts = run.demands.worsts();
+    let _scheduler = run.plan.scheduler();
+    let governor = match G::made(alloc, run.plan) {
+        Ok(governor) => governor,
+        Err(NoMemory) => return Status::NoMemory,
+    };
+    let kernel = match Kernel::new(alloc, run.plan, run.demands, governor, run.ticks) {
+        Ok(kernel) => kernel,
+        Err(KernelFault::TooManyJobs { count }) => return Status::Limit { jobs: count },
+        Err(KernelFault::NoMemory) => return Status::NoMemory,
+    };
+    match kernel.run(out, probes, written.version) {
+        Ok(_) => Status::Done,
+        Err(WriteFault) => Status::Write,
     }
 }
 
@@ -190,26 +140,21 @@ fn run_pair<W: Sink, P: Probe>(
         (answer_of_run written.now.version governor (planned written.now.run)) result }
     ensures told { RunTold written.now.version governor (planned written.now.run) (W.shows out.old) (W.shows out.new)
         (map P.seen probes.old.items) (map P.seen probes.new.items) result }
-    ensures met { HasMetIfDone written.now.version governor (planned written.now.run) result }
     ensures leaves { Leaves result out.old out.new }
     ensures kept { Leaves result probes.old probes.new }
     ensures loads { IsNoLoad result }
     ensures shown { IsShown result }
 {
-    match (written.run.plan.scheduler(), governor) {
-        (_, GovernorKind::Plain) => run_governed::<Full, W, P>(alloc, written, out, probes),
-        (_, GovernorKind::Fixed) => run_governed::<Static, W, P>(alloc, written, out, probes),
-        (Scheduler::Edf, GovernorKind::Cycle) => run_governed::<CcEdf, W, P>(
-            alloc, written, out, probes,
-        ),
-        (Scheduler::Rm, GovernorKind::Cycle) => run_governed::<CcRm, W, P>(
-            alloc, written, out, probes,
-        ),
-        (Scheduler::Edf, GovernorKind::Ahead) => run_governed::<LookAhead, W, P>(
-            alloc, written, out, probes,
-        ),
-        (Scheduler::Rm, GovernorKind::Ahead) => unreachable!(),
-    }
+    at_pair!(
+        written.run.plan.scheduler(),
+        governor,
+        run_governed,
+        [W, P],
+        alloc,
+        written,
+        out,
+        probes
+    )
 }
 
 /// The trace of a run of an admitted plan. The probes are told its notes where they are asked for, and left as they are
@@ -228,7 +173,6 @@ pub(crate) fn run_plan<W: Sink, P: Probe>(
     ensures told { IfAsked written.now.probes
         (RunTold written.now.version governor (planned written.now.run) (W.shows out.old) (W.shows out.new)
         (map P.seen probes.old.items) (map P.seen probes.new.items) result) }
-    ensures met { HasMetIfDone written.now.version governor (planned written.now.run) result }
     ensures leaves { Leaves result out.old out.new }
     ensures kept { LeavesProbes written.now.probes result probes.old probes.new }
     ensures loads { IsNoLoad result }

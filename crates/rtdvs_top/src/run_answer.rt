@@ -1,15 +1,14 @@
 // The answer of a run.
 ghost use Rattle.std.specs.Prelude.{◌≡◌, ◌+◌, map, IfOk, IfErr};
-ghost use Rattle.event_kernel.specs.Runs.{IsListOf};
 ghost use Rattle.words.specs.Commands.{IsReady, run as run_of};
-ghost use Rattle.rtdvs_top.specs.Asked.{shown_run};
+ghost use Rattle.rtdvs_top.specs.Asked.{shown_run, IsReadyRun};
 ghost use Rattle.rtdvs_top.specs.Answer.{prepared_of, run_after_tasks, run_answer};
 ghost use Rattle.rtdvs_top.specs.Causes.{Gives, Refuses, MakesLoads, LaterLoad, LoadOf, PassesMachine, PassesBefore, loads_named, loads_of};
 ghost use Rattle.rtdvs_top.specs.Answered.{seen, IsAnswered};
 ghost use Rattle.rtdvs_top.specs.Naming.{NamedBy, NamedIfDone};
 ghost use Rattle.rtdvs_top.specs.Probing.{LeavesProbes, ToldBy, ToldIn};
 ghost use Rattle.rtdvs_top.specs.Shown.{IsShown};
-ghost use Rattle.rtdvs_top.specs.Ending.{EndsAs, Leaves, MetBy, MetIn};
+ghost use Rattle.rtdvs_top.specs.Ending.{EndsAs, Leaves, RanBy, run_with};
 
 use crate::Status;
 use crate::files::{load_demands, load_machine, load_tasks};
@@ -35,10 +34,11 @@ fn prepare<S: Shelf>(
     run: &TaskedRun<'_>,
     shelf: &mut S,
 ) -> Result<(Admitted, Demands), Status>
+    requires { IsReady (shown_run run.now.words.now) }
     ensures read { IfOk result
         (λ x. Gives (S.shows shelf.old).held (prepared_of (shown_run run.now.words.now) run.now.tasks.now) (x.0, x.1)) }
-    ensures list { IfOk result (λ x. IsListOf x.0 x.1) }
-    ensures scheduler { IfOk result (λ x. x.0.scheduler ≡ run.now.words.now.scheduler) }
+    ensures ready { IfOk result (λ x. IsReadyRun run.now.words.now.governor
+        (run_with (shown_run run.now.words.now) x.0 x.1)) }
     ensures refused { IfErr result
         (Refuses (S.shows shelf.old).held (prepared_of (shown_run run.now.words.now) run.now.tasks.now)) }
     ensures passed { IfErr result (PassesMachine (S.shows shelf.old).held (run_of (shown_run run.now.words.now))) }
@@ -51,6 +51,8 @@ fn prepare<S: Shelf>(
     let machine = load_machine(alloc, run.words.machine, shelf)?;
     let demands = load_demands(alloc, run.words.demands, run.tasks, shelf)?;
     let plan = admit(alloc, run.words.scheduler, run.tasks, &machine)?;
+    let _scheduler = plan.scheduler();
+    let _worsts = demands.worsts();
     Ok((plan, demands))
 }
 
@@ -70,7 +72,7 @@ fn run_tasks<S: Shelf, W: Sink, P: Probe>(
     ensures told { ToldBy (S.shows shelf.old).held (shown_run run.now.words.now) run.now.tasks.now
         (W.shows out.old) (W.shows out.new)
         (map P.seen probes.old.items) (map P.seen probes.new.items) result }
-    ensures met { MetBy (S.shows shelf.old).held (shown_run run.now.words.now) run.now.tasks.now result }
+    ensures ran { RanBy (S.shows shelf.old).held (shown_run run.now.words.now) run.now.tasks.now result }
     ensures passed { PassesMachine (S.shows shelf.old).held (run_of (shown_run run.now.words.now)) result }
     ensures explained { LaterLoad (S.shows shelf.old) (S.shows shelf.new) (shown_run run.now.words.now) result }
     ensures loads { MakesLoads (1 + loads_named (shown_run run.now.words.now).demands)

@@ -8,17 +8,14 @@ ghost use Rattle.rtdvs_top.specs.ReplayCauses.{IsComparable, IsCompared, PassesT
 ghost use Rattle.rtdvs_top.specs.Causes.{EndsWith, Gives, Refuses, MakesLoads, IsLoadOf, IsNoLoad};
 ghost use Rattle.rtdvs_top.specs.Shown.{IsShown};
 
+use crate::at_pair::at_pair;
 use crate::files::{load_file, load_machine};
 use crate::run::admit;
 use crate::{FileKind, Status, TextFault};
-use cc_edf::CcEdf;
-use cc_rm::CcRm;
-use dvs_base::{GovernorKind, Name, NoMemory, Scheduler, Shelf, Totals};
+use dvs_base::{Name, NoMemory, Shelf, Totals};
 use governor::Publishing;
-use look_ahead::LookAhead;
 use replay::{ReplayFault, replay};
 use sched_model::Admitted;
-use static_gov::{Full, Static};
 use std::alloc::Global;
 use task_model::TaskSet;
 use trace_reader::{TaskLine, Trace, TraceFault, read_any};
@@ -200,12 +197,13 @@ pub(crate) fn compare_pair(alloc: Global, plan: &Admitted, trace: &Trace) -> Res
     ensures loads { IfErr result IsNoLoad }
     ensures shown { IfErr result IsShown }
 {
-    match (plan.scheduler(), trace.plan.governor) {
-        (_, GovernorKind::Plain) => compare_governed::<Full>(alloc, plan, trace),
-        (_, GovernorKind::Fixed) => compare_governed::<Static>(alloc, plan, trace),
-        (Scheduler::Edf, GovernorKind::Cycle) => compare_governed::<CcEdf>(alloc, plan, trace),
-        (Scheduler::Rm, GovernorKind::Cycle) => compare_governed::<CcRm>(alloc, plan, trace),
-        (Scheduler::Edf, GovernorKind::Ahead) => compare_governed::<LookAhead>(alloc, plan, trace),
-        (Scheduler::Rm, GovernorKind::Ahead) => unreachable!(),
-    }
+    at_pair!(
+        plan.scheduler(),
+        trace.plan.governor,
+        compare_governed,
+        [],
+        alloc,
+        plan,
+        trace
+    )
 }

@@ -21,3 +21,5 @@ pub mod Weights
 pub mod SortedKeys
 pub mod Heaviest
 pub mod Service
+pub mod HeldUnits
+pub mod BeforeEnd

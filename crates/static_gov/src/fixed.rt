@@ -13,7 +13,7 @@ ghost use Rattle.governor.proofs.OneSpeedLaws.{pairs_fixed, static_laws};
 ghost use Rattle.governor.proofs.PlanDemands.{fixed_publishing};
 
 use dvs_base::{GovernorKind, NoMemory};
-use governor::{Choice, Governor, Publishing};
+use governor::{Choice, Governor, Publishing, chosen};
 use grid_fraction::Frac;
 use sched_model::{Admitted, State};
 use std::alloc::Global;
@@ -80,12 +80,7 @@ impl Governor for Static {
         ensures met { result.met ≡ (lowest_pick plan.now.machine (static_demand plan.now)).met }
         ensures always { result.met ≡ true }
     {
-        let pick = plan.machine().lowest(self.demand);
-        Choice {
-            index: pick.index,
-            met: pick.met,
-            demand: self.demand,
-        }
+        chosen(plan, self.demand)
     }
 }
 

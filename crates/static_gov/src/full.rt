@@ -13,7 +13,7 @@ ghost use Rattle.governor.proofs.OneSpeedLaws.{pairs_plain, full_laws};
 ghost use Rattle.governor.proofs.PlanDemands.{plain_publishing};
 
 use dvs_base::{GovernorKind, NoMemory};
-use governor::{Choice, Governor, Publishing};
+use governor::{Choice, Governor, Publishing, chosen};
 use grid_fraction::Frac;
 use sched_model::{Admitted, State};
 use std::alloc::Global;
@@ -79,12 +79,7 @@ impl Governor for Full {
             num: u128::from(plan.machine().top()),
             den: 1,
         };
-        let pick = plan.machine().lowest(demand);
-        Choice {
-            index: pick.index,
-            met: pick.met,
-            demand,
-        }
+        chosen(plan, demand)
     }
 }
 

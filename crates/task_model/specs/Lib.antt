@@ -3,3 +3,4 @@ pub mod DemandRows
 pub mod TaskFile
 pub mod Limits
 pub mod Written
+pub mod Offsets

@@ -153,10 +153,16 @@ mod tests {
         let read = TaskSet::read(alloc, PAPER_SET.as_bytes()).map_err(|_| "the paper's set")?;
         let set = TaskSet::of(alloc, read.as_slice()).map_err(|_| "memory")?;
         assert_eq!(rt; (set.count(), set.hyper()), (3, 280));
-        if set.count() == 3 {
-            let task = set.task(2);
-            assert_eq!(rt; task.name.as_bytes(), b"t3".as_slice());
-            assert_eq!(rt; (task.period, task.worst), (14, 4));
+        for (i, name, period, worst) in [
+            (0, b"t1".as_slice(), 8, 12),
+            (1, b"t2", 10, 12),
+            (2, b"t3", 14, 4),
+        ] {
+            if i < set.count() {
+                let task = set.task(i);
+                assert_eq!(rt; task.name.as_bytes(), name);
+                assert_eq!(rt; (task.period, task.worst, task.offset), (period, worst, 0));
+            }
         }
         Ok(())
     }

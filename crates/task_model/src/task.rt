@@ -3,6 +3,7 @@ ghost use Rattle.std.specs.Prelude.{◌≡◌, ◌<◌, ◌≤◌, length, Some,
 ghost use Rattle.task_model.specs.declared.limits.TheConstants.{MOST_TASKS, LONGEST_HYPERPERIOD};
 ghost use Rattle.task_model.specs.Tasks.{IsTask, IsTaskSet, hyper_of, task_at, where_within};
 ghost use Rattle.task_model.specs.Limits.{AreTasks};
+ghost use Rattle.task_model.specs.Offsets.{FindsOffset, first_offset};
 ghost use Rattle.task_model.specs.TaskFile.{place_of};
 
 use crate::limits::{LONGEST_HYPERPERIOD, MOST_TASKS};
@@ -123,6 +124,20 @@ impl TaskSet {
             Some(i) => Some(i as u32),
             None => None,
         }
+    }
+
+    /// The first task in file order with an offset other than 0, and None exactly where no task has one. Tasks count from
+    /// 0.
+    pub fn first_offset(&self) -> Option<u32>
+        ensures finds { FindsOffset (λ k. (task_at self.now k).offset) (length self.now) result }
+        ensures is { result ≡ first_offset (λ k. (task_at self.now k).offset) (length self.now) }
+    {
+        for i in 0..self.count() {
+            if self.task(i).offset != 0 {
+                return Some(i);
+            }
+        }
+        None
     }
 
     /// The tasks, in their order, and the limits that every set keeps.

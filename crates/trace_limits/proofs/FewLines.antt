@@ -31,10 +31,10 @@ use Rattle.done_lines.proofs.CountLemmas.{one-or-none, count-each, has-few}
 use Rattle.done_lines.proofs.DoneNotes.{tells_done, times, ended, had_of, laid-pieces, pieces-ended}
 use Rattle.done_lines.proofs.DoneSpans.{IsLastSpan, last-span}
 use Rattle.done_lines.proofs.SpanHeads.{Head, Begins, begins}
-use Rattle.replay_laws.proofs.FitNotes.{IsBeforeEnd, before-end-each}
+use Rattle.sched_model.proofs.BeforeEnd.{IsBeforeEnd, before-end-each}
 use Rattle.trace_limits.specs.RunTraces.{HasFewNotes}
 use Rattle.trace_limits.proofs.FewReleases.{released-at, releases-more}
-use Rattle.trace_limits.proofs.SpanPieces.{completed, HasFew, LastHasFew, last-few}
+use Rattle.done_lines.proofs.SpanPieces.{completed, HasFew, LastHasFew, last-few}
 
 -- a note of a segment
 abbrev pub is_segment : Note → Bool

@@ -1,5 +1,3 @@
-pub mod TickPieces
-pub mod SpanPieces
 pub mod FewReleases
 pub mod FewLines
 pub mod DemandWidths

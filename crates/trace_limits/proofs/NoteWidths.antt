@@ -28,7 +28,7 @@ use Rattle.trace_reader.specs.Traces.{IsPlace, IsNoteOf}
 use Rattle.done_lines.proofs.DoneNotes.{laid, laid-pieces}
 use Rattle.done_lines.proofs.DoneSpans.{IsLastSpan, last-span}
 use Rattle.done_lines.proofs.SpanHeads.{IsNow, Begins, begins}
-use Rattle.replay_laws.proofs.FixedNotes.{each-flat}
+use Rattle.sched_model.proofs.BeforeEnd.{each-flat}
 use Rattle.trace_limits.proofs.DemandWidths.{IsLow}
 
 -- the most units of a run

@@ -28,8 +28,8 @@ use Rattle.trace_reader.specs.VersionLines.{task_text}
 use Rattle.trace_reader.specs.TraceText.{run_energy_of, energy_of_task}
 use Rattle.trace_reader.specs.Traces.{IsNoteOf, is_end, IsEnded, HasShares, lines_for_tasks, IsTrace}
 use Rattle.done_lines.specs.RunText.{task_texts}
-use Rattle.replay_laws.proofs.HeldUnits.{each-weaker}
-use Rattle.replay_laws.proofs.OneEnd.{EndsOnce, schedule-ended}
+use Rattle.sched_model.proofs.HeldUnits.{each-weaker}
+use Rattle.done_lines.proofs.OneEnd.{EndsOnce, schedule-ended}
 use Rattle.trace_limits.specs.RunTraces.{trace_of_run, IsLimitedRun, KeepsLimits}
 use Rattle.trace_limits.proofs.DemandWidths.{published-low}
 use Rattle.trace_limits.proofs.FewLines.{has-few-notes}

@@ -14,7 +14,7 @@ use Rattle.dvs_base.specs.Text.{number_below}
 use Rattle.dvs_base.specs.Parts.{position_text, fraction_text}
 use Rattle.trace_text.specs.TraceLines.{name_of}
 use Rattle.dvs_base.specs.declared.note.Pos.{Pos}
-use Rattle.trace_reader.proofs.Spelled.{number_below-decimal, number_below-found}
+use Rattle.dvs_base.proofs.Spelled.{number_below-decimal, number_below-found}
 use Rattle.trace_reader.specs.declared.trace.TraceKind.{TraceKind}
 use Rattle.trace_reader.specs.declared.trace.TraceKind.TheVariants as kind
 use Rattle.trace_reader.specs.Fields.{◌>>=◌, parts, two_of, whole_in, wide_in, position_in, fraction_in, task_in}

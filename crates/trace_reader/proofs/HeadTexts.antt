@@ -21,7 +21,7 @@ use Rattle.dvs_base.specs.declared.kind.Version.{Version}
 use Rattle.dvs_base.specs.declared.kind.Version.TheVariants.{One, Two}
 use Rattle.dvs_base.specs.declared.limits.TheConstants.{LONGEST_LINE, MOST_TICKS}
 use Rattle.dvs_base.proofs.Names.{length-name}
-use Rattle.trace_reader.proofs.Spelled.{number_below-decimal, number_below-found}
+use Rattle.dvs_base.proofs.Spelled.{number_below-decimal, number_below-found}
 use Rattle.trace_text.specs.declared.write.PlanLine.{PlanLine}
 use Rattle.trace_reader.specs.declared.trace.TaskLine.{TaskLine}
 use Rattle.trace_reader.specs.declared.trace.TraceFault.{TraceFault}

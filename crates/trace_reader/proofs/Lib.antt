@@ -1,4 +1,3 @@
-pub mod Spelled
 pub mod Splitting
 pub mod Reading
 pub mod Summing

@@ -1,11 +1,14 @@
 // The lines of a trace.
-ghost use Rattle.std.specs.Prelude.{◌≡◌, ◌≤◌, [], ◌∷◌, codes};
+ghost use Rattle.std.specs.Prelude.{◌≡◌, ◌+◌, ◌≤◌, ◌++◌, [], ◌∷◌, codes, length};
 ghost use Rattle.std.specs.Fmt.{decimal};
 ghost use Rattle.trace_text.specs.TraceLines.{line, run_fields, idle_fields, done_fields, note_text, plan_text, name_of};
 ghost use Rattle.dvs_base.specs.Parts.{part_text, most_bytes, fraction_text};
 ghost use Rattle.trace_text.specs.Words.{scheduler_word, governor_word};
 
-use dvs_base::{GovernorKind, Line, Name, Note, Part, Pos, Scheduler, line_of};
+use dvs_base::{
+    GovernorKind, Line, Name, Note, Part, Pos, Scheduler, line_of, push_name, push_number,
+    push_position, push_ratio, push_wide, push_word,
+};
 
 /// The plan of a trace: the scheduler, the governor and the number of ticks.
 #[derive(Clone, Copy, Debug, PartialEq, Eq)]
@@ -20,6 +23,23 @@ pub struct PlanLine {
 struct Span {
     from: Pos,
     to: Pos,
+}
+
+// A job at its end, and the units that it used.
+#[derive(Clone, Copy)]
+struct Ended {
+    task: u32,
+    job: u64,
+    used: u64,
+}
+
+// What a job does in a segment: its units and their energy.
+#[derive(Clone, Copy)]
+struct Work {
+    task: u32,
+    job: u64,
+    units: u64,
+    energy: u128,
 }
 
 fn word_of_scheduler(scheduler: Scheduler) -> &'static [u8]
@@ -59,111 +79,111 @@ pub fn write_head(line: &mut Line, plan: PlanLine)
 }
 
 // The name of a task, and nothing where it has none.
-fn name_part(names: &[Name], task: u32) -> Part<'_>
-    ensures text { part_text result ≡ name_of names.now task }
-    ensures most { most_bytes result ≤ 32 }
+#[inline]
+fn push_task(to: &mut Line, names: &[Name], task: u32)
+    requires { length to.old + 32 ≤ 256 }
+    ensures text { to.new ≡ to.old ++ name_of names.now task }
+    ensures most { length to.new ≤ length to.old + 32 }
 {
     match names.get(task as usize) {
-        Some(name) => Part::Named(name),
-        None => Part::Word(b""),
+        Some(name) => push_name(to, name),
+        None => {}
     }
 }
 
-fn release_line(tick: u64, name: Part<'_>, job: u64) -> Line
-    requires { most_bytes name ≤ 32 }
-    ensures { result ≡ line (codes "release" ∷ decimal tick ∷ part_text name.entry ∷ decimal job ∷ []) }
+// The name of a task, a blank, and the number of its job.
+#[inline]
+fn push_job(to: &mut Line, names: &[Name], task: u32, job: u64)
+    requires { length to.old + 53 ≤ 256 }
+    ensures text { to.new ≡ to.old ++ name_of names.now task ++ codes " " ++ decimal job }
+    ensures most { length to.new ≤ length to.old + 53 }
 {
-    line_of(&[
-        Part::Word(b"release "),
-        Part::Number(tick),
-        Part::Word(b" "),
-        name,
-        Part::Word(b" "),
-        Part::Number(job),
-        Part::Word(b"\n"),
-    ])
+    push_task(to, names, task);
+    push_word(to, b" ");
+    push_number(to, job);
 }
 
-fn speed_line(tick: u64, speed: u64, num: u128, den: u128) -> Line
-    ensures { result ≡ line (codes "speed" ∷ decimal tick ∷ decimal speed ∷ fraction_text num den ∷ []) }
+fn push_release(to: &mut Line, tick: u64, names: &[Name], task: u32, job: u64)
+    requires empty { to.old ≡ [] }
+    ensures { to.new ≡ line (codes "release" ∷ decimal tick ∷ name_of names.now task ∷ decimal job ∷ []) }
 {
-    line_of(&[
-        Part::Word(b"speed "),
-        Part::Number(tick),
-        Part::Word(b" "),
-        Part::Number(speed),
-        Part::Word(b" "),
-        Part::Ratio(num, den),
-        Part::Word(b"\n"),
-    ])
+    push_word(to, b"release ");
+    push_number(to, tick);
+    push_word(to, b" ");
+    push_job(to, names, task, job);
+    push_word(to, b"\n");
 }
 
-fn run_line(span: Span, name: Part<'_>, job: u64, units: u64, energy: u128) -> Line
-    requires { most_bytes name ≤ 32 }
-    ensures { result ≡ line (run_fields span.from span.to (part_text name.entry) job units energy) }
+fn push_speed(to: &mut Line, tick: u64, speed: u64, num: u128, den: u128)
+    requires empty { to.old ≡ [] }
+    ensures { to.new ≡ line (codes "speed" ∷ decimal tick ∷ decimal speed ∷ fraction_text num den ∷ []) }
 {
-    line_of(&[
-        Part::Word(b"run "),
-        Part::At(span.from),
-        Part::Word(b" "),
-        Part::At(span.to),
-        Part::Word(b" "),
-        name,
-        Part::Word(b" "),
-        Part::Number(job),
-        Part::Word(b" "),
-        Part::Number(units),
-        Part::Word(b" "),
-        Part::Wide(energy),
-        Part::Word(b"\n"),
-    ])
+    push_word(to, b"speed ");
+    push_number(to, tick);
+    push_word(to, b" ");
+    push_number(to, speed);
+    push_word(to, b" ");
+    push_ratio(to, num, den);
+    push_word(to, b"\n");
 }
 
-fn idle_line(span: Span, units: u64, energy: u128) -> Line
-    ensures { result ≡ line (idle_fields span.from span.to units energy) }
+fn push_run(to: &mut Line, span: Span, names: &[Name], work: Work)
+    requires empty { to.old ≡ [] }
+    ensures { to.new
+        ≡ line (run_fields span.from span.to (name_of names.now work.task) work.job work.units work.energy) }
 {
-    line_of(&[
-        Part::Word(b"idle "),
-        Part::At(span.from),
-        Part::Word(b" "),
-        Part::At(span.to),
-        Part::Word(b" "),
-        Part::Number(units),
-        Part::Word(b" "),
-        Part::Wide(energy),
-        Part::Word(b"\n"),
-    ])
+    push_word(to, b"run ");
+    push_position(to, span.from);
+    push_word(to, b" ");
+    push_position(to, span.to);
+    push_word(to, b" ");
+    push_job(to, names, work.task, work.job);
+    push_word(to, b" ");
+    push_number(to, work.units);
+    push_word(to, b" ");
+    push_wide(to, work.energy);
+    push_word(to, b"\n");
 }
 
-fn done_line(at: Pos, name: Part<'_>, job: u64, used: u64) -> Line
-    requires { most_bytes name ≤ 32 }
-    ensures { result ≡ line (done_fields at (part_text name.entry) job used) }
+fn push_idle(to: &mut Line, span: Span, units: u64, energy: u128)
+    requires empty { to.old ≡ [] }
+    ensures { to.new ≡ line (idle_fields span.from span.to units energy) }
 {
-    line_of(&[
-        Part::Word(b"done "),
-        Part::At(at),
-        Part::Word(b" "),
-        name,
-        Part::Word(b" "),
-        Part::Number(job),
-        Part::Word(b" "),
-        Part::Number(used),
-        Part::Word(b"\n"),
-    ])
+    push_word(to, b"idle ");
+    push_position(to, span.from);
+    push_word(to, b" ");
+    push_position(to, span.to);
+    push_word(to, b" ");
+    push_number(to, units);
+    push_word(to, b" ");
+    push_wide(to, energy);
+    push_word(to, b"\n");
 }
 
-fn end_line(ticks: u64, run: u128, idle: u128) -> Line
-    ensures { result ≡ line (codes "end" ∷ decimal ticks ∷ decimal run ∷ decimal idle ∷ []) }
+fn push_done(to: &mut Line, at: Pos, names: &[Name], ended: Ended)
+    requires empty { to.old ≡ [] }
+    ensures { to.new ≡ line (done_fields at (name_of names.now ended.task) ended.job ended.used) }
 {
-    line_of(&[
-        Part::Word(b"end "),
-        Part::Number(ticks),
-        Part::Word(b" "),
-        Part::Wide(run),
-        Part::Word(b" "),
-        Part::Wide(idle),
-        Part::Word(b"\n"),
-    ])
+    push_word(to, b"done ");
+    push_position(to, at);
+    push_word(to, b" ");
+    push_job(to, names, ended.task, ended.job);
+    push_word(to, b" ");
+    push_number(to, ended.used);
+    push_word(to, b"\n");
+}
+
+fn push_end(to: &mut Line, ticks: u64, run: u128, idle: u128)
+    requires empty { to.old ≡ [] }
+    ensures { to.new ≡ line (codes "end" ∷ decimal ticks ∷ decimal run ∷ decimal idle ∷ []) }
+{
+    push_word(to, b"end ");
+    push_number(to, ticks);
+    push_word(to, b" ");
+    push_wide(to, run);
+    push_word(to, b" ");
+    push_wide(to, idle);
+    push_word(to, b"\n");
 }
 
 /// Writes the line of a note, with its line feed; a task without a name has an empty one. Each line has at most 203 bytes.
@@ -172,14 +192,14 @@ pub fn write_note(line: &mut Line, note: &Note, names: &[Name])
     requires { line.old ≡ [] }
     ensures { line.new ≡ note_text names.now note.now }
 {
-    *line = match *note {
-        Note::Release { tick, task, job } => release_line(tick, name_part(names, task), job),
+    match *note {
+        Note::Release { tick, task, job } => push_release(line, tick, names, task, job),
         Note::Speed {
             tick,
             speed,
             num,
             den,
-        } => speed_line(tick, speed, num, den),
+        } => push_speed(line, tick, speed, num, den),
         Note::Run {
             from,
             to,
@@ -187,25 +207,27 @@ pub fn write_note(line: &mut Line, note: &Note, names: &[Name])
             job,
             units,
             energy,
-        } => run_line(
-            Span { from, to },
-            name_part(names, task),
-            job,
-            units,
-            energy,
-        ),
+        } => {
+            let work = Work {
+                task,
+                job,
+                units,
+                energy,
+            };
+            push_run(line, Span { from, to }, names, work)
+        }
         Note::Idle {
             from,
             to,
             units,
             energy,
-        } => idle_line(Span { from, to }, units, energy),
+        } => push_idle(line, Span { from, to }, units, energy),
         Note::Done {
             at,
             task,
             job,
             used,
-        } => done_line(at, name_part(names, task), job, used),
-        Note::End { ticks, run, idle } => end_line(ticks, run, idle),
-    };
+        } => push_done(line, at, names, Ended { task, job, used }),
+        Note::End { ticks, run, idle } => push_end(line, ticks, run, idle),
+    }
 }

@@ -1,20 +1,59 @@
 -- The first release of each task, one after another, and the mark after them.
-use Rattle.std.proofs.Common.{◌≡◌, ℕ, ◌+◌, ◌<◌, zero, suc, Bool, true, false, if◌then◌else◌, [], ◌∷◌, refl, arith, ap, ◌∙◌, sym, subst, add-one, nat_eq}
+use Rattle.std.proofs.Common.{◌≡◌, ◌≢◌, ℕ, ◌+◌, ◌<◌, ◌≤◌, zero, suc, Bool, true, false, eqb, if◌then◌else◌, [], ◌∷◌, length, set, length-set, get_or-set_same, get_or-set_other, refl, arith, ap, ◌∙◌, sym, subst, add-one, nat_eq}
 use Rattle.std.specs.Prelude.{slice_set}
 use Rattle.std.proofs.lemmas.Bool.Decides.{nat_tests}
 use Rattle.dvs_base.specs.declared.note.Note.{Note}
 use Rattle.dvs_base.specs.declared.note.Note.TheVariants.{Release, Done}
 use Rattle.sched_model.specs.declared.state.Row.{Row}
-use Rattle.sched_model.specs.Plan.{Plan, count, period, offset}
+use Rattle.sched_model.specs.Plan.{Plan, count, period, offset, worst}
 use Rattle.sched_model.specs.Admission.{IsAdmitted}
-use Rattle.sched_model.specs.States.{StateOf, opening, state_of, after_release, after_mark, row_at, released_row, IsOfPlan, CanRelease}
+use Rattle.sched_model.specs.States.{StateOf, opening, state_of, after_release, after_mark, no_row, row_at, released_row, IsOfPlan, CanRelease}
 use Rattle.governor.specs.Steps.{IsAtDecision}
-use Rattle.event_kernel.specs.Heard.{HasHeard}
-use Rattle.event_kernel.specs.Boundary.{opened, opening_notes}
 use Rattle.event_kernel.proofs.Bounds.{Bounds, bounds}
-use Rattle.event_kernel.proofs.Releasing.{Releasing, releasing-start, row-there, passed, opens, can-release, released-marked, released-unmarked}
+use Rattle.event_kernel.proofs.Releasing.{Releasing, releasing-start, row-there, skips, opens, can-release, released-marked, released-unmarked}
 use Rattle.event_kernel.proofs.Deciding.{at-decision}
-use Rattle.event_kernel.proofs.Ofplan.{of-prior, of-state, of-release}
+use Rattle.event_kernel.proofs.Ofplan.{of-prior, of-state}
+
+module _ (p : Plan) where
+  -- one row changed
+  of-set : (s : StateOf) (i : ℕ) (r : Row) → IsOfPlan p s → i < length s.rows → r.worst ≡ (row_at s i).worst → r.used ≤ (row_at s i).worst
+      → IsOfPlan p (record s { rows = set s.rows i r })
+  of-set s i r o lt w u = record {
+    rows = length-set s.rows i r ∙ o.rows;
+    base = o.base;
+    worst = λ k l. at k l (eqb k i) refl;
+    used = λ k l. in-it k l (eqb k i) refl;
+  }
+    where
+      here : row_at (record s { rows = set s.rows i r }) i ≡ r
+      here = get_or-set_same s.rows i r no_row lt
+
+      at : (k : ℕ) → k < count p → (b : Bool) → eqb k i ≡ b → (row_at (record s { rows = set s.rows i r }) k).worst ≡ worst p k
+      at k l true e =
+          let same : i ≡ k = grind (arith, nat_tests) in
+          subst (λ m. (row_at (record s { rows = set s.rows i r }) m).worst ≡ worst p m) same
+          (ap (λ (q : Row). q.worst) here ∙ (w ∙ o.worst i (omega (arith, lt, o.rows))))
+      at k l false e =
+          let other : k ≢ i = grind (arith, nat_tests) in
+          ap (λ (q : Row). q.worst) (get_or-set_other s.rows i k r no_row other) ∙ o.worst k l
+
+      in-it : (k : ℕ) → k < count p → (b : Bool) → eqb k i ≡ b
+          → (row_at (record s { rows = set s.rows i r }) k).used ≤ (row_at (record s { rows = set s.rows i r }) k).worst
+      in-it k l true e =
+          let same : i ≡ k = grind (arith, nat_tests) in
+          subst (λ m. (row_at (record s { rows = set s.rows i r }) m).used ≤ (row_at (record s { rows = set s.rows i r }) m).worst) same
+          (omega (arith, ap (λ (q : Row). q.used) here, ap (λ (q : Row). q.worst) here, w, u))
+      in-it k l false e =
+          let other : k ≢ i = grind (arith, nat_tests) in
+          omega (
+            arith,
+            ap (λ (q : Row). q.used) (get_or-set_other s.rows i k r no_row other),
+            ap (λ (q : Row). q.worst) (get_or-set_other s.rows i k r no_row other),
+            o.used k l,
+          )
+
+  of-release : (s : StateOf) (i : ℕ) → IsOfPlan p s → CanRelease p s i → IsOfPlan p (after_release p s i)
+  of-release s i o c = of-set s i _ o c.task refl (omega arith)
 
 -- every job needs one unit
 abbrev one_unit : ℕ → ℕ → ℕ
@@ -24,18 +63,14 @@ one_unit i (suc k) = 1
 needed : (i k : ℕ) → nat_eq (one_unit i (k + 1)) 0 ≡ false
 needed i k = rw (add-one k) refl
 
--- whoever listens takes every note
-abbrev takes : ℕ → Note → ℕ → Type 0
-takes a n b = Unit {0}
-
 -- of the first m tasks those without an offset are released, and whether there are any
 pub record HasReleased (p : Plan) (m : ℕ) (any : Bool) (s : StateOf) : Type 0 where
-  pub rows : Releasing p one_unit [] takes m any s 0 0
+  pub rows : Releasing p one_unit [] m any s
   pub of : IsOfPlan p s
 
 pub none-released : (p : Plan) (s : StateOf) → s ≡ opening p → HasReleased p 0 false s
 none-released p s is = subst (HasReleased p 0 false) (sym is) (record {
-  rows = releasing-start p one_unit [] takes 0;
+  rows = releasing-start p one_unit [];
   of = of-prior p one_unit [] (λ i k lt. omega arith);
 })
 
@@ -45,7 +80,7 @@ module _ (p : Plan) (adm : IsAdmitted p) where
 
   module _ (m : ℕ) (any : Bool) (s : StateOf) (h : HasReleased p m any s) (lt : m < count p) where
     deadline-is : (row_at s m).deadline ≡ offset p m
-    deadline-is = ap (λ (r : Row). r.deadline) (row-there p one_unit [] b.some_period takes takes 0 m any s 0 h.rows lt)
+    deadline-is = ap (λ (r : Row). r.deadline) (row-there b.some_period h.rows m lt (omega arith))
 
     now-is : s.now ≡ 0
     now-is = ap (λ (v : StateOf). v.now) h.rows.state
@@ -55,37 +90,35 @@ module _ (p : Plan) (adm : IsAdmitted p) where
 
     pub next-can_release : offset p m ≡ 0 → CanRelease p s m
     next-can_release first =
-        can-release p one_unit [] b.some_period takes takes 0 m any s 0 h.rows lt (due-now first) b (omega arith) (λ d. refl)
+        can-release b.some_period h.rows lt (due-now first) b (omega arith) (λ d. refl)
 
     pub next-released : offset p m ≡ 0 → HasReleased p (m + 1) true (after_release p s m)
     next-released first = record {
-      rows = opens p one_unit [] b.some_period takes takes 0 m any s 0 h.rows lt (due-now first) (after_release p s m) 0 told is;
+      rows = opens b.some_period h.rows lt (due-now first) (after_release p s m) is;
       of = of-release p s m h.of (next-can_release first);
     }
       where
         job : ℕ
         job = (row_at s m).job
 
-        is : after_release p s m ≡ opened p one_unit s m
+        is : after_release p s m
+            ≡ record s { rows = slice_set s.rows m (record (released_row (period p m) (row_at s m)) { done = nat_eq (one_unit m (job + 1)) 0 }) }
         is = ap (λ c. record s { rows = slice_set s.rows m (record (released_row (period p m) (row_at s m)) { done = c }) }) (sym (needed m job))
 
-        told : HasHeard takes 0 (opening_notes one_unit s m) 0
-        told = subst (λ c. HasHeard takes 0 (Release s.now m (job + 1)
-            ∷ (if c then Done (record { tick = s.now; offset = 0 }) m (job + 1) 0 ∷ [] else [])) 0) (sym (needed m job)) (0, tt, refl)
-
     pub next-passed : (offset p m ≡ 0 → ⊥) → HasReleased p (m + 1) any s
-    next-passed late = record { rows = passed p one_unit [] b.some_period takes takes 0 m any s 0 h.rows lt refl early; of = h.of }
-      where
-        early : nat_eq (row_at s m).deadline s.now ≡ false
-        early = let apart : (row_at s m).deadline ≡ s.now → ⊥ = (λ e. late (sym deadline-is ∙ (e ∙ now-is))) in grind (arith, nat_tests)
+    next-passed late =
+        let apart : (row_at s m).deadline ≡ s.now → ⊥ = (λ e. late (sym deadline-is ∙ (e ∙ now-is))) in
+        let only : (k : ℕ) → m ≤ k → k < m + 1 → (row_at s k).deadline ≢ s.now = λ k lo hi.
+        (let here : m ≡ k = omega (arith, lo, hi) in subst (λ i. (row_at s i).deadline ≢ s.now) here apart) in
+        record { rows = (skips b.some_period h.rows (m + 1) (λ i. refl) (omega arith) (omega (arith, lt)) only).0; of = h.of }
 
   -- all tasks are released, and the tick is marked where some were
   module _ (m : ℕ) (s : StateOf) (all : m ≡ count p) where
     marked-is : HasReleased p m true s → after_mark s ≡ state_of p one_unit []
-    marked-is h = released-marked p one_unit [] b.some_period takes takes 0 m s 0 all h.rows
+    marked-is h = released-marked b.some_period refl (subst (λ n. Releasing p one_unit [] n true s) all h.rows)
 
     unmarked-is : HasReleased p m false s → s ≡ state_of p one_unit []
-    unmarked-is h = released-unmarked p one_unit [] b.some_period takes takes 0 m s 0 (λ i. refl) all h.rows
+    unmarked-is h = released-unmarked b.some_period (λ i. refl) refl (subst (λ n. Releasing p one_unit [] n false s) all h.rows)
 
     pub marked-of : HasReleased p m true s → IsOfPlan p (after_mark s)
     marked-of h = subst (IsOfPlan p) (sym (marked-is h)) (of-state p one_unit [] (λ i k lt. omega arith))

@@ -7,11 +7,10 @@ ghost use Rattle.event_kernel.specs.Runs.{IsListOf};
 
 use crate::case::Case;
 use crate::example::{
-    CONTROLLER_DEMANDS, CONTROLLER_MACHINE, CONTROLLER_TASKS, LATE_TASKS, PAPER_DEMANDS,
-    PAPER_MACHINE, PAPER_TASKS,
+    BOTH_AT_2, CONTROLLER_DEMANDS, CONTROLLER_MACHINE, CONTROLLER_TASKS, FIRST_LATE, LATE_TASKS,
+    ONE_BEYOND, PAPER_DEMANDS, PAPER_MACHINE, PAPER_TASKS,
 };
 use crate::generator::MadeFiles;
-use crate::task_offsets::{BOTH_AT_2, FIRST_LATE, ONE_BEYOND};
 use cc_edf::CcEdf;
 use cc_rm::CcRm;
 use demand_list::Demands;

@@ -1,7 +1,5 @@
 // Files that several tests share: the example of Pillai and Shin 2001, with 4 units for a millisecond at full speed,
 // and a battery-driven controller.
-use crate::case::Case;
-
 pub(crate) const PAPER_TASKS: &str = r#"
 task = [
     {name = "t1", period = 8, worst = 12},
@@ -56,27 +54,18 @@ point = [
 pub(crate) const CONTROLLER_DEMANDS: &str =
     "task,job,units\r\n\"imu\",1,196\r\n\"imu\",2,396\r\nradio,1,596\r\nmotor,1,996\r\nlog,\"1\",396\r\nui,1,196\r\n";
 
-// Machines of one speed.
-pub(crate) const SLOW: &str = "point = [{speed = 1, millivolts = 1000}]";
+// Tasks of which one or both are first released after tick 0, one of them beyond the runs.
+// The second task is released for the first time at tick 2.
+pub(crate) const FIRST_LATE: &str =
+    r#"task = [{name = "x", period = 4, worst = 4}, {name = "y", period = 6, worst = 6, offset = 2}]"#;
 
-pub(crate) const TWO: &str = "point = [{speed = 2, millivolts = 1000}]";
+// Both tasks are released for the first time at tick 2; the first decision, at 0, has the demand of no work.
+pub(crate) const BOTH_AT_2: &str =
+    r#"task = [{name = "x", period = 4, worst = 4, offset = 2}, {name = "y", period = 6, worst = 6, offset = 2}]"#;
 
-pub(crate) const PAPER: Case = Case {
-    tasks: PAPER_TASKS,
-    machine: PAPER_MACHINE,
-    demands: PAPER_DEMANDS,
-    words: "",
-};
-
-pub(crate) const ADMIT_EDF: &str = "admit --tasks T --machine M --scheduler edf";
-
-pub(crate) const ADMIT_RM: &str = "admit --tasks T --machine M --scheduler rm";
-
-pub(crate) const RUN_NONE_WITH_DEMANDS: &str =
-    "run --tasks T --machine M --scheduler edf --governor none --ticks 16 --demands D";
-
-pub(crate) const RUN_NONE: &str =
-    "run --tasks T --machine M --scheduler edf --governor none --ticks 16";
+// Two tasks, one of which is released after the run.
+pub(crate) const ONE_BEYOND: &str =
+    r#"task = [{name = "x", period = 4, worst = 4}, {name = "z", period = 6, worst = 6, offset = 100}]"#;
 
 // The trace of the example at the highest speed, with each job at its worst case.
 pub(crate) const NONE_TRACE: [&str; 33] = [

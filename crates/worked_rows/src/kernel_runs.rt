@@ -4,8 +4,7 @@ ghost use Rattle.event_kernel.specs.Runs.{IsListOf};
 ghost use Rattle.governor.specs.Serving.{ServesEdf};
 
 use crate::case::{Case, expect_lines};
-use crate::example::{NONE_TRACE, PAPER_MACHINE, PAPER_TASKS};
-use crate::task_offsets::FIRST_LATE;
+use crate::example::{FIRST_LATE, NONE_TRACE, PAPER_MACHINE, PAPER_TASKS};
 use cc_edf::CcEdf;
 use demand_list::Demands;
 use dvs_base::{FailAt, MemSink, Version};

@@ -1,13 +1,10 @@
 // Puts of the notes that fail: the status stays, and nothing more is put.
 use crate::call::{Call, Faults};
-use crate::hostile::example::{
-    ADMIT, ADMITTED, CONSTRAIN, CONSTRAINED, DENIED, LEAST, LEAST_ENERGY, MIGRATE, OVER_WORST,
-    POLL, POLLED, REPLAY, REPLAYED, RESPONSE, RESPONSES,
-};
+use crate::hostile::example::{ADMIT, CONSTRAIN, DENIED, LEAST, OVER_WORST, POLL, RESPONSE};
 use crate::hostile::puts::{TAKEN, at};
 use dvs_base::FailAt;
 use std::test::Fail;
-use test_inputs::example::{PAPER_MACHINE, PAPER_TASKS, TWO_TASKS, TWO_TRACE_2};
+use test_inputs::example::{PAPER_MACHINE, PAPER_TASKS, TWO_TASKS};
 use test_inputs::{Ending, first_part};
 
 // The put of the notes of this number fails, with so many bytes.
@@ -152,52 +149,6 @@ found: run 0:0 1:0 t2 1 4 100000000000
         ),
     ] {
         each_note_fails(&rt, call, code, notes)?;
-    }
-    Ok(())
-}
-
-// Calls that are done, and what they write.
-const DONE: [(Call, &str); 7] = [
-    (ADMIT, ADMITTED),
-    (REPLAY, REPLAYED),
-    (MIGRATE, TWO_TRACE_2),
-    (RESPONSE, RESPONSES),
-    (CONSTRAIN, CONSTRAINED),
-    (POLL, POLLED),
-    (LEAST, LEAST_ENERGY),
-];
-
-// They put nothing to the notes, so nothing of these fails.
-#[test]
-fn a_call_that_is_done_puts_no_note(rt: HostRuntime) -> Result<(), Fail> {
-    for (call, out) in DONE {
-        let done = Ending {
-            code: 0,
-            out,
-            notes: "",
-            faults: [0, 0, 0],
-        };
-        note_fails(&rt, call, at(1, 0), done)?;
-    }
-    Ok(())
-}
-
-// Both sinks fail at their first put.
-#[test]
-fn a_write_that_fails_and_its_note(rt: HostRuntime) -> Result<(), Fail> {
-    let faults = Faults {
-        loads: &[],
-        puts: &[FailAt { call: 1, taken: 2 }],
-        notes: &[FailAt { call: 1, taken: 3 }],
-    };
-    for (call, out) in DONE {
-        let failed = Ending {
-            code: 8,
-            out: first_part(out, 0, out, 2),
-            notes: "wri",
-            faults: [0, 1, 1],
-        };
-        call.ends(&rt, faults, failed)?;
     }
     Ok(())
 }

@@ -263,3 +263,58 @@ fn probes_stay_where_no_run_tells_them(rt: HostRuntime) -> Result<(), Fail> {
     tells_no_probe(&rt, DENIED.asked(words), 1)?;
     tells_no_probe(&rt, OVER_WORST, 6)
 }
+
+// A probe that leaves at its third completion, one of decisions, and one of the units of t2: what the run says of them,
+// and what they have counted where the eighth put fails.
+#[test]
+fn probes_that_leave_and_a_put_that_fails(rt: HostRuntime) -> Result<(), Fail> {
+    let alloc = rt.alloc();
+    for fails in [false, true] {
+        let mut probes: Vec<Box<dyn Probe>> = Vec::new(alloc);
+        let dones = CountProbe::new(of_all_tasks(What::Dones, Some(3)));
+        probes.push(Box::new(alloc, dones)?)?;
+        let speeds = CountProbe::new(of_all_tasks(What::Speeds, None));
+        probes.push(Box::new(alloc, speeds)?)?;
+        let units = TableProbe::new(Rule {
+            what: What::Units,
+            task: Some(1),
+            limit: None,
+        });
+        probes.push(Box::new(alloc, units)?)?;
+        if fails {
+            let faults = Faults {
+                loads: &[],
+                puts: &[FailAt { call: 8, taken: 0 }],
+                notes: &[],
+            };
+            let left = probed(alloc, PROBED, faults, &mut probes)?;
+            assert_eq!(rt; left.code, 8);
+            assert_eq!(rt; left.notes.as_slice(), b"write: out failed\n".as_slice());
+            assert_eq!(rt; probes.len(), 3);
+            assert_eq!(rt; probes[0].tally(), 0);
+            assert_eq!(rt; probes[1].tally(), 1);
+            assert_eq!(rt; probes[2].tally(), 0);
+        } else {
+            let left = probed(alloc, PROBED, NO_FAULTS, &mut probes)?;
+            let notes = "probe 1 speeds all 8\nprobe 2 units t2 8\n";
+            left.is(PROBED.words, done(notes, 0))?;
+        }
+    }
+    Ok(())
+}
+
+// Without --probes a probe that would leave at the first completion is left as it was.
+#[test]
+fn probes_that_are_not_asked_for_are_left(rt: HostRuntime) -> Result<(), Fail> {
+    let alloc = rt.alloc();
+    let mut probes: Vec<Box<dyn Probe>> = Vec::new(alloc);
+    let dones = CountProbe::new(of_all_tasks(What::Dones, Some(1)));
+    probes.push(Box::new(alloc, dones)?)?;
+    let call = PROBED.asked("run --tasks T --machine M --scheduler edf --governor cc --ticks 16");
+    let left = probed(alloc, call, NO_FAULTS, &mut probes)?;
+    assert_eq!(rt; left.code, 0);
+    assert!(rt; left.notes.is_empty());
+    assert_eq!(rt; probes.len(), 1);
+    assert_eq!(rt; probes[0].tally(), 0);
+    Ok(())
+}

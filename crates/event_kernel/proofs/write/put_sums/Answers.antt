@@ -6,5 +6,5 @@ use Rattle.event_kernel.proofs.write.put_sums.Goals as goal
 pub returns-in-Two : goal.returns-in-Two
 returns-in-Two g c ps =
     subst (λ (v : Version). Writes (g.W.Sink.shows c.args.out.now) (g.W.Sink.shows c.put_shares.new.out) ps ps
-    (sum_lines v c.args.head.plan.now c.args.sums.now) c.put_shares.result)
+    (sum_lines v c.args.head.plan.now c.args.account.now.by_task) c.put_shares.result)
     (sym c.in-Two.is) (c.put_shares.ensures ps)

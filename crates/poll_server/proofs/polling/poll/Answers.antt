@@ -36,7 +36,8 @@ returns-in_err-kernel-clause-in_order g c =
 
 pub outcomes-requires-clause-long : goal.outcomes-requires-clause-long
 outcomes-requires-clause-long g c =
-    let heard = hears-all c.in_ok-ends.ends (notes_of_run g.G.Governor.demand c.in_ok-kernel.kernel) c.hear-totals.new.ends c.hear-totals.ensures.heard in
+    let whole = rw c.unwrap-totals.ensures at c.drive.ensures.ran in
+    let heard = hears-all c.in_ok-ends.ends (notes_of_run g.G.Governor.demand c.in_ok-kernel.kernel) c.drive.new.to whole in
     heard.long ∙ (ap length c.in_ok-ends.ensures.ends ∙ length-replicate c.jobs_below-jobs.result None)
 
 pub returns-in_err-list-clause-in_order : goal.returns-in_err-list-clause-in_order
@@ -48,13 +49,15 @@ returns g c =
     let demand = g.G.Governor.demand in
     let p = c.args.plan.now in
     let i = c.args.server in
+    let heard = rw c.unwrap-totals.ensures at c.drive.ensures.ran in
+    let totals = rw c.unwrap-totals.ensures at c.drive.ensures.totals in
     let all : Answered demand (server_of p i c.args.requests.now) c.args.ticks c.of-2.result =
     subst (λ (l : List Request). Answered demand (server_of p i l) c.args.ticks c.of-2.result) c.as_slice.ensures.requests
     (answered demand (server_of p i c.as_slice.result.now) c.in_ok-demands.demands
     c.jobs_below-jobs.result c.args.ticks c.jobs_below-jobs.ensures.jobs c.in_ok-demands.ensures c.in_ok-kernel.kernel
-    c.in_ok-kernel.ensures.kernel c.hear-totals.ensures.deadlines c.in_ok-ends.ends c.hear-totals.new.ends
-    c.in_ok-ends.ensures.task c.in_ok-ends.ensures.ends c.hear-totals.ensures.heard c.in_ok-list.list.items
-    c.hear-totals.result c.in_ok-list.ensures c.hear-totals.ensures.totals c.of-2.result c.of-2.ensures) in
+    c.in_ok-kernel.ensures.kernel c.drive.ensures.deadlines c.in_ok-ends.ends c.drive.new.to
+    c.in_ok-ends.ensures.task c.in_ok-ends.ensures.ends heard c.in_ok-list.list.items
+    c.unwrap-totals.result c.in_ok-list.ensures totals c.of-2.result c.of-2.ensures) in
     record {
       served = all.served;
       outcomes = all.outcomes;

@@ -1,5 +1,5 @@
-use Rattle.event_kernel.proofs.Writing.{wrote-then}
-use Rattle.rtdvs_top.proofs.Texts.{wrote-then-some, wrote-some-more}
+use Rattle.dvs_base.proofs.TextPuts.{wrote-then}
+use Rattle.dvs_base.proofs.TextPuts.{wrote-then-some, wrote-some-more}
 use Rattle.rtdvs_top.proofs.difference.put_difference.Goals as goal
 
 pub returns-in-Ok-put_two : goal.returns-in-Ok-put_two

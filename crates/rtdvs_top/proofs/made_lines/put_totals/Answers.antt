@@ -1,4 +1,4 @@
-use Rattle.rtdvs_top.proofs.Texts.{wrote-then-some, wrote-some-more}
+use Rattle.dvs_base.proofs.TextPuts.{wrote-then-some, wrote-some-more}
 use Rattle.rtdvs_top.proofs.made_lines.put_totals.Goals as goal
 
 pub returns-in-Err-put_governors : goal.returns-in-Err-put_governors

@@ -1,7 +1,7 @@
 use Rattle.std.proofs.Common.{List, ℕ, ◌∙◌, ap₂, subst}
-use Rattle.event_kernel.specs.Lines.{WroteSome}
+use Rattle.dvs_base.specs.WritesText.{WroteSome}
 use Rattle.rtdvs_top.specs.PollAnswer.{polled_line}
-use Rattle.rtdvs_top.proofs.Texts.{wrote-then-some, wrote-some-more}
+use Rattle.dvs_base.proofs.TextPuts.{wrote-then-some, wrote-some-more}
 use Rattle.rtdvs_top.proofs.poll_answer.put_polled.Goals as goal
 
 pub returns-in-Err-put_line : goal.returns-in-Err-put_line

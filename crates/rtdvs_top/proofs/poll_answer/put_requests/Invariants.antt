@@ -1,5 +1,5 @@
 use Rattle.std.proofs.Common.{◌≡◌, ◌≤◌}
-use Rattle.event_kernel.specs.Lines.{Wrote}
+use Rattle.dvs_base.specs.WritesText.{Wrote}
 use Rattle.rtdvs_top.specs.PollAnswer.{request_lines, served_among}
 use Rattle.rtdvs_top.proofs.poll_answer.put_requests.Given as goal
 

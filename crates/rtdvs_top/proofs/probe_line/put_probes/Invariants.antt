@@ -1,6 +1,6 @@
 use Rattle.std.proofs.Common.{map, take}
 use Rattle.std.specs.Option.{option_copied}
-use Rattle.event_kernel.specs.Lines.{Wrote}
+use Rattle.dvs_base.specs.WritesText.{Wrote}
 use Rattle.rtdvs_top.specs.Naming.{names_of}
 use Rattle.rtdvs_top.specs.ProbeLines.{probe_lines}
 use Rattle.rtdvs_top.proofs.probe_line.put_probes.Given as goal

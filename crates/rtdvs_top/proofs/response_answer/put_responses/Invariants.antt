@@ -1,6 +1,6 @@
 use Rattle.grid_fraction.specs.Numbers.{list_below}
 use Rattle.dvs_base.specs.Parts.{joined}
-use Rattle.event_kernel.specs.Lines.{Wrote}
+use Rattle.dvs_base.specs.WritesText.{Wrote}
 use Rattle.rtdvs_top.specs.ResponseAnswer.{response_text}
 use Rattle.rtdvs_top.proofs.response_answer.put_responses.Given as goal
 

@@ -1,22 +1,30 @@
-use Rattle.std.proofs.Common.{rules}
-use Rattle.rtdvs_top.proofs.Published.{ended-published, told-published, met-published}
+use Rattle.rtdvs_top.proofs.Published.{done-told, done-ends, stopped-told, stopped-ends}
 use Rattle.rtdvs_top.proofs.run.run_governed.Goals as goal
 
-pub returns-in-Ok : goal.returns-in-Ok
-returns-in-Ok g c =
+pub returns-in-Ok-run-clause-ended : goal.returns-in-Ok-run-clause-ended
+returns-in-Ok-run-clause-ended g c =
     let r = c.args.written.now.run in
-    let demand = g.G.Governor.demand in
-    let list = c.requires.run.list in
-    let low = c.worsts-worsts.ensures.within in
-    let admitted = c.scheduler-scheduler.ensures.admitted in
-    let publishes = g.met.G.Publishing.publishing.publishes r.plan.now admitted c.requires.serves in
-    let v = c.args.written.now.version in
-    record {
-      ended = ended-published demand _ r.plan.now r.demands.now list low publishes v _ _ r.ticks _ c.run_from_opening.ensures.ended;
-      told = told-published demand _ r.plan.now r.demands.now list low publishes v _ _ _ _ r.ticks _ c.run_from_opening.ensures.told;
-      met = met-published demand _ r.plan.now r.demands.now list low publishes v r.ticks c.requires.run.low_ticks admitted _ c.run_from_opening.ensures.met;
-      leaves = search rules;
-      kept = search rules;
-      loads = search rules;
-      shown = search rules;
-    }
+    let publishes = g.met.G.Publishing.publishing.publishes r.plan.now c.scheduler-scheduler.ensures.admitted c.requires.serves in
+    done-ends g.G.Governor.demand g.G.Governor.the_kind r.plan.now r.demands.now c.requires.run.list c.worsts-worsts.ensures.within publishes
+    c.args.written.now.version r.ticks _ c.in-Ok-new.ensures.kernel _ _ _ _ c.in-Ok-new.ensures.few c.in-Ok-run.ensures.wrote
+
+pub returns-in-Ok-run-clause-told : goal.returns-in-Ok-run-clause-told
+returns-in-Ok-run-clause-told g c =
+    let r = c.args.written.now.run in
+    let publishes = g.met.G.Publishing.publishing.publishes r.plan.now c.scheduler-scheduler.ensures.admitted c.requires.serves in
+    done-told g.G.Governor.demand g.G.Governor.the_kind r.plan.now r.demands.now c.requires.run.list c.worsts-worsts.ensures.within publishes
+    c.args.written.now.version r.ticks _ c.in-Ok-new.ensures.kernel _ _ _ _ c.in-Ok-run.ensures.wrote
+
+pub returns-in-Err-run-clause-ended : goal.returns-in-Err-run-clause-ended
+returns-in-Err-run-clause-ended g c =
+    let r = c.args.written.now.run in
+    let publishes = g.met.G.Publishing.publishing.publishes r.plan.now c.scheduler-scheduler.ensures.admitted c.requires.serves in
+    stopped-ends g.G.Governor.demand g.G.Governor.the_kind r.plan.now r.demands.now c.requires.run.list c.worsts-worsts.ensures.within publishes
+    c.args.written.now.version r.ticks _ c.in-Ok-new.ensures.kernel _ _ _ _ c.in-Ok-new.ensures.few c.in-Err-run.ensures.wrote
+
+pub returns-in-Err-run-clause-told : goal.returns-in-Err-run-clause-told
+returns-in-Err-run-clause-told g c =
+    let r = c.args.written.now.run in
+    let publishes = g.met.G.Publishing.publishing.publishes r.plan.now c.scheduler-scheduler.ensures.admitted c.requires.serves in
+    stopped-told g.G.Governor.demand g.G.Governor.the_kind r.plan.now r.demands.now c.requires.run.list c.worsts-worsts.ensures.within publishes
+    c.args.written.now.version r.ticks _ c.in-Ok-new.ensures.kernel _ _ _ _ c.in-Err-run.ensures.wrote

@@ -1,141 +1,126 @@
-use Rattle.std.proofs.Common.{◌≡◌, arith, ap, ◌∙◌, sym, subst}
-use Rattle.event_kernel.specs.declared.trace.Trace.{Trace}
-use Rattle.sched_model.specs.States.{StateOf, opening}
-use Rattle.event_kernel.specs.Current.{Follow}
-use Rattle.event_kernel.specs.Heard.{HasHeard, HasBalked}
-use Rattle.event_kernel.specs.Sums.{sums_of}
-use Rattle.event_kernel.specs.Runs.{Run, demands_of, notes_before_end_of, MeetsDeadlines, MeetsDemands}
-use Rattle.event_kernel.specs.Walking.{told_before}
-use Rattle.event_kernel.proofs.Demanding.{demand-within}
+use Rattle.std.proofs.Common.{◌≡◌, arith, sym, subst, refl}
+use Rattle.sched_model.specs.States.{opening, StateOf}
+use Rattle.energy.specs.Books.{Books}
 use Rattle.governor.proofs.Course.{course-met}
-use Rattle.event_kernel.proofs.Meeting.{run-met, run-demands}
-use Rattle.event_kernel.proofs.Hearing.{at_exit}
-use Rattle.event_kernel.proofs.Closing.{first-between, nothing-told}
+use Rattle.event_kernel.specs.SpanNotes.{HasBooked}
+use Rattle.event_kernel.specs.Current.{Follow}
+use Rattle.event_kernel.specs.Heard.{HasHeard, HasBalked, Tells}
+use Rattle.event_kernel.specs.Runs.{Run, demands_of, notes_before_end_of}
+use Rattle.event_kernel.specs.Tickwork.{notes_before}
+use Rattle.event_kernel.proofs.Booking.{booked-points}
+use Rattle.event_kernel.proofs.Closing.{first-between, span-booked}
+use Rattle.event_kernel.proofs.Demanding.{demand-within}
+use Rattle.event_kernel.proofs.Hearing.{at_error, heard-append, balked-append, balked_after}
+use Rattle.event_kernel.proofs.Spanning.{all-keeps}
 use Rattle.event_kernel.proofs.kernel.Kernel.spans.Goals as goal
 
 pub loop-set-init : goal.loop-set-init
 loop-set-init g c =
-    let m = g.G.Governor.demand in
-    let p = c.self.inside.plan.now in
-    let dem = demands_of p c.self.inside.demands.now in
-    let first = first-between g.L.Listener.heard g.L.Listener.balked m p dem c.self.inside.ticks c.self.inside.state c.new.result
-    c.self.invariant.0 (ap (λ (q : Trace). q.sums) c.new.ensures ∙ c.self.invariant.4) in (
+    let k = c.self.inside in
+    let p = k.plan.now in
+    let first = first-between {demand = g.G.Governor.demand} {set = record { plan = k.plan; demands = k.demands; ticks = k.ticks }} c.self.invariant.0 in (
       first.0,
-      subst (λ (s : StateOf). Follow g.G.Governor.stands p c.self.inside.governor s c.self.inside.agenda)
+      subst (λ (s : StateOf). Follow g.G.Governor.stands p k.governor s k.agenda)
           (sym c.self.invariant.0) (record { counters = c.self.invariant.1; agenda = c.self.invariant.5 }),
-      omega (arith, first.1),
+      omega (arith, first.2),
       omega arith,
-      nothing-told g.L.Listener.heard g.L.Listener.balked m p dem c.self.inside.ticks c.self.inside.state.now c.args.to.now first.1,
+      subst (λ ns. HasHeard g.L.Listener.heard c.args.to.now ns c.args.to.now) (sym first.1) refl,
+      subst (λ ns. HasBooked p k.account ns) (sym first.1) c.self.invariant.4,
     )
 
-pub span-requires-clause-between : goal.span-requires-clause-between
-span-requires-clause-between g c = c.loop-set.invariant.0
-
-pub span-requires-clause-set : goal.span-requires-clause-set
-span-requires-clause-set g c =
+pub span-point-requires-clause-set : goal.span-point-requires-clause-set
+span-point-requires-clause-set g c =
     let k = c.self.inside in
     record {
-      admitted = c.scheduler-scheduler.ensures.admitted;
+      admitted = c.self.invariant.6;
       list = c.self.invariant.2;
-      within = demand-within k.plan.now k.demands.now c.self.invariant.2 c.worsts-worsts.ensures.within;
+      within = demand-within k.plan.now k.demands.now c.self.invariant.2 c.self.invariant.7;
       low_ticks = c.self.invariant.3;
     }
 
-pub span-requires-clause-met : goal.span-requires-clause-met
-span-requires-clause-met g c =
+pub span-point-requires-clause-met : goal.span-point-requires-clause-met
+span-point-requires-clause-met g c =
     let m = g.G.Governor in
     let p = c.self.inside.plan.now in
-    let dem = demands_of p c.self.inside.demands.now in
-    let within = demand-within p c.self.inside.demands.now c.self.invariant.2 c.worsts-worsts.ensures.within in
-    let served = g.met.G.Governor.serves_plan c.self.inside.governor p (opening p) c.self.invariant.1 in
-    course-met m.the_kind m.serves m.demand m.calm m.safe g.met.G.Governor.laws p dem c.scheduler-scheduler.ensures.admitted within served c.loop-set.run.state.now
+    let d = c.self.inside.demands.now in
+    course-met m.the_kind m.serves m.demand m.calm m.safe g.met.G.Governor.laws p (demands_of p d) c.self.invariant.6
+    (demand-within p d c.self.invariant.2 c.self.invariant.7)
+    (g.met.G.Governor.serves_plan c.self.inside.governor p (opening p) c.self.invariant.1) c.loop-set.progress.state.now
 
-pub span-requires-clause-early : goal.span-requires-clause-early
-span-requires-clause-early g c =
-    omega (arith, c.now.ensures, c.loop-set-test.true)
+pub tell-requires-clause-point : goal.tell-requires-clause-point
+tell-requires-clause-point g c =
+    omega (arith, c.span-point.ensures.entry, booked-points c.self.inside.plan.now c.loop-set.account _ c.loop-set.invariant.5)
 
-pub span-requires-clause-current : goal.span-requires-clause-current
-span-requires-clause-current g c = c.loop-set.invariant.1
+pub tell-requires-clause-room : goal.tell-requires-clause-room
+tell-requires-clause-room g c =
+    let p = c.self.inside.plan.now in
+    (span-booked g.G.Governor.demand p _ c.self.invariant.6 (λ i. refl) c.loop-set.progress.state.now c.span-point.new.self.state.now
+    c.span-point.new.self.trace.notes c.loop-set.account c.span-point.result (omega (arith, c.span-point.ensures.limit, c.self.invariant.3))
+    c.span-point.ensures.notes c.loop-set.invariant.5 c.span-point.ensures.entry).0
 
 pub loop-set-smaller : goal.loop-set-smaller
-loop-set-smaller g c = omega (arith, c.in_ok-span.ensures.later, c.in_ok-span.ensures.limit)
+loop-set-smaller g c = omega (arith, c.span-point.ensures.later, c.span-point.ensures.limit)
 
 pub loop-set-preserved : goal.loop-set-preserved
-loop-set-preserved g c = (
-  c.in_ok-span.ensures.between,
-  c.in_ok-span.ensures.current,
-  c.in_ok-span.ensures.limit,
-  omega (arith, c.loop-set.invariant.3, c.in_ok-span.ensures.told.1),
-  c.in_ok-span.ensures.told.0 c.args.to.now c.loop-set.invariant.4,
-)
+loop-set-preserved g c =
+    let m = g.L.Listener in
+    let p = c.self.inside.plan.now in
+    let i = c.loop-set.invariant in
+    let told = c.in_ok-tell.ensures.told in
+    let span = c.span-point.ensures in
+    let before = notes_before g.G.Governor.demand p (demands_of p c.self.inside.demands.now) in (
+      c.span-point.ensures.between,
+      c.span-point.ensures.current,
+      c.span-point.ensures.limit,
+      omega (arith, i.3, told.1),
+      subst (λ ns. HasHeard m.heard c.args.to.now ns c.tell.new.to) (sym span.notes)
+          (heard-append m.heard m.balked (before c.loop-set.progress.state.now) c.span-point.new.self.trace.notes
+          c.args.to.now c.loop-set.to c.tell.new.to i.4 told.0),
+      subst (λ (b : Books). HasBooked p b (before c.span-point.new.self.state.now)) (sym c.in_ok-tell.ensures.booked)
+          (span-booked g.G.Governor.demand p _ c.self.invariant.6 (λ i. refl) c.loop-set.progress.state.now c.span-point.new.self.state.now
+          c.span-point.new.self.trace.notes c.loop-set.account c.span-point.result (omega (arith, span.limit, c.self.invariant.3))
+          span.notes i.5 span.entry).1,
+    )
 
-pub returns-in_err-span-clause-broke_off : goal.returns-in_err-span-clause-broke_off
-returns-in_err-span-clause-broke_off g c =
-    let m = g.G.Governor.demand in
-    at_exit c.from_residual.result
-    (subst (λ (r : Run). HasBalked g.L.Listener.heard g.L.Listener.balked c.args.to.now (notes_before_end_of m r) c.span.new.to) c.self.view_is
-    (c.in_err-span.ensures.told.0 c.args.to.now c.loop-set.invariant.4))
-
-pub returns-clause-ran : goal.returns-clause-ran
-returns-clause-ran g c =
-    let m = g.G.Governor.demand in
+pub returns-in_err-tell-clause-told : goal.returns-in_err-tell-clause-told
+returns-in_err-tell-clause-told g c =
+    let m = g.L.Listener in
+    let d = g.G.Governor.demand in
     let k = c.self.inside in
-    let inv = c.loop-set.invariant in
-    let all : c.loop-set.run.state.now ≡ k.ticks = omega (arith, c.now.ensures, c.loop-set-test.false, inv.2) in
-    subst (λ (r : Run). HasHeard g.L.Listener.heard c.args.to.now (notes_before_end_of m r) c.loop-set.to) c.self.view_is
-    (subst (λ n. HasHeard g.L.Listener.heard c.args.to.now (told_before m k.plan.now (demands_of k.plan.now k.demands.now) n) c.loop-set.to) all inv.4)
+    let told = c.in_err-tell.ensures.told in
+    let so_far = c.loop-set.invariant in
+    let span = c.span-point.ensures in
+    let now = c.span-point.new.self.state.now in
+    let before = notes_before d k.plan.now (demands_of k.plan.now k.demands.now) in
+    let balked = balked_after m.heard m.balked (before c.loop-set.progress.state.now) c.span-point.new.self.trace.notes
+    c.args.to.now c.loop-set.to c.tell.new.to so_far.4 told.0 in
+    at_error (Tells m.heard m.balked m.stops c.args.to.now c.tell.new.to (notes_before_end_of d c.args.self)) c.from_residual.result
+    c.from_residual.ensures.0
+    (λ x. (
+      subst (λ (r : Run). HasBalked m.heard m.balked c.args.to.now (notes_before_end_of d r) c.tell.new.to) c.self.view_is
+          (all-keeps d k.plan.now (demands_of k.plan.now k.demands.now) (λ ns. HasBalked m.heard m.balked c.args.to.now ns c.tell.new.to)
+          (λ xs ys b. balked-append m.heard m.balked xs ys c.args.to.now c.tell.new.to b) now
+          (subst (λ ns. HasBalked m.heard m.balked c.args.to.now ns c.tell.new.to) (sym span.notes) balked) k.ticks span.limit span.between.decision),
+      omega (arith, so_far.3, told.1),
+      omega (arith, so_far.3, told.2),
+    ))
 
-pub returns-clause-sums : goal.returns-clause-sums
-returns-clause-sums g c =
-    let m = g.G.Governor.demand in
+pub returns-clause-told : goal.returns-clause-told
+returns-clause-told g c =
+    let d = g.G.Governor.demand in
     let k = c.self.inside in
-    let inv = c.loop-set.invariant in
-    let all : c.loop-set.run.state.now ≡ k.ticks = omega (arith, c.now.ensures, c.loop-set-test.false, inv.2) in
-    inv.0.sums
-    ∙ (ap (λ n. sums_of k.plan.now (told_before m k.plan.now (demands_of k.plan.now k.demands.now) n)) all
-    ∙ ap (λ (r : Run). sums_of r.plan (notes_before_end_of m r)) c.self.view_is)
+    let i = c.loop-set.invariant in
+    let all : c.loop-set.progress.state.now ≡ k.ticks = omega (arith, c.now.ensures, c.loop-set-test.false, i.2) in (
+      subst (λ (r : Run). HasHeard g.L.Listener.heard c.args.to.now (notes_before_end_of d r) c.loop-set.to) c.self.view_is
+          (subst (λ n. HasHeard g.L.Listener.heard c.args.to.now (notes_before d k.plan.now (demands_of k.plan.now k.demands.now) n) c.loop-set.to) all i.4),
+      i.3,
+    )
 
-pub returns-in_err-span-clause-deadlines : goal.returns-in_err-span-clause-deadlines
-returns-in_err-span-clause-deadlines g c =
-    let m = g.G.Governor in
+pub returns-clause-booked : goal.returns-clause-booked
+returns-clause-booked g c =
+    let d = g.G.Governor.demand in
     let k = c.self.inside in
-    subst (λ (r : Run). MeetsDeadlines m.demand r) c.self.view_is
-    (run-met m.the_kind m.serves m.demand m.calm m.safe g.met.G.Governor.laws k.plan.now k.demands.now k.ticks c.scheduler-scheduler.ensures.admitted
-    c.self.invariant.2 c.worsts-worsts.ensures.within
-    (g.met.G.Governor.serves_plan k.governor k.plan.now (opening k.plan.now) c.self.invariant.1))
-
-pub returns-in_err-span-clause-demands : goal.returns-in_err-span-clause-demands
-returns-in_err-span-clause-demands g c other =
-    let m = g.G.Governor in
-    let k = c.self.inside in
-    subst (λ (r : Run). MeetsDemands m.demand r) c.self.view_is
-    (run-demands m.the_kind m.serves m.demand m.calm m.safe g.met.G.Governor.laws k.plan.now k.demands.now k.ticks c.scheduler-scheduler.ensures.admitted
-    c.self.invariant.2 c.worsts-worsts.ensures.within
-    (g.met.G.Governor.serves_plan k.governor k.plan.now (opening k.plan.now) c.self.invariant.1) other)
-
-pub returns-clause-deadlines : goal.returns-clause-deadlines
-returns-clause-deadlines g c =
-    let m = g.G.Governor in
-    let k = c.self.inside in
-    subst (λ (r : Run). MeetsDeadlines m.demand r) c.self.view_is
-    (run-met m.the_kind m.serves m.demand m.calm m.safe g.met.G.Governor.laws k.plan.now k.demands.now k.ticks c.scheduler-scheduler.ensures.admitted
-    c.self.invariant.2 c.worsts-worsts.ensures.within
-    (g.met.G.Governor.serves_plan k.governor k.plan.now (opening k.plan.now) c.self.invariant.1))
-
-pub returns-clause-demands : goal.returns-clause-demands
-returns-clause-demands g c other =
-    let m = g.G.Governor in
-    let k = c.self.inside in
-    subst (λ (r : Run). MeetsDemands m.demand r) c.self.view_is
-    (run-demands m.the_kind m.serves m.demand m.calm m.safe g.met.G.Governor.laws k.plan.now k.demands.now k.ticks c.scheduler-scheduler.ensures.admitted
-    c.self.invariant.2 c.worsts-worsts.ensures.within
-    (g.met.G.Governor.serves_plan k.governor k.plan.now (opening k.plan.now) c.self.invariant.1) other)
-
-pub returns-in_err-span-clause-never_falls : goal.returns-in_err-span-clause-never_falls
-returns-in_err-span-clause-never_falls g c = omega (arith, c.loop-set.invariant.3, c.in_err-span.ensures.told.1)
-
-pub returns-in_err-span-clause-rose : goal.returns-in_err-span-clause-rose
-returns-in_err-span-clause-rose g c = at_exit c.from_residual.result (omega (arith, c.loop-set.invariant.3, c.in_err-span.ensures.told.2))
-
-pub returns-clause-never_falls : goal.returns-clause-never_falls
-returns-clause-never_falls g c = c.loop-set.invariant.3
+    let i = c.loop-set.invariant in
+    let all : c.loop-set.progress.state.now ≡ k.ticks = omega (arith, c.now.ensures, c.loop-set-test.false, i.2) in
+    subst (λ (r : Run). HasBooked r.plan c.loop-set.account (notes_before_end_of d r)) c.self.view_is
+    (subst (λ n. HasBooked k.plan.now c.loop-set.account (notes_before d k.plan.now (demands_of k.plan.now k.demands.now) n)) all i.5)

@@ -1,17 +1,21 @@
 use Rattle.std.proofs.Common.{◌≤◌, ◌-◌}
+use Rattle.event_kernel.specs.SpanNotes.{HasBooked}
 use Rattle.event_kernel.specs.Current.{IsCurrent}
 use Rattle.event_kernel.specs.Heard.{HasHeard}
-use Rattle.event_kernel.specs.Settings.{Between, notes_before}
+use Rattle.event_kernel.specs.Runs.{demands_of}
+use Rattle.event_kernel.specs.Settings.{IsBetween}
+use Rattle.event_kernel.specs.Tickwork.{notes_before}
 use Rattle.event_kernel.proofs.kernel.Kernel.spans.Given as goal
 
 abbrev pub invariant-loop-set : goal.invariant-loop-set
 invariant-loop-set g l =
-    let m = g.G.Governor.demand in
-    Between m l.set l.run.state l.run.trace
-    × IsCurrent g.G.Governor.stands l.set.plan.now l.run
-    × (l.run.state.now ≤ l.set.ticks)
+    let before = notes_before g.G.Governor.demand l.set.plan.now (demands_of l.set.plan.now l.set.demands.now) l.progress.state.now in
+    IsBetween l.set g.G.Governor.demand l.progress.state
+    × IsCurrent g.G.Governor.stands l.set.plan.now l.progress
+    × (l.progress.state.now ≤ l.set.ticks)
     × (g.L.Listener.stops l.fn.to ≤ g.L.Listener.stops l.to)
-    × HasHeard g.L.Listener.heard l.fn.to (notes_before l.run.state m l.set) l.to
+    × HasHeard g.L.Listener.heard l.fn.to before l.to
+    × HasBooked l.set.plan.now l.account before
 
 abbrev pub decreases-loop-set : goal.decreases-loop-set
-decreases-loop-set g l = l.set.ticks - l.run.state.now
+decreases-loop-set g l = l.set.ticks - l.progress.state.now

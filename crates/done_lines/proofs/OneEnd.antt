@@ -1,0 +1,49 @@
+-- The notes of a schedule have one end, their last, so no other such notes begin with them.
+use Rattle.std.proofs.Common.{◌≡◌, ℕ, Bool, true, false, List, [], ◌∷◌, ◌++◌, length, refl, ◌∙◌, sym, true≢false}
+use Rattle.std.specs.Prelude.{sum_by}
+use Rattle.std.specs.List.{AllByRecursion}
+use Rattle.dvs_base.specs.declared.note.Note.{Note}
+use Rattle.dvs_base.specs.declared.note.Note.TheVariants.{Release, Speed, Run, Idle, Done, End}
+use Rattle.grid_fraction.specs.declared.Frac.{Frac}
+use Rattle.sched_model.specs.Plan.{Plan}
+use Rattle.sched_model.specs.Ticks.{Tick}
+use Rattle.sched_model.specs.Admission.{IsWithinLimits}
+use Rattle.sched_model.specs.Notes.{energy_run, energy_idle, notes_before_end, notes_of}
+use Rattle.sched_model.proofs.HeldUnits.{each-weaker}
+use Rattle.sched_model.proofs.BeforeEnd.{IsBeforeEnd, before-end-each}
+use Rattle.trace_reader.specs.Traces.{is_end}
+
+-- the last of a list passes the test, and no other one does
+abbrev pub EndsOnce : {A : Type 0} → (A → Bool) → List A → Type 0
+EndsOnce test [] = ⊥
+EndsOnce test (x ∷ []) = test x ≡ true
+EndsOnce test (x ∷ y ∷ xs) = (test x ≡ false) × EndsOnce test (y ∷ xs)
+
+-- no more follows a list that ends so
+pub whole-prefix : {A : Type 0} (test : A → Bool) (xs more : List A) → EndsOnce test xs → EndsOnce test (xs ++ more) → more ≡ []
+whole-prefix test [] more once all = absurd once
+whole-prefix test (x ∷ []) [] once all = refl
+whole-prefix test (x ∷ []) (y ∷ more) once all = absurd (true≢false (sym once ∙ all.0))
+whole-prefix test (x ∷ y ∷ xs) more once all = whole-prefix test (y ∷ xs) more once.1 all.1
+
+ends-once : {A : Type 0} (test : A → Bool) (front : List A) (last : A) → AllByRecursion (λ x. test x ≡ false) front
+    → test last ≡ true → EndsOnce test (front ++ last ∷ [])
+ends-once test [] last none ends = ends
+ends-once test (x ∷ []) last none ends = (none.0, ends)
+ends-once test (x ∷ y ∷ front) last none ends = (none.0, ends-once test (y ∷ front) last none.1 ends)
+
+-- the notes of a schedule end once
+pub schedule-ended : (p : Plan) → IsWithinLimits p → (dem : ℕ → ℕ → ℕ) (ask : List Tick → Frac) (ticks : List Tick)
+    → EndsOnce is_end (notes_of p dem ask ticks)
+schedule-ended p lim dem ask ticks =
+    let notes : List Note = notes_before_end p dem ask ticks in
+    ends-once is_end notes (End (length ticks) (sum_by energy_run notes) (sum_by energy_idle notes))
+    (each-weaker (IsBeforeEnd p dem) (λ n. is_end n ≡ false) others notes (before-end-each p lim dem ask ticks)) refl
+  where
+    others : (n : Note) → IsBeforeEnd p dem n → is_end n ≡ false
+    others (Release tick i k) h = refl
+    others (Speed tick f num den) h = refl
+    others (Run from to i k units energy) h = refl
+    others (Idle from to units energy) h = refl
+    others (Done q i k used) h = refl
+    others (End ticks run idle) h = absurd h

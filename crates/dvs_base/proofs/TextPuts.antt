@@ -1,0 +1,66 @@
+-- Texts written one after another.
+use Rattle.std.proofs.Common.{ℕ, ◌+◌, ◌<◌, ◌≤◌, ◌⊎◌, inl, inr, List, [], ◌++◌, length, length-append, take, Option, Some, None, Result, Ok, Err, refl, sym, ◌∙◌, subst, arith, append-nil, true≢false}
+use Rattle.std.proofs.lemmas.Bool.{cases_lt}
+use Rattle.std.specs.Io.KnownBytes.{Appends}
+use Rattle.std.proofs.KnownBytes.{Appends-trans}
+use Rattle.std.proofs.lemmas.List.{take-append-le}
+use Rattle.std.proofs.Math.Seq.{take-append-add}
+use Rattle.dvs_base.specs.Outside.{SinkView, Puts, Rose}
+use Rattle.dvs_base.specs.WritesText.{WritesText, Wrote, WroteSome}
+
+appends-none : (a : Option (List ℕ)) → Appends a a []
+appends-none None = tt
+appends-none (Some xs) = sym (append-nil xs)
+
+-- the empty text
+pub wrote-none : (a : SinkView) → Wrote a a []
+wrote-none a = record { bytes = appends-none a.written; steady = refl; surety = omega arith }
+
+-- a text after another
+pub wrote-then : (a b c : SinkView) (t u : List ℕ) → Wrote a b t → Wrote b c u → Wrote a c (t ++ u)
+wrote-then a b c t u w x = record {
+  bytes = Appends-trans a.written b.written c.written t u w.bytes x.bytes;
+  steady = x.steady ∙ w.steady;
+  surety = omega (arith, length-append t u, w.surety, x.surety);
+}
+
+-- a text that was written whole, and then another in part
+pub wrote-then-some : (a b c : SinkView) (t u : List ℕ) → Wrote a b t → WroteSome b c u → WroteSome a c (t ++ u)
+wrote-then-some a b c t u w x = record {
+  part = (
+    length t + x.part.0,
+    omega (arith, length-append t u, x.part.1),
+    rw (take-append-add t u x.part.0) (Appends-trans a.written b.written c.written t (take x.part.0 u) w.bytes x.part.2),
+  );
+  rose = subst (λ (f : ℕ). Rose f c.faults) w.steady x.rose;
+  later = omega (arith, w.steady, x.later);
+  unsure = omega (arith, length-append t u, w.surety, x.unsure);
+}
+
+-- a text of which a part was written is a part of a longer one
+pub wrote-some-more : (a b : SinkView) (t u : List ℕ) → WroteSome a b t → WroteSome a b (t ++ u)
+wrote-some-more a b t u w = record {
+  part = (
+    w.part.0,
+    omega (arith, length-append t u, w.part.1),
+    rw (take-append-le w.part.0 t u w.part.1) w.part.2,
+  );
+  rose = w.rose;
+  later = w.later;
+  unsure = omega (arith, length-append t u, w.unsure);
+}
+
+-- a put of a piece that isn't empty
+pub put-text : {T E : Type 0} (a b : SinkView) (piece : List ℕ) (r : Result T E) → 0 < length piece → Puts a b piece r
+    → WritesText a b piece r
+put-text a b piece (Ok v) some p = record { bytes = p.ok; steady = p.cause; surety = p.surety }
+put-text a b piece (Err e) some p = record {
+  part = p.part;
+  rose = p.cause;
+  later = p.later;
+  unsure = unsure (cases_lt a.sure (length piece));
+}
+  where
+    unsure : (a.sure < length piece) ⊎ (length piece ≤ a.sure) → a.sure < length piece
+    unsure (inl lt) = lt
+    unsure (inr le) = absurd (true≢false (sym (p.fits some le)))

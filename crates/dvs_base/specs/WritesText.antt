@@ -1,0 +1,22 @@
+-- What the writing of a text makes of a sink.
+use Rattle.std.specs.Prelude.{◌≡◌, ℕ, ◌+◌, ◌<◌, ◌≤◌, List, length, Result, Ok, Err}
+use Rattle.std.specs.Io.KnownBytes.{Appends}
+use Rattle.dvs_base.specs.Outside.{SinkView, Rose, AppendsPrefix}
+
+-- the whole text: the known bytes grow by it, the count of faults stays, and the sure room falls by at most its length
+pub record Wrote (old new : SinkView) (text : List ℕ) : Type 0 where
+  pub bytes : Appends old.written new.written text
+  pub steady : new.faults ≡ old.faults
+  pub surety : old.sure ≤ new.sure + length text
+
+-- a first part of the text: the count of faults rose, and the sink was not sure of the whole text
+pub record WroteSome (old new : SinkView) (text : List ℕ) : Type 0 where
+  pub part : AppendsPrefix old.written new.written text
+  pub rose : Rose old.faults new.faults
+  pub later : old.faults ≤ new.faults
+  pub unsure : old.sure < length text
+
+-- at Ok the whole text was written, at an error a first part of it
+abbrev pub WritesText : {T E : Type 0} → SinkView → SinkView → List ℕ → Result T E → Type 0
+WritesText old new text (Ok v) = Wrote old new text
+WritesText old new text (Err e) = WroteSome old new text

@@ -1,0 +1,39 @@
+-- Notes that are kept: the first of them.
+use Rattle.std.proofs.Common.{◌≡◌, ℕ, zero, suc, ◌≤◌, List, [], ◌∷◌, ◌++◌, length, take, refl, ap, ◌∙◌, sym, append_assoc}
+use Rattle.std.proofs.lemmas.List.{take_all, take-append-le}
+use Rattle.dvs_base.specs.declared.note.Note.{Note}
+use Rattle.event_kernel.specs.declared.notes.TheConstants.{MOST_NOTES}
+use Rattle.event_kernel.specs.declared.span_trace.SpanTrace.{SpanTrace}
+use Rattle.event_kernel.specs.SpanNotes.{kept}
+use Rattle.event_kernel.specs.Segment.{with_notes}
+
+kept-by : (n : ℕ) (xs ys : List Note) → take n (take n xs ++ ys) ≡ take n (xs ++ ys)
+kept-by zero xs ys = refl
+kept-by (suc n) [] ys = refl
+kept-by (suc n) (x ∷ xs) ys = ap (λ l. x ∷ l) (kept-by n xs ys)
+
+-- of kept notes and more as many are kept as of all
+pub kept-append : (xs ys : List Note) → kept (kept xs ++ ys) ≡ kept (xs ++ ys)
+kept-append xs ys = kept-by MOST_NOTES xs ys
+
+-- few notes are all kept
+pub kept-all : (xs : List Note) → length xs ≤ MOST_NOTES → kept xs ≡ xs
+kept-all xs le = take_all MOST_NOTES xs le
+
+-- where there is no room, none is added
+pub kept-full : (xs ys : List Note) → length xs ≤ MOST_NOTES → MOST_NOTES ≤ length xs → xs ≡ kept (xs ++ ys)
+kept-full xs ys le ge = sym (take-append-le MOST_NOTES xs ys ge ∙ take_all MOST_NOTES xs le)
+
+-- notes after those that were kept
+pub kept-then : (notes xs ys : List Note) → notes ≡ kept xs → kept (notes ++ ys) ≡ kept (xs ++ ys)
+kept-then notes xs ys is = ap (λ l. kept (l ++ ys)) is ∙ kept-append xs ys
+
+pub with-append : (trace : SpanTrace) (xs ys : List Note) → with_notes (with_notes trace xs) ys ≡ with_notes trace (xs ++ ys)
+with-append trace xs ys =
+    ap (λ ns. record { segment = trace.segment; notes = ns })
+    (kept-append (trace.notes ++ xs) ys ∙ ap kept (append_assoc trace.notes xs ys))
+
+-- a trace without notes keeps none
+pub with-none : (trace : SpanTrace) → trace.notes ≡ [] → trace ≡ with_notes trace []
+with-none trace none =
+    ap (λ ns. record { segment = trace.segment; notes = ns }) (none ∙ sym (ap (λ ns. kept (ns ++ [])) none))

@@ -1,0 +1,54 @@
+use Rattle.std.proofs.Common.{◌≡◌, ◌++◌, arith, sym, subst, List, [], ◌∷◌, ap, ap₂, ◌∙◌}
+use Rattle.dvs_base.specs.declared.note.Note.{Note}
+use Rattle.sched_model.specs.Notes.{all_release_notes}
+use Rattle.sched_model.specs.States.{IsOfPlan, StateOf}
+use Rattle.governor.specs.Schedule.{course}
+use Rattle.governor.specs.Steps.{IsAtDecision}
+use Rattle.event_kernel.specs.declared.span_trace.SpanTrace.{SpanTrace}
+use Rattle.event_kernel.specs.Boundary.{speed_note}
+use Rattle.event_kernel.specs.SpanNotes.{kept}
+use Rattle.event_kernel.specs.Segment.{with_notes, new_trace}
+use Rattle.event_kernel.specs.Runs.{demands_of}
+use Rattle.event_kernel.proofs.Bounds.{bounds}
+use Rattle.event_kernel.proofs.Deciding.{at-decision}
+use Rattle.event_kernel.proofs.Keeping.{kept-append}
+use Rattle.event_kernel.proofs.Ofplan.{of-state}
+use Rattle.event_kernel.proofs.Courses.{low-exec}
+use Rattle.event_kernel.proofs.Spanning.{at-boundary, begins-span}
+use Rattle.event_kernel.proofs.progress.Progress.begin.Goals as goal
+
+pub release_all-requires-clause-at : goal.release_all-requires-clause-at
+release_all-requires-clause-at g c =
+    let set = c.requires.set in
+    at-boundary set c.args.self.now.state (omega (arith, c.requires.early, set.low_ticks)) c.requires.met c.requires.between.state
+
+pub decide-index-requires-clause-decision : goal.decide-index-requires-clause-decision
+decide-index-requires-clause-decision g c =
+    let p = c.args.set.now.plan.now in
+    let dem = demands_of c.args.set.now.plan.now c.args.set.now.demands.now in
+    subst (λ (s : StateOf). IsAtDecision p s) (sym c.release_all.ensures.state)
+    (at-decision p (bounds p c.requires.set.admitted) dem (course g.G.Governor.demand p dem c.args.self.now.state.now))
+
+pub decide-index-requires-clause-of : goal.decide-index-requires-clause-of
+decide-index-requires-clause-of g c =
+    let m = g.G.Governor.demand in
+    let p = c.args.set.now.plan.now in
+    let dem = demands_of c.args.set.now.plan.now c.args.set.now.demands.now in
+    let t = c.args.self.now.state.now in
+    subst (λ (s : StateOf). IsOfPlan p s) (sym c.release_all.ensures.state) (of-state p dem (course m p dem t) (low-exec m p dem t c.requires.set.within))
+
+pub returns-clause-in_span : goal.returns-clause-in_span
+returns-clause-in_span g c =
+    let p = c.args.set.now.plan.now in
+    let s0 = c.args.self.now.state in
+    let st = c.release_all.new.self.state in
+    let releases : List Note = all_release_notes p (demands_of p c.args.set.now.demands.now) s0.now in
+    let speed : List Note = speed_note p st.now (g.G.Governor.demand p st) ∷ [] in
+    let released : c.release_all.new.self.trace ≡ new_trace (kept releases) =
+    c.release_all.ensures.trace ∙ ap (λ (q : SpanTrace). with_notes q releases) c.clear.ensures in
+    let notes : c.decide-index.new.notes ≡ kept (releases ++ speed) =
+    c.decide-index.ensures.note ∙ (ap (λ (q : SpanTrace). kept (q.notes ++ speed)) released ∙ kept-append releases speed) in
+    begins-span c.requires.set (record { from = c.state.inside.now; index = c.decide-index.result }) s0 st
+    (record { segment = c.release_all.new.self.trace.segment; notes = c.decide-index.new.notes })
+    c.requires.early c.requires.between (ap (λ (v : StateOf). v.now) c.state.view_is) c.release_all.ensures.state c.decide-index.ensures.index
+    (ap₂ (λ (q : SpanTrace) (ns : List Note). record { segment = q.segment; notes = ns }) released notes)

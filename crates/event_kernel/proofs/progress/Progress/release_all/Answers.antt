@@ -1,0 +1,138 @@
+use Rattle.std.proofs.Common.{◌≡◌, ◌≢◌, ℕ, ◌+◌, ◌<◌, ◌≤◌, Bool, List, arith, ap, ◌∙◌, sym, subst, true, false, rules}
+use Rattle.grid_fraction.specs.declared.Frac.{Frac}
+use Rattle.sched_model.specs.Plan.{Plan, count, period}
+use Rattle.sched_model.specs.Ticks.{Tick}
+use Rattle.sched_model.specs.States.{StateOf, row_at, after_mark, CanRelease, IsOfPlan}
+use Rattle.sched_model.specs.Notes.{all_release_notes}
+use Rattle.governor.specs.Schedule.{course}
+use Rattle.agenda.specs.Agenda.{IsFirstDue, due_left}
+use Rattle.agenda.specs.Stands.{Stands}
+use Rattle.agenda.proofs.Standing.{stand-mark, due-falls}
+use Rattle.event_kernel.specs.declared.progress.Setting.{Setting}
+use Rattle.event_kernel.specs.declared.span_trace.SpanTrace.{SpanTrace}
+use Rattle.event_kernel.specs.Runs.{demands_of}
+use Rattle.event_kernel.specs.Segment.{with_notes}
+use Rattle.event_kernel.specs.Settings.{IsSetting, IsAtBoundary, state_at}
+use Rattle.event_kernel.proofs.Bounds.{bounds}
+use Rattle.event_kernel.proofs.Courses.{low-exec, course-len}
+use Rattle.event_kernel.proofs.Keeping.{with-none}
+use Rattle.event_kernel.proofs.Ofplan.{of-prior}
+use Rattle.event_kernel.proofs.Releasing.{Releasing, notes_upto, releasing-start, none-past, at-due, at-end, opens, opens-trace, can-release, released-marked, released-unmarked, prior-done}
+use Rattle.event_kernel.proofs.progress.Progress.release_all.Goals as goal
+
+-- the rows of the first m tasks are released
+module _ {demand : Plan → StateOf → Frac} {set : Setting} (ok : IsSetting set) {s0 : StateOf} (here : IsAtBoundary set demand s0)
+    {m : ℕ} {any : Bool} {st : StateOf} (r : Releasing set.plan.now (demands_of set.plan.now set.demands.now)
+    (course demand set.plan.now (demands_of set.plan.now set.demands.now) s0.now) m any st) where
+  abbrev p : Plan
+  p = set.plan.now
+
+  abbrev dem : ℕ → ℕ → ℕ
+  dem = demands_of p set.demands.now
+
+  abbrev past : List Tick
+  past = course demand p dem s0.now
+
+  periods : (i : ℕ) → 0 < period p i
+  periods = (bounds p ok.admitted).some_period
+
+  -- the next task that is due
+  module _ {i : ℕ} (d : IsFirstDue p st i) where
+    at : Releasing p dem past i any st × (notes_upto p dem past m ≡ notes_upto p dem past i)
+    at = at-due periods r ok.within.none d
+
+    can : CanRelease p st i
+    can =
+        can-release periods at.0 d.below d.due (bounds p ok.admitted) (omega (arith, course-len demand p dem s0.now, here.early))
+        (prior-done here i d.below)
+
+  -- no task is due
+  module _ (le : m ≤ count p) (none : (k : ℕ) → k < count p → (row_at st k).deadline ≢ st.now) where
+    end : Releasing p dem past (count p) any st × (notes_upto p dem past m ≡ notes_upto p dem past (count p))
+    end = at-end periods r ok.within.none le none
+
+    all-notes : (trace0 : SpanTrace) {trace : SpanTrace} → trace ≡ with_notes trace0 (notes_upto p dem past m)
+        → trace ≡ with_notes trace0 (all_release_notes p dem s0.now)
+    all-notes trace0 is =
+        is ∙ (ap (λ ns. with_notes trace0 ns) end.1 ∙ ap (λ n. with_notes trace0 (all_release_notes p dem n)) (course-len demand p dem s0.now))
+
+    marked : any ≡ true → after_mark st ≡ state_at set demand s0.now
+    marked some = released-marked periods some end.0
+
+    unmarked : any ≡ false → st ≡ state_at set demand s0.now
+    unmarked nobody = released-unmarked periods ok.within.none nobody end.0
+
+pub loop-task-init : goal.loop-task-init
+loop-task-init g c =
+    let m = g.G.Governor.demand in
+    let p = c.args.set.now.plan.now in
+    let dem = demands_of p c.args.set.now.demands.now in
+    let t = c.args.self.now.state.now in
+    let here = c.requires.at in
+    let past = course m p dem t in (
+      0,
+      omega arith,
+      subst (λ (s : StateOf). Releasing p dem past 0 false s) (sym here.state) (releasing-start p dem past),
+      c.requires.current,
+      subst (λ (s : StateOf). IsOfPlan p s) (sym here.state) (of-prior p dem past (low-exec m p dem t c.requires.set.within)),
+      with-none c.args.self.now.trace c.requires.none,
+    )
+
+pub first_due-requires-clause-past : goal.first_due-requires-clause-past
+first_due-requires-clause-past g c = none-past (bounds _ c.requires.set.admitted).some_period c.loop-task.invariant.2
+
+pub release_one-requires-clause-past : goal.release_one-requires-clause-past
+release_one-requires-clause-past g c = none-past (bounds _ c.requires.set.admitted).some_period c.loop-task.invariant.2
+
+pub release_one-requires-clause-can : goal.release_one-requires-clause-can
+release_one-requires-clause-can g c = can c.requires.set c.requires.at c.loop-task.invariant.2 c.in-Some.ensures.due
+
+pub loop-task-preserved : goal.loop-task-preserved
+loop-task-preserved g c =
+    let some_period = (bounds _ c.requires.set.admitted).some_period in
+    let i = c.loop-task.invariant in
+    let d = c.in-Some.ensures.due in
+    let here = at c.requires.set c.requires.at i.2 d in
+    let w = c.release_one.ensures in (
+      c.in-Some.task + 1,
+      omega (arith, d.below),
+      opens some_period here.0 d.below d.due c.release_one.new.self.state w.state,
+      w.current,
+      w.of,
+      opens-trace some_period here.0 d.below d.due c.args.self.now.trace (i.5 ∙ ap (λ ns. with_notes c.args.self.now.trace ns) here.1) w.trace,
+    )
+
+pub loop-task-smaller : goal.loop-task-smaller
+loop-task-smaller g c =
+    let p = c.args.set.now.plan.now in
+    let d = c.in-Some.ensures.due in
+    let long = c.loop-task.invariant.4 in
+    subst (λ (s : StateOf). due_left p s < due_left p c.loop-task.self.state) (sym c.release_one.ensures.state)
+    (due-falls p c.loop-task.self.state c.in-Some.task _ (omega (arith, d.below, long.rows))
+    ((bounds p c.requires.set.admitted).some_period c.in-Some.task) d)
+
+pub returns-then-any-clause-trace : goal.returns-then-any-clause-trace
+returns-then-any-clause-trace g c =
+    let i = c.loop-task.invariant in all-notes c.requires.set c.requires.at i.2 i.1 c.in_default.ensures.none c.args.self.now.trace i.5
+
+pub returns-else-any-clause-trace : goal.returns-else-any-clause-trace
+returns-else-any-clause-trace g c =
+    let i = c.loop-task.invariant in all-notes c.requires.set c.requires.at i.2 i.1 c.in_default.ensures.none c.args.self.now.trace i.5
+
+pub returns-then-any-clause-state : goal.returns-then-any-clause-state
+returns-then-any-clause-state g c =
+    let i = c.loop-task.invariant in c.mark.ensures ∙ marked c.requires.set c.requires.at i.2 i.1 c.in_default.ensures.none c.if-any.true
+
+pub returns-else-any-clause-state : goal.returns-else-any-clause-state
+returns-else-any-clause-state g c =
+    let i = c.loop-task.invariant in unmarked c.requires.set c.requires.at i.2 i.1 c.in_default.ensures.none c.if-any.false
+
+pub returns-then-any-clause-current : goal.returns-then-any-clause-current
+returns-then-any-clause-current g c =
+    let p = c.args.set.now.plan.now in
+    let run = c.loop-task.self in
+    record {
+      counters = search rules;
+      agenda = subst (λ (s : StateOf). Stands p s run.agenda) (sym c.mark.ensures)
+          (stand-mark p run.state run.agenda.ready run.agenda.calendar c.loop-task.invariant.3.agenda);
+    }

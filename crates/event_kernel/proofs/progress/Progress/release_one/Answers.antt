@@ -1,0 +1,69 @@
+use Rattle.std.proofs.Common.{◌≡◌, ℕ, ◌+◌, List, [], ◌∷◌, ◌++◌, append_assoc, Bool, nat_eq, ap, ap₂, ◌∙◌, sym, subst, eq-eqb, rules}
+use Rattle.dvs_base.specs.declared.note.Note.{Note}
+use Rattle.dvs_base.specs.declared.note.Note.TheVariants.{Release, Done}
+use Rattle.event_kernel.specs.Boundary.{needs_nothing}
+use Rattle.event_kernel.specs.Segment.{with_notes}
+use Rattle.event_kernel.specs.SpanNotes.{kept}
+use Rattle.event_kernel.proofs.Keeping.{kept-append}
+use Rattle.sched_model.specs.declared.state.Row.{Row}
+use Rattle.sched_model.specs.States.{row_at, after_finish, StateOf}
+use Rattle.agenda.specs.Agenda.{opened}
+use Rattle.agenda.specs.Stands.{Stands}
+use Rattle.event_kernel.specs.Runs.{demands_of}
+use Rattle.event_kernel.proofs.Working.{read_row}
+use Rattle.event_kernel.proofs.Releasing.{opened-done, opening-done}
+use Rattle.event_kernel.proofs.progress.Progress.release_one.Given.{Over}
+use Rattle.event_kernel.proofs.progress.Progress.release_one.Goals as goal
+
+-- a job that needs nothing
+module _ (g : Over) (c : goal.After-push-then-complete g) where
+  abbrev s : StateOf
+  s = c.args.self.now.state
+
+  abbrev i : ℕ
+  i = c.args.task
+
+  abbrev dem : ℕ → ℕ → ℕ
+  dem = demands_of c.args.set.now.plan.now c.args.set.now.demands.now
+
+  is : c.index.result.now ≡ row_at s i
+  is = read_row s c.state.inside.rows.items i c.index.result.now (ap (λ (v : StateOf). v.rows) c.state.view_is) c.requires.can.task c.index.ensures
+
+  none : dem i ((row_at s i).job + 1) ≡ 0
+  none = sym (ap (λ (r : Row). dem i (r.job + 1)) is) ∙ (sym c.demand-complete.ensures ∙ c.if-complete.true)
+
+  state-is : c.finish.new.self ≡ opened c.args.set.now.plan.now s i (needs_nothing dem s i)
+  state-is =
+      c.finish.ensures
+      ∙ (ap (λ (v : StateOf). after_finish v i) c.release.ensures
+      ∙ opened-done c.args.set.now.plan.now dem s i c.requires.can.task (eq-eqb (dem i ((row_at s i).job + 1)) 0 none))
+
+pub returns-then-complete-clause-state : goal.returns-then-complete-clause-state
+returns-then-complete-clause-state g c = state-is g c
+
+pub returns-then-complete-clause-trace : goal.returns-then-complete-clause-trace
+returns-then-complete-clause-trace g c =
+    let trace = c.args.self.now.trace in
+    let job = c.index.result.now.job + 1 in
+    let now = c.state.inside.now in
+    let release : Note = Release now (i g c) job in
+    let done : Note = Done (record { tick = now; offset = 0 }) (i g c) job 0 in
+    ap (λ (ns : List Note). record { segment = trace.segment; notes = ns })
+    (c.push-then-complete.ensures
+    ∙ (ap (λ (ns : List Note). kept (ns ++ done ∷ [])) c.push.ensures
+    ∙ kept-append (trace.notes ++ release ∷ []) (done ∷ [])))
+    ∙ (ap (λ (ns : List Note). record { segment = trace.segment; notes = kept ns }) (append_assoc trace.notes (release ∷ []) (done ∷ []))
+    ∙ (ap₂ (λ t k. with_notes trace (Release t (i g c) (k + 1) ∷ Done (record { tick = t; offset = 0 }) (i g c) (k + 1) 0 ∷ []))
+    (ap (λ (v : StateOf). v.now) c.state.view_is) (ap (λ (r : Row). r.job) (is g c))
+    ∙ ap (λ ns. with_notes trace ns) (sym (opening-done (dem g c) (s g c) (i g c) (none g c)))))
+
+pub returns-then-complete-clause-current : goal.returns-then-complete-clause-current
+returns-then-complete-clause-current g c =
+    let p = c.args.set.now.plan.now in
+    let same : nat_eq c.demand-complete.result 0 ≡ needs_nothing (dem g c) (s g c) (i g c) =
+    ap (λ n. nat_eq n 0) (c.demand-complete.ensures ∙ ap (λ (r : Row). dem g c (i g c) (r.job + 1)) (is g c)) in
+    record {
+      counters = search rules;
+      agenda = subst (λ (v : StateOf). Stands p v c.renew.new.self) (sym (state-is g c))
+          (subst (λ (b : Bool). Stands p (opened p (s g c) (i g c) b) c.renew.new.self) same c.renew.ensures);
+    }

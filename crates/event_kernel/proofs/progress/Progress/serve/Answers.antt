@@ -1,0 +1,38 @@
+use Rattle.std.proofs.Common.{◌≡◌, ℕ, ◌+◌, ◌<◌, true, length, set, ap, ◌∙◌, get_or-set_same, sym, subst, rules}
+use Rattle.std.proofs.lemmas.List.{set-set}
+use Rattle.sched_model.specs.declared.state.Row.{Row}
+use Rattle.sched_model.specs.States.{no_row, row_at, after_run, after_finish, StateOf}
+use Rattle.agenda.specs.Stands.{Stands}
+use Rattle.agenda.proofs.Standing.{stand-run}
+use Rattle.event_kernel.specs.Tickwork.{served}
+use Rattle.event_kernel.proofs.progress.Progress.serve.Goals as goal
+
+served-ended : (s : StateOf) (i units : ℕ) → i < length s.rows → after_finish (after_run s i units) i ≡ served s i units true
+served-ended s i units lt =
+    let row : Row = record (row_at s i) { used = (row_at s i).used + units } in
+    let read : row_at (after_run s i units) i ≡ row = get_or-set_same s.rows i row no_row lt in
+    ap (λ (r : Row). record s { rows = set (set s.rows i row) i (record r { done = true }) }) read
+    ∙ ap (λ rows. record s { rows = rows }) (set-set s.rows i row (record row { done = true }))
+
+pub returns-then-ends-clause-state : goal.returns-then-ends-clause-state
+returns-then-ends-clause-state g c =
+    c.finish.ensures
+    ∙ (ap (λ (s : StateOf). after_finish s c.args.task) c.run.ensures
+    ∙ (served-ended c.args.self.now.state c.args.task c.args.units c.requires.can.task
+    ∙ ap (λ b. served c.args.self.now.state c.args.task c.args.units b) (sym c.if-ends.true)))
+
+pub complete-requires-clause-stand : goal.complete-requires-clause-stand
+complete-requires-clause-stand g c =
+    let run = c.args.self.now in
+    subst (λ (s : StateOf). Stands c.args.plan.now s run.agenda) (sym c.run.ensures)
+    (stand-run c.args.plan.now run.state run.agenda.ready run.agenda.calendar c.requires.current.agenda c.args.task c.args.units c.requires.can.task)
+
+pub returns-else-ends-clause-current : goal.returns-else-ends-clause-current
+returns-else-ends-clause-current g c =
+    let run = c.args.self.now in
+    record {
+      counters = search rules;
+      agenda = subst (λ (s : StateOf). Stands c.args.plan.now s run.agenda) (sym c.run.ensures)
+          (stand-run c.args.plan.now run.state run.agenda.ready run.agenda.calendar c.requires.current.agenda
+          c.args.task c.args.units c.requires.can.task);
+    }

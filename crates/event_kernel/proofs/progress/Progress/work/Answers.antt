@@ -1,0 +1,123 @@
+use Rattle.std.proofs.Common.{◌≡◌, ℕ, ◌+◌, ◌<◌, min, Bool, true, ◌||◌, length, arith, refl, ap, ◌∙◌, sym, subst, inl, inr, ◌⊎◌, nat_eq, rules}
+use Rattle.freq_table.specs.declared.machine.Point.{Point}
+use Rattle.freq_table.specs.Tables.{Table, speed_at}
+use Rattle.sched_model.specs.Plan.{count}
+use Rattle.sched_model.specs.States.{row_at, after_advance, StateOf}
+use Rattle.agenda.proofs.Standing.{stand-advance}
+use Rattle.event_kernel.specs.declared.progress.Progress.{Progress}
+use Rattle.event_kernel.specs.Current.{IsCurrent}
+use Rattle.event_kernel.specs.Segment.{entered}
+use Rattle.event_kernel.specs.Settings.{HasWorked}
+use Rattle.event_kernel.proofs.Working.{entry-there, begin, can, fits, ready, turned, idled, full, finished}
+use Rattle.event_kernel.proofs.Quieting.{of-plan}
+use Rattle.event_kernel.proofs.progress.Progress.work.Given.{Over}
+use Rattle.event_kernel.proofs.progress.Progress.work.Goals as goal
+use Rattle.event_kernel.proofs.progress.Progress.work.Goals.{then-completed, else-completed, else-loop-rest-test, then-loop-rest-test+in_default, then-rest-gt0, else-rest-gt0}
+
+pub point-rest-requires : goal.point-rest-requires
+point-rest-requires g c =
+    subst (λ (x : Table). c.args.force.index < length x.points) (sym c.machine.ensures.machine)
+    (entry-there c.requires.set c.requires.at)
+
+pub loop-rest-init : goal.loop-rest-init
+loop-rest-init g c = (
+  begin c.requires.set c.requires.at c.point-rest.result.speed
+      (ap (λ (q : Point). q.speed) c.point-rest.ensures ∙ ap (λ (x : Table). speed_at x c.args.force.index) c.machine.ensures.machine),
+  c.requires.current,
+  of-plan c.requires.set c.requires.at,
+)
+
+pub lacking-lacks-requires-clause-within : goal.lacking-lacks-requires-clause-within
+lacking-lacks-requires-clause-within g c =
+    (ready c.requires.set c.requires.at c.loop-rest.invariant.0 c.in-Some.task _ c.in-Some.ensures.first refl).1
+
+pub enter-requires-clause-can : goal.enter-requires-clause-can
+enter-requires-clause-can g c = can c.requires.set c.requires.at c.loop-rest.invariant.0
+
+pub enter-requires-clause-fits : goal.enter-requires-clause-fits
+enter-requires-clause-fits g c = omega
+    (arith, c.min-share.ensures, fits c.requires.set c.requires.at c.loop-rest.invariant.0)
+
+pub loop-rest-smaller : goal.loop-rest-smaller
+loop-rest-smaller g c =
+    let se = c.min-share.ensures ∙ ap (λ u. min c.loop-rest.rest u) c.lacking-lacks.ensures in
+    let some : 0 < c.min-share.result =
+    (ready c.requires.set c.requires.at c.loop-rest.invariant.0 c.in-Some.task
+    c.min-share.result c.in-Some.ensures.first se).2 c.loop-rest-test.true in
+    omega (arith, c.loop-rest-test.true, some)
+
+pub loop-rest-preserved : goal.loop-rest-preserved
+loop-rest-preserved g c =
+    let p = c.args.set.now.plan.now in
+    let st = c.loop-rest.self.state in
+    let trace = c.loop-rest.self.trace in
+    let share = c.min-share.result in
+    let whole : Bool = nat_eq share c.lacking-lacks.result in
+    let now_is : c.if-completed.completed ≡ (c.loop-rest.completed || whole) =
+    elim c.if-completed.branch [
+      | then-completed w ↦ w.completed-is ∙ w.if-completed.true ∙ sym (ap (λ b. b || whole) w.if-completed.true)
+      | else-completed w ↦ w.completed-is ∙ sym (ap (λ b. b || whole) w.if-completed.false)
+    ] in (
+      turned c.requires.set c.requires.at c.loop-rest.invariant.0
+          c.in-Some.task share c.in-Some.ensures.first (c.min-share.ensures ∙ ap (λ u. min c.loop-rest.rest u) c.lacking-lacks.ensures)
+          whole c.if-completed.completed c.serve.new.self.state c.serve.new.self.trace c.loop-rest-test.true
+          (ap (λ u. nat_eq share u) c.lacking-lacks.ensures) now_is c.serve.ensures.state
+          (c.serve.ensures.trace ∙ (c.enter.ensures ∙ ap
+          (λ h. entered p st c.args.force.from c.args.force.index h share trace) c.holder_of-holder.ensures)),
+      c.serve.ensures.current,
+      c.serve.ensures.of,
+    )
+
+pub enter-requires-then-rest-gt0-clause-can : goal.enter-requires-then-rest-gt0-clause-can
+enter-requires-then-rest-gt0-clause-can g c = can c.requires.set c.requires.at c.loop-rest.invariant.0
+
+pub enter-requires-then-rest-gt0-clause-fits : goal.enter-requires-then-rest-gt0-clause-fits
+enter-requires-then-rest-gt0-clause-fits g c = fits c.requires.set c.requires.at c.loop-rest.invariant.0
+
+-- after the tick
+module _ (g : Over) (c : goal.After-advance g) where
+  ends : (c.loop-rest.rest ≡ 0) ⊎ ((k : ℕ) → k < count c.args.set.now.plan.now → (row_at c.loop-rest.self.state k).done ≡ true)
+  ends =
+      elim c.loop-rest-test.branch [
+        | else-loop-rest-test w ↦ inl (omega arith)
+        | then-loop-rest-test+in_default w ↦ inr w.in_default.ensures.none
+      ]
+
+  moved : c.if-rest-gt0.self.state ≡ c.loop-rest.self.state → c.advance.new.self ≡ after_advance
+      c.loop-rest.self.state (c.args.self.now.state.now + 1)
+  moved same =
+      c.advance.ensures ∙
+      (ap (λ n. after_advance c.if-rest-gt0.self.state (n + 1)) (ap (λ (v : StateOf). v.now) c.state.view_is) ∙ ap
+      (λ (v : StateOf). after_advance v (c.args.self.now.state.now + 1)) same)
+
+pub returns-clause-worked : goal.returns-clause-worked
+returns-clause-worked g c =
+    let ok = c.requires.set in
+    let at = c.requires.at in
+    elim c.if-rest-gt0.branch [
+      | then-rest-gt0 w ↦ finished ok at c.loop-rest.invariant.0 (ends g c) c.if-rest-gt0.self.trace c.advance.new.self
+          (idled ok at c.loop-rest.invariant.0 c.if-rest-gt0.self.trace w.if-rest-gt0.true
+          (ap (λ (x : Progress g.row.G.Denot). x.trace) w.self-is ∙ w.enter-then-rest-gt0.ensures))
+          (moved g c (ap (λ (x : Progress g.row.G.Denot). x.state) w.self-is))
+      | else-rest-gt0 w ↦ subst (λ q. HasWorked c.args.set.now g.G.Governor.demand c.args.self.now.state.now c.advance.new.self q c.loop-rest.completed)
+          (sym (ap (λ (x : Progress g.row.G.Denot). x.trace) w.self-is))
+          (finished ok at c.loop-rest.invariant.0 (ends g c) c.loop-rest.self.trace c.advance.new.self
+          (full ok at c.loop-rest.invariant.0 (omega arith)) (moved g c (ap (λ (x : Progress g.row.G.Denot). x.state) w.self-is)))
+    ]
+
+-- what the run looks up before the tick ends
+current : (g : Over) (c : goal.After-advance g) → IsCurrent g.G.Governor.stands c.args.set.now.plan.now c.if-rest-gt0.self
+current g c =
+    elim c.if-rest-gt0.branch [
+      | then-rest-gt0 w ↦ subst (IsCurrent g.G.Governor.stands c.args.set.now.plan.now) (sym w.self-is) c.loop-rest.invariant.1
+      | else-rest-gt0 w ↦ subst (IsCurrent g.G.Governor.stands c.args.set.now.plan.now) (sym w.self-is) c.loop-rest.invariant.1
+    ]
+
+pub returns-clause-current : goal.returns-clause-current
+returns-clause-current g c =
+    let run = c.if-rest-gt0.self in
+    record {
+      counters = search rules;
+      agenda = stand-advance c.args.set.now.plan.now run.state run.agenda.ready run.agenda.calendar (current g c).agenda
+          (c.state.inside.now + 1) _ c.advance.ensures;
+    }

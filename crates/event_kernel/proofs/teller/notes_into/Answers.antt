@@ -1,0 +1,71 @@
+use Rattle.std.proofs.Common.{◌≡◌, ℕ, List, [], ◌∷◌, ◌++◌, ◌∙◌, ap, map, length, subst, sym, refl}
+use Rattle.std.specs.Prelude.{IfOk, sum_by}
+use Rattle.dvs_base.specs.declared.note.Note.TheVariants.{End}
+use Rattle.dvs_base.specs.declared.note.Totals.{Totals}
+use Rattle.energy.specs.Books.{energy_of_task}
+use Rattle.grid_fraction.specs.Numbers.{list_below}
+use Rattle.sched_model.specs.Admission.{IsAdmitted}
+use Rattle.sched_model.specs.Plan.{Plan, count, names}
+use Rattle.sched_model.specs.Totals.{totals_of}
+use Rattle.sched_model.proofs.ScheduleLemmas.{length-list_below}
+use Rattle.event_kernel.specs.Lines.{noted, sum_lines}
+use Rattle.event_kernel.specs.Runs.{notes_before_end_of, notes_of_run}
+use Rattle.event_kernel.proofs.Booking.{booked-tasks}
+use Rattle.event_kernel.proofs.Closing.{run-totals}
+use Rattle.event_kernel.proofs.Meeting.{run-few}
+use Rattle.event_kernel.proofs.Tellers.{heard-written, balked-written}
+use Rattle.event_kernel.proofs.Wholes.{told-lines, booked-lines, few-of}
+use Rattle.event_kernel.proofs.Writing.{writes-then, lines-as, some-as, lines-some-more}
+use Rattle.event_kernel.proofs.teller.notes_into.Goals as goal
+
+pub tell_tail-requires : goal.tell_tail-requires
+tell_tail-requires g c =
+    let r = c.args.kernel in
+    ap (λ (es : List ℕ). length es) (booked-tasks r.plan c.in-Ok.account _ c.in-Ok.ensures.booked)
+    ∙ (length-list_below (count r.plan) _ ∙ ap count (sym c.requires.plan))
+
+pub returns-in-Ok-clause-totals : goal.returns-in-Ok-clause-totals
+returns-in-Ok-clause-totals g c =
+    subst (λ (t : Totals). IfOk c.tell_tail.result (λ x. x ≡ t))
+    (run-totals g.G.Governor.demand c.args.kernel c.in-Ok.account c.in-Ok.ensures.booked) c.tell_tail.ensures.totals
+
+pub returns-in-Ok-clause-few : goal.returns-in-Ok-clause-few
+returns-in-Ok-clause-few g c =
+    few-of c.tell_tail.result (totals_of (notes_of_run g.G.Governor.demand c.args.kernel))
+    (run-few g.G.Governor.demand c.args.kernel (subst (λ (p : Plan). IsAdmitted p) c.requires.plan c.scheduler-scheduler.ensures.admitted)) (returns-in-Ok-clause-totals g c)
+
+pub returns-in-Ok-clause-writes : goal.returns-in-Ok-clause-writes
+returns-in-Ok-clause-writes g c =
+    let r = c.args.kernel in
+    let h = c.args.head in
+    let a = c.args.teller.now in
+    let s = c.in-Ok.account in
+    lines-as _ _ _ _ _ _ c.tell_tail.result
+    (booked-lines g.G.Governor.demand r (subst (λ (p : Plan). IsAdmitted p) c.requires.plan c.scheduler-scheduler.ensures.admitted) h.version
+    a.names.now h.plan.now h.ticks s c.requires.names c.requires.plan c.requires.ticks c.in-Ok.ensures.booked)
+    (writes-then _ _ _ _ _ _ (map (noted a.names.now) (notes_before_end_of g.G.Governor.demand r))
+    (sum_lines h.version h.plan.now s.by_task ++ noted (names h.plan.now) (End h.ticks s.totals.run s.totals.idle) ∷ []) c.tell_tail.result
+    (heard-written g.W.Sink.shows g.P.Probe.seen a _ c.spans.new.to c.in-Ok.ensures.told.0).0 c.tell_tail.ensures.writes)
+
+pub returns-in-Err-clause-writes : goal.returns-in-Err-clause-writes
+returns-in-Err-clause-writes g c =
+    let r = c.args.kernel in
+    let h = c.args.head in
+    let a = c.args.teller.now in
+    let before = notes_before_end_of g.G.Governor.demand r in
+    let es : List ℕ = list_below (count r.plan) (λ i. sum_by (energy_of_task i) before) in
+    let t : Totals = totals_of before in
+    some-as
+    (told-lines g.G.Governor.demand r (subst (λ (p : Plan). IsAdmitted p) c.requires.plan c.scheduler-scheduler.ensures.admitted) h.version
+    a.names.now h.plan.now h.ticks es t c.requires.names c.requires.plan c.requires.ticks refl refl)
+    (lines-some-more _ _ _ _ (map (noted a.names.now) before)
+    (sum_lines h.version h.plan.now es ++ noted (names h.plan.now) (End h.ticks t.run t.idle) ∷ [])
+    (balked-written g.W.Sink.shows g.P.Probe.seen a _ c.spans.new.to c.in-Err.ensures.told.0).0)
+
+pub returns-in-Ok-clause-same : goal.returns-in-Ok-clause-same
+returns-in-Ok-clause-same g c =
+    let same = (heard-written g.W.Sink.shows g.P.Probe.seen c.args.teller.now _ c.spans.new.to c.in-Ok.ensures.told.0).1 in (same.0, same.1)
+
+pub returns-in-Err-clause-same : goal.returns-in-Err-clause-same
+returns-in-Err-clause-same g c =
+    let same = (balked-written g.W.Sink.shows g.P.Probe.seen c.args.teller.now _ c.spans.new.to c.in-Err.ensures.told.0).1 in (same.0, same.1)

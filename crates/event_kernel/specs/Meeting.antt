@@ -1,0 +1,13 @@
+-- What the kernel keeps of its run: its deadlines and its demands are met.
+use Rattle.std.specs.Prelude.{◌≢◌}
+use Rattle.grid_fraction.specs.declared.Frac.{Frac}
+use Rattle.dvs_base.specs.declared.kind.GovernorKind.{GovernorKind}
+use Rattle.dvs_base.specs.declared.kind.GovernorKind.TheVariants.{Ahead}
+use Rattle.sched_model.specs.Plan.{Plan}
+use Rattle.sched_model.specs.States.{StateOf}
+use Rattle.event_kernel.specs.Runs.{Run, MeetsDeadlines, MeetsDemands}
+
+-- every deadline within a run is met, and at each decision the published demand where the governor is no look-ahead
+pub record IsMetRun (kind : GovernorKind) (demand : Plan → StateOf → Frac) (r : Run) : Type 0 where
+  pub deadlines : MeetsDeadlines demand r
+  pub demands : kind ≢ Ahead → MeetsDemands demand r

@@ -1,0 +1,79 @@
+// The notes of one span.
+ghost use Rattle.std.specs.Prelude.{◌≡◌, ◌<◌, ◌++◌, ◌∷◌, [], OnOk, IfOk, length};
+ghost use Rattle.event_kernel.specs.SpanNotes.{kept};
+ghost use Rattle.event_kernel.specs.Heard.{Tells};
+ghost use Rattle.event_kernel.specs.SpanNotes.{CanBook, all_booked};
+
+use crate::{Listener, Stopped};
+use dvs_base::{NoMemory, Note};
+use energy::Account;
+use std::alloc::Global;
+use std::marker::Model;
+
+/// The most notes of a span: of each of 64 tasks a release and an end, and a run and its end; a decision; and one more
+/// segment and an end.
+pub const MOST_NOTES: usize = 259;
+
+/// The notes of one span, in order. Its memory is taken at once, for as many notes as a span has at most; it keeps the
+/// first of those that are put into it, and no span has more.
+#[derive(Drop)]
+pub struct SpanNotes {
+    notes: Vec<Note>,
+}
+
+impl Model for SpanNotes {
+    ghost use Rattle.std.specs.Prelude.{◌≤◌, List, vec_len, vec_capacity};
+    ghost use Rattle.dvs_base.specs.declared.note.Note.{Note as NoteOf};
+    ghost use Rattle.event_kernel.specs.declared.notes.TheConstants.{MOST_NOTES};
+
+    ghost Value = { List NoteOf };
+
+    ghost view = { λ s. s.notes.items };
+
+    ghost invariant = { λ s. (vec_len s.notes ≤ MOST_NOTES) × (MOST_NOTES ≤ vec_capacity s.notes) };
+}
+
+impl SpanNotes {
+    /// No notes, with room for those of a span. It fails only where memory runs out.
+    pub(crate) fn new(alloc: Global) -> Result<SpanNotes, NoMemory>
+        ensures { IfOk result (λ s. s ≡ []) }
+    {
+        let notes = Vec::with_capacity(alloc, MOST_NOTES).map_err(|_| NoMemory)?;
+        Ok(SpanNotes { notes })
+    }
+
+    /// Leaves no notes.
+    pub(crate) fn clear(&mut self)
+        ensures { self.new ≡ [] }
+    {
+        self.notes.clear();
+    }
+
+    /// One more note.
+    pub(crate) fn push(&mut self, note: Note)
+        ensures { self.new ≡ kept (self.old ++ note ∷ []) }
+    {
+        if self.notes.len() < MOST_NOTES {
+            self.notes.push_reserved(note);
+        }
+    }
+
+    /// Tells the notes to a listener, and books each with the entry in force.
+    pub(crate) fn tell<L: Listener>(
+        &self,
+        point: u32,
+        account: &mut Account,
+        to: &mut L,
+    ) -> Result<(), Stopped>
+        requires point { point < length account.old.by_point }
+        requires room { CanBook account.old self.now point }
+        ensures booked { OnOk result (account.new ≡ all_booked account.old self.entry.now point) }
+        ensures told { Tells L.heard L.balked L.stops to.old to.new self.entry.now result }
+    {
+        for note in self.notes.iter() {
+            to.hear(note)?;
+            account.add(note, point);
+        }
+        Ok(())
+    }
+}

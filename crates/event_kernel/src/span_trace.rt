@@ -1,0 +1,171 @@
+// The notes of a span as they come, and the segment that is open.
+ghost use Rattle.std.specs.Prelude.{◌≡◌, ◌+◌, ◌<◌, []};
+ghost use Rattle.dvs_base.specs.Widths.{u64_end};
+ghost use Rattle.sched_model.specs.declared.holder.Holder.TheVariants.{Nobody, Held};
+ghost use Rattle.sched_model.specs.Plan.{point};
+ghost use Rattle.sched_model.specs.Segments.{position_of};
+ghost use Rattle.event_kernel.specs.Segment.{after_segment, is_turn, entered, ended, new_trace, with_notes};
+ghost use Rattle.event_kernel.specs.Segment.{written_notes, CanPut};
+
+use crate::notes::SpanNotes;
+use crate::progress::InForce;
+use crate::segment::{Segment, is_same};
+use dvs_base::{Note, Pos};
+use energy::energy_of;
+use sched_model::{Admitted, Holder, State};
+
+/// What is there of a span: its open segment, and all notes before it.
+#[derive(Drop)]
+pub struct SpanTrace {
+    pub segment: Segment,
+    pub notes: SpanNotes,
+}
+
+/// What a segment is told from: the plan, the state at its end, and the entry in force.
+#[derive(Clone, Copy)]
+pub struct Moment<'a> {
+    pub plan: &'a Admitted,
+    pub state: &'a State,
+    pub force: InForce,
+}
+
+fn turns(trace: &SpanTrace, holder: Holder) -> bool
+    ensures { result ≡ is_turn trace.now holder }
+{
+    trace.segment.units > 0 && !is_same(trace.segment.holder, holder)
+}
+
+fn position(from: u64, speed: u64, unit: u64) -> Pos
+    requires some { 0 < speed }
+    requires fits { from + unit < u64_end }
+    ensures { result ≡ position_of from speed unit }
+{
+    Pos {
+        tick: from + unit / speed,
+        offset: unit % speed,
+    }
+}
+
+impl SpanTrace {
+    /// No segment yet, after these notes.
+    pub(crate) fn new(notes: SpanNotes) -> SpanTrace
+        ensures { result ≡ new_trace notes }
+    {
+        SpanTrace {
+            segment: Segment::none(),
+            notes,
+        }
+    }
+
+    /// Leaves no notes and no segment.
+    pub(crate) fn clear(&mut self)
+        ensures { self.new ≡ new_trace [] }
+    {
+        self.segment = Segment::none();
+        self.notes.clear();
+    }
+
+    // Where the segment begins and where it ends.
+    fn ends(&self, at: Moment<'_>) -> (Pos, Pos)
+        requires { CanPut at.plan.now at.state.now at.force.from at.force.index self.now }
+        ensures first { result.0 ≡ position_of at.entry.force.from
+            ((point at.entry.plan.now at.entry.force.index).speed) self.entry.now.segment.start }
+        ensures end { result.1 ≡ position_of at.entry.force.from
+            ((point at.entry.plan.now at.entry.force.index).speed)
+            (self.entry.now.segment.start + self.entry.now.segment.units) }
+    {
+        let speed = at.plan.machine().point(at.force.index).speed;
+        let start = self.segment.start;
+        let end = start + self.segment.units;
+        (
+            position(at.force.from, speed, start),
+            position(at.force.from, speed, end),
+        )
+    }
+
+    // Puts in an idle segment.
+    fn put_idle(&mut self, at: Moment<'_>)
+        requires can { CanPut at.plan.now at.state.now at.force.from at.force.index self.old }
+        requires idle { self.old.segment.holder ≡ Nobody }
+        ensures { self.new ≡ with_notes self.old (written_notes at.entry.plan.now
+            at.entry.state.now at.entry.force.from at.entry.force.index self.old) }
+    {
+        let (first, end) = self.ends(at);
+        let index = at.force.index;
+        let units = self.segment.units;
+        self.notes.push(Note::Idle {
+            from: first,
+            to: end,
+            units,
+            energy: energy_of(at.plan.machine(), index, units, true),
+        });
+    }
+
+    // Puts in a segment of a job, and the end of the job where its row is done.
+    fn put_run(&mut self, at: Moment<'_>, task: u32, job: u64)
+        requires can { CanPut at.plan.now at.state.now at.force.from at.force.index self.old }
+        requires held { self.old.segment.holder ≡ Held task job }
+        ensures { self.new ≡ with_notes self.old (written_notes at.entry.plan.now
+            at.entry.state.now at.entry.force.from at.entry.force.index self.old) }
+    {
+        let (first, end) = self.ends(at);
+        let index = at.force.index;
+        let units = self.segment.units;
+        self.notes.push(Note::Run {
+            from: first,
+            to: end,
+            task,
+            job,
+            units,
+            energy: energy_of(at.plan.machine(), index, units, false),
+        });
+        let state = at.state;
+        let row = state.rows[task as usize];
+        if row.done {
+            self.notes.push(Note::Done {
+                at: end,
+                task,
+                job,
+                used: row.used,
+            });
+        }
+    }
+
+    // Puts in the segment, and the end of its job where the row is done.
+    fn put_segment(&mut self, at: Moment<'_>)
+        requires { CanPut at.plan.now at.state.now at.force.from at.force.index self.old }
+        ensures { self.new ≡ after_segment at.entry.plan.now at.entry.state.now at.entry.force.from
+            at.entry.force.index self.old }
+    {
+        match self.segment.holder {
+            Holder::Nobody => self.put_idle(at),
+            Holder::Held(task, job) => self.put_run(at, task, job),
+        }
+        self.segment.pass();
+    }
+
+    /// Units of a holder come after those of the segment.
+    pub(crate) fn enter(&mut self, at: Moment<'_>, holder: Holder, units: u64)
+        requires can { CanPut at.plan.now at.state.now at.force.from at.force.index self.old }
+        requires fits { self.old.segment.units + units < u64_end }
+        ensures { self.new ≡ entered at.entry.plan.now at.entry.state.now at.entry.force.from
+            at.entry.force.index holder units self.old }
+    {
+        if turns(self, holder) {
+            self.put_segment(at);
+        }
+        self.segment.holder = holder;
+        self.segment.units += units;
+    }
+
+    /// Puts in the segment that is left at the end of a span.
+    pub(crate) fn close(&mut self, at: Moment<'_>)
+        requires { CanPut at.plan.now at.state.now at.force.from at.force.index self.old }
+        ensures { self.new ≡ ended at.entry.plan.now at.entry.state.now at.entry.force.from
+            at.entry.force.index self.old }
+    {
+        if self.segment.units > 0 {
+            self.put_segment(at);
+        }
+    }
+}

@@ -1,3 +1,0 @@
-// Worked rows of the command `least`.
-mod machines;
-mod refusals;

@@ -1,3 +1,0 @@
-// Worked rows of the command `poll`.
-mod refusals;
-mod rows;

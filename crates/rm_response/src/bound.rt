@@ -1,0 +1,60 @@
+// A bound on a response from below: the tasks before one task count by their rates (after Sjödin and Hansson 1998).
+ghost use Rattle.std.specs.Prelude.{◌≡◌, ◌≤◌, ◌<◌, ◌^◌, length};
+ghost use Rattle.dvs_base.specs.declared.kind.Scheduler.TheVariants.{Rm};
+ghost use Rattle.sched_model.specs.Plan.{plan_of, count, period, rate};
+ghost use Rattle.sched_model.specs.Priority.{sum_before};
+ghost use Rattle.rm_response_laws.specs.Bounds.{spare};
+ghost use Rattle.rm_response.specs.Bounds.{ticks_beside};
+
+use crate::work::worst;
+use freq_table::Machine;
+use sched_model::stands_before;
+use task_model::{LONGEST_PERIOD, TaskSet};
+
+// The work of a task in one hyperperiod.
+fn rate(tasks: &TaskSet, machine: &Machine, j: u32) -> u128
+    requires { j < length tasks.now }
+    ensures value { result ≡ rate (plan_of tasks.now machine.now Rm) j }
+    ensures low { result ≤ 2 ^ 109 }
+{
+    let jobs = tasks.hyper() / tasks.task(j).period;
+    u128::from(worst(tasks, machine, j)) * u128::from(jobs)
+}
+
+// The work of the tasks before task k in RM order in one hyperperiod.
+fn rates_before(tasks: &TaskSet, machine: &Machine, k: u32) -> u128
+    requires { k < length tasks.now }
+    ensures { result ≡ (let p = plan_of tasks.now machine.now Rm in sum_before (count p) (period p) (rate p) k) }
+{
+    let mut sum = 0;
+    for j in 0..tasks.count() {
+        if stands_before(tasks, j, k) {
+            sum += rate(tasks, machine, j);
+        }
+    }
+    sum
+}
+
+// What the highest speed does in one hyperperiod beyond the work of the tasks before task k, and 0 where that is no
+// less.
+fn spare(tasks: &TaskSet, machine: &Machine, k: u32) -> u128
+    requires { k < length tasks.now }
+    ensures { result ≡ spare (plan_of tasks.now machine.now Rm) k }
+{
+    let capacity = u128::from(machine.top()) * u128::from(tasks.hyper());
+    capacity.saturating_sub(rates_before(tasks, machine, k))
+}
+
+// The ticks that `work` units take at the speed that the rates of the tasks before task k leave, and one more than the
+// longest period where they leave none.
+pub(crate) fn ticks_beside(tasks: &TaskSet, machine: &Machine, work: u128, k: u32) -> u128
+    requires work { work ≤ 2 ^ 64 }
+    requires task { k < length tasks.now }
+    ensures { result ≡ ticks_beside (plan_of tasks.now machine.now Rm) work k }
+{
+    let spare = spare(tasks, machine, k);
+    if spare == 0 {
+        return u128::from(LONGEST_PERIOD) + 1;
+    }
+    (work * u128::from(tasks.hyper())).div_ceil(spare)
+}

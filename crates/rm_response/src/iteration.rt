@@ -1,0 +1,101 @@
+// The iteration from below to the response of a task.
+ghost use Rattle.std.specs.Prelude.{◌≡◌, ◌≤◌, ◌<◌, length, slice_index, max};
+ghost use Rattle.grid_fraction.specs.Numbers.{ceil_div};
+ghost use Rattle.dvs_base.specs.declared.kind.Scheduler.TheVariants.{Rm};
+ghost use Rattle.task_model.specs.declared.limits.TheConstants.{LONGEST_PERIOD};
+ghost use Rattle.task_model.specs.Tasks.{task_at};
+ghost use Rattle.sched_model.specs.Plan.{plan_of, top_speed};
+ghost use Rattle.sched_model.specs.Priority.{is_up_to};
+ghost use Rattle.governor.specs.Rm.{level_work_in};
+ghost use Rattle.rm_response_laws.specs.Responses.{response, IsUnserved};
+ghost use Rattle.rm_response_laws.specs.Bounds.{IsUnservedFrom, longest_before};
+
+use crate::bound::ticks_beside;
+use crate::work::{level_work_in, work_before};
+use freq_table::Machine;
+use grid_fraction::up;
+use sched_model::stands_before;
+use task_model::TaskSet;
+
+// More than any level that is served within the longest period can be asked for in it.
+const MOST_SERVED: u128 = 1 << 64;
+
+// Whether task k is task i or stands before it in RM order.
+fn is_up_to(tasks: &TaskSet, i: u32, k: u32) -> bool
+    requires first { i < length tasks.now }
+    requires second { k < length tasks.now }
+    ensures { result ≡ is_up_to (λ j. (task_at tasks.now j).period) i k }
+{
+    stands_before(tasks, k, i) || k == i
+}
+
+// The task before task k in file order, and the last task where it is the first.
+fn previous(tasks: &TaskSet, k: u32) -> u32
+    requires { k < length tasks.now }
+    ensures { result < length tasks.now }
+{
+    match k {
+        0 => tasks.count() - 1,
+        _ => k - 1,
+    }
+}
+
+// The ticks that the work of the level of task i in `ticks` ticks takes; or, where these are more, the ticks that the
+// rest of it takes beside the rates of the tasks before task k.
+fn next_tick(tasks: &TaskSet, machine: &Machine, ticks: u64, k: u32, i: u32) -> u128
+    requires ticks { ticks ≤ LONGEST_PERIOD }
+    requires split { k < length tasks.now }
+    requires task { i < length tasks.now }
+    ensures work { (let p = plan_of tasks.now machine.now Rm in
+        ceil_div (level_work_in p ticks i) (top_speed p)) ≤ result }
+    ensures least { IsUnservedFrom (plan_of tasks.now machine.now Rm) i ticks result }
+{
+    let _tasks = tasks.as_slice();
+    let _entries = machine.as_slice();
+    let work = level_work_in(tasks, machine, ticks, i);
+    let next = up(work, machine.top());
+    if work > MOST_SERVED || !is_up_to(tasks, i, k) {
+        return next;
+    }
+    let rest = work.saturating_sub(work_before(tasks, machine, ticks, k));
+    next.max(ticks_beside(tasks, machine, rest, k))
+}
+
+// The greatest response of the tasks before task i both in the file and in RM order, and 1 where there is none.
+pub(crate) fn longest_before(tasks: &TaskSet, responses: &[u64], i: u32) -> u64
+    requires responses { length responses.now ≡ i }
+    requires task { i < length tasks.now }
+    ensures { result ≡ longest_before (λ k. (task_at tasks.now k).period) (slice_index responses.now) i }
+{
+    let mut longest = 1;
+    for j in 0..i {
+        if stands_before(tasks, j, i) {
+            longest = longest.max(responses[j as usize]);
+        }
+    }
+    longest
+}
+
+// The response of a task in ticks, and one more than its period where it has none, from a number of ticks below which
+// its level is not served.
+pub(crate) fn response_of(tasks: &TaskSet, machine: &Machine, from: u64, i: u32) -> u64
+    requires task { i < length tasks.now }
+    requires some { 1 ≤ from }
+    requires unserved { IsUnserved (plan_of tasks.now machine.now Rm) i from }
+    ensures { result ≡ response (plan_of tasks.now machine.now Rm) i }
+{
+    let _tasks = tasks.as_slice();
+    let _entries = machine.as_slice();
+    let period = tasks.task(i).period;
+    let mut at = u128::from(from);
+    let mut k = i;
+    while at <= u128::from(period) {
+        let next = next_tick(tasks, machine, at as u64, k, i);
+        if next <= at {
+            return at as u64;
+        }
+        at = next;
+        k = previous(tasks, k);
+    }
+    period + 1
+}

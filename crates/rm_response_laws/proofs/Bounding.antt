@@ -1,0 +1,203 @@
+-- A number of ticks that serves a level is at least what its work takes beside the rates of some of its tasks.
+use Rattle.std.proofs.Common.{List, max, sym, subst, ◌∙◌, ◌≡◌, inl, inr, ℕ, zero, suc, ◌+◌, ◌-◌, ◌*◌, ◌/◌, ◌<◌, ◌≤◌, Bool, true, false, eqb, refl, arith, ap, if◌then◌else◌}
+use Rattle.std.proofs.Math.Nat.{mul-le-mul_right}
+use Rattle.std.proofs.lemmas.Bool.{cases_lt, cases_Bool}
+use Rattle.std.proofs.lemmas.Bool.Decides.{nat_tests}
+use Rattle.grid_fraction.specs.Numbers.{list_below, ceil_div, greatest_below}
+use Rattle.grid_fraction.proofs.Ceilings.{ceil-mono}
+use Rattle.grid_fraction.proofs.Sums.{sum_below-add, sum_below-le}
+use Rattle.sched_model.specs.Plan.{Plan, count, period, worst, top_speed, hyper, rate}
+use Rattle.sched_model.specs.Priority.{stands_before, is_up_to, sum_before}
+use Rattle.sched_model.specs.Admission.{IsWithinLimits}
+use Rattle.sched_model.proofs.Limits.{some_period, some_hyper, period_divides}
+use Rattle.std.specs.Prelude.{slice_index}
+use Rattle.sched_model.proofs.Tables.{get-table}
+use Rattle.sched_model.proofs.LevelSums.{greatest-same, sum_where-mono, sum_where-times, sum_up_to-where, up_to-trans}
+use Rattle.sched_model.proofs.GreedyLemmas.{up_to-before}
+use Rattle.governor.specs.Rm.{level, level_work_in}
+use Rattle.governor.proofs.RmLevels.{ceil_covers}
+use Rattle.rm_response_laws.specs.Responses.{response, IsUnserved}
+use Rattle.rm_response_laws.specs.Bounds.{held_work, spare, rest_work, IsUnservedFrom, longest_before}
+use Rattle.rm_response_laws.proofs.Ceilings.{ceil-least, ceil-some}
+use Rattle.rm_response_laws.proofs.Searching.{before-response}
+use Rattle.rm_response_laws.proofs.Firsts.{some_worst}
+
+-- the rate of a task for u ticks is within the work of the jobs that they can hold
+rate-held : (h q d w u : ℕ) → q * d ≡ h → 0 < d → u * (w * q) ≤ h * (ceil_div u d * w)
+rate-held h q d w u e pos =
+    let covers = ceil_covers u d pos in
+    let m : u * (w * q) ≤ ceil_div u d * d * (w * q) = mul-le-mul_right (w * q) covers in
+    let whole : q * d * (ceil_div u d * w) ≡ h * (ceil_div u d * w) = rw e refl in
+    omega (arith, m, whole)
+
+-- what d units a tick do in u ticks is done in no less
+ceil-within : (n d u : ℕ) → 0 < d → n ≤ d * u → ceil_div n d ≤ u
+ceil-within n d u pos le = elim (cases_lt u (ceil_div n d)) [
+  | inl above ↦ (let low = ceil-least n d u pos above in absurd (omega arith))
+  | inr most ↦ most
+]
+
+-- later ticks hold no less of a task that is in the level and not among those before task k
+term-later : (lv bf : Bool) (x y : ℕ) → (bf ≡ true → lv ≡ true) → x ≤ y
+    → (if lv then x else 0) + (if bf then y else 0) ≤ (if lv then y else 0) + (if bf then x else 0)
+term-later true true x y in_level le = omega arith
+term-later true false x y in_level le = omega arith
+term-later false true x y in_level le = (let bad : false ≡ true = in_level refl in absurd cc)
+term-later false false x y in_level le = omega arith
+
+-- what is left of the work of u ticks beside the rates is within what the speed left does in them
+spare-does : (r b f h u c : ℕ) → (r + b) * h ≤ f * u * h → u * c ≤ h * b → r * h ≤ (f * h - c) * u
+spare-does r b f h u c done rates = elim (cases_lt (f * h) c) [
+  | inl over ↦
+      let none : f * h - c ≡ 0 = omega arith in
+      let more : f * h * u ≤ c * u = mul-le-mul_right u (omega arith) in
+      rw none (omega (arith, more))
+  | inr within ↦ split (f * h - c) (omega arith)
+]
+  where
+    split : (x : ℕ) → x + c ≡ f * h → r * h ≤ x * u
+    split x e =
+        let whole : (x + c) * u ≡ f * h * u = ap (λ y. y * u) e in
+        omega (arith, whole)
+
+-- and where the rates leave none, nothing is left
+spare-none : (b f h u c : ℕ) → 0 < h → f * h ≤ c → u * c ≤ h * b → f * u ≤ b
+spare-none b f h u c some full rates = elim (cases_lt b (f * u)) [
+  | inl less ↦
+      let more : f * h * u ≤ c * u = mul-le-mul_right u full in
+      let next : suc b * h ≤ f * u * h = mul-le-mul_right h less in
+      absurd (omega (arith, more, next))
+  | inr most ↦ most
+]
+
+module _ (p : Plan) (lim : IsWithinLimits p) where
+  abbrev before : ℕ → ℕ → ℕ
+  before k u = sum_before (count p) (period p) (held_work p u) k
+
+  held-later : (t u j : ℕ) → t ≤ u → j < count p → held_work p t j ≤ held_work p u j
+  held-later t u j le h = mul-le-mul_right (worst p j) (ceil-mono t u (period p j) (some_period p lim j h) le)
+
+  rates-held : (k u : ℕ) → u * sum_before (count p) (period p) (rate p) k ≤ hyper p * before k u
+  rates-held k u =
+      let n = count p in
+      let test : ℕ → Bool = λ j. stands_before (period p) j k in
+      let left = sum_where-times n u test (rate p) in
+      let right = sum_where-times n (hyper p) test (held_work p u) in
+      let each = sum_where-mono n test (λ j. u * rate p j) (λ j. hyper p * held_work p u j)
+      (λ j h on. rate-held (hyper p) (hyper p / period p j) (period p j) (worst p j) u (period_divides p lim j h) (some_period p lim j h)) in
+      omega (arith, left, right, each)
+
+  -- the level of a task of the level of task i is within it
+  level-within : (i k u : ℕ) → k < count p → is_up_to (period p) i k ≡ true → level_work_in p u k ≤ level_work_in p u i
+  level-within i k u h on = elim (cases_Bool (eqb k i)) [
+    | inl own ↦
+        let same : k ≡ i = grind (arith, nat_tests) in
+        rw same (omega arith)
+    | inr other ↦
+        let first : stands_before (period p) k i ≡ true = grind (arith, nat_tests) in
+        let within = up_to-before (count p) (period p) (held_work p u) k i h first in
+        omega (arith, within)
+  ]
+
+  some-held : (u k : ℕ) → k < count p → 1 ≤ u → 0 < held_work p u k
+  some-held u k h pos =
+      let jobs = ceil-some u (period p k) (some_period p lim k h) pos in
+      let whole : 1 * worst p k ≤ held_work p u k = mul-le-mul_right (worst p k) jobs in
+      let some = some_worst p lim k h in
+      omega (arith, whole, some)
+
+  module _ (i k : ℕ) (hi : i < count p) (hk : k < count p) (on : is_up_to (period p) i k ≡ true) where
+    -- the tasks before task k are in the level
+    before-in : (j : ℕ) → stands_before (period p) j k ≡ true → level p i j ≡ true
+    before-in j b = up_to-trans (period p) j k i b on
+
+    work-later : (t u : ℕ) → t ≤ u → level_work_in p t i + before k u ≤ level_work_in p u i + before k t
+    work-later t u le =
+        let n = count p in
+        let lv = level p i in
+        let bf : ℕ → Bool = λ j. stands_before (period p) j k in
+        let in_level : ℕ → ℕ → ℕ = λ m j. if lv j then held_work p m j else 0 in
+        let in_before : ℕ → ℕ → ℕ = λ m j. if bf j then held_work p m j else 0 in
+        let now = sum_up_to-where n (period p) (held_work p t) i hi in
+        let next = sum_up_to-where n (period p) (held_work p u) i hi in
+        let left = sum_below-add n (in_level t) (in_before u) in
+        let right = sum_below-add n (in_level u) (in_before t) in
+        let each = sum_below-le n (λ j. in_level t j + in_before u j) (λ j. in_level u j + in_before t j)
+        (λ j h. term-later (lv j) (bf j) (held_work p t j) (held_work p u j) (before-in j) (held-later t u j le h)) in
+        omega (arith, now, next, left, right, each)
+
+    -- task k itself has work, and it isn't before itself
+    before-less : (u : ℕ) → 1 ≤ u → before k u < level_work_in p u i
+    before-less u pos =
+        let within = level-within i k u hk on in
+        let some = some-held u k hk pos in
+        omega (arith, within, some)
+
+    served-rest : (t u : ℕ) → 1 ≤ u → t ≤ u → level_work_in p u i ≤ top_speed p * u
+        → rest_work p t k i * hyper p ≤ spare p k * u
+    served-rest t u pos le served =
+        let later = work-later t u le in
+        let some = before-less u pos in
+        let mine : rest_work p t k i + before k u ≤ top_speed p * u = omega (arith, later, some, served) in
+        let scaled : (rest_work p t k i + before k u) * hyper p ≤ top_speed p * u * hyper p = mul-le-mul_right (hyper p) mine in
+        spare-does (rest_work p t k i) (before k u) (top_speed p) (hyper p) u (sum_before (count p) (period p) (rate p) k)
+        scaled (rates-held k u)
+
+    -- so where the rates leave some speed, no tick below what the rest takes beside them serves
+    pub unserved-beside : (t : ℕ) → 0 < spare p k → IsUnservedFrom p i t (ceil_div (rest_work p t k i * hyper p) (spare p k))
+    unserved-beside t some u pos from below =
+        elim (cases_lt (top_speed p * u) (level_work_in p u i)) [
+          | inl more ↦ more
+          | inr served ↦
+              let most = ceil-within (rest_work p t k i * hyper p) (spare p k) u some (served-rest t u pos from served) in
+              absurd (omega (arith, most, below))
+        ]
+
+    -- and where they leave none, no tick serves
+    pub unserved-full : (t m : ℕ) → spare p k ≡ 0 → IsUnservedFrom p i t m
+    unserved-full t m none u pos from below =
+        let c = sum_before (count p) (period p) (rate p) k in
+        let full : top_speed p * hyper p ≤ c = omega (arith, none) in
+        let most = spare-none (before k u) (top_speed p) (hyper p) u c (some_hyper p lim) full (rates-held k u) in
+        let less = before-less u pos in
+        omega (arith, most, less)
+
+module _ (p : Plan) where
+  -- below the response of a task before task i, the level of task i is not served either
+  within-level : (i k : ℕ) → k < count p → stands_before (period p) k i ≡ true → IsUnserved p i (response p k)
+  within-level i k h on u pos lt =
+      let first = before-response p k u pos lt in
+      let within = up_to-before (count p) (period p) (held_work p u) k i h on in
+      omega (arith, first, within)
+
+  greatest-unserved : (i n : ℕ) → n ≤ count p
+      → IsUnserved p i (greatest_below n (λ k. if stands_before (period p) k i then response p k else 0))
+  greatest-unserved i zero h u pos lt = absurd (omega arith)
+  greatest-unserved i (suc n) h u pos lt = elim (cases_lt u (greatest_below n term)) [
+    | inl before ↦ greatest-unserved i n (omega arith) u pos before
+    | inr after ↦ last (stands_before (period p) n i) refl (omega arith)
+  ]
+    where
+      term : ℕ → ℕ
+      term k = if stands_before (period p) k i then response p k else 0
+
+      last : (b : Bool) → stands_before (period p) n i ≡ b → u < (if b then response p n else 0)
+          → top_speed p * u < level_work_in p u i
+      last true on below = within-level i n (omega arith) on u pos below
+      last false off below = absurd (omega arith)
+
+  -- nor below the longest response before it
+  pub longest-unserved : (i : ℕ) → i < count p → IsUnserved p i (longest_before (period p) (response p) i)
+  longest-unserved i h u pos lt = greatest-unserved i i (omega arith) u pos (omega arith)
+
+  -- read from a list of the responses before it
+  pub list-unserved : (i : ℕ) (responses : List ℕ) → i < count p → responses ≡ list_below i (response p)
+      → IsUnserved p i (longest_before (period p) (slice_index responses) i)
+  list-unserved i responses h are =
+      let term : (ℕ → ℕ) → ℕ → ℕ = λ r k. if stands_before (period p) k i then r k else 0 in
+      let at : (k : ℕ) → k < i → slice_index responses k ≡ response p k =
+      λ k lt. ap (λ (xs : List ℕ). slice_index xs k) are ∙ get-table i (response p) k 0 lt in
+      let same : greatest_below i (term (slice_index responses)) ≡ greatest_below i (term (response p)) =
+      greatest-same i (term (slice_index responses)) (term (response p))
+      (λ k lt. ap (λ (x : ℕ). if stands_before (period p) k i then x else 0) (at k lt)) in
+      subst (IsUnserved p i) (sym (ap (max 1) same)) (longest-unserved i h)
