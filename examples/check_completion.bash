@@ -1,0 +1,56 @@
+# Compares the completion of rtdvs.bash with the table of docs/FORMATS.md: bash examples/check_completion.bash
+# It prints a line for each difference, and ends with 1 where there is one. It is run at the top of the repository.
+source examples/rtdvs.bash
+bad=0
+
+# What is offered for the last of the words, against the words behind the --.
+offers() {
+    local found wanted
+    COMP_WORDS=(rtdvs)
+    while [ "$1" != -- ]; do COMP_WORDS+=("$1"); shift; done
+    shift
+    COMP_CWORD=$((${#COMP_WORDS[@]} - 1))
+    _rtdvs
+    found=$(printf '%s\n' "${COMPREPLY[@]}" | sort)
+    wanted=$(printf '%s\n' "$@" | sort)
+    [ "$found" = "$wanted" ] || { echo "${COMP_WORDS[*]}: found" $found "wanted" $wanted; bad=1; }
+}
+
+[ "$(complete -p rtdvs)" = 'complete -F _rtdvs rtdvs' ] || { echo 'rtdvs has no completion'; bad=1; }
+rows=$(sed -n '/^| Command | Options/,/^$/p' docs/FORMATS.md | grep '^| `')
+[ "$(wc -l <<< "$rows")" -eq 9 ] || { echo 'docs/FORMATS.md: not nine commands'; bad=1; }
+offers '' -- $(cut -d '`' -f 2 <<< "$rows")
+while read -r row; do
+    command=$(cut -d '`' -f 2 <<< "$row")
+    options=$(grep -o -e '--[a-z]*' <<< "$row")
+    offers $command '' -- $options
+    for option in $options; do
+        case $option in --probes) before=($option) ;; *) before=($option 1) ;; esac
+        offers $command "${before[@]}" '' -- $(grep -v -x -e $option <<< "$options")
+        offers $command "${option%?}" -- $(grep -e "^${option%?}" <<< "$options")
+        grep -q "Fl -${option#--}" docs/rtdvs.1 || { echo "docs/rtdvs.1: no $option"; bad=1; }
+    done
+done <<< "$rows"
+
+cd examples/templates || exit 1
+offers r -- run replay response
+offers run --scheduler '' -- edf rm
+offers run --governor '' -- none static cc la
+offers run --scheduler rm --governor '' -- none static cc
+offers run --governor la --scheduler '' -- edf
+offers run --format '' -- 1 2
+offers run --probes --format '' -- 1 2
+offers run --ticks '' --
+offers admit --governor '' --
+offers run --tasks '' -- machine.toml tasks.toml
+offers run --demands d -- deadlines.csv demands.csv
+offers replay --trace e -- edf_cc_with_demands.trace
+offers run --tasks README -- README.md
+offers poll --tasks tasks.toml --server '' -- control logger
+offers poll --tasks tasks.toml --server c -- control
+offers run --tasks ../te -- ../templates
+offers run --tasks --scheduler '' -- --machine --scheduler --governor --ticks --demands --probes --format
+folders=(../*/)
+offers run --tasks ../ -- "${folders[@]%/}"
+offers walk '' --
+exit $bad

@@ -1,0 +1,68 @@
+# Completion of the commands, options and values of rtdvs in bash: source examples/rtdvs.bash
+# Checked by check_completion.bash, which compares it with the table of docs/FORMATS.md.
+
+_rtdvs_options() {
+    case $1 in
+        run) echo --tasks --machine --scheduler --governor --ticks --demands --probes --format ;;
+        admit) echo --tasks --machine --scheduler ;;
+        replay | migrate) echo --tasks --machine --trace ;;
+        workload) echo --seed ;;
+        response) echo --tasks --machine ;;
+        constrain) echo --tasks --machine --deadlines ;;
+        poll) echo --tasks --machine --requests --server --scheduler --governor --ticks ;;
+        least) echo --machine --units --ticks ;;
+    esac
+}
+
+# Files with an ending, and folders; any file where there are none.
+_rtdvs_files() {
+    compopt -o filenames 2> /dev/null
+    mapfile -t COMPREPLY < <(compgen -f -X "!*.$1" -- "$2"; compgen -d -- "$2")
+    [ ${#COMPREPLY[@]} -gt 0 ] || mapfile -t COMPREPLY < <(compgen -f -- "$2")
+}
+
+# The names of a task file, for --server.
+_rtdvs_tasks() { sed -n 's/^[[:space:]]*name[[:space:]]*=[[:space:]]*"\([A-Za-z0-9_-]*\)".*/\1/p' "$1" 2> /dev/null; }
+
+# Reads the words before the cursor: an option takes the next word as its value, --probes none.
+_rtdvs() {
+    local word=${COMP_WORDS[COMP_CWORD]} command=${COMP_WORDS[1]} option='' offered place=2
+    local -A given=()
+    COMPREPLY=()
+    if [ "$COMP_CWORD" -eq 1 ]; then
+        mapfile -t COMPREPLY < <(compgen -W 'run admit replay migrate workload response constrain poll least' -- "$word")
+        return
+    fi
+    while [ "$place" -lt "$COMP_CWORD" ]; do
+        option=${COMP_WORDS[place]}
+        given[$option]=${COMP_WORDS[place + 1]}
+        [ "$option" = --probes ] && option='' place=$((place + 1)) && continue
+        place=$((place + 2))
+    done
+    if [ "$place" -eq "$COMP_CWORD" ]; then
+        for offered in $(_rtdvs_options "$command"); do
+            [ -n "${given[$offered]+given}" ] || _rtdvs_add "$offered" "$word"
+        done
+        return
+    fi
+    case " $(_rtdvs_options "$command") " in *" $option "*) _rtdvs_value "$option" "$word" ;; esac
+}
+
+_rtdvs_add() { case $1 in "$2"*) COMPREPLY+=("$1") ;; esac; }
+
+# The pair of rm and la is no choice.
+_rtdvs_value() {
+    local values=''
+    case $1 in
+        --tasks | --machine) _rtdvs_files toml "$2"; return ;;
+        --demands | --deadlines | --requests) _rtdvs_files csv "$2"; return ;;
+        --trace) _rtdvs_files trace "$2"; return ;;
+        --server) values=$(_rtdvs_tasks "${given[--tasks]}") ;;
+        --scheduler) values='edf rm'; [ "${given[--governor]}" = la ] && values=edf ;;
+        --governor) values='none static cc la'; [ "${given[--scheduler]}" = rm ] && values='none static cc' ;;
+        --format) values='1 2' ;;
+    esac
+    mapfile -t COMPREPLY < <(compgen -W "$values" -- "$2")
+}
+
+complete -F _rtdvs rtdvs
