@@ -1,0 +1,26 @@
+# speed_inputs.sh: writes the inputs of the figures in SPEED.md into the folder where it is called.
+for n in 8 16 32 64; do
+    awk -v n=$n 'BEGIN {
+        split("20 25 40 50 100 125 200 250", thousands, " ")
+        for (i = 0; i < n; i++) {
+            period = 1000 * thousands[i % 8 + 1] * n / 64
+            printf "[[task]]\nname = \"t%d\"\nperiod = %d\nworst = %d\noffset = %d\n", \
+                i, period, 640 / n * period, (7919 * i) % period
+        }
+    }' > tasks$n.toml
+done
+awk 'BEGIN {
+    for (k = 1; k <= 4; k++)
+        printf "[[point]]\nspeed = %d\nmillivolts = %d\n", 250 * k, 1000 + 1000 * k
+}' > machine.toml
+printf '[[task]]\nname = "t1"\nperiod = 1000000000000\nworst = 1\n' > seldom.toml
+printf '[[point]]\nspeed = 1\nmillivolts = 1000\n' > slow.toml
+awk 'BEGIN {
+    name = "tttttttttttttttttttttttttttttttt"
+    printf "[[task]]\nname = \"%s\"\nperiod = 1000\nworst = 1000\n", name > "long.toml"
+    n = "18446744073709551615"
+    print "trace 1\nplan edf none 1000"
+    for (i = 0; i < 799997; i++)
+        print "run " n ":" n " " n ":" n " " name " " n " " n " 340282366920938463463374607431768211455"
+    print "end 1000 0 0"
+}' > long.trace
