@@ -1,4 +1,4 @@
--- What a ready queue and a calendar say of the state for which they stand, and how they keep up with it.
+-- What a ready queue and a calendar say about the state that they represent, and how they follow its changes.
 use Rattle.std.proofs.Common.{◌≡◌, ◌≢◌, ℕ, ◌+◌, ◌<◌, ◌≤◌, Bool, true, false, not, nat_eq, nat_lt, ◌⊎◌, inl, inr, refl, sym, ap, ap₂, subst, ◌∙◌, arith, if◌then◌else◌, List, [], ◌∷◌, length, true≢false, Option, Some, None, MatchOption, IfSome, slice_get, set, get_or-set_same, get_or-set_other}
 use Rattle.std.specs.Prelude.{Contains}
 use Rattle.std.proofs.lemmas.Bool.{cases_eq, not-true}
@@ -22,7 +22,7 @@ use Rattle.ready_queue.proofs.Placing.{All-at, Has-contains}
 use Rattle.agenda.specs.Agenda.{before_of, entry_of, HoldsTasks, is_open, HoldsReady, HoldsCalendar, ReadyOf, StandFor, row_key, IsFirstUndone, next_release, IsFirstDue, NonePast, opened_row, opened, due_left}
 use Rattle.agenda.proofs.Tasks.{without, without-other, without-apart, held, absent, holds-keep, holds-drop, holds-without, holds-add}
 
--- the entries of two tasks stand as the tasks do
+-- the entries of two tasks are ordered as the tasks are
 entries-before : (sch : Scheduler) (p : Plan) (s : StateOf) (i k : ℕ) → before_of sch (entry_of p s i) (entry_of p s k) ≡ stands_before (row_key sch p s) i k
 entries-before Edf p s i k = refl
 entries-before Rm p s i k = refl
@@ -31,7 +31,7 @@ module _ (p : Plan) (s : StateOf) where
   is-open : (i : ℕ) → is_open s i ≡ true → (row_at s i).done ≡ false
   is-open i h = not-true (row_at s i).done h
 
-  -- the first entry of a ready queue is that of the first job that is not done
+  -- the first entry of a ready queue is that of the first task with an incomplete job
   pub first-undone : (xs : List Entry) (x : Entry) → HoldsReady p s xs → ComesFirst (before_of p.scheduler) x xs → IsFirstUndone p s (count p) x.task
   first-undone xs x h f = record { below = own.0; open_job = is-open x.task own.1; first = λ k lt b. go k lt b (row_at s k).done refl (cases_eq k x.task) }
     where
@@ -51,7 +51,7 @@ module _ (p : Plan) (s : StateOf) where
           sym (entries-before p.scheduler p s x.task k) ∙ ap (λ (z : Entry). before_of p.scheduler z (entry_of p s k)) (sym own.2) ∙ there in
           absurd (true≢false (sym b ∙ before-not (row_key p.scheduler p s) x.task k ahead))
 
-  -- and there is only one
+  -- there is only one first task with an incomplete job
   pub first-undone-own : (xs : List Entry) (x : Entry) (i : ℕ) → HoldsReady p s xs → ComesFirst (before_of p.scheduler) x xs
       → IsFirstUndone p s (count p) i → x.task ≡ i
   first-undone-own xs x i h f o = go (cases_eq x.task i)
@@ -67,7 +67,7 @@ module _ (p : Plan) (s : StateOf) where
           by_order true b = absurd (true≢false (sym (o.first x.task u.below b) ∙ u.open_job))
           by_order false b = absurd (true≢false (sym (u.first i o.below (before-total (row_key p.scheduler p s) x.task i ne b)) ∙ o.open_job))
 
-  -- an empty one says that all are done
+  -- where a ready queue is empty, all jobs are complete
   pub all-done : HoldsReady p s [] → (k : ℕ) → k < count p → (row_at s k).done ≡ true
   all-done h k lt = go (row_at s k).done refl
     where
@@ -100,7 +100,7 @@ module _ (p : Plan) (s : StateOf) where
         let high : x.due ≤ next_release p s = least-above (count p) (λ i. (row_at s i).deadline) x.due (omega (arith, next-own.0)) next-least in
         omega (arith, low, high, next-due)
 
-    -- and is the first task that is released now, where one is
+    -- where a task is released now, the first entry of a calendar is that of the first such task
     pub first-due : x.due ≡ s.now → IsFirstDue p s x.task
     first-due e = record {
       below = next-own.0;
@@ -112,7 +112,7 @@ module _ (p : Plan) (s : StateOf) where
         order : (k : ℕ) → due_before x (entry_of p s k) ≡ true → (x.due ≡ (row_at s k).deadline) → x.task < k
         order k b is = grind (arith, nat_tests)
 
-    -- there is only one
+    -- there is only one first task that is released now
     pub first-due-own : (i : ℕ) → NonePast p s → IsFirstDue p s i → x.task ≡ i
     first-due-own i past d = go (cases_eq i x.task)
       where
@@ -130,7 +130,7 @@ module _ (p : Plan) (s : StateOf) where
     pub none-due : NonePast p s → x.due ≢ s.now → (k : ℕ) → k < count p → (row_at s k).deadline ≢ s.now
     none-due past ne k lt is = omega (arith, next-least k lt, is, past x.task next-own.0, next-due, ne)
 
--- a state with another row of task i
+-- the state with another row of task i
 abbrev with_row : StateOf → ℕ → Row → StateOf
 with_row s i r = record s { rows = set s.rows i r }
 
@@ -147,12 +147,12 @@ module _ (p : Plan) (s : StateOf) (i : ℕ) (r : Row) where
   open-there : (k : ℕ) → k ≢ i → is_open s k ≡ is_open (with_row s i r) k
   open-there k ne = ap (λ (q : Row). not q.done) (sym (row-there s i r k ne))
 
-  -- entries of other tasks stay
+  -- the entries of other tasks stay right
   others-kept : (test : ℕ → Bool) (xs : List Entry) → HoldsTasks p s (without i test) xs → HoldsTasks p (with_row s i r) (without i test) xs
   others-kept test xs h = holds-keep p s (without i test) (with_row s i r) (without i test) xs (λ k lt. refl)
       (λ k lt t. entry-there k (without-apart i test k t)) h
 
-  -- a row with its deadline
+  -- where the row of task i keeps its deadline, all entries stay right
   entries-kept : (test : ℕ → Bool) (xs : List Entry) → i < length s.rows → r.deadline ≡ (row_at s i).deadline → HoldsTasks p s test xs
       → HoldsTasks p (with_row s i r) test xs
   entries-kept test xs lt same h = holds-keep p s test (with_row s i r) test xs (λ k lk. refl) (λ k lk t. go k (cases_eq k i)) h
@@ -163,7 +163,7 @@ module _ (p : Plan) (s : StateOf) (i : ℕ) (r : Row) where
           ∙ ap (λ (j : ℕ). (row_at (with_row s i r) j).deadline) (sym e))
       go k (inr ne) = entry-there k ne
 
-  -- the tests of a ready queue, but for task i
+  -- the tasks with incomplete jobs, without task i, stay the same
   open-without : (k : ℕ) → without i (is_open s) k ≡ without i (is_open (with_row s i r)) k
   open-without k = go (cases_eq k i)
     where
@@ -179,7 +179,7 @@ module _ (p : Plan) (s : StateOf) (i : ℕ) (r : Row) where
       holds-keep p (with_row s i r) (without i (is_open s)) (with_row s i r) (without i (is_open (with_row s i r))) xs
       (λ k lt. open-without k) (λ k lt t. refl) (others-kept (is_open s) xs h)
 
-  -- the job of task i is done
+  -- where the job of task i is now complete, a ready queue without its entry is right
   ready-closed : (xs : List Entry) → i < length s.rows → r.done ≡ true → HoldsTasks p s (without i (is_open s)) xs → HoldsReady p (with_row s i r) xs
   ready-closed xs lt done h =
       holds-keep p (with_row s i r) (without i (is_open (with_row s i r))) (with_row s i r) (is_open (with_row s i r)) xs
@@ -191,7 +191,7 @@ module _ (p : Plan) (s : StateOf) (i : ℕ) (r : Row) where
           ∙ sym (ap (λ (q : Row). not q.done) (ap (row_at (with_row s i r)) e ∙ row-here s i r lt) ∙ ap not done)
       go k (inr ne) = without-other i (is_open (with_row s i r)) k ne
 
-  -- and here it is open
+  -- where the job of task i is now incomplete, a ready queue with its entry is right
   ready-opened : (xs : List Entry) → i < count p → i < length s.rows → r.done ≡ false → HoldsTasks p s (without i (is_open s)) xs
       → HoldsReady p (with_row s i r) (placed (before_of p.scheduler) (entry_of p (with_row s i r) i) xs)
   ready-opened xs lp lt unfinished h =
@@ -199,7 +199,7 @@ module _ (p : Plan) (s : StateOf) (i : ℕ) (r : Row) where
       (ap (λ (q : Row). not q.done) (row-here s i r lt) ∙ ap not unfinished) (ready-others xs h)
 
 module _ (p : Plan) (s : StateOf) (ready : ReadyOf) (calendar : QueueOf) (h : StandFor p s ready calendar) where
-  -- units change neither
+  -- `State::run` changes neither the ready queue nor the calendar
   pub stand-run : (i units : ℕ) → i < length s.rows → StandFor p (after_run s i units) ready calendar
   stand-run i units lt = record {
     scheduler = h.scheduler;
@@ -220,7 +220,7 @@ module _ (p : Plan) (s : StateOf) (ready : ReadyOf) (calendar : QueueOf) (h : St
       go k (inl e) = ap (is_open s) e ∙ ap (λ (q : Row). not q.done) (sym (row-here s i r lt)) ∙ ap (is_open s') (sym e)
       go k (inr ne) = open-there p s i r k ne
 
-  -- nor does time, or a mark
+  -- `State::advance` changes neither the ready queue nor the calendar; nor does `State::mark`
   pub stand-advance : (to : ℕ) (after : StateOf) → after ≡ after_advance s to → StandFor p after ready calendar
   stand-advance to after is = subst (λ (v : StateOf). StandFor p v ready calendar) (sym is) (record {
     scheduler = h.scheduler;
@@ -239,7 +239,7 @@ module _ (p : Plan) (s : StateOf) (ready : ReadyOf) (calendar : QueueOf) (h : St
     releases = record { each = h.releases.each; all = h.releases.all };
   }
 
-  -- the first of the ready jobs is done, and taken out
+  -- after `State::finish` of the first ready job, the ready queue without it is right
   pub stand-finish : (x : Entry) (rest : List Entry) (i : ℕ) → ready.entries ≡ x ∷ rest → IsAbsent x.task rest → x.task ≡ i → i < length s.rows
       → StandFor p (after_finish s i) (record ready { entries = rest }) calendar
   stand-finish x rest i is apart own lt = record {
@@ -267,7 +267,7 @@ module _ (p : Plan) (s : StateOf) (ready : ReadyOf) (calendar : QueueOf) (h : St
     ready-absent : HoldsTasks p s (without i (is_open s)) ready.entries
     ready-absent = holds-without p s (is_open s) i ready.entries (absent p s (is_open s) i ready.entries h.ready_jobs (ap not done)) h.ready_jobs
 
-    -- of a job that needs something
+    -- the job that is released needs some units: the ready queue and the calendar have its entry
     pub stand-opened : StandFor p (opened p s i false)
         (record ready { entries = placed (before_of p.scheduler) (entry_of p (opened p s i false) i) ready.entries })
         (record calendar { entries = placed due_before (entry_of p (opened p s i false) i) rest })
@@ -279,7 +279,7 @@ module _ (p : Plan) (s : StateOf) (ready : ReadyOf) (calendar : QueueOf) (h : St
       releases = opened-releases (opened_row (period p i) false (row_at s i));
     }
 
-    -- and of one that needs nothing
+    -- the job that is released needs no units: the calendar alone has its entry
     pub stand-closed : StandFor p (opened p s i true) ready (record calendar { entries = placed due_before (entry_of p (opened p s i true) i) rest })
     stand-closed = record {
       scheduler = h.scheduler;
@@ -289,11 +289,11 @@ module _ (p : Plan) (s : StateOf) (ready : ReadyOf) (calendar : QueueOf) (h : St
       releases = opened-releases (opened_row (period p i) true (row_at s i));
     }
 
-    -- the job of the entry is not among the ready ones
+    -- before the release the ready queue has no entry of the task
     pub opened-absent : IsAbsent i ready.entries
     opened-absent = absent p s (is_open s) i ready.entries h.ready_jobs (ap not done)
 
--- what a calendar gives and leaves where a task is due
+-- the first entry of a calendar is that of the first task that is due, and `rest` are the others
 pub record TakesDue (p : Plan) (s : StateOf) (i : ℕ) (xs rest : List Entry) : Type 0 where
   pub entry : Entry
   pub is : xs ≡ entry ∷ rest
@@ -307,7 +307,7 @@ takes-due p s i xs rest None h past d e f o =
     absurd (Has-contains [] (entry_of p s i) (subst (λ (l : List Entry). Contains l (entry_of p s i)) e.0 (h.all i d.below refl)))
 takes-due p s i xs rest (Some x) h past d e f o = record { entry = x; is = e; out = o; own = first-due-own p s xs x h f i past d }
 
--- and of a ready queue where a job is not done
+-- the first entry of a ready queue is that of the first task with an incomplete job, and it can be taken out
 pub takes-undone : (p : Plan) (s : StateOf) (i : ℕ) (xs rest : List Entry) (r : Option Entry) (sch : Scheduler) → sch ≡ p.scheduler
     → HoldsReady p s xs → IsFirstUndone p s (count p) i
     → MatchOption r ((xs ≡ []) × (rest ≡ [])) (λ e. xs ≡ e ∷ rest) → IfSome r (λ e. ComesFirst (before_of sch) e xs) → IfSome r (λ e. IsAbsent e.task rest)
@@ -317,7 +317,7 @@ takes-undone p s i xs rest None sch same h u m f o =
 takes-undone p s i xs rest (Some x) sch same h u m f o =
     record { entry = x; is = m; out = o; own = first-undone-own p s xs x i h (subst (λ (c : Scheduler). ComesFirst (before_of c) x xs) same f) u }
 
--- a queue without a first entry is empty
+-- a list of entries without a first one is empty
 pub no-first : (xs : List Entry) → slice_get xs 0 ≡ None → xs ≡ []
 no-first [] e = refl
 no-first (x ∷ xs) e = absurd (cc)
@@ -329,11 +329,11 @@ module _ (p : Plan) (s : StateOf) (ready : ReadyOf) (calendar : QueueOf) (h : St
   pub ready-none : ready.entries ≡ [] → (k : ℕ) → k < count p → (row_at s k).done ≡ true
   ready-none e = all-done p s (subst (HoldsReady p s) e h.ready_jobs)
 
-  -- of one task or more, a calendar has a first
+  -- a calendar of at least one task has a first entry
   pub calendar-some : 0 < count p → calendar.entries ≢ []
   calendar-some lt e = Has-contains [] (entry_of p s 0) (subst (λ (l : List Entry). Contains l (entry_of p s 0)) e (h.releases.all 0 lt refl))
 
-  -- what `finish` leaves
+  -- after a completion the new ready queue and the calendar represent the new state
   pub after-finish : (i : ℕ) (ready' : ReadyOf) (r : Option Entry) → IsFirstUndone p s (count p) i → length s.rows ≡ count p
       → ready' ≡ record ready { entries = ready'.entries }
       → MatchOption r ((ready.entries ≡ []) × (ready'.entries ≡ [])) (λ e. ready.entries ≡ e ∷ ready'.entries)
@@ -345,7 +345,7 @@ module _ (p : Plan) (s : StateOf) (ready : ReadyOf) (calendar : QueueOf) (h : St
       subst (λ (q : ReadyOf). StandFor p (after_finish s i) q calendar) (sym same)
       (stand-finish p s ready calendar h t.entry ready'.entries i t.is t.out t.own (omega (arith, u.below, long)))
 
-  -- what `release` leaves
+  -- after a release the new ready queue and the new calendar represent the new state
   module _ (i : ℕ) (calendar' : QueueOf) (r : Option Entry) (past : NonePast p s) (d : IsFirstDue p s i) (lt : i < length s.rows)
       (done : (row_at s i).done ≡ true)
       (limit : calendar'.limit ≡ calendar.limit)
@@ -390,7 +390,7 @@ module _ (p : Plan) (s : StateOf) (ready : ReadyOf) (calendar : QueueOf) (h : St
           subst (λ (q : QueueOf). StandFor p (opened p s i true) ready q) (sym (as_calendar (entry_of p (opened p s i true) i) is))
           (stand-closed p s ready calendar h taken.entry calendar'.entries i taken.is taken.out taken.own d.below lt done)
 
--- the entry of a task's next job
+-- the entry that `renew` puts in is that of the task after its release
 pub opened-entry : (p : Plan) (s : StateOf) (i : ℕ) (done : Bool) (per due : ℕ) → i < length s.rows → per ≡ period p i → due ≡ (row_at s i).deadline
     → record { task = i; due = due + per; period = per } ≡ entry_of p (opened p s i done) i
 opened-entry p s i done per due lt is same =
@@ -398,7 +398,7 @@ opened-entry p s i done per due lt is same =
     (ap₂ (λ (a b : ℕ). a + b) same is ∙ ap (λ (q : Row). q.deadline) (sym (row-here s i (opened_row (period p i) done (row_at s i)) lt)))
     is
 
--- the calendar of an opening state, as far as the tasks are put in
+-- the calendar of the opening state, with the tasks put in so far
 pub none-held : (p : Plan) (s : StateOf) (xs : List Entry) → xs ≡ [] → HoldsTasks p s (λ i. nat_lt i 0) xs
 none-held p s xs e = subst (HoldsTasks p s (λ i. nat_lt i 0)) (sym e) (record { each = tt; all = λ i lt t. absurd (grind (arith, nat_tests)) })
 
@@ -419,7 +419,7 @@ more-held p s m e xs ys lt h is put =
 pub all-held : (p : Plan) (s : StateOf) (n : ℕ) (xs : List Entry) → count p ≤ n → HoldsTasks p s (λ i. nat_lt i n) xs → HoldsCalendar p s xs
 all-held p s n xs le h = holds-keep p s (λ i. nat_lt i n) s (λ i. true) xs (λ k lt. grind (arith, nat_tests)) (λ k lt t. refl) h
 
--- an opening state has no incomplete job
+-- the opening state has no incomplete job, and an empty ready queue
 pub opening-ready : (p : Plan) (xs : List Entry) → xs ≡ [] → HoldsReady p (opening p) xs
 opening-ready p xs e = subst (HoldsReady p (opening p)) (sym e) (record {
   each = tt;
@@ -432,7 +432,7 @@ opening-entry p m first per lt begins is =
     ap₂ (λ (d n : ℕ). record { task = m; due = d; period = n })
     (begins ∙ ap (λ (q : Row). q.deadline) (sym (get-table (count p) (λ j. opening_row (offset p j) (worst p j)) m no_row lt))) is
 
--- each release leaves fewer
+-- each release leaves fewer tasks that are still to be released now
 pub due-falls : (p : Plan) (s : StateOf) (i : ℕ) (done : Bool) → i < length s.rows → 0 < period p i → IsFirstDue p s i
     → due_left p (opened p s i done) < due_left p s
 due-falls p s i done lt some d =

@@ -1,4 +1,4 @@
--- What the ready queue and the calendar hold of a state.
+-- What the ready queue and the calendar of a state contain.
 use Rattle.std.specs.Prelude.{◌≡◌, ℕ, ◌<◌, ◌≤◌, ◌≢◌, Bool, true, false, not, nat_eq, if◌then◌else◌, List, Contains, slice_set}
 use Rattle.std.specs.List.{AllByRecursion}
 use Rattle.dvs_base.specs.declared.kind.Scheduler.{Scheduler}
@@ -17,7 +17,7 @@ abbrev pub before_of : Scheduler → Entry → Entry → Bool
 before_of Edf = due_before
 before_of Rm = period_before
 
--- the entry of a task: its latest job's deadline, at which its next job is released, and its period
+-- the entry of a task: the deadline of its latest job, which is its next release, and its period
 abbrev pub entry_of : Plan → StateOf → ℕ → Entry
 entry_of p s i = record { task = i; due = (row_at s i).deadline; period = period p i }
 
@@ -30,21 +30,21 @@ pub record HoldsTasks (p : Plan) (s : StateOf) (test : ℕ → Bool) (entries : 
 abbrev pub is_open : StateOf → ℕ → Bool
 is_open s i = not (row_at s i).done
 
--- a ready queue holds exactly the incomplete latest jobs, each with the keys of its task: its deadline and the period
+-- a ready queue has exactly the incomplete latest jobs, each with its deadline and its task's period
 abbrev pub HoldsReady : Plan → StateOf → List Entry → Type 0
 HoldsReady p s entries = HoldsTasks p s (is_open s) entries
 
--- a calendar holds each task with its next release, which is the deadline of its latest job
+-- a calendar has each task with its next release, which is the deadline of its latest job
 abbrev pub HoldsCalendar : Plan → StateOf → List Entry → Type 0
 HoldsCalendar p s entries = HoldsTasks p s (λ i. true) entries
 
--- the entries of a ready queue, and the scheduler by whose order they stand
+-- a ready queue: the scheduler whose order it has, its limit, and its entries in order
 pub record ReadyOf : Type 0 where
   pub scheduler : Scheduler
   pub limit : ℕ
   pub entries : List Entry
 
--- a ready queue and a calendar stand for a state of a plan
+-- a ready queue and a calendar represent a state of a plan
 pub record StandFor (p : Plan) (s : StateOf) (ready : ReadyOf) (calendar : QueueOf) : Type 0 where
   pub scheduler : ready.scheduler ≡ p.scheduler
   pub ready_limit : ready.limit ≡ count p
@@ -52,39 +52,39 @@ pub record StandFor (p : Plan) (s : StateOf) (ready : ReadyOf) (calendar : Queue
   pub calendar_limit : calendar.limit ≡ count p
   pub releases : HoldsCalendar p s calendar.entries
 
--- what the tasks' rows are ordered by
+-- the key by which a scheduler orders the rows: the deadline under EDF, the period under RM
 abbrev pub row_key : Scheduler → Plan → StateOf → ℕ → ℕ
 row_key Edf p s i = (row_at s i).deadline
 row_key Rm p s i = period p i
 
--- the first of the first n rows by the order that is not done
+-- task i is the first of the first n tasks in the scheduler's order whose job is incomplete
 pub record IsFirstUndone (p : Plan) (s : StateOf) (n i : ℕ) : Type 0 where
   pub below : i < n
   pub open_job : (row_at s i).done ≡ false
   pub first : (k : ℕ) → k < n → stands_before (row_key p.scheduler p s) k i ≡ true → (row_at s k).done ≡ true
 
--- the next release of the tasks
+-- the earliest next release of the tasks
 abbrev pub next_release : Plan → StateOf → ℕ
 next_release p s = least_below (count p) (λ i. (row_at s i).deadline)
 
--- the first task in file order that is released now
+-- task i is the first in file order that is to be released now
 pub record IsFirstDue (p : Plan) (s : StateOf) (i : ℕ) : Type 0 where
   pub below : i < count p
   pub due : (row_at s i).deadline ≡ s.now
   pub first : (k : ℕ) → k < i → (row_at s k).deadline ≢ s.now
 
--- no release is past
+-- no task's next release is in the past
 abbrev pub NonePast : Plan → StateOf → Type 0
 NonePast p s = (i : ℕ) → i < count p → s.now ≤ (row_at s i).deadline
 
--- a row after the release of its next job, which is complete at once where it needs nothing
+-- a row after the release of its next job, which is complete at once where `done`
 abbrev pub opened_row : ℕ → Bool → Row → Row
 opened_row period done row = record (released_row period row) { done = done }
 
--- a state after the release of a task's next job
+-- the state after the release of the next job of task i, which is complete at once where `done`
 abbrev pub opened : Plan → StateOf → ℕ → Bool → StateOf
 opened p s i done = record s { rows = slice_set s.rows i (opened_row (period p i) done (row_at s i)) }
 
--- how many tasks are still to be released now
+-- the number of tasks that are still to be released now
 abbrev pub due_left : Plan → StateOf → ℕ
 due_left p s = sum_below (count p) (λ i. if nat_eq (row_at s i).deadline s.now then 1 else 0)

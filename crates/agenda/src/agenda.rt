@@ -20,7 +20,7 @@ pub struct Agenda {
 impl Agenda {
     ghost use Rattle.agenda.specs.Stands.{Stands};
 
-    /// For the state before the first release. All memory is taken here.
+    /// The agenda of the state before the first release. All memory is taken here. The only error is `NoMemory`.
     pub fn new(alloc: Global, plan: &Admitted) -> Result<Agenda, NoMemory>
         ensures { IfOk result (Stands plan.now (opening plan.now)) }
     {
@@ -36,7 +36,7 @@ impl Agenda {
         Ok(Agenda { ready, calendar })
     }
 
-    /// The first task by the order whose job is not done.
+    /// The first task in the scheduler's order whose job is incomplete; `None` where all jobs are complete.
     pub fn first_ready(&self, _plan: &Admitted, _state: &State) -> Option<u32>
         requires { Stands _plan.now _state.now self.now }
         ensures none { IfNone result ((k : ℕ) → k < count _plan.now → (row_at _state.entry.now k).done ≡ true) }
@@ -48,7 +48,7 @@ impl Agenda {
         }
     }
 
-    /// The next release, in ticks.
+    /// The earliest next release of the tasks, in ticks.
     pub fn next_release(&self, plan: &Admitted, state: &State) -> u64
         requires { Stands plan.now state.now self.now }
         ensures { result ≡ next_release plan.now state.entry.now }
@@ -60,7 +60,7 @@ impl Agenda {
         }
     }
 
-    /// The first task in file order that is to be released now.
+    /// The first task in file order that is to be released now; `None` where there is none.
     pub fn first_due(&self, plan: &Admitted, state: &State) -> Option<u32>
         requires stand { Stands plan.now state.now self.now }
         requires past { NonePast plan.now state.now }
@@ -74,7 +74,8 @@ impl Agenda {
         }
     }
 
-    /// The next job of the first task that is due is released; `done` where it is complete at once, since it needs nothing.
+    /// Updates the agenda for the release of the next job of `task`, the first that is due. `done` says whether the
+    /// job is complete at once, since it needs no units.
     pub fn renew(&mut self, plan: &Admitted, state: &State, task: u32, done: bool)
         requires stand { Stands plan.now state.now self.old }
         requires past { NonePast plan.now state.now }
@@ -92,7 +93,7 @@ impl Agenda {
         }
     }
 
-    /// The first job that is not done is complete.
+    /// Updates the agenda for the completion of the job of `task`, the first incomplete one in the scheduler's order.
     pub fn complete(&mut self, plan: &Admitted, state: &State, task: u32)
         requires stand { Stands plan.now state.now self.old }
         requires of { IsOfPlan plan.now state.now }

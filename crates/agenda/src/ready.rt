@@ -1,4 +1,4 @@
-// The ready jobs, by the order of a scheduler.
+// The ready jobs, in the order of a scheduler.
 ghost use Rattle.std.specs.Prelude.{◌≡◌, ◌<◌, [], ◌∷◌, IfOk, IfSome, MatchOption, slice_get};
 ghost use Rattle.ready_queue.specs.Entries.{IsAbsent, placed, ComesFirst};
 ghost use Rattle.agenda.specs.Agenda.{before_of};
@@ -14,7 +14,7 @@ enum Ordered {
     Rm(Queue<ByPeriod>),
 }
 
-/// Ready jobs: by the deadline under EDF, by the period under RM.
+/// The ready jobs in order: by the deadline under EDF, by the period under RM.
 #[derive(Drop)]
 pub struct Ready {
     ordered: Ordered,
@@ -29,7 +29,7 @@ impl Model for Ready {
 }
 
 impl Ready {
-    /// No ready jobs of the tasks below `n`. All memory is taken here.
+    /// A ready queue for the tasks below `n`, without jobs. All memory is taken here. The only error is `NoMemory`.
     pub fn new(alloc: Global, scheduler: Scheduler, n: u32) -> Result<Ready, NoMemory>
         ensures { IfOk result (λ r. r ≡ record { scheduler = scheduler; limit = n; entries = [] }) }
     {
@@ -40,7 +40,7 @@ impl Ready {
         Ok(Ready { ordered })
     }
 
-    /// Adds a job of a task that is not in.
+    /// Adds the job of a task that is not in the queue.
     pub fn insert(&mut self, e: Entry)
         requires task { e.task < self.old.limit }
         requires absent { IsAbsent e.task self.old.entries }
@@ -52,7 +52,7 @@ impl Ready {
         }
     }
 
-    /// The job that comes before all others, and none exactly where there is none.
+    /// The job that comes before all others; `None` exactly where there is no job.
     pub fn first(&self) -> Option<Entry>
         ensures value { result ≡ slice_get self.now.entries 0 }
         ensures first { IfSome result (λ e. ComesFirst (before_of self.now.scheduler) e self.now.entries) }
@@ -63,7 +63,7 @@ impl Ready {
         }
     }
 
-    /// Takes that job out.
+    /// Takes out and returns the job that comes before all others; `None` exactly where there is no job.
     pub fn take_first(&mut self) -> Option<Entry>
         ensures entries { MatchOption result ((self.old.entries ≡ []) × (self.new.entries ≡ []))
             (λ e. self.old.entries ≡ e ∷ self.new.entries) }

@@ -24,7 +24,7 @@ fn edf_plan(alloc: Global, tasks: &[u8]) -> Result<Admitted, Fail> {
     Ok(Admitted::with(alloc, &tasks, &machine, Scheduler::Edf).map_err(|_| "memory")?)
 }
 
-// The first job that is not done, the next release and the first task that is released now.
+// The first task with an incomplete job, the next release and the first task that is released now.
 fn looked_up(alloc: Global, tasks: &[u8]) -> Result<(Option<u32>, u64, Option<u32>), Fail> {
     let plan = edf_plan(alloc, tasks)?;
     let Ok(state) = State::new(alloc, &plan) else {

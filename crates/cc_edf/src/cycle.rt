@@ -17,15 +17,15 @@ use grid_fraction::Frac;
 use sched_model::{Admitted, Row, State};
 use std::alloc::Global;
 
-/// The governor of cycle-conserving EDF: the lowest speed that does the sum of the tasks' rates, where a complete job
-/// counts with what it had (Pillai and Shin 2001).
+/// The governor of cycle-conserving EDF: the lowest speed that meets the sum of the tasks' rates, where a complete job
+/// counts with the units that it had (Pillai and Shin 2001).
 #[derive(Drop)]
 pub struct CcEdf {
     rates: Vec<u128>,
     sum: u128,
 }
 
-// The row of a task.
+// The row of a task in a state.
 fn row_of(view: &State, task: u32) -> Row
     requires { task < length view.now.rows }
     ensures { result ≡ row_at view.entry.now task }
@@ -34,7 +34,7 @@ fn row_of(view: &State, task: u32) -> Row
 }
 
 impl CcEdf {
-    /// The governor for a plan under EDF, before the first release. It fails only where memory runs out.
+    /// The governor for a plan under EDF, before the first release. The only error is `NoMemory`.
     pub fn new(alloc: Global, plan: &Admitted) -> Result<CcEdf, NoMemory>
         requires { ServesEdf plan.now.scheduler }
         ensures stands { IfOk result (λ g. ⟦<CcEdf as Governor>⟧.stands g plan.now (opening plan.now)) }
@@ -45,7 +45,7 @@ impl CcEdf {
         }
     }
 
-    // Charges a task with so many units: its rate, and the sum with it.
+    // Charges a task with `units` work units: its rate and the sum of the rates change.
     fn charge(&mut self, plan: &Admitted, view: &State, task: u32, units: u64)
         requires of { IsOfPlan plan.now view.now }
         requires counters { Counts self.old.rates.items self.old.sum plan.now view.now }
@@ -61,7 +61,7 @@ impl CcEdf {
         self.rates[task as usize] = rate;
     }
 
-    // The sum of the rates over the hyperperiod, not reduced.
+    // The published demand: the sum of the rates over the hyperperiod, in work units per tick, not reduced.
     fn sum_of_rates(&self, plan: &Admitted, _view: &State) -> Frac
         requires { Counts self.now.rates.items self.now.sum plan.now _view.now }
         ensures { result ≡ cycle_demand plan.now _view.entry.now }
@@ -110,7 +110,8 @@ impl Governor for CcEdf {
 
     fn settled(&mut self, _plan: &Admitted, _view: &State) {}
 
-    /// Each choice meets its demand: no charge exceeds the worst case, and the plan passed its test.
+    /// The published demand and the lowest entry that meets it. Some entry always does: no charge exceeds the worst
+    /// case, and the plan is admitted.
     fn choose(&self, plan: &Admitted, view: &State) -> Choice
         requires of { IsOfPlan plan.now view.now }
         requires counters { Counts self.now.rates.items self.now.sum plan.now view.now }

@@ -1,4 +1,4 @@
--- The kept rates and their sum, call by call.
+-- What each call makes of the kept rates and their sum.
 use Rattle.std.proofs.Common.{◌≡◌, ◌≢◌, ℕ, ◌+◌, ◌-◌, ◌*◌, ◌/◌, ◌<◌, ◌≤◌, ◌^◌, Bool, true, false, eqb, List, length, length-set, get_or-set_same, get_or-set_other, refl, sym, ◌∙◌, ap, subst, arith}
 use Rattle.std.specs.Prelude.{slice_set, slice_index}
 use Rattle.std.proofs.Math.Nat.{mul-le-mul_right}
@@ -21,14 +21,14 @@ use Rattle.cc_edf_laws.specs.Cycle.{charged_of, charged_rate_in, Counts}
 use Rattle.governor.proofs.Fits.{full_enough}
 use Rattle.cc_edf_laws.proofs.CycleLaws.{cycle_within}
 
--- what the highest speed does in H ticks
+-- the work that the highest speed does in H ticks fits well into 128 bits
 work_low : (plan : Plan) → IsAdmitted plan → top_speed plan * hyper plan ≤ 1000000 * 2 ^ 48
 work_low plan adm =
     let machine = adm.limits.machine in
     let speed : top_speed plan ≤ 1000000 = (machine.each (last_entry plan.machine) (let some = machine.some in omega arith)).low_speed in
     mul-le (top_speed plan) (hyper plan) 1000000 (2 ^ 48) speed (low_hyper plan adm.limits)
 
--- the row of a task is written
+-- the row of task i is replaced by another row
 module _ (plan : Plan) (s : StateOf) (of : IsOfPlan plan s) (rates : List ℕ) (sum : ℕ) (counts : Counts rates sum plan s) (i : ℕ) (h : i < count plan) where
   abbrev written : Row → StateOf
   written row = record s { rows = slice_set s.rows i row }
@@ -43,11 +43,11 @@ module _ (plan : Plan) (s : StateOf) (of : IsOfPlan plan s) (rates : List ℕ) (
   pub rate_place : i < length rates
   rate_place = let e = counts.one_each in omega arith
 
-  -- which is a part of the sum
+  -- the kept rate of the task is at most the sum
   pub rate_most : slice_index rates i ≤ sum
   rate_most = let r = counts.rate_is i h in let t = counts.sum_is in let m = sum_below-term (count plan) (charged_rate_in plan s) i h in omega arith
 
-  -- with the rate of the new row in the place of the old one
+  -- with the new row's rate in place of the old one the counters are right
   counts-set : (row : Row) (new : ℕ) → new ≡ charged_of row * (hyper plan / period plan i)
       → Counts (slice_set rates i new) (sum - slice_index rates i + new) plan (written row)
   counts-set row new is = record {
@@ -78,12 +78,12 @@ module _ (plan : Plan) (s : StateOf) (of : IsOfPlan plan s) (rates : List ℕ) (
           let ne : k ≢ i = grind (arith, nat_tests) in
           get_or-set_other rates i k new 0 ne ∙ (counts.rate_is k lt ∙ sym (other k ne))
 
-  -- a release charges the worst case
+  -- a release charges the task's worst case
   pub counts-released : Counts (slice_set rates i ((row_at s i).worst * (hyper plan / period plan i)))
       (sum - slice_index rates i + (row_at s i).worst * (hyper plan / period plan i)) plan (after_release plan s i)
   counts-released = counts-set (released_row (period plan i) (row_at s i)) ((row_at s i).worst * (hyper plan / period plan i)) refl
 
-  -- a completion charges what the job had
+  -- a completion charges the units that the job had
   pub counts-finished : Counts (slice_set rates i ((row_at s i).used * (hyper plan / period plan i)))
       (sum - slice_index rates i + (row_at s i).used * (hyper plan / period plan i)) plan (after_finish s i)
   counts-finished = counts-set (record (row_at s i) { done = true }) ((row_at s i).used * (hyper plan / period plan i)) refl
@@ -99,7 +99,7 @@ module _ (plan : Plan) (s : StateOf) (of : IsOfPlan plan s) (rates : List ℕ) (
       (subst (λ (total : ℕ). Counts (slice_set rates i (slice_index rates i)) total plan (written row)) all
       (counts-set row (slice_index rates i) (counts.rate_is i h ∙ ap (λ v. v * (hyper plan / period plan i)) same)))
 
-  -- and the sum fits in 128 bits
+  -- after a new charge the sum fits in 128 bits
   pub sum_fits : IsAdmitted plan → (units : ℕ) → units ≤ (row_at s i).worst
       → sum - slice_index rates i + units * (hyper plan / period plan i) < 2 ^ 128
   sum_fits adm units le =
@@ -110,7 +110,7 @@ module _ (plan : Plan) (s : StateOf) (of : IsOfPlan plan s) (rates : List ℕ) (
       let all : total_rate plan ≤ top_speed plan * hyper plan = (full_enough plan adm).edf counts.served in
       omega (arith, cycle_within plan s of, new, sum_below-term (count plan) (rate plan) i h, all, work_low plan adm, t)
 
--- before the first release nothing is charged
+-- before the first release no task is charged
 pub counts-opening : (plan : Plan) → ServesEdf plan.scheduler → Counts (replicate (count plan) 0) 0 plan (opening plan)
 counts-opening plan edf = record {
   served = edf;

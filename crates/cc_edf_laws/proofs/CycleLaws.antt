@@ -30,7 +30,7 @@ use Rattle.cc_edf_laws.specs.Conditions.{due_work, credit, CycleCalm, CycleSafe}
 use Rattle.cc_edf_laws.proofs.Rows.{owed, credit_of, boundary_pays, tick_pays, tick_charge, charged_most}
 use Rattle.cc_edf_laws.proofs.Shares.{due_closes, due_full, later_none}
 
--- an inequality of each task, added up
+-- an inequality of two terms for each task, added up
 sum-two : (n : ℕ) (a b c d : ℕ → ℕ) → ((i : ℕ) → i < n → a i + b i ≤ c i + d i)
     → sum_below n a + sum_below n b ≤ sum_below n c + sum_below n d
 sum-two n a b c d each =
@@ -43,14 +43,14 @@ sum-three n a b p c d q each =
     let all = sum-two n (λ i. a i + b i) p (λ i. c i + d i) q each in
     omega (arith, all, sum_below-add n a b, sum_below-add n c d)
 
--- before the first release no work is owed
+-- before the first release no work is due
 cycle_opens : (plan : Plan) → CycleCalm plan (opening plan)
 cycle_opens plan d le =
     let s = opening plan in
     let none : due_work plan s d ≡ 0 = sum_where-zero (count plan) (due_by s d) (wleft_at s) (λ i h on. rw (opening_at plan i h) refl) in
     rw none (omega (arith, mul-zero (hyper plan)))
 
--- the charges are at most the worst cases, so the highest speed does the sum of the rates
+-- each charge is at most the worst case, so the sum of the rates is at most that of the test
 pub cycle_within : (plan : Plan) (s : StateOf) → IsOfPlan plan s → (cycle_demand plan s).num ≤ total_rate plan
 cycle_within plan s of =
     sum_below-le (count plan) (charged_rate_in plan s) (rate plan) (λ i h.
@@ -63,7 +63,7 @@ cycle_fits plan s adm edf of =
     let test : total_rate plan ≤ top_speed plan * hyper plan = (full_enough plan adm).edf edf in
     omega (arith, cycle_within plan s of, test)
 
--- so each choice meets its demand
+-- in each state of an admitted plan under EDF some entry meets the demand
 pub cycle_met : (plan : Plan) (s : StateOf) → IsAdmitted plan → ServesEdf plan.scheduler → IsOfPlan plan s
     → (lowest_pick plan.machine (cycle_demand plan s)).met ≡ true
 cycle_met plan s adm edf of = picked_met plan.machine adm.limits.machine (cycle_demand plan s) (cycle_fits plan s adm edf of)
@@ -83,7 +83,7 @@ module _ (plan : Plan) (lim : IsWithinLimits plan) (dem : JobDemands) (s : State
   abbrev jobs : ℕ → ℕ
   jobs i = hyper plan / period plan i
 
-  -- no rate gives anything up to now, so no work is due now
+  -- the rates give no units up to the present tick, so in a calm state each job that is due is complete
   cycle_completes : CycleCalm plan s → (i : ℕ) → i < count plan → (row_at s i).deadline ≡ s.now → (row_at s i).done ≡ true
   cycle_completes calm i h at_now =
       let none : credit plan s s.now ≡ 0 =
@@ -111,7 +111,7 @@ module _ (plan : Plan) (lim : IsWithinLimits plan) (dem : JobDemands) (s : State
     abbrev next : StateOf
     next = after_tick dem shares s
 
-    -- an open job is no job 0, so it is due within a period
+    -- an incomplete job isn't job 0, so it is due within a period
     soon : (i : ℕ) → i < count plan → (row_at s i).done ≡ false → (row_at s i).deadline ≤ s.now + period plan i
     soon i h open_job =
         elim (cases_lt 0 (row_at s i).job) [
@@ -124,14 +124,14 @@ module _ (plan : Plan) (lim : IsWithinLimits plan) (dem : JobDemands) (s : State
               let bad : true ≡ false = sym closed ∙ open_job in cc)
         ]
 
-    -- where the speed covers what is due by d, nothing is owed by then
+    -- where the speed covers what the tasks due by d need, they need nothing after the tick
     all_done : (d : ℕ) → sum_where (count plan) (due_by s d) (left_in dem s) ≤ f → due_work plan next d ≡ 0
     all_done d low =
         sum_where-zero (count plan) (due_by next d) (wleft_at next) (λ i h on.
         let due : due_by s d i ≡ true = rw (tick_at plan dem shares s bel i h) at on in
         rw (due_closes plan dem f s shares edf bel legal d low i h due) refl)
 
-    -- else each of its units is paid for
+    -- where the tasks due by d need all units of the tick, their work stays paid for
     all_paid : (d : ℕ) → s.now + 1 ≤ d → f ≤ sum_where (count plan) (due_by s d) (left_in dem s)
         → hyper plan * due_work plan next d + hyper plan * f + credit plan s d ≤ hyper plan * due_work plan s d + credit plan next d + (cycle_demand plan s).num
     all_paid d le high =

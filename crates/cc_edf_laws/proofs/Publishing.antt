@@ -1,4 +1,4 @@
--- The published demand under EDF is the governor's own, on each schedule.
+-- On each schedule the published demand of cycle-conserving EDF is the governor's own.
 use Rattle.std.proofs.Common.{◌≡◌, ℕ, ◌*◌, ◌/◌, ◌<◌, ◌≤◌, Bool, true, false, List, length, refl, ◌∙◌, sym, ap, arith}
 use Rattle.std.specs.Prelude.{nat_le, if◌then◌else◌}
 use Rattle.std.proofs.lemmas.Bool.Decides.{nat_tests}

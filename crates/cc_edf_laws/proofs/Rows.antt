@@ -1,4 +1,4 @@
--- What a boundary and a tick make of the work that a row owes, and of what its rate gives.
+-- What a boundary and a tick make of the work that a row needs by a tick, and of what its rate gives.
 use Rattle.std.proofs.Common.{◌≡◌, inl, inr, ℕ, ◌+◌, ◌-◌, ◌*◌, ◌<◌, ◌≤◌, min, Bool, true, false, refl, sym, ap, subst, arith}
 use Rattle.std.specs.Prelude.{◌==◌, ◌||◌, nat_le, if◌then◌else◌}
 use Rattle.std.proofs.Math.Nat.{le_trans, mul-le-mul_left, mul-zero, sub-zero}
@@ -11,11 +11,11 @@ use Rattle.governor.specs.Steps.{boundary_row}
 use Rattle.governor.proofs.Belonging.{boundary_row-by}
 use Rattle.cc_edf_laws.specs.Cycle.{charged_of}
 
--- what a row due by d may still need
+-- what a row that is due by d may still need; 0 for a row that is due later
 abbrev pub owed : ℕ → Row → ℕ
 owed d row = if nat_le row.deadline d then row_wleft row else 0
 
--- what its rate gives up to d, where q is H over its period
+-- what a row's rate gives from the present tick up to d or its deadline, where q is H over its period
 abbrev pub credit_of : ℕ → ℕ → ℕ → Row → ℕ
 credit_of q now d row = charged_of row * q * (min d row.deadline - now)
 
@@ -23,7 +23,7 @@ same_both : (b : Bool) (x : ℕ) → (if b then x else x) ≡ x
 same_both true x = refl
 same_both false x = refl
 
--- a release comes with its work and its credit
+-- the rate of a released row gives at least what its job may need by d
 opened_pays : (b : Bool) (h q p c now d after : ℕ) → q * p ≡ h → now ≤ d → after ≡ now + p
     → h * (if nat_le after d then (if b then 0 else c - 0) else 0) ≤ (if b then 0 else c) * q * (min d after - now)
 opened_pays true h q p c now d after whole le is = rw (same_both (nat_le after d) 0) (omega (arith, mul-zero h))
@@ -36,7 +36,7 @@ opened_pays false h q p c now d after whole le is =
           rw (le-leb after d fits, span, sub-zero c) (omega (arith, work))
     ]
 
--- at a boundary, where each row that is due is complete
+-- at a boundary, where each row that is due is complete, the work stays paid for
 pub boundary_pays : (plan : Plan) (dem : JobDemands) (h q now d i : ℕ) (row : Row) → q * period plan i ≡ h
     → (row.deadline ≡ now → row.done ≡ true) → now ≤ d
     → h * owed d (boundary_row plan dem now i row) + credit_of q now d row ≤ h * owed d row + credit_of q now d (boundary_row plan dem now i row)
@@ -50,26 +50,26 @@ boundary_pays plan dem h q now d i row whole closed le =
     omega (arith, pays, none))
     (λ later. omega arith)
 
--- c units less at a rate of c * q, over a part of the period
+-- a rate of c * q gives at most H times c units in a part of the period
 complete_pays : (h q p c e : ℕ) → q * p ≡ h → e ≤ p → c * q * e ≤ h * c
 complete_pays h q p c e whole le =
     let small : q * e ≤ h = le_trans (mul-le-mul_left q le) (let g : q * p ≤ h = omega arith in g) in
     omega (arith, mul-le-mul_left c small)
 
--- a tick for a complete job
+-- a complete job in a tick: it needs nothing, and its rate gives one tick less
 tick_done : (b : Bool) (h q used k : ℕ)
     → h * (if b then 0 else 0) + h * (if b then 0 else 0) + used * q * (k + 1) ≤ h * (if b then 0 else 0) + (used + 0) * q * k + used * q
 tick_done true h q used k = omega arith
 tick_done false h q used k = omega arith
 
--- for a job that goes on
+-- a job that stays incomplete in a tick: its work falls by its units, and its rate gives one tick less
 tick_open : (b : Bool) (h q used worst sh k : ℕ) → used + sh ≤ worst → (b ≡ false → sh ≡ 0)
     → h * (if b then worst - (used + sh) else 0) + h * (if b then sh else 0) + worst * q * (k + 1) ≤ h *
     (if b then worst - used else 0) + worst * q * k + worst * q
 tick_open true h q used worst sh k le none = let e : (worst - (used + sh)) + sh ≡ worst - used = omega arith in omega (arith, ap (λ (x : ℕ). h * x) e)
 tick_open false h q used worst sh k le none = omega arith
 
--- for a job that completes c units below its worst case
+-- a job that completes in a tick c units below its worst case: the work that it leaves pays for its lower rate
 tick_close_by : (h q p need sh c k : ℕ) → q * p ≡ h → k ≤ p
     → h * sh + (need + c) * q * (k + 1) ≤ h * (sh + c) + need * q * k + (need + c) * q
 tick_close_by h q p need sh c k whole le = omega (arith, complete_pays h q p c k whole le)
@@ -83,7 +83,8 @@ tick_close h q p need used worst sh k whole le is most =
     let by = tick_close_by h q p need sh c k whole le in
     rw (b, is) (subst (λ (w : ℕ). h * sh + w * q * (k + 1) ≤ h * (sh + c) + need * q * k + w * q) (sym a) by)
 
--- of the tasks due by d, each unit is paid for: the work falls by it, and the credit by the rate of one tick at most
+-- a tick pays each unit of a task that is due by d: the work falls by the units,
+-- and the credit by at most the rate of one tick
 pub tick_pays : (done : Bool) (h q p need used worst due now d sh : ℕ) → q * p ≡ h → now + 1 ≤ due → now + 1 ≤ d
     → (done ≡ false → due ≤ now + p) → (done ≡ false → used < need) → need ≤ worst
     → sh ≤ (if done then 0 else need - used) → (d < due → sh ≡ 0)

@@ -1,4 +1,4 @@
--- What a legal tick under EDF gives to the tasks due by a tick, and to the others.
+-- The units that a legal tick under EDF gives to the tasks due by a tick, and to the others.
 use Rattle.std.proofs.Common.{◌≡◌, ℕ, ◌<◌, ◌≤◌, min, Bool, true, false, List, refl, subst, arith}
 use Rattle.std.specs.Prelude.{if◌then◌else◌}
 use Rattle.std.proofs.lemmas.Bool.Decides.{nat_tests}
@@ -33,19 +33,19 @@ module _ (plan : Plan) (dem : JobDemands) (f : ℕ) (s : StateOf) (shares : List
       → sum_where (count plan) (due_by s d) (share_in shares) ≡ min f (sum_where (count plan) (due_by s d) (left_in dem s))
   due_gets d = due_by_gets (count plan) deadlines d f (left_in dem s) (share_in shares) by_deadline
 
-  -- where the speed covers what is due by d, all of that is complete afterwards
+  -- where the speed covers what the tasks due by d need, each of them is complete after the tick
   pub due_closes : (d : ℕ) → sum_where (count plan) (due_by s d) (left_in dem s) ≤ f → (i : ℕ) → i < count plan
       → due_by s d i ≡ true → (row_at (after_tick dem shares s) i).done ≡ true
   due_closes d low i h on =
       tick-closes plan dem f s shares bel legal i h
       (sum_where-tight (count plan) (due_by s d) (left_in dem s) (share_in shares) (legal_most plan dem f s shares legal) (omega (arith, due_gets d)) i h on)
 
-  -- and where it doesn't, the tasks due by d get all its units
+  -- where the tasks due by d need all units of the tick, they get them all
   pub due_full : (d : ℕ) → f ≤ sum_where (count plan) (due_by s d) (left_in dem s)
       → sum_where (count plan) (due_by s d) (share_in shares) ≡ f
   due_full d high = omega (arith, due_gets d)
 
-  -- and no other task gets any
+  -- where the tasks due by d need all units of the tick, no task that is due later gets any
   pub later_none : (d : ℕ) → f ≤ sum_where (count plan) (due_by s d) (left_in dem s) → (i : ℕ) → i < count plan
       → d < (row_at s i).deadline → share_in shares i ≡ 0
   later_none d high i h later =

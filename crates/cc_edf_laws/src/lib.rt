@@ -1,6 +1,6 @@
 //! The laws of cycle-conserving EDF (Pillai and Shin 2001).
 //!
-//! A task is charged with its worst case while its job is open, and with what the job had once it is complete. The two
-//! conditions are of a plan and a state: what is due by each tick is paid for by the rates up to there, and the speed in
-//! force does the sum of the rates. They are kept wherever the plan passes the test of EDF.
+//! A task is charged with its worst case while its job is incomplete, and then with what the job had. The two
+//! conditions are on a plan and a state: the rates pay for what is due by each tick, and the entry in force meets the
+//! sum of the rates. Every run of a plan that passes the test under EDF keeps them.
 #![tactic(auto)]

@@ -1,4 +1,4 @@
--- The kept rests, call by call.
+-- What each call makes of the kept counters.
 use Rattle.std.proofs.Common.{◌≡◌, ◌≢◌, ℕ, ◌+◌, ◌-◌, ◌*◌, ◌<◌, ◌≤◌, Bool, true, false, eqb, List, length, length-set}
 use Rattle.std.proofs.Common.{get_or-set_same, get_or-set_other, refl, sym, ◌∙◌, ap, ap₂, arith, if◌then◌else◌}
 use Rattle.std.specs.Prelude.{slice_set, slice_index, Option, None, Some, IfSome}
@@ -19,12 +19,12 @@ use Rattle.cc_rm_laws.specs.Allotments.{base_of, allotted_in, allotment_left_in}
 use Rattle.cc_rm.specs.declared.counters.Allotments.{Allotments}
 use Rattle.cc_rm.specs.Counters.{AreOf, Counts, lowered}
 
--- one term of a sum falls
+-- where one term of a sum falls, the sum falls by as much
 sum_below-fall : (n : ℕ) (f g : ℕ → ℕ) (i by : ℕ) → i < n → g i + by ≡ f i → ((k : ℕ) → k ≢ i → g k ≡ f k)
     → sum_below n g ≡ sum_below n f - by
 sum_below-fall n f g i by lt own other = omega (arith, own, sum_below-change n f g i lt (λ k l ne. other k ne))
 
--- a rest is a part of what is left of all
+-- what is left of one allotment is at most what is left of all
 pub rest-most : (speed : ℕ) (rests : List ℕ) (kept : Option Allotments) (plan : Plan) (s : StateOf) (i : ℕ)
     → i < count plan
     → Counts speed rests kept plan s → IfSome kept (λ all. slice_index rests i ≤ all.left)
@@ -32,11 +32,11 @@ rest-most speed rests kept plan s i h counts =
     IfSome_then kept counts.allotted
     (λ all of. omega (arith, of.rests_are i h, of.left_is, sum_below-term (count plan) (allotment_left_in plan s) i h))
 
--- at a mark a job might need what it may need there
+-- right after a mark the base of a task is what its job may still need
 pub marked-base : (s : StateOf) (i : ℕ) → i < length s.rows → base_of (after_mark s) i ≡ wleft_at s i
 marked-base s i h = get_or-map row_wleft s.rows i no_row 0 h
 
--- the row of a task is written, with its deadline as it was
+-- the row of task i is replaced by one with the same deadline
 module _ (plan : Plan) (s : StateOf) (of : IsOfPlan plan s) (i : ℕ)
     (h : i < count plan) (row : Row) (due : row.deadline ≡ (row_at s i).deadline) where
   abbrev written : StateOf
@@ -72,7 +72,7 @@ module _ (plan : Plan) (s : StateOf) (of : IsOfPlan plan s) (i : ℕ)
       ap₂ (λ (r : Row) (al : ℕ). if r.done then 0 else al - (base_of s k - row_wleft r))
       (row-other k ne) (allotted-same k)
 
-  -- what is left of the task's allotment, with the new row
+  -- what is left of the allotment of task i, with the new row
   abbrev pub left_with : ℕ
   left_with = if row.done then 0 else allotted_in plan s i - (base_of s i - row_wleft row)
 
@@ -134,7 +134,7 @@ module _ (plan : Plan) (s : StateOf) (of : IsOfPlan plan s) (i : ℕ)
 
 module _ (plan : Plan) (s : StateOf) (of : IsOfPlan plan s) (i : ℕ) (h : i < count plan) (speed : ℕ)
     (rests : List ℕ) (kept : Option Allotments) (counts : Counts speed rests kept plan s) where
-  -- an open job gets units
+  -- `State::run` of an incomplete job keeps the counters right
   pub counts-ran : (units : ℕ) → (row_at s i).done ≡ false → (row_at s i).used + units ≤ (row_at s i).worst
       → Counts speed (slice_set rests i (slice_index rests i - units))
       (lowered (slice_index rests i - (slice_index rests i - units)) kept) plan (after_run s i units)
@@ -156,7 +156,7 @@ module _ (plan : Plan) (s : StateOf) (of : IsOfPlan plan s) (i : ℕ) (h : i < c
           = rw still refl in omega (arith, w, kept.within i h)) in
           omega (arith, open_left, mine, most, kept.rests_are i h, room)
 
-  -- a job completes
+  -- `State::finish` of a job keeps the counters right
   pub counts-finished : Counts speed (slice_set rests i 0)
       (lowered (slice_index rests i - 0) kept) plan (after_finish s i)
   counts-finished =

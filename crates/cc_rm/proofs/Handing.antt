@@ -1,4 +1,4 @@
--- Handing out the units of a mark in RM order: what each task gets is what is left of its allotment there.
+-- Handing out the units of a mark in RM order: each task gets what is left of its allotment there.
 use Rattle.std.proofs.Common.{◌≡◌, ◌≢◌, ℕ, ◌+◌, ◌-◌, ◌<◌, min, Bool, true, false, eqb, List, ◌∷◌, length, length-set}
 use Rattle.std.proofs.Common.{get_or-set_same, get_or-set_other, refl, sym, ◌∙◌, ap, arith, if◌then◌else◌}
 use Rattle.std.specs.Prelude.{slice_set, slice_index}
@@ -22,7 +22,7 @@ module _ (plan : Plan) (s : StateOf) (units : ℕ) where
   abbrev place : ℕ → ℕ
   place k = slice_index (order plan) k
 
-  -- after k tasks in RM order, the rests of these are written
+  -- after k tasks in RM order what is left of their allotments is written
   pub record IsHanded (k rest sum : ℕ) (rests : List ℕ) : Type 0 where
     pub walked : IsWalked plan marked units k rest sum
     pub one_each : length rests ≡ count plan

@@ -21,11 +21,11 @@ ranked-below p k h =
     below-at (count p) (order p) k (in_order-below (period p) (count p))
     (omega (arith, length-in_order (period p) (count p)))
 
--- an allotment in the terms of what is left of the units before it
+-- what a task gets is the smaller of its need and what the tasks before it leave
 share_of : (units before need : ℕ) → min units (before + need) - min units before ≡ min (units - before) need
 share_of units before need = omega arith
 
--- the k-th task gets what the tasks before it left, up to its base
+-- the k-th task in RM order gets what the tasks before it leave, up to its base
 ranked-allotted : (p : Plan) (v : StateOf) (k : ℕ) → k < count p
     → allotted_in p v (slice_index (order p) k)
     ≡ min (allotted_units p v - sum_list (base_of v) (take k (order p))) (base_of v (slice_index (order p) k))
@@ -39,7 +39,7 @@ ranked-allotted p v k h =
     share_of (allotted_units p v) (sum_before (count p) (period p) (base_of v) i) (base_of v i)
     ∙ ap (λ (b : ℕ). min (allotted_units p v - b) (base_of v i)) before
 
--- after k tasks in RM order, `rest` of the units are not allotted, and `sum` is left of those that are
+-- after k tasks in RM order, `rest` units are not allotted, and `sum` is what is left of the k allotments
 pub record IsWalked (p : Plan) (v : StateOf) (units k rest sum : ℕ) : Type 0 where
   pub rest_is : rest ≡ units - sum_list (base_of v) (take k (order p))
   pub sum_is : sum ≡ sum_list (allotment_left_in p v) (take k (order p))
@@ -60,7 +60,7 @@ module _ (p : Plan) (v : StateOf) (units k rest sum given left : ℕ) (all : uni
   abbrev i : ℕ
   i = slice_index (order p) k
 
-  -- what is left of what the k-th task gets
+  -- what the walk leaves of the k-th task's units is what is left of its allotment
   pub ranked-left : left ≡ allotment_left_in p v i
   ranked-left =
       let same : given ≡ allotted_in p v i = omega (arith, given_is, all, walked.rest_is, ranked-allotted p v k h) in

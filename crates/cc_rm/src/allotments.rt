@@ -1,4 +1,4 @@
-// The allotments of a view, and what is left of them.
+// The allotments in a state, and what is left of them.
 ghost use Rattle.std.specs.Prelude.{◌≡◌, ◌<◌, ◌≤◌, ◌-◌, if◌then◌else◌, length};
 ghost use Rattle.grid_fraction.specs.Numbers.{sum_below};
 ghost use Rattle.dvs_base.specs.declared.kind.Scheduler.TheVariants.{Rm};
@@ -19,7 +19,7 @@ pub(crate) fn static_speed(plan: &Admitted) -> u64
     plan.machine().point(pick.index).speed
 }
 
-// What a task might still need at the mark, in work units.
+// What the job of task i might still need at the mark, in work units.
 fn base_of(view: &State, i: u32) -> u64
     requires { i < length view.now.base }
     ensures { result ≡ base_of view.entry.now i }
@@ -27,7 +27,7 @@ fn base_of(view: &State, i: u32) -> u64
     view.base[i as usize]
 }
 
-// What is left of a task's allotment of so many units.
+// What is left of `allotted` work units of task i: 0 where its job is complete.
 fn left_of(view: &State, i: u32, allotted: u128) -> u128
     requires task { i < length view.now.rows }
     requires base { wleft_at view.now i ≤ base_of view.now i }
@@ -40,7 +40,7 @@ fn left_of(view: &State, i: u32, allotted: u128) -> u128
     allotted.saturating_sub(u128::from(had))
 }
 
-// What is left of all allotments, which hand out so many units in RM order.
+// What is left of all allotments in work units, where `units` are handed out in RM order.
 pub(crate) fn left_in_all(plan: &Admitted, view: &State, units: u128) -> u128
     requires of { IsOfPlan plan.now view.now }
     requires decision { IsAtDecision plan.now view.now }

@@ -8,16 +8,15 @@ ghost use Rattle.cc_rm.specs.Counters.{AreRests};
 
 use sched_model::{Admitted, State};
 
-/// The allotments of a mark: the deadline in ticks up to which they were made, and how many work units are left of them
-/// all.
+/// The allotments of a mark: the deadline in ticks up to which they were made, and the work units left of them all.
 #[derive(Clone, Copy)]
 pub(crate) struct Allotments {
     pub(crate) first: u64,
     pub(crate) left: u128,
 }
 
-/// Hands out so many work units in RM order, to each task at most what its job may still need. It writes what each
-/// gets, and returns the sum.
+/// Hands out `units` work units in RM order, to each task at most what its job may still need. Writes the units of
+/// each task to `rests` and returns their sum.
 pub(crate) fn allot(rests: &mut [u128], plan: &Admitted, view: &State, units: u128) -> u128
     requires of { IsOfPlan plan.now view.now }
     requires one_each { length rests.old ≡ count plan.now }

@@ -28,15 +28,15 @@ use std::alloc::Global;
 #[derive(Drop)]
 pub struct CcRm {
     static_speed: u64,
-    // What is left of each task's allotment, and of all of them. There are none before the first mark, nor from a
-    // release to the next mark.
+    // What is left of each task's allotment, and of all of them. `allotments` is `None` before the first mark, and
+    // from a release to the next mark.
     rests: Vec<u128>,
     allotments: Option<Allotments>,
 }
 
 impl CcRm {
-    /// The governor for a plan under RM, before the first release. It fails only where memory runs out.
-    /// The worst static schedule, against which the allotments are measured, meets every deadline.
+    /// The governor for a plan under RM, before the first release. The only error is `NoMemory`.
+    /// The worst static schedule, with which the allotments are compared, meets every deadline.
     pub fn new(alloc: Global, plan: &Admitted) -> Result<CcRm, NoMemory>
         requires { plan.now.scheduler ≡ Rm }
         ensures stands { IfOk result (λ g. ⟦<CcRm as Governor>⟧.stands g plan.now (opening plan.now)) }
@@ -53,7 +53,7 @@ impl CcRm {
         }
     }
 
-    // Lowers what is left of a task's allotment to so many units, and what is left of all with it.
+    // Lowers what is left of a task's allotment to `rest` work units, and what is left of all allotments with it.
     fn lower(&mut self, task: u32, rest: u128)
         requires task { task < length self.old.rests.items }
         requires less { rest ≤ slice_index self.old.rests.items task }
@@ -73,7 +73,7 @@ impl CcRm {
         }
     }
 
-    // The demand worked out from the state alone, in work units per tick, not reduced.
+    // The published demand from the state alone, in work units per tick, not reduced.
     fn demand_of(&self, plan: &Admitted, view: &State) -> Frac
         requires of { IsOfPlan plan.now view.now }
         requires speed { self.now.static_speed ≡ static_speed plan.now }
@@ -160,7 +160,8 @@ impl Governor for CcRm {
         self.allotments = Some(Allotments { first, left });
     }
 
-    /// In a calm state the choice meets its demand: what is left of the allotments fits at the static speed.
+    /// The published demand, and the lowest entry that meets it, else the highest. In a calm state the entry meets the
+    /// demand: what is left of the allotments fits at the static speed.
     fn choose(&self, plan: &Admitted, view: &State) -> Choice
         requires of { IsOfPlan plan.now view.now }
         requires counters { Counts self.now.static_speed self.now.rests.items self.now.allotments plan.now view.now }

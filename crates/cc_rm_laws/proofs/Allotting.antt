@@ -1,4 +1,4 @@
--- Units handed out in an order: what one task's allotment says of the others.
+-- Units handed out in an order: what the allotment of one task says about the others.
 use Rattle.std.proofs.Common.{◌≡◌, ◌⊎◌, inl, inr, ℕ, zero, suc, ◌+◌, ◌-◌, ◌<◌, ◌≤◌, min, true, arith}
 use Rattle.std.proofs.lemmas.Bool.{cases_lt}
 use Rattle.grid_fraction.specs.Numbers.{sum_below}
@@ -14,14 +14,14 @@ none_of c b g u x less le = omega arith
 most_of : (c b g : ℕ) → min c (b + g) - min c b ≤ g
 most_of c b g = omega arith
 
--- where task j gets some, each task before it gets all that it needs
+-- where task j gets some units, each task before it gets all that it needs
 pub allotment-full : (n : ℕ) (key : ℕ → ℕ) (room : ℕ) (need : ℕ → ℕ) (k j : ℕ) → k < n → stands_before key k j ≡ true
     → 0 < allotment n key room need j → allotment n key room need k ≡ need k
 allotment-full n key room need k j lt h pos =
     full_of room (sum_before n key need j) (need j) (sum_before n key need k)
     (need k) pos (up_to-before n key need k j lt h)
 
--- where it does not get all, each task after it gets none
+-- where task j gets less than it needs, each task after it gets no unit
 pub allotment-none : (n : ℕ) (key : ℕ → ℕ) (room : ℕ) (need : ℕ → ℕ) (j k : ℕ) → j < n → stands_before key j k ≡ true
     → allotment n key room need j < need j → allotment n key room need k ≡ 0
 allotment-none n key room need j k lt h less =

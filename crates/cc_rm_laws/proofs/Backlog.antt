@@ -1,4 +1,4 @@
--- The schedule under static with every job at its worst case: what releases and ticks make of what its jobs lack.
+-- The static schedule with every job at its worst case: what its jobs lack at each release and tick.
 use Rattle.std.proofs.Common.{◌≡◌, ◌≢◌, ℕ, zero, suc, ◌+◌, ◌-◌, ◌*◌, ◌<◌, ◌≤◌, Bool, true, false, List, length}
 use Rattle.std.proofs.Common.{refl, sym, ◌∙◌, ap, arith, nat_eq}
 use Rattle.std.proofs.Math.Nat.{zero-sub}
@@ -29,15 +29,15 @@ use Rattle.governor.proofs.Lacks.{lack-empties}
 use Rattle.governor.proofs.Lacks.{lack as lack_of, lack_after as lack_after_of}
 pub use Rattle.governor.proofs.Lacks.{IsQuiet, level_down}
 
--- what static publishes
+-- the published demand of static, with every job at its worst case
 abbrev asked : Plan → List Tick → Frac
 asked p = published p Fixed (worst_demand p)
 
--- what the job of task i released last before t lacks at t
+-- what the job of task i that was released last before t lacks at t
 abbrev pub lack : Plan → ℕ → ℕ → ℕ
 lack p t i = lack_of p (asked p) t i
 
--- the same right after the releases of t
+-- what the latest job of task i lacks at t, right after the releases of t
 abbrev pub lack_after : Plan → ℕ → ℕ → ℕ
 lack_after p t i = lack_after_of p (asked p) t i
 
@@ -61,7 +61,7 @@ pub backlog-where : (p : Plan) (t i : ℕ) → i < count p
     → backlog p t i ≡ sum_where (count p) (is_up_to (period p) i) (lack p t)
 backlog-where p t i h = backlog-is p t i ∙ sum_up_to-where (count p) (period p) (lack p t) i h
 
--- under RM the speed is always the static one
+-- under RM the speed of the static schedule is always the static one
 static-same : (p : Plan) → p.scheduler ≡ Rm → (past : List Tick)
     → (point p (entry_in_force p (worst_demand p) (asked p) past)).speed ≡ static_speed p
 static-same p rm past =
@@ -70,11 +70,11 @@ static-same p rm past =
     ∙ ap (lowest_entry p.machine) same)
 
 module _ (p : Plan) (adm : IsAdmitted p) where
-  -- where a task has no release, nothing is added
+  -- where a task has no release, it lacks as much after the releases as before
   pub quiet_row : (t j : ℕ) → j < count p → IsQuiet p t j → lack_after p t j ≡ lack p t j
   quiet_row = lack-quiet p adm.limits (asked p)
 
-  -- where its job is due, it lacks nothing
+  -- where a job of a task is due, the task lacks nothing
   pub lack-none : (t i k : ℕ) → i < count p → t ≡ due p i k → lack p t i ≡ 0
   lack-none zero i k h e = refl
   lack-none (suc t) i zero h e =
@@ -85,11 +85,11 @@ module _ (p : Plan) (adm : IsAdmitted p) where
       ∙ zero-sub (exec p ticks i 0)
   lack-none (suc t) i (suc k) h e = lacking-none p adm (suc t) i (suc k) h (omega arith) e
 
-  -- and the next one its whole worst case
+  -- where a job of a task is due, the task lacks its whole worst case after the releases
   pub released-lack : (t i k : ℕ) → i < count p → t ≡ due p i k → lack_after p t i ≡ worst p i
   released-lack = lack-released p adm.limits (asked p)
 
-  -- releases only add
+  -- a task lacks at least as much after the releases as before
   pub after-least : (t i : ℕ) → i < count p → lack p t i ≤ lack_after p t i
   after-least zero i h = omega arith
   after-least (suc t) i h = go (nat_eq (suc t) (due p i (latest p i t))) refl
@@ -102,7 +102,8 @@ module _ (p : Plan) (adm : IsAdmitted p) where
           let other : suc t ≢ due p i (latest p i t) = grind (arith, nat_tests) in
           omega (arith, lack-same p adm.limits (asked p) t i h other)
 
-  -- from one release to the next
+  -- without a release after r, d + 1 ticks take d + 1 times the static speed from what a set lacks that has,
+  -- with each task, those before it
   pub backlog-span : p.scheduler ≡ Rm → (test : ℕ → Bool) → IsDown p test → (r d : ℕ)
       → ((u j : ℕ) → r < u → u < r + suc d → j < count p → IsQuiet p u j)
       → sum_where (count p) test (lack p (r + suc d))
@@ -110,7 +111,7 @@ module _ (p : Plan) (adm : IsAdmitted p) where
   backlog-span rm test down r d quiet =
       lack-span p adm.limits (asked p) rm (static_speed p) (static-same p rm) test down r d quiet
 
-  -- where task i's job is complete at the next release, its level lacks nothing
+  -- where task i lacks units at r and none at a later tick up to the next release, its level lacks none there
   pub backlog-empties : p.scheduler ≡ Rm → (i r d : ℕ) → i < count p
       → ((u j : ℕ) → r < u → u < r + suc d → j < count p → IsQuiet p u j)
       → 0 < lack_after p r i → lack p (r + suc d) i ≡ 0 → backlog p (r + suc d) i ≡ 0

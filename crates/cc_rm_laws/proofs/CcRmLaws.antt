@@ -55,7 +55,7 @@ module _ (plan : Plan) (adm : IsAdmitted plan) (s : StateOf) where
       let soon = dec.soon 0 some in
       (omega arith, omega arith)
 
--- all laws of cycle-conserving RM
+-- cycle-conserving RM keeps the laws of a governor
 pub cc_rm_laws : GovernorLaws Cycle ServesRm cycle_demand CcRmCalm CcRmSafe
 cc_rm_laws = record {
   pairs = λ sch rm. subst (λ (s : Scheduler). IsPair s Cycle) (sym rm) refl;

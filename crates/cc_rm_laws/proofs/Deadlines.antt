@@ -45,14 +45,14 @@ module _ (plan : Plan) (adm : IsAdmitted plan) (dem : JobDemands) (s : StateOf) 
   pub allotted-most : (i : ℕ) → allotted_in plan s i ≤ base_of s i
   allotted-most i = allotment-most (count plan) (period plan) (allotted_units plan s) (base_of s) i
 
-  -- a row's job is due where its next one is released
+  -- the deadline of a row is the deadline of its job
   pub row-due : (i : ℕ) → i < count plan → (row_at s i).deadline ≡ due plan i (row_at s i).job
   row-due i h = bel.deadline i h
 
   row-release : (i : ℕ) → 0 < (row_at s i).job → release plan i (row_at s i).job ≡ release_of plan i (row_at s i)
   row-release i born = sym (latest_since-pos plan i (row_at s i).job born)
 
-  -- no release of a task lies between that of its job and its deadline
+  -- a task has no release between that of its job and its deadline
   quiet-between : (u i : ℕ) → i < count plan → release_of plan i (row_at s i) < u
       → u < (row_at s i).deadline → IsQuiet plan u i
   quiet-between u i h after before k e =
@@ -67,7 +67,7 @@ module _ (plan : Plan) (adm : IsAdmitted plan) (dem : JobDemands) (s : StateOf) 
       let same : release plan i (k + 1) ≡ release plan i job = ap (release plan i) (sym next ∙ mine) in
       omega (arith, same, from, e, after, row-release i (omega (arith, mine, next)))
 
-  -- nor between the mark and the earliest deadline
+  -- no task has a release between the mark and the earliest deadline
   pub quiet : (u j : ℕ) → s.base_at < u → u < earliest_in plan s → j < count plan → IsQuiet plan u j
   quiet u j after before h = quiet-between u j h (omega (arith, released-by j h)) (omega (arith, first-due j h))
 
@@ -75,7 +75,7 @@ module _ (plan : Plan) (adm : IsAdmitted plan) (dem : JobDemands) (s : StateOf) 
   closes i h none = closed_row (row_at s i) (dem i (row_at s i).job) none
       (bel.open_job i h) (demand_most plan dem s bel i h)
 
-  -- at the earliest deadline nothing is left of the allotments: a level lacks no more than in the worst static schedule
+  -- at the earliest deadline nothing is left of the allotments: a level needs at most its worst static backlog
   pub level-most : CcRmCalm plan s → s.now ≡ earliest_in plan s → (i : ℕ) → i < count plan
       → sum_where (count plan) (level plan i) (wleft_at s) ≤ backlog plan (earliest_in plan s) i
   level-most calm at_due i h =
@@ -92,7 +92,7 @@ module _ (plan : Plan) (adm : IsAdmitted plan) (dem : JobDemands) (s : StateOf) 
       closes i h (omega (arith, mine, level-most calm at_due i h, none))
 
   module _ (rm : plan.scheduler ≡ Rm) where
-    -- where the worst static schedule has completed a job that was open at the mark, it is complete
+    -- a job that the worst static schedule completes between the mark and the earliest deadline is complete there
     emptied : CcRmCalm plan s → s.now ≡ earliest_in plan s → (i : ℕ) → i < count plan → s.base_at < earliest_in plan s
         → 0 < lack_after plan s.base_at i → lack plan (earliest_in plan s) i ≡ 0 → (row_at s i).done ≡ true
     emptied calm at_due i h later pos none =
@@ -103,7 +103,7 @@ module _ (plan : Plan) (adm : IsAdmitted plan) (dem : JobDemands) (s : StateOf) 
         (backlog-empties plan adm rm i s.base_at d h (λ u j a b hj. quiet u j a (omega arith) hj) pos
         (subst (λ (u : ℕ). lack plan u i ≡ 0) (sym place) none)))
 
-    -- where it has completed a job, that is complete
+    -- a job that the worst static schedule has completed by the earliest deadline is complete there
     pub completed-too : CcRmCalm plan s → s.now ≡ earliest_in plan s → (i : ℕ) → i < count plan → 0 < (row_at s i).job
         → release_of plan i (row_at s i) < earliest_in plan s → lack plan (earliest_in plan s) i ≡ 0
         → (row_at s i).done ≡ true
@@ -150,7 +150,7 @@ module _ (plan : Plan) (adm : IsAdmitted plan) (dem : JobDemands) (s : StateOf) 
           | inr unborn ↦ unborn_done plan dem s bel i h (omega arith)
         ]
 
-    -- a release adds no more than in the worst static schedule
+    -- a release adds no more to what a job may need than to what it lacks in the worst static schedule
     pub row-adds : (j : ℕ) → j < count plan
         → wleft_at (after_boundary plan dem s) j + lack plan s.now j ≤ wleft_at s j + lack_after plan s.now j
     row-adds j h =

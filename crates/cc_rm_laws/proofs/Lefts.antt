@@ -5,13 +5,13 @@ use Rattle.std.proofs.Common.{sym}
 abbrev pub left_by : Bool → ℕ → ℕ → ℕ → ℕ
 left_by done allot base w = if done then 0 else allot - (base - w)
 
--- at a mark all of it is left
+-- at a mark an allotment is wholly left
 pub left-marked : (done : Bool) (al base w : ℕ) → base ≡ w
     → al ≤ base → (done ≡ true → w ≡ 0) → left_by done al base w ≡ al
 left-marked true al base w e a z = omega (arith, z refl)
 left-marked false al base w e a z = omega arith
 
--- what a job may need falls in a tick at least as far as what is left
+-- in a tick what is left of an allotment falls by no more than what the job may need
 pub left-part : (done done' : Bool) (al base w w' : ℕ) → al ≤ base → w ≤ base → w' ≤ w → (done ≡ true → done' ≡ true)
     → (done' ≡ true → w' ≡ 0) → w' + left_by done al base w ≤ w + left_by done' al base w'
 left-part true true al base w w' a b c d z = omega (arith, z refl)
@@ -19,7 +19,7 @@ left-part true false al base w w' a b c d z = absurd (true≢false (sym (d refl)
 left-part false true al base w w' a b c d z = omega (arith, z refl)
 left-part false false al base w w' a b c d z = omega arith
 
--- a job with all its units allotted, in a tick of `sh` units
+-- where a job's base is wholly allotted, a tick of `sh` units takes at least these from what is left
 pub left-full : (done done' : Bool) (al base w w' sh : ℕ) → al ≡ base → w ≤ base → w' + sh ≤ w → (done ≡ true → w ≡ 0)
     → (done' ≡ true → w' ≡ 0) → (done ≡ true → done' ≡ true) → left_by done' al base w' + sh ≤ left_by done al base w
 left-full true true al base w w' sh e a b z z' d = omega (arith, z refl)
@@ -27,21 +27,21 @@ left-full true false al base w w' sh e a b z z' d = absurd (true≢false (sym (d
 left-full false true al base w w' sh e a b z z' d = omega arith
 left-full false false al base w w' sh e a b z z' d = omega arith
 
--- one with some left after the tick
+-- where some is left after the tick, a tick of `sh` units takes at least these from what is left
 pub left-some : (done done' : Bool) (al base w w' sh : ℕ) → w ≤ base → w' + sh ≤ w → (done ≡ true → done' ≡ true)
     → 0 < left_by done' al base w' → left_by done' al base w' + sh ≤ left_by done al base w
 left-some done true al base w w' sh a b d pos = absurd (omega arith)
 left-some true false al base w w' sh a b d pos = absurd (true≢false (sym (d refl)))
 left-some false false al base w w' sh a b d pos = omega arith
 
--- one that gets none
+-- a tick in which a job gets no units doesn't raise what is left
 pub left-idle : (done done' : Bool) (al base w w' sh : ℕ) → w' + sh ≤ w → sh ≡ 0 → (done ≡ true → done' ≡ true)
     → left_by done' al base w' + sh ≤ left_by done al base w
 left-idle done true al base w w' sh b z d = omega arith
 left-idle true false al base w w' sh b z d = absurd (true≢false (sym (d refl)))
 left-idle false false al base w w' sh b z d = omega arith
 
--- where some is left the job is open, and some was allotted
+-- where some is left, the job is incomplete and has some units allotted
 pub left-open : (done : Bool) (al base w : ℕ) → 0 < left_by done al base w → (done ≡ false) × (0 < al)
 left-open true al base w pos = absurd (omega arith)
 left-open false al base w pos = (refl, omega arith)

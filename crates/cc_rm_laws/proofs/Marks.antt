@@ -31,7 +31,7 @@ use Rattle.cc_rm_laws.proofs.Lefts.{left-marked}
 use Rattle.cc_rm_laws.proofs.Backlog.{lack, lack_after, lack-is, level_down, backlog-span, backlog-where}
 use Rattle.cc_rm_laws.proofs.Deadlines.{first-due, quiet, allotted-most, level-most, completed-too, row-adds}
 
--- nothing is allotted before the first release
+-- before the first release all jobs are complete and nothing is left of the allotments
 module _ (plan : Plan) where
   opening-done : (i : ℕ) → i < count plan → (row_at (opening plan) i).done ≡ true
   opening-done i h = rw (opening_at plan i h) refl
@@ -48,7 +48,7 @@ module _ (plan : Plan) where
     since = λ i h born before none. opening-done i h;
   }
 
--- a boundary where nothing is due changes nothing
+-- a boundary where no row is due changes no row
 rows-still : (plan : Plan) (dem : JobDemands) (now i : ℕ) (rows : List Row) → list_any (is_due now) rows ≡ false
     → each_row (boundary_row plan dem now) i rows ≡ rows
 rows-still plan dem now i [] none = refl
@@ -71,7 +71,7 @@ state-still plan dem s none =
     ap (λ (b : Bool). if b then map row_wleft (after_boundary plan dem s).rows else s.base) none in
     λ j. record { now = s.now; rows = rows j; base_at = at j; base = base j }
 
--- the bound of a level right after the mark
+-- right after the mark a level needs at most what is left of its allotments and its backlog
 marked_level : (w left room a b : ℕ) → left ≡ min room w → w ≤ a → b ≡ a - room → w ≤ left + b
 marked_level w left room a b e le f = omega arith
 
@@ -114,7 +114,7 @@ module _ (plan : Plan) (adm : IsAdmitted plan) (rm : plan.scheduler ≡ Rm) (dem
       ap (λ (b : Bool). slice_index (if b then map row_wleft marked.rows else s.base) j) some
       ∙ get_or-map row_wleft marked.rows j no_row 0 (in_rows plan dem marked bel' j h)
 
-  -- all of an allotment is left
+  -- right after the mark an allotment is wholly left
   left_is : (j : ℕ) → j < count plan → allotment_left_in plan marked j ≡ allotted_in plan marked j
   left_is j h =
       left-marked (row_at marked j).done (allotted_in plan marked j)
@@ -130,7 +130,7 @@ module _ (plan : Plan) (adm : IsAdmitted plan) (rm : plan.scheduler ≡ Rm) (dem
       sum_below-same (count plan) (λ j. if test j then f j else 0)
       (λ j. if test j then g j else 0) (λ j h. ap (λ (x : ℕ). if test j then x else 0) (e j h))
 
-  -- a level has the smaller of the room and what it may need
+  -- right after the mark the allotments of a level are the smaller of the room and what the level may need
   level_left : (i : ℕ)
       → sum_where (count plan) (level plan i) (allotment_left_in plan marked)
       ≡ min room (sum_where (count plan) (level plan i) (wleft_at marked))
@@ -139,7 +139,7 @@ module _ (plan : Plan) (adm : IsAdmitted plan) (rm : plan.scheduler ≡ Rm) (dem
       ∙ (level-gets (count plan) (period plan) room (base_of marked) (allotted_in plan marked) shares i
       ∙ ap (λ (x : ℕ). min room x) (where_same (level plan i) (base_of marked) (wleft_at marked) base_is))
 
-  -- and may need no more than the worst static schedule lacks there
+  -- right after the mark a level may need no more than it lacks in the worst static schedule
   level_needs : (i : ℕ) → i < count plan
       → sum_where (count plan) (level plan i) (wleft_at marked)
       ≤ sum_where (count plan) (level plan i) (lack_after plan s.now)
@@ -195,7 +195,7 @@ module _ (plan : Plan) (adm : IsAdmitted plan) (rm : plan.scheduler ≡ Rm) (dem
       ap (λ (x : ℕ). static_speed plan * x) clock ∙ (turned ∙ sym room_is) in
       omega (arith, left_sum, gets, fits)
 
-  -- the step of a boundary with a release
+  -- a boundary with a release keeps a calm state calm
   marked_calm : CcRmCalm plan marked
   marked_calm = record {
     levels = λ i h.

@@ -1,4 +1,4 @@
--- The published demand of cycle-conserving RM is that of the state.
+-- On each schedule the published demand of cycle-conserving RM is the governor's own.
 use Rattle.std.proofs.Common.{◌≡◌, ℕ, zero, suc, ◌+◌, ◌-◌, ◌*◌, ◌<◌, ◌≤◌, Bool, true, false, List, length}
 use Rattle.std.proofs.Common.{refl, sym, ◌∙◌, ap, ap₂, arith, if◌then◌else◌, nat_eq, nat_le, length-drop}
 use Rattle.std.proofs.lemmas.Bool.Decides.{nat_tests}
@@ -34,13 +34,13 @@ use Rattle.governor.specs.Serving.{ServesRm}
 use Rattle.governor.proofs.OneSchedule.{publishing_laws}
 use Rattle.cc_rm_laws.specs.Allotments.{base_of, allotted_in, had_since_mark, allotment_left_in, cycle_demand}
 
--- what a job has had since the mark, by what it might need at most then and now
+-- what a job had after the mark is the fall of what it may need
 since_mark : (worst need now first : ℕ) → first ≤ now → now < need
     → need ≤ worst → (worst - first) - (worst - now) ≡ now - first
 since_mark worst need now first a b c = omega arith
 
 module _ (p : Plan) (adm : IsAdmitted p) where
-  -- where no job of task i is released, the latest stays
+  -- where no job of task i is released, the latest job is that of the tick before
   job-stays : (t i : ℕ) → i < count p → releases_at p i (suc t) ≡ false → latest p i (suc t) ≡ latest p i t
   job-stays t i h none = go (nat_eq (suc t) (due p i (latest p i t))) refl
     where
@@ -62,7 +62,7 @@ module _ (p : Plan) (adm : IsAdmitted p) where
           let other : (suc t ≡ due p i (latest p i t)) → ⊥ = grind (arith, nat_tests) in
           ap (latest p i) next ∙ latest-stays p i t some (omega (arith, lt-due p i t some, other))
 
-  -- no task has a release after the last one
+  -- since the last release each task's latest job is the same
   since-release : (t : ℕ) → (i : ℕ) → i < count p → latest p i (last_release p t) ≡ latest p i t
   since-release zero i h = refl
   since-release (suc t) i h = go (is_release p (suc t)) refl (since-release t i h)
@@ -89,7 +89,7 @@ module _ (p : Plan) (adm : IsAdmitted p) where
     mark-long : length (at mark past) ≡ mark
     mark-long = omega (arith, last_release-le p now, length-drop (now - mark) past)
 
-    -- the earliest deadline at the mark is that of the state
+    -- the earliest deadline at the mark is the earliest one in the state
     first-is : earliest_at p mark ≡ earliest_in p here
     first-is =
         least-same (count p) (λ i. deadline p i mark) (λ i. (row_at here i).deadline)
@@ -102,7 +102,7 @@ module _ (p : Plan) (adm : IsAdmitted p) where
         ∙ sym (allotment-same (count p) (period p) ((earliest_in p here - mark) * static_speed p)
         (base_of here) (wleft p dem (at mark past)) base-is i h)
 
-    -- what an open job has had since the mark
+    -- what an open job has had since the last release is what it has had since the mark
     had-is : (i : ℕ) → i < count p → is_complete p dem past i ≡ false
         → had_since_release p past i ≡ had_since_mark here i
     had-is i h open_job =

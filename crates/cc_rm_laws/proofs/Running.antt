@@ -33,7 +33,7 @@ use Rattle.cc_rm_laws.proofs.Allotting.{allotment-full, allotment-none, some-ter
 use Rattle.cc_rm_laws.proofs.Lefts.{left_by, left-part, left-full, left-some, left-idle, left-open}
 use Rattle.cc_rm_laws.proofs.Deadlines.{allotted-most}
 
--- what is left fits in the rest of the time, where it is nothing or fell by the speed
+-- what is left still fits into the rest of the time, where it is 0 or fell by the speed
 room_falls : (left_in left' f x y : ℕ) → x ≡ y + 1
     → (left' ≡ 0) ⊎ (left' + f ≤ left_in) → left_in ≤ f * x → left' ≤ f * y
 room_falls left_in left' f x y e (inl z) le = rw z (omega arith)
@@ -53,7 +53,7 @@ module _ (plan : Plan) (adm : IsAdmitted plan) (rm : plan.scheduler ≡ Rm) (dem
       least-same (count plan) (λ i. (row_at ticked i).deadline) (λ i. (row_at s i).deadline)
       (λ i h. ap (λ (row : Row). row.deadline) (tick_at plan dem shares s bel i h))
 
-  -- what is left after the tick, by the allotments before it
+  -- what is left after the tick, from the allotments before the tick
   left_then : (j : ℕ)
       → allotment_left_in plan ticked j
       ≡ left_by (row_at ticked j).done (allotted_in plan s j) (base_of s j) (wleft_at ticked j)
@@ -78,7 +78,7 @@ module _ (plan : Plan) (adm : IsAdmitted plan) (rm : plan.scheduler ≡ Rm) (dem
   out = subst (λ (sch : Scheduler). SharesOut (count plan) (key_in sch plan s) f (left_in dem s) (share_in shares))
       rm legal.out
 
-  -- a task with some left after the tick is open, and got less than it needed
+  -- a task with some units left after the tick is incomplete, and got less than it needed
   module _ (k : ℕ) (hk : k < count plan) (pos : 0 < allotment_left_in plan ticked k) where
     some_left : 0 < left_by (row_at ticked k).done (allotted_in plan s k) (base_of s k) (wleft_at ticked k)
     some_left = subst (λ (x : ℕ). 0 < x) (left_then k) pos
@@ -98,7 +98,7 @@ module _ (plan : Plan) (adm : IsAdmitted plan) (rm : plan.scheduler ≡ Rm) (dem
         subst (λ (x : ℕ). x < left_in dem s k)
         (allotment_of (count plan) (period plan) f (left_in dem s) (share_in shares) out k hk) short
 
-    -- then each unit of the tick lowers what is left
+    -- where task k has some left after the tick, each unit of a task before it lowers what that task has left
     takes_before : (j : ℕ) → j < count plan → stands_before (period plan) j k ≡ true
         → left_by (row_at ticked j).done (allotted_in plan s j) (base_of s j) (wleft_at ticked j) + share_in shares j
         ≤ allotment_left_in plan s j
@@ -141,7 +141,7 @@ module _ (plan : Plan) (adm : IsAdmitted plan) (rm : plan.scheduler ≡ Rm) (dem
           ]
         ])
 
-    -- and all units of the tick are handed out
+    -- where task k has some left after the tick, all units of the tick are handed out
     all_out : sum_below (count plan) (share_in shares) ≡ f
     all_out =
         let n = count plan in
@@ -177,7 +177,7 @@ module _ (plan : Plan) (adm : IsAdmitted plan) (rm : plan.scheduler ≡ Rm) (dem
         | inr none ↦ inl (omega arith)
       ]
 
-  -- what is left goes on to fit at the speed
+  -- what is left in all still fits at the speed after the tick
   pub cc_rm_enough : sum_below (count plan) (allotment_left_in plan s) ≤ f * (earliest_in plan s - s.now)
       → sum_below (count plan) (allotment_left_in plan ticked) ≤ f * (earliest_in plan ticked - ticked.now)
   cc_rm_enough enough =

@@ -1,5 +1,4 @@
--- Cycle conservation under RM over a state: the units allotted at a mark, and what is left of them (Pillai and Shin
--- 2001).
+-- Cycle conservation under RM over a state (Pillai and Shin 2001): the allotments of a mark, and what is left of them.
 use Rattle.std.specs.Prelude.{ℕ, ◌-◌, slice_index}
 use Rattle.grid_fraction.specs.declared.Frac.{Frac}
 use Rattle.sched_model.specs.Plan.{Plan}
@@ -11,11 +10,11 @@ use Rattle.governor.specs.Steps.{wleft_at, earliest_in}
 abbrev pub base_of : StateOf → ℕ → ℕ
 base_of s i = slice_index s.base i
 
--- what it has had since
+-- what the job of task i has had since the mark
 abbrev pub had_since_mark : StateOf → ℕ → ℕ
 had_since_mark s i = base_of s i - wleft_at s i
 
--- the parts of the demand, of the jobs in the state's rows
+-- the last mark and the counters that the demand uses, from a state
 abbrev pub since_mark : Plan → StateOf → SinceRelease
 since_mark plan s = record {
   mark = s.base_at;
@@ -29,14 +28,14 @@ since_mark plan s = record {
 abbrev pub allotted_units : Plan → StateOf → ℕ
 allotted_units plan s = units_of plan (since_mark plan s)
 
--- what task i gets of them, where they are handed out in RM order, to each task as many as its base
+-- the units that task i gets when the allotted units are handed out in RM order, to each task at most its base
 abbrev pub allotted_in : Plan → StateOf → ℕ → ℕ
 allotted_in plan s i = allotted_of plan (since_mark plan s) i
 
--- what is left of its allotment: nothing where the job is complete
+-- what is left of the allotment of task i; 0 where its job is complete
 abbrev pub allotment_left_in : Plan → StateOf → ℕ → ℕ
 allotment_left_in plan s i = allotment_left_of plan (since_mark plan s) i
 
--- the published demand: the sum of what is left, over the time to the earliest deadline
+-- the published demand: the sum of what is left of the allotments, over the time to the earliest deadline
 abbrev pub cycle_demand : Plan → StateOf → Frac
 cycle_demand plan s = rm_cycle_of plan (since_mark plan s) s.now

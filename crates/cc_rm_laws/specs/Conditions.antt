@@ -13,13 +13,13 @@ use Rattle.governor.specs.Steps.{wleft_at, earliest_in, release_of}
 use Rattle.governor.specs.Rm.{level}
 use Rattle.cc_rm_laws.specs.Allotments.{allotment_left_in}
 
--- in the worst static schedule the job of task i that was released last before tick t has all that it needs
+-- in the worst static schedule the job of task i that was released last before tick t has had all that it needs
 abbrev pub LacksNothing : Plan → ℕ → ℕ → Type 0
 LacksNothing plan t i = lacking plan (schedule plan Fixed (worst_demand plan) t) i ≡ 0
 
--- each level may need no more than what is left of its allotments and its worst static backlog at the earliest
--- deadline; what is left in all fits up to that deadline at the static speed; and a job that was released before the
--- mark is complete where the worst static schedule had completed it by the mark
+-- A level needs at most what is left of its allotments and its worst static backlog at the earliest deadline.
+-- What is left in all fits at the static speed up to that deadline. A job released before the mark is complete if the
+-- worst static schedule had completed it by the mark.
 pub record CcRmCalm (plan : Plan) (s : StateOf) : Type 0 where
   pub levels : (i : ℕ) → i < count plan → sum_where (count plan) (level plan i) (wleft_at s)
       ≤ sum_where (count plan) (level plan i) (allotment_left_in plan s) + backlog plan (earliest_in plan s) i
@@ -27,7 +27,8 @@ pub record CcRmCalm (plan : Plan) (s : StateOf) : Type 0 where
   pub since : (i : ℕ) → i < count plan → 0 < (row_at s i).job → release_of plan i (row_at s i) < s.base_at
       → LacksNothing plan s.base_at i → (row_at s i).done ≡ true
 
--- what is left in all also fits at the speed of the entry k, which is at most the static speed
+-- the condition CcRmCalm holds, and what is left in all fits at the speed of the entry k,
+-- which is at most the static speed
 pub record CcRmSafe (plan : Plan) (s : StateOf) (k : ℕ) : Type 0 where
   pub calm : CcRmCalm plan s
   pub enough : sum_below (count plan) (allotment_left_in plan s)

@@ -1,4 +1,4 @@
--- One read of a record, as the records that are left.
+-- Reading one record takes the first of the records that are left.
 use Rattle.std.proofs.Common.{◌≡◌, ◌⊎◌, inl, inr, ◌<◌, ◌≤◌, ℕ, zero, suc, ◌+◌, List, [], ◌∷◌, ◌++◌, length, Bool, true, false, Option, Some, None, refl, ap, sym, ◌∙◌, arith, Bor, add-one, subst}
 use Rattle.std.specs.Prelude.{if◌then◌else◌, IsSome}
 use Rattle.csv.specs.Machine.{next_record, step, is_end, fields_after, field_after, ends_at_end, Read}
@@ -9,7 +9,7 @@ use Rattle.csv.specs.declared.parser.State.TheVariants as st
 use Rattle.csv.proofs.ReadFacts.{rows-end, rows-more}
 use Rattle.csv_text.specs.Records.{TextReader, IsPlain, records_left, records_in, unread}
 
--- a record takes a byte, or ends the text
+-- reading a record takes a byte, or ends the text
 abbrev Shrinks : List ℕ → Option Read → Type 0
 Shrinks xs None = Unit {0}
 Shrinks xs (Some p) = (length p.2 < length xs) ⊎ ((p.1 ≡ st.StartRecord) × (p.2 ≡ []))
@@ -46,7 +46,7 @@ unfolding records_from
 none_left cfg zero = refl
 none_left cfg (suc n) = rw (nothing cfg) refl
 
--- the records after one more, whatever numbers bound them
+-- two bounds above the length of the text give equal records, where they do after the first record
 more : (cfg : Config) (xs : List ℕ) (n m : ℕ) (p : Read) → Shrinks xs (Some p) → length xs < suc n → length xs < suc m
     → (length p.2 < n → length p.2 < m → records_from cfg n p.1 p.2 ≡ records_from cfg m p.1 p.2)
     → records_from cfg n p.1 p.2 ≡ records_from cfg m p.1 p.2
@@ -70,7 +70,7 @@ records_from-bound cfg (suc n) (suc m) s xs h k =
     next_same cfg xs n m (next_record cfg s [] [] xs) (next_record-shrinks cfg s [] [] xs) h k
     (λ p. records_from-bound cfg n m p.1 p.2)
 
--- the records of a text that has one, and of a text that has none
+-- where a record is read, the records of the text are it and those of the rest
 records_in-Some : (s : State) (xs : List ℕ) (p : Read) → next_record default_config s [] [] xs ≡ Some p
     → records_in s (Some xs) ≡ p.0 ∷ records_in p.1 (Some p.2)
 unfolding records_from
@@ -117,7 +117,7 @@ pub left-ended : (a b : TextReader) (f : List (List ℕ)) → IsPlain a → Read
     → records_left a ≡ []
 left-ended a b f h r = reader_ended a b f (unread a) h.config refl h.known r
 
--- a text has at most one record a byte, and one more
+-- where at most n records come after the first, a text has at most n + 1
 next_few : (n : ℕ) (cfg : Config) (o : Option Read) → ((p : Read) → length (records_from cfg n p.1 p.2) ≤ n)
     → length (records_next (records_from cfg n) o) ≤ suc n
 next_few n cfg None few = omega arith

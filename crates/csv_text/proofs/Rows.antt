@@ -8,7 +8,7 @@ use Rattle.std.proofs.lemmas.Slice.Eq.{bytes_eq-Decides}
 use Rattle.csv.specs.Records.{field_at}
 use Rattle.csv_text.specs.Rows.{has_fields, rows_after}
 
--- a record with exactly these fields is theirs
+-- a record that has exactly these fields is the list of them
 has_fields-true : (names fields : List (List ℕ)) → has_fields names fields ≡ true → fields ≡ names
 has_fields-true [] [] h = refl
 has_fields-true [] (f ∷ fields) h = absurd cc
@@ -17,7 +17,7 @@ has_fields-true (n ∷ names) (f ∷ fields) h =
     let parts = and_parts (bytes_eq f n) (has_fields names fields) h in
     ap₂ (λ x xs. x ∷ xs) ((bytes_eq-Decides f n).0 parts.0) (has_fields-true names fields parts.1)
 
--- rows that are found stand after the header
+-- rows that are found are the records after the header
 pub rows_after-Some : (header : List (List ℕ)) (all rows : List (List (List ℕ))) → rows_after header all ≡ Some rows
     → all ≡ header ∷ rows
 rows_after-Some header [] rows e = absurd cc
@@ -58,7 +58,7 @@ module _ (names : List (Bor (List ℕ))) (d : Bor (List ℕ)) (fields : List (Li
   by-field : has_fields (texts names) fields ≡ (bytes_eq f name && from (suc k) names fields)
   by-field = so_far ∙ one-field names d fields k f inside field_is ∙ ap (λ n. bytes_eq f n && from (suc k) names fields) (sym name_is)
 
-  -- a field that differs
+  -- where a field differs from the header's, the record is not the header
   pub field-differs : true ≡ not (bytes_eq f name) → false ≡ has_fields (texts names) fields
   field-differs e = by (bytes_eq f name) by-field e
     where
@@ -67,7 +67,7 @@ module _ (names : List (Bor (List ℕ))) (d : Bor (List ℕ)) (fields : List (Li
       by true h e = absurd cc
       by false h e = sym h
 
-  -- a field that is the header's
+  -- where a field is the header's, the record is the header if the fields after it are
   pub field-same : false ≡ not (bytes_eq f name) → has_fields (texts names) fields ≡ from (k + 1) names fields
   field-same e = rw add-one (by (bytes_eq f name) by-field e)
     where

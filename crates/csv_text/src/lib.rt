@@ -1,9 +1,9 @@
 //! The records of a CSV text in memory, one after another.
 //!
 //! A text is read with the CSV reader's defaults, and records may have any number of fields. Callers may rely on
-//! `records_left`: what a reader has left are the records of the text by the reader's own specification, and each call
-//! of `next_record` takes the first of them; and on `rows_reader` to find the rows after one header, field by field.
-//! One record is used again for each row, so no text is kept twice.
+//! `records_left`: it has the records of the text that a reader has not read, by the CSV reader's own specification,
+//! and each call of `next_record` takes the first of them; and on `rows_reader` to find the rows after one header,
+//! field by field. One record is used again for each row, so no text is kept twice.
 #![tactic(auto)]
 
 ghost use Rattle.std.specs.Prelude.{◌≡◌, ◌<◌, ◌≤◌, ◌+◌, ◌∷◌, [], Ok, Some, true, false, length, map, option_map, IfOk, IfSome};
@@ -16,8 +16,8 @@ use csv::{ByteRecord, Error, Reader, ReaderBuilder};
 use dvs_base::NoMemory;
 use std::alloc::Global;
 
-// A reader of the records of a text, of any number of fields, and the first one like the others. It fails only where
-// memory runs out. It has a header row beforehand, an empty one, so that it keeps no copy of the first record.
+// A reader of the records of a text, of any number of fields, the first one included. It fails only where memory runs
+// out. The reader is given an empty header row first, so that it keeps no copy of the first record.
 fn text_reader(alloc: Global, text: &[u8]) -> Result<Reader<&[u8]>, NoMemory>
     ensures plain { IfOk result (λ reader. IsPlain reader) }
     ensures all { IfOk result (λ reader. records_left reader ≡ records default_config (strip_bom text.now)) }
@@ -30,14 +30,14 @@ fn text_reader(alloc: Global, text: &[u8]) -> Result<Reader<&[u8]>, NoMemory>
     }
 }
 
-// Why a record of a text in memory can't be had: of the errors of csv, those of the bytes don't come.
+// The error that stops a reader of a text in memory: memory ran out.
 fn no_record(error: Error) -> NoMemory
     requires { stops_reader (error_kind error) ≡ true }
 {
     NoMemory
 }
 
-/// Reads the fields of the next record, and answers whether there is one. It fails only where memory runs out.
+/// Reads the fields of the next record, and returns whether there is one. It fails only where memory runs out.
 pub fn next_record(reader: &mut Reader<&[u8]>, fields: &mut ByteRecord) -> Result<bool, NoMemory>
     requires { IsPlain reader.old }
     ensures some { result ≡ Ok true → records_left reader.old ≡ fields_of fields.new ∷ records_left reader.new }
@@ -50,7 +50,7 @@ pub fn next_record(reader: &mut Reader<&[u8]>, fields: &mut ByteRecord) -> Resul
     }
 }
 
-// The field of a record at one of its places, counted from 0.
+// The field of a record at this place, counted from 0.
 fn field(fields: &ByteRecord, place: usize) -> &[u8]
     requires { place < length (fields_of fields.now) }
     ensures { field_at (fields_of fields.now) place ≡ Some result.now }
@@ -58,7 +58,7 @@ fn field(fields: &ByteRecord, place: usize) -> &[u8]
     fields.get(place).unwrap()
 }
 
-/// The fields of a record of two, and None exactly for a record of another number of fields.
+/// The fields of a record of two fields, and None exactly for a record of another number of fields.
 pub fn two_fields(fields: &ByteRecord) -> Option<(&[u8], &[u8])>
     ensures { option_map (λ p. (p.0.now, p.1.now)) result ≡ two_of (fields_of fields.now) }
 {
@@ -68,7 +68,7 @@ pub fn two_fields(fields: &ByteRecord) -> Option<(&[u8], &[u8])>
     Some((field(fields, 0), field(fields, 1)))
 }
 
-/// The fields of a record of three, and None exactly for a record of another number of fields.
+/// The fields of a record of three fields, and None exactly for a record of another number of fields.
 pub fn three_fields(fields: &ByteRecord) -> Option<(&[u8], &[u8], &[u8])>
     ensures { option_map (λ p. (p.0.now, p.1.now, p.2.now)) result ≡ three_of (fields_of fields.now) }
 {
@@ -78,7 +78,7 @@ pub fn three_fields(fields: &ByteRecord) -> Option<(&[u8], &[u8], &[u8])>
     Some((field(fields, 0), field(fields, 1), field(fields, 2)))
 }
 
-// Whether these are the fields of a record.
+// Whether the fields of a record are exactly these.
 fn has_fields(fields: &ByteRecord, names: &[&str]) -> bool
     ensures { result ≡ has_fields (map (λ n. n.now) names.now) (fields_of fields.now) }
 {
@@ -93,15 +93,16 @@ fn has_fields(fields: &ByteRecord, names: &[&str]) -> bool
     true
 }
 
-/// A reader of the rows of a text after its header, and None where the first record is another one or where there is
-/// none. It fails only where memory runs out.
+/// A reader of the rows of a text after its header, and None where the first record is not the header or there is no
+/// record. It fails only where memory runs out.
 pub fn rows_reader<'a>(
     alloc: Global,
     text: &'a [u8],
     header: &[&str],
     fields: &mut ByteRecord,
 ) -> Result<Option<Reader<&'a [u8]>>, NoMemory>
-    ensures rows { IfOk result (λ found. option_map records_left found ≡ text_rows (map (λ n. n.now) header.now) text.now) }
+    ensures rows { IfOk result (λ found.
+        option_map records_left found ≡ text_rows (map (λ n. n.now) header.now) text.now) }
     ensures plain { IfOk result (λ found. IfSome found IsPlain) }
     ensures few { IfOk result (λ found. IfSome found (λ reader. length (records_left reader) ≤ length text.now)) }
 {

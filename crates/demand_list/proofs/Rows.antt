@@ -13,7 +13,7 @@ use Rattle.std.proofs.lemmas.Bool.Decides.{eqb_tells}
 use Rattle.task_model.specs.DemandRows.{DemandRow, named}
 use Rattle.demand_list.specs.Demands.{DemandsOf, IsDemands, IsRow, IsWithinWorsts, AddsRow, rows_of, with_row, precedes}
 
--- jobs of tasks in order
+-- the order of jobs: by task, and then by job number
 abbrev pub job_cmp : ℕ × ℕ → ℕ × ℕ → Ordering
 job_cmp a b = ordering_then (nat_cmp a.0 b.0) (nat_cmp a.1 b.1)
 
@@ -27,7 +27,7 @@ both_ways a b (inr p) (inr q) = p.0 ∙ sym q.0
 eq-comm : (a b : ℕ) → (a == b) ≡ (b == a)
 eq-comm a b = both_ways a b (eqb_tells a b) (eqb_tells b a)
 
--- the row's test and the map's are one
+-- the map's keys are equal where the row's task and job are
 is_eq-job_cmp : (i k a b : ℕ) → is_eq (job_cmp (i, k) (a, b)) ≡ (nat_eq a i && nat_eq b k)
 is_eq-job_cmp i k a b = sym (tied_then (nat_cmp i a) (nat_cmp k b)) ∙ rw (unsigned_tied i a, unsigned_tied k b, eq-comm i a, eq-comm k b) refl
 
@@ -35,7 +35,7 @@ pub named-rows_of : (es : List ((ℕ × ℕ) × ℕ)) (i k : ℕ) → named (row
 named-rows_of [] i k = refl
 named-rows_of (e ∷ es) i k = rw (is_eq-job_cmp i k e.0.0 e.0.1, named-rows_of es i k) refl
 
--- a row that is found is within
+-- the units of a row that is found are at most its task's worst case
 one-within : (worsts : List ℕ) (r : DemandRow) (i : ℕ) (rest : Option ℕ) (same job : Bool) → nat_eq r.task i ≡ same → IsRow worsts r
     → unwrap_or rest (slice_index worsts i) ≤ slice_index worsts i
     → unwrap_or (if same && job then Some r.units else rest) (slice_index worsts i) ≤ slice_index worsts i
@@ -59,7 +59,7 @@ is_lt-job_cmp_by false true true t = refl
 is_lt-job_cmp_by false true false true = refl
 is_lt-job_cmp_by false true false false = refl
 
--- the rows' order and the map's are one
+-- the map's key of a row is less than another's where the row comes before it
 is_lt-job_cmp : (r s : DemandRow) → is_lt (job_cmp (r.task, r.job) (s.task, s.job)) ≡ precedes r s
 is_lt-job_cmp r s = is_lt-job_cmp_by (nat_lt r.task s.task) (r.task == s.task) (nat_lt r.job s.job) (r.job == s.job)
 
@@ -67,7 +67,7 @@ absent : {X : Type 0} (b : Bool) (v : X) (rest : Option X) → (if b then Some v
 absent true v rest h = absurd (cc)
 absent false v rest h = (refl, h)
 
--- inserting into the map is adding the row
+-- inserting into the map at this entry adds the row there
 by_order : (o : Ordering) (lt : Bool) (r s : DemandRow) (rows : List DemandRow) (k : ℕ × ℕ) (v : ℕ) (e : (ℕ × ℕ) × ℕ) (es rest : List ((ℕ × ℕ) × ℕ))
     → r ≡ record { task = k.0; job = k.1; units = v } → s ≡ record { task = e.0.0; job = e.0.1; units = e.1 }
     → is_lt o ≡ lt → is_eq o ≡ false → rows_of es ≡ rows → rows_of rest ≡ with_row rows r

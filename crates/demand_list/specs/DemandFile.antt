@@ -1,4 +1,4 @@
--- What a demand file means: the demand list, or the first refusal.
+-- The meaning of a demand file: the demand list, or the first refusal.
 use Rattle.std.specs.Prelude.{ℕ, ◌+◌, ◌==◌, List, [], ◌∷◌, length, map, nat_lt, slice_index, codes, Option, Some, None, ok_or, Result, Ok, Err, if◌then◌else◌}
 use Rattle.dvs_base.specs.Widths.{u64_end}
 use Rattle.dvs_base.specs.Checks.{and_then, IsUnlessMemory}
@@ -13,15 +13,15 @@ use Rattle.demand_list.specs.declared.fault.Column.TheVariants as column
 use Rattle.demand_list.specs.declared.fault.DemandFault.{DemandFault}
 use Rattle.demand_list.specs.declared.fault.DemandFault.TheVariants as fault
 
--- an answer is this one, seen as `shown`, unless memory ran out
+-- the result, its value seen through `shown`, is the meaning, unless memory ran out
 abbrev pub Means : {T A : Type 0} → (T → A) → Result T DemandFault → Result A DemandFault → Type 0
 Means shown = IsUnlessMemory fault.NoMemory shown
 
--- a job, which counts from 1
+-- the number of a job, which is refused where it is 0
 abbrev pub job_from : ℕ → ℕ → Result ℕ DemandFault
 job_from row job = if job == 0 then Err (fault.JobZero row) else Ok job
 
--- a row read alone: the task, the job and the units; each step that gives nothing is a refusal
+-- the task, the job and the units of a row, or its first refusal, checked without the rows before it
 abbrev pub row_of : List Task → ℕ → List (List ℕ) → Result (ℕ × ℕ × ℕ) DemandFault
 row_of tasks row fields =
     and_then (ok_or (three_of fields) (fault.Fields row (length fields))) (λ three.
@@ -31,23 +31,23 @@ row_of tasks row fields =
     and_then (ok_or (number_below u64_end three.2) (fault.BadNumber row column.Units)) (λ units.
     Ok (task, job, units))))))
 
--- the check for an earlier row of the job
+-- the check for an earlier row of the job: the refusal where there is one, else the rest
 abbrev pub no_earlier : ℕ → ℕ → ℕ → Option ℕ → Result DemandsOf DemandFault → Result DemandsOf DemandFault
 no_earlier row task job None rest = rest
 no_earlier row task job (Some units) rest = Err (fault.Repeated row task job)
 
--- the check against the declared worst case
+-- the check against the declared worst case: the refusal of units above it, else the rest
 abbrev pub within_worst : ℕ → ℕ → ℕ → ℕ → Result DemandsOf DemandFault → Result DemandsOf DemandFault
 within_worst task job units worst rest = if nat_lt worst units then Err (fault.OverWorst task job units worst) else rest
 
--- the list with one more row, after the checks against the list
+-- the list with one more row, after the checks that need the list
 abbrev pub with_checked : DemandsOf → ℕ → ℕ → ℕ → ℕ → Result DemandsOf DemandFault
 with_checked d row task job units =
     no_earlier row task job (named d.rows task job) (
     within_worst task job units (slice_index d.worsts task) (
     Ok (record { worsts = d.worsts; rows = with_row d.rows (demand_row task job units) })))
 
--- the list so far, and then the rows from this number on
+-- the list so far with the rows from number `row` on, or the first refusal
 abbrev pub demands_from : List Task → ℕ → DemandsOf → List (List (List ℕ)) → Result DemandsOf DemandFault
 demands_from tasks row d [] = Ok d
 demands_from tasks row d (fields ∷ rest) =
@@ -58,10 +58,10 @@ demands_from tasks row d (fields ∷ rest) =
 abbrev pub worst_list : List Task → DemandsOf
 worst_list tasks = record { worsts = map (λ t. t.worst) tasks; rows = [] }
 
--- the fields of the header
+-- the fields of a demand file's header
 abbrev pub header : List (List ℕ)
 header = codes "task" ∷ codes "job" ∷ codes "units" ∷ []
 
--- what the bytes of a demand file mean for these tasks: the header, and then the rows, counted from 1
+-- the meaning of a demand file's bytes for these tasks: its header first, and then its rows, counted from 1
 abbrev pub demand_file : List Task → List ℕ → Result DemandsOf DemandFault
 demand_file tasks bytes = and_then (ok_or (text_rows header bytes) fault.Header) (demands_from tasks 1 (worst_list tasks))

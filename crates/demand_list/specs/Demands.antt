@@ -4,7 +4,7 @@ use Rattle.std.specs.List.{AllByRecursion}
 use Rattle.task_model.specs.declared.task.Task.{Task}
 use Rattle.task_model.specs.DemandRows.{DemandRow, named}
 
--- the declared worst case of each task, and the rows
+-- what contracts see of a demand list: the declared worst case of each task, and the rows
 pub record DemandsOf : Type 0 where
   pub worsts : List ℕ
   pub rows : List DemandRow
@@ -13,7 +13,7 @@ pub record DemandsOf : Type 0 where
 abbrev pub HasWorstsOf : List Task → DemandsOf → Type 0
 HasWorstsOf tasks d = d.worsts ≡ map (λ t. t.worst) tasks
 
--- the units of a job without the charge: its row's, else the declared worst case
+-- the units of a job without the charge: its row's, else the task's declared worst case
 abbrev pub units_of : DemandsOf → ℕ → ℕ → ℕ
 units_of d i k = unwrap_or (named d.rows i k) (slice_index d.worsts i)
 
@@ -21,13 +21,13 @@ units_of d i k = unwrap_or (named d.rows i k) (slice_index d.worsts i)
 abbrev pub IsWithinWorsts : DemandsOf → Type 0
 IsWithinWorsts d = (i k : ℕ) → i < length d.worsts → units_of d i k ≤ slice_index d.worsts i
 
--- a row for a job of a task, of at most the task's worst case; jobs count from 1
+-- a row for a job of a task, with at most the task's worst case of units; jobs count from 1
 pub record IsRow (worsts : List ℕ) (r : DemandRow) : Type 0 where
   pub task : r.task < length worsts
   pub job : 1 ≤ r.job
   pub units : r.units ≤ slice_index worsts r.task
 
--- what every demand list keeps
+-- a demand list: fewer than 2^32 tasks, and each row is for a job of one of them
 pub record IsDemands (d : DemandsOf) : Type 0 where
   pub few : length d.worsts < 2 ^ 32
   pub each : AllByRecursion (IsRow d.worsts) d.rows
@@ -36,7 +36,7 @@ pub record IsDemands (d : DemandsOf) : Type 0 where
 abbrev pub rows_of : List ((ℕ × ℕ) × ℕ) → List DemandRow
 rows_of entries = map (λ e. record { task = e.0.0; job = e.0.1; units = e.1 }) entries
 
--- an earlier task, or an earlier job of the task
+-- whether a row comes before another: by task, and then by job
 abbrev pub precedes : DemandRow → DemandRow → Bool
 precedes r s = nat_lt r.task s.task || (nat_eq r.task s.task && nat_lt r.job s.job)
 
@@ -45,7 +45,7 @@ abbrev pub with_row : List DemandRow → DemandRow → List DemandRow
 with_row [] r = r ∷ []
 with_row (s ∷ rows) r = if precedes r s then r ∷ s ∷ rows else s ∷ with_row rows r
 
--- a job without a row has this one, and every other job keeps its answer
+-- the list has one more row, for a job that had none; every other job keeps its units
 pub record AddsRow (old new : DemandsOf) (r : DemandRow) : Type 0 where
   pub worsts : new.worsts ≡ old.worsts
   pub free : named old.rows r.task r.job ≡ None

@@ -26,14 +26,14 @@ impl Model for Demands {
     ghost invariant = { λ d. IsDemands (record { worsts = d.worsts.items; rows = rows_of d.rows.entries }) };
 }
 
-// The row of a job in a map from tasks and jobs to units.
+// The units of a job's row in a map from tasks and jobs to units.
 fn row_of(rows: &BTreeMap<(u32, u64), u64>, task: u32, job: u64) -> Option<u64>
     ensures { result ≡ named (rows_of rows.now.entries) task job }
 {
     rows.get(&(task, job)).copied()
 }
 
-// Adds the row of a job that has none.
+// Adds a row for a job that has none.
 fn add_row(
     rows: &mut BTreeMap<(u32, u64), u64>,
     task: u32,
@@ -67,8 +67,8 @@ impl Demands {
         })
     }
 
-    /// Adds the row of a job that has none: a task of the list, a job from 1 on, and at most the task's worst case of
-    /// work units. False where the job has a row, which stays. After NoMemory the list is as before.
+    /// Adds a row for a job that has none: a task of the list, a job from 1 on, and at most the task's worst case of
+    /// work units. False where the job has a row already, which stays. After NoMemory the list is as before.
     pub fn set(&mut self, task: u32, job: u64, units: u64) -> Result<bool, NoMemory>
         requires task { task < length self.old.worsts }
         requires job { 1 ≤ job }

@@ -13,7 +13,7 @@ pub enum Column {
     Units,
 }
 
-/// The first thing that a demand file has wrong. Rows count from 1, tasks from 0.
+/// The first error of a demand file. Rows count from 1, tasks from 0.
 #[derive(Clone, Copy, Debug, PartialEq, Eq)]
 pub enum DemandFault {
     /// There is no record, or the first one isn't `task`, `job`, `units`.
@@ -33,7 +33,7 @@ pub enum DemandFault {
         row: u64,
         column: Column,
     },
-    /// Jobs count from 1.
+    /// The job is 0; jobs count from 1.
     JobZero {
         row: u64,
     },

@@ -1,8 +1,8 @@
 //! What single jobs really need, in work units without the charge.
 //!
-//! A demand list has the declared worst case of each task and rows for single jobs, read from a file or set one by one.
-//! A row never exceeds its task's worst case, and a job without a row needs its worst case. A file is read record by
-//! record, so that a list takes the memory of its rows and not of the text.
+//! A demand list has the declared worst case of each task and rows for single jobs, read from a file or set one by
+//! one. A row never exceeds its task's worst case, and a job without a row needs its worst case. A file is read record
+//! by record, so that a list takes the memory of its rows and not of the text.
 #![tactic(auto)]
 
 mod demands;

@@ -1,4 +1,4 @@
-// Demand files.
+// Reading demand files.
 ghost use Rattle.std.specs.Prelude.{codes, ◌≡◌, ◌≤◌, ◌<◌, ◌^◌, length, map, IfOk, vec_len};
 ghost use Rattle.csv.specs.Records.{fields_of};
 ghost use Rattle.csv_text.specs.Records.{IsPlain, AreCountedFrom, records_left};
@@ -11,7 +11,7 @@ use dvs_base::{NoMemory, Short, whole};
 use std::alloc::Global;
 use task_model::TaskSet;
 
-// A row read alone: its task, its job and its units.
+// The task, the job and the units of a row, checked without the rows before it.
 fn read_row(tasks: &TaskSet, row: u64, fields: &ByteRecord) -> Result<(u32, u64, u64), DemandFault>
     ensures row { result ≡ row_of tasks.now row (fields_of fields.now) }
     ensures task { IfOk result (λ r. r.0 < length tasks.now) }
@@ -37,7 +37,7 @@ fn read_row(tasks: &TaskSet, row: u64, fields: &ByteRecord) -> Result<(u32, u64,
     Ok((task, job, units))
 }
 
-// Adds a row of a file, after the checks against the list.
+// Adds a row of a file, after the checks that need the list.
 fn add_checked(
     demands: &mut Demands,
     row: u64,
@@ -66,7 +66,7 @@ fn add_checked(
     Ok(())
 }
 
-// The declared worst cases.
+// The declared worst cases of the tasks.
 fn worst_cases(alloc: Global, tasks: &TaskSet) -> Result<Vec<u64>, NoMemory>
     ensures worsts { IfOk result (λ v. v.items ≡ map (λ t. t.worst) tasks.now) }
     ensures few { IfOk result (λ v. vec_len v < 2 ^ 32) }
@@ -88,7 +88,7 @@ pub fn worst_list(alloc: Global, tasks: &TaskSet) -> Result<Demands, NoMemory>
     Demands::worst_only(alloc, &worsts)
 }
 
-// The rows after the header, counted from 1.
+// The list with the rows after the header, which count from 1.
 fn read_rows(
     reader: &mut Reader<&[u8]>,
     fields: &mut ByteRecord,
@@ -111,9 +111,10 @@ fn read_rows(
 }
 
 impl Demands {
-    /// The demand list of a file: the tasks' declared worst cases, and the rows of the file, in work units without the
-    /// charge. Rows for jobs beyond a run are checked like all others. The first refusal comes: the header, and then row
-    /// by row the number of fields, the task, the job, the units, an earlier row of the job, and the worst case.
+    /// The demand list of a file: the tasks' declared worst cases, and the rows of the file, in work units without
+    /// the charge. Rows for jobs beyond a run are checked too. The first refusal is returned: that of the header, and
+    /// then row by row the number of fields, the task, the job, the units, an earlier row of the job, and the worst
+    /// case.
     pub fn read(alloc: Global, bytes: &[u8], tasks: &TaskSet) -> Result<Demands, DemandFault>
         ensures file { Means (λ d. d) result (demand_file tasks.now bytes.now) }
         ensures worsts { IfOk result (λ d. d.worsts ≡ map (λ t. t.worst) tasks.now) }

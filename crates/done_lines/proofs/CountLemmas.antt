@@ -34,11 +34,11 @@ use Rattle.done_lines.specs.LineCounts.{AreFew, HasFewDecisions}
 use Rattle.done_lines.proofs.SpanHeads.{IsNow, none-held, stays-unreleased, Head, Begins, begins}
 use Rattle.done_lines.proofs.DoneCounts.{times-each}
 
--- 1 or 0
+-- 1 where the test is true, else 0
 abbrev one_if : Bool → ℕ
 one_if b = if b then 1 else 0
 
--- std's count is the count by recursion
+-- the count by recursion is std's count
 times-count : (test : Note → Bool) (notes : List Note) → times test notes ≡ count_by test notes
 times-count test notes = is_count_by (times test) test refl step notes
   where
@@ -49,19 +49,19 @@ times-count test notes = is_count_by (times test) test refl step notes
         go true = omega arith
         go false = refl
 
--- the notes of the first n tasks, counted task by task
+-- a count over the notes of the first n tasks is the sum of the counts over each task's notes
 pub count-each : (test : Note → Bool) (f : ℕ → List Note) (n : ℕ)
     → count_by test (flat_map f (list_below n (λ i. i))) ≡ sum_below n (λ j. count_by test (f j))
 count-each test f n =
     sym (times-count test (flat_map f (list_below n (λ i. i))))
     ∙ (times-each test f n ∙ sum_below-same n (λ j. times test (f j)) (λ j. count_by test (f j)) (λ j lt. times-count test (f j)))
 
--- a test counts one at most
+-- a test adds at most 1 to a count
 pub one-or-none : (b : Bool) → (if b then 1 else 0) ≤ 1
 one-or-none true = omega arith
 one-or-none false = omega arith
 
--- a job that ends in a span isn't open after it
+-- a job that completes in a span isn't open after it
 ended-open : (a b need : ℕ) → b ≤ need → ended a b need + (if nat_le need b then 0 else 1) ≤ 1
 ended-open a b need most = go (nat_eq b need) refl
   where
@@ -81,7 +81,7 @@ ended-whole a b need le less most =
     let whole : nat_le need b ≡ true = grind (arith, nat_tests) in
     rw (stays, whole) refl
 
--- what a task's job adds to the completions and leaves open, by what was open before, and whether it was released
+-- a task's completions and open job after a span are at most its open job before and its release
 each-task : (rel : Bool) (a b need before : ℕ) → a ≤ b → b ≤ need → (rel ≡ true → a ≡ 0) → (rel ≡ false → before ≡ (if nat_le need a then 0 else 1))
     → (if rel && nat_eq need 0 then 1 else 0) + (ended a b need + (if nat_le need b then 0 else 1)) ≤ before + (if rel then 1 else 0)
 each-task true a b need before less most start kept = go (nat_eq need 0) refl
@@ -108,7 +108,7 @@ module _ (p : Plan) (dem : ℕ → ℕ → ℕ) (ask : List Tick → Frac) (lim 
   abbrev notes : List Tick → List Note
   notes = notes_before_end p dem ask
 
-  -- the notes of the last span
+  -- a count over the notes up to tick x is that before the last span, over its releases, and over its other notes
   split : (test : Note → Bool) (x : Tick) (past : List Tick) (s : Span) → IsLastSpan p dem ask lim x past s
       → times test (notes (x ∷ past))
       ≡ times test (notes s.past) + (times test (all_release_notes p dem (length s.past))
@@ -120,7 +120,7 @@ module _ (p : Plan) (dem : ℕ → ℕ → ℕ) (ask : List Tick → Frac) (lim 
       (times-append test (all_release_notes p dem (length s.past))
       (Speed (length s.past) ((point p s.entry).speed) ((ask s.past).num) ((ask s.past).den) ∷ pieces_notes p dem s 0 (pieces_of s.units))))
 
-  -- a release of each task that has one, and a completion where its job needs nothing
+  -- the release notes of a task at a tick have a release where a job of the task is released there
   released-by : (t i : ℕ) → times is_released (release_notes p dem t i) ≡ (if releases_at p i t then 1 else 0)
   released-by t i = go (releases_at p i t) (nat_eq (dem i (latest p i t)) 0)
     where
@@ -163,7 +163,7 @@ module _ (p : Plan) (dem : ℕ → ℕ → ℕ) (ask : List Tick → Frac) (lim 
   decided-at : (t : ℕ) → times is_decided (all_release_notes p dem t) ≡ 0
   decided-at t = times-each is_decided (release_notes p dem t) (count p) ∙ sum_below-zero (count p) _ (λ i lt. decided-by t i)
 
-  -- segments tell neither releases nor decisions
+  -- the notes of segments have no releases
   released-pieces : (s : Span) (q : ℕ) (rs : List Piece) → times is_released (pieces_notes p dem s q rs) ≡ 0
   released-pieces s q [] = refl
   released-pieces s q (r ∷ rs) =
@@ -192,7 +192,7 @@ module _ (p : Plan) (dem : ℕ → ℕ → ℕ) (ask : List Tick → Frac) (lim 
           go true = refl
           go false = refl
 
-  -- their completions are those of the latest jobs
+  -- the completions in a segment's notes are those of the latest jobs
   segment-finished : (t : ℕ) (s : Span) (q u : ℕ) (h : Holder) → IsNow p t h
       → times is_finished (segment_notes p dem s q u h) ≡ sum_below (count p) (λ i. times (tells_done i (latest p i t)) (segment_notes p dem s q u h))
   segment-finished t s q u Nobody now = sym (sum_below-zero (count p) (λ i. 0) (λ i lt. refl))
@@ -226,7 +226,7 @@ module _ (p : Plan) (dem : ℕ → ℕ → ℕ) (ask : List Tick → Frac) (lim 
       ∙ (sym (sum_below-add (count p) (λ i. times (tells_done i (latest p i t)) here) (λ i. times (tells_done i (latest p i t)) rest))
       ∙ sum_below-same (count p) _ _ (λ i lt. sym (times-append (tells_done i (latest p i t)) here rest))))
 
-  -- whether the latest job of a task is open at the end of some ticks, and how many are
+  -- 1 where the latest job of task i is open after these ticks, else 0
   abbrev open_job : List Tick → ℕ → ℕ
   open_job [] i = 0
   open_job (x ∷ past) i = if is_done p dem (x ∷ past) i (latest p i (length past)) then 0 else 1
@@ -234,17 +234,17 @@ module _ (p : Plan) (dem : ℕ → ℕ → ℕ) (ask : List Tick → Frac) (lim 
   abbrev open_jobs : List Tick → ℕ
   open_jobs ticks = sum_below (count p) (open_job ticks)
 
-  -- whether a job completed in the last tick
+  -- 1 where a job completed in the last tick, else 0
   abbrev fresh : List Tick → ℕ
   fresh [] = 0
   fresh (x ∷ past) = if any_below (count p) (λ i. completes_in p dem x past i) then 1 else 0
 
-  -- 1 before the first tick, where a decision needs no cause
+  -- 1 before the first tick, where a decision needs no cause, else 0
   abbrev start : List Tick → ℕ
   start [] = 1
   start (x ∷ past) = 0
 
-  -- any other decision comes with a release or a completion just before
+  -- a decision is at tick 0, at a release, or just after a completion
   decision-cause : (past : List Tick) → is_decision p dem past ≡ true → 1 ≤ start past + (fresh past + releases (length past))
   decision-cause [] e = omega arith
   decision-cause (x ∷ past) e = go (is_release p (length (x ∷ past))) refl
@@ -258,7 +258,7 @@ module _ (p : Plan) (dem : ℕ → ℕ → ℕ) (ask : List Tick → Frac) (lim 
           sym (ap (λ (b : Bool). b || any_below (count p) (λ i. completes_in p dem x past i)) f) ∙ e in
           omega (arith, ap one_if ends)
 
-  -- the latest job before is the latest now, where none is released
+  -- where task i has no release, its open job before is its latest job, unless that has had its demand
   open-before : (past : List Tick) (i : ℕ) → releases_at p i (length past) ≡ false
       → open_job past i ≡ (if nat_le (dem i (latest p i (length past))) (exec p past i (latest p i (length past))) then 0 else 1)
   open-before [] i unreleased = rw (first (latest p i 0) refl) refl
@@ -277,7 +277,7 @@ module _ (p : Plan) (dem : ℕ → ℕ → ℕ) (ask : List Tick → Frac) (lim 
 
   module _ (x : Tick) (past : List Tick) (s : Span) (h : IsScheduleBy p dem ask (x ∷ past)) (l : IsLastSpan p dem ask lim x past s)
       (head : Head p dem ask periods needless past s) where
-    -- the job of a task in the span, what it had before and has after it, and what it needs
+    -- task i's latest job in the span, with its units before and after it (`before`, `after`) and its demand (`need`)
     abbrev job : ℕ → ℕ
     job i = latest p i (length past)
 
@@ -293,7 +293,7 @@ module _ (p : Plan) (dem : ℕ → ℕ → ℕ) (ask : List Tick → Frac) (lim 
     same-job : (i : ℕ) → i < count p → latest p i (length s.past) ≡ job i
     same-job i lt = sym (l.same i (length past) lt l.shorter (omega arith))
 
-    -- what the job had in the span: job 0 has nothing
+    -- the latest job of a task has after the span what it had before it and its units in the span
     had : (i : ℕ) → i < count p → after i ≡ before i + count_by (same_holder (Held i (job i))) s.units
     had i lt = go (job i) refl
       where
@@ -312,7 +312,7 @@ module _ (p : Plan) (dem : ℕ → ℕ → ℕ) (ask : List Tick → Frac) (lim 
     most : (i : ℕ) → i < count p → after i ≤ need i
     most i lt = exec-most p dem ask (x ∷ past) h i (job i) lt
 
-    -- the completions in its segments
+    -- the completions in the segments of the span are those of the jobs whose units rise to their demand in it
     finished-span : times is_finished (pieces_notes p dem s 0 (pieces_of s.units)) ≡ sum_below (count p) (λ i. ended (before i) (after i) (need i))
     finished-span =
         pieces-finished (length past) s 0 (pieces_of s.units) (each-piece (IsNow p (length past)) s.units head.now)
@@ -325,7 +325,7 @@ module _ (p : Plan) (dem : ℕ → ℕ → ℕ) (ask : List Tick → Frac) (lim 
             pieces-ended p dem s i (job i) [] (pieces_of s.units) (have_units s.units) (sym (laid-pieces s.units)) (omega (arith, all, most i lt))
             ∙ ap₂ (λ a b. ended a b (need i)) nothing all
 
-    -- a completion in the last tick is one of them
+    -- where a job completes in the last tick, the segments of the span have a completion
     fresh-finished : fresh (x ∷ past) ≤ times is_finished (pieces_notes p dem s 0 (pieces_of s.units))
     fresh-finished = go (any_below (count p) (λ i. completes_in p dem x past i)) refl
       where
@@ -343,7 +343,7 @@ module _ (p : Plan) (dem : ℕ → ℕ → ℕ) (ask : List Tick → Frac) (lim 
             let one : ended (before i) (after i) (need i) ≡ 1 = rw (rises, full) refl in
             rw e (omega (arith, finished-span, sum_below-term (count p) (λ j. ended (before j) (after j) (need j)) i lt, one))
 
-    -- completions and open jobs, against those open before and the releases
+    -- the completions and the open jobs after a span are at most the open jobs before and the releases
     balance : empty_jobs (length s.past) + (times is_finished (pieces_notes p dem s 0 (pieces_of s.units)) + open_jobs (x ∷ past))
         ≤ open_jobs s.past + releases (length s.past)
     balance =
@@ -379,7 +379,7 @@ module _ (p : Plan) (dem : ℕ → ℕ → ℕ) (ask : List Tick → Frac) (lim 
             kept : releases_at p i (length s.past) ≡ false → open_job s.past i ≡ (if nat_le (need i) (before i) then 0 else 1)
             kept unreleased = open-before s.past i unreleased ∙ ap (λ k. if nat_le (dem i k) (exec p s.past i k) then 0 else 1) (same-job i lt)
 
-  -- what the counts of some ticks' notes keep
+  -- the counts over the notes of these ticks are balanced: decisions by their causes, and completions by releases
   pub record Balanced (ticks : List Tick) : Type 0 where
     pub decisions : times is_decided (notes ticks) + (fresh ticks + start ticks) ≤ 1 + (times is_released (notes ticks) + times is_finished (notes ticks))
     pub completions : times is_finished (notes ticks) + open_jobs ticks ≤ times is_released (notes ticks)
@@ -430,7 +430,7 @@ module _ (p : Plan) (dem : ℕ → ℕ → ℕ) (ask : List Tick → Frac) (lim 
       let head : Head p dem ask periods needless past s = subst (Begins p dem ask periods needless past) l.spans (begins p dem ask periods needless x past h) in
       next-balanced x past s h l head (balanced n s.past (omega (arith, le, l.shorter)) l.earlier)
 
-  -- the last note counts nothing
+  -- the last note adds nothing to a count
   with-end : (test : Note → Bool) → ((t run idle : ℕ) → test (End t run idle) ≡ false) → (ticks : List Tick)
       → count_by test (notes_of p dem ask ticks) ≡ times test (notes ticks)
   with-end test quiet ticks =

@@ -1,4 +1,4 @@
--- The notes of a schedule tell once that a job is done, where it had its demand, and not after its deadline.
+-- The notes of a schedule say once that a job completes, when it has had its demand, and not after its deadline.
 use Rattle.std.proofs.Common.{◌≡◌, ◌≢◌, ℕ, zero, suc, ◌+◌, ◌-◌, ◌<◌, ◌≤◌, Bool, true, false, ◌&&◌, ◌||◌, List, [], ◌∷◌, length, flat_map, refl, arith, if◌then◌else◌, ap, ap₂, ◌∙◌, sym, subst, true≢false, ◌⊎◌, inl, inr, nat_eq, nat_lt, append-nil}
 use Rattle.std.specs.Prelude.{count_by, sum_by}
 use Rattle.std.proofs.lemmas.Grind.{flat_map-append}
@@ -24,7 +24,7 @@ use Rattle.sched_model.proofs.PieceLemmas.{have_units}
 use Rattle.done_lines.proofs.DoneNotes.{tells_done, tells_late, times, times-append, ended, ended-same, laid, laid-pieces, had_of, pieces-ended, pieces-late}
 use Rattle.done_lines.proofs.DoneSpans.{IsLastSpan, last-span}
 
--- the notes of the first n tasks, task by task
+-- a count over the notes of the first n tasks is the sum of the counts over each task's notes
 pub times-each : (test : Note → Bool) (f : ℕ → List Note) (n : ℕ) → times test (flat_map f (list_below n (λ i. i))) ≡ sum_below n (λ j. times test (f j))
 times-each test f zero = refl
 times-each test f (suc n) =
@@ -32,7 +32,7 @@ times-each test f (suc n) =
     ∙ (times-append test (flat_map f (list_below n (λ i. i))) (flat_map f (n ∷ []))
     ∙ ap₂ (λ a b. a + b) (times-each test f n) (ap (times test) (append-nil (f n))))
 
--- the last note passes no test of the others
+-- the last note adds nothing to a count
 pub times-end : (p : Plan) (dem : ℕ → ℕ → ℕ) (ask : List Tick → Frac) (ticks : List Tick) (test : Note → Bool)
     → ((t run idle : ℕ) → test (End t run idle) ≡ false) → times test (notes_of p dem ask ticks) ≡ times test (notes_before_end p dem ask ticks)
 times-end p dem ask ticks test quiet =
@@ -42,7 +42,7 @@ times-end p dem ask ticks test quiet =
     ∙ (ap (λ (b : Bool). times test before + (if b then 1 else 0)) (quiet (length ticks) (sum_by energy_run before) (sum_by energy_idle before))
     ∙ omega arith)
 
--- a late end is an end
+-- the late completions of a job are at most all its completions
 late-most : (t i k : ℕ) (notes : List Note) → times (tells_late t i k) notes ≤ times (tells_done i k) notes
 late-most t i k [] = omega arith
 late-most t i k (Release at j l ∷ notes) = late-most t i k notes
@@ -64,7 +64,7 @@ module _ (p : Plan) (dem : ℕ → ℕ → ℕ) (ask : List Tick → Frac) (lim 
   some : 0 < period p i
   some = every_period p lim i
 
-  -- at its release, where it needs nothing
+  -- the release notes of a tick have the completion of the job where it is released there and needs nothing
   at-release : (t : ℕ) → times (tells_done i k) (all_release_notes p dem t) ≡ (if nat_eq (release p i k) t && nat_eq (dem i k) 0 then 1 else 0)
   at-release t =
       times-each (tells_done i k) (release_notes p dem t) (count p)
@@ -111,7 +111,7 @@ module _ (p : Plan) (dem : ℕ → ℕ → ℕ) (ask : List Tick → Frac) (lim 
                   let same : k ≡ latest p i t = grind (arith, nat_tests) in
                   absurd (true≢false (sym (ap (λ l. nat_eq (release p i l) t) same ∙ q) ∙ e))
 
-  -- a release tells nothing late
+  -- the release notes of a tick have no late completion of the job
   release-late : (t : ℕ) → times (tells_late (due p i k) i k) (all_release_notes p dem t) ≡ 0
   release-late t =
       times-each (tells_late (due p i k) i k) (release_notes p dem t) (count p)
@@ -138,7 +138,7 @@ module _ (p : Plan) (dem : ℕ → ℕ → ℕ) (ask : List Tick → Frac) (lim 
       go j true false = refl
       go j true true = rw (late j) refl
 
-  -- how often the notes of some ticks tell it: once, where the job has had its demand
+  -- how often the notes of these ticks have the job's completion: once where it was released and has had its demand
   abbrev tally : List Tick → ℕ
   tally ticks =
       if nat_eq (dem i k) 0
@@ -153,7 +153,7 @@ module _ (p : Plan) (dem : ℕ → ℕ → ℕ) (ask : List Tick → Frac) (lim 
       pieces-ended p dem s i k [] (pieces_of s.units) (have_units s.units) (sym (laid-pieces s.units)) (omega (arith, all, most))
       ∙ ap₂ (λ a b. ended a b (dem i k)) nothing all
 
-  -- a release lies at the beginning of a span
+  -- a job released by the last tick was released by the beginning of the last span
   starts : (x : Tick) (past : List Tick) (s : Span) → IsLastSpan p dem ask lim x past s → release p i k ≤ length past → release p i k ≤ length s.past
   starts x past s l most = elim (cases_lt (length s.past) (release p i k)) [
     | inl later ↦
@@ -257,7 +257,7 @@ module _ (p : Plan) (dem : ℕ → ℕ → ℕ) (ask : List Tick → Frac) (lim 
           rw (e, flat) (sum-free (release p i k) (length s.past) (length (x ∷ past)) (length past) (omega (arith, l.shorter)) (starts x past s l) (omega arith))
       go false e = rw e (sum-busy (exec p s.past i k) (exec p (x ∷ past) i k) (dem i k) (nat_eq (release p i k) (length s.past)) more most)
 
-  -- the notes of a schedule tell it once, where it had its demand
+  -- the notes of a schedule have the completion of the job once where it has had its demand, else never
   told : (n : ℕ) (ticks : List Tick) → length ticks ≤ n → IsScheduleBy p dem ask ticks → exec p ticks i k ≤ dem i k
       → times (tells_done i k) (notes_before_end p dem ask ticks) ≡ tally ticks
   told n [] le h most = told-none
@@ -266,7 +266,7 @@ module _ (p : Plan) (dem : ℕ → ℕ → ℕ) (ask : List Tick → Frac) (lim 
       let l = last-span p dem ask lim x past h in
       told-next x past l.0 l.1 most (told n l.0.past (omega (arith, le, l.1.shorter)) l.1.earlier (omega (arith, most, l.1.had i k inside some_job)))
 
-  -- of a job that had its demand they tell it once
+  -- of a job that has had its demand, the notes of a schedule have the completion once
   pub told-once : (ticks : List Tick) → IsScheduleBy p dem ask ticks → release p i k < length ticks → exec p ticks i k ≡ dem i k
       → times (tells_done i k) (notes_before_end p dem ask ticks) ≡ 1
   told-once ticks h began had = told (length ticks) ticks (omega arith) h (omega (arith, had)) ∙ go (nat_eq (dem i k) 0) refl
@@ -279,7 +279,7 @@ module _ (p : Plan) (dem : ℕ → ℕ → ℕ) (ask : List Tick → Frac) (lim 
           let whole : nat_eq (exec p ticks i k) (dem i k) ≡ true = grind (arith, nat_tests) in
           rw (e, whole) refl
 
-  -- and of a job that isn't released yet never
+  -- of a job that isn't released yet, the notes of a schedule have no completion
   pub told-never : (ticks : List Tick) → IsScheduleBy p dem ask ticks → length ticks ≤ release p i k
       → times (tells_done i k) (notes_before_end p dem ask ticks) ≡ 0
   told-never ticks h later = told (length ticks) ticks (omega arith) h (omega (arith, none)) ∙ go (nat_eq (dem i k) 0) refl
@@ -295,7 +295,7 @@ module _ (p : Plan) (dem : ℕ → ℕ → ℕ) (ask : List Tick → Frac) (lim 
           let other : nat_eq 0 (dem i k) ≡ false = grind (arith, nat_tests) in
           rw (e, none, other) refl
 
-  -- and not after its deadline
+  -- the notes of the last span have no late completion of the job
   late-next : (x : Tick) (past : List Tick) (s : Span) → IsLastSpan p dem ask lim x past s → exec p (x ∷ past) i k ≤ dem i k
       → times (tells_late (due p i k) i k) (notes_before_end p dem ask s.past) ≡ 0
       → times (tells_late (due p i k) i k) (notes_before_end p dem ask (x ∷ past)) ≡ 0

@@ -1,4 +1,4 @@
--- How often the notes of a schedule tell that a job is done, and when.
+-- How many completions of a job the notes of a schedule have, and when.
 use Rattle.std.proofs.Common.{◌≡◌, ◌≢◌, ℕ, suc, ◌+◌, ◌*◌, ◌/◌, ◌%◌, ◌<◌, ◌≤◌, Bool, true, false, ◌&&◌, ◌||◌, List, [], ◌∷◌, ◌++◌, length, take, replicate, refl, arith, if◌then◌else◌, ap, ap₂, ◌∙◌, sym, subst, inl, inr, append_assoc, append-nil, nat_eq, nat_lt}
 use Rattle.std.proofs.Common.{length-append, div-add-mod', mul-le-mul_right}
 use Rattle.std.proofs.Math.Nat.{le_of_mul-le-mul_right}
@@ -18,17 +18,17 @@ use Rattle.sched_model.specs.Notes.{had_by, segment_notes, pieces_notes}
 use Rattle.grid_fraction.proofs.Counts.{count-append, count-replicate}
 use Rattle.sched_model.proofs.PieceLemmas.{same_holder-eq, HaveUnits}
 
--- the note tells that job k of task i is done
+-- the note says that job k of task i completes
 abbrev pub tells_done : ℕ → ℕ → Note → Bool
 tells_done i k (Done at_end j l used) = nat_eq i j && nat_eq k l
 tells_done i k _ = false
 
--- and that it was so later than at the beginning of tick t
+-- the note says that job k of task i completes after the beginning of tick t
 abbrev pub tells_late : ℕ → ℕ → ℕ → Note → Bool
 tells_late t i k (Done at_end j l used) = (nat_eq i j && nat_eq k l) && (nat_lt t at_end.tick || (nat_eq t at_end.tick && nat_lt 0 at_end.offset))
 tells_late t i k _ = false
 
--- how many of a list pass a test
+-- how many elements of a list pass a test
 abbrev pub times : {A : Type 0} → (A → Bool) → List A → ℕ
 times test [] = 0
 times test (x ∷ xs) = if test x then suc (times test xs) else times test xs
@@ -42,7 +42,7 @@ times-append test (x ∷ xs) ys = go (test x) (times-append test xs ys)
     go true e = omega (arith, e)
     go false e = e
 
--- the units of segments, one after another
+-- the units of segments, laid out one after another
 abbrev pub laid : List Piece → List Holder
 laid [] = []
 laid (r ∷ rs) = replicate r.units r.holder ++ laid rs
@@ -58,12 +58,12 @@ laid-before h (r ∷ rs) = go (same_holder h r.holder) refl
         ap (λ n. replicate n h ++ laid rs) more ∙ ap (λ g. h ∷ (replicate r.units g ++ laid rs)) (same_holder-eq h r.holder e)
     go false e = refl
 
--- the segments of a list of units are those units
+-- the units of the segments of some units are these units
 pub laid-pieces : (us : List Holder) → laid (pieces_of us) ≡ us
 laid-pieces [] = refl
 laid-pieces (h ∷ us) = laid-before h (pieces_of us) ∙ ap (λ hs. h ∷ hs) (laid-pieces us)
 
--- 1 where what a job has had rises to its demand, and else 0
+-- 1 where what a job has had rises to its demand, else 0
 abbrev pub ended : ℕ → ℕ → ℕ → ℕ
 ended a b need = if nat_lt a b && nat_eq b need then 1 else 0
 
@@ -98,7 +98,7 @@ ended-now a c b need rose le most = go (nat_eq c need) refl
             go2 false = sym f
 
 module _ (p : Plan) (dem : ℕ → ℕ → ℕ) (s : Span) (i k : ℕ) where
-  -- what the job has had after so many units of the span
+  -- what the job has had after the units `us` of the span
   abbrev pub had_of : List Holder → ℕ
   had_of us = exec p s.past i k + count_by (same_holder (Held i k)) us
 
@@ -106,7 +106,7 @@ module _ (p : Plan) (dem : ℕ → ℕ → ℕ) (s : Span) (i k : ℕ) where
   had-more us n h =
       omega (arith, count-append (same_holder (Held i k)) us (replicate n h), count-replicate (same_holder (Held i k)) n h)
 
-  -- a segment tells the end of its own job alone
+  -- the notes of a segment have no completion but that of its own job
   segment-own : (q u : ℕ) → times (tells_done i k) (segment_notes p dem s q u (Held i k)) ≡ (if nat_eq (had_by p s (q + u) i k) (dem i k) then 1 else 0)
   segment-own q u = go (nat_eq (had_by p s (q + u) i k) (dem i k))
     where
@@ -126,7 +126,7 @@ module _ (p : Plan) (dem : ℕ → ℕ → ℕ) (s : Span) (i k : ℕ) where
       go true = rw other refl
       go false = refl
 
-  -- the segments from one on tell it once, where what the job has had rises to its demand in them
+  -- the segments after `front` have the completion once where what the job has had rises to its demand in them
   pub pieces-ended : (front : List Holder) (rs : List Piece) → HaveUnits rs → s.units ≡ front ++ laid rs → had_of s.units ≤ dem i k
       → times (tells_done i k) (pieces_notes p dem s (length front) rs) ≡ ended (had_of front) (had_of s.units) (dem i k)
   pieces-ended front [] some e most =
@@ -176,7 +176,7 @@ module _ (p : Plan) (dem : ℕ → ℕ → ℕ) (s : Span) (i k : ℕ) where
     abbrev f : ℕ
     f = (point p s.entry).speed
 
-    -- a unit boundary within n ticks is not after their end
+    -- a unit boundary within n ticks is not after the end of these ticks
     not-late : (q : ℕ) → q ≤ n * f → (nat_lt t (position_of (length s.past) f q).tick
         || (nat_eq t (position_of (length s.past) f q).tick && nat_lt 0 (position_of (length s.past) f q).offset)) ≡ false
     not-late q le =
@@ -204,7 +204,7 @@ module _ (p : Plan) (dem : ℕ → ℕ → ℕ) (s : Span) (i k : ℕ) where
         go true = rw (not-late (q + u) le, and_right (nat_eq i j && nat_eq k l) false refl) refl
         go false = refl
 
-    -- segments within n ticks tell nothing late
+    -- the notes of segments within n ticks have no late completion
     pub pieces-late : (q : ℕ) (rs : List Piece) → q + length (laid rs) ≤ n * f → times (tells_late t i k) (pieces_notes p dem s q rs) ≡ 0
     pieces-late q [] le = refl
     pieces-late q (r ∷ rs) le =

@@ -1,4 +1,4 @@
--- What the spans of a schedule hold: their ticks, their units, and what each job has had by their end.
+-- What the spans of a schedule contain: their ticks, their units, and what each job has had by their end.
 use Rattle.std.proofs.Common.{◌≡◌, ◌≢◌, ℕ, ◌+◌, ◌-◌, ◌*◌, ◌<◌, ◌≤◌, min, Bool, true, false, ◌&&◌, List, [], ◌∷◌, ◌++◌, length, replicate, flat_map, refl, arith, if◌then◌else◌, ap, ◌∙◌, sym, subst, true≢false, ◌⊎◌, inl, inr, nat_eq, length-append, eq-or-lt_of_le}
 use Rattle.std.specs.Prelude.{count_by}
 use Rattle.std.proofs.lemmas.List.{length-replicate}
@@ -28,7 +28,7 @@ use Rattle.sched_model.proofs.JobLaws.{latest-is, release-le, lt-due}
 use Rattle.grid_fraction.proofs.Counts.{count-append, count-replicate}
 use Rattle.done_lines.proofs.SpanHeads.{stays}
 
--- the units that the tasks of a list get
+-- the units that the tasks of a list get, one task after another
 abbrev given_units : (ℕ → ℕ) → (ℕ → ℕ) → List ℕ → List Holder
 given_units given job order = flat_map (λ i. replicate (given i) (Held i (job i))) order
 
@@ -41,7 +41,7 @@ given-long given job (j ∷ js) = omega (
   given-long given job js,
 )
 
--- how many of them the job k of task i holds
+-- how many units of task j job k of task i holds
 abbrev own_units : (ℕ → ℕ) → (ℕ → ℕ) → ℕ → ℕ → ℕ → ℕ
 own_units given job i k j = if same_holder (Held i k) (Held j (job j)) then given j else 0
 
@@ -60,7 +60,7 @@ module _ (p : Plan) (dem : ℕ → ℕ → ℕ) (ask : List Tick → Frac) (lim 
   abbrev speed_of : ℕ → ℕ
   speed_of e = (point p e).speed
 
-  -- a legal tick gives no more than its speed
+  -- a legal tick gives at most its speed
   shares-fit : (past : List Tick) (x : Tick) → IsNext p dem ask past x → sum_below (count p) (share x) ≤ speed_of x.entry
   shares-fit past x h =
       let all : sum_where (count p) (λ j. true) (share x) ≡ min (speed_of x.entry) (sum_where (count p) (λ j. true) (left p dem past)) =
@@ -81,7 +81,7 @@ module _ (p : Plan) (dem : ℕ → ℕ → ℕ) (ask : List Tick → Frac) (lim 
         shares-fit past x h,
       )
 
-  -- the units of a job in a tick
+  -- the units of a job in a tick are its task's share where it is the latest job, else none
   units-own : (past : List Tick) (x : Tick) (i k : ℕ) → i < count p
       → count_by (same_holder (Held i k)) (units_of p past x) ≡ own_units (share x) (λ j. latest p j (length past)) i k i
   units-own past x i k lt =
@@ -98,7 +98,7 @@ module _ (p : Plan) (dem : ℕ → ℕ → ℕ) (ask : List Tick → Frac) (lim 
       off j ne true e = absurd (ne (grind (arith, nat_tests)))
       off j ne false e = rw e refl
 
-  -- it is the latest job
+  -- a job that holds a unit of a tick is its task's latest job
   units-latest : (past : List Tick) (x : Tick) (i k : ℕ) → i < count p → 0 < count_by (same_holder (Held i k)) (units_of p past x)
       → latest p i (length past) ≡ k
   units-latest past x i k lt some = go (nat_eq k (latest p i (length past))) refl
@@ -111,7 +111,7 @@ module _ (p : Plan) (dem : ℕ → ℕ → ℕ) (ask : List Tick → Frac) (lim 
           none true = rw e refl
           none false = refl
 
-  -- the units of a job in a tick are what the tick adds to it
+  -- a tick adds the job's units in it to what the job has had
   units-had : (past : List Tick) (x : Tick) (i k : ℕ) → i < count p → 1 ≤ k
       → exec p (x ∷ past) i k ≡ exec p past i k + count_by (same_holder (Held i k)) (units_of p past x)
   units-had past x i k lt some_job =
@@ -144,7 +144,7 @@ module _ (p : Plan) (dem : ℕ → ℕ → ℕ) (ask : List Tick → Frac) (lim 
               the_window low high = grind (arith, nat_tests)
           none false q = rw q refl
 
-  -- the last span of the ticks of `past` and x after them
+  -- the last span of the ticks `past` and x after them
   pub record IsLastSpan (x : Tick) (past : List Tick) (s : Span) : Type 0 where
     pub spans : spans_of p dem (x ∷ past) ≡ s ∷ spans_of p dem s.past
     pub earlier : IsScheduleBy p dem ask s.past
@@ -204,7 +204,7 @@ module _ (p : Plan) (dem : ℕ → ℕ → ℕ) (ask : List Tick → Frac) (lim 
           omega (arith, some, none, count-append (same_holder (Held i k)) s.units (units_of p (y ∷ past) x)) in
           sym (stays p dem (every_period p lim) y past e i lt ∙ l.same i (length past) lt l.shorter (omega arith)) ∙ units-latest (y ∷ past) x i k lt here
 
-  -- a schedule of a tick or more has a last span
+  -- a schedule of at least one tick has a last span
   pub last-span : (x : Tick) (past : List Tick) → IsScheduleBy p dem ask (x ∷ past) → (s : Span) × IsLastSpan x past s
   last-span x [] h = (record { past = []; entry = x.entry; units = units_of p [] x }, opened x [] tt h.1 refl)
   last-span x (y ∷ past) h = go (is_decision p dem (y ∷ past)) refl (last-span y past h.0)

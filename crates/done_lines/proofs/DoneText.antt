@@ -1,4 +1,4 @@
--- The text of a schedule that meets its deadlines tells each of them.
+-- The text of a schedule that meets its deadlines says of each job that it completes by its deadline.
 use Rattle.std.proofs.Common.{◌≡◌, ℕ, zero, suc, ◌+◌, ◌-◌, ◌^◌, ◌<◌, ◌≤◌, Bool, true, false, ◌&&◌, ◌||◌, List, [], ◌∷◌, ◌++◌, length, flat_map, refl, arith, if◌then◌else◌, ap, ap₂, ◌∙◌, sym, subst, true≢false, nat_eq, nat_lt, get_or, append_assoc, ◌⊎◌, inl, inr}
 use Rattle.std.specs.List.{AllByRecursion}
 use Rattle.std.proofs.lemmas.Fmt.{decimal_injective}
@@ -40,7 +40,7 @@ use Rattle.done_lines.proofs.RunLines.{IsLine, IsQuiet, before_note, lines_at, h
 use Rattle.done_lines.proofs.DoneNotes.{tells_done, tells_late, times}
 use Rattle.done_lines.proofs.DoneCounts.{times-end, told-once, told-never, none-late}
 
--- a list with one element that passes
+-- a list with exactly one element that passes the test
 record IsAlone {A : Type 0} (test : A → Bool) (xs : List A) : Type 0 where
   front : List A
   one : A
@@ -71,7 +71,7 @@ alone test (x ∷ xs) e = go (test x) refl (alone test xs)
           none_back = r.none_back;
         }
 
--- none of a list passes
+-- where a count is 0, no element of the list passes the test
 none-pass : {A : Type 0} (test : A → Bool) (xs : List A) → times test xs ≡ 0 → AllByRecursion (λ x. test x ≡ false) xs
 none-pass test [] e = tt
 none-pass test (x ∷ xs) e = go (test x) refl (none-pass test xs)
@@ -80,11 +80,11 @@ none-pass test (x ∷ xs) e = go (test x) refl (none-pass test xs)
     go true f ih = absurd (omega (arith, sym (ap (λ (c : Bool). if c then suc (times test xs) else times test xs) f) ∙ e))
     go false f ih = (f, ih (sym (ap (λ (c : Bool). if c then suc (times test xs) else times test xs) f) ∙ e))
 
--- a line that begins with another letter tells no end
+-- a line that doesn't begin with the letter d is not a completion's line
 other-line : (name : List ℕ) (k : ℕ) (l : List ℕ) → nat_eq (get_or l 0 0) 100 ≡ false → (at_end : Pos) → IsDoneLine name k at_end l → ⊥
 other-line name k l other at_end d = true≢false (sym (ap (λ (m : List ℕ). nat_eq (get_or m 0 0) 100) d.1) ∙ other)
 
--- a note of another kind, or of another job, tells no end of this one
+-- a note of another kind, or of another job, doesn't have the line of this job's completion
 silent : (ns : List (List ℕ)) → ((i : ℕ) → ArePlain (name_of ns i)) → (i k : ℕ) → ((j : ℕ) → name_of ns j ≡ name_of ns i → j ≡ i) → k < 2 ^ 64
     → (n : Note) → tells_done i k n ≡ false → ((l : ℕ) → tells_done i l n ≡ true → l < 2 ^ 64) → (at_end : Pos)
     → IsDoneLine (name_of ns i) k at_end (note_text ns n) → ⊥
@@ -109,7 +109,7 @@ silent ns named i k apart low n off small at_end d = go n off small (d.0, sym (n
         let found : (nat_eq i j && nat_eq k l) ≡ true = rw (here, job, self k) refl in
         true≢false (sym found ∙ off)
 
--- a line that begins with another letter tells no end
+-- lines that don't begin with the letter d are not completions' lines
 quiet-silent : (name : List ℕ) (k : ℕ) (ls : List (List ℕ)) → AllByRecursion IsQuiet ls
     → AllByRecursion (λ l. (at_end : Pos) → IsDoneLine name k at_end l → ⊥) ls
 quiet-silent name k [] quiet = tt
@@ -136,7 +136,7 @@ each-after : {A : Type 0} (P : A → Type 0) (xs ys : List A) → AllByRecursion
 each-after P [] ys e = e
 each-after P (x ∷ xs) ys e = each-after P xs ys e.1
 
--- what holds where a test counts nothing or more
+-- where each test that counts anything has a number below 2^64, so has each test that an element passes
 each-counted : {A : Type 0} (tests : ℕ → A → Bool) (xs : List A) → ((l : ℕ) → 0 < times (tests l) xs → l < 2 ^ 64)
     → AllByRecursion (λ x. (l : ℕ) → tests l x ≡ true → l < 2 ^ 64) xs
 each-counted tests [] h = tt
@@ -152,7 +152,7 @@ each-counted tests (x ∷ xs) h = (λ l e. h l (here l (tests l x) refl e), each
     there l false f some = let c : times (tests l) (x ∷ xs) ≡ times (tests l) xs =
         ap (λ (b : Bool). if b then suc (times (tests l) xs) else times (tests l) xs) f in omega (arith, c, some)
 
--- what the test for a late position leaves
+-- a position that is not late is not after the beginning of tick t
 pub is_by : (t : ℕ) (q : Pos) → (nat_lt t q.tick || (nat_eq t q.tick && nat_lt 0 q.offset)) ≡ false → IsBy t q
 is_by t q e = go (cases_lt q.tick t) (nat_lt t q.tick) refl (nat_lt 0 q.offset) refl
   where
@@ -188,7 +188,7 @@ module _ (p : Plan) (dem : ℕ → ℕ → ℕ) (ask : List Tick → Frac) (lim 
     | inr past ↦ subst ArePlain (sym (name-out i past)) tt
   ]
 
-  -- tasks are known by their names
+  -- two tasks of the plan don't have one name
   apart : (i : ℕ) → i < count p → (j : ℕ) → name_of (names p) j ≡ name_of (names p) i → j ≡ i
   apart i lt j e = elim (cases_lt j (count p)) [
     | inl within ↦ one (name_eq within) within (cases_lt i j) (cases_lt j i)
@@ -203,7 +203,7 @@ module _ (p : Plan) (dem : ℕ → ℕ → ℕ) (ask : List Tick → Frac) (lim 
       one same within (inr le) (inl under) = absurd (lim.tasks.distinct j i under lt same)
       one same within (inr le) (inr ge) = omega arith
 
-  -- a job whose end is told was released by then
+  -- a job whose completion is among the notes has a number below 2^64
   small : (i : ℕ) → i < count p → (l : ℕ) → 0 < times (tells_done i l) notes → l < 2 ^ 64
   small i lt zero some = omega arith
   small i lt (suc l) some = elim (cases_lt (release p i (suc l)) (length ticks)) [
@@ -219,7 +219,7 @@ module _ (p : Plan) (dem : ℕ → ℕ → ℕ) (ask : List Tick → Frac) (lim 
         absurd (omega (arith, some, same, never))
   ]
 
-  -- the text of the schedule, and its lines
+  -- the text of the schedule
   abbrev text : Version → GovernorKind → ℕ → List ℕ
   text v g t = whole_text v p.scheduler g t (names p) (task_texts p) notes
 
@@ -253,7 +253,7 @@ module _ (p : Plan) (dem : ℕ → ℕ → ℕ) (ask : List Tick → Frac) (lim 
     low-job : k < 2 ^ 64
     low-job = omega (arith, le-due p i k (every_period p lim i), within, low)
 
-    -- the one note
+    -- where the notes have exactly one completion of the job, so does the text
     told-by : IsAlone (tells_done i k) notes → IsToldBy (name_of (names p) i) k (due p i k) (text v g t)
     told-by r = go r.one refl
       where
@@ -309,14 +309,14 @@ module _ (p : Plan) (dem : ℕ → ℕ → ℕ) (ask : List Tick → Frac) (lim 
     pub told-text : IsToldBy (name_of (names p) i) k (due p i k) (text v g t)
     told-text = told-by (alone (tells_done i k) notes once)
 
-  -- each deadline within the ticks that is met is told
+  -- each deadline within the ticks that is met has its line in the text
   pub tells-deadlines : (v : Version) (g : GovernorKind) → IsMet p dem ticks → TellsDeadlines p (length ticks) (text v g (length ticks))
   tells-deadlines v g met i k lt some_job within =
       let by : exec p (at (due p i k) ticks) i k ≡ dem i k = met i k lt some_job within in
       let had : exec p ticks i k ≡ dem i k = omega (arith, by, exec-drop p i k (length ticks - due p i k) ticks, most i k lt) in
       told-text v g (length ticks) i k lt some_job had within
 
--- the text of each run that meets its deadlines
+-- the text of each run that meets its deadlines has a line for each of them
 pub text-tells : (p : Plan) → IsWithinLimits p → TextTellsDeadlines p
 text-tells p lim v kind dem t low met =
     let ticks = schedule p kind dem t in

@@ -1,4 +1,4 @@
--- The notes of a schedule have one end, their last, so no other such notes begin with them.
+-- The notes of a schedule have one end, the last note, so they aren't the beginning of other such notes.
 use Rattle.std.proofs.Common.{◌≡◌, ℕ, Bool, true, false, List, [], ◌∷◌, ◌++◌, length, refl, ◌∙◌, sym, true≢false}
 use Rattle.std.specs.Prelude.{sum_by}
 use Rattle.std.specs.List.{AllByRecursion}
@@ -13,13 +13,13 @@ use Rattle.sched_model.proofs.HeldUnits.{each-weaker}
 use Rattle.sched_model.proofs.BeforeEnd.{IsBeforeEnd, before-end-each}
 use Rattle.trace_reader.specs.Traces.{is_end}
 
--- the last of a list passes the test, and no other one does
+-- the last element of a list passes the test, and no other one does
 abbrev pub EndsOnce : {A : Type 0} → (A → Bool) → List A → Type 0
 EndsOnce test [] = ⊥
 EndsOnce test (x ∷ []) = test x ≡ true
 EndsOnce test (x ∷ y ∷ xs) = (test x ≡ false) × EndsOnce test (y ∷ xs)
 
--- no more follows a list that ends so
+-- where a list ends once, and does so with more elements after it, there are no more elements
 pub whole-prefix : {A : Type 0} (test : A → Bool) (xs more : List A) → EndsOnce test xs → EndsOnce test (xs ++ more) → more ≡ []
 whole-prefix test [] more once all = absurd once
 whole-prefix test (x ∷ []) [] once all = refl

@@ -20,30 +20,30 @@ use Rattle.trace_reader.specs.TraceText.{energy_of_task, shares_from, told_text,
 abbrev pub IsLine : List ℕ → Type 0
 IsLine l = (fields : List (List ℕ)) × (l ≡ line fields) × AllByRecursion ArePlain fields
 
--- a line that begins with another letter than a `done` line
+-- a line that doesn't begin with the letter d, as a `done` line does
 abbrev pub IsQuiet : List ℕ → Type 0
 IsQuiet l = nat_eq (get_or l 0 0) 100 ≡ false
 
--- the lines of the tasks' energies, which version 2 alone has
+-- the lines of the tasks' energies, which only version 2 has
 abbrev pub shares_in : Version → List (List ℕ) → List Note → List (List ℕ)
 shares_in One names notes = []
 shares_in Two names notes = shares_from notes 0 names
 
--- the lines between a note's own and those of the note before it
+-- the lines between a note's own line and that of the note before it
 abbrev pub before_note : Version → List (List ℕ) → List Note → Note → List (List ℕ)
 before_note v names notes (End t run idle) = shares_in v names notes
 before_note v names notes n = []
 
--- the lines of a note
+-- the lines of a note: its own, and those before it
 abbrev pub lines_at : Version → List (List ℕ) → List Note → Note → List (List ℕ)
 lines_at v names notes n = before_note v names notes n ++ note_text names n ∷ []
 
--- the lines before those of the notes
+-- the lines before those of the notes: the version, the plan, and in version 2 the tasks
 abbrev pub head_lines : Version → Scheduler → GovernorKind → ℕ → List (List ℕ) → List (List ℕ)
 head_lines One s g t tasks = version_text ∷ plan_text s g t ∷ []
 head_lines Two s g t tasks = version_line Two ∷ plan_text s g t ∷ tasks
 
--- what holds of each name by its number holds of each
+-- what holds of each name by its number holds of each name of the list
 pub each-name : (P : List ℕ → Type 0) (ns : List (List ℕ)) → ((i : ℕ) → P (name_of ns i)) → AllByRecursion P ns
 each-name P [] h = tt
 each-name P (name ∷ ns) h = (h 0, each-name P ns (λ i. h (suc i)))
@@ -56,14 +56,14 @@ first : (l rest : List ℕ) → IsLine l → lines_of (l ++ rest) ≡ l ∷ line
 first l rest h =
     ap (λ m. lines_of (m ++ rest)) h.1 ∙ (lines-line h.0 rest h.2 ∙ ap (λ m. m ∷ lines_of rest) (sym h.1))
 
--- lines that stand before a text are its first lines
+-- the lines in front of a text are its first lines
 lines-joined : (ls : List (List ℕ)) (rest : List ℕ) → AllByRecursion IsLine ls → lines_of (joined ls ++ rest) ≡ ls ++ lines_of rest
 lines-joined [] rest h = refl
 lines-joined (l ∷ ls) rest h =
     ap lines_of (append_assoc l (joined ls) rest)
     ∙ (first l (joined ls ++ rest) h.0 ∙ ap (λ ms. l ∷ ms) (lines-joined ls rest h.1))
 
--- the lines of tasks and of energies begin with other letters
+-- the lines of tasks and of energies don't begin with the letter d
 pub quiet-task : (name : List ℕ) (period offset worst : ℕ) → IsQuiet (task_text name period offset worst)
 quiet-task name period offset worst = refl
 
@@ -134,7 +134,7 @@ module _ (ns : List (List ℕ)) (named : (i : ℕ) → ArePlain (name_of ns i)) 
   plan-line s g t =
       (plan_fields s g t, refl, (plain-word (codes "plan") refl, (plain-scheduler s, (plain-governor g, (plain-decimal t, tt)))))
 
-  -- the lines of a whole text: those before the notes, and those of the notes
+  -- the lines of a whole text are those before the notes, and those of the notes
   pub lines-whole : (v : Version) (s : Scheduler) (g : GovernorKind) (t : ℕ) (tasks : List (List ℕ)) → AllByRecursion IsLine tasks
       → lines_of (whole_text v s g t ns tasks all) ≡ head_lines v s g t tasks ++ flat_map (lines_at v ns all) all
   lines-whole One s g t tasks lined =

@@ -22,12 +22,12 @@ use Rattle.sched_model.proofs.Joining.{due_released, same_job}
 use Rattle.sched_model.proofs.OrderLemmas.{AreBelow, in_order-below}
 use Rattle.trace_text.proofs.PlainLines.{each-append, each-replicate}
 
--- nobody, or the latest job of a task at a tick, which isn't job 0
+-- nobody, or the latest job of a task at tick t, which isn't job 0
 abbrev pub IsNow : Plan → ℕ → Holder → Type 0
 IsNow p t Nobody = Unit {0}
 IsNow p t (Held i k) = (i < count p) × (k ≡ latest p i t) × (0 < k)
 
--- job 0 holds none of such units
+-- job 0 holds none of the units that the latest jobs hold
 pub none-held : (p : Plan) (t i : ℕ) (us : List Holder) → AllByRecursion (IsNow p t) us → count_by (same_holder (Held i 0)) us ≡ 0
 none-held p t i [] each = refl
 none-held p t i (h ∷ us) each = omega (arith, count-append (same_holder (Held i 0)) (h ∷ []) us, here h each.0, none-held p t i us each.1)
@@ -42,7 +42,7 @@ none-held p t i (h ∷ us) each = omega (arith, count-append (same_holder (Held 
         go true true e = (let some = now.2 in absurd (grind (arith, nat_tests)))
 
 module _ (p : Plan) (dem : ℕ → ℕ → ℕ) (periods : (i : ℕ) → 0 < period p i) where
-  -- the latest job of a task stays where none of it is released
+  -- where no job of a task is released, its latest job stays
   pub stays-unreleased : (x : Tick) (past : List Tick) (i : ℕ) → releases_at p i (length (x ∷ past)) ≡ false
       → latest p i (length (x ∷ past)) ≡ latest p i (length past)
   stays-unreleased x past i none =
@@ -67,7 +67,7 @@ module _ (p : Plan) (dem : ℕ → ℕ → ℕ) (ask : List Tick → Frac) (peri
       own zero e = rw (idle j below.0 e) tt
       own (suc k) e = each-replicate (IsNow p t) (given j) (Held j (latest p j t)) (below.0, refl, omega (arith, e))
 
-  -- a legal tick gives job 0 nothing
+  -- a legal tick gives a task whose latest job is job 0 no units
   idle-none : (past : List Tick) (x : Tick) → IsNext p dem ask past x → (j : ℕ) → j < count p → latest p j (length past) ≡ 0 → share x j ≡ 0
   idle-none past x next j lt e =
       let own : share x j ≤ left p dem past j = share-most (count p) (key_of p.scheduler p (length past)) ((point p x.entry).speed)
@@ -82,7 +82,7 @@ module _ (p : Plan) (dem : ℕ → ℕ → ℕ) (ask : List Tick → Frac) (peri
       (given-now (length past) (share x) (in_order key (count p)) (in_order-below key (count p)) (idle-none past x next))
       (each-replicate (IsNow p (length past)) _ Nobody tt)
 
-  -- of the last span: it begins at a decision, no job had more there than at the last tick, and the jobs in it are the latest
+  -- the last span begins at a decision, no job had more there than now, and its units are held by the latest jobs
   pub record Head (past : List Tick) (s : Span) : Type 0 where
     pub decided : is_decision p dem s.past ≡ true
     pub earlier : (i k : ℕ) → exec p s.past i k ≤ exec p past i k

@@ -7,7 +7,7 @@ use Rattle.std.proofs.lemmas.List.Sums.{sum_by-append}
 use Rattle.dvs_base.specs.declared.note.Note.{Note}
 use Rattle.dvs_base.specs.declared.note.Note.TheVariants.{Release, Speed, Run, Done, End}
 use Rattle.grid_fraction.specs.declared.Frac.{Frac}
-use Rattle.grid_fraction.specs.Numbers.{list_below, sum_below}
+use Rattle.grid_fraction.specs.Numbers.{list_below}
 use Rattle.grid_fraction.proofs.Sums.{sum_below-limit}
 use Rattle.trace_text.proofs.PlainLines.{each-append}
 use Rattle.sched_model.specs.declared.holder.Holder.{Holder}
@@ -27,7 +27,7 @@ use Rattle.done_lines.proofs.DoneSpans.{IsLastSpan, last-span}
 use Rattle.done_lines.proofs.SpanHeads.{IsNow, Begins, begins}
 use Rattle.done_lines.proofs.SpanPieces.{completed, LastHasFew, last-few}
 
--- the units of some segments
+-- how many units the segments have
 abbrev pub total : List Piece → ℕ
 total [] = 0
 total (r ∷ rs) = r.units + total rs
@@ -44,7 +44,7 @@ pub total-pieces : (us : List Holder) → total (pieces_of us) ≡ length us
 total-pieces [] = refl
 total-pieces (h ∷ us) = omega (arith, total-before h (pieces_of us), total-pieces us)
 
--- a note before the `End` of a run, of a task of the plan where it is of one
+-- a note before the `End` of a run, whose task, if it has one, is a task of the plan
 abbrev pub IsNoteIn : Plan → Note → Type 0
 IsNoteIn p (Release tick i k) = i < count p
 IsNoteIn p (Run from to i k units energy) = i < count p
@@ -56,14 +56,14 @@ IsNoteIn p _ = Unit {0}
 abbrev pub span_most : ℕ
 span_most = 4 * 64 + 3
 
--- the most that one unit can cost
+-- the most energy that one unit can cost
 abbrev pub unit_most : ℕ
 unit_most = 400000000000
 
 energy-most : (u mv rate : ℕ) → mv ≤ 20000 → rate ≤ 1000 → u * mv * mv * rate ≤ unit_most * u
 energy-most u mv rate low cheap = omega (arith, mul-le-mul_left u low, mul-le-mul_left (u * mv) low, mul-le-mul_left (u * mv * mv) cheap)
 
--- notes of a plan's tasks, no more than so many, with no more energy than that
+-- notes of a plan's tasks, at most `most` of them, with at most `energy` energy
 pub record Fit (p : Plan) (notes : List Note) (most energy : ℕ) : Type 0 where
   pub each : AllByRecursion (IsNoteIn p) notes
   pub few : length notes ≤ most
@@ -80,7 +80,7 @@ fit-more : (p : Plan) (xs : List Note) (a b e f : ℕ) → a ≤ b → e ≤ f �
 fit-more p xs a b e f le lf x = record { each = x.each; few = omega (arith, x.few, le); low = omega (arith, x.low, lf) }
 
 module _ (p : Plan) (lim : IsWithinLimits p) (dem : ℕ → ℕ → ℕ) (needless : (i : ℕ) → dem i 0 ≡ 0) (ask : List Tick → Frac) where
-  -- two for each release
+  -- the release notes of a task are at most two
   release-fits : (t i : ℕ) → i < count p → Fit p (release_notes p dem t i) 2 0
   release-fits t i lt = go (releases_at p i t) (nat_eq (dem i (latest p i t)) 0)
     where
@@ -101,7 +101,7 @@ module _ (p : Plan) (lim : IsWithinLimits p) (dem : ℕ → ℕ → ℕ) (needle
       (fit-more p (before ++ (release_notes p dem t n ++ [])) (2 * n + (2 + 0)) (2 * suc n) (0 + (0 + 0)) 0 (omega arith) (omega arith)
       (fit-append p before (release_notes p dem t n ++ []) (2 * n) (2 + 0) 0 (0 + 0) (releases-fit t n (omega (arith, le))) last))
 
-  -- two for each segment, and the cost of its units
+  -- the notes of a segment are at most two, with at most the energy that its units can cost
   segment-fits : (s : Span) → s.entry < length p.machine.points → (t q u : ℕ) (h : Holder) → IsNow p t h → Fit p (segment_notes p dem s q u h) 2 (unit_most * u)
   segment-fits s entry t q u Nobody now = record {
     each = (tt, tt);
@@ -126,12 +126,13 @@ module _ (p : Plan) (lim : IsWithinLimits p) (dem : ℕ → ℕ → ℕ) (needle
       → Fit p (pieces_notes p dem s q rs) (2 * length rs) (unit_most * total rs)
   pieces-fit s entry t q [] now = record { each = tt; few = omega arith; low = omega arith }
   pieces-fit s entry t q (r ∷ rs) now =
-      fit-more p (pieces_notes p dem s q (r ∷ rs)) (2 + 2 * length rs) (2 * length (r ∷ rs)) (unit_most * r.units + unit_most * total rs) (unit_most * total (r ∷ rs))
-      (omega arith) (omega arith)
-      (fit-append p (segment_notes p dem s q r.units r.holder) (pieces_notes p dem s (q + r.units) rs) 2 (2 * length rs) (unit_most * r.units) (unit_most * total rs)
+      fit-more p (pieces_notes p dem s q (r ∷ rs)) (2 + 2 * length rs) (2 * length (r ∷ rs))
+      (unit_most * r.units + unit_most * total rs) (unit_most * total (r ∷ rs)) (omega arith) (omega arith)
+      (fit-append p (segment_notes p dem s q r.units r.holder) (pieces_notes p dem s (q + r.units) rs)
+      2 (2 * length rs) (unit_most * r.units) (unit_most * total rs)
       (segment-fits s entry t q r.units r.holder now.0) (pieces-fit s entry t (q + r.units) rs now.1))
 
-  -- so a span has few notes
+  -- the notes of a span are at most `span_most`
   span-fits : (x : Tick) (past : List Tick) (s : Span) → IsScheduleBy p dem ask (x ∷ past) → IsLastSpan p dem ask lim x past s
       → Fit p (span_notes p dem ask s) span_most (unit_most * length s.units)
   span-fits x past s h l =
@@ -153,7 +154,7 @@ module _ (p : Plan) (lim : IsWithinLimits p) (dem : ℕ → ℕ → ℕ) (needle
       one true = omega arith
       one false = omega arith
 
-  -- and the notes of some ticks have no more than so many for each
+  -- the notes of these ticks are at most `span_most` for each tick, with at most the energy of 1000000 units for each
   abbrev pub AllFit : List Tick → Type 0
   AllFit ticks = Fit p (notes_before_end p dem ask ticks) (span_most * length ticks) (unit_most * (1000000 * length ticks))
 
@@ -182,7 +183,7 @@ module _ (p : Plan) (lim : IsWithinLimits p) (dem : ℕ → ℕ → ℕ) (needle
       let (s, l) = last-span p dem ask lim x past h in
       next-fits x past s h l (ticks-fit n s.past (omega (arith, le, l.shorter)) l.earlier)
 
-  -- the last span has few notes
+  -- the notes of the last span are at most `span_most`
   pub last-fits : (x : Tick) (past : List Tick) (s : Span) (spans : List Span) → IsScheduleBy p dem ask (x ∷ past)
       → spans_of p dem (x ∷ past) ≡ s ∷ spans → length (span_notes p dem ask s) ≤ span_most
   last-fits x past s spans h is =

@@ -42,18 +42,18 @@ module _ (p : Plan) (dem : ℕ → ℕ → ℕ) (ask : List Tick → Frac) (lim 
   abbrev speed : Tick → ℕ
   speed x = (point p x.entry).speed
 
-  -- what the tasks are ordered by at the tick after `past`, and their order
+  -- the scheduler's key of a task at the tick after `past`
   abbrev key_at : List Tick → ℕ → ℕ
   key_at past = key_of p.scheduler p (length past)
 
   abbrev order_at : List Tick → List ℕ
   order_at past = in_order (key_at past) (count p)
 
-  -- the jobs at that tick
+  -- the latest job of task i at the tick after `past`
   abbrev job_at : List Tick → ℕ → ℕ
   job_at past i = latest p i (length past)
 
-  -- the units of a tick, one task after another
+  -- the units of the tick after `past`, one task after another
   abbrev laid_at : List Tick → Tick → List Holder
   laid_at past x = laid_out (share x) (job_at past) (speed x) (order_at past)
 
@@ -97,7 +97,7 @@ module _ (p : Plan) (dem : ℕ → ℕ → ℕ) (ask : List Tick → Frac) (lim 
           all-had : (n : ℕ) → dem i (latest p i (length past)) ≤ n → nat_le (dem i (latest p i (length past))) n ≡ true
           all-had n le = grind (arith, nat_tests)
 
-  -- the segments of a tick
+  -- the segments of a tick are at most one more than the jobs that complete in it
   tick-few : (past : List Tick) (x : Tick) → IsNext p dem ask past x
       → segments (units_of p past x) ≤ suc (sum_below (count p) (completed x past))
   tick-few past x next =
@@ -109,7 +109,7 @@ module _ (p : Plan) (dem : ℕ → ℕ → ℕ) (ask : List Tick → Frac) (lim 
         sum_below-le (count p) (served (left p dem past) (share x)) (completed x past) (served-completes past x next),
       )
 
-  -- who gets the first unit of the tick after `past`
+  -- the holder of the first unit of the tick after `past`
   abbrev pub first_at : List Tick → Holder
   first_at past = first_holder (left p dem past) (job_at past) (order_at past)
 
@@ -127,7 +127,7 @@ module _ (p : Plan) (dem : ℕ → ℕ → ℕ) (ask : List Tick → Frac) (lim 
       let zero : completed x past i ≡ 0 = ap (λ (b : Bool). if b then 1 else 0) none in
       omega (arith, served-completes past x next i lt, zero)
 
-  -- so one holder has all its units
+  -- where no decision follows a tick, one holder has all its units
   tick-alone : (past : List Tick) (x : Tick) → IsNext p dem ask past x → is_decision p dem (x ∷ past) ≡ false
       → units_of p past x ≡ replicate (speed x) (first_at past)
   tick-alone past x next e =
@@ -137,7 +137,7 @@ module _ (p : Plan) (dem : ℕ → ℕ → ℕ) (ask : List Tick → Frac) (lim 
       units-laid past x
       ∙ first-alone (left p dem past) (share x) (job_at past) (speed x) (order_at past) (turns past x next) none
 
-  -- who has the first unit of the next tick, too
+  -- where no decision follows a tick, the first unit of the next tick has the same holder
   first-stays : (past : List Tick) (x : Tick) → IsNext p dem ask past x → is_decision p dem (x ∷ past) ≡ false
       → first_at (x ∷ past) ≡ first_at past
   first-stays past x next e =
@@ -176,7 +176,7 @@ module _ (p : Plan) (dem : ℕ → ℕ → ℕ) (ask : List Tick → Frac) (lim 
           ap (λ n. nat_eq n 0) (left-stays p dem x past i (every_period p lim i) (needless i) (same-job i lt))
           ∙ part (left p dem past i) (share x i) (none-served past x next e i lt)
 
-  -- the segments of the span that has a tick as its last are few; where it goes on, it has one holder
+  -- the span that ends with tick x has few segments; where no decision follows, it has one holder
   pub record HasFew (x : Tick) (past : List Tick) (s : Span) : Type 0 where
     pub few : segments s.units ≤ suc (sum_below (count p) (completed x past))
     pub alone : is_decision p dem (x ∷ past) ≡ false → (n : ℕ) × (s.units ≡ replicate n (first_at (x ∷ past)))
@@ -188,7 +188,7 @@ module _ (p : Plan) (dem : ℕ → ℕ → ℕ) (ask : List Tick → Frac) (lim 
     alone = λ e. (speed x, tick-alone past x next e ∙ ap (replicate (speed x)) (sym (first-stays past x next e)));
   }
 
-  -- the last span of some spans
+  -- the last span of these spans has few segments
   abbrev pub LastHasFew : Tick → List Tick → List Span → Type 0
   LastHasFew x past [] = ⊥
   LastHasFew x past (s ∷ spans) = HasFew x past s

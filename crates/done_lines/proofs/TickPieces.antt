@@ -10,7 +10,7 @@ use Rattle.sched_model.specs.Segments.{same_holder, Piece, before_pieces, pieces
 use Rattle.sched_model.proofs.OrderLemmas.{sum_list, sum_list-snoc, AreBelow, below-from, in_order-below, sum_before-prefix}
 use Rattle.sched_model.proofs.PieceLemmas.{piece, same_holder-refl}
 
--- how many segments some units have
+-- how many segments the units have
 abbrev pub segments : List Holder → ℕ
 segments us = length (pieces_of us)
 
@@ -32,7 +32,7 @@ before-twice h (r ∷ rs) = go (same_holder h r.holder)
     go true = rw (same_holder-refl h) refl
     go false = rw (same_holder-refl h) refl
 
--- the units begin with this holder, where there are any
+-- the first unit, if there is one, has this holder
 abbrev pub Leads : Holder → List Holder → Type 0
 Leads h [] = Unit {0}
 Leads h (u ∷ us) = u ≡ h
@@ -49,7 +49,7 @@ leads-run : (h : Holder) (m : ℕ) (us : List Holder) → Leads h us → Leads h
 leads-run h zero us leads = leads
 leads-run h (suc m) us leads = refl
 
--- nor do many
+-- any number of units more, of the holder of the first, adds no segment
 pub run-leads : (h : Holder) (m n : ℕ) (us : List Holder) → Leads h us → segments us ≤ suc n
     → segments (replicate m h ++ us) ≤ suc n
 run-leads h zero n us leads few = few
@@ -64,7 +64,7 @@ run-most h (suc (suc m)) us =
     let fewer : segments (replicate (suc m) h ++ us) ≤ suc (segments us) = omega (arith, run-most h (suc m) us) in
     omega (arith, one-more h (segments us) (replicate (suc m) h ++ us) refl fewer)
 
--- the units of the tasks of a list, one after another, and then those that nobody takes
+-- the units of the tasks of a list, one task after another, and then the idle ones
 abbrev pub laid_out : (given job : ℕ → ℕ) → ℕ → List ℕ → List Holder
 laid_out given job room [] = replicate room Nobody
 laid_out given job room (i ∷ is) = replicate (given i) (Held i (job i)) ++ laid_out given job (room - given i) is
@@ -104,13 +104,13 @@ module _ (n : ℕ) (key : ℕ → ℕ) (room : ℕ) (need given : ℕ → ℕ) (
             (omega (arith, both, sum_list-snoc given before i, sum_list-snoc need before i))),
       )
 
-  -- so do all tasks in order, where the units are shared out by that order
+  -- where units are shared out by a key, all tasks in the order of the key take them in turn
   pub take-turns : TakeTurns need given room (in_order key n)
   take-turns =
       let all : room - 0 ≡ room = omega arith in
       subst (λ r. TakeTurns need given r (in_order key n)) all (turns-from [] (in_order key n) refl (omega arith))
 
--- 1 for a task that gets all it needs, which is something
+-- 1 for a task that gets all it needs, if it needs anything, else 0
 abbrev pub served : (need given : ℕ → ℕ) → ℕ → ℕ
 served need given i = if nat_lt 0 (need i) && nat_le (need i) (given i) then 1 else 0
 
@@ -126,7 +126,7 @@ served-some need given i room turn = go (cases_lt 0 (need i)) (cases_lt (given i
     go (inl some) (inl part) = omega arith
     go (inr none) whole = omega arith
 
--- the segments of the tasks' units
+-- the segments of the units are at most one more than the tasks that get all they need
 pub segments-most : (need given job : ℕ → ℕ) (room : ℕ) (is : List ℕ) → TakeTurns need given room is
     → segments (laid_out given job room is) ≤ min 1 room + sum_list (served need given) is
 segments-most need given job room [] turns =
@@ -141,12 +141,12 @@ segments-most need given job room (i ∷ is) turns =
       served-some need given i room turns.0,
     )
 
--- the first task of a list that needs something, and its job
+-- the holder for the first task of a list that needs something: its job, or nobody where no task needs any
 abbrev pub first_holder : (need job : ℕ → ℕ) → List ℕ → Holder
 first_holder need job [] = Nobody
 first_holder need job (i ∷ is) = if nat_eq (need i) 0 then first_holder need job is else Held i (job i)
 
--- without room nobody gets a unit
+-- without room there are no units
 none-laid : (need given job : ℕ → ℕ) (room : ℕ) (is : List ℕ) → room ≡ 0 → TakeTurns need given room is
     → laid_out given job room is ≡ []
 none-laid need given job room [] none turns = rw none refl
@@ -165,7 +165,7 @@ skips need given job room i is turns none =
       ap₂ (λ m r. replicate m (Held i (job i)) ++ laid_out given job r is) nothing all,
     )
 
--- the units begin with it
+-- the first unit is that of the first task that needs something
 pub first-leads : (need given job : ℕ → ℕ) (room : ℕ) (is : List ℕ) → TakeTurns need given room is
     → Leads (first_holder need job is) (laid_out given job room is)
 first-leads need given job room [] turns = nobody room
@@ -192,7 +192,7 @@ first-leads need given job room (i ∷ is) turns = go (nat_eq (need i) 0) refl (
             subst (Leads (Held i (job i))) (sym (none-laid need given job room (i ∷ is) none turns)) tt
         own (suc m) q some = rw q refl
 
--- where no task gets all it needs, the first one that needs something gets every unit
+-- where no task gets all it needs, the first task that needs something gets every unit
 pub first-alone : (need given job : ℕ → ℕ) (room : ℕ) (is : List ℕ) → TakeTurns need given room is
     → sum_list (served need given) is ≡ 0 → laid_out given job room is ≡ replicate room (first_holder need job is)
 first-alone need given job room [] turns none = refl

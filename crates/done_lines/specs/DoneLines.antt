@@ -1,4 +1,4 @@
--- Where the text of a run tells that a job is done.
+-- Where the text of a run has the line of a job's completion.
 use Rattle.std.specs.Prelude.{◌≡◌, ◌⊎◌, ℕ, ◌<◌, ◌≤◌, List, ◌∷◌, ◌++◌}
 use Rattle.std.specs.List.{All}
 use Rattle.dvs_base.specs.declared.kind.GovernorKind.{GovernorKind}
@@ -13,19 +13,19 @@ use Rattle.sched_model.specs.Deadlines.{IsMet}
 use Rattle.sched_model.specs.Jobs.{due}
 use Rattle.done_lines.specs.RunText.{run_text_in}
 
--- the line tells that job k of the task of this name was done at a position
+-- the line says that job k of the task of this name completes at the position
 abbrev pub IsDoneLine : List ℕ → ℕ → Pos → List ℕ → Type 0
 IsDoneLine name k at_end l = (used : ℕ) × (l ≡ line (done_fields at_end name k used))
 
--- none of the lines tells it
+-- none of the lines says that job k of the task of this name completes
 abbrev pub NoDoneLine : List ℕ → ℕ → List (List ℕ) → Type 0
 NoDoneLine name k = All (λ l. (at_end : Pos) → IsDoneLine name k at_end l → ⊥)
 
--- a position is not after the beginning of tick t
+-- the position is not after the beginning of tick t
 abbrev pub IsBy : ℕ → Pos → Type 0
 IsBy t at_end = (at_end.tick < t) ⊎ ((at_end.tick ≡ t) × (at_end.offset ≡ 0))
 
--- exactly one line of the text tells that the job was done, at a position not after the beginning of tick t
+-- exactly one line of the text says that job k of the task of this name completes, not after the beginning of tick t
 pub record IsToldBy (name : List ℕ) (k t : ℕ) (text : List ℕ) : Type 0 where
   pub before : List (List ℕ)
   pub told : List ℕ
@@ -37,12 +37,12 @@ pub record IsToldBy (name : List ℕ) (k t : ℕ) (text : List ℕ) : Type 0 whe
   pub none_before : NoDoneLine name k before
   pub none_after : NoDoneLine name k after
 
--- for each job that is due within so many ticks the text tells once that it was done, not after its deadline
+-- for each job that is due within `ticks` ticks, the text says once that it completes, not after its deadline
 abbrev pub TellsDeadlines : Plan → ℕ → List ℕ → Type 0
 TellsDeadlines p ticks text =
     (i k : ℕ) → i < count p → 1 ≤ k → due p i k ≤ ticks → IsToldBy (name_of (names p) i) k (due p i k) text
 
--- the text of each run that meets its deadlines, in either version, tells each of them
+-- the text of each run that meets its deadlines, in either version, says of each job that it completes by its deadline
 abbrev pub TextTellsDeadlines : Plan → Type 0
 TextTellsDeadlines p =
     (v : Version) (kind : GovernorKind) (dem : ℕ → ℕ → ℕ) (ticks : ℕ) → ticks ≤ MOST_TICKS

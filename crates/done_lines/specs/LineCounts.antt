@@ -1,4 +1,4 @@
--- How many decisions a run has, by its releases and completions.
+-- How many decisions a run has, compared with its releases and completions.
 use Rattle.std.specs.Prelude.{ℕ, ◌≡◌, ◌+◌, ◌*◌, ◌≤◌, List}
 use Rattle.dvs_base.specs.declared.note.Totals.{Totals}
 use Rattle.grid_fraction.specs.declared.Frac.{Frac}
@@ -8,14 +8,14 @@ use Rattle.sched_model.specs.Schedule.{IsScheduleBy}
 use Rattle.sched_model.specs.Notes.{notes_of}
 use Rattle.sched_model.specs.Totals.{totals_of}
 
--- at most one more decision than releases and completions, as at tick 0 without a release, and no more completions than
--- releases: so at most one more than two decisions a job
+-- at most one more decision than releases and completions together, such as at tick 0 without a release; no more
+-- completions than releases; and so at most one more decision than two for each release
 pub record AreFew (t : Totals) : Type 0 where
   pub decisions : t.decisions ≤ t.released + t.finished + 1
   pub completions : t.finished ≤ t.released
   pub two_each : t.decisions ≤ 2 * t.released + 1
 
--- so it is in every schedule of the plan, whatever the jobs need and whatever demand is published; job 0 needs nothing
+-- every schedule of the plan has few decisions, for any demands, with 0 for job 0, and any published demand
 abbrev pub HasFewDecisions : Plan → Type 0
 HasFewDecisions p =
     (dem : ℕ → ℕ → ℕ) → ((i : ℕ) → dem i 0 ≡ 0) → (ask : List Tick → Frac) (ticks : List Tick)

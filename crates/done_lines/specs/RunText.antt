@@ -14,8 +14,8 @@ abbrev pub task_texts : Plan → List (List ℕ)
 task_texts p =
     list_below (count p) (λ i. task_text (name_of (names p) i) (period p i) (offset p i) (task p i).worst)
 
--- The text of a run: the version, the plan, in version 2 the tasks, then the notes, and in version 2 each task's energy
--- before the last of them.
+-- the text of a run: the version, the plan, in version 2 the tasks, then the notes, and in version 2 each task's
+-- energy before the last of them
 abbrev pub run_text_in : Version → Plan → GovernorKind → (ℕ → ℕ → ℕ) → ℕ → List ℕ
 run_text_in v p g dem ticks =
     whole_text v p.scheduler g ticks (names p) (task_texts p) (run_notes p g dem ticks)

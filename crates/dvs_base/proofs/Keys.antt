@@ -14,7 +14,7 @@ use Rattle.dvs_base.specs.Settings.{lesser, is_known, unknown_key}
 abbrev Entry : Type 0
 Entry = String Global × Value
 
--- the key is less than this one, if there is one
+-- the key is less than the other, if there is one
 abbrev IsBelow : String Global → Option (List ℕ) → Type 0
 IsBelow key None = ⊤
 IsBelow key (Some other) = slice_cmp nat_cmp (string_bytes key) other ≡ Less

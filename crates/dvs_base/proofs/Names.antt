@@ -1,11 +1,11 @@
--- What a text that is a name keeps.
+-- The length and the bytes of a text that is a name.
 use Rattle.std.proofs.Common.{◌≡◌, ℕ, ◌≤◌, true, ◌&&◌, nat_le, List, length, arith}
 use Rattle.std.proofs.lemmas.Bool.{and_parts}
 use Rattle.std.proofs.lemmas.Bool.Decides.{nat_tests}
 use Rattle.std.specs.List.{list_all}
 use Rattle.dvs_base.specs.Text.{is_name, is_name_byte}
 
--- it has at most 32 bytes, each one that a name may have
+-- a name has at most 32 bytes, each one that a name may have
 pub name-parts : (name : List ℕ) → is_name name ≡ true → (length name ≤ 32) × (list_all is_name_byte name ≡ true)
 name-parts name e =
     let all = and_parts (nat_le 1 (length name) && nat_le (length name) 32) (list_all is_name_byte name) e in

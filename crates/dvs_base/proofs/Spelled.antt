@@ -43,7 +43,7 @@ is_spelled-decimal n fits = by (nat_lt 0 n) refl
     by true e = spelled-led (decimal n) (digits n fits) (leads n fits).0 ((leads n fits).1 (grind (arith, nat_tests)))
     by false e = let none : n ≡ 0 = grind (arith, nat_tests) in ap (λ m. is_spelled (decimal m)) none ∙ ap is_spelled (decimal_digit 0 (omega arith))
 
--- a number is read from its text
+-- reading the decimal text of a number gives the number
 pub number_below-decimal : (limit n : ℕ) → n < limit → n < 10 ^ 64 → number_below limit (decimal n) ≡ Some n
 number_below-decimal limit n below fits =
     let less : nat_lt n limit ≡ true = grind (arith, nat_tests) in
@@ -65,7 +65,7 @@ decimal-read_on m (c ∷ cs) above h fits =
     ∙ ap₂ (λ a b. decimal a ++ b ∷ []) front last in
     decimal-read_on next cs (omega arith) parts.1 fits ∙ (ap (λ ds. ds ++ cs) step ∙ append_assoc (decimal m) (c ∷ []) cs)
 
--- what is spelled is the text of its value
+-- a spelled text is the decimal text of its value
 pub decimal-spelled : (bs : List ℕ) → is_spelled bs ≡ true → read_on 0 bs < 10 ^ 64 → decimal (read_on 0 bs) ≡ bs
 decimal-spelled [] h fits = absurd (cc)
 decimal-spelled (c ∷ []) h fits =
@@ -86,7 +86,7 @@ number-found limit bs n true true e f h = let same : read_on 0 bs ≡ n = cc in 
 number-found limit bs n true false e f h = absurd (cc)
 number-found limit bs n false below e f h = absurd (cc)
 
--- what a number was read from is its text
+-- the text that a number was read from is its decimal text, and the number is below the limit
 pub number_below-found : (limit : ℕ) (bs : List ℕ) (n : ℕ) → limit ≤ 10 ^ 64 → number_below limit bs ≡ Some n → (bs ≡ decimal n) × (n < limit)
 number_below-found limit bs n wide h =
     let found = number-found limit bs n _ _ refl refl h in

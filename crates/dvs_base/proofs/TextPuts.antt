@@ -12,11 +12,11 @@ appends-none : (a : Option (List ℕ)) → Appends a a []
 appends-none None = tt
 appends-none (Some xs) = sym (append-nil xs)
 
--- the empty text
+-- writing the empty text changes nothing
 pub wrote-none : (a : SinkView) → Wrote a a []
 wrote-none a = record { bytes = appends-none a.written; steady = refl; surety = omega arith }
 
--- a text after another
+-- where two texts were written whole, one after the other, both together were written whole
 pub wrote-then : (a b c : SinkView) (t u : List ℕ) → Wrote a b t → Wrote b c u → Wrote a c (t ++ u)
 wrote-then a b c t u w x = record {
   bytes = Appends-trans a.written b.written c.written t u w.bytes x.bytes;
@@ -24,7 +24,7 @@ wrote-then a b c t u w x = record {
   surety = omega (arith, length-append t u, w.surety, x.surety);
 }
 
--- a text that was written whole, and then another in part
+-- where a text was written whole and the next in part, both together were written in part
 pub wrote-then-some : (a b c : SinkView) (t u : List ℕ) → Wrote a b t → WroteSome b c u → WroteSome a c (t ++ u)
 wrote-then-some a b c t u w x = record {
   part = (
@@ -37,7 +37,7 @@ wrote-then-some a b c t u w x = record {
   unsure = omega (arith, length-append t u, w.surety, x.unsure);
 }
 
--- a text of which a part was written is a part of a longer one
+-- where a text was written in part, so was any longer text that begins with it
 pub wrote-some-more : (a b : SinkView) (t u : List ℕ) → WroteSome a b t → WroteSome a b (t ++ u)
 wrote-some-more a b t u w = record {
   part = (
@@ -50,7 +50,7 @@ wrote-some-more a b t u w = record {
   unsure = omega (arith, length-append t u, w.unsure);
 }
 
--- a put of a piece that isn't empty
+-- a put of a piece that isn't empty writes it as a text
 pub put-text : {T E : Type 0} (a b : SinkView) (piece : List ℕ) (r : Result T E) → 0 < length piece → Puts a b piece r
     → WritesText a b piece r
 put-text a b piece (Ok v) some p = record { bytes = p.ok; steady = p.cause; surety = p.surety }

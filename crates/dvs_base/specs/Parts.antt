@@ -5,7 +5,7 @@ use Rattle.dvs_base.specs.declared.note.Pos.{Pos}
 use Rattle.dvs_base.specs.declared.part.Part.{Part}
 use Rattle.dvs_base.specs.declared.part.Part.TheVariants as part
 
--- the texts, one after another
+-- the texts, joined one after another
 abbrev pub joined : List (List ℕ) → List ℕ
 joined [] = []
 joined (text ∷ texts) = text ++ joined texts
@@ -18,7 +18,7 @@ position_text q = decimal q.tick ++ codes ":" ++ decimal q.offset
 abbrev pub fraction_text : ℕ → ℕ → List ℕ
 fraction_text num den = decimal num ++ codes "/" ++ decimal den
 
--- what a part says
+-- the text of a part
 abbrev pub part_text : Part → List ℕ
 part_text (part.Word bytes) = bytes.now
 part_text (part.Named name) = name.now
@@ -28,7 +28,7 @@ part_text (part.Wide n) = decimal n
 part_text (part.At pos) = position_text pos
 part_text (part.Ratio num den) = fraction_text num den
 
--- how many bytes it has at most
+-- how many bytes a part has at most
 abbrev pub most_bytes : Part → ℕ
 most_bytes (part.Word bytes) = length bytes.now
 most_bytes (part.Named name) = 32

@@ -9,7 +9,7 @@ use Rattle.toml.specs.Parse.{parse_document}
 use Rattle.dvs_base.specs.declared.settings.MemberFault.{MemberFault}
 use Rattle.dvs_base.specs.declared.settings.MemberFault.TheVariants as fault
 
--- the document that the bytes are, by TOML's grammar; bytes that are no UTF-8 are none
+-- the document that the bytes are, by TOML's grammar; bytes that are not UTF-8 have none
 abbrev pub document_of : List ℕ → Option Members
 document_of bytes = if is_utf8 bytes then parse_document bytes else None
 
@@ -18,32 +18,32 @@ abbrev pub lesser : List ℕ → Option (List ℕ) → List ℕ
 lesser key None = key
 lesser key (Some other) = if is_lt (slice_cmp nat_cmp key other) then key else other
 
--- the key is among these
+-- the key is among `keys`
 abbrev pub is_known : List (List ℕ) → List ℕ → Bool
 is_known keys key = list_any (λ k. bytes_eq k key) keys
 
--- the least key that is not known
+-- the least key of the table that is not among `keys`
 abbrev pub unknown_key : List (List ℕ) → Members → Option (List ℕ)
 unknown_key keys no_members = None
 unknown_key keys (member key value rest) = if is_known keys key then unknown_key keys rest else Some (lesser key (unknown_key keys rest))
 
--- a whole number within its limits
+-- the number, where it is whole and within its limits
 abbrev pub number_from : ℕ → ℕ → Option ℤ → Result ℕ MemberFault
 number_from low high None = Err fault.Kind
 number_from low high (Some (pos n)) = if nat_le low n && nat_le n high then Ok n else Err fault.Range
 number_from low high (Some (negsuc n)) = Err fault.Range
 
--- the whole number of a key, where there is one within its limits
+-- the whole number at a key, where it is within its limits
 abbrev pub number_at : ℕ → ℕ → Option Data → Result ℕ MemberFault
 number_at low high None = Err fault.Missing
 number_at low high (Some value) = number_from low high (as_integer value)
 
--- a text
+-- the text of a value, where it has one
 abbrev pub text_from : Option (List ℕ) → Result (List ℕ) MemberFault
 text_from None = Err fault.Kind
 text_from (Some text) = Ok text
 
--- the text of a key
+-- the text at a key
 abbrev pub text_at : Option Data → Result (List ℕ) MemberFault
 text_at None = Err fault.Missing
 text_at (Some value) = text_from (as_str value)

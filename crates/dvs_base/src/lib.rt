@@ -1,13 +1,13 @@
-//! Names, numbers and lines as text, what a run tells, and the traits of the outside.
+//! Names, numbers and lines as text, the notes of a run, and the traits of the outside.
 //!
-//! A [`Shelf`] gives files and a [`Sink`] takes bytes. Callers may rely on this of both: an answer `Failed` comes only where
-//! the count of faults rose in that call, the count never falls, and what is sure does not fail. `MemShelf` and `MemSink`
-//! stand for the outside in memory and say exactly what each call does, `VoidSink` keeps nothing, and `HostShelf` and
-//! `HostSink` are the edge to the system.
+//! A [`Shelf`] is where files are loaded from, and a [`Sink`] is where bytes are written to. Callers may rely on this
+//! of both: an answer `Failed` comes only where the count of faults rose in that call, the count never falls, and what
+//! is guaranteed (`sure`) does not fail. `MemShelf` and `MemSink` are an outside in memory and say exactly what each
+//! call does, `VoidSink` keeps nothing, and `HostShelf` and `HostSink` are the edge to the system.
 //! [`whole`], [`wide`], [`Name`] and [`Short`] read text exactly, and so do the calls that read the words of a plan,
 //! [`scheduler_of`], [`governor_of`] and [`ticks_of`]; [`Line`] and what fills it take no memory.
-//! [`read_document`] gives a settings file's TOML document, and the calls beside it what stands at its keys: each answer
-//! is that of `specs/Settings.antt`, and no other call of them takes memory.
+//! [`read_document`] gives a settings file's TOML document, and the calls beside it give the values of its keys: each
+//! answer is that of `specs/Settings.antt`, and no other call of them takes memory.
 #![tactic(auto)]
 
 mod host;

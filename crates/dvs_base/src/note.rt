@@ -1,4 +1,4 @@
-// What a kernel tells of a run.
+// The notes of a run, and its totals.
 
 /// A unit boundary: a tick, and a number of units below that tick's speed.
 #[derive(Clone, Copy, Debug, PartialEq, Eq)]
@@ -33,7 +33,7 @@ pub enum Note {
         units: u64,
         energy: u128,
     },
-    /// A segment in which nobody runs, with its units and its energy.
+    /// A segment in which no job runs, with its units and its energy.
     Idle {
         from: Pos,
         to: Pos,

@@ -35,14 +35,14 @@ pub fn governor_of(word: &[u8]) -> Option<GovernorKind>
     }
 }
 
-/// Whether the scheduler and the governor are one of the seven pairs: look-ahead stands under EDF alone.
+/// Whether the scheduler and the governor are one of the seven pairs: look-ahead is for EDF alone.
 pub fn is_pair(scheduler: Scheduler, governor: GovernorKind) -> bool
     ensures { result ≡ is_pair scheduler governor }
 {
     scheduler == Scheduler::Edf || governor != GovernorKind::Ahead
 }
 
-/// The number of ticks of a run that a word is, 1 to [`MOST_TICKS`]. None exactly for every other text.
+/// The number of ticks of a run that a word spells, 1 to [`MOST_TICKS`]. None exactly for every other text.
 pub fn ticks_of(word: &[u8]) -> Option<u64>
     ensures { result ≡ ticks_of word.now }
 {

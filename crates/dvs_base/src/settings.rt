@@ -18,18 +18,18 @@ use toml::{Table, Value};
 /// Why bytes give no document.
 #[derive(Clone, Copy, Debug, PartialEq, Eq)]
 pub enum DocumentFault {
-    /// They are no TOML document.
+    /// The bytes are not a TOML document.
     NotToml,
     /// Memory ran out, which says nothing of the bytes.
     NoMemory,
 }
 
-/// Why a key gives no value: nothing stands there, a value of another kind, or a number outside its limits.
+/// Why a key gives no value: it is absent, its value is of another kind, or its number is outside the limits.
 #[derive(Clone, Copy, Debug, PartialEq, Eq)]
 pub enum MemberFault {
     /// The table lacks the key.
     Missing,
-    /// A value of another kind stands there.
+    /// The value is of another kind.
     Kind,
     /// The number is outside its limits.
     Range,

@@ -1,8 +1,12 @@
 // Worked values, and each public call once.
 use super::*;
-use std::fs;
-use std::io::Cursor;
+use crate::host::read_up_to;
+use std::alloc::Global;
+use std::io::{Cursor, Read, Write};
+use std::process::Abort;
+use std::rt::Files;
 use std::test::Fail;
+use std::{fs, io};
 
 #[test]
 fn wide_numbers_end_at_128_bits(rt: HostRuntime) {
@@ -92,6 +96,159 @@ fn a_host_shelf_reads_files(rt: HostRuntime) -> Result<(), Fail> {
         shelf.load(alloc, "missing", 3).err(),
         Some(LoadFault::Failed)
     );
+    Ok(())
+}
+
+// The bytes of a file of this length: bytes that are as far apart as a piece of the reader is long differ.
+fn long_file(alloc: Global, length: u32) -> Result<Vec<u8>, Fail> {
+    let mut bytes = Vec::new(alloc);
+    for place in 0..length {
+        bytes.push((place % 251) as u8).map_err(|_| "memory")?;
+    }
+    Ok(bytes)
+}
+
+// A file of `length` bytes, loaded with this room, gives its first `given` bytes.
+fn loads_first_bytes(
+    rt: &(impl Abort + AllocGlobal + Files),
+    length: u32,
+    room: u32,
+    given: usize,
+) -> Result<(), Fail> {
+    let bytes = long_file(rt.alloc(), length)?;
+    fs::write(rt, "long", &bytes)?;
+    let mut shelf = HostShelf::new(rt);
+    let loaded = shelf
+        .load(rt.alloc(), "long", u64::from(room))
+        .map_err(|_| "long")?;
+    assert_eq!(rt; loaded.len(), given, "{length} bytes, room for {room}");
+    assert!(rt;
+        bytes.starts_with(&loaded),
+        "{length} bytes, room for {room}"
+    );
+    Ok(())
+}
+
+// The reader takes pieces of 4096 bytes. Files of one, two and three pieces, of `room` bytes, of one byte more and of
+// two more. Files that end a byte before or behind a piece, with room for more.
+#[test]
+fn a_host_shelf_reads_files_of_several_pieces(rt: HostRuntime) -> Result<(), Fail> {
+    for (length, room, given) in [
+        (4096, 4096, 4096),
+        (4097, 4096, 4097),
+        (4098, 4096, 4097),
+        (8192, 8192, 8192),
+        (8193, 8192, 8193),
+        (8194, 8192, 8193),
+        (12288, 12288, 12288),
+        (12289, 12288, 12289),
+        (12290, 12288, 12289),
+        (4095, 65536, 4095),
+        (4096, 4095, 4096),
+        (8191, 65536, 8191),
+        (8193, 65536, 8193),
+        (12289, 65536, 12289),
+    ] {
+        loads_first_bytes(&rt, length, room, given)?;
+    }
+    Ok(())
+}
+
+// Gives its text a byte a call, and an error in the place of the byte at `cut`.
+#[derive(Drop)]
+struct Trickle<'a> {
+    text: &'a [u8],
+    at: usize,
+    cut: Option<usize>,
+}
+
+impl<'a> Read for Trickle<'a> {
+    fn read(&mut self, buf: &mut [u8]) -> io::Result<usize> {
+        if self.cut == Some(self.at) {
+            return Err(io::Error::from(io::ErrorKind::BrokenPipe));
+        }
+        match (self.text.get(self.at), buf.first_mut()) {
+            (Some(byte), Some(place)) => {
+                *place = *byte;
+                self.at = self.at.saturating_add(1);
+                Ok(1)
+            }
+            _ => Ok(0),
+        }
+    }
+}
+
+fn trickling(text: &[u8], cut: Option<usize>) -> Trickle<'_> {
+    Trickle { text, at: 0, cut }
+}
+
+#[test]
+fn a_reader_that_gives_less_is_asked_again(rt: HostRuntime) -> Result<(), Fail> {
+    let alloc = rt.alloc();
+    for (most, want) in [
+        (4, b"1234".as_slice()),
+        (5, b"12345"),
+        (6, b"12345"),
+        (0, b""),
+    ] {
+        let read = read_up_to(alloc, &mut trickling(b"12345", None), most).map_err(|_| "read")?;
+        assert_eq!(rt; read.as_slice(), want, "at most {most}");
+    }
+    Ok(())
+}
+
+#[test]
+fn a_read_that_fails_in_mid_stream_fails_the_load(rt: HostRuntime) -> Result<(), Fail> {
+    let alloc = rt.alloc();
+    for most in [4, 5, 6] {
+        let failed = read_up_to(alloc, &mut trickling(b"12345", Some(3)), most);
+        assert_eq!(rt; failed.err(), Some(LoadFault::Failed), "at most {most}");
+    }
+    let read = read_up_to(alloc, &mut trickling(b"12345", Some(3)), 3).map_err(|_| "read")?;
+    assert_eq!(rt; read.as_slice(), b"123".as_slice());
+    Ok(())
+}
+
+// Takes at most three bytes a call and counts its flushes, of which the one of the number `bad` fails.
+#[derive(Drop)]
+struct Flushed<'a> {
+    taken: &'a mut Vec<u8>,
+    flushes: u64,
+    bad: u64,
+}
+
+impl<'a> Write for Flushed<'a> {
+    fn write(&mut self, buf: &[u8]) -> io::Result<usize> {
+        let most = buf.len().min(3);
+        self.taken.extend_from_slice(&buf[..most])?;
+        Ok(most)
+    }
+
+    fn flush(&mut self) -> io::Result<()> {
+        self.flushes = self.flushes.saturating_add(1);
+        if self.flushes == self.bad {
+            return Err(io::Error::from(io::ErrorKind::BrokenPipe));
+        }
+        Ok(())
+    }
+}
+
+// The put of the number `bad` fails, so each put flushes once, however many writes it takes, and a flush that fails is
+// no success.
+#[test]
+fn a_put_fails_with_its_flush(rt: HostRuntime) -> Result<(), Fail> {
+    for bad in [1, 2, 3] {
+        let mut taken = Vec::new(rt.alloc());
+        let mut sink = HostSink::new(Flushed {
+            taken: &mut taken,
+            flushes: 0,
+            bad,
+        });
+        assert_eq!(rt; sink.put(b"12345678").is_err(), bad == 1, "flush {bad}");
+        assert_eq!(rt; sink.put(b"90").is_err(), bad == 2, "flush {bad}");
+        assert_eq!(rt; sink.put(b"abcd").is_err(), bad == 3, "flush {bad}");
+        assert_eq!(rt; taken.as_slice(), b"1234567890abcd".as_slice());
+    }
     Ok(())
 }
 

@@ -1,7 +1,7 @@
 //! Admission under EDF: whether the highest speed does the work of every hyperperiod (Liu and Layland 1973; Pillai and
 //! Shin 2001, their static test at the ratio 1).
-//! Callers may rely on `Denied` exactly where the test fails, with the two numbers that show it, and on a plan in which
-//! the test is kept. The test itself takes no memory, so want of memory comes only where it passes.
+//! Callers may rely on `Denied` exactly where the test fails, with the two numbers that show it, and on a plan that
+//! passes the test. The test itself takes no memory, so `NoMemory` comes only where it passes.
 #![tactic(auto)]
 
 ghost use Rattle.std.specs.Prelude.{◌≡◌, IfOk, OnOk, IfErr};
@@ -16,16 +16,16 @@ use sched_model::{Admitted, total_rate};
 use std::alloc::Global;
 use task_model::TaskSet;
 
-/// Why tasks aren't admitted under EDF.
+/// Why a task set isn't admitted under EDF.
 #[derive(Clone, Copy, Debug, PartialEq, Eq)]
 pub enum EdfFault {
     /// The work of one hyperperiod, `num` work units, exceeds what the highest speed does in it, `cap` work units.
     Denied { num: u128, cap: u128 },
-    /// Memory ran out, which says nothing of the test.
+    /// Memory ran out. The test passed.
     NoMemory,
 }
 
-/// The plan of these tasks on this machine under EDF, where the sum of `Ci*(H/Pi)` is at most `fm*H`.
+/// The plan of `tasks` on `machine` under EDF. The sum of `Ci*(H/Pi)` is at most `fm*H`.
 /// `Denied` exactly where it is more.
 pub fn edf_admit(alloc: Global, tasks: &TaskSet, machine: &Machine) -> Result<Admitted, EdfFault>
     ensures plan { IfOk result (λ plan. plan ≡ plan_of tasks.now machine.now Edf) }

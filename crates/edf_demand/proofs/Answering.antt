@@ -59,7 +59,7 @@ none-meets m table d over =
         let fits = leb-true d.num (speed_at m e * d.den) is in
         absurd (omega (arith, over, fits, mul-le-mul_right d.den (below_highest m table e lt)))
 
--- a demand that is met is met by the highest speed
+-- a demand that some entry meets is met by the highest speed
 met-highest : (m : Table) → IsTable m → (d : Frac) → (lowest_pick m d).met ≡ true → d.num ≤ highest_speed m * d.den
 met-highest m table d met = elim (cases_lt (highest_speed m * d.den) d.num) [
   | inl over ↦ absurd (true≢false (sym met ∙ none-meets m table d over))

@@ -1,4 +1,4 @@
--- The next deadlines of the tasks in a queue: of one entry more, and of the first entry.
+-- The next deadlines of the tasks in a queue: with one more entry, and with the first entry put later.
 use Rattle.std.proofs.Common.{◌≡◌, ◌≢◌, ℕ, ◌+◌, ◌<◌, ◌≤◌, Bool, true, false, nat_eq, refl, sym, ap, subst, ◌∙◌, arith, if◌then◌else◌, List, [], ◌∷◌, Some, None, slice_get}
 use Rattle.std.specs.List.{AllByRecursion}
 use Rattle.std.proofs.lemmas.Bool.{eq-eqb, eqb-true, eqb-false}
@@ -24,7 +24,7 @@ swapped a b i u v w z ne e = go (nat_eq i b) refl (nat_eq i a) refl e
     go false is true same e = e
     go false is false same e = e
 
--- an entry of a task that is not in
+-- an entry of a task that wasn't in the list adds that task's deadline alone
 pub due_of-placed : (before : Entry → Entry → Bool) (e : Entry) (xs : List Entry) (i : ℕ) → IsAbsent e.task xs
     → due_of (placed before e xs) i ≡ (if nat_eq i e.task then e.due else due_of xs i)
 due_of-placed before e [] i a = refl
@@ -39,7 +39,7 @@ due_of-placed before e (x ∷ xs) i a = go (before e x) (due_of-placed before e 
 due-order : (e x : Entry) → due_before e x ≡ true → e.due ≤ x.due
 due-order e x b = grind (arith, nat_tests)
 
--- an entry that comes before others is due no later than they are
+-- where an entry comes before all others of a list, its deadline is at most theirs
 others-later : (e : Entry) (xs : List Entry) (i : ℕ)
     → AllByRecursion (λ x. x.task ≢ e.task → due_before e x ≡ true) xs → i ≢ e.task → 1 ≤ due_of xs i
     → e.due ≤ due_of xs i
@@ -95,14 +95,14 @@ module _ (q : QueueOf) (c : IsCalendar q) (e : Entry) (rest : List Entry) (is : 
           let later = others-later e rest i all.1 (eqb-false i e.task other) (omega (arith, c.each i lt, there)) in
           omega (arith, later, there)
 
-  -- it is due at the earliest of the next deadlines
+  -- the first entry is due at the earliest of the next deadlines
   pub first-earliest : e.due ≡ least_below q.limit (due_of q.entries)
   first-earliest =
       let low = least-below q.limit (due_of q.entries) e.task first-below in
       let high = least-above q.limit (due_of q.entries) e.due c.some first-least in
       omega (arith, low, high, first-due)
 
-  -- its task's next deadline is put a period later
+  -- the first entry's task is put back with its next deadline a period later
   module _ (every : ℕ) (after : QueueOf) (out : IsAbsent e.task rest) (kept : after.limit ≡ q.limit)
       (put : after.entries ≡ placed due_before (record { task = e.task; due = e.due + every; period = every }) rest) where
     due-put : (i : ℕ) → due_of after.entries i ≡ (if nat_eq i e.task then e.due + every else due_of rest i)
@@ -152,7 +152,7 @@ module _ (q : QueueOf) (c : IsCalendar q) (e : Entry) (rest : List Entry) (is : 
       work_is = work_is;
     }
 
--- putting the tasks in one after another
+-- a task with a number above those in the list is not in it
 pub next-absent : (m : ℕ) (xs : List Entry) → AllByRecursion (λ e. e.task < m) xs → IsAbsent m xs
 next-absent m [] a = tt
 next-absent m (x ∷ xs) a = (λ same. omega (arith, a.0, same), next-absent m xs a.1)
@@ -180,7 +180,7 @@ module _ (m due every : ℕ) (f : ℕ → ℕ) (xs ys : List Entry) (below : All
       go true same = here ∙ ap f (sym (eqb-true i m same))
       go false other = (let ne : i ≢ m = eqb-false i m other in before i (omega (arith, ne, lt)))
 
--- once all are in
+-- a queue with an entry for each task is a calendar
 pub all-in : (m n : ℕ) (f : ℕ → ℕ) (q : QueueOf) → 1 ≤ n → n ≤ m → m ≤ n → q.limit ≡ n
     → AllByRecursion (λ e. e.task < m) q.entries → ((i : ℕ) → i < m → due_of q.entries i ≡ f i)
     → ((i : ℕ) → i < n → 1 ≤ f i) → IsCalendar q

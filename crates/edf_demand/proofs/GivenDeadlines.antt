@@ -1,4 +1,4 @@
--- The deadlines that rows give, with the periods of the other tasks, are deadlines of the tasks.
+-- The deadlines that the rows give, with the periods of the other tasks, are within the limits.
 use Rattle.std.proofs.Common.{◌≡◌, ℕ, ◌<◌, ◌≤◌, List, length, Option, Some, None, refl, sym, ◌∙◌, subst, arith}
 use Rattle.std.proofs.lemmas.Option.{none-some}
 use Rattle.std.specs.Prelude.{unwrap_or}
@@ -8,7 +8,7 @@ use Rattle.sched_model.proofs.Tables.{length-list_below, get-table}
 use Rattle.edf_demand.specs.Deadlines.{AreFor}
 use Rattle.edf_demand.specs.DeadlineFile.{given_to, none_given, deadline_at, all_deadlines, AreGiven}
 
--- no row gives nothing
+-- where there is no row, no task has a given deadline
 none-at : (tasks : List Task) (i : ℕ) → i < length tasks → given_to (none_given tasks) i ≡ None
 none-at tasks i lt = get-table (length tasks) (λ k. None) i None lt
 

@@ -5,3 +5,4 @@ pub mod Taking
 pub mod NextDeadline
 pub mod Walking
 pub mod Answering
+pub mod Examples

@@ -1,4 +1,4 @@
--- Deadlines for tasks without offsets are constrained.
+-- Relative deadlines of tasks without offsets are constrained ones.
 use Rattle.std.proofs.Common.{ℕ, List, length, slice_index}
 use Rattle.dvs_base.specs.declared.kind.Scheduler.TheVariants.{Edf}
 use Rattle.task_model.specs.declared.task.Task.{Task}

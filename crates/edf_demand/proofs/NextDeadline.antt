@@ -1,4 +1,4 @@
--- Of one task: the count of due jobs up to its next absolute deadline, and at it.
+-- One task: the number of its jobs due before and at its next absolute deadline after a tick.
 use Rattle.std.proofs.Common.{◌≡◌, inl, inr, ℕ, zero, suc, ◌+◌, ◌*◌, ◌<◌, ◌≤◌, arith}
 use Rattle.std.proofs.Math.Nat.{mul-le-mul_right}
 use Rattle.std.proofs.lemmas.Bool.{cases_lt}
@@ -15,14 +15,14 @@ module _ (every within : ℕ) (some : 0 < every) where
     | inr most ↦ absurd (omega (arith, lt, mul-le-mul_right every most))
   ]
 
-  -- it lies beyond the tick up to which is counted
+  -- the next absolute deadline after tick t is later than t
   pub next-later : (t : ℕ) → t < within + count_by t * every
   next-later t = elim (cases_lt t (within + count_by t * every)) [
     | inl less ↦ less
     | inr most ↦ (let one = jobs_due-above every within t (count_by t) some most in absurd (omega (arith, one)))
   ]
 
-  -- at it, one job more is due
+  -- at the next absolute deadline one more job is due
   pub due-now : (t now : ℕ) → within + count_by t * every ≡ now → count_by now ≡ count_by t + 1
   due-now t now e =
       let m = count_by t in
@@ -31,7 +31,7 @@ module _ (every within : ℕ) (some : 0 < every) where
       jobs_due-most every within now (m + 1) (λ r le. products r (m + 1) (omega arith)) in
       omega (arith, up, down)
 
-  -- and before it none
+  -- before the next absolute deadline no more jobs are due
   pub due-later : (t now : ℕ) → t ≤ now → now < within + count_by t * every → count_by now ≡ count_by t
   due-later t now from lt =
       let m = count_by t in

@@ -1,4 +1,4 @@
--- Taking the jobs that are due at a tick, one after another.
+-- Taking the jobs that are due at a tick, one after the other.
 use Rattle.std.proofs.Common.{◌≡◌, ◌≢◌, ◌⊎◌, inl, inr, ℕ, ◌+◌, ◌*◌, ◌^◌, ◌<◌, ◌≤◌, Bool, true, false, nat_eq, if◌then◌else◌, refl, sym, ◌∙◌, ap, arith}
 use Rattle.std.proofs.lemmas.Bool.{eq-eqb, eqb-true}
 use Rattle.std.proofs.lemmas.Bool.Decides.{nat_tests}
@@ -10,11 +10,11 @@ use Rattle.sched_model.specs.Admission.{IsWithinLimits}
 use Rattle.sched_model.proofs.Limits.{some_task, every_period, low_worst}
 use Rattle.edf_demand.specs.Walk.{Moved, TakesFirst}
 
--- the work that is due at `now`, by the tasks' next deadlines
+-- the work of the tasks whose next deadline is `now`
 abbrev pub due_at : Plan → (ℕ → ℕ) → ℕ → ℕ
 due_at p next now = sum_where (count p) (λ i. nat_eq (next i) now) (worst p)
 
--- of the tasks that were due at `now` some have gone on by a period, and the others stay; their work is summed
+-- some of the tasks that were due at `now` have their next deadline a period later, and `work` is their work
 pub record Taken (p : Plan) (old next : ℕ → ℕ) (now work : ℕ) : Type 0 where
   pub past : (i : ℕ) → i < count p → now ≤ next i
   pub each : (i : ℕ) → i < count p → (next i ≡ old i) ⊎ ((old i ≡ now) × (next i ≡ now + period p i))
@@ -40,7 +40,7 @@ not-due : (a now : ℕ) → now < a → nat_eq a now ≡ false
 not-due a now later = grind (arith, nat_tests)
 
 module _ (p : Plan) (lim : IsWithinLimits p) where
-  -- the work that is due at one tick is low
+  -- the work that is due at one tick is at most 64 * 2^61
   pub low-due : (next : ℕ → ℕ) (now : ℕ) → due_at p next now ≤ 64 * 2 ^ 61
   low-due next now =
       omega (
@@ -78,7 +78,7 @@ module _ (p : Plan) (lim : IsWithinLimits p) where
             went-on (next i) (after i) now (worst p i) here there
         go i false other moves = stayed (next i) (after i) now (worst p i) moves
 
-    -- each job that is taken leaves less
+    -- taking a job leaves less work due at the tick
     pub falls : due_at p after now < due_at p next now
     falls = omega (arith, fewer, task-worst)
 
@@ -108,7 +108,7 @@ module _ (p : Plan) (lim : IsWithinLimits p) where
           | inr goes ↦ inr (goes.0, moves ∙ goes.1)
         ]
 
-  -- where the earliest of the next deadlines is another tick, all are taken
+  -- where the earliest of the next deadlines is another tick, all jobs due at `now` are taken
   module _ (old next : ℕ → ℕ) (now work : ℕ) (t : Taken p old next now work)
       (other : least_below (count p) next ≢ now) where
     all-later : (i : ℕ) → i < count p → now < next i

@@ -20,7 +20,7 @@ use Rattle.edf_demand.specs.Walk.{next_deadline, Moved}
 use Rattle.edf_demand.specs.Answers.{hyper_jobs}
 use Rattle.edf_demand.proofs.NextDeadline.{products, next-later, due-now, due-later}
 
--- of the absolute deadlines up to t, h(d)/d is greatest at the deadline best.den
+-- `best` is the greatest h(d)/d over the absolute deadlines d up to t, at the earliest d
 pub record IsBusiest (p : Plan) (relative : ℕ → ℕ) (t : ℕ) (best : Frac) : Type 0 where
   pub some : 1 ≤ best.den
   pub low : best.den ≤ 2 ^ 48
@@ -32,7 +32,8 @@ pub record IsBusiest (p : Plan) (relative : ℕ → ℕ) (t : ℕ) (best : Frac)
   pub least : (d : ℕ) → IsDeadline p relative d → d < best.den
       → processor_demand p relative d * best.den < best.num * d
 
--- the next deadlines of the tasks, the first of them, the work due before it, and where that was greatest
+-- the state of the walk: each task's next deadline, the earliest of them, the work due before it, and the greatest
+-- demand per tick so far
 pub record Walking (p : Plan) (relative : ℕ → ℕ) (next : ℕ → ℕ) (now work : ℕ) (best : Frac) : Type 0 where
   pub taken : ℕ
   pub nexts : (i : ℕ) → i < count p → next i ≡ next_deadline p relative taken i
@@ -42,7 +43,7 @@ pub record Walking (p : Plan) (relative : ℕ → ℕ) (next : ℕ → ℕ) (now
   pub within : taken ≤ hyper p
 
 module _ (p : Plan) (lim : IsWithinLimits p) (relative : ℕ → ℕ) (con : IsConstrained p relative) where
-  -- the jobs of task i that are due by d
+  -- the number of jobs of task i that are due by d
   abbrev due_by : ℕ → ℕ → ℕ
   due_by d i = jobs_due (period p i) (relative i) d
 
@@ -52,7 +53,7 @@ module _ (p : Plan) (lim : IsWithinLimits p) (relative : ℕ → ℕ) (con : IsC
   some-worst : (i : ℕ) → i < count p → 1 ≤ worst p i
   some-worst i lt = omega (arith, (lim.tasks.each i lt).some_worst)
 
-  -- the demand within a hyperperiod is low
+  -- the demand within a hyperperiod is at most 100000 * 2^61
   pub low-demand : hyper_jobs p.tasks ≤ MOST_JOBS → (d : ℕ) → d ≤ hyper p
       → processor_demand p relative d ≤ 100000 * 2 ^ 61
   low-demand few d le =
@@ -68,7 +69,7 @@ module _ (p : Plan) (lim : IsWithinLimits p) (relative : ℕ → ℕ) (con : IsC
       let each = sum_below-le (count p) (work_due p relative d) most task in
       omega (arith, each, sum_below-times (count p) (2 ^ 61) (λ i. hyper p / period p i))
 
-  -- some work is due at each absolute deadline
+  -- at each absolute deadline some work is due
   some-demand : (d : ℕ) → IsDeadline p relative d → 1 ≤ processor_demand p relative d
   some-demand d at = go at.job at.some at.is
     where
@@ -82,7 +83,7 @@ module _ (p : Plan) (lim : IsWithinLimits p) (relative : ℕ → ℕ) (con : IsC
           let term = sum_below-term (count p) (work_due p relative d) i at.below in
           omega (arith, term, mul-le-mul_right (worst p i) one, some-worst i at.below)
 
-  -- the first absolute deadline of the first task lies within the hyperperiod
+  -- the first absolute deadline of the first task is within the hyperperiod
   first-deadline : IsDeadline p relative (relative 0)
   first-deadline = record {
     task = 0;
@@ -114,7 +115,7 @@ module _ (p : Plan) (lim : IsWithinLimits p) (relative : ℕ → ℕ) (con : IsC
     least = λ d at lt. absurd (omega (arith, positive d at));
   }
 
-  -- before it, each task is at its first deadline, and nothing is due
+  -- at the start each task is at its first deadline, and no work is due before it
   pub walk-start : (next : ℕ → ℕ) → ((i : ℕ) → i < count p → next i ≡ relative i)
       → Walking p relative next (least_below (count p) next) 0 (record { num = 0; den = 1 })
   walk-start next same = record {
@@ -145,7 +146,7 @@ module _ (p : Plan) (lim : IsWithinLimits p) (relative : ℕ → ℕ) (con : IsC
         least-above (count p) next (w.taken + 1) (some_task p lim) each in
         omega (arith, above, w.now_is)
 
-    -- the tick is an absolute deadline, and there is none between the last one and it
+    -- the tick is an absolute deadline, and there is none between the last one and the tick
     now-deadline : IsDeadline p relative now
     now-deadline =
         let r = least-found (count p) next (some_task p lim) in
@@ -176,7 +177,7 @@ module _ (p : Plan) (lim : IsWithinLimits p) (relative : ℕ → ℕ) (con : IsC
               | inr from ↦ omega (arith, now-first i at.below, mul-le-mul_right (period p i) from, by)
             ]
 
-    -- by it, the jobs that are due at it are due too
+    -- each job that is due at the tick is one more of its task that is due by then
     due-is : (i : ℕ) → i < count p
         → due_by now i ≡ due_by w.taken i + (if nat_eq (next i) now then 1 else 0)
     due-is i lt = go (nat_eq (next i) now) refl
@@ -210,14 +211,14 @@ module _ (p : Plan) (lim : IsWithinLimits p) (relative : ℕ → ℕ) (con : IsC
         counted true m c = omega arith
         counted false m c = omega arith
 
-    -- the deadlines up to it are those before and it itself
+    -- the absolute deadlines up to the tick are the earlier ones and the tick
     up-to-now : (d : ℕ) → IsDeadline p relative d → d ≤ now → (d ≤ w.taken) ⊎ (d ≡ now)
     up-to-now d at le = elim (cases_lt w.taken d) [
       | inl later ↦ inr (omega (arith, none-between d at later))
       | inr before ↦ inl before
     ]
 
-    -- the demand at it isn't greater
+    -- where the demand at the tick isn't greater, the greatest so far stays
     busiest-kept : h now * best.den ≤ best.num * now → IsBusiest p relative now best
     busiest-kept low = record {
       some = w.busiest.some;
@@ -231,7 +232,7 @@ module _ (p : Plan) (lim : IsWithinLimits p) (relative : ℕ → ℕ) (con : IsC
       least = w.busiest.least;
     }
 
-    -- or it is greater than all before
+    -- where the demand at the tick is greater than the greatest so far, it is greater than each earlier one
     busier : (d : ℕ) → IsDeadline p relative d → d ≤ w.taken → best.num * now < h now * best.den → h d * now < h now * d
     busier d at le more = elim (cases_lt (h d * now) (h now * d)) [
       | inl less ↦ less
@@ -259,7 +260,7 @@ module _ (p : Plan) (lim : IsWithinLimits p) (relative : ℕ → ℕ) (con : IsC
       ];
     }
 
-    -- the walk goes on
+    -- with the jobs of the tick taken, the walk is at the next deadline
     pub walk-on : (after : ℕ → ℕ) (then-best : Frac) → now ≤ hyper p → Moved p next now after
         → IsBusiest p relative now then-best
         → Walking p relative after (least_below (count p) after) (h now) then-best
@@ -289,7 +290,7 @@ module _ (p : Plan) (lim : IsWithinLimits p) (relative : ℕ → ℕ) (con : IsC
             ap (λ (m : ℕ). m * period p i) none in
             omega (arith, w.nexts i lt, product)
 
-    -- each task's next deadline is later than the tick
+    -- the next deadline is later than the tick
     pub goes-on : (after : ℕ → ℕ) (then_now : ℕ) → Moved p next now after → then_now ≡ least_below (count p) after
         → now < then_now
     goes-on after then_now moved e =
@@ -310,7 +311,7 @@ module _ (p : Plan) (lim : IsWithinLimits p) (relative : ℕ → ℕ) (con : IsC
               | inr less ↦ omega (arith, less, w.nexts i lt)
             ]
 
-    -- a step of the walk, whether the demand at the tick is the greatest so far or not
+    -- a step of the walk, whether or not the demand at the tick is the greatest so far
     module _ (few : hyper_jobs p.tasks ≤ MOST_JOBS) (le : now ≤ hyper p) (after : ℕ → ℕ) (then_now sum den : ℕ)
         (moved : Moved p next now after) (then_is : then_now ≡ least_below (count p) after) (sum_is : sum ≡ h now)
         (den_is : den ≡ now) where
@@ -344,7 +345,7 @@ module _ (p : Plan) (lim : IsWithinLimits p) (relative : ℕ → ℕ) (con : IsC
           (subst (λ (n : ℕ). n * best.den ≤ best.num * den) sum_is under) in
           here-is best (busiest-kept under')
 
-    -- once it is beyond the hyperperiod, the demand is found
+    -- once the tick is beyond the hyperperiod, the constrained demand is found
     pub walk-ends : hyper p < now → IsConstrainedDemand p relative best
     walk-ends over =
         let reached : relative 0 ≤ w.taken = (elim (cases_lt w.taken (relative 0)) [

@@ -1,4 +1,4 @@
--- What the test of deadlines below periods answers.
+-- The answers of the test for deadlines up to the periods.
 use Rattle.std.specs.Prelude.{◌≡◌, ⊤, ℕ, ◌*◌, ◌/◌, ◌<◌, ◌≤◌, nat_lt, List, length, Option, Some, None, Result, Ok, Err, if◌then◌else◌}
 use Rattle.dvs_base.specs.declared.limits.TheConstants.{MOST_JOBS}
 use Rattle.grid_fraction.specs.Numbers.{sum_below}
@@ -15,27 +15,27 @@ use Rattle.edf_demand.specs.declared.lowest_speed.Constrained.{Constrained}
 use Rattle.edf_demand.specs.declared.lowest_speed.ConstrainFault.{ConstrainFault}
 use Rattle.edf_demand.specs.declared.lowest_speed.ConstrainFault.TheVariants.{Offset, TooManyJobs, Denied, NoMemory}
 
--- how many jobs a hyperperiod has
+-- the number of jobs in a hyperperiod
 abbrev pub hyper_jobs : List Task → ℕ
 hyper_jobs tasks = sum_below (length tasks) (λ i. hyper_of tasks / (task_at tasks i).period)
 
--- the test looks at the demand: no task has an offset, and a hyperperiod has no more jobs than are looked at
+-- the test looks at the demand: no task has an offset, and a hyperperiod has at most `MOST_JOBS` jobs
 pub record IsTested (p : Plan) : Type 0 where
   pub no_offset : NoneOffset (offset p) (count p)
   pub few : hyper_jobs p.tasks ≤ MOST_JOBS
 
--- no task has an offset, and a hyperperiod has so many jobs, more than are looked at
+-- no task has an offset, and a hyperperiod has `jobs` jobs, more than `MOST_JOBS`
 pub record IsTooLong (p : Plan) (jobs : ℕ) : Type 0 where
   pub no_offset : NoneOffset (offset p) (count p)
   pub jobs_are : jobs ≡ hyper_jobs p.tasks
   pub many : MOST_JOBS < jobs
 
--- at the entry every deadline is met, and at each lower one some is missed at worst
+-- the entry's speed meets every deadline, and each lower entry misses some at worst
 pub record IsLowestSpeed (p : Plan) (relative : ℕ → ℕ) (c : Constrained) : Type 0 where
   pub meets : MeetsAlways p relative (speed_at p.machine c.point)
   pub lower : (e : ℕ) → e < c.point → MissesAtWorst p relative e c.demand.den
 
--- the highest speed doesn't do the demand num at the tick `at`, and a deadline is missed there at worst
+-- the highest speed doesn't do the demand of `num` units by the tick `at`, and misses a deadline by then at worst
 pub record IsOverload (p : Plan) (relative : ℕ → ℕ) (at num cap : ℕ) : Type 0 where
   pub tested : IsTested p
   pub demand : IsConstrainedDemand p relative (record { num = num; den = at })
@@ -43,31 +43,31 @@ pub record IsOverload (p : Plan) (relative : ℕ → ℕ) (at num cap : ℕ) : T
   pub over : cap < num
   pub misses : MissesAtWorst p relative (last_entry p.machine) at
 
--- the cause of each refusal
+-- the cause of each denial
 abbrev pub IsConstrainDenial : Plan → (ℕ → ℕ) → ConstrainFault → Type 0
 IsConstrainDenial p relative (Offset task) = IsFirstOffset (offset p) (count p) task
 IsConstrainDenial p relative (TooManyJobs jobs) = IsTooLong p jobs
 IsConstrainDenial p relative (Denied at num cap) = IsOverload p relative at num cap
 IsConstrainDenial p relative NoMemory = IsTested p
 
--- the numbers of a refusal are such that they are its cause
+-- the numbers of a denial show its cause
 abbrev pub IsShownDenial : ConstrainFault → Type 0
 IsShownDenial (TooManyJobs jobs) = MOST_JOBS < jobs
 IsShownDenial (Denied at num cap) = cap < num
 IsShownDenial e = ⊤
 
--- the demand with the entry that was picked, where this meets it, and else the denial
+-- the demand with the entry picked, where this meets the demand, and otherwise the denial
 abbrev pub pick_answer : Plan → Frac → Pick → Result Constrained ConstrainFault
 pick_answer p demand pick =
     if pick.met
     then Ok (record { demand = demand; point = pick.index })
     else Err (Denied demand.den demand.num (top_speed p * demand.den))
 
--- the constrained demand with the lowest entry that meets it
+-- the constrained demand with the lowest entry that meets it, or the denial where none does
 abbrev pub demand_answer : Plan → Frac → Result Constrained ConstrainFault
 demand_answer p demand = pick_answer p demand (lowest_pick p.machine demand)
 
--- the answer, by the first task with an offset
+-- the answer of the test, from the first task with an offset, if any
 abbrev pub answer_from : Plan → (ℕ → ℕ) → Option ℕ → Result Constrained ConstrainFault
 answer_from p relative (Some i) = Err (Offset i)
 answer_from p relative None =
@@ -75,7 +75,7 @@ answer_from p relative None =
     then Err (TooManyJobs (hyper_jobs p.tasks))
     else demand_answer p (constrained_demand p relative)
 
--- What the test answers: the first task in file order with an offset; where none has one, that a hyperperiod has too many
--- jobs; and else the constrained demand with the lowest entry that meets it, or that none does.
+-- The answer of the test: the first task in file order with an offset; where none has one, that a hyperperiod has too
+-- many jobs; and otherwise the constrained demand with the lowest entry that meets it, or that none does.
 abbrev pub constrain_answer : Plan → (ℕ → ℕ) → Result Constrained ConstrainFault
 constrain_answer p relative = answer_from p relative (first_offset (offset p) (count p))

@@ -1,4 +1,4 @@
--- What a deadline file means: the relative deadline of each task, or the first refusal.
+-- The meaning of a deadline file: the relative deadline of each task, or the first refusal.
 use Rattle.std.specs.Prelude.{◌≡◌, ℕ, ◌+◌, ◌<◌, ◌≤◌, ◌==◌, ◌||◌, nat_lt, List, [], ◌∷◌, length, codes, slice_set, Option, Some, None, ok_or, unwrap_or, Result, Ok, Err, if◌then◌else◌}
 use Rattle.std.specs.List.{slice_index_or}
 use Rattle.dvs_base.specs.Widths.{u64_end}
@@ -13,11 +13,11 @@ use Rattle.task_model.specs.TaskFile.{place_of}
 use Rattle.edf_demand.specs.declared.fault.DeadlineFault.{DeadlineFault}
 use Rattle.edf_demand.specs.declared.fault.DeadlineFault.TheVariants as fault
 
--- the check against the period
+-- the deadline n of a row, from 1 to the period, or the refusal
 abbrev pub deadline_from : ℕ → ℕ → ℕ → Result ℕ DeadlineFault
 deadline_from row period n = if n == 0 || nat_lt period n then Err (fault.Range row) else Ok n
 
--- a row read alone: the task and its deadline; each step that gives nothing is a refusal
+-- the task and the deadline of a row; each step that gives nothing is a refusal
 abbrev pub row_of : List Task → ℕ → List (List ℕ) → Result (ℕ × ℕ) DeadlineFault
 row_of tasks row fields =
     and_then (ok_or (two_of fields) (fault.Fields row (length fields))) (λ two.
@@ -26,36 +26,36 @@ row_of tasks row fields =
     and_then (deadline_from row (task_at tasks task).period number) (λ deadline.
     Ok (task, deadline)))))
 
--- the deadline that a row so far gives a task
+-- the deadline that the rows so far give task i, if any
 abbrev pub given_to : List (Option ℕ) → ℕ → Option ℕ
 given_to given i = slice_index_or given i None
 
--- the check for an earlier row of the task
+-- the refusal of a row whose task has an earlier row, and otherwise `rest`
 abbrev pub no_earlier : ℕ → ℕ → Option ℕ → Result (List (Option ℕ)) DeadlineFault
     → Result (List (Option ℕ)) DeadlineFault
 no_earlier row task None rest = rest
 no_earlier row task (Some deadline) rest = Err (fault.Repeated row task)
 
--- one more row, after that check
+-- the deadlines with one more row, or the refusal of a second row of its task
 abbrev pub with_row : List (Option ℕ) → ℕ → ℕ → ℕ → Result (List (Option ℕ)) DeadlineFault
 with_row given row task deadline = no_earlier row task (given_to given task) (Ok (slice_set given task (Some deadline)))
 
--- what the rows so far give, and then the rows from this number on
+-- the deadlines of the rows so far with those of the remaining rows, the first of which has the number `row`
 abbrev pub given_from : List Task → ℕ → List (Option ℕ) → List (List (List ℕ)) → Result (List (Option ℕ)) DeadlineFault
 given_from tasks row given [] = Ok given
 given_from tasks row given (fields ∷ rest) =
     and_then (row_of tasks row fields) (λ r.
     and_then (with_row given row r.0 r.1) (λ more. given_from tasks (row + 1) more rest))
 
--- no row yet
+-- the deadlines before the first row: none
 abbrev pub none_given : List Task → List (Option ℕ)
 none_given tasks = list_below (length tasks) (λ i. None)
 
--- the deadline of a task: its row's, and its period where it has no row
+-- the deadline of task i: its row's, or its period where it has no row
 abbrev pub deadline_at : List Task → List (Option ℕ) → ℕ → ℕ
 deadline_at tasks given i = unwrap_or (given_to given i) (task_at tasks i).period
 
--- those of all tasks, in their order
+-- the deadlines of all tasks, in their order
 abbrev pub all_deadlines : List Task → List (Option ℕ) → List ℕ
 all_deadlines tasks given = list_below (length tasks) (deadline_at tasks given)
 
@@ -63,16 +63,16 @@ all_deadlines tasks given = list_below (length tasks) (deadline_at tasks given)
 abbrev pub header : List (List ℕ)
 header = codes "task" ∷ codes "deadline" ∷ []
 
--- what the rows of a file give: after the header, counted from 1
+-- the deadlines that the rows of a file give, counted from 1 after the header
 abbrev pub given_in : List Task → List ℕ → Result (List (Option ℕ)) DeadlineFault
 given_in tasks bytes =
     and_then (ok_or (text_rows header bytes) fault.Header) (given_from tasks 1 (none_given tasks))
 
--- what the bytes of a deadline file mean for these tasks
+-- the meaning of a deadline file for these tasks
 abbrev pub deadline_file : List Task → List ℕ → Result (List ℕ) DeadlineFault
 deadline_file tasks bytes = and_then (given_in tasks bytes) (λ given. Ok (all_deadlines tasks given))
 
--- one place for each task, and each deadline there from 1 to the task's period
+-- one place for each task, and each given deadline from 1 to the task's period
 pub record AreGiven (tasks : List Task) (given : List (Option ℕ)) : Type 0 where
   pub one_each : length given ≡ length tasks
   pub some : (i n : ℕ) → i < length tasks → given_to given i ≡ Some n → 1 ≤ n

@@ -26,7 +26,7 @@ impl Deadlines {
         self.ticks[task as usize]
     }
 
-    // The deadlines, in the tasks' order.
+    // The relative deadlines in ticks, in the tasks' order.
     pub(crate) fn ticks(&self) -> &[u64]
         ensures { result.now ≡ self.now }
     {

@@ -1,10 +1,10 @@
-// Why a deadline file is refused.
+// The refusals of a deadline file.
 ghost use Rattle.std.specs.Prelude.{◌≡◌};
 ghost use Rattle.edf_demand.specs.declared.fault.DeadlineFault.TheVariants as fault;
 
 use dvs_base::{NoMemory, Short};
 
-/// The first thing that a deadline file has wrong. Rows count from 1, tasks from 0.
+/// The first error of a deadline file. Rows count from 1, tasks from 0.
 #[derive(Clone, Copy, Debug, PartialEq, Eq)]
 pub enum DeadlineFault {
     /// There is no record, or the first one isn't `task`, `deadline`.

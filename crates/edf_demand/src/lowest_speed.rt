@@ -1,4 +1,4 @@
-// The test, and its answers.
+// The test for deadlines up to the periods, and its answers.
 ghost use Rattle.std.specs.Prelude.{◌≡◌, ◌≤◌, true, IfOk, OnOk, IfErr, slice_index};
 ghost use Rattle.dvs_base.specs.declared.kind.Scheduler.TheVariants.{Edf};
 ghost use Rattle.freq_table.specs.Tables.{lowest_pick};
@@ -16,7 +16,7 @@ use grid_fraction::Frac;
 use std::alloc::Global;
 use task_model::TaskSet;
 
-/// The demand that decides, in work units per tick and not reduced, and the lowest entry of the machine that meets it.
+/// The constrained demand, in work units per tick, not reduced, and the lowest entry that meets it, counted from 0.
 #[derive(Clone, Copy, Debug, PartialEq, Eq)]
 pub struct Constrained {
     pub demand: Frac,
@@ -26,22 +26,22 @@ pub struct Constrained {
 /// Why no speed is found.
 #[derive(Clone, Copy, Debug, PartialEq, Eq)]
 pub enum ConstrainFault {
-    /// `task` is first released after tick 0; it is the first such in file order. Tasks count from 0.
+    /// `task` is first released after tick 0. It is the first such task in file order; tasks count from 0.
     Offset { task: u32 },
     /// No task has an offset, and a hyperperiod has `count` jobs, more than 100000.
     TooManyJobs { count: u64 },
-    /// Neither of these, and the work due within `at` ticks, `num` work units, exceeds what the highest speed does in
-    /// them, `cap` work units.
+    /// There is neither an offset nor too many jobs, and the work due within `at` ticks, `num` work units, exceeds
+    /// what the highest speed does in them, `cap` work units.
     Denied { at: u64, num: u128, cap: u128 },
-    /// Memory ran out. No task has an offset, a hyperperiod has at most 100000 jobs, and nothing is said of the test.
+    /// Memory ran out. No task has an offset, a hyperperiod has at most 100000 jobs, and the demand is not known.
     NoMemory,
 }
 
 /// The lowest speed at which tasks with these deadlines meet them all under EDF: the lowest that meets the greatest
 /// processor demand per tick, over the absolute deadlines of one hyperperiod; of equal ones the earliest (Baruah,
-/// Rosier and Howell 1990). `Offset` exactly where a task is first released after tick 0; else `TooManyJobs` exactly
-/// where a hyperperiod has more than 100000 jobs; and else, unless memory ran out, `Denied` exactly where no entry
-/// meets the demand.
+/// Rosier and Howell 1990). `Offset` exactly where a task is first released after tick 0; otherwise `TooManyJobs`
+/// exactly where a hyperperiod has more than 100000 jobs; and otherwise, unless memory runs out, `Denied` exactly
+/// where no entry meets the demand.
 pub fn constrain(
     alloc: Global,
     tasks: &TaskSet,

@@ -14,7 +14,7 @@ use dvs_base::{NoMemory, Short, whole};
 use std::alloc::Global;
 use task_model::TaskSet;
 
-// A row read alone: its task and its deadline.
+// The task and the deadline of a row, or the first refusal of the row.
 fn read_row(tasks: &TaskSet, row: u64, fields: &ByteRecord) -> Result<(u32, u64), DeadlineFault>
     ensures row { result ≡ row_of tasks.now row (fields_of fields.now) }
     ensures task { IfOk result (λ r. r.0 < length tasks.now) }
@@ -34,7 +34,7 @@ fn read_row(tasks: &TaskSet, row: u64, fields: &ByteRecord) -> Result<(u32, u64)
     Ok((task, deadline))
 }
 
-// Adds a row, after the check for an earlier one of the task.
+// Adds the deadline of a row, or refuses it where its task has an earlier row.
 fn add_row(
     given: &mut [Option<u64>],
     tasks: &TaskSet,
@@ -56,7 +56,7 @@ fn add_row(
     Ok(())
 }
 
-// A place for each task, with no deadline yet.
+// A place for each task, without a deadline.
 fn none_given(alloc: Global, tasks: &TaskSet) -> Result<Vec<Option<u64>>, NoMemory>
     ensures none { IfOk result (λ v. v.items ≡ none_given tasks.now) }
     ensures given { IfOk result (λ v. AreGiven tasks.now v.items) }
@@ -70,7 +70,7 @@ fn none_given(alloc: Global, tasks: &TaskSet) -> Result<Vec<Option<u64>>, NoMemo
     Ok(given)
 }
 
-// The rows after the header, counted from 1.
+// Reads the rows after the header, counted from 1, and adds their deadlines to `given`.
 fn read_rows(
     reader: &mut Reader<&[u8]>,
     fields: &mut ByteRecord,
@@ -93,7 +93,7 @@ fn read_rows(
     Ok(given)
 }
 
-// What the rows of a file give.
+// The deadlines that the rows of a file give.
 fn read_given(
     alloc: Global,
     bytes: &[u8],
@@ -109,7 +109,7 @@ fn read_given(
     read_rows(&mut reader, &mut fields, tasks, given)
 }
 
-// The deadline of each task: its row's, else its period.
+// The deadline of each task: its row's, or its period where it has no row.
 fn all_deadlines(
     alloc: Global,
     tasks: &TaskSet,
@@ -131,8 +131,8 @@ fn all_deadlines(
 }
 
 impl Deadlines {
-    /// The deadlines of a file, in ticks; a task without a row has its period. The first refusal comes: the header, and
-    /// then row by row the number of fields, the task, the number, its range, and an earlier row of the task.
+    /// The deadlines of a file, in ticks; a task without a row has its period. The error is the first refusal: the
+    /// header, then row by row the number of fields, the task, the number, its range, and an earlier row of the task.
     pub fn read(alloc: Global, bytes: &[u8], tasks: &TaskSet) -> Result<Deadlines, DeadlineFault>
         ensures file { IsUnlessMemory DeadlineFault.NoMemory (λ d. d) result (deadline_file tasks.now bytes.now) }
         ensures for_tasks { IfOk result (AreFor tasks.now) }

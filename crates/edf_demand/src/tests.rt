@@ -1,5 +1,5 @@
-// Deadline files, and the lowest speed for deadlines below periods: of the tasks a (period 4, worst case 2) and b
-// (period 6, worst case 3) where nothing else is said.
+// Deadline files, and the lowest speed for deadlines up to the periods. Unless a case says otherwise, the tasks are a
+// (period 4, worst case 2) and b (period 6, worst case 3).
 use super::*;
 use freq_table::Machine;
 use grid_fraction::Frac;
@@ -14,7 +14,7 @@ const TWO_SPEEDS: &str = "point = [{speed = 1, millivolts = 1000}, {speed = 2, m
 
 const ONE_SPEED: &str = "point = [{speed = 1, millivolts = 1000}]";
 
-// The answer for tasks on a machine with the deadlines of a file.
+// The answer for a task file on a machine with a deadline file.
 fn answer(
     alloc: Global,
     tasks: &str,
@@ -57,7 +57,7 @@ fn the_greatest_demand_decides(rt: HostRuntime) -> Result<(), Fail> {
 
 #[test]
 fn of_equal_demands_the_earliest_is_named(rt: HostRuntime) -> Result<(), Fail> {
-    // one unit by tick 1, and two by tick 2
+    // one unit is due by tick 1, and two by tick 2
     let tasks =
         r#"task = [{name = "a", period = 4, worst = 1}, {name = "b", period = 4, worst = 1}]"#;
     assert_eq!(rt;

@@ -1,4 +1,4 @@
-// The walk over the absolute deadlines of one hyperperiod. The tasks stand in a queue by their next ones.
+// The walk over the absolute deadlines of one hyperperiod. The tasks are in a queue by their next absolute deadlines.
 ghost use Rattle.std.specs.Prelude.{ℕ, ◌≡◌, ◌+◌, ◌*◌, ◌<◌, ◌≤◌, ◌^◌, length, slice_index, nat_eq, IfOk};
 ghost use Rattle.dvs_base.specs.declared.kind.Scheduler.TheVariants.{Edf};
 ghost use Rattle.grid_fraction.specs.Numbers.{least_below, sum_where};
@@ -17,7 +17,7 @@ use ready_queue::{ByDue, Entry, Queue};
 use std::alloc::Global;
 use task_model::TaskSet;
 
-// How many jobs are released in one hyperperiod.
+// The number of jobs in one hyperperiod.
 pub(crate) fn hyper_jobs(tasks: &TaskSet) -> u64
     ensures { result ≡ hyper_jobs tasks.now }
 {
@@ -28,7 +28,7 @@ pub(crate) fn hyper_jobs(tasks: &TaskSet) -> u64
     jobs
 }
 
-// The worst case of a task with the charge.
+// The worst case of a task with the charge for two switches of speed, in work units.
 fn worst(tasks: &TaskSet, machine: &Machine, task: u32) -> u64
     requires { task < length tasks.now }
     ensures value { result ≡ worst (plan_of tasks.now machine.now Edf) task }
@@ -37,7 +37,7 @@ fn worst(tasks: &TaskSet, machine: &Machine, task: u32) -> u64
     tasks.task(task).worst + 2 * machine.charge()
 }
 
-// The tasks by their first absolute deadlines, the relative ones.
+// A queue of the tasks by their first absolute deadlines, which are the relative ones.
 fn first_deadlines(
     alloc: Global,
     tasks: &TaskSet,
@@ -61,7 +61,7 @@ fn first_deadlines(
     Ok(next)
 }
 
-// The earliest of the tasks' next deadlines.
+// The earliest of the tasks' next deadlines, in ticks.
 fn earliest(next: &Queue<ByDue>) -> u64
     requires { IsCalendar next.now }
     ensures { result ≡ least_below next.now.limit (due_of next.now.entries) }
@@ -72,7 +72,7 @@ fn earliest(next: &Queue<ByDue>) -> u64
     }
 }
 
-// Takes the first job: its task's next deadline is a period later. Its work is returned.
+// Takes the first job: its task's next deadline is a period later. Returns its work in work units.
 fn take_first(next: &mut Queue<ByDue>, tasks: &TaskSet, machine: &Machine) -> u64
     requires one_each { next.old.limit ≡ length tasks.now }
     requires calendar { IsCalendar next.old }
@@ -96,7 +96,8 @@ fn take_first(next: &mut Queue<ByDue>, tasks: &TaskSet, machine: &Machine) -> u6
     }
 }
 
-// Takes the jobs that are due at `now`: each such task's next deadline is a period later. Their work is returned.
+// Takes the jobs that are due at `now`: the next deadline of each of their tasks is a period later.
+// Returns their work in work units.
 fn take_due(next: &mut Queue<ByDue>, tasks: &TaskSet, machine: &Machine, now: u64) -> u128
     requires one_each { next.old.limit ≡ length tasks.now }
     requires calendar { IsCalendar next.old }
@@ -117,7 +118,7 @@ fn take_due(next: &mut Queue<ByDue>, tasks: &TaskSet, machine: &Machine, now: u6
     work
 }
 
-// The constrained demand of these deadlines in work units per tick, not reduced. It fails only where memory runs out.
+// The constrained demand of these deadlines in work units per tick, not reduced. The only error is `NoMemory`.
 pub(crate) fn constrained_demand(
     alloc: Global,
     tasks: &TaskSet,

@@ -14,13 +14,13 @@ use Rattle.edf_demand_laws.specs.Constrained.{IsConstrained, absolute}
 use Rattle.edf_demand_laws.specs.ProcessorDemand.{jobs_due, work_due, processor_demand, IsDeadline, IsConstrainedDemand}
 use Rattle.edf_demand_laws.proofs.Counting.{jobs_due-above, jobs_due-below, jobs_due-most}
 
--- job q + 1 is due so long after tick 0
+-- the absolute deadline of job q + 1 is its task's relative deadline and q periods
 pub absolute-suc : (p : Plan) (relative : ℕ → ℕ) (i q : ℕ) → offset p i ≡ 0
     → absolute p relative i (suc q) ≡ relative i + q * period p i
 unfolding release
 absolute-suc p relative i q first = let e : suc q - 1 ≡ q = omega arith in rw e (omega (arith, first))
 
--- a hyperperiod later, a task has so many jobs more
+-- q periods later, a task has at most q more jobs due
 more_jobs : (every within d q : ℕ) → 0 < every → jobs_due every within (d + q * every) ≤ jobs_due every within d + q
 more_jobs every within d q some =
     jobs_due-most every within (d + q * every) (jobs_due every within d + q) (λ r le.
@@ -33,12 +33,12 @@ more_jobs every within d q some =
           omega (arith, jobs_due-above every within d (r - q) some (omega arith))
     ])
 
--- in a hyperperiod, a task has all its jobs
+-- in q periods, a task has at least q jobs due
 hyper_jobs : (every within q : ℕ) → 0 < every → within ≤ every → q ≤ jobs_due every within (q * every)
 hyper_jobs every within zero some le = omega arith
 hyper_jobs every within (suc q) some le = jobs_due-above every within (suc q * every) q some (omega arith)
 
--- by the next tick, a task has no job more, or its job's absolute deadline is that tick
+-- at the next tick a task has no more jobs due, or one of its jobs has that tick as its absolute deadline
 next_job : (every within d : ℕ) → 0 < every
     → ((q : ℕ) × (within + q * every ≡ suc d)) ⊎ (jobs_due every within (suc d) ≤ jobs_due every within d)
 next_job every within d some = go (jobs_due every within (suc d)) (jobs_due-below every within (suc d))
@@ -52,15 +52,15 @@ next_job every within d some = go (jobs_due every within (suc d)) (jobs_due-belo
     ]
 
 module _ (p : Plan) (lim : IsWithinLimits p) (relative : ℕ → ℕ) (con : IsConstrained p relative) where
-  -- the jobs of task i that are due by d
+  -- the number of jobs of task i that are due by d
   abbrev due_by : ℕ → ℕ → ℕ
   due_by d i = jobs_due (period p i) (relative i) d
 
-  -- and their work
+  -- the work of the jobs of task i that are due by d
   abbrev work_by : ℕ → ℕ → ℕ
   work_by d i = work_due p relative d i
 
-  -- the work of a hyperperiod is due within it
+  -- the processor demand of a hyperperiod is at least the work of a hyperperiod
   pub hyper-demand : total_rate p ≤ processor_demand p relative (hyper p)
   hyper-demand =
       sum_below-le (count p) (rate p) (work_by (hyper p)) (λ i lt.
@@ -70,7 +70,7 @@ module _ (p : Plan) (lim : IsWithinLimits p) (relative : ℕ → ℕ) (con : IsC
       subst (λ (m : ℕ). q ≤ due_by m i) whole (hyper_jobs (period p i) (relative i) q (every_period p lim i) (con.within i lt)) in
       omega (arith, mul-le-mul_right (worst p i) all))
 
-  -- and a hyperperiod adds no more than that
+  -- a hyperperiod more adds at most its work to the processor demand
   pub later-demand : (d : ℕ) → processor_demand p relative (d + hyper p) ≤ processor_demand p relative d + total_rate p
   later-demand d =
       let n = count p in
@@ -85,7 +85,7 @@ module _ (p : Plan) (lim : IsWithinLimits p) (relative : ℕ → ℕ) (con : IsC
       subst (λ (m : ℕ). sum_below n (work_by (d + hyper p)) ≤ m) (sum_below-add n (work_by d) (rate p))
       (sum_below-le n (work_by (d + hyper p)) (λ i. work_by d i + rate p i) more)
 
-  -- nothing is due by tick 0
+  -- no work is due by tick 0
   pub none-demand : processor_demand p relative 0 ≡ 0
   none-demand =
       sum_below-zero (count p) (work_by 0) (λ i lt.
@@ -94,7 +94,7 @@ module _ (p : Plan) (lim : IsWithinLimits p) (relative : ℕ → ℕ) (con : IsC
       let z : due_by 0 i ≡ 0 = omega arith in
       rw z (omega arith))
 
-  -- the demand stays from tick to tick, but at absolute deadlines
+  -- the processor demand grows at absolute deadlines alone
   next-demand : (d : ℕ)
       → IsDeadline p relative (suc d) ⊎ (processor_demand p relative (suc d) ≤ processor_demand p relative d)
   next-demand d = elim (look (count p) (omega arith)) [
@@ -123,7 +123,7 @@ module _ (p : Plan) (lim : IsWithinLimits p) (relative : ℕ → ℕ) (con : IsC
         ]
       ]
 
-  -- what bounds the demand at the absolute deadlines up to the hyperperiod bounds it everywhere: A/B a tick
+  -- the greatest demand per tick A/B at the absolute deadlines up to the hyperperiod bounds the demand of every span
   module _ (A B : ℕ)
       (each : (d : ℕ) → IsDeadline p relative d → d ≤ hyper p → processor_demand p relative d * B ≤ A * d) where
     up_to_hyper : (d : ℕ) → d ≤ hyper p → processor_demand p relative d * B ≤ A * d
@@ -154,7 +154,7 @@ module _ (p : Plan) (lim : IsWithinLimits p) (relative : ℕ → ℕ) (con : IsC
     pub demand-everywhere : (d : ℕ) → processor_demand p relative d * B ≤ A * d
     demand-everywhere d = by_steps d d (omega arith)
 
-  -- the constrained demand is the greatest over all spans
+  -- the constrained demand bounds the demand per tick of every span
   pub demand-greatest : (demand : Frac) → IsConstrainedDemand p relative demand → (d : ℕ)
       → processor_demand p relative d * demand.den ≤ demand.num * d
   demand-greatest demand is = demand-everywhere demand.num demand.den is.greatest

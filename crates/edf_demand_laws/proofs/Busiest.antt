@@ -1,4 +1,4 @@
--- The constrained demand is the one that the search finds.
+-- The constrained demand is the one that the search of its definition finds.
 use Rattle.std.proofs.Common.{◌≡◌, inl, inr, ℕ, zero, suc, ◌-◌, ◌*◌, ◌<◌, ◌≤◌, Bool, true, false, not, ◌&&◌, ◌||◌, nat_eq, nat_le, refl, sym, ◌∙◌, ap, subst, arith, true≢false}
 use Rattle.std.proofs.lemmas.Bool.{cases_lt}
 use Rattle.std.proofs.lemmas.Bool.Decides.{nat_tests}
@@ -50,7 +50,7 @@ module _ (p : Plan) (relative : ℕ → ℕ) (con : IsConstrained p relative) wh
     abbrev over : ℕ → ℕ → Bool
     over d e = not (is_deadline p relative e) || nat_le (h e * d) (h d * e)
 
-    -- at the constrained demand's deadline no other is greater
+    -- at no absolute deadline up to the hyperperiod the demand per tick exceeds the constrained demand
     none_over : (e : ℕ) → e < suc (hyper p) → over demand.den e ≡ true
     none_over e lt = go (is_deadline p relative e) refl
       where
@@ -64,7 +64,7 @@ module _ (p : Plan) (relative : ℕ → ℕ) (con : IsConstrained p relative) wh
     busiest : is_busiest p relative demand.den ≡ true
     busiest = rw (found demand.den is.deadline, all-found (suc (hyper p)) (over demand.den) none_over) refl
 
-    -- and at an earlier one this one is
+    -- at each earlier absolute deadline the demand per tick is below the constrained demand
     not_earlier : (d : ℕ) → d < demand.den → is_busiest p relative d ≡ false
     not_earlier d lt = go (is_deadline p relative d) refl
       where

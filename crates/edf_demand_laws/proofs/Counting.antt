@@ -1,11 +1,11 @@
--- How many jobs of a task have absolute deadlines up to d.
+-- The number of jobs of a task with absolute deadlines up to d.
 use Rattle.std.proofs.Common.{◌≡◌, ℕ, zero, suc, ◌+◌, ◌-◌, ◌*◌, ◌/◌, ◌<◌, ◌≤◌, Bool, true, false, nat_le, if◌then◌else◌, refl, arith}
 use Rattle.std.proofs.Math.Nat.{div-mul-le_self, mul-le-mul_right}
 use Rattle.std.proofs.lemmas.Nat.{le-div}
 use Rattle.std.proofs.lemmas.Bool.{le-leb, leb-true}
 use Rattle.edf_demand_laws.specs.ProcessorDemand.{jobs_due}
 
--- job q + 1 is among them where its absolute deadline is at most d, and there alone
+-- job q + 1 is among the jobs due by d exactly where its absolute deadline is at most d
 pub jobs_due-above : (every within d q : ℕ) → 0 < every → within + q * every ≤ d → q < jobs_due every within d
 jobs_due-above every within d q some le =
     rw (le-leb within d (omega arith)) (omega (arith, le-div q (d - within) every some (omega arith)))
@@ -19,7 +19,7 @@ jobs_due-below every within d q lt = go (nat_le within d) refl lt
         omega (arith, leb-true within d e, mul-le-mul_right every low, div-mul-le_self (d - within) every)
     go false e lt = absurd (omega arith)
 
--- a count that is at most q, told by the absolute deadlines of its jobs
+-- where each job due by d is one of the first q, their number is at most q
 pub jobs_due-most : (every within d q : ℕ) → ((r : ℕ) → within + r * every ≤ d → r < q) → jobs_due every within d ≤ q
 jobs_due-most every within d q h = go (jobs_due every within d) (jobs_due-below every within d)
   where

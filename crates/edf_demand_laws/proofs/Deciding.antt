@@ -1,4 +1,4 @@
--- The constrained demand decides: a speed that meets it meets every deadline, and one that doesn't misses one at worst.
+-- The constrained demand decides: a speed that meets it meets every deadline, and another speed misses one at worst.
 use Rattle.std.proofs.Common.{ℕ, ◌*◌, ◌<◌, ◌≤◌, length, arith, ap, ◌∙◌, subst}
 use Rattle.std.proofs.Math.Nat.{mul-le-mul_right, le_of_mul-le-mul_right}
 use Rattle.grid_fraction.specs.declared.Frac.{Frac}
@@ -17,23 +17,23 @@ use Rattle.edf_demand_laws.proofs.Existing.{schedule-exists, schedule-only}
 
 module _ (p : Plan) (lim : IsWithinLimits p) (relative : ℕ → ℕ) (con : IsConstrained p relative) (demand : Frac)
     (is : IsConstrainedDemand p relative demand) where
-  -- it is at a tick from 1 on
+  -- the constrained demand is at a tick from 1 on
   pub some-den : 0 < demand.den
   some-den = omega (arith, is.deadline.is, con.some is.deadline.task is.deadline.below)
 
-  -- a speed that meets it does the demand of every span
+  -- a speed that meets the constrained demand does the demand of every span
   pub fits-everywhere : (f : ℕ) → demand.num ≤ f * demand.den → (d : ℕ) → processor_demand p relative d ≤ f * d
   fits-everywhere f meets d =
       let all = demand-greatest p lim relative con demand is d in
       let times : demand.num * d ≤ f * demand.den * d = mul-le-mul_right d meets in
       le_of_mul-le-mul_right {m = processor_demand p relative d} {n = f * d} {k = demand.den} (omega (arith, all, times)) some-den
 
-  -- so it meets every deadline
+  -- a speed that meets the constrained demand meets every deadline
   pub meets-always : (f : ℕ) → demand.num ≤ f * demand.den → MeetsAlways p relative f
   meets-always f meets dem ticks within h =
       enough p relative dem f (every_period p lim) con within (fits-everywhere f meets) ticks h
 
-  -- and the speed of an entry that doesn't meet it misses one at worst
+  -- the speed of an entry that doesn't meet the constrained demand misses a deadline at worst
   pub misses-at-worst : (e : ℕ) → e < length p.machine.points → speed_at p.machine e * demand.den < demand.num
       → MissesAtWorst p relative e demand.den
   misses-at-worst e lt over =

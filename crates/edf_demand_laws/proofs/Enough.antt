@@ -1,4 +1,4 @@
--- Where the processor demand of each span fits in what the speed does in it, every constrained schedule is met.
+-- Where the processor demand of each span fits into what the speed does in it, every constrained schedule is met.
 use Rattle.std.proofs.Common.{◌≡◌, inl, inr, ℕ, zero, suc, ◌+◌, ◌-◌, ◌*◌, ◌/◌, ◌<◌, ◌≤◌, min, Bool, true, false, nat_le, List, [], ◌∷◌, length, refl, arith, if◌then◌else◌, ap, ◌∙◌, sym, subst, eq-or-lt_of_le, add-one}
 use Rattle.std.proofs.Math.Nat.{div-mul-le_self, mul-le-mul_right, add-div_right}
 use Rattle.std.proofs.lemmas.Bool.{le-leb, leb-true, cases_lt}
@@ -17,7 +17,7 @@ use Rattle.edf_demand_laws.specs.ProcessorDemand.{jobs_due, work_due, processor_
 use Rattle.edf_demand_laws.proofs.Counting.{jobs_due-above}
 use Rattle.edf_demand_laws.proofs.Ticks.{own-share, had-most, latest-before}
 
--- after a job with absolute deadline `key`, so many more of its task by d
+-- the number of jobs of a task by d after the one with the absolute deadline `key`
 abbrev pub jobs_after : ℕ → ℕ → ℕ → ℕ
 jobs_after every key d = (d - key) / every
 
@@ -27,7 +27,7 @@ jobs_after-step every key d some le =
     let e : d - key ≡ (d - (key + every)) + every = omega arith in
     ap (λ (m : ℕ). m / every) e ∙ add-div_right (d - (key + every)) some
 
--- they are among the jobs of a span that begins at t or before the next release
+-- the jobs by d after `key` are among those due in the span from t to d, where t is at most the next release
 jobs_after-most : (every within key d t : ℕ) → 0 < every → t + within ≤ key + every
     → jobs_after every key d ≤ jobs_due every within (d - t)
 jobs_after-most every within key d t some le = go (jobs_after every key d) (div-mul-le_self (d - key) every)
@@ -43,15 +43,15 @@ first-release p i first = omega (arith, first)
 module _ (p : Plan) (relative : ℕ → ℕ) (dem : JobDemands) (f : ℕ) (periods : (i : ℕ) → 0 < period p i)
     (con : IsConstrained p relative) (within : IsWithin p dem)
     (fits : (d : ℕ) → processor_demand p relative d ≤ f * d) where
-  -- the latest job of task i has its absolute deadline by d
+  -- whether the absolute deadline of the latest job of task i is at most d
   abbrev is_near : ℕ → ℕ → ℕ → Bool
   is_near t d i = nat_le (key_at p relative t i) d
 
-  -- the work of the jobs after the latest ones, whose absolute deadlines are at most d
+  -- the work of the jobs of task i after the latest one with absolute deadlines up to d
   abbrev after : ℕ → ℕ → ℕ → ℕ
   after t d i = jobs_after (period p i) (key_at p relative t i) d * worst p i
 
-  -- the work that is still to do by d: of the latest jobs, and of those after them
+  -- the work still to do by d: of the latest jobs, and of the jobs after them
   abbrev open_work : List Tick → ℕ → ℕ
   open_work past d = sum_where (count p) (is_near (length past) d) (λ i. left p dem past i + after (length past) d i)
 
@@ -59,11 +59,11 @@ module _ (p : Plan) (relative : ℕ → ℕ) (dem : JobDemands) (f : ℕ) (perio
   abbrev work_by : ℕ → ℕ → ℕ
   work_by d i = work_due p relative d i
 
-  -- the open work fits in what the speed does up to d
+  -- for each tick d from the present one on, the work still to do by d fits into what the speed does up to d
   abbrev IsCalm : List Tick → Type 0
   IsCalm past = (d : ℕ) → length past ≤ d → open_work past d ≤ f * (d - length past)
 
-  -- the same after the tick x, before the releases that follow it
+  -- the work still to do by d after the tick x, before the next releases
   abbrev rest_work : Tick → List Tick → ℕ → ℕ
   rest_work x past d =
       sum_where (count p) (is_near (length past) d) (λ i. (left p dem past i - share x i) + after (length past) d i)
@@ -99,7 +99,7 @@ module _ (p : Plan) (relative : ℕ → ℕ) (dem : JobDemands) (f : ℕ) (perio
           sum_below-le (count p) (λ i. if is_near 0 d i then left p dem [] i + after 0 d i else 0) (work_by d)
           (λ i lt. each i lt (is_near 0 d i) refl)
 
-  -- a tick does f units of that work, or leaves none of the latest jobs
+  -- after the tick x, before the next releases, the work still to do by d fits into what the speed does up to d
   calm-tick : (x : Tick) (past : List Tick) → IsNext p relative dem f past x → IsCalm past
       → (d : ℕ) → length past + 1 ≤ d → rest_work x past d ≤ f * (d - (length past + 1))
   calm-tick x past next calm d le = elim (cases_lt (sum_where n near needs) f) [
@@ -155,7 +155,7 @@ module _ (p : Plan) (relative : ℕ → ℕ) (dem : JobDemands) (f : ℕ) (perio
       most : sum_where n near (after t d) ≤ processor_demand p relative (d - (t + 1))
       most = sum_where-all n near (after t d) (work_by (d - (t + 1))) each
 
-  -- one task of that work over the boundary: a release moves a job from those after the latest one to it
+  -- the releases after a tick add nothing to a task's work by d: the job released is one of those to come
   calm-task : (x : Tick) (past : List Tick) (d i : ℕ) → i < count p
       → (if is_near (length past + 1) d i then left p dem (x ∷ past) i + after (length past + 1) d i else 0)
       ≤ (if is_near (length past) d i then (left p dem past i - share x i) + after (length past) d i else 0)
@@ -227,7 +227,7 @@ module _ (p : Plan) (relative : ℕ → ℕ) (dem : JobDemands) (f : ℕ) (perio
   calm [] h = calm-start
   calm (x ∷ past) h = calm-next x past h.1 (calm past h.0)
 
-  -- a job whose absolute deadline is the end of a tick had its demand
+  -- a job whose absolute deadline is the end of a tick has had its demand by then
   met-now : (x : Tick) (past : List Tick) → IsScheduleAt p relative dem f (x ∷ past) → (i k : ℕ) → i < count p → 1 ≤ k
       → absolute p relative i k ≡ length past + 1 → exec p (x ∷ past) i k ≡ dem i k
   met-now x past h i k lt some e =
@@ -248,7 +248,7 @@ module _ (p : Plan) (relative : ℕ → ℕ) (dem : JobDemands) (f : ℕ) (perio
       let before = had-most p relative dem f past h.0 i k lt in
       omega (arith, mine, all, needs, had, own, before)
 
-  -- every constrained schedule at the speed f is met, whatever its length
+  -- every constrained schedule at the speed f is met, for each number of ticks
   pub enough : (ticks : List Tick) → IsScheduleAt p relative dem f ticks → IsMetBy p relative dem ticks
   enough [] h i k lt some le = absurd (omega (arith, con.some i lt))
   enough (x ∷ past) h i k lt some le = elim (eq-or-lt_of_le le) [

@@ -1,4 +1,4 @@
--- Processor demands, and who comes first, by evaluation.
+-- Processor demands, and the order of tasks, by evaluation.
 use Rattle.std.proofs.Common.{◌≡◌, ℕ, zero, suc, [], ◌∷◌, codes, refl}
 use Rattle.dvs_base.specs.declared.kind.Scheduler.TheVariants.{Edf}
 use Rattle.grid_fraction.specs.Fraction as fraction
@@ -15,7 +15,7 @@ pair =
     plan_of (task_of (codes "a") 4 2 ∷ task_of (codes "b") 6 3 ∷ [])
     (record { points = entry_of 1 1000 ∷ []; idle = 0; charge = 0 }) Edf
 
--- a is due 2 ticks after its releases, b 5
+-- the relative deadlines: 2 ticks for task a, and 5 for b
 abbrev deadlines : ℕ → ℕ
 deadlines zero = 2
 deadlines (suc i) = 5
@@ -23,16 +23,17 @@ deadlines (suc i) = 5
 abbrev work : ℕ → ℕ
 work d = processor_demand pair deadlines d
 
--- the demands at the absolute deadlines of one hyperperiod; at 6 it is the greatest per tick, and more than one unit
+-- the processor demands at the absolute deadlines of one hyperperiod;
+-- the greatest per tick is at 6, and it is more than one unit
 demands : (work 2 ≡ 2) × (work 5 ≡ 5) × (work 6 ≡ 7) × (work 10 ≡ 9) × (work 11 ≡ 12)
 demands = (refl, refl, refl, refl, refl)
 
--- that is the constrained demand
+-- the constrained demand is the demand of 7 units at tick 6
 busiest : constrained_demand pair deadlines ≡ record { num = 7; den = 6 }
 unfolding constrained_demand release fraction.least_common_multiple
 busiest = refl
 
--- of equal ones it is the earliest: 2/2 at 2 and 8/8 at 8
+-- two tasks whose demands per tick at 2 and at 8 are equal: 2/2 and 8/8; the earlier is the constrained demand
 abbrev even_pair : Plan
 even_pair =
     plan_of (task_of (codes "a") 4 2 ∷ task_of (codes "b") 8 4 ∷ [])
@@ -50,12 +51,12 @@ earliest_of_equal = refl
 none_due : work 1 ≡ 0
 none_due = refl
 
--- so with one unit a tick the second job of a, due at 6, has had 1 of its 2 units by then
+-- with one unit a tick the second job of a, due at 6, has had 1 of its 2 units by then
 second_job : exec pair (schedule_at pair deadlines (worst_demand pair) 0 6) 0 2 ≡ 1
 unfolding release due latest
 second_job = refl
 
--- where b is due earlier than a, it comes first, though a stands before it and has the shorter period
+-- deadlines by which b is due earlier than a, though a precedes it in the file and has the shorter period
 abbrev turned : ℕ → ℕ
 turned zero = 4
 turned (suc i) = 3

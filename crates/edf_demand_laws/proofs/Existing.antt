@@ -15,7 +15,7 @@ use Rattle.sched_model.proofs.Allotments.{allotment_of, allotment-shares, shares
 use Rattle.sched_model.proofs.Tables.{length-list_below, get-table}
 use Rattle.edf_demand_laws.specs.Constrained.{key_at, IsNext, IsScheduleAt, tick_at, schedule_at}
 
--- no other entry has the speed of one of the table's
+-- an entry with the speed of an entry of the table is that entry
 pub same-entry : (m : Table) → IsTable m → (e k : ℕ) → e < length m.points → speed_at m k ≡ speed_at m e → k ≡ e
 same-entry m table e k lt same = elim (cases_lt k (length m.points)) [
   | inl within ↦ elim (cases_lt k e) [

@@ -1,4 +1,4 @@
--- Where a constrained schedule of worst cases is met, the processor demand of its length fits in what its speed does.
+-- Where the schedule of worst cases is met, the processor demand of its length fits into what its speed does.
 use Rattle.std.proofs.Common.{◌≡◌, ℕ, zero, suc, ◌+◌, ◌-◌, ◌*◌, ◌<◌, ◌≤◌, min, Bool, true, false, eqb, List, [], ◌∷◌, length, refl, arith, if◌then◌else◌}
 use Rattle.std.proofs.lemmas.Bool.Decides.{nat_tests}
 use Rattle.grid_fraction.specs.Numbers.{sum_below, sum_where}
@@ -15,12 +15,12 @@ use Rattle.edf_demand_laws.specs.ProcessorDemand.{jobs_due, work_due, processor_
 use Rattle.edf_demand_laws.proofs.Counting.{jobs_due-below}
 use Rattle.edf_demand_laws.proofs.AllSpans.{absolute-suc}
 
--- the units of task i in all ticks
+-- the units that task i got in all ticks
 abbrev pub served : List Tick → ℕ → ℕ
 served [] i = 0
 served (x ∷ past) i = served past i + share x i
 
--- a tick lies in the window of one job
+-- each tick is in the window of at most one job of a task
 one-window : (p : Plan) (i t s m : ℕ) → sum_below m (λ k. if is_in_window p i (suc k) t then s else 0) ≤ s
 one-window p i t s m =
     let j = latest p i t - 1 in
@@ -45,7 +45,7 @@ one-window p i t s m =
         absurd (grind (arith, nat_tests))
     own k false e c g = omega arith
 
--- so the jobs of a task have had no more than it got
+-- the jobs of a task have had no more units than the task got
 jobs-served : (p : Plan) (i m : ℕ) (past : List Tick) → sum_below m (λ k. exec p past i (suc k)) ≤ served past i
 jobs-served p i m [] = omega (arith, sum_below-zero m (λ k. 0) (λ k lt. refl))
 jobs-served p i m (x ∷ past) =
@@ -57,7 +57,7 @@ jobs-served p i m (x ∷ past) =
       one-window p i (length past) (share x i) m,
     )
 
--- a tick gives its speed at most, so all ticks give it times their number at most
+-- the tasks got at most the speed times the number of ticks
 all-served : (p : Plan) (relative : ℕ → ℕ) (dem : JobDemands) (f : ℕ) (past : List Tick)
     → IsScheduleAt p relative dem f past → sum_below (count p) (served past) ≤ f * length past
 all-served p relative dem f [] h = omega (arith, sum_below-zero (count p) (λ k. 0) (λ k lt. refl))

@@ -1,4 +1,4 @@
--- Schedules of tasks whose deadlines lie below their periods, under EDF at one speed.
+-- Schedules of tasks with deadlines up to their periods, under EDF at one speed.
 use Rattle.std.specs.Prelude.{◌≡◌, ℕ, zero, suc, ◌+◌, ◌<◌, ◌≤◌, List, [], ◌∷◌, length}
 use Rattle.grid_fraction.specs.Numbers.{list_below}
 use Rattle.freq_table.specs.Tables.{speed_at}
@@ -14,11 +14,11 @@ pub record IsConstrained (p : Plan) (relative : ℕ → ℕ) : Type 0 where
   pub some : (i : ℕ) → i < count p → 1 ≤ relative i
   pub within : (i : ℕ) → i < count p → relative i ≤ period p i
 
--- the absolute deadline of job k of task i: its release, and the relative deadline on
+-- the absolute deadline of job k of task i: its release plus the relative deadline of the task
 abbrev pub absolute : Plan → (ℕ → ℕ) → ℕ → ℕ → ℕ
 absolute p relative i k = release p i k + relative i
 
--- what orders the tasks at tick t: the absolute deadline of the latest job
+-- the key that orders the tasks at tick t: the absolute deadline of the latest job
 abbrev pub key_at : Plan → (ℕ → ℕ) → ℕ → ℕ → ℕ
 key_at p relative t i = absolute p relative i (latest p i t)
 
@@ -28,25 +28,25 @@ pub record IsNext (p : Plan) (relative : ℕ → ℕ) (dem : JobDemands) (f : �
   pub speed : speed_at p.machine x.entry ≡ f
   pub legal : SharesOut (count p) (key_at p relative (length past)) f (left p dem past) (share x)
 
--- every tick has speed f and is legal after the earlier ones; the last tick stands first
+-- every tick has speed f and is legal after the earlier ones; the last tick is first
 abbrev pub IsScheduleAt : Plan → (ℕ → ℕ) → JobDemands → ℕ → List Tick → Type 0
 IsScheduleAt p relative dem f [] = Unit {0}
 IsScheduleAt p relative dem f (x ∷ past) = IsScheduleAt p relative dem f past × IsNext p relative dem f past x
 
--- every job whose absolute deadline lies within the ticks had its demand by it
+-- every job whose absolute deadline is within the ticks has had its demand by then
 abbrev pub IsMetBy : Plan → (ℕ → ℕ) → JobDemands → List Tick → Type 0
 IsMetBy p relative dem ticks =
     (i k : ℕ) → i < count p → 1 ≤ k → absolute p relative i k ≤ length ticks
     → exec p (at (absolute p relative i k) ticks) i k ≡ dem i k
 
--- the one tick that may follow with the entry e
+-- the one tick that may follow the ticks of `past` with the entry e
 abbrev pub tick_at : Plan → (ℕ → ℕ) → JobDemands → ℕ → List Tick → Tick
 tick_at p relative dem e past =
     let n = count p in
     let key = key_at p relative (length past) in
     record { entry = e; shares = list_below n (allotment n key (speed_at p.machine e) (left p dem past)) }
 
--- the schedule of t ticks with the entry e
+-- the one schedule of t ticks with the entry e
 abbrev pub schedule_at : Plan → (ℕ → ℕ) → JobDemands → ℕ → ℕ → List Tick
 schedule_at p relative dem e zero = []
 schedule_at p relative dem e (suc t) = let past = schedule_at p relative dem e t in tick_at p relative dem e past ∷ past

@@ -1,6 +1,7 @@
-//! Deadlines below periods under EDF at one speed: what the processor demand says of every schedule (Baruah, Rosier and
-//! Howell 1990).
+//! Deadlines up to the periods under EDF at one speed: what the processor demand says about every schedule (Baruah,
+//! Rosier and Howell 1990).
 //!
-//! Lemmas alone: where the demand of each span fits in what the speed does in it, every schedule is met; where that of
-//! some span doesn't, the worst cases aren't; and the deadlines of one hyperperiod decide for all spans.
+//! The crate has lemmas alone. Where the demand of each span fits into what the speed does in it, every schedule is
+//! met. Where the demand of some span doesn't, the schedule of worst cases isn't met. The deadlines of one
+//! hyperperiod decide for all spans.
 #![tactic(auto)]

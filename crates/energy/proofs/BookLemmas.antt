@@ -1,4 +1,4 @@
--- One more note in the books is one more term of each sum.
+-- One more note in the account is one more term of each sum.
 use Rattle.std.proofs.Common.{◌≡◌, ◌≢◌, ℕ, zero, suc, ◌+◌, ◌<◌, Bool, true, false, nat_eq, List, [], ◌∷◌, ◌++◌, length, refl, arith, add-one, ap, ap₂, ◌∙◌, sym, subst, if◌then◌else◌, get_or, replicate, length-set}
 use Rattle.std.specs.Prelude.{map, sum_by, count_by}
 use Rattle.std.proofs.lemmas.List.{map-append}
@@ -15,7 +15,7 @@ use Rattle.sched_model.proofs.ScheduleLemmas.{length-list_below}
 use Rattle.sched_model.proofs.Tables.{get-table, set-table, table-same}
 use Rattle.energy.specs.Books.{Books, Told, energy_of_task, energy_at_point, books_of, raised, booked, HasTask}
 
--- books by their parts
+-- the account with these sums and tables
 abbrev pub books_by : ℕ → ℕ → ℕ → ℕ → ℕ → List ℕ → List ℕ → Books
 books_by run idle released finished decisions tasks points = record {
   totals = record { run = run; idle = idle; released = released; finished = finished; decisions = decisions };
@@ -23,7 +23,7 @@ books_by run idle released finished decisions tasks points = record {
   by_point = points;
 }
 
--- more at one place of a table
+-- a table raised by `more` at place i is the table of a function that is greater by `more` there alone
 raised-table : (n i more : ℕ) (f g : ℕ → ℕ) → i < n → g i ≡ f i + more → ((k : ℕ) → k < n → k ≢ i → g k ≡ f k)
     → raised (list_below n f) i more ≡ list_below n g
 raised-table n i more f g lt here there =
@@ -54,7 +54,7 @@ module _ (tasks points : ℕ) (told : List Told) (note : Note) (e : ℕ) where
   abbrev point_sum : ℕ → ℕ
   point_sum k = sum_by (energy_at_point k) told
 
-  -- what the note adds to each sum
+  -- what the note adds to each sum and to each table
   pub record Adds (run idle released finished decisions : ℕ) (by_task by_point : List ℕ) : Type 0 where
     pub run_is : run ≡ sum_by energy_run notes + energy_run note
     pub idle_is : idle ≡ sum_by energy_idle notes + energy_idle note
@@ -78,11 +78,11 @@ module _ (tasks points : ℕ) (told : List Told) (note : Note) (e : ℕ) where
     by_point = (a.by_point_is ∙ table-same points (λ k. point_sum k + energy_at_point k (note, e)) _ (λ k lt. sym (point-more k))) i;
   }
 
--- a table to which nothing is added
+-- a table to which nothing is added stays
 same-table : (n : ℕ) (f g : ℕ → ℕ) → ((k : ℕ) → k < n → g k ≡ 0) → list_below n f ≡ list_below n (λ k. f k + g k)
 same-table n f g h = table-same n f (λ k. f k + g k) (λ k lt. omega (arith, h k lt))
 
--- and one to which something is added at one place
+-- a table to which something is added at one place is raised there
 added-table : (n i more : ℕ) (f : ℕ → ℕ) → i < n → raised (list_below n f) i more ≡ list_below n (λ k. f k + (if nat_eq i k then more else 0))
 added-table n i more f lt = raised-table n i more f (λ k. f k + (if nat_eq i k then more else 0)) lt (here (nat_eq i i) refl)
     (λ k l ne. there k ne (nat_eq i k) refl)
@@ -95,7 +95,7 @@ added-table n i more f lt = raised-table n i more f (λ k. f k + (if nat_eq i k 
     there k ne true e = absurd (ne (grind (arith, nat_tests)))
     there k ne false e = rw e (omega arith)
 
--- an entry's sum gets the energy of a note there
+-- the energy of a note is added to the sum of its entry
 point-table : (points e : ℕ) (note : Note) (told : List Told) → e < points
     → raised (list_below points (λ k. sum_by (energy_at_point k) told)) e (energy_run note + energy_idle note)
     ≡ list_below points (λ k. sum_by (energy_at_point k) told + energy_at_point k (note, e))
@@ -108,7 +108,7 @@ none-at-point k e note none = go (nat_eq e k)
     go true = none
     go false = refl
 
--- the books after one more note are the sums over one note more
+-- the account of some notes, with one more, is the account of all of them
 pub booked-sums : (tasks points : ℕ) (told : List Told) (note : Note) (e : ℕ) → HasTask (books_of tasks points told) note → e < points
     → booked (books_of tasks points told) note e ≡ books_of tasks points (told ++ (note, e) ∷ [])
 booked-sums tasks points told (Release t i k) e h lt = books-more tasks points told (Release t i k) e _ _ _ _ _ _ _ record {
@@ -169,7 +169,7 @@ booked-sums tasks points told (End t run idle) e h lt = books-more tasks points 
   by_point_is = same-table points _ _ (λ k lt. none-at-point k e (End t run idle) refl);
 }
 
--- so what was the sums over some notes is the sums over one note more
+-- an account that had the sums over some notes has, after one more, the sums over them and it
 pub sums-after : (old new : Books) (note : Note) (e : ℕ) → HasTask old note → e < length old.by_point → new ≡ booked old note e
     → (tasks points : ℕ) (told : List Told) → old ≡ books_of tasks points told → new ≡ books_of tasks points (told ++ (note, e) ∷ [])
 sums-after old new note e h lt is tasks points told was =
@@ -177,7 +177,7 @@ sums-after old new note e h lt is tasks points told was =
     ∙ booked-sums tasks points told note e (subst (λ b. HasTask b note) was h)
     (omega (arith, ap (λ (b : Books). length b.by_point) was, length-list_below points (λ k. sum_by (energy_at_point k) told))))
 
--- with nothing told all sums are 0
+-- an account without notes has tables of zeros
 pub zeros-table : (n : ℕ) → replicate {A = ℕ} n 0 ≡ list_below n (λ i. 0)
 zeros-table zero = refl
 zeros-table (suc n) = ap (λ m. replicate {A = ℕ} m 0) (sym (add-one n)) ∙ (replicate_next {X = ℕ} n 0 ∙ ap (λ xs. xs ++ 0 ∷ []) (zeros-table n))
@@ -185,7 +185,7 @@ zeros-table (suc n) = ap (λ m. replicate {A = ℕ} m 0) (sym (add-one n)) ∙ (
 pub no-books : (tasks points : ℕ) → books_by 0 0 0 0 0 (replicate tasks 0) (replicate points 0) ≡ books_of tasks points []
 no-books tasks points = ap₂ (books_by 0 0 0 0 0) (zeros-table tasks) (zeros-table points)
 
--- the books keep their tasks and entries
+-- a note changes neither the number of tasks nor that of entries
 pub booked-tasks : (b : Books) (note : Note) (e : ℕ) → length (booked b note e).by_task ≡ length b.by_task
 booked-tasks b (Release t i k) e = refl
 booked-tasks b (Speed t f num den) e = refl

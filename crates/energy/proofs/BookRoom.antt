@@ -1,4 +1,4 @@
--- Where the energies and the number of notes are low, the books have room for each.
+-- Where the energies and the number of notes are low, the account has room for each note.
 use Rattle.std.proofs.Common.{◌≡◌, ℕ, ◌+◌, ◌<◌, ◌≤◌, ◌^◌, Bool, true, false, if◌then◌else◌, List, [], ◌∷◌, length, map, refl, arith, nat_eq}
 use Rattle.std.specs.Prelude.{sum_by, count_by, slice_index}
 use Rattle.std.proofs.lemmas.List.Sums.{sum_by-cons}
@@ -12,11 +12,11 @@ use Rattle.sched_model.proofs.ScheduleLemmas.{length-list_below}
 use Rattle.sched_model.proofs.Tables.{get-table, table-same}
 use Rattle.energy.specs.Books.{Told, books_of, energy_of_task, energy_at_point, HasTask, HasRoom}
 
--- the notes of what was told
+-- the notes that were told, without their entries
 abbrev pub noted : List Told → List Note
 noted told = map (λ (t : Told). t.0) told
 
--- a task's energy is no more than that of all runs
+-- the energy of a task is at most that of all running segments
 task-most : (i : ℕ) (told : List Told) → sum_by (λ (t : Told). energy_of_task i t.0) told ≤ sum_by energy_run (noted told)
 task-most i [] = omega arith
 task-most i (t ∷ told) =
@@ -40,7 +40,7 @@ task-most i (t ∷ told) =
     one (Done q j k used) = omega arith
     one (End ticks run idle) = omega arith
 
--- and an entry's no more than that of all segments
+-- the energy at an entry is at most that of all segments
 point-most : (e : ℕ) (told : List Told) → sum_by (energy_at_point e) told ≤ sum_by energy_run (noted told) + sum_by energy_idle (noted told)
 point-most e [] = omega arith
 point-most e (t ∷ told) =
@@ -57,7 +57,7 @@ point-most e (t ∷ told) =
     one true = omega arith
     one false = omega arith
 
--- no more notes of a kind than there are
+-- a count over the notes is at most their number
 count-most : (test : Note → Bool) (told : List Told) → count_by test (noted told) ≤ length told
 count-most test [] = omega arith
 count-most test (t ∷ told) = omega (arith, count-append test (t.0 ∷ []) (noted told), count-most test told, one (test t.0))
@@ -66,7 +66,7 @@ count-most test (t ∷ told) = omega (arith, count-append test (t.0 ∷ []) (not
     one true = omega arith
     one false = omega arith
 
--- there is room for a note where all energies and the number of notes are low
+-- there is room for a note where the sum of all energies and the number of notes are low
 pub has-room : (tasks points : ℕ) (told : List Told) (note : Note) (e : ℕ) → HasTask (books_of tasks points told) note → e < points
     → length told + 1 < 2 ^ 64 → sum_by energy_run (noted told) + sum_by energy_idle (noted told) + (energy_run note + energy_idle note) < 2 ^ 128
     → HasRoom (books_of tasks points told) note e
@@ -91,7 +91,7 @@ has-room tasks points told note e task lt few low = go note task low
     go (Done q i k used) own fits = omega (arith, few, count-most is_finished told)
     go (End ticks run idle) own fits = tt
 
--- the sums of the tasks are over the notes
+-- the energies of the tasks are the sums over the notes without their entries
 pub task-sums : (n : ℕ) (told : List Told)
     → list_below n (λ i. sum_by (λ (t : Told). energy_of_task i t.0) told) ≡ list_below n (λ i. sum_by (energy_of_task i) (noted told))
 task-sums n told = table-same n _ (λ i. sum_by (energy_of_task i) (noted told)) (λ i lt. each i told)

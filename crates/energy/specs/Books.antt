@@ -1,4 +1,4 @@
--- What an account keeps, and that it is the sums over the notes it was told.
+-- What an account keeps: the sums over the notes that it was told.
 use Rattle.std.specs.Prelude.{◌≡◌, ℕ, ◌+◌, ◌<◌, ◌^◌, nat_eq, List, [], ◌∷◌, ◌++◌, length, map, sum_by, slice_index, slice_set, if◌then◌else◌}
 use Rattle.dvs_base.specs.Widths.{u64_end}
 use Rattle.dvs_base.specs.declared.note.Note.{Note}
@@ -8,26 +8,26 @@ use Rattle.grid_fraction.specs.Numbers.{list_below}
 use Rattle.sched_model.specs.Notes.{energy_run, energy_idle}
 use Rattle.sched_model.specs.Totals.{totals_of}
 
--- the totals, the energy of each task's segments, and that of the segments at each entry, idle ones too
+-- what contracts see of an account: the totals, the energy of each task's segments, and of all segments at each entry
 pub record Books : Type 0 where
   pub totals : Totals
   pub by_task : List ℕ
   pub by_point : List ℕ
 
--- a note, and the entry in force
+-- a note, with the entry in force
 abbrev pub Told : Type 0
 Told = Note × ℕ
 
--- the energy that a note adds to a task, and with the entry in force to an entry
+-- the energy that a note adds to task i: that of its run
 abbrev pub energy_of_task : ℕ → Note → ℕ
 energy_of_task i (Run from to j k units energy) = if nat_eq j i then energy else 0
 energy_of_task i _ = 0
 
--- the energy that a note told with its entry brings to an entry
+-- the energy that a note, told with the entry in force, adds to entry e
 abbrev pub energy_at_point : ℕ → Told → ℕ
 energy_at_point e told = if nat_eq told.1 e then energy_run told.0 + energy_idle told.0 else 0
 
--- the books for so many tasks and entries after these notes: sums over the notes
+-- an account of `tasks` tasks and `points` entries after these notes: the sums over them
 abbrev pub books_of : ℕ → ℕ → List Told → Books
 books_of tasks points told = record {
   totals = totals_of (map (λ t. t.0) told);
@@ -35,16 +35,16 @@ books_of tasks points told = record {
   by_point = list_below points (λ e. sum_by (energy_at_point e) told);
 }
 
--- what was the sums over some notes is the sums over them and this one
+-- an account that had the sums over some notes has the sums over them and this one
 abbrev pub KeepsSums : Books → Books → Note → ℕ → Type 0
 KeepsSums old new note e = (tasks points : ℕ) (told : List Told)
     → old ≡ books_of tasks points told → new ≡ books_of tasks points (told ++ (note, e) ∷ [])
 
--- more at one place of a list
+-- the list with `more` added at place i
 abbrev pub raised : List ℕ → ℕ → ℕ → List ℕ
 raised xs i more = slice_set xs i (slice_index xs i + more)
 
--- the books after one more note
+-- the account after one more note
 abbrev pub booked : Books → Note → ℕ → Books
 booked b (Release tick i k) e = record b { totals = record b.totals { released = b.totals.released + 1 } }
 booked b (Speed tick speed num den) e = record b { totals = record b.totals { decisions = b.totals.decisions + 1 } }
@@ -61,7 +61,7 @@ booked b (Idle from to units energy) e = record {
 booked b (Done at_end i k used) e = record b { totals = record b.totals { finished = b.totals.finished + 1 } }
 booked b (End ticks run idle) e = b
 
--- the task that the note names is one of the books
+-- the task that the note names is one of the account's tasks
 abbrev pub HasTask : Books → Note → Type 0
 HasTask b (Release tick i k) = i < length b.by_task
 HasTask b (Speed tick speed num den) = Unit {0}
@@ -70,7 +70,7 @@ HasTask b (Idle from to units energy) = Unit {0}
 HasTask b (Done at_end i k used) = i < length b.by_task
 HasTask b (End ticks run idle) = Unit {0}
 
--- the sums and counts after the note are within their types
+-- the sums and counts after the note fit in their types
 abbrev pub HasRoom : Books → Note → ℕ → Type 0
 HasRoom b (Release tick i k) e = b.totals.released + 1 < u64_end
 HasRoom b (Speed tick speed num den) e = b.totals.decisions + 1 < u64_end

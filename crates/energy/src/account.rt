@@ -7,8 +7,8 @@ use freq_table::Machine;
 use std::alloc::Global;
 use std::marker::Model;
 
-/// The sums and counts of the notes that it was told: the totals, and the energy of each task and of each entry of the
-/// machine's table.
+/// The sums and counts over the notes that the account was told: the totals, and the energy of each task and of each
+/// entry of the machine's table.
 #[derive(Drop)]
 pub struct Account {
     sums: Totals,
@@ -24,7 +24,7 @@ impl Model for Account {
     ghost view = { λ a. record { totals = a.sums; by_task = a.tasks.items; by_point = a.points.items } };
 }
 
-// So many zeros.
+// `count` zeros.
 fn zeros(alloc: Global, count: u32) -> Result<Vec<u128>, NoMemory>
     ensures { IfOk result (λ v. v.items ≡ replicate count 0) }
 {
@@ -32,7 +32,7 @@ fn zeros(alloc: Global, count: u32) -> Result<Vec<u128>, NoMemory>
 }
 
 impl Account {
-    /// An account for so many tasks and the entries of a machine, with all sums 0. It fails only where memory runs out.
+    /// An account for `tasks` tasks and the entries of a machine, with sums of 0. It fails only where memory runs out.
     pub fn new(alloc: Global, tasks: u32, machine: &Machine) -> Result<Account, NoMemory>
         ensures { IfOk result (λ a. a ≡ books_of tasks (length machine.now.points) []) }
     {
@@ -51,7 +51,7 @@ impl Account {
         })
     }
 
-    /// Books one more note, with the entry in force. The energy of a `Run` note goes to the run sum, to its task and to
+    /// Adds one more note, with the entry in force. The energy of a `Run` note goes to the run sum, to its task and to
     /// the entry, that of an `Idle` note to the idle sum and to the entry; `Release`, `Done` and `Speed` notes are
     /// counted.
     pub fn add(&mut self, note: &Note, point: u32)
@@ -59,7 +59,7 @@ impl Account {
         requires point { point < length self.old.by_point }
         requires room { HasRoom self.old note.now point }
         ensures booked { self.new ≡ booked self.old note.now point }
-        // What was the sums over some notes is the sums over them and this one.
+        // An account that had the sums over some notes has the sums over them and this one.
         ensures sums { KeepsSums self.old self.new note.now point }
     {
         match *note {

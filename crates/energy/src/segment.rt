@@ -4,15 +4,15 @@ ghost use Rattle.energy.specs.Segments.{segment_energy, thousandths, most_unit_e
 
 use freq_table::Machine;
 
-// The thousandths that a unit costs.
+// What a unit costs, in thousandths.
 fn thousandths(machine: &Machine, idle: bool) -> u64
     ensures { result ≡ thousandths machine.now idle }
 {
     if idle { machine.idle() } else { 1000 }
 }
 
-/// The energy of a segment of so many units at an entry of the table, where a job runs in it or nobody does: the units
-/// times the square of the millivolts, times 1000 or the machine's idle share.
+/// The energy of a segment of `units` units at an entry of the table: the units times the square of the millivolts,
+/// times 1000 where a job runs in it, and times the machine's idle share where it is idle.
 pub fn energy_of(machine: &Machine, point: u32, units: u64, idle: bool) -> u128
     requires point { point < length machine.now.points }
     requires units { units < 2 ^ 63 }

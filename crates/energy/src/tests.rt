@@ -64,14 +64,14 @@ fn done(at: (u64, u64), task: u32, job: u64, used: u64) -> Note {
     }
 }
 
-// Whether more fits into a sum.
+// Whether `more` fits into a sum.
 fn fits(sum: u128, more: u128) -> bool
     ensures { IsTrue result → sum + more < 2 ^ 128 }
 {
     sum.checked_add(more).is_some()
 }
 
-// Whether an account of so many tasks and entries can book a note with the entry in force.
+// Whether an account of `tasks` tasks and `points` entries can add a note with the entry in force.
 fn can_book(account: &Account, told: &(Note, u32), tasks: u32, points: u32) -> bool
     requires tasks { length account.now.by_task ≡ tasks }
     requires points { length account.now.by_point ≡ points }
@@ -101,7 +101,7 @@ fn can_book(account: &Account, told: &(Note, u32), tasks: u32, points: u32) -> b
     }
 }
 
-// Books the notes as far as they fit, and tells how many did.
+// Adds the notes as far as they fit, and returns how many did.
 fn book_all(account: &mut Account, notes: &[(Note, u32)], tasks: u32, points: u32) -> usize
     requires tasks { length account.old.by_task ≡ tasks }
     requires points { length account.old.by_point ≡ points }

@@ -1,4 +1,4 @@
--- A certificate's pair is the one with its speeds, and what it certifies.
+-- The corners of a certificate are those with its speeds, and a certificate is of the least energy.
 use Rattle.std.proofs.Common.{◌≡◌, ℕ, ◌*◌, ◌≤◌, arith, ap, ◌∙◌, sym, subst}
 use Rattle.std.proofs.lemmas.List.{length-map}
 use Rattle.freq_table.specs.Tables.{Table, IsTable}
@@ -14,7 +14,7 @@ use Rattle.energy_bound.proofs.Costs.{bounds, reached, prices}
 use Rattle.energy_bound.proofs.ScheduleCosts.{schedules-cost}
 
 module _ (m : Table) (table : IsTable m) (units ticks : ℕ) (l : Least) where
-  -- the corners with the low and the high speed are the certificate's
+  -- the corners with the low and the high speed are those of the certificate
   pub certified : (a b : ℕ) → a ≤ last_corner m → b ≤ last_corner m → corner_units m a ≡ l.low → corner_units m b ≡ l.high
       → IsCertificate m units ticks l → Holds m units ticks a b × (l ≡ least_of m units ticks a b)
   certified a b al bl low high (c, d, h, e) =
@@ -23,7 +23,7 @@ module _ (m : Table) (table : IsTable m) (units ticks : ℕ) (l : Least) where
       subst (λ x. Holds m units ticks x b × (l ≡ least_of m units ticks x b)) same_low
       (subst (λ y. Holds m units ticks c y × (l ≡ least_of m units ticks c y)) same_high (h, e))
 
-  -- a bound on the choices for one time the ticks is a bound on the schedules
+  -- a bound on the choices for one repetition of the ticks is a bound on the schedules
   bounds-schedules : BoundsChoices m units ticks l → BoundsSchedules m units ticks l
   bounds-schedules bound p dem ask past machine sched long whole =
       let r : CostsItsTicks p past (notes_of p dem ask past) = schedules-cost m table.some p dem ask past machine sched in
@@ -36,7 +36,7 @@ module _ (m : Table) (table : IsTable m) (units ticks : ℕ) (l : Least) where
         ap (λ v. l.rounds * v) cost,
       )
 
-  -- a certificate is of the least energy
+  -- a certificate is one of the least energy
   pub certificate-least : IsCertificate m units ticks l → IsLeast m units ticks l
   certificate-least (a, b, h, e) =
       let choices : BoundsChoices m units ticks l = subst (BoundsChoices m units ticks) (sym e) (bounds m table units ticks a b h) in

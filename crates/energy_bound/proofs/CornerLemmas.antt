@@ -7,7 +7,7 @@ use Rattle.energy.specs.Segments.{segment_energy}
 use Rattle.energy_bound.specs.Corners.{corner_units, corner_cost, last_corner, IsAbove}
 use Rattle.energy_bound.proofs.Lines.{Above, above-rise}
 
--- a step at a time up to a later number
+-- a function that doesn't fall from one number to the next doesn't fall between any two
 pub climb-le : (f : ℕ → ℕ) (last : ℕ) → ((k : ℕ) → suc k ≤ last → f k ≤ f (suc k)) → (j k : ℕ) → j ≤ k → k ≤ last → f j ≤ f k
 climb-le f last step j zero le within = let e : j ≡ 0 = omega arith in omega (arith, ap f e)
 climb-le f last step j (suc k) le within = go (eq-or-lt_of_le le) (climb-le f last step j k)
@@ -21,7 +21,7 @@ climb-lt f last step j zero lt within = absurd (omega arith)
 climb-lt f last step j (suc k) lt within =
     omega (arith, climb-le f last (λ i le. (let s = step i le in omega arith)) j k (omega arith) (omega arith), step k within)
 
--- the costs of the corners by the speed and the voltage
+-- the cost of an idle tick, by the speed, the voltage and the idle share
 idle_tick : (f v share : ℕ) → f * v * v * share ≡ v * v * (1000 * 0 + share * (f - 0))
 idle_tick f v share = let e : f - 0 ≡ f = omega arith in rw e (omega arith)
 
@@ -38,7 +38,7 @@ module _ (m : Table) where
   pub full-cost : (e : ℕ) → speed_at m e * volts e * volts e * 1000 ≡ corner_cost m (suc e)
   full-cost e = full_tick (speed_at m e) (volts e) m.idle
 
--- a cost that was found for a corner's tick is the corner's
+-- the energy of an idle tick at the first entry is the cost of corner 0
 pub corner-idle : (m : Table) (k : ℕ) (p : Point) (cost : ℕ) → k ≡ 0 → p ≡ point_at m 0 → cost ≡ segment_energy m 0 p.speed true → cost ≡ corner_cost m k
 corner-idle m k p cost z e is = is ∙ (ap (λ (q : Point). segment_energy m 0 q.speed true) e ∙ (idle-cost m ∙ ap (corner_cost m) (sym z)))
 
@@ -64,7 +64,7 @@ module _ (m : Table) (table : IsTable m) where
   pub units-climb : (j k : ℕ) → j ≤ k → k ≤ last_corner m → corner_units m j ≤ corner_units m k
   units-climb = climb-le (corner_units m) (last_corner m) (λ k le. (let s = next-units k le in omega arith))
 
-  -- so the speeds tell the corners apart, and put them in order
+  -- corners are in the order of their units
   pub units-order : (j k : ℕ) → j ≤ last_corner m → k ≤ last_corner m → corner_units m j < corner_units m k → j < k
   units-order j k jl kl lt = go (cases_lt j k)
     where
@@ -89,7 +89,7 @@ module _ (m : Table) (table : IsTable m) where
           let more : volts m e ≤ volts m (e + 1) = table.not_falling e (omega arith) in
           omega (arith, more, ap (volts m) next)
 
-  -- a full tick costs no less at a faster entry, and an idle one no more than a full one at the first
+  -- a full tick costs no less at an entry with a higher speed and voltage
   full-climb : (f g v w : ℕ) → f ≤ g → v ≤ w → f * v * v * 1000 ≤ g * w * w * 1000
   full-climb f g v w fg vw = mul-le-mul_right 1000 (mul-le-mul (mul-le-mul fg vw) vw)
 
@@ -107,7 +107,7 @@ module _ (m : Table) (table : IsTable m) where
   pub cost-climb : (j k : ℕ) → j ≤ k → k ≤ last_corner m → corner_cost m j ≤ corner_cost m k
   cost-climb = climb-le (corner_cost m) (last_corner m) next-cost
 
-  -- a corner that lies above the line of a pair, said without a minus
+  -- a corner that is on or above the line of two by sums (`Above`) is so by differences (`IsAbove`)
   pub lies-above : (a b k : ℕ) → a < b → b ≤ last_corner m
       → Above (corner_units m a) (corner_cost m a) (corner_units m b) (corner_cost m b) (corner_units m k)
       (corner_cost m k) → IsAbove (corner_units m a) (corner_cost m a) (corner_units m b) (corner_cost m b)
@@ -118,7 +118,7 @@ module _ (m : Table) (table : IsTable m) where
       (corner_cost m k)
       (let s = units-rise a b lt le in omega arith) (let s = cost-climb a b (omega arith) le in omega arith)
 
--- by the units and the costs that were found
+-- being above a line, carried over to equal units and costs
 pub above-found : (p c q d x y p' c' q' d' x' y' : ℕ) → p ≡ p' → c ≡ c' → q ≡ q' → d ≡ d' → x ≡ x' → y ≡ y' → IsAbove p c q d x y → IsAbove p' c' q' d' x' y'
 above-found p c q d x y p' c' q' d' x' y' pe ce qe de xe ye h =
     let rise : d - c ≡ d' - c' = ap₂ (λ v w. v - w) de ce in

@@ -1,4 +1,4 @@
--- The bound that a pair of corners gives, and where it is reached.
+-- The bound that two corners give, and how it is reached.
 use Rattle.std.proofs.Common.{◌≡◌, Bool, true, false, ℕ, zero, suc, ◌+◌, ◌-◌, ◌*◌, ◌<◌, ◌≤◌, List, [], ◌∷◌, ◌++◌, length, replicate, refl, ◌∙◌, ap, ap₂, arith, mul-le-mul, mul-le-mul_left, length-append}
 use Rattle.std.specs.Prelude.{sum_by, nat_lt, if◌then◌else◌}
 use Rattle.std.specs.Int.{abs_diff}
@@ -23,14 +23,14 @@ over_mix w r f v share f0 v0 h =
     let idle : r * share * (f0 * v0 * v0) ≤ r * share * (f * v * v) = mul-le-mul_left (r * share) h in
     omega (arith, idle)
 
--- so where an idle tick and a full one are on or above a line, the tick is: M * units + s is at most D * cost + g
+-- where an idle tick and a full one are on or above a line, so is the tick: M * units + s is at most D * cost + g
 over_line : (w r f M D s g idle full cost : ℕ) → w + r ≡ f → 0 < f → s ≤ D * idle + g → M * f + s ≤ D * full + g
     → r * idle + w * full ≤ f * cost → M * w + s ≤ D * cost + g
 over_line w r f M D s g idle full cost whole pos h0 hf mix =
     cancel-le f (M * w + s) (D * cost + g) pos
     (omega (arith, ap (λ v. v * s) whole, ap (λ v. v * g) whole, mul-le-mul_left r h0, mul-le-mul_left w hf, mul-le-mul_left D mix))
 
--- the sums of the two corners' ticks
+-- the energy of the two corners' ticks is on the line through the two
 mixed_energy : (M ca ub cb ua T W h l : ℕ) → ca + M ≡ cb → T * ua + h ≡ W → W + l ≡ T * ub → h * cb + l * ca + T * (cb * ua) ≡ M * W + T * (ca * ub)
 mixed_energy M ca ub cb ua T W h l rise low high =
     omega (arith, ap (λ v. cb * v) low, ap (λ v. v * W) rise, ap (λ v. ca * v) high)
@@ -42,7 +42,7 @@ mixed_units D ua ub T W h l rise low high =
 mixed_ticks : (D ua ub T W h l : ℕ) → ua + D ≡ ub → T * ua + h ≡ W → W + l ≡ T * ub → l + h ≡ D * T
 mixed_ticks D ua ub T W h l rise low high = omega (arith, ap (λ v. T * v) rise, low, high)
 
--- what holds of each tick holds of all of them
+-- where each tick is on or above the line, so are their sums
 over_all : (M D s g : ℕ) (m : Table) (xs : List Choice) → AllByRecursion (λ x. M * x.units + s ≤ D * choice_cost m x + g) xs
     → M * total_units xs + length xs * s ≤ D * total_cost m xs + length xs * g
 over_all M D s g m [] each = omega arith
@@ -55,13 +55,14 @@ over_all M D s g m (x ∷ xs) each =
       ap (λ v. D * v) (sum_by-cons (choice_cost m) x xs),
     )
 
--- the difference of two numbers stands on the side of the smaller
+-- two numbers are equal once their difference is added to the smaller
 difference : (s g : ℕ) (b : Bool) → nat_lt s g ≡ b → s + (if b then abs_diff s g else 0) ≡ g + (if b then 0 else abs_diff s g)
 difference s g true e = let less : s < g = grind (arith, nat_tests) in omega arith
 difference s g false e = let le : g ≤ s = grind (arith, nat_tests) in omega arith
 
 module _ (m : Table) (table : IsTable m) (units ticks a b : ℕ) (h : Holds m units ticks a b) where
-  -- the units and the cost that the high corner has more, and what the line has at no units
+  -- D and M are the units and the cost by which the high corner exceeds the low one, and s and g make the line
+  -- M * units + s = D * cost + g
   abbrev D : ℕ
   D = corner_units m b - corner_units m a
 
@@ -83,7 +84,7 @@ module _ (m : Table) (table : IsTable m) (units ticks a b : ℕ) (h : Holds m un
   more-cost : corner_cost m a + M ≡ corner_cost m b
   more-cost = let le = cost-climb m table a b (omega (arith, order)) h.high in omega arith
 
-  -- a tick of a choice is on or above the line
+  -- each choice for a tick is on or above the line
   tick-above : (x : Choice) → IsChoice m x → M * x.units + s ≤ D * choice_cost m x + g
   tick-above x c =
       over_line x.units (f - x.units) f M D s g (corner_cost m 0) (corner_cost m (suc x.entry)) (choice_cost m x) whole pos
@@ -108,7 +109,7 @@ module _ (m : Table) (table : IsTable m) (units ticks a b : ℕ) (h : Holds m un
           let over = over_mix x.units (f - x.units) f (volts m x.entry) m.idle (speed_at m 0) (volts m 0) heavier in
           omega (arith, over, ap (λ v. (f - x.units) * v) (idle-cost m), ap (λ v. x.units * v) (full-cost m x.entry))
 
-  -- what the two corners do in the ticks
+  -- the units are those of the low corner in all ticks, and the rest
   low-ticks : ticks * corner_units m a + (units - ticks * corner_units m a) ≡ units
   low-ticks = let le = h.enough in omega arith
 

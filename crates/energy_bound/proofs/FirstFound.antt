@@ -1,4 +1,4 @@
--- The first pair of corners that holds is the one that the search finds.
+-- The first two corners that hold are those that the search finds.
 use Rattle.std.proofs.Common.{◌≡◌, ℕ, ◌*◌, ◌<◌, ◌≤◌, Bool, true, false, not, nat_lt, nat_le, Ok, refl, ap, arith}
 use Rattle.std.proofs.lemmas.Bool.{and_parts, and_from, not-true, not-false, ltb-true, leb-true, lt-ltb, le-leb}
 use Rattle.std.proofs.lemmas.Bool.Decides.{nat_tests}
@@ -43,7 +43,7 @@ module _ (m : Table) (units ticks : ℕ) where
         supporting = λ k le. true-above _ _ _ _ _ _ (all-each (corner_count m) _ supporting k (omega arith));
       }
 
-  -- two corners that don't hold
+  -- the test is false for two corners that don't hold
   not-holding : (a b : ℕ) → a ≤ last_corner m → b ≤ last_corner m → (Holds m units ticks a b → ⊥)
       → is_holding m units ticks a b ≡ false
   not-holding a b low high none = go (is_holding m units ticks a b) refl
@@ -67,7 +67,7 @@ module _ (m : Table) (units ticks : ℕ) where
       (λ d less. not-holding c d (omega arith) (omega arith) (none c d lt)))
       (any_below-found (corner_count m) (is_holding m units ticks a) b (omega (arith, h.high)) (holding-true a b h))
 
-  -- and where they are not, by the first corner with a partner and its first partner
+  -- where the units are not too many, the answer is the certificate of the first corner with a partner and the partner
   pub found-is : (a b : ℕ) (l : Least) → units ≤ ticks * highest_speed m
       → ((c d : ℕ) → c < a → Holds m units ticks c d → ⊥) → IsFirstPartner m units ticks a b
       → l ≡ least_of m units ticks a b → Ok l ≡ least_energy_of m units ticks

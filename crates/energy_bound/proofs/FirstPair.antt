@@ -1,4 +1,4 @@
--- The first pair of corners that holds, found by its numbers.
+-- The first two corners that hold, found by their numbers.
 use Rattle.std.proofs.Common.{◌≡◌, ◌⊎◌, inl, inr, ℕ, zero, suc, ◌-◌, ◌*◌, ◌<◌, ◌≤◌, length, refl, sym, ◌∙◌, ap, subst, arith}
 use Rattle.std.proofs.lemmas.Bool.{cases_lt}
 use Rattle.freq_table.specs.Tables.{Table, highest_speed, speed_at, IsTable}
@@ -17,7 +17,7 @@ module _ (m : Table) (table : IsTable m) (units ticks : ℕ) where
           let before : length m.points - 1 ≡ n = omega arith in
           ap (corner_units m) e ∙ ap (speed_at m) (sym before)
 
-  -- and one does where they are not
+  -- where the highest speed does the units in the ticks, some two corners hold
   pub some-holds : units ≤ ticks * highest_speed m → (a : ℕ) × ((b : ℕ) × Holds m units ticks a b)
   some-holds fits = go (last_corner m) refl
     where
@@ -41,7 +41,7 @@ module _ (m : Table) (table : IsTable m) (units ticks : ℕ) where
             ),
           )
 
-  -- where no pair holds whose low corner is below a, and b is the first that holds with a, the two are the first pair
+  -- where no low corner below a holds with any, and b is the first that holds with a, they are the first pair
   pub first-pair : (a b : ℕ) → ((c d : ℕ) → c < a → Holds m units ticks c d → ⊥) → IsFirstPartner m units ticks a b → IsFirstPair m units ticks a b
   first-pair a b none r = record { holds = r.holds; first = earlier }
     where

@@ -8,3 +8,4 @@ pub mod SegmentSums
 pub mod ScheduleCosts
 pub mod Certifying
 pub mod LeastTest
+pub mod Examples

@@ -1,4 +1,4 @@
--- Points on or above the line through two others, in whole numbers without a minus.
+-- Points on or above the line through two others, in natural numbers without differences.
 use Rattle.std.proofs.Common.{◌≡◌, ℕ, ◌+◌, ◌-◌, ◌*◌, ◌<◌, ◌≤◌, ◌⊎◌, inl, inr, arith, ap, mul-le-mul_left, mul-le-mul_right}
 use Rattle.std.proofs.lemmas.Bool.{cases_lt}
 
@@ -12,11 +12,11 @@ above-first p c q d = omega arith
 pub above-second : (p c q d : ℕ) → Above p c q d q d
 above-second p c q d = omega arith
 
--- by what the second point has more than the first: D units and M cost
+-- for a point on or above a line: its place by D and M, the units and cost by which the second point exceeds the first
 pub above-rise : (p c q d D M x y : ℕ) → p + D ≡ q → c + M ≡ d → Above p c q d x y → M * x + c * q ≤ D * y + d * p
 above-rise p c q d D M x y e f h = omega (arith, ap (λ v. v * x) f, ap (λ v. v * y) e, h)
 
--- a product can be cancelled
+-- a positive factor can be cancelled
 pub cancel-le : (k m n : ℕ) → 0 < k → k * m ≤ k * n → m ≤ n
 cancel-le k m n pos h = go (cases_lt n m)
   where
@@ -24,13 +24,13 @@ cancel-le k m n pos h = go (cases_lt n m)
     go (inl lt) = absurd (omega (arith, mul-le-mul_left k (let more : n + 1 ≤ m = omega arith in more)))
     go (inr le) = le
 
--- fractions with denominators from 1 on are in order
+-- the order of fractions is transitive, for a middle denominator from 1 on
 pub ratio-trans : (a b c d e f : ℕ) → 0 < d → a * d ≤ c * b → c * f ≤ e * d → a * f ≤ e * b
 ratio-trans a b c d e f pos h g =
     cancel-le d (a * f) (e * b) pos (omega (arith, mul-le-mul_right f h, mul-le-mul_right b g))
 
--- By what the last point (U, C) has more than the others: the point (x, y) is on or above the line from (p, c) to it where the
--- slope from (x, y) to it is no greater than that from (p, c).
+-- the point (x, y) is on or above the line from (p, c) to (U, C) where the slope from (x, y) to (U, C) is at most that
+-- from (p, c), by the amounts by which (U, C) exceeds both
 pub slope-above : (p c U C x y E M D N : ℕ) → p + E ≡ U → c + M ≡ C → x + D ≡ U → y + N ≡ C → N * E ≤ M * D → Above p c U C x y
 slope-above p c U C x y E M D N pe cm xd yn h =
     omega (
@@ -61,8 +61,8 @@ above-slope p c U C x y E M D N pe cm xd yn h =
       h,
     )
 
--- Where a point is on or above the line of a pair, and the first of the pair on or above the line from that point to a last
--- one, the last one is on or above the line of the pair.
+-- where one point is on or above the line of a pair, and the first of the pair is on or above the line from that
+-- point to a last one, the last one is on or above the line of the pair
 chain-by : (p c D M P X Q Y : ℕ) → 0 < P → Above p c (p + D) (c + M) (p + P) (c + X)
     → Above (p + P) (c + X) (p + P + Q) (c + X + Y) p c
     → Above p c (p + D) (c + M) (p + P + Q) (c + X + Y)

@@ -1,16 +1,16 @@
--- Some pair of corners holds, for every number of units that the highest speed can do in the ticks.
+-- Some two corners hold, for every number of units that the highest speed does in the ticks.
 use Rattle.std.proofs.Common.{◌≡◌, ◌⊎◌, inl, inr, ℕ, zero, suc, ◌-◌, ◌*◌, ◌<◌, ◌≤◌, sym, ap, subst, arith, mul-le-mul_left, eq-or-lt_of_le}
 use Rattle.std.proofs.lemmas.Bool.{cases_lt}
 use Rattle.energy_bound.proofs.Lines.{Above, above-first, above-second, ratio-trans, slope-above, above-slope, above-chain}
 
--- Points by their number: the first coordinate rises, the second doesn't fall.
+-- Points by their number: the first coordinate rises, and the second doesn't fall.
 module _ (u c : ℕ → ℕ) (last : ℕ)
     (rise : (j k : ℕ) → j < k → k ≤ last → u j < u k)
     (climb : (j k : ℕ) → j ≤ k → k ≤ last → c j ≤ c k) where
   abbrev pub OnLine : ℕ → ℕ → ℕ → Type 0
   OnLine a b k = Above (u a) (c a) (u b) (c b) (u k) (c k)
 
-  -- of what holds up to n, one more
+  -- what holds up to n and of n + 1 holds up to n + 1
   up_to-more : (P : ℕ → Type 0) (n : ℕ) → ((k : ℕ) → k ≤ n → P k) → P (suc n) → (k : ℕ) → k ≤ suc n → P k
   up_to-more P n below here k le = go (eq-or-lt_of_le le)
     where
@@ -18,7 +18,7 @@ module _ (u c : ℕ → ℕ) (last : ℕ)
       go (inl e) = subst P (sym e) here
       go (inr lt) = below k (omega arith)
 
-  -- the slope from a point to a later one z, as two numbers
+  -- the first coordinate's rise from point k to a later point z; `fall` is the second's
   abbrev run : ℕ → ℕ → ℕ
   run z k = u z - u k
 
@@ -42,7 +42,7 @@ module _ (u c : ℕ → ℕ) (last : ℕ)
     pub within : p ≤ n
     pub above : (k : ℕ) → k ≤ n → OnLine p z k
 
-  -- the steepest line from one of the points up to n to a later one
+  -- some point up to n has the steepest line to a later one z: no point up to n is below it
   tangent : (n z : ℕ) → n < z → z ≤ last → (p : ℕ) × Touches n z p
   tangent zero z lt zl = (
     0,
@@ -83,7 +83,7 @@ module _ (u c : ℕ → ℕ) (last : ℕ)
                   (of-line p z k before (omega arith) zl (t.above k le))
                   (omega arith))
 
-  -- two of the points up to n whose line is below none of them, and between which T times something is W
+  -- no point up to n is below the line through a and b, and W lies between T times their first coordinates
   pub record Encloses (T W n a b : ℕ) : Type 0 where
     pub order : a < b
     pub within : b ≤ n
@@ -118,7 +118,7 @@ module _ (u c : ℕ → ℕ) (last : ℕ)
     ),
   )
 
-  -- one more point z: the tangent to it, where that begins low enough
+  -- with one more point, the tangent to it encloses W where it begins low enough
   with-tangent : (T W n p : ℕ) → W ≤ T * u (suc n) → Touches n (suc n) p → T * u p ≤ W → Enclosed T W (suc n)
   with-tangent T W n p fits t low = (
     p,
@@ -134,7 +134,7 @@ module _ (u c : ℕ → ℕ) (last : ℕ)
     ),
   )
 
-  -- and else the pair before it, which is below z too
+  -- with one more point, the pair before it encloses W where the tangent begins too high
   with-before : (T W n p a b : ℕ) → suc n ≤ last → Touches n (suc n) p → W < T * u p → Encloses T W n a b → Encloses T W (suc n) a b
   with-before T W n p a b le t over h = record {
     order = h.order;

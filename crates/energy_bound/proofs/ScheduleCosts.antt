@@ -23,7 +23,7 @@ use Rattle.energy_bound.specs.Schedules.{choice_of, choices_of, run_units, Costs
 use Rattle.energy_bound.proofs.SegmentSums.{Counts, IsOfSegments, ticks_weight, notes-sum, units-weight}
 
 module _ (p : Plan) (dem : ℕ → ℕ → ℕ) (ask : List Tick → Frac) (some : 1 ≤ length p.machine.points) where
-  -- what a unit counts: where a job runs, its energy or itself, and where nobody does, its energy
+  -- what a unit at entry e adds to the energy of running segments; `idling` and `unit` are for idle energy and units
   abbrev running : ℕ → Holder → ℕ
   running e Nobody = 0
   running e (Held i k) = (point p e).millivolts * (point p e).millivolts * 1000
@@ -57,14 +57,14 @@ module _ (p : Plan) (dem : ℕ → ℕ → ℕ) (ask : List Tick → Frac) (some
     idle = λ from to units e. omega arith;
   }
 
-  -- the last note counts nothing
+  -- the last note adds nothing to a sum over segments
   with-end : (f : Note → ℕ) → IsOfSegments f → (ticks : List Tick) → sum_by f (notes_of p dem ask ticks) ≡ sum_by f (notes_before_end p dem ask ticks)
   with-end f o ticks =
       let notes = notes_before_end p dem ask ticks in
       sum_by_push f notes (End (length ticks) (sum_by energy_run notes) (sum_by energy_idle notes))
       ∙ omega (arith, o.over (length ticks) (sum_by energy_run notes) (sum_by energy_idle notes))
 
-  -- the cost of one tick
+  -- the cost of a tick is that of its running units and of its idle ones
   tick_cost : (v f w share : ℕ) → (w * (v * v * 1000) + (f - w) * 0) + (w * 0 + (f - w) * (v * v * share)) ≡ v * v * (1000 * w + share * (f - w))
   tick_cost v f w share = go (f - w)
     where
@@ -93,7 +93,7 @@ module _ (p : Plan) (dem : ℕ → ℕ → ℕ) (ask : List Tick → Frac) (some
         sum_by-cons (λ (y : Choice). y.units) (choice_of p x) (choices_of p past),
       )
 
-  -- a legal tick gives no more than its speed
+  -- a legal tick gives at most its speed
   choice-next : (past : List Tick) (x : Tick) → IsNext p dem ask past x → IsChoice p.machine (choice_of p x)
   choice-next past x h = record {
     entry = subst (λ e. e < length p.machine.points) (sym h.entry) (force-within p dem ask some past);

@@ -22,12 +22,12 @@ use Rattle.sched_model.proofs.PieceLemmas.{same_holder-eq}
 use Rattle.sched_model.proofs.NoteLemmas.{flat_map-last}
 use Rattle.sched_model.proofs.OrderLemmas.{sum_list, sum_list-in_order}
 
--- the weights of some units, of one holder each
+-- the sum of the weights of units, each with its holder
 abbrev pub weight_of : (Holder → ℕ) → List Holder → ℕ
 weight_of t [] = 0
 weight_of t (h ∷ hs) = t h + weight_of t hs
 
--- and those of segments
+-- the sum of the weights of segments' units
 abbrev pub segment_weight : (Holder → ℕ) → List Piece → ℕ
 segment_weight t [] = 0
 segment_weight t (r ∷ rs) = r.units * t r.holder + segment_weight t rs
@@ -50,12 +50,12 @@ before-weight t h (r ∷ rs) = go (same_holder h r.holder) refl
         rw e (omega (arith, ap (λ v. r.units * v) same))
     go false e = rw e (omega arith)
 
--- the segments weigh what their units do
+-- the segments of some units weigh what the units do
 pub segment_weight-pieces_of : (t : Holder → ℕ) (us : List Holder) → segment_weight t (pieces_of us) ≡ weight_of t us
 segment_weight-pieces_of t [] = refl
 segment_weight-pieces_of t (h ∷ hs) = before-weight t h (pieces_of hs) ∙ ap (λ v. t h + v) (segment_weight-pieces_of t hs)
 
--- a number for each note that is 0 for all but segments
+-- a function of notes that is 0 on all but segments
 pub record IsOfSegments (f : Note → ℕ) : Type 0 where
   pub release : (tick i k : ℕ) → f (Release tick i k) ≡ 0
   pub speed : (tick speed num den : ℕ) → f (Speed tick speed num den) ≡ 0
@@ -63,7 +63,7 @@ pub record IsOfSegments (f : Note → ℕ) : Type 0 where
   pub over : (ticks run idle : ℕ) → f (End ticks run idle) ≡ 0
 
 module _ (p : Plan) (dem : ℕ → ℕ → ℕ) (ask : List Tick → Frac) where
-  -- the number of a segment at an entry goes by its units, and by what a unit of its holder counts there
+  -- the function of a segment at an entry is its units times the weight of a unit of its holder at that entry
   pub record Counts (f : Note → ℕ) (t : ℕ → Holder → ℕ) : Type 0 where
     pub others : IsOfSegments f
     pub run : (from to : Pos) (i k units e : ℕ) → f (Run from to i k units (run_energy p e units)) ≡ units * t e (Held i k)
@@ -105,7 +105,7 @@ module _ (p : Plan) (dem : ℕ → ℕ → ℕ) (ask : List Tick → Frac) where
       sum_by-append f (segment_notes p dem s q r.units r.holder) (pieces_notes p dem s (q + r.units) rs)
       ∙ ap₂ (λ v w. v + w) (segment-sum f t c s q r.units r.holder) (pieces-sum f t c s (q + r.units) rs)
 
-  -- the notes of a span
+  -- the sum over the notes of a span is the weight of its units
   span-sum : (f : Note → ℕ) (t : ℕ → Holder → ℕ) → Counts f t → (s : Span) → sum_by f (span_notes p dem ask s) ≡ weight_of (t s.entry) s.units
   span-sum f t c s =
       let at_speed = Speed (length s.past) ((point p s.entry).speed) ((ask s.past).num) ((ask s.past).den) in
@@ -123,7 +123,7 @@ module _ (p : Plan) (dem : ℕ → ℕ → ℕ) (ask : List Tick → Frac) where
   spans_weight t [] = 0
   spans_weight t (s ∷ spans) = spans_weight t spans + weight_of (t s.entry) s.units
 
-  -- the weights of the ticks' units
+  -- the weight of the units of all ticks
   abbrev pub ticks_weight : (ℕ → Holder → ℕ) → List Tick → ℕ
   ticks_weight t [] = 0
   ticks_weight t (x ∷ past) = ticks_weight t past + weight_of (t x.entry) (units_of p past x)
@@ -136,7 +136,7 @@ module _ (p : Plan) (dem : ℕ → ℕ → ℕ) (ask : List Tick → Frac) where
       ∙ (sum_by-append f (flat_map (span_notes p dem ask) (reverse spans)) (span_notes p dem ask s)
       ∙ ap₂ (λ v w. v + w) (spans-sum f t c spans) (span-sum f t c s))
 
-  -- the last span has the entry of the last tick
+  -- the latest span has this entry
   abbrev BeginsWith : List Span → ℕ → Type 0
   BeginsWith [] e = ⊥
   BeginsWith (s ∷ spans) e = s.entry ≡ e
@@ -167,7 +167,7 @@ module _ (p : Plan) (dem : ℕ → ℕ → ℕ) (ask : List Tick → Frac) where
   longer-weight t us (s ∷ spans) e h =
       omega (arith, weight_of-append (t s.entry) s.units us, ap (λ v. weight_of (t v) us) h)
 
-  -- the spans weigh what the ticks do
+  -- the spans of a schedule weigh what its ticks do
   spans-ticks : (t : ℕ → Holder → ℕ) (ticks : List Tick) → IsScheduleBy p dem ask ticks → spans_weight t (spans_of p dem ticks) ≡ ticks_weight t ticks
   spans-ticks t [] h = refl
   spans-ticks t (x ∷ []) h = refl
@@ -183,13 +183,13 @@ module _ (p : Plan) (dem : ℕ → ℕ → ℕ) (ask : List Tick → Frac) where
           ∙ ap₂ (λ v e. v + weight_of (t e) (units_of p (y ∷ past) x)) ih same
           )
 
-  -- so does a number of segments over the notes
+  -- the sum over the notes of a schedule is the weight of its ticks
   pub notes-sum : (f : Note → ℕ) (t : ℕ → Holder → ℕ) → Counts f t → (ticks : List Tick) → IsScheduleBy p dem ask ticks
       → sum_by f (notes_before_end p dem ask ticks) ≡ ticks_weight t ticks
   unfolding notes_before_end
   notes-sum f t c ticks h = spans-sum f t c (spans_of p dem ticks) ∙ spans-ticks t ticks h
 
-  -- the units of a tick, by what a unit counts that a job holds, and one that nobody does
+  -- the weight of the units of a tick's jobs, where each unit of a job weighs w
   given-weight : (t : Holder → ℕ) (w : ℕ) (given job : ℕ → ℕ) (order : List ℕ) → ((i k : ℕ) → t (Held i k) ≡ w)
       → weight_of t (flat_map (λ i. replicate (given i) (Held i (job i))) order) ≡ sum_list given order * w
   given-weight t w given job [] same = omega arith

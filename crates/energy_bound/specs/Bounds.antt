@@ -1,4 +1,4 @@
--- What a certificate of least energy bounds, and where the bound is reached.
+-- What a certificate of least energy bounds, and how the bound is reached.
 use Rattle.std.specs.Prelude.{◌≡◌, ℕ, ◌+◌, ◌*◌, ◌≤◌, List, ◌++◌, length, replicate, if◌then◌else◌}
 use Rattle.freq_table.specs.Tables.{Table}
 use Rattle.energy_bound.specs.declared.least.Least.{Least}
@@ -11,12 +11,12 @@ BoundsChoices m units ticks l =
     (n : ℕ) (xs : List Choice) → AreChoices m xs → length xs ≡ n * ticks → total_units xs ≡ n * units
     → n * l.energy ≤ l.rounds * total_cost m xs
 
--- the low ticks at one corner, and then the high ticks at another
+-- the choice of the low ticks at corner a, and then the high ticks at corner b
 abbrev pub mixed : Table → Least → ℕ → ℕ → List Choice
 mixed m l a b = replicate l.low_ticks (corner m a) ++ replicate l.high_ticks (corner m b)
 
--- at two corners, with the low and the high speed, this choice does the units in the ticks, `rounds` times each, and
--- costs the energy
+-- the choice at corners a and b, with the low and the high speed, does the units in the ticks, `rounds` times each,
+-- and costs the energy
 pub record IsReachedAt (m : Table) (units ticks : ℕ) (l : Least) (a b : ℕ) : Type 0 where
   pub low_corner : a ≤ last_corner m
   pub low : corner_units m a ≡ l.low
@@ -27,23 +27,23 @@ pub record IsReachedAt (m : Table) (units ticks : ℕ) (l : Least) (a b : ℕ) :
   pub all_units : total_units (mixed m l a b) ≡ l.rounds * units
   pub cost : total_cost m (mixed m l a b) ≡ l.energy
 
--- the bound is reached over `rounds` repetitions, of which there are some
+-- the bound is reached over `rounds` repetitions, which are at least one
 pub record IsReached (m : Table) (units ticks : ℕ) (l : Least) : Type 0 where
   pub some : 1 ≤ l.rounds
   pub low : ℕ
   pub high : ℕ
   pub reached : IsReachedAt m units ticks l low high
 
--- the price of a tick: what is to be paid for it, and what is given where it is below 0
+-- the part of a tick's price that is paid for it: the price, and 0 where it is below 0
 abbrev pub tick_due : Least → ℕ
 tick_due l = if l.tick_minus then 0 else l.tick_price
 
--- and what is given back for it
+-- the part of a tick's price that is given back: the price where it is below 0, else 0
 abbrev pub tick_refund : Least → ℕ
 tick_refund l = if l.tick_minus then l.tick_price else 0
 
--- at the prices of a unit and of a tick, no tick of a choice costs less than its units and itself, times `rounds`; and
--- the energy is what all units and ticks come to
+-- at the prices of a unit and of a tick, each tick of a choice costs, times `rounds`, at least its units and itself;
+-- and the energy is the price of all units and ticks
 pub record HavePrices (m : Table) (units ticks : ℕ) (l : Least) : Type 0 where
   pub each : (x : Choice) → IsChoice m x
       → l.unit_price * x.units + tick_due l ≤ l.rounds * choice_cost m x + tick_refund l

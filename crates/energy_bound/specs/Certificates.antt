@@ -1,4 +1,4 @@
--- The certificate of least energy that a pair of corners gives.
+-- The certificate of least energy that two corners give.
 use Rattle.std.specs.Prelude.{◌≡◌, ℕ, ◌+◌, ◌*◌, ◌-◌, ◌<◌, nat_lt}
 use Rattle.std.specs.Int.{abs_diff}
 use Rattle.freq_table.specs.Tables.{Table, highest_speed}
@@ -6,14 +6,14 @@ use Rattle.energy_bound.specs.declared.least.Least.{Least}
 use Rattle.energy_bound.specs.declared.least.Over.{Over}
 use Rattle.energy_bound.specs.Corners.{corner_units, corner_cost, Holds, IsFirstPair}
 
--- the units are more than the highest speed does in the ticks: the two numbers
+-- the units are more than the highest speed does in the ticks, and the error has both numbers
 pub record IsOver (m : Table) (units ticks : ℕ) (e : Over) : Type 0 where
   pub num : e.num ≡ units
   pub cap : e.cap ≡ ticks * highest_speed m
   pub more : e.cap < e.num
 
--- over `rounds` repetitions of the ticks, each of the two corners for so many ticks of them, and what that costs; and
--- the prices of a unit and of a tick along the line through the two
+-- the certificate of corners a and b: over `rounds` repetitions, the ticks at each of them and their energy; and the
+-- prices of a unit and of a tick along the line through the two
 abbrev pub least_of : Table → ℕ → ℕ → ℕ → ℕ → Least
 least_of m units ticks a b =
     let p = corner_units m a in
@@ -32,10 +32,10 @@ least_of m units ticks a b =
       tick_price = abs_diff (cp * q) (cq * p);
     }
 
--- it is that of a pair of corners that holds
+-- the answer is the certificate of two corners that hold
 abbrev pub IsCertificate : Table → ℕ → ℕ → Least → Type 0
 IsCertificate m units ticks l = (a b : ℕ) × Holds m units ticks a b × (l ≡ least_of m units ticks a b)
 
--- and that of the first such pair
+-- the answer is the certificate of the first two corners that hold
 abbrev pub IsFirstCertificate : Table → ℕ → ℕ → Least → Type 0
 IsFirstCertificate m units ticks l = (a b : ℕ) × IsFirstPair m units ticks a b × (l ≡ least_of m units ticks a b)

@@ -1,4 +1,4 @@
--- The corners of a machine's choices, and which pair of them holds.
+-- The corners of a machine, and which two of them hold.
 use Rattle.std.specs.Prelude.{◌≡◌, ◌⊎◌, ℕ, zero, suc, ◌+◌, ◌*◌, ◌-◌, ◌<◌, ◌≤◌, length}
 use Rattle.freq_table.specs.Tables.{Table, speed_at}
 use Rattle.energy_bound.specs.Choices.{Choice, choice_cost}
@@ -12,15 +12,15 @@ corner m (suc e) = record { entry = e; units = speed_at m e }
 abbrev pub last_corner : Table → ℕ
 last_corner m = length m.points
 
--- the units and the cost of a corner
+-- the units of corner k
 abbrev pub corner_units : Table → ℕ → ℕ
 corner_units m k = (corner m k).units
 
--- and its cost
+-- the cost of corner k
 abbrev pub corner_cost : Table → ℕ → ℕ
 corner_cost m k = choice_cost m (corner m k)
 
--- corner k has so many units
+-- corner k has `units` units
 abbrev pub HasUnits : Table → ℕ → ℕ → Type 0
 HasUnits m units k = (k ≤ last_corner m) × (corner_units m k ≡ units)
 
@@ -35,7 +35,7 @@ IsSupporting m a b =
     → IsAbove (corner_units m a) (corner_cost m a) (corner_units m b) (corner_cost m b)
     (corner_units m k) (corner_cost m k)
 
--- two corners, a slower and a faster, hold for so many units in so many ticks: the units lie between what the two do in
+-- a slower corner and a faster one hold for `units` units in `ticks` ticks: the units lie between what the two do in
 -- these ticks, and no corner lies below the line through the two
 pub record Holds (m : Table) (units ticks a b : ℕ) : Type 0 where
   pub slower : corner_units m a < corner_units m b
@@ -54,13 +54,13 @@ pub record IsFirstPartner (m : Table) (units ticks a b : ℕ) : Type 0 where
 abbrev pub HasNoPartner : Table → ℕ → ℕ → ℕ → Type 0
 HasNoPartner m units ticks a = (b : ℕ) → Holds m units ticks a b → ⊥
 
--- of two pairs of corners, (a, b) has the slower low corner, or an equal one and no faster high corner
+-- of two pairs of corners, (a, b) has the slower low corner, or an equally fast one and no faster high corner
 abbrev pub IsNoLater : Table → ℕ → ℕ → ℕ → ℕ → Type 0
 IsNoLater m a b c d =
     (corner_units m a < corner_units m c)
     ⊎ ((corner_units m a ≡ corner_units m c) × (corner_units m b ≤ corner_units m d))
 
--- the pair that holds with the least speed of the low corner, and then of the high one
+-- the pair that holds with the least speed of the low corner, and then the least of the high one
 pub record IsFirstPair (m : Table) (units ticks a b : ℕ) : Type 0 where
   pub holds : Holds m units ticks a b
   pub first : (c d : ℕ) → Holds m units ticks c d → IsNoLater m a b c d

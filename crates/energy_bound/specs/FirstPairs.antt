@@ -22,7 +22,7 @@ is_supporting m a b =
     is_above (corner_units m a) (corner_cost m a) (corner_units m b) (corner_cost m b)
     (corner_units m k) (corner_cost m k))
 
--- whether the two hold for so many units in so many ticks
+-- whether corners a and b hold for `units` units in `ticks` ticks
 abbrev pub is_holding : Table → ℕ → ℕ → ℕ → ℕ → Bool
 is_holding m units ticks a b =
     nat_lt (corner_units m a) (corner_units m b)
@@ -33,13 +33,13 @@ is_holding m units ticks a b =
 abbrev pub high_corner : Table → ℕ → ℕ → ℕ → ℕ
 high_corner m units ticks a = first_from (corner_count m) 0 (is_holding m units ticks a)
 
--- the first corner with which some corner holds
+-- the first corner with which some corner holds, and one past the last where none does
 abbrev pub low_corner : Table → ℕ → ℕ → ℕ
 low_corner m units ticks =
     first_from (corner_count m) 0 (λ a. any_below (corner_count m) (is_holding m units ticks a))
 
--- the least energy for so many units in so many ticks: the certificate of that pair, unless the units are more than the
--- highest speed does in the ticks
+-- the least energy for `units` units in `ticks` ticks: the certificate of the first two corners that hold, unless the
+-- units are more than the highest speed does in the ticks
 abbrev pub least_energy_of : Table → ℕ → ℕ → Result Least Over
 least_energy_of m units ticks =
     let cap = ticks * highest_speed m in

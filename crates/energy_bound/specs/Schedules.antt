@@ -1,4 +1,4 @@
--- What a schedule costs by its ticks, and the bound on every schedule.
+-- What a schedule costs, tick by tick, and the bound on every schedule.
 use Rattle.std.specs.Prelude.{◌≡◌, ℕ, ◌+◌, ◌*◌, ◌≤◌, List, length, map, sum_by}
 use Rattle.dvs_base.specs.declared.note.Note.{Note}
 use Rattle.dvs_base.specs.declared.note.Note.TheVariants.{Run}
@@ -14,49 +14,49 @@ use Rattle.energy_bound.specs.declared.least.Least.{Least}
 use Rattle.energy_bound.specs.Choices.{Choice, AreChoices, total_units, total_cost}
 use Rattle.energy_bound.specs.Bounds.{BoundsChoices, IsReached, HavePrices}
 
--- what a tick of a schedule chooses: its entry, and the units that the jobs get
+-- the choice of a tick of a schedule: its entry, and the units that the jobs get
 abbrev pub choice_of : Plan → Tick → Choice
 choice_of p x = record { entry = x.entry; units = sum_below (count p) (share x) }
 
--- what all ticks of a schedule choose
+-- the choices of all ticks of a schedule
 abbrev pub choices_of : Plan → List Tick → List Choice
 choices_of p ticks = map (choice_of p) ticks
 
--- the units of a running segment
+-- the units of a note where it is a running segment
 abbrev pub run_units : Note → ℕ
 run_units (Run from to i k units energy) = units
 run_units _ = 0
 
--- the units that run by some notes, and their energy, idle segments included
+-- the units of the running segments among some notes
 abbrev pub units_run : List Note → ℕ
 units_run notes = sum_by run_units notes
 
--- the energy of the segments that some notes tell
+-- the energy of the segments among some notes, idle ones included
 abbrev pub energy_spent : List Note → ℕ
 energy_spent notes = (totals_of notes).run + (totals_of notes).idle
 
--- some ticks of a plan are choices, whose units are those of the running segments and whose cost is the energy of all
+-- the ticks of a plan are choices, whose units are those of the running segments and whose cost is the energy of all
 -- segments
 pub record CostsItsTicks (p : Plan) (ticks : List Tick) (notes : List Note) : Type 0 where
   pub choices : AreChoices p.machine (choices_of p ticks)
   pub units : units_run notes ≡ total_units (choices_of p ticks)
   pub cost : energy_spent notes ≡ total_cost p.machine (choices_of p ticks)
 
--- so it is for every schedule on a machine, whatever the jobs need and whatever demand is published
+-- every schedule on the machine costs what its ticks do, for any demands and any published demand
 abbrev pub SchedulesCostTheirTicks : Table → Type 0
 SchedulesCostTheirTicks m =
     (p : Plan) (dem : ℕ → ℕ → ℕ) (ask : List Tick → Frac) (ticks : List Tick) → p.machine ≡ m
     → IsScheduleBy p dem ask ticks → CostsItsTicks p ticks (notes_of p dem ask ticks)
 
--- every schedule on the machine that runs so many units in so many ticks spends, times `rounds`, at least the energy
+-- every schedule on the machine that runs `units` units in `ticks` ticks spends, times `rounds`, at least the energy
 abbrev pub BoundsSchedules : Table → ℕ → ℕ → Least → Type 0
 BoundsSchedules m units ticks l =
     (p : Plan) (dem : ℕ → ℕ → ℕ) (ask : List Tick → Frac) (past : List Tick) → p.machine ≡ m
     → IsScheduleBy p dem ask past → length past ≡ ticks → units_run (notes_of p dem ask past) ≡ units
     → l.energy ≤ l.rounds * energy_spent (notes_of p dem ask past)
 
--- the answer is the least energy: its prices show that no choice and no schedule costs less, and over `rounds`
--- repetitions that is reached
+-- the answer is the least energy: its prices show that no choice and no schedule costs less, and it is reached over
+-- `rounds` repetitions
 pub record IsLeast (m : Table) (units ticks : ℕ) (l : Least) : Type 0 where
   pub prices : HavePrices m units ticks l
   pub choices : BoundsChoices m units ticks l

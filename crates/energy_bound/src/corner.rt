@@ -1,4 +1,4 @@
-// The corners of a machine's choices.
+// The corners of a machine: an idle tick at the first entry, and a full tick at each entry.
 ghost use Rattle.std.specs.Prelude.{◌≡◌, ◌≤◌, ◌<◌, ◌*◌, ◌↔◌, ℕ, IsTrue, MatchOption};
 ghost use Rattle.freq_table.specs.declared.limits.TheConstants.{TOP_SPEED};
 ghost use Rattle.dvs_base.specs.declared.limits.TheConstants.{MOST_TICKS};
@@ -8,7 +8,7 @@ ghost use Rattle.energy_bound.specs.Corners.{corner_units, corner_cost, last_cor
 use energy::energy_of;
 use freq_table::Machine;
 
-/// The units and the cost of an idle tick at the first entry, or of a full tick.
+/// A corner: its units, and its cost.
 #[derive(Clone, Copy)]
 pub(crate) struct Corner {
     pub units: u64,
@@ -17,7 +17,7 @@ pub(crate) struct Corner {
     ghost low_cost: { cost ≤ most_unit_energy * TOP_SPEED },
 }
 
-/// Corner `k`: an idle tick at the first entry for 0, and from 1 on a full tick at each entry.
+/// Corner `k`: an idle tick at the first entry for 0, and from 1 on a full tick at entry `k - 1`.
 pub(crate) fn nth_corner(machine: &Machine, k: u32) -> Corner
     requires { k ≤ last_corner machine.now }
     ensures units { result.units ≡ corner_units machine.now k }
@@ -38,7 +38,7 @@ pub(crate) fn nth_corner(machine: &Machine, k: u32) -> Corner
     }
 }
 
-/// The number of the corner with so many units, if there is one.
+/// The number of the corner with `units` units, if there is one.
 pub(crate) fn corner_with(machine: &Machine, units: u64) -> Option<u32>
     ensures { MatchOption result ((k : ℕ) → HasUnits machine.now units k → ⊥) (HasUnits machine.now units) }
 {
@@ -64,7 +64,7 @@ fn is_above(low: Corner, high: Corner, corner: Corner) -> bool
     line <= point
 }
 
-// Whether no corner lies below the line through two of them.
+// Whether no corner lies below the line through corners `a` and `b`.
 fn is_supporting(machine: &Machine, a: u32, b: u32) -> bool
     requires order { a < b }
     requires last { b ≤ last_corner machine.now }
@@ -81,7 +81,7 @@ fn is_supporting(machine: &Machine, a: u32, b: u32) -> bool
     true
 }
 
-/// Whether two corners hold for so many units in so many ticks.
+/// Whether corners `a` and `b` hold for `units` units in `ticks` ticks.
 pub(crate) fn holds(machine: &Machine, units: u64, ticks: u64, a: u32, b: u32) -> bool
     requires low { a ≤ last_corner machine.now }
     requires high { b ≤ last_corner machine.now }

@@ -14,7 +14,7 @@ use freq_table::Machine;
 /// The least energy for a number of work units in a number of ticks, in units times millivolts squared times
 /// thousandths. Over `rounds` repetitions of the ticks, `low_ticks` ticks at the corner with `low` units a tick and
 /// `high_ticks` at the one with `high` do the units and cost `energy`. `unit_price` and `tick_price`, below 0 where
-/// `tick_minus`, are the prices that show that nothing costs less.
+/// `tick_minus`, are prices that show that nothing costs less.
 #[derive(Clone, Copy, Debug, PartialEq, Eq)]
 pub struct Least {
     pub rounds: u64,
@@ -35,7 +35,7 @@ pub struct Over {
     pub cap: u128,
 }
 
-// The certificate of two corners that hold.
+// The certificate of corners `a` and `b`, which hold.
 fn least_of(machine: &Machine, units: u64, ticks: u64, a: u32, b: u32) -> Least
     requires holds { Holds machine.now units ticks a b }
     requires low_ticks { ticks ≤ MOST_TICKS }
@@ -61,7 +61,7 @@ fn least_of(machine: &Machine, units: u64, ticks: u64, a: u32, b: u32) -> Least
     }
 }
 
-// The first faster corner that holds with corner `a`.
+// The first corner that holds with corner `a`, which is slower.
 fn first_partner(machine: &Machine, units: u64, ticks: u64, a: u32) -> Option<u32>
     requires last { a < last_corner machine.now }
     requires low_ticks { ticks ≤ MOST_TICKS }
@@ -76,7 +76,7 @@ fn first_partner(machine: &Machine, units: u64, ticks: u64, a: u32) -> Option<u3
     None
 }
 
-/// The least energy for so many work units in so many ticks, at most 2^40, with its certificate: that of the corners
+/// The least energy for `units` work units in `ticks` ticks, at most 2^40, with its certificate: that of the corners
 /// that hold with the least low speed, and then the least high one. `Over` exactly where the units are more than the
 /// highest speed does in the ticks, with these two numbers.
 pub fn least_energy(machine: &Machine, units: u64, ticks: u64) -> Result<Least, Over>
@@ -103,14 +103,14 @@ pub fn least_energy(machine: &Machine, units: u64, ticks: u64) -> Result<Least, 
     unreachable!()
 }
 
-/// Whether an answer is the certificate of two corners that hold for so many work units in so many ticks, at most 2^40.
-/// Every `Ok` of [`least_energy`] is one.
+/// Whether an answer is the certificate of two corners that hold for `units` work units in `ticks` ticks, at most
+/// 2^40. Every `Ok` of [`least_energy`] is one.
 pub fn check(machine: &Machine, units: u64, ticks: u64, given: &Least) -> bool
     requires { ticks ≤ MOST_TICKS }
     ensures exact { IsTrue result ↔ IsCertificate machine.now units ticks given.now }
-    // Then no choice and no schedule costs less, and over `rounds` repetitions some choice costs no more.
+    // Then no choice and no schedule costs less than the answer, which some choice over `rounds` repetitions reaches.
     ensures least { IsTrue result → IsLeast machine.now units ticks given.now }
-    // Each schedule on this machine is a choice for each tick: its segments' energies add up to the costs of its ticks.
+    // Each schedule on this machine is a choice for each tick: its segments' energies add up to its ticks' costs.
     ensures costs { SchedulesCostTheirTicks machine.now }
 {
     let _entries = machine.as_slice();

@@ -1,4 +1,4 @@
-// Least energies of worked machines.
+// The least energies of worked machines.
 use super::*;
 use dvs_base::MOST_TICKS;
 use freq_table::Machine;
@@ -193,7 +193,7 @@ fn a_number_one_lower_fails_the_check(rt: HostRuntime) -> Result<(), Fail> {
     Ok(())
 }
 
-// 48 units are full ticks at the middle speed, so the pairs below and above it both hold; the lower one is answered.
+// 48 units are full ticks at the middle speed, so the pairs below and above it both hold; the answer is the lower one.
 #[test]
 fn two_pairs_pass_the_check_where_both_hold(rt: HostRuntime) -> Result<(), Fail> {
     let machine = machine_of(rt.alloc(), THREE_SPEEDS)?;
@@ -253,7 +253,7 @@ fn no_units_and_one_entry(rt: HostRuntime) -> Result<(), Fail> {
     Ok(())
 }
 
-// A unit costs the same at both speeds, so three corners lie on one line.
+// A unit costs the same at both speeds, so three corners are on one line.
 #[test]
 fn equal_costs_of_a_unit(rt: HostRuntime) -> Result<(), Fail> {
     let machine = machine_of(rt.alloc(), ONE_VOLTAGE)?;

@@ -18,7 +18,7 @@ use Rattle.energy.proofs.BookRoom.{has-room, task-sums}
 use Rattle.event_kernel.specs.SpanNotes.{all_booked, CanBook, HasBooked}
 use Rattle.event_kernel.proofs.Fitting.{AreBooked}
 
--- a note behind others is of the plan
+-- what holds of each note of a list holds of a note in it
 note-there : (P : Note → Type 0) (xs : List Note) (n : Note) (rest : List Note) → AllByRecursion P (xs ++ n ∷ rest) → P n
 note-there P [] n rest h = h.0
 note-there P (x ∷ xs) n rest h = note-there P xs n rest h.1
@@ -27,7 +27,7 @@ module _ (p : Plan) where
   abbrev points : ℕ
   points = length p.machine.points
 
-  -- one more note
+  -- the account after one more note
   booked-next : (b : Books) (notes : List Note) (n : Note) (e : ℕ) → HasBooked p b notes → HasTask b n → e < points
       → HasBooked p (booked b n e) (notes ++ n ∷ [])
   booked-next b notes n e h task lt = record {
@@ -37,7 +37,7 @@ module _ (p : Plan) where
         ∙ booked-sums (count p) points h.told n e (subst (λ (c : Books). HasTask c n) h.books task) lt;
   }
 
-  -- it has its task and its room
+  -- the account has the task of the next note, and room for it
   note-fits : (b : Books) (notes : List Note) (n : Note) (rest : List Note) (e : ℕ) → HasBooked p b notes → AreBooked p (notes ++ n ∷ rest)
       → e < points → HasTask b n × HasRoom b n e
   note-fits b notes n rest e h all lt =
@@ -68,7 +68,7 @@ module _ (p : Plan) where
       of (Done q i k used) l = omega (arith, l, long)
       of (End ticks total rest) l = tt
 
-  -- the notes of a span can be booked, and are
+  -- notes that fit can all be added to the account, and it has them then
   pub book-all : (ns : List Note) (b : Books) (notes : List Note) (e : ℕ) → HasBooked p b notes → AreBooked p (notes ++ ns) → e < points
       → CanBook b ns e × HasBooked p (all_booked b ns e) (notes ++ ns)
   book-all [] b notes e h all lt = (tt, subst (HasBooked p b) (sym (append-nil notes)) h)
@@ -78,7 +78,7 @@ module _ (p : Plan) where
       let more = book-all ns (booked b n e) (notes ++ n ∷ []) e (booked-next b notes n e h room.0 lt) (subst (AreBooked p) one all) lt in
       ((room.0, room.1, more.0), subst (HasBooked p (all_booked (booked b n e) ns e)) (sym one) more.1)
 
-  -- there is a sum for each entry
+  -- an account has a sum for each entry
   pub booked-points : (b : Books) (notes : List Note) → HasBooked p b notes → length b.by_point ≡ points
   booked-points b notes h = ap (λ (c : Books). length c.by_point) h.books ∙ length-list_below points (λ e. sum_by (energy_at_point e) h.told)
 

@@ -1,6 +1,7 @@
 -- The limits of a plan, as the kernel uses them: also of places past the end.
-use Rattle.std.proofs.Common.{◌≡◌, ℕ, zero, suc, ◌+◌, ◌*◌, ◌<◌, ◌≤◌, ◌^◌, List, [], ◌∷◌, length, refl, arith, sym, subst, ◌⊎◌, inl, inr}
+use Rattle.std.proofs.Common.{ℕ, ◌+◌, ◌*◌, ◌<◌, ◌≤◌, ◌^◌, List, length, arith, sym, subst, ◌⊎◌, inl, inr}
 use Rattle.std.proofs.lemmas.Bool.{cases_lt}
+use Rattle.std.proofs.lemmas.List.{get_or_past}
 use Rattle.std.specs.List.{slice_index_or}
 use Rattle.task_model.specs.declared.task.Task.{Task}
 use Rattle.task_model.specs.Tasks.{no_task}
@@ -19,12 +20,6 @@ pub record Bounds (p : Plan) : Type 0 where
   pub some_speed : (e : ℕ) → e < length p.machine.points → 0 < (point p e).speed
   pub low_speed : (e : ℕ) → (point p e).speed ≤ 1000000
 
--- past the end stands the default
-past-end : {A : Type 0} (xs : List A) (i : ℕ) (d : A) → length xs ≤ i → slice_index_or xs i d ≡ d
-past-end [] i d le = refl
-past-end (x ∷ xs) zero d le = absurd (omega arith)
-past-end (x ∷ xs) (suc i) d le = past-end xs i d (omega arith)
-
 -- what holds of each element, and of the default, holds at each place
 at-each : {A : Type 0} (P : A → Type 0) (xs : List A) (d : A) → ((i : ℕ) → i < length xs → P (slice_index_or xs i d)) → P d
     → (i : ℕ) → P (slice_index_or xs i d)
@@ -32,7 +27,7 @@ at-each P xs d each here i = go (cases_lt i (length xs))
   where
     go : (i < length xs) ⊎ (length xs ≤ i) → P (slice_index_or xs i d)
     go (inl lt) = each i lt
-    go (inr ge) = subst P (sym (past-end xs i d ge)) here
+    go (inr ge) = subst P (sym (get_or_past xs i d ge)) here
 
 pub bounds : (p : Plan) → IsAdmitted p → Bounds p
 bounds p adm =

@@ -1,5 +1,5 @@
 -- The end of a span, and of a run.
-use Rattle.std.proofs.Common.{◌≡◌, ℕ, ◌+◌, ◌-◌, ◌<◌, ◌≤◌, Bool, List, [], ◌∷◌, ◌++◌, length, refl, arith, true, ap, ap₂, ◌∙◌, sym, subst}
+use Rattle.std.proofs.Common.{◌≡◌, ℕ, ◌+◌, ◌-◌, ◌<◌, ◌≤◌, Bool, List, [], ◌∷◌, ◌++◌, length, refl, arith, true, ap, ap₂, ◌∙◌, sym, subst, inl}
 use Rattle.std.specs.Prelude.{sum_by, count_by}
 use Rattle.std.proofs.lemmas.List.Sums.{sum_by-append, sum_by-cons}
 use Rattle.grid_fraction.specs.declared.Frac.{Frac}
@@ -22,6 +22,8 @@ use Rattle.event_kernel.specs.declared.span_trace.SpanTrace.{SpanTrace}
 use Rattle.event_kernel.specs.SpanNotes.{all_booked, CanBook, HasBooked}
 use Rattle.event_kernel.specs.Runs.{Run, demands_of, notes_before_end_of, notes_of_run}
 use Rattle.event_kernel.specs.Segment.{ended}
+use Rattle.event_kernel.specs.Heard.{HasHeard, HasBalked}
+use Rattle.event_kernel.proofs.Hearing.{heard-append, balked-append, balked_after}
 use Rattle.event_kernel.specs.Tickwork.{notes_before}
 use Rattle.event_kernel.specs.declared.progress.Setting.{Setting}
 use Rattle.event_kernel.specs.declared.progress.InForce.{InForce}
@@ -53,7 +55,7 @@ module _ {demand : Plan → StateOf → Frac} {set : Setting} (ok : IsSetting se
       ap (notes_before demand p dem) (sym next)
       ∙ closing-notes ok h (course-fits demand p dem ok.admitted ok.within.none (s.now - 1)).span
 
--- before the first span
+-- the opening state is before the first span, at tick 0, and has no notes
 pub first-between : {demand : Plan → StateOf → Frac} {set : Setting} {s : StateOf}
     → s ≡ prior_state set.plan.now (demands_of set.plan.now set.demands.now) []
     → IsBetween set demand s × (notes_before demand set.plan.now (demands_of set.plan.now set.demands.now) s.now ≡ []) × (s.now ≡ 0)
@@ -69,7 +71,7 @@ first-between {demand} {set} {s} e =
       now,
     )
 
--- the notes of a span can be booked, and are then in the books
+-- the notes of a span can be added to the account, and it has them then
 pub span-booked : (demand : Plan → StateOf → Frac) (p : Plan) (dem : ℕ → ℕ → ℕ) → IsAdmitted p → ((i : ℕ) → dem i 0 ≡ 0) → (t t' : ℕ)
     (ns : List Note) (b : Books) (e : ℕ) → t' ≤ MOST_TICKS → notes_before demand p dem t' ≡ notes_before demand p dem t ++ ns
     → HasBooked p b (notes_before demand p dem t) → e < length p.machine.points
@@ -78,18 +80,12 @@ span-booked demand p dem adm none t t' ns b e early is h lt =
     let all = book-all p ns b (notes_before demand p dem t) e h (subst (AreBooked p) is ((course-fits demand p dem adm none t').all early)) lt in
     (all.0, subst (HasBooked p (all_booked b ns e)) (sym is) all.1)
 
--- all notes of a run, with the totals of those before the last
+-- all notes of a run, and their totals
 module _ (demand : Plan → StateOf → Frac) (r : Run) where
   abbrev before : List Note
   before = notes_before_end_of demand r
 
-  pub run-notes : (n : ℕ) (t : Totals) (b : Books) → n ≡ r.ticks → t ≡ b.totals → HasBooked r.plan b before
-      → before ++ End n t.run t.idle ∷ [] ≡ notes_of_run demand r
-  run-notes n t b whole total h =
-      ap₂ (λ m (x : Totals). before ++ End m x.run x.idle ∷ []) (whole ∙ sym (course-len demand r.plan _ r.ticks))
-      (total ∙ booked-totals r.plan b before h)
-
-  -- the totals are those of all notes
+  -- the `End` adds nothing to the totals
   sum-end : (f : Note → ℕ) (n : Note) → f n ≡ 0 → sum_by f before ≡ sum_by f (before ++ n ∷ [])
   sum-end f n none = omega (arith, sum_by-append f before (n ∷ []), sum_by-cons f n [], none)
 
@@ -107,3 +103,26 @@ module _ (demand : Plan → StateOf → Frac) (r : Run) where
 
   pub run-totals : (b : Books) → HasBooked r.plan b before → b.totals ≡ totals_of (notes_of_run demand r)
   run-totals b h = booked-totals r.plan b before h ∙ totals-end _ _ _
+
+  run-notes : {n : ℕ} {t : Totals} {end : Note} → n ≡ r.ticks → t ≡ totals_of (notes_of_run demand r) → end ≡ End n t.run t.idle
+      → before ++ end ∷ [] ≡ notes_of_run demand r
+  run-notes whole total is =
+      ap (λ n. before ++ n ∷ []) (is ∙ ap₂ (λ m (x : Totals). End m x.run x.idle) (whole ∙ sym (course-len demand r.plan _ r.ticks))
+      (total ∙ sym (totals-end _ _ _)))
+
+  -- a listener hears the notes before the `End`, and then the `End`
+  module _ {L : Type 0} (heard balked : L → Note → L → Type 0) (from mid to : L) where
+    pub early-balked : HasBalked heard balked from before to → HasBalked heard balked from (notes_of_run demand r) to
+    early-balked left = balked-append heard balked before _ from to left
+
+    pub end-heard : {n : ℕ} {t : Totals} {end : Note} → n ≡ r.ticks → t ≡ totals_of (notes_of_run demand r) → end ≡ End n t.run t.idle
+        → HasHeard heard from before mid → heard mid end to → HasHeard heard from (notes_of_run demand r) to
+    end-heard {end = end} whole total is left last =
+        subst (λ ns. HasHeard heard from ns to) (run-notes whole total is)
+        (heard-append heard balked before (end ∷ []) from mid to left (to, last, refl))
+
+    pub end-balked : {n : ℕ} {t : Totals} {end : Note} → n ≡ r.ticks → t ≡ totals_of (notes_of_run demand r) → end ≡ End n t.run t.idle
+        → HasHeard heard from before mid → balked mid end to → HasBalked heard balked from (notes_of_run demand r) to
+    end-balked {end = end} whole total is left last =
+        subst (λ ns. HasBalked heard balked from ns to) (run-notes whole total is)
+        (balked_after heard balked before (end ∷ []) from mid to left (inl last))

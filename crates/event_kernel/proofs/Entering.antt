@@ -45,7 +45,7 @@ done_same : (a b : Pos) (i k d u : ℕ) → nat_eq u d ≡ true → Done a i k u
 done_same a b i k d u e = let same : u ≡ d = grind (arith, nat_tests) in ap (λ n. Done a i k n ∷ []) same
 
 module _ (p : Plan) (dem : ℕ → ℕ → ℕ) (ask : List Tick → Frac) (t : ℕ) where
-  -- the last segment's notes, read off the state
+  -- the last segment's notes are those that the state's rows show
   pub tells : (s : Span) (used : ℕ → ℕ) (st : StateOf) (q u : ℕ) (h : Holder) → HeldNow p t h → q + u ≡ length s.units
       → ((i : ℕ) → i < count p → exec p s.past i (latest p i t) + count_by (same_holder (Held i (latest p i t))) s.units ≡ used i)
       → Shows p dem t st used
@@ -75,7 +75,7 @@ module _ (p : Plan) (dem : ℕ → ℕ → ℕ) (ask : List Tick → Frac) (t : 
       go true e = sym (done_same (at_unit (q + u)) (at_unit q) i k (dem i now) (used i) e)
       go false e = refl
 
-  -- the notes with one more segment
+  -- the notes with one more segment have that segment's notes behind them
   pub notes-more : (s : Span) (done : List Piece) (r : Piece)
       → notes_with p dem ask s (done ++ r ∷ []) ≡ notes_with p dem ask s done ++ segment_notes p dem s (total done) r.units r.holder
   notes-more s done r =
@@ -93,7 +93,7 @@ module _ (p : Plan) (dem : ℕ → ℕ → ℕ) (ask : List Tick → Frac) (t : 
   open-start seg done us some e place =
       omega (arith, total-pieces us, ap total e, total-append done (piece seg.holder seg.units ∷ []), place)
 
-  -- units of a holder
+  -- the trace after units of a holder holds the longer span
   pub enters : (s : Span) (used used' : ℕ → ℕ) (most : ℕ) (st : StateOf) (h : Holder) (n : ℕ) (trace : SpanTrace) → 0 < n
       → Writing p dem ask t s used most trace → Shows p dem t st used
       → HeldNow p t h
@@ -124,7 +124,7 @@ module _ (p : Plan) (dem : ℕ → ℕ → ℕ) (ask : List Tick → Frac) (t : 
       turned : Bool → SpanTrace
       turned b = with_units h n (if b then after_segment p st (length s.past) s.entry trace else trace)
 
-      -- the open segment grows
+      -- the holder of the open segment has the units: the segment grows
       grows : is_turn trace h ≡ false → pieces_of longer.units ≡ w.done ++ piece h (trace.segment.units + n) ∷ [] → total w.done ≤ length s.units
           → Writing p dem ask t longer used' (most + n) (entered p st (length s.past) s.entry h n trace)
       grows is e le = subst (λ b. Writing p dem ask t longer used' (most + n) (turned b)) (sym is) (record {
@@ -137,7 +137,7 @@ module _ (p : Plan) (dem : ℕ → ℕ → ℕ) (ask : List Tick → Frac) (t : 
         notes = w.notes ∙ ap kept (sym (stable w.done le));
       })
 
-      -- or it ends
+      -- another holder has the units: the open segment ends
       turns : 0 < trace.segment.units → pieces_of s.units ≡ w.done ++ piece trace.segment.holder trace.segment.units ∷ []
           → (b : Bool) → same_holder trace.segment.holder h ≡ b → Writing p dem ask t longer used' (most + n) (entered p st (length s.past) s.entry h n trace)
       turns pos e true same =
@@ -145,7 +145,8 @@ module _ (p : Plan) (dem : ℕ → ℕ → ℕ) (ask : List Tick → Frac) (t : 
           let some_units : nat_lt 0 trace.segment.units ≡ true = grind (arith, nat_tests) in
           let start = open-start trace.segment w.done s.units pos e w.place in
           grows (ap₂ (λ a b. a && not b) some_units same)
-          (pieces_of-more n s.units w.done h trace.segment.units (e ∙ ap (λ x. w.done ++ piece x trace.segment.units ∷ []) like)) (omega (arith, start, w.place))
+          (pieces_of-more n s.units w.done h trace.segment.units (e ∙ ap (λ x. w.done ++ piece x trace.segment.units ∷ []) like))
+          (omega (arith, start, w.place))
       turns pos e false other =
           let some_units : nat_lt 0 trace.segment.units ≡ true = grind (arith, nat_tests) in
           let r : Piece = piece trace.segment.holder trace.segment.units in

@@ -1,4 +1,4 @@
--- What a governor's schedule has to tell fits: each span into its buffer, and all into an account.
+-- The notes of a governor's schedule fit: each span's into its buffer, and all into an account.
 use Rattle.std.proofs.Common.{◌≡◌, ℕ, ◌+◌, ◌<◌, ◌≤◌, ◌^◌, List, ◌∷◌, length, arith, subst}
 use Rattle.std.specs.Prelude.{sum_by}
 use Rattle.std.specs.List.{AllByRecursion}
@@ -17,13 +17,13 @@ use Rattle.event_kernel.specs.Tickwork.{tick_at, whole_span, notes_before}
 use Rattle.event_kernel.proofs.Courses.{course-next, course-len, course-legal}
 use Rattle.event_kernel.proofs.Spanning.{spans-whole}
 
--- the notes are of the plan's tasks, and no sum and no count over them is too large
+-- the notes are of the plan's tasks, and the sums and the count over them fit into their numbers
 pub record AreBooked (p : Plan) (notes : List Note) : Type 0 where
   pub each : AllByRecursion (IsNoteIn p) notes
   pub energy : sum_by energy_run notes + sum_by energy_idle notes < 2 ^ 120
   pub few : length notes < 2 ^ 63
 
--- of a governor's schedule: the notes of each span are few, and all notes fit into an account
+-- the notes before tick t are of the plan's tasks and fit into an account, and those of its span fit into the buffer
 pub record CourseFits (demand : Plan → StateOf → Frac) (p : Plan) (dem : ℕ → ℕ → ℕ) (t : ℕ) : Type 0 where
   pub each : AllByRecursion (IsNoteIn p) (notes_before demand p dem t)
   pub span : length (span_notes p dem (ask_of demand p dem) (whole_span demand p dem t)) ≤ MOST_NOTES

@@ -1,6 +1,7 @@
 -- The units of one tick, handed out to one task after the other.
 use Rattle.std.proofs.Common.{◌≡◌, ◌≢◌, ℕ, ◌+◌, ◌-◌, ◌*◌, ◌<◌, ◌≤◌, min, Bool, true, false, not, eqb, ◌&&◌, ◌||◌, List, [], ◌∷◌, ◌++◌, length, replicate, refl, arith, if◌then◌else◌, ap, ap₂, ◌∙◌, sym, subst, append-nil, append_assoc, nat_eq, nat_le, nat_lt, true≢false}
 use Rattle.std.specs.Prelude.{count_by, flat_map}
+use Rattle.std.proofs.Math.Bool.{or-true, or-false}
 use Rattle.std.proofs.lemmas.Bool.Decides.{nat_tests}
 use Rattle.std.proofs.lemmas.List.Folds.{sum_by-replicate}
 use Rattle.dvs_base.specs.declared.kind.Scheduler.{Scheduler}
@@ -38,7 +39,7 @@ laid_out-same job given given' n [] below same = refl
 laid_out-same job given given' n (j ∷ js) below same =
     ap₂ (λ m us. replicate m (Held j (job j)) ++ us) (same j below.0) (laid_out-same job given given' n js below.1 same)
 
--- behind i nobody has anything
+-- where the tasks behind i got no units, their list of units is empty
 laid_out-after : (key job given : ℕ → ℕ) (n i : ℕ) (js : List ℕ) → AreBelow n js → IsAhead key i js
     → ((j : ℕ) → j < n → stands_before key i j ≡ true → given j ≡ 0) → laid_out job given js ≡ []
 laid_out-after key job given n i [] below ahead none = refl
@@ -139,7 +140,7 @@ module _ (p : Plan) (dem : ℕ → ℕ → ℕ) (past : List Tick) where
     pub sum : sum_below (count p) given + rest ≡ f
     pub ends : completed ≡ any_below (count p) (ends_in given)
 
-  -- at the start
+  -- before the first unit, the state of the tick is the state with no units given
   pub start-state : state_of p dem past ≡ given_state (λ _. 0)
   start-state =
       ap (λ rows. record { now = length past; rows = rows; base_at = (state_of p dem past).base_at; base = (state_of p dem past).base })
@@ -172,7 +173,7 @@ module _ (p : Plan) (dem : ℕ → ℕ → ℕ) (past : List Tick) where
   start-units = laid_none (in_order key (count p))
 
   module _ {f rest : ℕ} {given : ℕ → ℕ} {completed : Bool} {st : StateOf} (h : Handing f given rest completed st) where
-    -- what the rows show
+    -- each row of the state after some units
     pub row-is : (i : ℕ) → i < count p → row_at st i ≡ given_row given i
     row-is i lt = ap (λ (s : StateOf). row_at s i) h.state ∙ get-table (count p) (given_row given) i no_row lt
 
@@ -211,14 +212,14 @@ module _ (p : Plan) (dem : ℕ → ℕ → ℕ) (past : List Tick) where
     pub none-open : ((k : ℕ) → k < count p → (row_at st k).done ≡ true) → (k : ℕ) → k < count p → left p dem past k ≤ given k
     none-open d k lt = all-had k lt (d k lt)
 
-    -- one task gets units
+    -- the units are handed out further after one task gets its share
     pub gives : (next : StateOf) (i share : ℕ) (whole now : Bool) → 0 < rest
         → ((i : ℕ) → i < count p → had i ≤ dem i (job i))
         → IsFirstOpen (count p) key (left p dem past) given i
         → share ≡ min rest (dem i (job i) - (had i + given i))
         → whole ≡ nat_eq share (dem i (job i) - (had i + given i))
         → next ≡ served st i share whole
-        → now ≡ (if whole then true else completed)
+        → now ≡ (completed || whole)
         → Handing f (raised given i share) (rest - share) now next
     gives next i share whole now pos within o se we ne ce = record {
       handed = subst (λ v. IsHandedOut (count p) key f (left p dem past) (raised given i share) (rest - v)) (sym short)
@@ -265,12 +266,12 @@ module _ (p : Plan) (dem : ℕ → ℕ → ℕ) (past : List Tick) where
         not_before = let lt : had i < dem i (job i) = omega (arith, needs) in grind (arith, nat_tests, lt)
 
         by_whole : (b : Bool) → nat_eq share (dem i (job i) - (had i + given i)) ≡ b
-            → (if b then true else completed) ≡ any_below (count p) (ends_in (raised given i share))
+            → (completed || b) ≡ any_below (count p) (ends_in (raised given i share))
         by_whole true e =
-            sym (any_below-found (count p) (ends_in (raised given i share)) i o.below
+            or-true completed ∙ sym (any_below-found (count p) (ends_in (raised given i share)) i o.below
             (ap₂ (λ a b. not a && b) not_before (ap (λ u. nat_le (dem i (job i)) u) raised_is ∙ is_whole true e)))
         by_whole false e =
-            h.ends ∙ any_below-same (count p) (ends_in given) (ends_in (raised given i share)) (λ k lt. same k (eqb k i) refl)
+            or-false completed ∙ h.ends ∙ any_below-same (count p) (ends_in given) (ends_in (raised given i share)) (λ k lt. same k (eqb k i) refl)
           where
             still_open : nat_le (dem i (job i)) (had i + given i) ≡ false
             still_open = grind (arith, nat_tests, needs)
@@ -279,12 +280,13 @@ module _ (p : Plan) (dem : ℕ → ℕ → ℕ) (past : List Tick) where
             same k true q =
                 let is_i : i ≡ k = grind (arith, nat_tests) in
                 subst (λ m. ends_in given m ≡ ends_in (raised given i share) m) is_i
-                (ap (λ b. not (nat_le (dem i (job i)) (had i)) && b) (still_open ∙ (sym (is_whole false e) ∙ ap (λ u. nat_le (dem i (job i)) u) (sym raised_is))))
+                (ap (λ b. not (nat_le (dem i (job i)) (had i)) && b)
+                (still_open ∙ (sym (is_whole false e) ∙ ap (λ u. nat_le (dem i (job i)) u) (sym raised_is))))
             same k false q =
                 let other : k ≢ i = grind (arith, nat_tests) in
                 ap (λ g. not (nat_le (dem k (job k)) (had k)) && nat_le (dem k (job k)) (had k + g)) (sym (raised-there given i share k other))
 
-    -- and its units stand behind all others
+    -- the share of a task comes behind all units that were given
     pub gives-units : (i share : ℕ) → 0 < rest → IsFirstOpen (count p) key (left p dem past) given i
         → units_by (raised given i share) ≡ units_by given ++ replicate share (Held i (job i))
     gives-units i share pos o =
@@ -301,7 +303,7 @@ module _ (p : Plan) (dem : ℕ → ℕ → ℕ) (past : List Tick) where
         now : (given i ≡ 0) × (f - rest ≡ sum_before (count p) key (left p dem past) i)
         now = handed_before (count p) key f (left p dem past) given rest h.handed pos i o
 
-  -- what each task has had by then
+  -- what each task has had after the share
   pub gives-had : (given : ℕ → ℕ) (i share k : ℕ)
       → (had k + given k) + count_by (same_holder (Held k (job k))) (replicate share (Held i (job i))) ≡ had k + raised given i share k
   gives-had given i share k = go (eqb k i) refl

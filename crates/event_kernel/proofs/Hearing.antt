@@ -1,13 +1,7 @@
 -- Notes heard one list after another.
-use Rattle.std.proofs.Common.{inl, inr, List, [], ◌∷◌, ◌++◌, sym, subst, true≢false}
+use Rattle.std.proofs.Common.{inl, inr, List, [], ◌∷◌, ◌++◌, sym, subst}
 use Rattle.dvs_base.specs.declared.note.Note.{Note}
-use Rattle.std.specs.Prelude.{Result, Ok, Err, IsErr}
 use Rattle.event_kernel.specs.Heard.{HasHeard, HasBalked}
-
--- what stands at each error stands at an exit
-pub at_error : {T E : Type 0} (P : Result T E → Type 0) (r : Result T E) → IsErr r → ((e : E) → P (Err e)) → P r
-at_error P (Ok x) is each = absurd (true≢false (sym is))
-at_error P (Err e) is each = each e
 
 module _ {L : Type 0} (heard balked : L → Note → L → Type 0) where
   pub heard-append : (xs ys : List Note) (a b c : L) → HasHeard heard a xs b → HasHeard heard b ys c → HasHeard heard a (xs ++ ys) c

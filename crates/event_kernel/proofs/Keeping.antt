@@ -1,4 +1,4 @@
--- Notes that are kept: the first of them.
+-- Notes of which the first are kept.
 use Rattle.std.proofs.Common.{◌≡◌, ℕ, zero, suc, ◌≤◌, List, [], ◌∷◌, ◌++◌, length, take, refl, ap, ◌∙◌, sym, append_assoc}
 use Rattle.std.proofs.lemmas.List.{take_all, take-append-le}
 use Rattle.dvs_base.specs.declared.note.Note.{Note}
@@ -12,7 +12,7 @@ kept-by zero xs ys = refl
 kept-by (suc n) [] ys = refl
 kept-by (suc n) (x ∷ xs) ys = ap (λ l. x ∷ l) (kept-by n xs ys)
 
--- of kept notes and more as many are kept as of all
+-- kept notes with more behind them are kept like all of the notes
 pub kept-append : (xs ys : List Note) → kept (kept xs ++ ys) ≡ kept (xs ++ ys)
 kept-append xs ys = kept-by MOST_NOTES xs ys
 
@@ -24,7 +24,7 @@ kept-all xs le = take_all MOST_NOTES xs le
 pub kept-full : (xs ys : List Note) → length xs ≤ MOST_NOTES → MOST_NOTES ≤ length xs → xs ≡ kept (xs ++ ys)
 kept-full xs ys le ge = sym (take-append-le MOST_NOTES xs ys ge ∙ take_all MOST_NOTES xs le)
 
--- notes after those that were kept
+-- notes that are added to kept ones are kept like all of the notes
 pub kept-then : (notes xs ys : List Note) → notes ≡ kept xs → kept (notes ++ ys) ≡ kept (xs ++ ys)
 kept-then notes xs ys is = ap (λ l. kept (l ++ ys)) is ∙ kept-append xs ys
 
@@ -33,7 +33,7 @@ with-append trace xs ys =
     ap (λ ns. record { segment = trace.segment; notes = ns })
     (kept-append (trace.notes ++ xs) ys ∙ ap kept (append_assoc trace.notes xs ys))
 
--- a trace without notes keeps none
+-- a trace without notes is that trace with no notes added
 pub with-none : (trace : SpanTrace) → trace.notes ≡ [] → trace ≡ with_notes trace []
 with-none trace none =
     ap (λ ns. record { segment = trace.segment; notes = ns }) (none ∙ sym (ap (λ ns. kept (ns ++ [])) none))

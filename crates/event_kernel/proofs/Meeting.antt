@@ -1,4 +1,4 @@
--- What the laws of a governor give of a run: every deadline is met, and every demand but that of a look-ahead.
+-- The laws of a governor give that each deadline of a run is met, and each demand unless the kind is `Ahead`.
 use Rattle.std.proofs.Common.{◌≡◌, ℕ, refl, subst}
 use Rattle.dvs_base.specs.declared.kind.Scheduler.{Scheduler}
 use Rattle.dvs_base.specs.declared.kind.GovernorKind.{GovernorKind}
@@ -32,7 +32,7 @@ run-met kind serves demand calm safe laws r adm list low served =
 pub met-as : {kind : GovernorKind} {demand : Plan → StateOf → Frac} {a b : Run} → a ≡ b → IsMetRun kind demand a → IsMetRun kind demand b
 met-as {kind} {demand} is met = subst (λ (r : Run). IsMetRun kind demand r) is met
 
--- the notes of a run have few decisions, whatever demand is published
+-- a run has few decisions under any published demand
 pub run-few : (demand : Plan → StateOf → Frac) (r : Run) → IsAdmitted r.plan → AreFew (totals_of (notes_of_run demand r))
 run-few demand r adm =
     let dem = demands_of r.plan r.demands in

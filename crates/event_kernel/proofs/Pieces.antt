@@ -18,7 +18,7 @@ unit-snoc [] r h = refl
 unit-snoc (a ∷ []) r h = refl
 unit-snoc (a ∷ b ∷ ds) r h = ap (λ xs. a ∷ xs) (unit-snoc (b ∷ ds) r h)
 
--- more units of the last holder
+-- n more units of the last segment's holder make that segment longer by n
 pub pieces_of-more : (n : ℕ) (us : List Holder) (done : List Piece) (h : Holder) (m : ℕ) → pieces_of us ≡ done ++ piece h m ∷ []
     → pieces_of (us ++ replicate n h) ≡ done ++ piece h (m + n) ∷ []
 pieces_of-more zero us done h m e = ap pieces_of (append-nil us) ∙ (e ∙ ap (λ k. done ++ piece h k ∷ []) (omega arith))
@@ -30,7 +30,7 @@ pieces_of-more (suc n) us done h m e =
     one : pieces_of (us ++ h ∷ []) ≡ done ++ piece h (m + 1) ∷ []
     one = pieces_of-push us h ∙ (ap (λ rs. with_unit rs h) e ∙ (unit-snoc done (piece h m) h ∙ (rw (same_holder-refl h) refl)))
 
--- units of another holder
+-- units of another holder are a new segment
 pub pieces_of-other : (n : ℕ) (us : List Holder) (done : List Piece) (r : Piece) (h : Holder) → pieces_of us ≡ done ++ r ∷ [] → same_holder r.holder h ≡ false
     → pieces_of (us ++ replicate (suc n) h) ≡ (done ++ r ∷ []) ++ piece h (suc n) ∷ []
 pieces_of-other n us done r h e other =
@@ -45,7 +45,7 @@ pub total-append : (rs qs : List Piece) → total (rs ++ qs) ≡ total rs + tota
 total-append [] qs = omega arith
 total-append (r ∷ rs) qs = omega (arith, total-append rs qs)
 
--- the notes of segments one after another
+-- the notes of two lists of segments are those of the first and then those of the second
 pub pieces_notes-append : (p : Plan) (dem : ℕ → ℕ → ℕ) (s : Span) (q : ℕ) (rs qs : List Piece)
     → pieces_notes p dem s q (rs ++ qs) ≡ pieces_notes p dem s q rs ++ pieces_notes p dem s (q + total rs) qs
 pieces_notes-append p dem s q [] qs = ap (λ k. pieces_notes p dem s k qs) (omega arith)
@@ -55,7 +55,7 @@ pieces_notes-append p dem s q (r ∷ rs) qs =
     ∙ ap (λ k. pieces_notes p dem s (q + r.units) rs ++ pieces_notes p dem s k qs) (omega arith))
     ∙ sym (append_assoc (segment_notes p dem s q r.units r.holder) (pieces_notes p dem s (q + r.units) rs) (pieces_notes p dem s (q + (r.units + total rs)) qs))
 
--- they do not change as the span grows
+-- a segment's notes don't change as the span grows
 segment_notes-grown : (p : Plan) (dem : ℕ → ℕ → ℕ) (s : Span) (more : List Holder) (q u : ℕ) (h : Holder) → q + u ≤ length s.units
     → segment_notes p dem (grown s more) q u h ≡ segment_notes p dem s q u h
 segment_notes-grown p dem s more q u Nobody le = refl

@@ -1,6 +1,7 @@
--- How many ticks of a span come before its last one, and that it ends after that one.
-use Rattle.std.proofs.Common.{◌≡◌, ℕ, ◌+◌, ◌-◌, ◌*◌, ◌/◌, ◌^◌, ◌<◌, ◌≤◌, min, Bool, true, false, not, ◌&&◌, List, ◌∷◌, length, refl, arith, ap, ap₂, ◌∙◌, sym, subst, ◌⊎◌, inl, inr, nat_eq, nat_le, div-add-mod', mod-lt, mul-le-mul_left}
+-- The number of ticks before a span's last one, and the end of the span after it.
+use Rattle.std.proofs.Common.{◌≡◌, ℕ, ◌+◌, ◌-◌, ◌*◌, ◌/◌, ◌^◌, ◌<◌, ◌≤◌, min, Bool, true, false, not, ◌&&◌, List, ◌∷◌, length, refl, arith, ap, ap₂, ◌∙◌, sym, subst, ◌⊎◌, inl, inr, nat_eq, nat_le, mul-le-mul_left}
 use Rattle.std.specs.Prelude.{Option, None, Some, IfSome, IfNone}
+use Rattle.std.proofs.Math.Nat.{div-mul-le_self, lt-div-mul-add}
 use Rattle.std.proofs.lemmas.Bool.{cases_lt}
 use Rattle.std.proofs.lemmas.Bool.Decides.{nat_tests}
 use Rattle.grid_fraction.specs.declared.Frac.{Frac}
@@ -36,13 +37,6 @@ use Rattle.event_kernel.proofs.Courses.{course-next, course-len, low-exec}
 use Rattle.event_kernel.proofs.Working.{Working, entry-there, begin, can, ready}
 use Rattle.event_kernel.proofs.Spanning.{ends-span}
 use Rattle.event_kernel.proofs.Staying.{run_on, mul-le, row-served, due-served, first-served}
-
--- whole ticks of what is needed, less one unit
-whole-most : (n f : ℕ) → (n / f) * f ≤ n
-whole-most n f = omega (arith, div-add-mod' n f)
-
-whole-next : (n f : ℕ) → 0 < f → n < (n / f) * f + f
-whole-next n f pos = omega (arith, div-add-mod' n f, mod-lt n pos)
 
 -- the first row that is not done, from the two clauses of the search for it
 pub is-first : (p : Plan) (s : StateOf) (r : Option ℕ) → IfNone r ((k : ℕ) → k < count p → (row_at s k).done ≡ true)
@@ -96,7 +90,7 @@ module _ {set : Setting} (ok : IsSetting set) where
         let lt = quiet.before_end in
         (omega (arith, some, lt, ok.low_ticks), omega (arith, some, lt, ok.low_ticks, here.writing.place, here.writing.few))
 
-    -- all ticks up to the next release or the end, but one
+    -- the number of ticks up to the next release or the end, less one
     abbrev most : ℕ
     most = min set.ticks (earliest_in p st) - 1 - st.now
 
@@ -106,7 +100,7 @@ module _ {set : Setting} (ok : IsSetting set) where
     within-releases : (n : ℕ) → n ≤ most → (k : ℕ) → k < count p → st.now + n < (row_at st k).deadline
     within-releases n le k l = omega (arith, le, first-event, least-below (count p) (λ i. (row_at st i).deadline) k l)
 
-    -- after all of them there is one left
+    -- after `most` ticks the next tick is the last of the span
     at-event : (first : Option ℕ) (n : ℕ) → n ≡ most → IsLastAfter set force st first n
     at-event first n is = go (cases_lt (earliest_in p st) set.ticks)
       where
@@ -153,10 +147,10 @@ module _ {set : Setting} (ok : IsSetting set) where
           short =
               let le : n ≤ (lacks - 1) / f = omega (arith, ne) in
               let some : n * f ≤ ((lacks - 1) / f) * f = mul-le n ((lacks - 1) / f) f le in
-              omega (arith, some, whole-most (lacks - 1) f, oe, needs)
+              omega (arith, some, div-mul-le_self (lacks - 1) f, oe, needs)
 
           last-done : n ≡ (lacks - 1) / f → dem i (row_at st i).job ≤ (row_at st i).used + n * f + f
-          last-done is = omega (arith, whole-next (lacks - 1) f some-speed, oe, needs, ap (λ m. m * f) is)
+          last-done is = omega (arith, lt-div-mul-add {a = lacks - 1} {b = f} some-speed, oe, needs, ap (λ m. m * f) is)
 
           go : ((lacks - 1) / f < most) ⊎ (most ≤ (lacks - 1) / f) → IsLastAfter set force st (Some i) n
           go (inl lt) = inr (inr (i, refl, last-done (omega (arith, ne, lt))))
@@ -167,7 +161,7 @@ module _ {set : Setting} (ok : IsSetting set) where
     can-run-first None is quiet = tt
     can-run-first (Some i) {n} is quiet = can-run i is n (quiet.not_done i refl)
 
-    -- after the quiet ticks the next one is the last
+    -- the tick after the quiet ticks is the last of the span
     pub last-then : (first : Option ℕ) {n : ℕ} → IsFirst p st first → AreQuiet set force st first n
         → IsLastTick set force (after_advance (gives st first (n * f)) (st.now + n))
     last-then None {n} is quiet = go quiet.last
@@ -193,7 +187,7 @@ module _ {set : Setting} (ok : IsSetting set) where
               subst (λ (r : Row). dem i r.job ≤ r.used + f) (sym (row-served st i in_rows (n * f))) enough),
         ))
 
-  -- the span ends after that tick
+  -- after the last tick the span ends
   module _ {demand : Plan → StateOf → Frac} {force : InForce} {s0 s : StateOf} {trace0 trace : SpanTrace} {completed : Bool}
       (here : IsInSpan set demand force s0.now s0 trace0) (h : HasWorked set demand s0.now s trace completed) where
     abbrev past : List Tick
@@ -241,8 +235,8 @@ module _ {set : Setting} (ok : IsSetting set) where
 
         o : IsFirstOpen (count p) (key p dem past) (left p dem past) (λ _. 0) i
         o =
-            first-open p dem past (subst (λ (v : StateOf). Handing p dem past (point p force.index).speed (λ _. 0) (point p force.index).speed false v) (sym here.state)
-            (start p dem past (point p force.index).speed)) i first
+            let f = (point p force.index).speed in
+            first-open p dem past (subst (λ (v : StateOf). Handing p dem past f (λ _. 0) f false v) (sym here.state) (start p dem past f)) i first
 
         none : 0 ≡ sum_before (count p) (key p dem past) (left p dem past) i
         none = (let b = (handed_before (count p) (key p dem past) (point p force.index).speed (left p dem past) (λ _. 0) (point p force.index).speed

@@ -31,7 +31,7 @@ use Rattle.event_kernel.specs.declared.progress.Setting.{Setting}
 use Rattle.event_kernel.specs.Runs.{demands_of}
 use Rattle.event_kernel.specs.Settings.{IsAtBoundary}
 
--- the first m rows as after the boundary
+-- the rows where those of the first m tasks are released
 abbrev pub mixed : Plan → (ℕ → ℕ → ℕ) → List Tick → ℕ → ℕ → Row
 mixed p dem past m i = if nat_lt i m then row_of p dem past i else prior_row p dem past i
 
@@ -44,14 +44,14 @@ with_rows p dem past rows = record {
   base = list_below (count p) (prior_base p dem past);
 }
 
--- the notes of the releases of the first m tasks, and whether there are any
+-- the notes of the releases of the first m tasks
 abbrev pub notes_upto : Plan → (ℕ → ℕ → ℕ) → List Tick → ℕ → List Note
 notes_upto p dem past m = flat_map (release_notes p dem (length past)) (list_below m (λ i. i))
 
 abbrev pub any_upto : Plan → List Tick → ℕ → Bool
 any_upto p past m = any_below m (λ i. releases_at p i (length past))
 
--- the first m rows are released, and whether there are any of them
+-- the first m rows are released, and `any` says whether a job was
 pub record Releasing (p : Plan) (dem : ℕ → ℕ → ℕ) (past : List Tick) (m : ℕ) (any : Bool) (st : StateOf) : Type 0 where
   pub state : st ≡ with_rows p dem past (list_below (count p) (mixed p dem past m))
   pub any_is : any ≡ any_upto p past m
@@ -85,7 +85,7 @@ module _ (p : Plan) (dem : ℕ → ℕ → ℕ) (past : List Tick) (periods : (i
   mixed-here : (m i : ℕ) → m ≤ i → mixed p dem past m i ≡ prior_row p dem past i
   mixed-here m i le = let here : nat_lt i m ≡ false = grind (arith, nat_tests, le) in ap (λ b. if b then row_of p dem past i else prior_row p dem past i) here
 
-  -- one task more
+  -- the releases and the notes of one task more
   more : (m : ℕ) (b : Bool) → releases_at p m (length past) ≡ b
       → (any_upto p past (m + 1) ≡ (any_upto p past m || b)) × (notes_upto p dem past (m + 1) ≡ notes_upto p dem past m ++ release_notes p dem (length past) m)
   more m b e = (
@@ -126,15 +126,16 @@ module _ {p : Plan} {dem : ℕ → ℕ → ℕ} {past : List Tick} (periods : (i
     pub row-there : (i : ℕ) → i < count p → m ≤ i → row_at st i ≡ prior_row p dem past i
     row-there i lt le = row-at i lt ∙ mixed-here p dem past periods m i le
 
-    -- no release is past
+    -- no row's next release is before the state's tick
     pub none-past : NonePast p st
     none-past i lt = go (cases_lt i m)
       where
         go : (i < m) ⊎ (m ≤ i) → st.now ≤ (row_at st i).deadline
-        go (inl l) = omega (arith, now-is, ap (λ (q : Row). q.deadline) (row-at i lt ∙ mixed-done p dem past periods m i l), lt-due p i (length past) (periods i))
+        go (inl l) =
+            omega (arith, now-is, ap (λ (q : Row). q.deadline) (row-at i lt ∙ mixed-done p dem past periods m i l), lt-due p i (length past) (periods i))
         go (inr ge) = omega (arith, now-is, ap (λ (q : Row). q.deadline) (row-there i lt ge), prior-due p dem periods past i)
 
-    -- rows up to the next one that is due
+    -- rows that are not due may be counted as released
     pub skips : (i : ℕ) → ((i : ℕ) → dem i 0 ≡ 0) → m ≤ i → i ≤ count p → ((k : ℕ) → m ≤ k → k < i → (row_at st k).deadline ≢ st.now)
         → Releasing p dem past i any st × (notes_upto p dem past m ≡ notes_upto p dem past i)
     skips i unneeded lo hi early =
@@ -155,7 +156,7 @@ module _ {p : Plan} {dem : ℕ → ℕ → ℕ} {past : List Tick} (periods : (i
             let now = now-is in
             grind (arith, nat_tests, apart, row, now)
 
-    -- up to the first row that is due, and to the end where none is
+    -- the rows before the first one that is due may be counted as released
     pub at-due : ((i : ℕ) → dem i 0 ≡ 0) → {i : ℕ} → IsFirstDue p st i
         → Releasing p dem past i any st × (notes_upto p dem past m ≡ notes_upto p dem past i)
     at-due unneeded {i} d = skips i unneeded (go (cases_lt i m)) (omega (arith, d.below)) (λ k lo hi. d.first k hi)
@@ -174,7 +175,7 @@ module _ {p : Plan} {dem : ℕ → ℕ → ℕ} {past : List Tick} (periods : (i
         → Releasing p dem past (count p) any st × (notes_upto p dem past m ≡ notes_upto p dem past (count p))
     at-end unneeded le none = skips (count p) unneeded le (omega arith) (λ k lo hi. none k hi)
 
-    -- a row that is due
+    -- the release of a row that is due
     module _ (lt : m < count p) (due : (row_at st m).deadline ≡ st.now) where
       row : row_at st m ≡ prior_row p dem past m
       row = row-there m lt (omega arith)
@@ -243,7 +244,7 @@ module _ {p : Plan} {dem : ℕ → ℕ → ℕ} {past : List Tick} (periods : (i
         );
       }
 
-  -- all rows
+  -- with all rows released, the state is that after the boundary
   all-rows : {any : Bool} {st : StateOf} → Releasing p dem past (count p) any st
       → st ≡ with_rows p dem past (list_below (count p) (row_of p dem past))
   all-rows r = r.state ∙ ap (with_rows p dem past)
@@ -256,7 +257,7 @@ module _ {p : Plan} {dem : ℕ → ℕ → ℕ} {past : List Tick} (periods : (i
       → st ≡ state_of p dem past
   released-unmarked unneeded none r = all-rows r ∙ state-unmarked p dem periods past unneeded (sym r.any_is ∙ none)
 
--- a release that is complete at once
+-- a release whose job needs nothing
 pub opened-done : (p : Plan) (dem : ℕ → ℕ → ℕ) (s : StateOf) (i : ℕ) → i < length s.rows → nat_eq (dem i ((row_at s i).job + 1)) 0 ≡ true
     → after_finish (after_release p s i) i ≡ opened p s i (needs_nothing dem s i)
 opened-done p dem s i lt e =
@@ -266,7 +267,7 @@ opened-done p dem s i lt e =
     ∙ (ap (λ rows. record s { rows = rows }) (set-set s.rows i row (record row { done = true }))
     ∙ ap (λ b. record s { rows = set s.rows i (record row { done = b }) }) (sym e))
 
--- what is due is done
+-- at a boundary each due row is done
 module _ {demand : Plan → StateOf → Frac} {set : Setting} {s : StateOf} (b : IsAtBoundary set demand s) where
   abbrev before : List Tick
   before = course demand set.plan.now (demands_of set.plan.now set.demands.now) s.now
@@ -288,7 +289,7 @@ opening-done dem s i none =
     let job = (row_at s i).job + 1 in
     ap (λ b. Release s.now i job ∷ (if b then Done (record { tick = s.now; offset = 0 }) i job 0 ∷ [] else [])) (eq-eqb (dem i job) 0 none)
 
--- before a boundary no release is past
+-- before a boundary no row's next release is before the tick
 pub prior-past : (p : Plan) (dem : ℕ → ℕ → ℕ) (past : List Tick) → ((i : ℕ) → 0 < period p i) → NonePast p (prior_state p dem past)
 prior-past p dem past periods i lt =
     omega (arith, ap (λ (q : Row). q.deadline) (get-table (count p) (prior_row p dem past) i no_row lt), prior-due p dem periods past i)

@@ -1,7 +1,8 @@
 -- From one decision to the next.
 use Rattle.std.proofs.Common.{◌≡◌, ℕ, zero, suc, ◌+◌, ◌-◌, ◌*◌, ◌<◌, ◌≤◌, Bool, true, false, ◌||◌, List, [], ◌∷◌, ◌++◌, length, refl, arith, if◌then◌else◌, ap, ap₂, ◌∙◌, sym, subst, ◌⊎◌, inl, inr, nat_eq, nat_lt, nat_le, add-one, drop, true≢false}
 use Rattle.std.specs.Prelude.{count_by}
-use Rattle.std.proofs.lemmas.Bool.{cases_lt}
+use Rattle.std.proofs.Math.Logic.{⊎_map}
+use Rattle.std.proofs.lemmas.Bool.{cases_lt, or_cases, or_parts, or_left, or_right}
 use Rattle.std.proofs.lemmas.Bool.Decides.{nat_tests}
 use Rattle.grid_fraction.specs.declared.Frac.{Frac}
 use Rattle.dvs_base.specs.declared.note.Note.{Note}
@@ -53,7 +54,7 @@ module _ (demand : Plan → StateOf → Frac) (p : Plan) (dem : ℕ → ℕ → 
   abbrev pub asks : List Tick → Frac
   asks = ask_of demand p dem
 
-  -- the last span of some ticks, with the tick's units
+  -- the last span of the ticks up to t has the units of tick t
   pub spans-whole : (t : ℕ)
       → spans_of p dem (tick_at demand p dem t ∷ course demand p dem t) ≡ whole_span demand p dem t ∷ spans_of p dem (whole_span demand p dem t).past
   spans-whole t = go t (is_decision p dem (course demand p dem t)) refl
@@ -74,9 +75,10 @@ module _ (demand : Plan → StateOf → Frac) (p : Plan) (dem : ℕ → ℕ → 
       go zero false e = absurd (true≢false (sym (start_decision demand p dem) ∙ e))
       go (suc t) false e =
           between (course demand p dem (suc t)) (whole_span demand p dem t) e
-          (ap (spans_of p dem) (ap (course demand p dem) (sym (add-one t)) ∙ course-next demand p dem t) ∙ go t (is_decision p dem (course demand p dem t)) refl)
+          (ap (spans_of p dem) (ap (course demand p dem) (sym (add-one t)) ∙ course-next demand p dem t)
+          ∙ go t (is_decision p dem (course demand p dem t)) refl)
 
-  -- a span that goes on
+  -- where no decision follows tick t, the next tick belongs to the same span
   pub span-on : (t : ℕ) → is_decision p dem (course demand p dem (t + 1)) ≡ false → span_at demand p dem (t + 1) ≡ whole_span demand p dem t
   span-on t e =
       ap (λ b. if b then record { past = course demand p dem (t + 1); entry = entry_in_force p dem asks (course demand p dem (t + 1)); units = [] }
@@ -95,12 +97,13 @@ module _ (demand : Plan → StateOf → Frac) (p : Plan) (dem : ℕ → ℕ → 
   abbrev pub notes_to : List Tick → List Note
   notes_to past = notes_before_end p dem asks past
 
-  pub notes-whole : (t : ℕ) → notes_to (course demand p dem (t + 1)) ≡ notes_to (whole_span demand p dem t).past ++ span_notes p dem asks (whole_span demand p dem t)
+  pub notes-whole : (t : ℕ)
+      → notes_to (course demand p dem (t + 1)) ≡ notes_to (whole_span demand p dem t).past ++ span_notes p dem asks (whole_span demand p dem t)
   notes-whole t =
       ap notes_to (course-next demand p dem t)
       ∙ notes-span p dem asks (tick_at demand p dem t ∷ course demand p dem t) (whole_span demand p dem t).past (whole_span demand p dem t) (spans-whole t)
 
-  -- what stands at the notes before a decision or the end, and at each list that they begin, stands at all of them
+  -- where longer lists keep a property, it passes from the notes before a decision to those before any later tick
   module _ (P : List Note → Type 0) (more : (xs ys : List Note) → P xs → P (xs ++ ys)) (t : ℕ) (here : P (notes_to (course demand p dem t))) where
     next-keeps : (n : ℕ) → P (notes_to (span_at demand p dem (t + n)).past) → P (notes_to (course demand p dem (t + n + 1)))
     next-keeps n at = subst P (sym (notes-whole (t + n))) (more _ (span_notes p dem asks (whole_span demand p dem (t + n))) at)
@@ -127,7 +130,7 @@ module _ (demand : Plan → StateOf → Frac) (p : Plan) (dem : ℕ → ℕ → 
             let e : t + (ticks - t - 1) + 1 ≡ ticks = omega (arith, lt) in
             subst (λ m. P (notes_to (course demand p dem m))) e (next-keeps (ticks - t - 1) (past-keeps (ticks - t - 1) (decision lt)))
 
-  -- whether a decision comes next
+  -- whether a decision follows a tick
   module _ (periods : (i : ℕ) → 0 < period p i) where
     pub due-is : (past : List Tick) (s : StateOf) → s ≡ prior_state p dem past → some_due p s ≡ is_release p (length past)
     due-is past s e =
@@ -143,7 +146,7 @@ module _ (demand : Plan → StateOf → Frac) (p : Plan) (dem : ℕ → ℕ → 
             ap₂ (λ x y. nat_eq x y) (ap (λ (r : Row). r.deadline) is) (ap (λ (v : StateOf). v.now) e) ∙
             (q ∙ sym (due_released p dem periods past i b q))
 
-  -- the notes with which it begins
+  -- a span begins with its releases and its decision
   open-new : (t : ℕ) → is_decision p dem (course demand p dem t) ≡ true
       → notes_with p dem asks (span_at demand p dem t) []
       ≡ all_release_notes p dem t ++ speed_note p t (demand p (state_of p dem (course demand p dem t))) ∷ []
@@ -152,22 +155,12 @@ module _ (demand : Plan → StateOf → Frac) (p : Plan) (dem : ℕ → ℕ → 
       ∙ ap₂ (λ n m. all_release_notes p dem n ++ Speed n ((point p m).speed) ((asks (course demand p dem t)).num) ((asks (course demand p dem t)).den)
       ∷ []) (course-len demand p dem t) (force-decided p dem asks (course demand p dem t) e)
 
-  -- the note of its decision
+  -- the note of a decision, by the state of the schedule
   pub note-is : (t : ℕ) (s : StateOf) → s ≡ state_of p dem (course demand p dem t)
       → speed_note p s.now (demand p s) ≡ speed_note p t (demand p (state_of p dem (course demand p dem t)))
   note-is t s e =
       ap (λ (v : StateOf). speed_note p v.now (demand p v)) e
       ∙ ap (λ n. speed_note p n (demand p (state_of p dem (course demand p dem t)))) (course-len demand p dem t)
-
-or-cases : (a b c : Bool) → (a || (b || c)) ≡ true → (a ≡ true) ⊎ ((b ≡ true) ⊎ (c ≡ true))
-or-cases true b c e = inl refl
-or-cases false true c e = inr (inl refl)
-or-cases false false c e = inr (inr e)
-
-none-of : (a b c : Bool) → (a || (b || c)) ≡ false → (a ≡ false) × (b ≡ false) × (c ≡ false)
-none-of true b c e = absurd (true≢false e)
-none-of false true c e = absurd (true≢false e)
-none-of false false c e = (refl, refl, e)
 
 module _ {set : Setting} (ok : IsSetting set) where
   abbrev p : Plan
@@ -257,13 +250,15 @@ module _ {set : Setting} (ok : IsSetting set) where
         new = span-new demand p dem t (b.decision lt)
 
         in_force : force.index ≡ entry_in_force p dem (ask_of demand p dem) (course demand p dem t)
-        in_force = ee ∙ (ap (λ v. lowest_entry p.machine (demand p v)) is ∙ sym (force-decided p dem (ask_of demand p dem) (course demand p dem t) (b.decision lt)))
+        in_force =
+            ee ∙ (ap (λ v. lowest_entry p.machine (demand p v)) is
+            ∙ sym (force-decided p dem (ask_of demand p dem) (course demand p dem t) (b.decision lt)))
 
         plus_none : (i : ℕ) → exec p (course demand p dem t) i (latest p i t) + 0 ≡ had_at p (course demand p dem t) i
         plus_none i = let z : exec p (course demand p dem t) i (latest p i t) + 0 ≡ exec p (course demand p dem t) i (latest p i t) = omega arith in
             z ∙ ap (λ n. exec p (course demand p dem t) i (latest p i n)) (sym (course-len demand p dem t))
 
-    -- it goes on
+    -- the span goes on after a tick
     pub goes-on : {force : InForce} {t : ℕ} {s0 s : StateOf} {trace0 trace : SpanTrace} → IsInSpan set demand force t s0 trace0
         → HasWorked set demand t s trace false → some_due p s ≡ false → t + 1 < set.ticks → IsInSpan set demand force (t + 1) s trace
     goes-on {force} {t} {s0} {s} {trace0} {trace} i h quiet lt = record {
@@ -320,7 +315,7 @@ module _ {set : Setting} (ok : IsSetting set) where
         held Nobody q = tt
         held (Held k j) q = (q.0, q.1 ∙ sym (steady k q.0))
 
-    -- or it ends
+    -- the span ends after a tick
     pub ends-span : {force : InForce} {t : ℕ} {s0 s : StateOf} {trace0 trace : SpanTrace} {completed : Bool} → IsInSpan set demand force t s0 trace0
         → HasWorked set demand t s trace completed
         → (completed ≡ true) ⊎ ((t + 1 ≡ set.ticks) ⊎ (some_due p s ≡ true))
@@ -336,16 +331,12 @@ module _ {set : Setting} (ok : IsSetting set) where
       decision = λ lt. decision-is h ∙ go why lt;
     }
       where
-        or-right : (a b : Bool) → b ≡ true → (a || b) ≡ true
-        or-right true b q = refl
-        or-right false b q = q
-
         go : (completed ≡ true) ⊎ ((t + 1 ≡ set.ticks) ⊎ (some_due p s ≡ true)) → t + 1 < set.ticks → (some_due p s || completed) ≡ true
-        go (inl q) lt = or-right (some_due p s) completed q
+        go (inl q) lt = or_right (some_due p s) completed q
         go (inr (inl q)) lt = absurd (omega (arith, q))
-        go (inr (inr q)) lt = ap (λ b. b || completed) q
+        go (inr (inr q)) lt = or_left (some_due p s) completed q
 
-    -- the steps of a span, as its functions say them
+    -- whether the span ends, as the functions of the code compute it
     module _ {force : InForce} {t : ℕ} {s0 s : StateOf} {trace0 trace : SpanTrace} {completed : Bool} (i : IsInSpan set demand force t s0 trace0)
         (h : HasWorked set demand t s trace completed) where
       pub now-next : s.now ≡ t + 1
@@ -360,24 +351,23 @@ module _ {set : Setting} (ok : IsSetting set) where
       pub walked-end : (completed || (nat_eq s.now set.ticks || some_due p s)) ≡ true → HasWalked set demand force (s.now - 1) s trace
       walked-end ends =
           subst (λ n. HasWalked set demand force n s trace) last-is
-          (ends-span i h (go (or-cases completed (nat_eq s.now set.ticks) (some_due p s) ends)))
+          (ends-span i h (⊎_map (λ q. q) (λ r. ⊎_map at (λ q. q) (or_cases (nat_eq s.now set.ticks) (some_due p s) r)) (or_cases completed _ ends)))
         where
-          go : (completed ≡ true) ⊎ ((nat_eq s.now set.ticks ≡ true) ⊎ (some_due p s ≡ true)) → (completed ≡ true) ⊎ ((t + 1 ≡ set.ticks) ⊎ (some_due p s ≡ true))
-          go (inl q) = inl q
-          go (inr (inl q)) = inr (inl (let same : s.now ≡ set.ticks = grind (arith, nat_tests) in sym now-next ∙ same))
-          go (inr (inr q)) = inr (inr q)
+          at : nat_eq s.now set.ticks ≡ true → t + 1 ≡ set.ticks
+          at q = let same : s.now ≡ set.ticks = grind (arith, nat_tests) in sym now-next ∙ same
 
       pub walked-on : (completed || (nat_eq s.now set.ticks || some_due p s)) ≡ false
           → IsInSpan set demand force s.now s trace
       walked-on ends =
-          let none = none-of completed (nat_eq s.now set.ticks) (some_due p s) ends in
-          let other : nat_eq s.now set.ticks ≡ false = none.1 in
+          let none = or_parts completed (nat_eq s.now set.ticks || some_due p s) ends in
+          let more = or_parts (nat_eq s.now set.ticks) (some_due p s) none.1 in
+          let other : nat_eq s.now set.ticks ≡ false = more.0 in
           let differ : (s.now ≡ set.ticks) → ⊥ = grind (arith, nat_tests) in
           let lt : t + 1 < set.ticks = omega (arith, now-next, i.before_end, differ) in
           subst (λ n. IsInSpan set demand force n s trace) (sym now-next)
-          (goes-on i (subst (λ b. HasWorked set demand t s trace b) none.0 h) none.2 lt)
+          (goes-on i (subst (λ b. HasWorked set demand t s trace b) none.0 h) more.1 lt)
 
-    -- at its end
+    -- the end of a span
     module _ {force : InForce} {last : ℕ} {s : StateOf} {trace : SpanTrace} (h : HasWalked set demand force last s trace) where
       abbrev pub whole : Span
       whole = whole_span demand p dem last
@@ -435,7 +425,8 @@ module _ {set : Setting} (ok : IsSetting set) where
           → notes_before demand p dem (last + 1) ≡ notes_before demand p dem force.from ++ (ended p s force.from force.index trace).notes
       closing-notes few =
           notes-whole demand p dem last
-          ∙ ap₂ (λ (ps : List Tick) ns. notes_to demand p dem ps ++ ns) h.began (sym (ended-whole ∙ kept-all (span_notes p dem (ask_of demand p dem) whole) few))
+          ∙ ap₂ (λ (ps : List Tick) ns. notes_to demand p dem ps ++ ns) h.began
+          (sym (ended-whole ∙ kept-all (span_notes p dem (ask_of demand p dem) whole) few))
 
       pub closing-can : force.index < length p.machine.points → CanPut p s force.from force.index trace
       closing-can there = record {

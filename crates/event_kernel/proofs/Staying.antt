@@ -1,4 +1,4 @@
--- Ticks of a span in which one job has every unit, or nobody: so many of them are one step.
+-- Ticks of a span in which one job has every unit, or nobody: any number of them is one step.
 use Rattle.std.proofs.Common.{◌≡◌, ◌≢◌, ℕ, zero, suc, ◌+◌, ◌-◌, ◌*◌, ◌<◌, ◌≤◌, min, Bool, true, false, not, ◌&&◌, ◌||◌, eqb, List, [], ◌∷◌, length, set, get_or-set_same, get_or-set_other, refl, arith, if◌then◌else◌, ap, ap₂, ◌∙◌, sym, subst, inl, inr, nat_eq, nat_lt, mul-le-mul_left, true≢false}
 use Rattle.std.specs.Prelude.{Option, None, Some}
 use Rattle.std.proofs.lemmas.Bool.Decides.{nat_tests}
@@ -47,7 +47,7 @@ set_twice (r ∷ rows) (suc i) a b = ap (λ rs. r ∷ rs) (set_twice rows i a b)
 abbrev pub run_on : StateOf → ℕ → ℕ → ℕ → StateOf
 run_on s i units to = after_advance (served s i units false) to
 
--- units of the same holder again turn nothing
+-- further units of the open segment's holder don't end the segment
 module _ (h : Holder) (m : ℕ) (some : 0 < m) (q : SpanTrace) where
   no_turn : is_turn (with_units h m q) h ≡ false
   no_turn = ap (λ b. nat_lt 0 (q.segment.units + m) && not b) (same_holder-refl h) ∙ and_right (nat_lt 0 (q.segment.units + m)) false refl
@@ -73,7 +73,7 @@ module _ (st : StateOf) (i : ℕ) (lt : i < length st.rows) (m : ℕ) where
           subst (λ j. (row_at (served st i m false) j).deadline ≡ (row_at st j).deadline) same (ap (λ (r : Row). r.deadline) row-served)
       go false e = ap (λ (r : Row). r.deadline) (row-other k (grind (arith, nat_tests)))
 
-  -- and after more of them
+  -- two steps of one task are one step of both units
   served-on : (n a b : ℕ) → run_on (run_on st i m a) i n b ≡ run_on st i (m + n) b
   served-on n a b =
       ap (λ (r : Row). record st {
@@ -132,7 +132,7 @@ module _ {set : Setting} (ok : IsSetting set) (force : InForce) where
       w0 : Working demand p dem t f false st trace
       w0 = begin ok here f refl
 
-      -- the next tick of the span
+      -- the next tick belongs to the span
       next_tick : (st' : StateOf) (trace' : SpanTrace) → t + 1 < set.ticks → QuietTo (t + 1) st → st'.now ≡ t + 1
           → ((k : ℕ) → (row_at st' k).deadline ≡ (row_at st k).deadline)
           → HasWorked set demand t st' trace' false → IsInSpan set demand force (t + 1) st' trace'
@@ -165,7 +165,7 @@ module _ {set : Setting} (ok : IsSetting set) (force : InForce) where
           (finished ok here w0 (inr all_done) (entered p st force.from force.index Nobody f trace) (after_advance st (t + 1))
           (idled ok here w0 (entered p st force.from force.index Nobody f trace) some_units refl) refl)
 
-    -- and one more tick of one job
+    -- the step of n + 2 ticks of one job
     held_more : (n t i : ℕ) (st : StateOf) (trace : SpanTrace) → IsInSpan set demand force t st trace → IsFirstUndone p st (count p) i
         → (row_at st i).used + (units_in f n + f) < dem i (row_at st i).job → t + suc n + 1 < set.ticks → QuietTo (t + suc n + 1) st
         → IsInSpan set demand force (t + suc n) (run_on st i (units_in f n) (t + suc n))
@@ -204,7 +204,8 @@ module _ {set : Setting} (ok : IsSetting set) (force : InForce) where
             (omega (arith, short, ap (λ (r : Row). r.used) row, ap (λ (r : Row). dem i r.job) row)) lt
             (λ k l. (let q = quiet k l in let d = due-served st i in_rows u k in omega (arith, q, d)))
 
-        traces : entered p mid force.from force.index (Held i (row_at mid i).job) f (entered p st force.from force.index h u trace) ≡ entered p st force.from force.index h (u + f) trace
+        traces : entered p mid force.from force.index (Held i (row_at mid i).job) f (entered p st force.from force.index h u trace)
+            ≡ entered p st force.from force.index h (u + f) trace
         traces = ap (λ k. entered p mid force.from force.index k f (entered p st force.from force.index h u trace)) (ap (λ (r : Row). Held i r.job) row)
             ∙ more_units h u (some_by n (some_units t st trace here)) told p mid force.from force.index f
 
@@ -234,7 +235,7 @@ module _ {set : Setting} (ok : IsSetting set) (force : InForce) where
         (one-idle (t + suc n) (after_advance st (t + suc n)) (entered p st force.from force.index Nobody (units_in f n) trace) before all_done
         (omega (arith, lt)) (λ k l. (let q = quiet k l in omega (arith, q)))))
 
-    -- the ticks counted, whoever has their units
+    -- n ticks as one step, for any holder of their units
     stays-by : (n t : ℕ) (first : Option ℕ) (st : StateOf) (trace : SpanTrace) → 0 < n → IsInSpan set demand force t st trace
         → IsFirst p st first → ((i : ℕ) → first ≡ Some i → (row_at st i).used + n * f < dem i (row_at st i).job)
         → t + n < set.ticks → QuietTo (t + n) st
@@ -249,7 +250,7 @@ module _ {set : Setting} (ok : IsSetting set) (force : InForce) where
         subst (λ u. IsInSpan set demand force (t + suc n) (run_on st i u (t + suc n)) (entered p st force.from force.index (Held i (row_at st i).job) u trace))
         (units_in-is f n) (held_by n t i st trace here is (omega (arith, part, units_in-is f n)) lt quiet)
 
--- quiet ticks at once
+-- quiet ticks are one step
 pub stays : {demand : Plan → StateOf → Frac} {set : Setting} → IsSetting set → {force : InForce} {st : StateOf} {trace : SpanTrace}
     → IsInSpan set demand force st.now st trace → (first : Option ℕ) {n : ℕ} → IsFirst set.plan.now st first
     → AreQuiet set force st first n → 0 < n → (st' : StateOf) (trace' : SpanTrace)
@@ -258,5 +259,7 @@ pub stays : {demand : Plan → StateOf → Frac} {set : Setting} → IsSetting s
     → IsInSpan set demand force st'.now st' trace'
 stays {demand} {set} ok {force} {st} {trace} here first {n} is quiet some st' trace' moved traces =
     subst (λ (v : StateOf). IsInSpan set demand force v.now v trace') (sym moved)
-    (subst (λ q. IsInSpan set demand force (st.now + n) (after_advance (gives st first (n * (point set.plan.now force.index).speed)) (st.now + n)) q) (sym traces)
+    (subst
+    (λ q. IsInSpan set demand force (st.now + n) (after_advance (gives st first (n * (point set.plan.now force.index).speed)) (st.now + n)) q)
+    (sym traces)
     (stays-by ok force n st.now first st trace some here is quiet.not_done quiet.before_end quiet.no_release))

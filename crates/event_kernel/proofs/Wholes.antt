@@ -1,4 +1,4 @@
--- The lines of a whole trace, and what their writing makes of a sink.
+-- The lines of a whole trace, and what writing them does to a sink.
 use Rattle.std.proofs.Common.{◌≡◌, ℕ, ◌+◌, ◌<◌, ◌≤◌, List, [], ◌∷◌, ◌++◌, length, map, Result, Ok, Err, refl, ap, ap₂, sym, ◌∙◌, subst, arith, append-nil, length-append}
 use Rattle.std.specs.Prelude.{flat_map, sum_by, slice_index, IfOk, IsOk, OnErr}
 use Rattle.std.specs.List.{AllByRecursion}
@@ -33,7 +33,7 @@ use Rattle.event_kernel.proofs.Fitting.{course-fits}
 use Rattle.event_kernel.proofs.Courses.{course-len}
 use Rattle.event_kernel.proofs.Writing.{text-append}
 
--- a first part of the lines has stopped short of the sure room
+-- where the writing stopped in a line, the sink was not sure of all the lines' bytes
 pub stopped-short : (a b : SinkView) (ps qs : List ProbeOf) (lines : List LineOf) → StoppedIn a b ps qs lines → a.sure < length (text_of lines)
 stopped-short a b ps qs lines s = omega (arith, s.wrote.surety, s.part.unsure, long)
   where
@@ -110,7 +110,7 @@ module _ (demand : Plan → StateOf → Frac) (r : runs.Run) (adm : IsAdmitted r
       ∙ ap (λ (ls : List LineOf). ls ++ noted (names r.plan) end ∷ [])
       (sym (sum-lines v r.plan before (length (ticks_of demand r)) (sum_by energy_run before) (sum_by energy_idle before)))))
 
-  -- the same, from what a teller had of the plan, of the ticks and of the account
+  -- the lines of all notes, from a teller's names, its plan, its ticks, its energies and its totals
   pub told-lines : (ns : List (List ℕ)) (p : Plan) (ticks : ℕ) (es : List ℕ) (t : Totals) → ns ≡ names p → p ≡ r.plan → ticks ≡ r.ticks
       → es ≡ energies → t ≡ totals_of before
       → map (noted ns) before ++ (sum_lines v p es ++ noted (names p) (End ticks t.run t.idle) ∷ [])
@@ -121,7 +121,7 @@ module _ (demand : Plan → StateOf → Frac) (r : runs.Run) (adm : IsAdmitted r
       (λ j. map (noted (own j)) before ++ (sum_lines v (ep j) (ee j) ++ noted (names (ep j)) (End (whole j) ((to j).run) ((to j).idle)) ∷ []))
       ∙ all-lines
 
-  -- and from an account of the notes
+  -- the lines of all notes, from a teller's names, its plan, its ticks and its account
   pub booked-lines : (ns : List (List ℕ)) (p : Plan) (ticks : ℕ) (b : Books) → ns ≡ names p → p ≡ r.plan → ticks ≡ r.ticks → HasBooked r.plan b before
       → map (noted ns) before ++ (sum_lines v p b.by_task ++ noted (names p) (End ticks b.totals.run b.totals.idle) ∷ [])
       ≡ note_lines v r.plan (notes_of_run demand r)

@@ -1,5 +1,5 @@
 -- The loop over the units of one tick.
-use Rattle.std.proofs.Common.{◌≡◌, ℕ, ◌+◌, ◌-◌, ◌*◌, ◌^◌, ◌<◌, ◌≤◌, min, Bool, true, false, not, ◌&&◌, ◌||◌, List, [], ◌∷◌, ◌++◌, length, replicate, get_or, refl, arith, if◌then◌else◌, ap, ap₂, ◌∙◌, sym, subst, ◌⊎◌, inl, inr, append-nil, append_assoc, nat_eq, nat_le}
+use Rattle.std.proofs.Common.{◌≡◌, ℕ, ◌+◌, ◌-◌, ◌*◌, ◌^◌, ◌<◌, ◌≤◌, min, Bool, true, false, not, ◌&&◌, ◌||◌, List, [], ◌∷◌, ◌++◌, length, replicate, get_or, refl, arith, ap, ap₂, ◌∙◌, sym, subst, ◌⊎◌, inl, inr, append-nil, append_assoc, nat_eq, nat_le}
 use Rattle.std.specs.Prelude.{count_by}
 use Rattle.std.proofs.lemmas.List.{get_or_read}
 use Rattle.grid_fraction.specs.declared.Frac.{Frac}
@@ -44,24 +44,24 @@ module _ (demand : Plan → StateOf → Frac) (p : Plan) (dem : ℕ → ℕ → 
   abbrev pub past : List Tick
   past = course demand p dem t
 
-  -- the units of the tick
+  -- the number of units of the tick
   abbrev pub fast : ℕ
   fast = (point p (entry_in_force p dem (ask_of demand p dem) past)).speed
 
-  -- the trace holds the span with these units of the tick behind it, where the tasks got so much
+  -- the trace holds the span with the units `us` of the tick behind it; `given` is the units that each task got
   abbrev pub Wrote : (ℕ → ℕ) → List Holder → ℕ → SpanTrace → Type 0
   Wrote given us more trace =
       Writing p dem (ask_of demand p dem) (length past)
       (record { past = (span_at demand p dem t).past; entry = (span_at demand p dem t).entry; units = (span_at demand p dem t).units ++ us })
       (λ i. had p dem past i + given i) (1000000 * length past + more) trace
 
-  -- how far the units of the tick are handed out and in the trace
+  -- the units of the tick are handed out but for `rest`, and the trace holds those
   pub record Working (rest : ℕ) (completed : Bool) (st : StateOf) (trace : SpanTrace) : Type 0 where
     pub given : ℕ → ℕ
     pub hand : Handing p dem past fast given rest completed st
     pub writing : Wrote given (units_by p dem past given) (sum_below (count p) given) trace
 
-  -- with units of one holder more
+  -- the trace after n more units of one holder
   wrote-more : (given given' : ℕ → ℕ) (us vs : List Holder) (more more' : ℕ) (st : StateOf) (h : Holder) (n : ℕ) (trace : SpanTrace) → 0 < n
       → Wrote given us more trace → Shows p dem (length past) st (λ i. had p dem past i + given i) → HeldNow p (length past) h
       → ((i : ℕ) → i < count p → (had p dem past i + given i) + count_by (same_holder (Held i (job p dem past i))) (replicate n h)
@@ -169,7 +169,7 @@ module _ {demand : Plan → StateOf → Frac} {set : Setting} (ok : IsSetting se
       need_is : dem i (row_at st i).job - (row_at st i).used ≡ dem i (job p dem so_far i) - (had p dem so_far i + w.given i)
       need_is = ap (λ (r : Row). dem i r.job - r.used) row
 
-      -- as the call of `run` asks
+      -- the share can be run, and is not 0
       pub ready : CanRun st i share × ((row_at st i).used ≤ dem i (row_at st i).job) × (0 < rest → 0 < share)
       ready =
           let used = ap (λ (r : Row). r.used) row in
@@ -189,7 +189,7 @@ module _ {demand : Plan → StateOf → Frac} {set : Setting} (ok : IsSetting se
       turned whole now st' trace' pos we ne sis pis = record {
         given = raised w.given i share;
         hand = gives p dem so_far w.hand st' i share whole now pos within o
-            (se ∙ ap (λ v. min rest v) need_is) (we ∙ ap (λ v. nat_eq share v) need_is) sis (ne ∙ or_if completed whole);
+            (se ∙ ap (λ v. min rest v) need_is) (we ∙ ap (λ v. nat_eq share v) need_is) sis ne;
         writing =
             let hold : Held i (row_at st i).job ≡ Held i (job p dem so_far i) = ap (λ (r : Row). Held i r.job) row in
             subst (λ q. Wrote demand p dem t (raised w.given i share) (units_by p dem so_far (raised w.given i share))
@@ -200,12 +200,6 @@ module _ {demand : Plan → StateOf → Frac} {set : Setting} (ok : IsSetting se
             (sym (gives-units p dem so_far w.hand i share pos o))
             (sym (sum-raised (count p) w.given i share u.below)));
       }
-        where
-          or_if : (a b : Bool) → (a || b) ≡ (if b then true else a)
-          or_if true true = refl
-          or_if true false = refl
-          or_if false true = refl
-          or_if false false = refl
 
     -- the trace holds the whole tick, with the units that nobody took
     abbrev pub HasIdled : SpanTrace → Type 0
@@ -224,7 +218,7 @@ module _ {demand : Plan → StateOf → Frac} {set : Setting} (ok : IsSetting se
         (wrote-more demand p dem t w.given w.given (units_by p dem so_far w.given) _ (sum_below (count p) w.given) _ st Nobody rest trace pos w.writing sh
         tt (λ i lt. omega (arith, count_idle i (job p dem so_far i) rest)) refl refl)
 
-    -- the units are those of the schedule's tick
+    -- at the end of the loop the units are those of the schedule's tick
     module _ (ends : (rest ≡ 0) ⊎ ((k : ℕ) → k < count p → (row_at st k).done ≡ true)) where
       abbrev x : Tick
       x = tick_at demand p dem t

@@ -21,11 +21,11 @@ text-append xs ys = flat_map-append (λ (l : LineOf). l.text) xs ys
 pub notes-append : (xs ys : List LineOf) → notes_told (xs ++ ys) ≡ notes_told xs ++ notes_told ys
 notes-append xs ys = flat_map-append (λ (l : LineOf). l.notes) xs ys
 
--- no lines
+-- no lines leave the sink and the probes as they are
 pub no-lines : (a : SinkView) (ps : List ProbeOf) → WroteLines a a ps ps []
 no-lines a ps = record { wrote = wrote-none a; told = refl }
 
--- lines that were written whole, and then others
+-- lines that were written whole, and then further lines that were, are written whole together
 pub lines-then : (a b c : SinkView) (ps qs rs : List ProbeOf) (xs ys : List LineOf) → WroteLines a b ps qs xs → WroteLines b c qs rs ys
     → WroteLines a c ps rs (xs ++ ys)
 lines-then a b c ps qs rs xs ys w x = record {
@@ -34,7 +34,7 @@ lines-then a b c ps qs rs xs ys w x = record {
       ∙ ap (λ (ns : List Note). told_notes ns ps) (sym (notes-append xs ys))));
 }
 
--- lines that were written whole, and then others in part
+-- lines that were written whole, and then further lines in part, are written in part together
 pub lines-then-some : (a b c : SinkView) (ps qs rs : List ProbeOf) (xs ys : List LineOf) → WroteLines a b ps qs xs → StoppedIn b c qs rs ys
     → StoppedIn a c ps rs (xs ++ ys)
 lines-then-some a b c ps qs rs xs ys w x =
@@ -50,7 +50,7 @@ lines-then-some a b c ps qs rs xs ys w x =
       told = done.told;
     }
 
--- lines that were written in part, of more lines
+-- lines that were written in part are a part of more lines
 pub lines-some-more : (a b : SinkView) (ps qs : List ProbeOf) (xs ys : List LineOf) → StoppedIn a b ps qs xs → StoppedIn a b ps qs (xs ++ ys)
 lines-some-more a b ps qs xs ys x = record {
   done = x.done;
@@ -63,13 +63,13 @@ lines-some-more a b ps qs xs ys x = record {
   told = x.told;
 }
 
--- lines after lines that were written whole
+-- lines were written whole and then further lines as the result says: so were both together
 pub writes-then : {T E : Type 0} (a b c : SinkView) (ps qs rs : List ProbeOf) (xs ys : List LineOf) (r : Result T E)
     → WroteLines a b ps qs xs → Writes b c qs rs ys r → Writes a c ps rs (xs ++ ys) r
 writes-then a b c ps qs rs xs ys (Ok v) w x = lines-then a b c ps qs rs xs ys w x
 writes-then a b c ps qs rs xs ys (Err e) w x = lines-then-some a b c ps qs rs xs ys w x
 
--- the same lines, said otherwise
+-- equal lines are written alike
 pub lines-as : {T E : Type 0} (a b : SinkView) (ps qs : List ProbeOf) (xs ys : List LineOf) (r : Result T E) → xs ≡ ys → Writes a b ps qs xs r
     → Writes a b ps qs ys r
 lines-as a b ps qs xs ys r same w = subst (λ (ls : List LineOf). Writes a b ps qs ls r) same w
@@ -80,7 +80,7 @@ some-as {a} {b} {ps} {qs} same w = subst (λ (ls : List LineOf). StoppedIn a b p
 pub all-as : {a b : SinkView} {ps qs : List ProbeOf} {xs ys : List LineOf} → xs ≡ ys → WroteLines a b ps qs xs → WroteLines a b ps qs ys
 all-as {a} {b} {ps} {qs} same w = subst (λ (ls : List LineOf). WroteLines a b ps qs ls) same w
 
--- one line, put
+-- one line that was put, whose notes the probes were told
 pub one-line : (a b : SinkView) (ps qs : List ProbeOf) (l : LineOf) → Wrote a b l.text → qs ≡ told_notes l.notes ps → WroteLines a b ps qs (l ∷ [])
 one-line a b ps qs l w t = record {
   wrote = subst (λ (x : List ℕ). Wrote a b x) (sym (append-nil l.text)) w;
@@ -99,14 +99,14 @@ one-line-part a b ps l w = record {
   told = refl;
 }
 
--- a line that tells no note, by its text
+-- a line of no note that was put, by its text
 pub plain-line : (a b : SinkView) (ps : List ProbeOf) (line text : List ℕ) → line ≡ text → Wrote a b line → WroteLines a b ps ps (plain text ∷ [])
 plain-line a b ps line text is w = one-line a b ps ps (plain text) (subst (λ (t : List ℕ). Wrote a b t) is w) refl
 
 pub plain-part : (a b : SinkView) (ps : List ProbeOf) (line text : List ℕ) → line ≡ text → WroteSome a b line → StoppedIn a b ps ps (plain text ∷ [])
 plain-part a b ps line text is w = one-line-part a b ps (plain text) (subst (λ (t : List ℕ). WroteSome a b t) is w)
 
--- a line of lines that are a function of their number
+-- one more line of lines that are a function of their number
 pub below-next : {a b c : SinkView} (ps : List ProbeOf) (f : ℕ → List ℕ) (i : ℕ) {line : List ℕ} → line ≡ f i
     → WroteLines a b ps ps (list_below i (λ k. plain (f k))) → Wrote b c line → WroteLines a c ps ps (list_below (i + 1) (λ k. plain (f k)))
 below-next {a} {b} {c} ps f i {line} is w x =
@@ -143,7 +143,7 @@ note-some names n = line-some (fields_of names n)
     line-some (field ∷ []) = omega (arith, length-append field (10 ∷ []))
     line-some (field ∷ other ∷ fields) = omega (arith, length-append field (32 ∷ line (other ∷ fields)))
 
--- lines that were written in part, at an error
+-- lines that were written in part are written as an error says
 pub stopped-exit : {T E : Type 0} (a b : SinkView) (ps qs : List ProbeOf) (ls : List LineOf) (r : Result T E) → IsErr r → StoppedIn a b ps qs ls
     → Writes a b ps qs ls r
 stopped-exit a b ps qs ls (Ok v) is s = absurd (true≢false (sym is))

@@ -12,16 +12,16 @@ use Rattle.freq_table.specs.Tables.{lowest_entry}
 abbrev pub needs_nothing : (ℕ → ℕ → ℕ) → StateOf → ℕ → Bool
 needs_nothing dem s i = nat_eq (dem i ((row_at s i).job + 1)) 0
 
--- the notes of the release of that job
+-- the notes of the release of a task's next job: the release, and the completion where the job needs nothing
 abbrev pub opening_notes : (ℕ → ℕ → ℕ) → StateOf → ℕ → List Note
 opening_notes dem s i =
     Release s.now i ((row_at s i).job + 1)
     ∷ (if needs_nothing dem s i then Done (record { tick = s.now; offset = 0 }) i ((row_at s i).job + 1) 0 ∷ [] else [])
 
--- whether some row is due now
+-- whether some row's deadline is the state's tick
 abbrev pub some_due : Plan → StateOf → Bool
 some_due p s = any_below (count p) (λ i. nat_eq (row_at s i).deadline s.now)
 
--- the note of a decision
+-- the note of a decision at tick t for the demand d
 abbrev pub speed_note : Plan → ℕ → Frac → Note
 speed_note p t d = Speed t ((point p (lowest_entry p.machine d)).speed) d.num d.den

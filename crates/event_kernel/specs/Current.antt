@@ -5,12 +5,12 @@ use Rattle.agenda.specs.declared.agenda.Agenda.{Agenda}
 use Rattle.agenda.specs.Stands.{Stands}
 use Rattle.event_kernel.specs.declared.progress.Progress.{Progress}
 
--- The governor's counters are those of a state, and so is the agenda: its ready queue holds exactly the incomplete latest jobs
--- with their keys, and its calendar each task with its next release.
+-- The governor's counters and the agenda are right for a state: the ready queue holds exactly the incomplete latest
+-- jobs with their keys, and the calendar each task with its next release.
 pub record Follow {G : Type 0} (stands : G → Plan → StateOf → Type 0) (p : Plan) (governor : G) (s : StateOf) (a : Agenda) : Type 0 where
   pub counters : stands governor p s
   pub agenda : Stands p s a
 
--- those of a run are those of its state
+-- a run's counters and its agenda are right for its state
 abbrev pub IsCurrent : {G : Type 0} → (G → Plan → StateOf → Type 0) → Plan → Progress G → Type 0
 IsCurrent stands p progress = Follow stands p progress.governor progress.state progress.agenda

@@ -1,4 +1,4 @@
--- The lines of a run's trace, and what their writing makes of a sink and of probes.
+-- The lines of a trace, and what writing them does to a sink and to probes.
 use Rattle.std.specs.Prelude.{◌≡◌, ℕ, List, [], ◌∷◌, ◌++◌, flat_map, sum_by, slice_index, Result, Ok, Err}
 use Rattle.grid_fraction.specs.Numbers.{list_below}
 use Rattle.dvs_base.specs.declared.kind.Version.{Version}
@@ -14,12 +14,12 @@ use Rattle.trace_text.specs.TraceLines.{plan_text, note_text, name_of}
 use Rattle.trace_reader.specs.VersionLines.{version_line, task_text, share_text}
 use Rattle.probes.specs.Tallies.{ProbeOf, told_notes}
 
--- a line of a trace, and the notes that it tells: one, or none
+-- a line of a trace, with the note that it is written for, or none
 pub record LineOf : Type 0 where
   pub text : List ℕ
   pub notes : List Note
 
--- a line that tells no note
+-- a line of no note
 abbrev pub plain : List ℕ → LineOf
 plain text = record { text = text; notes = [] }
 
@@ -42,17 +42,17 @@ share_lines One p notes = []
 share_lines Two p notes =
     list_below (count p) (λ i. plain (share_text (name_of (names p) i) (sum_by (energy_of_task i) notes)))
 
--- the same lines, from the energies of the tasks
+-- the lines of the tasks' energies, which version 2 alone has, where the energies are given
 abbrev pub sum_lines : Version → Plan → List ℕ → List LineOf
 sum_lines One p energies = []
 sum_lines Two p energies = list_below (count p) (λ i. plain (share_text (name_of (names p) i) (slice_index energies i)))
 
--- the lines of a note among all notes: its own, and in version 2 the energies before the `end` line
+-- the lines of a note among all notes: its own line, and in version 2 the energies before the `end` line
 abbrev pub lines_of : Version → Plan → List Note → Note → List LineOf
 lines_of v p notes (End t run idle) = share_lines v p notes ++ noted (names p) (End t run idle) ∷ []
 lines_of v p notes n = noted (names p) n ∷ []
 
--- the lines after the head, of all notes
+-- the lines after the head: those of all notes
 abbrev pub note_lines : Version → Plan → List Note → List LineOf
 note_lines v p notes = flat_map (lines_of v p notes) notes
 
@@ -64,7 +64,7 @@ trace_lines v g p ticks notes = head_lines v g p ticks ++ note_lines v p notes
 abbrev pub text_of : List LineOf → List ℕ
 text_of lines = flat_map (λ l. l.text) lines
 
--- the notes that some lines tell
+-- the notes of some lines
 abbrev pub notes_told : List LineOf → List Note
 notes_told lines = flat_map (λ l. l.notes) lines
 
@@ -73,8 +73,8 @@ pub record WroteLines (old new : SinkView) (before after : List ProbeOf) (lines 
   pub wrote : Wrote old new (text_of lines)
   pub told : after ≡ told_notes (notes_told lines) before
 
--- the writing stopped in one line: those before it were written, it was in part, and the probes were told the notes of
--- those before it
+-- the writing stopped in one line: the lines before it were written, the line itself in part, and the probes were told
+-- the notes of the lines before it
 pub record StoppedIn (old new : SinkView) (before after : List ProbeOf) (lines : List LineOf) : Type 0 where
   pub done : List LineOf
   pub line : LineOf
@@ -85,11 +85,11 @@ pub record StoppedIn (old new : SinkView) (before after : List ProbeOf) (lines :
   pub part : WroteSome middle new line.text
   pub told : after ≡ told_notes (notes_told done) before
 
--- what the writing of lines makes of a sink and of probes, by what it answers
+-- lines were written: all of them at Ok, and at an error those before one that was written in part
 abbrev pub Writes : {T E : Type 0} → SinkView → SinkView → List ProbeOf → List ProbeOf → List LineOf → Result T E → Type 0
 Writes old new before after lines (Ok v) = WroteLines old new before after lines
 Writes old new before after lines (Err e) = StoppedIn old new before after lines
 
--- the same of lines that tell no note: the probes stay
+-- lines of no note were written, all at Ok and some at an error; no probe was told a note
 abbrev pub WritesPlain : {T E : Type 0} → SinkView → SinkView → List LineOf → Result T E → Type 0
 WritesPlain old new lines r = (probes : List ProbeOf) → Writes old new probes probes lines r

@@ -1,4 +1,4 @@
--- What a kernel runs, and what it is to tell.
+-- What a kernel runs, and the notes of the run.
 use Rattle.std.specs.Prelude.{◌≡◌, ◌<◌, ℕ, true, List}
 use Rattle.freq_table.specs.Tables.{lowest_pick}
 use Rattle.grid_fraction.specs.declared.Frac.{Frac}
@@ -13,7 +13,7 @@ use Rattle.sched_model.specs.States.{StateOf}
 use Rattle.sched_model.specs.Notes.{notes_before_end, notes_of}
 use Rattle.governor.specs.Schedule.{ask_of, course}
 
--- a plan, a demand list and a number of ticks
+-- a run: a plan, a demand list and a number of ticks
 pub record Run : Type 0 where
   pub plan : Plan
   pub demands : DemandsOf
@@ -23,7 +23,7 @@ pub record Run : Type 0 where
 abbrev pub IsListOf : Plan → DemandsOf → Type 0
 IsListOf p d = HasWorstsOf p.tasks d
 
--- the demand of each job of a plan by a list
+-- the demand of each job of a plan under a demand list
 abbrev pub demands_of : Plan → DemandsOf → ℕ → ℕ → ℕ
 demands_of p d = demand_of p d.rows
 
@@ -42,12 +42,12 @@ MeetsDemands demand r =
     (t : ℕ) → t < r.ticks → is_decision r.plan dem (course demand r.plan dem t) ≡ true
     → (lowest_pick r.plan.machine (ask_of demand r.plan dem (course demand r.plan dem t))).met ≡ true
 
--- their notes before the `End`
+-- the notes of a run before the `End`
 abbrev pub notes_before_end_of : (Plan → StateOf → Frac) → Run → List Note
 notes_before_end_of demand r =
     let dem = demands_of r.plan r.demands in notes_before_end r.plan dem (ask_of demand r.plan dem) (ticks_of demand r)
 
--- all their notes
+-- all notes of a run
 abbrev pub notes_of_run : (Plan → StateOf → Frac) → Run → List Note
 notes_of_run demand r =
     let dem = demands_of r.plan r.demands in notes_of r.plan dem (ask_of demand r.plan dem) (ticks_of demand r)

@@ -22,12 +22,12 @@ use Rattle.event_kernel.specs.SpanNotes.{kept}
 abbrev pub grown : Span → List Holder → Span
 grown s us = record { past = s.past; entry = s.entry; units = s.units ++ us }
 
--- the latest span, which stands first in the list
+-- the latest span, which is first in the list
 abbrev pub first_span : List Span → Span
 first_span [] = record { past = []; entry = 0; units = [] }
 first_span (s ∷ spans) = s
 
--- the span to which the tick after `past` belongs, as far as it has come before that tick
+-- the span that the tick after `past` belongs to, with its units before that tick
 abbrev pub open_span : Plan → (ℕ → ℕ → ℕ) → (List Tick → Frac) → List Tick → Span
 open_span p dem ask past =
     if is_decision p dem past
@@ -41,13 +41,13 @@ notes_with p dem ask s pieces =
     ++ Speed (length s.past) ((point p s.entry).speed) ((ask s.past).num) ((ask s.past).den)
     ∷ pieces_notes p dem s 0 pieces
 
--- the segments of some units: those before the open one, and that one where it has units
+-- the segments of the units are `done` and the open segment; without units there is no segment
 abbrev pub IsOpen : Segment → List Piece → List Holder → Type 0
 IsOpen seg done us =
     ((us ≡ []) × (done ≡ []) × (seg.units ≡ 0))
     ⊎ ((0 < seg.units) × (pieces_of us ≡ done ++ record { holder = seg.holder; units = seg.units } ∷ []))
 
--- the notes of a segment of a holder, from its unit `q` on, at a state
+-- the notes of a holder's segment from the span's unit `q` on, with the completion that the holder's row shows
 abbrev pub holder_notes : Plan → StateOf → (ℕ → Pos) → ℕ → ℕ → ℕ → Holder → List Note
 holder_notes p s at_unit e q units Nobody = Idle (at_unit q) (at_unit (q + units)) units (idle_energy p e units) ∷ []
 holder_notes p s at_unit e q units (Held i k) =
@@ -58,39 +58,39 @@ holder_notes p s at_unit e q units (Held i k) =
 abbrev pub written_notes : Plan → StateOf → ℕ → ℕ → SpanTrace → List Note
 written_notes p s from e trace = holder_notes p s (position_of from ((point p e).speed)) e trace.segment.start trace.segment.units trace.segment.holder
 
--- the trace after other notes are put into it
+-- the trace after these notes are added
 abbrev pub with_notes : SpanTrace → List Note → SpanTrace
 with_notes trace notes = record { segment = trace.segment; notes = kept (trace.notes ++ notes) }
 
--- the trace after its segment is put into it
+-- the trace after the notes of its segment are added: the holder's next segment is open, without units
 abbrev pub after_segment : Plan → StateOf → ℕ → ℕ → SpanTrace → SpanTrace
 after_segment p s from e trace = record {
   segment = record { holder = trace.segment.holder; start = trace.segment.start + trace.segment.units; units = 0 };
   notes = kept (trace.notes ++ written_notes p s from e trace);
 }
 
--- whether a unit of this holder ends the segment
+-- whether a unit of the holder h ends the open segment
 abbrev pub is_turn : SpanTrace → Holder → Bool
 is_turn trace h = nat_lt 0 trace.segment.units && not (same_holder trace.segment.holder h)
 
--- the trace after units of the holder of its segment
+-- the trace with n more units in its segment, and the holder h
 abbrev pub with_units : Holder → ℕ → SpanTrace → SpanTrace
 with_units h n trace = record { segment = record { holder = h; start = trace.segment.start; units = trace.segment.units + n }; notes = trace.notes }
 
--- the trace after units of any holder: where it is another one, the segment is put in first
+-- the trace after n units of the holder h: where another holder's segment is open, its notes are added first
 abbrev pub entered : Plan → StateOf → ℕ → ℕ → Holder → ℕ → SpanTrace → SpanTrace
 entered p s from e h n trace = with_units h n (if is_turn trace h then after_segment p s from e trace else trace)
 
--- the trace at the end of a span, with what was open
+-- the trace at the end of a span: the notes of the open segment are added
 abbrev pub ended : Plan → StateOf → ℕ → ℕ → SpanTrace → SpanTrace
 ended p s from e trace = if nat_lt 0 trace.segment.units then after_segment p s from e trace else trace
 
--- the holder is nobody, or a job of one of so many tasks
+-- the holder is nobody, or a job of one of the first n tasks
 abbrev pub HeldIn : ℕ → Holder → Type 0
 HeldIn n Nobody = Unit {0}
 HeldIn n (Held i k) = i < n
 
--- the trace can put in its segment without a number that is too large
+-- the open segment's entry and task exist, and its position fits into its number
 pub record CanPut (p : Plan) (s : StateOf) (from e : ℕ) (trace : SpanTrace) : Type 0 where
   pub entry : e < length p.machine.points
   pub place : from + trace.segment.start + trace.segment.units < 2 ^ 63
@@ -100,12 +100,12 @@ pub record CanPut (p : Plan) (s : StateOf) (from e : ℕ) (trace : SpanTrace) : 
 abbrev pub new_trace : List Note → SpanTrace
 new_trace notes = record { segment = record { holder = Nobody; start = 0; units = 0 }; notes = notes }
 
--- the first row that is not done, where there is one
+-- the row is the first that is not done; `None`: every row is done
 abbrev pub IsFirst : Plan → StateOf → Option ℕ → Type 0
 IsFirst p s None = (k : ℕ) → k < count p → (row_at s k).done ≡ true
 IsFirst p s (Some i) = IsFirstUndone p s (count p) i
 
--- the holder that it is
+-- the holder that is the latest job of a task; `None`: nobody
 abbrev pub holder_at : StateOf → Option ℕ → Holder
 holder_at s None = Nobody
 holder_at s (Some i) = Held i (row_at s i).job

@@ -1,4 +1,4 @@
--- The words of a run's contracts: its setting, and where it stands.
+-- What the contracts of a run say: its setting, and how far the run is.
 use Rattle.std.specs.Prelude.{◌≡◌, ◌⊎◌, ℕ, ◌+◌, ◌*◌, ◌<◌, ◌≤◌, Bool, true, Option, Some}
 use Rattle.grid_fraction.specs.declared.Frac.{Frac}
 use Rattle.grid_fraction.specs.Numbers.{any_below}
@@ -28,23 +28,23 @@ module _ (set : Setting) where
   abbrev dem : ℕ → ℕ → ℕ
   dem = demands_of set.plan.now set.demands.now
 
-  -- the plan is admitted, the list has its declared worst cases, no demand exceeds them, and the ticks are within the limits
+  -- the plan is admitted, the list has its declared worst cases, no demand exceeds its worst case, the ticks are few
   pub record IsSetting : Type 0 where
     pub admitted : IsAdmitted p
     pub list : IsListOf p set.demands.now
     pub within : IsWithin p dem
     pub low_ticks : set.ticks ≤ MOST_TICKS
 
-  -- The tick is the last of its span: the run ends after it, or a job is released, or the first job that is not done gets all
-  -- that it needs.
+  -- The tick is the last of its span: the run ends after it, or a job is released at its end, or the first incomplete
+  -- job gets all that it needs.
   abbrev pub IsLastTick : InForce → StateOf → Type 0
   IsLastTick force s =
       (s.now + 1 ≡ set.ticks)
       ⊎ (((i : ℕ) × (i < count p) × ((row_at s i).deadline ≡ s.now + 1))
       ⊎ ((i : ℕ) × IsFirstUndone p s (count p) i × (dem i (row_at s i).job ≤ (row_at s i).used + (point p force.index).speed)))
 
-  -- The tick after n more is the last of its span: the run ends after it, or a job is released, or the first job, which has all
-  -- units up to then, gets all that it needs.
+  -- The tick after n more is the last of its span: the run ends after it, or a job is released at its end, or the first
+  -- job, which has all units up to then, gets all that it needs.
   abbrev pub IsLastAfter : InForce → StateOf → Option ℕ → ℕ → Type 0
   IsLastAfter force s first n =
       (s.now + n + 1 ≡ set.ticks)
@@ -52,8 +52,8 @@ module _ (set : Setting) where
       ⊎ ((i : ℕ) × (first ≡ Some i)
       × (dem i (row_at s i).job ≤ (row_at s i).used + n * (point p force.index).speed + (point p force.index).speed)))
 
-  -- The n ticks after a state are quiet: the run doesn't end in them, no job is released in them or at their end, and the first
-  -- job that is not done isn't completed. And the tick after them is the last of its span.
+  -- The n ticks after a state are quiet: the run doesn't end in them, no job is released in them or at their end, and
+  -- the first job is not completed in them. The tick after them is the last of its span.
   pub record AreQuiet (force : InForce) (s : StateOf) (first : Option ℕ) (n : ℕ) : Type 0 where
     pub before_end : s.now + n < set.ticks
     pub no_release : (k : ℕ) → k < count p → s.now + n < (row_at s k).deadline
@@ -69,18 +69,18 @@ module _ (set : Setting) where
     abbrev pub IsMetBy : ℕ → Type 0
     IsMetBy t = IsMet p dem (course demand p dem t)
 
-    -- at the boundary of a state's tick, before its releases
+    -- the state is at the boundary of its tick, before the releases, and every due row is done
     pub record IsAtBoundary (s : StateOf) : Type 0 where
       pub early : s.now < MOST_TICKS
       pub state : s ≡ prior_state p dem (course demand p dem s.now)
       pub due_done : (i : ℕ) → i < count p → (row_at s i).deadline ≡ s.now → (row_at s i).done ≡ true
 
-    -- between two spans
+    -- the state is between two spans: a decision comes next, or the end of the run
     pub record IsBetween (s : StateOf) : Type 0 where
       pub state : s ≡ prior_state p dem (course demand p dem s.now)
       pub decision : s.now < set.ticks → is_decision p dem (course demand p dem s.now) ≡ true
 
-    -- in a span, at the tick t, after the releases and the decision
+    -- the state is in a span, at tick t, after the releases and the decision; the trace holds the span up to there
     pub record IsInSpan (force : InForce) (t : ℕ) (s : StateOf) (trace : SpanTrace) : Type 0 where
       pub before_end : t < set.ticks
       pub later : force.from ≤ t
@@ -90,14 +90,14 @@ module _ (set : Setting) where
       pub in_force : force.index ≡ entry_in_force p dem (ask_of demand p dem) (course demand p dem t)
       pub writing : Writing p dem (ask_of demand p dem) t (span_at demand p dem t) (had_at p (course demand p dem t)) (1000000 * t) trace
 
-    -- after the units of the tick t
+    -- the state is after the units of tick t, the trace holds them, and `completed` says whether a job completed in it
     pub record HasWorked (t : ℕ) (s : StateOf) (trace : SpanTrace) (completed : Bool) : Type 0 where
       pub state : s ≡ prior_state p dem (course demand p dem (t + 1))
       pub writing : Writing p dem (ask_of demand p dem) t (whole_span demand p dem t)
           (λ i. exec p (course demand p dem (t + 1)) i (latest p i t)) (1000000 * (t + 1)) trace
       pub completes : completed ≡ any_below (count p) (completes_in p dem (tick_at demand p dem t) (course demand p dem t))
 
-    -- at the end of the span, whose last tick is `last`
+    -- the state is at the end of its span, whose last tick is `last`
     pub record HasWalked (force : InForce) (last : ℕ) (s : StateOf) (trace : SpanTrace) : Type 0 where
       pub now : s.now ≡ last + 1
       pub before_end : last < set.ticks

@@ -12,31 +12,31 @@ use Rattle.sched_model.specs.States.{row_at, StateOf}
 use Rattle.governor.specs.Schedule.{ask_of, course}
 use Rattle.event_kernel.specs.Segment.{grown, open_span}
 
--- a state after units of a task, at whose end its job is done or not
+-- the state after units of a task's latest job, which is done then or not
 abbrev pub served : StateOf → ℕ → ℕ → Bool → StateOf
 served s i units ends = record s { rows = slice_set s.rows i (record (row_at s i) { used = (row_at s i).used + units; done = ends }) }
 
--- a state after units of the first row that is not done, whose job is still not done; without one it stays
+-- the state after units of a task's latest job, which is still not done; `None`: the state itself
 abbrev pub gives : StateOf → Option ℕ → ℕ → StateOf
 gives s None units = s
 gives s (Some i) units = served s i units false
 
--- what the latest job of a task has had
+-- the units that the latest job of a task has had
 abbrev pub had_at : Plan → List Tick → ℕ → ℕ
 had_at p past i = exec p past i (latest p i (length past))
 
--- the span of the tick t before its units
+-- the span that tick t of a governor's schedule belongs to, with its units before that tick
 abbrev pub span_at : (Plan → StateOf → Frac) → Plan → (ℕ → ℕ → ℕ) → ℕ → Span
 span_at demand p dem t = open_span p dem (ask_of demand p dem) (course demand p dem t)
 
--- the tick t
+-- tick t of a governor's schedule
 abbrev pub tick_at : (Plan → StateOf → Frac) → Plan → (ℕ → ℕ → ℕ) → ℕ → Tick
 tick_at demand p dem t = next_tick p dem (ask_of demand p dem) (course demand p dem t)
 
--- its span with its units
+-- the span that tick t of a governor's schedule belongs to, with the units of that tick
 abbrev pub whole_span : (Plan → StateOf → Frac) → Plan → (ℕ → ℕ → ℕ) → ℕ → Span
 whole_span demand p dem t = grown (span_at demand p dem t) (units_of p (course demand p dem t) (tick_at demand p dem t))
 
--- the notes before the tick t
+-- the notes of a governor's schedule before tick t
 abbrev pub notes_before : (Plan → StateOf → Frac) → Plan → (ℕ → ℕ → ℕ) → ℕ → List Note
 notes_before demand p dem t = notes_before_end p dem (ask_of demand p dem) (course demand p dem t)

@@ -11,13 +11,13 @@ use Rattle.event_kernel.specs.declared.span_trace.SpanTrace.{SpanTrace}
 use Rattle.event_kernel.specs.Segment.{notes_with, IsOpen}
 use Rattle.event_kernel.specs.SpanNotes.{kept}
 
--- nobody, or the latest job of a task
+-- the holder is nobody, or the latest job of a task
 abbrev pub HeldNow : Plan → ℕ → Holder → Type 0
 HeldNow p t Nobody = Unit {0}
 HeldNow p t (Held i k) = (i < count p) × (k ≡ latest p i t)
 
--- The trace holds the open segment of a span's units, and the notes of the span before it. `used` is what the latest job of
--- each task has had, and `most` bounds the units so far.
+-- The trace holds the open segment of a span's units, and the notes of the span before it. `used` is the units that the
+-- latest job of each task has had, and `most` bounds the units so far.
 pub record Writing (p : Plan) (dem : ℕ → ℕ → ℕ) (ask : List Tick → Frac) (t : ℕ) (s : Span) (used : ℕ → ℕ) (most : ℕ) (trace : SpanTrace) : Type 0 where
   pub done : List Piece
   pub segments : IsOpen trace.segment done s.units

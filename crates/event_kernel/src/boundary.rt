@@ -19,7 +19,7 @@ use dvs_base::{Note, Pos};
 use governor::Governor;
 use sched_model::{Admitted, State};
 
-// Makes one decision, and puts in its note.
+// Makes one decision and adds its note; the index of the entry that it chose.
 fn decide<G: Governor>(plan: &Admitted, governor: &G, state: &State, notes: &mut SpanNotes) -> u32
     requires of { IsOfPlan plan.now state.now }
     requires counters { G.stands governor.now plan.now state.now }
@@ -40,7 +40,7 @@ fn decide<G: Governor>(plan: &Admitted, governor: &G, state: &State, notes: &mut
 }
 
 impl<G: Governor> Progress<G> {
-    // One release, and the completion of a job of demand 0.
+    // Releases a task's next job, and completes it where its demand is 0.
     fn release_one(&mut self, set: &Setting<'_>, task: u32)
         requires list { IsListOf set.now.plan.now set.now.demands.now }
         requires of { IsOfPlan set.now.plan.now self.old.state }
@@ -83,7 +83,7 @@ impl<G: Governor> Progress<G> {
         }
     }
 
-    // The releases of one boundary in the order of the tasks, and the mark where there is one.
+    // Releases every job that is due now, in the order of the tasks, and sets the mark where there was one.
     fn release_all(&mut self, set: &Setting<'_>)
         requires set { IsSetting set.now }
         requires at { IsAtBoundary set.now G.demand self.old.state }
@@ -105,7 +105,7 @@ impl<G: Governor> Progress<G> {
         }
     }
 
-    /// The releases and the decision with which a span begins; the entry that is in force in it.
+    /// Begins a span: its releases, then its decision. The entry in force in it, with the span's first tick.
     pub(crate) fn begin(&mut self, set: &Setting<'_>) -> InForce
         requires set { IsSetting set.now }
         requires between { IsBetween set.now G.demand self.old.state }

@@ -11,7 +11,7 @@ use dvs_base::NoMemory;
 use sched_model::Admitted;
 use std::alloc::Global;
 
-/// How many jobs of a task are released below `ticks`.
+/// The number of a task's jobs that are released before tick `ticks`.
 pub fn jobs_below(plan: &Admitted, task: u32, ticks: u64) -> u64
     requires task { task < count plan.now }
     requires ticks { ticks ≤ MOST_TICKS }
@@ -23,7 +23,7 @@ pub fn jobs_below(plan: &Admitted, task: u32, ticks: u64) -> u64
     span.div_ceil(plan.period(task))
 }
 
-/// How many jobs of all tasks are released below `ticks`.
+/// The number of jobs of all tasks that are released before tick `ticks`.
 pub fn count_jobs(plan: &Admitted, ticks: u64) -> u64
     requires { ticks ≤ MOST_TICKS }
     ensures { result ≡ released_jobs plan.now ticks }
@@ -35,7 +35,7 @@ pub fn count_jobs(plan: &Admitted, ticks: u64) -> u64
     count
 }
 
-/// The demand list of a plan without rows: every job needs its worst case.
+/// A plan's demand list without rows: every job needs its worst case. It fails only where memory runs out.
 pub fn worst_demands(alloc: Global, plan: &Admitted) -> Result<Demands, NoMemory>
     ensures list { IfOk result (IsListOf plan.now) }
     ensures rows { IfOk result (λ d. d.rows ≡ []) }

@@ -1,6 +1,7 @@
 // The kernel.
 ghost use Rattle.std.specs.Prelude.{◌≡◌, ◌≢◌, ◌≤◌, ◌<◌, ℕ, OnOk, OnErr, IfOk, IsOk, IsErrOf, [], length, map};
 ghost use Rattle.dvs_base.specs.declared.kind.GovernorKind.TheVariants.{Ahead};
+ghost use Rattle.dvs_base.specs.declared.note.Note.TheVariants.{End};
 ghost use Rattle.sched_model.specs.Totals.{totals_of};
 ghost use Rattle.sched_model.specs.States.{opening};
 ghost use Rattle.event_kernel.specs.Heard.{HasHeard, HasBalked, Tells};
@@ -33,15 +34,14 @@ use sched_model::{Admitted, State};
 use std::alloc::Global;
 use std::marker::Model;
 
-/// Why there is no kernel: the run has too many jobs, and how many; or memory was not found.
+/// Why no kernel is made: the run has `count` jobs, more than `MOST_JOBS`; or memory ran out.
 #[derive(Clone, Copy, Debug, PartialEq, Eq)]
 pub enum KernelFault {
     TooManyJobs { count: u64 },
     NoMemory,
 }
 
-// What a run begins with: the opening state, the agenda that stands for it, an account of no notes, and room for those
-// of a span.
+// What a run begins with: the opening state, its agenda, an account without notes, and room for the notes of a span.
 #[derive(Drop)]
 struct Opening {
     state: State,
@@ -67,6 +67,20 @@ impl Opening {
             notes,
         })
     }
+}
+
+/// What a run of `ticks` ticks ends with: the totals of its account, and the `End` note.
+pub(crate) fn ending(ticks: u64, account: &Account) -> (Totals, Note)
+    ensures totals { result.0 ≡ account.now.totals }
+    ensures note { result.1 ≡ End ticks account.now.totals.run account.now.totals.idle }
+{
+    let totals = account.totals();
+    let end = Note::End {
+        ticks,
+        run: totals.run,
+        idle: totals.idle,
+    };
+    (totals, end)
 }
 
 /// A kernel at the opening state of its plan.
@@ -104,8 +118,9 @@ impl<'a, G: Governor> Model for Kernel<'a, G> {
 }
 
 impl<'a, G: Governor> Kernel<'a, G> {
-    /// A kernel for this many ticks, 1 to 2^40, of a plan and its demands; all its memory is taken here.
-    /// `TooManyJobs` comes exactly where more than `MOST_JOBS` jobs are released below `ticks`, with their number.
+    /// A kernel for `ticks` ticks, 1 to 2^40, of a plan and its demands. All its memory is taken here.
+    /// `TooManyJobs` comes exactly where more than `MOST_JOBS` jobs are released before tick `ticks`, with their
+    /// number; `NoMemory` comes only where memory runs out.
     pub fn new(
         alloc: Global,
         plan: &'a Admitted,
@@ -147,9 +162,9 @@ impl<'a, G: Governor> Kernel<'a, G> {
         })
     }
 
-    /// Tells the listener the notes of the governor's schedule, whole and in order, and gives their sums and counts.
-    /// `Stopped` only where the listener stopped, after a proper prefix. Every job that is due within the run has its
-    /// demand by its deadline.
+    /// Hands the listener all notes of the governor's schedule, in order; the sums and counts over them. `Stopped`
+    /// comes only where the listener stopped, after a proper prefix of them. Every job that is due within the run has
+    /// its demand by its deadline.
     pub fn drive<L: Listener>(self, to: &mut L) -> Result<Totals, Stopped>
         ensures totals { IfOk result (λ t. t ≡ totals_of (notes_of_run G.demand self.entry)) }
         // At most one more decision than releases and completions together, so at most one more than two a job.
@@ -161,13 +176,20 @@ impl<'a, G: Governor> Kernel<'a, G> {
         ensures never_falls { L.stops to.old ≤ L.stops to.new }
         ensures rose { OnErr result (Rose (L.stops to.old) (L.stops to.new)) }
     {
-        match self.walk(Walk::Events, to) {
-            Ok(totals) => Ok(totals),
+        let ticks = self.ticks;
+        match self.spans(Walk::Events, to) {
+            Ok(account) => {
+                let (totals, end) = ending(ticks, &account);
+                match to.hear(&end) {
+                    Ok(()) => Ok(totals),
+                    Err(Stopped) => Err(Stopped),
+                }
+            }
             Err(Stopped) => Err(Stopped),
         }
     }
 
-    /// The same as `drive`, but it goes from tick to tick and not from event to event.
+    /// Hands the listener the notes that `drive` hands it, with the same results, but goes tick by tick, not by events.
     pub fn tick_drive<L: Listener>(self, to: &mut L) -> Result<Totals, Stopped>
         ensures totals { IfOk result (λ t. t ≡ totals_of (notes_of_run G.demand self.entry)) }
         // At most one more decision than releases and completions together, so at most one more than two a job.
@@ -179,16 +201,23 @@ impl<'a, G: Governor> Kernel<'a, G> {
         ensures never_falls { L.stops to.old ≤ L.stops to.new }
         ensures rose { OnErr result (Rose (L.stops to.old) (L.stops to.new)) }
     {
-        match self.walk(Walk::Ticks, to) {
-            Ok(totals) => Ok(totals),
+        let ticks = self.ticks;
+        match self.spans(Walk::Ticks, to) {
+            Ok(account) => {
+                let (totals, end) = ending(ticks, &account);
+                match to.hear(&end) {
+                    Ok(()) => Ok(totals),
+                    Err(Stopped) => Err(Stopped),
+                }
+            }
             Err(Stopped) => Err(Stopped),
         }
     }
 
-    /// Writes the whole trace in this version into the sink, one `put` a line, and tells the probes each note after its
-    /// line was put; the totals of its notes. `WriteFault` comes only where the sink failed: every line before that one
-    /// was put and its note told, the line itself was put in part, and nothing after it. It never comes where the sink
-    /// was sure of as many bytes as the trace has.
+    /// Writes the whole trace in this version to the sink, one `put` a line, and tells the probes each note after
+    /// its line was put; the totals of the notes. `WriteFault` comes only where the sink failed at some line: the lines
+    /// before it were put and their notes told, the line itself was put in part, and nothing after it. It never comes
+    /// where the sink was sure of as many bytes as the trace has.
     pub fn run<W: Sink, P: Probe>(
         self,
         out: &mut W,
@@ -221,10 +250,12 @@ impl<'a, G: Governor> Kernel<'a, G> {
         }
     }
 
-    // The spans of the run, by one walk or the other: all notes before the `End`, told span by span, and an account of
-    // them.
+    // Runs the spans by this walk and hands the listener every note before the `End`; the account of those notes.
     pub(crate) fn spans<L: Listener>(self, walk: Walk, to: &mut L) -> Result<Account, Stopped>
         ensures booked { IfOk result (λ a. HasBooked self.entry.plan a (notes_before_end_of G.demand self.entry)) }
+        ensures totals { IfOk result (λ a. a.totals ≡ totals_of (notes_of_run G.demand self.entry)) }
+        ensures few { IfOk result (λ a. AreFew a.totals) }
+        ensures met { IsMetRun G.the_kind G.demand self.entry }
         ensures told { Tells L.heard L.balked L.stops to.old to.new (notes_before_end_of G.demand self.entry) result }
     {
         let Kernel {
@@ -250,26 +281,11 @@ impl<'a, G: Governor> Kernel<'a, G> {
         };
         while progress.now() < ticks {
             let point = progress.span(walk, &set);
-            progress.trace.notes.tell(point, &mut account, to)?;
+            match progress.trace.notes.tell(point, &mut account, to) {
+                Ok(()) => {}
+                Err(Stopped) => return Err(Stopped),
+            }
         }
         Ok(account)
-    }
-
-    // The run, by one walk or the other.
-    fn walk<L: Listener>(self, walk: Walk, to: &mut L) -> Result<Totals, Stopped>
-        ensures totals { IfOk result (λ t. t ≡ totals_of (notes_of_run G.demand self.entry)) }
-        ensures few { IfOk result AreFew }
-        ensures met { IsMetRun G.the_kind G.demand self.entry }
-        ensures told { Tells L.heard L.balked L.stops to.old to.new (notes_of_run G.demand self.entry) result }
-    {
-        let ticks = self.ticks;
-        let account = self.spans(walk, to)?;
-        let totals = account.totals();
-        to.hear(&Note::End {
-            ticks,
-            run: totals.run,
-            idle: totals.idle,
-        })?;
-        Ok(totals)
     }
 }

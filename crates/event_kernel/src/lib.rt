@@ -1,7 +1,7 @@
-//! The kernel: it runs an admitted plan under a governor and tells a listener every note of the schedule.
+//! The kernel: it runs an admitted plan under a governor and hands a listener every note of the schedule.
 //!
-//! It is generic over the governor and learns each demand from `choose` alone. What a listener hears is the whole list
-//! of notes, in order; where it stops, a proper prefix of it.
+//! It is generic over the governor and learns each demand from `choose` alone. A listener hears all notes, in order;
+//! where it stops, it has heard a proper prefix of them.
 #![tactic(auto)]
 
 mod boundary;

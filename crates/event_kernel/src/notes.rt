@@ -9,13 +9,14 @@ use dvs_base::{NoMemory, Note};
 use energy::Account;
 use std::alloc::Global;
 use std::marker::Model;
+use task_model::MOST_TASKS;
 
-/// The most notes of a span: of each of 64 tasks a release and an end, and a run and its end; a decision; and one more
-/// segment and an end.
-pub const MOST_NOTES: usize = 259;
+/// The most notes of a span: for each task a release, a segment and two completions; a decision; and one more segment
+/// with a completion.
+pub const MOST_NOTES: usize = 4 * MOST_TASKS + 3;
 
-/// The notes of one span, in order. Its memory is taken at once, for as many notes as a span has at most; it keeps the
-/// first of those that are put into it, and no span has more.
+/// The notes of one span, in order. There is room for `MOST_NOTES` of them, and no span has more; any further note is
+/// dropped.
 #[derive(Drop)]
 pub struct SpanNotes {
     notes: Vec<Note>,
@@ -42,14 +43,14 @@ impl SpanNotes {
         Ok(SpanNotes { notes })
     }
 
-    /// Leaves no notes.
+    /// Removes all notes.
     pub(crate) fn clear(&mut self)
         ensures { self.new ≡ [] }
     {
         self.notes.clear();
     }
 
-    /// One more note.
+    /// Adds a note where there is room.
     pub(crate) fn push(&mut self, note: Note)
         ensures { self.new ≡ kept (self.old ++ note ∷ []) }
     {
@@ -58,7 +59,8 @@ impl SpanNotes {
         }
     }
 
-    /// Tells the notes to a listener, and books each with the entry in force.
+    /// Hands each note to a listener, and then adds it to the account under the entry `point`. `Stopped` comes only
+    /// where the listener stopped.
     pub(crate) fn tell<L: Listener>(
         &self,
         point: u32,

@@ -1,4 +1,4 @@
-// A run: what stays in it, and what changes.
+// The parts of a run: what stays, and what changes.
 ghost use Rattle.std.specs.Prelude.{◌≡◌};
 
 use crate::span_trace::SpanTrace;
@@ -7,7 +7,7 @@ use demand_list::Demands;
 use governor::Governor;
 use sched_model::{Admitted, State};
 
-/// What stays in a run: the plan, the demands of its jobs, and how many ticks it has.
+/// What stays in a run: the plan, the demands of its jobs, and the number of its ticks.
 #[derive(Clone, Copy)]
 pub struct Setting<'a> {
     pub plan: &'a Admitted,
@@ -22,8 +22,8 @@ pub struct InForce {
     pub index: u32,
 }
 
-/// What changes in a run: the state, the governor with its counters and the agenda, which both follow the state, and the
-/// notes of the latest span.
+/// What changes in a run: the state; the governor's counters and the agenda, which follow the state; and the trace of
+/// the latest span.
 #[derive(Drop)]
 pub struct Progress<G: Governor> {
     pub governor: G,
@@ -33,7 +33,7 @@ pub struct Progress<G: Governor> {
 }
 
 impl<G: Governor> Progress<G> {
-    /// The tick before which the run stands.
+    /// The tick that the run has reached.
     pub(crate) fn now(&self) -> u64
         ensures { result ≡ self.entry.now.state.now }
     {

@@ -13,7 +13,7 @@ use governor::Governor;
 use sched_model::Admitted;
 
 impl<G: Governor> Progress<G> {
-    // How many ticks come before the span's last one.
+    // The number of ticks before the span's last one.
     fn quiet_ticks(&self, set: &Setting<'_>, force: InForce, first: Option<u32>) -> u64
         requires set { IsSetting set.now }
         requires at { IsInSpan set.now G.demand force self.now.state.now self.now.state self.now.trace }
@@ -31,7 +31,7 @@ impl<G: Governor> Progress<G> {
         }
     }
 
-    // Units of the first job, which is not done at their end; without one nothing changes.
+    // Runs `units` of the first incomplete job, which stays incomplete; where there is none, nothing changes.
     fn serve_first(&mut self, plan: &Admitted, first: Option<u32>, units: u64)
         requires of { IsOfPlan plan.now self.old.state }
         requires can { IfSome first (λ i. CanRun self.old.state i units) }
@@ -46,8 +46,8 @@ impl<G: Governor> Progress<G> {
         }
     }
 
-    /// All ticks of a span before its last one, at once: no job is released or completed in them, so one job has all
-    /// their units, or nobody.
+    /// Runs all ticks of a span before its last one in one step: no job is released or completed in them, so one job
+    /// has all their units, or they are idle.
     pub(crate) fn stay(&mut self, set: &Setting<'_>, force: InForce)
         requires set { IsSetting set.now }
         requires at { IsInSpan set.now G.demand force self.old.state.now self.old.state self.old.trace }

@@ -1,4 +1,4 @@
-// The segment that is open.
+// The open segment of a span.
 ghost use Rattle.std.specs.Prelude.{◌≡◌, ◌+◌, ◌<◌};
 ghost use Rattle.dvs_base.specs.Widths.{u64_end};
 ghost use Rattle.sched_model.specs.declared.holder.Holder.TheVariants.{Nobody};
@@ -6,7 +6,7 @@ ghost use Rattle.sched_model.specs.Segments.{same_holder};
 
 use sched_model::Holder;
 
-/// The open segment: its holder, its first unit by the span's count, and its units.
+/// The open segment: its holder, the number of its first unit in the span, and how many units it has.
 #[derive(Clone, Copy)]
 pub struct Segment {
     pub holder: Holder,
@@ -15,7 +15,7 @@ pub struct Segment {
 }
 
 impl Segment {
-    /// No units yet.
+    /// A segment without units.
     pub(crate) fn none() -> Segment
         ensures { result ≡ record { holder = Nobody; start = 0; units = 0 } }
     {
@@ -26,7 +26,7 @@ impl Segment {
         }
     }
 
-    /// The next segment of the holder begins where this one ends.
+    /// Begins the holder's next segment where this one ends.
     pub(crate) fn pass(&mut self)
         requires { self.old.start + self.old.units < u64_end }
         ensures { self.new ≡ record { holder = self.old.holder; start = self.old.start + self.old.units; units = 0 } }
@@ -36,7 +36,7 @@ impl Segment {
     }
 }
 
-/// Whether two holders are one.
+/// Whether two holders are equal.
 pub(crate) fn is_same(a: Holder, b: Holder) -> bool
     ensures { result ≡ same_holder a b }
 {

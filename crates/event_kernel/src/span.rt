@@ -1,4 +1,4 @@
-// From one decision to the next.
+// A span: the ticks from one decision to the next.
 ghost use Rattle.std.specs.Prelude.{◌≡◌, ◌-◌, ◌<◌, ◌≤◌, ◌||◌, ◌++◌, nat_eq, length};
 ghost use Rattle.agenda.specs.Agenda.{NonePast};
 ghost use Rattle.event_kernel.specs.Current.{IsCurrent};
@@ -11,7 +11,7 @@ use crate::progress::{InForce, Progress, Setting};
 use crate::span_trace::Moment;
 use governor::Governor;
 
-/// How a span's ticks are walked: all but the last at once, or one by one.
+/// How a span's ticks are run: all but the last in one step, or one by one.
 #[derive(Clone, Copy)]
 pub enum Walk {
     Events,
@@ -29,7 +29,7 @@ impl<G: Governor> Progress<G> {
         self.agenda.next_release(set.plan, &self.state) == self.now()
     }
 
-    // Whether the span ends here.
+    // Whether the span ends before this tick: a job completed, the run ends, or a job is released.
     fn is_end(&self, set: &Setting<'_>, completed: bool) -> bool
         requires set { IsSetting set.now }
         requires past { NonePast set.now.plan.now self.now.state }
@@ -40,7 +40,7 @@ impl<G: Governor> Progress<G> {
         completed || self.now() == set.ticks || self.any_due(set)
     }
 
-    // The ticks of a span, up to the next decision or the end: all but the last at once.
+    // Runs the ticks of a span: all but the last in one step, and then the last.
     fn by_events(&mut self, set: &Setting<'_>, force: InForce)
         requires set { IsSetting set.now }
         requires at { IsInSpan set.now G.demand force self.old.state.now self.old.state self.old.trace }
@@ -52,7 +52,7 @@ impl<G: Governor> Progress<G> {
         self.work(set, force);
     }
 
-    // The ticks of a span one by one, up to the next decision or the end.
+    // Runs the ticks of a span one by one, up to the next decision or the end.
     fn by_ticks(&mut self, set: &Setting<'_>, force: InForce)
         requires set { IsSetting set.now }
         requires at { IsInSpan set.now G.demand force self.old.state.now self.old.state self.old.trace }
@@ -68,7 +68,7 @@ impl<G: Governor> Progress<G> {
         }
     }
 
-    // The ticks of a span, up to the next decision or the end.
+    // Runs the ticks of a span by this walk, up to the next decision or the end.
     fn walk_span(&mut self, walk: Walk, set: &Setting<'_>, force: InForce)
         requires set { IsSetting set.now }
         requires at { IsInSpan set.now G.demand force self.old.state.now self.old.state self.old.trace }
@@ -82,8 +82,8 @@ impl<G: Governor> Progress<G> {
         }
     }
 
-    /// One span: a decision with its releases, and the ticks up to the next decision or the end. Its notes are then in
-    /// the trace. The entry that was in force.
+    /// Runs one span: its releases, its decision, and the ticks up to the next decision or the end. The trace has its
+    /// notes then. The entry that was in force.
     pub(crate) fn span(&mut self, walk: Walk, set: &Setting<'_>) -> u32
         requires set { IsSetting set.now }
         requires between { IsBetween set.now G.demand self.old.state }

@@ -1,4 +1,4 @@
-// The notes of a span as they come, and the segment that is open.
+// The notes of a span so far, and its open segment.
 ghost use Rattle.std.specs.Prelude.{◌≡◌, ◌+◌, ◌<◌, []};
 ghost use Rattle.dvs_base.specs.Widths.{u64_end};
 ghost use Rattle.sched_model.specs.declared.holder.Holder.TheVariants.{Nobody, Held};
@@ -14,14 +14,14 @@ use dvs_base::{Note, Pos};
 use energy::energy_of;
 use sched_model::{Admitted, Holder, State};
 
-/// What is there of a span: its open segment, and all notes before it.
+/// A span so far: its open segment, and all notes before it.
 #[derive(Drop)]
 pub struct SpanTrace {
     pub segment: Segment,
     pub notes: SpanNotes,
 }
 
-/// What a segment is told from: the plan, the state at its end, and the entry in force.
+/// What a segment's notes are computed from: the plan, the state at its end, and the entry in force.
 #[derive(Clone, Copy)]
 pub struct Moment<'a> {
     pub plan: &'a Admitted,
@@ -47,7 +47,7 @@ fn position(from: u64, speed: u64, unit: u64) -> Pos
 }
 
 impl SpanTrace {
-    /// No segment yet, after these notes.
+    /// A trace with these notes and no segment yet.
     pub(crate) fn new(notes: SpanNotes) -> SpanTrace
         ensures { result ≡ new_trace notes }
     {
@@ -57,7 +57,7 @@ impl SpanTrace {
         }
     }
 
-    /// Leaves no notes and no segment.
+    /// Removes the notes and the segment.
     pub(crate) fn clear(&mut self)
         ensures { self.new ≡ new_trace [] }
     {
@@ -65,7 +65,7 @@ impl SpanTrace {
         self.notes.clear();
     }
 
-    // Where the segment begins and where it ends.
+    // The positions where the segment begins and where it ends.
     fn ends(&self, at: Moment<'_>) -> (Pos, Pos)
         requires { CanPut at.plan.now at.state.now at.force.from at.force.index self.now }
         ensures first { result.0 ≡ position_of at.entry.force.from
@@ -83,7 +83,7 @@ impl SpanTrace {
         )
     }
 
-    // Puts in an idle segment.
+    // Adds the note of an idle segment.
     fn put_idle(&mut self, at: Moment<'_>)
         requires can { CanPut at.plan.now at.state.now at.force.from at.force.index self.old }
         requires idle { self.old.segment.holder ≡ Nobody }
@@ -101,7 +101,7 @@ impl SpanTrace {
         });
     }
 
-    // Puts in a segment of a job, and the end of the job where its row is done.
+    // Adds the note of a job's segment, and that of the job's completion where its row is done.
     fn put_run(&mut self, at: Moment<'_>, task: u32, job: u64)
         requires can { CanPut at.plan.now at.state.now at.force.from at.force.index self.old }
         requires held { self.old.segment.holder ≡ Held task job }
@@ -131,7 +131,7 @@ impl SpanTrace {
         }
     }
 
-    // Puts in the segment, and the end of its job where the row is done.
+    // Adds the notes of the open segment, and begins the holder's next one.
     fn put_segment(&mut self, at: Moment<'_>)
         requires { CanPut at.plan.now at.state.now at.force.from at.force.index self.old }
         ensures { self.new ≡ after_segment at.entry.plan.now at.entry.state.now at.entry.force.from
@@ -144,7 +144,7 @@ impl SpanTrace {
         self.segment.pass();
     }
 
-    /// Units of a holder come after those of the segment.
+    /// Adds units of a holder. Where another holder's segment is open, its notes are added first.
     pub(crate) fn enter(&mut self, at: Moment<'_>, holder: Holder, units: u64)
         requires can { CanPut at.plan.now at.state.now at.force.from at.force.index self.old }
         requires fits { self.old.segment.units + units < u64_end }
@@ -158,7 +158,7 @@ impl SpanTrace {
         self.segment.units += units;
     }
 
-    /// Puts in the segment that is left at the end of a span.
+    /// Adds the notes of the segment that is open at the end of a span.
     pub(crate) fn close(&mut self, at: Moment<'_>)
         requires { CanPut at.plan.now at.state.now at.force.from at.force.index self.old }
         ensures { self.new ≡ ended at.entry.plan.now at.entry.state.now at.entry.force.from

@@ -7,6 +7,7 @@ ghost use Rattle.sched_model.specs.Totals.{totals_of};
 ghost use Rattle.event_kernel.specs.Lines.{Writes, WroteLines, StoppedIn, noted, note_lines, sum_lines};
 ghost use Rattle.event_kernel.specs.Runs.{notes_of_run};
 
+use crate::kernel::ending;
 use crate::span::Walk;
 use crate::write::{Head, put_sums};
 use crate::{Kernel, Listener, Stopped};
@@ -16,11 +17,11 @@ use governor::Governor;
 use probes::{Probe, tell_all};
 use trace_text::write_note;
 
-/// The sink failed before a run's whole text was in it.
+/// The sink failed before the whole trace was written.
 #[derive(Clone, Copy, Debug, PartialEq, Eq)]
 pub struct WriteFault;
 
-// Writes a note's line over what `line` had, puts it, and then tells the probes the note.
+// Writes a note's line into `line`, puts it, and then tells the probes the note.
 fn tell_note<W: Sink, P: Probe>(
     note: &Note,
     names: &[Name],
@@ -42,7 +43,7 @@ fn tell_note<W: Sink, P: Probe>(
     }
 }
 
-// Puts each note's line into a sink, and then tells the probes the note. All lines are written in one place.
+// A listener that puts each note's line into a sink, and then tells the probes the note. `line` is used for each.
 #[derive(Drop)]
 struct Teller<'a, 'b, 'c, W: Sink, P: Probe> {
     out: &'a mut W,
@@ -72,31 +73,28 @@ impl<'a, 'b, 'c, W: Sink, P: Probe> Listener for Teller<'a, 'b, 'c, W, P> {
     }
 }
 
-// Puts the `End` line, and then tells the probes that note; the totals.
+// Puts the `End` line, and then tells the probes the `End`; the totals.
 fn tell_end<W: Sink, P: Probe>(
     head: Head<'_>,
-    totals: Totals,
+    account: &Account,
     line: &mut Line,
     out: &mut W,
     probes: &mut Vec<P>,
 ) -> Result<Totals, WriteFault>
-    ensures totals { IfOk result (λ t. t ≡ totals) }
+    ensures totals { IfOk result (λ t. t ≡ account.now.totals) }
     ensures writes { Writes (W.shows out.old) (W.shows out.new)
         (map P.seen probes.old.items) (map P.seen probes.new.items)
-        (noted (names head.entry.plan.now) (End head.entry.ticks totals.run totals.idle) ∷ []) result }
+        (noted (names head.entry.plan.now)
+        (End head.entry.ticks account.now.totals.run account.now.totals.idle) ∷ []) result }
 {
-    let end = Note::End {
-        ticks: head.ticks,
-        run: totals.run,
-        idle: totals.idle,
-    };
+    let (totals, end) = ending(head.ticks, account);
     match tell_note(&end, head.plan.names(), line, out, probes) {
         Ok(()) => Ok(totals),
         Err(Failed) => Err(WriteFault),
     }
 }
 
-// Puts the lines after the other notes, and tells the probes the `End`; the totals.
+// Puts the lines of the energies and the `End` line, and tells the probes the `End`; the totals.
 fn tell_tail<W: Sink, P: Probe>(
     head: Head<'_>,
     account: &Account,
@@ -112,12 +110,12 @@ fn tell_tail<W: Sink, P: Probe>(
         (End head.entry.ticks account.now.totals.run account.now.totals.idle) ∷ []) result }
 {
     match put_sums(head, account, out) {
-        Ok(()) => tell_end(head, account.totals(), line, out, probes),
+        Ok(()) => tell_end(head, account, line, out, probes),
         Err(Failed) => Err(WriteFault),
     }
 }
 
-// Writes the lines of a run after its head by a teller; the totals.
+// Writes the lines of a run after its head through a teller; the totals.
 fn notes_into<G: Governor, W: Sink, P: Probe>(
     kernel: Kernel<'_, G>,
     head: Head<'_>,
@@ -141,7 +139,7 @@ fn notes_into<G: Governor, W: Sink, P: Probe>(
     }
 }
 
-/// Writes the lines of a run after its head, and tells its notes to probes; the totals.
+/// Writes the lines of a run after its head, and tells the probes its notes; the totals.
 pub(crate) fn tell_notes<G: Governor, W: Sink, P: Probe>(
     kernel: Kernel<'_, G>,
     head: Head<'_>,

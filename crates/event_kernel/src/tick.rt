@@ -15,7 +15,7 @@ use demand_list::Demands;
 use governor::Governor;
 use sched_model::{Admitted, Holder, State};
 
-/// What a job needs in work units, with the charge; 0 for job 0.
+/// A job's demand in work units, with twice the charge; 0 for job 0.
 pub(crate) fn demand(plan: &Admitted, demands: &Demands, task: u32, job: u64) -> u64
     requires list { IsListOf plan.now demands.now }
     requires task { task < count plan.now }
@@ -28,7 +28,7 @@ pub(crate) fn demand(plan: &Admitted, demands: &Demands, task: u32, job: u64) ->
     demands.units(task, job) + 2 * plan.machine().charge()
 }
 
-/// What the job of a task still lacks, in work units.
+/// The work units that a task's latest job still needs.
 pub(crate) fn lacking(set: &Setting<'_>, state: &State, task: u32) -> u64
     requires list { IsListOf set.now.plan.now set.now.demands.now }
     requires rows { length state.now.rows ≡ count set.now.plan.now }
@@ -42,7 +42,7 @@ pub(crate) fn lacking(set: &Setting<'_>, state: &State, task: u32) -> u64
     demand(set.plan, set.demands, task, row.job) - row.used
 }
 
-/// The holder that the first job that is not done is, or nobody where all are done.
+/// The holder that is the latest job of the task `first`; nobody where it is `None`.
 pub(crate) fn holder_of(state: &State, first: Option<u32>) -> Holder
     requires { IfSome first (λ i. i < length state.now.rows) }
     ensures { result ≡ holder_at state.entry.now first }
@@ -54,7 +54,7 @@ pub(crate) fn holder_of(state: &State, first: Option<u32>) -> Holder
 }
 
 impl<G: Governor> Progress<G> {
-    /// Units of the first task that is not done, at whose end its job is done or not, each announced to the governor.
+    /// Runs `units` of the first incomplete job, and completes it where `ends`. The governor and the agenda hear of it.
     pub(crate) fn serve(&mut self, plan: &Admitted, task: u32, units: u64, ends: bool)
         requires of { IsOfPlan plan.now self.old.state }
         requires can { CanRun self.old.state task units }
@@ -74,7 +74,7 @@ impl<G: Governor> Progress<G> {
         }
     }
 
-    /// The units of one tick; whether a job is complete at its end.
+    /// Runs the units of one tick; whether a job completes in it.
     pub(crate) fn work(&mut self, set: &Setting<'_>, force: InForce) -> bool
         requires set { IsSetting set.now }
         requires at { IsInSpan set.now G.demand force self.old.state.now self.old.state self.old.trace }

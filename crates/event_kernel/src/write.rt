@@ -1,4 +1,4 @@
-// The lines of a run's trace that stand around its notes.
+// The lines of a trace that are not a note's: its head, and the energies of the tasks.
 ghost use Rattle.std.specs.Prelude.{◌≡◌, ◌<◌, length, slice_index};
 ghost use Rattle.grid_fraction.specs.Numbers.{list_below};
 ghost use Rattle.dvs_base.specs.declared.kind.Version.TheVariants.{Two};
@@ -13,7 +13,7 @@ use sched_model::Admitted;
 use trace_reader::{TaskLine, write_share, write_task, write_version};
 use trace_text::{PlanLine, write_head};
 
-/// What the first lines of a trace tell.
+/// What the head of a trace says.
 #[derive(Clone, Copy)]
 pub struct Head<'a> {
     pub version: Version,
@@ -69,7 +69,7 @@ fn line_of_share(plan: &Admitted, i: u32, energy: u128) -> Line
     line
 }
 
-// Puts the lines of the tasks where the version has them.
+// Puts a line for each task in version 2, and nothing in version 1.
 fn put_task_lines<W: Sink>(version: Version, plan: &Admitted, out: &mut W) -> Result<(), Failed>
     ensures { WritesPlain (W.shows out.old) (W.shows out.new) (task_lines version plan.now) result }
 {
@@ -89,7 +89,7 @@ pub(crate) fn put_head<W: Sink>(head: Head<'_>, out: &mut W) -> Result<(), Faile
     put_task_lines(head.version, head.plan, out)
 }
 
-// Puts the lines of the tasks.
+// Puts a line for each task: its name, its period, its offset and its declared worst case.
 fn put_tasks<W: Sink>(plan: &Admitted, out: &mut W) -> Result<(), Failed>
     ensures { WritesPlain (W.shows out.old) (W.shows out.new) (task_lines Two plan.now) result }
 {
@@ -99,7 +99,7 @@ fn put_tasks<W: Sink>(plan: &Admitted, out: &mut W) -> Result<(), Failed>
     Ok(())
 }
 
-// Puts the lines of the tasks' energies.
+// Puts a line for each task: its name and its energy.
 fn put_shares<W: Sink>(plan: &Admitted, account: &Account, out: &mut W) -> Result<(), Failed>
     requires { length account.now.by_task ≡ count plan.now }
     ensures { WritesPlain (W.shows out.old) (W.shows out.new)
@@ -112,7 +112,7 @@ fn put_shares<W: Sink>(plan: &Admitted, account: &Account, out: &mut W) -> Resul
     Ok(())
 }
 
-/// Puts the lines of the tasks' energies where the version has them.
+/// Puts a line with each task's energy in version 2, and nothing in version 1.
 pub(crate) fn put_sums<W: Sink>(
     head: Head<'_>,
     account: &Account,

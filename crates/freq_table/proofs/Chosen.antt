@@ -24,7 +24,7 @@ speeds_rise m table j (suc k) le h = go (eq-or-lt_of_le le) (speeds_rise m table
 pub below_highest : (m : Table) → IsTable m → (k : ℕ) → k < length m.points → speed_at m k ≤ highest_speed m
 below_highest m table k h = speeds_rise m table k (last_entry m) (omega arith) (omega arith)
 
--- the picked entry is one of the table
+-- the entry that a demand picks is one of the table
 pub lowest_within : (m : Table) (d : Frac) → 1 ≤ length m.points → lowest_entry m d < length m.points
 lowest_within m d some = omega arith
 
@@ -33,7 +33,7 @@ pub lowest-most : (m : Table) (d : Frac) (k : ℕ) → d.num ≤ speed_at m k * 
 lowest-most m d k h =
     omega (arith, first_from-most (length m.points) 0 k (λ e. meets (speed_at m e) d) (omega arith) (le-leb d.num (speed_at m k * d.den) h))
 
--- where the highest speed meets a demand, the picked one does
+-- where the highest speed meets a demand, the speed of the picked entry does
 pub picked_meets : (m : Table) → IsTable m → (d : Frac) → d.num ≤ highest_speed m * d.den → d.num ≤ speed_at m (lowest_entry m d) * d.den
 picked_meets m table d h =
     let test : ℕ → Bool = λ e. meets (speed_at m e) d in
@@ -50,7 +50,7 @@ picked_meets m table d h =
           rw same (leb-true _ _ found.0)
     ]
 
--- and the pick is met
+-- where the highest speed meets a demand, the pick says that it is met
 pub picked_met : (m : Table) → IsTable m → (d : Frac) → d.num ≤ highest_speed m * d.den → (lowest_pick m d).met ≡ true
 picked_met m table d h = go (any_below (length m.points) (λ e. meets (speed_at m e) d)) refl
   where

@@ -1,4 +1,4 @@
--- One more point after some, and a table from its points.
+-- A list with one more point, and a table from its points.
 use Rattle.std.proofs.Common.{◌≡◌, ◌<◌, ◌≤◌, ℕ, ◌+◌, ◌-◌, nat_lt, nat_le, true, List, [], ◌∷◌, ◌++◌, length, Some, ap, sym, ◌∙◌, arith, eq-or-lt_of_le, inl, inr, ◌⊎◌}
 use Rattle.std.proofs.lemmas.Bool.{and_parts}
 use Rattle.std.proofs.lemmas.Bool.Decides.{nat_tests}

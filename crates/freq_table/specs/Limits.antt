@@ -1,9 +1,9 @@
--- Some points within the limits, however many: what a table keeps while it is read.
+-- A list of points within the limits, of any length: what a table keeps while it is read.
 use Rattle.std.specs.Prelude.{ℕ, ◌+◌, ◌<◌, ◌≤◌, List, length, slice_index_or}
 use Rattle.freq_table.specs.declared.machine.Point.{Point}
 use Rattle.freq_table.specs.Tables.{IsPoint}
 
--- an entry of a list of points
+-- the point of a list with this number
 abbrev pub entry_at : List Point → ℕ → Point
 entry_at points e = slice_index_or points e (record { speed = 0; millivolts = 0 })
 

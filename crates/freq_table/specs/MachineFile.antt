@@ -14,36 +14,36 @@ use Rattle.freq_table.specs.declared.fault.MachineFault.{MachineFault}
 use Rattle.freq_table.specs.declared.fault.MachineFault.TheVariants as fault
 use Rattle.freq_table.specs.Tables.{Table}
 
--- the keys of the document
+-- the known keys of the document
 abbrev pub file_keys : List (List ℕ)
 file_keys = codes "charge" ∷ codes "idle" ∷ codes "point" ∷ []
 
--- the keys of a point
+-- the known keys of a point
 abbrev pub point_keys : List (List ℕ)
 point_keys = codes "speed" ∷ codes "millivolts" ∷ []
 
--- the check for unknown keys
+-- the check for an unknown key: the refusal of the table at this place where there is one, else the rest
 abbrev pub no_unknown : {A : Type 0} → ℕ → Option (List ℕ) → Result A MachineFault → Result A MachineFault
 no_unknown place None rest = rest
 no_unknown place (Some key) rest = Err (fault.UnknownKey place (short_of key))
 
--- a trouble with a key at this place
+-- the refusal for an error at a key of this place
 abbrev pub fault_at : ℕ → MachineField → MemberFault → MachineFault
 fault_at place field member_fault.Missing = fault.Missing place field
 fault_at place field member_fault.Kind = fault.Kind place field
 fault_at place field member_fault.Range = fault.Range place field
 
--- what stands at a key, or the trouble with it
+-- the value at a key of this place, or the refusal for its error
 abbrev pub at_field : {A : Type 0} → ℕ → MachineField → Result A MemberFault → Result A MachineFault
 at_field place field (Ok value) = Ok value
 at_field place field (Err e) = Err (fault_at place field e)
 
--- a setting of the document, which is 0 where it is absent
+-- a setting of the document, of the value at its key; 0 where it is absent
 abbrev pub setting_at : MachineField → ℕ → Option Data → Result ℕ MachineFault
 setting_at field high None = Ok 0
 setting_at field high (Some value) = at_field 0 field (number_from 0 high (as_integer value))
 
--- a point
+-- the point of the table at this place: its unknown keys, its speed and its voltage, in this order
 abbrev pub point_of_members : ℕ → Members → Result Point MachineFault
 point_of_members place ms =
     no_unknown place (unknown_key point_keys ms) (
@@ -51,16 +51,16 @@ point_of_members place ms =
     and_then (at_field place field.Millivolts (number_at 1 MOST_MILLIVOLTS (get_member (codes "millivolts") ms))) (λ millivolts.
     Ok record { speed = speed; millivolts = millivolts })))
 
--- an entry that is a table
+-- the point at this place, of an entry that is a table; another entry is refused
 abbrev pub point_of_table : ℕ → Option Members → Result Point MachineFault
 point_of_table place None = Err (fault.Kind place field.Entry)
 point_of_table place (Some ms) = point_of_members place ms
 
--- an entry of the array, whatever it is
+-- the point at this place, of any entry of the array
 abbrev pub point_of : ℕ → Data → Result Point MachineFault
 point_of place value = point_of_table place (as_table value)
 
--- a point may follow another: its speed is greater, and its voltage no less
+-- a point may follow another: its speed is above that one's, and its voltage is not below
 abbrev pub may_follow : Option Point → Point → Bool
 may_follow None x = true
 may_follow (Some before) x = nat_lt before.speed x.speed && nat_le before.millivolts x.millivolts
@@ -69,26 +69,26 @@ may_follow (Some before) x = nat_lt before.speed x.speed && nat_le before.milliv
 abbrev pub last_of : List Point → Option Point
 last_of points = slice_get points (length points - 1)
 
--- the points before, and then the entries
+-- the points before, with those of the entries after them, or the first refusal
 abbrev pub points_from : List Point → Items → Result (List Point) MachineFault
 points_from points no_items = Ok points
 points_from points (item value rest) =
     and_then (point_of (length points + 1) value) (λ x.
     if may_follow (last_of points) x then points_from (points ++ x ∷ []) rest else Err (fault.NotRising (length points + 1)))
 
--- the array of entries
+-- the points of a value that is an array, or the refusal of a value that is not
 abbrev pub entries_from : Option Items → Result (List Point) MachineFault
 entries_from None = Err (fault.Kind 0 field.Point)
 entries_from (Some no_items) = Err fault.NoPoints
 entries_from (Some (item value rest)) =
     if nat_lt MOST_POINTS (count_of (item value rest)) then Err (fault.TooMany (count_of (item value rest))) else points_from [] (item value rest)
 
--- the points of the document, of the value at the key of the array
+-- the points of the value at the document's key `point`
 abbrev pub points_at : Option Data → Result (List Point) MachineFault
 points_at None = Err fault.NoPoints
 points_at (Some value) = entries_from (as_array value)
 
--- the machine of a document: its keys, the two settings, and then the points
+-- the machine of a document: its unknown keys, its idle share, its charge, and then its points
 abbrev pub table_of_document : Option Members → Result Table MachineFault
 table_of_document None = Err fault.NotToml
 table_of_document (Some ms) =
@@ -98,10 +98,10 @@ table_of_document (Some ms) =
     and_then (points_at (get_member (codes "point") ms)) (λ points.
     Ok record { points = points; idle = idle; charge = charge }))))
 
--- an answer is this one, seen as `shown`, unless memory ran out
+-- the result, its value seen through `shown`, is the meaning, unless memory ran out
 abbrev pub Means : {T A : Type 0} → (T → A) → Result T MachineFault → Result A MachineFault → Type 0
 Means shown = IsUnlessMemory fault.NoMemory shown
 
--- what the bytes of a machine file mean
+-- the meaning of a machine file's bytes: the machine, or the first refusal
 abbrev pub machine_file : List ℕ → Result Table MachineFault
 machine_file bytes = table_of_document (document_of bytes)

@@ -10,7 +10,7 @@ pub enum MachineField {
     Charge,
     /// The array `point` of the document.
     Point,
-    /// An entry of the array, which is no table.
+    /// An entry of the array, which is not a table.
     Entry,
     /// The key `speed` of an entry, in work units per tick.
     Speed,
@@ -18,12 +18,12 @@ pub enum MachineField {
     Millivolts,
 }
 
-/// The first thing that a machine file has wrong. Places count from 1, and place 0 is the document itself.
+/// The first error of a machine file. Places count from 1, and place 0 is the document itself.
 #[derive(Clone, Copy, Debug, PartialEq, Eq)]
 pub enum MachineFault {
-    /// The bytes are no TOML document.
+    /// The bytes are not a TOML document.
     NotToml,
-    /// A key that has no meaning: the least of them in order of bytes.
+    /// A key that has no meaning: the least such key in order of bytes.
     UnknownKey { place: u32, key: Short },
     /// The array of points is missing or empty.
     NoPoints,
@@ -31,7 +31,7 @@ pub enum MachineFault {
     TooMany { count: u64 },
     /// A point lacks this key.
     Missing { place: u32, field: MachineField },
-    /// A value of another kind stands there.
+    /// The value is of another kind.
     Kind { place: u32, field: MachineField },
     /// A number is outside its limits: `idle` 0 to 1000, `charge` 0 to 1000000, a speed 1 to 1000000, a voltage 1 to
     /// 20000 millivolts.

@@ -154,7 +154,7 @@ mod tests {
         Ok(())
     }
 
-    // The three points of the example, idle and charge 0.
+    // Asserts that the machine has the three points of the example, and idle and charge 0.
     fn is_example(rt: &impl Abort, machine: &Machine) -> Result<(), Fail> {
         assert_eq!(rt;
             (machine.idle(), machine.charge(), machine.count()),

@@ -1,4 +1,4 @@
-// A machine's table of speeds.
+// A machine: its table of speeds, its idle share and its charge.
 ghost use Rattle.std.specs.Prelude.{◌≡◌, ◌<◌, ◌≤◌, length, vec_len, IfOk};
 ghost use Rattle.dvs_base.specs.Widths.{u64_end};
 ghost use Rattle.freq_table.specs.declared.limits.TheConstants.{MOST_POINTS, MOST_IDLE, MOST_CHARGE};
@@ -24,7 +24,7 @@ pub struct Pick {
     pub met: bool,
 }
 
-/// A processor's table of speeds, which rise, and what idling and a switch of speed cost.
+/// A processor: its table of speeds, which rise, and the costs of idling and of a switch of speed.
 #[derive(Drop)]
 pub struct Machine {
     points: Vec<Point>,
@@ -58,7 +58,7 @@ impl Machine {
         }
     }
 
-    /// The machine of these numbers and points. It fails only where memory runs out.
+    /// The machine with these numbers and points. It fails only where memory runs out.
     pub fn of(alloc: Global, idle: u64, charge: u64, points: &[Point]) -> Result<Machine, NoMemory>
         requires { IsTable (record { points = points.now; idle = idle; charge = charge }) }
         ensures { IfOk result (λ m. m ≡ (record { points = points.now; idle = idle; charge = charge })) }
@@ -73,7 +73,7 @@ impl Machine {
         }
     }
 
-    /// An equal machine, within the limits that every machine keeps. It fails only where memory runs out.
+    /// A copy equal to this machine, within the limits that every machine keeps. It fails only where memory runs out.
     pub fn copy(&self, alloc: Global) -> Result<Machine, NoMemory>
         ensures equal { IfOk result (λ m. m ≡ self.now) }
         ensures limits { IfOk result (λ m. IsTable m) }
@@ -81,7 +81,7 @@ impl Machine {
         Machine::of(alloc, self.idle, self.charge, &self.points)
     }
 
-    /// The first entry whose speed meets the demand, with `met` true; where none does, the last with `met` false.
+    /// The first entry whose speed meets the demand, with `met` true; where none does, the last, with `met` false.
     pub fn lowest(&self, d: Frac) -> Pick
         requires some { 1 ≤ d.den }
         requires fits { d.den ≤ u64_end }
@@ -108,7 +108,7 @@ impl Machine {
         self.points.len() as u32
     }
 
-    /// An entry, counted from 0.
+    /// The entry with this number, counted from 0.
     pub fn point(&self, i: u32) -> Point
         requires { i < length self.now.points }
         ensures { result ≡ point_at self.now i }

@@ -1,4 +1,4 @@
-// A machine file, read by its table.
+// Reading a machine file: its settings, its table, and the keys of each entry.
 ghost use Rattle.std.specs.Prelude.{codes, ◌≡◌, ◌≤◌, ◌<◌, [], Some, length, IfOk, vec_len};
 ghost use Rattle.std.specs.Option.{option_copied};
 ghost use Rattle.toml.specs.Data.{get_member};
@@ -89,7 +89,7 @@ fn read_point(place: u32, value: &Value) -> Result<Point, MachineFault>
     }
 }
 
-// The point may stand after these.
+// Whether the point may follow these: its speed is above the last one's, and its voltage is not below.
 fn may_follow(points: &[Point], x: Point) -> bool
     ensures { result ≡ may_follow (last_of points.now) x }
 {
@@ -99,7 +99,7 @@ fn may_follow(points: &[Point], x: Point) -> bool
     }
 }
 
-// The points of the entries, which are few.
+// The points of the entries, of which there are at most `MOST_POINTS`.
 fn read_entries(alloc: Global, entries: &[Value]) -> Result<Vec<Point>, MachineFault>
     requires { length entries.now ≤ MOST_POINTS }
     ensures meaning { Means (λ v. v.items) result (points_from [] (items_view entries.now)) }
@@ -172,8 +172,8 @@ fn read_table(alloc: Global, table: &Table) -> Result<Machine, MachineFault>
 
 impl Machine {
     /// The machine of the file: an array of tables under the key `point`, each with a `speed` in work units per tick
-    /// and its `millivolts`, and beside it the numbers `idle` and `charge`, which are 0 where they are absent. Else the
-    /// file's first refusal, unless memory runs out.
+    /// and its `millivolts`, and the numbers `idle` and `charge`, which are 0 where they are absent. For any other
+    /// file, its first refusal, unless memory runs out.
     pub fn read(alloc: Global, bytes: &[u8]) -> Result<Machine, MachineFault>
         ensures { Means (λ m. m) result (machine_file bytes.now) }
     {

@@ -1,4 +1,4 @@
--- A state belongs to its demand list, and goes on to.
+-- A state that belongs to a demand list still does after a boundary and after a tick.
 use Rattle.std.proofs.Common.{◌≡◌, ◌≢◌, inl, inr, ℕ, zero, suc, ◌+◌, ◌-◌, ◌<◌, ◌≤◌, Bool, true, false, List, length, refl, sym, ◌∙◌, ap, subst, arith}
 use Rattle.std.proofs.Math.Nat.{le_trans}
 use Rattle.std.specs.Prelude.{◌==◌, ◌||◌, if◌then◌else◌, map, slice_index}
@@ -22,7 +22,7 @@ use Rattle.sched_model.proofs.Limits.{some_task, some_period, low_period}
 use Rattle.governor.specs.Steps.{earliest_in, is_due, boundary_row, opened_row, after_boundary, share_in, left_in, left_of, key_in, release_of, last_marked, IsLegalIn, after_tick, tick_row, IsBeforeAll, IsAtDecision, Belongs}
 use Rattle.governor.proofs.Rows.{length-each_row, get-each_row, none_due_at, some_due_at}
 
--- what one row of a state that belongs keeps
+-- what holds of each row of a state that belongs to a demand list
 pub record RowOk (plan : Plan) (dem : JobDemands) (now i : ℕ) (row : Row) : Type 0 where
   pub worst : row.worst ≡ worst plan i
   pub used : row.used ≤ row.worst
@@ -71,7 +71,7 @@ unborn_done plan dem s bel i h none =
           absurd (omega (arith, bel.open_job i h still, nothing))
     ]
 
--- a task's number is a place of its row
+-- the number of a task is the place of a row
 pub in_rows : (plan : Plan) (dem : JobDemands) (s : StateOf) → Belongs plan dem s → (i : ℕ) → i < count plan → i < length s.rows
 in_rows plan dem s bel i h = omega (arith, bel.of.rows)
 
@@ -100,12 +100,12 @@ belongs_opening plan dem fits =
     (λ i h. subst (λ (row : Row). row_wleft row ≤ slice_index (opening plan).base i) (sym (opening_at plan i h)) (omega arith))
     fits ok
 
--- the next job is released where this one is due
+-- the job that is released where a row is due has the row's deadline as its release
 pub opened_release : (plan : Plan) (dem : JobDemands) (i : ℕ) (row : Row) → row.deadline ≡ due_at plan i row.job
     → release_of plan i (opened_row plan dem i row) ≡ row.deadline
 opened_release plan dem i row e = latest_since-suc plan i row.job ∙ sym e
 
--- a row at a boundary
+-- after its release a row that is due has what each row of a state that belongs has
 opened_row_ok : (plan : Plan) (dem : JobDemands) (now i : ℕ) (row : Row) → row.deadline ≡ now
     → RowOk plan dem now i row → RowOk plan dem now i (opened_row plan dem i row)
 opened_row_ok plan dem now i row at_now ok = record {
@@ -118,7 +118,8 @@ opened_row_ok plan dem now i row at_now ok = record {
   closed_job = λ e pos. sym (eqb-true (dem i (row.job + 1)) 0 e);
 }
 
--- what holds of the next job's row, where a row is due, and else of the row, holds of the row after the releases
+-- a fact of the opened row, where the row is due, and of the row itself, where it isn't,
+-- is a fact of the row after the boundary
 pub boundary_row-by : (plan : Plan) (dem : JobDemands) (now i : ℕ) (row : Row) (P : Row → Type 0)
     → (row.deadline ≡ now → P (opened_row plan dem i row)) → (row.deadline ≢ now → P row) → P (boundary_row plan dem now i row)
 boundary_row-by plan dem now i row P opened still = go (is_due now row) refl
@@ -131,7 +132,8 @@ pub boundary_at : (plan : Plan) (dem : JobDemands) (s : StateOf) → Belongs pla
     → row_at (after_boundary plan dem s) i ≡ boundary_row plan dem s.now i (row_at s i)
 boundary_at plan dem s bel i h = get-each_row (boundary_row plan dem s.now) s.rows i (in_rows plan dem s bel i h)
 
--- and of the row in the state after them
+-- a fact of the opened row, where a row is due, and of the row itself, where it isn't,
+-- is a fact of the row in the state after the boundary
 pub boundary-by : (plan : Plan) (dem : JobDemands) (s : StateOf) → Belongs plan dem s → (i : ℕ) → i < count plan → (P : Row → Type 0)
     → ((row_at s i).deadline ≡ s.now → P (opened_row plan dem i (row_at s i))) → ((row_at s i).deadline ≢ s.now → P (row_at s i))
     → P (row_at (after_boundary plan dem s) i)
@@ -158,7 +160,7 @@ length_if : (b : Bool) (xs ys : List ℕ) (n : ℕ) → length xs ≡ n → leng
 length_if true xs ys n p q = p
 length_if false xs ys n p q = q
 
--- the base of each row covers what it may need
+-- after a boundary the base of each row covers what its job may still need
 base_covers : (plan : Plan) (dem : JobDemands) (s : StateOf) → Belongs plan dem s → (i : ℕ) → i < count plan
     → (b : Bool) → list_any (is_due s.now) s.rows ≡ b
     → row_wleft (row_at (after_boundary plan dem s) i) ≤ slice_index (if b then map row_wleft (after_boundary plan dem s).rows else s.base) i
@@ -173,7 +175,7 @@ base_covers plan dem s bel i h false none =
     let P : Bool → Type 0 = λ (b : Bool). row_wleft (if b then opened_row plan dem i (row_at s i) else row_at s i) ≤ slice_index s.base i in
     rw (boundary_at plan dem s bel i h) (subst P (sym still) (bel.base i h))
 
--- the mark is the last release
+-- after a boundary the mark is the last release
 marked_at : (plan : Plan) (dem : JobDemands) (s : StateOf) → Belongs plan dem s → (b : Bool)
     → list_any (is_due s.now) s.rows ≡ b
     → (if b then s.now else s.base_at) ≡ last_marked plan (after_boundary plan dem s)
@@ -212,11 +214,11 @@ belongs_boundary plan dem s bel =
     bel.demand
     (boundary_rows_ok plan dem s bel)
 
--- a deadline is at most a period after the release
+-- the deadline of a job but job 0 is at most a period after its release
 pub due_soon : (plan : Plan) (i job : ℕ) → 0 < job → due_at plan i job ≤ latest_since plan i job + period plan i
 due_soon plan i job some = omega (arith, latest_since-pos plan i job some, release-due plan i job some)
 
--- and that of job 0 is the offset
+-- the deadline of a job, also of job 0, is at most the longest period after the tick since which it is the latest
 due_low : (plan : Plan) → IsWithinLimits plan → (i job : ℕ) → i < count plan → due_at plan i job ≤ latest_since plan i job + LONGEST_PERIOD
 due_low plan lim i zero h = let first : offset plan i ≤ LATEST_OFFSET = (lim.tasks.each i h).low_offset in omega (arith, due-none plan i, first)
 due_low plan lim i (suc k) h = omega (arith, due_soon plan i (suc k) (omega arith), low_period plan lim i h)
@@ -242,7 +244,7 @@ decision_boundary plan dem s lim bel =
       base = bel'.base;
     }
 
--- what a row gets in a tick
+-- within its need a row's units of a tick keep it within its worst case
 units_fit : (done : Bool) (used worst need sh : ℕ) → used ≤ worst → need ≤ worst
     → sh ≤ (if done then 0 else need - used) → used + sh ≤ worst
 units_fit true used worst need sh a b c = omega arith
@@ -280,7 +282,7 @@ row_after_tick plan dem shares now i row fits before most ok = record {
   closed_job = now_closed row.done row.used (dem i row.job) (share_in shares i) row.job ok.closed_job most;
 }
 
--- no task gets more than it needs in a legal tick
+-- in a legal tick no task gets more than it needs
 pub legal_most : (plan : Plan) (dem : JobDemands) (f : ℕ) (s : StateOf) (shares : List ℕ)
     → IsLegalIn plan dem f s shares → (i : ℕ) → i < count plan → share_in shares i ≤ left_in dem s i
 legal_most plan dem f s shares legal i h =
@@ -301,10 +303,10 @@ belongs_tick plan dem f s shares bel before legal =
     (λ i h. rw (tick_at plan dem shares s bel i h) (row_after_tick plan dem shares s.now i (row_at s i) (λ k. bel.demand.most i k h)
     (before i h) (legal_most plan dem f s shares legal i h) (row_ok plan dem s bel i h)))
 
--- before all deadlines, the earliest one is later than now
+-- where the present tick is before every deadline, it is before the earliest one
 pub earliest-later : (plan : Plan) → IsWithinLimits plan → (s : StateOf) → IsBeforeAll plan s → s.now < earliest_in plan s
 earliest-later plan lim s before = least-above (count plan) (λ i. (row_at s i).deadline) (suc s.now) (some_task plan lim) before
 
--- no deadline lies before now
+-- in a state that belongs no deadline is before the present tick
 pub earliest-from : (plan : Plan) → IsWithinLimits plan → (dem : JobDemands) (s : StateOf) → Belongs plan dem s → s.now ≤ earliest_in plan s
 earliest-from plan lim dem s bel = least-above (count plan) (λ i. (row_at s i).deadline) s.now (some_task plan lim) bel.due

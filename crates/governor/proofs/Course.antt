@@ -1,4 +1,4 @@
--- What the laws of a governor give along its schedule: every deadline is met, and every demand but that of a look-ahead.
+-- The laws of a governor along its schedule: every deadline is met, and each demand but that of look-ahead.
 use Rattle.std.proofs.Common.{◌≡◌, ◌≢◌, ℕ, zero, suc, ◌-◌, ◌<◌, ◌≤◌, Bool, true, false, List, [], ◌∷◌, length, drop, refl, arith, if◌then◌else◌, ap, ◌∙◌, sym, subst, true≢false, ◌⊎◌, inl, inr, eq-or-lt_of_le}
 use Rattle.std.proofs.lemmas.Bool.{or_parts}
 use Rattle.dvs_base.specs.declared.kind.GovernorKind.{GovernorKind}
@@ -27,7 +27,7 @@ use Rattle.governor.specs.Schedule.{ask_of, course}
 use Rattle.governor.proofs.Joins.{boundary-is, tick-is, legal-is}
 use Rattle.governor.proofs.Belonging.{belongs_opening, belongs_boundary, belongs_tick, decision_boundary}
 
--- the ticks of a schedule up to r are those of the shorter one
+-- the past at tick r of a schedule is the schedule of r ticks
 pub at-schedule : (p : Plan) (dem : JobDemands) (ask : List Tick → Frac) (t r : ℕ) → r ≤ t
     → at r (schedule_by p dem ask t) ≡ schedule_by p dem ask r
 at-schedule p dem ask t r le = ap (λ n. drop (n - r) (schedule_by p dem ask t)) (schedule_exists p dem ask t).1 ∙ go t le
@@ -45,7 +45,7 @@ at-schedule p dem ask t r le = ap (λ n. drop (n - r) (schedule_by p dem ask t))
             ∙ (ap (drop (suc (t - r))) (schedule-suc p dem ask t)
             ∙ ih (omega arith))
 
--- what is due is complete, where the row of a job that is due is
+-- where the row of a job that is due is complete, the job has had its demand
 pub due-had : (p : Plan) → IsWithinLimits p → (dem : JobDemands) (past : List Tick) → Belongs p dem (prior_state p dem past)
     → (i k : ℕ) → i < count p → 1 ≤ k → due p i k ≡ length past
     → ((row_at (prior_state p dem past) i).deadline ≡ length past → (row_at (prior_state p dem past) i).done ≡ true)
@@ -76,13 +76,14 @@ module _ (kind : GovernorKind) (serves : Serving) (demand : OwnDemand) (calm : C
   abbrev pub speed_now : List Tick → ℕ
   speed_now past = speed_at p.machine (entry_at past)
 
-  -- before the releases of the tick after `past`
+  -- what holds before the releases of the tick after `past`: the state belongs to the demands and is calm,
+  -- and it is safe where the tick isn't a decision
   pub record Kept (past : List Tick) : Type 0 where
     pub belongs : Belongs p dem (prior_state p dem past)
     pub is_calm : calm p (prior_state p dem past)
     pub is_safe : is_decision p dem past ≡ false → safe p (prior_state p dem past) (entry_at past)
 
-  -- after them
+  -- the state after the releases belongs to the demands
   pub belongs-state : (past : List Tick) → Kept past → Belongs p dem (state_of p dem past)
   belongs-state past k =
       subst (Belongs p dem) (boundary-is p dem (every_period p adm.limits) within.none past) (belongs_boundary p dem (prior_state p dem past) k.belongs)
@@ -156,12 +157,12 @@ module _ (kind : GovernorKind) (serves : Serving) (demand : OwnDemand) (calm : C
     is_safe = λ e. absurd (true≢false e);
   }
 
-  -- at each tick of the governor's schedule
+  -- at each tick of the governor's schedule the state belongs and is calm, and is safe where it isn't a decision
   pub kept : (t : ℕ) → Kept (course demand p dem t)
   kept zero = subst Kept (sym (schedule-none p dem ask)) kept-none
   kept (suc t) = subst Kept (sym (schedule-suc p dem ask t)) (kept-next (course demand p dem t) (kept t))
 
-  -- every deadline is met
+  -- every deadline of the governor's schedule is met
   pub course-met : (t : ℕ) → IsMet p dem (course demand p dem t)
   course-met t i k lt pos le =
       let long = (schedule_exists p dem ask t).1 in
@@ -172,7 +173,7 @@ module _ (kind : GovernorKind) (serves : Serving) (demand : OwnDemand) (calm : C
       ∙ due-had p adm.limits dem past held.belongs i k lt pos (sym there)
       (laws.completes p dem (prior_state p dem past) (in_run held.belongs) held.is_calm i lt)
 
-  -- at a decision the demand is met
+  -- at each tick of the governor's schedule some entry meets the demand, unless the kind is look-ahead
   pub demand-met : kind ≢ Ahead → (t : ℕ) → (lowest_pick p.machine (demand p (state_of p dem (course demand p dem t)))).met ≡ true
   demand-met other t =
       let past = course demand p dem t in

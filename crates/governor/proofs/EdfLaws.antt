@@ -28,11 +28,11 @@ use Rattle.governor.specs.Edf.{due_by, load, EdfCalm, EdfSafe}
 same_speed : (F t a d : ℕ) → t ≤ a → a ≤ d → F * (a - t) + F * (d - a) ≡ F * (d - t)
 same_speed F t a d ta ad = let e : d - t ≡ (a - t) + (d - a) = omega arith in rw e (omega arith)
 
--- a piece at the lower speed and the rest at the higher one
+-- the lower speed f up to tick a and F from there to d do at most what F does all the time
 two_speeds : (f F t a d : ℕ) → f ≤ F → t ≤ a → a ≤ d → f * (a - t) + F * (d - a) ≤ F * (d - t)
 two_speeds f F t a d le ta ad = omega (arith, mul-le-mul_right (a - t) le, same_speed F t a d ta ad)
 
--- a job with nothing left at most is complete
+-- an incomplete job may still need some units, so a row that needs none is complete
 pub closed_row : (row : Row) (n : ℕ) → row_wleft row ≡ 0 → (row.done ≡ false → row.used < n) → n ≤ row.worst → row.done ≡ true
 closed_row row n none open_job most =
     elim (cases_Bool row.done) [
@@ -42,11 +42,11 @@ closed_row row n none open_job most =
           absurd (omega (arith, open_job still))
     ]
 
--- one task of the load
+-- the part of one task in the load
 abbrev term : ℕ → ℕ → ℕ → Row → ℕ
 term h d u row = if nat_le row.deadline d then h * row_wleft row + u * (d - row.deadline) else 0
 
--- the load, task by task
+-- the load is the sum of the tasks' parts
 pub load_is : (plan : Plan) (s : StateOf) (d : ℕ)
     → load plan s d ≡ sum_below (count plan) (λ i. term (hyper plan) d (rate plan i) (row_at s i))
 load_is plan s d =
@@ -54,7 +54,7 @@ load_is plan s d =
     ap (λ (x : ℕ). x + sum_where n (due_by s d) (λ i. rate plan i * (d - (row_at s i).deadline))) (sum_where-times n (hyper plan) (due_by s d) (wleft_at s))
     ∙ sym (sum_where-plus n (due_by s d) (λ i. (hyper plan) * wleft_at s i) (λ i. rate plan i * (d - (row_at s i).deadline)))
 
--- a release pays its work with the rate of its period
+-- the rate of a task over one period covers the work of the job that is released
 release_pays : (h p q c w d now : ℕ) → q * p ≡ h → w ≤ c → now + p ≤ d → h * w + c * q * (d - (now + p)) ≤ c * q * (d - now)
 release_pays h p q c w d now whole le within =
     let span : d - now ≡ p + (d - (now + p)) = omega arith in

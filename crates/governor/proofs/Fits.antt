@@ -1,5 +1,5 @@
--- The speeds of the two governors pass the scheduler's test, and meet what they publish.
-use Rattle.std.proofs.Common.{◌≡◌, ℕ, ◌*◌, ◌<◌, ◌≤◌, true, sym, subst, arith}
+-- The speeds of the two governors with one speed pass the scheduler's test and meet what they publish.
+use Rattle.std.proofs.Common.{◌≡◌, ℕ, ◌*◌, ◌<◌, ◌≤◌, true, subst, arith}
 use Rattle.std.proofs.Math.Nat.{mul-le-mul_right, le_of_mul-le-mul_right}
 use Rattle.dvs_base.specs.declared.kind.Scheduler.{Scheduler}
 use Rattle.dvs_base.specs.declared.kind.Scheduler.TheVariants.{Edf, Rm}
@@ -28,7 +28,7 @@ rm_test plan adm e = subst (λ (sch : Scheduler). PassesTest sch plan) e adm.tes
 pub full_enough : (plan : Plan) → IsAdmitted plan → IsEnough (top_speed plan) plan
 full_enough plan adm = record { edf = edf_test plan adm; rm = rm_test plan adm }
 
--- the entry for the highest speed has it
+-- the lowest entry that meets the highest speed has the highest speed
 pub full_speed : (plan : Plan) → IsWithinLimits plan → speed_at plan.machine (lowest_entry plan.machine (full_demand plan)) ≡ top_speed plan
 full_speed plan lim =
     let k = lowest_entry plan.machine (full_demand plan) in
@@ -46,15 +46,13 @@ below_top_by : (plan : Plan) (lim : IsWithinLimits plan) (sch : Scheduler) → P
 below_top_by plan lim Edf test = test
 below_top_by plan lim Rm test = test (heaviest plan) (heaviest_within plan lim)
 
+pub below_top : (plan : Plan) → IsAdmitted plan → (static_demand plan).num ≤ top_speed plan * (static_demand plan).den
+below_top plan adm = below_top_by plan adm.limits plan.scheduler adm.test
+
 pub static_met : (plan : Plan) → IsAdmitted plan → (lowest_pick plan.machine (static_demand plan)).met ≡ true
-static_met plan adm = picked_met plan.machine adm.limits.machine (static_demand plan) (below_top_by plan adm.limits plan.scheduler adm.test)
+static_met plan adm = picked_met plan.machine adm.limits.machine (static_demand plan) (below_top plan adm)
 
--- the entry for a demand that the highest speed meets
-met_by : (plan : Plan) (lim : IsWithinLimits plan) (sch : Scheduler) → PassesTest sch plan
-    → (static_demand_of sch plan).num ≤ speed_at plan.machine (lowest_entry plan.machine (static_demand_of sch plan)) * (static_demand_of sch plan).den
-met_by plan lim sch test = picked_meets plan.machine lim.machine (static_demand_of sch plan) (below_top_by plan lim sch test)
-
--- a speed that meets the greatest fraction meets each
+-- a speed that meets a fraction meets each smaller one
 meets_each : (s p g d F : ℕ) → 0 < d → s * d ≤ g * p → g ≤ F * d → s ≤ F * p
 meets_each s p g d F pos greatest meets =
     let a : g * p ≤ F * d * p = mul-le-mul_right p meets in
@@ -67,15 +65,15 @@ rm_each plan lim F meets i h =
     meets_each (level_work plan i) (period plan i) (level_work plan (heaviest plan)) (period plan (heaviest plan)) F
     (some_period plan lim (heaviest plan) (heaviest_within plan lim)) (heaviest_greatest plan lim i h) meets
 
+-- a speed that meets the static demand passes the test
+pub enough_at : (plan : Plan) → IsAdmitted plan → (F : ℕ) → (static_demand plan).num ≤ F * (static_demand plan).den → IsEnough F plan
+enough_at plan adm F meets =
+    let P : Scheduler → Type 0 = λ (sch : Scheduler). (static_demand_of sch plan).num ≤ F * (static_demand_of sch plan).den in
+    record {
+      edf = λ e. subst P e meets;
+      rm = λ e. rm_each plan adm.limits F (subst P e meets);
+    }
+
 pub static_enough : (plan : Plan) → IsAdmitted plan → IsEnough (fixed_speed plan) plan
-static_enough plan adm = record {
-  edf = λ e.
-      let P : Scheduler → Type 0 = λ (sch : Scheduler). total_rate plan
-      ≤ speed_at plan.machine (lowest_entry plan.machine (static_demand_of sch plan)) * hyper plan in
-      subst P (sym e) (met_by plan adm.limits Edf (edf_test plan adm e));
-  rm = λ e i h.
-      let P : Scheduler → Type 0 = λ (sch : Scheduler). level_work plan i
-      ≤ speed_at plan.machine (lowest_entry plan.machine (static_demand_of sch plan)) * period plan i in
-      subst P (sym e) (rm_each plan adm.limits (speed_at plan.machine (lowest_entry plan.machine (rm_static plan)))
-      (met_by plan adm.limits Rm (rm_test plan adm e)) i h);
-}
+static_enough plan adm =
+    enough_at plan adm (fixed_speed plan) (picked_meets plan.machine adm.limits.machine (static_demand plan) (below_top plan adm))

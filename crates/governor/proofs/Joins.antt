@@ -1,4 +1,4 @@
--- The states of a list of ticks go on as the laws of a governor say: by a boundary, and by a legal tick.
+-- The states of a list of ticks follow by the boundaries and legal ticks of a governor's laws.
 use Rattle.std.proofs.Common.{◌≡◌, ℕ, zero, suc, ◌+◌, ◌-◌, ◌<◌, ◌≤◌, min, Bool, true, false, ◌||◌, ◌&&◌, List, [], ◌∷◌, ◌++◌, length, refl, arith, if◌then◌else◌, ap, ap₂, ◌∙◌, sym, nat_eq, nat_le, nat_lt}
 use Rattle.std.proofs.Math.Bool.{or-false}
 use Rattle.std.proofs.lemmas.List.Folds.{list_any-append}
@@ -30,7 +30,7 @@ each_row-snoc f k (q ∷ rows) r =
     let z : suc k + length rows ≡ k + length (q ∷ rows) = omega arith in
     ap (λ rs. f k q ∷ rs) (each_row-snoc f (suc k) rows r ∙ ap (λ n. each_row f (suc k) rows ++ f n r ∷ []) z)
 
--- a table of rows, row by row
+-- changing each row of a table gives the table of the changed rows
 pub each_row-table : (f : ℕ → Row → Row) (n : ℕ) (g : ℕ → Row) → each_row f 0 (list_below n g) ≡ list_below n (λ i. f i (g i))
 each_row-table f zero g = refl
 each_row-table f (suc n) g =
@@ -42,7 +42,7 @@ any-table test zero g = refl
 any-table test (suc n) g =
     list_any-append test (list_below n g) (g n ∷ []) ∙ ap₂ (λ a b. a || b) (any-table test n g) (or-false (test (g n)))
 
--- sums by the order are those of equal keys
+-- equal keys and equal terms give equal sums over a task and those before it
 sum_up_to-same : (n : ℕ) (key key' f f' : ℕ → ℕ) → ((j : ℕ) → j < n → key j ≡ key' j) → ((j : ℕ) → j < n → f j ≡ f' j)
     → (i : ℕ) → i < n → sum_up_to n key f i ≡ sum_up_to n key' f' i
 sum_up_to-same n key key' f f' ks fs i lt =
@@ -52,7 +52,7 @@ sum_up_to-same n key key' f f' ks fs i lt =
     (fs i lt)
 
 module _ (p : Plan) (dem : JobDemands) (periods : (i : ℕ) → 0 < period p i) (none : (i : ℕ) → dem i 0 ≡ 0) where
-  -- a boundary
+  -- after a boundary the rows are those of the state after the releases
   boundary-row : (past : List Tick) (i : ℕ) → boundary_row p dem (length past) i (prior_row p dem past i) ≡ row_of p dem past i
   boundary-row past i = go (nat_eq (prior_row p dem past i).deadline (length past)) refl
     where
@@ -92,7 +92,7 @@ module _ (p : Plan) (dem : JobDemands) (periods : (i : ℕ) → 0 < period p i) 
       go true e = ap (opened_by past rows) e ∙ state-marked p dem periods past e
       go false e = ap (opened_by past rows) e ∙ state-unmarked p dem periods past none e
 
-  -- a tick
+  -- after a tick the units had reach the demand exactly where they did before, or where they equal it now
   done-is : (d u sh : ℕ) → sh ≤ d - u → nat_le d (u + sh) ≡ (nat_le d u || (u + sh == d))
   done-is d u sh fits = go (nat_le d u) refl (nat_le d (u + sh)) refl (nat_eq (u + sh) d) refl
     where
@@ -124,7 +124,7 @@ module _ (p : Plan) (dem : JobDemands) (periods : (i : ℕ) → 0 < period p i) 
       (table-same (count p) (prior_row p dem (x ∷ past)) (λ i. tick_row dem x.shares i (row_of p dem past i)) (λ i lt. tick-row x past i (fits i lt))
       ∙ sym (each_row-table (tick_row dem x.shares) (count p) (row_of p dem past))))
 
-  -- a legal tick
+  -- a legal tick of the schedule is legal in the state
   key-is : (past : List Tick) (s : Scheduler) (i : ℕ) → i < count p → key_at s p (length past) i ≡ key_in s p (state_of p dem past) i
   key-is past Edf i lt = sym (ap (λ (r : Row). r.deadline) (row_at-state_of p dem past i lt))
   key-is past Rm i lt = refl

@@ -1,5 +1,4 @@
--- A schedule at one speed under RM with every job at its worst case: what releases and ticks make of what its jobs
--- lack.
+-- A schedule under RM at one speed with every job at its worst case: what its jobs lack at each release and tick.
 use Rattle.std.proofs.Common.{◌≡◌, ◌≢◌, ℕ, zero, suc, ◌+◌, ◌-◌, ◌*◌, ◌<◌, Bool, true, List, ◌∷◌, length, refl, sym, ◌∙◌, ap, subst, arith, inl, inr}
 use Rattle.std.proofs.Math.Nat.{zero-sub}
 use Rattle.std.proofs.lemmas.Bool.{cases_lt}
@@ -23,24 +22,24 @@ use Rattle.sched_model.proofs.DownSets.{down-set-gets}
 use Rattle.sched_model.proofs.LevelSums.{sum_where-plus, share-most, up_to-trans, sum_up_to-where}
 use Rattle.sched_model.proofs.ScheduleLemmas.{schedule_exists, next_tick-may, schedule-suc}
 
--- its ticks
+-- the first t ticks of the schedule with every job at its worst case
 abbrev pub worst_ticks : Plan → (List Tick → Frac) → ℕ → List Tick
 worst_ticks p ask t = schedule_by p (worst_demand p) ask t
 
--- the tick t of it
+-- the tick t of the schedule with every job at its worst case
 abbrev pub worst_tick : Plan → (List Tick → Frac) → ℕ → Tick
 worst_tick p ask t = next_tick p (worst_demand p) ask (worst_ticks p ask t)
 
--- what the job of task i released last before t lacks at t; none is released before tick 0
+-- what the job of task i that was released last before t lacks at t; nothing at tick 0
 abbrev pub lack : Plan → (List Tick → Frac) → ℕ → ℕ → ℕ
 lack p ask zero i = 0
 lack p ask (suc t) i = lacking p (worst_ticks p ask (suc t)) i
 
--- the same right after the releases of t
+-- what the latest job of task i lacks at t, right after the releases of t
 abbrev pub lack_after : Plan → (List Tick → Frac) → ℕ → ℕ → ℕ
 lack_after p ask t i = left p (worst_demand p) (worst_ticks p ask t) i
 
--- a set that holds with each task those before it
+-- a set of tasks that has, with each task, those before it in RM order
 abbrev pub IsDown : Plan → (ℕ → Bool) → Type 0
 IsDown p test =
     (j i : ℕ) → j < count p → i < count p → stands_before (period p) j i ≡ true → test i ≡ true → test j ≡ true
@@ -51,7 +50,7 @@ level_down p i = λ j k hj hk b on. up_to-trans (period p) j k i b on
 pub before_down : (p : Plan) (i : ℕ) → IsDown p (λ j. stands_before (period p) j i)
 before_down p i = λ j k hj hk b on. before-trans (period p) j k i b on
 
--- no job of task j is due at t, so none is released
+-- no job of task j is due at t, and so none is released there
 abbrev pub IsQuiet : Plan → ℕ → ℕ → Type 0
 IsQuiet p t j = (k : ℕ) → t ≡ due p j k → ⊥
 
@@ -62,7 +61,7 @@ module _ (p : Plan) (lim : IsWithinLimits p) (ask : List Tick → Frac) where
   pub lack-ticks : (t : ℕ) → worst_ticks p ask (suc t) ≡ worst_tick p ask t ∷ worst_ticks p ask t
   lack-ticks t = schedule-suc p (worst_demand p) ask t
 
-  -- a job goes on being the latest until it is due
+  -- a job that isn't due in the next tick is still the latest there
   stays : (t i : ℕ) → i < count p → suc t ≢ due p i (latest p i t) → latest p i (suc t) ≡ latest p i t
   stays t i h other =
       let next : suc t ≡ t + 1 = omega arith in
@@ -79,7 +78,7 @@ module _ (p : Plan) (lim : IsWithinLimits p) (ask : List Tick → Frac) where
       ap (latest p i) long ∙ stays t i h other ∙ ap (latest p i) (sym back) in
       ap (λ (k : ℕ). worst_demand p i k - exec p ticks i k) job
 
-  -- where a task has no release, nothing is added
+  -- where a task has no release, it lacks as much after the releases as before
   pub lack-quiet : (t j : ℕ) → j < count p → IsQuiet p t j → lack_after p ask t j ≡ lack p ask t j
   lack-quiet zero j h quiet =
       let ticks = worst_ticks p ask 0 in
@@ -92,7 +91,7 @@ module _ (p : Plan) (lim : IsWithinLimits p) (ask : List Tick → Frac) where
       ap (λ (k : ℕ). worst_demand p j k - exec p ticks j k) job ∙ zero-sub (exec p ticks j 0)
   lack-quiet (suc t) j h quiet = lack-same t j h (quiet (latest p j t))
 
-  -- a release adds the next job's whole worst case
+  -- a task that has a release lacks the next job's whole worst case
   pub lack-released : (t i k : ℕ) → i < count p → t ≡ due p i k → lack_after p ask t i ≡ worst p i
   lack-released t i k h e =
       let ticks = worst_ticks p ask t in
@@ -113,7 +112,7 @@ module _ (p : Plan) (lim : IsWithinLimits p) (ask : List Tick → Frac) where
   -- under RM, where the entries in force all have the speed F
   module _ (rm : p.scheduler ≡ Rm) (F : ℕ)
       (same : (past : List Tick) → (point p (entry_in_force p (worst_demand p) ask past)).speed ≡ F) where
-    -- the ticks are legal at that speed, in RM order
+    -- the ticks are legal at the speed F, in RM order
     lack-legal : (t : ℕ) → SharesOut (count p) (period p) F (lack_after p ask t) (share (worst_tick p ask t))
     lack-legal t =
         let past = worst_ticks p ask t in
@@ -137,7 +136,7 @@ module _ (p : Plan) (lim : IsWithinLimits p) (ask : List Tick → Frac) where
         let more = exec-legal p (worst_demand p) x past i (some_period p lim i h) refl most in
         omega (arith, now, more, most)
 
-    -- so the speed from each set
+    -- a tick takes the speed F from what a set lacks that has, with each task, those before it
     pub lack-falls : (t : ℕ) (test : ℕ → Bool) → IsDown p test
         → sum_where (count p) test (lack p ask (suc t)) ≡ sum_where (count p) test (lack_after p ask t) - F
     lack-falls t test down =
@@ -152,7 +151,8 @@ module _ (p : Plan) (lim : IsWithinLimits p) (ask : List Tick → Frac) where
     less : (x a f : ℕ) → (x - a * f) - f ≡ x - suc a * f
     less x a f = omega arith
 
-    -- from one release to the next
+    -- without a release after r, d + 1 ticks take d + 1 times F from what a set lacks that has, with each task,
+    -- those before it
     pub lack-span : (test : ℕ → Bool) → IsDown p test → (r d : ℕ)
         → ((u j : ℕ) → r < u → u < r + suc d → j < count p → IsQuiet p u j)
         → sum_where (count p) test (lack p ask (r + suc d)) ≡ sum_where (count p) test (lack_after p ask r) - suc d * F
@@ -172,7 +172,7 @@ module _ (p : Plan) (lim : IsWithinLimits p) (ask : List Tick → Frac) where
     empties : (b l x a c : ℕ) → 0 < a → b ≡ x - c → b + l ≡ (x + a) - c → l ≡ 0 → b + l ≡ 0
     empties b l x a c pos e g z = omega arith
 
-    -- where task i's job is complete at the next release, its level lacks nothing
+    -- where task i lacks units at r and none at a later tick up to the next release, its level lacks none there
     pub lack-empties : (i r d : ℕ) → i < count p → ((u j : ℕ) → r < u → u < r + suc d → j < count p → IsQuiet p u j)
         → 0 < lack_after p ask r i → lack p ask (r + suc d) i ≡ 0
         → sum_where (count p) (is_up_to (period p) i) (lack p ask (r + suc d)) ≡ 0

@@ -59,7 +59,7 @@ module _ (F : ℕ) (plan : Plan) (lim : IsWithinLimits plan) (enough : IsEnough 
     completes_by Edf calm = edf_completes F plan lim dem s bel calm
     completes_by Rm calm = rm_completes F (period plan) plan lim dem s bel within calm
 
--- none and static make a pair with each scheduler
+-- the kinds `Plain` and `Fixed` make a pair with each scheduler
 pub pairs_plain : (sch : Scheduler) → ServesBoth sch → IsPair sch Plain
 pairs_plain Edf serves = refl
 pairs_plain Rm serves = refl
@@ -68,15 +68,15 @@ pub pairs_fixed : (sch : Scheduler) → ServesBoth sch → IsPair sch Fixed
 pairs_fixed Edf serves = refl
 pairs_fixed Rm serves = refl
 
--- the speed F passes the scheduler's test, and is that of the lowest entry that meets the demand
+-- F is the speed of the lowest entry that meets the demand, and passes the scheduler's test, on each admitted plan
 pub record IsOneSpeed (F : Plan → ℕ) (demand : Plan → Frac) : Type 0 where
   pub enough : (plan : Plan) → IsAdmitted plan → IsEnough (F plan) plan
   pub same : (plan : Plan) → IsAdmitted plan → speed_at plan.machine (lowest_entry plan.machine (demand plan)) ≡ F plan
   pub met : (plan : Plan) → IsAdmitted plan → (lowest_pick plan.machine (demand plan)).met ≡ true
   pub low : (plan : Plan) → IsAdmitted plan → HasLowDen (demand plan)
 
--- then the laws hold, for each kind that makes a pair with both schedulers
-laws_at : {kind : GovernorKind} (F : Plan → ℕ) (demand : Plan → Frac) → IsOneSpeed F demand
+-- a governor with one speed keeps the laws, for each kind that makes a pair with both schedulers
+pub laws_at : {kind : GovernorKind} (F : Plan → ℕ) (demand : Plan → Frac) → IsOneSpeed F demand
     → ((sch : Scheduler) → ServesBoth sch → IsPair sch kind)
     → GovernorLaws kind ServesBoth (unchanging demand) (CalmAt F) (SafeAt F)
 laws_at F demand one pairs = record {
@@ -102,7 +102,7 @@ laws_at F demand one pairs = record {
       completes_by (F plan) plan adm.limits (one.enough plan adm) dem s run.belongs plan.scheduler calm;
 }
 
--- the laws at the highest speed
+-- a governor at the highest speed keeps the laws
 pub full_laws : {kind : GovernorKind} → ((sch : Scheduler) → ServesBoth sch → IsPair sch kind)
     → GovernorLaws kind ServesBoth (unchanging full_demand) (CalmAt top_speed) (SafeAt top_speed)
 full_laws = laws_at top_speed full_demand (record {
@@ -112,7 +112,7 @@ full_laws = laws_at top_speed full_demand (record {
   low = λ plan adm. (lit< tt, lit≤ tt);
 })
 
--- and at the static one
+-- a governor at the static speed keeps the laws
 pub static_laws : {kind : GovernorKind} → ((sch : Scheduler) → ServesBoth sch → IsPair sch kind)
     → GovernorLaws kind ServesBoth (unchanging static_demand) (CalmAt fixed_speed) (SafeAt fixed_speed)
 static_laws = laws_at fixed_speed static_demand (record {

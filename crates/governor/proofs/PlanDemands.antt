@@ -1,4 +1,4 @@
--- The published demands of none and static are those of the plan alone.
+-- The published demands of the kinds `Plain` and `Fixed` are functions of the plan alone.
 use Rattle.std.proofs.Common.{◌≡◌, Bool, true, false, List, [], ◌∷◌, refl, ap, if◌then◌else◌}
 use Rattle.dvs_base.specs.declared.kind.Scheduler.{Scheduler}
 use Rattle.dvs_base.specs.declared.kind.Scheduler.TheVariants.{Edf, Rm}
@@ -33,7 +33,7 @@ pub published-fixed : (p : Plan) (dem : JobDemands) (past : List Tick) → publi
 unfolding published
 published-fixed p dem past = fixed_by p.scheduler p dem past
 
--- where the demand is always the same, so is the entry in force
+-- where the published demand is always d, the entry in force is always the one for d
 pub entry-same : (p : Plan) (dem : JobDemands) (ask : List Tick → Frac) (d : Frac) → ((past : List Tick) → ask past ≡ d)
     → (past : List Tick) → entry_in_force p dem ask past ≡ lowest_entry p.machine d
 entry-same p dem ask d same [] = ap (lowest_entry p.machine) (same [])

@@ -24,7 +24,7 @@ use Rattle.governor.proofs.Ticks.{tick_set, demand_most}
 use Rattle.governor.specs.Rm.{level_work_in, level, released_since, asked_since, LevelCalm}
 use Rattle.governor.proofs.EdfLaws.{closed_row}
 
--- spacing: the jobs that were released at b or later lie a period apart
+-- the jobs that were released at b or later are a period apart
 spaced : (plan : Plan) (j b k : ℕ)
     → (released_since plan j b k ≡ 0) ⊎ (b + released_since plan j b k * period plan j ≤ due_at plan j k)
 spaced plan j b zero = inl refl
@@ -47,7 +47,7 @@ spaced plan j b (suc k) = go (nat_le b (release plan j (suc k))) refl (spaced pl
     go false e (inl none) = inl (omega arith)
     go false e (inr some) = inr (omega (arith, later))
 
--- a window of length l has at most q of them, where q periods cover it
+-- where q periods cover l ticks, at most q jobs are released at b or later and before b + l
 in_window : (plan : Plan) (j b k l q : ℕ) → 0 < period plan j → (0 < k → release plan j k < b + l)
     → l ≤ q * period plan j → released_since plan j b k ≤ q
 in_window plan j b zero l q pos last covers = omega arith
@@ -66,11 +66,11 @@ in_window plan j b (suc k) l q pos last covers =
           ]
     ]
 
--- rounding up covers
+-- the quotient rounded up, times the divisor, is at least the dividend
 pub ceil_covers : (n d : ℕ) → 0 < d → n ≤ ceil_div n d * d
 ceil_covers n d pos = omega arith
 
--- a release at b or later counts
+-- a job released at b or later adds one to their number
 counts_one : (plan : Plan) (j b k : ℕ) → b ≤ due_at plan j k
     → released_since plan j b (k + 1) ≡ released_since plan j b k + 1
 counts_one plan j b k le =
@@ -78,12 +78,12 @@ counts_one plan j b k le =
     let there : release plan j (suc k) ≡ due_at plan j k = ap (release plan j) (sym next) ∙ release-suc plan j k in
     rw (next, le-leb b (release plan j (suc k)) (omega (arith, there))) refl
 
--- what a release adds is counted
+-- what a release adds to the need is at most what it adds to the work asked for
 pays : (plan : Plan) (j b c job w : ℕ) → b ≤ due_at plan j job → w ≤ c
     → w + released_since plan j b job * c ≤ released_since plan j b (job + 1) * c
 pays plan j b c job w le most = rw (counts_one plan j b job le) (omega arith)
 
--- one level alone, whose bound is `long`; those before it matter where a job of the level is due
+-- the level of task i alone, with stretches shorter than `long`
 module _ (F long : ℕ) (plan : Plan) (lim : IsWithinLimits plan) (i : ℕ) (h : i < count plan) where
   pub level_opens : LevelCalm F long plan (opening plan) i
   level_opens = inl (λ j hj on. rw (opening_at plan j hj) refl)
@@ -114,7 +114,7 @@ module _ (F long : ℕ) (plan : Plan) (lim : IsWithinLimits plan) (i : ℕ) (h :
               ]
         ]
 
-    -- a boundary, row by row: where b is at most now, what is added is counted
+    -- at a boundary a row's need grows by no more than the work that its task asks for since b
     row_pays : (b : ℕ) → b ≤ s.now → (j : ℕ) → j < count plan
         → ((row_at s j).deadline ≡ s.now → (row_at s j).done ≡ true)
         → wleft_at (after_boundary plan dem s) j + asked_since plan s b j
@@ -133,7 +133,7 @@ module _ (F long : ℕ) (plan : Plan) (lim : IsWithinLimits plan) (i : ℕ) (h :
         omega (arith, none, paid))
         (λ later. omega arith)
 
-    -- where the row was done, all of it is counted from now on
+    -- where a row was complete, its need after the boundary is at most the work that its task asks for from now on
     row_pays_alone : (j : ℕ) → j < count plan → (row_at s j).done ≡ true
         → wleft_at (after_boundary plan dem s) j ≤ asked_since plan (after_boundary plan dem s) s.now j
     row_pays_alone j hj closed =
@@ -141,7 +141,7 @@ module _ (F long : ℕ) (plan : Plan) (lim : IsWithinLimits plan) (i : ℕ) (h :
         let none : wleft_at s j ≡ 0 = done_none (row_at s j) closed in
         omega arith
 
-    -- a row that is open after a boundary was open before, or is released now
+    -- the row was open before the boundary, and its job is the same
     abbrev StayedOpen : ℕ → Row → Type 0
     StayedOpen j new = ((row_at s j).done ≡ false) × (release_of plan j new ≡ release_of plan j (row_at s j))
 
@@ -202,7 +202,7 @@ module _ (F long : ℕ) (plan : Plan) (lim : IsWithinLimits plan) (i : ℕ) (h :
               )
         ]
 
-    -- counts do not change in a tick, nor do releases
+    -- a tick changes no count of jobs and no release
     tick_asked : (shares : List ℕ) (b j : ℕ) → j < count plan
         → asked_since plan (after_tick dem shares s) b j ≡ asked_since plan s b j
     tick_asked shares b j hj = rw (tick_at plan dem shares s bel j hj) refl
@@ -219,7 +219,7 @@ module _ (F long : ℕ) (plan : Plan) (lim : IsWithinLimits plan) (i : ℕ) (h :
         → (row_at (after_tick dem shares s) j).done ≡ true
     done_stays shares j hj closed = rw (tick_at plan dem shares s bel j hj) (rw closed refl)
 
-    -- in a stretch as long as the bound, a task is asked for no more than so many ticks can hold
+    -- in a stretch shorter than `long` a task asks for no more than the jobs that `long` ticks can hold
     level_asked : (b j : ℕ) → j < count plan → s.now < b + long
         → asked_since plan s b j ≤ ceil_div long (period plan j) * worst plan j
     level_asked b j hj near =

@@ -24,7 +24,7 @@ pub get-each_row : (f : ℕ → Row → Row) (rows : List Row) (j : ℕ) → j <
     → get_or (each_row f 0 rows) j no_row ≡ f j (get_or rows j no_row)
 get-each_row f rows j h = get-each_row_from f 0 rows j h ∙ ap (λ (k : ℕ). f k (get_or rows j no_row)) (add-zero j)
 
--- a complete job needs nothing more, and no job more than its worst case
+-- a complete job may need no more units
 pub done_none : (row : Row) → row.done ≡ true → row_wleft row ≡ 0
 done_none row e = rw e refl
 
@@ -35,13 +35,13 @@ wleft-most row = go row.done
     go true = omega arith
     go false = omega arith
 
--- where no row is due, none at a place is
+-- where no row passes the test, the row at each place fails it
 pub none_due_at : (p : Row → Bool) (rows : List Row) (j : ℕ) → list_any p rows ≡ false → j < length rows → p (get_or rows j no_row) ≡ false
 none_due_at p [] j none h = absurd (omega arith)
 none_due_at p (row ∷ rows) zero none h = (or_parts (p row) (list_any p rows) none).0
 none_due_at p (row ∷ rows) (suc j) none h = none_due_at p rows j (or_parts (p row) (list_any p rows) none).1 (omega arith)
 
--- where some row is due, one at a place is
+-- where some row passes the test, it is at some place
 pub some_due_at : (p : Row → Bool) (rows : List Row) → list_any p rows ≡ true
     → (j : ℕ) × (j < length rows) × (p (get_or rows j no_row) ≡ true)
 some_due_at p rows some =

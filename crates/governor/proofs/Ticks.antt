@@ -1,4 +1,4 @@
--- One legal tick over a set of tasks that holds, with each task, those before it.
+-- One legal tick over a set of tasks that has, with each task, those before it.
 use Rattle.std.proofs.Common.{◌≡◌, ◌⊎◌, inl, inr, ℕ, ◌+◌, ◌-◌, ◌<◌, ◌≤◌, min, Bool, true, false, List, refl, arith}
 use Rattle.std.specs.Prelude.{◌==◌, ◌||◌, if◌then◌else◌}
 use Rattle.std.proofs.lemmas.Bool.{cases_lt, eq-eqb}
@@ -32,7 +32,7 @@ pub demand_most : (plan : Plan) (dem : JobDemands) (s : StateOf) → Belongs pla
     → dem i (row_at s i).job ≤ (row_at s i).worst
 demand_most plan dem s bel i h = let m = bel.demand.most i (row_at s i).job h in let w = bel.of.worst i h in omega arith
 
--- what a task has left falls by its units at least
+-- what a task may still need falls by at least its units
 pub tick-falls : (plan : Plan) (dem : JobDemands) (f : ℕ) (s : StateOf) (shares : List ℕ) → Belongs plan dem s
     → IsLegalIn plan dem f s shares → (i : ℕ) → i < count plan
     → wleft_at (after_tick dem shares s) i + share_in shares i ≤ wleft_at s i
@@ -50,7 +50,7 @@ tick-closes plan dem f s shares bel legal i h all =
     rw (tick_at plan dem shares s bel i h) (tick_closes row.done row.used (dem i row.job) (share_in shares i)
     (bel.open_job i h) (legal_most plan dem f s shares legal i h) all)
 
--- afterwards all of the set is complete, or f units of it were done
+-- after the tick each task of the set is complete, or the set may need at least f units less
 pub tick_set : (plan : Plan) (dem : JobDemands) (f : ℕ) (s : StateOf) (shares : List ℕ) (test : ℕ → Bool)
     → Belongs plan dem s → IsLegalIn plan dem f s shares
     → ((j i : ℕ) → j < count plan → i < count plan → stands_before (key_in plan.scheduler plan s) j i ≡ true → test i ≡ true → test j ≡ true)

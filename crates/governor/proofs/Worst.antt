@@ -1,4 +1,4 @@
--- The schedule under static with every job at its worst case meets every deadline, whatever its length.
+-- The schedule under static with every job at its worst case meets every deadline, for each number of ticks.
 use Rattle.std.proofs.Common.{◌≡◌, ℕ, ◌-◌, ◌<◌, ◌≤◌, List, length, refl, arith, ap, ◌∙◌, sym, subst}
 use Rattle.dvs_base.specs.declared.kind.GovernorKind.TheVariants.{Fixed}
 use Rattle.grid_fraction.specs.declared.Frac.{Frac}
@@ -24,7 +24,7 @@ use Rattle.governor.specs.Worst.{MeetsAtWorst}
 use Rattle.governor.proofs.OneSpeedLaws.{pairs_fixed, static_laws}
 use Rattle.governor.proofs.PlanDemands.{published-fixed}
 
--- the schedule under static is the course of its own demand
+-- the published demand of static is the governor's own, so the schedules are equal
 pub published-fixed_by : (p : Plan) (dem : JobDemands) → published p Fixed dem ≡ ask_of (unchanging static_demand) p dem
 published-fixed_by p dem = λ j past. published-fixed p dem past j
 
@@ -40,7 +40,7 @@ worst-met p adm t =
     (course-met Fixed ServesBoth (unchanging static_demand) (CalmAt fixed_speed) (SafeAt fixed_speed) (static_laws pairs_fixed) p
     (worst_demand p) adm (worst-within p) tt t)
 
--- where task i is released at t, its job released before lacks nothing
+-- at a tick where a job of task i is due, the job lacks nothing
 pub lacking-none : (p : Plan) → IsAdmitted p → (t i k : ℕ) → i < count p → 1 ≤ k → t ≡ due p i k
     → lacking p (schedule p Fixed (worst_demand p) t) i ≡ 0
 lacking-none p adm t i k h pos e =

@@ -6,22 +6,23 @@ use Rattle.sched_model.specs.Plan.{Plan, count, hyper, rate}
 use Rattle.sched_model.specs.States.{StateOf, row_at}
 use Rattle.governor.specs.Steps.{wleft_at, earliest_in}
 
--- the latest job of task i is due by d
+-- whether the latest job of task i is due by tick d
 abbrev pub due_by : StateOf → ℕ → ℕ → Bool
 due_by s d i = nat_le (row_at s i).deadline d
 
--- over the tasks due by d: H times what they may still need, and their rates from the deadlines on
+-- the work of the tasks that are due by d, times H: what their latest jobs may still need,
+-- and their rates from the deadlines up to d
 abbrev pub load : Plan → StateOf → ℕ → ℕ
 load plan s d =
     hyper plan * sum_where (count plan) (due_by s d) (wleft_at s)
     + sum_where (count plan) (due_by s d) (λ i. rate plan i * (d - (row_at s i).deadline))
 
--- for each tick d, the load fits in what the speed F does up to d
+-- for each tick d, the load up to d fits into what the speed F does up to d
 abbrev pub EdfCalm : ℕ → Plan → StateOf → Type 0
 EdfCalm F plan s = (d : ℕ) → s.now ≤ d → load plan s d ≤ hyper plan * (F * (d - s.now))
 
--- for each tick d from the earliest deadline on, it fits in what the entry in force does up to that deadline, and F from
--- there on
+-- for each tick d from the earliest deadline on, the load up to d fits into what the entry k does up to the earliest
+-- deadline and F does from there on; the speed of the entry k is at most F
 pub record EdfSafe (F : ℕ) (plan : Plan) (s : StateOf) (k : ℕ) : Type 0 where
   pub bound : (d : ℕ) → earliest_in plan s ≤ d → load plan s d
       ≤ hyper plan * (speed_at plan.machine k * (earliest_in plan s - s.now) + F * (d - earliest_in plan s))

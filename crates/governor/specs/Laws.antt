@@ -14,43 +14,43 @@ use Rattle.sched_model.specs.States.{StateOf, row_at, opening, IsOfPlan}
 use Rattle.governor.specs.Meanings.{Serving, OwnDemand, Condition, EntryCondition}
 use Rattle.governor.specs.Steps.{after_boundary, after_tick, Belongs, IsAtDecision, MayFollow}
 
--- a plan that passed its scheduler's test, and whose scheduler is served
+-- an admitted plan whose scheduler is served
 pub record IsServed (serves : Serving) (plan : Plan) : Type 0 where
   pub admitted : IsAdmitted plan
   pub served : serves plan.scheduler
 
--- a state of such a plan that belongs to a demand list
+-- an admitted plan whose scheduler is served, with a state that belongs to a demand list
 pub record InRun (serves : Serving) (plan : Plan) (dem : JobDemands) (s : StateOf) : Type 0 where
   pub admitted : IsAdmitted plan
   pub served : serves plan.scheduler
   pub belongs : Belongs plan dem s
 
--- of each plan that is served
+-- a fact holds of each plan that is served
 abbrev pub OfEachPlan : Serving → (Plan → Type 0) → Type 0
 OfEachPlan serves Holds = (plan : Plan) → IsServed serves plan → Holds plan
 
--- in each state of such a plan at a decision
+-- a fact holds of each state at a decision of each plan that is served
 abbrev pub AtEachDecision : Serving → (Plan → StateOf → Type 0) → Type 0
 AtEachDecision serves Holds =
     (plan : Plan) (s : StateOf) → IsServed serves plan → IsOfPlan plan s → IsAtDecision plan s → Holds plan s
 
--- in each state of its runs
+-- a fact holds of each state in the runs of each plan that is served
 abbrev pub InEachRun : Serving → (Plan → JobDemands → StateOf → Type 0) → Type 0
 InEachRun serves Holds = (plan : Plan) (dem : JobDemands) (s : StateOf) → InRun serves plan dem s → Holds plan dem s
 
--- the denominator is 1 to 2^64
+-- the denominator of a demand is 1 to 2^64
 abbrev pub HasLowDen : Frac → Type 0
 HasLowDen d = (0 < d.den) × (d.den ≤ u64_end)
 
--- the entry that is chosen: the lowest whose speed meets the demand, else the highest
+-- the entry that a governor with this demand chooses: the lowest whose speed meets it, else the highest
 abbrev pub chosen : OwnDemand → Plan → StateOf → ℕ
 chosen demand plan s = lowest_entry plan.machine (demand plan s)
 
--- the speed of some entry meets the demand
+-- the speed of some entry meets the demand in this state
 abbrev pub CanMeet : OwnDemand → Plan → StateOf → Type 0
 CanMeet demand plan s = (lowest_pick plan.machine (demand plan s)).met ≡ true
 
--- after each tick that may follow with the entry k in force
+-- a fact holds of the state after each tick that may follow with the entry k in force
 abbrev pub AfterEachTick : Plan → JobDemands → StateOf → ℕ → (StateOf → ℕ → Type 0) → Type 0
 AfterEachTick plan dem s k Holds =
     (shares : List ℕ) → MayFollow plan dem s k shares → Holds (after_tick dem shares s) k
@@ -59,7 +59,7 @@ AfterEachTick plan dem s k Holds =
 abbrev pub DueAreDone : Plan → StateOf → Type 0
 DueAreDone plan s = (i : ℕ) → i < count plan → (row_at s i).deadline ≡ s.now → (row_at s i).done ≡ true
 
--- what a type of governors promises of its meanings
+-- the laws that a type of governors keeps for its kind, demand and conditions
 pub record GovernorLaws (kind : GovernorKind) (serves : Serving) (demand : OwnDemand) (calm : Condition) (safe : EntryCondition) : Type 0 where
   -- each scheduler that is served makes a pair with the kind
   pub pairs : (scheduler : Scheduler) → serves scheduler → IsPair scheduler kind
@@ -71,11 +71,11 @@ pub record GovernorLaws (kind : GovernorKind) (serves : Serving) (demand : OwnDe
   pub releases : InEachRun serves (λ plan dem s. calm plan s → calm plan (after_boundary plan dem s))
   -- a calm state at a decision is safe with the entry that is chosen
   pub chooses : InEachRun serves (λ plan dem s. IsAtDecision plan s → calm plan s → safe plan s (chosen demand plan s))
-  -- and its demand can be met, unless the kind is look-ahead
+  -- in a calm state at a decision some entry meets the demand, unless the kind is look-ahead
   pub meets : InEachRun serves (λ plan dem s. IsAtDecision plan s → calm plan s → kind ≢ Ahead → CanMeet demand plan s)
-  -- a tick keeps a safe state safe
+  -- a tick that may follow keeps a safe state safe
   pub ticks : InEachRun serves (λ plan dem s. (k : ℕ) → safe plan s k → AfterEachTick plan dem s k (safe plan))
   -- a safe state is calm
   pub stays_calm : InEachRun serves (λ plan dem s. (k : ℕ) → safe plan s k → calm plan s)
-  -- in a calm state each job that is due is complete
+  -- in a calm state each job that is due now is complete
   pub completes : InEachRun serves (λ plan dem s. calm plan s → DueAreDone plan s)

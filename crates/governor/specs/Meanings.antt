@@ -5,11 +5,11 @@ use Rattle.grid_fraction.specs.declared.Frac.{Frac}
 use Rattle.sched_model.specs.Plan.{Plan}
 use Rattle.sched_model.specs.States.{StateOf}
 
--- the schedulers that it serves
+-- the schedulers that a governor serves
 abbrev pub Serving : Type 1
 Serving = Scheduler → Type 0
 
--- its published demand, in units per tick
+-- a governor's published demand in a state of a plan, in units per tick
 abbrev pub OwnDemand : Type 0
 OwnDemand = Plan → StateOf → Frac
 
@@ -17,6 +17,6 @@ OwnDemand = Plan → StateOf → Frac
 abbrev pub Condition : Type 1
 Condition = Plan → StateOf → Type 0
 
--- one on the states and the entry in force
+-- a condition on the states of a plan's runs and the entry in force
 abbrev pub EntryCondition : Type 1
 EntryCondition = Plan → StateOf → ℕ → Type 0

@@ -1,4 +1,4 @@
--- The two conditions under RM for one speed F: each level is complete or in a busy stretch.
+-- The two conditions under RM for one speed F: each level is done or in a busy stretch.
 use Rattle.std.specs.Prelude.{◌≡◌, ◌⊎◌, ℕ, zero, suc, ◌+◌, ◌-◌, ◌*◌, ◌<◌, ◌≤◌, Bool, true, false, nat_le, if◌then◌else◌}
 use Rattle.grid_fraction.specs.Numbers.{sum_where, ceil_div}
 use Rattle.freq_table.specs.Tables.{speed_at}
@@ -8,25 +8,25 @@ use Rattle.sched_model.specs.Jobs.{release}
 use Rattle.sched_model.specs.States.{StateOf, row_at}
 use Rattle.governor.specs.Steps.{wleft_at, release_of}
 
--- the work that task i and the tasks before it in RM order can be asked for in `span` ticks
+-- the work that task i and the tasks before it in RM order can ask for in `span` ticks
 abbrev pub level_work_in : Plan → ℕ → ℕ → ℕ
 level_work_in plan span i = sum_up_to (count plan) (period plan) (λ j. ceil_div span (period plan j) * worst plan j) i
 
--- the level of task i: it and the tasks before it in RM order
+-- whether task j is of the level of task i: task i itself or before it in RM order
 abbrev pub level : Plan → ℕ → ℕ → Bool
 level plan i j = is_up_to (period plan) i j
 
--- of the jobs 1 to k of task j, how many were released at b or later
+-- how many of the jobs 1 to k of task j were released at tick b or later
 abbrev pub released_since : Plan → ℕ → ℕ → ℕ → ℕ
 released_since plan j b zero = 0
 released_since plan j b (suc k) = released_since plan j b k + (if nat_le b (release plan j (suc k)) then 1 else 0)
 
--- the worst cases of those releases of task j at b or later that have taken place
+-- the work of the jobs of task j released at tick b or later, so far, each at its worst case
 abbrev pub asked_since : Plan → StateOf → ℕ → ℕ → ℕ
 asked_since plan s b j = released_since plan j b (row_at s j).job * worst plan j
 
--- at the tick b a busy stretch of the level of task i began; it is shorter than `long`, and holds each open job of the
--- level, and in it F ran all the time
+-- A busy stretch of the level of task i began at tick b. It is shorter than `long` and has the release of each open
+-- job of the level. What the level asked for since b covers F times the ticks since b, and what it may still need.
 pub record IsStretch (F long : ℕ) (plan : Plan) (s : StateOf) (i b : ℕ) : Type 0 where
   pub begun : b ≤ s.now
   pub short : s.now - b < long
@@ -35,23 +35,23 @@ pub record IsStretch (F long : ℕ) (plan : Plan) (s : StateOf) (i b : ℕ) : Ty
   pub work : sum_where (count plan) (level plan i) (wleft_at s) + F * (s.now - b)
       ≤ sum_where (count plan) (level plan i) (asked_since plan s b)
 
--- all jobs of the level of task i are complete
+-- each task of the level of task i has a complete job
 abbrev pub IsLevelDone : Plan → StateOf → ℕ → Type 0
 IsLevelDone plan s i = (j : ℕ) → j < count plan → level plan i j ≡ true → (row_at s j).done ≡ true
 
--- the level of task i is done, or in a busy stretch shorter than its bound
+-- the level of task i is done, or in a busy stretch shorter than `long`
 abbrev pub LevelCalm : ℕ → ℕ → Plan → StateOf → ℕ → Type 0
 LevelCalm F long plan s i = IsLevelDone plan s i ⊎ ((b : ℕ) × IsStretch F long plan s i b)
 
--- each level is
+-- the level of each task i is done, or in a busy stretch shorter than `long i`
 abbrev pub StretchCalm : ℕ → (ℕ → ℕ) → Plan → StateOf → Type 0
 StretchCalm F long plan s = (i : ℕ) → i < count plan → LevelCalm F (long i) plan s i
 
--- the bound of a level is the period of its task
+-- the level of each task is done, or in a busy stretch shorter than the task's period
 abbrev pub RmCalm : ℕ → Plan → StateOf → Type 0
 RmCalm F plan s = StretchCalm F (period plan) plan s
 
--- and the speed of the entry k is F
+-- the condition RmCalm holds, and the speed of the entry k is F
 pub record RmSafe (F : ℕ) (plan : Plan) (s : StateOf) (k : ℕ) : Type 0 where
   pub calm : RmCalm F plan s
   pub same : speed_at plan.machine k ≡ F

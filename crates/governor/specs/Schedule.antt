@@ -11,16 +11,16 @@ use Rattle.sched_model.specs.Schedule.{schedule, schedule_by, IsScheduleBy}
 use Rattle.sched_model.specs.States.{state_of}
 use Rattle.governor.specs.Meanings.{Serving, OwnDemand}
 
--- a governor's published demand, as a function of the ticks so far
+-- a governor's published demand as a function of the ticks so far
 abbrev pub ask_of : OwnDemand → Plan → JobDemands → List Tick → Frac
 ask_of demand p dem past = demand p (state_of p dem past)
 
--- the first t ticks of its schedule
+-- the first t ticks of a governor's own schedule
 abbrev pub course : OwnDemand → Plan → JobDemands → ℕ → List Tick
 course demand p dem t = schedule_by p dem (ask_of demand p dem) t
 
--- on each schedule, whatever demand gave its speeds and for all demands of the jobs within their worst cases, the kind's
--- published demand is the governor's own for the state there
+-- on each schedule, whose speeds any demand may give, and for all demands of the jobs within their worst cases,
+-- the published demand of the kind is the governor's own in the state there
 abbrev pub Publishes : OwnDemand → GovernorKind → Plan → Type 0
 Publishes demand kind p =
     (dem : JobDemands) → IsWithin p dem → (ask : List Tick → Frac) (past : List Tick)
@@ -31,9 +31,9 @@ abbrev pub HasScheduleOf : OwnDemand → GovernorKind → Plan → Type 0
 HasScheduleOf demand kind p =
     (dem : JobDemands) → IsWithin p dem → (t : ℕ) → course demand p dem t ≡ schedule p kind dem t
 
--- what a governor's demand promises of each admitted plan whose scheduler is served
+-- the laws on the demand of a type of governors, for each admitted plan whose scheduler is served
 pub record PublishingLaws (kind : GovernorKind) (serves : Serving) (demand : OwnDemand) : Type 0 where
-  -- on each schedule it is the published demand of the kind
+  -- on each schedule the governor's demand is the published demand of the kind
   pub publishes : (plan : Plan) → IsAdmitted plan → serves plan.scheduler → Publishes demand kind plan
-  -- so the two schedules are one
+  -- the governor's schedule is the one that the kind gives
   pub one_schedule : (plan : Plan) → IsAdmitted plan → serves plan.scheduler → HasScheduleOf demand kind plan

@@ -3,14 +3,14 @@ use Rattle.std.specs.Prelude.{◌≡◌}
 use Rattle.dvs_base.specs.declared.kind.Scheduler.{Scheduler}
 use Rattle.dvs_base.specs.declared.kind.Scheduler.TheVariants.{Edf, Rm}
 
--- EDF alone
+-- a governor serves EDF alone
 abbrev pub ServesEdf : Scheduler → Type 0
 ServesEdf scheduler = scheduler ≡ Edf
 
--- RM alone
+-- a governor serves RM alone
 abbrev pub ServesRm : Scheduler → Type 0
 ServesRm scheduler = scheduler ≡ Rm
 
--- EDF and RM
+-- a governor serves EDF and RM
 abbrev pub ServesBoth : Scheduler → Type 0
 ServesBoth scheduler = Unit {0}

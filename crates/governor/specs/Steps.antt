@@ -1,4 +1,4 @@
--- What a boundary and a tick make of a state, for a demand of each job.
+-- The state after a boundary and after a tick, for given demands of the jobs.
 use Rattle.std.specs.Prelude.{◌≡◌, ◌==◌, ℕ, suc, ◌+◌, ◌-◌, ◌<◌, ◌≤◌, Bool, true, false, if◌then◌else◌, ◌||◌, List, [], ◌∷◌, map, length, slice_index}
 use Rattle.std.specs.List.{list_any}
 use Rattle.dvs_base.specs.declared.kind.Scheduler.{Scheduler}
@@ -14,12 +14,12 @@ use Rattle.sched_model.specs.Demands.{IsWithin, JobDemands}
 use Rattle.grid_fraction.specs.Numbers.{greatest_below, least_below}
 use Rattle.sched_model.specs.States.{StateOf, row_at, row_wleft, released_row, IsOfPlan}
 
--- each row by its place
+-- the rows, each changed by a function of its place and itself; the first place is i
 abbrev pub each_row : (ℕ → Row → Row) → ℕ → List Row → List Row
 each_row f i [] = []
 each_row f i (row ∷ rows) = f i row ∷ each_row f (suc i) rows
 
--- a row's job is due now
+-- whether a row's job is due now
 abbrev pub is_due : ℕ → Row → Bool
 is_due now row = row.deadline == now
 
@@ -27,15 +27,15 @@ is_due now row = row.deadline == now
 abbrev pub opened_row : Plan → JobDemands → ℕ → Row → Row
 opened_row plan dem i row = record (released_row (period plan i) row) { done = (dem i (row.job + 1) == 0) }
 
--- a row after a boundary
+-- a row after a boundary: after its release where it is due, and otherwise unchanged
 abbrev pub boundary_row : Plan → JobDemands → ℕ → ℕ → Row → Row
 boundary_row plan dem now i row = if is_due now row then opened_row plan dem i row else row
 
--- all rows after it
+-- all rows of a state after a boundary
 abbrev pub boundary_rows : Plan → JobDemands → StateOf → List Row
 boundary_rows plan dem s = each_row (boundary_row plan dem s.now) 0 s.rows
 
--- the releases of one boundary, and the mark where there is one
+-- the state after the releases of a boundary, and after its mark where some task is released
 abbrev pub after_boundary : Plan → JobDemands → StateOf → StateOf
 after_boundary plan dem s = record {
   now = s.now;
@@ -44,23 +44,23 @@ after_boundary plan dem s = record {
   base = (if list_any (is_due s.now) s.rows then map row_wleft (boundary_rows plan dem s) else s.base);
 }
 
--- the release of the job of task i's row, and 0 for job 0
+-- the release of the row's job of task i; 0 for job 0
 abbrev pub release_of : Plan → ℕ → Row → ℕ
 release_of plan i row = latest_since plan i row.job
 
--- the last release among the rows, and 0 where there is none
+-- the last release of the rows' jobs; 0 where there is none
 abbrev pub last_marked : Plan → StateOf → ℕ
 last_marked plan s = greatest_below (count plan) (λ i. release_of plan i (row_at s i))
 
--- what a job still needs
+-- the units that the row's job of task i still needs; 0 where it is complete
 abbrev pub left_of : JobDemands → ℕ → Row → ℕ
 left_of dem i row = if row.done then 0 else dem i row.job - row.used
 
--- what the job of task i still needs
+-- the units that the job of task i still needs in a state; 0 where it is complete
 abbrev pub left_in : JobDemands → StateOf → ℕ → ℕ
 left_in dem s i = left_of dem i (row_at s i)
 
--- what the job of task i may still need at most
+-- the units that the job of task i may still need at most; 0 where it is complete
 abbrev pub wleft_at : StateOf → ℕ → ℕ
 wleft_at s i = row_wleft (row_at s i)
 
@@ -68,7 +68,7 @@ wleft_at s i = row_wleft (row_at s i)
 abbrev pub earliest_in : Plan → StateOf → ℕ
 earliest_in plan s = least_below (count plan) (λ i. (row_at s i).deadline)
 
--- what a scheduler orders the tasks by: the deadline under EDF, the period under RM
+-- the key by which a scheduler orders the tasks in a state: the deadline under EDF, the period under RM
 abbrev pub key_in : Scheduler → Plan → StateOf → ℕ → ℕ
 key_in Edf plan s i = (row_at s i).deadline
 key_in Rm plan s i = period plan i
@@ -77,33 +77,34 @@ key_in Rm plan s i = period plan i
 abbrev pub share_in : List ℕ → ℕ → ℕ
 share_in shares i = slice_index shares i
 
--- the tasks share the f units of a tick by their priority, each up to what its job needs
+-- the f units of a tick are shared out by priority, to each task up to what its job needs
 pub record IsLegalIn (plan : Plan) (dem : JobDemands) (f : ℕ) (s : StateOf) (shares : List ℕ) : Type 0 where
   pub one_each : length shares ≡ count plan
   pub out : SharesOut (count plan) (key_in plan.scheduler plan s) f (left_in dem s) (share_in shares)
 
--- a row after its units, complete if its job has had its demand
+-- a row after its units of a tick; it is complete if its job has had its demand
 abbrev pub tick_row : JobDemands → List ℕ → ℕ → Row → Row
 tick_row dem shares i row =
     let used = row.used + share_in shares i in
     record row { used = used; done = (row.done || (used == dem i row.job)) }
 
--- a state after a tick of these shares
+-- the state after a tick with these shares
 abbrev pub after_tick : JobDemands → List ℕ → StateOf → StateOf
 after_tick dem shares s = record s { now = s.now + 1; rows = each_row (tick_row dem shares) 0 s.rows }
 
--- now is below every deadline
+-- the present tick is before every deadline
 abbrev pub IsBeforeAll : Plan → StateOf → Type 0
 IsBeforeAll plan s = (i : ℕ) → i < count plan → s.now < (row_at s i).deadline
 
--- a tick of these shares may follow with the entry k in force: it is legal at its speed, and now is below every
--- deadline
+-- a tick with these shares may follow with the entry k in force: it is legal at the entry's speed, and the present
+-- tick is before every deadline
 pub record MayFollow (plan : Plan) (dem : JobDemands) (s : StateOf) (k : ℕ) (shares : List ℕ) : Type 0 where
   pub before : IsBeforeAll plan s
   pub entry : k < length plan.machine.points
   pub legal : IsLegalIn plan dem (speed_at plan.machine k) s shares
 
--- at a decision
+-- the state is at a decision: before every deadline, each of which is within the longest period,
+-- and with a mark no earlier than any release, whose bases cover what each job may still need
 pub record IsAtDecision (plan : Plan) (s : StateOf) : Type 0 where
   pub before : IsBeforeAll plan s
   pub soon : (i : ℕ) → i < count plan → (row_at s i).deadline ≤ s.now + LONGEST_PERIOD
@@ -111,7 +112,8 @@ pub record IsAtDecision (plan : Plan) (s : StateOf) : Type 0 where
   pub since : (i : ℕ) → i < count plan → release_of plan i (row_at s i) ≤ s.base_at
   pub base : (i : ℕ) → i < count plan → row_wleft (row_at s i) ≤ slice_index s.base i
 
--- a state of the plan that belongs to a demand list
+-- the state is one of a run of the plan with these demands: its rows have the plan's deadlines and releases,
+-- its mark is the last release, and a job is complete exactly where it has had its demand
 pub record Belongs (plan : Plan) (dem : JobDemands) (s : StateOf) : Type 0 where
   pub of : IsOfPlan plan s
   pub demand : IsWithin plan dem

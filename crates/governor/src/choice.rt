@@ -1,4 +1,4 @@
-// The answer of a governor.
+// A governor's answer at a decision.
 ghost use Rattle.std.specs.Prelude.{◌≡◌};
 ghost use Rattle.freq_table.specs.Tables.{lowest_entry, lowest_pick};
 ghost use Rattle.sched_model.specs.Admission.{IsAdmitted};
@@ -16,8 +16,8 @@ pub struct Choice {
     pub demand: Frac,
 }
 
-/// The choice for a demand in units per tick: the lowest entry whose speed meets it, else the highest. The plan passed
-/// its scheduler's test.
+/// The choice for a demand in units per tick, with a denominator from 1 to 2^64: the lowest entry whose speed meets
+/// it, else the highest.
 pub fn chosen(plan: &Admitted, demand: Frac) -> Choice
     requires { IsAdmitted plan.now → HasLowDen demand }
     ensures demand { result.demand ≡ demand }

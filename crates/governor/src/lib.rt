@@ -1,6 +1,6 @@
 //! What a kernel asks of a governor, and the laws that each governor keeps.
 //!
-//! A governor brings its published demand, and two conditions on the states of a run. From the laws of these two alone
+//! A governor has a published demand, and two conditions on the states of a run. From the laws of these two alone
 //! every deadline of its schedule is met.
 #![tactic(auto)]
 
@@ -25,56 +25,57 @@ use std::alloc::Global;
 
 /// A rule for the speed. No call takes memory.
 pub trait Governor: Drop {
-    /// Which kind it is.
+    /// The governor's kind.
     ghost the_kind: { KindOf };
 
-    /// The schedulers that it serves.
+    /// The schedulers that the governor serves.
     ghost serves: { Serving };
 
-    /// Its published demand.
+    /// The governor's published demand, in units per tick.
     ghost demand: { OwnDemand };
 
-    /// What is kept from boundary to boundary.
+    /// The condition on a state at a boundary; in a calm state every due job is complete.
     ghost calm: { Condition };
 
-    /// What is kept while an entry is in force.
+    /// The condition on a state and the entry in force; a legal tick keeps it.
     ghost safe: { EntryCondition };
 
-    /// The value's counters are their formulas over this plan and state.
+    /// The governor's counters are right for this plan and state.
     ghost stands: { Self → Plan → StateOf → Type 0 };
 
     /// The kind of this governor.
     fn kind(&self) -> GovernorKind
         ensures { result ≡ the_kind };
 
-    /// Announces `State::release` of a task.
+    /// Announces `State::release` of a task, before the state changes.
     fn released(&mut self, plan: &Admitted, view: &State, task: u32)
         requires of { IsOfPlan plan.now view.now }
         requires counters { stands self.old plan.now view.now }
         requires can { CanRelease plan.now view.now task }
         ensures { stands self.new plan.now (after_release plan.now view.entry.now task) };
 
-    /// Announces `State::run` of so many work units.
+    /// Announces `State::run` of `units` work units of a task, before the state changes.
     fn ran(&mut self, plan: &Admitted, view: &State, task: u32, units: u64)
         requires of { IsOfPlan plan.now view.now }
         requires counters { stands self.old plan.now view.now }
         requires can { CanRun view.now task units }
         ensures { stands self.new plan.now (after_run view.entry.now task units) };
 
-    /// Announces `State::finish` of a task's job.
+    /// Announces `State::finish` of a task's job, before the state changes.
     fn finished(&mut self, plan: &Admitted, view: &State, task: u32)
         requires of { IsOfPlan plan.now view.now }
         requires counters { stands self.old plan.now view.now }
         requires can { CanFinish view.now task }
         ensures { stands self.new plan.now (after_finish view.entry.now task) };
 
-    /// Announces `State::mark`.
+    /// Announces `State::mark`, before the state changes.
     fn settled(&mut self, plan: &Admitted, view: &State)
         requires of { IsOfPlan plan.now view.now }
         requires counters { stands self.old plan.now view.now }
         ensures { stands self.new plan.now (after_mark view.entry.now) };
 
-    /// The published demand at a decision, and the lowest entry that meets it, else the highest.
+    /// The choice at a decision: the published demand in units per tick, the lowest entry that meets it, else the
+    /// highest, and whether that entry meets it.
     fn choose(&self, plan: &Admitted, view: &State) -> Choice
         requires of { IsOfPlan plan.now view.now }
         requires counters { stands self.now plan.now view.now }
@@ -83,23 +84,23 @@ pub trait Governor: Drop {
         ensures index { result.index ≡ lowest_entry plan.now.machine (demand plan.now view.entry.now) }
         ensures met { result.met ≡ (lowest_pick plan.now.machine (demand plan.now view.entry.now)).met };
 
-    /// A governor that stands for a state of a plan serves its scheduler.
+    /// A governor whose counters are right for a state of a plan serves the plan's scheduler.
     ghost serves_plan: { (g : Self) (plan : Plan) (s : StateOf) → stands g plan s → serves plan.scheduler };
 
-    /// Time alone changes no counter.
+    /// The counters stay right while time alone passes.
     ghost waits: { (g : Self) (plan : Plan) (s : StateOf) (to : ℕ) → s.now ≤ to → stands g plan s → stands g plan (after_advance s to) };
 
-    /// The laws of the two conditions.
+    /// The laws of the two conditions and the demand.
     ghost laws: { GovernorLaws the_kind serves demand calm safe };
 }
 
-/// A governor that a program runs by its kind: it is made for a plan, and its demand is the published one of the kind.
+/// A governor that is chosen by its kind: it is made for a plan, and its demand is the published one of its kind.
 pub trait Publishing: Governor {
-    /// The governor for a plan whose scheduler it serves, before the first release. It fails only where memory runs out.
+    /// The governor for a plan whose scheduler it serves, before the first release. The only error is `NoMemory`.
     fn made(alloc: Global, plan: &Admitted) -> Result<Self, NoMemory>
         requires { Self.serves plan.now.scheduler }
         ensures { IfOk result (λ g. Self.stands g plan.now (opening plan.now)) };
 
-    /// On each schedule its demand is the published one of its kind, so its schedule is the one that the kind gives.
+    /// On each schedule the governor's demand is the published one of its kind, so its schedule is that of the kind.
     ghost publishing: { PublishingLaws Self.the_kind Self.serves Self.demand };
 }

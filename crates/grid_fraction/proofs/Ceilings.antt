@@ -11,11 +11,11 @@ quotient n d q low high =
     let e : q * d + (n - q * d) ≡ n = omega arith in
     ap (λ m. m / d) (sym e) ∙ div-mul-add q d (n - q * d) (omega (arith, add-mul q 1 d, one-mul d))
 
--- at a multiple
+-- a multiple of d over d, rounded up, is the factor
 pub ceil-at : (q d : ℕ) → 0 < d → ceil_div (q * d) d ≡ q
 ceil-at q d pos = quotient (q * d + (d - 1)) d q (omega arith) (omega (arith, add-mul q 1 d, one-mul d))
 
--- in the order of what is divided
+-- a quotient rounded up grows with its numerator
 pub ceil-mono : (m n d : ℕ) → 0 < d → m ≤ n → ceil_div m d ≤ ceil_div n d
 ceil-mono m n d pos le =
     let low = div-mul-le_self (m + (d - 1)) d in
@@ -27,7 +27,7 @@ above_quotient n d q (suc r) e lt =
     let one : min 1 (suc r) ≡ 1 = omega arith in
     rw one (omega (arith, add-mul q 1 d), omega (arith, add-mul q 1 d, add-mul (q + 1) 1 d))
 
--- the quotient, and one more where there is a rest, is the quotient rounded up
+-- the quotient, and one more where there is a remainder, is the quotient rounded up
 pub div_ceil_is : (n d : ℕ) → 0 < d → div_ceil n d ≡ ceil_div n d
 div_ceil_is n d some =
     let bounds = above_quotient n d (n / d) (n % d) (omega arith) (omega arith) in

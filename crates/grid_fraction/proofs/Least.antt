@@ -18,7 +18,7 @@ least-above (suc zero) f t some h = h 0 (omega arith)
 least-above (suc (suc n)) f t some h =
     omega (arith, least-above (suc n) f t (omega arith) (λ i l. h i (omega arith)), h (suc n) (omega arith))
 
--- some value is the least
+-- the least value of f is that of some number below n
 pub least-found : (n : ℕ) (f : ℕ → ℕ) → 0 < n → (i : ℕ) × (i < n) × (f i ≡ least_below n f)
 least-found zero f some = absurd (omega arith)
 least-found (suc zero) f some = (0, omega arith, refl)

@@ -13,7 +13,7 @@ use Rattle.grid_fraction.specs.Numbers.{first_from}
 use Rattle.grid_fraction.specs.Fraction.{product, divides_all, least_common_multiple}
 use Rattle.grid_fraction.proofs.Searches.{first_from-found, first_from-before}
 
--- g is the greatest common divisor of a and b, and m * g that of m * a and m * b
+-- g is the greatest common divisor of a and b, and each common divisor of m * a and m * b divides m * g
 record IsScaledGcd (a b g : ℕ) : Type 0 where
   gcd : IsGcd a b g
   scaled : (m d : ℕ) → d ∣ m * a → d ∣ m * b → d ∣ m * g
@@ -36,7 +36,7 @@ scaled_gcd (suc n) a (suc b) lt =
       },
     )
 
--- what divides m * a and m * b divides m times the greatest common divisor of a and b
+-- any divisor of m * a and m * b divides m times the greatest common divisor of a and b
 pub IsGcd-scaled : (a b g m d : ℕ) → IsGcd a b g → d ∣ m * a → d ∣ m * b → d ∣ m * g
 IsGcd-scaled a b g m d h p q =
     let made : (k : ℕ) × IsScaledGcd a b k = scaled_gcd (suc b) a b (omega arith) in
@@ -54,14 +54,14 @@ divides-test n k h = eq-eqb _ _ (mod-eq-zero_of_dvd n h)
 divides-from_test : (n k : ℕ) → nat_eq (k % n) 0 ≡ true → n ∣ k
 divides-from_test n k h = dvd_of_mod-eq-zero n (eqb-true _ _ h)
 
--- what divides a number divides its multiples
+-- the numbers that divide m divide every multiple of m
 divides_all-dvd : (ns : List ℕ) (m k : ℕ) → divides_all ns m ≡ true → m ∣ k → divides_all ns k ≡ true
 divides_all-dvd [] m k h d = refl
 divides_all-dvd (n ∷ ns) m k h d =
     let parts : (nat_eq (m % n) 0 ≡ true) × (divides_all ns m ≡ true) = and_parts _ _ h in
     rw (divides-test n k (dvd_trans n (divides-from_test n m parts.0) d), divides_all-dvd ns m k parts.1 d) refl
 
--- one number more
+-- the numbers of two lists all divide k exactly where those of each list do
 pub divides_all-append : (ns ms : List ℕ) (k : ℕ) → divides_all (ns ++ ms) k ≡ (divides_all ns k && divides_all ms k)
 divides_all-append ns ms k = list_all-append (λ n. nat_eq (k % n) 0) ns ms
 
@@ -80,7 +80,7 @@ IsGcd-pos a b g some d = factor-pos g (a / g) a (mul_comm g (a / g) ∙ div-mul_
 pub IsLeastMultiple-none : IsLeastMultiple [] 1
 IsLeastMultiple-none = record { positive = omega arith; divided = refl; least = λ k h. one-dvd k }
 
--- one number more: by the greatest common divisor
+-- the least common multiple m of a list, with one number n more, is m * (n / g) for their greatest common divisor g
 pub IsLeastMultiple-more : (ns : List ℕ) (m n g : ℕ) → IsLeastMultiple ns m → 0 < n → IsGcd m n g → IsLeastMultiple (ns ++ n ∷ []) (m * (n / g))
 IsLeastMultiple-more ns m n g h some d = record { positive = positive; divided = divided; least = least }
   where
@@ -131,7 +131,7 @@ IsLeastMultiple-one n some = record {
   least = λ k h. divides_all-get_or (n ∷ []) k 0 0 h (omega arith);
 }
 
--- a list has one least common multiple
+-- a list has only one least common multiple
 pub IsLeastMultiple-same : (ns : List ℕ) (m k : ℕ) → IsLeastMultiple ns m → IsLeastMultiple ns k → m ≡ k
 IsLeastMultiple-same ns m k p q = dvd_antisymm (p.least k q.divided) (q.least m p.divided)
 
@@ -178,26 +178,26 @@ least_common_multiple-is ns all = subst (λ k. IsLeastMultiple ns k) same made.1
 pub least_common_multiple-pos : (ns : List ℕ) → All (λ n. 0 < n) ns → 0 < least_common_multiple ns
 least_common_multiple-pos ns all = (least_common_multiple-is ns all).positive
 
--- each number divides it: the quotient times the number is the least common multiple
+-- the quotient of the least common multiple by a number of the list, times that number, is the least common multiple
 pub mul-div-least_common_multiple : (ns : List ℕ) (i d : ℕ) → All (λ n. 0 < n) ns → i < length ns
     → least_common_multiple ns / get_or ns i d * get_or ns i d ≡ least_common_multiple ns
 mul-div-least_common_multiple ns i d all lt =
     div-mul_cancel (get_or ns i d) (divides_all-get_or ns (least_common_multiple ns) i d (least_common_multiple-is ns all).divided lt)
 
--- it divides every number that each of them divides
+-- the least common multiple divides every number that each number of the list divides
 pub least_common_multiple-dvd : (ns : List ℕ) (k : ℕ) → All (λ n. 0 < n) ns → divides_all ns k ≡ true → least_common_multiple ns ∣ k
 least_common_multiple-dvd ns k all h = (least_common_multiple-is ns all).least k h
 
 pub le-least_common_multiple : (ns : List ℕ) (k : ℕ) → All (λ n. 0 < n) ns → 0 < k → divides_all ns k ≡ true → least_common_multiple ns ≤ k
 le-least_common_multiple ns k all some h = le_of_dvd some (least_common_multiple-dvd ns k all h)
 
--- of two numbers: their product over their greatest common divisor
+-- the least common multiple of two numbers is their product over their greatest common divisor
 pub least_common_multiple-pair : (a b g : ℕ) → 0 < a → 0 < b → IsGcd a b g → least_common_multiple (a ∷ b ∷ []) ≡ a * (b / g)
 least_common_multiple-pair a b g p q d =
     IsLeastMultiple-same (a ∷ b ∷ []) _ _ (least_common_multiple-is (a ∷ b ∷ []) (All-cons (λ x. 0 < x) a (b ∷ []) p
     (All-cons (λ x. 0 < x) b [] q (All-nil (λ x. 0 < x))))) (IsLeastMultiple-more (a ∷ []) a b g (IsLeastMultiple-one a p) q d)
 
--- one number more: the least common multiple of what there was and the number
+-- the least common multiple of a list and one number more is that of two numbers: the list's and the new one
 pub least_common_multiple-more : (ns : List ℕ) (n : ℕ) → All (λ n. 0 < n) ns → 0 < n
     → least_common_multiple (ns ++ n ∷ []) ≡ least_common_multiple (least_common_multiple ns ∷ n ∷ [])
 least_common_multiple-more ns n all some =
@@ -208,7 +208,7 @@ least_common_multiple-more ns n all some =
     (IsLeastMultiple-more ns m n made.0 is some made.1.gcd)
     ∙ sym (least_common_multiple-pair m n made.0 is.positive some made.1.gcd)
 
--- it grows with the list
+-- the least common multiple grows with the list
 pub least_common_multiple-le-append : (ns ms : List ℕ) → All (λ n. 0 < n) ns → All (λ n. 0 < n) ms → least_common_multiple ns ≤ least_common_multiple (ns ++ ms)
 least_common_multiple-le-append ns ms p q =
     let is : IsLeastMultiple (ns ++ ms) (least_common_multiple (ns ++ ms)) = least_common_multiple-is (ns ++ ms) (All-append (λ n. 0 < n) ns ms p q) in
@@ -219,7 +219,7 @@ pub least_common_multiple-none : least_common_multiple [] ≡ 1
 unfolding least_common_multiple
 least_common_multiple-none = refl
 
--- of the numbers before a place, and at it
+-- the least common multiple of the first i + 1 numbers is that of two numbers: the first i numbers' and number i
 pub least_common_multiple-take_more : (ns : List ℕ) (i d : ℕ) → All (λ n. 0 < n) ns → i < length ns
     → least_common_multiple (take (i + 1) ns) ≡ least_common_multiple (least_common_multiple (take i ns) ∷ get_or ns i d ∷ [])
 least_common_multiple-take_more ns i d all lt =

@@ -51,7 +51,7 @@ any_below-false (suc n) test h = go (any_below n test) refl (test n) refl (any_b
     go true p b q ih = absurd (true≢false (sym (ap (λ v. v || test n) p) ∙ h))
     go false p true q ih = absurd (true≢false (sym (ap₂ (λ v w. v || w) p q) ∙ h))
 
--- and it is at most each that passes
+-- the first number that passes is at most each one that passes
 pub first_from-most : (n from m : ℕ) (test : ℕ → Bool) → from ≤ m → test m ≡ true → first_from n from test ≤ m
 first_from-most n from m test low found = go (nat_le (first_from n from test) m) refl
   where
@@ -72,7 +72,7 @@ any_below-found n test i h found = go (any_below n test) refl
     go true e = e
     go false e = absurd (true≢false (sym found ∙ any_below-false n test e i h))
 
--- the first that passes, from 0 on
+-- a number that passes, with none before it that does, is the first from 0 on
 pub first_from-is : (n i : ℕ) (test : ℕ → Bool) → i < n → ((k : ℕ) → k < i → test k ≡ false) → test i ≡ true → first_from n 0 test ≡ i
 first_from-is n i test lt before here =
     let found : test (first_from n 0 test) ≡ true = (first_from-found n 0 i test (omega arith) (omega arith) here).0 in
@@ -87,7 +87,7 @@ first_from-none (suc n) from test h =
     let rest : first_from n (suc from) test ≡ suc from + n = first_from-none n (suc from) test (λ k low high. h k (omega arith) (omega arith)) in
     rw (here, first_from) (omega (arith, rest))
 
--- the last number up to t that passes
+-- the last number up to t that passes is at most t
 pub last_up_to-le : (t : ℕ) (test : ℕ → Bool) → last_up_to t test ≤ t
 last_up_to-le zero test = omega arith
 last_up_to-le (suc t) test = go (test (suc t)) refl (last_up_to-le t test)
@@ -105,7 +105,7 @@ last_up_to-greatest (suc t) r test le e = go (test (suc t)) refl (eq-or-lt_of_le
     go false q (inl c) ih = absurd (true≢false (sym e ∙ (ap test c ∙ q)))
     go false q (inr c) ih = rw (q, last_up_to) (ih (omega arith) e)
 
--- some number below n passes
+-- where any of the numbers below n passes, there is such a number
 pub any-some : (n : ℕ) (test : ℕ → Bool) → any_below n test ≡ true → (i : ℕ) × (i < n) × (test i ≡ true)
 any-some zero test e = absurd (true≢false (sym e))
 any-some (suc n) test e = go (any_below n test) refl (any-some n test)
@@ -114,6 +114,6 @@ any-some (suc n) test e = go (any_below n test) refl (any-some n test)
     go true f ih = let (i, lt, on) = ih f in (i, omega arith, on)
     go false f ih = (n, omega arith, sym (ap (λ (b : Bool). b || test n) f) ∙ e)
 
--- all numbers below n pass, one by one
+-- where each number below n passes, all do
 pub all-found : (n : ℕ) (test : ℕ → Bool) → ((k : ℕ) → k < n → test k ≡ true) → all_below n test ≡ true
 all-found n test each = ap not (any_below-none n (λ k. not (test k)) (λ k lt. ap not (each k lt)))

@@ -1,4 +1,4 @@
--- Sums over the numbers below n, and lists of what stands at them.
+-- Sums over the numbers below n, and lists of the values at them.
 use Rattle.std.proofs.Common.{◌≡◌, ◌≢◌, ℕ, zero, suc, ◌+◌, ◌<◌, ◌≤◌, Bool, true, false, eqb, ◌⊎◌, inl, inr, refl, arith, if◌then◌else◌, ap, ap₂, ◌∙◌, sym, add-one, eq-or-lt_of_le, le_of_suc-le-suc, ◌*◌, [], ◌∷◌, ◌++◌}
 use Rattle.std.proofs.lemmas.Bool.Decides.{nat_tests}
 use Rattle.grid_fraction.specs.Numbers.{sum_below, sum_where, list_below}
@@ -12,7 +12,7 @@ pub sum_below-add : (n : ℕ) (f g : ℕ → ℕ) → sum_below n (λ k. f k + g
 sum_below-add zero f g = refl
 sum_below-add (suc n) f g = omega (arith, sum_below-add n f g)
 
--- the sum of terms that are at most a limit
+-- a sum of n terms that are at most `most` is at most n * most
 pub sum_below-limit : (n most : ℕ) (f : ℕ → ℕ) → ((k : ℕ) → k < n → f k ≤ most) → sum_below n f ≤ n * most
 sum_below-limit zero most f h = omega arith
 sum_below-limit (suc n) most f h =
@@ -26,7 +26,7 @@ pub sum_below-zero : (n : ℕ) (f : ℕ → ℕ) → ((k : ℕ) → k < n → f 
 sum_below-zero zero f h = refl
 sum_below-zero (suc n) f h = omega (arith, sum_below-zero n f (λ k lt. h k (omega arith)), h n (omega arith))
 
--- the sum has one term
+-- a sum whose terms other than that of j are 0 is the term of j
 pub sum_below-one : (n j : ℕ) (f : ℕ → ℕ) → j < n → ((k : ℕ) → k < n → k ≢ j → f k ≡ 0) → sum_below n f ≡ f j
 sum_below-one zero j f lt h = absurd (omega arith)
 sum_below-one (suc n) j f lt h =
@@ -40,7 +40,7 @@ sum_below-one (suc n) j f lt h =
         let other : n ≢ j = grind (arith, nat_tests) in
         omega (arith, ih (omega arith), h n (omega arith) other)
 
--- one term of a sum changes
+-- two sums that differ in the term of i alone differ by that term
 pub sum_below-change : (n : ℕ) (f g : ℕ → ℕ) (i : ℕ) → i < n → ((k : ℕ) → k < n → k ≢ i → g k ≡ f k) → sum_below n g + f i ≡ sum_below n f + g i
 sum_below-change zero f g i lt same = absurd (omega arith)
 sum_below-change (suc n) f g i lt same =
@@ -52,7 +52,7 @@ sum_below-change (suc n) f g i lt same =
         omega (arith, rest, ap f e, ap g e)
     go (inr l) ih = omega (arith, ih l, same n (omega arith) (λ q. omega arith))
 
--- the sum of f over i alone
+-- a sum with f at i and 0 elsewhere is f i
 pub sum_below-own : (n i : ℕ) (f : ℕ → ℕ) → i < n → sum_below n (λ k. if eqb k i then f k else 0) ≡ f i
 sum_below-own n i f lt = sum_below-one n i (λ k. if eqb k i then f k else 0) lt (λ k l ne. off k ne (eqb k i) refl) ∙ on (eqb i i) refl
   where
@@ -83,7 +83,7 @@ pub sum_where-same : (n : ℕ) (test : ℕ → Bool) (f g : ℕ → ℕ) → ((k
 sum_where-same n test f g h =
     sum_below-same n (λ k. if test k then f k else 0) (λ k. if test k then g k else 0) (λ k lt. ap (λ (x : ℕ). if test k then x else 0) (h k lt))
 
--- the sum over the others and one that does not pass are within the whole
+-- the sum over the numbers that pass, and the term of one that doesn't, are at most the whole sum
 pub sum_where-other : (n : ℕ) (test : ℕ → Bool) (f : ℕ → ℕ) (i : ℕ) → i < n → test i ≡ false → sum_where n test f + f i ≤ sum_below n f
 sum_where-other zero test f i lt h = absurd (omega arith)
 sum_where-other (suc n) test f i lt h = go (eq-or-lt_of_le (le_of_suc-le-suc lt)) (sum_where-other n test f i)

@@ -4,7 +4,7 @@ use Rattle.std.specs.List.{list_all}
 use Rattle.grid_fraction.specs.declared.Frac.{Frac}
 use Rattle.grid_fraction.specs.Numbers.{first_from}
 
--- a speed of so many units a tick meets the demand num/den
+-- a speed, in work units per tick, meets the demand d: num <= speed * den
 abbrev pub meets : ℕ → Frac → Bool
 meets speed d = nat_le d.num (speed * d.den)
 
@@ -21,6 +21,6 @@ product (n ∷ ns) = n * product ns
 abbrev pub divides_all : List ℕ → ℕ → Bool
 divides_all ns h = list_all (λ n. nat_eq (h % n) 0) ns
 
--- the least common multiple: the least number from 1 on that each of them divides
+-- the least common multiple: the least number from 1 on that each of the numbers divides
 unfoldable pub least_common_multiple : List ℕ → ℕ
 least_common_multiple ns = first_from (product ns) 1 (divides_all ns)

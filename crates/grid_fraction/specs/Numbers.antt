@@ -30,12 +30,12 @@ abbrev pub greatest_below : ℕ → (ℕ → ℕ) → ℕ
 greatest_below zero f = 0
 greatest_below (suc n) f = max (greatest_below n f) (f n)
 
--- the first of the numbers from, from + 1, .. that passes the test, where it is among the first n of them; else from + n
+-- the first of from, from + 1, .. from + n - 1 that passes the test, else from + n
 abbrev pub first_from : ℕ → ℕ → (ℕ → Bool) → ℕ
 first_from zero from test = from
 first_from (suc n) from test = elim (test from) [ true ↦ from | false ↦ first_from n (suc from) test ]
 
--- the last number up to t that passes the test, and 0 where none does
+-- the last of the numbers 1 to t that passes the test, and 0 where none does
 abbrev pub last_up_to : ℕ → (ℕ → Bool) → ℕ
 last_up_to zero test = 0
 last_up_to (suc t) test = elim (test (suc t)) [ true ↦ suc t | false ↦ last_up_to t test ]

@@ -1,8 +1,9 @@
 //! Exact fractions, and whole numbers on a grid.
 //!
-//! Every call is its formula in whole numbers: nothing is rounded but where the name says so, no fraction is reduced,
+//! Every call is its formula in whole numbers: nothing is rounded unless the name says so, no fraction is reduced,
 //! no product wraps, and no call takes memory.
-//! Callers may rely on each result as an equation with the definitions of `specs/`, under the conditions that a call names.
+//! Callers may rely on each result as an equation with the definitions of `specs/`, under the conditions that a call
+//! names.
 #![tactic(auto)]
 
 ghost use Rattle.std.specs.Prelude.{◌≡◌, ◌+◌, ◌*◌, ◌/◌, ◌^◌, ◌<◌, ◌≤◌, [], ◌∷◌, IfSome, IfNone};
@@ -11,7 +12,7 @@ ghost use Rattle.std.specs.Int.{IsGcd};
 ghost use Rattle.grid_fraction.specs.Numbers.{ceil_div};
 ghost use Rattle.grid_fraction.specs.Fraction as fraction;
 
-/// A fraction `num/den`, kept as it stands and never reduced.
+/// A fraction `num/den`, kept as given and never reduced.
 #[derive(Clone, Copy, Debug, PartialEq, Eq)]
 pub struct Frac {
     pub num: u128,

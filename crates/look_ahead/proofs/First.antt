@@ -1,4 +1,4 @@
--- The first task in order has the least key.
+-- The first task in EDF order has the least key.
 use Rattle.std.proofs.Common.{◌≡◌, ℕ, ◌<◌, ◌≤◌, List, [], ◌∷◌, ◌++◌, get_or, arith, sym, subst}
 use Rattle.grid_fraction.specs.Numbers.{least_below}
 use Rattle.grid_fraction.proofs.Least.{least-above, least-below}

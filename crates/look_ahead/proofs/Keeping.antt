@@ -1,4 +1,4 @@
--- What is kept, call by call.
+-- What each call makes of the kept counters.
 use Rattle.std.proofs.Common.{◌≡◌, ◌≢◌, ℕ, zero, suc, ◌+◌, ◌-◌, ◌<◌, false, List, [], ◌∷◌, ◌++◌, length, get_or, drop}
 use Rattle.std.proofs.Common.{true, refl, sym, subst, ◌∙◌, ap, arith, add-one, get_or-set_same, get_or-set_other}
 use Rattle.std.specs.Prelude.{map, slice_set}
@@ -23,13 +23,13 @@ use Rattle.look_ahead.proofs.Moving.{moved_back, moved_back-in_order}
 abbrev due_of : Row → ℕ
 due_of row = row.deadline
 
--- a row that was read
+-- a row that was read from the state is the row of its task
 pub row_read : (s inside : StateOf) (i : ℕ) (row : Row) → inside ≡ s → i < length s.rows
     → row ≡ get_or inside.rows i row → row ≡ row_at s i
 row_read s inside i row same lt read =
     get_or_read s.rows i row lt (subst (λ (v : StateOf). row ≡ get_or v.rows i row) same read) no_row
 
--- a remainder
+-- a kept remainder is what the task's job may still need
 pub left_at : (plan : Plan) (s : StateOf) (left order : List ℕ) → Keeps left order plan s → (i : ℕ)
     → get_or left i 0 ≡ wleft_at s i
 left_at plan s left order keeps i =
@@ -42,7 +42,7 @@ module _ (plan : Plan) (s : StateOf) (left order : List ℕ) (keeps : Keeps left
       ap (λ (xs : List ℕ). length xs) keeps.left_is ∙ length-map s.rows row_wleft in
       get_or_read left i w (omega (arith, long)) read 0
 
-  -- the row of task i is written
+  -- the state with a new row for task i
   abbrev written : Row → StateOf
   written row = record s { rows = slice_set s.rows i row }
 
@@ -51,7 +51,7 @@ module _ (plan : Plan) (s : StateOf) (left order : List ℕ) (keeps : Keeps left
       ap (λ (xs : List ℕ). slice_set xs i w) keeps.left_is
       ∙ (ap (slice_set (map row_wleft s.rows) i) is ∙ sym (map-set row_wleft s.rows i row))
 
-  -- with the deadline that it had
+  -- a new row with the same deadline changes no deadline
   due-kept : (row : Row) → row.deadline ≡ deadline_at s i → (k : ℕ) → deadline_at (written row) k ≡ deadline_at s k
   due-kept row same k =
       sym (get_or-map due_of (slice_set s.rows i row) k no_row)
@@ -67,11 +67,11 @@ module _ (plan : Plan) (s : StateOf) (left order : List ℕ) (keeps : Keeps left
         ∙ in_order-same (deadline_at s) (deadline_at (written row)) (count plan) (λ k lt. sym (due-kept row same k));
   }
 
-  -- a completion leaves nothing
+  -- after a completion nothing is left of the task's work
   pub keeps-finished : Keeps (slice_set left i 0) order plan (after_finish s i)
   keeps-finished = keeps-set (record (row_at s i) { done = true }) 0 refl refl
 
-  -- a run takes its units off
+  -- `State::run` takes its units from what is left of the task's work
   pub keeps-ran : (units w : ℕ) → (row_at s i).done ≡ false → w ≡ get_or left i 0
       → Keeps (slice_set left i (w - units)) order plan (after_run s i units)
   keeps-ran units w still read =
@@ -81,7 +81,7 @@ module _ (plan : Plan) (s : StateOf) (left order : List ℕ) (keeps : Keeps left
       let now : row_wleft row ≡ (row_at s i).worst - ((row_at s i).used + units) = rw still refl in
       keeps-set row (w - units) refl (omega (arith, was, now))
 
-  -- and a release brings the whole worst case, with the task in its place
+  -- after a release the task's whole worst case is left, and the task has its place in the order
   pub keeps-released : (w : ℕ) (order' : List ℕ) → w ≡ (row_at s i).worst
       → order' ≡ edf_order plan (after_release plan s i)
       → Keeps (slice_set left i w) order' plan (after_release plan s i)
@@ -91,7 +91,7 @@ module _ (plan : Plan) (s : StateOf) (left order : List ℕ) (keeps : Keeps left
     order_is = is;
   }
 
--- the released task is due a period later, and no other deadline changes
+-- after a release the released task is due a period later, and no other deadline changes
 module _ (plan : Plan) (s : StateOf) (i : ℕ) (can : CanRelease plan s i) where
   pub due-released : deadline_at (after_release plan s i) i ≡ deadline_at s i + period plan i
   due-released =
@@ -101,7 +101,7 @@ module _ (plan : Plan) (s : StateOf) (i : ℕ) (can : CanRelease plan s i) where
   due-other j ne =
       ap due_of (get_or-set_other s.rows i j (released_row (period plan i) (row_at s i)) no_row ne)
 
-  -- so it goes back to its place
+  -- after a release the task is moved back to its place in EDF order
   pub order-released : (due : ℕ) (old : List ℕ) → due ≡ deadline_at s i + period plan i → old ≡ edf_order plan s
       → moved_back (stands_before_due (deadline_at s) i due) i (get_or old 0 0) (drop 1 old)
       ≡ edf_order plan (after_release plan s i)
@@ -117,7 +117,7 @@ zeros (suc n) =
     ap (λ (xs : List ℕ). xs ++ 0 ∷ []) (zeros n)
     ∙ (replicate_more n 0 ∙ ap (λ (m : ℕ). replicate m 0) (add-one n))
 
--- before the first release nothing is left, and the tasks stand by their offsets
+-- before the first release nothing is left, and the tasks are in the order of their offsets
 pub order-opening : (plan : Plan) → in_order (offset plan) (count plan) ≡ edf_order plan (opening plan)
 order-opening plan =
     in_order-same (offset plan) (deadline_at (opening plan)) (count plan)

@@ -31,7 +31,7 @@ insert-no : (key : ℕ → ℕ) (i x : ℕ) (xs : List ℕ) → stands_before ke
     → insert_by key i (x ∷ xs) ≡ x ∷ insert_by key i xs
 insert-no key i x xs p = rw p refl
 
--- the order in which two are inserted doesn't matter
+-- two insertions give the same list in either order
 module _ (key : ℕ → ℕ) (i j : ℕ) (apart : i ≢ j) where
   insert-two : (x : ℕ) (xs : List ℕ) → insert_by key i (insert_by key j xs) ≡ insert_by key j (insert_by key i xs)
       → insert_by key i (insert_by key j (x ∷ xs)) ≡ insert_by key j (insert_by key i (x ∷ xs))
@@ -83,7 +83,7 @@ module _ (key : ℕ → ℕ) (i j : ℕ) (apart : i ≢ j) where
           insert-no key i j [] r ∙ sym (insert-yes key j i [] s)
   insert-swap (x ∷ xs) = insert-two x xs (insert-swap xs)
 
--- each of them has another number
+-- each number of the list is another one than i
 abbrev AreOthers : ℕ → List ℕ → Type 0
 AreOthers i [] = Unit {0}
 AreOthers i (x ∷ xs) = (x ≢ i) × AreOthers i xs
@@ -106,15 +106,15 @@ not-eq x i ne = grind (arith, nat_tests)
 
 -- the key of task i grows, and no other changes
 module _ (key key' : ℕ → ℕ) (i : ℕ) (same : (j : ℕ) → j ≢ i → key' j ≡ key j) (later : key i ≤ key' i) where
-  -- two other tasks stand as before
+  -- two other tasks keep their order
   before-others : (j k : ℕ) → j ≢ i → k ≢ i → stands_before key' j k ≡ stands_before key j k
   before-others j k nj nk = ap₂ (λ (x y : ℕ). nat_lt x y || (nat_eq x y && nat_lt j k)) (same j nj) (same k nk)
 
-  -- a task that isn't after task i stands before it now
+  -- a task that wasn't after task i still isn't
   before-later : (j : ℕ) → j ≢ i → stands_before key i j ≡ false → stands_before key' i j ≡ false
   before-later j ne h = let e = same j ne in grind (arith, nat_tests)
 
-  -- a task inserted before task i comes first among those behind it
+  -- a task that came before task i, inserted into the tasks after task i, comes first
   insert-front : (n : ℕ) → n ≢ i → stands_before key n i ≡ true → (xs : List ℕ) → IsAhead key i xs
       → insert_by key' n xs ≡ n ∷ xs
   insert-front n ne h [] a = refl
@@ -129,7 +129,7 @@ module _ (key key' : ℕ → ℕ) (i : ℕ) (same : (j : ℕ) → j ≢ i → ke
       ap₂ (λ (c : Bool) (zs : List ℕ). if c then n ∷ y ∷ ys else y ∷ zs)
       (sym (before-others n y ne o.0)) (insert-others n ne ys o.1)
 
-  -- the task itself, where it was inserted
+  -- task i, inserted by the old key and then inserted again, is where the new key puts it
   reinserted-own : (xs : List ℕ) → AreOthers i xs → reinserted key' i (insert_by key i xs) ≡ insert_by key' i xs
   reinserted-own [] o = let self : nat_eq i i ≡ true = grind (arith, nat_tests) in rw self refl
   reinserted-own (x ∷ xs) o = go (stands_before key i x) refl (reinserted-own xs o.1)
@@ -139,7 +139,7 @@ module _ (key key' : ℕ → ℕ) (i : ℕ) (same : (j : ℕ) → j ≢ i → ke
       go true p ih = let self : nat_eq i i ≡ true = grind (arith, nat_tests) in rw self refl
       go false p ih = rw (not-eq x i o.0, before-later x o.0 p) (ap (λ (ys : List ℕ). x ∷ ys) ih)
 
-  -- another task that was inserted
+  -- another task can be inserted before task i is inserted again, or after it
   reinserted-other : (n : ℕ) → n ≢ i → (xs : List ℕ) → IsOrdered key xs
       → reinserted key' i (insert_by key n xs) ≡ insert_by key' n (reinserted key' i xs)
   reinserted-other n ne [] o = rw (not-eq n i ne) refl
@@ -194,7 +194,7 @@ module _ (key key' : ℕ → ℕ) (i : ℕ) (same : (j : ℕ) → j ≢ i → ke
       go (inr l) ih =
           reinserted-other n (λ q. omega arith) (in_order key n) (in_order-ordered key n) ∙ ap (insert_by key' n) (ih l)
 
-  -- where task i isn't, nothing moves
+  -- where task i isn't in the list, nothing moves
   moved_back-none : (x : ℕ) (xs : List ℕ) → x ≢ i → AreOthers i xs
       → moved_back (stands_before_due key i (key' i)) i x xs ≡ x ∷ xs
   moved_back-none x [] ne o = refl
@@ -203,7 +203,7 @@ module _ (key key' : ℕ → ℕ) (i : ℕ) (same : (j : ℕ) → j ≢ i → ke
   test-is : (j : ℕ) → j ≢ i → stands_before_due key i (key' i) j ≡ stands_before key' j i
   test-is j ne = ap (λ (x : ℕ). nat_lt x (key' i) || (nat_eq x (key' i) && nat_lt j i)) (sym (same j ne))
 
-  -- task i goes to its place among those behind it
+  -- task i, at the front, goes to its place among the tasks behind it
   moved_back-own : (xs : List ℕ) → AreOthers i xs
       → moved_back (stands_before_due key i (key' i)) i i xs ≡ insert_by key' i xs
   moved_back-own [] o = refl
@@ -244,7 +244,7 @@ module _ (key key' : ℕ → ℕ) (i : ℕ) (same : (j : ℕ) → j ≢ i → ke
           (moved_back-own (y ∷ ys) (others-ahead key i (y ∷ ys) a) ∙ sym own)
       go false p ih = rw p (ap (λ (zs : List ℕ). x ∷ zs) ih)
 
-  -- so task i goes to its place among all
+  -- task i goes to its place among all tasks
   pub moved_back-in_order : (n : ℕ) (old : List ℕ) → i < n → old ≡ in_order key n
       → moved_back (stands_before_due key i (key' i)) i (get_or old 0 0) (drop 1 old) ≡ in_order key' n
   moved_back-in_order n old lt e =

@@ -1,4 +1,4 @@
--- The loop that moves a task back in a list, in place.
+-- The loop that moves a task back in a list.
 use Rattle.std.proofs.Common.{◌≡◌, ◌≢◌, ℕ, ◌+◌, ◌<◌, Bool, true, false, List, [], ◌∷◌, ◌++◌, length, get_or, take, drop}
 use Rattle.std.proofs.Common.{refl, sym, ◌∙◌, ap, ap₂, arith, append_assoc, nat_eq, get_or-set_same, length-set}
 use Rattle.std.specs.Prelude.{slice_set, ◌&&◌}
@@ -7,7 +7,7 @@ use Rattle.std.proofs.lemmas.Bool.Decides.{nat_tests}
 use Rattle.std.proofs.lemmas.List.{append-nil, drop_more, drop-set-lt, take-set, take_all, take_more, take_more_set}
 use Rattle.look_ahead.proofs.Moving.{moved_back}
 
--- the first k are in place, and the one that may go back stands next
+-- the first k numbers are in place, and the one that may go back is next
 pub record Passing (test : ℕ → Bool) (i : ℕ) (old order : List ℕ) (k : ℕ) : Type 0 where
   pub long : length order ≡ length old
   pub made : moved_back test i (get_or old 0 0) (drop 1 old)
@@ -60,18 +60,18 @@ module _ (test : ℕ → Bool) (i : ℕ) (old order : List ℕ) (k : ℕ)
             ∙ ap₂ (λ (x : ℕ) (ds : List ℕ). take (k + 1) order' ++ moved_back test i x ds) (sym at) (sym back))));
       }
 
--- another task doesn't go back
+-- a number other than i doesn't go back
 pub stays_other : (x i : ℕ) (b : Bool) → x ≢ i → (nat_eq x i && b) ≡ false
 stays_other x i b ne = let other : nat_eq x i ≡ false = grind (arith, nat_tests) in rw other refl
 
--- a slice that was lent and written, in its vector
+-- a vector whose whole slice was lent and written has the written items
 pub written_back : (len : ℕ) (old new : List ℕ) → len ≡ length old → length new ≡ length old
     → take len (new ++ drop (length new) old) ≡ new
 written_back len old new long same =
     let none : drop (length new) old ≡ [] = drop_of_length-le old (omega arith) in
     rw none (rw append-nil (take_all len new (omega arith)))
 
--- at the last place all are in place
+-- when the loop reaches the last place, all numbers are in place
 pub passing_end : (test : ℕ → Bool) (i : ℕ) (old order : List ℕ) (k : ℕ) → k + 1 ≡ length order
     → Passing test i old order k → order ≡ moved_back test i (get_or old 0 0) (drop 1 old)
 passing_end test i old order k last was =

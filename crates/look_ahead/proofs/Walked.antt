@@ -1,4 +1,4 @@
--- The walk from the last task to the first gives the demand.
+-- The walk from the last task to the first computes the demand.
 use Rattle.std.proofs.Common.{◌≡◌, inl, inr, ℕ, ◌+◌, ◌-◌, ◌*◌, min, true, false, List, [], ◌∷◌, ◌++◌, refl, ◌∙◌, ap}
 use Rattle.std.proofs.Common.{arith, append_assoc}
 use Rattle.std.specs.Prelude.{◌/◌, nat_eq}
@@ -13,7 +13,7 @@ use Rattle.look_ahead_laws.specs.Ahead.{deadline_at, edf_order}
 use Rattle.look_ahead_laws.proofs.Spreading.{before_is}
 use Rattle.look_ahead.specs.Walk.{not_put_off, next_rates, next_first}
 
--- one task of the walk, over plain numbers
+-- what a step of the walk puts off, over plain numbers
 put_is : (u w l h most pre after : ℕ)
     → w - (w - (most - ((pre + u + after) - u)) * l / h) ≡ min w ((most - pre - after) * l / h)
 put_is u w l h most pre after =
@@ -45,7 +45,7 @@ module _ (plan : Plan) (s : StateOf) where
   abbrev soon : ℕ → ℕ → ℕ
   soon i rates = not_put_off plan i (left i) (late i) rates
 
-  -- the running sums with the tasks of xs done, and those of l to come
+  -- the sums of the walk, with the tasks of xs done and those of l still to come
   pub record Walked (l xs : List ℕ) (rates first : ℕ) : Type 0 where
     pub order : edf_order plan s ≡ l ++ xs
     pub rates_are : rates ≡ sum_list (rate plan) l + spread_rates plan due left xs

@@ -30,11 +30,11 @@ module _ (plan : Plan) (s : StateOf) where
   order_long : length (edf_order plan s) ≡ count plan
   order_long = length-in_order (deadline_at s) (count plan)
 
-  -- the list has each task once, so few
+  -- the order has each task once
   pub tasks_long : (order : List ℕ) → order ≡ edf_order plan s → length order ≡ count plan
   tasks_long order is = ap (λ (xs : List ℕ). length xs) is ∙ order_long
 
-  -- the task at a place
+  -- the task at place k of the order
   abbrev pub turn : ℕ → ℕ
   turn k = get_or (edf_order plan s) k 0
 
@@ -42,13 +42,13 @@ module _ (plan : Plan) (s : StateOf) where
   turn_below k lt =
       below-at (count plan) (edf_order plan s) k (in_order-below (deadline_at s) (count plan)) (rw order_long lt)
 
-  -- where it was read
+  -- a task that was read from the order is the one at its place
   turn_read : (order : List ℕ) → order ≡ edf_order plan s → (k i : ℕ) → k < length order
       → i ≡ get_or order k i → i ≡ turn k
   turn_read order is k i lt read =
       get_or_read order k i lt read 0 ∙ ap (λ (xs : List ℕ). get_or xs k 0) is
 
-  -- the first task is due first
+  -- the order has a first task
   pub some_first : IsWithinLimits plan → (order : List ℕ) → order ≡ edf_order plan s → 0 < length order
   some_first lim order is = omega (arith, tasks_long order is, some_task plan lim)
 
@@ -63,7 +63,7 @@ module _ (plan : Plan) (s : StateOf) where
     pub first_due : deadline_at s i ≡ earliest_in plan s
     first_due = ap (deadline_at s) first_turn ∙ first-in_order (deadline_at s) (count plan) (some_task plan lim)
 
-  -- what a job may need is low
+  -- what a job may still need is at most 2^61
   pub left_low : IsWithinLimits plan → IsOfPlan plan s → (i : ℕ) → i < count plan → wleft_at s i ≤ 2 ^ 61
   left_low lim of i lt =
       let row = row_at s i in
@@ -82,7 +82,7 @@ module _ (plan : Plan) (s : StateOf) where
       first_by (nat_eq late 0) first (wleft_at s i) room in
       omega (arith, by, left_low lim of i lt)
 
-  -- all tasks but the first k are done
+  -- the walk has done all tasks but the first k
   abbrev pub Done : ℕ → ℕ → ℕ → Type 0
   Done k rates first = Walked plan s (take k (edf_order plan s)) (drop k (edf_order plan s)) rates first
 
@@ -98,7 +98,7 @@ module _ (plan : Plan) (s : StateOf) where
       })
 
   module _ (k rates first : ℕ) (lt : k < count plan) (was : Done (k + 1) rates first) where
-    -- the tasks still to come end with the one in turn
+    -- the task at place k is the last one still to come
     in_turn : Walked plan s (take k (edf_order plan s) ++ turn k ∷ []) (drop (k + 1) (edf_order plan s)) rates first
     in_turn =
         subst (λ (l : List ℕ). Walked plan s l (drop (k + 1) (edf_order plan s)) rates first)
@@ -112,11 +112,11 @@ module _ (plan : Plan) (s : StateOf) where
         let rest = drop (k + 1) (edf_order plan s) in
         rw less (walked_step plan s (take k (edf_order plan s)) rest (turn k) rates first in_turn)
 
-    -- the task's own rate is in the sum
+    -- the rate of the task in turn is a part of the sum of the rates
     pub has_rate : rate plan (turn k) ≤ rates
     has_rate = omega (arith, sum_list-snoc (rate plan) (take k (edf_order plan s)) (turn k), in_turn.rates_are)
 
-    -- the sum is within what the highest speed has
+    -- the sum of the rates is within what the highest speed does in a hyperperiod
     pub rates_low : IsAdmitted plan → ServesEdf plan.scheduler → rates ≤ top_speed plan * hyper plan
     rates_low adm serves =
         let l = take (k + 1) (edf_order plan s) in
@@ -127,7 +127,7 @@ module _ (plan : Plan) (s : StateOf) where
         let within = rate_within plan (deadline_at s) (wleft_at s) l xs was.order (some_hyper plan adm.limits) in
         rw was.rates_are (within (omega (arith, whole, fits)))
 
-  -- the task of a step, read from the list, where the last task to come is the n-th
+  -- the task of a step is the one at place n - 1, read from the order
   module _ (order : List ℕ) (is : order ≡ edf_order plan s) (n i : ℕ)
       (some : 0 < n) (low : n ≤ length order) (read : i ≡ get_or order (n - 1) i) where
     place_low : n - 1 < count plan

@@ -1,16 +1,17 @@
--- What look-ahead keeps from call to call.
+-- The counters of look-ahead.
 use Rattle.std.specs.Prelude.{◌≡◌, ℕ, ◌||◌, ◌&&◌, nat_eq, nat_lt, Bool, List, map}
 use Rattle.sched_model.specs.Plan.{Plan}
 use Rattle.sched_model.specs.States.{StateOf, row_wleft}
 use Rattle.governor.specs.Serving.{ServesEdf}
 use Rattle.look_ahead_laws.specs.Ahead.{edf_order}
 
--- what is kept is what each job may still need at most, and the tasks in EDF order; and the scheduler is EDF
+-- the counters are right for a state: the plan is under EDF, `left` is what each job may still need at most, and
+-- `order` is the tasks in EDF order
 pub record Keeps (left order : List ℕ) (plan : Plan) (s : StateOf) : Type 0 where
   pub served : ServesEdf plan.scheduler
   pub left_is : left ≡ map row_wleft s.rows
   pub order_is : order ≡ edf_order plan s
 
--- whether task j, with the deadlines `due`, stands before task i once that is due at tick d
+-- whether task j, with the deadlines `due`, comes before task i if that is due at tick d
 abbrev pub stands_before_due : (ℕ → ℕ) → ℕ → ℕ → ℕ → Bool
 stands_before_due due i d j = nat_lt (due j) d || (nat_eq (due j) d && nat_lt j i)

@@ -17,8 +17,8 @@ use governor::{Choice, Governor, Publishing, chosen};
 use sched_model::{Admitted, State};
 use std::alloc::Global;
 
-/// The governor of look-ahead EDF: the lowest speed at which what can't be put off past the earliest deadline is done
-/// by then (Pillai and Shin 2001).
+/// The governor of look-ahead EDF: the lowest speed that does by the earliest deadline what can't be put off past it
+/// (Pillai and Shin 2001).
 #[derive(Drop)]
 pub struct LookAhead {
     pub(crate) left: Vec<u64>,
@@ -26,7 +26,7 @@ pub struct LookAhead {
 }
 
 impl LookAhead {
-    /// The governor for a plan under EDF, before the first release. It fails only where memory runs out.
+    /// The governor for a plan under EDF, before the first release. The only error is `NoMemory`.
     pub fn new(alloc: Global, plan: &Admitted) -> Result<LookAhead, NoMemory>
         requires { ServesEdf plan.now.scheduler }
         ensures stands { IfOk result (λ g. ⟦<LookAhead as Governor>⟧.stands g plan.now (opening plan.now)) }
@@ -77,10 +77,10 @@ impl Governor for LookAhead {
 
     fn settled(&mut self, _plan: &Admitted, _view: &State) {}
 
-    /// Each choice rests on rates that fit. There are, for each task, the work units that are put off past the earliest
-    /// deadline and the rate that they then need, by formulas over all tasks at once. Whichever they are, the demand is
-    /// the sum of what is not put off, and the rate of each task, with those of the tasks after it and before it, is
-    /// within what the highest speed does in a hyperperiod.
+    /// The published demand, and the lowest entry that meets it, else the highest. By equations over all tasks at
+    /// once, each task puts off some work units past the earliest deadline, at a rate that they then need. For each
+    /// solution the demand is the sum of what is not put off, and the rate of each task, with those of the tasks
+    /// after it and before it, is within what the highest speed does in a hyperperiod.
     fn choose(&self, plan: &Admitted, view: &State) -> Choice
         requires of { IsOfPlan plan.now view.now }
         requires counters { Keeps self.now.left.items self.now.order.items plan.now view.now }

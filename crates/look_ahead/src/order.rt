@@ -23,7 +23,7 @@ fn offsets_of(alloc: Global, plan: &Admitted) -> Result<Vec<(u64, u32)>, NoMemor
     Ok(offsets)
 }
 
-// The numbers of the tasks.
+// The task numbers of the pairs, in their order.
 fn tasks_of(alloc: Global, offsets: &[(u64, u32)]) -> Result<Vec<u32>, NoMemory>
     ensures { IfOk result (λ v. v.items ≡ map (λ k. k.1) offsets.now) }
 {
@@ -43,7 +43,7 @@ pub(crate) fn opening_order(alloc: Global, plan: &Admitted) -> Result<Vec<u32>, 
     tasks_of(alloc, &offsets)
 }
 
-// The deadline of a task's latest job, and 0 where there is no such task.
+// The deadline of a task's latest job; 0 where the task has no row.
 fn deadline_of(view: &State, task: u32) -> u64
     ensures { result ≡ deadline_at view.entry.now task }
 {
@@ -53,7 +53,7 @@ fn deadline_of(view: &State, task: u32) -> u64
     }
 }
 
-// Whether a task stands before another one that is due at such a tick.
+// Whether `task` comes before `other` in EDF order if `other` is due at tick `due`.
 fn stands_before_due(view: &State, task: u32, other: u32, due: u64) -> bool
     ensures { result ≡ stands_before_due (deadline_at view.entry.now) other due task }
 {
@@ -61,7 +61,7 @@ fn stands_before_due(view: &State, task: u32, other: u32, due: u64) -> bool
     deadline < due || (deadline == due && task < other)
 }
 
-// Moves a task whose next job is released to its place in EDF order.
+// Moves the task whose next job is released to its place in EDF order.
 pub(crate) fn move_to_place(order: &mut [u32], plan: &Admitted, view: &State, task: u32)
     requires can { CanRelease plan.now view.now task }
     requires order { order.old ≡ edf_order plan.now view.now }

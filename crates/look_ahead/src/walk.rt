@@ -14,15 +14,15 @@ use crate::LookAhead;
 use grid_fraction::{Frac, mul_down, up};
 use sched_model::{Admitted, State};
 
-// Of one task, or of the walk so far: rates in work units per hyperperiod, and the work units that have to run before
-// the earliest deadline.
+// The sums of one task or of the walk so far: the rates in work units per hyperperiod, and the work units that have
+// to run before the earliest deadline.
 #[derive(Clone, Copy)]
 struct Totals {
     rates: u128,
     first: u128,
 }
 
-// A task's latest job: the work units that it may still need, and how many ticks after the earliest deadline it is due.
+// A task's latest job: the work units that it may still need, and the ticks from the earliest deadline to its own.
 #[derive(Clone, Copy)]
 struct Pending {
     task: u32,
@@ -30,7 +30,7 @@ struct Pending {
     slack: u64,
 }
 
-// Of a job that may need so many units and is due `slack` ticks after the earliest deadline: the units that can't be
+// For a job that may need `left` units and is due `slack` ticks after the earliest deadline: the units that can't be
 // put off, and the rate of the others, where the highest speed has `spare` to give.
 fn spread(spare: u128, left: u64, slack: u64, hyper: u64) -> Totals
     requires some { 0 < slack }
@@ -58,7 +58,7 @@ fn spread(spare: u128, left: u64, slack: u64, hyper: u64) -> Totals
     Totals { rates, first }
 }
 
-// One task of the walk.
+// The sums of the walk after one more task.
 fn step(plan: &Admitted, job: Pending, totals: Totals) -> Totals
     requires task { job.task < count plan.now }
     requires soon { job.slack ≤ LONGEST_PERIOD }
@@ -86,7 +86,7 @@ fn step(plan: &Admitted, job: Pending, totals: Totals) -> Totals
 }
 
 impl LookAhead {
-    // The earliest deadline, which is that of the first task in EDF order.
+    // The earliest deadline in ticks: that of the first task in EDF order.
     fn earliest_deadline(&self, plan: &Admitted, view: &State) -> u64
         requires of { IsOfPlan plan.now view.now }
         requires counters { Keeps self.now.left.items self.now.order.items plan.now view.now }

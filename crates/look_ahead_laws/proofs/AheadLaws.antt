@@ -40,7 +40,7 @@ last_picked m table d over =
     lt-leb d.num (speed_at m j * d.den) (omega (arith, low, over)))))
 
 module _ (plan : Plan) (s : StateOf) where
-  -- the rates of all tasks fit at the highest speed
+  -- the sum of all rates is the sum over the tasks in EDF order
   pub total_is : total_rate plan ≡ sum_list (rate plan) (edf_order plan s)
   total_is = sym (sum_list-in_order (rate plan) (deadline_at s) (count plan))
 
@@ -48,7 +48,7 @@ module _ (plan : Plan) (s : StateOf) where
       → sum_list (rate plan) (edf_order plan s) ≤ top_speed plan * hyper plan
   rates_fit adm serves = let fits = (full_enough plan adm).edf serves in omega (arith, total_is, fits)
 
-  -- each task's rate, with the rates of the tasks before it and the spread rates of those after it, does too
+  -- the rate of a task, the rates before it and the spread rates after it fit together at the highest speed
   pub each_rate : IsAdmitted plan → ServesEdf plan.scheduler → (before later : List ℕ) (i : ℕ)
       → edf_order plan s ≡ before ++ i ∷ later
       → sum_before (count plan) (deadline_at s) (rate plan) i
@@ -68,7 +68,7 @@ module _ (plan : Plan) (s : StateOf) where
       load_is plan s d
       ∙ sym (sum_list-in_order (due_work plan (deadline_at s) (wleft_at s) d) (deadline_at s) (count plan))
 
-  -- a speed that meets the demand is safe
+  -- an entry whose speed meets the demand is safe
   meets_safe : (k : ℕ) → IsAdmitted plan → ServesEdf plan.scheduler → k < length plan.machine.points
       → (ahead_demand plan s).num ≤ speed_at plan.machine k * (earliest_in plan s - s.now) → AheadSafe plan s k
   meets_safe k adm serves lt met = record {
@@ -97,7 +97,7 @@ module _ (plan : Plan) (s : StateOf) where
             meets_safe k adm serves (lowest_within plan.machine d adm.limits.machine.some) met
       ]
 
-  -- the next deadline is ahead, and near
+  -- the time to the earliest deadline is positive and fits in 64 bits
   pub ahead_den : IsAdmitted plan → IsAtDecision plan s
       → (0 < (ahead_demand plan s).den) × ((ahead_demand plan s).den ≤ 2 ^ 64)
   ahead_den adm dec =

@@ -1,4 +1,4 @@
--- Sums over the tasks that stand after one of them.
+-- Sums over the tasks that come after one of them.
 use Rattle.std.proofs.Common.{◌≡◌, ℕ, ◌≤◌, true, List, [], ◌∷◌, ◌++◌, refl, arith, if◌then◌else◌, ap, ◌∙◌, sym, subst}
 use Rattle.std.proofs.lemmas.Bool.Decides.{nat_tests}
 use Rattle.sched_model.specs.Priority.{stands_before}
@@ -8,11 +8,11 @@ use Rattle.sched_model.proofs.OrderLemmas.{sum_list, IsAhead, IsOrdered, first_a
 use Rattle.sched_model.proofs.OrderLemmas.{in_order-ordered}
 use Rattle.sched_model.specs.AheadDemand.{sum_after}
 
--- the keys rise along the order
+-- a task has a key at least that of each task before it
 pub key_rises : (key : ℕ → ℕ) (i j : ℕ) → stands_before key i j ≡ true → key i ≤ key j
 key_rises key i j h = grind (arith, nat_tests)
 
--- of an ordered list, the sum over what stands after i is the sum over its last part
+-- in an ordered list, the sum over the numbers that come after i is the sum over the part after i
 all_after : (key f : ℕ → ℕ) (i : ℕ) (js : List ℕ) → IsAhead key i js
     → sum_list (λ k. if stands_before key i k then f k else 0) js ≡ sum_list f js
 all_after key f i [] a = refl

@@ -1,4 +1,4 @@
--- Demands of states, by evaluation.
+-- Demands in states, by evaluation.
 use Rattle.std.proofs.Common.{◌≡◌, ℕ, Bool, true, false, List, [], ◌∷◌, codes, refl}
 use Rattle.dvs_base.specs.declared.kind.Scheduler.TheVariants.{Edf}
 use Rattle.grid_fraction.specs.declared.Frac.{Frac}

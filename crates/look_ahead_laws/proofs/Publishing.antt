@@ -1,4 +1,4 @@
--- The published demand of look-ahead is that of the state.
+-- On each schedule the published demand of look-ahead is the governor's own.
 use Rattle.std.proofs.Common.{◌≡◌, ℕ, ◌+◌, ◌-◌, ◌<◌, List, [], ◌∷◌, length, refl, sym, ◌∙◌, ap, ap₂, subst}
 use Rattle.dvs_base.specs.declared.kind.Scheduler.{Scheduler}
 use Rattle.dvs_base.specs.declared.kind.GovernorKind.TheVariants.{Ahead}
@@ -51,7 +51,7 @@ module _ (p : Plan) (due due' left left' : ℕ → ℕ) (same : (i : ℕ) → i 
       (ap₂ (λ a c. a - c) (same_left i b.0) (put_same (spread_rates p due left is) (spread_rates p due' left' is) i b.0 (rates_same is b.1)))
       (due_first-same is b.1)
 
-  -- the formula reads the tasks alone
+  -- the demand is a function of the tasks' deadlines and needs alone
   ahead_of-same : (t : ℕ) → ahead_of p due left t ≡ ahead_of p due' left' t
   ahead_of-same t =
       ap₂ (λ (n d : ℕ). record { num = n; den = d })
@@ -59,7 +59,7 @@ module _ (p : Plan) (due due' left left' : ℕ → ℕ) (same : (i : ℕ) → i 
       (ap (λ a. a - t) first_same)
 
 module _ (p : Plan) (dem : JobDemands) (past : List Tick) where
-  -- after any ticks the definition's demand is that of the state
+  -- after any list of ticks the definition's demand is the demand of the state
   ahead-is : edf_ahead p dem past ≡ ahead_demand p (state_of p dem past)
   ahead-is =
       ahead_of-same p (λ i. deadline p i (length past)) (deadline_at (state_of p dem past)) (wleft p dem past) (wleft_at (state_of p dem past))
@@ -67,7 +67,7 @@ module _ (p : Plan) (dem : JobDemands) (past : List Tick) where
       (λ i lt. sym (ap row_wleft (row_at-state_of p dem past i lt)))
       (length past)
 
--- after any ticks, whatever the demands of the jobs
+-- after any list of ticks, for all demands of the jobs, the published demand is the demand of the state
 pub published-ahead : (p : Plan) → ServesEdf p.scheduler → (dem : JobDemands) (past : List Tick)
     → published p Ahead dem past ≡ ahead_demand p (state_of p dem past)
 unfolding published

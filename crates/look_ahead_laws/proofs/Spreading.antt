@@ -1,4 +1,4 @@
--- What is put off fits in the time after the earliest deadline: the rates stay within the highest speed, and are enough.
+-- What is put off fits into the time after the earliest deadline: its rates suffice, and the highest speed has room.
 use Rattle.std.proofs.Common.{◌≡◌, inl, inr, ℕ, zero, suc, ◌+◌, ◌-◌, ◌*◌, ◌<◌, ◌≤◌, min, Bool, true, false, List, []}
 use Rattle.std.proofs.Common.{◌∷◌, ◌++◌, refl, sym, ◌∙◌, ap, arith, append_assoc}
 use Rattle.std.specs.Prelude.{◌/◌, ◌%◌, nat_eq, nat_le, if◌then◌else◌}
@@ -14,16 +14,16 @@ use Rattle.sched_model.proofs.OrderLemmas.{sum_list, IsAhead, IsOrdered, AreBelo
 use Rattle.sched_model.proofs.OrderLemmas.{sum_list-snoc}
 use Rattle.look_ahead_laws.proofs.EdfOrder.{key_rises}
 
--- ONE TASK, over plain numbers: y is put off, v is its rate
+-- ONE TASK, over plain numbers: y is put off, and v is its rate
 
--- a whole part y of g * l / h, spread over l with its rate rounded up, keeps within g
+-- y units, at most g * l / h rounded down, need over l ticks a rate of at most g, rounded up
 pub spread_within : (g l h y : ℕ) → 0 < h → 0 < l → y ≤ g * l / h → (y * h + (l - 1)) / l ≤ g
 spread_within g l h y ph pl le =
     let low : y * h ≤ g * l = le_trans (mul-le-mul_right h le) (div-mul-le_self (g * l) h) in
     let small : (y * h + (l - 1)) / l < g + 1 = div_below (y * h + (l - 1)) l (g + 1) pl (omega arith) in
     omega arith
 
--- and is enough for it
+-- the rate of y units over l ticks, rounded up, suffices for them
 spread_enough : (l h y : ℕ) → 0 < l → h * y ≤ (y * h + (l - 1)) / l * l
 spread_enough l h y pl =
     let n = y * h + (l - 1) in
@@ -34,7 +34,7 @@ spread_enough l h y pl =
 some_slack : (l : ℕ) → nat_eq l 0 ≡ false → 0 < l
 some_slack l h = omega (arith, eqb-false l 0 h)
 
--- the rates stay within what the highest speed has
+-- with the rate of one more task the rates are still within the highest speed
 step_within : (b : Bool) (u w l h pre after most : ℕ) → 0 < h → (b ≡ false → 0 < l) → pre + u + after ≤ most
     → pre + (if b then u else ((if b then 0 else min w ((most - pre - after) * l / h)) * h + (l - 1)) / l) + after ≤ most
 step_within true u w l h pre after most ph pl fits = fits
@@ -43,18 +43,18 @@ step_within false u w l h pre after most ph pl fits =
     let v = spread_within (most - pre - after) l h y ph (pl refl) (omega arith) in
     omega (arith, v)
 
--- no more is put off than there is
+-- a task puts off no more than it needs
 put_most : (b : Bool) (w g : ℕ) → (if b then 0 else min w g) ≤ w
 put_most true w g = omega arith
 put_most false w g = omega arith
 
--- and the rate is enough for it
+-- the rate of a task suffices for what it puts off
 put_fits : (b : Bool) (u w g l h : ℕ) → (b ≡ false → 0 < l)
     → h * (if b then 0 else min w g) ≤ (if b then u else ((if b then 0 else min w g) * h + (l - 1)) / l) * l
 put_fits true u w g l h pl = omega (arith, mul-zero h)
 put_fits false u w g l h pl = spread_enough l h (min w g) (pl refl)
 
--- a task's work due by d
+-- the work of one task due by d is run before the earliest deadline or done by its rates after it
 term_pays : (h a end d w y u v : ℕ) → a ≤ end → y ≤ w → h * y ≤ v * (end - a)
     → (if nat_le end d then h * w + u * (d - end) else 0) ≤ h * (w - y) + (v * min (d - a) (end - a) + u * ((d - a) - (end - a)))
 term_pays h a end d w y u v la le fits =
@@ -69,7 +69,7 @@ term_pays h a end d w y u v la le fits =
           rw (le-leb end d by, m, r) (omega (arith, whole))
     ]
 
--- what a task works off in one tick more
+-- one tick more adds a task's rate then in force to what it has worked off
 work_row : (v u l x : ℕ)
     → v * min (suc x) l + u * (suc x - l) ≡ (v * min x l + u * (x - l)) + (if nat_le l x then u else v)
 work_row v u l x =
@@ -90,19 +90,19 @@ work_row v u l x =
 -- THE TASKS IN ORDER
 
 module _ (plan : Plan) (due left : ℕ → ℕ) where
-  -- the rates in force x after the earliest deadline
+  -- the sum of the rates in force x ticks after the earliest deadline
   abbrev past_rate : ℕ → List ℕ → ℕ
   past_rate x [] = 0
   past_rate x (i ∷ later) =
       (if nat_le (slack plan due i) x then rate plan i else spread_rate plan due left (spread_rates plan due left later) i) + past_rate x later
 
-  -- what they work off by then
+  -- the work that the tasks of a list do in x ticks after the earliest deadline
   abbrev work : ℕ → List ℕ → ℕ
   work x [] = 0
   work x (i ∷ later) =
       (spread_rate plan due left (spread_rates plan due left later) i * min x (slack plan due i) + rate plan i * (x - slack plan due i)) + work x later
 
-  -- a task's work due by d, and its rate from its deadline on
+  -- the work of task i that is due by d, with its rate from its deadline on
   abbrev pub due_work : ℕ → ℕ → ℕ
   due_work d i = if nat_le (due i) d then hyper plan * left i + rate plan i * (d - due i) else 0
 
@@ -118,7 +118,7 @@ module _ (plan : Plan) (due left : ℕ → ℕ) where
   work_more x (i ∷ xs) =
       omega (arith, work_more x xs, work_row (spread_rate plan due left (spread_rates plan due left xs) i) (rate plan i) (slack plan due i) x)
 
-  -- the tasks after one whose slack is above x have their spread rates
+  -- where the slack of task i is above x, all tasks after it have their spread rates at x
   all_spread : (x i : ℕ) (xs : List ℕ) → x < slack plan due i → IsAhead due i xs
       → past_rate x xs ≡ spread_rates plan due left xs
   all_spread x i [] lt ahead = refl
@@ -127,7 +127,7 @@ module _ (plan : Plan) (due left : ℕ → ℕ) where
       let later : x < slack plan due j = omega arith in
       rw (lt-leb (slack plan due j) x later) (omega (arith, all_spread x i js lt ahead.1))
 
-  -- all that is due by d is run first or worked off after
+  -- the work due by d is run before the earliest deadline or worked off after it
   pub all_paid : (d : ℕ) (xs : List ℕ) → AreBelow (count plan) xs
       → sum_list (due_work d) xs ≤ hyper plan * due_first plan due left xs + work (d - first_due plan due) xs
   all_paid d [] below = omega arith
@@ -146,7 +146,7 @@ module _ (plan : Plan) (due left : ℕ → ℕ) where
       → sum_before (count plan) due (rate plan) i ≡ sum_list (rate plan) l
   before_is l xs i e = sum_before-prefix due (rate plan) (count plan) i l xs e
 
-  -- the rates of the first tasks and the spread rates of the others
+  -- the rates of the first tasks and the spread rates of the others fit together at the highest speed
   pub rate_within : (l xs : List ℕ) → in_order due (count plan) ≡ l ++ xs → 0 < hyper plan
       → sum_list (rate plan) l + sum_list (rate plan) xs ≤ top_speed plan * hyper plan
       → sum_list (rate plan) l + spread_rates plan due left xs ≤ top_speed plan * hyper plan

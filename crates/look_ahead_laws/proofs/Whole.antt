@@ -1,5 +1,4 @@
--- The formulas over all tasks at once have a solution, and each solution gives the demand and keeps the rates within the
--- highest speed.
+-- The equations over all tasks at once have a solution; each gives the demand and keeps the rates within the speed.
 use Rattle.std.proofs.Common.{◌≡◌, ℕ, ◌+◌, ◌-◌, ◌*◌, ◌<◌, ◌≤◌, Bool, true, false, eqb, List, [], ◌∷◌, ◌++◌, refl, sym}
 use Rattle.std.proofs.Common.{◌∙◌, ap, subst, arith, append_assoc, true≢false}
 use Rattle.std.specs.Prelude.{nat_eq, if◌then◌else◌}
@@ -35,7 +34,7 @@ module _ (plan : Plan) (s : StateOf) where
   back_below l xs e = below-from (count plan) l xs (subst (AreBelow (count plan)) e (in_order-below due (count plan)))
 
   module _ (y v : ℕ → ℕ) (spread : IsSpreadIn plan s y v) where
-    -- one task, where the sum of the rates after it is as in the definition
+    -- where the sum of the rates after a task is the definition's, the units that it puts off are the definition's
     put_same : (i after : ℕ) → i < count plan → rates_after plan s v i ≡ after → y i ≡ put_off plan due left after i
     put_same i after lt e = spread.put i lt ∙ ap (λ (a : ℕ). put_off plan due left a i) e
 
@@ -63,11 +62,11 @@ module _ (plan : Plan) (s : StateOf) where
         let rest = whole_first (l ++ i ∷ []) xs next in
         omega (arith, rest, at)
 
-    -- the demand's numerator
+    -- the demand's numerator is the sum of the units that are not put off
     whole_demand : (ahead_demand plan s).num ≡ sum_below (count plan) (λ i. left i - y i)
     whole_demand = sym (whole_first [] (edf_order plan s) refl) ∙ sum_list-in_order (λ i. left i - y i) due (count plan)
 
-    -- each task's rate, with those of the tasks after it and before it
+    -- the rate of each task, with those of the tasks after it and before it, is within the highest speed
     whole_rate : IsAdmitted plan → ServesEdf plan.scheduler → (i : ℕ) → i < count plan
         → v i + rates_after plan s v i + rates_before plan s i ≤ top_speed plan * hyper plan
     whole_rate adm serves i lt =
@@ -83,7 +82,7 @@ module _ (plan : Plan) (s : StateOf) where
   pub rates_are_within : IsAdmitted plan → ServesEdf plan.scheduler → RatesFit plan s
   rates_are_within adm serves y v spread = whole_rate y v spread adm serves
 
-  -- there are such numbers: look the task up in the order
+  -- a solution: the rate of each task at its place in the order
   abbrev rate_in : List ℕ → ℕ → ℕ
   rate_in [] i = 0
   rate_in (j ∷ later) i = if eqb j i then spread_rate plan due left (spread_rates plan due left later) j else rate_in later i

@@ -16,15 +16,16 @@ deadline_at s i = (row_at s i).deadline
 abbrev pub edf_order : Plan → StateOf → List ℕ
 edf_order plan s = in_order (deadline_at s) (count plan)
 
--- the demand of look-ahead, of the deadlines in the state's rows and of what their jobs may still need
+-- the published demand: the formula over the deadlines in the state's rows and what their jobs may still need
 abbrev pub ahead_demand : Plan → StateOf → Frac
 ahead_demand plan s = ahead_of plan (deadline_at s) (wleft_at s) s.now
 
--- what holds from boundary to boundary: the work due by each tick fits at the highest speed, as for the governor none
+-- the calm condition: the work due by each tick fits at the highest speed;
+-- it is the condition of the governor that always runs at the highest speed
 abbrev pub AheadCalm : Plan → StateOf → Type 0
 AheadCalm plan s = EdfCalm (top_speed plan) plan s
 
--- what holds while the entry k is in force: it fits at that entry up to the earliest deadline, and at the highest speed
--- from there on
+-- the safe condition: the work due by each tick fits at the entry k up to the earliest deadline,
+-- and at the highest speed from there on
 abbrev pub AheadSafe : Plan → StateOf → ℕ → Type 0
 AheadSafe plan s k = EdfSafe (top_speed plan) plan s k

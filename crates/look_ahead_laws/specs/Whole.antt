@@ -1,4 +1,4 @@
--- The demand of look-ahead in a state, by the equations over all tasks at once.
+-- The demand of look-ahead in a state, by equations over all tasks at once.
 use Rattle.std.specs.Prelude.{◌≡◌, ℕ, ◌+◌, ◌-◌, ◌*◌, ◌<◌, ◌≤◌}
 use Rattle.grid_fraction.specs.Numbers.{sum_below}
 use Rattle.sched_model.specs.Plan.{Plan, count, hyper, rate, top_speed}
@@ -12,24 +12,24 @@ use Rattle.look_ahead_laws.specs.Ahead.{deadline_at, ahead_demand}
 abbrev pub rates_before : Plan → StateOf → ℕ → ℕ
 rates_before plan s i = sum_before (count plan) (deadline_at s) (rate plan) i
 
--- the sum of the rates vi of the tasks after it
+-- the sum of the rates vi of the tasks after task i in EDF order
 abbrev pub rates_after : Plan → StateOf → (ℕ → ℕ) → ℕ → ℕ
 rates_after plan s v i = sum_after (count plan) (deadline_at s) v i
 
--- of each task, y units are put off past the earliest deadline of the state, and v is the rate that it then needs
+-- for each task, y units are put off past the earliest deadline of the state, and v is the rate that they then need
 abbrev pub IsSpreadIn : Plan → StateOf → (ℕ → ℕ) → (ℕ → ℕ) → Type 0
 IsSpreadIn plan s y v = IsSpread plan (deadline_at s) (wleft_at s) y v
 
--- there are such numbers
+-- the equations for the units that are put off and their rates have a solution in the state
 abbrev pub HasSpread : Plan → StateOf → Type 0
 HasSpread plan s = (y : ℕ → ℕ) × ((v : ℕ → ℕ) × IsSpreadIn plan s y v)
 
--- for any such, the demand's numerator is the sum of what is not put off
+-- for each solution, the demand's numerator is the sum of what is not put off
 abbrev pub IsDemandOfSpread : Plan → StateOf → Type 0
 IsDemandOfSpread plan s =
     (y v : ℕ → ℕ) → IsSpreadIn plan s y v → (ahead_demand plan s).num ≡ sum_below (count plan) (λ i. wleft_at s i - y i)
 
--- and each task's rate, with those of the tasks after it and before it, is within what the highest speed has
+-- for each solution, the rate of a task with the rates of the tasks after it and before it is within the highest speed
 abbrev pub RatesFit : Plan → StateOf → Type 0
 RatesFit plan s =
     (y v : ℕ → ℕ) → IsSpreadIn plan s y v → (i : ℕ) → i < count plan

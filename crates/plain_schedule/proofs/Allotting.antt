@@ -1,4 +1,4 @@
--- What is allotted at the last release.
+-- The allotments at the last release.
 use Rattle.std.proofs.Common.{◌≡◌, ℕ, ◌-◌, ◌*◌, List, length, refl}
 use Rattle.sched_model.specs.Plan.{Plan, count, period}
 use Rattle.sched_model.specs.Jobs.{earliest, last_release}

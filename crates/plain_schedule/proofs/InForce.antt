@@ -1,4 +1,4 @@
--- The entry in force, of the ticks of a schedule.
+-- The entry in force, read from the ticks of a schedule.
 use Rattle.std.proofs.Common.{◌≡◌, ℕ, suc, ◌+◌, ◌-◌, ◌<◌, ◌≤◌, false, List, [], ◌∷◌, ◌++◌, length, reverse, get_or, arith, ap, ◌∙◌, sym, subst, true≢false, if◌then◌else◌}
 use Rattle.std.proofs.lemmas.List.{length-reverse, get_or-reverse, reverse-append}
 use Rattle.grid_fraction.specs.declared.Frac.{Frac}
@@ -9,7 +9,7 @@ use Rattle.sched_model.specs.Decision.{is_decision}
 use Rattle.sched_model.specs.Schedule.{entry_in_force, next_tick, schedule_by}
 use Rattle.sched_model.proofs.ScheduleLemmas.{schedule-none, schedule-suc, force-decided, force-within}
 
--- between decisions it is the entry of the last tick
+-- where there is no decision, the entry in force is that of the last tick
 kept : (p : Plan) (dem : ℕ → ℕ → ℕ) (ask : List Tick → Frac) (ticks : List Tick) (d : Tick)
     → ticks ≡ schedule_by p dem ask (length ticks) → is_decision p dem ticks ≡ false
     → (get_or ticks 0 d).entry ≡ entry_in_force p dem ask ticks
@@ -44,7 +44,7 @@ pub kept_within : (p : Plan) (dem : ℕ → ℕ → ℕ) (ask : List Tick → Fr
 kept_within p dem ask past x is e read some =
     subst (λ n. n < length p.machine.points) (sym (force_kept p dem ask past x is e read)) (force-within p dem ask some (reverse past))
 
--- one more tick of a schedule, whose first tick stands first
+-- a schedule's list of ticks, first tick first, with its next tick at the end is the schedule of one more tick
 pub schedule_push : (p : Plan) (dem : ℕ → ℕ → ℕ) (ask : List Tick → Frac) (past : List Tick) (t : ℕ) (x : Tick)
     → reverse past ≡ schedule_by p dem ask t → x ≡ next_tick p dem ask (reverse past) → reverse (past ++ x ∷ []) ≡ schedule_by p dem ask (t + 1)
 schedule_push p dem ask past t x is next =
@@ -54,8 +54,8 @@ schedule_push p dem ask past t x is next =
     more : suc t ≡ t + 1
     more = omega arith
 
--- what the entry in force is read from
+-- the rules that read the entry in force from the ticks
 pub ruleset in_force = (force-decided, force_kept, undecided_some, force-within, kept_within)
 
--- how a schedule grows
+-- the rules that add ticks to a schedule
 pub ruleset tick_by_tick = (schedule-none, schedule_push)

@@ -15,7 +15,7 @@ deadline_later p adm i t = lt-due p i t (every_period p adm.limits i)
 pub deadline_low : (p : Plan) → IsAdmitted p → (i t : ℕ) → i < count p → deadline p i t ≤ t + LONGEST_PERIOD
 deadline_low p adm i t lt = deadline-soon p adm.limits i t lt
 
--- the earliest deadline of then is still to come
+-- the earliest deadline at the last release is still to come
 pub marked_later : (p : Plan) → IsAdmitted p → (t : ℕ) → t < earliest p (last_release p t)
 marked_later p adm t =
     let same : earliest p (last_release p t) ≡ earliest p t =
@@ -23,12 +23,12 @@ marked_later p adm t =
     (λ i lt. ap (due p i) (latest-marked p i t (every_period p adm.limits i) lt)) in
     omega (arith, same, least-above (count p) (λ i. deadline p i t) (t + 1) adm.limits.tasks.some (λ i lt. omega (arith, deadline_later p adm i t)))
 
--- the ticks before tick r, of more
+-- the last `r` elements of a reversed list are the first `r` of the list, reversed
 pub at_past : {A : Type 0} (xs : List A) (r : ℕ) → r ≤ length xs → drop (length (reverse xs) - r) (reverse xs) ≡ reverse (take r xs)
 at_past xs r le =
     let split : reverse xs ≡ reverse (drop r xs) ++ reverse (take r xs) = ap reverse (sym (take-append-drop r xs)) ∙ reverse-append (take r xs) (drop r xs) in
     let long : length (reverse (drop r xs)) ≡ length (reverse xs) - r = omega (arith, length-reverse (drop r xs), length-drop r xs, length-reverse xs) in
     ap (drop (length (reverse xs) - r)) split ∙ drop_at (reverse (drop r xs)) (reverse (take r xs)) (length (reverse xs) - r) long
 
--- one more deadline in the earliest
+-- the rule that takes one more deadline into the earliest
 pub ruleset one_more = (least-more)

@@ -8,7 +8,7 @@ use Rattle.sched_model.specs.Ticks.{Tick, share, exec, is_done}
 use Rattle.sched_model.specs.Decision.{is_decision}
 use Rattle.plain_schedule.specs.Completions.{completes_last}
 
--- one more tick stands first
+-- the first t + 1 elements reversed are element t and the first t reversed
 pub reverse_more : {A : Type 0} (xs : List A) (t : ℕ) (x : A) → t < length xs → x ≡ get_or xs t x → reverse (take (t + 1) xs) ≡ x ∷ reverse (take t xs)
 reverse_more xs t x lt is =
     ap reverse (take_more xs t x lt ∙ ap (λ y. take t xs ++ y ∷ []) (sym is)) ∙ reverse-append (take t xs) (x ∷ [])
@@ -22,7 +22,7 @@ exec_more p past t x i k lt is =
     ap (λ xs. exec p xs i k) (reverse_more past t x lt is)
     ∙ ap (λ n. exec p (reverse (take t past)) i k + (if is_in_window p i k n then share x i else 0)) (length-past past t (omega arith))
 
--- the last tick, and those before it
+-- a list of ticks reversed is its last tick and those before it reversed
 pub last_first : (past : List Tick) → 1 ≤ length past → (x : Tick) × (reverse past ≡ x ∷ reverse (take (length past - 1) past))
 last_first past some =
     let n : ℕ = length past - 1 in

@@ -1,4 +1,4 @@
--- Bounds of the numbers that published demands are made of.
+-- Bounds of the numbers in published demands.
 use Rattle.std.proofs.Common.{ℕ, ◌+◌, ◌-◌, ◌≤◌, length, arith}
 use Rattle.std.proofs.Math.Nat.{div-le_self}
 use Rattle.task_model.specs.declared.limits.TheConstants.{LONGEST_HYPERPERIOD}

@@ -4,7 +4,7 @@ use Rattle.sched_model.specs.Plan.{Plan}
 use Rattle.sched_model.specs.Ticks.{Tick}
 use Rattle.sched_model.specs.Decision.{completes_in}
 
--- whether the latest job of task i before the last tick completes in it
+-- whether the latest job of task i in the last tick completes in that tick
 abbrev pub completes_last : Plan → (ℕ → ℕ → ℕ) → List Tick → ℕ → Bool
 completes_last p dem [] i = false
 completes_last p dem (x ∷ past) i = completes_in p dem x past i

@@ -35,7 +35,7 @@ fn rate(plan: &Admitted, task: u32) -> u128
     u128::from(worst(plan, task)) * u128::from(jobs)
 }
 
-// That of a task that stands before task `i` in EDF order, and else 0.
+// The rate of task `j` where it comes before task `i` in EDF order, and else 0.
 fn rate_where_before(plan: &Admitted, tick: u64, j: u32, i: u32) -> u128
     requires one { j < count plan.now }
     requires other { i < count plan.now }
@@ -50,7 +50,7 @@ fn rate_where_before(plan: &Admitted, tick: u64, j: u32, i: u32) -> u128
     }
 }
 
-// That of all tasks before a task in EDF order.
+// The sum of the rates of all tasks before a task in EDF order.
 fn rates_before(plan: &Admitted, tick: u64, task: u32) -> u128
     requires task { task < count plan.now }
     requires tick { tick + 1 < u64_end }
@@ -64,7 +64,7 @@ fn rates_before(plan: &Admitted, tick: u64, task: u32) -> u128
     sum
 }
 
-// How long after the earliest deadline that of a task is.
+// How many ticks a task's deadline is after the earliest deadline.
 fn slack(plan: &Admitted, tick: u64, task: u32) -> u64
     requires task { task < count plan.now }
     requires tick { tick + 1 < u64_end }
@@ -74,7 +74,7 @@ fn slack(plan: &Admitted, tick: u64, task: u32) -> u64
     deadline(plan, task, tick).saturating_sub(earliest(plan, tick)) as u64
 }
 
-// The room that the highest speed has in a hyperperiod beside the rates of the other tasks.
+// The room that the highest speed has in a hyperperiod beside the rates of the other tasks, `before` and `after`.
 #[tactic(auto, using(crate::proofs::Publishing::top_low, crate::proofs::Publishing::hyper_low))]
 fn room_beside(plan: &Admitted, before: u128, after: u128) -> u128
     ensures value { result ≡ top_speed plan.now * hyper plan.now - before - after }
@@ -105,7 +105,8 @@ fn put_off(plan: &Admitted, demands: &Demands, past: &[PlainTick], after: u128, 
     u128::from(wleft(plan, demands, past, task)).min(fits) as u64
 }
 
-// The rate that a task then needs from the earliest deadline on.
+// The spread rate of a task: its rate where it has no slack, else the rate that does the units put off by its
+// deadline.
 #[tactic(auto, using(crate::proofs::Publishing::hyper_low, crate::proofs::Publishing::ceil_low))]
 fn spread_rate(
     plan: &Admitted,
@@ -130,7 +131,7 @@ fn spread_rate(
     up(u128::from(units) * u128::from(plan.hyper()), slack)
 }
 
-// The sum of those rates of the last tasks in EDF order.
+// The sum of the spread rates of the last tasks in EDF order, `later`.
 fn spread_rates(plan: &Admitted, demands: &Demands, past: &[PlainTick], later: &[u32]) -> u128
     requires list { HasWorstsOf plan.now.tasks demands.now }
     requires below { AllByRecursion (λ i. i < count plan.now) later.now }
@@ -149,7 +150,7 @@ fn spread_rates(plan: &Admitted, demands: &Demands, past: &[PlainTick], later: &
     }
 }
 
-// What a task has to run before the earliest deadline.
+// The units of a task that have to run before the earliest deadline.
 fn kept_back(plan: &Admitted, demands: &Demands, past: &[PlainTick], after: u128, task: u32) -> u64
     requires list { HasWorstsOf plan.now.tasks demands.now }
     requires task { task < count plan.now }
@@ -161,7 +162,7 @@ fn kept_back(plan: &Admitted, demands: &Demands, past: &[PlainTick], after: u128
     wleft(plan, demands, past, task).saturating_sub(put_off(plan, demands, past, after, task))
 }
 
-// The sum of that over the last tasks in EDF order.
+// The units of the last tasks in EDF order, `order`, that have to run before the earliest deadline.
 fn due_first(plan: &Admitted, demands: &Demands, past: &[PlainTick], order: &[u32]) -> u128
     requires list { HasWorstsOf plan.now.tasks demands.now }
     requires below { AllByRecursion (λ i. i < count plan.now) order.now }

@@ -22,7 +22,7 @@ use dvs_base::Scheduler;
 use grid_fraction::Frac;
 use sched_model::Admitted;
 
-// The worst case of a task while its latest job is incomplete, and else the demand of that job.
+// The charged units of a task: its worst case while its latest job is incomplete, else the demand of that job.
 fn charged(plan: &Admitted, demands: &Demands, past: &[PlainTick], task: u32) -> u64
     requires list { HasWorstsOf plan.now.tasks demands.now }
     requires task { task < count plan.now }
@@ -36,7 +36,7 @@ fn charged(plan: &Admitted, demands: &Demands, past: &[PlainTick], task: u32) ->
     }
 }
 
-// That, for each job of one hyperperiod.
+// The charged units of a task, times the number of its jobs in a hyperperiod.
 fn charged_rate(plan: &Admitted, demands: &Demands, past: &[PlainTick], task: u32) -> u128
     requires list { HasWorstsOf plan.now.tasks demands.now }
     requires task { task < count plan.now }
@@ -77,7 +77,7 @@ fn static_speed(plan: &Admitted) -> u64
     plan.machine().point(pick.index).speed
 }
 
-// What a task may still need where it stands before task `i` in RM order, and else 0.
+// What task `j` may still need where it comes before task `i` in RM order, and else 0.
 fn wleft_where_before(plan: &Admitted, demands: &Demands, past: &[PlainTick], j: u32, i: u32) -> u64
     requires list { HasWorstsOf plan.now.tasks demands.now }
     requires one { j < count plan.now }
@@ -94,7 +94,7 @@ fn wleft_where_before(plan: &Admitted, demands: &Demands, past: &[PlainTick], j:
     }
 }
 
-// What the tasks before a task in RM order may still need.
+// What all tasks before a task in RM order may still need.
 fn wleft_before(plan: &Admitted, demands: &Demands, past: &[PlainTick], task: u32) -> u128
     requires list { HasWorstsOf plan.now.tasks demands.now }
     requires task { task < count plan.now }
@@ -109,7 +109,7 @@ fn wleft_before(plan: &Admitted, demands: &Demands, past: &[PlainTick], task: u3
     sum
 }
 
-// The units that are allotted at a release.
+// The units that are allotted at a release at tick `from`.
 fn room_from(plan: &Admitted, from: u64) -> u128
     requires scheduler { plan.now.scheduler ≡ Rm }
     requires from { from + 1 < u64_end }
@@ -119,7 +119,7 @@ fn room_from(plan: &Admitted, from: u64) -> u128
     ticks * u128::from(static_speed(plan))
 }
 
-// What a task gets of so many units by RM order, where each task takes what it may still need.
+// The units of `room` that a task gets by RM order, where each task takes what it may still need.
 fn worst_allotment(
     plan: &Admitted,
     demands: &Demands,
@@ -138,7 +138,7 @@ fn worst_allotment(
     (room.min(up_to) - room.min(before)) as u64
 }
 
-// What a task gets of the units that are allotted at the last release.
+// The allotment of a task: its part of the units that are allotted at the last release.
 fn allotted(plan: &Admitted, demands: &Demands, past: &[PlainTick], task: u32) -> u64
     requires list { HasWorstsOf plan.now.tasks demands.now }
     requires task { task < count plan.now }
@@ -151,7 +151,7 @@ fn allotted(plan: &Admitted, demands: &Demands, past: &[PlainTick], task: u32) -
     worst_allotment(plan, demands, until(past, from), room, task)
 }
 
-// What the latest job of a task has had since the last release.
+// The units that a task's latest job at the last release has had since then.
 fn had_since_release(plan: &Admitted, past: &[PlainTick], task: u32) -> u128
     requires { task < count plan.now }
     ensures { result ≡ had_since_release plan.now (reverse past.now) task }
@@ -162,7 +162,7 @@ fn had_since_release(plan: &Admitted, past: &[PlainTick], task: u32) -> u128
     had.saturating_sub(exec(plan, until(past, from), task, job))
 }
 
-// What is left of the allotment of a task.
+// What is left of a task's allotment.
 fn allotment_left(plan: &Admitted, demands: &Demands, past: &[PlainTick], task: u32) -> u128
     requires list { HasWorstsOf plan.now.tasks demands.now }
     requires task { task < count plan.now }

@@ -1,4 +1,4 @@
-// The ticks at which the governor decides.
+// The ticks at which a governor decides.
 ghost use Rattle.std.specs.Prelude.{◌≡◌, ◌<◌, ◌≤◌, length, reverse};
 ghost use Rattle.grid_fraction.specs.Numbers.{any_below};
 ghost use Rattle.sched_model.specs.Plan.{count};
@@ -14,7 +14,7 @@ use crate::tick::now;
 use demand_list::Demands;
 use sched_model::Admitted;
 
-// Whether the job of a task that was the latest in the last tick completed in it.
+// Whether the latest job of a task in the last tick completed in that tick.
 #[tactic(auto, using(crate::proofs::Pasts::completes_split))]
 fn completes(plan: &Admitted, demands: &Demands, past: &[PlainTick], task: u32) -> bool
     requires list { HasWorstsOf plan.now.tasks demands.now }
@@ -41,7 +41,7 @@ fn any_completes(plan: &Admitted, demands: &Demands, past: &[PlainTick]) -> bool
     any
 }
 
-/// Whether the tick after these is a decision instant: tick 0, a release, or the tick after a completion.
+/// Whether the tick after these is a decision: tick 0, a release, or the tick after a completion.
 #[tactic(auto, using(crate::proofs::Pasts::decision_split))]
 pub(crate) fn is_decision(plan: &Admitted, demands: &Demands, past: &[PlainTick]) -> bool
     requires { HasWorstsOf plan.now.tasks demands.now }

@@ -1,4 +1,4 @@
-// When jobs are released and due, and which is the latest.
+// When jobs are released and due, and which job is the latest.
 ghost use Rattle.std.specs.Prelude.{◌≡◌, ◌+◌, ◌<◌, ◌≤◌};
 ghost use Rattle.dvs_base.specs.Widths.{u64_end};
 ghost use Rattle.task_model.specs.declared.limits.TheConstants.{LONGEST_PERIOD};
@@ -107,7 +107,7 @@ pub(crate) fn last_release(plan: &Admitted, tick: u64) -> u64
     last
 }
 
-/// Whether a tick lies between the release and the deadline of a job.
+/// Whether a tick is from the release of a job on and before its deadline.
 pub(crate) fn is_in_window(plan: &Admitted, task: u32, job: u64, tick: u64) -> bool
     requires { task < count plan.now }
     ensures { result ≡ is_in_window plan.now task job tick }

@@ -1,7 +1,7 @@
-//! The schedule of a plan computed straight from its definition, slowly.
+//! The schedule of a plan, computed slowly, straight from its definition.
 //!
-//! It stands beside the kernel, as what the kernel's runs are compared with: each tick scans all earlier ticks anew, and
-//! nothing is kept from one tick to the next but the ticks themselves.
+//! The kernel's runs are compared with it: each tick scans all earlier ticks again, and nothing is kept from one tick
+//! to the next but the ticks themselves.
 //! Callers may rely on the answer to be the definition's list of ticks, first tick first, unless memory runs out.
 #![tactic(auto)]
 

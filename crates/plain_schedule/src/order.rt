@@ -14,7 +14,7 @@ use dvs_base::NoMemory;
 use sched_model::Admitted;
 use std::alloc::Global;
 
-// Each task's deadline and number.
+// Each task's deadline with its number, in file order.
 fn keys_of(alloc: Global, plan: &Admitted, tick: u64) -> Result<Vec<(u128, u32)>, NoMemory>
     requires { tick + 1 < u64_end }
     ensures { IfOk result (λ v. v.items ≡ list_below (count plan.now) (λ i. (deadline plan.now i tick, i))) }
@@ -27,7 +27,7 @@ fn keys_of(alloc: Global, plan: &Admitted, tick: u64) -> Result<Vec<(u128, u32)>
     Ok(keys)
 }
 
-// The numbers of the keys.
+// The tasks' numbers of these keys.
 fn numbers_of(alloc: Global, keys: &[(u128, u32)]) -> Result<Vec<u32>, NoMemory>
     ensures { IfOk result (λ v. v.items ≡ map (λ k. k.1) keys.now) }
 {

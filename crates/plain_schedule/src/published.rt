@@ -16,7 +16,7 @@ use grid_fraction::Frac;
 use sched_model::Admitted;
 use std::alloc::Global;
 
-// No governor: always the highest speed.
+// The demand of `none`: always the highest speed.
 fn full_demand(plan: &Admitted) -> Frac
     ensures { result ≡ full_demand plan.now }
 {
@@ -26,7 +26,7 @@ fn full_demand(plan: &Admitted) -> Frac
     }
 }
 
-/// Static scaling.
+/// The demand of static scaling.
 pub(crate) fn static_demand(plan: &Admitted) -> Frac
     ensures value { result ≡ static_demand plan.now }
     ensures some_den { 1 ≤ result.den }
@@ -35,7 +35,7 @@ pub(crate) fn static_demand(plan: &Admitted) -> Frac
     plan.static_demand()
 }
 
-// The demand of cycle conservation.
+// The demand of cycle conservation, under EDF or RM.
 fn cycle_demand(plan: &Admitted, demands: &Demands, past: &[PlainTick]) -> Frac
     requires { HasWorstsOf plan.now.tasks demands.now }
     ensures value { result ≡ demand_by plan.now.scheduler Cycle plan.now
@@ -49,7 +49,7 @@ fn cycle_demand(plan: &Admitted, demands: &Demands, past: &[PlainTick]) -> Frac
     }
 }
 
-// The demand of look-ahead; RM has none, and always takes the highest speed.
+// The demand of look-ahead under EDF; under RM, which has none, the highest speed.
 fn ahead_demand(
     alloc: Global,
     plan: &Admitted,

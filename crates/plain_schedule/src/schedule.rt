@@ -18,7 +18,7 @@ use dvs_base::{GovernorKind, NoMemory};
 use sched_model::Admitted;
 use std::alloc::Global;
 
-// The entry in force at the tick after these: the choice at the last decision instant.
+// The entry in force at the tick after these: the choice at the last decision.
 #[tactic(auto, using(crate::proofs::InForce::in_force))]
 fn entry_in_force(
     alloc: Global,
@@ -43,7 +43,7 @@ fn entry_in_force(
     Ok(last.entry)
 }
 
-// What each task gets of the units of the tick after these.
+// The share of each task of the units of the tick after these.
 fn shares_of(
     alloc: Global,
     plan: &Admitted,
@@ -64,7 +64,7 @@ fn shares_of(
     Ok(shares)
 }
 
-// The one tick that may follow these.
+// The one legal tick that comes next, with the entry in force.
 fn next_tick(
     alloc: Global,
     plan: &Admitted,

@@ -26,7 +26,7 @@ pub(crate) fn demand(plan: &Admitted, demands: &Demands, task: u32, job: u64) ->
     demands.units(task, job) + 2 * plan.machine().charge()
 }
 
-// What a tick counts for a job: nothing before its release and after its deadline.
+// What a tick adds to a job: its task's share from the job's release on and before its deadline, else 0.
 fn counted(plan: &Admitted, tick: &PlainTick, at: u64, task: u32, job: u64) -> u64
     requires { task < count plan.now }
     ensures { result ≡ (if is_in_window plan.now task job at then share tick.now task else 0) }
@@ -66,7 +66,7 @@ pub(crate) fn is_done(
     u128::from(demand(plan, demands, task, job)) <= exec(plan, past, task, job)
 }
 
-/// What the latest job of a task still needs.
+/// What the latest job of a task still needs, in work units.
 pub(crate) fn left(plan: &Admitted, demands: &Demands, past: &[PlainTick], task: u32) -> u64
     requires list { HasWorstsOf plan.now.tasks demands.now }
     requires task { task < count plan.now }
@@ -102,7 +102,7 @@ pub(crate) fn worst(plan: &Admitted, task: u32) -> u64
     plan.worst(task)
 }
 
-/// What the latest job of a task may still need, as far as its worst case says: 0 where it is complete.
+/// What the latest job of a task may still need by its worst case: 0 where it is complete.
 pub(crate) fn wleft(plan: &Admitted, demands: &Demands, past: &[PlainTick], task: u32) -> u64
     requires list { HasWorstsOf plan.now.tasks demands.now }
     requires task { task < count plan.now }

@@ -15,7 +15,7 @@ use demand_list::Demands;
 use dvs_base::Scheduler;
 use sched_model::Admitted;
 
-// What a scheduler orders the tasks by: the deadline under EDF, the period under RM.
+// The key by which a scheduler orders the tasks: the deadline under EDF, the period under RM.
 fn key(plan: &Admitted, scheduler: Scheduler, tick: u64, task: u32) -> u128
     requires task { task < count plan.now }
     requires tick { tick + 1 < u64_end }
@@ -27,7 +27,7 @@ fn key(plan: &Admitted, scheduler: Scheduler, tick: u64, task: u32) -> u128
     }
 }
 
-/// Whether task `j` stands before task `i`: by the key, and by the place among equal keys.
+/// Whether task `j` comes before task `i`: by the key, and by the place among equal keys.
 pub(crate) fn stands_before(
     plan: &Admitted,
     scheduler: Scheduler,
@@ -45,7 +45,7 @@ pub(crate) fn stands_before(
     first < second || (first == second && j < i)
 }
 
-// What a task needs where it stands before task `i`, and else 0.
+// What task `j` still needs where it comes before task `i`, and else 0.
 fn needed_before(plan: &Admitted, demands: &Demands, past: &[PlainTick], j: u32, i: u32) -> u64
     requires list { HasWorstsOf plan.now.tasks demands.now }
     requires one { j < count plan.now }
@@ -62,7 +62,7 @@ fn needed_before(plan: &Admitted, demands: &Demands, past: &[PlainTick], j: u32,
     }
 }
 
-// What the tasks before a task need.
+// What all tasks before a task still need.
 fn needs_before(plan: &Admitted, demands: &Demands, past: &[PlainTick], task: u32) -> u128
     requires list { HasWorstsOf plan.now.tasks demands.now }
     requires task { task < count plan.now }
@@ -78,8 +78,8 @@ fn needs_before(plan: &Admitted, demands: &Demands, past: &[PlainTick], task: u3
     sum
 }
 
-/// What a task gets of the units of the tick after these: what it and those before it take, less what those before it
-/// take.
+/// The share of a task of the units of the tick after these: what it and those before it take, less what those before
+/// it take.
 pub(crate) fn allotment(
     plan: &Admitted,
     demands: &Demands,

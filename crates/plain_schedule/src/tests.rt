@@ -32,7 +32,7 @@ fn sixteen(alloc: Global, edf: bool, governor: GovernorKind) -> Result<Vec<Plain
     }
 }
 
-// Whether the ticks have these entries and these shares.
+// Whether the ticks have exactly these entries and shares.
 fn are(ticks: &[PlainTick], want: &[(u32, [u64; 3])]) -> bool {
     ticks.len() == want.len()
         && ticks.iter().zip(want.iter()).all(|(tick, want)| tick.entry == want.0

@@ -1,4 +1,4 @@
-// Ticks.
+// The ticks of a schedule.
 ghost use Rattle.std.specs.Prelude.{◌≡◌, ◌+◌, ◌-◌, ◌<◌, ◌≤◌, length, reverse};
 ghost use Rattle.dvs_base.specs.Widths.{u64_end};
 ghost use Rattle.sched_model.specs.Ticks.{share, at};
@@ -38,7 +38,7 @@ pub(crate) fn now(past: &[PlainTick]) -> u64
     past.len() as u64
 }
 
-/// The ticks before a tick.
+/// The ticks before tick `tick`.
 pub(crate) fn until(past: &[PlainTick], tick: u64) -> &[PlainTick]
     requires { tick ≤ length (reverse past.now) }
     ensures { reverse result.now ≡ at tick (reverse past.now) }

@@ -1,4 +1,4 @@
--- What the outcomes of all requests say.
+-- The outcomes of all requests by some notes, and the bound on them.
 use Rattle.std.proofs.Common.{◌≡◌, ℕ, ◌*◌, ◌<◌, ◌≤◌, ◌⊎◌, inl, inr, List, refl, arith, ap, ◌∙◌, sym, subst, eq-or-lt_of_le}
 use Rattle.std.specs.Prelude.{Option, Some, None}
 use Rattle.std.proofs.Math.Nat.{mul-le-mul_right}
@@ -20,7 +20,7 @@ use Rattle.poll_server.specs.EachOutcome.{job_of, outcome_by, outcome_of, outcom
 use Rattle.poll_server.proofs.Belonging.{belongs, one-job, job-some, job-most}
 use Rattle.poll_server.proofs.Ending.{IsEndBy}
 
--- the answer by these notes
+-- the outcomes of all requests by these notes, and the totals of the notes
 abbrev pub answer_by : ServerOf → List Note → ServedOf
 answer_by s notes = record { outcomes = outcomes_of s notes; totals = totals_of notes }
 
@@ -45,7 +45,7 @@ module _ (s : ServerOf) (h : AreRequests s.requests) (some : 0 < period s.plan s
   outcome-is m lt None e = λ k own. ap (done_at notes s.task) (one-job s m k (job_of s m) own (belongs s h some room m lt)) ∙ e
   outcome-is m lt (Some q) e = (belongs s h some room m lt, e)
 
-  -- each outcome is the one that the notes make
+  -- each outcome is that of its request by the notes
   pub are-polled : IsPolled s notes (answer_by s notes)
   are-polled = record {
     all = length-list_below (request_count s) (outcome_of s notes);
@@ -58,7 +58,7 @@ module _ (s : ServerOf) (h : AreRequests s.requests) (some : 0 < period s.plan s
   served-by t u m None le by = absurd by
   served-by t u m (Some q) le by = by-later t u q le by
 
-  -- and it keeps the bound, where each job of the server that is due within the run is done by then
+  -- the bound is kept, where each job of the server that is due within the run is done by then
   pub keeps-bound : (ticks : ℕ)
       → ((k : ℕ) → 1 ≤ k → due s.plan s.task k ≤ ticks → IsEndBy (due s.plan s.task k) (done_at notes s.task k))
       → KeepsBound s ticks (answer_by s notes)

@@ -14,7 +14,7 @@ use Rattle.poll_server.specs.Bound.{jobs_before, backlog, latest_job, HaveJobs}
 use Rattle.poll_server.specs.EachOutcome.{job_of}
 use Rattle.poll_server.proofs.Takings.{taken-none, arrived-all, before-released, released-before, reach}
 
--- more requests ask for no less
+-- more requests ask for no fewer units
 pub asked-up : (s : ServerOf) (m n : ℕ) → m ≤ n → asked_with s m ≤ asked_with s n
 asked-up s m n le = sum_below-up (suc m) (suc n) (units s) (omega arith)
 
@@ -26,7 +26,7 @@ in-order s m n j k le first later = go (cases_lt k j)
     go (inl lt) = absurd (omega (arith, first.first k lt, later.reached, asked-up s m n le))
     go (inr ge) = ge
 
--- so it belongs to one job
+-- a request belongs to at most one job
 pub one-job : (s : ServerOf) (m j k : ℕ) → BelongsTo s m j → BelongsTo s m k → j ≡ k
 one-job s m j k a b = omega (arith, in-order s m m j k (omega arith) a b, in-order s m m k j (omega arith) b a)
 
@@ -36,7 +36,7 @@ module _ (s : ServerOf) (h : AreRequests s.requests) (some : 0 < period s.plan s
   pub asked-some : 0 < asked_with s m
   asked-some = omega (arith, (h.each m lt).some)
 
-  -- the jobs up to the latest one reach it
+  -- the jobs up to the latest one of request m take the units up to and including it
   pub reached-latest : asked_with s m ≤ taken_up_to s (latest_job s m)
   reached-latest =
       let b = jobs_before s (arrival s m) in
@@ -76,7 +76,7 @@ module _ (s : ServerOf) (h : AreRequests s.requests) (some : 0 < period s.plan s
           let e : test (suc j) ≡ false = first_from-before (latest_job s m) 1 (suc j) test (omega arith) below in
           grind (arith, nat_tests)
 
--- each request has a job, and they are in order
+-- each request belongs to a job, and a later request never to an earlier job
 pub have-jobs : (s : ServerOf) → AreRequests s.requests → 0 < period s.plan s.task → 0 < budget s → HaveJobs s
 have-jobs s h some room = record {
   before = λ t k first le. released-before s t k some first le;

@@ -1,9 +1,9 @@
--- Sums whose terms past a place are none.
+-- Sums whose terms from some place on are 0.
 use Rattle.std.proofs.Common.{◌≡◌, ℕ, zero, suc, ◌<◌, ◌≤◌, ◌⊎◌, inl, inr, refl, arith, eq-or-lt_of_le}
 use Rattle.grid_fraction.specs.Numbers.{sum_below}
 use Rattle.grid_fraction.proofs.Sums.{sum_below-same}
 
--- a sum whose terms from n on are 0 is that of the first n terms
+-- a sum whose terms from n on are 0 is the sum of its first n terms
 pub sum_below-cut : (c n : ℕ) (f g : ℕ → ℕ) → n ≤ c → ((k : ℕ) → k < n → f k ≡ g k)
     → ((k : ℕ) → n ≤ k → k < c → f k ≡ 0) → sum_below c f ≡ sum_below n g
 sum_below-cut zero n f g le same none =

@@ -1,4 +1,4 @@
--- The outcome of a request, by the job at which the requests up to it stand.
+-- The outcome of a request, from the job that the walk over the requests is at.
 use Rattle.std.proofs.Common.{◌≡◌, ℕ, ◌+◌, ◌-◌, ◌<◌, ◌≤◌, ◌⊎◌, inl, inr, List, arith, ap, ◌∙◌, sym, subst, add-one}
 use Rattle.std.specs.Prelude.{Option}
 use Rattle.std.proofs.lemmas.Bool.{cases_lt}
@@ -30,7 +30,7 @@ module _ (s : ServerOf) (h : AreRequests s.requests) (some : 0 < period s.plan s
       } in
       one-job s m (job_of s m) r.job (belongs s h some room m lt) here
 
-  -- which is some job
+  -- where the jobs so far take what was asked for, the walk is at some job
   pub reached-some : r.asked ≤ r.taken → 1 ≤ r.job
   reached-some enough = go (cases_lt 0 r.job)
     where
@@ -41,7 +41,7 @@ module _ (s : ServerOf) (h : AreRequests s.requests) (some : 0 < period s.plan s
           let nothing : r.taken ≡ 0 = reached.counted ∙ (ap (taken_up_to s) none ∙ taken-none s) in
           absurd (omega (arith, nothing, enough, asked-is, asked-some s h some room m lt))
 
-  -- the ends of the first n jobs
+  -- the ends of the first n jobs by these notes
   module _ (notes : List Note) (ends : List (Option Pos)) (are : AreEnds s notes n ends) where
     pub outcome-reached : r.asked ≤ r.taken → outcome_of s notes m ≡ outcome_by r.job (end_at ends (r.job - 1))
     outcome-reached enough =
@@ -52,7 +52,7 @@ module _ (s : ServerOf) (h : AreRequests s.requests) (some : 0 < period s.plan s
         ap (λ (k : ℕ). outcome_by k (done_at notes s.task k)) (job-is enough)
         ∙ ap (outcome_by r.job) (sym told)
 
-    -- where all n jobs take less, it is pending
+    -- where all n jobs take less than was asked for, the request is pending
     pub outcome-pending : r.taken < r.asked → r.job ≡ n → outcome_of s notes m ≡ Pending
     outcome-pending less last =
         let own = belongs s h some room m lt in

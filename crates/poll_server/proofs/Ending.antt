@@ -1,4 +1,4 @@
--- Where the notes of a schedule tell that a job is done.
+-- Where the notes of a schedule have a job as done.
 use Rattle.std.proofs.Common.{◌≡◌, ℕ, suc, ◌-◌, ◌<◌, ◌≤◌, Bool, true, false, ◌&&◌, ◌||◌, List, [], ◌∷◌, length, refl, arith, if◌then◌else◌, ◌∙◌, nat_eq, nat_lt}
 use Rattle.std.specs.Prelude.{Option, Some, None}
 use Rattle.std.specs.Option.{option_or}
@@ -22,12 +22,12 @@ use Rattle.done_lines.proofs.DoneCounts.{times-end, told-once, told-never, none-
 use Rattle.done_lines.proofs.DoneText.{is_by}
 use Rattle.poll_server.specs.Outcomes.{done_at}
 
--- the job is told to be done, at a position not after tick t
+-- the job is done, at a position not after tick t
 abbrev pub IsEndBy : ℕ → Option Pos → Type 0
 IsEndBy t (Some at_end) = IsBy t at_end
 IsEndBy t None = ⊥
 
--- where no note tells it, none is the first
+-- where no note says that the job is done, it has no end
 pub never-done : (i k : ℕ) (notes : List Note) → times (tells_done i k) notes ≡ 0 → done_at notes i k ≡ None
 never-done i k [] none = refl
 never-done i k (Release tick j l ∷ notes) none = never-done i k notes none
@@ -43,7 +43,7 @@ never-done i k (Done q j l used ∷ notes) none = go (nat_eq i j && nat_eq k l) 
     go true e ih = absurd (omega arith)
     go false e ih = ih e
 
--- where some note tells it and none tells it late, the first one isn't late
+-- where some note says that the job is done and none says it late, the first such note isn't late
 pub ends-by : (t i k : ℕ) (notes : List Note) → 0 < times (tells_done i k) notes → times (tells_late t i k) notes ≡ 0
     → IsEndBy t (done_at notes i k)
 ends-by t i k [] some late = absurd (omega arith)

@@ -1,5 +1,5 @@
--- The definitions at work: the tasks s (period 5, worst case 4) and a (period 10, worst case 10), of which s serves three
--- requests: 3 units at tick 0, 6 at tick 1 and 1 at tick 12.
+-- The definitions at work: the tasks s (period 5, worst case 4) and a (period 10, worst case 10). The task s serves
+-- three requests: 3 units at tick 0, 6 at tick 1 and 1 at tick 12.
 use Rattle.std.proofs.Common.{◌≡◌, ℕ, [], ◌∷◌, refl}
 use Rattle.dvs_base.specs.declared.kind.Scheduler.TheVariants.{Edf}
 use Rattle.freq_table.specs.Tables.{Table}
@@ -31,17 +31,17 @@ takes : (taken server 1 ∷ taken server 2 ∷ taken server 3 ∷ taken server 4
 unfolding taken_up_to release
 takes = refl
 
--- the jobs of the server need what they take with the charge, and the others their worst cases with it
+-- the jobs of the server need what they take, with the charge, and the other jobs their worst cases with the charge
 needs : (polled_demand server 0 0 ∷ polled_demand server 0 1 ∷ polled_demand server 0 5 ∷ polled_demand server 1 1 ∷ []) ≡ (0 ∷ 5 ∷ 2 ∷ 12 ∷ [])
 unfolding taken_up_to release
 needs = refl
 
--- the second request waits for the third job, and the third for the fourth
+-- the second request is served by the third job, and the third request by the fourth
 jobs : (job_of server 0 ∷ job_of server 1 ∷ job_of server 2 ∷ []) ≡ (1 ∷ 3 ∷ 4 ∷ [])
 unfolding taken_up_to release
 jobs = refl
 
--- the second has a backlog of 6 units, after one job and two more it is served by tick 15
+-- the second request has a backlog of 6 units after one job; two jobs more serve it by tick 15
 bound : (jobs_before server 1 ∷ backlog server 1 ∷ latest_job server 1 ∷ latest_end server 1 ∷ []) ≡ (1 ∷ 6 ∷ 3 ∷ 15 ∷ [])
 unfolding taken_up_to release due
 bound = refl

@@ -17,7 +17,7 @@ use Rattle.poll_server.specs.Polled.{polled_notes}
 use Rattle.poll_server.specs.Walking.{AreTaken}
 use Rattle.poll_server.proofs.Takings.{before-released}
 
--- a job with a row needs its units with the charge, and one without a row its worst case
+-- a job with a row needs the units of the row and the charge, and a job without a row needs its worst case
 demand-row : (p : Plan) (rows : List DemandRow) (i k u : ℕ) → named rows i (suc k) ≡ Some u
     → demand_of p rows i (suc k) ≡ u + 2 * p.machine.charge
 demand-row p rows i k u e = rw e refl
@@ -26,7 +26,7 @@ demand-none : (p : Plan) (rows : List DemandRow) (i k : ℕ) → named rows i (s
     → demand_of p rows i (suc k) ≡ worst p i
 demand-none p rows i k e = rw e refl
 
--- a list of what the server's first jobs take has the demands of the jobs that are released within so many ticks
+-- a list of what the server's first jobs take has the demands of all jobs that are released within the ticks
 pub same-demand : (s : ServerOf) → 0 < period s.plan s.task → (ticks : ℕ) (rows : List DemandRow)
     → AreTaken s (jobs_before s ticks) rows → (i k : ℕ) → i < count s.plan → 1 ≤ k → release s.plan i k < ticks
     → demand_of s.plan rows i k ≡ polled_demand s i k
@@ -59,7 +59,7 @@ tell-same p dem other ticks none other_none same = record {
   other_none = other_none;
 }
 
--- so its run has the same notes
+-- the run with a list of what the server's first jobs take has the same notes as the run of all that they take
 pub same-notes : (demand : OwnDemand) (s : ServerOf) → 0 < period s.plan s.task → LooksAtNone s.plan (ask_of demand s.plan)
     → (ticks : ℕ) (rows : List DemandRow) → AreTaken s (jobs_before s ticks) rows
     → length (ticks_by s.plan (ask_of demand s.plan) (demand_of s.plan rows) ticks) ≡ ticks

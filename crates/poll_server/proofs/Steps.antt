@@ -18,31 +18,31 @@ use Rattle.poll_server.specs.Serving.{ServerOf, budget, job_release, request_cou
 use Rattle.poll_server.specs.Walking.{HasPassed, StandsAfter, AreTaken, IsServable, HasReached}
 use Rattle.poll_server.proofs.Takings.{taken-none, taken-more, taken-low, asked-low, arrived-counted}
 
--- the server's budget and period
+-- the server has some budget and some period
 pub some-budget : (s : ServerOf) → IsAdmitted s.plan → s.task < count s.plan → 0 < budget s
 some-budget s adm lt = (adm.limits.tasks.each s.task lt).some_worst
 
 pub some-period : (s : ServerOf) → IsAdmitted s.plan → 0 < period s.plan s.task
 some-period s adm = every_period s.plan adm.limits s.task
 
--- the units of the requests up to one fit
+-- the units of the requests up to and including request m are below 2^128
 pub asked-fits : (s : ServerOf) → AreRequests s.requests → (m : ℕ) → m < request_count s → asked s m + units s m < 2 ^ 128
 asked-fits s h m lt = omega (arith, asked-low s h m (omega arith), (h.each m lt).low, h.few)
 
--- those that the jobs take fit
+-- the units that the first k jobs take are at most 2^80
 pub taken-fits : (s : ServerOf) → IsAdmitted s.plan → s.task < count s.plan → (k : ℕ) → k ≤ MOST_JOBS → taken_up_to s k ≤ 2 ^ 80
 taken-fits s adm lt k few =
     let low : budget s ≤ MOST_WORK = (adm.limits.tasks.each s.task lt).low_worst in
     let most : k * budget s ≤ k * MOST_WORK = mul-le-mul_left k low in
     omega (arith, taken-low s k, most, few)
 
--- where the next request arrives later, what was passed is what has arrived
+-- where the next request arrives after tick t, the units of the requests passed are those that arrived by t
 pub passed-arrived : (s : ServerOf) → AreRequests s.requests → (t : ℕ) (w : Waiting) → HasPassed s t w
     → (w.next < request_count s → t < arrival s w.next) → w.arrived ≡ arrived s t
 passed-arrived s h t w passed late =
     passed.counted ∙ sym (arrived-counted s h t w.next passed.within passed.early late)
 
--- each release is after the one before
+-- the release of a job is not before that of the job before it
 release-up : (s : ServerOf) (k : ℕ) → job_release s (k + 1) ≤ job_release s (k + 1 + 1)
 unfolding release
 release-up s k =
@@ -57,7 +57,7 @@ takes-is s k a before room u all had most is =
     let back : k + 1 - 1 ≡ k = omega arith in
     omega (arith, all, had, most, is, ap (taken_up_to s) back)
 
--- after the next job what it takes is taken
+-- after the next job the walk counts what that job takes
 pub stands-next : (s : ServerOf) (k t u : ℕ) (w : Waiting) → HasPassed s t w → t ≡ job_release s (k + 1)
     → w.taken ≡ taken_up_to s k → u ≡ taken s (k + 1)
     → StandsAfter s (k + 1) (record { next = w.next; arrived = w.arrived; taken = w.taken + u })
@@ -83,12 +83,12 @@ taken-first s rows none = record {
   no_other = λ i k lt other. ap (λ (l : List DemandRow). named l i k) none;
 }
 
--- what the list says of a job of the server
+-- the demand list has what job k of the server takes
 pub units-taken : (s : ServerOf) (n : ℕ) (d : DemandsOf) → IsServable s n d → (k : ℕ) → 1 ≤ k → k ≤ n
     → units_of d s.task k ≡ taken s k
 units-taken s n d h k first most = ap (λ (o : Option ℕ). unwrap_or o (slice_index d.worsts s.task)) (h.rows.taken_by k first most)
 
--- one job further
+-- the walk over the requests goes one job further
 pub reached-next : (s : ServerOf) (n m u : ℕ) (r : Reached) → HasReached s n m r → r.job < n → r.taken < r.asked
     → u ≡ taken s (r.job + 1)
     → HasReached s n m (record { job = r.job + 1; taken = r.taken + u; asked = r.asked })

@@ -22,7 +22,7 @@ pub taken-suc : (s : ServerOf) (k : ℕ)
 unfolding taken_up_to
 taken-suc s k = refl
 
--- one job more takes what it takes
+-- with one job more, the units taken grow by what that job takes
 pub taken-more : (s : ServerOf) (k : ℕ) → taken_up_to s (k + 1) ≡ taken_up_to s k + taken s (k + 1)
 taken-more s k =
     let one : k + 1 ≡ suc k = add-one k in
@@ -32,7 +32,7 @@ taken-more s k =
     ap (λ (j : ℕ). taken_up_to s k + min (budget s) (arrived s (job_release s (k + 1)) - taken_up_to s j)) back
     ∙ ap (λ (j : ℕ). taken_up_to s k + min (budget s) (arrived s (job_release s j) - taken_up_to s k)) one))
 
--- more jobs take no less
+-- more jobs take no fewer units
 pub taken-up : (s : ServerOf) (j k : ℕ) → j ≤ k → taken_up_to s j ≤ taken_up_to s k
 taken-up s j zero le = let e : j ≡ 0 = omega arith in rw e (omega arith)
 taken-up s j (suc k) le = go (eq-or-lt_of_le le) (taken-up s j k)
@@ -41,16 +41,16 @@ taken-up s j (suc k) le = go (eq-or-lt_of_le le) (taken-up s j k)
     go (inl e) ih = rw e (omega arith)
     go (inr l) ih = omega (arith, ih (omega arith), taken-suc s k)
 
--- and no job more than the budget
+-- k jobs take at most k times the budget
 pub taken-low : (s : ServerOf) (k : ℕ) → taken_up_to s k ≤ k * budget s
 taken-low s zero = omega (arith, taken-none s)
 taken-low s (suc k) = omega (arith, taken-low s k, taken-suc s k)
 
--- the units of some first requests
+-- the units of the first n requests are at most n times the limit on a request's units
 pub asked-low : (s : ServerOf) → AreRequests s.requests → (n : ℕ) → n ≤ request_count s → asked s n ≤ n * MOST_REQUEST_UNITS
 asked-low s h n le = sum_below-limit n MOST_REQUEST_UNITS (units s) (λ k lt. (h.each k (omega arith)).low)
 
--- requests arrive in their order
+-- a later request arrives no earlier
 pub arrival-up : (s : ServerOf) → AreRequests s.requests → (m n : ℕ) → m ≤ n → n < request_count s → arrival s m ≤ arrival s n
 arrival-up s h m n le lt = go (eq-or-lt_of_le le)
   where
@@ -58,7 +58,7 @@ arrival-up s h m n le lt = go (eq-or-lt_of_le le)
     go (inl e) = rw e (omega arith)
     go (inr l) = h.in_order m n l lt
 
--- what counts of a request by tick t
+-- the units of request m that have arrived by tick t: all or none
 abbrev counts : ServerOf → ℕ → ℕ → ℕ
 counts s t m = if nat_le (arrival s m) t then units s m else 0
 
@@ -68,7 +68,7 @@ counts-early s t m le = let e : nat_le (arrival s m) t ≡ true = grind (arith, 
 counts-late : (s : ServerOf) (t m : ℕ) → t < arrival s m → counts s t m ≡ 0
 counts-late s t m lt = let e : nat_le (arrival s m) t ≡ false = grind (arith, nat_tests) in rw e refl
 
--- where the requests before n have arrived and the others haven't, the units of those before n have arrived
+-- where the requests before n arrived by tick t and the others didn't, the units arrived are those of the first n
 pub arrived-counted : (s : ServerOf) → AreRequests s.requests → (t n : ℕ) → n ≤ request_count s
     → ((m : ℕ) → m < n → arrival s m ≤ t) → (n < request_count s → t < arrival s n) → arrived s t ≡ asked s n
 arrived-counted s h t n le early late =
@@ -77,7 +77,7 @@ arrived-counted s h t n le early late =
     let first : t < arrival s n = late (omega arith) in
     omega (arith, first, arrival-up s h n m low high)))
 
--- where a request has arrived, all units up to and with it have
+-- where a request has arrived, all units up to and including it have arrived
 pub arrived-all : (s : ServerOf) → AreRequests s.requests → (m t : ℕ) → m < request_count s → arrival s m ≤ t
     → asked_with s m ≤ arrived s t
 arrived-all s h m t lt le =
@@ -96,7 +96,7 @@ before-released s t k some lt =
     mul-le-mul_right (period s.plan s.task) (omega arith) in
     omega (arith, covers, more)
 
--- and those are released before it
+-- the jobs released before tick t are released before it
 pub released-before : (s : ServerOf) (t k : ℕ) → 0 < period s.plan s.task → 1 ≤ k → k ≤ jobs_before s t → job_release s k < t
 unfolding release
 released-before s t k some first le =
@@ -111,8 +111,8 @@ released-before s t k some first le =
     take-one zero q lt = absurd (omega arith)
     take-one (suc j) q lt = let e : suc j - 1 ≡ j = omega arith in rw e (omega arith)
 
--- Where all units up to and with a request have arrived by the release of each job after the first b, d jobs more take d
--- times the budget, or reach the request.
+-- Where all units up to and including a request have arrived by the release of each job after the first b, d jobs more
+-- take d times the budget, or reach the request.
 pub reach : (s : ServerOf) (m b : ℕ) → ((k : ℕ) → b < k → asked_with s m ≤ arrived s (job_release s k)) → (d k : ℕ)
     → k ≡ b + d → min (asked_with s m) (taken_up_to s b + d * budget s) ≤ taken_up_to s k
 reach s m b all zero k is = let e : k ≡ b = omega arith in rw e (omega arith)

@@ -10,13 +10,13 @@ use Rattle.poll_server.specs.declared.ends.Ends.{Ends}
 use Rattle.poll_server.specs.Outcomes.{done_in, done_at}
 use Rattle.poll_server.specs.Walking.{Hears, end_at}
 
--- before any note no job is told to be done
+-- before any note no job has an end
 pub none-told : (n k : ℕ) → end_at (replicate {A = Option Pos} n None) k ≡ None
 none-told zero k = refl
 none-told (suc n) zero = refl
 none-told (suc n) (suc k) = none-told n k
 
--- the ends after a list of notes: the first one of a job stays
+-- the ends after a list of notes: the first end of a job stays
 pub record HearsAll (a : Ends) (notes : List Note) (b : Ends) : Type 0 where
   pub task : b.task ≡ a.task
   pub long : length b.ends.items ≡ length a.ends.items

@@ -41,22 +41,22 @@ use Rattle.poll_server.proofs.Belonging.{have-jobs}
 use Rattle.poll_server.proofs.Answering.{are-polled, keeps-bound}
 use Rattle.poll_server.proofs.Ending.{IsEndBy, ends-never, ends-in-time}
 
--- the run of a server's jobs released within so many ticks, by a list of what they take
+-- the run of a server's plan for `ticks` ticks, with a list of what its first jobs take
 abbrev pub run_of : ServerOf → DemandsOf → ℕ → Run
 run_of s d ticks = record { plan = s.plan; demands = d; ticks = ticks }
 
--- each request of a server has a job, and they are in order
+-- each request of a server belongs to a job, and a later request never to an earlier job
 pub server-jobs : (p : Plan) (i : ℕ) (requests : List Request) → IsAdmitted p → i < count p → AreRequests requests
     → HaveJobs (server_of p i requests)
 server-jobs p i requests adm lt h =
     have-jobs (server_of p i requests) h (some-period (server_of p i requests) adm) (some-budget (server_of p i requests) adm lt)
 
--- the jobs of one task are some of all jobs
+-- the jobs of one task released within the ticks are no more than those of all tasks
 pub jobs-within : (p : Plan) (i ticks : ℕ) → i < count p → ceil_div (ticks - offset p i) (period p i) ≤ released_jobs p ticks
 jobs-within p i ticks lt =
     omega (arith, sum_where-other (count p) (λ j. false) (λ j. ceil_div (ticks - offset p j) (period p j)) i lt refl)
 
--- what is answered: the function of the arguments, with what it says of each request
+-- what `poll` returns is the function of its arguments, each request has its outcome, and the bound is kept
 pub record Answered (demand : OwnDemand) (s : ServerOf) (ticks : ℕ) (r : ServedOf) : Type 0 where
   pub served : r ≡ served_of demand s ticks
   pub outcomes : IsPolled s (polled_notes demand s ticks) r
@@ -74,7 +74,7 @@ module _ (demand : OwnDemand) (s : ServerOf) (d : DemandsOf) (n ticks : ℕ) (n_
   abbrev ticks_run : List Tick
   ticks_run = ticks_by s.plan (ask_of demand s.plan) dem ticks
 
-  -- its notes are those of the run of all that they take
+  -- the notes of the run are those of the run of all that the server's jobs take
   notes-are : notes_of_run demand run ≡ polled_notes demand s ticks
   notes-are =
       ap (notes_of_run demand) run_is
@@ -82,7 +82,7 @@ module _ (demand : OwnDemand) (s : ServerOf) (d : DemandsOf) (n ticks : ℕ) (n_
       (subst (λ (m : ℕ). AreTaken s m d.rows) n_is servable.rows)
       ((schedule_exists s.plan dem (ask_of demand s.plan dem) ticks).1))
 
-  -- what was heard of them
+  -- a listener that heard the notes has the ends of the server's first n jobs
   ends-are : (from to : Ends) → from.task ≡ s.task → from.ends.items ≡ replicate n None
       → HasHeard Hears from (notes_of_run demand run) to
       → AreEnds s (polled_notes demand s ticks) n to.ends.items
@@ -120,7 +120,7 @@ module _ (demand : OwnDemand) (s : ServerOf) (d : DemandsOf) (n ticks : ℕ) (n_
       (subst (MeetsDeadlines demand) run_is met)
       (subst (λ (m : ℕ). due s.plan s.task k ≤ m) (sym run.1) within))
 
-  -- what is answered is the function of the arguments
+  -- what `poll` returns is the function of its arguments
   answers : (from to : Ends) → from.task ≡ s.task → from.ends.items ≡ replicate n None
       → HasHeard Hears from (notes_of_run demand run) to → (outcomes : List Outcome) (totals : Totals)
       → ((notes : List Note) → AreEnds s notes n to.ends.items → outcomes ≡ outcomes_of s notes)
@@ -131,13 +131,13 @@ module _ (demand : OwnDemand) (s : ServerOf) (d : DemandsOf) (n ticks : ℕ) (n_
       ∙ ap₂ (λ (o : List Outcome) (t : Totals). record { outcomes = o; totals = t })
       (each (polled_notes demand s ticks) (ends-are from to task empty heard)) (sums ∙ ap totals_of notes-are)
 
-  -- so each request has the outcome that the notes make of it
+  -- each request has its outcome by the notes
   answers-polled : (r : ServedOf) → r ≡ served_of demand s ticks → IsPolled s (polled_notes demand s ticks) r
   answers-polled r is =
       subst (IsPolled s (polled_notes demand s ticks)) (sym is)
       (are-polled s servable.requests some (some-budget s servable.plan servable.task) (polled_notes demand s ticks))
 
-  -- and the bound is kept, where the deadlines are met
+  -- where the deadlines are met, the bound is kept
   answers-bound : MeetsDeadlines demand run → (r : ServedOf) → r ≡ served_of demand s ticks → KeepsBound s ticks r
   answers-bound met r is =
       subst (KeepsBound s ticks) (sym is)

@@ -1,4 +1,4 @@
--- The jobs of a polling need no more than their worst cases.
+-- The jobs of a `poll` run need no more than their worst cases.
 use Rattle.std.proofs.Common.{◌≡◌, ◌≤◌, ◌*◌, ◌+◌, ℕ, zero, suc, Bool, true, false, nat_eq, arith, refl, if◌then◌else◌}
 use Rattle.std.proofs.lemmas.Bool.Decides.{nat_tests}
 use Rattle.sched_model.specs.Plan.{worst}

@@ -13,7 +13,7 @@ use Rattle.poll_server.specs.Outcomes.{BelongsTo, ServedOf, outcome_at}
 abbrev pub jobs_before : ServerOf → ℕ → ℕ
 jobs_before s t = ceil_div (t - offset s.plan s.task) (period s.plan s.task)
 
--- the backlog of request m at its arrival: the units up to and with it, less those that the jobs released before take
+-- the backlog of request m: the units up to and including it, less those that the jobs released before its arrival take
 abbrev pub backlog : ServerOf → ℕ → ℕ
 backlog s m = asked_with s m - taken_up_to s (jobs_before s (arrival s m))
 
@@ -21,7 +21,7 @@ backlog s m = asked_with s m - taken_up_to s (jobs_before s (arrival s m))
 abbrev pub latest_job : ServerOf → ℕ → ℕ
 latest_job s m = jobs_before s (arrival s m) + ceil_div (backlog s m) (budget s)
 
--- the tick at which that job is due
+-- the tick at which the latest job of request m is due
 abbrev pub latest_end : ServerOf → ℕ → ℕ
 latest_end s m = due s.plan s.task (latest_job s m)
 
@@ -30,7 +30,7 @@ abbrev pub IsServedBy : ℕ → Outcome → Type 0
 IsServedBy t (Served job at_end) = IsBy t at_end
 IsServedBy t Pending = ⊥
 
--- each request whose latest end lies within so many ticks is served by it
+-- each request whose latest end is at most `ticks` is served by then
 abbrev pub KeepsBound : ServerOf → ℕ → ServedOf → Type 0
 KeepsBound s ticks r =
     (m : ℕ) → m < request_count s → latest_end s m ≤ ticks → IsServedBy (latest_end s m) (outcome_at r.outcomes m)

@@ -1,4 +1,4 @@
--- Which job of the server a request belongs to, and what becomes of it in a run.
+-- Which job of the server a request belongs to, and the outcome of a request in a run.
 use Rattle.std.specs.Prelude.{◌≡◌, ℕ, ◌<◌, ◌≤◌, ◌&&◌, nat_eq, List, [], ◌∷◌, Option, Some, None, if◌then◌else◌}
 use Rattle.std.specs.List.{slice_index_or}
 use Rattle.std.specs.Option.{option_or}
@@ -10,24 +10,24 @@ use Rattle.poll_server.specs.declared.served.Outcome.{Outcome}
 use Rattle.poll_server.specs.declared.served.Outcome.TheVariants.{Served, Pending}
 use Rattle.poll_server.specs.Serving.{ServerOf, asked_with, taken_up_to}
 
--- Request m belongs to job k: the first one such that it and the jobs before it take at least the units up to and with the
--- request.
+-- Request m belongs to job k: the first one such that it and the jobs before it take at least the units up to and
+-- including the request.
 pub record BelongsTo (s : ServerOf) (m k : ℕ) : Type 0 where
   pub reached : asked_with s m ≤ taken_up_to s k
   pub first : (j : ℕ) → j < k → taken_up_to s j < asked_with s m
 
--- the position at which the note tells that job k of task i is done
+-- the position of a note that job k of task i is done; none for another note
 abbrev pub done_in : Note → ℕ → ℕ → Option Pos
 done_in (Done at_end j l used) i k = if nat_eq i j && nat_eq k l then Some at_end else None
 done_in _ i k = None
 
--- that of the first such note
+-- the position of the first of these notes that job k of task i is done
 abbrev pub done_at : List Note → ℕ → ℕ → Option Pos
 done_at [] i k = None
 done_at (note ∷ notes) i k = option_or (done_in note i k) (done_at notes i k)
 
--- What these notes make of request m: it is served where the job that it belongs to is told to be done, by that job and at
--- that position, and pending where that job isn't told to be done.
+-- Whether this is the outcome of request m by these notes: served by its job, at the position where the notes have
+-- that job as done, and pending where they don't.
 abbrev pub IsOutcome : ServerOf → List Note → ℕ → Outcome → Type 0
 IsOutcome s notes m (Served job at_end) = BelongsTo s m job × (done_at notes s.task job ≡ Some at_end)
 IsOutcome s notes m Pending = (k : ℕ) → BelongsTo s m k → done_at notes s.task k ≡ None
@@ -37,6 +37,6 @@ pub record ServedOf : Type 0 where
   pub outcomes : List Outcome
   pub totals : Totals
 
--- the outcome of request m
+-- the outcome of request m in a list of outcomes
 abbrev pub outcome_at : List Outcome → ℕ → Outcome
 outcome_at outcomes m = slice_index_or outcomes m Pending

@@ -1,4 +1,4 @@
--- The run of a plan in which the server's jobs take what waits for them, and what it makes of each request.
+-- The run of a plan in which the server's jobs take what waits for them, and the outcomes of the requests in it.
 use Rattle.std.specs.Prelude.{◌≡◌, ℕ, ◌<◌, List, length}
 use Rattle.dvs_base.specs.declared.note.Note.{Note}
 use Rattle.sched_model.specs.Totals.{totals_of}
@@ -8,11 +8,11 @@ use Rattle.replay_laws.specs.OwnList.{notes_by}
 use Rattle.poll_server.specs.Serving.{ServerOf, request_count, polled_demand}
 use Rattle.poll_server.specs.Outcomes.{ServedOf, IsOutcome, outcome_at}
 
--- the notes of the governor's schedule of so many ticks, in which the server's jobs need what they take
+-- the notes of the governor's schedule of `ticks` ticks, in which the server's jobs need what they take
 abbrev pub polled_notes : OwnDemand → ServerOf → ℕ → List Note
 polled_notes demand s ticks = notes_by s.plan (ask_of demand s.plan) (polled_demand s) ticks
 
--- each request has the outcome that these notes make of it, and the totals are theirs
+-- each request has its outcome by these notes, and the totals are those of the notes
 pub record IsPolled (s : ServerOf) (notes : List Note) (r : ServedOf) : Type 0 where
   pub all : length r.outcomes ≡ request_count s
   pub outcomes : (m : ℕ) → m < request_count s → IsOutcome s notes m (outcome_at r.outcomes m)

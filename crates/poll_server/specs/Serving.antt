@@ -12,19 +12,19 @@ pub record ServerOf : Type 0 where
   pub task : ℕ
   pub requests : List Request
 
--- the server of these
+-- the server of this plan, task and list of requests
 abbrev pub server_of : Plan → ℕ → List Request → ServerOf
 server_of plan task requests = record { plan = plan; task = task; requests = requests }
 
--- Q, its budget in work units: the declared worst case of its task
+-- the budget of a server in work units: the declared worst case of its task
 abbrev pub budget : ServerOf → ℕ
 budget s = (task_of s.plan s.task).worst
 
--- the tick at which its job k is released; jobs count from 1
+-- the tick at which job k of the server is released; jobs count from 1
 abbrev pub job_release : ServerOf → ℕ → ℕ
 job_release s k = release s.plan s.task k
 
--- how many requests there are; they are numbered from 0
+-- the number of requests; they are numbered from 0
 abbrev pub request_count : ServerOf → ℕ
 request_count s = length s.requests
 
@@ -66,6 +66,6 @@ polled_demand s i (suc k) =
 abbrev pub asked : ServerOf → ℕ → ℕ
 asked s n = sum_below n (units s)
 
--- the units up to and with request m
+-- the units of the requests up to and including m
 abbrev pub asked_with : ServerOf → ℕ → ℕ
 asked_with s m = asked s (suc m)

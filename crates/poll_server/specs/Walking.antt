@@ -22,19 +22,19 @@ pub record HasPassed (s : ServerOf) (t : ℕ) (w : Waiting) : Type 0 where
   pub counted : w.arrived ≡ asked s w.next
   pub early : (m : ℕ) → m < w.next → arrival s m ≤ t
 
--- it stands after the first k jobs: the requests passed have arrived by the release of the next one
+-- what is counted after the first k jobs: the requests passed arrived by the next job's release; the k jobs' units
 pub record StandsAfter (s : ServerOf) (k : ℕ) (w : Waiting) : Type 0 where
   pub passed : HasPassed s (job_release s (k + 1)) w
   pub counted : w.taken ≡ taken_up_to s k
 
--- the rows are those of the server's first n jobs, with what they take
+-- the rows are those of the server's first n jobs, with the units that each takes
 pub record AreTaken (s : ServerOf) (n : ℕ) (rows : List DemandRow) : Type 0 where
   pub taken_by : (k : ℕ) → 1 ≤ k → k ≤ n → named rows s.task k ≡ Some (taken s k)
   pub no_later : (k : ℕ) → n < k → named rows s.task k ≡ None
   pub no_other : (i k : ℕ) → i < count s.plan → (i ≡ s.task → ⊥) → named rows i k ≡ None
 
--- a server that can be walked: a task of an admitted plan and requests within the limits, of which the demand list tells
--- what the first n jobs take
+-- A server of a task of an admitted plan, with requests within the limits; the demand list has the units that the first
+-- n jobs take.
 pub record IsServable (s : ServerOf) (n : ℕ) (d : DemandsOf) : Type 0 where
   pub plan : IsAdmitted s.plan
   pub task : s.task < count s.plan
@@ -43,24 +43,24 @@ pub record IsServable (s : ServerOf) (n : ℕ) (d : DemandsOf) : Type 0 where
   pub list : HasWorstsOf s.plan.tasks d
   pub rows : AreTaken s n d.rows
 
--- the end of a job, by its place from 0
+-- the end of a job in a list of ends, by the job's place from 0
 abbrev pub end_at : List (Option Pos) → ℕ → Option Pos
 end_at ends place = slice_index_or ends place None
 
--- the ends as they are told after one more note: the first one of a job stays
+-- the ends after one more note: the first end of a job stays
 pub record Hears (a : Ends) (note : Note) (b : Ends) : Type 0 where
   pub task : b.task ≡ a.task
   pub long : length b.ends.items ≡ length a.ends.items
   pub told : (k : ℕ) → k < length a.ends.items
       → end_at b.ends.items k ≡ option_or (end_at a.ends.items k) (done_in note a.task (k + 1))
 
--- the ends are those that the notes tell of the first n jobs, and no later job is told to be done
+-- the ends of the first n jobs are those in the notes, and no later job is done in the notes
 pub record AreEnds (s : ServerOf) (notes : List Note) (n : ℕ) (ends : List (Option Pos)) : Type 0 where
   pub long : length ends ≡ n
   pub told : (k : ℕ) → k < n → end_at ends k ≡ done_at notes s.task (k + 1)
   pub no_later : (k : ℕ) → n < k → done_at notes s.task k ≡ None
 
--- after the first m requests it stands at a job of the first n, and the jobs before that one take less than was asked for
+-- the walk over the first m requests is at a job of the first n: the jobs before it take less than the requests ask for
 pub record HasReached (s : ServerOf) (n m : ℕ) (r : Reached) : Type 0 where
   pub within : r.job ≤ n
   pub counted : r.taken ≡ taken_up_to s r.job

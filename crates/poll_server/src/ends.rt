@@ -8,7 +8,7 @@ use dvs_base::{NoMemory, Note, Pos};
 use event_kernel::{Listener, Stopped};
 use std::alloc::Global;
 
-/// The positions at which the first jobs of a task are done, as far as the notes heard tell them.
+/// The positions at which the first jobs of a task are done, as far as the notes heard say.
 #[derive(Drop)]
 pub(crate) struct Ends {
     task: u32,
@@ -16,7 +16,7 @@ pub(crate) struct Ends {
 }
 
 impl Ends {
-    /// Those of so many jobs of a task, of which none is told yet.
+    /// The ends of `jobs` jobs of a task before any note: none is known.
     pub(crate) fn of(alloc: Global, task: u32, jobs: u64) -> Result<Ends, NoMemory>
         requires { jobs ≤ MOST_JOBS }
         ensures task { IfOk result (λ e. e.task ≡ task) }
@@ -27,7 +27,7 @@ impl Ends {
         Ok(Ends { task, ends })
     }
 
-    /// The position at which a job is done, counted from 1.
+    /// The position at which a job is done, if a note said so; jobs count from 1.
     pub(crate) fn end(&self, job: u64) -> Option<Pos>
         requires some { 1 ≤ job }
         requires within { job ≤ length self.now.ends.items }
@@ -36,7 +36,7 @@ impl Ends {
         self.ends[job as usize - 1]
     }
 
-    // Keeps the first end of a job, counted from 1.
+    // Keeps the position, if it is the first end of the job; jobs count from 1.
     fn keep(&mut self, job: u64, at: Pos)
         ensures { (used : ℕ) → Hears self.old (Done at self.old.task job used) self.new }
     {

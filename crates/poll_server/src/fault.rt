@@ -1,4 +1,4 @@
-// Why there are no outcomes.
+// Why a `poll` run has no outcomes.
 ghost use Rattle.std.specs.Prelude.{◌≡◌};
 ghost use Rattle.poll_server.specs.declared.fault.PollFault.TheVariants as fault;
 ghost use Rattle.poll_server.specs.Refusals.{refusal_of};
@@ -6,10 +6,10 @@ ghost use Rattle.poll_server.specs.Refusals.{refusal_of};
 use dvs_base::NoMemory;
 use event_kernel::KernelFault;
 
-/// Why there are no outcomes.
+/// Why a `poll` run has no outcomes.
 #[derive(Clone, Copy, Debug, PartialEq, Eq)]
 pub enum PollFault {
-    /// So many jobs would be released, and the limit is `MOST_JOBS`.
+    /// `count` jobs would be released, and the limit is `MOST_JOBS`.
     TooManyJobs { count: u64 },
     /// Memory ran out.
     NoMemory,

@@ -21,7 +21,7 @@ pub(crate) struct Jobs<'a> {
     pub(crate) ends: &'a Ends,
 }
 
-// The job that some first requests reach, the units that it and the jobs before it take, and those that were asked for.
+// The job that the first requests reach, the units that it and the jobs before it take, and the units of the requests.
 #[derive(Drop)]
 struct Reached {
     job: u64,
@@ -30,7 +30,7 @@ struct Reached {
 }
 
 impl Reached {
-    // Goes on with one more request, to the job that takes its last unit, and to the last job where none does.
+    // Adds request `m`: goes on to the job that takes its last unit, or to the last job where none does.
     fn add(&mut self, jobs: &Jobs<'_>, m: usize)
         requires servable { IsServable jobs.now.server.now jobs.now.count jobs.now.demands.now }
         requires request { m < request_count jobs.now.server.now }
@@ -47,7 +47,7 @@ impl Reached {
         }
     }
 
-    // The outcome of the next request.
+    // The outcome of request `m`, after those before it.
     fn serve(&mut self, jobs: &Jobs<'_>, m: usize) -> Outcome
         requires servable { IsServable jobs.now.server.now jobs.now.count jobs.now.demands.now }
         requires long { length jobs.now.ends.now.ends.items ≡ jobs.now.count }

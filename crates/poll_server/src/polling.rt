@@ -21,12 +21,13 @@ use request_list::Requests;
 use sched_model::Admitted;
 use std::alloc::Global;
 
-/// Runs a plan for 1 to 2^40 ticks, in which the jobs of the task `server` serve requests, and gives the outcome of each
+/// Runs a plan for 1 to 2^40 ticks, in which the jobs of the task `server` serve requests; returns the outcome of each
 /// request and the totals of the run.
 ///
 /// A job of the server takes at its release what waits, up to the task's declared worst case, and needs that with the
 /// charge; all other jobs need their worst cases. A request is served where the job that takes its last unit is done.
-/// `TooManyJobs` comes exactly where more than `MOST_JOBS` jobs are released below `ticks`, with their number.
+/// `TooManyJobs`, with their number, exactly where more than `MOST_JOBS` jobs are released below `ticks`; `NoMemory`
+/// where memory ran out.
 pub fn poll<G: Governor>(
     alloc: Global,
     plan: &Admitted,
@@ -47,14 +48,14 @@ pub fn poll<G: Governor>(
     ensures outcomes { IfOk result (IsPolled (server_of plan.now server requests.now)
         (polled_notes G.demand (server_of plan.now server requests.now) ticks)) }
 
-    // Each request has a job, and a later request never an earlier one.
+    // Each request has a job, and a later request never has an earlier one.
     ensures in_order { HaveJobs (server_of plan.now server requests.now) }
 
-    // A request with backlog B is served by the deadline of the ceil(B/Q)-th job released at or after its arrival, if that
-    // deadline lies within the run; Q is the budget.
+    // A request with backlog B is served by the deadline of the ceil(B/Q)-th job released at or after its arrival, if
+    // that deadline lies within the run; Q is the budget.
     ensures bound { IfOk result (KeepsBound (server_of plan.now server requests.now) ticks) }
 
-    // Each refusal exactly when.
+    // `TooManyJobs` exactly where more than `MOST_JOBS` jobs are released, with their number.
     ensures few { OnOk result (released_jobs plan.now ticks ≤ MOST_JOBS) }
     ensures many { (n : ℕ) → IsErrOf result (PollFault.TooManyJobs n)
         → (n ≡ released_jobs plan.now ticks) × (MOST_JOBS < n) }

@@ -1,20 +1,20 @@
-// What becomes of requests.
+// The outcomes of requests.
 ghost use Rattle.std.specs.Prelude.{◌≡◌, ◌<◌, length};
 ghost use Rattle.poll_server.specs.Outcomes.{outcome_at};
 
 use dvs_base::{Pos, Totals};
 use std::marker::Model;
 
-/// What becomes of a request in a run.
+/// The outcome of a request in a run.
 #[derive(Clone, Copy, Debug, PartialEq, Eq)]
 pub enum Outcome {
     /// The job of the server that takes its last unit, counted from 1, is done at this position.
     Served { job: u64, at: Pos },
-    /// That job isn't done within the run.
+    /// The job that takes the request's last unit isn't done within the run.
     Pending,
 }
 
-/// What becomes of each request in a run, and the totals of the run.
+/// The outcome of each request in a run, and the totals of the run.
 #[derive(Drop)]
 pub struct Served {
     outcomes: Vec<Outcome>,
@@ -38,7 +38,7 @@ impl Served {
         Served { outcomes, totals }
     }
 
-    /// What becomes of a request. Requests count from 0.
+    /// The outcome of a request. Requests count from 0.
     pub fn outcome(&self, m: u32) -> Outcome
         requires { m < length self.now.outcomes }
         ensures { result ≡ outcome_at self.now.outcomes m }

@@ -12,8 +12,8 @@ use dvs_base::NoMemory;
 use event_kernel::worst_demands;
 use std::alloc::Global;
 
-// Where a server stands after some of its jobs: the next request that hasn't arrived, the units of those before it, and
-// the units that the jobs took.
+// What is counted after some jobs of a server: the next request that hasn't arrived, the units of the requests before
+// it, and the units that the jobs took.
 #[derive(Drop)]
 struct Waiting {
     next: usize,
@@ -36,7 +36,7 @@ impl Waiting {
         }
     }
 
-    // The units that the next job takes, which is released after so many jobs.
+    // The units that the next job takes, which is released after the first `jobs` jobs.
     fn take(&mut self, server: &Server<'_>, jobs: u64) -> u64
         requires task { server.now.task < count server.now.plan }
         requires requests { AreRequests server.now.requests }

@@ -1,5 +1,5 @@
-// Polling servers of the tasks s (period 5, worst case 4) and a (period 10, worst case 10) on the machine of Pillai and Shin
-// 2001. Expected values are a separate script's, which goes tick by tick.
+// Polling servers of the tasks s (period 5, worst case 4) and a (period 10, worst case 10) on the machine of Pillai and
+// Shin 2001. Expected values are a separate script's, which goes tick by tick.
 ghost use Rattle.std.specs.Prelude.{◌≤◌, ◌<◌};
 ghost use Rattle.dvs_base.specs.declared.limits.TheConstants.{MOST_TICKS};
 ghost use Rattle.sched_model.specs.Plan.{count};
@@ -48,7 +48,7 @@ fn edf_plan(alloc: Global, tasks: &[u8], machine: &[u8]) -> Result<Admitted, Fai
     }
 }
 
-// The same under RM.
+// The plan of tasks on a machine under RM.
 fn rm_plan(alloc: Global, tasks: &[u8], machine: &[u8]) -> Result<Admitted, Fail> {
     let tasks = TaskSet::read(alloc, tasks).map_err(|_| "tasks")?;
     let machine = Machine::read(alloc, machine).map_err(|_| "machine")?;
@@ -91,7 +91,7 @@ fn polled<G: Governor>(
     }
 }
 
-// The same at the highest speed.
+// What a server makes of requests at the highest speed: their outcomes in order, and the totals.
 fn polled_full(
     alloc: Global,
     plan: &Admitted,

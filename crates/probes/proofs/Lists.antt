@@ -1,4 +1,4 @@
--- A list of probes is told from the first on.
+-- A list of probes, told a note from the first on.
 use Rattle.std.proofs.Common.{◌≡◌, ℕ, zero, suc, ◌+◌, ◌<◌, List, [], ◌∷◌, ◌++◌, length, map, take, drop, set, get_or}
 use Rattle.std.proofs.Common.{sym, ◌∙◌, ap, arith}
 use Rattle.std.specs.List.{remove}
@@ -8,11 +8,11 @@ use Rattle.probes.specs.declared.rule.Stay.TheVariants as stay
 use Rattle.probes.specs.Tallies.{ProbeOf, told, told_all, stay_of, kept}
 
 module _ {X : Type 0} (f : X → ProbeOf) (note : Note) where
-  -- the probes before i as they are, and those from i on after the note
+  -- the list of probes before i as they are, and those from i on after the note
   abbrev pub told_from : ℕ → List X → List ProbeOf
   told_from i xs = take i (map f xs) ++ told_all note (drop i (map f xs))
 
-  -- the probe at i was told and stays
+  -- where the probe at i was told and stays, the next place is i + 1
   stays : (xs : List X) (i : ℕ) (y d : X) → i < length xs → f y ≡ told note (f (get_or xs i d))
       → stay_of (told note (f (get_or xs i d))) ≡ stay.Stay → told_from (suc i) (set xs i y) ≡ told_from i xs
   stays [] i y d within same here = absurd (omega (arith, within))
@@ -22,7 +22,7 @@ module _ {X : Type 0} (f : X → ProbeOf) (note : Note) where
   stays (x ∷ xs) (suc i) y d within same here =
       ap (λ (ps : List ProbeOf). f x ∷ ps) (stays xs i y d (omega (arith, within)) same here)
 
-  -- the probe at i was told and is taken out
+  -- where the probe at i was told and is taken out, the next place is i
   leaves : (xs : List X) (i : ℕ) (y d : X) → i < length xs → stay_of (told note (f (get_or xs i d))) ≡ stay.Leave
       → told_from i (remove (set xs i y) i) ≡ told_from i xs
   leaves [] i y d within here = absurd (omega (arith, within))
@@ -31,7 +31,7 @@ module _ {X : Type 0} (f : X → ProbeOf) (note : Note) where
   leaves (x ∷ xs) (suc i) y d within here =
       ap (λ (ps : List ProbeOf). f x ∷ ps) (leaves xs i y d (omega (arith, within)) here)
 
-  -- the same of a probe that was read at i
+  -- where the probe read at i was told and stays, the next place is i + 1
   pub stays-at : (xs : List X) (i : ℕ) (y p : X) → i < length xs → p ≡ get_or xs i p → f y ≡ told note (f p)
       → stay_of (told note (f p)) ≡ stay.Stay → told_from (i + 1) (set xs i y) ≡ told_from i xs
   stays-at xs i y p within is same here =

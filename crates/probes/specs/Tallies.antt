@@ -1,4 +1,4 @@
--- What notes do to a probe, which is seen as its rule and its tally, and to a list of probes.
+-- What notes do to a probe, seen as its rule and its tally, and to a list of probes.
 use Rattle.std.specs.Prelude.{ℕ, ◌+◌, ◌-◌, min, Bool, true, false, List, [], ◌∷◌, nat_eq, nat_le}
 use Rattle.std.specs.Prelude.{Option, Some, None, if◌then◌else◌}
 use Rattle.dvs_base.specs.Widths.{u64_end}
@@ -10,12 +10,12 @@ use Rattle.probes.specs.declared.rule.Rule.{Rule}
 use Rattle.probes.specs.declared.rule.Stay.{Stay}
 use Rattle.probes.specs.declared.rule.Stay.TheVariants as stay
 
--- a probe, however it counts
+-- what contracts see of a probe: its rule and its tally
 pub record ProbeOf : Type 0 where
   pub rule : Rule
   pub tally : ℕ
 
--- the task that a note names
+-- the task that a note names, if it names one
 abbrev pub task_of : Note → Option ℕ
 task_of (Release tick task job) = Some task
 task_of (Speed tick speed num den) = None
@@ -24,8 +24,8 @@ task_of (Idle from to units energy) = None
 task_of (Done at task job used) = Some task
 task_of (End ticks run idle) = None
 
--- by its kind alone a note weighs 1 where it is of the kind that is counted, and under Units a run's segment weighs its
--- units
+-- what a note weighs by its kind: 1 where it is of the kind that is counted, else 0; under Units a run's segment
+-- weighs its units
 abbrev pub weight_of_kind : What → Note → ℕ
 weight_of_kind what.Releases (Release tick task job) = 1
 weight_of_kind what.Speeds (Speed tick speed num den) = 1
@@ -35,7 +35,7 @@ weight_of_kind what.Dones (Done at task job used) = 1
 weight_of_kind what.Units (Run from to task job units energy) = units
 weight_of_kind _ _ = 0
 
--- a rule that names a task is about the notes that name it, any other about every note
+-- a rule that names a task is about the notes that name that task, and a rule without one is about every note
 abbrev pub is_about : Option ℕ → Option ℕ → Bool
 is_about None found = true
 is_about (Some wanted) (Some found) = nat_eq wanted found
@@ -45,11 +45,11 @@ is_about (Some wanted) None = false
 abbrev pub weight : Rule → Note → ℕ
 weight rule note = if is_about rule.task (task_of note) then weight_of_kind rule.what note else 0
 
--- the highest count
+-- the highest count, 2^64 - 1
 abbrev pub most : ℕ
 most = u64_end - 1
 
--- a count stops at the highest
+-- a count, at most the highest
 abbrev pub capped : ℕ → ℕ
 capped n = min n most
 
@@ -62,21 +62,21 @@ abbrev pub stay_at : Option ℕ → ℕ → Stay
 stay_at None tally = stay.Stay
 stay_at (Some limit) tally = if nat_le limit tally then stay.Leave else stay.Stay
 
--- whether a probe stays, by what it has counted
+-- whether a probe stays, by its tally
 abbrev pub stay_of : ProbeOf → Stay
 stay_of p = stay_at p.rule.limit p.tally
 
--- a probe before the others, where it stays
+-- the other probes, with this one before them where it stays
 abbrev pub kept : Stay → ProbeOf → List ProbeOf → List ProbeOf
 kept stay.Stay p ps = p ∷ ps
 kept stay.Leave p ps = ps
 
--- a list of probes after one note: each was told, and those that stay keep their order
+-- a list of probes after one note: each was told it, and those that stay keep their order
 abbrev pub told_all : Note → List ProbeOf → List ProbeOf
 told_all note [] = []
 told_all note (p ∷ ps) = kept (stay_of (told note p)) (told note p) (told_all note ps)
 
--- a list of probes after notes, one by one
+-- a list of probes after these notes, told one by one
 abbrev pub told_notes : List Note → List ProbeOf → List ProbeOf
 told_notes [] ps = ps
 told_notes (note ∷ notes) ps = told_notes notes (told_all note ps)

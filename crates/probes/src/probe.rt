@@ -1,31 +1,31 @@
-// What every probe does.
+// The trait of probes.
 ghost use Rattle.std.specs.Prelude.{◌≡◌};
 ghost use Rattle.probes.specs.Tallies.{ProbeOf, told, stay_of};
 
 use crate::rule::{Rule, Stay};
 use dvs_base::Note;
 
-/// Counts notes by a rule.
+/// A counter of notes, by a rule.
 pub trait Probe: Drop {
-    /// Its rule and its tally.
+    /// What contracts see of a probe: its rule and its tally.
     ghost seen: { Self → ProbeOf };
 
-    /// What it counts, and until when.
+    /// What the probe counts, and until when.
     fn rule(&self) -> Rule
         ensures { result ≡ (seen self.now).rule };
 
-    /// What it has counted, at most 2^64 - 1.
+    /// What the probe has counted, at most 2^64 - 1.
     fn tally(&self) -> u64
         ensures { result ≡ (seen self.now).tally };
 
-    /// Adds the weight of the note under the rule. Leave comes exactly where the rule has a limit and the tally is then
-    /// at least that.
+    /// Adds the weight of the note under the rule. Leave comes exactly where the rule has a limit and the tally is now
+    /// at least the limit.
     fn tell(&mut self, note: &Note) -> Stay
         ensures seen { seen self.new ≡ told note.now (seen self.old) }
         ensures stay { result ≡ stay_of (seen self.new) };
 }
 
-// A boxed probe is the probe in the box.
+// A boxed probe is seen as the probe in the box.
 impl Probe for Box<dyn Probe> {
     ghost seen = { λ b. (Probe-box b).seen b.value };
 

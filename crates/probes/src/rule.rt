@@ -4,7 +4,7 @@ ghost use Rattle.probes.specs.Tallies.{task_of, is_about, weight, weight_of_kind
 
 use dvs_base::Note;
 
-/// The kind of notes that weigh something: 1 each, and under `Units` the work units of a run's segment.
+/// The kind of notes that count: each weighs 1, and under `Units` the segment of a run weighs its work units.
 #[derive(Clone, Copy, Debug, PartialEq, Eq)]
 pub enum What {
     Releases,
@@ -31,7 +31,7 @@ pub enum Stay {
     Leave,
 }
 
-/// The task that a note names.
+/// The task that a note names, if it names one.
 pub(crate) fn task_of(note: &Note) -> Option<u32>
     ensures { result ≡ task_of note.now }
 {
@@ -60,7 +60,7 @@ fn weight_of_kind(what: What, note: &Note) -> u64
     }
 }
 
-// Whether a note is of the task that a rule names, where it names one.
+// Whether a note is about the task that a rule names; a rule without a task is about every note.
 fn is_about(task: Option<u32>, note: &Note) -> bool
     ensures { result ≡ is_about task (task_of note.now) }
 {
@@ -82,7 +82,7 @@ pub(crate) fn weight(rule: Rule, note: &Note) -> u64
     }
 }
 
-/// Leave exactly where there is a limit and the tally is at least that.
+/// Leave exactly where there is a limit and the tally is at least the limit.
 pub(crate) fn stay_at(limit: Option<u64>, tally: u64) -> Stay
     ensures { result ≡ stay_at limit tally }
 {

@@ -8,7 +8,7 @@ use crate::rule::{Rule, Stay, stay_at, task_of, weight};
 use dvs_base::Note;
 use task_model::MOST_TASKS;
 
-/// Keeps a counter for each task that a set can have, and one for all other notes. Its tally is their sum.
+/// A counter for each task that a set can have, and one for all other notes. The tally is their sum.
 #[derive(Debug, Drop)]
 pub struct TableProbe {
     rule: Rule,
@@ -16,7 +16,7 @@ pub struct TableProbe {
     others: u64,
 }
 
-// The sum of counts, stopping at the highest.
+// The sum of the counts, at most 2^64 - 1.
 fn capped_sum(counts: &[u64]) -> u64
     ensures { result ≡ capped (sum counts.now) }
 {
@@ -28,7 +28,7 @@ fn capped_sum(counts: &[u64]) -> u64
 }
 
 impl TableProbe {
-    /// Nothing is counted yet.
+    /// A probe with this rule that has counted nothing yet.
     pub fn new(rule: Rule) -> TableProbe
         ensures { seen_table result ≡ record { rule = rule; tally = 0 } }
     {

@@ -1,4 +1,4 @@
-// Calls of the whole program over files and sinks in memory, and what is made to fail in them.
+// Calls of the whole program over files and sinks in memory, with the faults that are injected into them.
 use dvs_base::{FailAt, MemShelf, MemSink, NoMemory};
 use probes::Probe;
 use rtdvs_top::rtdvs;
@@ -9,7 +9,7 @@ use test_inputs::{Ending, Outcome, words_of};
 // The bytes that each sink of a call has room for.
 const ROOM: usize = 65536;
 
-/// A call: its files, which have the names T, M and F, and its words.
+/// A call: its files, with the names T, M and F, and its words.
 #[derive(Clone, Copy)]
 pub struct Call<'a> {
     pub tasks: &'a [u8],
@@ -18,7 +18,7 @@ pub struct Call<'a> {
     pub words: &'a str,
 }
 
-/// What is made to fail: loads, puts of the answer and puts of the notes, by their numbers, counted from 1.
+/// The faults to inject: loads, puts of the answer and puts of the notes, by their numbers, counted from 1.
 #[derive(Clone, Copy)]
 pub struct Faults<'a> {
     pub loads: &'a [u64],
@@ -26,14 +26,14 @@ pub struct Faults<'a> {
     pub notes: &'a [FailAt],
 }
 
-/// Nothing fails.
+/// No faults.
 pub const NO_FAULTS: Faults = Faults {
     loads: &[],
     puts: &[],
     notes: &[],
 };
 
-/// What a call is made over: its words, its files and both sinks.
+/// What a call works on: its words, its files and both sinks.
 #[derive(Drop)]
 pub struct Stage {
     pub words: Vec<String>,
@@ -43,7 +43,7 @@ pub struct Stage {
 }
 
 impl Stage {
-    /// What a call that ended with this status has left. No clause says so.
+    /// The outcome of a call that ended with this status. No clause says so.
     pub fn left(&self, alloc: Global, code: u8) -> Result<Outcome, NoMemory> {
         Ok(Outcome {
             code,
@@ -55,7 +55,7 @@ impl Stage {
 }
 
 impl<'a> Call<'a> {
-    /// The same files with these words. No clause says so.
+    /// These files with other words. No clause says so.
     pub fn asked(self, words: &'a str) -> Call<'a> {
         Call {
             tasks: self.tasks,
@@ -65,7 +65,7 @@ impl<'a> Call<'a> {
         }
     }
 
-    /// The same call with this task file. No clause says so.
+    /// This call with another task file. No clause says so.
     pub fn with_tasks(self, tasks: &'a [u8]) -> Call<'a> {
         Call {
             tasks,
@@ -75,7 +75,7 @@ impl<'a> Call<'a> {
         }
     }
 
-    /// The same call with this machine file. No clause says so.
+    /// This call with another machine file. No clause says so.
     pub fn with_machine(self, machine: &'a [u8]) -> Call<'a> {
         Call {
             tasks: self.tasks,
@@ -85,7 +85,7 @@ impl<'a> Call<'a> {
         }
     }
 
-    /// The same call with this third file. No clause says so.
+    /// This call with another third file. No clause says so.
     pub fn with_third(self, third: &'a [u8]) -> Call<'a> {
         Call {
             tasks: self.tasks,
@@ -95,7 +95,7 @@ impl<'a> Call<'a> {
         }
     }
 
-    // The files on a shelf whose loads of these numbers fail.
+    // A shelf with the files of the call, whose loads with the numbers in `failing` fail.
     fn shelf(self, alloc: Global, failing: &[u64]) -> Result<MemShelf, NoMemory> {
         let mut shelf = MemShelf::new(alloc, failing)?;
         shelf.add("T", self.tasks)?;
@@ -104,7 +104,7 @@ impl<'a> Call<'a> {
         Ok(shelf)
     }
 
-    /// What the call is made over, where these loads and puts fail. No clause says what.
+    /// What the call works on, with these faults. No clause says what.
     pub fn stage(self, alloc: Global, faults: Faults<'_>) -> Result<Stage, NoMemory> {
         Ok(Stage {
             words: words_of(alloc, self.words).map_err(|_| NoMemory)?,
@@ -114,8 +114,7 @@ impl<'a> Call<'a> {
         })
     }
 
-    /// What the call leaves with no probes, where these loads and puts fail. No clause says what, beyond those of the
-    /// program.
+    /// The outcome of the call without probes, with these faults. No clause says what, beyond those of the program.
     pub fn under(self, alloc: Global, faults: Faults<'_>) -> Result<Outcome, NoMemory> {
         let mut stage = self.stage(alloc, faults)?;
         let mut probes: Vec<Box<dyn Probe>> = Vec::new(alloc);
@@ -130,7 +129,7 @@ impl<'a> Call<'a> {
         stage.left(alloc, status.code())
     }
 
-    /// The call ends so where these loads and puts fail, or the error tells what is otherwise.
+    /// Makes the call with these faults and compares its outcome with `ending`. The error says what differs.
     pub fn ends(
         self,
         rt: &impl AllocGlobal,
@@ -140,8 +139,7 @@ impl<'a> Call<'a> {
         self.under(rt.alloc(), faults)?.is(self.words, ending)
     }
 
-    /// Where nothing fails, the call ends with this status and leaves these texts, or the error tells what is
-    /// otherwise.
+    /// Makes the call without faults and compares its status and texts with these. The error says what differs.
     pub fn leaves(
         self,
         rt: &impl AllocGlobal,
@@ -158,18 +156,18 @@ impl<'a> Call<'a> {
         self.ends(rt, NO_FAULTS, ending)
     }
 
-    /// The call ends with 0 and leaves this text on `out` alone, or the error tells what is otherwise.
+    /// The call ends with 0 and leaves this text on `out` alone, or the error says what differs.
     pub fn answers(self, rt: &impl AllocGlobal, text: &str) -> Result<(), Fail> {
         self.leaves(rt, 0, text, "")
     }
 
-    /// The call ends with this status and leaves this text on `notes` alone, or the error tells what is otherwise.
+    /// The call ends with this status and leaves this text on `notes` alone, or the error says what differs.
     pub fn refuses(self, rt: &impl AllocGlobal, code: u8, text: &str) -> Result<(), Fail> {
         self.leaves(rt, code, "", text)
     }
 
-    /// Where this put of the answer fails, the call ends with 8 and leaves this text on `out`, or the error tells what
-    /// is otherwise.
+    /// Where this put of the answer fails, the call ends with 8 and leaves this text on `out`.
+    /// Otherwise the error says what differs.
     pub fn fails_at(self, rt: &impl AllocGlobal, put: FailAt, out: &str) -> Result<(), Fail> {
         let faults = Faults {
             loads: &[],
@@ -185,8 +183,8 @@ impl<'a> Call<'a> {
         self.ends(rt, faults, ending)
     }
 
-    /// A file is refused with this line: the call ends with 4 and leaves the line on `notes` alone, or the error tells
-    /// what is otherwise.
+    /// A file is refused with this line: the call ends with 4 and leaves the line on `notes` alone.
+    /// Otherwise the error says what differs.
     pub fn refuses_file(self, rt: &impl AllocGlobal, line: &str) -> Result<(), Fail> {
         let text = format!(in rt.alloc(); "{line}\n")?;
         self.refuses(rt, 4, text.as_str())

@@ -3,7 +3,7 @@ ghost use Rattle.std.specs.Prelude.{◌≡◌, ◌≢◌, ◌<◌, ℕ, length, 
 
 use std::alloc::{AllocError, Global};
 
-/// Another byte in the place of this one: in the place of a digit another digit, and else any other.
+/// A byte other than `byte`: another digit in place of a digit, and otherwise any other byte.
 pub fn other_byte(byte: u8, draw: u64) -> u8
     ensures { result ≢ byte }
 {
@@ -15,7 +15,7 @@ pub fn other_byte(byte: u8, draw: u64) -> u8
     }
 }
 
-/// The bytes with another one at this place. It fails only where memory runs out.
+/// The bytes with another one at `place`. The only error is out of memory.
 pub fn changed(alloc: Global, bytes: &[u8], place: usize, draw: u64) -> Result<Vec<u8>, AllocError>
     requires { place < length bytes.now }
     ensures { IfOk result (λ v. (other : ℕ) × (other ≢ slice_index bytes.now place)

@@ -1,4 +1,4 @@
-// Hostile use: each load and each put that fails, and inputs that are cut or too large.
+// Hostile use: each load and each put fails in turn, and inputs are cut or too large.
 mod cuts;
 mod example;
 mod large;

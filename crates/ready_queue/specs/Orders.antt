@@ -11,11 +11,11 @@ pub record OrderLaws (before : Entry → Entry → Bool) : Type 0 where
   pub transitive : (a b c : Entry) → a.task ≢ b.task → b.task ≢ c.task → a.task ≢ c.task
       → before a b ≡ true → before b c ≡ true → before a c ≡ true
 
--- by a key, and by the task among equal keys
+-- the order by a key, and among equal keys by the task
 abbrev pub before_by : (Entry → ℕ) → Entry → Entry → Bool
 before_by key a b = nat_lt (key a) (key b) || (nat_eq (key a) (key b) && nat_lt a.task b.task)
 
--- whichever the key
+-- the order by any key is a strict total order on the entries of different tasks
 pub before_by-laws : (key : Entry → ℕ) → OrderLaws (before_by key)
 before_by-laws key = record {
   one_way = λ a b ne h. grind (arith, nat_tests);
@@ -23,18 +23,18 @@ before_by-laws key = record {
   transitive = λ a b c ab bc ac h g. grind (arith, nat_tests);
 }
 
--- by the deadline or the next release
+-- the order by the deadline or the next release
 abbrev pub due_before : Entry → Entry → Bool
 due_before = before_by (λ e. e.due)
 
--- it is a strict total order on the entries of different tasks
+-- the order by the deadline is a strict total order on the entries of different tasks
 pub due_laws : OrderLaws due_before
 due_laws = before_by-laws (λ e. e.due)
 
--- by the period
+-- the order by the period
 abbrev pub period_before : Entry → Entry → Bool
 period_before = before_by (λ e. e.period)
 
--- it is one too
+-- the order by the period is a strict total order on the entries of different tasks
 pub period_laws : OrderLaws period_before
 period_laws = before_by-laws (λ e. e.period)

@@ -8,7 +8,7 @@ use dvs_base::NoMemory;
 use std::alloc::Global;
 use std::marker::Model;
 
-/// Entries of distinct tasks below a limit, by an order.
+/// A queue of entries of distinct tasks below a limit, by an order.
 #[derive(Drop)]
 pub struct Queue<O: Order> {
     heap: Vec<Entry>,
@@ -28,7 +28,7 @@ impl<O: Order> Model for Queue<O> {
 }
 
 impl<O: Order> Queue<O> {
-    /// An empty queue for the tasks below `n`. All its memory is taken here.
+    /// An empty queue for the tasks below `n`. All its memory is taken here. The only error is `NoMemory`.
     pub fn new(alloc: Global, n: u32, order: O) -> Result<Queue<O>, NoMemory>
         ensures { IfOk result (λ q. q ≡ record { limit = n; entries = [] }) }
     {
@@ -36,7 +36,7 @@ impl<O: Order> Queue<O> {
         Ok(Queue { heap, order })
     }
 
-    /// Adds an entry of a task that is not in.
+    /// Adds an entry of a task that is not in the queue.
     pub fn insert(&mut self, e: Entry)
         requires task { e.task < self.old.limit }
         requires absent { IsAbsent e.task self.old.entries }
@@ -48,7 +48,7 @@ impl<O: Order> Queue<O> {
         rise(&mut self.heap, &self.order, at);
     }
 
-    /// The entry that comes before all others, and none exactly where the queue is empty.
+    /// The entry that comes before all others; `None` exactly where the queue is empty.
     pub fn first(&self) -> Option<Entry>
         ensures value { result ≡ slice_get self.now.entries 0 }
         ensures first { IfSome result (λ e. ComesFirst O.comes_before e self.now.entries) }
@@ -56,7 +56,7 @@ impl<O: Order> Queue<O> {
         self.heap.first().copied()
     }
 
-    /// Takes the entry that comes before all others out, and the rest stays; none exactly where the queue is empty.
+    /// Takes out and returns the entry that comes before all others; `None` exactly where the queue is empty.
     pub fn take_first(&mut self) -> Option<Entry>
         ensures entries { MatchOption result ((self.old.entries ≡ []) × (self.new.entries ≡ []))
             (λ e. self.old.entries ≡ e ∷ self.new.entries) }
@@ -72,7 +72,7 @@ impl<O: Order> Queue<O> {
         Some(first)
     }
 
-    /// How many entries there are.
+    /// The number of entries.
     pub fn len(&self) -> u32
         ensures { result ≡ length self.now.entries }
     {

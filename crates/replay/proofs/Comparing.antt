@@ -10,7 +10,7 @@ use Rattle.done_lines.proofs.OneEnd.{EndsOnce, whole-prefix}
 use Rattle.replay.specs.Comparing.{same_note, IsOther, first_unequal, differs, unless_unequal, compared}
 use Rattle.replay.specs.declared.fault.ReplayFault.{ReplayFault}
 
--- each note is itself
+-- a note is equal to itself
 pub same-self : (n : Note) → same_note n n ≡ true
 same-self (Release t i k) = grind arith
 same-self (Speed t f num den) = grind arith
@@ -19,7 +19,7 @@ same-self (Idle from to units energy) = grind arith
 same-self (Done q i k used) = grind arith
 same-self (End t run idle) = grind arith
 
--- so a list of notes differs nowhere from itself
+-- a list of notes differs nowhere from itself
 pub unequal-self : (at : ℕ) (notes : List Note) → first_unequal at notes notes ≡ None
 unequal-self at [] = refl
 unequal-self at (n ∷ notes) = rw (same-self n) (unequal-self (at + 1) notes)
@@ -29,17 +29,17 @@ ended-once [] h = h
 ended-once (n ∷ []) h = h
 ended-once (n ∷ m ∷ notes) h = (h.0, ended-once (m ∷ notes) h.1)
 
--- notes that end once do so after one that isn't the end
+-- where notes end once and the first isn't the end, those after it end once
 tail-once : (n : Note) (notes : List Note) → is_end n ≡ false → EndsOnce is_end (n ∷ notes) → EndsOnce is_end notes
 tail-once n [] other h = absurd (true≢false (sym h ∙ other))
 tail-once n (m ∷ notes) other h = h.1
 
 module _ {L : Type 0} (rest : L → List Note) (wanted : L → Option Note) where
-  -- it heard the next note
+  -- the listener heard the next note of the trace
   abbrev pub HeardNext : L → Note → L → Type 0
   HeardNext a n b = rest a ≡ n ∷ rest b
 
-  -- it heard another note in place of the next one
+  -- the listener heard another note in place of the trace's next one
   abbrev pub HeardOther : L → Note → L → Type 0
   HeardOther a n b = IsOther n (rest a) × (rest b ≡ rest a) × (wanted b ≡ Some n)
 
@@ -47,7 +47,7 @@ module _ {L : Type 0} (rest : L → List Note) (wanted : L → Option Note) wher
   heard-rest from [] to h = ap rest h
   heard-rest from (n ∷ notes) to h = h.1 ∙ ap (λ (l : List Note). n ∷ l) (heard-rest h.0 notes to h.2)
 
-  -- a listener that heard all of a run's notes had these notes and no more
+  -- a listener that heard all notes of a run had these notes to compare with, and no more
   pub heard-same : (from : L) (notes : List Note) (to : L) → EndsOnce is_end notes → EndsOnce is_end (rest from)
       → HasHeard HeardNext from notes to → rest from ≡ notes
   heard-same from notes to once ends h =
@@ -55,7 +55,7 @@ module _ {L : Type 0} (rest : L → List Note) (wanted : L → Option Note) wher
       let none : rest to ≡ [] = whole-prefix is_end notes (rest to) once (subst (EndsOnce is_end) all ends) in
       all ∙ (ap (λ (l : List Note). notes ++ l) none ∙ append-nil notes)
 
-  -- where it stopped: the first unequal note, the one that was wanted, and those from the one found on
+  -- a listener stopped at the first unequal note: the note wanted there, the note found, and the notes after that
   pub record StoppedAt (at : ℕ) (from : L) (notes : List Note) (to : L) : Type 0 where
     pub want : Note
     pub found : Note
@@ -113,7 +113,7 @@ module _ {L : Type 0} (rest : L → List Note) (wanted : L → Option Note) wher
       stopped-later at from n (m ∷ notes) later.0 to later.1
       (balked-first (at + 1) later.0 (m ∷ notes) to once.1 (tail-once n (rest later.0) once.0 (subst (EndsOnce is_end) later.1 ends)) later.2)
 
-  -- and what the first two unequal notes are the refusal of
+  -- where a listener stopped, comparing the notes gives the refusal at the first two unequal ones
   pub stopped-compared : (tasks : ℕ) (t : TraceOf) (from : L) (notes : List Note) (to : L) (w : Note) (why : ReplayFault)
       → rest from ≡ t.notes → StoppedAt 0 from notes to → wanted to ≡ Some w
       → ((found : Note) (more : List Note) → rest to ≡ found ∷ more → why ≡ differs tasks t (length t.notes - length (rest to)) w found)

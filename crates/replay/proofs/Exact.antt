@@ -1,4 +1,4 @@
--- What a replay answers, of traces of schedules and of others.
+-- What a replay answers for traces of schedules, and for others.
 use Rattle.std.proofs.Common.{◌≡◌, ◌≢◌, ◌+◌, ◌≤◌, ℕ, Bool, true, false, List, [], ◌∷◌, refl, if◌then◌else◌, ap, ap₂, ◌∙◌, sym, subst, true≢false, arith}
 use Rattle.std.specs.Prelude.{nat_lt, unwrap_or, Option, Some, None, Result, Ok, Err, IfOk, IfErr, IsErrOf}
 use Rattle.std.specs.Option.{option_or}
@@ -26,7 +26,7 @@ use Rattle.replay.specs.declared.fault.ReplayFault.TheVariants as fault
 use Rattle.replay.proofs.Comparing.{same-self, compared-same}
 use Rattle.replay.proofs.Fixing.{over-fit, fit-over}
 
--- notes that are the same by their test are equal
+-- notes that are equal by `same_note` are equal
 pub same-is : (m n : Note) → same_note m n ≡ true → m ≡ n
 same-is (Release t i k) (Release t2 i2 k2) e = grind (arith, e)
 same-is (Release t i k) (Speed t2 f2 num2 den2) e = absurd (true≢false (sym e))
@@ -65,7 +65,7 @@ same-is (End t run idle) (Idle from2 to2 units2 energy2) e = absurd (true≢fals
 same-is (End t run idle) (Done q2 i2 k2 used2) e = absurd (true≢false (sym e))
 same-is (End t run idle) (End t2 run2 idle2) e = grind (arith, e)
 
--- notes that end once and differ nowhere are equal
+-- after equal first notes, lists of notes that end once are both at their end, or both go on
 same-rest : (at : ℕ) (w f : Note) (wanted found : List Note) → f ≡ w → EndsOnce is_end (w ∷ wanted)
     → EndsOnce is_end (f ∷ found)
     → (EndsOnce is_end wanted → EndsOnce is_end found → wanted ≡ found) → wanted ≡ found
@@ -91,7 +91,7 @@ nowhere-same at (w ∷ wanted) (f ∷ found) once ends e =
     same-by at w f wanted found (same_note f w) refl once ends
     (λ none first second. nowhere-same (at + 1) wanted found first second none) e
 
--- the place where they first differ is that of the first two unequal ones
+-- the first two unequal notes of two lists, at a place that is counted from `at`
 abbrev FirstFrom : ℕ → List Note → List Note → ℕ → Note → Note → Type 0
 FirstFrom at wanted found place w f = (more : ℕ) × (place ≡ at + more) × FirstUnequal wanted found more w f
 
@@ -141,7 +141,7 @@ somewhere-first at (v ∷ wanted) [] place w f e = absurd cc
 somewhere-first at (v ∷ wanted) (g ∷ found) place w f e =
     first-by at v g wanted found place w f (same_note g v) refl (somewhere-first (at + 1) wanted found place w f) e
 
--- the first end over its worst case is no difference
+-- the refusal of the first end over its worst case isn't a difference
 over-other : (p : Plan) (notes : List Note) (line : ℕ) (w f : Note) → first_over p notes ≡ Some (fault.Differs line w f)
     → ⊥
 over-other p [] line w f e = cc
@@ -157,7 +157,7 @@ over-other p (Done q i k used ∷ notes) line w f e = go (nat_lt (worst p i) use
     go true rest e = cc
     go false rest e = rest e
 
--- and neither is the refusal of too many jobs
+-- the refusal of too many jobs isn't a difference
 many-other : (p : Plan) (ticks line : ℕ) (w f : Note) → too_many p ticks ≡ Some (fault.Differs line w f) → ⊥
 many-other p ticks line w f = go (nat_lt MOST_JOBS (released_jobs p ticks))
   where
@@ -166,7 +166,7 @@ many-other p ticks line w f = go (nat_lt MOST_JOBS (released_jobs p ticks))
     go true e = cc
     go false e = cc
 
--- the first end over its worst case shows it
+-- the refusal of the first end over its worst case shows its cause
 over-cause : (p : Plan) (notes : List Note) (why : ReplayFault) → first_over p notes ≡ Some why → IsCause why
 over-cause p [] why e = absurd cc
 over-cause p (Release tick i k ∷ notes) why e = over-cause p notes why e
@@ -182,7 +182,7 @@ over-cause p (Done q i k used ∷ notes) why e = go (nat_lt (worst p i) used) re
     go true over rest e = subst IsCause (same_Some _ _ e) (grind (arith, nat_tests, over))
     go false low rest e = rest e
 
--- and so do too many jobs
+-- the refusal of too many jobs shows its cause
 many-cause : (p : Plan) (ticks : ℕ) (why : ReplayFault) → too_many p ticks ≡ Some why → IsCause why
 many-cause p ticks why = go (nat_lt MOST_JOBS (released_jobs p ticks)) refl
   where
@@ -191,7 +191,7 @@ many-cause p ticks why = go (nat_lt MOST_JOBS (released_jobs p ticks)) refl
     go true many e = subst IsCause (same_Some _ _ e) (grind (arith, nat_tests, many))
     go false few e = absurd cc
 
--- few jobs are not too many
+-- jobs within the limit are not too many
 pub few-jobs : (p : Plan) (ticks : ℕ) → released_jobs p ticks ≤ MOST_JOBS → too_many p ticks ≡ None
 few-jobs p ticks few =
     let low : nat_lt MOST_JOBS (released_jobs p ticks) ≡ false = grind (arith, nat_tests, few) in
@@ -201,11 +201,11 @@ few-jobs p ticks few =
 abbrev result_of : ReplayFault → Result Totals ReplayFault
 result_of why = Err why
 
--- equal refusals
+-- refusals that are equal as results are equal
 same_Err : (e why : ReplayFault) → result_of e ≡ result_of why → e ≡ why
 same_Err e why h = cc
 
--- a difference is no want of memory
+-- a difference isn't the refusal `NoMemory`
 other-fault : (why : ReplayFault) (line : ℕ) (w f : Note) → IsErrOf (result_of why) (fault.Differs line w f)
     → why ≢ fault.NoMemory
 other-fault why line w f is memory = cc
@@ -216,7 +216,7 @@ module _ (p : Plan) (lim : IsWithinLimits p) (asked : Asking) (t : TraceOf) (end
       let own : ℕ → ℕ → ℕ = demand_of p (fixed_of p t.notes) in
       schedule-ended p lim own (asked own) (ticks_by p asked own t.plan.ticks)
 
-  -- the trace is replayed where no end is over, the jobs are few and its notes are those of its own list
+  -- a trace passes where no end is over its worst case, the jobs are few, and its notes are those of its own list
   pub record Passes : Type 0 where
     pub none_over : first_over p t.notes ≡ None
     pub few : too_many p t.plan.ticks ≡ None
@@ -237,7 +237,7 @@ module _ (p : Plan) (lim : IsWithinLimits p) (asked : Asking) (t : TraceOf) (end
   replayed-by None None None totals e f g h =
       (record { none_over = e; few = f; same = sym (nowhere-same 0 (own_notes p asked t) t.notes once ends g) }, cc)
 
-  -- a trace that is replayed passes, with its totals
+  -- a trace that is replayed passes, and the answer is its totals
   pub replayed-passes : (totals : Totals) → replay_of p asked t ≡ Ok totals → Passes × (totals ≡ totals_of t.notes)
   replayed-passes totals h =
       replayed-by (first_over p t.notes) (too_many p t.plan.ticks) (first_unequal 0 (own_notes p asked t) t.notes) totals
@@ -264,7 +264,7 @@ module _ (p : Plan) (lim : IsWithinLimits p) (asked : Asking) (t : TraceOf) (end
             (subst (λ (n : Note). FirstUnequal (own_notes p asked t) t.notes first.0 n found) want_is first.2)),
       )
 
-  -- a difference is that of the first two unequal notes
+  -- a difference names the first two unequal notes
   pub differs-first : (line : ℕ) (w f : Note) → replay_of p asked t ≡ Err (fault.Differs line w f)
       → IsFirstDifference p asked t line w f
   differs-first line w f h =
@@ -303,7 +303,7 @@ module _ (p : Plan) (lim : IsWithinLimits p) (asked : Asking) (t : TraceOf) (end
       same = own.notes_are;
     }
 
-    -- notes of the schedule for some list are those for their own list
+    -- where the jobs are few, notes of the schedule for some list pass their replay
     pub some-replayed : (rows : List DemandRow) → AreNotesFor p asked t.plan.ticks t.notes rows
         → released_jobs p t.plan.ticks ≤ MOST_JOBS
         → replay_of p asked t ≡ Ok (totals_of t.notes)
@@ -312,7 +312,7 @@ module _ (p : Plan) (lim : IsWithinLimits p) (asked : Asking) (t : TraceOf) (end
     passes-own : Passes → AreOwn p asked t.plan.ticks t.notes
     passes-own h = record { fit = over-fit p t.notes h.none_over; notes_are = h.same }
 
-    -- a trace that is replayed shows its list
+    -- a trace that is replayed has the notes of the schedule for the list that it fixes
     pub is-replayed : (totals : Totals) → replay_of p asked t ≡ Ok totals → IsReplayed p asked t totals
     is-replayed totals h =
         let passes = replayed-passes totals h in
@@ -323,7 +323,7 @@ module _ (p : Plan) (lim : IsWithinLimits p) (asked : Asking) (t : TraceOf) (end
           list = law.list t.plan.ticks t.notes own;
         }
 
-    -- the same of what a call answers
+    -- where a call answers totals, the trace is replayed with them
     pub ok-replayed : (r : Result Totals ReplayFault)
         → IsUnlessMemory fault.NoMemory (λ (totals : Totals). totals) r (replay_of p asked t)
         → IfOk r (λ totals. IsReplayed p asked t totals)

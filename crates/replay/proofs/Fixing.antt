@@ -17,11 +17,11 @@ use Rattle.replay_laws.specs.OwnList.{IsFit}
 use Rattle.replay.specs.Replays.{first_over, Fixes}
 use Rattle.replay.specs.declared.fault.ReplayFault.TheVariants as fault
 
--- what is left from a place on begins with what stands there
+-- what is left of a list from place i on begins with the element at i
 pub drop-next : {A : Type 0} (l : List A) (i : ℕ) (x : A) → i < length l → drop i l ≡ get_or l i x ∷ drop (i + 1) l
 drop-next l i x lt = rw add-one (drop-cons l i x lt)
 
--- where no end is over its worst case, each is fit
+-- where no end is over its worst case, each note is fit
 pub over-fit : (p : Plan) (notes : List Note) → first_over p notes ≡ None → AllByRecursion (IsFit p) notes
 over-fit p [] none = tt
 over-fit p (Release tick i k ∷ notes) none = (tt, over-fit p notes none)
@@ -38,7 +38,7 @@ over-fit p (Done q i k used ∷ notes) none = go (nat_lt (worst p i) used) refl 
     go true over e rest = absurd cc
     go false low e rest = (grind (arith, nat_tests, low), rest e)
 
--- and the other way round
+-- where each note is fit, no end is over its worst case
 pub fit-over : (p : Plan) (notes : List Note) → AllByRecursion (IsFit p) notes → first_over p notes ≡ None
 fit-over p [] fit = refl
 fit-over p (Release tick i k ∷ notes) fit = fit-over p notes fit.1
@@ -50,7 +50,7 @@ fit-over p (Done q i k used ∷ notes) fit =
     let low : nat_lt (worst p i) used ≡ false = grind (arith, nat_tests, fit.0) in
     rw low (fit-over p notes fit.1)
 
--- a note fixes its row before those of the notes after it
+-- the row that a note fixes comes before those that the notes after it fix
 fixed-first : (p : Plan) (n : Note) (rows : List DemandRow) (i k : ℕ)
     → named (fixed_before p n rows) i k ≡ option_or (named (fixed_before p n []) i k) (named rows i k)
 fixed-first p (Release tick j l) rows i k = refl
@@ -67,12 +67,12 @@ fixed-first p (Done q j (suc l) used) rows i k = go (nat_eq j i && nat_eq (suc l
     go true = refl
     go false = refl
 
--- the rows of a list, and those that the notes from a place on fix, are those that all the notes fix
+-- the rows of a list, then those that the notes from place `at` on fix, give each job what all the notes fix for it
 abbrev pub AreFixedFrom : Plan → List Note → ℕ → DemandsOf → Type 0
 AreFixedFrom p notes at d =
     (i k : ℕ) → option_or (named d.rows i k) (named (fixed_of p (drop at notes)) i k) ≡ named (fixed_of p notes) i k
 
--- a list without rows, and those that all the notes fix
+-- a list without rows, then the rows that all the notes fix, give each job what the notes fix for it
 pub fixed-none : (p : Plan) (notes : List Note) (d : DemandsOf) → d.rows ≡ [] → AreFixedFrom p notes 0 d
 fixed-none p notes d none i k = ap (λ (rows : List DemandRow). option_or (named rows i k) (named (fixed_of p notes) i k)) none
 
@@ -86,7 +86,7 @@ fixed-next p notes at n old new is before h i k =
     ∙ ap (λ (l : List Note). named (fixed_of p l) i k) (sym is))
     ∙ before i k))
 
--- the same rows by each job are the same demands
+-- rows that give each job the same units make the same demands
 same-demand : (p : Plan) (rows others : List DemandRow) → ((i k : ℕ) → named rows i k ≡ named others i k) → (i k : ℕ)
     → demand_of p rows i k ≡ demand_of p others i k
 same-demand p rows others same i zero = refl

@@ -3,3 +3,4 @@ pub mod Fixing
 pub mod Exact
 pub mod Texts
 pub mod Running
+pub mod Examples

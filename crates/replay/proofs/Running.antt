@@ -28,7 +28,7 @@ module _ {L : Type 0} (rest : L → List Note) (wanted : L → Option Note)
   pub run-same : HasHeard (HeardNext rest wanted) from (notes_of_run demand run) to → t.notes ≡ notes_of_run demand run
   run-same h = sym notes_are ∙ heard-same rest wanted from (notes_of_run demand run) to once ends h
 
-  -- where it stopped, it did so at the first unequal note
+  -- where the listener stopped, it stopped at the first unequal note
   pub run-stopped : HasBalked (HeardNext rest wanted) (HeardOther rest wanted) from (notes_of_run demand run) to
       → StoppedAt rest wanted 0 from (notes_of_run demand run) to
   run-stopped h = balked-first rest wanted 0 from (notes_of_run demand run) to once ends h

@@ -1,4 +1,4 @@
--- Traces that were read, as replays ask for them, and the text of a run as that of a trace.
+-- The tasks that the notes of a trace name, and the distinct names of tasks.
 use Rattle.std.proofs.Common.{◌≡◌, ◌≢◌, ◌<◌, ℕ, zero, suc, List, [], ◌∷◌, length, map, slice_index_or, refl, sym, ◌∙◌, arith}
 use Rattle.std.proofs.lemmas.List.{length-map}
 use Rattle.std.specs.List.{AllByRecursion, AllPairs}
@@ -9,7 +9,7 @@ use Rattle.dvs_base.specs.declared.note.Note.TheVariants.{Release, Speed, Run, I
 use Rattle.trace_reader.specs.Traces.{IsNoteOf}
 use Rattle.replay.specs.Replays.{NamesTask}
 
--- a note of a trace for so many tasks names one of them
+-- a note of a trace of c tasks names no task but one of these
 pub names-each : (c : ℕ) (notes : List Note) → AllByRecursion (IsNoteOf c) notes → AllByRecursion (NamesTask c) notes
 names-each c [] h = tt
 names-each c (Release tick i k ∷ notes) h = (h.0.1, names-each c notes h.1)
@@ -19,7 +19,7 @@ names-each c (Idle from to units energy ∷ notes) h = (tt, names-each c notes h
 names-each c (Done q i k used ∷ notes) h = (h.0.1, names-each c notes h.1)
 names-each c (End ticks run idle ∷ notes) h = (tt, names-each c notes h.1)
 
--- the name of a task in the list of the names
+-- the name of task i is the i-th of the names
 name-at : (tasks : List Task) (i : ℕ) (d : List ℕ) → i < length tasks
     → slice_index_or (map (λ (t : Task). t.name) tasks) i d ≡ (task_at tasks i).name
 name-at [] i d lt = absurd (omega (arith, lt))

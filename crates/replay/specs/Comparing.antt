@@ -11,11 +11,11 @@ use Rattle.trace_reader.specs.Traces.{TraceOf}
 use Rattle.replay.specs.declared.fault.ReplayFault.{ReplayFault}
 use Rattle.replay.specs.declared.fault.ReplayFault.TheVariants as fault
 
--- one position
+-- whether two positions are equal
 abbrev pub same_place : Pos → Pos → Bool
 same_place q r = q.tick == r.tick && q.offset == r.offset
 
--- the notes are one
+-- whether two notes are equal
 abbrev pub same_note : Note → Note → Bool
 same_note (Release t i k) (Release u j l) = t == u && i == j && k == l
 same_note (Speed t f num den) (Speed u g n d) = t == u && f == g && num == n && den == d
@@ -27,7 +27,7 @@ same_note (Done q i k used) (Done r j l us) = same_place q r && i == j && k == l
 same_note (End t run idle) (End u running idling) = t == u && run == running && idle == idling
 same_note _ _ = false
 
--- the note isn't the first of these
+-- the list is empty, or begins with another note than this one
 abbrev pub IsOther : Note → List Note → Type 0
 IsOther n [] = Unit {0}
 IsOther n (m ∷ notes) = same_note m n ≡ false
@@ -38,27 +38,27 @@ first_unequal at (w ∷ wanted) (f ∷ found) =
     if same_note f w then first_unequal (at + 1) wanted found else Some (at, w, f)
 first_unequal at _ _ = None
 
--- the line of a note of a trace for so many tasks, by the note's place from 0: two lines stand before the notes; in
+-- the line of a note of a trace of `tasks` tasks, by the note's place from 0: two lines are before the notes; in
 -- version 2 also the lines of the tasks, and before the end of the run those of their energies
 abbrev pub line_of : Version → ℕ → ℕ → Note → ℕ
 line_of One tasks place n = place + 3
 line_of Two tasks place (End ticks run idle) = place + 3 + 2 * tasks
 line_of Two tasks place n = place + 3 + tasks
 
--- the refusal at this place of a trace for so many tasks
+-- the refusal of a trace of `tasks` tasks at the note at this place
 abbrev pub differs : ℕ → TraceOf → ℕ → Note → Note → ReplayFault
 differs tasks t place wanted found = fault.Differs (line_of t.version tasks place found) wanted found
 
--- the totals of a trace for so many tasks, where its notes don't differ from those wanted
+-- the totals of a trace of `tasks` tasks where its notes differ nowhere from those wanted, else the first difference
 abbrev pub unless_unequal : ℕ → TraceOf → Option (ℕ × Note × Note) → Result Totals ReplayFault
 unless_unequal tasks t None = Ok (totals_of t.notes)
 unless_unequal tasks t (Some (place, wanted, found)) = Err (differs tasks t place wanted found)
 
--- the trace compared with the notes wanted
+-- the comparison of a trace of `tasks` tasks with the notes wanted: its totals, or the first difference
 abbrev pub compared : ℕ → TraceOf → List Note → Result Totals ReplayFault
 compared tasks t wanted = unless_unequal tasks t (first_unequal 0 wanted t.notes)
 
--- after equal notes, as many as the place says, these two stand in the lists, and they are unequal
+-- after `place` equal notes the lists have w and f, which are unequal
 pub record FirstUnequal (wanted found : List Note) (place : ℕ) (w f : Note) : Type 0 where
   pub before : List Note
   pub more : List Note

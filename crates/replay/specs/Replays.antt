@@ -20,7 +20,7 @@ use Rattle.replay.specs.Comparing.{compared, line_of, FirstUnequal}
 use Rattle.replay.specs.declared.fault.ReplayFault.{ReplayFault}
 use Rattle.replay.specs.declared.fault.ReplayFault.TheVariants as fault
 
--- the task that the note names is one of so many
+-- the note names no task, or one of the first c
 abbrev pub NamesTask : ℕ → Note → Type 0
 NamesTask c (Release tick i k) = i < c
 NamesTask c (Run from to i k units energy) = i < c
@@ -32,17 +32,17 @@ abbrev pub refusal_of : KernelFault → ReplayFault
 refusal_of (kernel.TooManyJobs n) = fault.TooManyJobs n
 refusal_of kernel.NoMemory = fault.NoMemory
 
--- the refusal of a note that tells the end of a job with more units than its task's worst case
+-- the refusal of a note that ends a job with more units than its task's worst case
 abbrev pub over_in : Plan → Note → Option ReplayFault
 over_in p (Done q i k used) = if nat_lt (worst p i) used then Some (fault.OverWorst i k used (worst p i)) else None
 over_in p _ = None
 
--- that of the first such note
+-- the refusal of the first note that ends a job with more units than its task's worst case
 abbrev pub first_over : Plan → List Note → Option ReplayFault
 first_over p [] = None
 first_over p (n ∷ notes) = option_or (over_in p n) (first_over p notes)
 
--- each job keeps its row, and one without a row has that of these rows
+-- each job keeps its row, and one without a row gets its row in `rows`
 abbrev pub Fixes : List DemandRow → DemandsOf → DemandsOf → Type 0
 Fixes rows old new = (i k : ℕ) → named new.rows i k ≡ option_or (named old.rows i k) (named rows i k)
 
@@ -51,7 +51,7 @@ abbrev pub too_many : Plan → ℕ → Option ReplayFault
 too_many p ticks =
     let jobs = released_jobs p ticks in if nat_lt MOST_JOBS jobs then Some (fault.TooManyJobs jobs) else None
 
--- the next step, where nothing is refused
+-- the refusal, or the next result where nothing is refused
 abbrev pub unless : Option ReplayFault → Result Totals ReplayFault → Result Totals ReplayFault
 unless (Some why) next = Err why
 unless None next = next
@@ -60,29 +60,30 @@ unless None next = next
 abbrev pub own_notes : Plan → Asking → TraceOf → List Note
 own_notes p asked t = notes_by p asked (demand_of p (fixed_of p t.notes)) t.plan.ticks
 
--- What a replay answers: the refusal of the first end over its worst case; that of too many jobs; the first difference
--- from the notes of the schedule for the demands that the trace fixes; else the totals of its notes.
+-- What a replay answers: the refusal of the first end over its worst case; else of too many jobs; else of the first
+-- difference from the schedule for the demands that the trace fixes; else the totals of its notes.
 abbrev pub replay_of : Plan → Asking → TraceOf → Result Totals ReplayFault
 replay_of p asked t =
     unless (first_over p t.notes) (
     unless (too_many p t.plan.ticks) (
     compared (count p) t (own_notes p asked t)))
 
--- the numbers of a refusal are such that they are its cause
+-- the numbers and the notes of a refusal show its cause
 abbrev pub IsCause : ReplayFault → Type 0
 IsCause (fault.OverWorst i k used worst) = worst < used
 IsCause (fault.TooManyJobs jobs) = MOST_JOBS < jobs
 IsCause (fault.Differs line wanted found) = wanted ≢ found
 IsCause fault.NoMemory = ⊤
 
--- the trace has these totals, its notes are those of the schedule for the list that they fix, and this is a demand list
--- of the plan
+-- the trace has these totals, its notes are those of the schedule for the list that they fix, and that list is a demand
+-- list of the plan
 pub record IsReplayed (p : Plan) (asked : Asking) (t : TraceOf) (totals : Totals) : Type 0 where
   pub totals_are : totals ≡ totals_of t.notes
   pub notes : AreNotesFor p asked t.plan.ticks t.notes (fixed_of p t.notes)
   pub list : IsDemands (fixed_list p t.notes)
 
--- these are the first two unequal notes of the schedule for that list and of the trace, and the second has this line
+-- the first two unequal notes of the schedule for the demands that the trace fixes and of the trace; `line` is of the
+-- second one
 abbrev pub IsFirstDifference : Plan → Asking → TraceOf → ℕ → Note → Note → Type 0
 IsFirstDifference p asked t line wanted found =
     (place : ℕ) × (line ≡ line_of t.version (count p) place found)

@@ -26,7 +26,7 @@ use sched_model::Admitted;
 use std::alloc::Global;
 use trace_reader::Trace;
 
-// The line of a note of a trace, by its place from 0.
+// The line of a note of a trace, counted from 1, by the note's place from 0.
 fn line_of(version: Version, tasks: u32, place: u64, note: &Note) -> u64
     requires tasks { tasks ≤ 64 }
     requires place { place < 2 ^ 63 }
@@ -39,7 +39,7 @@ fn line_of(version: Version, tasks: u32, place: u64, note: &Note) -> u64
     }
 }
 
-// The refusal of a trace at the first of these last notes, in whose place another note is wanted.
+// The refusal of a trace at the first note of `rest`, its last notes: the schedule has `wanted` there.
 fn differs(tasks: u32, trace: &Trace, rest: &[Note], wanted: Note) -> ReplayFault
     requires tasks { tasks ≤ 64 }
     requires some { 0 < length rest.now }
@@ -56,7 +56,7 @@ fn differs(tasks: u32, trace: &Trace, rest: &[Note], wanted: Note) -> ReplayFaul
     }
 }
 
-// Runs the kernel against the notes of a trace.
+// Runs the kernel and compares its notes with those of a trace.
 fn compare<G: Governor>(
     kernel: Kernel<'_, G>,
     plan: &Admitted,
@@ -81,7 +81,7 @@ fn compare<G: Governor>(
     }
 }
 
-// The answer, step by step.
+// The totals of a trace that passes its replay, else the refusal.
 fn check<G: Governor>(
     alloc: Global,
     plan: &Admitted,
@@ -104,12 +104,12 @@ fn check<G: Governor>(
     compare(kernel, plan, trace)
 }
 
-/// Whether the notes of a trace are those of the governor's schedule for the demands that they fix, and their totals.
+/// The totals of a trace whose notes are those of the governor's schedule for the demands that the notes fix.
 ///
 /// The first `Done` of a job fixes its demand: the units used, or the charge where that is more. A job without one has
-/// its worst case, and `Done` of job 0 fixes nothing. The refusals come in their order: `OverWorst` at the first `Done`
+/// its worst case, and `Done` of job 0 fixes nothing. The refusals come in this order: `OverWorst` at the first `Done`
 /// whose units exceed the worst case of its task; `TooManyJobs` where more than `MOST_JOBS` jobs would be released;
-/// `Differs` at the first unequal note, which stands on that line.
+/// `Differs` at the first unequal note, with its line. `NoMemory` where memory ran out.
 pub fn replay<G: Governor>(
     alloc: Global,
     plan: &Admitted,
@@ -128,8 +128,8 @@ pub fn replay<G: Governor>(
     ensures answer { IsUnlessMemory ReplayFault.NoMemory (λ totals. totals) result
         (replay_of plan.now (ask_of G.demand plan.now) trace.now) }
 
-    // At Ok the notes are those of the schedule for the demand list that they fix; and notes of the schedule for some
-    // demand list are never refused.
+    // At Ok the notes are those of the schedule for the demand list that they fix. Within the limit on jobs, notes of
+    // the schedule for some demand list are refused only where memory ran out.
     ensures own_list { IfOk result (λ totals. IsReplayed plan.now (ask_of G.demand plan.now) trace.now totals) }
     ensures some_list { (rows : List DemandRow)
         → AreNotesFor plan.now (ask_of G.demand plan.now) trace.now.plan.ticks trace.now.notes rows

@@ -10,9 +10,9 @@ use event_kernel::{Listener, Stopped};
 pub(crate) struct Compared<'a> {
     /// The notes of the trace from the next one on.
     pub(crate) rest: &'a [Note],
-    /// What it heard last in place of the next one.
+    /// The note heard in place of the trace's next one, once the run was stopped.
     pub(crate) wanted: Option<Note>,
-    /// How often it stopped.
+    /// How often it stopped a run.
     pub(crate) stops: u64,
 }
 

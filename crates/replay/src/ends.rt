@@ -1,4 +1,4 @@
-// The ends of jobs that notes tell, and the demands that they fix.
+// The ends of jobs in a trace's notes, and the demands that they fix.
 ghost use Rattle.std.specs.Prelude.{◌≡◌, [], OnOk, IfOk, None};
 ghost use Rattle.std.specs.List.{AllByRecursion};
 ghost use Rattle.task_model.specs.DemandRows.{named};
@@ -16,7 +16,7 @@ use event_kernel::worst_demands;
 use sched_model::Admitted;
 use std::alloc::Global;
 
-// The refusal of a note: it tells the end of a job with more units than its task's worst case.
+// The refusal of a `Done` note whose units exceed the worst case of its task.
 fn over_in(plan: &Admitted, note: &Note) -> Option<ReplayFault>
     requires { NamesTask (count plan.now) note.now }
     ensures { result ≡ over_in plan.now note.now }
@@ -43,7 +43,7 @@ fn over_in(plan: &Admitted, note: &Note) -> Option<ReplayFault>
     }
 }
 
-/// The refusal of the first note that tells the end of a job with more units than its task's worst case.
+/// The refusal of the first `Done` note whose units exceed the worst case of its task.
 pub(crate) fn first_over(plan: &Admitted, notes: &[Note]) -> Option<ReplayFault>
     requires { AllByRecursion (NamesTask (count plan.now)) notes.now }
     ensures { result ≡ first_over plan.now notes.now }
@@ -56,7 +56,7 @@ pub(crate) fn first_over(plan: &Admitted, notes: &[Note]) -> Option<ReplayFault>
     None
 }
 
-// Adds what a note fixes: the end of a job that has no row fixes its units, without the charge.
+// Adds what a note fixes: `Done` of a job that has no row fixes its units, without the charge.
 fn fix(plan: &Admitted, note: &Note, demands: &mut Demands) -> Result<(), NoMemory>
     requires task { NamesTask (count plan.now) note.now }
     requires fit { IsFit plan.now note.now }
@@ -79,7 +79,7 @@ fn fix(plan: &Admitted, note: &Note, demands: &mut Demands) -> Result<(), NoMemo
     Ok(())
 }
 
-/// The demand list that notes fix, whose ends of jobs tell at most their worst cases. It fails only where memory runs out.
+/// The demand list that notes fix; no `Done` exceeds the worst case of its task. It fails only where memory runs out.
 pub fn fixed_demands(alloc: Global, plan: &Admitted, notes: &[Note]) -> Result<Demands, NoMemory>
     requires tasks { AllByRecursion (NamesTask (count plan.now)) notes.now }
     requires fit { first_over plan.now notes.now ≡ None }

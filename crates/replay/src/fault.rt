@@ -1,4 +1,4 @@
-// Why a trace isn't that of a schedule.
+// Why a replay refuses a trace.
 ghost use Rattle.std.specs.Prelude.{◌≡◌};
 ghost use Rattle.replay.specs.declared.fault.ReplayFault.TheVariants as fault;
 ghost use Rattle.replay.specs.Replays.{refusal_of};
@@ -6,21 +6,21 @@ ghost use Rattle.replay.specs.Replays.{refusal_of};
 use dvs_base::{NoMemory, Note};
 use event_kernel::KernelFault;
 
-/// Why a trace isn't that of a schedule.
+/// Why a replay refuses a trace.
 #[derive(Clone, Copy, Debug, PartialEq, Eq)]
 pub enum ReplayFault {
-    /// The end of a job tells more work units than its task's worst case with the charge, which is `worst`.
+    /// A `Done` note says that a job used more units than `worst`, its task's worst case with the charge.
     OverWorst {
         task: u32,
         job: u64,
         used: u64,
         worst: u64,
     },
-    /// So many jobs would be released, and the limit is `MOST_JOBS`.
+    /// `count` jobs would be released, and the limit is `MOST_JOBS`.
     TooManyJobs {
         count: u64,
     },
-    /// On this line, counted from 1, the schedule has the note `wanted`, and the trace the note `found`.
+    /// On line `line`, counted from 1, the schedule has the note `wanted` and the trace has the note `found`.
     Differs {
         line: u64,
         wanted: Note,

@@ -1,8 +1,8 @@
 //! Replays a trace: whether its notes are those of a governor's schedule, and at which line they first differ.
 //!
-//! A trace fixes the demand of each job whose end it tells; each other job has its worst case. The kernel runs the plan
+//! A trace fixes the demand of each job whose end it has; each other job has its worst case. The kernel runs the plan
 //! for these demands into a listener that compares note by note and stops at the first unequal one, so no second trace
-//! is built. Callers may rely on it that a trace of the schedule for some demand list is never found to differ.
+//! is built. Callers may rely on this: a trace of the schedule for some demand list is never found to differ.
 #![tactic(auto)]
 
 mod check;

@@ -17,7 +17,7 @@ const PAPER_TASKS: &[u8] =
 const PAPER_MACHINE: &[u8] =
     b"point = [{speed = 2, millivolts = 3000}, {speed = 3, millivolts = 4000}, {speed = 4, millivolts = 5000}]";
 
-// Its trace at the highest speed: the lines up to the first segment, the first end of a job, and the others.
+// The example's trace at the highest speed: the lines up to the first segment, the first end of a job, and the others.
 const HEAD: &[u8] =
     b"trace 1\nplan edf none 16\nrelease 0 t1 1\nrelease 0 t2 1\nrelease 0 t3 1\nspeed 0 4 4/1\n";
 
@@ -38,7 +38,7 @@ fn edf_plan(alloc: Global, tasks: &[u8], machine: &[u8]) -> Result<Admitted, Fai
     }
 }
 
-// What a replay of this text answers, which is a trace of the plan at the highest speed.
+// The answer to a replay of `text`, a trace of the plan at the highest speed.
 fn replayed(
     alloc: Global,
     plan: &Admitted,
@@ -56,7 +56,7 @@ fn replayed(
     Ok(replay(alloc, plan, &trace, governor))
 }
 
-// What a replay of the example's trace answers, with this first segment and this end of it.
+// The answer to a replay of the example's trace, with this first segment and this end of it.
 fn paper_replayed(
     alloc: Global,
     first: &[u8],

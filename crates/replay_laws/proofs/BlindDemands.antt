@@ -1,4 +1,4 @@
--- No published demand looks at the demands of jobs that aren't finished.
+-- No published demand depends on the demands of jobs that aren't finished.
 use Rattle.std.proofs.Common.{◌≡◌, ◌+◌, ◌-◌, ◌*◌, ◌/◌, ◌<◌, ℕ, suc, min, Bool, true, false, List, [], ◌∷◌, length, refl, if◌then◌else◌, ap, ap₂, ◌∙◌, nat_eq, sym}
 use Rattle.dvs_base.specs.declared.kind.Scheduler.{Scheduler}
 use Rattle.dvs_base.specs.declared.kind.Scheduler.TheVariants.{Edf, Rm}
@@ -22,7 +22,7 @@ use Rattle.sched_model.proofs.HeldUnits.{latest-early}
 use Rattle.replay_laws.proofs.Alike.{Alike, IsBlind}
 use Rattle.replay_laws.proofs.SameState.{same-complete, same-wleft, alike-marked}
 
--- what look-ahead puts off reads the needs of the tasks alone
+-- what look-ahead puts off depends on the tasks' needs alone
 module _ (p : Plan) (due left other : ℕ → ℕ) (same : (i : ℕ) → i < count p → left i ≡ other i) where
   put_off-reads : (after i : ℕ) → i < count p → put_off p due left after i ≡ put_off p due other after i
   put_off-reads after i lt =
@@ -45,7 +45,7 @@ module _ (p : Plan) (due left other : ℕ → ℕ) (same : (i : ℕ) → i < cou
       (due_first-reads is b.1)
 
 module _ (p : Plan) (lim : IsWithinLimits p) (dem other : ℕ → ℕ → ℕ) (past : List Tick) (h : Alike p dem other past (suc (length past))) where
-  -- what a complete job needed is the same
+  -- the charged units of a task are the same by both demands
   charged-same : (i : ℕ) → i < count p → charged p dem past i ≡ charged p other past i
   charged-same i lt = go (is_complete p dem past i) refl (same-complete p lim dem other past h i lt)
     where
@@ -62,7 +62,7 @@ module _ (p : Plan) (lim : IsWithinLimits p) (dem other : ℕ → ℕ → ℕ) (
       (sum_below-same (count p) (λ i. charged p dem past i * (hyper p / period p i)) (λ i. charged p other past i * (hyper p / period p i))
       (λ i lt. ap (λ n. n * (hyper p / period p i)) (charged-same i lt)))
 
-  -- at the last release the same was allotted
+  -- the units allotted at the last release are the same by both demands
   allotted-same : (i : ℕ) → i < count p → allotted p dem past i ≡ allotted p other past i
   allotted-same i lt =
       let r = last_release p (length past) in

@@ -1,4 +1,4 @@
--- Each end in the notes of a schedule tells its own job's demand, and the list that fit notes fix exceeds no worst case.
+-- Each completion in a schedule's notes has its own job's demand, and fit notes fix a list within the worst cases.
 use Rattle.std.proofs.Common.{◌≡◌, ◌+◌, ◌-◌, ◌*◌, ◌<◌, ◌≤◌, ℕ, zero, suc, Bool, true, false, ◌&&◌, List, [], ◌∷◌, refl, if◌then◌else◌, ap, ◌∙◌, sym, subst, arith, nat_eq}
 use Rattle.std.specs.Prelude.{Option, Some, None, unwrap_or}
 use Rattle.std.specs.List.{AllByRecursion}
@@ -19,13 +19,13 @@ use Rattle.replay_laws.specs.FixedDemands.{fixed_of, fixed_list}
 use Rattle.replay_laws.specs.OwnList.{IsFit}
 use Rattle.replay_laws.proofs.OwnDemands.{demand-row, demand-none}
 
--- the end of a job is of a task of the plan
+-- a completion is of a task of the plan
 abbrev pub IsOfTask : Plan → Note → Type 0
 IsOfTask p (Done at_end i k used) = i < count p
 IsOfTask p _ = Unit {0}
 
 module _ (p : Plan) (lim : IsWithinLimits p) (dem : ℕ → ℕ → ℕ) (ask : List Tick → Frac) where
-  -- each end is fit, where no demand exceeds its worst case
+  -- each completion is within its worst case, where no demand exceeds its worst case
   pub notes-fit : IsWithin p dem → (ticks : List Tick) → AllByRecursion (IsFit p) (notes_of p dem ask ticks)
   notes-fit within = notes-each p lim dem ask (IsFit p) fit (λ ticks run idle. tt)
     where
@@ -37,7 +37,7 @@ module _ (p : Plan) (lim : IsWithinLimits p) (dem : ℕ → ℕ → ℕ) (ask : 
       fit (Run from to i k units energy) h = tt
       fit (Idle from to units energy) h = tt
 
-  -- and of a task of the plan
+  -- each completion is of a task of the plan
   pub notes-of-tasks : (ticks : List Tick) → AllByRecursion (IsOfTask p) (notes_of p dem ask ticks)
   notes-of-tasks = notes-each p lim dem ask (IsOfTask p) of (λ ticks run idle. tt)
     where
@@ -49,7 +49,7 @@ module _ (p : Plan) (lim : IsWithinLimits p) (dem : ℕ → ℕ → ℕ) (ask : 
       of (Run from to i k units energy) h = tt
       of (Idle from to units energy) h = tt
 
--- the row of a job that fit notes fix is within its worst case
+-- the row of a job that fit notes fix is, with the charge, at most its worst case
 row-fit : (p : Plan) (i k units : ℕ) (notes : List Note) → AllByRecursion (IsFit p) notes
     → named (fixed_of p notes) i k ≡ Some units → units + 2 * p.machine.charge ≤ worst p i
 row-fit p i k units [] fit e = absurd cc
@@ -86,7 +86,7 @@ fixed-within p notes fit = record { most = λ i k lt. most i k; none = λ i. ref
         go None e = omega (arith, demand-none p (fixed_of p notes) i (suc k) (omega arith) e)
         go (Some units) e = omega (arith, demand-row p (fixed_of p notes) i (suc k) units (omega arith) e, row-fit p i (suc k) units notes fit e)
 
--- fit ends of tasks of the plan fix rows of a demand list
+-- the rows that fit completions of the plan's tasks fix are rows of a demand list
 rows-fit : (p : Plan) (all notes : List Note) → AllByRecursion (IsFit p) notes → AllByRecursion (IsOfTask p) notes
     → AllByRecursion (IsRow (fixed_list p all).worsts) (fixed_of p notes)
 rows-fit p all [] fit of = tt
@@ -105,7 +105,7 @@ rows-fit p all (Done at_end j (suc l) used ∷ notes) fit of = (
   rows-fit p all notes fit.1 of.1,
 )
 
--- so they fix a demand list
+-- fit completions of the plan's tasks fix a demand list
 pub fixed-demands : (p : Plan) → IsWithinLimits p → (notes : List Note) → AllByRecursion (IsFit p) notes
     → AllByRecursion (IsOfTask p) notes → IsDemands (fixed_list p notes)
 fixed-demands p lim notes fit of = record {

@@ -1,4 +1,4 @@
--- What the notes of a schedule tell of the end of a job, and so which demands they fix.
+-- What the notes of a schedule say of a job's completion, and so which demands they fix.
 use Rattle.std.proofs.Common.{◌≡◌, ◌+◌, ◌-◌, ◌*◌, ◌<◌, ◌≤◌, ℕ, zero, suc, Bool, true, false, ◌&&◌, List, [], ◌∷◌, length, refl, if◌then◌else◌, ap, ap₂, ◌∙◌, sym, subst, arith, ◌⊎◌, inl, inr, nat_eq}
 use Rattle.std.specs.Prelude.{sum_by, Option, Some, None}
 use Rattle.std.specs.List.{AllByRecursion}
@@ -25,12 +25,12 @@ use Rattle.done_lines.proofs.DoneSpans.{IsLastSpan, last-span}
 use Rattle.replay_laws.specs.FixedDemands.{fixed_of}
 use Rattle.replay_laws.proofs.SameNotes.{had_in, had-most}
 
--- where the note tells the end of job k of task i, the job has had so many units as it needs, and they are those
+-- where the note is the completion of job k of task i, its units are the job's demand, which the job has had
 abbrev pub TellsTrue : ℕ → ℕ → ℕ → ℕ → Note → Type 0
 TellsTrue i k need had (Done at_end j l used) = (nat_eq i j && nat_eq k l) ≡ true → (used ≡ need) × (need ≤ had)
 TellsTrue i k need had _ = Unit {0}
 
--- it does so later too
+-- a note that is true of what a job had is true of what it has later
 true-later : (i k need had more : ℕ) → had ≤ more → (n : Note) → TellsTrue i k need had n → TellsTrue i k need more n
 true-later i k need had more le (Done at_end j l used) h = λ mine. ((h mine).0, omega (arith, (h mine).1, le))
 true-later i k need had more le (Release tick j l) h = tt
@@ -39,14 +39,14 @@ true-later i k need had more le (Run from to j l units energy) h = tt
 true-later i k need had more le (Idle from to units energy) h = tt
 true-later i k need had more le (End ticks run idle) h = tt
 
--- the numbers of a task and a job are known by the test
+-- tasks and jobs that pass the test for equal numbers have equal values
 same-numbers : (f : ℕ → ℕ → ℕ) (i j k l : ℕ) → (nat_eq i j && nat_eq k l) ≡ true → f j l ≡ f i k
 same-numbers f i j k l e =
     let task : j ≡ i = grind (arith, nat_tests, e) in
     let job : l ≡ k = grind (arith, nat_tests, e) in
     ap₂ f task job
 
--- what notes fix of a job: nothing, where none tells its end, and else its demand, which it has had
+-- what notes fix of a job: nothing, where none is its completion, and else its demand, which it has had
 abbrev pub Fixes : Plan → (ℕ → ℕ → ℕ) → ℕ → ℕ → ℕ → Option ℕ → ℕ → Type 0
 Fixes p dem i k had row ends = ((row ≡ None) × (ends ≡ 0)) ⊎ ((row ≡ Some (dem i k - 2 * p.machine.charge)) × (dem i k ≤ had))
 
@@ -54,7 +54,7 @@ module _ (p : Plan) (dem : ℕ → ℕ → ℕ) (ask : List Tick → Frac) (lim 
   abbrev AreTrue : ℕ → List Note → Type 0
   AreTrue had = AllByRecursion (TellsTrue i k (dem i k) had)
 
-  -- at a release that needs nothing
+  -- the release notes of a tick are true: a completion among them is of a job that needs nothing
   releases-true : (t had : ℕ) → AreTrue had (all_release_notes p dem t)
   releases-true t had = each-flat (TellsTrue i k (dem i k) had) (count p) (release_notes p dem t)
       (λ j lt. at_release j (releases_at p j t) (nat_eq (dem j (latest p j t)) 0) refl)
@@ -74,7 +74,7 @@ module _ (p : Plan) (dem : ℕ → ℕ → ℕ) (ask : List Tick → Frac) (lim 
         ),
       )
 
-  -- at the end of a segment
+  -- the notes of a segment are true
   segment-true : (s : Span) (had q u : ℕ) (h : Holder) → had_in p s i k ≤ had → AreTrue had (segment_notes p dem s q u h)
   segment-true s had q u Nobody le = (tt, tt)
   segment-true s had q u (Held j l) le = (tt, go (nat_eq (had_by p s (q + u) j l) (dem j l)) refl)
@@ -107,7 +107,7 @@ module _ (p : Plan) (dem : ℕ → ℕ → ℕ) (ask : List Tick → Frac) (lim 
   unfolding notes_before_end
   before-end-none had = tt
 
-  -- each note of a schedule tells true
+  -- each note of a schedule before the last is true
   before-end-true : (n : ℕ) (ticks : List Tick) → length ticks ≤ n → IsScheduleBy p dem ask ticks
       → AreTrue (exec p ticks i k) (notes_before_end p dem ask ticks)
   before-end-true n [] le sched = before-end-none 0
@@ -132,7 +132,7 @@ module _ (p : Plan) (dem : ℕ → ℕ → ℕ) (ask : List Tick → Frac) (lim 
       each-append (TellsTrue i k (dem i k) (exec p ticks i k)) notes (End (length ticks) (sum_by energy_run notes) (sum_by energy_idle notes) ∷ [])
       (before-end-true (length ticks) ticks (omega arith) sched) (tt, tt)
 
-  -- true notes fix so
+  -- true notes fix nothing of a job, or its demand
   pub fixes : (had : ℕ) (notes : List Note) → AreTrue had notes → Fixes p dem i k had (named (fixed_of p notes) i k) (times (tells_done i k) notes)
   fixes had [] all = inl (refl, refl)
   fixes had (Release tick j l ∷ notes) all = fixes had notes all.1

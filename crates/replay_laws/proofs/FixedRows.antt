@@ -1,4 +1,4 @@
--- The list that notes fix, made note by note, and lists that name the same.
+-- The list that notes fix, computed note by note, and its demands.
 use Rattle.std.proofs.Common.{◌≡◌, max, ◌*◌, ◌-◌, ◌+◌, ◌≤◌, ℕ, zero, suc, Bool, true, false, ◌&&◌, List, [], ◌∷◌, refl, if◌then◌else◌, ap, ◌∙◌, nat_eq, arith}
 use Rattle.std.specs.Prelude.{Option, Some, None, unwrap_or, option_map}
 use Rattle.std.specs.Option.{option_or}
@@ -10,7 +10,7 @@ use Rattle.sched_model.specs.Plan.{Plan, worst}
 use Rattle.replay_laws.specs.FixedDemands.{fixed_of, first_end}
 use Rattle.replay_laws.specs.OwnList.{HasFixedDemands}
 
--- the row of a job has what its first end tells, without the charge
+-- the row of a job has the units of its first completion, without the charge
 named-fixed : (p : Plan) (notes : List Note) (i k : ℕ) → 1 ≤ k
     → named (fixed_of p notes) i k ≡ option_map (λ used. used - 2 * p.machine.charge) (first_end notes i k)
 named-fixed p [] i k some = refl
@@ -30,7 +30,7 @@ named-fixed p (Done at_end j (suc l) used ∷ notes) i k some = go (nat_eq j i &
     go true ih = refl
     go false ih = ih
 
--- so the list has the demands that the notes fix
+-- the list that notes fix has the demands that they fix
 pub fixed-demand : (p : Plan) → HasFixedDemands p
 fixed-demand p notes i zero some = absurd (omega (arith, some))
 fixed-demand p notes i (suc k) some =

@@ -1,4 +1,4 @@
--- No schedule looks into a demand, and the list that its notes fix has its notes.
+-- No schedule depends on the demand of an unfinished job, and the list that its notes fix has its notes.
 use Rattle.std.proofs.Common.{◌≡◌, ◌+◌, ◌-◌, ◌*◌, ◌<◌, ◌≤◌, ℕ, zero, suc, true, false, List, [], ◌∷◌, length, refl, ap, ◌∙◌, sym, arith, inl, inr}
 use Rattle.std.specs.Prelude.{sum_by, Option, Some, None, unwrap_or, option_map}
 use Rattle.std.proofs.lemmas.Bool.Decides.{nat_tests}
@@ -24,7 +24,7 @@ use Rattle.replay_laws.proofs.SameNotes.{same-notes}
 use Rattle.replay_laws.proofs.FixedNotes.{Fixes, fixes, notes-true}
 
 module _ (p : Plan) (lim : IsWithinLimits p) (ask : Asking) (blind : IsBlind p ask) where
-  -- two demands that the ticks don't tell apart have the same ticks
+  -- two demands that the ticks don't distinguish have the same ticks
   same-ticks : (dem other : ℕ → ℕ → ℕ) (ticks : ℕ) → ((i : ℕ) → dem i 0 ≡ 0) → Alike p dem other (ticks_by p ask dem ticks) (length (ticks_by p ask dem ticks))
       → ticks_by p ask other ticks ≡ ticks_by p ask dem ticks
   same-ticks dem other ticks none h =
@@ -33,7 +33,7 @@ module _ (p : Plan) (lim : IsWithinLimits p) (ask : Asking) (blind : IsBlind p a
       same-course p lim dem other none ask blind (ticks_by p ask dem ticks) h exists.0 in
       ap (schedule_by p other (ask other)) (sym exists.1) ∙ sym (schedule_unique p other (ask other) (ticks_by p ask dem ticks) by_other)
 
-  -- and the same notes
+  -- two demands that the ticks don't distinguish have the same notes
   same-told : (dem other : ℕ → ℕ → ℕ) (ticks : ℕ) → ((i : ℕ) → dem i 0 ≡ 0) → ((i : ℕ) → other i 0 ≡ 0)
       → Alike p dem other (ticks_by p ask dem ticks) (length (ticks_by p ask dem ticks))
       → notes_by p ask other ticks ≡ notes_by p ask dem ticks
@@ -41,7 +41,7 @@ module _ (p : Plan) (lim : IsWithinLimits p) (ask : Asking) (blind : IsBlind p a
       ap (notes_of p other (ask other)) (same-ticks dem other ticks none h)
       ∙ sym (same-notes p lim dem other ask blind (λ i. none i ∙ sym (none_other i)) (ticks_by p ask dem ticks) (schedule_exists p dem (ask dem) ticks).0 h)
 
-  -- the ticks don't tell apart what tells the same
+  -- two demands for the same notes are not distinguished by the ticks
   alike-told : (dem other : ℕ → ℕ → ℕ) (ticks : List Tick) → TellSame p dem other ticks → Alike p dem other ticks (length ticks)
   alike-told dem other ticks h i zero lt early = (
     λ e. h.none i ∙ sym (h.other_none i),
@@ -54,7 +54,7 @@ module _ (p : Plan) (lim : IsWithinLimits p) (ask : Asking) (blind : IsBlind p a
       let alike : Alike p dem other (ticks_by p ask dem ticks) (length (ticks_by p ask dem ticks)) = alike-told dem other (ticks_by p ask dem ticks) h in
       (same-ticks dem other ticks h.none alike, same-told dem other ticks h.none h.other_none alike)
 
--- the demand of a job by a row, and without one
+-- the demand of a job with a row is the row's units and twice the charge
 pub demand-row : (p : Plan) (rows : List DemandRow) (i k units : ℕ) → 1 ≤ k → named rows i k ≡ Some units → demand_of p rows i k ≡ units + 2 * p.machine.charge
 demand-row p rows i zero units some e = absurd (omega (arith, some))
 demand-row p rows i (suc k) units some e = ap (λ (o : Option ℕ). unwrap_or (option_map (λ u. u + 2 * p.machine.charge) o) (worst p i)) e
@@ -63,7 +63,7 @@ pub demand-none : (p : Plan) (rows : List DemandRow) (i k : ℕ) → 1 ≤ k →
 demand-none p rows i zero some e = absurd (omega (arith, some))
 demand-none p rows i (suc k) some e = ap (λ (o : Option ℕ). unwrap_or (option_map (λ u. u + 2 * p.machine.charge) o) (worst p i)) e
 
--- each demand has the charge
+-- the demand of each job from 1 on is at least twice the charge
 charge-least : (p : Plan) (rows : List DemandRow) (i k : ℕ) → 1 ≤ k → 2 * p.machine.charge ≤ demand_of p rows i k
 charge-least p rows i k some = go (named rows i k) refl
   where
@@ -88,15 +88,15 @@ module _ (p : Plan) (lim : IsWithinLimits p) (ask : Asking) (blind : IsBlind p a
   is_schedule : IsScheduleBy p dem (ask dem) ticks
   is_schedule = (schedule_exists p dem (ask dem) t).0
 
-  -- what the notes fix of a job
+  -- the notes fix nothing of a job, or its demand
   told : (i k : ℕ) → i < count p → 1 ≤ k → Fixes p dem i k (exec p ticks i k) (named (fixed_of p all_notes) i k) (times (tells_done i k) all_notes)
   told i k lt some = fixes p dem (ask dem) lim i k lt some (exec p ticks i k) all_notes (notes-true p dem (ask dem) lim i k lt some ticks is_schedule)
 
-  -- of a job whose end is told it is its demand
+  -- the demand that the list has for a job whose completion is among the notes is the job's demand
   own-told : (i k : ℕ) → 1 ≤ k → named (fixed_of p all_notes) i k ≡ Some (dem i k - 2 * p.machine.charge) → own i k ≡ dem i k
   own-told i k some e = omega (arith, demand-row p (fixed_of p all_notes) i k (dem i k - 2 * p.machine.charge) some e, charge-least p rows i k some)
 
-  -- the end of a finished job is told
+  -- the completion of a finished job is among the notes once
   told-finished : (i k : ℕ) → i < count p → 1 ≤ k → release p i k < length ticks → is_done p dem ticks i k ≡ true → times (tells_done i k) all_notes ≡ 1
   told-finished i k lt some early done =
       let before : List Note = notes_before_end p dem (ask dem) ticks in
@@ -105,7 +105,7 @@ module _ (p : Plan) (lim : IsWithinLimits p) (ask : Asking) (blind : IsBlind p a
       let once : times (tells_done i k) before ≡ 1 = told-once p dem (ask dem) lim i k lt some ticks is_schedule early whole in
       times-append (tells_done i k) before (End (length ticks) (sum_by energy_run before) (sum_by energy_idle before) ∷ []) ∙ omega (arith, once)
 
-  -- so the list tells the same
+  -- the list that the notes fix and the demands are two demands for the same notes
   tell-same : TellSame p dem own ticks
   tell-same = record {
     finished = λ i k lt some early done. finished i k some (told-finished i k lt some early done) (told i k lt some);
@@ -130,6 +130,6 @@ module _ (p : Plan) (lim : IsWithinLimits p) (ask : Asking) (blind : IsBlind p a
           let more : exec p ticks i k < dem i k = grind (arith, nat_tests, open_job) in
           absurd (omega (arith, more, b.1))
 
-  -- and its notes are the same
+  -- the list that the notes fix has the same notes
   pub own-notes : all_notes ≡ notes_by p ask own t
   own-notes = sym (looks-at-none p lim ask blind dem own t tell-same).1

@@ -38,7 +38,7 @@ text-own : (p : Plan) → IsWithinLimits p → (kind : GovernorKind) → TextHas
 text-own p lim kind ticks rows within =
     ap (trace_text p.scheduler kind ticks (names p)) (own-notes p lim (published p kind) (blind-published p lim kind) rows within ticks)
 
--- it is so of whatever a governor makes of the states, and of each published demand
+-- the law of fixed demands holds for any function of the states as published demand, and for each kind of governor
 pub own-lists : (p : Plan) → IsWithinLimits p → OwnLists p
 own-lists p lim = record {
   fixed = fixed-demand p;

@@ -1,4 +1,4 @@
--- Two demands that the ticks of a schedule don't tell apart have one schedule.
+-- Two demands that the ticks of a schedule don't distinguish have one schedule.
 use Rattle.std.proofs.Common.{◌≡◌, ◌+◌, ◌<◌, ◌≤◌, ℕ, min, Bool, true, false, List, [], ◌∷◌, length, refl, if◌then◌else◌, ap, ◌∙◌, arith, ◌⊎◌, inl, inr, suc, ◌-◌}
 use Rattle.std.proofs.lemmas.Bool.Decides.{nat_tests}
 use Rattle.std.proofs.lemmas.Bool.{cases_lt}
@@ -20,7 +20,7 @@ use Rattle.replay_laws.specs.OwnList.{Asking}
 use Rattle.replay_laws.proofs.Alike.{Indistinct, Alike, IsBlind, alike-earlier}
 use Rattle.replay_laws.proofs.SameState.{same-entry}
 
--- the task needs the same by both, or less than it needs was given, and no more than the other need
+-- the task needs the same by both, or was given less than it needs and no more than the other need
 abbrev pub NeedsAlike : (need other given : ℕ → ℕ) → ℕ → Type 0
 NeedsAlike need other given j = (need j ≡ other j) ⊎ ((given j < need j) × (given j ≤ other j))
 
@@ -39,7 +39,7 @@ shares-alike n key room need other given h alike i lt = go (cases_lt (sum_up_to 
     least : sum_up_to n key given i ≤ sum_up_to n key other i
     least = omega (arith, sum_where-mono n (λ j. stands_before key j i) given other (λ j l b. fits j l), fits i lt)
 
-    -- where some room is left after task j, it has all that it needs
+    -- where some room is left after task j, it needs the same by both
     whole : (j : ℕ) → j < n → sum_up_to n key given j < room → need j ≡ other j
     whole j l more = by (alike j l)
       where
@@ -63,7 +63,7 @@ shares-alike n key room need other given h alike i lt = go (cases_lt (sum_up_to 
             by j l false e = rw e refl
 
 module _ (p : Plan) (lim : IsWithinLimits p) (dem other : ℕ → ℕ → ℕ) (none : (i : ℕ) → dem i 0 ≡ 0) (ask : Asking) (blind : IsBlind p ask) where
-  -- what the latest jobs need is alike
+  -- the latest jobs need the same by both demands, or were given less than they need and no more than the other need
   needs-alike : (x : Tick) (past : List Tick) (f : ℕ) → SharesOut (count p) (key_of p.scheduler p (length past)) f (left p dem past) (share x)
       → Alike p dem other (x ∷ past) (length (x ∷ past)) → (i : ℕ) → i < count p → NeedsAlike (left p dem past) (left p other past) (share x) i
   needs-alike x past f legal h i lt = go (is_done p dem (x ∷ past) i k) refl
@@ -85,7 +85,7 @@ module _ (p : Plan) (lim : IsWithinLimits p) (dem other : ℕ → ℕ → ℕ) (
           let more_other : exec p (x ∷ past) i k < other i k = now.1 e in
           inr (omega (arith, had, more), omega (arith, had, more_other))
 
-  -- the tick may follow for the other demand too
+  -- the tick may come next for the other demand too
   pub same-next : (x : Tick) (past : List Tick) → Alike p dem other (x ∷ past) (length (x ∷ past))
       → IsNext p dem (ask dem) past x → IsNext p other (ask other) past x
   same-next x past h next = record {

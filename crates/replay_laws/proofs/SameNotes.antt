@@ -1,4 +1,4 @@
--- Two demands that the ticks of a schedule don't tell apart give the same notes.
+-- Two demands that the ticks of a schedule don't distinguish give the same notes.
 use Rattle.std.proofs.Common.{◌≡◌, ◌+◌, ◌<◌, ◌≤◌, ℕ, zero, suc, Bool, true, false, List, [], ◌∷◌, ◌++◌, length, take, drop, flat_map, refl, if◌then◌else◌, ap, ap₂, ◌∙◌, sym, subst, arith, ◌⊎◌, inl, inr, nat_eq}
 use Rattle.std.specs.Prelude.{count_by, sum_by}
 use Rattle.std.specs.List.{AllByRecursion}
@@ -28,7 +28,7 @@ use Rattle.replay_laws.proofs.Alike.{Indistinct, Alike, IsBlind, alike-before, a
 use Rattle.replay_laws.proofs.SameState.{same-decision}
 use Rattle.sched_model.proofs.HeldUnits.{latest-early, IsHeldBefore, each-weaker, spans-held}
 
--- both functions give one list for the numbers below n
+-- two functions that agree on the numbers below n give one list for them
 flat_map-same : (n : ℕ) (f g : ℕ → List Note) → ((i : ℕ) → i < n → f i ≡ g i) → flat_map f (list_below n (λ i. i)) ≡ flat_map g (list_below n (λ i. i))
 flat_map-same zero f g h = refl
 flat_map-same (suc n) f g h =
@@ -40,14 +40,14 @@ flat_map-same (suc n) f g h =
 abbrev pub had_in : Plan → Span → ℕ → ℕ → ℕ
 had_in p s i k = exec p s.past i k + count_by (same_holder (Held i k)) s.units
 
--- it has had no more within the span
+-- a job has had at most as much within the span as by its end
 pub had-most : (p : Plan) (s : Span) (q i k : ℕ) → had_by p s q i k ≤ had_in p s i k
 had-most p s q i k =
     let parts : take q s.units ++ drop q s.units ≡ s.units = take-append-drop q s.units in
     omega (arith, ap (count_by (same_holder (Held i k))) parts, count-append (same_holder (Held i k)) (take q s.units) (drop q s.units))
 
 module _ (p : Plan) (dem other : ℕ → ℕ → ℕ) (s : Span) where
-  -- the holder needs the same by both demands, or more than it has by the end of the span
+  -- the holder needs the same by both demands, or by both more than it has had by the end of the span
   abbrev EndsAlike : Holder → Type 0
   EndsAlike Nobody = Unit {0}
   EndsAlike (Held i k) = (dem i k ≡ other i k) ⊎ ((had_in p s i k < dem i k) × (had_in p s i k < other i k))
@@ -98,7 +98,7 @@ module _ (p : Plan) (lim : IsWithinLimits p) (dem other : ℕ → ℕ → ℕ) w
               let off_other : nat_eq (other i k) 0 ≡ false = grind (arith, nat_tests, more) in
               off ∙ sym off_other
 
-  -- the same spans
+  -- both demands have the same spans
   pub spans-same : (ticks : List Tick) → Alike p dem other ticks (length ticks) → spans_of p dem ticks ≡ spans_of p other ticks
   spans-same [] h = refl
   spans-same (x ∷ past) h =
@@ -142,7 +142,7 @@ module _ (p : Plan) (lim : IsWithinLimits p) (dem other : ℕ → ℕ → ℕ) w
           each-weaker (IsHeldBefore p (length (x ∷ past))) (EndsAlike p dem other s) (ends-alike none) s.units
           (subst (AllByRecursion (λ (span : Span). AllByRecursion (IsHeldBefore p (length (x ∷ past))) span.units)) l.spans (spans-held p lim dem (x ∷ past))).0
 
-      -- the last span has the same notes
+      -- the last span has the same notes by both demands
       span-same : ((i : ℕ) → dem i 0 ≡ other i 0) → span_notes p dem (ask dem) s ≡ span_notes p other (ask other) s
       span-same none =
           let early : suc (length s.past) ≤ length (x ∷ past) = omega (arith, l.shorter) in
@@ -177,7 +177,7 @@ module _ (p : Plan) (lim : IsWithinLimits p) (dem other : ℕ → ℕ → ℕ) w
         (span-same x past s l h none)
         ∙ sym (notes-span p other (ask other) (x ∷ past) s.past s (spans-other x past s l h)))
 
-    -- and the same notes in all
+    -- the schedule has the same notes by both demands
     pub same-notes : ((i : ℕ) → dem i 0 ≡ other i 0) → (ticks : List Tick) → IsScheduleBy p dem (ask dem) ticks → Alike p dem other ticks (length ticks)
         → notes_of p dem (ask dem) ticks ≡ notes_of p other (ask other) ticks
     same-notes none ticks sched h =

@@ -1,4 +1,4 @@
--- Two demands that the ticks don't tell apart finish the same jobs, so they give one state and the same decisions.
+-- Two demands that the ticks don't distinguish finish the same jobs, so they give one state and the same decisions.
 use Rattle.std.proofs.Common.{◌≡◌, ◌-◌, ◌<◌, ℕ, suc, Bool, List, [], ◌∷◌, length, refl, if◌then◌else◌, ap, ap₂, arith, not, ◌&&◌, ◌||◌, length-drop}
 use Rattle.grid_fraction.specs.declared.Frac.{Frac}
 use Rattle.grid_fraction.proofs.Searches.{any_below-same}
@@ -25,7 +25,7 @@ module _ (p : Plan) (lim : IsWithinLimits p) (dem other : ℕ → ℕ → ℕ) w
       let k = latest p i (length past) in
       same-done p dem other past i k (h i k lt (latest-early p lim i (length past) lt))
 
-  -- a row shows of its job's demand only whether it is complete
+  -- a row depends on its job's demand only by whether the job is complete
   pub same-row : (past : List Tick) → Alike p dem other past (suc (length past)) → (i : ℕ) → i < count p → row_of p dem past i ≡ row_of p other past i
   same-row past h i lt =
       let k = latest p i (length past) in
@@ -35,7 +35,7 @@ module _ (p : Plan) (lim : IsWithinLimits p) (dem other : ℕ → ℕ → ℕ) w
   same-wleft past h i lt =
       ap (λ (c : Bool). if c then 0 else worst p i - exec p past i (latest p i (length past))) (same-complete past h i lt)
 
-  -- at the last release
+  -- the ticks up to the last release don't distinguish the demands
   pub alike-marked : (past : List Tick) → Alike p dem other past (suc (length past))
       → let r = last_release p (length past) in Alike p dem other (at r past) (suc (length (at r past)))
   alike-marked past h =
@@ -45,7 +45,7 @@ module _ (p : Plan) (lim : IsWithinLimits p) (dem other : ℕ → ℕ → ℕ) w
       (λ i k lt. exec-drop p i k (length past - r) past)
       h
 
-  -- one state
+  -- both demands give the same state
   pub same-state : (past : List Tick) → Alike p dem other past (suc (length past)) → state_of p dem past ≡ state_of p other past
   same-state past h =
       let r = last_release p (length past) in
@@ -53,7 +53,7 @@ module _ (p : Plan) (lim : IsWithinLimits p) (dem other : ℕ → ℕ → ℕ) w
       (table-same (count p) (row_of p dem past) (row_of p other past) (same-row past h))
       (table-same (count p) (wleft p dem (at r past)) (wleft p other (at r past)) (same-wleft (at r past) (alike-marked past h)))
 
-  -- the same jobs complete in the last tick
+  -- the same jobs complete in the last tick by both demands
   pub same-completes : (x : Tick) (past : List Tick) → Alike p dem other (x ∷ past) (length (x ∷ past)) → (i : ℕ)
       → i < count p → completes_in p dem x past i ≡ completes_in p other x past i
   same-completes x past h i lt =
@@ -62,7 +62,7 @@ module _ (p : Plan) (lim : IsWithinLimits p) (dem other : ℕ → ℕ → ℕ) w
       let before : Indistinct p dem other past i k = indistinct-before p dem other (x ∷ past) past i k (omega arith) now in
       ap₂ (λ a b. not a && b) (same-done p dem other past i k before) (same-done p dem other (x ∷ past) i k now)
 
-  -- so the decisions are the same
+  -- the decisions are the same by both demands
   pub same-decision : (past : List Tick) → Alike p dem other past (length past) → is_decision p dem past ≡ is_decision p other past
   same-decision [] h = refl
   same-decision (x ∷ past) h =
@@ -70,7 +70,7 @@ module _ (p : Plan) (lim : IsWithinLimits p) (dem other : ℕ → ℕ → ℕ) w
       (any_below-same (count p) (λ i. completes_in p dem x past i) (λ i. completes_in p other x past i)
       (same-completes x past h))
 
-  -- and the entry in force
+  -- the entry in force is the same by both demands
   pub same-entry : (ask : Asking) → IsBlind p ask → (past : List Tick) → Alike p dem other past (suc (length past))
       → entry_in_force p dem (ask dem) past ≡ entry_in_force p other (ask other) past
   same-entry ask blind [] h = ap (lowest_entry p.machine) (blind dem other [] h)
@@ -81,6 +81,6 @@ module _ (p : Plan) (lim : IsWithinLimits p) (dem other : ℕ → ℕ → ℕ) w
       (ap (lowest_entry p.machine) (blind dem other (x ∷ past) h))
       (same-entry ask blind past (alike-earlier p dem other x past (suc (length (x ∷ past))) (suc (length past)) (omega arith) h)))
 
--- a governor's own demand looks at none but those of finished jobs, whatever it makes of a state
+-- a governor's published demand, as a function of the state, depends on the demands of finished jobs only
 pub blind-own : (p : Plan) → IsWithinLimits p → (demand : Plan → StateOf → Frac) → IsBlind p (ask_of demand p)
 blind-own p lim demand dem other past h = ap (demand p) (same-state p lim dem other past h)

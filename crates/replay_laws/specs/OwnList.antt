@@ -19,20 +19,20 @@ use Rattle.sched_model.specs.Text.{run_notes, run_text}
 use Rattle.governor.specs.Schedule.{ask_of}
 use Rattle.replay_laws.specs.FixedDemands.{fixed_of, fixed_list, fixed_demand}
 
--- what is asked for, of the demands of the jobs and the ticks so far
+-- a way to choose the published demand, from the demands of the jobs and the ticks so far
 abbrev pub Asking : Type 0
 Asking = (ℕ → ℕ → ℕ) → List Tick → Frac
 
--- the first ticks of the schedule for these demands
+-- the first `ticks` ticks of the schedule for these demands
 abbrev pub ticks_by : Plan → Asking → (ℕ → ℕ → ℕ) → ℕ → List Tick
 ticks_by p ask dem ticks = schedule_by p dem (ask dem) ticks
 
--- and their notes
+-- the notes of the first `ticks` ticks of the schedule for these demands
 abbrev pub notes_by : Plan → Asking → (ℕ → ℕ → ℕ) → ℕ → List Note
 notes_by p ask dem ticks = notes_of p dem (ask dem) (ticks_by p ask dem ticks)
 
--- Two demands for the same notes: a job that the ticks finish needs the same by both, and a released one that they leave
--- unfinished needs more than it has had by the other too. The others need anything.
+-- Two demands for the same notes: a job that completes in the ticks needs the same by both, and a released one that
+-- doesn't needs more than it has had by the other too. Jobs released later may need anything.
 pub record TellSame (p : Plan) (dem other : ℕ → ℕ → ℕ) (ticks : List Tick) : Type 0 where
   pub finished : (i k : ℕ) → i < count p → 1 ≤ k → release p i k < length ticks
       → is_done p dem ticks i k ≡ true → dem i k ≡ other i k
@@ -41,7 +41,7 @@ pub record TellSame (p : Plan) (dem other : ℕ → ℕ → ℕ) (ticks : List T
   pub none : (i : ℕ) → dem i 0 ≡ 0
   pub other_none : (i : ℕ) → other i 0 ≡ 0
 
--- what is asked for looks into no demand: two such demands have the same ticks and the same notes
+-- the published demand depends on no job's demand before its completion: two such demands give equal ticks and notes
 abbrev pub LooksAtNone : Plan → Asking → Type 0
 LooksAtNone p ask =
     (dem other : ℕ → ℕ → ℕ) (ticks : ℕ) → TellSame p dem other (ticks_by p ask dem ticks)
@@ -52,18 +52,18 @@ pub record AreNotesFor (p : Plan) (ask : Asking) (ticks : ℕ) (notes : List Not
   pub within : IsWithin p (demand_of p rows)
   pub notes_are : notes ≡ notes_by p ask (demand_of p rows) ticks
 
--- the end of a job tells no more units than its task's worst case
+-- the units of a completion are at most its task's worst case
 abbrev pub IsFit : Plan → Note → Type 0
 IsFit p (Done at_end i k used) = used ≤ worst p i
 IsFit p _ = Unit {0}
 
--- the notes are those of the schedule for the list that they fix, and each end is fit
+-- the notes are those of the schedule for the list that they fix, and each completion is within its worst case
 pub record AreOwn (p : Plan) (ask : Asking) (ticks : ℕ) (notes : List Note) : Type 0 where
   pub fit : AllByRecursion (IsFit p) notes
   pub notes_are : notes ≡ notes_by p ask (demand_of p (fixed_of p notes)) ticks
 
--- notes are those of the schedule for some list exactly where they are those for the list that they fix, which is then a
--- demand list of the plan
+-- notes are those of the schedule for some list exactly where they are those for the list that they fix, which is then
+-- a demand list of the plan
 pub record HasOwnList (p : Plan) (ask : Asking) : Type 0 where
   pub of_some : (ticks : ℕ) (notes : List Note) (rows : List DemandRow)
       → AreNotesFor p ask ticks notes rows → AreOwn p ask ticks notes
@@ -81,12 +81,12 @@ TextHasOwnList p kind =
     (ticks : ℕ) (rows : List DemandRow) → IsWithin p (demand_of p rows)
     → let dem = demand_of p rows in run_text p kind dem ticks ≡ run_text p kind (own_demand p kind dem ticks) ticks
 
--- the list that notes fix has the demands that they fix
+-- the demand list that notes fix has the demands that they fix
 abbrev pub HasFixedDemands : Plan → Type 0
 HasFixedDemands p =
     (notes : List Note) (i k : ℕ) → 1 ≤ k → demand_of p (fixed_of p notes) i k ≡ fixed_demand p notes i k
 
--- it is so whatever a governor makes of the states, and of each published demand
+-- the law of fixed demands, for any function of the states as published demand, and for each kind of governor
 pub record OwnLists (p : Plan) : Type 0 where
   pub fixed : HasFixedDemands p
   pub looks : (demand : Plan → StateOf → Frac) → LooksAtNone p (ask_of demand p)

@@ -1,3 +1,4 @@
 pub mod Orders
 pub mod Rows
 pub mod Texts
+pub mod Examples

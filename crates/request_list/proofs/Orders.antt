@@ -8,7 +8,7 @@ use Rattle.request_list.specs.declared.limits.TheConstants.{MOST_REQUESTS}
 use Rattle.request_list.specs.declared.requests.Request.{Request}
 use Rattle.request_list.specs.Requests.{IsRequest, AreRequests, request_at, no_request}
 
--- requests of which none arrives after the tick `last`
+-- a list of requests, none of which arrives after the tick `last`
 pub record AreRequestsTo (requests : List Request) (last : ℕ) : Type 0 where
   pub are : AreRequests requests
   pub by_then : (m : ℕ) → m < length requests → (request_at requests m).arrival ≤ last
@@ -20,14 +20,14 @@ module _ (requests : List Request) (r : Request) where
   at-last : request_at (requests ++ r ∷ []) (length requests) ≡ r
   at-last = get_or-append_seam requests r [] no_request
 
-  -- what holds of each request holds of each with the next, where it holds of that one too
+  -- what holds of each request, and of one more, holds of each of the list with it
   each-more : (P : Request → Type 0) → ((m : ℕ) → m < length requests → P (request_at requests m)) → P r
       → (m : ℕ) → m < length requests + 1 → P (request_at (requests ++ r ∷ []) m)
   each-more P before last = below_more (λ m. P (request_at (requests ++ r ∷ []) m)) (length requests)
       (λ m lt. rw (at-before m lt) (before m lt))
       (rw at-last last)
 
-  -- one more request, which arrives at `last` or later
+  -- a list with one more request, which arrives at `last` or later, is a list of requests
   pub one-more : (last : ℕ) → AreRequestsTo requests last → IsRequest r → last ≤ r.arrival
       → length requests + 1 ≤ MOST_REQUESTS → AreRequestsTo (requests ++ r ∷ []) r.arrival
   one-more last to within later few =

@@ -1,4 +1,4 @@
--- A row that is read is the row of its request, and the row of a request is read.
+-- A row that is read is the row of its request, and the row of any request is read.
 use Rattle.std.proofs.Common.{◌≡◌, ℕ, ◌^◌, ◌<◌, ◌≤◌, Bool, true, false, List, [], ◌∷◌, length, Option, Some, None, Result, Ok, Err, refl, ap, ap₂, subst, ◌∙◌, arith, if◌then◌else◌}
 use Rattle.std.specs.Prelude.{◌==◌, ◌||◌, nat_lt, ok_or, decimal}
 use Rattle.std.proofs.lemmas.Bool.Decides.{nat_tests}
@@ -15,7 +15,7 @@ use Rattle.request_list.specs.Requests.{IsRequest}
 use Rattle.request_list.specs.RequestText.{row_fields}
 use Rattle.request_list.specs.RequestFile.{units_from, in_order, row_of}
 
--- the value of a step that was not refused
+-- where a sequence of two steps gives a value, each step gave one
 pub step-ok : {A B F : Type 0} (r : Result A F) (f : A → Result B F) (y : B) → and_then r f ≡ Ok y → (x : A) × (r ≡ Ok x) × (f x ≡ Ok y)
 step-ok (Ok x) f y e = (x, refl, e)
 step-ok (Err d) f y e = absurd cc
@@ -30,7 +30,7 @@ pub found-ok : {A F : Type 0} (o : Option A) (e : F) (x : A) → ok_or o e ≡ O
 found-ok None e x h = absurd cc
 found-ok (Some y) e x h = let same : y ≡ x = cc in ap Some same
 
--- units that pass their check are as they were, and within the limits
+-- units that pass their check are unchanged, and within the limits
 units-ok : (row n u : ℕ) → units_from row n ≡ Ok u → (n ≡ u) × (1 ≤ n) × (n ≤ MOST_REQUEST_UNITS)
 units-ok row n u e = by (n == 0) (nat_lt MOST_REQUEST_UNITS n) refl refl e
   where
@@ -56,7 +56,7 @@ units-pass row n some low =
 order-passes : (row earlier n : ℕ) → earlier ≤ n → in_order row earlier n ≡ Ok n
 order-passes row earlier n later = let a : nat_lt n earlier ≡ false = grind (arith, nat_tests) in rw a refl
 
--- what a row that is read says
+-- a row that is read is that of the request, which is within the limits and in order
 pub record IsRowOf (earlier : ℕ) (r : Request) (fields : List (List ℕ)) : Type 0 where
   pub fields_are : fields ≡ row_fields r
   pub later : earlier ≤ r.arrival

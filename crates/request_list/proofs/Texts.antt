@@ -1,4 +1,4 @@
--- What is read from a text is what it is a text of, and a text of requests is read.
+-- A text that is read is one of the requests returned, and any text of requests is read.
 use Rattle.std.proofs.Common.{◌≡◌, ℕ, zero, suc, ◌+◌, ◌^◌, ◌<◌, ◌≤◌, Bool, true, false, List, [], ◌∷◌, ◌++◌, length, map, Result, Ok, Err, refl, sym, ap, ap₂, subst, ◌∙◌, append_assoc, arith, if◌then◌else◌}
 use Rattle.std.specs.Prelude.{nat_lt, ok_or, IfOk}
 use Rattle.std.proofs.lemmas.Bool.Decides.{nat_tests}
@@ -16,12 +16,12 @@ use Rattle.request_list.specs.RequestText.{row_fields, IsTextOf}
 use Rattle.request_list.specs.RequestFile.{row_of, requests_from, header, few_rows, rows_in, request_file}
 use Rattle.request_list.proofs.Rows.{step-ok, found-ok, row-found, row-read}
 
--- requests within the limits, in order from the tick `earlier` on
+-- the requests are within the limits, and in order from the tick `earlier` on
 abbrev IsFrom : ℕ → List Request → Type 0
 IsFrom earlier [] = Unit {0}
 IsFrom earlier (r ∷ rs) = (earlier ≤ r.arrival) × (r.arrival < 2 ^ 64) × IsRequest r × IsFrom r.arrival rs
 
--- what rows give, after the requests before them
+-- the requests are those before and one for each row, in order from `earlier` on
 record AreRowsOf (earlier : ℕ) (before requests : List Request) (rows : List (List (List ℕ))) : Type 0 where
   more : List Request
   all : requests ≡ before ++ more
@@ -84,7 +84,7 @@ few_rows-ok all rows e = by (nat_lt MOST_REQUESTS (length all)) e
 few-read : (rows : List (List (List ℕ))) → length rows ≤ MOST_REQUESTS → few_rows rows ≡ Ok rows
 few-read rows few = let a : nat_lt MOST_REQUESTS (length rows) ≡ false = grind (arith, nat_tests) in rw a refl
 
--- what is read from a text is what it is a text of
+-- a text that is read is one of the requests returned
 found : (requests : List Request) (bytes : List ℕ) → AreRequests requests → request_file bytes ≡ Ok requests → IsTextOf requests bytes
 found requests bytes are e =
     let a = step-ok (rows_in bytes) (requests_from 1 0 []) requests e in
@@ -98,7 +98,7 @@ found requests bytes are e =
       rows = rows ∙ ap (λ rs. header ∷ rs) (same ∙ read.rows_are ∙ ap (map row_fields) (sym read.all));
     }
 
--- so is what an answer has
+-- where the answer is a list of requests, the bytes are a text of them
 pub found-if : (result : Result (List Request) RequestFault) (bytes : List ℕ)
     → IsUnlessMemory fault.NoMemory (λ r. r) result (request_file bytes) → IfOk result AreRequests → IfOk result (λ rs. IsTextOf rs bytes)
 found-if (Ok requests) bytes file are = found requests bytes are file
@@ -111,7 +111,7 @@ text-read requests bytes text =
     let few : length (map row_fields requests) ≤ MOST_REQUESTS = omega (arith, length-map requests row_fields, text.are.few) in
     rw (text.rows, few-read (map row_fields requests) few) (rows-read requests 1 0 [] from)
 
--- and so is every answer to a text of requests, unless memory ran out
+-- the answer to a text of requests is those requests, unless memory ran out
 pub answered : {T : Type 0} (shown : T → List Request) (result : Result T RequestFault) (requests : List Request) (bytes : List ℕ)
     → IsUnlessMemory fault.NoMemory shown result (request_file bytes) → IsTextOf requests bytes
     → IsUnlessMemory fault.NoMemory shown result (Ok requests)

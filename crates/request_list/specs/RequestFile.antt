@@ -1,4 +1,4 @@
--- What a request file means: the requests, or the first refusal.
+-- The meaning of a request file: the requests, or the first refusal.
 use Rattle.std.specs.Prelude.{ℕ, ◌+◌, ◌==◌, ◌||◌, ◌++◌, nat_lt, List, [], ◌∷◌, length, codes, ok_or, Result, Ok, Err, if◌then◌else◌}
 use Rattle.dvs_base.specs.Widths.{u64_end}
 use Rattle.dvs_base.specs.Checks.{and_then}
@@ -11,15 +11,15 @@ use Rattle.request_list.specs.declared.fault.RequestColumn.TheVariants as column
 use Rattle.request_list.specs.declared.fault.RequestFault.{RequestFault}
 use Rattle.request_list.specs.declared.fault.RequestFault.TheVariants as fault
 
--- the check of the units against their limits
+-- the units, checked against their limits
 abbrev pub units_from : ℕ → ℕ → Result ℕ RequestFault
 units_from row n = if n == 0 || nat_lt MOST_REQUEST_UNITS n then Err (fault.Range row) else Ok n
 
--- the check of the order: no row arrives before the row before it
+-- the arrival, checked against that of the row before
 abbrev pub in_order : ℕ → ℕ → ℕ → Result ℕ RequestFault
 in_order row earlier arrival = if nat_lt arrival earlier then Err (fault.Early row) else Ok arrival
 
--- a row, where the row before it arrives at `earlier`
+-- the request of a row, where the row before it arrives at `earlier`
 abbrev pub row_of : ℕ → ℕ → List (List ℕ) → Result Request RequestFault
 row_of row earlier fields =
     and_then (ok_or (two_of fields) (fault.Fields row (length fields))) (λ two.
@@ -28,24 +28,24 @@ row_of row earlier fields =
     and_then (units_from row number) (λ units.
     and_then (in_order row earlier arrival) (λ arrival. Ok (record { arrival = arrival; units = units }))))))
 
--- the requests so far, of which the last arrives at `earlier`, and then the rows from this number on
+-- the requests so far, the last of which arrives at `earlier`, with those of the rows from number `row` on
 abbrev pub requests_from : ℕ → ℕ → List Request → List (List (List ℕ)) → Result (List Request) RequestFault
 requests_from row earlier requests [] = Ok requests
 requests_from row earlier requests (fields ∷ rest) =
     and_then (row_of row earlier fields) (λ r. requests_from (row + 1) r.arrival (requests ++ (r ∷ [])) rest)
 
--- the fields of the header
+-- the fields of a request file's header
 abbrev pub header : List (List ℕ)
 header = codes "arrival" ∷ codes "units" ∷ []
 
--- the check of the number of rows
+-- the rows, checked against the most of them
 abbrev pub few_rows : List (List (List ℕ)) → Result (List (List (List ℕ))) RequestFault
 few_rows rows = if nat_lt MOST_REQUESTS (length rows) then Err (fault.TooMany (length rows)) else Ok rows
 
--- the rows of a file: after the header, and no more than the limit
+-- the rows of a file after its header, at most the limit
 abbrev pub rows_in : List ℕ → Result (List (List (List ℕ))) RequestFault
 rows_in bytes = and_then (ok_or (text_rows header bytes) fault.Header) few_rows
 
--- what the bytes of a request file mean; rows count from 1
+-- the meaning of a request file's bytes; rows count from 1
 abbrev pub request_file : List ℕ → Result (List Request) RequestFault
 request_file bytes = and_then (rows_in bytes) (requests_from 1 0 [])

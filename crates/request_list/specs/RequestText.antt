@@ -7,11 +7,11 @@ use Rattle.request_list.specs.declared.requests.Request.{Request}
 use Rattle.request_list.specs.Requests.{AreRequests, request_at}
 use Rattle.request_list.specs.RequestFile.{header}
 
--- the fields of a request's row, in decimal
+-- the fields of a request's row, in decimal digits
 abbrev pub row_fields : Request → List (List ℕ)
 row_fields r = decimal r.arrival ∷ decimal r.units ∷ []
 
--- a text of these requests: its records are the header, and then a row for each
+-- a text of these requests: its records are the header, and then a row for each request
 pub record IsTextOf (requests : List Request) (bytes : List ℕ) : Type 0 where
   pub are : AreRequests requests
   pub arrivals : (m : ℕ) → m < length requests → (request_at requests m).arrival < u64_end

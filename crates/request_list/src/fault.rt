@@ -13,7 +13,7 @@ pub enum RequestColumn {
     Units,
 }
 
-/// The first thing that a request file has wrong. Rows count from 1.
+/// The first error of a request file. Rows count from 1.
 #[derive(Clone, Copy, Debug, PartialEq, Eq)]
 pub enum RequestFault {
     /// There is no record, or the first one isn't `arrival`, `units`.

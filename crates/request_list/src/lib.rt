@@ -1,7 +1,7 @@
 //! Requests for a server's work: when each arrives, and how many work units it needs.
 //!
-//! Callers may rely on every list to be in order of arrival, to have at most 100000 requests, and each to need 1 to 2^60
-//! work units.
+//! Callers may rely on every list to be in order of arrival, to have at most 100000 requests, and each request to need
+//! 1 to 2^60 work units.
 #![tactic(auto)]
 
 mod fault;

@@ -1,4 +1,4 @@
-// Request files.
+// Reading request files.
 ghost use Rattle.std.specs.Prelude.{List, codes, ◌≡◌, ◌≤◌, ◌<◌, [], Ok, length, ok_or, IfOk, IfErr};
 ghost use Rattle.dvs_base.specs.Widths.{u64_end};
 ghost use Rattle.csv.specs.Records.{fields_of};
@@ -19,7 +19,7 @@ use csv_text::{next_record, rows_reader, two_fields};
 use dvs_base::whole;
 use std::alloc::Global;
 
-// A row, where the row before it arrives at `earlier`.
+// The request of a row, where the row before it arrives at `earlier`.
 fn read_row(row: u64, earlier: u64, fields: &ByteRecord) -> Result<Request, RequestFault>
     ensures row { result ≡ row_of row earlier (fields_of fields.now) }
     ensures limits { IfOk result (λ r. IsRequest r) }
@@ -44,7 +44,7 @@ fn read_row(row: u64, earlier: u64, fields: &ByteRecord) -> Result<Request, Requ
     Ok(Request { arrival, units })
 }
 
-// A reader of the rows of a file, after its header.
+// A reader of the rows of a file, after its header was checked.
 fn request_rows<'a>(
     alloc: Global,
     bytes: &'a [u8],
@@ -99,7 +99,7 @@ fn read_rows(
     Ok(requests)
 }
 
-// The requests of a file, or its first refusal.
+// The requests of a file, or its first refusal, unless memory runs out.
 fn read_requests(alloc: Global, bytes: &[u8]) -> Result<Requests, RequestFault>
     ensures file { IsUnlessMemory RequestFault.NoMemory (λ r. r) result (request_file bytes.now) }
     ensures limits { IfOk result (λ requests. AreRequests requests) }
@@ -115,10 +115,10 @@ fn read_requests(alloc: Global, bytes: &[u8]) -> Result<Requests, RequestFault>
 }
 
 impl Requests {
-    /// The requests of a file: arrivals in ticks, units in work units. A file is read exactly where it is the text of
-    /// some requests within the limits and in order, unless memory runs out. Else the first refusal comes: the header;
-    /// more than 100000 rows; and then row by row the number of fields, the arrival as a number, the units as a number,
-    /// their range, and an arrival below that of the row before.
+    /// The requests of a file: arrivals in ticks, units in work units. A file is read exactly where it is the text
+    /// of some requests within the limits and in order, unless memory runs out. Otherwise the first refusal is
+    /// returned: that of the header, then more than 100000 rows, and then row by row the number of fields, the
+    /// arrival as a number, the units as a number, their range, and an arrival below that of the row before.
     pub fn read(alloc: Global, bytes: &[u8]) -> Result<Requests, RequestFault>
         ensures file { IsUnlessMemory RequestFault.NoMemory (λ r. r) result (request_file bytes.now) }
         ensures found { IfOk result (λ requests. IsTextOf requests bytes.now) }

@@ -5,7 +5,7 @@ ghost use Rattle.request_list.specs.Requests.{AreRequests, request_at};
 
 use std::marker::Model;
 
-/// Work for a server: `units` work units, which it may begin from the tick `arrival` on.
+/// Work for a server: `units` work units, which it may begin at the tick `arrival` or later.
 #[derive(Clone, Copy, Debug, PartialEq, Eq)]
 pub struct Request {
     pub arrival: u64,

@@ -1,4 +1,4 @@
-// Request files, and the first thing that they have wrong.
+// Request files, and their first errors.
 use super::*;
 use std::test::Fail;
 
@@ -103,7 +103,7 @@ fn the_first_refusal_is_told(rt: HostRuntime) {
     }
 }
 
-// A file of this many rows, the first of which isn't a request.
+// A file of `rows` rows, none of which is a request.
 fn rows_text(rt: HostRuntime, rows: u64) -> Result<Vec<u8>, Fail> {
     let mut text = Vec::from_slice(rt.alloc(), b"arrival,units\n").map_err(|_| "memory")?;
     for _row in 0..rows {

@@ -1,4 +1,4 @@
--- The first task in RM order that fails the test, among the tasks that were looked at.
+-- The first task in RM order that fails the test, among the tasks seen so far.
 use Rattle.std.proofs.Common.{◌≡◌, ℕ, ◌+◌, ◌*◌, ◌<◌, ◌≤◌, Bool, true, false, Option, Some, None, MatchOption, if◌then◌else◌, refl, arith, sym, ◌∙◌, add-one, true≢false}
 use Rattle.grid_fraction.proofs.Searches.{below_suc}
 use Rattle.sched_model.specs.Plan.{Plan, period, top_speed}
@@ -7,17 +7,17 @@ use Rattle.sched_model.specs.Tests.{level_work}
 use Rattle.sched_model.proofs.PriorityLemmas.{before-self, before-trans}
 use Rattle.rm_admit.specs.Denials.{IsOverloaded, earlier_of}
 
--- no task below m fails
+-- no task below m fails the test
 abbrev pub NoneBelow : Plan → ℕ → Type 0
 NoneBelow p m = (k : ℕ) → k < m → level_work p k ≤ top_speed p * period p k
 
--- of the tasks below m, task i is the first that does
+-- of the tasks below m, task i is the first in RM order that fails the test
 pub record IsFirstBelow (p : Plan) (m i : ℕ) : Type 0 where
   pub task : i < m
   pub fails : IsOverloaded p i
   pub first : (k : ℕ) → k < m → stands_before (period p) k i ≡ true → level_work p k ≤ top_speed p * period p k
 
--- what is known of the tasks below m
+-- `first` is the first task below m that fails the test, or none does
 abbrev pub Known : Plan → ℕ → Option ℕ → Type 0
 Known p m first = MatchOption first (NoneBelow p m) (IsFirstBelow p m)
 

@@ -1,4 +1,4 @@
--- Why tasks are not admitted under RM.
+-- Why a task set is not admitted under RM.
 use Rattle.std.specs.Prelude.{◌≡◌, ℕ, ◌*◌, ◌<◌, ◌≤◌, true, Option, Some, None, if◌then◌else◌}
 use Rattle.sched_model.specs.Plan.{Plan, count, period, top_speed}
 use Rattle.sched_model.specs.Priority.{stands_before}
@@ -6,23 +6,23 @@ use Rattle.sched_model.specs.Tests.{level_work, IsRmFeasible}
 use Rattle.rm_admit.specs.declared.RmFault.{RmFault}
 use Rattle.rm_admit.specs.declared.RmFault.TheVariants.{Denied, NoMemory}
 
--- a task fails the test
+-- task i fails the test
 abbrev pub IsOverloaded : Plan → ℕ → Type 0
 IsOverloaded p i = top_speed p * period p i < level_work p i
 
--- it is the first in RM order that does
+-- task i is the first in RM order that fails the test
 pub record IsFirstOverloaded (p : Plan) (i : ℕ) : Type 0 where
   pub task : i < count p
   pub fails : IsOverloaded p i
   pub first : (k : ℕ) → k < count p → stands_before (period p) k i ≡ true → level_work p k ≤ top_speed p * period p k
 
--- the test fails first at this task, by the two numbers; or it passes, and memory was wanting
+-- `task` is the first to fail the test, with the two numbers that show it; or the test passes, and memory ran out
 abbrev pub IsRmDenial : Plan → RmFault → Type 0
 IsRmDenial p (Denied task num cap) =
     IsFirstOverloaded p task × (num ≡ level_work p task) × (cap ≡ top_speed p * period p task)
 IsRmDenial p NoMemory = IsRmFeasible p
 
--- the earlier of task i and another, where there is another
+-- the earlier by the key of task i and another; task i where there is no other
 abbrev pub earlier_of : (ℕ → ℕ) → Option ℕ → ℕ → ℕ
 earlier_of key None i = i
 earlier_of key (Some k) i = if stands_before key i k then i else k

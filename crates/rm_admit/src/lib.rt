@@ -1,8 +1,7 @@
-//! Admission under RM: whether the highest speed does the work that each task and those before it can ask for in one of
-//! its periods (Pillai and Shin 2001, their static test at the ratio 1).
-//! Callers may rely on `Denied` exactly where the test fails, with the first task in RM order that fails it and the two
-//! numbers that show it, and on a plan in which the test is kept. The test itself takes no memory, so want of memory
-//! comes only where it passes.
+//! Admission under RM: whether the highest speed does the work that each task and those before it can ask for in one
+//! of its periods (Pillai and Shin 2001, their static test at the ratio 1). Callers may rely on `Denied` exactly
+//! where the test fails, with the first task in RM order that fails it and the two numbers that show it, and on a
+//! plan that passes the test. The test itself takes no memory, so `NoMemory` comes only where it passes.
 #![tactic(auto)]
 
 ghost use Rattle.std.specs.Prelude.{◌≡◌, ◌*◌, ◌<◌, ◌↔◌, IsTrue, IfOk, OnOk, IfErr, length, MatchOption};
@@ -19,17 +18,17 @@ use sched_model::{Admitted, level_work, stands_before};
 use std::alloc::Global;
 use task_model::TaskSet;
 
-/// Why tasks aren't admitted under RM.
+/// Why a task set isn't admitted under RM.
 #[derive(Clone, Copy, Debug, PartialEq, Eq)]
 pub enum RmFault {
-    /// The work that `task` and those before it can ask for in one period of `task`, `num` work units, exceeds what the
-    /// highest speed does in it, `cap` work units. The task is the first such in RM order; tasks count from 0.
+    /// The work that `task` and those before it can ask for in one period of `task`, `num` work units, exceeds what
+    /// the highest speed does in it, `cap` work units. It is the first such task in RM order; tasks count from 0.
     Denied { task: u32, num: u128, cap: u128 },
-    /// Memory ran out, which says nothing of the test.
+    /// Memory ran out. The test passed.
     NoMemory,
 }
 
-// The work that the highest speed does in one period of a task.
+// The work that the highest speed does in one period of task i, in work units.
 fn capacity(tasks: &TaskSet, machine: &Machine, i: u32) -> u128
     requires { i < length tasks.now }
     ensures { result ≡ (let p = plan_of tasks.now machine.now Rm in top_speed p * period p i) }
@@ -37,7 +36,7 @@ fn capacity(tasks: &TaskSet, machine: &Machine, i: u32) -> u128
     u128::from(machine.top()) * u128::from(tasks.task(i).period)
 }
 
-// Whether a task fails the test.
+// Whether task i fails the test.
 fn is_overloaded(tasks: &TaskSet, machine: &Machine, i: u32) -> bool
     requires { i < length tasks.now }
     ensures { IsTrue result ↔ IsOverloaded (plan_of tasks.now machine.now Rm) i }
@@ -45,7 +44,7 @@ fn is_overloaded(tasks: &TaskSet, machine: &Machine, i: u32) -> bool
     level_work(tasks, machine, i) > capacity(tasks, machine, i)
 }
 
-// The earlier in RM order of task i and another, where there is another.
+// The earlier in RM order of task i and another; task i where there is no other.
 fn earlier_of(tasks: &TaskSet, other: Option<u32>, i: u32) -> u32
     requires first { i < length tasks.now }
     requires second { ForSome other (λ k. k < length tasks.now) }
@@ -57,7 +56,7 @@ fn earlier_of(tasks: &TaskSet, other: Option<u32>, i: u32) -> u32
     }
 }
 
-// The first task in RM order that fails the test.
+// The first task in RM order that fails the test, if any.
 fn first_overloaded(tasks: &TaskSet, machine: &Machine) -> Option<u32>
     ensures { let p = plan_of tasks.now machine.now Rm in MatchOption result (IsRmFeasible p) (IsFirstOverloaded p) }
 {
@@ -70,8 +69,8 @@ fn first_overloaded(tasks: &TaskSet, machine: &Machine) -> Option<u32>
     first
 }
 
-/// The plan of these tasks on this machine under RM, where for each task the sum of `ceil(Pi/Pj)*Cj`, over it and the
-/// tasks before it, is at most `fm*Pi`. `Denied` exactly where it is more for some task.
+/// The plan of `tasks` on `machine` under RM. For each task the sum of `ceil(Pi/Pj)*Cj`, over it and the tasks before
+/// it, is at most `fm*Pi`. `Denied` exactly where it is more for some task.
 pub fn rm_admit(alloc: Global, tasks: &TaskSet, machine: &Machine) -> Result<Admitted, RmFault>
     ensures plan { IfOk result (λ plan. plan ≡ plan_of tasks.now machine.now Rm) }
     ensures test { OnOk result (IsRmFeasible (plan_of tasks.now machine.now Rm)) }

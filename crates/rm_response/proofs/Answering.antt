@@ -1,4 +1,4 @@
--- What the list of responses, and the first late task of it, say of the plan.
+-- What the list of responses, and the first late task of it, say about the plan.
 use Rattle.std.proofs.Common.{◌≡◌, ℕ, ◌<◌, nat_lt, List, Some, None, Ok, Err, refl, sym, ◌∙◌, ap, ap₂, subst, arith}
 use Rattle.std.proofs.lemmas.Bool.Decides.{nat_tests}
 use Rattle.std.specs.Prelude.{slice_index}
@@ -31,17 +31,17 @@ module _ (p : Plan) where
       none-in_order (λ k. nat_lt (period p k) (response p k)) (period p) (count p)
       (λ k lt. let timely = all k lt in grind (arith, nat_tests))
 
-  -- the first task with an offset is the answer
+  -- where some task has an offset, the answer is the first of these in file order
   pub answer-offset : (i : ℕ) → IsFirstOffset (offset p) (count p) i → exact_answer p ≡ Err (Offset i)
   answer-offset i first =
       ap (λ o. answer_from p o (first_late (period p) (response p) (count p))) (first-found (offset p) (count p) i first)
 
-  -- where none has one, the first that misses is
+  -- where no task has an offset, the answer is the first task that misses
   pub answer-misses : NoneOffset (offset p) (count p) → (i : ℕ) → IsFirstLate (period p) (response p) (count p) i
       → exact_answer p ≡ Err (misses_at p i)
   answer-misses none i first = ap₂ (answer_from p) (none-found (offset p) (count p) none) (late-found i first)
 
-  -- and where all have responses, these are
+  -- where no task has an offset and each has a response, the answer is the responses
   pub answer-ok : NoneOffset (offset p) (count p) → AllRespond p → exact_answer p ≡ Ok (responses p)
   answer-ok none all = ap₂ (answer_from p) (none-found (offset p) (count p) none) (none-late-found all)
 
@@ -64,7 +64,7 @@ module _ (p : Plan) (ticks : List ℕ) (are : ticks ≡ responses p) where
       → IsResponseDenial p (misses_at p i)
   denied-at none i first = record { no_offset = none; first = first-late i first; num_is = refl; cap_is = refl }
 
-  -- the work of a level that misses exceeds what the highest speed does
+  -- the work of a level that misses exceeds what the highest speed does in the period
   pub shown-at : IsWithinLimits p → (i : ℕ) → IsFirstLate (period p) (slice_index ticks) (count p) i
       → IsShownMiss (misses_at p i)
   shown-at lim i first =

@@ -1,4 +1,4 @@
--- The first late task in RM order, among the tasks that were looked at.
+-- The first late task in RM order, among the tasks seen so far.
 use Rattle.std.proofs.Common.{◌≡◌, ℕ, ◌+◌, ◌<◌, ◌≤◌, Bool, true, false, Option, Some, None, if◌then◌else◌, refl, arith, sym, ◌∙◌, add-one, true≢false}
 use Rattle.grid_fraction.proofs.Searches.{below_suc}
 use Rattle.sched_model.specs.Priority.{stands_before}
@@ -9,11 +9,11 @@ module _ (period response : ℕ → ℕ) where
   abbrev Finds : ℕ → Option ℕ → Type 0
   Finds m first = FindsLate period response m first
 
-  -- task k is in time, where it stands before task i
+  -- task k has a response within its period, if it comes before task i
   abbrev InTime : ℕ → ℕ → Type 0
   InTime i k = stands_before period k i ≡ true → response k ≤ period k
 
-  -- no task stands before itself
+  -- no task comes before itself
   itself : (i : ℕ) → InTime i i
   itself i b = absurd (true≢false (sym b ∙ before-self period i))
 

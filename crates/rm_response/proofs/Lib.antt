@@ -2,3 +2,4 @@ pub mod FirstLate
 pub mod FirstInOrder
 pub mod Answering
 pub mod Beside
+pub mod Examples

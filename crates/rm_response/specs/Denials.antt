@@ -14,46 +14,47 @@ use Rattle.rm_response.specs.Late.{IsFirstLate, first_late}
 abbrev pub responses : Plan → List ℕ
 responses p = list_below (count p) (response p)
 
--- each is the least tick at which the task's first job is complete when all jobs have their worst cases
+-- each response is the least tick at which the task's first job is complete when all jobs have their worst cases
 abbrev pub AreLeast : Plan → List ℕ → Type 0
 AreLeast p ticks = (i : ℕ) → i < count p → IsFirstDoneAt p i (slice_index ticks i)
 
--- a task without a response, by what its level can be asked for in its period and what the highest speed does in it
+-- the fault of task i without a response: what its level asks for in its period, and what the highest speed does in it
 abbrev pub misses_at : Plan → ℕ → ResponseFault
 misses_at p i = Misses i (level_work_in p (period p i) i) (top_speed p * period p i)
 
--- the task is the first in RM order without a response, by the two numbers
+-- no task has an offset, and `task` is the first in RM order without a response;
+-- its level asks for `num` units in its period, and the highest speed does `cap`
 pub record IsFirstMiss (p : Plan) (task num cap : ℕ) : Type 0 where
   pub no_offset : NoneOffset (offset p) (count p)
   pub first : IsFirstLate (period p) (response p) (count p) task
   pub num_is : num ≡ level_work_in p (period p task) task
   pub cap_is : cap ≡ top_speed p * period p task
 
--- the task is the first in file order with an offset; or no task has one, and either this one is the first that misses,
--- or memory was wanting
+-- why there is no answer: `task` is the first in file order with an offset; or no task has one, and either `task` is
+-- the first in RM order without a response, or memory ran out
 abbrev pub IsResponseDenial : Plan → ResponseFault → Type 0
 IsResponseDenial p (Offset task) = IsFirstOffset (offset p) (count p) task
 IsResponseDenial p (Misses task num cap) = IsFirstMiss p task num cap
 IsResponseDenial p NoMemory = NoneOffset (offset p) (count p)
 
--- the first job of a task that misses is not complete at its period when all jobs have their worst cases
+-- the first job of a task without a response is not complete at its period when all jobs have their worst cases
 abbrev pub IsMissed : Plan → ResponseFault → Type 0
 IsMissed p (Offset task) = Unit {0}
 IsMissed p (Misses task num cap) = is_first_done p task (period p task) ≡ false
 IsMissed p NoMemory = Unit {0}
 
--- the two numbers of a task that misses are such that it does
+-- of a task without a response, the work asked for exceeds what the highest speed does
 abbrev pub IsShownMiss : ResponseFault → Type 0
 IsShownMiss (Misses task num cap) = cap < num
 IsShownMiss e = ⊤
 
--- the answer of the test, by the first task with an offset and by the first one without a response
+-- the answer of the test, from the first task with an offset and the first one without a response
 abbrev pub answer_from : Plan → Option ℕ → Option ℕ → Result (List ℕ) ResponseFault
 answer_from p (Some i) late = Err (Offset i)
 answer_from p None (Some i) = Err (misses_at p i)
 answer_from p None None = Ok (responses p)
 
--- What the test answers: the first task in file order with an offset; where none has one, the first task in RM order
--- without a response; and where all have one, the responses.
+-- The answer of the test: the first task in file order with an offset; where none has one, the first task in RM order
+-- without a response; and where there is neither, the responses.
 abbrev pub exact_answer : Plan → Result (List ℕ) ResponseFault
 exact_answer p = answer_from p (first_offset (offset p) (count p)) (first_late (period p) (response p) (count p))

@@ -1,4 +1,4 @@
-// A bound on a response from below: the tasks before one task count by their rates (after Sjödin and Hansson 1998).
+// A lower bound on a response: the tasks before one task count by their rates (after Sjödin and Hansson 1998).
 ghost use Rattle.std.specs.Prelude.{◌≡◌, ◌≤◌, ◌<◌, ◌^◌, length};
 ghost use Rattle.dvs_base.specs.declared.kind.Scheduler.TheVariants.{Rm};
 ghost use Rattle.sched_model.specs.Plan.{plan_of, count, period, rate};
@@ -11,7 +11,7 @@ use freq_table::Machine;
 use sched_model::stands_before;
 use task_model::{LONGEST_PERIOD, TaskSet};
 
-// The work of a task in one hyperperiod.
+// The work of task j in one hyperperiod, each job at its charged worst case, in work units.
 fn rate(tasks: &TaskSet, machine: &Machine, j: u32) -> u128
     requires { j < length tasks.now }
     ensures value { result ≡ rate (plan_of tasks.now machine.now Rm) j }
@@ -35,8 +35,7 @@ fn rates_before(tasks: &TaskSet, machine: &Machine, k: u32) -> u128
     sum
 }
 
-// What the highest speed does in one hyperperiod beyond the work of the tasks before task k, and 0 where that is no
-// less.
+// What the highest speed does in one hyperperiod beyond the work of the tasks before task k; 0 where it does no more.
 fn spare(tasks: &TaskSet, machine: &Machine, k: u32) -> u128
     requires { k < length tasks.now }
     ensures { result ≡ spare (plan_of tasks.now machine.now Rm) k }
@@ -45,8 +44,8 @@ fn spare(tasks: &TaskSet, machine: &Machine, k: u32) -> u128
     capacity.saturating_sub(rates_before(tasks, machine, k))
 }
 
-// The ticks that `work` units take at the speed that the rates of the tasks before task k leave, and one more than the
-// longest period where they leave none.
+// The ticks that `work` units take at the speed that the rates of the tasks before task k leave; one more than the
+// longest period where they leave no speed.
 pub(crate) fn ticks_beside(tasks: &TaskSet, machine: &Machine, work: u128, k: u32) -> u128
     requires work { work ≤ 2 ^ 64 }
     requires task { k < length tasks.now }

@@ -17,10 +17,10 @@ use grid_fraction::up;
 use sched_model::stands_before;
 use task_model::TaskSet;
 
-// More than any level that is served within the longest period can be asked for in it.
+// More work than a level asks for in any number of ticks up to the longest period that serves it.
 const MOST_SERVED: u128 = 1 << 64;
 
-// Whether task k is task i or stands before it in RM order.
+// Whether task k is task i or comes before it in RM order.
 fn is_up_to(tasks: &TaskSet, i: u32, k: u32) -> bool
     requires first { i < length tasks.now }
     requires second { k < length tasks.now }
@@ -29,7 +29,7 @@ fn is_up_to(tasks: &TaskSet, i: u32, k: u32) -> bool
     stands_before(tasks, k, i) || k == i
 }
 
-// The task before task k in file order, and the last task where it is the first.
+// The task before task k in file order; the last task where task k is the first.
 fn previous(tasks: &TaskSet, k: u32) -> u32
     requires { k < length tasks.now }
     ensures { result < length tasks.now }
@@ -40,8 +40,8 @@ fn previous(tasks: &TaskSet, k: u32) -> u32
     }
 }
 
-// The ticks that the work of the level of task i in `ticks` ticks takes; or, where these are more, the ticks that the
-// rest of it takes beside the rates of the tasks before task k.
+// The ticks that the work of the level of task i in `ticks` ticks takes or, if these are more, the ticks that the
+// rest of this work takes beside the rates of the tasks before task k.
 fn next_tick(tasks: &TaskSet, machine: &Machine, ticks: u64, k: u32, i: u32) -> u128
     requires ticks { ticks ≤ LONGEST_PERIOD }
     requires split { k < length tasks.now }
@@ -61,7 +61,7 @@ fn next_tick(tasks: &TaskSet, machine: &Machine, ticks: u64, k: u32, i: u32) -> 
     next.max(ticks_beside(tasks, machine, rest, k))
 }
 
-// The greatest response of the tasks before task i both in the file and in RM order, and 1 where there is none.
+// The greatest response of the tasks before task i both in the file and in RM order; 1 where there is none.
 pub(crate) fn longest_before(tasks: &TaskSet, responses: &[u64], i: u32) -> u64
     requires responses { length responses.now ≡ i }
     requires task { i < length tasks.now }
@@ -76,8 +76,8 @@ pub(crate) fn longest_before(tasks: &TaskSet, responses: &[u64], i: u32) -> u64
     longest
 }
 
-// The response of a task in ticks, and one more than its period where it has none, from a number of ticks below which
-// its level is not served.
+// The response of task i in ticks; one more than its period where it has none. `from` is a number of ticks, and fewer
+// ticks don't serve its level.
 pub(crate) fn response_of(tasks: &TaskSet, machine: &Machine, from: u64, i: u32) -> u64
     requires task { i < length tasks.now }
     requires some { 1 ≤ from }

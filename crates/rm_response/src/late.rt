@@ -7,7 +7,7 @@ ghost use Rattle.rm_response.specs.Late.{earlier_of, FindsLate};
 use sched_model::stands_before;
 use task_model::TaskSet;
 
-// The earlier in RM order of task i and another, where there is another.
+// The earlier in RM order of task i and another; task i where there is no other.
 fn earlier_of(tasks: &TaskSet, other: Option<u32>, i: u32) -> u32
     requires first { i < length tasks.now }
     requires second { ForSome other (λ k. k < length tasks.now) }
@@ -19,7 +19,7 @@ fn earlier_of(tasks: &TaskSet, other: Option<u32>, i: u32) -> u32
     }
 }
 
-// The first task in RM order whose response is beyond its period.
+// The first task in RM order whose response exceeds its period, if any.
 pub(crate) fn first_late(tasks: &TaskSet, responses: &[u64]) -> Option<u32>
     requires { length responses.now ≡ length tasks.now }
     ensures { FindsLate (λ k. (task_at tasks.now k).period) (slice_index responses.now) (length tasks.now) result }

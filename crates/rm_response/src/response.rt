@@ -19,8 +19,8 @@ use std::alloc::Global;
 use std::marker::Model;
 use task_model::TaskSet;
 
-/// The response of each task in ticks, in file order: the least tick at which its first job is complete under RM at the
-/// highest speed when all jobs have their worst cases.
+/// The response of each task in ticks, in file order: the least tick at which its first job is complete under RM at
+/// the highest speed when all jobs have their worst cases.
 #[derive(Drop)]
 pub struct Response {
     ticks: Vec<u64>,
@@ -46,21 +46,21 @@ impl Response {
     }
 }
 
-/// Why there are no responses.
+/// Why a task set has no responses.
 #[derive(Clone, Copy, Debug, PartialEq, Eq)]
 pub enum ResponseFault {
-    /// `task` has an offset, so first jobs don't show the worst; it is the first such in file order. Tasks count from
-    /// 0.
+    /// `task` has an offset, so first jobs don't show the longest response times. It is the first such task in file
+    /// order; tasks count from 0.
     Offset { task: u32 },
     /// No task has an offset, and in each number of ticks up to its period the work that `task` and those before it
-    /// can be asked for exceeds what the highest speed does. In the period itself it is `num` work units, against
-    /// `cap`. The task is the first such in RM order; tasks count from 0.
+    /// can ask for exceeds what the highest speed does. In the period itself it is `num` work units, against `cap`.
+    /// The task is the first such task in RM order; tasks count from 0.
     Misses { task: u32, num: u128, cap: u128 },
-    /// Memory ran out. No task has an offset, and nothing else is said of the tasks.
+    /// Memory ran out. No task has an offset, and nothing else is known about the tasks.
     NoMemory,
 }
 
-// The response of each task, and one more than its period where it has none.
+// The response of each task in file order; one more than its period where it has none.
 fn responses_of(alloc: Global, tasks: &TaskSet, machine: &Machine) -> Result<Vec<u64>, NoMemory>
     ensures { IfOk result (λ v. v.items ≡ responses (plan_of tasks.now machine.now Rm)) }
 {
@@ -73,7 +73,7 @@ fn responses_of(alloc: Global, tasks: &TaskSet, machine: &Machine) -> Result<Vec
     Ok(list)
 }
 
-// Why a task has no response, by the numbers of its period.
+// The fault of a task without a response, with the numbers of its period.
 fn missing(tasks: &TaskSet, machine: &Machine, task: u32) -> ResponseFault
     requires { task < length tasks.now }
     ensures { result ≡ misses_at (plan_of tasks.now machine.now Rm) task }
@@ -86,10 +86,10 @@ fn missing(tasks: &TaskSet, machine: &Machine, task: u32) -> ResponseFault
     }
 }
 
-/// The response of each task under RM at the highest speed `fm`, in file order: the least `t` from 1 to its period for
-/// which the sum of `ceil(t/Pj)*Cj`, over it and the tasks before it in RM order, is at most `fm*t` (Joseph and Pandya
-/// 1986). `Offset` exactly where some task has an offset, else `Misses` exactly where some task has no response, unless
-/// memory ran out.
+/// The response of each task under RM at the highest speed `fm`, in file order: the least `t` from 1 to its period
+/// such that the sum of `ceil(t/Pj)*Cj`, over it and the tasks before it in RM order, is at most `fm*t` (Joseph and
+/// Pandya 1986). `Offset` exactly where some task has an offset, otherwise `Misses` exactly where some task has no
+/// response, unless memory runs out.
 pub fn rm_response(
     alloc: Global,
     tasks: &TaskSet,

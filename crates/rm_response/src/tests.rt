@@ -19,7 +19,7 @@ const THOUSAND: &str = "point = [{speed = 1000, millivolts = 1000}]";
 
 const CHARGED: &str = "charge = 1\npoint = [{speed = 1, millivolts = 1000}]";
 
-// Tasks on a machine, as the text of both files, and what is expected of them.
+// A task file, a machine file and the responses expected.
 struct Case {
     tasks: &'static str,
     machine: &'static str,
@@ -27,7 +27,7 @@ struct Case {
 }
 
 const RESPONSES: &[Case] = &[
-    // the test of one period denies these
+    // the static RM test denies these
     Case {
         tasks: r#"task = [{name = "a", period = 4, worst = 2}, {name = "b", period = 5, worst = 2}]"#,
         machine: ONE,
@@ -48,7 +48,7 @@ const RESPONSES: &[Case] = &[
         machine: ONE,
         responses: &[1, 4],
     },
-    // several turns, to 8
+    // several steps of the iteration, up to 8
     Case {
         tasks: r#"task = [
     {name = "a", period = 3, worst = 1},
@@ -77,7 +77,7 @@ const RESPONSES: &[Case] = &[
         machine: CHARGED,
         responses: &[3],
     },
-    // the numbers jump
+    // the iteration goes in large steps
     Case {
         tasks: r#"task = [
     {name = "a", period = 1000000000000, worst = 250000000000},
@@ -86,8 +86,8 @@ const RESPONSES: &[Case] = &[
         machine: ONE,
         responses: &[250000000000, 500000000000],
     },
-    // the first task leaves one unit of each 100 ticks, in the last of them; so the 5000000000 units of the second one
-    // take as many times 100 ticks
+    // the first task leaves one unit of each 100 ticks, in the last of them; so the 5000000000 units of the second
+    // take 5000000000 times 100 ticks
     Case {
         tasks: r#"task = [
     {name = "a", period = 100, worst = 99999999},
@@ -109,7 +109,7 @@ const RESPONSES: &[Case] = &[
     },
 ];
 
-// The responses of the tasks of a file on the machine of another, or why there are none.
+// The responses of the tasks of one file on the machine of another, or the fault.
 fn answer(
     alloc: Global,
     tasks: &str,
@@ -173,7 +173,7 @@ fn the_first_task_without_a_response_is_named(rt: HostRuntime) -> Result<(), Fai
             4,
             3,
         ),
-        // of equal periods the later one in the file
+        // of equal periods the later task in the file misses
         (
             r#"task = [{name = "a", period = 4, worst = 3}, {name = "b", period = 4, worst = 2}]"#,
             ONE,
@@ -181,7 +181,7 @@ fn the_first_task_without_a_response_is_named(rt: HostRuntime) -> Result<(), Fai
             5,
             4,
         ),
-        // the first task takes each tick whole: in one period of the second one 10995116277 times 100000000 units
+        // the first task takes each tick whole: in one period of the second, 10995116277 times 100000000 units
         (
             r#"task = [
     {name = "a", period = 100, worst = 100000000},

@@ -1,4 +1,4 @@
-// The work that the tasks of a level can be asked for.
+// The work that the tasks of a level can ask for.
 ghost use Rattle.std.specs.Prelude.{◌≡◌, ◌≤◌, ◌<◌, ◌^◌, length};
 ghost use Rattle.dvs_base.specs.declared.kind.Scheduler.TheVariants.{Rm};
 ghost use Rattle.task_model.specs.declared.limits.TheConstants.{LONGEST_PERIOD};
@@ -12,7 +12,7 @@ use grid_fraction::up;
 use sched_model::stands_before;
 use task_model::TaskSet;
 
-// The worst case with the charge.
+// The worst case of task j with the charge for two switches of speed, in work units.
 pub(crate) fn worst(tasks: &TaskSet, machine: &Machine, j: u32) -> u64
     requires { j < length tasks.now }
     ensures value { result ≡ worst (plan_of tasks.now machine.now Rm) j }
@@ -21,7 +21,7 @@ pub(crate) fn worst(tasks: &TaskSet, machine: &Machine, j: u32) -> u64
     tasks.task(j).worst + 2 * machine.charge()
 }
 
-// The work of the jobs of task j that `ticks` ticks can hold.
+// The work of the jobs of task j that `ticks` ticks can hold, in work units.
 fn held_work(tasks: &TaskSet, machine: &Machine, ticks: u64, j: u32) -> u128
     requires ticks { ticks ≤ LONGEST_PERIOD }
     requires task { j < length tasks.now }
@@ -32,7 +32,7 @@ fn held_work(tasks: &TaskSet, machine: &Machine, ticks: u64, j: u32) -> u128
     jobs * u128::from(worst(tasks, machine, j))
 }
 
-// The work of the jobs of the tasks before task i in RM order that `ticks` ticks can hold.
+// The work of the jobs of the tasks before task i in RM order that `ticks` ticks can hold, in work units.
 pub(crate) fn work_before(tasks: &TaskSet, machine: &Machine, ticks: u64, i: u32) -> u128
     requires ticks { ticks ≤ LONGEST_PERIOD }
     requires task { i < length tasks.now }
@@ -49,7 +49,7 @@ pub(crate) fn work_before(tasks: &TaskSet, machine: &Machine, ticks: u64, i: u32
     sum
 }
 
-// The work in work units that task i and the tasks before it in RM order can be asked for in `ticks` ticks.
+// The work in work units that task i and the tasks before it in RM order can ask for in `ticks` ticks.
 pub(crate) fn level_work_in(tasks: &TaskSet, machine: &Machine, ticks: u64, i: u32) -> u128
     requires ticks { ticks ≤ LONGEST_PERIOD }
     requires task { i < length tasks.now }

@@ -1,5 +1,4 @@
--- What a level can be asked for grows by the releases of each tick, and so does what its jobs lack, where no deadline
--- is missed.
+-- The work that a level asks for, and what its jobs lack: where no deadline is missed, a release adds as much to both.
 use Rattle.std.proofs.Common.{◌≡◌, inl, inr, ℕ, zero, suc, ◌+◌, ◌*◌, ◌/◌, ◌%◌, ◌<◌, ◌≤◌, Bool, true, false, List, refl, sym, ◌∙◌, ap, arith, if◌then◌else◌, div-add-mod', mod-lt}
 use Rattle.std.proofs.Math.Nat.{mul-le-mul_right}
 use Rattle.std.proofs.lemmas.Bool.{cases_lt}
@@ -23,11 +22,11 @@ pub due-is : (p : Plan) (i k : ℕ) → offset p i ≡ 0 → due p i k ≡ k * p
 unfolding due
 due-is p i k first = omega (arith, first)
 
--- the jobs of a task that t ticks can hold
+-- the number of jobs of task j that t ticks can hold
 abbrev pub held : Plan → ℕ → ℕ → ℕ
 held p t j = ceil_div t (period p j)
 
--- they are one more after each release
+-- at a release of task j one more tick can hold one more job of it
 held-due : (p : Plan) (t j q : ℕ) → offset p j ≡ 0 → 0 < period p j → t ≡ due p j q → held p (suc t) j ≡ held p t j + 1
 held-due p t j q first pos e =
     let d = period p j in
@@ -36,7 +35,7 @@ held-due p t j q first pos e =
     let now : ceil_div t d ≡ q = ap (λ n. ceil_div n d) there ∙ ceil-at q d pos in
     ap (λ n. ceil_div n d) next ∙ (ceil-after q d 1 (omega arith) (omega arith) ∙ omega (arith, now))
 
--- and as many as before elsewhere
+-- at other ticks one more tick can hold no more jobs of task j
 held-quiet : (p : Plan) (t j q r : ℕ) → 0 < r → r < period p j → t ≡ q * period p j + r → held p (suc t) j ≡ held p t j
 held-quiet p t j q r pos low e =
     let d = period p j in
@@ -45,7 +44,7 @@ held-quiet p t j q r pos low e =
     ∙ (ceil-after q d (r + 1) (omega arith) (omega arith)
     ∙ sym (ap (λ n. ceil_div n d) e ∙ ceil-after q d r pos (omega arith)))
 
--- off the multiples of its period no job of a task is due
+-- off the multiples of its period task j has no job due
 pub quiet-off : (p : Plan) (t j q r : ℕ) → offset p j ≡ 0 → 0 < r → r < period p j → t ≡ q * period p j + r
     → IsQuiet p t j
 quiet-off p t j q r first pos low e k is =
@@ -61,7 +60,7 @@ quiet-off p t j q r first pos low e k is =
     ]
 
 module _ (p : Plan) (lim : IsWithinLimits p) (ask : List Tick → Frac) where
-  -- a task whose job due at t is complete gets what it can be asked for in tick t
+  -- where task j lacks nothing of a job due at t, the releases of t add as much to its lack as tick t to its work
   lack-asks : (t j : ℕ) → j < count p → offset p j ≡ 0 → ((k : ℕ) → t ≡ due p j k → lack p ask t j ≡ 0)
       → lack_after p ask t j + held p t j * worst p j ≡ lack p ask t j + held p (suc t) j * worst p j
   lack-asks t j h first met = go (t % period p j) refl
@@ -96,7 +95,7 @@ module _ (p : Plan) (lim : IsWithinLimits p) (ask : List Tick → Frac) where
   pick true x y e = e refl
   pick false x y e = refl
 
-  -- and so does each level
+  -- where a level lacks nothing of a job due at t, the releases of t add as much to its lack as tick t to its work
   pub level-asks : (i t : ℕ) → i < count p → NoneOffset (offset p) (count p)
       → ((j k : ℕ) → j < count p → level p i j ≡ true → t ≡ due p j k → lack p ask t j ≡ 0)
       → sum_where (count p) (level p i) (lack_after p ask t) + level_work_in p t i

@@ -1,4 +1,4 @@
--- A number of ticks that serves a level is at least what its work takes beside the rates of some of its tasks.
+-- Ticks that serve a level are at least those that its work takes beside the rates of some of its tasks.
 use Rattle.std.proofs.Common.{List, max, sym, subst, ◌∙◌, ◌≡◌, inl, inr, ℕ, zero, suc, ◌+◌, ◌-◌, ◌*◌, ◌/◌, ◌<◌, ◌≤◌, Bool, true, false, eqb, refl, arith, ap, if◌then◌else◌}
 use Rattle.std.proofs.Math.Nat.{mul-le-mul_right}
 use Rattle.std.proofs.lemmas.Bool.{cases_lt, cases_Bool}
@@ -22,7 +22,7 @@ use Rattle.rm_response_laws.proofs.Ceilings.{ceil-least, ceil-some}
 use Rattle.rm_response_laws.proofs.Searching.{before-response}
 use Rattle.rm_response_laws.proofs.Firsts.{some_worst}
 
--- the rate of a task for u ticks is within the work of the jobs that they can hold
+-- the rate of a task for u ticks is within the work of its jobs that they can hold
 rate-held : (h q d w u : ℕ) → q * d ≡ h → 0 < d → u * (w * q) ≤ h * (ceil_div u d * w)
 rate-held h q d w u e pos =
     let covers = ceil_covers u d pos in
@@ -30,14 +30,14 @@ rate-held h q d w u e pos =
     let whole : q * d * (ceil_div u d * w) ≡ h * (ceil_div u d * w) = rw e refl in
     omega (arith, m, whole)
 
--- what d units a tick do in u ticks is done in no less
+-- n units that d units a tick do in u ticks take at most u ticks
 ceil-within : (n d u : ℕ) → 0 < d → n ≤ d * u → ceil_div n d ≤ u
 ceil-within n d u pos le = elim (cases_lt u (ceil_div n d)) [
   | inl above ↦ (let low = ceil-least n d u pos above in absurd (omega arith))
   | inr most ↦ most
 ]
 
--- later ticks hold no less of a task that is in the level and not among those before task k
+-- more ticks add at least as much to the work of a level as to that of some of its tasks
 term-later : (lv bf : Bool) (x y : ℕ) → (bf ≡ true → lv ≡ true) → x ≤ y
     → (if lv then x else 0) + (if bf then y else 0) ≤ (if lv then y else 0) + (if bf then x else 0)
 term-later true true x y in_level le = omega arith
@@ -45,7 +45,7 @@ term-later true false x y in_level le = omega arith
 term-later false true x y in_level le = (let bad : false ≡ true = in_level refl in absurd cc)
 term-later false false x y in_level le = omega arith
 
--- what is left of the work of u ticks beside the rates is within what the speed left does in them
+-- what the work of u ticks has beside that of some tasks fits into the speed that their rates leave
 spare-does : (r b f h u c : ℕ) → (r + b) * h ≤ f * u * h → u * c ≤ h * b → r * h ≤ (f * h - c) * u
 spare-does r b f h u c done rates = elim (cases_lt (f * h) c) [
   | inl over ↦
@@ -60,7 +60,7 @@ spare-does r b f h u c done rates = elim (cases_lt (f * h) c) [
         let whole : (x + c) * u ≡ f * h * u = ap (λ y. y * u) e in
         omega (arith, whole)
 
--- and where the rates leave none, nothing is left
+-- where the rates of some tasks leave no speed, their work in u ticks is at least what the speed does in them
 spare-none : (b f h u c : ℕ) → 0 < h → f * h ≤ c → u * c ≤ h * b → f * u ≤ b
 spare-none b f h u c some full rates = elim (cases_lt b (f * u)) [
   | inl less ↦
@@ -87,7 +87,7 @@ module _ (p : Plan) (lim : IsWithinLimits p) where
       (λ j h on. rate-held (hyper p) (hyper p / period p j) (period p j) (worst p j) u (period_divides p lim j h) (some_period p lim j h)) in
       omega (arith, left, right, each)
 
-  -- the level of a task of the level of task i is within it
+  -- where task k is of the level of task i, the work of its level is within that of task i's
   level-within : (i k u : ℕ) → k < count p → is_up_to (period p) i k ≡ true → level_work_in p u k ≤ level_work_in p u i
   level-within i k u h on = elim (cases_Bool (eqb k i)) [
     | inl own ↦
@@ -107,7 +107,7 @@ module _ (p : Plan) (lim : IsWithinLimits p) where
       omega (arith, whole, some)
 
   module _ (i k : ℕ) (hi : i < count p) (hk : k < count p) (on : is_up_to (period p) i k ≡ true) where
-    -- the tasks before task k are in the level
+    -- the tasks before task k are of the level of task i
     before-in : (j : ℕ) → stands_before (period p) j k ≡ true → level p i j ≡ true
     before-in j b = up_to-trans (period p) j k i b on
 
@@ -126,7 +126,7 @@ module _ (p : Plan) (lim : IsWithinLimits p) where
         (λ j h. term-later (lv j) (bf j) (held_work p t j) (held_work p u j) (before-in j) (held-later t u j le h)) in
         omega (arith, now, next, left, right, each)
 
-    -- task k itself has work, and it isn't before itself
+    -- the tasks before task k ask for less than the level of task i, since task k itself has work
     before-less : (u : ℕ) → 1 ≤ u → before k u < level_work_in p u i
     before-less u pos =
         let within = level-within i k u hk on in
@@ -143,7 +143,8 @@ module _ (p : Plan) (lim : IsWithinLimits p) where
         spare-does (rest_work p t k i) (before k u) (top_speed p) (hyper p) u (sum_before (count p) (period p) (rate p) k)
         scaled (rates-held k u)
 
-    -- so where the rates leave some speed, no tick below what the rest takes beside them serves
+    -- where the rates of the tasks before task k leave some speed, from t ticks on fewer ticks than the rest of the
+    -- work of t ticks takes beside them don't serve
     pub unserved-beside : (t : ℕ) → 0 < spare p k → IsUnservedFrom p i t (ceil_div (rest_work p t k i * hyper p) (spare p k))
     unserved-beside t some u pos from below =
         elim (cases_lt (top_speed p * u) (level_work_in p u i)) [
@@ -153,7 +154,7 @@ module _ (p : Plan) (lim : IsWithinLimits p) where
               absurd (omega (arith, most, below))
         ]
 
-    -- and where they leave none, no tick serves
+    -- where the rates of the tasks before task k leave no speed, no ticks serve
     pub unserved-full : (t m : ℕ) → spare p k ≡ 0 → IsUnservedFrom p i t m
     unserved-full t m none u pos from below =
         let c = sum_before (count p) (period p) (rate p) k in
@@ -163,7 +164,7 @@ module _ (p : Plan) (lim : IsWithinLimits p) where
         omega (arith, most, less)
 
 module _ (p : Plan) where
-  -- below the response of a task before task i, the level of task i is not served either
+  -- fewer ticks than the response of a task before task i don't serve the level of task i
   within-level : (i k : ℕ) → k < count p → stands_before (period p) k i ≡ true → IsUnserved p i (response p k)
   within-level i k h on u pos lt =
       let first = before-response p k u pos lt in
@@ -186,11 +187,11 @@ module _ (p : Plan) where
       last true on below = within-level i n (omega arith) on u pos below
       last false off below = absurd (omega arith)
 
-  -- nor below the longest response before it
+  -- fewer ticks than the longest response of a task before task i don't serve its level
   pub longest-unserved : (i : ℕ) → i < count p → IsUnserved p i (longest_before (period p) (response p) i)
   longest-unserved i h u pos lt = greatest-unserved i i (omega arith) u pos (omega arith)
 
-  -- read from a list of the responses before it
+  -- fewer ticks than the longest response before task i in a list of responses don't serve its level
   pub list-unserved : (i : ℕ) (responses : List ℕ) → i < count p → responses ≡ list_below i (response p)
       → IsUnserved p i (longest_before (period p) (slice_index responses) i)
   list-unserved i responses h are =

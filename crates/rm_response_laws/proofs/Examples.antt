@@ -1,4 +1,4 @@
--- Responses, and when first jobs are complete, by evaluation.
+-- Responses, and ticks at which first jobs are complete, by evaluation.
 use Rattle.std.proofs.Common.{◌≡◌, ℕ, true, false, [], ◌∷◌, map, replicate, codes, refl}
 use Rattle.dvs_base.specs.declared.kind.Scheduler.TheVariants.{Rm}
 use Rattle.freq_table.specs.Tables.{Table}
@@ -15,7 +15,7 @@ use Rattle.rm_response_laws.specs.FirstJobs.{full_worst_ticks, is_first_done}
 abbrev one_speed_of : ℕ → Table
 one_speed_of speed = record { points = entry_of speed 1000 ∷ []; idle = 0; charge = 0 }
 
--- two tasks that the published test denies, and that meet their deadlines
+-- two tasks that the published test denies, but that meet their deadlines
 abbrev close_pair : Plan
 close_pair = plan_of (task_of (codes "a") 4 2 ∷ task_of (codes "b") 5 2 ∷ []) (one_speed_of 1) Rm
 
@@ -23,12 +23,12 @@ close_responses : (response close_pair 0 ≡ 2) × (response close_pair 1 ≡ 4)
 unfolding response
 close_responses = (refl, refl)
 
--- the second one's first job is complete at its response, and not a tick before
+-- the first job of the second task of `close_pair` is complete at its response, and not a tick before
 close_firsts : (is_first_done close_pair 1 3 ≡ false) × (is_first_done close_pair 1 4 ≡ true)
 unfolding schedule_by published release due latest
 close_firsts = (refl, refl)
 
--- and over their hyperperiod each job has had its two units by its deadline
+-- the units that job k of task i of `close_pair` has had at its deadline
 abbrev had_when_due : ℕ → ℕ → ℕ
 had_when_due i k = exec close_pair (at (due close_pair i k) (full_worst_ticks close_pair 20)) i k
 
@@ -40,7 +40,7 @@ close_met_second : map (had_when_due 1) (1 ∷ 2 ∷ 3 ∷ 4 ∷ []) ≡ replica
 unfolding schedule_by published release due latest
 close_met_second = refl
 
--- two tasks of which the second one has no response
+-- two tasks; the second one has no response
 abbrev late_pair : Plan
 late_pair = plan_of (task_of (codes "a") 4 4 ∷ task_of (codes "b") 6 5 ∷ []) (one_speed_of 2) Rm
 

@@ -1,5 +1,5 @@
--- The first job of a task, with every job at its worst case, where the tasks before it meet their deadlines up to its
--- own: it is complete as soon as the highest speed has done what its level can be asked for, and not before.
+-- The first job of a task, with every job at its worst case and no missed deadline of the tasks before it: it
+-- completes as soon as the highest speed has done what its level can ask for, and not before.
 use Rattle.std.proofs.Common.{◌≡◌, inl, inr, ℕ, zero, suc, ◌+◌, ◌-◌, ◌*◌, ◌<◌, ◌≤◌, true, false, List, length, refl, sym, ◌∙◌, ap, subst, arith, zero-mul, mul-zero, one-mul}
 use Rattle.std.proofs.lemmas.Bool.{cases_lt, le-leb}
 use Rattle.std.proofs.lemmas.Bool.Decides.{nat_tests}
@@ -29,7 +29,7 @@ some_worst p lim i h = let w = (lim.tasks.each i h).some_worst in omega arith
 pub due-zero : (p : Plan) (i : ℕ) → offset p i ≡ 0 → due p i 0 ≡ 0
 due-zero p i first = due-none p i ∙ first
 
--- no ticks hold no job
+-- no job fits into 0 ticks
 work-none : (p : Plan) → IsWithinLimits p → (i : ℕ) → i < count p → level_work_in p 0 i ≡ 0
 work-none p lim i h =
     let work : ℕ → ℕ = λ j. ceil_div 0 (period p j) * worst p j in
@@ -40,18 +40,18 @@ work-none p lim i h =
     λ j hj. ap (λ q. q * worst p j) (zero-jobs j hj) ∙ zero-mul (worst p j) in
     sum_up_to-where (count p) (period p) work i h ∙ sum_where-zero (count p) (level p i) work (λ j hj on. none j hj)
 
--- what none publishes, with every job at its worst case
+-- the published demand with no governor, with every job at its worst case
 abbrev pub worst_ask : Plan → List Tick → Frac
 worst_ask p = full_ask p (worst_demand p)
 
--- what a job of task i lacks there, before and after the releases of t
+-- what the job of task i released last before t lacks at t, at the highest speed and with every job at its worst case
 abbrev pub lacks : Plan → ℕ → ℕ → ℕ
 lacks p t i = lack p (worst_ask p) t i
 
 abbrev lacks_after : Plan → ℕ → ℕ → ℕ
 lacks_after p t i = lack_after p (worst_ask p) t i
 
--- no job of the level of task i that is due before the deadline of its first job lacks anything then
+-- before the deadline of task i's first job, no job of its level lacks anything when it is due
 abbrev pub IsKept : Plan → ℕ → Type 0
 IsKept p i = (t j k : ℕ) → j < count p → level p i j ≡ true → t < period p i → t ≡ due p j k → lacks p t j ≡ 0
 
@@ -61,7 +61,7 @@ module _ (p : Plan) (lim : IsWithinLimits p) (rm : p.scheduler ≡ Rm) (i : ℕ)
   up_to_now zero un = omega (arith, mul-zero (top_speed p))
   up_to_now (suc t) un = let g = un (suc t) (omega arith) (omega arith) in omega arith
 
-  -- as long as the level can be asked for more than is done, it lacks what has not been done of it
+  -- while a level asks for more than the highest speed does, it lacks the difference
   level-lacks : (t : ℕ) → t ≤ period p i → IsUnserved p i t
       → sum_where (count p) (level p i) (lacks p t) ≡ level_work_in p t i - top_speed p * t
   level-lacks zero le un =
@@ -76,7 +76,7 @@ module _ (p : Plan) (lim : IsWithinLimits p) (rm : p.scheduler ≡ Rm) (i : ℕ)
       let falls = lack-falls p lim (worst_ask p) rm (top_speed p) same t (level p i) (level_down p i) in
       omega (arith, before, low, grows, falls)
 
-  -- so its first job is open
+  -- while its level asks for more than the highest speed does, the first job stays incomplete
   open-step : (t : ℕ) → t < period p i → 0 < lacks_after p t i → IsUnserved p i (suc (suc t)) → 0 < lacks p (suc t) i
   open-step t lt pos un =
       elim (cases_lt 0 (lacks p (suc t) i)) [
@@ -109,14 +109,14 @@ module _ (p : Plan) (lim : IsWithinLimits p) (rm : p.scheduler ≡ Rm) (i : ℕ)
   first-open (suc t) pos le un =
       open-step t (omega arith) (open-after t (omega arith) (λ u a b. un u a (omega arith))) un
 
-  -- and at the first tick at which all is done, it is complete
+  -- at the first tick at which the highest speed has done the level's work, the first job lacks nothing
   first-closed : (t : ℕ) → t ≤ period p i → IsUnserved p i t → level_work_in p t i ≤ top_speed p * t → lacks p t i ≡ 0
   first-closed t le un served =
       let mine = sum_where-term (count p) (level p i) (lacks p t) i h (up_to-self (period p) i) in
       let is = level-lacks t le un in
       omega arith
 
-  -- what the first job lacks, until its deadline
+  -- up to its deadline, task i lacks what its first job has not had of its worst case
   first-lack : (t : ℕ) → 0 < t → t ≤ period p i
       → lacks p t i ≡ worst_demand p i 1 - exec p (full_worst_ticks p t) i 1
   first-lack zero pos le = absurd (omega arith)

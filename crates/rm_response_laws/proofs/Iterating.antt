@@ -1,5 +1,4 @@
--- The iteration from below to a response: from a number of ticks to those that the work of these takes, or to a later
--- one.
+-- The iteration from below to a response: from t ticks to the ticks that the work of t ticks takes, or to later ones.
 use Rattle.std.proofs.Common.{inl, inr, ℕ, ◌*◌, ◌<◌, ◌≤◌, max, arith}
 use Rattle.std.proofs.Math.Nat.{mul-le-mul_right}
 use Rattle.std.proofs.lemmas.Bool.{cases_lt}
@@ -16,7 +15,7 @@ use Rattle.rm_response_laws.specs.Responses.{IsUnserved}
 use Rattle.rm_response_laws.specs.Bounds.{IsUnservedFrom}
 use Rattle.rm_response_laws.proofs.Ceilings.{ceil-least}
 
--- the ticks that the work of t ticks takes
+-- the ticks that the highest speed takes for the work of the level of task i in t ticks
 abbrev pub ticks_for : Plan → ℕ → ℕ → ℕ
 ticks_for p i t = ceil_div (level_work_in p t i) (top_speed p)
 
@@ -27,7 +26,7 @@ some_top p lim =
     (lim.machine.each (last_entry p.machine) (omega arith)).some_speed
 
 module _ (p : Plan) (i : ℕ) where
-  -- below the greater of two numbers, where it does not serve below either
+  -- if no ticks from t on and below m serve, and none below n do, then none below the greater of m and n do
   pub unserved-both : (t m n : ℕ) → IsUnservedFrom p i t m → IsUnservedFrom p i t n → IsUnservedFrom p i t (max m n)
   unserved-both t m n first second u pos le lt =
       elim (cases_lt u m) [
@@ -35,7 +34,7 @@ module _ (p : Plan) (i : ℕ) where
         | inr after ↦ second u pos le (omega arith)
       ]
 
-  -- the next number of the iteration
+  -- if no ticks below t serve, and none from t on and below m do, then none below m do
   pub goes_on : (t m : ℕ) → IsUnserved p i t → IsUnservedFrom p i t m → IsUnserved p i m
   goes_on t m un from u pos lt = elim (cases_lt u t) [ inl before ↦ un u pos before | inr after ↦ from u pos after lt ]
 
@@ -43,7 +42,7 @@ module _ (p : Plan) (lim : IsWithinLimits p) (i : ℕ) (h : i < count p) where
   abbrev work : ℕ → ℕ → ℕ
   work t j = ceil_div t (period p j) * worst p j
 
-  -- more ticks, no less work
+  -- in more ticks a level can ask for no less work
   work-mono : (t u : ℕ) → t ≤ u → level_work_in p t i ≤ level_work_in p u i
   work-mono t u le =
       let n = count p in
@@ -53,14 +52,14 @@ module _ (p : Plan) (lim : IsWithinLimits p) (i : ℕ) (h : i < count p) where
       (λ j hj on. mul-le-mul_right (worst p j) (ceil-mono t u (period p j) (some_period p lim j hj) le)) in
       omega (arith, now, next, each)
 
-  -- below the ticks that the work of t ticks takes, t or more do not serve
+  -- from t on, ticks below those that the work of t ticks takes don't serve
   pub unserved-for : (t : ℕ) → IsUnservedFrom p i t (ticks_for p i t)
   unserved-for t u pos le lt =
       let least = ceil-least (level_work_in p t i) (top_speed p) u (some_top p lim) lt in
       let more = work-mono t u le in
       omega arith
 
-  -- and where it is not greater, the work is done
+  -- where the work of t ticks takes at most t ticks, they serve
   pub ends : (t : ℕ) → ticks_for p i t ≤ t → level_work_in p t i ≤ top_speed p * t
   ends t le =
       let covers = ceil_covers (level_work_in p t i) (top_speed p) (some_top p lim) in

@@ -1,4 +1,4 @@
--- Under RM at the highest speed, tasks that have a bound on their levels' busy stretches meet their deadlines.
+-- Under RM at the highest speed, tasks with a bound on their levels' busy stretches meet their deadlines.
 use Rattle.std.proofs.Common.{◌≡◌, ℕ, zero, suc, ◌*◌, ◌<◌, ◌≤◌, Bool, true, List, [], ◌∷◌, length, ap, ◌∙◌, sym, subst}
 use Rattle.dvs_base.specs.declared.kind.Scheduler.TheVariants.{Rm}
 use Rattle.dvs_base.specs.declared.kind.GovernorKind.TheVariants.{Plain}
@@ -20,18 +20,18 @@ use Rattle.governor.specs.Rm.{level, level_work_in, LevelCalm}
 use Rattle.governor.proofs.RmLevels.{level_opens, level_completes, level_releases, level_ticks}
 use Rattle.rm_response_laws.proofs.OneSpeed.{full_ask, full_tick, full-legal}
 
--- a bound on the busy stretches of the level of task i: at most its period, and the highest speed does in it
--- what the level can be asked for in it
+-- `long` bounds the busy stretches of the level of task i: it is at most the task's period, and the highest speed does
+-- in `long` ticks what the level can ask for in them
 pub record IsBound (p : Plan) (i long : ℕ) : Type 0 where
   pub some : 0 < long
   pub within : long ≤ period p i
   pub fits : level_work_in p long i ≤ top_speed p * long
 
--- `which` holds, with each task, those before it in RM order
+-- the set `which` has, with each task, those before it in RM order
 abbrev pub HoldsLevels : Plan → (ℕ → Bool) → Type 0
 HoldsLevels p which = (i j : ℕ) → i < count p → j < count p → level p i j ≡ true → which i ≡ true → which j ≡ true
 
--- and each of its tasks has a bound
+-- the tasks of `which` have bounds on their levels
 module _ (p : Plan) (lim : IsWithinLimits p) (rm : p.scheduler ≡ Rm) (which : ℕ → Bool) (span : ℕ → ℕ)
     (down : HoldsLevels p which) (bound : (i : ℕ) → i < count p → which i ≡ true → IsBound p i (span i))
     (dem : JobDemands) (within : IsWithin p dem) where
@@ -41,25 +41,25 @@ module _ (p : Plan) (lim : IsWithinLimits p) (rm : p.scheduler ≡ Rm) (which : 
   abbrev AreCalm : StateOf → Type 0
   AreCalm s = (i : ℕ) → i < count p → which i ≡ true → LevelCalm F (span i) p s i
 
-  -- before and after the releases of the tick after `past`
+  -- the state before the releases of the tick after `past`
   abbrev prior : List Tick → StateOf
   prior past = prior_state p dem past
 
   abbrev state : List Tick → StateOf
   state past = state_of p dem past
 
-  -- what holds before them
+  -- before the releases the state belongs to the demands, and each level of `which` is calm
   record Kept (past : List Tick) : Type 0 where
     pub belongs : Belongs p dem (prior past)
     pub calm : AreCalm (prior past)
 
-  -- what is due is complete
+  -- each job of a task of `which` that is due is complete
   completes : (past : List Tick) → Kept past → (i : ℕ) → i < count p → which i ≡ true
       → (row_at (prior past) i).deadline ≡ length past → (row_at (prior past) i).done ≡ true
   completes past k i h on =
       level_completes F (span i) p lim i h dem (prior past) k.belongs (bound i h on).within (k.calm i h on)
 
-  -- after the releases
+  -- the state after the releases
   released : (past : List Tick) → after_boundary p dem (prior past) ≡ state past
   released past = boundary-is p dem (every_period p lim) within.none past
 
@@ -76,7 +76,7 @@ module _ (p : Plan) (lim : IsWithinLimits p) (rm : p.scheduler ≡ Rm) (which : 
   at-decision past k =
       subst (IsAtDecision p) (released past) (decision_boundary p dem (prior past) lim k.belongs)
 
-  -- after the tick
+  -- the tick after `past`
   abbrev tick : List Tick → Tick
   tick past = full_tick p dem past
 
@@ -114,7 +114,7 @@ module _ (p : Plan) (lim : IsWithinLimits p) (rm : p.scheduler ≡ Rm) (which : 
   kept zero = subst Kept (sym (schedule-none p dem (full_ask p dem))) kept-none
   kept (suc t) = subst Kept (sym (schedule-suc p dem (full_ask p dem) t)) (kept-next (schedule p Plain dem t) (kept t))
 
-  -- each deadline of these tasks is met
+  -- each deadline of a task of `which` is met
   pub bounded-met : (t i k : ℕ) → i < count p → which i ≡ true → 1 ≤ k → due p i k ≤ t
       → exec p (at (due p i k) (schedule p Plain dem t)) i k ≡ dem i k
   bounded-met t i k h on pos le =

@@ -1,4 +1,4 @@
--- The schedule under none runs at the highest speed all the time.
+-- The schedule with no governor runs at the highest speed all the time.
 use Rattle.std.proofs.Common.{◌≡◌, List, length, ap, ◌∙◌, subst}
 use Rattle.dvs_base.specs.declared.kind.GovernorKind.TheVariants.{Plain}
 use Rattle.grid_fraction.specs.declared.Frac.{Frac}
@@ -15,21 +15,21 @@ use Rattle.sched_model.proofs.ScheduleLemmas.{next_tick-may}
 use Rattle.governor.proofs.Fits.{full_speed}
 use Rattle.governor.proofs.PlanDemands.{published-plain, entry-same}
 
--- what none publishes
+-- the published demand with no governor
 abbrev pub full_ask : Plan → JobDemands → List Tick → Frac
 full_ask p dem = published p Plain dem
 
--- its tick after `past`
+-- the tick after `past` in the schedule with no governor
 abbrev pub full_tick : Plan → JobDemands → List Tick → Tick
 full_tick p dem past = next_tick p dem (full_ask p dem) past
 
--- the entry in force is always the one of the highest speed
+-- the speed of the entry in force is always the highest
 pub full-same : (p : Plan) → IsWithinLimits p → (dem : JobDemands) (past : List Tick)
     → (point p (entry_in_force p dem (full_ask p dem) past)).speed ≡ top_speed p
 full-same p lim dem past =
     ap (speed_at p.machine) (entry-same p dem (full_ask p dem) (full_demand p) (published-plain p dem) past) ∙ full_speed p lim
 
--- so each tick is legal at the highest speed
+-- each tick is legal at the highest speed
 pub full-legal : (p : Plan) → IsWithinLimits p → (dem : JobDemands) (past : List Tick)
     → SharesOut (count p) (key_of p.scheduler p (length past)) (top_speed p) (left p dem past)
     (share (full_tick p dem past))

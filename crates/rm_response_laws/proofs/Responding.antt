@@ -1,4 +1,4 @@
--- What a response says of the schedule under none.
+-- What a response says about the schedule with no governor.
 use Rattle.std.proofs.Common.{◌≡◌, inl, inr, ℕ, zero, suc, ◌-◌, ◌<◌, ◌≤◌, true, false, List, length, refl, sym, ◌∙◌, ap, arith, eqb}
 use Rattle.std.proofs.lemmas.Bool.{cases_Bool}
 use Rattle.std.proofs.lemmas.Bool.Decides.{nat_tests}
@@ -28,11 +28,11 @@ use Rattle.rm_response_laws.proofs.Searching.{before-response, response-bound}
 abbrev pub EarlierRespond : Plan → ℕ → Type 0
 EarlierRespond p i = (j : ℕ) → j < count p → stands_before (period p) j i ≡ true → HasResponse p j
 
--- of a level, each task but the last stands before it
+-- each task of the level of task i but task i itself comes before it
 before-or-last : (p : Plan) (i j : ℕ) → level p i j ≡ true → eqb j i ≡ false → stands_before (period p) j i ≡ true
 before-or-last p i j on other = grind (arith, nat_tests)
 
--- and the level of a task that stands before task i stands before it
+-- where task j comes before task i, each task of its level does
 level-before : (p : Plan) (i j k : ℕ) → level p j k ≡ true → stands_before (period p) j i ≡ true
     → stands_before (period p) k i ≡ true
 level-before p i j k lv on =
@@ -57,7 +57,7 @@ module _ (p : Plan) (lim : IsWithinLimits p) (rm : p.scheduler ≡ Rm) where
         (λ a b ha hb lv on. level-before p i a b lv on) (λ a ha on. response-bound p a (earlier a ha on))
         (worst_demand p) (worst-within p) t j k hj on pos le
 
-    -- so no job of the level that is due before the deadline of the first job of task i lacks anything
+    -- before the deadline of task i's first job, no job of its level lacks anything when it is due
     level-kept : IsKept p i
     level-kept zero j k hj lv before e = refl
     level-kept (suc t) j zero hj lv before e = absurd (omega (arith, e, due-zero p j (first j hj)))
@@ -85,7 +85,7 @@ module _ (p : Plan) (lim : IsWithinLimits p) (rm : p.scheduler ≡ Rm) where
               ap (λ m. worst_demand p j m - exec p ticks j m) job ∙ omega (arith, had)
         ]
 
-    -- a response is the least tick at which the first job is complete
+    -- the response is the least tick at which the first job is complete
     pub first-at-response : HasResponse p i → IsFirstDoneAt p i (response p i)
     first-at-response has =
         let bound = response-bound p i has in
@@ -96,7 +96,7 @@ module _ (p : Plan) (lim : IsWithinLimits p) (rm : p.scheduler ≡ Rm) where
               first-not_done p lim rm i h first level-kept t (omega arith) (λ u a b. none u a (omega arith));
         }
 
-    -- and where there is none, it is not complete at its deadline
+    -- where there is no response, the first job is not complete at its deadline
     pub first-misses : period p i < response p i → is_first_done p i (period p i) ≡ false
     first-misses none =
         first-not_done p lim rm i h first level-kept (period p i) (omega arith)

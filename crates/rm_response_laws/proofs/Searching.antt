@@ -9,7 +9,7 @@ use Rattle.governor.specs.Rm.{level_work_in}
 use Rattle.rm_response_laws.specs.Responses.{is_served, IsUnserved, response, HasResponse}
 use Rattle.rm_response_laws.proofs.Keeping.{IsBound}
 
--- where a search of n numbers ends: at one that passes, or past the last one
+-- m is where a search of n numbers from `from` on ends: at a number that passes, or past the last one
 abbrev EndsAt : ℕ → ℕ → (ℕ → Bool) → ℕ → Type 0
 EndsAt n from test m = (from ≤ m) × ((test m ≡ true) ⊎ (m ≡ from + n))
 
@@ -28,14 +28,14 @@ search-ends (suc n) from test = go (test from) refl (search-ends n (suc from) te
       ],
     )
 
--- below the response the level can be asked for more than the highest speed does
+-- in fewer ticks than the response the level asks for more than the highest speed does
 pub before-response : (p : Plan) (i : ℕ) → IsUnserved p i (response p i)
 unfolding response
 before-response p i u pos lt =
     let none : is_served p i u ≡ false = first_from-before (period p i) 1 u (is_served p i) pos lt in
     grind (arith, nat_tests, none)
 
--- and a response is a bound on the level's busy stretches
+-- a response bounds the level's busy stretches
 pub response-bound : (p : Plan) (i : ℕ) → HasResponse p i → IsBound p i (response p i)
 unfolding response
 response-bound p i has =
@@ -50,13 +50,13 @@ response-bound p i has =
           ];
     }
 
--- a response is at most any number of ticks that serves
+-- the response is at most any number of ticks that serves
 response-most : (p : Plan) (i t : ℕ) → 1 ≤ t → level_work_in p t i ≤ top_speed p * t → response p i ≤ t
 unfolding response
 response-most p i t pos served =
     first_from-most (period p i) 1 t (is_served p i) pos (le-leb (level_work_in p t i) (top_speed p * t) served)
 
--- one that serves, where none before it does, is the response
+-- ticks that serve, where no fewer do, are the response
 pub response-is : (p : Plan) (i t : ℕ) → 1 ≤ t → t ≤ period p i → IsUnserved p i t
     → level_work_in p t i ≤ top_speed p * t → response p i ≡ t
 response-is p i t pos le un served =
@@ -69,7 +69,7 @@ response-is p i t pos le un served =
       | inr same ↦ omega arith
     ]
 
--- and where none up to the period does, there is no response
+-- where no ticks up to the period serve, there is no response
 pub response-none : (p : Plan) (i : ℕ) → IsUnserved p i (suc (period p i)) → response p i ≡ 1 + period p i
 unfolding response
 response-none p i un =

@@ -4,23 +4,22 @@ use Rattle.grid_fraction.specs.Numbers.{first_from}
 use Rattle.sched_model.specs.Plan.{Plan, count, period, top_speed}
 use Rattle.governor.specs.Rm.{level_work_in}
 
--- in t ticks the highest speed does the work that task i and the tasks before it in RM order can be asked for in them
+-- whether t ticks serve: in them the highest speed does the work that the level of task i can ask for in them
 abbrev pub is_served : Plan → ℕ → ℕ → Bool
 is_served p i t = nat_le (level_work_in p t i) (top_speed p * t)
 
--- in no number of ticks below t it does
+-- fewer than t ticks don't serve the level of task i
 abbrev pub IsUnserved : Plan → ℕ → ℕ → Type 0
 IsUnserved p i t = (u : ℕ) → 1 ≤ u → u < t → top_speed p * u < level_work_in p u i
 
--- the response of task i: the least t from 1 to its period in which it does, and one more than the period where there
--- is none
+-- the response of task i: the least t from 1 to its period such that t ticks serve, else one more than the period
 unfoldable pub response : Plan → ℕ → ℕ
 response p i = first_from (period p i) 1 (is_served p i)
 
--- task i has a response
+-- task i has a response: it is at most the period
 abbrev pub HasResponse : Plan → ℕ → Type 0
 HasResponse p i = response p i ≤ period p i
 
--- each task has one
+-- each task has a response
 abbrev pub AllRespond : Plan → Type 0
 AllRespond p = (i : ℕ) → i < count p → HasResponse p i

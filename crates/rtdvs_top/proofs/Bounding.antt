@@ -1,4 +1,4 @@
--- What a least energy of told files has met, from how its answer ends.
+-- What a `least` whose file is known has met, from how its answer ends.
 use Rattle.std.proofs.Common.{◌≡◌, ◌*◌, ℕ, Bool, true, false, List, Option, Some, Result, Ok, Err, refl, sym, ◌∙◌, ap, subst, arith, true≢false, nat_lt, if◌then◌else◌}
 use Rattle.std.proofs.lemmas.Bool.Decides.{nat_tests}
 use Rattle.std.specs.Io.KnownBytes.{Appends}
@@ -19,17 +19,17 @@ use Rattle.rtdvs_top.specs.declared.status.Status.{Status}
 use Rattle.rtdvs_top.specs.declared.status.Status.TheVariants as status
 use Rattle.rtdvs_top.proofs.Denying.{is_given, given-once, denied-later, machine_at-denies-not}
 
--- an answer that is the least is so whatever its writing ends with
+-- an answer that is the minimum is so for any status that its writing ends with
 pub met-on : (m : Table) (l : LeastOf) (a : Least) (s : Status) → IsLeastOn m l a → LeastMetOn m l s
 met-on m l a status.Done h = (a, h)
 met-on m l a s h = tt
 
--- the text of the answer is that of the least energy
+-- the text of the answer is that of the minimum
 text-is : (l : LeastOf) (files : Files) (m : Table) (a : Least) (text : List ℕ) → machine_at l.machine files ≡ Ok m
     → least_energy_of m l.units l.ticks ≡ Ok a → answer_of_command (least l) files ≡ Ok text → text ≡ least_text a
 text-is l files m a text e f h = given-once h (ap (λ x. and_then x (least_on l)) e ∙ ap least_from f)
 
--- the machine does fewer units in the ticks than are asked for, where the answer is denied
+-- where the answer is denied, the machine does fewer units in the ticks than are asked for
 too-many : (l : LeastOf) (m : Table) (why : Denied) → least_on l m ≡ Err (status.NotAdmitted why) → AreTooMany m l why
 too-many l m why h = go (nat_lt (l.ticks * highest_speed m) l.units) refl h
   where
@@ -46,13 +46,13 @@ too-many l m why h = go (nat_lt (l.ticks * highest_speed m) l.units) refl h
     go true e h = record { numbers = ap why_of (sym h); more = grind (arith, nat_tests) }
     go false e h = absurd (true≢false (ap is_given h))
 
--- a least energy of told files, from how its answer ends and what it met
-pub of-least : (told : Option Files) (c : CommandOf) (s : Status) (old new : SinkView)
-    → EndsAs old new told (answer_of_command c) s → MetIn told c s → OfLeast told (Ok c) old new s
+-- a `least` whose file is known, from how its answer ends and what it met
+pub of-least : (files : Option Files) (c : CommandOf) (s : Status) (old new : SinkView)
+    → EndsAs old new files (answer_of_command c) s → MetIn files c s → OfLeast files (Ok c) old new s
 of-least (Some files) (least l) status.Done old new ends met =
     let whole : ends.0 ≡ least_text met.1 = text-is l files met.0 met.1 ends.0 met.2 met.3.answer ends.1 in
     (met.0, met.1, met.2, met.3, subst (Appends old.written new.written) whole ends.2.bytes)
 of-least (Some files) (least l) (status.NotAdmitted why) old new ends met =
     let d = denied-later (machine_at l.machine files) (least_on l) why (machine_at-denies-not l.machine files) ends in
     (d.0, d.1, too-many l d.0 why d.2)
-of-least told c s old new ends met = tt
+of-least files c s old new ends met = tt

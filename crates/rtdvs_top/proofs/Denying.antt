@@ -63,7 +63,7 @@ pub denied-later : {A B : Type 0} (step : Result A Status) (next : A → Result 
 denied-later (Ok a) next why here e = (a, refl, e)
 denied-later (Err s) next why here e = absurd (true≢false (sym (ap (λ r. is_denial (status_of r)) e) ∙ here))
 
--- and in the first one, where the later ones deny nothing
+-- a chain that denies does so in its first step, where the later ones deny nothing
 pub denied-first : {A B : Type 0} (step : Result A Status) (next : A → Result B Status) (why : Denied)
     → ((a : A) → DeniesNot (next a)) → and_then step next ≡ Err (status.NotAdmitted why)
     → step ≡ Err (status.NotAdmitted why)
@@ -128,7 +128,7 @@ within-denies-not jobs bytes = go (nat_lt MOST_JOBS jobs)
     go true = refl
     go false = refl
 
--- few jobs are refused nothing
+-- jobs within the limit are not refused
 pub within-few : (jobs : ℕ) (bytes : List ℕ) → jobs ≤ MOST_JOBS → within_jobs jobs bytes ≡ Ok bytes
 within-few jobs bytes few = grind (arith, nat_tests)
 
@@ -158,7 +158,7 @@ admission-is p = by p.scheduler
     by Edf = by-edf (nat_lt (top_speed p * hyper p) (total_rate p)) (denied.Edf (total_rate p) (top_speed p * hyper p))
     by Rm = by-rm (first_overloaded p)
 
--- a plan that is admitted is itself
+-- the plan that an admission gives is the plan itself
 pub admission-same : (p q : Plan) → admission p ≡ Ok q → q ≡ p
 admission-same p q e = go (admission-is p)
   where

@@ -26,11 +26,11 @@ use Rattle.rtdvs_top.specs.Ending.{HasMet}
 use Rattle.rtdvs_top.proofs.Published.{met-published}
 
 module _ (v : Version) (p : Plan) (d : DemandsOf) (ticks : ℕ) where
-  -- the run of this number of ticks
+  -- the run of the plan for `ticks` ticks
   abbrev whole : Run
   whole = record { plan = p; demands = d; ticks = ticks }
 
-  -- under a governor of these meanings, whose laws hold
+  -- what the run meets under a governor of these meanings, whose laws hold
   met-by : (kind : GovernorKind) (serves : Serving) (demand : OwnDemand) (calm : Condition) (safe : EntryCondition)
       → GovernorLaws kind serves demand calm safe → PublishingLaws kind serves demand → serves p.scheduler
       → IsReadyRun kind whole → HasMet v kind whole
@@ -39,7 +39,7 @@ module _ (v : Version) (p : Plan) (d : DemandsOf) (ticks : ℕ) where
       met-published demand kind p d ready.runnable.list ready.worsts (publishing.publishes p ready.admitted served) v ticks
       ready.runnable.low_ticks ready.admitted met
 
-  -- under the governor of each pair
+  -- what the run meets under the governor of each pair
   by-pair : (scheduler : Scheduler) (kind : GovernorKind) → p.scheduler ≡ scheduler → IsReadyRun kind whole → HasMet v kind whole
   by-pair scheduler Plain e ready = met-by Plain _ _ _ _ (full_laws pairs_plain) plain_publishing tt ready
   by-pair scheduler Fixed e ready = met-by Fixed _ _ _ _ (static_laws pairs_fixed) fixed_publishing tt ready

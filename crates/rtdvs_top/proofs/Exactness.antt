@@ -1,10 +1,11 @@
--- A replay or a migration is done exactly where the trace file tells a schedule.
-use Rattle.std.proofs.Common.{◌≡◌, inl, inr, ℕ, suc, ◌<◌, List, [], ◌∷◌, length, map, Option, Some, Result, Ok, Err, IsOk, refl, sym, ap, ◌∙◌, subst, arith, true≢false}
-use Rattle.dvs_base.specs.Outside.{Files}
+-- A replay or a migration is done exactly where the trace file is the text of a schedule.
+use Rattle.std.proofs.Common.{◌≡◌, inl, inr, ℕ, suc, ◌<◌, ◌≤◌, Bool, true, false, List, [], ◌∷◌, length, map, Option, Some, None, Result, Ok, Err, IsOk, if◌then◌else◌, nat_lt, refl, sym, ap, ◌∙◌, subst, arith, true≢false}
+use Rattle.dvs_base.specs.Outside.{Files, file_of}
 use Rattle.dvs_base.specs.Checks.{and_then}
 use Rattle.dvs_base.specs.declared.kind.GovernorKind.{GovernorKind}
 use Rattle.dvs_base.specs.declared.kind.Version.{Version}
 use Rattle.dvs_base.specs.declared.kind.Version.TheVariants.{Two}
+use Rattle.dvs_base.specs.declared.limits.TheConstants.{LONGEST_TRACE}
 use Rattle.dvs_base.specs.declared.note.Note.{Note}
 use Rattle.grid_fraction.specs.Numbers.{list_below}
 use Rattle.task_model.specs.declared.task.Task.{Task}
@@ -23,6 +24,7 @@ use Rattle.trace_reader.specs.declared.trace.TraceFault.{TraceFault}
 use Rattle.trace_reader.specs.Traces.{TraceOf, IsTrace, IsTextOf, text_of}
 use Rattle.trace_reader.proofs.LineTexts.{AreNames}
 use Rattle.trace_reader.proofs.HeadTexts.{task_lines-lines}
+use Rattle.trace_reader.proofs.ShortTexts.{text-short}
 use Rattle.trace_reader.proofs.TraceTexts.{reads-found, reads-only, version-lines}
 use Rattle.replay_laws.specs.FixedDemands.{fixed_of}
 use Rattle.replay_laws.proofs.Owning.{own-lists}
@@ -33,15 +35,18 @@ use Rattle.replay.proofs.Comparing.{ended-once}
 use Rattle.replay.proofs.Exact.{some-replayed, is-replayed}
 use Rattle.replay.proofs.Texts.{names-distinct}
 use Rattle.words.specs.Commands.{TracedOf, CommandOf, traced}
-use Rattle.rtdvs_top.specs.Answer.{bytes_at, tasks_at, machine_at, admission}
+use Rattle.rtdvs_top.specs.Answer.{longest, bytes_from, bytes_at, tasks_at, machine_at, admission}
 use Rattle.rtdvs_top.specs.ReplayAnswer.{task_line, lines_of_tasks, trace_from, trace_of, trace_at, traced_of, totals_at, printed, answer_of_traced, trace_answer}
 use Rattle.rtdvs_top.specs.Exactness.{IsScheduleText, AreFilesOf, TellsOwn, IsDoneUnless, OfTrace}
 use Rattle.rtdvs_top.specs.Promises.{IsAnswer, Answers}
 use Rattle.rtdvs_top.specs.Ending.{MetIn}
+use Rattle.rtdvs_top.specs.declared.status.FileKind.{FileKind}
 use Rattle.rtdvs_top.specs.declared.status.FileKind.TheVariants as file
 use Rattle.rtdvs_top.specs.declared.status.Status.{Status}
 use Rattle.rtdvs_top.specs.declared.status.Status.TheVariants as status
+use Rattle.rtdvs_top.specs.declared.status.TextFault.TheVariants as text_fault
 use Rattle.rtdvs_top.proofs.Denying.{is_given, given-once, given-both, passes-admission, admission-same}
+use Rattle.rtdvs_top.proofs.Loading.{short_file}
 use Rattle.rtdvs_top.proofs.Migrating.{few-of-none, replayed-some, passes, own-notes}
 use Rattle.rtdvs_top.proofs.TraceTexts.{below-first}
 
@@ -63,13 +68,13 @@ names-named : (tasks : List Task) → ((i : ℕ) → i < length tasks → IsTask
 names-named [] h = tt
 names-named (t ∷ tasks) h = ((h 0 (omega arith)).name, names-named tasks (λ i lt. h (suc i) (omega (arith, lt))))
 
--- a file that tells a schedule of a plan is read, its plan admitted, and its trace the same as its schedule's
+-- a file that is the text of a schedule of a plan is read, its plan is admitted, and its trace is that of its schedule
 module _ (r : TracedOf) (files : Files) (v : Version) (p : Plan) (g : GovernorKind) (ticks : ℕ) (rows : List DemandRow)
     (bytes : List ℕ) (of : AreFilesOf r files p bytes) (h : IsScheduleText v p g ticks rows bytes) where
   abbrev t : TraceOf
   t = trace_of_run v p g (demand_of p rows) ticks
 
-  -- it keeps the limits of traces
+  -- the trace of the run keeps the limits of traces
   whole : IsTrace (names p) (task_texts p) t
   whole =
       keeps-limits p h.admitted v g (demand_of p rows) ticks
@@ -92,8 +97,16 @@ module _ (r : TracedOf) (files : Files) (v : Version) (p : Plan) (g : GovernorKi
       some-replayed p h.admitted.limits (published p g) t (ended-once t.notes whole.ended)
       ((own-lists p h.admitted.limits).published_own g) rows (record { within = h.within; notes_are = refl }) h.few
 
+  -- it is not too long
+  held : bytes_at file.Trace r.trace files ≡ Ok bytes
+  held =
+      let named = names-named p.tasks h.admitted.limits.tasks.each in
+      let lines = task_lines-lines (names p) (map task_line p.tasks) named in
+      let short = text-short (names p) (lines_of_tasks p.tasks) t named lines fits in
+      rw of.bytes_are (short_file file.Trace bytes (subst (λ (b : List ℕ). length b ≤ LONGEST_TRACE) (sym text) short))
+
   read-at : trace_at p.tasks r.trace files ≡ Ok t
-  read-at = rw (of.bytes_are, read) refl
+  read-at = rw (held, read) refl
 
   admitted : admission p ≡ Ok p
   admitted = passes-admission p.scheduler p h.admitted.test
@@ -101,9 +114,18 @@ module _ (r : TracedOf) (files : Files) (v : Version) (p : Plan) (g : GovernorKi
   traced-is : traced_of r p.tasks files ≡ Ok (p, t)
   traced-is = rw (of.machine_is, read-at, admitted) refl
 
-  -- so it is done
+  -- where the trace file is the text of a schedule, the answer is what is printed for its trace
   pub told-done : trace_answer r files ≡ Ok (printed r.asked (p, t) (totals_of t.notes))
   told-done = rw (of.tasks_are, traced-is, compared) refl
+
+-- a file whose bytes are taken has these bytes
+held-file : (kind : FileKind) (held : Option (List ℕ)) (bytes : List ℕ) → bytes_from kind held ≡ Ok bytes → held ≡ Some bytes
+held-file kind None bytes e = absurd (true≢false (sym (ap is_given e)))
+held-file kind (Some b) bytes e = fits (nat_lt (longest kind) (length b)) e
+  where
+    fits : (long : Bool) → (if long then Err (status.Text (text_fault.TooLong kind)) else Ok b) ≡ Ok bytes → Some b ≡ Some bytes
+    fits true e = absurd (true≢false (sym (ap is_given e)))
+    fits false e = ap Some (given-once {A = List ℕ} refl e)
 
 -- what a trace file means, where it has a meaning
 trace-given : (t : TraceOf) (r : Result TraceOf TraceFault) → trace_from r ≡ Ok t → r ≡ Ok t
@@ -114,7 +136,7 @@ trace-given t (Ok u) h = ap (λ (r : Result TraceOf Status). ok_or_it r) h
     ok_or_it (Err s) = Ok u
 trace-given t (Err e) h = absurd (true≢false (sym (ap is_given h)))
 
--- a trace with other notes
+-- the trace t with other notes
 abbrev with_notes : TraceOf → List Note → TraceOf
 with_notes t notes = record { version = t.version; plan = t.plan; notes = notes }
 
@@ -141,7 +163,7 @@ module _ (r : TracedOf) (files : Files) (tasks : List Task) (machine : Table) (b
         files_are = record {
           tasks_are = ts;
           machine_is = ms;
-          bytes_are = subst (λ (b : List ℕ). bytes_at file.Trace r.trace files ≡ Ok b) text bs;
+          bytes_are = subst (λ (b : List ℕ). file_of files r.trace ≡ Some b) text (held-file file.Trace (file_of files r.trace) bytes bs);
         };
         list = own.list;
         schedule = record {
@@ -155,7 +177,7 @@ module _ (r : TracedOf) (files : Files) (tasks : List Task) (machine : Table) (b
         };
       }
 
--- one that is done is of the schedule for its own list
+-- a replay or a migration that has an answer is of the schedule for the trace's own list
 pub done-own : (r : TracedOf) (files : Files) (tasks : List Task) (p : Plan) (t : TraceOf)
     → tasks_at r.tasks files ≡ Ok tasks → traced_of r tasks files ≡ Ok (p, t) → IsAdmitted p → IsOk (trace_answer r files)
     → (q : Plan) × (u : TraceOf) × TellsOwn r files q u
@@ -181,7 +203,7 @@ done-own r files tasks p t ts e adm ok =
     first-ok (Ok y) next h = refl
     first-ok (Err s) next h = absurd (true≢false (sym h))
 
--- where the answer is one, the status is done, but for what the outside and memory explain
+-- where there is an answer, the status is `Done`, unless the outside or memory explains it
 pub done-unless : (loads_rose puts_rose : Type 0) (answer : Result (List ℕ) Status) (s : Status)
     → IsAnswer loads_rose puts_rose answer s → IsOk answer → IsDoneUnless loads_rose puts_rose s
 done-unless loads_rose puts_rose answer status.Done h ok = tt
@@ -192,8 +214,8 @@ done-unless loads_rose puts_rose answer status.Write h ok = h.1
 done-unless loads_rose puts_rose answer s h ok = absurd (true≢false (sym (subst IsOk h ok)))
 
 -- the exactness of a command's ending, from what it met and whose answer its status is
-pub of-trace : (told : Option Files) (c : CommandOf) (loads_rose puts_rose : Type 0) (s : Status) → MetIn told c s
-    → Answers told (Ok c) loads_rose puts_rose s → OfTrace told (Ok c) loads_rose puts_rose s
+pub of-trace : (files : Option Files) (c : CommandOf) (loads_rose puts_rose : Type 0) (s : Status) → MetIn files c s
+    → Answers files (Ok c) loads_rose puts_rose s → OfTrace files (Ok c) loads_rose puts_rose s
 of-trace (Some files) (traced r) loads_rose puts_rose s met answers = (
   λ e.
       let m = subst (MetIn (Some files) (traced r)) e met in
@@ -203,4 +225,4 @@ of-trace (Some files) (traced r) loads_rose puts_rose s met answers = (
       let ok = subst IsOk (sym (told-done r files v p g ticks rows tells.0 tells.1 tells.2)) refl in
       done-unless loads_rose puts_rose (trace_answer r files) s answers ok,
 )
-of-trace told c loads_rose puts_rose s met answers = tt
+of-trace files c loads_rose puts_rose s met answers = tt

@@ -1,4 +1,4 @@
--- Lines put two by two are the lines of a made workload.
+-- Lines put two by two are the lines of a generated workload.
 use Rattle.std.proofs.Common.{◌≡◌, ℕ, List, [], ◌++◌, ap, refl, sym, ◌∙◌, append-nil, append_assoc}
 use Rattle.dvs_base.specs.declared.kind.GovernorKind.TheVariants.{Plain, Fixed, Cycle, Ahead}
 use Rattle.rtdvs_top.specs.WorkloadLines.{head_text, totals_text, workload_plan, workload_demands, workload_text}

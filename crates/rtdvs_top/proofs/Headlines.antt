@@ -93,15 +93,15 @@ done-run r files old new tasks p d bytes t q e wrote ready =
     let whole_run = subst (λ (x : Plan). P x m.1) m.3 (subst (λ (y : DemandsOf). P p y) m.4 (q, done)) in
     (tasks, m.0, m.1, m.2, whole_run.0, whole_run.1)
 
--- the run of told files, from how its answer ends and of what it was
-pub of-run : (told : Option Files) (c : CommandOf) (s : Status) (old new : SinkView)
-    → EndsAs old new told (answer_of_command c) s → MetIn told c s → OfRun told (Ok c) old new s
+-- the run whose files are known, from how its answer ends and what it met
+pub of-run : (files : Option Files) (c : CommandOf) (s : Status) (old new : SinkView)
+    → EndsAs old new files (answer_of_command c) s → MetIn files c s → OfRun files (Ok c) old new s
 of-run (Some files) (run r) status.Done old new ends met =
     done-run r files old new met.0 met.2.0 met.2.1 ends.0 met.1 met.2.2 ends.1 ends.2.bytes met.2.3
 of-run (Some files) (run r) (status.NotAdmitted why) old new ends met = denied-means r files why ends
-of-run told c s old new ends met = tt
+of-run files c s old new ends met = tt
 
--- the answer of a run whose files mean this, and which releases no more jobs than the limit
+-- the answer of a run whose files mean these tasks, machine and demands, and which releases no more jobs than the limit
 module _ (r : RunOf) (files : Files) (tasks : List Task) (machine : Table) (demands : DemandsOf) (means : Means r files tasks machine demands)
     (few : released_jobs (plan_of tasks machine r.scheduler) r.ticks ≤ MOST_JOBS) where
   abbrev plan : Plan
@@ -149,13 +149,13 @@ module _ (r : RunOf) (files : Files) (tasks : List Task) (machine : Table) (dema
   runs-or-is-denied loads_rose old new s of answers still whole_out memory = inr (denied-only s answers)
 
 -- the headline, from what holds of each run and from whose answer the status is
-pub headline-of : (told : Option Files) (c : Result CommandOf WordFault) (loads_rose : Type 0) (old new : SinkView) (s : Status)
-    → OfRun told c old new s → OfTests told c s
-    → Answers told c loads_rose (Rose old.faults new.faults) s → Headline told c loads_rose old new s
+pub headline-of : (files : Option Files) (c : Result CommandOf WordFault) (loads_rose : Type 0) (old new : SinkView) (s : Status)
+    → OfRun files c old new s → OfTests files c s
+    → Answers files c loads_rose (Rose old.faults new.faults) s → Headline files c loads_rose old new s
 headline-of (Some files) (Ok (response r)) loads_rose old new s of tests answers =
     λ tasks machine means still whole_out memory. responds-or-is-denied r files tasks machine means loads_rose
     (Rose old.faults new.faults) s tests answers still whole_out memory
 headline-of (Some files) (Ok (run r)) loads_rose old new s of tests answers =
     λ tasks machine demands means few still whole_out memory. runs-or-is-denied r files tasks machine demands means few loads_rose
     old new s of answers still whole_out memory
-headline-of told c loads_rose old new s of tests answers = tt
+headline-of files c loads_rose old new s of tests answers = tt

@@ -21,3 +21,4 @@ pub mod Migrating
 pub mod Exactness
 pub mod Pollings
 pub mod Bounding
+pub mod Examples

@@ -26,17 +26,17 @@ long_file kind (Some x) v e h =
     let long : longest kind < length x = omega (arith, length-take (longest kind + 1) x, ap length s) in
     grind (arith, nat_tests)
 
-short_file : (kind : FileKind) (v : List ℕ) → length v ≤ longest kind → bytes_from kind (Some v) ≡ Ok v
+pub short_file : (kind : FileKind) (v : List ℕ) → length v ≤ longest kind → bytes_from kind (Some v) ≡ Ok v
 short_file kind v h = grind (arith, nat_tests)
 
 -- a file that is too long is refused
-pub too_long : (told : Option Files) (kind : FileKind) (name v : List ℕ) → LoadsFrom told name (longest kind + 1) v
-    → longest kind < length v → Refuses told (bytes_at kind name) (status.Text (text.TooLong kind))
+pub too_long : (files : Option Files) (kind : FileKind) (name v : List ℕ) → LoadsFrom files name (longest kind + 1) v
+    → longest kind < length v → Refuses files (bytes_at kind name) (status.Text (text.TooLong kind))
 too_long None kind name v l h = tt
 too_long (Some files) kind name v l h = long_file kind (file_of files name) v l h
 
--- a file that isn't is given whole
-pub gives_bytes : (told : Option Files) (kind : FileKind) (name v : List ℕ) → LoadsFrom told name (longest kind + 1) v
-    → length v ≤ longest kind → Gives told (bytes_at kind name) v
+-- a file that isn't too long is given whole
+pub gives_bytes : (files : Option Files) (kind : FileKind) (name v : List ℕ) → LoadsFrom files name (longest kind + 1) v
+    → length v ≤ longest kind → Gives files (bytes_at kind name) v
 gives_bytes None kind name v l h = tt
 gives_bytes (Some files) kind name v l h = rw (whole_file (file_of files name) (longest kind) v l h) (short_file kind v h)

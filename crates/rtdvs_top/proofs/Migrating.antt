@@ -53,12 +53,12 @@ module _ (p : Plan) (lim : IsWithinLimits p) (t : TraceOf) (ended : IsEnded t.no
       let done = replayed-some (replay_of p asked t) ok in
       (replayed-passes p lim asked t ends done.0 done.1).0
 
-  -- so the run for the demands that it fixes has its notes
+  -- the run for the demands that a trace with totals fixes has the notes of the trace
   pub own-notes : IsOk (totals_at (p, t))
       → run_notes p t.plan.governor (demand_of p (fixed_of p t.notes)) t.plan.ticks ≡ t.notes
   own-notes ok = sym (passes ok).same
 
-  -- and that run is answered by its text in version 2
+  -- the run for the demands that a trace with totals fixes is answered by the text of the trace in version 2
   pub migrated : IsOk (totals_at (p, t)) → (d : DemandsOf) → demand_of p d.rows ≡ demand_of p (fixed_of p t.notes)
       → t.plan.scheduler ≡ p.scheduler → answer_of_plan Two t.plan.governor d t.plan.ticks p ≡ Ok (migrated_text p t)
   migrated ok d demands scheduler =

@@ -1,4 +1,4 @@
--- What is noted at the end, with the names of the command's tasks.
+-- What is put to `notes` at the end, with the names of the command's tasks.
 use Rattle.std.proofs.Common.{◌≡◌, ℕ, Bool, true, List, Option, Some, None, Ok, ap, subst}
 use Rattle.dvs_base.specs.Outside.{Files, SinkView}
 use Rattle.task_model.specs.declared.task.Task.{Task}
@@ -17,10 +17,10 @@ module _ (files : Files) (c : CommandOf) (tasks : Option (List Task)) (ps : List
   same-noted true status.Done named done = ap (λ (ns : List (List ℕ)). probe_lines ns 1 ps) done
   same-noted asks s named done = named
 
--- what was noted is what the call promises
-pub notes-of : (told : Option Files) (c : CommandOf) (tasks read : Option (List Task)) (ps qs : List ProbeOf) (s : Status) (old new : SinkView) (asks : Bool)
-    → asks ≡ asks_probes c → read ≡ tasks → qs ≡ ps → NamedBy told c tasks s → NamedIfDone told c tasks s
-    → NotedAs old new (noted_text asks (names_of read) qs s) → Notes told (Ok c) ps s old new
+-- what was put to `notes` is what the call promises
+pub notes-of : (files : Option Files) (c : CommandOf) (tasks read : Option (List Task)) (ps qs : List ProbeOf) (s : Status) (old new : SinkView) (asks : Bool)
+    → asks ≡ asks_probes c → read ≡ tasks → qs ≡ ps → NamedBy files c tasks s → NamedIfDone files c tasks s
+    → NotedAs old new (noted_text asks (names_of read) qs s) → Notes files (Ok c) ps s old new
 notes-of None c tasks read ps qs s old new asks a r q named done h = (
   names_of read,
   subst (λ (b : Bool). NotedAs old new (noted_text b (names_of read) ps s)) a

@@ -8,11 +8,11 @@ use Rattle.dvs_base.specs.WritesText.{Wrote, WroteSome}
 use Rattle.dvs_base.proofs.TextPuts.{wrote-then}
 use Rattle.dvs_base.proofs.TextPuts.{wrote-then-some, wrote-some-more}
 
--- the lines of the first numbers, and of one more
+-- the lines of the first n numbers, and of number n after them
 pub joined-below : (f : ℕ → List ℕ) (n : ℕ) → joined (list_below (suc n) f) ≡ joined (list_below n f) ++ f n
 joined-below f n = joined-append (list_below n f) (f n ∷ []) ∙ ap (λ (t : List ℕ). joined (list_below n f) ++ t) (append-nil (f n))
 
--- the text of each of so many lines, and of the first n of them
+-- the text of each of `most` lines, and of the first n of them
 module _ (line_at lines : ℕ → List ℕ) (most : ℕ) (more : (n : ℕ) → n < most → lines (suc n) ≡ lines n ++ line_at n) where
   -- what is left of all lines after the first m
   abbrev Left : ℕ → Type 0

@@ -1,4 +1,4 @@
--- The entry that a demand picks stands in the table.
+-- The entry that a demand picks is in the table.
 use Rattle.std.proofs.Common.{◌≡◌, ◌<◌, length, ap, arith}
 use Rattle.grid_fraction.specs.declared.Frac.{Frac}
 use Rattle.freq_table.specs.declared.machine.Pick.{Pick}

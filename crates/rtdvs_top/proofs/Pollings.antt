@@ -1,4 +1,4 @@
--- A polling under a governor's own demand is that under the published one, and what follows for its answer.
+-- A `poll` run under a governor's own demand is that under the published one, and what follows for its answer.
 use Rattle.std.proofs.Common.{◌≡◌, ℕ, List, Option, Some, Ok, ap, ◌∙◌, subst}
 use Rattle.dvs_base.specs.Outside.{Files}
 use Rattle.dvs_base.specs.declared.kind.GovernorKind.{GovernorKind}
@@ -27,11 +27,11 @@ module _ (demand : Plan → StateOf → Frac) (kind : GovernorKind) (s : ServerO
   same-notes : polled_notes demand s ticks ≡ polling_notes kind s ticks
   same-notes = same-run demand kind s.plan publishes (polled_demand s) within ticks
 
-  -- what polling answers is what the notes by the published demand make of the requests
+  -- what `poll` returns is what the notes by the published demand make of the requests
   pub same-served : served_of demand s ticks ≡ polling_served kind s ticks
   same-served = ap (λ (notes : List Note). served_by s notes) same-notes
 
-  -- and it has kept what it promises
+  -- what `poll` returns has the outcomes, their order and the bound that it promises
   pub has-served : (r : ServedOf) → r ≡ served_of demand s ticks → IsPolled s (polled_notes demand s ticks) r → HaveJobs s
       → KeepsBound s ticks r → HasServed s kind ticks
   has-served r is polled jobs bound =
@@ -43,7 +43,7 @@ module _ (demand : Plan → StateOf → Frac) (kind : GovernorKind) (s : ServerO
         bound = subst (λ (x : ServedOf). KeepsBound s ticks x) own bound;
       }
 
--- what a polling that is done has kept, from what it met
-pub of-poll : (told : Option Files) (c : CommandOf) (s : Status) → MetIn told c s → OfPoll told (Ok c) s
+-- what a `poll` run that is done has kept, from what it met
+pub of-poll : (files : Option Files) (c : CommandOf) (s : Status) → MetIn files c s → OfPoll files (Ok c) s
 of-poll (Some files) (poll q) status.Done met = (met.0, met.2.0, met.1, met.2.1, met.2.2)
-of-poll told c s met = tt
+of-poll files c s met = tt

@@ -8,7 +8,7 @@ use Rattle.rtdvs_top.specs.ProbeLines.{NotedAs, probe_text, probe_lines}
 use Rattle.rtdvs_top.proofs.NumberedPuts as puts
 
 module _ {X : Type 0} (names : List (List ℕ)) (f : X → ProbeOf) (d : X) where
-  -- the lines of the first probes, and of one more
+  -- the lines of the first n probes, and of one more probe after them
   one-more : (place n : ℕ) (xs : List X) → n < length xs
       → probe_lines names place (take (suc n) (map f xs))
       ≡ probe_lines names place (take n (map f xs)) ++ probe_text names (place + n) (f (get_or xs n d))

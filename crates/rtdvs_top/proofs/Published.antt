@@ -33,7 +33,6 @@ use Rattle.rtdvs_top.specs.WorkloadLines.{run_totals}
 use Rattle.rtdvs_top.specs.Answer.{answer_of_run}
 use Rattle.rtdvs_top.specs.Ending.{Ends, HasMet, text_under}
 use Rattle.probes.specs.Tallies.{ProbeOf, told_notes}
-use Rattle.rtdvs_top.specs.declared.status.Status.{Status}
 use Rattle.rtdvs_top.specs.declared.status.Status.TheVariants as status
 use Rattle.rtdvs_top.proofs.TraceTexts.{wrote-text, wrote-told, stopped-text}
 use Rattle.rtdvs_top.proofs.Denying.{within-few}
@@ -60,7 +59,7 @@ module _ (demand : Plan → StateOf → Frac) (kind : GovernorKind) (p : Plan) (
       → notes_of p dem own (schedule_by p dem own ticks) ≡ notes_of p dem asked (schedule_by p dem asked ticks)
   same-run = comparisons.same-run demand kind p publishes dem within
 
-  -- the run of so many ticks
+  -- the run of the plan for `ticks` ticks
   abbrev pub run_of : ℕ → Run
   run_of ticks = record { plan = p; demands = d; ticks = ticks }
 
@@ -82,7 +81,7 @@ module _ (demand : Plan → StateOf → Frac) (kind : GovernorKind) (p : Plan) (
     abbrev text : List ℕ
     text = text_under v kind (run_of ticks)
 
-    -- where all its lines are written, and where the writing stops in one of them
+    -- what probes were told where all lines of a run are written, and where the writing stops in one of them
     pub done-told : WroteLines old new before after (own_lines k) → after ≡ told_notes (notes ticks) before
     done-told w =
         wrote-told p (notes ticks) v kind ticks old new before after (subst (WroteLines old new before after) same-lines w)

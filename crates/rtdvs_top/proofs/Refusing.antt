@@ -43,22 +43,22 @@ pub demand-ends : {A : Type 0} (step : Result A Status) (e : DemandFault)
 demand-ends step demand_fault.NoMemory h = tt
 demand-ends step e h = h (λ q. cc)
 
--- the refusal of a task file that was loaded, of a machine file, and of a demand file
-pub tasks-refused : (told : Option Files) (name v : List ℕ) (e : TaskFault) → Gives told (bytes_at file.Tasks name) v
-    → (e ≢ task_fault.NoMemory → task_file v ≡ Err e) → Refuses told (tasks_at name) (task_status e)
+-- the step that loads and reads a file ends with the refusal of the file: of tasks, of a machine, and of demands
+pub tasks-refused : (files : Option Files) (name v : List ℕ) (e : TaskFault) → Gives files (bytes_at file.Tasks name) v
+    → (e ≢ task_fault.NoMemory → task_file v ≡ Err e) → Refuses files (tasks_at name) (task_status e)
 tasks-refused None name v e gives unless = ends-refusal (failed (task_status e)) (task_status e) (task-ends (failed (task_status e)) e (λ n. refl))
 tasks-refused (Some files) name v e gives unless = task-ends (tasks_at name files) e (λ n. rw (gives, unless n) refl)
 
-pub machine-refused : (told : Option Files) (name v : List ℕ) (e : MachineFault)
-    → Gives told (bytes_at file.Machine name) v → (e ≢ machine_fault.NoMemory → machine_file v ≡ Err e)
-    → Refuses told (machine_at name) (machine_status e)
+pub machine-refused : (files : Option Files) (name v : List ℕ) (e : MachineFault)
+    → Gives files (bytes_at file.Machine name) v → (e ≢ machine_fault.NoMemory → machine_file v ≡ Err e)
+    → Refuses files (machine_at name) (machine_status e)
 machine-refused None name v e gives unless = ends-refusal (failed (machine_status e)) (machine_status e)
     (machine-ends (failed (machine_status e)) e (λ n. refl))
 machine-refused (Some files) name v e gives unless = machine-ends (machine_at name files) e (λ n. rw (gives, unless n) refl)
 
-pub demands-refused : (told : Option Files) (tasks : List Task) (name v : List ℕ) (e : DemandFault)
-    → Gives told (bytes_at file.Demands name) v → (e ≢ demand_fault.NoMemory → demand_file tasks v ≡ Err e)
-    → Refuses told (demands_at tasks (Some name)) (demand_status e)
+pub demands-refused : (files : Option Files) (tasks : List Task) (name v : List ℕ) (e : DemandFault)
+    → Gives files (bytes_at file.Demands name) v → (e ≢ demand_fault.NoMemory → demand_file tasks v ≡ Err e)
+    → Refuses files (demands_at tasks (Some name)) (demand_status e)
 demands-refused None tasks name v e gives unless = ends-refusal (failed (demand_status e)) (demand_status e)
     (demand-ends (failed (demand_status e)) e (λ n. refl))
 demands-refused (Some files) tasks name v e gives unless = demand-ends (demands_at tasks (Some name) files) e (λ n. rw (gives, unless n) refl)

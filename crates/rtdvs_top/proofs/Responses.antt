@@ -20,7 +20,7 @@ use Rattle.rtdvs_top.specs.declared.status.Status.{Status}
 use Rattle.rtdvs_top.specs.declared.status.Status.TheVariants as status
 use Rattle.rtdvs_top.proofs.Denying.{status_of, is_given, given-once}
 
--- the answer of a test whose files mean this
+-- the answer of a test whose files mean these tasks and this machine
 module _ (r : ResponseOf) (files : Files) (tasks : List Task) (machine : Table) (means : MeansPlan r files tasks machine) where
   abbrev plan : Plan
   plan = plan_of tasks machine Rm
@@ -42,7 +42,7 @@ module _ (r : ResponseOf) (files : Files) (tasks : List Task) (machine : Table) 
       go None (Some i) e = (_, ap status_of (sym e))
       go None None e = absurd (true≢false (ap is_given e))
 
-  -- what its files mean is meant once
+  -- any tasks and machine that the files mean are these
   of-plan : (P : List Task → Table → Type 0) (ts : List Task) (m : Table) → MeansPlan r files ts m → P ts m → P tasks machine
   of-plan P ts m same h =
       subst (λ (b : Table). P tasks b) (given-once same.machine_is means.machine_is)
@@ -59,7 +59,7 @@ module _ (r : ResponseOf) (files : Files) (tasks : List Task) (machine : Table) 
       let P : List Task → Table → Type 0 = λ a b. FailsToRespond (plan_of a b Rm) why in
       of-plan P x.0 x.1 x.2 x.3
 
-  -- no other refusal comes
+  -- a test whose answer is a refusal denies the tasks and gives the cause
   other : (s : Status) → OfTest (Some files) r s → answer_of_command (response r) files ≡ Err s → RespondsOrIsDenied plan s
   other s of e =
       let d = refusal-denies s (sym answer-is ∙ e) in

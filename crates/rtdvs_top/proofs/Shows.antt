@@ -15,12 +15,12 @@ use Rattle.demand_list.specs.declared.fault.DemandFault.TheVariants as fault
 use Rattle.rtdvs_top.specs.Answer.{demand_status}
 use Rattle.rtdvs_top.specs.Shown.{IsShown}
 
--- a refusal that is over the worst case is so by its numbers
+-- the numbers of a refusal over the worst case show that the units are over it
 abbrev IsShownFault : DemandFault → Type 0
 IsShownFault (fault.OverWorst task job units worst) = worst < units
 IsShownFault e = ⊤
 
--- each refusal of a step is
+-- a step that is refused is so by a refusal whose numbers show it
 abbrev IsShownStep : {A : Type 0} → Result A DemandFault → Type 0
 IsShownStep (Ok a) = ⊤
 IsShownStep (Err e) = IsShownFault e
@@ -30,7 +30,7 @@ then-shown : {A B : Type 0} (step : Result A DemandFault) (next : A → Result B
 then-shown (Ok a) next here later = later a
 then-shown (Err e) next here later = here
 
--- a step that may give nothing
+-- where it finds nothing a step gives e, whose numbers show it
 found-shown : {A : Type 0} (o : Option A) (e : DemandFault) → IsShownFault e → IsShownStep (ok_or o e)
 found-shown None e h = h
 found-shown (Some x) e h = tt

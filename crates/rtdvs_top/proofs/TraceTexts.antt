@@ -1,4 +1,4 @@
--- The text of a trace's lines, and the notes that they tell.
+-- The text of a trace's lines, and the notes that the lines have.
 use Rattle.std.proofs.Common.{◌≡◌, ℕ, zero, suc, ◌+◌, List, [], ◌∷◌, ◌++◌, length, flat_map, refl, ap, ap₂, ◌∙◌, sym, subst, arith, append-nil, append_assoc}
 use Rattle.std.specs.Prelude.{sum_by}
 use Rattle.std.proofs.lemmas.List.{length-map}
@@ -24,7 +24,7 @@ use Rattle.dvs_base.specs.WritesText.{Wrote, WroteSome}
 use Rattle.event_kernel.proofs.Writing.{text-append, notes-append}
 use Rattle.dvs_base.proofs.TextPuts.{wrote-then-some, wrote-some-more}
 
--- lines that tell no note
+-- the text of lines that have no note
 text-plain : (f : ℕ → List ℕ) (n : ℕ) → text_of (list_below n (λ i. plain (f i))) ≡ joined (list_below n f)
 text-plain f zero = refl
 text-plain f (suc n) =
@@ -36,7 +36,7 @@ notes-plain f zero = refl
 notes-plain f (suc n) =
     notes-append (list_below n (λ i. plain (f i))) (plain (f n) ∷ []) ∙ ap (λ ns. ns ++ []) (notes-plain f n)
 
--- the first of some numbered values stands before the others
+-- the first of some numbered values comes before the others
 pub below-first : {A : Type 0} (n : ℕ) (f : ℕ → A) → list_below (suc n) f ≡ f 0 ∷ list_below n (λ i. f (suc i))
 below-first zero f = refl
 below-first {A} (suc n) f = ap (λ (xs : List A). xs ++ f (suc n) ∷ []) (below-first n f)
@@ -45,7 +45,7 @@ same-energy : (i : ℕ) (n : Note) → task_energy i n ≡ run_energy_of i n
 same-energy i (Run from to j k units energy) = refl
 same-energy i n = refl
 
--- the lines of energies, from a task on
+-- the lines of energies, from task i on
 shares-below : (notes : List Note) (i : ℕ) (ns : List (List ℕ))
     → shares_from notes i ns ≡ list_below (length ns) (λ k. share_text (name_of ns k) (sum_by (task_energy (i + k)) notes))
 shares-below notes i [] = refl
@@ -116,7 +116,7 @@ module _ (p : Plan) (all : List Note) where
             (ap (λ t. version_line Two ++ (plan_text p.scheduler g ticks ++ t)) (text-plain line (count p))
             ∙ sym (append_assoc (version_line Two) (plan_text p.scheduler g ticks) (joined (task_texts p))))
 
-    -- and tell its notes
+    -- the notes that the lines of a trace have are its notes
     trace-told : notes_told (trace_lines v g p ticks all) ≡ all
     trace-told =
         notes-append (head_lines v g p ticks) (flat_map (lines_of v p all) all)

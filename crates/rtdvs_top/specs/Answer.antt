@@ -1,4 +1,4 @@
--- The answer to a command, where every file is told, nothing fails and memory is found.
+-- The answer to a command, where every file is known, nothing fails and memory doesn't run out.
 use Rattle.std.specs.Prelude.{ℕ, ◌*◌, List, [], ◌∷◌, length, nat_lt, find, codes, decimal, Option, Some, None, Result, Ok, Err, if◌then◌else◌}
 use Rattle.dvs_base.specs.Checks.{and_then}
 use Rattle.dvs_base.specs.Outside.{Files, file_of}
@@ -48,7 +48,7 @@ longest file.Trace = LONGEST_TRACE
 longest file.Deadlines = LONGEST_FILE
 longest file.Requests = LONGEST_FILE
 
--- the bytes of a file, where it is held and not too long
+-- the bytes of a file, where the shelf holds it and it is not too long
 abbrev pub bytes_from : FileKind → Option (List ℕ) → Result (List ℕ) Status
 bytes_from kind None = Err (status.Load kind)
 bytes_from kind (Some bytes) = if nat_lt (longest kind) (length bytes) then Err (status.Text (text.TooLong kind)) else Ok bytes
@@ -57,17 +57,17 @@ bytes_from kind (Some bytes) = if nat_lt (longest kind) (length bytes) then Err 
 abbrev pub bytes_at : FileKind → List ℕ → Files → Result (List ℕ) Status
 bytes_at kind name files = bytes_from kind (file_of files name)
 
--- a refusal of a task file as a status; want of memory and a demand above its worst case have their own
+-- a refusal of a task file as a status; `NoMemory` is a status of its own
 abbrev pub task_status : TaskFault → Status
 task_status task_fault.NoMemory = status.NoMemory
 task_status e = status.Text (text.Tasks e)
 
--- the same of a machine file
+-- a refusal of a machine file as a status; `NoMemory` is a status of its own
 abbrev pub machine_status : MachineFault → Status
 machine_status machine_fault.NoMemory = status.NoMemory
 machine_status e = status.Text (text.Machine e)
 
--- the same of a demand file
+-- a refusal of a demand file as a status; `NoMemory` and `OverWorst` are statuses of their own
 abbrev pub demand_status : DemandFault → Status
 demand_status demand_fault.NoMemory = status.NoMemory
 demand_status (demand_fault.OverWorst task job units worst) = status.OverWorst task job units worst
@@ -78,12 +78,12 @@ abbrev pub tasks_from : Result (List Task) TaskFault → Result (List Task) Stat
 tasks_from (Ok tasks) = Ok tasks
 tasks_from (Err e) = Err (task_status e)
 
--- the same of a machine file
+-- what a machine file means, with its refusal as a status
 abbrev pub machine_from : Result Table MachineFault → Result Table Status
 machine_from (Ok machine) = Ok machine
 machine_from (Err e) = Err (machine_status e)
 
--- the same of a demand file
+-- what a demand file means, with its refusal as a status
 abbrev pub demands_from : Result DemandsOf DemandFault → Result DemandsOf Status
 demands_from (Ok demands) = Ok demands
 demands_from (Err e) = Err (demand_status e)
@@ -132,11 +132,11 @@ abbrev pub answer_of_plan : Version → GovernorKind → DemandsOf → ℕ → P
 answer_of_plan v g demands ticks p =
     within_jobs (released_jobs p ticks) (run_text_in v p g (demand_of p demands.rows) ticks)
 
--- the same of a run that was put together
+-- the answer of a run: its text in this version
 abbrev pub answer_of_run : Version → GovernorKind → Run → Result (List ℕ) Status
 answer_of_run v g r = answer_of_plan v g r.demands r.ticks r.plan
 
--- the admitted plan and the demands of a run, after its tasks
+-- the admitted plan and the demands of `run`, after its tasks were read
 abbrev pub prepared_of : RunOf → List Task → Files → Result (Plan × DemandsOf) Status
 prepared_of r tasks files =
     and_then (machine_at r.machine files) (λ machine.
@@ -144,7 +144,7 @@ prepared_of r tasks files =
     and_then (admission (plan_of tasks machine r.scheduler)) (λ p.
     Ok (p, demands))))
 
--- the answer of a run that was prepared
+-- the answer of `run` for the plan and the demands that were prepared
 abbrev pub answer_of_prepared : RunOf → Plan × DemandsOf → Result (List ℕ) Status
 answer_of_prepared r x = answer_of_plan r.version r.governor x.1 r.ticks x.0
 
@@ -155,27 +155,27 @@ admitted_text p =
     let speed = speed_at p.machine (lowest_entry p.machine d) in
     line (codes "admitted" ∷ scheduler_word p.scheduler ∷ fraction_text d.num d.den ∷ decimal speed ∷ [])
 
--- the admitted plan of an admission, after its tasks
+-- the admitted plan of `admit`, after its tasks were read
 abbrev pub admitted_of : AdmitOf → List Task → Files → Result Plan Status
 admitted_of a tasks files =
     and_then (machine_at a.machine files) (λ machine. admission (plan_of tasks machine a.scheduler))
 
--- the answer of a run, after its tasks
+-- the answer of `run`, after its tasks were read
 abbrev pub run_after_tasks : RunOf → List Task → Files → Result (List ℕ) Status
 run_after_tasks r tasks files = and_then (prepared_of r tasks files) (answer_of_prepared r)
 
--- the answer of a run
+-- the answer of `run`
 abbrev pub run_answer : RunOf → Files → Result (List ℕ) Status
 run_answer r files = and_then (tasks_at r.tasks files) (λ tasks. run_after_tasks r tasks files)
 
--- the answer of an admission, after its tasks
+-- the answer of `admit`, after its tasks were read
 abbrev pub admit_after_tasks : AdmitOf → List Task → Files → Result (List ℕ) Status
 admit_after_tasks a tasks files = and_then (admitted_of a tasks files) (λ p. Ok (admitted_text p))
 
--- the answer of an admission
+-- the answer of `admit`
 abbrev pub admit_answer : AdmitOf → Files → Result (List ℕ) Status
 admit_answer a files = and_then (tasks_at a.tasks files) (λ tasks. admit_after_tasks a tasks files)
 
--- the answer of a made workload: its lines, which need no file
+-- the answer of `workload`: the lines of the generated workload, which need no file
 abbrev pub workload_answer : ℕ → Result (List ℕ) Status
 workload_answer seed = Ok (workload_text seed workload_tasks workload_ticks)

@@ -16,7 +16,7 @@ pub record Seen : Type 0 where
   pub shelf : ShelfView
   pub out : SinkView
 
--- that of this shelf and this sink
+-- what a call sees of this shelf and this sink
 abbrev pub seen : ShelfView → SinkView → Seen
 seen shelf out = record { shelf = shelf; out = out }
 
@@ -24,7 +24,7 @@ seen shelf out = record { shelf = shelf; out = out }
 pub record IsAnswered (c : CommandOf) (old new : Seen) (s : Status) (tasks : Option (List Task)) : Type 0 where
   -- the answer's text was written, or a first part of it, or the status is the answer's refusal
   pub ended : EndsAs old.out new.out (files_for old.shelf.held c) (answer_of_command c) s
-  -- what is known of a run, a replay, a polling and a least energy that is done
+  -- what is known of a run, a replay, a `poll` run or a `least` that is done
   pub met : MetIn (files_for old.shelf.held c) c s
   -- what an exact test proves
   pub tested : TestedIn (files_for old.shelf.held c) c s
@@ -34,7 +34,7 @@ pub record IsAnswered (c : CommandOf) (old new : Seen) (s : Status) (tasks : Opt
   -- the files before a load that failed were read, and why it failed
   pub passed : PassesBefore (files_for old.shelf.held c) c s
   pub explained : LoadOf old.shelf new.shelf c s
-  -- the loads that were made
+  -- at most the command's loads were made
   pub loads : MakesLoads (loads_of c) old.shelf new.shelf
   -- what the status shows by itself
   pub shown : IsShown s

@@ -12,7 +12,7 @@ use Rattle.rtdvs_top.specs.declared.plan_words.RunWords.{RunWords}
 use Rattle.rtdvs_top.specs.declared.plan_words.AdmitWords.{AdmitWords}
 use Rattle.rtdvs_top.specs.declared.plan_words.PollWords.{PollWords}
 
--- the texts of the words of a run
+-- what the words of `run` name, as texts
 abbrev pub shown_run : RunWords → RunOf
 shown_run r = record {
   tasks = r.tasks.now;
@@ -25,11 +25,11 @@ shown_run r = record {
   version = r.version;
 }
 
--- the texts of the words of an admission
+-- what the words of `admit` name, as texts
 abbrev pub shown_admit : AdmitWords → AdmitOf
 shown_admit a = record { tasks = a.tasks.now; machine = a.machine.now; scheduler = a.scheduler }
 
--- the texts of the words of a polling
+-- what the words of `poll` name, as texts
 abbrev pub shown_poll : PollWords → PollOf
 shown_poll q = record {
   tasks = q.tasks.now;
@@ -51,45 +51,45 @@ pub record IsRunnable (r : Run) : Type 0 where
   pub some_ticks : 1 ≤ r.ticks
   pub low_ticks : r.ticks ≤ MOST_TICKS
 
--- A run that the governor of a kind is made for: the plan is admitted and its scheduler makes a pair with the kind, and no
--- listed demand exceeds its worst case.
+-- A run that the governor of a kind is made for: the plan is admitted and its scheduler makes a pair with the kind, and
+-- no listed demand exceeds its worst case.
 pub record IsReadyRun (kind : GovernorKind) (r : Run) : Type 0 where
   pub admitted : IsAdmitted r.plan
   pub pair : IsPair r.plan.scheduler kind
   pub worsts : IsWithinWorsts r.demands
   pub runnable : IsRunnable r
 
--- whether a command is a run
+-- whether a command is `run`
 abbrev pub is_run : CommandOf → Bool
 is_run (run w) = true
 is_run c = false
 
--- whether a command is an admission
+-- whether a command is `admit`
 abbrev pub is_admit : CommandOf → Bool
 is_admit (admit w) = true
 is_admit c = false
 
--- whether a command is a replay or a migration
+-- whether a command is `replay` or `migrate`
 abbrev pub is_traced : CommandOf → Bool
 is_traced (traced w) = true
 is_traced c = false
 
--- whether a command is a test by response times
+-- whether a command is `response`
 abbrev pub is_response : CommandOf → Bool
 is_response (response w) = true
 is_response c = false
 
--- whether a command is a test of deadlines below the periods
+-- whether a command is `constrain`
 abbrev pub is_constrain : CommandOf → Bool
 is_constrain (constrain w) = true
 is_constrain c = false
 
--- whether a command is a polling
+-- whether a command is `poll`
 abbrev pub is_poll : CommandOf → Bool
 is_poll (poll w) = true
 is_poll c = false
 
--- whether a command is a least energy
+-- whether a command is `least`
 abbrev pub is_least : CommandOf → Bool
 is_least (least w) = true
 is_least c = false

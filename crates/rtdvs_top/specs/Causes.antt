@@ -10,7 +10,7 @@ use Rattle.rtdvs_top.specs.declared.status.FileKind.TheVariants as file
 use Rattle.rtdvs_top.specs.declared.status.Status.{Status}
 use Rattle.rtdvs_top.specs.declared.status.Status.TheVariants as status
 
--- the status of a step that didn't give a value, where it isn't one that the outside or memory explains
+-- the status of a step that gave no value: the step's refusal, unless the outside or memory explains the status
 abbrev pub EndsWith : {A : Type 0} → Result A Status → Status → Type 0
 EndsWith step status.Done = ⊥
 EndsWith step (status.Words why) = ⊥
@@ -19,7 +19,7 @@ EndsWith step status.NoMemory = ⊤
 EndsWith step (status.Load kind) = ⊤
 EndsWith step s = step ≡ Err s
 
--- a status of a step whose files are not told
+-- the status of a step that gave no value, where the files are not known
 abbrev pub IsRefusal : Status → Type 0
 IsRefusal status.Done = ⊥
 IsRefusal (status.Words why) = ⊥
@@ -38,34 +38,34 @@ IsOfFile (status.Text why) = ⊤
 IsOfFile status.NoMemory = ⊤
 IsOfFile s = ⊥
 
--- where the files are told, the step gives this value
+-- where the files are known, the step gives this value
 abbrev pub Gives : {A : Type 0} → Option Files → (Files → Result A Status) → A → Type 0
 Gives None step a = ⊤
 Gives (Some files) step a = step files ≡ Ok a
 
--- where the files are told, the step ends with this status
+-- where the files are known, the step ends with this status
 abbrev pub Refuses : {A : Type 0} → Option Files → (Files → Result A Status) → Status → Type 0
 Refuses None step s = IsRefusal s
 Refuses (Some files) step s = EndsWith (step files) s
 
--- a load failed: the files are told and lack the name, or the count of faults rose and the shelf was not sure of so
--- many loads; the place is the load's number among those since the old shelf
+-- a load failed: the files are known and lack the name, or the count of faults rose and the shelf was sure of fewer
+-- than `place` loads; `place` is the load's number among those since the old shelf
 abbrev pub LoadFails : ShelfView → ShelfView → ℕ → List ℕ → Type 0
 LoadFails old new place name = Lacks old.held name ⊎ (Rose old.faults new.faults × (old.sure < place))
 
--- the same of a file that may be named
+-- a load of a file that may be named failed: the file is named, and its load failed at this place
 abbrev pub NamedLoadFails : ShelfView → ShelfView → ℕ → Option (List ℕ) → Type 0
 NamedLoadFails old new place None = ⊥
 NamedLoadFails old new place (Some name) = LoadFails old new place name
 
--- at most so many loads were made: the files stay, the count never falls, and it stays where the shelf was sure of them
+-- at most `most` loads were made: the files stay, the count never falls, and stays where the shelf was sure of `most`
 pub record MakesLoads (most : ℕ) (old new : ShelfView) : Type 0 where
   pub held : new.held ≡ old.held
   pub later : old.faults ≤ new.faults
   pub steady : most ≤ old.sure → new.faults ≡ old.faults
   pub surety : old.sure ≤ new.sure + most
 
--- how many loads a file that may be named takes
+-- the number of loads of a file that may be named
 abbrev pub loads_named : Option (List ℕ) → ℕ
 loads_named None = 0
 loads_named (Some name) = 1
@@ -75,7 +75,7 @@ abbrev pub IsLoadOf : ShelfView → ShelfView → FileKind → List ℕ → Stat
 IsLoadOf old new kind name (status.Load other) = (other ≡ kind) × LoadFails old new 1 name
 IsLoadOf old new kind name s = ⊤
 
--- the same of a file that may be named
+-- a status that says a load failed names this file, which is named and whose load failed
 abbrev pub IsNamedLoadOf : ShelfView → ShelfView → FileKind → Option (List ℕ) → Status → Type 0
 IsNamedLoadOf old new kind name (status.Load other) = (other ≡ kind) × NamedLoadFails old new 1 name
 IsNamedLoadOf old new kind name s = ⊤
@@ -90,8 +90,8 @@ LaterLoad old new r (status.Load file.Deadlines) = ⊥
 LaterLoad old new r (status.Load file.Requests) = ⊥
 LaterLoad old new r s = ⊤
 
--- how many files a command loads: its tasks, and those after them; a least energy loads the machine alone, and a made
--- workload none
+-- the number of files that a command loads: its tasks, and those after them; `least` loads the machine alone, and
+-- `workload` none
 abbrev pub loads_of : CommandOf → ℕ
 loads_of (run r) = 1 + loads_named r.demands + 1
 loads_of (admit a) = 2
@@ -102,7 +102,7 @@ loads_of (constrain r) = 3
 loads_of (poll q) = 3
 loads_of (least l) = 1
 
--- the files that a command's answer is of: those that the shelf tells; a made workload is of none
+-- the files that a command's answer depends on: those that the shelf is known to hold; `workload` needs none
 abbrev pub files_for : Option Files → CommandOf → Option Files
 files_for held (run r) = held
 files_for held (admit a) = held
@@ -113,7 +113,7 @@ files_for held (constrain r) = held
 files_for held (poll q) = held
 files_for held (least l) = held
 
--- the file of tasks that a command names, where it names one
+-- the file of tasks that a command names, if it names one
 abbrev pub tasks_name : CommandOf → Option (List ℕ)
 tasks_name (run r) = Some r.tasks
 tasks_name (admit a) = Some a.tasks
@@ -124,7 +124,7 @@ tasks_name (constrain r) = Some r.tasks
 tasks_name (poll q) = Some q.tasks
 tasks_name (least l) = None
 
--- the file of a machine that a command names, where it names one
+-- the file of a machine that a command names, if it names one
 abbrev pub machine_name : CommandOf → Option (List ℕ)
 machine_name (run r) = Some r.machine
 machine_name (admit a) = Some a.machine
@@ -135,7 +135,7 @@ machine_name (constrain r) = Some r.machine
 machine_name (poll q) = Some q.machine
 machine_name (least l) = Some l.machine
 
--- the file of demands that a command names, where it names one
+-- the file of demands that a command names, if it names one
 abbrev pub demands_name : CommandOf → Option (List ℕ)
 demands_name (run r) = r.demands
 demands_name (admit a) = None
@@ -146,7 +146,7 @@ demands_name (constrain r) = None
 demands_name (poll q) = None
 demands_name (least l) = None
 
--- the file of a trace that a command names, where it names one
+-- the file of a trace that a command names, if it names one
 abbrev pub trace_name : CommandOf → Option (List ℕ)
 trace_name (run r) = None
 trace_name (admit a) = None
@@ -161,7 +161,7 @@ trace_name (least l) = None
 abbrev pub machine_place : CommandOf → ℕ
 machine_place c = loads_named (tasks_name c) + 1
 
--- the file of relative deadlines that a command names, where it names one
+-- the file of relative deadlines that a command names, if it names one
 abbrev pub deadlines_name : CommandOf → Option (List ℕ)
 deadlines_name (run r) = None
 deadlines_name (admit a) = None
@@ -172,7 +172,7 @@ deadlines_name (constrain r) = Some r.deadlines
 deadlines_name (poll q) = None
 deadlines_name (least l) = None
 
--- the file of requests that a command names, where it names one
+-- the file of requests that a command names, if it names one
 abbrev pub requests_name : CommandOf → Option (List ℕ)
 requests_name (run r) = None
 requests_name (admit a) = None
@@ -204,17 +204,17 @@ abbrev pub WhereNamed : Option (List ℕ) → Type 0 → Type 0
 WhereNamed None Holds = ⊤
 WhereNamed (Some name) Holds = Holds
 
--- a load of demands fails only after the machine was read, where the files are told
+-- a load of demands fails only after the machine was read, where the files are known
 abbrev pub PassesMachine : Option Files → CommandOf → Status → Type 0
 PassesMachine (Some files) c (status.Load file.Demands) = IsRead machine_at (machine_name c) files
-PassesMachine told c s = ⊤
+PassesMachine files c s = ⊤
 
--- the tasks of a polling are read, and one of them has the server's name
+-- the tasks of `poll` are read, and one of them has the server's name
 abbrev pub FindsServer : PollOf → Files → Type 0
 FindsServer q files = IsOk (and_then (tasks_at q.tasks files) (server_at q.server))
 
--- a load fails only after the files before it that the command names were read, where they are told; that of a polling's
--- machine only after its server was found
+-- a load fails only after the files before it that the command names were read, where the files are known; that of the
+-- machine of `poll` only after its server was found
 abbrev pub PassesBefore : Option Files → CommandOf → Status → Type 0
 PassesBefore (Some files) (poll q) (status.Load file.Machine) = FindsServer q files
 PassesBefore (Some files) (poll q) (status.Load file.Requests) = FindsServer q files × IsOk (machine_at q.machine files)
@@ -225,4 +225,4 @@ PassesBefore (Some files) c (status.Load file.Trace) =
     WhereNamed (trace_name c) (IsRead tasks_at (tasks_name c) files × IsRead machine_at (machine_name c) files)
 PassesBefore (Some files) c (status.Load file.Deadlines) =
     WhereNamed (deadlines_name c) (IsRead tasks_at (tasks_name c) files × IsRead machine_at (machine_name c) files)
-PassesBefore told c s = ⊤
+PassesBefore files c s = ⊤

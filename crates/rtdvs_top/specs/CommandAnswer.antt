@@ -1,4 +1,4 @@
--- The answer to each command, where every file is told, nothing fails and memory is found.
+-- The answer to each command, where every file is known, nothing fails and memory doesn't run out.
 use Rattle.std.specs.Prelude.{ℕ, List, Result}
 use Rattle.dvs_base.specs.Outside.{Files}
 use Rattle.words.specs.Commands.{CommandOf, run, admit, traced, workload, response, constrain, poll, least}

@@ -1,4 +1,4 @@
--- The answer to a test of deadlines below the periods, where every file is told, nothing fails and memory is found.
+-- The answer to `constrain`, where every file is known, nothing fails and memory doesn't run out.
 use Rattle.std.specs.Prelude.{ℕ, List, [], ◌∷◌, slice_index, codes, decimal, Result, Ok, Err}
 use Rattle.dvs_base.specs.Checks.{and_then}
 use Rattle.dvs_base.specs.Outside.{Files}
@@ -24,11 +24,11 @@ use Rattle.rtdvs_top.specs.declared.status.TextFault.TheVariants as text
 use Rattle.rtdvs_top.specs.declared.status.Status.{Status}
 use Rattle.rtdvs_top.specs.declared.status.Status.TheVariants as status
 
--- the texts of the words
+-- what the words of `constrain` name, as texts
 abbrev pub shown_constrain : ConstrainWords → ConstrainOf
 shown_constrain w = record { tasks = w.tasks.now; machine = w.machine.now; deadlines = w.deadlines.now }
 
--- a refusal of a deadline file as a status; want of memory has its own
+-- a refusal of a deadline file as a status; `NoMemory` is a status of its own
 abbrev pub deadline_status : DeadlineFault → Status
 deadline_status deadline_fault.NoMemory = status.NoMemory
 deadline_status e = status.Text (text.Deadlines e)
@@ -43,19 +43,19 @@ abbrev pub deadlines_at : List Task → List ℕ → Files → Result (List ℕ)
 deadlines_at tasks name files =
     and_then (bytes_at file.Deadlines name files) (λ bytes. deadlines_from (deadline_file tasks bytes))
 
--- a refusal of the test as a status
+-- a refusal of the test of deadlines below the periods as a status
 abbrev pub constrain_status : ConstrainFault → Status
 constrain_status (constrain_fault.Offset task) = status.NotAdmitted (denied.Offset task)
 constrain_status (constrain_fault.TooManyJobs jobs) = status.Limit jobs
 constrain_status (constrain_fault.Denied at num cap) = status.NotAdmitted (denied.Demand at num cap)
 constrain_status constrain_fault.NoMemory = status.NoMemory
 
--- what the test answers, with its refusal as a status
+-- what the test of deadlines below the periods answers, with its refusal as a status
 abbrev pub constrained_from : Result Constrained ConstrainFault → Result Constrained Status
 constrained_from (Ok found) = Ok found
 constrained_from (Err e) = Err (constrain_status e)
 
--- the line of the answer: the demand that decides, and the lowest speed that meets it
+-- the line of the answer: the constrained demand, and the lowest speed that meets it
 abbrev pub constrained_text : Table → Constrained → List ℕ
 constrained_text machine found =
     line
@@ -64,18 +64,18 @@ constrained_text machine found =
     ∷ decimal (speed_at machine found.point)
     ∷ [])
 
--- the answer for these tasks, this machine and these relative deadlines
+-- the answer of `constrain` for these tasks, this machine and these relative deadlines
 abbrev pub constrain_with : List Task → Table → List ℕ → Result (List ℕ) Status
 constrain_with tasks machine deadlines =
     and_then (constrained_from (tested_answer (plan_of tasks machine Edf) (slice_index deadlines))) (λ found.
     Ok (constrained_text machine found))
 
--- the answer, after the tasks
+-- the answer of `constrain`, after its tasks were read
 abbrev pub constrain_after_tasks : ConstrainOf → List Task → Files → Result (List ℕ) Status
 constrain_after_tasks r tasks files =
     and_then (machine_at r.machine files) (λ machine.
     and_then (deadlines_at tasks r.deadlines files) (constrain_with tasks machine))
 
--- the answer
+-- the answer of `constrain`
 abbrev pub constrain_answer : ConstrainOf → Files → Result (List ℕ) Status
 constrain_answer r files = and_then (tasks_at r.tasks files) (λ tasks. constrain_after_tasks r tasks files)

@@ -6,7 +6,7 @@ use Rattle.trace_text.specs.TraceLines.{name_of}
 use Rattle.edf_demand.specs.declared.fault.DeadlineFault.{DeadlineFault}
 use Rattle.edf_demand.specs.declared.fault.DeadlineFault.TheVariants as deadline_fault
 
--- a refusal of a row of a deadline file
+-- the line of a refused row of a deadline file
 abbrev pub at_deadline : ℕ → List (List ℕ) → List ℕ
 at_deadline row texts = joined (codes "deadlines: row " ∷ decimal row ∷ codes ": " ∷ texts)
 

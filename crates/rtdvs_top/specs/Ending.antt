@@ -34,13 +34,13 @@ Ends old new answer status.Done = (text : List ℕ) × (answer ≡ Ok text) × W
 Ends old new answer status.Write = (text : List ℕ) × (answer ≡ Ok text) × WroteSome old new text
 Ends old new answer s = EndsWith answer s
 
--- the same where no file is told: some text was written
+-- how the writing of an answer ends where the files are not known: a text was written, whole or in part, or none was
 abbrev pub EndsSomehow : SinkView → SinkView → Status → Type 0
 EndsSomehow old new status.Done = (text : List ℕ) × Wrote old new text
 EndsSomehow old new status.Write = (text : List ℕ) × WroteSome old new text
 EndsSomehow old new s = IsRefusal s
 
--- how the answer of told files ends, and that of others
+-- how the writing of an answer ends, where the files are known, and where they aren't
 abbrev pub EndsAs : SinkView → SinkView → Option Files → (Files → Result (List ℕ) Status) → Status → Type 0
 EndsAs old new None answer s = EndsSomehow old new s
 EndsAs old new (Some files) answer s = Ends old new (answer files) s
@@ -55,15 +55,15 @@ Leaves s old new = new ≡ old
 abbrev pub job_demands : Run → JobDemands
 job_demands r = demands_of r.plan r.demands
 
--- the ticks of its schedule, by the published demand of the governor's kind
+-- the ticks of a run's schedule, by the published demand of the governor's kind
 abbrev pub ticks_under : GovernorKind → Run → List Tick
 ticks_under kind r = schedule r.plan kind (job_demands r) r.ticks
 
--- the text of its trace in a version
+-- the text of a run's trace in a version
 abbrev pub text_under : Version → GovernorKind → Run → List ℕ
 text_under v kind r = run_text_in v r.plan kind (job_demands r) r.ticks
 
--- some entry of the table meets each published demand
+-- some entry of the table meets each published demand of a run
 abbrev pub AlwaysMeetsIn : GovernorKind → Run → Type 0
 AlwaysMeetsIn kind r = AlwaysMeets r.plan kind (job_demands r) r.ticks
 
@@ -71,16 +71,16 @@ AlwaysMeetsIn kind r = AlwaysMeets r.plan kind (job_demands r) r.ticks
 pub record HasMet (v : Version) (kind : GovernorKind) (r : Run) : Type 0 where
   -- the scheduler's stated test passes at the highest speed
   pub admitted : PassesTest r.plan.scheduler r.plan
-  -- its ticks are the one schedule, in which each speed is the lowest entry that meets the published demand, else the
-  -- highest
+  -- the run's ticks are the one schedule, in which each speed is the lowest entry that meets the published demand, else
+  -- the highest
   pub schedule : IsTheSchedule r.plan kind (job_demands r) r.ticks (ticks_under kind r)
   -- each job that is due within the run has had its demand by its deadline
   pub deadlines : IsMet r.plan (job_demands r) (ticks_under kind r)
-  -- and of the text's lines exactly one tells its end, not after the deadline
+  -- exactly one line of the text says that the job is done, at a position not after its deadline
   pub told : TellsDeadlines r.plan r.ticks (text_under v kind r)
   -- some entry meets each published demand, unless the governor looks ahead
   pub speeds : kind ≢ Ahead → AlwaysMeetsIn kind r
-  -- whatever demand is published, the plan has one schedule of each length
+  -- for any published demand, the plan has one schedule of each length
   pub exists : HasSchedule r.plan
   pub unique : HasNoOther r.plan
 
@@ -88,24 +88,24 @@ pub record HasMet (v : Version) (kind : GovernorKind) (r : Run) : Type 0 where
 abbrev pub run_with : RunOf → Plan → DemandsOf → Run
 run_with r p d = record { plan = p; demands = d; ticks = r.ticks }
 
--- a run that was done, of these tasks, was of the plan and the demands that were prepared
+-- a run of these tasks that is done is of the plan and the demands that were prepared
 abbrev pub RanBy : Option Files → RunOf → List Task → Status → Type 0
-RanBy told r tasks status.Done =
-    (p : Plan) × (d : DemandsOf) × Gives told (prepared_of r tasks) (p, d) × IsReadyRun r.governor (run_with r p d)
-RanBy told r tasks s = ⊤
+RanBy files r tasks status.Done =
+    (p : Plan) × (d : DemandsOf) × Gives files (prepared_of r tasks) (p, d) × IsReadyRun r.governor (run_with r p d)
+RanBy files r tasks s = ⊤
 
--- a replay or a migration that was done, of these tasks, compared a trace with the schedule of an admitted plan
+-- a replay or a migration of these tasks that is done compared a trace with the schedule of an admitted plan
 abbrev pub MetTraced : Option Files → TracedOf → List Task → Status → Type 0
-MetTraced told r tasks status.Done = (p : Plan) × (t : TraceOf) × Gives told (traced_of r tasks) (p, t) × IsAdmitted p
-MetTraced told r tasks s = ⊤
+MetTraced files r tasks status.Done = (p : Plan) × (t : TraceOf) × Gives files (traced_of r tasks) (p, t) × IsAdmitted p
+MetTraced files r tasks s = ⊤
 
--- what is known of a command that was done, with the tasks of its file; of a least energy, what it has met
+-- what is known of a command that is done, with the tasks of its file; of `least`, what it has met
 abbrev pub MetIn : Option Files → CommandOf → Status → Type 0
-MetIn told (run r) status.Done =
-    (tasks : List Task) × Gives told (tasks_at r.tasks) tasks × RanBy told r tasks status.Done
-MetIn told (traced r) status.Done =
-    (tasks : List Task) × Gives told (tasks_at r.tasks) tasks × MetTraced told r tasks status.Done
-MetIn told (poll q) status.Done =
-    (tasks : List Task) × Gives told (tasks_at q.tasks) tasks × ServedIn told q tasks status.Done
-MetIn told (least l) status.Done = LeastMet told l
-MetIn told c s = ⊤
+MetIn files (run r) status.Done =
+    (tasks : List Task) × Gives files (tasks_at r.tasks) tasks × RanBy files r tasks status.Done
+MetIn files (traced r) status.Done =
+    (tasks : List Task) × Gives files (tasks_at r.tasks) tasks × MetTraced files r tasks status.Done
+MetIn files (poll q) status.Done =
+    (tasks : List Task) × Gives files (tasks_at q.tasks) tasks × ServedIn files q tasks status.Done
+MetIn files (least l) status.Done = LeastMet files l
+MetIn files c s = ⊤

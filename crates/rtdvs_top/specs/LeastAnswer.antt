@@ -1,4 +1,4 @@
--- The answer to a least energy, where every file is told, nothing fails and memory is found; and what it shows.
+-- The answer to `least`, where every file is known, nothing fails and memory doesn't run out; and what it shows.
 use Rattle.std.specs.Prelude.{◌≡◌, ◌<◌, ◌*◌, ℕ, Bool, List, [], ◌∷◌, ◌++◌, codes, decimal, Option}
 use Rattle.std.specs.Prelude.{Result, Ok, Err, ⊤, if◌then◌else◌}
 use Rattle.dvs_base.specs.Checks.{and_then}
@@ -19,7 +19,7 @@ use Rattle.rtdvs_top.specs.declared.status.Denied.TheVariants as denied
 use Rattle.rtdvs_top.specs.declared.status.Status.{Status}
 use Rattle.rtdvs_top.specs.declared.status.Status.TheVariants as status
 
--- the texts of the words
+-- what the words of `least` name, as texts
 abbrev pub shown_least : LeastWords → LeastOf
 shown_least l = record { machine = l.machine.now; units = l.units; ticks = l.ticks }
 
@@ -35,43 +35,43 @@ corners_text a =
 abbrev pub sign_word : Bool → List ℕ
 sign_word minus = if minus then codes "minus" else codes "plus"
 
--- the second line: the price of a unit, and that of a tick with its sign
+-- the second line: the price of a unit, and the price of a tick with its sign
 abbrev pub prices_text : Least → List ℕ
 prices_text a =
     line (codes "prices" ∷ decimal a.unit_price ∷ sign_word a.tick_minus ∷ decimal a.tick_price ∷ [])
 
--- the lines of a least energy
+-- the two lines of `least`
 abbrev pub least_text : Least → List ℕ
 least_text a = corners_text a ++ prices_text a
 
--- what a least energy answers, with its refusal as a status
+-- what `least` answers, with its refusal as a status
 abbrev pub least_from : Result Least Over → Result (List ℕ) Status
 least_from (Ok a) = Ok (least_text a)
 least_from (Err e) = Err (status.NotAdmitted (denied.Units e.num e.cap))
 
--- the answer of a least energy on a machine
+-- the answer of `least` on a machine
 abbrev pub least_on : LeastOf → Table → Result (List ℕ) Status
 least_on l m = least_from (least_energy_of m l.units l.ticks)
 
--- the answer of a least energy
+-- the answer of `least`
 abbrev pub least_answer : LeastOf → Files → Result (List ℕ) Status
 least_answer l files = and_then (machine_at l.machine files) (least_on l)
 
--- The answer is the machine's; its certificate is that of two corners that hold, so it passes the check; and no choice
--- and no schedule of that many ticks that runs that many units costs less, which is reached over its repetitions.
+-- The answer is the machine's, and its certificate is one of two corners, so it passes the check. No choice and no
+-- schedule of `l.ticks` ticks that runs `l.units` units costs less, and over the answer's repetitions this is reached.
 pub record IsLeastOn (m : Table) (l : LeastOf) (a : Least) : Type 0 where
   pub answer : least_energy_of m l.units l.ticks ≡ Ok a
   pub certificate : IsCertificate m l.units l.ticks a
   pub least : IsLeast m l.units l.ticks a
 
--- the answer on a machine that was done is the least
+-- the answer of `least` on a machine, where it is done, is the minimum
 abbrev pub LeastMetOn : Table → LeastOf → Status → Type 0
 LeastMetOn m l status.Done = (a : Least) × IsLeastOn m l a
 LeastMetOn m l s = ⊤
 
--- a least energy that was done is of the machine that its file means
+-- a `least` that is done is of the machine that its file means
 abbrev pub LeastMet : Option Files → LeastOf → Type 0
-LeastMet told l = (m : Table) × (a : Least) × Gives told (machine_at l.machine) m × IsLeastOn m l a
+LeastMet files l = (m : Table) × (a : Least) × Gives files (machine_at l.machine) m × IsLeastOn m l a
 
 -- more units are asked for than the highest speed does in the ticks, with the two numbers
 pub record AreTooMany (m : Table) (l : LeastOf) (why : Denied) : Type 0 where

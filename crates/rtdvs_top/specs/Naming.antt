@@ -14,7 +14,7 @@ abbrev pub names_of : Option (List Task) → List (List ℕ)
 names_of None = []
 names_of (Some tasks) = map (λ t. t.name) tasks
 
--- a name, or nothing
+-- a name, or nothing where there is none
 abbrev pub name_text : Option (List ℕ) → List ℕ
 name_text None = []
 name_text (Some name) = name
@@ -33,7 +33,7 @@ names_at (Some name) files = names_from (tasks_at name files)
 abbrev pub names_by : CommandOf → Files → List (List ℕ)
 names_by c files = names_at (tasks_name c) files
 
--- where the files are told, a status is noted with the names of the command's tasks
+-- where the files are known, the lines of a status have the names of the command's tasks
 abbrev pub NamedBy : Option Files → CommandOf → Option (List Task) → Status → Type 0
 NamedBy None c tasks s = ⊤
 NamedBy (Some files) c tasks s = status_text (names_of tasks) s ≡ status_text (names_by c files) s
@@ -41,4 +41,4 @@ NamedBy (Some files) c tasks s = status_text (names_of tasks) s ≡ status_text 
 -- where a command is done, the names are those of its tasks
 abbrev pub NamedIfDone : Option Files → CommandOf → Option (List Task) → Status → Type 0
 NamedIfDone (Some files) c tasks status.Done = names_of tasks ≡ names_by c files
-NamedIfDone told c tasks s = ⊤
+NamedIfDone files c tasks s = ⊤

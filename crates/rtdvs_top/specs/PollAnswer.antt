@@ -1,4 +1,4 @@
--- The answer to a polling, where every file is told, nothing fails and memory is found.
+-- The answer to `poll`, where every file is known, nothing fails and memory doesn't run out.
 use Rattle.std.specs.Prelude.{ℕ, zero, suc, ◌+◌, List, [], ◌∷◌, ◌++◌, Bool, true, false, codes, decimal, Option, Some, None, Result, Ok, Err}
 use Rattle.dvs_base.specs.Checks.{and_then}
 use Rattle.dvs_base.specs.Outside.{Files}
@@ -35,11 +35,11 @@ abbrev pub server_from : List ℕ → Option ℕ → Result ℕ Status
 server_from name None = Err (status.Text (text.Server (short_of name)))
 server_from name (Some i) = Ok i
 
--- the task that a name names
+-- the place of the task of this name
 abbrev pub server_at : List ℕ → List Task → Result ℕ Status
 server_at name tasks = server_from name (place_of tasks name)
 
--- a refusal of a request file as a status; want of memory has its own
+-- a refusal of a request file as a status; `NoMemory` is a status of its own
 abbrev pub request_status : RequestFault → Status
 request_status request_fault.NoMemory = status.NoMemory
 request_status e = status.Text (text.Requests e)
@@ -53,7 +53,7 @@ requests_from (Err e) = Err (request_status e)
 abbrev pub requests_at : List ℕ → Files → Result (List Request) Status
 requests_at name files = and_then (bytes_at file.Requests name files) (λ bytes. requests_from (request_file bytes))
 
--- the server of a polling in its admitted plan, after its tasks: first its name, then the machine and the requests
+-- the server of `poll` in its admitted plan, after its tasks: first its name, then the machine and the requests
 abbrev pub polling_of : PollOf → List Task → Files → Result ServerOf Status
 polling_of q tasks files =
     and_then (server_at q.server tasks) (λ i.
@@ -66,12 +66,12 @@ polling_of q tasks files =
 abbrev pub polling_notes : GovernorKind → ServerOf → ℕ → List Note
 polling_notes g s ticks = run_notes s.plan g (polled_demand s) ticks
 
--- what these notes make of each request, and their totals
+-- the outcome of each request by the notes of the one schedule, and the totals of these notes
 abbrev pub polling_served : GovernorKind → ServerOf → ℕ → ServedOf
 polling_served g s ticks = served_by s (polling_notes g s ticks)
 
--- the line of a request, which counts from 1: its arrival and its units; and where it is served, by which job and at which
--- position
+-- the line of a request, which counts from 1: its arrival and its units; and where it is served, by which job and at
+-- which position
 abbrev pub outcome_text : ServerOf → ℕ → Outcome → List ℕ
 outcome_text s m (Served job at_end) =
     line
@@ -96,24 +96,24 @@ is_served Pending = false
 abbrev pub served_among : List Outcome → ℕ → ℕ
 served_among outcomes n = sum_where n (λ m. is_served (outcome_at outcomes m)) (λ m. 1)
 
--- the last line: how many requests are served, and the energies of running and of idling
+-- the last line: the number of requests that are served, and the energies of running and of idling
 abbrev pub polled_line : ℕ → Totals → List ℕ
 polled_line served totals =
     line (codes "polled" ∷ decimal served ∷ decimal totals.run ∷ decimal totals.idle ∷ [])
 
--- the lines of a polling: one for each request, and the last one
+-- the lines of a `poll` run: one for each request, and the last one
 abbrev pub polled_text : ServerOf → ServedOf → List ℕ
 polled_text s r =
     let n = request_count s in request_lines s r.outcomes n ++ polled_line (served_among r.outcomes n) r.totals
 
--- the answer of a server in its admitted plan
+-- the answer of `poll` for a server in its admitted plan
 abbrev pub answer_of_polling : GovernorKind → ℕ → ServerOf → Result (List ℕ) Status
 answer_of_polling g ticks s = within_jobs (released_jobs s.plan ticks) (polled_text s (polling_served g s ticks))
 
--- the answer of a polling, after its tasks
+-- the answer of `poll`, after its tasks were read
 abbrev pub poll_after_tasks : PollOf → List Task → Files → Result (List ℕ) Status
 poll_after_tasks q tasks files = and_then (polling_of q tasks files) (answer_of_polling q.governor q.ticks)
 
--- the answer of a polling
+-- the answer of `poll`
 abbrev pub poll_answer : PollOf → Files → Result (List ℕ) Status
 poll_answer q files = and_then (tasks_at q.tasks files) (λ tasks. poll_after_tasks q tasks files)

@@ -1,4 +1,4 @@
--- What is noted at the end of a command: the line of its status, or those of the probes that are left after a run.
+-- What is put to `notes` at the end of a command: the lines of its status, or of the probes that are left after a run.
 use Rattle.std.specs.Prelude.{◌⊎◌, ℕ, ◌+◌, nat_lt, Bool, true, List, [], ◌∷◌, ◌++◌, length, codes, Option, Some, None, if◌then◌else◌}
 use Rattle.std.specs.Fmt.{decimal}
 use Rattle.dvs_base.specs.Outside.{SinkView}
@@ -27,7 +27,7 @@ abbrev pub task_word : List (List ℕ) → Option ℕ → List ℕ
 task_word names None = codes "all"
 task_word names (Some i) = if nat_lt i (length names) then name_of names i else codes "none"
 
--- the probe that is shown
+-- the rule and the tally that a probe's line shows
 abbrev pub probe_of : Counted → ProbeOf
 probe_of c = record { rule = c.rule; tally = c.tally }
 
@@ -38,20 +38,20 @@ counted_text place p task =
     codes "probe " ∷ decimal place ∷ codes " " ∷ what_word p.rule.what ∷ codes " " ∷ task ∷ codes " "
     ∷ decimal p.tally ∷ codes "\n" ∷ [])
 
--- the same with the name of the task that the probe counts for
+-- the line of the probe at a place, with the name of the task that the probe counts for
 abbrev pub probe_text : List (List ℕ) → ℕ → ProbeOf → List ℕ
 probe_text names place p = counted_text place p (task_word names p.rule.task)
 
--- the lines of probes, the first of which stands at this place
+-- the lines of probes, the first of which is at this place
 abbrev pub probe_lines : List (List ℕ) → ℕ → List ProbeOf → List ℕ
 probe_lines names place [] = []
 probe_lines names place (p ∷ ps) = probe_text names place p ++ probe_lines names (place + 1) ps
 
--- what is noted at the end: the line of the status, or the lines of the probes where a run that asked for them is done
+-- what is put to `notes` at the end: the lines of the status, or of the probes where a run that asked for them is done
 abbrev pub noted_text : Bool → List (List ℕ) → List ProbeOf → Status → List ℕ
 noted_text true names ps status.Done = probe_lines names 1 ps
 noted_text asks names ps s = status_text names s
 
--- a text of the notes: the whole text, or a first part of it where the count of faults rose
+-- the text was put to the sink: whole, or a first part of it where the count of faults rose
 abbrev pub NotedAs : SinkView → SinkView → List ℕ → Type 0
 NotedAs old new text = Wrote old new text ⊎ WroteSome old new text

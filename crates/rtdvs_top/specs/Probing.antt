@@ -43,39 +43,39 @@ abbrev pub RunTold : Version → GovernorKind → Run → SinkView → SinkView 
 RunTold v kind r old new before after s =
     NotesTold v kind r.plan r.ticks (run_notes r.plan kind (job_demands r) r.ticks) old new before after s
 
--- it holds, where it is asked for
+-- X holds, where it is asked for
 abbrev pub IfAsked : Bool → Type 0 → Type 0
 IfAsked true X = X
 IfAsked false X = ⊤
 
--- where no probes are asked for the list is as before; else under every status but `Done` and `Write`
+-- where no probes are asked for their list is as before; else every status but `Done` and `Write` leaves it as it was
 abbrev pub LeavesProbes : {V : Type 0} → Bool → Status → V → V → Type 0
 LeavesProbes true s old new = Leaves s old new
 LeavesProbes false s old new = new ≡ old
 
--- a run of these tasks told its notes: that of the plan and the demands that were prepared
+-- a run of these tasks told probes its notes, by the plan and the demands that were prepared
 abbrev pub PreparedTold : Option Files → RunOf → List Task → SinkView → SinkView
     → List ProbeOf → List ProbeOf → Status → Type 0
-PreparedTold told r tasks old new before after s =
-    (p : Plan) × (d : DemandsOf) × Gives told (prepared_of r tasks) (p, d)
+PreparedTold files r tasks old new before after s =
+    (p : Plan) × (d : DemandsOf) × Gives files (prepared_of r tasks) (p, d)
     × RunTold r.version r.governor (run_with r p d) old new before after s
 
--- the same by the status
+-- a run of these tasks that is done, or whose write failed, told probes its notes, if the words ask for probes
 abbrev pub ToldBy : Option Files → RunOf → List Task → SinkView → SinkView
     → List ProbeOf → List ProbeOf → Status → Type 0
-ToldBy told r tasks old new before after status.Done =
-    IfAsked r.probes (PreparedTold told r tasks old new before after status.Done)
-ToldBy told r tasks old new before after status.Write =
-    IfAsked r.probes (PreparedTold told r tasks old new before after status.Write)
-ToldBy told r tasks old new before after s = ⊤
+ToldBy files r tasks old new before after status.Done =
+    IfAsked r.probes (PreparedTold files r tasks old new before after status.Done)
+ToldBy files r tasks old new before after status.Write =
+    IfAsked r.probes (PreparedTold files r tasks old new before after status.Write)
+ToldBy files r tasks old new before after s = ⊤
 
--- the same of the tasks of the command's file
+-- a run of its file's tasks that is done, or whose write failed, told probes its notes, if the words ask for probes
 abbrev pub FileTold : Option Files → RunOf → SinkView → SinkView → List ProbeOf → List ProbeOf → Status → Type 0
-FileTold told r old new before after s =
-    (tasks : List Task) × Gives told (tasks_at r.tasks) tasks × ToldBy told r tasks old new before after s
+FileTold files r old new before after s =
+    (tasks : List Task) × Gives files (tasks_at r.tasks) tasks × ToldBy files r tasks old new before after s
 
--- a command of which something is written told the probes that it asked for
+-- a `run` command that is done, or whose write failed, told probes its notes, if it asked for probes
 abbrev pub ToldIn : Option Files → CommandOf → SinkView → SinkView → List ProbeOf → List ProbeOf → Status → Type 0
-ToldIn told (run r) old new before after status.Done = FileTold told r old new before after status.Done
-ToldIn told (run r) old new before after status.Write = FileTold told r old new before after status.Write
-ToldIn told c old new before after s = ⊤
+ToldIn files (run r) old new before after status.Done = FileTold files r old new before after status.Done
+ToldIn files (run r) old new before after status.Write = FileTold files r old new before after status.Write
+ToldIn files c old new before after s = ⊤

@@ -41,13 +41,13 @@ use Rattle.rtdvs_top.specs.declared.status.Status.TheVariants as status
 abbrev pub asked : List (String Global) → Result CommandOf WordFault
 asked words = command_of (map string_bytes words)
 
--- the files that the answer to the words is of: those of the command's answer, and none where the words are refused
+-- the known files that the answer to the words depends on: those of the command; refused words need none
 abbrev pub files_told : Option Files → Result CommandOf WordFault → Option Files
 files_told held (Ok c) = files_for held c
 files_told held (Err why) = Some []
 
 -- The status is the answer's; or a load failed, and the shelf's count of faults rose; or a put failed, where the answer
--- has a text, and the sink's count rose; or memory was wanting.
+-- has a text, and the sink's count rose; or memory ran out.
 abbrev pub IsAnswer : Type 0 → Type 0 → Result (List ℕ) Status → Status → Type 0
 IsAnswer loads_rose puts_rose answer status.NoMemory = ⊤
 IsAnswer loads_rose puts_rose answer (status.Load kind) = (answer ≡ Err (status.Load kind)) ⊎ loads_rose
@@ -55,45 +55,45 @@ IsAnswer loads_rose puts_rose answer status.Done = IsOk answer
 IsAnswer loads_rose puts_rose answer status.Write = IsOk answer × puts_rose
 IsAnswer loads_rose puts_rose answer s = answer ≡ Err s
 
--- where the files are told, the status is that of the command's answer, but for what the outside and memory explain
+-- where the files are known, the status is that of the command's answer, unless the outside or memory explains it
 abbrev pub Answers : Option Files → Result CommandOf WordFault → Type 0 → Type 0 → Status → Type 0
 Answers None c loads_rose puts_rose s = ⊤
 Answers (Some files) (Err why) loads_rose puts_rose s = s ≡ status.Words why
 Answers (Some files) (Ok c) loads_rose puts_rose s = IsAnswer loads_rose puts_rose (answer_of_command c files) s
 
--- where the files are told, the bytes grow by the whole answer
+-- where the files are known, the bytes grow by the whole answer
 abbrev pub Writes : Option Files → Result CommandOf WordFault → SinkView → SinkView → Type 0
 Writes (Some files) (Ok c) old new =
     (text : List ℕ) × (answer_of_command c files ≡ Ok text) × Appends old.written new.written text
 Writes _ _ old new = ⊤
 
--- where the files are told, the bytes grow by a first part of the answer
+-- where the files are known, the bytes grow by a first part of the answer
 abbrev pub WritesPart : Option Files → Result CommandOf WordFault → SinkView → SinkView → Type 0
 WritesPart (Some files) (Ok c) old new =
     (text : List ℕ) × (answer_of_command c files ≡ Ok text) × AppendsPrefix old.written new.written text
 WritesPart _ _ old new = ⊤
 
--- the sink is sure of the whole answer
+-- the files are known, and the sink is sure of the whole answer
 abbrev pub IsSureOf : Option Files → Result CommandOf WordFault → SinkView → Type 0
 IsSureOf (Some files) (Ok c) sink = (text : List ℕ) → answer_of_command c files ≡ Ok text → length text ≤ sink.sure
 IsSureOf _ _ sink = ⊥
 
--- why a load failed
+-- why a load of the command failed
 abbrev pub LoadFailed : ShelfView → ShelfView → Result CommandOf WordFault → Status → Type 0
 LoadFailed old new (Ok c) s = LoadOf old new c s
 LoadFailed old new (Err why) s = ⊤
 
 -- the files before a load that failed were read
 abbrev pub LoadsInOrder : Option Files → Result CommandOf WordFault → Status → Type 0
-LoadsInOrder told (Ok c) s = PassesBefore told c s
-LoadsInOrder told (Err why) s = ⊤
+LoadsInOrder files (Ok c) s = PassesBefore files c s
+LoadsInOrder files (Err why) s = ⊤
 
--- how many files the words name
+-- the number of files that the words name
 abbrev pub loads_asked : Result CommandOf WordFault → ℕ
 loads_asked (Ok c) = loads_of c
 loads_asked (Err why) = 0
 
--- what the files of a run mean
+-- the files of a run mean these tasks, this machine and these demands
 pub record Means (r : RunOf) (files : Files) (tasks : List Task) (machine : Table) (demands : DemandsOf) : Type 0 where
   pub tasks_are : tasks_at r.tasks files ≡ Ok tasks
   pub machine_is : machine_at r.machine files ≡ Ok machine
@@ -109,8 +109,8 @@ pub record DeniedPlan (p : Plan) (why : Denied) : Type 0 where
   pub numbers : admission p ≡ Err (status.NotAdmitted why)
   pub fails : PassesTest p.scheduler p → ⊥
 
--- The run of told files, without a premise. One that is done is of the tasks, the machine and the demands that its
--- files mean, and so is one that is denied.
+-- The run, where its files are known, without a premise. A run that is done, or that is denied, is of the tasks, the
+-- machine and the demands that its files mean.
 abbrev pub OfRun : Option Files → Result CommandOf WordFault → SinkView → SinkView → Status → Type 0
 OfRun (Some files) (Ok (run r)) old new status.Done =
     (tasks : List Task) × (machine : Table) × (demands : DemandsOf) × Means r files tasks machine demands
@@ -119,31 +119,32 @@ OfRun (Some files) (Ok (run r)) old new status.Done =
 OfRun (Some files) (Ok (run r)) old new (status.NotAdmitted why) =
     (tasks : List Task) × (machine : Table) × (demands : DemandsOf) × Means r files tasks machine demands
     × DeniedPlan (plan_of tasks machine r.scheduler) why
-OfRun told c old new s = ⊤
+OfRun files c old new s = ⊤
 
--- what an exact test proves
+-- what an exact test proves, where the command is one
 abbrev pub OfTests : Option Files → Result CommandOf WordFault → Status → Type 0
-OfTests told (Ok c) s = TestedIn told c s
-OfTests told (Err why) s = ⊤
+OfTests files (Ok c) s = TestedIn files c s
+OfTests files (Err why) s = ⊤
 
--- A polling of told files that is done has served its requests in the one schedule of its server's plan: each exactly where
--- its job is done, a later one never by an earlier job, and each by the deadline that its backlog bounds.
+-- A `poll` run that is done, where its files are known, has served its requests in the one schedule of its server's
+-- plan: each exactly where its job is done, a later one never by an earlier job, and each by the deadline that its
+-- backlog bounds, if that lies within the run.
 abbrev pub OfPoll : Option Files → Result CommandOf WordFault → Status → Type 0
 OfPoll (Some files) (Ok (poll q)) status.Done =
     (tasks : List Task) × (s : ServerOf) × (tasks_at q.tasks files ≡ Ok tasks) × (polling_of q tasks files ≡ Ok s)
     × HasServed s q.governor q.ticks
-OfPoll told c s = ⊤
+OfPoll files c s = ⊤
 
--- a run of a plan is done, and then it has met all that; or the plan is denied, and then its scheduler's test fails
+-- a run of a plan is done and has met all that an admitted plan meets; or the plan is denied, and fails its test
 abbrev pub RunsOrIsDenied : Version → GovernorKind → Run → SinkView → SinkView → Status → Type 0
 RunsOrIsDenied v kind r old new s =
     ((s ≡ status.Done) × DoneRun v kind r old new)
     ⊎ ((why : Denied) × (s ≡ status.NotAdmitted why) × DeniedPlan r.plan why)
 
--- The headline. The files of a run are told, and mean these tasks, this machine and these demands; the run releases no
--- more jobs than the limit; no load and no put failed, and memory was found. Then the plan of these tasks, this machine
--- and the words' scheduler runs with these demands, or it is denied. Under the same premises the exact test under RM is
--- done where all tasks of its files have responses, and else it denies them.
+-- The headline. The files of a run are known and describe these tasks, this machine and these demands; the run releases
+-- no more jobs than the limit; no load and no put failed, and memory didn't run out. Then the plan of these tasks, this
+-- machine and the words' scheduler runs with these demands, or it is denied. Under the same premises the exact test
+-- under RM is done where all tasks of its files have responses, and else it denies them.
 abbrev pub Headline : Option Files → Result CommandOf WordFault → Type 0 → SinkView → SinkView → Status → Type 0
 Headline (Some files) (Ok (run r)) loads_rose old new s =
     (tasks : List Task) (machine : Table) (demands : DemandsOf) → Means r files tasks machine demands
@@ -154,24 +155,24 @@ Headline (Some files) (Ok (response r)) loads_rose old new s =
     (tasks : List Task) (machine : Table) → MeansPlan r files tasks machine
     → (loads_rose → ⊥) → (Rose old.faults new.faults → ⊥) → s ≢ status.NoMemory
     → RespondsOrIsDenied (plan_of tasks machine Rm) s
-Headline told c loads_rose old new s = ⊤
+Headline files c loads_rose old new s = ⊤
 
--- A least energy of told files, without a premise. One that is done has written the lines of the answer for the machine
--- that its file means, which passes the check and is the least; one that is denied asks for more units than that
--- machine does in the ticks.
+-- The answer of `least`, where its file is known, without a premise. One that is done has written the lines of the
+-- answer for the machine that its file means, which passes the check and is the minimum; one that is denied asks for
+-- more units than that machine does in the ticks.
 abbrev pub OfLeast : Option Files → Result CommandOf WordFault → SinkView → SinkView → Status → Type 0
 OfLeast (Some files) (Ok (least l)) old new status.Done =
     (m : Table) × (a : Least) × (machine_at l.machine files ≡ Ok m) × IsLeastOn m l a
     × Appends old.written new.written (least_text a)
 OfLeast (Some files) (Ok (least l)) old new (status.NotAdmitted why) =
     (m : Table) × (machine_at l.machine files ≡ Ok m) × AreTooMany m l why
-OfLeast told c old new s = ⊤
+OfLeast files c old new s = ⊤
 
--- the line of a status is noted, or after a run that asked for probes and is done the lines of those that are left; whole
--- or in part, with the names of the command's tasks
+-- the lines of a status are put to `notes`, or after a run that asked for probes and is done the lines of those that
+-- are left; whole or in part, with the names of the command's tasks
 abbrev pub Notes : Option Files → Result CommandOf WordFault → List ProbeOf → Status → SinkView → SinkView → Type 0
 Notes (Some files) (Ok c) ps s old new = NotedAs old new (noted_text (asks_probes c) (names_by c files) ps s)
-Notes told (Err why) ps s old new = NotedAs old new (status_text [] s)
+Notes files (Err why) ps s old new = NotedAs old new (status_text [] s)
 Notes None (Ok c) ps s old new =
     (names : List (List ℕ)) × NotedAs old new (noted_text (asks_probes c) names ps s)
 
@@ -180,9 +181,9 @@ abbrev pub probes_asked : Result CommandOf WordFault → Bool
 probes_asked (Ok c) = asks_probes c
 probes_asked (Err why) = false
 
--- the probes that the words ask for were told the notes of a run that is done, and of one of which a write failed those
--- of the lines before that write
+-- the probes that the words ask for were told the notes of a run that is done; of a run whose write failed they were
+-- told the notes of the lines before that write
 abbrev pub Tells : Option Files → Result CommandOf WordFault → SinkView → SinkView
     → List ProbeOf → List ProbeOf → Status → Type 0
-Tells told (Ok c) old new before after s = ToldIn told c old new before after s
-Tells told (Err why) old new before after s = ⊤
+Tells files (Ok c) old new before after s = ToldIn files c old new before after s
+Tells files (Err why) old new before after s = ⊤

@@ -75,11 +75,11 @@ at_place of_document of_entry place what which =
     then joined (of_document ∷ what ∷ which ∷ codes "\n" ∷ [])
     else joined (of_entry ∷ decimal place ∷ codes ": " ∷ what ∷ which ∷ codes "\n" ∷ [])
 
--- the same of a task file
+-- a line of a refusal in a task file: place 0 is the document, and each other place is a task
 abbrev pub at_task : ℕ → List ℕ → List ℕ → List ℕ
 at_task place what which = at_place (codes "tasks: ") (codes "tasks: task ") place what which
 
--- the same of a machine file
+-- a line of a refusal in a machine file: place 0 is the document, and each other place is a point
 abbrev pub at_point : ℕ → List ℕ → List ℕ → List ℕ
 at_point place what which = at_place (codes "machine: ") (codes "machine: point ") place what which
 
@@ -112,7 +112,7 @@ machine_fault_text (machine_fault.NotRising place) =
     joined (codes "machine: point " ∷ decimal place ∷ codes ": not rising\n" ∷ [])
 machine_fault_text machine_fault.NoMemory = codes "no memory\n"
 
--- a refusal of a row
+-- the line of a refused row of a demand file
 abbrev pub at_row : ℕ → List (List ℕ) → List ℕ
 at_row row texts = joined (codes "demands: row " ∷ decimal row ∷ codes ": " ∷ texts)
 
@@ -179,12 +179,12 @@ text_fault_text names (text.Deadlines why) = deadline_fault_text names why
 text_fault_text names (text.Requests why) = request_fault_text why
 text_fault_text names (text.Server name) = no_task_text name
 
--- the line that says this of a task, and two numbers
+-- the line that says `what` of a task, with two numbers
 abbrev pub numbers_text : List ℕ → List ℕ → ℕ → ℕ → List ℕ
 numbers_text what name num cap =
     joined (what ∷ name ∷ codes " " ∷ decimal num ∷ codes " " ∷ decimal cap ∷ codes "\n" ∷ [])
 
--- the line of too much work due: the ticks, the work, and what the highest speed does in them
+-- the line of too much work due: the ticks, the work, and what the highest speed does in these ticks
 abbrev pub demand_text : ℕ → ℕ → ℕ → List ℕ
 demand_text ticks num cap =
     joined (codes "denied demand " ∷ decimal ticks ∷ codes " " ∷ decimal num ∷ codes " " ∷ decimal cap ∷ codes "\n" ∷ [])
@@ -200,7 +200,7 @@ denied_text names (denied.Demand at num cap) = demand_text at num cap
 denied_text names (denied.Units num cap) =
     joined (codes "denied units " ∷ decimal num ∷ codes " " ∷ decimal cap ∷ codes "\n" ∷ [])
 
--- the status is told by one line
+-- the status has at most one line
 abbrev pub HasOneLine : Status → Type 0
 HasOneLine (status.Differs n wanted found) = ⊥
 HasOneLine s = ⊤

@@ -1,4 +1,4 @@
--- The answer to a replay or a migration of a trace, where every file is told, nothing fails and memory is found.
+-- The answer to `replay` or `migrate`, where every file is known, nothing fails and memory doesn't run out.
 use Rattle.std.specs.Prelude.{ℕ, List, [], ◌∷◌, map, codes, decimal, Result, Ok, Err}
 use Rattle.dvs_base.specs.Checks.{and_then}
 use Rattle.dvs_base.specs.Outside.{Files}
@@ -27,7 +27,7 @@ use Rattle.rtdvs_top.specs.declared.status.TextFault.TheVariants as text
 use Rattle.rtdvs_top.specs.declared.status.Status.{Status}
 use Rattle.rtdvs_top.specs.declared.status.Status.TheVariants as status
 
--- the texts of the words
+-- what the words of `replay` or `migrate` name, as texts
 abbrev pub shown_trace : TraceWords → TracedOf
 shown_trace f = record { asked = f.asked; tasks = f.tasks.now; machine = f.machine.now; trace = f.trace.now }
 
@@ -35,7 +35,7 @@ shown_trace f = record { asked = f.asked; tasks = f.tasks.now; machine = f.machi
 abbrev pub task_names : List Task → List (List ℕ)
 task_names tasks = map (λ t. t.name) tasks
 
--- what version 2 of a trace tells of a task: its period, its first release and its declared worst case
+-- what version 2 of a trace says of a task: its period, its first release and its declared worst case
 abbrev pub task_line : Task → TaskLine
 task_line t = record { period = t.period; offset = t.offset; worst = t.worst }
 
@@ -43,7 +43,7 @@ task_line t = record { period = t.period; offset = t.offset; worst = t.worst }
 abbrev pub lines_of_tasks : List Task → List (List ℕ)
 lines_of_tasks tasks = task_lines (task_names tasks) (map task_line tasks)
 
--- a refusal of a trace file as a status; want of memory has its own
+-- a refusal of a trace file as a status; `NoMemory` is a status of its own
 abbrev pub trace_status : TraceFault → Status
 trace_status trace_fault.NoMemory = status.NoMemory
 trace_status e = status.Text (text.Trace e)
@@ -61,8 +61,8 @@ trace_of tasks bytes = trace_file Two (task_names tasks) (lines_of_tasks tasks) 
 abbrev pub trace_at : List Task → List ℕ → Files → Result TraceOf Status
 trace_at tasks name files = and_then (bytes_at file.Trace name files) (λ bytes. trace_from (trace_of tasks bytes))
 
--- the admitted plan and the trace, after the tasks: the machine, the trace, and the test of the scheduler that the trace
--- names
+-- the admitted plan and the trace, after the tasks were read: the machine, the trace, and the test of the scheduler
+-- that the trace names
 abbrev pub traced_of : TracedOf → List Task → Files → Result (Plan × TraceOf) Status
 traced_of r tasks files =
     and_then (machine_at r.machine files) (λ machine.
@@ -95,19 +95,19 @@ replayed_text t =
 abbrev pub migrated_text : Plan → TraceOf → List ℕ
 migrated_text p t = text_of (names p) (task_texts p) (record t { version = Two })
 
--- what is printed of a trace that is that of its schedule: by a replay its totals, by a migration its text in version 2
+-- what is printed for a trace that is that of its schedule: its totals by `replay`, its text in version 2 by `migrate`
 abbrev pub printed : TraceUse → Plan × TraceOf → Totals → List ℕ
 printed Replay x totals = replayed_text totals
 printed Migrate x totals = migrated_text x.0 x.1
 
--- what is answered of a trace of a plan: it is compared first
+-- the answer for a trace of a plan, which is compared first
 abbrev pub answer_of_traced : TraceUse → Plan × TraceOf → Result (List ℕ) Status
 answer_of_traced asked x = and_then (totals_at x) (λ totals. Ok (printed asked x totals))
 
--- the answer, after its tasks
+-- the answer of `replay` or `migrate`, after its tasks were read
 abbrev pub trace_after_tasks : TracedOf → List Task → Files → Result (List ℕ) Status
 trace_after_tasks r tasks files = and_then (traced_of r tasks files) (answer_of_traced r.asked)
 
--- the answer
+-- the answer of `replay` or `migrate`
 abbrev pub trace_answer : TracedOf → Files → Result (List ℕ) Status
 trace_answer r files = and_then (tasks_at r.tasks files) (λ tasks. trace_after_tasks r tasks files)

@@ -1,4 +1,4 @@
--- Why a replay or a migration ends before its comparison.
+-- Why `replay` or `migrate` ends before its comparison.
 use Rattle.std.specs.Prelude.{◌≡◌, ◌≤◌, Option, Some, Ok, IsOk, ⊤}
 use Rattle.std.specs.List.{AllByRecursion}
 use Rattle.dvs_base.specs.Outside.{Files, ShelfView}
@@ -16,7 +16,7 @@ use Rattle.rtdvs_top.specs.declared.status.FileKind.TheVariants as file
 use Rattle.rtdvs_top.specs.declared.status.Status.{Status}
 use Rattle.rtdvs_top.specs.declared.status.Status.TheVariants as status
 
--- why a load failed after the tasks: the machine first, and then the trace
+-- why a load of `replay` or `migrate` failed after the tasks: the machine first, and then the trace
 abbrev pub LaterTraceLoad : ShelfView → ShelfView → TracedOf → Status → Type 0
 LaterTraceLoad old new r (status.Load file.Tasks) = ⊥
 LaterTraceLoad old new r (status.Load file.Machine) = LoadFails old new 1 r.machine
@@ -26,13 +26,13 @@ LaterTraceLoad old new r (status.Load file.Deadlines) = ⊥
 LaterTraceLoad old new r (status.Load file.Requests) = ⊥
 LaterTraceLoad old new r s = ⊤
 
--- a load of the trace fails only after the machine was read, where the files are told
+-- a load of the trace fails only after the machine was read, where the files are known
 abbrev pub PassesTraced : Option Files → TracedOf → Status → Type 0
 PassesTraced (Some files) r (status.Load file.Trace) = IsOk (machine_at r.machine files)
-PassesTraced told r s = ⊤
+PassesTraced files r s = ⊤
 
--- the plan is of the trace's scheduler, which makes a pair with its governor; its number of ticks is within the limits; each
--- task that a note names is one of the plan; and the last note, and no other, ends the run
+-- the plan is of the trace's scheduler, which makes a pair with its governor; its number of ticks is within the limits;
+-- each task that a note names is one of the plan; and the last note, and no other, ends the run
 pub record IsComparable (p : Plan) (t : TraceOf) : Type 0 where
   pub scheduler : t.plan.scheduler ≡ p.scheduler
   pub pair : IsPair p.scheduler t.plan.governor

@@ -14,7 +14,7 @@ abbrev pub request_column_word : RequestColumn → List ℕ
 request_column_word request_column.Arrival = codes "arrival"
 request_column_word request_column.Units = codes "units"
 
--- a refusal of a row of a request file
+-- the line of a refused row of a request file
 abbrev pub at_request : ℕ → List (List ℕ) → List ℕ
 at_request row texts = joined (codes "requests: row " ∷ decimal row ∷ codes ": " ∷ texts)
 

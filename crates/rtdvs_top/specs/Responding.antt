@@ -20,8 +20,8 @@ use Rattle.rtdvs_top.specs.declared.status.Status.TheVariants as status
 pub record Responds (p : Plan) : Type 0 where
   pub no_offset : NoneOffset (offset p) (count p)
   pub each : AllRespond p
-  -- whatever the jobs demand within their worst cases, in the schedule under RM and none of every length each job that
-  -- is due has had exactly its demand by its deadline
+  -- for any demands of the jobs within their worst cases, in the schedule under RM and none of every length each job
+  -- that is due has had exactly its demand by its deadline
   pub deadlines : AlwaysMeets p
   -- each response is the least tick at which its task's first job is complete when all jobs have their worst cases
   pub least : AreLeast p (responses p)
@@ -33,7 +33,7 @@ FailsToRespond p (denied.Offset i) = IsFirstOffset (offset p) (count p) i
 FailsToRespond p (denied.Response i num cap) = IsFirstMiss p i num cap × (is_first_done p i (period p i) ≡ false)
 FailsToRespond p why = ⊥
 
--- a status that denies a plan tells why
+-- a status that denies a plan gives the cause
 abbrev pub DeniesBy : Plan → Status → Type 0
 DeniesBy p (status.NotAdmitted why) = FailsToRespond p why
 DeniesBy p s = ⊤
@@ -44,30 +44,30 @@ IsWritten status.Done = ⊤
 IsWritten status.Write = ⊤
 IsWritten s = ⊥
 
--- of told files, a test that is done is of the machine that its file means, and so is one that denies the tasks
+-- a test that is done or denies the tasks is of the machine that its file means, where the files are known
 abbrev pub IsTested : Option Files → ResponseOf → List Task → Status → Type 0
 IsTested (Some files) r tasks status.Done =
     (machine : Table) × (machine_at r.machine files ≡ Ok machine) × Responds (plan_of tasks machine Rm)
 IsTested (Some files) r tasks (status.NotAdmitted why) =
     (machine : Table) × (machine_at r.machine files ≡ Ok machine) × FailsToRespond (plan_of tasks machine Rm) why
-IsTested told r tasks s = ⊤
+IsTested files r tasks s = ⊤
 
--- what the files of a test mean
+-- the files of `response` mean these tasks and this machine
 pub record MeansPlan (r : ResponseOf) (files : Files) (tasks : List Task) (machine : Table) : Type 0 where
   pub tasks_are : tasks_at r.tasks files ≡ Ok tasks
   pub machine_is : machine_at r.machine files ≡ Ok machine
 
--- The exact test of told files, without a premise. One that is done is of the tasks and the machine that its files mean,
--- and so is one that denies the tasks.
+-- The exact test under RM, where its files are known, without a premise. A test that is done, or that denies the tasks,
+-- is of the tasks and the machine that its files mean.
 abbrev pub OfTest : Option Files → ResponseOf → Status → Type 0
 OfTest (Some files) r status.Done =
     (tasks : List Task) × (machine : Table) × MeansPlan r files tasks machine × Responds (plan_of tasks machine Rm)
 OfTest (Some files) r (status.NotAdmitted why) =
     (tasks : List Task) × (machine : Table) × MeansPlan r files tasks machine
     × FailsToRespond (plan_of tasks machine Rm) why
-OfTest told r s = ⊤
+OfTest files r s = ⊤
 
--- all tasks of a plan have responses, and the test is done; or it denies them, and some task has none
+-- all tasks of a plan have responses, and the test is done; or it denies the plan and gives the cause
 abbrev pub RespondsOrIsDenied : Plan → Status → Type 0
 RespondsOrIsDenied p s =
     ((s ≡ status.Done) × Responds p) ⊎ ((why : Denied) × (s ≡ status.NotAdmitted why) × FailsToRespond p why)

@@ -1,4 +1,4 @@
--- The answer of the exact test under RM, where every file is told, nothing fails and memory is found.
+-- The answer to `response`, where every file is known, nothing fails and memory doesn't run out.
 use Rattle.std.specs.Prelude.{ℕ, List, [], ◌∷◌, length, slice_index, codes, decimal, Result, Ok, Err}
 use Rattle.grid_fraction.specs.Numbers.{list_below}
 use Rattle.dvs_base.specs.Checks.{and_then}
@@ -19,17 +19,17 @@ use Rattle.rtdvs_top.specs.declared.status.Denied.TheVariants as denied
 use Rattle.rtdvs_top.specs.declared.status.Status.{Status}
 use Rattle.rtdvs_top.specs.declared.status.Status.TheVariants as status
 
--- the texts of the words
+-- what the words of `response` name, as texts
 abbrev pub shown_response : ResponseWords → ResponseOf
 shown_response w = record { tasks = w.tasks.now; machine = w.machine.now }
 
--- a refusal of the test as a status
+-- a refusal of the exact test under RM as a status
 abbrev pub response_status : ResponseFault → Status
 response_status (response_fault.Offset task) = status.NotAdmitted (denied.Offset task)
 response_status (response_fault.Misses task num cap) = status.NotAdmitted (denied.Response task num cap)
 response_status response_fault.NoMemory = status.NoMemory
 
--- what the test answers, with its refusal as a status
+-- what the exact test under RM answers, with its refusal as a status
 abbrev pub responses_from : Result (List ℕ) ResponseFault → Result (List ℕ) Status
 responses_from (Ok ticks) = Ok ticks
 responses_from (Err e) = Err (response_status e)
@@ -47,11 +47,11 @@ response_text tasks ticks i = line (codes "response" ∷ (task_at tasks i).name 
 abbrev pub responses_text : List Task → List ℕ → List ℕ
 responses_text tasks ticks = joined (list_below (length tasks) (response_text tasks ticks))
 
--- the answer, after the tasks
+-- the answer of `response`, after its tasks were read
 abbrev pub response_after_tasks : ResponseOf → List Task → Files → Result (List ℕ) Status
 response_after_tasks r tasks files =
     and_then (responses_at r tasks files) (λ ticks. Ok (responses_text tasks ticks))
 
--- the answer
+-- the answer of `response`
 abbrev pub response_answer : ResponseOf → Files → Result (List ℕ) Status
 response_answer r files = and_then (tasks_at r.tasks files) (λ tasks. response_after_tasks r tasks files)

@@ -1,4 +1,4 @@
--- What a status shows by itself, whatever the outside tells.
+-- What a status shows by itself, for any shelf and any sink.
 use Rattle.std.specs.Prelude.{◌<◌, ◌≢◌, ⊤}
 use Rattle.task_model.specs.declared.fault.TaskFault.TheVariants as task_fault
 use Rattle.freq_table.specs.declared.fault.MachineFault.TheVariants as machine_fault
@@ -23,7 +23,7 @@ IsShownDenial (denied.Response task num cap) = cap < num
 IsShownDenial (denied.Demand at num cap) = cap < num
 IsShownDenial (denied.Units num cap) = cap < num
 
--- a refusal of a file is none of those that are a status of their own: want of memory, and a demand over its worst case
+-- a refusal of a file is none of those that are statuses of their own: `NoMemory`, and a demand over its worst case
 abbrev pub IsShownText : TextFault → Type 0
 IsShownText (text.Tasks task_fault.NoMemory) = ⊥
 IsShownText (text.Machine machine_fault.NoMemory) = ⊥
@@ -34,7 +34,7 @@ IsShownText (text.Deadlines deadline_fault.NoMemory) = ⊥
 IsShownText (text.Requests request_fault.NoMemory) = ⊥
 IsShownText why = ⊤
 
--- the numbers of a status are such that they are its cause
+-- the numbers and the notes of a status show its cause
 abbrev pub IsShown : Status → Type 0
 IsShown (status.NotAdmitted why) = IsShownDenial why
 IsShown (status.Limit jobs) = MOST_JOBS < jobs

@@ -8,6 +8,6 @@ use Rattle.rtdvs_top.specs.declared.status.Status.{Status}
 
 -- what the test of a command proves, where it is one
 abbrev pub TestedIn : Option Files → CommandOf → Status → Type 0
-TestedIn told (response r) s = OfTest told r s
-TestedIn told (constrain r) s = OfConstrain told r s
-TestedIn told c s = ⊤
+TestedIn files (response r) s = OfTest files r s
+TestedIn files (constrain r) s = OfConstrain files r s
+TestedIn files c s = ⊤

@@ -6,7 +6,7 @@ use Rattle.words.specs.Table.{option_word}
 use Rattle.words.specs.declared.command.WordFault.{WordFault}
 use Rattle.words.specs.declared.command.WordFault.TheVariants as fault
 
--- the line that says this of the word at a place
+-- the line that says `what` of the word at a place
 abbrev pub at_word : ℕ → List ℕ → List ℕ → List ℕ
 at_word place what word = joined (codes "words: " ∷ decimal place ∷ codes ": " ∷ what ∷ word ∷ codes "\n" ∷ [])
 

@@ -1,4 +1,4 @@
--- Runs of made workloads under EDF, and their lines.
+-- Runs of generated workloads under EDF, and their lines.
 use Rattle.std.specs.Prelude.{ℕ, ◌*◌, List, [], ◌∷◌, ◌++◌, codes, decimal, flat_map}
 use Rattle.dvs_base.specs.declared.kind.Scheduler.TheVariants.{Edf}
 use Rattle.dvs_base.specs.declared.kind.GovernorKind.{GovernorKind}
@@ -14,23 +14,23 @@ use Rattle.sched_model.specs.Totals.{totals_of}
 use Rattle.workload.specs.Draws.{first_state, state_after}
 use Rattle.workload.specs.Workload.{made_tasks, made_machine, made_demands}
 
--- how many tasks a made workload has
+-- the number of tasks of a generated workload
 abbrev pub workload_tasks : ℕ
 workload_tasks = 32
 
--- how many ticks of it are run
+-- the number of ticks of each run of a generated workload
 abbrev pub workload_ticks : ℕ
 workload_ticks = 50000
 
--- the plan of so many made tasks under EDF
+-- the plan of n generated tasks under EDF
 abbrev pub workload_plan : ℕ → ℕ → Plan
 workload_plan seed n = plan_of (made_tasks (first_state seed) n) made_machine Edf
 
--- the demands of their jobs, drawn after the tasks
+-- the demands of the jobs of n generated tasks, drawn after the tasks
 abbrev pub workload_demands : ℕ → ℕ → DemandsOf
 workload_demands seed n = made_demands (made_tasks (first_state seed) n) (state_after (first_state seed) (2 * n))
 
--- what a run of a plan of so many ticks comes to under a governor
+-- the totals of a plan's run of `ticks` ticks under a governor
 abbrev pub run_totals : Plan → DemandsOf → ℕ → GovernorKind → Totals
 run_totals p d ticks g = totals_of (run_notes p g (demand_of p d.rows) ticks)
 

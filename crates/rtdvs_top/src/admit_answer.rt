@@ -1,4 +1,4 @@
-// The answer of an admission.
+// The answer of `admit`.
 ghost use Rattle.std.specs.Prelude.{IfOk, IfErr};
 ghost use Rattle.words.specs.Commands.{admit as admit_of};
 ghost use Rattle.rtdvs_top.specs.Asked.{shown_admit};
@@ -18,7 +18,7 @@ use sched_model::Admitted;
 use std::alloc::Global;
 use task_model::TaskSet;
 
-// The admitted plan of an admission, after its tasks.
+// The admitted plan of `admit`, after its tasks were read.
 fn load_admitted<S: Shelf>(
     alloc: Global,
     words: &AdmitWords<'_>,
@@ -37,7 +37,7 @@ fn load_admitted<S: Shelf>(
     Ok(plan)
 }
 
-// The answer of an admission, after its tasks.
+// The answer of `admit`, after its tasks were read.
 fn admit_tasks<S: Shelf, W: Sink>(
     alloc: Global,
     words: &AdmitWords<'_>,
@@ -58,7 +58,7 @@ fn admit_tasks<S: Shelf, W: Sink>(
     }
 }
 
-/// The answer of an admission, and the tasks where they were read.
+/// The answer of `admit`, and the tasks where they were read.
 pub(crate) fn answer_admit<S: Shelf, W: Sink>(
     alloc: Global,
     words: &AdmitWords<'_>,

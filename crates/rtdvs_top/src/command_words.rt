@@ -13,7 +13,7 @@ use crate::plan_words::{AdmitWords, ConstrainWords, PollWords, ResponseWords, Ru
 use crate::traced::TraceWords;
 use words::{Command, TraceUse};
 
-/// The words of a run.
+/// The words of a `run` command.
 pub(crate) fn run_words<'a>(command: &Command<'a>) -> RunWords<'a>
     requires { is_run (shown command.now) ≡ true }
     ensures { run (shown_run result) ≡ shown command.now }
@@ -42,7 +42,7 @@ pub(crate) fn run_words<'a>(command: &Command<'a>) -> RunWords<'a>
     }
 }
 
-/// The words of an admission.
+/// The words of an `admit` command.
 pub(crate) fn admit_words<'a>(command: &Command<'a>) -> AdmitWords<'a>
     requires { is_admit (shown command.now) ≡ true }
     ensures { admit (shown_admit result) ≡ shown command.now }
@@ -61,7 +61,7 @@ pub(crate) fn admit_words<'a>(command: &Command<'a>) -> AdmitWords<'a>
     }
 }
 
-/// The words of a replay or of a migration.
+/// The words of a `replay` or a `migrate` command.
 pub(crate) fn trace_words<'a>(command: &Command<'a>) -> TraceWords<'a>
     requires { is_traced (shown command.now) ≡ true }
     ensures { traced (shown_trace result) ≡ shown command.now }
@@ -91,7 +91,7 @@ pub(crate) fn trace_words<'a>(command: &Command<'a>) -> TraceWords<'a>
     }
 }
 
-/// The words of a test by response times.
+/// The words of a `response` command.
 pub(crate) fn response_words<'a>(command: &Command<'a>) -> ResponseWords<'a>
     requires { is_response (shown command.now) ≡ true }
     ensures { response (shown_response result) ≡ shown command.now }
@@ -102,7 +102,7 @@ pub(crate) fn response_words<'a>(command: &Command<'a>) -> ResponseWords<'a>
     }
 }
 
-/// The words of a test of deadlines below the periods.
+/// The words of a `constrain` command.
 pub(crate) fn constrain_words<'a>(command: &Command<'a>) -> ConstrainWords<'a>
     requires { is_constrain (shown command.now) ≡ true }
     ensures { constrain (shown_constrain result) ≡ shown command.now }
@@ -121,7 +121,7 @@ pub(crate) fn constrain_words<'a>(command: &Command<'a>) -> ConstrainWords<'a>
     }
 }
 
-/// The words of a polling.
+/// The words of a `poll` command.
 pub(crate) fn poll_words<'a>(command: &Command<'a>) -> PollWords<'a>
     requires { is_poll (shown command.now) ≡ true }
     ensures { poll (shown_poll result) ≡ shown command.now }
@@ -148,7 +148,7 @@ pub(crate) fn poll_words<'a>(command: &Command<'a>) -> PollWords<'a>
     }
 }
 
-/// The words of a least energy.
+/// The words of a `least` command.
 pub(crate) fn least_words<'a>(command: &Command<'a>) -> LeastWords<'a>
     requires { is_least (shown command.now) ≡ true }
     ensures { least (shown_least result) ≡ shown command.now }

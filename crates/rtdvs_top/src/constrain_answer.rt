@@ -1,4 +1,4 @@
-// The answer of the test of deadlines below the periods.
+// The answer of `constrain`, the test of deadlines below the periods.
 ghost use Rattle.std.specs.Prelude.{◌≡◌, ◌<◌, length, slice_index, IfOk, OnOk, IfErr, Ok};
 ghost use Rattle.dvs_base.specs.declared.kind.Scheduler.TheVariants.{Edf};
 ghost use Rattle.sched_model.specs.Plan.{plan_of};
@@ -104,7 +104,7 @@ fn lowest_line(
     }
 }
 
-// The line of the answer, after the tasks.
+// The line of the answer of `constrain`, after its tasks were read.
 fn load_constrained<S: Shelf>(
     alloc: Global,
     words: &ConstrainWords<'_>,
@@ -130,7 +130,7 @@ fn load_constrained<S: Shelf>(
     Ok(line)
 }
 
-// Puts the line, and tells how that ended.
+// Puts the line; the status is `Done`, or `Write` where the put failed.
 fn put_constrained<W: Sink>(line: &Line, out: &mut W) -> Status
     requires { 0 < length line.now }
     ensures ended { Ends (W.shows out.old) (W.shows out.new) (Ok line.now) result }
@@ -145,7 +145,7 @@ fn put_constrained<W: Sink>(line: &Line, out: &mut W) -> Status
     }
 }
 
-// The answer, after the tasks.
+// The answer of `constrain`, after its tasks were read.
 fn constrain_tasks<S: Shelf, W: Sink>(
     alloc: Global,
     words: &ConstrainWords<'_>,
@@ -168,7 +168,7 @@ fn constrain_tasks<S: Shelf, W: Sink>(
     }
 }
 
-/// The answer of the test of deadlines below the periods, and the tasks where they were read.
+/// The answer of `constrain`, and the tasks where they were read.
 pub(crate) fn answer_constrain<S: Shelf, W: Sink>(
     alloc: Global,
     words: &ConstrainWords<'_>,

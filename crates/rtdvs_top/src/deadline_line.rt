@@ -10,7 +10,7 @@ use dvs_base::{Line, Name, Part, Short, line_of};
 use edf_demand::DeadlineFault;
 use task_model::TaskSet;
 
-// The line that says this of a row.
+// The line that says `what` of a row of a deadline file.
 fn row_line(row: u64, what: &[u8]) -> Line
     requires { length what.now ≤ 32 }
     ensures { result ≡ at_deadline row (what.now ∷ []) }
@@ -61,7 +61,7 @@ fn repeated_line(row: u64, name: &Option<Name>) -> Line
     ])
 }
 
-/// The line of a deadline file's refusal, with the tasks' names. It takes no memory.
+/// The line of a deadline file's refusal, with the tasks' names. It allocates no memory.
 pub(crate) fn deadline_fault_line(why: &DeadlineFault, tasks: Option<&TaskSet>) -> Line
     ensures { result ≡ deadline_fault_text (names_of (option_copied tasks.entry)) why.now }
 {

@@ -1,4 +1,4 @@
-// The lines that tell where a trace differs from its schedule.
+// The lines that say where a trace differs from its schedule.
 ghost use Rattle.std.specs.Prelude.{◌≡◌, ◌≤◌, ◌<◌, ◌++◌, ◌∷◌, [], codes, length};
 ghost use Rattle.std.specs.Fmt.{decimal};
 ghost use Rattle.std.specs.Option.{option_copied};

@@ -1,4 +1,4 @@
-// The answer of a least energy.
+// The answer of `least`.
 ghost use Rattle.std.specs.Prelude.{◌≡◌, ◌<◌, ◌≤◌, length, Ok};
 ghost use Rattle.words.specs.Commands.{HasReadyTicks, least as least_of};
 ghost use Rattle.rtdvs_top.specs.LeastAnswer.{shown_least, corners_text, sign_word, prices_text, least_text, least_on, least_answer, LeastMetOn};
@@ -13,7 +13,7 @@ use energy_bound::{Least, Over, least_energy};
 use freq_table::Machine;
 use std::alloc::Global;
 
-/// What the words of a least energy name.
+/// What the words of `least` name.
 #[derive(Clone, Copy)]
 pub struct LeastWords<'a> {
     pub machine: &'a str,
@@ -67,7 +67,7 @@ fn prices_line(least: &Least) -> Line
     ])
 }
 
-// Puts the lines of a least energy.
+// Puts the two lines of `least`.
 fn put_least<W: Sink>(least: &Least, out: &mut W) -> Status
     ensures ended { Ends (W.shows out.old) (W.shows out.new) (Ok (least_text least.now)) result }
     ensures leaves { Leaves result out.old out.new }
@@ -82,7 +82,7 @@ fn put_least<W: Sink>(least: &Least, out: &mut W) -> Status
     }
 }
 
-// The answer on a machine.
+// The answer of `least` on a machine.
 fn bound_energy<W: Sink>(words: &LeastWords<'_>, machine: &Machine, out: &mut W) -> Status
     requires { HasReadyTicks (shown_least words.now) }
     ensures ended { Ends (W.shows out.old) (W.shows out.new)
@@ -98,7 +98,7 @@ fn bound_energy<W: Sink>(words: &LeastWords<'_>, machine: &Machine, out: &mut W)
     }
 }
 
-/// The answer of a least energy, whose one file is the machine's.
+/// The answer of `least`, whose one file is the machine's.
 pub(crate) fn answer_least<S: Shelf, W: Sink>(
     alloc: Global,
     words: &LeastWords<'_>,

@@ -1,8 +1,8 @@
 //! All that the program does: the words are read, files loaded and read, a task set admitted, and its run written.
 //!
-//! Callers may rely on `rtdvs` to answer exactly what `specs/Answer.antt` says for the words and the files, to say of
-//! each refusal why it came, and on every deadline of a run that it writes. That it puts line by line is tested, not
-//! proved.
+//! Callers may rely on `rtdvs` to answer exactly what `specs/CommandAnswer.antt` says for the words and the files, to
+//! give the cause of each refusal, and to meet every deadline of a run that it writes. That each put has one line is
+//! tested, not proved.
 #![tactic(auto)]
 
 mod admit_answer;

@@ -1,4 +1,4 @@
-// The lines of a made workload.
+// The lines of a generated workload.
 ghost use Rattle.std.specs.Prelude.{◌≡◌, ◌<◌, ◌++◌, length, Ok};
 ghost use Rattle.rtdvs_top.specs.WorkloadLines.{head_text, totals_text, workload_text};
 ghost use Rattle.rtdvs_top.specs.EdfRuns.{AreTotalsOf, IsSmall, edf_text};
@@ -15,10 +15,10 @@ use dvs_base::{
 };
 use std::alloc::Global;
 
-// How many tasks a made workload has.
+// The number of tasks of a generated workload.
 const TASKS: u32 = 32;
 
-// How many ticks of it are run.
+// The number of ticks of each run of a generated workload.
 const TICKS: u64 = 50000;
 
 // The first line: the seed, the tasks and the ticks.
@@ -37,7 +37,7 @@ fn head_line(made: Workload) -> Line
     ])
 }
 
-// The line of a governor: what a run under it comes to.
+// The line of a governor: the totals of a run under it.
 fn totals_line(governor: GovernorKind, totals: Totals) -> Line
     ensures text { result ≡ totals_text governor totals }
     ensures some { 0 < length result }
@@ -111,7 +111,7 @@ fn put_all<W: Sink>(head: &Line, totals: &EdfTotals, out: &mut W) -> Result<(), 
     }
 }
 
-// Puts the lines of a workload whose runs come to this.
+// Puts the lines of a workload whose runs have these totals.
 fn put_made<W: Sink>(made: Workload, totals: &EdfTotals, out: &mut W) -> Result<(), Failed>
     requires { AreTotalsOf made totals.now }
     ensures { WritesText (W.shows out.old) (W.shows out.new) (workload_text made.seed made.tasks made.ticks) result }
@@ -120,7 +120,7 @@ fn put_made<W: Sink>(made: Workload, totals: &EdfTotals, out: &mut W) -> Result<
     put_all(&head, totals, out)
 }
 
-// The lines of a workload, after its runs.
+// Runs a workload under each governor that serves EDF, and puts its lines.
 fn run_made<W: Sink>(alloc: Global, made: Workload, out: &mut W) -> Status
     requires { IsSmall made }
     ensures ended { Ends (W.shows out.old) (W.shows out.new)
@@ -138,7 +138,7 @@ fn run_made<W: Sink>(alloc: Global, made: Workload, out: &mut W) -> Status
     }
 }
 
-/// The answer of a made workload: its lines, after its runs.
+/// The answer of `workload`: the lines of a generated workload, after its runs.
 pub(crate) fn answer_workload<W: Sink>(alloc: Global, seed: u64, out: &mut W) -> Status
     ensures ended { Ends (W.shows out.old) (W.shows out.new) (workload_answer seed) result }
     ensures leaves { Leaves result out.old out.new }

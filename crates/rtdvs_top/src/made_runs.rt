@@ -1,4 +1,4 @@
-// The runs of made workloads.
+// The runs of generated workloads.
 ghost use Rattle.std.specs.Prelude.{◌≡◌, ◌≤◌, ⊤, IfOk};
 ghost use Rattle.sched_model.specs.States.{opening};
 ghost use Rattle.sched_model.specs.Totals.{totals_of};
@@ -21,7 +21,7 @@ use std::alloc::Global;
 use trace_text::write_note;
 use workload::make;
 
-/// A workload: the seed that it is made from, its number of tasks, and the ticks of each run.
+/// A workload: the seed that it is generated from, its number of tasks, and the ticks of each run.
 #[derive(Clone, Copy)]
 pub(crate) struct Workload {
     pub(crate) seed: u64,
@@ -29,13 +29,13 @@ pub(crate) struct Workload {
     pub(crate) ticks: u64,
 }
 
-// The admitted plan of the made tasks, and the demands of their jobs. It fails only where memory runs out.
+// The admitted plan of the generated tasks, and the demands of their jobs. It fails only where memory runs out.
 fn made_plan(alloc: Global, made: Workload) -> Result<(Admitted, Demands), NoMemory>
     requires { IsSmall made }
     ensures plan { IfOk result (λ x. x.0 ≡ workload_plan made.seed made.tasks) }
     ensures demands { IfOk result (λ x. x.1 ≡ workload_demands made.seed made.tasks) }
     ensures list { IfOk result (λ x. IsListOf x.0 x.1) }
-    // A kernel takes a run of it.
+    // The kernel's limit on jobs isn't exceeded.
     ensures jobs { IfOk result (λ x. released_jobs x.0 made.ticks ≤ MOST_JOBS) }
 {
     let (set, machine, demands) = make(alloc, made.seed, made.tasks)?;
@@ -69,7 +69,7 @@ impl<'a> Listener for VoidWriter<'a> {
     }
 }
 
-// Tells the notes of a run to nobody.
+// Runs a kernel, puts the lines of its notes into a sink that keeps nothing, and returns the totals.
 fn drive_away<G: Governor>(kernel: Kernel<'_, G>, names: &[Name]) -> Totals
     ensures { result ≡ totals_of (notes_of_run G.demand kernel.entry) }
 {
@@ -82,7 +82,7 @@ fn drive_away<G: Governor>(kernel: Kernel<'_, G>, names: &[Name]) -> Totals
     told.unwrap()
 }
 
-// What a run comes to under a governor that stands for the opening of its plan.
+// The totals of a run under a governor that stands for the opening of its plan.
 fn totals_from_opening<G: Governor>(
     alloc: Global,
     run: &PlannedRun<'_>,
@@ -100,7 +100,7 @@ fn totals_from_opening<G: Governor>(
     }
 }
 
-// What a run comes to under a governor of this type.
+// The totals of a run under governor `G`.
 fn governed_totals<G: Publishing>(alloc: Global, run: &PlannedRun<'_>) -> Result<Totals, NoMemory>
     requires run { IsRunnable (planned run.now) }
     requires serves { G.serves run.now.plan.now.scheduler }
@@ -115,7 +115,7 @@ fn governed_totals<G: Publishing>(alloc: Global, run: &PlannedRun<'_>) -> Result
     }
 }
 
-/// What the runs under the governors that serve EDF come to.
+/// The totals of the runs under each governor that serves EDF.
 #[derive(Clone, Copy)]
 pub(crate) struct EdfTotals {
     pub(crate) full: Totals,
@@ -124,7 +124,7 @@ pub(crate) struct EdfTotals {
     pub(crate) ahead: Totals,
 }
 
-// What the runs of a plan under EDF come to. It fails only where memory runs out.
+// The totals of a plan's runs under EDF. It fails only where memory runs out.
 fn edf_totals(alloc: Global, run: &PlannedRun<'_>) -> Result<EdfTotals, NoMemory>
     requires run { IsRunnable (planned run.now) }
     requires edf { run.now.plan.now.scheduler ≡ Scheduler.Edf }
@@ -143,7 +143,7 @@ fn edf_totals(alloc: Global, run: &PlannedRun<'_>) -> Result<EdfTotals, NoMemory
     })
 }
 
-/// What the runs of a workload come to. It fails only where memory runs out.
+/// The totals of the runs of a workload. It fails only where memory runs out.
 pub(crate) fn made_totals(alloc: Global, made: Workload) -> Result<EdfTotals, NoMemory>
     requires { IsSmall made }
     ensures { IfOk result (AreTotalsOf made) }

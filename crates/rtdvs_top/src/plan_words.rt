@@ -1,7 +1,7 @@
 // What the words of a command on files name.
 use dvs_base::{GovernorKind, Scheduler, Version};
 
-/// What the words of a run name.
+/// What the words of `run` name.
 #[derive(Clone, Copy)]
 pub struct RunWords<'a> {
     pub tasks: &'a str,
@@ -14,14 +14,14 @@ pub struct RunWords<'a> {
     pub version: Version,
 }
 
-/// What the words of the exact test under RM name.
+/// What the words of `response` name.
 #[derive(Clone, Copy)]
 pub struct ResponseWords<'a> {
     pub tasks: &'a str,
     pub machine: &'a str,
 }
 
-/// What the words of a test of deadlines below the periods name.
+/// What the words of `constrain` name.
 #[derive(Clone, Copy)]
 pub struct ConstrainWords<'a> {
     pub tasks: &'a str,
@@ -29,7 +29,7 @@ pub struct ConstrainWords<'a> {
     pub deadlines: &'a str,
 }
 
-/// What the words of an admission name.
+/// What the words of `admit` name.
 #[derive(Clone, Copy)]
 pub struct AdmitWords<'a> {
     pub tasks: &'a str,
@@ -37,7 +37,7 @@ pub struct AdmitWords<'a> {
     pub scheduler: Scheduler,
 }
 
-/// What the words of a polling name.
+/// What the words of `poll` name.
 #[derive(Clone, Copy)]
 pub struct PollWords<'a> {
     pub tasks: &'a str,

@@ -1,4 +1,4 @@
-// The answer of a polling.
+// The answer of `poll`.
 ghost use Rattle.std.specs.Prelude.{◌≡◌, ◌<◌, ◌≤◌, length, IfOk, if◌then◌else◌};
 ghost use Rattle.poll_server.specs.Serving.{request_count};
 ghost use Rattle.words.specs.Commands.{IsReadyCommand, poll as poll_of};
@@ -21,8 +21,8 @@ use poll_server::{Outcome, Served};
 use std::alloc::Global;
 use task_model::TaskSet;
 
-// The line of a request: its number from 1, its arrival and its units; and where it is served, by which job and at which
-// position.
+// The line of a request: its number from 1, its arrival and its units; and where it is served, by which job and at
+// which position.
 fn outcome_line(polling: &Polling, m: u32, outcome: Outcome) -> Line
     requires { m < request_count polling.now }
     ensures text { result ≡ outcome_text polling.now m outcome }
@@ -57,7 +57,7 @@ fn outcome_line(polling: &Polling, m: u32, outcome: Outcome) -> Line
     }
 }
 
-// The last line: how many requests are served, and the energies of running and of idling.
+// The last line: the number of requests that are served, and the energies of running and of idling.
 fn last_line(served: u64, totals: Totals) -> Line
     ensures text { result ≡ polled_line served totals }
     ensures some { 0 < length result }
@@ -73,7 +73,7 @@ fn last_line(served: u64, totals: Totals) -> Line
     ])
 }
 
-// One for a request that is served.
+// 1 for a request that is served, and 0 for one that is pending.
 fn one_if_served(outcome: Outcome) -> u64
     ensures { result ≡ (if is_served outcome then 1 else 0) }
 {
@@ -83,7 +83,7 @@ fn one_if_served(outcome: Outcome) -> u64
     }
 }
 
-// Puts the lines of the requests, and gives how many are served. After the first put that fails no more is put.
+// Puts the lines of the requests, and returns how many are served. After the first put that fails no more is put.
 fn put_requests<W: Sink>(polling: &Polling, served: &Served, out: &mut W) -> Result<u64, Failed>
     requires { length served.now.outcomes ≡ request_count polling.now }
     ensures wrote { WritesText (W.shows out.old) (W.shows out.new)
@@ -102,7 +102,7 @@ fn put_requests<W: Sink>(polling: &Polling, served: &Served, out: &mut W) -> Res
     Ok(count)
 }
 
-// Puts the lines of a polling.
+// Puts the lines of a `poll` run.
 fn put_polled<W: Sink>(polling: &Polling, served: &Served, out: &mut W) -> Result<(), Failed>
     requires { length served.now.outcomes ≡ request_count polling.now }
     ensures { WritesText (W.shows out.old) (W.shows out.new) (polled_text polling.now served.now) result }
@@ -119,7 +119,7 @@ fn put_polled<W: Sink>(polling: &Polling, served: &Served, out: &mut W) -> Resul
     }
 }
 
-// Runs a polling, and puts its lines.
+// Runs a polling server's plan, and puts the lines of the run.
 fn poll_loaded<W: Sink>(
     alloc: Global,
     polling: &Polling,
@@ -143,7 +143,7 @@ fn poll_loaded<W: Sink>(
     }
 }
 
-// The answer of a polling, after its tasks.
+// The answer of `poll`, after its tasks were read.
 fn poll_tasks<S: Shelf, W: Sink>(
     alloc: Global,
     words: &PollWords<'_>,
@@ -167,7 +167,7 @@ fn poll_tasks<S: Shelf, W: Sink>(
     }
 }
 
-/// The answer of a polling, and the tasks where they were read.
+/// The answer of `poll`, and the tasks where they were read.
 pub(crate) fn answer_poll<S: Shelf, W: Sink>(
     alloc: Global,
     words: &PollWords<'_>,

@@ -1,4 +1,4 @@
-// The server of a polling: its files loaded, and its run.
+// The server of a `poll` run: its files loaded, and its run.
 ghost use Rattle.std.specs.Prelude.{◌≡◌, ◌≤◌, Ok, IfOk, IfErr};
 ghost use Rattle.dvs_base.specs.declared.limits.TheConstants.{MOST_JOBS};
 ghost use Rattle.sched_model.specs.Jobs.{released_jobs};
@@ -22,7 +22,7 @@ use std::alloc::Global;
 use std::marker::Model;
 use task_model::TaskSet;
 
-/// A server that polls: a task of an admitted plan, and the requests that it serves.
+/// A polling server: a task of an admitted plan, and the requests that it serves.
 #[derive(Drop)]
 pub(crate) struct Polling {
     pub(crate) plan: Admitted,
@@ -40,7 +40,7 @@ impl Model for Polling {
     ghost invariant = { λ p. Unit {0} };
 }
 
-// The task of this name.
+// The place of the task of this name in the file, from 0.
 fn find_server(name: &str, tasks: &TaskSet) -> Result<u32, Status>
     ensures server { IfOk result (λ i. server_at name.now tasks.now ≡ Ok i) }
     ensures refused { IfErr result (EndsWith (server_at name.now tasks.now)) }
@@ -81,7 +81,7 @@ fn load_requests<S: Shelf>(alloc: Global, name: &str, shelf: &mut S) -> Result<R
     }
 }
 
-/// The server of a polling, after its tasks.
+/// The server of a `poll` run, after its tasks were read.
 pub(crate) fn load_polling<S: Shelf>(
     alloc: Global,
     words: &PollWords<'_>,
@@ -108,7 +108,7 @@ pub(crate) fn load_polling<S: Shelf>(
     })
 }
 
-// What a polling comes to under a governor of this type.
+// The outcomes of the requests and the totals of a `poll` run under governor `G`.
 fn serve_governed<G: Publishing>(
     alloc: Global,
     polling: &Polling,
@@ -142,7 +142,7 @@ fn serve_governed<G: Publishing>(
     }
 }
 
-/// What a polling comes to under the governor of its pair.
+/// The outcomes of the requests and the totals of a `poll` run under the governor of its pair.
 pub(crate) fn serve_pair(
     alloc: Global,
     polling: &Polling,

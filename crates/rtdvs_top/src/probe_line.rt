@@ -45,7 +45,7 @@ fn shown_at<P: Probe>(place: u64, probe: &P) -> Counted
     }
 }
 
-// The line of a probe, which shows its task as this.
+// The line of a probe, with `task` in the place of the task that it counts for.
 fn counted_line(probe: Counted, task: Part<'_>) -> Line
     requires { most_bytes task ≤ 32 }
     ensures { result ≡ counted_text probe.place (probe_of probe) (part_text task.entry) }

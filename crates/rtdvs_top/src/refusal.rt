@@ -217,7 +217,7 @@ fn machine_fault_line(why: &MachineFault) -> Line
     }
 }
 
-// The name of a task of the set, where there is one.
+// The name of a task of the set, where the set has this task.
 pub(crate) fn name_at(tasks: Option<&TaskSet>, task: u32) -> Option<Name>
     ensures { name_text result ≡ name_of (names_of (option_copied tasks.entry)) task }
 {
@@ -390,7 +390,7 @@ fn text_fault_line(why: &TextFault, tasks: Option<&TaskSet>) -> Line
     }
 }
 
-// A line of what is said of a task, and two numbers.
+// The line that says `what` of a task, with two numbers.
 fn numbers_line<'a>(what: &'a [u8], name: &'a Option<Name>, num: u128, cap: u128) -> Line
     requires { length what.now ≤ 20 }
     ensures { result ≡ numbers_text what.now (name_text name.now) num cap }
@@ -406,7 +406,7 @@ fn numbers_line<'a>(what: &'a [u8], name: &'a Option<Name>, num: u128, cap: u128
     ])
 }
 
-// The line of a task with an offset.
+// The line of a denial for a task with an offset.
 fn offset_line(name: &Option<Name>) -> Line
     ensures { result ≡ joined (codes "denied offset " ∷ name_text name.now ∷ codes "\n" ∷ []) }
 {
@@ -417,7 +417,7 @@ fn offset_line(name: &Option<Name>) -> Line
     ])
 }
 
-// The line of too much work due.
+// The line of a denial for too much work due.
 fn demand_line(at: u64, num: u128, cap: u128) -> Line
     ensures { result ≡ demand_text at num cap }
 {
@@ -461,7 +461,7 @@ fn denied_line(why: &Denied, tasks: Option<&TaskSet>) -> Line
     }
 }
 
-/// The line of a status that has one, with the names of the tasks where they were read. It takes no memory.
+/// The line of a status that has at most one, with the names of the tasks where they were read. It allocates no memory.
 pub(crate) fn status_line(status: &Status, tasks: Option<&TaskSet>) -> Line
     requires { HasOneLine status.now }
     ensures { result ≡ status_text (names_of (option_copied tasks.entry)) status.now }

@@ -17,7 +17,7 @@ fn request_column_word(column: RequestColumn) -> &'static [u8]
     }
 }
 
-// The line that says this of a row.
+// The line that says `what` of a row of a request file.
 fn row_line(row: u64, what: &[u8]) -> Line
     requires { length what.now ≤ 32 }
     ensures { result ≡ at_request row (what.now ∷ []) }
@@ -55,7 +55,7 @@ fn bad_number_line(row: u64, column: RequestColumn) -> Line
     ])
 }
 
-/// The line of a request file's refusal. It takes no memory.
+/// The line of a request file's refusal. It allocates no memory.
 pub(crate) fn request_fault_line(why: &RequestFault) -> Line
     ensures { result ≡ request_fault_text why.now }
 {
@@ -75,7 +75,7 @@ pub(crate) fn request_fault_line(why: &RequestFault) -> Line
     }
 }
 
-/// The line of a name that no task has. It takes no memory.
+/// The line of a name that no task has. It allocates no memory.
 pub(crate) fn no_task_line(name: &Short) -> Line
     ensures { result ≡ no_task_text name.now }
 {

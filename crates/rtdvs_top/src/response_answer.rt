@@ -1,4 +1,4 @@
-// The answer of the exact test under RM.
+// The answer of `response`, the exact test under RM.
 ghost use Rattle.std.specs.Prelude.{◌≡◌, ◌<◌, length, IfOk, OnOk, IfErr, Ok};
 ghost use Rattle.sched_model.specs.Plan.{plan_of};
 ghost use Rattle.words.specs.Commands.{response as response_of};
@@ -46,7 +46,7 @@ fn respond(alloc: Global, tasks: &TaskSet, machine: &Machine) -> Result<Response
     }
 }
 
-// The responses, after the tasks.
+// The responses of the tasks on the machine of `response`, which is loaded.
 fn load_responses<S: Shelf>(
     alloc: Global,
     words: &ResponseWords<'_>,
@@ -69,7 +69,7 @@ fn load_responses<S: Shelf>(
     Ok(response)
 }
 
-// The line of a task.
+// The line of a task: its name, and its response in ticks.
 fn response_line(tasks: &TaskSet, response: &Response, i: u32) -> Line
     requires task { i < length tasks.now }
     requires one_each { length response.now ≡ length tasks.now }
@@ -100,7 +100,7 @@ fn put_responses<W: Sink>(tasks: &TaskSet, response: &Response, out: &mut W) -> 
     Ok(())
 }
 
-// Puts the lines of all tasks, and tells how that ended.
+// Puts the lines of all tasks; the status is `Done`, or `Write` where a put failed.
 fn answer_with<W: Sink>(tasks: &TaskSet, response: &Response, out: &mut W) -> Status
     requires { length response.now ≡ length tasks.now }
     ensures ended { Ends (W.shows out.old) (W.shows out.new) (Ok (responses_text tasks.now response.now)) result }
@@ -115,7 +115,7 @@ fn answer_with<W: Sink>(tasks: &TaskSet, response: &Response, out: &mut W) -> St
     }
 }
 
-// The answer, after the tasks.
+// The answer of `response`, after its tasks were read.
 fn respond_tasks<S: Shelf, W: Sink>(
     alloc: Global,
     words: &ResponseWords<'_>,
@@ -137,7 +137,7 @@ fn respond_tasks<S: Shelf, W: Sink>(
     }
 }
 
-/// The answer of the exact test under RM, and the tasks where they were read.
+/// The answer of `response`, and the tasks where they were read.
 pub(crate) fn answer_response<S: Shelf, W: Sink>(
     alloc: Global,
     words: &ResponseWords<'_>,

@@ -55,7 +55,7 @@ fn admit_rm(alloc: Global, tasks: &TaskSet, machine: &Machine) -> Result<Admitte
     }
 }
 
-/// The plan, where its scheduler's test passes.
+/// The plan, where its scheduler's test passes, else the denial.
 pub(crate) fn admit(
     alloc: Global,
     scheduler: Scheduler,
@@ -90,7 +90,7 @@ pub(crate) struct WrittenRun<'a> {
     pub(crate) probes: bool,
 }
 
-// The trace of a run under a governor of this type.
+// Writes the trace of a run under governor `G`.
 fn run_governed<G: Publishing, W: Sink, P: Probe>(
     alloc: Global,
     written: &WrittenRun<'_>,
@@ -126,7 +126,7 @@ fn run_governed<G: Publishing, W: Sink, P: Probe>(
     }
 }
 
-// The trace of a run under the governor of a pair.
+// Writes the trace of a run under the governor of a pair.
 fn run_pair<W: Sink, P: Probe>(
     alloc: Global,
     written: &WrittenRun<'_>,
@@ -157,8 +157,8 @@ fn run_pair<W: Sink, P: Probe>(
     )
 }
 
-/// The trace of a run of an admitted plan. The probes are told its notes where they are asked for, and left as they are
-/// where they aren't.
+/// Writes the trace of a run of an admitted plan. The probes are told its notes where they are asked for, and else left
+/// as they are.
 pub(crate) fn run_plan<W: Sink, P: Probe>(
     alloc: Global,
     written: &WrittenRun<'_>,
@@ -185,7 +185,7 @@ pub(crate) fn run_plan<W: Sink, P: Probe>(
     run_pair(alloc, written, governor, out, &mut none)
 }
 
-/// The line of an admission.
+/// Puts the line of an admission.
 pub(crate) fn put_admitted<W: Sink>(plan: &Admitted, out: &mut W) -> Status
     ensures ended { Ends (W.shows out.old) (W.shows out.new) (Ok (admitted_text plan.now)) result }
     ensures leaves { Leaves result out.old out.new }

@@ -1,4 +1,4 @@
-// The answer of a run.
+// The answer of `run`.
 ghost use Rattle.std.specs.Prelude.{◌≡◌, ◌+◌, map, IfOk, IfErr};
 ghost use Rattle.words.specs.Commands.{IsReady, run as run_of};
 ghost use Rattle.rtdvs_top.specs.Asked.{shown_run, IsReadyRun};
@@ -21,14 +21,14 @@ use sched_model::Admitted;
 use std::alloc::Global;
 use task_model::TaskSet;
 
-// The words of a run, and the tasks that were read for it.
+// The words of a `run` command, and the tasks that were read for it.
 #[derive(Clone, Copy)]
 struct TaskedRun<'a> {
     words: &'a RunWords<'a>,
     tasks: &'a TaskSet,
 }
 
-// The admitted plan and the demands of a run, after its tasks.
+// The admitted plan and the demands of `run`, after its tasks were read.
 fn prepare<S: Shelf>(
     alloc: Global,
     run: &TaskedRun<'_>,
@@ -56,7 +56,7 @@ fn prepare<S: Shelf>(
     Ok((plan, demands))
 }
 
-// The answer of a run, after its tasks.
+// The answer of `run`, after its tasks were read.
 fn run_tasks<S: Shelf, W: Sink, P: Probe>(
     alloc: Global,
     run: &TaskedRun<'_>,
@@ -97,7 +97,7 @@ fn run_tasks<S: Shelf, W: Sink, P: Probe>(
     }
 }
 
-/// The answer of a run, and the tasks where they were read. The probes are told the run's notes where the words ask for
+/// The answer of `run`, and the tasks where they were read. The probes are told the run's notes where the words ask for
 /// them.
 pub(crate) fn answer_run<S: Shelf, W: Sink, P: Probe>(
     alloc: Global,

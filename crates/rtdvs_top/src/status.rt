@@ -11,7 +11,7 @@ use task_model::TaskFault;
 use trace_reader::TraceFault;
 use words::WordFault;
 
-/// The files that words name.
+/// A file that the words name.
 #[derive(Clone, Copy, Debug, PartialEq, Eq)]
 pub enum FileKind {
     /// The file of tasks.
@@ -31,19 +31,19 @@ pub enum FileKind {
 /// Why a file that was loaded is refused.
 #[derive(Clone, Copy, Debug, PartialEq, Eq)]
 pub enum TextFault {
-    /// It is longer than `LONGEST_FILE` bytes, or a trace than `LONGEST_TRACE`.
+    /// The file is longer than `LONGEST_FILE` bytes, or the trace than `LONGEST_TRACE`.
     TooLong { file: FileKind },
-    /// The tasks are refused, and not for want of memory.
+    /// The tasks are refused; `NoMemory` is a status of its own.
     Tasks(TaskFault),
-    /// The machine is refused, and not for want of memory.
+    /// The machine is refused; `NoMemory` is a status of its own.
     Machine(MachineFault),
-    /// The demands are refused, for neither want of memory nor a demand over its worst case.
+    /// The demands are refused; `NoMemory` and `OverWorst` are statuses of their own.
     Demands(DemandFault),
-    /// The trace is refused, and not for want of memory.
+    /// The trace is refused; `NoMemory` is a status of its own.
     Trace(TraceFault),
-    /// The relative deadlines are refused, and not for want of memory.
+    /// The relative deadlines are refused; `NoMemory` is a status of its own.
     Deadlines(DeadlineFault),
-    /// The requests are refused, and not for want of memory.
+    /// The requests are refused; `NoMemory` is a status of its own.
     Requests(RequestFault),
     /// No task has the name of the server.
     Server { name: Short },
@@ -57,15 +57,15 @@ pub enum Denied {
     /// The first task in RM order whose level asks for more work in its period than the highest speed does in it
     /// (Pillai and Shin 2001).
     Rm { task: u32, num: u128, cap: u128 },
-    /// The first task in file order that is first released after tick 0; tests by first jobs serve no such set. Tasks count
-    /// from 0.
+    /// The first task in file order that is first released after tick 0; tests by first jobs don't serve such a set.
+    /// Tasks count from 0.
     Offset { task: u32 },
     /// The first task in RM order without a response: in its period the work that its level asks for is more than what
     /// the highest speed does in it (Joseph and Pandya 1986).
     Response { task: u32, num: u128, cap: u128 },
     /// The work due within `at` ticks, and what the highest speed does in them (Baruah, Rosier and Howell 1990).
     Demand { at: u64, num: u128, cap: u128 },
-    /// The units whose least energy is asked for, and what the highest speed does in the ticks.
+    /// The units whose minimum energy is asked for, and what the highest speed does in the ticks.
     Units { num: u128, cap: u128 },
 }
 
@@ -76,7 +76,7 @@ pub enum Status {
     Done,
     /// A test fails, or more units are asked for than the highest speed does in the ticks.
     NotAdmitted(Denied),
-    /// The words aren't those of a command: their first trouble, from left to right.
+    /// The words aren't those of a command: their first error, from left to right.
     Words(WordFault),
     /// A file can't be loaded.
     Load {
@@ -84,18 +84,19 @@ pub enum Status {
     },
     /// A file is refused.
     Text(TextFault),
-    /// So many jobs would be released, and the limit is `MOST_JOBS`.
+    /// `jobs` jobs would be released, and the limit is `MOST_JOBS`.
     Limit {
         jobs: u64,
     },
-    /// A demand exceeds the declared worst case of its task, in work units.
+    /// The units of a demand exceed its task's declared worst case, or those of a trace's `done` line the worst case
+    /// with the charge.
     OverWorst {
         task: u32,
         job: u64,
         units: u64,
         worst: u64,
     },
-    /// On this line of a trace, counted from 1, the schedule has the note `wanted`, and the trace the note `found`.
+    /// On line `line` of a trace, from 1, the schedule has the note `wanted`, and the trace has the note `found`.
     Differs {
         line: u64,
         wanted: Note,

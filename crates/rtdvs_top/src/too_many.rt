@@ -1,10 +1,10 @@
-// The line of too many things.
+// The line that there are too many things.
 ghost use Rattle.std.specs.Prelude.{◌≡◌, ◌≤◌, length};
 ghost use Rattle.rtdvs_top.specs.TooMany.{too_many_text};
 
 use dvs_base::{Line, Part, line_of};
 
-/// The line of too many things: of what they are, how many, what they are called, and how many there may be.
+/// The line that there are too many things: where they are, how many, what they are called, and how many there may be.
 pub(crate) fn too_many_line<'a>(of: &'a [u8], count: u64, things: &'a [u8], most: u64) -> Line
     requires of { length of.now ≤ 10 }
     requires things { length things.now ≤ 10 }

@@ -39,7 +39,7 @@ use std::alloc::Global;
 use task_model::TaskSet;
 use words::{Command, read_words};
 
-// Notes a status. A fault of the notes changes nothing else.
+// Puts the lines of a status to `notes`. A fault of `notes` changes nothing else.
 fn note_status<E: Sink>(status: &Status, tasks: Option<&TaskSet>, notes: &mut E)
     ensures { NotedAs (E.shows notes.old) (E.shows notes.new)
         (status_text (names_of (option_copied tasks.entry)) status.now) }
@@ -75,7 +75,7 @@ fn asks_probes(command: &Command<'_>) -> bool
     }
 }
 
-// Notes how a command ended: the lines of the probes where they are told, and else the line of its status.
+// Puts to `notes` how a command ended: the probes' lines if they were told and it is done, else those of its status.
 fn note_end<E: Sink, P: Probe>(
     told: bool,
     status: &Status,
@@ -123,17 +123,17 @@ fn answer_command<S: Shelf, W: Sink, P: Probe>(
     }
 }
 
-/// Does what the words ask for: runs a plan and writes its trace, tells whether a task set is admitted, writes what the
-/// runs of a made workload come to, tells whether a trace is that of the run that it tells, or writes it in version 2,
-/// tells the responses of a task set under RM, the lowest speed for deadlines below the periods under EDF, when a server
-/// serves requests, or the least energy for some units in some ticks with its certificate.
+/// Does what the words ask for: writes the trace of a run, decides whether a task set is admitted, writes the totals of
+/// a generated workload's runs, decides whether a trace is that of the run that it describes, or writes it in version
+/// 2, writes the responses of a task set under RM, the lowest speed for deadlines below the periods under EDF, when a
+/// server serves requests, or the minimum energy for some units in some ticks with its certificate.
 ///
-/// The answer goes to `out`, and the line of a refusal to `notes`; both one put a line, which is tested, not proved. After
-/// a run with `--probes` that is done, the line of each probe that is left goes to `notes`; after the first put that fails
-/// no more is put there.
-/// Files are loaded from `shelf` in the order tasks, machine, and then demands, trace, deadlines or requests, each before
-/// it is read; a least energy loads the machine alone. `NoMemory` may come at any step before the first byte of `out`, and
-/// never after it; a fault of `notes` changes no status.
+/// The answer goes to `out`, and the line of a refusal to `notes`. Each put has one line; this is tested, not proved.
+/// After a run with `--probes` that is done, the line of each probe that is left goes to `notes`; after the first put
+/// that fails no more is put there.
+/// Files are loaded from `shelf` in the order tasks, machine, and then demands, trace, deadlines or requests, each
+/// before it is read; `least` loads the machine alone. `NoMemory` may come at any step before the first byte of `out`,
+/// and never after it; a fault of `notes` changes no status.
 pub fn rtdvs<S: Shelf, W: Sink, E: Sink>(
     alloc: Global,
     words: &[String],
@@ -163,7 +163,7 @@ pub fn rtdvs<S: Shelf, W: Sink, E: Sink>(
         (W.shows out.old) (W.shows out.new) }
     ensures leaves { Leaves result out.old out.new }
 
-    // admission, text, deadlines, speeds and energies of a run: where nothing failed, and of each run that ended so
+    // admission, text, deadlines, speeds and energies of a run: where nothing failed, and where it is done or denied
     ensures headline { Headline (files_told (S.shows shelf.old).held (asked words.now)) (asked words.now)
         (Rose (S.shows shelf.old).faults (S.shows shelf.new).faults) (W.shows out.old) (W.shows out.new) result }
     ensures run { OfRun (files_told (S.shows shelf.old).held (asked words.now)) (asked words.now)
@@ -174,17 +174,18 @@ pub fn rtdvs<S: Shelf, W: Sink, E: Sink>(
         (Rose (S.shows shelf.old).faults (S.shows shelf.new).faults)
         (Rose (W.shows out.old).faults (W.shows out.new).faults) result }
 
-    // the exact tests: what one that is done proves of every schedule, and one that denies of that of the worst cases
+    // the exact tests: what one that is done proves of every schedule, and what one that denies proves of the worst
+    // cases
     ensures tested { OfTests (files_told (S.shows shelf.old).held (asked words.now)) (asked words.now) result }
 
-    // what a polling that is done has kept
+    // what a `poll` run that is done has kept
     ensures polled { OfPoll (files_told (S.shows shelf.old).held (asked words.now)) (asked words.now) result }
 
-    // the least energy: a certificate that passes its check, and a bound on every choice and every schedule
+    // `least`: a certificate that passes its check, and a bound on every choice and every schedule
     ensures least { OfLeast (files_told (S.shows shelf.old).held (asked words.now)) (asked words.now)
         (W.shows out.old) (W.shows out.new) result }
 
-    // where the outside is sure, it doesn't fail
+    // what the shelf and the sink are sure of doesn't fail
     ensures sure { IsSureOf (files_told (S.shows shelf.old).held (asked words.now)) (asked words.now) (W.shows out.old)
         → (W.shows out.new).faults ≡ (W.shows out.old).faults }
     ensures loads { loads_asked (asked words.now) ≤ (S.shows shelf.old).sure

@@ -1,4 +1,4 @@
-// The answer of a replay or of a migration.
+// The answer of `replay` and of `migrate`.
 ghost use Rattle.std.specs.Prelude.{◌<◌, ◌≡◌, length, IsOk, Ok};
 ghost use Rattle.rtdvs_top.specs.ReplayAnswer.{shown_trace, totals_at, replayed_text, migrated_text, answer_of_traced, trace_after_tasks, trace_answer};
 ghost use Rattle.words.specs.Commands.{traced};
@@ -54,7 +54,7 @@ fn put_replayed<W: Sink>(totals: Totals, out: &mut W) -> Status
     }
 }
 
-// Puts the text of version 2 of a trace that was compared: the kernel writes the schedule for the demands that it fixes.
+// Puts the text in version 2 of a compared trace: the kernel writes the schedule for the demands that the trace fixes.
 fn put_migrated<W: Sink>(alloc: Global, plan: &Admitted, trace: &Trace, out: &mut W) -> Status
     requires trace { IsComparable plan.now trace.now }
     requires compared { IsOk (totals_at (plan.now, trace.now)) }
@@ -82,7 +82,7 @@ fn put_migrated<W: Sink>(alloc: Global, plan: &Admitted, trace: &Trace, out: &mu
     run_plan(alloc, &written, trace.plan.governor, out, &mut none)
 }
 
-// Compares a trace with its schedule, and then puts what is asked for of it.
+// Compares a trace with its schedule, and then puts its totals or its text in version 2, as `asked`.
 fn answer_traced<W: Sink>(
     alloc: Global,
     asked: TraceUse,
@@ -106,7 +106,7 @@ fn answer_traced<W: Sink>(
     }
 }
 
-// The answer, after its tasks.
+// The answer of `replay` or `migrate`, after its tasks were read.
 fn trace_tasks<S: Shelf, W: Sink>(
     alloc: Global,
     words: &TraceWords<'_>,
@@ -129,8 +129,8 @@ fn trace_tasks<S: Shelf, W: Sink>(
     }
 }
 
-/// The answer of a replay or of a migration, and the tasks where they were read. Nothing is put before the whole trace
-/// was compared.
+/// The answer of `replay` or `migrate`, and the tasks where they were read. Nothing is put before the whole trace was
+/// compared.
 pub(crate) fn answer_trace<S: Shelf, W: Sink>(
     alloc: Global,
     words: &TraceWords<'_>,

@@ -21,7 +21,7 @@ use task_model::TaskSet;
 use trace_reader::{TaskLine, Trace, TraceFault, read_any};
 use words::TraceUse;
 
-/// What the words of a replay or of a migration name, and which of the two they ask for.
+/// What the words of `replay` or `migrate` name, and which of the two they ask for.
 #[derive(Clone, Copy)]
 pub struct TraceWords<'a> {
     pub asked: TraceUse,
@@ -43,7 +43,7 @@ fn task_names(alloc: Global, tasks: &TaskSet) -> Result<Vec<Name>, NoMemory>
     Ok(names)
 }
 
-/// What version 2 of a trace tells of tasks.
+/// The task lines of version 2 of a trace, one for each task.
 pub(crate) fn task_lines(alloc: Global, tasks: &TaskSet) -> Result<Vec<TaskLine>, NoMemory>
     ensures { IfOk result (λ v. v.items ≡ map task_line tasks.now) }
 {
@@ -111,7 +111,7 @@ fn load_trace<S: Shelf>(
     }
 }
 
-/// The admitted plan and the trace, after the tasks.
+/// The admitted plan and the trace of `replay` or `migrate`, after its tasks were read.
 pub(crate) fn load_traced<S: Shelf>(
     alloc: Global,
     words: &TraceWords<'_>,
@@ -165,7 +165,7 @@ fn replay_status(why: ReplayFault) -> Status
     }
 }
 
-// The totals of a trace, compared with the schedule under a governor of this type.
+// The totals of a trace, compared with the schedule under governor `G`.
 fn compare_governed<G: Publishing>(
     alloc: Global,
     plan: &Admitted,

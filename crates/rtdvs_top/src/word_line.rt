@@ -5,7 +5,7 @@ ghost use Rattle.rtdvs_top.specs.WordLines.{at_word, word_fault_text};
 use dvs_base::{Line, Part, Short, line_of};
 use words::{WordFault, option_word};
 
-// The line that says this of the word at a place.
+// The line that says `what` of the word at `place`.
 fn word_line<'a>(place: u64, what: &'a [u8], word: &'a Short) -> Line
     requires { length what.now ≤ 40 }
     ensures { result ≡ at_word place what.now word.now }
@@ -20,7 +20,7 @@ fn word_line<'a>(place: u64, what: &'a [u8], word: &'a Short) -> Line
     ])
 }
 
-/// The line of refused words. It takes no memory.
+/// The line of refused words. It allocates no memory.
 pub(crate) fn word_fault_line(why: &WordFault) -> Line
     ensures { result ≡ word_fault_text why.now }
 {

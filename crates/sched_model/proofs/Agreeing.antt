@@ -16,7 +16,7 @@ use Rattle.sched_model.specs.Notes.{all_release_notes, span_notes, pieces_notes,
 use Rattle.sched_model.proofs.NoteLemmas.{flat_map-last}
 use Rattle.sched_model.proofs.ScheduleLemmas.{schedule_exists}
 
--- on each schedule, whatever demand gave its speeds, the two are equal
+-- two demands are equal on each schedule; any demand may give its speeds
 abbrev pub AgreeOnSchedules : Plan → (ℕ → ℕ → ℕ) → (List Tick → Frac) → (List Tick → Frac) → Type 0
 AgreeOnSchedules p dem a b = (ask : List Tick → Frac) (past : List Tick) → IsScheduleBy p dem ask past → a past ≡ b past
 
@@ -27,7 +27,7 @@ module _ (p : Plan) (dem : ℕ → ℕ → ℕ) (a b : List Tick → Frac) (agre
       ap₂ (λ chosen kept. if is_decision p dem (x ∷ past) then chosen else kept) (ap (lowest_entry p.machine) (agree ask (x ∷ past) h))
       (same-entry ask past h.0)
 
-  -- the tick after `past` with an entry in force
+  -- the tick after `past` with e as its entry
   abbrev tick_by : List Tick → ℕ → Tick
   tick_by past e =
       record { entry = e; shares = list_below (count p) (allotment (count p) (key_of p.scheduler p (length past)) ((point p e).speed) (left p dem past)) }
@@ -40,7 +40,7 @@ module _ (p : Plan) (dem : ℕ → ℕ → ℕ) (a b : List Tick → Frac) (agre
       ap (λ e. tick_by past e ∷ past) (same-entry a past (schedule_exists p dem a t).0)
       ∙ ap (λ ticks. next_tick p dem b ticks ∷ ticks) (same-schedule t)
 
-  -- the two are equal at the start of each span
+  -- the two demands are equal at the start of each span
   abbrev AgreeAt : List Span → Type 0
   AgreeAt [] = Unit {0}
   AgreeAt (s ∷ spans) = (a s.past ≡ b s.past) × AgreeAt spans

@@ -1,4 +1,4 @@
--- Each note of a schedule but the last is no end, and as the end of a job it tells the demand of a job of the plan.
+-- No note of a schedule but the last is the end, and a completion has a task of the plan and its job's demand.
 use Rattle.std.proofs.Common.{◌≡◌, ◌+◌, ◌-◌, ◌<◌, ℕ, zero, suc, Bool, true, false, List, [], ◌∷◌, ◌++◌, length, flat_map, reverse, refl, if◌then◌else◌, sym, subst, arith, nat_eq}
 use Rattle.std.specs.Prelude.{sum_by}
 use Rattle.std.specs.List.{AllByRecursion}
@@ -21,7 +21,7 @@ use Rattle.std.proofs.lemmas.Grind.{flat_map-append}
 use Rattle.grid_fraction.specs.Numbers.{list_below}
 use Rattle.sched_model.proofs.HeldUnits.{IsHeldBefore, each-weaker, spans-held}
 
--- what holds of the notes of each number below n holds of all
+-- what holds of the notes of each number below n holds of the notes of all of them
 pub each-flat : (P : Note → Type 0) (n : ℕ) (f : ℕ → List Note) → ((i : ℕ) → i < n → AllByRecursion P (f i))
     → AllByRecursion P (flat_map f (list_below n (λ i. i)))
 each-flat P zero f h = tt
@@ -30,7 +30,7 @@ each-flat P (suc n) f h =
     (each-append P (flat_map f (list_below n (λ i. i))) (f n ++ [])
     (each-flat P n f (λ i lt. h i (omega (arith, lt)))) (each-append P (f n) [] (h n (omega arith)) tt))
 
--- the note comes before the end of a run; as the end of a job it tells the demand of a job of the plan
+-- the note isn't the end of a run; a completion has a task of the plan and its job's demand
 abbrev pub IsBeforeEnd : Plan → (ℕ → ℕ → ℕ) → Note → Type 0
 IsBeforeEnd p dem (Done at_end i k used) = (i < count p) × (used ≡ dem i k)
 IsBeforeEnd p dem (End ticks run idle) = ⊥
@@ -81,12 +81,12 @@ module _ (p : Plan) (lim : IsWithinLimits p) (dem : ℕ → ℕ → ℕ) (ask : 
       (each-append (IsBeforeEnd p dem) (flat_map (span_notes p dem ask) (reverse spans)) (span_notes p dem ask s)
       (spans-before t spans held.1) (span-before s t held.0))
 
-  -- so it is with all notes but the last
+  -- no note but the last is the end, and each completion has a task of the plan and its job's demand
   pub before-end-each : (ticks : List Tick) → AreBeforeEnd (notes_before_end p dem ask ticks)
   unfolding notes_before_end
   before-end-each ticks = spans-before (length ticks) (spans_of p dem ticks) (spans-held p lim dem ticks)
 
-  -- what holds before the end, and of it, holds of all notes
+  -- what holds of each note before the end, and of the end, holds of all notes
   pub notes-each : (P : Note → Type 0) → ((n : Note) → IsBeforeEnd p dem n → P n)
       → ((ticks run idle : ℕ) → P (End ticks run idle)) → (ticks : List Tick)
       → AllByRecursion P (notes_of p dem ask ticks)

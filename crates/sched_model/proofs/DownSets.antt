@@ -1,4 +1,4 @@
--- A set of tasks that holds each task's forerunners gets the smaller of the room and what it needs.
+-- A set of tasks that has, with each task, those before it gets the smaller of the room and what it needs.
 use Rattle.std.proofs.Common.{◌≡◌, ◌≢◌, ℕ, zero, suc, ◌+◌, ◌<◌, min, Bool, true, false, eqb, ◌||◌, ◌⊎◌, inl, inr, refl, arith, if◌then◌else◌, ap, ◌∙◌, sym, subst, true≢false, nat_le}
 use Rattle.std.proofs.lemmas.Bool.{or_left, or_right, or_from}
 use Rattle.std.proofs.lemmas.Bool.Decides.{nat_tests}
@@ -61,11 +61,11 @@ last_of key test (suc m) = go (test m) refl (last_of key test m)
     )
     go true e (inr f) = inr (later f.0 (stands_before key f.0 m) refl e f.1)
 
--- a set without a task
+-- the sum over a set without a task is 0
 pub sum_where-none : (n : ℕ) (test : ℕ → Bool) (f : ℕ → ℕ) → NonePasses test n → sum_where n test f ≡ 0
 sum_where-none n test f none = sum_below-zero n (λ k. if test k then f k else 0) (λ k lt. rw (none k lt) refl)
 
--- a set that holds with each task those before it: its last task and those before that one
+-- a set that has, with each task, those before it consists of its last task and those before that one
 pub sum_where-last : (n : ℕ) (key : ℕ → ℕ) (test : ℕ → Bool) (f : ℕ → ℕ) (i : ℕ)
     → ((j k : ℕ) → j < n → k < n → stands_before key j k ≡ true → test k ≡ true → test j ≡ true)
     → IsLastOf key test n i → sum_where n test f ≡ sum_up_to n key f i
@@ -89,7 +89,7 @@ sum_where-last n key test f i down r =
         not_before true q = absurd (true≢false (sym (down k i lt r.below q r.passes) ∙ g))
         not_before false q = q
 
--- such a set gets the smaller of the room and what it needs
+-- a set that has, with each task, those before it gets the smaller of the room and what it needs
 pub down-set-gets : (n : ℕ) (key : ℕ → ℕ) (test : ℕ → Bool) (room : ℕ) (need given : ℕ → ℕ)
     → ((j i : ℕ) → j < n → i < n → stands_before key j i ≡ true → test i ≡ true → test j ≡ true)
     → SharesOut n key room need given → sum_where n test given ≡ min room (sum_where n test need)

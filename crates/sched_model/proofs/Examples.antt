@@ -29,7 +29,7 @@ entry_of speed millivolts = record { speed = speed; millivolts = millivolts }
 abbrev pub row : ℕ → ℕ → ℕ → DemandRow
 row i k units = record { task = i; job = k; units = units }
 
--- three speeds, and idle units and switches of speed for nothing
+-- three speeds; idle units and switches of speed cost nothing
 abbrev pub three_speeds : Table
 three_speeds = record {
   points = entry_of 2 3000 ∷ entry_of 3 4000 ∷ entry_of 4 5000 ∷ [];
@@ -56,7 +56,7 @@ heavy_set = record {
   scheduler = Edf;
 }
 
--- two tasks under RM, the one with the longer period first
+-- two tasks under RM, with the longer period first
 abbrev pub two_tasks : Plan
 two_tasks = record {
   tasks = task_of (codes "a") 6 3 ∷ task_of (codes "b") 4 4 ∷ [];
@@ -64,7 +64,7 @@ two_tasks = record {
   scheduler = Rm;
 }
 
--- two tasks under RM that leave the highest speed alone
+-- two tasks under RM whose static speed is below the highest
 abbrev pub light_set : Plan
 light_set = record {
   tasks = task_of (codes "x") 4 4 ∷ task_of (codes "y") 8 6 ∷ [];
@@ -110,7 +110,7 @@ controller = record {
 abbrev pub controller_demands : List DemandRow
 controller_demands = row 0 1 196 ∷ row 0 2 396 ∷ row 1 1 596 ∷ row 2 1 996 ∷ row 4 1 396 ∷ row 5 1 196 ∷ []
 
--- two tasks under EDF: the shorter period is due first, and later the two deadlines are equal
+-- two tasks under EDF: first the shorter period is due earlier, and later the two deadlines are equal
 abbrev pub early_and_late : Plan
 early_and_late = record {
   tasks = task_of (codes "a") 8 16 ∷ task_of (codes "b") 4 8 ∷ [];
@@ -174,7 +174,7 @@ edf_static_demand = refl
 rm_static_demand : static_demand (paper_example Rm) ≡ fraction 52 14
 rm_static_demand = refl
 
--- two levels ask for the same share of different periods: the one with the shorter period stands for both
+-- two levels ask for the same share of different periods: the static demand has the shorter period
 rm_static_demand_of_equals : static_demand (record {
   tasks = task_of (codes "a") 4 10 ∷ task_of (codes "b") 5 10 ∷ task_of (codes "c") 8 8 ∷ [];
   machine = three_speeds;
@@ -182,7 +182,8 @@ rm_static_demand_of_equals : static_demand (record {
 }) ≡ fraction 30 5
 rm_static_demand_of_equals = refl
 
--- the same shares, where the file's order is not that of the periods
+-- two levels ask for the same share, and the file's order isn't the order of the periods:
+-- the static demand has the shorter period
 rm_static_demand_of_equals_out_of_order : static_demand (record {
   tasks = task_of (codes "c") 8 8 ∷ task_of (codes "a") 4 10 ∷ task_of (codes "b") 5 10 ∷ [];
   machine = three_speeds;
@@ -190,7 +191,8 @@ rm_static_demand_of_equals_out_of_order : static_demand (record {
 }) ≡ fraction 30 5
 rm_static_demand_of_equals_out_of_order = refl
 
--- of two tasks with one period the earlier stands alone in its level, and the later with both: 6 units, where 4 can be done
+-- of two tasks with one period the level of the earlier is that task alone, and the level of the later is both:
+-- 6 units, where 4 can be done
 level_of_the_earlier_of_equals : level_work denied_set 0 ≡ 3
 level_of_the_earlier_of_equals = refl
 
@@ -210,7 +212,7 @@ backlog_at_the_static_speed : backlog light_set 2 1 ≡ 6
 unfolding backlog published in_order release due latest schedule_by
 backlog_at_the_static_speed = refl
 
--- the level of the task with the shorter period is that task alone, though it stands second in the file
+-- the level of the task with the shorter period is that task alone, though it is second in the file
 backlog_of_a_level_in_rm_order : backlog two_tasks 1 1 ≡ 2
 unfolding backlog published in_order release due latest schedule_by
 backlog_of_a_level_in_rm_order = refl

@@ -8,7 +8,7 @@ use Rattle.grid_fraction.proofs.Sums.{sum_below-same, sum_below-add, sum_below-o
 use Rattle.sched_model.proofs.PriorityLemmas.{before-trans}
 use Rattle.sched_model.proofs.Allotments.{before_gets, allotment-shares}
 
--- what the tasks up to j need is within what those before i need, where j stands before i
+-- where j comes before i, the need of the tasks up to j is at most the need of the tasks before i
 pub up_to-before : (n : ℕ) (key f : ℕ → ℕ) (j i : ℕ) → j < n → stands_before key j i ≡ true → sum_up_to n key f j ≤ sum_before n key f i
 up_to-before n key f j i lt h =
     let own : ℕ → ℕ = λ k. if eqb k j then f k else 0 in
@@ -35,14 +35,14 @@ up_to-before n key f j i lt h =
     within k b e c g = lem (stands_before key k i) (stands_before key k j) (eqb k j)
         (λ q. before-trans key k j i q h) (λ q. (grind (arith, nat_tests), grind (arith, nat_tests))) (f k)
 
--- How far the units are handed out: `given` are the allotments of what has been handed out of the room, and `rest` is what has not.
--- While some is left, each task has all that it needs or nothing.
+-- How far the units are handed out: `given` are the allotments of the units handed out so far, and `rest` are those
+-- that are left of the room. While some are left, each task has all that it needs or nothing.
 pub record IsHandedOut (n : ℕ) (key : ℕ → ℕ) (room : ℕ) (need given : ℕ → ℕ) (rest : ℕ) : Type 0 where
   pub rest_in : rest ≤ room
   pub given_is : (i : ℕ) → i < n → given i ≡ allotment n key (room - rest) need i
   pub all_or_none : 0 < rest → (i : ℕ) → i < n → (given i ≡ 0) ⊎ (given i ≡ need i)
 
--- what has been handed out is then what the tasks before i need
+-- while some units are left, the first open task has none, and as many are handed out as the tasks before it need
 pub handed_before : (n : ℕ) (key : ℕ → ℕ) (room : ℕ) (need given : ℕ → ℕ) (rest : ℕ) → IsHandedOut n key room need given rest → 0 < rest
     → (i : ℕ) → IsFirstOpen n key need given i → (given i ≡ 0) × (room - rest ≡ sum_before n key need i)
 handed_before n key room need given rest h pos i o = go (h.all_or_none pos i o.below)
@@ -68,7 +68,7 @@ handed_before n key room need given rest h pos i o = go (h.all_or_none pos i o.b
     go (inl z) = (z, room_is z)
     go (inr e) = absurd (omega (arith, e, o.needs))
 
--- at the start
+-- at the start nothing is handed out
 pub handed-start : (n : ℕ) (key : ℕ → ℕ) (room : ℕ) (need : ℕ → ℕ) → IsHandedOut n key room need (λ _. 0) room
 handed-start n key room need = record {
   rest_in = omega arith;
@@ -76,7 +76,7 @@ handed-start n key room need = record {
   all_or_none = λ pos i lt. inl refl;
 }
 
--- the first open task gets what it needs, as far as there is some
+-- the first open task gets what it needs, as far as units are left
 pub handed-step : (n : ℕ) (key : ℕ → ℕ) (room : ℕ) (need given given' : ℕ → ℕ) (rest i : ℕ) → IsHandedOut n key room need given rest → 0 < rest
     → IsFirstOpen n key need given i
     → given' i ≡ given i + min rest (need i - given i)
@@ -124,7 +124,7 @@ handed-step n key room need given given' rest i h pos o here there = record {
         other (inl z) = inl (kept ∙ z)
         other (inr z) = inr (kept ∙ z)
 
--- at the end, where nothing is left or nobody needs any
+-- where no unit is left or no task needs more, each task has its allotment
 pub handed-end : (n : ℕ) (key : ℕ → ℕ) (room : ℕ) (need given : ℕ → ℕ) (rest : ℕ) → IsHandedOut n key room need given rest
     → (rest ≡ 0) ⊎ ((k : ℕ) → k < n → need k ≤ given k) → (i : ℕ) → i < n → given i ≡ allotment n key room need i
 handed-end n key room need given rest h e i lt = go e

@@ -10,7 +10,7 @@ use Rattle.sched_model.specs.Tests.{level_work}
 use Rattle.sched_model.specs.StaticDemand.{outweighs, heaviest}
 use Rattle.sched_model.proofs.PriorityLemmas.{before-self, before-trans, before-total}
 
--- what two numbers that outweigh each other say
+-- a number that outweighs another is greater, or equal with the tie decided for it
 over : (a b : ℕ) (c : Bool) → (nat_lt b a || (nat_eq a b && c)) ≡ true → (b < a) ⊎ ((a ≡ b) × (c ≡ true))
 over a b c h = go (nat_lt b a) refl (nat_eq a b) refl h
   where
@@ -48,7 +48,7 @@ module _ (x u y v z w : ℕ) (some_v : 0 < v) where
       let both : z * u * v < x * w * v = omega (arith, left, right) in
       lt_of_mul-lt-mul_right v both
 
--- by sums and periods: whether s j / q j is greater than s i / q i, or equal to it with j before i
+-- whether s j / q j is greater than s i / q i, or equal to it with j before i
 abbrev pub beats : (ℕ → ℕ) → (ℕ → ℕ) → ℕ → ℕ → Bool
 beats s q j i = nat_lt (s i * q j) (s j * q i) || (nat_eq (s j * q i) (s i * q j) && stands_before q j i)
 
@@ -88,7 +88,7 @@ beats-total s q j i ne h = go (nat_lt (s i * q j) (s j * q i)) refl (nat_eq (s j
         over_same (s i * q j) (s j * q i) (stands_before q i j) (sym same) (before-total q j i ne k)
     go false e false f k = over_less (s i * q j) (s j * q i) (stands_before q i j) (grind (arith, nat_tests))
 
--- none below m beats `found`, which is the heaviest of those
+-- `found` is below m, and none below m beats it
 pub record IsHeaviest (s q : ℕ → ℕ) (m found : ℕ) : Type 0 where
   pub below : found < m
   pub unbeaten : (k : ℕ) → k < m → beats s q k found ≡ false

@@ -17,12 +17,12 @@ use Rattle.sched_model.proofs.JobLaws.{latest_since-le, last_release-le}
 use Rattle.sched_model.proofs.OrderLemmas.{AreBelow, in_order-below}
 use Rattle.trace_text.proofs.PlainLines.{each-append, each-replicate}
 
--- what follows from a fact of each is a fact of each
+-- what follows from a fact of each element is a fact of each element
 pub each-weaker : {A : Type 0} (P Q : A → Type 0) → ((x : A) → P x → Q x) → (xs : List A) → AllByRecursion P xs → AllByRecursion Q xs
 each-weaker P Q h [] all = tt
 each-weaker P Q h (x ∷ xs) all = (h x all.0, each-weaker P Q h xs all.1)
 
--- the latest job was released by now
+-- the latest job was released by tick t
 pub latest-early : (p : Plan) → IsWithinLimits p → (i t : ℕ) → i < count p → latest_since p i (latest p i t) < suc t
 latest-early p lim i t lt = omega (arith, latest_since-le p i t (every_period p lim i) lt, last_release-le p t)
 
@@ -36,7 +36,7 @@ held-later p s t le Nobody held = tt
 held-later p s t le (Held i k) held = (held.0, omega (arith, le, held.1))
 
 module _ (p : Plan) (lim : IsWithinLimits p) where
-  -- those of the tasks of a list
+  -- the units of the tasks of a list are held by released jobs
   given-held : (t : ℕ) (given : ℕ → ℕ) (is : List ℕ) → AreBelow (count p) is
       → AllByRecursion (IsHeldBefore p (suc t)) (flat_map (λ i. replicate (given i) (Held i (latest p i t))) is)
   given-held t given [] b = tt
@@ -45,7 +45,7 @@ module _ (p : Plan) (lim : IsWithinLimits p) where
       (each-replicate (IsHeldBefore p (suc t)) (given i) (Held i (latest p i t)) (b.0, latest-early p lim i t b.0))
       (given-held t given is b.1)
 
-  -- those of a tick
+  -- the units of a tick are held by released jobs
   units-held : (past : List Tick) (x : Tick) → AllByRecursion (IsHeldBefore p (suc (length past))) (units_of p past x)
   units-held past x =
       let t = length past in
@@ -68,7 +68,7 @@ module _ (p : Plan) (lim : IsWithinLimits p) where
   held-lengthened t us [] more held = tt
   held-lengthened t us (s ∷ spans) more held = (each-append (IsHeldBefore p t) s.units us held.0 more, held.1)
 
-  -- those of all spans
+  -- the units of all spans are held by released jobs
   pub spans-held : (dem : ℕ → ℕ → ℕ) (ticks : List Tick) → AreHeldBefore (length ticks) (spans_of p dem ticks)
   spans-held dem [] = tt
   spans-held dem (x ∷ past) = go (is_decision p dem past)

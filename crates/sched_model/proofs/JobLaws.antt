@@ -1,4 +1,4 @@
--- The laws of `release`, `due` and `latest`, all that other proofs know of them.
+-- The laws of `release`, `due` and `latest`; other proofs use these alone.
 use Rattle.std.proofs.Common.{◌≡◌, ℕ, zero, suc, ◌+◌, ◌-◌, ◌*◌, ◌/◌, ◌<◌, ◌≤◌, true, false, List, [], ◌∷◌, length, refl, inl, inr, nat_le, arith, ap, ◌∙◌, sym, div-add-mod', mod-lt, add-mul, one-mul, zero-mul, subst, add-one}
 use Rattle.std.proofs.Math.Nat.{le-mul_of_pos_right}
 use Rattle.std.proofs.lemmas.Bool.{cases_lt}
@@ -11,7 +11,7 @@ use Rattle.sched_model.specs.Demands.{worst_demand}
 use Rattle.sched_model.specs.Ticks.{Tick, exec}
 use Rattle.sched_model.specs.Ticks.{share, left}
 
--- from the offset on the latest job is counted from there, and before it there is job 0 alone
+-- from the offset on the jobs are counted by periods, and before it the latest job is job 0
 latest-from : (p : Plan) (i t : ℕ) → offset p i ≤ t → latest p i t ≡ (t - offset p i) / period p i + 1
 unfolding latest
 latest-from p i t since = let on : nat_le (offset p i) t ≡ true = grind (arith, nat_tests) in rw on refl
@@ -29,7 +29,7 @@ pub release-none : (p : Plan) (i : ℕ) → offset p i ≤ release p i 0
 unfolding release
 release-none p i = omega arith
 
--- job numbers are at most the deadlines
+-- a job's number is at most its deadline
 pub le-due : (p : Plan) (i k : ℕ) → 0 < period p i → k ≤ due p i k
 unfolding due
 le-due p i k pos = omega (arith, le-mul_of_pos_right k pos)
@@ -50,7 +50,7 @@ release-due p i zero one = absurd (omega arith)
 release-due p i (suc k) one =
     ap (λ m. release p i m + period p i) (sym (add-one k)) ∙ (ap (λ r. r + period p i) (release-suc p i k) ∙ (sym (due-suc p i k) ∙ ap (due p i) (add-one k)))
 
--- the latest job is known by its release, where it isn't job 0, and its deadline
+-- the latest job is the one that is released, unless it is job 0, and not yet due
 pub latest-unique : (p : Plan) (i k t : ℕ) → (0 < k → release p i k ≤ t) → t < due p i k → latest p i t ≡ k
 unfolding release due
 latest-unique p i zero t from until = latest-none p i t (omega (arith, until, zero-mul (period p i)))
@@ -64,7 +64,7 @@ latest-unique p i (suc k) t from until =
 pub latest-is : (p : Plan) (i k t : ℕ) → release p i k ≤ t → t < due p i k → latest p i t ≡ k
 latest-is p i k t low high = latest-unique p i k t (λ some. low) high
 
--- from the first release on it is another than job 0
+-- from the first release on the latest job is not job 0
 
 pub latest-pos : (p : Plan) (i t : ℕ) → offset p i ≤ t → 0 < latest p i t
 latest-pos p i t since = omega (arith, latest-from p i t since)
@@ -72,7 +72,7 @@ latest-pos p i t since = omega (arith, latest-from p i t since)
 pub offset-le : (p : Plan) (i t : ℕ) → 0 < latest p i t → offset p i ≤ t
 offset-le p i t some = elim (cases_lt t (offset p i)) [ inl early ↦ absurd (omega (arith, some, latest-none p i t early)) | inr since ↦ since ]
 
--- the latest job was released by now, unless it is job 0, and is due later
+-- the latest job is released by tick t, unless it is job 0, and due later
 pub release-le : (p : Plan) (i t : ℕ) → 0 < period p i → 0 < latest p i t → release p i (latest p i t) ≤ t
 unfolding release
 release-le p i t pos some =
@@ -104,7 +104,7 @@ due-within p i t n pos first often = go (latest p i t) refl
     go zero e = omega (arith, ap (due p i) e, due-none p i, first)
     go (suc k) e = omega (arith, due-le p i t pos (omega (arith, e)), often)
 
--- it is no later one than there are ticks
+-- the number of the latest job is at most the tick plus 1
 pub latest-small : (p : Plan) (i t : ℕ) → 0 < period p i → latest p i t ≤ t + 1
 latest-small p i t pos = go (latest p i t) refl
   where
@@ -135,19 +135,19 @@ latest-next p i t pos h =
     (λ some. omega (arith, h, release-suc p i (latest p i t)))
     (omega (arith, h, pos, due-suc p i (latest p i t)))
 
--- what a tick adds to the latest job
+-- a tick adds the task's share to what the latest job has had
 pub exec-latest : (p : Plan) (x : Tick) (past : List Tick) (i : ℕ) → 0 < period p i → 0 < latest p i (length past)
     → exec p (x ∷ past) i (latest p i (length past)) ≡ exec p past i (latest p i (length past)) + share x i
 exec-latest p x past i pos some = rw (in_window p i (length past) pos some) refl
 
--- job 0 has nothing
+-- job 0 has had nothing
 pub exec-none : (p : Plan) (past : List Tick) (i : ℕ) → exec p past i 0 ≡ 0
 exec-none p [] i = refl
 exec-none p (x ∷ past) i =
     let outside : is_in_window p i 0 (length past) ≡ false = grind (arith, nat_tests, due-none p i, release-none p i) in
     rw outside (omega (arith, exec-none p past i))
 
--- what a tick adds to the latest job, be it job 0, where no task gets more than it needs
+-- a tick adds the task's share to what the latest job has had, also for job 0 where no task gets more than it needs
 pub exec-legal : (p : Plan) (dem : ℕ → ℕ → ℕ) (x : Tick) (past : List Tick) (i : ℕ) → 0 < period p i → dem i 0 ≡ 0 → share x i ≤ left p dem past i
     → exec p (x ∷ past) i (latest p i (length past)) ≡ exec p past i (latest p i (length past)) + share x i
 exec-legal p dem x past i pos none fits = go (latest p i (length past)) refl
@@ -160,7 +160,7 @@ exec-legal p dem x past i pos none fits = go (latest p i (length past)) refl
         omega (arith, fits, after, before, needs)
     go (suc k) e = exec-latest p x past i pos (omega (arith, e))
 
--- what the latest job needs falls by its share, as long as it stays the latest
+-- what the latest job needs falls by the task's share, while it stays the latest
 pub left-stays : (p : Plan) (dem : ℕ → ℕ → ℕ) (x : Tick) (past : List Tick) (i : ℕ) → 0 < period p i → dem i 0 ≡ 0
     → latest p i (length (x ∷ past)) ≡ latest p i (length past)
     → left p dem (x ∷ past) i ≡ left p dem past i - share x i
@@ -175,18 +175,18 @@ left-stays p dem x past i pos none stays = go (latest p i (length past)) refl
         omega (arith, same, z)
     go (suc k) e = omega (arith, same, exec-latest p x past i pos (omega (arith, e)))
 
--- no job has anything before its release
+-- no job has had anything before its release
 pub exec-early : (p : Plan) (past : List Tick) (i k : ℕ) → length past ≤ release p i k → exec p past i k ≡ 0
 exec-early p [] i k h = refl
 exec-early p (x ∷ past) i k h =
     let outside : is_in_window p i k (length past) ≡ false = grind (arith, nat_tests) in
     rw outside (omega (arith, exec-early p past i k (omega arith)))
 
--- the last release is at most now
+-- the last release is at most the present tick
 pub last_release-le : (p : Plan) (t : ℕ) → last_release p t ≤ t
 last_release-le p t = last_up_to-le t (is_release p)
 
--- the latest job was released at the last release or before, unless it is job 0
+-- the latest job was released at or before the last release, unless it is job 0
 pub released-before : (p : Plan) (i t : ℕ) → 0 < period p i → i < count p → 0 < latest p i t → release p i (latest p i t) ≤ last_release p t
 released-before p i t pos lt some =
     last_up_to-greatest t (release p i (latest p i t)) (is_release p) low
@@ -217,7 +217,7 @@ latest_since-le p i t pos lt = go (latest p i t) refl
         let some : 0 < latest p i t = omega (arith, e) in
         omega (arith, latest_since-pos p i (latest p i t) some, released-before p i t pos lt some)
 
--- so it was the latest then too
+-- the latest job was the latest at the last release too
 pub latest-marked : (p : Plan) (i t : ℕ) → 0 < period p i → i < count p → latest p i (last_release p t) ≡ latest p i t
 latest-marked p i t pos lt =
     latest-unique p i (latest p i t) (last_release p t) (released-before p i t pos lt) (omega (arith, last_release-le p t, lt-due p i t pos))

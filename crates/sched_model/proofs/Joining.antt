@@ -21,11 +21,11 @@ use Rattle.sched_model.proofs.Service.{at-now, at-before}
 abbrev pub row_by : ℕ → ℕ → ℕ → Bool → ℕ → Row
 row_by a b c d e = record { deadline = a; job = b; used = c; done = d; worst = e }
 
--- the row after its release, complete if its job has no demand
+-- a row after its release, complete if its job has no demand
 abbrev pub opened_row : Plan → (ℕ → ℕ → ℕ) → ℕ → Row → Row
 opened_row p dem i row = record (released_row (period p i) row) { done = nat_eq (dem i (row.job + 1)) 0 }
 
--- a row of the state after a list of ticks, and before the releases then
+-- a row of the state after a list of ticks, and of the state before the releases then
 pub row_at-state_of : (p : Plan) (dem : ℕ → ℕ → ℕ) (past : List Tick) (i : ℕ) → i < count p
     → row_at (state_of p dem past) i ≡ row_of p dem past i
 row_at-state_of p dem past i lt = get-table (count p) (row_of p dem past) i no_row lt
@@ -35,17 +35,17 @@ pub row_at-prior_state : (p : Plan) (dem : ℕ → ℕ → ℕ) (past : List Tic
 row_at-prior_state p dem past i lt = get-table (count p) (prior_row p dem past) i no_row lt
 
 module _ (p : Plan) (dem : ℕ → ℕ → ℕ) (periods : (i : ℕ) → 0 < period p i) where
-  -- the deadline of a row is that of its job
+  -- the deadline of a row is the deadline of its job
   prior_due-is : (past : List Tick) (i : ℕ) → (prior_row p dem past i).deadline ≡ due p i (prior_row p dem past i).job
   prior_due-is [] i = sym (due-none p i)
   prior_due-is (x ∷ past) i = refl
 
-  -- nothing is due before now
+  -- no row is due before the present tick
   pub prior-due : (past : List Tick) (i : ℕ) → length past ≤ (prior_row p dem past i).deadline
   prior-due [] i = omega arith
   prior-due (x ∷ past) i = omega (arith, lt-due p i (length past) (periods i))
 
-  -- the latest job now, where the one before it is due
+  -- where a row is due, the latest job is the one after the row's job
   pub next_job : (past : List Tick) (i : ℕ) → (prior_row p dem past i).deadline ≡ length past → latest p i (length past) ≡ (prior_row p dem past i).job + 1
   next_job [] i e =
       latest-unique p i 1 0
@@ -61,7 +61,7 @@ module _ (p : Plan) (dem : ℕ → ℕ → ℕ) (periods : (i : ℕ) → 0 < per
   due_next : (past : List Tick) (i : ℕ) → due p i ((prior_row p dem past i).job + 1) ≡ (prior_row p dem past i).deadline + period p i
   due_next past i = due-suc p i (prior_row p dem past i).job ∙ ap (λ d. d + period p i) (sym (prior_due-is past i))
 
-  -- and the latest job where it is not
+  -- where a row isn't due, the latest job is that of the tick before
   pub same_job : (x : Tick) (past : List Tick) (i : ℕ) → nat_eq (prior_row p dem (x ∷ past) i).deadline (length (x ∷ past)) ≡ false
       → latest p i (length (x ∷ past)) ≡ latest p i (length past)
   same_job x past i e =
@@ -93,7 +93,7 @@ module _ (p : Plan) (dem : ℕ → ℕ → ℕ) (periods : (i : ℕ) → 0 < per
           let early : release p i (latest p i (length past)) ≤ length past = release-le p i (length past) (periods i) (omega (arith, q)) in
           grind (arith, nat_tests, is, early)
 
-  -- a row that is due is released
+  -- after the releases a row that is due has its next job
   pub row-opened : (past : List Tick) (i : ℕ) → (prior_row p dem past i).deadline ≡ length past
       → row_of p dem past i ≡ opened_row p dem i (prior_row p dem past i)
   row-opened past i e =
@@ -122,7 +122,7 @@ module _ (p : Plan) (dem : ℕ → ℕ → ℕ) (periods : (i : ℕ) → 0 < per
       worst_is [] = refl
       worst_is (x ∷ past) = refl
 
-  -- the others stay
+  -- after the releases a row that isn't due is as before
   pub row-kept : (past : List Tick) (i : ℕ) → dem i 0 ≡ 0 → nat_eq (prior_row p dem past i).deadline (length past) ≡ false
       → row_of p dem past i ≡ prior_row p dem past i
   row-kept [] i none e =
@@ -132,7 +132,7 @@ module _ (p : Plan) (dem : ℕ → ℕ → ℕ) (periods : (i : ℕ) → 0 < per
   row-kept (x ∷ past) i none e =
       ap (λ k. row_by (due p i k) k (exec p (x ∷ past) i k) (is_done p dem (x ∷ past) i k) (worst p i)) (same_job x past i e)
 
-  -- the bases
+  -- at a release the mark is the present tick
   pub base_at-marked : (t : ℕ) → is_release p t ≡ true → last_release p t ≡ t
   base_at-marked zero e = refl
   base_at-marked (suc t) e = rw (e, last_up_to) refl
@@ -143,7 +143,7 @@ module _ (p : Plan) (dem : ℕ → ℕ → ℕ) (periods : (i : ℕ) → 0 < per
   abbrev pub state_by : ℕ → List Row → ℕ → List ℕ → StateOf
   state_by a b c d = record { now = a; rows = b; base_at = c; base = d }
 
-  -- the first join: with all releases done and the mark set, the state is that of the past
+  -- at a release: with all releases done and the mark set, the state is that of the past
   pub state-marked : (past : List Tick) → is_release p (length past) ≡ true
       → state_by (length past) (list_below (count p) (row_of p dem past)) (length past)
       (map row_wleft (list_below (count p) (row_of p dem past))) ≡ state_of p dem past
@@ -177,7 +177,7 @@ module _ (p : Plan) (dem : ℕ → ℕ → ℕ) (periods : (i : ℕ) → 0 < per
       ap₂ (λ a (ps : List Tick). state_by (length (x ∷ past)) (list_below (count p) (row_of p dem (x ∷ past))) a
       (list_below (count p) (wleft p dem ps))) (sym r) (sym back)
 
-  -- with no release at all the state before the boundary is that of the past
+  -- at a tick without a release the state before the boundary is that of the past
   pub state-still : (past : List Tick) → ((i : ℕ) → dem i 0 ≡ 0) → is_release p (length past) ≡ false → prior_state p dem past ≡ state_of p dem past
   state-still past none e =
       ap (λ rows. state_by (length past) rows (prior_base_at p past) (list_below (count p) (prior_base p dem past)))
@@ -190,7 +190,7 @@ module _ (p : Plan) (dem : ℕ → ℕ → ℕ) (periods : (i : ℕ) → 0 < per
       not_due i lt true q = absurd (true≢false (sym (due_released past i true q) ∙ any_below-false (count p) (λ i. releases_at p i (length past)) e i lt))
       not_due i lt false q = q
 
-  -- the second join: a tick whose units are added to the rows, with the completions
+  -- after a tick a row has the tick's units added, and is complete where they complete its job
   pub row-ran : (x : Tick) (past : List Tick) (i : ℕ) → dem i 0 ≡ 0 → share x i ≤ left p dem past i
       → prior_row p dem (x ∷ past) i ≡ row_by (row_of p dem past i).deadline (row_of p dem past i).job ((row_of p dem past i).used
       + share x i) (nat_le (dem i (latest p i (length past))) ((row_of p dem past i).used + share x i)) (row_of p dem past i).worst

@@ -51,7 +51,7 @@ sum_where-term n test f i lt on =
     let all = sum_below-term n (λ k. if test k then f k else 0) i lt in
     subst (λ (b : Bool). (if b then f i else 0) ≤ sum_where n test f) on all
 
--- of two sums that bound each other, the terms do
+-- where each term of g is at most that of f, and the sum of f at most that of g, each term of f is at most that of g
 pub sum_where-tight : (n : ℕ) (test : ℕ → Bool) (f g : ℕ → ℕ) → ((k : ℕ) → k < n → g k ≤ f k) → sum_where n test f ≤ sum_where n test g
     → (i : ℕ) → i < n → test i ≡ true → f i ≤ g i
 sum_where-tight n test f g below tight i lt on =
@@ -81,7 +81,7 @@ up_to-self key i = grind (arith, nat_tests)
 pub up_to-trans : (key : ℕ → ℕ) (j k i : ℕ) → stands_before key j k ≡ true → is_up_to key i k ≡ true → is_up_to key i j ≡ true
 up_to-trans key j k i h g = grind (arith, nat_tests)
 
--- the two ways to add over a level
+-- the sum over task i and those before it is the sum over those that are up to i
 pub sum_up_to-where : (n : ℕ) (key f : ℕ → ℕ) (i : ℕ) → i < n → sum_up_to n key f i ≡ sum_where n (is_up_to key i) f
 sum_up_to-where n key f i lt =
     sym (sum_where-last n key (is_up_to key i) f i (λ j k lj lk b t. up_to-trans key j k i b t)
@@ -93,7 +93,7 @@ pub level-gets : (n : ℕ) (key : ℕ → ℕ) (room : ℕ) (need given : ℕ �
 level-gets n key room need given h i =
     down-set-gets n key (is_up_to key i) room need given (λ j k lj lk b t. up_to-trans key j k i b t) h
 
--- and no task more than it needs
+-- no task gets more than it needs
 pub share-most : (n : ℕ) (key : ℕ → ℕ) (room : ℕ) (need given : ℕ → ℕ) → SharesOut n key room need given
     → (i : ℕ) → i < n → given i ≤ need i
 share-most n key room need given h i lt = omega (arith, allotment_of n key room need given h i lt)

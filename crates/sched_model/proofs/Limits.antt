@@ -22,7 +22,7 @@ module _ (p : Plan) (lim : IsWithinLimits p) where
   pub some_period : (i : ℕ) → i < count p → 0 < period p i
   some_period i h = (lim.tasks.each i h).some_period
 
-  -- also of a place past the end
+  -- every period is positive, also that of a number past the last task
   pub every_period : (i : ℕ) → 0 < period p i
   every_period i =
       elim (cases_lt i (count p)) [
@@ -38,7 +38,7 @@ module _ (p : Plan) (lim : IsWithinLimits p) where
   pub low_worst : (i : ℕ) → i < count p → worst p i ≤ 2 ^ 61
   low_worst i h = omega (arith, (lim.tasks.each i h).low_worst, lim.machine.low_charge)
 
-  -- the latest job is due soon
+  -- the latest job is due within the longest period
   pub deadline-soon : (i t : ℕ) → i < count p → deadline p i t ≤ t + LONGEST_PERIOD
   deadline-soon i t h = due-within p i t LONGEST_PERIOD (some_period i h) ((lim.tasks.each i h).low_offset) (low_period i h)
 

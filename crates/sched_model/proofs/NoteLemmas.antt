@@ -9,7 +9,7 @@ use Rattle.sched_model.specs.Decision.{is_decision}
 use Rattle.sched_model.specs.Segments.{Span, spans_of, lengthened, units_of}
 use Rattle.sched_model.specs.Notes.{span_notes, notes_before_end}
 
--- the last of the lists that are joined is that of the element that stands first
+-- lists joined from the last element to the first one end with the list of the first element
 pub flat_map-last : {A B : Type 0} (f : A → List B) (x : A) (xs : List A) → flat_map f (reverse (x ∷ xs)) ≡ flat_map f (reverse xs) ++ f x
 flat_map-last f x xs =
     ap (flat_map f) (reverse-append (x ∷ []) xs)

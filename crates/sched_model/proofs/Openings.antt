@@ -16,7 +16,7 @@ opening-is_state p = record {
       rw (get-table (count p) (λ k. opening_row (offset p k) (worst p k)) i no_row below) (omega arith);
 }
 
--- its parts, however they came about
+-- the state at tick 0, and with the mark there, of these rows and bases
 abbrev pub state_by : List Row → List ℕ → StateOf
 state_by rows base = record { now = 0; rows = rows; base_at = 0; base = base }
 
@@ -30,7 +30,7 @@ opening_by p n rows base all r b =
       base = (b ∙ ap (λ m. list_below m (λ i. 0)) all) j;
     }
 
--- the first job of each task without an offset may be released from it
+-- the first job of each task without an offset can be released from the opening state
 pub opening-can_release : (p : Plan) → IsWithinLimits p → (i : ℕ) → i < count p → offset p i ≡ 0 → CanRelease p (opening p) i
 opening-can_release p lim i lt now =
     let row : row_at (opening p) i ≡ opening_row (offset p i) (worst p i) = get-table (count p) (λ k. opening_row (offset p k) (worst p k)) i no_row lt in

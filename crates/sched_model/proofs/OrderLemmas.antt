@@ -1,4 +1,4 @@
--- The list of the tasks in order: where each stands, and the sums over the tasks before one of them.
+-- The list of the tasks in order: where each of them is, and the sums over the tasks before one of them.
 use Rattle.std.proofs.Common.{◌≡◌, ◌≢◌, ◌⊎◌, inl, inr, eq-or-lt_of_le, le_of_suc-le-suc, ℕ, zero, suc, ◌+◌, ◌<◌, Bool, true, false, List, [], ◌∷◌, ◌++◌, length, get_or, refl, arith, if◌then◌else◌, ap, ap₂, ◌∙◌, sym, subst, nat_eq, nat_lt}
 use Rattle.std.specs.Prelude.{◌||◌, ◌&&◌}
 use Rattle.std.specs.List.{AllByRecursion}
@@ -13,7 +13,7 @@ abbrev pub sum_list : (ℕ → ℕ) → List ℕ → ℕ
 sum_list f [] = 0
 sum_list f (i ∷ is) = f i + sum_list f is
 
--- i stands before each of the list
+-- i comes before each number of the list
 abbrev pub IsAhead : (ℕ → ℕ) → ℕ → List ℕ → Type 0
 IsAhead key i [] = Unit {0}
 IsAhead key i (j ∷ js) = (stands_before key i j ≡ true) × IsAhead key i js
@@ -101,7 +101,7 @@ pub first_ahead : (key : ℕ → ℕ) (j i : ℕ) (pre post : List ℕ) → IsAh
 first_ahead key j i [] post a = a.0
 first_ahead key j i (k ∷ pre) post a = first_ahead key j i pre post a.1
 
--- of an ordered list, the sum over what stands before i is the sum over its first part
+-- in an ordered list, the sum over the numbers that come before i is the sum over the part before i
 none_after : (key f : ℕ → ℕ) (i : ℕ) (js : List ℕ) → IsAhead key i js → sum_list (λ k. if stands_before key k i then f k else 0) js ≡ 0
 none_after key f i [] a = refl
 none_after key f i (j ∷ js) a = rw (before-not key i j a.0) (omega (arith, none_after key f i js a.1))
@@ -138,7 +138,7 @@ pub in_order-more : (key : ℕ → ℕ) (n : ℕ) → in_order key (n + 1) ≡ i
 unfolding in_order
 in_order-more key n = let e : n + 1 ≡ suc n = omega arith in rw e refl
 
--- i stands somewhere in the list
+-- i is in the list, between `pre` and `post`
 abbrev pub Stands : ℕ → List ℕ → Type 0
 Stands i xs = (pre : List ℕ) × ((post : List ℕ) × (xs ≡ pre ++ i ∷ post))
 
@@ -163,7 +163,7 @@ stands-kept key k i (j ∷ js) at = go (stands_before key i j) at.0 at.1.0 at.1.
     go false [] post e ih = let same : j ≡ k = cc in ([], (insert_by key i js, ap (λ (m : ℕ). m ∷ insert_by key i js) same))
     go false (p ∷ pre) post e ih = let rest : js ≡ pre ++ k ∷ post = cc in stands-later k j (insert_by key i js) (ih (pre, (post, rest)))
 
--- each task stands in the order
+-- each number below n is in the order
 pub stands-in_order : (key : ℕ → ℕ) (n k : ℕ) → k < n → Stands k (in_order key n)
 unfolding in_order
 stands-in_order key zero k lt = absurd (omega arith)
@@ -173,7 +173,7 @@ stands-in_order key (suc n) k lt = go (eq-or-lt_of_le (le_of_suc-le-suc lt)) (st
     go (inl e) ih = subst (λ (m : ℕ). Stands m (insert_by key n (in_order key n))) (sym e) (stands-insert key n (in_order key n))
     go (inr l) ih = stands-kept key k n (in_order key n) (ih l)
 
--- keys that are equal below n give one order, and equal sums
+-- keys that are equal below n give the same order and equal sums
 before-same : (key key' : ℕ → ℕ) (j i : ℕ) → key j ≡ key' j → key i ≡ key' i → stands_before key j i ≡ stands_before key' j i
 before-same key key' j i ej ei = ap₂ (λ (x y : ℕ). nat_lt x y || (nat_eq x y && nat_lt j i)) ej ei
 

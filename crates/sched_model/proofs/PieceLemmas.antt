@@ -19,7 +19,7 @@ pub same_holder-refl : (h : Holder) → same_holder h h ≡ true
 same_holder-refl Nobody = refl
 same_holder-refl (Held i k) = grind (arith, nat_tests)
 
--- what holds of each unit holds of each segment
+-- what holds of the holder of each unit holds of the holder of each piece
 each-before : (P : Holder → Type 0) (h : Holder) (rs : List Piece) → P h
     → AllByRecursion (λ (r : Piece). P r.holder) rs → AllByRecursion (λ (r : Piece). P r.holder) (before_pieces h rs)
 each-before P h [] here all = (here, tt)
@@ -34,7 +34,7 @@ pub each-piece : (P : Holder → Type 0) (us : List Holder) → AllByRecursion P
 each-piece P [] all = tt
 each-piece P (u ∷ us) all = each-before P u (pieces_of us) all.0 (each-piece P us all.1)
 
--- one more unit at the end of a list of segments
+-- the pieces, with one more unit after the last
 abbrev pub with_unit : List Piece → Holder → List Piece
 with_unit [] h = piece h 1 ∷ []
 with_unit (r ∷ []) h = if same_holder r.holder h then piece r.holder (r.units + 1) ∷ [] else r ∷ piece h 1 ∷ []
@@ -71,7 +71,7 @@ pub pieces_of-push : (us : List Holder) (h : Holder) → pieces_of (us ++ h ∷ 
 pieces_of-push [] h = refl
 pieces_of-push (u ∷ us) h = ap (before_pieces u) (pieces_of-push us h) ∙ with_unit-before u (pieces_of us) h
 
--- a run of one holder is one segment
+-- a run of one holder is one piece
 pub pieces_of-run : (n : ℕ) (h : Holder) → pieces_of (replicate (suc n) h) ≡ piece h (suc n) ∷ []
 pieces_of-run zero h = refl
 pieces_of-run (suc n) h = ap (before_pieces h) (pieces_of-run n h) ∙ (rw (same_holder-refl h) more)
@@ -79,7 +79,7 @@ pieces_of-run (suc n) h = ap (before_pieces h) (pieces_of-run n h) ∙ (rw (same
     more : piece h (suc n + 1) ∷ [] ≡ piece h (suc (suc n)) ∷ []
     more = let e : suc n + 1 ≡ suc (suc n) = omega arith in ap (λ m. piece h m ∷ []) e
 
--- each segment has a unit
+-- each piece has a unit
 abbrev pub HaveUnits : List Piece → Type 0
 HaveUnits [] = Unit {0}
 HaveUnits (r ∷ rs) = (0 < r.units) × HaveUnits rs

@@ -1,4 +1,4 @@
--- There is exactly one schedule, and the entry in force on it.
+-- There is exactly one schedule of each length, and the entry in force on it.
 use Rattle.std.proofs.Common.{◌≡◌, ℕ, zero, suc, ◌<◌, Bool, true, false, if◌then◌else◌, List, [], ◌∷◌, length, get_or, refl, arith, ap, ◌∙◌, sym, subst}
 use Rattle.std.proofs.lemmas.List.{ext_get_or}
 use Rattle.grid_fraction.specs.declared.Frac.{Frac}
@@ -39,7 +39,7 @@ next_unique p dem ask past x h =
             ∙ (ap (λ e. given e i) h.entry
             ∙ sym (get-table (count p) (given (entry_in_force p dem ask past)) i 0 lt))
 
--- each schedule is that of its length
+-- each schedule is the list of `schedule_by` of its length
 pub schedule_unique : (p : Plan) (dem : ℕ → ℕ → ℕ) (ask : List Tick → Frac) (ticks : List Tick)
     → IsScheduleBy p dem ask ticks → ticks ≡ schedule_by p dem ask (length ticks)
 unfolding schedule_by
@@ -48,7 +48,7 @@ schedule_unique p dem ask (x ∷ past) h =
     let e : past ≡ schedule_by p dem ask (length past) = schedule_unique p dem ask past h.0 in
     ap (λ y. y ∷ past) (next_unique p dem ask past x h.1) ∙ ap (λ ps. next_tick p dem ask ps ∷ ps) e
 
--- the tick that the definition computes may follow, so its ticks are a schedule
+-- the tick that `next_tick` computes may follow the ticks before it
 pub next_tick-may : (p : Plan) (dem : ℕ → ℕ → ℕ) (ask : List Tick → Frac) (past : List Tick)
     → IsNext p dem ask past (next_tick p dem ask past)
 next_tick-may p dem ask past = record {
@@ -65,7 +65,7 @@ next_tick-may p dem ask past = record {
     given : ℕ → ℕ
     given = allotment (count p) (key_of p.scheduler p (length past)) f (left p dem past)
 
--- there is a schedule of each length, whatever demand is published
+-- there is a schedule of each length, for any published demand
 pub schedule_exists : (p : Plan) (dem : ℕ → ℕ → ℕ) (ask : List Tick → Frac) (t : ℕ)
     → IsScheduleBy p dem ask (schedule_by p dem ask t) × (length (schedule_by p dem ask t) ≡ t)
 unfolding schedule_by
@@ -74,7 +74,7 @@ schedule_exists p dem ask (suc t) =
     let r = schedule_exists p dem ask t in
     ((r.0, next_tick-may p dem ask (schedule_by p dem ask t)), omega (arith, r.1))
 
--- tick by tick
+-- the schedule of no ticks is empty, and each longer one is a shorter one with its next tick
 pub schedule-none : (p : Plan) (dem : ℕ → ℕ → ℕ) (ask : List Tick → Frac) → schedule_by p dem ask zero ≡ []
 unfolding schedule_by
 schedule-none p dem ask = refl

@@ -10,7 +10,7 @@ use Rattle.sched_model.specs.Schedule.{IsScheduleBy}
 use Rattle.sched_model.proofs.LevelSums.{share-most}
 use Rattle.sched_model.proofs.JobLaws.{latest-is}
 
--- the past at its own length is itself, and at an earlier tick that of the ticks before the last one
+-- the past at its own length is itself, and the past at an earlier tick doesn't depend on its last tick
 pub at-now : (past : List Tick) → at (length past) past ≡ past
 at-now past = let z : length past - length past ≡ 0 = omega arith in rw z refl
 
@@ -19,7 +19,7 @@ at-before r x past le =
     let e : length (x ∷ past) - r ≡ suc (length past - r) = omega arith in
     ap (λ n. drop n (x ∷ past)) e
 
--- earlier ticks gave no more
+-- a job has had no more in the earlier ticks than in all of them
 pub exec-drop : (p : Plan) (i k n : ℕ) (ticks : List Tick) → exec p (drop n ticks) i k ≤ exec p ticks i k
 exec-drop p i k zero ticks = omega arith
 exec-drop p i k (suc n) [] = omega arith
@@ -30,7 +30,7 @@ pub share-legal : (p : Plan) (dem : ℕ → ℕ → ℕ) (past : List Tick) (f :
     → (i : ℕ) → i < count p → share x i ≤ left p dem past i
 share-legal p dem past f x = share-most (count p) (key_of p.scheduler p (length past)) f (left p dem past) (share x)
 
--- such a tick takes no job over its demand
+-- a tick that gives no task more than its latest job needs takes no job over its demand
 pub exec-within : (p : Plan) (dem : ℕ → ℕ → ℕ) (x : Tick) (past : List Tick) (i k : ℕ) → share x i ≤ left p dem past i
     → exec p past i k ≤ dem i k → exec p (x ∷ past) i k ≤ dem i k
 exec-within p dem x past i k own had = go (is_in_window p i k (length past)) refl
@@ -44,7 +44,7 @@ exec-within p dem x past i k own had = go (is_in_window p i k (length past)) ref
         rw e (omega (arith, own, needs, had))
     go false e = rw e (omega (arith, had))
 
--- no job gets more than its demand
+-- on a schedule no job gets more than its demand
 pub exec-most : (p : Plan) (dem : ℕ → ℕ → ℕ) (ask : List Tick → Frac) (past : List Tick) → IsScheduleBy p dem ask past → (i k : ℕ)
     → i < count p → exec p past i k ≤ dem i k
 exec-most p dem ask [] h i k lt = omega arith

@@ -1,4 +1,4 @@
--- A sort of pairs of a key and a number gives the numbers in the order of the key.
+-- Sorting pairs of a key and a number gives the numbers in the order of the key.
 use Rattle.std.proofs.Common.{◌≡◌, ◌≢◌, ℕ, zero, suc, ◌+◌, ◌≤◌, Bool, true, false, cond, ◌||◌, ◌&&◌, List, [], ◌∷◌, get_or, nat_eq, nat_lt, if◌then◌else◌, refl, arith, ap, ap₂, ◌∙◌, sym, subst, add-one, true≢false}
 use Rattle.std.specs.Prelude.{map, sum_by}
 use Rattle.std.specs.List.{All}
@@ -20,16 +20,16 @@ use Rattle.sched_model.proofs.Tables.{length-list_below, get-table, map-table}
 abbrev one : ℕ → ℕ → ℕ
 one v j = if nat_eq j v then 1 else 0
 
--- how often v stands in the list
+-- how often v is in the list
 abbrev times : ℕ → List ℕ → ℕ
 times v js = sum_list (one v) js
 
--- none of the list stands before i
+-- no number of the list comes before i
 abbrev NoneAhead : (ℕ → ℕ) → ℕ → List ℕ → Type 0
 NoneAhead key i [] = Unit {0}
 NoneAhead key i (j ∷ js) = (stands_before key j i ≡ false) × NoneAhead key i js
 
--- none of the list stands before an earlier one
+-- no number of the list comes before an earlier one of it
 abbrev IsRising : (ℕ → ℕ) → List ℕ → Type 0
 IsRising key [] = Unit {0}
 IsRising key (i ∷ js) = NoneAhead key i js × IsRising key js
@@ -44,7 +44,7 @@ none_of key i v (j ∷ js) a h = go (nat_eq j v) refl h (none_of key i v js a.1)
         subst (λ (k : ℕ). stands_before key k i ≡ false) same a.0
     go false e m ih = ih (omega arith)
 
--- two rising lists with the same elements begin alike
+-- two rising lists with the same elements begin with the same number
 same_first : (key : ℕ → ℕ) (x y : ℕ) (xs ys : List ℕ) → NoneAhead key x xs → NoneAhead key y ys → ((v : ℕ) → times v (x ∷ xs) ≡ times v (y ∷ ys)) → x ≡ y
 same_first key x y xs ys a b h = go (nat_eq x y) refl
   where

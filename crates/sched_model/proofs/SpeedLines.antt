@@ -1,4 +1,4 @@
--- The lines of speed and the last line of worked plans, by evaluation.
+-- The speed lines and the end line of worked plans, by evaluation.
 use Rattle.std.proofs.Common.{◌≡◌, ℕ, Bool, true, false, List, [], ◌∷◌, refl, filter}
 use Rattle.dvs_base.specs.declared.note.Note.{Note}
 use Rattle.dvs_base.specs.declared.note.Note.TheVariants.{Speed, End}
@@ -25,7 +25,7 @@ is_speed_or_end _ = false
 abbrev speeds_and_end : Plan → GovernorKind → List DemandRow → ℕ → List Note
 speeds_and_end p g rows ticks = filter is_speed_or_end (run_notes p g (demand_of p rows) ticks)
 
--- under static EDF
+-- the example of Pillai and Shin 2001 under static EDF
 paper_example_edf_static : speeds_and_end (paper_example Edf) Fixed paper_demands 16 ≡
     Speed 0 3 836 280 ∷ Speed 3 3 836 280 ∷ Speed 4 3 836 280 ∷ Speed 6 3 836 280 ∷ Speed 8 3 836 280 ∷ Speed 10 3 836 280
     ∷ Speed 12 3 836 280 ∷ Speed 14 3 836 280 ∷ End 16 448000000000 0 ∷ []

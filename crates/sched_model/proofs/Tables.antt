@@ -1,4 +1,4 @@
--- Lists that are a function of the place.
+-- Lists whose elements are a function of their place.
 use Rattle.std.proofs.Common.{◌≡◌, ◌≢◌, ℕ, zero, suc, ◌-◌, ◌<◌, Bool, true, false, eqb, [], ◌∷◌, ◌++◌, length, length-append, get_or, set, refl, arith, ap, ap₂, ◌∙◌, sym, ◌⊎◌, inl, inr, eq-or-lt_of_le, le_of_suc-le-suc, length-set, get_or-set_same, get_or-set_other}
 use Rattle.std.proofs.lemmas.List.{ext_get_or, get_or-append_right}
 use Rattle.std.proofs.Math.ListN.{get_or-append}
@@ -28,7 +28,7 @@ pub table-same : {A : Type 0} (n : ℕ) (f g : ℕ → A) → ((k : ℕ) → k <
 table-same zero f g h = refl
 table-same (suc n) f g h = ap₂ (λ xs x. xs ++ x ∷ []) (table-same n f g (λ k l. h k (omega arith))) (h n (omega arith))
 
--- a place of the table written
+-- writing one place of a table gives the table of a function that differs there alone
 pub set-table : {A : Type 0} (n : ℕ) (f g : ℕ → A) (i : ℕ) (v : A) → i < n → g i ≡ v → ((k : ℕ) → k < n → k ≢ i → g k ≡ f k)
     → set (list_below n f) i v ≡ list_below n g
 set-table n f g i v lt here there =

@@ -26,7 +26,7 @@ text p g rows ticks = run_text p g (demand_of p rows) ticks
 abbrev lines : List (List ℕ) → List ℕ
 lines ls = flat_map (λ l. l ++ 10 ∷ []) ls
 
--- under EDF with no governor: always the highest speed
+-- the example of Pillai and Shin 2001 under EDF with no governor: always the highest speed
 paper_example_edf_none : text (paper_example Edf) Plain [] 16 ≡
     lines (
     codes "trace 1" ∷
@@ -66,7 +66,8 @@ paper_example_edf_none : text (paper_example Edf) Plain [] 16 ≡
 unfolding digits least_common_multiple published in_order release due latest schedule_by notes_before_end note_text
 paper_example_edf_none = refl
 
--- under cycle-conserving EDF: tick 2 is shared, and the completion inside it is seen at tick 3
+-- the example of Pillai and Shin 2001 under cycle-conserving EDF:
+-- tick 2 is shared, and the completion inside it is seen at tick 3
 paper_example_edf_cc : text (paper_example Edf) Cycle paper_demands 16 ≡
     lines (
     codes "trace 1" ∷
@@ -106,7 +107,7 @@ paper_example_edf_cc : text (paper_example Edf) Cycle paper_demands 16 ≡
 unfolding digits least_common_multiple published in_order release due latest schedule_by notes_before_end note_text
 paper_example_edf_cc = refl
 
--- under look-ahead EDF
+-- the example of Pillai and Shin 2001 under look-ahead EDF
 paper_example_edf_la : text (paper_example Edf) Ahead paper_demands 16 ≡
     lines (
     codes "trace 1" ∷
@@ -147,7 +148,7 @@ paper_example_edf_la : text (paper_example Edf) Ahead paper_demands 16 ≡
 unfolding digits least_common_multiple published in_order release due latest schedule_by notes_before_end note_text
 paper_example_edf_la = refl
 
--- under cycle-conserving RM
+-- the example of Pillai and Shin 2001 under cycle-conserving RM
 paper_example_rm_cc : text (paper_example Rm) Cycle paper_demands 16 ≡
     lines (
     codes "trace 1" ∷
@@ -226,7 +227,7 @@ zero_demand_done_at_release : text (paper_example Edf) Cycle (row 0 1 0 ∷ []) 
 unfolding digits least_common_multiple published in_order release due latest schedule_by notes_before_end note_text
 zero_demand_done_at_release = refl
 
--- the same with no governor
+-- a job of demand 0 with no governor is done at its release
 zero_demand_with_no_governor : text (paper_example Edf) Plain (row 0 1 0 ∷ []) 1 ≡
     lines (
     codes "trace 1" ∷
@@ -288,7 +289,7 @@ realistic_controller : text controller Cycle controller_demands 100 ≡
 unfolding digits least_common_multiple published in_order release due latest schedule_by notes_before_end note_text
 realistic_controller = refl
 
--- under RM the shorter period runs first, wherever it stands
+-- under RM the shorter period runs first, at any place in the file
 rm_shorter_period_first : text two_tasks Plain [] 6 ≡
     lines (
     codes "trace 1" ∷
@@ -349,7 +350,7 @@ edf_cc_before_all_releases : text (late_alone Edf) Cycle [] 3 ≡
 unfolding digits least_common_multiple published in_order release due latest schedule_by notes_before_end note_text
 edf_cc_before_all_releases = refl
 
--- the same under look-ahead, up to the offset
+-- a run under look-ahead that ends before the first release idles throughout
 edf_la_before_all_releases : text (late_alone Edf) Ahead [] 3 ≡
     lines (
     codes "trace 1" ∷
@@ -361,7 +362,7 @@ edf_la_before_all_releases : text (late_alone Edf) Ahead [] 3 ≡
 unfolding digits least_common_multiple published in_order release due latest schedule_by notes_before_end note_text
 edf_la_before_all_releases = refl
 
--- and under cycle-conserving RM
+-- a run under cycle-conserving RM that ends before the first release idles throughout
 rm_cc_before_all_releases : text (late_alone Rm) Cycle [] 3 ≡
     lines (
     codes "trace 1" ∷
@@ -373,7 +374,7 @@ rm_cc_before_all_releases : text (late_alone Rm) Cycle [] 3 ≡
 unfolding digits least_common_multiple published in_order release due latest schedule_by notes_before_end note_text
 rm_cc_before_all_releases = refl
 
--- under EDF the earlier deadline runs first, whatever the periods; of equal deadlines the earlier place
+-- under EDF the earlier deadline runs first, for any periods; of equal deadlines the earlier place
 earliest_deadline_first : text early_and_late Plain [] 6 ≡
     lines (
     codes "trace 1" ∷

@@ -1,4 +1,5 @@
--- The static demand under RM is the share of a task of the plan, and no level asks for a greater one; the static demand's denominator.
+-- The static demand under RM is the share of a task's level, and no level asks for a greater one.
+-- The denominator of the static demand.
 use Rattle.std.proofs.Common.{◌≡◌, ℕ, zero, suc, ◌+◌, ◌-◌, ◌*◌, ◌^◌, ◌<◌, ◌≤◌, Bool, true, false, ◌||◌, ◌&&◌, refl, arith, sym, subst, nat_eq, add-one}
 use Rattle.std.specs.Prelude.{nat_lt}
 use Rattle.std.proofs.lemmas.Bool.Decides.{nat_tests}
@@ -15,7 +16,7 @@ not_over : (a b : ℕ) (c : Bool) → (nat_lt b a || (nat_eq a b && c)) ≡ fals
 not_over a b c h = grind (arith, nat_tests)
 
 module _ (p : Plan) (lim : IsWithinLimits p) where
-  -- the heaviest of the first tasks
+  -- the heaviest of the first m tasks
   abbrev Found : ℕ → Type 0
   Found m = (i : ℕ) × IsHeaviest (level_work p) (period p) m i
 

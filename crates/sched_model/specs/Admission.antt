@@ -1,4 +1,4 @@
--- What an admitted plan keeps.
+-- What holds of every admitted plan.
 use Rattle.std.specs.Prelude.{◌≡◌, ℕ, List}
 use Rattle.grid_fraction.specs.declared.Frac.{Frac}
 use Rattle.dvs_base.specs.declared.kind.Scheduler.{Scheduler}
@@ -15,17 +15,17 @@ pub record IsWithinLimits (p : Plan) : Type 0 where
   pub tasks : IsTaskSet p.tasks
   pub machine : IsTable p.machine
 
--- the scheduler's own test
+-- the test of a scheduler
 abbrev pub PassesTest : Scheduler → Plan → Type 0
 PassesTest Edf p = IsEdfFeasible p
 PassesTest Rm p = IsRmFeasible p
 
--- an admitted plan: within the limits, and its own scheduler's test passes
+-- an admitted plan: within the limits, and its scheduler's test passes
 pub record IsAdmitted (p : Plan) : Type 0 where
   pub limits : IsWithinLimits p
   pub test : PassesTest p.scheduler p
 
--- what an admitted plan holds beside its parts: the names, the tasks in RM order, the hyperperiod and the static demand
+-- what an admitted plan stores beside its parts: names, RM order, hyperperiod and static demand
 pub record HoldsPlan (p : Plan) (name_list : List (List ℕ)) (rm_order : List ℕ) (hyperperiod : ℕ) (static_fraction : Frac) : Type 0 where
   pub admitted : IsAdmitted p
   pub names_are : name_list ≡ names p

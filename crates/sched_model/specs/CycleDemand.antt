@@ -1,6 +1,6 @@
 -- The demands of cycle conservation (Pillai and Shin 2001): what completed jobs did not need is taken off.
--- Both are formulas over the tasks: under EDF over what each is charged with, under RM over what each might need at the
--- last release and has had since.
+-- Both are formulas over the tasks. Under EDF they use what each task is charged with. Under RM they use what each
+-- job might need at the last release and what it has had since.
 use Rattle.std.specs.Prelude.{ℕ, ◌*◌, ◌-◌, ◌/◌, Bool, List, length, if◌then◌else◌}
 use Rattle.grid_fraction.specs.declared.Frac.{Frac}
 use Rattle.grid_fraction.specs.Numbers.{sum_below}
@@ -11,24 +11,24 @@ use Rattle.sched_model.specs.Demands.{JobDemands}
 use Rattle.sched_model.specs.Priority.{allotment}
 use Rattle.sched_model.specs.StaticDemand.{static_speed}
 
--- the rate of task i: the work of H ticks, when each of its jobs takes so many units
+-- the work of task i in H ticks, when each of its jobs takes `units` units
 abbrev pub rate_for : Plan → ℕ → ℕ → ℕ
 rate_for p i units = units * (hyper p / period p i)
 
--- EDF, cc, where `units i` is Vi: the sum of Vi*(H/Pi) over H
+-- the demand of `cc` under EDF, where `units i` is Vi: the sum of Vi*(H/Pi), over H
 abbrev pub edf_cycle_of : Plan → (ℕ → ℕ) → Frac
 edf_cycle_of p units = record { num = sum_below (count p) (λ i. rate_for p i (units i)); den = hyper p }
 
--- Vi: Ci while the latest job is incomplete, and else its demand
+-- Vi: Ci while the latest job of task i is incomplete, and otherwise that job's demand
 abbrev pub charged : Plan → JobDemands → List Tick → ℕ → ℕ
 charged p dem past i = if is_complete p dem past i then dem i (latest p i (length past)) else worst p i
 
--- EDF, cc: that of the latest jobs
+-- the demand of `cc` under EDF at the tick after `past`
 abbrev pub edf_cycle : Plan → JobDemands → List Tick → Frac
 edf_cycle p dem past = edf_cycle_of p (charged p dem past)
 
--- What the demand under RM is made of: the last release r, and the earliest deadline N after it; of each task's job what
--- it might need at r, what it has had since, and whether it is complete.
+-- What the demand under RM uses: the last release r, the earliest deadline N after it, and for each task what its job
+-- might need at r, what it has had since, and whether it is complete.
 pub record SinceRelease : Type 0 where
   pub mark : ℕ
   pub first : ℕ
@@ -40,26 +40,26 @@ pub record SinceRelease : Type 0 where
 abbrev pub units_of : Plan → SinceRelease → ℕ
 units_of p v = (v.first - v.mark) * static_speed p
 
--- what task i gets of them in RM order
+-- the units that task i gets when the (N-r)*fs units are handed out in RM order
 abbrev pub allotted_of : Plan → SinceRelease → ℕ → ℕ
 allotted_of p v i = allotment (count p) (period p) (units_of p v) v.base i
 
--- di, what is left of its allotment
+-- di, what is left of the allotment of task i; 0 where its job is complete
 abbrev pub allotment_left_of : Plan → SinceRelease → ℕ → ℕ
 allotment_left_of p v i = if v.done i then 0 else allotted_of p v i - v.had i
 
--- RM, cc, at tick t: the sum of the di, over N-t
+-- the demand of `cc` under RM at tick t: the sum of the di, over N-t
 abbrev pub rm_cycle_of : Plan → SinceRelease → ℕ → Frac
 rm_cycle_of p v t = record { num = sum_below (count p) (allotment_left_of p v); den = v.first - t }
 
--- what the latest job of task i has had since the last release
+-- the units that the latest job of task i has had since the last release
 abbrev pub had_since_release : Plan → List Tick → ℕ → ℕ
 had_since_release p past i =
     let r = last_release p (length past) in
     let k = latest p i r in
     exec p past i k - exec p (at r past) i k
 
--- the parts of the demand for the latest jobs
+-- the last release and the counters of the latest jobs at the tick after `past`
 abbrev pub since_release : Plan → JobDemands → List Tick → SinceRelease
 since_release p dem past = record {
   mark = last_release p (length past);
@@ -69,14 +69,14 @@ since_release p dem past = record {
   done = is_complete p dem past;
 }
 
--- what task i gets at the last release
+-- the units that task i is allotted at the last release
 abbrev pub allotted : Plan → JobDemands → List Tick → ℕ → ℕ
 allotted p dem past i = allotted_of p (since_release p dem past) i
 
--- and what is left of it
+-- di at the tick after `past`: what is left of the units that task i is allotted at the last release
 abbrev pub allotment_left : Plan → JobDemands → List Tick → ℕ → ℕ
 allotment_left p dem past i = allotment_left_of p (since_release p dem past) i
 
--- RM, cc: that of the latest jobs
+-- the demand of `cc` under RM at the tick after `past`
 abbrev pub rm_cycle : Plan → JobDemands → List Tick → Frac
 rm_cycle p dem past = rm_cycle_of p (since_release p dem past) (length past)

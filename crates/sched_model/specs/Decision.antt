@@ -5,12 +5,12 @@ use Rattle.sched_model.specs.Jobs.{latest, is_release}
 use Rattle.sched_model.specs.Ticks.{Tick, is_done}
 use Rattle.grid_fraction.specs.Numbers.{any_below}
 
--- the latest job of task i was incomplete before the tick x, and had its whole demand by the end of it
+-- whether the latest job of task i is incomplete before the tick x and complete at its end
 abbrev pub completes_in : Plan → (ℕ → ℕ → ℕ) → Tick → List Tick → ℕ → Bool
 completes_in p dem x past i =
     let k = latest p i (length past) in not (is_done p dem past i k) && is_done p dem (x ∷ past) i k
 
--- whether the tick after `past` is a decision instant: it is tick 0, or a release, or a job completed in the tick before
+-- whether the tick after `past` is a decision instant: tick 0, a release, or the tick after a completion
 abbrev pub is_decision : Plan → (ℕ → ℕ → ℕ) → List Tick → Bool
 is_decision p dem [] = true
 is_decision p dem (x ∷ past) =

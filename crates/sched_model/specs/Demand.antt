@@ -11,7 +11,7 @@ use Rattle.sched_model.specs.StaticDemand.{full_demand, edf_static, rm_static}
 use Rattle.sched_model.specs.CycleDemand.{edf_cycle, rm_cycle}
 use Rattle.sched_model.specs.AheadDemand.{edf_ahead}
 
--- the seven pairs; RM with look-ahead is none
+-- the published demand of each of the seven pairs; RM with look-ahead isn't a pair, and has that of no governor
 abbrev pub demand_by : Scheduler → GovernorKind → Plan → (ℕ → ℕ → ℕ) → List Tick → Frac
 demand_by Edf Plain p dem past = full_demand p
 demand_by Rm Plain p dem past = full_demand p
@@ -22,6 +22,6 @@ demand_by Rm Cycle p dem past = rm_cycle p dem past
 demand_by Edf Ahead p dem past = edf_ahead p dem past
 demand_by Rm Ahead p dem past = full_demand p
 
--- the published demand of a governor at the tick after `past`
+-- the published demand under a governor of kind g at the tick after `past`
 unfoldable pub published : Plan → GovernorKind → (ℕ → ℕ → ℕ) → List Tick → Frac
 published p g dem past = demand_by p.scheduler g p dem past

@@ -7,11 +7,11 @@ use Rattle.sched_model.specs.Plan.{Plan, count, period, offset}
 unfoldable pub release : Plan → ℕ → ℕ → ℕ
 release p i k = offset p i + (k - 1) * period p i
 
--- the tick at which it is due; job 0, which stands before the first release, is due there
+-- the tick at which job k of task i is due; job 0, which precedes the first release, is due at the first release
 unfoldable pub due : Plan → ℕ → ℕ → ℕ
 due p i k = offset p i + k * period p i
 
--- the job of task i that was released last, up to tick t, and job 0 where none was
+-- the job of task i that was released last, up to and including tick t; job 0 where none was
 unfoldable pub latest : Plan → ℕ → ℕ → ℕ
 latest p i t = if nat_le (offset p i) t then (t - offset p i) / period p i + 1 else 0
 
@@ -20,7 +20,7 @@ abbrev pub latest_since : Plan → ℕ → ℕ → ℕ
 latest_since p i zero = 0
 latest_since p i (suc k) = release p i (suc k)
 
--- Di(t), the deadline of the latest job
+-- Di(t), the deadline of the latest job of task i
 abbrev pub deadline : Plan → ℕ → ℕ → ℕ
 deadline p i t = due p i (latest p i t)
 
@@ -36,14 +36,14 @@ is_release p t = any_below (count p) (λ i. releases_at p i t)
 abbrev pub earliest : Plan → ℕ → ℕ
 earliest p t = least_below (count p) (λ i. deadline p i t)
 
--- r, the last release up to t, and 0 where there is none
+-- r, the last tick with a release, up to and including tick t; 0 where there is none
 abbrev pub last_release : Plan → ℕ → ℕ
 last_release p t = last_up_to t (is_release p)
 
--- whether tick s lies between the release and the deadline of job k
+-- whether tick s is in the window of job k of task i: not before its release, and before its deadline
 abbrev pub is_in_window : Plan → ℕ → ℕ → ℕ → Bool
 is_in_window p i k s = nat_le (release p i k) s && nat_lt s (due p i k)
 
--- how many jobs are released below so many ticks: of each task one for each period that begins between its offset and there
+-- the number of jobs released before tick `ticks`
 abbrev pub released_jobs : Plan → ℕ → ℕ
 released_jobs p ticks = sum_below (count p) (λ i. ceil_div (ticks - offset p i) (period p i))

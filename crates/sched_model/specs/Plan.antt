@@ -12,35 +12,35 @@ pub record Plan : Type 0 where
   pub machine : Table
   pub scheduler : Scheduler
 
--- the plan of these three
+-- the plan of some tasks, a machine and a scheduler
 abbrev pub plan_of : List Task → Table → Scheduler → Plan
 plan_of tasks machine scheduler = record { tasks = tasks; machine = machine; scheduler = scheduler }
 
--- how many tasks there are; they are numbered from 0
+-- the number of tasks; they are numbered from 0
 abbrev pub count : Plan → ℕ
 count p = length p.tasks
 
--- a task by its number
+-- the task with number i
 abbrev pub task : Plan → ℕ → Task
 task p i = task_at p.tasks i
 
--- the tasks' names, by their numbers
+-- the tasks' names, in the order of their numbers
 abbrev pub names : Plan → List (List ℕ)
 names p = map (λ t. t.name) p.tasks
 
--- Pi, the ticks from one release to the next
+-- Pi, the ticks from one release of task i to its next
 abbrev pub period : Plan → ℕ → ℕ
 period p i = (task p i).period
 
--- Oi, the tick of the first release
+-- Oi, the tick of the first release of task i
 abbrev pub offset : Plan → ℕ → ℕ
 offset p i = (task p i).offset
 
--- Ci: the declared worst case, and the charge for two switches of speed
+-- Ci, the declared worst case of task i with the charge for two switches of speed
 abbrev pub worst : Plan → ℕ → ℕ
 worst p i = (task p i).worst + 2 * p.machine.charge
 
--- an entry of the machine by its number
+-- the entry of the machine with number e
 abbrev pub point : Plan → ℕ → Point
 point p e = point_at p.machine e
 
@@ -52,6 +52,6 @@ top_speed p = highest_speed p.machine
 abbrev pub hyper : Plan → ℕ
 hyper p = hyper_of p.tasks
 
--- ui: the work of a task in H ticks, when each job takes its worst case
+-- ui, the work of task i in H ticks, when each of its jobs takes its worst case
 abbrev pub rate : Plan → ℕ → ℕ
 rate p i = worst p i * (hyper p / period p i)

@@ -7,35 +7,38 @@ use Rattle.sched_model.specs.Jobs.{deadline}
 use Rattle.sched_model.specs.Ticks.{Tick, share, left}
 use Rattle.grid_fraction.specs.Numbers.{sum_where}
 
--- what a scheduler orders the tasks by at tick t: the deadline under EDF, the period under RM
+-- the key by which a scheduler orders the tasks at tick t: the deadline under EDF, the period under RM
 abbrev pub key_of : Scheduler → Plan → ℕ → ℕ → ℕ
 key_of Edf p t i = deadline p i t
 key_of Rm p t i = period p i
 
--- whether task j stands before task i: by the key, and by the place among equal keys
+-- whether task j comes before task i: by the key, and among equal keys by the number
 abbrev pub stands_before : (ℕ → ℕ) → ℕ → ℕ → Bool
 stands_before key j i = nat_lt (key j) (key i) || (nat_eq (key j) (key i) && nat_lt j i)
 
--- whether task j is task i or stands before it
+-- whether task j is task i or comes before it
 abbrev pub is_up_to : (ℕ → ℕ) → ℕ → ℕ → Bool
 is_up_to key i j = stands_before key j i || nat_eq j i
 
--- the sum of f over the tasks before task i
+-- the sum of f over the tasks that come before task i
 abbrev pub sum_before : (n : ℕ) → (ℕ → ℕ) → (ℕ → ℕ) → ℕ → ℕ
 sum_before n key f i = sum_where n (λ j. stands_before key j i) f
 
--- the sum of f over task i and the tasks before it
+-- the sum of f over task i and the tasks that come before it
 abbrev pub sum_up_to : (n : ℕ) → (ℕ → ℕ) → (ℕ → ℕ) → ℕ → ℕ
 sum_up_to n key f i = sum_before n key f i + f i
 
--- `given` shares out so much room by the order: each task and those before it get the smaller of the room and what they need
+-- `given` hands out `room` units in the order of the key:
+-- each task and those before it get the smaller of `room` and what they need
 abbrev pub SharesOut : (n : ℕ) → (ℕ → ℕ) → ℕ → (ℕ → ℕ) → (ℕ → ℕ) → Type 0
 SharesOut n key room need given = (i : ℕ) → i < n → sum_up_to n key given i ≡ min room (sum_up_to n key need i)
 
--- the one such share of task i: what it and those before it take of the room, less what those before it take
+-- the units of task i when `room` units are handed out in the order of the key:
+-- what it and those before it take, less what those before it take
 abbrev pub allotment : (n : ℕ) → (ℕ → ℕ) → ℕ → (ℕ → ℕ) → ℕ → ℕ
 allotment n key room need i = min room (sum_up_to n key need i) - min room (sum_before n key need i)
 
--- a tick after `past` is legal at speed f: the tasks share the f units by their priority, each up to what its latest job needs
+-- a tick after `past` is legal at speed f: the f units go to the tasks by priority,
+-- to each up to what its latest job needs
 abbrev pub IsLegal : Plan → (ℕ → ℕ → ℕ) → List Tick → ℕ → Tick → Type 0
 IsLegal p dem past f x = SharesOut (count p) (key_of p.scheduler p (length past)) f (left p dem past) (share x)

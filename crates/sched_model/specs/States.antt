@@ -8,34 +8,34 @@ use Rattle.sched_model.specs.Plan.{Plan, count, period, offset, worst}
 use Rattle.sched_model.specs.Jobs.{latest, due, last_release}
 use Rattle.sched_model.specs.Ticks.{Tick, at, exec, is_done, is_complete, wleft}
 
--- what a governor sees: the tick, the rows, the tick of the last mark, and what each job might still need there
+-- what a governor sees: the tick, the rows, the tick of the last mark, and what each job might need there
 pub record StateOf : Type 0 where
   pub now : ℕ
   pub rows : List Row
   pub base_at : ℕ
   pub base : List ℕ
 
--- a row that no state has, for places past the end
+-- the row that is read past the end of the rows
 abbrev pub no_row : Row
 no_row = record { deadline = 0; job = 0; used = 0; done = true; worst = 0 }
 
--- the row of a task
+-- the row of task i
 abbrev pub row_at : StateOf → ℕ → Row
 row_at s i = slice_index_or s.rows i no_row
 
--- what a job may still need at most
+-- the units that the job of a row may still need by its worst case; 0 where it is complete
 abbrev pub row_wleft : Row → ℕ
 row_wleft row = if row.done then 0 else row.worst - row.used
 
--- the row after the next release
+-- a row after its task's next release
 abbrev pub released_row : ℕ → Row → Row
 released_row period row = record { deadline = row.deadline + period; job = row.job + 1; used = 0; done = false; worst = row.worst }
 
--- the row before the first release: job 0, which is complete, due at that release
+-- a task's row before its first release: job 0, which is complete and due at the first release
 abbrev pub opening_row : ℕ → ℕ → Row
 opening_row offset worst = record { deadline = offset; job = 0; used = 0; done = true; worst = worst }
 
--- the state before the first release
+-- the state before the first release: every row has job 0
 abbrev pub opening : Plan → StateOf
 opening p = record {
   now = 0;
@@ -44,7 +44,7 @@ opening p = record {
   base = list_below (count p) (λ i. 0);
 }
 
--- a state is of a plan
+-- the state fits the plan: a row and a base for each task, the plan's worst cases, and no job over its worst case
 pub record IsOfPlan (p : Plan) (s : StateOf) : Type 0 where
   pub rows : length s.rows ≡ count p
   pub base : length s.base ≡ count p
@@ -56,23 +56,23 @@ pub record IsStateOf (s : StateOf) : Type 0 where
   pub base : length s.base ≡ length s.rows
   pub used : (i : ℕ) → i < length s.rows → (row_at s i).used ≤ (row_at s i).worst
 
--- what the five calls make of a state: the next job of task i is released
+-- the state after `State::release`: the next job of task i is released
 abbrev pub after_release : Plan → StateOf → ℕ → StateOf
 after_release p s i = record s { rows = slice_set s.rows i (released_row (period p i) (row_at s i)) }
 
--- the job of task i has had so many more units
+-- the state after `State::run`: the job of task i has had `units` more units
 abbrev pub after_run : StateOf → ℕ → ℕ → StateOf
 after_run s i units = record s { rows = slice_set s.rows i (record (row_at s i) { used = (row_at s i).used + units }) }
 
--- the job of task i is complete
+-- the state after `State::finish`: the job of task i is complete
 abbrev pub after_finish : StateOf → ℕ → StateOf
 after_finish s i = record s { rows = slice_set s.rows i (record (row_at s i) { done = true }) }
 
--- it is a later tick
+-- the state after `State::advance`: the tick is `to`
 abbrev pub after_advance : StateOf → ℕ → StateOf
 after_advance s to = record s { now = to }
 
--- the mark stands at this tick, with what each job may still need
+-- the state after `State::mark`: the mark is at this tick, and the bases are what each job may still need
 abbrev pub after_mark : StateOf → StateOf
 after_mark s = record s { base_at = s.now; base = map row_wleft s.rows }
 
@@ -85,7 +85,7 @@ pub record CanRelease (p : Plan) (s : StateOf) (i : ℕ) : Type 0 where
   pub deadline_fits : (row_at s i).deadline + period p i < u64_end
   pub job_fits : (row_at s i).job + 1 < u64_end
 
--- the job of task i is incomplete, and its worst case has room for so many units
+-- the job of task i is incomplete, and its worst case has room for `units` more units
 pub record CanRun (s : StateOf) (i units : ℕ) : Type 0 where
   pub task : i < length s.rows
   pub open_job : (row_at s i).done ≡ false
@@ -96,19 +96,20 @@ pub record CanFinish (s : StateOf) (i : ℕ) : Type 0 where
   pub task : i < length s.rows
   pub open_job : (row_at s i).done ≡ false
 
--- a row before the releases of the tick after `past`: job 0 at the start, and else the job that was the latest in the last tick
+-- the row of task i before the releases of the tick after `past`:
+-- job 0 at the start, and otherwise the latest job of the tick before
 abbrev pub prior_row : Plan → (ℕ → ℕ → ℕ) → List Tick → ℕ → Row
 prior_row p dem [] i = opening_row (offset p i) (worst p i)
 prior_row p dem (x ∷ past) i =
     let k = latest p i (length past) in
     record { deadline = due p i k; job = k; used = exec p (x ∷ past) i k; done = is_done p dem (x ∷ past) i k; worst = worst p i }
 
--- the mark before the releases of the tick after `past`: the last release before it, and 0 at the start
+-- the tick of the mark before the releases of the tick after `past`: the last release before it; 0 at the start
 abbrev pub prior_base_at : Plan → List Tick → ℕ
 prior_base_at p [] = 0
 prior_base_at p (x ∷ past) = last_release p (length past)
 
--- what the job of task i might still need at that mark
+-- what the job of task i might still need at the mark before the releases of the tick after `past`; 0 at the start
 abbrev pub prior_base : Plan → (ℕ → ℕ → ℕ) → List Tick → ℕ → ℕ
 prior_base p dem [] i = 0
 prior_base p dem (x ∷ past) i = wleft p dem (at (last_release p (length past)) past) i
@@ -122,13 +123,13 @@ prior_state p dem past = record {
   base = list_below (count p) (prior_base p dem past);
 }
 
--- a row of the tick after `past`, after its releases
+-- the row of task i at the tick after `past`, after its releases
 abbrev pub row_of : Plan → (ℕ → ℕ → ℕ) → List Tick → ℕ → Row
 row_of p dem past i =
     let k = latest p i (length past) in
     record { deadline = due p i k; job = k; used = exec p past i k; done = is_complete p dem past i; worst = worst p i }
 
--- the state of the tick after `past`, after its releases
+-- the state at the tick after `past`, after its releases and their mark
 abbrev pub state_of : Plan → (ℕ → ℕ → ℕ) → List Tick → StateOf
 state_of p dem past =
     let r = last_release p (length past) in

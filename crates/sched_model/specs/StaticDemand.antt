@@ -1,4 +1,5 @@
--- The demands that no run changes: none, and static scaling (Pillai and Shin 2001). Fractions of units per tick, not reduced.
+-- The demands that no run changes: no governor, and static scaling (Pillai and Shin 2001).
+-- Fractions of units per tick, not reduced.
 use Rattle.std.specs.Prelude.{ℕ, ◌*◌, Bool, not, ◌||◌, ◌&&◌, nat_lt, nat_eq}
 use Rattle.dvs_base.specs.declared.kind.Scheduler.{Scheduler}
 use Rattle.dvs_base.specs.declared.kind.Scheduler.TheVariants.{Edf, Rm}
@@ -9,11 +10,11 @@ use Rattle.sched_model.specs.Plan.{Plan, count, period, hyper, top_speed}
 use Rattle.sched_model.specs.Priority.{stands_before}
 use Rattle.sched_model.specs.Tests.{total_rate, level_work}
 
--- no governor: always the highest speed
+-- the demand with no governor: always the highest speed
 abbrev pub full_demand : Plan → Frac
 full_demand p = record { num = top_speed p; den = 1 }
 
--- EDF, static: the sum of the rates over H
+-- the static demand under EDF: the sum of the rates, over H
 abbrev pub edf_static : Plan → Frac
 edf_static p = record { num = total_rate p; den = hyper p }
 
@@ -28,20 +29,20 @@ outweighs p j i =
 abbrev pub level_share : Plan → ℕ → Frac
 level_share p i = record { num = level_work p i; den = period p i }
 
--- the task of the greatest share, of equal ones the first in RM order
+-- the task whose level asks for the greatest share of its period; of equal ones the first in RM order
 abbrev pub heaviest : Plan → ℕ
 heaviest p = first_from (count p) 0 (λ i. not (any_below (count p) (λ j. outweighs p j i)))
 
--- RM, static: its share
+-- the static demand under RM: the greatest share that a level asks for
 abbrev pub rm_static : Plan → Frac
 rm_static p = level_share p (heaviest p)
 
--- the static demand under a scheduler
+-- the static demand under scheduler s
 abbrev pub static_demand_of : Scheduler → Plan → Frac
 static_demand_of Edf p = edf_static p
 static_demand_of Rm p = rm_static p
 
--- the static demand of a plan, by its scheduler
+-- the static demand of a plan under its own scheduler
 abbrev pub static_demand : Plan → Frac
 static_demand p = static_demand_of p.scheduler p
 

@@ -1,6 +1,6 @@
-// Who holds a unit.
+// The holder of a unit.
 
-/// Nobody, or a job: its task's number and its own.
+/// The holder of a unit: nobody, or a job by its task's number and its own.
 #[derive(Clone, Copy, Debug, PartialEq, Eq)]
 pub enum Holder {
     Nobody,

@@ -1,8 +1,8 @@
 //! The model of a plan and its schedule, and the state of a run.
-//! `specs/` goes from the plan to the text of a trace: jobs, ticks, priority, decisions, published demands, the tests of
-//! admission, the schedule, its segments, notes and deadlines.
-//! Callers may rely on an `Admitted` plan to be within the limits and to pass its scheduler's test, on each call of
-//! `State` to change exactly what it says, and on a plan to have exactly one schedule of each length.
+//! `specs/` goes from the plan to the text of a trace: jobs, ticks, priority, decisions, published demands, the tests
+//! of admission, the schedule, its segments, notes and deadlines.
+//! Callers may rely on an `Admitted` plan being within the limits and passing its scheduler's test, on each call of
+//! `State` changing exactly what it says, and on a plan having exactly one schedule of each length.
 #![tactic(auto)]
 
 mod holder;

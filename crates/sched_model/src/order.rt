@@ -1,4 +1,4 @@
-// The order of tasks under RM: by period, the shortest first, and by place among equal periods.
+// The order of tasks under RM: by period, the shortest first, and among equal periods by number.
 ghost use Rattle.std.specs.Prelude.{◌≡◌, ◌<◌, ℕ, IfOk, length, map};
 ghost use Rattle.grid_fraction.specs.Numbers.{list_below};
 ghost use Rattle.task_model.specs.Tasks.{task_at};
@@ -9,7 +9,7 @@ use dvs_base::NoMemory;
 use std::alloc::Global;
 use task_model::TaskSet;
 
-/// Whether task `j` stands before task `i` in RM order.
+/// Whether task `j` comes before task `i` in RM order.
 pub fn stands_before(tasks: &TaskSet, j: u32, i: u32) -> bool
     requires first { j < length tasks.now }
     requires second { i < length tasks.now }
@@ -20,7 +20,7 @@ pub fn stands_before(tasks: &TaskSet, j: u32, i: u32) -> bool
     first < second || (first == second && j < i)
 }
 
-// Each task's period and number.
+// Each task's period and number, in the order of the numbers.
 fn keys_of(alloc: Global, tasks: &TaskSet) -> Result<Vec<(u64, u32)>, NoMemory>
     ensures { IfOk result (λ v. v.items ≡ list_below (length tasks.now) (λ i. ((task_at tasks.now i).period, i))) }
 {
@@ -31,7 +31,7 @@ fn keys_of(alloc: Global, tasks: &TaskSet) -> Result<Vec<(u64, u32)>, NoMemory>
     Ok(keys)
 }
 
-// The numbers of the keys.
+// The task numbers of the keys, in their order.
 fn numbers_of(alloc: Global, keys: &[(u64, u32)]) -> Result<Vec<u32>, NoMemory>
     ensures { IfOk result (λ v. v.items ≡ map (λ k. k.1) keys.now) }
 {

@@ -41,7 +41,7 @@ impl Model for Admitted {
     ghost invariant = { λ a. HoldsPlan (record { tasks = a.tasks.items; machine = a.machine; scheduler = a.scheduler }) a.name_list.items a.rm_order.items a.hyperperiod a.static_fraction };
 }
 
-// The tasks of a set, in its order, and the limits that every set keeps.
+// The tasks of a set, in its order; they keep the limits of a task set.
 fn tasks_of(alloc: Global, tasks: &TaskSet) -> Result<Vec<Task>, NoMemory>
     ensures list { IfOk result (λ v. v.items ≡ tasks.now) }
     ensures limits { IfOk result (λ v. IsTaskSet v.items) }
@@ -61,8 +61,7 @@ fn names_of(alloc: Global, tasks: &[Task]) -> Result<Vec<Name>, NoMemory>
 }
 
 impl Admitted {
-    /// The plan of these tasks on this machine under this scheduler, whose test they pass. It fails only where memory
-    /// runs out.
+    /// The plan of `tasks` on `machine` under `scheduler`, whose test they pass. The only error is `NoMemory`.
     pub fn with(
         alloc: Global,
         tasks: &TaskSet,
@@ -88,7 +87,7 @@ impl Admitted {
         })
     }
 
-    /// How many tasks there are, 1 to 64.
+    /// The number of tasks, 1 to 64.
     pub fn count(&self) -> u32
         ensures count { result ≡ count self.now }
         ensures some { 1 ≤ result }
@@ -155,7 +154,7 @@ impl Admitted {
         self.hyperperiod
     }
 
-    /// The machine, on which the plan is within the limits and its scheduler's test passes.
+    /// The machine. The plan is within the limits and passes its scheduler's test.
     pub fn machine(&self) -> &Machine
         ensures machine { result.now ≡ self.now.machine }
         ensures limits { IsTable result.now }
@@ -164,7 +163,7 @@ impl Admitted {
         &self.machine
     }
 
-    /// The scheduler, whose test a plan within the limits passes.
+    /// The scheduler. The plan is within the limits and passes its test.
     pub fn scheduler(&self) -> Scheduler
         ensures scheduler { result ≡ self.now.scheduler }
         ensures admitted { IsAdmitted self.now }

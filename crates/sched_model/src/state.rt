@@ -7,8 +7,8 @@ use dvs_base::NoMemory;
 use std::alloc::Global;
 use std::marker::Model;
 
-/// What a run keeps of a task: its latest job with its deadline in ticks, the work units that the job has had, whether
-/// it is complete, and the charged worst case in work units.
+/// A task's part of a run's state: its latest job with its deadline in ticks, the work units that the job has had,
+/// whether it is complete, and the charged worst case in work units.
 #[derive(Clone, Copy, Debug, PartialEq, Eq)]
 pub struct Row {
     pub deadline: u64,
@@ -18,8 +18,8 @@ pub struct Row {
     pub worst: u64,
 }
 
-/// The state of a run: the tick, a row for each task, the tick of the last mark, and what each job might still need
-/// there.
+/// The state of a run: the tick, a row for each task, the tick of the last mark, and what each job might still need at
+/// the mark, in work units.
 #[derive(Drop)]
 pub struct State {
     pub now: u64,
@@ -38,7 +38,7 @@ impl Model for State {
     ghost invariant = { λ s. IsStateOf (record { now = s.now; rows = s.rows.items; base_at = s.base_at; base = s.base.items }) };
 }
 
-// The row of job 0, which is complete, due at the first release.
+// The row of job 0, which is complete and due at the first release.
 fn opening_row(offset: u64, worst: u64) -> Row
     ensures { result ≡ opening_row offset worst }
 {
@@ -51,7 +51,7 @@ fn opening_row(offset: u64, worst: u64) -> Row
     }
 }
 
-// What the job may still need at most.
+// The work units that the job of a row may still need at most; 0 where it is complete.
 fn worst_left(row: Row) -> u64
     requires { row.used ≤ row.worst }
     ensures { result ≡ row_wleft row }
@@ -60,8 +60,8 @@ fn worst_left(row: Row) -> u64
 }
 
 impl State {
-    /// The state before the first release: each row has job 0, which is complete, due at its task's
-    /// first release.
+    /// The state before the first release: each row has job 0, which is complete and due at its task's first release.
+    /// The only error is `NoMemory`.
     pub fn new(alloc: Global, plan: &Admitted) -> Result<State, NoMemory>
         ensures { IfOk result (λ s. s ≡ opening plan.now) }
     {
@@ -80,7 +80,7 @@ impl State {
         })
     }
 
-    /// What a task's job may still need at most, in work units.
+    /// The work units that a task's job may still need at most; 0 where it is complete.
     pub fn worst_left(&self, task: u32) -> u64
         requires { task < length self.now.rows }
         ensures { result ≡ row_wleft (row_at self.entry.now task) }
@@ -88,8 +88,8 @@ impl State {
         worst_left(self.rows[task as usize])
     }
 
-    /// The next job of a task is released: the job's number grows by 1 and the deadline by the period, and the job has
-    /// had no units and isn't complete. The row is complete and due now, and both sums fit in 64 bits.
+    /// Releases the next job of a task: its number grows by 1 and the deadline by the period; it has had no units and
+    /// is incomplete. Before the call the row is complete and due now, and both sums fit in 64 bits.
     pub fn release(&mut self, plan: &Admitted, task: u32)
         requires { CanRelease plan.now self.old task }
         ensures { self.new ≡ after_release plan.now self.old task }
@@ -105,7 +105,7 @@ impl State {
         };
     }
 
-    /// The task's job has had so many more work units. It isn't complete, and has had at most its worst case afterwards.
+    /// Adds `units` work units to what the task's incomplete job has had, which is at most its worst case afterwards.
     pub fn run(&mut self, task: u32, units: u64)
         requires { CanRun self.old task units }
         ensures { self.new ≡ after_run self.old task units }
@@ -117,7 +117,7 @@ impl State {
         };
     }
 
-    /// The task's job is complete from now on. It wasn't before.
+    /// Completes the task's job, which wasn't complete before.
     pub fn finish(&mut self, task: u32)
         requires { CanFinish self.old task }
         ensures { self.new ≡ after_finish self.old task }
@@ -126,7 +126,7 @@ impl State {
         self.rows[task as usize] = Row { done: true, ..row };
     }
 
-    /// Time passes, up to the tick `to`, which is no earlier one.
+    /// Moves time on to the tick `to`, which isn't in the past.
     pub fn advance(&mut self, to: u64)
         requires { self.old.now ≤ to }
         ensures { self.new ≡ after_advance self.old to }
@@ -134,7 +134,8 @@ impl State {
         self.now = to;
     }
 
-    /// Marks this tick: `base_at` is this tick, and each base is what the row's job may still need at most, in work units.
+    /// Marks this tick: `base_at` is this tick, and each base is the work units that the row's job may still need at
+    /// most.
     pub fn mark(&mut self)
         ensures { self.new ≡ after_mark self.old }
     {

@@ -16,7 +16,7 @@ use freq_table::Machine;
 use grid_fraction::{Frac, greater};
 use task_model::TaskSet;
 
-// The share of its period that the level of a task asks for.
+// The share of its period that the level of task i asks for, in units per tick, not reduced.
 fn level_share(tasks: &TaskSet, machine: &Machine, i: u32) -> Frac
     requires below { i < length tasks.now }
     requires machine { IsTable machine.now }
@@ -32,7 +32,8 @@ fn level_share(tasks: &TaskSet, machine: &Machine, i: u32) -> Frac
     }
 }
 
-// Whether the level of task j asks for a greater share than that of task i, or for the same and stands before it.
+// Whether the level of task j asks for a greater share of its period than that of task i, or for the same share and
+// task j comes before task i in RM order.
 fn outweighs(tasks: &TaskSet, machine: &Machine, j: u32, i: u32) -> bool
     requires first { j < length tasks.now }
     requires second { i < length tasks.now }
@@ -45,7 +46,7 @@ fn outweighs(tasks: &TaskSet, machine: &Machine, j: u32, i: u32) -> bool
     greater(first, second) || (!greater(second, first) && stands_before(tasks, j, i))
 }
 
-// The task whose level asks for the greatest share, of equal ones the first in RM order.
+// The task whose level asks for the greatest share of its period; of equal ones the first in RM order.
 fn heaviest(tasks: &TaskSet, machine: &Machine) -> u32
     requires tasks { IsTaskSet tasks.now }
     requires machine { IsTable machine.now }
@@ -62,7 +63,7 @@ fn heaviest(tasks: &TaskSet, machine: &Machine) -> u32
     found
 }
 
-// The static demand of tasks that pass the scheduler's test.
+// The static demand of a task set that passes the scheduler's test, in units per tick, not reduced.
 pub(crate) fn static_demand(tasks: &TaskSet, machine: &Machine, scheduler: Scheduler) -> Frac
     requires tasks { IsTaskSet tasks.now }
     requires machine { IsTable machine.now }

@@ -10,7 +10,7 @@ use freq_table::Machine;
 use grid_fraction::up;
 use task_model::TaskSet;
 
-// The worst case with the charge.
+// The worst case of task i with the charge for two switches of speed, in work units.
 fn worst(tasks: &TaskSet, machine: &Machine, i: u32) -> u64
     requires { i < length tasks.now }
     ensures value { result ≡ worst (plan_of tasks.now machine.now Edf) i }
@@ -19,7 +19,7 @@ fn worst(tasks: &TaskSet, machine: &Machine, i: u32) -> u64
     tasks.task(i).worst + 2 * machine.charge()
 }
 
-// The work of a task in one hyperperiod.
+// The work of task i in one hyperperiod, each job at its charged worst case, in work units.
 fn rate(tasks: &TaskSet, machine: &Machine, i: u32) -> u128
     requires { i < length tasks.now }
     ensures value { result ≡ rate (plan_of tasks.now machine.now Edf) i }
@@ -41,7 +41,7 @@ pub fn total_rate(tasks: &TaskSet, machine: &Machine) -> u128
     sum
 }
 
-// The work of the jobs of task j that one period of task i can hold.
+// The work of the jobs of task j that are released in one period of task i, the first at its start, in work units.
 fn demanded(tasks: &TaskSet, machine: &Machine, i: u32, j: u32) -> u128
     requires of { i < length tasks.now }
     requires by { j < length tasks.now }

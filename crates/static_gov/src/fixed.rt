@@ -1,4 +1,4 @@
-// The governor static.
+// The governor `static`.
 ghost use Rattle.std.specs.Prelude.{◌≡◌, true, IfOk, IsOk};
 ghost use Rattle.dvs_base.specs.declared.kind.GovernorKind.TheVariants.{Fixed};
 ghost use Rattle.freq_table.specs.Tables.{lowest_entry, lowest_pick};
@@ -18,15 +18,15 @@ use grid_fraction::Frac;
 use sched_model::{Admitted, State};
 use std::alloc::Global;
 
-/// The governor static: the lowest speed that meets the scheduler's static demand (Pillai and Shin 2001).
+/// The governor `static`: the lowest speed that meets the scheduler's static demand (Pillai and Shin 2001).
 #[derive(Drop)]
 pub struct Static {
     demand: Frac,
 }
 
 impl Static {
-    /// The governor for a plan, before the first release. It takes no memory and is never refused.
-    /// With every job at its worst case its schedule meets every deadline, whatever its length.
+    /// The governor for a plan, before the first release. It takes no memory and never fails.
+    /// With every job at its worst case its schedule meets every deadline, for each number of ticks.
     pub fn new(_alloc: Global, plan: &Admitted) -> Result<Static, NoMemory>
         ensures made { IsOk result }
         ensures stands { IfOk result (λ g. ⟦<Static as Governor>⟧.stands g plan.now (opening plan.now)) }
@@ -70,7 +70,7 @@ impl Governor for Static {
 
     fn settled(&mut self, _plan: &Admitted, _view: &State) {}
 
-    /// Each choice meets its demand: the plan passed its scheduler's test.
+    /// The published demand and the lowest entry that meets it. Some entry always meets it: the plan is admitted.
     fn choose(&self, plan: &Admitted, _view: &State) -> Choice
         requires of { IsOfPlan plan.now _view.now }
         requires counters { self.now.demand ≡ static_demand plan.now }

@@ -1,4 +1,4 @@
-// The governor none.
+// The governor `none`.
 ghost use Rattle.std.specs.Prelude.{◌≡◌, true, IfOk, IsOk};
 ghost use Rattle.dvs_base.specs.declared.kind.GovernorKind.TheVariants.{Plain};
 ghost use Rattle.freq_table.specs.Tables.{lowest_entry, lowest_pick};
@@ -18,14 +18,14 @@ use grid_fraction::Frac;
 use sched_model::{Admitted, State};
 use std::alloc::Global;
 
-/// The governor none: always the highest speed.
+/// The governor `none`: always the highest speed.
 #[derive(Drop)]
 pub struct Full {
     counters: (),
 }
 
 impl Full {
-    /// The governor for a plan, before the first release. It takes no memory and is never refused.
+    /// The governor for a plan, before the first release. It takes no memory and never fails.
     pub fn new(_alloc: Global, plan: &Admitted) -> Result<Full, NoMemory>
         ensures made { IsOk result }
         ensures stands { IfOk result (λ g. ⟦<Full as Governor>⟧.stands g plan.now (opening plan.now)) }
@@ -66,7 +66,7 @@ impl Governor for Full {
 
     fn settled(&mut self, _plan: &Admitted, _view: &State) {}
 
-    /// Each choice meets its demand, which is the highest speed itself.
+    /// The published demand, which is the highest speed itself, and the entry with it.
     fn choose(&self, plan: &Admitted, _view: &State) -> Choice
         requires of { IsOfPlan plan.now _view.now }
         requires decision { IsAtDecision plan.now _view.now }

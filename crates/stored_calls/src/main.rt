@@ -1,7 +1,8 @@
 //! Calls of the whole program over files and sinks in memory, read from a list: `data/calls.txt`.
 //!
 //! It prints the words of each call, what the call writes to both sinks, and its exit status. The gate compares that with
-//! the stored output, each byte of which was worked out by hand. The form of the list is in `script.rt`.
+//! the stored output, which doesn't come from the program: `#` lines of the list say how each part was obtained.
+//! The form of the list is in `script.rt`.
 //! It ends with 3 where the list can't be read, with 8 where a write fails and with 9 where memory runs out.
 #![tactic(auto)]
 

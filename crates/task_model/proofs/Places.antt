@@ -1,4 +1,4 @@
--- The places of names, and one more task after some.
+-- The places of names, and a list with one more task.
 use Rattle.std.proofs.Common.{◌≡◌, ◌<◌, ◌≤◌, ℕ, ◌+◌, nat_lt, cond, Bool, true, false, List, [], ◌∷◌, ◌++◌, length, Option, Some, None, refl, sym, ◌∙◌, subst, arith, eq-or-lt_of_le, inl, inr, ◌⊎◌}
 use Rattle.std.specs.List.{position_or_len}
 use Rattle.std.specs.Str.{bytes_eq}
@@ -41,7 +41,7 @@ task_at-before tasks t i lt = get_or_append_left tasks (t ∷ []) no_task i lt
 task_at-last : (tasks : List Task) (t : Task) → task_at (tasks ++ t ∷ []) (length tasks) ≡ t
 task_at-last tasks t = get_or-append_seam tasks t [] no_task
 
--- no two have one name, where the last one's is not among those before
+-- no two tasks have one name, where the last one's name is not among those before
 distinct-push : (tasks : List Task) (t : Task) → AreTasks tasks → place_of tasks t.name ≡ None
     → (i j : ℕ) → i < j → j < length tasks + 1 → (task_at (tasks ++ t ∷ []) i).name ≡ (task_at (tasks ++ t ∷ []) j).name → ⊥
 distinct-push tasks t known alone i j lt high =

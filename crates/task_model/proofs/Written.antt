@@ -57,7 +57,7 @@ pub IsUtf8-name : (bytes : List ℕ) → is_name bytes ≡ true → IsUtf8 bytes
 IsUtf8-name bytes h =
     IsUtf8-from_ascii bytes (name_bytes bytes (and_parts (nat_le 1 (length bytes) && nat_le (length bytes) 32) (list_all is_name_byte bytes) h).1)
 
--- a part of a name's text that reads back
+-- where two tests are true, both together are
 test_both : (a b : Bool) → a ≡ true → b ≡ true → (a && b) ≡ true
 test_both true b h k = k
 test_both false b h k = h
@@ -125,7 +125,7 @@ count_of-written (t ∷ tasks) = omega (arith, count_of-written tasks)
 pub AreTasks-from_set : (tasks : List Task) → IsTaskSet tasks → AreTasks tasks
 AreTasks-from_set tasks h = record { each = h.each; distinct = h.distinct }
 
--- what a written document means
+-- the meaning of a set's written document is the set
 tasks_of_document-written : (tasks : List Task) → IsTaskSet tasks → tasks_of_document (Some (document tasks)) ≡ Ok tasks
 tasks_of_document-written [] h = absurd (let some : 1 ≤ 0 = h.some in omega arith)
 tasks_of_document-written (t ∷ tasks) h =
@@ -156,7 +156,7 @@ members_depth-written tasks =
     let low : items_depth (items_of (map task_data tasks)) ≤ 1 = items_depth-written tasks in
     max-le (let deep : suc (items_depth (items_of (map task_data tasks))) ≤ 80 = omega arith in deep) (omega arith)
 
--- a text that reads as the document of a set means that set
+-- a text that parses as the document of a set means that set
 pub task_file-written : (tasks : List Task) (text : String Global) → IsTaskSet tasks → (members_depth (document tasks) ≤ 80
     → parse_document (string_bytes text) ≡ Some (document tasks)) → task_file (string_bytes text) ≡ Ok tasks
 task_file-written tasks text h back =

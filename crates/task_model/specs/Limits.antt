@@ -1,4 +1,4 @@
--- Some tasks within the limits, however many: what a set keeps while it is read.
+-- A list of tasks within the limits, of any length: what a set keeps while it is read.
 use Rattle.std.specs.Prelude.{◌≡◌, ℕ, ◌<◌, List, length}
 use Rattle.task_model.specs.declared.task.Task.{Task}
 use Rattle.task_model.specs.Tasks.{IsTask, task_at}

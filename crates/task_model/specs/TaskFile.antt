@@ -15,44 +15,44 @@ use Rattle.task_model.specs.declared.fault.TaskFault.{TaskFault}
 use Rattle.task_model.specs.declared.fault.TaskFault.TheVariants as fault
 use Rattle.task_model.specs.Tasks.{hyper_of}
 
--- the keys of the document
+-- the known keys of the document
 abbrev pub file_keys : List (List ℕ)
 file_keys = codes "task" ∷ []
 
--- the keys of a task
+-- the known keys of a task
 abbrev pub task_keys : List (List ℕ)
 task_keys = codes "name" ∷ codes "period" ∷ codes "worst" ∷ codes "offset" ∷ []
 
--- the check for unknown keys
+-- the check for an unknown key: the refusal of the table at this place where there is one, else the rest
 abbrev pub no_unknown : {A : Type 0} → ℕ → Option (List ℕ) → Result A TaskFault → Result A TaskFault
 no_unknown place None rest = rest
 no_unknown place (Some key) rest = Err (fault.UnknownKey place (short_of key))
 
--- a trouble with a key of the task at this place
+-- the refusal for an error at a key of the task at this place
 abbrev pub fault_at : ℕ → Field → MemberFault → TaskFault
 fault_at place field member_fault.Missing = fault.Missing place field
 fault_at place field member_fault.Kind = fault.Kind place field
 fault_at place field member_fault.Range = fault.Range place field
 
--- what stands at a key, or the trouble with it
+-- the value at a key of the task at this place, or the refusal for its error
 abbrev pub at_field : {A : Type 0} → ℕ → Field → Result A MemberFault → Result A TaskFault
 at_field place field (Ok value) = Ok value
 at_field place field (Err e) = Err (fault_at place field e)
 
--- the name that a text is
+-- the text as the name of the task at this place, or the refusal where it is not a name
 abbrev pub name_of : ℕ → List ℕ → Result (List ℕ) TaskFault
 name_of place text = if is_name text then Ok text else Err (fault.BadName place)
 
--- the name of a task, of the value at its key
+-- the name of the task at this place, of the value at its key `name`
 abbrev pub name_at : ℕ → Option Data → Result (List ℕ) TaskFault
 name_at place value = and_then (at_field place field.Name (text_at value)) (name_of place)
 
--- the offset, which is 0 where it is absent
+-- the offset of the task at this place, of the value at its key `offset`; 0 where it is absent
 abbrev pub offset_at : ℕ → Option Data → Result ℕ TaskFault
 offset_at place None = Ok 0
 offset_at place (Some value) = at_field place field.Offset (number_from 0 LATEST_OFFSET (as_integer value))
 
--- an entry
+-- the task of the table at this place: its unknown keys, its name, period, worst case and offset, in this order
 abbrev pub task_of_members : ℕ → Members → Result Task TaskFault
 task_of_members place ms =
     no_unknown place (unknown_key task_keys ms) (
@@ -62,12 +62,12 @@ task_of_members place ms =
     and_then (offset_at place (get_member (codes "offset") ms)) (λ offset.
     Ok record { name = name; period = period; worst = worst; offset = offset })))))
 
--- an entry that is a table
+-- the task at this place, of an entry that is a table; another entry is refused
 abbrev pub task_of_table : ℕ → Option Members → Result Task TaskFault
 task_of_table place None = Err (fault.Kind place field.Entry)
 task_of_table place (Some ms) = task_of_members place ms
 
--- an entry of the array, whatever it is
+-- the task at this place, of any entry of the array
 abbrev pub task_of : ℕ → Data → Result Task TaskFault
 task_of place value = task_of_table place (as_table value)
 
@@ -75,23 +75,23 @@ task_of place value = task_of_table place (as_table value)
 abbrev pub place_of : List Task → List ℕ → Option ℕ
 place_of tasks name = position (λ t. bytes_eq t.name name) tasks
 
--- the check for an earlier task of this name
+-- the check for an earlier task with the same name: the refusal where there is one, else the rest
 abbrev pub no_twin : {A : Type 0} → ℕ → Option ℕ → Result A TaskFault → Result A TaskFault
 no_twin place None rest = rest
 no_twin place (Some i) rest = Err (fault.SameName (i + 1) place)
 
--- the tasks before, and then the entries
+-- the tasks before, with those of the entries after them, or the first refusal
 abbrev pub tasks_from : List Task → Items → Result (List Task) TaskFault
 tasks_from tasks no_items = Ok tasks
 tasks_from tasks (item value rest) =
     and_then (task_of (length tasks + 1) value) (λ task.
     no_twin (length tasks + 1) (place_of tasks task.name) (tasks_from (tasks ++ task ∷ []) rest))
 
--- the check of the least common multiple of the periods
+-- the check that the least common multiple of the periods is within its limit
 abbrev pub within_hyper : List Task → Result (List Task) TaskFault
 within_hyper tasks = if nat_le (hyper_of tasks) LONGEST_HYPERPERIOD then Ok tasks else Err fault.Hyper
 
--- the array of entries
+-- the tasks of a value that is an array, or the refusal of a value that is not
 abbrev pub entries_from : Option Items → Result (List Task) TaskFault
 entries_from None = Err (fault.Kind 0 field.Task)
 entries_from (Some no_items) = Err fault.NoTasks
@@ -99,16 +99,16 @@ entries_from (Some (item value rest)) =
     if nat_lt MOST_TASKS (count_of (item value rest)) then Err (fault.TooMany (count_of (item value rest)))
     else and_then (tasks_from [] (item value rest)) within_hyper
 
--- the tasks of the document, of the value at the key of the array
+-- the tasks of the value at the document's key `task`
 abbrev pub entries_at : Option Data → Result (List Task) TaskFault
 entries_at None = Err fault.NoTasks
 entries_at (Some value) = entries_from (as_array value)
 
--- the tasks of a document: its keys, and then the array
+-- the tasks of a document: its unknown keys first, and then its array
 abbrev pub tasks_of_document : Option Members → Result (List Task) TaskFault
 tasks_of_document None = Err fault.NotToml
 tasks_of_document (Some ms) = no_unknown 0 (unknown_key file_keys ms) (entries_at (get_member (codes "task") ms))
 
--- what the bytes of a task file mean
+-- the meaning of a task file's bytes: the tasks, or the first refusal
 abbrev pub task_file : List ℕ → Result (List Task) TaskFault
 task_file bytes = tasks_of_document (document_of bytes)

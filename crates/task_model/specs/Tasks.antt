@@ -5,15 +5,15 @@ use Rattle.grid_fraction.specs.Fraction.{least_common_multiple}
 use Rattle.task_model.specs.declared.limits.TheConstants.{MOST_TASKS, LONGEST_PERIOD, MOST_WORK, LATEST_OFFSET, LONGEST_HYPERPERIOD}
 use Rattle.task_model.specs.declared.task.Task.{Task}
 
--- H, the least common multiple of the periods: after so many ticks the releases repeat
+-- the hyperperiod, the least common multiple of the periods: the releases repeat after this many ticks
 abbrev pub hyper_of : List Task → ℕ
 hyper_of tasks = least_common_multiple (map (λ t. t.period) tasks)
 
--- a value where a number is within a limit, and else none
+-- the value where n is within the limit, else None
 abbrev pub where_within : {A : Type 0} → ℕ → ℕ → A → Option A
 where_within most n value = if nat_le n most then Some value else None
 
--- a task that no set has, for places past the end
+-- the task that a list gives for a number past its end
 abbrev pub no_task : Task
 no_task = record { name = []; period = 1; worst = 0; offset = 0 }
 
@@ -30,7 +30,7 @@ pub record IsTask (t : Task) : Type 0 where
   pub low_worst : t.worst ≤ MOST_WORK
   pub low_offset : t.offset ≤ LATEST_OFFSET
 
--- a set of tasks: within the limits, with distinct names
+-- a set of tasks: 1 to MOST_TASKS, each within its limits, distinct names, and a hyperperiod within its limit
 pub record IsTaskSet (tasks : List Task) : Type 0 where
   pub some : 1 ≤ length tasks
   pub few : length tasks ≤ MOST_TASKS

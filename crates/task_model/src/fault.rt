@@ -6,7 +6,7 @@ use dvs_base::Short;
 pub enum Field {
     /// The array `task` of the document.
     Task,
-    /// An entry of the array, which is no table.
+    /// An entry of the array, which is not a table.
     Entry,
     /// The key `name` of an entry.
     Name,
@@ -18,12 +18,12 @@ pub enum Field {
     Offset,
 }
 
-/// The first thing that a task file has wrong. Places count from 1, and place 0 is the document itself.
+/// The first error of a task file. Places count from 1, and place 0 is the document itself.
 #[derive(Clone, Copy, Debug, PartialEq, Eq)]
 pub enum TaskFault {
-    /// The bytes are no TOML document.
+    /// The bytes are not a TOML document.
     NotToml,
-    /// A key that has no meaning: the least of them in order of bytes.
+    /// A key that has no meaning: the least such key in order of bytes.
     UnknownKey { place: u32, key: Short },
     /// The array of tasks is missing or empty.
     NoTasks,
@@ -31,7 +31,7 @@ pub enum TaskFault {
     TooMany { count: u64 },
     /// A task lacks this key.
     Missing { place: u32, field: Field },
-    /// A value of another kind stands there.
+    /// The value is of another kind.
     Kind { place: u32, field: Field },
     /// A number is outside its limits: the period 1 to 2^40, the worst case 1 to 2^60, the offset 0 to 2^40.
     Range { place: u32, field: Field },

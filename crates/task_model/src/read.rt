@@ -1,4 +1,4 @@
-// A task file, read by its table.
+// Reading a task file: its table, and the keys of each entry.
 ghost use Rattle.std.specs.Prelude.{codes, ◌≡◌, ◌≤◌, ◌<◌, [], Some, length, IfOk, vec_len};
 ghost use Rattle.toml.specs.Data.{get_member};
 ghost use Rattle.toml.specs.View.{view, table_view, items_view};
@@ -44,7 +44,7 @@ fn read_number(
     }
 }
 
-// The offset, which is 0 where it is absent.
+// The offset of an entry's table, 0 where it is absent.
 fn read_offset(place: u32, table: &Table) -> Result<u64, TaskFault>
     ensures meaning { result ≡ offset_at place (get_member (codes "offset") (table_view table.now)) }
     ensures limit { IfOk result (λ n. n ≤ LATEST_OFFSET) }
@@ -106,7 +106,7 @@ fn read_task(place: u32, value: &Value) -> Result<Task, TaskFault>
     }
 }
 
-// The tasks of the entries, which are few.
+// The tasks of the entries, of which there are at most `MOST_TASKS`.
 fn read_entries(alloc: Global, entries: &[Value]) -> Result<Vec<Task>, TaskFault>
     requires { length entries.now ≤ MOST_TASKS }
     ensures meaning { IsUnlessMemory TaskFault.NoMemory (λ v. v.items) result (tasks_from [] (items_view entries.now)) }
@@ -130,7 +130,7 @@ fn read_entries(alloc: Global, entries: &[Value]) -> Result<Vec<Task>, TaskFault
     Ok(tasks)
 }
 
-// The set of these tasks, where their releases repeat soon enough.
+// The set of these tasks, where the least common multiple of their periods is within the limit.
 fn set_of(alloc: Global, tasks: Vec<Task>) -> Result<TaskSet, TaskFault>
     requires limits { AreTasks tasks.items }
     requires some { 1 ≤ vec_len tasks }
@@ -182,8 +182,8 @@ fn read_table(alloc: Global, table: &Table) -> Result<TaskSet, TaskFault>
 
 impl TaskSet {
     /// The tasks of the file: an array of tables under the key `task`, each with a `name`, a `period` in ticks, a
-    /// `worst` case in work units and an `offset` in ticks, which is 0 where it is absent. Else the file's first
-    /// refusal, unless memory runs out.
+    /// `worst` case in work units and an `offset` in ticks, which is 0 where it is absent. For any other file, its
+    /// first refusal, unless memory runs out.
     pub fn read(alloc: Global, bytes: &[u8]) -> Result<TaskSet, TaskFault>
         ensures { IsUnlessMemory TaskFault.NoMemory (λ s. s) result (task_file bytes.now) }
     {

@@ -12,8 +12,8 @@ use grid_fraction::lcm_within;
 use std::alloc::Global;
 use std::marker::Model;
 
-/// A periodic task (Liu and Layland 1973): from the tick `offset` on, every `period` ticks a job is released, which needs
-/// at most `worst` work units and is due at the next release.
+/// A periodic task (Liu and Layland 1973): from the tick `offset` on, every `period` ticks a job is released, which
+/// needs at most `worst` work units and is due at the next release.
 #[derive(Clone, Copy, Debug, PartialEq, Eq)]
 pub struct Task {
     pub name: Name,
@@ -108,7 +108,7 @@ impl TaskSet {
         self.tasks[i as usize]
     }
 
-    /// The least common multiple of the periods in ticks, at most 2^48: after so many ticks the releases repeat.
+    /// The least common multiple of the periods in ticks, at most 2^48. The releases repeat after this many ticks.
     pub fn hyper(&self) -> u64
         ensures hyper { result ≡ hyper_of self.now }
         ensures low { result ≤ LONGEST_HYPERPERIOD }
@@ -126,8 +126,8 @@ impl TaskSet {
         }
     }
 
-    /// The first task in file order with an offset other than 0, and None exactly where no task has one. Tasks count from
-    /// 0.
+    /// The first task in file order with an offset other than 0, and None exactly where no task has one. Tasks count
+    /// from 0.
     pub fn first_offset(&self) -> Option<u32>
         ensures finds { FindsOffset (λ k. (task_at self.now k).offset) (length self.now) result }
         ensures is { result ≡ first_offset (λ k. (task_at self.now k).offset) (length self.now) }

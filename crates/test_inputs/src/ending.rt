@@ -1,9 +1,9 @@
-// How a call is to end, and what it leaves.
+// The expected end of a call, and what it leaves.
 use std::alloc::{AllocError, Global};
 use std::test::Fail;
 
-/// How a call is to end: its exit status, the texts on both sinks, and how many loads, puts of the answer and puts of
-/// the notes failed.
+/// The expected end of a call: its exit status, the texts on both sinks, and the numbers of failed loads, failed puts
+/// of the answer and failed puts of the notes.
 #[derive(Clone, Copy)]
 pub struct Ending<'a> {
     pub code: u8,
@@ -12,8 +12,8 @@ pub struct Ending<'a> {
     pub faults: [u64; 3],
 }
 
-/// What a call leaves: its exit status, the bytes of both sinks, and how many loads, puts of the answer and puts of the
-/// notes failed.
+/// What a call left: its exit status, the bytes of both sinks, and the numbers of failed loads, failed puts of the
+/// answer and failed puts of the notes.
 #[derive(Drop)]
 pub struct Outcome {
     pub code: u8,
@@ -22,12 +22,12 @@ pub struct Outcome {
     pub faults: [u64; 3],
 }
 
-/// The bytes as text, with `?` where they are none. No clause says so.
+/// The bytes as text, or `?` where they aren't UTF-8. No clause says so.
 pub fn shown(bytes: &[u8]) -> &str {
     std::str::from_utf8(bytes).unwrap_or("?")
 }
 
-// The text is the wanted one, or the error tells the first line that isn't, with the name of the text.
+// Compares the text with `wanted`. The error names the text and its first line that differs.
 fn expect_text(name: &str, text: &str, wanted: &str) -> Result<(), Fail> {
     if text == wanted {
         return Ok(());
@@ -45,7 +45,7 @@ fn expect_text(name: &str, text: &str, wanted: &str) -> Result<(), Fail> {
 }
 
 impl Outcome {
-    /// The call of these words ended so, or the error tells what is otherwise.
+    /// Compares the outcome with `ending`. The error names the words of the call and what differs.
     pub fn is(&self, words: &str, ending: Ending<'_>) -> Result<(), Fail> {
         expect_text(words, shown(&self.notes), ending.notes)?;
         expect_text(words, shown(&self.out), ending.out)?;
@@ -63,14 +63,14 @@ impl Outcome {
     }
 }
 
-/// What a sink has of a text, where the put of this line, which stands behind so many bytes, takes so many and fails.
-/// No clause says so.
+/// The part of `text` that a sink has where the put of `line`, which begins after `before` bytes, takes `taken` bytes
+/// and fails. No clause says so.
 pub fn first_part<'a>(text: &'a str, before: usize, line: &str, taken: u64) -> &'a str {
     let end = before.saturating_add(line.len().min(taken as usize));
     text.get(..end).unwrap_or("no part")
 }
 
-/// The text with another piece in the place of the first such piece; a text without the piece stays. No clause says so.
+/// The text with `other` in place of the first `piece`, if it has one. No clause says so.
 pub fn replaced(alloc: Global, text: &str, piece: &str, other: &str) -> Result<String, AllocError> {
     let mut whole = String::new(alloc);
     match text.split_once(piece) {

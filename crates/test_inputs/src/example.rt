@@ -1,7 +1,7 @@
-// The inputs that several crates of rows share: the example of Pillai and Shin 2001, with 4 units for a millisecond at
-// full speed; a battery-driven controller; and two tasks of which the second has its first release after tick 0.
+// The inputs that several crates of tests share: the example of Pillai and Shin 2001, with 4 units for a millisecond
+// at full speed; a battery-driven controller; and two tasks, the second of which has its first release after tick 0.
 
-/// The tasks of the example.
+/// The tasks of the example of Pillai and Shin 2001.
 pub const PAPER_TASKS: &[u8] = br#"
 task = [
     {name = "t1", period = 8, worst = 12},
@@ -10,7 +10,7 @@ task = [
 ]
 "#;
 
-/// Its machine.
+/// The machine of the example of Pillai and Shin 2001.
 pub const PAPER_MACHINE: &[u8] = br#"
 point = [
     {speed = 2, millivolts = 3000},
@@ -19,11 +19,11 @@ point = [
 ]
 "#;
 
-/// What its jobs need.
+/// The demands of the jobs of the example of Pillai and Shin 2001.
 pub const PAPER_DEMANDS: &[u8] =
     b"task,job,units\nt1,1,8\nt1,2,4\nt2,1,4\nt2,2,4\nt3,1,4\nt3,2,4\n";
 
-/// Its trace under cycle-conserving EDF with these demands.
+/// The trace of the example of Pillai and Shin 2001 under cycle-conserving EDF, with `PAPER_DEMANDS`.
 pub const CYCLE_TRACE: &[u8] = b"trace 1
 plan edf cc 16
 release 0 t1 1
@@ -59,7 +59,7 @@ done 16:0 t3 2 4
 end 16 364000000000 0
 ";
 
-/// The tasks of the controller.
+/// The tasks of the battery-driven controller.
 pub const CONTROLLER_TASKS: &[u8] = br#"
 task = [
     {name = "imu", period = 50, worst = 796},
@@ -71,7 +71,7 @@ task = [
 ]
 "#;
 
-/// Its machine.
+/// The machine of the battery-driven controller.
 pub const CONTROLLER_MACHINE: &[u8] = br#"
 idle = 100
 charge = 2
@@ -83,7 +83,7 @@ point = [
 ]
 "#;
 
-/// What its jobs need: lines that end with a carriage return, and fields in quotes.
+/// The demands of the jobs of the controller; lines end with a carriage return, and some fields are in quotes.
 pub const CONTROLLER_DEMANDS: &[u8] =
     b"task,job,units\r\n\"imu\",1,196\r\n\"imu\",2,396\r\nradio,1,596\r\nmotor,1,996\r\nlog,\"1\",396\r\nui,1,196\r\n";
 
@@ -91,7 +91,7 @@ pub const CONTROLLER_DEMANDS: &[u8] =
 pub const TWO_TASKS: &[u8] =
     br#"task = [{name = "x", period = 4, worst = 4}, {name = "y", period = 6, worst = 6, offset = 2}]"#;
 
-/// Their trace on the machine of the example under cycle-conserving EDF, in version 1.
+/// The trace of `TWO_TASKS` on `PAPER_MACHINE` under cycle-conserving EDF, in version 1.
 pub const TWO_TRACE_1: &[u8] = b"trace 1
 plan edf cc 8
 release 0 x 1
@@ -113,7 +113,7 @@ idle 7:0 8:0 2 0
 end 8 126000000000 0
 ";
 
-/// The same trace in version 2.
+/// The trace of `TWO_TASKS` on `PAPER_MACHINE` under cycle-conserving EDF, in version 2.
 pub const TWO_TRACE_2: &str = "trace 2
 plan edf cc 8
 task x 4 0 4

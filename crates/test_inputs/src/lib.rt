@@ -1,5 +1,5 @@
-//! Inputs that the crates of tests share, and how what a call leaves is compared with what it is to leave. What the program
-//! promises stands in `rtdvs_top`.
+//! Inputs that the crates of tests share, and the comparison of what a call left with what was expected. The promises
+//! of the program are in `rtdvs_top`.
 #![tactic(auto)]
 
 mod ending;

@@ -1,4 +1,4 @@
--- The numbers of each governor's published demand are far within their width.
+-- The numbers of each governor's published demand are far below their limits.
 use Rattle.std.proofs.Common.{◌≡◌, ℕ, ◌+◌, ◌-◌, ◌*◌, ◌/◌, ◌<◌, ◌≤◌, ◌^◌, Bool, true, false, List, [], ◌∷◌, length, refl, arith, if◌then◌else◌, mul-le-mul_right}
 use Rattle.std.proofs.Math.Nat.{mul-le-mul}
 use Rattle.dvs_base.specs.declared.kind.Scheduler.{Scheduler}
@@ -31,7 +31,7 @@ use Rattle.sched_model.proofs.OrderLemmas.{sum_list, sum_list-in_order}
 use Rattle.sched_model.proofs.Weights.{heaviest_within}
 use Rattle.governor.proofs.Fits.{full_enough}
 
--- both numbers of a fraction have their width
+-- both numbers of a fraction are below 2^128
 pub record IsLow (d : Frac) : Type 0 where
   pub num : d.num < 2 ^ 128
   pub den : d.den < 2 ^ 128
@@ -44,14 +44,14 @@ module _ (p : Plan) (adm : IsAdmitted p) (dem : ℕ → ℕ → ℕ) (within : I
   some_task : 0 < count p
   some_task = adm.limits.tasks.some
 
-  -- each entry's speed
+  -- the speed of each entry is at most the highest that a machine may have
   low_speed : (e : ℕ) → e < length p.machine.points → speed_at p.machine e ≤ TOP_SPEED
   low_speed e lt = (adm.limits.machine.each e lt).low_speed
 
   low_top : top_speed p ≤ TOP_SPEED
   low_top = low_speed (length p.machine.points - 1) (omega (arith, adm.limits.machine.some))
 
-  -- so much work has room in so many ticks at the highest speed
+  -- the work that the highest speed does in at most the longest hyperperiod is below 2^128
   room : (n ticks : ℕ) → n ≤ top_speed p * ticks → ticks ≤ LONGEST_HYPERPERIOD → n < 2 ^ 128
   room n ticks le short = omega (arith, mul-le-mul_right ticks low_top)
 
@@ -91,7 +91,7 @@ module _ (p : Plan) (adm : IsAdmitted p) (dem : ℕ → ℕ → ℕ) (within : I
         den = omega (arith, low_hyper p adm.limits);
       }
 
-  -- the earliest deadline is soon
+  -- the earliest deadline is at most the longest period away
   earliest-soon : (t : ℕ) → earliest p t ≤ t + LONGEST_PERIOD
   earliest-soon t =
       omega (
@@ -127,7 +127,7 @@ module _ (p : Plan) (adm : IsAdmitted p) (dem : ℕ → ℕ → ℕ) (within : I
         den = omega (arith, soon);
       }
 
-  -- no more has to run first than may be left
+  -- the units that are due first are at most those that may be left
   first-most : (due left : ℕ → ℕ) (is : List ℕ) → due_first p due left is ≤ sum_list left is
   first-most due left [] = omega arith
   first-most due left (i ∷ is) = omega (arith, first-most due left is)

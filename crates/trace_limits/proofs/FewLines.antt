@@ -1,4 +1,4 @@
--- A schedule has few notes, by its released jobs.
+-- A schedule has few notes, compared with its released jobs.
 use Rattle.std.proofs.Common.{◌≡◌, ◌≢◌, ◌⊎◌, inl, inr, ℕ, zero, suc, ◌+◌, ◌*◌, ◌<◌, ◌≤◌, Bool, true, false, not, ◌&&◌, List, [], ◌∷◌, ◌++◌, length, refl, arith, if◌then◌else◌, ap, ◌∙◌, sym, subst, nat_eq, nat_lt, length-append}
 use Rattle.std.specs.Prelude.{count_by, sum_by}
 use Rattle.std.specs.List.{AllByRecursion}
@@ -42,7 +42,7 @@ is_segment (Run from to i k units energy) = true
 is_segment (Idle from to units energy) = true
 is_segment _ = false
 
--- the notes by their kinds: each but the last of a run is of one of them
+-- how many notes are of the four kinds; each note of a run but the last is of one of them
 abbrev kinds : List Note → ℕ
 kinds notes =
     count_by is_released notes + count_by is_finished notes + count_by is_decided notes + count_by is_segment notes
@@ -71,7 +71,7 @@ kinds-length p dem [] h = refl
 kinds-length p dem (n ∷ notes) h =
     omega (arith, kinds-append (n ∷ []) notes, kinds-one p dem n h.0, kinds-length p dem notes h.1)
 
--- of the tasks below n, at most one is j
+-- a sum over the tasks below n that is 0 but for task j, and at most 1 there, is at most 1
 one-task : (n j : ℕ) (f : ℕ → ℕ) → ((i : ℕ) → f i ≤ 1) → ((i : ℕ) → i ≢ j → f i ≡ 0) → sum_below n f ≤ 1
 one-task n j f most others = go (cases_lt j n)
   where
@@ -79,7 +79,7 @@ one-task n j f most others = go (cases_lt j n)
     go (inl inside) = omega (arith, sum_below-one n j f inside (λ i lt ne. others i ne), most j)
     go (inr outside) = omega (arith, sum_below-zero n f (λ i lt. others i (λ same. omega arith)))
 
--- the ends of one job of each task are some of all ends
+-- the completions of one job of each task are at most all completions
 ends-most : (n : ℕ) (job : ℕ → ℕ) (notes : List Note)
     → sum_below n (λ i. times (tells_done i (job i)) notes) ≤ count_by is_finished notes
 ends-most n job [] = omega (arith, sum_below-zero n (λ i. times (tells_done i (job i)) []) (λ i lt. refl))
@@ -121,7 +121,7 @@ module _ (p : Plan) (dem : ℕ → ℕ → ℕ) (ask : List Tick → Frac) (lim 
   abbrev notes : List Tick → List Note
   notes = notes_before_end p dem ask
 
-  -- releases tell no segments
+  -- the release notes of a task have no segments
   release-plain : (t i : ℕ) → count_by is_segment (release_notes p dem t i) ≡ 0
   release-plain t i = go (releases_at p i t) (nat_eq (dem i (latest p i t)) 0)
     where
@@ -137,7 +137,7 @@ module _ (p : Plan) (dem : ℕ → ℕ → ℕ) (ask : List Tick → Frac) (lim 
       count-each is_segment (release_notes p dem t) (count p)
       ∙ sum_below-zero (count p) (λ i. count_by is_segment (release_notes p dem t i)) (λ i lt. release-plain t i)
 
-  -- the notes of segments tell each of them, and no releases
+  -- the notes of a segment have one segment, and no release
   segment-kinds : (s : Span) (q u : ℕ) (h : Holder)
       → (count_by is_segment (segment_notes p dem s q u h) ≡ 1) × (count_by is_released (segment_notes p dem s q u h) ≡ 0)
   segment-kinds s q u Nobody = (refl, refl)
@@ -177,7 +177,7 @@ module _ (p : Plan) (dem : ℕ → ℕ → ℕ) (ask : List Tick → Frac) (lim 
   abbrev told : Span → List Note
   told s = pieces_notes p dem s 0 (pieces_of s.units)
 
-  -- the counts grow by those of the last span
+  -- a count over the notes up to tick x is that before the last span and that over the last span
   split : (test : Note → Bool) (x : Tick) (past : List Tick) (s : Span) → IsLastSpan p dem ask lim x past s
       → count_by test (notes (x ∷ past))
       ≡ count_by test (notes s.past) + (count_by test (all_release_notes p dem (length s.past))
@@ -191,7 +191,7 @@ module _ (p : Plan) (dem : ℕ → ℕ → ℕ) (ask : List Tick → Frac) (lim 
         count-append test (decision_note s ∷ []) (told s),
       )
 
-  -- a job that completes in the last tick has its end in the span
+  -- the completion of a job that completes in the last tick is among the notes of the span's segments
   completed-told : (x : Tick) (past : List Tick) (s : Span) → IsScheduleBy p dem ask (x ∷ past)
       → IsLastSpan p dem ask lim x past s → Head p dem ask (every_period p lim) needless past s → (i : ℕ) → i < count p
       → completed p dem ask lim needless x past i ≤ times (tells_done i (latest p i (length past))) (told s)
@@ -226,7 +226,7 @@ module _ (p : Plan) (dem : ℕ → ℕ → ℕ) (ask : List Tick → Frac) (lim 
           some zero q less = absurd (omega (arith, less, ap (dem i) q, needless i))
           some (suc j) q less = omega (arith, q)
 
-  -- so the segments of a span are at most one more than its ends
+  -- the segments of a span are at most one more than its completions
   span-few : (x : Tick) (past : List Tick) (s : Span) → IsScheduleBy p dem ask (x ∷ past)
       → IsLastSpan p dem ask lim x past s → Head p dem ask (every_period p lim) needless past s
       → HasFew p dem ask lim needless x past s
@@ -241,7 +241,7 @@ module _ (p : Plan) (dem : ℕ → ℕ → ℕ) (ask : List Tick → Frac) (lim 
         ends-most (count p) job (told s),
       )
 
-  -- what the counts of some ticks' notes keep
+  -- the counts over the notes of these ticks are low: releases by the jobs, segments by decisions and completions
   record IsFew (ticks : List Tick) : Type 0 where
     pub releases : count_by is_released (notes ticks) ≤ released_jobs p (length ticks)
     pub segments : count_by is_segment (notes ticks)
@@ -287,7 +287,7 @@ module _ (p : Plan) (dem : ℕ → ℕ → ℕ) (ask : List Tick → Frac) (lim 
       let (s, l) = last-span p dem ask lim x past h in
       next-few x past s h l (ticks-few n s.past (omega (arith, le, l.shorter)) l.earlier)
 
-  -- a release, an end, two decisions and three segments for each job, and three more notes
+  -- a release, a completion, two decisions and three segments for each job, and three more notes
   few-notes : (ticks : List Tick) → IsScheduleBy p dem ask ticks
       → length (notes_of p dem ask ticks) ≤ 7 * released_jobs p (length ticks) + 3
   few-notes ticks h =

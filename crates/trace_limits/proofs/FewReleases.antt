@@ -1,4 +1,4 @@
--- The notes of a schedule tell no more releases than the jobs that are released within it.
+-- The notes of a schedule have no more releases than the jobs that are released within it.
 use Rattle.std.proofs.Common.{◌≡◌, ℕ, zero, suc, ◌+◌, ◌-◌, ◌*◌, ◌<◌, ◌≤◌, Bool, true, false, [], ◌∷◌, refl, arith, if◌then◌else◌, ap, ◌∙◌, sym, nat_eq}
 use Rattle.std.specs.Prelude.{count_by}
 use Rattle.std.proofs.lemmas.Bool.Decides.{nat_tests}
@@ -18,7 +18,7 @@ use Rattle.done_lines.proofs.CountLemmas.{count-each}
 abbrev pub released : Plan → ℕ → ℕ → ℕ
 released p t i = if releases_at p i t then 1 else 0
 
--- how many releases the notes of a tick tell
+-- how many releases the notes of a tick have
 pub released-at : (p : Plan) (dem : ℕ → ℕ → ℕ) (t : ℕ)
     → count_by is_released (all_release_notes p dem t) ≡ sum_below (count p) (released p t)
 released-at p dem t =
@@ -33,7 +33,7 @@ released-at p dem t =
     one i true false = refl
     one i true true = refl
 
--- a quotient rounded up is one more beyond a whole one
+-- a quotient rounded up is at least one more than a whole number that it exceeds
 ceil-over : (q n d : ℕ) → 0 < d → q * d < n → suc q ≤ ceil_div n d
 ceil-over q n d some over = le-div (suc q) (n + (d - 1)) d some (omega (arith, some, over))
 
@@ -41,7 +41,7 @@ release-at : (p : Plan) (i k : ℕ) → release p i (suc k) ≡ offset p i + k *
 unfolding release
 release-at p i k = let e : suc k - 1 ≡ k = omega arith in rw e refl
 
--- a job that is released at a tick is one more of those released below a later tick
+-- the jobs of task i released before tick t, and one released at t, are all released before a later tick
 released-more : (p : Plan) (i t later : ℕ) → 0 < period p i → t < later
     → ceil_div (t - offset p i) (period p i) + released p t i ≤ ceil_div (later - offset p i) (period p i)
 released-more p i t later some lt = go (releases_at p i t) refl
@@ -63,7 +63,7 @@ released-more p i t later some lt = go (releases_at p i t) refl
             ap (λ n. ceil_div n (period p i)) whole ∙ ceil-at k (period p i) some in
             omega (arith, jobs, ceil-over k (later - offset p i) (period p i) some (omega (arith, at, lt)))
 
--- so it is with all tasks
+-- the jobs of all tasks released before tick t, and those released at t, are all released before a later tick
 pub releases-more : (p : Plan) (t later : ℕ) → ((i : ℕ) → 0 < period p i) → t < later
     → released_jobs p t + sum_below (count p) (released p t) ≤ released_jobs p later
 releases-more p t later some lt =

@@ -1,4 +1,4 @@
--- The numbers of a schedule's notes have their widths.
+-- The numbers of a schedule's notes fit in their types.
 use Rattle.std.proofs.Common.{◌≡◌, ℕ, zero, suc, ◌+◌, ◌-◌, ◌*◌, ◌<◌, ◌≤◌, ◌^◌, Bool, true, false, List, [], ◌∷◌, length, replicate, arith, if◌then◌else◌, ap, sym, subst, nat_eq, length-append}
 use Rattle.std.specs.List.{AllByRecursion}
 use Rattle.std.proofs.Math.Nat.{mul-le-mul, div-le_self, mod-le}
@@ -35,19 +35,19 @@ use Rattle.trace_limits.proofs.DemandWidths.{IsLow}
 abbrev most_units : ℕ
 most_units = 2 ^ 60
 
--- the most energy of so many units
+-- the most energy of at most `most_units` units
 abbrev pub most_energy : ℕ
 most_energy = 2 ^ 100
 
--- the note's numbers have their widths, and its energy is far within it
+-- the note's numbers fit in their types, and its energy is at most `most_energy`
 abbrev pub IsLowNote : Plan → Note → Type 0
 IsLowNote p n = IsNoteOf (count p) n × (energy_run n ≤ most_energy) × (energy_idle n ≤ most_energy)
 
--- a unit of a run has its place
+-- the numbers of a position of a run are below 2^64
 is-place : (from f q : ℕ) → from ≤ MOST_TICKS → q ≤ most_units → IsPlace (position_of from f q)
 is-place from f q early few = (omega (arith, div-le_self q f, early, few), omega (arith, mod-le q f, few))
 
--- the energy of so many units
+-- the energy of at most `most_units` units is at most `most_energy`
 energy-low : (units mv rate : ℕ) → units ≤ most_units → mv ≤ MOST_MILLIVOLTS → rate ≤ MOST_IDLE
     → units * mv * mv * rate ≤ most_energy
 energy-low units mv rate few low cheap =
@@ -60,7 +60,7 @@ module _ (p : Plan) (lim : IsWithinLimits p) (dem : ℕ → ℕ → ℕ) (within
   abbrev AreLow : List Note → Type 0
   AreLow = AllByRecursion (IsLowNote p)
 
-  -- the numbers of jobs are low
+  -- the job numbers of a run are below 2^64
   job-low : (i t : ℕ) → t ≤ MOST_TICKS → latest p i t < 2 ^ 64
   job-low i t early = omega (arith, latest-small p i t (every_period p lim i), early)
 
@@ -81,7 +81,7 @@ module _ (p : Plan) (lim : IsWithinLimits p) (dem : ℕ → ℕ → ℕ) (within
         ((((omega (arith, early), omega arith), lt, job-low i t early, omega arith), omega arith, omega arith), tt),
       )
 
-  -- the notes of a span
+  -- the notes of a span have low numbers
   module _ (s : Span) (t : ℕ) (entry : s.entry < length p.machine.points) (early : length s.past ≤ MOST_TICKS)
       (late : t ≤ MOST_TICKS) where
     abbrev f : ℕ

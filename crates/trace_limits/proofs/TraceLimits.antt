@@ -35,13 +35,13 @@ use Rattle.trace_limits.proofs.DemandWidths.{published-low}
 use Rattle.trace_limits.proofs.FewLines.{has-few-notes}
 use Rattle.trace_limits.proofs.NoteWidths.{most_energy, IsLowNote, notes-low}
 
--- a list that ends once is ended
+-- a list of notes whose last one alone is an end is ended
 once-ended : (notes : List Note) → EndsOnce is_end notes → IsEnded notes
 once-ended [] once = once
 once-ended (n ∷ []) once = once
 once-ended (n ∷ m ∷ notes) once = (once.0, once-ended (m ∷ notes) once.1)
 
--- the energy of a task's run is that of a run
+-- the energy that a note adds to one task is at most that of its run
 own-most : (i : ℕ) (n : Note) → run_energy_of i n ≤ energy_run n
 own-most i (Run from to j k units energy) = go (nat_eq j i)
   where
@@ -54,11 +54,11 @@ own-most i (Idle from to units energy) = omega arith
 own-most i (Done q j k used) = omega arith
 own-most i (End t run idle) = omega arith
 
--- the most notes of a trace: its lines without the first two and without two for each task
+-- the most notes of a trace: the most lines without the first two and without two for each task
 abbrev most_notes : ℕ
 most_notes = MOST_LINES - (2 + 2 * MOST_TASKS)
 
--- a sum over few notes, none of which has much
+-- a sum over at most `most_notes` notes, each at most `most_energy`, is below 2^128
 sum-low : (f : Note → ℕ) (notes : List Note) → length notes ≤ most_notes
     → AllByRecursion (λ n. f n ≤ most_energy) notes → sum_by f notes < 2 ^ 128
 sum-low f notes few each =
@@ -79,7 +79,7 @@ module _ (v : Version) (p : Plan) (g : GovernorKind) (dem : JobDemands) (ticks :
   long : length past ≡ ticks
   long = (schedule_exists p dem (published p g dem) ticks).1
 
-  -- the notes before the last, and the last
+  -- the notes before the last
   abbrev notes : List Note
   notes = notes_before_end p dem (published p g dem) past
 
@@ -135,7 +135,7 @@ module _ (v : Version) (p : Plan) (g : GovernorKind) (dem : JobDemands) (ticks :
   shared One = tt
   shared Two = λ i lt. shares-low i
 
-  -- so the trace of the run is one, in either version
+  -- the trace of the run, in either version, is within the limits of traces
   trace-fits : IsTrace (names p) (task_texts p) (trace_of_run v p g dem ticks)
   trace-fits = record {
     pair = run.pair;

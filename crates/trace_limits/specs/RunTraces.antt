@@ -15,7 +15,7 @@ use Rattle.sched_model.specs.Text.{run_notes}
 use Rattle.done_lines.specs.RunText.{task_texts}
 use Rattle.trace_reader.specs.Traces.{TraceOf, IsTrace}
 
--- the trace, in a version, of a plan's run under a governor for these demands, in so many ticks
+-- the trace, in a version, of the run of `ticks` ticks of a plan under a governor for these demands
 abbrev pub trace_of_run : Version → Plan → GovernorKind → JobDemands → ℕ → TraceOf
 trace_of_run v p g dem ticks = record {
   version = v;
@@ -23,9 +23,9 @@ trace_of_run v p g dem ticks = record {
   notes = run_notes p g dem ticks;
 }
 
--- Every schedule of the plan has at most seven notes for each job that is released within it, which are its release, its
--- end, a decision after each of them, and three segments. And it has at most three more: a decision and a segment at
--- tick 0, and the last note. So it is for whatever demand is published; job 0 needs nothing.
+-- Every schedule of the plan has at most seven notes for each job that is released within it: its release, its
+-- completion, a decision after each of them, and three segments. It has at most three more: a decision and a segment
+-- at tick 0, and the last note. This holds for any published demand; job 0 needs nothing.
 abbrev pub HasFewNotes : Plan → Type 0
 HasFewNotes p =
     (dem : JobDemands) → ((i : ℕ) → dem i 0 ≡ 0) → (ask : List Tick → Frac) (ticks : List Tick)
@@ -33,17 +33,17 @@ HasFewNotes p =
 
 -- a run within the limits
 pub record IsLimitedRun (p : Plan) (g : GovernorKind) (dem : JobDemands) (ticks : ℕ) : Type 0 where
-  -- scheduler and governor are a pair
+  -- the scheduler and the governor are a pair
   pub pair : is_pair p.scheduler g ≡ true
-  -- it has a tick, and no more than the limit
+  -- the run has at least one tick, and at most the limit
   pub some_ticks : 1 ≤ ticks
   pub low_ticks : ticks ≤ MOST_TICKS
   -- no demand exceeds its task's worst case
   pub within : IsWithin p dem
-  -- no more jobs are released than the limit
+  -- the released jobs are at most the limit
   pub few : released_jobs p ticks ≤ MOST_JOBS
 
--- the trace of each of the plan's runs within the limits is one: no number and no count of lines is too large for it
+-- the trace of each of the plan's runs within the limits has a text: no number and no count of lines is too large
 abbrev pub KeepsLimits : Plan → Type 0
 KeepsLimits p =
     (v : Version) (g : GovernorKind) (dem : JobDemands) (ticks : ℕ) → IsLimitedRun p g dem ticks

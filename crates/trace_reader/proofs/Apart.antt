@@ -1,4 +1,4 @@
--- Names that differ pairwise, by computing.
+-- Names that differ pairwise, shown by evaluation.
 use Rattle.std.proofs.Common.{◌≡◌, ◌≢◌, ℕ, false, List, [], ◌∷◌, arith}
 use Rattle.std.specs.List.{AllPairs, AllByRecursion}
 use Rattle.std.specs.Str.{bytes_eq}

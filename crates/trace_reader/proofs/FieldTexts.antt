@@ -1,4 +1,4 @@
--- A field that is read is the text of its value, and the text of a value is read.
+-- A field that is read is the text of its value, and the text of any value is read.
 use Rattle.std.proofs.Common.{◌≡◌, ◌≢◌, ℕ, ◌+◌, ◌^◌, ◌<◌, Bool, true, false, List, [], ◌∷◌, ◌++◌, length, get_or, Option, Some, None, Result, Ok, Err, refl, sym, ap, ap₂, subst, ◌∙◌, append_assoc, arith}
 use Rattle.std.specs.Prelude.{nat_lt, position, decimal, codes}
 use Rattle.std.specs.List.{AllPairs, join_with_byte, position_or_len}
@@ -21,7 +21,7 @@ use Rattle.trace_reader.specs.Fields.{◌>>=◌, parts, two_of, whole_in, wide_i
 use Rattle.trace_reader.specs.Traces.{IsPlace}
 use Rattle.trace_reader.proofs.Plain.{lacks-decimal, parts-first, parts-alone}
 
--- the value of a step that was not refused
+-- where a sequence of two steps gives a value, each step gave one
 pub step-ok : {A B F : Type 0} (r : Result A F) (f : A → Result B F) (y : B) → (r >>= f) ≡ Ok y → (x : A) × (r ≡ Ok x) × (f x ≡ Ok y)
 step-ok (Ok x) f y e = (x, refl, e)
 step-ok (Err d) f y e = absurd cc
@@ -48,18 +48,18 @@ wide_in-text n fits = ap (λ o. ok_or o kind.Number) (number_below-decimal (2 ^ 
 pub wide_in-found : (field : List ℕ) (n : ℕ) → wide_in field ≡ Ok n → (field ≡ decimal n) × (n < 2 ^ 128)
 wide_in-found field n e = number_below-found (2 ^ 128) field n (omega arith) (ok_or-ok (number_below (2 ^ 128) field) kind.Number n e)
 
--- what is two fields is the list of both
+-- a list that has two parts is the list of both
 pub two-is : (ps : List (List ℕ)) (p : List ℕ × List ℕ) → two_of ps ≡ Some p → ps ≡ p.0 ∷ p.1 ∷ []
 two-is [] p e = absurd cc
 two-is (a ∷ []) p e = absurd cc
 two-is (a ∷ b ∷ []) p e = subst (λ (q : List ℕ × List ℕ). a ∷ b ∷ [] ≡ q.0 ∷ q.1 ∷ []) (same_Some (a, b) p e) refl
 two-is (a ∷ b ∷ c ∷ ps) p e = absurd cc
 
--- two halves are the text with the byte between them
+-- a field that has two parts is both with the byte between them
 two-joined : (byte : ℕ) (field a b : List ℕ) → two_of (parts byte field) ≡ Some (a, b) → field ≡ a ++ byte ∷ b
 two-joined byte field a b e = sym (join_with_byte-slice_split byte field) ∙ ap (join_with_byte byte) (two-is (parts byte field) (a, b) e)
 
--- numbers with the byte between them are two halves
+-- two numbers with the byte between them are two parts
 two-text : (byte : ℕ) → ((d : ℕ) → d < 10 → 48 + d ≢ byte) → (m n : ℕ) → two_of (parts byte (decimal m ++ byte ∷ decimal n)) ≡ Some (decimal m, decimal n)
 two-text byte free m n =
     ap two_of (parts-first byte (decimal m) (decimal n) (lacks-decimal byte free m)

@@ -1,4 +1,4 @@
--- The lines before the notes are those of their texts, and their texts are read.
+-- The lines before the notes: a line that is read is its value's text, and that text is read.
 use Rattle.std.proofs.Common.{◌≡◌, ◌≢◌, ◌⊎◌, inl, inr, ℕ, suc, ◌+◌, ◌^◌, ◌<◌, ◌≤◌, Bool, true, false, ◌&&◌, List, [], ◌∷◌, ◌++◌, length, Option, Some, None, Ok, Err, refl, sym, ap, ap₂, subst, ◌∙◌, append_assoc, arith, if◌then◌else◌}
 use Rattle.std.specs.Prelude.{nat_le, decimal, codes}
 use Rattle.std.specs.List.{AllByRecursion, join_with_byte, list_all}
@@ -37,7 +37,7 @@ use Rattle.trace_reader.proofs.FieldTexts.{step-ok, ok-is, ok_or-ok}
 use Rattle.trace_reader.proofs.ItemTexts.{four-is}
 use Rattle.trace_reader.proofs.LineTexts.{is_letter, AreNames, line_at-found, line_at-text, join-line, join-spaced, length-spaced}
 
--- the versions up to the newest that is read
+-- the second version is not above the first
 abbrev pub IsUpTo : Version → Version → Type 0
 IsUpTo One One = Unit {0}
 IsUpTo One Two = ⊥
@@ -47,7 +47,7 @@ pub version-up_to : (v : Version) → IsUpTo One v → v ≡ One
 version-up_to One h = refl
 version-up_to Two h = absurd h
 
--- the first line without its line feed
+-- the version line without its line feed
 abbrev pub version_body : Version → List ℕ
 version_body One = codes "trace 1"
 version_body Two = codes "trace 2"
@@ -120,7 +120,7 @@ ticks-word word n e = by (number_below (2 ^ 64) word) refl e
         let text = number_below-found (2 ^ 64) word m (omega arith) p in
         (text.0 ∙ ap decimal c.2, omega (arith, c.0, c.2), omega (arith, c.1, c.2))
 
--- the plan and its line without the line feed
+-- the plan is one that a trace can have: one of the seven pairs, and a number of ticks within its limits
 pub record IsPlan (plan : PlanLine) : Type 0 where
   pub pair : is_pair plan.scheduler plan.governor ≡ true
   pub some : 1 ≤ plan.ticks
@@ -201,17 +201,17 @@ plan-lacks c other digit plan = (
   ),
 )
 
-scheduler-short : (s : Scheduler) → length (scheduler_word s) ≤ 3
+pub scheduler-short : (s : Scheduler) → length (scheduler_word s) ≤ 3
 scheduler-short Edf = omega arith
 scheduler-short Rm = omega arith
 
-governor-short : (g : GovernorKind) → length (governor_word g) ≤ 6
+pub governor-short : (g : GovernorKind) → length (governor_word g) ≤ 6
 governor-short Plain = omega arith
 governor-short Fixed = omega arith
 governor-short Cycle = omega arith
 governor-short Ahead = omega arith
 
--- the plan line is read
+-- the plan line is read: it is line 2 of the text, and its fields give the plan
 pub record PlanRead (plan : PlanLine) (more : List ℕ) : Type 0 where
   pub text : List ℕ
   pub line_read : line_at 2 (parts 10 (plan_text plan.scheduler plan.governor plan.ticks ++ more)) ≡ Ok (text, parts 10 more)
@@ -234,12 +234,12 @@ plan-text plan more h =
           (scheduler_word plan.scheduler ∷ governor_word plan.governor ∷ decimal plan.ticks ∷ []) spaces) ∙ plan-read plan h;
     }
 
--- the first line is read
+-- the version line is read as line 1
 pub version-read : (v : Version) (more : List ℕ) → line_at 1 (parts 10 (version_line v ++ more)) ≡ Ok (version_body v, parts 10 more)
 version-read One more = line_at-text 1 (codes "trace 1") more (refl, (refl, (refl, (refl, (refl, (refl, (refl, tt))))))) (omega arith) (omega arith)
 version-read Two more = line_at-text 1 (codes "trace 2") more (refl, (refl, (refl, (refl, (refl, (refl, (refl, tt))))))) (omega arith) (omega arith)
 
--- a text that is one line
+-- a text that is one line: its line feed is the last byte, and it is at most the longest line
 pub record IsLine (text : List ℕ) : Type 0 where
   pub body : List ℕ
   pub ended : text ≡ body ++ 10 ∷ []
@@ -272,7 +272,7 @@ pub version-none : (v : Version) → v ≡ One → AreLines (lines_of_tasks v []
 version-none One e = (tt, tt)
 version-none Two e = absurd cc
 
--- what is left after the lines of the tasks
+-- what reading the lines of the tasks gives: the text is theirs and the rest, and the next number counts them
 pub record TasksRead (n : ℕ) (tasks ps : List (List ℕ)) (p : ℕ × List (List ℕ)) : Type 0 where
   pub text : join_with_byte 10 ps ≡ joined tasks ++ join_with_byte 10 p.1
   pub next : p.0 ≡ n + length tasks

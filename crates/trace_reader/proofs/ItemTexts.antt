@@ -1,4 +1,4 @@
--- A line that is read is the line of its item, and the line of an item is read.
+-- A line that is read is the line of its item, and the line of any item is read.
 use Rattle.std.proofs.Common.{◌≡◌, ℕ, ◌^◌, ◌<◌, Bool, true, false, List, [], ◌∷◌, length, Some, Result, Ok, refl, ap, subst, ◌∙◌, if◌then◌else◌}
 use Rattle.std.specs.Prelude.{decimal, codes}
 use Rattle.std.specs.Str.{bytes_eq}
@@ -22,12 +22,12 @@ abbrev pub item_fields : List (List ℕ) → Item → List (List ℕ)
 item_fields names (Told n) = fields_of names n
 item_fields names (Share i energy) = codes "energy" ∷ name_of names i ∷ decimal energy ∷ []
 
--- the item's numbers have their widths, its task is one of so many, and version 2 alone has energies of tasks
+-- the item's numbers fit in their types, its task is below c, and only version 2 has energies of tasks
 abbrev pub IsItemOf : Version → ℕ → Item → Type 0
 IsItemOf v c (Told n) = IsNoteOf c n
 IsItemOf v c (Share i energy) = (v ≡ Two) × (i < c) × (energy < 2 ^ 128)
 
--- the fields are those of the item
+-- the fields are those of the item, which the version has
 abbrev pub Found : Version → List (List ℕ) → List (List ℕ) → Item → Type 0
 Found v names fields item = (fields ≡ item_fields names item) × IsItemOf v (length names) item
 
@@ -186,7 +186,7 @@ unfolding share_in
 share-two One names fields item e = absurd cc
 share-two Two names fields item e = share-found names fields item e
 
--- by the word that a line begins with
+-- reading an item by the word that its line begins with
 module _ (v : Version) (names fields : List (List ℕ)) (word : List ℕ) (item : Item) where
   worded : (text : List ℕ) (here rest : Result Item TraceKind) → (if bytes_eq word text then here else rest) ≡ Ok item
       → (here ≡ Ok item → Found v names (text ∷ fields) item) → (rest ≡ Ok item → Found v names (word ∷ fields) item)
@@ -208,13 +208,13 @@ module _ (v : Version) (names fields : List (List ℕ)) (word : List ℕ) (item 
       worded (codes "end") _ _ e (end-found v names fields item) (λ e.
       worded (codes "energy") _ _ e (share-two v names fields item) (λ e. absurd cc)))))))
 
--- the fields that tell an item are those of its line
+-- fields that are read as an item are those of the item's line
 pub item_of-found : (v : Version) (names fields : List (List ℕ)) (item : Item) → item_of v names fields ≡ Ok item → Found v names fields item
 unfolding item_of
 item_of-found v names [] item e = absurd cc
 item_of-found v names (word ∷ fields) item e = word-found v names fields word item e
 
--- the fields of an item's line tell the item
+-- the fields of an item's line are read as the item
 pub item_of-text : (v : Version) (names : List (List ℕ)) (item : Item) → AreApart names → IsItemOf v (length names) item
     → item_of v names (item_fields names item) ≡ Ok item
 unfolding item_of release_in speed_in run_in idle_in done_in end_in share_in

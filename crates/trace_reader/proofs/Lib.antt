@@ -10,4 +10,6 @@ pub mod ShareTexts
 pub mod NoteTexts
 pub mod HeadTexts
 pub mod TraceTexts
+pub mod ShortTexts
 pub mod Apart
+pub mod Examples

@@ -26,7 +26,7 @@ use Rattle.trace_reader.proofs.Plain.{Lacks, lacks-append, lacks-all, lacks-deci
 use Rattle.trace_reader.proofs.FieldTexts.{AreApart}
 use Rattle.trace_reader.proofs.ItemTexts.{item_fields, IsItemOf, item_of-found, item_of-text}
 
--- each is a name
+-- each of the texts has the form of a name
 abbrev pub AreNames : List (List ℕ) → Type 0
 AreNames = AllByRecursion (λ name. is_name name ≡ true)
 
@@ -34,7 +34,7 @@ pub names-each : (names : List (List ℕ)) → ((i : ℕ) → i < length names �
 names-each [] h = tt
 names-each (name ∷ names) h = (h 0 (omega arith), names-each names (λ i lt. h (suc i) (omega arith)))
 
--- a line that was read, and what stands after it
+-- line n that was read, and the parts after it
 pub record IsLineOf (n : ℕ) (ps : List (List ℕ)) (text : List ℕ) (rest : List (List ℕ)) : Type 0 where
   pub all : ps ≡ text ∷ rest
   pub more : HasPart rest
@@ -57,7 +57,7 @@ line_at-found n [] p e = absurd cc
 line_at-found n (text ∷ []) p e = absurd cc
 line_at-found n (text ∷ next ∷ rest) p e = line-found n text next rest p (nat_lt MOST_LINES n) (nat_lt LONGEST_LINE (length text)) refl refl e
 
--- the text of a line and what follows
+-- the text that begins with a line is the line, its line feed and the text after it
 pub join-line : (text : List ℕ) (rest : List (List ℕ)) → HasPart rest → join_with_byte 10 (text ∷ rest) ≡ text ++ 10 ∷ join_with_byte 10 rest
 join-line text rest p =
     subst (λ ps. join_with_byte 10 (text ∷ ps) ≡ text ++ 10 ∷ join_with_byte 10 ps) (sym p.all) refl
@@ -78,7 +78,7 @@ item_text names item = line (item_fields names item)
 pub join-spaced : (text : List ℕ) → spaced (parts 32 text) ≡ text
 join-spaced text = join_with_byte-slice_split 32 text
 
--- a line that tells an item is that of the item
+-- a line that is read as an item is that item's line
 pub item-found : (v : Version) (names : List (List ℕ)) (text : List ℕ) (item : Item) → item_of v names (parts 32 text) ≡ Ok item
     → (text ++ 10 ∷ [] ≡ item_text names item) × IsItemOf v (length names) item
 item-found v names text item e =
@@ -89,7 +89,7 @@ item-found v names text item e =
 unfoldable pub is_letter : ℕ → Bool
 is_letter b = nat_le 97 b && nat_le b 122
 
--- a byte that no digit, no name and no word has, nor is it a colon or a slash
+-- a byte that is in no digit, word or name, and is neither a colon nor a slash
 record IsApart (c : ℕ) : Type 0 where
   digit : (d : ℕ) → d < 10 → 48 + d ≢ c
   letter : (text : List ℕ) → list_all is_letter text ≡ true → Lacks c text
@@ -148,7 +148,7 @@ module _ (c : ℕ) (free : IsApart c) (names : List (List ℕ)) (named : AreName
   lacks-fields (Told (End t run idle)) = (free.letter (codes "end") refl, (number t, (number run, (number idle, tt))))
   lacks-fields (Share i energy) = (free.letter (codes "energy") refl, (task i, (number energy, tt)))
 
--- the lengths of fields, with a byte after each
+-- how many bytes the fields have, with one byte after each
 abbrev pub lengths : List (List ℕ) → ℕ
 lengths [] = 0
 lengths (field ∷ fields) = length field + 1 + lengths fields
@@ -161,7 +161,8 @@ length-spaced (field ∷ other ∷ fields) = omega (arith, length-append field (
 length-name_of : (names : List (List ℕ)) (i : ℕ) → AreNames names → length (name_of names i) ≤ 32
 length-name_of names i named = name-of (λ name. length name ≤ 32) (omega arith) length-name names i named
 
-lengths-item : (v : Version) (c : ℕ) (names : List (List ℕ)) (item : Item) → AreNames names → IsItemOf v c item
+-- an item's line, without its line feed, is no longer than a line may be
+pub lengths-item : (v : Version) (c : ℕ) (names : List (List ℕ)) (item : Item) → AreNames names → IsItemOf v c item
     → lengths (item_fields names item) ≤ LONGEST_LINE
 lengths-item v c names (Told (Release t i k)) named h = omega (arith, length-decimal_u64 t h.0, length-name_of names i named, length-decimal_u64 k h.2)
 lengths-item v c names (Told (Speed t f num den)) named h =
@@ -196,7 +197,7 @@ some-fields names (Told (Done q i k used)) = omega arith
 some-fields names (Told (End t run idle)) = omega arith
 some-fields names (Share i energy) = omega arith
 
--- the line of an item is read: alone, and for the item
+-- the line of an item is read: it is line n of the text, and its fields give the item
 pub record IsRead (v : Version) (names : List (List ℕ)) (n : ℕ) (item : Item) (more : List ℕ) : Type 0 where
   pub text : List ℕ
   pub line_read : line_at n (parts 10 (item_text names item ++ more)) ≡ Ok (text, parts 10 more)

@@ -1,4 +1,4 @@
--- The notes that are read are those of their text, and the text of notes is read.
+-- The notes that are read are those of their text, and the text of any notes is read.
 use Rattle.std.proofs.Common.{◌≡◌, ℕ, zero, suc, ◌+◌, ◌-◌, ◌^◌, ◌<◌, ◌≤◌, Bool, true, false, List, [], ◌∷◌, ◌++◌, length, drop, get_or, Result, Ok, Err, refl, sym, ap, ap₂, subst, ◌∙◌, append_assoc, arith, if◌then◌else◌}
 use Rattle.std.specs.Prelude.{nat_lt, nat_le, ◌==◌, flat_map}
 use Rattle.std.specs.List.{AllByRecursion, join_with_byte}
@@ -35,7 +35,7 @@ pub at_line-ok : {A : Type 0} (n : ℕ) (r : Result A TraceKind) (x : A) → at_
 at_line-ok n (Ok y) x e = ap Ok (ok-is {F = TraceFault} y x e)
 at_line-ok n (Err k) x e = absurd cc
 
--- the next item, and the checks that it passed
+-- the item of the next line, with the checks that it passed
 record IsNextItem (v : Version) (names : List (List ℕ)) (s : SoFar) (fields : List (List ℕ)) (item : Item) : Type 0 where
   read : item_of v names fields ≡ Ok item
   order : is_in_order s.told (wanted v names) item ≡ true
@@ -55,7 +55,7 @@ next_item-found v names s fields item e =
     let c = checks (is_in_order s.told (wanted v names) a.0) (is_right_share s.notes a.0) a.0 item a.2 in
     subst (λ (x : Item). IsNextItem v names s fields x) c.2 (record { read = a.1; order = c.0; right = c.1 })
 
--- what the notes from line n on are, after those so far
+-- the notes `all` that are read from line n on: those so far, `body` and the last, with their text and its limits
 pub record Reads (v : Version) (names : List (List ℕ)) (n : ℕ) (s : SoFar) (ps : List (List ℕ)) (all : List Note) : Type 0 where
   pub body : List Note
   pub last : Note
@@ -79,7 +79,7 @@ ended : (b : Bool) (notes all : List Note) (n : ℕ) → (if b then Ok notes els
 ended true notes all n e = (refl, ok-is {F = TraceFault} notes all e)
 ended false notes all n e = absurd cc
 
--- a note, by whether it ends the run
+-- the item of a note ends the run where the note does
 ends-told : (n : Note) → ends (Told n) ≡ is_end n
 ends-told (Release t i k) = refl
 ends-told (Speed t f num den) = refl
@@ -96,11 +96,11 @@ order-told told w (Idle from to units energy) b e = ap (λ (c : Bool). if c then
 order-told told w (Done q i k used) b e = ap (λ (c : Bool). if c then nat_le w told else told == 0) e
 order-told told w (End t run idle) b e = ap (λ (c : Bool). if c then nat_le w told else told == 0) e
 
-note-line : (names : List (List ℕ)) (n : Note) → note_text names n ≡ item_text names (Told n)
+pub note-line : (names : List (List ℕ)) (n : Note) → note_text names n ≡ item_text names (Told n)
 unfolding note_text
 note-line names n = refl
 
--- the last note
+-- reading the last note
 read-last : (v : Version) (names : List (List ℕ)) (n : ℕ) (s : SoFar) (text : List ℕ) (rest : List (List ℕ)) (last : Note) (all : List Note)
     → is_end last ≡ true
     → IsLineOf n (text ∷ rest) text rest → IsNextItem v names s (parts 32 text) (Told last) → is_nothing rest ≡ true
@@ -124,7 +124,7 @@ read-last v names n s text rest last all end read item nothing whole =
       lines = omega (arith, read.few);
     }
 
--- a note before the last
+-- reading a note before the last
 read-note : (v : Version) (names : List (List ℕ)) (n : ℕ) (s : SoFar) (text : List ℕ) (rest : List (List ℕ)) (note : Note) (all : List Note)
     → is_end note ≡ false
     → IsLineOf n (text ∷ rest) text rest → IsNextItem v names s (parts 32 text) (Told note)
@@ -158,7 +158,7 @@ share-facts : (v : Version) (names : List (List ℕ)) (notes : List Note) (told 
 share-facts One names notes told e lt = absurd cc
 share-facts Two names notes told e lt = (refl, shares-next names notes told lt)
 
--- the energy of a task has its width, and those after it have theirs
+-- the energy of task j is below 2^128, where that of task `told` is and those after it are
 share-widths : (notes body : List Note) (told j energy : ℕ) → body ≡ [] → energy ≡ energy_of_task notes told → energy < 2 ^ 128 → told ≤ j
     → (told + 1 ≤ j → energy_of_task (notes ++ body) j < 2 ^ 128) → energy_of_task (notes ++ []) j < 2 ^ 128
 share-widths notes body told j energy none sum fits low later = by (nat_lt told j) refl
@@ -170,7 +170,7 @@ share-widths notes body told j energy none sum fits low later = by (nat_lt told 
         let same : energy ≡ energy_of_task (notes ++ []) j = sum ∙ ap₂ (λ ns i. energy_of_task ns i) (sym (append-nil notes)) here in
         omega (arith, same)
 
--- the energy of a task
+-- reading the energy of a task
 read-share : (v : Version) (names : List (List ℕ)) (n : ℕ) (s : SoFar) (text : List ℕ) (rest : List (List ℕ)) (i energy : ℕ) (all : List Note)
     → IsLineOf n (text ∷ rest) text rest → IsNextItem v names s (parts 32 text) (Share i energy)
     → (s.told < wanted v names → Reads v names (n + 1) (record { notes = s.notes; told = s.told + 1 }) rest all) → Reads v names n s (text ∷ rest) all
@@ -220,7 +220,7 @@ item-step v names n s text rest (Told note) all read item e later = by (is_end n
     by false other = read-note v names n s text rest note all other read item
         (later (record { notes = s.notes ++ note ∷ []; told = s.told }) (rw (ends-told note ∙ other) at e))
 
--- the line and what follows it
+-- a line that was read is the first part, with the parts after it
 line-pair : (n : ℕ) (text : List ℕ) (rest : List (List ℕ)) (p : List ℕ × List (List ℕ)) → line_at n (text ∷ rest) ≡ Ok p
     → IsLineOf n (text ∷ rest) text rest × (p.0 ≡ text)
 line-pair n text rest p e =
@@ -229,7 +229,7 @@ line-pair n text rest p e =
     let others : p.1 ≡ rest = ap (λ ps. drop 1 ps) (sym read.all) in
     (record { all = refl; more = subst HasPart others read.more; few = read.few; short = subst (λ t. length t ≤ LONGEST_LINE) first read.short }, first)
 
--- what follows a line that tells an item
+-- what is read after the line of an item
 abbrev after_item : Version → List (List ℕ) → ℕ → SoFar → List (List ℕ) → Item → Result (List Note) TraceFault
 after_item v names n s rest item =
     if ends item then (if is_nothing rest then Ok ((with_item s item).notes) else Err (Refused (n + 1) kind.AfterEnd))
@@ -268,7 +268,7 @@ module _ (v : Version) (names : List (List ℕ)) (named : AreNames names) (apart
       → after_item v names n s (parts 10 more) (Told last) ≡ answer (n + 1) (s.notes ++ last ∷ []) more
   end-after n s last more end = rw (ends-told last ∙ end) refl
 
-  -- the last note
+  -- the text of the last note is read
   last-text : (n : ℕ) (s : SoFar) (last : Note) (more : List ℕ) → is_end last ≡ true → IsNoteOf (length names) last → wanted v names ≤ s.told → n ≤ MOST_LINES
       → notes_from v names n s (parts 10 (note_text names last ++ more)) ≡ answer (n + 1) (s.notes ++ last ∷ []) more
   last-text n s last more end fits told few =
@@ -280,7 +280,7 @@ module _ (v : Version) (names : List (List ℕ)) (named : AreNames names) (apart
   two-wanted One told lt = absurd (omega arith)
   two-wanted Two told lt = (refl, lt)
 
-  -- the energies that are left, and then the last note
+  -- the text of the energies that are left and the last note is read
   shares-text : (k n : ℕ) (s : SoFar) (last : Note) (more : List ℕ) → wanted v names - s.told ≡ k → is_end last ≡ true → IsNoteOf (length names) last
       → ((i : ℕ) → s.told ≤ i → i < wanted v names → energy_of_task s.notes i < 2 ^ 128) → n + k ≤ MOST_LINES
       → notes_from v names n s (parts 10 ((joined (drop s.told (shares v names s.notes)) ++ note_text names last) ++ more)) ≡ answer
@@ -314,7 +314,7 @@ module _ (v : Version) (names : List (List ℕ)) (named : AreNames names) (apart
       → after_item v names n s rest (Told note) ≡ notes_from v names (n + 1) (record { notes = s.notes ++ note ∷ []; told = s.told }) rest
   note-after n s note rest other = rw (ends-told note ∙ other) refl
 
-  -- the notes, the energies and the last note
+  -- the text of the notes, the energies and the last note is read
   pub notes_from-text : (n : ℕ) (s : SoFar) (body : List Note) (last : Note) (more : List ℕ) → s.told ≡ 0
       → AllByRecursion (λ m. is_end m ≡ false) body → is_end last ≡ true
       → AllByRecursion (IsNoteOf (length names)) (body ++ last ∷ [])

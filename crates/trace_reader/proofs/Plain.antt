@@ -1,4 +1,4 @@
--- Texts in which a byte doesn't stand, and how they are split.
+-- Texts without a certain byte, and how they are split.
 use Rattle.std.proofs.Common.{◌≡◌, ◌≢◌, ℕ, zero, suc, ◌+◌, ◌/◌, ◌%◌, ◌<◌, ◌≤◌, Bool, true, false, List, [], ◌∷◌, ◌++◌, length, All, refl, ap, ◌∙◌, arith, if◌then◌else◌}
 use Rattle.std.specs.Prelude.{◌==◌, nat_lt, decimal}
 use Rattle.std.specs.Fmt.{digit_glyph, digits_onto, digits}
@@ -12,7 +12,7 @@ use Rattle.dvs_base.proofs.Names.{name-parts}
 use Rattle.trace_reader.specs.Fields.{parts}
 use Rattle.trace_reader.proofs.Lined.{spaced}
 
--- the byte doesn't stand in the text
+-- the byte is not in the text
 abbrev pub Lacks : ℕ → List ℕ → Type 0
 Lacks c = AllByRecursion (λ b. (b == c) ≡ false)
 
@@ -20,7 +20,7 @@ pub lacks-append : (c : ℕ) (a b : List ℕ) → Lacks c a → Lacks c b → La
 lacks-append c [] b p q = q
 lacks-append c (x ∷ a) b p q = (p.0, lacks-append c a b p.1 q)
 
--- a test that the byte fails, and every byte of the text passes
+-- a byte that fails a test is not in a text whose bytes all pass it
 pub lacks-all : (test : ℕ → Bool) (c : ℕ) (text : List ℕ) → test c ≡ false → list_all test text ≡ true → Lacks c text
 lacks-all test c [] fails h = tt
 lacks-all test c (b ∷ text) fails h =
@@ -31,7 +31,7 @@ lacks-all test c (b ∷ text) fails h =
     other true e passes = let here : b ≡ c = grind (arith, nat_tests) in absurd (let p = ap test here in cc)
     other false e passes = e
 
--- a byte that is no digit
+-- a byte that is not a digit
 abbrev IsNoDigit : ℕ → Type 0
 IsNoDigit c = (d : ℕ) → d < 10 → 48 + d ≢ c
 
@@ -49,7 +49,7 @@ lacks-digits c free (suc k) n acc h = either (n / 10 == 0) _ _ (glyph, h) (lacks
     either true xs ys p q = p
     either false xs ys p q = q
 
--- a number's text has digits alone
+-- a byte that is not a digit is not in a number's text
 pub lacks-decimal : (c : ℕ) → IsNoDigit c → (n : ℕ) → Lacks c (decimal n)
 unfolding digits
 lacks-decimal c free n = lacks-digits c free 64 n [] tt
@@ -81,14 +81,14 @@ parts-alone c text h = slice_split_none (λ b. b == c) text (lacked c text h)
 pub parts-first : (c : ℕ) (text more : List ℕ) → Lacks c text → parts c (text ++ c ∷ more) ≡ text ∷ parts c more
 parts-first c text more h = slice_split_at (λ b. b == c) text c more (lacked c text h) (eq-eqb c c refl)
 
--- texts that are joined by a byte that stands in none of them are its parts
+-- the parts of texts that are joined by a byte which none of them has are the texts
 pub parts-joined : (c : ℕ) (first : List ℕ) (rest : List (List ℕ)) → AllByRecursion (Lacks c) (first ∷ rest)
     → parts c (join_with_byte c (first ∷ rest)) ≡ first ∷ rest
 parts-joined c first [] h = parts-alone c first h.0
 parts-joined c first (second ∷ rest) h =
     parts-first c first (join_with_byte c (second ∷ rest)) h.0 ∙ ap (λ ps. first ∷ ps) (parts-joined c second rest h.1)
 
--- fields and spaces without line feeds
+-- fields without line feeds, joined by spaces, have no line feed
 pub lacks-spaced : (fields : List (List ℕ)) → AllByRecursion (Lacks 10) fields → Lacks 10 (spaced fields)
 lacks-spaced [] h = tt
 lacks-spaced (field ∷ []) h = h.0

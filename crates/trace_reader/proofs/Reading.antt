@@ -14,7 +14,7 @@ use Rattle.trace_reader.specs.TraceFile.{is_nothing}
 use Rattle.trace_reader.specs.Traces.{task_lines}
 use Rattle.trace_reader.proofs.Splitting.{HasPart, some-part}
 
--- a part that others follow is a line
+-- the answer for a part that another part follows, which makes it a line
 abbrev pub checked_line : ℕ → List ℕ → List (List ℕ) → Result (List ℕ × List (List ℕ)) TraceFault
 checked_line n line rest =
     if nat_lt MOST_LINES n then Err (Refused n kind.TooMany)
@@ -24,7 +24,7 @@ checked_line n line rest =
 pub line_at-more : (n : ℕ) (line text : List ℕ) → line_at n (line ∷ parts 10 text) ≡ checked_line n line (parts 10 text)
 line_at-more n line text = let p = some-part 10 text in rw p.all refl
 
--- the next task's line, where there is a next task
+-- where there is a task i, the first line of the tasks from i on
 pub record HasTaskLine (names : List (List ℕ)) (tasks : List TaskLine) (i : ℕ) : Type 0 where
   pub first : List ℕ
   pub all : task_lines (drop i names) (drop i tasks) ≡ first ∷ task_lines (drop (suc i) names) (drop (suc i) tasks)
@@ -36,14 +36,14 @@ some-task_line (name ∷ names) (t ∷ tasks) zero lt e = record { first = task_
 some-task_line (name ∷ names) (t ∷ tasks) (suc i) lt e =
     let more = some-task_line names tasks i (omega arith) (omega arith) in record { first = more.first; all = more.all }
 
--- a line that is refused where a task's stands
+-- where the line of a task is refused, so are the lines of the tasks
 pub tasks-refused : (n : ℕ) (names : List (List ℕ)) (tasks : List TaskLine) (i : ℕ) (rest : List (List ℕ)) (e : TraceFault)
     → i < length names → length tasks ≡ length names
     → line_at n rest ≡ Err e → tasks_from n (task_lines (drop i names) (drop i tasks)) rest ≡ Err e
 unfolding tasks_from
 tasks-refused n names tasks i rest e lt same h = let t = some-task_line names tasks i lt same in rw (t.all, h) refl
 
--- something stands after a line feed
+-- the parts of a text with a byte are not those of the empty text
 pub is_nothing-some : (text : List ℕ) → 0 < length text → is_nothing (parts 10 text) ≡ false
 is_nothing-some [] some = absurd (omega arith)
 is_nothing-some (b ∷ text) some = by (b == 10) (parts 10 text) (some-part 10 text)

@@ -15,12 +15,12 @@ use Rattle.trace_reader.specs.TraceFile.{wanted}
 use Rattle.trace_reader.specs.Traces.{is_end}
 use Rattle.trace_reader.proofs.Summing.{energy-more}
 
--- the lines of the energies that a version has
+-- the energy lines that a version has
 abbrev pub shares : Version → List (List ℕ) → List Note → List (List ℕ)
 shares One names notes = []
 shares Two names notes = shares_from notes 0 names
 
--- the notes after the first ones, the last of which ends the run, in a version; `told` energies were told before
+-- the text of `body` and the last note, after the notes `before` and the energies of `told` tasks
 abbrev pub rest_text : Version → List (List ℕ) → ℕ → List Note → List Note → Note → List ℕ
 rest_text v names told before body last =
     flat_map (note_text names) body ++ (joined (drop told (shares v names (before ++ body))) ++ note_text names last)
@@ -33,7 +33,7 @@ energy-end notes (Idle from to units energy) i e = absurd cc
 energy-end notes (Done q j k used) i e = absurd cc
 energy-end notes (End t run idle) i e = energy-more notes (End t run idle) i ∙ omega arith
 
--- energies that are the same have the same lines
+-- notes with equal energies of tasks have equal energy lines
 pub shares-same : (a b : List Note) (i : ℕ) (names : List (List ℕ)) → ((j : ℕ) → energy_of_task a j ≡ energy_of_task b j)
     → shares_from a i names ≡ shares_from b i names
 shares-same a b i [] same = refl
@@ -43,7 +43,7 @@ length-shares : (notes : List Note) (i : ℕ) (names : List (List ℕ)) → leng
 length-shares notes i [] = refl
 length-shares notes i (name ∷ names) = ap suc (length-shares notes (i + 1) names)
 
--- no line is left after as many as are wanted
+-- once all energies were read, no energy line is left
 pub shares-told : (v : Version) (names : List (List ℕ)) (notes : List Note) (told : ℕ) → wanted v names ≤ told → drop told (shares v names notes) ≡ []
 shares-told One names notes told h = drop_all told [] (omega arith)
 shares-told Two names notes told h = drop_all told (shares_from notes 0 names) (omega (arith, length-shares notes 0 names))
@@ -56,7 +56,7 @@ drop-from notes i (suc j) (name ∷ names) lt =
     drop-from notes (i + 1) j names (omega arith)
     ∙ ap (λ k. share_text (name_of names j) (energy_of_task notes k) ∷ drop (suc j) (shares_from notes (i + 1) names)) (omega arith)
 
--- the next line
+-- the next energy line is that of task `told`
 pub shares-next : (names : List (List ℕ)) (notes : List Note) (told : ℕ) → told < length names
     → drop told (shares Two names notes) ≡ share_text (name_of names told) (energy_of_task notes told) ∷ drop (told + 1) (shares Two names notes)
 shares-next names notes told lt =
@@ -64,7 +64,7 @@ shares-next names notes told lt =
     let next : suc told ≡ told + 1 = omega arith in
     drop-from notes 0 told names lt ∙ ap₂ (λ i k. share_text (name_of names told) (energy_of_task notes i) ∷ drop k (shares_from notes 0 names)) here next
 
--- the texts of notes that don't end the run, and of the one that does
+-- the text of notes that don't end the run, before others, is their lines and then the others' text
 told-body : (v : Version) (names : List (List ℕ)) (all body : List Note) (last : List Note) → AllByRecursion (λ n. is_end n ≡ false) body
     → flat_map (told_text v names all) (body ++ last) ≡ flat_map (note_text names) body ++ flat_map (told_text v names all) last
 told-body v names all [] last h = refl
@@ -96,7 +96,7 @@ shares-before : (v : Version) (names : List (List ℕ)) (body : List Note) (last
 shares-before One names body last e = refl
 shares-before Two names body last e = shares-same (body ++ last ∷ []) body 0 names (λ j. energy-end body last j e)
 
--- the notes of a whole trace
+-- the notes of a whole trace have the text of the notes from its beginning
 pub told-notes : (v : Version) (names : List (List ℕ)) (body : List Note) (last : Note) → AllByRecursion (λ n. is_end n ≡ false) body → is_end last ≡ true
     → flat_map (told_text v names (body ++ last ∷ [])) (body ++ last ∷ []) ≡ rest_text v names 0 [] body last
 told-notes v names body last h e =

@@ -22,7 +22,7 @@ module _ (byte : ℕ) (text : List ℕ) where
       let here : position_or_len at_byte text ≡ i = grind (arith, nat_tests) in
       rw (← here) (slice_split_first at_byte text 0 near)
 
--- a text has a part
+-- a text has a first part
 pub record HasPart (found : List (List ℕ)) : Type 0 where
   pub first : List ℕ
   pub rest : List (List ℕ)
@@ -35,7 +35,7 @@ some-part byte text = by (parts byte text) (length-slice_split (λ b. b == byte)
     by [] e = absurd (omega arith)
     by (x ∷ xs) e = record { first = x; rest = xs; all = refl }
 
--- two parts are not one, and so on
+-- a list with a part before those of a text has more than one part
 pub one_of-more : (a : List ℕ) (byte : ℕ) (text : List ℕ) → one_of (a ∷ parts byte text) ≡ None
 one_of-more a byte text = let p = some-part byte text in rw p.all refl
 

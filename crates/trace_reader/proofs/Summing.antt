@@ -1,4 +1,4 @@
--- The energies of the tasks, one note more.
+-- The energies of the tasks, with one note more.
 use Rattle.std.proofs.Common.{◌≡◌, ◌≢◌, ℕ, ◌+◌, ◌<◌, ◌^◌, Bool, true, false, List, [], ◌∷◌, ◌++◌, length, get_or, set, Option, Some, None, refl, sym, ap, ◌∙◌, arith, if◌then◌else◌}
 use Rattle.std.specs.Prelude.{nat_lt, nat_eq}
 use Rattle.std.proofs.lemmas.Bool.Decides.{nat_tests}
@@ -17,11 +17,11 @@ with-narrow s e = by (nat_lt s (2 ^ 128)) refl
     by true below = refl
     by false above = let far : nat_lt (s + e) (2 ^ 128) ≡ false = grind (arith, nat_tests) in rw far refl
 
--- the energy of a task, one note more
+-- the energy of a task with one note more is the sum, with the note's energy where it is the task's run
 pub energy-more : (notes : List Note) (n : Note) (i : ℕ) → energy_of_task (notes ++ n ∷ []) i ≡ energy_of_task notes i + run_energy_of i n
 energy-more notes n i = omega (arith, sum_by-append (run_energy_of i) notes (n ∷ []))
 
--- one run more
+-- the sums with one run more: its energy is added to its task's
 pub sums-run : (sums : List (Option ℕ)) (notes : List Note) (from to : Pos) (j k units energy : ℕ) → j < 64 → length sums ≡ 64
     → HasSums notes sums → HasSums (notes ++ Run from to j k units energy ∷ []) (set sums j (with_energy (get_or sums j None) energy))
 sums-run sums notes from to j k units energy lt long h i below = by (nat_eq j i) refl

@@ -1,4 +1,4 @@
--- What is read is the trace of its text, the text of a trace is read, and no text begins another.
+-- A text that is read is that of its trace, the text of any trace is read, and no text is the beginning of another.
 use Rattle.std.proofs.Common.{◌≡◌, ℕ, ◌+◌, ◌^◌, ◌<◌, ◌≤◌, Bool, true, false, List, [], ◌∷◌, ◌++◌, length, Result, Ok, Err, refl, sym, ap, ap₂, subst, ◌∙◌, append_assoc, length-append, arith, if◌then◌else◌}
 use Rattle.std.specs.Prelude.{flat_map, IfOk}
 use Rattle.std.specs.List.{AllByRecursion, join_with_byte}
@@ -28,7 +28,7 @@ use Rattle.trace_reader.proofs.ShareTexts.{rest_text, energy-end, told-notes}
 use Rattle.trace_reader.proofs.NoteTexts.{Reads, notes_from-found, answer, notes_from-text, at_line-ok}
 use Rattle.trace_reader.proofs.HeadTexts.{IsUpTo, version-found, version-text, version-line, version-read, IsPlan, plan-found, plan-text, AreLines, TasksRead, tasks-found, tasks-text}
 
--- the text of a trace in both versions
+-- the text of a trace by its four parts: version line, plan line, task lines and notes
 text-parts : (v : Version) (plan : PlanLine) (names tasks : List (List ℕ)) (notes : List Note)
     → whole_text v plan.scheduler plan.governor plan.ticks names tasks notes
     ≡ version_line v ++ (plan_text plan.scheduler plan.governor plan.ticks ++ (joined (lines_of_tasks v tasks) ++ flat_map (told_text v names notes) notes))
@@ -37,7 +37,7 @@ text-parts Two plan names tasks notes =
     append_assoc (version_line Two ++ plan_text plan.scheduler plan.governor plan.ticks) (joined tasks) (flat_map (told_text Two names notes) notes)
     ∙ append_assoc (version_line Two) (plan_text plan.scheduler plan.governor plan.ticks) (joined tasks ++ flat_map (told_text Two names notes) notes)
 
--- notes, of which the last ends the run
+-- the notes as those before the last, and the last, which alone ends the run
 record EndsWith (notes : List Note) : Type 0 where
   body : List Note
   last : Note
@@ -57,7 +57,7 @@ is-ended [] last h end = end
 is-ended (n ∷ []) last h end = (h.0, end)
 is-ended (n ∷ m ∷ body) last h end = (h.0, is-ended (m ∷ body) last h.1 end)
 
--- the energies of the tasks have their widths
+-- where the energies of the tasks are below 2^128 before the last note, they are with it
 shares-found : (v : Version) (names : List (List ℕ)) (body : List Note) (last : Note) → is_end last ≡ true
     → ((i : ℕ) → i < wanted v names → energy_of_task body i < 2 ^ 128) → HasShares v (length names) (body ++ last ∷ [])
 shares-found One names body last end h = tt
@@ -75,7 +75,7 @@ lines-wanted Two names tasks = omega arith
 length-last : (body : List Note) (last : Note) → length (body ++ last ∷ []) ≡ length body + 1
 length-last body last = omega (arith, length-append body (last ∷ []))
 
--- what is read is a trace, and the bytes are its text
+-- what reading a text as a trace gives: the trace has a text, the bytes are it, and its version is read
 pub record IsFound (newest : Version) (names tasks : List (List ℕ)) (bytes : List ℕ) (t : TraceOf) : Type 0 where
   pub trace : IsTrace names tasks t
   pub text : bytes ≡ text_of names tasks t
@@ -107,7 +107,7 @@ found-whole newest names tasks bytes v plan ps p notes up_to is_plan head tasks_
     let found : IsFound newest names tasks bytes made = record { trace = trace; text = text; version = up_to } in
     subst (λ (ns : List Note). IsFound newest names tasks bytes (record { version = v; plan = plan; notes = ns })) (sym reads.whole) found
 
--- what is left of the reader after each of its steps
+-- what the reader returns from the end of the task lines on
 abbrev from_tasks : Version → List (List ℕ) → PlanLine → ℕ × List (List ℕ) → Result TraceOf TraceFault
 from_tasks v names plan rest = notes_from v names rest.0 nothing_yet rest.1 >>= λ notes. Ok (record { version = v; plan = plan; notes = notes })
 
@@ -123,7 +123,7 @@ from_version names tasks ps v = line_at 2 ps >>= from_second v names tasks
 abbrev from_first : Version → List (List ℕ) → List (List ℕ) → List ℕ × List (List ℕ) → Result TraceOf TraceFault
 from_first newest names tasks first = at_line 1 (version_of newest first.0) >>= from_version names tasks first.1
 
--- the line that was read, its line feed, and what follows
+-- the text from line n on is that line, its line feed and the text after it
 line-text : (n : ℕ) (ps : List (List ℕ)) (p : List ℕ × List (List ℕ)) → line_at n ps ≡ Ok p → join_with_byte 10 ps ≡ (p.0 ++ 10 ∷ []) ++ join_with_byte 10 p.1
 line-text n ps p e =
     let line = line_at-found n ps p e in
@@ -151,7 +151,7 @@ trace_file-found newest names tasks bytes t e =
     (found-whole newest names tasks bytes b.0 d.0 c.0.1 f.0 g.0 version.1 plan.1 head
     (tasks-found 3 (lines_of_tasks b.0 tasks) c.0.1 f.0 f.1) (notes_from-found b.0 names f.0.0 nothing_yet f.0.1 g.0 g.1))
 
--- what the reader answers to the text of a trace and what stands after it
+-- the reader's answer for the text of a trace with the bytes `more` after it
 abbrev pub whole_answer : List (List ℕ) → List (List ℕ) → TraceOf → List ℕ → Result TraceOf TraceFault
 whole_answer names tasks t more =
     if is_nothing (parts 10 more) then Ok t else Err (Refused (3 + lines_for_tasks t.version (length names) (length tasks) + length t.notes) kind.AfterEnd)
@@ -216,7 +216,7 @@ same-answer : (b : Bool) (t u : TraceOf) (fault : TraceFault) → (if b then Ok 
 same-answer true t u fault e = (refl, ok-is {F = TraceFault} t u e)
 same-answer false t u fault e = absurd cc
 
--- no text of a trace begins that of another
+-- each trace has one text, and no text is the beginning of another trace's text
 pub one-text : (names tasks : List (List ℕ)) → AreNames names → AreApart names → AreLines tasks → HaveOneText names tasks
 one-text names tasks named apart lines t u more h k e =
     let first = trace_file-text Two names tasks t more named apart (version-lines t.version tasks lines) tt h in
@@ -226,7 +226,7 @@ one-text names tasks named apart lines t u more h k e =
     (Refused (3 + lines_for_tasks t.version (length names) (length tasks) + length t.notes) kind.AfterEnd) same in
     (found.1, nothing-more more found.0)
 
--- what a reader of the versions up to the newest gives, in the words of its clauses
+-- a text that is read is that of the trace returned, whose version is not above the newest
 pub reads-found : (newest : Version) (names tasks : List (List ℕ)) (bytes : List ℕ) (t : TraceOf)
     → trace_file newest names tasks bytes ≡ Ok t → IsTextOf names tasks bytes t × IsUpTo newest t.version
 reads-found newest names tasks bytes t e = let found = trace_file-found newest names tasks bytes t e in ((found.trace, found.text), found.version)

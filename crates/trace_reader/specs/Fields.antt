@@ -1,4 +1,4 @@
--- What the fields of a line say.
+-- The values of a line's fields.
 use Rattle.std.specs.Prelude.{ℕ, ◌^◌, ◌==◌, List, [], ◌∷◌, position, Option, Some, None, Result, Ok}
 use Rattle.std.specs.List.{slice_split}
 use Rattle.std.specs.Option.{ok_or}
@@ -10,7 +10,7 @@ use Rattle.dvs_base.specs.declared.note.Pos.{Pos}
 use Rattle.trace_reader.specs.declared.trace.TraceKind.{TraceKind}
 use Rattle.trace_reader.specs.declared.trace.TraceKind.TheVariants as kind
 
--- the next step, where this one gives a value
+-- the next step with this one's value, or this one's refusal
 infixl 10 ◌>>=◌
 abbrev pub ◌>>=◌ : {A B F : Type 0} → Result A F → (A → Result B F) → Result B F
 r >>= next = and_then r next
@@ -19,40 +19,40 @@ r >>= next = and_then r next
 abbrev pub parts : ℕ → List ℕ → List (List ℕ)
 parts byte text = slice_split (λ b. b == byte) text
 
--- the part, if it is one
+-- the part, if there is one
 abbrev pub one_of : List (List ℕ) → Option (List ℕ)
 one_of (a ∷ []) = Some a
 one_of _ = None
 
--- the parts, if they are two
+-- the parts, if there are two
 abbrev pub two_of : List (List ℕ) → Option (List ℕ × List ℕ)
 two_of (a ∷ b ∷ []) = Some (a, b)
 two_of _ = None
 
--- the parts, if they are three
+-- the parts, if there are three
 abbrev pub three_of : List (List ℕ) → Option (List ℕ × List ℕ × List ℕ)
 three_of (a ∷ b ∷ c ∷ []) = Some (a, b, c)
 three_of _ = None
 
--- the parts, if they are four
+-- the parts, if there are four
 abbrev pub four_of : List (List ℕ) → Option (List ℕ × List ℕ × List ℕ × List ℕ)
 four_of (a ∷ b ∷ c ∷ d ∷ []) = Some (a, b, c, d)
 four_of _ = None
 
--- the parts, if they are six
+-- the parts, if there are six
 abbrev pub six_of : List (List ℕ) → Option (List ℕ × List ℕ × List ℕ × List ℕ × List ℕ × List ℕ)
 six_of (a ∷ b ∷ c ∷ d ∷ e ∷ f ∷ []) = Some (a, b, c, d, e, f)
 six_of _ = None
 
--- a number below 2^64
+-- the field as a number below 2^64
 abbrev pub whole_in : List ℕ → Result ℕ TraceKind
 whole_in field = ok_or (number_below u64_end field) kind.Number
 
--- a number below 2^128
+-- the field as a number below 2^128
 abbrev pub wide_in : List ℕ → Result ℕ TraceKind
 wide_in field = ok_or (number_below (2 ^ 128) field) kind.Number
 
--- a position: two numbers with a colon between them
+-- the field as a position: two numbers with a colon between them
 unfoldable pub position_in : List ℕ → Result Pos TraceKind
 position_in field = do
   halves ← ok_or (two_of (parts 58 field)) kind.Number
@@ -60,7 +60,7 @@ position_in field = do
   offset ← whole_in halves.1
   Ok (record { tick = tick; offset = offset })
 
--- a fraction: two numbers with a slash between them
+-- the field as a fraction: two numbers with a slash between them
 unfoldable pub fraction_in : List ℕ → Result (ℕ × ℕ) TraceKind
 fraction_in field = do
   halves ← ok_or (two_of (parts 47 field)) kind.Number
@@ -68,6 +68,6 @@ fraction_in field = do
   den ← wide_in halves.1
   Ok (num, den)
 
--- the number of the task with this name
+-- the number of the task whose name is the field
 unfoldable pub task_in : List (List ℕ) → List ℕ → Result ℕ TraceKind
 task_in names field = ok_or (position (λ name. bytes_eq name field) names) kind.Task

@@ -14,7 +14,7 @@ use Rattle.trace_reader.specs.declared.trace.TraceKind.{TraceKind}
 use Rattle.trace_reader.specs.declared.trace.TraceKind.TheVariants as kind
 use Rattle.trace_reader.specs.Fields.{◌>>=◌, four_of}
 
--- line n, and the parts after it, of the parts between line feeds: what stands after the last line feed is no line
+-- line n, and the parts after it, of a text's parts between line feeds; bytes after the last line feed are not a line
 abbrev pub line_at : ℕ → List (List ℕ) → Result (List ℕ × List (List ℕ)) TraceFault
 line_at n (line ∷ next ∷ rest) =
     if nat_lt MOST_LINES n then Err (Refused n kind.TooMany)
@@ -22,14 +22,14 @@ line_at n (line ∷ next ∷ rest) =
     else Ok (line, next ∷ rest))
 line_at n _ = Err (Refused n kind.NoEnd)
 
--- the version that the first line names, of those up to the newest that is read
+-- the version that the first line names, if it is not above the newest that is read
 abbrev pub version_of : Version → List ℕ → Result Version TraceKind
 version_of One line = if bytes_eq line (codes "trace 1") then Ok One else Err kind.Version
 version_of Two line =
     if bytes_eq line (codes "trace 1") then Ok One
     else (if bytes_eq line (codes "trace 2") then Ok Two else Err kind.Version)
 
--- the plan that the fields of the second line tell
+-- the plan that the fields of the second line name
 unfoldable pub plan_of : List (List ℕ) → Result PlanLine TraceKind
 plan_of fields = do
   four ← ok_or (four_of fields) kind.Plan
@@ -40,20 +40,19 @@ plan_of fields = do
       then Ok (record { scheduler = scheduler; governor = governor; ticks = ticks })
       else Err kind.Plan
 
--- what is refused of line n
+-- a value that was read, or the refusal of line n
 abbrev pub at_line : {A : Type 0} → ℕ → Result A TraceKind → Result A TraceFault
 at_line n (Ok x) = Ok x
 at_line n (Err k) = Err (Refused n k)
 
--- the lines of the tasks, from line n on: each with its line feed is the text of its task. The number of the next line,
--- and the parts after
+-- the number of the next line and the parts after, where the lines from line n on are those of the tasks
 unfoldable pub tasks_from : ℕ → List (List ℕ) → List (List ℕ) → Result (ℕ × List (List ℕ)) TraceFault
 tasks_from n [] rest = Ok (n, rest)
 tasks_from n (task ∷ tasks) rest = do
   line ← line_at n rest
   if bytes_eq (line.0 ++ 10 ∷ []) task then tasks_from (n + 1) tasks line.1 else Err (Refused n kind.TaskLine)
 
--- the lines of the tasks that a version has
+-- the task lines that a version has
 abbrev pub lines_of_tasks : Version → List (List ℕ) → List (List ℕ)
 lines_of_tasks One tasks = []
 lines_of_tasks Two tasks = tasks

@@ -1,6 +1,6 @@
--- What a line after the head of a trace tells: a note, or in version 2 the energy of a task.
--- A line is split at each single space. First it has to have its word's number of fields; then they are read from left to
--- right.
+-- The items of the lines after the head of a trace: notes, and in version 2 energies of tasks.
+-- A line is split at each single space. The number of its fields is checked first, by its word; then the fields are
+-- read from left to right.
 use Rattle.std.specs.Prelude.{ℕ, ◌<◌, List, [], ◌∷◌, codes, Result, Ok, Err, if◌then◌else◌}
 use Rattle.std.specs.Option.{ok_or}
 use Rattle.std.specs.Str.{bytes_eq}
@@ -13,7 +13,7 @@ use Rattle.trace_reader.specs.declared.trace.TraceKind.{TraceKind}
 use Rattle.trace_reader.specs.declared.trace.TraceKind.TheVariants as kind
 use Rattle.trace_reader.specs.Fields.{◌>>=◌, two_of, three_of, four_of, six_of, whole_in, wide_in, position_in, fraction_in, task_in}
 
--- a release, by the fields after its word
+-- the release note of the fields after the word `release`
 unfoldable pub release_in : List (List ℕ) → List (List ℕ) → Result Item TraceKind
 release_in names fields = do
   three ← ok_or (three_of fields) kind.Word
@@ -22,7 +22,7 @@ release_in names fields = do
   job ← whole_in three.2
   Ok (Told (Release tick task job))
 
--- a decision
+-- the speed note of the fields after the word `speed`
 unfoldable pub speed_in : List (List ℕ) → Result Item TraceKind
 speed_in fields = do
   three ← ok_or (three_of fields) kind.Word
@@ -31,7 +31,7 @@ speed_in fields = do
   demand ← fraction_in three.2
   Ok (Told (Speed tick speed demand.0 demand.1))
 
--- a running segment
+-- the run note of the fields after the word `run`
 unfoldable pub run_in : List (List ℕ) → List (List ℕ) → Result Item TraceKind
 run_in names fields = do
   six ← ok_or (six_of fields) kind.Word
@@ -43,7 +43,7 @@ run_in names fields = do
   energy ← wide_in six.5
   Ok (Told (Run from to task job units energy))
 
--- an idle segment
+-- the idle note of the fields after the word `idle`
 unfoldable pub idle_in : List (List ℕ) → Result Item TraceKind
 idle_in fields = do
   four ← ok_or (four_of fields) kind.Word
@@ -53,7 +53,7 @@ idle_in fields = do
   energy ← wide_in four.3
   Ok (Told (Idle from to units energy))
 
--- the end of a job
+-- the completion note of the fields after the word `done`
 unfoldable pub done_in : List (List ℕ) → List (List ℕ) → Result Item TraceKind
 done_in names fields = do
   four ← ok_or (four_of fields) kind.Word
@@ -63,7 +63,7 @@ done_in names fields = do
   used ← whole_in four.3
   Ok (Told (Done at_end task job used))
 
--- the end of the run
+-- the last note, of the fields after the word `end`
 unfoldable pub end_in : List (List ℕ) → Result Item TraceKind
 end_in fields = do
   three ← ok_or (three_of fields) kind.Word
@@ -72,7 +72,7 @@ end_in fields = do
   idle ← wide_in three.2
   Ok (Told (End ticks run idle))
 
--- the energy of a task; version 1 has no such line
+-- the energy of a task, of the fields after the word `energy`, which version 1 does not have
 unfoldable pub share_in : Version → List (List ℕ) → List (List ℕ) → Result Item TraceKind
 share_in One names fields = Err kind.Word
 share_in Two names fields = do
@@ -81,7 +81,7 @@ share_in Two names fields = do
   energy ← wide_in two.1
   Ok (Share task energy)
 
--- what the fields of a line tell
+-- the item of a line's fields, by the first of them
 unfoldable pub item_of : Version → List (List ℕ) → List (List ℕ) → Result Item TraceKind
 item_of v names [] = Err kind.Word
 item_of v names (word ∷ fields) =
@@ -94,7 +94,7 @@ item_of v names (word ∷ fields) =
     else (if bytes_eq word (codes "energy") then share_in v names fields
     else Err kind.Word))))))
 
--- the task that the item names is one of so many
+-- the task of an item, where it has one, is below c
 abbrev pub HasTask : ℕ → Item → Type 0
 HasTask c (Told (Release t i k)) = i < c
 HasTask c (Told (Run from to i k units energy)) = i < c

@@ -1,17 +1,17 @@
--- The energies of the tasks, kept while they have their width.
+-- The energies of the tasks, kept while they are below 2^128.
 use Rattle.std.specs.Prelude.{◌≡◌, ℕ, ◌+◌, ◌<◌, ◌^◌, List, nat_lt, Option, Some, None, slice_index_or, if◌then◌else◌}
 use Rattle.dvs_base.specs.declared.note.Note.{Note}
 use Rattle.trace_reader.specs.TraceText.{energy_of_task}
 
--- a number that is below 2^128
+-- the number where it is below 2^128, else None
 abbrev pub narrow : ℕ → Option ℕ
 narrow n = if nat_lt n (2 ^ 128) then Some n else None
 
--- the sum with one energy more, while it is below 2^128
+-- the sum with one energy more, or None from 2^128 on
 abbrev pub with_energy : Option ℕ → ℕ → Option ℕ
 with_energy None energy = None
 with_energy (Some sum) energy = narrow (sum + energy)
 
--- the sums are those of the notes
+-- `sums` has the energies of the tasks, summed over the notes; None from 2^128 on
 abbrev pub HasSums : List Note → List (Option ℕ) → Type 0
 HasSums notes sums = (i : ℕ) → i < 64 → slice_index_or sums i None ≡ narrow (energy_of_task notes i)

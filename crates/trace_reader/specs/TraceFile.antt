@@ -1,4 +1,4 @@
--- What a text means: the trace, or the first refusal.
+-- The meaning of a text: the trace, or the first refusal.
 use Rattle.std.specs.Prelude.{ℕ, ◌+◌, ◌==◌, Bool, true, false, List, [], ◌∷◌, ◌++◌, length, nat_le, Result, Ok, Err, if◌then◌else◌}
 use Rattle.dvs_base.specs.declared.note.Note.{Note}
 use Rattle.dvs_base.specs.declared.note.Note.TheVariants.{End}
@@ -16,32 +16,32 @@ use Rattle.trace_reader.specs.Items.{item_of}
 use Rattle.trace_reader.specs.Heads.{line_at, at_line, version_of, plan_of, tasks_from, lines_of_tasks}
 use Rattle.trace_reader.specs.Traces.{TraceOf}
 
--- what was read so far: the notes, and how many energies of tasks
+-- what was read so far: the notes, and the number of tasks whose energies were read
 pub record SoFar : Type 0 where
   pub notes : List Note
   pub told : ℕ
 
--- before the first of these lines
+-- what was read before the first line of the notes
 abbrev pub nothing_yet : SoFar
 nothing_yet = record { notes = []; told = 0 }
 
--- how many energies of tasks a trace tells
+-- how many energies of tasks a trace has: one for each name in version 2, none in version 1
 abbrev pub wanted : Version → List (List ℕ) → ℕ
 wanted One names = 0
 wanted Two names = length names
 
--- whether the item may come next: the energies of the tasks, in file order, stand between the other notes and the last
+-- whether the item may come next: the energies of the tasks are in file order, between the other notes and the last
 abbrev pub is_in_order : ℕ → ℕ → Item → Bool
 is_in_order told wanted (Share i energy) = i == told
 is_in_order told wanted (Told (End t run idle)) = nat_le wanted told
 is_in_order told wanted (Told n) = told == 0
 
--- whether the energy of a task is the sum over its runs
+-- whether the energy of a task is the sum over its runs; a note passes
 abbrev pub is_right_share : List Note → Item → Bool
 is_right_share notes (Share i energy) = energy == energy_of_task notes i
 is_right_share notes (Told n) = true
 
--- the next item, after all checks
+-- the item of the next line, or the first check that it fails
 unfoldable pub next_item : Version → List (List ℕ) → SoFar → List (List ℕ) → Result Item TraceKind
 next_item v names s fields = do
   item ← item_of v names fields
@@ -49,7 +49,7 @@ next_item v names s fields = do
       then (if is_right_share s.notes item then Ok item else Err kind.Share)
       else Err kind.Order
 
--- what was read with one item more
+-- what was read, with one item more
 abbrev pub with_item : SoFar → Item → SoFar
 with_item s (Told n) = record { notes = s.notes ++ n ∷ []; told = s.told }
 with_item s (Share i energy) = record { notes = s.notes; told = s.told + 1 }
@@ -59,12 +59,12 @@ abbrev pub ends : Item → Bool
 ends (Told (End t run idle)) = true
 ends _ = false
 
--- nothing stands after the last line
+-- whether the parts are those of the empty text
 abbrev pub is_nothing : List (List ℕ) → Bool
 is_nothing ([] ∷ []) = true
 is_nothing _ = false
 
--- the notes so far, and then those of the lines from line n on
+-- the notes so far and those of the lines from line n on, or the first refusal
 unfoldable pub notes_from : Version → List (List ℕ) → ℕ → SoFar → List (List ℕ) → Result (List Note) TraceFault
 notes_from v names n s [] = Err (Refused n kind.NoEnd)
 notes_from v names n s (line ∷ rest) = do
@@ -74,7 +74,7 @@ notes_from v names n s (line ∷ rest) = do
       then (if is_nothing rest then Ok ((with_item s item).notes) else Err (Refused (n + 1) kind.AfterEnd))
       else notes_from v names (n + 1) (with_item s item) rest
 
--- the trace of a text for tasks with these names and lines, of a version up to the newest that is read
+-- the trace of a text whose version is not above `newest`, for tasks with these names and lines
 unfoldable pub trace_file : Version → List (List ℕ) → List (List ℕ) → List ℕ → Result TraceOf TraceFault
 trace_file newest names tasks bytes = do
   first ← line_at 1 (parts 10 bytes)

@@ -15,16 +15,16 @@ abbrev pub run_energy_of : ℕ → Note → ℕ
 run_energy_of i (Run from to j k units energy) = if nat_eq j i then energy else 0
 run_energy_of i _ = 0
 
--- the energy of task i: the sum over its runs
+-- the energy of task i: the sum of the energies of its runs
 abbrev pub energy_of_task : List Note → ℕ → ℕ
 energy_of_task notes i = sum_by (run_energy_of i) notes
 
--- the lines of the energies of the tasks with these names, which are numbered from i on
+-- the energy lines of the tasks with these names, which are numbered from i on
 abbrev pub shares_from : List Note → ℕ → List (List ℕ) → List (List ℕ)
 shares_from notes i [] = []
 shares_from notes i (name ∷ names) = share_text name (energy_of_task notes i) ∷ shares_from notes (i + 1) names
 
--- the text of one of a trace's notes: its line, and in version 2 before the `end` line the energy of each task
+-- the text of a note of a trace: its line, and in version 2 the energy of each task before the `end` line
 abbrev pub told_text : Version → List (List ℕ) → List Note → Note → List ℕ
 told_text One names notes n = note_text names n
 told_text Two names notes (End t run idle) = joined (shares_from notes 0 names) ++ note_text names (End t run idle)

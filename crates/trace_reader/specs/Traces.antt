@@ -30,11 +30,11 @@ task_lines (name ∷ names) (t ∷ tasks) = task_text name t.period t.offset t.w
 abbrev pub text_of : List (List ℕ) → List (List ℕ) → TraceOf → List ℕ
 text_of names tasks t = whole_text t.version t.plan.scheduler t.plan.governor t.plan.ticks names tasks t.notes
 
--- the two numbers of a position have their width
+-- both numbers of a position are below 2^64
 abbrev pub IsPlace : Pos → Type 0
 IsPlace q = (q.tick < u64_end) × (q.offset < u64_end)
 
--- the note's numbers have their widths, and its task is one of so many
+-- the note's numbers fit in their types, and its task is below c
 abbrev pub IsNoteOf : ℕ → Note → Type 0
 IsNoteOf c (Release t i k) = (t < u64_end) × (i < c) × (k < u64_end)
 IsNoteOf c (Speed t f num den) = (t < u64_end) × (f < u64_end) × (num < 2 ^ 128) × (den < 2 ^ 128)
@@ -49,23 +49,23 @@ abbrev pub is_end : Note → Bool
 is_end (End t run idle) = true
 is_end _ = false
 
--- the last note, and no other, ends the run
+-- the last note is the end of the run, and no other is
 abbrev pub IsEnded : List Note → Type 0
 IsEnded [] = ⊥
 IsEnded (n ∷ []) = is_end n ≡ true
 IsEnded (n ∷ m ∷ notes) = (is_end n ≡ false) × IsEnded (m ∷ notes)
 
--- version 2 writes the energy of each task, which has its width
+-- in version 2, the energy of each task is below 2^128
 abbrev pub HasShares : Version → ℕ → List Note → Type 0
 HasShares One c notes = Unit {0}
 HasShares Two c notes = (i : ℕ) → i < c → energy_of_task notes i < 2 ^ 128
 
--- the lines that a version has for each task
+-- how many lines a version has for the tasks: none in version 1, the task and energy lines in version 2
 abbrev pub lines_for_tasks : Version → ℕ → ℕ → ℕ
 lines_for_tasks One names tasks = 0
 lines_for_tasks Two names tasks = tasks + names
 
--- what has a text, for tasks with these names and lines
+-- a trace that has a text, for tasks with these names and lines
 pub record IsTrace (names tasks : List (List ℕ)) (t : TraceOf) : Type 0 where
   pub pair : is_pair t.plan.scheduler t.plan.governor ≡ true
   pub some_ticks : 1 ≤ t.plan.ticks
@@ -75,11 +75,11 @@ pub record IsTrace (names tasks : List (List ℕ)) (t : TraceOf) : Type 0 where
   pub shares : HasShares t.version (length names) t.notes
   pub lines : 2 + lines_for_tasks t.version (length names) (length tasks) + length t.notes ≤ MOST_LINES
 
--- the bytes are the text of the trace
+-- the trace has a text, and the bytes are it
 abbrev pub IsTextOf : List (List ℕ) → List (List ℕ) → List ℕ → TraceOf → Type 0
 IsTextOf names tasks bytes t = IsTrace names tasks t × (bytes ≡ text_of names tasks t)
 
--- each trace has one text, and no text of a trace begins that of another
+-- each trace has one text, and no text is the beginning of another trace's text
 abbrev pub HaveOneText : List (List ℕ) → List (List ℕ) → Type 0
 HaveOneText names tasks = (t u : TraceOf) (more : List ℕ) → IsTrace names tasks t → IsTrace names tasks u
     → text_of names tasks t ++ more ≡ text_of names tasks u → (t ≡ u) × (more ≡ [])

@@ -7,21 +7,21 @@ use crate::TraceKind;
 use crate::parts::two;
 use dvs_base::{Name, Pos, whole, wide};
 
-// A number below 2^64.
+// The field as a number below 2^64.
 pub(crate) fn whole_in(field: &[u8]) -> Result<u64, TraceKind>
     ensures { result ≡ whole_in field.now }
 {
     whole(field).ok_or(TraceKind::Number)
 }
 
-// A number below 2^128.
+// The field as a number below 2^128.
 pub(crate) fn wide_in(field: &[u8]) -> Result<u128, TraceKind>
     ensures { result ≡ wide_in field.now }
 {
     wide(field).ok_or(TraceKind::Number)
 }
 
-// A position, `tick:offset`.
+// The field as a position, `tick:offset`.
 #[tactic(auto, unfolding(crate::specs::Fields::position_in))]
 pub(crate) fn position_in(field: &[u8]) -> Result<Pos, TraceKind>
     ensures { result ≡ position_in field.now }
@@ -32,7 +32,7 @@ pub(crate) fn position_in(field: &[u8]) -> Result<Pos, TraceKind>
     Ok(Pos { tick, offset })
 }
 
-// A fraction, `num/den`.
+// The field as a fraction, `num/den`.
 #[tactic(auto, unfolding(crate::specs::Fields::fraction_in))]
 pub(crate) fn fraction_in(field: &[u8]) -> Result<(u128, u128), TraceKind>
     ensures { result ≡ fraction_in field.now }
@@ -43,7 +43,7 @@ pub(crate) fn fraction_in(field: &[u8]) -> Result<(u128, u128), TraceKind>
     Ok((num, den))
 }
 
-// The place of a name.
+// The place of the first name that is equal to the field.
 fn place_in(names: &[Name], field: &[u8]) -> Option<usize>
     ensures place { result ≡ position (λ name. bytes_eq name field.now) names.now }
     ensures within { IfSome result (λ i. i < length names.now) }
@@ -51,7 +51,7 @@ fn place_in(names: &[Name], field: &[u8]) -> Option<usize>
     names.iter().position(|name| name.as_bytes() == field)
 }
 
-// The number of the task with this name.
+// The number of the task whose name is the field.
 #[tactic(auto, unfolding(crate::specs::Fields::task_in))]
 pub(crate) fn task_in(names: &[Name], field: &[u8]) -> Result<u32, TraceKind>
     requires { length names.now ≤ 64 }

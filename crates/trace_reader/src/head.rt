@@ -13,7 +13,7 @@ use crate::{TaskLine, TraceFault, TraceKind, write_task};
 use dvs_base::{Line, Name, Version, governor_of, is_pair, scheduler_of, ticks_of};
 use trace_text::PlanLine;
 
-// The version that the first line names, of those up to the newest that is read.
+// The version that the first line names, if it is not above the newest that is read.
 pub(crate) fn version_of(newest: Version, line: &[u8]) -> Result<Version, TraceKind>
     ensures { result ≡ version_of newest line.now }
 {
@@ -26,7 +26,7 @@ pub(crate) fn version_of(newest: Version, line: &[u8]) -> Result<Version, TraceK
     }
 }
 
-// The plan that the second line tells.
+// The plan that the second line names.
 #[tactic(auto, unfolding(crate::specs::Heads::plan_of))]
 pub(crate) fn plan_of(line: &[u8]) -> Result<PlanLine, TraceKind>
     ensures { result ≡ plan_of (parts 32 line.now) }
@@ -46,7 +46,7 @@ pub(crate) fn plan_of(line: &[u8]) -> Result<PlanLine, TraceKind>
     }
 }
 
-// Whether the line is that of the task.
+// Whether the line, with its line feed, is the text of this task's line.
 fn is_task_line(line: &[u8], name: &Name, task: TaskLine) -> bool
     ensures { result ≡ bytes_eq (line.now ++ 10 ∷ []) (task_text name.now task.period task.offset task.worst) }
 {
@@ -56,7 +56,7 @@ fn is_task_line(line: &[u8], name: &Name, task: TaskLine) -> bool
     line == &bytes[..bytes.len() - 1]
 }
 
-// Reads the lines of the tasks, which begin at line 3. The number of the next line, and what is left.
+// Reads the lines of the tasks, which begin at line 3. It returns the number of the next line, and the bytes from it.
 #[tactic(auto, unfolding(crate::specs::Heads::tasks_from))]
 fn read_task_lines<'a>(
     names: &[Name],
@@ -84,7 +84,7 @@ fn read_task_lines<'a>(
     Ok((number, rest))
 }
 
-// Reads the lines that the version has for the tasks. The number of the next line, and what is left.
+// Reads the task lines that the version has. It returns the number of the next line, and the bytes from it.
 #[tactic(auto, unfolding(crate::specs::Heads::tasks_from))]
 pub(crate) fn read_tasks<'a>(
     version: Version,

@@ -1,6 +1,6 @@
-//! The text of a trace of either version, read again.
+//! Reading the text of a trace of either version.
 //!
-//! The reader takes exactly the texts of a trace, and says of every other text what is wrong first. The lines that
+//! The reader takes exactly the texts of a trace, and for any other text it returns the first error. The lines that
 //! version 2 adds are written here too, each with its line feed and without memory.
 #![tactic(auto)]
 

@@ -1,4 +1,4 @@
-// What a line after the head of a trace tells.
+// The lines after the head of a trace: notes, and in version 2 energies of tasks.
 ghost use Rattle.std.specs.Prelude.{◌≡◌, ◌≤◌, ℕ, length, IfOk};
 ghost use Rattle.trace_reader.specs.Fields.{parts};
 ghost use Rattle.trace_reader.specs.Items.{release_in, speed_in, run_in, idle_in, done_in, end_in, share_in, item_of, HasTask};
@@ -132,7 +132,7 @@ fn share_in(version: Version, names: &[Name], fields: &[u8]) -> Result<Item, Tra
     Ok(Item::Share { task, energy })
 }
 
-// What the line tells, or what it has wrong when it is read alone.
+// The item of the line, or the error in it when it is read alone.
 #[tactic(auto, unfolding(crate::specs::Items::item_of))]
 pub(crate) fn item_of(version: Version, names: &[Name], line: &[u8]) -> Result<Item, TraceKind>
     requires { length names.now ≤ 64 }

@@ -2,14 +2,14 @@
 ghost use Rattle.std.specs.Prelude.{◌≡◌, ◌<◌, ◌∷◌, [], length, option_map, position, ◌==◌, IfSome, IfNone};
 ghost use Rattle.trace_reader.specs.Fields.{parts, one_of, two_of, three_of, four_of, six_of};
 
-// The place of the first such byte.
+// The place of the first byte that is `at`.
 fn place_of(bytes: &[u8], at: u8) -> Option<usize>
     ensures { result ≡ position (λ b. b == at) bytes.now }
 {
     bytes.iter().position(|b| *b == at)
 }
 
-// What stands before the first such byte, and what stands after it.
+// The bytes before the first byte that is `at`, and the bytes after it.
 pub(crate) fn cut(bytes: &[u8], at: u8) -> Option<(&[u8], &[u8])>
     ensures found { IfSome result (λ p. parts at bytes.now ≡ p.0.now ∷ parts at p.1.now) }
     ensures none { IfNone result (parts at bytes.now ≡ bytes.now ∷ []) }
@@ -21,7 +21,7 @@ pub(crate) fn cut(bytes: &[u8], at: u8) -> Option<(&[u8], &[u8])>
     }
 }
 
-// The text, if it is one part.
+// The text, if it has one part.
 fn one(bytes: &[u8], at: u8) -> Option<&[u8]>
     ensures { option_map (λ a. a.now) result ≡ one_of (parts at bytes.now) }
 {
@@ -31,7 +31,7 @@ fn one(bytes: &[u8], at: u8) -> Option<&[u8]>
     }
 }
 
-// The parts, if they are two.
+// The parts, if there are two.
 pub(crate) fn two(bytes: &[u8], at: u8) -> Option<(&[u8], &[u8])>
     ensures { option_map (λ p. (p.0.now, p.1.now)) result ≡ two_of (parts at bytes.now) }
 {
@@ -39,7 +39,7 @@ pub(crate) fn two(bytes: &[u8], at: u8) -> Option<(&[u8], &[u8])>
     Some((a, one(rest, at)?))
 }
 
-// The parts, if they are three.
+// The parts, if there are three.
 pub(crate) fn three(bytes: &[u8], at: u8) -> Option<(&[u8], &[u8], &[u8])>
     ensures { option_map (λ p. (p.0.now, p.1.now, p.2.now)) result ≡ three_of (parts at bytes.now) }
 {
@@ -48,7 +48,7 @@ pub(crate) fn three(bytes: &[u8], at: u8) -> Option<(&[u8], &[u8], &[u8])>
     Some((a, b, c))
 }
 
-// The parts, if they are four.
+// The parts, if there are four.
 pub(crate) fn four(bytes: &[u8], at: u8) -> Option<(&[u8], &[u8], &[u8], &[u8])>
     ensures { option_map (λ p. (p.0.now, p.1.now, p.2.now, p.3.now)) result ≡ four_of (parts at bytes.now) }
 {
@@ -57,7 +57,7 @@ pub(crate) fn four(bytes: &[u8], at: u8) -> Option<(&[u8], &[u8], &[u8], &[u8])>
     Some((a, b, c, d))
 }
 
-// The parts, if they are six.
+// The parts, if there are six.
 pub(crate) fn six(bytes: &[u8], at: u8) -> Option<(&[u8], &[u8], &[u8], &[u8], &[u8], &[u8])>
     ensures { option_map (λ p. (p.0.now, p.1.now, p.2.now, p.3.now, p.4.now, p.5.now)) result
         ≡ six_of (parts at bytes.now) }

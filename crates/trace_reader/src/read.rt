@@ -30,7 +30,7 @@ fn refused(line: u64, kind: TraceKind) -> TraceFault
     TraceFault::Refused { line, kind }
 }
 
-// The line of this number without its line feed, and what follows it.
+// The line of this number without its line feed, and the bytes after it.
 pub(crate) fn line_at(number: u64, bytes: &[u8]) -> Result<(&[u8], &[u8]), TraceFault>
     ensures line { IsUnlessMemory TraceFault.NoMemory (λ p. (p.0.now, parts 10 p.1.now)) result
         (line_at number (parts 10 bytes.now)) }
@@ -52,7 +52,7 @@ pub(crate) fn line_at(number: u64, bytes: &[u8]) -> Result<(&[u8], &[u8]), Trace
     }
 }
 
-// What is refused of a line.
+// The value that was read, or the refusal of this line.
 fn at_line<T>(line: u64, read: Result<T, TraceKind>) -> Result<T, TraceFault>
     ensures { result ≡ at_line line read }
 {
@@ -62,7 +62,7 @@ fn at_line<T>(line: u64, read: Result<T, TraceKind>) -> Result<T, TraceFault>
     }
 }
 
-// How many energies of tasks a trace tells.
+// How many energies of tasks a trace has: one for each name in version 2, none in version 1.
 fn wanted_of(version: Version, names: &[Name]) -> u32
     requires { length names.now ≤ 64 }
     ensures { result ≡ wanted version names.now }
@@ -73,7 +73,7 @@ fn wanted_of(version: Version, names: &[Name]) -> u32
     }
 }
 
-// Whether the item may come next: the energies of the tasks, in file order, stand between the other notes and the last.
+// Whether the item may come next: the energies of the tasks are in file order, between the other notes and the last.
 fn is_in_order(told: u32, wanted: u32, item: &Item) -> bool
     ensures { result ≡ is_in_order told wanted item.now }
 {
@@ -84,7 +84,7 @@ fn is_in_order(told: u32, wanted: u32, item: &Item) -> bool
     }
 }
 
-// Whether the energy of a task is the sum over its runs.
+// Whether the energy of a task is the sum over its runs; a note passes.
 fn is_right_share(shares: &Shares, item: &Item) -> bool
     requires { HasTask 64 item.now }
     ensures { (notes : List Note) → HasSums notes shares.now.sums → result ≡ is_right_share notes item.now }
@@ -95,7 +95,7 @@ fn is_right_share(shares: &Shares, item: &Item) -> bool
     }
 }
 
-// The next item, after all checks.
+// The item of the next line, or the first check that it fails.
 #[tactic(auto, unfolding(crate::specs::TraceFile::next_item))]
 fn next_item(
     version: Version,
@@ -119,7 +119,7 @@ fn next_item(
     Ok(item)
 }
 
-// The notes, if nothing stands after the last line. The number is the next line's.
+// The notes, if no byte follows the last line. `number` is that of the next line.
 fn ended(notes: Vec<Note>, number: u64, rest: &[u8]) -> Result<Vec<Note>, TraceFault>
     ensures { IsUnlessMemory TraceFault.NoMemory (λ v. v.items) result
         (if is_nothing (parts 10 rest.now) then Ok notes.items else Err (fault.Refused number kind.AfterEnd)) }
@@ -131,7 +131,7 @@ fn ended(notes: Vec<Note>, number: u64, rest: &[u8]) -> Result<Vec<Note>, TraceF
     }
 }
 
-// The notes, from the line of this number on.
+// The notes of the lines from line `first` on.
 #[tactic(auto, unfolding(crate::specs::TraceFile::notes_from))]
 fn read_notes(
     alloc: Global,
@@ -171,7 +171,7 @@ fn read_notes(
     ended(notes, number, rest)
 }
 
-// The trace of a text, of a version up to the newest that is read.
+// The trace of a text whose version is not above `newest`.
 #[tactic(auto, unfolding(crate::specs::TraceFile::trace_file))]
 fn read(
     alloc: Global,
@@ -198,7 +198,7 @@ fn read(
     })
 }
 
-// Each name is one.
+// Each of `names` has the form of a name.
 fn known_names(names: &[Name])
     ensures { (i : ℕ) → i < length names.now → is_name (name_of names.now i) ≡ true }
 {
@@ -207,16 +207,16 @@ fn known_names(names: &[Name])
     }
 }
 
-/// The trace of a text of version 1, for tasks with these names, which are distinct and at most 64. `Refused` names the
-/// first line that is wrong, and what is wrong first in it. Memory is taken for the notes alone.
+/// The trace of a text of version 1, for tasks with these names, which are distinct and at most 64. `Refused` has the
+/// first line with an error, and the first error in it. Memory is taken for the notes alone.
 pub fn read_trace(alloc: Global, bytes: &[u8], names: &[Name]) -> Result<Trace, TraceFault>
     requires few { length names.now ≤ 64 }
     requires distinct { AllPairs (λ a b. a ≢ b) names.now }
 
-    // The answer is what the text means, refusals too, unless memory ran out.
+    // The answer is the meaning of the text, refusals too, unless memory ran out.
     ensures file { IsUnlessMemory TraceFault.NoMemory (λ t. t) result (trace_file Version.One names.now [] bytes.now) }
 
-    // What is read is a trace, and the bytes are its text; what is the text of a trace is read.
+    // A text that is read is that of the trace returned; the text of any trace is read.
     ensures found { IfOk result (λ t. IsTextOf names.now [] bytes.now t × (t.version ≡ Version.One)) }
     ensures only { (t : TraceOf) → IsTextOf names.now [] bytes.now t → t.version ≡ Version.One
         → IsUnlessMemory TraceFault.NoMemory (λ t. t) result (Ok t) }
@@ -226,8 +226,7 @@ pub fn read_trace(alloc: Global, bytes: &[u8], names: &[Name]) -> Result<Trace, 
 }
 
 /// The trace of a text of either version, for tasks with these names, which are distinct and at most 64, and these
-/// lines. `Refused` names the first line that is wrong, and what is wrong first in it. Memory is taken for the notes
-/// alone.
+/// lines. `Refused` has the first line with an error, and the first error in it. Memory is taken for the notes alone.
 pub fn read_any(
     alloc: Global,
     bytes: &[u8],
@@ -238,16 +237,16 @@ pub fn read_any(
     requires distinct { AllPairs (λ a b. a ≢ b) names.now }
     requires lists { length tasks.now ≡ length names.now }
 
-    // The answer is what the text means, refusals too, unless memory ran out.
+    // The answer is the meaning of the text, refusals too, unless memory ran out.
     ensures file { IsUnlessMemory TraceFault.NoMemory (λ t. t) result
         (trace_file Version.Two names.now (task_lines names.now tasks.now) bytes.now) }
 
-    // What is read is a trace, and the bytes are its text; what is the text of a trace is read.
+    // A text that is read is that of the trace returned; the text of any trace is read.
     ensures found { IfOk result (IsTextOf names.now (task_lines names.now tasks.now) bytes.now) }
     ensures only { (t : TraceOf) → IsTextOf names.now (task_lines names.now tasks.now) bytes.now t
         → IsUnlessMemory TraceFault.NoMemory (λ t. t) result (Ok t) }
 
-    // Each trace has one text, and no text begins that of another trace.
+    // Each trace has one text, and no text is the beginning of another trace's text.
     ensures one_text { HaveOneText names.now (task_lines names.now tasks.now) }
 {
     known_names(names);

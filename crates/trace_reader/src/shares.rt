@@ -1,4 +1,4 @@
-// The energies of the tasks, as the notes of a trace have them.
+// The energies of the tasks, summed over the notes of a trace.
 ghost use Rattle.std.specs.Prelude.{◌≡◌, ◌<◌, ◌==◌, ◌++◌, ◌∷◌, [], List};
 ghost use Rattle.dvs_base.specs.declared.note.Note.{Note};
 ghost use Rattle.trace_reader.specs.TraceText.{energy_of_task};
@@ -8,13 +8,13 @@ ghost use Rattle.trace_reader.specs.Sums.{with_energy, HasSums};
 use crate::line::Item;
 use dvs_base::Note;
 
-/// The sum of the energies of each task's runs, while it is below 2^128.
+/// The sum of the energies of each task's runs, or None from 2^128 on.
 #[derive(Drop)]
 pub(crate) struct Shares {
     sums: [Option<u128>; 64],
 }
 
-// The sum with one energy more, while it is below 2^128.
+// The sum with one energy more, or None from 2^128 on.
 fn with_energy(sum: Option<u128>, energy: u128) -> Option<u128>
     ensures { result ≡ with_energy sum energy }
 {
@@ -33,7 +33,7 @@ impl Shares {
         }
     }
 
-    // Adds what the note has, where it is a run.
+    // Adds the energy of the note where it is a run.
     pub(crate) fn add(&mut self, note: &Note)
         requires { HasTask 64 (Item.Told note.now) }
         ensures { (notes : List Note) → HasSums notes self.old.sums → HasSums (notes ++ note.now ∷ []) self.new.sums }
@@ -44,7 +44,7 @@ impl Shares {
         }
     }
 
-    // Whether this is the sum of the task.
+    // Whether the energy is the sum of the task.
     pub(crate) fn is_sum(&self, task: u32, energy: u128) -> bool
         requires { task < 64 }
         ensures { (notes : List Note) → HasSums notes self.now.sums → result ≡ (energy == energy_of_task notes task) }

@@ -1,4 +1,4 @@
-// Whole traces, broken ones, and single lines.
+// Whole traces, texts with errors, and single lines.
 ghost use Rattle.std.specs.Prelude.{◌≡◌, [], ◌∷◌, codes, IfOk};
 
 use super::*;
@@ -18,11 +18,11 @@ const THIRD: &[u8] = b"release 0 t1 1\n";
 const OTHERS: &[u8] =
     b"release 0 t2 1\nrelease 0 t3 1\nspeed 0 3 836/280\nrun 0:0 2:2 t1 1 8 128000000000\ndone 2:2 t1 1 8\nrun 2:2 3:0 t2 1 1 16000000000\nspeed 3 3 696/280\nrun 3:0 4:0 t2 1 3 48000000000\ndone 4:0 t2 1 4\nspeed 4 2 472/280\nrun 4:0 6:0 t3 1 4 36000000000\ndone 6:0 t3 1 4\nspeed 6 2 472/280\nidle 6:0 8:0 4 0\nrelease 8 t1 2\nspeed 8 3 612/280\nrun 8:0 9:1 t1 2 4 64000000000\ndone 9:1 t1 2 4\nidle 9:1 10:0 2 0\nrelease 10 t2 2\nspeed 10 2 556/280\nrun 10:0 12:0 t2 2 4 36000000000\ndone 12:0 t2 2 4\nspeed 12 2 332/280\nidle 12:0 14:0 4 0\nrelease 14 t3 2\nspeed 14 2 332/280\nrun 14:0 16:0 t3 2 4 36000000000\ndone 16:0 t3 2 4\nend 16 364000000000 0\n";
 
-// Two tasks, the second of which begins later: the lines before the energies.
+// A trace of two tasks, the second of which begins later: the lines before its energies.
 const NOTES: &[u8] =
     b"trace 2\nplan edf cc 8\ntask x 4 0 4\ntask y 6 2 6\nrelease 0 x 1\nspeed 0 2 12/12\nrun 0:0 2:0 x 1 4 36000000000\ndone 2:0 x 1 4\nrelease 2 y 1\nspeed 2 2 24/12\nrun 2:0 4:0 y 1 4 36000000000\nrelease 4 x 2\nspeed 4 2 24/12\nrun 4:0 6:0 x 2 4 36000000000\ndone 6:0 x 2 4\nspeed 6 2 24/12\nrun 6:0 7:0 y 1 2 18000000000\ndone 7:0 y 1 6\nspeed 7 2 24/12\nidle 7:0 8:0 2 0\n";
 
-// The pieces, one after another.
+// The pieces, joined one after another.
 fn joined(alloc: Global, pieces: &[&[u8]]) -> Result<Vec<u8>, Fail> {
     let mut text = Vec::new(alloc);
     for piece in pieces {
@@ -31,7 +31,7 @@ fn joined(alloc: Global, pieces: &[&[u8]]) -> Result<Vec<u8>, Fail> {
     Ok(text)
 }
 
-// The tasks of the paper's example.
+// The names of the paper's example's tasks.
 fn three_names() -> Result<[Name; 3], Fail>
     ensures { IfOk result (λ names. names ≡ codes "t1" ∷ codes "t2" ∷ codes "t3" ∷ []) }
 {
@@ -41,7 +41,7 @@ fn three_names() -> Result<[Name; 3], Fail>
     }
 }
 
-// The two tasks, the second of which begins later.
+// The names of two tasks, the second of which begins later.
 fn two_names() -> Result<[Name; 2], Fail>
     ensures { IfOk result (λ names. names ≡ codes "x" ∷ codes "y" ∷ []) }
 {
@@ -116,7 +116,7 @@ fn each_proper_prefix_has_no_end(rt: HostRuntime) -> Result<(), Fail> {
     Ok(())
 }
 
-// The paper's example with these first two lines, third line and lines after the last.
+// The refusal of the paper's example with these first two lines, third line and lines after the last.
 fn paper_refused(
     alloc: Global,
     head: &[u8],
@@ -257,7 +257,7 @@ fn a_line_has_at_most_255_bytes(rt: HostRuntime) -> Result<(), Fail> {
     Ok(())
 }
 
-// A trace of so many lines.
+// A trace of `lines` lines.
 fn long_trace(alloc: Global, lines: u64) -> Result<Vec<u8>, Fail> {
     let mut text = joined(alloc, &[HEAD])?;
     for _ in 3..lines {
@@ -361,7 +361,7 @@ fn both_versions_are_read(rt: HostRuntime) -> Result<(), Fail> {
     Ok(())
 }
 
-// The trace of two tasks with these lines after its notes.
+// The refusal of the trace of two tasks with these lines after its notes.
 fn last_refused(alloc: Global, last: &[u8]) -> Result<Option<TraceFault>, Fail> {
     let text = joined(alloc, &[NOTES, last])?;
     Ok(read_pair(alloc, &text)?.err())
@@ -436,7 +436,7 @@ fn energies_stand_in_file_order_before_the_end(rt: HostRuntime) -> Result<(), Fa
     Ok(())
 }
 
-// The start of a trace of version 2 with these lines after its plan.
+// The refusal of a trace of version 2 with these lines after its plan.
 fn head_refused(alloc: Global, lines: &[u8]) -> Result<Option<TraceFault>, Fail> {
     let text = joined(alloc, &[b"trace 2\nplan edf cc 8\n".as_slice(), lines])?;
     Ok(read_pair(alloc, &text)?.err())

@@ -1,4 +1,4 @@
-// What a trace holds, and why a text is none.
+// Traces, and why a text is not one.
 
 use dvs_base::{Note, Version};
 use std::marker::Model;
@@ -29,36 +29,36 @@ impl Model for Trace {
     ghost view = { λ t. record { version = t.version; plan = t.plan; notes = t.notes.items } };
 }
 
-/// What a line of a text has wrong.
+/// The error in a line of a text.
 #[derive(Clone, Copy, Debug, PartialEq, Eq)]
 pub enum TraceKind {
-    /// The first line names no version that is read.
+    /// The first line names none of the versions that are read.
     Version,
-    /// The second line is no plan line.
+    /// The second line is not a plan line.
     Plan,
-    /// The line begins with none of the words, or has another number of fields than its word's.
+    /// The line begins with none of the words, or has another number of fields than its word.
     Word,
     /// A number, a position or a fraction isn't spelled as one.
     Number,
-    /// A name is no task's.
+    /// A name is not that of a task.
     Task,
-    /// There is no line: no line feed is left, and no `end` line came.
+    /// The line is missing: no line feed is left, and no `end` line came.
     NoEnd,
-    /// Something stands after the `end` line.
+    /// There are bytes after the `end` line.
     AfterEnd,
     /// The line has more than `LONGEST_LINE` bytes before its line feed.
     TooLong,
     /// The line is the 800001st.
     TooMany,
-    /// The line isn't that of the task whose place it is.
+    /// The line isn't that of the task in its place.
     TaskLine,
-    /// The energies of the tasks don't stand in file order between the notes and the `end` line.
+    /// The energies of the tasks aren't in file order between the notes and the `end` line.
     Order,
     /// The energy of a task isn't the sum over its runs.
     Share,
 }
 
-/// Why a text isn't read: the first line that is refused, counted from 1, or want of memory.
+/// Why a text isn't read: the first line that is refused, counted from 1, or memory that ran out.
 #[derive(Clone, Copy, Debug, PartialEq, Eq)]
 pub enum TraceFault {
     Refused { line: u64, kind: TraceKind },

@@ -1,4 +1,4 @@
-// The lines that tell a version, and those that version 2 alone has.
+// The version line, and the lines that only version 2 has.
 ghost use Rattle.std.specs.Prelude.{◌≡◌, []};
 ghost use Rattle.trace_reader.specs.VersionLines.{version_line, task_text, share_text};
 
@@ -16,7 +16,7 @@ pub fn write_version(line: &mut Line, version: Version)
     }
 }
 
-/// Writes the line of a task, which version 2 has, with its line feed.
+/// Writes the line of a task, which only version 2 has, with its line feed.
 pub fn write_task(line: &mut Line, name: &Name, task: TaskLine)
     requires { line.old ≡ [] }
     ensures { line.new ≡ task_text name.now task.period task.offset task.worst }
@@ -34,7 +34,7 @@ pub fn write_task(line: &mut Line, name: &Name, task: TaskLine)
     ]);
 }
 
-/// Writes the line of a task's energy, which version 2 has, with its line feed.
+/// Writes the line of a task's energy, which only version 2 has, with its line feed.
 pub fn write_share(line: &mut Line, name: &Name, energy: u128)
     requires { line.old ≡ [] }
     ensures { line.new ≡ share_text name.now energy }

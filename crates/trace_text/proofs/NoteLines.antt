@@ -15,7 +15,7 @@ use Rattle.trace_text.specs.Words.{scheduler_word, governor_word}
 use Rattle.trace_text.specs.TraceLines.{line, name_of, done_fields, fields_of, note_text}
 use Rattle.trace_text.proofs.PlainLines.{IsPlain, ArePlain, each-append, plain-decimal, field-same}
 
--- a word is plain if each of its bytes is
+-- a byte that is neither a space nor a line feed
 abbrev plain_byte : ℕ → Bool
 plain_byte b = not (nat_eq b 32) && not (nat_eq b 10)
 
@@ -63,7 +63,7 @@ plain-fields ns named (Idle from to units energy) =
 plain-fields ns named (Done q i k used) = (plain-word (codes "done") refl, (plain-position q, (named i, (plain-decimal k, (plain-decimal used, tt)))))
 plain-fields ns named (End t run idle) = (plain-word (codes "end") refl, (plain-decimal t, (plain-decimal run, (plain-decimal idle, tt))))
 
--- a line of a job's end says which job it is
+-- the line of a completion says which job it is
 pub done-same : (ns : List (List ℕ)) → ((i : ℕ) → ArePlain (name_of ns i)) → (name : List ℕ) → ArePlain name
     → (k : ℕ) (at_end : Pos) (used : ℕ) (q : Pos) (j l u : ℕ)
     → line (fields_of ns (Done q j l u)) ≡ line (done_fields at_end name k used)

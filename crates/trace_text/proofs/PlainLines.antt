@@ -54,14 +54,14 @@ plain-name_bytes (b ∷ bytes) e =
     let each = and_parts (is_name_byte b) _ e in
     (plain-name_byte b each.0, plain-name_bytes bytes each.1)
 
--- a name is plain, and has a byte
+-- a name is plain
 pub plain-name : (name : List ℕ) → is_name name ≡ true → ArePlain name
 plain-name name e = plain-name_bytes name (and_parts (nat_le 1 (length name) && nat_le (length name) 32) (list_all is_name_byte name) e).1
 
 pub some-name : (name : List ℕ) → is_name name ≡ true → name ≢ []
 some-name name e q = true≢false (sym e ∙ ap is_name q)
 
--- a line's fields before its line feed
+-- a line without its line feed: the fields with a space between each two
 abbrev pub body : List (List ℕ) → List ℕ
 body [] = []
 body (field ∷ []) = field
@@ -73,7 +73,7 @@ line-body (field ∷ []) = refl
 line-body (field ∷ other ∷ fields) =
     ap (λ l. field ++ (32 ∷ l)) (line-body (other ∷ fields)) ∙ sym (append_assoc field (32 ∷ body (other ∷ fields)) (10 ∷ []))
 
--- no byte is a line feed
+-- none of the bytes is a line feed
 abbrev pub NoFeed : List ℕ → Type 0
 NoFeed = AllByRecursion (λ b. b ≢ 10)
 
@@ -93,7 +93,7 @@ first-line (b ∷ bytes) rest none =
     let other : (b == 10) ≡ false = (let ne : b ≢ 10 = none.0 in grind (arith, nat_tests)) in
     rw other (ap (with_byte b) (first-line bytes rest none.1))
 
--- a line of plain fields is the first of a text that begins with it
+-- the first line of a text that begins with a line of plain fields is that line
 pub lines-line : (fields : List (List ℕ)) (rest : List ℕ) → AllByRecursion ArePlain fields → lines_of (line fields ++ rest) ≡ line fields ∷ lines_of rest
 lines-line fields rest p =
     ap (λ l. lines_of (l ++ rest)) (line-body fields)
@@ -101,7 +101,7 @@ lines-line fields rest p =
     ∙ (first-line (body fields) rest (body-feed fields p)
     ∙ ap (λ l. l ∷ lines_of rest) (sym (line-body fields))))
 
--- plain fields before a space are known by what stands there
+-- two texts that are equal, each a plain field before a space, have equal fields and rests
 pub field-same : (a b r s : List ℕ) → ArePlain a → ArePlain b → a ++ (32 ∷ r) ≡ b ++ (32 ∷ s) → (a ≡ b) × (r ≡ s)
 field-same [] [] r s p q e = (refl, ap (drop 1) e)
 field-same [] (b ∷ bs) r s p q e = absurd (q.0.0 (sym (ap (λ l. get_or l 0 0) e)))

@@ -18,14 +18,14 @@ pub struct PlanLine {
     pub ticks: u64,
 }
 
-// Where a segment begins and where it ends.
+// The ends of a segment: where it begins and where it ends.
 #[derive(Clone, Copy)]
 struct Span {
     from: Pos,
     to: Pos,
 }
 
-// A job at its end, and the units that it used.
+// A job that completes: its task, its number, and the units that it used.
 #[derive(Clone, Copy)]
 struct Ended {
     task: u32,
@@ -33,7 +33,7 @@ struct Ended {
     used: u64,
 }
 
-// What a job does in a segment: its units and their energy.
+// A job's work in a segment: its task, its number, and its units with their energy.
 #[derive(Clone, Copy)]
 struct Work {
     task: u32,
@@ -78,7 +78,7 @@ pub fn write_head(line: &mut Line, plan: PlanLine)
     ]);
 }
 
-// The name of a task, and nothing where it has none.
+// Appends the name of a task, or nothing where the task has none.
 #[inline]
 fn push_task(to: &mut Line, names: &[Name], task: u32)
     requires { length to.old + 32 ≤ 256 }
@@ -91,7 +91,7 @@ fn push_task(to: &mut Line, names: &[Name], task: u32)
     }
 }
 
-// The name of a task, a blank, and the number of its job.
+// Appends the name of a task, a space, and the number of the job.
 #[inline]
 fn push_job(to: &mut Line, names: &[Name], task: u32, job: u64)
     requires { length to.old + 53 ≤ 256 }
@@ -186,7 +186,7 @@ fn push_end(to: &mut Line, ticks: u64, run: u128, idle: u128)
     push_word(to, b"\n");
 }
 
-/// Writes the line of a note, with its line feed; a task without a name has an empty one. Each line has at most 203 bytes.
+/// Writes the line of a note, with its line feed, at most 203 bytes. The name of a task without one is empty.
 #[tactic(auto, unfolding(crate::specs::TraceLines::note_text))]
 pub fn write_note(line: &mut Line, note: &Note, names: &[Name])
     requires { line.old ≡ [] }

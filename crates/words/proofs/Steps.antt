@@ -9,11 +9,11 @@ use Rattle.words.specs.Commands.{CommandOf}
 use Rattle.words.specs.Reading.{ReadingOf, word_at, words_after}
 use Rattle.words.specs.Shown.{shown_reading, reading_answer}
 
--- what the words after this place give, by what the word at it gave
+-- what the words after this place give, from what the word at this place gave
 abbrev then-words : Verb → ℕ → List (List ℕ) → Result ReadingOf WordFault → Result CommandOf WordFault
 then-words v place words read = and_then read (λ r. words_after v r place words)
 
--- the words from one on are that word and those after it
+-- the words from place i on are the word at i and those after it
 next : {X : Type 0} (xs : List X) (i : ℕ) (x : X) → i < length xs → x ≡ get_or xs i x
     → drop i xs ≡ x ∷ drop (i + 1) xs
 next {X} xs i x within is =
@@ -22,7 +22,7 @@ next {X} xs i x within is =
     ∙ (ap (λ (y : X). y ∷ drop (suc i) xs) (sym is) ∙ ap (λ (j : ℕ). x ∷ drop j xs) one)
 
 module _ {X : Type 0} (f : X → List ℕ) (v : Verb) (r : ReadingOf) (place : ℕ) (xs : List X) (i : ℕ) (x : X) where
-  -- what the words from one on give, by what that word gives
+  -- what the words from place i on give, from what the word at i gives
   first-word : (word : List ℕ) (read : Result ReadingOf WordFault) → i < length xs → x ≡ get_or xs i x → word ≡ f x
       → read ≡ word_at v r r.waits (place + 1) word
       → words_after v r place (map f (drop i xs)) ≡ then-words v (place + 1) (map f (drop (i + 1) xs)) read
@@ -32,7 +32,7 @@ module _ {X : Type 0} (f : X → List ℕ) (v : Verb) (r : ReadingOf) (place : �
       ∙ (ap (λ (w : List ℕ). then-words v (place + 1) rest (word_at v r r.waits (place + 1) w)) (sym text)
       ∙ ap (then-words v (place + 1) rest) (sym given))
 
-  -- a word that is refused ends it
+  -- a word that is refused ends the reading
   pub stops : (word : List ℕ) (read : Result Reading WordFault) (e : WordFault)
       → i < length xs → x ≡ get_or xs i x → word ≡ f x
       → reading_answer read ≡ word_at v r r.waits (place + 1) word → read ≡ Err e
@@ -42,7 +42,7 @@ module _ {X : Type 0} (f : X → List ℕ) (v : Verb) (r : ReadingOf) (place : �
       first-word word (reading_answer read) within is text given
       ∙ ap (λ (q : Result Reading WordFault). then-words v (place + 1) rest (reading_answer q)) refused
 
-  -- else the words after it are read
+  -- after a word that is not refused, the words after it are read
   pub goes-on : (word : List ℕ) (read : Result Reading WordFault) (s : Reading)
       → i < length xs → x ≡ get_or xs i x → word ≡ f x
       → reading_answer read ≡ word_at v r r.waits (place + 1) word → read ≡ Ok s

@@ -1,4 +1,4 @@
--- Commands, and the row of each: its required options in order, and what stands for an optional one that was not given.
+-- The row of each command: its required options in order, and the value of an optional one that was not given.
 use Rattle.std.specs.Prelude.{ℕ, ◌≤◌, Bool, List, Option, is_some, unwrap_or, Result, Ok, Err, ⊤, if◌then◌else◌}
 use Rattle.std.specs.Option.{ok_or}
 use Rattle.dvs_base.specs.Checks.{and_then}
@@ -18,8 +18,8 @@ use Rattle.words.specs.declared.given.TraceUse.{TraceUse}
 use Rattle.words.specs.declared.given.TraceUse.TheVariants.{Replay, Migrate}
 use Rattle.words.specs.Values.{GivenOf}
 
--- what the words of a run name: files by their names, the scheduler, the governor, the number of ticks, whether the
--- probes are told, and the version of the trace
+-- what the words of `run` name: files by their names, the scheduler, the governor, the number of ticks, whether the
+-- probes are printed, and the version of the trace
 pub record RunOf : Type 0 where
   pub tasks : List ℕ
   pub machine : List ℕ
@@ -30,31 +30,31 @@ pub record RunOf : Type 0 where
   pub probes : Bool
   pub version : Version
 
--- what the words of an admission name
+-- what the words of `admit` name
 pub record AdmitOf : Type 0 where
   pub tasks : List ℕ
   pub machine : List ℕ
   pub scheduler : Scheduler
 
--- what the words of a replay or of a migration name, and which of the two they ask for
+-- what the words of `replay` or `migrate` name, and which of the two they ask for
 pub record TracedOf : Type 0 where
   pub asked : TraceUse
   pub tasks : List ℕ
   pub machine : List ℕ
   pub trace : List ℕ
 
--- what the words of a test by response times name
+-- what the words of `response` name
 pub record ResponseOf : Type 0 where
   pub tasks : List ℕ
   pub machine : List ℕ
 
--- what the words of a test of deadlines below the periods name
+-- what the words of `constrain` name
 pub record ConstrainOf : Type 0 where
   pub tasks : List ℕ
   pub machine : List ℕ
   pub deadlines : List ℕ
 
--- what the words of a polling name: files by their names, the task that serves, and the run as for a run
+-- what the words of `poll` name: files by their names, the task that serves, and the pair and the ticks of the run
 pub record PollOf : Type 0 where
   pub tasks : List ℕ
   pub machine : List ℕ
@@ -64,13 +64,13 @@ pub record PollOf : Type 0 where
   pub governor : GovernorKind
   pub ticks : ℕ
 
--- what the words of a least energy name: the machine's file, the work units, and the number of ticks
+-- what the words of `least` name: the machine's file, the work units, and the number of ticks
 pub record LeastOf : Type 0 where
   pub machine : List ℕ
   pub units : ℕ
   pub ticks : ℕ
 
--- a command: what is done with a trace, be it a replay or a migration, is one; that of a workload names its seed
+-- a command with what its words name: `traced` is a replay or a migration, and `workload` has its seed
 pub data CommandOf : Type 0 where
   run : RunOf → CommandOf
   admit : AdmitOf → CommandOf
@@ -91,34 +91,34 @@ pub record IsReadyFor (scheduler : Scheduler) (governor : GovernorKind) (ticks :
 abbrev pub IsReady : RunOf → Type 0
 IsReady r = IsReadyFor r.scheduler r.governor r.ticks
 
--- the number of ticks of a least energy is within the limits of a run
+-- the number of ticks of `least` is within the limits of a run
 pub record HasReadyTicks (l : LeastOf) : Type 0 where
   pub some_ticks : 1 ≤ l.ticks
   pub few_ticks : l.ticks ≤ MOST_TICKS
 
--- a command is ready where its numbers are within the limits, and its scheduler and governor, if it has both, a pair
+-- a command is ready: its numbers are within the limits, and its scheduler and governor, if it has both, are a pair
 abbrev pub IsReadyCommand : CommandOf → Type 0
 IsReadyCommand (run r) = IsReady r
 IsReadyCommand (poll q) = IsReadyFor q.scheduler q.governor q.ticks
 IsReadyCommand (least l) = HasReadyTicks l
 IsReadyCommand c = ⊤
 
--- the next step, where this one gives a value
+-- the next step with this one's value; a refusal ends it
 infixl 10 ◌>>=◌
 abbrev pub ◌>>=◌ : {A B : Type 0} → Result A WordFault → (A → Result B WordFault) → Result B WordFault
 r >>= next = and_then r next
 
--- the value of a required option
+-- the value of a required option; `Missing` where none was given
 abbrev pub need : {A : Type 0} → Opt → Option A → Result A WordFault
 need option value = ok_or value (fault.Missing option)
 
--- the pair of a run and its number of ticks
+-- the scheduler, the governor and the number of ticks of a run
 pub record TimedOf : Type 0 where
   pub scheduler : Scheduler
   pub governor : GovernorKind
   pub ticks : ℕ
 
--- these by the values that were given: the first that was not is missing, and last comes the pair
+-- the pair and the ticks of a run, from the given values: the first one not given is missing, and last comes the pair
 abbrev pub timed_of : GivenOf → Result TimedOf WordFault
 timed_of g = do
   scheduler ← need opt.Scheduler g.scheduler
@@ -128,7 +128,7 @@ timed_of g = do
       then Ok (record { scheduler = scheduler; governor = governor; ticks = ticks })
       else Err fault.Pair
 
--- a run by the values that were given: the first required option that was not is missing, and last comes the pair
+-- what `run` names, from the given values: the first required option not given is missing, and last comes the pair
 abbrev pub run_of : GivenOf → Result RunOf WordFault
 run_of g = do
   tasks ← need opt.Tasks g.tasks
@@ -145,7 +145,7 @@ run_of g = do
     version = unwrap_or g.format One;
   })
 
--- an admission by the values that were given
+-- what `admit` names, from the given values
 abbrev pub admit_of : GivenOf → Result AdmitOf WordFault
 admit_of g = do
   tasks ← need opt.Tasks g.tasks
@@ -153,7 +153,7 @@ admit_of g = do
   scheduler ← need opt.Scheduler g.scheduler
   Ok (record { tasks = tasks; machine = machine; scheduler = scheduler })
 
--- a replay or a migration by the values that were given
+-- what `replay` or `migrate` names, from the given values
 abbrev pub traced_of : TraceUse → GivenOf → Result TracedOf WordFault
 traced_of asked g = do
   tasks ← need opt.Tasks g.tasks
@@ -161,18 +161,18 @@ traced_of asked g = do
   trace ← need opt.Trace g.trace
   Ok (record { asked = asked; tasks = tasks; machine = machine; trace = trace })
 
--- the command of such a use
+-- the `replay` or the `migrate` command, as asked, from the given values
 abbrev pub trace_command : TraceUse → GivenOf → Result CommandOf WordFault
 trace_command asked g = traced_of asked g >>= (λ r. Ok (traced r))
 
--- a test by response times by the values that were given
+-- what `response` names, from the given values
 abbrev pub response_of : GivenOf → Result ResponseOf WordFault
 response_of g = do
   tasks ← need opt.Tasks g.tasks
   machine ← need opt.Machine g.machine
   Ok (record { tasks = tasks; machine = machine })
 
--- a test of deadlines below the periods by the values that were given
+-- what `constrain` names, from the given values
 abbrev pub constrain_of : GivenOf → Result ConstrainOf WordFault
 constrain_of g = do
   tasks ← need opt.Tasks g.tasks
@@ -180,7 +180,7 @@ constrain_of g = do
   deadlines ← need opt.Deadlines g.deadlines
   Ok (record { tasks = tasks; machine = machine; deadlines = deadlines })
 
--- a least energy by the values that were given
+-- what `least` names, from the given values
 abbrev pub least_of : GivenOf → Result LeastOf WordFault
 least_of g = do
   machine ← need opt.Machine g.machine
@@ -188,7 +188,7 @@ least_of g = do
   ticks ← need opt.Ticks g.ticks
   Ok (record { machine = machine; units = units; ticks = ticks })
 
--- a polling by the values that were given
+-- what `poll` names, from the given values
 abbrev pub poll_of : GivenOf → Result PollOf WordFault
 poll_of g = do
   tasks ← need opt.Tasks g.tasks
@@ -206,7 +206,7 @@ poll_of g = do
     ticks = timed.ticks;
   })
 
--- the command by the values that were given, or the first required option that was not; last, the pair of a run
+-- the command from the given values, or the refusal: the first required option not given; last, a pair that isn't one
 abbrev pub built : Verb → GivenOf → Result CommandOf WordFault
 built verb.Run g = run_of g >>= (λ r. Ok (run r))
 built verb.Admit g = admit_of g >>= (λ a. Ok (admit a))

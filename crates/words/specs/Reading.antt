@@ -19,12 +19,12 @@ pub record ReadingOf : Type 0 where
 abbrev pub nothing_read : ReadingOf
 nothing_read = record { given = nothing_given; waits = None }
 
--- with one more value, where the word at this place is within its rule
+-- the reading with one more value; `BadValue` where the word at this place is outside its option's rule
 abbrev pub with_given : ℕ → List ℕ → Option GivenOf → Result ReadingOf WordFault
 with_given place word None = Err (fault.BadValue place (short_of word))
 with_given place word (Some g) = Ok (record { given = g; waits = None })
 
--- the option of a word: it waits for its value, or has it at once
+-- the reading after an option: it waits for the option's value, or has it at once
 abbrev pub with_option : GivenOf → ℕ → List ℕ → Option Key → Result ReadingOf WordFault
 with_option g place word None = Err (fault.Unexpected place (short_of word))
 with_option g place word (Some k) =
@@ -32,28 +32,28 @@ with_option g place word (Some k) =
     else (if takes_value k then Ok (record { given = g; waits = Some k })
     else with_given place word (with_value g k word))
 
--- one word: the value that an option waits for, else an option
+-- the reading after one word: the value that an option waits for, else an option
 abbrev pub word_at : Verb → ReadingOf → Option Key → ℕ → List ℕ → Result ReadingOf WordFault
 word_at v r (Some k) place word = with_given place word (with_value r.given k word)
 word_at v r None place word = with_option r.given place word (option_named (options_of v) word)
 
--- after the last word, at this place
+-- the command after the last word, which is at this place; an option that still waits has no value
 abbrev pub ended : Verb → GivenOf → Option Key → ℕ → Result CommandOf WordFault
 ended v g (Some k) place = Err (fault.NoValue place (short_of (word_of k)))
 ended v g None place = built v g
 
--- the words after this place, one by one
+-- the command that the reading so far and the words after this place give, word by word
 abbrev pub words_after : Verb → ReadingOf → ℕ → List (List ℕ) → Result CommandOf WordFault
 words_after v r place [] = ended v r.given r.waits place
 words_after v r place (word ∷ words) =
     and_then (word_at v r r.waits (place + 1) word) (λ r. words_after v r (place + 1) words)
 
--- the options of a command, if the first word is one; it stands at place 1
+-- the command, if the word at place 1 names one, from the options after it
 abbrev pub options_after : Option Verb → List ℕ → List (List ℕ) → Result CommandOf WordFault
 options_after None word words = Err (fault.BadCommand (short_of word))
 options_after (Some v) word words = words_after v nothing_read 1 words
 
--- the command that the words are, or the first trouble from left to right
+-- the command that the words are, or the first error from left to right
 abbrev pub command_of : List (List ℕ) → Result CommandOf WordFault
 command_of [] = Err fault.NoCommand
 command_of (word ∷ words) = options_after (verb_of word) word words

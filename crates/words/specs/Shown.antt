@@ -1,4 +1,4 @@
--- Values and commands as they are declared, with texts in the place of what lies in memory.
+-- Declared values and commands, with texts in place of what is in memory.
 use Rattle.std.specs.Prelude.{option_map, Result, Ok, Err}
 use Rattle.words.specs.declared.command.Command.{Command}
 use Rattle.words.specs.declared.command.Command.TheVariants as command
@@ -34,12 +34,12 @@ shown_given g = record {
 abbrev pub shown_reading : Reading → ReadingOf
 shown_reading r = record { given = shown_given r.given; waits = r.waits }
 
--- the same, or why a word was refused
+-- what was read so far, with the texts of names, or why a word was refused
 abbrev pub reading_answer : Result Reading WordFault → Result ReadingOf WordFault
 reading_answer (Ok r) = Ok (shown_reading r)
 reading_answer (Err e) = Err e
 
--- the pair of a run and its number of ticks
+-- the scheduler, the governor and the number of ticks of a run, or why the words were refused
 abbrev pub timed_answer : Result Timed WordFault → Result TimedOf WordFault
 timed_answer (Ok t) = Ok (record { scheduler = t.scheduler; governor = t.governor; ticks = t.ticks.number })
 timed_answer (Err e) = Err e
@@ -77,7 +77,7 @@ shown (command.Poll tasks machine requests server scheduler governor ticks) = po
 })
 shown (command.Least machine units ticks) = least (record { machine = machine.now; units = units; ticks = ticks })
 
--- an answer, with the command so shown
+-- a command with the texts of names, or why the words were refused
 abbrev pub answer : Result Command WordFault → Result CommandOf WordFault
 answer (Ok c) = Ok (shown c)
 answer (Err e) = Err e

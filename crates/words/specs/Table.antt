@@ -8,7 +8,7 @@ use Rattle.words.specs.declared.table.Verb.TheVariants as verb
 use Rattle.words.specs.declared.table.Key.{Key}
 use Rattle.words.specs.declared.table.Key.TheVariants as key
 
--- the first of these names that the word is, and what it names
+-- what the first row whose name is this word gives; none where no row has the word
 abbrev pub named : {A : Type 0} → List (List ℕ × A) → List ℕ → Option A
 named [] word = None
 named (row ∷ rows) word = if bytes_eq word row.0 then Some row.1 else named rows word
@@ -27,7 +27,7 @@ commands =
     ∷ (codes "least", verb.Least)
     ∷ []
 
--- the command of a word
+-- the command that a word names
 abbrev pub verb_of : List ℕ → Option Verb
 verb_of word = named commands word
 

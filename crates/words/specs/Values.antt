@@ -12,17 +12,17 @@ use Rattle.dvs_base.specs.declared.kind.Version.TheVariants.{One, Two}
 use Rattle.words.specs.declared.table.Key.{Key}
 use Rattle.words.specs.declared.table.Key.TheVariants as key
 
--- the name of a file or of a task is not empty
+-- the name of a file or of a task: a word that is not empty
 abbrev pub some_text : List ℕ → Option (List ℕ)
 some_text word = if length word == 0 then None else Some word
 
--- the version of a trace that a word is
+-- the version of a trace that a word names
 abbrev pub version_of : List ℕ → Option Version
 version_of word =
     if bytes_eq word (codes "1") then Some One
     else (if bytes_eq word (codes "2") then Some Two else None)
 
--- the number that a word is
+-- the number below 2^64 that a word is
 abbrev pub number_of : List ℕ → Option ℕ
 number_of word = number_below u64_end word
 
@@ -79,7 +79,7 @@ has g key.Units = is_some g.units
 has g key.Probes = is_some g.probes
 has g key.Format = is_some g.format
 
--- with the value that the word is for this option; none where the word is outside the option's rule
+-- the given values, with the one that the word gives this option; none where the word is outside the option's rule
 abbrev pub with_value : GivenOf → Key → List ℕ → Option GivenOf
 with_value g key.Tasks word = option_map (λ v. record g { tasks = Some v }) (some_text word)
 with_value g key.Machine word = option_map (λ v. record g { machine = Some v }) (some_text word)

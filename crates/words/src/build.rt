@@ -1,4 +1,4 @@
-// The row of each command: its required options in order, and what stands for an optional one that was not given.
+// The row of each command: its required options in order, and the value of an optional one that was not given.
 ghost use Rattle.std.specs.Prelude.{◌≡◌, IfOk};
 ghost use Rattle.words.specs.Commands.{IsReadyCommand, IsReadyFor, need, timed_of, trace_command, built};
 ghost use Rattle.words.specs.Shown.{shown, shown_given, answer, timed_answer};
@@ -9,14 +9,14 @@ use crate::given::{Given, Timed, TraceUse};
 use crate::table::Verb;
 use dvs_base::{Version, is_pair};
 
-// The value of a required option.
+// The value of a required option; `Missing` where none was given.
 fn need<T>(value: Option<T>, option: Opt) -> Result<T, WordFault>
     ensures { result ≡ need option value }
 {
     value.ok_or(WordFault::Missing { option })
 }
 
-// The pair of a run and its number of ticks, by the values that were given.
+// The scheduler, the governor and the number of ticks of a run, from the values that were given.
 fn timed_of<'a>(given: Given<'a>) -> Result<Timed, WordFault>
     ensures read { timed_answer result ≡ timed_of (shown_given given.entry) }
     ensures ready { IfOk result (λ t. IsReadyFor t.scheduler t.governor t.ticks.number) }
@@ -34,7 +34,7 @@ fn timed_of<'a>(given: Given<'a>) -> Result<Timed, WordFault>
     })
 }
 
-// A run by the values that were given.
+// The `run` command, from the values that were given.
 fn planned<'a>(given: Given<'a>) -> Result<Command<'a>, WordFault>
     ensures read { answer result ≡ built verb.Run (shown_given given.entry) }
     ensures ready { IfOk result (λ c. IsReadyCommand (shown c)) }
@@ -56,7 +56,7 @@ fn planned<'a>(given: Given<'a>) -> Result<Command<'a>, WordFault>
     }
 }
 
-// A polling by the values that were given.
+// The `poll` command, from the values that were given.
 fn polled<'a>(given: Given<'a>) -> Result<Command<'a>, WordFault>
     ensures read { answer result ≡ built verb.Poll (shown_given given.entry) }
     ensures ready { IfOk result (λ c. IsReadyCommand (shown c)) }
@@ -79,7 +79,7 @@ fn polled<'a>(given: Given<'a>) -> Result<Command<'a>, WordFault>
     }
 }
 
-// An admission by the values that were given.
+// The `admit` command, from the values that were given.
 fn admitted<'a>(given: Given<'a>) -> Result<Command<'a>, WordFault>
     ensures { answer result ≡ built verb.Admit (shown_given given.entry) }
 {
@@ -93,7 +93,7 @@ fn admitted<'a>(given: Given<'a>) -> Result<Command<'a>, WordFault>
     })
 }
 
-// A replay or a migration by the values that were given.
+// The `replay` or the `migrate` command, as asked, from the values that were given.
 fn traced<'a>(given: Given<'a>, asked: TraceUse) -> Result<Command<'a>, WordFault>
     ensures { answer result ≡ trace_command asked (shown_given given.entry) }
 {
@@ -114,7 +114,7 @@ fn traced<'a>(given: Given<'a>, asked: TraceUse) -> Result<Command<'a>, WordFaul
     })
 }
 
-// A workload by the seed that was given.
+// The `workload` command, from the values that were given.
 fn made<'a>(given: Given<'a>) -> Result<Command<'a>, WordFault>
     ensures { answer result ≡ built verb.Workload (shown_given given.entry) }
 {
@@ -122,7 +122,7 @@ fn made<'a>(given: Given<'a>) -> Result<Command<'a>, WordFault>
     Ok(Command::Workload { seed })
 }
 
-// A test by response times, by the values that were given.
+// The `response` command, from the values that were given.
 fn responding<'a>(given: Given<'a>) -> Result<Command<'a>, WordFault>
     ensures { answer result ≡ built verb.Response (shown_given given.entry) }
 {
@@ -131,7 +131,7 @@ fn responding<'a>(given: Given<'a>) -> Result<Command<'a>, WordFault>
     Ok(Command::Response { tasks, machine })
 }
 
-// A test of deadlines below the periods, by the values that were given.
+// The `constrain` command, from the values that were given.
 fn constrained<'a>(given: Given<'a>) -> Result<Command<'a>, WordFault>
     ensures { answer result ≡ built verb.Constrain (shown_given given.entry) }
 {
@@ -145,7 +145,7 @@ fn constrained<'a>(given: Given<'a>) -> Result<Command<'a>, WordFault>
     })
 }
 
-// A least energy by the values that were given.
+// The `least` command, from the values that were given.
 fn bounded<'a>(given: Given<'a>) -> Result<Command<'a>, WordFault>
     ensures read { answer result ≡ built verb.Least (shown_given given.entry) }
     ensures ready { IfOk result (λ c. IsReadyCommand (shown c)) }
@@ -160,8 +160,8 @@ fn bounded<'a>(given: Given<'a>) -> Result<Command<'a>, WordFault>
     })
 }
 
-/// The command by the values that were given. Missing exactly for the first required option that was not; then Pair for
-/// rate monotonic with look-ahead.
+/// The command, from the values that were given. `Missing` exactly for the first required option that was not given;
+/// then `Pair` for rate monotonic with look-ahead.
 pub fn built<'a>(verb: Verb, given: Given<'a>) -> Result<Command<'a>, WordFault>
     ensures read { answer result ≡ built verb (shown_given given.entry) }
     ensures ready { IfOk result (λ c. IsReadyCommand (shown c)) }

@@ -18,22 +18,22 @@ pub enum Opt {
     Ticks,
     /// `--trace`: the file of a trace.
     Trace,
-    /// `--seed`: the number from which a workload is made.
+    /// `--seed`: the number from which a workload is generated.
     Seed,
     /// `--deadlines`: the file of relative deadlines.
     Deadlines,
     /// `--requests`: the file of requests.
     Requests,
-    /// `--server`: the task that serves them.
+    /// `--server`: the task that serves the requests.
     Server,
-    /// `--units`: the work units whose least energy is asked for.
+    /// `--units`: the work units whose minimum energy is asked for.
     Units,
 }
 
 /// What the words ask for. Files are named and not yet read.
 #[derive(Clone, Copy, Debug, PartialEq, Eq)]
 pub enum Command<'a> {
-    /// Print the trace of so many ticks, in this version; with probes, print what they counted too.
+    /// Print the trace of `ticks` ticks in this version; with `probes`, also what the probes counted.
     Run {
         tasks: &'a str,
         machine: &'a str,
@@ -44,40 +44,40 @@ pub enum Command<'a> {
         probes: bool,
         version: Version,
     },
-    /// Say whether the scheduler's test admits the tasks.
+    /// Print whether the scheduler's test admits the tasks.
     Admit {
         tasks: &'a str,
         machine: &'a str,
         scheduler: Scheduler,
     },
-    /// Say whether a trace is that of the run that it tells.
+    /// Check whether a trace is the trace of the run that it describes.
     Replay {
         tasks: &'a str,
         machine: &'a str,
         trace: &'a str,
     },
-    /// Print a trace in version 2, if it is that of the run that it tells.
+    /// Print a trace in version 2, if it is the trace of the run that it describes.
     Migrate {
         tasks: &'a str,
         machine: &'a str,
         trace: &'a str,
     },
-    /// Run what is made from a seed, under each governor.
+    /// Run the workload generated from a seed, under each governor.
     Workload {
         seed: u64,
     },
-    /// Say when each task's first job is complete at the latest, under RM at the highest speed.
+    /// Print when each task's first job is complete at the latest, under RM at the highest speed.
     Response {
         tasks: &'a str,
         machine: &'a str,
     },
-    /// Say the lowest speed at which every deadline is met under EDF, with deadlines below the periods.
+    /// Print the lowest speed at which every deadline is met under EDF, with deadlines below the periods.
     Constrain {
         tasks: &'a str,
         machine: &'a str,
         deadlines: &'a str,
     },
-    /// Print when a task serves each request, in so many ticks.
+    /// Print when a task serves each request, in a run of `ticks` ticks.
     Poll {
         tasks: &'a str,
         machine: &'a str,
@@ -87,7 +87,7 @@ pub enum Command<'a> {
         governor: GovernorKind,
         ticks: u64,
     },
-    /// Say what so many work units cost at least in so many ticks.
+    /// Print the minimum energy for `units` work units in `ticks` ticks.
     Least {
         machine: &'a str,
         units: u64,
@@ -95,14 +95,14 @@ pub enum Command<'a> {
     },
 }
 
-/// The first trouble of the words, from left to right. Places count from 1, and the command stands at place 1.
+/// The first error in the words, from left to right. Places count from 1, and the command is at place 1.
 #[derive(Clone, Copy, Debug, PartialEq, Eq)]
 pub enum WordFault {
     /// There is no word.
     NoCommand,
-    /// The first word is no command.
+    /// The first word is not a command.
     BadCommand { word: Short },
-    /// A word in an option's place is no option of the command.
+    /// A word in an option's place is not an option of the command.
     Unexpected { place: u64, word: Short },
     /// The option was given before.
     Repeated { place: u64, word: Short },

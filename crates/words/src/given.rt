@@ -21,7 +21,7 @@ pub struct Given<'a> {
     pub format: Option<Version>,
 }
 
-/// What is done with a trace that is that of the run that it tells.
+/// What is done with a trace that is the trace of the run that it describes.
 #[derive(Clone, Copy, Debug, PartialEq, Eq)]
 pub enum TraceUse {
     /// Its totals are printed.
@@ -30,7 +30,7 @@ pub enum TraceUse {
     Migrate,
 }
 
-/// The pair of a run and its number of ticks.
+/// The scheduler, the governor and the number of ticks of a run.
 #[derive(Clone, Copy, Debug, PartialEq, Eq)]
 pub struct Timed {
     pub scheduler: Scheduler,

@@ -1,8 +1,8 @@
 //! The words of a command: its name, and then its options in any order, each at most once.
 //!
-//! [`read_words`] answers the command, or the first trouble from left to right with its place; it takes no memory. What
-//! the words mean is one definition, `command_of` in `specs/Reading.antt`, over the table in `specs/Table.antt`. A new
-//! command is a row of that table, and a variant.
+//! [`read_words`] returns the command, or the first error from left to right with its place; it allocates no memory.
+//! What the words mean is one definition, `command_of` in `specs/Reading.antt`, over the table in `specs/Table.antt`. A
+//! new command is a row of that table, and a variant.
 #![tactic(auto)]
 
 mod build;

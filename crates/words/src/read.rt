@@ -18,7 +18,7 @@ pub struct Reading<'a> {
     pub waits: Option<Key>,
 }
 
-// With one more value, where the word at this place is within its rule.
+// The reading with one more value; `BadValue` where the word at `place` is outside its option's rule.
 fn with_given<'a>(
     place: u64,
     word: &str,
@@ -35,7 +35,7 @@ fn with_given<'a>(
     }
 }
 
-// The option of a word: it waits for its value, or has it at once.
+// The reading after an option: it waits for the option's value, or has it at once.
 fn with_option<'a>(
     given: Given<'a>,
     place: u64,
@@ -112,7 +112,7 @@ fn read_options<'a>(verb: Verb, words: &'a [String]) -> Result<Command<'a>, Word
     ended(verb, reading, place)
 }
 
-/// The command that the words are, or the first trouble from left to right. It takes no memory.
+/// The command that the words are, or the first error from left to right. It allocates no memory.
 pub fn read_words(words: &[String]) -> Result<Command<'_>, WordFault>
     ensures read { answer result ≡ command_of (map string_bytes words.now) }
     ensures ready { IfOk result (λ c. IsReadyCommand (shown c)) }

@@ -38,7 +38,7 @@ pub enum Key {
     Format,
 }
 
-/// The command of a word.
+/// The command that a word names.
 pub fn verb_of(word: &str) -> Option<Verb>
     ensures { result ≡ verb_of word.now }
 {

@@ -1,4 +1,4 @@
-// What each list of words is read as.
+// The command or the error that each list of words is read as.
 use super::*;
 use dvs_base::{GovernorKind, MOST_TICKS, Scheduler, Short, Version};
 use std::alloc::Global;

@@ -1,4 +1,4 @@
-// What a word is as the value of an option.
+// The value that a word gives an option.
 ghost use Rattle.std.specs.Prelude.{◌≡◌, option_map};
 ghost use Rattle.dvs_base.specs.PlanWords.{ticks_of};
 ghost use Rattle.words.specs.Values.{some_text, version_of, number_of, nothing_given, has, with_value};
@@ -83,7 +83,7 @@ impl<'a> Given<'a> {
     }
 }
 
-/// With the value that the word is for this option. None exactly where the word is outside the option's rule.
+/// The given values, with the one that the word gives this option. `None` exactly where the word is outside its rule.
 pub fn with_value<'a>(mut given: Given<'a>, key: Key, word: &'a str) -> Option<Given<'a>>
     ensures { option_map shown_given result ≡ with_value (shown_given given.entry) key word.now }
 {

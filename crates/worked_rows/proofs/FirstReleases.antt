@@ -1,9 +1,7 @@
--- The first release of each task, one after another, and the mark after them.
-use Rattle.std.proofs.Common.{◌≡◌, ◌≢◌, ℕ, ◌+◌, ◌<◌, ◌≤◌, zero, suc, Bool, true, false, eqb, if◌then◌else◌, [], ◌∷◌, length, set, length-set, get_or-set_same, get_or-set_other, refl, arith, ap, ◌∙◌, sym, subst, add-one, nat_eq}
+-- The first releases of the tasks, one after the other, and the mark after them.
+use Rattle.std.proofs.Common.{◌≡◌, ◌≢◌, ℕ, ◌+◌, ◌<◌, ◌≤◌, zero, suc, Bool, true, false, eqb, [], length, set, length-set, get_or-set_same, get_or-set_other, refl, arith, ap, ◌∙◌, sym, subst, add-one, nat_eq}
 use Rattle.std.specs.Prelude.{slice_set}
 use Rattle.std.proofs.lemmas.Bool.Decides.{nat_tests}
-use Rattle.dvs_base.specs.declared.note.Note.{Note}
-use Rattle.dvs_base.specs.declared.note.Note.TheVariants.{Release, Done}
 use Rattle.sched_model.specs.declared.state.Row.{Row}
 use Rattle.sched_model.specs.Plan.{Plan, count, period, offset, worst}
 use Rattle.sched_model.specs.Admission.{IsAdmitted}
@@ -15,7 +13,7 @@ use Rattle.event_kernel.proofs.Deciding.{at-decision}
 use Rattle.event_kernel.proofs.Ofplan.{of-prior, of-state}
 
 module _ (p : Plan) where
-  -- one row changed
+  -- a state of a plan stays one with another row of task i, of the same worst case and no more units than that
   of-set : (s : StateOf) (i : ℕ) (r : Row) → IsOfPlan p s → i < length s.rows → r.worst ≡ (row_at s i).worst → r.used ≤ (row_at s i).worst
       → IsOfPlan p (record s { rows = set s.rows i r })
   of-set s i r o lt w u = record {
@@ -55,7 +53,7 @@ module _ (p : Plan) where
   of-release : (s : StateOf) (i : ℕ) → IsOfPlan p s → CanRelease p s i → IsOfPlan p (after_release p s i)
   of-release s i o c = of-set s i _ o c.task refl (omega arith)
 
--- every job needs one unit
+-- the demands with one unit for every job; 0 for job 0
 abbrev one_unit : ℕ → ℕ → ℕ
 one_unit i zero = 0
 one_unit i (suc k) = 1
@@ -63,7 +61,7 @@ one_unit i (suc k) = 1
 needed : (i k : ℕ) → nat_eq (one_unit i (k + 1)) 0 ≡ false
 needed i k = rw (add-one k) refl
 
--- of the first m tasks those without an offset are released, and whether there are any
+-- of the first m tasks, those without an offset are released; `any` says whether there are any
 pub record HasReleased (p : Plan) (m : ℕ) (any : Bool) (s : StateOf) : Type 0 where
   pub rows : Releasing p one_unit [] m any s
   pub of : IsOfPlan p s
@@ -112,7 +110,7 @@ module _ (p : Plan) (adm : IsAdmitted p) where
         (let here : m ≡ k = omega (arith, lo, hi) in subst (λ i. (row_at s i).deadline ≢ s.now) here apart) in
         record { rows = (skips b.some_period h.rows (m + 1) (λ i. refl) (omega arith) (omega (arith, lt)) only).0; of = h.of }
 
-  -- all tasks are released, and the tick is marked where some were
+  -- all tasks without an offset are released, and the tick is marked where there are any
   module _ (m : ℕ) (s : StateOf) (all : m ≡ count p) where
     marked-is : HasReleased p m true s → after_mark s ≡ state_of p one_unit []
     marked-is h = released-marked b.some_period refl (subst (λ n. Releasing p one_unit [] n true s) all h.rows)

@@ -33,7 +33,7 @@ const MOST_NOTES: usize = 1024;
 
 const MOST_TASKS: usize = 8;
 
-// The notes of a run, as far as there is room for them, and how many there were.
+// The notes of a run, as many as there is room for, and their number.
 #[derive(Drop)]
 struct HeardNotes {
     notes: Vec<Note>,
@@ -70,7 +70,7 @@ impl Listener for HeardNotes {
     }
 }
 
-// The sums and counts of notes, one by one.
+// The totals of some notes, added one by one.
 fn totals_of(notes: &[Note]) -> Totals {
     let mut totals = Totals {
         run: 0,
@@ -92,14 +92,14 @@ fn totals_of(notes: &[Note]) -> Totals {
     totals
 }
 
-// A tick as the notes tell it: the speed, and the units that each task has had.
+// A tick according to the notes: the speed, and the units that each task has had.
 #[derive(Clone, Copy)]
 struct HeardTick {
     speed: u64,
     units: [u64; MOST_TASKS],
 }
 
-// The ticks of a run as its notes tell them.
+// The ticks of a run according to its notes.
 #[derive(Drop)]
 struct HeardTicks {
     ticks: Vec<HeardTick>,
@@ -118,7 +118,7 @@ impl HeardTicks {
         })
     }
 
-    // A speed is in force from its tick on.
+    // Sets the speed from this tick on.
     fn set_speed(&mut self, from: u64, speed: u64) {
         for (at, tick) in self.ticks.iter_mut().enumerate() {
             if from <= at as u64 {
@@ -127,7 +127,7 @@ impl HeardTicks {
         }
     }
 
-    // Adds one unit of a task at a position; the position after it.
+    // Adds one unit of a task at a position and returns the position after it.
     fn add_unit(&mut self, at: Pos, task: u32) -> Pos {
         let Some(tick) = self.ticks.get_mut(at.tick as usize) else {
             return at;
@@ -149,7 +149,7 @@ impl HeardTicks {
         }
     }
 
-    // Adds the units of a segment one after another; whether they end where it does.
+    // Adds the units of a segment one after the other; whether they end at `to`.
     fn add_segment(&mut self, from: Pos, to: Pos, task: u32, units: u64) -> bool {
         let mut at = from;
         for _ in 0..units {
@@ -158,7 +158,7 @@ impl HeardTicks {
         at == to
     }
 
-    // Adds what a note tells; whether its positions are right.
+    // Adds the speed or the units of a note; whether its positions are right.
     fn add(&mut self, note: &Note) -> bool {
         match note {
             Note::Speed { tick, speed, .. } => {
@@ -185,7 +185,7 @@ impl HeardTicks {
     }
 }
 
-// A plan and its demands, for how many ticks it runs, and the words that name it.
+// A plan and its demands, the number of ticks that it runs, and its name in messages.
 #[derive(Clone, Copy)]
 struct Setup<'a> {
     name: &'a str,
@@ -194,7 +194,7 @@ struct Setup<'a> {
     ticks: u64,
 }
 
-// The notes of a run are those of the definition's schedule, as far as they tell of speeds and units.
+// Compares the speeds and the units in the notes of a run with those of the definition's schedule.
 fn expect_definition(
     rt: &(impl Abort + AllocGlobal),
     setup: &Setup<'_>,
@@ -217,7 +217,7 @@ fn expect_definition(
     Ok(())
 }
 
-// A run from event to event has the notes and the totals of one tick by tick, and these are the definition's.
+// Compares the notes and totals of a run from event to event with a run tick by tick and with the definition.
 fn compare<G: Governor>(
     rt: &(impl Abort + AllocGlobal),
     setup: &Setup<'_>,
@@ -257,7 +257,7 @@ fn compare<G: Governor>(
     expect_definition(rt, setup, kind, &heard.notes[..heard.count])
 }
 
-// The same under each governor that serves EDF.
+// Compares the runs of a plan under each governor that serves EDF.
 fn compare_under_edf(rt: &(impl Abort + AllocGlobal), setup: &Setup<'_>) -> Result<(), Fail>
     requires list { IsListOf setup.now.plan.now setup.now.demands.now }
     requires some_ticks { 1 ≤ setup.now.ticks }
@@ -288,7 +288,7 @@ fn compare_under_edf(rt: &(impl Abort + AllocGlobal), setup: &Setup<'_>) -> Resu
     )
 }
 
-// The same under each governor that serves RM.
+// Compares the runs of a plan under each governor that serves RM.
 fn compare_under_rm(rt: &(impl Abort + AllocGlobal), setup: &Setup<'_>) -> Result<(), Fail>
     requires list { IsListOf setup.now.plan.now setup.now.demands.now }
     requires some_ticks { 1 ≤ setup.now.ticks }
@@ -314,7 +314,8 @@ fn compare_under_rm(rt: &(impl Abort + AllocGlobal), setup: &Setup<'_>) -> Resul
     )
 }
 
-// Compares the runs of a case under each pair whose test it passes; whether it passes that of EDF and that of RM.
+// Compares the runs of a case under each pair whose test it passes. Returns whether it passes the test under EDF,
+// and the test under RM.
 fn compare_case(
     rt: &(impl Abort + AllocGlobal),
     case: Case<'_>,
@@ -401,7 +402,7 @@ fn controller_runs_agree(rt: HostRuntime) -> Result<(), Fail> {
     Ok(())
 }
 
-// Compares the runs of 150 made cases from this number on; how many of them EDF admits, and how many RM.
+// Compares the runs of 150 generated cases, from number `from` on. Returns how many EDF admits, and how many RM does.
 fn compare_made(rt: &(impl Abort + AllocGlobal), from: u64) -> Result<(u64, u64), Fail> {
     let alloc = rt.alloc();
     let mut under_edf: u64 = 0;

@@ -2,7 +2,7 @@
 use std::process::Abort;
 use std::test::Fail;
 
-// Files of tasks, of a machine and of demands, and what a message calls them.
+// A task file, a machine file and a demand file, and their name in messages.
 #[derive(Clone, Copy)]
 pub(crate) struct Case<'a> {
     pub(crate) tasks: &'a str,
@@ -12,7 +12,7 @@ pub(crate) struct Case<'a> {
 }
 
 impl<'a> Case<'a> {
-    // The same files, called by these words in a message.
+    // These files with `words` as their name in messages.
     pub(crate) fn asked(self, words: &'a str) -> Case<'a> {
         Case {
             tasks: self.tasks,
@@ -23,7 +23,7 @@ impl<'a> Case<'a> {
     }
 }
 
-// A text is these lines, each ended by a line feed.
+// Compares a text with these lines, each ended by a line feed.
 pub(crate) fn expect_lines(
     rt: &impl Abort,
     text: &[u8],

@@ -1,5 +1,5 @@
 // The choice of each governor at the first decision of the example of Pillai and Shin 2001, with 4 units for a
-// millisecond at full speed. The demands are worked out by hand.
+// millisecond at full speed. The demands are computed by hand.
 ghost use Rattle.std.specs.Prelude.{◌≡◌};
 ghost use Rattle.sched_model.specs.States.{opening, IsOfPlan};
 ghost use Rattle.governor.specs.Steps.{IsAtDecision};
@@ -15,7 +15,7 @@ use static_gov::{Full, Static};
 use std::alloc::Global;
 use std::test::Fail;
 
-// The first job of each task without an offset is released, and the tick is marked where there is one.
+// Releases the first job of each task without an offset, and marks the tick where there is one.
 fn release_all<G: Governor>(plan: &Admitted, governor: &mut G, state: &mut State)
     requires state { state.old ≡ opening plan.now }
     requires counters { G.stands governor.old plan.now state.old }
@@ -38,7 +38,7 @@ fn release_all<G: Governor>(plan: &Admitted, governor: &mut G, state: &mut State
     }
 }
 
-// What a governor chooses at the first decision.
+// The choice of a governor at the first decision.
 fn first_choice<G: Governor>(
     alloc: Global,
     plan: &Admitted,
@@ -51,7 +51,7 @@ fn first_choice<G: Governor>(
     Ok(governor.choose(plan, &state))
 }
 
-// A choice whose speed meets the demand.
+// A choice whose speed meets the demand, which is `num` over `den`.
 fn choice(index: u32, num: u128, den: u128) -> Choice {
     Choice {
         index,

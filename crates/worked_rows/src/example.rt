@@ -50,20 +50,19 @@ point = [
 ]
 "#;
 
-// Lines that end with a carriage return, and fields in quotes.
+// Demands with lines that end with a carriage return, and with fields in quotes.
 pub(crate) const CONTROLLER_DEMANDS: &str =
     "task,job,units\r\n\"imu\",1,196\r\n\"imu\",2,396\r\nradio,1,596\r\nmotor,1,996\r\nlog,\"1\",396\r\nui,1,196\r\n";
 
-// Tasks of which one or both are first released after tick 0, one of them beyond the runs.
-// The second task is released for the first time at tick 2.
+// Two tasks; the first release of the second is at tick 2.
 pub(crate) const FIRST_LATE: &str =
     r#"task = [{name = "x", period = 4, worst = 4}, {name = "y", period = 6, worst = 6, offset = 2}]"#;
 
-// Both tasks are released for the first time at tick 2; the first decision, at 0, has the demand of no work.
+// Two tasks, both first released at tick 2; the first decision, at tick 0, has a demand of 0.
 pub(crate) const BOTH_AT_2: &str =
     r#"task = [{name = "x", period = 4, worst = 4, offset = 2}, {name = "y", period = 6, worst = 6, offset = 2}]"#;
 
-// Two tasks, one of which is released after the run.
+// Two tasks, one of which is first released after the run.
 pub(crate) const ONE_BEYOND: &str =
     r#"task = [{name = "x", period = 4, worst = 4}, {name = "z", period = 6, worst = 6, offset = 100}]"#;
 

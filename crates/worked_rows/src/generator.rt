@@ -1,4 +1,4 @@
-// Made cases: a task, a machine and a demand file for each number.
+// Generated cases: a task file, a machine file and a demand file for each seed.
 ghost use Rattle.std.specs.Prelude.{◌<◌};
 
 use crate::case::Case;
@@ -18,7 +18,7 @@ impl Draws {
         mixed ^ (mixed >> 31)
     }
 
-    // A number below this one.
+    // A number below `most`.
     fn below(&mut self, most: u64) -> u64
         requires { 0 < most }
         ensures { result < most }
@@ -26,13 +26,13 @@ impl Draws {
         self.next() % most
     }
 
-    // One of these eight.
+    // One of eight numbers.
     fn one_of(&mut self, choices: [u64; 8]) -> u64 {
         choices[self.below(8) as usize]
     }
 }
 
-// The files of a made case.
+// The files of a generated case.
 #[derive(Drop)]
 pub(crate) struct MadeFiles {
     tasks: String,
@@ -78,7 +78,7 @@ fn make_rows(
 }
 
 impl MadeFiles {
-    // One to four tasks whose hyperperiod divides 24, on a machine that most such sets fit.
+    // One to four tasks whose hyperperiod divides 24, on a machine on which most such sets are admitted.
     pub(crate) fn from_seed(alloc: Global, seed: u64) -> Result<MadeFiles, AllocError> {
         let mut draws = Draws { state: seed };
         let (machine, top) = make_machine(alloc, &mut draws)?;
@@ -107,7 +107,7 @@ impl MadeFiles {
         })
     }
 
-    // Their case.
+    // The files as a case.
     pub(crate) fn case(&self) -> Case<'_> {
         Case {
             tasks: self.tasks.as_str(),

@@ -1,4 +1,4 @@
-// Traces that a kernel writes to a sink in memory and tells to probes, each worked out by hand.
+// Traces that a kernel writes to a sink in memory and shows to probes, each worked out by hand.
 ghost use Rattle.std.specs.Prelude.{IfOk};
 ghost use Rattle.event_kernel.specs.Runs.{IsListOf};
 ghost use Rattle.governor.specs.Serving.{ServesEdf};
@@ -48,7 +48,7 @@ fn plan_of(alloc: Global, case: Case<'_>) -> Result<Planned, Fail>
     }
 }
 
-// A probe of the ends of jobs, and one of the units of the second task.
+// A probe of completions, and one of the units of the second task.
 fn two_probes(alloc: Global) -> Result<Vec<Box<dyn Probe>>, Fail> {
     let mut probes: Vec<Box<dyn Probe>> = Vec::new(alloc);
     let ends = Rule {
@@ -86,7 +86,7 @@ fn a_run_tells_its_probes(rt: HostRuntime) -> Result<(), Fail> {
     Ok(())
 }
 
-// The first end of a job is line 8.
+// The first completion is line 8.
 #[test]
 fn a_note_is_not_told_whose_put_fails(rt: HostRuntime) -> Result<(), Fail> {
     let alloc = rt.alloc();

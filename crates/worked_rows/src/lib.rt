@@ -1,5 +1,5 @@
-//! Tests of single calls with values of their own types. The kernel's runs are compared with its walk over ticks and with
-//! the schedule's definition.
+//! Tests of single calls with values of their own types. Runs of the kernel are compared with its walk over ticks and
+//! with the definition of the schedule.
 #![tactic(auto)]
 
 #[cfg(test)]

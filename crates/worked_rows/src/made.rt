@@ -1,4 +1,4 @@
-// Plans, the states that they open with, and the governors that are made for them.
+// Plans, their opening states, and the governors for them.
 ghost use Rattle.std.specs.Prelude.{◌≤◌};
 ghost use Rattle.dvs_base.specs.declared.limits.TheConstants.{MOST_TICKS};
 ghost use Rattle.governor.specs.Serving.{ServesEdf, ServesRm};
@@ -19,7 +19,7 @@ use std::alloc::Global;
 use std::test::Fail;
 use task_model::TaskSet;
 
-// Whether each governor that serves EDF is made for a plan.
+// Whether each governor that serves EDF can be created for a plan.
 fn made_under_edf(alloc: Global, plan: &Admitted) -> bool
     requires { ServesEdf plan.now.scheduler }
 {
@@ -29,7 +29,7 @@ fn made_under_edf(alloc: Global, plan: &Admitted) -> bool
         && LookAhead::new(alloc, plan).is_ok()
 }
 
-// Whether each governor that serves RM is made for a plan.
+// Whether each governor that serves RM can be created for a plan.
 fn made_under_rm(alloc: Global, plan: &Admitted) -> bool
     requires { ServesRm plan.now.scheduler }
 {
@@ -54,7 +54,7 @@ fn each_governor_is_made_for_its_plan(rt: HostRuntime) -> Result<(), Fail> {
     Ok(())
 }
 
-// The opening state of a plan, after the first release of its first task where that is at tick 0.
+// The opening state of a plan, after the first release of its first task if that is at tick 0.
 fn opened(alloc: Global, plan: &Admitted) -> Result<State, Fail> {
     let _scheduler = plan.scheduler();
     match State::new(alloc, plan) {
@@ -89,7 +89,7 @@ fn first_release_opens_job_one(rt: HostRuntime) -> Result<(), Fail> {
     Ok(())
 }
 
-// How many jobs are too many for a run of these ticks.
+// The error of a kernel for these tasks and ticks under EDF, if any.
 fn refused_jobs(alloc: Global, tasks: &TaskSet, ticks: u64) -> Result<Option<KernelFault>, Fail>
     requires some_ticks { 1 ≤ ticks }
     requires low_ticks { ticks ≤ MOST_TICKS }

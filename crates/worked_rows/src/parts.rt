@@ -1,4 +1,4 @@
-// Worked rows of single calls: numbers, fractions, entries, files and admissions.
+// Worked values of single calls: numbers, fractions, entries, files and admissions.
 use crate::example::PAPER_TASKS;
 use dvs_base::{MemShelf, Scheduler, Shelf, whole};
 use edf_admit::edf_admit;
@@ -69,7 +69,7 @@ fn load_with_small_room(rt: HostRuntime) -> Result<(), Fail> {
     Ok(())
 }
 
-// The refusal of a task set by the test of rate monotonic scheduling.
+// The error of admission under RM, if any.
 fn rm_refusal(alloc: Global, tasks: &str, machine: &str) -> Result<Option<RmFault>, Fail> {
     let tasks = TaskSet::read(alloc, tasks.as_bytes()).map_err(|_| "tasks")?;
     let machine = Machine::read(alloc, machine.as_bytes()).map_err(|_| "machine")?;
@@ -98,7 +98,7 @@ fn rm_denies_at_the_first_failing_task(rt: HostRuntime) -> Result<(), Fail> {
     Ok(())
 }
 
-// A task file with this many tasks of period 64 and worst case 1.
+// A task file with `count` tasks of period 64 and worst case 1.
 pub(crate) fn file_of(alloc: Global, count: usize) -> Result<String, AllocError> {
     let mut text = String::new(alloc);
     for i in 0..count {
@@ -141,7 +141,7 @@ fn written_task_set_is_read_again(rt: HostRuntime) -> Result<(), Fail> {
     Ok(())
 }
 
-// Tasks whose RM order is another than their file's, on a machine with a charge.
+// Tasks whose RM order isn't their order in the file, on a machine with a charge.
 const UNSORTED: &str = r#"
 task = [
     {name = "slow", period = 12, worst = 1, offset = 7},
@@ -199,7 +199,7 @@ fn parts_of_a_plan(rt: HostRuntime) -> Result<(), Fail> {
     assert_eq!(rt; plan.machine().charge(), 1);
     assert_eq!(rt; rm_order(alloc, &plan)?.as_slice(), [1, 2, 0].as_slice());
     assert_eq!(rt; plan.static_demand(), Frac { num: 20, den: 12 });
-    // The levels of `even` and of `slow` are equally steep, and `even` comes first.
+    // The levels of `even` and of `slow` ask for equal shares, and `even` comes first.
     let plan = rm_admit(alloc, &tasks, &machine).map_err(|_| "rm")?;
     assert_eq!(rt; plan.scheduler(), Scheduler::Rm);
     assert_eq!(rt; plan.static_demand(), Frac { num: 10, den: 6 });

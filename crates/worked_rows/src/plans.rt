@@ -1,4 +1,4 @@
-// The plans of the paper's example.
+// Plans of the example of Pillai and Shin 2001.
 ghost use Rattle.std.specs.Prelude.{◌≡◌, IfOk};
 ghost use Rattle.governor.specs.Serving.{ServesEdf, ServesRm};
 
@@ -19,7 +19,7 @@ pub(crate) fn paper_tasks(alloc: Global) -> Result<TaskSet, Fail> {
     }
 }
 
-// The same tasks with first releases after tick 0.
+// The tasks of the example, with first releases after tick 0.
 pub(crate) fn late_tasks(alloc: Global) -> Result<TaskSet, Fail> {
     match TaskSet::read(alloc, LATE_TASKS.as_bytes()) {
         Ok(tasks) => Ok(tasks),
@@ -27,7 +27,7 @@ pub(crate) fn late_tasks(alloc: Global) -> Result<TaskSet, Fail> {
     }
 }
 
-// The plan of these tasks on the example's machine under EDF.
+// The plan of `tasks` on the example's machine under EDF.
 pub(crate) fn edf_plan(alloc: Global, tasks: &TaskSet) -> Result<Admitted, Fail>
     ensures serves { IfOk result (λ plan. ServesEdf plan.scheduler) }
     ensures tasks { IfOk result (λ plan. plan.tasks ≡ tasks.now) }
@@ -39,7 +39,7 @@ pub(crate) fn edf_plan(alloc: Global, tasks: &TaskSet) -> Result<Admitted, Fail>
     }
 }
 
-// The plan of these tasks on the example's machine under RM.
+// The plan of `tasks` on the example's machine under RM.
 pub(crate) fn rm_plan(alloc: Global, tasks: &TaskSet) -> Result<Admitted, Fail>
     ensures serves { IfOk result (λ plan. ServesRm plan.scheduler) }
     ensures tasks { IfOk result (λ plan. plan.tasks ≡ tasks.now) }

@@ -1,4 +1,4 @@
--- Draws in pairs, and what holds of each element of a list that is a function of the place.
+-- Draws in pairs, and properties of each element of a list that is a function of the place.
 use Rattle.std.proofs.Common.{◌≡◌, ℕ, suc, ◌+◌, ◌*◌, ◌<◌, arith, ap, add-one, sym, subst}
 use Rattle.std.specs.List.{AllByRecursion}
 use Rattle.std.proofs.lemmas.List.Elements.{recursion_from_All}
@@ -13,7 +13,7 @@ one-draw x n = ap (state_after x) (add-one n)
 pub two-draws : (x n : ℕ) → state_after x (2 * (n + 1)) ≡ next_state (next_state (state_after x (2 * n)))
 two-draws x n = let e : 2 * (n + 1) ≡ suc (suc (2 * n)) = omega arith in ap (state_after x) e
 
--- a task by the state before its draws
+-- a drawn task, by the state before its two draws
 pub made_task-drawn : (x n i : ℕ) → made_task x n i
     ≡ task_by n i (number_of (next_state (state_after x (2 * i)))) (number_of (next_state (next_state (state_after x (2 * i)))))
 made_task-drawn x n i = ap (λ k. task_by n i (draw x (2 * i)) (draw x k)) (add-one (2 * i))

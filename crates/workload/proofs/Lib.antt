@@ -2,3 +2,4 @@ pub mod Drawing
 pub mod Naming
 pub mod MadeTasks
 pub mod MadeRows
+pub mod Examples

@@ -1,4 +1,4 @@
--- Made tasks are within the limits, and the highest speed does their work.
+-- Drawn tasks are within the limits, and the highest speed does their work.
 use Rattle.std.proofs.Common.{◌≡◌, ℕ, zero, suc, ◌+◌, ◌-◌, ◌*◌, ◌/◌, ◌%◌, ◌<◌, ◌≤◌, true, List, [], ◌∷◌, length, refl, arith, ap, ◌∙◌, sym, subst, mod-lt, nat_eq, add-one, add-mul, mul-add, one-mul, mul_assoc, mul_comm}
 use Rattle.std.specs.Prelude.{slice_index}
 use Rattle.std.specs.List.{All, AllByRecursion}
@@ -20,7 +20,7 @@ use Rattle.workload.specs.Draws.{draw}
 use Rattle.workload.specs.Workload.{periods, share_of, made_task, made_tasks, made_machine}
 use Rattle.workload.proofs.Naming.{made_name-is, made_name-same}
 
--- what the periods have in common
+-- the properties of the eight periods: they are 20 to 250 and divide 1000
 pub record IsPeriod (n : ℕ) : Type 0 where
   pub low : 20 ≤ n
   pub high : n ≤ 250
@@ -50,7 +50,7 @@ is_period k = All-from_recursion IsPeriod periods all (k % 8) 0 (mod-lt k (omega
       ),
     )
 
--- n times a sum is within the terms' bound, if n times each term is
+-- where n times each of m terms is at most a bound, n times their sum is at most m times the bound
 share-sum : (n m bound : ℕ) (f : ℕ → ℕ) → ((i : ℕ) → i < m → n * f i ≤ bound) → n * sum_below m f ≤ m * bound
 share-sum n zero bound f each = omega arith
 share-sum n (suc m) bound f each =
@@ -58,7 +58,7 @@ share-sum n (suc m) bound f each =
     let last : n * f m ≤ bound = each m (omega arith) in
     omega (arith, before, last, mul-add n (sum_below m f) (f m), add-one m, ap (λ k. k * bound) (add-one m), add-mul m 1 bound, one-mul bound)
 
--- whatever the draw, a share has a unit, and a worst case is within it
+-- a task's share is at least one unit
 pub share-some : (n period : ℕ) → 1 ≤ n → n ≤ 64 → 20 ≤ period → 1 ≤ share_of n period
 share-some n period some few low = le-div 1 (1000 * period) n some (omega arith)
 
@@ -69,7 +69,7 @@ within-share n period second some few low =
     let part : n * (1 + second % share_of n period) ≤ n * share_of n period = mul-le-mul_left n (omega (arith, rest)) in
     omega (arith, whole, part)
 
--- so is the work of as many ticks as the periods divide
+-- where n * worst is at most 1000 * period, n times the work of `all` ticks is at most 1000 * all
 within-rate : (n worst period all : ℕ) → n * worst ≤ 1000 * period → n * (worst * (all / period)) ≤ 1000 * all
 within-rate n worst period all fits =
     let q : ℕ = all / period in
@@ -108,7 +108,7 @@ module _ (x n : ℕ) (some : 1 ≤ n) (few : n ≤ 64) where
     low_offset = omega arith;
   }
 
-  -- each period divides 1000
+  -- each drawn period divides 1000
   all-divide : (m : ℕ) → divides_all (list_below m (λ i. (made_task x n i).period)) 1000 ≡ true
   all-divide zero = refl
   all-divide (suc m) =
@@ -150,7 +150,7 @@ module _ (x n : ℕ) (some : 1 ≤ n) (few : n ≤ 64) where
           subst (λ (t : Task). n * ((t.worst + 0) * (hyper_of tasks / t.period)) ≤ 1000 * hyper_of tasks) (sym (task-is i lt))
           (within-rate n ((made_task x n i).worst + 0) ((made_task x n i).period) (hyper_of tasks) (omega (arith, worst-fits i)))
 
-  -- so few jobs are released: of each task at most one more than one for every 20 ticks
+  -- the released jobs are few: of each task at most one more than one for every 20 ticks
   pub few-released : (machine : Table) (scheduler : Scheduler) (ticks : ℕ)
       → sum_below n (λ i. ceil_div (ticks - offset (plan_of tasks machine scheduler) i) (period (plan_of tasks machine scheduler) i)) ≤ n * (ticks / 20 + 1)
   few-released machine scheduler ticks =

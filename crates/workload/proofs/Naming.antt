@@ -1,4 +1,4 @@
--- The names of made tasks are names, and distinct.
+-- The names of drawn tasks have the form of names, and are distinct.
 use Rattle.std.proofs.Common.{◌≡◌, ℕ, ◌+◌, ◌%◌, ◌<◌, ◌≤◌, ◌^◌, true, List, [], ◌∷◌, ◌++◌, length, drop, refl, arith, ap, ◌∙◌, nat_le, mod-lt}
 use Rattle.std.specs.List.{list_all}
 use Rattle.std.specs.Fmt.{decimal}

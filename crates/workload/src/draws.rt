@@ -2,14 +2,14 @@
 ghost use Rattle.std.specs.Prelude.{◌≡◌};
 ghost use Rattle.workload.specs.Draws.{first_state, next_state, number_of};
 
-/// A stream of numbers from 0 to 32767, by its state, which is below 2^31.
+/// A stream of numbers from 0 to 32767, kept as its state, which is below 2^31.
 #[derive(Drop)]
 pub(crate) struct Draws {
     pub(crate) state: u32,
 }
 
 impl Draws {
-    /// The stream of a seed.
+    /// The stream that a seed begins.
     pub(crate) fn new(seed: u64) -> Draws
         ensures { result.state ≡ first_state seed }
     {

@@ -1,4 +1,4 @@
-// A workload from a seed.
+// Generating a workload from a seed.
 ghost use Rattle.std.specs.Prelude.{◌≡◌, ◌<◌, ◌≤◌, ◌*◌, None, length, map, slice_index, IfOk, OnOk};
 ghost use Rattle.dvs_base.specs.declared.kind.Scheduler.TheVariants.{Edf};
 ghost use Rattle.task_model.specs.DemandRows.{named};
@@ -19,13 +19,13 @@ use task_model::{Task, TaskSet};
 // The periods, in ticks.
 const PERIODS: [u64; 8] = [20, 25, 40, 50, 100, 125, 200, 250];
 
-// The highest speed, in work units a tick.
+// The highest speed, in work units per tick.
 const TOP_SPEED: u64 = 1000;
 
-// How many jobs of each task have demands of their own.
+// How many jobs of each task have a row in the demand list.
 const JOBS: u32 = 4;
 
-// The name of a task.
+// The name of a task: `w` and its number from 1 on.
 fn made_name(task: u32) -> Name
     requires { task < 64 }
     ensures { result ≡ made_name task }
@@ -36,7 +36,7 @@ fn made_name(task: u32) -> Name
     Name::of(line.as_bytes()).unwrap()
 }
 
-// One of so many tasks, by the next two draws.
+// Task `task` of `count` tasks, by the next two draws.
 fn make_task(draws: &mut Draws, count: u32, task: u32) -> Task
     requires own { task < count }
     requires few { count ≤ 64 }
@@ -53,7 +53,7 @@ fn make_task(draws: &mut Draws, count: u32, task: u32) -> Task
     }
 }
 
-// So many tasks.
+// `count` tasks, by two draws each.
 fn make_tasks(alloc: Global, draws: &mut Draws, count: u32) -> Result<Vec<Task>, NoMemory>
     requires { count ≤ 64 }
     ensures draws { OnOk result (draws.new.state ≡ state_after draws.old.state (2 * count)) }
@@ -68,7 +68,7 @@ fn make_tasks(alloc: Global, draws: &mut Draws, count: u32) -> Result<Vec<Task>,
     Ok(tasks)
 }
 
-// The row of a job that has none.
+// Adds a row for a job that has none.
 fn add_row(demands: &mut Demands, task: u32, job: u64, units: u64) -> Result<(), NoMemory>
     requires task { task < length demands.old.worsts }
     requires job { 1 ≤ job }
@@ -82,7 +82,7 @@ fn add_row(demands: &mut Demands, task: u32, job: u64, units: u64) -> Result<(),
     Ok(())
 }
 
-// The declared worst cases.
+// The declared worst cases of the tasks.
 fn worsts_of(alloc: Global, tasks: &[Task]) -> Result<Vec<u64>, NoMemory>
     ensures { IfOk result (λ worsts. worsts.items ≡ map (λ t. t.worst) tasks.now) }
 {
@@ -93,7 +93,7 @@ fn worsts_of(alloc: Global, tasks: &[Task]) -> Result<Vec<u64>, NoMemory>
         .map_err(|_| NoMemory)
 }
 
-// The units of the first jobs of each task.
+// The demand list with drawn units for the first jobs of each task.
 fn make_demands(alloc: Global, draws: &mut Draws, tasks: &[Task]) -> Result<Demands, NoMemory>
     requires { IsTaskSet tasks.now }
     ensures { IfOk result (λ demands. demands ≡ made_demands tasks.now draws.old.state) }
@@ -108,7 +108,7 @@ fn make_demands(alloc: Global, draws: &mut Draws, tasks: &[Task]) -> Result<Dema
     Ok(demands)
 }
 
-// The machine.
+// The machine, which is the same for all seeds.
 fn make_machine(alloc: Global) -> Result<Machine, NoMemory>
     ensures { IfOk result (λ machine. machine ≡ made_machine) }
 {
@@ -133,13 +133,13 @@ fn make_machine(alloc: Global) -> Result<Machine, NoMemory>
     Machine::of(alloc, 100, 0, &points)
 }
 
-/// So many tasks, 1 to 64, with a machine and demands, from a seed: periods in ticks, worst cases and demands in work
-/// units. It fails only where memory runs out.
+/// A workload of `tasks` tasks, 1 to 64, with a machine and demands, from a seed: periods in ticks, worst cases and
+/// demands in work units. It fails only where memory runs out.
 pub fn make(alloc: Global, seed: u64, tasks: u32) -> Result<(TaskSet, Machine, Demands), NoMemory>
     requires some { 1 ≤ tasks }
     requires few { tasks ≤ 64 }
     ensures made { IfOk result (λ made. IsMade seed tasks made.0 made.1 made.2) }
-    // The highest speed does the work of every hyperperiod.
+    // The highest speed does the work of each hyperperiod.
     ensures feasible { IfOk result (λ made. IsEdfFeasible (plan_of made.0 made.1 Edf)) }
 {
     let mut draws = Draws::new(seed);

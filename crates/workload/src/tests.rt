@@ -1,4 +1,4 @@
-// Workloads of worked seeds.
+// The workloads of worked seeds.
 ghost use Rattle.std.specs.Prelude.{◌≤◌};
 ghost use Rattle.demand_list.specs.Demands.{HasWorstsOf};
 
@@ -9,7 +9,7 @@ use std::alloc::Global;
 use std::test::Fail;
 use task_model::TaskSet;
 
-// What a task is to be: its name, its period, its worst case and the units of its jobs 1 to 4.
+// What is expected of a task: its name, its period, its worst case and the units of its jobs 1 to 4.
 #[derive(Drop)]
 struct Told {
     name: &'static [u8],
@@ -18,7 +18,7 @@ struct Told {
     units: [u64; 4],
 }
 
-// Whether a task is so, with no offset, and its fifth job at its worst case.
+// Whether a task is as expected, with no offset, and its fifth job at its worst case.
 fn is_as_told(tasks: &TaskSet, demands: &Demands, task: u32, told: &Told) -> bool
     requires { HasWorstsOf tasks.now demands.now }
 {
@@ -38,7 +38,7 @@ fn is_as_told(tasks: &TaskSet, demands: &Demands, task: u32, told: &Told) -> boo
         && demands.units(task, 5) == told.worst
 }
 
-// Whether the workload of a seed has so many tasks, and this one.
+// Whether the workload of a seed has `count` tasks, and task `task` as expected.
 fn makes(alloc: Global, seed: u64, count: u32, task: u32, told: &Told) -> bool
     requires some { 1 ≤ count }
     requires few { count ≤ 64 }
@@ -98,7 +98,7 @@ fn many_tasks_of_great_seeds(rt: HostRuntime) {
     assert!(rt; makes(rt.alloc(), 2026, 32, 31, &last));
 }
 
-// Whether a machine has these four points.
+// Whether a machine has exactly these four points.
 fn has_points(machine: &Machine, points: &[Point; 4]) -> bool {
     machine.count() == 4
         && machine.point(0) == points[0]

@@ -1,4 +1,4 @@
--- Whatever divides the rest of the way is the greatest common divisor of the two numbers that came.
+-- The greatest common divisor of the two loop variables is that of the two arguments.
 use Rattle.std.proofs.Common.{ℕ}
 use Rattle.std.specs.Int.{IsGcd}
 use Rattle.grid_fraction.proofs.gcd.Given as goal

@@ -1,4 +1,4 @@
--- The multiple is the least common one, by the greatest common divisor.
+-- The multiple by the greatest common divisor is the least common one.
 use Rattle.std.proofs.Common.{◌≡◌, ◌*◌, ◌/◌, [], ◌∷◌, arith}
 use Rattle.grid_fraction.specs.Fraction.{least_common_multiple}
 use Rattle.grid_fraction.proofs.Multiples.{IsGcd-pos, least_common_multiple-pair}

@@ -1,4 +1,4 @@
--- Each step takes one period more, and the multiple never falls on the way.
+-- Each step takes in one period more, and the multiple never falls.
 use Rattle.std.proofs.Common.{◌≡◌, ◌+◌, ◌<◌, [], ◌∷◌, arith, ◌∙◌, sym, take, get_or}
 use Rattle.std.proofs.lemmas.List.Elements.{All-take}
 use Rattle.grid_fraction.specs.Fraction.{least_common_multiple}

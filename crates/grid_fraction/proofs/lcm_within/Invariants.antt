@@ -1,4 +1,4 @@
--- The multiple so far is that of the periods so far.
+-- The multiple so far is the least common multiple of the periods read so far.
 use Rattle.std.proofs.Common.{◌≡◌, ◌≤◌, take}
 use Rattle.grid_fraction.specs.Fraction.{least_common_multiple}
 use Rattle.grid_fraction.proofs.lcm_within.Given as goal

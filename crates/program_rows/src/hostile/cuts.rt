@@ -11,7 +11,7 @@ const REPLAY_TWO: Call = Call {
     words: "replay --tasks T --machine M --trace F",
 };
 
-// Each proper prefix of a trace has no end, on its last line.
+// Each proper prefix of a trace is refused for having no end, with the number of its last line.
 fn each_prefix_has_no_end(rt: &impl AllocGlobal, call: Call<'_>, trace: &[u8]) -> Result<(), Fail> {
     let mut line = 1u64;
     let mut cut = Vec::new(rt.alloc());

@@ -1,4 +1,4 @@
-// Calls that are done, and what they write, and two that aren't.
+// Calls that succeed, with their texts, and two that don't.
 use crate::call::Call;
 use test_inputs::example::{
     CONTROLLER_DEMANDS, CONTROLLER_MACHINE, CONTROLLER_TASKS, CYCLE_TRACE, PAPER_MACHINE,
@@ -19,7 +19,7 @@ pub(crate) const ROW_RUN: Call = Call {
     words: "run --tasks T --machine M --scheduler edf --governor none --ticks 16",
 };
 
-// The example at the highest speed, with each job at its worst case.
+// The trace of the example at the highest speed, with each job at its worst case.
 pub(crate) const ROW_TRACE: &str = "trace 1
 plan edf none 16
 release 0 t1 1
@@ -87,7 +87,7 @@ pub(crate) const WORKLOAD: Call = Call {
     words: "workload --seed 1",
 };
 
-// What an independent script, which goes tick by tick, prints for the seed 1.
+// The text that an independent script, which goes tick by tick, prints for the seed 1.
 pub(crate) const WORKLOADS: &str = "workload 1 32 50000
 none 29150 29150 19227 644393500000000000 60560650000000000
 static 29150 29150 23323 412411840000000000 18758816000000000
@@ -95,7 +95,7 @@ cc 29150 29150 23379 409752736000000000 18301726400000000
 la 29150 29150 24710 375964840000000000 46516000000000
 ";
 
-// The two tasks' trace in version 1, which is written in version 2.
+// The call that migrates the two tasks' trace from version 1 to version 2.
 pub(crate) const MIGRATE: Call = Call {
     tasks: TWO_TASKS,
     machine: PAPER_MACHINE,
@@ -103,7 +103,7 @@ pub(crate) const MIGRATE: Call = Call {
     words: "migrate --tasks T --machine M --trace F",
 };
 
-// A server of 4 units in 5 ticks, and its requests.
+// A server of 4 units in 5 ticks, with its requests.
 pub(crate) const POLL: Call = Call {
     tasks: br#"task = [{name = "s", period = 5, worst = 4}, {name = "a", period = 10, worst = 10}]"#,
     machine: PAPER_MACHINE,
@@ -117,7 +117,7 @@ pending 3 12 1
 polled 2 725000000000 0
 ";
 
-// The responses of the example: 12 units, then 24 and 28, at 4 a tick.
+// The responses of the example: 12 units, then 24 and 28, at 4 units a tick.
 pub(crate) const RESPONSE: Call = Call {
     tasks: PAPER_TASKS,
     machine: PAPER_MACHINE,
@@ -130,7 +130,7 @@ response t2 6
 response t3 7
 ";
 
-// Deadlines below the periods: the work due is 2, 5, 7, 9 and 12 at the ticks 2, 5, 6, 10 and 11.
+// Deadlines up to the periods: the work due is 2, 5, 7, 9 and 12 at the ticks 2, 5, 6, 10 and 11.
 pub(crate) const CONSTRAIN: Call = Call {
     tasks: br#"task = [{name = "a", period = 4, worst = 2}, {name = "b", period = 6, worst = 3}]"#,
     machine: b"point = [{speed = 1, millivolts = 1000}, {speed = 2, millivolts = 1000}]",
@@ -165,7 +165,7 @@ task = [
     words: "run --tasks T --machine M --scheduler edf --governor none --ticks 3",
 };
 
-// A demand of one unit more than the worst case.
+// A demand one unit above the worst case.
 pub(crate) const OVER_WORST: Call = Call {
     tasks: PAPER_TASKS,
     machine: PAPER_MACHINE,

@@ -1,12 +1,12 @@
-// Files that are made too large: too long, with too many rows or lines, or nested too deep.
+// Files that are too large: too long, with too many rows or lines, or nested too deep.
 use crate::call::Call;
 use crate::hostile::example::{ADMIT, POLL, REPLAY};
-use dvs_base::{LONGEST_FILE, MOST_LINES};
+use dvs_base::{LONGEST_FILE, LONGEST_LINE, MOST_LINES};
 use request_list::MOST_REQUESTS;
 use std::test::Fail;
 use test_inputs::example::{PAPER_MACHINE, PAPER_TASKS};
 
-// A text of `count` equal bytes behind a head.
+// A head followed by `count` equal bytes.
 fn repeated(rt: &impl AllocGlobal, head: &[u8], byte: u8, count: usize) -> Result<Vec<u8>, Fail> {
     let alloc = rt.alloc();
     let mut bytes = Vec::from_slice(alloc, head)?;
@@ -15,10 +15,10 @@ fn repeated(rt: &impl AllocGlobal, head: &[u8], byte: u8, count: usize) -> Resul
     Ok(bytes)
 }
 
-// Deeper than the reader of TOML goes.
+// A depth of nesting beyond the limit of the TOML reader.
 const DEPTH: usize = 100000;
 
-// Arrays and tables within one another.
+// Arrays nested in one another, and tables nested in one another.
 #[test]
 fn nested_too_deep(rt: HostRuntime) -> Result<(), Fail> {
     for (head, byte) in [(b"task = ".as_slice(), b'['), (b"task = ", b'{')] {
@@ -35,22 +35,28 @@ fn nested_too_deep(rt: HostRuntime) -> Result<(), Fail> {
 
 const HEAD: &str = "trace 1\nplan edf cc 16\n";
 
-// A trace of `count` `idle` lines between its head and its end.
-fn idle_trace(rt: &impl AllocGlobal, count: u64) -> Result<Vec<u8>, Fail> {
+// The head of a trace and `count` `idle` lines.
+fn idle_lines(rt: &impl AllocGlobal, count: u64) -> Result<Vec<u8>, Fail> {
     let mut trace = Vec::from_slice(rt.alloc(), HEAD.as_bytes())?;
     for _line in 0..count {
         trace
             .extend_from_slice(b"idle 0:0 0:0 0 0\n")
             .map_err(|_| "memory")?;
     }
+    Ok(trace)
+}
+
+// A trace of `count` `idle` lines between its head and its end.
+fn idle_trace(rt: &impl AllocGlobal, count: u64) -> Result<Vec<u8>, Fail> {
+    let mut trace = idle_lines(rt, count)?;
     trace
         .extend_from_slice(b"end 16 0 0\n")
         .map_err(|_| "memory")?;
     Ok(trace)
 }
 
-// The most lines, of which three are those of the head and the end, are read, and the first isn't that of the run; one
-// line more is one too many.
+// A trace with the most lines, three of which are the head's and the end's, is read, and its first line differs from
+// that of the run. One line more is too many.
 #[test]
 fn the_most_lines(rt: HostRuntime) -> Result<(), Fail> {
     let most = idle_trace(&rt, MOST_LINES - 3)?;
@@ -66,7 +72,24 @@ fn the_most_lines(rt: HostRuntime) -> Result<(), Fail> {
         .refuses_file(&rt, "trace: line 800001: too many lines")
 }
 
-// The rows are counted before the first is looked at.
+// A line of one byte more than the most bytes is refused as too long where it is the last line that may be there. One
+// line later it is refused as one too many, since the lines are counted first.
+#[test]
+fn one_line_too_many_that_is_too_long(rt: HostRuntime) -> Result<(), Fail> {
+    let long = vec![in rt.alloc(); b'a'; LONGEST_LINE + 1]?;
+    for (before, line) in [
+        (MOST_LINES - 3, "trace: line 800000: too long"),
+        (MOST_LINES - 2, "trace: line 800001: too many lines"),
+    ] {
+        let mut trace = idle_lines(&rt, before)?;
+        trace.extend_from_slice(&long).map_err(|_| "memory")?;
+        trace.push(b'\n').map_err(|_| "memory")?;
+        REPLAY.with_third(&trace).refuses_file(&rt, line)?;
+    }
+    Ok(())
+}
+
+// The rows are counted before the first of them is checked.
 #[test]
 fn one_request_too_many(rt: HostRuntime) -> Result<(), Fail> {
     let mut requests = String::from_str(rt.alloc(), "arrival,units\nx\n")?;
@@ -80,7 +103,7 @@ fn one_request_too_many(rt: HostRuntime) -> Result<(), Fail> {
         .refuses_file(&rt, "requests: 100001 rows, at most 100000")
 }
 
-// Each request is right, and there is one too many.
+// Each request is right, but there is one too many.
 #[test]
 fn rows_have_a_limit(rt: HostRuntime) -> Result<(), Fail> {
     let mut requests = String::from_str(rt.alloc(), "arrival,units\n")?;
@@ -91,7 +114,18 @@ fn rows_have_a_limit(rt: HostRuntime) -> Result<(), Fail> {
         .refuses_file(&rt, "requests: 100001 rows, at most 100000")
 }
 
-// A file that is a byte longer than the most, in the place of each file of a run.
+// The header is looked at before the rows are counted.
+#[test]
+fn a_wrong_header_and_one_request_too_many(rt: HostRuntime) -> Result<(), Fail> {
+    let mut requests = String::from_str(rt.alloc(), "units,arrival\n")?;
+    for _row in 0..MOST_REQUESTS + 1 {
+        requests.push_str("0,1\n")?;
+    }
+    POLL.with_third(requests.as_bytes())
+        .refuses_file(&rt, "requests: wrong header")
+}
+
+// A file one byte longer than the limit, in place of each file of a run.
 #[test]
 fn a_file_over_the_limit_is_too_long(rt: HostRuntime) -> Result<(), Fail> {
     let long = vec![in rt.alloc(); b'#'; LONGEST_FILE as usize + 1]?;

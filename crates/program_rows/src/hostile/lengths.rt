@@ -1,4 +1,4 @@
-// Files of one character: as long as a file may be, and one byte longer.
+// Files of one repeated character: as long as a file may be, and one byte longer.
 ghost use Rattle.std.specs.Prelude.{None};
 
 use crate::call::Call;
@@ -11,7 +11,7 @@ use std::process::Abort;
 use std::test::Fail;
 use test_inputs::words_of;
 
-// A kind of file: a call with such a file, its name, its word in a line, and the most bytes that it may have.
+// A kind of file: a call with such a file, its name, its word in a refusal, and the most bytes that it may have.
 #[derive(Clone, Copy)]
 struct Kind {
     call: Call<'static>,
@@ -62,8 +62,7 @@ const TRACE: Kind = Kind {
     most: LONGEST_TRACE,
 };
 
-// A shelf with the files of a call, where that of the kind is all of one character: as long as there is room for it, or
-// one byte longer.
+// A shelf with the files of a call; that of the kind is one character, as often as there is room for or once more.
 #[derive(Drop)]
 struct LongShelf {
     kind: Kind,
@@ -97,7 +96,7 @@ impl Shelf for LongShelf {
     }
 }
 
-// A file of this kind that is all of this character is refused with the line.
+// A file of this kind that repeats this character is refused with the line.
 fn is_refused(
     rt: &(impl Abort + AllocGlobal),
     kind: Kind,
@@ -125,7 +124,7 @@ fn is_refused(
     Ok(())
 }
 
-// Files of each of these characters, as long as they may be, and one that is a byte longer.
+// Files of the greatest length that repeat each of these characters are refused, and so is one that is a byte longer.
 fn each_is_refused(
     rt: &(impl Abort + AllocGlobal),
     kind: Kind,
@@ -165,7 +164,7 @@ fn long_machine_files(rt: HostRuntime) -> Result<(), Fail> {
     )
 }
 
-// All kinds of records: one field, many fields, none, and one that is never closed.
+// Each kind of record: one field, many fields, none, and one that is never closed.
 const HEADERS: [(u8, &str); 4] = [
     (b'a', "wrong header"),
     (b',', "wrong header"),

@@ -1,4 +1,4 @@
-// Loads that fail, one after the other, for each command.
+// For each command, each of its loads fails in turn.
 use crate::call::{Call, Faults, NO_FAULTS};
 use crate::hostile::example::{
     ADMIT, CONSTRAIN, CONTROLLER_RUN, LEAST, MIGRATE, POLL, REPLAY, RESPONSE, WORKLOAD,
@@ -6,8 +6,8 @@ use crate::hostile::example::{
 use std::test::Fail;
 use test_inputs::{Ending, shown};
 
-// Each load of the call is made to fail: nothing is on `out`, and the line names the file. A load that isn't made can't
-// fail the call.
+// Each load of the call fails in turn: nothing is on `out`, and the line names the file. A fault at a load that isn't
+// made doesn't fail the call.
 fn each_load_fails(rt: &impl AllocGlobal, call: Call<'_>, files: &[&str]) -> Result<(), Fail> {
     let mut number = 1;
     for file in files {
@@ -31,7 +31,7 @@ fn each_load_fails(rt: &impl AllocGlobal, call: Call<'_>, files: &[&str]) -> Res
     load_fails(rt, call, number, done)
 }
 
-// The load of this number fails.
+// The load with this number fails, and the call ends as `ending` says.
 fn load_fails(
     rt: &impl AllocGlobal,
     call: Call<'_>,

@@ -1,4 +1,4 @@
-// A shelf that never finds the memory for a file.
+// A shelf that is always out of memory.
 ghost use Rattle.std.specs.Prelude.{None};
 
 use crate::hostile::example::{

@@ -1,4 +1,4 @@
-// Puts of the notes that fail: the status stays, and nothing more is put.
+// Puts of the notes that fail: the status stays the same, and nothing more is put.
 use crate::call::{Call, Faults};
 use crate::hostile::example::{ADMIT, CONSTRAIN, DENIED, LEAST, OVER_WORST, POLL, RESPONSE};
 use crate::hostile::puts::{TAKEN, at};
@@ -7,7 +7,7 @@ use std::test::Fail;
 use test_inputs::example::{PAPER_MACHINE, PAPER_TASKS, TWO_TASKS};
 use test_inputs::{Ending, first_part};
 
-// The put of the notes of this number fails, with so many bytes.
+// The put of the notes that `failing` names fails, and the call ends as `ending` says.
 fn note_fails(
     rt: &impl AllocGlobal,
     call: Call<'_>,
@@ -22,7 +22,7 @@ fn note_fails(
     call.ends(rt, faults, ending)
 }
 
-// Each put of these notes, one for each line, is made to fail. The call writes nothing to `out`.
+// Each put of these notes, one for each line, fails in turn. The call writes nothing to `out`.
 fn each_note_fails(
     rt: &impl AllocGlobal,
     call: Call<'_>,
@@ -53,7 +53,7 @@ fn each_note_fails(
     note_fails(rt, call, at(number, 0), whole)
 }
 
-// A trace of one tick, where the example's first tick goes to t1 under `none`.
+// A trace of one tick, which goes to t2; under `none` the example's first tick goes to t1.
 const DIFFERENT: Call = Call {
     tasks: PAPER_TASKS,
     machine: PAPER_MACHINE,
@@ -104,7 +104,7 @@ found: run 0:0 1:0 t2 1 4 100000000000
     Ok(())
 }
 
-// The first asks for 8 units in its period of 2 ticks, and the second for one unit more.
+// The first task asks for 8 units in its period of 2 ticks, and the second for one unit more.
 const MISSES: &[u8] =
     br#"task = [{name = "a", period = 2, worst = 8}, {name = "b", period = 4, worst = 1}]"#;
 

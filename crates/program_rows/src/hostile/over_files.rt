@@ -1,4 +1,4 @@
-// The outside of a program over a file that the test writes.
+// A sink over a file that the test writes, and a shelf that reads the file.
 use dvs_base::{HostShelf, HostSink, Shelf, Sink};
 use std::fs;
 use std::test::Fail;

@@ -1,4 +1,4 @@
-// Runs that tell probes, where puts fail and probes leave.
+// Runs with probes, where puts fail and probes leave.
 use crate::call::{Call, Faults, NO_FAULTS};
 use crate::hostile::example::{
     ADMIT, CONSTRAIN, CONTROLLER_RUN, DENIED, LEAST, MIGRATE, OVER_WORST, POLL, REPLAY, RESPONSE,
@@ -19,7 +19,7 @@ const PROBED: Call = Call {
     words: "run --tasks T --machine M --scheduler edf --governor cc --ticks 16 --demands F --probes",
 };
 
-// What the call leaves with these probes, where these loads and puts fail.
+// The outcome of the call with these probes, with these faults.
 fn probed(
     alloc: Global,
     call: Call<'_>,
@@ -38,7 +38,7 @@ fn probed(
     stage.left(alloc, status.code())
 }
 
-// The run is done, with these notes, of which so many puts failed.
+// The run succeeds, with these notes; `failed` puts of the notes fail.
 fn done(notes: &str, failed: u64) -> Ending<'_> {
     Ending {
         code: 0,
@@ -48,7 +48,7 @@ fn done(notes: &str, failed: u64) -> Ending<'_> {
     }
 }
 
-// Each put of the trace fails: the probe was told the decisions of the lines before it, and no line of it is put.
+// Each put of the trace fails in turn: the probe has counted the decisions of the lines before it, and no other.
 #[test]
 fn a_probe_is_told_the_lines_that_were_put(rt: HostRuntime) -> Result<(), Fail> {
     let alloc = rt.alloc();
@@ -87,7 +87,7 @@ fn a_probe_is_told_the_lines_that_were_put(rt: HostRuntime) -> Result<(), Fail> 
     Ok(())
 }
 
-// The run has six completions; the last of them is its last note but the end.
+// The run has six completions; the last of them is its last note before the end.
 #[test]
 fn a_probe_leaves_at_its_last_note(rt: HostRuntime) -> Result<(), Fail> {
     let alloc = rt.alloc();
@@ -112,7 +112,7 @@ fn a_probe_leaves_at_its_last_note(rt: HostRuntime) -> Result<(), Fail> {
     Ok(())
 }
 
-// The lines of the probes fail: the run is done all the same, and nothing more is put.
+// The puts of the probes' lines fail: the run still succeeds, and nothing more is put.
 #[test]
 fn each_line_of_probes_fails(rt: HostRuntime) -> Result<(), Fail> {
     let alloc = rt.alloc();
@@ -148,7 +148,8 @@ fn each_line_of_probes_fails(rt: HostRuntime) -> Result<(), Fail> {
     Ok(())
 }
 
-// The run has six releases, eight decisions, seven segments and three without work; two jobs of the third task run once.
+// The run has six releases, eight decisions, seven running segments and three idle ones.
+// Two jobs of the third task run once each.
 #[test]
 fn each_kind_of_probe_has_its_line(rt: HostRuntime) -> Result<(), Fail> {
     let alloc = rt.alloc();
@@ -184,7 +185,7 @@ fn each_kind_of_probe_has_its_line(rt: HostRuntime) -> Result<(), Fail> {
     Ok(())
 }
 
-// The first completion is the sixth line behind the head, so the put after it finds the probe of completions gone.
+// The first completion is the sixth line after the head, so the probe of completions has left before the next put.
 #[test]
 fn a_probe_that_left_before_a_put_fails(rt: HostRuntime) -> Result<(), Fail> {
     let alloc = rt.alloc();
@@ -209,7 +210,7 @@ fn a_probe_that_left_before_a_put_fails(rt: HostRuntime) -> Result<(), Fail> {
     Ok(())
 }
 
-// Runs that end before they tell a probe, and the status of each.
+// Runs that end before a probe is told any note, and their statuses.
 const NO_RUN: [(&str, u8); 4] = [
     (
         "run --tasks T --machine M --scheduler edf --governor cc --ticks 16 --probes --probes",
@@ -229,7 +230,7 @@ const NO_RUN: [(&str, u8); 4] = [
     ),
 ];
 
-// The call ends with this status, and a probe that would leave at the first note that it is told is left untold.
+// The call ends with this status, and a probe that would leave at its first note has been told none.
 fn tells_no_probe(rt: &(impl Abort + AllocGlobal), call: Call<'_>, code: u8) -> Result<(), Fail> {
     let alloc = rt.alloc();
     let mut probes: Vec<Box<dyn Probe>> = Vec::new(alloc);
@@ -264,8 +265,8 @@ fn probes_stay_where_no_run_tells_them(rt: HostRuntime) -> Result<(), Fail> {
     tells_no_probe(&rt, OVER_WORST, 6)
 }
 
-// A probe that leaves at its third completion, one of decisions, and one of the units of t2: what the run says of them,
-// and what they have counted where the eighth put fails.
+// A probe that leaves at its third completion, one of decisions, and one of the units of t2: the lines that the run
+// prints for them, and what they have counted where the eighth put fails.
 #[test]
 fn probes_that_leave_and_a_put_that_fails(rt: HostRuntime) -> Result<(), Fail> {
     let alloc = rt.alloc();
@@ -303,7 +304,7 @@ fn probes_that_leave_and_a_put_that_fails(rt: HostRuntime) -> Result<(), Fail> {
     Ok(())
 }
 
-// Without --probes a probe that would leave at the first completion is left as it was.
+// Without --probes, a probe that would leave at the first completion is left unchanged.
 #[test]
 fn probes_that_are_not_asked_for_are_left(rt: HostRuntime) -> Result<(), Fail> {
     let alloc = rt.alloc();

@@ -1,4 +1,4 @@
-// Puts that fail, one after the other, for each command.
+// For each command, each of its puts fails in turn.
 use crate::call::{Call, Faults};
 use crate::hostile::example::{
     ADMIT, ADMITTED, CONSTRAIN, CONSTRAINED, LEAST, LEAST_ENERGY, MIGRATE, POLL, POLLED, REPLAY,
@@ -9,10 +9,10 @@ use std::test::Fail;
 use test_inputs::example::TWO_TRACE_2;
 use test_inputs::{Ending, first_part};
 
-// The first part that a put fails with, and its number of bytes.
+// The numbers of bytes that a put takes before it fails.
 pub(crate) const TAKEN: [u64; 3] = [0, 1, 255];
 
-// The put of this number fails, with so many bytes.
+// The put of the answer that `failing` names fails, and the call ends as `ending` says.
 fn put_fails(
     rt: &impl AllocGlobal,
     call: Call<'_>,
@@ -27,8 +27,8 @@ fn put_fails(
     call.ends(rt, faults, ending)
 }
 
-// Each put of the text, one for each line, is made to fail with each of these first parts: `out` holds the lines before
-// it and what the put took. A put that isn't made can't fail the call.
+// Each put of the text, one for each line, fails in turn after each number of bytes in `parts`. `out` has the lines
+// before it and what the put took. A fault at a put that isn't made doesn't fail the call.
 fn each_put_fails(
     rt: &impl AllocGlobal,
     call: Call<'_>,
@@ -59,7 +59,7 @@ fn each_put_fails(
     put_fails(rt, call, at(number, 0), whole)
 }
 
-// The put of this number takes so many bytes and fails.
+// The fault of the put with the number `call`, which takes `taken` bytes and fails.
 pub(crate) fn at(call: u64, taken: u64) -> FailAt {
     FailAt { call, taken }
 }
@@ -81,7 +81,7 @@ fn each_put_of_the_other_commands_fails(rt: HostRuntime) -> Result<(), Fail> {
     each_put_fails(&rt, LEAST, LEAST_ENERGY, &TAKEN)
 }
 
-// Each is four runs of 50000 ticks, so these are tests of their own.
+// Each of these makes four runs of 50000 ticks, so they are separate tests.
 #[test]
 fn each_put_of_a_workload_takes_nothing(rt: HostRuntime) -> Result<(), Fail> {
     each_put_fails(&rt, WORKLOAD, WORKLOADS, &[0])

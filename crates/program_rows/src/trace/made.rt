@@ -1,4 +1,4 @@
-// Traces of made plans with random demands: replayed, migrated, and with one byte changed.
+// Traces of generated plans with random demands: replayed, migrated, and with one byte changed.
 ghost use Rattle.std.specs.Prelude.{◌≤◌, ◌<◌};
 
 use crate::call::{Call, NO_FAULTS};
@@ -23,10 +23,10 @@ const PAIRS: [&str; 7] = [
     "--scheduler rm --governor cc",
 ];
 
-// Seeds whose tasks rate monotonic admits too.
+// Seeds whose tasks are admitted under RM too.
 const SEEDS: [u64; 3] = [1, 2, 3];
 
-// The machine of a made workload.
+// The machine of a generated workload.
 const MACHINE: &[u8] = br"
 idle = 100
 point = [
@@ -37,7 +37,7 @@ point = [
 ]
 ";
 
-// The task file of a made workload of three tasks, and demands of its first jobs.
+// The task file of a generated workload of three tasks, and a demand file for its first jobs.
 #[derive(Drop)]
 struct MadeFiles {
     tasks: String,
@@ -84,7 +84,7 @@ fn made_files(alloc: Global, seed: u64) -> Result<MadeFiles, Fail> {
 }
 
 impl MadeFiles {
-    // The call of these words, with the demands or a trace as its third file.
+    // The call with these words, and with the demands or a trace as its third file.
     fn asked<'a>(&'a self, third: &'a [u8], words: &'a str) -> Call<'a> {
         Call {
             tasks: self.tasks.as_bytes(),
@@ -94,7 +94,7 @@ impl MadeFiles {
         }
     }
 
-    // The trace of the run of this pair, in this version.
+    // The trace of the run under this pair, in this version.
     fn trace(&self, alloc: Global, pair: &str, version: u8) -> Result<Vec<u8>, Fail> {
         let line = format!(in alloc;
             "run --tasks T --machine M --demands F {pair} --ticks 100 --format {version}"
@@ -108,7 +108,7 @@ impl MadeFiles {
     }
 }
 
-// The line of a replay, counted from a trace's own lines.
+// The line that `replay` prints for a trace, counted from the trace's lines.
 fn replayed_line(alloc: Global, trace: &[u8]) -> Result<String, Fail> {
     let text = std::str::from_utf8(trace).map_err(|_| "text")?;
     let mut releases = 0u64;
@@ -148,7 +148,7 @@ fn traces_of_made_plans_are_replayed_and_migrated(rt: HostRuntime) -> Result<(),
     Ok(())
 }
 
-// Numbers of a linear congruential generator, whose step is Knuth's (The Art of Computer Programming, volume 2).
+// Numbers from a linear congruential generator, whose step is Knuth's (The Art of Computer Programming, volume 2).
 #[derive(Drop)]
 struct Draws {
     state: u64,

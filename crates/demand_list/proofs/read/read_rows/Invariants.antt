@@ -3,7 +3,7 @@ use Rattle.csv_text.specs.Records.{IsPlain, AreCountedFrom, records_left}
 use Rattle.demand_list.specs.DemandFile.{demands_from}
 use Rattle.demand_list.proofs.read.read_rows.Given as goal
 
--- the list so far, and then the records that are left, are what all the records give
+-- the list so far, with the records that are left, gives what all the records give
 abbrev pub invariant-loop-demands : goal.invariant-loop-demands
 invariant-loop-demands l = record {
   plain : IsPlain l.reader;

@@ -3,7 +3,7 @@ use Rattle.csv_text.specs.Records.{IsPlain, AreCountedFrom, records_left}
 use Rattle.edf_demand.specs.DeadlineFile.{given_from, AreGiven}
 use Rattle.edf_demand.proofs.read.read_rows.Given as goal
 
--- what the rows so far give, and then the records that are left, are what all the records give
+-- what the rows so far give, with the records that are left, gives what all records give
 abbrev pub invariant-loop-given : goal.invariant-loop-given
 invariant-loop-given l = record {
   plain : IsPlain l.reader;

@@ -1,7 +1,7 @@
 use Rattle.std.proofs.Common.{◌≡◌, length}
 use Rattle.energy.proofs.tests.book_all.Given as goal
 
--- the account keeps its tasks and entries
+-- the account has the tasks and entries that it had
 abbrev pub invariant-loop-i : goal.invariant-loop-i
 invariant-loop-i l = record {
   tasks : length l.account.by_task ≡ l.tasks;

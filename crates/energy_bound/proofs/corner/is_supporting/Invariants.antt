@@ -2,7 +2,7 @@ use Rattle.std.proofs.Common.{◌≡◌, ◌<◌, ℕ}
 use Rattle.energy_bound.specs.Corners.{corner_units, corner_cost, IsAbove}
 use Rattle.energy_bound.proofs.corner.is_supporting.Given as goal
 
--- the corners so far lie above the line through the two
+-- no corner so far lies below the line through the two
 abbrev pub invariant-loop-k : goal.invariant-loop-k
 invariant-loop-k l = record {
   low_units : l.low.units ≡ corner_units l.machine l.a;

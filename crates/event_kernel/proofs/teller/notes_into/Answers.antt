@@ -9,10 +9,8 @@ use Rattle.sched_model.specs.Plan.{Plan, count, names}
 use Rattle.sched_model.specs.Totals.{totals_of}
 use Rattle.sched_model.proofs.ScheduleLemmas.{length-list_below}
 use Rattle.event_kernel.specs.Lines.{noted, sum_lines}
-use Rattle.event_kernel.specs.Runs.{notes_before_end_of, notes_of_run}
+use Rattle.event_kernel.specs.Runs.{notes_before_end_of}
 use Rattle.event_kernel.proofs.Booking.{booked-tasks}
-use Rattle.event_kernel.proofs.Closing.{run-totals}
-use Rattle.event_kernel.proofs.Meeting.{run-few}
 use Rattle.event_kernel.proofs.Tellers.{heard-written, balked-written}
 use Rattle.event_kernel.proofs.Wholes.{told-lines, booked-lines, few-of}
 use Rattle.event_kernel.proofs.Writing.{writes-then, lines-as, some-as, lines-some-more}
@@ -26,13 +24,11 @@ tell_tail-requires g c =
 
 pub returns-in-Ok-clause-totals : goal.returns-in-Ok-clause-totals
 returns-in-Ok-clause-totals g c =
-    subst (λ (t : Totals). IfOk c.tell_tail.result (λ x. x ≡ t))
-    (run-totals g.G.Governor.demand c.args.kernel c.in-Ok.account c.in-Ok.ensures.booked) c.tell_tail.ensures.totals
+    subst (λ (t : Totals). IfOk c.tell_tail.result (λ x. x ≡ t)) c.in-Ok.ensures.totals c.tell_tail.ensures.totals
 
 pub returns-in-Ok-clause-few : goal.returns-in-Ok-clause-few
 returns-in-Ok-clause-few g c =
-    few-of c.tell_tail.result (totals_of (notes_of_run g.G.Governor.demand c.args.kernel))
-    (run-few g.G.Governor.demand c.args.kernel (subst (λ (p : Plan). IsAdmitted p) c.requires.plan c.scheduler-scheduler.ensures.admitted)) (returns-in-Ok-clause-totals g c)
+    few-of c.tell_tail.result c.in-Ok.account.totals c.in-Ok.ensures.few c.tell_tail.ensures.totals
 
 pub returns-in-Ok-clause-writes : goal.returns-in-Ok-clause-writes
 returns-in-Ok-clause-writes g c =

@@ -1,9 +1,8 @@
-use Rattle.std.proofs.Common.{[], ◌∷◌, ap}
+use Rattle.std.proofs.Common.{[], ◌∷◌}
 use Rattle.dvs_base.specs.declared.note.Note.TheVariants.{End}
-use Rattle.dvs_base.specs.declared.note.Totals.{Totals}
 use Rattle.sched_model.specs.Plan.{names}
 use Rattle.event_kernel.specs.Lines.{noted, sum_lines}
-use Rattle.event_kernel.proofs.Writing.{writes-then, lines-as, lines-some-more}
+use Rattle.event_kernel.proofs.Writing.{writes-then, lines-some-more}
 use Rattle.event_kernel.proofs.teller.tell_tail.Goals as goal
 
 pub returns-in-Ok-clause-writes : goal.returns-in-Ok-clause-writes
@@ -11,9 +10,7 @@ returns-in-Ok-clause-writes g c =
     let h = c.args.head in
     let s = c.args.account.now in
     writes-then _ _ _ _ _ _ (sum_lines h.version h.plan.now s.by_task) (noted (names h.plan.now) (End h.ticks s.totals.run s.totals.idle) ∷ [])
-    c.tell_end.result (c.in-Ok.ensures _)
-    (lines-as _ _ _ _ _ _ c.tell_end.result (ap (λ (t : Totals). noted (names h.plan.now) (End h.ticks t.run t.idle) ∷ []) c.totals.ensures)
-    c.tell_end.ensures.writes)
+    c.tell_end.result (c.in-Ok.ensures _) c.tell_end.ensures.writes
 
 pub returns-in-Err-clause-writes : goal.returns-in-Err-clause-writes
 returns-in-Err-clause-writes g c =

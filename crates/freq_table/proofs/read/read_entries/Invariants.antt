@@ -4,7 +4,7 @@ use Rattle.freq_table.specs.Limits.{ArePoints}
 use Rattle.freq_table.specs.MachineFile.{points_from}
 use Rattle.freq_table.proofs.read.read_entries.Given as goal
 
--- the points so far, and then the entries that are left, are what all the entries give
+-- the points so far, followed by the entries that are left, give what all the entries give
 abbrev pub invariant-loop-entry : goal.invariant-loop-entry
 invariant-loop-entry l = record {
   count : vec_len l.points ≡ l.entry-index;

@@ -11,7 +11,7 @@ use Rattle.replay.proofs.Comparing.{stopped-compared, compared-same}
 use Rattle.replay.proofs.Running.{run-same, run-stopped}
 use Rattle.replay.proofs.check.compare.Goals as goal
 
--- the notes of the trace that are left, and what was heard in place of the next one
+-- the notes of the trace that are left, and the note heard in place of the next one
 abbrev rest : Compared → List Note
 rest a = a.rest.now
 

@@ -2,7 +2,7 @@ use Rattle.std.proofs.Common.{◌≡◌, ◌+◌, length}
 use Rattle.csv_text.specs.Records.{IsPlain, records_left}
 use Rattle.request_list.proofs.read.count_rows.Given as goal
 
--- the rows so far and those that are left are all
+-- the rows so far and those that are left add up to all the rows
 abbrev pub invariant-loop-count : goal.invariant-loop-count
 invariant-loop-count l = record {
   plain : IsPlain l.reader;

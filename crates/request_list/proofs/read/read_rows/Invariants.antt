@@ -5,7 +5,7 @@ use Rattle.request_list.specs.RequestFile.{requests_from}
 use Rattle.request_list.proofs.Orders.{AreRequestsTo}
 use Rattle.request_list.proofs.read.read_rows.Given as goal
 
--- what the rows so far give, and then the records that are left, are what all the records give
+-- the requests so far, with the records that are left, give what all the records give
 abbrev pub invariant-loop-requests : goal.invariant-loop-requests
 invariant-loop-requests l = record {
   plain : IsPlain l.reader;

@@ -4,7 +4,7 @@ use Rattle.task_model.specs.Limits.{AreTasks}
 use Rattle.task_model.specs.TaskFile.{tasks_from}
 use Rattle.task_model.proofs.read.read_entries.Given as goal
 
--- the tasks so far, and then the entries that are left, are what all the entries give
+-- the tasks so far, followed by the entries that are left, give what all the entries give
 abbrev pub invariant-loop-entry : goal.invariant-loop-entry
 invariant-loop-entry l = record {
   count : vec_len l.tasks ≡ l.entry-index;

@@ -4,7 +4,7 @@ use Rattle.trace_reader.specs.Heads.{tasks_from}
 use Rattle.trace_reader.specs.Traces.{task_lines}
 use Rattle.trace_reader.proofs.head.read_task_lines.Given as goal
 
--- what is left of the tasks, from what is left of the text, is what all of them give
+-- reading the lines of the tasks that are left, from the text that is left, gives what reading all of them does
 abbrev pub invariant-loop-i : goal.invariant-loop-i
 invariant-loop-i l = record {
   few : l.number ≤ 800001;

@@ -14,7 +14,7 @@ unfolding share_in
 share-alone One names = refl
 share-alone Two names = refl
 
--- no line has its word alone
+-- a line that is its word alone is refused
 item-alone : (v : Version) (names : List (List ℕ)) (word : List ℕ) → item_of v names (word ∷ []) ≡ Err kind.Word
 unfolding item_of release_in speed_in run_in idle_in done_in end_in
 item-alone v names word = rw share-alone (simp same-choice refl)

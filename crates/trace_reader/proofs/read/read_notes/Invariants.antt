@@ -4,7 +4,7 @@ use Rattle.trace_reader.specs.Sums.{HasSums}
 use Rattle.trace_reader.specs.TraceFile.{nothing_yet, notes_from}
 use Rattle.trace_reader.proofs.read.read_notes.Given as goal
 
--- the notes so far, and what is left of the text, give what all of it gives
+-- the notes so far, and those of the text that is left, are those of the whole text
 abbrev pub invariant-loop-notes : goal.invariant-loop-notes
 invariant-loop-notes l = record {
   few : l.number ≤ 800001;

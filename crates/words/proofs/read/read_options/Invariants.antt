@@ -3,7 +3,7 @@ use Rattle.words.specs.Reading.{nothing_read, words_after}
 use Rattle.words.specs.Shown.{shown_reading}
 use Rattle.words.proofs.read.read_options.Given as goal
 
--- the reading so far, and then the words that are left, give what all the words give
+-- the reading so far and the words that are left give what all the words give
 abbrev pub invariant-loop-word : goal.invariant-loop-word
 invariant-loop-word l = record {
   place : l.place ≡ l.word-index + 1;

@@ -5,7 +5,7 @@ use Rattle.workload.specs.Draws.{state_after}
 use Rattle.workload.specs.Workload.{made_row}
 use Rattle.workload.proofs.made.make_demands.Given as goal
 
--- a draw and a row for each number so far
+-- there was a draw and a row for each number so far
 abbrev pub invariant-loop-row : goal.invariant-loop-row
 invariant-loop-row l = record {
   draws : l.draws.state ≡ state_after l.initial.draws.state l.row;

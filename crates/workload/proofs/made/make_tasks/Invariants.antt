@@ -4,7 +4,7 @@ use Rattle.workload.specs.Draws.{state_after}
 use Rattle.workload.specs.Workload.{made_task}
 use Rattle.workload.proofs.made.make_tasks.Given as goal
 
--- two draws and a task for each number so far
+-- there were two draws and a task for each number so far
 abbrev pub invariant-loop-task : goal.invariant-loop-task
 invariant-loop-task l = record {
   draws : l.draws.state ≡ state_after l.initial.draws.state (2 * l.task);

@@ -1,16 +1,20 @@
-use Rattle.std.proofs.Common.{◌≡◌, arith, sym, subst, refl}
+use Rattle.std.proofs.Common.{◌≡◌, List, arith, sym, subst, refl}
+use Rattle.dvs_base.specs.declared.note.Note.{Note}
 use Rattle.sched_model.specs.States.{opening, StateOf}
+use Rattle.sched_model.specs.Admission.{IsAdmitted}
 use Rattle.energy.specs.Books.{Books}
+use Rattle.done_lines.specs.LineCounts.{AreFew}
 use Rattle.governor.proofs.Course.{course-met}
 use Rattle.event_kernel.specs.SpanNotes.{HasBooked}
 use Rattle.event_kernel.specs.Current.{Follow}
-use Rattle.event_kernel.specs.Heard.{HasHeard, HasBalked, Tells}
+use Rattle.event_kernel.specs.Heard.{HasHeard, HasBalked}
 use Rattle.event_kernel.specs.Runs.{Run, demands_of, notes_before_end_of}
 use Rattle.event_kernel.specs.Tickwork.{notes_before}
 use Rattle.event_kernel.proofs.Booking.{booked-points}
-use Rattle.event_kernel.proofs.Closing.{first-between, span-booked}
+use Rattle.event_kernel.proofs.Closing.{first-between, span-booked, run-totals}
 use Rattle.event_kernel.proofs.Demanding.{demand-within}
-use Rattle.event_kernel.proofs.Hearing.{at_error, heard-append, balked-append, balked_after}
+use Rattle.event_kernel.proofs.Hearing.{heard-append, balked-append, balked_after}
+use Rattle.event_kernel.proofs.Meeting.{run-few, met-as}
 use Rattle.event_kernel.proofs.Spanning.{all-keeps}
 use Rattle.event_kernel.proofs.kernel.Kernel.spans.Goals as goal
 
@@ -66,7 +70,7 @@ loop-set-preserved g c =
     let m = g.L.Listener in
     let p = c.self.inside.plan.now in
     let i = c.loop-set.invariant in
-    let told = c.in_ok-tell.ensures.told in
+    let told = c.in-Ok.ensures.told in
     let span = c.span-point.ensures in
     let before = notes_before g.G.Governor.demand p (demands_of p c.self.inside.demands.now) in (
       c.span-point.ensures.between,
@@ -76,43 +80,40 @@ loop-set-preserved g c =
       subst (λ ns. HasHeard m.heard c.args.to.now ns c.tell.new.to) (sym span.notes)
           (heard-append m.heard m.balked (before c.loop-set.progress.state.now) c.span-point.new.self.trace.notes
           c.args.to.now c.loop-set.to c.tell.new.to i.4 told.0),
-      subst (λ (b : Books). HasBooked p b (before c.span-point.new.self.state.now)) (sym c.in_ok-tell.ensures.booked)
+      subst (λ (b : Books). HasBooked p b (before c.span-point.new.self.state.now)) (sym c.in-Ok.ensures.booked)
           (span-booked g.G.Governor.demand p _ c.self.invariant.6 (λ i. refl) c.loop-set.progress.state.now c.span-point.new.self.state.now
           c.span-point.new.self.trace.notes c.loop-set.account c.span-point.result (omega (arith, span.limit, c.self.invariant.3))
           span.notes i.5 span.entry).1,
     )
 
-pub returns-in_err-tell-clause-told : goal.returns-in_err-tell-clause-told
-returns-in_err-tell-clause-told g c =
+pub returns-in-Err-clause-told : goal.returns-in-Err-clause-told
+returns-in-Err-clause-told g c =
     let m = g.L.Listener in
     let d = g.G.Governor.demand in
     let k = c.self.inside in
-    let told = c.in_err-tell.ensures.told in
+    let told = c.in-Err.ensures.told in
     let so_far = c.loop-set.invariant in
     let span = c.span-point.ensures in
-    let now = c.span-point.new.self.state.now in
-    let before = notes_before d k.plan.now (demands_of k.plan.now k.demands.now) in
-    let balked = balked_after m.heard m.balked (before c.loop-set.progress.state.now) c.span-point.new.self.trace.notes
-    c.args.to.now c.loop-set.to c.tell.new.to so_far.4 told.0 in
-    at_error (Tells m.heard m.balked m.stops c.args.to.now c.tell.new.to (notes_before_end_of d c.args.self)) c.from_residual.result
-    c.from_residual.ensures.0
-    (λ x. (
-      subst (λ (r : Run). HasBalked m.heard m.balked c.args.to.now (notes_before_end_of d r) c.tell.new.to) c.self.view_is
-          (all-keeps d k.plan.now (demands_of k.plan.now k.demands.now) (λ ns. HasBalked m.heard m.balked c.args.to.now ns c.tell.new.to)
-          (λ xs ys b. balked-append m.heard m.balked xs ys c.args.to.now c.tell.new.to b) now
-          (subst (λ ns. HasBalked m.heard m.balked c.args.to.now ns c.tell.new.to) (sym span.notes) balked) k.ticks span.limit span.between.decision),
+    let dem = demands_of k.plan.now k.demands.now in
+    let Balked : List Note → Type 0 = λ ns. HasBalked m.heard m.balked c.args.to.now ns c.tell.new.to in
+    let balked = balked_after m.heard m.balked (notes_before d k.plan.now dem c.loop-set.progress.state.now) c.span-point.new.self.trace.notes
+    c.args.to.now c.loop-set.to c.tell.new.to so_far.4 told.0 in (
+      subst (λ (r : Run). Balked (notes_before_end_of d r)) c.self.view_is
+          (all-keeps d k.plan.now dem Balked (λ xs ys b. balked-append m.heard m.balked xs ys c.args.to.now c.tell.new.to b)
+          c.span-point.new.self.state.now (subst Balked (sym span.notes) balked) k.ticks span.limit span.between.decision),
       omega (arith, so_far.3, told.1),
       omega (arith, so_far.3, told.2),
-    ))
+    )
 
 pub returns-clause-told : goal.returns-clause-told
 returns-clause-told g c =
     let d = g.G.Governor.demand in
     let k = c.self.inside in
     let i = c.loop-set.invariant in
+    let Heard : List Note → Type 0 = λ ns. HasHeard g.L.Listener.heard c.args.to.now ns c.loop-set.to in
     let all : c.loop-set.progress.state.now ≡ k.ticks = omega (arith, c.now.ensures, c.loop-set-test.false, i.2) in (
-      subst (λ (r : Run). HasHeard g.L.Listener.heard c.args.to.now (notes_before_end_of d r) c.loop-set.to) c.self.view_is
-          (subst (λ n. HasHeard g.L.Listener.heard c.args.to.now (notes_before d k.plan.now (demands_of k.plan.now k.demands.now) n) c.loop-set.to) all i.4),
+      subst (λ (r : Run). Heard (notes_before_end_of d r)) c.self.view_is
+          (subst (λ n. Heard (notes_before d k.plan.now (demands_of k.plan.now k.demands.now) n)) all i.4),
       i.3,
     )
 
@@ -124,3 +125,17 @@ returns-clause-booked g c =
     let all : c.loop-set.progress.state.now ≡ k.ticks = omega (arith, c.now.ensures, c.loop-set-test.false, i.2) in
     subst (λ (r : Run). HasBooked r.plan c.loop-set.account (notes_before_end_of d r)) c.self.view_is
     (subst (λ n. HasBooked k.plan.now c.loop-set.account (notes_before d k.plan.now (demands_of k.plan.now k.demands.now) n)) all i.5)
+
+pub returns-clause-totals : goal.returns-clause-totals
+returns-clause-totals g c = run-totals g.G.Governor.demand c.args.self c.loop-set.account (returns-clause-booked g c)
+
+pub returns-clause-few : goal.returns-clause-few
+returns-clause-few g c =
+    subst AreFew (sym (returns-clause-totals g c))
+    (run-few g.G.Governor.demand c.args.self (subst (λ (r : Run). IsAdmitted r.plan) c.self.view_is c.self.invariant.6))
+
+pub returns-clause-met : goal.returns-clause-met
+returns-clause-met g c = met-as c.self.view_is c.self.invariant.8
+
+pub returns-in-Err-clause-met : goal.returns-in-Err-clause-met
+returns-in-Err-clause-met g c = met-as c.self.view_is c.self.invariant.8

@@ -3,7 +3,7 @@ use Rattle.event_kernel.specs.SpanNotes.{all_booked, CanBook}
 use Rattle.event_kernel.specs.Heard.{HasHeard, HasBalked}
 use Rattle.event_kernel.proofs.notes.SpanNotes.tell.Given as goal
 
--- whatever is heard of the rest is heard of all, and the rest can be booked
+-- any listener that heard the rest, or balked in it, did so in all notes; the account has room for the rest
 abbrev pub invariant-loop-note : goal.invariant-loop-note
 invariant-loop-note g l =
     let rest = drop l.note-index l.note-items in

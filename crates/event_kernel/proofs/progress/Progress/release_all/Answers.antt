@@ -36,7 +36,7 @@ module _ {demand : Plan → StateOf → Frac} {set : Setting} (ok : IsSetting se
   periods : (i : ℕ) → 0 < period p i
   periods = (bounds p ok.admitted).some_period
 
-  -- the next task that is due
+  -- the step to the next task that is due
   module _ {i : ℕ} (d : IsFirstDue p st i) where
     at : Releasing p dem past i any st × (notes_upto p dem past m ≡ notes_upto p dem past i)
     at = at-due periods r ok.within.none d
@@ -46,7 +46,7 @@ module _ {demand : Plan → StateOf → Frac} {set : Setting} (ok : IsSetting se
         can-release periods at.0 d.below d.due (bounds p ok.admitted) (omega (arith, course-len demand p dem s0.now, here.early))
         (prior-done here i d.below)
 
-  -- no task is due
+  -- the end, where no task is due
   module _ (le : m ≤ count p) (none : (k : ℕ) → k < count p → (row_at st k).deadline ≢ st.now) where
     end : Releasing p dem past (count p) any st × (notes_upto p dem past m ≡ notes_upto p dem past (count p))
     end = at-end periods r ok.within.none le none

@@ -47,7 +47,7 @@ gives-now : (s : StateOf) (first : Option ℕ) (units : ℕ) → (gives s first 
 gives-now s None units = refl
 gives-now s (Some i) units = refl
 
--- the step
+-- the quiet ticks as one step
 module _ (g : Over) (c : goal.After-advance g) where
   abbrev st : StateOf
   st = c.args.self.now.state

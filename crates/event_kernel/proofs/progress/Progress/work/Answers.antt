@@ -74,7 +74,7 @@ enter-requires-then-rest-gt0-clause-can g c = can c.requires.set c.requires.at c
 pub enter-requires-then-rest-gt0-clause-fits : goal.enter-requires-then-rest-gt0-clause-fits
 enter-requires-then-rest-gt0-clause-fits g c = fits c.requires.set c.requires.at c.loop-rest.invariant.0
 
--- after the tick
+-- the state and the trace after the tick
 module _ (g : Over) (c : goal.After-advance g) where
   ends : (c.loop-rest.rest ≡ 0) ⊎ ((k : ℕ) → k < count c.args.set.now.plan.now → (row_at c.loop-rest.self.state k).done ≡ true)
   ends =
@@ -105,7 +105,7 @@ returns-clause-worked g c =
           (full ok at c.loop-rest.invariant.0 (omega arith)) (moved g c (ap (λ (x : Progress g.row.G.Denot). x.state) w.self-is)))
     ]
 
--- what the run looks up before the tick ends
+-- the counters and the agenda are right before the clock advances
 current : (g : Over) (c : goal.After-advance g) → IsCurrent g.G.Governor.stands c.args.set.now.plan.now c.if-rest-gt0.self
 current g c =
     elim c.if-rest-gt0.branch [

@@ -1,0 +1,80 @@
+-- Refusals of replays, and the lines of first differences, by evaluation.
+use Rattle.std.proofs.Common.{◌≡◌, ℕ, List, [], ◌∷◌, Ok, Err, refl}
+use Rattle.dvs_base.specs.declared.kind.Scheduler.TheVariants.{Edf}
+use Rattle.dvs_base.specs.declared.kind.GovernorKind.TheVariants.{Plain}
+use Rattle.dvs_base.specs.declared.kind.Version.{Version}
+use Rattle.dvs_base.specs.declared.kind.Version.TheVariants.{One, Two}
+use Rattle.dvs_base.specs.declared.note.Note.{Note}
+use Rattle.dvs_base.specs.declared.note.Note.TheVariants.{Release, Idle, Done, End}
+use Rattle.dvs_base.specs.declared.note.Pos.{Pos}
+use Rattle.sched_model.specs.Plan.{Plan, plan_of}
+use Rattle.trace_reader.specs.Traces.{TraceOf}
+use Rattle.replay_laws.specs.OwnList.{Asking}
+use Rattle.replay.specs.declared.fault.ReplayFault.TheVariants.{OverWorst, TooManyJobs, Differs}
+use Rattle.replay.specs.Comparing.{compared}
+use Rattle.replay.specs.Replays.{replay_of}
+
+-- a trace of a number of ticks with these notes
+abbrev trace_over : ℕ → Version → List Note → TraceOf
+trace_over ticks version notes =
+    record { version = version; plan = record { scheduler = Edf; governor = Plain; ticks = ticks }; notes = notes }
+
+abbrev trace : Version → List Note → TraceOf
+trace = trace_over 2
+
+abbrev at_tick : ℕ → Pos
+at_tick tick = record { tick = tick; offset = 0 }
+
+abbrev first : Note
+first = Release 0 0 1
+
+-- both ticks are idle
+abbrev idle : Note
+idle = Idle (at_tick 0) (at_tick 2) 8 0
+
+abbrev last : Note
+last = End 2 0 0
+
+-- in version 1 the second note is on line 4, after the version, the plan and the first note
+version_1 : compared 3 (trace One (first ∷ idle ∷ last ∷ [])) (first ∷ last ∷ []) ≡ Err (Differs 4 last idle)
+version_1 = refl
+
+-- in version 2 it is after the lines of three tasks too, also where the run has its end there
+end_wanted : compared 3 (trace Two (first ∷ idle ∷ last ∷ [])) (first ∷ last ∷ []) ≡ Err (Differs 7 last idle)
+end_wanted = refl
+
+-- the end of the trace is after the energies of the three tasks too
+end_found : compared 3 (trace Two (first ∷ last ∷ [])) (first ∷ idle ∷ last ∷ []) ≡ Err (Differs 10 idle last)
+end_found = refl
+
+-- an end differs where its energy does
+energy_of_end : compared 3 (trace One (last ∷ [])) (End 2 0 1 ∷ []) ≡ Err (Differs 3 (End 2 0 1) last)
+energy_of_end = refl
+
+-- for equal notes the totals are the answer
+equal_notes :
+    compared 3 (trace Two (first ∷ idle ∷ last ∷ [])) (first ∷ idle ∷ last ∷ [])
+    ≡ Ok (record { run = 0; idle = 0; released = 1; finished = 0; decisions = 0 })
+equal_notes = refl
+
+-- one task with period 1, whose worst case is 2 units with twice the charge of 1
+abbrev at_each_tick : Plan
+at_each_tick =
+    plan_of (record { name = 97 ∷ []; period = 1; worst = 2; offset = 0 } ∷ [])
+    (record { points = record { speed = 8; millivolts = 1000 } ∷ []; idle = 0; charge = 1 }) Edf
+
+-- its first job is done after `used` units
+abbrev done_with : ℕ → Note
+done_with used = Done (record { tick = 0; offset = used }) 0 1 used
+
+-- a job with 5 units is refused before too many jobs are
+ends_first :
+    (asked : Asking)
+    → replay_of at_each_tick asked (trace_over 100001 One (done_with 5 ∷ [])) ≡ Err (OverWorst 0 1 5 4)
+ends_first asked = refl
+
+-- a job with its worst case isn't refused, and too many jobs are refused before the notes are compared
+jobs_next :
+    (asked : Asking)
+    → replay_of at_each_tick asked (trace_over 100001 One (done_with 4 ∷ [])) ≡ Err (TooManyJobs 100001)
+jobs_next asked = refl
