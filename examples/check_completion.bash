@@ -1,4 +1,4 @@
-# Compares the completion of rtdvs.bash with the table of docs/FORMATS.md: bash examples/check_completion.bash
+# Compares the completion of rtdvs.bash with the table of README.md: bash examples/check_completion.bash
 # It prints a line for each difference, and ends with 1 where there is one. It is run at the top of the repository.
 source examples/rtdvs.bash
 bad=0
@@ -17,8 +17,8 @@ offers() {
 }
 
 [ "$(complete -p rtdvs)" = 'complete -F _rtdvs rtdvs' ] || { echo 'rtdvs has no completion'; bad=1; }
-rows=$(sed -n '/^| Command | Options/,/^$/p' docs/FORMATS.md | grep '^| `')
-[ "$(wc -l <<< "$rows")" -eq 9 ] || { echo 'docs/FORMATS.md: not nine commands'; bad=1; }
+rows=$(sed -n '/^| Command | Options/,/^$/p' README.md | grep '^| `')
+[ "$(wc -l <<< "$rows")" -eq 9 ] || { echo 'README.md: not nine commands'; bad=1; }
 offers '' -- $(cut -d '`' -f 2 <<< "$rows")
 while read -r row; do
     command=$(cut -d '`' -f 2 <<< "$row")
@@ -32,7 +32,7 @@ while read -r row; do
     done
 done <<< "$rows"
 
-cd examples/templates || exit 1
+cd crates/example_runs/data/templates || exit 1
 offers r -- run replay response
 offers run --scheduler '' -- edf rm
 offers run --governor '' -- none static cc la

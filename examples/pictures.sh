@@ -14,29 +14,28 @@ if [ $# -ne 1 ] || [ ! -x "$1" ]; then
     exit 2
 fi
 program=$(cd "$(dirname "$1")" && pwd)/$(basename "$1")
-cd "$(dirname "$0")"
-mkdir -p pictures
+cd "$(dirname "$0")/pictures"
 
-# picture FILE FOLDER SCHEDULER GOVERNOR TICKS OPTION..: the options are those of draw.awk.
+# picture FILE FOLDER SCHEDULER GOVERNOR TICKS OPTION..: FOLDER is one of the examples; the options are those of draw.awk.
 # A run that fails leaves no whole trace, and then draw.awk fails too.
-# shellcheck disable=SC2086  # no demand file is no word, and an awk may be two words
+# shellcheck disable=SC2086  # without a demand file there is no option, and an awk may be two words
 picture() {
-    file=$1 folder=$2 scheduler=$3 governor=$4 ticks=$5
+    file=$1 folder=../../crates/example_runs/data/$2 scheduler=$3 governor=$4 ticks=$5
     shift 5
     demands=
     if [ -f "$folder/demands.csv" ]; then demands="--demands $folder/demands.csv"; fi
     "$program" run --tasks "$folder/tasks.toml" --machine "$folder/machine.toml" $demands \
         --scheduler "$scheduler" --governor "$governor" --ticks "$ticks" --format 2 |
-        ${AWK:-awk} "$@" -f draw.awk > "$file.new" || { rm -f "$file.new"; exit 1; }
+        ${AWK:-awk} "$@" -f ../draw.awk > "$file.new" || { rm -f "$file.new"; exit 1; }
     mv "$file.new" "$file"
 }
 
-picture paper/edf_cc_with_demands.svg paper edf cc 16 -v top=4
+picture edf_cc_with_demands.svg paper edf cc 16 -v top=4
 for governor in none static cc la; do
-    picture "pictures/edf_$governor.svg" paper edf "$governor" 16 -v top=4 -v width=500
+    picture "edf_$governor.svg" paper edf "$governor" 16 -v top=4 -v width=500
 done
 for governor in none static cc; do
-    picture "pictures/rm_$governor.svg" paper rm "$governor" 16 -v top=4 -v width=500
+    picture "rm_$governor.svg" paper rm "$governor" 16 -v top=4 -v width=500
 done
-picture pictures/look_ahead.svg ahead edf la 3 -v width=700
-picture pictures/controller.svg controller edf cc 100 -v top=100 -v charge=2
+picture look_ahead.svg ahead edf la 3 -v width=700
+picture controller.svg controller edf cc 100 -v top=100 -v charge=2
