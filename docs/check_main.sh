@@ -1,0 +1,143 @@
+# sh check_main.sh PROGRAM: what the built program alone shows, and no contract and no stored run. These are its exit
+# status, what it writes to which of the two streams, its three probes and their limit, and words that aren't text.
+# It prints a line for each case and what differs, and ends with 1 where something does. What each case has to leave is
+# worked out from FORMATS.md. Cases over a full device are left out where there is none.
+case ${1:?no program} in
+/*) program=$1 ;;
+*) program=$PWD/$1 ;;
+esac
+[ -x "$program" ] || { echo "no program: $program"; exit 2; }
+devices=/dev work=${TMPDIR:-/tmp}/check_main.$$ cases=0 bad=0
+mkdir "$work" && cd "$work" || exit 2
+trap 'rm -r "$work"' EXIT
+trap 'exit 2' HUP INT PIPE TERM
+
+# the lines of a text, none where it is empty
+lines() { [ -z "$1" ] || printf '%s\n' "$1"; }
+
+# NAME STATUS OUT ERR: whether the last call, whose status is in `found`, left this
+check() {
+    lines "$3" > wanted.out
+    lines "$4" > wanted.err
+    cases=$((cases + 1)) same=yes
+    [ "$found" = "$2" ] || same=no
+    cmp -s out wanted.out || same=no
+    cmp -s err wanted.err || same=no
+    if [ $same = yes ]; then
+        echo "$1: status $found, $(wc -l < out | tr -d ' ') lines out, $(wc -l < err | tr -d ' ') lines err"
+    else
+        bad=$((bad + 1))
+        echo "$1: DIFFERS, status $found, wanted $2"
+        diff wanted.out out | sed 's/^/    out /'
+        diff wanted.err err | sed 's/^/    err /'
+    fi
+}
+
+# WORDS..: calls the program
+call() {
+    "$program" "$@" > out 2> err
+    found=$?
+}
+
+# A task with a unit in every second tick; one with a unit in each; one that asks for too much; one speed.
+printf '[[task]]\nname = "a"\nperiod = 2\nworst = 1\n' > tasks
+printf '[[task]]\nname = "a"\nperiod = 1\nworst = 1\n' > each
+printf '[[task]]\nname = "a"\nperiod = 2\nworst = 3\n' > much
+printf '[[point]]\nspeed = 1\nmillivolts = 1000\n' > machine
+printf 'task,job,units\na,1,2\n' > over
+: > empty
+two='--tasks tasks --machine machine'
+trace='trace 1
+plan edf none 2
+release 0 a 1
+speed 0 1 1/1
+run 0:0 1:0 a 1 1 1000000000
+done 1:0 a 1 1
+speed 1 1 1/1
+idle 1:0 2:0 1 0
+end 2 1000000000 0'
+run="run $two --scheduler edf --governor none --ticks 2"
+lines "$trace" > right
+sed 's/^speed 0 1 .*/speed 0 1 2\/2/' right > wrong
+
+call $run
+check 'a run' 0 "$trace" ''
+call $run --probes
+check 'a run with probes' 0 "$trace" 'probe 1 speeds all 2
+probe 2 units all 1
+probe 3 dones all 1'
+call admit $two --scheduler edf
+check 'admitted' 0 'admitted edf 1/2 1' ''
+call replay $two --trace right
+check 'replayed' 0 'replayed 1 1 1000000000 0' ''
+
+call admit --tasks much --machine machine --scheduler edf
+check 'denied' 1 '' 'denied edf 3 2'
+call
+check 'no words' 2 '' 'words: no command'
+call run --ticks 0
+check 'a word with a bad value' 2 '' 'words: 3: bad value 0'
+call admit $two --scheduler
+check 'no last word' 2 '' 'words: 6: no value for --scheduler'
+call é
+check 'a word that no name has' 2 '' 'words: 1: unknown command ??'
+call admit --tasks absent --machine machine --scheduler edf
+check 'an absent file' 3 '' 'load: tasks'
+call admit --tasks tasks --machine . --scheduler edf
+check 'a folder' 3 '' 'load: machine'
+call admit --tasks empty --machine machine --scheduler edf
+check 'a file that is refused' 4 '' 'tasks: no tasks'
+dd if=$devices/zero of=zeros bs=1 seek=16777215 count=1 2> err
+call admit --tasks zeros --machine machine --scheduler edf
+check 'a file of the most bytes' 4 '' 'tasks: not TOML'
+dd if=$devices/zero of=zeros bs=1 seek=16777216 count=1 2> err
+call admit --tasks zeros --machine machine --scheduler edf
+check 'a file of one byte more' 4 '' 'tasks: too long'
+call run --tasks each --machine machine --scheduler edf --governor none --ticks 100001
+check 'too many jobs' 5 '' 'limit: 100001 jobs, at most 100000'
+call $run --demands over
+check 'a demand over the worst case' 6 '' 'over worst: a 1 2 1'
+call replay $two --trace wrong
+check 'a trace that differs' 7 '' 'differs: line 4
+wanted: speed 0 1 1/1
+found: speed 0 1 2/2'
+
+if [ -c $devices/full ]; then
+    : > out
+    "$program" $run --probes > $devices/full 2> err
+    found=$?
+    check 'standard output is full' 8 '' 'write: out failed'
+    : > err
+    "$program" $run --probes > out 2> $devices/full
+    found=$?
+    check 'standard error is full, with probes' 0 "$trace" ''
+    "$program" admit --tasks much --machine machine --scheduler edf > out 2> $devices/full
+    found=$?
+    check 'standard error is full, denied' 1 '' ''
+fi
+
+# A byte that no UTF-8 text has, in a word of its own, in a value, and in the last word.
+byte=$(printf '\377')
+call "$byte"
+check 'a command that is not text' 10 '' ''
+call admit --tasks "tasks$byte" --machine machine --scheduler edf
+check 'a file name that is not text' 10 '' ''
+call admit $two --scheduler "edf$byte"
+check 'a last word that is not text' 10 '' ''
+
+# The probe of completions leaves at 50000. Of the trace the number of lines and the last one are compared: four lines
+# for each tick, two before them and one behind.
+for ticks in 49999 50000 100000; do
+    call run --tasks each --machine machine --scheduler edf --governor none --ticks $ticks --probes
+    { wc -l < out | tr -d ' ' && tail -n 1 out; } > ends
+    mv ends out
+    probes="probe 1 speeds all $ticks
+probe 2 units all $ticks"
+    [ $ticks -ge 50000 ] || probes="$probes
+probe 3 dones all $ticks"
+    check "$ticks completions" 0 "$((4 * ticks + 3))
+end $ticks ${ticks}000000000 0" "$probes"
+done
+
+echo "$cases cases, $bad differ"
+[ $bad = 0 ]
