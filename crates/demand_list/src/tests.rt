@@ -52,7 +52,7 @@ fn rows_of_a_file_are_read(rt: HostRuntime) -> Result<(), Fail> {
 }
 
 #[test]
-fn the_first_refusal_is_told(rt: HostRuntime) -> Result<(), Fail> {
+fn the_first_refusal_is_the_answer(rt: HostRuntime) -> Result<(), Fail> {
     let alloc = rt.alloc();
     let tasks = three_tasks(alloc)?;
     for (text, want) in [

@@ -29,7 +29,7 @@ fn a_line_is_put_together(rt: HostRuntime) {
 }
 
 #[test]
-fn names_are_told_from_other_texts(rt: HostRuntime) {
+fn names_differ_from_other_texts(rt: HostRuntime) {
     assert!(rt; Name::of(b"t-1_").is_some());
     assert!(rt; Name::of(b"t 1").is_none());
     assert!(rt; Name::of(b"").is_none());

@@ -92,7 +92,7 @@ fn an_offset_is_named_before_many_jobs(rt: HostRuntime) -> Result<(), Fail> {
 }
 
 #[test]
-fn the_first_refusal_is_told(rt: HostRuntime) -> Result<(), Fail> {
+fn the_first_refusal_is_the_answer(rt: HostRuntime) -> Result<(), Fail> {
     let alloc = rt.alloc();
     let tasks = TaskSet::read(alloc, TASKS.as_bytes()).map_err(|_| "tasks")?;
     let refusal = |text: &[u8]| Deadlines::read(alloc, text, &tasks).err();

@@ -25,7 +25,7 @@ mod tests {
         "[[point]]\nspeed = 2\nmillivolts = 3000\n[[point]]\nspeed = 3\nmillivolts = 4000\n[[point]]\nspeed = 4\nmillivolts = 5000\n";
 
     #[test]
-    fn the_first_trouble_is_the_refusal(rt: HostRuntime) -> Result<(), Fail> {
+    fn the_first_error_is_the_refusal(rt: HostRuntime) -> Result<(), Fail> {
         let alloc = rt.alloc();
         let missing = |place, field| MachineFault::Missing { place, field };
         let kind = |place, field| MachineFault::Kind { place, field };

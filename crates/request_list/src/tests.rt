@@ -64,7 +64,7 @@ fn the_header_is_checked_first(rt: HostRuntime) {
 }
 
 #[test]
-fn a_field_that_is_no_number_is_told(rt: HostRuntime) {
+fn a_field_that_is_not_a_number_is_refused(rt: HostRuntime) {
     let arrival = RequestColumn::Arrival;
     let units = RequestColumn::Units;
     for (text, row, column) in [
@@ -86,7 +86,7 @@ fn a_field_that_is_no_number_is_told(rt: HostRuntime) {
 }
 
 #[test]
-fn the_first_refusal_is_told(rt: HostRuntime) {
+fn the_first_refusal_is_the_answer(rt: HostRuntime) {
     let fields = |row, count| RequestFault::Fields { row, count };
     let range = |row| RequestFault::Range { row };
     let early = |row| RequestFault::Early { row };

@@ -129,7 +129,7 @@ fn answer(
 }
 
 #[test]
-fn responses_are_told_in_file_order(rt: HostRuntime) -> Result<(), Fail> {
+fn responses_are_in_file_order(rt: HostRuntime) -> Result<(), Fail> {
     for case in RESPONSES {
         let found = answer(rt.alloc(), case.tasks, case.machine)?.map_err(|_| "responses")?;
         assert_eq!(rt; found.as_slice(), case.responses, "{}", case.tasks);

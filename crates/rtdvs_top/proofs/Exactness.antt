@@ -115,8 +115,8 @@ module _ (r : TracedOf) (files : Files) (v : Version) (p : Plan) (g : GovernorKi
   traced-is = rw (of.machine_is, read-at, admitted) refl
 
   -- where the trace file is the text of a schedule, the answer is what is printed for its trace
-  pub told-done : trace_answer r files ≡ Ok (printed r.asked (p, t) (totals_of t.notes))
-  told-done = rw (of.tasks_are, traced-is, compared) refl
+  pub printed-done : trace_answer r files ≡ Ok (printed r.asked (p, t) (totals_of t.notes))
+  printed-done = rw (of.tasks_are, traced-is, compared) refl
 
 -- a file whose bytes are taken has these bytes
 held-file : (kind : FileKind) (held : Option (List ℕ)) (bytes : List ℕ) → bytes_from kind held ≡ Ok bytes → held ≡ Some bytes
@@ -222,7 +222,7 @@ of-trace (Some files) (traced r) loads_rose puts_rose s met answers = (
       let ok = subst (IsAnswer loads_rose puts_rose (trace_answer r files)) e answers in
       done-own r files m.0 m.2.0 m.2.1 m.1 m.2.2 m.2.3 ok,
   λ v p g ticks rows tells.
-      let ok = subst IsOk (sym (told-done r files v p g ticks rows tells.0 tells.1 tells.2)) refl in
+      let ok = subst IsOk (sym (printed-done r files v p g ticks rows tells.0 tells.1 tells.2)) refl in
       done-unless loads_rose puts_rose (trace_answer r files) s answers ok,
 )
 of-trace files c loads_rose puts_rose s met answers = tt

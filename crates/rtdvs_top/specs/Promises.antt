@@ -42,9 +42,9 @@ abbrev pub asked : List (String Global) → Result CommandOf WordFault
 asked words = command_of (map string_bytes words)
 
 -- the known files that the answer to the words depends on: those of the command; refused words need none
-abbrev pub files_told : Option Files → Result CommandOf WordFault → Option Files
-files_told held (Ok c) = files_for held c
-files_told held (Err why) = Some []
+abbrev pub known_files : Option Files → Result CommandOf WordFault → Option Files
+known_files held (Ok c) = files_for held c
+known_files held (Err why) = Some []
 
 -- The status is the answer's; or a load failed, and the shelf's count of faults rose; or a put failed, where the answer
 -- has a text, and the sink's count rose; or memory ran out.

@@ -133,7 +133,7 @@ fn end_line(word: &[u8], ticks: u64, run: u128, idle: u128) -> Line
 
 // A word, and then the line of a note.
 #[tactic(auto, unfolding(trace_text::specs::TraceLines::note_text))]
-fn told_line(word: &[u8], note: Note, tasks: Option<&TaskSet>) -> Line
+fn prefixed_note(word: &[u8], note: Note, tasks: Option<&TaskSet>) -> Line
     requires { length word.now ≤ 8 }
     ensures { result ≡ word.now ++ note_text (names_of (option_copied tasks.entry)) note }
 {
@@ -206,8 +206,8 @@ pub(crate) fn put_difference<E: Sink>(
         (difference_text (names_of (option_copied tasks.entry)) at.line at.wanted at.found) result }
 {
     let first = differs_line(at.line);
-    let wanted = told_line(b"wanted: ", at.wanted, tasks);
-    let found = told_line(b"found: ", at.found, tasks);
+    let wanted = prefixed_note(b"wanted: ", at.wanted, tasks);
+    let found = prefixed_note(b"found: ", at.found, tasks);
     match put_line(&first, notes) {
         Ok(()) => match put_two(&wanted, &found, notes) {
             Ok(()) => Ok(()),

@@ -11,7 +11,7 @@ ghost use Rattle.rtdvs_top.specs.Answered.{seen, IsAnswered};
 ghost use Rattle.rtdvs_top.specs.Probing.{LeavesProbes, ToldIn, asks_probes};
 ghost use Rattle.rtdvs_top.specs.Shown.{IsShown};
 ghost use Rattle.rtdvs_top.specs.Ending.{EndsAs, Leaves, MetIn};
-ghost use Rattle.rtdvs_top.specs.Promises.{asked, files_told, Answers, Writes, WritesPart, IsSureOf, LoadFailed, LoadsInOrder, loads_asked, OfRun, OfTests, OfPoll, Headline, OfLeast, Notes, Tells, probes_asked};
+ghost use Rattle.rtdvs_top.specs.Promises.{asked, known_files, Answers, Writes, WritesPart, IsSureOf, LoadFailed, LoadsInOrder, loads_asked, OfRun, OfTests, OfPoll, Headline, OfLeast, Notes, Tells, probes_asked};
 ghost use Rattle.rtdvs_top.specs.Exactness.{OfTrace};
 ghost use Rattle.rtdvs_top.specs.Testing.{TestedIn};
 ghost use Rattle.words.specs.Commands.{IsReadyCommand};
@@ -143,12 +143,12 @@ pub fn rtdvs<S: Shelf, W: Sink, E: Sink>(
     probes: &mut Vec<Box<dyn Probe>>,
 ) -> Status
     // which status, and when
-    ensures answers { Answers (files_told (S.shows shelf.old).held (asked words.now)) (asked words.now)
+    ensures answers { Answers (known_files (S.shows shelf.old).held (asked words.now)) (asked words.now)
         (Rose (S.shows shelf.old).faults (S.shows shelf.new).faults)
         (Rose (W.shows out.old).faults (W.shows out.new).faults) result }
     ensures words { (why : WordFault) → (result ≡ Status.Words why) ↔ (asked words.now ≡ Err why) }
     ensures load { LoadFailed (S.shows shelf.old) (S.shows shelf.new) (asked words.now) result }
-    ensures in_order { LoadsInOrder (files_told (S.shows shelf.old).held (asked words.now)) (asked words.now) result }
+    ensures in_order { LoadsInOrder (known_files (S.shows shelf.old).held (asked words.now)) (asked words.now) result }
     ensures write { result ≡ Status.Write → Rose (W.shows out.old).faults (W.shows out.new).faults }
 
     // what the status shows by itself
@@ -156,48 +156,48 @@ pub fn rtdvs<S: Shelf, W: Sink, E: Sink>(
 
     // what is on `out`
     ensures done { result ≡ Status.Done
-        → Writes (files_told (S.shows shelf.old).held (asked words.now)) (asked words.now)
+        → Writes (known_files (S.shows shelf.old).held (asked words.now)) (asked words.now)
         (W.shows out.old) (W.shows out.new) }
     ensures part { result ≡ Status.Write
-        → WritesPart (files_told (S.shows shelf.old).held (asked words.now)) (asked words.now)
+        → WritesPart (known_files (S.shows shelf.old).held (asked words.now)) (asked words.now)
         (W.shows out.old) (W.shows out.new) }
     ensures leaves { Leaves result out.old out.new }
 
     // admission, text, deadlines, speeds and energies of a run: where nothing failed, and where it is done or denied
-    ensures headline { Headline (files_told (S.shows shelf.old).held (asked words.now)) (asked words.now)
+    ensures headline { Headline (known_files (S.shows shelf.old).held (asked words.now)) (asked words.now)
         (Rose (S.shows shelf.old).faults (S.shows shelf.new).faults) (W.shows out.old) (W.shows out.new) result }
-    ensures run { OfRun (files_told (S.shows shelf.old).held (asked words.now)) (asked words.now)
+    ensures run { OfRun (known_files (S.shows shelf.old).held (asked words.now)) (asked words.now)
         (W.shows out.old) (W.shows out.new) result }
 
     // which trace files are replayed and migrated: those of a schedule, and for which demands
-    ensures exact { OfTrace (files_told (S.shows shelf.old).held (asked words.now)) (asked words.now)
+    ensures exact { OfTrace (known_files (S.shows shelf.old).held (asked words.now)) (asked words.now)
         (Rose (S.shows shelf.old).faults (S.shows shelf.new).faults)
         (Rose (W.shows out.old).faults (W.shows out.new).faults) result }
 
     // the exact tests: what one that is done proves of every schedule, and what one that denies proves of the worst
     // cases
-    ensures tested { OfTests (files_told (S.shows shelf.old).held (asked words.now)) (asked words.now) result }
+    ensures tested { OfTests (known_files (S.shows shelf.old).held (asked words.now)) (asked words.now) result }
 
     // what a `poll` run that is done has kept
-    ensures polled { OfPoll (files_told (S.shows shelf.old).held (asked words.now)) (asked words.now) result }
+    ensures polled { OfPoll (known_files (S.shows shelf.old).held (asked words.now)) (asked words.now) result }
 
     // `least`: a certificate that passes its check, and a bound on every choice and every schedule
-    ensures least { OfLeast (files_told (S.shows shelf.old).held (asked words.now)) (asked words.now)
+    ensures least { OfLeast (known_files (S.shows shelf.old).held (asked words.now)) (asked words.now)
         (W.shows out.old) (W.shows out.new) result }
 
     // what the shelf and the sink are sure of doesn't fail
-    ensures sure { IsSureOf (files_told (S.shows shelf.old).held (asked words.now)) (asked words.now) (W.shows out.old)
+    ensures sure { IsSureOf (known_files (S.shows shelf.old).held (asked words.now)) (asked words.now) (W.shows out.old)
         → (W.shows out.new).faults ≡ (W.shows out.old).faults }
     ensures loads { loads_asked (asked words.now) ≤ (S.shows shelf.old).sure
         → (S.shows shelf.new).faults ≡ (S.shows shelf.old).faults }
 
     // what is on `notes`
-    ensures notes { Notes (files_told (S.shows shelf.old).held (asked words.now)) (asked words.now)
+    ensures notes { Notes (known_files (S.shows shelf.old).held (asked words.now)) (asked words.now)
         (map (λ b. seen b) probes.new.items) result (E.shows notes.old) (E.shows notes.new) }
 
     // the probes: told the run's notes where the words ask for them, and else left as they are
     ensures kept { LeavesProbes (probes_asked (asked words.now)) result probes.old probes.new }
-    ensures told { Tells (files_told (S.shows shelf.old).held (asked words.now)) (asked words.now)
+    ensures told { Tells (known_files (S.shows shelf.old).held (asked words.now)) (asked words.now)
         (W.shows out.old) (W.shows out.new)
         (map (λ b. seen b) probes.old.items) (map (λ b. seen b) probes.new.items) result }
 {

@@ -24,7 +24,7 @@ mod tests {
         "[[task]]\nname = \"t1\"\nperiod = 8\nworst = 12\n[[task]]\nname = \"t2\"\nperiod = 10\nworst = 12\n[[task]]\nname = \"t3\"\nperiod = 14\nworst = 4\n";
 
     #[test]
-    fn the_first_trouble_is_the_refusal(rt: HostRuntime) {
+    fn the_first_error_is_the_refusal(rt: HostRuntime) {
         let missing = |place, field| TaskFault::Missing { place, field };
         let kind = |place, field| TaskFault::Kind { place, field };
         let range = |place, field| TaskFault::Range { place, field };

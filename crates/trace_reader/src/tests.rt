@@ -326,7 +326,7 @@ fn numbers_reach_their_last_value(rt: HostRuntime) -> Result<(), Fail> {
 }
 
 #[test]
-fn a_carriage_return_ends_no_line(rt: HostRuntime) -> Result<(), Fail> {
+fn a_carriage_return_does_not_end_a_line(rt: HostRuntime) -> Result<(), Fail> {
     let heads: [(&[u8], &[u8], u64, TraceKind); 4] = [
         (b"trace 1\r\nplan edf cc 16\n", THIRD, 1, TraceKind::Version),
         (b"trace 1\nplan edf cc 16\r\n", THIRD, 2, TraceKind::Plan),

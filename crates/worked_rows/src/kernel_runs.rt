@@ -88,7 +88,7 @@ fn a_run_tells_its_probes(rt: HostRuntime) -> Result<(), Fail> {
 
 // The first completion is line 8.
 #[test]
-fn a_note_is_not_told_whose_put_fails(rt: HostRuntime) -> Result<(), Fail> {
+fn no_note_is_heard_whose_put_fails(rt: HostRuntime) -> Result<(), Fail> {
     let alloc = rt.alloc();
     let Planned { plan, demands } = plan_of(alloc, PAPER_AT_WORST)?;
     let governor = Full::new(alloc, &plan)?;

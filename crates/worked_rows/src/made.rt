@@ -103,7 +103,7 @@ fn refused_jobs(alloc: Global, tasks: &TaskSet, ticks: u64) -> Result<Option<Ker
 }
 
 #[test]
-fn a_kernel_takes_so_many_jobs(rt: HostRuntime) -> Result<(), Fail> {
+fn a_kernel_takes_at_most_max_jobs(rt: HostRuntime) -> Result<(), Fail> {
     let tasks = paper_tasks(rt.alloc())?;
     let refused = refused_jobs(rt.alloc(), &tasks, 1_000_000)?;
     assert_eq!(rt; refused, Some(KernelFault::TooManyJobs { count: 296_429 }));

@@ -26,7 +26,7 @@ impl Shelf for FullShelf {
 }
 
 #[test]
-fn want_of_memory_for_a_file(rt: HostRuntime) -> Result<(), Fail> {
+fn out_of_memory_for_a_file(rt: HostRuntime) -> Result<(), Fail> {
     let alloc = rt.alloc();
     for line in [
         CONTROLLER_RUN.words,

@@ -50,7 +50,7 @@ fn done(notes: &str, failed: u64) -> Ending<'_> {
 
 // Each put of the trace fails in turn: the probe has counted the decisions of the lines before it, and no other.
 #[test]
-fn a_probe_is_told_the_lines_that_were_put(rt: HostRuntime) -> Result<(), Fail> {
+fn a_probe_hears_the_lines_that_were_put(rt: HostRuntime) -> Result<(), Fail> {
     let alloc = rt.alloc();
     let mut told = 0u64;
     let mut number = 1u64;

@@ -4,12 +4,12 @@ use Rattle.rtdvs_top.proofs.difference.put_difference.Goals as goal
 
 pub returns-in-Ok-put_two : goal.returns-in-Ok-put_two
 returns-in-Ok-put_two g c =
-    rw (c.differs_line-first.ensures.text, c.told_line-wanted.ensures, c.told_line-found.ensures)
+    rw (c.differs_line-first.ensures.text, c.prefixed_note-wanted.ensures, c.prefixed_note-found.ensures)
     at (wrote-then _ _ _ _ _ c.in-Ok.ensures c.in-Ok-put_two.ensures)
 
 pub returns-in-Err-put_two : goal.returns-in-Err-put_two
 returns-in-Err-put_two g c =
-    rw (c.differs_line-first.ensures.text, c.told_line-wanted.ensures, c.told_line-found.ensures)
+    rw (c.differs_line-first.ensures.text, c.prefixed_note-wanted.ensures, c.prefixed_note-found.ensures)
     at (wrote-then-some _ _ _ _ _ c.in-Ok.ensures c.in-Err-put_two.ensures)
 
 pub returns-in-Err : goal.returns-in-Err
