@@ -12,6 +12,3 @@ mod read;
 pub use demands::Demands;
 pub use fault::{Column, DemandFault};
 pub use read::worst_list;
-
-#[cfg(test)]
-mod tests;

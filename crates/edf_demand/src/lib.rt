@@ -16,6 +16,3 @@ mod walk;
 pub use deadlines::Deadlines;
 pub use fault::DeadlineFault;
 pub use lowest_speed::{ConstrainFault, Constrained, constrain};
-
-#[cfg(test)]
-mod tests;

@@ -11,6 +11,3 @@ mod segment;
 
 pub use account::Account;
 pub use segment::energy_of;
-
-#[cfg(test)]
-mod tests;

@@ -10,6 +10,3 @@ mod corner;
 mod least;
 
 pub use least::{Least, Over, check, least_energy};
-
-#[cfg(test)]
-mod tests;

@@ -18,6 +18,3 @@ mod tick;
 
 pub use schedule::plain_schedule;
 pub use tick::PlainTick;
-
-#[cfg(test)]
-mod tests;

@@ -18,6 +18,3 @@ mod taking;
 pub use fault::PollFault;
 pub use polling::poll;
 pub use served::{Outcome, Served};
-
-#[cfg(test)]
-mod tests;

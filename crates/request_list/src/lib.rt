@@ -12,6 +12,3 @@ mod requests;
 pub use fault::{RequestColumn, RequestFault};
 pub use limits::{MOST_REQUEST_UNITS, MOST_REQUESTS};
 pub use requests::{Request, Requests};
-
-#[cfg(test)]
-mod tests;

@@ -112,20 +112,18 @@ fn trace_of(alloc: Global, plan: &Admitted, demands: &Demands, ticks: u64) -> Re
         (record { plan = plan.now; demands = demands.now; ticks = ticks })) }
 {
     let governor = Reserve::new(plan);
-    let kernel = Kernel::new(alloc, plan, demands, governor, ticks).map_err(|_| "kernel")?;
-    let mut out = MemSink::new(alloc, 4096, &[]).map_err(|_| "out")?;
+    let kernel = Kernel::new(alloc, plan, demands, governor, ticks)?;
+    let mut out = MemSink::new(alloc, 4096, &[])?;
     let mut probes: Vec<CountProbe> = Vec::new(alloc);
-    kernel
-        .run(&mut out, &mut probes, Version::One)
-        .map_err(|_| "run")?;
+    kernel.run(&mut out, &mut probes, Version::One)?;
     Ok(Vec::from_slice(alloc, out.bytes())?)
 }
 
 #[test]
 fn example_of_three_tasks(rt: HostRuntime) -> Result<(), Fail> {
     let alloc = rt.alloc();
-    let tasks = TaskSet::read(alloc, TASKS.as_bytes()).map_err(|_| "tasks")?;
-    let machine = Machine::read(alloc, MACHINE.as_bytes()).map_err(|_| "machine")?;
+    let tasks = TaskSet::read(alloc, TASKS.as_bytes())?;
+    let machine = Machine::read(alloc, MACHINE.as_bytes())?;
     let Ok(demands) = Demands::read(alloc, DEMANDS.as_bytes(), &tasks) else {
         return Err("demands")?;
     };

@@ -11,8 +11,6 @@ mod bound;
 mod iteration;
 mod late;
 mod response;
-#[cfg(test)]
-mod tests;
 mod work;
 
 pub use response::{Response, ResponseFault, rm_response};

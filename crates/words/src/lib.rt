@@ -17,6 +17,3 @@ pub use command::{Command, Opt, WordFault};
 pub use given::TraceUse;
 pub use read::read_words;
 pub use table::option_word;
-
-#[cfg(test)]
-mod tests;

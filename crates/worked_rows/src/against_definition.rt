@@ -1,6 +1,6 @@
 // The kernel from event to event, the kernel tick by tick, and the schedule computed straight from its definition: all
 // three agree, under each pair of a scheduler and a governor.
-ghost use Rattle.std.specs.Prelude.{◌≤◌, ◌<◌, ◌^◌};
+ghost use Rattle.std.specs.Prelude.{◌≡◌};
 ghost use Rattle.sched_model.specs.States.{opening};
 ghost use Rattle.governor.specs.Serving.{ServesEdf, ServesRm};
 ghost use Rattle.event_kernel.specs.Runs.{IsListOf};
@@ -11,25 +11,25 @@ use crate::example::{
     ONE_BEYOND, PAPER_DEMANDS, PAPER_MACHINE, PAPER_TASKS,
 };
 use crate::generator::MadeFiles;
+use crate::plans::{Planned, edf_planned, rm_planned};
 use cc_edf::CcEdf;
 use cc_rm::CcRm;
 use demand_list::Demands;
 use dvs_base::{GovernorKind, Note, Pos, Totals};
-use edf_admit::{EdfFault, edf_admit};
 use event_kernel::{Kernel, Listener, Stopped};
-use freq_table::Machine;
 use governor::Governor;
 use look_ahead::LookAhead;
 use plain_schedule::{PlainTick, plain_schedule};
-use rm_admit::{RmFault, rm_admit};
 use sched_model::Admitted;
 use static_gov::{Full, Static};
 use std::alloc::{AllocError, Global};
 use std::process::Abort;
 use std::test::Fail;
-use task_model::TaskSet;
 
 const MOST_NOTES: usize = 1024;
+
+// The most ticks of a run that is compared.
+const MOST_COMPARED: u64 = 1024;
 
 const MOST_TASKS: usize = 8;
 
@@ -51,6 +51,11 @@ impl HeardNotes {
             notes: vec![in alloc; none; MOST_NOTES]?,
             count: 0,
         })
+    }
+
+    // The notes, if there was room for all of them.
+    fn all(&self) -> Option<&[Note]> {
+        self.notes.get(..self.count)
     }
 }
 
@@ -106,15 +111,16 @@ struct HeardTicks {
 }
 
 impl HeardTicks {
-    fn new(alloc: Global, ticks: usize) -> Result<HeardTicks, AllocError>
-        requires { ticks < 2 ^ 32 }
-    {
+    fn new(alloc: Global, ticks: u64) -> Result<HeardTicks, Fail> {
+        if ticks > MOST_COMPARED {
+            return Err("ticks")?;
+        }
         let silent = HeardTick {
             speed: 0,
             units: [0; MOST_TASKS],
         };
         Ok(HeardTicks {
-            ticks: vec![in alloc; silent; ticks]?,
+            ticks: vec![in alloc; silent; ticks as usize]?,
         })
     }
 
@@ -194,124 +200,233 @@ struct Setup<'a> {
     ticks: u64,
 }
 
+impl<'a> Setup<'a> {
+    // The runs of a case with this plan and these demands.
+    fn of(planned: &'a Planned, case: Case<'a>, ticks: u64) -> Setup<'a>
+        ensures plan { result.plan.now ≡ planned.now.plan }
+        ensures demands { result.demands.now ≡ planned.now.demands }
+    {
+        Setup {
+            name: case.words,
+            plan: &planned.plan,
+            demands: &planned.demands,
+            ticks,
+        }
+    }
+}
+
+// How a kernel goes through a run: from event to event, or tick by tick.
+#[derive(Clone, Copy)]
+enum Walk {
+    Events,
+    Ticks,
+}
+
+// What a run says: the kind of its governor, its notes and its totals.
+#[derive(Drop)]
+struct HeardRun {
+    kind: GovernorKind,
+    heard: HeardNotes,
+    totals: Totals,
+}
+
+// The run of a plan under a governor, on this walk.
+fn run_under<G: Governor>(
+    alloc: Global,
+    setup: &Setup<'_>,
+    governor: G,
+    walk: Walk,
+) -> Result<HeardRun, Fail>
+    requires list { IsListOf setup.now.plan.now setup.now.demands.now }
+    requires stands { G.stands governor setup.now.plan.now (opening setup.now.plan.now) }
+{
+    let ticks = setup.ticks;
+    if ticks == 0 || ticks > MOST_COMPARED {
+        return Err("ticks")?;
+    }
+    let kind = governor.kind();
+    let mut heard = HeardNotes::new(alloc)?;
+    let kernel = Kernel::new(alloc, setup.plan, setup.demands, governor, ticks)?;
+    let totals = match walk {
+        Walk::Events => kernel.drive(&mut heard)?,
+        Walk::Ticks => kernel.tick_drive(&mut heard)?,
+    };
+    Ok(HeardRun {
+        kind,
+        heard,
+        totals,
+    })
+}
+
+// The run of a plan under the governor of this kind that serves EDF.
+fn edf_run(
+    alloc: Global,
+    setup: &Setup<'_>,
+    kind: GovernorKind,
+    walk: Walk,
+) -> Result<HeardRun, Fail>
+    requires list { IsListOf setup.now.plan.now setup.now.demands.now }
+    requires serves { ServesEdf setup.now.plan.now.scheduler }
+{
+    let plan = setup.plan;
+    match kind {
+        GovernorKind::Plain => run_under(alloc, setup, Full::new(alloc, plan)?, walk),
+        GovernorKind::Fixed => run_under(alloc, setup, Static::new(alloc, plan)?, walk),
+        GovernorKind::Cycle => run_under(alloc, setup, CcEdf::new(alloc, plan)?, walk),
+        GovernorKind::Ahead => run_under(alloc, setup, LookAhead::new(alloc, plan)?, walk),
+    }
+}
+
+// The run of a plan under the governor of this kind that serves RM.
+fn rm_run(
+    alloc: Global,
+    setup: &Setup<'_>,
+    kind: GovernorKind,
+    walk: Walk,
+) -> Result<HeardRun, Fail>
+    requires list { IsListOf setup.now.plan.now setup.now.demands.now }
+    requires serves { ServesRm setup.now.plan.now.scheduler }
+{
+    let plan = setup.plan;
+    match kind {
+        GovernorKind::Plain => run_under(alloc, setup, Full::new(alloc, plan)?, walk),
+        GovernorKind::Fixed => run_under(alloc, setup, Static::new(alloc, plan)?, walk),
+        GovernorKind::Cycle => run_under(alloc, setup, CcRm::new(alloc, plan)?, walk),
+        GovernorKind::Ahead => Err("la serves EDF alone")?,
+    }
+}
+
+// Compares the notes of two runs one by one.
+fn expect_notes(rt: &impl Abort, name: &str, run: &HeardRun, other: &HeardRun) {
+    let kind = run.kind;
+    for (note, by_tick) in run.heard.notes.iter().zip(other.heard.notes.iter()) {
+        assert_eq!(rt; note, by_tick, "{name}, {kind:?}");
+    }
+}
+
+// Compares the number of notes and the totals of two runs, and the totals with those of the notes.
+fn expect_totals(
+    rt: &impl Abort,
+    name: &str,
+    run: &HeardRun,
+    other: &HeardRun,
+) -> Result<(), Fail> {
+    let kind = run.kind;
+    let counted = (other.heard.count, other.totals);
+    assert_eq!(rt; (run.heard.count, run.totals), counted, "{name}, {kind:?}");
+    let notes = run.heard.all().ok_or("room for the notes")?;
+    assert_eq!(rt; run.totals, totals_of(notes), "{name}, {kind:?}");
+    Ok(())
+}
+
+// The ticks of a run according to its notes, whose positions are right.
+fn heard_ticks(
+    rt: &(impl Abort + AllocGlobal),
+    setup: &Setup<'_>,
+    run: &HeardRun,
+) -> Result<HeardTicks, Fail> {
+    let name = setup.name;
+    let kind = run.kind;
+    let mut ticks = HeardTicks::new(rt.alloc(), setup.ticks)?;
+    for note in run.heard.all().ok_or("room for the notes")? {
+        assert!(rt; ticks.add(note), "{name}, {kind:?}: {note:?}");
+    }
+    Ok(ticks)
+}
+
 // Compares the speeds and the units in the notes of a run with those of the definition's schedule.
 fn expect_definition(
     rt: &(impl Abort + AllocGlobal),
     setup: &Setup<'_>,
-    kind: GovernorKind,
-    notes: &[Note],
+    run: &HeardRun,
 ) -> Result<(), Fail>
     requires list { IsListOf setup.now.plan.now setup.now.demands.now }
-    requires ticks { setup.now.ticks < 2 ^ 32 }
 {
-    let alloc = rt.alloc();
     let name = setup.name;
-    let want = plain_schedule(alloc, setup.plan, setup.demands, kind, setup.ticks).map_err(
-        |_| "ticks",
-    )?;
-    let mut ticks = HeardTicks::new(alloc, setup.ticks as usize)?;
-    for note in notes {
-        assert!(rt; ticks.add(note), "{name}, {kind:?}: {note:?}");
-    }
+    let kind = run.kind;
+    let want = plain_schedule(rt.alloc(), setup.plan, setup.demands, kind, setup.ticks)?;
+    let ticks = heard_ticks(rt, setup, run)?;
     assert!(rt; ticks.are(setup.plan, &want), "{name}, {kind:?}");
     Ok(())
 }
 
-// Compares the notes and totals of a run from event to event with a run tick by tick and with the definition.
-fn compare<G: Governor>(
+// Compares a run from event to event with that tick by tick, and with the definition.
+fn compare(
     rt: &(impl Abort + AllocGlobal),
     setup: &Setup<'_>,
-    governors: (G, G),
+    by_events: &HeardRun,
+    by_ticks: &HeardRun,
 ) -> Result<(), Fail>
     requires list { IsListOf setup.now.plan.now setup.now.demands.now }
-    requires some_ticks { 1 ≤ setup.now.ticks }
-    requires ticks { setup.now.ticks < 2 ^ 32 }
-    requires stands { G.stands governors.0 setup.now.plan.now (opening setup.now.plan.now) }
-    requires stands_too { G.stands governors.1 setup.now.plan.now (opening setup.now.plan.now) }
 {
-    let (governor, other) = governors;
-    let alloc = rt.alloc();
-    let name = setup.name;
-    let kind = governor.kind();
-    let mut heard = HeardNotes::new(alloc)?;
-    let kernel = Kernel::new(alloc, setup.plan, setup.demands, governor, setup.ticks).map_err(
-        |_| "kernel",
-    )?;
-    let totals = kernel.drive(&mut heard).map_err(|_| "run")?;
-    let mut by_ticks = HeardNotes::new(alloc)?;
-    let kernel = Kernel::new(alloc, setup.plan, setup.demands, other, setup.ticks).map_err(
-        |_| "kernel",
-    )?;
-    let totals_by_ticks = kernel.tick_drive(&mut by_ticks).map_err(|_| "run")?;
-    assert!(rt; heard.count <= heard.notes.len(), "{name}, {kind:?}");
-    assert_eq!(rt; heard.count, by_ticks.count, "{name}, {kind:?}");
-    for (note, by_tick) in heard.notes.iter().zip(by_ticks.notes.iter()) {
-        assert_eq!(rt; note, by_tick, "{name}, {kind:?}");
-    }
-    assert_eq!(rt; totals, totals_by_ticks, "{name}, {kind:?}");
-    assert_eq!(rt;
-        totals,
-        totals_of(&heard.notes[..heard.count]),
-        "{name}, {kind:?}"
-    );
-    expect_definition(rt, setup, kind, &heard.notes[..heard.count])
+    expect_notes(rt, setup.name, by_events, by_ticks);
+    expect_totals(rt, setup.name, by_events, by_ticks)?;
+    expect_definition(rt, setup, by_events)
 }
 
 // Compares the runs of a plan under each governor that serves EDF.
 fn compare_under_edf(rt: &(impl Abort + AllocGlobal), setup: &Setup<'_>) -> Result<(), Fail>
     requires list { IsListOf setup.now.plan.now setup.now.demands.now }
-    requires some_ticks { 1 ≤ setup.now.ticks }
-    requires ticks { setup.now.ticks < 2 ^ 32 }
     requires serves { ServesEdf setup.now.plan.now.scheduler }
 {
-    let alloc = rt.alloc();
-    let plan = setup.plan;
-    compare(
-        rt,
-        setup,
-        (Full::new(alloc, plan)?, Full::new(alloc, plan)?),
-    )?;
-    compare(
-        rt,
-        setup,
-        (Static::new(alloc, plan)?, Static::new(alloc, plan)?),
-    )?;
-    compare(
-        rt,
-        setup,
-        (CcEdf::new(alloc, plan)?, CcEdf::new(alloc, plan)?),
-    )?;
-    compare(
-        rt,
-        setup,
-        (LookAhead::new(alloc, plan)?, LookAhead::new(alloc, plan)?),
-    )
+    for kind in [
+        GovernorKind::Plain,
+        GovernorKind::Fixed,
+        GovernorKind::Cycle,
+        GovernorKind::Ahead,
+    ] {
+        let by_events = edf_run(rt.alloc(), setup, kind, Walk::Events)?;
+        let by_ticks = edf_run(rt.alloc(), setup, kind, Walk::Ticks)?;
+        compare(rt, setup, &by_events, &by_ticks)?;
+    }
+    Ok(())
 }
 
 // Compares the runs of a plan under each governor that serves RM.
 fn compare_under_rm(rt: &(impl Abort + AllocGlobal), setup: &Setup<'_>) -> Result<(), Fail>
     requires list { IsListOf setup.now.plan.now setup.now.demands.now }
-    requires some_ticks { 1 ≤ setup.now.ticks }
-    requires ticks { setup.now.ticks < 2 ^ 32 }
     requires serves { ServesRm setup.now.plan.now.scheduler }
 {
-    let alloc = rt.alloc();
-    let plan = setup.plan;
-    compare(
-        rt,
-        setup,
-        (Full::new(alloc, plan)?, Full::new(alloc, plan)?),
-    )?;
-    compare(
-        rt,
-        setup,
-        (Static::new(alloc, plan)?, Static::new(alloc, plan)?),
-    )?;
-    compare(
-        rt,
-        setup,
-        (CcRm::new(alloc, plan)?, CcRm::new(alloc, plan)?),
-    )
+    for kind in [
+        GovernorKind::Plain,
+        GovernorKind::Fixed,
+        GovernorKind::Cycle,
+    ] {
+        let by_events = rm_run(rt.alloc(), setup, kind, Walk::Events)?;
+        let by_ticks = rm_run(rt.alloc(), setup, kind, Walk::Ticks)?;
+        compare(rt, setup, &by_events, &by_ticks)?;
+    }
+    Ok(())
+}
+
+// Whether EDF admits a case; if so, its runs under EDF are compared.
+fn agrees_under_edf(
+    rt: &(impl Abort + AllocGlobal),
+    case: Case<'_>,
+    ticks: u64,
+) -> Result<bool, Fail> {
+    match edf_planned(rt.alloc(), case)? {
+        Some(planned) => {
+            compare_under_edf(rt, &Setup::of(&planned, case, ticks))?;
+            Ok(true)
+        }
+        None => Ok(false),
+    }
+}
+
+// Whether RM admits a case; if so, its runs under RM are compared.
+fn agrees_under_rm(
+    rt: &(impl Abort + AllocGlobal),
+    case: Case<'_>,
+    ticks: u64,
+) -> Result<bool, Fail> {
+    match rm_planned(rt.alloc(), case)? {
+        Some(planned) => {
+            compare_under_rm(rt, &Setup::of(&planned, case, ticks))?;
+            Ok(true)
+        }
+        None => Ok(false),
+    }
 }
 
 // Compares the runs of a case under each pair whose test it passes. Returns whether it passes the test under EDF,
@@ -320,50 +435,11 @@ fn compare_case(
     rt: &(impl Abort + AllocGlobal),
     case: Case<'_>,
     ticks: u64,
-) -> Result<(bool, bool), Fail>
-    requires some_ticks { 1 ≤ ticks }
-    requires ticks { ticks < 2 ^ 32 }
-{
-    let alloc = rt.alloc();
-    let name = case.words;
-    let tasks = TaskSet::read(alloc, case.tasks.as_bytes()).map_err(|_| "tasks")?;
-    let machine = Machine::read(alloc, case.machine.as_bytes()).map_err(|_| "machine")?;
-    let Ok(demands) = Demands::read(alloc, case.demands.as_bytes(), &tasks) else {
-        return Err("demands")?;
-    };
-    let under_edf = match edf_admit(alloc, &tasks, &machine) {
-        Ok(plan) => {
-            compare_under_edf(
-                rt,
-                &Setup {
-                    name,
-                    plan: &plan,
-                    demands: &demands,
-                    ticks,
-                },
-            )?;
-            true
-        }
-        Err(EdfFault::Denied { .. }) => false,
-        Err(EdfFault::NoMemory) => return Err("memory")?,
-    };
-    let under_rm = match rm_admit(alloc, &tasks, &machine) {
-        Ok(plan) => {
-            compare_under_rm(
-                rt,
-                &Setup {
-                    name,
-                    plan: &plan,
-                    demands: &demands,
-                    ticks,
-                },
-            )?;
-            true
-        }
-        Err(RmFault::Denied { .. }) => false,
-        Err(RmFault::NoMemory) => return Err("memory")?,
-    };
-    Ok((under_edf, under_rm))
+) -> Result<(bool, bool), Fail> {
+    Ok((
+        agrees_under_edf(rt, case, ticks)?,
+        agrees_under_rm(rt, case, ticks)?,
+    ))
 }
 
 #[test]
@@ -421,15 +497,19 @@ fn compare_made(rt: &(impl Abort + AllocGlobal), from: u64) -> Result<(u64, u64)
 #[test]
 fn made_runs_agree(rt: HostRuntime) -> Result<(), Fail> {
     let (under_edf, under_rm) = compare_made(&rt, 0)?;
-    assert!(rt; under_edf >= 100, "{under_edf}");
-    assert!(rt; under_rm >= 100, "{under_rm}");
+    assert!(rt;
+        under_edf >= 100 && under_rm >= 100,
+        "{under_edf} {under_rm}"
+    );
     Ok(())
 }
 
 #[test]
 fn further_made_runs_agree(rt: HostRuntime) -> Result<(), Fail> {
     let (under_edf, under_rm) = compare_made(&rt, 150)?;
-    assert!(rt; under_edf >= 100, "{under_edf}");
-    assert!(rt; under_rm >= 100, "{under_rm}");
+    assert!(rt;
+        under_edf >= 100 && under_rm >= 100,
+        "{under_edf} {under_rm}"
+    );
     Ok(())
 }

@@ -23,27 +23,13 @@ impl<'a> Case<'a> {
     }
 }
 
-// Compares a text with these lines, each ended by a line feed.
-pub(crate) fn expect_lines(
-    rt: &impl Abort,
-    text: &[u8],
-    lines: &[&str],
-    of: &str,
-) -> Result<(), Fail> {
-    let text = std::str::from_utf8(text).map_err(|_| "text")?;
+// Compares a trace with these lines, each ended by a line feed.
+pub(crate) fn expect_lines(rt: &impl Abort, trace: &[u8], lines: &[&str]) -> Result<(), Fail> {
+    let text = std::str::from_utf8(trace)?;
     let mut found = text.split('\n');
     for (before, line) in lines.iter().enumerate() {
-        assert_eq!(rt;
-            found.next().unwrap_or(""),
-            *line,
-            "after {before} lines of {of}"
-        );
+        assert_eq!(rt; found.next(), Some(*line), "after {before} lines");
     }
-    assert_eq!(rt;
-        found.next().unwrap_or("no line feed"),
-        "",
-        "after the lines of {of}"
-    );
-    assert!(rt; found.next().is_none(), "{of}");
+    assert_eq!(rt; (found.next(), found.next()), (Some(""), None));
     Ok(())
 }

@@ -2,11 +2,13 @@
 // millisecond at full speed. The demands are computed by hand.
 ghost use Rattle.std.specs.Prelude.{◌≡◌};
 ghost use Rattle.sched_model.specs.States.{opening, IsOfPlan};
+ghost use Rattle.governor.specs.Serving.{ServesEdf, ServesRm};
 ghost use Rattle.governor.specs.Steps.{IsAtDecision};
 
 use crate::plans::{edf_plan, paper_tasks, rm_plan};
 use cc_edf::CcEdf;
 use cc_rm::CcRm;
+use dvs_base::GovernorKind;
 use governor::{Choice, Governor};
 use grid_fraction::Frac;
 use look_ahead::LookAhead;
@@ -46,7 +48,7 @@ fn first_choice<G: Governor>(
 ) -> Result<Choice, Fail>
     requires { G.stands governor plan.now (opening plan.now) }
 {
-    let mut state = State::new(alloc, plan).map_err(|_| "state")?;
+    let mut state = State::new(alloc, plan)?;
     release_all(plan, &mut governor, &mut state);
     Ok(governor.choose(plan, &state))
 }
@@ -60,32 +62,55 @@ fn choice(index: u32, num: u128, den: u128) -> Choice {
     }
 }
 
+// The first choice of the governor of this kind that serves EDF.
+fn edf_choice(alloc: Global, plan: &Admitted, kind: GovernorKind) -> Result<Choice, Fail>
+    requires { ServesEdf plan.now.scheduler }
+{
+    match kind {
+        GovernorKind::Plain => first_choice(alloc, plan, Full::new(alloc, plan)?),
+        GovernorKind::Fixed => first_choice(alloc, plan, Static::new(alloc, plan)?),
+        GovernorKind::Cycle => first_choice(alloc, plan, CcEdf::new(alloc, plan)?),
+        GovernorKind::Ahead => first_choice(alloc, plan, LookAhead::new(alloc, plan)?),
+    }
+}
+
+// The first choice of the governor of this kind that serves RM.
+fn rm_choice(alloc: Global, plan: &Admitted, kind: GovernorKind) -> Result<Choice, Fail>
+    requires { ServesRm plan.now.scheduler }
+{
+    match kind {
+        GovernorKind::Plain => first_choice(alloc, plan, Full::new(alloc, plan)?),
+        GovernorKind::Fixed => first_choice(alloc, plan, Static::new(alloc, plan)?),
+        GovernorKind::Cycle => first_choice(alloc, plan, CcRm::new(alloc, plan)?),
+        GovernorKind::Ahead => Err("la serves EDF alone")?,
+    }
+}
+
 #[test]
 fn first_choices_under_edf(rt: HostRuntime) -> Result<(), Fail> {
     let alloc = rt.alloc();
-    let tasks = paper_tasks(alloc)?;
-    let plan = edf_plan(alloc, &tasks)?;
-    let full = Full::new(alloc, &plan)?;
-    assert_eq!(rt; first_choice(alloc, &plan, full)?, choice(2, 4, 1));
-    let fixed = Static::new(alloc, &plan)?;
-    assert_eq!(rt; first_choice(alloc, &plan, fixed)?, choice(1, 836, 280));
-    let cycle = CcEdf::new(alloc, &plan)?;
-    assert_eq!(rt; first_choice(alloc, &plan, cycle)?, choice(1, 836, 280));
-    let ahead = LookAhead::new(alloc, &plan)?;
-    assert_eq!(rt; first_choice(alloc, &plan, ahead)?, choice(1, 21, 8));
+    let plan = edf_plan(alloc, &paper_tasks(alloc)?)?;
+    for (kind, want) in [
+        (GovernorKind::Plain, choice(2, 4, 1)),
+        (GovernorKind::Fixed, choice(1, 836, 280)),
+        (GovernorKind::Cycle, choice(1, 836, 280)),
+        (GovernorKind::Ahead, choice(1, 21, 8)),
+    ] {
+        assert_eq!(rt; edf_choice(alloc, &plan, kind)?, want, "{kind:?}");
+    }
     Ok(())
 }
 
 #[test]
 fn first_choices_under_rm(rt: HostRuntime) -> Result<(), Fail> {
     let alloc = rt.alloc();
-    let tasks = paper_tasks(alloc)?;
-    let plan = rm_plan(alloc, &tasks)?;
-    let full = Full::new(alloc, &plan)?;
-    assert_eq!(rt; first_choice(alloc, &plan, full)?, choice(2, 4, 1));
-    let fixed = Static::new(alloc, &plan)?;
-    assert_eq!(rt; first_choice(alloc, &plan, fixed)?, choice(2, 52, 14));
-    let cycle = CcRm::new(alloc, &plan)?;
-    assert_eq!(rt; first_choice(alloc, &plan, cycle)?, choice(2, 28, 8));
+    let plan = rm_plan(alloc, &paper_tasks(alloc)?)?;
+    for (kind, want) in [
+        (GovernorKind::Plain, choice(2, 4, 1)),
+        (GovernorKind::Fixed, choice(2, 52, 14)),
+        (GovernorKind::Cycle, choice(2, 28, 8)),
+    ] {
+        assert_eq!(rt; rm_choice(alloc, &plan, kind)?, want, "{kind:?}");
+    }
     Ok(())
 }

@@ -3,16 +3,12 @@ ghost use Rattle.std.specs.Prelude.{◌≤◌};
 ghost use Rattle.dvs_base.specs.declared.limits.TheConstants.{MOST_TICKS};
 ghost use Rattle.governor.specs.Serving.{ServesEdf, ServesRm};
 
-use crate::example::{PAPER_MACHINE, PAPER_TASKS};
-use crate::plans::{edf_plan, paper_tasks};
+use crate::plans::{edf_plan, paper_tasks, rm_plan};
 use cc_edf::CcEdf;
 use cc_rm::CcRm;
 use demand_list::Demands;
-use edf_admit::edf_admit;
 use event_kernel::{Kernel, KernelFault};
-use freq_table::Machine;
 use look_ahead::LookAhead;
-use rm_admit::rm_admit;
 use sched_model::{Admitted, Row, State};
 use static_gov::{Full, Static};
 use std::alloc::Global;
@@ -41,16 +37,10 @@ fn made_under_rm(alloc: Global, plan: &Admitted) -> bool
 #[test]
 fn each_governor_is_made_for_its_plan(rt: HostRuntime) -> Result<(), Fail> {
     let alloc = rt.alloc();
-    let tasks = TaskSet::read(alloc, PAPER_TASKS.as_bytes()).map_err(|_| "tasks")?;
-    let machine = Machine::read(alloc, PAPER_MACHINE.as_bytes()).map_err(|_| "machine")?;
-    match edf_admit(alloc, &tasks, &machine) {
-        Ok(plan) => assert!(rt; made_under_edf(alloc, &plan)),
-        Err(_) => Err("edf")?,
-    }
-    match rm_admit(alloc, &tasks, &machine) {
-        Ok(plan) => assert!(rt; made_under_rm(alloc, &plan)),
-        Err(_) => Err("rm")?,
-    }
+    let tasks = paper_tasks(alloc)?;
+    let under_edf = made_under_edf(alloc, &edf_plan(alloc, &tasks)?);
+    let under_rm = made_under_rm(alloc, &rm_plan(alloc, &tasks)?);
+    assert_eq!(rt; (under_edf, under_rm), (true, true));
     Ok(())
 }
 
@@ -71,21 +61,16 @@ fn opened(alloc: Global, plan: &Admitted) -> Result<State, Fail> {
 #[test]
 fn first_release_opens_job_one(rt: HostRuntime) -> Result<(), Fail> {
     let alloc = rt.alloc();
-    let tasks = TaskSet::read(alloc, PAPER_TASKS.as_bytes()).map_err(|_| "tasks")?;
-    let machine = Machine::read(alloc, PAPER_MACHINE.as_bytes()).map_err(|_| "machine")?;
-    let plan = edf_admit(alloc, &tasks, &machine).map_err(|_| "plan")?;
+    let plan = edf_plan(alloc, &paper_tasks(alloc)?)?;
     let state = opened(alloc, &plan)?;
-    let row = state.rows.first().copied().ok_or("row")?;
-    assert_eq!(rt;
-        row,
-        Row {
-            deadline: 8,
-            job: 1,
-            used: 0,
-            done: false,
-            worst: 12
-        }
-    );
+    let row = Row {
+        deadline: 8,
+        job: 1,
+        used: 0,
+        done: false,
+        worst: 12,
+    };
+    assert_eq!(rt; state.rows.first(), Some(&row));
     Ok(())
 }
 
@@ -105,8 +90,13 @@ fn refused_jobs(alloc: Global, tasks: &TaskSet, ticks: u64) -> Result<Option<Ker
 #[test]
 fn a_kernel_takes_at_most_max_jobs(rt: HostRuntime) -> Result<(), Fail> {
     let tasks = paper_tasks(rt.alloc())?;
-    let refused = refused_jobs(rt.alloc(), &tasks, 1_000_000)?;
-    assert_eq!(rt; refused, Some(KernelFault::TooManyJobs { count: 296_429 }));
-    assert_eq!(rt; refused_jobs(rt.alloc(), &tasks, 300_000)?, None);
+    let refused = [
+        refused_jobs(rt.alloc(), &tasks, 1_000_000)?,
+        refused_jobs(rt.alloc(), &tasks, 300_000)?,
+    ];
+    assert_eq!(rt;
+        refused,
+        [Some(KernelFault::TooManyJobs { count: 296_429 }), None]
+    );
     Ok(())
 }

@@ -1,8 +1,9 @@
 // Worked values of single calls: numbers, fractions, entries, files and admissions.
 use crate::example::PAPER_TASKS;
+use crate::plans::{machine_of, tasks_of};
 use dvs_base::{MemShelf, Scheduler, Shelf, whole};
 use edf_admit::edf_admit;
-use freq_table::{Machine, Pick};
+use freq_table::Pick;
 use grid_fraction::{Frac, greater, lcm_within, meets, mul_down, up};
 use rm_admit::{RmFault, rm_admit};
 use sched_model::Admitted;
@@ -26,14 +27,19 @@ fn numbers_have_one_spelling(rt: HostRuntime) {
 
 #[test]
 fn fractions_are_exact(rt: HostRuntime) {
-    assert_eq!(rt; lcm_within(&[8, 10, 14], 280), Some(280));
-    assert_eq!(rt; lcm_within(&[8, 10, 14], 279), None);
-    assert_eq!(rt; lcm_within(&[], 1), Some(1));
-    assert_eq!(rt; up(1120, 6), 187);
-    assert_eq!(rt; mul_down(364, 6, 280), 7);
-    assert!(rt; meets(3, Frac { num: 836, den: 280 }));
-    assert!(rt; !meets(2, Frac { num: 836, den: 280 }));
-    assert!(rt; greater(Frac { num: 52, den: 14 }, Frac { num: 36, den: 10 }));
+    let multiples = [
+        lcm_within(&[8, 10, 14], 280),
+        lcm_within(&[8, 10, 14], 279),
+        lcm_within(&[], 1),
+    ];
+    assert_eq!(rt; multiples, [Some(280), None, Some(1)]);
+    assert_eq!(rt; (up(1120, 6), mul_down(364, 6, 280)), (187, 7));
+    let met = Frac { num: 836, den: 280 };
+    let compared = greater(Frac { num: 52, den: 14 }, Frac { num: 36, den: 10 });
+    assert_eq!(rt;
+        [meets(3, met), meets(2, met), compared],
+        [true, false, true]
+    );
 }
 
 #[test]
@@ -53,7 +59,7 @@ fn lowest_entry_that_meets(rt: HostRuntime) -> Result<(), Fail> {
             false,
         ),
     ] {
-        let machine = Machine::read(alloc, text.as_bytes()).map_err(|_| "machine")?;
+        let machine = machine_of(alloc, text)?;
         assert_eq!(rt; machine.lowest(Frac { num, den }), Pick { index: 1, met });
     }
     Ok(())
@@ -62,17 +68,17 @@ fn lowest_entry_that_meets(rt: HostRuntime) -> Result<(), Fail> {
 #[test]
 fn load_with_small_room(rt: HostRuntime) -> Result<(), Fail> {
     let alloc = rt.alloc();
-    let mut shelf = MemShelf::new(alloc, &[]).map_err(|_| "memory")?;
-    shelf.add("F", b"12345").map_err(|_| "memory")?;
-    let bytes = shelf.load(alloc, "F", 3).map_err(|_| "load")?;
+    let mut shelf = MemShelf::new(alloc, &[])?;
+    shelf.add("F", b"12345")?;
+    let bytes = shelf.load(alloc, "F", 3)?;
     assert_eq!(rt; bytes.as_slice(), b"1234".as_slice());
     Ok(())
 }
 
 // The error of admission under RM, if any.
 fn rm_refusal(alloc: Global, tasks: &str, machine: &str) -> Result<Option<RmFault>, Fail> {
-    let tasks = TaskSet::read(alloc, tasks.as_bytes()).map_err(|_| "tasks")?;
-    let machine = Machine::read(alloc, machine.as_bytes()).map_err(|_| "machine")?;
+    let tasks = tasks_of(alloc, tasks)?;
+    let machine = machine_of(alloc, machine)?;
     Ok(rm_admit(alloc, &tasks, &machine).err())
 }
 
@@ -111,32 +117,31 @@ pub(crate) fn file_of(alloc: Global, count: usize) -> Result<String, AllocError>
 #[test]
 fn sixty_four_tasks_are_the_most(rt: HostRuntime) -> Result<(), Fail> {
     let alloc = rt.alloc();
-    let most = TaskSet::read(alloc, file_of(alloc, MOST_TASKS)?.as_bytes()).map_err(
-        |_| "64 tasks",
-    )?;
+    let most = tasks_of(alloc, &file_of(alloc, MOST_TASKS)?)?;
     assert_eq!(rt; (most.count(), most.hyper()), (64, 64));
     let more = TaskSet::read(alloc, file_of(alloc, MOST_TASKS + 1)?.as_bytes());
     assert!(rt; matches!(more, Err(TaskFault::TooMany { count: 65 })));
     Ok(())
 }
 
+// The place of the task with this name, its period and its worst case.
+fn found_task(set: &TaskSet, name: &str) -> Option<(u32, u64, u64)> {
+    let place = set.find(name.as_bytes())?;
+    if place >= set.count() {
+        return None;
+    }
+    let task = set.task(place);
+    Some((place, task.period, task.worst))
+}
+
 #[test]
 fn written_task_set_is_read_again(rt: HostRuntime) -> Result<(), Fail> {
     let alloc = rt.alloc();
-    let set = TaskSet::read(alloc, PAPER_TASKS.as_bytes()).map_err(|_| "tasks")?;
-    let text = set.write(alloc).map_err(|_| "text")?;
-    let back = TaskSet::read(alloc, text.as_bytes()).map_err(|_| "written")?;
+    let text = tasks_of(alloc, PAPER_TASKS)?.write(alloc)?;
+    let back = tasks_of(alloc, &text)?;
     assert_eq!(rt; (back.count(), back.hyper()), (3, 280));
-    for (i, (name, period, worst)) in [("t1", 8, 12), ("t2", 10, 12), ("t3", 14, 4)]
-        .iter()
-        .enumerate()
-    {
-        let i = i as u32;
-        assert_eq!(rt; back.find(name.as_bytes()), Some(i), "{name}");
-        if i < back.count() {
-            let task = back.task(i);
-            assert_eq!(rt; (task.period, task.worst), (*period, *worst), "{name}");
-        }
+    for (name, found) in [("t1", (0, 8, 12)), ("t2", (1, 10, 12)), ("t3", (2, 14, 4))] {
+        assert_eq!(rt; found_task(&back, name), Some(found), "{name}");
     }
     Ok(())
 }
@@ -176,31 +181,62 @@ fn rm_order(alloc: Global, plan: &Admitted) -> Result<Vec<u32>, AllocError> {
     Ok(tasks)
 }
 
+// The name of a task.
+fn name_of(plan: &Admitted, task: usize) -> Option<&[u8]> {
+    Some(plan.names().get(task)?.as_bytes())
+}
+
 #[test]
-fn parts_of_a_plan(rt: HostRuntime) -> Result<(), Fail> {
+fn tasks_of_a_plan(rt: HostRuntime) -> Result<(), Fail> {
     let alloc = rt.alloc();
-    let tasks = TaskSet::read(alloc, UNSORTED.as_bytes()).map_err(|_| "tasks")?;
-    let machine = Machine::read(alloc, CHARGED.as_bytes()).map_err(|_| "machine")?;
-    let plan = edf_admit(alloc, &tasks, &machine).map_err(|_| "edf")?;
-    for (task, (name, numbers)) in [
-        ("slow", [12, 7, 1, 3]),
-        ("fast", [4, 0, 1, 3]),
-        ("even", [6, 0, 2, 4]),
-    ]
-    .iter()
-    .enumerate()
-    {
-        assert_eq!(rt; numbers_of(&plan, task as u32), Some(*numbers), "{name}");
-        let found = plan.names().get(task).ok_or("name")?;
-        assert_eq!(rt; found.as_bytes(), name.as_bytes());
+    let plan = edf_admit(
+        alloc,
+        &tasks_of(alloc, UNSORTED)?,
+        &machine_of(alloc, CHARGED)?,
+    )?;
+    for (task, name, numbers) in [
+        (0, "slow", [12, 7, 1, 3]),
+        (1, "fast", [4, 0, 1, 3]),
+        (2, "even", [6, 0, 2, 4]),
+    ] {
+        assert_eq!(rt; numbers_of(&plan, task), Some(numbers), "{name}");
+        assert_eq!(rt;
+            name_of(&plan, task as usize),
+            Some(name.as_bytes()),
+            "{name}"
+        );
     }
-    assert_eq!(rt; (plan.count(), plan.hyper()), (3, 12));
+    Ok(())
+}
+
+#[test]
+fn parts_of_a_plan_under_edf(rt: HostRuntime) -> Result<(), Fail> {
+    let alloc = rt.alloc();
+    let plan = edf_admit(
+        alloc,
+        &tasks_of(alloc, UNSORTED)?,
+        &machine_of(alloc, CHARGED)?,
+    )?;
     assert_eq!(rt; plan.scheduler(), Scheduler::Edf);
+    let demand = Frac { num: 20, den: 12 };
+    assert_eq!(rt;
+        (plan.count(), plan.hyper(), plan.static_demand()),
+        (3, 12, demand)
+    );
     assert_eq!(rt; plan.machine().charge(), 1);
     assert_eq!(rt; rm_order(alloc, &plan)?.as_slice(), [1, 2, 0].as_slice());
-    assert_eq!(rt; plan.static_demand(), Frac { num: 20, den: 12 });
-    // The levels of `even` and of `slow` ask for equal shares, and `even` comes first.
-    let plan = rm_admit(alloc, &tasks, &machine).map_err(|_| "rm")?;
+    Ok(())
+}
+
+// The levels of `even` and of `slow` ask for equal shares, and `even` comes first.
+#[test]
+fn static_demand_of_a_plan_under_rm(rt: HostRuntime) -> Result<(), Fail> {
+    let alloc = rt.alloc();
+    let plan = rm_admit(
+        alloc,
+        &tasks_of(alloc, UNSORTED)?,
+        &machine_of(alloc, CHARGED)?,
+    )?;
     assert_eq!(rt; plan.scheduler(), Scheduler::Rm);
     assert_eq!(rt; plan.static_demand(), Frac { num: 10, den: 6 });
     Ok(())

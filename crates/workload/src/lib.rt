@@ -9,6 +9,3 @@ mod draws;
 mod made;
 
 pub use made::make;
-
-#[cfg(test)]
-mod tests;

@@ -1,0 +1,76 @@
+// What probes count, alone and in a list.
+use dvs_base::{Note, Pos};
+use probes::{CountProbe, Probe, Rule, Stay, TableProbe, What, tell_all};
+use std::alloc::Global;
+use std::test::Fail;
+
+const RELEASE: Note = Note::Release {
+    tick: 0,
+    task: 0,
+    job: 1,
+};
+
+fn rule(what: What, task: Option<u32>, limit: Option<u64>) -> Rule {
+    Rule { what, task, limit }
+}
+
+fn segment(task: u32, units: u64) -> Note {
+    Note::Run {
+        from: Pos { tick: 0, offset: 0 },
+        to: Pos { tick: 1, offset: 0 },
+        task,
+        job: 1,
+        units,
+        energy: 0,
+    }
+}
+
+#[test]
+fn a_probe_at_its_limit_leaves(rt: HostRuntime) -> Result<(), Fail> {
+    let alloc = rt.alloc();
+    let mut probes: Vec<Box<dyn Probe>> = Vec::new(alloc);
+    probes.push(Box::new(alloc, CountProbe::new(rule(What::Releases, None, Some(1))))?)?;
+    probes.push(Box::new(alloc, CountProbe::new(rule(What::Releases, None, None)))?)?;
+    tell_all(&mut probes, &RELEASE);
+    assert_eq!(rt; probes.len(), 1);
+    assert_eq!(rt; probes[0].tally(), 1);
+    assert!(rt; probes[0].rule() == rule(What::Releases, None, None));
+    Ok(())
+}
+
+#[test]
+fn those_that_stay_keep_their_order(rt: HostRuntime) -> Result<(), Fail> {
+    let alloc = rt.alloc();
+    let mut probes: Vec<Box<dyn Probe>> = Vec::new(alloc);
+    probes.push(Box::new(alloc, TableProbe::new(rule(What::Units, None, None)))?)?;
+    probes.push(Box::new(alloc, CountProbe::new(rule(What::Units, Some(1), Some(5))))?)?;
+    probes.push(Box::new(alloc, TableProbe::new(rule(What::Units, Some(0), Some(9))))?)?;
+    tell_all(&mut probes, &segment(1, 4));
+    tell_all(&mut probes, &segment(0, 8));
+    assert_eq!(rt; probes.len(), 3);
+    tell_all(&mut probes, &segment(1, 1));
+    assert_eq!(rt; probes.len(), 2);
+    assert_eq!(rt; probes[0].tally(), 13);
+    assert_eq!(rt; probes[1].tally(), 8);
+    Ok(())
+}
+
+#[test]
+fn a_tally_stops_at_the_highest(rt: HostRuntime) -> Result<(), Fail> {
+    let mut count = CountProbe::new(rule(What::Units, None, Some(u64::MAX)));
+    let first = count.tell(&segment(0, u64::MAX - 1));
+    assert!(rt; first == Stay::Stay);
+    let second = count.tell(&segment(63, 2));
+    assert!(rt; second == Stay::Leave);
+    assert_eq!(rt; count.tally(), u64::MAX);
+    Ok(())
+}
+
+#[test]
+fn a_table_stops_at_the_highest(rt: HostRuntime) -> Result<(), Fail> {
+    let mut table = TableProbe::new(rule(What::Units, None, None));
+    let _ = table.tell(&segment(0, u64::MAX - 1));
+    let _ = table.tell(&segment(63, 2));
+    assert_eq!(rt; table.tally(), u64::MAX);
+    Ok(())
+}

@@ -1,0 +1,144 @@
+// Deadline files, and the lowest speed for deadlines up to the periods. Unless a case says otherwise, the tasks are a
+// (period 4, worst case 2) and b (period 6, worst case 3).
+use dvs_base::Short;
+use edf_demand::{ConstrainFault, Constrained, DeadlineFault, Deadlines, constrain};
+use freq_table::Machine;
+use grid_fraction::Frac;
+use std::process::Abort;
+use std::test::Fail;
+use task_model::TaskSet;
+
+const TASKS: &str =
+    r#"task = [{name = "a", period = 4, worst = 2}, {name = "b", period = 6, worst = 3}]"#;
+
+const TWO_SPEEDS: &str = "point = [{speed = 1, millivolts = 1000}, {speed = 2, millivolts = 1000}]";
+
+const ONE_SPEED: &str = "point = [{speed = 1, millivolts = 1000}]";
+
+// The answer for a task file, a machine file and a deadline file is this one.
+fn answers(
+    rt: &(impl Abort + AllocGlobal),
+    files: [&str; 3],
+    want: Result<Constrained, ConstrainFault>,
+) -> Result<(), Fail> {
+    let alloc = rt.alloc();
+    let [tasks, machine, deadlines] = files;
+    let tasks = TaskSet::read(alloc, tasks.as_bytes()).map_err(|_| "tasks")?;
+    let machine = Machine::read(alloc, machine.as_bytes()).map_err(|_| "machine")?;
+    let deadlines = Deadlines::read(alloc, deadlines.as_bytes(), &tasks).map_err(|_| "deadlines")?;
+    assert_eq!(rt; constrain(alloc, &tasks, &deadlines, &machine), want);
+    Ok(())
+}
+
+#[test]
+fn the_greatest_demand_decides(rt: HostRuntime) -> Result<(), Fail> {
+    let late = Constrained {
+        demand: Frac { num: 7, den: 6 },
+        point: 1,
+    };
+    answers(
+        &rt,
+        [TASKS, TWO_SPEEDS, "task,deadline\na,2\nb,5\n"],
+        Ok(late),
+    )?;
+    let denied = ConstrainFault::Denied {
+        at: 6,
+        num: 7,
+        cap: 6,
+    };
+    answers(
+        &rt,
+        [TASKS, ONE_SPEED, "task,deadline\na,2\nb,5\n"],
+        Err(denied),
+    )?;
+    let periods = Constrained {
+        demand: Frac { num: 12, den: 12 },
+        point: 0,
+    };
+    answers(&rt, [TASKS, TWO_SPEEDS, "task,deadline\n"], Ok(periods))
+}
+
+#[test]
+fn of_equal_demands_the_earliest_is_named(rt: HostRuntime) -> Result<(), Fail> {
+    // one unit is due by tick 1, and two by tick 2
+    let tasks =
+        r#"task = [{name = "a", period = 4, worst = 1}, {name = "b", period = 4, worst = 1}]"#;
+    let first = Constrained {
+        demand: Frac { num: 1, den: 1 },
+        point: 0,
+    };
+    answers(
+        &rt,
+        [tasks, TWO_SPEEDS, "task,deadline\na,1\nb,2\n"],
+        Ok(first),
+    )
+}
+
+#[test]
+fn an_offset_is_named_before_many_jobs(rt: HostRuntime) -> Result<(), Fail> {
+    let many = r#"task = [
+    {name = "a", period = 1, worst = 1},
+    {name = "b", period = 100000, worst = 1, offset = 3},
+]"#;
+    let offset = ConstrainFault::Offset { task: 1 };
+    answers(&rt, [many, ONE_SPEED, "task,deadline\n"], Err(offset))?;
+    let many = r#"task = [
+    {name = "a", period = 1, worst = 1},
+    {name = "b", period = 100000, worst = 1},
+]"#;
+    let jobs = ConstrainFault::TooManyJobs { count: 100001 };
+    answers(&rt, [many, ONE_SPEED, "task,deadline\n"], Err(jobs))
+}
+
+#[test]
+fn the_first_refusal_is_the_answer(rt: HostRuntime) -> Result<(), Fail> {
+    let alloc = rt.alloc();
+    let tasks = TaskSet::read(alloc, TASKS.as_bytes()).map_err(|_| "tasks")?;
+    for (text, want) in [
+        (b"".as_slice(), DeadlineFault::Header),
+        (b"task,job\na,0\n", DeadlineFault::Header),
+        (
+            b"task,deadline\na,1\na\n",
+            DeadlineFault::Fields { row: 2, count: 1 },
+        ),
+        (
+            b"task,deadline\nc,x\n",
+            DeadlineFault::UnknownTask {
+                row: 1,
+                name: Short::of(b"c"),
+            },
+        ),
+        (
+            b"task,deadline\na,01\n",
+            DeadlineFault::BadNumber { row: 1 },
+        ),
+        (b"task,deadline\na,5\n", DeadlineFault::Range { row: 1 }),
+        (b"task,deadline\na,0\n", DeadlineFault::Range { row: 1 }),
+        (
+            b"task,deadline\nb,6\nb,7\n",
+            DeadlineFault::Range { row: 2 },
+        ),
+        (
+            b"task,deadline\nb,6\nb,5\n",
+            DeadlineFault::Repeated { row: 2, task: 1 },
+        ),
+    ] {
+        let found = Deadlines::read(alloc, text, &tasks).err();
+        assert_eq!(rt; found, Some(want));
+    }
+    Ok(())
+}
+
+#[test]
+fn a_task_without_a_row_has_its_period(rt: HostRuntime) -> Result<(), Fail> {
+    let alloc = rt.alloc();
+    let tasks = TaskSet::read(alloc, TASKS.as_bytes()).map_err(|_| "tasks")?;
+    let deadlines = Deadlines::read(alloc, b"task,deadline\nb,5\n", &tasks).map_err(
+        |_| "deadlines",
+    )?;
+    if tasks.count() != 2 {
+        return Err("tasks".into());
+    }
+    assert_eq!(rt; [deadlines.of(0), deadlines.of(1)], [4, 5]);
+    Ok(())
+}

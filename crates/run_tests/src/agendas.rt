@@ -1,0 +1,50 @@
+// The agenda of the state before the first release.
+use agenda::Agenda;
+use dvs_base::Scheduler;
+use freq_table::Machine;
+use sched_model::{Admitted, State, total_rate};
+use std::alloc::Global;
+use std::test::Fail;
+use task_model::TaskSet;
+
+const LATE: &[u8] =
+    b"task = [{name = \"t1\", period = 8, worst = 1, offset = 3}, {name = \"t2\", period = 9, worst = 1, offset = 2}]";
+
+const AT_ONCE: &[u8] =
+    b"task = [{name = \"t1\", period = 8, worst = 1, offset = 3}, {name = \"t2\", period = 9, worst = 1}]";
+
+const MACHINE: &[u8] = b"point = [{speed = 1, millivolts = 1000}]";
+
+fn edf_plan(alloc: Global, tasks: &[u8]) -> Result<Admitted, Fail> {
+    let tasks = TaskSet::read(alloc, tasks).map_err(|_| "tasks")?;
+    let machine = Machine::read(alloc, MACHINE).map_err(|_| "machine")?;
+    if total_rate(&tasks, &machine) > u128::from(machine.top()) * u128::from(tasks.hyper()) {
+        return Err("denied")?;
+    }
+    Ok(Admitted::with(alloc, &tasks, &machine, Scheduler::Edf).map_err(|_| "memory")?)
+}
+
+// The first task with an incomplete job, the next release and the first task that is released now.
+fn looked_up(alloc: Global, tasks: &[u8]) -> Result<(Option<u32>, u64, Option<u32>), Fail> {
+    let plan = edf_plan(alloc, tasks)?;
+    let Ok(state) = State::new(alloc, &plan) else {
+        return Err("state")?;
+    };
+    let Ok(agenda) = Agenda::new(alloc, &plan) else {
+        return Err("agenda")?;
+    };
+    Ok((
+        agenda.first_ready(&plan, &state),
+        agenda.next_release(&plan, &state),
+        agenda.first_due(&plan, &state),
+    ))
+}
+
+#[test]
+fn the_next_release_is_the_least_offset(rt: HostRuntime) -> Result<(), Fail> {
+    let late = looked_up(rt.alloc(), LATE)?;
+    assert_eq!(rt; late, (None, 2, None));
+    let at_once = looked_up(rt.alloc(), AT_ONCE)?;
+    assert_eq!(rt; at_once, (None, 0, Some(1)));
+    Ok(())
+}

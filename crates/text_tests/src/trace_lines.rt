@@ -1,0 +1,50 @@
+// Lines of the example of Pillai and Shin 2001.
+use dvs_base::{GovernorKind, Line, Name, Note, Pos, Scheduler};
+use std::test::Fail;
+use trace_text::{PlanLine, write_head, write_note};
+
+const START: Pos = Pos { tick: 0, offset: 0 };
+
+const LATER: Pos = Pos { tick: 2, offset: 2 };
+
+const NOTES: &[(Note, &[u8])] = &[
+    (
+        Note::Run {
+            from: START,
+            to: LATER,
+            task: 0,
+            job: 1,
+            units: 8,
+            energy: 128000000000,
+        },
+        b"run 0:0 2:2 t1 1 8 128000000000\n",
+    ),
+    (
+        Note::Speed {
+            tick: 0,
+            speed: 3,
+            num: 836,
+            den: 280,
+        },
+        b"speed 0 3 836/280\n",
+    ),
+];
+
+#[test]
+fn lines_of_the_paper_example(rt: HostRuntime) -> Result<(), Fail> {
+    let names = [Name::of(b"t1").ok_or("name")?];
+    let plan = PlanLine {
+        scheduler: Scheduler::Edf,
+        governor: GovernorKind::Cycle,
+        ticks: 16,
+    };
+    let mut line = Line::new();
+    write_head(&mut line, plan);
+    assert_eq!(rt; line.as_bytes(), b"plan edf cc 16\n".as_slice());
+    for (note, text) in NOTES {
+        let mut line = Line::new();
+        write_note(&mut line, note, &names);
+        assert_eq!(rt; line.as_bytes(), *text);
+    }
+    Ok(())
+}
