@@ -1,6 +1,6 @@
 -- Handing out the units of a mark in RM order: each task gets what is left of its allotment there.
 use Rattle.std.proofs.Common.{◌≡◌, ◌≢◌, ℕ, ◌+◌, ◌-◌, ◌<◌, min, Bool, true, false, eqb, List, ◌∷◌, length, length-set}
-use Rattle.std.proofs.Common.{get_or-set_same, get_or-set_other, refl, sym, ◌∙◌, ap, arith, if◌then◌else◌}
+use Rattle.std.proofs.Common.{get_or-set_same, get_or-set_other, refl, sym, subst, ◌∙◌, ap, arith, if◌then◌else◌}
 use Rattle.std.specs.Prelude.{slice_set, slice_index}
 use Rattle.std.proofs.lemmas.Bool.Decides.{nat_tests}
 use Rattle.std.proofs.lemmas.List.{get_or_at, length-append}
@@ -73,6 +73,18 @@ module _ (plan : Plan) (s : StateOf) (units : ℕ) where
           let ne : place m ≢ place k = grind (arith, nat_tests) in
           let other : m ≢ k = λ q. ne (ap place q) in
           get_or-set_other rests (place k) (place m) given 0 ne ∙ handed.rests_are m (omega (arith, other))
+
+  -- a task that needs nothing gets nothing
+  pub handed-none : IsOfPlan plan s → (k rest sum : ℕ) (rests : List ℕ)
+      → units ≡ allotted_units plan marked → k < count plan
+      → IsHanded k rest sum rests → wleft_at s (place k) ≡ 0
+      → IsHanded (k + 1) rest sum (slice_set rests (place k) 0)
+  handed-none of k rest sum rests all h handed none =
+      let next = handed-next of k rest sum 0 rests all h handed (omega (arith, none)) in
+      let less : rest - 0 ≡ rest = omega arith in
+      let more : sum + 0 ≡ sum = omega arith in
+      subst (λ (n : ℕ). IsHanded (k + 1) n sum (slice_set rests (place k) 0)) less
+      (subst (λ (n : ℕ). IsHanded (k + 1) (rest - 0) n (slice_set rests (place k) 0)) more next)
 
   pub handed-end : (rest sum : ℕ) (rests : List ℕ) → IsHanded (count plan) rest sum rests → AreRests rests plan marked
   handed-end rest sum rests handed i h =

@@ -29,10 +29,15 @@ pub(crate) fn allot(rests: &mut [u128], plan: &Admitted, view: &State, units: u1
     let mut sum = 0;
     for k in 0..plan.count() {
         let i = plan.ranked(k);
-        let given = rest.min(u128::from(view.worst_left(i)));
-        rests[i as usize] = given;
-        rest -= given;
-        sum += given;
+        let left = view.worst_left(i);
+        if left == 0 {
+            rests[i as usize] = 0;
+        } else {
+            let given = rest.min(u128::from(left));
+            rests[i as usize] = given;
+            rest -= given;
+            sum += given;
+        }
     }
     sum
 }

@@ -1,9 +1,11 @@
 -- The walk from the last task to the first computes the demand.
-use Rattle.std.proofs.Common.{◌≡◌, inl, inr, ℕ, ◌+◌, ◌-◌, ◌*◌, min, true, false, List, [], ◌∷◌, ◌++◌, refl, ◌∙◌, ap}
-use Rattle.std.proofs.Common.{arith, append_assoc}
+use Rattle.std.proofs.Common.{◌≡◌, inl, inr, ℕ, ◌+◌, ◌-◌, ◌*◌, ◌<◌, min, true, false, List, [], ◌∷◌, ◌++◌, refl, ◌∙◌}
+use Rattle.std.proofs.Common.{ap, arith, append_assoc}
 use Rattle.std.specs.Prelude.{◌/◌, nat_eq}
 use Rattle.std.proofs.lemmas.Bool.{cases_Bool}
+use Rattle.std.proofs.lemmas.Bool.Decides.{nat_tests}
 use Rattle.grid_fraction.specs.Numbers.{ceil_div}
+use Rattle.grid_fraction.proofs.Ceilings.{ceil-at}
 use Rattle.sched_model.specs.Plan.{Plan, hyper, rate, top_speed}
 use Rattle.sched_model.specs.AheadDemand.{slack, put_off, spread_rate, spread_rates, due_first}
 use Rattle.sched_model.specs.States.{StateOf}
@@ -12,6 +14,15 @@ use Rattle.governor.specs.Steps.{wleft_at}
 use Rattle.look_ahead_laws.specs.Ahead.{deadline_at, edf_order}
 use Rattle.look_ahead_laws.proofs.Spreading.{before_is}
 use Rattle.look_ahead.specs.Walk.{not_put_off, next_rates, next_first}
+
+-- a task whose job needs nothing leaves its rate
+pub none_rates : (plan : Plan) (i ticks rates : ℕ) → 0 < ticks → next_rates plan i 0 ticks rates ≡ rates - rate plan i
+none_rates plan i ticks rates some =
+    let sloped : nat_eq ticks 0 ≡ false = grind (arith, nat_tests, some) in
+    let nothing : 0 - not_put_off plan i 0 ticks rates ≡ 0 = omega arith in
+    let none : (0 - not_put_off plan i 0 ticks rates) * hyper plan ≡ 0 * ticks =
+    omega (arith, ap (λ (m : ℕ). m * hyper plan) nothing) in
+    rw sloped (omega (arith, ap (λ (m : ℕ). ceil_div m ticks) none, ceil-at 0 ticks some))
 
 -- what a step of the walk puts off, over plain numbers
 put_is : (u w l h most pre after : ℕ)

@@ -30,6 +30,25 @@ struct Pending {
     slack: u64,
 }
 
+// `n / d`, rounded up; a short division where `n` fits in 64 bits.
+fn up_short(n: u128, d: u64) -> u128
+    requires { 1 ≤ d }
+    ensures { result ≡ ceil_div n d }
+{
+    if n > u128::from(u64::MAX) {
+        return up(n, d);
+    }
+    u128::from((n as u64).div_ceil(d))
+}
+
+// The rate of a task: the work units of its jobs in a hyperperiod, each at its worst case.
+fn rate(plan: &Admitted, task: u32) -> u128
+    requires { task < count plan.now }
+    ensures { result ≡ rate plan.now task }
+{
+    u128::from(plan.worst(task)) * u128::from(plan.hyper() / plan.period(task))
+}
+
 // For a job that may need `left` units and is due `slack` ticks after the earliest deadline: the units that can't be
 // put off, and the rate of the others, where the highest speed has `spare` to give.
 fn spread(spare: u128, left: u64, slack: u64, hyper: u64) -> Totals
@@ -48,13 +67,13 @@ fn spread(spare: u128, left: u64, slack: u64, hyper: u64) -> Totals
     let asked = u128::from(left) * u128::from(hyper);
     if asked <= spare * u128::from(slack) {
         return Totals {
-            rates: up(asked, slack),
+            rates: up_short(asked, slack),
             first: 0,
         };
     }
     let room = mul_down(spare, slack, hyper);
     let first = u128::from(left).saturating_sub(room);
-    let rates = up((u128::from(left) - first) * u128::from(hyper), slack);
+    let rates = up_short((u128::from(left) - first) * u128::from(hyper), slack);
     Totals { rates, first }
 }
 
@@ -74,9 +93,14 @@ fn step(plan: &Admitted, job: Pending, totals: Totals) -> Totals
             first: totals.first + u128::from(job.left),
         };
     }
+    let rest = totals.rates - rate(plan, job.task);
+    if job.left == 0 {
+        return Totals {
+            rates: rest,
+            first: totals.first,
+        };
+    }
     let hyper = plan.hyper();
-    let rest = totals.rates
-        - u128::from(plan.worst(job.task)) * u128::from(hyper / plan.period(job.task));
     let spare = u128::from(plan.machine().top()) * u128::from(hyper) - rest;
     let part = spread(spare, job.left, job.slack, hyper);
     Totals {
