@@ -44,6 +44,3 @@ pub use settings::{
     DocumentFault, MemberFault, member_at, number_at, read_document, text_at, unknown_key,
 };
 pub use void::VoidSink;
-
-#[cfg(test)]
-mod tests;

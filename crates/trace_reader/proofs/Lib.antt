@@ -11,5 +11,4 @@ pub mod NoteTexts
 pub mod HeadTexts
 pub mod TraceTexts
 pub mod ShortTexts
-pub mod Apart
 pub mod Examples

@@ -16,6 +16,3 @@ mod write;
 pub use read::{read_any, read_trace};
 pub use trace::{TaskLine, Trace, TraceFault, TraceKind};
 pub use write::{write_share, write_task, write_version};
-
-#[cfg(test)]
-mod tests;

@@ -220,6 +220,9 @@ pub fn read_trace(alloc: Global, bytes: &[u8], names: &[Name]) -> Result<Trace, 
     ensures found { IfOk result (λ t. IsTextOf names.now [] bytes.now t × (t.version ≡ Version.One)) }
     ensures only { (t : TraceOf) → IsTextOf names.now [] bytes.now t → t.version ≡ Version.One
         → IsUnlessMemory TraceFault.NoMemory (λ t. t) result (Ok t) }
+
+    // Each trace has one text, and no text is the beginning of another trace's text.
+    ensures one_text { HaveOneText names.now [] }
 {
     known_names(names);
     read(alloc, Version::One, bytes, names, &[])

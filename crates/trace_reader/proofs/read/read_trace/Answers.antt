@@ -6,7 +6,7 @@ use Rattle.trace_reader.specs.TraceFile.{trace_file}
 use Rattle.trace_reader.specs.Traces.{task_lines, IsTextOf}
 use Rattle.trace_reader.proofs.LineTexts.{names-each}
 use Rattle.trace_reader.proofs.HeadTexts.{version-up_to, version-none}
-use Rattle.trace_reader.proofs.TraceTexts.{clause-found, reads-found, reads-only}
+use Rattle.trace_reader.proofs.TraceTexts.{clause-found, reads-found, reads-only, one-text}
 use Rattle.trace_reader.proofs.read.read_trace.Goals as goal
 
 no-tasks : (names : List (List ℕ)) → task_lines names [] ≡ []
@@ -29,3 +29,7 @@ returns-clause-only c = λ t h one.
     let known = version-none t.version one in
     subst (λ meaning. IsUnlessMemory NoMemory (λ t. t) c.read.result meaning)
     (reads-only One c.args.names.now [] c.args.bytes.now t named c.requires.distinct known.0 known.1 h) (returns-clause-file c)
+
+pub returns-clause-one_text : goal.returns-clause-one_text
+returns-clause-one_text c =
+    one-text c.args.names.now [] (names-each c.args.names.now c.known_names.ensures) c.requires.distinct tt
