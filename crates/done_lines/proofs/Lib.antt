@@ -9,3 +9,5 @@ pub mod TickPieces
 pub mod SpanPieces
 pub mod SpanNotes
 pub mod OneEnd
+pub mod FewReleases
+pub mod FewLines

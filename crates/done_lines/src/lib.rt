@@ -1,7 +1,7 @@
-//! The `done` lines in the text of a run, and how many decisions, completions and releases a run has.
+//! The `done` lines in the text of a run, and how many notes, decisions, completions and releases a run has.
 //!
 //! The text is split into its lines. Wherever the schedule meets its deadlines, each job that is due within the run
 //! has exactly one `done` line, at a position not after its deadline. A schedule has at most one more decision than
-//! releases and completions together, and no more completions than releases (`specs/LineCounts.antt`). The kernel's
-//! calls have these bounds in their contracts for each run.
+//! releases and completions together, and no more completions than releases. It has at most seven notes for each job
+//! and three more (`specs/LineCounts.antt`). The kernel's calls have these bounds in their contracts for each run.
 #![tactic(auto)]

@@ -1,10 +1,12 @@
 -- The lines of a whole trace, and what writing them does to a sink.
-use Rattle.std.proofs.Common.{◌≡◌, ℕ, ◌+◌, ◌<◌, ◌≤◌, List, [], ◌∷◌, ◌++◌, length, map, Result, Ok, Err, refl, ap, ap₂, sym, ◌∙◌, subst, arith, append-nil, length-append}
+use Rattle.std.proofs.Common.{◌≡◌, ℕ, ◌+◌, ◌*◌, ◌<◌, ◌≤◌, List, [], ◌∷◌, ◌++◌, length, map, Result, Ok, Err, refl, ap, ap₂, sym, ◌∙◌, subst, arith, append-nil, length-append}
 use Rattle.std.specs.Prelude.{flat_map, sum_by, slice_index, IfOk, IsOk, OnErr}
 use Rattle.std.specs.List.{AllByRecursion}
+use Rattle.std.proofs.lemmas.List.{length-map}
 use Rattle.std.proofs.lemmas.List.Concat.{flat_map-append}
 use Rattle.std.proofs.lemmas.List.Sums.{sum_by-append, sum_by-cons}
 use Rattle.grid_fraction.specs.declared.Frac.{Frac}
+use Rattle.dvs_base.specs.declared.kind.GovernorKind.{GovernorKind}
 use Rattle.dvs_base.specs.declared.kind.Version.{Version}
 use Rattle.dvs_base.specs.declared.kind.Version.TheVariants.{One, Two}
 use Rattle.dvs_base.specs.declared.note.Note.{Note}
@@ -12,25 +14,28 @@ use Rattle.dvs_base.specs.declared.note.Note.TheVariants.{Release, Speed, Run, I
 use Rattle.dvs_base.specs.declared.note.Totals.{Totals}
 use Rattle.dvs_base.specs.Outside.{SinkView, Rose}
 use Rattle.energy.specs.Books.{Books, energy_of_task}
-use Rattle.sched_model.specs.Plan.{Plan, count, names}
+use Rattle.sched_model.specs.Plan.{Plan, count, names, task, period, offset}
+use Rattle.sched_model.specs.Jobs.{released_jobs}
 use Rattle.sched_model.specs.Admission.{IsAdmitted}
 use Rattle.sched_model.specs.Totals.{totals_of}
 use Rattle.grid_fraction.specs.Numbers.{list_below}
 use Rattle.sched_model.specs.Notes.{energy_run, energy_idle}
 use Rattle.sched_model.specs.States.{StateOf}
-use Rattle.sched_model.proofs.Tables.{get-table, table-same}
+use Rattle.sched_model.proofs.Tables.{get-table, table-same, length-list_below}
+use Rattle.governor.specs.Schedule.{ask_of}
 use Rattle.done_lines.specs.LineCounts.{AreFew}
+use Rattle.done_lines.proofs.FewLines.{has-few-notes}
 use Rattle.trace_text.specs.TraceLines.{name_of}
-use Rattle.trace_reader.specs.VersionLines.{share_text}
+use Rattle.trace_reader.specs.VersionLines.{task_text, share_text}
 use Rattle.probes.specs.Tallies.{ProbeOf}
-use Rattle.event_kernel.specs.Lines.{LineOf, plain, noted, share_lines, sum_lines, lines_of, note_lines, text_of, StoppedIn, Writes}
+use Rattle.event_kernel.specs.Lines.{LineOf, plain, noted, task_lines, head_lines, share_lines, sum_lines, lines_of, note_lines, trace_lines, most_lines, text_of, StoppedIn, Writes}
 use Rattle.event_kernel.specs.Runs as runs
 use Rattle.event_kernel.specs.Runs.{demands_of, ticks_of, notes_before_end_of, notes_of_run}
 use Rattle.event_kernel.specs.SpanNotes.{HasBooked}
 use Rattle.done_lines.proofs.SpanNotes.{IsNoteIn}
 use Rattle.event_kernel.proofs.Booking.{booked-tasks, booked-totals}
 use Rattle.event_kernel.proofs.Fitting.{course-fits}
-use Rattle.event_kernel.proofs.Courses.{course-len}
+use Rattle.event_kernel.proofs.Courses.{course-len, course-legal}
 use Rattle.event_kernel.proofs.Writing.{text-append}
 
 -- where the writing stopped in a line, the sink was not sure of all the lines' bytes
@@ -89,6 +94,18 @@ own-lines v p all (n ∷ ns) h = go n h.0 (own-lines v p all ns h.1)
     go (Done at i k used) b e = ap (λ ls. noted (names p) (Done at i k used) ∷ ls) e
     go (End t run idle) b e = absurd b
 
+-- few notes make few lines, with the two lines before them and those that a version has for the tasks
+few-lines : (v : Version) (p : Plan) (energies : List ℕ) (notes ticks : ℕ) → notes ≤ 7 * released_jobs p ticks + 3
+    → 2 + length (task_lines v p) + (notes + length (sum_lines v p energies)) ≤ most_lines v p ticks
+few-lines One p energies notes ticks few = omega (arith, few)
+few-lines Two p energies notes ticks few =
+    omega (
+      arith,
+      few,
+      length-list_below (count p) (λ i. plain (task_text (name_of (names p) i) (period p i) (offset p i) ((task p i).worst))),
+      length-list_below (count p) (λ i. plain (share_text (name_of (names p) i) (slice_index energies i))),
+    )
+
 module _ (demand : Plan → StateOf → Frac) (r : runs.Run) (adm : IsAdmitted r.plan) (v : Version) where
   abbrev pub before : List Note
   before = notes_before_end_of demand r
@@ -127,3 +144,31 @@ module _ (demand : Plan → StateOf → Frac) (r : runs.Run) (adm : IsAdmitted r
       ≡ note_lines v r.plan (notes_of_run demand r)
   booked-lines ns p ticks b en ep et h =
       told-lines ns p ticks b.by_task b.totals en ep et (booked-tasks r.plan b before h) (booked-totals r.plan b before h)
+
+  -- a run of few jobs has a trace of few lines
+  pub run-lines : (g : GovernorKind) → length (trace_lines v g r.plan r.ticks (notes_of_run demand r)) ≤ most_lines v r.plan r.ticks
+  run-lines g =
+      let dem = demands_of r.plan r.demands in
+      let last : Note = End (length (ticks_of demand r)) (sum_by energy_run before) (sum_by energy_idle before) in
+      let end : List LineOf = noted (names r.plan) last ∷ [] in
+      let sums : List LineOf = sum_lines v r.plan energies in
+      let few = has-few-notes r.plan adm.limits dem (λ i. refl) (ask_of demand r.plan dem) (ticks_of demand r)
+      (course-legal demand r.plan dem r.ticks) in
+      let notes : length before + 1 ≤ 7 * released_jobs r.plan r.ticks + 3 =
+      omega (
+        arith,
+        few,
+        length-append before (last ∷ []),
+        ap (released_jobs r.plan) (course-len demand r.plan dem r.ticks),
+      ) in
+      let head : length (head_lines v g r.plan r.ticks) ≡ 2 + length (task_lines v r.plan) = omega arith in
+      omega (
+        arith,
+        few-lines v r.plan energies (length before + 1) r.ticks notes,
+        head,
+        length-append (head_lines v g r.plan r.ticks) (note_lines v r.plan (notes_of_run demand r)),
+        ap (λ (ls : List LineOf). length ls) all-lines,
+        length-append (map (noted (names r.plan)) before) (sums ++ end),
+        length-append sums end,
+        length-map before (noted (names r.plan)),
+      )

@@ -1,5 +1,5 @@
 -- The lines of a trace, and what writing them does to a sink and to probes.
-use Rattle.std.specs.Prelude.{◌≡◌, ℕ, List, [], ◌∷◌, ◌++◌, flat_map, sum_by, slice_index, Result, Ok, Err}
+use Rattle.std.specs.Prelude.{◌≡◌, ℕ, ◌+◌, ◌*◌, List, [], ◌∷◌, ◌++◌, flat_map, sum_by, slice_index, Result, Ok, Err}
 use Rattle.grid_fraction.specs.Numbers.{list_below}
 use Rattle.dvs_base.specs.declared.kind.Version.{Version}
 use Rattle.dvs_base.specs.declared.kind.Version.TheVariants.{One, Two}
@@ -10,6 +10,7 @@ use Rattle.dvs_base.specs.Outside.{SinkView}
 use Rattle.dvs_base.specs.WritesText.{Wrote, WroteSome}
 use Rattle.energy.specs.Books.{energy_of_task}
 use Rattle.sched_model.specs.Plan.{Plan, count, names, task, period, offset}
+use Rattle.sched_model.specs.Jobs.{released_jobs}
 use Rattle.trace_text.specs.TraceLines.{plan_text, note_text, name_of}
 use Rattle.trace_reader.specs.VersionLines.{version_line, task_text, share_text}
 use Rattle.probes.specs.Tallies.{ProbeOf, told_notes}
@@ -59,6 +60,12 @@ note_lines v p notes = flat_map (lines_of v p notes) notes
 -- the lines of a trace of these notes
 abbrev pub trace_lines : Version → GovernorKind → Plan → ℕ → List Note → List LineOf
 trace_lines v g p ticks notes = head_lines v g p ticks ++ note_lines v p notes
+
+-- the most lines of a trace: seven for each job released in its ticks, and five more; in version 2 also two for each
+-- task
+abbrev pub most_lines : Version → Plan → ℕ → ℕ
+most_lines One p ticks = 7 * released_jobs p ticks + 5
+most_lines Two p ticks = 7 * released_jobs p ticks + 5 + 2 * count p
 
 -- the text of some lines
 abbrev pub text_of : List LineOf → List ℕ

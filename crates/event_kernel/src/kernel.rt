@@ -11,7 +11,7 @@ ghost use Rattle.done_lines.specs.LineCounts.{AreFew};
 ghost use Rattle.event_kernel.specs.Runs.{IsListOf, notes_of_run, MeetsDeadlines, MeetsDemands};
 ghost use Rattle.event_kernel.specs.Meeting.{IsMetRun};
 ghost use Rattle.event_kernel.specs.Runs.{notes_before_end_of};
-ghost use Rattle.event_kernel.specs.Lines.{Writes, trace_lines, text_of};
+ghost use Rattle.event_kernel.specs.Lines.{Writes, trace_lines, text_of, most_lines};
 ghost use Rattle.event_kernel.specs.SpanNotes.{HasBooked};
 ghost use Rattle.agenda.specs.Stands.{Stands};
 ghost use Rattle.dvs_base.specs.Outside.{Rose};
@@ -233,6 +233,9 @@ impl<'a, G: Governor> Kernel<'a, G> {
         ensures totals { IfOk result (λ t. t ≡ totals_of (notes_of_run G.demand self.entry)) }
         // At most one more decision than releases and completions together, so at most one more than two a job.
         ensures few { IfOk result AreFew }
+        // At most seven lines for each job released in the ticks, and five more; in version 2 also two for each task.
+        ensures lines { length (trace_lines version G.the_kind self.entry.plan self.entry.ticks
+            (notes_of_run G.demand self.entry)) ≤ most_lines version self.entry.plan self.entry.ticks }
         ensures deadlines { MeetsDeadlines G.demand self.entry }
         ensures demands { G.the_kind ≢ Ahead → MeetsDemands G.demand self.entry }
         ensures never_falls { (W.shows out.old).faults ≤ (W.shows out.new).faults }

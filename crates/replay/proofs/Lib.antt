@@ -2,5 +2,6 @@ pub mod Comparing
 pub mod Fixing
 pub mod Exact
 pub mod Texts
+pub mod SameTexts
 pub mod Running
 pub mod Examples

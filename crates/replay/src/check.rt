@@ -12,9 +12,10 @@ ghost use Rattle.sched_model.specs.Totals.{totals_of};
 ghost use Rattle.governor.specs.Schedule.{ask_of};
 ghost use Rattle.event_kernel.specs.Runs.{notes_of_run};
 ghost use Rattle.trace_reader.specs.Traces.{IsEnded};
-ghost use Rattle.replay_laws.specs.OwnList.{AreNotesFor};
+ghost use Rattle.replay_laws.specs.OwnList.{AreNotesFor, HasSameNotes};
 ghost use Rattle.replay.specs.Comparing.{line_of, differs, compared};
 ghost use Rattle.replay.specs.Replays.{NamesTask, replay_of, IsCause, IsReplayed, IsFirstDifference};
+ghost use Rattle.replay.specs.SameTexts.{HasSameTextBy, HasSameText};
 
 use crate::ReplayFault;
 use crate::compared::Compared;
@@ -135,6 +136,13 @@ pub fn replay<G: Governor>(
         → AreNotesFor plan.now (ask_of G.demand plan.now) trace.now.plan.ticks trace.now.notes rows
         → released_jobs plan.now trace.now.plan.ticks ≤ MOST_JOBS
         → IsUnlessMemory ReplayFault.NoMemory (λ totals. totals) result (Ok (totals_of trace.now.notes)) }
+
+    // The schedules for two demand lists have the same notes, and the same text, exactly where each job that completes
+    // needs the same by both lists, and each other released job needs more by the second list than it has had.
+    ensures same_notes { HasSameNotes plan.now (ask_of G.demand plan.now) }
+    ensures same_text { HasSameTextBy plan.now (ask_of G.demand plan.now) G.the_kind }
+    // So do the runs under the published demand of each governor, where they are within the limits.
+    ensures same_published { HasSameText plan.now }
 
     // A refusal shows its cause, and a difference is the first one.
     ensures shown { IfErr result IsCause }

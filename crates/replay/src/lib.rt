@@ -2,7 +2,8 @@
 //!
 //! A trace fixes the demand of each job whose end it has; each other job has its worst case. The kernel runs the plan
 //! for these demands into a listener that compares note by note and stops at the first unequal one, so no second trace
-//! is built. Callers may rely on this: a trace of the schedule for some demand list is never found to differ.
+//! is built. Callers may rely on this: a trace of the schedule for some demand list is never found to differ. Which
+//! demand lists have schedules with the same text is in `specs/SameTexts.antt`.
 #![tactic(auto)]
 
 mod check;
@@ -13,6 +14,3 @@ mod fault;
 pub use check::replay;
 pub use ends::fixed_demands;
 pub use fault::ReplayFault;
-
-#[cfg(test)]
-mod tests;

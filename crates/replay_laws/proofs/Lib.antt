@@ -4,7 +4,9 @@ pub mod SameCourse
 pub mod SameNotes
 pub mod FixedNotes
 pub mod OwnDemands
+pub mod SameLists
 pub mod BlindDemands
 pub mod FitNotes
 pub mod Owning
 pub mod FixedRows
+pub mod Examples

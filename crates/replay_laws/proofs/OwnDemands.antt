@@ -89,15 +89,15 @@ module _ (p : Plan) (lim : IsWithinLimits p) (ask : Asking) (blind : IsBlind p a
   is_schedule = (schedule_exists p dem (ask dem) t).0
 
   -- the notes fix nothing of a job, or its demand
-  told : (i k : ℕ) → i < count p → 1 ≤ k → Fixes p dem i k (exec p ticks i k) (named (fixed_of p all_notes) i k) (times (tells_done i k) all_notes)
+  pub told : (i k : ℕ) → i < count p → 1 ≤ k → Fixes p dem i k (exec p ticks i k) (named (fixed_of p all_notes) i k) (times (tells_done i k) all_notes)
   told i k lt some = fixes p dem (ask dem) lim i k lt some (exec p ticks i k) all_notes (notes-true p dem (ask dem) lim i k lt some ticks is_schedule)
 
   -- the demand that the list has for a job whose completion is among the notes is the job's demand
-  own-told : (i k : ℕ) → 1 ≤ k → named (fixed_of p all_notes) i k ≡ Some (dem i k - 2 * p.machine.charge) → own i k ≡ dem i k
+  pub own-told : (i k : ℕ) → 1 ≤ k → named (fixed_of p all_notes) i k ≡ Some (dem i k - 2 * p.machine.charge) → own i k ≡ dem i k
   own-told i k some e = omega (arith, demand-row p (fixed_of p all_notes) i k (dem i k - 2 * p.machine.charge) some e, charge-least p rows i k some)
 
   -- the completion of a finished job is among the notes once
-  told-finished : (i k : ℕ) → i < count p → 1 ≤ k → release p i k < length ticks → is_done p dem ticks i k ≡ true → times (tells_done i k) all_notes ≡ 1
+  pub told-finished : (i k : ℕ) → i < count p → 1 ≤ k → release p i k < length ticks → is_done p dem ticks i k ≡ true → times (tells_done i k) all_notes ≡ 1
   told-finished i k lt some early done =
       let before : List Note = notes_before_end p dem (ask dem) ticks in
       let most : exec p ticks i k ≤ dem i k = exec-most p dem (ask dem) ticks is_schedule i k lt in
@@ -106,7 +106,7 @@ module _ (p : Plan) (lim : IsWithinLimits p) (ask : Asking) (blind : IsBlind p a
       times-append (tells_done i k) before (End (length ticks) (sum_by energy_run before) (sum_by energy_idle before) ∷ []) ∙ omega (arith, once)
 
   -- the list that the notes fix and the demands are two demands for the same notes
-  tell-same : TellSame p dem own ticks
+  pub tell-same : TellSame p dem own ticks
   tell-same = record {
     finished = λ i k lt some early done. finished i k some (told-finished i k lt some early done) (told i k lt some);
     unfinished = λ i k lt some early open_job. unfinished i k lt some open_job (told i k lt some);

@@ -15,6 +15,7 @@ use Rattle.replay_laws.specs.OwnList.{Asking, ticks_by, notes_by, AreOwn, HasOwn
 use Rattle.replay_laws.proofs.SameState.{blind-own}
 use Rattle.replay_laws.proofs.BlindDemands.{blind-published}
 use Rattle.replay_laws.proofs.OwnDemands.{looks-at-none, own-notes}
+use Rattle.replay_laws.proofs.SameLists.{has-same-notes}
 use Rattle.replay_laws.proofs.FixedRows.{fixed-demand}
 use Rattle.replay_laws.proofs.FitNotes.{IsOfTask, notes-fit, notes-of-tasks, fixed-within, fixed-demands}
 
@@ -44,7 +45,9 @@ own-lists p lim = record {
   fixed = fixed-demand p;
   looks = λ demand. looks-at-none p lim (ask_of demand p) (blind-own p lim demand);
   own = λ demand. has-own-list p lim (ask_of demand p) (blind-own p lim demand);
+  same = λ demand. has-same-notes p lim (ask_of demand p) (blind-own p lim demand);
   published_looks = λ kind. looks-at-none p lim (published p kind) (blind-published p lim kind);
   published_own = λ kind. has-own-list p lim (published p kind) (blind-published p lim kind);
+  published_same = λ kind. has-same-notes p lim (published p kind) (blind-published p lim kind);
   text = text-own p lim;
 }

@@ -1,5 +1,5 @@
 -- Notes of a schedule are those of the schedule for the demand list that they fix.
-use Rattle.std.specs.Prelude.{◌≡◌, ◌<◌, ◌≤◌, ℕ, true, false, List, length}
+use Rattle.std.specs.Prelude.{◌≡◌, ◌↔◌, ◌<◌, ◌≤◌, ℕ, true, false, List, length}
 use Rattle.std.specs.List.{AllByRecursion}
 use Rattle.dvs_base.specs.declared.kind.GovernorKind.{GovernorKind}
 use Rattle.dvs_base.specs.declared.note.Note.{Note}
@@ -47,6 +47,14 @@ LooksAtNone p ask =
     (dem other : ℕ → ℕ → ℕ) (ticks : ℕ) → TellSame p dem other (ticks_by p ask dem ticks)
     → (ticks_by p ask other ticks ≡ ticks_by p ask dem ticks) × (notes_by p ask other ticks ≡ notes_by p ask dem ticks)
 
+-- the schedules for two lists have the same notes exactly where each job that completes needs the same by both lists,
+-- and each other released job needs more by the second list than it has had
+abbrev pub HasSameNotes : Plan → Asking → Type 0
+HasSameNotes p ask =
+    (rows others : List DemandRow) (ticks : ℕ) → IsWithin p (demand_of p rows) → IsWithin p (demand_of p others)
+    → (notes_by p ask (demand_of p others) ticks ≡ notes_by p ask (demand_of p rows) ticks)
+    ↔ TellSame p (demand_of p rows) (demand_of p others) (ticks_by p ask (demand_of p rows) ticks)
+
 -- the notes are those of the schedule for the demands of a list, which exceed no worst case
 pub record AreNotesFor (p : Plan) (ask : Asking) (ticks : ℕ) (notes : List Note) (rows : List DemandRow) : Type 0 where
   pub within : IsWithin p (demand_of p rows)
@@ -91,6 +99,8 @@ pub record OwnLists (p : Plan) : Type 0 where
   pub fixed : HasFixedDemands p
   pub looks : (demand : Plan → StateOf → Frac) → LooksAtNone p (ask_of demand p)
   pub own : (demand : Plan → StateOf → Frac) → HasOwnList p (ask_of demand p)
+  pub same : (demand : Plan → StateOf → Frac) → HasSameNotes p (ask_of demand p)
   pub published_looks : (kind : GovernorKind) → LooksAtNone p (published p kind)
   pub published_own : (kind : GovernorKind) → HasOwnList p (published p kind)
+  pub published_same : (kind : GovernorKind) → HasSameNotes p (published p kind)
   pub text : (kind : GovernorKind) → TextHasOwnList p kind

@@ -1,5 +1,3 @@
-pub mod FewReleases
-pub mod FewLines
 pub mod DemandWidths
 pub mod NoteWidths
 pub mod TraceLimits

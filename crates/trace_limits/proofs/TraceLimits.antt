@@ -32,7 +32,7 @@ use Rattle.sched_model.proofs.HeldUnits.{each-weaker}
 use Rattle.done_lines.proofs.OneEnd.{EndsOnce, schedule-ended}
 use Rattle.trace_limits.specs.RunTraces.{trace_of_run, IsLimitedRun, KeepsLimits}
 use Rattle.trace_limits.proofs.DemandWidths.{published-low}
-use Rattle.trace_limits.proofs.FewLines.{has-few-notes}
+use Rattle.done_lines.proofs.FewLines.{has-few-notes}
 use Rattle.trace_limits.proofs.NoteWidths.{most_energy, IsLowNote, notes-low}
 
 -- a list of notes whose last one alone is an end is ended

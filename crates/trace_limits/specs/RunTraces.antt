@@ -1,16 +1,12 @@
--- The traces of runs: they have few notes, and keep the limits of traces.
-use Rattle.std.specs.Prelude.{◌≡◌, ℕ, ◌+◌, ◌*◌, ◌≤◌, true, List, length}
+-- The traces of runs: they keep the limits of traces.
+use Rattle.std.specs.Prelude.{◌≡◌, ℕ, ◌≤◌, true}
 use Rattle.dvs_base.specs.declared.kind.GovernorKind.{GovernorKind}
 use Rattle.dvs_base.specs.declared.kind.Version.{Version}
 use Rattle.dvs_base.specs.declared.limits.TheConstants.{MOST_JOBS, MOST_TICKS}
 use Rattle.dvs_base.specs.Pairs.{is_pair}
-use Rattle.grid_fraction.specs.declared.Frac.{Frac}
 use Rattle.sched_model.specs.Plan.{Plan, names}
 use Rattle.sched_model.specs.Jobs.{released_jobs}
 use Rattle.sched_model.specs.Demands.{JobDemands, IsWithin}
-use Rattle.sched_model.specs.Ticks.{Tick}
-use Rattle.sched_model.specs.Schedule.{IsScheduleBy}
-use Rattle.sched_model.specs.Notes.{notes_of}
 use Rattle.sched_model.specs.Text.{run_notes}
 use Rattle.done_lines.specs.RunText.{task_texts}
 use Rattle.trace_reader.specs.Traces.{TraceOf, IsTrace}
@@ -22,14 +18,6 @@ trace_of_run v p g dem ticks = record {
   plan = record { scheduler = p.scheduler; governor = g; ticks = ticks };
   notes = run_notes p g dem ticks;
 }
-
--- Every schedule of the plan has at most seven notes for each job that is released within it: its release, its
--- completion, a decision after each of them, and three segments. It has at most three more: a decision and a segment
--- at tick 0, and the last note. This holds for any published demand; job 0 needs nothing.
-abbrev pub HasFewNotes : Plan → Type 0
-HasFewNotes p =
-    (dem : JobDemands) → ((i : ℕ) → dem i 0 ≡ 0) → (ask : List Tick → Frac) (ticks : List Tick)
-    → IsScheduleBy p dem ask ticks → length (notes_of p dem ask ticks) ≤ 7 * released_jobs p (length ticks) + 3
 
 -- a run within the limits
 pub record IsLimitedRun (p : Plan) (g : GovernorKind) (dem : JobDemands) (ticks : ℕ) : Type 0 where

@@ -8,6 +8,7 @@ use Rattle.replay.specs.declared.fault.ReplayFault.{ReplayFault}
 use Rattle.replay.specs.declared.fault.ReplayFault.TheVariants as fault
 use Rattle.replay.proofs.Comparing.{ended-once}
 use Rattle.replay.proofs.Exact.{ok-replayed, some-replayed, err-shown, err-differs}
+use Rattle.replay.proofs.SameTexts.{same-text-by, same-text}
 use Rattle.replay.proofs.check.replay.Goals as goal
 
 pub returns-clause-own_list : goal.returns-clause-own_list
@@ -38,3 +39,19 @@ returns-clause-shown g c =
     let p = c.args.plan.now in
     err-shown p c.scheduler-scheduler.ensures.admitted.limits (ask_of g.G.Governor.demand p) c.args.trace.now
     (ended-once c.args.trace.now.notes c.requires.ended) c.check.result c.check.ensures
+
+pub returns-clause-same_notes : goal.returns-clause-same_notes
+returns-clause-same_notes g c =
+    (own-lists c.args.plan.now c.scheduler-scheduler.ensures.admitted.limits).same g.G.Governor.demand
+
+pub returns-clause-same_text : goal.returns-clause-same_text
+returns-clause-same_text g c =
+    let p = c.args.plan.now in
+    let lim = c.scheduler-scheduler.ensures.admitted.limits in
+    same-text-by p lim.tasks (ask_of g.G.Governor.demand p) ((own-lists p lim).same g.G.Governor.demand) g.G.Governor.the_kind
+
+pub returns-clause-same_published : goal.returns-clause-same_published
+returns-clause-same_published g c =
+    let p = c.args.plan.now in
+    let adm = c.scheduler-scheduler.ensures.admitted in
+    same-text p adm (own-lists p adm.limits).published_same

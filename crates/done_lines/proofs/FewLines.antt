@@ -26,14 +26,13 @@ use Rattle.sched_model.proofs.Limits.{every_period}
 use Rattle.sched_model.proofs.NoteLemmas.{notes-span}
 use Rattle.sched_model.proofs.PieceLemmas.{have_units}
 use Rattle.sched_model.proofs.Service.{exec-most}
-use Rattle.done_lines.specs.LineCounts.{AreFew}
+use Rattle.done_lines.specs.LineCounts.{AreFew, HasFewNotes}
 use Rattle.done_lines.proofs.CountLemmas.{one-or-none, count-each, has-few}
 use Rattle.done_lines.proofs.DoneNotes.{tells_done, times, ended, had_of, laid-pieces, pieces-ended}
 use Rattle.done_lines.proofs.DoneSpans.{IsLastSpan, last-span}
 use Rattle.done_lines.proofs.SpanHeads.{Head, Begins, begins}
 use Rattle.sched_model.proofs.BeforeEnd.{IsBeforeEnd, before-end-each}
-use Rattle.trace_limits.specs.RunTraces.{HasFewNotes}
-use Rattle.trace_limits.proofs.FewReleases.{released-at, releases-more}
+use Rattle.done_lines.proofs.FewReleases.{released-at, releases-more}
 use Rattle.done_lines.proofs.SpanPieces.{completed, HasFew, LastHasFew, last-few}
 
 -- a note of a segment
