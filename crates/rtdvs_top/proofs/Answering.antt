@@ -6,9 +6,9 @@ use Rattle.words.specs.Commands.{CommandOf, run, admit, traced, workload, respon
 use Rattle.rtdvs_top.specs.Answer.{tasks_at, machine_at}
 use Rattle.rtdvs_top.specs.PollAnswer.{server_at}
 use Rattle.rtdvs_top.specs.CommandAnswer.{answer_of_command}
-use Rattle.rtdvs_top.specs.Causes.{LoadFails, NamedLoadFails, LoadOf, PassesBefore, files_for}
-use Rattle.rtdvs_top.specs.Ending.{EndsAs, Leaves}
-use Rattle.rtdvs_top.specs.Promises.{Answers, IsSureOf}
+use Rattle.rtdvs_top.specs.Causes.{LoadFails, NamedLoadFails, LoadOf, PassesBefore, CountsPuts, files_for}
+use Rattle.rtdvs_top.specs.Ending.{Ends, EndsSomehow, EndsAs, Leaves}
+use Rattle.rtdvs_top.specs.Promises.{Answers, Writes, WritesPart, IsSureOf}
 use Rattle.rtdvs_top.specs.declared.status.FileKind.{FileKind}
 use Rattle.rtdvs_top.specs.declared.status.FileKind.TheVariants as file
 use Rattle.rtdvs_top.specs.declared.status.Status.{Status}
@@ -28,7 +28,7 @@ module _ (files : Files) (old new : ShelfView) where
   -- a load that failed lacks its file, or the count of faults rose
   lacks-or-rose : {A : Type 0} (place : ℕ) (name : List ℕ) → old.held ≡ Some files → LoadFails old new place name
       → (file_of files name ≡ None → A) → A ⊎ Rose old.faults new.faults
-  lacks-or-rose place name known (inl lacks) go = inl (go (subst (λ (t : Option Files). Lacks t name) known lacks))
+  lacks-or-rose place name known (inl lacks) go = inl (go (subst (λ (t : Option Files). Lacks t name) known lacks.0))
   lacks-or-rose place name known (inr rose) go = inr rose.0
 
   named-or-rose : {A : Type 0} (place : ℕ) (name : Option (List ℕ)) → old.held ≡ Some files → NamedLoadFails old new place name
@@ -109,3 +109,24 @@ sure-of shows (Some files) c status.Done old new ends leaves sure = ends.2.stead
 sure-of shows (Some files) c status.Write old new ends leaves sure =
     let whole = sure ends.0 ends.1 in omega (arith, whole, ends.2.unsure)
 sure-of shows (Some files) c s old new ends leaves sure = ap (λ w. (shows w).faults) leaves
+
+-- what was written where the answer is done, and where a put failed
+pub writes-of : (files : Option Files) (c : CommandOf) (s : Status) (old new : SinkView)
+    → EndsAs old new files (answer_of_command c) s → s ≡ status.Done → Writes files (Ok c) old new
+writes-of None c s old new ends done = subst (EndsSomehow old new) done ends
+writes-of (Some files) c s old new ends done = subst (Ends old new (answer_of_command c files)) done ends
+
+pub parts-of : (files : Option Files) (c : CommandOf) (s : Status) (old new : SinkView)
+    → EndsAs old new files (answer_of_command c) s → s ≡ status.Write → WritesPart files (Ok c) old new
+parts-of None c s old new ends failed = subst (EndsSomehow old new) failed ends
+parts-of (Some files) c s old new ends failed = subst (Ends old new (answer_of_command c files)) failed ends
+
+-- how the sink's count of failed puts goes with the status
+pub counts-puts : {W : Type 0} (shows : W → SinkView) (files : Option Files) (c : CommandOf) (s : Status) (old new : W)
+    → EndsAs (shows old) (shows new) files (answer_of_command c) s → Leaves s old new
+    → CountsPuts (shows old).faults (shows new).faults s
+counts-puts shows None c status.Done old new ends leaves = ends.1.steady
+counts-puts shows None c status.Write old new ends leaves = (ends.1.rose, ends.1.later)
+counts-puts shows (Some files) c status.Done old new ends leaves = ends.2.steady
+counts-puts shows (Some files) c status.Write old new ends leaves = (ends.2.rose, ends.2.later)
+counts-puts shows files c s old new ends leaves = ap (λ w. (shows w).faults) leaves

@@ -4,7 +4,7 @@ use Rattle.dvs_base.specs.Outside.{ShelfView, SinkView}
 use Rattle.task_model.specs.declared.task.Task.{Task}
 use Rattle.words.specs.Commands.{CommandOf}
 use Rattle.rtdvs_top.specs.CommandAnswer.{answer_of_command}
-use Rattle.rtdvs_top.specs.Causes.{MakesLoads, LoadOf, PassesBefore, files_for, loads_of}
+use Rattle.rtdvs_top.specs.Causes.{CountsLoads, LoadOf, PassesBefore, files_for}
 use Rattle.rtdvs_top.specs.Ending.{EndsAs, MetIn}
 use Rattle.rtdvs_top.specs.Naming.{NamedBy, NamedIfDone}
 use Rattle.rtdvs_top.specs.Shown.{IsShown}
@@ -34,7 +34,7 @@ pub record IsAnswered (c : CommandOf) (old new : Seen) (s : Status) (tasks : Opt
   -- the files before a load that failed were read, and why it failed
   pub passed : PassesBefore (files_for old.shelf.held c) c s
   pub explained : LoadOf old.shelf new.shelf c s
-  -- at most the command's loads were made
-  pub loads : MakesLoads (loads_of c) old.shelf new.shelf
+  -- the shelf's count of failed loads shows in the status
+  pub counts : CountsLoads old.shelf.faults new.shelf.faults s
   -- what the status shows by itself
   pub shown : IsShown s

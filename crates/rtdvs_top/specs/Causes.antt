@@ -1,6 +1,7 @@
 -- What a status says, and why it comes.
 use Rattle.std.specs.Prelude.{IsOk, ◌≡◌, ◌⊎◌, ℕ, ◌+◌, ◌<◌, ◌≤◌, List, [], Option, Some, None, Result, Ok, Err, ⊤}
 use Rattle.dvs_base.specs.Outside.{Files, ShelfView, Lacks, Rose}
+use Rattle.task_model.specs.declared.task.Task.{Task}
 use Rattle.words.specs.Commands.{RunOf, PollOf, CommandOf, run, admit, traced, workload, response, constrain, poll, least}
 use Rattle.dvs_base.specs.Checks.{and_then}
 use Rattle.rtdvs_top.specs.Answer.{tasks_at, machine_at}
@@ -31,6 +32,21 @@ abbrev pub IsNoLoad : Status → Type 0
 IsNoLoad (status.Load kind) = ⊥
 IsNoLoad s = ⊤
 
+-- a shelf's count of failed loads stays, unless the status says that a load failed
+abbrev pub CountsLoads : ℕ → ℕ → Status → Type 0
+CountsLoads before now (status.Load kind) = ⊤
+CountsLoads before now s = now ≡ before
+
+-- a step that gives a value leaves the shelf's count of failed loads; one that ends with a status moves it as that says
+abbrev pub CountsStep : {A : Type 0} → ℕ → ℕ → Result A Status → Type 0
+CountsStep before now (Ok a) = now ≡ before
+CountsStep before now (Err s) = CountsLoads before now s
+
+-- a sink's count of failed puts never falls, rises where the status is `Write`, and else stays
+abbrev pub CountsPuts : ℕ → ℕ → Status → Type 0
+CountsPuts before now status.Write = Rose before now × (before ≤ now)
+CountsPuts before now s = now ≡ before
+
 -- the status of a file that wasn't loaded or is refused: it says nothing of a test
 abbrev pub IsOfFile : Status → Type 0
 IsOfFile (status.Load kind) = ⊤
@@ -48,10 +64,11 @@ abbrev pub Refuses : {A : Type 0} → Option Files → (Files → Result A Statu
 Refuses None step s = IsRefusal s
 Refuses (Some files) step s = EndsWith (step files) s
 
--- a load failed: the files are known and lack the name, or the count of faults rose and the shelf was sure of fewer
--- than `place` loads; `place` is the load's number among those since the old shelf
+-- A load failed, the `place`-th since the old shelf. The files are known and lack the name, and the count of failed
+-- loads stayed; or the count rose, and the shelf was sure of fewer than `place` loads.
 abbrev pub LoadFails : ShelfView → ShelfView → ℕ → List ℕ → Type 0
-LoadFails old new place name = Lacks old.held name ⊎ (Rose old.faults new.faults × (old.sure < place))
+LoadFails old new place name =
+    (Lacks old.held name × (new.faults ≡ old.faults)) ⊎ (Rose old.faults new.faults × (old.sure < place))
 
 -- a load of a file that may be named failed: the file is named, and its load failed at this place
 abbrev pub NamedLoadFails : ShelfView → ShelfView → ℕ → Option (List ℕ) → Type 0
@@ -69,6 +86,38 @@ pub record MakesLoads (most : ℕ) (old new : ShelfView) : Type 0 where
 abbrev pub loads_named : Option (List ℕ) → ℕ
 loads_named None = 0
 loads_named (Some name) = 1
+
+-- the loads after a step: `more` where it gives a value, and none where it doesn't
+abbrev pub loads_where : {A : Type 0} → Result A Status → ℕ → ℕ
+loads_where (Ok a) more = more
+loads_where (Err s) more = 0
+
+-- the most loads after a step: `more`, but none where the files are known and the step gives no value
+abbrev pub loads_after : {A : Type 0} → Option Files → (Files → Result A Status) → ℕ → ℕ
+loads_after None step more = more
+loads_after (Some files) step more = loads_where (step files) more
+
+-- the most loads from the machine's on: that of the machine, and `more` after it
+abbrev pub loads_from_machine : Option Files → List ℕ → ℕ → ℕ
+loads_from_machine files machine more = 1 + loads_after files (machine_at machine) more
+
+-- the most loads of `poll` after its tasks: none where no task has the server's name
+abbrev pub polled_loads : Option Files → PollOf → List Task → ℕ
+polled_loads files q tasks = loads_after files (λ f. server_at q.server tasks) (loads_from_machine files q.machine 1)
+
+-- the most loads that a command's answer needs: each file after the first only where the answer gets that far
+abbrev pub loads_needed : Option Files → CommandOf → ℕ
+loads_needed files (run r) =
+    1 + loads_after files (tasks_at r.tasks) (loads_from_machine files r.machine (loads_named r.demands))
+loads_needed files (admit a) = 1 + loads_after files (tasks_at a.tasks) 1
+loads_needed files (traced r) = 1 + loads_after files (tasks_at r.tasks) (loads_from_machine files r.machine 1)
+loads_needed files (workload seed) = 0
+loads_needed files (response r) = 1 + loads_after files (tasks_at r.tasks) 1
+loads_needed files (constrain r) = 1 + loads_after files (tasks_at r.tasks) (loads_from_machine files r.machine 1)
+loads_needed files (poll q) =
+    1 + loads_after files (λ f. and_then (tasks_at q.tasks f) (server_at q.server))
+    (loads_from_machine files q.machine 1)
+loads_needed files (least l) = 1
 
 -- a status that says a load failed names this file, whose load failed
 abbrev pub IsLoadOf : ShelfView → ShelfView → FileKind → List ℕ → Status → Type 0

@@ -2,7 +2,8 @@
 use Rattle.std.specs.Prelude.{◌≡◌, ◌≢◌, ◌⊎◌, ℕ, ◌≤◌, Bool, false, List, [], length, map, string_bytes, String, Option, Some, None, Result, Ok, Err, IsOk, ⊤}
 use Rattle.std.specs.Io.KnownBytes.{Appends}
 use Rattle.std.specs.declared.alloc.Global.{Global}
-use Rattle.dvs_base.specs.Outside.{Files, ShelfView, SinkView, Rose, AppendsPrefix}
+use Rattle.dvs_base.specs.Outside.{Files, ShelfView, SinkView, Rose}
+use Rattle.dvs_base.specs.WritesText.{Wrote, WroteSome}
 use Rattle.dvs_base.specs.declared.kind.GovernorKind.{GovernorKind}
 use Rattle.dvs_base.specs.declared.kind.Version.{Version}
 use Rattle.dvs_base.specs.declared.kind.Scheduler.TheVariants.{Rm}
@@ -23,7 +24,7 @@ use Rattle.energy_bound.specs.declared.least.Least.{Least}
 use Rattle.rtdvs_top.specs.Answer.{prepared_of, admission, tasks_at, machine_at, demands_at}
 use Rattle.rtdvs_top.specs.Naming.{names_by}
 use Rattle.rtdvs_top.specs.Refusals.{status_text}
-use Rattle.rtdvs_top.specs.Causes.{LoadOf, PassesBefore, files_for, loads_of}
+use Rattle.rtdvs_top.specs.Causes.{LoadOf, PassesBefore, files_for, loads_of, loads_needed}
 use Rattle.rtdvs_top.specs.Ending.{HasMet, run_with, text_under}
 use Rattle.rtdvs_top.specs.Responding.{MeansPlan, RespondsOrIsDenied}
 use Rattle.rtdvs_top.specs.Testing.{TestedIn}
@@ -61,17 +62,18 @@ Answers None c loads_rose puts_rose s = ⊤
 Answers (Some files) (Err why) loads_rose puts_rose s = s ≡ status.Words why
 Answers (Some files) (Ok c) loads_rose puts_rose s = IsAnswer loads_rose puts_rose (answer_of_command c files) s
 
--- where the files are known, the bytes grow by the whole answer
+-- where the files are known, the answer's text was written whole; where they are not known, some text was
 abbrev pub Writes : Option Files → Result CommandOf WordFault → SinkView → SinkView → Type 0
-Writes (Some files) (Ok c) old new =
-    (text : List ℕ) × (answer_of_command c files ≡ Ok text) × Appends old.written new.written text
-Writes _ _ old new = ⊤
+Writes (Some files) (Ok c) old new = (text : List ℕ) × (answer_of_command c files ≡ Ok text) × Wrote old new text
+Writes None (Ok c) old new = (text : List ℕ) × Wrote old new text
+Writes files (Err why) old new = ⊤
 
--- where the files are known, the bytes grow by a first part of the answer
+-- where the files are known, a first part of the answer's text was written; where they are not known, one of some text
 abbrev pub WritesPart : Option Files → Result CommandOf WordFault → SinkView → SinkView → Type 0
 WritesPart (Some files) (Ok c) old new =
-    (text : List ℕ) × (answer_of_command c files ≡ Ok text) × AppendsPrefix old.written new.written text
-WritesPart _ _ old new = ⊤
+    (text : List ℕ) × (answer_of_command c files ≡ Ok text) × WroteSome old new text
+WritesPart None (Ok c) old new = (text : List ℕ) × WroteSome old new text
+WritesPart files (Err why) old new = ⊤
 
 -- the files are known, and the sink is sure of the whole answer
 abbrev pub IsSureOf : Option Files → Result CommandOf WordFault → SinkView → Type 0
@@ -92,6 +94,11 @@ LoadsInOrder files (Err why) s = ⊤
 abbrev pub loads_asked : Result CommandOf WordFault → ℕ
 loads_asked (Ok c) = loads_of c
 loads_asked (Err why) = 0
+
+-- the most loads that the answer to the words needs: those of the command; refused words need none
+abbrev pub loads_wanted : Option Files → Result CommandOf WordFault → ℕ
+loads_wanted held (Ok c) = loads_needed held c
+loads_wanted held (Err why) = 0
 
 -- the files of a run mean these tasks, this machine and these demands
 pub record Means (r : RunOf) (files : Files) (tasks : List Task) (machine : Table) (demands : DemandsOf) : Type 0 where

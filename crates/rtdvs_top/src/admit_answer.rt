@@ -3,7 +3,7 @@ ghost use Rattle.std.specs.Prelude.{IfOk, IfErr};
 ghost use Rattle.words.specs.Commands.{admit as admit_of};
 ghost use Rattle.rtdvs_top.specs.Asked.{shown_admit};
 ghost use Rattle.rtdvs_top.specs.Answer.{admitted_of, admit_after_tasks, admit_answer};
-ghost use Rattle.rtdvs_top.specs.Causes.{Gives, Refuses, MakesLoads, IsLoadOf, LoadOf, PassesBefore, loads_of};
+ghost use Rattle.rtdvs_top.specs.Causes.{Gives, Refuses, MakesLoads, CountsLoads, CountsStep, IsLoadOf, LoadOf, PassesBefore, loads_needed};
 ghost use Rattle.rtdvs_top.specs.Answered.{seen, IsAnswered};
 ghost use Rattle.rtdvs_top.specs.Naming.{NamedBy, NamedIfDone};
 ghost use Rattle.rtdvs_top.specs.Shown.{IsShown};
@@ -30,6 +30,7 @@ fn load_admitted<S: Shelf>(
     ensures explained { IfErr result
         (IsLoadOf (S.shows shelf.old) (S.shows shelf.new) FileKind.Machine words.now.machine.now) }
     ensures loads { MakesLoads 1 (S.shows shelf.old) (S.shows shelf.new) }
+    ensures counts { CountsStep (S.shows shelf.old).faults (S.shows shelf.new).faults result }
     ensures shown { IfErr result IsShown }
 {
     let machine = load_machine(alloc, words.machine, shelf)?;
@@ -50,6 +51,7 @@ fn admit_tasks<S: Shelf, W: Sink>(
     ensures leaves { Leaves result out.old out.new }
     ensures explained { IsLoadOf (S.shows shelf.old) (S.shows shelf.new) FileKind.Machine words.now.machine.now result }
     ensures loads { MakesLoads 1 (S.shows shelf.old) (S.shows shelf.new) }
+    ensures counts { CountsLoads (S.shows shelf.old).faults (S.shows shelf.new).faults result }
     ensures shown { IsShown result }
 {
     match load_admitted(alloc, words, tasks, shelf) {
@@ -67,6 +69,8 @@ pub(crate) fn answer_admit<S: Shelf, W: Sink>(
 ) -> (Status, Option<TaskSet>)
     ensures answered { IsAnswered (admit_of (shown_admit words.now)) (seen (S.shows shelf.old) (W.shows out.old))
         (seen (S.shows shelf.new) (W.shows out.new)) result.0 result.1 }
+    ensures loads { MakesLoads (loads_needed (S.shows shelf.old).held (admit_of (shown_admit words.now)))
+        (S.shows shelf.old) (S.shows shelf.new) }
     ensures leaves { Leaves result.0 out.old out.new }
 {
     let tasks = match load_tasks(alloc, words.tasks, shelf) {

@@ -9,7 +9,7 @@ ghost use Rattle.rtdvs_top.specs.Constraining.{KeepsDeadlines, RefusesBy, IsKept
 ghost use Rattle.rtdvs_top.specs.ConstrainCauses.{LaterDeadlineLoad, PassesConstrained};
 ghost use Rattle.rtdvs_top.specs.Responding.{IsWritten};
 ghost use Rattle.rtdvs_top.specs.Testing.{TestedIn};
-ghost use Rattle.rtdvs_top.specs.Causes.{EndsWith, Gives, Refuses, MakesLoads, IsLoadOf, IsNoLoad, IsOfFile, LoadOf, PassesBefore, loads_of};
+ghost use Rattle.rtdvs_top.specs.Causes.{EndsWith, Gives, Refuses, MakesLoads, CountsLoads, CountsStep, IsLoadOf, IsNoLoad, IsOfFile, LoadOf, PassesBefore, loads_from_machine, loads_needed};
 ghost use Rattle.rtdvs_top.specs.Answered.{seen, IsAnswered};
 ghost use Rattle.rtdvs_top.specs.Naming.{NamedBy, NamedIfDone};
 ghost use Rattle.rtdvs_top.specs.Ending.{Ends, EndsAs, Leaves, MetIn};
@@ -49,6 +49,7 @@ fn load_deadlines<S: Shelf>(
     ensures explained { IfErr result (IsLoadOf (S.shows shelf.old) (S.shows shelf.new) FileKind.Deadlines name.now) }
     ensures of_file { IfErr result IsOfFile }
     ensures loads { MakesLoads 1 (S.shows shelf.old) (S.shows shelf.new) }
+    ensures counts { CountsStep (S.shows shelf.old).faults (S.shows shelf.new).faults result }
     ensures shown { IfErr result IsShown }
 {
     let bytes = load_file(alloc, FileKind::Deadlines, name, shelf)?;
@@ -121,7 +122,9 @@ fn load_constrained<S: Shelf>(
     ensures passed { IfErr result (PassesConstrained (S.shows shelf.old).held (shown_constrain words.now)) }
     ensures explained { IfErr result
         (LaterDeadlineLoad (S.shows shelf.old) (S.shows shelf.new) (shown_constrain words.now)) }
-    ensures loads { MakesLoads 2 (S.shows shelf.old) (S.shows shelf.new) }
+    ensures loads { MakesLoads (loads_from_machine (S.shows shelf.old).held words.now.machine.now 1)
+        (S.shows shelf.old) (S.shows shelf.new) }
+    ensures counts { CountsStep (S.shows shelf.old).faults (S.shows shelf.new).faults result }
     ensures shown { IfErr result IsShown }
 {
     let machine = load_machine(alloc, words.machine, shelf)?;
@@ -159,7 +162,9 @@ fn constrain_tasks<S: Shelf, W: Sink>(
     ensures kept { IsKept (S.shows shelf.old).held (shown_constrain words.now) tasks.now result }
     ensures passed { PassesConstrained (S.shows shelf.old).held (shown_constrain words.now) result }
     ensures explained { LaterDeadlineLoad (S.shows shelf.old) (S.shows shelf.new) (shown_constrain words.now) result }
-    ensures loads { MakesLoads 2 (S.shows shelf.old) (S.shows shelf.new) }
+    ensures loads { MakesLoads (loads_from_machine (S.shows shelf.old).held words.now.machine.now 1)
+        (S.shows shelf.old) (S.shows shelf.new) }
+    ensures counts { CountsLoads (S.shows shelf.old).faults (S.shows shelf.new).faults result }
     ensures shown { IsShown result }
 {
     match load_constrained(alloc, words, tasks, shelf) {
@@ -177,6 +182,8 @@ pub(crate) fn answer_constrain<S: Shelf, W: Sink>(
 ) -> (Status, Option<TaskSet>)
     ensures answered { IsAnswered (constrain_of (shown_constrain words.now))
         (seen (S.shows shelf.old) (W.shows out.old)) (seen (S.shows shelf.new) (W.shows out.new)) result.0 result.1 }
+    ensures loads { MakesLoads (loads_needed (S.shows shelf.old).held (constrain_of (shown_constrain words.now)))
+        (S.shows shelf.old) (S.shows shelf.new) }
     ensures leaves { Leaves result.0 out.old out.new }
 {
     let tasks = match load_tasks(alloc, words.tasks, shelf) {

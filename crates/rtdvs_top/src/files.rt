@@ -1,7 +1,7 @@
 // The files that the words name: loaded, and read.
 ghost use Rattle.std.specs.Prelude.{◌≡◌, ◌<◌, ◌^◌, Some, map, option_map, IfOk, IfErr};
 ghost use Rattle.rtdvs_top.specs.Answer.{longest, bytes_at, tasks_at, machine_at, demands_at, task_status, machine_status, demand_status};
-ghost use Rattle.rtdvs_top.specs.Causes.{Gives, Refuses, MakesLoads, IsLoadOf, IsNamedLoadOf, IsOfFile, loads_named};
+ghost use Rattle.rtdvs_top.specs.Causes.{Gives, Refuses, MakesLoads, CountsStep, IsLoadOf, IsNamedLoadOf, IsOfFile, loads_named};
 ghost use Rattle.rtdvs_top.specs.Shown.{IsShown};
 
 use crate::{FileKind, Status, TextFault};
@@ -38,6 +38,7 @@ pub(crate) fn load_file<S: Shelf>(
     ensures explained { IfErr result (IsLoadOf (S.shows shelf.old) (S.shows shelf.new) file name.now) }
     ensures of_file { IfErr result IsOfFile }
     ensures loads { MakesLoads 1 (S.shows shelf.old) (S.shows shelf.new) }
+    ensures counts { CountsStep (S.shows shelf.old).faults (S.shows shelf.new).faults result }
     ensures shown { IfErr result IsShown }
 {
     let most = longest(file);
@@ -109,6 +110,7 @@ pub(crate) fn load_tasks<S: Shelf>(
     ensures explained { IfErr result (IsLoadOf (S.shows shelf.old) (S.shows shelf.new) FileKind.Tasks name.now) }
     ensures of_file { IfErr result IsOfFile }
     ensures loads { MakesLoads 1 (S.shows shelf.old) (S.shows shelf.new) }
+    ensures counts { CountsStep (S.shows shelf.old).faults (S.shows shelf.new).faults result }
     ensures shown { IfErr result IsShown }
 {
     let bytes = load_file(alloc, FileKind::Tasks, name, shelf)?;
@@ -129,6 +131,7 @@ pub(crate) fn load_machine<S: Shelf>(
     ensures explained { IfErr result (IsLoadOf (S.shows shelf.old) (S.shows shelf.new) FileKind.Machine name.now) }
     ensures of_file { IfErr result IsOfFile }
     ensures loads { MakesLoads 1 (S.shows shelf.old) (S.shows shelf.new) }
+    ensures counts { CountsStep (S.shows shelf.old).faults (S.shows shelf.new).faults result }
     ensures shown { IfErr result IsShown }
 {
     let bytes = load_file(alloc, FileKind::Machine, name, shelf)?;
@@ -150,6 +153,7 @@ fn load_named_demands<S: Shelf>(
     ensures refused { IfErr result (Refuses (S.shows shelf.old).held (demands_at tasks.now (Some name.now))) }
     ensures explained { IfErr result (IsLoadOf (S.shows shelf.old) (S.shows shelf.new) FileKind.Demands name.now) }
     ensures loads { MakesLoads 1 (S.shows shelf.old) (S.shows shelf.new) }
+    ensures counts { CountsStep (S.shows shelf.old).faults (S.shows shelf.new).faults result }
     ensures shown { IfErr result IsShown }
 {
     let bytes = load_file(alloc, FileKind::Demands, name, shelf)?;
@@ -175,6 +179,7 @@ pub(crate) fn load_demands<S: Shelf>(
         (option_map (λ s. s.now) name.entry)) }
     ensures loads { MakesLoads (loads_named (option_map (λ s. s.now) name.entry))
         (S.shows shelf.old) (S.shows shelf.new) }
+    ensures counts { CountsStep (S.shows shelf.old).faults (S.shows shelf.new).faults result }
     ensures shown { IfErr result IsShown }
 {
     match name {

@@ -2,7 +2,7 @@
 ghost use Rattle.std.specs.Prelude.{◌≡◌, ◌<◌, ◌≤◌, length, Ok};
 ghost use Rattle.words.specs.Commands.{HasReadyTicks, least as least_of};
 ghost use Rattle.rtdvs_top.specs.LeastAnswer.{shown_least, corners_text, sign_word, prices_text, least_text, least_on, least_answer, LeastMetOn};
-ghost use Rattle.rtdvs_top.specs.Causes.{MakesLoads, IsNoLoad, LoadOf, PassesBefore, loads_of};
+ghost use Rattle.rtdvs_top.specs.Causes.{MakesLoads, CountsLoads, IsNoLoad, LoadOf, PassesBefore, loads_needed};
 ghost use Rattle.rtdvs_top.specs.Ending.{Ends, EndsAs, Leaves, MetIn};
 ghost use Rattle.rtdvs_top.specs.Shown.{IsShown};
 
@@ -112,7 +112,9 @@ pub(crate) fn answer_least<S: Shelf, W: Sink>(
     ensures met { MetIn (S.shows shelf.old).held (least_of (shown_least words.now)) result }
     ensures passed { PassesBefore (S.shows shelf.old).held (least_of (shown_least words.now)) result }
     ensures explained { LoadOf (S.shows shelf.old) (S.shows shelf.new) (least_of (shown_least words.now)) result }
-    ensures loads { MakesLoads (loads_of (least_of (shown_least words.now))) (S.shows shelf.old) (S.shows shelf.new) }
+    ensures loads { MakesLoads (loads_needed (S.shows shelf.old).held (least_of (shown_least words.now)))
+        (S.shows shelf.old) (S.shows shelf.new) }
+    ensures counts { CountsLoads (S.shows shelf.old).faults (S.shows shelf.new).faults result }
     ensures shown { IsShown result }
 {
     match load_machine(alloc, words.machine, shelf) {

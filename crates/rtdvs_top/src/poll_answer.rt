@@ -5,7 +5,7 @@ ghost use Rattle.words.specs.Commands.{IsReadyCommand, poll as poll_of};
 ghost use Rattle.rtdvs_top.specs.Asked.{shown_poll};
 ghost use Rattle.rtdvs_top.specs.PollAnswer.{outcome_text, request_lines, is_served, served_among, polled_line, polled_text, answer_of_polling, poll_after_tasks, poll_answer};
 ghost use Rattle.rtdvs_top.specs.PollCauses.{LaterRequestLoad, PassesPolled, IsPollable, ServedIfDone, ServedIn};
-ghost use Rattle.rtdvs_top.specs.Causes.{MakesLoads, IsNoLoad, LoadOf, PassesBefore, loads_of};
+ghost use Rattle.rtdvs_top.specs.Causes.{MakesLoads, CountsLoads, IsNoLoad, LoadOf, PassesBefore, polled_loads, loads_needed};
 ghost use Rattle.rtdvs_top.specs.Answered.{seen, IsAnswered};
 ghost use Rattle.rtdvs_top.specs.Naming.{NamedBy, NamedIfDone};
 ghost use Rattle.rtdvs_top.specs.Ending.{Ends, EndsAs, Leaves, MetIn};
@@ -158,7 +158,9 @@ fn poll_tasks<S: Shelf, W: Sink>(
     ensures kept { ServedIn (S.shows shelf.old).held (shown_poll words.now) tasks.now result }
     ensures passed { PassesPolled (S.shows shelf.old).held (shown_poll words.now) tasks.now result }
     ensures explained { LaterRequestLoad (S.shows shelf.old) (S.shows shelf.new) (shown_poll words.now) result }
-    ensures loads { MakesLoads 2 (S.shows shelf.old) (S.shows shelf.new) }
+    ensures loads { MakesLoads (polled_loads (S.shows shelf.old).held (shown_poll words.now) tasks.now)
+        (S.shows shelf.old) (S.shows shelf.new) }
+    ensures counts { CountsLoads (S.shows shelf.old).faults (S.shows shelf.new).faults result }
     ensures shown { IsShown result }
 {
     match load_polling(alloc, words, tasks, shelf) {
@@ -177,6 +179,8 @@ pub(crate) fn answer_poll<S: Shelf, W: Sink>(
     requires { IsReadyCommand (poll_of (shown_poll words.now)) }
     ensures answered { IsAnswered (poll_of (shown_poll words.now)) (seen (S.shows shelf.old) (W.shows out.old))
         (seen (S.shows shelf.new) (W.shows out.new)) result.0 result.1 }
+    ensures loads { MakesLoads (loads_needed (S.shows shelf.old).held (poll_of (shown_poll words.now)))
+        (S.shows shelf.old) (S.shows shelf.new) }
     ensures leaves { Leaves result.0 out.old out.new }
 {
     let tasks = match load_tasks(alloc, words.tasks, shelf) {

@@ -5,7 +5,7 @@ ghost use Rattle.sched_model.specs.Jobs.{released_jobs};
 ghost use Rattle.rtdvs_top.specs.Asked.{shown_poll};
 ghost use Rattle.rtdvs_top.specs.PollAnswer.{server_at, request_status, requests_at, polling_of, polling_served, answer_of_polling};
 ghost use Rattle.rtdvs_top.specs.PollCauses.{LaterRequestLoad, PassesPolled, IsServer, IsPollable, HasServed};
-ghost use Rattle.rtdvs_top.specs.Causes.{EndsWith, Gives, Refuses, MakesLoads, IsLoadOf, IsNoLoad};
+ghost use Rattle.rtdvs_top.specs.Causes.{EndsWith, Gives, Refuses, MakesLoads, CountsStep, IsLoadOf, IsNoLoad, polled_loads};
 ghost use Rattle.rtdvs_top.specs.Shown.{IsShown};
 
 use crate::at_pair::at_pair;
@@ -72,6 +72,7 @@ fn load_requests<S: Shelf>(alloc: Global, name: &str, shelf: &mut S) -> Result<R
     ensures refused { IfErr result (Refuses (S.shows shelf.old).held (requests_at name.now)) }
     ensures explained { IfErr result (IsLoadOf (S.shows shelf.old) (S.shows shelf.new) FileKind.Requests name.now) }
     ensures loads { MakesLoads 1 (S.shows shelf.old) (S.shows shelf.new) }
+    ensures counts { CountsStep (S.shows shelf.old).faults (S.shows shelf.new).faults result }
     ensures shown { IfErr result IsShown }
 {
     let bytes = load_file(alloc, FileKind::Requests, name, shelf)?;
@@ -94,7 +95,9 @@ pub(crate) fn load_polling<S: Shelf>(
     ensures refused { IfErr result (Refuses (S.shows shelf.old).held (polling_of (shown_poll words.now) tasks.now)) }
     ensures passed { IfErr result (PassesPolled (S.shows shelf.old).held (shown_poll words.now) tasks.now) }
     ensures explained { IfErr result (LaterRequestLoad (S.shows shelf.old) (S.shows shelf.new) (shown_poll words.now)) }
-    ensures loads { MakesLoads 2 (S.shows shelf.old) (S.shows shelf.new) }
+    ensures loads { MakesLoads (polled_loads (S.shows shelf.old).held (shown_poll words.now) tasks.now)
+        (S.shows shelf.old) (S.shows shelf.new) }
+    ensures counts { CountsStep (S.shows shelf.old).faults (S.shows shelf.new).faults result }
     ensures shown { IfErr result IsShown }
 {
     let server = find_server(words.server, tasks)?;

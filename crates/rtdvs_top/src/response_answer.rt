@@ -6,7 +6,7 @@ ghost use Rattle.rm_response.specs.Denials.{exact_answer};
 ghost use Rattle.rtdvs_top.specs.ResponseAnswer.{shown_response, responses_from, responses_at, response_text, responses_text, response_after_tasks, response_answer};
 ghost use Rattle.rtdvs_top.specs.Responding.{Responds, DeniesBy, IsWritten, IsTested};
 ghost use Rattle.rtdvs_top.specs.Testing.{TestedIn};
-ghost use Rattle.rtdvs_top.specs.Causes.{EndsWith, Gives, Refuses, MakesLoads, IsLoadOf, IsNoLoad, LoadOf, PassesBefore, loads_of};
+ghost use Rattle.rtdvs_top.specs.Causes.{EndsWith, Gives, Refuses, MakesLoads, CountsLoads, CountsStep, IsLoadOf, IsNoLoad, LoadOf, PassesBefore, loads_needed};
 ghost use Rattle.rtdvs_top.specs.Answered.{seen, IsAnswered};
 ghost use Rattle.rtdvs_top.specs.Naming.{NamedBy, NamedIfDone};
 ghost use Rattle.rtdvs_top.specs.Ending.{Ends, EndsAs, Leaves, MetIn};
@@ -62,6 +62,7 @@ fn load_responses<S: Shelf>(
     ensures explained { IfErr result
         (IsLoadOf (S.shows shelf.old) (S.shows shelf.new) FileKind.Machine words.now.machine.now) }
     ensures loads { MakesLoads 1 (S.shows shelf.old) (S.shows shelf.new) }
+    ensures counts { CountsStep (S.shows shelf.old).faults (S.shows shelf.new).faults result }
     ensures shown { IfErr result IsShown }
 {
     let machine = load_machine(alloc, words.machine, shelf)?;
@@ -129,6 +130,7 @@ fn respond_tasks<S: Shelf, W: Sink>(
     ensures tested { IsTested (S.shows shelf.old).held (shown_response words.now) tasks.now result }
     ensures explained { IsLoadOf (S.shows shelf.old) (S.shows shelf.new) FileKind.Machine words.now.machine.now result }
     ensures loads { MakesLoads 1 (S.shows shelf.old) (S.shows shelf.new) }
+    ensures counts { CountsLoads (S.shows shelf.old).faults (S.shows shelf.new).faults result }
     ensures shown { IsShown result }
 {
     match load_responses(alloc, words, tasks, shelf) {
@@ -146,6 +148,8 @@ pub(crate) fn answer_response<S: Shelf, W: Sink>(
 ) -> (Status, Option<TaskSet>)
     ensures answered { IsAnswered (response_of (shown_response words.now)) (seen (S.shows shelf.old) (W.shows out.old))
         (seen (S.shows shelf.new) (W.shows out.new)) result.0 result.1 }
+    ensures loads { MakesLoads (loads_needed (S.shows shelf.old).held (response_of (shown_response words.now)))
+        (S.shows shelf.old) (S.shows shelf.new) }
     ensures leaves { Leaves result.0 out.old out.new }
 {
     let tasks = match load_tasks(alloc, words.tasks, shelf) {

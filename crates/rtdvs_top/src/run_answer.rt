@@ -1,9 +1,9 @@
 // The answer of `run`.
-ghost use Rattle.std.specs.Prelude.{◌≡◌, ◌+◌, map, IfOk, IfErr};
+ghost use Rattle.std.specs.Prelude.{◌≡◌, map, IfOk, IfErr};
 ghost use Rattle.words.specs.Commands.{IsReady, run as run_of};
 ghost use Rattle.rtdvs_top.specs.Asked.{shown_run, IsReadyRun};
 ghost use Rattle.rtdvs_top.specs.Answer.{prepared_of, run_after_tasks, run_answer};
-ghost use Rattle.rtdvs_top.specs.Causes.{Gives, Refuses, MakesLoads, LaterLoad, LoadOf, PassesMachine, PassesBefore, loads_named, loads_of};
+ghost use Rattle.rtdvs_top.specs.Causes.{Gives, Refuses, MakesLoads, CountsLoads, CountsStep, LaterLoad, LoadOf, PassesMachine, PassesBefore, loads_named, loads_from_machine, loads_needed};
 ghost use Rattle.rtdvs_top.specs.Answered.{seen, IsAnswered};
 ghost use Rattle.rtdvs_top.specs.Naming.{NamedBy, NamedIfDone};
 ghost use Rattle.rtdvs_top.specs.Probing.{LeavesProbes, ToldBy, ToldIn};
@@ -44,8 +44,11 @@ fn prepare<S: Shelf>(
     ensures passed { IfErr result (PassesMachine (S.shows shelf.old).held (run_of (shown_run run.now.words.now))) }
     ensures explained { IfErr result
         (LaterLoad (S.shows shelf.old) (S.shows shelf.new) (shown_run run.now.words.now)) }
-    ensures loads { MakesLoads (1 + loads_named (shown_run run.now.words.now).demands)
+    ensures loads { MakesLoads
+        (loads_from_machine (S.shows shelf.old).held (shown_run run.now.words.now).machine
+        (loads_named (shown_run run.now.words.now).demands))
         (S.shows shelf.old) (S.shows shelf.new) }
+    ensures counts { CountsStep (S.shows shelf.old).faults (S.shows shelf.new).faults result }
     ensures shown { IfErr result IsShown }
 {
     let machine = load_machine(alloc, run.words.machine, shelf)?;
@@ -75,8 +78,11 @@ fn run_tasks<S: Shelf, W: Sink, P: Probe>(
     ensures ran { RanBy (S.shows shelf.old).held (shown_run run.now.words.now) run.now.tasks.now result }
     ensures passed { PassesMachine (S.shows shelf.old).held (run_of (shown_run run.now.words.now)) result }
     ensures explained { LaterLoad (S.shows shelf.old) (S.shows shelf.new) (shown_run run.now.words.now) result }
-    ensures loads { MakesLoads (1 + loads_named (shown_run run.now.words.now).demands)
+    ensures loads { MakesLoads
+        (loads_from_machine (S.shows shelf.old).held (shown_run run.now.words.now).machine
+        (loads_named (shown_run run.now.words.now).demands))
         (S.shows shelf.old) (S.shows shelf.new) }
+    ensures counts { CountsLoads (S.shows shelf.old).faults (S.shows shelf.new).faults result }
     ensures shown { IsShown result }
 {
     match prepare(alloc, run, shelf) {
@@ -109,6 +115,8 @@ pub(crate) fn answer_run<S: Shelf, W: Sink, P: Probe>(
     requires { IsReady (shown_run run.now) }
     ensures answered { IsAnswered (run_of (shown_run run.now)) (seen (S.shows shelf.old) (W.shows out.old))
         (seen (S.shows shelf.new) (W.shows out.new)) result.0 result.1 }
+    ensures loads { MakesLoads (loads_needed (S.shows shelf.old).held (run_of (shown_run run.now)))
+        (S.shows shelf.old) (S.shows shelf.new) }
     ensures leaves { Leaves result.0 out.old out.new }
     ensures kept { LeavesProbes run.now.probes result.0 probes.old probes.new }
     ensures told { ToldIn (S.shows shelf.old).held (run_of (shown_run run.now)) (W.shows out.old) (W.shows out.new)

@@ -3,7 +3,7 @@ ghost use Rattle.std.specs.Prelude.{◌≡◌, ◌≤◌, ◌↔◌, map};
 ghost use Rattle.std.specs.Option.{option_copied};
 ghost use Rattle.dvs_base.specs.Outside.{Rose};
 ghost use Rattle.rtdvs_top.specs.CommandAnswer.{answer_of_command};
-ghost use Rattle.rtdvs_top.specs.Causes.{MakesLoads, LoadOf, PassesBefore, files_for, loads_of};
+ghost use Rattle.rtdvs_top.specs.Causes.{MakesLoads, CountsLoads, CountsPuts, LoadOf, PassesBefore, files_for, loads_needed};
 ghost use Rattle.rtdvs_top.specs.Naming.{names_of, NamedBy, NamedIfDone};
 ghost use Rattle.rtdvs_top.specs.Refusals.{status_text};
 ghost use Rattle.rtdvs_top.specs.ProbeLines.{NotedAs, noted_text, probe_lines};
@@ -11,7 +11,7 @@ ghost use Rattle.rtdvs_top.specs.Answered.{seen, IsAnswered};
 ghost use Rattle.rtdvs_top.specs.Probing.{LeavesProbes, ToldIn, asks_probes};
 ghost use Rattle.rtdvs_top.specs.Shown.{IsShown};
 ghost use Rattle.rtdvs_top.specs.Ending.{EndsAs, Leaves, MetIn};
-ghost use Rattle.rtdvs_top.specs.Promises.{asked, known_files, Answers, Writes, WritesPart, IsSureOf, LoadFailed, LoadsInOrder, loads_asked, OfRun, OfTests, OfPoll, Headline, OfLeast, Notes, Tells, probes_asked};
+ghost use Rattle.rtdvs_top.specs.Promises.{asked, known_files, Answers, Writes, WritesPart, IsSureOf, LoadFailed, LoadsInOrder, loads_asked, loads_wanted, OfRun, OfTests, OfPoll, Headline, OfLeast, Notes, Tells, probes_asked};
 ghost use Rattle.rtdvs_top.specs.Exactness.{OfTrace};
 ghost use Rattle.rtdvs_top.specs.Testing.{TestedIn};
 ghost use Rattle.words.specs.Commands.{IsReadyCommand};
@@ -104,6 +104,8 @@ fn answer_command<S: Shelf, W: Sink, P: Probe>(
     requires { IsReadyCommand (shown command.now) }
     ensures answered { IsAnswered (shown command.now) (seen (S.shows shelf.old) (W.shows out.old))
         (seen (S.shows shelf.new) (W.shows out.new)) result.0 result.1 }
+    ensures loads { MakesLoads (loads_needed (S.shows shelf.old).held (shown command.now))
+        (S.shows shelf.old) (S.shows shelf.new) }
     ensures leaves { Leaves result.0 out.old out.new }
     ensures kept { LeavesProbes (asks_probes (shown command.now)) result.0 probes.old probes.new }
     ensures told { ToldIn (files_for (S.shows shelf.old).held (shown command.now)) (shown command.now)
@@ -184,6 +186,14 @@ pub fn rtdvs<S: Shelf, W: Sink, E: Sink>(
     // `least`: a certificate that passes its check, and a bound on every choice and every schedule
     ensures least { OfLeast (known_files (S.shows shelf.old).held (asked words.now)) (asked words.now)
         (W.shows out.old) (W.shows out.new) result }
+
+    // what is left of the shelf: its files, and all its guaranteed loads but those that the answer needs
+    ensures shelf { MakesLoads (loads_wanted (S.shows shelf.old).held (asked words.now))
+        (S.shows shelf.old) (S.shows shelf.new) }
+
+    // the counts of failed loads and of failed puts show in the status
+    ensures counts { CountsLoads (S.shows shelf.old).faults (S.shows shelf.new).faults result }
+    ensures puts { CountsPuts (W.shows out.old).faults (W.shows out.new).faults result }
 
     // what the shelf and the sink are sure of doesn't fail
     ensures sure { IsSureOf (known_files (S.shows shelf.old).held (asked words.now)) (asked words.now) (W.shows out.old)

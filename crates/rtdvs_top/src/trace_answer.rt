@@ -3,7 +3,7 @@ ghost use Rattle.std.specs.Prelude.{◌<◌, ◌≡◌, length, IsOk, Ok};
 ghost use Rattle.rtdvs_top.specs.ReplayAnswer.{shown_trace, totals_at, replayed_text, migrated_text, answer_of_traced, trace_after_tasks, trace_answer};
 ghost use Rattle.words.specs.Commands.{traced};
 ghost use Rattle.rtdvs_top.specs.ReplayCauses.{IsComparable, PassesTraced, LaterTraceLoad};
-ghost use Rattle.rtdvs_top.specs.Causes.{MakesLoads, IsNoLoad, LoadOf, PassesBefore, loads_of};
+ghost use Rattle.rtdvs_top.specs.Causes.{MakesLoads, CountsLoads, IsNoLoad, LoadOf, PassesBefore, loads_from_machine, loads_needed};
 ghost use Rattle.rtdvs_top.specs.Answered.{seen, IsAnswered};
 ghost use Rattle.rtdvs_top.specs.Naming.{NamedBy, NamedIfDone};
 ghost use Rattle.rtdvs_top.specs.Ending.{Ends, EndsAs, Leaves, MetTraced, MetIn};
@@ -120,7 +120,9 @@ fn trace_tasks<S: Shelf, W: Sink>(
     ensures met { MetTraced (S.shows shelf.old).held (shown_trace words.now) tasks.now result }
     ensures passed { PassesTraced (S.shows shelf.old).held (shown_trace words.now) result }
     ensures explained { LaterTraceLoad (S.shows shelf.old) (S.shows shelf.new) (shown_trace words.now) result }
-    ensures loads { MakesLoads 2 (S.shows shelf.old) (S.shows shelf.new) }
+    ensures loads { MakesLoads (loads_from_machine (S.shows shelf.old).held words.now.machine.now 1)
+        (S.shows shelf.old) (S.shows shelf.new) }
+    ensures counts { CountsLoads (S.shows shelf.old).faults (S.shows shelf.new).faults result }
     ensures shown { IsShown result }
 {
     match load_traced(alloc, words, tasks, shelf) {
@@ -139,6 +141,8 @@ pub(crate) fn answer_trace<S: Shelf, W: Sink>(
 ) -> (Status, Option<TaskSet>)
     ensures answered { IsAnswered (traced (shown_trace words.now)) (seen (S.shows shelf.old) (W.shows out.old))
         (seen (S.shows shelf.new) (W.shows out.new)) result.0 result.1 }
+    ensures loads { MakesLoads (loads_needed (S.shows shelf.old).held (traced (shown_trace words.now)))
+        (S.shows shelf.old) (S.shows shelf.new) }
     ensures leaves { Leaves result.0 out.old out.new }
 {
     let tasks = match load_tasks(alloc, words.tasks, shelf) {

@@ -5,7 +5,7 @@ ghost use Rattle.trace_reader.specs.Traces.{IsTrace};
 ghost use Rattle.sched_model.specs.Admission.{IsAdmitted};
 ghost use Rattle.rtdvs_top.specs.ReplayAnswer.{shown_trace, task_names, task_line, lines_of_tasks, trace_status, trace_of, trace_at, traced_of, replay_status, totals_at};
 ghost use Rattle.rtdvs_top.specs.ReplayCauses.{IsComparable, IsCompared, PassesTraced, LaterTraceLoad};
-ghost use Rattle.rtdvs_top.specs.Causes.{EndsWith, Gives, Refuses, MakesLoads, IsLoadOf, IsNoLoad};
+ghost use Rattle.rtdvs_top.specs.Causes.{EndsWith, Gives, Refuses, MakesLoads, CountsStep, IsLoadOf, IsNoLoad, loads_from_machine};
 ghost use Rattle.rtdvs_top.specs.Shown.{IsShown};
 
 use crate::at_pair::at_pair;
@@ -102,6 +102,7 @@ fn load_trace<S: Shelf>(
     ensures refused { IfErr result (Refuses (S.shows shelf.old).held (trace_at tasks.now name.now)) }
     ensures explained { IfErr result (IsLoadOf (S.shows shelf.old) (S.shows shelf.new) FileKind.Trace name.now) }
     ensures loads { MakesLoads 1 (S.shows shelf.old) (S.shows shelf.new) }
+    ensures counts { CountsStep (S.shows shelf.old).faults (S.shows shelf.new).faults result }
     ensures shown { IfErr result IsShown }
 {
     let bytes = load_file(alloc, FileKind::Trace, name, shelf)?;
@@ -125,7 +126,9 @@ pub(crate) fn load_traced<S: Shelf>(
     ensures refused { IfErr result (Refuses (S.shows shelf.old).held (traced_of (shown_trace words.now) tasks.now)) }
     ensures passed { IfErr result (PassesTraced (S.shows shelf.old).held (shown_trace words.now)) }
     ensures explained { IfErr result (LaterTraceLoad (S.shows shelf.old) (S.shows shelf.new) (shown_trace words.now)) }
-    ensures loads { MakesLoads 2 (S.shows shelf.old) (S.shows shelf.new) }
+    ensures loads { MakesLoads (loads_from_machine (S.shows shelf.old).held words.now.machine.now 1)
+        (S.shows shelf.old) (S.shows shelf.new) }
+    ensures counts { CountsStep (S.shows shelf.old).faults (S.shows shelf.new).faults result }
     ensures shown { IfErr result IsShown }
 {
     let machine = load_machine(alloc, words.machine, shelf)?;

@@ -1,6 +1,6 @@
 use Rattle.std.proofs.Common.{List, map, refl, sym, ap}
 use Rattle.probes.specs.Tallies.{ProbeOf}
-use Rattle.rtdvs_top.proofs.Answering.{answers-of, sure-of}
+use Rattle.rtdvs_top.proofs.Answering.{answers-of, sure-of, writes-of, parts-of, counts-puts}
 use Rattle.rtdvs_top.proofs.Noting.{notes-of}
 use Rattle.rtdvs_top.proofs.Headlines.{of-run, headline-of}
 use Rattle.rtdvs_top.proofs.Exactness.{of-trace}
@@ -43,6 +43,19 @@ returns-clause-exact g c =
     rw (sym c.in-Ok.ensures.read)
     (of-trace _ _ _ _ _ e.met
     (answers-of _ _ (g.S.Shelf.shows c.args.shelf.now) (g.S.Shelf.shows c.answer_command-status.new.shelf) _ _ _ refl e.ended e.explained e.passed))
+
+pub returns-clause-done : goal.returns-clause-done
+returns-clause-done g c =
+    λ done. rw (sym c.in-Ok.ensures.read) (writes-of _ _ _ _ _ c.answer_command-status.ensures.answered.ended done)
+
+pub returns-clause-part : goal.returns-clause-part
+returns-clause-part g c =
+    λ failed. rw (sym c.in-Ok.ensures.read) (parts-of _ _ _ _ _ c.answer_command-status.ensures.answered.ended failed)
+
+pub returns-clause-puts : goal.returns-clause-puts
+returns-clause-puts g c =
+    let e = c.answer_command-status.ensures.answered in
+    counts-puts g.W.Sink.shows _ _ c.answer_command-status.result.0 c.args.out.now _ e.ended c.answer_command-status.ensures.leaves
 
 pub returns-clause-sure : goal.returns-clause-sure
 returns-clause-sure g c =
