@@ -6,7 +6,7 @@
 # Checked: dash, busybox sh and bash leave the same tables and figures, also in folders whose names have blanks.
 set -e
 here=$(dirname "$0")
-rtdvs=$1 folder=$2 processes=${3:-1} most=${4:-100}
+rtdvs=${1:?no program} folder=${2:?no folder} processes=${3:-1} most=${4:-100}
 seed=2001           # of all sets and demands
 ticks=720720        # of each run: 2^4 * 3^2 * 5 * 7 * 11 * 13, a multiple of every period
 millisecond=400     # in ticks

@@ -8,7 +8,7 @@
 # The traces of each set with number 1 are recounted. An error ends the script with status 255, which stops `xargs`, and
 # leaves no result.
 here=$(dirname "$0")
-rtdvs=$1 folder=$2 ticks=$3 seed=$4 name=$5
+rtdvs=${1:?no program} folder=${2:?no folder} ticks=${3:?no ticks} seed=${4:?no seed} name=${5:?no name}
 set=$folder/sets/$name.toml
 result=$folder/results/$name.tsv
 work=$folder/work/$name
