@@ -1,7 +1,9 @@
 // plain.c: a run under `none`, by heaps and with one buffer for its output; SPEED.md says how it is called.
+// With -DLINES it writes each line by itself.
 #include <stdio.h>
 #include <stdlib.h>
 #include <string.h>
+#include <unistd.h>
 typedef unsigned long long u64;
 typedef struct { int task; u64 due; } entry;
 typedef struct { int len; entry at[64]; } heap;
@@ -29,7 +31,15 @@ static void take(heap *h, int ready) {
     }
     h->at[i] = e;
 }
-static void text(const char *s) { while (*s) out[len++] = *s++; }
+static void text(const char *s) {
+    while (*s) out[len++] = *s++;
+#ifdef LINES
+    if (out[len - 1] == '\n') {
+        if (write(1, out, len) != (ssize_t)len) exit(1);
+        len = 0;
+    }
+#endif
+}
 static void number(u64 n) {
     char d[24];
     int k = 0;
@@ -59,7 +69,7 @@ int main(int argc, char **argv) {
         offset[i] = 7919 * (u64)i % period[i];
         put(&calendar, (entry){i, offset[i]}, 0);
     }
-    text("trace 1\nplan "); text(argv[1]); text(" none "); number(ticks); text("\n");
+    text("trace 1\n"); text("plan "); text(argv[1]); text(" none "); number(ticks); text("\n");
     while (now < ticks) {
         u64 q = 0, limit;
         while (calendar.at[0].due == now) {
