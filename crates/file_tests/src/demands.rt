@@ -51,59 +51,57 @@ fn rows_of_a_file_are_read(rt: HostRuntime) -> Result<(), Fail> {
     Ok(())
 }
 
+// An error of a demand file, with an unknown name as text.
+#[derive(Clone, Copy)]
+enum Why {
+    Header,
+    Fields(u64, u64),
+    UnknownTask(u64, &'static str),
+    BadNumber(u64, Column),
+    JobZero(u64),
+    Repeated(u64, u32, u64),
+    OverWorst(u32, u64, u64, u64),
+}
+
+fn fault(why: Why) -> DemandFault {
+    match why {
+        Why::Header => DemandFault::Header,
+        Why::Fields(row, count) => DemandFault::Fields { row, count },
+        Why::UnknownTask(row, name) => DemandFault::UnknownTask {
+            row,
+            name: Short::of(name.as_bytes()),
+        },
+        Why::BadNumber(row, column) => DemandFault::BadNumber { row, column },
+        Why::JobZero(row) => DemandFault::JobZero { row },
+        Why::Repeated(row, task, job) => DemandFault::Repeated { row, task, job },
+        Why::OverWorst(task, job, units, worst) => DemandFault::OverWorst {
+            task,
+            job,
+            units,
+            worst,
+        },
+    }
+}
+
+const REFUSALS: &[(&str, Why)] = &[
+    ("", Why::Header),
+    ("task,job\nt1,0,1\n", Why::Header),
+    ("task,job,units\nt1,1,8\nt1,0\n", Why::Fields(2, 2)),
+    ("task,job,units\nt9,0,1\n", Why::UnknownTask(1, "t9")),
+    ("task,job,units\nt1,01,x\n", Why::BadNumber(1, Column::Job)),
+    ("task,job,units\nt1,0,x\n", Why::JobZero(1)),
+    ("task,job,units\nt1,1,x\n", Why::BadNumber(1, Column::Units)),
+    ("task,job,units\nt1,1,8\nt1,1,13\n", Why::Repeated(2, 0, 1)),
+    ("task,job,units\nt2,2,13\n", Why::OverWorst(1, 2, 13, 12)),
+];
+
 #[test]
 fn the_first_refusal_is_the_answer(rt: HostRuntime) -> Result<(), Fail> {
     let alloc = rt.alloc();
     let tasks = three_tasks(alloc)?;
-    for (text, want) in [
-        ("", DemandFault::Header),
-        ("task,job\nt1,0,1\n", DemandFault::Header),
-        (
-            "task,job,units\nt1,1,8\nt1,0\n",
-            DemandFault::Fields { row: 2, count: 2 },
-        ),
-        (
-            "task,job,units\nt9,0,1\n",
-            DemandFault::UnknownTask {
-                row: 1,
-                name: Short::of(b"t9"),
-            },
-        ),
-        (
-            "task,job,units\nt1,01,x\n",
-            DemandFault::BadNumber {
-                row: 1,
-                column: Column::Job,
-            },
-        ),
-        ("task,job,units\nt1,0,x\n", DemandFault::JobZero { row: 1 }),
-        (
-            "task,job,units\nt1,1,x\n",
-            DemandFault::BadNumber {
-                row: 1,
-                column: Column::Units,
-            },
-        ),
-        (
-            "task,job,units\nt1,1,8\nt1,1,13\n",
-            DemandFault::Repeated {
-                row: 2,
-                task: 0,
-                job: 1,
-            },
-        ),
-        (
-            "task,job,units\nt2,2,13\n",
-            DemandFault::OverWorst {
-                task: 1,
-                job: 2,
-                units: 13,
-                worst: 12,
-            },
-        ),
-    ] {
+    for (text, why) in REFUSALS {
         let found = Demands::read(alloc, text.as_bytes(), &tasks).err();
-        assert_eq!(rt; found, Some(want), "{text}");
+        assert_eq!(rt; found, Some(fault(*why)), "{text}");
     }
     Ok(())
 }

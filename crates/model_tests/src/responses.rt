@@ -149,56 +149,60 @@ fn the_first_offset_is_named_before_all_else(rt: HostRuntime) -> Result<(), Fail
     Ok(())
 }
 
-#[test]
-fn the_first_task_without_a_response_is_named(rt: HostRuntime) -> Result<(), Fail> {
-    for (tasks, machine, task, num, cap) in [
-        (
-            r#"task = [{name = "a", period = 4, worst = 4}, {name = "b", period = 6, worst = 5}]"#,
-            TWO,
-            1,
-            13,
-            12,
-        ),
-        (
-            r#"task = [{name = "c", period = 8, worst = 9}, {name = "a", period = 4, worst = 5}]"#,
-            ONE,
-            1,
-            5,
-            4,
-        ),
-        (
-            r#"task = [{name = "b", period = 3, worst = 2}, {name = "a", period = 2, worst = 1}]"#,
-            ONE,
-            0,
-            4,
-            3,
-        ),
-        // of equal periods the later task in the file misses
-        (
-            r#"task = [{name = "a", period = 4, worst = 3}, {name = "b", period = 4, worst = 2}]"#,
-            ONE,
-            1,
-            5,
-            4,
-        ),
-        // the first task takes each tick whole: in one period of the second, 10995116277 times 100000000 units
-        (
-            r#"task = [
+// A task file, a machine file, the number of the task that is named, its `num` and its `cap`.
+const MISSES: &[(&str, &str, u32, u128, u128)] = &[
+    (
+        r#"task = [{name = "a", period = 4, worst = 4}, {name = "b", period = 6, worst = 5}]"#,
+        TWO,
+        1,
+        13,
+        12,
+    ),
+    (
+        r#"task = [{name = "c", period = 8, worst = 9}, {name = "a", period = 4, worst = 5}]"#,
+        ONE,
+        1,
+        5,
+        4,
+    ),
+    (
+        r#"task = [{name = "b", period = 3, worst = 2}, {name = "a", period = 2, worst = 1}]"#,
+        ONE,
+        0,
+        4,
+        3,
+    ),
+    // of equal periods the later task in the file misses
+    (
+        r#"task = [{name = "a", period = 4, worst = 3}, {name = "b", period = 4, worst = 2}]"#,
+        ONE,
+        1,
+        5,
+        4,
+    ),
+    // the first task takes each tick whole: in one period of the second, 10995116277 times 100000000 units
+    (
+        r#"task = [
     {name = "a", period = 100, worst = 100000000},
     {name = "b", period = 1099511627700, worst = 1},
 ]"#,
-            FAST,
-            1,
-            1099511627700000001,
-            1099511627700000000,
-        ),
-    ] {
+        FAST,
+        1,
+        1099511627700000001,
+        1099511627700000000,
+    ),
+];
+
+#[test]
+fn the_first_task_without_a_response_is_named(rt: HostRuntime) -> Result<(), Fail> {
+    for (tasks, machine, task, num, cap) in MISSES {
         let found = answer(rt.alloc(), tasks, machine)?.err();
-        assert_eq!(rt;
-            found,
-            Some(ResponseFault::Misses { task, num, cap }),
-            "{tasks}"
-        );
+        let want = ResponseFault::Misses {
+            task: *task,
+            num: *num,
+            cap: *cap,
+        };
+        assert_eq!(rt; found, Some(want), "{tasks}");
     }
     Ok(())
 }

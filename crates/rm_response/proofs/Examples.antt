@@ -2,7 +2,7 @@
 use Rattle.std.proofs.Common.{◌≡◌, ℕ, List, [], ◌∷◌, Ok, Err, codes, refl}
 use Rattle.dvs_base.specs.declared.kind.Scheduler.TheVariants.{Rm}
 use Rattle.task_model.specs.declared.task.Task.{Task}
-use Rattle.sched_model.specs.Order.{in_order}
+use Rattle.sched_model.specs.Priority.{in_order}
 use Rattle.sched_model.specs.Plan.{Plan, plan_of}
 use Rattle.rm_response_laws.specs.Responses.{response}
 use Rattle.rm_response.specs.declared.response.ResponseFault.TheVariants.{Offset, Misses}

@@ -1,8 +1,7 @@
 -- The first number in the order of a key that passes a test.
 use Rattle.std.proofs.Common.{◌≡◌, ℕ, ◌<◌, Bool, true, false, List, [], ◌∷◌, ◌++◌, Some, None, refl, ap, ◌∙◌, subst}
 use Rattle.std.specs.List.{find}
-use Rattle.sched_model.specs.Priority.{stands_before}
-use Rattle.sched_model.specs.Order.{in_order}
+use Rattle.sched_model.specs.Priority.{stands_before, in_order}
 use Rattle.sched_model.proofs.OrderLemmas.{IsOrdered, AreBelow, in_order-below, in_order-ordered, stands-in_order, first_ahead}
 
 module _ (test : ℕ → Bool) (key : ℕ → ℕ) (n : ℕ) where

@@ -3,7 +3,7 @@ use Rattle.std.proofs.Common.{◌≡◌, ℕ, ◌+◌, ◌<◌, ◌≤◌, Bool,
 use Rattle.grid_fraction.proofs.Searches.{below_suc}
 use Rattle.sched_model.specs.Priority.{stands_before}
 use Rattle.sched_model.proofs.PriorityLemmas.{before-self, before-trans}
-use Rattle.rm_response.specs.Late.{IsFirstLate, FindsLate, earlier_of}
+use Rattle.rm_response.specs.Denials.{IsFirstLate, FindsLate, earlier_of}
 
 module _ (period response : ℕ → ℕ) where
   abbrev Finds : ℕ → Option ℕ → Type 0

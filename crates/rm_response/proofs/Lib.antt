@@ -1,5 +1,6 @@
 pub mod FirstLate
 pub mod FirstInOrder
+pub mod Knowing
 pub mod Answering
 pub mod Beside
 pub mod Examples

@@ -1,14 +1,14 @@
--- What the answers of exact admission under RM say.
-use Rattle.std.specs.Prelude.{◌≡◌, ⊤, ℕ, ◌*◌, ◌<◌, false, List, Option, Some, None, Result, Ok, Err, slice_index}
+-- What the answers of exact admission under RM say, and the first task in RM order that is late.
+use Rattle.std.specs.Prelude.{ℕ, List, ◌<◌, slice_index, ◌*◌, ◌≡◌, false, ⊤, Option, Some, None, Result, Ok, Err, ◌≤◌, true, MatchOption, if◌then◌else◌, nat_lt}
 use Rattle.grid_fraction.specs.Numbers.{list_below}
-use Rattle.task_model.specs.Offsets.{NoneOffset, IsFirstOffset, first_offset}
-use Rattle.sched_model.specs.Plan.{Plan, count, period, offset, top_speed}
-use Rattle.governor.specs.Rm.{level_work_in}
-use Rattle.rm_response_laws.specs.Responses.{response}
-use Rattle.rm_response_laws.specs.FirstJobs.{is_first_done, IsFirstDoneAt}
+use Rattle.task_model.specs.Tasks.{NoneOffset, IsFirstOffset, first_offset}
+use Rattle.sched_model.specs.Plan.{Plan, count, period, top_speed, offset}
+use Rattle.governor.specs.Worst.{level_work_in}
+use Rattle.rm_response_laws.specs.Responses.{response, IsFirstDoneAt, is_first_done}
 use Rattle.rm_response.specs.declared.response.ResponseFault.{ResponseFault}
-use Rattle.rm_response.specs.declared.response.ResponseFault.TheVariants.{Offset, Misses, NoMemory}
-use Rattle.rm_response.specs.Late.{IsFirstLate, first_late}
+use Rattle.rm_response.specs.declared.response.ResponseFault.TheVariants.{Misses, Offset, NoMemory}
+use Rattle.std.specs.List.{find}
+use Rattle.sched_model.specs.Priority.{stands_before, in_order}
 
 -- the responses of the tasks, in file order
 abbrev pub responses : Plan → List ℕ
@@ -21,6 +21,12 @@ AreLeast p ticks = (i : ℕ) → i < count p → IsFirstDoneAt p i (slice_index 
 -- the fault of task i without a response: what its level asks for in its period, and what the highest speed does in it
 abbrev pub misses_at : Plan → ℕ → ResponseFault
 misses_at p i = Misses i (level_work_in p (period p i) i) (top_speed p * period p i)
+
+-- of the tasks below n, task i is the first in RM order whose response exceeds its period
+pub record IsFirstLate (period response : ℕ → ℕ) (n i : ℕ) : Type 0 where
+  pub task : i < n
+  pub late : period i < response i
+  pub first : (k : ℕ) → k < n → stands_before period k i ≡ true → response k ≤ period k
 
 -- no task has an offset, and `task` is the first in RM order without a response;
 -- its level asks for `num` units in its period, and the highest speed does `cap`
@@ -38,10 +44,10 @@ IsResponseDenial p (Misses task num cap) = IsFirstMiss p task num cap
 IsResponseDenial p NoMemory = NoneOffset (offset p) (count p)
 
 -- the first job of a task without a response is not complete at its period when all jobs have their worst cases
-abbrev pub IsMissed : Plan → ResponseFault → Type 0
-IsMissed p (Offset task) = Unit {0}
-IsMissed p (Misses task num cap) = is_first_done p task (period p task) ≡ false
-IsMissed p NoMemory = Unit {0}
+abbrev pub IsMissedAtPeriod : Plan → ResponseFault → Type 0
+IsMissedAtPeriod p (Offset task) = Unit {0}
+IsMissedAtPeriod p (Misses task num cap) = is_first_done p task (period p task) ≡ false
+IsMissedAtPeriod p NoMemory = Unit {0}
 
 -- of a task without a response, the work asked for exceeds what the highest speed does
 abbrev pub IsShownMiss : ResponseFault → Type 0
@@ -54,7 +60,24 @@ answer_from p (Some i) late = Err (Offset i)
 answer_from p None (Some i) = Err (misses_at p i)
 answer_from p None None = Ok (responses p)
 
+-- of the tasks below n, the first in RM order whose response exceeds its period, if any
+abbrev pub first_late : (ℕ → ℕ) → (ℕ → ℕ) → ℕ → Option ℕ
+first_late period response n = find (λ i. nat_lt (period i) (response i)) (in_order period n)
+
 -- The answer of the test: the first task in file order with an offset; where none has one, the first task in RM order
 -- without a response; and where there is neither, the responses.
 abbrev pub exact_answer : Plan → Result (List ℕ) ResponseFault
 exact_answer p = answer_from p (first_offset (offset p) (count p)) (first_late (period p) (response p) (count p))
+
+-- no task below n has a response that exceeds its period
+abbrev pub NoneLate : (ℕ → ℕ) → (ℕ → ℕ) → ℕ → Type 0
+NoneLate period response n = (k : ℕ) → k < n → response k ≤ period k
+
+-- `found` is the first task below n in RM order whose response exceeds its period, or there is none
+abbrev pub FindsLate : (ℕ → ℕ) → (ℕ → ℕ) → ℕ → Option ℕ → Type 0
+FindsLate period response n found = MatchOption found (NoneLate period response n) (IsFirstLate period response n)
+
+-- the earlier in RM order of task i and another; task i where there is no other
+abbrev pub earlier_of : (ℕ → ℕ) → Option ℕ → ℕ → ℕ
+earlier_of period None i = i
+earlier_of period (Some k) i = if stands_before period i k then i else k

@@ -1,3 +1,3 @@
-pub mod Late
 pub mod Denials
+pub mod Known
 pub mod Bounds

@@ -1,14 +1,14 @@
 // The iteration from below to the response of a task.
-ghost use Rattle.std.specs.Prelude.{◌≡◌, ◌≤◌, ◌<◌, length, slice_index, max};
+ghost use Rattle.std.specs.Prelude.{◌≡◌, ◌≤◌, ◌<◌, length};
 ghost use Rattle.grid_fraction.specs.Numbers.{ceil_div};
 ghost use Rattle.dvs_base.specs.declared.kind.Scheduler.TheVariants.{Rm};
 ghost use Rattle.task_model.specs.declared.limits.TheConstants.{LONGEST_PERIOD};
 ghost use Rattle.task_model.specs.Tasks.{task_at};
 ghost use Rattle.sched_model.specs.Plan.{plan_of, top_speed};
 ghost use Rattle.sched_model.specs.Priority.{is_up_to};
-ghost use Rattle.governor.specs.Rm.{level_work_in};
+ghost use Rattle.governor.specs.Worst.{level_work_in};
 ghost use Rattle.rm_response_laws.specs.Responses.{response, IsUnserved};
-ghost use Rattle.rm_response_laws.specs.Bounds.{IsUnservedFrom, longest_before};
+ghost use Rattle.rm_response_laws.specs.Bounds.{IsUnservedFrom};
 
 use crate::bound::ticks_beside;
 use crate::work::{level_work_in, work_before};
@@ -59,21 +59,6 @@ fn next_tick(tasks: &TaskSet, machine: &Machine, ticks: u64, k: u32, i: u32) -> 
     }
     let rest = work.saturating_sub(work_before(tasks, machine, ticks, k));
     next.max(ticks_beside(tasks, machine, rest, k))
-}
-
-// The greatest response of the tasks before task i both in the file and in RM order; 1 where there is none.
-pub(crate) fn longest_before(tasks: &TaskSet, responses: &[u64], i: u32) -> u64
-    requires responses { length responses.now ≡ i }
-    requires task { i < length tasks.now }
-    ensures { result ≡ longest_before (λ k. (task_at tasks.now k).period) (slice_index responses.now) i }
-{
-    let mut longest = 1;
-    for j in 0..i {
-        if stands_before(tasks, j, i) {
-            longest = longest.max(responses[j as usize]);
-        }
-    }
-    longest
 }
 
 // The response of task i in ticks; one more than its period where it has none. `from` is a number of ticks, and fewer

@@ -9,8 +9,8 @@
 
 mod bound;
 mod iteration;
-mod late;
 mod response;
+mod unknown;
 mod work;
 
 pub use response::{Response, ResponseFault, rm_response};

@@ -3,17 +3,15 @@ ghost use Rattle.std.specs.Prelude.{◌≡◌, ◌<◌, IfOk, OnOk, IfErr, lengt
 ghost use Rattle.grid_fraction.specs.Numbers.{list_below};
 ghost use Rattle.dvs_base.specs.Checks.{IsUnlessMemory};
 ghost use Rattle.dvs_base.specs.declared.kind.Scheduler.TheVariants.{Rm};
-ghost use Rattle.task_model.specs.Tasks.{task_at};
-ghost use Rattle.task_model.specs.Offsets.{NoneOffset};
-ghost use Rattle.sched_model.specs.Plan.{plan_of, count};
-ghost use Rattle.rm_response_laws.specs.Responses.{response, AllRespond};
-ghost use Rattle.rm_response_laws.specs.FirstJobs.{AlwaysMeets};
-ghost use Rattle.rm_response.specs.Denials.{responses, AreLeast, misses_at, IsResponseDenial, IsMissed, IsShownMiss, exact_answer};
+ghost use Rattle.task_model.specs.Tasks.{task_at, NoneOffset};
+ghost use Rattle.sched_model.specs.Plan.{plan_of, count, period};
+ghost use Rattle.rm_response_laws.specs.Responses.{response, AllRespond, MeetsAllDeadlines};
+ghost use Rattle.rm_response.specs.Denials.{IsFirstLate, responses, AreLeast, misses_at, IsResponseDenial, IsMissedAtPeriod, IsShownMiss, exact_answer};
+ghost use Rattle.rm_response.specs.Known.{NoneKnown, AreAllKnown};
 
-use crate::iteration::{longest_before, response_of};
-use crate::late::first_late;
+use crate::iteration::response_of;
+use crate::unknown::{UNKNOWN, first_unknown};
 use crate::work::level_work_in;
-use dvs_base::NoMemory;
 use freq_table::Machine;
 use std::alloc::Global;
 use std::marker::Model;
@@ -60,17 +58,25 @@ pub enum ResponseFault {
     NoMemory,
 }
 
-// The response of each task in file order; one more than its period where it has none.
-fn responses_of(alloc: Global, tasks: &TaskSet, machine: &Machine) -> Result<Vec<u64>, NoMemory>
-    ensures { IfOk result (λ v. v.items ≡ responses (plan_of tasks.now machine.now Rm)) }
+// The responses in file order, written over `entries`, of which none is known. They are computed in RM order, and the
+// error is the first task in it without a response.
+fn respond(mut entries: Vec<u64>, tasks: &TaskSet, machine: &Machine) -> Result<Vec<u64>, u32>
+    requires one_each { length entries.items ≡ length tasks.now }
+    requires none_known { NoneKnown (plan_of tasks.now machine.now Rm) entries.items }
+    ensures known { IfOk result (λ v. AreAllKnown (plan_of tasks.now machine.now Rm) v.items) }
+    ensures late { let p = plan_of tasks.now machine.now Rm in
+        IfErr result (IsFirstLate (period p) (response p) (count p)) }
 {
-    let mut list = Vec::new(alloc);
-    for i in 0..tasks.count() {
-        let from = longest_before(tasks, &list, i);
-        list.push(response_of(tasks, machine, from, i))
-            .map_err(|_| NoMemory)?;
+    let mut from = 1;
+    while let Some(task) = first_unknown(tasks, &entries) {
+        let response = response_of(tasks, machine, from, task);
+        if response > tasks.task(task).period {
+            return Err(task);
+        }
+        entries[task as usize] = response;
+        from = response;
     }
-    Ok(list)
+    Ok(entries)
 }
 
 // The fault of a task without a response, with the numbers of its period.
@@ -101,10 +107,10 @@ pub fn rm_response(
     ensures one_each { IfOk result (λ r. length r ≡ length tasks.now) }
     ensures no_offset { OnOk result (NoneOffset (λ k. (task_at tasks.now k).offset) (length tasks.now)) }
     ensures each { OnOk result (AllRespond (plan_of tasks.now machine.now Rm)) }
-    ensures deadlines { OnOk result (AlwaysMeets (plan_of tasks.now machine.now Rm)) }
+    ensures deadlines { OnOk result (MeetsAllDeadlines (plan_of tasks.now machine.now Rm)) }
     ensures least { IfOk result (AreLeast (plan_of tasks.now machine.now Rm)) }
     ensures denial { IfErr result (IsResponseDenial (plan_of tasks.now machine.now Rm)) }
-    ensures missed { IfErr result (IsMissed (plan_of tasks.now machine.now Rm)) }
+    ensures missed { IfErr result (IsMissedAtPeriod (plan_of tasks.now machine.now Rm)) }
     ensures shown { IfErr result IsShownMiss }
 {
     let _tasks = tasks.as_slice();
@@ -112,11 +118,11 @@ pub fn rm_response(
     if let Some(task) = tasks.first_offset() {
         return Err(ResponseFault::Offset { task });
     }
-    let Ok(ticks) = responses_of(alloc, tasks, machine) else {
+    let Ok(entries) = vec![in alloc; UNKNOWN; tasks.count() as usize] else {
         return Err(ResponseFault::NoMemory);
     };
-    match first_late(tasks, &ticks) {
-        Some(task) => Err(missing(tasks, machine, task)),
-        None => Ok(Response { ticks }),
+    match respond(entries, tasks, machine) {
+        Ok(ticks) => Ok(Response { ticks }),
+        Err(task) => Err(missing(tasks, machine, task)),
     }
 }

@@ -4,7 +4,7 @@ ghost use Rattle.dvs_base.specs.declared.kind.Scheduler.TheVariants.{Rm};
 ghost use Rattle.task_model.specs.declared.limits.TheConstants.{LONGEST_PERIOD};
 ghost use Rattle.sched_model.specs.Plan.{plan_of, count, period, worst};
 ghost use Rattle.sched_model.specs.Priority.{sum_before};
-ghost use Rattle.governor.specs.Rm.{level_work_in};
+ghost use Rattle.governor.specs.Worst.{level_work_in};
 ghost use Rattle.rm_response_laws.specs.Bounds.{held_work};
 
 use freq_table::Machine;

@@ -6,14 +6,15 @@ use Rattle.grid_fraction.specs.declared.Frac.{Frac}
 use Rattle.grid_fraction.specs.Numbers.{sum_where, ceil_div}
 use Rattle.grid_fraction.proofs.Sums.{sum_below-same}
 use Rattle.grid_fraction.proofs.Ceilings.{ceil-at}
-use Rattle.task_model.specs.Offsets.{NoneOffset}
+use Rattle.task_model.specs.Tasks.{NoneOffset}
 use Rattle.sched_model.specs.Plan.{Plan, count, period, offset, worst}
 use Rattle.sched_model.specs.Jobs.{due}
 use Rattle.sched_model.specs.Ticks.{Tick}
 use Rattle.sched_model.specs.Admission.{IsWithinLimits}
 use Rattle.sched_model.proofs.Limits.{some_period}
 use Rattle.sched_model.proofs.LevelSums.{sum_where-plus, sum_up_to-where}
-use Rattle.governor.specs.Rm.{level, level_work_in}
+use Rattle.governor.specs.Rm.{level}
+use Rattle.governor.specs.Worst.{level_work_in}
 use Rattle.governor.proofs.Lacks.{lack, lack_after, IsQuiet, lack-quiet, lack-released}
 use Rattle.rm_response_laws.proofs.Ceilings.{ceil-after}
 

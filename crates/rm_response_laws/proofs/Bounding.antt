@@ -1,23 +1,22 @@
 -- Ticks that serve a level are at least those that its work takes beside the rates of some of its tasks.
-use Rattle.std.proofs.Common.{List, max, sym, subst, ◌∙◌, ◌≡◌, inl, inr, ℕ, zero, suc, ◌+◌, ◌-◌, ◌*◌, ◌/◌, ◌<◌, ◌≤◌, Bool, true, false, eqb, refl, arith, ap, if◌then◌else◌}
+use Rattle.std.proofs.Common.{◌≡◌, inl, inr, ℕ, zero, suc, ◌+◌, ◌-◌, ◌*◌, ◌/◌, ◌<◌, ◌≤◌, Bool, true, false, eqb, refl, arith, ap, if◌then◌else◌}
 use Rattle.std.proofs.Math.Nat.{mul-le-mul_right}
 use Rattle.std.proofs.lemmas.Bool.{cases_lt, cases_Bool}
 use Rattle.std.proofs.lemmas.Bool.Decides.{nat_tests}
-use Rattle.grid_fraction.specs.Numbers.{list_below, ceil_div, greatest_below}
+use Rattle.grid_fraction.specs.Numbers.{ceil_div}
 use Rattle.grid_fraction.proofs.Ceilings.{ceil-mono}
 use Rattle.grid_fraction.proofs.Sums.{sum_below-add, sum_below-le}
 use Rattle.sched_model.specs.Plan.{Plan, count, period, worst, top_speed, hyper, rate}
 use Rattle.sched_model.specs.Priority.{stands_before, is_up_to, sum_before}
 use Rattle.sched_model.specs.Admission.{IsWithinLimits}
 use Rattle.sched_model.proofs.Limits.{some_period, some_hyper, period_divides}
-use Rattle.std.specs.Prelude.{slice_index}
-use Rattle.sched_model.proofs.Tables.{get-table}
-use Rattle.sched_model.proofs.LevelSums.{greatest-same, sum_where-mono, sum_where-times, sum_up_to-where, up_to-trans}
+use Rattle.sched_model.proofs.LevelSums.{sum_where-mono, sum_where-times, sum_up_to-where, up_to-trans}
 use Rattle.sched_model.proofs.GreedyLemmas.{up_to-before}
-use Rattle.governor.specs.Rm.{level, level_work_in}
+use Rattle.governor.specs.Rm.{level}
+use Rattle.governor.specs.Worst.{level_work_in}
 use Rattle.governor.proofs.RmLevels.{ceil_covers}
 use Rattle.rm_response_laws.specs.Responses.{response, IsUnserved}
-use Rattle.rm_response_laws.specs.Bounds.{held_work, spare, rest_work, IsUnservedFrom, longest_before}
+use Rattle.rm_response_laws.specs.Bounds.{held_work, spare, rest_work, IsUnservedFrom}
 use Rattle.rm_response_laws.proofs.Ceilings.{ceil-least, ceil-some}
 use Rattle.rm_response_laws.proofs.Searching.{before-response}
 use Rattle.rm_response_laws.proofs.Firsts.{some_worst}
@@ -163,42 +162,10 @@ module _ (p : Plan) (lim : IsWithinLimits p) where
         let less = before-less u pos in
         omega (arith, most, less)
 
-module _ (p : Plan) where
-  -- fewer ticks than the response of a task before task i don't serve the level of task i
-  within-level : (i k : ℕ) → k < count p → stands_before (period p) k i ≡ true → IsUnserved p i (response p k)
-  within-level i k h on u pos lt =
-      let first = before-response p k u pos lt in
-      let within = up_to-before (count p) (period p) (held_work p u) k i h on in
-      omega (arith, first, within)
-
-  greatest-unserved : (i n : ℕ) → n ≤ count p
-      → IsUnserved p i (greatest_below n (λ k. if stands_before (period p) k i then response p k else 0))
-  greatest-unserved i zero h u pos lt = absurd (omega arith)
-  greatest-unserved i (suc n) h u pos lt = elim (cases_lt u (greatest_below n term)) [
-    | inl before ↦ greatest-unserved i n (omega arith) u pos before
-    | inr after ↦ last (stands_before (period p) n i) refl (omega arith)
-  ]
-    where
-      term : ℕ → ℕ
-      term k = if stands_before (period p) k i then response p k else 0
-
-      last : (b : Bool) → stands_before (period p) n i ≡ b → u < (if b then response p n else 0)
-          → top_speed p * u < level_work_in p u i
-      last true on below = within-level i n (omega arith) on u pos below
-      last false off below = absurd (omega arith)
-
-  -- fewer ticks than the longest response of a task before task i don't serve its level
-  pub longest-unserved : (i : ℕ) → i < count p → IsUnserved p i (longest_before (period p) (response p) i)
-  longest-unserved i h u pos lt = greatest-unserved i i (omega arith) u pos (omega arith)
-
-  -- fewer ticks than the longest response before task i in a list of responses don't serve its level
-  pub list-unserved : (i : ℕ) (responses : List ℕ) → i < count p → responses ≡ list_below i (response p)
-      → IsUnserved p i (longest_before (period p) (slice_index responses) i)
-  list-unserved i responses h are =
-      let term : (ℕ → ℕ) → ℕ → ℕ = λ r k. if stands_before (period p) k i then r k else 0 in
-      let at : (k : ℕ) → k < i → slice_index responses k ≡ response p k =
-      λ k lt. ap (λ (xs : List ℕ). slice_index xs k) are ∙ get-table i (response p) k 0 lt in
-      let same : greatest_below i (term (slice_index responses)) ≡ greatest_below i (term (response p)) =
-      greatest-same i (term (slice_index responses)) (term (response p))
-      (λ k lt. ap (λ (x : ℕ). if stands_before (period p) k i then x else 0) (at k lt)) in
-      subst (IsUnserved p i) (sym (ap (max 1) same)) (longest-unserved i h)
+-- fewer ticks than the response of a task before task i don't serve the level of task i
+pub unserved-before : (p : Plan) (i k : ℕ) → k < count p → stands_before (period p) k i ≡ true
+    → IsUnserved p i (response p k)
+unserved-before p i k h on u pos lt =
+    let first = before-response p k u pos lt in
+    let within = up_to-before (count p) (period p) (held_work p u) k i h on in
+    omega (arith, first, within)

@@ -8,9 +8,8 @@ use Rattle.sched_model.specs.Ticks.{at, exec}
 use Rattle.sched_model.specs.Schedule.{schedule_by}
 use Rattle.sched_model.specs.Demand.{published}
 use Rattle.sched_model.proofs.Examples.{task_of, entry_of}
-use Rattle.governor.specs.Rm.{level_work_in}
-use Rattle.rm_response_laws.specs.Responses.{response}
-use Rattle.rm_response_laws.specs.FirstJobs.{full_worst_ticks, is_first_done}
+use Rattle.governor.specs.Worst.{level_work_in}
+use Rattle.rm_response_laws.specs.Responses.{response, full_worst_ticks, is_first_done}
 
 abbrev one_speed_of : ℕ → Table
 one_speed_of speed = record { points = entry_of speed 1000 ∷ []; idle = 0; charge = 0 }

@@ -7,19 +7,18 @@ use Rattle.dvs_base.specs.declared.kind.Scheduler.TheVariants.{Rm}
 use Rattle.grid_fraction.specs.declared.Frac.{Frac}
 use Rattle.grid_fraction.specs.Numbers.{sum_where, ceil_div}
 use Rattle.grid_fraction.proofs.Ceilings.{ceil-at}
-use Rattle.task_model.specs.Offsets.{NoneOffset}
+use Rattle.task_model.specs.Tasks.{NoneOffset}
 use Rattle.sched_model.specs.Plan.{Plan, count, period, offset, worst, top_speed}
-use Rattle.sched_model.specs.Jobs.{due, latest}
+use Rattle.sched_model.specs.Jobs.{due, latest, worst_demand}
 use Rattle.sched_model.specs.Ticks.{Tick, exec}
-use Rattle.sched_model.specs.Demands.{worst_demand}
 use Rattle.sched_model.specs.Admission.{IsWithinLimits}
 use Rattle.sched_model.proofs.Limits.{some_period}
 use Rattle.sched_model.proofs.JobLaws.{due-none, release-suc, latest-is, exec-early, worst_demand-pos}
 use Rattle.sched_model.proofs.LevelSums.{sum_where-term, sum_where-zero, up_to-self, sum_up_to-where}
-use Rattle.governor.specs.Rm.{level, level_work_in}
+use Rattle.governor.specs.Rm.{level}
+use Rattle.governor.specs.Worst.{level_work_in}
 use Rattle.governor.proofs.Lacks.{lack, lack_after, level_down, lack-long, lack-falls, lack-quiet, lack-released, lack-empties}
-use Rattle.rm_response_laws.specs.Responses.{IsUnserved}
-use Rattle.rm_response_laws.specs.FirstJobs.{full_worst_ticks, is_first_done}
+use Rattle.rm_response_laws.specs.Responses.{IsUnserved, full_worst_ticks, is_first_done}
 use Rattle.rm_response_laws.proofs.Asking.{due-is, quiet-off, level-asks}
 use Rattle.rm_response_laws.proofs.OneSpeed.{full_ask, full-same}
 

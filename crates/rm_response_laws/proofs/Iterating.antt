@@ -9,7 +9,8 @@ use Rattle.sched_model.specs.Plan.{Plan, count, period, worst, top_speed}
 use Rattle.sched_model.specs.Admission.{IsWithinLimits}
 use Rattle.sched_model.proofs.Limits.{some_period}
 use Rattle.sched_model.proofs.LevelSums.{sum_where-mono, sum_up_to-where}
-use Rattle.governor.specs.Rm.{level, level_work_in}
+use Rattle.governor.specs.Rm.{level}
+use Rattle.governor.specs.Worst.{level_work_in}
 use Rattle.governor.proofs.RmLevels.{ceil_covers}
 use Rattle.rm_response_laws.specs.Responses.{IsUnserved}
 use Rattle.rm_response_laws.specs.Bounds.{IsUnservedFrom}

@@ -3,9 +3,8 @@ use Rattle.std.proofs.Common.{◌≡◌, ℕ, zero, suc, ◌*◌, ◌<◌, ◌�
 use Rattle.dvs_base.specs.declared.kind.Scheduler.TheVariants.{Rm}
 use Rattle.dvs_base.specs.declared.kind.GovernorKind.TheVariants.{Plain}
 use Rattle.sched_model.specs.Plan.{Plan, count, period, top_speed}
-use Rattle.sched_model.specs.Jobs.{due}
+use Rattle.sched_model.specs.Jobs.{due, IsWithin, JobDemands}
 use Rattle.sched_model.specs.Ticks.{Tick, at, exec}
-use Rattle.sched_model.specs.Demands.{IsWithin, JobDemands}
 use Rattle.sched_model.specs.Schedule.{schedule}
 use Rattle.sched_model.specs.Admission.{IsWithinLimits}
 use Rattle.sched_model.specs.States.{StateOf, row_at, prior_state, state_of}
@@ -16,7 +15,8 @@ use Rattle.governor.specs.Steps.{after_boundary, after_tick, IsAtDecision, IsLeg
 use Rattle.governor.proofs.Course.{at-schedule, due-had}
 use Rattle.governor.proofs.Joins.{boundary-is, tick-is, legal-is}
 use Rattle.governor.proofs.Belonging.{belongs_opening, belongs_boundary, belongs_tick, decision_boundary}
-use Rattle.governor.specs.Rm.{level, level_work_in, LevelCalm}
+use Rattle.governor.specs.Rm.{level, LevelCalm}
+use Rattle.governor.specs.Worst.{level_work_in}
 use Rattle.governor.proofs.RmLevels.{level_opens, level_completes, level_releases, level_ticks}
 use Rattle.rm_response_laws.proofs.OneSpeed.{full_ask, full_tick, full-legal}
 

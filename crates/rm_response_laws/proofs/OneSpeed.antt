@@ -6,7 +6,7 @@ use Rattle.freq_table.specs.Tables.{speed_at}
 use Rattle.sched_model.specs.Plan.{Plan, count, point, top_speed}
 use Rattle.sched_model.specs.Ticks.{Tick, share, left}
 use Rattle.sched_model.specs.Demand.{published}
-use Rattle.sched_model.specs.Demands.{JobDemands}
+use Rattle.sched_model.specs.Jobs.{JobDemands}
 use Rattle.sched_model.specs.Priority.{SharesOut, key_of}
 use Rattle.sched_model.specs.Schedule.{entry_in_force, next_tick}
 use Rattle.sched_model.specs.StaticDemand.{full_demand}

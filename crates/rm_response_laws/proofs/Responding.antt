@@ -3,11 +3,10 @@ use Rattle.std.proofs.Common.{◌≡◌, inl, inr, ℕ, zero, suc, ◌-◌, ◌<
 use Rattle.std.proofs.lemmas.Bool.{cases_Bool}
 use Rattle.std.proofs.lemmas.Bool.Decides.{nat_tests}
 use Rattle.dvs_base.specs.declared.kind.Scheduler.TheVariants.{Rm}
-use Rattle.task_model.specs.Offsets.{NoneOffset}
+use Rattle.task_model.specs.Tasks.{NoneOffset}
 use Rattle.sched_model.specs.Plan.{Plan, count, period, offset}
-use Rattle.sched_model.specs.Jobs.{latest, due}
+use Rattle.sched_model.specs.Jobs.{latest, due, worst_demand}
 use Rattle.sched_model.specs.Ticks.{Tick, at, exec}
-use Rattle.sched_model.specs.Demands.{worst_demand}
 use Rattle.sched_model.specs.Priority.{stands_before}
 use Rattle.sched_model.specs.Admission.{IsWithinLimits}
 use Rattle.sched_model.proofs.Limits.{some_period}
@@ -17,8 +16,7 @@ use Rattle.sched_model.proofs.ScheduleLemmas.{schedule_exists}
 use Rattle.governor.proofs.Course.{at-schedule}
 use Rattle.governor.specs.Rm.{level}
 use Rattle.governor.proofs.Worst.{worst-within}
-use Rattle.rm_response_laws.specs.Responses.{response, HasResponse, AllRespond}
-use Rattle.rm_response_laws.specs.FirstJobs.{full_worst_ticks, is_first_done, IsFirstDoneAt, AlwaysMeets}
+use Rattle.rm_response_laws.specs.Responses.{response, HasResponse, AllRespond, full_worst_ticks, is_first_done, IsFirstDoneAt, MeetsAllDeadlines}
 use Rattle.rm_response_laws.proofs.OneSpeed.{full_ask}
 use Rattle.rm_response_laws.proofs.Keeping.{bounded-met}
 use Rattle.rm_response_laws.proofs.Firsts.{due-zero, worst_ask, IsKept, first-done, first-not_done}
@@ -43,7 +41,7 @@ level-before p i j k lv on =
 
 module _ (p : Plan) (lim : IsWithinLimits p) (rm : p.scheduler ≡ Rm) where
   -- where each task has a response, every deadline is met
-  pub always-meets : AllRespond p → AlwaysMeets p
+  pub always-meets : AllRespond p → MeetsAllDeadlines p
   always-meets all dem within t i k h pos le =
       let long = (schedule_exists p dem (full_ask p dem) t).1 in
       bounded-met p lim rm (λ j. true) (response p) (λ a b ha hb lv on. refl) (λ j hj on. response-bound p j (all j hj))

@@ -5,7 +5,7 @@ use Rattle.std.proofs.lemmas.Bool.Decides.{nat_tests}
 use Rattle.grid_fraction.specs.Numbers.{first_from}
 use Rattle.grid_fraction.proofs.Searches.{first_from-before, first_from-most, first_from-none}
 use Rattle.sched_model.specs.Plan.{Plan, period, top_speed}
-use Rattle.governor.specs.Rm.{level_work_in}
+use Rattle.governor.specs.Worst.{level_work_in}
 use Rattle.rm_response_laws.specs.Responses.{is_served, IsUnserved, response, HasResponse}
 use Rattle.rm_response_laws.proofs.Keeping.{IsBound}
 

@@ -1,10 +1,9 @@
--- Lower bounds on responses: by the rates of some tasks and the jobs of the others (after Sjödin and Hansson 1998),
--- and by the responses of other tasks.
-use Rattle.std.specs.Prelude.{ℕ, ◌-◌, ◌*◌, ◌<◌, ◌≤◌, max, if◌then◌else◌}
-use Rattle.grid_fraction.specs.Numbers.{ceil_div, greatest_below}
+-- Lower bounds on responses, by the rates of some tasks and the jobs of the others (after Sjödin and Hansson 1998).
+use Rattle.std.specs.Prelude.{ℕ, ◌-◌, ◌*◌, ◌<◌, ◌≤◌}
+use Rattle.grid_fraction.specs.Numbers.{ceil_div}
 use Rattle.sched_model.specs.Plan.{Plan, count, period, worst, top_speed, hyper, rate}
-use Rattle.sched_model.specs.Priority.{stands_before, sum_before}
-use Rattle.governor.specs.Rm.{level_work_in}
+use Rattle.sched_model.specs.Priority.{sum_before}
+use Rattle.governor.specs.Worst.{level_work_in}
 
 -- the work of the jobs of task j that t ticks can hold, each at its worst case
 abbrev pub held_work : Plan → ℕ → ℕ → ℕ
@@ -21,7 +20,3 @@ rest_work p t k i = level_work_in p t i - sum_before (count p) (period p) (held_
 -- no number of ticks from t on and below m serves: the highest speed does less than the level of task i asks for
 abbrev pub IsUnservedFrom : Plan → ℕ → ℕ → ℕ → Type 0
 IsUnservedFrom p i t m = (u : ℕ) → 1 ≤ u → t ≤ u → u < m → top_speed p * u < level_work_in p u i
-
--- the greatest response of the tasks before task i both in the file and in RM order; 1 where there is none
-abbrev pub longest_before : (ℕ → ℕ) → (ℕ → ℕ) → ℕ → ℕ
-longest_before period response i = max 1 (greatest_below i (λ j. if stands_before period j i then response j else 0))

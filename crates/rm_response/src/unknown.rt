@@ -1,11 +1,14 @@
-// The first task in RM order that has no response.
+// Responses that aren't known, and the first of them in RM order.
 ghost use Rattle.std.specs.Prelude.{◌≡◌, ◌<◌, ℕ, length, slice_index};
 ghost use Rattle.std.specs.Option.{ForSome};
 ghost use Rattle.task_model.specs.Tasks.{task_at};
-ghost use Rattle.rm_response.specs.Late.{earlier_of, FindsLate};
+ghost use Rattle.rm_response.specs.Denials.{earlier_of, FindsLate};
 
 use sched_model::stands_before;
-use task_model::TaskSet;
+use task_model::{LONGEST_PERIOD, TaskSet};
+
+// The entry of a task whose response isn't known: it exceeds every period.
+pub(crate) const UNKNOWN: u64 = LONGEST_PERIOD + 1;
 
 // The earlier in RM order of task i and another; task i where there is no other.
 fn earlier_of(tasks: &TaskSet, other: Option<u32>, i: u32) -> u32
@@ -19,14 +22,14 @@ fn earlier_of(tasks: &TaskSet, other: Option<u32>, i: u32) -> u32
     }
 }
 
-// The first task in RM order whose response exceeds its period, if any.
-pub(crate) fn first_late(tasks: &TaskSet, responses: &[u64]) -> Option<u32>
-    requires { length responses.now ≡ length tasks.now }
-    ensures { FindsLate (λ k. (task_at tasks.now k).period) (slice_index responses.now) (length tasks.now) result }
+// The first task in RM order whose entry exceeds its period, if any.
+pub(crate) fn first_unknown(tasks: &TaskSet, entries: &[u64]) -> Option<u32>
+    requires { length entries.now ≡ length tasks.now }
+    ensures { FindsLate (λ k. (task_at tasks.now k).period) (slice_index entries.now) (length tasks.now) result }
 {
     let mut first = None;
     for i in 0..tasks.count() {
-        if responses[i as usize] > tasks.task(i).period {
+        if entries[i as usize] > tasks.task(i).period {
             first = Some(earlier_of(tasks, first, i));
         }
     }

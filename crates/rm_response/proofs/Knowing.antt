@@ -1,0 +1,79 @@
+-- How responses become known in RM order, up to the first task without one.
+use Rattle.std.proofs.Common.{◌≡◌, ◌≢◌, ℕ, ◌<◌, ◌≤◌, Bool, true, false, eqb, List, length, length-set, get_or-set_same, get_or-set_other, refl, sym, ◌∙◌, ap, arith}
+use Rattle.std.specs.Prelude.{slice_index, slice_set}
+use Rattle.std.proofs.lemmas.Bool.Decides.{nat_tests}
+use Rattle.std.proofs.lemmas.List.{ext_get_or}
+use Rattle.sched_model.specs.Plan.{Plan, count, period}
+use Rattle.sched_model.specs.Priority.{stands_before}
+use Rattle.sched_model.proofs.PriorityLemmas.{before-total}
+use Rattle.sched_model.proofs.Tables.{get-table, length-list_below}
+use Rattle.rm_response_laws.specs.Responses.{response, HasResponse, IsUnserved}
+use Rattle.rm_response_laws.proofs.Searching.{response-bound}
+use Rattle.rm_response_laws.proofs.Bounding.{unserved-before}
+use Rattle.rm_response.specs.Denials.{NoneLate, IsFirstLate, responses}
+use Rattle.rm_response.specs.Known.{AreAllKnown}
+
+-- Each entry within the task's period is its response. Fewer than `from` ticks, which are some, don't serve the level
+-- of a task whose response isn't known.
+pub record AreKnown (p : Plan) (from : ℕ) (entries : List ℕ) : Type 0 where
+  pub one_each : length entries ≡ count p
+  pub known : (i : ℕ) → i < count p → slice_index entries i ≤ period p i → slice_index entries i ≡ response p i
+  pub some : 1 ≤ from
+  pub unserved : (i : ℕ) → i < count p → period p i < slice_index entries i → IsUnserved p i from
+
+module _ (p : Plan) where
+  -- task i is the first in RM order whose response isn't known
+  abbrev pub IsNext : List ℕ → ℕ → Type 0
+  IsNext entries i = IsFirstLate (period p) (slice_index entries) (count p) i
+
+  -- the response of the next task becomes known, and bounds the others from below
+  pub known-next : (from i : ℕ) (entries : List ℕ) → AreKnown p from entries → IsNext entries i → HasResponse p i
+      → AreKnown p (response p i) (slice_set entries i (response p i))
+  known-next from i entries are next has = record {
+    one_each = length-set entries i (response p i) ∙ are.one_each;
+    known = λ k h. known k h (eqb k i) refl;
+    some = (response-bound p i has).some;
+    unserved = λ k h. unserved k h (eqb k i) refl;
+  }
+    where
+      new : List ℕ
+      new = slice_set entries i (response p i)
+
+      own : slice_index new i ≡ response p i
+      own = get_or-set_same entries i (response p i) 0 (omega (arith, are.one_each, next.task))
+
+      known : (k : ℕ) → k < count p → (b : Bool) → eqb k i ≡ b → slice_index new k ≤ period p k
+          → slice_index new k ≡ response p k
+      known k h true e le =
+          let same : k ≡ i = grind (arith, nat_tests) in
+          ap (slice_index new) same ∙ (own ∙ ap (response p) (sym same))
+      known k h false e le =
+          let other = get_or-set_other entries i k (response p i) 0 (grind (arith, nat_tests)) in
+          other ∙ are.known k h (omega (arith, other, le))
+
+      unserved : (k : ℕ) → k < count p → (b : Bool) → eqb k i ≡ b → period p k < slice_index new k
+          → IsUnserved p k (response p i)
+      unserved k h true e over =
+          let same : k ≡ i = grind (arith, nat_tests) in
+          absurd (omega (arith, over, ap (slice_index new) same, own, ap (period p) same, has))
+      unserved k h false e over =
+          let ne : k ≢ i = grind (arith, nat_tests) in
+          let other = get_or-set_other entries i k (response p i) 0 ne in
+          unserved-before p k i next.task (go (stands_before (period p) k i) refl (omega (arith, other, over)))
+        where
+          go : (b : Bool) → stands_before (period p) k i ≡ b → period p k < slice_index entries k
+              → stands_before (period p) i k ≡ true
+          go true before over' = absurd (omega (arith, next.first k h before))
+          go false before over' = before-total (period p) k i (grind (arith, nat_tests)) before
+
+  -- where no task is next, all responses are known
+  pub known-all : (from : ℕ) (entries : List ℕ) → AreKnown p from entries
+      → NoneLate (period p) (slice_index entries) (count p) → AreAllKnown p entries
+  known-all from entries are none = record {
+    all = λ i h. omega (arith, are.known i h (none i h), none i h);
+    are =
+        ext_get_or 0 entries (responses p) (are.one_each ∙ sym (length-list_below (count p) (response p)))
+        (λ i lt.
+        let h : i < count p = omega (arith, are.one_each) in
+        are.known i h (none i h) ∙ sym (get-table (count p) (response p) i 0 h));
+  }
