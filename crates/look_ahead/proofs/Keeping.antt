@@ -7,12 +7,11 @@ use Rattle.std.proofs.Math.Seq.{map-set_same}
 use Rattle.std.proofs.lemmas.List.{get_or_read, length-map, map-set, replicate_more}
 use Rattle.grid_fraction.specs.Numbers.{list_below}
 use Rattle.sched_model.specs.declared.state.Row.{Row}
-use Rattle.sched_model.specs.Plan.{Plan, count, period, offset, worst}
-use Rattle.sched_model.specs.Order.{in_order}
-use Rattle.sched_model.specs.States.{StateOf, no_row, row_at, row_wleft, released_row, opening_row, opening}
-use Rattle.sched_model.specs.States.{after_release, after_run, after_finish, CanRelease}
+use Rattle.sched_model.specs.Plan.{Plan, count, period, offset, worst, rate}
+use Rattle.sched_model.specs.Priority.{in_order}
+use Rattle.sched_model.specs.States.{StateOf, no_row, row_at, row_wleft, released_row, opening_row, opening, after_release, after_run, after_finish, CanRelease}
 use Rattle.sched_model.proofs.OrderLemmas.{in_order-same}
-use Rattle.sched_model.proofs.Tables.{map-table}
+use Rattle.sched_model.proofs.Tables.{get-table, length-list_below, map-table}
 use Rattle.governor.specs.Steps.{wleft_at}
 use Rattle.governor.specs.Serving.{ServesEdf}
 use Rattle.governor.proofs.Belonging.{opening_at}
@@ -30,17 +29,26 @@ row_read s inside i row same lt read =
     get_or_read s.rows i row lt (subst (λ (v : StateOf). row ≡ get_or v.rows i row) same read) no_row
 
 -- a kept remainder is what the task's job may still need
-pub left_at : (plan : Plan) (s : StateOf) (left order : List ℕ) → Keeps left order plan s → (i : ℕ)
+pub left_at : (plan : Plan) (s : StateOf) (left order rates : List ℕ) → Keeps left order rates plan s → (i : ℕ)
     → get_or left i 0 ≡ wleft_at s i
-left_at plan s left order keeps i =
+left_at plan s left order rates keeps i =
     ap (λ (xs : List ℕ). get_or xs i 0) keeps.left_is ∙ get_or-map row_wleft s.rows i no_row
 
-module _ (plan : Plan) (s : StateOf) (left order : List ℕ) (keeps : Keeps left order plan s) (i : ℕ) where
+module _ (plan : Plan) (s : StateOf) (left order rates : List ℕ) (keeps : Keeps left order rates plan s) (i : ℕ) where
   pub left_read : (w : ℕ) → i < length s.rows → w ≡ get_or left i w → w ≡ get_or left i 0
   left_read w lt read =
       let long : length left ≡ length s.rows =
       ap (λ (xs : List ℕ). length xs) keeps.left_is ∙ length-map s.rows row_wleft in
       get_or_read left i w (omega (arith, long)) read 0
+
+  -- there is a rate for each task
+  pub rates_long : length rates ≡ count plan
+  rates_long = ap (λ (xs : List ℕ). length xs) keeps.rates_are ∙ length-list_below (count plan) (rate plan)
+
+  -- a kept rate that was read is the rate of its task
+  pub rate_read : (u : ℕ) → i < count plan → u ≡ get_or rates i u → u ≡ rate plan i
+  rate_read u lt read =
+      read ∙ (ap (λ (xs : List ℕ). get_or xs i u) keeps.rates_are ∙ get-table (count plan) (rate plan) i u lt)
 
   -- the state with a new row for task i
   abbrev written : Row → StateOf
@@ -59,36 +67,38 @@ module _ (plan : Plan) (s : StateOf) (left order : List ℕ) (keeps : Keeps left
       ∙ get_or-map due_of s.rows k no_row)
 
   keeps-set : (row : Row) (w : ℕ) → row.deadline ≡ deadline_at s i → w ≡ row_wleft row
-      → Keeps (slice_set left i w) order plan (written row)
+      → Keeps (slice_set left i w) order rates plan (written row)
   keeps-set row w same is = record {
     served = keeps.served;
     left_is = left-set row w is;
     order_is = keeps.order_is
         ∙ in_order-same (deadline_at s) (deadline_at (written row)) (count plan) (λ k lt. sym (due-kept row same k));
+    rates_are = keeps.rates_are;
   }
 
   -- after a completion nothing is left of the task's work
-  pub keeps-finished : Keeps (slice_set left i 0) order plan (after_finish s i)
+  pub keeps-finished : Keeps (slice_set left i 0) order rates plan (after_finish s i)
   keeps-finished = keeps-set (record (row_at s i) { done = true }) 0 refl refl
 
   -- `State::run` takes its units from what is left of the task's work
   pub keeps-ran : (units w : ℕ) → (row_at s i).done ≡ false → w ≡ get_or left i 0
-      → Keeps (slice_set left i (w - units)) order plan (after_run s i units)
+      → Keeps (slice_set left i (w - units)) order rates plan (after_run s i units)
   keeps-ran units w still read =
       let row : Row = record (row_at s i) { used = (row_at s i).used + units } in
       let was : w ≡ (row_at s i).worst - (row_at s i).used =
-      read ∙ (left_at plan s left order keeps i ∙ rw still refl) in
+      read ∙ (left_at plan s left order rates keeps i ∙ rw still refl) in
       let now : row_wleft row ≡ (row_at s i).worst - ((row_at s i).used + units) = rw still refl in
       keeps-set row (w - units) refl (omega (arith, was, now))
 
   -- after a release the task's whole worst case is left, and the task has its place in the order
   pub keeps-released : (w : ℕ) (order' : List ℕ) → w ≡ (row_at s i).worst
       → order' ≡ edf_order plan (after_release plan s i)
-      → Keeps (slice_set left i w) order' plan (after_release plan s i)
+      → Keeps (slice_set left i w) order' rates plan (after_release plan s i)
   keeps-released w order' worst is = record {
     served = keeps.served;
     left_is = left-set (released_row (period plan i) (row_at s i)) w (omega (arith, worst));
     order_is = is;
+    rates_are = keeps.rates_are;
   }
 
 -- after a release the released task is due a period later, and no other deadline changes
@@ -123,11 +133,13 @@ order-opening plan =
     in_order-same (offset plan) (deadline_at (opening plan)) (count plan)
     (λ k lt. sym (ap (λ (r : Row). r.deadline) (opening_at plan k lt)))
 
-pub keeps-opening : (plan : Plan) (order : List ℕ) → ServesEdf plan.scheduler → order ≡ edf_order plan (opening plan)
-    → Keeps (replicate (count plan) 0) order plan (opening plan)
-keeps-opening plan order edf is = record {
+pub keeps-opening : (plan : Plan) (order rates : List ℕ) → ServesEdf plan.scheduler
+    → order ≡ edf_order plan (opening plan) → rates ≡ list_below (count plan) (rate plan)
+    → Keeps (replicate (count plan) 0) order rates plan (opening plan)
+keeps-opening plan order rates edf is are = record {
   served = edf;
   left_is =
       sym (map-table (count plan) (λ i. opening_row (offset plan i) (worst plan i)) row_wleft ∙ zeros (count plan));
   order_is = is;
+  rates_are = are;
 }

@@ -5,8 +5,7 @@ use Rattle.std.proofs.Common.{nat_eq, nat_lt, if◌then◌else◌, true≢false}
 use Rattle.std.specs.Prelude.{◌||◌, ◌&&◌}
 use Rattle.std.proofs.lemmas.Bool.Decides.{nat_tests}
 use Rattle.std.proofs.lemmas.List.{drop_more}
-use Rattle.sched_model.specs.Priority.{stands_before}
-use Rattle.sched_model.specs.Order.{insert_by, in_order}
+use Rattle.sched_model.specs.Priority.{stands_before, insert_by, in_order}
 use Rattle.sched_model.proofs.PriorityLemmas.{before-self, before-trans, before-not, before-total}
 use Rattle.sched_model.proofs.OrderLemmas.{IsAhead, IsOrdered, AreBelow, in_order-below, in_order-ordered}
 use Rattle.sched_model.proofs.OrderLemmas.{in_order-same, length-in_order}

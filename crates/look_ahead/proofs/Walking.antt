@@ -3,28 +3,40 @@ use Rattle.std.proofs.Common.{◌≡◌, ℕ, ◌+◌, ◌-◌, ◌*◌, ◌^◌
 use Rattle.std.proofs.Common.{get_or, take, drop, refl, sym, ◌∙◌, ap, subst, arith}
 use Rattle.std.specs.Prelude.{◌/◌, nat_eq, if◌then◌else◌}
 use Rattle.std.proofs.Math.ListN.{drop_of_length-le}
+use Rattle.std.proofs.lemmas.Nat.{mul-le}
 use Rattle.std.proofs.lemmas.List.{append-nil, get_or_read, take_more, drop_more, take_all}
+use Rattle.task_model.specs.declared.limits.TheConstants.{LONGEST_HYPERPERIOD}
+use Rattle.freq_table.specs.declared.limits.TheConstants.{TOP_SPEED}
+use Rattle.freq_table.specs.Tables.{last_entry}
 use Rattle.sched_model.specs.Plan.{Plan, count, hyper, rate, top_speed}
 use Rattle.sched_model.specs.Tests.{total_rate}
 use Rattle.sched_model.specs.Admission.{IsWithinLimits, IsAdmitted}
 use Rattle.sched_model.specs.States.{StateOf, row_at, IsOfPlan}
 use Rattle.sched_model.specs.AheadDemand.{slack}
-use Rattle.sched_model.proofs.Limits.{some_hyper, some_task}
-use Rattle.sched_model.proofs.OrderLemmas.{sum_list, in_order-below, length-in_order, below-at, sum_list-append}
+use Rattle.sched_model.proofs.Limits.{low_hyper, some_task}
+use Rattle.sched_model.proofs.OrderLemmas.{in_order-below, length-in_order, below-at}
 use Rattle.sched_model.proofs.OrderLemmas.{sum_list-snoc}
 use Rattle.governor.specs.Steps.{earliest_in, wleft_at}
 use Rattle.governor.specs.Serving.{ServesEdf}
 use Rattle.governor.proofs.Rows.{wleft-most}
 use Rattle.look_ahead_laws.specs.Ahead.{deadline_at, edf_order}
-use Rattle.look_ahead_laws.proofs.Spreading.{rate_within}
 use Rattle.look_ahead_laws.proofs.AheadLaws.{rates_fit, total_is}
-use Rattle.look_ahead.specs.Walk.{next_rates, next_first}
+use Rattle.look_ahead.specs.Walk.{next_spare, next_first}
 use Rattle.look_ahead.proofs.First.{first-in_order}
 use Rattle.look_ahead.proofs.Walked.{Walked, walked_step}
 
 first_by : (b : Bool) (first w room : ℕ) → (if b then first + w else first + (w - room)) ≤ first + w
 first_by true first w room = omega arith
 first_by false first w room = omega arith
+
+-- what the highest speed does in a hyperperiod is at most 2^68
+pub most_low : (plan : Plan) → IsWithinLimits plan → top_speed plan * hyper plan ≤ 2 ^ 68
+most_low plan lim =
+    let machine = lim.machine in
+    let speed : top_speed plan ≤ TOP_SPEED =
+    (machine.each (last_entry plan.machine) (let some = machine.some in omega arith)).low_speed in
+    let product = mul-le (top_speed plan) (hyper plan) TOP_SPEED LONGEST_HYPERPERIOD speed (low_hyper plan lim) in
+    omega (arith, product)
 
 module _ (plan : Plan) (s : StateOf) where
   order_long : length (edf_order plan s) ≡ count plan
@@ -73,59 +85,52 @@ module _ (plan : Plan) (s : StateOf) where
       let charge = lim.machine.low_charge in
       omega (arith, most, is, declared, charge)
 
-  pub first_grows : IsWithinLimits plan → IsOfPlan plan s → (i rates first : ℕ) → i < count plan
-      → next_first plan i (wleft_at s i) (slack plan (deadline_at s) i) rates first ≤ first + 2 ^ 61
-  first_grows lim of i rates first lt =
+  pub first_grows : IsWithinLimits plan → IsOfPlan plan s → (i spare first : ℕ) → i < count plan
+      → next_first (hyper plan) (rate plan i) (wleft_at s i) (slack plan (deadline_at s) i) spare first ≤ first + 2 ^ 61
+  first_grows lim of i spare first lt =
       let late = slack plan (deadline_at s) i in
-      let room = (top_speed plan * hyper plan - (rates - rate plan i)) * late / hyper plan in
-      let by : next_first plan i (wleft_at s i) late rates first ≤ first + wleft_at s i =
+      let room = (spare + rate plan i) * late / hyper plan in
+      let by : next_first (hyper plan) (rate plan i) (wleft_at s i) late spare first ≤ first + wleft_at s i =
       first_by (nat_eq late 0) first (wleft_at s i) room in
       omega (arith, by, left_low lim of i lt)
 
   -- the walk has done all tasks but the first k
   abbrev pub Done : ℕ → ℕ → ℕ → Type 0
-  Done k rates first = Walked plan s (take k (edf_order plan s)) (drop k (edf_order plan s)) rates first
+  Done k spare first = Walked plan s (take k (edf_order plan s)) (drop k (edf_order plan s)) spare first
 
-  pub done_none : (n rates : ℕ) → n ≡ count plan → rates ≡ total_rate plan → Done n rates 0
-  done_none n rates all is =
+  pub done_none : (n spare : ℕ) → IsAdmitted plan → ServesEdf plan.scheduler → n ≡ count plan
+      → spare ≡ top_speed plan * hyper plan - total_rate plan → Done n spare 0
+  done_none n spare adm serves all is =
       let long : length (edf_order plan s) ≤ n = omega (arith, order_long) in
       let front : take n (edf_order plan s) ≡ edf_order plan s = take_all n (edf_order plan s) long in
       let back : drop n (edf_order plan s) ≡ [] = drop_of_length-le (edf_order plan s) long in
       rw (front, back) (record {
         order = sym (append-nil (edf_order plan s));
-        rates_are = omega (arith, is, total_is plan s);
+        spare_is = omega (arith, is, total_is plan s, rates_fit plan s adm serves);
         first_is = refl;
       })
 
-  module _ (k rates first : ℕ) (lt : k < count plan) (was : Done (k + 1) rates first) where
+  module _ (k spare first : ℕ) (lt : k < count plan) (was : Done (k + 1) spare first) where
     -- the task at place k is the last one still to come
-    in_turn : Walked plan s (take k (edf_order plan s) ++ turn k ∷ []) (drop (k + 1) (edf_order plan s)) rates first
+    in_turn : Walked plan s (take k (edf_order plan s) ++ turn k ∷ []) (drop (k + 1) (edf_order plan s)) spare first
     in_turn =
-        subst (λ (l : List ℕ). Walked plan s l (drop (k + 1) (edf_order plan s)) rates first)
+        subst (λ (l : List ℕ). Walked plan s l (drop (k + 1) (edf_order plan s)) spare first)
         (take_more (edf_order plan s) k 0 (rw order_long lt)) was
 
-    pub done_next : Done k (next_rates plan (turn k) (wleft_at s (turn k)) (slack plan (deadline_at s) (turn k)) rates)
-        (next_first plan (turn k) (wleft_at s (turn k)) (slack plan (deadline_at s) (turn k)) rates first)
-    done_next =
+    pub done_next : 0 < hyper plan
+        → Done k
+        (next_spare (hyper plan) (rate plan (turn k)) (wleft_at s (turn k)) (slack plan (deadline_at s) (turn k)) spare)
+        (next_first (hyper plan) (rate plan (turn k)) (wleft_at s (turn k)) (slack plan (deadline_at s) (turn k)) spare
+        first)
+    done_next some =
         let less : drop k (edf_order plan s) ≡ turn k ∷ drop (k + 1) (edf_order plan s) =
         drop_more (edf_order plan s) k 0 (rw order_long lt) in
         let rest = drop (k + 1) (edf_order plan s) in
-        rw less (walked_step plan s (take k (edf_order plan s)) rest (turn k) rates first in_turn)
+        rw less (walked_step plan s (take k (edf_order plan s)) rest (turn k) spare first some in_turn)
 
-    -- the rate of the task in turn is a part of the sum of the rates
-    pub has_rate : rate plan (turn k) ≤ rates
-    has_rate = omega (arith, sum_list-snoc (rate plan) (take k (edf_order plan s)) (turn k), in_turn.rates_are)
-
-    -- the sum of the rates is within what the highest speed does in a hyperperiod
-    pub rates_low : IsAdmitted plan → ServesEdf plan.scheduler → rates ≤ top_speed plan * hyper plan
-    rates_low adm serves =
-        let l = take (k + 1) (edf_order plan s) in
-        let xs = drop (k + 1) (edf_order plan s) in
-        let whole : sum_list (rate plan) (edf_order plan s) ≡ sum_list (rate plan) l + sum_list (rate plan) xs =
-        ap (sum_list (rate plan)) was.order ∙ sum_list-append (rate plan) l xs in
-        let fits = rates_fit plan s adm serves in
-        let within = rate_within plan (deadline_at s) (wleft_at s) l xs was.order (some_hyper plan adm.limits) in
-        rw was.rates_are (within (omega (arith, whole, fits)))
+    -- the highest speed has room for the rate of the task in turn
+    pub has_room : spare + rate plan (turn k) ≤ top_speed plan * hyper plan
+    has_room = omega (arith, sum_list-snoc (rate plan) (take k (edf_order plan s)) (turn k), in_turn.spare_is)
 
   -- the task of a step is the one at place n - 1, read from the order
   module _ (order : List ℕ) (is : order ≡ edf_order plan s) (n i : ℕ)
@@ -139,16 +144,14 @@ module _ (plan : Plan) (s : StateOf) where
     pub step_below : i < count plan
     step_below = rw step_task (turn_below (n - 1) place_low)
 
-    module _ (rates first : ℕ) (was : Done n rates first) where
-      up : Done (n - 1 + 1) rates first
-      up = let e : n ≡ n - 1 + 1 = omega arith in subst (λ (m : ℕ). Done m rates first) e was
+    module _ (spare first : ℕ) (was : Done n spare first) where
+      up : Done (n - 1 + 1) spare first
+      up = let e : n ≡ n - 1 + 1 = omega arith in subst (λ (m : ℕ). Done m spare first) e was
 
-      pub step_part : rate plan i ≤ rates
-      step_part = rw step_task (has_rate (n - 1) rates first place_low up)
+      pub step_fits : spare + rate plan i ≤ top_speed plan * hyper plan
+      step_fits = rw step_task (has_room (n - 1) spare first place_low up)
 
-      pub step_fits : IsAdmitted plan → ServesEdf plan.scheduler → rates ≤ top_speed plan * hyper plan
-      step_fits adm serves = rates_low (n - 1) rates first place_low up adm serves
-
-      pub step_next : Done (n - 1) (next_rates plan i (wleft_at s i) (slack plan (deadline_at s) i) rates)
-          (next_first plan i (wleft_at s i) (slack plan (deadline_at s) i) rates first)
-      step_next = rw step_task (done_next (n - 1) rates first place_low up)
+      pub step_next : 0 < hyper plan
+          → Done (n - 1) (next_spare (hyper plan) (rate plan i) (wleft_at s i) (slack plan (deadline_at s) i) spare)
+          (next_first (hyper plan) (rate plan i) (wleft_at s i) (slack plan (deadline_at s) i) spare first)
+      step_next positive = rw step_task (done_next (n - 1) spare first place_low up positive)

@@ -12,6 +12,7 @@ ghost use Rattle.look_ahead_laws.proofs.AheadLaws.{ahead_laws};
 ghost use Rattle.look_ahead_laws.proofs.Publishing.{ahead_publishing};
 
 use crate::order::{move_to_place, opening_order};
+use crate::rates::rates_of;
 use dvs_base::{GovernorKind, NoMemory};
 use governor::{Choice, Governor, Publishing, chosen};
 use sched_model::{Admitted, State};
@@ -23,6 +24,7 @@ use std::alloc::Global;
 pub struct LookAhead {
     pub(crate) left: Vec<u64>,
     pub(crate) order: Vec<u32>,
+    pub(crate) rates: Vec<u128>,
 }
 
 impl LookAhead {
@@ -32,8 +34,9 @@ impl LookAhead {
         ensures stands { IfOk result (λ g. ⟦<LookAhead as Governor>⟧.stands g plan.now (opening plan.now)) }
     {
         let order = opening_order(alloc, plan)?;
+        let rates = rates_of(alloc, plan)?;
         match vec![in alloc; 0; plan.count() as usize] {
-            Ok(left) => Ok(LookAhead { left, order }),
+            Ok(left) => Ok(LookAhead { left, order, rates }),
             Err(_) => Err(NoMemory),
         }
     }
@@ -50,11 +53,16 @@ impl Governor for LookAhead {
 
     ghost safe = { AheadSafe };
 
-    ghost stands = { λ g plan s. Keeps g.left.items g.order.items plan s };
+    ghost stands = { λ g plan s. Keeps g.left.items g.order.items g.rates.items plan s };
 
     ghost serves_plan = { λ g plan s stands. stands.served };
 
-    ghost waits = { λ g plan s to le it. record { served = it.served; left_is = it.left_is; order_is = it.order_is } };
+    ghost waits = { λ g plan s to le it. record {
+      served = it.served;
+      left_is = it.left_is;
+      order_is = it.order_is;
+      rates_are = it.rates_are;
+    } };
 
     ghost laws = { ahead_laws };
 
@@ -83,7 +91,7 @@ impl Governor for LookAhead {
     /// after it and before it, is within what the highest speed does in a hyperperiod.
     fn choose(&self, plan: &Admitted, view: &State) -> Choice
         requires of { IsOfPlan plan.now view.now }
-        requires counters { Keeps self.now.left.items self.now.order.items plan.now view.now }
+        requires counters { Keeps self.now.left.items self.now.order.items self.now.rates.items plan.now view.now }
         requires decision { IsAtDecision plan.now view.now }
         ensures demand { result.demand ≡ ahead_demand plan.now view.entry.now }
         ensures index { result.index ≡ lowest_entry plan.now.machine (ahead_demand plan.now view.entry.now) }

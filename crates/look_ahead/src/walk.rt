@@ -5,27 +5,30 @@ ghost use Rattle.task_model.specs.declared.limits.TheConstants.{LONGEST_PERIOD, 
 ghost use Rattle.sched_model.specs.Plan.{count, hyper, rate, top_speed};
 ghost use Rattle.sched_model.specs.AheadDemand.{slack};
 ghost use Rattle.sched_model.specs.States.{IsOfPlan};
+ghost use Rattle.sched_model.specs.Tests.{total_rate};
+ghost use Rattle.governor.specs.Serving.{ServesEdf};
 ghost use Rattle.governor.specs.Steps.{earliest_in, wleft_at, IsAtDecision};
 ghost use Rattle.look_ahead_laws.specs.Ahead.{ahead_demand, deadline_at};
 ghost use Rattle.look_ahead.specs.Counters.{Keeps};
-ghost use Rattle.look_ahead.specs.Walk.{next_rates, next_first};
+ghost use Rattle.look_ahead.specs.Walk.{next_spare, next_first};
 
 use crate::LookAhead;
 use grid_fraction::{Frac, mul_down, up};
 use sched_model::{Admitted, State};
 
-// The sums of one task or of the walk so far: the rates in work units per hyperperiod, and the work units that have
-// to run before the earliest deadline.
+// The walk so far: the work units that the highest speed does in a hyperperiod beyond all rates, and those that have to
+// run before the earliest deadline.
 #[derive(Clone, Copy)]
 struct Totals {
-    rates: u128,
+    spare: u128,
     first: u128,
 }
 
-// A task's latest job: the work units that it may still need, and the ticks from the earliest deadline to its own.
+// A task's latest job: the task's rate, the work units that the job may still need, and the ticks from the earliest
+// deadline to its own.
 #[derive(Clone, Copy)]
 struct Pending {
-    task: u32,
+    rate: u128,
     left: u64,
     slack: u64,
 }
@@ -41,16 +44,17 @@ fn up_short(n: u128, d: u64) -> u128
     u128::from((n as u64).div_ceil(d))
 }
 
-// The rate of a task: the work units of its jobs in a hyperperiod, each at its worst case.
-fn rate(plan: &Admitted, task: u32) -> u128
-    requires { task < count plan.now }
-    ensures { result ≡ rate plan.now task }
+// The work units that the highest speed does in a hyperperiod beyond the rates of all tasks.
+fn spare_of(plan: &Admitted) -> u128
+    requires { ServesEdf plan.now.scheduler }
+    ensures { result ≡ top_speed plan.now * hyper plan.now - total_rate plan.now }
 {
-    u128::from(plan.worst(task)) * u128::from(plan.hyper() / plan.period(task))
+    u128::from(plan.machine().top()) * u128::from(plan.hyper()) - plan.static_demand().num
 }
 
-// For a job that may need `left` units and is due `slack` ticks after the earliest deadline: the units that can't be
-// put off, and the rate of the others, where the highest speed has `spare` to give.
+// For a job that may need `left` units and is due `slack` ticks after the earliest deadline, where the highest speed
+// has `spare` units in a hyperperiod for it: the units that can't be put off, and what the rate of the others leaves of
+// `spare`.
 fn spread(spare: u128, left: u64, slack: u64, hyper: u64) -> Totals
     requires some { 0 < slack }
     requires grid { 0 < hyper }
@@ -58,53 +62,45 @@ fn spread(spare: u128, left: u64, slack: u64, hyper: u64) -> Totals
     requires soon { slack ≤ LONGEST_PERIOD }
     requires low { hyper ≤ LONGEST_HYPERPERIOD }
     ensures first { result.first ≡ left - spare * slack / hyper }
-    ensures rates { result.rates ≡ ceil_div ((left - result.first) * hyper) slack }
-    ensures within { result.rates ≤ spare }
+    ensures spare { result.spare ≡ spare - ceil_div ((left - result.first) * hyper) slack }
 {
-    if left == 0 {
-        return Totals { rates: 0, first: 0 };
-    }
-    let asked = u128::from(left) * u128::from(hyper);
-    if asked <= spare * u128::from(slack) {
+    let whole = up_short(u128::from(left) * u128::from(hyper), slack);
+    if whole <= spare {
         return Totals {
-            rates: up_short(asked, slack),
+            spare: spare - whole,
             first: 0,
         };
     }
     let room = mul_down(spare, slack, hyper);
     let first = u128::from(left).saturating_sub(room);
     let rates = up_short((u128::from(left) - first) * u128::from(hyper), slack);
-    Totals { rates, first }
+    Totals {
+        spare: spare - rates,
+        first,
+    }
 }
 
-// The sums of the walk after one more task.
-fn step(plan: &Admitted, job: Pending, totals: Totals) -> Totals
-    requires task { job.task < count plan.now }
+// The walk after one more task.
+fn step(hyper: u64, job: Pending, totals: Totals) -> Totals
+    requires grid { 0 < hyper }
+    requires low { hyper ≤ LONGEST_HYPERPERIOD }
     requires soon { job.slack ≤ LONGEST_PERIOD }
-    requires fits { totals.rates ≤ top_speed plan.now * hyper plan.now }
-    requires part { rate plan.now job.task ≤ totals.rates }
+    requires fits { totals.spare + job.rate ≤ 2 ^ 68 }
     requires small { totals.first ≤ 2 ^ 67 }
-    ensures rates { result.rates ≡ next_rates plan.now job.task job.left job.slack totals.rates }
-    ensures first { result.first ≡ next_first plan.now job.task job.left job.slack totals.rates totals.first }
+    ensures spare { result.spare ≡ next_spare hyper job.rate job.left job.slack totals.spare }
+    ensures first { result.first ≡ next_first hyper job.rate job.left job.slack totals.spare totals.first }
 {
     if job.slack == 0 {
-        return Totals {
-            rates: totals.rates,
-            first: totals.first + u128::from(job.left),
-        };
+        let first = totals.first + u128::from(job.left);
+        return Totals { first, ..totals };
     }
-    let rest = totals.rates - rate(plan, job.task);
+    let spare = totals.spare + job.rate;
     if job.left == 0 {
-        return Totals {
-            rates: rest,
-            first: totals.first,
-        };
+        return Totals { spare, ..totals };
     }
-    let hyper = plan.hyper();
-    let spare = u128::from(plan.machine().top()) * u128::from(hyper) - rest;
     let part = spread(spare, job.left, job.slack, hyper);
     Totals {
-        rates: rest + part.rates,
+        spare: part.spare,
         first: totals.first + part.first,
     }
 }
@@ -113,7 +109,7 @@ impl LookAhead {
     // The earliest deadline in ticks: that of the first task in EDF order.
     fn earliest_deadline(&self, plan: &Admitted, view: &State) -> u64
         requires of { IsOfPlan plan.now view.now }
-        requires counters { Keeps self.now.left.items self.now.order.items plan.now view.now }
+        requires counters { Keeps self.now.left.items self.now.order.items self.now.rates.items plan.now view.now }
         ensures { result ≡ earliest_in plan.now view.entry.now }
     {
         let _scheduler = plan.scheduler();
@@ -123,15 +119,15 @@ impl LookAhead {
     // The latest job of a task, where the earliest deadline is `soonest`.
     fn pending(&self, plan: &Admitted, view: &State, soonest: u64, task: u32) -> Pending
         requires of { IsOfPlan plan.now view.now }
-        requires counters { Keeps self.now.left.items self.now.order.items plan.now view.now }
+        requires counters { Keeps self.now.left.items self.now.order.items self.now.rates.items plan.now view.now }
         requires soonest { soonest ≡ earliest_in plan.now view.now }
         requires task { task < count plan.now }
-        ensures task { result.task ≡ task }
+        ensures rate { result.rate ≡ rate plan.now task }
         ensures left { result.left ≡ wleft_at view.entry.now task }
         ensures slack { result.slack ≡ slack plan.now (deadline_at view.entry.now) task }
     {
         Pending {
-            task,
+            rate: self.rates[task as usize],
             left: self.left[task as usize],
             slack: view.rows[task as usize].deadline - soonest,
         }
@@ -141,19 +137,20 @@ impl LookAhead {
     // over the time up to it (Pillai and Shin 2001).
     pub(crate) fn demand(&self, plan: &Admitted, view: &State) -> Frac
         requires of { IsOfPlan plan.now view.now }
-        requires counters { Keeps self.now.left.items self.now.order.items plan.now view.now }
+        requires counters { Keeps self.now.left.items self.now.order.items self.now.rates.items plan.now view.now }
         requires decision { IsAtDecision plan.now view.now }
         ensures { result ≡ ahead_demand plan.now view.entry.now }
     {
         let _scheduler = plan.scheduler();
         let soonest = self.earliest_deadline(plan, view);
+        let hyper = plan.hyper();
         let mut totals = Totals {
-            rates: plan.static_demand().num,
+            spare: spare_of(plan),
             first: 0,
         };
         for k in (0..self.order.len()).rev() {
             let job = self.pending(plan, view, soonest, self.order[k]);
-            totals = step(plan, job, totals);
+            totals = step(hyper, job, totals);
         }
         Frac {
             num: totals.first,

@@ -1,23 +1,22 @@
-use Rattle.std.proofs.Common.{◌≡◌, ◌∙◌, ap, arith}
-use Rattle.dvs_base.specs.declared.kind.Scheduler.{Scheduler}
+use Rattle.std.proofs.Common.{◌≡◌, ap, arith}
 use Rattle.sched_model.specs.Plan.{count}
-use Rattle.sched_model.specs.StaticDemand.{static_demand_of}
-use Rattle.sched_model.specs.Tests.{total_rate}
 use Rattle.sched_model.specs.States.{StateOf}
+use Rattle.sched_model.proofs.Limits.{some_hyper}
 use Rattle.governor.proofs.Belonging.{earliest-later}
-use Rattle.look_ahead.proofs.Walking.{done_none, first_grows, step_below, step_fits, step_next, step_part, tasks_long}
+use Rattle.look_ahead.proofs.Walking.{done_none, first_grows, most_low, step_below, step_fits, step_next, tasks_long}
 use Rattle.look_ahead.proofs.ahead.LookAhead.demand.Goals as goal
 
 pub loop-k-init : goal.loop-k-init
 loop-k-init c =
     let plan = c.args.plan.now in
     let s = c.args.view.now in
-    let num : c.static_demand.result.num ≡ total_rate plan =
-    ap (λ d. d.num) c.static_demand.ensures.static_demand
-    ∙ ap (λ (sch : Scheduler). (static_demand_of sch plan).num) c.requires.counters.served in
     let long : c.len-k.result ≡ count plan =
     omega (arith, tasks_long plan s c.args.self.now.order.items c.requires.counters.order_is, c.len-k.ensures) in
-    (done_none plan s c.len-k.result c.static_demand.result.num long num, omega (arith, long))
+    let serves = c.requires.counters.served in (
+      done_none plan s c.len-k.result c.spare_of.result c.scheduler-scheduler.ensures.admitted serves long
+          c.spare_of.ensures,
+      omega (arith, long),
+    )
 
 pub pending-job-requires-clause-task : goal.pending-job-requires-clause-task
 pending-job-requires-clause-task c =
@@ -25,13 +24,10 @@ pending-job-requires-clause-task c =
     step_below c.args.plan.now c.args.view.now order c.requires.counters.order_is c.loop-k.k c.index.result.now
     c.loop-k-test.true (omega (arith, c.len-k.ensures)) c.index.ensures
 
-pub step-totals-requires-clause-task : goal.step-totals-requires-clause-task
-step-totals-requires-clause-task c =
-    let order = c.args.self.now.order.items in
-    let below =
-    step_below c.args.plan.now c.args.view.now order c.requires.counters.order_is c.loop-k.k c.index.result.now
-    c.loop-k-test.true (omega (arith, c.len-k.ensures)) c.index.ensures in
-    rw c.pending-job.ensures.task below
+pub step-totals-requires-clause-grid : goal.step-totals-requires-clause-grid
+step-totals-requires-clause-grid c =
+    let some = some_hyper c.args.plan.now c.scheduler-scheduler.ensures.admitted.limits in
+    omega (arith, some, c.hyper-hyper.ensures.hyper)
 
 pub step-totals-requires-clause-soon : goal.step-totals-requires-clause-soon
 step-totals-requires-clause-soon c =
@@ -47,19 +43,12 @@ pub step-totals-requires-clause-fits : goal.step-totals-requires-clause-fits
 step-totals-requires-clause-fits c =
     let order = c.args.self.now.order.items in
     let totals = c.loop-k.totals in
+    let fits =
     step_fits c.args.plan.now c.args.view.now order c.requires.counters.order_is c.loop-k.k c.index.result.now
-    c.loop-k-test.true (omega (arith, c.len-k.ensures)) c.index.ensures totals.rates totals.first
-    c.loop-k.invariant.0 c.scheduler-scheduler.ensures.admitted c.requires.counters.served
-
-pub step-totals-requires-clause-part : goal.step-totals-requires-clause-part
-step-totals-requires-clause-part c =
-    let order = c.args.self.now.order.items in
-    let totals = c.loop-k.totals in
-    let part =
-    step_part c.args.plan.now c.args.view.now order c.requires.counters.order_is c.loop-k.k c.index.result.now
-    c.loop-k-test.true (omega (arith, c.len-k.ensures)) c.index.ensures totals.rates totals.first
+    c.loop-k-test.true (omega (arith, c.len-k.ensures)) c.index.ensures totals.spare totals.first
     c.loop-k.invariant.0 in
-    rw c.pending-job.ensures.task part
+    let most = most_low c.args.plan.now c.scheduler-scheduler.ensures.admitted.limits in
+    omega (arith, fits, most, c.pending-job.ensures.rate)
 
 pub step-totals-requires-clause-small : goal.step-totals-requires-clause-small
 step-totals-requires-clause-small c = omega (arith, c.scheduler-scheduler.ensures.admitted.limits.tasks.few, c.loop-k.invariant.1)
@@ -71,19 +60,20 @@ loop-k-preserved c =
     let order = c.args.self.now.order.items in
     let i = c.index.result.now in
     let n = c.loop-k.k in
-    let rates = c.loop-k.totals.rates in
+    let spare = c.loop-k.totals.spare in
     let first = c.loop-k.totals.first in
     let is = c.requires.counters.order_is in
     let some = c.loop-k-test.true in
     let below = step_below plan s order is n i some (omega (arith, c.len-k.ensures)) c.index.ensures in
+    let positive = some_hyper plan c.scheduler-scheduler.ensures.admitted.limits in
     let next =
-    step_next plan s order is n i some (omega (arith, c.len-k.ensures)) c.index.ensures rates first
-    c.loop-k.invariant.0 in
-    let grows = first_grows plan s c.scheduler-scheduler.ensures.admitted.limits c.requires.of i rates first below in
+    step_next plan s order is n i some (omega (arith, c.len-k.ensures)) c.index.ensures spare first
+    c.loop-k.invariant.0 positive in
+    let grows = first_grows plan s c.scheduler-scheduler.ensures.admitted.limits c.requires.of i spare first below in
     let job = c.pending-job.ensures in
-    let rates_are = rw (job.task, job.left, job.slack) at c.step-totals.ensures.rates in
-    let first_is = rw (job.task, job.left, job.slack) at c.step-totals.ensures.first in
-    (rw (rates_are, first_is) next, omega (arith, first_is, grows, c.loop-k.invariant.1, some))
+    let spare_is = rw (c.hyper-hyper.ensures.hyper, job.rate, job.left, job.slack) at c.step-totals.ensures.spare in
+    let first_is = rw (c.hyper-hyper.ensures.hyper, job.rate, job.left, job.slack) at c.step-totals.ensures.first in
+    (rw (spare_is, first_is) next, omega (arith, first_is, grows, c.loop-k.invariant.1, some))
 
 pub overflow_sub-soonest : goal.overflow_sub-soonest
 overflow_sub-soonest c =

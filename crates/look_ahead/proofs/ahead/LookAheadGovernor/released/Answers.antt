@@ -13,6 +13,7 @@ returns c =
     let s = c.args.view.now in
     let left = c.args.self.now.left.items in
     let order = c.args.self.now.order in
+    let rates = c.args.self.now.rates.items in
     let moved = c.move_to_place.new.order in
     let i = c.args.task in
     let worst = c.index.result.now.worst in
@@ -21,6 +22,6 @@ returns c =
     c.move_to_place.auto.order ∙ ap (λ (xs : List ℕ). length xs) c.deref_mut.ensures.value in
     let whole : take order.len (moved ++ drop (length moved) order.items) ≡ moved =
     written_back order.len order.items moved order.ok.0 long in
-    subst (λ (xs : List ℕ). Keeps (slice_set left i worst) xs plan (after_release plan s i)) (sym whole)
-    (keeps-released plan s left order.items c.requires.counters i worst moved
+    subst (λ (xs : List ℕ). Keeps (slice_set left i worst) xs rates plan (after_release plan s i)) (sym whole)
+    (keeps-released plan s left order.items rates c.requires.counters i worst moved
     (ap (λ (r : Row). r.worst) row) c.move_to_place.ensures)
