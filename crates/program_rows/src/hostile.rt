@@ -9,3 +9,4 @@ mod notes;
 mod over_files;
 mod probing;
 mod puts;
+mod two_calls;

@@ -11,13 +11,18 @@ const REPLAY_TWO: Call = Call {
     words: "replay --tasks T --machine M --trace F",
 };
 
+// The trace is refused for having no end, with the number of its last line.
+fn has_no_end(rt: &impl AllocGlobal, call: Call<'_>, line: u64) -> Result<(), Fail> {
+    let refusal = format!(in rt.alloc(); "trace: line {line}: no end")?;
+    call.refuses_file(rt, refusal.as_str())
+}
+
 // Each proper prefix of a trace is refused for having no end, with the number of its last line.
 fn each_prefix_has_no_end(rt: &impl AllocGlobal, call: Call<'_>, trace: &[u8]) -> Result<(), Fail> {
     let mut line = 1u64;
     let mut cut = Vec::new(rt.alloc());
     for byte in trace {
-        let refusal = format!(in rt.alloc(); "trace: line {line}: no end")?;
-        call.with_third(&cut).refuses_file(rt, refusal.as_str())?;
+        has_no_end(rt, call.with_third(&cut), line)?;
         cut.push(*byte)?;
         if *byte == b'\n' {
             line = line.saturating_add(1);

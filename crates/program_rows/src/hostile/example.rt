@@ -172,3 +172,15 @@ pub(crate) const OVER_WORST: Call = Call {
     third: b"task,job,units\nt2,2,13\n",
     words: "run --tasks T --machine M --scheduler edf --governor cc --ticks 16 --demands F --probes",
 };
+
+// A call of each command that loads files.
+pub(crate) const EACH_THAT_LOADS: [Call; 8] = [
+    CONTROLLER_RUN,
+    ADMIT,
+    REPLAY,
+    MIGRATE,
+    RESPONSE,
+    CONSTRAIN,
+    POLL,
+    LEAST,
+];

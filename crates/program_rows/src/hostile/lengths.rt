@@ -1,15 +1,12 @@
 // Files of one repeated character: as long as a file may be, and one byte longer.
 ghost use Rattle.std.specs.Prelude.{None};
 
-use crate::call::Call;
+use crate::call::{Call, NO_FAULTS, left_over};
 use crate::hostile::example::{ADMIT, CONSTRAIN, CONTROLLER_RUN, POLL, REPLAY};
-use dvs_base::{LONGEST_FILE, LONGEST_TRACE, LoadFault, MemSink, Shelf};
-use probes::Probe;
-use rtdvs_top::rtdvs;
+use dvs_base::{LONGEST_FILE, LONGEST_TRACE, LoadFault, Shelf};
 use std::alloc::{AllocError, Global};
-use std::process::Abort;
 use std::test::Fail;
-use test_inputs::words_of;
+use test_inputs::Ending;
 
 // A kind of file: a call with such a file, its name, its word in a refusal, and the most bytes that it may have.
 #[derive(Clone, Copy)]
@@ -96,50 +93,44 @@ impl Shelf for LongShelf {
     }
 }
 
-// A file of this kind that repeats this character is refused with the line.
-fn is_refused(
-    rt: &(impl Abort + AllocGlobal),
-    kind: Kind,
-    byte: u8,
-    over: bool,
-    line: &str,
-) -> Result<(), Fail> {
-    let alloc = rt.alloc();
-    let words = words_of(alloc, kind.call.words)?;
-    let mut probes: Vec<Box<dyn Probe>> = Vec::new(alloc);
+// The end of a call whose file is refused with this line.
+fn refused(line: &str) -> Ending<'_> {
+    Ending {
+        code: 4,
+        out: "",
+        notes: line,
+        faults: [0, 0, 0],
+    }
+}
+
+// A file of this kind that repeats this character is refused with the line, after a load for the most bytes.
+fn is_refused(alloc: Global, kind: Kind, byte: u8, over: bool, line: &str) -> Result<(), Fail> {
+    let whole = format!(in alloc; "{}: {line}\n", kind.word)?;
     let mut shelf = LongShelf {
         kind,
         byte,
         over,
         room: 0,
     };
-    let mut out = MemSink::new(alloc, 64, &[]).map_err(|_| "out")?;
-    let mut notes = MemSink::new(alloc, 64, &[]).map_err(|_| "notes")?;
-    let status = rtdvs(alloc, &words, &mut shelf, &mut out, &mut notes, &mut probes);
-    let whole = format!(in alloc; "{}: {line}\n", kind.word)?;
-    assert_eq!(rt; notes.bytes(), whole.as_bytes(), "{line}");
-    assert!(rt; out.bytes().is_empty(), "{line}");
-    assert_eq!(rt; status.code(), 4, "{line}");
-    assert_eq!(rt; shelf.room, kind.most, "{line}");
-    Ok(())
+    let left = left_over(alloc, kind.call.words, &mut shelf, NO_FAULTS)?;
+    if shelf.room != kind.most {
+        return Err(Fail::new(format_args!("{line}: another room")));
+    }
+    left.is(kind.call.words, refused(whole.as_str()))
 }
 
 // Files of the greatest length that repeat each of these characters are refused, and so is one that is a byte longer.
-fn each_is_refused(
-    rt: &(impl Abort + AllocGlobal),
-    kind: Kind,
-    files: &[(u8, &str)],
-) -> Result<(), Fail> {
+fn each_is_refused(alloc: Global, kind: Kind, files: &[(u8, &str)]) -> Result<(), Fail> {
     for (byte, line) in files.iter().copied() {
-        is_refused(rt, kind, byte, false, line)?;
+        is_refused(alloc, kind, byte, false, line)?;
     }
-    is_refused(rt, kind, b'a', true, "too long")
+    is_refused(alloc, kind, b'a', true, "too long")
 }
 
 #[test]
 fn long_task_files(rt: HostRuntime) -> Result<(), Fail> {
     each_is_refused(
-        &rt,
+        rt.alloc(),
         TASKS,
         &[
             (b'a', "not TOML"),
@@ -153,7 +144,7 @@ fn long_task_files(rt: HostRuntime) -> Result<(), Fail> {
 #[test]
 fn long_machine_files(rt: HostRuntime) -> Result<(), Fail> {
     each_is_refused(
-        &rt,
+        rt.alloc(),
         MACHINE,
         &[
             (b'a', "not TOML"),
@@ -174,23 +165,23 @@ const HEADERS: [(u8, &str); 4] = [
 
 #[test]
 fn long_demand_files(rt: HostRuntime) -> Result<(), Fail> {
-    each_is_refused(&rt, DEMANDS, &HEADERS)
+    each_is_refused(rt.alloc(), DEMANDS, &HEADERS)
 }
 
 #[test]
 fn long_deadline_files(rt: HostRuntime) -> Result<(), Fail> {
-    each_is_refused(&rt, DEADLINES, &HEADERS)
+    each_is_refused(rt.alloc(), DEADLINES, &HEADERS)
 }
 
 #[test]
 fn long_request_files(rt: HostRuntime) -> Result<(), Fail> {
-    each_is_refused(&rt, REQUESTS, &HEADERS)
+    each_is_refused(rt.alloc(), REQUESTS, &HEADERS)
 }
 
 #[test]
 fn long_traces(rt: HostRuntime) -> Result<(), Fail> {
     each_is_refused(
-        &rt,
+        rt.alloc(),
         TRACE,
         &[(b'\n', "line 1: version"), (b'a', "line 1: no end")],
     )

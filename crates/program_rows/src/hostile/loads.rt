@@ -6,33 +6,8 @@ use crate::hostile::example::{
 use std::test::Fail;
 use test_inputs::{Ending, shown};
 
-// Each load of the call fails in turn: nothing is on `out`, and the line names the file. A fault at a load that isn't
-// made doesn't fail the call.
-fn each_load_fails(rt: &impl AllocGlobal, call: Call<'_>, files: &[&str]) -> Result<(), Fail> {
-    let mut number = 1;
-    for file in files {
-        let line = format!(in rt.alloc(); "load: {file}\n")?;
-        let failed = Ending {
-            code: 3,
-            out: "",
-            notes: line.as_str(),
-            faults: [1, 0, 0],
-        };
-        load_fails(rt, call, number, failed)?;
-        number = number.saturating_add(1);
-    }
-    let whole = call.under(rt.alloc(), NO_FAULTS)?;
-    let done = Ending {
-        code: 0,
-        out: shown(whole.out.as_slice()),
-        notes: "",
-        faults: [0, 0, 0],
-    };
-    load_fails(rt, call, number, done)
-}
-
 // The load with this number fails, and the call ends as `ending` says.
-fn load_fails(
+fn ends_at_load(
     rt: &impl AllocGlobal,
     call: Call<'_>,
     number: u64,
@@ -44,6 +19,40 @@ fn load_fails(
         notes: &[],
     };
     call.ends(rt, faults, ending)
+}
+
+// The load with this number fails: nothing is on `out`, and the line names the file.
+fn load_fails(rt: &impl AllocGlobal, call: Call<'_>, number: u64, file: &str) -> Result<(), Fail> {
+    let line = format!(in rt.alloc(); "load: {file}\n")?;
+    let failed = Ending {
+        code: 3,
+        out: "",
+        notes: line.as_str(),
+        faults: [1, 0, 0],
+    };
+    ends_at_load(rt, call, number, failed)
+}
+
+// A fault at the load with this number, which isn't made, doesn't fail the call.
+fn load_is_not_made(rt: &impl AllocGlobal, call: Call<'_>, number: u64) -> Result<(), Fail> {
+    let whole = call.under(rt.alloc(), NO_FAULTS)?;
+    let done = Ending {
+        code: 0,
+        out: shown(whole.out.as_slice()),
+        notes: "",
+        faults: [0, 0, 0],
+    };
+    ends_at_load(rt, call, number, done)
+}
+
+// Each load of the call fails in turn, and one after them isn't made.
+fn each_load_fails(rt: &impl AllocGlobal, call: Call<'_>, files: &[&str]) -> Result<(), Fail> {
+    let mut number = 1;
+    for file in files {
+        load_fails(rt, call, number, file)?;
+        number = number.saturating_add(1);
+    }
+    load_is_not_made(rt, call, number)
 }
 
 #[test]

@@ -1,15 +1,13 @@
 // A shelf that is always out of memory.
 ghost use Rattle.std.specs.Prelude.{None};
 
-use crate::hostile::example::{
-    ADMIT, CONSTRAIN, CONTROLLER_RUN, LEAST, MIGRATE, POLL, REPLAY, RESPONSE,
-};
-use dvs_base::{FailAt, LoadFault, MemSink, Shelf};
-use probes::Probe;
-use rtdvs_top::rtdvs;
+use crate::call::{Faults, left_over};
+use crate::hostile::example::EACH_THAT_LOADS;
+use crate::hostile::puts::at;
+use dvs_base::{FailAt, LoadFault, Shelf};
 use std::alloc::Global;
 use std::test::Fail;
-use test_inputs::words_of;
+use test_inputs::Ending;
 
 #[derive(Drop)]
 struct FullShelf {
@@ -25,34 +23,39 @@ impl Shelf for FullShelf {
     }
 }
 
+// Memory runs out at the first load of the call. Where this put of the notes is to fail, the text is on `notes`, and
+// `failed` puts failed.
+fn is_out_of_memory(
+    alloc: Global,
+    line: &str,
+    failing: FailAt,
+    notes: &str,
+    failed: u64,
+) -> Result<(), Fail> {
+    let mut shelf = FullShelf { loads: 0 };
+    let faults = Faults {
+        loads: &[],
+        puts: &[],
+        notes: &[failing],
+    };
+    let ending = Ending {
+        code: 9,
+        out: "",
+        notes,
+        faults: [0, 0, failed],
+    };
+    let left = left_over(alloc, line, &mut shelf, faults)?;
+    if shelf.loads != 1 {
+        return Err(Fail::new(format_args!("{line}: more loads than one")));
+    }
+    left.is(line, ending)
+}
+
 #[test]
 fn out_of_memory_for_a_file(rt: HostRuntime) -> Result<(), Fail> {
-    let alloc = rt.alloc();
-    for line in [
-        CONTROLLER_RUN.words,
-        ADMIT.words,
-        REPLAY.words,
-        MIGRATE.words,
-        RESPONSE.words,
-        CONSTRAIN.words,
-        POLL.words,
-        LEAST.words,
-    ] {
-        for (failing, text) in [
-            (FailAt { call: 2, taken: 0 }, "no memory\n"),
-            (FailAt { call: 1, taken: 2 }, "no"),
-        ] {
-            let words = words_of(alloc, line)?;
-            let mut probes: Vec<Box<dyn Probe>> = Vec::new(alloc);
-            let mut shelf = FullShelf { loads: 0 };
-            let mut out = MemSink::new(alloc, 64, &[]).map_err(|_| "out")?;
-            let mut notes = MemSink::new(alloc, 64, &[failing]).map_err(|_| "notes")?;
-            let status = rtdvs(alloc, &words, &mut shelf, &mut out, &mut notes, &mut probes);
-            assert_eq!(rt; status.code(), 9, "{line}");
-            assert!(rt; out.bytes().is_empty(), "{line}");
-            assert_eq!(rt; notes.bytes(), text.as_bytes(), "{line}");
-            assert_eq!(rt; shelf.loads, 1, "{line}");
-        }
+    for call in EACH_THAT_LOADS {
+        is_out_of_memory(rt.alloc(), call.words, at(2, 0), "no memory\n", 0)?;
+        is_out_of_memory(rt.alloc(), call.words, at(1, 2), "no", 1)?;
     }
     Ok(())
 }

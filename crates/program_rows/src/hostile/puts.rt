@@ -12,23 +12,58 @@ use test_inputs::{Ending, first_part};
 // The numbers of bytes that a put takes before it fails.
 pub(crate) const TAKEN: [u64; 3] = [0, 1, 255];
 
-// The put of the answer that `failing` names fails, and the call ends as `ending` says.
+// A line of a text: the number of its put, and how many bytes of the text are before it.
+#[derive(Clone, Copy)]
+pub(crate) struct Line<'a> {
+    pub(crate) text: &'a str,
+    pub(crate) line: &'a str,
+    pub(crate) number: u64,
+    pub(crate) before: usize,
+}
+
+impl<'a> Line<'a> {
+    // The lines before it and its first `taken` bytes.
+    pub(crate) fn first(self, taken: u64) -> &'a str {
+        first_part(self.text, self.before, self.line, taken)
+    }
+}
+
+// The put of a line fails after each number of bytes in `parts`. `out` has the lines before it and what the put took.
 fn put_fails(
     rt: &impl AllocGlobal,
     call: Call<'_>,
-    failing: FailAt,
-    ending: Ending<'_>,
+    line: Line<'_>,
+    parts: &[u64],
+) -> Result<(), Fail> {
+    for taken in parts.iter().copied() {
+        call.fails_at(rt, at(line.number, taken), line.first(taken))?;
+    }
+    Ok(())
+}
+
+// A fault at the put with this number, which isn't made, doesn't fail the call.
+fn put_is_not_made(
+    rt: &impl AllocGlobal,
+    call: Call<'_>,
+    text: &str,
+    number: u64,
 ) -> Result<(), Fail> {
     let faults = Faults {
         loads: &[],
-        puts: &[failing],
+        puts: &[at(number, 0)],
         notes: &[],
     };
-    call.ends(rt, faults, ending)
+    let whole = Ending {
+        code: 0,
+        out: text,
+        notes: "",
+        faults: [0, 0, 0],
+    };
+    call.ends(rt, faults, whole)
 }
 
-// Each put of the text, one for each line, fails in turn after each number of bytes in `parts`. `out` has the lines
-// before it and what the put took. A fault at a put that isn't made doesn't fail the call.
+// Each put of the text, one for each line, fails in turn after each number of bytes in `parts`, and one after them
+// isn't made.
 fn each_put_fails(
     rt: &impl AllocGlobal,
     call: Call<'_>,
@@ -38,25 +73,17 @@ fn each_put_fails(
     let mut before = 0;
     let mut number = 1;
     for line in text.split_inclusive('\n') {
-        for taken in parts.iter().copied() {
-            let failed = Ending {
-                code: 8,
-                out: first_part(text, before, line, taken),
-                notes: "write: out failed\n",
-                faults: [0, 1, 0],
-            };
-            put_fails(rt, call, at(number, taken), failed)?;
-        }
+        let failing = Line {
+            text,
+            line,
+            number,
+            before,
+        };
+        put_fails(rt, call, failing, parts)?;
         before = before.saturating_add(line.len());
         number = number.saturating_add(1);
     }
-    let whole = Ending {
-        code: 0,
-        out: text,
-        notes: "",
-        faults: [0, 0, 0],
-    };
-    put_fails(rt, call, at(number, 0), whole)
+    put_is_not_made(rt, call, text, number)
 }
 
 // The fault of the put with the number `call`, which takes `taken` bytes and fails.

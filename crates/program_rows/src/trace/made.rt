@@ -67,16 +67,16 @@ fn demand_rows(alloc: Global, tasks: &TaskSet, seed: u64) -> Result<String, Fail
     let mut rows = String::from_str(alloc, "task,job,units\n")?;
     for i in 0..tasks.count() {
         let task = tasks.task(i);
-        let name = std::str::from_utf8(task.name.as_bytes()).map_err(|_| "name")?;
+        let name = std::str::from_utf8(task.name.as_bytes())?;
         add_rows(alloc, &mut rows, name, task.worst, &mut draws)?;
     }
     Ok(rows)
 }
 
 fn made_files(alloc: Global, seed: u64) -> Result<MadeFiles, Fail> {
-    let (tasks, _, _) = make(alloc, seed, 3).map_err(|_| "workload")?;
+    let (tasks, _, _) = make(alloc, seed, 3)?;
     let rows = demand_rows(alloc, &tasks, seed)?;
-    let text = tasks.write(alloc).map_err(|_| "tasks")?;
+    let text = tasks.write(alloc)?;
     Ok(MadeFiles {
         tasks: text,
         demands: rows,
@@ -95,7 +95,7 @@ impl MadeFiles {
     }
 
     // The trace of the run under this pair, in this version.
-    fn trace(&self, alloc: Global, pair: &str, version: u8) -> Result<Vec<u8>, Fail> {
+    fn trace(&self, alloc: Global, pair: &str, version: u8) -> Result<String, Fail> {
         let line = format!(in alloc;
             "run --tasks T --machine M --demands F {pair} --ticks 100 --format {version}"
         )?;
@@ -104,17 +104,16 @@ impl MadeFiles {
         if left.code != 0 {
             return Err(Fail::from("run"));
         }
-        Ok(left.out)
+        Ok(String::from_utf8(left.out)?)
     }
 }
 
 // The line that `replay` prints for a trace, counted from the trace's lines.
-fn replayed_line(alloc: Global, trace: &[u8]) -> Result<String, Fail> {
-    let text = std::str::from_utf8(trace).map_err(|_| "text")?;
+fn replayed_line(alloc: Global, trace: &str) -> Result<String, Fail> {
     let mut releases = 0u64;
     let mut ends = 0u64;
     let mut energies = String::new(alloc);
-    for line in text.split('\n') {
+    for line in trace.split('\n') {
         if line.starts_with("release ") {
             releases = releases.saturating_add(1);
         } else if line.starts_with("done ") {
@@ -126,24 +125,54 @@ fn replayed_line(alloc: Global, trace: &[u8]) -> Result<String, Fail> {
     Ok(format!(in alloc; "replayed {releases} {ends} {energies}\n")?)
 }
 
+// The trace of a run in both versions, and the line that `replay` prints for it.
+#[derive(Drop)]
+struct Texts {
+    one: String,
+    two: String,
+    line: String,
+}
+
+fn texts_of(alloc: Global, made: &MadeFiles, pair: &str) -> Result<Texts, Fail> {
+    let one = made.trace(alloc, pair, 1)?;
+    let two = made.trace(alloc, pair, 2)?;
+    let line = replayed_line(alloc, one.as_str())?;
+    Ok(Texts { one, two, line })
+}
+
+// The trace is replayed with the line, and migrated to version 2.
+fn is_replayed_and_migrated(
+    rt: &impl AllocGlobal,
+    made: &MadeFiles,
+    trace: &str,
+    texts: &Texts,
+) -> Result<(), Fail> {
+    let replay = made.asked(trace.as_bytes(), REPLAY);
+    replay.answers(rt, texts.line.as_str())?;
+    let migrate = made.asked(trace.as_bytes(), MIGRATE);
+    migrate.answers(rt, texts.two.as_str())
+}
+
+// The traces of the run under this pair, in both versions, are replayed and migrated.
+fn both_are_replayed(rt: &impl AllocGlobal, made: &MadeFiles, pair: &str) -> Result<(), Fail> {
+    let texts = texts_of(rt.alloc(), made, pair)?;
+    is_replayed_and_migrated(rt, made, texts.one.as_str(), &texts)?;
+    is_replayed_and_migrated(rt, made, texts.two.as_str(), &texts)
+}
+
+// The traces of the generated plan, under every pair and in both versions, are replayed and migrated.
+fn each_is_replayed(rt: &impl AllocGlobal, seed: u64) -> Result<(), Fail> {
+    let made = made_files(rt.alloc(), seed)?;
+    for pair in PAIRS {
+        both_are_replayed(rt, &made, pair)?;
+    }
+    Ok(())
+}
+
 #[test]
 fn traces_of_made_plans_are_replayed_and_migrated(rt: HostRuntime) -> Result<(), Fail> {
-    let alloc = rt.alloc();
     for seed in SEEDS {
-        let made = made_files(alloc, seed)?;
-        for pair in PAIRS {
-            let one = made.trace(alloc, pair, 1)?;
-            let two = made.trace(alloc, pair, 2)?;
-            let line = replayed_line(alloc, one.as_slice())?;
-            for trace in [one.as_slice(), two.as_slice()] {
-                let replayed = made.asked(trace, REPLAY).under(alloc, NO_FAULTS)?;
-                assert_eq!(rt; replayed.code, 0, "{seed} {pair}");
-                assert_eq!(rt; replayed.out.as_slice(), line.as_bytes());
-                let migrated = made.asked(trace, MIGRATE).under(alloc, NO_FAULTS)?;
-                assert_eq!(rt; migrated.code, 0, "{seed} {pair}");
-                assert_eq!(rt; migrated.out.as_slice(), two.as_slice());
-            }
-        }
+        each_is_replayed(&rt, seed)?;
     }
     Ok(())
 }
@@ -177,26 +206,57 @@ impl Draws {
     }
 }
 
+// The call fails: it leaves nothing on `out`, and a line on `notes`.
+fn is_refused(alloc: Global, call: Call<'_>) -> Result<(), Fail> {
+    let left = call.under(alloc, NO_FAULTS)?;
+    if left.code == 0 || !left.out.is_empty() || left.notes.is_empty() {
+        return Err(Fail::new(format_args!("{}: isn't refused", call.words)));
+    }
+    Ok(())
+}
+
+// With one byte of the trace changed, four times, it is neither replayed nor migrated.
+fn changes_are_refused(
+    alloc: Global,
+    made: &MadeFiles,
+    trace: &str,
+    draws: &mut Draws,
+) -> Result<(), Fail> {
+    for _ in 0..4 {
+        let other = draws.changed(alloc, trace.as_bytes())?;
+        is_refused(alloc, made.asked(other.as_slice(), REPLAY))?;
+        is_refused(alloc, made.asked(other.as_slice(), MIGRATE))?;
+    }
+    Ok(())
+}
+
+// The trace of the run under this pair, in this version, is refused with a changed byte.
+fn version_is_refused(
+    alloc: Global,
+    made: &MadeFiles,
+    pair: &str,
+    version: u8,
+    draws: &mut Draws,
+) -> Result<(), Fail> {
+    let trace = made.trace(alloc, pair, version)?;
+    changes_are_refused(alloc, made, trace.as_str(), draws)
+}
+
+// The traces of the generated plan, under every pair and in both versions, are refused with a changed byte.
+fn each_change_is_refused(alloc: Global, seed: u64, draws: &mut Draws) -> Result<(), Fail> {
+    let made = made_files(alloc, seed)?;
+    for pair in PAIRS {
+        version_is_refused(alloc, &made, pair, 1, draws)?;
+        version_is_refused(alloc, &made, pair, 2, draws)?;
+    }
+    Ok(())
+}
+
 #[test]
 fn a_changed_byte_is_never_replayed(rt: HostRuntime) -> Result<(), Fail> {
-    let alloc = rt.alloc();
     let mut draws = Draws { state: 14 };
     for seed in SEEDS {
-        let made = made_files(alloc, seed)?;
-        for pair in PAIRS {
-            for version in [1, 2] {
-                let trace = made.trace(alloc, pair, version)?;
-                for _ in 0..4 {
-                    let other = draws.changed(alloc, trace.as_slice())?;
-                    for line in [REPLAY, MIGRATE] {
-                        let left = made.asked(other.as_slice(), line).under(alloc, NO_FAULTS)?;
-                        assert!(rt; left.code != 0, "{seed} {pair}");
-                        assert!(rt; left.out.is_empty(), "{seed} {pair}");
-                        assert!(rt; !left.notes.is_empty(), "{seed} {pair}");
-                    }
-                }
-            }
-        }
+        each_change_is_refused(rt.alloc(), seed, &mut draws)?;
     }
     Ok(())
 }

@@ -1,0 +1,77 @@
+-- What two calls over one shelf and one sink show, from what each shows.
+use Rattle.std.proofs.Common.{◌≡◌, inl, inr, ℕ, ◌+◌, ◌≤◌, Bool, List, [], ◌∷◌, length, Option, Some, None, Result, Ok, Err, subst, ◌∙◌, arith}
+use Rattle.std.proofs.lemmas.Bool.{cases_Bool}
+use Rattle.dvs_base.specs.Outside.{Files, ShelfView, SinkView, Rose}
+use Rattle.words.specs.Commands.{CommandOf}
+use Rattle.words.specs.declared.command.WordFault.{WordFault}
+use Rattle.rtdvs_top.specs.Promises.{answer_of_command, Answers, IsAnswer, known_files, loads_asked, loads_wanted}
+use Rattle.rtdvs_top.specs.Files.{CountsPuts, MakesLoads, passes, loads_while, NamedFile, files_of}
+use Rattle.rtdvs_top.specs.declared.status.Status.{Status}
+use Rattle.rtdvs_top.specs.declared.status.Status.TheVariants as status
+
+-- a sink's count of failed puts never falls
+pub puts-later : (before now : ℕ) (s : Status) → CountsPuts before now s → before ≤ now
+puts-later before now status.Write counts = counts.1
+puts-later before now s counts = omega (arith, counts)
+
+-- a count that rose since later rose since earlier, and one that rose has risen later
+rose-since : (earlier before now : ℕ) → earlier ≤ before → Rose before now → Rose earlier now
+rose-since earlier before now since rose = omega (arith, since, rose)
+
+rose-until : (before now later : ℕ) → now ≤ later → Rose before now → Rose before later
+rose-until before now later until rose = omega (arith, until, rose)
+
+-- an answer stays one where other counts have risen too
+module _ {loads puts more_loads more_puts : Type 0} (of_loads : loads → more_loads) (of_puts : puts → more_puts) where
+  is-answer : (answer : Result (List ℕ) Status) (s : Status) → IsAnswer loads puts answer s
+      → IsAnswer more_loads more_puts answer s
+  is-answer answer (status.Load kind) (inl same) = inl same
+  is-answer answer (status.Load kind) (inr rose) = inr (of_loads rose)
+  is-answer answer status.Write ends = (ends.0, of_puts ends.1)
+  is-answer answer s ends = ends
+
+  answers-as : (files : Option Files) (c : Result CommandOf WordFault) (s : Status) → Answers files c loads puts s
+      → Answers files c more_loads more_puts s
+  answers-as None c s answers = tt
+  answers-as (Some files) (Err why) s answers = answers
+  answers-as (Some files) (Ok c) s answers = is-answer (answer_of_command c files) s answers
+
+-- the first call's answer, where the counts are taken after the second
+pub first-answers : (old mid new : ShelfView) (out_old out_mid out_new : SinkView) (c : Result CommandOf WordFault)
+    (s : Status) → mid.faults ≤ new.faults → out_mid.faults ≤ out_new.faults
+    → Answers (known_files old.held c) c (Rose old.faults mid.faults) (Rose out_old.faults out_mid.faults) s
+    → Answers (known_files old.held c) c (Rose old.faults new.faults) (Rose out_old.faults out_new.faults) s
+first-answers old mid new out_old out_mid out_new c s loads puts answers =
+    answers-as (rose-until old.faults mid.faults new.faults loads)
+    (rose-until out_old.faults out_mid.faults out_new.faults puts) (known_files old.held c) c s answers
+
+-- the second call's answer, over the files known before the first, where the counts are taken from before it
+pub second-answers : (old mid new : ShelfView) (out_old out_mid out_new : SinkView) (c : Result CommandOf WordFault)
+    (s : Status) → mid.held ≡ old.held → old.faults ≤ mid.faults → out_old.faults ≤ out_mid.faults
+    → Answers (known_files mid.held c) c (Rose mid.faults new.faults) (Rose out_mid.faults out_new.faults) s
+    → Answers (known_files old.held c) c (Rose old.faults new.faults) (Rose out_old.faults out_new.faults) s
+second-answers old mid new out_old out_mid out_new c s held loads puts answers =
+    answers-as (rose-since old.faults mid.faults new.faults loads)
+    (rose-since out_old.faults out_mid.faults out_new.faults puts) (known_files old.held c) c s
+    (subst (λ (files : Option Files). Answers (known_files files c) c (Rose mid.faults new.faults)
+    (Rose out_mid.faults out_new.faults) s) held answers)
+
+-- an answer needs no more loads than the words name files
+while-few : (passed : NamedFile → Bool) (fs : List NamedFile) → loads_while passed fs ≤ length fs
+while-few passed [] = omega arith
+while-few passed (f ∷ fs) =
+    elim (cases_Bool (passed f)) [ inl on ↦ rw on (omega (arith, while-few passed fs)) | inr off ↦ rw off (omega arith) ]
+
+wanted-few : (files : Option Files) (c : Result CommandOf WordFault) → loads_wanted files c ≤ loads_asked c
+wanted-few files (Ok c) = while-few (passes files c) (files_of c)
+wanted-few files (Err why) = omega arith
+
+-- no load fails where the shelf guarantees those that both commands name
+pub both-steady : (old mid new : ShelfView) (first second : Result CommandOf WordFault)
+    → MakesLoads (loads_wanted old.held first) old mid
+    → (loads_asked first ≤ old.sure → mid.faults ≡ old.faults)
+    → (loads_asked second ≤ mid.sure → new.faults ≡ mid.faults)
+    → loads_asked first + loads_asked second ≤ old.sure → new.faults ≡ old.faults
+both-steady old mid new first second made first_steady second_steady sure =
+    let few = wanted-few old.held first in
+    second_steady (omega (arith, few, made.surety, sure)) ∙ first_steady (omega (arith, sure))

@@ -1,0 +1,54 @@
+// Two calls over one shelf and one pair of sinks, the first of which fails or not.
+use crate::call::{NO_FAULTS, Sinks};
+use crate::hostile::example::{ADMIT, RESPONSE};
+use crate::twice::{TwoCalls, twice};
+use std::process::Abort;
+use std::test::Fail;
+use test_inputs::{Ending, words_of};
+
+// The calls `ADMIT` and `RESPONSE` over one shelf, whose loads with the numbers in `failing` fail. The first has the
+// status `first`, and the second ends so.
+fn calls_end(
+    rt: &(impl Abort + AllocGlobal),
+    failing: &[u64],
+    first: u8,
+    second: Ending<'_>,
+) -> Result<(), Fail> {
+    let alloc = rt.alloc();
+    let admit = words_of(alloc, ADMIT.words)?;
+    let response = words_of(alloc, RESPONSE.words)?;
+    let words = TwoCalls {
+        first: &admit,
+        second: &response,
+    };
+    let mut shelf = ADMIT.shelf(alloc, failing)?;
+    let mut sinks = Sinks::new(alloc, 128, NO_FAULTS)?;
+    let (one, two) = twice(alloc, &words, &mut shelf, &mut sinks.out, &mut sinks.notes);
+    assert_eq!(rt; one.code(), first);
+    let left = sinks.left(alloc, two.code(), shelf.faults())?;
+    left.is(RESPONSE.words, second)
+}
+
+// Both answers are on `out`: the test under RM, and then the responses.
+#[test]
+fn two_calls_that_succeed(rt: HostRuntime) -> Result<(), Fail> {
+    let both = Ending {
+        code: 0,
+        out: "admitted rm 52/14 4\nresponse t1 3\nresponse t2 6\nresponse t3 7\n",
+        notes: "",
+        faults: [0, 0, 0],
+    };
+    calls_end(&rt, &[], 0, both)
+}
+
+// The first load fails, which is the first call's. The second call has its own answer.
+#[test]
+fn a_call_after_one_whose_load_failed(rt: HostRuntime) -> Result<(), Fail> {
+    let second = Ending {
+        code: 0,
+        out: "response t1 3\nresponse t2 6\nresponse t3 7\n",
+        notes: "load: tasks\n",
+        faults: [1, 0, 0],
+    };
+    calls_end(&rt, &[1], 3, second)
+}
