@@ -3,8 +3,7 @@ use Rattle.std.specs.Prelude.{ℕ, ◌+◌, ◌==◌, List, [], ◌∷◌, lengt
 use Rattle.dvs_base.specs.Widths.{u64_end}
 use Rattle.dvs_base.specs.Checks.{and_then, IsUnlessMemory}
 use Rattle.dvs_base.specs.Text.{number_below, short_of}
-use Rattle.csv_text.specs.Records.{three_of}
-use Rattle.csv_text.specs.Rows.{text_rows}
+use Rattle.csv_text.specs.Rows.{three_of, text_rows}
 use Rattle.task_model.specs.declared.task.Task.{Task}
 use Rattle.task_model.specs.DemandRows.{demand_row, named}
 use Rattle.task_model.specs.TaskFile.{place_of}
@@ -14,8 +13,8 @@ use Rattle.demand_list.specs.declared.fault.DemandFault.{DemandFault}
 use Rattle.demand_list.specs.declared.fault.DemandFault.TheVariants as fault
 
 -- the result, its value seen through `shown`, is the meaning, unless memory ran out
-abbrev pub Means : {T A : Type 0} → (T → A) → Result T DemandFault → Result A DemandFault → Type 0
-Means shown = IsUnlessMemory fault.NoMemory shown
+abbrev pub MeansDemands : {T A : Type 0} → (T → A) → Result T DemandFault → Result A DemandFault → Type 0
+MeansDemands shown = IsUnlessMemory fault.NoMemory shown
 
 -- the number of a job, which is refused where it is 0
 abbrev pub job_from : ℕ → ℕ → Result ℕ DemandFault
@@ -59,9 +58,10 @@ abbrev pub worst_list : List Task → DemandsOf
 worst_list tasks = record { worsts = map (λ t. t.worst) tasks; rows = [] }
 
 -- the fields of a demand file's header
-abbrev pub header : List (List ℕ)
-header = codes "task" ∷ codes "job" ∷ codes "units" ∷ []
+abbrev pub demand_header : List (List ℕ)
+demand_header = codes "task" ∷ codes "job" ∷ codes "units" ∷ []
 
 -- the meaning of a demand file's bytes for these tasks: its header first, and then its rows, counted from 1
 abbrev pub demand_file : List Task → List ℕ → Result DemandsOf DemandFault
-demand_file tasks bytes = and_then (ok_or (text_rows header bytes) fault.Header) (demands_from tasks 1 (worst_list tasks))
+demand_file tasks bytes =
+    and_then (ok_or (text_rows demand_header bytes) fault.Header) (demands_from tasks 1 (worst_list tasks))

@@ -1,2 +1,3 @@
 pub mod Demands
 pub mod DemandFile
+pub mod FaultLines

@@ -7,8 +7,10 @@
 
 mod demands;
 mod fault;
+mod fault_line;
 mod read;
 
 pub use demands::Demands;
 pub use fault::{Column, DemandFault};
+pub use fault_line::{demand_fault_line, over_worst_line};
 pub use read::worst_list;

@@ -1,8 +1,8 @@
 // Reading demand files.
 ghost use Rattle.std.specs.Prelude.{codes, ◌≡◌, ◌≤◌, ◌<◌, ◌^◌, length, map, IfOk, vec_len};
 ghost use Rattle.csv.specs.Records.{fields_of};
-ghost use Rattle.csv_text.specs.Records.{IsPlain, AreCountedFrom, records_left};
-ghost use Rattle.demand_list.specs.DemandFile.{Means, row_of, demands_from, with_checked, demand_file, worst_list};
+ghost use Rattle.csv_text.specs.Rows.{IsPlain, AreCountedFrom, records_left};
+ghost use Rattle.demand_list.specs.DemandFile.{MeansDemands, row_of, demands_from, with_checked, demand_file, worst_list};
 
 use crate::{Column, DemandFault, Demands};
 use csv::{ByteRecord, Reader};
@@ -48,7 +48,7 @@ fn add_checked(
     requires task { task < length demands.old.worsts }
     requires job { 1 ≤ job }
     ensures worsts { demands.new.worsts ≡ demands.old.worsts }
-    ensures added { Means (λ _. demands.new) result (with_checked demands.old row task job units) }
+    ensures added { MeansDemands (λ _. demands.new) result (with_checked demands.old row task job units) }
 {
     if demands.has_row(task, job) {
         return Err(DemandFault::Repeated { row, task, job });
@@ -99,7 +99,7 @@ fn read_rows(
     requires few { AreCountedFrom 1 reader.old }
     requires worsts { length demands.worsts ≡ length tasks.now }
     ensures worsts { IfOk result (λ d. d.worsts ≡ demands.worsts) }
-    ensures rows { Means (λ d. d) result (demands_from tasks.now 1 demands (records_left reader.old)) }
+    ensures rows { MeansDemands (λ d. d) result (demands_from tasks.now 1 demands (records_left reader.old)) }
 {
     let mut row: u64 = 1;
     while next_record(reader, fields)? {
@@ -116,7 +116,7 @@ impl Demands {
     /// then row by row the number of fields, the task, the job, the units, an earlier row of the job, and the worst
     /// case.
     pub fn read(alloc: Global, bytes: &[u8], tasks: &TaskSet) -> Result<Demands, DemandFault>
-        ensures file { Means (λ d. d) result (demand_file tasks.now bytes.now) }
+        ensures file { MeansDemands (λ d. d) result (demand_file tasks.now bytes.now) }
         ensures worsts { IfOk result (λ d. d.worsts ≡ map (λ t. t.worst) tasks.now) }
     {
         let mut fields = ByteRecord::new(alloc);

@@ -1,5 +1,5 @@
 -- One check after another: the first refusal is the answer.
-use Rattle.std.specs.Prelude.{◌≡◌, ◌≢◌, Result, Ok, Err}
+use Rattle.std.specs.Prelude.{Result, Ok, Err, ◌≡◌, ◌≢◌}
 
 -- the next check, where this one passed
 abbrev pub and_then : {A B F : Type 0} → Result A F → (A → Result B F) → Result B F

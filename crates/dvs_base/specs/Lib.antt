@@ -5,7 +5,8 @@ pub mod WritesText
 pub mod Memory
 pub mod Padded
 pub mod Parts
+pub mod FaultLines
+pub mod NoteTasks
 pub mod Checks
 pub mod Settings
-pub mod Pairs
 pub mod PlanWords

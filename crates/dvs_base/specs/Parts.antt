@@ -1,5 +1,5 @@
 -- The parts of a line of text.
-use Rattle.std.specs.Prelude.{ℕ, ◌+◌, List, [], ◌∷◌, ◌++◌, length, codes}
+use Rattle.std.specs.Prelude.{ℕ, ◌+◌, List, [], ◌∷◌, ◌++◌, codes, length, Option, Some, None, slice_index_or}
 use Rattle.std.specs.Fmt.{decimal}
 use Rattle.dvs_base.specs.declared.note.Pos.{Pos}
 use Rattle.dvs_base.specs.declared.part.Part.{Part}
@@ -42,3 +42,12 @@ most_bytes (part.Ratio num den) = 79
 abbrev pub most_of : List Part → ℕ
 most_of [] = 0
 most_of (p ∷ parts) = most_bytes p + most_of parts
+
+-- a name, or nothing where there is none
+abbrev pub name_text : Option (List ℕ) → List ℕ
+name_text None = []
+name_text (Some name) = name
+
+-- a task's name by its number, empty where there is none
+abbrev pub name_of : List (List ℕ) → ℕ → List ℕ
+name_of names i = slice_index_or names i []

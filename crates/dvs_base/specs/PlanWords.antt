@@ -1,13 +1,28 @@
--- What the words of a plan say: its scheduler, its governor and its number of ticks.
-use Rattle.std.specs.Prelude.{ℕ, ◌&&◌, List, codes, nat_le, Option, Some, None, if◌then◌else◌}
-use Rattle.std.specs.Str.{bytes_eq}
-use Rattle.dvs_base.specs.Widths.{u64_end}
-use Rattle.dvs_base.specs.Text.{number_below}
-use Rattle.dvs_base.specs.declared.limits.TheConstants.{MOST_TICKS}
+-- The words of a plan: its scheduler and its governor, which are a pair, and its number of ticks.
+use Rattle.std.specs.Prelude.{Bool, true, false, ◌≡◌, ℕ, List, codes, Option, Some, None, if◌then◌else◌, ◌&&◌, nat_le}
 use Rattle.dvs_base.specs.declared.kind.Scheduler.{Scheduler}
 use Rattle.dvs_base.specs.declared.kind.Scheduler.TheVariants.{Edf, Rm}
 use Rattle.dvs_base.specs.declared.kind.GovernorKind.{GovernorKind}
 use Rattle.dvs_base.specs.declared.kind.GovernorKind.TheVariants.{Plain, Fixed, Cycle, Ahead}
+use Rattle.std.specs.Str.{bytes_eq}
+use Rattle.dvs_base.specs.declared.limits.TheConstants.{MOST_TICKS}
+use Rattle.dvs_base.specs.Widths.{u64_end}
+use Rattle.dvs_base.specs.Text.{number_below}
+
+-- the seven pairs of a scheduler and a governor: look-ahead is for EDF alone
+abbrev pub is_pair : Scheduler → GovernorKind → Bool
+is_pair Edf Plain = true
+is_pair Edf Fixed = true
+is_pair Edf Cycle = true
+is_pair Edf Ahead = true
+is_pair Rm Plain = true
+is_pair Rm Fixed = true
+is_pair Rm Cycle = true
+is_pair Rm Ahead = false
+
+-- a scheduler and a governor are one of the seven pairs
+abbrev pub IsPair : Scheduler → GovernorKind → Type 0
+IsPair scheduler governor = is_pair scheduler governor ≡ true
 
 -- the scheduler that a word names: `edf` or `rm`
 abbrev pub scheduler_of : List ℕ → Option Scheduler

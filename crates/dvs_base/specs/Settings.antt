@@ -1,10 +1,10 @@
 -- What a settings file holds: its document, and what the document's keys hold.
-use Rattle.std.specs.Prelude.{ℕ, pos, negsuc, ℤ, ◌+◌, ◌&&◌, Bool, List, nat_le, Option, Some, None, Result, Ok, Err, if◌then◌else◌}
+use Rattle.std.specs.Prelude.{ℕ, List, Option, None, if◌then◌else◌, Some, Bool, pos, negsuc, ℤ, ◌&&◌, nat_le, Result, Ok, Err, ◌+◌}
 use Rattle.std.specs.List.{list_any}
-use Rattle.std.specs.Str.{bytes_eq, is_utf8}
+use Rattle.std.specs.Str.{is_utf8, bytes_eq}
 use Rattle.std.specs.Cmp.Lexicographic.{slice_cmp}
 use Rattle.std.specs.Ordering.{nat_cmp, is_lt}
-use Rattle.toml.specs.Data.{Data, Items, no_items, item, Members, no_members, member, as_integer, as_str}
+use Rattle.toml.specs.Data.{Members, no_members, member, Data, as_integer, as_str, Items, no_items, item}
 use Rattle.toml.specs.Parse.{parse_document}
 use Rattle.dvs_base.specs.declared.settings.MemberFault.{MemberFault}
 use Rattle.dvs_base.specs.declared.settings.MemberFault.TheVariants as fault

@@ -10,6 +10,7 @@
 //! answer is that of `specs/Settings.antt`, and no other call of them takes memory.
 #![tactic(auto)]
 
+mod fault_line;
 mod host;
 mod kind;
 mod limits;
@@ -25,6 +26,7 @@ mod put;
 mod settings;
 mod void;
 
+pub use fault_line::{place_line, too_many_line};
 pub use host::{HostShelf, HostSink};
 pub use kind::{GovernorKind, Scheduler, Version};
 pub use limits::{LONGEST_FILE, LONGEST_LINE, LONGEST_TRACE, MOST_JOBS, MOST_LINES, MOST_TICKS};
@@ -35,8 +37,8 @@ pub use note::{Note, Pos, Totals};
 pub use number::{whole, wide};
 pub use outside::{Failed, LoadFault, NoMemory, Shelf, Sink};
 pub use part::{
-    Part, line_of, push_name, push_number, push_part, push_parts, push_position, push_ratio,
-    push_wide, push_word,
+    Part, line_of, name_part, push_name, push_number, push_part, push_parts, push_position,
+    push_ratio, push_wide, push_word,
 };
 pub use plan_word::{governor_of, is_pair, scheduler_of, ticks_of};
 pub use put::{put_line, put_two};

@@ -1,4 +1,6 @@
 // The notes of a run, and its totals.
+ghost use Rattle.std.specs.Prelude.{◌≡◌};
+ghost use Rattle.dvs_base.specs.NoteTasks.{note_task};
 
 /// A unit boundary: a tick, and a number of units below that tick's speed.
 #[derive(Clone, Copy, Debug, PartialEq, Eq)]
@@ -53,6 +55,23 @@ pub enum Note {
         run: u128,
         idle: u128,
     },
+}
+
+impl Note {
+    /// The task that the note names, if it names one. It takes no memory.
+    #[inline]
+    pub fn task(&self) -> Option<u32>
+        ensures { result ≡ note_task self.now }
+    {
+        match self {
+            Note::Release { task, .. } => Some(*task),
+            Note::Run { task, .. } => Some(*task),
+            Note::Done { task, .. } => Some(*task),
+            Note::Speed { .. } => None,
+            Note::Idle { .. } => None,
+            Note::End { .. } => None,
+        }
+    }
 }
 
 /// The sums and counts of a run: its energies of running and of idle segments, in the unit of [`Note`], and its jobs

@@ -1,7 +1,7 @@
 // The parts of a line of text.
 ghost use Rattle.std.specs.Prelude.{◌≡◌, ◌+◌, ◌≤◌, ◌++◌, length, map};
 ghost use Rattle.std.specs.Fmt.{decimal};
-ghost use Rattle.dvs_base.specs.Parts.{part_text, most_bytes, most_of, joined};
+ghost use Rattle.dvs_base.specs.Parts.{part_text, most_bytes, most_of, joined, name_text};
 
 use crate::{Line, Name, Pos, Short, put_num};
 use itoa::Buffer;
@@ -23,6 +23,17 @@ pub enum Part<'a> {
     At(Pos),
     /// A fraction as `num/den`.
     Ratio(u128, u128),
+}
+
+/// The name as a part, which is empty where there is none. It takes no memory.
+pub fn name_part(name: &Option<Name>) -> Part<'_>
+    ensures text { part_text result ≡ name_text name.now }
+    ensures most { most_bytes result ≤ 32 }
+{
+    match name {
+        Some(name) => Part::Named(name),
+        None => Part::Word(b""),
+    }
 }
 
 /// Appends the bytes, which fit in the 256. It takes no memory.

@@ -1,7 +1,6 @@
 // What the words of a plan say.
 ghost use Rattle.std.specs.Prelude.{◌≡◌};
-ghost use Rattle.dvs_base.specs.Pairs.{is_pair};
-ghost use Rattle.dvs_base.specs.PlanWords.{scheduler_of, governor_of, ticks_of};
+ghost use Rattle.dvs_base.specs.PlanWords.{is_pair, scheduler_of, governor_of, ticks_of};
 
 use crate::{GovernorKind, MOST_TICKS, Scheduler, whole};
 

@@ -4,7 +4,7 @@ use Rattle.std.proofs.Math.Nat.{mul-le-mul_right}
 use Rattle.std.proofs.lemmas.Bool.{cases_lt, le-leb, leb-true}
 use Rattle.std.proofs.lemmas.Bool.Decides.{nat_tests}
 use Rattle.dvs_base.specs.declared.limits.TheConstants.{MOST_JOBS}
-use Rattle.task_model.specs.Offsets.{NoneOffset, IsFirstOffset}
+use Rattle.task_model.specs.Tasks.{NoneOffset, IsFirstOffset}
 use Rattle.task_model.proofs.Finding.{none-found, first-found}
 use Rattle.grid_fraction.specs.declared.Frac.{Frac}
 use Rattle.grid_fraction.specs.Fraction.{meets}
@@ -18,33 +18,33 @@ use Rattle.edf_demand_laws.specs.Constrained.{IsConstrained}
 use Rattle.edf_demand_laws.specs.ProcessorDemand.{IsConstrainedDemand, constrained_demand}
 use Rattle.edf_demand_laws.proofs.Deciding.{meets-always, misses-at-worst}
 use Rattle.edf_demand.specs.declared.lowest_speed.ConstrainFault.TheVariants.{Offset, TooManyJobs, Denied}
-use Rattle.edf_demand.specs.Answers.{IsTested, IsLowestSpeed, IsOverload, hyper_jobs, pick_answer, demand_answer, answer_from, constrain_answer}
+use Rattle.edf_demand.specs.Answers.{LooksAtDemand, IsLowestSpeed, IsOverload, hyper_jobs, pick_answer, demand_answer, answer_from, tested_answer}
 
 module _ (p : Plan) (relative : ℕ → ℕ) where
-  pub answer-offset : (i : ℕ) → IsFirstOffset (offset p) (count p) i → constrain_answer p relative ≡ Err (Offset i)
+  pub answer-offset : (i : ℕ) → IsFirstOffset (offset p) (count p) i → tested_answer p relative ≡ Err (Offset i)
   answer-offset i first = ap (answer_from p relative) (first-found (offset p) (count p) i first)
 
   module _ (none : NoneOffset (offset p) (count p)) where
     pub answer-too_many : (jobs : ℕ) → jobs ≡ hyper_jobs p.tasks → MOST_JOBS < jobs
-        → constrain_answer p relative ≡ Err (TooManyJobs jobs)
+        → tested_answer p relative ≡ Err (TooManyJobs jobs)
     answer-too_many jobs are many =
         let over : nat_lt MOST_JOBS (hyper_jobs p.tasks) ≡ true = grind (arith, nat_tests) in
         ap (answer_from p relative) (none-found (offset p) (count p) none)
         ∙ (rw over refl ∙ ap (λ n. Err (TooManyJobs n)) (sym are))
 
     module _ (few : hyper_jobs p.tasks ≤ MOST_JOBS) (demand : Frac) (is : demand ≡ constrained_demand p relative) where
-      looked_at : constrain_answer p relative ≡ demand_answer p demand
+      looked_at : tested_answer p relative ≡ demand_answer p demand
       looked_at =
           let under : nat_lt MOST_JOBS (hyper_jobs p.tasks) ≡ false = grind (arith, nat_tests) in
           ap (answer_from p relative) (none-found (offset p) (count p) none)
           ∙ (rw under refl ∙ ap (demand_answer p) (sym is))
 
       pub answer-met : (e : ℕ) → lowest_pick p.machine demand ≡ (record { index = e; met = true })
-          → constrain_answer p relative ≡ Ok (record { demand = demand; point = e })
+          → tested_answer p relative ≡ Ok (record { demand = demand; point = e })
       answer-met e pick = looked_at ∙ ap (pick_answer p demand) pick
 
       pub answer-denied : (cap : ℕ) → cap ≡ top_speed p * demand.den → (lowest_pick p.machine demand).met ≡ false
-          → constrain_answer p relative ≡ Err (Denied demand.den demand.num cap)
+          → tested_answer p relative ≡ Err (Denied demand.den demand.num cap)
       answer-denied cap cap_is met =
           looked_at ∙ (rw met refl ∙ ap (λ n. Err (Denied demand.den demand.num n)) (sym cap_is))
 
@@ -91,7 +91,7 @@ module _ (p : Plan) (lim : IsWithinLimits p) (relative : ℕ → ℕ) (con : IsC
   last-within : last_entry p.machine < length p.machine.points
   last-within = let some : 1 ≤ length p.machine.points = lim.machine.some in omega arith
 
-  pub overload : IsTested p → (cap : ℕ) → cap ≡ top_speed p * demand.den → (lowest_pick p.machine demand).met ≡ false
+  pub overload : LooksAtDemand p → (cap : ℕ) → cap ≡ top_speed p * demand.den → (lowest_pick p.machine demand).met ≡ false
       → IsOverload p relative demand.den demand.num cap
   overload tested cap cap_is met =
       let each : ℕ → Bool = λ e. meets (speed_at p.machine e) demand in

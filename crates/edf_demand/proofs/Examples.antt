@@ -12,7 +12,7 @@ use Rattle.edf_demand_laws.specs.ProcessorDemand.{constrained_demand}
 use Rattle.edf_demand.specs.declared.fault.DeadlineFault.TheVariants.{Range}
 use Rattle.edf_demand.specs.declared.lowest_speed.ConstrainFault.TheVariants.{Offset, Denied}
 use Rattle.edf_demand.specs.DeadlineFile.{deadline_file}
-use Rattle.edf_demand.specs.Answers.{constrain_answer}
+use Rattle.edf_demand.specs.Answers.{tested_answer}
 
 -- tasks under EDF on a machine with these entries
 abbrev plan : List Task → List Point → Plan
@@ -46,19 +46,19 @@ above_period = refl
 -- with the deadlines 2 and 5 the most work per tick is due by tick 6: two jobs of a and one of b, 14 units, for which
 -- speed 2 is too slow and speed 3 enough
 lowest :
-    constrain_answer (plan pair (entry_of 2 1000 ∷ entry_of 3 1000 ∷ entry_of 4 1000 ∷ [])) (slice_index (2 ∷ 5 ∷ []))
+    tested_answer (plan pair (entry_of 2 1000 ∷ entry_of 3 1000 ∷ entry_of 4 1000 ∷ [])) (slice_index (2 ∷ 5 ∷ []))
     ≡ Ok (record { demand = record { num = 14; den = 6 }; point = 1 })
 unfolding constrained_demand release fraction.least_common_multiple
 lowest = refl
 
 -- the highest speed 2 does 12 units in these 6 ticks
-denied : constrain_answer (plan pair (entry_of 2 1000 ∷ [])) (slice_index (2 ∷ 5 ∷ [])) ≡ Err (Denied 6 14 12)
+denied : tested_answer (plan pair (entry_of 2 1000 ∷ [])) (slice_index (2 ∷ 5 ∷ [])) ≡ Err (Denied 6 14 12)
 unfolding constrained_demand release fraction.least_common_multiple
 denied = refl
 
 -- of two tasks with offsets the first in file order is named, whose period and deadline are the longer ones
 offset_in_file_order :
-    constrain_answer
+    tested_answer
     (plan (task_of (codes "b") 6 1 1 ∷ task_of (codes "a") 4 1 1 ∷ []) (entry_of 2 1000 ∷ []))
     (slice_index (5 ∷ 2 ∷ []))
     ≡ Err (Offset 0)

@@ -2,9 +2,8 @@
 use Rattle.std.proofs.Common.{ℕ, List, length, slice_index}
 use Rattle.dvs_base.specs.declared.kind.Scheduler.TheVariants.{Edf}
 use Rattle.task_model.specs.declared.task.Task.{Task}
-use Rattle.task_model.specs.Tasks.{task_at}
+use Rattle.task_model.specs.Tasks.{task_at, NoneOffset}
 use Rattle.freq_table.specs.Tables.{Table}
-use Rattle.task_model.specs.Offsets.{NoneOffset}
 use Rattle.sched_model.specs.Plan.{plan_of}
 use Rattle.edf_demand_laws.specs.Constrained.{IsConstrained}
 use Rattle.edf_demand.specs.Deadlines.{AreFor}

@@ -6,8 +6,7 @@ use Rattle.grid_fraction.specs.declared.Frac.{Frac}
 use Rattle.freq_table.specs.declared.machine.Pick.{Pick}
 use Rattle.freq_table.specs.Tables.{speed_at, last_entry, lowest_pick}
 use Rattle.task_model.specs.declared.task.Task.{Task}
-use Rattle.task_model.specs.Tasks.{hyper_of, task_at}
-use Rattle.task_model.specs.Offsets.{NoneOffset, IsFirstOffset, first_offset}
+use Rattle.task_model.specs.Tasks.{hyper_of, task_at, NoneOffset, IsFirstOffset, first_offset}
 use Rattle.sched_model.specs.Plan.{Plan, count, offset, top_speed}
 use Rattle.edf_demand_laws.specs.ProcessorDemand.{IsConstrainedDemand, constrained_demand}
 use Rattle.edf_demand_laws.specs.Deciding.{MeetsAlways, MissesAtWorst}
@@ -20,7 +19,7 @@ abbrev pub hyper_jobs : List Task → ℕ
 hyper_jobs tasks = sum_below (length tasks) (λ i. hyper_of tasks / (task_at tasks i).period)
 
 -- the test looks at the demand: no task has an offset, and a hyperperiod has at most `MOST_JOBS` jobs
-pub record IsTested (p : Plan) : Type 0 where
+pub record LooksAtDemand (p : Plan) : Type 0 where
   pub no_offset : NoneOffset (offset p) (count p)
   pub few : hyper_jobs p.tasks ≤ MOST_JOBS
 
@@ -37,7 +36,7 @@ pub record IsLowestSpeed (p : Plan) (relative : ℕ → ℕ) (c : Constrained) :
 
 -- the highest speed doesn't do the demand of `num` units by the tick `at`, and misses a deadline by then at worst
 pub record IsOverload (p : Plan) (relative : ℕ → ℕ) (at num cap : ℕ) : Type 0 where
-  pub tested : IsTested p
+  pub tested : LooksAtDemand p
   pub demand : IsConstrainedDemand p relative (record { num = num; den = at })
   pub cap_is : cap ≡ top_speed p * at
   pub over : cap < num
@@ -48,13 +47,13 @@ abbrev pub IsConstrainDenial : Plan → (ℕ → ℕ) → ConstrainFault → Typ
 IsConstrainDenial p relative (Offset task) = IsFirstOffset (offset p) (count p) task
 IsConstrainDenial p relative (TooManyJobs jobs) = IsTooLong p jobs
 IsConstrainDenial p relative (Denied at num cap) = IsOverload p relative at num cap
-IsConstrainDenial p relative NoMemory = IsTested p
+IsConstrainDenial p relative NoMemory = LooksAtDemand p
 
 -- the numbers of a denial show its cause
-abbrev pub IsShownDenial : ConstrainFault → Type 0
-IsShownDenial (TooManyJobs jobs) = MOST_JOBS < jobs
-IsShownDenial (Denied at num cap) = cap < num
-IsShownDenial e = ⊤
+abbrev pub ShowsCause : ConstrainFault → Type 0
+ShowsCause (TooManyJobs jobs) = MOST_JOBS < jobs
+ShowsCause (Denied at num cap) = cap < num
+ShowsCause e = ⊤
 
 -- the demand with the entry picked, where this meets the demand, and otherwise the denial
 abbrev pub pick_answer : Plan → Frac → Pick → Result Constrained ConstrainFault
@@ -77,5 +76,5 @@ answer_from p relative None =
 
 -- The answer of the test: the first task in file order with an offset; where none has one, that a hyperperiod has too
 -- many jobs; and otherwise the constrained demand with the lowest entry that meets it, or that none does.
-abbrev pub constrain_answer : Plan → (ℕ → ℕ) → Result Constrained ConstrainFault
-constrain_answer p relative = answer_from p relative (first_offset (offset p) (count p))
+abbrev pub tested_answer : Plan → (ℕ → ℕ) → Result Constrained ConstrainFault
+tested_answer p relative = answer_from p relative (first_offset (offset p) (count p))

@@ -4,8 +4,7 @@ use Rattle.std.specs.List.{slice_index_or}
 use Rattle.dvs_base.specs.Widths.{u64_end}
 use Rattle.dvs_base.specs.Checks.{and_then}
 use Rattle.dvs_base.specs.Text.{number_below, short_of}
-use Rattle.csv_text.specs.Records.{two_of}
-use Rattle.csv_text.specs.Rows.{text_rows}
+use Rattle.csv_text.specs.Rows.{two_of, text_rows}
 use Rattle.grid_fraction.specs.Numbers.{list_below}
 use Rattle.task_model.specs.declared.task.Task.{Task}
 use Rattle.task_model.specs.Tasks.{task_at}
@@ -59,14 +58,14 @@ deadline_at tasks given i = unwrap_or (given_to given i) (task_at tasks i).perio
 abbrev pub all_deadlines : List Task → List (Option ℕ) → List ℕ
 all_deadlines tasks given = list_below (length tasks) (deadline_at tasks given)
 
--- the fields of the header
-abbrev pub header : List (List ℕ)
-header = codes "task" ∷ codes "deadline" ∷ []
+-- the fields of a deadline file's header
+abbrev pub deadline_header : List (List ℕ)
+deadline_header = codes "task" ∷ codes "deadline" ∷ []
 
 -- the deadlines that the rows of a file give, counted from 1 after the header
 abbrev pub given_in : List Task → List ℕ → Result (List (Option ℕ)) DeadlineFault
 given_in tasks bytes =
-    and_then (ok_or (text_rows header bytes) fault.Header) (given_from tasks 1 (none_given tasks))
+    and_then (ok_or (text_rows deadline_header bytes) fault.Header) (given_from tasks 1 (none_given tasks))
 
 -- the meaning of a deadline file for these tasks
 abbrev pub deadline_file : List Task → List ℕ → Result (List ℕ) DeadlineFault

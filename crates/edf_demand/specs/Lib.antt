@@ -1,4 +1,5 @@
 pub mod Deadlines
 pub mod DeadlineFile
+pub mod FaultLines
 pub mod Walk
 pub mod Answers

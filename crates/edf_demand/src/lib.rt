@@ -9,10 +9,12 @@
 
 mod deadlines;
 mod fault;
+mod fault_line;
 mod lowest_speed;
 mod read;
 mod walk;
 
 pub use deadlines::Deadlines;
 pub use fault::DeadlineFault;
+pub use fault_line::deadline_fault_line;
 pub use lowest_speed::{ConstrainFault, Constrained, constrain};

@@ -6,7 +6,7 @@ ghost use Rattle.sched_model.specs.Plan.{plan_of};
 ghost use Rattle.edf_demand_laws.specs.ProcessorDemand.{IsConstrainedDemand};
 ghost use Rattle.edf_demand.specs.Deadlines.{AreFor};
 ghost use Rattle.dvs_base.specs.Checks.{IsUnlessMemory};
-ghost use Rattle.edf_demand.specs.Answers.{IsTested, IsLowestSpeed, IsConstrainDenial, IsShownDenial, constrain_answer};
+ghost use Rattle.edf_demand.specs.Answers.{LooksAtDemand, IsLowestSpeed, IsConstrainDenial, ShowsCause, tested_answer};
 
 use crate::Deadlines;
 use crate::walk::{constrained_demand, hyper_jobs};
@@ -50,14 +50,14 @@ pub fn constrain(
 ) -> Result<Constrained, ConstrainFault>
     requires { AreFor tasks.now deadlines.now }
     ensures answer { IsUnlessMemory ConstrainFault.NoMemory (λ c. c) result
-        (constrain_answer (plan_of tasks.now machine.now Edf) (slice_index deadlines.now)) }
-    ensures tested { OnOk result (IsTested (plan_of tasks.now machine.now Edf)) }
+        (tested_answer (plan_of tasks.now machine.now Edf) (slice_index deadlines.now)) }
+    ensures tested { OnOk result (LooksAtDemand (plan_of tasks.now machine.now Edf)) }
     ensures demand { IfOk result (λ c.
         IsConstrainedDemand (plan_of tasks.now machine.now Edf) (slice_index deadlines.now) c.demand) }
     ensures lowest { IfOk result (λ c. lowest_pick machine.now c.demand ≡ record { index = c.point; met = true }) }
     ensures speed { IfOk result (IsLowestSpeed (plan_of tasks.now machine.now Edf) (slice_index deadlines.now)) }
     ensures denial { IfErr result (IsConstrainDenial (plan_of tasks.now machine.now Edf) (slice_index deadlines.now)) }
-    ensures shown { IfErr result IsShownDenial }
+    ensures shown { IfErr result ShowsCause }
 {
     let _tasks = tasks.as_slice();
     let _entries = machine.as_slice();

@@ -1,3 +1,4 @@
 pub mod Tables
 pub mod MachineFile
+pub mod FaultLines
 pub mod Limits

@@ -99,8 +99,8 @@ table_of_document (Some ms) =
     Ok record { points = points; idle = idle; charge = charge }))))
 
 -- the result, its value seen through `shown`, is the meaning, unless memory ran out
-abbrev pub Means : {T A : Type 0} → (T → A) → Result T MachineFault → Result A MachineFault → Type 0
-Means shown = IsUnlessMemory fault.NoMemory shown
+abbrev pub MeansMachine : {T A : Type 0} → (T → A) → Result T MachineFault → Result A MachineFault → Type 0
+MeansMachine shown = IsUnlessMemory fault.NoMemory shown
 
 -- the meaning of a machine file's bytes: the machine, or the first refusal
 abbrev pub machine_file : List ℕ → Result Table MachineFault

@@ -5,10 +5,12 @@
 #![tactic(auto)]
 
 mod fault;
+mod fault_line;
 mod limits;
 mod machine;
 mod read;
 
 pub use fault::{MachineFault, MachineField};
+pub use fault_line::machine_fault_line;
 pub use limits::{MOST_CHARGE, MOST_IDLE, MOST_MILLIVOLTS, MOST_POINTS, TOP_SPEED};
 pub use machine::{Machine, Pick, Point};

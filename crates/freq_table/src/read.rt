@@ -7,7 +7,7 @@ ghost use Rattle.dvs_base.specs.Settings.{number_at};
 ghost use Rattle.freq_table.specs.declared.limits.TheConstants.{MOST_POINTS};
 ghost use Rattle.freq_table.specs.Tables.{IsPoint};
 ghost use Rattle.freq_table.specs.Limits.{ArePoints};
-ghost use Rattle.freq_table.specs.MachineFile.{Means, fault_at, at_field, setting_at, point_of_members, point_of, may_follow, last_of, points_from, entries_from, points_at, table_of_document, machine_file};
+ghost use Rattle.freq_table.specs.MachineFile.{MeansMachine, fault_at, at_field, setting_at, point_of_members, point_of, may_follow, last_of, points_from, entries_from, points_at, table_of_document, machine_file};
 
 use crate::fault::{MachineFault, MachineField};
 use crate::limits::{MOST_CHARGE, MOST_IDLE, MOST_MILLIVOLTS, MOST_POINTS, TOP_SPEED};
@@ -102,7 +102,7 @@ fn may_follow(points: &[Point], x: Point) -> bool
 // The points of the entries, of which there are at most `MOST_POINTS`.
 fn read_entries(alloc: Global, entries: &[Value]) -> Result<Vec<Point>, MachineFault>
     requires { length entries.now ≤ MOST_POINTS }
-    ensures meaning { Means (λ v. v.items) result (points_from [] (items_view entries.now)) }
+    ensures meaning { MeansMachine (λ v. v.items) result (points_from [] (items_view entries.now)) }
     ensures limits { IfOk result (λ v. ArePoints v.items) }
     ensures count { IfOk result (λ v. vec_len v ≡ length entries.now) }
 {
@@ -121,7 +121,7 @@ fn read_entries(alloc: Global, entries: &[Value]) -> Result<Vec<Point>, MachineF
 }
 
 fn read_array(alloc: Global, entries: &[Value]) -> Result<Vec<Point>, MachineFault>
-    ensures meaning { Means (λ v. v.items) result (entries_from (Some (items_view entries.now))) }
+    ensures meaning { MeansMachine (λ v. v.items) result (entries_from (Some (items_view entries.now))) }
     ensures limits { IfOk result (λ v. ArePoints v.items) }
     ensures some { IfOk result (λ v. 1 ≤ vec_len v) }
     ensures few { IfOk result (λ v. vec_len v ≤ MOST_POINTS) }
@@ -138,7 +138,8 @@ fn read_array(alloc: Global, entries: &[Value]) -> Result<Vec<Point>, MachineFau
 }
 
 fn read_points(alloc: Global, table: &Table) -> Result<Vec<Point>, MachineFault>
-    ensures meaning { Means (λ v. v.items) result (points_at (get_member (codes "point") (table_view table.now))) }
+    ensures meaning { MeansMachine (λ v. v.items) result
+        (points_at (get_member (codes "point") (table_view table.now))) }
     ensures limits { IfOk result (λ v. ArePoints v.items) }
     ensures some { IfOk result (λ v. 1 ≤ vec_len v) }
     ensures few { IfOk result (λ v. vec_len v ≤ MOST_POINTS) }
@@ -157,7 +158,7 @@ fn read_points(alloc: Global, table: &Table) -> Result<Vec<Point>, MachineFault>
 }
 
 fn read_table(alloc: Global, table: &Table) -> Result<Machine, MachineFault>
-    ensures { Means (λ m. m) result (table_of_document (Some (table_view table.now))) }
+    ensures { MeansMachine (λ m. m) result (table_of_document (Some (table_view table.now))) }
 {
     if let Some(key) = unknown_key(table, &["charge", "idle", "point"]) {
         return Err(MachineFault::UnknownKey { place: 0, key });
@@ -175,7 +176,7 @@ impl Machine {
     /// and its `millivolts`, and the numbers `idle` and `charge`, which are 0 where they are absent. For any other
     /// file, its first refusal, unless memory runs out.
     pub fn read(alloc: Global, bytes: &[u8]) -> Result<Machine, MachineFault>
-        ensures { Means (λ m. m) result (machine_file bytes.now) }
+        ensures { MeansMachine (λ m. m) result (machine_file bytes.now) }
     {
         let table = match read_document(alloc, bytes) {
             Ok(table) => table,

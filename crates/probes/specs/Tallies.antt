@@ -2,6 +2,7 @@
 use Rattle.std.specs.Prelude.{ℕ, ◌+◌, ◌-◌, min, Bool, true, false, List, [], ◌∷◌, nat_eq, nat_le}
 use Rattle.std.specs.Prelude.{Option, Some, None, if◌then◌else◌}
 use Rattle.dvs_base.specs.Widths.{u64_end}
+use Rattle.dvs_base.specs.NoteTasks.{note_task}
 use Rattle.dvs_base.specs.declared.note.Note.{Note}
 use Rattle.dvs_base.specs.declared.note.Note.TheVariants.{Release, Speed, Run, Idle, Done, End}
 use Rattle.probes.specs.declared.rule.What.{What}
@@ -14,15 +15,6 @@ use Rattle.probes.specs.declared.rule.Stay.TheVariants as stay
 pub record ProbeOf : Type 0 where
   pub rule : Rule
   pub tally : ℕ
-
--- the task that a note names, if it names one
-abbrev pub task_of : Note → Option ℕ
-task_of (Release tick task job) = Some task
-task_of (Speed tick speed num den) = None
-task_of (Run from to task job units energy) = Some task
-task_of (Idle from to units energy) = None
-task_of (Done at task job used) = Some task
-task_of (End ticks run idle) = None
 
 -- what a note weighs by its kind: 1 where it is of the kind that is counted, else 0; under Units a run's segment
 -- weighs its units
@@ -43,7 +35,7 @@ is_about (Some wanted) None = false
 
 -- what a note weighs under a rule
 abbrev pub weight : Rule → Note → ℕ
-weight rule note = if is_about rule.task (task_of note) then weight_of_kind rule.what note else 0
+weight rule note = if is_about rule.task (note_task note) then weight_of_kind rule.what note else 0
 
 -- the highest count, 2^64 - 1
 abbrev pub most : ℕ

@@ -1,6 +1,7 @@
 // What a probe counts, and until when.
 ghost use Rattle.std.specs.Prelude.{◌≡◌, ◌≤◌, ◌^◌};
-ghost use Rattle.probes.specs.Tallies.{task_of, is_about, weight, weight_of_kind, stay_at, most, capped};
+ghost use Rattle.dvs_base.specs.NoteTasks.{note_task};
+ghost use Rattle.probes.specs.Tallies.{is_about, weight, weight_of_kind, stay_at, most, capped};
 
 use dvs_base::Note;
 
@@ -31,20 +32,6 @@ pub enum Stay {
     Leave,
 }
 
-/// The task that a note names, if it names one.
-pub(crate) fn task_of(note: &Note) -> Option<u32>
-    ensures { result ≡ task_of note.now }
-{
-    match note {
-        Note::Release { task, .. } => Some(*task),
-        Note::Run { task, .. } => Some(*task),
-        Note::Done { task, .. } => Some(*task),
-        Note::Speed { .. } => None,
-        Note::Idle { .. } => None,
-        Note::End { .. } => None,
-    }
-}
-
 // What a note weighs by its kind alone.
 fn weight_of_kind(what: What, note: &Note) -> u64
     ensures { result ≡ weight_of_kind what note.now }
@@ -62,9 +49,9 @@ fn weight_of_kind(what: What, note: &Note) -> u64
 
 // Whether a note is about the task that a rule names; a rule without a task is about every note.
 fn is_about(task: Option<u32>, note: &Note) -> bool
-    ensures { result ≡ is_about task (task_of note.now) }
+    ensures { result ≡ is_about task (note_task note.now) }
 {
-    match (task, task_of(note)) {
+    match (task, note.task()) {
         (None, _) => true,
         (Some(wanted), Some(found)) => wanted == found,
         (Some(_), None) => false,

@@ -4,7 +4,7 @@ ghost use Rattle.probes.specs.Tallies.{ProbeOf, told, stay_of, capped};
 ghost use Rattle.probes.specs.Seen.{seen_table};
 
 use crate::probe::Probe;
-use crate::rule::{Rule, Stay, stay_at, task_of, weight};
+use crate::rule::{Rule, Stay, stay_at, weight};
 use dvs_base::Note;
 use task_model::MOST_TASKS;
 
@@ -53,7 +53,7 @@ impl Probe for TableProbe {
 
     fn tell(&mut self, note: &Note) -> Stay {
         let more = weight(self.rule, note);
-        match task_of(note) {
+        match note.task() {
             Some(task) if (task as usize) < MOST_TASKS => {
                 let task = task as usize;
                 self.counts[task] = self.counts[task].saturating_add(more);

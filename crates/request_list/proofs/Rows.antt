@@ -6,7 +6,7 @@ use Rattle.std.proofs.lemmas.Option.{some_pair_parts}
 use Rattle.dvs_base.specs.Checks.{and_then}
 use Rattle.dvs_base.specs.Text.{number_below}
 use Rattle.dvs_base.proofs.Spelled.{number_below-decimal, number_below-found}
-use Rattle.csv_text.specs.Records.{two_of}
+use Rattle.csv_text.specs.Rows.{two_of}
 use Rattle.request_list.specs.declared.limits.TheConstants.{MOST_REQUEST_UNITS}
 use Rattle.request_list.specs.declared.requests.Request.{Request}
 use Rattle.request_list.specs.declared.fault.RequestColumn.TheVariants as column

@@ -12,8 +12,8 @@ use Rattle.request_list.specs.declared.requests.Request.{Request}
 use Rattle.request_list.specs.declared.fault.RequestFault.{RequestFault}
 use Rattle.request_list.specs.declared.fault.RequestFault.TheVariants as fault
 use Rattle.request_list.specs.Requests.{IsRequest, AreRequests, request_at}
-use Rattle.request_list.specs.RequestText.{row_fields, IsTextOf}
-use Rattle.request_list.specs.RequestFile.{row_of, requests_from, header, few_rows, rows_in, request_file}
+use Rattle.request_list.specs.RequestText.{row_fields, IsRequestText}
+use Rattle.request_list.specs.RequestFile.{row_of, requests_from, request_header, few_rows, rows_in, request_file}
 use Rattle.request_list.proofs.Rows.{step-ok, found-ok, row-found, row-read}
 
 -- the requests are within the limits, and in order from the tick `earlier` on
@@ -85,27 +85,27 @@ few-read : (rows : List (List (List ℕ))) → length rows ≤ MOST_REQUESTS →
 few-read rows few = let a : nat_lt MOST_REQUESTS (length rows) ≡ false = grind (arith, nat_tests) in rw a refl
 
 -- a text that is read is one of the requests returned
-found : (requests : List Request) (bytes : List ℕ) → AreRequests requests → request_file bytes ≡ Ok requests → IsTextOf requests bytes
+found : (requests : List Request) (bytes : List ℕ) → AreRequests requests → request_file bytes ≡ Ok requests → IsRequestText requests bytes
 found requests bytes are e =
     let a = step-ok (rows_in bytes) (requests_from 1 0 []) requests e in
-    let b = step-ok (ok_or (text_rows header bytes) fault.Header) few_rows a.0 a.1 in
-    let rows = rows_after-Some header (records default_config (strip_bom bytes)) b.0 (found-ok (text_rows header bytes) fault.Header b.0 b.1) in
+    let b = step-ok (ok_or (text_rows request_header bytes) fault.Header) few_rows a.0 a.1 in
+    let rows = rows_after-Some request_header (records default_config (strip_bom bytes)) b.0 (found-ok (text_rows request_header bytes) fault.Header b.0 b.1) in
     let same = few_rows-ok b.0 a.0 b.2 in
     let read = rows-found a.0 1 0 [] requests a.2 in
     record {
       are = are;
       arrivals = arrivals-fit requests 0 (subst (IsFrom 0) (sym read.all) read.from);
-      rows = rows ∙ ap (λ rs. header ∷ rs) (same ∙ read.rows_are ∙ ap (map row_fields) (sym read.all));
+      rows = rows ∙ ap (λ rs. request_header ∷ rs) (same ∙ read.rows_are ∙ ap (map row_fields) (sym read.all));
     }
 
 -- where the answer is a list of requests, the bytes are a text of them
 pub found-if : (result : Result (List Request) RequestFault) (bytes : List ℕ)
-    → IsUnlessMemory fault.NoMemory (λ r. r) result (request_file bytes) → IfOk result AreRequests → IfOk result (λ rs. IsTextOf rs bytes)
+    → IsUnlessMemory fault.NoMemory (λ r. r) result (request_file bytes) → IfOk result AreRequests → IfOk result (λ rs. IsRequestText rs bytes)
 found-if (Ok requests) bytes file are = found requests bytes are file
 found-if (Err e) bytes file are = tt
 
 -- a text of requests is read
-pub text-read : (requests : List Request) (bytes : List ℕ) → IsTextOf requests bytes → request_file bytes ≡ Ok requests
+pub text-read : (requests : List Request) (bytes : List ℕ) → IsRequestText requests bytes → request_file bytes ≡ Ok requests
 text-read requests bytes text =
     let from : IsFrom 0 requests = in-order-from requests 0 (λ m lt. omega arith) text.are.each text.are.in_order text.arrivals in
     let few : length (map row_fields requests) ≤ MOST_REQUESTS = omega (arith, length-map requests row_fields, text.are.few) in
@@ -113,6 +113,6 @@ text-read requests bytes text =
 
 -- the answer to a text of requests is those requests, unless memory ran out
 pub answered : {T : Type 0} (shown : T → List Request) (result : Result T RequestFault) (requests : List Request) (bytes : List ℕ)
-    → IsUnlessMemory fault.NoMemory shown result (request_file bytes) → IsTextOf requests bytes
+    → IsUnlessMemory fault.NoMemory shown result (request_file bytes) → IsRequestText requests bytes
     → IsUnlessMemory fault.NoMemory shown result (Ok requests)
 answered shown result requests bytes file text = subst (IsUnlessMemory fault.NoMemory shown result) (text-read requests bytes text) file

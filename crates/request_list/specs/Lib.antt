@@ -1,3 +1,4 @@
 pub mod Requests
 pub mod RequestFile
+pub mod FaultLines
 pub mod RequestText

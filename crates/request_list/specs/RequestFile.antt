@@ -3,8 +3,7 @@ use Rattle.std.specs.Prelude.{ℕ, ◌+◌, ◌==◌, ◌||◌, ◌++◌, nat_lt
 use Rattle.dvs_base.specs.Widths.{u64_end}
 use Rattle.dvs_base.specs.Checks.{and_then}
 use Rattle.dvs_base.specs.Text.{number_below}
-use Rattle.csv_text.specs.Records.{two_of}
-use Rattle.csv_text.specs.Rows.{text_rows}
+use Rattle.csv_text.specs.Rows.{two_of, text_rows}
 use Rattle.request_list.specs.declared.limits.TheConstants.{MOST_REQUESTS, MOST_REQUEST_UNITS}
 use Rattle.request_list.specs.declared.requests.Request.{Request}
 use Rattle.request_list.specs.declared.fault.RequestColumn.TheVariants as column
@@ -35,8 +34,8 @@ requests_from row earlier requests (fields ∷ rest) =
     and_then (row_of row earlier fields) (λ r. requests_from (row + 1) r.arrival (requests ++ (r ∷ [])) rest)
 
 -- the fields of a request file's header
-abbrev pub header : List (List ℕ)
-header = codes "arrival" ∷ codes "units" ∷ []
+abbrev pub request_header : List (List ℕ)
+request_header = codes "arrival" ∷ codes "units" ∷ []
 
 -- the rows, checked against the most of them
 abbrev pub few_rows : List (List (List ℕ)) → Result (List (List (List ℕ))) RequestFault
@@ -44,7 +43,7 @@ few_rows rows = if nat_lt MOST_REQUESTS (length rows) then Err (fault.TooMany (l
 
 -- the rows of a file after its header, at most the limit
 abbrev pub rows_in : List ℕ → Result (List (List (List ℕ))) RequestFault
-rows_in bytes = and_then (ok_or (text_rows header bytes) fault.Header) few_rows
+rows_in bytes = and_then (ok_or (text_rows request_header bytes) fault.Header) few_rows
 
 -- the meaning of a request file's bytes; rows count from 1
 abbrev pub request_file : List ℕ → Result (List Request) RequestFault

@@ -5,10 +5,12 @@
 #![tactic(auto)]
 
 mod fault;
+mod fault_line;
 mod limits;
 mod read;
 mod requests;
 
 pub use fault::{RequestColumn, RequestFault};
+pub use fault_line::request_fault_line;
 pub use limits::{MOST_REQUEST_UNITS, MOST_REQUESTS};
 pub use requests::{Request, Requests};

@@ -2,15 +2,14 @@
 ghost use Rattle.std.specs.Prelude.{List, codes, ◌≡◌, ◌≤◌, ◌<◌, [], Ok, length, ok_or, IfOk, IfErr};
 ghost use Rattle.dvs_base.specs.Widths.{u64_end};
 ghost use Rattle.csv.specs.Records.{fields_of};
-ghost use Rattle.csv_text.specs.Records.{IsPlain, records_left};
-ghost use Rattle.csv_text.specs.Rows.{text_rows};
+ghost use Rattle.csv_text.specs.Rows.{IsPlain, records_left, text_rows};
 ghost use Rattle.dvs_base.specs.Checks.{IsUnlessMemory};
 ghost use Rattle.request_list.specs.declared.limits.TheConstants.{MOST_REQUESTS};
 ghost use Rattle.request_list.specs.declared.fault.RequestFault.TheVariants as fault;
 ghost use Rattle.request_list.specs.Requests.{IsRequest, AreRequests};
 ghost use Rattle.request_list.specs.declared.requests.Request.{Request};
-ghost use Rattle.request_list.specs.RequestText.{IsTextOf};
-ghost use Rattle.request_list.specs.RequestFile.{row_of, requests_from, header, request_file};
+ghost use Rattle.request_list.specs.RequestText.{IsRequestText};
+ghost use Rattle.request_list.specs.RequestFile.{row_of, requests_from, request_header, request_file};
 
 use crate::limits::{MOST_REQUEST_UNITS, MOST_REQUESTS};
 use crate::{Request, RequestColumn, RequestFault, Requests};
@@ -51,7 +50,7 @@ fn request_rows<'a>(
     fields: &mut ByteRecord,
 ) -> Result<Reader<&'a [u8]>, RequestFault>
     ensures rows { IsUnlessMemory RequestFault.NoMemory (λ reader. records_left reader) result
-        (ok_or (text_rows header bytes.now) RequestFault.Header) }
+        (ok_or (text_rows request_header bytes.now) RequestFault.Header) }
     ensures plain { IfOk result (λ reader. IsPlain reader) }
     ensures few { IfOk result (λ reader. length (records_left reader) ≤ length bytes.now) }
 {
@@ -121,8 +120,8 @@ impl Requests {
     /// arrival as a number, the units as a number, their range, and an arrival below that of the row before.
     pub fn read(alloc: Global, bytes: &[u8]) -> Result<Requests, RequestFault>
         ensures file { IsUnlessMemory RequestFault.NoMemory (λ r. r) result (request_file bytes.now) }
-        ensures found { IfOk result (λ requests. IsTextOf requests bytes.now) }
-        ensures texts { (requests : List Request) → IsTextOf requests bytes.now
+        ensures found { IfOk result (λ requests. IsRequestText requests bytes.now) }
+        ensures texts { (requests : List Request) → IsRequestText requests bytes.now
             → IsUnlessMemory RequestFault.NoMemory (λ r. r) result (Ok requests) }
     {
         read_requests(alloc, bytes)

@@ -6,7 +6,7 @@ use Rattle.std.proofs.lemmas.List.Folds.{find-append}
 use Rattle.std.proofs.lemmas.Bool.{cases_lt}
 use Rattle.std.proofs.lemmas.Bool.Decides.{nat_tests}
 use Rattle.grid_fraction.specs.Numbers.{list_below}
-use Rattle.task_model.specs.Offsets.{NoneOffset, IsFirstOffset, first_offset}
+use Rattle.task_model.specs.Tasks.{NoneOffset, IsFirstOffset, first_offset}
 
 module _ (test : ℕ → Bool) where
   find-none : (n : ℕ) → ((k : ℕ) → k < n → test k ≡ false) → find test (list_below n (λ i. i)) ≡ None

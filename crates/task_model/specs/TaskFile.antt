@@ -1,13 +1,13 @@
 -- What a task file means: the tasks, or the first refusal.
-use Rattle.std.specs.Prelude.{ℕ, ◌+◌, List, [], ◌∷◌, ◌++◌, length, nat_lt, nat_le, position, codes, Option, Some, None, Result, Ok, Err, if◌then◌else◌}
+use Rattle.std.specs.Prelude.{ℕ, List, [], ◌∷◌, codes, Option, Some, None, Result, Err, Ok, if◌then◌else◌, position, ◌+◌, ◌++◌, length, nat_le, nat_lt}
 use Rattle.std.specs.Str.{bytes_eq}
-use Rattle.dvs_base.specs.Text.{is_name, short_of}
-use Rattle.toml.specs.Data.{Data, Items, no_items, item, Members, get_member, as_integer, as_array, as_table}
+use Rattle.dvs_base.specs.Text.{short_of, is_name}
+use Rattle.toml.specs.Data.{Data, as_integer, Members, get_member, as_table, Items, no_items, item, as_array}
 use Rattle.dvs_base.specs.declared.settings.MemberFault.{MemberFault}
 use Rattle.dvs_base.specs.declared.settings.MemberFault.TheVariants as member_fault
 use Rattle.dvs_base.specs.Checks.{and_then}
-use Rattle.dvs_base.specs.Settings.{document_of, unknown_key, number_from, number_at, text_at, count_of}
-use Rattle.task_model.specs.declared.limits.TheConstants.{MOST_TASKS, LONGEST_PERIOD, MOST_WORK, LATEST_OFFSET, LONGEST_HYPERPERIOD}
+use Rattle.dvs_base.specs.Settings.{text_at, number_from, unknown_key, number_at, count_of, document_of}
+use Rattle.task_model.specs.declared.limits.TheConstants.{LATEST_OFFSET, LONGEST_PERIOD, MOST_WORK, LONGEST_HYPERPERIOD, MOST_TASKS}
 use Rattle.task_model.specs.declared.task.Task.{Task}
 use Rattle.task_model.specs.declared.fault.Field.{Field}
 use Rattle.task_model.specs.declared.fault.Field.TheVariants as field
@@ -40,12 +40,12 @@ at_field place field (Ok value) = Ok value
 at_field place field (Err e) = Err (fault_at place field e)
 
 -- the text as the name of the task at this place, or the refusal where it is not a name
-abbrev pub name_of : ℕ → List ℕ → Result (List ℕ) TaskFault
-name_of place text = if is_name text then Ok text else Err (fault.BadName place)
+abbrev pub checked_name : ℕ → List ℕ → Result (List ℕ) TaskFault
+checked_name place text = if is_name text then Ok text else Err (fault.BadName place)
 
 -- the name of the task at this place, of the value at its key `name`
 abbrev pub name_at : ℕ → Option Data → Result (List ℕ) TaskFault
-name_at place value = and_then (at_field place field.Name (text_at value)) (name_of place)
+name_at place value = and_then (at_field place field.Name (text_at value)) (checked_name place)
 
 -- the offset of the task at this place, of the value at its key `offset`; 0 where it is absent
 abbrev pub offset_at : ℕ → Option Data → Result ℕ TaskFault

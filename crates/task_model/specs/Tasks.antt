@@ -1,9 +1,29 @@
--- Tasks within the limits.
-use Rattle.std.specs.Prelude.{◌≡◌, ℕ, ◌<◌, ◌≤◌, List, length, map, slice_index_or, [], true, nat_le, Option, Some, None, if◌then◌else◌}
+-- Tasks within the limits, and the first in file order with an offset.
+use Rattle.std.specs.Prelude.{◌≡◌, ℕ, ◌<◌, ◌≢◌, Option, MatchOption, ◌==◌, not, List, map, nat_le, Some, None, if◌then◌else◌, [], slice_index_or, ◌≤◌, true, length}
+use Rattle.std.specs.List.{find}
+use Rattle.grid_fraction.specs.Numbers.{list_below}
 use Rattle.dvs_base.specs.Text.{is_name}
 use Rattle.grid_fraction.specs.Fraction.{least_common_multiple}
-use Rattle.task_model.specs.declared.limits.TheConstants.{MOST_TASKS, LONGEST_PERIOD, MOST_WORK, LATEST_OFFSET, LONGEST_HYPERPERIOD}
+use Rattle.task_model.specs.declared.limits.TheConstants.{LONGEST_PERIOD, MOST_WORK, LATEST_OFFSET, MOST_TASKS, LONGEST_HYPERPERIOD}
 use Rattle.task_model.specs.declared.task.Task.{Task}
+
+-- none of the tasks below n has an offset above 0
+abbrev pub NoneOffset : (ℕ → ℕ) → ℕ → Type 0
+NoneOffset offset n = (k : ℕ) → k < n → offset k ≡ 0
+
+-- of the tasks below n, task i is the first with an offset above 0
+pub record IsFirstOffset (offset : ℕ → ℕ) (n i : ℕ) : Type 0 where
+  pub task : i < n
+  pub later : offset i ≢ 0
+  pub first : (k : ℕ) → k < i → offset k ≡ 0
+
+-- the answer is the first task below n with an offset above 0, or None where no task has one
+abbrev pub FindsOffset : (ℕ → ℕ) → ℕ → Option ℕ → Type 0
+FindsOffset offset n found = MatchOption found (NoneOffset offset n) (IsFirstOffset offset n)
+
+-- the first of the tasks below n with an offset above 0, if there is one
+abbrev pub first_offset : (ℕ → ℕ) → ℕ → Option ℕ
+first_offset offset n = find (λ i. not (offset i == 0)) (list_below n (λ i. i))
 
 -- the hyperperiod, the least common multiple of the periods: the releases repeat after this many ticks
 abbrev pub hyper_of : List Task → ℕ
@@ -20,6 +40,11 @@ no_task = record { name = []; period = 1; worst = 0; offset = 0 }
 -- a task of a list, by its number
 abbrev pub task_at : List Task → ℕ → Task
 task_at tasks i = slice_index_or tasks i no_task
+
+-- the names of the tasks, where there is a set of them
+abbrev pub names_of : Option (List Task) → List (List ℕ)
+names_of None = []
+names_of (Some tasks) = map (λ t. t.name) tasks
 
 -- the limits of a task
 pub record IsTask (t : Task) : Type 0 where

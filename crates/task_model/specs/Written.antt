@@ -1,8 +1,8 @@
 -- The document that a set of tasks is written as.
-use Rattle.std.specs.Prelude.{ℕ, pos, nat_lt, List, map, codes, if◌then◌else◌}
+use Rattle.std.specs.Prelude.{ℕ, List, pos, nat_lt, codes, if◌then◌else◌, map}
 use Rattle.std.specs.Cmp.Lexicographic.{slice_cmp}
 use Rattle.std.specs.Ordering.{nat_cmp, match_ordering}
-use Rattle.toml.specs.Data.{Data, string, integer, array, table, Members, no_members, member}
+use Rattle.toml.specs.Data.{Data, Members, no_members, member, integer, string, table, array}
 use Rattle.toml.specs.View.{items_of}
 use Rattle.task_model.specs.declared.task.Task.{Task}
 

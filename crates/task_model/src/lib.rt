@@ -5,11 +5,13 @@
 #![tactic(auto)]
 
 mod fault;
+mod fault_line;
 mod limits;
 mod read;
 mod task;
 mod write;
 
 pub use fault::{Field, TaskFault};
+pub use fault_line::task_fault_line;
 pub use limits::{LATEST_OFFSET, LONGEST_HYPERPERIOD, LONGEST_PERIOD, MOST_TASKS, MOST_WORK};
-pub use task::{Task, TaskSet};
+pub use task::{Task, TaskSet, task_name};

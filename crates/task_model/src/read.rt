@@ -7,7 +7,7 @@ ghost use Rattle.dvs_base.specs.Settings.{number_at};
 ghost use Rattle.task_model.specs.declared.limits.TheConstants.{MOST_TASKS, LATEST_OFFSET};
 ghost use Rattle.task_model.specs.Tasks.{IsTask, hyper_of};
 ghost use Rattle.task_model.specs.Limits.{AreTasks};
-ghost use Rattle.task_model.specs.TaskFile.{fault_at, at_field, name_of, name_at, offset_at, task_of_members, task_of, place_of, tasks_from, within_hyper, entries_from, tasks_of_document, task_file};
+ghost use Rattle.task_model.specs.TaskFile.{fault_at, at_field, checked_name, name_at, offset_at, task_of_members, task_of, place_of, tasks_from, within_hyper, entries_from, tasks_of_document, task_file};
 
 use crate::fault::{Field, TaskFault};
 use crate::limits::{LATEST_OFFSET, LONGEST_PERIOD, MOST_TASKS, MOST_WORK};
@@ -56,8 +56,8 @@ fn read_offset(place: u32, table: &Table) -> Result<u64, TaskFault>
     }
 }
 
-fn name_of(place: u32, text: &str) -> Result<Name, TaskFault>
-    ensures { result ≡ name_of place text.now }
+fn checked_name(place: u32, text: &str) -> Result<Name, TaskFault>
+    ensures { result ≡ checked_name place text.now }
 {
     match Name::of(text.as_bytes()) {
         Some(name) => Ok(name),
@@ -69,7 +69,7 @@ fn read_name(place: u32, table: &Table) -> Result<Name, TaskFault>
     ensures { result ≡ name_at place (get_member (codes "name") (table_view table.now)) }
 {
     match text_at(table, "name") {
-        Ok(text) => name_of(place, text),
+        Ok(text) => checked_name(place, text),
         Err(fault) => Err(fault_at(place, Field::Name, fault)),
     }
 }

@@ -1,9 +1,10 @@
 // Tasks, and sets of them.
 ghost use Rattle.std.specs.Prelude.{◌≡◌, ◌<◌, ◌≤◌, length, Some, None, IfOk, vec_len};
+ghost use Rattle.std.specs.Option.{option_copied};
+ghost use Rattle.dvs_base.specs.Parts.{name_of, name_text};
 ghost use Rattle.task_model.specs.declared.limits.TheConstants.{MOST_TASKS, LONGEST_HYPERPERIOD};
-ghost use Rattle.task_model.specs.Tasks.{IsTask, IsTaskSet, hyper_of, task_at, where_within};
+ghost use Rattle.task_model.specs.Tasks.{IsTask, IsTaskSet, hyper_of, names_of, task_at, where_within, FindsOffset, first_offset};
 ghost use Rattle.task_model.specs.Limits.{AreTasks};
-ghost use Rattle.task_model.specs.Offsets.{FindsOffset, first_offset};
 ghost use Rattle.task_model.specs.TaskFile.{place_of};
 
 use crate::limits::{LONGEST_HYPERPERIOD, MOST_TASKS};
@@ -146,5 +147,16 @@ impl TaskSet {
         ensures limits { IsTaskSet self.now }
     {
         &self.tasks
+    }
+}
+
+/// The name of a task of the set, by its number from 0 on, where there is a set and it has this task. It takes no
+/// memory.
+pub fn task_name(tasks: Option<&TaskSet>, task: u32) -> Option<Name>
+    ensures { name_text result ≡ name_of (names_of (option_copied tasks.entry)) task }
+{
+    match tasks {
+        Some(tasks) if task < tasks.count() => Some(tasks.task(task).name),
+        _ => None,
     }
 }

@@ -11,8 +11,7 @@ use Rattle.std.proofs.lemmas.List.Splits.{join_with_byte-slice_split}
 use Rattle.std.proofs.lemmas.Slice.Eq.{bytes_eq-Decides}
 use Rattle.std.proofs.lemmas.Option.{same_Some}
 use Rattle.dvs_base.specs.Text.{number_below}
-use Rattle.dvs_base.specs.Parts.{position_text, fraction_text}
-use Rattle.trace_text.specs.TraceLines.{name_of}
+use Rattle.dvs_base.specs.Parts.{position_text, fraction_text, name_of}
 use Rattle.dvs_base.specs.declared.note.Pos.{Pos}
 use Rattle.dvs_base.proofs.Spelled.{number_below-decimal, number_below-found}
 use Rattle.trace_reader.specs.declared.trace.TraceKind.{TraceKind}

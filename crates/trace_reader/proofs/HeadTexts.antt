@@ -7,12 +7,10 @@ use Rattle.std.proofs.lemmas.Bool.Decides.{nat_tests}
 use Rattle.std.proofs.lemmas.Option.{same_Some}
 use Rattle.std.proofs.lemmas.Slice.Eq.{bytes_eq-Decides}
 use Rattle.dvs_base.specs.Text.{number_below}
-use Rattle.trace_text.specs.Words.{scheduler_word, governor_word}
-use Rattle.dvs_base.specs.PlanWords.{scheduler_of, governor_of, ticks_from, ticks_of}
-use Rattle.dvs_base.specs.Pairs.{is_pair}
+use Rattle.trace_text.specs.TraceLines.{scheduler_word, governor_word, line, plan_text}
+use Rattle.dvs_base.specs.PlanWords.{scheduler_of, governor_of, ticks_from, ticks_of, is_pair}
 use Rattle.dvs_base.specs.Parts.{joined}
-use Rattle.trace_text.specs.TraceLines.{line, plan_text}
-use Rattle.trace_reader.specs.VersionLines.{version_line}
+use Rattle.trace_reader.specs.TraceText.{version_line}
 use Rattle.dvs_base.specs.declared.kind.Scheduler.{Scheduler}
 use Rattle.dvs_base.specs.declared.kind.Scheduler.TheVariants.{Edf, Rm}
 use Rattle.dvs_base.specs.declared.kind.GovernorKind.{GovernorKind}

@@ -5,8 +5,8 @@ use Rattle.std.specs.List.{AllByRecursion, list_all, join_with_byte}
 use Rattle.std.proofs.lemmas.Bool.Decides.{nat_tests}
 use Rattle.std.proofs.lemmas.List.Splits.{join_with_byte-slice_split}
 use Rattle.dvs_base.specs.Text.{is_name}
-use Rattle.trace_text.specs.TraceLines.{line, name_of}
-use Rattle.dvs_base.specs.Parts.{position_text, fraction_text}
+use Rattle.trace_text.specs.TraceLines.{line}
+use Rattle.dvs_base.specs.Parts.{position_text, fraction_text, name_of}
 use Rattle.dvs_base.proofs.Decimals.{length-decimal_u64, length-decimal_u128, length-position_text, length-fraction_text}
 use Rattle.dvs_base.specs.declared.note.Pos.{Pos}
 use Rattle.dvs_base.specs.declared.note.Note.TheVariants.{Release, Speed, Run, Idle, Done, End}

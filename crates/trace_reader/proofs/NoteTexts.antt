@@ -5,10 +5,9 @@ use Rattle.std.specs.List.{AllByRecursion, join_with_byte}
 use Rattle.std.proofs.lemmas.Bool.{eq-eqb, eqb-true, le-leb, leb-true}
 use Rattle.std.proofs.lemmas.Bool.Decides.{nat_tests}
 use Rattle.std.proofs.lemmas.List.{append-nil}
-use Rattle.dvs_base.specs.Parts.{joined}
-use Rattle.trace_text.specs.TraceLines.{note_text, name_of}
-use Rattle.trace_reader.specs.VersionLines.{share_text}
-use Rattle.trace_reader.specs.TraceText.{energy_of_task}
+use Rattle.dvs_base.specs.Parts.{joined, name_of}
+use Rattle.trace_text.specs.TraceLines.{note_text}
+use Rattle.trace_reader.specs.TraceText.{share_text, energy_of_task}
 use Rattle.dvs_base.specs.declared.note.Note.{Note}
 use Rattle.dvs_base.specs.declared.note.Note.TheVariants.{Release, Speed, Run, Idle, Done, End}
 use Rattle.dvs_base.specs.declared.kind.Version.{Version}

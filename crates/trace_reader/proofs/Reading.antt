@@ -8,7 +8,7 @@ use Rattle.trace_reader.specs.declared.trace.TraceFault.TheVariants.{Refused}
 use Rattle.trace_reader.specs.declared.trace.TraceKind.TheVariants as kind
 use Rattle.trace_reader.specs.Fields.{parts}
 use Rattle.trace_reader.specs.declared.trace.TaskLine.{TaskLine}
-use Rattle.trace_reader.specs.VersionLines.{task_text}
+use Rattle.trace_reader.specs.TraceText.{task_text}
 use Rattle.trace_reader.specs.Heads.{line_at, tasks_from}
 use Rattle.trace_reader.specs.TraceFile.{is_nothing}
 use Rattle.trace_reader.specs.Traces.{task_lines}

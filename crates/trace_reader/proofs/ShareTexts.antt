@@ -3,10 +3,9 @@ use Rattle.std.proofs.Common.{◌≡◌, ℕ, zero, suc, ◌+◌, ◌<◌, ◌�
 use Rattle.std.specs.Prelude.{flat_map}
 use Rattle.std.specs.List.{AllByRecursion}
 use Rattle.std.proofs.lemmas.List.{append-nil, drop_all}
-use Rattle.dvs_base.specs.Parts.{joined}
-use Rattle.trace_text.specs.TraceLines.{note_text, name_of}
-use Rattle.trace_reader.specs.VersionLines.{share_text}
-use Rattle.trace_reader.specs.TraceText.{energy_of_task, shares_from, told_text}
+use Rattle.dvs_base.specs.Parts.{joined, name_of}
+use Rattle.trace_text.specs.TraceLines.{note_text}
+use Rattle.trace_reader.specs.TraceText.{share_text, energy_of_task, shares_from, told_text}
 use Rattle.dvs_base.specs.declared.note.Note.{Note}
 use Rattle.dvs_base.specs.declared.note.Note.TheVariants.{Release, Speed, Run, Idle, Done, End}
 use Rattle.dvs_base.specs.declared.kind.Version.{Version}

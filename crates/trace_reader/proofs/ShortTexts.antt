@@ -12,8 +12,7 @@ use Rattle.dvs_base.proofs.Names.{length-name}
 use Rattle.dvs_base.proofs.Decimals.{length-decimal_u128}
 use Rattle.trace_text.specs.TraceLines.{line, note_text, plan_text}
 use Rattle.trace_reader.specs.declared.line.Item.TheVariants.{Told}
-use Rattle.trace_reader.specs.VersionLines.{version_line, share_text}
-use Rattle.trace_reader.specs.TraceText.{energy_of_task, shares_from, told_text, whole_text}
+use Rattle.trace_reader.specs.TraceText.{version_line, share_text, energy_of_task, shares_from, told_text, whole_text}
 use Rattle.trace_reader.specs.Traces.{TraceOf, IsNoteOf, is_end, IsEnded, HasShares, lines_for_tasks, IsTrace, text_of}
 use Rattle.trace_reader.proofs.Lined.{line-spaced}
 use Rattle.trace_reader.proofs.LineTexts.{AreNames, lengths, length-spaced, lengths-item}

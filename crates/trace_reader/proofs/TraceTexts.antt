@@ -7,8 +7,7 @@ use Rattle.std.proofs.lemmas.List.Splits.{join_with_byte-slice_split}
 use Rattle.dvs_base.specs.Checks.{IsUnlessMemory}
 use Rattle.dvs_base.specs.Parts.{joined}
 use Rattle.trace_text.specs.TraceLines.{note_text, plan_text}
-use Rattle.trace_reader.specs.VersionLines.{version_line}
-use Rattle.trace_reader.specs.TraceText.{energy_of_task, told_text, whole_text}
+use Rattle.trace_reader.specs.TraceText.{version_line, energy_of_task, told_text, whole_text}
 use Rattle.dvs_base.specs.declared.note.Note.{Note}
 use Rattle.dvs_base.specs.declared.kind.Version.{Version}
 use Rattle.dvs_base.specs.declared.kind.Version.TheVariants.{One, Two}

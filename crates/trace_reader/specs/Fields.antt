@@ -1,5 +1,5 @@
 -- The values of a line's fields.
-use Rattle.std.specs.Prelude.{ℕ, ◌^◌, ◌==◌, List, [], ◌∷◌, position, Option, Some, None, Result, Ok}
+use Rattle.std.specs.Prelude.{Result, ℕ, ◌==◌, List, [], ◌∷◌, Option, Some, None, ◌^◌, Ok, position}
 use Rattle.std.specs.List.{slice_split}
 use Rattle.std.specs.Option.{ok_or}
 use Rattle.std.specs.Str.{bytes_eq}

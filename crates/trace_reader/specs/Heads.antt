@@ -1,9 +1,8 @@
 -- The lines before the notes: the version, the plan, and in version 2 the tasks.
-use Rattle.std.specs.Prelude.{ℕ, ◌+◌, List, [], ◌∷◌, ◌++◌, length, codes, nat_lt, ◌&&◌, Result, Ok, Err, if◌then◌else◌}
+use Rattle.std.specs.Prelude.{ℕ, List, ◌∷◌, length, nat_lt, Result, Ok, Err, if◌then◌else◌, codes, ◌&&◌, ◌+◌, [], ◌++◌}
 use Rattle.std.specs.Option.{ok_or}
 use Rattle.std.specs.Str.{bytes_eq}
-use Rattle.dvs_base.specs.PlanWords.{scheduler_of, governor_of, ticks_of}
-use Rattle.dvs_base.specs.Pairs.{is_pair}
+use Rattle.dvs_base.specs.PlanWords.{scheduler_of, governor_of, ticks_of, is_pair}
 use Rattle.dvs_base.specs.declared.kind.Version.{Version}
 use Rattle.dvs_base.specs.declared.kind.Version.TheVariants.{One, Two}
 use Rattle.dvs_base.specs.declared.limits.TheConstants.{MOST_LINES, LONGEST_LINE}

@@ -1,7 +1,7 @@
 -- The items of the lines after the head of a trace: notes, and in version 2 energies of tasks.
 -- A line is split at each single space. The number of its fields is checked first, by its word; then the fields are
 -- read from left to right.
-use Rattle.std.specs.Prelude.{ℕ, ◌<◌, List, [], ◌∷◌, codes, Result, Ok, Err, if◌then◌else◌}
+use Rattle.std.specs.Prelude.{ℕ, List, Result, Ok, Err, [], ◌∷◌, codes, if◌then◌else◌, ◌<◌}
 use Rattle.std.specs.Option.{ok_or}
 use Rattle.std.specs.Str.{bytes_eq}
 use Rattle.dvs_base.specs.declared.note.Note.TheVariants.{Release, Speed, Run, Idle, Done, End}
@@ -11,7 +11,7 @@ use Rattle.trace_reader.specs.declared.line.Item.{Item}
 use Rattle.trace_reader.specs.declared.line.Item.TheVariants.{Told, Share}
 use Rattle.trace_reader.specs.declared.trace.TraceKind.{TraceKind}
 use Rattle.trace_reader.specs.declared.trace.TraceKind.TheVariants as kind
-use Rattle.trace_reader.specs.Fields.{◌>>=◌, two_of, three_of, four_of, six_of, whole_in, wide_in, position_in, fraction_in, task_in}
+use Rattle.trace_reader.specs.Fields.{◌>>=◌, three_of, whole_in, task_in, fraction_in, six_of, wide_in, position_in, four_of, two_of}
 
 -- the release note of the fields after the word `release`
 unfoldable pub release_in : List (List ℕ) → List (List ℕ) → Result Item TraceKind
@@ -95,9 +95,9 @@ item_of v names (word ∷ fields) =
     else Err kind.Word))))))
 
 -- the task of an item, where it has one, is below c
-abbrev pub HasTask : ℕ → Item → Type 0
-HasTask c (Told (Release t i k)) = i < c
-HasTask c (Told (Run from to i k units energy)) = i < c
-HasTask c (Told (Done q i k used)) = i < c
-HasTask c (Share i energy) = i < c
-HasTask c _ = Unit {0}
+abbrev pub HasTaskBelow : ℕ → Item → Type 0
+HasTaskBelow c (Told (Release t i k)) = i < c
+HasTaskBelow c (Told (Run from to i k units energy)) = i < c
+HasTaskBelow c (Told (Done q i k used)) = i < c
+HasTaskBelow c (Share i energy) = i < c
+HasTaskBelow c _ = Unit {0}

@@ -1,5 +1,5 @@
 -- The energies of the tasks, kept while they are below 2^128.
-use Rattle.std.specs.Prelude.{◌≡◌, ℕ, ◌+◌, ◌<◌, ◌^◌, List, nat_lt, Option, Some, None, slice_index_or, if◌then◌else◌}
+use Rattle.std.specs.Prelude.{ℕ, ◌^◌, nat_lt, Option, Some, None, if◌then◌else◌, ◌+◌, ◌≡◌, ◌<◌, List, slice_index_or}
 use Rattle.dvs_base.specs.declared.note.Note.{Note}
 use Rattle.trace_reader.specs.TraceText.{energy_of_task}
 

@@ -1,16 +1,16 @@
 -- The meaning of a text: the trace, or the first refusal.
-use Rattle.std.specs.Prelude.{ℕ, ◌+◌, ◌==◌, Bool, true, false, List, [], ◌∷◌, ◌++◌, length, nat_le, Result, Ok, Err, if◌then◌else◌}
+use Rattle.std.specs.Prelude.{ℕ, List, [], length, ◌==◌, Bool, nat_le, true, Result, Ok, Err, if◌then◌else◌, ◌+◌, ◌∷◌, ◌++◌, false}
 use Rattle.dvs_base.specs.declared.note.Note.{Note}
 use Rattle.dvs_base.specs.declared.note.Note.TheVariants.{End}
 use Rattle.dvs_base.specs.declared.kind.Version.{Version}
 use Rattle.dvs_base.specs.declared.kind.Version.TheVariants.{One, Two}
-use Rattle.trace_reader.specs.TraceText.{energy_of_task}
 use Rattle.trace_reader.specs.declared.line.Item.{Item}
 use Rattle.trace_reader.specs.declared.line.Item.TheVariants.{Told, Share}
 use Rattle.trace_reader.specs.declared.trace.TraceFault.{TraceFault}
 use Rattle.trace_reader.specs.declared.trace.TraceFault.TheVariants.{Refused}
 use Rattle.trace_reader.specs.declared.trace.TraceKind.{TraceKind}
 use Rattle.trace_reader.specs.declared.trace.TraceKind.TheVariants as kind
+use Rattle.trace_reader.specs.TraceText.{energy_of_task}
 use Rattle.trace_reader.specs.Fields.{◌>>=◌, parts}
 use Rattle.trace_reader.specs.Items.{item_of}
 use Rattle.trace_reader.specs.Heads.{line_at, at_line, version_of, plan_of, tasks_from, lines_of_tasks}

@@ -1,5 +1,5 @@
 -- Traces, and the one text of each.
-use Rattle.std.specs.Prelude.{◌≡◌, ℕ, ◌+◌, ◌<◌, ◌≤◌, ◌^◌, Bool, true, false, List, [], ◌∷◌, ◌++◌, length}
+use Rattle.std.specs.Prelude.{List, ℕ, [], ◌∷◌, ◌<◌, ◌^◌, Bool, true, false, ◌≡◌, ◌+◌, ◌≤◌, length, ◌++◌}
 use Rattle.std.specs.List.{AllByRecursion}
 use Rattle.dvs_base.specs.Widths.{u64_end}
 use Rattle.dvs_base.specs.declared.note.Note.{Note}
@@ -7,12 +7,11 @@ use Rattle.dvs_base.specs.declared.note.Note.TheVariants.{Release, Speed, Run, I
 use Rattle.dvs_base.specs.declared.note.Pos.{Pos}
 use Rattle.dvs_base.specs.declared.kind.Version.{Version}
 use Rattle.dvs_base.specs.declared.kind.Version.TheVariants.{One, Two}
-use Rattle.dvs_base.specs.Pairs.{is_pair}
+use Rattle.dvs_base.specs.PlanWords.{is_pair}
 use Rattle.dvs_base.specs.declared.limits.TheConstants.{MOST_TICKS, MOST_LINES}
-use Rattle.trace_reader.specs.VersionLines.{task_text}
-use Rattle.trace_reader.specs.TraceText.{energy_of_task, whole_text}
 use Rattle.trace_text.specs.declared.write.PlanLine.{PlanLine}
 use Rattle.trace_reader.specs.declared.trace.TaskLine.{TaskLine}
+use Rattle.trace_reader.specs.TraceText.{task_text, whole_text, energy_of_task}
 
 -- a trace: its version, its plan and its notes
 pub record TraceOf : Type 0 where

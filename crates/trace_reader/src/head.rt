@@ -2,7 +2,7 @@
 ghost use Rattle.std.specs.Prelude.{◌≡◌, ◌≤◌, ◌++◌, ◌∷◌, [], length, IfOk};
 ghost use Rattle.std.specs.Str.{bytes_eq};
 ghost use Rattle.dvs_base.specs.Checks.{IsUnlessMemory};
-ghost use Rattle.trace_reader.specs.VersionLines.{task_text};
+ghost use Rattle.trace_reader.specs.TraceText.{task_text};
 ghost use Rattle.trace_reader.specs.Fields.{parts};
 ghost use Rattle.trace_reader.specs.Heads.{version_of, plan_of, tasks_from, lines_of_tasks};
 ghost use Rattle.trace_reader.specs.Traces.{task_lines};

@@ -4,6 +4,7 @@
 //! version 2 adds are written here too, each with its line feed and without memory.
 #![tactic(auto)]
 
+mod fault_line;
 mod fields;
 mod head;
 mod line;
@@ -13,6 +14,7 @@ mod shares;
 mod trace;
 mod write;
 
+pub use fault_line::trace_fault_line;
 pub use read::{read_any, read_trace};
 pub use trace::{TaskLine, Trace, TraceFault, TraceKind};
 pub use write::{write_share, write_task, write_version};

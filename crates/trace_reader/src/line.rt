@@ -1,7 +1,7 @@
 // The lines after the head of a trace: notes, and in version 2 energies of tasks.
 ghost use Rattle.std.specs.Prelude.{◌≡◌, ◌≤◌, ℕ, length, IfOk};
 ghost use Rattle.trace_reader.specs.Fields.{parts};
-ghost use Rattle.trace_reader.specs.Items.{release_in, speed_in, run_in, idle_in, done_in, end_in, share_in, item_of, HasTask};
+ghost use Rattle.trace_reader.specs.Items.{release_in, speed_in, run_in, idle_in, done_in, end_in, share_in, item_of, HasTaskBelow};
 
 use crate::TraceKind;
 use crate::fields::{fraction_in, position_in, task_in, whole_in, wide_in};
@@ -19,7 +19,7 @@ pub enum Item {
 fn release_in(names: &[Name], fields: &[u8]) -> Result<Item, TraceKind>
     requires { length names.now ≤ 64 }
     ensures item { result ≡ release_in names.now (parts 32 fields.now) }
-    ensures task { IfOk result (HasTask (length names.now)) }
+    ensures task { IfOk result (HasTaskBelow (length names.now)) }
 {
     let (tick, task, job) = three(fields, b' ').ok_or(TraceKind::Word)?;
     let tick = whole_in(tick)?;
@@ -31,7 +31,7 @@ fn release_in(names: &[Name], fields: &[u8]) -> Result<Item, TraceKind>
 #[tactic(auto, unfolding(crate::specs::Items::speed_in))]
 fn speed_in(fields: &[u8]) -> Result<Item, TraceKind>
     ensures item { result ≡ speed_in (parts 32 fields.now) }
-    ensures task { (c : ℕ) → IfOk result (HasTask c) }
+    ensures task { (c : ℕ) → IfOk result (HasTaskBelow c) }
 {
     let (tick, speed, demand) = three(fields, b' ').ok_or(TraceKind::Word)?;
     let tick = whole_in(tick)?;
@@ -49,7 +49,7 @@ fn speed_in(fields: &[u8]) -> Result<Item, TraceKind>
 fn run_in(names: &[Name], fields: &[u8]) -> Result<Item, TraceKind>
     requires { length names.now ≤ 64 }
     ensures item { result ≡ run_in names.now (parts 32 fields.now) }
-    ensures task { IfOk result (HasTask (length names.now)) }
+    ensures task { IfOk result (HasTaskBelow (length names.now)) }
 {
     let (from, to, task, job, units, energy) = six(fields, b' ').ok_or(TraceKind::Word)?;
     let from = position_in(from)?;
@@ -71,7 +71,7 @@ fn run_in(names: &[Name], fields: &[u8]) -> Result<Item, TraceKind>
 #[tactic(auto, unfolding(crate::specs::Items::idle_in))]
 fn idle_in(fields: &[u8]) -> Result<Item, TraceKind>
     ensures item { result ≡ idle_in (parts 32 fields.now) }
-    ensures task { (c : ℕ) → IfOk result (HasTask c) }
+    ensures task { (c : ℕ) → IfOk result (HasTaskBelow c) }
 {
     let (from, to, units, energy) = four(fields, b' ').ok_or(TraceKind::Word)?;
     let from = position_in(from)?;
@@ -90,7 +90,7 @@ fn idle_in(fields: &[u8]) -> Result<Item, TraceKind>
 fn done_in(names: &[Name], fields: &[u8]) -> Result<Item, TraceKind>
     requires { length names.now ≤ 64 }
     ensures item { result ≡ done_in names.now (parts 32 fields.now) }
-    ensures task { IfOk result (HasTask (length names.now)) }
+    ensures task { IfOk result (HasTaskBelow (length names.now)) }
 {
     let (at, task, job, used) = four(fields, b' ').ok_or(TraceKind::Word)?;
     let at = position_in(at)?;
@@ -108,7 +108,7 @@ fn done_in(names: &[Name], fields: &[u8]) -> Result<Item, TraceKind>
 #[tactic(auto, unfolding(crate::specs::Items::end_in))]
 fn end_in(fields: &[u8]) -> Result<Item, TraceKind>
     ensures item { result ≡ end_in (parts 32 fields.now) }
-    ensures task { (c : ℕ) → IfOk result (HasTask c) }
+    ensures task { (c : ℕ) → IfOk result (HasTaskBelow c) }
 {
     let (ticks, run, idle) = three(fields, b' ').ok_or(TraceKind::Word)?;
     let ticks = whole_in(ticks)?;
@@ -121,7 +121,7 @@ fn end_in(fields: &[u8]) -> Result<Item, TraceKind>
 fn share_in(version: Version, names: &[Name], fields: &[u8]) -> Result<Item, TraceKind>
     requires { length names.now ≤ 64 }
     ensures item { result ≡ share_in version names.now (parts 32 fields.now) }
-    ensures task { IfOk result (HasTask (length names.now)) }
+    ensures task { IfOk result (HasTaskBelow (length names.now)) }
 {
     if version == Version::One {
         return Err(TraceKind::Word);
@@ -137,7 +137,7 @@ fn share_in(version: Version, names: &[Name], fields: &[u8]) -> Result<Item, Tra
 pub(crate) fn item_of(version: Version, names: &[Name], line: &[u8]) -> Result<Item, TraceKind>
     requires { length names.now ≤ 64 }
     ensures item { result ≡ item_of version names.now (parts 32 line.now) }
-    ensures task { IfOk result (HasTask (length names.now)) }
+    ensures task { IfOk result (HasTaskBelow (length names.now)) }
 {
     let (word, fields) = match cut(line, b' ') {
         Some(parts) => parts,

@@ -6,12 +6,12 @@ ghost use Rattle.dvs_base.specs.declared.kind.Version.TheVariants.{Two};
 ghost use Rattle.dvs_base.specs.Checks.{IsUnlessMemory};
 ghost use Rattle.dvs_base.specs.Text.{is_name};
 ghost use Rattle.dvs_base.specs.declared.limits.TheConstants.{MOST_LINES};
-ghost use Rattle.trace_text.specs.TraceLines.{name_of};
+ghost use Rattle.dvs_base.specs.Parts.{name_of};
 ghost use Rattle.trace_reader.specs.declared.trace.TraceFault.TheVariants as fault;
 ghost use Rattle.trace_reader.specs.declared.trace.TraceKind.TheVariants as kind;
 ghost use Rattle.trace_reader.specs.Fields.{parts};
 ghost use Rattle.trace_reader.specs.Heads.{line_at, at_line};
-ghost use Rattle.trace_reader.specs.Items.{HasTask};
+ghost use Rattle.trace_reader.specs.Items.{HasTaskBelow};
 ghost use Rattle.trace_reader.specs.Sums.{HasSums};
 ghost use Rattle.trace_reader.specs.TraceFile.{is_in_order, is_right_share, wanted, next_item, nothing_yet, is_nothing, notes_from, trace_file};
 ghost use Rattle.trace_reader.specs.Traces.{TraceOf, task_lines, IsTextOf, HaveOneText};
@@ -86,7 +86,7 @@ fn is_in_order(told: u32, wanted: u32, item: &Item) -> bool
 
 // Whether the energy of a task is the sum over its runs; a note passes.
 fn is_right_share(shares: &Shares, item: &Item) -> bool
-    requires { HasTask 64 item.now }
+    requires { HasTaskBelow 64 item.now }
     ensures { (notes : List Note) → HasSums notes shares.now.sums → result ≡ is_right_share notes item.now }
 {
     match *item {
@@ -107,7 +107,7 @@ fn next_item(
     requires { length names.now ≤ 64 }
     ensures item { (notes : List Note) → HasSums notes shares.now.sums
         → result ≡ next_item version names.now (record { notes = notes; told = told }) (parts 32 line.now) }
-    ensures task { IfOk result (HasTask (length names.now)) }
+    ensures task { IfOk result (HasTaskBelow (length names.now)) }
 {
     let item = item_of(version, names, line)?;
     if !is_in_order(told, wanted_of(version, names), &item) {

@@ -2,7 +2,7 @@
 ghost use Rattle.std.specs.Prelude.{◌≡◌, ◌<◌, ◌==◌, ◌++◌, ◌∷◌, [], List};
 ghost use Rattle.dvs_base.specs.declared.note.Note.{Note};
 ghost use Rattle.trace_reader.specs.TraceText.{energy_of_task};
-ghost use Rattle.trace_reader.specs.Items.{HasTask};
+ghost use Rattle.trace_reader.specs.Items.{HasTaskBelow};
 ghost use Rattle.trace_reader.specs.Sums.{with_energy, HasSums};
 
 use crate::line::Item;
@@ -35,7 +35,7 @@ impl Shares {
 
     // Adds the energy of the note where it is a run.
     pub(crate) fn add(&mut self, note: &Note)
-        requires { HasTask 64 (Item.Told note.now) }
+        requires { HasTaskBelow 64 (Item.Told note.now) }
         ensures { (notes : List Note) → HasSums notes self.old.sums → HasSums (notes ++ note.now ∷ []) self.new.sums }
     {
         if let Note::Run { task, energy, .. } = *note {

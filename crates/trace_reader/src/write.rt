@@ -1,6 +1,6 @@
 // The version line, and the lines that only version 2 has.
 ghost use Rattle.std.specs.Prelude.{◌≡◌, []};
-ghost use Rattle.trace_reader.specs.VersionLines.{version_line, task_text, share_text};
+ghost use Rattle.trace_reader.specs.TraceText.{version_line, task_text, share_text};
 
 use crate::TaskLine;
 use dvs_base::{Line, Name, Part, Version, line_of};

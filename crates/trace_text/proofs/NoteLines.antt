@@ -10,9 +10,8 @@ use Rattle.dvs_base.specs.declared.kind.GovernorKind.TheVariants.{Plain, Fixed, 
 use Rattle.dvs_base.specs.declared.note.Note.{Note}
 use Rattle.dvs_base.specs.declared.note.Note.TheVariants.{Release, Speed, Run, Idle, Done, End}
 use Rattle.dvs_base.specs.declared.note.Pos.{Pos}
-use Rattle.dvs_base.specs.Parts.{position_text, fraction_text}
-use Rattle.trace_text.specs.Words.{scheduler_word, governor_word}
-use Rattle.trace_text.specs.TraceLines.{line, name_of, done_fields, fields_of, note_text}
+use Rattle.dvs_base.specs.Parts.{position_text, fraction_text, name_of}
+use Rattle.trace_text.specs.TraceLines.{scheduler_word, governor_word, line, done_fields, fields_of, note_text}
 use Rattle.trace_text.proofs.PlainLines.{IsPlain, ArePlain, each-append, plain-decimal, field-same}
 
 -- a byte that is neither a space nor a line feed

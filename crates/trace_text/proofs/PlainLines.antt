@@ -6,8 +6,7 @@ use Rattle.std.proofs.lemmas.Bool.{and_parts}
 use Rattle.std.proofs.lemmas.Bool.Decides.{nat_tests}
 use Rattle.std.specs.Fmt.{digit_glyph, digits_onto, digits}
 use Rattle.dvs_base.specs.Text.{is_name, is_name_byte}
-use Rattle.trace_text.specs.TraceLines.{line}
-use Rattle.trace_text.specs.TextLines.{lines_of, with_byte}
+use Rattle.trace_text.specs.TraceLines.{line, lines_of, with_byte}
 
 -- a byte that is neither a space nor a line feed
 abbrev pub IsPlain : ℕ → Type 0

@@ -5,4 +5,4 @@
 
 mod write;
 
-pub use write::{PlanLine, write_head, write_note};
+pub use write::{PlanLine, note_line, write_head, write_note};

@@ -1,9 +1,9 @@
 // The lines of a trace.
 ghost use Rattle.std.specs.Prelude.{◌≡◌, ◌+◌, ◌≤◌, ◌++◌, [], ◌∷◌, codes, length};
 ghost use Rattle.std.specs.Fmt.{decimal};
-ghost use Rattle.trace_text.specs.TraceLines.{line, run_fields, idle_fields, done_fields, note_text, plan_text, name_of};
-ghost use Rattle.dvs_base.specs.Parts.{part_text, most_bytes, fraction_text};
-ghost use Rattle.trace_text.specs.Words.{scheduler_word, governor_word};
+ghost use Rattle.std.specs.Option.{option_copied};
+ghost use Rattle.dvs_base.specs.Parts.{part_text, most_bytes, fraction_text, name_text};
+ghost use Rattle.trace_text.specs.TraceLines.{line, run_fields, idle_fields, done_fields, fields_with, note_text, plan_text, scheduler_word, governor_word};
 
 use dvs_base::{
     GovernorKind, Line, Name, Note, Part, Pos, Scheduler, line_of, push_name, push_number,
@@ -23,23 +23,6 @@ pub struct PlanLine {
 struct Span {
     from: Pos,
     to: Pos,
-}
-
-// A job that completes: its task, its number, and the units that it used.
-#[derive(Clone, Copy)]
-struct Ended {
-    task: u32,
-    job: u64,
-    used: u64,
-}
-
-// A job's work in a segment: its task, its number, and its units with their energy.
-#[derive(Clone, Copy)]
-struct Work {
-    task: u32,
-    job: u64,
-    units: u64,
-    energy: u128,
 }
 
 fn word_of_scheduler(scheduler: Scheduler) -> &'static [u8]
@@ -78,14 +61,14 @@ pub fn write_head(line: &mut Line, plan: PlanLine)
     ]);
 }
 
-// Appends the name of a task, or nothing where the task has none.
+// Appends a name, or nothing where there is none.
 #[inline]
-fn push_task(to: &mut Line, names: &[Name], task: u32)
+fn push_task(to: &mut Line, name: Option<&Name>)
     requires { length to.old + 32 ≤ 256 }
-    ensures text { to.new ≡ to.old ++ name_of names.now task }
+    ensures text { to.new ≡ to.old ++ name_text (option_copied name.entry) }
     ensures most { length to.new ≤ length to.old + 32 }
 {
-    match names.get(task as usize) {
+    match name {
         Some(name) => push_name(to, name),
         None => {}
     }
@@ -93,30 +76,33 @@ fn push_task(to: &mut Line, names: &[Name], task: u32)
 
 // Appends the name of a task, a space, and the number of the job.
 #[inline]
-fn push_job(to: &mut Line, names: &[Name], task: u32, job: u64)
+fn push_job(to: &mut Line, name: Option<&Name>, job: u64)
     requires { length to.old + 53 ≤ 256 }
-    ensures text { to.new ≡ to.old ++ name_of names.now task ++ codes " " ++ decimal job }
+    ensures text { to.new ≡ to.old ++ name_text (option_copied name.entry) ++ codes " " ++ decimal job }
     ensures most { length to.new ≤ length to.old + 53 }
 {
-    push_task(to, names, task);
+    push_task(to, name);
     push_word(to, b" ");
     push_number(to, job);
 }
 
-fn push_release(to: &mut Line, tick: u64, names: &[Name], task: u32, job: u64)
+fn push_release(to: &mut Line, tick: u64, name: Option<&Name>, job: u64)
     requires empty { to.old ≡ [] }
-    ensures { to.new ≡ line (codes "release" ∷ decimal tick ∷ name_of names.now task ∷ decimal job ∷ []) }
+    ensures text { to.new
+        ≡ line (codes "release" ∷ decimal tick ∷ name_text (option_copied name.entry) ∷ decimal job ∷ []) }
+    ensures most { length to.new ≤ 203 }
 {
     push_word(to, b"release ");
     push_number(to, tick);
     push_word(to, b" ");
-    push_job(to, names, task, job);
+    push_job(to, name, job);
     push_word(to, b"\n");
 }
 
 fn push_speed(to: &mut Line, tick: u64, speed: u64, num: u128, den: u128)
     requires empty { to.old ≡ [] }
-    ensures { to.new ≡ line (codes "speed" ∷ decimal tick ∷ decimal speed ∷ fraction_text num den ∷ []) }
+    ensures text { to.new ≡ line (codes "speed" ∷ decimal tick ∷ decimal speed ∷ fraction_text num den ∷ []) }
+    ensures most { length to.new ≤ 203 }
 {
     push_word(to, b"speed ");
     push_number(to, tick);
@@ -127,27 +113,30 @@ fn push_speed(to: &mut Line, tick: u64, speed: u64, num: u128, den: u128)
     push_word(to, b"\n");
 }
 
-fn push_run(to: &mut Line, span: Span, names: &[Name], work: Work)
+// The work units of a segment and its energy are a pair.
+fn push_run(to: &mut Line, span: Span, name: Option<&Name>, job: u64, spent: (u64, u128))
     requires empty { to.old ≡ [] }
-    ensures { to.new
-        ≡ line (run_fields span.from span.to (name_of names.now work.task) work.job work.units work.energy) }
+    ensures text { to.new
+        ≡ line (run_fields span.from span.to (name_text (option_copied name.entry)) job spent.0 spent.1) }
+    ensures most { length to.new ≤ 203 }
 {
     push_word(to, b"run ");
     push_position(to, span.from);
     push_word(to, b" ");
     push_position(to, span.to);
     push_word(to, b" ");
-    push_job(to, names, work.task, work.job);
+    push_job(to, name, job);
     push_word(to, b" ");
-    push_number(to, work.units);
+    push_number(to, spent.0);
     push_word(to, b" ");
-    push_wide(to, work.energy);
+    push_wide(to, spent.1);
     push_word(to, b"\n");
 }
 
 fn push_idle(to: &mut Line, span: Span, units: u64, energy: u128)
     requires empty { to.old ≡ [] }
-    ensures { to.new ≡ line (idle_fields span.from span.to units energy) }
+    ensures text { to.new ≡ line (idle_fields span.from span.to units energy) }
+    ensures most { length to.new ≤ 203 }
 {
     push_word(to, b"idle ");
     push_position(to, span.from);
@@ -160,22 +149,24 @@ fn push_idle(to: &mut Line, span: Span, units: u64, energy: u128)
     push_word(to, b"\n");
 }
 
-fn push_done(to: &mut Line, at: Pos, names: &[Name], ended: Ended)
+fn push_done(to: &mut Line, at: Pos, name: Option<&Name>, job: u64, used: u64)
     requires empty { to.old ≡ [] }
-    ensures { to.new ≡ line (done_fields at (name_of names.now ended.task) ended.job ended.used) }
+    ensures text { to.new ≡ line (done_fields at (name_text (option_copied name.entry)) job used) }
+    ensures most { length to.new ≤ 203 }
 {
     push_word(to, b"done ");
     push_position(to, at);
     push_word(to, b" ");
-    push_job(to, names, ended.task, ended.job);
+    push_job(to, name, job);
     push_word(to, b" ");
-    push_number(to, ended.used);
+    push_number(to, used);
     push_word(to, b"\n");
 }
 
 fn push_end(to: &mut Line, ticks: u64, run: u128, idle: u128)
     requires empty { to.old ≡ [] }
-    ensures { to.new ≡ line (codes "end" ∷ decimal ticks ∷ decimal run ∷ decimal idle ∷ []) }
+    ensures text { to.new ≡ line (codes "end" ∷ decimal ticks ∷ decimal run ∷ decimal idle ∷ []) }
+    ensures most { length to.new ≤ 203 }
 {
     push_word(to, b"end ");
     push_number(to, ticks);
@@ -186,48 +177,58 @@ fn push_end(to: &mut Line, ticks: u64, run: u128, idle: u128)
     push_word(to, b"\n");
 }
 
+// Appends the line of a note, with its task's name.
+fn push_note(to: &mut Line, note: &Note, name: Option<&Name>)
+    requires empty { to.old ≡ [] }
+    ensures text { to.new ≡ line (fields_with (name_text (option_copied name.entry)) note.now) }
+    ensures most { length to.new ≤ 203 }
+{
+    match *note {
+        Note::Release { tick, job, .. } => push_release(to, tick, name, job),
+        Note::Speed {
+            tick,
+            speed,
+            num,
+            den,
+        } => push_speed(to, tick, speed, num, den),
+        Note::Run {
+            from,
+            to: until,
+            job,
+            units,
+            energy,
+            ..
+        } => push_run(to, Span { from, to: until }, name, job, (units, energy)),
+        Note::Idle {
+            from,
+            to: until,
+            units,
+            energy,
+        } => push_idle(to, Span { from, to: until }, units, energy),
+        Note::Done { at, job, used, .. } => push_done(to, at, name, job, used),
+        Note::End { ticks, run, idle } => push_end(to, ticks, run, idle),
+    }
+}
+
 /// Writes the line of a note, with its line feed, at most 203 bytes. The name of a task without one is empty.
 #[tactic(auto, unfolding(crate::specs::TraceLines::note_text))]
 pub fn write_note(line: &mut Line, note: &Note, names: &[Name])
     requires { line.old ≡ [] }
     ensures { line.new ≡ note_text names.now note.now }
 {
-    match *note {
-        Note::Release { tick, task, job } => push_release(line, tick, names, task, job),
-        Note::Speed {
-            tick,
-            speed,
-            num,
-            den,
-        } => push_speed(line, tick, speed, num, den),
-        Note::Run {
-            from,
-            to,
-            task,
-            job,
-            units,
-            energy,
-        } => {
-            let work = Work {
-                task,
-                job,
-                units,
-                energy,
-            };
-            push_run(line, Span { from, to }, names, work)
-        }
-        Note::Idle {
-            from,
-            to,
-            units,
-            energy,
-        } => push_idle(line, Span { from, to }, units, energy),
-        Note::Done {
-            at,
-            task,
-            job,
-            used,
-        } => push_done(line, at, names, Ended { task, job, used }),
-        Note::End { ticks, run, idle } => push_end(line, ticks, run, idle),
-    }
+    let name = match note.task() {
+        Some(task) => names.get(task as usize),
+        None => None,
+    };
+    push_note(line, note, name);
+}
+
+/// The line of a note, with its line feed, and with this name for its task. It takes no memory.
+pub fn note_line(note: &Note, name: Option<&Name>) -> Line
+    ensures text { result ≡ line (fields_with (name_text (option_copied name.entry)) note.now) }
+    ensures most { length result ≤ 203 }
+{
+    let mut text = Line::new();
+    push_note(&mut text, note, name);
+    text
 }

@@ -1,8 +1,8 @@
 -- The row of each command: its required options in order, and the value of an optional one that was not given.
-use Rattle.std.specs.Prelude.{ℕ, ◌≤◌, Bool, List, Option, is_some, unwrap_or, Result, Ok, Err, ⊤, if◌then◌else◌}
+use Rattle.std.specs.Prelude.{ℕ, Bool, List, Option, ◌≤◌, ⊤, Result, Ok, Err, if◌then◌else◌, is_some, unwrap_or}
 use Rattle.std.specs.Option.{ok_or}
 use Rattle.dvs_base.specs.Checks.{and_then}
-use Rattle.dvs_base.specs.Pairs.{is_pair, IsPair}
+use Rattle.dvs_base.specs.PlanWords.{IsPair, is_pair}
 use Rattle.dvs_base.specs.declared.limits.TheConstants.{MOST_TICKS}
 use Rattle.dvs_base.specs.declared.kind.Scheduler.{Scheduler}
 use Rattle.dvs_base.specs.declared.kind.GovernorKind.{GovernorKind}
@@ -16,7 +16,7 @@ use Rattle.words.specs.declared.command.WordFault.{WordFault}
 use Rattle.words.specs.declared.command.WordFault.TheVariants as fault
 use Rattle.words.specs.declared.given.TraceUse.{TraceUse}
 use Rattle.words.specs.declared.given.TraceUse.TheVariants.{Replay, Migrate}
-use Rattle.words.specs.Values.{GivenOf}
+use Rattle.words.specs.Table.{GivenOf}
 
 -- what the words of `run` name: files by their names, the scheduler, the governor, the number of ticks, whether the
 -- probes are printed, and the version of the trace

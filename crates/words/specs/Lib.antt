@@ -1,5 +1,5 @@
 pub mod Table
-pub mod Values
+pub mod FaultLines
 pub mod Commands
 pub mod Reading
 pub mod Shown

@@ -1,13 +1,12 @@
 -- What words mean: they are read from left to right, with the table.
-use Rattle.std.specs.Prelude.{ℕ, ◌+◌, List, [], ◌∷◌, Option, Some, None, Result, Ok, Err, if◌then◌else◌}
+use Rattle.std.specs.Prelude.{Option, None, ℕ, List, Some, Result, Ok, Err, if◌then◌else◌, ◌+◌, [], ◌∷◌}
 use Rattle.dvs_base.specs.Checks.{and_then}
 use Rattle.dvs_base.specs.Text.{short_of}
 use Rattle.words.specs.declared.table.Verb.{Verb}
 use Rattle.words.specs.declared.table.Key.{Key}
 use Rattle.words.specs.declared.command.WordFault.{WordFault}
 use Rattle.words.specs.declared.command.WordFault.TheVariants as fault
-use Rattle.words.specs.Table.{verb_of, options_of, word_of, option_named, takes_value}
-use Rattle.words.specs.Values.{GivenOf, nothing_given, has, with_value}
+use Rattle.words.specs.Table.{GivenOf, nothing_given, takes_value, has, with_value, options_of, option_named, word_of, verb_of}
 use Rattle.words.specs.Commands.{CommandOf, built}
 
 -- the values so far, and the option whose value is the next word

@@ -3,13 +3,22 @@ use Rattle.std.specs.Prelude.{option_map, Result, Ok, Err}
 use Rattle.words.specs.declared.command.Command.{Command}
 use Rattle.words.specs.declared.command.Command.TheVariants as command
 use Rattle.words.specs.declared.command.WordFault.{WordFault}
+use Rattle.words.specs.declared.command_words.RunWords.{RunWords}
+use Rattle.words.specs.declared.command_words.AdmitWords.{AdmitWords}
+use Rattle.words.specs.declared.command_words.TraceWords.{TraceWords}
+use Rattle.words.specs.declared.command_words.ResponseWords.{ResponseWords}
+use Rattle.words.specs.declared.command_words.ConstrainWords.{ConstrainWords}
+use Rattle.words.specs.declared.command_words.PollWords.{PollWords}
+use Rattle.words.specs.declared.command_words.LeastWords.{LeastWords}
+use Rattle.words.specs.declared.command_words.CommandWords.{CommandWords}
+use Rattle.words.specs.declared.command_words.CommandWords.TheVariants as words
 use Rattle.words.specs.declared.given.Given.{Given}
 use Rattle.words.specs.declared.given.TraceUse.TheVariants.{Replay, Migrate}
 use Rattle.words.specs.declared.given.Timed.{Timed}
 use Rattle.words.specs.declared.read.Reading.{Reading}
-use Rattle.words.specs.Values.{GivenOf}
-use Rattle.words.specs.Commands.{CommandOf, TimedOf, run, admit, traced, workload, response, constrain, poll, least}
+use Rattle.words.specs.Commands.{TimedOf, CommandOf, run, admit, traced, workload, response, constrain, poll, least, RunOf, AdmitOf, TracedOf, ResponseOf, ConstrainOf, PollOf, LeastOf}
 use Rattle.words.specs.Reading.{ReadingOf}
+use Rattle.words.specs.Table.{GivenOf}
 
 -- the values that were given, with the texts of names
 abbrev pub shown_given : Given → GivenOf
@@ -76,6 +85,62 @@ shown (command.Poll tasks machine requests server scheduler governor ticks) = po
   ticks = ticks;
 })
 shown (command.Least machine units ticks) = least (record { machine = machine.now; units = units; ticks = ticks })
+
+-- what the words of `run` name, with the texts of names
+abbrev pub shown_run : RunWords → RunOf
+shown_run r = record {
+  tasks = r.tasks.now;
+  machine = r.machine.now;
+  scheduler = r.scheduler;
+  governor = r.governor;
+  ticks = r.ticks;
+  demands = option_map (λ s. s.now) r.demands;
+  probes = r.probes;
+  version = r.version;
+}
+
+-- what the words of `admit` name, with the texts of names
+abbrev pub shown_admit : AdmitWords → AdmitOf
+shown_admit a = record { tasks = a.tasks.now; machine = a.machine.now; scheduler = a.scheduler }
+
+-- what the words of `replay` or `migrate` name, with the texts of names
+abbrev pub shown_trace : TraceWords → TracedOf
+shown_trace r = record { asked = r.asked; tasks = r.tasks.now; machine = r.machine.now; trace = r.trace.now }
+
+-- what the words of `response` name, with the texts of names
+abbrev pub shown_response : ResponseWords → ResponseOf
+shown_response r = record { tasks = r.tasks.now; machine = r.machine.now }
+
+-- what the words of `constrain` name, with the texts of names
+abbrev pub shown_constrain : ConstrainWords → ConstrainOf
+shown_constrain r = record { tasks = r.tasks.now; machine = r.machine.now; deadlines = r.deadlines.now }
+
+-- what the words of `poll` name, with the texts of names
+abbrev pub shown_poll : PollWords → PollOf
+shown_poll q = record {
+  tasks = q.tasks.now;
+  machine = q.machine.now;
+  requests = q.requests.now;
+  server = q.server.now;
+  scheduler = q.scheduler;
+  governor = q.governor;
+  ticks = q.ticks;
+}
+
+-- what the words of `least` name, with the texts of names
+abbrev pub shown_least : LeastWords → LeastOf
+shown_least l = record { machine = l.machine.now; units = l.units; ticks = l.ticks }
+
+-- what the words of a command name, with the texts of names
+abbrev pub shown_words : CommandWords → CommandOf
+shown_words (words.Run w) = run (shown_run w)
+shown_words (words.Admit w) = admit (shown_admit w)
+shown_words (words.Traced w) = traced (shown_trace w)
+shown_words (words.Workload seed) = workload seed
+shown_words (words.Response w) = response (shown_response w)
+shown_words (words.Constrain w) = constrain (shown_constrain w)
+shown_words (words.Poll w) = poll (shown_poll w)
+shown_words (words.Least w) = least (shown_least w)
 
 -- a command with the texts of names, or why the words were refused
 abbrev pub answer : Result Command WordFault → Result CommandOf WordFault

@@ -2,11 +2,13 @@
 //!
 //! [`read_words`] returns the command, or the first error from left to right with its place; it allocates no memory.
 //! What the words mean is one definition, `command_of` in `specs/Reading.antt`, over the table in `specs/Table.antt`. A
-//! new command is a row of that table, and a variant.
+//! new command is a row of that table, a variant, and the record of what its words name ([`Command::words`]).
 #![tactic(auto)]
 
 mod build;
 mod command;
+mod command_words;
+mod fault_line;
 mod given;
 mod read;
 mod table;
@@ -14,6 +16,11 @@ mod ticks;
 mod value;
 
 pub use command::{Command, Opt, WordFault};
+pub use command_words::{
+    AdmitWords, CommandWords, ConstrainWords, LeastWords, PollWords, ResponseWords, RunWords,
+    TraceWords,
+};
+pub use fault_line::word_fault_line;
 pub use given::TraceUse;
 pub use read::read_words;
 pub use table::option_word;

@@ -1,7 +1,7 @@
 // The value that a word gives an option.
 ghost use Rattle.std.specs.Prelude.{◌≡◌, option_map};
 ghost use Rattle.dvs_base.specs.PlanWords.{ticks_of};
-ghost use Rattle.words.specs.Values.{some_text, version_of, number_of, nothing_given, has, with_value};
+ghost use Rattle.words.specs.Table.{some_text, version_of, number_of, nothing_given, has, with_value};
 ghost use Rattle.words.specs.Shown.{shown_given};
 
 use crate::given::Given;

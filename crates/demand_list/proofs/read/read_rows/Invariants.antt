@@ -1,5 +1,5 @@
 use Rattle.std.proofs.Common.{◌≡◌, length}
-use Rattle.csv_text.specs.Records.{IsPlain, AreCountedFrom, records_left}
+use Rattle.csv_text.specs.Rows.{IsPlain, AreCountedFrom, records_left}
 use Rattle.demand_list.specs.DemandFile.{demands_from}
 use Rattle.demand_list.proofs.read.read_rows.Given as goal
 

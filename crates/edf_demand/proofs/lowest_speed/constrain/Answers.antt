@@ -8,7 +8,7 @@ use Rattle.edf_demand_laws.specs.ProcessorDemand.{IsConstrainedDemand}
 use Rattle.edf_demand.proofs.Limits.{constrained_of}
 use Rattle.edf_demand.proofs.Answering.{lowest-speed, overload, answer-offset, answer-too_many, answer-met, answer-denied}
 use Rattle.edf_demand_laws.proofs.Busiest.{is-constrained_demand}
-use Rattle.edf_demand.specs.Answers.{IsTested}
+use Rattle.edf_demand.specs.Answers.{LooksAtDemand}
 use Rattle.edf_demand.proofs.lowest_speed.constrain.Goals as goal
 
 pub returns-in-Some-clause-answer : goal.returns-in-Some-clause-answer
@@ -77,7 +77,7 @@ returns-clause-denial c =
     let demand = c.in-Ok.demand in
     let is : IsConstrainedDemand p (slice_index deadlines) demand =
     subst (λ (ds : List ℕ). IsConstrainedDemand p (slice_index ds) demand) c.ticks.ensures c.in-Ok.ensures in
-    let tested : IsTested p = record {
+    let tested : LooksAtDemand p = record {
       no_offset = c.in_default.ensures.finds;
       few = omega (arith, c.if-count-gt-MOST_JOBS.false, c.hyper_jobs-count.ensures);
     } in

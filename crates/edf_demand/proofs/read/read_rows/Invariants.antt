@@ -1,5 +1,5 @@
 use Rattle.std.proofs.Common.{◌≡◌, length}
-use Rattle.csv_text.specs.Records.{IsPlain, AreCountedFrom, records_left}
+use Rattle.csv_text.specs.Rows.{IsPlain, AreCountedFrom, records_left}
 use Rattle.edf_demand.specs.DeadlineFile.{given_from, AreGiven}
 use Rattle.edf_demand.proofs.read.read_rows.Given as goal
 

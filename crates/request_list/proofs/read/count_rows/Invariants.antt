@@ -1,5 +1,5 @@
 use Rattle.std.proofs.Common.{◌≡◌, ◌+◌, length}
-use Rattle.csv_text.specs.Records.{IsPlain, records_left}
+use Rattle.csv_text.specs.Rows.{IsPlain, records_left}
 use Rattle.request_list.proofs.read.count_rows.Given as goal
 
 -- the rows so far and those that are left add up to all the rows

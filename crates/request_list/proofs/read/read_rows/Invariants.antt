@@ -1,5 +1,5 @@
 use Rattle.std.proofs.Common.{◌≡◌, ◌≤◌, ◌+◌, [], length}
-use Rattle.csv_text.specs.Records.{IsPlain, records_left}
+use Rattle.csv_text.specs.Rows.{IsPlain, records_left}
 use Rattle.request_list.specs.declared.limits.TheConstants.{MOST_REQUESTS}
 use Rattle.request_list.specs.RequestFile.{requests_from}
 use Rattle.request_list.proofs.Orders.{AreRequestsTo}

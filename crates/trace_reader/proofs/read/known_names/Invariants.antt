@@ -1,6 +1,6 @@
 use Rattle.std.proofs.Common.{◌≡◌, ℕ, ◌<◌, true}
 use Rattle.dvs_base.specs.Text.{is_name}
-use Rattle.trace_text.specs.TraceLines.{name_of}
+use Rattle.dvs_base.specs.Parts.{name_of}
 use Rattle.trace_reader.proofs.read.known_names.Given as goal
 
 abbrev pub invariant-loop-name : goal.invariant-loop-name

@@ -1,8 +1,8 @@
 use Rattle.std.proofs.Common.{append_assoc}
 use Rattle.trace_text.proofs.write.push_run.Goals as goal
 
-pub returns : goal.returns
-returns c =
+pub returns-clause-text : goal.returns-clause-text
+returns-clause-text c =
     rw (
       c.push_word-6.ensures.text,
       c.push_wide.ensures.text,

@@ -1,5 +1,4 @@
-use Rattle.task_model.specs.Tasks.{task_at}
-use Rattle.task_model.specs.Offsets.{NoneOffset}
+use Rattle.task_model.specs.Tasks.{task_at, NoneOffset}
 use Rattle.task_model.proofs.task.TaskSet.first_offset.Given as goal
 
 abbrev pub invariant-loop-i : goal.invariant-loop-i
