@@ -1,103 +1,72 @@
 -- The status is the answer's, from how the answer ends and why its loads failed.
-use Rattle.std.proofs.Common.{◌≡◌, ◌⊎◌, inl, inr, ℕ, List, Option, Some, None, Result, Ok, Err, IsOk, refl, ap, sym, subst, arith, true≢false}
+use Rattle.std.proofs.Common.{◌≡◌, ◌⊎◌, inl, inr, ℕ, ◌+◌, Bool, List, [], ◌∷◌, Option, Some, None, Result, Ok, Err, IsTrue, refl, ap, subst, arith, rules}
 use Rattle.dvs_base.specs.Outside.{Files, ShelfView, SinkView, Rose, Lacks, file_of}
-use Rattle.dvs_base.specs.Checks.{and_then}
 use Rattle.words.specs.Commands.{CommandOf, run, admit, traced, workload, response, constrain, poll, least}
-use Rattle.rtdvs_top.specs.Answer.{tasks_at, machine_at}
-use Rattle.rtdvs_top.specs.PollAnswer.{server_at}
-use Rattle.rtdvs_top.specs.CommandAnswer.{answer_of_command}
-use Rattle.rtdvs_top.specs.Causes.{LoadFails, NamedLoadFails, LoadOf, PassesBefore, CountsPuts, files_for}
-use Rattle.rtdvs_top.specs.Ending.{Ends, EndsSomehow, EndsAs, Leaves}
-use Rattle.rtdvs_top.specs.Promises.{Answers, Writes, WritesPart, IsSureOf}
+use Rattle.rtdvs_top.specs.Promises.{answer_of_command, Answers, Writes, WritesPart, IsSureOf}
+use Rattle.rtdvs_top.specs.Files.{NamedFile, files_of, CountsPuts, files_needed, files_for, is_passed, passes}
+use Rattle.rtdvs_top.specs.Failing.{FailsFrom, FailsIn}
+use Rattle.rtdvs_top.specs.Prepared.{Ends, EndsSomehow, EndsAs}
+use Rattle.rtdvs_top.specs.Run.{Leaves}
 use Rattle.rtdvs_top.specs.declared.status.FileKind.{FileKind}
-use Rattle.rtdvs_top.specs.declared.status.FileKind.TheVariants as file
 use Rattle.rtdvs_top.specs.declared.status.Status.{Status}
 use Rattle.rtdvs_top.specs.declared.status.Status.TheVariants as status
 
--- what follows from the value of a step, or from the values of two steps
-given : {A C : Type 0} (step : Result A Status) → IsOk step → ((a : A) → step ≡ Ok a → C) → C
-given (Ok a) h go = go a refl
-given (Err s) h go = absurd (true≢false (sym h))
+-- the answer ends with the load of the first of these files that is lacking, where those before it are passed
+abbrev StopsAt : Files → CommandOf → List NamedFile → Result (List ℕ) Status → Type 0
+StopsAt files c [] answer = Unit {0}
+StopsAt files c (f ∷ fs) answer =
+    (file_of files f.name ≡ None → answer ≡ Err (status.Load f.kind))
+    × (IsTrue (is_passed c f.kind f.name files) → StopsAt files c fs answer)
 
-given-steps : {A B C : Type 0} (step : Result A Status) (next : A → Result B Status) → IsOk (and_then step next)
-    → ((a : A) (b : B) → step ≡ Ok a → next a ≡ Ok b → C) → C
-given-steps (Ok a) next h go = given (next a) h (λ b e. go a b refl e)
-given-steps (Err s) next h go = absurd (true≢false (sym h))
+-- the answer of each command stops at its files, in their order
+stops : (files : Files) (c : CommandOf) → StopsAt files c (files_of c) (answer_of_command c files)
+stops files (run r) = search rules
+stops files (admit a) = search rules
+stops files (traced r) = search rules
+stops files (workload seed) = tt
+stops files (response r) = search rules
+stops files (constrain r) = search rules
+stops files (poll q) = search rules
+stops files (least l) = search rules
 
-module _ (files : Files) (old new : ShelfView) where
-  -- a load that failed lacks its file, or the count of faults rose
-  lacks-or-rose : {A : Type 0} (place : ℕ) (name : List ℕ) → old.held ≡ Some files → LoadFails old new place name
-      → (file_of files name ≡ None → A) → A ⊎ Rose old.faults new.faults
-  lacks-or-rose place name known (inl lacks) go = inl (go (subst (λ (t : Option Files). Lacks t name) known lacks.0))
-  lacks-or-rose place name known (inr rose) go = inr rose.0
+-- a load that failed is the answer, or the count of faults rose
+fails-answer : (files : Files) (c : CommandOf) (old new : ShelfView) (answer : Result (List ℕ) Status) (kind : FileKind)
+    → old.held ≡ Some files → (place : ℕ) (fs : List NamedFile) → StopsAt files c fs answer
+    → FailsFrom (passes (Some files) c) old new place fs kind
+    → (answer ≡ Err (status.Load kind)) ⊎ Rose old.faults new.faults
+fails-answer files c old new answer kind known place [] stop fails = absurd fails
+fails-answer files c old new answer kind known place (f ∷ fs) stop (inl (same, inl lacks)) =
+    inl (rw same (stop.0 (subst (λ (held : Option Files). Lacks held f.name) known lacks.0)))
+fails-answer files c old new answer kind known place (f ∷ fs) stop (inl (same, inr rose)) = inr rose.0
+fails-answer files c old new answer kind known place (f ∷ fs) stop (inr (read, later)) =
+    fails-answer files c old new answer kind known (place + 1) fs (stop.1 read) later
 
-  named-or-rose : {A : Type 0} (place : ℕ) (name : Option (List ℕ)) → old.held ≡ Some files → NamedLoadFails old new place name
-      → ((n : List ℕ) → name ≡ Some n → file_of files n ≡ None → A) → A ⊎ Rose old.faults new.faults
-  named-or-rose place None known fails go = absurd fails
-  named-or-rose place (Some n) known fails go = lacks-or-rose place n known fails (go n refl)
+-- where a load of these files failed, those that are needed are the shelf's
+held-are : (files : Files) (passed : NamedFile → Bool) (old new : ShelfView) (kind : FileKind) (fs : List NamedFile)
+    → files_needed old.held fs ≡ Some files → FailsFrom passed old new 1 fs kind → old.held ≡ Some files
+held-are files passed old new kind [] known fails = absurd fails
+held-are files passed old new kind (f ∷ fs) known fails = known
 
-  -- where a file of the command is lacking and those before it were read, the answer is that its load fails
-  lacks-answer : (c : CommandOf) (kind : FileKind) → files_for old.held c ≡ Some files
-      → LoadOf old new c (status.Load kind) → PassesBefore (Some files) c (status.Load kind)
-      → (answer_of_command c files ≡ Err (status.Load kind)) ⊎ Rose old.faults new.faults
-  lacks-answer (run r) file.Tasks known fails passes = lacks-or-rose 1 r.tasks known fails (λ lacks. rw lacks refl)
-  lacks-answer (admit a) file.Tasks known fails passes = lacks-or-rose 1 a.tasks known fails (λ lacks. rw lacks refl)
-  lacks-answer (traced r) file.Tasks known fails passes = lacks-or-rose 1 r.tasks known fails (λ lacks. rw lacks refl)
-  lacks-answer (response r) file.Tasks known fails passes = lacks-or-rose 1 r.tasks known fails (λ lacks. rw lacks refl)
-  lacks-answer (constrain r) file.Tasks known fails passes =
-      lacks-or-rose 1 r.tasks known fails (λ lacks. rw lacks refl)
-  lacks-answer (poll q) file.Tasks known fails passes = lacks-or-rose 1 q.tasks known fails (λ lacks. rw lacks refl)
-  lacks-answer (least l) file.Machine known fails passes =
-      lacks-or-rose 1 l.machine known fails (λ lacks. rw lacks refl)
-  lacks-answer (run r) file.Machine known fails passes =
-      lacks-or-rose 2 r.machine known fails (λ lacks.
-      given (tasks_at r.tasks files) passes (λ tasks t. rw (t, lacks) refl))
-  lacks-answer (admit a) file.Machine known fails passes =
-      lacks-or-rose 2 a.machine known fails (λ lacks.
-      given (tasks_at a.tasks files) passes (λ tasks t. rw (t, lacks) refl))
-  lacks-answer (traced r) file.Machine known fails passes =
-      lacks-or-rose 2 r.machine known fails (λ lacks.
-      given (tasks_at r.tasks files) passes (λ tasks t. rw (t, lacks) refl))
-  lacks-answer (response r) file.Machine known fails passes =
-      lacks-or-rose 2 r.machine known fails (λ lacks.
-      given (tasks_at r.tasks files) passes (λ tasks t. rw (t, lacks) refl))
-  lacks-answer (constrain r) file.Machine known fails passes =
-      lacks-or-rose 2 r.machine known fails (λ lacks.
-      given (tasks_at r.tasks files) passes (λ tasks t. rw (t, lacks) refl))
-  lacks-answer (poll q) file.Machine known fails passes =
-      lacks-or-rose 2 q.machine known fails (λ lacks.
-      given-steps (tasks_at q.tasks files) (server_at q.server) passes (λ tasks server t i. rw (t, i, lacks) refl))
-  lacks-answer (run r) file.Demands known fails passes =
-      named-or-rose 3 r.demands known fails (λ name named lacks.
-      given (tasks_at r.tasks files) passes.0 (λ tasks t.
-      given (machine_at r.machine files) passes.1 (λ machine m. rw (t, m, named, lacks) refl)))
-  lacks-answer (traced r) file.Trace known fails passes =
-      lacks-or-rose 3 r.trace known fails (λ lacks.
-      given (tasks_at r.tasks files) passes.0 (λ tasks t.
-      given (machine_at r.machine files) passes.1 (λ machine m. rw (t, m, lacks) refl)))
-  lacks-answer (constrain r) file.Deadlines known fails passes =
-      lacks-or-rose 3 r.deadlines known fails (λ lacks.
-      given (tasks_at r.tasks files) passes.0 (λ tasks t.
-      given (machine_at r.machine files) passes.1 (λ machine m. rw (t, m, lacks) refl)))
-  lacks-answer (poll q) file.Requests known fails passes =
-      lacks-or-rose 3 q.requests known fails (λ lacks.
-      given-steps (tasks_at q.tasks files) (server_at q.server) passes.0 (λ tasks server t i.
-      given (machine_at q.machine files) passes.1 (λ machine m. rw (t, i, m, lacks) refl)))
-  lacks-answer (workload seed) file.Tasks known fails passes = absurd fails
-  lacks-answer c kind known fails passes = absurd fails
+fails-in-answer : (files : Files) (c : CommandOf) (old new : ShelfView) (kind : FileKind)
+    → files_for old.held c ≡ Some files → FailsFrom (passes (files_for old.held c) c) old new 1 (files_of c) kind
+    → (answer_of_command c files ≡ Err (status.Load kind)) ⊎ Rose old.faults new.faults
+fails-in-answer files c old new kind known fails =
+    fails-answer files c old new (answer_of_command c files) kind
+    (held-are files (passes (files_for old.held c) c) old new kind (files_of c) known fails) 1 (files_of c) (stops files c)
+    (subst (λ (held : Option Files). FailsFrom (passes held c) old new 1 (files_of c) kind) known fails)
 
 pub answers-of : (files : Option Files) (c : CommandOf) (old new : ShelfView) (out_old out_new : SinkView) (s : Status)
     → files_for old.held c ≡ files
-    → EndsAs out_old out_new files (answer_of_command c) s → LoadOf old new c s → PassesBefore files c s
+    → EndsAs out_old out_new files (answer_of_command c) s → FailsIn old new c s
     → Answers files (Ok c) (Rose old.faults new.faults) (Rose out_old.faults out_new.faults) s
-answers-of None c old new out_old out_new s known ends load passes = tt
-answers-of (Some files) c old new out_old out_new status.Done known ends load passes = rw ends.1 refl
-answers-of (Some files) c old new out_old out_new status.Write known ends load passes = (rw ends.1 refl, ends.2.rose)
-answers-of (Some files) c old new out_old out_new (status.Words why) known ends load passes = absurd ends
-answers-of (Some files) c old new out_old out_new (status.Load kind) known ends load passes =
-    lacks-answer files old new c kind known load passes
-answers-of (Some files) c old new out_old out_new status.NoMemory known ends load passes = tt
-answers-of (Some files) c old new out_old out_new s known ends load passes = ends
+answers-of None c old new out_old out_new s known ends failed = tt
+answers-of (Some files) c old new out_old out_new status.Done known ends failed = rw ends.1 refl
+answers-of (Some files) c old new out_old out_new status.Write known ends failed = (rw ends.1 refl, ends.2.rose)
+answers-of (Some files) c old new out_old out_new (status.Words why) known ends failed = absurd ends
+answers-of (Some files) c old new out_old out_new (status.Load kind) known ends failed =
+    fails-in-answer files c old new kind known failed
+answers-of (Some files) c old new out_old out_new status.NoMemory known ends failed = tt
+answers-of (Some files) c old new out_old out_new s known ends failed = ends
 
 -- a sink that is sure of the whole answer counts no further fault
 pub sure-of : {W : Type 0} (shows : W → SinkView) (files : Option Files) (c : CommandOf) (s : Status) (old new : W)

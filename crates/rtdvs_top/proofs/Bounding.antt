@@ -9,20 +9,14 @@ use Rattle.energy_bound.specs.declared.least.Least.{Least}
 use Rattle.energy_bound.specs.Certificates.{least_of}
 use Rattle.energy_bound.specs.FirstPairs.{low_corner, high_corner, least_energy_of}
 use Rattle.words.specs.Commands.{LeastOf, CommandOf, least}
-use Rattle.rtdvs_top.specs.Answer.{machine_at}
-use Rattle.rtdvs_top.specs.LeastAnswer.{least_text, least_from, least_on, IsLeastOn, LeastMetOn, AreTooMany}
-use Rattle.rtdvs_top.specs.CommandAnswer.{answer_of_command}
-use Rattle.rtdvs_top.specs.Promises.{OfLeast}
-use Rattle.rtdvs_top.specs.Ending.{EndsAs, MetIn}
+use Rattle.rtdvs_top.specs.Meanings.{machine_at}
+use Rattle.rtdvs_top.specs.Least.{least_text, least_from, least_on, AreTooMany}
+use Rattle.rtdvs_top.specs.Promises.{answer_of_command, OfLeast}
+use Rattle.rtdvs_top.specs.Prepared.{EndsAs, MetIn}
 use Rattle.rtdvs_top.specs.declared.status.Denied.{Denied}
 use Rattle.rtdvs_top.specs.declared.status.Status.{Status}
 use Rattle.rtdvs_top.specs.declared.status.Status.TheVariants as status
 use Rattle.rtdvs_top.proofs.Denying.{is_given, given-once, denied-later, machine_at-denies-not}
-
--- an answer that is the minimum is so for any status that its writing ends with
-pub met-on : (m : Table) (l : LeastOf) (a : Least) (s : Status) → IsLeastOn m l a → LeastMetOn m l s
-met-on m l a status.Done h = (a, h)
-met-on m l a s h = tt
 
 -- the text of the answer is that of the minimum
 text-is : (l : LeastOf) (files : Files) (m : Table) (a : Least) (text : List ℕ) → machine_at l.machine files ≡ Ok m

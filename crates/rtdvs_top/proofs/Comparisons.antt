@@ -7,7 +7,7 @@ use Rattle.grid_fraction.specs.declared.Frac.{Frac}
 use Rattle.sched_model.specs.Plan.{Plan, count}
 use Rattle.sched_model.specs.States.{StateOf}
 use Rattle.sched_model.specs.Demand.{published}
-use Rattle.sched_model.specs.Demands.{demand_of, IsWithin}
+use Rattle.sched_model.specs.Jobs.{demand_of, IsWithin}
 use Rattle.sched_model.specs.Notes.{notes_of}
 use Rattle.sched_model.specs.Schedule.{schedule_by}
 use Rattle.sched_model.proofs.ScheduleLemmas.{schedule_exists}
@@ -22,8 +22,8 @@ use Rattle.replay.specs.Replays.{first_over, too_many, unless, own_notes, replay
 use Rattle.replay.specs.declared.fault.ReplayFault.{ReplayFault}
 use Rattle.replay.specs.declared.fault.ReplayFault.TheVariants as replay_fault
 use Rattle.replay.proofs.Fixing.{over-fit}
-use Rattle.rtdvs_top.specs.ReplayAnswer.{replay_status, totals_from, totals_at}
-use Rattle.rtdvs_top.specs.Causes.{EndsWith}
+use Rattle.rtdvs_top.specs.Trace.{replay_status, totals_from, totals_at}
+use Rattle.rtdvs_top.specs.Failing.{EndsWith}
 
 -- a refusal of a replay ends the comparison
 pub replay-ends : (p : Plan) (t : TraceOf) (e : ReplayFault)

@@ -1,5 +1,6 @@
 -- Which steps of an answer can deny a plan, and when.
-use Rattle.std.proofs.Common.{◌≡◌, ◌⊎◌, inl, inr, ℕ, ◌*◌, ◌≤◌, Bool, true, false, List, length, Option, Some, None, Result, Ok, Err, refl, sym, ◌∙◌, ap, arith, true≢false, nat_lt, if◌then◌else◌}
+use Rattle.std.proofs.Common.{◌≡◌, ◌⊎◌, inl, inr, ℕ, ◌*◌, ◌≤◌, Bool, true, false, List, length, Option, Some, None, Result, Ok, Err, refl, sym, ◌∙◌, ap, subst, arith, true≢false, nat_lt, if◌then◌else◌}
+use Rattle.std.proofs.lemmas.Bool.{ltb-true, ltb-false}
 use Rattle.std.proofs.lemmas.Bool.Decides.{nat_tests}
 use Rattle.dvs_base.specs.Outside.{Files, file_of}
 use Rattle.dvs_base.specs.Checks.{and_then}
@@ -8,7 +9,7 @@ use Rattle.dvs_base.specs.declared.kind.Scheduler.TheVariants.{Edf, Rm}
 use Rattle.task_model.specs.declared.task.Task.{Task}
 use Rattle.task_model.specs.declared.fault.TaskFault.{TaskFault}
 use Rattle.task_model.specs.declared.fault.TaskFault.TheVariants as task_fault
-use Rattle.task_model.specs.TaskFile.{task_file}
+use Rattle.task_model.specs.TaskFile.{task_file, place_of}
 use Rattle.freq_table.specs.Tables.{Table}
 use Rattle.freq_table.specs.MachineFile.{machine_file}
 use Rattle.freq_table.specs.declared.fault.MachineFault.{MachineFault}
@@ -17,12 +18,29 @@ use Rattle.demand_list.specs.Demands.{DemandsOf}
 use Rattle.demand_list.specs.DemandFile.{demand_file}
 use Rattle.demand_list.specs.declared.fault.DemandFault.{DemandFault}
 use Rattle.demand_list.specs.declared.fault.DemandFault.TheVariants as demand_fault
+use Rattle.request_list.specs.declared.requests.Request.{Request}
+use Rattle.request_list.specs.RequestFile.{request_file}
+use Rattle.request_list.specs.declared.fault.RequestFault.{RequestFault}
+use Rattle.request_list.specs.declared.fault.RequestFault.TheVariants as request_fault
+use Rattle.trace_reader.specs.Traces.{TraceOf}
+use Rattle.trace_reader.specs.declared.trace.TraceFault.{TraceFault}
+use Rattle.trace_reader.specs.declared.trace.TraceFault.TheVariants as trace_fault
+use Rattle.dvs_base.specs.declared.note.Totals.{Totals}
+use Rattle.replay.specs.Replays.{replay_of}
+use Rattle.replay.specs.declared.fault.ReplayFault.{ReplayFault}
+use Rattle.replay.specs.declared.fault.ReplayFault.TheVariants as replay_fault
+use Rattle.words.specs.declared.given.TraceUse.{TraceUse}
+use Rattle.sched_model.specs.Demand.{published}
 use Rattle.sched_model.specs.Plan.{Plan, period, hyper, top_speed}
 use Rattle.sched_model.specs.Tests.{total_rate, level_work}
 use Rattle.sched_model.specs.Admission.{PassesTest}
 use Rattle.dvs_base.specs.declared.limits.TheConstants.{MOST_JOBS}
-use Rattle.rtdvs_top.specs.Answer.{bytes_from, bytes_at, tasks_from, machine_from, demands_from, tasks_at, machine_at, demands_at, admission, admission_by, admission_from, first_overloaded, within_jobs, longest}
-use Rattle.rtdvs_top.specs.Promises.{DeniedPlan}
+use Rattle.rtdvs_top.specs.Meanings.{bytes_from, bytes_at, tasks_from, machine_from, demands_from, tasks_at, machine_at, demands_at, longest}
+use Rattle.rtdvs_top.specs.Admit.{admission, admission_by, admission_from, first_overloaded}
+use Rattle.rtdvs_top.specs.Run.{within_jobs}
+use Rattle.rtdvs_top.specs.Trace.{trace_from, trace_of, trace_at, totals_from, totals_at, printed, answer_of_traced}
+use Rattle.rtdvs_top.specs.Poll.{server_from, server_at, requests_from, requests_at}
+use Rattle.rtdvs_top.specs.Promises.{IsDenial, DeniedPlan}
 use Rattle.rtdvs_top.specs.declared.status.Denied.{Denied}
 use Rattle.rtdvs_top.specs.declared.status.Denied.TheVariants as denied
 use Rattle.rtdvs_top.specs.declared.status.FileKind.{FileKind}
@@ -30,7 +48,7 @@ use Rattle.rtdvs_top.specs.declared.status.FileKind.TheVariants as file
 use Rattle.rtdvs_top.specs.declared.status.TextFault.TheVariants as text
 use Rattle.rtdvs_top.specs.declared.status.Status.{Status}
 use Rattle.rtdvs_top.specs.declared.status.Status.TheVariants as status
-use Rattle.rtdvs_top.proofs.Overloads.{overloaded-none}
+use Rattle.rtdvs_top.proofs.Overloads.{overloaded-none, none-overloaded, first-overloaded}
 
 -- whether a status is a denial
 abbrev pub is_denial : Status → Bool
@@ -121,6 +139,43 @@ demands_at-denies-not tasks (Some name) files =
     then-denies-not (bytes_at file.Demands name files) (λ bytes. demands_from (demand_file tasks bytes))
     (bytes-deny-not file.Demands (file_of files name)) (λ bytes. demands-deny-not (demand_file tasks bytes))
 
+trace-denies-not : (r : Result TraceOf TraceFault) → DeniesNot (trace_from r)
+trace-denies-not (Err trace_fault.NoMemory) = refl
+trace-denies-not r = refl
+
+requests-deny-not : (r : Result (List Request) RequestFault) → DeniesNot (requests_from r)
+requests-deny-not (Err request_fault.NoMemory) = refl
+requests-deny-not r = refl
+
+pub trace_at-denies-not : (tasks : List Task) (name : List ℕ) (files : Files) → DeniesNot (trace_at tasks name files)
+trace_at-denies-not tasks name files =
+    then-denies-not (bytes_at file.Trace name files) (λ bytes. trace_from (trace_of tasks bytes))
+    (bytes-deny-not file.Trace (file_of files name)) (λ bytes. trace-denies-not (trace_of tasks bytes))
+
+pub requests_at-denies-not : (name : List ℕ) (files : Files) → DeniesNot (requests_at name files)
+requests_at-denies-not name files =
+    then-denies-not (bytes_at file.Requests name files) (λ bytes. requests_from (request_file bytes))
+    (bytes-deny-not file.Requests (file_of files name)) (λ bytes. requests-deny-not (request_file bytes))
+
+pub server_at-denies-not : (name : List ℕ) (tasks : List Task) → DeniesNot (server_at name tasks)
+server_at-denies-not name tasks = go (place_of tasks name)
+  where
+    go : (place : Option ℕ) → DeniesNot (server_from name place)
+    go None = refl
+    go (Some i) = refl
+
+totals-deny-not : (r : Result Totals ReplayFault) → DeniesNot (totals_from r)
+totals-deny-not (Ok totals) = refl
+totals-deny-not (Err (replay_fault.OverWorst task job used worst)) = refl
+totals-deny-not (Err (replay_fault.TooManyJobs jobs)) = refl
+totals-deny-not (Err (replay_fault.Differs line wanted found)) = refl
+totals-deny-not (Err replay_fault.NoMemory) = refl
+
+pub traced-denies-not : (asked : TraceUse) (x : Plan × TraceOf) → DeniesNot (answer_of_traced asked x)
+traced-denies-not asked x =
+    then-denies-not (totals_at x) (λ totals. Ok (printed asked x totals))
+    (totals-deny-not (replay_of x.0 (published x.0 x.1.plan.governor) x.1)) (λ totals. refl)
+
 pub within-denies-not : (jobs : ℕ) (bytes : List ℕ) → DeniesNot (within_jobs jobs bytes)
 within-denies-not jobs bytes = go (nat_lt MOST_JOBS jobs)
   where
@@ -166,9 +221,51 @@ admission-same p q e = go (admission-is p)
     go (inl same) = given-once e same
     go (inr denial) = absurd (true≢false (ap is_given (sym e ∙ denial.1)))
 
--- a plan that is denied fails its test
+-- a plan that is admitted passes its scheduler's test
+pub admission-passes : (p q : Plan) → admission p ≡ Ok q → PassesTest p.scheduler p
+admission-passes p q e = by p.scheduler e
+  where
+    by-edf : (b : Bool) (why : Denied) → (if b then Err (status.NotAdmitted why) else Ok p) ≡ Ok q → b ≡ false
+    by-edf true why e = absurd (true≢false (sym (ap is_given e)))
+    by-edf false why e = refl
+
+    by-rm : (o : Option ℕ) → admission_from p o ≡ Ok q → o ≡ None
+    by-rm None e = refl
+    by-rm (Some i) e = absurd (true≢false (sym (ap is_given e)))
+
+    by : (sch : Scheduler) → admission_by sch p ≡ Ok q → PassesTest sch p
+    by Edf e = ltb-false (top_speed p * hyper p) (total_rate p)
+        (by-edf (nat_lt (top_speed p * hyper p) (total_rate p)) (denied.Edf (total_rate p) (top_speed p * hyper p)) e)
+    by Rm e = none-overloaded p (by-rm (first_overloaded p) e)
+
+-- a plan is denied by the two numbers of its scheduler's test, which fails by them
+is-denial : (p : Plan) (why : Denied) → admission p ≡ Err (status.NotAdmitted why) → IsDenial p why
+is-denial p why e = by p.scheduler refl e
+  where
+    why-of : {A : Type 0} → Result A Status → Denied
+    why-of (Err (status.NotAdmitted d)) = d
+    why-of r = why
+
+    by-edf : (b : Bool) (d : Denied) → (if b then Err (status.NotAdmitted d) else Ok p) ≡ Err (status.NotAdmitted why)
+        → (b ≡ true) × (d ≡ why)
+    by-edf true d e = (refl, ap why-of e)
+    by-edf false d e = absurd (true≢false (ap is_given e))
+
+    by-rm : (o : Option ℕ) → p.scheduler ≡ Rm → first_overloaded p ≡ o
+        → admission_from p o ≡ Err (status.NotAdmitted why) → IsDenial p why
+    by-rm None rm found e = absurd (true≢false (ap is_given e))
+    by-rm (Some i) rm found e = subst (IsDenial p) (ap why-of e) (rm, first-overloaded p i found, refl, refl)
+
+    by : (sch : Scheduler) → p.scheduler ≡ sch → admission_by sch p ≡ Err (status.NotAdmitted why) → IsDenial p why
+    by Edf edf e =
+        let both = by-edf (nat_lt (top_speed p * hyper p) (total_rate p)) (denied.Edf (total_rate p) (top_speed p * hyper p)) e in
+        subst (IsDenial p) both.1 (edf, refl, refl, ltb-true (top_speed p * hyper p) (total_rate p) both.0)
+    by Rm rm e = by-rm (first_overloaded p) rm refl e
+
+-- a plan that is denied fails its test, by the test's two numbers
 pub denied-plan : (p : Plan) (why : Denied) → admission p ≡ Err (status.NotAdmitted why) → DeniedPlan p why
 denied-plan p why e = record {
   numbers = e;
+  by = is-denial p why e;
   fails = λ h. true≢false (ap is_given (sym (passes-admission p.scheduler p h) ∙ e));
 }

@@ -5,7 +5,7 @@ use Rattle.dvs_base.specs.declared.kind.Scheduler.TheVariants.{Edf, Rm}
 use Rattle.dvs_base.specs.declared.kind.GovernorKind.{GovernorKind}
 use Rattle.dvs_base.specs.declared.kind.GovernorKind.TheVariants.{Plain, Fixed, Cycle, Ahead}
 use Rattle.dvs_base.specs.declared.kind.Version.{Version}
-use Rattle.dvs_base.specs.Pairs.{is_pair}
+use Rattle.dvs_base.specs.PlanWords.{is_pair}
 use Rattle.demand_list.specs.Demands.{DemandsOf}
 use Rattle.sched_model.specs.Plan.{Plan}
 use Rattle.governor.specs.Meanings.{Serving, OwnDemand, Condition, EntryCondition}
@@ -21,8 +21,8 @@ use Rattle.look_ahead_laws.proofs.AheadLaws.{ahead_laws}
 use Rattle.look_ahead_laws.proofs.Publishing.{ahead_publishing}
 use Rattle.event_kernel.specs.Runs.{Run}
 use Rattle.event_kernel.proofs.Meeting.{run-met}
-use Rattle.rtdvs_top.specs.Asked.{IsReadyRun}
-use Rattle.rtdvs_top.specs.Ending.{HasMet}
+use Rattle.rtdvs_top.specs.Prepared.{IsReadyRun}
+use Rattle.rtdvs_top.specs.Run.{HasMet}
 use Rattle.rtdvs_top.proofs.Published.{met-published}
 
 module _ (v : Version) (p : Plan) (d : DemandsOf) (ticks : ℕ) where

@@ -7,6 +7,7 @@ use Rattle.dvs_base.specs.declared.kind.Version.{Version}
 use Rattle.dvs_base.specs.declared.kind.Version.TheVariants.{Two}
 use Rattle.dvs_base.specs.declared.limits.TheConstants.{LONGEST_TRACE}
 use Rattle.dvs_base.specs.declared.note.Note.{Note}
+use Rattle.dvs_base.specs.Parts.{name_of}
 use Rattle.grid_fraction.specs.Numbers.{list_below}
 use Rattle.task_model.specs.declared.task.Task.{Task}
 use Rattle.task_model.specs.Tasks.{task_at, IsTask}
@@ -15,11 +16,10 @@ use Rattle.freq_table.specs.Tables.{Table}
 use Rattle.sched_model.specs.Plan.{Plan, plan_of, names}
 use Rattle.sched_model.specs.Admission.{IsAdmitted}
 use Rattle.sched_model.specs.Demand.{published}
-use Rattle.sched_model.specs.Demands.{demand_of}
+use Rattle.sched_model.specs.Jobs.{demand_of}
 use Rattle.sched_model.specs.Totals.{totals_of}
 use Rattle.done_lines.specs.RunText.{task_texts}
-use Rattle.trace_text.specs.TraceLines.{name_of}
-use Rattle.trace_reader.specs.VersionLines.{task_text}
+use Rattle.trace_reader.specs.TraceText.{task_text}
 use Rattle.trace_reader.specs.declared.trace.TraceFault.{TraceFault}
 use Rattle.trace_reader.specs.Traces.{TraceOf, IsTrace, IsTextOf, text_of}
 use Rattle.trace_reader.proofs.LineTexts.{AreNames}
@@ -35,11 +35,11 @@ use Rattle.replay.proofs.Comparing.{ended-once}
 use Rattle.replay.proofs.Exact.{some-replayed, is-replayed}
 use Rattle.replay.proofs.Texts.{names-distinct}
 use Rattle.words.specs.Commands.{TracedOf, CommandOf, traced}
-use Rattle.rtdvs_top.specs.Answer.{longest, bytes_from, bytes_at, tasks_at, machine_at, admission}
-use Rattle.rtdvs_top.specs.ReplayAnswer.{task_line, lines_of_tasks, trace_from, trace_of, trace_at, traced_of, totals_at, printed, answer_of_traced, trace_answer}
-use Rattle.rtdvs_top.specs.Exactness.{IsScheduleText, AreFilesOf, TellsOwn, IsDoneUnless, OfTrace}
+use Rattle.rtdvs_top.specs.Meanings.{longest, bytes_from, bytes_at, tasks_at, machine_at}
+use Rattle.rtdvs_top.specs.Admit.{admission}
+use Rattle.rtdvs_top.specs.Trace.{task_line, lines_of_tasks, trace_from, trace_of, trace_at, traced_of, totals_at, printed, answer_of_traced, trace_answer, IsScheduleText, AreFilesOf, TellsOwn, IsDoneUnless, OfTrace}
 use Rattle.rtdvs_top.specs.Promises.{IsAnswer, Answers}
-use Rattle.rtdvs_top.specs.Ending.{MetIn}
+use Rattle.rtdvs_top.specs.Prepared.{MetIn}
 use Rattle.rtdvs_top.specs.declared.status.FileKind.{FileKind}
 use Rattle.rtdvs_top.specs.declared.status.FileKind.TheVariants as file
 use Rattle.rtdvs_top.specs.declared.status.Status.{Status}

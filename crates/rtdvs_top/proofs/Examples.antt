@@ -8,9 +8,9 @@ use Rattle.task_model.specs.declared.task.Task.{Task}
 use Rattle.trace_text.specs.TraceLines.{note_text}
 use Rattle.freq_table.specs.Tables.{Table}
 use Rattle.words.specs.Commands.{ConstrainOf}
-use Rattle.rtdvs_top.specs.Answer.{tasks_at, machine_at}
-use Rattle.rtdvs_top.specs.ConstrainAnswer.{deadlines_at, constrain_answer}
-use Rattle.rtdvs_top.specs.Refusals.{status_text}
+use Rattle.rtdvs_top.specs.Meanings.{tasks_at, machine_at}
+use Rattle.rtdvs_top.specs.Constrain.{deadlines_at, constrain_answer}
+use Rattle.rtdvs_top.specs.Status.{status_text}
 use Rattle.rtdvs_top.specs.declared.status.Status.{Status}
 use Rattle.rtdvs_top.specs.declared.status.Status.TheVariants.{NotAdmitted, Differs}
 use Rattle.rtdvs_top.specs.declared.status.Denied.TheVariants.{Offset}

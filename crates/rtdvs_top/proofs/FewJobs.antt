@@ -8,7 +8,7 @@ use Rattle.grid_fraction.specs.Numbers.{sum_below, ceil_div}
 use Rattle.workload.specs.Draws.{first_state}
 use Rattle.workload.specs.Workload.{made_task, made_machine}
 use Rattle.workload.proofs.MadeTasks.{few-released}
-use Rattle.rtdvs_top.specs.WorkloadLines.{workload_plan}
+use Rattle.rtdvs_top.specs.Generated.{workload_plan}
 
 pub few-jobs : (seed n ticks : ℕ) → 1 ≤ n → n ≤ 64 → released_jobs (workload_plan seed n) ticks ≤ n * (ticks / 20 + 1)
 few-jobs seed n ticks some few =

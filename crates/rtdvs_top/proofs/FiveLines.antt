@@ -1,9 +1,9 @@
 -- Lines put two by two are the lines of a generated workload.
 use Rattle.std.proofs.Common.{◌≡◌, ℕ, List, [], ◌++◌, ap, refl, sym, ◌∙◌, append-nil, append_assoc}
 use Rattle.dvs_base.specs.declared.kind.GovernorKind.TheVariants.{Plain, Fixed, Cycle, Ahead}
-use Rattle.rtdvs_top.specs.WorkloadLines.{head_text, totals_text, workload_plan, workload_demands, workload_text}
-use Rattle.rtdvs_top.specs.EdfRuns.{AreEdfTotals, edf_text}
-use Rattle.rtdvs_top.specs.declared.made_runs.EdfTotals.{EdfTotals}
+use Rattle.rtdvs_top.specs.Generated.{head_text, totals_text, workload_plan, workload_demands, workload_text}
+use Rattle.rtdvs_top.specs.Prepared.{AreEdfTotals, edf_text}
+use Rattle.rtdvs_top.specs.declared.generated.EdfTotals.{EdfTotals}
 
 four-lines : (a b c d : List ℕ) → (a ++ b) ++ (c ++ d) ≡ a ++ (b ++ (c ++ (d ++ [])))
 four-lines a b c d = append_assoc a b (c ++ d) ∙ ap (λ (x : List ℕ). a ++ (b ++ (c ++ x))) (sym (append-nil d))

@@ -7,17 +7,16 @@ use Rattle.task_model.specs.declared.task.Task.{Task}
 use Rattle.freq_table.specs.Tables.{Table}
 use Rattle.demand_list.specs.Demands.{DemandsOf}
 use Rattle.sched_model.specs.Plan.{Plan, plan_of}
-use Rattle.sched_model.specs.Demands.{demand_of}
+use Rattle.sched_model.specs.Jobs.{demand_of, released_jobs}
 use Rattle.done_lines.specs.RunText.{run_text_in}
-use Rattle.sched_model.specs.Jobs.{released_jobs}
 use Rattle.dvs_base.specs.declared.limits.TheConstants.{MOST_JOBS}
 use Rattle.words.specs.declared.command.WordFault.{WordFault}
 use Rattle.words.specs.Commands.{RunOf, CommandOf, run, response}
-use Rattle.rtdvs_top.specs.Answer.{tasks_at, machine_at, demands_at, admission, within_jobs, prepared_of, answer_of_prepared, run_after_tasks}
-use Rattle.rtdvs_top.specs.CommandAnswer.{answer_of_command}
-use Rattle.rtdvs_top.specs.Promises.{Means, DoneRun, DeniedPlan, OfRun, OfTests, RunsOrIsDenied, Answers, Headline}
-use Rattle.rtdvs_top.specs.Asked.{IsReadyRun}
-use Rattle.rtdvs_top.specs.Ending.{EndsAs, MetIn, run_with}
+use Rattle.rtdvs_top.specs.Meanings.{tasks_at, machine_at, demands_at}
+use Rattle.rtdvs_top.specs.Admit.{admission}
+use Rattle.rtdvs_top.specs.Run.{within_jobs, prepared_of, answer_of_prepared, run_after_tasks, run_with}
+use Rattle.rtdvs_top.specs.Promises.{answer_of_command, MeansRun, DoneRun, DeniedPlan, OfRun, OfTests, RunsOrIsDenied, Answers, Headline}
+use Rattle.rtdvs_top.specs.Prepared.{IsReadyRun, EndsAs, MetIn}
 use Rattle.rtdvs_top.specs.declared.status.Denied.{Denied}
 use Rattle.rtdvs_top.specs.declared.status.Status.{Status}
 use Rattle.rtdvs_top.specs.declared.status.Status.TheVariants as status
@@ -28,7 +27,7 @@ use Rattle.rtdvs_top.proofs.Denying.{status_of, is_given, given-once, within-few
 -- what the files of a run that was prepared mean
 prepared-means : (r : RunOf) (files : Files) (tasks : List Task) (p : Plan) (d : DemandsOf)
     → tasks_at r.tasks files ≡ Ok tasks → prepared_of r tasks files ≡ Ok (p, d)
-    → (machine : Table) × (demands : DemandsOf) × Means r files tasks machine demands × (p ≡ plan_of tasks machine r.scheduler) × (d ≡ demands)
+    → (machine : Table) × (demands : DemandsOf) × MeansRun r files tasks machine demands × (p ≡ plan_of tasks machine r.scheduler) × (d ≡ demands)
 prepared-means r files tasks p d t e =
     let m = given-both (machine_at r.machine files) (λ machine. and_then (demands_at tasks r.demands files)
     (λ demands. and_then (admission (plan_of tasks machine r.scheduler)) (λ q. Ok (q, demands)))) (p, d) e in
@@ -48,7 +47,8 @@ prepared-means r files tasks p d t e =
 -- what the files of a run that is denied mean
 denied-means : (r : RunOf) (files : Files) (why : Denied)
     → answer_of_command (run r) files ≡ Err (status.NotAdmitted why)
-    → (tasks : List Task) × (machine : Table) × (demands : DemandsOf) × Means r files tasks machine demands × DeniedPlan (plan_of tasks machine r.scheduler) why
+    → (tasks : List Task) × (machine : Table) × (demands : DemandsOf) × MeansRun r files tasks machine demands
+    × DeniedPlan (plan_of tasks machine r.scheduler) why
 denied-means r files why e =
     let t = denied-later (tasks_at r.tasks files) (λ tasks. run_after_tasks r tasks files) why (tasks_at-denies-not r.tasks files) e in
     let tasks : List Task = t.0 in
@@ -102,7 +102,7 @@ of-run (Some files) (run r) (status.NotAdmitted why) old new ends met = denied-m
 of-run files c s old new ends met = tt
 
 -- the answer of a run whose files mean these tasks, machine and demands, and which releases no more jobs than the limit
-module _ (r : RunOf) (files : Files) (tasks : List Task) (machine : Table) (demands : DemandsOf) (means : Means r files tasks machine demands)
+module _ (r : RunOf) (files : Files) (tasks : List Task) (machine : Table) (demands : DemandsOf) (means : MeansRun r files tasks machine demands)
     (few : released_jobs (plan_of tasks machine r.scheduler) r.ticks ≤ MOST_JOBS) where
   abbrev plan : Plan
   plan = plan_of tasks machine r.scheduler

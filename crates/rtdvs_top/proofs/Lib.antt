@@ -12,6 +12,7 @@ pub mod Picks
 pub mod Denying
 pub mod Responses
 pub mod Headlines
+pub mod InOrder
 pub mod Answering
 pub mod Shows
 pub mod FewJobs
@@ -21,4 +22,6 @@ pub mod Migrating
 pub mod Exactness
 pub mod Pollings
 pub mod Bounding
+pub mod Admitting
 pub mod Examples
+pub mod Meeting

@@ -7,8 +7,8 @@ use Rattle.dvs_base.specs.Outside.{Files, LoadsFrom, file_of}
 use Rattle.rtdvs_top.specs.declared.status.FileKind.{FileKind}
 use Rattle.rtdvs_top.specs.declared.status.TextFault.TheVariants as text
 use Rattle.rtdvs_top.specs.declared.status.Status.TheVariants as status
-use Rattle.rtdvs_top.specs.Answer.{longest, bytes_from, bytes_at}
-use Rattle.rtdvs_top.specs.Causes.{Gives, Refuses}
+use Rattle.rtdvs_top.specs.Meanings.{longest, bytes_from, bytes_at, Gives}
+use Rattle.rtdvs_top.specs.Failing.{Refuses}
 
 whole_file : (f : Option (List ℕ)) (m : ℕ) (v : List ℕ) → option_map (take (m + 1)) f ≡ Some v → length v ≤ m
     → f ≡ Some v

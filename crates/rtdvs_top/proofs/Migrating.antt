@@ -8,9 +8,8 @@ use Rattle.dvs_base.specs.declared.note.Totals.{Totals}
 use Rattle.dvs_base.specs.declared.limits.TheConstants.{MOST_JOBS}
 use Rattle.demand_list.specs.Demands.{DemandsOf}
 use Rattle.sched_model.specs.Plan.{Plan, names}
-use Rattle.sched_model.specs.Jobs.{released_jobs}
+use Rattle.sched_model.specs.Jobs.{released_jobs, demand_of}
 use Rattle.sched_model.specs.Demand.{published}
-use Rattle.sched_model.specs.Demands.{demand_of}
 use Rattle.sched_model.specs.Admission.{IsWithinLimits}
 use Rattle.sched_model.specs.Text.{run_notes}
 use Rattle.done_lines.specs.RunText.{task_texts, run_text_in}
@@ -23,8 +22,8 @@ use Rattle.replay.specs.declared.fault.ReplayFault.{ReplayFault}
 use Rattle.replay.specs.declared.fault.ReplayFault.TheVariants as replay_fault
 use Rattle.replay.proofs.Comparing.{ended-once}
 use Rattle.replay.proofs.Exact.{Passes, replayed-passes}
-use Rattle.rtdvs_top.specs.Answer.{answer_of_plan}
-use Rattle.rtdvs_top.specs.ReplayAnswer.{totals_from, totals_at, migrated_text}
+use Rattle.rtdvs_top.specs.Run.{answer_of_plan}
+use Rattle.rtdvs_top.specs.Trace.{totals_from, totals_at, migrated_text}
 use Rattle.rtdvs_top.proofs.Denying.{within-few}
 
 -- a replay that has totals is done

@@ -6,7 +6,7 @@ use Rattle.dvs_base.specs.declared.note.Note.{Note}
 use Rattle.grid_fraction.specs.declared.Frac.{Frac}
 use Rattle.sched_model.specs.Plan.{Plan}
 use Rattle.sched_model.specs.States.{StateOf}
-use Rattle.sched_model.specs.Demands.{IsWithin}
+use Rattle.sched_model.specs.Jobs.{IsWithin}
 use Rattle.governor.specs.Schedule.{Publishes}
 use Rattle.poll_server.specs.Serving.{ServerOf, polled_demand}
 use Rattle.poll_server.specs.Outcomes.{ServedOf}
@@ -14,9 +14,8 @@ use Rattle.poll_server.specs.Bound.{HaveJobs, KeepsBound}
 use Rattle.poll_server.specs.Polled.{IsPolled, polled_notes}
 use Rattle.poll_server.specs.EachOutcome.{served_by, served_of}
 use Rattle.words.specs.Commands.{CommandOf, poll}
-use Rattle.rtdvs_top.specs.PollAnswer.{polling_notes, polling_served}
-use Rattle.rtdvs_top.specs.PollCauses.{HasServed}
-use Rattle.rtdvs_top.specs.Ending.{MetIn}
+use Rattle.rtdvs_top.specs.Poll.{polling_notes, polling_served, HasServed}
+use Rattle.rtdvs_top.specs.Prepared.{MetIn}
 use Rattle.rtdvs_top.specs.Promises.{OfPoll}
 use Rattle.rtdvs_top.specs.declared.status.Status.{Status}
 use Rattle.rtdvs_top.specs.declared.status.Status.TheVariants as status

@@ -4,7 +4,7 @@ use Rattle.std.proofs.lemmas.List.{take_all, length-map}
 use Rattle.dvs_base.specs.Outside.{SinkView}
 use Rattle.probes.specs.Tallies.{ProbeOf}
 use Rattle.dvs_base.specs.WritesText.{Wrote, WroteSome}
-use Rattle.rtdvs_top.specs.ProbeLines.{NotedAs, probe_text, probe_lines}
+use Rattle.rtdvs_top.specs.Status.{NotedAs, probe_text, probe_lines}
 use Rattle.rtdvs_top.proofs.NumberedPuts as puts
 
 module _ {X : Type 0} (names : List (List ℕ)) (f : X → ProbeOf) (d : X) where

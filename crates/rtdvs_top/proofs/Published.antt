@@ -13,25 +13,23 @@ use Rattle.sched_model.specs.Notes.{notes_of}
 use Rattle.sched_model.specs.Text.{run_notes}
 use Rattle.done_lines.proofs.DoneText.{text-tells}
 use Rattle.sched_model.specs.Schedule.{schedule_by}
-use Rattle.sched_model.specs.Deadlines.{IsMet}
+use Rattle.sched_model.specs.Ticks.{IsMet, Tick}
 use Rattle.sched_model.specs.Admission.{IsAdmitted}
 use Rattle.sched_model.specs.Decision.{is_decision}
 use Rattle.freq_table.specs.Tables.{lowest_pick}
-use Rattle.sched_model.specs.Jobs.{released_jobs}
+use Rattle.sched_model.specs.Jobs.{released_jobs, demand_of, IsWithin}
 use Rattle.event_kernel.specs.Runs.{Run, IsListOf, notes_of_run}
 use Rattle.event_kernel.specs.Meeting.{IsMetRun}
 use Rattle.event_kernel.specs.Lines.{LineOf, trace_lines, WroteLines, StoppedIn}
 use Rattle.event_kernel.proofs.Demanding.{demand-within}
-use Rattle.sched_model.specs.Ticks.{Tick}
 use Rattle.sched_model.specs.States.{StateOf}
 use Rattle.sched_model.specs.Demand.{published}
-use Rattle.sched_model.specs.Demands.{demand_of, IsWithin}
 use Rattle.sched_model.proofs.ScheduleLemmas.{schedule_exists, schedule_unique}
 use Rattle.sched_model.specs.Totals.{totals_of}
 use Rattle.governor.specs.Schedule.{ask_of, Publishes}
-use Rattle.rtdvs_top.specs.WorkloadLines.{run_totals}
-use Rattle.rtdvs_top.specs.Answer.{answer_of_run}
-use Rattle.rtdvs_top.specs.Ending.{Ends, HasMet, text_under}
+use Rattle.rtdvs_top.specs.Generated.{run_totals}
+use Rattle.rtdvs_top.specs.Prepared.{answer_of_run, Ends}
+use Rattle.rtdvs_top.specs.Run.{HasMet, text_under}
 use Rattle.probes.specs.Tallies.{ProbeOf, told_notes}
 use Rattle.rtdvs_top.specs.declared.status.Status.TheVariants as status
 use Rattle.rtdvs_top.proofs.TraceTexts.{wrote-text, wrote-told, stopped-text}

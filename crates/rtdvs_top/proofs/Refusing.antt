@@ -14,8 +14,8 @@ use Rattle.demand_list.specs.DemandFile.{demand_file}
 use Rattle.rtdvs_top.specs.declared.status.FileKind.TheVariants as file
 use Rattle.rtdvs_top.specs.declared.status.Status.{Status}
 use Rattle.rtdvs_top.specs.declared.status.Status.TheVariants as status
-use Rattle.rtdvs_top.specs.Answer.{bytes_at, tasks_at, machine_at, demands_at, task_status, machine_status, demand_status}
-use Rattle.rtdvs_top.specs.Causes.{Gives, Refuses, EndsWith, IsRefusal}
+use Rattle.rtdvs_top.specs.Meanings.{bytes_at, tasks_at, machine_at, demands_at, task_status, machine_status, demand_status, Gives}
+use Rattle.rtdvs_top.specs.Failing.{Refuses, EndsWith, IsRefusal}
 
 -- a step that ended with a status
 abbrev failed : Status → Result (List Task) Status

@@ -6,15 +6,12 @@ use Rattle.dvs_base.specs.declared.kind.Scheduler.TheVariants.{Rm}
 use Rattle.task_model.specs.declared.task.Task.{Task}
 use Rattle.freq_table.specs.Tables.{Table}
 use Rattle.sched_model.specs.Plan.{Plan, plan_of, count, period, offset}
-use Rattle.task_model.specs.Offsets.{first_offset}
+use Rattle.task_model.specs.Tasks.{first_offset}
 use Rattle.rm_response_laws.specs.Responses.{response as response_of}
-use Rattle.rm_response.specs.Late.{first_late}
-use Rattle.rm_response.specs.Denials.{answer_from, exact_answer}
+use Rattle.rm_response.specs.Denials.{first_late, answer_from, exact_answer}
 use Rattle.words.specs.Commands.{ResponseOf, response}
-use Rattle.rtdvs_top.specs.CommandAnswer.{answer_of_command}
-use Rattle.rtdvs_top.specs.ResponseAnswer.{responses_from, responses_text}
-use Rattle.rtdvs_top.specs.Responding.{Responds, FailsToRespond, MeansPlan, OfTest, RespondsOrIsDenied}
-use Rattle.rtdvs_top.specs.Promises.{Answers}
+use Rattle.rtdvs_top.specs.Promises.{answer_of_command, Answers}
+use Rattle.rtdvs_top.specs.Response.{responses_from, responses_text, Responds, FailsToRespond, MeansPlan, OfTest, RespondsOrIsDenied}
 use Rattle.rtdvs_top.specs.declared.status.Denied.{Denied}
 use Rattle.rtdvs_top.specs.declared.status.Status.{Status}
 use Rattle.rtdvs_top.specs.declared.status.Status.TheVariants as status

@@ -12,8 +12,8 @@ use Rattle.demand_list.specs.DemandFile.{row_of, no_earlier, with_checked, deman
 use Rattle.demand_list.specs.declared.fault.Column.TheVariants as column
 use Rattle.demand_list.specs.declared.fault.DemandFault.{DemandFault}
 use Rattle.demand_list.specs.declared.fault.DemandFault.TheVariants as fault
-use Rattle.rtdvs_top.specs.Answer.{demand_status}
-use Rattle.rtdvs_top.specs.Shown.{IsShown}
+use Rattle.rtdvs_top.specs.Meanings.{demand_status}
+use Rattle.rtdvs_top.specs.Status.{IsShown}
 
 -- the numbers of a refusal over the worst case show that the units are over it
 abbrev IsShownFault : DemandFault → Type 0

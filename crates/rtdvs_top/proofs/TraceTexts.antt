@@ -3,7 +3,7 @@ use Rattle.std.proofs.Common.{◌≡◌, ℕ, zero, suc, ◌+◌, List, [], ◌�
 use Rattle.std.specs.Prelude.{sum_by}
 use Rattle.std.proofs.lemmas.List.{length-map}
 use Rattle.grid_fraction.specs.Numbers.{list_below}
-use Rattle.dvs_base.specs.Parts.{joined}
+use Rattle.dvs_base.specs.Parts.{joined, name_of}
 use Rattle.dvs_base.specs.Outside.{SinkView}
 use Rattle.dvs_base.specs.declared.kind.Version.{Version}
 use Rattle.dvs_base.specs.declared.kind.Version.TheVariants.{One, Two}
@@ -11,9 +11,8 @@ use Rattle.dvs_base.specs.declared.kind.GovernorKind.{GovernorKind}
 use Rattle.dvs_base.specs.declared.note.Note.{Note}
 use Rattle.dvs_base.specs.declared.note.Note.TheVariants.{Run, End}
 use Rattle.dvs_base.proofs.Parting.{joined-append}
-use Rattle.trace_text.specs.TraceLines.{name_of, note_text, plan_text}
-use Rattle.trace_reader.specs.VersionLines.{version_line, task_text, share_text}
-use Rattle.trace_reader.specs.TraceText.{run_energy_of, shares_from, told_text, whole_text}
+use Rattle.trace_text.specs.TraceLines.{note_text, plan_text}
+use Rattle.trace_reader.specs.TraceText.{version_line, task_text, share_text, run_energy_of, shares_from, told_text, whole_text}
 use Rattle.task_model.specs.declared.task.Task.{Task}
 use Rattle.energy.specs.Books.{energy_of_task as task_energy}
 use Rattle.sched_model.specs.Plan.{Plan, count, names, task, period, offset}

@@ -1,6 +1,6 @@
 -- What a run tells the probes that it is given.
-use Rattle.std.specs.Prelude.{◌≡◌, ℕ, Bool, true, false, List, Option, ⊤}
-use Rattle.dvs_base.specs.Outside.{Files, SinkView}
+use Rattle.std.specs.Prelude.{Bool, false, ◌≡◌, ℕ, List, ⊤, true, Option}
+use Rattle.dvs_base.specs.Outside.{SinkView, Files}
 use Rattle.dvs_base.specs.declared.kind.Version.{Version}
 use Rattle.dvs_base.specs.declared.kind.GovernorKind.{GovernorKind}
 use Rattle.dvs_base.specs.declared.note.Note.{Note}
@@ -11,23 +11,16 @@ use Rattle.sched_model.specs.Text.{run_notes}
 use Rattle.event_kernel.specs.Runs.{Run}
 use Rattle.event_kernel.specs.Lines.{StoppedIn, trace_lines}
 use Rattle.probes.specs.Tallies.{ProbeOf, told_notes}
-use Rattle.words.specs.Commands.{RunOf, CommandOf, run, admit, traced, workload, response, constrain, poll, least}
-use Rattle.rtdvs_top.specs.Answer.{prepared_of, tasks_at}
-use Rattle.rtdvs_top.specs.Causes.{Gives}
-use Rattle.rtdvs_top.specs.Ending.{Leaves, job_demands, run_with}
+use Rattle.words.specs.Commands.{CommandOf, run, RunOf}
 use Rattle.rtdvs_top.specs.declared.status.Status.{Status}
 use Rattle.rtdvs_top.specs.declared.status.Status.TheVariants as status
+use Rattle.rtdvs_top.specs.Run.{job_demands, Leaves, prepared_of, run_with}
+use Rattle.rtdvs_top.specs.Meanings.{Gives, tasks_at}
 
 -- whether a command asks for probes
 abbrev pub asks_probes : CommandOf → Bool
 asks_probes (run r) = r.probes
-asks_probes (admit a) = false
-asks_probes (traced r) = false
-asks_probes (workload seed) = false
-asks_probes (response r) = false
-asks_probes (constrain r) = false
-asks_probes (poll q) = false
-asks_probes (least l) = false
+asks_probes c = false
 
 -- Probes under a run of these notes. Where it is done they were told the notes, one by one. Where a write failed they
 -- were told those of the lines before the one that was put.

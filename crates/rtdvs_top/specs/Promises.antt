@@ -1,42 +1,128 @@
--- What the top call promises, clause by clause. The command is what the words are, or why they are refused.
-use Rattle.std.specs.Prelude.{◌≡◌, ◌≢◌, ◌⊎◌, ℕ, ◌≤◌, Bool, false, List, [], length, map, string_bytes, String, Option, Some, None, Result, Ok, Err, IsOk, ⊤}
-use Rattle.std.specs.Io.KnownBytes.{Appends}
-use Rattle.std.specs.declared.alloc.Global.{Global}
-use Rattle.dvs_base.specs.Outside.{Files, ShelfView, SinkView, Rose}
-use Rattle.dvs_base.specs.WritesText.{Wrote, WroteSome}
-use Rattle.dvs_base.specs.declared.kind.GovernorKind.{GovernorKind}
-use Rattle.dvs_base.specs.declared.kind.Version.{Version}
-use Rattle.dvs_base.specs.declared.kind.Scheduler.TheVariants.{Rm}
-use Rattle.task_model.specs.declared.task.Task.{Task}
-use Rattle.demand_list.specs.Demands.{DemandsOf}
-use Rattle.freq_table.specs.Tables.{Table}
-use Rattle.sched_model.specs.Plan.{Plan, plan_of}
+-- What the top call promises, clause by clause.
+use Rattle.std.specs.Prelude.{Result, Ok, ◌≡◌, ⊤, Option, Some, ℕ, List, map, string_bytes, String, [], Err, ◌⊎◌, IsOk, None, ◌≤◌, length, ◌*◌, ◌<◌, ◌≢◌, Bool, false}
+use Rattle.dvs_base.specs.Checks.{and_then}
+use Rattle.dvs_base.specs.Outside.{Files, SinkView, ShelfView, Rose}
+use Rattle.sched_model.specs.Plan.{Plan, plan_of, period, hyper, top_speed}
 use Rattle.sched_model.specs.Admission.{PassesTest}
-use Rattle.sched_model.specs.Jobs.{released_jobs}
-use Rattle.event_kernel.specs.Runs.{Run}
-use Rattle.dvs_base.specs.declared.limits.TheConstants.{MOST_JOBS}
-use Rattle.words.specs.Commands.{RunOf, CommandOf, run, response, poll, least}
-use Rattle.words.specs.Reading.{command_of}
+use Rattle.words.specs.Commands.{RunOf, AdmitOf, TracedOf, PollOf, CommandOf, run, admit, traced, poll, workload, response, constrain, least}
 use Rattle.words.specs.declared.command.WordFault.{WordFault}
-use Rattle.rtdvs_top.specs.CommandAnswer.{answer_of_command}
-use Rattle.rtdvs_top.specs.LeastAnswer.{least_text, IsLeastOn, AreTooMany}
-use Rattle.energy_bound.specs.declared.least.Least.{Least}
-use Rattle.rtdvs_top.specs.Answer.{prepared_of, admission, tasks_at, machine_at, demands_at}
-use Rattle.rtdvs_top.specs.Naming.{names_by}
-use Rattle.rtdvs_top.specs.Refusals.{status_text}
-use Rattle.rtdvs_top.specs.Causes.{LoadOf, PassesBefore, files_for, loads_of, loads_needed}
-use Rattle.rtdvs_top.specs.Ending.{HasMet, run_with, text_under}
-use Rattle.rtdvs_top.specs.Responding.{MeansPlan, RespondsOrIsDenied}
-use Rattle.rtdvs_top.specs.Testing.{TestedIn}
-use Rattle.rtdvs_top.specs.ProbeLines.{NotedAs, noted_text}
-use Rattle.rtdvs_top.specs.Probing.{asks_probes, ToldIn}
-use Rattle.probes.specs.Tallies.{ProbeOf}
-use Rattle.poll_server.specs.Serving.{ServerOf}
-use Rattle.rtdvs_top.specs.PollAnswer.{polling_of}
-use Rattle.rtdvs_top.specs.PollCauses.{HasServed}
 use Rattle.rtdvs_top.specs.declared.status.Denied.{Denied}
 use Rattle.rtdvs_top.specs.declared.status.Status.{Status}
 use Rattle.rtdvs_top.specs.declared.status.Status.TheVariants as status
+use Rattle.std.specs.Io.KnownBytes.{Appends}
+use Rattle.std.specs.declared.alloc.Global.{Global}
+use Rattle.dvs_base.specs.WritesText.{Wrote, WroteSome}
+use Rattle.dvs_base.specs.declared.kind.GovernorKind.{GovernorKind}
+use Rattle.dvs_base.specs.declared.kind.Version.{Version}
+use Rattle.dvs_base.specs.declared.kind.Scheduler.TheVariants.{Edf, Rm}
+use Rattle.task_model.specs.declared.task.Task.{Task}
+use Rattle.demand_list.specs.Demands.{DemandsOf}
+use Rattle.freq_table.specs.Tables.{Table}
+use Rattle.sched_model.specs.Tests.{total_rate, level_work}
+use Rattle.sched_model.specs.Jobs.{released_jobs}
+use Rattle.rm_admit.specs.Denials.{IsFirstOverloaded}
+use Rattle.event_kernel.specs.Runs.{Run}
+use Rattle.dvs_base.specs.declared.limits.TheConstants.{MOST_JOBS}
+use Rattle.words.specs.Reading.{command_of}
+use Rattle.energy_bound.specs.declared.least.Least.{Least}
+use Rattle.probes.specs.Tallies.{ProbeOf}
+use Rattle.poll_server.specs.Serving.{ServerOf}
+use Rattle.rtdvs_top.specs.declared.status.Denied.TheVariants as denied
+use Rattle.rtdvs_top.specs.Probing.{asks_probes, ToldIn}
+use Rattle.rtdvs_top.specs.Meanings.{tasks_at, machine_at, demands_at}
+use Rattle.rtdvs_top.specs.Trace.{trace_at, trace_answer}
+use Rattle.rtdvs_top.specs.Poll.{server_at, requests_at, poll_answer, polling_of, HasServed}
+use Rattle.rtdvs_top.specs.Run.{run_answer, HasMet, text_under, prepared_of, run_with}
+use Rattle.rtdvs_top.specs.Admit.{admit_answer, admission}
+use Rattle.rtdvs_top.specs.Generated.{workload_answer}
+use Rattle.rtdvs_top.specs.Response.{response_answer, MeansPlan, RespondsOrIsDenied, OfTest}
+use Rattle.rtdvs_top.specs.Constrain.{constrain_answer, OfConstrain}
+use Rattle.rtdvs_top.specs.Least.{least_answer, least_text, IsLeastOn, AreTooMany}
+use Rattle.rtdvs_top.specs.Files.{files_for, LoadOf, PassesBefore, loads_of, loads_needed, names_by}
+use Rattle.rtdvs_top.specs.Status.{status_text, NotedAs, noted_text}
+
+-- the plan of `run`: the tasks and the machine of its files, whose demands are read too
+abbrev pub run_plan : RunOf → Files → Result Plan Status
+run_plan r files =
+    and_then (tasks_at r.tasks files) (λ tasks.
+    and_then (machine_at r.machine files) (λ machine.
+    and_then (demands_at tasks r.demands files) (λ demands.
+    Ok (plan_of tasks machine r.scheduler))))
+
+-- the plan of `admit`: the tasks and the machine of its files
+abbrev pub admit_plan : AdmitOf → Files → Result Plan Status
+admit_plan a files =
+    and_then (tasks_at a.tasks files) (λ tasks.
+    and_then (machine_at a.machine files) (λ machine.
+    Ok (plan_of tasks machine a.scheduler)))
+
+-- the plan of `replay` or `migrate`: the tasks and the machine of its files, and the scheduler that its trace names
+abbrev pub traced_plan : TracedOf → Files → Result Plan Status
+traced_plan r files =
+    and_then (tasks_at r.tasks files) (λ tasks.
+    and_then (machine_at r.machine files) (λ machine.
+    and_then (trace_at tasks r.trace files) (λ t.
+    Ok (plan_of tasks machine t.plan.scheduler))))
+
+-- the plan of `poll`: the tasks and the machine of its files, where a task has the server's name and the requests are
+-- read too
+abbrev pub poll_plan : PollOf → Files → Result Plan Status
+poll_plan q files =
+    and_then (tasks_at q.tasks files) (λ tasks.
+    and_then (server_at q.server tasks) (λ i.
+    and_then (machine_at q.machine files) (λ machine.
+    and_then (requests_at q.requests files) (λ requests.
+    Ok (plan_of tasks machine q.scheduler)))))
+
+-- there is a plan, and it passes its scheduler's test
+abbrev pub Passes : Result Plan Status → Type 0
+Passes plan = (p : Plan) × (plan ≡ Ok p) × PassesTest p.scheduler p
+
+-- A plan fails its scheduler's test by these two numbers: under EDF the work of a hyperperiod, and what the highest
+-- speed does in it; under RM those of the period of the first task in RM order that fails.
+abbrev pub IsDenial : Plan → Denied → Type 0
+IsDenial p (denied.Edf num cap) =
+    (p.scheduler ≡ Edf) × (num ≡ total_rate p) × (cap ≡ top_speed p * hyper p) × (cap < num)
+IsDenial p (denied.Rm i num cap) =
+    (p.scheduler ≡ Rm) × IsFirstOverloaded p i × (num ≡ level_work p i) × (cap ≡ top_speed p * period p i)
+IsDenial p why = ⊥
+
+-- what holds of a plan that is denied: its scheduler's test fails by these two numbers
+pub record DeniedPlan (p : Plan) (why : Denied) : Type 0 where
+  pub numbers : admission p ≡ Err (status.NotAdmitted why)
+  pub by : IsDenial p why
+  pub fails : PassesTest p.scheduler p → ⊥
+
+-- there is a plan, and it is denied
+abbrev pub Denies : Result Plan Status → Denied → Type 0
+Denies plan why = (p : Plan) × (plan ≡ Ok p) × DeniedPlan p why
+
+-- an answer is written, whole or in part, only where its plan passes the test, and denied only where its plan fails it
+abbrev pub AdmitsOrDenies : Result Plan Status → Status → Type 0
+AdmitsOrDenies plan status.Done = Passes plan
+AdmitsOrDenies plan status.Write = Passes plan
+AdmitsOrDenies plan (status.NotAdmitted why) = Denies plan why
+AdmitsOrDenies plan s = ⊤
+
+-- What the answer of `run`, `admit`, `replay`, `migrate` or `poll` shows of its scheduler's test, where its files are
+-- known.
+abbrev pub OfAdmission : Option Files → Result CommandOf WordFault → Status → Type 0
+OfAdmission (Some files) (Ok (run r)) s = AdmitsOrDenies (run_plan r files) s
+OfAdmission (Some files) (Ok (admit a)) s = AdmitsOrDenies (admit_plan a files) s
+OfAdmission (Some files) (Ok (traced r)) s = AdmitsOrDenies (traced_plan r files) s
+OfAdmission (Some files) (Ok (poll q)) s = AdmitsOrDenies (poll_plan q files) s
+OfAdmission files c s = ⊤
+
+-- the answer of a command
+abbrev pub answer_of_command : CommandOf → Files → Result (List ℕ) Status
+answer_of_command (run r) files = run_answer r files
+answer_of_command (admit a) files = admit_answer a files
+answer_of_command (traced r) files = trace_answer r files
+answer_of_command (workload seed) files = workload_answer seed
+answer_of_command (response r) files = response_answer r files
+answer_of_command (constrain r) files = constrain_answer r files
+answer_of_command (poll q) files = poll_answer q files
+answer_of_command (least l) files = least_answer l files
 
 -- the command that the words are, or why they are refused
 abbrev pub asked : List (String Global) → Result CommandOf WordFault
@@ -101,7 +187,7 @@ loads_wanted held (Ok c) = loads_needed held c
 loads_wanted held (Err why) = 0
 
 -- the files of a run mean these tasks, this machine and these demands
-pub record Means (r : RunOf) (files : Files) (tasks : List Task) (machine : Table) (demands : DemandsOf) : Type 0 where
+pub record MeansRun (r : RunOf) (files : Files) (tasks : List Task) (machine : Table) (demands : DemandsOf) : Type 0 where
   pub tasks_are : tasks_at r.tasks files ≡ Ok tasks
   pub machine_is : machine_at r.machine files ≡ Ok machine
   pub demands_are : demands_at tasks r.demands files ≡ Ok demands
@@ -111,22 +197,23 @@ pub record DoneRun (v : Version) (kind : GovernorKind) (r : Run) (old new : Sink
   pub text : Appends old.written new.written (text_under v kind r)
   pub run : HasMet v kind r
 
--- what holds of a plan that is denied: the two numbers are those of its scheduler's test, and the test fails
-pub record DeniedPlan (p : Plan) (why : Denied) : Type 0 where
-  pub numbers : admission p ≡ Err (status.NotAdmitted why)
-  pub fails : PassesTest p.scheduler p → ⊥
-
 -- The run, where its files are known, without a premise. A run that is done, or that is denied, is of the tasks, the
 -- machine and the demands that its files mean.
 abbrev pub OfRun : Option Files → Result CommandOf WordFault → SinkView → SinkView → Status → Type 0
 OfRun (Some files) (Ok (run r)) old new status.Done =
-    (tasks : List Task) × (machine : Table) × (demands : DemandsOf) × Means r files tasks machine demands
+    (tasks : List Task) × (machine : Table) × (demands : DemandsOf) × MeansRun r files tasks machine demands
     × (prepared_of r tasks files ≡ Ok (plan_of tasks machine r.scheduler, demands))
     × DoneRun r.version r.governor (run_with r (plan_of tasks machine r.scheduler) demands) old new
 OfRun (Some files) (Ok (run r)) old new (status.NotAdmitted why) =
-    (tasks : List Task) × (machine : Table) × (demands : DemandsOf) × Means r files tasks machine demands
+    (tasks : List Task) × (machine : Table) × (demands : DemandsOf) × MeansRun r files tasks machine demands
     × DeniedPlan (plan_of tasks machine r.scheduler) why
 OfRun files c old new s = ⊤
+
+-- what the test of a command proves, where it is one
+abbrev pub TestedIn : Option Files → CommandOf → Status → Type 0
+TestedIn files (response r) s = OfTest files r s
+TestedIn files (constrain r) s = OfConstrain files r s
+TestedIn files c s = ⊤
 
 -- what an exact test proves, where the command is one
 abbrev pub OfTests : Option Files → Result CommandOf WordFault → Status → Type 0
@@ -154,7 +241,7 @@ RunsOrIsDenied v kind r old new s =
 -- under RM is done where all tasks of its files have responses, and else it denies them.
 abbrev pub Headline : Option Files → Result CommandOf WordFault → Type 0 → SinkView → SinkView → Status → Type 0
 Headline (Some files) (Ok (run r)) loads_rose old new s =
-    (tasks : List Task) (machine : Table) (demands : DemandsOf) → Means r files tasks machine demands
+    (tasks : List Task) (machine : Table) (demands : DemandsOf) → MeansRun r files tasks machine demands
     → released_jobs (plan_of tasks machine r.scheduler) r.ticks ≤ MOST_JOBS
     → (loads_rose → ⊥) → (Rose old.faults new.faults → ⊥) → s ≢ status.NoMemory
     → RunsOrIsDenied r.version r.governor (run_with r (plan_of tasks machine r.scheduler) demands) old new s

@@ -1,8 +1,9 @@
 // The files that the words name: loaded, and read.
-ghost use Rattle.std.specs.Prelude.{◌≡◌, ◌<◌, ◌^◌, Some, map, option_map, IfOk, IfErr};
-ghost use Rattle.rtdvs_top.specs.Answer.{longest, bytes_at, tasks_at, machine_at, demands_at, task_status, machine_status, demand_status};
-ghost use Rattle.rtdvs_top.specs.Causes.{Gives, Refuses, MakesLoads, CountsStep, IsLoadOf, IsNamedLoadOf, IsOfFile, loads_named};
-ghost use Rattle.rtdvs_top.specs.Shown.{IsShown};
+ghost use Rattle.std.specs.Prelude.{◌≡◌, ◌<◌, ◌^◌, Some, length, map, option_map, IfOk, IfErr};
+ghost use Rattle.rtdvs_top.specs.Meanings.{longest, bytes_at, tasks_at, machine_at, demands_at, task_status, machine_status, demand_status, Gives};
+ghost use Rattle.rtdvs_top.specs.Failing.{Refuses, CountsStep, IsLoadOf, IsOfFile};
+ghost use Rattle.rtdvs_top.specs.Files.{MakesLoads, OfLoad, FailsAt, if_named};
+ghost use Rattle.rtdvs_top.specs.Status.{IsShown};
 
 use crate::{FileKind, Status, TextFault};
 use demand_list::{DemandFault, Demands, worst_list};
@@ -175,9 +176,9 @@ pub(crate) fn load_demands<S: Shelf>(
     ensures worsts { IfOk result (λ d. d.worsts ≡ map (λ t. t.worst) tasks.now) }
     ensures refused { IfErr result
         (Refuses (S.shows shelf.old).held (demands_at tasks.now (option_map (λ s. s.now) name.entry))) }
-    ensures explained { IfErr result (IsNamedLoadOf (S.shows shelf.old) (S.shows shelf.new) FileKind.Demands
-        (option_map (λ s. s.now) name.entry)) }
-    ensures loads { MakesLoads (loads_named (option_map (λ s. s.now) name.entry))
+    ensures explained { IfErr result (OfLoad (FailsAt (S.shows shelf.old) (S.shows shelf.new) 1
+        (if_named FileKind.Demands (option_map (λ s. s.now) name.entry)))) }
+    ensures loads { MakesLoads (length (if_named FileKind.Demands (option_map (λ s. s.now) name.entry)))
         (S.shows shelf.old) (S.shows shelf.new) }
     ensures counts { CountsStep (S.shows shelf.old).faults (S.shows shelf.new).faults result }
     ensures shown { IfErr result IsShown }

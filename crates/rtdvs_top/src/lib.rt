@@ -1,35 +1,27 @@
 //! All that the program does: the words are read, files loaded and read, a task set admitted, and its run written.
 //!
-//! Callers may rely on `rtdvs` to answer exactly what `specs/CommandAnswer.antt` says for the words and the files, to
+//! Callers may rely on `rtdvs` to answer exactly what `specs/Promises.antt` says for the words and the files, to
 //! give the cause of each refusal, and to meet every deadline of a run that it writes. That each put has one line is
 //! tested, not proved.
 #![tactic(auto)]
 
-mod admit_answer;
+mod admit;
 mod at_pair;
-mod command_words;
-mod constrain_answer;
-mod deadline_line;
+mod constrain;
 mod difference;
 mod files;
-mod least_answer;
-mod made_lines;
-mod made_runs;
-mod plan_words;
-mod poll_answer;
-mod polled;
+mod generated;
+mod least;
+mod poll;
+mod prepare;
 mod probe_line;
+mod put;
 mod refusal;
-mod request_line;
-mod response_answer;
+mod response;
 mod run;
-mod run_answer;
 mod status;
-mod too_many;
 mod top;
-mod trace_answer;
-mod traced;
-mod word_line;
+mod trace;
 
 pub use status::{Denied, FileKind, Status, TextFault};
 pub use top::rtdvs;

@@ -1,11 +1,9 @@
 // The lines of the probes that are left after a run.
-ghost use Rattle.std.specs.Prelude.{◌≡◌, ◌≤◌, ◌<◌, ◌+◌, length, map, take, slice_index};
+ghost use Rattle.std.specs.Prelude.{◌≡◌, ◌≤◌, ◌<◌, ◌+◌, length, map};
 ghost use Rattle.std.specs.Option.{option_copied};
 ghost use Rattle.dvs_base.specs.Parts.{part_text, most_bytes};
-ghost use Rattle.dvs_base.specs.WritesText.{Wrote};
-ghost use Rattle.probes.specs.Tallies.{ProbeOf};
-ghost use Rattle.rtdvs_top.specs.Naming.{names_of};
-ghost use Rattle.rtdvs_top.specs.ProbeLines.{NotedAs, what_word, probe_of, counted_text, probe_text, probe_lines};
+ghost use Rattle.task_model.specs.Tasks.{names_of};
+ghost use Rattle.rtdvs_top.specs.Status.{NotedAs, what_word, probe_of, counted_text, probe_text, probe_lines};
 
 use dvs_base::{Failed, Line, Part, Sink, line_of, put_line};
 use probes::{Probe, Rule, What};

@@ -1,91 +1,103 @@
-// Admission, and the run of an admitted plan.
-ghost use Rattle.std.specs.Prelude.{◌≡◌, ◌<◌, length, map, Ok, IfOk, IfErr};
-ghost use Rattle.sched_model.specs.Plan.{plan_of};
-ghost use Rattle.rtdvs_top.specs.Answer.{admission, answer_of_run, admitted_text};
-ghost use Rattle.rtdvs_top.specs.Asked.{planned, IsRunnable};
-ghost use Rattle.rtdvs_top.specs.Causes.{EndsWith, IsNoLoad};
-ghost use Rattle.rtdvs_top.specs.Ending.{Ends, Leaves};
-ghost use Rattle.rtdvs_top.specs.Probing.{IfAsked, LeavesProbes, RunTold};
-ghost use Rattle.rtdvs_top.specs.Shown.{IsShown};
-ghost use Rattle.dvs_base.specs.Pairs.{IsPair};
+// The run of an admitted plan, and what `run` prepares.
+ghost use Rattle.std.specs.Prelude.{map, IfOk, IfErr, ◌<◌, Ok};
+ghost use Rattle.words.specs.Commands.{IsReady, run as run_of};
+ghost use Rattle.words.specs.Shown.{shown_run};
+ghost use Rattle.rtdvs_top.specs.Prepared.{IsReadyRun, IsPrepared, IsRefused, answer_of_run, ready_run, IsRunnable, Ends, PutEnds};
+ghost use Rattle.rtdvs_top.specs.Run.{prepared_of, Leaves, run_with};
+ghost use Rattle.rtdvs_top.specs.Meanings.{Gives};
+ghost use Rattle.rtdvs_top.specs.Failing.{Refuses, CountsStep, FailsLater, loads_later};
+ghost use Rattle.rtdvs_top.specs.Files.{MakesLoads, loads_needed};
+ghost use Rattle.rtdvs_top.specs.Probing.{LeavesProbes, IfAsked, RunTold};
+ghost use Rattle.rtdvs_top.specs.Status.{IsShown};
+ghost use Rattle.dvs_base.specs.PlanWords.{IsPair};
 
+use crate::Status;
+use crate::admit::admit;
 use crate::at_pair::at_pair;
-use crate::{Denied, Status};
+use crate::files::{load_demands, load_machine, load_tasks};
+use crate::put::Prepared;
 use demand_list::Demands;
-use dvs_base::{
-    Failed, GovernorKind, Line, NoMemory, Part, Scheduler, Sink, Version, line_of, put_line,
-};
-use edf_admit::{EdfFault, edf_admit};
+use dvs_base::{GovernorKind, NoMemory, Shelf, Sink, Version};
 use event_kernel::{Kernel, KernelFault, WriteFault};
-use freq_table::Machine;
 use governor::Publishing;
 use probes::Probe;
-use rm_admit::{RmFault, rm_admit};
 use sched_model::Admitted;
 use std::alloc::Global;
 use task_model::TaskSet;
+use words::RunWords;
 
-fn admit_edf(alloc: Global, tasks: &TaskSet, machine: &Machine) -> Result<Admitted, Status>
-    ensures plan { IfOk result (λ p. admission (plan_of tasks.now machine.now Scheduler.Edf) ≡ Ok p) }
-    ensures denied { IfErr result (EndsWith (admission (plan_of tasks.now machine.now Scheduler.Edf))) }
-    ensures loads { IfErr result IsNoLoad }
-    ensures shown { IfErr result IsShown }
-{
-    match edf_admit(alloc, tasks, machine) {
-        Ok(plan) => Ok(plan),
-        Err(EdfFault::Denied { num, cap }) => Err(Status::NotAdmitted(Denied::Edf { num, cap })),
-        Err(EdfFault::NoMemory) => Err(Status::NoMemory),
-    }
-}
-
-fn admit_rm(alloc: Global, tasks: &TaskSet, machine: &Machine) -> Result<Admitted, Status>
-    ensures plan { IfOk result (λ p. admission (plan_of tasks.now machine.now Scheduler.Rm) ≡ Ok p) }
-    ensures denied { IfErr result (EndsWith (admission (plan_of tasks.now machine.now Scheduler.Rm))) }
-    ensures loads { IfErr result IsNoLoad }
-    ensures shown { IfErr result IsShown }
-{
-    match rm_admit(alloc, tasks, machine) {
-        Ok(plan) => Ok(plan),
-        Err(RmFault::Denied { task, num, cap }) => Err(Status::NotAdmitted(Denied::Rm {
-            task,
-            num,
-            cap,
-        })),
-        Err(RmFault::NoMemory) => Err(Status::NoMemory),
-    }
-}
-
-/// The plan, where its scheduler's test passes, else the denial.
-pub(crate) fn admit(
+// The admitted plan and the demands of `run`, after its tasks were read.
+fn load_planned<S: Shelf>(
     alloc: Global,
-    scheduler: Scheduler,
+    words: &RunWords<'_>,
     tasks: &TaskSet,
-    machine: &Machine,
-) -> Result<Admitted, Status>
-    ensures plan { IfOk result (λ p. admission (plan_of tasks.now machine.now scheduler) ≡ Ok p) }
-    ensures same { IfOk result (λ p. p ≡ plan_of tasks.now machine.now scheduler) }
-    ensures denied { IfErr result (EndsWith (admission (plan_of tasks.now machine.now scheduler))) }
-    ensures loads { IfErr result IsNoLoad }
+    shelf: &mut S,
+) -> Result<(Admitted, Demands), Status>
+    requires { IsReady (shown_run words.now) }
+    ensures read { IfOk result
+        (λ x. Gives (S.shows shelf.old).held (prepared_of (shown_run words.now) tasks.now) (x.0, x.1)) }
+    ensures ready { IfOk result (λ x. IsReadyRun words.now.governor
+        (run_with (shown_run words.now) x.0 x.1)) }
+    ensures refused { IfErr result
+        (Refuses (S.shows shelf.old).held (prepared_of (shown_run words.now) tasks.now)) }
+    ensures failed { IfErr result
+        (FailsLater (S.shows shelf.old) (S.shows shelf.new) (run_of (shown_run words.now))) }
+    ensures loads { MakesLoads (loads_later (S.shows shelf.old).held (run_of (shown_run words.now)))
+        (S.shows shelf.old) (S.shows shelf.new) }
+    ensures counts { CountsStep (S.shows shelf.old).faults (S.shows shelf.new).faults result }
     ensures shown { IfErr result IsShown }
 {
-    match scheduler {
-        Scheduler::Edf => admit_edf(alloc, tasks, machine),
-        Scheduler::Rm => admit_rm(alloc, tasks, machine),
+    let machine = load_machine(alloc, words.machine, shelf)?;
+    let demands = load_demands(alloc, words.demands, tasks, shelf)?;
+    let plan = admit(alloc, words.scheduler, tasks, &machine)?;
+    let _scheduler = plan.scheduler();
+    let _worsts = demands.worsts();
+    Ok((plan, demands))
+}
+
+/// What `run` prepares, and the tasks where they were read.
+pub(crate) fn prepare_run<S: Shelf>(
+    alloc: Global,
+    words: &RunWords<'_>,
+    shelf: &mut S,
+) -> (Result<Prepared, Status>, Option<TaskSet>)
+    requires { IsReady (shown_run words.now) }
+    ensures prepared { IfOk result.0
+        (IsPrepared (S.shows shelf.old).held (run_of (shown_run words.now)) result.1) }
+    ensures refused { IfErr result.0
+        (IsRefused (S.shows shelf.old) (S.shows shelf.new) (run_of (shown_run words.now)) result.1) }
+    ensures loads { MakesLoads (loads_needed (S.shows shelf.old).held (run_of (shown_run words.now)))
+        (S.shows shelf.old) (S.shows shelf.new) }
+    ensures counts { CountsStep (S.shows shelf.old).faults (S.shows shelf.new).faults result.0 }
+{
+    let tasks = match load_tasks(alloc, words.tasks, shelf) {
+        Ok(tasks) => tasks,
+        Err(status) => return (Err(status), None),
+    };
+    match load_planned(alloc, words, &tasks, shelf) {
+        Ok((plan, demands)) => {
+            let run = ReadyRun {
+                plan,
+                demands,
+                ticks: words.ticks,
+                governor: words.governor,
+                version: words.version,
+                probes: words.probes,
+            };
+            (Ok(Prepared::Run(run)), Some(tasks))
+        }
+        Err(status) => (Err(status), Some(tasks)),
     }
 }
 
-/// What is run: an admitted plan, the demands of its jobs, and a number of ticks.
-#[derive(Clone, Copy)]
-pub(crate) struct PlannedRun<'a> {
-    pub(crate) plan: &'a Admitted,
-    pub(crate) demands: &'a Demands,
+/// A run that is to be written: an admitted plan, the demands of its jobs, the number of ticks, the governor, the version
+/// of the text, and whether the probes are told its notes.
+#[derive(Drop)]
+pub(crate) struct ReadyRun {
+    pub(crate) plan: Admitted,
+    pub(crate) demands: Demands,
     pub(crate) ticks: u64,
-}
-
-/// A run that is to be written: the version of its text, and whether the probes are told its notes.
-#[derive(Clone, Copy)]
-pub(crate) struct WrittenRun<'a> {
-    pub(crate) run: PlannedRun<'a>,
+    pub(crate) governor: GovernorKind,
     pub(crate) version: Version,
     pub(crate) probes: bool,
 }
@@ -93,65 +105,63 @@ pub(crate) struct WrittenRun<'a> {
 // Writes the trace of a run under governor `G`.
 fn run_governed<G: Publishing, W: Sink, P: Probe>(
     alloc: Global,
-    written: &WrittenRun<'_>,
+    run: &ReadyRun,
     out: &mut W,
     probes: &mut Vec<P>,
 ) -> Status
-    requires run { IsRunnable (planned written.now.run) }
-    requires serves { G.serves written.now.run.plan.now.scheduler }
+    requires run { IsRunnable (ready_run run.now) }
+    requires serves { G.serves run.now.plan.scheduler }
     ensures ended { Ends (W.shows out.old) (W.shows out.new)
-        (answer_of_run written.now.version G.the_kind (planned written.now.run)) result }
-    ensures told { RunTold written.now.version G.the_kind (planned written.now.run) (W.shows out.old) (W.shows out.new)
+        (answer_of_run run.now.version G.the_kind (ready_run run.now)) result }
+    ensures ends { PutEnds (answer_of_run run.now.version G.the_kind (ready_run run.now)) result }
+    ensures told { RunTold run.now.version G.the_kind (ready_run run.now) (W.shows out.old) (W.shows out.new)
         (map P.seen probes.old.items) (map P.seen probes.new.items) result }
     ensures leaves { Leaves result out.old out.new }
     ensures kept { Leaves result probes.old probes.new }
-    ensures loads { IsNoLoad result }
     ensures shown { IsShown result }
 {
-    let run = written.run;
     let _worsts = run.demands.worsts();
     let _scheduler = run.plan.scheduler();
-    let governor = match G::made(alloc, run.plan) {
+    let governor = match G::made(alloc, &run.plan) {
         Ok(governor) => governor,
         Err(NoMemory) => return Status::NoMemory,
     };
-    let kernel = match Kernel::new(alloc, run.plan, run.demands, governor, run.ticks) {
+    let kernel = match Kernel::new(alloc, &run.plan, &run.demands, governor, run.ticks) {
         Ok(kernel) => kernel,
         Err(KernelFault::TooManyJobs { count }) => return Status::Limit { jobs: count },
         Err(KernelFault::NoMemory) => return Status::NoMemory,
     };
-    match kernel.run(out, probes, written.version) {
+    match kernel.run(out, probes, run.version) {
         Ok(_) => Status::Done,
         Err(WriteFault) => Status::Write,
     }
 }
 
-// Writes the trace of a run under the governor of a pair.
+// Writes the trace of a run under the governor of its pair.
 fn run_pair<W: Sink, P: Probe>(
     alloc: Global,
-    written: &WrittenRun<'_>,
-    governor: GovernorKind,
+    run: &ReadyRun,
     out: &mut W,
     probes: &mut Vec<P>,
 ) -> Status
-    requires run { IsRunnable (planned written.now.run) }
-    requires pair { IsPair written.now.run.plan.now.scheduler governor }
+    requires run { IsRunnable (ready_run run.now) }
+    requires pair { IsPair run.now.plan.scheduler run.now.governor }
     ensures ended { Ends (W.shows out.old) (W.shows out.new)
-        (answer_of_run written.now.version governor (planned written.now.run)) result }
-    ensures told { RunTold written.now.version governor (planned written.now.run) (W.shows out.old) (W.shows out.new)
+        (answer_of_run run.now.version run.now.governor (ready_run run.now)) result }
+    ensures ends { PutEnds (answer_of_run run.now.version run.now.governor (ready_run run.now)) result }
+    ensures told { RunTold run.now.version run.now.governor (ready_run run.now) (W.shows out.old) (W.shows out.new)
         (map P.seen probes.old.items) (map P.seen probes.new.items) result }
     ensures leaves { Leaves result out.old out.new }
     ensures kept { Leaves result probes.old probes.new }
-    ensures loads { IsNoLoad result }
     ensures shown { IsShown result }
 {
     at_pair!(
-        written.run.plan.scheduler(),
-        governor,
+        run.plan.scheduler(),
+        run.governor,
         run_governed,
         [W, P],
         alloc,
-        written,
+        run,
         out,
         probes
     )
@@ -159,64 +169,27 @@ fn run_pair<W: Sink, P: Probe>(
 
 /// Writes the trace of a run of an admitted plan. The probes are told its notes where they are asked for, and else left
 /// as they are.
-pub(crate) fn run_plan<W: Sink, P: Probe>(
+pub(crate) fn put_run<W: Sink, P: Probe>(
     alloc: Global,
-    written: &WrittenRun<'_>,
-    governor: GovernorKind,
+    run: &ReadyRun,
     out: &mut W,
     probes: &mut Vec<P>,
 ) -> Status
-    requires run { IsRunnable (planned written.now.run) }
-    requires pair { IsPair written.now.run.plan.now.scheduler governor }
+    requires run { IsRunnable (ready_run run.now) }
+    requires pair { IsPair run.now.plan.scheduler run.now.governor }
     ensures ended { Ends (W.shows out.old) (W.shows out.new)
-        (answer_of_run written.now.version governor (planned written.now.run)) result }
-    ensures told { IfAsked written.now.probes
-        (RunTold written.now.version governor (planned written.now.run) (W.shows out.old) (W.shows out.new)
+        (answer_of_run run.now.version run.now.governor (ready_run run.now)) result }
+    ensures ends { PutEnds (answer_of_run run.now.version run.now.governor (ready_run run.now)) result }
+    ensures told { IfAsked run.now.probes
+        (RunTold run.now.version run.now.governor (ready_run run.now) (W.shows out.old) (W.shows out.new)
         (map P.seen probes.old.items) (map P.seen probes.new.items) result) }
     ensures leaves { Leaves result out.old out.new }
-    ensures kept { LeavesProbes written.now.probes result probes.old probes.new }
-    ensures loads { IsNoLoad result }
+    ensures kept { LeavesProbes run.now.probes result probes.old probes.new }
     ensures shown { IsShown result }
 {
-    if written.probes {
-        return run_pair(alloc, written, governor, out, probes);
+    if run.probes {
+        return run_pair(alloc, run, out, probes);
     }
     let mut none: Vec<P> = Vec::new(alloc);
-    run_pair(alloc, written, governor, out, &mut none)
-}
-
-/// Puts the line of an admission.
-pub(crate) fn put_admitted<W: Sink>(plan: &Admitted, out: &mut W) -> Status
-    ensures ended { Ends (W.shows out.old) (W.shows out.new) (Ok (admitted_text plan.now)) result }
-    ensures leaves { Leaves result out.old out.new }
-    ensures loads { IsNoLoad result }
-    ensures shown { IsShown result }
-{
-    let line = admitted_line(plan);
-    match put_line(&line, out) {
-        Ok(()) => Status::Done,
-        Err(Failed) => Status::Write,
-    }
-}
-
-fn admitted_line(plan: &Admitted) -> Line
-    ensures text { result ≡ admitted_text plan.now }
-    ensures some { 0 < length result }
-{
-    let demand = plan.static_demand();
-    let pick = plan.machine().lowest(demand);
-    let point = plan.machine().point(pick.index);
-    let word: &[u8] = match plan.scheduler() {
-        Scheduler::Edf => b"edf",
-        Scheduler::Rm => b"rm",
-    };
-    line_of(&[
-        Part::Word(b"admitted "),
-        Part::Word(word),
-        Part::Word(b" "),
-        Part::Ratio(demand.num, demand.den),
-        Part::Word(b" "),
-        Part::Number(point.speed),
-        Part::Word(b"\n"),
-    ])
+    run_pair(alloc, run, out, &mut none)
 }

@@ -2,37 +2,24 @@
 ghost use Rattle.std.specs.Prelude.{◌≡◌, ◌≤◌, ◌↔◌, map};
 ghost use Rattle.std.specs.Option.{option_copied};
 ghost use Rattle.dvs_base.specs.Outside.{Rose};
-ghost use Rattle.rtdvs_top.specs.CommandAnswer.{answer_of_command};
-ghost use Rattle.rtdvs_top.specs.Causes.{MakesLoads, CountsLoads, CountsPuts, LoadOf, PassesBefore, files_for, loads_needed};
-ghost use Rattle.rtdvs_top.specs.Naming.{names_of, NamedBy, NamedIfDone};
-ghost use Rattle.rtdvs_top.specs.Refusals.{status_text};
-ghost use Rattle.rtdvs_top.specs.ProbeLines.{NotedAs, noted_text, probe_lines};
-ghost use Rattle.rtdvs_top.specs.Answered.{seen, IsAnswered};
+ghost use Rattle.rtdvs_top.specs.Promises.{asked, known_files, Answers, Writes, WritesPart, IsSureOf, LoadFailed, LoadsInOrder, loads_asked, loads_wanted, OfRun, OfTests, OfPoll, Headline, OfLeast, Notes, Tells, probes_asked, OfAdmission};
+ghost use Rattle.rtdvs_top.specs.Files.{MakesLoads, CountsLoads, CountsPuts, files_for, loads_needed};
+ghost use Rattle.task_model.specs.Tasks.{names_of};
+ghost use Rattle.rtdvs_top.specs.Prepared.{seen, IsAnswered};
+ghost use Rattle.rtdvs_top.specs.Status.{status_text, NotedAs, noted_text, IsShown};
 ghost use Rattle.rtdvs_top.specs.Probing.{LeavesProbes, ToldIn, asks_probes};
-ghost use Rattle.rtdvs_top.specs.Shown.{IsShown};
-ghost use Rattle.rtdvs_top.specs.Ending.{EndsAs, Leaves, MetIn};
-ghost use Rattle.rtdvs_top.specs.Promises.{asked, known_files, Answers, Writes, WritesPart, IsSureOf, LoadFailed, LoadsInOrder, loads_asked, loads_wanted, OfRun, OfTests, OfPoll, Headline, OfLeast, Notes, Tells, probes_asked};
-ghost use Rattle.rtdvs_top.specs.Exactness.{OfTrace};
-ghost use Rattle.rtdvs_top.specs.Testing.{TestedIn};
+ghost use Rattle.rtdvs_top.specs.Run.{Leaves};
+ghost use Rattle.rtdvs_top.specs.Trace.{OfTrace};
 ghost use Rattle.words.specs.Commands.{IsReadyCommand};
 ghost use Rattle.words.specs.Shown.{shown};
 ghost use Rattle.words.specs.declared.command.WordFault.{WordFault};
 
 use crate::Status;
-use crate::admit_answer::answer_admit;
-use crate::command_words::{
-    admit_words, constrain_words, least_words, poll_words, response_words, run_words, trace_words,
-};
-use crate::constrain_answer::answer_constrain;
 use crate::difference::{Difference, put_difference};
-use crate::least_answer::answer_least;
-use crate::made_lines::answer_workload;
-use crate::poll_answer::answer_poll;
+use crate::prepare::prepare;
 use crate::probe_line::put_probes;
+use crate::put::put;
 use crate::refusal::status_line;
-use crate::response_answer::answer_response;
-use crate::run_answer::answer_run;
-use crate::trace_answer::answer_trace;
 use dvs_base::{Shelf, Sink, put_line};
 use probes::Probe;
 use std::alloc::Global;
@@ -112,16 +99,13 @@ fn answer_command<S: Shelf, W: Sink, P: Probe>(
         (W.shows out.old) (W.shows out.new)
         (map P.seen probes.old.items) (map P.seen probes.new.items) result.0 }
 {
-    match command {
-        Command::Run { .. } => answer_run(alloc, &run_words(command), shelf, out, probes),
-        Command::Admit { .. } => answer_admit(alloc, &admit_words(command), shelf, out),
-        Command::Replay { .. } => answer_trace(alloc, &trace_words(command), shelf, out),
-        Command::Migrate { .. } => answer_trace(alloc, &trace_words(command), shelf, out),
-        Command::Workload { seed } => (answer_workload(alloc, *seed, out), None),
-        Command::Response { .. } => answer_response(alloc, &response_words(command), shelf, out),
-        Command::Constrain { .. } => answer_constrain(alloc, &constrain_words(command), shelf, out),
-        Command::Poll { .. } => answer_poll(alloc, &poll_words(command), shelf, out),
-        Command::Least { .. } => (answer_least(alloc, &least_words(command), shelf, out), None),
+    let (step, tasks) = prepare(alloc, command, shelf);
+    match step {
+        Ok(prepared) => {
+            let status = put(alloc, &prepared, out, probes);
+            (status, tasks)
+        }
+        Err(status) => (status, tasks),
     }
 }
 
@@ -170,6 +154,9 @@ pub fn rtdvs<S: Shelf, W: Sink, E: Sink>(
         (Rose (S.shows shelf.old).faults (S.shows shelf.new).faults) (W.shows out.old) (W.shows out.new) result }
     ensures run { OfRun (known_files (S.shows shelf.old).held (asked words.now)) (asked words.now)
         (W.shows out.old) (W.shows out.new) result }
+
+    // the scheduler's test of `run`, `admit`, `replay`, `migrate` and `poll`, as sums and products
+    ensures admitted { OfAdmission (known_files (S.shows shelf.old).held (asked words.now)) (asked words.now) result }
 
     // which trace files are replayed and migrated: those of a schedule, and for which demands
     ensures exact { OfTrace (known_files (S.shows shelf.old).held (asked words.now)) (asked words.now)

@@ -1,7 +1,7 @@
 use Rattle.std.proofs.Common.{ap₂, ◌∙◌, arith}
 use Rattle.std.specs.Option.{option_copied}
-use Rattle.rtdvs_top.specs.Naming.{names_of}
-use Rattle.rtdvs_top.specs.ProbeLines.{probe_text}
+use Rattle.task_model.specs.Tasks.{names_of}
+use Rattle.rtdvs_top.specs.Status.{probe_text}
 use Rattle.rtdvs_top.proofs.ProbePuts.{next-put, part-put}
 use Rattle.rtdvs_top.proofs.probe_line.put_probes.Goals as goal
 

@@ -1,8 +1,10 @@
 use Rattle.std.proofs.Common.{List, map, refl, sym, ap}
 use Rattle.probes.specs.Tallies.{ProbeOf}
+use Rattle.rtdvs_top.proofs.InOrder.{load-of, passes-before}
 use Rattle.rtdvs_top.proofs.Answering.{answers-of, sure-of, writes-of, parts-of, counts-puts}
 use Rattle.rtdvs_top.proofs.Noting.{notes-of}
 use Rattle.rtdvs_top.proofs.Headlines.{of-run, headline-of}
+use Rattle.rtdvs_top.proofs.Admitting.{of-admission}
 use Rattle.rtdvs_top.proofs.Exactness.{of-trace}
 use Rattle.rtdvs_top.proofs.Pollings.{of-poll}
 use Rattle.rtdvs_top.proofs.Bounding.{of-least}
@@ -12,7 +14,19 @@ pub returns-clause-answers : goal.returns-clause-answers
 returns-clause-answers g c =
     let e = c.answer_command-status.ensures.answered in
     rw (sym c.in-Ok.ensures.read)
-    (answers-of _ _ (g.S.Shelf.shows c.args.shelf.now) (g.S.Shelf.shows c.answer_command-status.new.shelf) _ _ _ refl e.ended e.explained e.passed)
+    (answers-of _ _ (g.S.Shelf.shows c.args.shelf.now) (g.S.Shelf.shows c.answer_command-status.new.shelf) _ _ _ refl e.ended e.failed)
+
+pub returns-clause-load : goal.returns-clause-load
+returns-clause-load g c =
+    let e = c.answer_command-status.ensures.answered in
+    rw (sym c.in-Ok.ensures.read)
+    (load-of (g.S.Shelf.shows c.args.shelf.now) (g.S.Shelf.shows c.answer_command-status.new.shelf) _ _ e.failed)
+
+pub returns-clause-in_order : goal.returns-clause-in_order
+returns-clause-in_order g c =
+    let e = c.answer_command-status.ensures.answered in
+    rw (sym c.in-Ok.ensures.read)
+    (passes-before (g.S.Shelf.shows c.args.shelf.now) (g.S.Shelf.shows c.answer_command-status.new.shelf) _ _ e.failed)
 
 pub returns-clause-run : goal.returns-clause-run
 returns-clause-run g c =
@@ -35,14 +49,18 @@ returns-clause-headline g c =
     let e = c.answer_command-status.ensures.answered in
     rw (sym c.in-Ok.ensures.read)
     (headline-of _ _ _ _ _ _ (of-run _ _ _ _ _ e.ended e.met) e.tested
-    (answers-of _ _ (g.S.Shelf.shows c.args.shelf.now) (g.S.Shelf.shows c.answer_command-status.new.shelf) _ _ _ refl e.ended e.explained e.passed))
+    (answers-of _ _ (g.S.Shelf.shows c.args.shelf.now) (g.S.Shelf.shows c.answer_command-status.new.shelf) _ _ _ refl e.ended e.failed))
+
+pub returns-clause-admitted : goal.returns-clause-admitted
+returns-clause-admitted g c =
+    rw (sym c.in-Ok.ensures.read) (of-admission _ _ _ _ _ c.answer_command-status.ensures.answered.ended)
 
 pub returns-clause-exact : goal.returns-clause-exact
 returns-clause-exact g c =
     let e = c.answer_command-status.ensures.answered in
     rw (sym c.in-Ok.ensures.read)
     (of-trace _ _ _ _ _ e.met
-    (answers-of _ _ (g.S.Shelf.shows c.args.shelf.now) (g.S.Shelf.shows c.answer_command-status.new.shelf) _ _ _ refl e.ended e.explained e.passed))
+    (answers-of _ _ (g.S.Shelf.shows c.args.shelf.now) (g.S.Shelf.shows c.answer_command-status.new.shelf) _ _ _ refl e.ended e.failed))
 
 pub returns-clause-done : goal.returns-clause-done
 returns-clause-done g c =

@@ -1,0 +1,33 @@
+use Rattle.std.proofs.Common.{◌≡◌, ◌∙◌, subst}
+use Rattle.sched_model.specs.Admission.{IsAdmitted}
+use Rattle.poll_server.specs.Serving.{ServerOf}
+use Rattle.poll_server.specs.Bound.{HaveJobs, KeepsBound}
+use Rattle.poll_server.specs.Polled.{IsPolled, polled_notes}
+use Rattle.poll_server.specs.EachOutcome.{served_of}
+use Rattle.poll_server.proofs.Within.{polled-within}
+use Rattle.rtdvs_top.proofs.Pollings.{same-served, has-served}
+use Rattle.rtdvs_top.proofs.poll.serve_governed.Goals as goal
+
+pub returns-in-Ok-poll-clause-served : goal.returns-in-Ok-poll-clause-served
+returns-in-Ok-poll-clause-served g c =
+    let s = c.args.polling.now in
+    let admitted = subst (λ (x : ServerOf). IsAdmitted x.plan) c.polling.view_is c.scheduler-scheduler.ensures.admitted in
+    let publishes = g.met.G.Publishing.publishing.publishes s.plan admitted c.requires.serves in
+    let served =
+    subst (λ (x : ServerOf). c.in-Ok-poll.served ≡ served_of g.G.Governor.demand x c.args.ticks) c.polling.view_is
+    c.in-Ok-poll.ensures.served in
+    served ∙ same-served g.G.Governor.demand g.G.Governor.the_kind s publishes (polled-within s) c.args.ticks
+
+pub returns-in-Ok-poll-clause-kept : goal.returns-in-Ok-poll-clause-kept
+returns-in-Ok-poll-clause-kept g c =
+    let s = c.args.polling.now in
+    let d = g.G.Governor.demand in
+    let admitted = subst (λ (x : ServerOf). IsAdmitted x.plan) c.polling.view_is c.scheduler-scheduler.ensures.admitted in
+    let publishes = g.met.G.Publishing.publishing.publishes s.plan admitted c.requires.serves in
+    let r = c.in-Ok-poll.served in
+    let served = subst (λ (x : ServerOf). r ≡ served_of d x c.args.ticks) c.polling.view_is c.in-Ok-poll.ensures.served in
+    let polled =
+    subst (λ (x : ServerOf). IsPolled x (polled_notes d x c.args.ticks) r) c.polling.view_is c.in-Ok-poll.ensures.outcomes in
+    let jobs = subst HaveJobs c.polling.view_is c.poll.ensures.in_order in
+    let bound = subst (λ (x : ServerOf). KeepsBound x c.args.ticks r) c.polling.view_is c.in-Ok-poll.ensures.bound in
+    has-served d g.G.Governor.the_kind s publishes (polled-within s) c.args.ticks r served polled jobs bound

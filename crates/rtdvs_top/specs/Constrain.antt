@@ -1,0 +1,131 @@
+-- The answer of `constrain`, and what it proves (Baruah, Rosier and Howell 1990).
+use Rattle.std.specs.Prelude.{ℕ, List, Result, Ok, Err, [], ◌∷◌, codes, decimal, slice_index, ◌≡◌, ⊤, Option, Some}
+use Rattle.dvs_base.specs.Checks.{and_then}
+use Rattle.dvs_base.specs.Outside.{Files}
+use Rattle.dvs_base.specs.Parts.{fraction_text}
+use Rattle.dvs_base.specs.declared.kind.Scheduler.TheVariants.{Edf}
+use Rattle.trace_text.specs.TraceLines.{line}
+use Rattle.task_model.specs.declared.task.Task.{Task}
+use Rattle.freq_table.specs.Tables.{Table, speed_at}
+use Rattle.sched_model.specs.Plan.{plan_of, Plan, count, offset}
+use Rattle.edf_demand.specs.Answers.{tested_answer, LooksAtDemand, IsLowestSpeed, IsOverload, IsTooLong}
+use Rattle.edf_demand.specs.DeadlineFile.{deadline_file}
+use Rattle.edf_demand.specs.declared.fault.DeadlineFault.{DeadlineFault}
+use Rattle.edf_demand.specs.declared.fault.DeadlineFault.TheVariants as deadline_fault
+use Rattle.edf_demand.specs.declared.lowest_speed.Constrained.{Constrained}
+use Rattle.edf_demand.specs.declared.lowest_speed.ConstrainFault.{ConstrainFault}
+use Rattle.edf_demand.specs.declared.lowest_speed.ConstrainFault.TheVariants as constrain_fault
+use Rattle.words.specs.Commands.{ConstrainOf}
+use Rattle.rtdvs_top.specs.declared.status.Denied.TheVariants as denied
+use Rattle.rtdvs_top.specs.declared.status.FileKind.TheVariants as file
+use Rattle.rtdvs_top.specs.declared.status.TextFault.TheVariants as text
+use Rattle.rtdvs_top.specs.declared.status.Status.{Status}
+use Rattle.rtdvs_top.specs.declared.status.Status.TheVariants as status
+use Rattle.task_model.specs.Tasks.{IsFirstOffset}
+use Rattle.edf_demand_laws.specs.ProcessorDemand.{IsConstrainedDemand}
+use Rattle.rtdvs_top.specs.declared.status.Denied.{Denied}
+use Rattle.rtdvs_top.specs.Meanings.{bytes_at, machine_at, tasks_at}
+
+-- a refusal of a deadline file as a status; `NoMemory` is a status of its own
+abbrev pub deadline_status : DeadlineFault → Status
+deadline_status deadline_fault.NoMemory = status.NoMemory
+deadline_status e = status.Text (text.Deadlines e)
+
+-- what a deadline file means, with its refusal as a status
+abbrev pub deadlines_from : Result (List ℕ) DeadlineFault → Result (List ℕ) Status
+deadlines_from (Ok deadlines) = Ok deadlines
+deadlines_from (Err e) = Err (deadline_status e)
+
+-- the relative deadlines that a named file gives these tasks
+abbrev pub deadlines_at : List Task → List ℕ → Files → Result (List ℕ) Status
+deadlines_at tasks name files =
+    and_then (bytes_at file.Deadlines name files) (λ bytes. deadlines_from (deadline_file tasks bytes))
+
+-- a refusal of the test of deadlines below the periods as a status
+abbrev pub constrain_status : ConstrainFault → Status
+constrain_status (constrain_fault.Offset task) = status.NotAdmitted (denied.Offset task)
+constrain_status (constrain_fault.TooManyJobs jobs) = status.Limit jobs
+constrain_status (constrain_fault.Denied at num cap) = status.NotAdmitted (denied.Demand at num cap)
+constrain_status constrain_fault.NoMemory = status.NoMemory
+
+-- what the test of deadlines below the periods answers, with its refusal as a status
+abbrev pub constrained_from : Result Constrained ConstrainFault → Result Constrained Status
+constrained_from (Ok found) = Ok found
+constrained_from (Err e) = Err (constrain_status e)
+
+-- the line of the answer: the constrained demand, and the lowest speed that meets it
+abbrev pub constrained_text : Table → Constrained → List ℕ
+constrained_text machine found =
+    line
+    (codes "constrained"
+    ∷ fraction_text found.demand.num found.demand.den
+    ∷ decimal (speed_at machine found.point)
+    ∷ [])
+
+-- the answer of `constrain` for these tasks, this machine and these relative deadlines
+abbrev pub constrain_with : List Task → Table → List ℕ → Result (List ℕ) Status
+constrain_with tasks machine deadlines =
+    and_then (constrained_from (tested_answer (plan_of tasks machine Edf) (slice_index deadlines))) (λ found.
+    Ok (constrained_text machine found))
+
+-- the answer of `constrain`, after its tasks were read
+abbrev pub constrain_after_tasks : ConstrainOf → List Task → Files → Result (List ℕ) Status
+constrain_after_tasks r tasks files =
+    and_then (machine_at r.machine files) (λ machine.
+    and_then (deadlines_at tasks r.deadlines files) (constrain_with tasks machine))
+
+-- the answer of `constrain`
+abbrev pub constrain_answer : ConstrainOf → Files → Result (List ℕ) Status
+constrain_answer r files = and_then (tasks_at r.tasks files) (λ tasks. constrain_after_tasks r tasks files)
+
+-- what holds of a plan and relative deadlines for which a speed was found
+pub record KeepsDeadlines (p : Plan) (relative : ℕ → ℕ) : Type 0 where
+  pub found : Constrained
+  pub answer : tested_answer p relative ≡ Ok found
+  pub tested : LooksAtDemand p
+  -- the demand is the greatest work due per tick, at the first absolute deadline up to the hyperperiod where it is
+  pub demand : IsConstrainedDemand p relative found.demand
+  -- at the speed found every constrained schedule meets every deadline, for any demands of the jobs within their worst
+  -- cases; at each lower speed the schedule of the worst cases misses one
+  pub speed : IsLowestSpeed p relative found
+
+-- The task is the first in file order with an offset. Or the work due within `at` ticks is the constrained demand, and
+-- exceeds what the highest speed does in these ticks: there the schedule of the worst cases misses a deadline.
+abbrev pub FailsToKeep : Plan → (ℕ → ℕ) → Denied → Type 0
+FailsToKeep p relative (denied.Offset i) = IsFirstOffset (offset p) (count p) i
+FailsToKeep p relative (denied.Demand at num cap) = IsOverload p relative at num cap
+FailsToKeep p relative why = ⊥
+
+-- the files mean this machine, and these relative deadlines of the tasks
+pub record MeansDeadlines (r : ConstrainOf) (files : Files) (tasks : List Task) (machine : Table) (deadlines : List ℕ)
+    : Type 0 where
+  pub machine_is : machine_at r.machine files ≡ Ok machine
+  pub deadlines_are : deadlines_at tasks r.deadlines files ≡ Ok deadlines
+
+-- Holds is true of the plan and the relative deadlines that the files mean
+abbrev pub OfMeant : Files → ConstrainOf → List Task → (Plan → (ℕ → ℕ) → Type 0) → Type 0
+OfMeant files r tasks Holds =
+    (machine : Table) × (deadlines : List ℕ) × MeansDeadlines r files tasks machine deadlines
+    × Holds (plan_of tasks machine Edf) (slice_index deadlines)
+
+-- what the status says of these tasks, where the files are known
+abbrev pub IsKept : Option Files → ConstrainOf → List Task → Status → Type 0
+IsKept (Some files) r tasks status.Done = OfMeant files r tasks KeepsDeadlines
+IsKept (Some files) r tasks (status.NotAdmitted why) =
+    OfMeant files r tasks (λ p relative. FailsToKeep p relative why)
+IsKept (Some files) r tasks (status.Limit jobs) = OfMeant files r tasks (λ p relative. IsTooLong p jobs)
+IsKept files r tasks s = ⊤
+
+-- Holds is true of the tasks that the files mean
+abbrev pub OfMeantTasks : Files → ConstrainOf → (List Task → Type 0) → Type 0
+OfMeantTasks files r Holds = (tasks : List Task) × (tasks_at r.tasks files ≡ Ok tasks) × Holds tasks
+
+-- The test of `constrain`, where the files are known, without a premise. A test that is done, that denies the tasks or
+-- that has too many jobs is of the tasks, the machine and the relative deadlines that its files mean.
+abbrev pub OfConstrain : Option Files → ConstrainOf → Status → Type 0
+OfConstrain (Some files) r status.Done = OfMeantTasks files r (λ tasks. IsKept (Some files) r tasks status.Done)
+OfConstrain (Some files) r (status.NotAdmitted why) =
+    OfMeantTasks files r (λ tasks. IsKept (Some files) r tasks (status.NotAdmitted why))
+OfConstrain (Some files) r (status.Limit jobs) =
+    OfMeantTasks files r (λ tasks. IsKept (Some files) r tasks (status.Limit jobs))
+OfConstrain files r s = ⊤

@@ -1,0 +1,149 @@
+-- The files that a command names, and which of their loads fail.
+use Rattle.std.specs.Prelude.{⊤, ◌≡◌, ℕ, ◌≤◌, ◌⊎◌, ◌<◌, List, ◌+◌, Bool, true, is_ok, Option, Some, None, [], ◌∷◌, if◌then◌else◌, length, IsTrue, Result, Ok, Err}
+use Rattle.dvs_base.specs.Outside.{Rose, ShelfView, Lacks, Files}
+use Rattle.dvs_base.specs.Checks.{and_then}
+use Rattle.words.specs.Commands.{CommandOf, poll, run, admit, traced, workload, response, constrain, least}
+use Rattle.rtdvs_top.specs.declared.status.FileKind.{FileKind}
+use Rattle.rtdvs_top.specs.declared.status.FileKind.TheVariants as file
+use Rattle.rtdvs_top.specs.declared.status.Status.{Status}
+use Rattle.rtdvs_top.specs.declared.status.Status.TheVariants as status
+use Rattle.task_model.specs.declared.task.Task.{Task}
+use Rattle.task_model.specs.Tasks.{names_of}
+use Rattle.rtdvs_top.specs.Meanings.{tasks_at, machine_at}
+use Rattle.rtdvs_top.specs.Poll.{server_at}
+
+-- a status that says a load failed says so of a kind for which this holds
+abbrev pub OfLoad : (FileKind → Type 0) → Status → Type 0
+OfLoad Holds (status.Load kind) = Holds kind
+OfLoad Holds s = ⊤
+
+-- a shelf's count of failed loads stays, unless the status says that a load failed
+abbrev pub CountsLoads : ℕ → ℕ → Status → Type 0
+CountsLoads before now (status.Load kind) = ⊤
+CountsLoads before now s = now ≡ before
+
+-- a sink's count of failed puts never falls, rises where the status is `Write`, and else stays
+abbrev pub CountsPuts : ℕ → ℕ → Status → Type 0
+CountsPuts before now status.Write = Rose before now × (before ≤ now)
+CountsPuts before now s = now ≡ before
+
+-- A load failed, the `place`-th since the old shelf. The files are known and lack the name, and the count of failed
+-- loads stayed; or the count rose, and the shelf was sure of fewer than `place` loads.
+abbrev pub LoadFails : ShelfView → ShelfView → ℕ → List ℕ → Type 0
+LoadFails old new place name =
+    (Lacks old.held name × (new.faults ≡ old.faults)) ⊎ (Rose old.faults new.faults × (old.sure < place))
+
+-- at most `most` loads were made: the files stay, the count never falls, and stays where the shelf was sure of `most`
+pub record MakesLoads (most : ℕ) (old new : ShelfView) : Type 0 where
+  pub held : new.held ≡ old.held
+  pub later : old.faults ≤ new.faults
+  pub steady : most ≤ old.sure → new.faults ≡ old.faults
+  pub surety : old.sure ≤ new.sure + most
+
+-- whether the loads of a command go on after a file: its tasks and its machine have to be read, and one of the tasks of
+-- `poll` has to have the server's name too
+abbrev pub is_passed : CommandOf → FileKind → List ℕ → Files → Bool
+is_passed (poll q) file.Tasks name files = is_ok (and_then (tasks_at name files) (server_at q.server))
+is_passed c file.Tasks name files = is_ok (tasks_at name files)
+is_passed c file.Machine name files = is_ok (machine_at name files)
+is_passed c kind name files = true
+
+-- a file that a command names: the kind that it is read as, and its name
+pub record NamedFile : Type 0 where
+  pub kind : FileKind
+  pub name : List ℕ
+
+-- whether the loads of a command go on after one of its files; where the files are not known, they may
+abbrev pub passes : Option Files → CommandOf → NamedFile → Bool
+passes None c f = true
+passes (Some files) c f = is_passed c f.kind f.name files
+
+-- the number of these files that are loaded: each after the first only where the one before it is passed
+abbrev pub loads_while : (NamedFile → Bool) → List NamedFile → ℕ
+loads_while passed [] = 0
+loads_while passed (f ∷ fs) = 1 + (if passed f then loads_while passed fs else 0)
+
+-- the file of this kind and this name
+abbrev pub named : FileKind → List ℕ → NamedFile
+named kind name = record { kind = kind; name = name }
+
+-- the file of a name that may be given
+abbrev pub if_named : FileKind → Option (List ℕ) → List NamedFile
+if_named kind None = []
+if_named kind (Some name) = named kind name ∷ []
+
+-- the files of a command, in the order of its loads
+abbrev pub files_of : CommandOf → List NamedFile
+files_of (run r) = named file.Tasks r.tasks ∷ named file.Machine r.machine ∷ if_named file.Demands r.demands
+files_of (admit a) = named file.Tasks a.tasks ∷ named file.Machine a.machine ∷ []
+files_of (traced r) = named file.Tasks r.tasks ∷ named file.Machine r.machine ∷ named file.Trace r.trace ∷ []
+files_of (workload seed) = []
+files_of (response r) = named file.Tasks r.tasks ∷ named file.Machine r.machine ∷ []
+files_of (constrain r) = named file.Tasks r.tasks ∷ named file.Machine r.machine ∷ named file.Deadlines r.deadlines ∷ []
+files_of (poll q) = named file.Tasks q.tasks ∷ named file.Machine q.machine ∷ named file.Requests q.requests ∷ []
+files_of (least l) = named file.Machine l.machine ∷ []
+
+-- the most loads that a command's answer needs: each file after the first only where the answer gets that far
+abbrev pub loads_needed : Option Files → CommandOf → ℕ
+loads_needed files c = loads_while (passes files c) (files_of c)
+
+-- the number of files that a command loads
+abbrev pub loads_of : CommandOf → ℕ
+loads_of c = length (files_of c)
+
+-- the known files that an answer depends on: where no file is named, none is needed
+abbrev pub files_needed : Option Files → List NamedFile → Option Files
+files_needed held [] = Some []
+files_needed held (f ∷ fs) = held
+
+-- the files that a command's answer depends on: those that the shelf is known to hold; `workload` needs none
+abbrev pub files_for : Option Files → CommandOf → Option Files
+files_for held c = files_needed held (files_of c)
+
+-- the load of one of these files, which is of this kind, failed; the first of them is the `place`-th load
+abbrev pub FailsAt : ShelfView → ShelfView → ℕ → List NamedFile → FileKind → Type 0
+FailsAt old new place [] kind = ⊥
+FailsAt old new place (f ∷ fs) kind =
+    ((kind ≡ f.kind) × LoadFails old new place f.name) ⊎ FailsAt old new (place + 1) fs kind
+
+-- one of these files is of this kind, and those before it are passed
+abbrev pub ReadBefore : (NamedFile → Bool) → List NamedFile → FileKind → Type 0
+ReadBefore passed [] kind = ⊥
+ReadBefore passed (f ∷ fs) kind = (kind ≡ f.kind) ⊎ (IsTrue (passed f) × ReadBefore passed fs kind)
+
+-- why a load of a command failed, by the file's place among the command's
+abbrev pub LoadOf : ShelfView → ShelfView → CommandOf → Status → Type 0
+LoadOf old new c s = OfLoad (FailsAt old new 1 (files_of c)) s
+
+-- a load fails only after the files before it that the command names were read, where the files are known; that of the
+-- machine of `poll` only after its server was found
+abbrev pub PassesBefore : Option Files → CommandOf → Status → Type 0
+PassesBefore files c s = OfLoad (ReadBefore (passes files c) (files_of c)) s
+
+-- the name of a file, where it is one of tasks
+abbrev pub name_if_tasks : FileKind → List ℕ → Option (List ℕ)
+name_if_tasks file.Tasks name = Some name
+name_if_tasks kind name = None
+
+-- the name of the file of tasks, which comes first where there is one
+abbrev pub tasks_first : List NamedFile → Option (List ℕ)
+tasks_first [] = None
+tasks_first (f ∷ fs) = name_if_tasks f.kind f.name
+
+-- the file of tasks that a command names, if it names one
+abbrev pub tasks_name : CommandOf → Option (List ℕ)
+tasks_name c = tasks_first (files_of c)
+
+-- the names of the tasks that a file gives
+abbrev pub names_from : Result (List Task) Status → List (List ℕ)
+names_from (Ok tasks) = names_of (Some tasks)
+names_from (Err s) = []
+
+-- the names of the tasks of a file that may be named
+abbrev pub names_at : Option (List ℕ) → Files → List (List ℕ)
+names_at None files = []
+names_at (Some name) files = names_from (tasks_at name files)
+
+-- the names of the tasks that a command's files give
+abbrev pub names_by : CommandOf → Files → List (List ℕ)
+names_by c files = names_at (tasks_name c) files

@@ -1,0 +1,131 @@
+-- The answer of `poll`, and what a run of its server has kept.
+use Rattle.std.specs.Prelude.{ℕ, List, Option, Some, None, Result, Ok, Err, ◌+◌, [], ◌∷◌, codes, decimal, zero, suc, ◌++◌, Bool, true, false}
+use Rattle.dvs_base.specs.Checks.{and_then}
+use Rattle.dvs_base.specs.Outside.{Files}
+use Rattle.dvs_base.specs.Parts.{position_text}
+use Rattle.dvs_base.specs.Text.{short_of}
+use Rattle.dvs_base.specs.declared.kind.GovernorKind.{GovernorKind}
+use Rattle.dvs_base.specs.declared.note.Note.{Note}
+use Rattle.dvs_base.specs.declared.note.Totals.{Totals}
+use Rattle.grid_fraction.specs.Numbers.{sum_where}
+use Rattle.trace_text.specs.TraceLines.{line}
+use Rattle.task_model.specs.declared.task.Task.{Task}
+use Rattle.task_model.specs.TaskFile.{place_of}
+use Rattle.sched_model.specs.Plan.{plan_of}
+use Rattle.sched_model.specs.Jobs.{released_jobs}
+use Rattle.sched_model.specs.Text.{run_notes}
+use Rattle.request_list.specs.declared.requests.Request.{Request}
+use Rattle.request_list.specs.declared.fault.RequestFault.{RequestFault}
+use Rattle.request_list.specs.declared.fault.RequestFault.TheVariants as request_fault
+use Rattle.request_list.specs.RequestFile.{request_file}
+use Rattle.poll_server.specs.Serving.{ServerOf, server_of, polled_demand, arrival, units, request_count}
+use Rattle.poll_server.specs.Outcomes.{ServedOf, outcome_at}
+use Rattle.poll_server.specs.EachOutcome.{served_by}
+use Rattle.poll_server.specs.declared.served.Outcome.{Outcome}
+use Rattle.poll_server.specs.declared.served.Outcome.TheVariants.{Served, Pending}
+use Rattle.words.specs.Commands.{PollOf}
+use Rattle.rtdvs_top.specs.declared.status.FileKind.TheVariants as file
+use Rattle.rtdvs_top.specs.declared.status.TextFault.TheVariants as text
+use Rattle.rtdvs_top.specs.declared.status.Status.{Status}
+use Rattle.rtdvs_top.specs.declared.status.Status.TheVariants as status
+use Rattle.poll_server.specs.Bound.{HaveJobs, KeepsBound}
+use Rattle.poll_server.specs.Polled.{IsPolled}
+use Rattle.rtdvs_top.specs.Meanings.{bytes_at, machine_at, tasks_at}
+use Rattle.rtdvs_top.specs.Admit.{admission}
+use Rattle.rtdvs_top.specs.Run.{within_jobs}
+
+-- the place of the server, where a task has its name
+abbrev pub server_from : List ℕ → Option ℕ → Result ℕ Status
+server_from name None = Err (status.Text (text.Server (short_of name)))
+server_from name (Some i) = Ok i
+
+-- the place of the task of this name
+abbrev pub server_at : List ℕ → List Task → Result ℕ Status
+server_at name tasks = server_from name (place_of tasks name)
+
+-- a refusal of a request file as a status; `NoMemory` is a status of its own
+abbrev pub request_status : RequestFault → Status
+request_status request_fault.NoMemory = status.NoMemory
+request_status e = status.Text (text.Requests e)
+
+-- what a request file means, with its refusal as a status
+abbrev pub requests_from : Result (List Request) RequestFault → Result (List Request) Status
+requests_from (Ok requests) = Ok requests
+requests_from (Err e) = Err (request_status e)
+
+-- the requests of a named file
+abbrev pub requests_at : List ℕ → Files → Result (List Request) Status
+requests_at name files = and_then (bytes_at file.Requests name files) (λ bytes. requests_from (request_file bytes))
+
+-- the server of `poll` in its admitted plan, after its tasks: first its name, then the machine and the requests
+abbrev pub polling_of : PollOf → List Task → Files → Result ServerOf Status
+polling_of q tasks files =
+    and_then (server_at q.server tasks) (λ i.
+    and_then (machine_at q.machine files) (λ machine.
+    and_then (requests_at q.requests files) (λ requests.
+    and_then (admission (plan_of tasks machine q.scheduler)) (λ p.
+    Ok (server_of p i requests)))))
+
+-- the notes of the one schedule in which the server's jobs need what they take, by the governor's published demand
+abbrev pub polling_notes : GovernorKind → ServerOf → ℕ → List Note
+polling_notes g s ticks = run_notes s.plan g (polled_demand s) ticks
+
+-- the outcome of each request by the notes of the one schedule, and the totals of these notes
+abbrev pub polling_served : GovernorKind → ServerOf → ℕ → ServedOf
+polling_served g s ticks = served_by s (polling_notes g s ticks)
+
+-- the line of a request, which counts from 1: its arrival and its units; and where it is served, by which job and at
+-- which position
+abbrev pub outcome_text : ServerOf → ℕ → Outcome → List ℕ
+outcome_text s m (Served job at_end) =
+    line
+    (codes "served" ∷ decimal (m + 1) ∷ decimal (arrival s m) ∷ decimal (units s m)
+    ∷ decimal job
+    ∷ position_text at_end
+    ∷ [])
+outcome_text s m Pending =
+    line (codes "pending" ∷ decimal (m + 1) ∷ decimal (arrival s m) ∷ decimal (units s m) ∷ [])
+
+-- the lines of the first n requests
+abbrev pub request_lines : ServerOf → List Outcome → ℕ → List ℕ
+request_lines s outcomes zero = []
+request_lines s outcomes (suc m) = request_lines s outcomes m ++ outcome_text s m (outcome_at outcomes m)
+
+-- whether a request is served
+abbrev pub is_served : Outcome → Bool
+is_served (Served job at_end) = true
+is_served Pending = false
+
+-- how many of the first n requests are served
+abbrev pub served_among : List Outcome → ℕ → ℕ
+served_among outcomes n = sum_where n (λ m. is_served (outcome_at outcomes m)) (λ m. 1)
+
+-- the last line: the number of requests that are served, and the energies of running and of idling
+abbrev pub polled_line : ℕ → Totals → List ℕ
+polled_line served totals =
+    line (codes "polled" ∷ decimal served ∷ decimal totals.run ∷ decimal totals.idle ∷ [])
+
+-- the lines of a `poll` run: one for each request, and the last one
+abbrev pub polled_text : ServerOf → ServedOf → List ℕ
+polled_text s r =
+    let n = request_count s in request_lines s r.outcomes n ++ polled_line (served_among r.outcomes n) r.totals
+
+-- the answer of `poll` for a server in its admitted plan
+abbrev pub answer_of_polling : GovernorKind → ℕ → ServerOf → Result (List ℕ) Status
+answer_of_polling g ticks s = within_jobs (released_jobs s.plan ticks) (polled_text s (polling_served g s ticks))
+
+-- the answer of `poll`, after its tasks were read
+abbrev pub poll_after_tasks : PollOf → List Task → Files → Result (List ℕ) Status
+poll_after_tasks q tasks files = and_then (polling_of q tasks files) (answer_of_polling q.governor q.ticks)
+
+-- the answer of `poll`
+abbrev pub poll_answer : PollOf → Files → Result (List ℕ) Status
+poll_answer q files = and_then (tasks_at q.tasks files) (λ tasks. poll_after_tasks q tasks files)
+
+-- What a `poll` run has kept: each request is served exactly where its job is done in the one schedule, at that
+-- position; a later request never has an earlier job; and a request with backlog B is served by the deadline of the
+-- ceil(B/Q)-th job released at or after its arrival, if that lies within the run.
+pub record HasServed (s : ServerOf) (governor : GovernorKind) (ticks : ℕ) : Type 0 where
+  pub outcomes : IsPolled s (polling_notes governor s ticks) (polling_served governor s ticks)
+  pub in_order : HaveJobs s
+  pub bound : KeepsBound s ticks (polling_served governor s ticks)

@@ -1,0 +1,295 @@
+-- What a command prepares, how its put ends, and what is then known; for proofs alone.
+use Rattle.std.specs.Prelude.{ℕ, List, Result, Option, ⊤, ◌≤◌, ◌≡◌, ◌++◌, Ok, Some, None, Err, ◌<◌, length, Bool, false}
+use Rattle.dvs_base.specs.Outside.{ShelfView, SinkView, Files}
+use Rattle.dvs_base.specs.declared.kind.Scheduler.TheVariants.{Rm}
+use Rattle.dvs_base.specs.declared.kind.GovernorKind.{GovernorKind}
+use Rattle.dvs_base.specs.declared.kind.Version.{Version}
+use Rattle.task_model.specs.declared.task.Task.{Task}
+use Rattle.freq_table.specs.Tables.{Table}
+use Rattle.demand_list.specs.Demands.{DemandsOf, IsWithinWorsts}
+use Rattle.sched_model.specs.Plan.{Plan, count, plan_of}
+use Rattle.event_kernel.specs.Runs.{Run, IsListOf}
+use Rattle.dvs_base.specs.declared.limits.TheConstants.{MOST_TICKS}
+use Rattle.words.specs.Commands.{CommandOf, RunOf, TracedOf, run, traced, poll, least, LeastOf, PollOf, ResponseOf}
+use Rattle.rtdvs_top.specs.declared.status.Status.{Status}
+use Rattle.rtdvs_top.specs.declared.status.Status.TheVariants as status
+use Rattle.task_model.specs.Tasks.{names_of}
+use Rattle.edf_demand.specs.Answers.{IsTooLong}
+use Rattle.dvs_base.specs.declared.kind.GovernorKind.TheVariants.{Plain, Fixed, Cycle, Ahead}
+use Rattle.rtdvs_top.specs.declared.generated.EdfTotals.{EdfTotals}
+use Rattle.rtdvs_top.specs.declared.generated.Workload.{Workload}
+use Rattle.sched_model.specs.Admission.{IsAdmitted}
+use Rattle.trace_reader.specs.Traces.{TraceOf, IsEnded}
+use Rattle.dvs_base.specs.WritesText.{Wrote, WroteSome}
+use Rattle.energy_bound.specs.declared.least.Least.{Least}
+use Rattle.dvs_base.specs.PlanWords.{IsPair}
+use Rattle.poll_server.specs.Serving.{ServerOf, request_count}
+use Rattle.probes.specs.Tallies.{ProbeOf}
+use Rattle.rtdvs_top.specs.declared.put.Prepared.{Prepared}
+use Rattle.rtdvs_top.specs.declared.put.Prepared.TheVariants as prepared
+use Rattle.std.specs.List.{AllByRecursion}
+use Rattle.dvs_base.specs.declared.note.Totals.{Totals}
+use Rattle.replay.specs.Replays.{NamesTask}
+use Rattle.rtdvs_top.specs.declared.generated.PlannedRun.{PlannedRun}
+use Rattle.rtdvs_top.specs.declared.run.ReadyRun.{ReadyRun}
+use Rattle.rtdvs_top.specs.Failing.{FailsIn, EndsWith, IsRefusal, Refuses}
+use Rattle.rtdvs_top.specs.Files.{CountsLoads, files_for, names_by}
+use Rattle.rtdvs_top.specs.Probing.{IfAsked, asks_probes, RunTold, ToldIn}
+use Rattle.rtdvs_top.specs.Run.{answer_of_plan, run_with, prepared_of}
+use Rattle.rtdvs_top.specs.Promises.{answer_of_command, TestedIn}
+use Rattle.rtdvs_top.specs.Status.{IsShown, status_text}
+use Rattle.rtdvs_top.specs.Constrain.{FailsToKeep}
+use Rattle.rtdvs_top.specs.Generated.{workload_tasks, workload_ticks, run_totals, workload_plan, workload_demands, totals_text, workload_text}
+use Rattle.rtdvs_top.specs.Meanings.{Gives, tasks_at, machine_at}
+use Rattle.rtdvs_top.specs.Trace.{traced_of, totals_at}
+use Rattle.rtdvs_top.specs.Least.{IsLeastOn, least_text}
+use Rattle.rtdvs_top.specs.Poll.{HasServed, polling_of, polled_text}
+use Rattle.rtdvs_top.specs.Response.{responses_text, FailsToRespond, Responds}
+
+-- the answer of a run: its text in this version
+abbrev pub answer_of_run : Version → GovernorKind → Run → Result (List ℕ) Status
+answer_of_run v g r = answer_of_plan v g r.demands r.ticks r.plan
+
+-- what a call sees: the shelf, and the sink of the answer
+pub record Seen : Type 0 where
+  pub shelf : ShelfView
+  pub out : SinkView
+
+-- what a call sees of this shelf and this sink
+abbrev pub seen : ShelfView → SinkView → Seen
+seen shelf out = record { shelf = shelf; out = out }
+
+-- the answer's text was written, or a first part of it, or the answer is refused
+abbrev pub Ends : SinkView → SinkView → Result (List ℕ) Status → Status → Type 0
+Ends old new answer status.Done = (text : List ℕ) × (answer ≡ Ok text) × Wrote old new text
+Ends old new answer status.Write = (text : List ℕ) × (answer ≡ Ok text) × WroteSome old new text
+Ends old new answer s = EndsWith answer s
+
+-- how the writing of an answer ends where the files are not known: a text was written, whole or in part, or none was
+abbrev pub EndsSomehow : SinkView → SinkView → Status → Type 0
+EndsSomehow old new status.Done = (text : List ℕ) × Wrote old new text
+EndsSomehow old new status.Write = (text : List ℕ) × WroteSome old new text
+EndsSomehow old new s = IsRefusal s
+
+-- how the writing of an answer ends, where the files are known, and where they aren't
+abbrev pub EndsAs : SinkView → SinkView → Option Files → (Files → Result (List ℕ) Status) → Status → Type 0
+EndsAs old new None answer s = EndsSomehow old new s
+EndsAs old new (Some files) answer s = Ends old new (answer files) s
+
+-- the demands of a run are those of its plan's tasks, and its number of ticks is within the limits
+pub record IsRunnable (r : Run) : Type 0 where
+  pub list : IsListOf r.plan r.demands
+  pub some_ticks : 1 ≤ r.ticks
+  pub low_ticks : r.ticks ≤ MOST_TICKS
+
+-- A run that the governor of a kind is made for: the plan is admitted and its scheduler makes a pair with the kind, and
+-- no listed demand exceeds its worst case.
+pub record IsReadyRun (kind : GovernorKind) (r : Run) : Type 0 where
+  pub admitted : IsAdmitted r.plan
+  pub pair : IsPair r.plan.scheduler kind
+  pub worsts : IsWithinWorsts r.demands
+  pub runnable : IsRunnable r
+
+-- a run of these tasks that is done is of the plan and the demands that were prepared
+abbrev pub RanBy : Option Files → RunOf → List Task → Status → Type 0
+RanBy files r tasks status.Done =
+    (p : Plan) × (d : DemandsOf) × Gives files (prepared_of r tasks) (p, d) × IsReadyRun r.governor (run_with r p d)
+RanBy files r tasks s = ⊤
+
+-- a replay or a migration of these tasks that is done compared a trace with the schedule of an admitted plan
+abbrev pub MetTraced : Option Files → TracedOf → List Task → Status → Type 0
+MetTraced files r tasks status.Done = (p : Plan) × (t : TraceOf) × Gives files (traced_of r tasks) (p, t) × IsAdmitted p
+MetTraced files r tasks s = ⊤
+
+-- a `least` that is done is of the machine that its file means
+abbrev pub LeastMet : Option Files → LeastOf → Type 0
+LeastMet files l = (m : Table) × (a : Least) × Gives files (machine_at l.machine) m × IsLeastOn m l a
+
+-- a `poll` of these tasks that is done has kept the outcomes, their order and the bound, for the server of its files
+abbrev pub ServedIn : Option Files → PollOf → List Task → Status → Type 0
+ServedIn files q tasks status.Done =
+    (s : ServerOf) × Gives files (polling_of q tasks) s × HasServed s q.governor q.ticks
+ServedIn files q tasks s = ⊤
+
+-- what is known of a command that is done, with the tasks of its file; of `least`, what it has met
+abbrev pub MetIn : Option Files → CommandOf → Status → Type 0
+MetIn files (run r) status.Done =
+    (tasks : List Task) × Gives files (tasks_at r.tasks) tasks × RanBy files r tasks status.Done
+MetIn files (traced r) status.Done =
+    (tasks : List Task) × Gives files (tasks_at r.tasks) tasks × MetTraced files r tasks status.Done
+MetIn files (poll q) status.Done =
+    (tasks : List Task) × Gives files (tasks_at q.tasks) tasks × ServedIn files q tasks status.Done
+MetIn files (least l) status.Done = LeastMet files l
+MetIn files c s = ⊤
+
+-- where the files are known, the lines of a status have the names of the command's tasks
+abbrev pub NamedBy : Option Files → CommandOf → Option (List Task) → Status → Type 0
+NamedBy None c tasks s = ⊤
+NamedBy (Some files) c tasks s = status_text (names_of tasks) s ≡ status_text (names_by c files) s
+
+-- where a command that asks for probes is done, the names are those of its tasks
+abbrev pub NamedIfDone : Option Files → CommandOf → Option (List Task) → Status → Type 0
+NamedIfDone (Some files) c tasks status.Done = IfAsked (asks_probes c) (names_of tasks ≡ names_by c files)
+NamedIfDone files c tasks s = ⊤
+
+-- a command was answered with this status, and its tasks where they were read
+pub record IsAnswered (c : CommandOf) (old new : Seen) (s : Status) (tasks : Option (List Task)) : Type 0 where
+  -- the answer's text was written, or a first part of it, or the status is the answer's refusal
+  pub ended : EndsAs old.out new.out (files_for old.shelf.held c) (answer_of_command c) s
+  -- what is known of a run, a replay, a `poll` run or a `least` that is done
+  pub met : MetIn (files_for old.shelf.held c) c s
+  -- what an exact test proves
+  pub tested : TestedIn (files_for old.shelf.held c) c s
+  -- the names of a refusal are those of the command's tasks
+  pub named : NamedBy (files_for old.shelf.held c) c tasks s
+  pub named_done : NamedIfDone (files_for old.shelf.held c) c tasks s
+  -- which load failed, and that the files before it were read
+  pub failed : FailsIn old.shelf new.shelf c s
+  -- the shelf's count of failed loads shows in the status
+  pub counts : CountsLoads old.shelf.faults new.shelf.faults s
+  -- what the status shows by itself
+  pub shown : IsShown s
+
+-- a status that refuses the tasks gives the cause
+abbrev pub RefusesBy : Plan → (ℕ → ℕ) → Status → Type 0
+RefusesBy p relative (status.NotAdmitted why) = FailsToKeep p relative why
+RefusesBy p relative (status.Limit jobs) = IsTooLong p jobs
+RefusesBy p relative s = ⊤
+
+-- a workload has some tasks and some ticks, and no more of either than that of the command
+pub record IsSmall (made : Workload) : Type 0 where
+  pub some : 1 ≤ made.tasks
+  pub few : made.tasks ≤ workload_tasks
+  pub some_ticks : 1 ≤ made.ticks
+  pub few_ticks : made.ticks ≤ workload_ticks
+
+-- each total is that of its governor's run of the plan
+pub record AreEdfTotals (p : Plan) (d : DemandsOf) (ticks : ℕ) (totals : EdfTotals) : Type 0 where
+  pub full : totals.full ≡ run_totals p d ticks Plain
+  pub fixed : totals.fixed ≡ run_totals p d ticks Fixed
+  pub cycle : totals.cycle ≡ run_totals p d ticks Cycle
+  pub ahead : totals.ahead ≡ run_totals p d ticks Ahead
+
+-- each total is that of its governor's run of the generated workload
+abbrev pub AreTotalsOf : Workload → EdfTotals → Type 0
+AreTotalsOf made totals =
+    AreEdfTotals (workload_plan made.seed made.tasks) (workload_demands made.seed made.tasks) made.ticks totals
+
+-- the lines of the governors that serve EDF
+abbrev pub edf_text : EdfTotals → List ℕ
+edf_text t =
+    (totals_text Plain t.full ++ totals_text Fixed t.fixed)
+    ++ (totals_text Cycle t.cycle ++ totals_text Ahead t.ahead)
+
+-- the status of a put: `Done`, or `Write` where it failed
+abbrev pub put_status : {T E : Type 0} → Result T E → Status
+put_status (Ok v) = status.Done
+put_status (Err e) = status.Write
+
+-- a status that the put of an answer can end with; too many jobs are those of the answer
+abbrev pub PutEnds : Result (List ℕ) Status → Status → Type 0
+PutEnds answer status.Done = ⊤
+PutEnds answer status.Write = ⊤
+PutEnds answer status.NoMemory = ⊤
+PutEnds answer (status.Limit jobs) = answer ≡ Err (status.Limit jobs)
+PutEnds answer s = ⊥
+
+-- the server is a task of the plan
+abbrev pub IsServer : ServerOf → Type 0
+IsServer s = s.task < count s.plan
+
+-- a `poll` run can be made: its server is a task of the plan, and its pair and its ticks are within the limits of a run
+pub record IsPollable (s : ServerOf) (governor : GovernorKind) (ticks : ℕ) : Type 0 where
+  pub server : IsServer s
+  pub pair : IsPair s.plan.scheduler governor
+  pub some_ticks : 1 ≤ ticks
+  pub few_ticks : ticks ≤ MOST_TICKS
+
+-- the run that is ready to be written
+abbrev pub ready_run : ReadyRun → Run
+ready_run w = record { plan = w.plan; demands = w.demands; ticks = w.ticks }
+
+-- the answer of what was prepared
+abbrev pub answer_of : Prepared → Result (List ℕ) Status
+answer_of (prepared.Run w) = answer_of_run w.version w.governor (ready_run w)
+answer_of (prepared.Line text) = Ok text
+answer_of (prepared.Responses tasks ticks) = Ok (responses_text tasks ticks)
+answer_of (prepared.Polled s r) = Ok (polled_text s r)
+answer_of (prepared.Least a) = Ok (least_text a)
+answer_of (prepared.Made made totals) = Ok (workload_text made.seed made.tasks made.ticks)
+
+-- what a put asks of what was prepared
+abbrev pub IsPuttable : Prepared → Type 0
+IsPuttable (prepared.Run w) = IsRunnable (ready_run w) × IsPair w.plan.scheduler w.governor
+IsPuttable (prepared.Line text) = 0 < length text
+IsPuttable (prepared.Responses tasks ticks) = length ticks ≡ length tasks
+IsPuttable (prepared.Polled s r) = length r.outcomes ≡ request_count s
+IsPuttable (prepared.Least a) = ⊤
+IsPuttable (prepared.Made made totals) = AreTotalsOf made totals
+
+-- whether the put tells probes the notes
+abbrev pub tells_probes : Prepared → Bool
+tells_probes (prepared.Run w) = w.probes
+tells_probes p = false
+
+-- the put of a run that asks for probes told them its notes
+abbrev pub ToldOf : Prepared → SinkView → SinkView → List ProbeOf → List ProbeOf → Status → Type 0
+ToldOf (prepared.Run w) old new before after s =
+    IfAsked w.probes (RunTold w.version w.governor (ready_run w) old new before after s)
+ToldOf p old new before after s = ⊤
+
+-- where the files are known, the step has this answer
+abbrev pub HasAnswer : Option Files → (Files → Result (List ℕ) Status) → Result (List ℕ) Status → Type 0
+HasAnswer None step answer = ⊤
+HasAnswer (Some files) step answer = step files ≡ answer
+
+-- What was prepared for a command: its put gives the command's answer. With each status that the put can end with, all
+-- holds that is known of the command.
+pub record IsPrepared (files : Option Files) (c : CommandOf) (tasks : Option (List Task)) (p : Prepared) : Type 0 where
+  pub answer : HasAnswer files (answer_of_command c) (answer_of p)
+  pub puttable : IsPuttable p
+  pub tells : tells_probes p ≡ asks_probes c
+  pub named : NamedIfDone files c tasks status.Done
+  pub met : (s : Status) → PutEnds (answer_of p) s → MetIn files c s
+  pub tested : (s : Status) → PutEnds (answer_of p) s → TestedIn files c s
+  pub told : (old new : SinkView) (before after : List ProbeOf) (s : Status) → ToldOf p old new before after s
+      → ToldIn files c old new before after s
+
+-- a command ended with this status before anything was put
+pub record IsRefused (old new : ShelfView) (c : CommandOf) (tasks : Option (List Task)) (s : Status) : Type 0 where
+  pub ended : Refuses (files_for old.held c) (answer_of_command c) s
+  pub tested : TestedIn (files_for old.held c) c s
+  pub named : NamedBy (files_for old.held c) c tasks s
+  pub failed : FailsIn old new c s
+  pub shown : IsShown s
+
+-- the plan is of the trace's scheduler, which makes a pair with its governor; its number of ticks is within the limits;
+-- each task that a note names is one of the plan; and the last note, and no other, ends the run
+pub record IsComparable (p : Plan) (t : TraceOf) : Type 0 where
+  pub scheduler : t.plan.scheduler ≡ p.scheduler
+  pub pair : IsPair p.scheduler t.plan.governor
+  pub some_ticks : 1 ≤ t.plan.ticks
+  pub low_ticks : t.plan.ticks ≤ MOST_TICKS
+  pub tasks : AllByRecursion (NamesTask (count p)) t.notes
+  pub ended : IsEnded t.notes
+
+-- the trace was compared with its schedule, and has these totals
+abbrev pub IsCompared : Plan → TraceOf → Totals → Type 0
+IsCompared p t totals = totals_at (p, t) ≡ Ok totals
+
+-- a status that denies a plan gives the cause
+abbrev pub DeniesBy : Plan → Status → Type 0
+DeniesBy p (status.NotAdmitted why) = FailsToRespond p why
+DeniesBy p s = ⊤
+
+-- a test that is done or denies the tasks is of the machine that its file means, where the files are known
+abbrev pub IsTested : Option Files → ResponseOf → List Task → Status → Type 0
+IsTested (Some files) r tasks status.Done =
+    (machine : Table) × (machine_at r.machine files ≡ Ok machine) × Responds (plan_of tasks machine Rm)
+IsTested (Some files) r tasks (status.NotAdmitted why) =
+    (machine : Table) × (machine_at r.machine files ≡ Ok machine) × FailsToRespond (plan_of tasks machine Rm) why
+IsTested files r tasks s = ⊤
+
+-- the run that was planned
+abbrev pub planned : PlannedRun → Run
+planned r = record { plan = r.plan.now; demands = r.demands.now; ticks = r.ticks }

@@ -1,0 +1,95 @@
+-- The answer of `run`, and what a run that is done has met.
+use Rattle.std.specs.Prelude.{ℕ, List, nat_lt, Result, Ok, Err, if◌then◌else◌, ◌≡◌, ⊤, ◌≢◌}
+use Rattle.dvs_base.specs.Checks.{and_then}
+use Rattle.dvs_base.specs.Outside.{Files}
+use Rattle.dvs_base.specs.declared.kind.GovernorKind.{GovernorKind}
+use Rattle.dvs_base.specs.declared.kind.Version.{Version}
+use Rattle.task_model.specs.declared.task.Task.{Task}
+use Rattle.demand_list.specs.Demands.{DemandsOf}
+use Rattle.sched_model.specs.Plan.{Plan, plan_of}
+use Rattle.sched_model.specs.Jobs.{demand_of, released_jobs, JobDemands}
+use Rattle.done_lines.specs.RunText.{run_text_in}
+use Rattle.event_kernel.specs.Runs.{Run, demands_of}
+use Rattle.dvs_base.specs.declared.limits.TheConstants.{MOST_JOBS}
+use Rattle.words.specs.Commands.{RunOf}
+use Rattle.rtdvs_top.specs.declared.status.Status.{Status}
+use Rattle.rtdvs_top.specs.declared.status.Status.TheVariants as status
+use Rattle.dvs_base.specs.declared.kind.GovernorKind.TheVariants.{Ahead}
+use Rattle.sched_model.specs.Ticks.{Tick, IsMet}
+use Rattle.sched_model.specs.Admission.{PassesTest}
+use Rattle.sched_model.specs.Schedule.{schedule, AlwaysMeets, HasSchedule, HasNoOther, IsTheSchedule}
+use Rattle.done_lines.specs.DoneLines.{TellsDeadlines}
+use Rattle.rtdvs_top.specs.Admit.{admission}
+use Rattle.rtdvs_top.specs.Meanings.{demands_at, machine_at, tasks_at}
+
+-- the text, where the run doesn't release too many jobs
+abbrev pub within_jobs : ℕ → List ℕ → Result (List ℕ) Status
+within_jobs jobs bytes = if nat_lt MOST_JOBS jobs then Err (status.Limit jobs) else Ok bytes
+
+-- the answer of an admitted plan: the text of its run in this version
+abbrev pub answer_of_plan : Version → GovernorKind → DemandsOf → ℕ → Plan → Result (List ℕ) Status
+answer_of_plan v g demands ticks p =
+    within_jobs (released_jobs p ticks) (run_text_in v p g (demand_of p demands.rows) ticks)
+
+-- the admitted plan and the demands of `run`, after its tasks were read
+abbrev pub prepared_of : RunOf → List Task → Files → Result (Plan × DemandsOf) Status
+prepared_of r tasks files =
+    and_then (machine_at r.machine files) (λ machine.
+    and_then (demands_at tasks r.demands files) (λ demands.
+    and_then (admission (plan_of tasks machine r.scheduler)) (λ p.
+    Ok (p, demands))))
+
+-- the answer of `run` for the plan and the demands that were prepared
+abbrev pub answer_of_prepared : RunOf → Plan × DemandsOf → Result (List ℕ) Status
+answer_of_prepared r x = answer_of_plan r.version r.governor x.1 r.ticks x.0
+
+-- the answer of `run`, after its tasks were read
+abbrev pub run_after_tasks : RunOf → List Task → Files → Result (List ℕ) Status
+run_after_tasks r tasks files = and_then (prepared_of r tasks files) (answer_of_prepared r)
+
+-- the answer of `run`
+abbrev pub run_answer : RunOf → Files → Result (List ℕ) Status
+run_answer r files = and_then (tasks_at r.tasks files) (λ tasks. run_after_tasks r tasks files)
+
+-- every status but `Done` and `Write` leaves a thing as it was
+abbrev pub Leaves : {W : Type 0} → Status → W → W → Type 0
+Leaves status.Done old new = ⊤
+Leaves status.Write old new = ⊤
+Leaves s old new = new ≡ old
+
+-- the demand of each job of a run
+abbrev pub job_demands : Run → JobDemands
+job_demands r = demands_of r.plan r.demands
+
+-- the ticks of a run's schedule, by the published demand of the governor's kind
+abbrev pub ticks_under : GovernorKind → Run → List Tick
+ticks_under kind r = schedule r.plan kind (job_demands r) r.ticks
+
+-- the text of a run's trace in a version
+abbrev pub text_under : Version → GovernorKind → Run → List ℕ
+text_under v kind r = run_text_in v r.plan kind (job_demands r) r.ticks
+
+-- some entry of the table meets each published demand of a run
+abbrev pub AlwaysMeetsIn : GovernorKind → Run → Type 0
+AlwaysMeetsIn kind r = AlwaysMeets r.plan kind (job_demands r) r.ticks
+
+-- what a run of an admitted plan, written in this version, has met
+pub record HasMet (v : Version) (kind : GovernorKind) (r : Run) : Type 0 where
+  -- the scheduler's stated test passes at the highest speed
+  pub admitted : PassesTest r.plan.scheduler r.plan
+  -- the run's ticks are the one schedule, in which each speed is the lowest entry that meets the published demand, else
+  -- the highest
+  pub schedule : IsTheSchedule r.plan kind (job_demands r) r.ticks (ticks_under kind r)
+  -- each job that is due within the run has had its demand by its deadline
+  pub deadlines : IsMet r.plan (job_demands r) (ticks_under kind r)
+  -- exactly one line of the text says that the job is done, at a position not after its deadline
+  pub told : TellsDeadlines r.plan r.ticks (text_under v kind r)
+  -- some entry meets each published demand, unless the governor looks ahead
+  pub speeds : kind ≢ Ahead → AlwaysMeetsIn kind r
+  -- for any published demand, the plan has one schedule of each length
+  pub exists : HasSchedule r.plan
+  pub unique : HasNoOther r.plan
+
+-- the run of a plan and demands that the words of a run ask for
+abbrev pub run_with : RunOf → Plan → DemandsOf → Run
+run_with r p d = record { plan = p; demands = d; ticks = r.ticks }

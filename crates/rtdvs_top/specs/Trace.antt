@@ -1,0 +1,171 @@
+-- The answer of `replay` and `migrate`, and which trace files they take.
+use Rattle.std.specs.Prelude.{◌≡◌, ℕ, ◌≤◌, true, List, Some, Ok, ⊤, Option, Result, map, Err, [], ◌∷◌, codes, decimal}
+use Rattle.dvs_base.specs.Outside.{Files, file_of}
+use Rattle.dvs_base.specs.declared.kind.GovernorKind.{GovernorKind}
+use Rattle.dvs_base.specs.declared.kind.Version.{Version}
+use Rattle.dvs_base.specs.PlanWords.{is_pair}
+use Rattle.dvs_base.specs.declared.limits.TheConstants.{MOST_JOBS, MOST_TICKS}
+use Rattle.task_model.specs.DemandRows.{DemandRow}
+use Rattle.demand_list.specs.Demands.{IsDemands}
+use Rattle.sched_model.specs.Plan.{Plan, names, plan_of}
+use Rattle.sched_model.specs.Admission.{IsAdmitted}
+use Rattle.sched_model.specs.Jobs.{demand_of, IsWithin, released_jobs}
+use Rattle.done_lines.specs.RunText.{run_text_in, task_texts}
+use Rattle.trace_reader.specs.Traces.{TraceOf, text_of, task_lines}
+use Rattle.replay_laws.specs.FixedDemands.{fixed_of, fixed_list}
+use Rattle.words.specs.declared.command.WordFault.{WordFault}
+use Rattle.words.specs.Commands.{TracedOf, CommandOf, traced}
+use Rattle.rtdvs_top.specs.declared.status.Status.{Status}
+use Rattle.rtdvs_top.specs.declared.status.Status.TheVariants as status
+use Rattle.dvs_base.specs.Checks.{and_then}
+use Rattle.dvs_base.specs.declared.kind.Version.TheVariants.{Two}
+use Rattle.dvs_base.specs.declared.note.Totals.{Totals}
+use Rattle.trace_text.specs.TraceLines.{line}
+use Rattle.task_model.specs.declared.task.Task.{Task}
+use Rattle.sched_model.specs.Demand.{published}
+use Rattle.trace_reader.specs.declared.trace.TaskLine.{TaskLine}
+use Rattle.trace_reader.specs.declared.trace.TraceFault.{TraceFault}
+use Rattle.trace_reader.specs.declared.trace.TraceFault.TheVariants as trace_fault
+use Rattle.trace_reader.specs.TraceFile.{trace_file}
+use Rattle.replay.specs.Replays.{replay_of}
+use Rattle.replay.specs.declared.fault.ReplayFault.{ReplayFault}
+use Rattle.replay.specs.declared.fault.ReplayFault.TheVariants as replay_fault
+use Rattle.words.specs.declared.given.TraceUse.{TraceUse}
+use Rattle.words.specs.declared.given.TraceUse.TheVariants.{Replay, Migrate}
+use Rattle.rtdvs_top.specs.declared.status.FileKind.TheVariants as file
+use Rattle.rtdvs_top.specs.declared.status.TextFault.TheVariants as text
+use Rattle.rtdvs_top.specs.Meanings.{tasks_at, machine_at, bytes_at}
+use Rattle.rtdvs_top.specs.Admit.{admission}
+
+-- the bytes are the text, in a version, of the schedule of an admitted plan for the demand list of these rows, by the
+-- published demand of this governor, in `ticks` ticks
+pub record IsScheduleText (v : Version) (p : Plan) (g : GovernorKind) (ticks : ℕ) (rows : List DemandRow) (bytes : List ℕ) : Type 0 where
+  -- the plan is within its limits, and its scheduler's test passes
+  pub admitted : IsAdmitted p
+  -- no demand exceeds its task's worst case
+  pub within : IsWithin p (demand_of p rows)
+  -- no more jobs are released than the limit
+  pub few : released_jobs p ticks ≤ MOST_JOBS
+  -- scheduler and governor are a pair
+  pub pair : is_pair p.scheduler g ≡ true
+  -- there is a tick, and no more of them than the limit
+  pub some_ticks : 1 ≤ ticks
+  pub low_ticks : ticks ≤ MOST_TICKS
+  pub text : bytes ≡ run_text_in v p g (demand_of p rows) ticks
+
+-- the files that the words name mean the tasks and the machine of the plan, and the trace file holds these bytes
+pub record AreFilesOf (r : TracedOf) (files : Files) (p : Plan) (bytes : List ℕ) : Type 0 where
+  pub tasks_are : tasks_at r.tasks files ≡ Ok p.tasks
+  pub machine_is : machine_at r.machine files ≡ Ok p.machine
+  pub bytes_are : file_of files r.trace ≡ Some bytes
+
+-- the trace file is the text of a schedule of the plan for the demand list of these rows
+abbrev pub TellsSchedule : TracedOf → Files → Version → Plan → GovernorKind → ℕ → List DemandRow → Type 0
+TellsSchedule r files v p g ticks rows =
+    (bytes : List ℕ) × AreFilesOf r files p bytes × IsScheduleText v p g ticks rows bytes
+
+-- the trace file is the text of this trace, and of the schedule for the demand list that the trace's notes fix: the
+-- first end of a job fixes its demand, and each other job has its worst case
+pub record TellsOwn (r : TracedOf) (files : Files) (p : Plan) (t : TraceOf) : Type 0 where
+  pub files_are : AreFilesOf r files p (text_of (names p) (task_texts p) t)
+  pub list : IsDemands (fixed_list p t.notes)
+  pub schedule : IsScheduleText t.version p t.plan.governor t.plan.ticks (fixed_of p t.notes) (text_of (names p) (task_texts p) t)
+
+-- done; or a load or a put failed and its count of faults rose; or memory ran out
+abbrev pub IsDoneUnless : Type 0 → Type 0 → Status → Type 0
+IsDoneUnless loads_rose puts_rose status.Done = ⊤
+IsDoneUnless loads_rose puts_rose (status.Load kind) = loads_rose
+IsDoneUnless loads_rose puts_rose status.Write = puts_rose
+IsDoneUnless loads_rose puts_rose status.NoMemory = ⊤
+IsDoneUnless loads_rose puts_rose s = ⊥
+
+-- A replay or a migration is done, where the files are known, exactly where the trace file is the text, in either
+-- version, of a schedule for some demand list: one that is done shows the list, which the text fixes, and each such
+-- file is done, unless a load, a put or memory failed.
+abbrev pub OfTrace : Option Files → Result CommandOf WordFault → Type 0 → Type 0 → Status → Type 0
+OfTrace (Some files) (Ok (traced r)) loads_rose puts_rose s =
+    (s ≡ status.Done → (p : Plan) × (t : TraceOf) × TellsOwn r files p t)
+    × ((v : Version) (p : Plan) (g : GovernorKind) (ticks : ℕ) (rows : List DemandRow)
+    → TellsSchedule r files v p g ticks rows → IsDoneUnless loads_rose puts_rose s)
+OfTrace files c loads_rose puts_rose s = ⊤
+
+-- the names of tasks
+abbrev pub task_names : List Task → List (List ℕ)
+task_names tasks = map (λ t. t.name) tasks
+
+-- what version 2 of a trace says of a task: its period, its first release and its declared worst case
+abbrev pub task_line : Task → TaskLine
+task_line t = record { period = t.period; offset = t.offset; worst = t.worst }
+
+-- the lines of tasks in version 2
+abbrev pub lines_of_tasks : List Task → List (List ℕ)
+lines_of_tasks tasks = task_lines (task_names tasks) (map task_line tasks)
+
+-- a refusal of a trace file as a status; `NoMemory` is a status of its own
+abbrev pub trace_status : TraceFault → Status
+trace_status trace_fault.NoMemory = status.NoMemory
+trace_status e = status.Text (text.Trace e)
+
+-- what a trace file means, with its refusal as a status
+abbrev pub trace_from : Result TraceOf TraceFault → Result TraceOf Status
+trace_from (Ok t) = Ok t
+trace_from (Err e) = Err (trace_status e)
+
+-- the trace of a text of either version, for these tasks
+abbrev pub trace_of : List Task → List ℕ → Result TraceOf TraceFault
+trace_of tasks bytes = trace_file Two (task_names tasks) (lines_of_tasks tasks) bytes
+
+-- the trace of a named file
+abbrev pub trace_at : List Task → List ℕ → Files → Result TraceOf Status
+trace_at tasks name files = and_then (bytes_at file.Trace name files) (λ bytes. trace_from (trace_of tasks bytes))
+
+-- the admitted plan and the trace, after the tasks were read: the machine, the trace, and the test of the scheduler
+-- that the trace names
+abbrev pub traced_of : TracedOf → List Task → Files → Result (Plan × TraceOf) Status
+traced_of r tasks files =
+    and_then (machine_at r.machine files) (λ machine.
+    and_then (trace_at tasks r.trace files) (λ t.
+    and_then (admission (plan_of tasks machine t.plan.scheduler)) (λ p.
+    Ok (p, t))))
+
+-- a refusal of a replay as a status
+abbrev pub replay_status : ReplayFault → Status
+replay_status (replay_fault.OverWorst task job used worst) = status.OverWorst task job used worst
+replay_status (replay_fault.TooManyJobs jobs) = status.Limit jobs
+replay_status (replay_fault.Differs line wanted found) = status.Differs line wanted found
+replay_status replay_fault.NoMemory = status.NoMemory
+
+-- what a replay answers, with its refusal as a status
+abbrev pub totals_from : Result Totals ReplayFault → Result Totals Status
+totals_from (Ok totals) = Ok totals
+totals_from (Err e) = Err (replay_status e)
+
+-- the totals of a trace of a plan, where its notes are those of the schedule for the demands that they fix
+abbrev pub totals_at : Plan × TraceOf → Result Totals Status
+totals_at x = totals_from (replay_of x.0 (published x.0 x.1.plan.governor) x.1)
+
+-- the line of a replay: the releases, the completions, and the energies of running and of idling
+abbrev pub replayed_text : Totals → List ℕ
+replayed_text t =
+    line (codes "replayed" ∷ decimal t.released ∷ decimal t.finished ∷ decimal t.run ∷ decimal t.idle ∷ [])
+
+-- the text of version 2 of a trace of a plan
+abbrev pub migrated_text : Plan → TraceOf → List ℕ
+migrated_text p t = text_of (names p) (task_texts p) (record t { version = Two })
+
+-- what is printed for a trace that is that of its schedule: its totals by `replay`, its text in version 2 by `migrate`
+abbrev pub printed : TraceUse → Plan × TraceOf → Totals → List ℕ
+printed Replay x totals = replayed_text totals
+printed Migrate x totals = migrated_text x.0 x.1
+
+-- the answer for a trace of a plan, which is compared first
+abbrev pub answer_of_traced : TraceUse → Plan × TraceOf → Result (List ℕ) Status
+answer_of_traced asked x = and_then (totals_at x) (λ totals. Ok (printed asked x totals))
+
+-- the answer of `replay` or `migrate`, after its tasks were read
+abbrev pub trace_after_tasks : TracedOf → List Task → Files → Result (List ℕ) Status
+trace_after_tasks r tasks files = and_then (traced_of r tasks files) (answer_of_traced r.asked)
+
+-- the answer of `replay` or `migrate`
+abbrev pub trace_answer : TracedOf → Files → Result (List ℕ) Status
+trace_answer r files = and_then (tasks_at r.tasks files) (λ tasks. trace_after_tasks r tasks files)

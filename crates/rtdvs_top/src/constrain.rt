@@ -1,0 +1,155 @@
+// The answer of `constrain`, the test of deadlines below the periods.
+ghost use Rattle.std.specs.Prelude.{◌≡◌, ◌<◌, length, slice_index, IfOk, OnOk, IfErr, Ok};
+ghost use Rattle.dvs_base.specs.declared.kind.Scheduler.TheVariants.{Edf};
+ghost use Rattle.sched_model.specs.Plan.{plan_of};
+ghost use Rattle.edf_demand.specs.Deadlines.{AreFor};
+ghost use Rattle.words.specs.Commands.{constrain as constrain_of};
+ghost use Rattle.words.specs.Shown.{shown_constrain};
+ghost use Rattle.rtdvs_top.specs.Constrain.{deadline_status, deadlines_at, constrained_text, constrain_with, constrain_after_tasks, KeepsDeadlines, IsKept};
+ghost use Rattle.rtdvs_top.specs.Prepared.{RefusesBy, IsPrepared, IsRefused};
+ghost use Rattle.rtdvs_top.specs.Failing.{EndsWith, Refuses, CountsStep, IsLoadOf, IsNoLoad, IsOfFile, FailsLater, loads_later};
+ghost use Rattle.rtdvs_top.specs.Meanings.{Gives};
+ghost use Rattle.rtdvs_top.specs.Files.{MakesLoads, loads_needed};
+ghost use Rattle.rtdvs_top.specs.Status.{IsShown};
+
+use crate::files::{load_file, load_machine, load_tasks};
+use crate::put::Prepared;
+use crate::{Denied, FileKind, Status, TextFault};
+use dvs_base::{Line, Part, Shelf, line_of};
+use edf_demand::{ConstrainFault, Constrained, DeadlineFault, Deadlines, constrain};
+use freq_table::Machine;
+use std::alloc::Global;
+use task_model::TaskSet;
+use words::ConstrainWords;
+
+// A refusal of a deadline file as a status.
+fn deadline_status(why: DeadlineFault) -> Status
+    ensures is { result ≡ deadline_status why }
+    ensures of_file { IsOfFile result }
+    ensures shown { IsShown result }
+{
+    match why {
+        DeadlineFault::NoMemory => Status::NoMemory,
+        why => Status::Text(TextFault::Deadlines(why)),
+    }
+}
+
+// The relative deadlines of a file.
+fn load_deadlines<S: Shelf>(
+    alloc: Global,
+    name: &str,
+    tasks: &TaskSet,
+    shelf: &mut S,
+) -> Result<Deadlines, Status>
+    ensures read { IfOk result (Gives (S.shows shelf.old).held (deadlines_at tasks.now name.now)) }
+    ensures for_tasks { IfOk result (AreFor tasks.now) }
+    ensures refused { IfErr result (Refuses (S.shows shelf.old).held (deadlines_at tasks.now name.now)) }
+    ensures explained { IfErr result (IsLoadOf (S.shows shelf.old) (S.shows shelf.new) FileKind.Deadlines name.now) }
+    ensures of_file { IfErr result IsOfFile }
+    ensures loads { MakesLoads 1 (S.shows shelf.old) (S.shows shelf.new) }
+    ensures counts { CountsStep (S.shows shelf.old).faults (S.shows shelf.new).faults result }
+    ensures shown { IfErr result IsShown }
+{
+    let bytes = load_file(alloc, FileKind::Deadlines, name, shelf)?;
+    match Deadlines::read(alloc, &bytes, tasks) {
+        Ok(deadlines) => Ok(deadlines),
+        Err(why) => Err(deadline_status(why)),
+    }
+}
+
+// The line of the speed that was found.
+fn constrained_line(machine: &Machine, found: Constrained) -> Line
+    requires { found.point < length machine.now.points }
+    ensures text { result ≡ constrained_text machine.now found }
+    ensures some { 0 < length result }
+{
+    let point = machine.point(found.point);
+    line_of(&[
+        Part::Word(b"constrained "),
+        Part::Ratio(found.demand.num, found.demand.den),
+        Part::Word(b" "),
+        Part::Number(point.speed),
+        Part::Word(b"\n"),
+    ])
+}
+
+// The line of the lowest speed for tasks with these deadlines on a machine.
+fn lowest_line(
+    alloc: Global,
+    tasks: &TaskSet,
+    deadlines: &Deadlines,
+    machine: &Machine,
+) -> Result<Line, Status>
+    requires { AreFor tasks.now deadlines.now }
+    ensures line { IfOk result (λ l. constrain_with tasks.now machine.now deadlines.now ≡ Ok l) }
+    ensures some { IfOk result (λ l. 0 < length l) }
+    ensures proves { OnOk result (KeepsDeadlines (plan_of tasks.now machine.now Edf) (slice_index deadlines.now)) }
+    ensures refused { IfErr result (EndsWith (constrain_with tasks.now machine.now deadlines.now)) }
+    ensures fails { IfErr result (RefusesBy (plan_of tasks.now machine.now Edf) (slice_index deadlines.now)) }
+    ensures loads { IfErr result IsNoLoad }
+    ensures shown { IfErr result IsShown }
+{
+    let _entries = machine.as_slice();
+    match constrain(alloc, tasks, deadlines, machine) {
+        Ok(found) => Ok(constrained_line(machine, found)),
+        Err(ConstrainFault::Offset { task }) => Err(Status::NotAdmitted(Denied::Offset { task })),
+        Err(ConstrainFault::TooManyJobs { count }) => Err(Status::Limit { jobs: count }),
+        Err(ConstrainFault::Denied { at, num, cap }) => Err(Status::NotAdmitted(Denied::Demand {
+            at,
+            num,
+            cap,
+        })),
+        Err(ConstrainFault::NoMemory) => Err(Status::NoMemory),
+    }
+}
+
+// The line of the answer of `constrain`, after its tasks were read.
+fn load_constrained<S: Shelf>(
+    alloc: Global,
+    words: &ConstrainWords<'_>,
+    tasks: &TaskSet,
+    shelf: &mut S,
+) -> Result<Line, Status>
+    ensures read { IfOk result
+        (Gives (S.shows shelf.old).held (constrain_after_tasks (shown_constrain words.now) tasks.now)) }
+    ensures some { IfOk result (λ l. 0 < length l) }
+    ensures proves { OnOk result (IsKept (S.shows shelf.old).held (shown_constrain words.now) tasks.now Status.Done) }
+    ensures refused { IfErr result
+        (Refuses (S.shows shelf.old).held (constrain_after_tasks (shown_constrain words.now) tasks.now)) }
+    ensures fails { IfErr result (IsKept (S.shows shelf.old).held (shown_constrain words.now) tasks.now) }
+    ensures failed { IfErr result
+        (FailsLater (S.shows shelf.old) (S.shows shelf.new) (constrain_of (shown_constrain words.now))) }
+    ensures loads { MakesLoads (loads_later (S.shows shelf.old).held (constrain_of (shown_constrain words.now)))
+        (S.shows shelf.old) (S.shows shelf.new) }
+    ensures counts { CountsStep (S.shows shelf.old).faults (S.shows shelf.new).faults result }
+    ensures shown { IfErr result IsShown }
+{
+    let machine = load_machine(alloc, words.machine, shelf)?;
+    let deadlines = load_deadlines(alloc, words.deadlines, tasks, shelf)?;
+    let line = lowest_line(alloc, tasks, &deadlines, &machine)?;
+    Ok(line)
+}
+
+/// What `constrain` prepares, and the tasks where they were read.
+pub(crate) fn prepare_constrain<S: Shelf>(
+    alloc: Global,
+    words: &ConstrainWords<'_>,
+    shelf: &mut S,
+) -> (Result<Prepared, Status>, Option<TaskSet>)
+    ensures prepared { IfOk result.0
+        (IsPrepared (S.shows shelf.old).held (constrain_of (shown_constrain words.now)) result.1) }
+    ensures refused { IfErr result.0
+        (IsRefused (S.shows shelf.old) (S.shows shelf.new) (constrain_of (shown_constrain words.now)) result.1) }
+    ensures loads { MakesLoads (loads_needed (S.shows shelf.old).held (constrain_of (shown_constrain words.now)))
+        (S.shows shelf.old) (S.shows shelf.new) }
+    ensures counts { CountsStep (S.shows shelf.old).faults (S.shows shelf.new).faults result.0 }
+{
+    let tasks = match load_tasks(alloc, words.tasks, shelf) {
+        Ok(tasks) => tasks,
+        Err(status) => return (Err(status), None),
+    };
+    match load_constrained(alloc, words, &tasks, shelf) {
+        Ok(line) => (Ok(Prepared::Line(line)), Some(tasks)),
+        Err(status) => (Err(status), Some(tasks)),
+    }
+}

@@ -1,0 +1,109 @@
+// The answer of `least`.
+ghost use Rattle.std.specs.Prelude.{◌≡◌, ◌<◌, ◌≤◌, length, IfOk, IfErr, None, Ok};
+ghost use Rattle.words.specs.Commands.{HasReadyTicks, least as least_of};
+ghost use Rattle.words.specs.Shown.{shown_least};
+ghost use Rattle.rtdvs_top.specs.Least.{corners_text, sign_word, prices_text, least_text, least_on, IsLeastOn};
+ghost use Rattle.rtdvs_top.specs.Failing.{EndsWith, CountsStep, IsNoLoad};
+ghost use Rattle.rtdvs_top.specs.Files.{MakesLoads, loads_needed};
+ghost use Rattle.rtdvs_top.specs.Prepared.{IsPrepared, IsRefused};
+ghost use Rattle.rtdvs_top.specs.Status.{IsShown};
+ghost use Rattle.dvs_base.specs.WritesText.{WritesText};
+
+use crate::files::load_machine;
+use crate::put::Prepared;
+use crate::{Denied, Status};
+use dvs_base::{Failed, Line, Part, Shelf, Sink, line_of, put_two};
+use energy_bound::{Least, Over, least_energy};
+use freq_table::Machine;
+use std::alloc::Global;
+use words::LeastWords;
+
+// The line of the two corners and the energy.
+fn corners_line(least: &Least) -> Line
+    ensures text { result ≡ corners_text least.now }
+    ensures some { 0 < length result }
+{
+    line_of(&[
+        Part::Word(b"least "),
+        Part::Number(least.rounds),
+        Part::Word(b" "),
+        Part::Number(least.low),
+        Part::Word(b" "),
+        Part::Number(least.low_ticks),
+        Part::Word(b" "),
+        Part::Number(least.high),
+        Part::Word(b" "),
+        Part::Number(least.high_ticks),
+        Part::Word(b" "),
+        Part::Wide(least.energy),
+        Part::Word(b"\n"),
+    ])
+}
+
+// The word of a sign.
+fn sign_word(minus: bool) -> &'static [u8]
+    ensures word { result.now ≡ sign_word minus }
+    ensures short { length result.now ≤ 5 }
+{
+    if minus { b"minus" } else { b"plus" }
+}
+
+// The line of the two prices.
+fn prices_line(least: &Least) -> Line
+    ensures text { result ≡ prices_text least.now }
+    ensures some { 0 < length result }
+{
+    line_of(&[
+        Part::Word(b"prices "),
+        Part::Wide(least.unit_price),
+        Part::Word(b" "),
+        Part::Word(sign_word(least.tick_minus)),
+        Part::Word(b" "),
+        Part::Wide(least.tick_price),
+        Part::Word(b"\n"),
+    ])
+}
+
+/// Puts the two lines of `least`.
+pub(crate) fn put_least<W: Sink>(least: &Least, out: &mut W) -> Result<(), Failed>
+    ensures { WritesText (W.shows out.old) (W.shows out.new) (least_text least.now) result }
+{
+    let corners = corners_line(least);
+    let prices = prices_line(least);
+    put_two(&corners, &prices, out)
+}
+
+// The answer of `least` on a machine.
+fn bound_energy(words: &LeastWords<'_>, machine: &Machine) -> Result<Least, Status>
+    requires { HasReadyTicks (shown_least words.now) }
+    ensures answer { IfOk result (λ a. least_on (shown_least words.now) machine.now ≡ Ok (least_text a)) }
+    ensures least { IfOk result (IsLeastOn machine.now (shown_least words.now)) }
+    ensures refused { IfErr result (EndsWith (least_on (shown_least words.now) machine.now)) }
+    ensures loads { IfErr result IsNoLoad }
+    ensures shown { IfErr result IsShown }
+{
+    match least_energy(machine, words.units, words.ticks) {
+        Ok(least) => Ok(least),
+        Err(Over { num, cap }) => Err(Status::NotAdmitted(Denied::Units { num, cap })),
+    }
+}
+
+/// What `least` prepares; its one file is the machine's.
+pub(crate) fn prepare_least<S: Shelf>(
+    alloc: Global,
+    words: &LeastWords<'_>,
+    shelf: &mut S,
+) -> Result<Prepared, Status>
+    requires { HasReadyTicks (shown_least words.now) }
+    ensures prepared { IfOk result
+        (IsPrepared (S.shows shelf.old).held (least_of (shown_least words.now)) None) }
+    ensures refused { IfErr result
+        (IsRefused (S.shows shelf.old) (S.shows shelf.new) (least_of (shown_least words.now)) None) }
+    ensures loads { MakesLoads (loads_needed (S.shows shelf.old).held (least_of (shown_least words.now)))
+        (S.shows shelf.old) (S.shows shelf.new) }
+    ensures counts { CountsStep (S.shows shelf.old).faults (S.shows shelf.new).faults result }
+{
+    let machine = load_machine(alloc, words.machine, shelf)?;
+    let least = bound_energy(words, &machine)?;
+    Ok(Prepared::Least(least))
+}

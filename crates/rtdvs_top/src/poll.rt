@@ -1,0 +1,312 @@
+// The server of a `poll` run: its files loaded, its run, and its lines.
+ghost use Rattle.std.specs.Prelude.{◌≡◌, ◌≤◌, Ok, IfOk, IfErr, ◌<◌, length, None, if◌then◌else◌};
+ghost use Rattle.dvs_base.specs.declared.limits.TheConstants.{MOST_JOBS};
+ghost use Rattle.sched_model.specs.Jobs.{released_jobs};
+ghost use Rattle.words.specs.Shown.{shown_poll};
+ghost use Rattle.rtdvs_top.specs.Poll.{server_at, request_status, requests_at, polling_of, polling_served, answer_of_polling, HasServed, outcome_text, request_lines, is_served, served_among, polled_line, polled_text};
+ghost use Rattle.rtdvs_top.specs.Failing.{FindsBefore, polled_loads, FailsLater, EndsWith, Refuses, CountsStep, IsLoadOf, IsNoLoad};
+ghost use Rattle.rtdvs_top.specs.Prepared.{IsServer, IsPollable, IsPrepared, IsRefused};
+ghost use Rattle.words.specs.Commands.{poll as poll_of, IsReadyCommand};
+ghost use Rattle.rtdvs_top.specs.Meanings.{Gives};
+ghost use Rattle.rtdvs_top.specs.Files.{MakesLoads, loads_needed};
+ghost use Rattle.rtdvs_top.specs.Status.{IsShown};
+ghost use Rattle.poll_server.specs.Serving.{request_count};
+ghost use Rattle.dvs_base.specs.WritesText.{WritesText};
+
+use crate::admit::admit;
+use crate::at_pair::at_pair;
+use crate::files::{load_file, load_machine, load_tasks};
+use crate::put::Prepared;
+use crate::{FileKind, Status, TextFault};
+use dvs_base::{
+    Failed, GovernorKind, Line, NoMemory, Part, Shelf, Short, Sink, Totals, line_of, put_line,
+};
+use governor::Publishing;
+use poll_server::{Outcome, PollFault, Served, poll};
+use request_list::{RequestFault, Requests};
+use sched_model::Admitted;
+use std::alloc::Global;
+use std::marker::Model;
+use task_model::TaskSet;
+use words::PollWords;
+
+/// A polling server: a task of an admitted plan, and the requests that it serves.
+#[derive(Drop)]
+pub(crate) struct Polling {
+    pub(crate) plan: Admitted,
+    pub(crate) server: u32,
+    pub(crate) requests: Requests,
+}
+
+impl Model for Polling {
+    ghost use Rattle.poll_server.specs.Serving.{ServerOf, server_of};
+
+    ghost Value = { ServerOf };
+
+    ghost view = { λ p. server_of p.plan p.server p.requests };
+
+    ghost invariant = { λ p. Unit {0} };
+}
+
+// The place of the task of this name in the file, from 0.
+fn find_server(name: &str, tasks: &TaskSet) -> Result<u32, Status>
+    ensures server { IfOk result (λ i. server_at name.now tasks.now ≡ Ok i) }
+    ensures refused { IfErr result (EndsWith (server_at name.now tasks.now)) }
+    ensures loads { IfErr result IsNoLoad }
+    ensures shown { IfErr result IsShown }
+{
+    match tasks.find(name.as_bytes()) {
+        Some(server) => Ok(server),
+        None => Err(Status::Text(TextFault::Server {
+            name: Short::of(name.as_bytes()),
+        })),
+    }
+}
+
+// A refusal of a request file as a status.
+fn request_status(why: RequestFault) -> Status
+    ensures is { result ≡ request_status why }
+    ensures shown { IsShown result }
+{
+    match why {
+        RequestFault::NoMemory => Status::NoMemory,
+        why => Status::Text(TextFault::Requests(why)),
+    }
+}
+
+// The requests of a file.
+fn load_requests<S: Shelf>(alloc: Global, name: &str, shelf: &mut S) -> Result<Requests, Status>
+    ensures read { IfOk result (Gives (S.shows shelf.old).held (requests_at name.now)) }
+    ensures refused { IfErr result (Refuses (S.shows shelf.old).held (requests_at name.now)) }
+    ensures explained { IfErr result (IsLoadOf (S.shows shelf.old) (S.shows shelf.new) FileKind.Requests name.now) }
+    ensures loads { MakesLoads 1 (S.shows shelf.old) (S.shows shelf.new) }
+    ensures counts { CountsStep (S.shows shelf.old).faults (S.shows shelf.new).faults result }
+    ensures shown { IfErr result IsShown }
+{
+    let bytes = load_file(alloc, FileKind::Requests, name, shelf)?;
+    match Requests::read(alloc, &bytes) {
+        Ok(requests) => Ok(requests),
+        Err(why) => Err(request_status(why)),
+    }
+}
+
+/// The server of a `poll` run, after its tasks were read.
+pub(crate) fn load_polling<S: Shelf>(
+    alloc: Global,
+    words: &PollWords<'_>,
+    tasks: &TaskSet,
+    shelf: &mut S,
+) -> Result<Polling, Status>
+    ensures read { IfOk result (Gives (S.shows shelf.old).held (polling_of (shown_poll words.now) tasks.now)) }
+    ensures server { IfOk result IsServer }
+    ensures scheduler { IfOk result (λ s. s.plan.scheduler ≡ words.now.scheduler) }
+    ensures refused { IfErr result (Refuses (S.shows shelf.old).held (polling_of (shown_poll words.now) tasks.now)) }
+    ensures found { IfErr result (FindsBefore (shown_poll words.now) tasks.now) }
+    ensures failed { IfErr result
+        (FailsLater (S.shows shelf.old) (S.shows shelf.new) (poll_of (shown_poll words.now))) }
+    ensures loads { MakesLoads (polled_loads (S.shows shelf.old).held (shown_poll words.now) tasks.now)
+        (S.shows shelf.old) (S.shows shelf.new) }
+    ensures counts { CountsStep (S.shows shelf.old).faults (S.shows shelf.new).faults result }
+    ensures shown { IfErr result IsShown }
+{
+    let server = find_server(words.server, tasks)?;
+    let machine = load_machine(alloc, words.machine, shelf)?;
+    let requests = load_requests(alloc, words.requests, shelf)?;
+    let plan = admit(alloc, words.scheduler, tasks, &machine)?;
+    Ok(Polling {
+        plan,
+        server,
+        requests,
+    })
+}
+
+// The outcomes of the requests and the totals of a `poll` run under governor `G`.
+fn serve_governed<G: Publishing>(
+    alloc: Global,
+    polling: &Polling,
+    ticks: u64,
+) -> Result<Served, Status>
+    requires polling { IsPollable polling.now G.the_kind ticks }
+    requires serves { G.serves polling.now.plan.scheduler }
+    ensures served { IfOk result (λ r. r ≡ polling_served G.the_kind polling.now ticks) }
+    ensures kept { IfOk result (λ r. HasServed polling.now G.the_kind ticks) }
+    ensures refused { IfErr result (EndsWith (answer_of_polling G.the_kind ticks polling.now)) }
+    ensures few { IfOk result (λ r. released_jobs polling.now.plan ticks ≤ MOST_JOBS) }
+    ensures loads { IfErr result IsNoLoad }
+    ensures shown { IfErr result IsShown }
+{
+    let _scheduler = polling.plan.scheduler();
+    let governor = match G::made(alloc, &polling.plan) {
+        Ok(governor) => governor,
+        Err(NoMemory) => return Err(Status::NoMemory),
+    };
+    match poll(
+        alloc,
+        &polling.plan,
+        polling.server,
+        &polling.requests,
+        governor,
+        ticks,
+    ) {
+        Ok(served) => Ok(served),
+        Err(PollFault::TooManyJobs { count }) => Err(Status::Limit { jobs: count }),
+        Err(PollFault::NoMemory) => Err(Status::NoMemory),
+    }
+}
+
+/// The outcomes of the requests and the totals of a `poll` run under the governor of its pair.
+pub(crate) fn serve_pair(
+    alloc: Global,
+    polling: &Polling,
+    governor: GovernorKind,
+    ticks: u64,
+) -> Result<Served, Status>
+    requires { IsPollable polling.now governor ticks }
+    ensures served { IfOk result (λ r. r ≡ polling_served governor polling.now ticks) }
+    ensures kept { IfOk result (λ r. HasServed polling.now governor ticks) }
+    ensures refused { IfErr result (EndsWith (answer_of_polling governor ticks polling.now)) }
+    ensures few { IfOk result (λ r. released_jobs polling.now.plan ticks ≤ MOST_JOBS) }
+    ensures loads { IfErr result IsNoLoad }
+    ensures shown { IfErr result IsShown }
+{
+    at_pair!(
+        polling.plan.scheduler(),
+        governor,
+        serve_governed,
+        [],
+        alloc,
+        polling,
+        ticks
+    )
+}
+
+// The line of a request: its number from 1, its arrival and its units; and where it is served, by which job and at
+// which position.
+fn outcome_line(polling: &Polling, m: u32, outcome: Outcome) -> Line
+    requires { m < request_count polling.now }
+    ensures text { result ≡ outcome_text polling.now m outcome }
+    ensures some { 0 < length result }
+{
+    let number = u64::from(m) + 1;
+    let arrival = polling.requests.arrival(m);
+    let units = polling.requests.units(m);
+    match outcome {
+        Outcome::Served { job, at } => line_of(&[
+            Part::Word(b"served "),
+            Part::Number(number),
+            Part::Word(b" "),
+            Part::Number(arrival),
+            Part::Word(b" "),
+            Part::Number(units),
+            Part::Word(b" "),
+            Part::Number(job),
+            Part::Word(b" "),
+            Part::At(at),
+            Part::Word(b"\n"),
+        ]),
+        Outcome::Pending => line_of(&[
+            Part::Word(b"pending "),
+            Part::Number(number),
+            Part::Word(b" "),
+            Part::Number(arrival),
+            Part::Word(b" "),
+            Part::Number(units),
+            Part::Word(b"\n"),
+        ]),
+    }
+}
+
+// The last line: the number of requests that are served, and the energies of running and of idling.
+fn last_line(served: u64, totals: Totals) -> Line
+    ensures text { result ≡ polled_line served totals }
+    ensures some { 0 < length result }
+{
+    line_of(&[
+        Part::Word(b"polled "),
+        Part::Number(served),
+        Part::Word(b" "),
+        Part::Wide(totals.run),
+        Part::Word(b" "),
+        Part::Wide(totals.idle),
+        Part::Word(b"\n"),
+    ])
+}
+
+// 1 for a request that is served, and 0 for one that is pending.
+fn one_if_served(outcome: Outcome) -> u64
+    ensures { result ≡ (if is_served outcome then 1 else 0) }
+{
+    match outcome {
+        Outcome::Served { .. } => 1,
+        Outcome::Pending => 0,
+    }
+}
+
+// Puts the lines of the requests, and returns how many are served. After the first put that fails no more is put.
+fn put_requests<W: Sink>(polling: &Polling, served: &Served, out: &mut W) -> Result<u64, Failed>
+    requires { length served.now.outcomes ≡ request_count polling.now }
+    ensures wrote { WritesText (W.shows out.old) (W.shows out.new)
+        (request_lines polling.now served.now.outcomes (request_count polling.now)) result }
+    ensures served { IfOk result (λ n. n ≡ served_among served.now.outcomes (request_count polling.now)) }
+{
+    let mut count = 0;
+    for m in 0..polling.requests.count() {
+        let outcome = served.outcome(m);
+        let line = outcome_line(polling, m, outcome);
+        match put_line(&line, out) {
+            Ok(()) => count += one_if_served(outcome),
+            Err(Failed) => return Err(Failed),
+        }
+    }
+    Ok(count)
+}
+
+/// Puts the lines of a `poll` run.
+pub(crate) fn put_polled<W: Sink>(
+    polling: &Polling,
+    served: &Served,
+    out: &mut W,
+) -> Result<(), Failed>
+    requires { length served.now.outcomes ≡ request_count polling.now }
+    ensures { WritesText (W.shows out.old) (W.shows out.new) (polled_text polling.now served.now) result }
+{
+    match put_requests(polling, served, out) {
+        Ok(count) => {
+            let line = last_line(count, served.totals());
+            match put_line(&line, out) {
+                Ok(()) => Ok(()),
+                Err(Failed) => Err(Failed),
+            }
+        }
+        Err(Failed) => Err(Failed),
+    }
+}
+
+/// What `poll` prepares, and the tasks where they were read.
+pub(crate) fn prepare_poll<S: Shelf>(
+    alloc: Global,
+    words: &PollWords<'_>,
+    shelf: &mut S,
+) -> (Result<Prepared, Status>, Option<TaskSet>)
+    requires { IsReadyCommand (poll_of (shown_poll words.now)) }
+    ensures prepared { IfOk result.0
+        (IsPrepared (S.shows shelf.old).held (poll_of (shown_poll words.now)) result.1) }
+    ensures refused { IfErr result.0
+        (IsRefused (S.shows shelf.old) (S.shows shelf.new) (poll_of (shown_poll words.now)) result.1) }
+    ensures loads { MakesLoads (loads_needed (S.shows shelf.old).held (poll_of (shown_poll words.now)))
+        (S.shows shelf.old) (S.shows shelf.new) }
+    ensures counts { CountsStep (S.shows shelf.old).faults (S.shows shelf.new).faults result.0 }
+{
+    let tasks = match load_tasks(alloc, words.tasks, shelf) {
+        Ok(tasks) => tasks,
+        Err(status) => return (Err(status), None),
+    };
+    let polling = match load_polling(alloc, words, &tasks, shelf) {
+        Ok(polling) => polling,
+        Err(status) => return (Err(status), Some(tasks)),
+    };
+    match serve_pair(alloc, &polling, words.governor, words.ticks) {
+        Ok(served) => (Ok(Prepared::Polled(polling, served)), Some(tasks)),
+        Err(status) => (Err(status), Some(tasks)),
+    }
+}

@@ -1,0 +1,130 @@
+// The answer of `response`, the exact test under RM.
+ghost use Rattle.std.specs.Prelude.{◌≡◌, ◌<◌, length, IfOk, OnOk, IfErr, Ok};
+ghost use Rattle.sched_model.specs.Plan.{plan_of};
+ghost use Rattle.words.specs.Commands.{response as response_of};
+ghost use Rattle.words.specs.Shown.{shown_response};
+ghost use Rattle.rm_response.specs.Denials.{exact_answer};
+ghost use Rattle.rtdvs_top.specs.Response.{responses_from, responses_at, response_text, responses_text, Responds};
+ghost use Rattle.rtdvs_top.specs.Prepared.{DeniesBy, IsTested, IsPrepared, IsRefused};
+ghost use Rattle.rtdvs_top.specs.Failing.{EndsWith, Refuses, CountsStep, IsNoLoad, FailsLater};
+ghost use Rattle.rtdvs_top.specs.Meanings.{Gives};
+ghost use Rattle.rtdvs_top.specs.Files.{MakesLoads, loads_needed};
+ghost use Rattle.rtdvs_top.specs.Status.{IsShown};
+ghost use Rattle.dvs_base.specs.WritesText.{WritesText};
+
+use crate::files::{load_machine, load_tasks};
+use crate::put::Prepared;
+use crate::{Denied, Status};
+use dvs_base::{Failed, Line, Part, Scheduler, Shelf, Sink, line_of, put_line};
+use freq_table::Machine;
+use rm_response::{Response, ResponseFault, rm_response};
+use std::alloc::Global;
+use task_model::TaskSet;
+use words::ResponseWords;
+
+// The responses of tasks on a machine.
+fn respond(alloc: Global, tasks: &TaskSet, machine: &Machine) -> Result<Response, Status>
+    ensures responses { IfOk result (λ r.
+        responses_from (exact_answer (plan_of tasks.now machine.now Scheduler.Rm)) ≡ Ok r) }
+    ensures one_each { IfOk result (λ r. length r ≡ length tasks.now) }
+    ensures proves { OnOk result (Responds (plan_of tasks.now machine.now Scheduler.Rm)) }
+    ensures denied { IfErr result
+        (EndsWith (responses_from (exact_answer (plan_of tasks.now machine.now Scheduler.Rm)))) }
+    ensures fails { IfErr result (DeniesBy (plan_of tasks.now machine.now Scheduler.Rm)) }
+    ensures loads { IfErr result IsNoLoad }
+    ensures shown { IfErr result IsShown }
+{
+    match rm_response(alloc, tasks, machine) {
+        Ok(response) => Ok(response),
+        Err(ResponseFault::Offset { task }) => Err(Status::NotAdmitted(Denied::Offset { task })),
+        Err(ResponseFault::Misses { task, num, cap }) => Err(Status::NotAdmitted(Denied::Response {
+            task,
+            num,
+            cap,
+        })),
+        Err(ResponseFault::NoMemory) => Err(Status::NoMemory),
+    }
+}
+
+// The responses of the tasks on the machine of `response`, which is loaded.
+fn load_responses<S: Shelf>(
+    alloc: Global,
+    words: &ResponseWords<'_>,
+    tasks: &TaskSet,
+    shelf: &mut S,
+) -> Result<Response, Status>
+    ensures read { IfOk result (Gives (S.shows shelf.old).held (responses_at (shown_response words.now) tasks.now)) }
+    ensures one_each { IfOk result (λ r. length r ≡ length tasks.now) }
+    ensures proves { OnOk result (IsTested (S.shows shelf.old).held (shown_response words.now) tasks.now Status.Done) }
+    ensures refused { IfErr result
+        (Refuses (S.shows shelf.old).held (responses_at (shown_response words.now) tasks.now)) }
+    ensures fails { IfErr result (IsTested (S.shows shelf.old).held (shown_response words.now) tasks.now) }
+    ensures failed { IfErr result
+        (FailsLater (S.shows shelf.old) (S.shows shelf.new) (response_of (shown_response words.now))) }
+    ensures loads { MakesLoads 1 (S.shows shelf.old) (S.shows shelf.new) }
+    ensures counts { CountsStep (S.shows shelf.old).faults (S.shows shelf.new).faults result }
+    ensures shown { IfErr result IsShown }
+{
+    let machine = load_machine(alloc, words.machine, shelf)?;
+    let response = respond(alloc, tasks, &machine)?;
+    Ok(response)
+}
+
+// The line of a task: its name, and its response in ticks.
+fn response_line(tasks: &TaskSet, response: &Response, i: u32) -> Line
+    requires task { i < length tasks.now }
+    requires one_each { length response.now ≡ length tasks.now }
+    ensures text { result ≡ response_text tasks.now response.now i }
+    ensures some { 0 < length result }
+{
+    line_of(&[
+        Part::Word(b"response "),
+        Part::Named(&tasks.task(i).name),
+        Part::Word(b" "),
+        Part::Number(response.of(i)),
+        Part::Word(b"\n"),
+    ])
+}
+
+/// Puts the lines of all tasks, in file order.
+pub(crate) fn put_responses<W: Sink>(
+    tasks: &TaskSet,
+    response: &Response,
+    out: &mut W,
+) -> Result<(), Failed>
+    requires { length response.now ≡ length tasks.now }
+    ensures { WritesText (W.shows out.old) (W.shows out.new) (responses_text tasks.now response.now) result }
+{
+    for i in 0..tasks.count() {
+        let line = response_line(tasks, response, i);
+        match put_line(&line, out) {
+            Ok(()) => {}
+            Err(Failed) => return Err(Failed),
+        }
+    }
+    Ok(())
+}
+
+/// What `response` prepares: the responses with the tasks, or the tasks alone where they were read and it ends before.
+pub(crate) fn prepare_response<S: Shelf>(
+    alloc: Global,
+    words: &ResponseWords<'_>,
+    shelf: &mut S,
+) -> (Result<Prepared, Status>, Option<TaskSet>)
+    ensures prepared { IfOk result.0
+        (IsPrepared (S.shows shelf.old).held (response_of (shown_response words.now)) result.1) }
+    ensures refused { IfErr result.0
+        (IsRefused (S.shows shelf.old) (S.shows shelf.new) (response_of (shown_response words.now)) result.1) }
+    ensures loads { MakesLoads (loads_needed (S.shows shelf.old).held (response_of (shown_response words.now)))
+        (S.shows shelf.old) (S.shows shelf.new) }
+    ensures counts { CountsStep (S.shows shelf.old).faults (S.shows shelf.new).faults result.0 }
+{
+    let tasks = match load_tasks(alloc, words.tasks, shelf) {
+        Ok(tasks) => tasks,
+        Err(status) => return (Err(status), None),
+    };
+    match load_responses(alloc, words, &tasks, shelf) {
+        Ok(response) => (Ok(Prepared::Responses(tasks, response)), None),
+        Err(status) => (Err(status), Some(tasks)),
+    }
+}

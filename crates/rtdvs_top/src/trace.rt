@@ -1,0 +1,303 @@
+// A trace compared with the schedule for the demands that it fixes, and what `replay` and `migrate` prepare.
+ghost use Rattle.std.specs.Prelude.{◌≡◌, map, IfOk, IfErr, ◌<◌, false, length, IsOk, Ok};
+ghost use Rattle.dvs_base.specs.Checks.{IsUnlessMemory};
+ghost use Rattle.trace_reader.specs.Traces.{IsTrace};
+ghost use Rattle.sched_model.specs.Admission.{IsAdmitted};
+ghost use Rattle.words.specs.Shown.{shown_trace};
+ghost use Rattle.rtdvs_top.specs.Trace.{task_names, task_line, lines_of_tasks, trace_status, trace_of, trace_at, traced_of, replay_status, totals_at, replayed_text, migrated_text, answer_of_traced};
+ghost use Rattle.rtdvs_top.specs.Prepared.{IsComparable, IsCompared, IsPrepared, IsPuttable, IsRefused, answer_of, tells_probes};
+ghost use Rattle.words.specs.Commands.{traced as traced_command, traced};
+ghost use Rattle.rtdvs_top.specs.Failing.{FailsLater, loads_later, EndsWith, Refuses, CountsStep, IsLoadOf, IsNoLoad};
+ghost use Rattle.rtdvs_top.specs.Meanings.{Gives};
+ghost use Rattle.rtdvs_top.specs.Files.{MakesLoads, loads_needed};
+ghost use Rattle.rtdvs_top.specs.Status.{IsShown};
+
+use crate::admit::admit;
+use crate::at_pair::at_pair;
+use crate::files::{load_file, load_machine, load_tasks};
+use crate::put::Prepared;
+use crate::run::ReadyRun;
+use crate::{FileKind, Status, TextFault};
+use dvs_base::{Line, Name, NoMemory, Part, Shelf, Totals, Version, line_of};
+use governor::Publishing;
+use replay::{ReplayFault, fixed_demands, replay};
+use sched_model::Admitted;
+use std::alloc::Global;
+use task_model::TaskSet;
+use trace_reader::{TaskLine, Trace, TraceFault, read_any};
+use words::{TraceUse, TraceWords};
+
+// The names of tasks.
+fn task_names(alloc: Global, tasks: &TaskSet) -> Result<Vec<Name>, NoMemory>
+    ensures { IfOk result (λ v. v.items ≡ task_names tasks.now) }
+{
+    let mut names = Vec::new(alloc);
+    for i in 0..tasks.count() {
+        if names.push(tasks.task(i).name).is_err() {
+            return Err(NoMemory);
+        }
+    }
+    Ok(names)
+}
+
+/// The task lines of version 2 of a trace, one for each task.
+pub(crate) fn task_lines(alloc: Global, tasks: &TaskSet) -> Result<Vec<TaskLine>, NoMemory>
+    ensures { IfOk result (λ v. v.items ≡ map task_line tasks.now) }
+{
+    let mut lines = Vec::new(alloc);
+    for i in 0..tasks.count() {
+        let task = tasks.task(i);
+        let line = TaskLine {
+            period: task.period,
+            offset: task.offset,
+            worst: task.worst,
+        };
+        if lines.push(line).is_err() {
+            return Err(NoMemory);
+        }
+    }
+    Ok(lines)
+}
+
+// A refusal of a trace file as a status.
+fn trace_status(why: TraceFault) -> Status
+    ensures is { result ≡ trace_status why }
+    ensures shown { IsShown result }
+{
+    match why {
+        TraceFault::NoMemory => Status::NoMemory,
+        why => Status::Text(TextFault::Trace(why)),
+    }
+}
+
+// The trace of a text for these tasks.
+fn read_trace(alloc: Global, bytes: &[u8], tasks: &TaskSet) -> Result<Trace, TraceFault>
+    ensures read { IsUnlessMemory TraceFault.NoMemory (λ t. t) result (trace_of tasks.now bytes.now) }
+    ensures trace { IfOk result (IsTrace (task_names tasks.now) (lines_of_tasks tasks.now)) }
+{
+    let _limits = tasks.as_slice();
+    let names = match task_names(alloc, tasks) {
+        Ok(names) => names,
+        Err(NoMemory) => return Err(TraceFault::NoMemory),
+    };
+    let lines = match task_lines(alloc, tasks) {
+        Ok(lines) => lines,
+        Err(NoMemory) => return Err(TraceFault::NoMemory),
+    };
+    read_any(alloc, bytes, &names, &lines)
+}
+
+// The trace of a file, of either version.
+fn load_trace<S: Shelf>(
+    alloc: Global,
+    name: &str,
+    tasks: &TaskSet,
+    shelf: &mut S,
+) -> Result<Trace, Status>
+    ensures read { IfOk result (Gives (S.shows shelf.old).held (trace_at tasks.now name.now)) }
+    ensures trace { IfOk result (IsTrace (task_names tasks.now) (lines_of_tasks tasks.now)) }
+    ensures refused { IfErr result (Refuses (S.shows shelf.old).held (trace_at tasks.now name.now)) }
+    ensures explained { IfErr result (IsLoadOf (S.shows shelf.old) (S.shows shelf.new) FileKind.Trace name.now) }
+    ensures loads { MakesLoads 1 (S.shows shelf.old) (S.shows shelf.new) }
+    ensures counts { CountsStep (S.shows shelf.old).faults (S.shows shelf.new).faults result }
+    ensures shown { IfErr result IsShown }
+{
+    let bytes = load_file(alloc, FileKind::Trace, name, shelf)?;
+    match read_trace(alloc, &bytes, tasks) {
+        Ok(trace) => Ok(trace),
+        Err(why) => Err(trace_status(why)),
+    }
+}
+
+/// The admitted plan and the trace of `replay` or `migrate`, after its tasks were read.
+pub(crate) fn load_traced<S: Shelf>(
+    alloc: Global,
+    words: &TraceWords<'_>,
+    tasks: &TaskSet,
+    shelf: &mut S,
+) -> Result<(Admitted, Trace), Status>
+    ensures read { IfOk result
+        (λ x. Gives (S.shows shelf.old).held (traced_of (shown_trace words.now) tasks.now) (x.0, x.1)) }
+    ensures compared { IfOk result (λ x. IsComparable x.0 x.1) }
+    ensures admitted { IfOk result (λ x. IsAdmitted x.0) }
+    ensures refused { IfErr result (Refuses (S.shows shelf.old).held (traced_of (shown_trace words.now) tasks.now)) }
+    ensures failed { IfErr result
+        (FailsLater (S.shows shelf.old) (S.shows shelf.new) (traced_command (shown_trace words.now))) }
+    ensures loads { MakesLoads (loads_later (S.shows shelf.old).held (traced_command (shown_trace words.now)))
+        (S.shows shelf.old) (S.shows shelf.new) }
+    ensures counts { CountsStep (S.shows shelf.old).faults (S.shows shelf.new).faults result }
+    ensures shown { IfErr result IsShown }
+{
+    let machine = load_machine(alloc, words.machine, shelf)?;
+    let trace = load_trace(alloc, words.trace, tasks, shelf)?;
+    let plan = admit(alloc, trace.plan.scheduler, tasks, &machine)?;
+    let _scheduler = plan.scheduler();
+    Ok((plan, trace))
+}
+
+// A refusal of a replay as a status.
+fn replay_status(why: ReplayFault) -> Status
+    ensures { result ≡ replay_status why }
+{
+    match why {
+        ReplayFault::OverWorst {
+            task,
+            job,
+            used,
+            worst,
+        } => Status::OverWorst {
+            task,
+            job,
+            units: used,
+            worst,
+        },
+        ReplayFault::TooManyJobs { count } => Status::Limit { jobs: count },
+        ReplayFault::Differs {
+            line,
+            wanted,
+            found,
+        } => Status::Differs {
+            line,
+            wanted,
+            found,
+        },
+        ReplayFault::NoMemory => Status::NoMemory,
+    }
+}
+
+// The totals of a trace, compared with the schedule under governor `G`.
+fn compare_governed<G: Publishing>(
+    alloc: Global,
+    plan: &Admitted,
+    trace: &Trace,
+) -> Result<Totals, Status>
+    requires trace { IsComparable plan.now trace.now }
+    requires kind { trace.now.plan.governor ≡ G.the_kind }
+    requires serves { G.serves plan.now.scheduler }
+    ensures totals { IfOk result (IsCompared plan.now trace.now) }
+    ensures refused { IfErr result (EndsWith (totals_at (plan.now, trace.now))) }
+    ensures loads { IfErr result IsNoLoad }
+    ensures shown { IfErr result IsShown }
+{
+    let _scheduler = plan.scheduler();
+    match G::made(alloc, plan) {
+        Ok(governor) => match replay(alloc, plan, trace, governor) {
+            Ok(totals) => Ok(totals),
+            Err(why) => Err(replay_status(why)),
+        },
+        Err(NoMemory) => Err(Status::NoMemory),
+    }
+}
+
+/// The totals of a trace, compared with the schedule under the governor of its pair.
+pub(crate) fn compare_pair(alloc: Global, plan: &Admitted, trace: &Trace) -> Result<Totals, Status>
+    requires trace { IsComparable plan.now trace.now }
+    ensures totals { IfOk result (IsCompared plan.now trace.now) }
+    ensures refused { IfErr result (EndsWith (totals_at (plan.now, trace.now))) }
+    ensures loads { IfErr result IsNoLoad }
+    ensures shown { IfErr result IsShown }
+{
+    at_pair!(
+        plan.scheduler(),
+        trace.plan.governor,
+        compare_governed,
+        [],
+        alloc,
+        plan,
+        trace
+    )
+}
+
+// The line of a replay.
+fn replayed_line(totals: Totals) -> Line
+    ensures text { result ≡ replayed_text totals }
+    ensures some { 0 < length result }
+{
+    line_of(&[
+        Part::Word(b"replayed "),
+        Part::Number(totals.released),
+        Part::Word(b" "),
+        Part::Number(totals.finished),
+        Part::Word(b" "),
+        Part::Wide(totals.run),
+        Part::Word(b" "),
+        Part::Wide(totals.idle),
+        Part::Word(b"\n"),
+    ])
+}
+
+// The run that writes a compared trace in version 2: that of the schedule for the demands that the trace fixes.
+fn migrated_run(alloc: Global, plan: Admitted, trace: &Trace) -> Result<ReadyRun, Status>
+    requires trace { IsComparable plan trace.now }
+    requires compared { IsOk (totals_at (plan, trace.now)) }
+    ensures answer { IfOk result (λ w. answer_of (Prepared.Run w) ≡ Ok (migrated_text plan trace.now)) }
+    ensures puttable { IfOk result (λ w. IsPuttable (Prepared.Run w)) }
+    ensures silent { IfOk result (λ w. w.probes ≡ false) }
+    ensures refused { IfErr result (λ s. s ≡ Status.NoMemory) }
+{
+    let _scheduler = plan.scheduler();
+    match fixed_demands(alloc, &plan, &trace.notes) {
+        Ok(demands) => Ok(ReadyRun {
+            plan,
+            demands,
+            ticks: trace.plan.ticks,
+            governor: trace.plan.governor,
+            version: Version::Two,
+            probes: false,
+        }),
+        Err(NoMemory) => Err(Status::NoMemory),
+    }
+}
+
+// What is put for a trace, which is compared with its schedule first: its totals or its text in version 2, as `asked`.
+fn prepare_compared(
+    alloc: Global,
+    asked: TraceUse,
+    plan: Admitted,
+    trace: &Trace,
+) -> Result<Prepared, Status>
+    requires { IsComparable plan trace.now }
+    ensures answer { IfOk result (λ p. answer_of_traced asked (plan, trace.now) ≡ answer_of p) }
+    ensures puttable { IfOk result IsPuttable }
+    ensures silent { IfOk result (λ p. tells_probes p ≡ false) }
+    ensures refused { IfErr result (EndsWith (answer_of_traced asked (plan, trace.now))) }
+    ensures loads { IfErr result IsNoLoad }
+    ensures shown { IfErr result IsShown }
+{
+    let totals = compare_pair(alloc, &plan, trace)?;
+    match asked {
+        TraceUse::Replay => Ok(Prepared::Line(replayed_line(totals))),
+        TraceUse::Migrate => match migrated_run(alloc, plan, trace) {
+            Ok(run) => Ok(Prepared::Run(run)),
+            Err(status) => Err(status),
+        },
+    }
+}
+
+/// What `replay` or `migrate` prepares, and the tasks where they were read. The whole trace is compared.
+pub(crate) fn prepare_trace<S: Shelf>(
+    alloc: Global,
+    words: &TraceWords<'_>,
+    shelf: &mut S,
+) -> (Result<Prepared, Status>, Option<TaskSet>)
+    ensures prepared { IfOk result.0
+        (IsPrepared (S.shows shelf.old).held (traced (shown_trace words.now)) result.1) }
+    ensures refused { IfErr result.0
+        (IsRefused (S.shows shelf.old) (S.shows shelf.new) (traced (shown_trace words.now)) result.1) }
+    ensures loads { MakesLoads (loads_needed (S.shows shelf.old).held (traced (shown_trace words.now)))
+        (S.shows shelf.old) (S.shows shelf.new) }
+    ensures counts { CountsStep (S.shows shelf.old).faults (S.shows shelf.new).faults result.0 }
+{
+    let tasks = match load_tasks(alloc, words.tasks, shelf) {
+        Ok(tasks) => tasks,
+        Err(status) => return (Err(status), None),
+    };
+    let (plan, trace) = match load_traced(alloc, words, &tasks, shelf) {
+        Ok(loaded) => loaded,
+        Err(status) => return (Err(status), Some(tasks)),
+    };
+    match prepare_compared(alloc, words.asked, plan, &trace) {
+        Ok(prepared) => (Ok(prepared), Some(tasks)),
+        Err(status) => (Err(status), Some(tasks)),
+    }
+}
