@@ -7,8 +7,7 @@ use Rattle.dvs_base.specs.declared.kind.GovernorKind.TheVariants.{Cycle}
 use Rattle.grid_fraction.specs.declared.Frac.{Frac}
 use Rattle.grid_fraction.proofs.Sums.{sum_below-same}
 use Rattle.sched_model.specs.Plan.{Plan, count, period, worst, hyper}
-use Rattle.sched_model.specs.Demands.{JobDemands}
-use Rattle.sched_model.specs.Jobs.{latest}
+use Rattle.sched_model.specs.Jobs.{JobDemands, latest}
 use Rattle.sched_model.specs.Ticks.{Tick, exec, is_complete}
 use Rattle.sched_model.specs.CycleDemand.{charged, edf_cycle}
 use Rattle.sched_model.specs.Demand.{demand_by, published}

@@ -5,7 +5,7 @@ use Rattle.std.proofs.Math.Nat.{le_trans, mul-le-mul_left, mul-zero, sub-zero}
 use Rattle.std.proofs.lemmas.Bool.{le-leb, lt-leb, cases_lt, cases_Bool, eqb-true}
 use Rattle.sched_model.specs.declared.state.Row.{Row}
 use Rattle.sched_model.specs.Plan.{Plan, period}
-use Rattle.sched_model.specs.Demands.{JobDemands}
+use Rattle.sched_model.specs.Jobs.{JobDemands}
 use Rattle.sched_model.specs.States.{row_wleft}
 use Rattle.governor.specs.Steps.{boundary_row}
 use Rattle.governor.proofs.Belonging.{boundary_row-by}

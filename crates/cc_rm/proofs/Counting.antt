@@ -17,7 +17,7 @@ use Rattle.sched_model.proofs.LevelSums.{sum_below-term}
 use Rattle.governor.specs.Steps.{wleft_at, earliest_in}
 use Rattle.cc_rm_laws.specs.Allotments.{base_of, allotted_in, allotment_left_in}
 use Rattle.cc_rm.specs.declared.counters.Allotments.{Allotments}
-use Rattle.cc_rm.specs.Counters.{AreOf, Counts, lowered}
+use Rattle.cc_rm.specs.Counters.{AreOf, AreCounters, lowered}
 
 -- where one term of a sum falls, the sum falls by as much
 sum_below-fall : (n : ℕ) (f g : ℕ → ℕ) (i by : ℕ) → i < n → g i + by ≡ f i → ((k : ℕ) → k ≢ i → g k ≡ f k)
@@ -27,7 +27,7 @@ sum_below-fall n f g i by lt own other = omega (arith, own, sum_below-change n f
 -- what is left of one allotment is at most what is left of all
 pub rest-most : (speed : ℕ) (rests : List ℕ) (kept : Option Allotments) (plan : Plan) (s : StateOf) (i : ℕ)
     → i < count plan
-    → Counts speed rests kept plan s → IfSome kept (λ all. slice_index rests i ≤ all.left)
+    → AreCounters speed rests kept plan s → IfSome kept (λ all. slice_index rests i ≤ all.left)
 rest-most speed rests kept plan s i h counts =
     IfSome_then kept counts.allotted
     (λ all of. omega (arith, of.rests_are i h, of.left_is, sum_below-term (count plan) (allotment_left_in plan s) i h))
@@ -117,9 +117,9 @@ module _ (plan : Plan) (s : StateOf) (of : IsOfPlan plan s) (i : ℕ)
             let ne : k ≢ i = grind (arith, nat_tests) in
             omega (arith, ap row_wleft (row-other k ne), kept.within k lt)
 
-    counts-lowered : (speed : ℕ) (kept : Option Allotments) → Counts speed rests kept plan s
+    counts-lowered : (speed : ℕ) (kept : Option Allotments) → AreCounters speed rests kept plan s
         → ((all : Allotments) → AreOf rests all plan s → left_with ≡ rest)
-        → Counts speed (slice_set rests i rest) (lowered (slice_index rests i - rest) kept) plan written
+        → AreCounters speed (slice_set rests i rest) (lowered (slice_index rests i - rest) kept) plan written
     counts-lowered speed kept counts is = record {
       served = counts.served;
       speed_is = counts.speed_is;
@@ -133,10 +133,10 @@ module _ (plan : Plan) (s : StateOf) (of : IsOfPlan plan s) (i : ℕ)
         go (Some all) of_all = are-lowered all of_all (is all of_all)
 
 module _ (plan : Plan) (s : StateOf) (of : IsOfPlan plan s) (i : ℕ) (h : i < count plan) (speed : ℕ)
-    (rests : List ℕ) (kept : Option Allotments) (counts : Counts speed rests kept plan s) where
+    (rests : List ℕ) (kept : Option Allotments) (counts : AreCounters speed rests kept plan s) where
   -- `State::run` of an incomplete job keeps the counters right
   pub counts-ran : (units : ℕ) → (row_at s i).done ≡ false → (row_at s i).used + units ≤ (row_at s i).worst
-      → Counts speed (slice_set rests i (slice_index rests i - units))
+      → AreCounters speed (slice_set rests i (slice_index rests i - units))
       (lowered (slice_index rests i - (slice_index rests i - units)) kept) plan (after_run s i units)
   counts-ran units still room =
       counts-lowered plan s of i h row refl rests counts.one_each (slice_index rests i - units)
@@ -157,7 +157,7 @@ module _ (plan : Plan) (s : StateOf) (of : IsOfPlan plan s) (i : ℕ) (h : i < c
           omega (arith, open_left, mine, most, kept.rests_are i h, room)
 
   -- `State::finish` of a job keeps the counters right
-  pub counts-finished : Counts speed (slice_set rests i 0)
+  pub counts-finished : AreCounters speed (slice_set rests i 0)
       (lowered (slice_index rests i - 0) kept) plan (after_finish s i)
   counts-finished =
       counts-lowered plan s of i h (record (row_at s i) { done = true }) refl rests counts.one_each 0

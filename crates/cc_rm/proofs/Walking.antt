@@ -5,8 +5,7 @@ use Rattle.std.specs.Prelude.{slice_index}
 use Rattle.std.proofs.lemmas.List.{take-append-drop, take_more, take_all}
 use Rattle.grid_fraction.specs.Numbers.{sum_below}
 use Rattle.sched_model.specs.Plan.{Plan, count, period}
-use Rattle.sched_model.specs.Order.{in_order}
-use Rattle.sched_model.specs.Priority.{sum_before}
+use Rattle.sched_model.specs.Priority.{in_order, sum_before}
 use Rattle.sched_model.specs.States.{StateOf, row_at}
 use Rattle.sched_model.proofs.OrderLemmas.{sum_list, sum_list-snoc, below-at, in_order-below, length-in_order}
 use Rattle.sched_model.proofs.OrderLemmas.{sum_list-in_order, sum_before-prefix}

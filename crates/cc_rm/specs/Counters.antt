@@ -22,7 +22,7 @@ pub record AreOf (rests : List ℕ) (all : Allotments) (plan : Plan) (s : StateO
 
 -- the counters are right for a state: the plan is under RM, the speed is the static one, there is a rest for each
 -- task, and kept allotments are the state's
-pub record Counts (speed : ℕ) (rests : List ℕ) (kept : Option Allotments) (plan : Plan) (s : StateOf) : Type 0 where
+pub record AreCounters (speed : ℕ) (rests : List ℕ) (kept : Option Allotments) (plan : Plan) (s : StateOf) : Type 0 where
   pub served : ServesRm plan.scheduler
   pub speed_is : speed ≡ static_speed plan
   pub one_each : length rests ≡ count plan

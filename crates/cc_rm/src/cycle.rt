@@ -13,7 +13,7 @@ ghost use Rattle.cc_rm_laws.specs.Allotments.{cycle_demand};
 ghost use Rattle.cc_rm_laws.specs.Conditions.{CcRmCalm, CcRmSafe};
 ghost use Rattle.cc_rm_laws.proofs.CcRmLaws.{cc_rm_laws};
 ghost use Rattle.cc_rm_laws.proofs.Publishing.{cycle_publishing};
-ghost use Rattle.cc_rm.specs.Counters.{Counts, lowered};
+ghost use Rattle.cc_rm.specs.Counters.{AreCounters, lowered};
 
 use crate::allotments::{left_in_all, static_speed};
 use crate::counters::{Allotments, allot};
@@ -92,7 +92,8 @@ impl CcRm {
     // The published demand at a decision, in work units per tick, not reduced.
     fn demand(&self, plan: &Admitted, view: &State) -> Frac
         requires of { IsOfPlan plan.now view.now }
-        requires counters { Counts self.now.static_speed self.now.rests.items self.now.allotments plan.now view.now }
+        requires counters { AreCounters self.now.static_speed self.now.rests.items self.now.allotments
+            plan.now view.now }
         requires decision { IsAtDecision plan.now view.now }
         ensures { result ≡ cycle_demand plan.now view.entry.now }
     {
@@ -117,7 +118,7 @@ impl Governor for CcRm {
 
     ghost safe = { CcRmSafe };
 
-    ghost stands = { λ g plan s. Counts g.static_speed g.rests.items g.allotments plan s };
+    ghost stands = { λ g plan s. AreCounters g.static_speed g.rests.items g.allotments plan s };
 
     ghost serves_plan = { λ g plan s stands. stands.served };
 
@@ -164,7 +165,8 @@ impl Governor for CcRm {
     /// demand: what is left of the allotments fits at the static speed.
     fn choose(&self, plan: &Admitted, view: &State) -> Choice
         requires of { IsOfPlan plan.now view.now }
-        requires counters { Counts self.now.static_speed self.now.rests.items self.now.allotments plan.now view.now }
+        requires counters { AreCounters self.now.static_speed self.now.rests.items self.now.allotments
+            plan.now view.now }
         requires decision { IsAtDecision plan.now view.now }
         ensures demand { result.demand ≡ cycle_demand plan.now view.entry.now }
         ensures index { result.index ≡ lowest_entry plan.now.machine (cycle_demand plan.now view.entry.now) }

@@ -10,10 +10,9 @@ use Rattle.grid_fraction.specs.declared.Frac.{Frac}
 use Rattle.grid_fraction.specs.Numbers.{sum_where}
 use Rattle.freq_table.specs.Tables.{speed_at, lowest_entry}
 use Rattle.sched_model.specs.Plan.{Plan, count, period, offset, worst, point}
-use Rattle.sched_model.specs.Jobs.{due, latest}
+use Rattle.sched_model.specs.Jobs.{due, latest, worst_demand}
 use Rattle.sched_model.specs.Ticks.{Tick, exec}
 use Rattle.sched_model.specs.Demand.{published}
-use Rattle.sched_model.specs.Demands.{worst_demand}
 use Rattle.sched_model.specs.Priority.{stands_before, is_up_to, sum_before, sum_up_to}
 use Rattle.sched_model.specs.Schedule.{entry_in_force}
 use Rattle.sched_model.specs.StaticDemand.{static_demand_of, static_demand, rm_static, static_speed}

@@ -3,7 +3,7 @@ use Rattle.std.proofs.Common.{◌≡◌, ℕ, ◌-◌, ◌*◌, ◌^◌, ◌<◌
 use Rattle.std.proofs.Math.Nat.{mul-le-mul_right}
 use Rattle.dvs_base.specs.declared.kind.Scheduler.{Scheduler}
 use Rattle.dvs_base.specs.declared.kind.GovernorKind.TheVariants.{Cycle}
-use Rattle.dvs_base.specs.Pairs.{IsPair}
+use Rattle.dvs_base.specs.PlanWords.{IsPair}
 use Rattle.grid_fraction.proofs.Least.{least-below}
 use Rattle.freq_table.specs.Tables.{speed_at, lowest_entry, lowest_pick}
 use Rattle.freq_table.proofs.Chosen.{speeds_rise, below_highest, lowest_within, lowest-most, picked_meets, picked_met}

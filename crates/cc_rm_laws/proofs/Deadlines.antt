@@ -7,8 +7,7 @@ use Rattle.grid_fraction.specs.Numbers.{sum_where}
 use Rattle.grid_fraction.proofs.Sums.{sum_where-le}
 use Rattle.grid_fraction.proofs.Least.{least-below}
 use Rattle.sched_model.specs.Plan.{Plan, count, period, worst}
-use Rattle.sched_model.specs.Demands.{JobDemands}
-use Rattle.sched_model.specs.Jobs.{release, due, latest}
+use Rattle.sched_model.specs.Jobs.{JobDemands, release, due, latest}
 use Rattle.sched_model.specs.StaticDemand.{static_speed}
 use Rattle.sched_model.specs.Backlog.{backlog}
 use Rattle.sched_model.specs.Admission.{IsAdmitted}

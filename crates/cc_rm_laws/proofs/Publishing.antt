@@ -12,14 +12,12 @@ use Rattle.grid_fraction.proofs.Least.{least-same}
 use Rattle.grid_fraction.proofs.Searches.{any_below-false}
 use Rattle.sched_model.specs.declared.state.Row.{Row}
 use Rattle.sched_model.specs.Plan.{Plan, count, period, worst}
-use Rattle.sched_model.specs.Jobs.{release, due, latest, deadline, releases_at, is_release, last_release}
-use Rattle.sched_model.specs.Jobs.{earliest as earliest_at}
+use Rattle.sched_model.specs.Jobs.{release, due, latest, deadline, releases_at, is_release, last_release, earliest as earliest_at, IsWithin, JobDemands}
 use Rattle.sched_model.specs.Ticks.{Tick, at, exec, is_complete, wleft}
 use Rattle.sched_model.specs.CycleDemand.{allotted, had_since_release, allotment_left, rm_cycle}
 use Rattle.sched_model.specs.Priority.{allotment}
 use Rattle.sched_model.specs.StaticDemand.{static_speed}
 use Rattle.sched_model.specs.Demand.{demand_by, published}
-use Rattle.sched_model.specs.Demands.{IsWithin, JobDemands}
 use Rattle.sched_model.specs.Admission.{IsAdmitted}
 use Rattle.sched_model.specs.States.{StateOf, row_at, row_wleft, state_of}
 use Rattle.sched_model.proofs.Limits.{some_period}

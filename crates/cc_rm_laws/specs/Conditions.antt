@@ -4,7 +4,7 @@ use Rattle.dvs_base.specs.declared.kind.GovernorKind.TheVariants.{Fixed}
 use Rattle.grid_fraction.specs.Numbers.{sum_below, sum_where}
 use Rattle.freq_table.specs.Tables.{speed_at}
 use Rattle.sched_model.specs.Plan.{Plan, count}
-use Rattle.sched_model.specs.Demands.{worst_demand}
+use Rattle.sched_model.specs.Jobs.{worst_demand}
 use Rattle.sched_model.specs.Schedule.{schedule}
 use Rattle.sched_model.specs.StaticDemand.{static_speed}
 use Rattle.sched_model.specs.Backlog.{lacking, backlog}

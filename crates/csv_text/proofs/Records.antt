@@ -7,7 +7,7 @@ use Rattle.csv.specs.declared.parser.Config.{Config}
 use Rattle.csv.specs.declared.parser.State.{State}
 use Rattle.csv.specs.declared.parser.State.TheVariants as st
 use Rattle.csv.proofs.ReadFacts.{rows-end, rows-more}
-use Rattle.csv_text.specs.Records.{TextReader, IsPlain, records_left, records_in, unread}
+use Rattle.csv_text.specs.Rows.{TextReader, IsPlain, records_left, records_in, unread}
 
 -- reading a record takes a byte, or ends the text
 abbrev Shrinks : List ℕ → Option Read → Type 0

@@ -19,8 +19,7 @@ use Rattle.sched_model.specs.Ticks.{Tick, exec, is_done}
 use Rattle.sched_model.specs.Decision.{completes_in, is_decision}
 use Rattle.sched_model.specs.Schedule.{IsScheduleBy}
 use Rattle.sched_model.specs.Admission.{IsWithinLimits}
-use Rattle.sched_model.specs.Segments.{same_holder, Span, Piece, pieces_of, position_of}
-use Rattle.sched_model.specs.Notes.{release_notes, all_release_notes, had_by, segment_notes, pieces_notes, span_notes, energy_run, energy_idle, notes_before_end, notes_of}
+use Rattle.sched_model.specs.Notes.{same_holder, Span, Piece, pieces_of, position_of, release_notes, all_release_notes, had_by, segment_notes, pieces_notes, span_notes, energy_run, energy_idle, notes_before_end, notes_of}
 use Rattle.sched_model.specs.Totals.{is_released, is_finished, is_decided, totals_of}
 use Rattle.sched_model.proofs.Limits.{every_period}
 use Rattle.sched_model.proofs.LevelSums.{sum_below-term}

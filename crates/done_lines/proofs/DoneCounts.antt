@@ -15,8 +15,7 @@ use Rattle.sched_model.specs.Jobs.{latest, release, due, releases_at}
 use Rattle.sched_model.specs.Ticks.{Tick, exec}
 use Rattle.sched_model.specs.Schedule.{IsScheduleBy}
 use Rattle.sched_model.specs.Admission.{IsWithinLimits}
-use Rattle.sched_model.specs.Segments.{same_holder, Span, pieces_of}
-use Rattle.sched_model.specs.Notes.{release_notes, all_release_notes, pieces_notes, span_notes, energy_run, energy_idle, notes_before_end, notes_of}
+use Rattle.sched_model.specs.Notes.{same_holder, Span, pieces_of, release_notes, all_release_notes, pieces_notes, span_notes, energy_run, energy_idle, notes_before_end, notes_of}
 use Rattle.sched_model.proofs.Limits.{every_period}
 use Rattle.sched_model.proofs.NoteLemmas.{notes-span}
 use Rattle.sched_model.proofs.JobLaws.{latest-is, release-le, lt-due, release-due, exec-early}

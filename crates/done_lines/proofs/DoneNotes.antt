@@ -13,8 +13,7 @@ use Rattle.sched_model.specs.declared.holder.Holder.{Holder}
 use Rattle.sched_model.specs.declared.holder.Holder.TheVariants.{Nobody, Held}
 use Rattle.sched_model.specs.Plan.{Plan, point}
 use Rattle.sched_model.specs.Ticks.{exec}
-use Rattle.sched_model.specs.Segments.{same_holder, Span, Piece, before_pieces, pieces_of, position_of}
-use Rattle.sched_model.specs.Notes.{had_by, segment_notes, pieces_notes}
+use Rattle.sched_model.specs.Notes.{same_holder, Span, Piece, before_pieces, pieces_of, position_of, had_by, segment_notes, pieces_notes}
 use Rattle.grid_fraction.proofs.Counts.{count-append, count-replicate}
 use Rattle.sched_model.proofs.PieceLemmas.{same_holder-eq, HaveUnits}
 

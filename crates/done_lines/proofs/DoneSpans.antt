@@ -13,12 +13,11 @@ use Rattle.freq_table.specs.Tables.{lowest_entry}
 use Rattle.sched_model.specs.Plan.{Plan, count, point}
 use Rattle.sched_model.specs.Jobs.{latest, release, due, is_in_window}
 use Rattle.sched_model.specs.Ticks.{Tick, exec, share, left}
-use Rattle.sched_model.specs.Priority.{key_of}
-use Rattle.sched_model.specs.Order.{in_order}
+use Rattle.sched_model.specs.Priority.{key_of, in_order}
 use Rattle.sched_model.specs.Decision.{is_decision}
 use Rattle.sched_model.specs.Schedule.{entry_in_force, IsNext, IsScheduleBy}
 use Rattle.sched_model.specs.Admission.{IsWithinLimits}
-use Rattle.sched_model.specs.Segments.{same_holder, Span, spans_of, units_of}
+use Rattle.sched_model.specs.Notes.{same_holder, Span, spans_of, units_of}
 use Rattle.sched_model.proofs.Limits.{every_period}
 use Rattle.sched_model.proofs.ScheduleLemmas.{force-within}
 use Rattle.sched_model.proofs.OrderLemmas.{sum_list, sum_list-in_order}

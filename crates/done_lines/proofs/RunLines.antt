@@ -2,19 +2,17 @@
 use Rattle.std.proofs.Common.{◌≡◌, ℕ, zero, suc, ◌+◌, List, [], ◌∷◌, ◌++◌, flat_map, refl, ap, ◌∙◌, sym, append_assoc, codes, nat_eq, get_or, false}
 use Rattle.std.specs.List.{AllByRecursion}
 use Rattle.grid_fraction.specs.Numbers.{list_below}
-use Rattle.dvs_base.specs.Parts.{joined}
+use Rattle.dvs_base.specs.Parts.{joined, name_of}
 use Rattle.dvs_base.specs.declared.kind.Version.{Version}
 use Rattle.dvs_base.specs.declared.kind.Version.TheVariants.{One, Two}
 use Rattle.dvs_base.specs.declared.kind.Scheduler.{Scheduler}
 use Rattle.dvs_base.specs.declared.kind.GovernorKind.{GovernorKind}
 use Rattle.dvs_base.specs.declared.note.Note.{Note}
 use Rattle.dvs_base.specs.declared.note.Note.TheVariants.{Release, Speed, Run, Idle, Done, End}
-use Rattle.trace_text.specs.TraceLines.{line, name_of, fields_of, note_text, version_fields, version_text, plan_fields, plan_text}
-use Rattle.trace_text.specs.TextLines.{lines_of}
+use Rattle.trace_text.specs.TraceLines.{line, fields_of, note_text, version_fields, version_text, plan_fields, plan_text, lines_of}
 use Rattle.trace_text.proofs.PlainLines.{ArePlain, each-append, plain-decimal, lines-line}
 use Rattle.trace_text.proofs.NoteLines.{plain-word, plain-scheduler, plain-governor, note-fields, plain-fields}
-use Rattle.trace_reader.specs.VersionLines.{version_line, task_text}
-use Rattle.trace_reader.specs.TraceText.{energy_of_task, shares_from, told_text, whole_text}
+use Rattle.trace_reader.specs.TraceText.{version_line, task_text, energy_of_task, shares_from, told_text, whole_text}
 
 -- a line of plain fields
 abbrev pub IsLine : List ℕ → Type 0

@@ -12,10 +12,9 @@ use Rattle.sched_model.specs.declared.holder.Holder.TheVariants.{Nobody, Held}
 use Rattle.sched_model.specs.Plan.{Plan, count, period, point}
 use Rattle.sched_model.specs.Jobs.{latest, releases_at, is_release}
 use Rattle.sched_model.specs.Ticks.{Tick, exec, share, left}
-use Rattle.sched_model.specs.Priority.{key_of}
-use Rattle.sched_model.specs.Order.{in_order}
+use Rattle.sched_model.specs.Priority.{key_of, in_order}
 use Rattle.sched_model.specs.Decision.{is_decision}
-use Rattle.sched_model.specs.Segments.{same_holder, Span, spans_of, lengthened, units_of}
+use Rattle.sched_model.specs.Notes.{same_holder, Span, spans_of, lengthened, units_of}
 use Rattle.sched_model.specs.Schedule.{IsNext, IsScheduleBy}
 use Rattle.sched_model.proofs.LevelSums.{share-most}
 use Rattle.sched_model.proofs.Joining.{due_released, same_job}

@@ -18,8 +18,7 @@ use Rattle.sched_model.specs.Ticks.{Tick}
 use Rattle.sched_model.specs.Decision.{completes_in}
 use Rattle.sched_model.specs.Schedule.{IsScheduleBy}
 use Rattle.sched_model.specs.Admission.{IsWithinLimits}
-use Rattle.sched_model.specs.Segments.{same_holder, Span, Piece, spans_of, before_pieces, pieces_of, position_of, run_energy}
-use Rattle.sched_model.specs.Notes.{release_notes, had_by, segment_notes, pieces_notes, span_notes, energy_run, energy_idle, notes_before_end}
+use Rattle.sched_model.specs.Notes.{same_holder, Span, Piece, spans_of, before_pieces, pieces_of, position_of, run_energy, release_notes, had_by, segment_notes, pieces_notes, span_notes, energy_run, energy_idle, notes_before_end}
 use Rattle.sched_model.proofs.Limits.{every_period}
 use Rattle.sched_model.proofs.NoteLemmas.{notes-span}
 use Rattle.sched_model.proofs.PieceLemmas.{piece, each-piece}

@@ -14,12 +14,11 @@ use Rattle.sched_model.specs.declared.holder.Holder.TheVariants.{Nobody, Held}
 use Rattle.sched_model.specs.Plan.{Plan, count, point}
 use Rattle.sched_model.specs.Jobs.{latest, due, is_release}
 use Rattle.sched_model.specs.Ticks.{Tick, exec, is_done, share, left}
-use Rattle.sched_model.specs.Priority.{key_of}
-use Rattle.sched_model.specs.Order.{in_order}
+use Rattle.sched_model.specs.Priority.{key_of, in_order}
 use Rattle.sched_model.specs.Decision.{completes_in, is_decision}
 use Rattle.sched_model.specs.Schedule.{IsNext, IsScheduleBy}
 use Rattle.sched_model.specs.Admission.{IsWithinLimits}
-use Rattle.sched_model.specs.Segments.{Span, spans_of, lengthened, units_of}
+use Rattle.sched_model.specs.Notes.{Span, spans_of, lengthened, units_of}
 use Rattle.sched_model.proofs.Limits.{every_period}
 use Rattle.sched_model.proofs.JobLaws.{exec-legal, left-stays}
 use Rattle.sched_model.proofs.LevelSums.{share-most}

@@ -4,9 +4,8 @@ use Rattle.std.proofs.lemmas.Bool.{cases_lt}
 use Rattle.std.proofs.lemmas.Bool.Decides.{nat_tests}
 use Rattle.sched_model.specs.declared.holder.Holder.{Holder}
 use Rattle.sched_model.specs.declared.holder.Holder.TheVariants.{Nobody, Held}
-use Rattle.sched_model.specs.Priority.{SharesOut}
-use Rattle.sched_model.specs.Order.{in_order}
-use Rattle.sched_model.specs.Segments.{same_holder, Piece, before_pieces, pieces_of}
+use Rattle.sched_model.specs.Priority.{SharesOut, in_order}
+use Rattle.sched_model.specs.Notes.{same_holder, Piece, before_pieces, pieces_of}
 use Rattle.sched_model.proofs.OrderLemmas.{sum_list, sum_list-snoc, AreBelow, below-from, in_order-below, sum_before-prefix}
 use Rattle.sched_model.proofs.PieceLemmas.{piece, same_holder-refl}
 

@@ -4,12 +4,12 @@ use Rattle.std.specs.List.{All}
 use Rattle.dvs_base.specs.declared.kind.GovernorKind.{GovernorKind}
 use Rattle.dvs_base.specs.declared.kind.Version.{Version}
 use Rattle.dvs_base.specs.declared.note.Pos.{Pos}
-use Rattle.trace_text.specs.TraceLines.{line, done_fields, name_of}
-use Rattle.trace_text.specs.TextLines.{lines_of}
+use Rattle.trace_text.specs.TraceLines.{line, done_fields, lines_of}
 use Rattle.dvs_base.specs.declared.limits.TheConstants.{MOST_TICKS}
+use Rattle.dvs_base.specs.Parts.{name_of}
 use Rattle.sched_model.specs.Plan.{Plan, count, names}
 use Rattle.sched_model.specs.Schedule.{schedule}
-use Rattle.sched_model.specs.Deadlines.{IsMet}
+use Rattle.sched_model.specs.Ticks.{IsMet}
 use Rattle.sched_model.specs.Jobs.{due}
 use Rattle.done_lines.specs.RunText.{run_text_in}
 

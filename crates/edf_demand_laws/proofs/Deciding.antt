@@ -4,7 +4,7 @@ use Rattle.std.proofs.Math.Nat.{mul-le-mul_right, le_of_mul-le-mul_right}
 use Rattle.grid_fraction.specs.declared.Frac.{Frac}
 use Rattle.freq_table.specs.Tables.{speed_at}
 use Rattle.sched_model.specs.Plan.{Plan}
-use Rattle.sched_model.specs.Demands.{worst_demand}
+use Rattle.sched_model.specs.Jobs.{worst_demand}
 use Rattle.sched_model.specs.Admission.{IsWithinLimits}
 use Rattle.sched_model.proofs.Limits.{every_period}
 use Rattle.edf_demand_laws.specs.Constrained.{IsConstrained, schedule_at}

@@ -5,14 +5,13 @@ use Rattle.std.proofs.lemmas.Bool.{le-leb, leb-true, cases_lt}
 use Rattle.grid_fraction.specs.Numbers.{sum_below, sum_where}
 use Rattle.grid_fraction.proofs.Sums.{sum_below-le}
 use Rattle.sched_model.specs.Plan.{Plan, count, period, offset, worst}
-use Rattle.sched_model.specs.Jobs.{release, due, latest}
-use Rattle.sched_model.specs.Demands.{IsWithin, JobDemands}
+use Rattle.sched_model.specs.Jobs.{release, due, latest, IsWithin, JobDemands}
 use Rattle.sched_model.specs.Ticks.{Tick, at, exec, left, share}
 use Rattle.sched_model.proofs.DownSets.{due_by_gets}
 use Rattle.sched_model.proofs.LevelSums.{sum_where-plus, sum_where-mono, sum_where-all, sum_where-term}
 use Rattle.sched_model.proofs.JobLaws.{latest-is, latest-pos, latest-stays, latest-next, release-due, release-suc, lt-due, exec-latest}
 use Rattle.sched_model.proofs.Service.{at-now, at-before}
-use Rattle.edf_demand_laws.specs.Constrained.{IsConstrained, absolute, key_at, IsNext, IsScheduleAt, IsMetBy}
+use Rattle.edf_demand_laws.specs.Constrained.{IsConstrained, absolute, key_at, IsNextAt, IsScheduleAt, IsMetBy}
 use Rattle.edf_demand_laws.specs.ProcessorDemand.{jobs_due, work_due, processor_demand}
 use Rattle.edf_demand_laws.proofs.Counting.{jobs_due-above}
 use Rattle.edf_demand_laws.proofs.Ticks.{own-share, had-most, latest-before}
@@ -100,7 +99,7 @@ module _ (p : Plan) (relative : ℕ → ℕ) (dem : JobDemands) (f : ℕ) (perio
           (λ i lt. each i lt (is_near 0 d i) refl)
 
   -- after the tick x, before the next releases, the work still to do by d fits into what the speed does up to d
-  calm-tick : (x : Tick) (past : List Tick) → IsNext p relative dem f past x → IsCalm past
+  calm-tick : (x : Tick) (past : List Tick) → IsNextAt p relative dem f past x → IsCalm past
       → (d : ℕ) → length past + 1 ≤ d → rest_work x past d ≤ f * (d - (length past + 1))
   calm-tick x past next calm d le = elim (cases_lt (sum_where n near needs) f) [
     | inl small ↦ omega (arith, split, gets, parts, some_rest, fits (d - (t + 1)), most)
@@ -212,7 +211,7 @@ module _ (p : Plan) (relative : ℕ → ℕ) (dem : JobDemands) (f : ℕ) (perio
           rw near (omega (arith, needs, more))
       moved false e key needs = omega arith
 
-  calm-next : (x : Tick) (past : List Tick) → IsNext p relative dem f past x → IsCalm past → IsCalm (x ∷ past)
+  calm-next : (x : Tick) (past : List Tick) → IsNextAt p relative dem f past x → IsCalm past → IsCalm (x ∷ past)
   calm-next x past next calm d le =
       let t = length past in
       let e : length (x ∷ past) ≡ t + 1 = omega arith in

@@ -3,9 +3,8 @@ use Rattle.std.proofs.Common.{◌≡◌, ℕ, zero, suc, [], ◌∷◌, codes, r
 use Rattle.dvs_base.specs.declared.kind.Scheduler.TheVariants.{Edf}
 use Rattle.grid_fraction.specs.Fraction as fraction
 use Rattle.sched_model.specs.Plan.{Plan, plan_of}
-use Rattle.sched_model.specs.Jobs.{release, due, latest}
+use Rattle.sched_model.specs.Jobs.{release, due, latest, worst_demand}
 use Rattle.sched_model.specs.Ticks.{exec}
-use Rattle.sched_model.specs.Demands.{worst_demand}
 use Rattle.sched_model.proofs.Examples.{task_of, entry_of}
 use Rattle.edf_demand_laws.specs.Constrained.{schedule_at}
 use Rattle.edf_demand_laws.specs.ProcessorDemand.{processor_demand, constrained_demand}

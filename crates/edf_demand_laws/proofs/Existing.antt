@@ -8,12 +8,12 @@ use Rattle.freq_table.specs.declared.machine.Point.{Point}
 use Rattle.freq_table.specs.Tables.{Table, speed_at, IsTable}
 use Rattle.freq_table.proofs.Chosen.{speeds_rise}
 use Rattle.sched_model.specs.Plan.{Plan, count}
-use Rattle.sched_model.specs.Demands.{JobDemands}
+use Rattle.sched_model.specs.Jobs.{JobDemands}
 use Rattle.sched_model.specs.Ticks.{Tick, left, share}
 use Rattle.sched_model.specs.Priority.{allotment}
 use Rattle.sched_model.proofs.Allotments.{allotment_of, allotment-shares, shares-same}
 use Rattle.sched_model.proofs.Tables.{length-list_below, get-table}
-use Rattle.edf_demand_laws.specs.Constrained.{key_at, IsNext, IsScheduleAt, tick_at, schedule_at}
+use Rattle.edf_demand_laws.specs.Constrained.{key_at, IsNextAt, IsScheduleAt, tick_at, schedule_at}
 
 -- an entry with the speed of an entry of the table is that entry
 pub same-entry : (m : Table) → IsTable m → (e k : ℕ) → e < length m.points → speed_at m k ≡ speed_at m e → k ≡ e
@@ -47,7 +47,7 @@ module _ (p : Plan) (relative : ℕ → ℕ) (dem : JobDemands) (e : ℕ) where
   abbrev given : List Tick → ℕ → ℕ
   given past = allotment (count p) (key past) f (left p dem past)
 
-  next-may : (past : List Tick) → IsNext p relative dem f past (tick_at p relative dem e past)
+  next-may : (past : List Tick) → IsNextAt p relative dem f past (tick_at p relative dem e past)
   next-may past =
       let n = count p in
       record {
@@ -65,7 +65,7 @@ module _ (p : Plan) (relative : ℕ → ℕ) (dem : JobDemands) (e : ℕ) where
       ((r.0, next-may (schedule_at p relative dem e t)), omega (arith, r.1))
 
   module _ (table : IsTable p.machine) (lt : e < length p.machine.points) where
-    next-same : (past : List Tick) (x : Tick) → IsNext p relative dem f past x → x ≡ tick_at p relative dem e past
+    next-same : (past : List Tick) (x : Tick) → IsNextAt p relative dem f past x → x ≡ tick_at p relative dem e past
     next-same past x h = λ i. record { entry = same-entry p.machine table e x.entry lt h.speed i; shares = same i }
       where
         same : x.shares ≡ list_below (count p) (given past)

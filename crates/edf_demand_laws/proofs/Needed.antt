@@ -4,8 +4,7 @@ use Rattle.std.proofs.lemmas.Bool.Decides.{nat_tests}
 use Rattle.grid_fraction.specs.Numbers.{sum_below, sum_where}
 use Rattle.grid_fraction.proofs.Sums.{sum_below-le, sum_below-add, sum_below-own, sum_below-up, sum_below-zero}
 use Rattle.sched_model.specs.Plan.{Plan, count, period, worst}
-use Rattle.sched_model.specs.Jobs.{release, due, latest, is_in_window}
-use Rattle.sched_model.specs.Demands.{JobDemands, worst_demand}
+use Rattle.sched_model.specs.Jobs.{release, due, latest, is_in_window, JobDemands, worst_demand}
 use Rattle.sched_model.specs.Ticks.{Tick, exec, left, share}
 use Rattle.sched_model.proofs.DownSets.{down-set-gets}
 use Rattle.sched_model.proofs.JobLaws.{latest-is}

@@ -1,17 +1,16 @@
 -- What the jobs have had in a constrained schedule.
 use Rattle.std.proofs.Common.{◌≡◌, ℕ, ◌+◌, ◌<◌, ◌≤◌, List, [], ◌∷◌, length, arith}
 use Rattle.sched_model.specs.Plan.{Plan, count}
-use Rattle.sched_model.specs.Jobs.{latest}
-use Rattle.sched_model.specs.Demands.{JobDemands}
+use Rattle.sched_model.specs.Jobs.{latest, JobDemands}
 use Rattle.sched_model.specs.Ticks.{Tick, exec, left, share}
 use Rattle.sched_model.proofs.LevelSums.{share-most}
 use Rattle.sched_model.proofs.JobLaws.{latest-is, release-due}
 use Rattle.sched_model.proofs.Service.{exec-within}
-use Rattle.edf_demand_laws.specs.Constrained.{absolute, key_at, IsConstrained, IsNext, IsScheduleAt}
+use Rattle.edf_demand_laws.specs.Constrained.{absolute, key_at, IsConstrained, IsNextAt, IsScheduleAt}
 
 -- no job gets more in a tick than it needs, so it has had no more than its demand
 pub own-share : (p : Plan) (relative : ℕ → ℕ) (dem : JobDemands) (f : ℕ) (past : List Tick) (x : Tick)
-    → IsNext p relative dem f past x → (i : ℕ) → i < count p → share x i ≤ left p dem past i
+    → IsNextAt p relative dem f past x → (i : ℕ) → i < count p → share x i ≤ left p dem past i
 own-share p relative dem f past x next i lt =
     share-most (count p) (key_at p relative (length past)) f (left p dem past) (share x) next.legal i lt
 

@@ -3,8 +3,7 @@ use Rattle.std.specs.Prelude.{◌≡◌, ℕ, zero, suc, ◌+◌, ◌<◌, ◌�
 use Rattle.grid_fraction.specs.Numbers.{list_below}
 use Rattle.freq_table.specs.Tables.{speed_at}
 use Rattle.sched_model.specs.Plan.{Plan, count, period, offset}
-use Rattle.sched_model.specs.Jobs.{release, latest}
-use Rattle.sched_model.specs.Demands.{JobDemands}
+use Rattle.sched_model.specs.Jobs.{release, latest, JobDemands}
 use Rattle.sched_model.specs.Ticks.{Tick, at, exec, left, share}
 use Rattle.sched_model.specs.Priority.{SharesOut, allotment}
 
@@ -23,7 +22,7 @@ abbrev pub key_at : Plan → (ℕ → ℕ) → ℕ → ℕ → ℕ
 key_at p relative t i = absolute p relative i (latest p i t)
 
 -- the tick x has speed f, and is legal after the ticks of `past`
-pub record IsNext (p : Plan) (relative : ℕ → ℕ) (dem : JobDemands) (f : ℕ) (past : List Tick) (x : Tick) : Type 0 where
+pub record IsNextAt (p : Plan) (relative : ℕ → ℕ) (dem : JobDemands) (f : ℕ) (past : List Tick) (x : Tick) : Type 0 where
   pub one_share_each : length x.shares ≡ count p
   pub speed : speed_at p.machine x.entry ≡ f
   pub legal : SharesOut (count p) (key_at p relative (length past)) f (left p dem past) (share x)
@@ -31,7 +30,7 @@ pub record IsNext (p : Plan) (relative : ℕ → ℕ) (dem : JobDemands) (f : �
 -- every tick has speed f and is legal after the earlier ones; the last tick is first
 abbrev pub IsScheduleAt : Plan → (ℕ → ℕ) → JobDemands → ℕ → List Tick → Type 0
 IsScheduleAt p relative dem f [] = Unit {0}
-IsScheduleAt p relative dem f (x ∷ past) = IsScheduleAt p relative dem f past × IsNext p relative dem f past x
+IsScheduleAt p relative dem f (x ∷ past) = IsScheduleAt p relative dem f past × IsNextAt p relative dem f past x
 
 -- every job whose absolute deadline is within the ticks has had its demand by then
 abbrev pub IsMetBy : Plan → (ℕ → ℕ) → JobDemands → List Tick → Type 0

@@ -2,7 +2,7 @@
 use Rattle.std.specs.Prelude.{◌≡◌, ℕ, List, length}
 use Rattle.freq_table.specs.Tables.{speed_at}
 use Rattle.sched_model.specs.Plan.{Plan}
-use Rattle.sched_model.specs.Demands.{IsWithin, JobDemands, worst_demand}
+use Rattle.sched_model.specs.Jobs.{IsWithin, JobDemands, worst_demand}
 use Rattle.sched_model.specs.Ticks.{Tick}
 use Rattle.edf_demand_laws.specs.Constrained.{IsScheduleAt, IsMetBy, schedule_at}
 

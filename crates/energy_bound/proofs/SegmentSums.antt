@@ -12,12 +12,10 @@ use Rattle.sched_model.specs.declared.holder.Holder.TheVariants.{Nobody, Held}
 use Rattle.sched_model.specs.Plan.{Plan, count, point}
 use Rattle.sched_model.specs.Jobs.{latest, releases_at}
 use Rattle.sched_model.specs.Ticks.{Tick, share}
-use Rattle.sched_model.specs.Priority.{key_of}
-use Rattle.sched_model.specs.Order.{in_order}
+use Rattle.sched_model.specs.Priority.{key_of, in_order}
 use Rattle.sched_model.specs.Decision.{is_decision}
 use Rattle.sched_model.specs.Schedule.{entry_in_force, IsScheduleBy}
-use Rattle.sched_model.specs.Segments.{same_holder, Span, spans_of, lengthened, units_of, Piece, before_pieces, pieces_of, position_of, run_energy, idle_energy}
-use Rattle.sched_model.specs.Notes.{release_notes, all_release_notes, had_by, segment_notes, pieces_notes, span_notes, notes_before_end}
+use Rattle.sched_model.specs.Notes.{same_holder, Span, spans_of, lengthened, units_of, Piece, before_pieces, pieces_of, position_of, run_energy, idle_energy, release_notes, all_release_notes, had_by, segment_notes, pieces_notes, span_notes, notes_before_end}
 use Rattle.sched_model.proofs.PieceLemmas.{same_holder-eq}
 use Rattle.sched_model.proofs.NoteLemmas.{flat_map-last}
 use Rattle.sched_model.proofs.OrderLemmas.{sum_list, sum_list-in_order}

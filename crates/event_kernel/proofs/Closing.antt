@@ -19,8 +19,8 @@ use Rattle.sched_model.specs.Totals.{totals_of, is_released, is_finished, is_dec
 use Rattle.sched_model.specs.Admission.{IsAdmitted}
 use Rattle.energy.specs.Books.{Books}
 use Rattle.event_kernel.specs.declared.span_trace.SpanTrace.{SpanTrace}
-use Rattle.event_kernel.specs.SpanNotes.{all_booked, CanBook, HasBooked}
-use Rattle.event_kernel.specs.Runs.{Run, demands_of, notes_before_end_of, notes_of_run}
+use Rattle.event_kernel.specs.SpanNotes.{all_booked, CanBook, HasBooked, notes_before_end_of}
+use Rattle.event_kernel.specs.Runs.{Run, demands_of, notes_of_run}
 use Rattle.event_kernel.specs.Segment.{ended}
 use Rattle.event_kernel.specs.Heard.{HasHeard, HasBalked}
 use Rattle.event_kernel.proofs.Hearing.{heard-append, balked-append, balked_after}

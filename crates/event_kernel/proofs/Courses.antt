@@ -3,7 +3,7 @@ use Rattle.std.proofs.Common.{◌≡◌, ℕ, ◌+◌, ◌<◌, ◌≤◌, ◌�
 use Rattle.grid_fraction.specs.declared.Frac.{Frac}
 use Rattle.sched_model.specs.Plan.{Plan, count, worst}
 use Rattle.sched_model.specs.Ticks.{exec}
-use Rattle.sched_model.specs.Demands.{IsWithin}
+use Rattle.sched_model.specs.Jobs.{IsWithin}
 use Rattle.sched_model.specs.Schedule.{schedule_by, IsScheduleBy}
 use Rattle.sched_model.specs.States.{StateOf}
 use Rattle.sched_model.proofs.ScheduleLemmas.{schedule_exists}

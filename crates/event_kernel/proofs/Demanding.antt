@@ -4,7 +4,7 @@ use Rattle.std.specs.Prelude.{unwrap_or, option_map, slice_index}
 use Rattle.task_model.specs.DemandRows.{named}
 use Rattle.demand_list.specs.Demands.{DemandsOf, units_of, IsWithinWorsts}
 use Rattle.sched_model.specs.Plan.{Plan, count, task, worst}
-use Rattle.sched_model.specs.Demands.{IsWithin}
+use Rattle.sched_model.specs.Jobs.{IsWithin}
 use Rattle.demand_list.proofs.Worsts.{worst-listed, worsts-long}
 use Rattle.event_kernel.specs.Runs.{demands_of, IsListOf}
 

@@ -12,8 +12,7 @@ use Rattle.sched_model.specs.declared.holder.Holder.TheVariants.{Nobody, Held}
 use Rattle.sched_model.specs.Plan.{Plan, count, point}
 use Rattle.sched_model.specs.Jobs.{latest}
 use Rattle.sched_model.specs.Ticks.{Tick, exec}
-use Rattle.sched_model.specs.Segments.{same_holder, Span, Piece, pieces_of, position_of, run_energy}
-use Rattle.sched_model.specs.Notes.{had_by, segment_notes, pieces_notes, all_release_notes}
+use Rattle.sched_model.specs.Notes.{same_holder, Span, Piece, pieces_of, position_of, run_energy, had_by, segment_notes, pieces_notes, all_release_notes}
 use Rattle.sched_model.specs.States.{row_at, StateOf}
 use Rattle.sched_model.proofs.PieceLemmas.{piece, same_holder-eq, pieces_of-run}
 use Rattle.event_kernel.specs.declared.segment.Segment.{Segment}
@@ -33,16 +32,7 @@ pub record Shows (p : Plan) (dem : ℕ → ℕ → ℕ) (t : ℕ) (st : StateOf)
   pub within : (i : ℕ) → i < count p → used i ≤ dem i (latest p i t)
 
 test_same : (d u : ℕ) → u ≤ d → nat_le d u ≡ nat_eq u d
-test_same d u le = go (nat_le d u) refl (nat_eq u d) refl
-  where
-    go : (a : Bool) → nat_le d u ≡ a → (b : Bool) → nat_eq u d ≡ b → nat_le d u ≡ nat_eq u d
-    go true e true f = e ∙ sym f
-    go false e false f = e ∙ sym f
-    go true e false f = absurd (grind (arith, nat_tests))
-    go false e true f = absurd (grind (arith, nat_tests))
-
-done_same : (a b : Pos) (i k d u : ℕ) → nat_eq u d ≡ true → Done a i k u ∷ [] ≡ Done a i k d ∷ []
-done_same a b i k d u e = let same : u ≡ d = grind (arith, nat_tests) in ap (λ n. Done a i k n ∷ []) same
+test_same d u le = grind (arith, nat_tests, le)
 
 module _ (p : Plan) (dem : ℕ → ℕ → ℕ) (ask : List Tick → Frac) (t : ℕ) where
   -- the last segment's notes are those that the state's rows show
@@ -72,7 +62,7 @@ module _ (p : Plan) (dem : ℕ → ℕ → ℕ) (ask : List Tick → Frac) (t : 
 
       go : (b : Bool) → nat_eq (used i) (dem i now) ≡ b
           → (if b then Done (at_unit (q + u)) i k (dem i now) ∷ [] else []) ≡ (if b then Done (at_unit (q + u)) i k (used i) ∷ [] else [])
-      go true e = sym (done_same (at_unit (q + u)) (at_unit q) i k (dem i now) (used i) e)
+      go true e = let same : dem i now ≡ used i = grind (arith, nat_tests) in rw same refl
       go false e = refl
 
   -- the notes with one more segment have that segment's notes behind them

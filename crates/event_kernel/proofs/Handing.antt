@@ -1,7 +1,7 @@
 -- The units of one tick, handed out to one task after the other.
 use Rattle.std.proofs.Common.{◌≡◌, ◌≢◌, ℕ, ◌+◌, ◌-◌, ◌*◌, ◌<◌, ◌≤◌, min, Bool, true, false, not, eqb, ◌&&◌, ◌||◌, List, [], ◌∷◌, ◌++◌, length, replicate, refl, arith, if◌then◌else◌, ap, ap₂, ◌∙◌, sym, subst, append-nil, append_assoc, nat_eq, nat_le, nat_lt, true≢false}
 use Rattle.std.specs.Prelude.{count_by, flat_map}
-use Rattle.std.proofs.Math.Bool.{or-true, or-false}
+use Rattle.std.proofs.Math.Bool.{or-true, or-false, not-and_self}
 use Rattle.std.proofs.lemmas.Bool.Decides.{nat_tests}
 use Rattle.std.proofs.lemmas.List.Folds.{sum_by-replicate}
 use Rattle.dvs_base.specs.declared.kind.Scheduler.{Scheduler}
@@ -13,10 +13,9 @@ use Rattle.grid_fraction.specs.Numbers.{sum_below, any_below, list_below}
 use Rattle.sched_model.specs.Plan.{Plan, count, worst}
 use Rattle.sched_model.specs.Jobs.{latest, due}
 use Rattle.sched_model.specs.Ticks.{Tick, exec, left, share}
-use Rattle.sched_model.specs.Order.{in_order}
-use Rattle.sched_model.specs.Priority.{key_of, stands_before, sum_before}
+use Rattle.sched_model.specs.Priority.{in_order, key_of, stands_before, sum_before}
 use Rattle.sched_model.specs.Greedy.{IsFirstOpen}
-use Rattle.sched_model.specs.Segments.{same_holder}
+use Rattle.sched_model.specs.Notes.{same_holder}
 use Rattle.sched_model.specs.States.{no_row, row_at, StateOf, row_of, state_of}
 use Rattle.grid_fraction.proofs.Sums.{sum_below-zero, sum_below-same, sum_below-add, sum_below-own}
 use Rattle.sched_model.proofs.Tables.{get-table, table-same, set-table}
@@ -70,18 +69,10 @@ abbrev pub raised : (ℕ → ℕ) → ℕ → ℕ → ℕ → ℕ
 raised given i share k = if eqb k i then given k + share else given k
 
 raised-here : (given : ℕ → ℕ) (i share : ℕ) → raised given i share i ≡ given i + share
-raised-here given i share = go (eqb i i) refl
-  where
-    go : (b : Bool) → eqb i i ≡ b → (if b then given i + share else given i) ≡ given i + share
-    go true e = refl
-    go false e = absurd (grind (arith, nat_tests))
+raised-here given i share = let here : eqb i i ≡ true = grind (arith, nat_tests) in rw here refl
 
 raised-there : (given : ℕ → ℕ) (i share k : ℕ) → k ≢ i → raised given i share k ≡ given k
-raised-there given i share k ne = go (eqb k i) refl
-  where
-    go : (b : Bool) → eqb k i ≡ b → (if b then given k + share else given k) ≡ given k
-    go true e = absurd (ne (grind (arith, nat_tests)))
-    go false e = refl
+raised-there given i share k ne = let other : eqb k i ≡ false = grind (arith, nat_tests, ne) in rw other refl
 
 pub sum-raised : (n : ℕ) (given : ℕ → ℕ) (i share : ℕ) → i < n → sum_below n (raised given i share) ≡ sum_below n given + share
 sum-raised n given i share lt =
@@ -145,17 +136,11 @@ module _ (p : Plan) (dem : ℕ → ℕ → ℕ) (past : List Tick) where
   start-state =
       ap (λ rows. record { now = length past; rows = rows; base_at = (state_of p dem past).base_at; base = (state_of p dem past).base })
       (table-same (count p) (row_of p dem past) (given_row (λ _. 0))
-      (λ i lt. ap (λ u. row_by (due p i (job i)) (job i) u (nat_le (dem i (job i)) u) (worst p i)) (plus_zero (had i))))
-    where
-      plus_zero : (n : ℕ) → n ≡ n + 0
-      plus_zero n = omega arith
+      (λ i lt. (let z : had i ≡ had i + 0 = omega arith in
+      ap (λ u. row_by (due p i (job i)) (job i) u (nat_le (dem i (job i)) u) (worst p i)) z)))
 
   none_ends : (i : ℕ) → ends_in (λ _. 0) i ≡ false
-  none_ends i = go (nat_le (dem i (job i)) (had i)) refl
-    where
-      go : (b : Bool) → nat_le (dem i (job i)) (had i) ≡ b → (not (nat_le (dem i (job i)) (had i)) && nat_le (dem i (job i)) (had i + 0)) ≡ false
-      go true e = rw e refl
-      go false e = let z : had i + 0 ≡ had i = omega arith in rw (e, z, e) refl
+  none_ends i = let z : had i + 0 ≡ had i = omega arith in rw z (not-and_self (nat_le (dem i (job i)) (had i)))
 
   pub start : (f : ℕ) → Handing f (λ _. 0) f false (state_of p dem past)
   start f = record {

@@ -7,8 +7,7 @@ use Rattle.sched_model.specs.declared.holder.Holder.{Holder}
 use Rattle.sched_model.specs.declared.holder.Holder.TheVariants.{Nobody, Held}
 use Rattle.sched_model.specs.Plan.{Plan, point}
 use Rattle.sched_model.specs.Ticks.{exec}
-use Rattle.sched_model.specs.Segments.{same_holder, Span, Piece, pieces_of, position_of, run_energy}
-use Rattle.sched_model.specs.Notes.{segment_notes, pieces_notes}
+use Rattle.sched_model.specs.Notes.{same_holder, Span, Piece, pieces_of, position_of, run_energy, segment_notes, pieces_notes}
 use Rattle.sched_model.proofs.PieceLemmas.{piece, same_holder-refl, with_unit, pieces_of-push}
 use Rattle.done_lines.proofs.SpanNotes.{total}
 use Rattle.event_kernel.specs.Segment.{grown}

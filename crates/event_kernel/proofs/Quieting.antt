@@ -1,7 +1,7 @@
 -- The number of ticks before a span's last one, and the end of the span after it.
 use Rattle.std.proofs.Common.{◌≡◌, ℕ, ◌+◌, ◌-◌, ◌*◌, ◌/◌, ◌^◌, ◌<◌, ◌≤◌, min, Bool, true, false, not, ◌&&◌, List, ◌∷◌, length, refl, arith, ap, ap₂, ◌∙◌, sym, subst, ◌⊎◌, inl, inr, nat_eq, nat_le, mul-le-mul_left}
 use Rattle.std.specs.Prelude.{Option, None, Some, IfSome, IfNone}
-use Rattle.std.proofs.Math.Nat.{div-mul-le_self, lt-div-mul-add}
+use Rattle.std.proofs.Math.Nat.{div-mul-le_self, lt-div-mul-add, mul-le-mul_right}
 use Rattle.std.proofs.lemmas.Bool.{cases_lt}
 use Rattle.std.proofs.lemmas.Bool.Decides.{nat_tests}
 use Rattle.grid_fraction.specs.declared.Frac.{Frac}
@@ -36,7 +36,7 @@ use Rattle.event_kernel.proofs.Deciding.{at-decision}
 use Rattle.event_kernel.proofs.Courses.{course-next, course-len, low-exec}
 use Rattle.event_kernel.proofs.Working.{Working, entry-there, begin, can, ready}
 use Rattle.event_kernel.proofs.Spanning.{ends-span}
-use Rattle.event_kernel.proofs.Staying.{run_on, mul-le, row-served, due-served, first-served}
+use Rattle.event_kernel.proofs.Staying.{run_on, row-served, due-served, first-served}
 
 -- the first row that is not done, from the two clauses of the search for it
 pub is-first : (p : Plan) (s : StateOf) (r : Option ℕ) → IfNone r ((k : ℕ) → k < count p → (row_at s k).done ≡ true)
@@ -146,7 +146,7 @@ module _ {set : Setting} (ok : IsSetting set) where
           short : (row_at st i).used + n * f < dem i (row_at st i).job
           short =
               let le : n ≤ (lacks - 1) / f = omega (arith, ne) in
-              let some : n * f ≤ ((lacks - 1) / f) * f = mul-le n ((lacks - 1) / f) f le in
+              let some : n * f ≤ ((lacks - 1) / f) * f = mul-le-mul_right f le in
               omega (arith, some, div-mul-le_self (lacks - 1) f, oe, needs)
 
           last-done : n ≡ (lacks - 1) / f → dem i (row_at st i).job ≤ (row_at st i).used + n * f + f

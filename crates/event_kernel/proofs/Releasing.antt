@@ -1,6 +1,7 @@
 -- The releases of one boundary.
 use Rattle.std.proofs.Common.{eq-eqb, ◌≡◌, ◌≢◌, ◌⊎◌, inl, inr, ℕ, zero, suc, ◌+◌, ◌-◌, ◌<◌, ◌≤◌, Bool, true, false, ◌||◌, List, [], ◌∷◌, ◌++◌, length, refl, arith, if◌then◌else◌, ap, ap₂, ◌∙◌, sym, append-nil, nat_eq, nat_lt, add-one, set, get_or-set_same}
 use Rattle.std.specs.Prelude.{flat_map}
+use Rattle.std.proofs.Math.Bool.{or-true, or-false}
 use Rattle.std.proofs.lemmas.Bool.{cases_lt}
 use Rattle.std.proofs.lemmas.Bool.Decides.{nat_tests}
 use Rattle.std.proofs.lemmas.List.{set-set}
@@ -35,6 +36,13 @@ use Rattle.event_kernel.specs.Settings.{IsAtBoundary}
 abbrev pub mixed : Plan → (ℕ → ℕ → ℕ) → List Tick → ℕ → ℕ → Row
 mixed p dem past m i = if nat_lt i m then row_of p dem past i else prior_row p dem past i
 
+module _ (p : Plan) (dem : ℕ → ℕ → ℕ) (past : List Tick) (m i : ℕ) where
+  mixed-done : i < m → mixed p dem past m i ≡ row_of p dem past i
+  mixed-done lt = let there : nat_lt i m ≡ true = grind (arith, nat_tests, lt) in rw there refl
+
+  mixed-here : m ≤ i → mixed p dem past m i ≡ prior_row p dem past i
+  mixed-here le = let here : nat_lt i m ≡ false = grind (arith, nat_tests, le) in rw here refl
+
 -- the state at the boundary with these rows
 abbrev pub with_rows : Plan → (ℕ → ℕ → ℕ) → List Tick → List Row → StateOf
 with_rows p dem past rows = record {
@@ -58,13 +66,11 @@ pub record Releasing (p : Plan) (dem : ℕ → ℕ → ℕ) (past : List Tick) (
 
 pub releasing-start : (p : Plan) (dem : ℕ → ℕ → ℕ) (past : List Tick) → Releasing p dem past 0 false (prior_state p dem past)
 releasing-start p dem past = record {
-  state = ap (with_rows p dem past) (table-same (count p) (prior_row p dem past) (mixed p dem past 0) (λ i lt. go i (nat_lt i 0) refl));
+  state = ap (with_rows p dem past)
+      (table-same (count p) (prior_row p dem past) (mixed p dem past 0)
+      (λ i lt. sym (mixed-here p dem past 0 i (omega arith))));
   any_is = refl;
 }
-  where
-    go : (i : ℕ) (b : Bool) → nat_lt i 0 ≡ b → prior_row p dem past i ≡ (if b then row_of p dem past i else prior_row p dem past i)
-    go i true e = absurd (grind (arith, nat_tests))
-    go i false e = refl
 
 module _ (p : Plan) (dem : ℕ → ℕ → ℕ) (past : List Tick) (periods : (i : ℕ) → 0 < period p i) where
   -- the row of a task is the same after m and after n steps where it isn't between them, or isn't due
@@ -78,12 +84,6 @@ module _ (p : Plan) (dem : ℕ → ℕ → ℕ) (past : List Tick) (periods : (i
       go false e false f = refl
       go true e false f = absurd (grind (arith, nat_tests, le))
       go false e true f = sym (row-kept p dem periods past i none (early (grind (arith, nat_tests)) (grind (arith, nat_tests))))
-
-  mixed-done : (m i : ℕ) → i < m → mixed p dem past m i ≡ row_of p dem past i
-  mixed-done m i lt = let there : nat_lt i m ≡ true = grind (arith, nat_tests, lt) in ap (λ b. if b then row_of p dem past i else prior_row p dem past i) there
-
-  mixed-here : (m i : ℕ) → m ≤ i → mixed p dem past m i ≡ prior_row p dem past i
-  mixed-here m i le = let here : nat_lt i m ≡ false = grind (arith, nat_tests, le) in ap (λ b. if b then row_of p dem past i else prior_row p dem past i) here
 
   -- the releases and the notes of one task more
   more : (m : ℕ) (b : Bool) → releases_at p m (length past) ≡ b
@@ -104,16 +104,12 @@ module _ (p : Plan) (dem : ℕ → ℕ → ℕ) (past : List Tick) (periods : (i
       let one = more m false here in
       let rest = nothing n (m + 1) (λ k lo hi. none k (omega (arith, lo)) (omega (arith, hi))) in
       let same : m + 1 + n ≡ m + suc n = omega arith in (
-        or-false (any_upto p past m) ∙ (sym one.0 ∙ (rest.0 ∙ ap (any_upto p past) same)),
+        sym (or-false (any_upto p past m)) ∙ (sym one.0 ∙ (rest.0 ∙ ap (any_upto p past) same)),
         sym (one.1 ∙ (ap (λ b. notes_upto p dem past m ++ (if b then Release (length past) m (latest p m (length past))
             ∷ (if nat_eq (dem m (latest p m (length past))) 0 then Done (record { tick = length past; offset = 0 }) m (latest p m (length past)) 0 ∷ []
             else []) else [])) here ∙ append-nil (notes_upto p dem past m)))
             ∙ (rest.1 ∙ ap (notes_upto p dem past) same),
       )
-    where
-      or-false : (a : Bool) → a ≡ (a || false)
-      or-false true = refl
-      or-false false = refl
 
 module _ {p : Plan} {dem : ℕ → ℕ → ℕ} {past : List Tick} (periods : (i : ℕ) → 0 < period p i) where
   module _ {m : ℕ} {any : Bool} {st : StateOf} (r : Releasing p dem past m any st) where
@@ -124,7 +120,7 @@ module _ {p : Plan} {dem : ℕ → ℕ → ℕ} {past : List Tick} (periods : (i
     row-at i lt = ap (λ (s : StateOf). row_at s i) r.state ∙ get-table (count p) (mixed p dem past m) i no_row lt
 
     pub row-there : (i : ℕ) → i < count p → m ≤ i → row_at st i ≡ prior_row p dem past i
-    row-there i lt le = row-at i lt ∙ mixed-here p dem past periods m i le
+    row-there i lt le = row-at i lt ∙ mixed-here p dem past m i le
 
     -- no row's next release is before the state's tick
     pub none-past : NonePast p st
@@ -132,7 +128,8 @@ module _ {p : Plan} {dem : ℕ → ℕ → ℕ} {past : List Tick} (periods : (i
       where
         go : (i < m) ⊎ (m ≤ i) → st.now ≤ (row_at st i).deadline
         go (inl l) =
-            omega (arith, now-is, ap (λ (q : Row). q.deadline) (row-at i lt ∙ mixed-done p dem past periods m i l), lt-due p i (length past) (periods i))
+            let row = ap (λ (q : Row). q.deadline) (row-at i lt ∙ mixed-done p dem past m i l) in
+            omega (arith, now-is, row, lt-due p i (length past) (periods i))
         go (inr ge) = omega (arith, now-is, ap (λ (q : Row). q.deadline) (row-there i lt ge), prior-due p dem periods past i)
 
     -- rows that are not due may be counted as released
@@ -167,7 +164,7 @@ module _ {p : Plan} {dem : ℕ → ℕ → ℕ} {past : List Tick} (periods : (i
           arith,
           now-is,
           d.due,
-          ap (λ (q : Row). q.deadline) (row-at i d.below ∙ mixed-done p dem past periods m i l),
+          ap (λ (q : Row). q.deadline) (row-at i d.below ∙ mixed-done p dem past m i l),
           lt-due p i (length past) (periods i),
         ))
 
@@ -196,28 +193,26 @@ module _ {p : Plan} {dem : ℕ → ℕ → ℕ} {past : List Tick} (periods : (i
       opens next is = record {
         state = is ∙ (ap (λ (s : StateOf). opened p s m (needs_nothing dem s m)) r.state ∙ ap (with_rows p dem past)
             (set-table (count p) (mixed p dem past m) (mixed p dem past (m + 1)) m _ lt here there));
-        any_is = or-true (any_upto p past m) ∙ sym (more p dem past periods m true released_there).0;
+        any_is = sym (or-true (any_upto p past m)) ∙ sym (more p dem past periods m true released_there).0;
       }
         where
-          or-true : (a : Bool) → true ≡ (a || true)
-          or-true true = refl
-          or-true false = refl
-
           after : Row → Row
           after q = opened_row (period p m) (nat_eq (dem m (q.job + 1)) 0) q
 
           here : mixed p dem past (m + 1) m ≡ after (row_at (with_rows p dem past (list_below (count p) (mixed p dem past m))) m)
           here =
-              mixed-done p dem past periods (m + 1) m (omega arith) ∙
+              mixed-done p dem past (m + 1) m (omega arith) ∙
               (row-opened p dem periods past m due_there
-              ∙ ap after (sym (get-table (count p) (mixed p dem past m) m no_row lt ∙ mixed-here p dem past periods m m (omega arith))))
+              ∙ ap after (sym (get-table (count p) (mixed p dem past m) m no_row lt
+              ∙ mixed-here p dem past m m (omega arith))))
 
           there : (k : ℕ) → k < count p → k ≢ m → mixed p dem past (m + 1) k ≡ mixed p dem past m k
-          there k l ne = go (cases_lt k m)
+          there k low ne = go (cases_lt k m)
             where
               go : (k < m) ⊎ (m ≤ k) → mixed p dem past (m + 1) k ≡ mixed p dem past m k
-              go (inl less) = mixed-done p dem past periods (m + 1) k (omega (arith, less)) ∙ sym (mixed-done p dem past periods m k less)
-              go (inr ge) = mixed-here p dem past periods (m + 1) k (omega (arith, ge, ne)) ∙ sym (mixed-here p dem past periods m k ge)
+              go (inl l) = mixed-done p dem past (m + 1) k (omega (arith, l)) ∙ sym (mixed-done p dem past m k l)
+              go (inr ge) =
+                  mixed-here p dem past (m + 1) k (omega (arith, ge, ne)) ∙ sym (mixed-here p dem past m k ge)
 
       pub opens-trace : (trace0 : SpanTrace) {trace trace' : SpanTrace} → trace ≡ with_notes trace0 (notes_upto p dem past m)
           → trace' ≡ with_notes trace (opening_notes dem st m) → trace' ≡ with_notes trace0 (notes_upto p dem past (m + 1))
@@ -248,7 +243,8 @@ module _ {p : Plan} {dem : ℕ → ℕ → ℕ} {past : List Tick} (periods : (i
   all-rows : {any : Bool} {st : StateOf} → Releasing p dem past (count p) any st
       → st ≡ with_rows p dem past (list_below (count p) (row_of p dem past))
   all-rows r = r.state ∙ ap (with_rows p dem past)
-      (table-same (count p) (mixed p dem past (count p)) (row_of p dem past) (λ i lt. mixed-done p dem past periods (count p) i lt))
+      (table-same (count p) (mixed p dem past (count p)) (row_of p dem past)
+      (λ i lt. mixed-done p dem past (count p) i lt))
 
   pub released-marked : {any : Bool} {st : StateOf} → any ≡ true → Releasing p dem past (count p) any st → after_mark st ≡ state_of p dem past
   released-marked some r = ap after_mark (all-rows r) ∙ state-marked p dem periods past (sym r.any_is ∙ some)

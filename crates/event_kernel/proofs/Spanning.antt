@@ -14,21 +14,19 @@ use Rattle.sched_model.specs.declared.holder.Holder.TheVariants.{Nobody, Held}
 use Rattle.event_kernel.proofs.Bounds.{Bounds, bounds}
 use Rattle.sched_model.specs.Plan.{Plan, count, period, point}
 use Rattle.sched_model.specs.Jobs.{latest, due, releases_at, is_release}
-use Rattle.sched_model.specs.Ticks.{Tick, at, exec}
+use Rattle.sched_model.specs.Ticks.{Tick, at, exec, IsMet}
 use Rattle.sched_model.specs.Decision.{is_decision}
-use Rattle.sched_model.specs.Schedule.{entry_in_force, next_tick, schedule_by}
-use Rattle.sched_model.specs.Segments.{Span, spans_of, units_of, pieces_of, same_holder, position_of}
-use Rattle.sched_model.specs.Notes.{all_release_notes, span_notes, segment_notes, notes_before_end}
-use Rattle.sched_model.specs.States.{no_row, row_at, prior_row, prior_state, StateOf, state_of}
-use Rattle.sched_model.proofs.Tables.{get-table}
+use Rattle.sched_model.specs.Schedule.{entry_in_force, schedule_by}
+use Rattle.sched_model.specs.Notes.{Span, spans_of, pieces_of, same_holder, position_of, all_release_notes, span_notes, segment_notes, notes_before_end}
+use Rattle.sched_model.specs.States.{row_at, prior_row, prior_state, StateOf, state_of}
 use Rattle.sched_model.proofs.ScheduleLemmas.{length-list_below, force-decided}
 use Rattle.sched_model.proofs.NoteLemmas.{notes-span}
-use Rattle.sched_model.proofs.Joining.{due_released, state-still}
+use Rattle.sched_model.proofs.Joining.{due_released, row_at-prior_state, state-still}
 use Rattle.done_lines.proofs.SpanHeads.{stays}
 use Rattle.grid_fraction.proofs.Searches.{any_below-same}
 use Rattle.event_kernel.specs.declared.span_trace.SpanTrace.{SpanTrace}
 use Rattle.governor.specs.Schedule.{ask_of, course}
-use Rattle.event_kernel.specs.Segment.{grown, first_span, open_span, notes_with, IsOpen, holder_notes, written_notes, after_segment, ended, new_trace, CanPut, HeldIn}
+use Rattle.event_kernel.specs.Segment.{first_span, notes_with, IsOpen, holder_notes, written_notes, after_segment, ended, new_trace, CanPut, HeldIn}
 use Rattle.event_kernel.specs.declared.notes.TheConstants.{MOST_NOTES}
 use Rattle.event_kernel.specs.SpanNotes.{kept}
 use Rattle.event_kernel.proofs.Keeping.{kept-then, kept-all}
@@ -44,7 +42,6 @@ use Rattle.event_kernel.proofs.Courses.{course-next, course-len, exec-within}
 use Rattle.agenda.specs.Agenda.{NonePast}
 use Rattle.event_kernel.proofs.Releasing.{prior-past}
 use Rattle.freq_table.specs.Tables.{lowest_entry}
-use Rattle.sched_model.specs.Deadlines.{IsMet}
 
 pub start_decision : (demand : Plan → StateOf → Frac) (p : Plan) (dem : ℕ → ℕ → ℕ) → is_decision p dem (course demand p dem zero) ≡ true
 unfolding schedule_by
@@ -59,39 +56,25 @@ module _ (demand : Plan → StateOf → Frac) (p : Plan) (dem : ℕ → ℕ → 
       → spans_of p dem (tick_at demand p dem t ∷ course demand p dem t) ≡ whole_span demand p dem t ∷ spans_of p dem (whole_span demand p dem t).past
   spans-whole t = go t (is_decision p dem (course demand p dem t)) refl
     where
-      at_decision : (past : List Tick) → is_decision p dem past ≡ true
-          → spans_of p dem (next_tick p dem asks past ∷ past) ≡ grown (open_span p dem asks past) (units_of p past
-          (next_tick p dem asks past)) ∷ spans_of p dem (grown (open_span p dem asks past) (units_of p past (next_tick p dem asks past))).past
-      at_decision past e = rw e refl
-
-      between : (past : List Tick) (s : Span) → is_decision p dem past ≡ false → spans_of p dem past ≡ s ∷ spans_of p dem s.past
-          → spans_of p dem (next_tick p dem asks past ∷ past) ≡ grown (open_span p dem asks past) (units_of p past
-          (next_tick p dem asks past)) ∷ spans_of p dem (grown (open_span p dem asks past) (units_of p past (next_tick p dem asks past))).past
-      between past s e is = rw (e, is) refl
-
       go : (t : ℕ) (b : Bool) → is_decision p dem (course demand p dem t) ≡ b
           → spans_of p dem (tick_at demand p dem t ∷ course demand p dem t) ≡ whole_span demand p dem t ∷ spans_of p dem (whole_span demand p dem t).past
-      go t true e = at_decision (course demand p dem t) e
+      go t true e = rw e refl
       go zero false e = absurd (true≢false (sym (start_decision demand p dem) ∙ e))
       go (suc t) false e =
-          between (course demand p dem (suc t)) (whole_span demand p dem t) e
-          (ap (spans_of p dem) (ap (course demand p dem) (sym (add-one t)) ∙ course-next demand p dem t)
-          ∙ go t (is_decision p dem (course demand p dem t)) refl)
+          let s : Span = whole_span demand p dem t in
+          let is : spans_of p dem (course demand p dem (suc t)) ≡ s ∷ spans_of p dem s.past =
+          ap (spans_of p dem) (ap (course demand p dem) (sym (add-one t)) ∙ course-next demand p dem t)
+          ∙ go t (is_decision p dem (course demand p dem t)) refl in
+          rw (e, is) refl
 
   -- where no decision follows tick t, the next tick belongs to the same span
   pub span-on : (t : ℕ) → is_decision p dem (course demand p dem (t + 1)) ≡ false → span_at demand p dem (t + 1) ≡ whole_span demand p dem t
   span-on t e =
-      ap (λ b. if b then record { past = course demand p dem (t + 1); entry = entry_in_force p dem asks (course demand p dem (t + 1)); units = [] }
-      else first_span (spans_of p dem (course demand p dem (t + 1)))) e
-      ∙ (ap (λ (ps : List Tick). first_span (spans_of p dem ps)) (course-next demand p dem t)
-      ∙ ap first_span (spans-whole t))
+      rw e (ap (λ ps. first_span (spans_of p dem ps)) (course-next demand p dem t) ∙ ap first_span (spans-whole t))
 
   pub span-new : (t : ℕ) → is_decision p dem (course demand p dem t) ≡ true
       → span_at demand p dem t ≡ record { past = course demand p dem t; entry = entry_in_force p dem asks (course demand p dem t); units = [] }
-  span-new t e =
-      ap
-      (λ b. if b then record { past = course demand p dem t; entry = entry_in_force p dem asks (course demand p dem t); units = [] }
-      else first_span (spans_of p dem (course demand p dem t))) e
+  span-new t e = rw e refl
 
   -- the notes before some ticks
   abbrev pub notes_to : List Tick → List Note
@@ -135,11 +118,9 @@ module _ (demand : Plan → StateOf → Frac) (p : Plan) (dem : ℕ → ℕ → 
     pub due-is : (past : List Tick) (s : StateOf) → s ≡ prior_state p dem past → some_due p s ≡ is_release p (length past)
     due-is past s e =
         any_below-same (count p) (λ i. nat_eq (row_at s i).deadline s.now) (λ i. releases_at p i (length past))
-        (λ i lt. one i (row-is i lt) (nat_eq (prior_row p dem past i).deadline (length past)) refl)
+        (λ i lt. one i (ap (λ (v : StateOf). row_at v i) e ∙ row_at-prior_state p dem past i lt)
+        (nat_eq (prior_row p dem past i).deadline (length past)) refl)
       where
-        row-is : (i : ℕ) → i < count p → row_at s i ≡ prior_row p dem past i
-        row-is i lt = ap (λ (v : StateOf). row_at v i) e ∙ get-table (count p) (prior_row p dem past) i no_row lt
-
         one : (i : ℕ) → row_at s i ≡ prior_row p dem past i → (b : Bool) → nat_eq (prior_row p dem past i).deadline (length past) ≡ b
             → nat_eq (row_at s i).deadline s.now ≡ releases_at p i (length past)
         one i is b q =
@@ -193,7 +174,7 @@ module _ {set : Setting} (ok : IsSetting set) where
     }
       where
         row-is : (i : ℕ) → i < count p → row_at s i ≡ prior_row p dem (course demand p dem s.now) i
-        row-is i lt = ap (λ (v : StateOf). row_at v i) e ∙ get-table (count p) (prior_row p dem (course demand p dem s.now)) i no_row lt
+        row-is i lt = ap (λ (v : StateOf). row_at v i) e ∙ row_at-prior_state p dem (course demand p dem s.now) i lt
 
         done : (past : List Tick) → IsMet p dem past → (i : ℕ) → i < count p → (prior_row p dem past i).deadline ≡ length past
             → (prior_row p dem past i).done ≡ true
@@ -380,8 +361,8 @@ module _ {set : Setting} (ok : IsSetting set) where
 
       row-last : (i : ℕ) → i < count p → row_at s i ≡ prior_row p dem (tick_at demand p dem last ∷ course demand p dem last) i
       row-last i lt =
-          ap (λ (v : StateOf). row_at v i) (h.worked.state ∙ ap (prior_state p dem) (course-next demand p dem last)) ∙ get-table (count p)
-          (prior_row p dem (tick_at demand p dem last ∷ course demand p dem last)) i no_row lt
+          ap (λ (v : StateOf). row_at v i) (h.worked.state ∙ ap (prior_state p dem) (course-next demand p dem last))
+          ∙ row_at-prior_state p dem (tick_at demand p dem last ∷ course demand p dem last) i lt
 
       had-last : (i : ℕ)
           → exec p (tick_at demand p dem last ∷ course demand p dem last) i (latest p i (length (course demand p dem last)))

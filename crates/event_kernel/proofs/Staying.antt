@@ -1,8 +1,9 @@
 -- Ticks of a span in which one job has every unit, or nobody: any number of them is one step.
-use Rattle.std.proofs.Common.{◌≡◌, ◌≢◌, ℕ, zero, suc, ◌+◌, ◌-◌, ◌*◌, ◌<◌, ◌≤◌, min, Bool, true, false, not, ◌&&◌, ◌||◌, eqb, List, [], ◌∷◌, length, set, get_or-set_same, get_or-set_other, refl, arith, if◌then◌else◌, ap, ap₂, ◌∙◌, sym, subst, inl, inr, nat_eq, nat_lt, mul-le-mul_left, true≢false}
+use Rattle.std.proofs.Common.{◌≡◌, ◌≢◌, ℕ, zero, suc, ◌+◌, ◌-◌, ◌*◌, ◌<◌, min, Bool, true, false, not, ◌&&◌, ◌||◌, eqb, length, set, get_or-set_same, get_or-set_other, refl, arith, if◌then◌else◌, ap, ap₂, ◌∙◌, sym, subst, inl, inr, nat_eq, nat_lt, true≢false}
 use Rattle.std.specs.Prelude.{Option, None, Some}
 use Rattle.std.proofs.lemmas.Bool.Decides.{nat_tests}
 use Rattle.std.proofs.lemmas.Bool.{and_right}
+use Rattle.std.proofs.lemmas.List.{set-set}
 use Rattle.grid_fraction.specs.declared.Frac.{Frac}
 use Rattle.grid_fraction.proofs.Searches.{any_below-none}
 use Rattle.dvs_base.specs.declared.kind.Scheduler.{Scheduler}
@@ -34,14 +35,6 @@ units_in f (suc n) = units_in f n + f
 pub units_in-is : (f n : ℕ) → units_in f n ≡ suc n * f
 units_in-is f zero = omega arith
 units_in-is f (suc n) = omega (arith, units_in-is f n)
-
-pub mul-le : (a b c : ℕ) → a ≤ b → a * c ≤ b * c
-mul-le a b c le = omega (arith, mul-le-mul_left c le)
-
-set_twice : (rows : List Row) (i : ℕ) (a b : Row) → set (set rows i a) i b ≡ set rows i b
-set_twice [] i a b = refl
-set_twice (r ∷ rows) zero a b = refl
-set_twice (r ∷ rows) (suc i) a b = ap (λ rs. r ∷ rs) (set_twice rows i a b)
 
 -- a state at a later tick, after units of a task whose job is still not done
 abbrev pub run_on : StateOf → ℕ → ℕ → ℕ → StateOf
@@ -81,7 +74,7 @@ module _ (st : StateOf) (i : ℕ) (lt : i < length st.rows) (m : ℕ) where
         rows = set (set st.rows i (record (row_at st i) { used = (row_at st i).used + m; done = false })) i
             (record r { used = r.used + n; done = false });
       }) row-served
-      ∙ (ap (λ rows. record st { now = b; rows = rows }) (set_twice st.rows i _ _)
+      ∙ (ap (λ rows. record st { now = b; rows = rows }) (set-set st.rows i _ _)
       ∙ ap (λ u. record st { now = b; rows = set st.rows i (record (row_at st i) { used = u; done = false }) }) (omega arith))
 
   pub first-served : (p : Plan) (a : ℕ) → IsFirstUndone p st (count p) i → IsFirstUndone p (run_on st i m a) (count p) i

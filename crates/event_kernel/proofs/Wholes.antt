@@ -13,6 +13,7 @@ use Rattle.dvs_base.specs.declared.note.Note.{Note}
 use Rattle.dvs_base.specs.declared.note.Note.TheVariants.{Release, Speed, Run, Idle, Done, End}
 use Rattle.dvs_base.specs.declared.note.Totals.{Totals}
 use Rattle.dvs_base.specs.Outside.{SinkView, Rose}
+use Rattle.dvs_base.specs.Parts.{name_of}
 use Rattle.energy.specs.Books.{Books, energy_of_task}
 use Rattle.sched_model.specs.Plan.{Plan, count, names, task, period, offset}
 use Rattle.sched_model.specs.Jobs.{released_jobs}
@@ -25,13 +26,12 @@ use Rattle.sched_model.proofs.Tables.{get-table, table-same, length-list_below}
 use Rattle.governor.specs.Schedule.{ask_of}
 use Rattle.done_lines.specs.LineCounts.{AreFew}
 use Rattle.done_lines.proofs.FewLines.{has-few-notes}
-use Rattle.trace_text.specs.TraceLines.{name_of}
-use Rattle.trace_reader.specs.VersionLines.{task_text, share_text}
+use Rattle.trace_reader.specs.TraceText.{task_text, share_text}
 use Rattle.probes.specs.Tallies.{ProbeOf}
-use Rattle.event_kernel.specs.Lines.{LineOf, plain, noted, task_lines, head_lines, share_lines, sum_lines, lines_of, note_lines, trace_lines, most_lines, text_of, StoppedIn, Writes}
-use Rattle.event_kernel.specs.Runs as runs
-use Rattle.event_kernel.specs.Runs.{demands_of, ticks_of, notes_before_end_of, notes_of_run}
-use Rattle.event_kernel.specs.SpanNotes.{HasBooked}
+use Rattle.event_kernel.specs.Lines.{LineOf, plain, noted, task_lines, head_lines, share_lines, lines_of, note_lines, trace_lines, most_lines, text_of, StoppedIn, WritesLines}
+use Rattle.event_kernel.specs.PlainLines.{sum_lines}
+use Rattle.event_kernel.specs.Runs.{Run as RunOf, demands_of, ticks_of, notes_of_run}
+use Rattle.event_kernel.specs.SpanNotes.{notes_before_end_of, HasBooked}
 use Rattle.done_lines.proofs.SpanNotes.{IsNoteIn}
 use Rattle.event_kernel.proofs.Booking.{booked-tasks, booked-totals}
 use Rattle.event_kernel.proofs.Fitting.{course-fits}
@@ -50,15 +50,15 @@ stopped-short a b ps qs lines s = omega (arith, s.wrote.surety, s.part.unsure, l
         ∙ ap (λ n. length (text_of s.done) + n) (length-append s.line.text (text_of s.rest))))
 
 module _ {T E : Type 0} (a b : SinkView) (ps qs : List ProbeOf) (lines : List LineOf) where
-  pub writes-sure : (r : Result T E) → Writes a b ps qs lines r → length (text_of lines) ≤ a.sure → IsOk r
+  pub writes-sure : (r : Result T E) → WritesLines a b ps qs lines r → length (text_of lines) ≤ a.sure → IsOk r
   writes-sure (Ok v) w le = refl
   writes-sure (Err e) w le = absurd (omega (arith, stopped-short a b ps qs lines w, le))
 
-  pub writes-later : (r : Result T E) → Writes a b ps qs lines r → a.faults ≤ b.faults
+  pub writes-later : (r : Result T E) → WritesLines a b ps qs lines r → a.faults ≤ b.faults
   writes-later (Ok v) w = omega (arith, w.wrote.steady)
   writes-later (Err e) w = omega (arith, w.wrote.steady, w.part.later)
 
-  pub writes-rose : (r : Result T E) → Writes a b ps qs lines r → OnErr r (Rose a.faults b.faults)
+  pub writes-rose : (r : Result T E) → WritesLines a b ps qs lines r → OnErr r (Rose a.faults b.faults)
   writes-rose (Ok v) w = tt
   writes-rose (Err e) w = subst (λ (n : ℕ). Rose n b.faults) w.wrote.steady w.part.rose
 
@@ -106,7 +106,7 @@ few-lines Two p energies notes ticks few =
       length-list_below (count p) (λ i. plain (share_text (name_of (names p) i) (slice_index energies i))),
     )
 
-module _ (demand : Plan → StateOf → Frac) (r : runs.Run) (adm : IsAdmitted r.plan) (v : Version) where
+module _ (demand : Plan → StateOf → Frac) (r : RunOf) (v : Version) where
   abbrev pub before : List Note
   before = notes_before_end_of demand r
 
@@ -114,10 +114,10 @@ module _ (demand : Plan → StateOf → Frac) (r : runs.Run) (adm : IsAdmitted r
   energies = list_below (count r.plan) (λ i. sum_by (energy_of_task i) before)
 
   -- the lines of all notes: those before the `End`, the energies, and the `End`
-  all-lines : map (noted (names r.plan)) before ++ (sum_lines v r.plan energies
+  all-lines : IsAdmitted r.plan → map (noted (names r.plan)) before ++ (sum_lines v r.plan energies
       ++ noted (names r.plan) (End (length (ticks_of demand r)) (sum_by energy_run before) (sum_by energy_idle before)) ∷ [])
       ≡ note_lines v r.plan (notes_of_run demand r)
-  all-lines =
+  all-lines adm =
       let all : List Note = notes_of_run demand r in
       let end : Note = End (length (ticks_of demand r)) (sum_by energy_run before) (sum_by energy_idle before) in
       sym (flat_map-append (lines_of v r.plan all) before (end ∷ [])
@@ -128,26 +128,30 @@ module _ (demand : Plan → StateOf → Frac) (r : runs.Run) (adm : IsAdmitted r
       (sym (sum-lines v r.plan before (length (ticks_of demand r)) (sum_by energy_run before) (sum_by energy_idle before)))))
 
   -- the lines of all notes, from a teller's names, its plan, its ticks, its energies and its totals
-  pub told-lines : (ns : List (List ℕ)) (p : Plan) (ticks : ℕ) (es : List ℕ) (t : Totals) → ns ≡ names p → p ≡ r.plan → ticks ≡ r.ticks
-      → es ≡ energies → t ≡ totals_of before
+  pub told-lines : (ns : List (List ℕ)) (p : Plan) (ticks : ℕ) (es : List ℕ) (t : Totals)
+      → IsAdmitted p → ns ≡ names p → p ≡ r.plan → ticks ≡ r.ticks → es ≡ energies → t ≡ totals_of before
       → map (noted ns) before ++ (sum_lines v p es ++ noted (names p) (End ticks t.run t.idle) ∷ [])
       ≡ note_lines v r.plan (notes_of_run demand r)
-  told-lines ns p ticks es t en ep et ee to =
+  told-lines ns p ticks es t adm en ep et ee to =
       let whole : ticks ≡ length (ticks_of demand r) = et ∙ sym (course-len demand r.plan (demands_of r.plan r.demands) r.ticks) in
       let own : ns ≡ names r.plan = en ∙ ap names ep in
       (λ j. map (noted (own j)) before ++ (sum_lines v (ep j) (ee j) ++ noted (names (ep j)) (End (whole j) ((to j).run) ((to j).idle)) ∷ []))
-      ∙ all-lines
+      ∙ all-lines (subst (λ (q : Plan). IsAdmitted q) ep adm)
 
   -- the lines of all notes, from a teller's names, its plan, its ticks and its account
-  pub booked-lines : (ns : List (List ℕ)) (p : Plan) (ticks : ℕ) (b : Books) → ns ≡ names p → p ≡ r.plan → ticks ≡ r.ticks → HasBooked r.plan b before
+  pub booked-lines : (ns : List (List ℕ)) (p : Plan) (ticks : ℕ) (b : Books)
+      → IsAdmitted p → ns ≡ names p → p ≡ r.plan → ticks ≡ r.ticks → HasBooked r.plan b before
       → map (noted ns) before ++ (sum_lines v p b.by_task ++ noted (names p) (End ticks b.totals.run b.totals.idle) ∷ [])
       ≡ note_lines v r.plan (notes_of_run demand r)
-  booked-lines ns p ticks b en ep et h =
-      told-lines ns p ticks b.by_task b.totals en ep et (booked-tasks r.plan b before h) (booked-totals r.plan b before h)
+  booked-lines ns p ticks b adm en ep et h =
+      told-lines ns p ticks b.by_task b.totals adm en ep et
+      (booked-tasks r.plan b before h) (booked-totals r.plan b before h)
 
   -- a run of few jobs has a trace of few lines
-  pub run-lines : (g : GovernorKind) → length (trace_lines v g r.plan r.ticks (notes_of_run demand r)) ≤ most_lines v r.plan r.ticks
-  run-lines g =
+  pub run-lines : (g : GovernorKind) {a : RunOf} → a ≡ r → IsAdmitted a.plan
+      → length (trace_lines v g r.plan r.ticks (notes_of_run demand r)) ≤ most_lines v r.plan r.ticks
+  run-lines g is admitted =
+      let adm : IsAdmitted r.plan = subst (λ (x : RunOf). IsAdmitted x.plan) is admitted in
       let dem = demands_of r.plan r.demands in
       let last : Note = End (length (ticks_of demand r)) (sum_by energy_run before) (sum_by energy_idle before) in
       let end : List LineOf = noted (names r.plan) last ∷ [] in
@@ -167,7 +171,7 @@ module _ (demand : Plan → StateOf → Frac) (r : runs.Run) (adm : IsAdmitted r
         few-lines v r.plan energies (length before + 1) r.ticks notes,
         head,
         length-append (head_lines v g r.plan r.ticks) (note_lines v r.plan (notes_of_run demand r)),
-        ap (λ (ls : List LineOf). length ls) all-lines,
+        ap (λ (ls : List LineOf). length ls) (all-lines adm),
         length-append (map (noted (names r.plan)) before) (sums ++ end),
         length-append sums end,
         length-map before (noted (names r.plan)),

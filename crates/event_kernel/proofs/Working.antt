@@ -2,6 +2,8 @@
 use Rattle.std.proofs.Common.{◌≡◌, ℕ, ◌+◌, ◌-◌, ◌*◌, ◌^◌, ◌<◌, ◌≤◌, min, Bool, true, false, not, ◌&&◌, ◌||◌, List, [], ◌∷◌, ◌++◌, length, replicate, get_or, refl, arith, ap, ap₂, ◌∙◌, sym, subst, ◌⊎◌, inl, inr, append-nil, append_assoc, nat_eq, nat_le}
 use Rattle.std.specs.Prelude.{count_by}
 use Rattle.std.proofs.lemmas.List.{get_or_read}
+use Rattle.freq_table.specs.declared.machine.Point.{Point}
+use Rattle.freq_table.specs.Tables.{Table, point_at, speed_at}
 use Rattle.grid_fraction.specs.declared.Frac.{Frac}
 use Rattle.grid_fraction.specs.Numbers.{sum_below, any_below}
 use Rattle.grid_fraction.proofs.Sums.{sum_below-same}
@@ -12,11 +14,10 @@ use Rattle.sched_model.specs.declared.holder.Holder.TheVariants.{Nobody, Held}
 use Rattle.sched_model.specs.Plan.{Plan, count, worst, point}
 use Rattle.sched_model.specs.Jobs.{due, latest}
 use Rattle.sched_model.specs.Ticks.{Tick, exec, left, share}
-use Rattle.sched_model.specs.Order.{in_order}
-use Rattle.sched_model.specs.Priority.{key_of, allotment}
+use Rattle.sched_model.specs.Priority.{in_order, key_of, allotment}
 use Rattle.sched_model.specs.Decision.{completes_in}
 use Rattle.sched_model.specs.Schedule.{entry_in_force}
-use Rattle.sched_model.specs.Segments.{Span, units_of, same_holder}
+use Rattle.sched_model.specs.Notes.{Span, units_of, same_holder}
 use Rattle.sched_model.specs.States.{no_row, row_at, prior_row, prior_state, after_advance, CanRun, StateOf, state_of}
 use Rattle.sched_model.specs.Greedy.{IsFirstOpen}
 use Rattle.sched_model.proofs.ScheduleLemmas.{length-list_below, force-within}
@@ -103,6 +104,14 @@ module _ {demand : Plan → StateOf → Frac} {set : Setting} (ok : IsSetting se
 
   pub entry-there : force.index < length p.machine.points
   entry-there = subst (λ m. m < length p.machine.points) (sym at.in_force) (force-within p dem (ask_of demand p dem) adm.some_point so_far)
+
+  -- the entry in force, and its speed, in a table that is the machine's
+  module _ {m : Table} (is : m ≡ p.machine) where
+    pub entry-in : force.index < length m.points
+    entry-in = subst (λ (x : Table). force.index < length x.points) (sym is) entry-there
+
+    pub speed-in : {q : Point} → q ≡ point_at m force.index → q.speed ≡ (point p force.index).speed
+    speed-in e = ap (λ (q : Point). q.speed) e ∙ ap (λ (x : Table). speed_at x force.index) is
 
   pub begin : (speed : ℕ) → speed ≡ (point p force.index).speed → Working demand p dem t speed false st0 trace0
   begin speed is =

@@ -8,7 +8,7 @@ use Rattle.dvs_base.specs.declared.note.Note.{Note}
 use Rattle.dvs_base.specs.Outside.{SinkView}
 use Rattle.dvs_base.proofs.TextPuts.{wrote-none, wrote-then}
 use Rattle.probes.specs.Tallies.{ProbeOf, told_all, told_notes}
-use Rattle.event_kernel.specs.Lines.{LineOf, plain, text_of, notes_told, WroteLines, StoppedIn, Writes}
+use Rattle.event_kernel.specs.Lines.{LineOf, plain, text_of, notes_told, WroteLines, StoppedIn, WritesLines}
 use Rattle.dvs_base.specs.WritesText.{Wrote, WroteSome}
 
 told-append : (xs ys : List Note) (ps : List ProbeOf) → told_notes (xs ++ ys) ps ≡ told_notes ys (told_notes xs ps)
@@ -65,14 +65,14 @@ lines-some-more a b ps qs xs ys x = record {
 
 -- lines were written whole and then further lines as the result says: so were both together
 pub writes-then : {T E : Type 0} (a b c : SinkView) (ps qs rs : List ProbeOf) (xs ys : List LineOf) (r : Result T E)
-    → WroteLines a b ps qs xs → Writes b c qs rs ys r → Writes a c ps rs (xs ++ ys) r
+    → WroteLines a b ps qs xs → WritesLines b c qs rs ys r → WritesLines a c ps rs (xs ++ ys) r
 writes-then a b c ps qs rs xs ys (Ok v) w x = lines-then a b c ps qs rs xs ys w x
 writes-then a b c ps qs rs xs ys (Err e) w x = lines-then-some a b c ps qs rs xs ys w x
 
 -- equal lines are written alike
-pub lines-as : {T E : Type 0} (a b : SinkView) (ps qs : List ProbeOf) (xs ys : List LineOf) (r : Result T E) → xs ≡ ys → Writes a b ps qs xs r
-    → Writes a b ps qs ys r
-lines-as a b ps qs xs ys r same w = subst (λ (ls : List LineOf). Writes a b ps qs ls r) same w
+pub lines-as : {T E : Type 0} (a b : SinkView) (ps qs : List ProbeOf) (xs ys : List LineOf) (r : Result T E) → xs ≡ ys → WritesLines a b ps qs xs r
+    → WritesLines a b ps qs ys r
+lines-as a b ps qs xs ys r same w = subst (λ (ls : List LineOf). WritesLines a b ps qs ls r) same w
 
 pub some-as : {a b : SinkView} {ps qs : List ProbeOf} {xs ys : List LineOf} → xs ≡ ys → StoppedIn a b ps qs xs → StoppedIn a b ps qs ys
 some-as {a} {b} {ps} {qs} same w = subst (λ (ls : List LineOf). StoppedIn a b ps qs ls) same w
@@ -145,6 +145,6 @@ note-some names n = line-some (fields_of names n)
 
 -- lines that were written in part are written as an error says
 pub stopped-exit : {T E : Type 0} (a b : SinkView) (ps qs : List ProbeOf) (ls : List LineOf) (r : Result T E) → IsErr r → StoppedIn a b ps qs ls
-    → Writes a b ps qs ls r
+    → WritesLines a b ps qs ls r
 stopped-exit a b ps qs ls (Ok v) is s = absurd (true≢false (sym is))
 stopped-exit a b ps qs ls (Err e) is s = s

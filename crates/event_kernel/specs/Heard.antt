@@ -1,7 +1,6 @@
 -- The notes that a listener heard, and the one at which it balked.
-use Rattle.std.specs.Prelude.{◌≡◌, ◌⊎◌, ℕ, ◌≤◌, List, [], ◌∷◌, Result, Ok, Err}
+use Rattle.std.specs.Prelude.{◌≡◌, List, [], ◌∷◌, ◌⊎◌}
 use Rattle.dvs_base.specs.declared.note.Note.{Note}
-use Rattle.dvs_base.specs.Outside.{Rose}
 
 -- the listener heard all these notes, and they led from its first value to its second
 abbrev pub HasHeard : {L : Type 0} → (L → Note → L → Type 0) → L → List Note → L → Type 0
@@ -12,9 +11,3 @@ HasHeard {L} heard from (note ∷ notes) to = (next : L) × heard from note next
 abbrev pub HasBalked : {L : Type 0} → (L → Note → L → Type 0) → (L → Note → L → Type 0) → L → List Note → L → Type 0
 HasBalked heard balked from [] to = ⊥
 HasBalked {L} heard balked from (note ∷ notes) to = balked from note to ⊎ ((next : L) × heard from note next × HasBalked heard balked next notes to)
-
--- The notes were handed to a listener: at Ok it heard all of them and its stops did not fall; at an error it balked at
--- one of them and its stops rose.
-abbrev pub Tells : {L T E : Type 0} → (L → Note → L → Type 0) → (L → Note → L → Type 0) → (L → ℕ) → L → L → List Note → Result T E → Type 0
-Tells heard balked stops from to notes (Ok v) = HasHeard heard from notes to × (stops from ≤ stops to)
-Tells heard balked stops from to notes (Err e) = HasBalked heard balked from notes to × (stops from ≤ stops to) × Rose (stops from) (stops to)

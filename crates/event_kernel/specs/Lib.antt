@@ -3,9 +3,10 @@ pub mod Runs
 pub mod Meeting
 pub mod SpanNotes
 pub mod Segment
+pub mod Lines
+pub mod PlainLines
 pub mod Writing
 pub mod Tickwork
 pub mod Boundary
 pub mod Settings
 pub mod Current
-pub mod Lines

@@ -1,5 +1,5 @@
 -- The lines of a trace, and what writing them does to a sink and to probes.
-use Rattle.std.specs.Prelude.{◌≡◌, ℕ, ◌+◌, ◌*◌, List, [], ◌∷◌, ◌++◌, flat_map, sum_by, slice_index, Result, Ok, Err}
+use Rattle.std.specs.Prelude.{ℕ, List, [], ◌∷◌, sum_by, ◌+◌, ◌++◌, flat_map, ◌*◌, ◌≡◌, Result, Ok, Err}
 use Rattle.grid_fraction.specs.Numbers.{list_below}
 use Rattle.dvs_base.specs.declared.kind.Version.{Version}
 use Rattle.dvs_base.specs.declared.kind.Version.TheVariants.{One, Two}
@@ -8,11 +8,12 @@ use Rattle.dvs_base.specs.declared.note.Note.{Note}
 use Rattle.dvs_base.specs.declared.note.Note.TheVariants.{End}
 use Rattle.dvs_base.specs.Outside.{SinkView}
 use Rattle.dvs_base.specs.WritesText.{Wrote, WroteSome}
+use Rattle.dvs_base.specs.Parts.{name_of}
 use Rattle.energy.specs.Books.{energy_of_task}
-use Rattle.sched_model.specs.Plan.{Plan, count, names, task, period, offset}
+use Rattle.sched_model.specs.Plan.{names, Plan, count, task, period, offset}
 use Rattle.sched_model.specs.Jobs.{released_jobs}
-use Rattle.trace_text.specs.TraceLines.{plan_text, note_text, name_of}
-use Rattle.trace_reader.specs.VersionLines.{version_line, task_text, share_text}
+use Rattle.trace_text.specs.TraceLines.{note_text, plan_text}
+use Rattle.trace_reader.specs.TraceText.{task_text, version_line, share_text}
 use Rattle.probes.specs.Tallies.{ProbeOf, told_notes}
 
 -- a line of a trace, with the note that it is written for, or none
@@ -42,11 +43,6 @@ abbrev pub share_lines : Version → Plan → List Note → List LineOf
 share_lines One p notes = []
 share_lines Two p notes =
     list_below (count p) (λ i. plain (share_text (name_of (names p) i) (sum_by (energy_of_task i) notes)))
-
--- the lines of the tasks' energies, which version 2 alone has, where the energies are given
-abbrev pub sum_lines : Version → Plan → List ℕ → List LineOf
-sum_lines One p energies = []
-sum_lines Two p energies = list_below (count p) (λ i. plain (share_text (name_of (names p) i) (slice_index energies i)))
 
 -- the lines of a note among all notes: its own line, and in version 2 the energies before the `end` line
 abbrev pub lines_of : Version → Plan → List Note → Note → List LineOf
@@ -93,10 +89,6 @@ pub record StoppedIn (old new : SinkView) (before after : List ProbeOf) (lines :
   pub told : after ≡ told_notes (notes_told done) before
 
 -- lines were written: all of them at Ok, and at an error those before one that was written in part
-abbrev pub Writes : {T E : Type 0} → SinkView → SinkView → List ProbeOf → List ProbeOf → List LineOf → Result T E → Type 0
-Writes old new before after lines (Ok v) = WroteLines old new before after lines
-Writes old new before after lines (Err e) = StoppedIn old new before after lines
-
--- lines of no note were written, all at Ok and some at an error; no probe was told a note
-abbrev pub WritesPlain : {T E : Type 0} → SinkView → SinkView → List LineOf → Result T E → Type 0
-WritesPlain old new lines r = (probes : List ProbeOf) → Writes old new probes probes lines r
+abbrev pub WritesLines : {T E : Type 0} → SinkView → SinkView → List ProbeOf → List ProbeOf → List LineOf → Result T E → Type 0
+WritesLines old new before after lines (Ok v) = WroteLines old new before after lines
+WritesLines old new before after lines (Err e) = StoppedIn old new before after lines

@@ -1,17 +1,16 @@
 -- What a kernel runs, and the notes of the run.
-use Rattle.std.specs.Prelude.{◌≡◌, ◌<◌, ℕ, true, List}
+use Rattle.std.specs.Prelude.{ℕ, List, ◌≡◌, ◌<◌, true}
 use Rattle.freq_table.specs.Tables.{lowest_pick}
 use Rattle.grid_fraction.specs.declared.Frac.{Frac}
 use Rattle.dvs_base.specs.declared.note.Note.{Note}
 use Rattle.demand_list.specs.Demands.{DemandsOf, HasWorstsOf}
 use Rattle.sched_model.specs.Plan.{Plan}
-use Rattle.sched_model.specs.Ticks.{Tick}
-use Rattle.sched_model.specs.Demands.{demand_of}
-use Rattle.sched_model.specs.Deadlines.{IsMet}
+use Rattle.sched_model.specs.Ticks.{Tick, IsMet}
+use Rattle.sched_model.specs.Jobs.{demand_of}
 use Rattle.sched_model.specs.Decision.{is_decision}
 use Rattle.sched_model.specs.States.{StateOf}
-use Rattle.sched_model.specs.Notes.{notes_before_end, notes_of}
-use Rattle.governor.specs.Schedule.{ask_of, course}
+use Rattle.sched_model.specs.Notes.{notes_of}
+use Rattle.governor.specs.Schedule.{course, ask_of}
 
 -- a run: a plan, a demand list and a number of ticks
 pub record Run : Type 0 where
@@ -41,11 +40,6 @@ MeetsDemands demand r =
     let dem = demands_of r.plan r.demands in
     (t : ℕ) → t < r.ticks → is_decision r.plan dem (course demand r.plan dem t) ≡ true
     → (lowest_pick r.plan.machine (ask_of demand r.plan dem (course demand r.plan dem t))).met ≡ true
-
--- the notes of a run before the `End`
-abbrev pub notes_before_end_of : (Plan → StateOf → Frac) → Run → List Note
-notes_before_end_of demand r =
-    let dem = demands_of r.plan r.demands in notes_before_end r.plan dem (ask_of demand r.plan dem) (ticks_of demand r)
 
 -- all notes of a run
 abbrev pub notes_of_run : (Plan → StateOf → Frac) → Run → List Note

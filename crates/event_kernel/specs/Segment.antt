@@ -1,17 +1,16 @@
 -- The open segment, and the notes of a span up to it.
-use Rattle.std.specs.Prelude.{◌≡◌, ◌⊎◌, ℕ, ◌+◌, ◌<◌, ◌^◌, Bool, true, ◌&&◌, not, nat_lt, if◌then◌else◌, List, [], ◌∷◌, ◌++◌, length, Option, None, Some}
+use Rattle.std.specs.Prelude.{◌+◌, List, ◌++◌, [], ◌∷◌, ℕ, if◌then◌else◌, length, ◌≡◌, ◌⊎◌, ◌<◌, Bool, ◌&&◌, not, nat_lt, ◌^◌, true, Option, None, Some}
 use Rattle.dvs_base.specs.declared.note.Note.{Note}
-use Rattle.dvs_base.specs.declared.note.Note.TheVariants.{Run, Idle, Done, Speed}
+use Rattle.dvs_base.specs.declared.note.Note.TheVariants.{Speed, Run, Idle, Done}
 use Rattle.dvs_base.specs.declared.note.Pos.{Pos}
 use Rattle.grid_fraction.specs.declared.Frac.{Frac}
 use Rattle.sched_model.specs.declared.holder.Holder.{Holder}
 use Rattle.sched_model.specs.declared.holder.Holder.TheVariants.{Nobody, Held}
-use Rattle.sched_model.specs.Plan.{Plan, count, point}
+use Rattle.sched_model.specs.Plan.{Plan, point, count}
 use Rattle.sched_model.specs.Ticks.{Tick}
 use Rattle.sched_model.specs.Decision.{is_decision}
 use Rattle.sched_model.specs.Schedule.{entry_in_force}
-use Rattle.sched_model.specs.Segments.{same_holder, Span, spans_of, Piece, pieces_of, position_of, run_energy, idle_energy}
-use Rattle.sched_model.specs.Notes.{all_release_notes, pieces_notes}
+use Rattle.sched_model.specs.Notes.{Span, spans_of, Piece, all_release_notes, pieces_notes, pieces_of, run_energy, idle_energy, position_of, same_holder}
 use Rattle.sched_model.specs.States.{row_at, StateOf}
 use Rattle.agenda.specs.Agenda.{IsFirstUndone}
 use Rattle.event_kernel.specs.declared.segment.Segment.{Segment}

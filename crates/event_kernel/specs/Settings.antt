@@ -5,10 +5,8 @@ use Rattle.grid_fraction.specs.Numbers.{any_below}
 use Rattle.dvs_base.specs.declared.limits.TheConstants.{MOST_TICKS}
 use Rattle.sched_model.specs.Plan.{Plan, count, point}
 use Rattle.sched_model.specs.Admission.{IsAdmitted}
-use Rattle.sched_model.specs.Jobs.{latest}
-use Rattle.sched_model.specs.Ticks.{exec}
-use Rattle.sched_model.specs.Demands.{IsWithin}
-use Rattle.sched_model.specs.Deadlines.{IsMet}
+use Rattle.sched_model.specs.Jobs.{latest, IsWithin}
+use Rattle.sched_model.specs.Ticks.{exec, IsMet}
 use Rattle.sched_model.specs.Decision.{is_decision, completes_in}
 use Rattle.sched_model.specs.Schedule.{entry_in_force}
 use Rattle.sched_model.specs.States.{row_at, prior_state, state_of, StateOf}

@@ -1,9 +1,27 @@
 -- The notes of a span that are kept, and the account of notes.
-use Rattle.std.specs.Prelude.{◌≡◌, ℕ, List, [], ◌∷◌, length, map, take}
+use Rattle.std.specs.Prelude.{ℕ, ◌≤◌, List, Result, Ok, Err, take, [], ◌∷◌, ◌≡◌, length, map}
 use Rattle.dvs_base.specs.declared.note.Note.{Note}
+use Rattle.dvs_base.specs.Outside.{Rose}
+use Rattle.grid_fraction.specs.declared.Frac.{Frac}
 use Rattle.sched_model.specs.Plan.{Plan, count}
-use Rattle.energy.specs.Books.{Books, Told, books_of, booked, HasTask, HasRoom}
+use Rattle.sched_model.specs.States.{StateOf}
+use Rattle.sched_model.specs.Notes.{notes_before_end}
+use Rattle.governor.specs.Schedule.{ask_of}
+use Rattle.energy.specs.Books.{Books, booked, HasTask, HasRoom, Told, books_of}
 use Rattle.event_kernel.specs.declared.notes.TheConstants.{MOST_NOTES}
+use Rattle.event_kernel.specs.Heard.{HasHeard, HasBalked}
+use Rattle.event_kernel.specs.Runs.{demands_of, Run, ticks_of}
+
+-- The notes were handed to a listener: at Ok it heard all of them and its stops did not fall; at an error it balked at
+-- one of them and its stops rose.
+abbrev pub HandsOut : {L T E : Type 0} → (L → Note → L → Type 0) → (L → Note → L → Type 0) → (L → ℕ) → L → L → List Note → Result T E → Type 0
+HandsOut heard balked stops from to notes (Ok v) = HasHeard heard from notes to × (stops from ≤ stops to)
+HandsOut heard balked stops from to notes (Err e) = HasBalked heard balked from notes to × (stops from ≤ stops to) × Rose (stops from) (stops to)
+
+-- the notes of a run before the `End`
+abbrev pub notes_before_end_of : (Plan → StateOf → Frac) → Run → List Note
+notes_before_end_of demand r =
+    let dem = demands_of r.plan r.demands in notes_before_end r.plan dem (ask_of demand r.plan dem) (ticks_of demand r)
 
 -- the first `MOST_NOTES` of these notes
 abbrev pub kept : List Note → List Note

@@ -1,16 +1,15 @@
 -- The ticks of a governor's schedule, as functions of their number.
-use Rattle.std.specs.Prelude.{ℕ, ◌+◌, Bool, false, List, Option, None, Some, length, slice_set}
+use Rattle.std.specs.Prelude.{ℕ, ◌+◌, Bool, slice_set, false, Option, None, Some, List, length}
 use Rattle.grid_fraction.specs.declared.Frac.{Frac}
 use Rattle.dvs_base.specs.declared.note.Note.{Note}
 use Rattle.sched_model.specs.Plan.{Plan}
 use Rattle.sched_model.specs.Jobs.{latest}
 use Rattle.sched_model.specs.Ticks.{Tick, exec}
 use Rattle.sched_model.specs.Schedule.{next_tick}
-use Rattle.sched_model.specs.Segments.{Span, units_of}
-use Rattle.sched_model.specs.Notes.{notes_before_end}
+use Rattle.sched_model.specs.Notes.{Span, units_of, notes_before_end}
 use Rattle.sched_model.specs.States.{row_at, StateOf}
 use Rattle.governor.specs.Schedule.{ask_of, course}
-use Rattle.event_kernel.specs.Segment.{grown, open_span}
+use Rattle.event_kernel.specs.Segment.{open_span, grown}
 
 -- the state after units of a task's latest job, which is done then or not
 abbrev pub served : StateOf → ℕ → ℕ → Bool → StateOf

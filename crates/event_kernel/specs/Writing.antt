@@ -1,12 +1,12 @@
 -- What the trace holds in a tick of a span.
-use Rattle.std.specs.Prelude.{◌≡◌, ℕ, ◌+◌, ◌<◌, ◌≤◌, List, length, count_by}
+use Rattle.std.specs.Prelude.{ℕ, ◌≡◌, ◌<◌, List, ◌+◌, ◌≤◌, length, count_by}
+use Rattle.sched_model.specs.Plan.{Plan, count}
+use Rattle.sched_model.specs.Jobs.{latest}
 use Rattle.grid_fraction.specs.declared.Frac.{Frac}
 use Rattle.sched_model.specs.declared.holder.Holder.{Holder}
 use Rattle.sched_model.specs.declared.holder.Holder.TheVariants.{Nobody, Held}
-use Rattle.sched_model.specs.Plan.{Plan, count}
-use Rattle.sched_model.specs.Jobs.{latest}
 use Rattle.sched_model.specs.Ticks.{Tick, exec}
-use Rattle.sched_model.specs.Segments.{same_holder, Span, Piece}
+use Rattle.sched_model.specs.Notes.{same_holder, Span, Piece}
 use Rattle.event_kernel.specs.declared.span_trace.SpanTrace.{SpanTrace}
 use Rattle.event_kernel.specs.Segment.{notes_with, IsOpen}
 use Rattle.event_kernel.specs.SpanNotes.{kept}

@@ -4,15 +4,14 @@ ghost use Rattle.dvs_base.specs.declared.kind.GovernorKind.TheVariants.{Ahead};
 ghost use Rattle.dvs_base.specs.declared.note.Note.TheVariants.{End};
 ghost use Rattle.sched_model.specs.Totals.{totals_of};
 ghost use Rattle.sched_model.specs.States.{opening};
-ghost use Rattle.event_kernel.specs.Heard.{HasHeard, HasBalked, Tells};
+ghost use Rattle.event_kernel.specs.Heard.{HasHeard, HasBalked};
+ghost use Rattle.event_kernel.specs.SpanNotes.{HandsOut, notes_before_end_of, HasBooked};
 ghost use Rattle.sched_model.specs.Jobs.{released_jobs};
 ghost use Rattle.dvs_base.specs.declared.limits.TheConstants.{MOST_JOBS, MOST_TICKS};
 ghost use Rattle.done_lines.specs.LineCounts.{AreFew};
 ghost use Rattle.event_kernel.specs.Runs.{IsListOf, notes_of_run, MeetsDeadlines, MeetsDemands};
 ghost use Rattle.event_kernel.specs.Meeting.{IsMetRun};
-ghost use Rattle.event_kernel.specs.Runs.{notes_before_end_of};
-ghost use Rattle.event_kernel.specs.Lines.{Writes, trace_lines, text_of, most_lines};
-ghost use Rattle.event_kernel.specs.SpanNotes.{HasBooked};
+ghost use Rattle.event_kernel.specs.Lines.{WritesLines, trace_lines, text_of, most_lines};
 ghost use Rattle.agenda.specs.Stands.{Stands};
 ghost use Rattle.dvs_base.specs.Outside.{Rose};
 
@@ -214,7 +213,7 @@ impl<'a, G: Governor> Kernel<'a, G> {
         }
     }
 
-    /// Writes the whole trace in this version to the sink, one `put` a line, and tells the probes each note after
+    /// WritesLines the whole trace in this version to the sink, one `put` a line, and tells the probes each note after
     /// its line was put; the totals of the notes. `WriteFault` comes only where the sink failed at some line: the lines
     /// before it were put and their notes told, the line itself was put in part, and nothing after it. It never comes
     /// where the sink was sure of as many bytes as the trace has.
@@ -224,7 +223,7 @@ impl<'a, G: Governor> Kernel<'a, G> {
         probes: &mut Vec<P>,
         version: Version,
     ) -> Result<Totals, WriteFault>
-        ensures wrote { Writes (W.shows out.old) (W.shows out.new)
+        ensures wrote { WritesLines (W.shows out.old) (W.shows out.new)
             (map P.seen probes.old.items) (map P.seen probes.new.items)
             (trace_lines version G.the_kind self.entry.plan self.entry.ticks (notes_of_run G.demand self.entry))
             result }
@@ -259,7 +258,8 @@ impl<'a, G: Governor> Kernel<'a, G> {
         ensures totals { IfOk result (λ a. a.totals ≡ totals_of (notes_of_run G.demand self.entry)) }
         ensures few { IfOk result (λ a. AreFew a.totals) }
         ensures met { IsMetRun G.the_kind G.demand self.entry }
-        ensures told { Tells L.heard L.balked L.stops to.old to.new (notes_before_end_of G.demand self.entry) result }
+        ensures told { HandsOut L.heard L.balked L.stops to.old to.new
+            (notes_before_end_of G.demand self.entry) result }
     {
         let Kernel {
             plan,

@@ -1,8 +1,6 @@
 // The notes of one span.
 ghost use Rattle.std.specs.Prelude.{◌≡◌, ◌<◌, ◌++◌, ◌∷◌, [], OnOk, IfOk, length};
-ghost use Rattle.event_kernel.specs.SpanNotes.{kept};
-ghost use Rattle.event_kernel.specs.Heard.{Tells};
-ghost use Rattle.event_kernel.specs.SpanNotes.{CanBook, all_booked};
+ghost use Rattle.event_kernel.specs.SpanNotes.{kept, HandsOut, CanBook, all_booked};
 
 use crate::{Listener, Stopped};
 use dvs_base::{NoMemory, Note};
@@ -70,7 +68,7 @@ impl SpanNotes {
         requires point { point < length account.old.by_point }
         requires room { CanBook account.old self.now point }
         ensures booked { OnOk result (account.new ≡ all_booked account.old self.entry.now point) }
-        ensures told { Tells L.heard L.balked L.stops to.old to.new self.entry.now result }
+        ensures told { HandsOut L.heard L.balked L.stops to.old to.new self.entry.now result }
     {
         for note in self.notes.iter() {
             to.hear(note)?;

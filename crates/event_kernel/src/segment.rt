@@ -2,7 +2,7 @@
 ghost use Rattle.std.specs.Prelude.{◌≡◌, ◌+◌, ◌<◌};
 ghost use Rattle.dvs_base.specs.Widths.{u64_end};
 ghost use Rattle.sched_model.specs.declared.holder.Holder.TheVariants.{Nobody};
-ghost use Rattle.sched_model.specs.Segments.{same_holder};
+ghost use Rattle.sched_model.specs.Notes.{same_holder};
 
 use sched_model::Holder;
 

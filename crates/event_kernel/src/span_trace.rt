@@ -3,9 +3,8 @@ ghost use Rattle.std.specs.Prelude.{◌≡◌, ◌+◌, ◌<◌, []};
 ghost use Rattle.dvs_base.specs.Widths.{u64_end};
 ghost use Rattle.sched_model.specs.declared.holder.Holder.TheVariants.{Nobody, Held};
 ghost use Rattle.sched_model.specs.Plan.{point};
-ghost use Rattle.sched_model.specs.Segments.{position_of};
-ghost use Rattle.event_kernel.specs.Segment.{after_segment, is_turn, entered, ended, new_trace, with_notes};
-ghost use Rattle.event_kernel.specs.Segment.{written_notes, CanPut};
+ghost use Rattle.sched_model.specs.Notes.{position_of};
+ghost use Rattle.event_kernel.specs.Segment.{after_segment, is_turn, entered, ended, new_trace, with_notes, written_notes, CanPut};
 
 use crate::notes::SpanNotes;
 use crate::progress::InForce;

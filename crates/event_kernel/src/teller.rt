@@ -4,7 +4,8 @@ ghost use Rattle.dvs_base.specs.declared.note.Note.TheVariants.{End};
 ghost use Rattle.done_lines.specs.LineCounts.{AreFew};
 ghost use Rattle.sched_model.specs.Plan.{count, names};
 ghost use Rattle.sched_model.specs.Totals.{totals_of};
-ghost use Rattle.event_kernel.specs.Lines.{Writes, WroteLines, StoppedIn, noted, note_lines, sum_lines};
+ghost use Rattle.event_kernel.specs.Lines.{WritesLines, WroteLines, StoppedIn, noted, note_lines};
+ghost use Rattle.event_kernel.specs.PlainLines.{sum_lines};
 ghost use Rattle.event_kernel.specs.Runs.{notes_of_run};
 
 use crate::kernel::ending;
@@ -21,7 +22,7 @@ use trace_text::write_note;
 #[derive(Clone, Copy, Debug, PartialEq, Eq)]
 pub struct WriteFault;
 
-// Writes a note's line into `line`, puts it, and then tells the probes the note.
+// WritesLines a note's line into `line`, puts it, and then tells the probes the note.
 fn tell_note<W: Sink, P: Probe>(
     note: &Note,
     names: &[Name],
@@ -29,7 +30,8 @@ fn tell_note<W: Sink, P: Probe>(
     out: &mut W,
     probes: &mut Vec<P>,
 ) -> Result<(), Failed>
-    ensures { Writes (W.shows out.old) (W.shows out.new) (map P.seen probes.old.items) (map P.seen probes.new.items)
+    ensures { WritesLines (W.shows out.old) (W.shows out.new)
+        (map P.seen probes.old.items) (map P.seen probes.new.items)
         (noted names.now note.now ∷ []) result }
 {
     line.clear();
@@ -82,7 +84,7 @@ fn tell_end<W: Sink, P: Probe>(
     probes: &mut Vec<P>,
 ) -> Result<Totals, WriteFault>
     ensures totals { IfOk result (λ t. t ≡ account.now.totals) }
-    ensures writes { Writes (W.shows out.old) (W.shows out.new)
+    ensures writes { WritesLines (W.shows out.old) (W.shows out.new)
         (map P.seen probes.old.items) (map P.seen probes.new.items)
         (noted (names head.entry.plan.now)
         (End head.entry.ticks account.now.totals.run account.now.totals.idle) ∷ []) result }
@@ -104,7 +106,7 @@ fn tell_tail<W: Sink, P: Probe>(
 ) -> Result<Totals, WriteFault>
     requires { length account.now.by_task ≡ count head.plan.now }
     ensures totals { IfOk result (λ t. t ≡ account.now.totals) }
-    ensures writes { Writes (W.shows out.old) (W.shows out.new)
+    ensures writes { WritesLines (W.shows out.old) (W.shows out.new)
         (map P.seen probes.old.items) (map P.seen probes.new.items)
         (sum_lines head.entry.version head.entry.plan.now account.now.by_task ++ noted (names head.entry.plan.now)
         (End head.entry.ticks account.now.totals.run account.now.totals.idle) ∷ []) result }
@@ -115,7 +117,7 @@ fn tell_tail<W: Sink, P: Probe>(
     }
 }
 
-// Writes the lines of a run after its head through a teller; the totals.
+// WritesLines the lines of a run after its head through a teller; the totals.
 fn notes_into<G: Governor, W: Sink, P: Probe>(
     kernel: Kernel<'_, G>,
     head: Head<'_>,
@@ -126,7 +128,7 @@ fn notes_into<G: Governor, W: Sink, P: Probe>(
     requires names { teller.old.names.now ≡ names head.plan.now }
     ensures totals { IfOk result (λ t. t ≡ totals_of (notes_of_run G.demand kernel.entry)) }
     ensures few { IfOk result AreFew }
-    ensures writes { Writes (W.shows teller.old.out.now) (W.shows teller.new.out.now)
+    ensures writes { WritesLines (W.shows teller.old.out.now) (W.shows teller.new.out.now)
         (map P.seen teller.old.probes.now.items) (map P.seen teller.new.probes.now.items)
         (note_lines head.entry.version kernel.entry.plan (notes_of_run G.demand kernel.entry)) result }
     ensures same { (teller.new.out.ghost_name ≡ teller.old.out.ghost_name)
@@ -139,7 +141,7 @@ fn notes_into<G: Governor, W: Sink, P: Probe>(
     }
 }
 
-/// Writes the lines of a run after its head, and tells the probes its notes; the totals.
+/// WritesLines the lines of a run after its head, and tells the probes its notes; the totals.
 pub(crate) fn tell_notes<G: Governor, W: Sink, P: Probe>(
     kernel: Kernel<'_, G>,
     head: Head<'_>,
@@ -150,7 +152,7 @@ pub(crate) fn tell_notes<G: Governor, W: Sink, P: Probe>(
     requires ticks { head.ticks ≡ kernel.ticks }
     ensures totals { IfOk result (λ t. t ≡ totals_of (notes_of_run G.demand kernel.entry)) }
     ensures few { IfOk result AreFew }
-    ensures writes { Writes (W.shows out.old) (W.shows out.new)
+    ensures writes { WritesLines (W.shows out.old) (W.shows out.new)
         (map P.seen probes.old.items) (map P.seen probes.new.items)
         (note_lines head.entry.version kernel.entry.plan (notes_of_run G.demand kernel.entry)) result }
 {

@@ -2,10 +2,12 @@
 ghost use Rattle.std.specs.Prelude.{◌≡◌, ◌<◌, length, slice_index};
 ghost use Rattle.grid_fraction.specs.Numbers.{list_below};
 ghost use Rattle.dvs_base.specs.declared.kind.Version.TheVariants.{Two};
+ghost use Rattle.dvs_base.specs.Parts.{name_of};
 ghost use Rattle.sched_model.specs.Plan.{count, names, task, period, offset};
-ghost use Rattle.trace_text.specs.TraceLines.{plan_text, name_of};
-ghost use Rattle.trace_reader.specs.VersionLines.{version_line, task_text, share_text};
-ghost use Rattle.event_kernel.specs.Lines.{WritesPlain, plain, head_lines, task_lines, sum_lines};
+ghost use Rattle.trace_text.specs.TraceLines.{plan_text};
+ghost use Rattle.trace_reader.specs.TraceText.{version_line, task_text, share_text};
+ghost use Rattle.event_kernel.specs.PlainLines.{WritesPlain, sum_lines};
+ghost use Rattle.event_kernel.specs.Lines.{plain, head_lines, task_lines};
 
 use dvs_base::{Failed, GovernorKind, Line, Sink, Version, put_line};
 use energy::Account;

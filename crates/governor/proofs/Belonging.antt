@@ -10,9 +10,7 @@ use Rattle.grid_fraction.specs.Numbers.{greatest_below}
 use Rattle.grid_fraction.proofs.Least.{least-above}
 use Rattle.sched_model.specs.declared.state.Row.{Row}
 use Rattle.sched_model.specs.Plan.{Plan, count, period, offset, worst}
-use Rattle.sched_model.specs.Jobs.{latest_since}
-use Rattle.sched_model.specs.Jobs.{due as due_at}
-use Rattle.sched_model.specs.Demands.{IsWithin, JobDemands}
+use Rattle.sched_model.specs.Jobs.{latest_since, due as due_at, IsWithin, JobDemands}
 use Rattle.sched_model.specs.Admission.{IsWithinLimits}
 use Rattle.sched_model.specs.States.{StateOf, row_at, no_row, row_wleft, opening, opening_row}
 use Rattle.sched_model.proofs.LevelSums.{share-most, greatest-above, greatest-least, greatest-same}

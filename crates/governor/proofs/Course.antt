@@ -7,11 +7,9 @@ use Rattle.grid_fraction.specs.declared.Frac.{Frac}
 use Rattle.freq_table.specs.Tables.{lowest_entry, lowest_pick, speed_at}
 use Rattle.sched_model.specs.declared.state.Row.{Row}
 use Rattle.sched_model.specs.Plan.{Plan, count}
-use Rattle.sched_model.specs.Demands.{IsWithin, JobDemands}
+use Rattle.sched_model.specs.Jobs.{IsWithin, JobDemands, latest, due, is_release}
 use Rattle.sched_model.specs.Admission.{IsAdmitted, IsWithinLimits}
-use Rattle.sched_model.specs.Deadlines.{IsMet}
-use Rattle.sched_model.specs.Jobs.{latest, due, is_release}
-use Rattle.sched_model.specs.Ticks.{Tick, at, exec}
+use Rattle.sched_model.specs.Ticks.{IsMet, Tick, at, exec}
 use Rattle.sched_model.specs.Decision.{is_decision}
 use Rattle.sched_model.specs.Schedule.{entry_in_force, next_tick, schedule_by, IsNext}
 use Rattle.sched_model.specs.States.{StateOf, row_at, prior_state, state_of}

@@ -13,7 +13,7 @@ use Rattle.freq_table.specs.Tables.{speed_at}
 use Rattle.sched_model.specs.declared.state.Row.{Row}
 use Rattle.sched_model.specs.Priority.{stands_before}
 use Rattle.sched_model.specs.Plan.{Plan, count, period, offset, worst, hyper, rate}
-use Rattle.sched_model.specs.Demands.{JobDemands}
+use Rattle.sched_model.specs.Jobs.{JobDemands}
 use Rattle.sched_model.specs.Tests.{total_rate}
 use Rattle.sched_model.specs.Admission.{IsWithinLimits}
 use Rattle.sched_model.specs.States.{StateOf, row_at, row_wleft, opening, opening_row}

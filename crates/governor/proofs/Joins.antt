@@ -11,12 +11,9 @@ use Rattle.sched_model.specs.declared.state.Row.{Row}
 use Rattle.grid_fraction.specs.Numbers.{any_below, list_below}
 use Rattle.grid_fraction.proofs.Sums.{sum_below-same}
 use Rattle.sched_model.specs.Plan.{Plan, count, period}
-use Rattle.sched_model.specs.Demands.{JobDemands}
-use Rattle.sched_model.specs.Jobs.{latest, releases_at, is_release}
-use Rattle.sched_model.specs.Ticks.{Tick, exec}
-use Rattle.sched_model.specs.Ticks.{left as left_at, share as share_at}
-use Rattle.sched_model.specs.Priority.{SharesOut, sum_up_to, stands_before}
-use Rattle.sched_model.specs.Priority.{key_of as key_at}
+use Rattle.sched_model.specs.Jobs.{JobDemands, latest, releases_at, is_release}
+use Rattle.sched_model.specs.Ticks.{Tick, exec, left as left_at, share as share_at}
+use Rattle.sched_model.specs.Priority.{SharesOut, sum_up_to, stands_before, key_of as key_at}
 use Rattle.sched_model.specs.States.{StateOf, row_wleft, prior_row, prior_base_at, prior_base, prior_state, row_of, state_of}
 use Rattle.sched_model.proofs.Tables.{length-list_below, table-same}
 use Rattle.sched_model.proofs.Joining.{row_at-state_of, row_by, due_released, row-opened, row-kept, state-marked, state-unmarked, row-ran, state-ran}

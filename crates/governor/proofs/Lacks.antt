@@ -8,9 +8,8 @@ use Rattle.grid_fraction.specs.declared.Frac.{Frac}
 use Rattle.grid_fraction.specs.Numbers.{sum_where}
 use Rattle.grid_fraction.proofs.Sums.{sum_where-same}
 use Rattle.sched_model.specs.Plan.{Plan, count, period, offset, worst, point}
-use Rattle.sched_model.specs.Jobs.{due, latest}
+use Rattle.sched_model.specs.Jobs.{due, latest, worst_demand}
 use Rattle.sched_model.specs.Ticks.{Tick, exec, share, left}
-use Rattle.sched_model.specs.Demands.{worst_demand}
 use Rattle.sched_model.specs.Priority.{stands_before, is_up_to, SharesOut, sum_up_to, key_of}
 use Rattle.sched_model.specs.Schedule.{entry_in_force, next_tick, schedule_by}
 use Rattle.sched_model.specs.Backlog.{lacking}

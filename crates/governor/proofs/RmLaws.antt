@@ -2,11 +2,12 @@
 use Rattle.std.proofs.Common.{◌≡◌, ℕ, ◌*◌, ◌<◌, ◌≤◌, true, List}
 use Rattle.dvs_base.specs.declared.kind.Scheduler.TheVariants.{Rm}
 use Rattle.sched_model.specs.Plan.{Plan, count, period}
-use Rattle.sched_model.specs.Demands.{JobDemands}
+use Rattle.sched_model.specs.Jobs.{JobDemands}
 use Rattle.sched_model.specs.Admission.{IsWithinLimits}
 use Rattle.sched_model.specs.States.{StateOf, row_at, opening}
 use Rattle.governor.specs.Steps.{after_boundary, IsLegalIn, after_tick, IsBeforeAll, Belongs}
-use Rattle.governor.specs.Rm.{level_work_in, StretchCalm}
+use Rattle.governor.specs.Worst.{level_work_in}
+use Rattle.governor.specs.Rm.{StretchCalm}
 use Rattle.governor.proofs.RmLevels.{level_opens, level_completes, level_releases, level_ticks}
 
 module _ (F : ℕ) (span : ℕ → ℕ) (plan : Plan) (lim : IsWithinLimits plan) where

@@ -7,11 +7,9 @@ use Rattle.dvs_base.specs.declared.kind.Scheduler.{Scheduler}
 use Rattle.dvs_base.specs.declared.kind.Scheduler.TheVariants.{Rm}
 use Rattle.grid_fraction.specs.Numbers.{sum_where, ceil_div}
 use Rattle.sched_model.specs.declared.state.Row.{Row}
-use Rattle.sched_model.specs.Jobs.{release, latest_since}
-use Rattle.sched_model.specs.Jobs.{due as due_at}
+use Rattle.sched_model.specs.Jobs.{release, latest_since, due as due_at, JobDemands}
 use Rattle.sched_model.specs.Priority.{stands_before}
 use Rattle.sched_model.specs.Plan.{Plan, count, period, worst}
-use Rattle.sched_model.specs.Demands.{JobDemands}
 use Rattle.sched_model.specs.Admission.{IsWithinLimits}
 use Rattle.sched_model.specs.States.{StateOf, row_at, row_wleft, opening}
 use Rattle.sched_model.proofs.JobLaws.{due-suc, release-suc, release-due, latest_since-pos}
@@ -21,7 +19,8 @@ use Rattle.governor.specs.Steps.{opened_row, after_boundary, wleft_at, release_o
 use Rattle.governor.proofs.Rows.{done_none, wleft-most}
 use Rattle.governor.proofs.Belonging.{unborn_done, opening_at, opened_release, boundary-by, tick_at, belongs_tick}
 use Rattle.governor.proofs.Ticks.{tick_set, demand_most}
-use Rattle.governor.specs.Rm.{level_work_in, level, released_since, asked_since, LevelCalm}
+use Rattle.governor.specs.Worst.{level_work_in}
+use Rattle.governor.specs.Rm.{level, released_since, asked_since, LevelCalm}
 use Rattle.governor.proofs.EdfLaws.{closed_row}
 
 -- the jobs that were released at b or later are a period apart

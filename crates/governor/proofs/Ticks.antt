@@ -4,7 +4,7 @@ use Rattle.std.specs.Prelude.{◌==◌, ◌||◌, if◌then◌else◌}
 use Rattle.std.proofs.lemmas.Bool.{cases_lt, eq-eqb}
 use Rattle.grid_fraction.specs.Numbers.{sum_where}
 use Rattle.sched_model.specs.Plan.{Plan, count}
-use Rattle.sched_model.specs.Demands.{JobDemands}
+use Rattle.sched_model.specs.Jobs.{JobDemands}
 use Rattle.sched_model.specs.Priority.{stands_before}
 use Rattle.sched_model.specs.States.{StateOf, row_at}
 use Rattle.sched_model.proofs.DownSets.{down-set-gets}

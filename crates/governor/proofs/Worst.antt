@@ -3,11 +3,9 @@ use Rattle.std.proofs.Common.{◌≡◌, ℕ, ◌-◌, ◌<◌, ◌≤◌, List,
 use Rattle.dvs_base.specs.declared.kind.GovernorKind.TheVariants.{Fixed}
 use Rattle.grid_fraction.specs.declared.Frac.{Frac}
 use Rattle.sched_model.specs.Plan.{Plan, count}
-use Rattle.sched_model.specs.Jobs.{latest, due}
-use Rattle.sched_model.specs.Ticks.{Tick, at, exec}
+use Rattle.sched_model.specs.Jobs.{latest, due, IsWithin, worst_demand, JobDemands}
+use Rattle.sched_model.specs.Ticks.{Tick, at, exec, IsMet}
 use Rattle.sched_model.specs.Demand.{published}
-use Rattle.sched_model.specs.Demands.{IsWithin, worst_demand, JobDemands}
-use Rattle.sched_model.specs.Deadlines.{IsMet}
 use Rattle.sched_model.specs.Schedule.{schedule, schedule_by}
 use Rattle.sched_model.specs.StaticDemand.{static_demand}
 use Rattle.sched_model.specs.Backlog.{lacking}

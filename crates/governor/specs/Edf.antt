@@ -1,5 +1,5 @@
 -- The two conditions under EDF for one speed F: the work that is due by each tick fits.
-use Rattle.std.specs.Prelude.{ℕ, ◌+◌, ◌-◌, ◌*◌, ◌≤◌, Bool, nat_le}
+use Rattle.std.specs.Prelude.{ℕ, Bool, nat_le, ◌+◌, ◌-◌, ◌*◌, ◌≤◌}
 use Rattle.grid_fraction.specs.Numbers.{sum_where}
 use Rattle.freq_table.specs.Tables.{speed_at}
 use Rattle.sched_model.specs.Plan.{Plan, count, hyper, rate}

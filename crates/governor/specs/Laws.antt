@@ -1,18 +1,18 @@
 -- The laws of a governor, over plain data.
-use Rattle.std.specs.Prelude.{◌≡◌, ◌≢◌, ℕ, ◌<◌, ◌≤◌, true, List}
+use Rattle.std.specs.Prelude.{◌<◌, ◌≤◌, ℕ, ◌≡◌, true, List, ◌≢◌}
 use Rattle.dvs_base.specs.Widths.{u64_end}
 use Rattle.dvs_base.specs.declared.kind.Scheduler.{Scheduler}
 use Rattle.dvs_base.specs.declared.kind.GovernorKind.{GovernorKind}
 use Rattle.dvs_base.specs.declared.kind.GovernorKind.TheVariants.{Ahead}
-use Rattle.dvs_base.specs.Pairs.{IsPair}
+use Rattle.dvs_base.specs.PlanWords.{IsPair}
 use Rattle.grid_fraction.specs.declared.Frac.{Frac}
 use Rattle.freq_table.specs.Tables.{lowest_entry, lowest_pick}
 use Rattle.sched_model.specs.Plan.{Plan, count}
-use Rattle.sched_model.specs.Demands.{JobDemands}
+use Rattle.sched_model.specs.Jobs.{JobDemands}
 use Rattle.sched_model.specs.Admission.{IsAdmitted}
-use Rattle.sched_model.specs.States.{StateOf, row_at, opening, IsOfPlan}
+use Rattle.sched_model.specs.States.{StateOf, IsOfPlan, row_at, opening}
 use Rattle.governor.specs.Meanings.{Serving, OwnDemand, Condition, EntryCondition}
-use Rattle.governor.specs.Steps.{after_boundary, after_tick, Belongs, IsAtDecision, MayFollow}
+use Rattle.governor.specs.Steps.{Belongs, IsAtDecision, after_tick, MayFollow, after_boundary}
 
 -- an admitted plan whose scheduler is served
 pub record IsServed (serves : Serving) (plan : Plan) : Type 0 where

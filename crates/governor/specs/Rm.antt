@@ -1,16 +1,12 @@
 -- The two conditions under RM for one speed F: each level is done or in a busy stretch.
-use Rattle.std.specs.Prelude.{◌≡◌, ◌⊎◌, ℕ, zero, suc, ◌+◌, ◌-◌, ◌*◌, ◌<◌, ◌≤◌, Bool, true, false, nat_le, if◌then◌else◌}
-use Rattle.grid_fraction.specs.Numbers.{sum_where, ceil_div}
+use Rattle.std.specs.Prelude.{ℕ, Bool, zero, suc, ◌+◌, nat_le, if◌then◌else◌, ◌*◌, ◌≡◌, ◌-◌, ◌<◌, ◌≤◌, true, false, ◌⊎◌}
+use Rattle.grid_fraction.specs.Numbers.{sum_where}
 use Rattle.freq_table.specs.Tables.{speed_at}
-use Rattle.sched_model.specs.Priority.{is_up_to, sum_up_to}
-use Rattle.sched_model.specs.Plan.{Plan, count, period, worst}
+use Rattle.sched_model.specs.Priority.{is_up_to}
+use Rattle.sched_model.specs.Plan.{Plan, period, worst, count}
 use Rattle.sched_model.specs.Jobs.{release}
 use Rattle.sched_model.specs.States.{StateOf, row_at}
 use Rattle.governor.specs.Steps.{wleft_at, release_of}
-
--- the work that task i and the tasks before it in RM order can ask for in `span` ticks
-abbrev pub level_work_in : Plan → ℕ → ℕ → ℕ
-level_work_in plan span i = sum_up_to (count plan) (period plan) (λ j. ceil_div span (period plan j) * worst plan j) i
 
 -- whether task j is of the level of task i: task i itself or before it in RM order
 abbrev pub level : Plan → ℕ → ℕ → Bool

@@ -1,15 +1,15 @@
 -- A governor's schedule: the one tick list whose speeds are those of its published demand.
-use Rattle.std.specs.Prelude.{◌≡◌, ℕ, List}
+use Rattle.std.specs.Prelude.{List, ℕ, ◌≡◌}
 use Rattle.dvs_base.specs.declared.kind.GovernorKind.{GovernorKind}
 use Rattle.grid_fraction.specs.declared.Frac.{Frac}
 use Rattle.sched_model.specs.Plan.{Plan}
 use Rattle.sched_model.specs.Ticks.{Tick}
 use Rattle.sched_model.specs.Demand.{published}
-use Rattle.sched_model.specs.Demands.{IsWithin, JobDemands}
+use Rattle.sched_model.specs.Jobs.{JobDemands, IsWithin}
 use Rattle.sched_model.specs.Admission.{IsAdmitted}
-use Rattle.sched_model.specs.Schedule.{schedule, schedule_by, IsScheduleBy}
+use Rattle.sched_model.specs.Schedule.{schedule_by, IsScheduleBy, schedule}
 use Rattle.sched_model.specs.States.{state_of}
-use Rattle.governor.specs.Meanings.{Serving, OwnDemand}
+use Rattle.governor.specs.Meanings.{OwnDemand, Serving}
 
 -- a governor's published demand as a function of the ticks so far
 abbrev pub ask_of : OwnDemand → Plan → JobDemands → List Tick → Frac

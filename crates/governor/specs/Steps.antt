@@ -1,5 +1,5 @@
 -- The state after a boundary and after a tick, for given demands of the jobs.
-use Rattle.std.specs.Prelude.{◌≡◌, ◌==◌, ℕ, suc, ◌+◌, ◌-◌, ◌<◌, ◌≤◌, Bool, true, false, if◌then◌else◌, ◌||◌, List, [], ◌∷◌, map, length, slice_index}
+use Rattle.std.specs.Prelude.{ℕ, suc, List, [], ◌∷◌, ◌==◌, Bool, ◌+◌, if◌then◌else◌, map, ◌-◌, slice_index, ◌≡◌, length, ◌||◌, ◌<◌, ◌≤◌, true, false}
 use Rattle.std.specs.List.{list_any}
 use Rattle.dvs_base.specs.declared.kind.Scheduler.{Scheduler}
 use Rattle.dvs_base.specs.declared.kind.Scheduler.TheVariants.{Edf, Rm}
@@ -7,12 +7,10 @@ use Rattle.task_model.specs.declared.limits.TheConstants.{LONGEST_PERIOD}
 use Rattle.freq_table.specs.Tables.{speed_at}
 use Rattle.sched_model.specs.declared.state.Row.{Row}
 use Rattle.sched_model.specs.Priority.{SharesOut}
-use Rattle.sched_model.specs.Plan.{Plan, count, period}
-use Rattle.sched_model.specs.Jobs.{latest_since}
-use Rattle.sched_model.specs.Jobs.{due as due_at}
-use Rattle.sched_model.specs.Demands.{IsWithin, JobDemands}
+use Rattle.sched_model.specs.Plan.{Plan, period, count}
+use Rattle.sched_model.specs.Jobs.{JobDemands, latest_since, due as due_at, IsWithin}
 use Rattle.grid_fraction.specs.Numbers.{greatest_below, least_below}
-use Rattle.sched_model.specs.States.{StateOf, row_at, row_wleft, released_row, IsOfPlan}
+use Rattle.sched_model.specs.States.{released_row, StateOf, row_wleft, row_at, IsOfPlan}
 
 -- the rows, each changed by a function of its place and itself; the first place is i
 abbrev pub each_row : (ℕ → Row → Row) → ℕ → List Row → List Row

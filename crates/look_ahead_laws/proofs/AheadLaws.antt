@@ -5,7 +5,7 @@ use Rattle.std.proofs.Math.Nat.{mul-le-mul_left, mul-le-mul_right}
 use Rattle.std.proofs.lemmas.Bool.{lt-leb, cases_lt}
 use Rattle.dvs_base.specs.declared.kind.Scheduler.{Scheduler}
 use Rattle.dvs_base.specs.declared.kind.GovernorKind.TheVariants.{Ahead}
-use Rattle.dvs_base.specs.Pairs.{IsPair}
+use Rattle.dvs_base.specs.PlanWords.{IsPair}
 use Rattle.grid_fraction.specs.declared.Frac.{Frac}
 use Rattle.grid_fraction.proofs.Least.{least-below}
 use Rattle.freq_table.specs.declared.machine.Pick.{Pick}
@@ -13,7 +13,7 @@ use Rattle.freq_table.specs.Tables.{Table, speed_at, last_entry, highest_speed, 
 use Rattle.freq_table.proofs.Chosen.{below_highest, lowest_within, picked_meets}
 use Rattle.freq_table.proofs.Lowest.{lowest_pick-none}
 use Rattle.sched_model.specs.Plan.{Plan, count, hyper, rate, top_speed}
-use Rattle.sched_model.specs.Demands.{JobDemands}
+use Rattle.sched_model.specs.Jobs.{JobDemands}
 use Rattle.sched_model.specs.Priority.{sum_before}
 use Rattle.sched_model.specs.Tests.{total_rate}
 use Rattle.sched_model.specs.AheadDemand.{spread_rates}

@@ -1,8 +1,7 @@
 -- Sums over the tasks that come after one of them.
 use Rattle.std.proofs.Common.{◌≡◌, ℕ, ◌≤◌, true, List, [], ◌∷◌, ◌++◌, refl, arith, if◌then◌else◌, ap, ◌∙◌, sym, subst}
 use Rattle.std.proofs.lemmas.Bool.Decides.{nat_tests}
-use Rattle.sched_model.specs.Priority.{stands_before}
-use Rattle.sched_model.specs.Order.{in_order}
+use Rattle.sched_model.specs.Priority.{stands_before, in_order}
 use Rattle.sched_model.proofs.PriorityLemmas.{before-self, before-not}
 use Rattle.sched_model.proofs.OrderLemmas.{sum_list, IsAhead, IsOrdered, first_ahead, sum_list-in_order}
 use Rattle.sched_model.proofs.OrderLemmas.{in_order-ordered}

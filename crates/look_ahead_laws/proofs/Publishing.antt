@@ -5,12 +5,10 @@ use Rattle.dvs_base.specs.declared.kind.GovernorKind.TheVariants.{Ahead}
 use Rattle.grid_fraction.proofs.Least.{least-same}
 use Rattle.sched_model.specs.declared.state.Row.{Row}
 use Rattle.sched_model.specs.Plan.{Plan, count, rate}
-use Rattle.sched_model.specs.Demands.{JobDemands}
-use Rattle.sched_model.specs.Jobs.{deadline}
+use Rattle.sched_model.specs.Jobs.{JobDemands, deadline}
 use Rattle.sched_model.specs.Ticks.{Tick, wleft}
-use Rattle.sched_model.specs.Order.{in_order}
-use Rattle.sched_model.specs.AheadDemand.{first_due, slack, put_off, spread_rate, spread_rates, due_first, ahead_of}
-use Rattle.sched_model.specs.AheadDemand.{edf_ahead}
+use Rattle.sched_model.specs.Priority.{in_order}
+use Rattle.sched_model.specs.AheadDemand.{first_due, slack, put_off, spread_rate, spread_rates, due_first, ahead_of, edf_ahead}
 use Rattle.sched_model.specs.Demand.{demand_by, published}
 use Rattle.sched_model.specs.States.{row_wleft, state_of}
 use Rattle.sched_model.proofs.OrderLemmas.{AreBelow, in_order-below, in_order-same, sum_before-same}

@@ -7,8 +7,7 @@ use Rattle.std.proofs.lemmas.Nat.{div_below, mod_below, div-add-mod'}
 use Rattle.std.proofs.lemmas.Bool.{le-leb, lt-leb, cases_lt, eqb-false}
 use Rattle.grid_fraction.proofs.Least.{least-below}
 use Rattle.sched_model.specs.Plan.{Plan, count, hyper, rate, top_speed}
-use Rattle.sched_model.specs.Priority.{sum_before}
-use Rattle.sched_model.specs.Order.{in_order}
+use Rattle.sched_model.specs.Priority.{sum_before, in_order}
 use Rattle.sched_model.specs.AheadDemand.{first_due, slack, put_off, spread_rate, spread_rates, due_first}
 use Rattle.sched_model.proofs.OrderLemmas.{sum_list, IsAhead, IsOrdered, AreBelow, in_order-ordered, sum_before-prefix}
 use Rattle.sched_model.proofs.OrderLemmas.{sum_list-snoc}

@@ -2,7 +2,7 @@
 use Rattle.std.specs.Prelude.{ℕ, List}
 use Rattle.grid_fraction.specs.declared.Frac.{Frac}
 use Rattle.sched_model.specs.Plan.{Plan, count, top_speed}
-use Rattle.sched_model.specs.Order.{in_order}
+use Rattle.sched_model.specs.Priority.{in_order}
 use Rattle.sched_model.specs.AheadDemand.{ahead_of}
 use Rattle.sched_model.specs.States.{StateOf, row_at}
 use Rattle.governor.specs.Steps.{wleft_at}

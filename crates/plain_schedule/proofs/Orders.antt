@@ -1,7 +1,7 @@
 -- The tasks in the order of a key.
 use Rattle.std.proofs.Common.{◌≡◌, ℕ, ◌<◌, ◌≤◌, List, [], ◌∷◌, length, ap, arith, sym, subst, Result, Ok, Err, IfOk}
 use Rattle.std.specs.List.{AllByRecursion}
-use Rattle.sched_model.specs.Order.{in_order}
+use Rattle.sched_model.specs.Priority.{in_order}
 use Rattle.sched_model.proofs.OrderLemmas.{AreBelow, in_order-below, length-in_order}
 
 all_below : (n : ℕ) (js : List ℕ) → AreBelow n js → AllByRecursion (λ i. i < n) js

@@ -5,10 +5,9 @@ ghost use Rattle.dvs_base.specs.Widths.{u64_end};
 ghost use Rattle.dvs_base.specs.declared.kind.Scheduler.TheVariants.{Edf};
 ghost use Rattle.task_model.specs.declared.limits.TheConstants.{LONGEST_PERIOD};
 ghost use Rattle.sched_model.specs.Plan.{count, rate, hyper, top_speed};
-ghost use Rattle.sched_model.specs.Jobs.{deadline};
+ghost use Rattle.sched_model.specs.Jobs.{deadline, demand_of};
 ghost use Rattle.sched_model.specs.Priority.{key_of, stands_before, sum_before};
 ghost use Rattle.sched_model.specs.Ticks.{wleft};
-ghost use Rattle.sched_model.specs.Demands.{demand_of};
 ghost use Rattle.sched_model.specs.AheadDemand.{slack, put_off, spread_rate, spread_rates, due_first, edf_ahead};
 ghost use Rattle.demand_list.specs.Demands.{HasWorstsOf};
 

@@ -3,11 +3,10 @@ ghost use Rattle.std.specs.Prelude.{◌≡◌, ◌+◌, ◌-◌, ◌*◌, ◌/�
 ghost use Rattle.dvs_base.specs.Widths.{u64_end};
 ghost use Rattle.dvs_base.specs.declared.kind.Scheduler.TheVariants.{Rm};
 ghost use Rattle.sched_model.specs.Plan.{count, period, hyper};
-ghost use Rattle.sched_model.specs.Jobs.{earliest};
+ghost use Rattle.sched_model.specs.Jobs.{earliest, demand_of};
 ghost use Rattle.sched_model.specs.Ticks.{wleft};
 ghost use Rattle.sched_model.specs.Priority.{stands_before, sum_before, allotment};
 ghost use Rattle.sched_model.specs.StaticDemand.{static_speed};
-ghost use Rattle.sched_model.specs.Demands.{demand_of};
 ghost use Rattle.sched_model.specs.CycleDemand.{charged, edf_cycle, allotted, had_since_release, allotment_left, rm_cycle};
 ghost use Rattle.demand_list.specs.Demands.{HasWorstsOf};
 

@@ -3,7 +3,7 @@ ghost use Rattle.std.specs.Prelude.{◌≡◌, ◌<◌, ◌≤◌, length, rever
 ghost use Rattle.grid_fraction.specs.Numbers.{any_below};
 ghost use Rattle.sched_model.specs.Plan.{count};
 ghost use Rattle.sched_model.specs.Decision.{is_decision};
-ghost use Rattle.sched_model.specs.Demands.{demand_of};
+ghost use Rattle.sched_model.specs.Jobs.{demand_of};
 ghost use Rattle.demand_list.specs.Demands.{HasWorstsOf};
 ghost use Rattle.plain_schedule.specs.Completions.{completes_last};
 

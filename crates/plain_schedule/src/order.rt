@@ -6,8 +6,7 @@ ghost use Rattle.dvs_base.specs.declared.kind.Scheduler.TheVariants.{Edf};
 ghost use Rattle.grid_fraction.specs.Numbers.{list_below};
 ghost use Rattle.sched_model.specs.Plan.{count};
 ghost use Rattle.sched_model.specs.Jobs.{deadline};
-ghost use Rattle.sched_model.specs.Priority.{key_of};
-ghost use Rattle.sched_model.specs.Order.{in_order};
+ghost use Rattle.sched_model.specs.Priority.{key_of, in_order};
 
 use crate::jobs::deadline;
 use dvs_base::NoMemory;

@@ -4,7 +4,7 @@ ghost use Rattle.dvs_base.specs.Widths.{u64_end};
 ghost use Rattle.dvs_base.specs.declared.kind.GovernorKind.TheVariants.{Cycle, Ahead};
 ghost use Rattle.sched_model.specs.StaticDemand.{full_demand, static_demand};
 ghost use Rattle.sched_model.specs.Demand.{demand_by, published};
-ghost use Rattle.sched_model.specs.Demands.{demand_of};
+ghost use Rattle.sched_model.specs.Jobs.{demand_of};
 ghost use Rattle.demand_list.specs.Demands.{HasWorstsOf};
 
 use crate::PlainTick;

@@ -5,7 +5,7 @@ ghost use Rattle.sched_model.specs.Plan.{count};
 ghost use Rattle.sched_model.specs.Ticks.{left};
 ghost use Rattle.sched_model.specs.Priority.{key_of, allotment};
 ghost use Rattle.sched_model.specs.Demand.{published};
-ghost use Rattle.sched_model.specs.Demands.{demand_of};
+ghost use Rattle.sched_model.specs.Jobs.{demand_of};
 ghost use Rattle.sched_model.specs.Schedule.{entry_in_force, next_tick, schedule};
 ghost use Rattle.demand_list.specs.Demands.{HasWorstsOf};
 

@@ -1,9 +1,8 @@
 // What the jobs need, and what they have had.
 ghost use Rattle.std.specs.Prelude.{◌≡◌, ◌<◌, ◌≤◌, ◌^◌, reverse, if◌then◌else◌};
 ghost use Rattle.sched_model.specs.Plan.{count, worst};
-ghost use Rattle.sched_model.specs.Jobs.{is_in_window};
+ghost use Rattle.sched_model.specs.Jobs.{is_in_window, demand_of};
 ghost use Rattle.sched_model.specs.Ticks.{share, exec, is_done, left, is_complete, wleft};
-ghost use Rattle.sched_model.specs.Demands.{demand_of};
 ghost use Rattle.demand_list.specs.Demands.{HasWorstsOf};
 
 use crate::PlainTick;

@@ -4,7 +4,7 @@ ghost use Rattle.dvs_base.specs.Widths.{u64_end};
 ghost use Rattle.sched_model.specs.Plan.{count};
 ghost use Rattle.sched_model.specs.Ticks.{left};
 ghost use Rattle.sched_model.specs.Priority.{key_of, stands_before, sum_before, allotment};
-ghost use Rattle.sched_model.specs.Demands.{demand_of};
+ghost use Rattle.sched_model.specs.Jobs.{demand_of};
 ghost use Rattle.demand_list.specs.Demands.{HasWorstsOf};
 
 use crate::PlainTick;

@@ -5,9 +5,8 @@ use Rattle.std.proofs.lemmas.Bool.{cases_lt}
 use Rattle.std.proofs.lemmas.Bool.Decides.{nat_tests}
 use Rattle.task_model.specs.DemandRows.{DemandRow, named}
 use Rattle.sched_model.specs.Plan.{Plan, count, worst, period}
-use Rattle.sched_model.specs.Jobs.{release}
+use Rattle.sched_model.specs.Jobs.{release, demand_of}
 use Rattle.sched_model.specs.Ticks.{Tick}
-use Rattle.sched_model.specs.Demands.{demand_of}
 use Rattle.governor.specs.Meanings.{OwnDemand}
 use Rattle.governor.specs.Schedule.{ask_of}
 use Rattle.replay_laws.specs.OwnList.{ticks_by, notes_by, TellSame, LooksAtNone}

@@ -10,10 +10,9 @@ use Rattle.demand_list.specs.Demands.{DemandsOf}
 use Rattle.grid_fraction.specs.Numbers.{ceil_div}
 use Rattle.grid_fraction.proofs.Sums.{sum_where-other}
 use Rattle.sched_model.specs.Plan.{Plan, count, period, offset}
-use Rattle.sched_model.specs.Jobs.{due, release, released_jobs}
+use Rattle.sched_model.specs.Jobs.{due, release, released_jobs, demand_of}
 use Rattle.sched_model.specs.Totals.{totals_of}
 use Rattle.sched_model.specs.Ticks.{Tick}
-use Rattle.sched_model.specs.Demands.{demand_of}
 use Rattle.sched_model.specs.Admission.{IsAdmitted}
 use Rattle.request_list.specs.declared.requests.Request.{Request}
 use Rattle.request_list.specs.Requests.{AreRequests}

@@ -2,7 +2,7 @@
 use Rattle.std.proofs.Common.{◌≡◌, ◌≤◌, ◌*◌, ◌+◌, ℕ, zero, suc, Bool, true, false, nat_eq, arith, refl, if◌then◌else◌}
 use Rattle.std.proofs.lemmas.Bool.Decides.{nat_tests}
 use Rattle.sched_model.specs.Plan.{worst}
-use Rattle.sched_model.specs.Demands.{IsWithin}
+use Rattle.sched_model.specs.Jobs.{IsWithin}
 use Rattle.poll_server.specs.Serving.{ServerOf, budget, taken, polled_demand}
 
 module _ (s : ServerOf) where

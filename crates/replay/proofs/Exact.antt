@@ -11,8 +11,7 @@ use Rattle.dvs_base.specs.declared.note.Totals.{Totals}
 use Rattle.dvs_base.specs.declared.limits.TheConstants.{MOST_JOBS}
 use Rattle.task_model.specs.DemandRows.{DemandRow}
 use Rattle.sched_model.specs.Plan.{Plan, count, worst}
-use Rattle.sched_model.specs.Jobs.{released_jobs}
-use Rattle.sched_model.specs.Demands.{demand_of}
+use Rattle.sched_model.specs.Jobs.{released_jobs, demand_of}
 use Rattle.sched_model.specs.Totals.{totals_of}
 use Rattle.sched_model.specs.Admission.{IsWithinLimits}
 use Rattle.trace_reader.specs.Traces.{TraceOf, is_end}

@@ -11,7 +11,7 @@ use Rattle.dvs_base.proofs.Options.{or-none, or-assoc}
 use Rattle.task_model.specs.DemandRows.{DemandRow, named}
 use Rattle.demand_list.specs.Demands.{DemandsOf}
 use Rattle.sched_model.specs.Plan.{Plan, worst}
-use Rattle.sched_model.specs.Demands.{demand_of}
+use Rattle.sched_model.specs.Jobs.{demand_of}
 use Rattle.replay_laws.specs.FixedDemands.{fixed_before, fixed_of}
 use Rattle.replay_laws.specs.OwnList.{IsFit}
 use Rattle.replay.specs.Replays.{first_over, Fixes}

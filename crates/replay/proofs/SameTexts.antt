@@ -5,15 +5,15 @@ use Rattle.grid_fraction.specs.Numbers.{list_below}
 use Rattle.dvs_base.specs.Text.{is_name}
 use Rattle.dvs_base.specs.declared.kind.GovernorKind.{GovernorKind}
 use Rattle.dvs_base.specs.declared.note.Note.{Note}
+use Rattle.dvs_base.specs.Parts.{name_of}
 use Rattle.task_model.specs.Tasks.{IsTaskSet}
 use Rattle.sched_model.specs.Admission.{IsAdmitted}
 use Rattle.sched_model.specs.Demand.{published}
-use Rattle.sched_model.specs.Demands.{demand_of}
+use Rattle.sched_model.specs.Jobs.{demand_of}
 use Rattle.sched_model.specs.Plan.{Plan, count, names, task, period, offset}
-use Rattle.trace_text.specs.TraceLines.{name_of}
 use Rattle.trace_text.proofs.PlainLines.{each-append}
 use Rattle.trace_reader.specs.Traces.{TraceOf, text_of}
-use Rattle.trace_reader.specs.VersionLines.{task_text}
+use Rattle.trace_reader.specs.TraceText.{task_text}
 use Rattle.trace_reader.proofs.HeadTexts.{IsLine, AreLines, task_lines-lines}
 use Rattle.trace_reader.proofs.TraceTexts.{one-text}
 use Rattle.done_lines.specs.RunText.{task_texts}

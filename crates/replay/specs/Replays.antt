@@ -8,8 +8,7 @@ use Rattle.dvs_base.specs.declared.limits.TheConstants.{MOST_JOBS}
 use Rattle.task_model.specs.DemandRows.{DemandRow, named}
 use Rattle.demand_list.specs.Demands.{DemandsOf, IsDemands}
 use Rattle.sched_model.specs.Plan.{Plan, count, worst}
-use Rattle.sched_model.specs.Jobs.{released_jobs}
-use Rattle.sched_model.specs.Demands.{demand_of}
+use Rattle.sched_model.specs.Jobs.{released_jobs, demand_of}
 use Rattle.sched_model.specs.Totals.{totals_of}
 use Rattle.event_kernel.specs.declared.kernel.KernelFault.{KernelFault}
 use Rattle.event_kernel.specs.declared.kernel.KernelFault.TheVariants as kernel

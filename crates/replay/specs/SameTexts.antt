@@ -4,7 +4,7 @@ use Rattle.dvs_base.specs.declared.kind.GovernorKind.{GovernorKind}
 use Rattle.dvs_base.specs.declared.kind.Version.{Version}
 use Rattle.task_model.specs.DemandRows.{DemandRow}
 use Rattle.sched_model.specs.Plan.{Plan, names}
-use Rattle.sched_model.specs.Demands.{JobDemands, demand_of, IsWithin}
+use Rattle.sched_model.specs.Jobs.{JobDemands, demand_of, IsWithin}
 use Rattle.sched_model.specs.Schedule.{schedule}
 use Rattle.trace_reader.specs.Traces.{TraceOf, IsTrace, text_of}
 use Rattle.done_lines.specs.RunText.{task_texts, run_text_in}

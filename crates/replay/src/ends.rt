@@ -3,7 +3,7 @@ ghost use Rattle.std.specs.Prelude.{◌≡◌, [], OnOk, IfOk, None};
 ghost use Rattle.std.specs.List.{AllByRecursion};
 ghost use Rattle.task_model.specs.DemandRows.{named};
 ghost use Rattle.sched_model.specs.Plan.{count};
-ghost use Rattle.sched_model.specs.Demands.{demand_of};
+ghost use Rattle.sched_model.specs.Jobs.{demand_of};
 ghost use Rattle.event_kernel.specs.Runs.{IsListOf};
 ghost use Rattle.replay_laws.specs.FixedDemands.{fixed_before, fixed_of};
 ghost use Rattle.replay_laws.specs.OwnList.{IsFit};

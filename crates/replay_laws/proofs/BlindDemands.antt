@@ -9,8 +9,7 @@ use Rattle.grid_fraction.proofs.Sums.{sum_below-same}
 use Rattle.sched_model.specs.Plan.{Plan, count, period, worst, hyper, rate, top_speed}
 use Rattle.sched_model.specs.Jobs.{latest, deadline, earliest, last_release}
 use Rattle.sched_model.specs.Ticks.{Tick, at, is_complete, wleft}
-use Rattle.sched_model.specs.Priority.{sum_before}
-use Rattle.sched_model.specs.Order.{in_order}
+use Rattle.sched_model.specs.Priority.{sum_before, in_order}
 use Rattle.sched_model.specs.StaticDemand.{static_speed}
 use Rattle.sched_model.specs.CycleDemand.{charged, edf_cycle, allotted, had_since_release, allotment_left, rm_cycle}
 use Rattle.sched_model.specs.AheadDemand.{first_due, slack, put_off, spread_rate, spread_rates, due_first, edf_ahead}

@@ -4,11 +4,10 @@ use Rattle.dvs_base.specs.declared.kind.Scheduler.TheVariants.{Edf}
 use Rattle.dvs_base.specs.declared.kind.GovernorKind.TheVariants.{Plain}
 use Rattle.task_model.specs.DemandRows.{DemandRow}
 use Rattle.sched_model.specs.Plan.{Plan, plan_of}
-use Rattle.sched_model.specs.Jobs.{release, due, latest}
+use Rattle.sched_model.specs.Jobs.{release, due, latest, demand_of}
 use Rattle.sched_model.specs.Demand.{published}
-use Rattle.sched_model.specs.Demands.{demand_of}
 use Rattle.sched_model.specs.Notes.{notes_before_end}
-use Rattle.sched_model.specs.Order.{in_order}
+use Rattle.sched_model.specs.Priority.{in_order}
 use Rattle.sched_model.specs.Schedule.{schedule_by}
 use Rattle.sched_model.proofs.Examples.{row}
 use Rattle.replay_laws.specs.OwnList.{Asking, ticks_by, notes_by, TellSame}

@@ -9,7 +9,7 @@ use Rattle.grid_fraction.specs.declared.Frac.{Frac}
 use Rattle.task_model.specs.DemandRows.{named}
 use Rattle.sched_model.specs.Plan.{Plan, count, worst}
 use Rattle.sched_model.specs.Ticks.{Tick}
-use Rattle.sched_model.specs.Demands.{demand_of, IsWithin}
+use Rattle.sched_model.specs.Jobs.{demand_of, IsWithin}
 use Rattle.sched_model.specs.Admission.{IsWithinLimits}
 use Rattle.sched_model.specs.Notes.{notes_of}
 use Rattle.sched_model.proofs.BeforeEnd.{IsBeforeEnd, notes-each}

@@ -14,8 +14,7 @@ use Rattle.sched_model.specs.Jobs.{latest, releases_at}
 use Rattle.sched_model.specs.Ticks.{Tick, exec}
 use Rattle.sched_model.specs.Schedule.{IsScheduleBy}
 use Rattle.sched_model.specs.Admission.{IsWithinLimits}
-use Rattle.sched_model.specs.Segments.{Span, Piece, pieces_of, position_of}
-use Rattle.sched_model.specs.Notes.{release_notes, all_release_notes, had_by, segment_notes, pieces_notes, span_notes, energy_run, energy_idle, notes_before_end, notes_of}
+use Rattle.sched_model.specs.Notes.{Span, Piece, pieces_of, position_of, release_notes, all_release_notes, had_by, segment_notes, pieces_notes, span_notes, energy_run, energy_idle, notes_before_end, notes_of}
 use Rattle.sched_model.proofs.HeldUnits.{each-weaker}
 use Rattle.sched_model.proofs.NoteLemmas.{notes-span}
 use Rattle.sched_model.proofs.BeforeEnd.{each-flat}

@@ -6,9 +6,8 @@ use Rattle.dvs_base.specs.declared.note.Note.{Note}
 use Rattle.dvs_base.specs.declared.note.Note.TheVariants.{End}
 use Rattle.task_model.specs.DemandRows.{DemandRow, named}
 use Rattle.sched_model.specs.Plan.{Plan, count, worst}
-use Rattle.sched_model.specs.Jobs.{release}
+use Rattle.sched_model.specs.Jobs.{release, demand_of, IsWithin}
 use Rattle.sched_model.specs.Ticks.{Tick, exec, is_done}
-use Rattle.sched_model.specs.Demands.{demand_of, IsWithin}
 use Rattle.sched_model.specs.Schedule.{IsScheduleBy, schedule_by}
 use Rattle.sched_model.specs.Admission.{IsWithinLimits}
 use Rattle.sched_model.specs.Notes.{energy_run, energy_idle, notes_before_end, notes_of}

@@ -4,7 +4,7 @@ use Rattle.std.specs.List.{AllByRecursion}
 use Rattle.dvs_base.specs.declared.kind.GovernorKind.{GovernorKind}
 use Rattle.task_model.specs.DemandRows.{DemandRow}
 use Rattle.sched_model.specs.Plan.{Plan, names}
-use Rattle.sched_model.specs.Demands.{demand_of, IsWithin}
+use Rattle.sched_model.specs.Jobs.{demand_of, IsWithin}
 use Rattle.sched_model.specs.Demand.{published}
 use Rattle.sched_model.specs.Text.{trace_text}
 use Rattle.sched_model.specs.Admission.{IsWithinLimits}

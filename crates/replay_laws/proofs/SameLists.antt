@@ -4,9 +4,8 @@ use Rattle.std.proofs.lemmas.Bool.Decides.{nat_tests}
 use Rattle.dvs_base.specs.declared.note.Note.{Note}
 use Rattle.task_model.specs.DemandRows.{DemandRow, named}
 use Rattle.sched_model.specs.Plan.{Plan, count}
-use Rattle.sched_model.specs.Jobs.{release}
+use Rattle.sched_model.specs.Jobs.{release, demand_of, IsWithin}
 use Rattle.sched_model.specs.Ticks.{Tick, exec, is_done}
-use Rattle.sched_model.specs.Demands.{demand_of, IsWithin}
 use Rattle.sched_model.specs.Admission.{IsWithinLimits}
 use Rattle.done_lines.proofs.DoneNotes.{tells_done, times}
 use Rattle.replay_laws.proofs.Alike.{IsBlind}

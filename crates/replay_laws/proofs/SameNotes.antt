@@ -17,8 +17,7 @@ use Rattle.sched_model.specs.Jobs.{latest, releases_at}
 use Rattle.sched_model.specs.Ticks.{Tick, exec, is_done}
 use Rattle.sched_model.specs.Schedule.{IsScheduleBy}
 use Rattle.sched_model.specs.Admission.{IsWithinLimits}
-use Rattle.sched_model.specs.Segments.{same_holder, units_of, Span, lengthened, spans_of, Piece, pieces_of, position_of, run_energy}
-use Rattle.sched_model.specs.Notes.{release_notes, all_release_notes, had_by, segment_notes, pieces_notes, span_notes, energy_run, energy_idle, notes_before_end, notes_of}
+use Rattle.sched_model.specs.Notes.{same_holder, units_of, Span, lengthened, spans_of, Piece, pieces_of, position_of, run_energy, release_notes, all_release_notes, had_by, segment_notes, pieces_notes, span_notes, energy_run, energy_idle, notes_before_end, notes_of}
 use Rattle.sched_model.proofs.JobLaws.{exec-none}
 use Rattle.sched_model.proofs.NoteLemmas.{notes-span}
 use Rattle.sched_model.proofs.PieceLemmas.{each-piece}

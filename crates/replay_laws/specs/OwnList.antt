@@ -8,9 +8,8 @@ use Rattle.grid_fraction.specs.declared.Frac.{Frac}
 use Rattle.task_model.specs.DemandRows.{DemandRow}
 use Rattle.demand_list.specs.Demands.{IsDemands}
 use Rattle.sched_model.specs.Plan.{Plan, count, worst}
-use Rattle.sched_model.specs.Jobs.{release}
+use Rattle.sched_model.specs.Jobs.{release, demand_of, IsWithin}
 use Rattle.sched_model.specs.Ticks.{Tick, exec, is_done}
-use Rattle.sched_model.specs.Demands.{demand_of, IsWithin}
 use Rattle.sched_model.specs.Demand.{published}
 use Rattle.sched_model.specs.Schedule.{schedule_by}
 use Rattle.sched_model.specs.States.{StateOf}

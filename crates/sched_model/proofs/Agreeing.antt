@@ -11,8 +11,7 @@ use Rattle.sched_model.specs.Ticks.{Tick, left}
 use Rattle.sched_model.specs.Priority.{allotment, key_of}
 use Rattle.sched_model.specs.Decision.{is_decision}
 use Rattle.sched_model.specs.Schedule.{entry_in_force, IsScheduleBy, next_tick, schedule_by}
-use Rattle.sched_model.specs.Segments.{Span, spans_of, lengthened, units_of, pieces_of}
-use Rattle.sched_model.specs.Notes.{all_release_notes, span_notes, pieces_notes, notes_before_end, notes_of, energy_run, energy_idle}
+use Rattle.sched_model.specs.Notes.{Span, spans_of, lengthened, units_of, pieces_of, all_release_notes, span_notes, pieces_notes, notes_before_end, notes_of, energy_run, energy_idle}
 use Rattle.sched_model.proofs.NoteLemmas.{flat_map-last}
 use Rattle.sched_model.proofs.ScheduleLemmas.{schedule_exists}
 

@@ -12,8 +12,7 @@ use Rattle.sched_model.specs.Plan.{Plan, count, point}
 use Rattle.sched_model.specs.Jobs.{latest, releases_at}
 use Rattle.sched_model.specs.Ticks.{Tick}
 use Rattle.sched_model.specs.Admission.{IsWithinLimits}
-use Rattle.sched_model.specs.Segments.{Span, spans_of, Piece, pieces_of, position_of}
-use Rattle.sched_model.specs.Notes.{release_notes, all_release_notes, had_by, segment_notes, pieces_notes, span_notes, energy_run, energy_idle, notes_before_end, notes_of}
+use Rattle.sched_model.specs.Notes.{Span, spans_of, Piece, pieces_of, position_of, release_notes, all_release_notes, had_by, segment_notes, pieces_notes, span_notes, energy_run, energy_idle, notes_before_end, notes_of}
 use Rattle.sched_model.proofs.NoteLemmas.{flat_map-last}
 use Rattle.sched_model.proofs.PieceLemmas.{each-piece}
 use Rattle.trace_text.proofs.PlainLines.{each-append}

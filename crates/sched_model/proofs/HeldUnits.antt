@@ -7,11 +7,10 @@ use Rattle.grid_fraction.specs.Numbers.{sum_below}
 use Rattle.sched_model.specs.Plan.{Plan, count, point}
 use Rattle.sched_model.specs.Jobs.{latest, latest_since}
 use Rattle.sched_model.specs.Ticks.{Tick, share}
-use Rattle.sched_model.specs.Priority.{key_of}
-use Rattle.sched_model.specs.Order.{in_order}
+use Rattle.sched_model.specs.Priority.{key_of, in_order}
 use Rattle.sched_model.specs.Decision.{is_decision}
 use Rattle.sched_model.specs.Admission.{IsWithinLimits}
-use Rattle.sched_model.specs.Segments.{units_of, Span, lengthened, spans_of}
+use Rattle.sched_model.specs.Notes.{units_of, Span, lengthened, spans_of}
 use Rattle.sched_model.proofs.Limits.{every_period}
 use Rattle.sched_model.proofs.JobLaws.{latest_since-le, last_release-le}
 use Rattle.sched_model.proofs.OrderLemmas.{AreBelow, in_order-below}

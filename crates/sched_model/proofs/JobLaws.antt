@@ -6,10 +6,8 @@ use Rattle.std.proofs.lemmas.Bool.Decides.{nat_tests}
 use Rattle.sched_model.specs.Plan.{Plan, count, period, offset, worst}
 use Rattle.grid_fraction.proofs.Searches.{any_below-found, last_up_to-le, last_up_to-greatest}
 use Rattle.grid_fraction.proofs.Ceilings.{quotient}
-use Rattle.sched_model.specs.Jobs.{release, due, latest, is_in_window, latest_since, releases_at, is_release, last_release}
-use Rattle.sched_model.specs.Demands.{worst_demand}
-use Rattle.sched_model.specs.Ticks.{Tick, exec}
-use Rattle.sched_model.specs.Ticks.{share, left}
+use Rattle.sched_model.specs.Jobs.{release, due, latest, is_in_window, latest_since, releases_at, is_release, last_release, worst_demand}
+use Rattle.sched_model.specs.Ticks.{Tick, exec, share, left}
 
 -- from the offset on the jobs are counted by periods, and before it the latest job is job 0
 latest-from : (p : Plan) (i t : ℕ) → offset p i ≤ t → latest p i t ≡ (t - offset p i) / period p i + 1

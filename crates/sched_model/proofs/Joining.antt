@@ -4,14 +4,11 @@ use Rattle.std.specs.Prelude.{map}
 use Rattle.std.proofs.lemmas.Bool.Decides.{nat_tests}
 use Rattle.sched_model.specs.declared.state.Row.{Row}
 use Rattle.sched_model.specs.Plan.{Plan, count, period, offset, worst}
-use Rattle.sched_model.specs.Jobs.{release, due, latest, releases_at, is_release}
-use Rattle.sched_model.specs.Ticks.{Tick, at, exec, is_done, wleft}
-use Rattle.sched_model.specs.Ticks.{share, left}
+use Rattle.sched_model.specs.Jobs.{release, due, latest, releases_at, is_release, last_release}
+use Rattle.sched_model.specs.Ticks.{Tick, at, exec, is_done, wleft, share, left}
 use Rattle.grid_fraction.specs.Numbers.{last_up_to}
-use Rattle.sched_model.specs.Jobs.{last_release}
-use Rattle.sched_model.specs.States.{StateOf, no_row, row_at, row_of, state_of}
+use Rattle.sched_model.specs.States.{StateOf, no_row, row_at, row_of, state_of, released_row, row_wleft, prior_row, prior_base_at, prior_base, prior_state}
 use Rattle.grid_fraction.specs.Numbers.{list_below}
-use Rattle.sched_model.specs.States.{released_row, row_wleft, prior_row, prior_base_at, prior_base, prior_state}
 use Rattle.sched_model.proofs.JobLaws.{due-none, release-none, release-suc, due-suc, lt-due, latest-unique, latest-none, latest-stays, latest-next, release-le, exec-early, exec-legal, last_release-le}
 use Rattle.grid_fraction.proofs.Searches.{any_below-false}
 use Rattle.sched_model.proofs.Tables.{get-table, table-same, map-table}

@@ -6,8 +6,7 @@ use Rattle.grid_fraction.specs.declared.Frac.{Frac}
 use Rattle.sched_model.specs.Plan.{Plan}
 use Rattle.sched_model.specs.Ticks.{Tick}
 use Rattle.sched_model.specs.Decision.{is_decision}
-use Rattle.sched_model.specs.Segments.{Span, spans_of, lengthened, units_of}
-use Rattle.sched_model.specs.Notes.{span_notes, notes_before_end}
+use Rattle.sched_model.specs.Notes.{Span, spans_of, lengthened, units_of, span_notes, notes_before_end}
 
 -- lists joined from the last element to the first one end with the list of the first element
 pub flat_map-last : {A B : Type 0} (f : A → List B) (x : A) (xs : List A) → flat_map f (reverse (x ∷ xs)) ≡ flat_map f (reverse xs) ++ f x

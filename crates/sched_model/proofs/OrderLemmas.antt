@@ -5,8 +5,7 @@ use Rattle.std.specs.List.{AllByRecursion}
 use Rattle.std.proofs.lemmas.List.Elements.{All-from_recursion}
 use Rattle.grid_fraction.specs.Numbers.{sum_below}
 use Rattle.grid_fraction.proofs.Sums.{sum_below-same}
-use Rattle.sched_model.specs.Priority.{stands_before, sum_before}
-use Rattle.sched_model.specs.Order.{insert_by, in_order}
+use Rattle.sched_model.specs.Priority.{stands_before, sum_before, insert_by, in_order}
 use Rattle.sched_model.proofs.PriorityLemmas.{before-self, before-trans, before-total, before-not}
 
 abbrev pub sum_list : (ℕ → ℕ) → List ℕ → ℕ

@@ -4,7 +4,7 @@ use Rattle.std.proofs.lemmas.Bool.Decides.{nat_tests}
 use Rattle.std.specs.List.{AllByRecursion}
 use Rattle.sched_model.specs.declared.holder.Holder.{Holder}
 use Rattle.sched_model.specs.declared.holder.Holder.TheVariants.{Nobody, Held}
-use Rattle.sched_model.specs.Segments.{same_holder, Piece, before_pieces, pieces_of}
+use Rattle.sched_model.specs.Notes.{same_holder, Piece, before_pieces, pieces_of}
 
 abbrev pub piece : Holder → ℕ → Piece
 piece h n = record { holder = h; units = n }

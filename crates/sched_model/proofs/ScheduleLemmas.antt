@@ -6,10 +6,8 @@ use Rattle.freq_table.specs.Tables.{lowest_entry}
 use Rattle.freq_table.proofs.Chosen.{lowest_within}
 use Rattle.sched_model.specs.Plan.{Plan, count, point}
 use Rattle.sched_model.specs.Decision.{is_decision}
-use Rattle.sched_model.specs.Ticks.{Tick}
-use Rattle.sched_model.specs.Ticks.{share, left}
-use Rattle.sched_model.specs.Priority.{allotment}
-use Rattle.sched_model.specs.Priority.{key_of}
+use Rattle.sched_model.specs.Ticks.{Tick, share, left}
+use Rattle.sched_model.specs.Priority.{allotment, key_of}
 use Rattle.sched_model.specs.Schedule.{entry_in_force, IsNext, IsScheduleBy, next_tick, schedule_by}
 use Rattle.grid_fraction.specs.Numbers.{list_below}
 use Rattle.sched_model.proofs.Tables.{get-table}

@@ -8,9 +8,8 @@ use Rattle.dvs_base.specs.declared.kind.GovernorKind.TheVariants.{Fixed, Cycle}
 use Rattle.grid_fraction.specs.Fraction.{least_common_multiple}
 use Rattle.task_model.specs.DemandRows.{DemandRow}
 use Rattle.sched_model.specs.Plan.{Plan}
-use Rattle.sched_model.specs.Jobs.{release, due, latest}
-use Rattle.sched_model.specs.Demands.{demand_of}
-use Rattle.sched_model.specs.Order.{in_order}
+use Rattle.sched_model.specs.Jobs.{release, due, latest, demand_of}
+use Rattle.sched_model.specs.Priority.{in_order}
 use Rattle.sched_model.specs.Demand.{published}
 use Rattle.sched_model.specs.Schedule.{schedule_by}
 use Rattle.sched_model.specs.Notes.{notes_before_end}

@@ -6,9 +6,9 @@ use Rattle.dvs_base.specs.declared.kind.Scheduler.TheVariants.{Edf, Rm}
 use Rattle.task_model.specs.Tasks.{IsTaskSet}
 use Rattle.freq_table.specs.Tables.{IsTable}
 use Rattle.sched_model.specs.Plan.{Plan, count, names, period, hyper}
-use Rattle.sched_model.specs.Order.{in_order}
 use Rattle.sched_model.specs.StaticDemand.{static_demand}
 use Rattle.sched_model.specs.Tests.{IsEdfFeasible, IsRmFeasible}
+use Rattle.sched_model.specs.Priority.{in_order}
 
 -- the tasks and the machine are within the limits
 pub record IsWithinLimits (p : Plan) : Type 0 where

@@ -1,14 +1,13 @@
 -- The demand of look-ahead (Pillai and Shin 2001): only the work that can't be put off past the earliest deadline.
 -- It is a formula over the tick, the tasks' deadlines and what their jobs may still need: `due i` is Di, the deadline
 -- of the latest job of task i, and `left i` is wleft_i.
-use Rattle.std.specs.Prelude.{◌≡◌, ℕ, ◌<◌, ◌+◌, ◌*◌, ◌-◌, ◌/◌, min, nat_eq, List, [], ◌∷◌, length, if◌then◌else◌}
+use Rattle.std.specs.Prelude.{ℕ, ◌-◌, ◌*◌, ◌/◌, min, nat_eq, if◌then◌else◌, ◌+◌, List, [], ◌∷◌, ◌≡◌, ◌<◌, length}
 use Rattle.grid_fraction.specs.declared.Frac.{Frac}
 use Rattle.grid_fraction.specs.Numbers.{least_below, ceil_div, sum_where}
 use Rattle.sched_model.specs.Plan.{Plan, count, hyper, rate, top_speed}
 use Rattle.sched_model.specs.Jobs.{deadline}
 use Rattle.sched_model.specs.Ticks.{Tick, wleft}
-use Rattle.sched_model.specs.Priority.{stands_before, sum_before}
-use Rattle.sched_model.specs.Order.{in_order}
+use Rattle.sched_model.specs.Priority.{sum_before, in_order, stands_before}
 
 -- A, the earliest deadline
 abbrev pub first_due : Plan → (ℕ → ℕ) → ℕ

@@ -1,9 +1,8 @@
 -- What the jobs of a level still lack under static RM with every job at its worst case.
-use Rattle.std.specs.Prelude.{ℕ, ◌-◌, List, [], ◌∷◌, length}
+use Rattle.std.specs.Prelude.{ℕ, ◌-◌, List, length, [], ◌∷◌}
 use Rattle.dvs_base.specs.declared.kind.GovernorKind.TheVariants.{Fixed}
 use Rattle.sched_model.specs.Plan.{Plan, count, period}
-use Rattle.sched_model.specs.Jobs.{latest}
-use Rattle.sched_model.specs.Demands.{worst_demand}
+use Rattle.sched_model.specs.Jobs.{latest, worst_demand}
 use Rattle.sched_model.specs.Ticks.{Tick, exec}
 use Rattle.sched_model.specs.Priority.{sum_up_to}
 use Rattle.sched_model.specs.Schedule.{schedule}

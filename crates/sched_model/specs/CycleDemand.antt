@@ -1,13 +1,12 @@
 -- The demands of cycle conservation (Pillai and Shin 2001): what completed jobs did not need is taken off.
 -- Both are formulas over the tasks. Under EDF they use what each task is charged with. Under RM they use what each
 -- job might need at the last release and what it has had since.
-use Rattle.std.specs.Prelude.{ℕ, ◌*◌, ◌-◌, ◌/◌, Bool, List, length, if◌then◌else◌}
+use Rattle.std.specs.Prelude.{ℕ, ◌*◌, ◌/◌, List, length, if◌then◌else◌, Bool, ◌-◌}
 use Rattle.grid_fraction.specs.declared.Frac.{Frac}
 use Rattle.grid_fraction.specs.Numbers.{sum_below}
-use Rattle.sched_model.specs.Plan.{Plan, count, period, worst, hyper}
-use Rattle.sched_model.specs.Jobs.{latest, earliest, last_release}
-use Rattle.sched_model.specs.Ticks.{Tick, at, exec, wleft, is_complete}
-use Rattle.sched_model.specs.Demands.{JobDemands}
+use Rattle.sched_model.specs.Plan.{Plan, period, hyper, count, worst}
+use Rattle.sched_model.specs.Jobs.{latest, JobDemands, last_release, earliest}
+use Rattle.sched_model.specs.Ticks.{Tick, is_complete, at, exec, wleft}
 use Rattle.sched_model.specs.Priority.{allotment}
 use Rattle.sched_model.specs.StaticDemand.{static_speed}
 

@@ -1,9 +1,9 @@
 -- The ticks at which the governor decides.
-use Rattle.std.specs.Prelude.{ℕ, Bool, true, not, ◌||◌, ◌&&◌, List, [], ◌∷◌, length}
+use Rattle.std.specs.Prelude.{ℕ, Bool, not, ◌&&◌, List, ◌∷◌, length, true, ◌||◌, []}
+use Rattle.grid_fraction.specs.Numbers.{any_below}
 use Rattle.sched_model.specs.Plan.{Plan, count}
 use Rattle.sched_model.specs.Jobs.{latest, is_release}
 use Rattle.sched_model.specs.Ticks.{Tick, is_done}
-use Rattle.grid_fraction.specs.Numbers.{any_below}
 
 -- whether the latest job of task i is incomplete before the tick x and complete at its end
 abbrev pub completes_in : Plan → (ℕ → ℕ → ℕ) → Tick → List Tick → ℕ → Bool

@@ -1,7 +1,27 @@
--- When the jobs of a task are released and due, and which is the latest.
-use Rattle.std.specs.Prelude.{ℕ, zero, suc, ◌+◌, ◌*◌, ◌-◌, ◌/◌, Bool, nat_eq, nat_le, nat_lt, ◌&&◌, if◌then◌else◌}
+-- When the jobs of a task are released and due, which is the latest, and what each really needs.
+use Rattle.std.specs.Prelude.{ℕ, zero, suc, ◌+◌, ◌*◌, List, unwrap_or, option_map, ◌<◌, ◌≤◌, ◌≡◌, ◌-◌, ◌/◌, nat_le, if◌then◌else◌, Bool, nat_eq, nat_lt, ◌&&◌}
+use Rattle.task_model.specs.DemandRows.{DemandRow, named}
 use Rattle.grid_fraction.specs.Numbers.{any_below, least_below, last_up_to, sum_below, ceil_div}
-use Rattle.sched_model.specs.Plan.{Plan, count, period, offset}
+use Rattle.sched_model.specs.Plan.{Plan, worst, count, period, offset}
+
+-- the units that a job really needs, from its task's number and its own
+abbrev pub JobDemands : Type 0
+JobDemands = ℕ → ℕ → ℕ
+
+-- dem(i,k), the units of job k of task i: by the list, with the charge, or the worst case; 0 for job 0
+abbrev pub demand_of : Plan → List DemandRow → ℕ → ℕ → ℕ
+demand_of p rows i zero = 0
+demand_of p rows i (suc k) = unwrap_or (option_map (λ u. u + 2 * p.machine.charge) (named rows i (suc k))) (worst p i)
+
+-- no job needs more than its worst case, and job 0 needs none
+pub record IsWithin (p : Plan) (dem : JobDemands) : Type 0 where
+  pub most : (i k : ℕ) → i < count p → dem i k ≤ worst p i
+  pub none : (i : ℕ) → dem i 0 ≡ 0
+
+-- the demands with every job at its worst case; 0 for job 0
+abbrev pub worst_demand : Plan → ℕ → ℕ → ℕ
+worst_demand p i zero = 0
+worst_demand p i (suc k) = worst p i
 
 -- the tick at which job k of task i is released; jobs count from 1
 unfoldable pub release : Plan → ℕ → ℕ → ℕ

@@ -1,9 +1,7 @@
 pub mod Plan
-pub mod Demands
 pub mod Jobs
 pub mod Ticks
 pub mod Priority
-pub mod Order
 pub mod Decision
 pub mod Tests
 pub mod StaticDemand
@@ -11,12 +9,9 @@ pub mod CycleDemand
 pub mod AheadDemand
 pub mod Demand
 pub mod Schedule
-pub mod TheSchedule
-pub mod Segments
 pub mod Notes
 pub mod Totals
 pub mod Text
-pub mod Deadlines
 pub mod Backlog
 pub mod States
 pub mod Admission

@@ -1,15 +1,17 @@
--- The notes of a schedule, in the order of the trace.
-use Rattle.std.specs.Prelude.{ℕ, ◌+◌, nat_eq, List, [], ◌∷◌, ◌++◌, length, reverse, flat_map, sum_by, count_by, take, if◌then◌else◌}
+-- The segments of a schedule, and its notes in the order of the trace.
+use Rattle.std.specs.Prelude.{ℕ, nat_eq, List, [], ◌∷◌, if◌then◌else◌, flat_map, Bool, true, false, ◌&&◌, ◌+◌, count_by, take, ◌/◌, ◌%◌, ◌*◌, length, ◌++◌, ◌-◌, replicate, reverse, sum_by}
 use Rattle.dvs_base.specs.declared.note.Note.{Note}
 use Rattle.sched_model.specs.declared.holder.Holder.{Holder}
-use Rattle.sched_model.specs.declared.holder.Holder.TheVariants.{Nobody, Held}
-use Rattle.dvs_base.specs.declared.note.Note.TheVariants.{Release, Speed, Run, Idle, Done, End}
+use Rattle.sched_model.specs.declared.holder.Holder.TheVariants.{Held, Nobody}
+use Rattle.dvs_base.specs.declared.note.Note.TheVariants.{Release, Done, Run, Idle, Speed, End}
 use Rattle.grid_fraction.specs.declared.Frac.{Frac}
+use Rattle.grid_fraction.specs.Numbers.{list_below, sum_below}
+use Rattle.dvs_base.specs.declared.note.Pos.{Pos}
 use Rattle.sched_model.specs.Plan.{Plan, count, point}
 use Rattle.sched_model.specs.Jobs.{latest, releases_at}
-use Rattle.sched_model.specs.Ticks.{Tick, exec}
-use Rattle.grid_fraction.specs.Numbers.{list_below}
-use Rattle.sched_model.specs.Segments.{same_holder, Span, spans_of, Piece, pieces_of, position_of, run_energy, idle_energy}
+use Rattle.sched_model.specs.Ticks.{Tick, exec, share}
+use Rattle.sched_model.specs.Priority.{key_of, in_order}
+use Rattle.sched_model.specs.Decision.{is_decision}
 
 -- the release of task i at tick t, with the completion of its job where its demand is 0; none where it has no release
 abbrev pub release_notes : Plan → (ℕ → ℕ → ℕ) → ℕ → ℕ → List Note
@@ -23,9 +25,35 @@ release_notes p dem t i =
 abbrev pub all_release_notes : Plan → (ℕ → ℕ → ℕ) → ℕ → List Note
 all_release_notes p dem t = flat_map (release_notes p dem t) (list_below (count p) (λ i. i))
 
+-- whether two holders are the same: nobody, or the same job
+abbrev pub same_holder : Holder → Holder → Bool
+same_holder Nobody Nobody = true
+same_holder Nobody (Held j l) = false
+same_holder (Held i k) Nobody = false
+same_holder (Held i k) (Held j l) = nat_eq i j && nat_eq k l
+
+-- the ticks from one decision instant up to the next: the past at that instant, the entry in force,
+-- and the units of all ticks
+pub record Span : Type 0 where
+  pub past : List Tick
+  pub entry : ℕ
+  pub units : List Holder
+
 -- the units that job k of task i has had by the end of the first q units of a span
 abbrev pub had_by : Plan → Span → ℕ → ℕ → ℕ → ℕ
 had_by p s q i k = exec p s.past i k + count_by (same_holder (Held i k)) (take q s.units)
+
+-- the position where unit number q of a span begins; the span begins at tick t0 and has f units a tick
+abbrev pub position_of : ℕ → ℕ → ℕ → Pos
+position_of t0 f q = record { tick = t0 + q / f; offset = q % f }
+
+-- the energy of `units` running units at entry e
+abbrev pub run_energy : Plan → ℕ → ℕ → ℕ
+run_energy p e units = let mv = (point p e).millivolts in units * mv * mv * 1000
+
+-- the energy of `units` idle units at entry e
+abbrev pub idle_energy : Plan → ℕ → ℕ → ℕ
+idle_energy p e units = let mv = (point p e).millivolts in units * mv * mv * p.machine.idle
 
 -- a segment from unit number q of a span on, with the completion of its job where the job then has its demand
 abbrev pub segment_notes : Plan → (ℕ → ℕ → ℕ) → Span → ℕ → ℕ → Holder → List Note
@@ -37,10 +65,28 @@ segment_notes p dem s q units (Held i k) =
     Run (at_unit q) (at_unit (q + units)) i k units (run_energy p s.entry units)
     ∷ (if nat_eq (had_by p s (q + units) i k) (dem i k) then Done (at_unit (q + units)) i k (dem i k) ∷ [] else [])
 
+-- a number of units in a row with one holder
+pub record Piece : Type 0 where
+  pub holder : Holder
+  pub units : ℕ
+
 -- the notes of the pieces of a span from its unit number q on
 abbrev pub pieces_notes : Plan → (ℕ → ℕ → ℕ) → Span → ℕ → List Piece → List Note
 pieces_notes p dem s q [] = []
 pieces_notes p dem s q (r ∷ pieces) = segment_notes p dem s q r.units r.holder ++ pieces_notes p dem s (q + r.units) pieces
+
+-- the pieces, with one more unit before the first
+abbrev pub before_pieces : Holder → List Piece → List Piece
+before_pieces h [] = record { holder = h; units = 1 } ∷ []
+before_pieces h (r ∷ pieces) =
+    if same_holder h r.holder
+    then record { holder = h; units = r.units + 1 } ∷ pieces
+    else record { holder = h; units = 1 } ∷ r ∷ pieces
+
+-- a list of units cut into its longest runs with one holder
+abbrev pub pieces_of : List Holder → List Piece
+pieces_of [] = []
+pieces_of (h ∷ hs) = before_pieces h (pieces_of hs)
 
 -- the notes from a decision instant up to the next: the releases, the speed and the segments
 abbrev pub span_notes : Plan → (ℕ → ℕ → ℕ) → (List Tick → Frac) → Span → List Note
@@ -58,6 +104,26 @@ energy_run _ = 0
 abbrev pub energy_idle : Note → ℕ
 energy_idle (Idle from to units energy) = energy
 energy_idle _ = 0
+
+-- the units of the tick x: each task's in priority order, then the idle ones
+abbrev pub units_of : Plan → List Tick → Tick → List Holder
+units_of p past x =
+    let t = length past in
+    flat_map (λ i. replicate (share x i) (Held i (latest p i t))) (in_order (key_of p.scheduler p t) (count p))
+    ++ replicate ((point p x.entry).speed - sum_below (count p) (share x)) Nobody
+
+-- the spans, with the units `us` added at the end of the last one
+abbrev pub lengthened : List Holder → List Span → List Span
+lengthened us [] = []
+lengthened us (s ∷ spans) = record { past = s.past; entry = s.entry; units = s.units ++ us } ∷ spans
+
+-- the spans of a list of ticks, the last one first
+abbrev pub spans_of : Plan → (ℕ → ℕ → ℕ) → List Tick → List Span
+spans_of p dem [] = []
+spans_of p dem (x ∷ past) =
+    if is_decision p dem past
+    then record { past = past; entry = x.entry; units = units_of p past x } ∷ spans_of p dem past
+    else lengthened (units_of p past x) (spans_of p dem past)
 
 -- the notes of a list of ticks without the end
 unfoldable pub notes_before_end : Plan → (ℕ → ℕ → ℕ) → (List Tick → Frac) → List Tick → List Note

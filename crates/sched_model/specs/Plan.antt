@@ -1,5 +1,5 @@
 -- A plan: the tasks, the machine and the scheduler (Liu and Layland 1973).
-use Rattle.std.specs.Prelude.{ℕ, ◌+◌, ◌*◌, ◌/◌, List, length, map}
+use Rattle.std.specs.Prelude.{List, ℕ, length, map, ◌+◌, ◌*◌, ◌/◌}
 use Rattle.dvs_base.specs.declared.kind.Scheduler.{Scheduler}
 use Rattle.task_model.specs.declared.task.Task.{Task}
 use Rattle.task_model.specs.Tasks.{task_at, hyper_of}

@@ -1,20 +1,30 @@
 -- The order of the tasks at a tick, and the legal share of a tick.
-use Rattle.std.specs.Prelude.{ℕ, ◌+◌, ◌-◌, ◌<◌, ◌≡◌, min, Bool, ◌||◌, ◌&&◌, nat_eq, nat_lt, List, length}
+use Rattle.std.specs.Prelude.{ℕ, Bool, ◌||◌, ◌&&◌, nat_eq, nat_lt, List, [], ◌∷◌, if◌then◌else◌, zero, suc, ◌+◌, ◌<◌, ◌≡◌, min, ◌-◌, length}
 use Rattle.dvs_base.specs.declared.kind.Scheduler.{Scheduler}
 use Rattle.dvs_base.specs.declared.kind.Scheduler.TheVariants.{Edf, Rm}
-use Rattle.sched_model.specs.Plan.{Plan, count, period}
+use Rattle.grid_fraction.specs.Numbers.{sum_where}
+use Rattle.sched_model.specs.Plan.{Plan, period, count}
 use Rattle.sched_model.specs.Jobs.{deadline}
 use Rattle.sched_model.specs.Ticks.{Tick, share, left}
-use Rattle.grid_fraction.specs.Numbers.{sum_where}
+
+-- whether task j comes before task i: by the key, and among equal keys by the number
+abbrev pub stands_before : (ℕ → ℕ) → ℕ → ℕ → Bool
+stands_before key j i = nat_lt (key j) (key i) || (nat_eq (key j) (key i) && nat_lt j i)
+
+-- a list in the order of the key, with i put into its place
+abbrev pub insert_by : (ℕ → ℕ) → ℕ → List ℕ → List ℕ
+insert_by key i [] = i ∷ []
+insert_by key i (j ∷ js) = if stands_before key i j then i ∷ j ∷ js else j ∷ insert_by key i js
+
+-- the numbers below n in the order of the key, and among equal keys by number
+unfoldable pub in_order : (ℕ → ℕ) → ℕ → List ℕ
+in_order key zero = []
+in_order key (suc n) = insert_by key n (in_order key n)
 
 -- the key by which a scheduler orders the tasks at tick t: the deadline under EDF, the period under RM
 abbrev pub key_of : Scheduler → Plan → ℕ → ℕ → ℕ
 key_of Edf p t i = deadline p i t
 key_of Rm p t i = period p i
-
--- whether task j comes before task i: by the key, and among equal keys by the number
-abbrev pub stands_before : (ℕ → ℕ) → ℕ → ℕ → Bool
-stands_before key j i = nat_lt (key j) (key i) || (nat_eq (key j) (key i) && nat_lt j i)
 
 -- whether task j is task i or comes before it
 abbrev pub is_up_to : (ℕ → ℕ) → ℕ → ℕ → Bool

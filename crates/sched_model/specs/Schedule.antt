@@ -1,5 +1,5 @@
--- The schedule of a plan and its jobs' demands.
-use Rattle.std.specs.Prelude.{ℕ, zero, suc, ◌≡◌, ◌<◌, true, List, [], ◌∷◌, length, if◌then◌else◌}
+-- The schedule of a plan and its jobs' demands; which ticks are the one schedule of a run.
+use Rattle.std.specs.Prelude.{ℕ, List, [], ◌∷◌, if◌then◌else◌, ◌≡◌, length, zero, suc, ◌<◌, true}
 use Rattle.dvs_base.specs.declared.kind.GovernorKind.{GovernorKind}
 use Rattle.grid_fraction.specs.declared.Frac.{Frac}
 use Rattle.grid_fraction.specs.Numbers.{list_below}
@@ -9,6 +9,7 @@ use Rattle.sched_model.specs.Ticks.{Tick, left}
 use Rattle.sched_model.specs.Priority.{IsLegal, allotment, key_of}
 use Rattle.sched_model.specs.Decision.{is_decision}
 use Rattle.sched_model.specs.Demand.{published}
+use Rattle.sched_model.specs.Jobs.{JobDemands}
 
 -- The entry in force at the tick after `past`: the one chosen at the last decision instant.
 -- `ask` is the demand published there.
@@ -65,3 +66,9 @@ abbrev pub AlwaysMeets : Plan → GovernorKind → (ℕ → ℕ → ℕ) → ℕ
 AlwaysMeets p g dem ticks =
     (t : ℕ) → t < ticks → is_decision p dem (schedule p g dem t) ≡ true
     → (lowest_pick p.machine (published p g dem (schedule p g dem t))).met ≡ true
+
+-- the ticks are a schedule of t ticks of a plan under a governor, and no other list of t ticks is
+pub record IsTheSchedule (p : Plan) (g : GovernorKind) (dem : JobDemands) (t : ℕ) (ticks : List Tick) : Type 0 where
+  pub legal : IsSchedule p g dem ticks
+  pub whole : length ticks ≡ t
+  pub only : (other : List Tick) → IsSchedule p g dem other → length other ≡ t → other ≡ ticks

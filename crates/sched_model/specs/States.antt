@@ -1,12 +1,12 @@
 -- The state of a run: a row for each task, and what each call makes of it.
-use Rattle.std.specs.Prelude.{◌≡◌, ℕ, ◌+◌, ◌-◌, ◌<◌, ◌≤◌, true, false, if◌then◌else◌, List, [], ◌∷◌, map, length, slice_set}
+use Rattle.std.specs.Prelude.{ℕ, List, true, ◌-◌, if◌then◌else◌, ◌+◌, false, ◌≡◌, ◌<◌, ◌≤◌, length, map, slice_set, [], ◌∷◌}
 use Rattle.std.specs.List.{slice_index_or}
 use Rattle.dvs_base.specs.Widths.{u64_end}
 use Rattle.grid_fraction.specs.Numbers.{list_below}
 use Rattle.sched_model.specs.declared.state.Row.{Row}
-use Rattle.sched_model.specs.Plan.{Plan, count, period, offset, worst}
-use Rattle.sched_model.specs.Jobs.{latest, due, last_release}
-use Rattle.sched_model.specs.Ticks.{Tick, at, exec, is_done, is_complete, wleft}
+use Rattle.sched_model.specs.Plan.{worst, period, offset, Plan, count}
+use Rattle.sched_model.specs.Jobs.{due, latest, last_release}
+use Rattle.sched_model.specs.Ticks.{Tick, exec, is_done, at, wleft, is_complete}
 
 -- what a governor sees: the tick, the rows, the tick of the last mark, and what each job might need there
 pub record StateOf : Type 0 where

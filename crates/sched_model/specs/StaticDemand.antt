@@ -1,12 +1,12 @@
 -- The demands that no run changes: no governor, and static scaling (Pillai and Shin 2001).
 -- Fractions of units per tick, not reduced.
-use Rattle.std.specs.Prelude.{ℕ, ◌*◌, Bool, not, ◌||◌, ◌&&◌, nat_lt, nat_eq}
+use Rattle.std.specs.Prelude.{ℕ, ◌*◌, Bool, ◌||◌, ◌&&◌, nat_lt, nat_eq, not}
 use Rattle.dvs_base.specs.declared.kind.Scheduler.{Scheduler}
 use Rattle.dvs_base.specs.declared.kind.Scheduler.TheVariants.{Edf, Rm}
 use Rattle.grid_fraction.specs.declared.Frac.{Frac}
 use Rattle.grid_fraction.specs.Numbers.{any_below, first_from}
 use Rattle.freq_table.specs.Tables.{speed_at, lowest_entry}
-use Rattle.sched_model.specs.Plan.{Plan, count, period, hyper, top_speed}
+use Rattle.sched_model.specs.Plan.{Plan, top_speed, hyper, period, count}
 use Rattle.sched_model.specs.Priority.{stands_before}
 use Rattle.sched_model.specs.Tests.{total_rate, level_work}
 

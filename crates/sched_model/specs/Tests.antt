@@ -1,8 +1,8 @@
 -- The two tests of admission.
-use Rattle.std.specs.Prelude.{ℕ, ◌*◌, ◌<◌, ◌≤◌}
-use Rattle.sched_model.specs.Plan.{Plan, count, period, worst, rate, hyper, top_speed}
-use Rattle.sched_model.specs.Priority.{sum_up_to}
+use Rattle.std.specs.Prelude.{ℕ, ◌*◌, ◌≤◌, ◌<◌}
 use Rattle.grid_fraction.specs.Numbers.{sum_below, ceil_div}
+use Rattle.sched_model.specs.Plan.{Plan, count, rate, hyper, top_speed, period, worst}
+use Rattle.sched_model.specs.Priority.{sum_up_to}
 
 -- the sum of the rates ui
 abbrev pub total_rate : Plan → ℕ

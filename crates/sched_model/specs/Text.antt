@@ -4,7 +4,7 @@ use Rattle.dvs_base.specs.declared.note.Note.{Note}
 use Rattle.dvs_base.specs.declared.kind.Scheduler.{Scheduler}
 use Rattle.dvs_base.specs.declared.kind.GovernorKind.{GovernorKind}
 use Rattle.trace_text.specs.TraceLines.{version_text, plan_text, note_text}
-use Rattle.sched_model.specs.Plan.{Plan, names}
+use Rattle.sched_model.specs.Plan.{names, Plan}
 use Rattle.sched_model.specs.Schedule.{schedule}
 use Rattle.sched_model.specs.Demand.{published}
 use Rattle.sched_model.specs.Notes.{notes_of}

@@ -1,7 +1,7 @@
 -- The totals of a run: the sums and counts of its notes.
 use Rattle.std.specs.Prelude.{Bool, true, false, List, sum_by, count_by}
 use Rattle.dvs_base.specs.declared.note.Note.{Note}
-use Rattle.dvs_base.specs.declared.note.Note.TheVariants.{Release, Speed, Done}
+use Rattle.dvs_base.specs.declared.note.Note.TheVariants.{Release, Done, Speed}
 use Rattle.dvs_base.specs.declared.note.Totals.{Totals}
 use Rattle.sched_model.specs.Notes.{energy_run, energy_idle}
 

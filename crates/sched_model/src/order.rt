@@ -2,8 +2,7 @@
 ghost use Rattle.std.specs.Prelude.{◌≡◌, ◌<◌, ℕ, IfOk, length, map};
 ghost use Rattle.grid_fraction.specs.Numbers.{list_below};
 ghost use Rattle.task_model.specs.Tasks.{task_at};
-ghost use Rattle.sched_model.specs.Priority.{stands_before};
-ghost use Rattle.sched_model.specs.Order.{in_order};
+ghost use Rattle.sched_model.specs.Priority.{stands_before, in_order};
 
 use dvs_base::NoMemory;
 use std::alloc::Global;

@@ -5,7 +5,7 @@ ghost use Rattle.task_model.specs.declared.limits.TheConstants.{MOST_TASKS, LONG
 ghost use Rattle.freq_table.specs.Tables.{IsTable};
 ghost use Rattle.task_model.specs.Tasks.{IsTaskSet};
 ghost use Rattle.sched_model.specs.Plan.{plan_of, count, names, task, period, offset, worst, hyper};
-ghost use Rattle.sched_model.specs.Order.{in_order};
+ghost use Rattle.sched_model.specs.Priority.{in_order};
 ghost use Rattle.sched_model.specs.StaticDemand.{static_demand};
 ghost use Rattle.sched_model.specs.Admission.{PassesTest, IsAdmitted};
 

@@ -15,10 +15,9 @@ use Rattle.freq_table.specs.declared.limits.TheConstants.{TOP_SPEED}
 use Rattle.freq_table.specs.Tables.{speed_at, lowest_entry}
 use Rattle.freq_table.proofs.Chosen.{lowest_within}
 use Rattle.sched_model.specs.Plan.{Plan, count, period, worst, hyper, rate, top_speed}
-use Rattle.sched_model.specs.Jobs.{latest, deadline, earliest, last_release}
+use Rattle.sched_model.specs.Jobs.{latest, deadline, earliest, last_release, IsWithin}
 use Rattle.sched_model.specs.Ticks.{Tick, exec, is_complete, wleft}
-use Rattle.sched_model.specs.Demands.{IsWithin}
-use Rattle.sched_model.specs.Order.{in_order}
+use Rattle.sched_model.specs.Priority.{in_order}
 use Rattle.sched_model.specs.Tests.{total_rate}
 use Rattle.sched_model.specs.StaticDemand.{heaviest, full_demand, static_speed, rm_static}
 use Rattle.sched_model.specs.CycleDemand.{rate_for, charged, SinceRelease, units_of, allotted_of, allotment_left_of, since_release, edf_cycle, rm_cycle}

@@ -12,13 +12,11 @@ use Rattle.freq_table.specs.declared.limits.TheConstants.{TOP_SPEED, MOST_MILLIV
 use Rattle.sched_model.specs.declared.holder.Holder.{Holder}
 use Rattle.sched_model.specs.declared.holder.Holder.TheVariants.{Nobody, Held}
 use Rattle.sched_model.specs.Plan.{Plan, count, point}
-use Rattle.sched_model.specs.Jobs.{latest, releases_at}
+use Rattle.sched_model.specs.Jobs.{latest, releases_at, IsWithin}
 use Rattle.sched_model.specs.Ticks.{Tick}
-use Rattle.sched_model.specs.Demands.{IsWithin}
 use Rattle.sched_model.specs.Schedule.{IsScheduleBy}
 use Rattle.sched_model.specs.Admission.{IsWithinLimits}
-use Rattle.sched_model.specs.Segments.{Span, Piece, pieces_of, position_of, run_energy, idle_energy}
-use Rattle.sched_model.specs.Notes.{release_notes, all_release_notes, had_by, segment_notes, pieces_notes, span_notes, energy_run, energy_idle, notes_before_end}
+use Rattle.sched_model.specs.Notes.{Span, Piece, pieces_of, position_of, run_energy, idle_energy, release_notes, all_release_notes, had_by, segment_notes, pieces_notes, span_notes, energy_run, energy_idle, notes_before_end}
 use Rattle.sched_model.proofs.Limits.{every_period}
 use Rattle.sched_model.proofs.JobLaws.{latest-small}
 use Rattle.sched_model.proofs.NoteLemmas.{notes-span}

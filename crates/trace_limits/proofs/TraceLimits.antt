@@ -11,21 +11,19 @@ use Rattle.dvs_base.specs.declared.kind.Version.TheVariants.{One, Two}
 use Rattle.dvs_base.specs.declared.note.Note.{Note}
 use Rattle.dvs_base.specs.declared.note.Note.TheVariants.{Release, Speed, Run, Idle, Done, End}
 use Rattle.dvs_base.specs.declared.limits.TheConstants.{MOST_LINES}
+use Rattle.dvs_base.specs.Parts.{name_of}
 use Rattle.task_model.specs.declared.limits.TheConstants.{MOST_TASKS}
 use Rattle.task_model.specs.declared.task.Task.{Task}
 use Rattle.sched_model.specs.Plan.{Plan, count, names, task, period, offset}
 use Rattle.sched_model.specs.Admission.{IsAdmitted}
 use Rattle.sched_model.specs.Demand.{published}
-use Rattle.sched_model.specs.Demands.{JobDemands}
-use Rattle.sched_model.specs.Jobs.{released_jobs}
+use Rattle.sched_model.specs.Jobs.{JobDemands, released_jobs}
 use Rattle.sched_model.specs.Notes.{energy_run, energy_idle, notes_before_end}
 use Rattle.sched_model.specs.Schedule.{schedule, IsScheduleBy}
 use Rattle.sched_model.specs.Ticks.{Tick}
 use Rattle.sched_model.proofs.ScheduleLemmas.{length-list_below, schedule_exists}
-use Rattle.trace_text.specs.TraceLines.{name_of}
 use Rattle.trace_text.proofs.PlainLines.{each-append}
-use Rattle.trace_reader.specs.VersionLines.{task_text}
-use Rattle.trace_reader.specs.TraceText.{run_energy_of, energy_of_task}
+use Rattle.trace_reader.specs.TraceText.{task_text, run_energy_of, energy_of_task}
 use Rattle.trace_reader.specs.Traces.{IsNoteOf, is_end, IsEnded, HasShares, lines_for_tasks, IsTrace}
 use Rattle.done_lines.specs.RunText.{task_texts}
 use Rattle.sched_model.proofs.HeldUnits.{each-weaker}

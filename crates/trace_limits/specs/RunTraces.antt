@@ -3,10 +3,9 @@ use Rattle.std.specs.Prelude.{◌≡◌, ℕ, ◌≤◌, true}
 use Rattle.dvs_base.specs.declared.kind.GovernorKind.{GovernorKind}
 use Rattle.dvs_base.specs.declared.kind.Version.{Version}
 use Rattle.dvs_base.specs.declared.limits.TheConstants.{MOST_JOBS, MOST_TICKS}
-use Rattle.dvs_base.specs.Pairs.{is_pair}
+use Rattle.dvs_base.specs.PlanWords.{is_pair}
 use Rattle.sched_model.specs.Plan.{Plan, names}
-use Rattle.sched_model.specs.Jobs.{released_jobs}
-use Rattle.sched_model.specs.Demands.{JobDemands, IsWithin}
+use Rattle.sched_model.specs.Jobs.{released_jobs, JobDemands, IsWithin}
 use Rattle.sched_model.specs.Text.{run_notes}
 use Rattle.done_lines.specs.RunText.{task_texts}
 use Rattle.trace_reader.specs.Traces.{TraceOf, IsTrace}

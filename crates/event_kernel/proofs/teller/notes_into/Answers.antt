@@ -4,12 +4,12 @@ use Rattle.dvs_base.specs.declared.note.Note.TheVariants.{End}
 use Rattle.dvs_base.specs.declared.note.Totals.{Totals}
 use Rattle.energy.specs.Books.{energy_of_task}
 use Rattle.grid_fraction.specs.Numbers.{list_below}
-use Rattle.sched_model.specs.Admission.{IsAdmitted}
-use Rattle.sched_model.specs.Plan.{Plan, count, names}
+use Rattle.sched_model.specs.Plan.{count, names}
 use Rattle.sched_model.specs.Totals.{totals_of}
 use Rattle.sched_model.proofs.ScheduleLemmas.{length-list_below}
-use Rattle.event_kernel.specs.Lines.{noted, sum_lines}
-use Rattle.event_kernel.specs.Runs.{notes_before_end_of}
+use Rattle.event_kernel.specs.Lines.{noted}
+use Rattle.event_kernel.specs.PlainLines.{sum_lines}
+use Rattle.event_kernel.specs.SpanNotes.{notes_before_end_of}
 use Rattle.event_kernel.proofs.Booking.{booked-tasks}
 use Rattle.event_kernel.proofs.Tellers.{heard-written, balked-written}
 use Rattle.event_kernel.proofs.Wholes.{told-lines, booked-lines, few-of}
@@ -37,8 +37,8 @@ returns-in-Ok-clause-writes g c =
     let a = c.args.teller.now in
     let s = c.in-Ok.account in
     lines-as _ _ _ _ _ _ c.tell_tail.result
-    (booked-lines g.G.Governor.demand r (subst (λ (p : Plan). IsAdmitted p) c.requires.plan c.scheduler-scheduler.ensures.admitted) h.version
-    a.names.now h.plan.now h.ticks s c.requires.names c.requires.plan c.requires.ticks c.in-Ok.ensures.booked)
+    (booked-lines g.G.Governor.demand r h.version a.names.now h.plan.now h.ticks s
+    c.scheduler-scheduler.ensures.admitted c.requires.names c.requires.plan c.requires.ticks c.in-Ok.ensures.booked)
     (writes-then _ _ _ _ _ _ (map (noted a.names.now) (notes_before_end_of g.G.Governor.demand r))
     (sum_lines h.version h.plan.now s.by_task ++ noted (names h.plan.now) (End h.ticks s.totals.run s.totals.idle) ∷ []) c.tell_tail.result
     (heard-written g.W.Sink.shows g.P.Probe.seen a _ c.spans.new.to c.in-Ok.ensures.told.0).0 c.tell_tail.ensures.writes)
@@ -52,8 +52,8 @@ returns-in-Err-clause-writes g c =
     let es : List ℕ = list_below (count r.plan) (λ i. sum_by (energy_of_task i) before) in
     let t : Totals = totals_of before in
     some-as
-    (told-lines g.G.Governor.demand r (subst (λ (p : Plan). IsAdmitted p) c.requires.plan c.scheduler-scheduler.ensures.admitted) h.version
-    a.names.now h.plan.now h.ticks es t c.requires.names c.requires.plan c.requires.ticks refl refl)
+    (told-lines g.G.Governor.demand r h.version a.names.now h.plan.now h.ticks es t
+    c.scheduler-scheduler.ensures.admitted c.requires.names c.requires.plan c.requires.ticks refl refl)
     (lines-some-more _ _ _ _ (map (noted a.names.now) before)
     (sum_lines h.version h.plan.now es ++ noted (names h.plan.now) (End h.ticks t.run t.idle) ∷ [])
     (balked-written g.W.Sink.shows g.P.Probe.seen a _ c.spans.new.to c.in-Err.ensures.told.0).0)

@@ -1,6 +1,6 @@
 use Rattle.std.proofs.Common.{[], ◌∷◌}
 use Rattle.trace_text.specs.TraceLines.{plan_text}
-use Rattle.trace_reader.specs.VersionLines.{version_line}
+use Rattle.trace_reader.specs.TraceText.{version_line}
 use Rattle.event_kernel.specs.Lines.{plain, task_lines}
 use Rattle.event_kernel.proofs.Writing.{plain-line, plain-part, lines-then, lines-then-some, lines-some-more, writes-then, stopped-exit}
 use Rattle.event_kernel.proofs.write.put_head.Goals as goal

@@ -1,8 +1,8 @@
 use Rattle.std.proofs.Common.{◌∙◌, ap, arith}
 use Rattle.std.specs.Prelude.{slice_index}
 use Rattle.sched_model.specs.Plan.{count, names}
-use Rattle.trace_text.specs.TraceLines.{name_of}
-use Rattle.trace_reader.specs.VersionLines.{share_text}
+use Rattle.dvs_base.specs.Parts.{name_of}
+use Rattle.trace_reader.specs.TraceText.{share_text}
 use Rattle.event_kernel.proofs.Writing.{below-next, below-stopped, below-all, stopped-exit}
 use Rattle.event_kernel.proofs.write.put_shares.Goals as goal
 

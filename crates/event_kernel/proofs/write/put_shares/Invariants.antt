@@ -3,8 +3,8 @@ use Rattle.std.specs.Prelude.{slice_index}
 use Rattle.grid_fraction.specs.Numbers.{list_below}
 use Rattle.probes.specs.Tallies.{ProbeOf}
 use Rattle.sched_model.specs.Plan.{names}
-use Rattle.trace_text.specs.TraceLines.{name_of}
-use Rattle.trace_reader.specs.VersionLines.{share_text}
+use Rattle.dvs_base.specs.Parts.{name_of}
+use Rattle.trace_reader.specs.TraceText.{share_text}
 use Rattle.event_kernel.specs.Lines.{WroteLines, plain}
 use Rattle.event_kernel.proofs.write.put_shares.Given as goal
 

@@ -1,7 +1,7 @@
 use Rattle.std.proofs.Common.{arith}
 use Rattle.sched_model.specs.Plan.{count, names, task, period, offset}
-use Rattle.trace_text.specs.TraceLines.{name_of}
-use Rattle.trace_reader.specs.VersionLines.{task_text}
+use Rattle.dvs_base.specs.Parts.{name_of}
+use Rattle.trace_reader.specs.TraceText.{task_text}
 use Rattle.event_kernel.proofs.Writing.{below-next, below-stopped, below-all, stopped-exit}
 use Rattle.event_kernel.proofs.write.put_tasks.Goals as goal
 

@@ -2,8 +2,8 @@ use Rattle.std.proofs.Common.{List}
 use Rattle.grid_fraction.specs.Numbers.{list_below}
 use Rattle.probes.specs.Tallies.{ProbeOf}
 use Rattle.sched_model.specs.Plan.{names, task, period, offset}
-use Rattle.trace_text.specs.TraceLines.{name_of}
-use Rattle.trace_reader.specs.VersionLines.{task_text}
+use Rattle.dvs_base.specs.Parts.{name_of}
+use Rattle.trace_reader.specs.TraceText.{task_text}
 use Rattle.event_kernel.specs.Lines.{WroteLines, plain}
 use Rattle.event_kernel.proofs.write.put_tasks.Given as goal
 

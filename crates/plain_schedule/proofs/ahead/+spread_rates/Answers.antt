@@ -1,7 +1,6 @@
 use Rattle.std.proofs.Common.{length, reverse, arith}
-use Rattle.sched_model.specs.Jobs.{deadline}
+use Rattle.sched_model.specs.Jobs.{deadline, demand_of}
 use Rattle.sched_model.specs.Ticks.{wleft}
-use Rattle.sched_model.specs.Demands.{demand_of}
 use Rattle.plain_schedule.proofs.Lookahead.{rates-first}
 use Rattle.plain_schedule.proofs.ahead.+spread_rates.Goals as goal
 

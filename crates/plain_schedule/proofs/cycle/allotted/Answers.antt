@@ -1,9 +1,8 @@
 use Rattle.std.proofs.Common.{ℕ, List, reverse, ap, ◌∙◌}
 use Rattle.sched_model.specs.Plan.{Plan, count, period}
-use Rattle.sched_model.specs.Jobs.{last_release}
+use Rattle.sched_model.specs.Jobs.{last_release, demand_of}
 use Rattle.sched_model.specs.Ticks.{Tick, wleft}
 use Rattle.sched_model.specs.Priority.{allotment}
-use Rattle.sched_model.specs.Demands.{demand_of}
 use Rattle.plain_schedule.proofs.Allotting.{allotted_is}
 use Rattle.plain_schedule.proofs.cycle.allotted.Goals as goal
 

@@ -1,7 +1,7 @@
 use Rattle.std.proofs.Common.{◌≡◌, ◌≤◌, ◌*◌, ◌/◌, ◌^◌, reverse}
 use Rattle.grid_fraction.specs.Numbers.{sum_below}
 use Rattle.sched_model.specs.Plan.{period, hyper}
-use Rattle.sched_model.specs.Demands.{demand_of}
+use Rattle.sched_model.specs.Jobs.{demand_of}
 use Rattle.sched_model.specs.CycleDemand.{charged}
 use Rattle.plain_schedule.proofs.cycle.edf_cycle.Given as goal
 

@@ -1,6 +1,6 @@
 use Rattle.std.proofs.Common.{◌≡◌, ◌≤◌, ◌*◌, ◌^◌, reverse}
 use Rattle.grid_fraction.specs.Numbers.{sum_below}
-use Rattle.sched_model.specs.Demands.{demand_of}
+use Rattle.sched_model.specs.Jobs.{demand_of}
 use Rattle.sched_model.specs.CycleDemand.{allotment_left}
 use Rattle.plain_schedule.proofs.cycle.rm_cycle.Given as goal
 

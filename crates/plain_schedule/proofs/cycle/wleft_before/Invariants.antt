@@ -2,7 +2,7 @@ use Rattle.std.proofs.Common.{◌≡◌, ◌≤◌, ◌*◌, ◌^◌, reverse}
 use Rattle.sched_model.specs.Plan.{period}
 use Rattle.sched_model.specs.Ticks.{wleft}
 use Rattle.sched_model.specs.Priority.{sum_before}
-use Rattle.sched_model.specs.Demands.{demand_of}
+use Rattle.sched_model.specs.Jobs.{demand_of}
 use Rattle.plain_schedule.proofs.cycle.wleft_before.Given as goal
 
 abbrev pub invariant-loop-j : goal.invariant-loop-j

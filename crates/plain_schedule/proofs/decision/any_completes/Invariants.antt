@@ -1,6 +1,6 @@
 use Rattle.std.proofs.Common.{◌≡◌, reverse}
 use Rattle.grid_fraction.specs.Numbers.{any_below}
-use Rattle.sched_model.specs.Demands.{demand_of}
+use Rattle.sched_model.specs.Jobs.{demand_of}
 use Rattle.plain_schedule.specs.Completions.{completes_last}
 use Rattle.plain_schedule.proofs.decision.any_completes.Given as goal
 

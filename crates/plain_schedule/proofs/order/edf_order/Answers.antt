@@ -2,8 +2,7 @@ use Rattle.std.proofs.Common.{◌≡◌, ◌∙◌, ℕ, List, ap, subst, IsPerm
 use Rattle.std.specs.Prelude.{map}
 use Rattle.dvs_base.specs.declared.kind.Scheduler.TheVariants.{Edf}
 use Rattle.sched_model.specs.Plan.{Plan, count}
-use Rattle.sched_model.specs.Priority.{key_of}
-use Rattle.sched_model.specs.Order.{in_order}
+use Rattle.sched_model.specs.Priority.{key_of, in_order}
 use Rattle.sched_model.proofs.SortedKeys.{sorted_keys}
 use Rattle.plain_schedule.proofs.Orders.{order_facts}
 use Rattle.plain_schedule.proofs.order.edf_order.Goals as goal

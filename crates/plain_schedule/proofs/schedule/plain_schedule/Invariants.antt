@@ -1,5 +1,5 @@
 use Rattle.std.proofs.Common.{◌≡◌, length, reverse}
-use Rattle.sched_model.specs.Demands.{demand_of}
+use Rattle.sched_model.specs.Jobs.{demand_of}
 use Rattle.sched_model.specs.Schedule.{schedule}
 use Rattle.plain_schedule.proofs.schedule.plain_schedule.Given as goal
 

@@ -3,7 +3,7 @@ use Rattle.grid_fraction.specs.Numbers.{list_below}
 use Rattle.sched_model.specs.Plan.{count}
 use Rattle.sched_model.specs.Ticks.{left}
 use Rattle.sched_model.specs.Priority.{key_of, allotment}
-use Rattle.sched_model.specs.Demands.{demand_of}
+use Rattle.sched_model.specs.Jobs.{demand_of}
 use Rattle.plain_schedule.proofs.schedule.shares_of.Given as goal
 
 abbrev pub invariant-loop-task : goal.invariant-loop-task

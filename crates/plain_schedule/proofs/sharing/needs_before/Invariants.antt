@@ -1,7 +1,7 @@
 use Rattle.std.proofs.Common.{◌≡◌, ◌≤◌, ◌*◌, ◌^◌, length, reverse}
 use Rattle.sched_model.specs.Ticks.{left}
 use Rattle.sched_model.specs.Priority.{key_of, sum_before}
-use Rattle.sched_model.specs.Demands.{demand_of}
+use Rattle.sched_model.specs.Jobs.{demand_of}
 use Rattle.plain_schedule.proofs.sharing.needs_before.Given as goal
 
 abbrev pub invariant-loop-j : goal.invariant-loop-j

@@ -1,7 +1,7 @@
 use Rattle.std.proofs.Common.{◌≡◌, ◌∙◌, ℕ, List, ap, length, subst, IsPermutation}
 use Rattle.std.specs.Prelude.{map}
 use Rattle.task_model.specs.Tasks.{task_at}
-use Rattle.sched_model.specs.Order.{in_order}
+use Rattle.sched_model.specs.Priority.{in_order}
 use Rattle.sched_model.proofs.SortedKeys.{sorted_keys}
 use Rattle.sched_model.proofs.order.rm_order.Goals as goal
 

@@ -1,8 +1,7 @@
 use Rattle.std.proofs.Common.{ℕ, subst, arith}
 use Rattle.dvs_base.specs.Outside.{Rose}
-use Rattle.sched_model.specs.Admission.{IsAdmitted}
 use Rattle.event_kernel.specs.Lines.{head_lines, note_lines}
-use Rattle.event_kernel.specs.Runs.{Run, notes_of_run}
+use Rattle.event_kernel.specs.Runs.{notes_of_run}
 use Rattle.event_kernel.proofs.Meeting.{met-as}
 use Rattle.event_kernel.proofs.Wholes.{stopped-short, writes-sure, writes-later, writes-rose, run-lines}
 use Rattle.event_kernel.proofs.Writing.{writes-then, all-as, some-as, lines-some-more}
@@ -27,8 +26,7 @@ returns-in-Ok-clause-rose g c = writes-rose _ _ _ _ _ c.tell_notes.result (retur
 
 pub returns-in-Ok-clause-lines : goal.returns-in-Ok-clause-lines
 returns-in-Ok-clause-lines g c =
-    run-lines g.G.Governor.demand c.args.self (subst (λ (r : Run). IsAdmitted r.plan) c.self.view_is c.self.invariant.6)
-    c.args.version g.G.Governor.the_kind
+    run-lines g.G.Governor.demand c.args.self c.args.version g.G.Governor.the_kind c.self.view_is c.self.invariant.6
 
 pub returns-in-Ok-clause-deadlines : goal.returns-in-Ok-clause-deadlines
 returns-in-Ok-clause-deadlines g c = (met-as c.self.view_is c.self.invariant.8).deadlines
@@ -48,8 +46,7 @@ returns-in-Err-clause-sure g c fits = absurd (omega (arith, fits, stopped-short 
 
 pub returns-in-Err-clause-lines : goal.returns-in-Err-clause-lines
 returns-in-Err-clause-lines g c =
-    run-lines g.G.Governor.demand c.args.self (subst (λ (r : Run). IsAdmitted r.plan) c.self.view_is c.self.invariant.6)
-    c.args.version g.G.Governor.the_kind
+    run-lines g.G.Governor.demand c.args.self c.args.version g.G.Governor.the_kind c.self.view_is c.self.invariant.6
 
 pub returns-in-Err-clause-deadlines : goal.returns-in-Err-clause-deadlines
 returns-in-Err-clause-deadlines g c = (met-as c.self.view_is c.self.invariant.8).deadlines

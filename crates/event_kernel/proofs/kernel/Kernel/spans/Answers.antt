@@ -5,10 +5,10 @@ use Rattle.sched_model.specs.Admission.{IsAdmitted}
 use Rattle.energy.specs.Books.{Books}
 use Rattle.done_lines.specs.LineCounts.{AreFew}
 use Rattle.governor.proofs.Course.{course-met}
-use Rattle.event_kernel.specs.SpanNotes.{HasBooked}
+use Rattle.event_kernel.specs.SpanNotes.{HasBooked, notes_before_end_of}
 use Rattle.event_kernel.specs.Current.{Follow}
 use Rattle.event_kernel.specs.Heard.{HasHeard, HasBalked}
-use Rattle.event_kernel.specs.Runs.{Run, demands_of, notes_before_end_of}
+use Rattle.event_kernel.specs.Runs.{Run, demands_of}
 use Rattle.event_kernel.specs.Tickwork.{notes_before}
 use Rattle.event_kernel.proofs.Booking.{booked-points}
 use Rattle.event_kernel.proofs.Closing.{first-between, span-booked, run-totals}

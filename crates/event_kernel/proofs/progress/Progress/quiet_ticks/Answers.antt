@@ -1,19 +1,14 @@
-use Rattle.std.proofs.Common.{◌≡◌, ℕ, ◌-◌, ◌/◌, ◌<◌, length, arith, ap, ◌∙◌, sym, subst}
+use Rattle.std.proofs.Common.{ℕ, ◌-◌, ◌/◌, arith, ap, sym, subst}
 use Rattle.std.specs.Prelude.{Option}
-use Rattle.freq_table.specs.declared.machine.Point.{Point}
-use Rattle.freq_table.specs.Tables.{Table, speed_at}
-use Rattle.sched_model.specs.Plan.{point}
 use Rattle.sched_model.specs.States.{StateOf}
 use Rattle.event_kernel.specs.Segment.{IsFirst}
 use Rattle.event_kernel.specs.Settings.{AreQuiet}
-use Rattle.event_kernel.proofs.Working.{entry-there}
+use Rattle.event_kernel.proofs.Working.{entry-in, speed-in}
 use Rattle.event_kernel.proofs.Quieting.{some-speed, of-plan, first-event, needs, quiet-held, quiet-idle}
 use Rattle.event_kernel.proofs.progress.Progress.quiet_ticks.Goals as goal
 
 pub point-speed-requires : goal.point-speed-requires
-point-speed-requires g c =
-    subst (λ (x : Table). c.args.force.index < length x.points) (sym c.machine.ensures.machine)
-    (entry-there c.requires.set c.requires.at)
+point-speed-requires g c = entry-in c.requires.set c.requires.at c.machine.ensures.machine
 
 pub overflow_sub-most : goal.overflow_sub-most
 overflow_sub-most g c =
@@ -44,18 +39,13 @@ overflow_sub-lacking g c =
 
 pub nonzero_div-lacking : goal.nonzero_div-lacking
 nonzero_div-lacking g c =
-    omega (
-      arith,
-      some-speed c.requires.set c.requires.at,
-      ap (λ (q : Point). q.speed) c.point-speed.ensures,
-      ap (λ (x : Table). speed_at x c.args.force.index) c.machine.ensures.machine,
-    )
+    let speed = speed-in c.requires.set c.requires.at c.machine.ensures.machine c.point-speed.ensures in
+    omega (arith, some-speed c.requires.set c.requires.at, speed)
 
 pub returns-in-Some : goal.returns-in-Some
 returns-in-Some g c =
     let first = subst (IsFirst c.args.set.now.plan.now c.args.self.now.state) c.in-Some.is c.requires.first in
-    let speed : c.point-speed.result.speed ≡ (point c.args.set.now.plan.now c.args.force.index).speed =
-    ap (λ (q : Point). q.speed) c.point-speed.ensures ∙ ap (λ (x : Table). speed_at x c.args.force.index) c.machine.ensures.machine in
+    let speed = speed-in c.requires.set c.requires.at c.machine.ensures.machine c.point-speed.ensures in
     subst (λ (r : Option ℕ). AreQuiet c.args.set.now c.args.force c.args.self.now.state r c.min.result) (sym c.in-Some.is)
     (quiet-held c.requires.set c.requires.at c.in-Some.task first c.min.result c.lacking.result c.lacking.ensures
     (omega (

@@ -1,6 +1,4 @@
-use Rattle.std.proofs.Common.{◌≡◌, ℕ, ◌+◌, ◌*◌, ◌<◌, ◌≤◌, length, arith, ap, ap₂, ◌∙◌, sym, subst, refl}
-use Rattle.freq_table.specs.declared.machine.Point.{Point}
-use Rattle.freq_table.specs.Tables.{Table, speed_at}
+use Rattle.std.proofs.Common.{◌≡◌, ℕ, ◌+◌, ◌*◌, ◌≤◌, arith, ap, ap₂, ◌∙◌, sym, subst, refl}
 use Rattle.sched_model.specs.Plan.{Plan, point}
 use Rattle.sched_model.specs.States.{after_advance, CanRun, StateOf}
 use Rattle.std.specs.Prelude.{Option, None, Some, IfSome}
@@ -8,24 +6,21 @@ use Rattle.agenda.proofs.Standing.{stand-advance}
 use Rattle.event_kernel.specs.Segment.{entered, holder_at, IsFirst}
 use Rattle.event_kernel.specs.Tickwork.{gives}
 use Rattle.event_kernel.specs.Settings.{IsLastTick}
-use Rattle.event_kernel.proofs.Working.{entry-there}
+use Rattle.event_kernel.proofs.Working.{entry-in, speed-in}
 use Rattle.event_kernel.proofs.Quieting.{is-first, of-plan, can-put, fit, can-run-first, last-then}
 use Rattle.event_kernel.proofs.Staying.{stays}
 use Rattle.event_kernel.proofs.progress.Progress.stay.Given.{Over}
 use Rattle.event_kernel.proofs.progress.Progress.stay.Goals as goal
 
 pub point-requires : goal.point-requires
-point-requires g c =
-    subst (λ (x : Table). c.args.force.index < length x.points) (sym c.machine.ensures.machine)
-    (entry-there c.requires.set c.requires.at)
+point-requires g c = entry-in c.requires.set c.requires.at c.machine.ensures.machine
 
 pub enter-requires-clause-can : goal.enter-requires-clause-can
 enter-requires-clause-can g c = can-put c.requires.set c.requires.at
 
 pub enter-requires-clause-fits : goal.enter-requires-clause-fits
 enter-requires-clause-fits g c =
-    let speed : c.point.result.speed ≡ (point c.args.set.now.plan.now c.args.force.index).speed =
-    ap (λ (q : Point). q.speed) c.point.ensures ∙ ap (λ (x : Table). speed_at x c.args.force.index) c.machine.ensures.machine in
+    let speed = speed-in c.requires.set c.requires.at c.machine.ensures.machine c.point.ensures in
     let room = fit c.requires.set c.requires.at c.quiet_ticks-quiet.ensures in
     omega (arith, room.1, ap (λ f. c.quiet_ticks-quiet.result * f) speed)
 
@@ -36,8 +31,7 @@ pub serve_first-requires-clause-can : goal.serve_first-requires-clause-can
 serve_first-requires-clause-can g c =
     let st = c.args.self.now.state in
     let is = is-first c.args.set.now.plan.now st c.first_ready-first.result c.first_ready-first.ensures.none c.first_ready-first.ensures.first in
-    let speed : c.point.result.speed ≡ (point c.args.set.now.plan.now c.args.force.index).speed =
-    ap (λ (q : Point). q.speed) c.point.ensures ∙ ap (λ (x : Table). speed_at x c.args.force.index) c.machine.ensures.machine in
+    let speed = speed-in c.requires.set c.requires.at c.machine.ensures.machine c.point.ensures in
     subst (λ f. IfSome c.first_ready-first.result (λ i. CanRun st i (c.quiet_ticks-quiet.result * f))) (sym speed)
     (can-run-first c.requires.set c.requires.at
     c.first_ready-first.result is c.quiet_ticks-quiet.ensures)
@@ -68,7 +62,7 @@ module _ (g : Over) (c : goal.After-advance g) where
   is = is-first p st first c.first_ready-first.ensures.none c.first_ready-first.ensures.first
 
   speed : c.point.result.speed ≡ (point p e).speed
-  speed = ap (λ (q : Point). q.speed) c.point.ensures ∙ ap (λ (x : Table). speed_at x e) c.machine.ensures.machine
+  speed = speed-in c.requires.set c.requires.at c.machine.ensures.machine c.point.ensures
 
   moved : c.advance.new.self ≡ after_advance (gives st first (n * (point p e).speed)) (st.now + n)
   moved =

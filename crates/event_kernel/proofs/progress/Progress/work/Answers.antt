@@ -1,6 +1,4 @@
-use Rattle.std.proofs.Common.{◌≡◌, ℕ, ◌+◌, ◌<◌, min, Bool, true, ◌||◌, length, arith, refl, ap, ◌∙◌, sym, subst, inl, inr, ◌⊎◌, nat_eq, rules}
-use Rattle.freq_table.specs.declared.machine.Point.{Point}
-use Rattle.freq_table.specs.Tables.{Table, speed_at}
+use Rattle.std.proofs.Common.{◌≡◌, ℕ, ◌+◌, ◌<◌, min, Bool, true, ◌||◌, arith, refl, ap, ◌∙◌, sym, subst, inl, inr, ◌⊎◌, nat_eq, rules}
 use Rattle.sched_model.specs.Plan.{count}
 use Rattle.sched_model.specs.States.{row_at, after_advance, StateOf}
 use Rattle.agenda.proofs.Standing.{stand-advance}
@@ -8,21 +6,19 @@ use Rattle.event_kernel.specs.declared.progress.Progress.{Progress}
 use Rattle.event_kernel.specs.Current.{IsCurrent}
 use Rattle.event_kernel.specs.Segment.{entered}
 use Rattle.event_kernel.specs.Settings.{HasWorked}
-use Rattle.event_kernel.proofs.Working.{entry-there, begin, can, fits, ready, turned, idled, full, finished}
+use Rattle.event_kernel.proofs.Working.{entry-in, speed-in, begin, can, fits, ready, turned, idled, full, finished}
 use Rattle.event_kernel.proofs.Quieting.{of-plan}
 use Rattle.event_kernel.proofs.progress.Progress.work.Given.{Over}
 use Rattle.event_kernel.proofs.progress.Progress.work.Goals as goal
 use Rattle.event_kernel.proofs.progress.Progress.work.Goals.{then-completed, else-completed, else-loop-rest-test, then-loop-rest-test+in_default, then-rest-gt0, else-rest-gt0}
 
 pub point-rest-requires : goal.point-rest-requires
-point-rest-requires g c =
-    subst (λ (x : Table). c.args.force.index < length x.points) (sym c.machine.ensures.machine)
-    (entry-there c.requires.set c.requires.at)
+point-rest-requires g c = entry-in c.requires.set c.requires.at c.machine.ensures.machine
 
 pub loop-rest-init : goal.loop-rest-init
 loop-rest-init g c = (
   begin c.requires.set c.requires.at c.point-rest.result.speed
-      (ap (λ (q : Point). q.speed) c.point-rest.ensures ∙ ap (λ (x : Table). speed_at x c.args.force.index) c.machine.ensures.machine),
+      (speed-in c.requires.set c.requires.at c.machine.ensures.machine c.point-rest.ensures),
   c.requires.current,
   of-plan c.requires.set c.requires.at,
 )

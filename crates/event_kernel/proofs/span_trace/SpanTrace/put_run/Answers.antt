@@ -5,7 +5,7 @@ use Rattle.freq_table.specs.Tables.{Table}
 use Rattle.sched_model.specs.declared.state.Row.{Row}
 use Rattle.sched_model.specs.declared.holder.Holder.{Holder}
 use Rattle.sched_model.specs.Plan.{point}
-use Rattle.sched_model.specs.Segments.{position_of}
+use Rattle.sched_model.specs.Notes.{position_of}
 use Rattle.sched_model.specs.States.{row_at, StateOf}
 use Rattle.energy.specs.Segments.{segment_energy}
 use Rattle.event_kernel.specs.SpanNotes.{kept}
