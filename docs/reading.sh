@@ -32,16 +32,18 @@ function read_sections() {
     section("headline", "Tasks, machines, demands", "freq_table task_model demand_list csv_text")
     section("headline", "The model", "sched_model")
     section("headline", "The text of a run", "trace_text trace_reader sched_model/Text done_lines")
-    section("headline", "The exact test under RM", "governor rm_response_laws rm_response")
+    section("headline", "The tests under RM", "rm_admit governor rm_response_laws rm_response")
     section("headline", "The promise", "event_kernel rtdvs_top")
     section("others", "Writing and probes", "dvs_base sched_model energy probes event_kernel rtdvs_top/Probing")
     section("others", "Replay and migration", "trace_reader replay_laws replay " \
-        "rtdvs_top/ReplayAnswer rtdvs_top/Exactness")
+        "rtdvs_top/Trace")
     section("others", "Deadlines below the periods", "edf_demand_laws edf_demand " \
-        "rtdvs_top/ConstrainAnswer rtdvs_top/Constraining rtdvs_top/Testing")
-    section("others", "A polling server", "request_list poll_server rtdvs_top/PollAnswer rtdvs_top/PollCauses")
-    section("others", "The least energy", "energy_bound rtdvs_top/LeastAnswer")
-    section("others", "Generated workloads", "workload rtdvs_top/WorkloadLines")
+        "rtdvs_top/Constrain")
+    section("others", "A polling server", "request_list poll_server rtdvs_top/Poll")
+    section("others", "The least energy", "energy_bound rtdvs_top/Least")
+    section("others", "Generated workloads", "workload rtdvs_top/Generated")
+    section("others", "The lines of faults", "dvs_base/FaultLines task_model/FaultLines freq_table/FaultLines " \
+        "words/FaultLines trace_reader/FaultLines demand_list/FaultLines request_list/FaultLines edf_demand/FaultLines")
     section("others", "Every answer and every refusal", "words rtdvs_top")
 }
 
@@ -324,7 +326,7 @@ function reach(set, id,    stack, n, k) {
 
 # The clauses of the top call and of its exit status; for --unreached all clauses.
 function reach_clauses(    i, top, headlines, codes) {
-    reach("met", "sched_model/Deadlines:IsMet")
+    reach("met", "sched_model/Ticks:IsMet")
     for (i = 1; i <= clauses; i++) {
         if (mode == "--unreached") reach(clause_class[i], "clause " i)
         top = clause_file[i] == "crates/rtdvs_top/src/top.rt" && clause_call[i] == "rtdvs"
@@ -334,7 +336,7 @@ function reach_clauses(    i, top, headlines, codes) {
     }
     if (headlines != 1) fault("no clause headline of rtdvs")
     if (codes != 1) fault("no clause of the exit status")
-    if (!("sched_model/Deadlines:IsMet" in kind)) fault("no definition IsMet")
+    if (!("sched_model/Ticks:IsMet" in kind)) fault("no definition IsMet")
 }
 
 # a row of the table: the definitions of a set, their lines, and their files

@@ -14,6 +14,14 @@ awk 'BEGIN {
         printf "[[point]]\nspeed = %d\nmillivolts = %d\n", 250 * k, 1000 + 1000 * k
 }' > machine.toml
 printf '[[task]]\nname = "t1"\nperiod = 1000000000000\nworst = 1\n' > seldom.toml
+awk 'BEGIN {
+    row = "[[task]]\nname = \"t%d\"\nperiod = %s\nworst = %d\n"
+    for (i = 0; i < 60; i++) printf row, i, 1, 1
+    printf row, 60, 1, 938
+    printf row, 61, 500000, 500000
+    printf row, 62, 500001, 500000
+    printf row, 63, "250000500000", 1
+}' > responses.toml
 printf '[[point]]\nspeed = 1\nmillivolts = 1000\n' > slow.toml
 awk 'BEGIN {
     name = "tttttttttttttttttttttttttttttttt"

@@ -10,6 +10,7 @@ for pair in "edf none" "edf static" "edf cc" "edf la" "rm none" "rm static" "rm 
 done
 time ./rtdvs run --tasks seldom.toml --machine slow.toml --scheduler edf --governor none --ticks 1000000000000
 time ./rtdvs workload --seed 1
+time ./rtdvs response --tasks responses.toml --machine machine.toml
 ./rtdvs run --tasks tasks64.toml --machine machine.toml --scheduler edf --governor none --ticks 76400000 > trace
 command time -v ./rtdvs replay --tasks tasks64.toml --machine machine.toml --trace trace
 command time -v ./rtdvs replay --tasks long.toml --machine machine.toml --trace long.trace
