@@ -19,11 +19,12 @@ use Rattle.ready_queue.specs.declared.entry.Entry.{Entry}
 use Rattle.ready_queue.specs.Orders.{due_before}
 use Rattle.ready_queue.specs.Entries.{QueueOf, IsAbsent, placed, ComesFirst}
 use Rattle.ready_queue.proofs.Placing.{All-at, Has-contains}
-use Rattle.agenda.specs.Agenda.{before_of, entry_of, HoldsTasks, is_open, HoldsReady, HoldsCalendar, ReadyOf, StandFor, row_key, IsFirstUndone, next_release, IsFirstDue, NonePast, opened_row, opened, due_left}
+use Rattle.agenda.specs.Agenda.{before_of, task_entry, HoldsTasks, is_open, HoldsReady, HoldsCalendar, ReadyOf, StandFor, row_key, IsFirstUndone, next_release, IsFirstDue, NonePast, next_job_row, opened, due_left}
 use Rattle.agenda.proofs.Tasks.{without, without-other, without-apart, held, absent, holds-keep, holds-drop, holds-without, holds-add}
 
 -- the entries of two tasks are ordered as the tasks are
-entries-before : (sch : Scheduler) (p : Plan) (s : StateOf) (i k : ℕ) → before_of sch (entry_of p s i) (entry_of p s k) ≡ stands_before (row_key sch p s) i k
+entries-before : (sch : Scheduler) (p : Plan) (s : StateOf) (i k : ℕ) → before_of sch (task_entry p s i) (task_entry p s k)
+    ≡ stands_before (row_key sch p s) i k
 entries-before Edf p s i k = refl
 entries-before Rm p s i k = refl
 
@@ -35,7 +36,7 @@ module _ (p : Plan) (s : StateOf) where
   pub first-undone : (xs : List Entry) (x : Entry) → HoldsReady p s xs → ComesFirst (before_of p.scheduler) x xs → IsFirstUndone p s (count p) x.task
   first-undone xs x h f = record { below = own.0; open_job = is-open x.task own.1; first = λ k lt b. go k lt b (row_at s k).done refl (cases_eq k x.task) }
     where
-      own : (x.task < count p) × (is_open s x.task ≡ true) × (x ≡ entry_of p s x.task)
+      own : (x.task < count p) × (is_open s x.task ≡ true) × (x ≡ task_entry p s x.task)
       own = held p s (is_open s) xs h x (Has-contains xs x f.among)
 
       go : (k : ℕ) → k < count p → stands_before (row_key p.scheduler p s) k x.task ≡ true → (d : Bool) → (row_at s k).done ≡ d
@@ -44,11 +45,11 @@ module _ (p : Plan) (s : StateOf) where
       go k lt b false e (inl same) =
           absurd (true≢false (sym b ∙ ap (λ (j : ℕ). stands_before (row_key p.scheduler p s) j x.task) same ∙ before-self (row_key p.scheduler p s) x.task))
       go k lt b false e (inr ne) =
-          let there : before_of p.scheduler x (entry_of p s k) ≡ true =
-          All-at (λ z. z.task ≢ x.task → before_of p.scheduler x z ≡ true) xs (entry_of p s k) f.others
-          (Has-contains xs (entry_of p s k) (h.all k lt (ap not e))) ne in
+          let there : before_of p.scheduler x (task_entry p s k) ≡ true =
+          All-at (λ z. z.task ≢ x.task → before_of p.scheduler x z ≡ true) xs (task_entry p s k) f.others
+          (Has-contains xs (task_entry p s k) (h.all k lt (ap not e))) ne in
           let ahead : stands_before (row_key p.scheduler p s) x.task k ≡ true =
-          sym (entries-before p.scheduler p s x.task k) ∙ ap (λ (z : Entry). before_of p.scheduler z (entry_of p s k)) (sym own.2) ∙ there in
+          sym (entries-before p.scheduler p s x.task k) ∙ ap (λ (z : Entry). before_of p.scheduler z (task_entry p s k)) (sym own.2) ∙ there in
           absurd (true≢false (sym b ∙ before-not (row_key p.scheduler p s) x.task k ahead))
 
   -- there is only one first task with an incomplete job
@@ -67,24 +68,16 @@ module _ (p : Plan) (s : StateOf) where
           by_order true b = absurd (true≢false (sym (o.first x.task u.below b) ∙ u.open_job))
           by_order false b = absurd (true≢false (sym (u.first i o.below (before-total (row_key p.scheduler p s) x.task i ne b)) ∙ o.open_job))
 
-  -- where a ready queue is empty, all jobs are complete
-  pub all-done : HoldsReady p s [] → (k : ℕ) → k < count p → (row_at s k).done ≡ true
-  all-done h k lt = go (row_at s k).done refl
-    where
-      go : (d : Bool) → (row_at s k).done ≡ d → (row_at s k).done ≡ true
-      go true e = e
-      go false e = absurd (Has-contains [] (entry_of p s k) (h.all k lt (ap not e)))
-
   module _ (xs : List Entry) (x : Entry) (h : HoldsCalendar p s xs) (f : ComesFirst due_before x xs) where
-    next-own : (x.task < count p) × (true ≡ true) × (x ≡ entry_of p s x.task)
+    next-own : (x.task < count p) × (true ≡ true) × (x ≡ task_entry p s x.task)
     next-own = held p s (λ i. true) xs h x (Has-contains xs x f.among)
 
     next-due : x.due ≡ (row_at s x.task).deadline
     next-due = ap (λ (z : Entry). z.due) next-own.2
 
-    next-before : (k : ℕ) → k < count p → k ≢ x.task → due_before x (entry_of p s k) ≡ true
-    next-before k lt ne = All-at (λ z. z.task ≢ x.task → due_before x z ≡ true) xs (entry_of p s k) f.others
-        (Has-contains xs (entry_of p s k) (h.all k lt refl)) ne
+    next-before : (k : ℕ) → k < count p → k ≢ x.task → due_before x (task_entry p s k) ≡ true
+    next-before k lt ne = All-at (λ z. z.task ≢ x.task → due_before x z ≡ true) xs (task_entry p s k) f.others
+        (Has-contains xs (task_entry p s k) (h.all k lt refl)) ne
 
     next-least : (k : ℕ) → k < count p → x.due ≤ (row_at s k).deadline
     next-least k lt = go (cases_eq k x.task)
@@ -109,7 +102,7 @@ module _ (p : Plan) (s : StateOf) where
           absurd (omega (arith, lt, order k b, same, e));
     }
       where
-        order : (k : ℕ) → due_before x (entry_of p s k) ≡ true → (x.due ≡ (row_at s k).deadline) → x.task < k
+        order : (k : ℕ) → due_before x (task_entry p s k) ≡ true → (x.due ≡ (row_at s k).deadline) → x.task < k
         order k b is = grind (arith, nat_tests)
 
     -- there is only one first task that is released now
@@ -119,12 +112,12 @@ module _ (p : Plan) (s : StateOf) where
         go : (i ≡ x.task) ⊎ (i ≢ x.task) → x.task ≡ i
         go (inl e) = sym e
         go (inr ne) =
-            let b : due_before x (entry_of p s i) ≡ true = next-before i d.below ne in
+            let b : due_before x (task_entry p s i) ≡ true = next-before i d.below ne in
             let now : x.due ≡ s.now = omega (arith, next-least i d.below, d.due, next-due, past x.task next-own.0) in
             let low : x.task < i = earlier b (now ∙ sym d.due) in
             absurd (d.first x.task low (sym next-due ∙ now))
           where
-            earlier : due_before x (entry_of p s i) ≡ true → x.due ≡ (row_at s i).deadline → x.task < i
+            earlier : due_before x (task_entry p s i) ≡ true → x.due ≡ (row_at s i).deadline → x.task < i
             earlier b e = grind (arith, nat_tests)
 
     pub none-due : NonePast p s → x.due ≢ s.now → (k : ℕ) → k < count p → (row_at s k).deadline ≢ s.now
@@ -141,7 +134,7 @@ row-there : (s : StateOf) (i : ℕ) (r : Row) (k : ℕ) → k ≢ i → row_at (
 row-there s i r k ne = get_or-set_other s.rows i k r no_row ne
 
 module _ (p : Plan) (s : StateOf) (i : ℕ) (r : Row) where
-  entry-there : (k : ℕ) → k ≢ i → entry_of p s k ≡ entry_of p (with_row s i r) k
+  entry-there : (k : ℕ) → k ≢ i → task_entry p s k ≡ task_entry p (with_row s i r) k
   entry-there k ne = ap (λ (q : Row). record { task = k; due = q.deadline; period = period p k }) (sym (row-there s i r k ne))
 
   open-there : (k : ℕ) → k ≢ i → is_open s k ≡ is_open (with_row s i r) k
@@ -157,7 +150,7 @@ module _ (p : Plan) (s : StateOf) (i : ℕ) (r : Row) where
       → HoldsTasks p (with_row s i r) test xs
   entries-kept test xs lt same h = holds-keep p s test (with_row s i r) test xs (λ k lk. refl) (λ k lk t. go k (cases_eq k i)) h
     where
-      go : (k : ℕ) → (k ≡ i) ⊎ (k ≢ i) → entry_of p s k ≡ entry_of p (with_row s i r) k
+      go : (k : ℕ) → (k ≡ i) ⊎ (k ≢ i) → task_entry p s k ≡ task_entry p (with_row s i r) k
       go k (inl e) = ap (λ (d : ℕ). record { task = k; due = d; period = period p k })
           (ap (λ (j : ℕ). (row_at s j).deadline) e ∙ sym same ∙ ap (λ (q : Row). q.deadline) (sym (row-here s i r lt))
           ∙ ap (λ (j : ℕ). (row_at (with_row s i r) j).deadline) (sym e))
@@ -193,7 +186,7 @@ module _ (p : Plan) (s : StateOf) (i : ℕ) (r : Row) where
 
   -- where the job of task i is now incomplete, a ready queue with its entry is right
   ready-opened : (xs : List Entry) → i < count p → i < length s.rows → r.done ≡ false → HoldsTasks p s (without i (is_open s)) xs
-      → HoldsReady p (with_row s i r) (placed (before_of p.scheduler) (entry_of p (with_row s i r) i) xs)
+      → HoldsReady p (with_row s i r) (placed (before_of p.scheduler) (task_entry p (with_row s i r) i) xs)
   ready-opened xs lp lt unfinished h =
       holds-add p (with_row s i r) (is_open (with_row s i r)) (before_of p.scheduler) i xs lp
       (ap (λ (q : Row). not q.done) (row-here s i r lt) ∙ ap not unfinished) (ready-others xs h)
@@ -257,7 +250,7 @@ module _ (p : Plan) (s : StateOf) (ready : ReadyOf) (calendar : QueueOf) (h : St
   -- the first release of the calendar takes place
   module _ (x : Entry) (rest : List Entry) (i : ℕ) (is : calendar.entries ≡ x ∷ rest) (apart : IsAbsent x.task rest) (own : x.task ≡ i)
       (lp : i < count p) (lt : i < length s.rows) (done : (row_at s i).done ≡ true) where
-    opened-releases : (r : Row) → HoldsCalendar p (with_row s i r) (placed due_before (entry_of p (with_row s i r) i) rest)
+    opened-releases : (r : Row) → HoldsCalendar p (with_row s i r) (placed due_before (task_entry p (with_row s i r) i) rest)
     opened-releases r =
         holds-add p (with_row s i r) (λ k. true) due_before i rest lp refl
         (others-kept p s i r (λ k. true) rest
@@ -269,29 +262,25 @@ module _ (p : Plan) (s : StateOf) (ready : ReadyOf) (calendar : QueueOf) (h : St
 
     -- the job that is released needs some units: the ready queue and the calendar have its entry
     pub stand-opened : StandFor p (opened p s i false)
-        (record ready { entries = placed (before_of p.scheduler) (entry_of p (opened p s i false) i) ready.entries })
-        (record calendar { entries = placed due_before (entry_of p (opened p s i false) i) rest })
+        (record ready { entries = placed (before_of p.scheduler) (task_entry p (opened p s i false) i) ready.entries })
+        (record calendar { entries = placed due_before (task_entry p (opened p s i false) i) rest })
     stand-opened = record {
       scheduler = h.scheduler;
       ready_limit = h.ready_limit;
-      ready_jobs = ready-opened p s i (opened_row (period p i) false (row_at s i)) ready.entries lp lt refl ready-absent;
+      ready_jobs = ready-opened p s i (next_job_row (period p i) false (row_at s i)) ready.entries lp lt refl ready-absent;
       calendar_limit = h.calendar_limit;
-      releases = opened-releases (opened_row (period p i) false (row_at s i));
+      releases = opened-releases (next_job_row (period p i) false (row_at s i));
     }
 
     -- the job that is released needs no units: the calendar alone has its entry
-    pub stand-closed : StandFor p (opened p s i true) ready (record calendar { entries = placed due_before (entry_of p (opened p s i true) i) rest })
+    pub stand-closed : StandFor p (opened p s i true) ready (record calendar { entries = placed due_before (task_entry p (opened p s i true) i) rest })
     stand-closed = record {
       scheduler = h.scheduler;
       ready_limit = h.ready_limit;
-      ready_jobs = ready-closed p s i (opened_row (period p i) true (row_at s i)) ready.entries lt refl ready-absent;
+      ready_jobs = ready-closed p s i (next_job_row (period p i) true (row_at s i)) ready.entries lt refl ready-absent;
       calendar_limit = h.calendar_limit;
-      releases = opened-releases (opened_row (period p i) true (row_at s i));
+      releases = opened-releases (next_job_row (period p i) true (row_at s i));
     }
-
-    -- before the release the ready queue has no entry of the task
-    pub opened-absent : IsAbsent i ready.entries
-    opened-absent = absent p s (is_open s) i ready.entries h.ready_jobs (ap not done)
 
 -- the first entry of a calendar is that of the first task that is due, and `rest` are the others
 pub record TakesDue (p : Plan) (s : StateOf) (i : ℕ) (xs rest : List Entry) : Type 0 where
@@ -304,7 +293,7 @@ pub takes-due : (p : Plan) (s : StateOf) (i : ℕ) (xs rest : List Entry) (r : O
     → MatchOption r ((xs ≡ []) × (rest ≡ [])) (λ e. xs ≡ e ∷ rest) → IfSome r (λ e. ComesFirst due_before e xs) → IfSome r (λ e. IsAbsent e.task rest)
     → TakesDue p s i xs rest
 takes-due p s i xs rest None h past d e f o =
-    absurd (Has-contains [] (entry_of p s i) (subst (λ (l : List Entry). Contains l (entry_of p s i)) e.0 (h.all i d.below refl)))
+    absurd (Has-contains [] (task_entry p s i) (subst (λ (l : List Entry). Contains l (task_entry p s i)) e.0 (h.all i d.below refl)))
 takes-due p s i xs rest (Some x) h past d e f o = record { entry = x; is = e; out = o; own = first-due-own p s xs x h f i past d }
 
 -- the first entry of a ready queue is that of the first task with an incomplete job, and it can be taken out
@@ -313,7 +302,7 @@ pub takes-undone : (p : Plan) (s : StateOf) (i : ℕ) (xs rest : List Entry) (r 
     → MatchOption r ((xs ≡ []) × (rest ≡ [])) (λ e. xs ≡ e ∷ rest) → IfSome r (λ e. ComesFirst (before_of sch) e xs) → IfSome r (λ e. IsAbsent e.task rest)
     → TakesDue p s i xs rest
 takes-undone p s i xs rest None sch same h u m f o =
-    absurd (Has-contains [] (entry_of p s i) (subst (λ (l : List Entry). Contains l (entry_of p s i)) m.0 (h.all i u.below (ap not u.open_job))))
+    absurd (Has-contains [] (task_entry p s i) (subst (λ (l : List Entry). Contains l (task_entry p s i)) m.0 (h.all i u.below (ap not u.open_job))))
 takes-undone p s i xs rest (Some x) sch same h u m f o =
     record { entry = x; is = m; out = o; own = first-undone-own p s xs x i h (subst (λ (c : Scheduler). ComesFirst (before_of c) x xs) same f) u }
 
@@ -323,15 +312,9 @@ no-first [] e = refl
 no-first (x ∷ xs) e = absurd (cc)
 
 module _ (p : Plan) (s : StateOf) (ready : ReadyOf) (calendar : QueueOf) (h : StandFor p s ready calendar) where
-  pub ready-first : (x : Entry) → ComesFirst (before_of ready.scheduler) x ready.entries → IsFirstUndone p s (count p) x.task
-  ready-first x f = first-undone p s ready.entries x h.ready_jobs (subst (λ (c : Scheduler). ComesFirst (before_of c) x ready.entries) h.scheduler f)
-
-  pub ready-none : ready.entries ≡ [] → (k : ℕ) → k < count p → (row_at s k).done ≡ true
-  ready-none e = all-done p s (subst (HoldsReady p s) e h.ready_jobs)
-
   -- a calendar of at least one task has a first entry
   pub calendar-some : 0 < count p → calendar.entries ≢ []
-  calendar-some lt e = Has-contains [] (entry_of p s 0) (subst (λ (l : List Entry). Contains l (entry_of p s 0)) e (h.releases.all 0 lt refl))
+  calendar-some lt e = Has-contains [] (task_entry p s 0) (subst (λ (l : List Entry). Contains l (task_entry p s 0)) e (h.releases.all 0 lt refl))
 
   -- after a completion the new ready queue and the calendar represent the new state
   pub after-finish : (i : ℕ) (ready' : ReadyOf) (r : Option Entry) → IsFirstUndone p s (count p) i → length s.rows ≡ count p
@@ -354,58 +337,39 @@ module _ (p : Plan) (s : StateOf) (ready : ReadyOf) (calendar : QueueOf) (h : St
     taken : TakesDue p s i calendar.entries calendar'.entries
     taken = takes-due p s i calendar.entries calendar'.entries r h.releases past d m f o
 
-    pub due-absent : IsAbsent i calendar'.entries
-    due-absent = subst (λ (j : ℕ). IsAbsent j calendar'.entries) taken.own taken.out
-
-    pub due-below : i < calendar'.limit
-    due-below = omega (arith, limit, h.calendar_limit, d.below)
-
-    pub job-absent : IsAbsent i ready.entries
-    job-absent = opened-absent p s ready calendar h taken.entry calendar'.entries i taken.is taken.out taken.own d.below lt done
-
-    pub job-below : i < ready.limit
-    job-below = omega (arith, h.ready_limit, d.below)
-
     module _ (next : Entry) (calendar'' : QueueOf) (limit' : calendar''.limit ≡ calendar'.limit)
         (entries : calendar''.entries ≡ placed due_before next calendar'.entries) where
       as_calendar : (e : Entry) → next ≡ e → calendar'' ≡ record calendar { entries = placed due_before e calendar'.entries }
       as_calendar e is = ap₂ (λ (l : ℕ) (xs : List Entry). record { limit = l; entries = xs }) (limit' ∙ limit)
           (entries ∙ ap (λ (x : Entry). placed due_before x calendar'.entries) is)
 
-      pub after-open : (ready' : ReadyOf) → next ≡ entry_of p (opened p s i false) i
+      pub after-open : (ready' : ReadyOf) → next ≡ task_entry p (opened p s i false) i
           → ready' ≡ record ready { entries = placed (before_of ready.scheduler) next ready.entries } → StandFor p (opened p s i false) ready' calendar''
       after-open ready' is put =
           let all : StandFor p (opened p s i false)
-          (record ready { entries = placed (before_of p.scheduler) (entry_of p (opened p s i false) i) ready.entries })
-          (record calendar { entries = placed due_before (entry_of p (opened p s i false) i) calendar'.entries }) =
+          (record ready { entries = placed (before_of p.scheduler) (task_entry p (opened p s i false) i) ready.entries })
+          (record calendar { entries = placed due_before (task_entry p (opened p s i false) i) calendar'.entries }) =
           stand-opened p s ready calendar h taken.entry calendar'.entries i taken.is taken.out taken.own d.below lt done in
           subst (λ (q : ReadyOf). StandFor p (opened p s i false) q calendar'')
           (ap₂ (λ (c : Scheduler) (x : Entry). record ready { entries = placed (before_of c) x ready.entries }) (sym h.scheduler) (sym is) ∙ sym put)
           (subst (λ (q : QueueOf). StandFor p (opened p s i false)
-          (record ready { entries = placed (before_of p.scheduler) (entry_of p (opened p s i false) i) ready.entries }) q)
-          (sym (as_calendar (entry_of p (opened p s i false) i) is)) all)
+          (record ready { entries = placed (before_of p.scheduler) (task_entry p (opened p s i false) i) ready.entries }) q)
+          (sym (as_calendar (task_entry p (opened p s i false) i) is)) all)
 
-      pub after-closed : next ≡ entry_of p (opened p s i true) i → StandFor p (opened p s i true) ready calendar''
+      pub after-closed : next ≡ task_entry p (opened p s i true) i → StandFor p (opened p s i true) ready calendar''
       after-closed is =
-          subst (λ (q : QueueOf). StandFor p (opened p s i true) ready q) (sym (as_calendar (entry_of p (opened p s i true) i) is))
+          subst (λ (q : QueueOf). StandFor p (opened p s i true) ready q) (sym (as_calendar (task_entry p (opened p s i true) i) is))
           (stand-closed p s ready calendar h taken.entry calendar'.entries i taken.is taken.out taken.own d.below lt done)
 
 -- the entry that `renew` puts in is that of the task after its release
 pub opened-entry : (p : Plan) (s : StateOf) (i : ℕ) (done : Bool) (per due : ℕ) → i < length s.rows → per ≡ period p i → due ≡ (row_at s i).deadline
-    → record { task = i; due = due + per; period = per } ≡ entry_of p (opened p s i done) i
+    → record { task = i; due = due + per; period = per } ≡ task_entry p (opened p s i done) i
 opened-entry p s i done per due lt is same =
     ap₂ (λ (d n : ℕ). record { task = i; due = d; period = n })
-    (ap₂ (λ (a b : ℕ). a + b) same is ∙ ap (λ (q : Row). q.deadline) (sym (row-here s i (opened_row (period p i) done (row_at s i)) lt)))
+    (ap₂ (λ (a b : ℕ). a + b) same is ∙ ap (λ (q : Row). q.deadline) (sym (row-here s i (next_job_row (period p i) done (row_at s i)) lt)))
     is
 
--- the calendar of the opening state, with the tasks put in so far
-pub none-held : (p : Plan) (s : StateOf) (xs : List Entry) → xs ≡ [] → HoldsTasks p s (λ i. nat_lt i 0) xs
-none-held p s xs e = subst (HoldsTasks p s (λ i. nat_lt i 0)) (sym e) (record { each = tt; all = λ i lt t. absurd (grind (arith, nat_tests)) })
-
-pub next-absent : (p : Plan) (s : StateOf) (m : ℕ) (xs : List Entry) → HoldsTasks p s (λ i. nat_lt i m) xs → IsAbsent m xs
-next-absent p s m xs h = absent p s (λ i. nat_lt i m) m xs h (grind (arith, nat_tests))
-
-pub more-held : (p : Plan) (s : StateOf) (m : ℕ) (e : Entry) (xs ys : List Entry) → m < count p → HoldsTasks p s (λ i. nat_lt i m) xs → e ≡ entry_of p s m
+pub more-held : (p : Plan) (s : StateOf) (m : ℕ) (e : Entry) (xs ys : List Entry) → m < count p → HoldsTasks p s (λ i. nat_lt i m) xs → e ≡ task_entry p s m
     → ys ≡ placed due_before e xs → HoldsTasks p s (λ i. nat_lt i (m + 1)) ys
 more-held p s m e xs ys lt h is put =
     subst (HoldsTasks p s (λ i. nat_lt i (m + 1))) (sym (put ∙ ap (λ (z : Entry). placed due_before z xs) is))
@@ -427,7 +391,7 @@ opening-ready p xs e = subst (HoldsReady p (opening p)) (sym e) (record {
 })
 
 pub opening-entry : (p : Plan) (m first per : ℕ) → m < count p → first ≡ offset p m → per ≡ period p m
-    → record { task = m; due = first; period = per } ≡ entry_of p (opening p) m
+    → record { task = m; due = first; period = per } ≡ task_entry p (opening p) m
 opening-entry p m first per lt begins is =
     ap₂ (λ (d n : ℕ). record { task = m; due = d; period = n })
     (begins ∙ ap (λ (q : Row). q.deadline) (sym (get-table (count p) (λ j. opening_row (offset p j) (worst p j)) m no_row lt))) is
@@ -452,8 +416,8 @@ due-falls p s i done lt some d =
     own : ℕ → ℕ
     own k = if nat_eq k i then 1 else 0
 
-    here : row_at s' i ≡ opened_row (period p i) done (row_at s i)
-    here = row-here s i (opened_row (period p i) done (row_at s i)) lt
+    here : row_at s' i ≡ next_job_row (period p i) done (row_at s i)
+    here = row-here s i (next_job_row (period p i) done (row_at s i)) lt
 
     split : (k : ℕ) → (k ≡ i) ⊎ (k ≢ i) → before k ≡ after k + own k
     split k (inl e) =
@@ -466,7 +430,7 @@ due-falls p s i done lt some d =
         later = let is : (row_at s i).deadline ≡ s.now = d.due in grind (arith, nat_tests)
     split k (inr ne) =
         let other : nat_eq k i ≡ false = grind (arith, nat_tests) in
-        rw (row-there s i (opened_row (period p i) done (row_at s i)) k ne, other) (omega arith)
+        rw (row-there s i (next_job_row (period p i) done (row_at s i)) k ne, other) (omega arith)
 
 -- the next release is now exactly where some task is to be released now
 pub release-now : (p : Plan) (s : StateOf) → 0 < count p → NonePast p s

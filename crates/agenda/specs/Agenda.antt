@@ -18,13 +18,13 @@ before_of Edf = due_before
 before_of Rm = period_before
 
 -- the entry of a task: the deadline of its latest job, which is its next release, and its period
-abbrev pub entry_of : Plan → StateOf → ℕ → Entry
-entry_of p s i = record { task = i; due = (row_at s i).deadline; period = period p i }
+abbrev pub task_entry : Plan → StateOf → ℕ → Entry
+task_entry p s i = record { task = i; due = (row_at s i).deadline; period = period p i }
 
 -- the entries are those of exactly the tasks that pass the test
 pub record HoldsTasks (p : Plan) (s : StateOf) (test : ℕ → Bool) (entries : List Entry) : Type 0 where
-  pub each : AllByRecursion (λ e. (e.task < count p) × (test e.task ≡ true) × (e ≡ entry_of p s e.task)) entries
-  pub all : (i : ℕ) → i < count p → test i ≡ true → Contains entries (entry_of p s i)
+  pub each : AllByRecursion (λ e. (e.task < count p) × (test e.task ≡ true) × (e ≡ task_entry p s e.task)) entries
+  pub all : (i : ℕ) → i < count p → test i ≡ true → Contains entries (task_entry p s i)
 
 -- whether the latest job of a task is incomplete
 abbrev pub is_open : StateOf → ℕ → Bool
@@ -78,12 +78,12 @@ abbrev pub NonePast : Plan → StateOf → Type 0
 NonePast p s = (i : ℕ) → i < count p → s.now ≤ (row_at s i).deadline
 
 -- a row after the release of its next job, which is complete at once where `done`
-abbrev pub opened_row : ℕ → Bool → Row → Row
-opened_row period done row = record (released_row period row) { done = done }
+abbrev pub next_job_row : ℕ → Bool → Row → Row
+next_job_row period done row = record (released_row period row) { done = done }
 
 -- the state after the release of the next job of task i, which is complete at once where `done`
 abbrev pub opened : Plan → StateOf → ℕ → Bool → StateOf
-opened p s i done = record s { rows = slice_set s.rows i (opened_row (period p i) done (row_at s i)) }
+opened p s i done = record s { rows = slice_set s.rows i (next_job_row (period p i) done (row_at s i)) }
 
 -- the number of tasks that are still to be released now
 abbrev pub due_left : Plan → StateOf → ℕ

@@ -21,7 +21,8 @@ pub struct Ready {
 }
 
 impl Model for Ready {
-    ghost use Rattle.agenda.specs.Ready.{ReadyOf, ready_of};
+    ghost use Rattle.agenda.specs.Agenda.{ReadyOf};
+    ghost use Rattle.agenda.specs.Ready.{ready_of};
 
     ghost Value = { ReadyOf };
 

@@ -6,7 +6,7 @@ ghost use Rattle.sched_model.specs.Plan.{count};
 ghost use Rattle.sched_model.specs.CycleDemand.{rate_for};
 ghost use Rattle.sched_model.specs.States.{opening, row_at, IsOfPlan};
 ghost use Rattle.governor.specs.Serving.{ServesEdf};
-ghost use Rattle.cc_edf_laws.specs.Cycle.{cycle_demand, sum_charged, Counts};
+ghost use Rattle.cc_edf_laws.specs.Cycle.{edf_cycle_demand, sum_charged, Counts};
 ghost use Rattle.cc_edf_laws.specs.Conditions.{CycleCalm, CycleSafe};
 ghost use Rattle.cc_edf_laws.proofs.CycleLaws.{cycle_laws};
 ghost use Rattle.cc_edf_laws.proofs.Publishing.{cycle_publishing};
@@ -64,7 +64,7 @@ impl CcEdf {
     // The published demand: the sum of the rates over the hyperperiod, in work units per tick, not reduced.
     fn sum_of_rates(&self, plan: &Admitted, _view: &State) -> Frac
         requires { Counts self.now.rates.items self.now.sum plan.now _view.now }
-        ensures { result ≡ cycle_demand plan.now _view.entry.now }
+        ensures { result ≡ edf_cycle_demand plan.now _view.entry.now }
     {
         Frac {
             num: self.sum,
@@ -78,7 +78,7 @@ impl Governor for CcEdf {
 
     ghost serves = { ServesEdf };
 
-    ghost demand = { cycle_demand };
+    ghost demand = { edf_cycle_demand };
 
     ghost calm = { CycleCalm };
 
@@ -115,9 +115,9 @@ impl Governor for CcEdf {
     fn choose(&self, plan: &Admitted, view: &State) -> Choice
         requires of { IsOfPlan plan.now view.now }
         requires counters { Counts self.now.rates.items self.now.sum plan.now view.now }
-        ensures demand { result.demand ≡ cycle_demand plan.now view.entry.now }
-        ensures index { result.index ≡ lowest_entry plan.now.machine (cycle_demand plan.now view.entry.now) }
-        ensures met { result.met ≡ (lowest_pick plan.now.machine (cycle_demand plan.now view.entry.now)).met }
+        ensures demand { result.demand ≡ edf_cycle_demand plan.now view.entry.now }
+        ensures index { result.index ≡ lowest_entry plan.now.machine (edf_cycle_demand plan.now view.entry.now) }
+        ensures met { result.met ≡ (lowest_pick plan.now.machine (edf_cycle_demand plan.now view.entry.now)).met }
         ensures always { result.met ≡ true }
     {
         chosen(plan, self.sum_of_rates(plan, view))

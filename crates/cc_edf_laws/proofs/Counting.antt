@@ -1,9 +1,9 @@
 -- What each call makes of the kept rates and their sum.
-use Rattle.std.proofs.Common.{◌≡◌, ◌≢◌, ℕ, ◌+◌, ◌-◌, ◌*◌, ◌/◌, ◌<◌, ◌≤◌, ◌^◌, Bool, true, false, eqb, List, length, length-set, get_or-set_same, get_or-set_other, refl, sym, ◌∙◌, ap, subst, arith}
+use Rattle.std.proofs.Common.{◌≡◌, ◌≢◌, ℕ, ◌+◌, ◌-◌, ◌*◌, ◌/◌, ◌<◌, ◌≤◌, ◌^◌, true, false, List, length, length-set, get_or-set_same, get_or-set_other, refl, sym, ◌∙◌, ap, subst, arith, ◌⊎◌, inl, inr}
 use Rattle.std.specs.Prelude.{slice_set, slice_index}
 use Rattle.std.proofs.Math.Nat.{mul-le-mul_right}
 use Rattle.std.proofs.Math.ListN.{replicate, get_or-replicate, length-replicate}
-use Rattle.std.proofs.lemmas.Bool.Decides.{nat_tests}
+use Rattle.std.proofs.lemmas.Bool.{cases_eq}
 use Rattle.std.proofs.lemmas.List.{set-get_or}
 use Rattle.std.proofs.lemmas.Nat.{mul-le}
 use Rattle.grid_fraction.proofs.Sums.{sum_below-zero, sum_below-change}
@@ -53,7 +53,7 @@ module _ (plan : Plan) (s : StateOf) (of : IsOfPlan plan s) (rates : List ℕ) (
   counts-set row new is = record {
     served = counts.served;
     one_each = length-set rates i new ∙ counts.one_each;
-    rate_is = λ k lt. at k lt (eqb k i) refl;
+    rate_is = λ k lt. at k lt (cases_eq k i);
     sum_is =
         let moved =
         sum_below-change (count plan) (charged_rate_in plan s) (charged_rate_in plan (written row)) i h (λ k lt ne. other k ne) in
@@ -68,15 +68,11 @@ module _ (plan : Plan) (s : StateOf) (of : IsOfPlan plan s) (rates : List ℕ) (
       other : (k : ℕ) → k ≢ i → charged_rate_in plan (written row) k ≡ charged_rate_in plan s k
       other k ne = ap (λ (r : Row). charged_of r * (hyper plan / period plan k)) (row-other row k ne)
 
-      at : (k : ℕ) → k < count plan → (b : Bool) → eqb k i ≡ b
-          → slice_index (slice_set rates i new) k ≡ charged_rate_in plan (written row) k
-      at k lt true e =
-          let same : k ≡ i = grind (arith, nat_tests) in
-          ap (λ m. slice_index (slice_set rates i new) m) same
-          ∙ (get_or-set_same rates i new 0 rate_place ∙ (sym own ∙ ap (charged_rate_in plan (written row)) (sym same)))
-      at k lt false e =
-          let ne : k ≢ i = grind (arith, nat_tests) in
-          get_or-set_other rates i k new 0 ne ∙ (counts.rate_is k lt ∙ sym (other k ne))
+      at : (k : ℕ) → k < count plan → (k ≡ i) ⊎ (k ≢ i) → slice_index (slice_set rates i new) k ≡ charged_rate_in plan (written row) k
+      at k lt (inl same) =
+          subst (λ m. slice_index (slice_set rates i new) m ≡ charged_rate_in plan (written row) m) (sym same)
+          (get_or-set_same rates i new 0 rate_place ∙ sym own)
+      at k lt (inr ne) = get_or-set_other rates i k new 0 ne ∙ (counts.rate_is k lt ∙ sym (other k ne))
 
   -- a release charges the task's worst case
   pub counts-released : Counts (slice_set rates i ((row_at s i).worst * (hyper plan / period plan i)))

@@ -25,7 +25,7 @@ use Rattle.governor.proofs.Ticks.{demand_most}
 use Rattle.governor.specs.Edf.{due_by}
 use Rattle.governor.proofs.EdfLaws.{closed_row}
 use Rattle.governor.proofs.Fits.{full_enough}
-use Rattle.cc_edf_laws.specs.Cycle.{charged_of, charged_rate_in, cycle_demand}
+use Rattle.cc_edf_laws.specs.Cycle.{charged_of, charged_rate_in, edf_cycle_demand}
 use Rattle.cc_edf_laws.specs.Conditions.{due_work, credit, CycleCalm, CycleSafe}
 use Rattle.cc_edf_laws.proofs.Rows.{owed, credit_of, boundary_pays, tick_pays, tick_charge, charged_most}
 use Rattle.cc_edf_laws.proofs.Shares.{due_closes, due_full, later_none}
@@ -51,31 +51,31 @@ cycle_opens plan d le =
     rw none (omega (arith, mul-zero (hyper plan)))
 
 -- each charge is at most the worst case, so the sum of the rates is at most that of the test
-pub cycle_within : (plan : Plan) (s : StateOf) → IsOfPlan plan s → (cycle_demand plan s).num ≤ total_rate plan
+pub cycle_within : (plan : Plan) (s : StateOf) → IsOfPlan plan s → (edf_cycle_demand plan s).num ≤ total_rate plan
 cycle_within plan s of =
     sum_below-le (count plan) (charged_rate_in plan s) (rate plan) (λ i h.
     let most : charged_of (row_at s i) ≤ worst plan i = (let m = charged_most (row_at s i) (of.used i h) in let w = of.worst i h in omega arith) in
     mul-le-mul_right (hyper plan / period plan i) most)
 
 pub cycle_fits : (plan : Plan) (s : StateOf) → IsAdmitted plan → ServesEdf plan.scheduler → IsOfPlan plan s
-    → (cycle_demand plan s).num ≤ top_speed plan * hyper plan
+    → (edf_cycle_demand plan s).num ≤ top_speed plan * hyper plan
 cycle_fits plan s adm edf of =
     let test : total_rate plan ≤ top_speed plan * hyper plan = (full_enough plan adm).edf edf in
     omega (arith, cycle_within plan s of, test)
 
 -- in each state of an admitted plan under EDF some entry meets the demand
 pub cycle_met : (plan : Plan) (s : StateOf) → IsAdmitted plan → ServesEdf plan.scheduler → IsOfPlan plan s
-    → (lowest_pick plan.machine (cycle_demand plan s)).met ≡ true
-cycle_met plan s adm edf of = picked_met plan.machine adm.limits.machine (cycle_demand plan s) (cycle_fits plan s adm edf of)
+    → (lowest_pick plan.machine (edf_cycle_demand plan s)).met ≡ true
+cycle_met plan s adm edf of = picked_met plan.machine adm.limits.machine (edf_cycle_demand plan s) (cycle_fits plan s adm edf of)
 
-pub cycle_den : (plan : Plan) (s : StateOf) → IsWithinLimits plan → (0 < (cycle_demand plan s).den) × ((cycle_demand plan s).den ≤ 2 ^ 64)
+pub cycle_den : (plan : Plan) (s : StateOf) → IsWithinLimits plan → (0 < (edf_cycle_demand plan s).den) × ((edf_cycle_demand plan s).den ≤ 2 ^ 64)
 cycle_den plan s lim = (some_hyper plan lim, let low = low_hyper plan lim in omega arith)
 
 cycle_chooses : (plan : Plan) (s : StateOf) → IsAdmitted plan → ServesEdf plan.scheduler → IsOfPlan plan s
-    → CycleCalm plan s → CycleSafe plan s (lowest_entry plan.machine (cycle_demand plan s))
+    → CycleCalm plan s → CycleSafe plan s (lowest_entry plan.machine (edf_cycle_demand plan s))
 cycle_chooses plan s adm edf of calm = record {
   calm = calm;
-  rate = picked_meets plan.machine adm.limits.machine (cycle_demand plan s) (cycle_fits plan s adm edf of);
+  rate = picked_meets plan.machine adm.limits.machine (edf_cycle_demand plan s) (cycle_fits plan s adm edf of);
 }
 
 module _ (plan : Plan) (lim : IsWithinLimits plan) (dem : JobDemands) (s : StateOf) (bel : Belongs plan dem s) where
@@ -133,7 +133,8 @@ module _ (plan : Plan) (lim : IsWithinLimits plan) (dem : JobDemands) (s : State
 
     -- where the tasks due by d need all units of the tick, their work stays paid for
     all_paid : (d : ℕ) → s.now + 1 ≤ d → f ≤ sum_where (count plan) (due_by s d) (left_in dem s)
-        → hyper plan * due_work plan next d + hyper plan * f + credit plan s d ≤ hyper plan * due_work plan s d + credit plan next d + (cycle_demand plan s).num
+        → hyper plan * due_work plan next d + hyper plan * f + credit plan s d
+        ≤ hyper plan * due_work plan s d + credit plan next d + (edf_cycle_demand plan s).num
     all_paid d le high =
         let n = count plan in
         let h = hyper plan in
@@ -157,7 +158,7 @@ module _ (plan : Plan) (lim : IsWithinLimits plan) (dem : JobDemands) (s : State
           sum_below-times n h (λ i. owed d (row_at s i)),
         )
 
-    rates_fall : (cycle_demand plan next).num ≤ (cycle_demand plan s).num
+    rates_fall : (edf_cycle_demand plan next).num ≤ (edf_cycle_demand plan s).num
     rates_fall =
         sum_below-le (count plan) (charged_rate_in plan next) (charged_rate_in plan s) (λ i h.
         let row = row_at s i in
@@ -165,14 +166,14 @@ module _ (plan : Plan) (lim : IsWithinLimits plan) (dem : JobDemands) (s : State
         (mul-le-mul_right (jobs i) (tick_charge row.done (dem i row.job) row.used row.worst (share_in shares i)
         (demand_most plan dem s bel i h) (legal_most plan dem f s shares legal i h))))
 
-    cycle_ticks : (cycle_demand plan s).num ≤ f * hyper plan → CycleCalm plan s → CycleCalm plan next
+    cycle_ticks : (edf_cycle_demand plan s).num ≤ f * hyper plan → CycleCalm plan s → CycleCalm plan next
     cycle_ticks fits calm d le =
         elim (cases_lt (sum_where (count plan) (due_by s d) (left_in dem s)) f) [
           | inl low ↦ rw (all_done d (omega arith)) (omega (arith, mul-zero (hyper plan)))
           | inr high ↦ omega (arith, all_paid d le high, calm d (omega arith), fits)
         ]
 
-pub cycle_laws : GovernorLaws Cycle ServesEdf cycle_demand CycleCalm CycleSafe
+pub cycle_laws : GovernorLaws Cycle ServesEdf edf_cycle_demand CycleCalm CycleSafe
 cycle_laws = record {
   pairs = λ sch edf. subst (λ (s : Scheduler). IsPair s Cycle) (sym edf) refl;
   low_den = λ plan s on of dec. cycle_den plan s on.admitted.limits;

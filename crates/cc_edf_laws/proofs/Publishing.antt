@@ -18,7 +18,7 @@ use Rattle.sched_model.proofs.Joining.{row_at-state_of}
 use Rattle.governor.specs.Schedule.{Publishes, PublishingLaws}
 use Rattle.governor.specs.Serving.{ServesEdf}
 use Rattle.governor.proofs.OneSchedule.{publishing_laws}
-use Rattle.cc_edf_laws.specs.Cycle.{charged_of, charged_rate_in, cycle_demand}
+use Rattle.cc_edf_laws.specs.Cycle.{charged_of, charged_rate_in, edf_cycle_demand}
 
 -- a complete job is charged its demand, which it has had
 charge-is : (b : Bool) (d u w : ℕ) → nat_le d u ≡ b → u ≤ d → (if b then d else w) ≡ (if b then u else w)
@@ -34,16 +34,16 @@ charged-state p dem ask past h i lt =
     ∙ sym (ap charged_of (row_at-state_of p dem past i lt))
 
 cycle-state : (p : Plan) (dem : JobDemands) (ask : List Tick → Frac) (past : List Tick) → IsScheduleBy p dem ask past
-    → edf_cycle p dem past ≡ cycle_demand p (state_of p dem past)
+    → edf_cycle p dem past ≡ edf_cycle_demand p (state_of p dem past)
 cycle-state p dem ask past h =
     ap (λ (num : ℕ). record { num = num; den = hyper p })
     (sum_below-same (count p) (λ i. charged p dem past i * (hyper p / period p i)) (charged_rate_in p (state_of p dem past))
     (λ i lt. ap (λ v. v * (hyper p / period p i)) (charged-state p dem ask past h i lt)))
 
-pub published-cycle : (p : Plan) → ServesEdf p.scheduler → Publishes cycle_demand Cycle p
+pub published-cycle : (p : Plan) → ServesEdf p.scheduler → Publishes edf_cycle_demand Cycle p
 unfolding published
 published-cycle p edf dem within ask past h =
     ap (λ (sch : Scheduler). demand_by sch Cycle p dem past) edf ∙ cycle-state p dem ask past h
 
-pub cycle_publishing : PublishingLaws Cycle ServesEdf cycle_demand
-cycle_publishing = publishing_laws cycle_demand Cycle ServesEdf (λ p adm edf. published-cycle p edf)
+pub cycle_publishing : PublishingLaws Cycle ServesEdf edf_cycle_demand
+cycle_publishing = publishing_laws edf_cycle_demand Cycle ServesEdf (λ p adm edf. published-cycle p edf)

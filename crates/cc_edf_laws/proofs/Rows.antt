@@ -3,6 +3,7 @@ use Rattle.std.proofs.Common.{◌≡◌, inl, inr, ℕ, ◌+◌, ◌-◌, ◌*�
 use Rattle.std.specs.Prelude.{◌==◌, ◌||◌, nat_le, if◌then◌else◌}
 use Rattle.std.proofs.Math.Nat.{le_trans, mul-le-mul_left, mul-zero, sub-zero}
 use Rattle.std.proofs.lemmas.Bool.{le-leb, lt-leb, cases_lt, cases_Bool, eqb-true}
+use Rattle.std.proofs.lemmas.Bool.Decides.{nat_tests}
 use Rattle.sched_model.specs.declared.state.Row.{Row}
 use Rattle.sched_model.specs.Plan.{Plan, period}
 use Rattle.sched_model.specs.Jobs.{JobDemands}
@@ -125,17 +126,8 @@ tick_pays false h q p need used worst due now d sh whole lo ld soon open_job mos
 -- a tick raises no charge
 pub tick_charge : (done : Bool) (need used worst sh : ℕ) → need ≤ worst → sh ≤ (if done then 0 else need - used)
     → (if (done || (used + sh == need)) then used + sh else worst) ≤ (if done then used else worst)
-tick_charge true need used worst sh most own = omega arith
-tick_charge false need used worst sh most own =
-    elim (cases_Bool (used + sh == need)) [
-      | inl closes ↦ let is : used + sh ≡ need = eqb-true (used + sh) need closes in rw closes (omega arith)
-      | inr goes ↦ rw goes (omega arith)
-    ]
+tick_charge done need used worst sh most own = grind (arith, nat_tests)
 
 -- a charge is at most the worst case
 pub charged_most : (row : Row) → row.used ≤ row.worst → charged_of row ≤ row.worst
-charged_most row le = most row.done row.used row.worst le
-  where
-    most : (b : Bool) (u w : ℕ) → u ≤ w → (if b then u else w) ≤ w
-    most true u w le = le
-    most false u w le = omega arith
+charged_most row le = grind (arith, nat_tests)

@@ -6,7 +6,7 @@ use Rattle.sched_model.specs.Plan.{Plan, count, hyper}
 use Rattle.sched_model.specs.States.{StateOf, row_at}
 use Rattle.governor.specs.Steps.{wleft_at}
 use Rattle.governor.specs.Edf.{due_by}
-use Rattle.cc_edf_laws.specs.Cycle.{charged_rate_in, cycle_demand}
+use Rattle.cc_edf_laws.specs.Cycle.{charged_rate_in, edf_cycle_demand}
 
 -- the work that the tasks due by d may still need at most
 abbrev pub due_work : Plan → StateOf → ℕ → ℕ
@@ -23,4 +23,4 @@ CycleCalm plan s = (d : ℕ) → s.now ≤ d → hyper plan * due_work plan s d 
 -- the condition CycleCalm holds, and the entry in force meets the sum of the rates
 pub record CycleSafe (plan : Plan) (s : StateOf) (k : ℕ) : Type 0 where
   pub calm : CycleCalm plan s
-  pub rate : (cycle_demand plan s).num ≤ speed_at plan.machine k * hyper plan
+  pub rate : (edf_cycle_demand plan s).num ≤ speed_at plan.machine k * hyper plan

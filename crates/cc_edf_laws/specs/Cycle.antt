@@ -16,8 +16,8 @@ abbrev pub charged_rate_in : Plan → StateOf → ℕ → ℕ
 charged_rate_in plan s i = rate_for plan i (charged_of (row_at s i))
 
 -- the published demand: the sum of the rates, over H
-abbrev pub cycle_demand : Plan → StateOf → Frac
-cycle_demand plan s = edf_cycle_of plan (λ i. charged_of (row_at s i))
+abbrev pub edf_cycle_demand : Plan → StateOf → Frac
+edf_cycle_demand plan s = edf_cycle_of plan (λ i. charged_of (row_at s i))
 
 -- the sum of the rates after task i is charged with `units` units
 abbrev pub sum_charged : Plan → List ℕ → ℕ → ℕ → ℕ → ℕ
@@ -28,4 +28,4 @@ pub record Counts (rates : List ℕ) (sum : ℕ) (plan : Plan) (s : StateOf) : T
   pub served : ServesEdf plan.scheduler
   pub one_each : length rates ≡ count plan
   pub rate_is : (i : ℕ) → i < count plan → slice_index rates i ≡ charged_rate_in plan s i
-  pub sum_is : sum ≡ (cycle_demand plan s).num
+  pub sum_is : sum ≡ (edf_cycle_demand plan s).num

@@ -1,8 +1,7 @@
 -- What each call makes of the kept counters.
-use Rattle.std.proofs.Common.{◌≡◌, ◌≢◌, ℕ, ◌+◌, ◌-◌, ◌*◌, ◌<◌, ◌≤◌, Bool, true, false, eqb, List, length, length-set}
-use Rattle.std.proofs.Common.{get_or-set_same, get_or-set_other, refl, sym, ◌∙◌, ap, ap₂, arith, if◌then◌else◌}
+use Rattle.std.proofs.Common.{◌≡◌, ◌≢◌, ℕ, ◌+◌, ◌-◌, ◌*◌, ◌<◌, ◌≤◌, true, false, List, length, length-set, get_or-set_same, get_or-set_other, refl, sym, ◌∙◌, ap, ap₂, arith, if◌then◌else◌, ◌⊎◌, inl, inr, subst}
 use Rattle.std.specs.Prelude.{slice_set, slice_index, Option, None, Some, IfSome}
-use Rattle.std.proofs.lemmas.Bool.Decides.{nat_tests}
+use Rattle.std.proofs.lemmas.Bool.{cases_eq}
 use Rattle.std.proofs.lemmas.List.{get_or-map}
 use Rattle.std.proofs.lemmas.Option.{IfSome_then}
 use Rattle.grid_fraction.specs.Numbers.{sum_below}
@@ -51,16 +50,11 @@ module _ (plan : Plan) (s : StateOf) (of : IsOfPlan plan s) (i : ℕ)
   first-same : earliest_in plan written ≡ earliest_in plan s
   first-same =
       least-same (count plan) (λ k. (row_at written k).deadline)
-      (λ k. (row_at s k).deadline) (λ k lt. at k (eqb k i) refl)
+      (λ k. (row_at s k).deadline) (λ k lt. at k (cases_eq k i))
     where
-      at : (k : ℕ) (b : Bool) → eqb k i ≡ b → (row_at written k).deadline ≡ (row_at s k).deadline
-      at k true e =
-          let same : k ≡ i = grind (arith, nat_tests) in
-          ap (λ (m : ℕ). (row_at written m).deadline) same
-          ∙ (ap (λ (r : Row). r.deadline) row-same ∙ (due ∙ ap (λ (m : ℕ). (row_at s m).deadline) (sym same)))
-      at k false e =
-          let ne : k ≢ i = grind (arith, nat_tests) in
-          ap (λ (r : Row). r.deadline) (row-other k ne)
+      at : (k : ℕ) → (k ≡ i) ⊎ (k ≢ i) → (row_at written k).deadline ≡ (row_at s k).deadline
+      at k (inl same) = subst (λ (m : ℕ). (row_at written m).deadline ≡ (row_at s m).deadline) (sym same) (ap (λ (r : Row). r.deadline) row-same ∙ due)
+      at k (inr ne) = ap (λ (r : Row). r.deadline) (row-other k ne)
 
   allotted-same : (k : ℕ) → allotted_in plan written k ≡ allotted_in plan s k
   allotted-same k =
@@ -88,34 +82,26 @@ module _ (plan : Plan) (s : StateOf) (of : IsOfPlan plan s) (i : ℕ)
     are-lowered : (all : Allotments) → AreOf rests all plan s → left_with ≡ rest
         → AreOf (slice_set rests i rest) (record all { left = all.left - (slice_index rests i - rest) }) plan written
     are-lowered all kept is = record {
-      rests_are = λ k lt. rest-at k lt (eqb k i) refl;
+      rests_are = λ k lt. rest-at k lt (cases_eq k i);
       left_is =
           let fall =
           sum_below-fall (count plan) (allotment_left_in plan s) (allotment_left_in plan written) i
           (slice_index rests i - rest) h (omega (arith, left-own, is, less, kept.rests_are i h)) left-other in
           omega (arith, fall, kept.left_is);
       first_is = kept.first_is ∙ sym first-same;
-      within = λ k lt. within-at k lt (eqb k i) refl;
+      within = λ k lt. within-at k lt (cases_eq k i);
     }
       where
-        rest-at : (k : ℕ) → k < count plan → (b : Bool) → eqb k i ≡ b
-            → slice_index (slice_set rests i rest) k ≡ allotment_left_in plan written k
-        rest-at k lt true e =
-            let same : k ≡ i = grind (arith, nat_tests) in
-            ap (slice_index (slice_set rests i rest)) same
-            ∙ (get_or-set_same rests i rest 0 in-rests
-            ∙ (sym (left-own ∙ is) ∙ ap (allotment_left_in plan written) (sym same)))
-        rest-at k lt false e =
-            let ne : k ≢ i = grind (arith, nat_tests) in
-            get_or-set_other rests i k rest 0 ne ∙ (kept.rests_are k lt ∙ sym (left-other k ne))
+        rest-at : (k : ℕ) → k < count plan → (k ≡ i) ⊎ (k ≢ i) → slice_index (slice_set rests i rest) k ≡ allotment_left_in plan written k
+        rest-at k lt (inl same) =
+            subst (λ (m : ℕ). slice_index (slice_set rests i rest) m ≡ allotment_left_in plan written m) (sym same)
+            (get_or-set_same rests i rest 0 in-rests ∙ sym (left-own ∙ is))
+        rest-at k lt (inr ne) = get_or-set_other rests i k rest 0 ne ∙ (kept.rests_are k lt ∙ sym (left-other k ne))
 
-        within-at : (k : ℕ) → k < count plan → (b : Bool) → eqb k i ≡ b → wleft_at written k ≤ base_of s k
-        within-at k lt true e =
-            let same : k ≡ i = grind (arith, nat_tests) in
-            omega (arith, ap (wleft_at written) same, ap row_wleft row-same, most, kept.within i h, ap (base_of s) same)
-        within-at k lt false e =
-            let ne : k ≢ i = grind (arith, nat_tests) in
-            omega (arith, ap row_wleft (row-other k ne), kept.within k lt)
+        within-at : (k : ℕ) → k < count plan → (k ≡ i) ⊎ (k ≢ i) → wleft_at written k ≤ base_of s k
+        within-at k lt (inl same) =
+            subst (λ (m : ℕ). wleft_at written m ≤ base_of s m) (sym same) (omega (arith, ap row_wleft row-same, most, kept.within i h))
+        within-at k lt (inr ne) = omega (arith, ap row_wleft (row-other k ne), kept.within k lt)
 
     counts-lowered : (speed : ℕ) (kept : Option Allotments) → AreCounters speed rests kept plan s
         → ((all : Allotments) → AreOf rests all plan s → left_with ≡ rest)

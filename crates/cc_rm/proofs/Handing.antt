@@ -1,8 +1,7 @@
 -- Handing out the units of a mark in RM order: each task gets what is left of its allotment there.
-use Rattle.std.proofs.Common.{◌≡◌, ◌≢◌, ℕ, ◌+◌, ◌-◌, ◌<◌, min, Bool, true, false, eqb, List, ◌∷◌, length, length-set}
-use Rattle.std.proofs.Common.{get_or-set_same, get_or-set_other, refl, sym, subst, ◌∙◌, ap, arith, if◌then◌else◌}
+use Rattle.std.proofs.Common.{◌≡◌, ◌≢◌, ℕ, ◌+◌, ◌-◌, ◌<◌, min, List, ◌∷◌, length, length-set, get_or-set_same, get_or-set_other, refl, sym, subst, ◌∙◌, ap, arith, if◌then◌else◌, ◌⊎◌, inl, inr}
 use Rattle.std.specs.Prelude.{slice_set, slice_index}
-use Rattle.std.proofs.lemmas.Bool.Decides.{nat_tests}
+use Rattle.std.proofs.lemmas.Bool.{cases_eq}
 use Rattle.std.proofs.lemmas.List.{get_or_at, length-append}
 use Rattle.sched_model.specs.Plan.{Plan, count, period}
 use Rattle.sched_model.specs.States.{StateOf, row_at, after_mark, IsOfPlan}
@@ -12,7 +11,7 @@ use Rattle.governor.proofs.Rows.{done_none}
 use Rattle.cc_rm_laws.specs.Allotments.{base_of, allotted_units, had_since_mark, allotment_left_in}
 use Rattle.cc_rm_laws.proofs.Lefts.{left-marked}
 use Rattle.cc_rm.specs.Counters.{AreRests}
-use Rattle.cc_rm.proofs.Walking.{order, ranked-below, IsWalked, walked-start, ranked-left, walked-next}
+use Rattle.cc_rm.proofs.Walking.{order, ranked-below, IsWalked, ranked-left, walked-next}
 use Rattle.cc_rm.proofs.Counting.{marked-base}
 
 module _ (plan : Plan) (s : StateOf) (units : ℕ) where
@@ -28,13 +27,6 @@ module _ (plan : Plan) (s : StateOf) (units : ℕ) where
     pub one_each : length rests ≡ count plan
     pub rests_are : (m : ℕ) → m < k → slice_index rests (place m) ≡ allotment_left_in plan marked (place m)
 
-  pub handed-start : (rests : List ℕ) → length rests ≡ count plan → IsHanded 0 units 0 rests
-  handed-start rests long = record {
-    walked = walked-start plan marked units;
-    one_each = long;
-    rests_are = λ m lt. absurd (omega arith);
-  }
-
   pub handed-next : IsOfPlan plan s → (k rest sum given : ℕ) (rests : List ℕ)
       → units ≡ allotted_units plan marked → k < count plan
       → IsHanded k rest sum rests → given ≡ min rest (wleft_at s (place k))
@@ -42,7 +34,7 @@ module _ (plan : Plan) (s : StateOf) (units : ℕ) where
   handed-next of k rest sum given rests all h handed is = record {
     walked = walked-next plan marked units k rest sum given given all h handed.walked given_is left_is;
     one_each = length-set rests (place k) given ∙ handed.one_each;
-    rests_are = λ m lt. at m lt (eqb (place m) (place k)) refl;
+    rests_are = λ m lt. at m lt (cases_eq (place m) (place k));
   }
     where
       below : place k < count plan
@@ -62,15 +54,12 @@ module _ (plan : Plan) (s : StateOf) (units : ℕ) where
       mine : given ≡ allotment_left_in plan marked (place k)
       mine = ranked-left plan marked units k rest sum given given all h handed.walked given_is left_is
 
-      at : (m : ℕ) → m < k + 1 → (b : Bool) → eqb (place m) (place k) ≡ b
+      at : (m : ℕ) → m < k + 1 → (place m ≡ place k) ⊎ (place m ≢ place k)
           → slice_index (slice_set rests (place k) given) (place m) ≡ allotment_left_in plan marked (place m)
-      at m lt true e =
-          let same : place m ≡ place k = grind (arith, nat_tests) in
-          ap (slice_index (slice_set rests (place k) given)) same
-          ∙ (get_or-set_same rests (place k) given 0 (omega (arith, handed.one_each, below))
-          ∙ (mine ∙ ap (allotment_left_in plan marked) (sym same)))
-      at m lt false e =
-          let ne : place m ≢ place k = grind (arith, nat_tests) in
+      at m lt (inl same) =
+          subst (λ (j : ℕ). slice_index (slice_set rests (place k) given) j ≡ allotment_left_in plan marked j) (sym same)
+          (get_or-set_same rests (place k) given 0 (omega (arith, handed.one_each, below)) ∙ mine)
+      at m lt (inr ne) =
           let other : m ≢ k = λ q. ne (ap place q) in
           get_or-set_other rests (place k) (place m) given 0 ne ∙ handed.rests_are m (omega (arith, other))
 

@@ -1,14 +1,12 @@
 -- Walking the tasks in RM order: what is allotted and what is left of it.
-use Rattle.std.proofs.Common.{◌≡◌, ℕ, suc, ◌+◌, ◌-◌, ◌<◌, ◌≤◌, min, Bool, true, false, List, [], ◌∷◌, ◌++◌, length}
-use Rattle.std.proofs.Common.{take, drop, refl, sym, ◌∙◌, ap, arith, if◌then◌else◌, drop-cons}
+use Rattle.std.proofs.Common.{◌≡◌, ℕ, suc, ◌+◌, ◌-◌, ◌<◌, ◌≤◌, min, Bool, true, false, List, [], ◌∷◌, ◌++◌, length, take, drop, sym, ◌∙◌, ap, arith, if◌then◌else◌, drop-cons}
 use Rattle.std.specs.Prelude.{slice_index}
 use Rattle.std.proofs.lemmas.List.{take-append-drop, take_more, take_all}
 use Rattle.grid_fraction.specs.Numbers.{sum_below}
 use Rattle.sched_model.specs.Plan.{Plan, count, period}
 use Rattle.sched_model.specs.Priority.{in_order, sum_before}
 use Rattle.sched_model.specs.States.{StateOf, row_at}
-use Rattle.sched_model.proofs.OrderLemmas.{sum_list, sum_list-snoc, below-at, in_order-below, length-in_order}
-use Rattle.sched_model.proofs.OrderLemmas.{sum_list-in_order, sum_before-prefix}
+use Rattle.sched_model.proofs.OrderLemmas.{sum_list, sum_list-snoc, below-at, in_order-below, length-in_order, sum_list-in_order, sum_before-prefix}
 use Rattle.cc_rm_laws.specs.Allotments.{base_of, allotted_units, allotted_in, had_since_mark, allotment_left_in}
 
 -- the tasks in RM order
@@ -43,9 +41,6 @@ pub record IsWalked (p : Plan) (v : StateOf) (units k rest sum : ℕ) : Type 0 w
   pub rest_is : rest ≡ units - sum_list (base_of v) (take k (order p))
   pub sum_is : sum ≡ sum_list (allotment_left_in p v) (take k (order p))
   pub within : sum + rest ≤ units
-
-pub walked-start : (p : Plan) (v : StateOf) (units : ℕ) → IsWalked p v units 0 units 0
-walked-start p v units = record { rest_is = omega arith; sum_is = refl; within = omega arith }
 
 left_most : (done : Bool) (al had : ℕ) → (if done then 0 else al - had) ≤ al
 left_most true al had = omega arith

@@ -5,7 +5,7 @@ use Rattle.sched_model.specs.StaticDemand.{static_speed}
 use Rattle.sched_model.specs.States.{StateOf}
 use Rattle.governor.specs.Serving.{ServesRm}
 use Rattle.governor.specs.Steps.{wleft_at, earliest_in}
-use Rattle.cc_rm_laws.specs.Allotments.{base_of, allotment_left_in, cycle_demand}
+use Rattle.cc_rm_laws.specs.Allotments.{base_of, allotment_left_in, rm_cycle_demand}
 use Rattle.cc_rm.specs.declared.counters.Allotments.{Allotments}
 
 -- each element of `rests` is what is left of its task's allotment
@@ -16,7 +16,7 @@ AreRests rests plan s = (i : ℕ) → i < count plan → slice_index rests i ≡
 -- they were allotted. No job may need more than it might at the mark.
 pub record AreOf (rests : List ℕ) (all : Allotments) (plan : Plan) (s : StateOf) : Type 0 where
   pub rests_are : AreRests rests plan s
-  pub left_is : all.left ≡ (cycle_demand plan s).num
+  pub left_is : all.left ≡ (rm_cycle_demand plan s).num
   pub first_is : all.first ≡ earliest_in plan s
   pub within : (i : ℕ) → i < count plan → wleft_at s i ≤ base_of s i
 

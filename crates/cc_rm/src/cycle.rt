@@ -9,7 +9,7 @@ ghost use Rattle.sched_model.specs.States.{opening, IsOfPlan};
 ghost use Rattle.governor.specs.Steps.{IsAtDecision};
 ghost use Rattle.governor.specs.Serving.{ServesRm};
 ghost use Rattle.governor.specs.Worst.{MeetsAtWorst};
-ghost use Rattle.cc_rm_laws.specs.Allotments.{cycle_demand};
+ghost use Rattle.cc_rm_laws.specs.Allotments.{rm_cycle_demand};
 ghost use Rattle.cc_rm_laws.specs.Conditions.{CcRmCalm, CcRmSafe};
 ghost use Rattle.cc_rm_laws.proofs.CcRmLaws.{cc_rm_laws};
 ghost use Rattle.cc_rm_laws.proofs.Publishing.{cycle_publishing};
@@ -78,7 +78,7 @@ impl CcRm {
         requires of { IsOfPlan plan.now view.now }
         requires speed { self.now.static_speed ≡ static_speed plan.now }
         requires decision { IsAtDecision plan.now view.now }
-        ensures { result ≡ cycle_demand plan.now view.entry.now }
+        ensures { result ≡ rm_cycle_demand plan.now view.entry.now }
     {
         let _scheduler = plan.scheduler();
         let first = earliest_deadline(plan, view);
@@ -95,7 +95,7 @@ impl CcRm {
         requires counters { AreCounters self.now.static_speed self.now.rests.items self.now.allotments
             plan.now view.now }
         requires decision { IsAtDecision plan.now view.now }
-        ensures { result ≡ cycle_demand plan.now view.entry.now }
+        ensures { result ≡ rm_cycle_demand plan.now view.entry.now }
     {
         match self.allotments {
             Some(all) => Frac {
@@ -112,7 +112,7 @@ impl Governor for CcRm {
 
     ghost serves = { ServesRm };
 
-    ghost demand = { cycle_demand };
+    ghost demand = { rm_cycle_demand };
 
     ghost calm = { CcRmCalm };
 
@@ -168,9 +168,9 @@ impl Governor for CcRm {
         requires counters { AreCounters self.now.static_speed self.now.rests.items self.now.allotments
             plan.now view.now }
         requires decision { IsAtDecision plan.now view.now }
-        ensures demand { result.demand ≡ cycle_demand plan.now view.entry.now }
-        ensures index { result.index ≡ lowest_entry plan.now.machine (cycle_demand plan.now view.entry.now) }
-        ensures met { result.met ≡ (lowest_pick plan.now.machine (cycle_demand plan.now view.entry.now)).met }
+        ensures demand { result.demand ≡ rm_cycle_demand plan.now view.entry.now }
+        ensures index { result.index ≡ lowest_entry plan.now.machine (rm_cycle_demand plan.now view.entry.now) }
+        ensures met { result.met ≡ (lowest_pick plan.now.machine (rm_cycle_demand plan.now view.entry.now)).met }
         ensures calm { CcRmCalm plan.now view.entry.now → result.met ≡ true }
     {
         chosen(plan, self.demand(plan, view))

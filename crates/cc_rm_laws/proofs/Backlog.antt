@@ -1,6 +1,5 @@
 -- The static schedule with every job at its worst case: what its jobs lack at each release and tick.
-use Rattle.std.proofs.Common.{◌≡◌, ◌≢◌, ℕ, zero, suc, ◌+◌, ◌-◌, ◌*◌, ◌<◌, ◌≤◌, Bool, true, false, List, length}
-use Rattle.std.proofs.Common.{refl, sym, ◌∙◌, ap, arith, nat_eq}
+use Rattle.std.proofs.Common.{◌≡◌, ◌≢◌, ℕ, zero, suc, ◌+◌, ◌-◌, ◌*◌, ◌<◌, ◌≤◌, Bool, true, false, List, length, refl, sym, ◌∙◌, ap, arith, nat_eq}
 use Rattle.std.proofs.Math.Nat.{zero-sub}
 use Rattle.std.proofs.lemmas.Bool.Decides.{nat_tests}
 use Rattle.dvs_base.specs.declared.kind.Scheduler.{Scheduler}
@@ -23,9 +22,7 @@ use Rattle.sched_model.proofs.LevelSums.{sum_where-zero, sum_up_to-where}
 use Rattle.sched_model.proofs.ScheduleLemmas.{schedule-none, schedule-suc}
 use Rattle.governor.proofs.PlanDemands.{published-fixed, entry-same}
 use Rattle.governor.proofs.Worst.{lacking-none}
-use Rattle.governor.proofs.Lacks.{worst_ticks, IsDown, lack-long, lack-same, lack-quiet, lack-released, lack-span}
-use Rattle.governor.proofs.Lacks.{lack-empties}
-use Rattle.governor.proofs.Lacks.{lack as lack_of, lack_after as lack_after_of}
+use Rattle.governor.proofs.Lacks.{worst_ticks, IsDown, lack-long, lack-same, lack-quiet, lack-released, lack-span, lack-empties, lack as lack_of, lack_after as lack_after_of}
 pub use Rattle.governor.proofs.Lacks.{IsQuiet, level_down}
 
 -- the published demand of static, with every job at its worst case

@@ -16,7 +16,7 @@ use Rattle.governor.specs.Steps.{earliest_in, IsAtDecision}
 use Rattle.governor.specs.Laws.{GovernorLaws}
 use Rattle.governor.specs.Serving.{ServesRm}
 use Rattle.governor.proofs.Belonging.{earliest-later}
-use Rattle.cc_rm_laws.specs.Allotments.{cycle_demand}
+use Rattle.cc_rm_laws.specs.Allotments.{rm_cycle_demand}
 use Rattle.cc_rm_laws.specs.Conditions.{CcRmCalm, CcRmSafe}
 use Rattle.cc_rm_laws.proofs.Deadlines.{cc_rm_completes}
 use Rattle.cc_rm_laws.proofs.Marks.{cc_rm_opens, cc_rm_releases}
@@ -29,25 +29,25 @@ module _ (plan : Plan) (adm : IsAdmitted plan) (s : StateOf) where
   static_within : static_entry < length plan.machine.points
   static_within = lowest_within plan.machine (rm_static plan) adm.limits.machine.some
 
-  demand_below_top : CcRmCalm plan s → (cycle_demand plan s).num ≤ top_speed plan * (cycle_demand plan s).den
+  demand_below_top : CcRmCalm plan s → (rm_cycle_demand plan s).num ≤ top_speed plan * (rm_cycle_demand plan s).den
   demand_below_top calm =
       let most : static_speed plan ≤ top_speed plan =
       below_highest plan.machine adm.limits.machine static_entry static_within in
       omega (arith, calm.total, mul-le-mul_right (earliest_in plan s - s.now) most)
 
-  chooses : CcRmCalm plan s → CcRmSafe plan s (lowest_entry plan.machine (cycle_demand plan s))
+  chooses : CcRmCalm plan s → CcRmSafe plan s (lowest_entry plan.machine (rm_cycle_demand plan s))
   chooses calm = record {
     calm = calm;
-    enough = picked_meets plan.machine adm.limits.machine (cycle_demand plan s) (demand_below_top calm);
+    enough = picked_meets plan.machine adm.limits.machine (rm_cycle_demand plan s) (demand_below_top calm);
     slower =
-        speeds_rise plan.machine adm.limits.machine (lowest_entry plan.machine (cycle_demand plan s)) static_entry
-        (lowest-most plan.machine (cycle_demand plan s) static_entry calm.total) static_within;
+        speeds_rise plan.machine adm.limits.machine (lowest_entry plan.machine (rm_cycle_demand plan s)) static_entry
+        (lowest-most plan.machine (rm_cycle_demand plan s) static_entry calm.total) static_within;
   }
 
-  pub meets_it : CcRmCalm plan s → (lowest_pick plan.machine (cycle_demand plan s)).met ≡ true
-  meets_it calm = picked_met plan.machine adm.limits.machine (cycle_demand plan s) (demand_below_top calm)
+  pub meets_it : CcRmCalm plan s → (lowest_pick plan.machine (rm_cycle_demand plan s)).met ≡ true
+  meets_it calm = picked_met plan.machine adm.limits.machine (rm_cycle_demand plan s) (demand_below_top calm)
 
-  pub cycle_den : IsAtDecision plan s → (0 < (cycle_demand plan s).den) × ((cycle_demand plan s).den ≤ 2 ^ 64)
+  pub cycle_den : IsAtDecision plan s → (0 < (rm_cycle_demand plan s).den) × ((rm_cycle_demand plan s).den ≤ 2 ^ 64)
   cycle_den dec =
       let some = some_task plan adm.limits in
       let later : s.now < earliest_in plan s = earliest-later plan adm.limits s dec.before in
@@ -56,7 +56,7 @@ module _ (plan : Plan) (adm : IsAdmitted plan) (s : StateOf) where
       (omega arith, omega arith)
 
 -- cycle-conserving RM keeps the laws of a governor
-pub cc_rm_laws : GovernorLaws Cycle ServesRm cycle_demand CcRmCalm CcRmSafe
+pub cc_rm_laws : GovernorLaws Cycle ServesRm rm_cycle_demand CcRmCalm CcRmSafe
 cc_rm_laws = record {
   pairs = λ sch rm. subst (λ (s : Scheduler). IsPair s Cycle) (sym rm) refl;
   low_den = λ plan s on of dec. cycle_den plan on.admitted s dec;

@@ -1,6 +1,5 @@
 -- In a calm state of cycle-conserving RM each job that is due is complete.
-use Rattle.std.proofs.Common.{◌≡◌, inl, inr, ℕ, suc, ◌+◌, ◌-◌, ◌*◌, ◌<◌, ◌≤◌, true, sym, ◌∙◌, ap, subst, arith}
-use Rattle.std.proofs.Common.{mul-zero}
+use Rattle.std.proofs.Common.{◌≡◌, inl, inr, ℕ, suc, ◌+◌, ◌-◌, ◌*◌, ◌<◌, ◌≤◌, true, sym, ◌∙◌, ap, subst, arith, mul-zero}
 use Rattle.std.proofs.lemmas.Bool.{cases_lt}
 use Rattle.dvs_base.specs.declared.kind.Scheduler.TheVariants.{Rm}
 use Rattle.grid_fraction.specs.Numbers.{sum_where}
@@ -24,8 +23,7 @@ use Rattle.governor.proofs.EdfLaws.{closed_row}
 use Rattle.cc_rm_laws.specs.Allotments.{base_of, allotted_units, allotted_in, allotment_left_in}
 use Rattle.cc_rm_laws.specs.Conditions.{CcRmCalm}
 use Rattle.cc_rm_laws.proofs.Allotting.{allotment-most}
-use Rattle.cc_rm_laws.proofs.Backlog.{lack, lack_after, lack-is, IsQuiet, quiet_row, lack-none, released-lack}
-use Rattle.cc_rm_laws.proofs.Backlog.{after-least, backlog-empties}
+use Rattle.cc_rm_laws.proofs.Backlog.{lack, lack_after, lack-is, IsQuiet, quiet_row, lack-none, released-lack, after-least, backlog-empties}
 
 module _ (plan : Plan) (adm : IsAdmitted plan) (dem : JobDemands) (s : StateOf) (bel : Belongs plan dem s) where
   pub first-due : (i : ℕ) → i < count plan → earliest_in plan s ≤ (row_at s i).deadline

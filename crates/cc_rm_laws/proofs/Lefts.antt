@@ -1,6 +1,5 @@
 -- What is left of an allotment, over plain numbers: the allotment, the base, and what the job may still need.
-use Rattle.std.proofs.Common.{◌≡◌, ℕ, ◌+◌, ◌-◌, ◌<◌, ◌≤◌, Bool, true, false, refl, arith, if◌then◌else◌, true≢false}
-use Rattle.std.proofs.Common.{sym}
+use Rattle.std.proofs.Common.{◌≡◌, ℕ, ◌+◌, ◌-◌, ◌<◌, ◌≤◌, Bool, true, false, refl, arith, if◌then◌else◌, true≢false, sym}
 
 abbrev pub left_by : Bool → ℕ → ℕ → ℕ → ℕ
 left_by done allot base w = if done then 0 else allot - (base - w)

@@ -1,6 +1,5 @@
 -- The opening state is calm, and each boundary keeps it calm.
-use Rattle.std.proofs.Common.{◌≡◌, inl, inr, ℕ, suc, ◌+◌, ◌-◌, ◌*◌, ◌<◌, ◌≤◌, min, Bool, true, false, List, [], ◌∷◌}
-use Rattle.std.proofs.Common.{refl, sym, ◌∙◌, ap, subst, arith}
+use Rattle.std.proofs.Common.{◌≡◌, inl, inr, ℕ, suc, ◌+◌, ◌-◌, ◌*◌, ◌<◌, ◌≤◌, min, Bool, true, false, List, [], ◌∷◌, refl, sym, ◌∙◌, ap, subst, arith}
 use Rattle.std.specs.Prelude.{if◌then◌else◌, map, slice_index}
 use Rattle.std.specs.List.{list_any}
 use Rattle.std.proofs.lemmas.Bool.{cases_Bool, eqb-true, or_parts}
@@ -21,8 +20,7 @@ use Rattle.sched_model.proofs.DownSets.{down-set-gets}
 use Rattle.sched_model.proofs.LevelSums.{sum_where-mono, sum_where-plus, sum_where-zero, level-gets}
 use Rattle.governor.specs.Steps.{each_row, is_due, boundary_row, opened_row, after_boundary, wleft_at, release_of, earliest_in, Belongs}
 use Rattle.governor.proofs.Rows.{none_due_at, some_due_at, done_none}
-use Rattle.governor.proofs.Belonging.{earliest-from, in_rows, opening_at, boundary-by, belongs_boundary}
-use Rattle.governor.proofs.Belonging.{decision_boundary, opened_release, earliest-later}
+use Rattle.governor.proofs.Belonging.{earliest-from, in_rows, opening_at, boundary-by, belongs_boundary, decision_boundary, opened_release, earliest-later}
 use Rattle.governor.specs.Rm.{level}
 use Rattle.cc_rm_laws.specs.Allotments.{base_of, allotted_units, allotted_in, allotment_left_in}
 use Rattle.cc_rm_laws.specs.Conditions.{LacksNothing, CcRmCalm}

@@ -1,6 +1,5 @@
 -- On each schedule the published demand of cycle-conserving RM is the governor's own.
-use Rattle.std.proofs.Common.{◌≡◌, ℕ, zero, suc, ◌+◌, ◌-◌, ◌*◌, ◌<◌, ◌≤◌, Bool, true, false, List, length}
-use Rattle.std.proofs.Common.{refl, sym, ◌∙◌, ap, ap₂, arith, if◌then◌else◌, nat_eq, nat_le, length-drop}
+use Rattle.std.proofs.Common.{◌≡◌, ℕ, zero, suc, ◌+◌, ◌-◌, ◌*◌, ◌<◌, ◌≤◌, Bool, true, false, List, length, refl, sym, ◌∙◌, ap, ap₂, arith, if◌then◌else◌, nat_eq, nat_le, length-drop}
 use Rattle.std.proofs.lemmas.Bool.Decides.{nat_tests}
 use Rattle.dvs_base.specs.declared.kind.Scheduler.{Scheduler}
 use Rattle.dvs_base.specs.declared.kind.Scheduler.TheVariants.{Rm}
@@ -30,7 +29,7 @@ use Rattle.governor.specs.Steps.{wleft_at, earliest_in}
 use Rattle.governor.specs.Schedule.{Publishes, PublishingLaws}
 use Rattle.governor.specs.Serving.{ServesRm}
 use Rattle.governor.proofs.OneSchedule.{publishing_laws}
-use Rattle.cc_rm_laws.specs.Allotments.{base_of, allotted_in, had_since_mark, allotment_left_in, cycle_demand}
+use Rattle.cc_rm_laws.specs.Allotments.{base_of, allotted_in, had_since_mark, allotment_left_in, rm_cycle_demand}
 
 -- what a job had after the mark is the fall of what it may need
 since_mark : (worst need now first : ℕ) → first ≤ now → now < need
@@ -143,15 +142,15 @@ module _ (p : Plan) (adm : IsAdmitted p) where
     abbrev frac : ℕ → ℕ → Frac
     frac a b = record { num = a; den = b }
 
-    cycle-is : rm_cycle p dem past ≡ cycle_demand p here
+    cycle-is : rm_cycle p dem past ≡ rm_cycle_demand p here
     cycle-is =
         ap₂ frac (sum_below-same (count p) (allotment_left p dem past) (allotment_left_in p here) left-is)
         (ap (λ (n : ℕ). n - now) first-is)
 
-pub published-cycle : (p : Plan) → IsAdmitted p → p.scheduler ≡ Rm → Publishes cycle_demand Cycle p
+pub published-cycle : (p : Plan) → IsAdmitted p → p.scheduler ≡ Rm → Publishes rm_cycle_demand Cycle p
 unfolding published
 published-cycle p adm rm dem within ask past is =
     ap (λ (sch : Scheduler). demand_by sch Cycle p dem past) rm ∙ cycle-is p adm dem within past
 
-pub cycle_publishing : PublishingLaws Cycle ServesRm cycle_demand
-cycle_publishing = publishing_laws cycle_demand Cycle ServesRm published-cycle
+pub cycle_publishing : PublishingLaws Cycle ServesRm rm_cycle_demand
+cycle_publishing = publishing_laws rm_cycle_demand Cycle ServesRm published-cycle

@@ -2,7 +2,7 @@
 use Rattle.std.specs.Prelude.{ℕ, ◌-◌, slice_index}
 use Rattle.grid_fraction.specs.declared.Frac.{Frac}
 use Rattle.sched_model.specs.Plan.{Plan}
-use Rattle.sched_model.specs.CycleDemand.{SinceRelease, units_of, allotted_of, allotment_left_of, rm_cycle_of}
+use Rattle.sched_model.specs.CycleDemand.{SinceRelease, units_at_mark, allotted_of, allotment_left_of, rm_cycle_of}
 use Rattle.sched_model.specs.States.{StateOf, row_at}
 use Rattle.governor.specs.Steps.{wleft_at, earliest_in}
 
@@ -26,7 +26,7 @@ since_mark plan s = record {
 
 -- the units that the static speed does from the mark to the earliest deadline
 abbrev pub allotted_units : Plan → StateOf → ℕ
-allotted_units plan s = units_of plan (since_mark plan s)
+allotted_units plan s = units_at_mark plan (since_mark plan s)
 
 -- the units that task i gets when the allotted units are handed out in RM order, to each task at most its base
 abbrev pub allotted_in : Plan → StateOf → ℕ → ℕ
@@ -37,5 +37,5 @@ abbrev pub allotment_left_in : Plan → StateOf → ℕ → ℕ
 allotment_left_in plan s i = allotment_left_of plan (since_mark plan s) i
 
 -- the published demand: the sum of what is left of the allotments, over the time to the earliest deadline
-abbrev pub cycle_demand : Plan → StateOf → Frac
-cycle_demand plan s = rm_cycle_of plan (since_mark plan s) s.now
+abbrev pub rm_cycle_demand : Plan → StateOf → Frac
+rm_cycle_demand plan s = rm_cycle_of plan (since_mark plan s) s.now

@@ -37,16 +37,6 @@ pub record IsPlain (reader : TextReader) : Type 0 where
 abbrev pub AreCountedFrom : ℕ → TextReader → Type 0
 AreCountedFrom row reader = row + length (records_left reader) < u64_end
 
--- the fields of a record that has two fields
-abbrev pub two_of : List (List ℕ) → Option (List ℕ × List ℕ)
-two_of (a ∷ b ∷ []) = Some (a, b)
-two_of _ = None
-
--- the fields of a record that has three fields
-abbrev pub three_of : List (List ℕ) → Option (List ℕ × List ℕ × List ℕ)
-three_of (a ∷ b ∷ c ∷ []) = Some (a, b, c)
-three_of _ = None
-
 -- whether the fields of a record are exactly these
 abbrev pub has_fields : List (List ℕ) → List (List ℕ) → Bool
 has_fields [] [] = true

@@ -9,7 +9,8 @@
 ghost use Rattle.std.specs.Prelude.{◌≡◌, ◌<◌, ◌≤◌, ◌+◌, ◌∷◌, [], Ok, Some, true, false, length, map, option_map, IfOk, IfSome};
 ghost use Rattle.csv.specs.Reading.{default_config, records, strip_bom, error_kind, stops_reader};
 ghost use Rattle.csv.specs.Records.{field_at, fields_of};
-ghost use Rattle.csv_text.specs.Rows.{IsPlain, records_left, two_of, three_of, has_fields, text_rows};
+ghost use Rattle.dvs_base.specs.Parts.{two_of, three_of};
+ghost use Rattle.csv_text.specs.Rows.{IsPlain, records_left, has_fields, text_rows};
 
 use csv::{ByteRecord, Error, Reader, ReaderBuilder};
 use dvs_base::NoMemory;

@@ -3,7 +3,8 @@ use Rattle.std.specs.Prelude.{ℕ, ◌+◌, ◌==◌, List, [], ◌∷◌, lengt
 use Rattle.dvs_base.specs.Widths.{u64_end}
 use Rattle.dvs_base.specs.Checks.{and_then, IsUnlessMemory}
 use Rattle.dvs_base.specs.Text.{number_below, short_of}
-use Rattle.csv_text.specs.Rows.{three_of, text_rows}
+use Rattle.dvs_base.specs.Parts.{three_of}
+use Rattle.csv_text.specs.Rows.{text_rows}
 use Rattle.task_model.specs.declared.task.Task.{Task}
 use Rattle.task_model.specs.DemandRows.{demand_row, named}
 use Rattle.task_model.specs.TaskFile.{place_of}
@@ -21,8 +22,8 @@ abbrev pub job_from : ℕ → ℕ → Result ℕ DemandFault
 job_from row job = if job == 0 then Err (fault.JobZero row) else Ok job
 
 -- the task, the job and the units of a row, or its first refusal, checked without the rows before it
-abbrev pub row_of : List Task → ℕ → List (List ℕ) → Result (ℕ × ℕ × ℕ) DemandFault
-row_of tasks row fields =
+abbrev pub demand_of_row : List Task → ℕ → List (List ℕ) → Result (ℕ × ℕ × ℕ) DemandFault
+demand_of_row tasks row fields =
     and_then (ok_or (three_of fields) (fault.Fields row (length fields))) (λ three.
     and_then (ok_or (place_of tasks three.0) (fault.UnknownTask row (short_of three.0))) (λ task.
     and_then (ok_or (number_below u64_end three.1) (fault.BadNumber row column.Job)) (λ number.
@@ -31,9 +32,9 @@ row_of tasks row fields =
     Ok (task, job, units))))))
 
 -- the check for an earlier row of the job: the refusal where there is one, else the rest
-abbrev pub no_earlier : ℕ → ℕ → ℕ → Option ℕ → Result DemandsOf DemandFault → Result DemandsOf DemandFault
-no_earlier row task job None rest = rest
-no_earlier row task job (Some units) rest = Err (fault.Repeated row task job)
+abbrev pub no_earlier_demand : ℕ → ℕ → ℕ → Option ℕ → Result DemandsOf DemandFault → Result DemandsOf DemandFault
+no_earlier_demand row task job None rest = rest
+no_earlier_demand row task job (Some units) rest = Err (fault.Repeated row task job)
 
 -- the check against the declared worst case: the refusal of units above it, else the rest
 abbrev pub within_worst : ℕ → ℕ → ℕ → ℕ → Result DemandsOf DemandFault → Result DemandsOf DemandFault
@@ -42,7 +43,7 @@ within_worst task job units worst rest = if nat_lt worst units then Err (fault.O
 -- the list with one more row, after the checks that need the list
 abbrev pub with_checked : DemandsOf → ℕ → ℕ → ℕ → ℕ → Result DemandsOf DemandFault
 with_checked d row task job units =
-    no_earlier row task job (named d.rows task job) (
+    no_earlier_demand row task job (named d.rows task job) (
     within_worst task job units (slice_index d.worsts task) (
     Ok (record { worsts = d.worsts; rows = with_row d.rows (demand_row task job units) })))
 
@@ -50,7 +51,7 @@ with_checked d row task job units =
 abbrev pub demands_from : List Task → ℕ → DemandsOf → List (List (List ℕ)) → Result DemandsOf DemandFault
 demands_from tasks row d [] = Ok d
 demands_from tasks row d (fields ∷ rest) =
-    and_then (row_of tasks row fields) (λ r.
+    and_then (demand_of_row tasks row fields) (λ r.
     and_then (with_checked d row r.0 r.1 r.2) (λ e. demands_from tasks (row + 1) e rest))
 
 -- the list without rows, in which every job needs its declared worst case

@@ -2,7 +2,7 @@
 ghost use Rattle.std.specs.Prelude.{codes, ◌≡◌, ◌≤◌, ◌<◌, ◌^◌, length, map, IfOk, vec_len};
 ghost use Rattle.csv.specs.Records.{fields_of};
 ghost use Rattle.csv_text.specs.Rows.{IsPlain, AreCountedFrom, records_left};
-ghost use Rattle.demand_list.specs.DemandFile.{MeansDemands, row_of, demands_from, with_checked, demand_file, worst_list};
+ghost use Rattle.demand_list.specs.DemandFile.{MeansDemands, demand_of_row, demands_from, with_checked, demand_file, worst_list};
 
 use crate::{Column, DemandFault, Demands};
 use csv::{ByteRecord, Reader};
@@ -13,7 +13,7 @@ use task_model::TaskSet;
 
 // The task, the job and the units of a row, checked without the rows before it.
 fn read_row(tasks: &TaskSet, row: u64, fields: &ByteRecord) -> Result<(u32, u64, u64), DemandFault>
-    ensures row { result ≡ row_of tasks.now row (fields_of fields.now) }
+    ensures row { result ≡ demand_of_row tasks.now row (fields_of fields.now) }
     ensures task { IfOk result (λ r. r.0 < length tasks.now) }
     ensures job { IfOk result (λ r. 1 ≤ r.1) }
 {

@@ -1,12 +1,11 @@
 -- Texts written one after another.
-use Rattle.std.proofs.Common.{ℕ, ◌+◌, ◌<◌, ◌≤◌, ◌⊎◌, inl, inr, List, [], ◌++◌, length, length-append, take, Option, Some, None, Result, Ok, Err, refl, sym, ◌∙◌, subst, arith, append-nil, true≢false}
-use Rattle.std.proofs.lemmas.Bool.{cases_lt}
+use Rattle.std.proofs.Common.{ℕ, ◌+◌, List, [], ◌++◌, length, length-append, take, Option, Some, None, refl, sym, ◌∙◌, subst, arith, append-nil}
 use Rattle.std.specs.Io.KnownBytes.{Appends}
 use Rattle.std.proofs.KnownBytes.{Appends-trans}
 use Rattle.std.proofs.lemmas.List.{take-append-le}
 use Rattle.std.proofs.Math.Seq.{take-append-add}
-use Rattle.dvs_base.specs.Outside.{SinkView, Puts, Rose}
-use Rattle.dvs_base.specs.WritesText.{WritesText, Wrote, WroteSome}
+use Rattle.dvs_base.specs.Outside.{SinkView, Rose}
+use Rattle.dvs_base.specs.WritesText.{Wrote, WroteSome}
 
 appends-none : (a : Option (List ℕ)) → Appends a a []
 appends-none None = tt
@@ -49,18 +48,3 @@ wrote-some-more a b t u w = record {
   later = w.later;
   unsure = omega (arith, length-append t u, w.unsure);
 }
-
--- a put of a piece that isn't empty writes it as a text
-pub put-text : {T E : Type 0} (a b : SinkView) (piece : List ℕ) (r : Result T E) → 0 < length piece → Puts a b piece r
-    → WritesText a b piece r
-put-text a b piece (Ok v) some p = record { bytes = p.ok; steady = p.cause; surety = p.surety }
-put-text a b piece (Err e) some p = record {
-  part = p.part;
-  rose = p.cause;
-  later = p.later;
-  unsure = unsure (cases_lt a.sure (length piece));
-}
-  where
-    unsure : (a.sure < length piece) ⊎ (length piece ≤ a.sure) → a.sure < length piece
-    unsure (inl lt) = lt
-    unsure (inr le) = absurd (true≢false (sym (p.fits some le)))

@@ -1,5 +1,5 @@
--- The tasks of notes.
-use Rattle.std.specs.Prelude.{ℕ, Option, Some, None}
+-- The tasks of notes, and the energies of their runs.
+use Rattle.std.specs.Prelude.{ℕ, nat_eq, if◌then◌else◌, Option, Some, None}
 use Rattle.dvs_base.specs.declared.note.Note.{Note}
 use Rattle.dvs_base.specs.declared.note.Note.TheVariants.{Release, Speed, Run, Idle, Done, End}
 
@@ -11,3 +11,8 @@ note_task (Run from to task job units energy) = Some task
 note_task (Idle from to units energy) = None
 note_task (Done at task job used) = Some task
 note_task (End ticks run idle) = None
+
+-- the energy of a note where it is a run of task i
+abbrev pub energy_of_task : ℕ → Note → ℕ
+energy_of_task i (Run from to task job units energy) = if nat_eq task i then energy else 0
+energy_of_task i _ = 0

@@ -10,6 +10,16 @@ abbrev pub joined : List (List ℕ) → List ℕ
 joined [] = []
 joined (text ∷ texts) = text ++ joined texts
 
+-- the fields of a line, if there are two
+abbrev pub two_of : List (List ℕ) → Option (List ℕ × List ℕ)
+two_of (a ∷ b ∷ []) = Some (a, b)
+two_of _ = None
+
+-- the fields of a line, if there are three
+abbrev pub three_of : List (List ℕ) → Option (List ℕ × List ℕ × List ℕ)
+three_of (a ∷ b ∷ c ∷ []) = Some (a, b, c)
+three_of _ = None
+
 -- a position, as `tick:offset`
 abbrev pub position_text : Pos → List ℕ
 position_text q = decimal q.tick ++ codes ":" ++ decimal q.offset

@@ -1,11 +1,11 @@
 -- What the lowest entry that meets the constrained demand does.
 use Rattle.std.proofs.Common.{◌≡◌, inl, inr, ℕ, ◌*◌, ◌<◌, ◌≤◌, nat_lt, Bool, true, false, length, Ok, Err, refl, sym, ◌∙◌, ap, subst, arith, true≢false}
 use Rattle.std.proofs.Math.Nat.{mul-le-mul_right}
-use Rattle.std.proofs.lemmas.Bool.{cases_lt, le-leb, leb-true}
+use Rattle.std.proofs.lemmas.Bool.{cases_lt, le-leb, leb-true, false_from_ne_true}
 use Rattle.std.proofs.lemmas.Bool.Decides.{nat_tests}
 use Rattle.dvs_base.specs.declared.limits.TheConstants.{MOST_JOBS}
-use Rattle.task_model.specs.Tasks.{NoneOffset, IsFirstOffset}
-use Rattle.task_model.proofs.Finding.{none-found, first-found}
+use Rattle.task_model.specs.Tasks.{NoneOffset}
+use Rattle.task_model.proofs.Finding.{none-found}
 use Rattle.grid_fraction.specs.declared.Frac.{Frac}
 use Rattle.grid_fraction.specs.Fraction.{meets}
 use Rattle.grid_fraction.proofs.Searches.{any_below-none, any_below-false}
@@ -17,26 +17,16 @@ use Rattle.sched_model.specs.Admission.{IsWithinLimits}
 use Rattle.edf_demand_laws.specs.Constrained.{IsConstrained}
 use Rattle.edf_demand_laws.specs.ProcessorDemand.{IsConstrainedDemand, constrained_demand}
 use Rattle.edf_demand_laws.proofs.Deciding.{meets-always, misses-at-worst}
-use Rattle.edf_demand.specs.declared.lowest_speed.ConstrainFault.TheVariants.{Offset, TooManyJobs, Denied}
-use Rattle.edf_demand.specs.Answers.{LooksAtDemand, IsLowestSpeed, IsOverload, hyper_jobs, pick_answer, demand_answer, answer_from, tested_answer}
+use Rattle.edf_demand.specs.declared.lowest_speed.ConstrainFault.TheVariants.{Denied}
+use Rattle.edf_demand.specs.Answers.{LooksAtDemand, IsLowestSpeed, IsOverload, hyper_jobs, pick_answer, demand_answer, tested_answer_from, tested_answer}
 
 module _ (p : Plan) (relative : ℕ → ℕ) where
-  pub answer-offset : (i : ℕ) → IsFirstOffset (offset p) (count p) i → tested_answer p relative ≡ Err (Offset i)
-  answer-offset i first = ap (answer_from p relative) (first-found (offset p) (count p) i first)
-
   module _ (none : NoneOffset (offset p) (count p)) where
-    pub answer-too_many : (jobs : ℕ) → jobs ≡ hyper_jobs p.tasks → MOST_JOBS < jobs
-        → tested_answer p relative ≡ Err (TooManyJobs jobs)
-    answer-too_many jobs are many =
-        let over : nat_lt MOST_JOBS (hyper_jobs p.tasks) ≡ true = grind (arith, nat_tests) in
-        ap (answer_from p relative) (none-found (offset p) (count p) none)
-        ∙ (rw over refl ∙ ap (λ n. Err (TooManyJobs n)) (sym are))
-
     module _ (few : hyper_jobs p.tasks ≤ MOST_JOBS) (demand : Frac) (is : demand ≡ constrained_demand p relative) where
       looked_at : tested_answer p relative ≡ demand_answer p demand
       looked_at =
           let under : nat_lt MOST_JOBS (hyper_jobs p.tasks) ≡ false = grind (arith, nat_tests) in
-          ap (answer_from p relative) (none-found (offset p) (count p) none)
+          ap (tested_answer_from p relative) (none-found (offset p) (count p) none)
           ∙ (rw under refl ∙ ap (demand_answer p) (sym is))
 
       pub answer-met : (e : ℕ) → lowest_pick p.machine demand ≡ (record { index = e; met = true })
@@ -51,13 +41,9 @@ module _ (p : Plan) (relative : ℕ → ℕ) where
 -- where the highest speed doesn't meet a demand, no entry does
 none-meets : (m : Table) → IsTable m → (d : Frac) → highest_speed m * d.den < d.num → (lowest_pick m d).met ≡ false
 none-meets m table d over =
-    any_below-none (length m.points) (λ e. meets (speed_at m e) d) (λ e lt. go (meets (speed_at m e) d) e lt refl)
-  where
-    go : (b : Bool) → (e : ℕ) → e < length m.points → meets (speed_at m e) d ≡ b → meets (speed_at m e) d ≡ false
-    go false e lt is = is
-    go true e lt is =
-        let fits = leb-true d.num (speed_at m e * d.den) is in
-        absurd (omega (arith, over, fits, mul-le-mul_right d.den (below_highest m table e lt)))
+    any_below-none (length m.points) (λ e. meets (speed_at m e) d) (λ e lt. false_from_ne_true (meets (speed_at m e) d) (λ is.
+    let fits = leb-true d.num (speed_at m e * d.den) is in
+    omega (arith, over, fits, mul-le-mul_right d.den (below_highest m table e lt))))
 
 -- a demand that some entry meets is met by the highest speed
 met-highest : (m : Table) → IsTable m → (d : Frac) → (lowest_pick m d).met ≡ true → d.num ≤ highest_speed m * d.den

@@ -12,29 +12,11 @@ use Rattle.ready_queue.specs.Entries.{QueueOf, IsAbsent, placed, ComesFirst}
 use Rattle.ready_queue.proofs.Placing.{placed-All}
 use Rattle.edf_demand.specs.Walk.{due_of, IsCalendar, TakesFirst}
 
--- two entries of different tasks may be looked at in either order
-swapped : (a b i u v w z : ℕ) → b ≢ a → z ≡ (if nat_eq i a then u else w)
-    → (if nat_eq i b then v else z) ≡ (if nat_eq i a then u else if nat_eq i b then v else w)
-swapped a b i u v w z ne e = go (nat_eq i b) refl (nat_eq i a) refl e
-  where
-    go : (c : Bool) → nat_eq i b ≡ c → (d : Bool) → nat_eq i a ≡ d → z ≡ (if d then u else w)
-        → (if c then v else z) ≡ (if d then u else if c then v else w)
-    go true is true same e = absurd (ne (sym (eqb-true i b is) ∙ eqb-true i a same))
-    go true is false same e = refl
-    go false is true same e = e
-    go false is false same e = e
-
 -- an entry of a task that wasn't in the list adds that task's deadline alone
 pub due_of-placed : (before : Entry → Entry → Bool) (e : Entry) (xs : List Entry) (i : ℕ) → IsAbsent e.task xs
     → due_of (placed before e xs) i ≡ (if nat_eq i e.task then e.due else due_of xs i)
 due_of-placed before e [] i a = refl
-due_of-placed before e (x ∷ xs) i a = go (before e x) (due_of-placed before e xs i a.1)
-  where
-    go : (b : Bool) → due_of (placed before e xs) i ≡ (if nat_eq i e.task then e.due else due_of xs i)
-        → due_of (if b then e ∷ x ∷ xs else x ∷ placed before e xs) i
-        ≡ (if nat_eq i e.task then e.due else due_of (x ∷ xs) i)
-    go true ih = refl
-    go false ih = swapped e.task x.task i e.due x.due (due_of xs i) (due_of (placed before e xs) i) a.0 ih
+due_of-placed before e (x ∷ xs) i a = grind (arith, nat_tests, due_of-placed before e xs i a.1, a.0)
 
 due-order : (e x : Entry) → due_before e x ≡ true → e.due ≤ x.due
 due-order e x b = grind (arith, nat_tests)
@@ -44,12 +26,7 @@ others-later : (e : Entry) (xs : List Entry) (i : ℕ)
     → AllByRecursion (λ x. x.task ≢ e.task → due_before e x ≡ true) xs → i ≢ e.task → 1 ≤ due_of xs i
     → e.due ≤ due_of xs i
 others-later e [] i a ne some = absurd (omega arith)
-others-later e (x ∷ xs) i a ne some = go (nat_eq i x.task) refl (others-later e xs i a.1 ne) some
-  where
-    go : (b : Bool) → nat_eq i x.task ≡ b → (1 ≤ due_of xs i → e.due ≤ due_of xs i)
-        → 1 ≤ (if b then x.due else due_of xs i) → e.due ≤ (if b then x.due else due_of xs i)
-    go true is ih some = due-order e x (a.0 (λ q. ne (eqb-true i x.task is ∙ q)))
-    go false is ih some = ih some
+others-later e (x ∷ xs) i a ne some = grind (arith, nat_tests, others-later e xs i a.1 ne, a.0, due-order e x)
 
 pub front : (xs : List Entry) (e : Entry) → Some e ≡ slice_get xs 0 → (rest : List Entry) × (xs ≡ e ∷ rest)
 front [] e is = absurd (cc)
@@ -112,13 +89,7 @@ module _ (q : QueueOf) (c : IsCalendar q) (e : Entry) (rest : List Entry) (is : 
 
     later : (i : ℕ) → due_of after.entries i
         ≡ (if nat_eq i e.task then due_of q.entries e.task + every else due_of q.entries i)
-    later i = go (nat_eq i e.task) (due-put i) (due-was i)
-      where
-        go : (b : Bool) → due_of after.entries i ≡ (if b then e.due + every else due_of rest i)
-            → due_of q.entries i ≡ (if b then e.due else due_of rest i)
-            → due_of after.entries i ≡ (if b then due_of q.entries e.task + every else due_of q.entries i)
-        go true now was = now ∙ ap (λ (n : ℕ). n + every) (sym first-due)
-        go false now was = now ∙ sym was
+    later i = grind (arith, nat_tests, due-put i, due-was i, first-due)
 
     pub put-calendar : IsCalendar after
     put-calendar = record {
@@ -174,11 +145,7 @@ module _ (m due every : ℕ) (f : ℕ → ℕ) (xs ys : List Entry) (below : All
   more-due here before i lt =
       ap (λ (l : List Entry). due_of l i) put
       ∙ due_of-placed due_before (record { task = m; due = due; period = every }) xs i (next-absent m xs below)
-      ∙ go (nat_eq i m) refl
-    where
-      go : (b : Bool) → nat_eq i m ≡ b → (if b then due else due_of xs i) ≡ f i
-      go true same = here ∙ ap f (sym (eqb-true i m same))
-      go false other = (let ne : i ≢ m = eqb-false i m other in before i (omega (arith, ne, lt)))
+      ∙ grind (arith, nat_tests, here, before i)
 
 -- a queue with an entry for each task is a calendar
 pub all-in : (m n : ℕ) (f : ℕ → ℕ) (q : QueueOf) → 1 ≤ n → n ≤ m → m ≤ n → q.limit ≡ n

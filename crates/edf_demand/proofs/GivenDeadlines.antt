@@ -6,7 +6,7 @@ use Rattle.task_model.specs.declared.task.Task.{Task}
 use Rattle.task_model.specs.Tasks.{IsTaskSet, task_at}
 use Rattle.sched_model.proofs.Tables.{length-list_below, get-table}
 use Rattle.edf_demand.specs.Deadlines.{AreFor}
-use Rattle.edf_demand.specs.DeadlineFile.{given_to, none_given, deadline_at, all_deadlines, AreGiven}
+use Rattle.edf_demand.specs.DeadlineFile.{given_to, none_given, relative_deadline, all_deadlines, AreGiven}
 
 -- where there is no row, no task has a given deadline
 none-at : (tasks : List Task) (i : ℕ) → i < length tasks → given_to (none_given tasks) i ≡ None
@@ -27,11 +27,11 @@ module _ (tasks : List Task) (set : IsTaskSet tasks) (given : List (Option ℕ))
 
   pub all-for : AreFor tasks (all_deadlines tasks given)
   all-for = record {
-    one_each = length-list_below (length tasks) (deadline_at tasks given);
+    one_each = length-list_below (length tasks) (relative_deadline tasks given);
     some = λ i lt.
-        let is = get-table (length tasks) (deadline_at tasks given) i 0 lt in
+        let is = get-table (length tasks) (relative_deadline tasks given) i 0 lt in
         subst (λ (n : ℕ). 1 ≤ n) (sym is) (in-range i lt (given_to given i) refl).0;
     within = λ i lt.
-        let is = get-table (length tasks) (deadline_at tasks given) i 0 lt in
+        let is = get-table (length tasks) (relative_deadline tasks given) i 0 lt in
         subst (λ (n : ℕ). n ≤ (task_at tasks i).period) (sym is) (in-range i lt (given_to given i) refl).1;
   }

@@ -27,15 +27,6 @@ taken-start p next now is = record {
   work_is = omega arith;
 }
 
-went-on : (a b now c : ℕ) → a ≡ now → now < b → (if nat_eq a now then c else 0) ≡ (if nat_eq b now then c else 0) + c
-went-on a b now c is later =
-    let on : nat_eq a now ≡ true = grind (arith, nat_tests) in
-    let off : nat_eq b now ≡ false = grind (arith, nat_tests) in
-    rw (on, off) (omega arith)
-
-stayed : (a b now c : ℕ) → b ≡ a → (if nat_eq a now then c else 0) ≡ (if nat_eq b now then c else 0) + 0
-stayed a b now c same = rw same (omega arith)
-
 not-due : (a now : ℕ) → now < a → nat_eq a now ≡ false
 not-due a now later = grind (arith, nat_tests)
 
@@ -65,18 +56,8 @@ module _ (p : Plan) (lim : IsWithinLimits p) where
         let own : ℕ → ℕ = λ i. if nat_eq i first.task then worst p i else 0 in
         let each : due_at p next now ≡ sum_below n (λ i. rest i + own i) =
         sum_below-same n (λ i. if nat_eq (next i) now then worst p i else 0) (λ i. rest i + own i)
-        (λ i lt. go i (nat_eq i first.task) refl (first.later i)) in
+        (λ i lt. grind (arith, nat_tests, first.later i, task-due, every_period p lim first.task)) in
         omega (arith, each, sum_below-add n rest own, sum_below-own n first.task (worst p) first.below)
-      where
-        go : (i : ℕ) → (b : Bool) → nat_eq i first.task ≡ b
-            → after i ≡ (if b then next first.task + period p first.task else next i)
-            → (if nat_eq (next i) now then worst p i else 0)
-            ≡ (if nat_eq (after i) now then worst p i else 0) + (if b then worst p i else 0)
-        go i true same moves =
-            let here : next i ≡ now = ap next (eqb-true i first.task same) ∙ task-due in
-            let there : now < after i = omega (arith, moves, task-due, every_period p lim first.task) in
-            went-on (next i) (after i) now (worst p i) here there
-        go i false other moves = stayed (next i) (after i) now (worst p i) moves
 
     -- taking a job leaves less work due at the tick
     pub falls : due_at p after now < due_at p next now
@@ -84,16 +65,11 @@ module _ (p : Plan) (lim : IsWithinLimits p) where
 
     pub taken-on : Taken p old after now (work + more)
     taken-on = record {
-      past = λ i lt. past i lt (nat_eq i first.task) (first.later i);
+      past = λ i lt. grind (arith, nat_tests, first.later i, task-due, t.past i lt);
       each = λ i lt. each i lt (nat_eq i first.task) refl (first.later i);
       work_is = omega (arith, fewer, first.work_is, t.work_is);
     }
       where
-        past : (i : ℕ) → i < count p → (b : Bool)
-            → after i ≡ (if b then next first.task + period p first.task else next i) → now ≤ after i
-        past i lt true moves = omega (arith, moves, task-due)
-        past i lt false moves = omega (arith, moves, t.past i lt)
-
         each : (i : ℕ) → i < count p → (b : Bool) → nat_eq i first.task ≡ b
             → after i ≡ (if b then next first.task + period p first.task else next i)
             → (after i ≡ old i) ⊎ ((old i ≡ now) × (after i ≡ now + period p i))

@@ -2,6 +2,7 @@
 use Rattle.std.proofs.Common.{◌≡◌, ◌⊎◌, inl, inr, ℕ, zero, suc, ◌+◌, ◌*◌, ◌/◌, ◌^◌, ◌<◌, ◌≤◌, Bool, true, false, nat_eq, if◌then◌else◌, refl, sym, ◌∙◌, ap, subst, arith, eq-or-lt_of_le}
 use Rattle.std.proofs.Math.Nat.{mul-le-mul_left, mul-le-mul_right}
 use Rattle.std.proofs.lemmas.Bool.{cases_lt, eqb-true, eqb-false, ltb-true, ltb-false}
+use Rattle.std.proofs.lemmas.Bool.Decides.{nat_tests}
 use Rattle.dvs_base.specs.declared.limits.TheConstants.{MOST_JOBS}
 use Rattle.grid_fraction.specs.declared.Frac.{Frac}
 use Rattle.grid_fraction.specs.Fraction.{is_greater}
@@ -295,21 +296,10 @@ module _ (p : Plan) (lim : IsWithinLimits p) (relative : ℕ → ℕ) (con : IsC
         → now < then_now
     goes-on after then_now moved e =
         let each : (i : ℕ) → i < count p → now + 1 ≤ after i =
-        λ i lt.
-        subst (λ (m : ℕ). now + 1 ≤ m) (sym (moved i lt)) (beyond i lt (nat_eq (next i) now) refl) in
+        λ i lt. grind (arith, nat_tests, moved i lt, now-first i lt, w.nexts i lt, every_period p lim i) in
         let above : now + 1 ≤ least_below (count p) after =
         least-above (count p) after (now + 1) (some_task p lim) each in
         omega (arith, above, e)
-      where
-        beyond : (i : ℕ) → i < count p → (b : Bool) → nat_eq (next i) now ≡ b
-            → now + 1 ≤ (if b then now + period p i else next i)
-        beyond i lt true e = omega (arith, every_period p lim i)
-        beyond i lt false e =
-            let other : next i ≡ now → ⊥ = eqb-false (next i) now e in
-            elim (eq-or-lt_of_le (now-first i lt)) [
-              | inl same ↦ absurd (other (omega (arith, same, w.nexts i lt)))
-              | inr less ↦ omega (arith, less, w.nexts i lt)
-            ]
 
     -- a step of the walk, whether or not the demand at the tick is the greatest so far
     module _ (few : hyper_jobs p.tasks ≤ MOST_JOBS) (le : now ≤ hyper p) (after : ℕ → ℕ) (then_now sum den : ℕ)

@@ -67,9 +67,9 @@ abbrev pub demand_answer : Plan → Frac → Result Constrained ConstrainFault
 demand_answer p demand = pick_answer p demand (lowest_pick p.machine demand)
 
 -- the answer of the test, from the first task with an offset, if any
-abbrev pub answer_from : Plan → (ℕ → ℕ) → Option ℕ → Result Constrained ConstrainFault
-answer_from p relative (Some i) = Err (Offset i)
-answer_from p relative None =
+abbrev pub tested_answer_from : Plan → (ℕ → ℕ) → Option ℕ → Result Constrained ConstrainFault
+tested_answer_from p relative (Some i) = Err (Offset i)
+tested_answer_from p relative None =
     if nat_lt MOST_JOBS (hyper_jobs p.tasks)
     then Err (TooManyJobs (hyper_jobs p.tasks))
     else demand_answer p (constrained_demand p relative)
@@ -77,4 +77,4 @@ answer_from p relative None =
 -- The answer of the test: the first task in file order with an offset; where none has one, that a hyperperiod has too
 -- many jobs; and otherwise the constrained demand with the lowest entry that meets it, or that none does.
 abbrev pub tested_answer : Plan → (ℕ → ℕ) → Result Constrained ConstrainFault
-tested_answer p relative = answer_from p relative (first_offset (offset p) (count p))
+tested_answer p relative = tested_answer_from p relative (first_offset (offset p) (count p))

@@ -4,7 +4,8 @@ use Rattle.std.specs.List.{slice_index_or}
 use Rattle.dvs_base.specs.Widths.{u64_end}
 use Rattle.dvs_base.specs.Checks.{and_then}
 use Rattle.dvs_base.specs.Text.{number_below, short_of}
-use Rattle.csv_text.specs.Rows.{two_of, text_rows}
+use Rattle.dvs_base.specs.Parts.{two_of}
+use Rattle.csv_text.specs.Rows.{text_rows}
 use Rattle.grid_fraction.specs.Numbers.{list_below}
 use Rattle.task_model.specs.declared.task.Task.{Task}
 use Rattle.task_model.specs.Tasks.{task_at}
@@ -17,8 +18,8 @@ abbrev pub deadline_from : ℕ → ℕ → ℕ → Result ℕ DeadlineFault
 deadline_from row period n = if n == 0 || nat_lt period n then Err (fault.Range row) else Ok n
 
 -- the task and the deadline of a row; each step that gives nothing is a refusal
-abbrev pub row_of : List Task → ℕ → List (List ℕ) → Result (ℕ × ℕ) DeadlineFault
-row_of tasks row fields =
+abbrev pub deadline_of_row : List Task → ℕ → List (List ℕ) → Result (ℕ × ℕ) DeadlineFault
+deadline_of_row tasks row fields =
     and_then (ok_or (two_of fields) (fault.Fields row (length fields))) (λ two.
     and_then (ok_or (place_of tasks two.0) (fault.UnknownTask row (short_of two.0))) (λ task.
     and_then (ok_or (number_below u64_end two.1) (fault.BadNumber row)) (λ number.
@@ -29,34 +30,34 @@ row_of tasks row fields =
 abbrev pub given_to : List (Option ℕ) → ℕ → Option ℕ
 given_to given i = slice_index_or given i None
 
--- the refusal of a row whose task has an earlier row, and otherwise `rest`
-abbrev pub no_earlier : ℕ → ℕ → Option ℕ → Result (List (Option ℕ)) DeadlineFault
+-- the check for an earlier row of the task: the refusal where there is one, else the rest
+abbrev pub no_earlier_deadline : ℕ → ℕ → Option ℕ → Result (List (Option ℕ)) DeadlineFault
     → Result (List (Option ℕ)) DeadlineFault
-no_earlier row task None rest = rest
-no_earlier row task (Some deadline) rest = Err (fault.Repeated row task)
+no_earlier_deadline row task None rest = rest
+no_earlier_deadline row task (Some deadline) rest = Err (fault.Repeated row task)
 
 -- the deadlines with one more row, or the refusal of a second row of its task
-abbrev pub with_row : List (Option ℕ) → ℕ → ℕ → ℕ → Result (List (Option ℕ)) DeadlineFault
-with_row given row task deadline = no_earlier row task (given_to given task) (Ok (slice_set given task (Some deadline)))
+abbrev pub one_more : List (Option ℕ) → ℕ → ℕ → ℕ → Result (List (Option ℕ)) DeadlineFault
+one_more given row task deadline = no_earlier_deadline row task (given_to given task) (Ok (slice_set given task (Some deadline)))
 
 -- the deadlines of the rows so far with those of the remaining rows, the first of which has the number `row`
 abbrev pub given_from : List Task → ℕ → List (Option ℕ) → List (List (List ℕ)) → Result (List (Option ℕ)) DeadlineFault
 given_from tasks row given [] = Ok given
 given_from tasks row given (fields ∷ rest) =
-    and_then (row_of tasks row fields) (λ r.
-    and_then (with_row given row r.0 r.1) (λ more. given_from tasks (row + 1) more rest))
+    and_then (deadline_of_row tasks row fields) (λ r.
+    and_then (one_more given row r.0 r.1) (λ more. given_from tasks (row + 1) more rest))
 
 -- the deadlines before the first row: none
 abbrev pub none_given : List Task → List (Option ℕ)
 none_given tasks = list_below (length tasks) (λ i. None)
 
--- the deadline of task i: its row's, or its period where it has no row
-abbrev pub deadline_at : List Task → List (Option ℕ) → ℕ → ℕ
-deadline_at tasks given i = unwrap_or (given_to given i) (task_at tasks i).period
+-- the relative deadline of task i: its row's, or its period where it has no row
+abbrev pub relative_deadline : List Task → List (Option ℕ) → ℕ → ℕ
+relative_deadline tasks given i = unwrap_or (given_to given i) (task_at tasks i).period
 
 -- the deadlines of all tasks, in their order
 abbrev pub all_deadlines : List Task → List (Option ℕ) → List ℕ
-all_deadlines tasks given = list_below (length tasks) (deadline_at tasks given)
+all_deadlines tasks given = list_below (length tasks) (relative_deadline tasks given)
 
 -- the fields of a deadline file's header
 abbrev pub deadline_header : List (List ℕ)

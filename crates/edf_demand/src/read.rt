@@ -5,7 +5,7 @@ ghost use Rattle.csv_text.specs.Rows.{IsPlain, AreCountedFrom, records_left};
 ghost use Rattle.dvs_base.specs.Checks.{IsUnlessMemory};
 ghost use Rattle.task_model.specs.Tasks.{task_at};
 ghost use Rattle.edf_demand.specs.Deadlines.{AreFor};
-ghost use Rattle.edf_demand.specs.DeadlineFile.{row_of, with_row, given_from, none_given, all_deadlines, given_in, deadline_file, AreGiven};
+ghost use Rattle.edf_demand.specs.DeadlineFile.{deadline_of_row, one_more, given_from, none_given, all_deadlines, given_in, deadline_file, AreGiven};
 
 use crate::{DeadlineFault, Deadlines};
 use csv::{ByteRecord, Reader};
@@ -16,7 +16,7 @@ use task_model::TaskSet;
 
 // The task and the deadline of a row, or the first refusal of the row.
 fn read_row(tasks: &TaskSet, row: u64, fields: &ByteRecord) -> Result<(u32, u64), DeadlineFault>
-    ensures row { result ≡ row_of tasks.now row (fields_of fields.now) }
+    ensures row { result ≡ deadline_of_row tasks.now row (fields_of fields.now) }
     ensures task { IfOk result (λ r. r.0 < length tasks.now) }
     ensures some { IfOk result (λ r. 1 ≤ r.1) }
     ensures within { IfOk result (λ r. r.1 ≤ (task_at tasks.now r.0).period) }
@@ -46,7 +46,7 @@ fn add_row(
     requires task { task < length tasks.now }
     requires some { 1 ≤ deadline }
     requires within { deadline ≤ (task_at tasks.now task).period }
-    ensures row { IsUnlessMemory DeadlineFault.NoMemory (λ _. given.new) result (with_row given.old row task deadline) }
+    ensures row { IsUnlessMemory DeadlineFault.NoMemory (λ _. given.new) result (one_more given.old row task deadline) }
     ensures given { AreGiven tasks.now given.new }
 {
     if given[task as usize].is_some() {

@@ -13,7 +13,7 @@ use Rattle.sched_model.specs.Ticks.{Tick, left, share}
 use Rattle.sched_model.specs.Priority.{allotment}
 use Rattle.sched_model.proofs.Allotments.{allotment_of, allotment-shares, shares-same}
 use Rattle.sched_model.proofs.Tables.{length-list_below, get-table}
-use Rattle.edf_demand_laws.specs.Constrained.{key_at, IsNextAt, IsScheduleAt, tick_at, schedule_at}
+use Rattle.edf_demand_laws.specs.Constrained.{key_at, IsNextAt, IsScheduleAt, constrained_tick, schedule_at}
 
 -- an entry with the speed of an entry of the table is that entry
 pub same-entry : (m : Table) → IsTable m → (e k : ℕ) → e < length m.points → speed_at m k ≡ speed_at m e → k ≡ e
@@ -47,13 +47,13 @@ module _ (p : Plan) (relative : ℕ → ℕ) (dem : JobDemands) (e : ℕ) where
   abbrev given : List Tick → ℕ → ℕ
   given past = allotment (count p) (key past) f (left p dem past)
 
-  next-may : (past : List Tick) → IsNextAt p relative dem f past (tick_at p relative dem e past)
+  next-may : (past : List Tick) → IsNextAt p relative dem f past (constrained_tick p relative dem e past)
   next-may past =
       let n = count p in
       record {
         one_share_each = length-list_below n (given past);
         speed = refl;
-        legal = shares-same n (key past) f (left p dem past) (given past) (share (tick_at p relative dem e past))
+        legal = shares-same n (key past) f (left p dem past) (given past) (share (constrained_tick p relative dem e past))
             (λ i lt. sym (get-table n (given past) i 0 lt)) (allotment-shares n (key past) f (left p dem past));
       }
 
@@ -65,7 +65,7 @@ module _ (p : Plan) (relative : ℕ → ℕ) (dem : JobDemands) (e : ℕ) where
       ((r.0, next-may (schedule_at p relative dem e t)), omega (arith, r.1))
 
   module _ (table : IsTable p.machine) (lt : e < length p.machine.points) where
-    next-same : (past : List Tick) (x : Tick) → IsNextAt p relative dem f past x → x ≡ tick_at p relative dem e past
+    next-same : (past : List Tick) (x : Tick) → IsNextAt p relative dem f past x → x ≡ constrained_tick p relative dem e past
     next-same past x h = λ i. record { entry = same-entry p.machine table e x.entry lt h.speed i; shares = same i }
       where
         same : x.shares ≡ list_below (count p) (given past)
@@ -80,4 +80,4 @@ module _ (p : Plan) (relative : ℕ → ℕ) (dem : JobDemands) (e : ℕ) where
         → ticks ≡ schedule_at p relative dem e (length ticks)
     schedule-only [] h = refl
     schedule-only (x ∷ past) h =
-        ap (λ y. y ∷ past) (next-same past x h.1) ∙ ap (λ ps. tick_at p relative dem e ps ∷ ps) (schedule-only past h.0)
+        ap (λ y. y ∷ past) (next-same past x h.1) ∙ ap (λ ps. constrained_tick p relative dem e ps ∷ ps) (schedule-only past h.0)

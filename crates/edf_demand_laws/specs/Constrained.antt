@@ -39,8 +39,8 @@ IsMetBy p relative dem ticks =
     → exec p (at (absolute p relative i k) ticks) i k ≡ dem i k
 
 -- the one tick that may follow the ticks of `past` with the entry e
-abbrev pub tick_at : Plan → (ℕ → ℕ) → JobDemands → ℕ → List Tick → Tick
-tick_at p relative dem e past =
+abbrev pub constrained_tick : Plan → (ℕ → ℕ) → JobDemands → ℕ → List Tick → Tick
+constrained_tick p relative dem e past =
     let n = count p in
     let key = key_at p relative (length past) in
     record { entry = e; shares = list_below n (allotment n key (speed_at p.machine e) (left p dem past)) }
@@ -48,4 +48,4 @@ tick_at p relative dem e past =
 -- the one schedule of t ticks with the entry e
 abbrev pub schedule_at : Plan → (ℕ → ℕ) → JobDemands → ℕ → ℕ → List Tick
 schedule_at p relative dem e zero = []
-schedule_at p relative dem e (suc t) = let past = schedule_at p relative dem e t in tick_at p relative dem e past ∷ past
+schedule_at p relative dem e (suc t) = let past = schedule_at p relative dem e t in constrained_tick p relative dem e past ∷ past

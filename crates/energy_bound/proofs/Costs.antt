@@ -2,6 +2,7 @@
 use Rattle.std.proofs.Common.{◌≡◌, Bool, true, false, ℕ, zero, suc, ◌+◌, ◌-◌, ◌*◌, ◌<◌, ◌≤◌, List, [], ◌∷◌, ◌++◌, length, replicate, refl, ◌∙◌, ap, ap₂, arith, mul-le-mul, mul-le-mul_left, length-append}
 use Rattle.std.specs.Prelude.{sum_by, nat_lt, if◌then◌else◌}
 use Rattle.std.specs.Int.{abs_diff}
+use Rattle.std.proofs.Math.Nat.{le_of_mul-le-mul_left}
 use Rattle.std.proofs.lemmas.Bool.Decides.{nat_tests}
 use Rattle.std.specs.List.{AllByRecursion}
 use Rattle.std.proofs.lemmas.List.{length-replicate}
@@ -13,7 +14,6 @@ use Rattle.energy_bound.specs.Choices.{Choice, IsChoice, AreChoices, choice_cost
 use Rattle.energy_bound.specs.Corners.{corner, corner_units, corner_cost, last_corner, Holds}
 use Rattle.energy_bound.specs.Certificates.{least_of}
 use Rattle.energy_bound.specs.Bounds.{BoundsChoices, IsReached, HavePrices}
-use Rattle.energy_bound.proofs.Lines.{cancel-le}
 use Rattle.energy_bound.proofs.CornerLemmas.{volts, idle-cost, full-cost, units-climb, units-order, cost-climb, volts-climb}
 
 -- a tick of w units, r below its speed f, costs no less than the mix of an idle tick and a full one
@@ -27,8 +27,8 @@ over_mix w r f v share f0 v0 h =
 over_line : (w r f M D s g idle full cost : ℕ) → w + r ≡ f → 0 < f → s ≤ D * idle + g → M * f + s ≤ D * full + g
     → r * idle + w * full ≤ f * cost → M * w + s ≤ D * cost + g
 over_line w r f M D s g idle full cost whole pos h0 hf mix =
-    cancel-le f (M * w + s) (D * cost + g) pos
-    (omega (arith, ap (λ v. v * s) whole, ap (λ v. v * g) whole, mul-le-mul_left r h0, mul-le-mul_left w hf, mul-le-mul_left D mix))
+    le_of_mul-le-mul_left {m = M * w + s} {n = D * cost + g} {k = f}
+    (omega (arith, ap (λ v. v * s) whole, ap (λ v. v * g) whole, mul-le-mul_left r h0, mul-le-mul_left w hf, mul-le-mul_left D mix)) pos
 
 -- the energy of the two corners' ticks is on the line through the two
 mixed_energy : (M ca ub cb ua T W h l : ℕ) → ca + M ≡ cb → T * ua + h ≡ W → W + l ≡ T * ub → h * cb + l * ca + T * (cb * ua) ≡ M * W + T * (ca * ub)

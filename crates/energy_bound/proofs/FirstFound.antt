@@ -1,6 +1,6 @@
 -- The first two corners that hold are those that the search finds.
-use Rattle.std.proofs.Common.{◌≡◌, ℕ, ◌*◌, ◌<◌, ◌≤◌, Bool, true, false, not, nat_lt, nat_le, Ok, refl, ap, arith}
-use Rattle.std.proofs.lemmas.Bool.{and_parts, and_from, not-true, not-false, ltb-true, leb-true, lt-ltb, le-leb}
+use Rattle.std.proofs.Common.{◌≡◌, ℕ, ◌*◌, ◌<◌, ◌≤◌, Bool, true, false, not, nat_lt, nat_le, Ok, ap, arith}
+use Rattle.std.proofs.lemmas.Bool.{and_parts, and_from, not-true, not-false, ltb-true, leb-true, lt-ltb, le-leb, false_from_ne_true}
 use Rattle.std.proofs.lemmas.Bool.Decides.{nat_tests}
 use Rattle.grid_fraction.specs.Numbers.{all_below, any_below}
 use Rattle.grid_fraction.proofs.Searches.{first_from-is, any_below-none, any_below-false, any_below-found, all-found}
@@ -46,11 +46,7 @@ module _ (m : Table) (units ticks : ℕ) where
   -- the test is false for two corners that don't hold
   not-holding : (a b : ℕ) → a ≤ last_corner m → b ≤ last_corner m → (Holds m units ticks a b → ⊥)
       → is_holding m units ticks a b ≡ false
-  not-holding a b low high none = go (is_holding m units ticks a b) refl
-    where
-      go : (t : Bool) → is_holding m units ticks a b ≡ t → is_holding m units ticks a b ≡ false
-      go true e = absurd (none (true-holding a b low high e))
-      go false e = e
+  not-holding a b low high none = false_from_ne_true (is_holding m units ticks a b) (λ e. none (true-holding a b low high e))
 
   high-is : (a b : ℕ) → IsFirstPartner m units ticks a b → high_corner m units ticks a ≡ b
   high-is a b r =

@@ -1,6 +1,6 @@
 -- Points on or above the line through two others, in natural numbers without differences.
-use Rattle.std.proofs.Common.{◌≡◌, ℕ, ◌+◌, ◌-◌, ◌*◌, ◌<◌, ◌≤◌, ◌⊎◌, inl, inr, arith, ap, mul-le-mul_left, mul-le-mul_right}
-use Rattle.std.proofs.lemmas.Bool.{cases_lt}
+use Rattle.std.proofs.Common.{◌≡◌, ℕ, ◌+◌, ◌-◌, ◌*◌, ◌<◌, ◌≤◌, arith, ap, mul-le-mul_left, mul-le-mul_right}
+use Rattle.std.proofs.Math.Nat.{le_of_mul-le-mul_left}
 
 -- the point (x, y) is on or above the line through (p, c) and (q, d), where p < q
 abbrev pub Above : (p c q d x y : ℕ) → Type 0
@@ -16,18 +16,10 @@ above-second p c q d = omega arith
 pub above-rise : (p c q d D M x y : ℕ) → p + D ≡ q → c + M ≡ d → Above p c q d x y → M * x + c * q ≤ D * y + d * p
 above-rise p c q d D M x y e f h = omega (arith, ap (λ v. v * x) f, ap (λ v. v * y) e, h)
 
--- a positive factor can be cancelled
-pub cancel-le : (k m n : ℕ) → 0 < k → k * m ≤ k * n → m ≤ n
-cancel-le k m n pos h = go (cases_lt n m)
-  where
-    go : (n < m) ⊎ (m ≤ n) → m ≤ n
-    go (inl lt) = absurd (omega (arith, mul-le-mul_left k (let more : n + 1 ≤ m = omega arith in more)))
-    go (inr le) = le
-
 -- the order of fractions is transitive, for a middle denominator from 1 on
 pub ratio-trans : (a b c d e f : ℕ) → 0 < d → a * d ≤ c * b → c * f ≤ e * d → a * f ≤ e * b
 ratio-trans a b c d e f pos h g =
-    cancel-le d (a * f) (e * b) pos (omega (arith, mul-le-mul_right f h, mul-le-mul_right b g))
+    le_of_mul-le-mul_left {m = a * f} {n = e * b} {k = d} (omega (arith, mul-le-mul_right f h, mul-le-mul_right b g)) pos
 
 -- the point (x, y) is on or above the line from (p, c) to (U, C) where the slope from (x, y) to (U, C) is at most that
 -- from (p, c), by the amounts by which (U, C) exceeds both
@@ -69,7 +61,7 @@ chain-by : (p c D M P X Q Y : ℕ) → 0 < P → Above p c (p + D) (c + M) (p + 
 chain-by p c D M P X Q Y pos h g =
     let near : M * P ≤ D * X = omega (arith, h) in
     let on : X * Q ≤ Y * P = omega (arith, g) in
-    let far : M * Q ≤ D * Y = cancel-le P (M * Q) (D * Y) pos (omega (arith, mul-le-mul_right Q near, mul-le-mul_left D on)) in
+    let far : M * Q ≤ D * Y = le_of_mul-le-mul_left {m = M * Q} {n = D * Y} {k = P} (omega (arith, mul-le-mul_right Q near, mul-le-mul_left D on)) pos in
     omega (arith, near, far)
 
 pub above-chain : (p c q d r e s f : ℕ) → p ≤ q → c ≤ d → p < r → c ≤ e → r ≤ s → e ≤ f

@@ -15,7 +15,7 @@ use Rattle.sched_model.specs.Ticks.{Tick, share}
 use Rattle.sched_model.specs.Priority.{key_of, in_order}
 use Rattle.sched_model.specs.Decision.{is_decision}
 use Rattle.sched_model.specs.Schedule.{entry_in_force, IsScheduleBy}
-use Rattle.sched_model.specs.Notes.{same_holder, Span, spans_of, lengthened, units_of, Piece, before_pieces, pieces_of, position_of, run_energy, idle_energy, release_notes, all_release_notes, had_by, segment_notes, pieces_notes, span_notes, notes_before_end}
+use Rattle.sched_model.specs.Notes.{same_holder, Span, spans_of, lengthened, tick_units, Piece, before_pieces, pieces_of, position_of, run_energy, idle_energy, release_notes, all_release_notes, had_by, segment_notes, pieces_notes, span_notes, notes_before_end}
 use Rattle.sched_model.proofs.PieceLemmas.{same_holder-eq}
 use Rattle.sched_model.proofs.NoteLemmas.{flat_map-last}
 use Rattle.sched_model.proofs.OrderLemmas.{sum_list, sum_list-in_order}
@@ -124,7 +124,7 @@ module _ (p : Plan) (dem : ℕ → ℕ → ℕ) (ask : List Tick → Frac) where
   -- the weight of the units of all ticks
   abbrev pub ticks_weight : (ℕ → Holder → ℕ) → List Tick → ℕ
   ticks_weight t [] = 0
-  ticks_weight t (x ∷ past) = ticks_weight t past + weight_of (t x.entry) (units_of p past x)
+  ticks_weight t (x ∷ past) = ticks_weight t past + weight_of (t x.entry) (tick_units p past x)
 
   spans-sum : (f : Note → ℕ) (t : ℕ → Holder → ℕ) → Counts f t → (spans : List Span)
       → sum_by f (flat_map (span_notes p dem ask) (reverse spans)) ≡ spans_weight t spans
@@ -157,7 +157,7 @@ module _ (p : Plan) (dem : ℕ → ℕ → ℕ) (ask : List Tick → Frac) where
       go true e ih = rw e refl
       go false e ih =
           let same : y.entry ≡ x.entry = entry-stays x y past h e in
-          rw e (longer-begins (units_of p (y ∷ past) x) (spans_of p dem (y ∷ past)) y.entry x.entry same ih)
+          rw e (longer-begins (tick_units p (y ∷ past) x) (spans_of p dem (y ∷ past)) y.entry x.entry same ih)
 
   longer-weight : (t : ℕ → Holder → ℕ) (us : List Holder) (spans : List Span) (e : ℕ) → BeginsWith spans e
       → spans_weight t (lengthened us spans) ≡ spans_weight t spans + weight_of (t e) us
@@ -172,13 +172,13 @@ module _ (p : Plan) (dem : ℕ → ℕ → ℕ) (ask : List Tick → Frac) where
   spans-ticks t (x ∷ y ∷ past) h = go (is_decision p dem (y ∷ past)) refl (spans-ticks t (y ∷ past) h.0)
     where
       go : (b : Bool) → is_decision p dem (y ∷ past) ≡ b → spans_weight t (spans_of p dem (y ∷ past)) ≡ ticks_weight t (y ∷ past)
-          → spans_weight t (spans_of p dem (x ∷ y ∷ past)) ≡ ticks_weight t (y ∷ past) + weight_of (t x.entry) (units_of p (y ∷ past) x)
-      go true e ih = rw e (ap (λ v. v + weight_of (t x.entry) (units_of p (y ∷ past) x)) ih)
+          → spans_weight t (spans_of p dem (x ∷ y ∷ past)) ≡ ticks_weight t (y ∷ past) + weight_of (t x.entry) (tick_units p (y ∷ past) x)
+      go true e ih = rw e (ap (λ v. v + weight_of (t x.entry) (tick_units p (y ∷ past) x)) ih)
       go false e ih =
           let same : y.entry ≡ x.entry = entry-stays x y past h e in
           rw e (
-          longer-weight t (units_of p (y ∷ past) x) (spans_of p dem (y ∷ past)) y.entry (last-entry y past h.0)
-          ∙ ap₂ (λ v e. v + weight_of (t e) (units_of p (y ∷ past) x)) ih same
+          longer-weight t (tick_units p (y ∷ past) x) (spans_of p dem (y ∷ past)) y.entry (last-entry y past h.0)
+          ∙ ap₂ (λ v e. v + weight_of (t e) (tick_units p (y ∷ past) x)) ih same
           )
 
   -- the sum over the notes of a schedule is the weight of its ticks
@@ -201,7 +201,7 @@ module _ (p : Plan) (dem : ℕ → ℕ → ℕ) (ask : List Tick → Frac) where
       )
 
   pub units-weight : (t : Holder → ℕ) (w : ℕ) → ((i k : ℕ) → t (Held i k) ≡ w) → (past : List Tick) (x : Tick)
-      → weight_of t (units_of p past x) ≡ sum_below (count p) (share x) * w + ((point p x.entry).speed - sum_below (count p) (share x)) * t Nobody
+      → weight_of t (tick_units p past x) ≡ sum_below (count p) (share x) * w + ((point p x.entry).speed - sum_below (count p) (share x)) * t Nobody
   units-weight t w same past x =
       let order : List ℕ = in_order (key_of p.scheduler p (length past)) (count p) in
       let job : ℕ → ℕ = λ i. latest p i (length past) in

@@ -1,5 +1,5 @@
 // Request files, and their first errors.
-use request_list::{MOST_REQUESTS, RequestColumn, RequestFault, Requests};
+use request_list::{MOST_REQUEST_UNITS, MOST_REQUESTS, RequestColumn, RequestFault, Requests};
 use std::process::Abort;
 use std::test::Fail;
 
@@ -27,7 +27,7 @@ fn requests_of_a_file_are_read(rt: HostRuntime) -> Result<(), Fail> {
         b"\xEF\xBB\xBFarrival,units\r\n0,\"3\"\r\n\"1\",6\r\n1,1152921504606846976",
         b"\"arrival\",units\r0,3\r1,6\n\n1,1152921504606846976\n\n",
     ] {
-        reads(&rt, text, &[(0, 3), (1, 6), (1, 1 << 60)])?;
+        reads(&rt, text, &[(0, 3), (1, 6), (1, MOST_REQUEST_UNITS)])?;
     }
     Ok(())
 }

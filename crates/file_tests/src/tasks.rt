@@ -1,7 +1,7 @@
 // Task files, and sets made from a list.
 use dvs_base::Short;
 use std::test::Fail;
-use task_model::{Field, TaskFault, TaskSet};
+use task_model::{Field, LATEST_OFFSET, TaskFault, TaskSet};
 
 const PAPER_SET: &str =
     "[[task]]\nname = \"t1\"\nperiod = 8\nworst = 12\n[[task]]\nname = \"t2\"\nperiod = 10\nworst = 12\n[[task]]\nname = \"t3\"\nperiod = 14\nworst = 4\n";
@@ -146,7 +146,10 @@ fn an_offset_is_read_and_written(rt: HostRuntime) -> Result<(), Fail> {
     let again = TaskSet::read(alloc, written.as_bytes()).map_err(|_| "written")?;
     for set in [set, again] {
         if set.count() == 2 {
-            assert_eq!(rt; (set.task(0).offset, set.task(1).offset), (0, 1 << 40));
+            assert_eq!(rt;
+                (set.task(0).offset, set.task(1).offset),
+                (0, LATEST_OFFSET)
+            );
         }
         assert_eq!(rt; set.count(), 2);
     }

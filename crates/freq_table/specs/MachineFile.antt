@@ -15,40 +15,40 @@ use Rattle.freq_table.specs.declared.fault.MachineFault.TheVariants as fault
 use Rattle.freq_table.specs.Tables.{Table}
 
 -- the known keys of the document
-abbrev pub file_keys : List (List ℕ)
-file_keys = codes "charge" ∷ codes "idle" ∷ codes "point" ∷ []
+abbrev pub machine_file_keys : List (List ℕ)
+machine_file_keys = codes "charge" ∷ codes "idle" ∷ codes "point" ∷ []
 
 -- the known keys of a point
 abbrev pub point_keys : List (List ℕ)
 point_keys = codes "speed" ∷ codes "millivolts" ∷ []
 
 -- the check for an unknown key: the refusal of the table at this place where there is one, else the rest
-abbrev pub no_unknown : {A : Type 0} → ℕ → Option (List ℕ) → Result A MachineFault → Result A MachineFault
-no_unknown place None rest = rest
-no_unknown place (Some key) rest = Err (fault.UnknownKey place (short_of key))
+abbrev pub no_unknown_machine_key : {A : Type 0} → ℕ → Option (List ℕ) → Result A MachineFault → Result A MachineFault
+no_unknown_machine_key place None rest = rest
+no_unknown_machine_key place (Some key) rest = Err (fault.UnknownKey place (short_of key))
 
 -- the refusal for an error at a key of this place
-abbrev pub fault_at : ℕ → MachineField → MemberFault → MachineFault
-fault_at place field member_fault.Missing = fault.Missing place field
-fault_at place field member_fault.Kind = fault.Kind place field
-fault_at place field member_fault.Range = fault.Range place field
+abbrev pub machine_fault_at : ℕ → MachineField → MemberFault → MachineFault
+machine_fault_at place field member_fault.Missing = fault.Missing place field
+machine_fault_at place field member_fault.Kind = fault.Kind place field
+machine_fault_at place field member_fault.Range = fault.Range place field
 
 -- the value at a key of this place, or the refusal for its error
-abbrev pub at_field : {A : Type 0} → ℕ → MachineField → Result A MemberFault → Result A MachineFault
-at_field place field (Ok value) = Ok value
-at_field place field (Err e) = Err (fault_at place field e)
+abbrev pub at_point_key : {A : Type 0} → ℕ → MachineField → Result A MemberFault → Result A MachineFault
+at_point_key place field (Ok value) = Ok value
+at_point_key place field (Err e) = Err (machine_fault_at place field e)
 
 -- a setting of the document, of the value at its key; 0 where it is absent
 abbrev pub setting_at : MachineField → ℕ → Option Data → Result ℕ MachineFault
 setting_at field high None = Ok 0
-setting_at field high (Some value) = at_field 0 field (number_from 0 high (as_integer value))
+setting_at field high (Some value) = at_point_key 0 field (number_from 0 high (as_integer value))
 
 -- the point of the table at this place: its unknown keys, its speed and its voltage, in this order
 abbrev pub point_of_members : ℕ → Members → Result Point MachineFault
 point_of_members place ms =
-    no_unknown place (unknown_key point_keys ms) (
-    and_then (at_field place field.Speed (number_at 1 TOP_SPEED (get_member (codes "speed") ms))) (λ speed.
-    and_then (at_field place field.Millivolts (number_at 1 MOST_MILLIVOLTS (get_member (codes "millivolts") ms))) (λ millivolts.
+    no_unknown_machine_key place (unknown_key point_keys ms) (
+    and_then (at_point_key place field.Speed (number_at 1 TOP_SPEED (get_member (codes "speed") ms))) (λ speed.
+    and_then (at_point_key place field.Millivolts (number_at 1 MOST_MILLIVOLTS (get_member (codes "millivolts") ms))) (λ millivolts.
     Ok record { speed = speed; millivolts = millivolts })))
 
 -- the point at this place, of an entry that is a table; another entry is refused
@@ -77,22 +77,22 @@ points_from points (item value rest) =
     if may_follow (last_of points) x then points_from (points ++ x ∷ []) rest else Err (fault.NotRising (length points + 1)))
 
 -- the points of a value that is an array, or the refusal of a value that is not
-abbrev pub entries_from : Option Items → Result (List Point) MachineFault
-entries_from None = Err (fault.Kind 0 field.Point)
-entries_from (Some no_items) = Err fault.NoPoints
-entries_from (Some (item value rest)) =
+abbrev pub points_of_array : Option Items → Result (List Point) MachineFault
+points_of_array None = Err (fault.Kind 0 field.Point)
+points_of_array (Some no_items) = Err fault.NoPoints
+points_of_array (Some (item value rest)) =
     if nat_lt MOST_POINTS (count_of (item value rest)) then Err (fault.TooMany (count_of (item value rest))) else points_from [] (item value rest)
 
 -- the points of the value at the document's key `point`
 abbrev pub points_at : Option Data → Result (List Point) MachineFault
 points_at None = Err fault.NoPoints
-points_at (Some value) = entries_from (as_array value)
+points_at (Some value) = points_of_array (as_array value)
 
 -- the machine of a document: its unknown keys, its idle share, its charge, and then its points
 abbrev pub table_of_document : Option Members → Result Table MachineFault
 table_of_document None = Err fault.NotToml
 table_of_document (Some ms) =
-    no_unknown 0 (unknown_key file_keys ms) (
+    no_unknown_machine_key 0 (unknown_key machine_file_keys ms) (
     and_then (setting_at field.Idle MOST_IDLE (get_member (codes "idle") ms)) (λ idle.
     and_then (setting_at field.Charge MOST_CHARGE (get_member (codes "charge") ms)) (λ charge.
     and_then (points_at (get_member (codes "point") ms)) (λ points.

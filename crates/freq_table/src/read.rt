@@ -7,7 +7,7 @@ ghost use Rattle.dvs_base.specs.Settings.{number_at};
 ghost use Rattle.freq_table.specs.declared.limits.TheConstants.{MOST_POINTS};
 ghost use Rattle.freq_table.specs.Tables.{IsPoint};
 ghost use Rattle.freq_table.specs.Limits.{ArePoints};
-ghost use Rattle.freq_table.specs.MachineFile.{MeansMachine, fault_at, at_field, setting_at, point_of_members, point_of, may_follow, last_of, points_from, entries_from, points_at, table_of_document, machine_file};
+ghost use Rattle.freq_table.specs.MachineFile.{MeansMachine, machine_fault_at, at_point_key, setting_at, point_of_members, point_of, may_follow, last_of, points_from, points_of_array, points_at, table_of_document, machine_file};
 
 use crate::fault::{MachineFault, MachineField};
 use crate::limits::{MOST_CHARGE, MOST_IDLE, MOST_MILLIVOLTS, MOST_POINTS, TOP_SPEED};
@@ -17,7 +17,7 @@ use std::alloc::Global;
 use toml::{Table, Value};
 
 fn fault_at(place: u32, field: MachineField, fault: MemberFault) -> MachineFault
-    ensures { result ≡ fault_at place field fault }
+    ensures { result ≡ machine_fault_at place field fault }
 {
     match fault {
         MemberFault::Missing => MachineFault::Missing { place, field },
@@ -49,7 +49,7 @@ fn read_number(
     most: u64,
     table: &Table,
 ) -> Result<u64, MachineFault>
-    ensures meaning { result ≡ at_field place field (number_at 1 most (get_member key.now (table_view table.now))) }
+    ensures meaning { result ≡ at_point_key place field (number_at 1 most (get_member key.now (table_view table.now))) }
     ensures limits { IfOk result (λ n. (1 ≤ n) × (n ≤ most)) }
 {
     match number_at(table, key, 1, most) {
@@ -121,7 +121,7 @@ fn read_entries(alloc: Global, entries: &[Value]) -> Result<Vec<Point>, MachineF
 }
 
 fn read_array(alloc: Global, entries: &[Value]) -> Result<Vec<Point>, MachineFault>
-    ensures meaning { MeansMachine (λ v. v.items) result (entries_from (Some (items_view entries.now))) }
+    ensures meaning { MeansMachine (λ v. v.items) result (points_of_array (Some (items_view entries.now))) }
     ensures limits { IfOk result (λ v. ArePoints v.items) }
     ensures some { IfOk result (λ v. 1 ≤ vec_len v) }
     ensures few { IfOk result (λ v. vec_len v ≤ MOST_POINTS) }

@@ -3,8 +3,7 @@ use Rattle.std.proofs.Common.{◌≡◌, ℕ, ◌<◌, ◌≤◌, List, [], ◌�
 use Rattle.grid_fraction.specs.Numbers.{least_below}
 use Rattle.grid_fraction.proofs.Least.{least-above, least-below}
 use Rattle.sched_model.specs.Priority.{in_order}
-use Rattle.sched_model.proofs.OrderLemmas.{IsOrdered, below-at, first_ahead, in_order-below, in_order-ordered}
-use Rattle.sched_model.proofs.OrderLemmas.{length-in_order, stands-in_order}
+use Rattle.sched_model.proofs.OrderLemmas.{IsOrdered, below-at, first_ahead, in_order-below, in_order-ordered, length-in_order, stands-in_order}
 use Rattle.look_ahead_laws.proofs.EdfOrder.{key_rises}
 
 first-least : (key : ℕ → ℕ) (j : ℕ) (pre post : List ℕ) → IsOrdered key (pre ++ j ∷ post)

@@ -1,14 +1,11 @@
 -- A task whose deadline grows, moved to its place in EDF order.
-use Rattle.std.proofs.Common.{◌≡◌, ◌≢◌, ◌⊎◌, inl, inr, eq-or-lt_of_le, le_of_suc-le-suc, ℕ, zero, suc, ◌<◌, ◌≤◌, Bool}
-use Rattle.std.proofs.Common.{true, false, List, [], ◌∷◌, length, get_or, drop, refl, arith, ap, ap₂, sym, subst, ◌∙◌}
-use Rattle.std.proofs.Common.{nat_eq, nat_lt, if◌then◌else◌, true≢false}
+use Rattle.std.proofs.Common.{◌≡◌, ◌≢◌, ◌⊎◌, inl, inr, eq-or-lt_of_le, le_of_suc-le-suc, ℕ, zero, suc, ◌<◌, ◌≤◌, Bool, true, false, List, [], ◌∷◌, length, get_or, drop, refl, arith, ap, ap₂, sym, subst, ◌∙◌, nat_eq, nat_lt, if◌then◌else◌, true≢false}
 use Rattle.std.specs.Prelude.{◌||◌, ◌&&◌}
 use Rattle.std.proofs.lemmas.Bool.Decides.{nat_tests}
 use Rattle.std.proofs.lemmas.List.{drop_more}
 use Rattle.sched_model.specs.Priority.{stands_before, insert_by, in_order}
 use Rattle.sched_model.proofs.PriorityLemmas.{before-self, before-trans, before-not, before-total}
-use Rattle.sched_model.proofs.OrderLemmas.{IsAhead, IsOrdered, AreBelow, in_order-below, in_order-ordered}
-use Rattle.sched_model.proofs.OrderLemmas.{in_order-same, length-in_order}
+use Rattle.sched_model.proofs.OrderLemmas.{IsAhead, IsOrdered, AreBelow, in_order-below, in_order-ordered, in_order-same, length-in_order}
 use Rattle.look_ahead.specs.Counters.{stands_before_due}
 
 -- a list with x in front, in which task i goes back behind those that pass the test, up to the first that doesn't
@@ -22,14 +19,6 @@ abbrev reinserted : (ℕ → ℕ) → ℕ → List ℕ → List ℕ
 reinserted key i [] = []
 reinserted key i (x ∷ xs) = if nat_eq x i then insert_by key i xs else x ∷ reinserted key i xs
 
-insert-yes : (key : ℕ → ℕ) (i x : ℕ) (xs : List ℕ) → stands_before key i x ≡ true
-    → insert_by key i (x ∷ xs) ≡ i ∷ x ∷ xs
-insert-yes key i x xs p = rw p refl
-
-insert-no : (key : ℕ → ℕ) (i x : ℕ) (xs : List ℕ) → stands_before key i x ≡ false
-    → insert_by key i (x ∷ xs) ≡ x ∷ insert_by key i xs
-insert-no key i x xs p = rw p refl
-
 -- two insertions give the same list in either order
 module _ (key : ℕ → ℕ) (i j : ℕ) (apart : i ≢ j) where
   insert-two : (x : ℕ) (xs : List ℕ) → insert_by key i (insert_by key j xs) ≡ insert_by key j (insert_by key i xs)
@@ -38,48 +27,18 @@ module _ (key : ℕ → ℕ) (i j : ℕ) (apart : i ≢ j) where
     where
       go : (a b c : Bool) → stands_before key i x ≡ a → stands_before key j x ≡ b → stands_before key i j ≡ c
           → insert_by key i (insert_by key j (x ∷ xs)) ≡ insert_by key j (insert_by key i (x ∷ xs))
-      go true true true p q r =
-          ap (insert_by key i) (insert-yes key j x xs q)
-          ∙ (insert-yes key i j (x ∷ xs) r
-          ∙ (ap (λ (ys : List ℕ). i ∷ ys) (sym (insert-yes key j x xs q))
-          ∙ (sym (insert-no key j i (x ∷ xs) (before-not key i j r))
-          ∙ ap (insert_by key j) (sym (insert-yes key i x xs p)))))
-      go true true false p q r =
-          let s : stands_before key j i ≡ true = before-total key i j apart r in
-          ap (insert_by key i) (insert-yes key j x xs q)
-          ∙ (insert-no key i j (x ∷ xs) r
-          ∙ (ap (λ (ys : List ℕ). j ∷ ys) (insert-yes key i x xs p)
-          ∙ (sym (insert-yes key j i (x ∷ xs) s)
-          ∙ ap (insert_by key j) (sym (insert-yes key i x xs p)))))
-      go true false c p q r =
-          let s : stands_before key j i ≡ false = grind (arith, nat_tests) in
-          ap (insert_by key i) (insert-no key j x xs q)
-          ∙ (insert-yes key i x (insert_by key j xs) p
-          ∙ (ap (λ (ys : List ℕ). i ∷ ys) (sym (insert-no key j x xs q))
-          ∙ (sym (insert-no key j i (x ∷ xs) s)
-          ∙ ap (insert_by key j) (sym (insert-yes key i x xs p)))))
-      go false true c p q r =
-          let s : stands_before key i j ≡ false = grind (arith, nat_tests) in
-          ap (insert_by key i) (insert-yes key j x xs q)
-          ∙ (insert-no key i j (x ∷ xs) s
-          ∙ (ap (λ (ys : List ℕ). j ∷ ys) (insert-no key i x xs p)
-          ∙ (sym (insert-yes key j x (insert_by key i xs) q)
-          ∙ ap (insert_by key j) (sym (insert-no key i x xs p)))))
-      go false false c p q r =
-          ap (insert_by key i) (insert-no key j x xs q)
-          ∙ (insert-no key i x (insert_by key j xs) p
-          ∙ (ap (λ (ys : List ℕ). x ∷ ys) ih
-          ∙ (sym (insert-no key j x (insert_by key i xs) q)
-          ∙ ap (insert_by key j) (sym (insert-no key i x xs p)))))
+      go true true true p q r = let s = before-not key i j r in simp (q, p, r, s) refl
+      go true true false p q r = let s = before-total key i j apart r in simp (q, p, r, s) refl
+      go true false c p q r = let s : stands_before key j i ≡ false = grind (arith, nat_tests) in simp (q, p, s) refl
+      go false true c p q r = let s : stands_before key i j ≡ false = grind (arith, nat_tests) in simp (q, p, s) refl
+      go false false c p q r = simp (p, q) (ap (λ (ys : List ℕ). x ∷ ys) ih)
 
   insert-swap : (xs : List ℕ) → insert_by key i (insert_by key j xs) ≡ insert_by key j (insert_by key i xs)
   insert-swap [] = go (stands_before key i j) refl
     where
       go : (c : Bool) → stands_before key i j ≡ c → insert_by key i (j ∷ []) ≡ insert_by key j (i ∷ [])
-      go true r = insert-yes key i j [] r ∙ sym (insert-no key j i [] (before-not key i j r))
-      go false r =
-          let s : stands_before key j i ≡ true = before-total key i j apart r in
-          insert-no key i j [] r ∙ sym (insert-yes key j i [] s)
+      go true r = rw (r, before-not key i j r) refl
+      go false r = rw (r, before-total key i j apart r) refl
   insert-swap (x ∷ xs) = insert-two x xs (insert-swap xs)
 
 -- each number of the list is another one than i

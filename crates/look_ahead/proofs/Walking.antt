@@ -1,6 +1,5 @@
 -- The loop of the walk.
-use Rattle.std.proofs.Common.{◌≡◌, ℕ, ◌+◌, ◌-◌, ◌*◌, ◌^◌, ◌<◌, ◌≤◌, Bool, true, false, List, [], ◌∷◌, ◌++◌, length}
-use Rattle.std.proofs.Common.{get_or, take, drop, refl, sym, ◌∙◌, ap, subst, arith}
+use Rattle.std.proofs.Common.{◌≡◌, ℕ, ◌+◌, ◌-◌, ◌*◌, ◌^◌, ◌<◌, ◌≤◌, Bool, true, false, List, [], ◌∷◌, ◌++◌, length, get_or, take, drop, refl, sym, ◌∙◌, ap, subst, arith}
 use Rattle.std.specs.Prelude.{◌/◌, nat_eq, if◌then◌else◌}
 use Rattle.std.proofs.Math.ListN.{drop_of_length-le}
 use Rattle.std.proofs.lemmas.Nat.{mul-le}
@@ -14,8 +13,7 @@ use Rattle.sched_model.specs.Admission.{IsWithinLimits, IsAdmitted}
 use Rattle.sched_model.specs.States.{StateOf, row_at, IsOfPlan}
 use Rattle.sched_model.specs.AheadDemand.{slack}
 use Rattle.sched_model.proofs.Limits.{low_hyper, some_task}
-use Rattle.sched_model.proofs.OrderLemmas.{in_order-below, length-in_order, below-at}
-use Rattle.sched_model.proofs.OrderLemmas.{sum_list-snoc}
+use Rattle.sched_model.proofs.OrderLemmas.{in_order-below, length-in_order, below-at, sum_list-snoc}
 use Rattle.governor.specs.Steps.{earliest_in, wleft_at}
 use Rattle.governor.specs.Serving.{ServesEdf}
 use Rattle.governor.proofs.Rows.{wleft-most}

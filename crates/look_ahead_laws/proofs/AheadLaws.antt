@@ -1,6 +1,5 @@
 -- The laws of look-ahead EDF.
-use Rattle.std.proofs.Common.{◌≡◌, inl, inr, ℕ, ◌+◌, ◌-◌, ◌*◌, ◌^◌, ◌<◌, ◌≤◌, List, ◌∷◌, ◌++◌, length, refl, sym, ◌∙◌}
-use Rattle.std.proofs.Common.{ap, subst, arith}
+use Rattle.std.proofs.Common.{◌≡◌, inl, inr, ℕ, ◌+◌, ◌-◌, ◌*◌, ◌^◌, ◌<◌, ◌≤◌, List, ◌∷◌, ◌++◌, length, refl, sym, ◌∙◌, ap, subst, arith}
 use Rattle.std.proofs.Math.Nat.{mul-le-mul_left, mul-le-mul_right}
 use Rattle.std.proofs.lemmas.Bool.{lt-leb, cases_lt}
 use Rattle.dvs_base.specs.declared.kind.Scheduler.{Scheduler}
@@ -27,8 +26,7 @@ use Rattle.governor.specs.Laws.{GovernorLaws}
 use Rattle.governor.proofs.Belonging.{earliest-later}
 use Rattle.governor.specs.Edf.{load}
 use Rattle.governor.proofs.Fits.{full_enough}
-use Rattle.governor.proofs.EdfLaws.{load_is, edf_opens, edf_releases, edf_chooses, edf_ticks, edf_stays_calm}
-use Rattle.governor.proofs.EdfLaws.{edf_completes}
+use Rattle.governor.proofs.EdfLaws.{load_is, edf_opens, edf_releases, edf_chooses, edf_ticks, edf_stays_calm, edf_completes}
 use Rattle.look_ahead_laws.specs.Ahead.{deadline_at, edf_order, ahead_demand, AheadCalm, AheadSafe}
 use Rattle.look_ahead_laws.proofs.Spreading.{due_work, all_paid, before_is, rate_within, work_within}
 

@@ -3,8 +3,7 @@ use Rattle.std.proofs.Common.{◌≡◌, ℕ, ◌≤◌, true, List, [], ◌∷�
 use Rattle.std.proofs.lemmas.Bool.Decides.{nat_tests}
 use Rattle.sched_model.specs.Priority.{stands_before, in_order}
 use Rattle.sched_model.proofs.PriorityLemmas.{before-self, before-not}
-use Rattle.sched_model.proofs.OrderLemmas.{sum_list, IsAhead, IsOrdered, first_ahead, sum_list-in_order}
-use Rattle.sched_model.proofs.OrderLemmas.{in_order-ordered}
+use Rattle.sched_model.proofs.OrderLemmas.{sum_list, IsAhead, IsOrdered, first_ahead, sum_list-in_order, in_order-ordered}
 use Rattle.sched_model.specs.AheadDemand.{sum_after}
 
 -- a task has a key at least that of each task before it

@@ -1,6 +1,5 @@
 -- What is put off fits into the time after the earliest deadline: its rates suffice, and the highest speed has room.
-use Rattle.std.proofs.Common.{◌≡◌, inl, inr, ℕ, zero, suc, ◌+◌, ◌-◌, ◌*◌, ◌<◌, ◌≤◌, min, Bool, true, false, List, []}
-use Rattle.std.proofs.Common.{◌∷◌, ◌++◌, refl, sym, ◌∙◌, ap, arith, append_assoc}
+use Rattle.std.proofs.Common.{◌≡◌, inl, inr, ℕ, zero, suc, ◌+◌, ◌-◌, ◌*◌, ◌<◌, ◌≤◌, min, Bool, true, false, List, [], ◌∷◌, ◌++◌, refl, sym, ◌∙◌, ap, arith, append_assoc}
 use Rattle.std.specs.Prelude.{◌/◌, ◌%◌, nat_eq, nat_le, if◌then◌else◌}
 use Rattle.std.proofs.Math.Nat.{mul-le-mul_right, mul-zero, le_trans, div-mul-le_self}
 use Rattle.std.proofs.lemmas.Nat.{div_below, mod_below, div-add-mod'}
@@ -9,8 +8,7 @@ use Rattle.grid_fraction.proofs.Least.{least-below}
 use Rattle.sched_model.specs.Plan.{Plan, count, hyper, rate, top_speed}
 use Rattle.sched_model.specs.Priority.{sum_before, in_order}
 use Rattle.sched_model.specs.AheadDemand.{first_due, slack, put_off, spread_rate, spread_rates, due_first}
-use Rattle.sched_model.proofs.OrderLemmas.{sum_list, IsAhead, IsOrdered, AreBelow, in_order-ordered, sum_before-prefix}
-use Rattle.sched_model.proofs.OrderLemmas.{sum_list-snoc}
+use Rattle.sched_model.proofs.OrderLemmas.{sum_list, IsAhead, IsOrdered, AreBelow, in_order-ordered, sum_before-prefix, sum_list-snoc}
 use Rattle.look_ahead_laws.proofs.EdfOrder.{key_rises}
 
 -- ONE TASK, over plain numbers: y is put off, and v is its rate

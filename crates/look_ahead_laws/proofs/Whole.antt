@@ -1,7 +1,7 @@
 -- The equations over all tasks at once have a solution; each gives the demand and keeps the rates within the speed.
-use Rattle.std.proofs.Common.{◌≡◌, ℕ, ◌+◌, ◌-◌, ◌*◌, ◌<◌, ◌≤◌, Bool, true, false, eqb, List, [], ◌∷◌, ◌++◌, refl, sym}
-use Rattle.std.proofs.Common.{◌∙◌, ap, subst, arith, append_assoc, true≢false}
+use Rattle.std.proofs.Common.{◌≡◌, ℕ, ◌+◌, ◌-◌, ◌*◌, ◌<◌, ◌≤◌, true, false, eqb, List, [], ◌∷◌, ◌++◌, refl, sym, ◌∙◌, ap, subst, arith, append_assoc, true≢false}
 use Rattle.std.specs.Prelude.{nat_eq, if◌then◌else◌}
+use Rattle.std.proofs.lemmas.Bool.{ne_eqb}
 use Rattle.std.proofs.lemmas.Bool.Decides.{nat_tests}
 use Rattle.grid_fraction.specs.Numbers.{sum_below, ceil_div}
 use Rattle.sched_model.specs.Plan.{Plan, count, hyper, rate, top_speed}
@@ -10,8 +10,7 @@ use Rattle.sched_model.specs.AheadDemand.{slack, put_off, spread_rate, spread_ra
 use Rattle.sched_model.specs.Admission.{IsAdmitted}
 use Rattle.sched_model.specs.States.{StateOf}
 use Rattle.sched_model.proofs.PriorityLemmas.{before-self}
-use Rattle.sched_model.proofs.OrderLemmas.{sum_list, sum_list-in_order, IsOrdered, in_order-ordered, AreBelow}
-use Rattle.sched_model.proofs.OrderLemmas.{in_order-below, below-from, stands-in_order, first_ahead}
+use Rattle.sched_model.proofs.OrderLemmas.{sum_list, sum_list-in_order, IsOrdered, in_order-ordered, AreBelow, in_order-below, below-from, stands-in_order, first_ahead}
 use Rattle.governor.specs.Steps.{wleft_at}
 use Rattle.governor.specs.Serving.{ServesEdf}
 use Rattle.look_ahead_laws.specs.Ahead.{deadline_at, edf_order, ahead_demand}
@@ -95,13 +94,7 @@ module _ (plan : Plan) (s : StateOf) where
   self_eq i = grind (arith, nat_tests)
 
   before_ne : (j i : ℕ) → stands_before due j i ≡ true → eqb j i ≡ false
-  before_ne j i h = go (eqb j i) refl
-    where
-      go : (b : Bool) → eqb j i ≡ b → b ≡ false
-      go false e = refl
-      go true e =
-          let same : j ≡ i = grind (arith, nat_tests) in
-          absurd (true≢false (sym (subst (λ (m : ℕ). stands_before due m i ≡ true) same h) ∙ before-self due i))
+  before_ne j i h = ne_eqb j i (λ same. true≢false (sym (subst (λ (m : ℕ). stands_before due m i ≡ true) same h) ∙ before-self due i))
 
   rate_at_split : (l xs : List ℕ) (i : ℕ) → IsOrdered due (l ++ i ∷ xs)
       → rate_in (l ++ i ∷ xs) i ≡ spread_rate plan due left (spread_rates plan due left xs) i

@@ -10,7 +10,7 @@ use Rattle.request_list.specs.Requests.{AreRequests}
 use Rattle.sched_model.specs.Plan.{period}
 use Rattle.poll_server.specs.Serving.{ServerOf, budget, request_count, arrival, units, asked_with, taken_up_to}
 use Rattle.poll_server.specs.Outcomes.{BelongsTo}
-use Rattle.poll_server.specs.Bound.{jobs_before, backlog, latest_job, HaveJobs}
+use Rattle.poll_server.specs.Bound.{jobs_before, request_backlog, latest_job, HaveJobs}
 use Rattle.poll_server.specs.EachOutcome.{job_of}
 use Rattle.poll_server.proofs.Takings.{taken-none, arrived-all, before-released, released-before, reach}
 
@@ -40,9 +40,9 @@ module _ (s : ServerOf) (h : AreRequests s.requests) (some : 0 < period s.plan s
   pub reached-latest : asked_with s m ≤ taken_up_to s (latest_job s m)
   reached-latest =
       let b = jobs_before s (arrival s m) in
-      let d = ceil_div (backlog s m) (budget s) in
+      let d = ceil_div (request_backlog s m) (budget s) in
       let all : (k : ℕ) → b < k → asked_with s m ≤ _ = λ k after. arrived-all s h m _ lt (before-released s (arrival s m) k some after) in
-      omega (arith, reach s m b all d (latest_job s m) refl, ceil_covers (backlog s m) (budget s) room)
+      omega (arith, reach s m b all d (latest_job s m) refl, ceil_covers (request_backlog s m) (budget s) room)
 
   abbrev test : ℕ → Bool
   test k = nat_le (asked_with s m) (taken_up_to s k)

@@ -8,7 +8,7 @@ use Rattle.request_list.specs.Requests.{AreRequests}
 use Rattle.sched_model.specs.Plan.{period}
 use Rattle.poll_server.specs.declared.served.Outcome.TheVariants.{Pending}
 use Rattle.poll_server.specs.declared.outcomes.Reached.{Reached}
-use Rattle.poll_server.specs.Serving.{ServerOf, budget, request_count, asked, asked_with, taken_up_to}
+use Rattle.poll_server.specs.Serving.{ServerOf, budget, request_count, asked_below, asked_with, taken_up_to}
 use Rattle.poll_server.specs.Outcomes.{BelongsTo, done_at}
 use Rattle.poll_server.specs.EachOutcome.{job_of, outcome_by, outcome_of}
 use Rattle.poll_server.specs.Walking.{AreEnds, HasReached, end_at}
@@ -18,15 +18,15 @@ use Rattle.poll_server.proofs.Belonging.{belongs, one-job, asked-some}
 -- a server with a period and a budget, and one of its requests
 module _ (s : ServerOf) (h : AreRequests s.requests) (some : 0 < period s.plan s.task) (room : 0 < budget s)
     (n m : ℕ) (lt : m < request_count s) (r : Reached) (reached : HasReached s n (m + 1) r) where
-  asked-is : r.asked ≡ asked_with s m
-  asked-is = reached.asked_for ∙ ap (asked s) (add-one m)
+  asked_below-is : r.asked ≡ asked_with s m
+  asked_below-is = reached.asked_for ∙ ap (asked_below s) (add-one m)
 
   -- where the jobs so far take what was asked for, the request belongs to the last of them
   pub job-is : r.asked ≤ r.taken → job_of s m ≡ r.job
   job-is enough =
       let here : BelongsTo s m r.job = record {
-        reached = omega (arith, enough, asked-is, reached.counted);
-        first = λ j below. subst (λ (u : ℕ). taken_up_to s j < u) (ap (asked s) (add-one m)) (reached.first j below);
+        reached = omega (arith, enough, asked_below-is, reached.counted);
+        first = λ j below. subst (λ (u : ℕ). taken_up_to s j < u) (ap (asked_below s) (add-one m)) (reached.first j below);
       } in
       one-job s m (job_of s m) r.job (belongs s h some room m lt) here
 
@@ -39,7 +39,7 @@ module _ (s : ServerOf) (h : AreRequests s.requests) (some : 0 < period s.plan s
       go (inr e) =
           let none : r.job ≡ 0 = omega arith in
           let nothing : r.taken ≡ 0 = reached.counted ∙ (ap (taken_up_to s) none ∙ taken-none s) in
-          absurd (omega (arith, nothing, enough, asked-is, asked-some s h some room m lt))
+          absurd (omega (arith, nothing, enough, asked_below-is, asked-some s h some room m lt))
 
   -- the ends of the first n jobs by these notes
   module _ (notes : List Note) (ends : List (Option Pos)) (are : AreEnds s notes n ends) where
@@ -64,4 +64,4 @@ module _ (s : ServerOf) (h : AreRequests s.requests) (some : 0 < period s.plan s
         after (inr le) =
             let up : taken_up_to s (job_of s m) ≤ taken_up_to s n = taken-up s (job_of s m) n le in
             let all : r.taken ≡ taken_up_to s n = reached.counted ∙ ap (taken_up_to s) last in
-            absurd (omega (arith, up, all, less, asked-is, (belongs s h some room m lt).reached))
+            absurd (omega (arith, up, all, less, asked_below-is, (belongs s h some room m lt).reached))

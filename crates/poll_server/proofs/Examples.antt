@@ -8,7 +8,7 @@ use Rattle.sched_model.specs.Plan.{Plan, plan_of}
 use Rattle.sched_model.specs.Jobs.{release, due}
 use Rattle.task_model.specs.declared.task.Task.{Task}
 use Rattle.poll_server.specs.Serving.{ServerOf, server_of, taken_up_to, taken, polled_demand}
-use Rattle.poll_server.specs.Bound.{jobs_before, backlog, latest_job, latest_end}
+use Rattle.poll_server.specs.Bound.{jobs_before, request_backlog, latest_job, latest_end}
 use Rattle.poll_server.specs.EachOutcome.{job_of}
 
 abbrev task_with : ℕ → ℕ → Task
@@ -42,7 +42,7 @@ unfolding taken_up_to release
 jobs = refl
 
 -- the second request has a backlog of 6 units after one job; two jobs more serve it by tick 15
-bound : (jobs_before server 1 ∷ backlog server 1 ∷ latest_job server 1 ∷ latest_end server 1 ∷ []) ≡ (1 ∷ 6 ∷ 3 ∷ 15 ∷ [])
+bound : (jobs_before server 1 ∷ request_backlog server 1 ∷ latest_job server 1 ∷ latest_end server 1 ∷ []) ≡ (1 ∷ 6 ∷ 3 ∷ 15 ∷ [])
 unfolding taken_up_to release due
 bound = refl
 

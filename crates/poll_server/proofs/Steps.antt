@@ -14,9 +14,9 @@ use Rattle.sched_model.specs.Admission.{IsAdmitted}
 use Rattle.sched_model.proofs.Limits.{every_period}
 use Rattle.poll_server.specs.declared.taking.Waiting.{Waiting}
 use Rattle.poll_server.specs.declared.outcomes.Reached.{Reached}
-use Rattle.poll_server.specs.Serving.{ServerOf, budget, job_release, request_count, arrival, units, arrived, taken_up_to, taken, asked}
+use Rattle.poll_server.specs.Serving.{ServerOf, budget, job_release, request_count, arrival, units, arrived, taken_up_to, taken, asked_below}
 use Rattle.poll_server.specs.Walking.{HasPassed, StandsAfter, AreTaken, IsServable, HasReached}
-use Rattle.poll_server.proofs.Takings.{taken-none, taken-more, taken-low, asked-low, arrived-counted}
+use Rattle.poll_server.proofs.Takings.{taken-none, taken-more, taken-low, asked_below-low, arrived-counted}
 
 -- the server has some budget and some period
 pub some-budget : (s : ServerOf) → IsAdmitted s.plan → s.task < count s.plan → 0 < budget s
@@ -26,8 +26,8 @@ pub some-period : (s : ServerOf) → IsAdmitted s.plan → 0 < period s.plan s.t
 some-period s adm = every_period s.plan adm.limits s.task
 
 -- the units of the requests up to and including request m are below 2^128
-pub asked-fits : (s : ServerOf) → AreRequests s.requests → (m : ℕ) → m < request_count s → asked s m + units s m < 2 ^ 128
-asked-fits s h m lt = omega (arith, asked-low s h m (omega arith), (h.each m lt).low, h.few)
+pub asked_below-fits : (s : ServerOf) → AreRequests s.requests → (m : ℕ) → m < request_count s → asked_below s m + units s m < 2 ^ 128
+asked_below-fits s h m lt = omega (arith, asked_below-low s h m (omega arith), (h.each m lt).low, h.few)
 
 -- the units that the first k jobs take are at most 2^80
 pub taken-fits : (s : ServerOf) → IsAdmitted s.plan → s.task < count s.plan → (k : ℕ) → k ≤ MOST_JOBS → taken_up_to s k ≤ 2 ^ 80
@@ -99,7 +99,7 @@ reached-next s n m u r h lt less takes = record {
   first = λ j below. go j (cases_lt j r.job) below;
 }
   where
-    go : (j : ℕ) → (j < r.job) ⊎ (r.job ≤ j) → j < r.job + 1 → taken_up_to s j < asked s m
+    go : (j : ℕ) → (j < r.job) ⊎ (r.job ≤ j) → j < r.job + 1 → taken_up_to s j < asked_below s m
     go j (inl before) below = h.first j before
     go j (inr at_last) below =
         let e : j ≡ r.job = omega arith in

@@ -9,7 +9,7 @@ use Rattle.request_list.specs.declared.limits.TheConstants.{MOST_REQUEST_UNITS}
 use Rattle.request_list.specs.Requests.{AreRequests}
 use Rattle.sched_model.specs.Plan.{period, offset}
 use Rattle.sched_model.specs.Jobs.{release}
-use Rattle.poll_server.specs.Serving.{ServerOf, budget, job_release, request_count, arrival, units, arrived, taken_up_to, taken, asked, asked_with}
+use Rattle.poll_server.specs.Serving.{ServerOf, budget, job_release, request_count, arrival, units, arrived, taken_up_to, taken, asked_below, asked_with}
 use Rattle.poll_server.specs.Bound.{jobs_before}
 use Rattle.poll_server.proofs.Cutting.{sum_below-cut}
 
@@ -47,8 +47,8 @@ taken-low s zero = omega (arith, taken-none s)
 taken-low s (suc k) = omega (arith, taken-low s k, taken-suc s k)
 
 -- the units of the first n requests are at most n times the limit on a request's units
-pub asked-low : (s : ServerOf) → AreRequests s.requests → (n : ℕ) → n ≤ request_count s → asked s n ≤ n * MOST_REQUEST_UNITS
-asked-low s h n le = sum_below-limit n MOST_REQUEST_UNITS (units s) (λ k lt. (h.each k (omega arith)).low)
+pub asked_below-low : (s : ServerOf) → AreRequests s.requests → (n : ℕ) → n ≤ request_count s → asked_below s n ≤ n * MOST_REQUEST_UNITS
+asked_below-low s h n le = sum_below-limit n MOST_REQUEST_UNITS (units s) (λ k lt. (h.each k (omega arith)).low)
 
 -- a later request arrives no earlier
 pub arrival-up : (s : ServerOf) → AreRequests s.requests → (m n : ℕ) → m ≤ n → n < request_count s → arrival s m ≤ arrival s n
@@ -70,7 +70,7 @@ counts-late s t m lt = let e : nat_le (arrival s m) t ≡ false = grind (arith, 
 
 -- where the requests before n arrived by tick t and the others didn't, the units arrived are those of the first n
 pub arrived-counted : (s : ServerOf) → AreRequests s.requests → (t n : ℕ) → n ≤ request_count s
-    → ((m : ℕ) → m < n → arrival s m ≤ t) → (n < request_count s → t < arrival s n) → arrived s t ≡ asked s n
+    → ((m : ℕ) → m < n → arrival s m ≤ t) → (n < request_count s → t < arrival s n) → arrived s t ≡ asked_below s n
 arrived-counted s h t n le early late =
     sum_below-cut (request_count s) n (counts s t) (units s) le (λ m lt. counts-early s t m (early m lt))
     (λ m low high. counts-late s t m (

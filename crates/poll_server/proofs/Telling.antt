@@ -7,7 +7,7 @@ use Rattle.dvs_base.specs.declared.note.Pos.{Pos}
 use Rattle.dvs_base.proofs.Options.{or-none, or-assoc}
 use Rattle.event_kernel.specs.Heard.{HasHeard}
 use Rattle.poll_server.specs.declared.ends.Ends.{Ends}
-use Rattle.poll_server.specs.Outcomes.{done_in, done_at}
+use Rattle.poll_server.specs.Outcomes.{done_position, done_at}
 use Rattle.poll_server.specs.Walking.{Hears, end_at}
 
 -- before any note no job has an end
@@ -32,7 +32,7 @@ hears-more a n next notes b first rest = record {
       let low : k < length next.ends.items = subst (λ (l : ℕ). k < l) (sym first.long) lt in
       rest.told k low
       ∙ (ap₂ (λ (o p : Option Pos). option_or o p) (first.told k lt) (ap (λ (task : ℕ). done_at notes task (k + 1)) first.task)
-      ∙ or-assoc (end_at a.ends.items k) (done_in n a.task (k + 1)) (done_at notes a.task (k + 1)));
+      ∙ or-assoc (end_at a.ends.items k) (done_position n a.task (k + 1)) (done_at notes a.task (k + 1)));
 }
 
 pub hears-all : (a : Ends) (notes : List Note) (b : Ends) → HasHeard Hears a notes b → HearsAll a notes b

@@ -14,12 +14,12 @@ abbrev pub jobs_before : ServerOf → ℕ → ℕ
 jobs_before s t = ceil_div (t - offset s.plan s.task) (period s.plan s.task)
 
 -- the backlog of request m: the units up to and including it, less those that the jobs released before its arrival take
-abbrev pub backlog : ServerOf → ℕ → ℕ
-backlog s m = asked_with s m - taken_up_to s (jobs_before s (arrival s m))
+abbrev pub request_backlog : ServerOf → ℕ → ℕ
+request_backlog s m = asked_with s m - taken_up_to s (jobs_before s (arrival s m))
 
 -- with a backlog of B units and a budget of Q, the ceil(B/Q)-th job released at or after the arrival
 abbrev pub latest_job : ServerOf → ℕ → ℕ
-latest_job s m = jobs_before s (arrival s m) + ceil_div (backlog s m) (budget s)
+latest_job s m = jobs_before s (arrival s m) + ceil_div (request_backlog s m) (budget s)
 
 -- the tick at which the latest job of request m is due
 abbrev pub latest_end : ServerOf → ℕ → ℕ

@@ -17,14 +17,14 @@ pub record BelongsTo (s : ServerOf) (m k : ℕ) : Type 0 where
   pub first : (j : ℕ) → j < k → taken_up_to s j < asked_with s m
 
 -- the position of a note that job k of task i is done; none for another note
-abbrev pub done_in : Note → ℕ → ℕ → Option Pos
-done_in (Done at_end j l used) i k = if nat_eq i j && nat_eq k l then Some at_end else None
-done_in _ i k = None
+abbrev pub done_position : Note → ℕ → ℕ → Option Pos
+done_position (Done at_end j l used) i k = if nat_eq i j && nat_eq k l then Some at_end else None
+done_position _ i k = None
 
 -- the position of the first of these notes that job k of task i is done
 abbrev pub done_at : List Note → ℕ → ℕ → Option Pos
 done_at [] i k = None
-done_at (note ∷ notes) i k = option_or (done_in note i k) (done_at notes i k)
+done_at (note ∷ notes) i k = option_or (done_position note i k) (done_at notes i k)
 
 -- Whether this is the outcome of request m by these notes: served by its job, at the position where the notes have
 -- that job as done, and pending where they don't.

@@ -5,6 +5,6 @@ use Rattle.poll_server.specs.declared.fault.PollFault.{PollFault}
 use Rattle.poll_server.specs.declared.fault.PollFault.TheVariants as fault
 
 -- the refusal of the kernel as one of `poll`
-abbrev pub refusal_of : KernelFault → PollFault
-refusal_of (kernel.TooManyJobs n) = fault.TooManyJobs n
-refusal_of kernel.NoMemory = fault.NoMemory
+abbrev pub poll_refusal : KernelFault → PollFault
+poll_refusal (kernel.TooManyJobs n) = fault.TooManyJobs n
+poll_refusal kernel.NoMemory = fault.NoMemory

@@ -63,9 +63,9 @@ polled_demand s i (suc k) =
     if nat_eq i s.task then taken s (suc k) + 2 * s.plan.machine.charge else worst s.plan i
 
 -- the units of the first n requests
-abbrev pub asked : ServerOf → ℕ → ℕ
-asked s n = sum_below n (units s)
+abbrev pub asked_below : ServerOf → ℕ → ℕ
+asked_below s n = sum_below n (units s)
 
 -- the units of the requests up to and including m
 abbrev pub asked_with : ServerOf → ℕ → ℕ
-asked_with s m = asked s (suc m)
+asked_with s m = asked_below s (suc m)

@@ -13,13 +13,13 @@ use Rattle.task_model.specs.DemandRows.{DemandRow, named}
 use Rattle.poll_server.specs.declared.taking.Waiting.{Waiting}
 use Rattle.poll_server.specs.declared.ends.Ends.{Ends}
 use Rattle.poll_server.specs.declared.outcomes.Reached.{Reached}
-use Rattle.poll_server.specs.Serving.{ServerOf, request_count, arrival, asked, job_release, taken, taken_up_to}
-use Rattle.poll_server.specs.Outcomes.{done_in, done_at}
+use Rattle.poll_server.specs.Serving.{ServerOf, request_count, arrival, asked_below, job_release, taken, taken_up_to}
+use Rattle.poll_server.specs.Outcomes.{done_position, done_at}
 
 -- the requests passed have arrived by tick t, and their units are counted
 pub record HasPassed (s : ServerOf) (t : ℕ) (w : Waiting) : Type 0 where
   pub within : w.next ≤ request_count s
-  pub counted : w.arrived ≡ asked s w.next
+  pub counted : w.arrived ≡ asked_below s w.next
   pub early : (m : ℕ) → m < w.next → arrival s m ≤ t
 
 -- what is counted after the first k jobs: the requests passed arrived by the next job's release; the k jobs' units
@@ -52,7 +52,7 @@ pub record Hears (a : Ends) (note : Note) (b : Ends) : Type 0 where
   pub task : b.task ≡ a.task
   pub long : length b.ends.items ≡ length a.ends.items
   pub told : (k : ℕ) → k < length a.ends.items
-      → end_at b.ends.items k ≡ option_or (end_at a.ends.items k) (done_in note a.task (k + 1))
+      → end_at b.ends.items k ≡ option_or (end_at a.ends.items k) (done_position note a.task (k + 1))
 
 -- the ends of the first n jobs are those in the notes, and no later job is done in the notes
 pub record AreEnds (s : ServerOf) (notes : List Note) (n : ℕ) (ends : List (Option Pos)) : Type 0 where
@@ -64,5 +64,5 @@ pub record AreEnds (s : ServerOf) (notes : List Note) (n : ℕ) (ends : List (Op
 pub record HasReached (s : ServerOf) (n m : ℕ) (r : Reached) : Type 0 where
   pub within : r.job ≤ n
   pub counted : r.taken ≡ taken_up_to s r.job
-  pub asked_for : r.asked ≡ asked s m
-  pub first : (j : ℕ) → j < r.job → taken_up_to s j < asked s m
+  pub asked_for : r.asked ≡ asked_below s m
+  pub first : (j : ℕ) → j < r.job → taken_up_to s j < asked_below s m

@@ -1,7 +1,7 @@
 // Why a `poll` run has no outcomes.
 ghost use Rattle.std.specs.Prelude.{◌≡◌};
 ghost use Rattle.poll_server.specs.declared.fault.PollFault.TheVariants as fault;
-ghost use Rattle.poll_server.specs.Refusals.{refusal_of};
+ghost use Rattle.poll_server.specs.Refusals.{poll_refusal};
 
 use dvs_base::NoMemory;
 use event_kernel::KernelFault;
@@ -24,7 +24,7 @@ impl From<NoMemory> for PollFault {
 }
 
 impl From<KernelFault> for PollFault {
-    ghost from_gives = { λ why e. e ≡ refusal_of why };
+    ghost from_gives = { λ why e. e ≡ poll_refusal why };
 
     fn from(why: KernelFault) -> PollFault {
         match why {

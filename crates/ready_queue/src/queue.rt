@@ -17,12 +17,12 @@ pub struct Queue<O: Order> {
 
 impl<O: Order> Model for Queue<O> {
     ghost use Rattle.std.specs.Prelude.{vec_capacity};
-    ghost use Rattle.ready_queue.specs.Entries.{QueueOf, in_order};
+    ghost use Rattle.ready_queue.specs.Entries.{QueueOf, sorted};
     ghost use Rattle.ready_queue.specs.Heaps.{HoldsQueue};
 
     ghost Value = { QueueOf };
 
-    ghost view = { λ q. record { limit = vec_capacity q.heap; entries = in_order O.comes_before q.heap.items } };
+    ghost view = { λ q. record { limit = vec_capacity q.heap; entries = sorted O.comes_before q.heap.items } };
 
     ghost invariant = { λ q. HoldsQueue O.comes_before (vec_capacity q.heap) q.heap.items };
 }

@@ -6,14 +6,14 @@ use Rattle.std.proofs.lemmas.Option.{some_pair_parts}
 use Rattle.dvs_base.specs.Checks.{and_then}
 use Rattle.dvs_base.specs.Text.{number_below}
 use Rattle.dvs_base.proofs.Spelled.{number_below-decimal, number_below-found}
-use Rattle.csv_text.specs.Rows.{two_of}
+use Rattle.dvs_base.specs.Parts.{two_of}
 use Rattle.request_list.specs.declared.limits.TheConstants.{MOST_REQUEST_UNITS}
 use Rattle.request_list.specs.declared.requests.Request.{Request}
 use Rattle.request_list.specs.declared.fault.RequestColumn.TheVariants as column
 use Rattle.request_list.specs.declared.fault.RequestFault.TheVariants as fault
 use Rattle.request_list.specs.Requests.{IsRequest}
 use Rattle.request_list.specs.RequestText.{row_fields}
-use Rattle.request_list.specs.RequestFile.{units_from, in_order, row_of}
+use Rattle.request_list.specs.RequestFile.{units_from, arrival_in_order, request_of_row}
 
 -- where a sequence of two steps gives a value, each step gave one
 pub step-ok : {A B F : Type 0} (r : Result A F) (f : A → Result B F) (y : B) → and_then r f ≡ Ok y → (x : A) × (r ≡ Ok x) × (f x ≡ Ok y)
@@ -40,7 +40,7 @@ units-ok row n u e = by (n == 0) (nat_lt MOST_REQUEST_UNITS n) refl refl e
     by false true a b e = absurd cc
     by false false a b e = let same : n ≡ u = cc in (same, grind (arith, nat_tests), grind (arith, nat_tests))
 
-order-ok : (row earlier n a : ℕ) → in_order row earlier n ≡ Ok a → (n ≡ a) × (earlier ≤ n)
+order-ok : (row earlier n a : ℕ) → arrival_in_order row earlier n ≡ Ok a → (n ≡ a) × (earlier ≤ n)
 order-ok row earlier n a e = by (nat_lt n earlier) refl e
   where
     by : (p : Bool) → nat_lt n earlier ≡ p → (if p then Err (fault.Early row) else Ok n) ≡ Ok a → (n ≡ a) × (earlier ≤ n)
@@ -53,7 +53,7 @@ units-pass row n some low =
     let b : nat_lt MOST_REQUEST_UNITS n ≡ false = grind (arith, nat_tests) in
     rw (a, b) refl
 
-order-passes : (row earlier n : ℕ) → earlier ≤ n → in_order row earlier n ≡ Ok n
+order-passes : (row earlier n : ℕ) → earlier ≤ n → arrival_in_order row earlier n ≡ Ok n
 order-passes row earlier n later = let a : nat_lt n earlier ≡ false = grind (arith, nat_tests) in rw a refl
 
 -- a row that is read is that of the request, which is within the limits and in order
@@ -63,13 +63,13 @@ pub record IsRowOf (earlier : ℕ) (r : Request) (fields : List (List ℕ)) : Ty
   pub arrival : r.arrival < 2 ^ 64
   pub within : IsRequest r
 
-pub row-found : (row earlier : ℕ) (fields : List (List ℕ)) (r : Request) → row_of row earlier fields ≡ Ok r → IsRowOf earlier r fields
+pub row-found : (row earlier : ℕ) (fields : List (List ℕ)) (r : Request) → request_of_row row earlier fields ≡ Ok r → IsRowOf earlier r fields
 row-found row earlier fields r e =
     let a = step-ok (ok_or (two_of fields) (fault.Fields row (length fields))) _ r e in
     let b = step-ok (ok_or (number_below (2 ^ 64) a.0.0) (fault.BadNumber row column.Arrival)) _ r a.2 in
     let c = step-ok (ok_or (number_below (2 ^ 64) a.0.1) (fault.BadNumber row column.Units)) _ r b.2 in
     let d = step-ok (units_from row c.0) _ r c.2 in
-    let f = step-ok (in_order row earlier b.0) _ r d.2 in
+    let f = step-ok (arrival_in_order row earlier b.0) _ r d.2 in
     let two = two-is fields a.0.0 a.0.1 (found-ok (two_of fields) _ a.0 a.1) in
     let arrival = number_below-found (2 ^ 64) a.0.0 b.0 (omega arith) (found-ok (number_below (2 ^ 64) a.0.0) _ b.0 b.1) in
     let units = number_below-found (2 ^ 64) a.0.1 c.0 (omega arith) (found-ok (number_below (2 ^ 64) a.0.1) _ c.0 c.1) in
@@ -83,7 +83,7 @@ row-found row earlier fields r e =
       within = record { some = omega (arith, checked.0, checked.1); low = omega (arith, checked.0, checked.2) };
     })
 
-pub row-read : (row earlier : ℕ) (r : Request) → earlier ≤ r.arrival → r.arrival < 2 ^ 64 → IsRequest r → row_of row earlier (row_fields r) ≡ Ok r
+pub row-read : (row earlier : ℕ) (r : Request) → earlier ≤ r.arrival → r.arrival < 2 ^ 64 → IsRequest r → request_of_row row earlier (row_fields r) ≡ Ok r
 row-read row earlier r later fits within =
     let low = within.low in
     rw (

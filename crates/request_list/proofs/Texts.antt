@@ -13,7 +13,7 @@ use Rattle.request_list.specs.declared.fault.RequestFault.{RequestFault}
 use Rattle.request_list.specs.declared.fault.RequestFault.TheVariants as fault
 use Rattle.request_list.specs.Requests.{IsRequest, AreRequests, request_at}
 use Rattle.request_list.specs.RequestText.{row_fields, IsRequestText}
-use Rattle.request_list.specs.RequestFile.{row_of, requests_from, request_header, few_rows, rows_in, request_file}
+use Rattle.request_list.specs.RequestFile.{request_of_row, requests_from, request_header, few_rows, rows_in, request_file}
 use Rattle.request_list.proofs.Rows.{step-ok, found-ok, row-found, row-read}
 
 -- the requests are within the limits, and in order from the tick `earlier` on
@@ -34,7 +34,7 @@ rows-found [] row earlier before requests e =
     let same : before ≡ requests = cc in
     record { more = []; all = sym (append-nil before ∙ same); rows_are = refl; from = tt }
 rows-found (fields ∷ rows) row earlier before requests e =
-    let a = step-ok (row_of row earlier fields) (λ r. requests_from (row + 1) r.arrival (before ++ (r ∷ [])) rows) requests e in
+    let a = step-ok (request_of_row row earlier fields) (λ r. requests_from (row + 1) r.arrival (before ++ (r ∷ [])) rows) requests e in
     let first = row-found row earlier fields a.0 a.1 in
     let rest = rows-found rows (row + 1) a.0.arrival (before ++ (a.0 ∷ [])) requests a.2 in
     record {

@@ -3,7 +3,8 @@ use Rattle.std.specs.Prelude.{ℕ, ◌+◌, ◌==◌, ◌||◌, ◌++◌, nat_lt
 use Rattle.dvs_base.specs.Widths.{u64_end}
 use Rattle.dvs_base.specs.Checks.{and_then}
 use Rattle.dvs_base.specs.Text.{number_below}
-use Rattle.csv_text.specs.Rows.{two_of, text_rows}
+use Rattle.dvs_base.specs.Parts.{two_of}
+use Rattle.csv_text.specs.Rows.{text_rows}
 use Rattle.request_list.specs.declared.limits.TheConstants.{MOST_REQUESTS, MOST_REQUEST_UNITS}
 use Rattle.request_list.specs.declared.requests.Request.{Request}
 use Rattle.request_list.specs.declared.fault.RequestColumn.TheVariants as column
@@ -15,23 +16,23 @@ abbrev pub units_from : ℕ → ℕ → Result ℕ RequestFault
 units_from row n = if n == 0 || nat_lt MOST_REQUEST_UNITS n then Err (fault.Range row) else Ok n
 
 -- the arrival, checked against that of the row before
-abbrev pub in_order : ℕ → ℕ → ℕ → Result ℕ RequestFault
-in_order row earlier arrival = if nat_lt arrival earlier then Err (fault.Early row) else Ok arrival
+abbrev pub arrival_in_order : ℕ → ℕ → ℕ → Result ℕ RequestFault
+arrival_in_order row earlier arrival = if nat_lt arrival earlier then Err (fault.Early row) else Ok arrival
 
 -- the request of a row, where the row before it arrives at `earlier`
-abbrev pub row_of : ℕ → ℕ → List (List ℕ) → Result Request RequestFault
-row_of row earlier fields =
+abbrev pub request_of_row : ℕ → ℕ → List (List ℕ) → Result Request RequestFault
+request_of_row row earlier fields =
     and_then (ok_or (two_of fields) (fault.Fields row (length fields))) (λ two.
     and_then (ok_or (number_below u64_end two.0) (fault.BadNumber row column.Arrival)) (λ arrival.
     and_then (ok_or (number_below u64_end two.1) (fault.BadNumber row column.Units)) (λ number.
     and_then (units_from row number) (λ units.
-    and_then (in_order row earlier arrival) (λ arrival. Ok (record { arrival = arrival; units = units }))))))
+    and_then (arrival_in_order row earlier arrival) (λ arrival. Ok (record { arrival = arrival; units = units }))))))
 
 -- the requests so far, the last of which arrives at `earlier`, with those of the rows from number `row` on
 abbrev pub requests_from : ℕ → ℕ → List Request → List (List (List ℕ)) → Result (List Request) RequestFault
 requests_from row earlier requests [] = Ok requests
 requests_from row earlier requests (fields ∷ rest) =
-    and_then (row_of row earlier fields) (λ r. requests_from (row + 1) r.arrival (requests ++ (r ∷ [])) rest)
+    and_then (request_of_row row earlier fields) (λ r. requests_from (row + 1) r.arrival (requests ++ (r ∷ [])) rest)
 
 -- the fields of a request file's header
 abbrev pub request_header : List (List ℕ)

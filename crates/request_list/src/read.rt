@@ -9,7 +9,7 @@ ghost use Rattle.request_list.specs.declared.fault.RequestFault.TheVariants as f
 ghost use Rattle.request_list.specs.Requests.{IsRequest, AreRequests};
 ghost use Rattle.request_list.specs.declared.requests.Request.{Request};
 ghost use Rattle.request_list.specs.RequestText.{IsRequestText};
-ghost use Rattle.request_list.specs.RequestFile.{row_of, requests_from, request_header, request_file};
+ghost use Rattle.request_list.specs.RequestFile.{request_of_row, requests_from, request_header, request_file};
 
 use crate::limits::{MOST_REQUEST_UNITS, MOST_REQUESTS};
 use crate::{Request, RequestColumn, RequestFault, Requests};
@@ -20,7 +20,7 @@ use std::alloc::Global;
 
 // The request of a row, where the row before it arrives at `earlier`.
 fn read_row(row: u64, earlier: u64, fields: &ByteRecord) -> Result<Request, RequestFault>
-    ensures row { result ≡ row_of row earlier (fields_of fields.now) }
+    ensures row { result ≡ request_of_row row earlier (fields_of fields.now) }
     ensures limits { IfOk result (λ r. IsRequest r) }
     ensures order { IfOk result (λ r. earlier ≤ r.arrival) }
 {

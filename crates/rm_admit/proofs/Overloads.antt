@@ -2,10 +2,10 @@
 use Rattle.std.proofs.Common.{◌≡◌, ℕ, ◌+◌, ◌*◌, ◌<◌, ◌≤◌, Bool, true, false, Option, Some, None, MatchOption, if◌then◌else◌, refl, arith, sym, ◌∙◌, add-one, true≢false}
 use Rattle.grid_fraction.proofs.Searches.{below_suc}
 use Rattle.sched_model.specs.Plan.{Plan, period, top_speed}
-use Rattle.sched_model.specs.Priority.{stands_before}
+use Rattle.sched_model.specs.Priority.{stands_before, earlier_of}
 use Rattle.sched_model.specs.Tests.{level_work}
 use Rattle.sched_model.proofs.PriorityLemmas.{before-self, before-trans}
-use Rattle.rm_admit.specs.Denials.{IsOverloaded, earlier_of}
+use Rattle.rm_admit.specs.Denials.{IsOverloaded}
 
 -- no task below m fails the test
 abbrev pub NoneBelow : Plan → ℕ → Type 0

@@ -1,5 +1,5 @@
 -- Why a task set is not admitted under RM.
-use Rattle.std.specs.Prelude.{◌≡◌, ℕ, ◌*◌, ◌<◌, ◌≤◌, true, Option, Some, None, if◌then◌else◌}
+use Rattle.std.specs.Prelude.{◌≡◌, ℕ, ◌*◌, ◌<◌, ◌≤◌, true}
 use Rattle.sched_model.specs.Plan.{Plan, count, period, top_speed}
 use Rattle.sched_model.specs.Priority.{stands_before}
 use Rattle.sched_model.specs.Tests.{level_work, IsRmFeasible}
@@ -21,8 +21,3 @@ abbrev pub IsRmDenial : Plan → RmFault → Type 0
 IsRmDenial p (Denied task num cap) =
     IsFirstOverloaded p task × (num ≡ level_work p task) × (cap ≡ top_speed p * period p task)
 IsRmDenial p NoMemory = IsRmFeasible p
-
--- the earlier by the key of task i and another; task i where there is no other
-abbrev pub earlier_of : (ℕ → ℕ) → Option ℕ → ℕ → ℕ
-earlier_of key None i = i
-earlier_of key (Some k) i = if stands_before key i k then i else k

@@ -10,7 +10,8 @@ ghost use Rattle.dvs_base.specs.declared.kind.Scheduler.TheVariants.{Rm};
 ghost use Rattle.task_model.specs.Tasks.{task_at};
 ghost use Rattle.sched_model.specs.Plan.{plan_of, period, top_speed};
 ghost use Rattle.sched_model.specs.Tests.{IsRmFeasible};
-ghost use Rattle.rm_admit.specs.Denials.{IsOverloaded, IsFirstOverloaded, IsRmDenial, earlier_of};
+ghost use Rattle.sched_model.specs.Priority.{earlier_of};
+ghost use Rattle.rm_admit.specs.Denials.{IsOverloaded, IsFirstOverloaded, IsRmDenial};
 
 use dvs_base::Scheduler;
 use freq_table::Machine;

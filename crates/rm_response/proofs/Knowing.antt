@@ -1,7 +1,7 @@
 -- How responses become known in RM order, up to the first task without one.
-use Rattle.std.proofs.Common.{◌≡◌, ◌≢◌, ℕ, ◌<◌, ◌≤◌, Bool, true, false, eqb, List, length, length-set, get_or-set_same, get_or-set_other, refl, sym, ◌∙◌, ap, arith}
+use Rattle.std.proofs.Common.{◌≡◌, ◌≢◌, ℕ, ◌<◌, ◌≤◌, Bool, true, false, List, length, length-set, get_or-set_same, get_or-set_other, refl, sym, ◌∙◌, ap, arith, ◌⊎◌, inl, inr, subst}
 use Rattle.std.specs.Prelude.{slice_index, slice_set}
-use Rattle.std.proofs.lemmas.Bool.Decides.{nat_tests}
+use Rattle.std.proofs.lemmas.Bool.{cases_eq}
 use Rattle.std.proofs.lemmas.List.{ext_get_or}
 use Rattle.sched_model.specs.Plan.{Plan, count, period}
 use Rattle.sched_model.specs.Priority.{stands_before}
@@ -31,9 +31,9 @@ module _ (p : Plan) where
       → AreKnown p (response p i) (slice_set entries i (response p i))
   known-next from i entries are next has = record {
     one_each = length-set entries i (response p i) ∙ are.one_each;
-    known = λ k h. known k h (eqb k i) refl;
+    known = λ k h. known k h (cases_eq k i);
     some = (response-bound p i has).some;
-    unserved = λ k h. unserved k h (eqb k i) refl;
+    unserved = λ k h. unserved k h (cases_eq k i);
   }
     where
       new : List ℕ
@@ -42,29 +42,22 @@ module _ (p : Plan) where
       own : slice_index new i ≡ response p i
       own = get_or-set_same entries i (response p i) 0 (omega (arith, are.one_each, next.task))
 
-      known : (k : ℕ) → k < count p → (b : Bool) → eqb k i ≡ b → slice_index new k ≤ period p k
-          → slice_index new k ≡ response p k
-      known k h true e le =
-          let same : k ≡ i = grind (arith, nat_tests) in
-          ap (slice_index new) same ∙ (own ∙ ap (response p) (sym same))
-      known k h false e le =
-          let other = get_or-set_other entries i k (response p i) 0 (grind (arith, nat_tests)) in
+      known : (k : ℕ) → k < count p → (k ≡ i) ⊎ (k ≢ i) → slice_index new k ≤ period p k → slice_index new k ≡ response p k
+      known k h (inl same) le = subst (λ (m : ℕ). slice_index new m ≡ response p m) (sym same) own
+      known k h (inr ne) le =
+          let other = get_or-set_other entries i k (response p i) 0 ne in
           other ∙ are.known k h (omega (arith, other, le))
 
-      unserved : (k : ℕ) → k < count p → (b : Bool) → eqb k i ≡ b → period p k < slice_index new k
-          → IsUnserved p k (response p i)
-      unserved k h true e over =
-          let same : k ≡ i = grind (arith, nat_tests) in
-          absurd (omega (arith, over, ap (slice_index new) same, own, ap (period p) same, has))
-      unserved k h false e over =
-          let ne : k ≢ i = grind (arith, nat_tests) in
+      unserved : (k : ℕ) → k < count p → (k ≡ i) ⊎ (k ≢ i) → period p k < slice_index new k → IsUnserved p k (response p i)
+      unserved k h (inl same) over = absurd (omega (arith, over, ap (slice_index new) same, own, ap (period p) same, has))
+      unserved k h (inr ne) over =
           let other = get_or-set_other entries i k (response p i) 0 ne in
           unserved-before p k i next.task (go (stands_before (period p) k i) refl (omega (arith, other, over)))
         where
           go : (b : Bool) → stands_before (period p) k i ≡ b → period p k < slice_index entries k
               → stands_before (period p) i k ≡ true
           go true before over' = absurd (omega (arith, next.first k h before))
-          go false before over' = before-total (period p) k i (grind (arith, nat_tests)) before
+          go false before over' = before-total (period p) k i ne before
 
   -- where no task is next, all responses are known
   pub known-all : (from : ℕ) (entries : List ℕ) → AreKnown p from entries

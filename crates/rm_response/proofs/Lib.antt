@@ -1,4 +1,3 @@
-pub mod FirstLate
 pub mod FirstInOrder
 pub mod Knowing
 pub mod Answering

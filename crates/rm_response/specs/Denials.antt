@@ -1,5 +1,5 @@
 -- What the answers of exact admission under RM say, and the first task in RM order that is late.
-use Rattle.std.specs.Prelude.{ℕ, List, ◌<◌, slice_index, ◌*◌, ◌≡◌, false, ⊤, Option, Some, None, Result, Ok, Err, ◌≤◌, true, MatchOption, if◌then◌else◌, nat_lt}
+use Rattle.std.specs.Prelude.{ℕ, List, ◌<◌, slice_index, ◌*◌, ◌≡◌, false, ⊤, Option, Some, None, Result, Ok, Err, ◌≤◌, true, MatchOption, nat_lt}
 use Rattle.grid_fraction.specs.Numbers.{list_below}
 use Rattle.task_model.specs.Tasks.{NoneOffset, IsFirstOffset, first_offset}
 use Rattle.sched_model.specs.Plan.{Plan, count, period, top_speed, offset}
@@ -55,10 +55,10 @@ IsShownMiss (Misses task num cap) = cap < num
 IsShownMiss e = ⊤
 
 -- the answer of the test, from the first task with an offset and the first one without a response
-abbrev pub answer_from : Plan → Option ℕ → Option ℕ → Result (List ℕ) ResponseFault
-answer_from p (Some i) late = Err (Offset i)
-answer_from p None (Some i) = Err (misses_at p i)
-answer_from p None None = Ok (responses p)
+abbrev pub exact_answer_from : Plan → Option ℕ → Option ℕ → Result (List ℕ) ResponseFault
+exact_answer_from p (Some i) late = Err (Offset i)
+exact_answer_from p None (Some i) = Err (misses_at p i)
+exact_answer_from p None None = Ok (responses p)
 
 -- of the tasks below n, the first in RM order whose response exceeds its period, if any
 abbrev pub first_late : (ℕ → ℕ) → (ℕ → ℕ) → ℕ → Option ℕ
@@ -67,7 +67,7 @@ first_late period response n = find (λ i. nat_lt (period i) (response i)) (in_o
 -- The answer of the test: the first task in file order with an offset; where none has one, the first task in RM order
 -- without a response; and where there is neither, the responses.
 abbrev pub exact_answer : Plan → Result (List ℕ) ResponseFault
-exact_answer p = answer_from p (first_offset (offset p) (count p)) (first_late (period p) (response p) (count p))
+exact_answer p = exact_answer_from p (first_offset (offset p) (count p)) (first_late (period p) (response p) (count p))
 
 -- no task below n has a response that exceeds its period
 abbrev pub NoneLate : (ℕ → ℕ) → (ℕ → ℕ) → ℕ → Type 0
@@ -76,8 +76,3 @@ NoneLate period response n = (k : ℕ) → k < n → response k ≤ period k
 -- `found` is the first task below n in RM order whose response exceeds its period, or there is none
 abbrev pub FindsLate : (ℕ → ℕ) → (ℕ → ℕ) → ℕ → Option ℕ → Type 0
 FindsLate period response n found = MatchOption found (NoneLate period response n) (IsFirstLate period response n)
-
--- the earlier in RM order of task i and another; task i where there is no other
-abbrev pub earlier_of : (ℕ → ℕ) → Option ℕ → ℕ → ℕ
-earlier_of period None i = i
-earlier_of period (Some k) i = if stands_before period i k then i else k

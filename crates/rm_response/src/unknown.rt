@@ -1,8 +1,9 @@
 // Responses that aren't known, and the first of them in RM order.
 ghost use Rattle.std.specs.Prelude.{◌≡◌, ◌<◌, ℕ, length, slice_index};
 ghost use Rattle.std.specs.Option.{ForSome};
+ghost use Rattle.sched_model.specs.Priority.{earlier_of};
 ghost use Rattle.task_model.specs.Tasks.{task_at};
-ghost use Rattle.rm_response.specs.Denials.{earlier_of, FindsLate};
+ghost use Rattle.rm_response.specs.Denials.{FindsLate};
 
 use sched_model::stands_before;
 use task_model::{LONGEST_PERIOD, TaskSet};

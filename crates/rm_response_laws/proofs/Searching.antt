@@ -6,7 +6,7 @@ use Rattle.grid_fraction.specs.Numbers.{first_from}
 use Rattle.grid_fraction.proofs.Searches.{first_from-before, first_from-most, first_from-none}
 use Rattle.sched_model.specs.Plan.{Plan, period, top_speed}
 use Rattle.governor.specs.Worst.{level_work_in}
-use Rattle.rm_response_laws.specs.Responses.{is_served, IsUnserved, response, HasResponse}
+use Rattle.rm_response_laws.specs.Responses.{is_level_served, IsUnserved, response, HasResponse}
 use Rattle.rm_response_laws.proofs.Keeping.{IsBound}
 
 -- m is where a search of n numbers from `from` on ends: at a number that passes, or past the last one
@@ -32,14 +32,14 @@ search-ends (suc n) from test = go (test from) refl (search-ends n (suc from) te
 pub before-response : (p : Plan) (i : ℕ) → IsUnserved p i (response p i)
 unfolding response
 before-response p i u pos lt =
-    let none : is_served p i u ≡ false = first_from-before (period p i) 1 u (is_served p i) pos lt in
+    let none : is_level_served p i u ≡ false = first_from-before (period p i) 1 u (is_level_served p i) pos lt in
     grind (arith, nat_tests, none)
 
 -- a response bounds the level's busy stretches
 pub response-bound : (p : Plan) (i : ℕ) → HasResponse p i → IsBound p i (response p i)
 unfolding response
 response-bound p i has =
-    let ends = search-ends (period p i) 1 (is_served p i) in
+    let ends = search-ends (period p i) 1 (is_level_served p i) in
     record {
       some = (let g = ends.0 in omega arith);
       within = has;
@@ -54,7 +54,7 @@ response-bound p i has =
 response-most : (p : Plan) (i t : ℕ) → 1 ≤ t → level_work_in p t i ≤ top_speed p * t → response p i ≤ t
 unfolding response
 response-most p i t pos served =
-    first_from-most (period p i) 1 t (is_served p i) pos (le-leb (level_work_in p t i) (top_speed p * t) served)
+    first_from-most (period p i) 1 t (is_level_served p i) pos (le-leb (level_work_in p t i) (top_speed p * t) served)
 
 -- ticks that serve, where no fewer do, are the response
 pub response-is : (p : Plan) (i t : ℕ) → 1 ≤ t → t ≤ period p i → IsUnserved p i t
@@ -73,5 +73,5 @@ response-is p i t pos le un served =
 pub response-none : (p : Plan) (i : ℕ) → IsUnserved p i (suc (period p i)) → response p i ≡ 1 + period p i
 unfolding response
 response-none p i un =
-    first_from-none (period p i) 1 (is_served p i)
+    first_from-none (period p i) 1 (is_level_served p i)
     (λ u a b. let over = un u a (omega arith) in grind (arith, nat_tests, over))

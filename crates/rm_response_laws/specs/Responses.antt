@@ -26,9 +26,9 @@ pub record IsFirstDoneAt (p : Plan) (i t : ℕ) : Type 0 where
   pub done : is_first_done p i t ≡ true
   pub before : (u : ℕ) → u < t → is_first_done p i u ≡ false
 
--- whether t ticks serve: in them the highest speed does the work that the level of task i can ask for in them
-abbrev pub is_served : Plan → ℕ → ℕ → Bool
-is_served p i t = nat_le (level_work_in p t i) (top_speed p * t)
+-- whether t ticks serve the level of task i: in them the highest speed does the work that the level can ask for in them
+abbrev pub is_level_served : Plan → ℕ → ℕ → Bool
+is_level_served p i t = nat_le (level_work_in p t i) (top_speed p * t)
 
 -- fewer than t ticks don't serve the level of task i
 abbrev pub IsUnserved : Plan → ℕ → ℕ → Type 0
@@ -36,7 +36,7 @@ IsUnserved p i t = (u : ℕ) → 1 ≤ u → u < t → top_speed p * u < level_w
 
 -- the response of task i: the least t from 1 to its period such that t ticks serve, else one more than the period
 unfoldable pub response : Plan → ℕ → ℕ
-response p i = first_from (period p i) 1 (is_served p i)
+response p i = first_from (period p i) 1 (is_level_served p i)
 
 -- task i has a response: it is at most the period
 abbrev pub HasResponse : Plan → ℕ → Type 0

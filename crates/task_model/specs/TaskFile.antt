@@ -16,28 +16,28 @@ use Rattle.task_model.specs.declared.fault.TaskFault.TheVariants as fault
 use Rattle.task_model.specs.Tasks.{hyper_of}
 
 -- the known keys of the document
-abbrev pub file_keys : List (List ℕ)
-file_keys = codes "task" ∷ []
+abbrev pub task_file_keys : List (List ℕ)
+task_file_keys = codes "task" ∷ []
 
 -- the known keys of a task
 abbrev pub task_keys : List (List ℕ)
 task_keys = codes "name" ∷ codes "period" ∷ codes "worst" ∷ codes "offset" ∷ []
 
 -- the check for an unknown key: the refusal of the table at this place where there is one, else the rest
-abbrev pub no_unknown : {A : Type 0} → ℕ → Option (List ℕ) → Result A TaskFault → Result A TaskFault
-no_unknown place None rest = rest
-no_unknown place (Some key) rest = Err (fault.UnknownKey place (short_of key))
+abbrev pub no_unknown_task_key : {A : Type 0} → ℕ → Option (List ℕ) → Result A TaskFault → Result A TaskFault
+no_unknown_task_key place None rest = rest
+no_unknown_task_key place (Some key) rest = Err (fault.UnknownKey place (short_of key))
 
 -- the refusal for an error at a key of the task at this place
-abbrev pub fault_at : ℕ → Field → MemberFault → TaskFault
-fault_at place field member_fault.Missing = fault.Missing place field
-fault_at place field member_fault.Kind = fault.Kind place field
-fault_at place field member_fault.Range = fault.Range place field
+abbrev pub task_fault_at : ℕ → Field → MemberFault → TaskFault
+task_fault_at place field member_fault.Missing = fault.Missing place field
+task_fault_at place field member_fault.Kind = fault.Kind place field
+task_fault_at place field member_fault.Range = fault.Range place field
 
 -- the value at a key of the task at this place, or the refusal for its error
-abbrev pub at_field : {A : Type 0} → ℕ → Field → Result A MemberFault → Result A TaskFault
-at_field place field (Ok value) = Ok value
-at_field place field (Err e) = Err (fault_at place field e)
+abbrev pub at_task_key : {A : Type 0} → ℕ → Field → Result A MemberFault → Result A TaskFault
+at_task_key place field (Ok value) = Ok value
+at_task_key place field (Err e) = Err (task_fault_at place field e)
 
 -- the text as the name of the task at this place, or the refusal where it is not a name
 abbrev pub checked_name : ℕ → List ℕ → Result (List ℕ) TaskFault
@@ -45,20 +45,20 @@ checked_name place text = if is_name text then Ok text else Err (fault.BadName p
 
 -- the name of the task at this place, of the value at its key `name`
 abbrev pub name_at : ℕ → Option Data → Result (List ℕ) TaskFault
-name_at place value = and_then (at_field place field.Name (text_at value)) (checked_name place)
+name_at place value = and_then (at_task_key place field.Name (text_at value)) (checked_name place)
 
 -- the offset of the task at this place, of the value at its key `offset`; 0 where it is absent
 abbrev pub offset_at : ℕ → Option Data → Result ℕ TaskFault
 offset_at place None = Ok 0
-offset_at place (Some value) = at_field place field.Offset (number_from 0 LATEST_OFFSET (as_integer value))
+offset_at place (Some value) = at_task_key place field.Offset (number_from 0 LATEST_OFFSET (as_integer value))
 
 -- the task of the table at this place: its unknown keys, its name, period, worst case and offset, in this order
 abbrev pub task_of_members : ℕ → Members → Result Task TaskFault
 task_of_members place ms =
-    no_unknown place (unknown_key task_keys ms) (
+    no_unknown_task_key place (unknown_key task_keys ms) (
     and_then (name_at place (get_member (codes "name") ms)) (λ name.
-    and_then (at_field place field.Period (number_at 1 LONGEST_PERIOD (get_member (codes "period") ms))) (λ period.
-    and_then (at_field place field.Worst (number_at 1 MOST_WORK (get_member (codes "worst") ms))) (λ worst.
+    and_then (at_task_key place field.Period (number_at 1 LONGEST_PERIOD (get_member (codes "period") ms))) (λ period.
+    and_then (at_task_key place field.Worst (number_at 1 MOST_WORK (get_member (codes "worst") ms))) (λ worst.
     and_then (offset_at place (get_member (codes "offset") ms)) (λ offset.
     Ok record { name = name; period = period; worst = worst; offset = offset })))))
 
@@ -92,22 +92,22 @@ abbrev pub within_hyper : List Task → Result (List Task) TaskFault
 within_hyper tasks = if nat_le (hyper_of tasks) LONGEST_HYPERPERIOD then Ok tasks else Err fault.Hyper
 
 -- the tasks of a value that is an array, or the refusal of a value that is not
-abbrev pub entries_from : Option Items → Result (List Task) TaskFault
-entries_from None = Err (fault.Kind 0 field.Task)
-entries_from (Some no_items) = Err fault.NoTasks
-entries_from (Some (item value rest)) =
+abbrev pub tasks_of_array : Option Items → Result (List Task) TaskFault
+tasks_of_array None = Err (fault.Kind 0 field.Task)
+tasks_of_array (Some no_items) = Err fault.NoTasks
+tasks_of_array (Some (item value rest)) =
     if nat_lt MOST_TASKS (count_of (item value rest)) then Err (fault.TooMany (count_of (item value rest)))
     else and_then (tasks_from [] (item value rest)) within_hyper
 
 -- the tasks of the value at the document's key `task`
 abbrev pub entries_at : Option Data → Result (List Task) TaskFault
 entries_at None = Err fault.NoTasks
-entries_at (Some value) = entries_from (as_array value)
+entries_at (Some value) = tasks_of_array (as_array value)
 
 -- the tasks of a document: its unknown keys first, and then its array
 abbrev pub tasks_of_document : Option Members → Result (List Task) TaskFault
 tasks_of_document None = Err fault.NotToml
-tasks_of_document (Some ms) = no_unknown 0 (unknown_key file_keys ms) (entries_at (get_member (codes "task") ms))
+tasks_of_document (Some ms) = no_unknown_task_key 0 (unknown_key task_file_keys ms) (entries_at (get_member (codes "task") ms))
 
 -- the meaning of a task file's bytes: the tasks, or the first refusal
 abbrev pub task_file : List ℕ → Result (List Task) TaskFault

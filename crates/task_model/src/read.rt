@@ -7,7 +7,7 @@ ghost use Rattle.dvs_base.specs.Settings.{number_at};
 ghost use Rattle.task_model.specs.declared.limits.TheConstants.{MOST_TASKS, LATEST_OFFSET};
 ghost use Rattle.task_model.specs.Tasks.{IsTask, hyper_of};
 ghost use Rattle.task_model.specs.Limits.{AreTasks};
-ghost use Rattle.task_model.specs.TaskFile.{fault_at, at_field, checked_name, name_at, offset_at, task_of_members, task_of, place_of, tasks_from, within_hyper, entries_from, tasks_of_document, task_file};
+ghost use Rattle.task_model.specs.TaskFile.{task_fault_at, at_task_key, checked_name, name_at, offset_at, task_of_members, task_of, place_of, tasks_from, within_hyper, tasks_of_array, tasks_of_document, task_file};
 
 use crate::fault::{Field, TaskFault};
 use crate::limits::{LATEST_OFFSET, LONGEST_PERIOD, MOST_TASKS, MOST_WORK};
@@ -19,7 +19,7 @@ use std::alloc::Global;
 use toml::{Table, Value};
 
 fn fault_at(place: u32, field: Field, fault: MemberFault) -> TaskFault
-    ensures { result ≡ fault_at place field fault }
+    ensures { result ≡ task_fault_at place field fault }
 {
     match fault {
         MemberFault::Missing => TaskFault::Missing { place, field },
@@ -35,7 +35,7 @@ fn read_number(
     most: u64,
     table: &Table,
 ) -> Result<u64, TaskFault>
-    ensures meaning { result ≡ at_field place field (number_at 1 most (get_member key.now (table_view table.now))) }
+    ensures meaning { result ≡ at_task_key place field (number_at 1 most (get_member key.now (table_view table.now))) }
     ensures limits { IfOk result (λ n. (1 ≤ n) × (n ≤ most)) }
 {
     match number_at(table, key, 1, most) {
@@ -145,7 +145,7 @@ fn set_of(alloc: Global, tasks: Vec<Task>) -> Result<TaskSet, TaskFault>
 }
 
 fn read_array(alloc: Global, entries: &[Value]) -> Result<TaskSet, TaskFault>
-    ensures { IsUnlessMemory TaskFault.NoMemory (λ s. s) result (entries_from (Some (items_view entries.now))) }
+    ensures { IsUnlessMemory TaskFault.NoMemory (λ s. s) result (tasks_of_array (Some (items_view entries.now))) }
 {
     if entries.is_empty() {
         return Err(TaskFault::NoTasks);

@@ -1,7 +1,7 @@
 // Whole traces, texts with errors, and single lines.
 ghost use Rattle.std.specs.Prelude.{◌≡◌, [], ◌∷◌, codes, IfOk};
 
-use dvs_base::{LONGEST_LINE, Line, MOST_LINES, Name, Note, Pos, Version};
+use dvs_base::{LONGEST_LINE, Line, MOST_LINES, MOST_TICKS, Name, Note, Pos, Version};
 use std::alloc::Global;
 use std::process::Abort;
 use std::test::Fail;
@@ -286,7 +286,7 @@ fn long_trace(alloc: Global, lines: u64) -> Result<Vec<u8>, Fail> {
 fn a_trace_has_at_most_800000_lines(rt: HostRuntime) -> Result<(), Fail> {
     let text = long_trace(rt.alloc(), MOST_LINES)?;
     let trace = read_paper(rt.alloc(), &text)?.map_err(|_| "refused")?;
-    assert_eq!(rt; trace.notes.len(), 799998);
+    assert_eq!(rt; trace.notes.len() as u64, MOST_LINES - 2);
     let text = long_trace(rt.alloc(), MOST_LINES + 1)?;
     assert_eq!(rt;
         read_paper(rt.alloc(), &text)?.err(),
@@ -325,7 +325,7 @@ fn numbers_reach_their_last_value(rt: HostRuntime) -> Result<(), Fail> {
     let last =
         b"trace 1\nplan rm cc 1099511627776\nend 18446744073709551615 340282366920938463463374607431768211455 0\n";
     let trace = read_paper(rt.alloc(), last)?.map_err(|_| "refused")?;
-    assert_eq!(rt; trace.plan.ticks, 1 << 40);
+    assert_eq!(rt; trace.plan.ticks, MOST_TICKS);
     assert_eq!(rt; trace.notes.len(), 1);
     assert_eq!(rt;
         trace.notes[0],

@@ -4,7 +4,7 @@ use Rattle.std.specs.List.{AllByRecursion}
 use Rattle.std.proofs.lemmas.List.Elements.{recursion_from_All}
 use Rattle.grid_fraction.specs.Numbers.{list_below}
 use Rattle.sched_model.proofs.Tables.{length-list_below, get-table}
-use Rattle.workload.specs.Draws.{next_state, number_of, state_after, draw}
+use Rattle.workload.specs.Draws.{next_state, draw_of, state_after, draw}
 use Rattle.workload.specs.Workload.{task_by, made_task}
 
 pub one-draw : (x n : ℕ) → state_after x (n + 1) ≡ next_state (state_after x n)
@@ -15,7 +15,7 @@ two-draws x n = let e : 2 * (n + 1) ≡ suc (suc (2 * n)) = omega arith in ap (s
 
 -- a drawn task, by the state before its two draws
 pub made_task-drawn : (x n i : ℕ) → made_task x n i
-    ≡ task_by n i (number_of (next_state (state_after x (2 * i)))) (number_of (next_state (next_state (state_after x (2 * i)))))
+    ≡ task_by n i (draw_of (next_state (state_after x (2 * i)))) (draw_of (next_state (next_state (state_after x (2 * i)))))
 made_task-drawn x n i = ap (λ k. task_by n i (draw x (2 * i)) (draw x k)) (add-one (2 * i))
 
 pub each-below : {A : Type 0} (P : A → Type 0) (n : ℕ) (f : ℕ → A) → ((k : ℕ) → k < n → P (f k)) → AllByRecursion P (list_below n f)

@@ -1,5 +1,5 @@
 -- Drawn rows are in order, and each is for a job of its own.
-use Rattle.std.proofs.Common.{◌≡◌, ℕ, ◌+◌, ◌/◌, ◌%◌, ◌<◌, Bool, true, false, ◌&&◌, ◌||◌, List, [], ◌∷◌, ◌++◌, None, refl, arith, ap, ◌∙◌, sym, mod-lt, nat_eq, nat_lt}
+use Rattle.std.proofs.Common.{◌≡◌, ℕ, ◌+◌, ◌/◌, ◌%◌, ◌<◌, false, ◌&&◌, ◌||◌, List, [], ◌∷◌, ◌++◌, None, refl, arith, ap, ◌∙◌, sym, mod-lt, nat_eq, nat_lt}
 use Rattle.std.specs.List.{AllByRecursion}
 use Rattle.std.proofs.Math.Nat.{mod-add-div}
 use Rattle.std.proofs.lemmas.Bool.Decides.{nat_tests}
@@ -24,31 +24,12 @@ with_row-last r (s ∷ rows) each = rw each.0 (ap (λ rest. s ∷ rest) (with_ro
 
 -- two numbers differ in their quotient or their remainder by 4
 apart : (s r : ℕ) → s < r → (nat_eq (s / 4) (r / 4) && nat_eq (s % 4 + 1) (r % 4 + 1)) ≡ false
-apart s r lt = go (nat_eq (s / 4) (r / 4)) refl (nat_eq (s % 4 + 1) (r % 4 + 1)) refl
-  where
-    go : (a : Bool) → nat_eq (s / 4) (r / 4) ≡ a → (b : Bool) → nat_eq (s % 4 + 1) (r % 4 + 1) ≡ b → (a && b) ≡ false
-    go false ea b eb = refl
-    go true ea false eb = refl
-    go true ea true eb =
-        let quotient : s / 4 ≡ r / 4 = grind (arith, nat_tests) in
-        let remainder : s % 4 + 1 ≡ r % 4 + 1 = grind (arith, nat_tests) in
-        absurd (omega (arith, lt, quotient, remainder, mod-add-div s 4, mod-add-div r 4))
+apart s r lt = grind (arith, nat_tests, lt, mod-add-div s 4, mod-add-div r 4)
 
 in-order : (s r : ℕ) → s < r → (nat_lt (r / 4) (s / 4) || nat_eq (r / 4) (s / 4) && nat_lt (r % 4 + 1) (s % 4 + 1)) ≡ false
-in-order s r lt = go (nat_lt (r / 4) (s / 4)) refl (nat_eq (r / 4) (s / 4)) refl (nat_lt (r % 4 + 1) (s % 4 + 1)) refl
-  where
-    go : (a : Bool) → nat_lt (r / 4) (s / 4) ≡ a → (b : Bool) → nat_eq (r / 4) (s / 4) ≡ b → (c : Bool)
-        → nat_lt (r % 4 + 1) (s % 4 + 1) ≡ c → (a || b && c) ≡ false
-    go true ea b eb c ec =
-        let less : r / 4 < s / 4 = grind (arith, nat_tests) in
-        let low : r % 4 < 4 = mod-lt r (omega arith) in
-        absurd (omega (arith, lt, less, low, mod-add-div s 4, mod-add-div r 4))
-    go false ea false eb c ec = refl
-    go false ea true eb false ec = refl
-    go false ea true eb true ec =
-        let quotient : r / 4 ≡ s / 4 = grind (arith, nat_tests) in
-        let less : r % 4 + 1 < s % 4 + 1 = grind (arith, nat_tests) in
-        absurd (omega (arith, lt, quotient, less, mod-add-div s 4, mod-add-div r 4))
+in-order s r lt =
+    let low : r % 4 < 4 = mod-lt r (omega arith) in
+    grind (arith, nat_tests, lt, low, mod-add-div s 4, mod-add-div r 4)
 
 module _ (tasks : List Task) (x : ℕ) where
   -- the job of row r has no row before it

@@ -1,5 +1,5 @@
 -- Drawn tasks are within the limits, and the highest speed does their work.
-use Rattle.std.proofs.Common.{◌≡◌, ℕ, zero, suc, ◌+◌, ◌-◌, ◌*◌, ◌/◌, ◌%◌, ◌<◌, ◌≤◌, true, List, [], ◌∷◌, length, refl, arith, ap, ◌∙◌, sym, subst, mod-lt, nat_eq, add-one, add-mul, mul-add, one-mul, mul_assoc, mul_comm}
+use Rattle.std.proofs.Common.{◌≡◌, ℕ, zero, suc, ◌+◌, ◌-◌, ◌*◌, ◌/◌, ◌%◌, ◌<◌, ◌≤◌, true, List, [], ◌∷◌, length, refl, arith, ap, ◌∙◌, sym, subst, mod-lt, nat_eq, add-one, add-mul, mul-add, one-mul, rules, mul_assoc, mul_comm}
 use Rattle.std.specs.Prelude.{slice_index}
 use Rattle.std.specs.List.{All, AllByRecursion}
 use Rattle.std.proofs.Math.Nat.{mul-div-le, mul-le-mul_left, mul-le-mul_right, le_of_mul-le-mul_left, div-lt_iff_lt-mul}
@@ -30,25 +30,7 @@ is_period : (k : ℕ) → IsPeriod (slice_index periods (k % 8))
 is_period k = All-from_recursion IsPeriod periods all (k % 8) 0 (mod-lt k (omega arith))
   where
     all : AllByRecursion IsPeriod periods
-    all = (
-      record { low = omega arith; high = omega arith; divides = refl },
-      (
-        record { low = omega arith; high = omega arith; divides = refl },
-        (
-          record { low = omega arith; high = omega arith; divides = refl },
-          (
-            record { low = omega arith; high = omega arith; divides = refl },
-            (
-              record { low = omega arith; high = omega arith; divides = refl },
-              (
-                record { low = omega arith; high = omega arith; divides = refl },
-                (record { low = omega arith; high = omega arith; divides = refl }, (record { low = omega arith; high = omega arith; divides = refl }, tt)),
-              ),
-            ),
-          ),
-        ),
-      ),
-    )
+    all = search rules
 
 -- where n times each of m terms is at most a bound, n times their sum is at most m times the bound
 share-sum : (n m bound : ℕ) (f : ℕ → ℕ) → ((i : ℕ) → i < m → n * f i ≤ bound) → n * sum_below m f ≤ m * bound

@@ -6,7 +6,7 @@ ghost use Rattle.task_model.specs.Tasks.{IsTaskSet};
 ghost use Rattle.demand_list.specs.Demands.{with_row};
 ghost use Rattle.sched_model.specs.Plan.{plan_of};
 ghost use Rattle.sched_model.specs.Tests.{IsEdfFeasible};
-ghost use Rattle.workload.specs.Draws.{next_state, number_of, state_after};
+ghost use Rattle.workload.specs.Draws.{next_state, draw_of, state_after};
 ghost use Rattle.workload.specs.Workload.{made_name, task_by, made_tasks, made_demands, made_machine, IsMade};
 
 use crate::draws::Draws;
@@ -41,7 +41,7 @@ fn make_task(draws: &mut Draws, count: u32, task: u32) -> Task
     requires own { task < count }
     requires few { count ≤ 64 }
     ensures draws { draws.new.state ≡ next_state (next_state draws.old.state) }
-    ensures task { result ≡ task_by count task (number_of (next_state draws.old.state)) (number_of draws.new.state) }
+    ensures task { result ≡ task_by count task (draw_of (next_state draws.old.state)) (draw_of draws.new.state) }
 {
     let period = PERIODS[(draws.draw() % 8) as usize];
     let share = TOP_SPEED * period / u64::from(count);

@@ -1,6 +1,6 @@
 use Rattle.std.proofs.Common.{◌≡◌, ℕ, List, [], ◌∷◌, length, Some, arith}
 use Rattle.csv.specs.Records.{field_at, fields_of}
-use Rattle.csv_text.specs.Rows.{three_of}
+use Rattle.dvs_base.specs.Parts.{three_of}
 use Rattle.csv_text.proofs.three_fields.Goals as goal
 
 three : (fs : List (List ℕ)) (a b c : List ℕ) → length fs ≡ 3 → field_at fs 0 ≡ Some a → field_at fs 1 ≡ Some b

@@ -1,6 +1,6 @@
 use Rattle.std.proofs.Common.{◌≡◌, ℕ, List, [], ◌∷◌, length, Some, arith}
 use Rattle.csv.specs.Records.{field_at, fields_of}
-use Rattle.csv_text.specs.Rows.{two_of}
+use Rattle.dvs_base.specs.Parts.{two_of}
 use Rattle.csv_text.proofs.two_fields.Goals as goal
 
 two : (fs : List (List ℕ)) (a b : List ℕ) → length fs ≡ 2 → field_at fs 0 ≡ Some a → field_at fs 1 ≡ Some b

@@ -3,24 +3,12 @@ use Rattle.dvs_base.specs.declared.kind.Scheduler.TheVariants.{Edf}
 use Rattle.freq_table.specs.declared.machine.Pick.{Pick}
 use Rattle.freq_table.specs.Tables.{lowest_pick}
 use Rattle.sched_model.specs.Plan.{Plan, plan_of, top_speed}
-use Rattle.sched_model.specs.Admission.{IsWithinLimits}
 use Rattle.edf_demand_laws.specs.ProcessorDemand.{IsConstrainedDemand}
-use Rattle.edf_demand.proofs.Limits.{constrained_of}
-use Rattle.edf_demand.proofs.Answering.{lowest-speed, overload, answer-offset, answer-too_many, answer-met, answer-denied}
+use Rattle.edf_demand.proofs.Limits.{constrained_of, within_limits}
+use Rattle.edf_demand.proofs.Answering.{lowest-speed, overload, answer-met, answer-denied}
 use Rattle.edf_demand_laws.proofs.Busiest.{is-constrained_demand}
 use Rattle.edf_demand.specs.Answers.{LooksAtDemand}
 use Rattle.edf_demand.proofs.lowest_speed.constrain.Goals as goal
-
-pub returns-in-Some-clause-answer : goal.returns-in-Some-clause-answer
-returns-in-Some-clause-answer c =
-    let p : Plan = plan_of c.args.tasks.now c.args.machine.now Edf in
-    λ unless. answer-offset p (slice_index c.args.deadlines.now) c.in-Some.task c.in-Some.ensures.finds
-
-pub returns-then-count-gt-MOST_JOBS-clause-answer : goal.returns-then-count-gt-MOST_JOBS-clause-answer
-returns-then-count-gt-MOST_JOBS-clause-answer c =
-    let p : Plan = plan_of c.args.tasks.now c.args.machine.now Edf in
-    λ unless. answer-too_many p (slice_index c.args.deadlines.now) c.in_default.ensures.finds c.hyper_jobs-count.result
-    c.hyper_jobs-count.ensures c.if-count-gt-MOST_JOBS.true
 
 pub returns-then-pick-clause-answer : goal.returns-then-pick-clause-answer
 returns-then-pick-clause-answer c =
@@ -55,8 +43,7 @@ returns-clause-answer c =
 pub returns-then-pick-clause-speed : goal.returns-then-pick-clause-speed
 returns-then-pick-clause-speed c =
     let p : Plan = plan_of c.args.tasks.now c.args.machine.now Edf in
-    let lim : IsWithinLimits p =
-    record { tasks = c.as_slice-tasks.ensures.limits; machine = c.as_slice-entries.ensures.limits } in
+    let lim = within_limits p c.as_slice-tasks.ensures.limits c.as_slice-entries.ensures.limits in
     let deadlines = c.args.deadlines.now in
     let con = constrained_of c.args.tasks.now c.args.machine.now deadlines c.requires c.in_default.ensures.finds in
     let demand = c.in-Ok.demand in
@@ -70,8 +57,7 @@ returns-then-pick-clause-speed c =
 pub returns-clause-denial : goal.returns-clause-denial
 returns-clause-denial c =
     let p : Plan = plan_of c.args.tasks.now c.args.machine.now Edf in
-    let lim : IsWithinLimits p =
-    record { tasks = c.as_slice-tasks.ensures.limits; machine = c.as_slice-entries.ensures.limits } in
+    let lim = within_limits p c.as_slice-tasks.ensures.limits c.as_slice-entries.ensures.limits in
     let deadlines = c.args.deadlines.now in
     let con = constrained_of c.args.tasks.now c.args.machine.now deadlines c.requires c.in_default.ensures.finds in
     let demand = c.in-Ok.demand in

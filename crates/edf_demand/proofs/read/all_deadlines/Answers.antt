@@ -1,7 +1,7 @@
 use Rattle.std.proofs.Common.{◌≡◌, ℕ, length, sym, ◌∙◌, ap, subst, arith}
 use Rattle.grid_fraction.specs.Numbers.{list_below}
 use Rattle.edf_demand.specs.Deadlines.{AreFor}
-use Rattle.edf_demand.specs.DeadlineFile.{deadline_at, all_deadlines}
+use Rattle.edf_demand.specs.DeadlineFile.{relative_deadline, all_deadlines}
 use Rattle.edf_demand.proofs.GivenDeadlines.{all-for}
 use Rattle.edf_demand.proofs.read.all_deadlines.Goals as goal
 
@@ -12,5 +12,5 @@ returns-clause-for_tasks c =
     let whole : c.loop-i.i ≡ length tasks =
     omega (arith, c.loop-i-test.false, c.loop-i.auto.i-end, c.count-i-end.ensures.count) in
     let all : c.loop-i.deadlines.items ≡ all_deadlines tasks given =
-    c.loop-i.invariant ∙ ap (λ (n : ℕ). list_below n (deadline_at tasks given)) whole in
+    c.loop-i.invariant ∙ ap (λ (n : ℕ). list_below n (relative_deadline tasks given)) whole in
     subst (AreFor tasks) (sym all) (all-for tasks c.as_slice-tasks.ensures.limits given c.requires)

@@ -4,9 +4,9 @@ use Rattle.dvs_base.specs.declared.kind.Scheduler.TheVariants.{Edf}
 use Rattle.grid_fraction.specs.declared.Frac.{Frac}
 use Rattle.grid_fraction.specs.Numbers.{least_below}
 use Rattle.sched_model.specs.Plan.{Plan, plan_of, count, hyper}
-use Rattle.sched_model.specs.Admission.{IsWithinLimits}
 use Rattle.edf_demand_laws.specs.ProcessorDemand.{processor_demand}
 use Rattle.edf_demand.specs.Walk.{due_of}
+use Rattle.edf_demand.proofs.Limits.{within_limits}
 use Rattle.edf_demand.proofs.Walking.{Walking, walk-start, walk-takes, walk-keeps, walk-ends, work-next, low-demand, now-later, goes-on}
 use Rattle.edf_demand.proofs.walk.constrained_demand.Goals as goal
 use Rattle.edf_demand.proofs.walk.constrained_demand.Goals.{then-greater, else-greater}
@@ -14,8 +14,7 @@ use Rattle.edf_demand.proofs.walk.constrained_demand.Goals.{then-greater, else-g
 pub loop-now-init : goal.loop-now-init
 loop-now-init c =
     let p : Plan = plan_of c.args.tasks.now c.args.machine.now Edf in
-    let lim : IsWithinLimits p =
-    record { tasks = c.as_slice-tasks.ensures.limits; machine = c.as_slice-entries.ensures.limits } in
+    let lim = within_limits p c.as_slice-tasks.ensures.limits c.as_slice-entries.ensures.limits in
     let relative = slice_index c.args.deadlines.now in
     let made = c.in_ok-next.ensures in
     let next = due_of c.in_ok-next.next.entries in
@@ -28,17 +27,10 @@ loop-now-init c =
       walking = subst (λ (n : ℕ). Walking p relative next n 0 (record { num = 0; den = 1 })) (sym now) start;
     }
 
-pub take_due-work-requires-clause-first : goal.take_due-work-requires-clause-first
-take_due-work-requires-clause-first c =
-    let l = c.loop-now in
-    l.invariant.walking.now_is
-    ∙ ap (λ (n : ℕ). least_below n (due_of l.next.entries)) (sym l.invariant.one_each)
-
 pub overflow_add-work : goal.overflow_add-work
 overflow_add-work c =
     let p : Plan = plan_of c.args.tasks.now c.args.machine.now Edf in
-    let lim : IsWithinLimits p =
-    record { tasks = c.as_slice-tasks.ensures.limits; machine = c.as_slice-entries.ensures.limits } in
+    let lim = within_limits p c.as_slice-tasks.ensures.limits c.as_slice-entries.ensures.limits in
     let con = c.requires.deadlines in
     let relative = slice_index c.args.deadlines.now in
     let l = c.loop-now in
@@ -49,8 +41,7 @@ overflow_add-work c =
 pub greater-requires-clause-left_den : goal.greater-requires-clause-left_den
 greater-requires-clause-left_den c =
     let p : Plan = plan_of c.args.tasks.now c.args.machine.now Edf in
-    let lim : IsWithinLimits p =
-    record { tasks = c.as_slice-tasks.ensures.limits; machine = c.as_slice-entries.ensures.limits } in
+    let lim = within_limits p c.as_slice-tasks.ensures.limits c.as_slice-entries.ensures.limits in
     let relative = slice_index c.args.deadlines.now in
     let l = c.loop-now in
     let later =
@@ -60,8 +51,7 @@ greater-requires-clause-left_den c =
 pub greater-requires-clause-left_fits : goal.greater-requires-clause-left_fits
 greater-requires-clause-left_fits c =
     let p : Plan = plan_of c.args.tasks.now c.args.machine.now Edf in
-    let lim : IsWithinLimits p =
-    record { tasks = c.as_slice-tasks.ensures.limits; machine = c.as_slice-entries.ensures.limits } in
+    let lim = within_limits p c.as_slice-tasks.ensures.limits c.as_slice-entries.ensures.limits in
     let con = c.requires.deadlines in
     let relative = slice_index c.args.deadlines.now in
     let l = c.loop-now in
@@ -75,8 +65,7 @@ greater-requires-clause-left_fits c =
 pub loop-now-smaller : goal.loop-now-smaller
 loop-now-smaller c =
     let p : Plan = plan_of c.args.tasks.now c.args.machine.now Edf in
-    let lim : IsWithinLimits p =
-    record { tasks = c.as_slice-tasks.ensures.limits; machine = c.as_slice-entries.ensures.limits } in
+    let lim = within_limits p c.as_slice-tasks.ensures.limits c.as_slice-entries.ensures.limits in
     let relative = slice_index c.args.deadlines.now in
     let l = c.loop-now in
     let taken = c.take_due-work in
@@ -91,8 +80,7 @@ loop-now-smaller c =
 pub loop-now-preserved : goal.loop-now-preserved
 loop-now-preserved c =
     let p : Plan = plan_of c.args.tasks.now c.args.machine.now Edf in
-    let lim : IsWithinLimits p =
-    record { tasks = c.as_slice-tasks.ensures.limits; machine = c.as_slice-entries.ensures.limits } in
+    let lim = within_limits p c.as_slice-tasks.ensures.limits c.as_slice-entries.ensures.limits in
     let con = c.requires.deadlines in
     let relative = slice_index c.args.deadlines.now in
     let l = c.loop-now in
@@ -122,8 +110,7 @@ loop-now-preserved c =
 pub returns : goal.returns
 returns c =
     let p : Plan = plan_of c.args.tasks.now c.args.machine.now Edf in
-    let lim : IsWithinLimits p =
-    record { tasks = c.as_slice-tasks.ensures.limits; machine = c.as_slice-entries.ensures.limits } in
+    let lim = within_limits p c.as_slice-tasks.ensures.limits c.as_slice-entries.ensures.limits in
     let relative = slice_index c.args.deadlines.now in
     let l = c.loop-now in
     walk-ends p lim relative c.requires.deadlines (due_of l.next.entries) l.now l.work l.busiest l.invariant.walking

@@ -1,25 +1,6 @@
-use Rattle.std.proofs.Common.{◌≡◌, ℕ, ◌<◌, ◌≤◌, [], length, slice_index, sym, ◌∙◌, ap, subst, arith}
-use Rattle.std.specs.List.{AllByRecursion}
-use Rattle.ready_queue.specs.declared.entry.Entry.{Entry}
-use Rattle.ready_queue.specs.Entries.{QueueOf}
-use Rattle.edf_demand.proofs.Calendars.{next-absent, more-below, more-due, all-in}
+use Rattle.std.proofs.Common.{ℕ, ◌≤◌, length, slice_index, ◌∙◌, arith}
+use Rattle.edf_demand.proofs.Calendars.{more-below, more-due, all-in}
 use Rattle.edf_demand.proofs.walk.first_deadlines.Goals as goal
-
-pub insert-requires-clause-task : goal.insert-requires-clause-task
-insert-requires-clause-task c =
-    omega (arith, c.loop-task.invariant.one_each, c.loop-task-test.true, c.count-task-end.ensures.count)
-
-pub insert-requires-clause-absent : goal.insert-requires-clause-absent
-insert-requires-clause-absent c = next-absent c.loop-task.task c.loop-task.next.entries c.loop-task.invariant.below
-
-pub loop-task-init : goal.loop-task-init
-loop-task-init c =
-    let none : c.in_ok-next.next.entries ≡ [] = ap (λ (q : QueueOf). q.entries) c.in_ok-next.ensures in
-    record {
-      one_each = ap (λ (q : QueueOf). q.limit) c.in_ok-next.ensures ∙ c.count.ensures.count;
-      below = subst (AllByRecursion (λ (e : Entry). e.task < 0)) (sym none) tt;
-      due = λ i lt. absurd (omega arith);
-    }
 
 pub loop-task-preserved : goal.loop-task-preserved
 loop-task-preserved c =

@@ -8,9 +8,7 @@ use Rattle.look_ahead.proofs.Keeping.{order-released, row_read}
 use Rattle.look_ahead.proofs.Passing.{passing_end, passing_moves, passing_stays, stays_other}
 use Rattle.look_ahead.proofs.Walking.{tasks_long}
 use Rattle.look_ahead.proofs.order.move_to_place.Goals as goal
-use Rattle.look_ahead.proofs.order.move_to_place.Goals.{then-order-k+then-stands_before_due, else-order-k}
-use Rattle.look_ahead.proofs.order.move_to_place.Goals.{else-order-k-via-then-order-k+else-stands_before_due}
-use Rattle.look_ahead.proofs.order.move_to_place.Goals.{else-order-k-via-else-order-k}
+use Rattle.look_ahead.proofs.order.move_to_place.Goals.{then-order-k+then-stands_before_due, else-order-k, else-order-k-via-then-order-k+else-stands_before_due, else-order-k-via-else-order-k}
 
 pub overflow_sub-k-end : goal.overflow_sub-k-end
 overflow_sub-k-end c =

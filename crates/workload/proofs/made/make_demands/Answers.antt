@@ -4,7 +4,7 @@ use Rattle.task_model.specs.declared.task.Task.{Task}
 use Rattle.task_model.specs.Tasks.{no_task, task_at}
 use Rattle.task_model.specs.DemandRows.{DemandRow}
 use Rattle.demand_list.specs.Demands.{with_row}
-use Rattle.workload.specs.Draws.{next_state, number_of, draw}
+use Rattle.workload.specs.Draws.{next_state, draw_of, draw}
 use Rattle.workload.specs.Workload.{made_row}
 use Rattle.workload.proofs.Drawing.{one-draw}
 use Rattle.workload.proofs.MadeRows.{made_row-free, made_row-last}
@@ -22,7 +22,7 @@ loop-row-preserved c =
     let x : ℕ = c.args.draws.now.state in
     let r : ℕ = c.loop-row.row in
     let drawn : c.draw.result ≡ draw x r =
-    c.draw.ensures.number ∙ ap number_of (c.draw.ensures.state ∙ ap next_state c.loop-row.invariant.draws) in
+    c.draw.ensures.number ∙ ap draw_of (c.draw.ensures.state ∙ ap next_state c.loop-row.invariant.draws) in
     let place : r / 4 < length c.args.tasks.now = omega (arith, c.loop-row-test.true) in
     let found : Task = get_or c.args.tasks.now (r / 4) c.index-tasks-task.result in
     let task : found ≡ task_at c.args.tasks.now (r / 4) =

@@ -1,7 +1,7 @@
 use Rattle.std.proofs.Common.{◌≡◌, ◌*◌, ℕ, [], ◌∷◌, ◌++◌, arith, ap, ap₂, ◌∙◌, sym, rules}
 use Rattle.grid_fraction.specs.Numbers.{list_below}
 use Rattle.grid_fraction.proofs.Sums.{list_below-more}
-use Rattle.workload.specs.Draws.{next_state, number_of, state_after}
+use Rattle.workload.specs.Draws.{next_state, draw_of, state_after}
 use Rattle.workload.specs.Workload.{task_by, made_task}
 use Rattle.workload.proofs.Drawing.{two-draws, made_task-drawn}
 use Rattle.workload.proofs.made.make_tasks.Goals as goal
@@ -14,8 +14,8 @@ loop-task-preserved c =
     let before : ℕ = c.loop-task.draws.state in
     let task : c.make_task.result ≡ made_task x n i =
     c.make_task.ensures.task
-    ∙ (ap (λ s. task_by n i (number_of (next_state before)) (number_of s)) c.make_task.ensures.draws
-    ∙ (ap (λ s. task_by n i (number_of (next_state s)) (number_of (next_state (next_state s)))) c.loop-task.invariant.draws
+    ∙ (ap (λ s. task_by n i (draw_of (next_state before)) (draw_of s)) c.make_task.ensures.draws
+    ∙ (ap (λ s. task_by n i (draw_of (next_state s)) (draw_of (next_state (next_state s)))) c.loop-task.invariant.draws
     ∙ sym (made_task-drawn x n i))) in
     let pushed : c.push.new.self.items ≡ c.loop-task.tasks.items ++ c.make_task.result ∷ [] = search rules in
     record {

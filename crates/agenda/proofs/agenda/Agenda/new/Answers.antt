@@ -1,22 +1,9 @@
 use Rattle.std.proofs.Common.{◌<◌, ◌∙◌, ap, arith}
 use Rattle.sched_model.specs.Plan.{count}
 use Rattle.sched_model.specs.States.{opening}
-use Rattle.ready_queue.specs.Entries.{QueueOf}
 use Rattle.agenda.specs.Agenda.{ReadyOf}
-use Rattle.agenda.proofs.Standing.{none-held, next-absent, more-held, all-held, opening-ready, opening-entry}
+use Rattle.agenda.proofs.Standing.{more-held, all-held, opening-ready, opening-entry}
 use Rattle.agenda.proofs.agenda.Agenda.new.Goals as goal
-
-pub insert-requires-clause-task : goal.insert-requires-clause-task
-insert-requires-clause-task c = omega (arith, c.loop-task.invariant.limit, c.loop-task-test.true, c.count-task-end.ensures.count)
-
-pub insert-requires-clause-absent : goal.insert-requires-clause-absent
-insert-requires-clause-absent c = next-absent c.args.plan.now (opening c.args.plan.now) c.loop-task.task c.loop-task.calendar.entries c.loop-task.invariant.held
-
-pub loop-task-init : goal.loop-task-init
-loop-task-init c = record {
-  limit = ap (λ (q : QueueOf). q.limit) c.in_ok-calendar.ensures ∙ c.count-2.ensures.count;
-  held = none-held c.args.plan.now (opening c.args.plan.now) c.in_ok-calendar.calendar.entries (ap (λ (q : QueueOf). q.entries) c.in_ok-calendar.ensures);
-}
 
 pub loop-task-preserved : goal.loop-task-preserved
 loop-task-preserved c =

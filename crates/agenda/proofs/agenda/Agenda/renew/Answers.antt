@@ -3,15 +3,8 @@ use Rattle.std.proofs.lemmas.List.{get_or_read}
 use Rattle.sched_model.specs.declared.state.Row.{Row}
 use Rattle.sched_model.specs.States.{StateOf, no_row, row_at}
 use Rattle.agenda.specs.Agenda.{StandFor, opened}
-use Rattle.agenda.proofs.Standing.{due-absent, after-open, after-closed, opened-entry}
+use Rattle.agenda.proofs.Standing.{after-open, after-closed, opened-entry}
 use Rattle.agenda.proofs.agenda.Agenda.renew.Goals as goal
-
-pub insert-requires-clause-absent : goal.insert-requires-clause-absent
-insert-requires-clause-absent c =
-    let t = c.take_first.ensures in
-    due-absent c.args.plan.now c.args.state.now c.args.self.now.ready c.args.self.now.calendar c.requires.stand c.args.task
-    c.take_first.new.self c.take_first.result
-    c.requires.past c.requires.due c.requires.can.task c.requires.can.done t.limit t.entries t.first t.out
 
 pub returns-then-not-done : goal.returns-then-not-done
 returns-then-not-done c =

@@ -1,14 +1,14 @@
 use Rattle.std.proofs.Common.{◌≡◌, ◌+◌, ap, ◌∙◌, arith}
 use Rattle.demand_list.specs.Demands.{units_of}
 use Rattle.poll_server.specs.Serving.{ServerOf, units, taken}
-use Rattle.poll_server.proofs.Steps.{asked-fits, taken-fits, units-taken, reached-next}
+use Rattle.poll_server.proofs.Steps.{asked_below-fits, taken-fits, units-taken, reached-next}
 use Rattle.poll_server.proofs.outcomes.Reached.add.Goals as goal
 
 pub overflow_add-self : goal.overflow_add-self
 overflow_add-self c =
     let s = c.args.jobs.now.server.now in
     let is : c.from.result ≡ units s c.args.m = c.from.ensures ∙ ap (λ (v : ServerOf). units v c.args.m) c.server.view_is in
-    omega (arith, asked-fits s c.requires.servable.requests c.args.m c.requires.request, is, c.requires.reached.asked_for)
+    omega (arith, asked_below-fits s c.requires.servable.requests c.args.m c.requires.request, is, c.requires.reached.asked_for)
 
 pub overflow_add-self-in-loop-self-2 : goal.overflow_add-self-in-loop-self-2
 overflow_add-self-in-loop-self-2 c =

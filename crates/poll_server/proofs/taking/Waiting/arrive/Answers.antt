@@ -1,6 +1,6 @@
 use Rattle.std.proofs.Common.{◌≡◌, ◌<◌, ap, ◌∙◌, subst, arith}
 use Rattle.poll_server.specs.Serving.{ServerOf, units, arrival, request_count}
-use Rattle.poll_server.proofs.Steps.{asked-fits, passed-arrived}
+use Rattle.poll_server.proofs.Steps.{asked_below-fits, passed-arrived}
 use Rattle.poll_server.proofs.taking.Waiting.arrive.Goals as goal
 
 pub overflow_add-self : goal.overflow_add-self
@@ -9,7 +9,7 @@ overflow_add-self c =
     let next = c.loop-self.self.next in
     let lt : next < request_count s = subst (λ (v : ServerOf). next < request_count v) c.server.view_is c.loop-self-test.true in
     let is : c.from.result ≡ units s next = c.from.ensures ∙ ap (λ (v : ServerOf). units v next) c.server.view_is in
-    omega (arith, asked-fits s c.requires.requests next lt, is, c.loop-self.invariant.passed.counted)
+    omega (arith, asked_below-fits s c.requires.requests next lt, is, c.loop-self.invariant.passed.counted)
 
 pub returns-else-server-self-clause-arrived : goal.returns-else-server-self-clause-arrived
 returns-else-server-self-clause-arrived c =
