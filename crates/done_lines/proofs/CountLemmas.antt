@@ -125,27 +125,24 @@ module _ (p : Plan) (dem : ℕ → ℕ → ℕ) (ask : List Tick → Frac) (lim 
     where
       go : (a b : Bool) → times is_released (if a then Release t i (latest p i t)
           ∷ (if b then Done (record { tick = t; offset = 0 }) i (latest p i t) 0 ∷ [] else []) else []) ≡ (if a then 1 else 0)
-      go false b = refl
-      go true false = refl
       go true true = refl
+      go _ _ = refl
 
   finished-by : (t i : ℕ) → times is_finished (release_notes p dem t i) ≡ (if releases_at p i t && nat_eq (dem i (latest p i t)) 0 then 1 else 0)
   finished-by t i = go (releases_at p i t) (nat_eq (dem i (latest p i t)) 0)
     where
       go : (a b : Bool) → times is_finished (if a then Release t i (latest p i t)
           ∷ (if b then Done (record { tick = t; offset = 0 }) i (latest p i t) 0 ∷ [] else []) else []) ≡ (if a && b then 1 else 0)
-      go false b = refl
-      go true false = refl
       go true true = refl
+      go _ _ = refl
 
   decided-by : (t i : ℕ) → times is_decided (release_notes p dem t i) ≡ 0
   decided-by t i = go (releases_at p i t) (nat_eq (dem i (latest p i t)) 0)
     where
       go : (a b : Bool) → times is_decided (if a then Release t i (latest p i t)
           ∷ (if b then Done (record { tick = t; offset = 0 }) i (latest p i t) 0 ∷ [] else []) else []) ≡ 0
-      go false b = refl
-      go true false = refl
       go true true = refl
+      go _ _ = refl
 
   abbrev releases : ℕ → ℕ
   releases t = sum_below (count p) (λ i. if releases_at p i t then 1 else 0)

@@ -5,7 +5,7 @@ use Rattle.std.proofs.lemmas.Grind.{flat_map-append}
 use Rattle.std.proofs.lemmas.Bool.{cases_lt, and_right}
 use Rattle.std.proofs.lemmas.Bool.Decides.{nat_tests}
 use Rattle.dvs_base.specs.declared.note.Note.{Note}
-use Rattle.dvs_base.specs.declared.note.Note.TheVariants.{Release, Speed, Run, Idle, Done, End}
+use Rattle.dvs_base.specs.declared.note.Note.TheVariants.{Release, Speed, Done, End}
 use Rattle.sched_model.specs.declared.holder.Holder.TheVariants.{Held}
 use Rattle.grid_fraction.specs.declared.Frac.{Frac}
 use Rattle.grid_fraction.specs.Numbers.{sum_below, list_below}
@@ -44,11 +44,6 @@ times-end p dem ask ticks test quiet =
 -- the late completions of a job are at most all its completions
 late-most : (t i k : ℕ) (notes : List Note) → times (tells_late t i k) notes ≤ times (tells_done i k) notes
 late-most t i k [] = omega arith
-late-most t i k (Release at j l ∷ notes) = late-most t i k notes
-late-most t i k (Speed at f num den ∷ notes) = late-most t i k notes
-late-most t i k (Run from to j l units energy ∷ notes) = late-most t i k notes
-late-most t i k (Idle from to units energy ∷ notes) = late-most t i k notes
-late-most t i k (End at run idle ∷ notes) = late-most t i k notes
 late-most t i k (Done at_end j l used ∷ notes) =
     go (nat_eq i j && nat_eq k l) (nat_lt t at_end.tick || (nat_eq t at_end.tick && nat_lt 0 at_end.offset)) (late-most t i k notes)
   where
@@ -58,6 +53,7 @@ late-most t i k (Done at_end j l used ∷ notes) =
     go true true ih = omega arith
     go true false ih = omega arith
     go false b ih = ih
+late-most t i k (n ∷ notes) = late-most t i k notes
 
 module _ (p : Plan) (dem : ℕ → ℕ → ℕ) (ask : List Tick → Frac) (lim : IsWithinLimits p) (i k : ℕ) (inside : i < count p) (some_job : 1 ≤ k) where
   some : 0 < period p i

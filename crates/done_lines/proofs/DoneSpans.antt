@@ -17,7 +17,7 @@ use Rattle.sched_model.specs.Priority.{key_of, in_order}
 use Rattle.sched_model.specs.Decision.{is_decision}
 use Rattle.sched_model.specs.Schedule.{entry_in_force, IsNext, IsScheduleBy}
 use Rattle.sched_model.specs.Admission.{IsWithinLimits}
-use Rattle.sched_model.specs.Notes.{same_holder, Span, spans_of, units_of}
+use Rattle.sched_model.specs.Notes.{same_holder, Span, spans_of, tick_units}
 use Rattle.sched_model.proofs.Limits.{every_period}
 use Rattle.sched_model.proofs.ScheduleLemmas.{force-within}
 use Rattle.sched_model.proofs.OrderLemmas.{sum_list, sum_list-in_order}
@@ -67,7 +67,7 @@ module _ (p : Plan) (dem : ℕ → ℕ → ℕ) (ask : List Tick → Frac) (lim 
       (λ j i lj li b on. refl) h.legal in
       omega (arith, all)
 
-  units-long : (past : List Tick) (x : Tick) → IsNext p dem ask past x → length (units_of p past x) ≡ speed_of x.entry
+  units-long : (past : List Tick) (x : Tick) → IsNext p dem ask past x → length (tick_units p past x) ≡ speed_of x.entry
   units-long past x h =
       let order : List ℕ = in_order (key_of p.scheduler p (length past)) (count p) in
       let idle : ℕ = speed_of x.entry - sum_below (count p) (share x) in
@@ -82,7 +82,7 @@ module _ (p : Plan) (dem : ℕ → ℕ → ℕ) (ask : List Tick → Frac) (lim 
 
   -- the units of a job in a tick are its task's share where it is the latest job, else none
   units-own : (past : List Tick) (x : Tick) (i k : ℕ) → i < count p
-      → count_by (same_holder (Held i k)) (units_of p past x) ≡ own_units (share x) (λ j. latest p j (length past)) i k i
+      → count_by (same_holder (Held i k)) (tick_units p past x) ≡ own_units (share x) (λ j. latest p j (length past)) i k i
   units-own past x i k lt =
       let job : ℕ → ℕ = λ j. latest p j (length past) in
       let order : List ℕ = in_order (key_of p.scheduler p (length past)) (count p) in
@@ -98,7 +98,7 @@ module _ (p : Plan) (dem : ℕ → ℕ → ℕ) (ask : List Tick → Frac) (lim 
       off j ne false e = rw e refl
 
   -- a job that holds a unit of a tick is its task's latest job
-  units-latest : (past : List Tick) (x : Tick) (i k : ℕ) → i < count p → 0 < count_by (same_holder (Held i k)) (units_of p past x)
+  units-latest : (past : List Tick) (x : Tick) (i k : ℕ) → i < count p → 0 < count_by (same_holder (Held i k)) (tick_units p past x)
       → latest p i (length past) ≡ k
   units-latest past x i k lt some = go (nat_eq k (latest p i (length past))) refl
     where
@@ -112,7 +112,7 @@ module _ (p : Plan) (dem : ℕ → ℕ → ℕ) (ask : List Tick → Frac) (lim 
 
   -- a tick adds the job's units in it to what the job has had
   units-had : (past : List Tick) (x : Tick) (i k : ℕ) → i < count p → 1 ≤ k
-      → exec p (x ∷ past) i k ≡ exec p past i k + count_by (same_holder (Held i k)) (units_of p past x)
+      → exec p (x ∷ past) i k ≡ exec p past i k + count_by (same_holder (Held i k)) (tick_units p past x)
   units-had past x i k lt some_job =
       let mine : (if is_in_window p i k (length past) then share x i else 0) ≡ own_units (share x) (λ j. latest p j (length past)) i k i =
       on (is_in_window p i k (length past)) refl in
@@ -156,7 +156,7 @@ module _ (p : Plan) (dem : ℕ → ℕ → ℕ) (ask : List Tick → Frac) (lim 
     pub held : (i k : ℕ) → i < count p → 0 < count_by (same_holder (Held i k)) s.units → latest p i (length s.past) ≡ k
 
   opened : (x : Tick) (past : List Tick) → IsScheduleBy p dem ask past → IsNext p dem ask past x → is_decision p dem past ≡ true
-      → IsLastSpan x past (record { past = past; entry = x.entry; units = units_of p past x })
+      → IsLastSpan x past (record { past = past; entry = x.entry; units = tick_units p past x })
   opened x past h next e = record {
     spans = span-opens p dem x past e;
     earlier = h;
@@ -170,7 +170,7 @@ module _ (p : Plan) (dem : ℕ → ℕ → ℕ) (ask : List Tick → Frac) (lim 
   }
 
   grows : (x y : Tick) (past : List Tick) (s : Span) → IsLastSpan y past s → IsNext p dem ask (y ∷ past) x → is_decision p dem (y ∷ past) ≡ false
-      → IsLastSpan x (y ∷ past) (record { past = s.past; entry = s.entry; units = s.units ++ units_of p (y ∷ past) x })
+      → IsLastSpan x (y ∷ past) (record { past = s.past; entry = s.entry; units = s.units ++ tick_units p (y ∷ past) x })
   grows x y past s l next e = record {
     spans = span-grows p dem x (y ∷ past) s s.past e l.spans;
     earlier = l.earlier;
@@ -180,10 +180,10 @@ module _ (p : Plan) (dem : ℕ → ℕ → ℕ) (ask : List Tick → Frac) (lim 
     long =
         let speeds : speed_of x.entry ≡ speed_of s.entry = ap speed_of (next.entry ∙ (kept ∙ sym l.force)) in
         let more : length (x ∷ y ∷ past) - length s.past ≡ (length (y ∷ past) - length s.past) + 1 = omega (arith, l.shorter) in
-        length-append s.units (units_of p (y ∷ past) x)
+        length-append s.units (tick_units p (y ∷ past) x)
         ∙ rw more (omega (arith, l.long, units-long (y ∷ past) x next, speeds));
     had = λ i k lt some_job.
-        omega (arith, units-had (y ∷ past) x i k lt some_job, l.had i k lt some_job, count-append (same_holder (Held i k)) s.units (units_of p (y ∷ past) x));
+        omega (arith, units-had (y ∷ past) x i k lt some_job, l.had i k lt some_job, count-append (same_holder (Held i k)) s.units (tick_units p (y ∷ past) x));
     same = λ i t lt low high. go i t lt low (eq-or-lt_of_le high);
     held = λ i k lt some. either i k lt some (cases_lt 0 (count_by (same_holder (Held i k)) s.units));
   }
@@ -195,19 +195,19 @@ module _ (p : Plan) (dem : ℕ → ℕ → ℕ) (ask : List Tick → Frac) (lim 
       go i t lt low (inl here) = ap (latest p i) here ∙ (stays p dem (every_period p lim) y past e i lt ∙ l.same i (length past) lt l.shorter (omega arith))
       go i t lt low (inr before) = l.same i t lt low (omega arith)
 
-      either : (i k : ℕ) → i < count p → 0 < count_by (same_holder (Held i k)) (s.units ++ units_of p (y ∷ past) x)
+      either : (i k : ℕ) → i < count p → 0 < count_by (same_holder (Held i k)) (s.units ++ tick_units p (y ∷ past) x)
           → (0 < count_by (same_holder (Held i k)) s.units) ⊎ (count_by (same_holder (Held i k)) s.units ≤ 0) → latest p i (length s.past) ≡ k
       either i k lt some (inl earlier) = l.held i k lt earlier
       either i k lt some (inr none) =
-          let here : 0 < count_by (same_holder (Held i k)) (units_of p (y ∷ past) x) =
-          omega (arith, some, none, count-append (same_holder (Held i k)) s.units (units_of p (y ∷ past) x)) in
+          let here : 0 < count_by (same_holder (Held i k)) (tick_units p (y ∷ past) x) =
+          omega (arith, some, none, count-append (same_holder (Held i k)) s.units (tick_units p (y ∷ past) x)) in
           sym (stays p dem (every_period p lim) y past e i lt ∙ l.same i (length past) lt l.shorter (omega arith)) ∙ units-latest (y ∷ past) x i k lt here
 
   -- a schedule of at least one tick has a last span
   pub last-span : (x : Tick) (past : List Tick) → IsScheduleBy p dem ask (x ∷ past) → (s : Span) × IsLastSpan x past s
-  last-span x [] h = (record { past = []; entry = x.entry; units = units_of p [] x }, opened x [] tt h.1 refl)
+  last-span x [] h = (record { past = []; entry = x.entry; units = tick_units p [] x }, opened x [] tt h.1 refl)
   last-span x (y ∷ past) h = go (is_decision p dem (y ∷ past)) refl (last-span y past h.0)
     where
       go : (b : Bool) → is_decision p dem (y ∷ past) ≡ b → ((s : Span) × IsLastSpan y past s) → (s : Span) × IsLastSpan x (y ∷ past) s
-      go true e l = (record { past = y ∷ past; entry = x.entry; units = units_of p (y ∷ past) x }, opened x (y ∷ past) h.0 h.1 e)
-      go false e l = (record { past = l.0.past; entry = l.0.entry; units = l.0.units ++ units_of p (y ∷ past) x }, grows x y past l.0 l.1 h.1 e)
+      go true e l = (record { past = y ∷ past; entry = x.entry; units = tick_units p (y ∷ past) x }, opened x (y ∷ past) h.0 h.1 e)
+      go false e l = (record { past = l.0.past; entry = l.0.entry; units = l.0.units ++ tick_units p (y ∷ past) x }, grows x y past l.0 l.1 h.1 e)

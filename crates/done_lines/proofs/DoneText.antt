@@ -1,9 +1,9 @@
 -- The text of a schedule that meets its deadlines says of each job that it completes by its deadline.
-use Rattle.std.proofs.Common.{◌≡◌, ℕ, zero, suc, ◌+◌, ◌-◌, ◌^◌, ◌<◌, ◌≤◌, Bool, true, false, ◌&&◌, ◌||◌, List, [], ◌∷◌, ◌++◌, length, flat_map, refl, arith, if◌then◌else◌, ap, ap₂, ◌∙◌, sym, subst, true≢false, nat_eq, nat_lt, get_or, append_assoc, ◌⊎◌, inl, inr}
+use Rattle.std.proofs.Common.{◌≡◌, ℕ, zero, suc, ◌+◌, ◌-◌, ◌^◌, ◌<◌, ◌≤◌, Bool, true, false, ◌&&◌, ◌||◌, List, [], ◌∷◌, ◌++◌, length, map, flat_map, refl, arith, if◌then◌else◌, ap, ap₂, ◌∙◌, sym, subst, true≢false, nat_eq, nat_lt, get_or, append_assoc, ◌⊎◌, inl, inr}
 use Rattle.std.specs.List.{AllByRecursion}
 use Rattle.std.proofs.lemmas.Fmt.{decimal_injective}
-use Rattle.std.proofs.lemmas.List.{get_or-map, length-map}
-use Rattle.std.proofs.lemmas.List.Elements.{All-from_recursion}
+use Rattle.std.proofs.lemmas.List.{get_or-map, length-map, map-append}
+use Rattle.std.proofs.lemmas.List.Elements.{All-from_recursion, All-map}
 use Rattle.std.proofs.lemmas.Grind.{flat_map-append}
 use Rattle.std.proofs.Math.ListN.{get_or-eq_default}
 use Rattle.std.proofs.lemmas.Bool.{cases_lt, and_parts}
@@ -11,16 +11,16 @@ use Rattle.std.proofs.lemmas.Bool.Decides.{nat_tests}
 use Rattle.dvs_base.specs.declared.kind.GovernorKind.{GovernorKind}
 use Rattle.dvs_base.specs.declared.kind.Version.{Version}
 use Rattle.dvs_base.specs.declared.note.Note.{Note}
-use Rattle.dvs_base.specs.declared.note.Note.TheVariants.{Release, Speed, Run, Idle, Done, End}
+use Rattle.dvs_base.specs.declared.note.Note.TheVariants.{Done}
 use Rattle.dvs_base.specs.declared.note.Pos.{Pos}
-use Rattle.trace_text.specs.TraceLines.{line, done_fields, fields_of, note_text, lines_of}
+use Rattle.trace_text.specs.TraceLines.{line, done_fields, fields_of, note_text}
 use Rattle.trace_text.proofs.NoteLines.{note-fields, done-same}
 use Rattle.task_model.specs.declared.task.Task.{Task}
 use Rattle.task_model.specs.Tasks.{no_task, task_at}
 use Rattle.grid_fraction.specs.declared.Frac.{Frac}
 use Rattle.dvs_base.specs.declared.limits.TheConstants.{MOST_TICKS}
 use Rattle.dvs_base.specs.Parts.{name_of}
-use Rattle.sched_model.specs.Plan.{Plan, count, names, task, period, offset}
+use Rattle.sched_model.specs.Plan.{Plan, count, names, period}
 use Rattle.sched_model.specs.Jobs.{release, due}
 use Rattle.sched_model.specs.Ticks.{Tick, at, exec, IsMet}
 use Rattle.sched_model.specs.Demand.{published}
@@ -30,12 +30,14 @@ use Rattle.sched_model.specs.Notes.{notes_of}
 use Rattle.sched_model.proofs.Limits.{every_period, low_period}
 use Rattle.sched_model.proofs.ScheduleLemmas.{schedule_exists}
 use Rattle.sched_model.proofs.Service.{exec-most, exec-drop}
+use Rattle.sched_model.proofs.HeldUnits.{each-weaker}
 use Rattle.sched_model.proofs.JobLaws.{le-due, release-due}
-use Rattle.done_lines.specs.DoneLines.{IsDoneLine, IsBy, IsToldBy, TellsDeadlines, TextTellsDeadlines}
-use Rattle.trace_reader.specs.TraceText.{whole_text}
+use Rattle.done_lines.specs.DoneLines.{IsDoneLine, NoDoneLine, IsBy, IsToldBy, TellsDeadlines, TextTellsDeadlines}
+use Rattle.trace_reader.specs.TraceText.{LineOf, noted, lines_of_note, head_lines, text_of_lines, shares_from}
+use Rattle.trace_reader.proofs.WholeText.{each-noted}
 use Rattle.trace_text.proofs.PlainLines.{ArePlain, each-append, plain-name, some-name}
-use Rattle.done_lines.specs.RunText.{task_texts}
-use Rattle.done_lines.proofs.RunLines.{IsLine, IsQuiet, before_note, lines_at, head_lines, each-below, quiet-task, quiet-before, quiet-head, task-line, lines-whole}
+use Rattle.done_lines.specs.RunText.{task_texts, run_lines}
+use Rattle.done_lines.proofs.RunLines.{IsQuiet, lines-run, quiet-head, quiet-shares}
 use Rattle.done_lines.proofs.DoneNotes.{tells_done, tells_late, times}
 use Rattle.done_lines.proofs.DoneCounts.{times-end, told-once, told-never, none-late}
 
@@ -79,14 +81,22 @@ none-pass test (x ∷ xs) e = go (test x) refl (none-pass test xs)
     go true f ih = absurd (omega (arith, sym (ap (λ (c : Bool). if c then suc (times test xs) else times test xs) f) ∙ e))
     go false f ih = (f, ih (sym (ap (λ (c : Bool). if c then suc (times test xs) else times test xs) f) ∙ e))
 
+-- the line is not that of the completion of job k of the task of this name
+abbrev IsOther : List ℕ → ℕ → List ℕ → Type 0
+IsOther name k l = (at_end : Pos) → IsDoneLine name k at_end l → ⊥
+
 -- a line that doesn't begin with the letter d is not a completion's line
-other-line : (name : List ℕ) (k : ℕ) (l : List ℕ) → nat_eq (get_or l 0 0) 100 ≡ false → (at_end : Pos) → IsDoneLine name k at_end l → ⊥
+other-line : (name : List ℕ) (k : ℕ) (l : List ℕ) → IsQuiet l → IsOther name k l
 other-line name k l other at_end d = true≢false (sym (ap (λ (m : List ℕ). nat_eq (get_or m 0 0) 100) d.1) ∙ other)
+
+-- where no line is the completion's, none of their texts is
+none-done : (name : List ℕ) (k : ℕ) (ls : List LineOf) → AllByRecursion (λ l. IsOther name k l.text) ls → NoDoneLine name k (map (λ l. l.text) ls)
+none-done name k ls h = All-map (IsOther name k) (λ (l : LineOf). l.text) ls (All-from_recursion (λ (l : LineOf). IsOther name k l.text) ls h)
 
 -- a note of another kind, or of another job, doesn't have the line of this job's completion
 silent : (ns : List (List ℕ)) → ((i : ℕ) → ArePlain (name_of ns i)) → (i k : ℕ) → ((j : ℕ) → name_of ns j ≡ name_of ns i → j ≡ i) → k < 2 ^ 64
-    → (n : Note) → tells_done i k n ≡ false → ((l : ℕ) → tells_done i l n ≡ true → l < 2 ^ 64) → (at_end : Pos)
-    → IsDoneLine (name_of ns i) k at_end (note_text ns n) → ⊥
+    → (n : Note) → tells_done i k n ≡ false → ((l : ℕ) → tells_done i l n ≡ true → l < 2 ^ 64)
+    → IsOther (name_of ns i) k (note_text ns n)
 silent ns named i k apart low n off small at_end d = go n off small (d.0, sym (note-fields ns n) ∙ d.1)
   where
     self : (m : ℕ) → nat_eq m m ≡ true
@@ -94,11 +104,6 @@ silent ns named i k apart low n off small at_end d = go n off small (d.0, sym (n
 
     go : (n : Note) → tells_done i k n ≡ false → ((l : ℕ) → tells_done i l n ≡ true → l < 2 ^ 64)
         → IsDoneLine (name_of ns i) k at_end (line (fields_of ns n)) → ⊥
-    go (Release t j l) off small d = other-line (name_of ns i) k (line (fields_of ns (Release t j l))) refl at_end d
-    go (Speed t f num den) off small d = other-line (name_of ns i) k (line (fields_of ns (Speed t f num den))) refl at_end d
-    go (Run from to j l units energy) off small d = other-line (name_of ns i) k (line (fields_of ns (Run from to j l units energy))) refl at_end d
-    go (Idle from to units energy) off small d = other-line (name_of ns i) k (line (fields_of ns (Idle from to units energy))) refl at_end d
-    go (End t run idle) off small d = other-line (name_of ns i) k (line (fields_of ns (End t run idle))) refl at_end d
     go (Done q j l u) off small d =
         let same = done-same ns named (name_of ns i) (named i) k at_end d.0 q j l u d.1 in
         let task : j ≡ i = apart j same.0 in
@@ -107,25 +112,23 @@ silent ns named i k apart low n off small at_end d = go n off small (d.0, sym (n
         let job : l ≡ k = decimal_injective l k bound low same.1 in
         let found : (nat_eq i j && nat_eq k l) ≡ true = rw (here, job, self k) refl in
         true≢false (sym found ∙ off)
+    go n off small d = other-line (name_of ns i) k (line (fields_of ns n)) refl at_end d
 
--- lines that don't begin with the letter d are not completions' lines
-quiet-silent : (name : List ℕ) (k : ℕ) (ls : List (List ℕ)) → AllByRecursion IsQuiet ls
-    → AllByRecursion (λ l. (at_end : Pos) → IsDoneLine name k at_end l → ⊥) ls
-quiet-silent name k [] quiet = tt
-quiet-silent name k (l ∷ ls) quiet = (other-line name k l quiet.0, quiet-silent name k ls quiet.1)
-
+-- where no note of some is the job's completion, no line of theirs is
 silent-lines : (v : Version) (ns : List (List ℕ)) → ((i : ℕ) → ArePlain (name_of ns i)) → (i k : ℕ)
     → ((j : ℕ) → name_of ns j ≡ name_of ns i → j ≡ i) → k < 2 ^ 64
     → (all notes : List Note) → AllByRecursion (λ n. tells_done i k n ≡ false) notes
     → AllByRecursion (λ n. (l : ℕ) → tells_done i l n ≡ true → l < 2 ^ 64) notes
-    → AllByRecursion (λ l. (at_end : Pos) → IsDoneLine (name_of ns i) k at_end l → ⊥) (flat_map (lines_at v ns all) notes)
-silent-lines v ns named i k apart low all [] off small = tt
-silent-lines v ns named i k apart low all (n ∷ notes) off small =
-    let before = before_note v ns all n in
-    each-append _ (lines_at v ns all n) (flat_map (lines_at v ns all) notes)
-    (each-append _ before (note_text ns n ∷ []) (quiet-silent (name_of ns i) k before (quiet-before v ns all n))
-    (silent ns named i k apart low n off.0 small.0, tt))
-    (silent-lines v ns named i k apart low all notes off.1 small.1)
+    → AllByRecursion (λ l. IsOther (name_of ns i) k l.text) (flat_map (lines_of_note v ns all) notes)
+silent-lines v ns named i k apart low all notes off small =
+    each-noted (IsOther (name_of ns i) k) v ns all notes
+    (λ _. each-weaker IsQuiet (IsOther (name_of ns i) k) (other-line (name_of ns i) k) (shares_from all 0 ns) (quiet-shares all ns)) (own notes off small)
+  where
+    own : (notes : List Note) → AllByRecursion (λ n. tells_done i k n ≡ false) notes
+        → AllByRecursion (λ n. (l : ℕ) → tells_done i l n ≡ true → l < 2 ^ 64) notes
+        → AllByRecursion (λ n. IsOther (name_of ns i) k (note_text ns n)) notes
+    own [] off small = tt
+    own (n ∷ notes) off small = (silent ns named i k apart low n off.0 small.0, own notes off.1 small.1)
 
 each-before : {A : Type 0} (P : A → Type 0) (xs ys : List A) → AllByRecursion P (xs ++ ys) → AllByRecursion P xs
 each-before P [] ys e = tt
@@ -220,26 +223,23 @@ module _ (p : Plan) (dem : ℕ → ℕ → ℕ) (ask : List Tick → Frac) (lim 
 
   -- the text of the schedule
   abbrev text : Version → GovernorKind → ℕ → List ℕ
-  text v g t = whole_text v p.scheduler g t (names p) (task_texts p) notes
+  text v g t = text_of_lines (run_lines v p g t notes)
 
-  abbrev note_lines : Version → List Note → List (List ℕ)
-  note_lines v some = flat_map (lines_at v (names p) notes) some
+  abbrev lines_at : Version → List Note → List LineOf
+  lines_at v some = flat_map (lines_of_note v (names p) notes) some
 
-  abbrev heading : Version → GovernorKind → ℕ → List (List ℕ)
+  abbrev heading : Version → GovernorKind → ℕ → List LineOf
   heading v g t = head_lines v p.scheduler g t (task_texts p)
-
-  lines-text : (v : Version) (g : GovernorKind) (t : ℕ) → lines_of (text v g t) ≡ heading v g t ++ note_lines v notes
-  lines-text v g t =
-      lines-whole (names p) named notes v p.scheduler g t (task_texts p)
-      (each-below IsLine _ (count p) (λ i. task-line (name_of (names p) i) (period p i) (offset p i) ((task p i).worst) (named i)))
-
-  quiet-heading : (v : Version) (g : GovernorKind) (t : ℕ) → AllByRecursion IsQuiet (heading v g t)
-  quiet-heading v g t =
-      quiet-head v p.scheduler g t (task_texts p)
-      (each-below IsQuiet _ (count p) (λ i. quiet-task (name_of (names p) i) (period p i) (offset p i) ((task p i).worst)))
 
   module _ (v : Version) (g : GovernorKind) (t : ℕ) (i k : ℕ) (lt : i < count p) (some_job : 1 ≤ k) (had : exec p ticks i k ≡ dem i k)
       (within : due p i k ≤ length ticks) where
+    abbrev name : List ℕ
+    name = name_of (names p) i
+
+    -- the lines before the notes, and those of some notes
+    abbrev before : List Note → List LineOf
+    before some = heading v g t ++ lines_at v some
+
     once : times (tells_done i k) notes ≡ 1
     once =
         let began : release p i k < length ticks = omega (arith, release-due p i k some_job, every_period p lim i, within) in
@@ -253,7 +253,7 @@ module _ (p : Plan) (dem : ℕ → ℕ → ℕ) (ask : List Tick → Frac) (lim 
     low-job = omega (arith, le-due p i k (every_period p lim i), within, low)
 
     -- where the notes have exactly one completion of the job, so does the text
-    told-by : IsAlone (tells_done i k) notes → IsToldBy (name_of (names p) i) k (due p i k) (text v g t)
+    told-by : IsAlone (tells_done i k) notes → IsToldBy name k (due p i k) (text v g t)
     told-by r = go r.one refl
       where
         all_small : AllByRecursion (λ n. (l : ℕ) → tells_done i l n ≡ true → l < 2 ^ 64) (r.front ++ r.one ∷ r.back)
@@ -262,32 +262,32 @@ module _ (p : Plan) (dem : ℕ → ℕ → ℕ) (ask : List Tick → Frac) (lim 
         not_late : AllByRecursion (λ n. tells_late (due p i k) i k n ≡ false) (r.front ++ r.one ∷ r.back)
         not_late = subst (AllByRecursion (λ n. tells_late (due p i k) i k n ≡ false)) r.parts (none-pass (tells_late (due p i k) i k) notes in-time)
 
-        go : (n : Note) → r.one ≡ n → IsToldBy (name_of (names p) i) k (due p i k) (text v g t)
-        go (Release tick j l) e = absurd (true≢false (sym r.passes ∙ ap (tells_done i k) e))
-        go (Speed tick f num den) e = absurd (true≢false (sym r.passes ∙ ap (tells_done i k) e))
-        go (Run from to j l units energy) e = absurd (true≢false (sym r.passes ∙ ap (tells_done i k) e))
-        go (Idle from to units energy) e = absurd (true≢false (sym r.passes ∙ ap (tells_done i k) e))
-        go (End tick run idle) e = absurd (true≢false (sym r.passes ∙ ap (tells_done i k) e))
+        go : (n : Note) → r.one ≡ n → IsToldBy name k (due p i k) (text v g t)
         go (Done q j l u) e = record {
-          before = heading v g t ++ note_lines v r.front;
+          before = map (λ l. l.text) (before r.front);
           told = note_text (names p) (Done q j l u);
-          after = note_lines v r.back;
+          after = map (λ l. l.text) (lines_at v r.back);
           at_end = q;
-          lines = lines-text v g t ∙ (ap (λ ls. heading v g t ++ ls)
-              (ap (note_lines v) r.parts ∙ (flat_map-append (lines_at v (names p) notes) r.front (r.one ∷ r.back)
-              ∙ ap (λ n. note_lines v r.front ++ (lines_at v (names p) notes n ++ note_lines v r.back)) e))
-              ∙ sym (append_assoc (heading v g t) (note_lines v r.front) (note_text (names p) (Done q j l u) ∷ note_lines v r.back)));
+          lines = lines-run p named v g t notes ∙ (ap (λ ls. map (λ l. l.text) ls) split
+              ∙ map-append (λ (l : LineOf). l.text) (before r.front) (noted (names p) (Done q j l u) ∷ lines_at v r.back));
           done = (u, note-fields (names p) (Done q j l u) ∙ ap₂ (λ m n. line (done_fields q (name_of (names p) m) n u)) (sym task) (sym job));
           in_time = by;
-          none_before = All-from_recursion (λ l. (at_end : Pos) → IsDoneLine (name_of (names p) i) k at_end l → ⊥) (heading v g t ++ note_lines v r.front)
-              (each-append _ (heading v g t) (note_lines v r.front) (quiet-silent (name_of (names p) i) k (heading v g t) (quiet-heading v g t))
+          none_before = none-done name k (before r.front)
+              (each-append (λ l. IsOther name k l.text) (heading v g t) (lines_at v r.front)
+              (each-weaker (λ l. IsQuiet l.text) (λ l. IsOther name k l.text) (λ l. other-line name k l.text) (heading v g t) (quiet-head p v g t))
               (silent-lines v (names p) named i k (apart i lt) low-job notes r.front (none-pass (tells_done i k) r.front r.none_front)
               (each-before _ r.front (r.one ∷ r.back) all_small)));
-          none_after = All-from_recursion (λ l. (at_end : Pos) → IsDoneLine (name_of (names p) i) k at_end l → ⊥) (note_lines v r.back)
+          none_after = none-done name k (lines_at v r.back)
               (silent-lines v (names p) named i k (apart i lt) low-job notes r.back (none-pass (tells_done i k) r.back r.none_back)
               (each-after _ r.front (r.one ∷ r.back) all_small).1);
         }
           where
+            split : run_lines v p g t notes ≡ before r.front ++ noted (names p) (Done q j l u) ∷ lines_at v r.back
+            split =
+                ap (λ ls. heading v g t ++ ls) (ap (lines_at v) r.parts ∙ (flat_map-append (lines_of_note v (names p) notes) r.front (r.one ∷ r.back)
+                ∙ ap (λ n. lines_at v r.front ++ (lines_of_note v (names p) notes n ++ lines_at v r.back)) e))
+                ∙ sym (append_assoc (heading v g t) (lines_at v r.front) (noted (names p) (Done q j l u) ∷ lines_at v r.back))
+
             passes : (nat_eq i j && nat_eq k l) ≡ true
             passes = sym (ap (tells_done i k) e) ∙ r.passes
 
@@ -304,6 +304,7 @@ module _ (p : Plan) (dem : ℕ → ℕ → ℕ) (ask : List Tick → Frac) (lim 
 
             by : IsBy (due p i k) q
             by = is_by (due p i k) q early
+        go n e = absurd (true≢false (sym r.passes ∙ ap (tells_done i k) e))
 
     pub told-text : IsToldBy (name_of (names p) i) k (due p i k) (text v g t)
     told-text = told-by (alone (tells_done i k) notes once)
@@ -321,6 +322,6 @@ text-tells p lim v kind dem t low met =
     let ticks = schedule p kind dem t in
     let exists = schedule_exists p dem (published p kind dem) t in
     let long : length ticks ≡ t = exists.1 in
-    subst (λ n. TellsDeadlines p n (whole_text v p.scheduler kind n (names p) (task_texts p) (notes_of p dem (published p kind dem) ticks))) long
+    subst (λ n. TellsDeadlines p n (text_of_lines (run_lines v p kind n (notes_of p dem (published p kind dem) ticks)))) long
     (tells-deadlines p dem (published p kind dem) lim ticks exists.0 (exec-most p dem (published p kind dem) ticks exists.0)
     (omega (arith, long, low)) v kind met)

@@ -56,12 +56,8 @@ kinds-append xs ys =
     )
 
 kinds-one : (p : Plan) (dem : ℕ → ℕ → ℕ) (n : Note) → IsBeforeEnd p dem n → kinds (n ∷ []) ≡ 1
-kinds-one p dem (Release t i k) h = omega arith
-kinds-one p dem (Speed t f num den) h = omega arith
-kinds-one p dem (Run from to i k units energy) h = omega arith
-kinds-one p dem (Idle from to units energy) h = omega arith
-kinds-one p dem (Done q i k used) h = omega arith
 kinds-one p dem (End t run idle) h = absurd h
+kinds-one p dem _ h = omega arith
 
 kinds-length : (p : Plan) (dem : ℕ → ℕ → ℕ) (notes : List Note) → AllByRecursion (IsBeforeEnd p dem) notes
     → length notes ≡ kinds notes
@@ -126,9 +122,8 @@ module _ (p : Plan) (dem : ℕ → ℕ → ℕ) (ask : List Tick → Frac) (lim 
       go : (a b : Bool)
           → count_by is_segment (if a then Release t i (latest p i t)
           ∷ (if b then Done (record { tick = t; offset = 0 }) i (latest p i t) 0 ∷ [] else []) else []) ≡ 0
-      go false b = refl
-      go true false = refl
       go true true = refl
+      go _ _ = refl
 
   no-segments : (t : ℕ) → count_by is_segment (all_release_notes p dem t) ≡ 0
   no-segments t =

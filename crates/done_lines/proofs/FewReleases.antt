@@ -29,9 +29,8 @@ released-at p dem t =
         → count_by is_released (if a then Release t i (latest p i t)
         ∷ (if b then Done (record { tick = t; offset = 0 }) i (latest p i t) 0 ∷ [] else []) else [])
         ≡ (if a then 1 else 0)
-    one i false b = refl
-    one i true false = refl
     one i true true = refl
+    one i _ _ = refl
 
 -- a quotient rounded up is at least one more than a whole number that it exceeds
 ceil-over : (q n d : ℕ) → 0 < d → q * d < n → suc q ≤ ceil_div n d

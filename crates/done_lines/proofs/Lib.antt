@@ -11,3 +11,4 @@ pub mod SpanNotes
 pub mod OneEnd
 pub mod FewReleases
 pub mod FewLines
+pub mod Traces

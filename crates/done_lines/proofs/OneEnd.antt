@@ -3,7 +3,7 @@ use Rattle.std.proofs.Common.{◌≡◌, ℕ, Bool, true, false, List, [], ◌�
 use Rattle.std.specs.Prelude.{sum_by}
 use Rattle.std.specs.List.{AllByRecursion}
 use Rattle.dvs_base.specs.declared.note.Note.{Note}
-use Rattle.dvs_base.specs.declared.note.Note.TheVariants.{Release, Speed, Run, Idle, Done, End}
+use Rattle.dvs_base.specs.declared.note.Note.TheVariants.{End}
 use Rattle.grid_fraction.specs.declared.Frac.{Frac}
 use Rattle.sched_model.specs.Plan.{Plan}
 use Rattle.sched_model.specs.Ticks.{Tick}
@@ -41,9 +41,5 @@ schedule-ended p lim dem ask ticks =
     (each-weaker (IsBeforeEnd p dem) (λ n. is_end n ≡ false) others notes (before-end-each p lim dem ask ticks)) refl
   where
     others : (n : Note) → IsBeforeEnd p dem n → is_end n ≡ false
-    others (Release tick i k) h = refl
-    others (Speed tick f num den) h = refl
-    others (Run from to i k units energy) h = refl
-    others (Idle from to units energy) h = refl
-    others (Done q i k used) h = refl
     others (End ticks run idle) h = absurd h
+    others _ h = refl

@@ -14,7 +14,7 @@ use Rattle.sched_model.specs.Jobs.{latest, releases_at, is_release}
 use Rattle.sched_model.specs.Ticks.{Tick, exec, share, left}
 use Rattle.sched_model.specs.Priority.{key_of, in_order}
 use Rattle.sched_model.specs.Decision.{is_decision}
-use Rattle.sched_model.specs.Notes.{same_holder, Span, spans_of, lengthened, units_of}
+use Rattle.sched_model.specs.Notes.{same_holder, Span, spans_of, lengthened, tick_units}
 use Rattle.sched_model.specs.Schedule.{IsNext, IsScheduleBy}
 use Rattle.sched_model.proofs.LevelSums.{share-most}
 use Rattle.sched_model.proofs.Joining.{due_released, same_job}
@@ -74,7 +74,7 @@ module _ (p : Plan) (dem : ℕ → ℕ → ℕ) (ask : List Tick → Frac) (peri
       let needs : dem j (latest p j (length past)) ≡ 0 = ap (dem j) e ∙ needless j in
       omega (arith, own, needs)
 
-  units-now : (past : List Tick) (x : Tick) → IsNext p dem ask past x → AllByRecursion (IsNow p (length past)) (units_of p past x)
+  units-now : (past : List Tick) (x : Tick) → IsNext p dem ask past x → AllByRecursion (IsNow p (length past)) (tick_units p past x)
   units-now past x next =
       let key : ℕ → ℕ = key_of p.scheduler p (length past) in
       each-append (IsNow p (length past)) (flat_map (λ i. replicate (share x i) (Held i (latest p i (length past)))) (in_order key (count p))) _
@@ -98,12 +98,12 @@ module _ (p : Plan) (dem : ℕ → ℕ → ℕ) (ask : List Tick → Frac) (peri
   later-now y past e (Held i k ∷ us) each = ((each.0.0, each.0.1 ∙ sym (stays p dem periods y past e i each.0.0), each.0.2), later-now y past e us each.1)
 
   longer : (x y : Tick) (past : List Tick) (spans : List Span) → is_decision p dem (y ∷ past) ≡ false → IsNext p dem ask (y ∷ past) x
-      → Begins past spans → Begins (y ∷ past) (lengthened (units_of p (y ∷ past) x) spans)
+      → Begins past spans → Begins (y ∷ past) (lengthened (tick_units p (y ∷ past) x) spans)
   longer x y past [] e next h = absurd h
   longer x y past (s ∷ spans) e next h = record {
     decided = h.decided;
     earlier = λ i k. omega (arith, h.earlier i k);
-    now = each-append (IsNow p (length (y ∷ past))) s.units (units_of p (y ∷ past) x) (later-now y past e s.units h.now) (units-now (y ∷ past) x next);
+    now = each-append (IsNow p (length (y ∷ past))) s.units (tick_units p (y ∷ past) x) (later-now y past e s.units h.now) (units-now (y ∷ past) x next);
   }
 
   pub begins : (x : Tick) (past : List Tick) → IsScheduleBy p dem ask (x ∷ past) → Begins past (spans_of p dem (x ∷ past))

@@ -18,7 +18,7 @@ use Rattle.sched_model.specs.Priority.{key_of, in_order}
 use Rattle.sched_model.specs.Decision.{completes_in, is_decision}
 use Rattle.sched_model.specs.Schedule.{IsNext, IsScheduleBy}
 use Rattle.sched_model.specs.Admission.{IsWithinLimits}
-use Rattle.sched_model.specs.Notes.{Span, spans_of, lengthened, units_of}
+use Rattle.sched_model.specs.Notes.{Span, spans_of, lengthened, tick_units}
 use Rattle.sched_model.proofs.Limits.{every_period}
 use Rattle.sched_model.proofs.JobLaws.{exec-legal, left-stays}
 use Rattle.sched_model.proofs.LevelSums.{share-most}
@@ -56,7 +56,7 @@ module _ (p : Plan) (dem : ℕ → ℕ → ℕ) (ask : List Tick → Frac) (lim 
   abbrev laid_at : List Tick → Tick → List Holder
   laid_at past x = laid_out (share x) (job_at past) (speed x) (order_at past)
 
-  units-laid : (past : List Tick) (x : Tick) → units_of p past x ≡ laid_at past x
+  units-laid : (past : List Tick) (x : Tick) → tick_units p past x ≡ laid_at past x
   units-laid past x =
       let given : List Holder = flat_map (λ i. replicate (share x i) (Held i (job_at past i))) (order_at past) in
       ap (λ n. given ++ replicate (speed x - n) Nobody) (sym (sum_list-in_order (share x) (key_at past) (count p)))
@@ -98,7 +98,7 @@ module _ (p : Plan) (dem : ℕ → ℕ → ℕ) (ask : List Tick → Frac) (lim 
 
   -- the segments of a tick are at most one more than the jobs that complete in it
   tick-few : (past : List Tick) (x : Tick) → IsNext p dem ask past x
-      → segments (units_of p past x) ≤ suc (sum_below (count p) (completed x past))
+      → segments (tick_units p past x) ≤ suc (sum_below (count p) (completed x past))
   tick-few past x next =
       omega (
         arith,
@@ -112,7 +112,7 @@ module _ (p : Plan) (dem : ℕ → ℕ → ℕ) (ask : List Tick → Frac) (lim 
   abbrev pub first_at : List Tick → Holder
   first_at past = first_holder (left p dem past) (job_at past) (order_at past)
 
-  tick-leads : (past : List Tick) (x : Tick) → IsNext p dem ask past x → Leads (first_at past) (units_of p past x)
+  tick-leads : (past : List Tick) (x : Tick) → IsNext p dem ask past x → Leads (first_at past) (tick_units p past x)
   tick-leads past x next =
       subst (Leads (first_at past)) (sym (units-laid past x))
       (first-leads (left p dem past) (share x) (job_at past) (speed x) (order_at past) (turns past x next))
@@ -128,7 +128,7 @@ module _ (p : Plan) (dem : ℕ → ℕ → ℕ) (ask : List Tick → Frac) (lim 
 
   -- where no decision follows a tick, one holder has all its units
   tick-alone : (past : List Tick) (x : Tick) → IsNext p dem ask past x → is_decision p dem (x ∷ past) ≡ false
-      → units_of p past x ≡ replicate (speed x) (first_at past)
+      → tick_units p past x ≡ replicate (speed x) (first_at past)
   tick-alone past x next e =
       let none : sum_list (served (left p dem past) (share x)) (order_at past) ≡ 0 =
       sum_list-in_order (served (left p dem past) (share x)) (key_at past) (count p)
@@ -181,7 +181,7 @@ module _ (p : Plan) (dem : ℕ → ℕ → ℕ) (ask : List Tick → Frac) (lim 
     pub alone : is_decision p dem (x ∷ past) ≡ false → (n : ℕ) × (s.units ≡ replicate n (first_at (x ∷ past)))
 
   opened-few : (past : List Tick) (x : Tick) → IsNext p dem ask past x
-      → HasFew x past (record { past = past; entry = x.entry; units = units_of p past x })
+      → HasFew x past (record { past = past; entry = x.entry; units = tick_units p past x })
   opened-few past x next = record {
     few = tick-few past x next;
     alone = λ e. (speed x, tick-alone past x next e ∙ ap (replicate (speed x)) (sym (first-stays past x next e)));
@@ -193,12 +193,12 @@ module _ (p : Plan) (dem : ℕ → ℕ → ℕ) (ask : List Tick → Frac) (lim 
   LastHasFew x past (s ∷ spans) = HasFew x past s
 
   longer-few : (x y : Tick) (past : List Tick) (spans : List Span) → IsNext p dem ask (y ∷ past) x
-      → is_decision p dem (y ∷ past) ≡ false → LastHasFew y past spans → LastHasFew x (y ∷ past) (lengthened (units_of p (y ∷ past) x) spans)
+      → is_decision p dem (y ∷ past) ≡ false → LastHasFew y past spans → LastHasFew x (y ∷ past) (lengthened (tick_units p (y ∷ past) x) spans)
   longer-few x y past [] next e h = absurd h
   longer-few x y past (s ∷ spans) next e h =
       let (n, run) = h.alone e in
       let h : Holder = first_at (y ∷ past) in
-      let us : List Holder = units_of p (y ∷ past) x in
+      let us : List Holder = tick_units p (y ∷ past) x in
       let ends : ℕ = sum_below (count p) (completed x (y ∷ past)) in
       record {
         few =

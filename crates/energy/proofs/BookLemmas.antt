@@ -1,5 +1,5 @@
 -- One more note in the account is one more term of each sum.
-use Rattle.std.proofs.Common.{◌≡◌, ◌≢◌, ℕ, zero, suc, ◌+◌, ◌<◌, Bool, true, false, nat_eq, List, [], ◌∷◌, ◌++◌, length, refl, arith, add-one, ap, ap₂, ◌∙◌, sym, subst, if◌then◌else◌, get_or, replicate, length-set}
+use Rattle.std.proofs.Common.{◌≡◌, ◌≢◌, ℕ, zero, suc, ◌+◌, ◌<◌, Bool, nat_eq, List, [], ◌∷◌, ◌++◌, length, refl, arith, add-one, ap, ap₂, ◌∙◌, sym, subst, if◌then◌else◌, get_or, replicate, length-set}
 use Rattle.std.specs.Prelude.{map, sum_by, count_by}
 use Rattle.std.proofs.lemmas.List.{map-append}
 use Rattle.std.proofs.lemmas.List.Sums.{sum_by_push}
@@ -13,7 +13,8 @@ use Rattle.sched_model.specs.Notes.{energy_run, energy_idle}
 use Rattle.sched_model.specs.Totals.{is_released, is_finished, is_decided}
 use Rattle.sched_model.proofs.ScheduleLemmas.{length-list_below}
 use Rattle.sched_model.proofs.Tables.{get-table, set-table, table-same}
-use Rattle.energy.specs.Books.{Books, Told, energy_of_task, energy_at_point, books_of, raised, booked, HasTask}
+use Rattle.energy.specs.Books.{Books, Told, energy_at_point, books_of, raised, booked, HasTask}
+use Rattle.dvs_base.specs.NoteTasks.{energy_of_task}
 
 -- the account with these sums and tables
 abbrev pub books_by : ℕ → ℕ → ℕ → ℕ → ℕ → List ℕ → List ℕ → Books
@@ -84,16 +85,8 @@ same-table n f g h = table-same n f (λ k. f k + g k) (λ k lt. omega (arith, h 
 
 -- a table to which something is added at one place is raised there
 added-table : (n i more : ℕ) (f : ℕ → ℕ) → i < n → raised (list_below n f) i more ≡ list_below n (λ k. f k + (if nat_eq i k then more else 0))
-added-table n i more f lt = raised-table n i more f (λ k. f k + (if nat_eq i k then more else 0)) lt (here (nat_eq i i) refl)
-    (λ k l ne. there k ne (nat_eq i k) refl)
-  where
-    here : (b : Bool) → nat_eq i i ≡ b → f i + (if nat_eq i i then more else 0) ≡ f i + more
-    here true e = rw e refl
-    here false e = absurd (grind (arith, nat_tests))
-
-    there : (k : ℕ) → k ≢ i → (b : Bool) → nat_eq i k ≡ b → f k + (if nat_eq i k then more else 0) ≡ f k
-    there k ne true e = absurd (ne (grind (arith, nat_tests)))
-    there k ne false e = rw e (omega arith)
+added-table n i more f lt =
+    raised-table n i more f (λ k. f k + (if nat_eq i k then more else 0)) lt (grind (arith, nat_tests)) (λ k l ne. grind (arith, nat_tests))
 
 -- the energy of a note is added to the sum of its entry
 point-table : (points e : ℕ) (note : Note) (told : List Told) → e < points
@@ -102,11 +95,7 @@ point-table : (points e : ℕ) (note : Note) (told : List Told) → e < points
 point-table points e note told lt = added-table points e (energy_run note + energy_idle note) (λ k. sum_by (energy_at_point k) told) lt
 
 none-at-point : (k e : ℕ) (note : Note) → energy_run note + energy_idle note ≡ 0 → energy_at_point k (note, e) ≡ 0
-none-at-point k e note none = go (nat_eq e k)
-  where
-    go : (b : Bool) → (if b then energy_run note + energy_idle note else 0) ≡ 0
-    go true = none
-    go false = refl
+none-at-point k e note none = grind (arith, nat_tests, none)
 
 -- the account of some notes, with one more, is the account of all of them
 pub booked-sums : (tasks points : ℕ) (told : List Told) (note : Note) (e : ℕ) → HasTask (books_of tasks points told) note → e < points

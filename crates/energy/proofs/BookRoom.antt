@@ -1,6 +1,7 @@
 -- Where the energies and the number of notes are low, the account has room for each note.
 use Rattle.std.proofs.Common.{◌≡◌, ℕ, ◌+◌, ◌<◌, ◌≤◌, ◌^◌, Bool, true, false, if◌then◌else◌, List, [], ◌∷◌, length, map, refl, arith, nat_eq}
 use Rattle.std.specs.Prelude.{sum_by, count_by, slice_index}
+use Rattle.std.proofs.lemmas.Bool.Decides.{nat_tests}
 use Rattle.std.proofs.lemmas.List.Sums.{sum_by-cons}
 use Rattle.dvs_base.specs.declared.note.Note.{Note}
 use Rattle.dvs_base.specs.declared.note.Note.TheVariants.{Release, Speed, Run, Idle, Done, End}
@@ -10,7 +11,8 @@ use Rattle.sched_model.specs.Notes.{energy_run, energy_idle}
 use Rattle.sched_model.specs.Totals.{is_released, is_finished, is_decided}
 use Rattle.sched_model.proofs.ScheduleLemmas.{length-list_below}
 use Rattle.sched_model.proofs.Tables.{get-table, table-same}
-use Rattle.energy.specs.Books.{Told, books_of, energy_of_task, energy_at_point, HasTask, HasRoom}
+use Rattle.energy.specs.Books.{Told, books_of, energy_at_point, HasTask, HasRoom}
+use Rattle.dvs_base.specs.NoteTasks.{energy_of_task}
 
 -- the notes that were told, without their entries
 abbrev pub noted : List Told → List Note
@@ -31,11 +33,7 @@ task-most i (t ∷ told) =
     one : (n : Note) → energy_of_task i n ≤ energy_run n
     one (Release tick j k) = omega arith
     one (Speed tick speed num den) = omega arith
-    one (Run from to j k units energy) = go (nat_eq j i)
-      where
-        go : (b : Bool) → (if b then energy else 0) ≤ energy
-        go true = omega arith
-        go false = omega arith
+    one (Run from to j k units energy) = grind (arith, nat_tests)
     one (Idle from to units energy) = omega arith
     one (Done q j k used) = omega arith
     one (End ticks run idle) = omega arith

@@ -4,6 +4,7 @@ use Rattle.dvs_base.specs.Widths.{u64_end}
 use Rattle.dvs_base.specs.declared.note.Note.{Note}
 use Rattle.dvs_base.specs.declared.note.Note.TheVariants.{Release, Speed, Run, Idle, Done, End}
 use Rattle.dvs_base.specs.declared.note.Totals.{Totals}
+use Rattle.dvs_base.specs.NoteTasks.{energy_of_task}
 use Rattle.grid_fraction.specs.Numbers.{list_below}
 use Rattle.sched_model.specs.Notes.{energy_run, energy_idle}
 use Rattle.sched_model.specs.Totals.{totals_of}
@@ -17,11 +18,6 @@ pub record Books : Type 0 where
 -- a note, with the entry in force
 abbrev pub Told : Type 0
 Told = Note × ℕ
-
--- the energy that a note adds to task i: that of its run
-abbrev pub energy_of_task : ℕ → Note → ℕ
-energy_of_task i (Run from to j k units energy) = if nat_eq j i then energy else 0
-energy_of_task i _ = 0
 
 -- the energy that a note, told with the entry in force, adds to entry e
 abbrev pub energy_at_point : ℕ → Told → ℕ

@@ -21,7 +21,7 @@ use Rattle.energy.specs.Books.{Books}
 use Rattle.event_kernel.specs.declared.span_trace.SpanTrace.{SpanTrace}
 use Rattle.event_kernel.specs.SpanNotes.{all_booked, CanBook, HasBooked, notes_before_end_of}
 use Rattle.event_kernel.specs.Runs.{Run, demands_of, notes_of_run}
-use Rattle.event_kernel.specs.Segment.{ended}
+use Rattle.event_kernel.specs.Segment.{ended_trace}
 use Rattle.event_kernel.specs.Heard.{HasHeard, HasBalked}
 use Rattle.event_kernel.proofs.Hearing.{heard-append, balked-append, balked_after}
 use Rattle.event_kernel.specs.Tickwork.{notes_before}
@@ -50,7 +50,7 @@ module _ {demand : Plan → StateOf → Frac} {set : Setting} (ok : IsSetting se
     decision = subst (λ n. n < set.ticks → is_decision p dem (course demand p dem n) ≡ true) next h.decision;
   }
 
-  pub close-notes : notes_before demand p dem s.now ≡ notes_before demand p dem force.from ++ (ended p s force.from force.index trace).notes
+  pub close-notes : notes_before demand p dem s.now ≡ notes_before demand p dem force.from ++ (ended_trace p s force.from force.index trace).notes
   close-notes =
       ap (notes_before demand p dem) (sym next)
       ∙ closing-notes ok h (course-fits demand p dem ok.admitted ok.within.none (s.now - 1)).span

@@ -18,8 +18,8 @@ use Rattle.sched_model.proofs.PieceLemmas.{piece, same_holder-eq, pieces_of-run}
 use Rattle.event_kernel.specs.declared.segment.Segment.{Segment}
 use Rattle.event_kernel.specs.declared.span_trace.SpanTrace.{SpanTrace}
 use Rattle.event_kernel.specs.Segment.{grown, notes_with, IsOpen, holder_notes, written_notes, after_segment, is_turn, with_units, entered}
-use Rattle.event_kernel.specs.SpanNotes.{kept}
-use Rattle.event_kernel.proofs.Keeping.{kept-then}
+use Rattle.event_kernel.specs.SpanNotes.{kept_notes}
+use Rattle.event_kernel.proofs.Keeping.{kept_notes-then}
 use Rattle.grid_fraction.proofs.Counts.{count-append}
 use Rattle.event_kernel.specs.Writing.{HeldNow, Writing}
 use Rattle.done_lines.proofs.SpanNotes.{total, total-pieces}
@@ -124,7 +124,7 @@ module _ (p : Plan) (dem : ℕ → ℕ → ℕ) (ask : List Tick → Frac) (t : 
         taken = now;
         had = had;
         few = omega (arith, w.few, long);
-        notes = w.notes ∙ ap kept (sym (stable w.done le));
+        notes = w.notes ∙ ap kept_notes (sym (stable w.done le));
       })
 
       -- another holder has the units: the open segment ends
@@ -152,8 +152,8 @@ module _ (p : Plan) (dem : ℕ → ℕ → ℕ) (ask : List Tick → Frac) (t : 
             taken = now;
             had = had;
             few = omega (arith, w.few, long);
-            notes = kept-then trace.notes (notes_with p dem ask s w.done) (written_notes p st (length s.past) s.entry trace) w.notes
-                ∙ ap kept (sym (stable (w.done ++ r ∷ []) (omega (arith, start, w.place, total-append w.done (r ∷ [])))
+            notes = kept_notes-then trace.notes (notes_with p dem ask s w.done) (written_notes p st (length s.past) s.entry trace) w.notes
+                ∙ ap kept_notes (sym (stable (w.done ++ r ∷ []) (omega (arith, start, w.place, total-append w.done (r ∷ [])))
                 ∙ (notes-more s w.done r ∙ ap (λ ns. notes_with p dem ask s w.done ++ ns)
                 (ap (λ q. segment_notes p dem s q trace.segment.units trace.segment.holder) start
                 ∙ tells s used st trace.segment.start trace.segment.units trace.segment.holder w.taken w.place w.had shows))));

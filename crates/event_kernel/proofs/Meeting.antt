@@ -1,4 +1,4 @@
--- The laws of a governor give that each deadline of a run is met, and each demand unless the kind is `Ahead`.
+-- The laws of a governor give that each deadline of a run is met, and each demand of a kind whose demand is always met.
 use Rattle.std.proofs.Common.{◌≡◌, ℕ, refl, subst}
 use Rattle.dvs_base.specs.declared.kind.Scheduler.{Scheduler}
 use Rattle.dvs_base.specs.declared.kind.GovernorKind.{GovernorKind}
@@ -14,7 +14,7 @@ use Rattle.done_lines.proofs.CountLemmas.{has-few}
 use Rattle.governor.specs.Schedule.{ask_of}
 use Rattle.governor.specs.Laws.{GovernorLaws}
 use Rattle.governor.proofs.Course.{course-met, demand-met}
-use Rattle.event_kernel.specs.Runs.{Run, demands_of, ticks_of, notes_of_run, IsListOf}
+use Rattle.event_kernel.specs.Runs.{Run, demands_of, run_ticks, notes_of_run, IsListOf}
 use Rattle.event_kernel.specs.Meeting.{IsMetRun}
 use Rattle.event_kernel.proofs.Demanding.{demand-within}
 
@@ -36,5 +36,5 @@ met-as {kind} {demand} is met = subst (λ (r : Run). IsMetRun kind demand r) is 
 pub run-few : (demand : Plan → StateOf → Frac) (r : Run) → IsAdmitted r.plan → AreFew (totals_of (notes_of_run demand r))
 run-few demand r adm =
     let dem = demands_of r.plan r.demands in
-    has-few r.plan adm.limits dem (λ i. refl) (ask_of demand r.plan dem) (ticks_of demand r)
+    has-few r.plan adm.limits dem (λ i. refl) (ask_of demand r.plan dem) (run_ticks demand r)
     (schedule_exists r.plan dem (ask_of demand r.plan dem) r.ticks).0

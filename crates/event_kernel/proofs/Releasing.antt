@@ -22,7 +22,7 @@ use Rattle.sched_model.proofs.ScheduleLemmas.{length-list_below}
 use Rattle.sched_model.proofs.Tables.{get-table, table-same, set-table}
 use Rattle.sched_model.proofs.JobLaws.{latest-small, lt-due}
 use Rattle.sched_model.proofs.Joining.{next_job, prior-due, due_released, row-opened, row-kept, state-marked, state-unmarked}
-use Rattle.agenda.specs.Agenda.{NonePast, IsFirstDue, opened_row, opened}
+use Rattle.agenda.specs.Agenda.{NonePast, IsFirstDue, next_job_row, opened}
 use Rattle.event_kernel.specs.declared.span_trace.SpanTrace.{SpanTrace}
 use Rattle.event_kernel.specs.Segment.{with_notes}
 use Rattle.event_kernel.proofs.Keeping.{with-append}
@@ -197,7 +197,7 @@ module _ {p : Plan} {dem : ℕ → ℕ → ℕ} {past : List Tick} (periods : (i
       }
         where
           after : Row → Row
-          after q = opened_row (period p m) (nat_eq (dem m (q.job + 1)) 0) q
+          after q = next_job_row (period p m) (nat_eq (dem m (q.job + 1)) 0) q
 
           here : mixed p dem past (m + 1) m ≡ after (row_at (with_rows p dem past (list_below (count p) (mixed p dem past m))) m)
           here =

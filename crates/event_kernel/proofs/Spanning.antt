@@ -26,10 +26,10 @@ use Rattle.done_lines.proofs.SpanHeads.{stays}
 use Rattle.grid_fraction.proofs.Searches.{any_below-same}
 use Rattle.event_kernel.specs.declared.span_trace.SpanTrace.{SpanTrace}
 use Rattle.governor.specs.Schedule.{ask_of, course}
-use Rattle.event_kernel.specs.Segment.{first_span, notes_with, IsOpen, holder_notes, written_notes, after_segment, ended, new_trace, CanPut, HeldIn}
+use Rattle.event_kernel.specs.Segment.{first_span, notes_with, IsOpen, holder_notes, written_notes, after_segment, ended_trace, new_trace, CanPut, HeldIn}
 use Rattle.event_kernel.specs.declared.notes.TheConstants.{MOST_NOTES}
-use Rattle.event_kernel.specs.SpanNotes.{kept}
-use Rattle.event_kernel.proofs.Keeping.{kept-then, kept-all}
+use Rattle.event_kernel.specs.SpanNotes.{kept_notes}
+use Rattle.event_kernel.proofs.Keeping.{kept_notes-then, kept_notes-all}
 use Rattle.event_kernel.specs.Writing.{HeldNow, Writing}
 use Rattle.event_kernel.specs.Tickwork.{had_at, span_at, tick_at, whole_span, notes_before}
 use Rattle.event_kernel.specs.Boundary.{some_due, speed_note}
@@ -196,7 +196,7 @@ module _ {set : Setting} (ok : IsSetting set) where
 
     pub begins-span : (force : InForce) (s0 s : StateOf) (trace : SpanTrace) → s0.now < set.ticks → IsBetween set demand s0 → force.from ≡ s0.now
         → s ≡ state_of p dem (course demand p dem s0.now) → force.index ≡ lowest_entry p.machine (demand p s)
-        → trace ≡ new_trace (kept (all_release_notes p dem s0.now ++ speed_note p s.now (demand p s) ∷ []))
+        → trace ≡ new_trace (kept_notes (all_release_notes p dem s0.now ++ speed_note p s.now (demand p s) ∷ []))
         → IsInSpan set demand force s.now s trace
     begins-span force s0 s trace lt b from is ee pe = subst (λ n. IsInSpan set demand force n s trace) (sym same) (record {
       before_end = lt;
@@ -213,8 +213,8 @@ module _ {set : Setting} (ok : IsSetting set) where
             taken = tt;
             had = λ i l. plus_none i;
             few = omega arith;
-            notes = ap (λ n. kept (all_release_notes p dem t ++ n ∷ [])) (note-is demand p dem t s is)
-                ∙ ap kept (sym (open-new demand p dem t (b.decision lt)) ∙ ap (λ (x : Span). notes_with p dem (ask_of demand p dem) x []) new);
+            notes = ap (λ n. kept_notes (all_release_notes p dem t ++ n ∷ [])) (note-is demand p dem t s is)
+                ∙ ap kept_notes (sym (open-new demand p dem t (b.decision lt)) ∙ ap (λ (x : Span). notes_with p dem (ask_of demand p dem) x []) new);
           }));
     })
       where
@@ -384,30 +384,31 @@ module _ {set : Setting} (ok : IsSetting set) where
           (sym from_is) (sym h.entry)
 
       -- the trace has the notes of the span
-      ended-whole : (ended p s force.from force.index trace).notes ≡ kept (span_notes p dem (ask_of demand p dem) whole)
-      ended-whole = go w.segments
+      ended_trace-whole : (ended_trace p s force.from force.index trace).notes ≡ kept_notes (span_notes p dem (ask_of demand p dem) whole)
+      ended_trace-whole = go w.segments
         where
-          go : IsOpen trace.segment w.done whole.units → (ended p s force.from force.index trace).notes ≡ kept (span_notes p dem (ask_of demand p dem) whole)
+          go : IsOpen trace.segment w.done whole.units → (ended_trace p s force.from force.index trace).notes
+              ≡ kept_notes (span_notes p dem (ask_of demand p dem) whole)
           go (inl q) =
               ap (λ b. (if b then after_segment p s force.from force.index trace else trace).notes) (ap (nat_lt 0) q.2)
-              ∙ (w.notes ∙ ap (λ rs. kept (notes_with p dem (ask_of demand p dem) whole rs)) (q.1 ∙ sym (ap pieces_of q.0)))
+              ∙ (w.notes ∙ ap (λ rs. kept_notes (notes_with p dem (ask_of demand p dem) whole rs)) (q.1 ∙ sym (ap pieces_of q.0)))
           go (inr q) =
               let pos = q.0 in
               let some : nat_lt 0 trace.segment.units ≡ true = grind (arith, nat_tests) in
               ap (λ b. (if b then after_segment p s force.from force.index trace else trace).notes) some
-              ∙ (kept-then trace.notes (notes_with p dem (ask_of demand p dem) whole w.done) (written_notes p s force.from force.index trace) w.notes
-              ∙ ap kept (sym (ap (notes_with p dem (ask_of demand p dem) whole) q.1
+              ∙ (kept_notes-then trace.notes (notes_with p dem (ask_of demand p dem) whole w.done) (written_notes p s force.from force.index trace) w.notes
+              ∙ ap kept_notes (sym (ap (notes_with p dem (ask_of demand p dem) whole) q.1
               ∙ (notes-more p dem (ask_of demand p dem) last whole w.done (record { holder = trace.segment.holder; units = trace.segment.units })
               ∙ ap (λ ns. notes_with p dem (ask_of demand p dem) whole w.done ++ ns)
               (ap (λ k. segment_notes p dem whole k trace.segment.units trace.segment.holder)
               (open-start p dem (ask_of demand p dem) last trace.segment w.done whole.units q.0 q.1 w.place) ∙ told-last)))))
 
       pub closing-notes : length (span_notes p dem (ask_of demand p dem) whole) ≤ MOST_NOTES
-          → notes_before demand p dem (last + 1) ≡ notes_before demand p dem force.from ++ (ended p s force.from force.index trace).notes
+          → notes_before demand p dem (last + 1) ≡ notes_before demand p dem force.from ++ (ended_trace p s force.from force.index trace).notes
       closing-notes few =
           notes-whole demand p dem last
           ∙ ap₂ (λ (ps : List Tick) ns. notes_to demand p dem ps ++ ns) h.began
-          (sym (ended-whole ∙ kept-all (span_notes p dem (ask_of demand p dem) whole) few))
+          (sym (ended_trace-whole ∙ kept_notes-all (span_notes p dem (ask_of demand p dem) whole) few))
 
       pub closing-can : force.index < length p.machine.points → CanPut p s force.from force.index trace
       closing-can there = record {

@@ -4,7 +4,8 @@ use Rattle.dvs_base.specs.Outside.{SinkView}
 use Rattle.dvs_base.specs.declared.note.Note.{Note}
 use Rattle.probes.specs.Tallies.{ProbeOf}
 use Rattle.event_kernel.specs.Heard.{HasHeard, HasBalked}
-use Rattle.event_kernel.specs.Lines.{LineOf, WroteLines, StoppedIn, noted}
+use Rattle.trace_reader.specs.TraceText.{LineOf, noted}
+use Rattle.event_kernel.specs.Lines.{WroteLines, StoppedIn}
 use Rattle.event_kernel.specs.declared.teller.Teller.{Teller}
 use Rattle.event_kernel.proofs.Writing.{no-lines, lines-then, lines-then-some, lines-some-more}
 

@@ -17,7 +17,7 @@ use Rattle.sched_model.specs.Ticks.{Tick, exec, left, share}
 use Rattle.sched_model.specs.Priority.{in_order, key_of, allotment}
 use Rattle.sched_model.specs.Decision.{completes_in}
 use Rattle.sched_model.specs.Schedule.{entry_in_force}
-use Rattle.sched_model.specs.Notes.{Span, units_of, same_holder}
+use Rattle.sched_model.specs.Notes.{Span, tick_units, same_holder}
 use Rattle.sched_model.specs.States.{no_row, row_at, prior_row, prior_state, after_advance, CanRun, StateOf, state_of}
 use Rattle.sched_model.specs.Greedy.{IsFirstOpen}
 use Rattle.sched_model.proofs.ScheduleLemmas.{length-list_below, force-within}
@@ -249,7 +249,7 @@ module _ {demand : Plan → StateOf → Frac} {set : Setting} (ok : IsSetting se
       had-next : (i : ℕ) → i < count p → had p dem so_far i + w.given i ≡ exec p (x ∷ so_far) i (job p dem so_far i)
       had-next i lt = ap (λ v. had p dem so_far i + v) (same i lt) ∙ sym (exec-legal p dem x so_far i (adm.some_period i) (ok.within.none i) (own i lt))
 
-      units : units_by p dem so_far w.given ++ replicate rest Nobody ≡ units_of p so_far x
+      units : units_by p dem so_far w.given ++ replicate rest Nobody ≡ tick_units p so_far x
       units =
           ap₂ (λ us m. us ++ replicate m Nobody)
           (laid_out-same (job p dem so_far) w.given (share x) (count p) (in_order (key p dem so_far) (count p))

@@ -1,25 +1,36 @@
 -- Lines written one after another.
-use Rattle.std.proofs.Common.{◌≡◌, ℕ, ◌+◌, ◌<◌, List, [], ◌∷◌, ◌++◌, length, length-append, Result, Ok, Err, refl, ap, sym, ◌∙◌, subst, arith, append-nil, append_assoc, ◌⊎◌, inl, inr, zero, suc, add-one, eq-or-lt_of_le, le_of_suc-le-suc, true≢false}
+use Rattle.std.proofs.Common.{◌≡◌, ℕ, ◌+◌, ◌<◌, List, [], ◌∷◌, ◌++◌, map, length, length-append, Result, Ok, Err, refl, ap, sym, ◌∙◌, subst, arith, append-nil, append_assoc, ◌⊎◌, inl, inr, zero, suc, eq-or-lt_of_le, le_of_suc-le-suc, true≢false, Bool, true}
+use Rattle.std.proofs.lemmas.List.{map-append}
 use Rattle.grid_fraction.specs.Numbers.{list_below}
+use Rattle.grid_fraction.proofs.Sums.{list_below-more}
 use Rattle.trace_text.specs.TraceLines.{line, fields_of, note_text}
-use Rattle.std.specs.Prelude.{IsErr}
+use Rattle.std.specs.Prelude.{IsErr, if◌then◌else◌}
 use Rattle.std.proofs.lemmas.List.Concat.{flat_map-append}
+use Rattle.dvs_base.specs.declared.kind.Version.{Version}
 use Rattle.dvs_base.specs.declared.note.Note.{Note}
 use Rattle.dvs_base.specs.Outside.{SinkView}
-use Rattle.dvs_base.proofs.TextPuts.{wrote-none, wrote-then}
+use Rattle.dvs_base.proofs.TextPuts.{wrote-none, wrote-then, wrote-then-some, wrote-some-more}
 use Rattle.probes.specs.Tallies.{ProbeOf, told_all, told_notes}
-use Rattle.event_kernel.specs.Lines.{LineOf, plain, text_of, notes_told, WroteLines, StoppedIn, WritesLines}
+use Rattle.trace_reader.specs.TraceText.{LineOf, plain, has_task_lines, for_tasks, text_of_lines, notes_of_lines}
+use Rattle.event_kernel.specs.Lines.{WroteLines, StoppedIn, WritesLines}
 use Rattle.dvs_base.specs.WritesText.{Wrote, WroteSome}
 
 told-append : (xs ys : List Note) (ps : List ProbeOf) → told_notes (xs ++ ys) ps ≡ told_notes ys (told_notes xs ps)
 told-append [] ys ps = refl
 told-append (x ∷ xs) ys ps = told-append xs ys (told_all x ps)
 
-pub text-append : (xs ys : List LineOf) → text_of (xs ++ ys) ≡ text_of xs ++ text_of ys
+pub text-append : (xs ys : List LineOf) → text_of_lines (xs ++ ys) ≡ text_of_lines xs ++ text_of_lines ys
 text-append xs ys = flat_map-append (λ (l : LineOf). l.text) xs ys
 
-pub notes-append : (xs ys : List LineOf) → notes_told (xs ++ ys) ≡ notes_told xs ++ notes_told ys
+pub notes-append : (xs ys : List LineOf) → notes_of_lines (xs ++ ys) ≡ notes_of_lines xs ++ notes_of_lines ys
 notes-append xs ys = flat_map-append (λ (l : LineOf). l.notes) xs ys
+
+-- where the writing stopped in a line, a first part of the lines' text was written
+pub stopped-some : (a b : SinkView) (ps qs : List ProbeOf) (lines : List LineOf) → StoppedIn a b ps qs lines → WroteSome a b (text_of_lines lines)
+stopped-some a b ps qs lines s =
+    subst (λ (t : List ℕ). WroteSome a b t) (sym (ap text_of_lines s.whole ∙ text-append s.done (s.line ∷ s.rest)))
+    (wrote-then-some a s.middle b (text_of_lines s.done) (s.line.text ++ text_of_lines s.rest) s.wrote
+    (wrote-some-more s.middle b s.line.text (text_of_lines s.rest) s.part))
 
 -- no lines leave the sink and the probes as they are
 pub no-lines : (a : SinkView) (ps : List ProbeOf) → WroteLines a a ps ps []
@@ -29,8 +40,8 @@ no-lines a ps = record { wrote = wrote-none a; told = refl }
 pub lines-then : (a b c : SinkView) (ps qs rs : List ProbeOf) (xs ys : List LineOf) → WroteLines a b ps qs xs → WroteLines b c qs rs ys
     → WroteLines a c ps rs (xs ++ ys)
 lines-then a b c ps qs rs xs ys w x = record {
-  wrote = subst (λ (t : List ℕ). Wrote a c t) (sym (text-append xs ys)) (wrote-then a b c (text_of xs) (text_of ys) w.wrote x.wrote);
-  told = x.told ∙ (ap (told_notes (notes_told ys)) w.told ∙ (sym (told-append (notes_told xs) (notes_told ys) ps)
+  wrote = subst (λ (t : List ℕ). Wrote a c t) (sym (text-append xs ys)) (wrote-then a b c (text_of_lines xs) (text_of_lines ys) w.wrote x.wrote);
+  told = x.told ∙ (ap (told_notes (notes_of_lines ys)) w.told ∙ (sym (told-append (notes_of_lines xs) (notes_of_lines ys) ps)
       ∙ ap (λ (ns : List Note). told_notes ns ps) (sym (notes-append xs ys))));
 }
 
@@ -106,32 +117,38 @@ plain-line a b ps line text is w = one-line a b ps ps (plain text) (subst (λ (t
 pub plain-part : (a b : SinkView) (ps : List ProbeOf) (line text : List ℕ) → line ≡ text → WroteSome a b line → StoppedIn a b ps ps (plain text ∷ [])
 plain-part a b ps line text is w = one-line-part a b ps (plain text) (subst (λ (t : List ℕ). WroteSome a b t) is w)
 
--- one more line of lines that are a function of their number
-pub below-next : {a b c : SinkView} (ps : List ProbeOf) (f : ℕ → List ℕ) (i : ℕ) {line : List ℕ} → line ≡ f i
-    → WroteLines a b ps ps (list_below i (λ k. plain (f k))) → Wrote b c line → WroteLines a c ps ps (list_below (i + 1) (λ k. plain (f k)))
-below-next {a} {b} {c} ps f i {line} is w x =
-    subst (λ (n : ℕ). WroteLines a c ps ps (list_below n (λ k. plain (f k)))) (sym (add-one i))
-    (lines-then a b c ps ps ps (list_below i (λ k. plain (f k))) (plain (f i) ∷ []) w (plain-line b c ps line (f i) is x))
+-- the lines for the tasks, where a version has them
+pub task-lines : (v : Version) {has : Bool} (texts : List (List ℕ)) → has ≡ has_task_lines v → has ≡ true → map plain texts ≡ for_tasks v texts
+task-lines v texts is holds = ap (λ (b : Bool). if b then map plain texts else []) (sym holds ∙ is)
 
-below-stop : (a b : SinkView) (ps : List ProbeOf) (f : ℕ → LineOf) (i n : ℕ) → i < n → StoppedIn a b ps ps (list_below i f ++ f i ∷ [])
-    → StoppedIn a b ps ps (list_below n f)
+-- one more line of texts that are a function of their number
+pub below-next : {a b c : SinkView} (ps : List ProbeOf) (f : ℕ → List ℕ) (i : ℕ) {line : List ℕ} → line ≡ f i
+    → WroteLines a b ps ps (map plain (list_below i f)) → Wrote b c line → WroteLines a c ps ps (map plain (list_below (i + 1) f))
+below-next {a} {b} {c} ps f i {line} is w x =
+    all-as (sym (ap (map plain) (list_below-more i f) ∙ map-append plain (list_below i f) (f i ∷ [])))
+    (lines-then a b c ps ps ps (map plain (list_below i f)) (plain (f i) ∷ []) w (plain-line b c ps line (f i) is x))
+
+below-stop : (a b : SinkView) (ps : List ProbeOf) (f : ℕ → List ℕ) (i n : ℕ) → i < n
+    → StoppedIn a b ps ps (map plain (list_below i f) ++ plain (f i) ∷ []) → StoppedIn a b ps ps (map plain (list_below n f))
 below-stop a b ps f i zero lt s = absurd (omega (arith, lt))
-below-stop a b ps f i (suc n) lt s = go (eq-or-lt_of_le (le_of_suc-le-suc lt)) (below-stop a b ps f i n)
+below-stop a b ps f i (suc n) lt s =
+    some-as (sym (map-append plain (list_below n f) (f n ∷ []))) (go (eq-or-lt_of_le (le_of_suc-le-suc lt)) (below-stop a b ps f i n))
   where
-    go : (i ≡ n) ⊎ (i < n) → (i < n → StoppedIn a b ps ps (list_below i f ++ f i ∷ []) → StoppedIn a b ps ps (list_below n f))
-        → StoppedIn a b ps ps (list_below n f ++ f n ∷ [])
-    go (inl e) more = subst (λ (k : ℕ). StoppedIn a b ps ps (list_below k f ++ f k ∷ [])) e s
-    go (inr l) more = lines-some-more a b ps ps (list_below n f) (f n ∷ []) (more l s)
+    go : (i ≡ n) ⊎ (i < n)
+        → (i < n → StoppedIn a b ps ps (map plain (list_below i f) ++ plain (f i) ∷ []) → StoppedIn a b ps ps (map plain (list_below n f)))
+        → StoppedIn a b ps ps (map plain (list_below n f) ++ plain (f n) ∷ [])
+    go (inl e) more = subst (λ (k : ℕ). StoppedIn a b ps ps (map plain (list_below k f) ++ plain (f k) ∷ [])) e s
+    go (inr l) more = lines-some-more a b ps ps (map plain (list_below n f)) (plain (f n) ∷ []) (more l s)
 
 pub below-stopped : {a b c : SinkView} (ps : List ProbeOf) (f : ℕ → List ℕ) {i n : ℕ} → i < n → {line : List ℕ} → line ≡ f i
-    → WroteLines a b ps ps (list_below i (λ k. plain (f k))) → WroteSome b c line → StoppedIn a c ps ps (list_below n (λ k. plain (f k)))
+    → WroteLines a b ps ps (map plain (list_below i f)) → WroteSome b c line → StoppedIn a c ps ps (map plain (list_below n f))
 below-stopped {a} {b} {c} ps f {i} {n} lt {line} is w x =
-    below-stop a c ps (λ k. plain (f k)) i n lt
-    (lines-then-some a b c ps ps ps (list_below i (λ k. plain (f k))) (plain (f i) ∷ []) w (plain-part b c ps line (f i) is x))
+    below-stop a c ps f i n lt
+    (lines-then-some a b c ps ps ps (map plain (list_below i f)) (plain (f i) ∷ []) w (plain-part b c ps line (f i) is x))
 
-pub below-all : {a b : SinkView} (ps : List ProbeOf) (f : ℕ → List ℕ) {i n : ℕ} → i ≡ n → WroteLines a b ps ps (list_below i (λ k. plain (f k)))
-    → WroteLines a b ps ps (list_below n (λ k. plain (f k)))
-below-all {a} {b} ps f is w = subst (λ (n : ℕ). WroteLines a b ps ps (list_below n (λ k. plain (f k)))) is w
+pub below-all : {a b : SinkView} (ps : List ProbeOf) (f : ℕ → List ℕ) {i n : ℕ} → i ≡ n → WroteLines a b ps ps (map plain (list_below i f))
+    → WroteLines a b ps ps (map plain (list_below n f))
+below-all {a} {b} ps f is w = all-as (ap (λ (n : ℕ). map plain (list_below n f)) is) w
 
 -- each line of a note has bytes
 pub note-some : (names : List (List ℕ)) (n : Note) → 0 < length (note_text names n)

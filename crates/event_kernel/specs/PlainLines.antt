@@ -1,19 +1,21 @@
 -- The lines that show no note, and how they are written; for proofs alone.
-use Rattle.std.specs.Prelude.{ℕ, List, [], slice_index, Result}
+use Rattle.std.specs.Prelude.{ℕ, List, slice_index, Result}
 use Rattle.grid_fraction.specs.Numbers.{list_below}
 use Rattle.dvs_base.specs.declared.kind.Version.{Version}
-use Rattle.dvs_base.specs.declared.kind.Version.TheVariants.{One, Two}
 use Rattle.dvs_base.specs.Outside.{SinkView}
 use Rattle.dvs_base.specs.Parts.{name_of}
 use Rattle.sched_model.specs.Plan.{Plan, count, names}
-use Rattle.trace_reader.specs.TraceText.{share_text}
+use Rattle.trace_reader.specs.TraceText.{LineOf, share_text, for_tasks}
 use Rattle.probes.specs.Tallies.{ProbeOf}
-use Rattle.event_kernel.specs.Lines.{LineOf, plain, WritesLines}
+use Rattle.event_kernel.specs.Lines.{WritesLines}
 
--- the lines of the tasks' energies, which version 2 alone has, where the energies are given
+-- the texts of the lines of a plan's tasks with these energies
+abbrev pub sum_texts : Plan → List ℕ → List (List ℕ)
+sum_texts p energies = list_below (count p) (λ i. share_text (name_of (names p) i) (slice_index energies i))
+
+-- the lines of the tasks' energies, in a version that has such lines
 abbrev pub sum_lines : Version → Plan → List ℕ → List LineOf
-sum_lines One p energies = []
-sum_lines Two p energies = list_below (count p) (λ i. plain (share_text (name_of (names p) i) (slice_index energies i)))
+sum_lines v p energies = for_tasks v (sum_texts p energies)
 
 -- lines of no note were written, all at Ok and some at an error; no probe was told a note
 abbrev pub WritesPlain : {T E : Type 0} → SinkView → SinkView → List LineOf → Result T E → Type 0

@@ -27,12 +27,12 @@ abbrev pub demands_of : Plan → DemandsOf → ℕ → ℕ → ℕ
 demands_of p d = demand_of p d.rows
 
 -- the ticks of a governor's schedule of a run
-abbrev pub ticks_of : (Plan → StateOf → Frac) → Run → List Tick
-ticks_of demand r = course demand r.plan (demands_of r.plan r.demands) r.ticks
+abbrev pub run_ticks : (Plan → StateOf → Frac) → Run → List Tick
+run_ticks demand r = course demand r.plan (demands_of r.plan r.demands) r.ticks
 
 -- every deadline within a run is met
 abbrev pub MeetsDeadlines : (Plan → StateOf → Frac) → Run → Type 0
-MeetsDeadlines demand r = IsMet r.plan (demands_of r.plan r.demands) (ticks_of demand r)
+MeetsDeadlines demand r = IsMet r.plan (demands_of r.plan r.demands) (run_ticks demand r)
 
 -- at each decision of a run some entry of the table meets the published demand
 abbrev pub MeetsDemands : (Plan → StateOf → Frac) → Run → Type 0
@@ -44,4 +44,4 @@ MeetsDemands demand r =
 -- all notes of a run
 abbrev pub notes_of_run : (Plan → StateOf → Frac) → Run → List Note
 notes_of_run demand r =
-    let dem = demands_of r.plan r.demands in notes_of r.plan dem (ask_of demand r.plan dem) (ticks_of demand r)
+    let dem = demands_of r.plan r.demands in notes_of r.plan dem (ask_of demand r.plan dem) (run_ticks demand r)

@@ -15,7 +15,7 @@ use Rattle.sched_model.specs.States.{row_at, StateOf}
 use Rattle.agenda.specs.Agenda.{IsFirstUndone}
 use Rattle.event_kernel.specs.declared.segment.Segment.{Segment}
 use Rattle.event_kernel.specs.declared.span_trace.SpanTrace.{SpanTrace}
-use Rattle.event_kernel.specs.SpanNotes.{kept}
+use Rattle.event_kernel.specs.SpanNotes.{kept_notes}
 
 -- a span with more units
 abbrev pub grown : Span → List Holder → Span
@@ -59,13 +59,13 @@ written_notes p s from e trace = holder_notes p s (position_of from ((point p e)
 
 -- the trace after these notes are added
 abbrev pub with_notes : SpanTrace → List Note → SpanTrace
-with_notes trace notes = record { segment = trace.segment; notes = kept (trace.notes ++ notes) }
+with_notes trace notes = record { segment = trace.segment; notes = kept_notes (trace.notes ++ notes) }
 
 -- the trace after the notes of its segment are added: the holder's next segment is open, without units
 abbrev pub after_segment : Plan → StateOf → ℕ → ℕ → SpanTrace → SpanTrace
 after_segment p s from e trace = record {
   segment = record { holder = trace.segment.holder; start = trace.segment.start + trace.segment.units; units = 0 };
-  notes = kept (trace.notes ++ written_notes p s from e trace);
+  notes = kept_notes (trace.notes ++ written_notes p s from e trace);
 }
 
 -- whether a unit of the holder h ends the open segment
@@ -81,8 +81,8 @@ abbrev pub entered : Plan → StateOf → ℕ → ℕ → Holder → ℕ → Spa
 entered p s from e h n trace = with_units h n (if is_turn trace h then after_segment p s from e trace else trace)
 
 -- the trace at the end of a span: the notes of the open segment are added
-abbrev pub ended : Plan → StateOf → ℕ → ℕ → SpanTrace → SpanTrace
-ended p s from e trace = if nat_lt 0 trace.segment.units then after_segment p s from e trace else trace
+abbrev pub ended_trace : Plan → StateOf → ℕ → ℕ → SpanTrace → SpanTrace
+ended_trace p s from e trace = if nat_lt 0 trace.segment.units then after_segment p s from e trace else trace
 
 -- the holder is nobody, or a job of one of the first n tasks
 abbrev pub HeldIn : ℕ → Holder → Type 0

@@ -10,7 +10,7 @@ use Rattle.governor.specs.Schedule.{ask_of}
 use Rattle.energy.specs.Books.{Books, booked, HasTask, HasRoom, Told, books_of}
 use Rattle.event_kernel.specs.declared.notes.TheConstants.{MOST_NOTES}
 use Rattle.event_kernel.specs.Heard.{HasHeard, HasBalked}
-use Rattle.event_kernel.specs.Runs.{demands_of, Run, ticks_of}
+use Rattle.event_kernel.specs.Runs.{demands_of, Run, run_ticks}
 
 -- The notes were handed to a listener: at Ok it heard all of them and its stops did not fall; at an error it balked at
 -- one of them and its stops rose.
@@ -21,11 +21,11 @@ HandsOut heard balked stops from to notes (Err e) = HasBalked heard balked from 
 -- the notes of a run before the `End`
 abbrev pub notes_before_end_of : (Plan → StateOf → Frac) → Run → List Note
 notes_before_end_of demand r =
-    let dem = demands_of r.plan r.demands in notes_before_end r.plan dem (ask_of demand r.plan dem) (ticks_of demand r)
+    let dem = demands_of r.plan r.demands in notes_before_end r.plan dem (ask_of demand r.plan dem) (run_ticks demand r)
 
 -- the first `MOST_NOTES` of these notes
-abbrev pub kept : List Note → List Note
-kept notes = take MOST_NOTES notes
+abbrev pub kept_notes : List Note → List Note
+kept_notes notes = take MOST_NOTES notes
 
 -- the account after these notes are added under the entry e
 abbrev pub all_booked : Books → List Note → ℕ → Books

@@ -6,7 +6,7 @@ use Rattle.sched_model.specs.Plan.{Plan}
 use Rattle.sched_model.specs.Jobs.{latest}
 use Rattle.sched_model.specs.Ticks.{Tick, exec}
 use Rattle.sched_model.specs.Schedule.{next_tick}
-use Rattle.sched_model.specs.Notes.{Span, units_of, notes_before_end}
+use Rattle.sched_model.specs.Notes.{Span, tick_units, notes_before_end}
 use Rattle.sched_model.specs.States.{row_at, StateOf}
 use Rattle.governor.specs.Schedule.{ask_of, course}
 use Rattle.event_kernel.specs.Segment.{open_span, grown}
@@ -34,7 +34,7 @@ tick_at demand p dem t = next_tick p dem (ask_of demand p dem) (course demand p 
 
 -- the span that tick t of a governor's schedule belongs to, with the units of that tick
 abbrev pub whole_span : (Plan → StateOf → Frac) → Plan → (ℕ → ℕ → ℕ) → ℕ → Span
-whole_span demand p dem t = grown (span_at demand p dem t) (units_of p (course demand p dem t) (tick_at demand p dem t))
+whole_span demand p dem t = grown (span_at demand p dem t) (tick_units p (course demand p dem t) (tick_at demand p dem t))
 
 -- the notes of a governor's schedule before tick t
 abbrev pub notes_before : (Plan → StateOf → Frac) → Plan → (ℕ → ℕ → ℕ) → ℕ → List Note

@@ -9,7 +9,7 @@ use Rattle.sched_model.specs.Ticks.{Tick, exec}
 use Rattle.sched_model.specs.Notes.{same_holder, Span, Piece}
 use Rattle.event_kernel.specs.declared.span_trace.SpanTrace.{SpanTrace}
 use Rattle.event_kernel.specs.Segment.{notes_with, IsOpen}
-use Rattle.event_kernel.specs.SpanNotes.{kept}
+use Rattle.event_kernel.specs.SpanNotes.{kept_notes}
 
 -- the holder is nobody, or the latest job of a task
 abbrev pub HeldNow : Plan → ℕ → Holder → Type 0
@@ -25,4 +25,4 @@ pub record Writing (p : Plan) (dem : ℕ → ℕ → ℕ) (ask : List Tick → F
   pub taken : HeldNow p t trace.segment.holder
   pub had : (i : ℕ) → i < count p → exec p s.past i (latest p i t) + count_by (same_holder (Held i (latest p i t))) s.units ≡ used i
   pub few : length s.units ≤ most
-  pub notes : trace.notes ≡ kept (notes_with p dem ask s done)
+  pub notes : trace.notes ≡ kept_notes (notes_with p dem ask s done)

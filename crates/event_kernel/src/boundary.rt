@@ -5,7 +5,7 @@ ghost use Rattle.sched_model.specs.States.{CanRelease, IsOfPlan};
 ghost use Rattle.agenda.specs.Agenda.{NonePast, IsFirstDue, opened};
 ghost use Rattle.sched_model.specs.Notes.{all_release_notes};
 ghost use Rattle.governor.specs.Steps.{IsAtDecision};
-ghost use Rattle.event_kernel.specs.SpanNotes.{kept};
+ghost use Rattle.event_kernel.specs.SpanNotes.{kept_notes};
 ghost use Rattle.event_kernel.specs.Runs.{demands_of, IsListOf};
 ghost use Rattle.event_kernel.specs.Segment.{with_notes};
 ghost use Rattle.event_kernel.specs.Current.{IsCurrent};
@@ -24,7 +24,7 @@ fn decide<G: Governor>(plan: &Admitted, governor: &G, state: &State, notes: &mut
     requires of { IsOfPlan plan.now state.now }
     requires counters { G.stands governor.now plan.now state.now }
     requires decision { IsAtDecision plan.now state.now }
-    ensures note { notes.new ≡ kept (notes.old
+    ensures note { notes.new ≡ kept_notes (notes.old
         ++ speed_note plan.now state.entry.now.now (G.demand plan.now state.entry.now) ∷ []) }
     ensures index { result ≡ lowest_entry plan.now.machine (G.demand plan.now state.entry.now) }
 {

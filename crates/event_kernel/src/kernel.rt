@@ -1,9 +1,9 @@
 // The kernel.
-ghost use Rattle.std.specs.Prelude.{◌≡◌, ◌≢◌, ◌≤◌, ◌<◌, ℕ, OnOk, OnErr, IfOk, IsOk, IsErrOf, [], length, map};
-ghost use Rattle.dvs_base.specs.declared.kind.GovernorKind.TheVariants.{Ahead};
+ghost use Rattle.std.specs.Prelude.{◌≡◌, ◌≤◌, ◌<◌, ℕ, OnOk, OnErr, IfOk, IsOk, IsErrOf, [], length, map};
 ghost use Rattle.dvs_base.specs.declared.note.Note.TheVariants.{End};
 ghost use Rattle.sched_model.specs.Totals.{totals_of};
 ghost use Rattle.sched_model.specs.States.{opening};
+ghost use Rattle.sched_model.specs.Demand.{IsAlwaysMet};
 ghost use Rattle.event_kernel.specs.Heard.{HasHeard, HasBalked};
 ghost use Rattle.event_kernel.specs.SpanNotes.{HandsOut, notes_before_end_of, HasBooked};
 ghost use Rattle.sched_model.specs.Jobs.{released_jobs};
@@ -11,7 +11,9 @@ ghost use Rattle.dvs_base.specs.declared.limits.TheConstants.{MOST_JOBS, MOST_TI
 ghost use Rattle.done_lines.specs.LineCounts.{AreFew};
 ghost use Rattle.event_kernel.specs.Runs.{IsListOf, notes_of_run, MeetsDeadlines, MeetsDemands};
 ghost use Rattle.event_kernel.specs.Meeting.{IsMetRun};
-ghost use Rattle.event_kernel.specs.Lines.{WritesLines, trace_lines, text_of, most_lines};
+ghost use Rattle.trace_reader.specs.TraceText.{text_of_lines};
+ghost use Rattle.done_lines.specs.RunText.{run_lines};
+ghost use Rattle.event_kernel.specs.Lines.{WritesLines, most_lines};
 ghost use Rattle.agenda.specs.Stands.{Stands};
 ghost use Rattle.dvs_base.specs.Outside.{Rose};
 
@@ -169,7 +171,7 @@ impl<'a, G: Governor> Kernel<'a, G> {
         // At most one more decision than releases and completions together, so at most one more than two a job.
         ensures few { IfOk result AreFew }
         ensures deadlines { MeetsDeadlines G.demand self.entry }
-        ensures demands { G.the_kind ≢ Ahead → MeetsDemands G.demand self.entry }
+        ensures demands { IsAlwaysMet G.the_kind → MeetsDemands G.demand self.entry }
         ensures ran { OnOk result (HasHeard L.heard to.old (notes_of_run G.demand self.entry) to.new) }
         ensures broke_off { OnErr result (HasBalked L.heard L.balked to.old (notes_of_run G.demand self.entry) to.new) }
         ensures never_falls { L.stops to.old ≤ L.stops to.new }
@@ -194,7 +196,7 @@ impl<'a, G: Governor> Kernel<'a, G> {
         // At most one more decision than releases and completions together, so at most one more than two a job.
         ensures few { IfOk result AreFew }
         ensures deadlines { MeetsDeadlines G.demand self.entry }
-        ensures demands { G.the_kind ≢ Ahead → MeetsDemands G.demand self.entry }
+        ensures demands { IsAlwaysMet G.the_kind → MeetsDemands G.demand self.entry }
         ensures ran { OnOk result (HasHeard L.heard to.old (notes_of_run G.demand self.entry) to.new) }
         ensures broke_off { OnErr result (HasBalked L.heard L.balked to.old (notes_of_run G.demand self.entry) to.new) }
         ensures never_falls { L.stops to.old ≤ L.stops to.new }
@@ -213,7 +215,7 @@ impl<'a, G: Governor> Kernel<'a, G> {
         }
     }
 
-    /// WritesLines the whole trace in this version to the sink, one `put` a line, and tells the probes each note after
+    /// Writes the whole trace in this version to the sink, one `put` a line, and tells the probes each note after
     /// its line was put; the totals of the notes. `WriteFault` comes only where the sink failed at some line: the lines
     /// before it were put and their notes told, the line itself was put in part, and nothing after it. It never comes
     /// where the sink was sure of as many bytes as the trace has.
@@ -225,18 +227,18 @@ impl<'a, G: Governor> Kernel<'a, G> {
     ) -> Result<Totals, WriteFault>
         ensures wrote { WritesLines (W.shows out.old) (W.shows out.new)
             (map P.seen probes.old.items) (map P.seen probes.new.items)
-            (trace_lines version G.the_kind self.entry.plan self.entry.ticks (notes_of_run G.demand self.entry))
+            (run_lines version self.entry.plan G.the_kind self.entry.ticks (notes_of_run G.demand self.entry))
             result }
-        ensures sure { length (text_of (trace_lines version G.the_kind self.entry.plan self.entry.ticks
+        ensures sure { length (text_of_lines (run_lines version self.entry.plan G.the_kind self.entry.ticks
             (notes_of_run G.demand self.entry))) ≤ (W.shows out.old).sure → IsOk result }
         ensures totals { IfOk result (λ t. t ≡ totals_of (notes_of_run G.demand self.entry)) }
         // At most one more decision than releases and completions together, so at most one more than two a job.
         ensures few { IfOk result AreFew }
         // At most seven lines for each job released in the ticks, and five more; in version 2 also two for each task.
-        ensures lines { length (trace_lines version G.the_kind self.entry.plan self.entry.ticks
+        ensures lines { length (run_lines version self.entry.plan G.the_kind self.entry.ticks
             (notes_of_run G.demand self.entry)) ≤ most_lines version self.entry.plan self.entry.ticks }
         ensures deadlines { MeetsDeadlines G.demand self.entry }
-        ensures demands { G.the_kind ≢ Ahead → MeetsDemands G.demand self.entry }
+        ensures demands { IsAlwaysMet G.the_kind → MeetsDemands G.demand self.entry }
         ensures never_falls { (W.shows out.old).faults ≤ (W.shows out.new).faults }
         ensures rose { OnErr result (Rose (W.shows out.old).faults (W.shows out.new).faults) }
     {

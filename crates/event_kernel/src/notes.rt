@@ -1,6 +1,6 @@
 // The notes of one span.
 ghost use Rattle.std.specs.Prelude.{◌≡◌, ◌<◌, ◌++◌, ◌∷◌, [], OnOk, IfOk, length};
-ghost use Rattle.event_kernel.specs.SpanNotes.{kept, HandsOut, CanBook, all_booked};
+ghost use Rattle.event_kernel.specs.SpanNotes.{kept_notes, HandsOut, CanBook, all_booked};
 
 use crate::{Listener, Stopped};
 use dvs_base::{NoMemory, Note};
@@ -50,7 +50,7 @@ impl SpanNotes {
 
     /// Adds a note where there is room.
     pub(crate) fn push(&mut self, note: Note)
-        ensures { self.new ≡ kept (self.old ++ note ∷ []) }
+        ensures { self.new ≡ kept_notes (self.old ++ note ∷ []) }
     {
         if self.notes.len() < MOST_NOTES {
             self.notes.push_reserved(note);

@@ -4,7 +4,7 @@ ghost use Rattle.dvs_base.specs.Widths.{u64_end};
 ghost use Rattle.sched_model.specs.declared.holder.Holder.TheVariants.{Nobody, Held};
 ghost use Rattle.sched_model.specs.Plan.{point};
 ghost use Rattle.sched_model.specs.Notes.{position_of};
-ghost use Rattle.event_kernel.specs.Segment.{after_segment, is_turn, entered, ended, new_trace, with_notes, written_notes, CanPut};
+ghost use Rattle.event_kernel.specs.Segment.{after_segment, is_turn, entered, ended_trace, new_trace, with_notes, written_notes, CanPut};
 
 use crate::notes::SpanNotes;
 use crate::progress::InForce;
@@ -160,7 +160,7 @@ impl SpanTrace {
     /// Adds the notes of the segment that is open at the end of a span.
     pub(crate) fn close(&mut self, at: Moment<'_>)
         requires { CanPut at.plan.now at.state.now at.force.from at.force.index self.old }
-        ensures { self.new ≡ ended at.entry.plan.now at.entry.state.now at.entry.force.from
+        ensures { self.new ≡ ended_trace at.entry.plan.now at.entry.state.now at.entry.force.from
             at.entry.force.index self.old }
     {
         if self.segment.units > 0 {

@@ -4,7 +4,8 @@ ghost use Rattle.dvs_base.specs.declared.note.Note.TheVariants.{End};
 ghost use Rattle.done_lines.specs.LineCounts.{AreFew};
 ghost use Rattle.sched_model.specs.Plan.{count, names};
 ghost use Rattle.sched_model.specs.Totals.{totals_of};
-ghost use Rattle.event_kernel.specs.Lines.{WritesLines, WroteLines, StoppedIn, noted, note_lines};
+ghost use Rattle.trace_reader.specs.TraceText.{noted, note_lines};
+ghost use Rattle.event_kernel.specs.Lines.{WritesLines, WroteLines, StoppedIn};
 ghost use Rattle.event_kernel.specs.PlainLines.{sum_lines};
 ghost use Rattle.event_kernel.specs.Runs.{notes_of_run};
 
@@ -22,7 +23,7 @@ use trace_text::write_note;
 #[derive(Clone, Copy, Debug, PartialEq, Eq)]
 pub struct WriteFault;
 
-// WritesLines a note's line into `line`, puts it, and then tells the probes the note.
+// Writes a note's line into `line`, puts it, and then tells the probes the note.
 fn tell_note<W: Sink, P: Probe>(
     note: &Note,
     names: &[Name],
@@ -117,7 +118,7 @@ fn tell_tail<W: Sink, P: Probe>(
     }
 }
 
-// WritesLines the lines of a run after its head through a teller; the totals.
+// Writes the lines of a run after its head through a teller; the totals.
 fn notes_into<G: Governor, W: Sink, P: Probe>(
     kernel: Kernel<'_, G>,
     head: Head<'_>,
@@ -130,7 +131,7 @@ fn notes_into<G: Governor, W: Sink, P: Probe>(
     ensures few { IfOk result AreFew }
     ensures writes { WritesLines (W.shows teller.old.out.now) (W.shows teller.new.out.now)
         (map P.seen teller.old.probes.now.items) (map P.seen teller.new.probes.now.items)
-        (note_lines head.entry.version kernel.entry.plan (notes_of_run G.demand kernel.entry)) result }
+        (note_lines head.entry.version (names kernel.entry.plan) (notes_of_run G.demand kernel.entry)) result }
     ensures same { (teller.new.out.ghost_name ≡ teller.old.out.ghost_name)
         × (teller.new.probes.ghost_name ≡ teller.old.probes.ghost_name) }
 {
@@ -141,7 +142,7 @@ fn notes_into<G: Governor, W: Sink, P: Probe>(
     }
 }
 
-/// WritesLines the lines of a run after its head, and tells the probes its notes; the totals.
+/// Writes the lines of a run after its head, and tells the probes its notes; the totals.
 pub(crate) fn tell_notes<G: Governor, W: Sink, P: Probe>(
     kernel: Kernel<'_, G>,
     head: Head<'_>,
@@ -154,7 +155,7 @@ pub(crate) fn tell_notes<G: Governor, W: Sink, P: Probe>(
     ensures few { IfOk result AreFew }
     ensures writes { WritesLines (W.shows out.old) (W.shows out.new)
         (map P.seen probes.old.items) (map P.seen probes.new.items)
-        (note_lines head.entry.version kernel.entry.plan (notes_of_run G.demand kernel.entry)) result }
+        (note_lines head.entry.version (names kernel.entry.plan) (notes_of_run G.demand kernel.entry)) result }
 {
     let mut teller = Teller {
         out,

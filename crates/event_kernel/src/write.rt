@@ -1,18 +1,16 @@
 // The lines of a trace that are not a note's: its head, and the energies of the tasks.
-ghost use Rattle.std.specs.Prelude.{◌≡◌, ◌<◌, length, slice_index};
-ghost use Rattle.grid_fraction.specs.Numbers.{list_below};
-ghost use Rattle.dvs_base.specs.declared.kind.Version.TheVariants.{Two};
+ghost use Rattle.std.specs.Prelude.{◌≡◌, ◌<◌, length, map};
 ghost use Rattle.dvs_base.specs.Parts.{name_of};
 ghost use Rattle.sched_model.specs.Plan.{count, names, task, period, offset};
 ghost use Rattle.trace_text.specs.TraceLines.{plan_text};
-ghost use Rattle.trace_reader.specs.TraceText.{version_line, task_text, share_text};
-ghost use Rattle.event_kernel.specs.PlainLines.{WritesPlain, sum_lines};
-ghost use Rattle.event_kernel.specs.Lines.{plain, head_lines, task_lines};
+ghost use Rattle.trace_reader.specs.TraceText.{version_line, task_text, share_text, plain, for_tasks, head_lines};
+ghost use Rattle.done_lines.specs.RunText.{task_texts};
+ghost use Rattle.event_kernel.specs.PlainLines.{WritesPlain, sum_texts, sum_lines};
 
 use dvs_base::{Failed, GovernorKind, Line, Sink, Version, put_line};
 use energy::Account;
 use sched_model::Admitted;
-use trace_reader::{TaskLine, write_share, write_task, write_version};
+use trace_reader::{TaskLine, has_task_lines, write_share, write_task, write_version};
 use trace_text::{PlanLine, write_head};
 
 /// What the head of a trace says.
@@ -71,20 +69,22 @@ fn line_of_share(plan: &Admitted, i: u32, energy: u128) -> Line
     line
 }
 
-// Puts a line for each task in version 2, and nothing in version 1.
+// Puts a line for each task in a version that has such lines, and nothing in another.
 fn put_task_lines<W: Sink>(version: Version, plan: &Admitted, out: &mut W) -> Result<(), Failed>
-    ensures { WritesPlain (W.shows out.old) (W.shows out.new) (task_lines version plan.now) result }
+    ensures { WritesPlain (W.shows out.old) (W.shows out.new) (for_tasks version (task_texts plan.now)) result }
 {
-    match version {
-        Version::One => Ok(()),
-        Version::Two => put_tasks(plan, out),
+    if has_task_lines(version) {
+        put_tasks(plan, out)
+    } else {
+        Ok(())
     }
 }
 
-/// Puts the lines before the notes: the version, the plan, and in version 2 the tasks.
+/// Puts the lines before the notes: the version, the plan, and those of the tasks.
 pub(crate) fn put_head<W: Sink>(head: Head<'_>, out: &mut W) -> Result<(), Failed>
     ensures { WritesPlain (W.shows out.old) (W.shows out.new)
-        (head_lines head.entry.version head.entry.governor head.entry.plan.now head.entry.ticks) result }
+        (head_lines head.entry.version head.entry.plan.now.scheduler head.entry.governor head.entry.ticks
+        (task_texts head.entry.plan.now)) result }
 {
     put_line(&line_of_version(head.version), out)?;
     put_line(&line_of_plan(head), out)?;
@@ -93,7 +93,7 @@ pub(crate) fn put_head<W: Sink>(head: Head<'_>, out: &mut W) -> Result<(), Faile
 
 // Puts a line for each task: its name, its period, its offset and its declared worst case.
 fn put_tasks<W: Sink>(plan: &Admitted, out: &mut W) -> Result<(), Failed>
-    ensures { WritesPlain (W.shows out.old) (W.shows out.new) (task_lines Two plan.now) result }
+    ensures { WritesPlain (W.shows out.old) (W.shows out.new) (map plain (task_texts plan.now)) result }
 {
     for i in 0..plan.count() {
         put_line(&line_of_task(plan, i), out)?;
@@ -105,8 +105,7 @@ fn put_tasks<W: Sink>(plan: &Admitted, out: &mut W) -> Result<(), Failed>
 fn put_shares<W: Sink>(plan: &Admitted, account: &Account, out: &mut W) -> Result<(), Failed>
     requires { length account.now.by_task ≡ count plan.now }
     ensures { WritesPlain (W.shows out.old) (W.shows out.new)
-        (list_below (count plan.now) (λ i. plain (share_text (name_of (names plan.now) i)
-        (slice_index account.now.by_task i)))) result }
+        (map plain (sum_texts plan.now account.now.by_task)) result }
 {
     for i in 0..plan.count() {
         put_line(&line_of_share(plan, i, account.of_task(i)), out)?;
@@ -114,7 +113,7 @@ fn put_shares<W: Sink>(plan: &Admitted, account: &Account, out: &mut W) -> Resul
     Ok(())
 }
 
-/// Puts a line with each task's energy in version 2, and nothing in version 1.
+/// Puts a line with each task's energy in a version that has such lines, and nothing in another.
 pub(crate) fn put_sums<W: Sink>(
     head: Head<'_>,
     account: &Account,
@@ -124,8 +123,9 @@ pub(crate) fn put_sums<W: Sink>(
     ensures { WritesPlain (W.shows out.old) (W.shows out.new)
         (sum_lines head.entry.version head.entry.plan.now account.now.by_task) result }
 {
-    match head.version {
-        Version::One => Ok(()),
-        Version::Two => put_shares(head.plan, account, out),
+    if has_task_lines(head.version) {
+        put_shares(head.plan, account, out)
+    } else {
+        Ok(())
     }
 }

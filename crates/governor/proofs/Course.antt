@@ -1,10 +1,10 @@
 -- The laws of a governor along its schedule: every deadline is met, and each demand but that of look-ahead.
-use Rattle.std.proofs.Common.{◌≡◌, ◌≢◌, ℕ, zero, suc, ◌-◌, ◌<◌, ◌≤◌, Bool, true, false, List, [], ◌∷◌, length, drop, refl, arith, if◌then◌else◌, ap, ◌∙◌, sym, subst, true≢false, ◌⊎◌, inl, inr, eq-or-lt_of_le}
+use Rattle.std.proofs.Common.{◌≡◌, ℕ, zero, suc, ◌-◌, ◌<◌, ◌≤◌, Bool, true, false, List, [], ◌∷◌, length, drop, refl, arith, if◌then◌else◌, ap, ◌∙◌, sym, subst, true≢false, ◌⊎◌, inl, inr, eq-or-lt_of_le}
 use Rattle.std.proofs.lemmas.Bool.{or_parts}
 use Rattle.dvs_base.specs.declared.kind.GovernorKind.{GovernorKind}
-use Rattle.dvs_base.specs.declared.kind.GovernorKind.TheVariants.{Ahead}
 use Rattle.grid_fraction.specs.declared.Frac.{Frac}
 use Rattle.freq_table.specs.Tables.{lowest_entry, lowest_pick, speed_at}
+use Rattle.sched_model.specs.Demand.{IsAlwaysMet}
 use Rattle.sched_model.specs.declared.state.Row.{Row}
 use Rattle.sched_model.specs.Plan.{Plan, count}
 use Rattle.sched_model.specs.Jobs.{IsWithin, JobDemands, latest, due, is_release}
@@ -172,7 +172,7 @@ module _ (kind : GovernorKind) (serves : Serving) (demand : OwnDemand) (calm : C
       (laws.completes p dem (prior_state p dem past) (in_run held.belongs) held.is_calm i lt)
 
   -- at each tick of the governor's schedule some entry meets the demand, unless the kind is look-ahead
-  pub demand-met : kind ≢ Ahead → (t : ℕ) → (lowest_pick p.machine (demand p (state_of p dem (course demand p dem t)))).met ≡ true
+  pub demand-met : IsAlwaysMet kind → (t : ℕ) → (lowest_pick p.machine (demand p (state_of p dem (course demand p dem t)))).met ≡ true
   demand-met other t =
       let past = course demand p dem t in
       laws.meets p dem (state_of p dem past) (in_run (belongs-state past (kept t))) (decides-state past (kept t)) (calm-state past (kept t)) other

@@ -1,14 +1,14 @@
 -- The laws of a governor, over plain data.
-use Rattle.std.specs.Prelude.{◌<◌, ◌≤◌, ℕ, ◌≡◌, true, List, ◌≢◌}
+use Rattle.std.specs.Prelude.{◌<◌, ◌≤◌, ℕ, ◌≡◌, true, List}
 use Rattle.dvs_base.specs.Widths.{u64_end}
 use Rattle.dvs_base.specs.declared.kind.Scheduler.{Scheduler}
 use Rattle.dvs_base.specs.declared.kind.GovernorKind.{GovernorKind}
-use Rattle.dvs_base.specs.declared.kind.GovernorKind.TheVariants.{Ahead}
 use Rattle.dvs_base.specs.PlanWords.{IsPair}
 use Rattle.grid_fraction.specs.declared.Frac.{Frac}
 use Rattle.freq_table.specs.Tables.{lowest_entry, lowest_pick}
 use Rattle.sched_model.specs.Plan.{Plan, count}
 use Rattle.sched_model.specs.Jobs.{JobDemands}
+use Rattle.sched_model.specs.Demand.{IsAlwaysMet}
 use Rattle.sched_model.specs.Admission.{IsAdmitted}
 use Rattle.sched_model.specs.States.{StateOf, IsOfPlan, row_at, opening}
 use Rattle.governor.specs.Meanings.{Serving, OwnDemand, Condition, EntryCondition}
@@ -71,8 +71,8 @@ pub record GovernorLaws (kind : GovernorKind) (serves : Serving) (demand : OwnDe
   pub releases : InEachRun serves (λ plan dem s. calm plan s → calm plan (after_boundary plan dem s))
   -- a calm state at a decision is safe with the entry that is chosen
   pub chooses : InEachRun serves (λ plan dem s. IsAtDecision plan s → calm plan s → safe plan s (chosen demand plan s))
-  -- in a calm state at a decision some entry meets the demand, unless the kind is look-ahead
-  pub meets : InEachRun serves (λ plan dem s. IsAtDecision plan s → calm plan s → kind ≢ Ahead → CanMeet demand plan s)
+  -- in a calm state at a decision some entry meets the demand, for a kind whose demand is always met
+  pub meets : InEachRun serves (λ plan dem s. IsAtDecision plan s → calm plan s → IsAlwaysMet kind → CanMeet demand plan s)
   -- a tick that may follow keeps a safe state safe
   pub ticks : InEachRun serves (λ plan dem s. (k : ℕ) → safe plan s k → AfterEachTick plan dem s k (safe plan))
   -- a safe state is calm

@@ -7,7 +7,7 @@ use Rattle.sched_model.specs.Admission.{IsWithinLimits}
 use Rattle.governor.specs.Meanings.{OwnDemand}
 use Rattle.governor.specs.Schedule.{ask_of}
 use Rattle.event_kernel.specs.Heard.{HasHeard, HasBalked}
-use Rattle.event_kernel.specs.Runs.{Run, demands_of, ticks_of, notes_of_run}
+use Rattle.event_kernel.specs.Runs.{Run, demands_of, run_ticks, notes_of_run}
 use Rattle.trace_reader.specs.Traces.{TraceOf, is_end, IsEnded}
 use Rattle.done_lines.proofs.OneEnd.{EndsOnce, schedule-ended}
 use Rattle.replay.proofs.Comparing.{HeardNext, HeardOther, StoppedAt, ended-once, heard-same, balked-first}
@@ -19,7 +19,7 @@ module _ {L : Type 0} (rest : L → List Note) (wanted : L → Option Note)
   once : EndsOnce is_end (notes_of_run demand run)
   once =
       let dem = demands_of run.plan run.demands in
-      schedule-ended run.plan (subst IsWithinLimits (sym plan_is) lim) dem (ask_of demand run.plan dem) (ticks_of demand run)
+      schedule-ended run.plan (subst IsWithinLimits (sym plan_is) lim) dem (ask_of demand run.plan dem) (run_ticks demand run)
 
   ends : EndsOnce is_end (rest from)
   ends = subst (EndsOnce is_end) (sym notes_are) (ended-once t.notes ended)

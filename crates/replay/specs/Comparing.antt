@@ -5,8 +5,8 @@ use Rattle.dvs_base.specs.declared.note.Note.TheVariants.{Release, Speed, Run, I
 use Rattle.dvs_base.specs.declared.note.Pos.{Pos}
 use Rattle.dvs_base.specs.declared.note.Totals.{Totals}
 use Rattle.dvs_base.specs.declared.kind.Version.{Version}
-use Rattle.dvs_base.specs.declared.kind.Version.TheVariants.{One, Two}
 use Rattle.sched_model.specs.Totals.{totals_of}
+use Rattle.trace_reader.specs.TraceText.{has_task_lines}
 use Rattle.trace_reader.specs.Traces.{TraceOf}
 use Rattle.replay.specs.declared.fault.ReplayFault.{ReplayFault}
 use Rattle.replay.specs.declared.fault.ReplayFault.TheVariants as fault
@@ -38,12 +38,11 @@ first_unequal at (w ∷ wanted) (f ∷ found) =
     if same_note f w then first_unequal (at + 1) wanted found else Some (at, w, f)
 first_unequal at _ _ = None
 
--- the line of a note of a trace of `tasks` tasks, by the note's place from 0: two lines are before the notes; in
--- version 2 also the lines of the tasks, and before the end of the run those of their energies
+-- the line of a note of a trace of `tasks` tasks, by the note's place from 0: two lines are before the notes, and those
+-- of the tasks in a version that has them; before the end of the run also those of their energies
 abbrev pub line_of : Version → ℕ → ℕ → Note → ℕ
-line_of One tasks place n = place + 3
-line_of Two tasks place (End ticks run idle) = place + 3 + 2 * tasks
-line_of Two tasks place n = place + 3 + tasks
+line_of v tasks place (End ticks run idle) = place + 3 + (if has_task_lines v then 2 * tasks else 0)
+line_of v tasks place n = place + 3 + (if has_task_lines v then tasks else 0)
 
 -- the refusal of a trace of `tasks` tasks at the note at this place
 abbrev pub differs : ℕ → TraceOf → ℕ → Note → Note → ReplayFault

@@ -26,10 +26,10 @@ NamesTask c (Run from to i k units energy) = i < c
 NamesTask c (Done q i k used) = i < c
 NamesTask c _ = Unit {0}
 
--- the refusal of a kernel
-abbrev pub refusal_of : KernelFault → ReplayFault
-refusal_of (kernel.TooManyJobs n) = fault.TooManyJobs n
-refusal_of kernel.NoMemory = fault.NoMemory
+-- the refusal of the kernel as one of a replay
+abbrev pub replay_refusal : KernelFault → ReplayFault
+replay_refusal (kernel.TooManyJobs n) = fault.TooManyJobs n
+replay_refusal kernel.NoMemory = fault.NoMemory
 
 -- the refusal of a note that ends a job with more units than its task's worst case
 abbrev pub over_in : Plan → Note → Option ReplayFault

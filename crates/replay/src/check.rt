@@ -25,7 +25,7 @@ use event_kernel::{Kernel, Stopped};
 use governor::Governor;
 use sched_model::Admitted;
 use std::alloc::Global;
-use trace_reader::Trace;
+use trace_reader::{Trace, has_task_lines};
 
 // The line of a note of a trace, counted from 1, by the note's place from 0.
 fn line_of(version: Version, tasks: u32, place: u64, note: &Note) -> u64
@@ -33,10 +33,10 @@ fn line_of(version: Version, tasks: u32, place: u64, note: &Note) -> u64
     requires place { place < 2 ^ 63 }
     ensures { result ≡ line_of version tasks place note.now }
 {
-    match (version, note) {
-        (Version::One, _) => place + 3,
-        (Version::Two, Note::End { .. }) => place + 3 + 2 * tasks as u64,
-        (Version::Two, _) => place + 3 + tasks as u64,
+    match (has_task_lines(version), note) {
+        (false, _) => place + 3,
+        (true, Note::End { .. }) => place + 3 + 2 * tasks as u64,
+        (true, _) => place + 3 + tasks as u64,
     }
 }
 

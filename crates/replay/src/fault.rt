@@ -1,7 +1,7 @@
 // Why a replay refuses a trace.
 ghost use Rattle.std.specs.Prelude.{◌≡◌};
 ghost use Rattle.replay.specs.declared.fault.ReplayFault.TheVariants as fault;
-ghost use Rattle.replay.specs.Replays.{refusal_of};
+ghost use Rattle.replay.specs.Replays.{replay_refusal};
 
 use dvs_base::{NoMemory, Note};
 use event_kernel::KernelFault;
@@ -39,7 +39,7 @@ impl From<NoMemory> for ReplayFault {
 }
 
 impl From<KernelFault> for ReplayFault {
-    ghost from_gives = { λ why e. e ≡ refusal_of why };
+    ghost from_gives = { λ why e. e ≡ replay_refusal why };
 
     fn from(why: KernelFault) -> ReplayFault {
         match why {

@@ -3,7 +3,7 @@ use Rattle.std.proofs.Common.{◌≡◌, ◌+◌, ◌-◌, ◌*◌, ◌/◌, ◌
 use Rattle.dvs_base.specs.declared.kind.Scheduler.{Scheduler}
 use Rattle.dvs_base.specs.declared.kind.Scheduler.TheVariants.{Edf, Rm}
 use Rattle.dvs_base.specs.declared.kind.GovernorKind.{GovernorKind}
-use Rattle.dvs_base.specs.declared.kind.GovernorKind.TheVariants.{Plain, Fixed, Cycle, Ahead}
+use Rattle.dvs_base.specs.declared.kind.GovernorKind.TheVariants.{Cycle, Ahead}
 use Rattle.grid_fraction.specs.Numbers.{ceil_div}
 use Rattle.grid_fraction.proofs.Sums.{sum_below-same}
 use Rattle.sched_model.specs.Plan.{Plan, count, period, worst, hyper, rate, top_speed}
@@ -83,14 +83,10 @@ module _ (p : Plan) (lim : IsWithinLimits p) (dem other : ℕ → ℕ → ℕ) (
       (in_order due (count p)) (in_order-below due (count p)))
 
   demand_by-same : (s : Scheduler) (kind : GovernorKind) → demand_by s kind p dem past ≡ demand_by s kind p other past
-  demand_by-same Edf Plain = refl
-  demand_by-same Rm Plain = refl
-  demand_by-same Edf Fixed = refl
-  demand_by-same Rm Fixed = refl
   demand_by-same Edf Cycle = edf_cycle-same
   demand_by-same Rm Cycle = rm_cycle-same
   demand_by-same Edf Ahead = edf_ahead-same
-  demand_by-same Rm Ahead = refl
+  demand_by-same _ _ = refl
 
 pub blind-published : (p : Plan) → IsWithinLimits p → (kind : GovernorKind) → IsBlind p (published p kind)
 unfolding published

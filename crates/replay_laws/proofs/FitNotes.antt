@@ -4,7 +4,7 @@ use Rattle.std.specs.Prelude.{Option, Some, None, unwrap_or}
 use Rattle.std.specs.List.{AllByRecursion}
 use Rattle.std.proofs.lemmas.Bool.Decides.{nat_tests}
 use Rattle.dvs_base.specs.declared.note.Note.{Note}
-use Rattle.dvs_base.specs.declared.note.Note.TheVariants.{Release, Speed, Run, Idle, Done, End}
+use Rattle.dvs_base.specs.declared.note.Note.TheVariants.{Done}
 use Rattle.grid_fraction.specs.declared.Frac.{Frac}
 use Rattle.task_model.specs.DemandRows.{named}
 use Rattle.sched_model.specs.Plan.{Plan, count, worst}
@@ -31,11 +31,7 @@ module _ (p : Plan) (lim : IsWithinLimits p) (dem : ℕ → ℕ → ℕ) (ask : 
     where
       fit : (n : Note) → IsBeforeEnd p dem n → IsFit p n
       fit (Done at_end i k used) h = omega (arith, h.1, within.most i k h.0)
-      fit (End ticks run idle) h = tt
-      fit (Release tick i k) h = tt
-      fit (Speed tick f num den) h = tt
-      fit (Run from to i k units energy) h = tt
-      fit (Idle from to units energy) h = tt
+      fit _ h = tt
 
   -- each completion is of a task of the plan
   pub notes-of-tasks : (ticks : List Tick) → AllByRecursion (IsOfTask p) (notes_of p dem ask ticks)
@@ -43,22 +39,12 @@ module _ (p : Plan) (lim : IsWithinLimits p) (dem : ℕ → ℕ → ℕ) (ask : 
     where
       of : (n : Note) → IsBeforeEnd p dem n → IsOfTask p n
       of (Done at_end i k used) h = h.0
-      of (End ticks run idle) h = tt
-      of (Release tick i k) h = tt
-      of (Speed tick f num den) h = tt
-      of (Run from to i k units energy) h = tt
-      of (Idle from to units energy) h = tt
+      of _ h = tt
 
 -- the row of a job that fit notes fix is, with the charge, at most its worst case
 row-fit : (p : Plan) (i k units : ℕ) (notes : List Note) → AllByRecursion (IsFit p) notes
     → named (fixed_of p notes) i k ≡ Some units → units + 2 * p.machine.charge ≤ worst p i
 row-fit p i k units [] fit e = absurd cc
-row-fit p i k units (Release tick j l ∷ notes) fit e = row-fit p i k units notes fit.1 e
-row-fit p i k units (Speed tick f num den ∷ notes) fit e = row-fit p i k units notes fit.1 e
-row-fit p i k units (Run from to j l us energy ∷ notes) fit e = row-fit p i k units notes fit.1 e
-row-fit p i k units (Idle from to us energy ∷ notes) fit e = row-fit p i k units notes fit.1 e
-row-fit p i k units (End ticks run idle ∷ notes) fit e = row-fit p i k units notes fit.1 e
-row-fit p i k units (Done at_end j zero used ∷ notes) fit e = row-fit p i k units notes fit.1 e
 row-fit p i k units (Done at_end j (suc l) used ∷ notes) fit e = go (nat_eq j i && nat_eq (suc l) k) refl (row-fit p i k units notes fit.1)
   where
     go : (b : Bool) → (nat_eq j i && nat_eq (suc l) k) ≡ b
@@ -73,6 +59,7 @@ row-fit p i k units (Done at_end j (suc l) used ∷ notes) fit e = go (nat_eq j 
         let most : used ≤ worst p i = subst (λ m. used ≤ worst p m) task fit.0 in
         omega (arith, is, most)
     go false other rest = rest (sym (ap (λ (b : Bool). if b then Some (used - 2 * p.machine.charge) else named (fixed_of p notes) i k) other) ∙ e)
+row-fit p i k units (n ∷ notes) fit e = row-fit p i k units notes fit.1 e
 
 -- the list that fit notes fix is within the worst cases
 pub fixed-within : (p : Plan) (notes : List Note) → AllByRecursion (IsFit p) notes → IsWithin p (demand_of p (fixed_of p notes))
@@ -90,12 +77,6 @@ fixed-within p notes fit = record { most = λ i k lt. most i k; none = λ i. ref
 rows-fit : (p : Plan) (all notes : List Note) → AllByRecursion (IsFit p) notes → AllByRecursion (IsOfTask p) notes
     → AllByRecursion (IsRow (fixed_list p all).worsts) (fixed_of p notes)
 rows-fit p all [] fit of = tt
-rows-fit p all (Release tick j l ∷ notes) fit of = rows-fit p all notes fit.1 of.1
-rows-fit p all (Speed tick f num den ∷ notes) fit of = rows-fit p all notes fit.1 of.1
-rows-fit p all (Run from to j l us energy ∷ notes) fit of = rows-fit p all notes fit.1 of.1
-rows-fit p all (Idle from to us energy ∷ notes) fit of = rows-fit p all notes fit.1 of.1
-rows-fit p all (End ticks run idle ∷ notes) fit of = rows-fit p all notes fit.1 of.1
-rows-fit p all (Done at_end j zero used ∷ notes) fit of = rows-fit p all notes fit.1 of.1
 rows-fit p all (Done at_end j (suc l) used ∷ notes) fit of = (
   record {
     task = omega (arith, worsts-long p.tasks (fixed_list p all) refl, of.0);
@@ -104,6 +85,7 @@ rows-fit p all (Done at_end j (suc l) used ∷ notes) fit of = (
   },
   rows-fit p all notes fit.1 of.1,
 )
+rows-fit p all (n ∷ notes) fit of = rows-fit p all notes fit.1 of.1
 
 -- fit completions of the plan's tasks fix a demand list
 pub fixed-demands : (p : Plan) → IsWithinLimits p → (notes : List Note) → AllByRecursion (IsFit p) notes

@@ -4,7 +4,7 @@ use Rattle.std.specs.Prelude.{sum_by, Option, Some, None}
 use Rattle.std.specs.List.{AllByRecursion}
 use Rattle.std.proofs.lemmas.Bool.Decides.{nat_tests}
 use Rattle.dvs_base.specs.declared.note.Note.{Note}
-use Rattle.dvs_base.specs.declared.note.Note.TheVariants.{Release, Speed, Run, Idle, Done, End}
+use Rattle.dvs_base.specs.declared.note.Note.TheVariants.{Release, Speed, Done, End}
 use Rattle.grid_fraction.specs.declared.Frac.{Frac}
 use Rattle.task_model.specs.DemandRows.{named}
 use Rattle.sched_model.specs.declared.holder.Holder.{Holder}
@@ -32,11 +32,7 @@ TellsTrue i k need had _ = Unit {0}
 -- a note that is true of what a job had is true of what it has later
 true-later : (i k need had more : ℕ) → had ≤ more → (n : Note) → TellsTrue i k need had n → TellsTrue i k need more n
 true-later i k need had more le (Done at_end j l used) h = λ mine. ((h mine).0, omega (arith, (h mine).1, le))
-true-later i k need had more le (Release tick j l) h = tt
-true-later i k need had more le (Speed tick f num den) h = tt
-true-later i k need had more le (Run from to j l units energy) h = tt
-true-later i k need had more le (Idle from to units energy) h = tt
-true-later i k need had more le (End ticks run idle) h = tt
+true-later i k need had more le _ h = tt
 
 -- tasks and jobs that pass the test for equal numbers have equal values
 same-numbers : (f : ℕ → ℕ → ℕ) (i j k l : ℕ) → (nat_eq i j && nat_eq k l) ≡ true → f j l ≡ f i k
@@ -134,11 +130,6 @@ module _ (p : Plan) (dem : ℕ → ℕ → ℕ) (ask : List Tick → Frac) (lim 
   -- true notes fix nothing of a job, or its demand
   pub fixes : (had : ℕ) (notes : List Note) → AreTrue had notes → Fixes p dem i k had (named (fixed_of p notes) i k) (times (tells_done i k) notes)
   fixes had [] all = inl (refl, refl)
-  fixes had (Release tick j l ∷ notes) all = fixes had notes all.1
-  fixes had (Speed tick f num den ∷ notes) all = fixes had notes all.1
-  fixes had (Run from to j l units energy ∷ notes) all = fixes had notes all.1
-  fixes had (Idle from to units energy ∷ notes) all = fixes had notes all.1
-  fixes had (End ticks run idle ∷ notes) all = fixes had notes all.1
   fixes had (Done at_end j zero used ∷ notes) all =
       let other : (nat_eq i j && nat_eq k 0) ≡ false = grind (arith, nat_tests, some_job) in
       rw other (fixes had notes all.1)
@@ -157,3 +148,4 @@ module _ (p : Plan) (dem : ℕ → ℕ → ℕ) (ask : List Tick → Frac) (lim 
       go false e rest =
           let other : (nat_eq j i && nat_eq (suc l) k) ≡ false = grind (arith, nat_tests, e) in
           rw (e, other) rest
+  fixes had (n ∷ notes) all = fixes had notes all.1

@@ -4,7 +4,7 @@ use Rattle.std.specs.Prelude.{Option, Some, None, unwrap_or, option_map}
 use Rattle.std.specs.Option.{option_or}
 use Rattle.std.proofs.lemmas.Bool.Decides.{nat_tests}
 use Rattle.dvs_base.specs.declared.note.Note.{Note}
-use Rattle.dvs_base.specs.declared.note.Note.TheVariants.{Release, Speed, Run, Idle, Done, End}
+use Rattle.dvs_base.specs.declared.note.Note.TheVariants.{Done}
 use Rattle.task_model.specs.DemandRows.{named}
 use Rattle.sched_model.specs.Plan.{Plan, worst}
 use Rattle.replay_laws.specs.FixedDemands.{fixed_of, first_end}
@@ -14,11 +14,6 @@ use Rattle.replay_laws.specs.OwnList.{HasFixedDemands}
 named-fixed : (p : Plan) (notes : List Note) (i k : ℕ) → 1 ≤ k
     → named (fixed_of p notes) i k ≡ option_map (λ used. used - 2 * p.machine.charge) (first_end notes i k)
 named-fixed p [] i k some = refl
-named-fixed p (Release tick j l ∷ notes) i k some = named-fixed p notes i k some
-named-fixed p (Speed tick f num den ∷ notes) i k some = named-fixed p notes i k some
-named-fixed p (Run from to j l units energy ∷ notes) i k some = named-fixed p notes i k some
-named-fixed p (Idle from to units energy ∷ notes) i k some = named-fixed p notes i k some
-named-fixed p (End ticks run idle ∷ notes) i k some = named-fixed p notes i k some
 named-fixed p (Done at_end j zero used ∷ notes) i k some =
     let other : (nat_eq j i && nat_eq 0 k) ≡ false = grind (arith, nat_tests, some) in
     rw other (named-fixed p notes i k some)
@@ -29,6 +24,7 @@ named-fixed p (Done at_end j (suc l) used ∷ notes) i k some = go (nat_eq j i &
         (λ n. n - 2 * p.machine.charge) (option_or (if b then Some used else None) (first_end notes i k))
     go true ih = refl
     go false ih = ih
+named-fixed p (n ∷ notes) i k some = named-fixed p notes i k some
 
 -- the list that notes fix has the demands that they fix
 pub fixed-demand : (p : Plan) → HasFixedDemands p

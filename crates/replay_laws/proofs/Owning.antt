@@ -3,10 +3,11 @@ use Rattle.std.proofs.Common.{ℕ, List, ap, sym, subst}
 use Rattle.std.specs.List.{AllByRecursion}
 use Rattle.dvs_base.specs.declared.kind.GovernorKind.{GovernorKind}
 use Rattle.task_model.specs.DemandRows.{DemandRow}
-use Rattle.sched_model.specs.Plan.{Plan, names}
+use Rattle.sched_model.specs.Plan.{Plan}
 use Rattle.sched_model.specs.Jobs.{demand_of, IsWithin}
 use Rattle.sched_model.specs.Demand.{published}
-use Rattle.sched_model.specs.Text.{trace_text}
+use Rattle.trace_reader.specs.TraceText.{text_of_lines}
+use Rattle.done_lines.specs.RunText.{run_lines}
 use Rattle.sched_model.specs.Admission.{IsWithinLimits}
 use Rattle.governor.specs.Schedule.{ask_of}
 use Rattle.replay_laws.proofs.Alike.{IsBlind}
@@ -36,8 +37,8 @@ module _ (p : Plan) (lim : IsWithinLimits p) (ask : Asking) (blind : IsBlind p a
   }
 
 text-own : (p : Plan) → IsWithinLimits p → (kind : GovernorKind) → TextHasOwnList p kind
-text-own p lim kind ticks rows within =
-    ap (trace_text p.scheduler kind ticks (names p)) (own-notes p lim (published p kind) (blind-published p lim kind) rows within ticks)
+text-own p lim kind v ticks rows within =
+    ap (λ notes. text_of_lines (run_lines v p kind ticks notes)) (own-notes p lim (published p kind) (blind-published p lim kind) rows within ticks)
 
 -- the law of fixed demands holds for any function of the states as published demand, and for each kind of governor
 pub own-lists : (p : Plan) → IsWithinLimits p → OwnLists p

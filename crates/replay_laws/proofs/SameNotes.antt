@@ -17,7 +17,7 @@ use Rattle.sched_model.specs.Jobs.{latest, releases_at}
 use Rattle.sched_model.specs.Ticks.{Tick, exec, is_done}
 use Rattle.sched_model.specs.Schedule.{IsScheduleBy}
 use Rattle.sched_model.specs.Admission.{IsWithinLimits}
-use Rattle.sched_model.specs.Notes.{same_holder, units_of, Span, lengthened, spans_of, Piece, pieces_of, position_of, run_energy, release_notes, all_release_notes, had_by, segment_notes, pieces_notes, span_notes, energy_run, energy_idle, notes_before_end, notes_of}
+use Rattle.sched_model.specs.Notes.{same_holder, tick_units, Span, lengthened, spans_of, Piece, pieces_of, position_of, run_energy, release_notes, all_release_notes, had_by, segment_notes, pieces_notes, span_notes, energy_run, energy_idle, notes_before_end, notes_of}
 use Rattle.sched_model.proofs.JobLaws.{exec-none}
 use Rattle.sched_model.proofs.NoteLemmas.{notes-span}
 use Rattle.sched_model.proofs.PieceLemmas.{each-piece}
@@ -103,8 +103,8 @@ module _ (p : Plan) (lim : IsWithinLimits p) (dem other : ℕ → ℕ → ℕ) w
   spans-same (x ∷ past) h =
       let before : Alike p dem other past (length past) = alike-earlier p dem other x past (length (x ∷ past)) (length past) (omega arith) h in
       ap₂ (λ (b : Bool) (spans : List Span). if b
-      then record { past = past; entry = x.entry; units = units_of p past x } ∷ spans
-      else lengthened (units_of p past x) spans)
+      then record { past = past; entry = x.entry; units = tick_units p past x } ∷ spans
+      else lengthened (tick_units p past x) spans)
       (same-decision p lim dem other past before)
       (spans-same past before)
 

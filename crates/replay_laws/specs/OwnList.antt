@@ -2,6 +2,7 @@
 use Rattle.std.specs.Prelude.{◌≡◌, ◌↔◌, ◌<◌, ◌≤◌, ℕ, true, false, List, length}
 use Rattle.std.specs.List.{AllByRecursion}
 use Rattle.dvs_base.specs.declared.kind.GovernorKind.{GovernorKind}
+use Rattle.dvs_base.specs.declared.kind.Version.{Version}
 use Rattle.dvs_base.specs.declared.note.Note.{Note}
 use Rattle.dvs_base.specs.declared.note.Note.TheVariants.{Done}
 use Rattle.grid_fraction.specs.declared.Frac.{Frac}
@@ -14,7 +15,8 @@ use Rattle.sched_model.specs.Demand.{published}
 use Rattle.sched_model.specs.Schedule.{schedule_by}
 use Rattle.sched_model.specs.States.{StateOf}
 use Rattle.sched_model.specs.Notes.{notes_of}
-use Rattle.sched_model.specs.Text.{run_notes, run_text}
+use Rattle.sched_model.specs.RunNotes.{run_notes}
+use Rattle.done_lines.specs.RunText.{run_text_in}
 use Rattle.governor.specs.Schedule.{ask_of}
 use Rattle.replay_laws.specs.FixedDemands.{fixed_of, fixed_list, fixed_demand}
 
@@ -82,11 +84,12 @@ pub record HasOwnList (p : Plan) (ask : Asking) : Type 0 where
 abbrev pub own_demand : Plan → GovernorKind → (ℕ → ℕ → ℕ) → ℕ → ℕ → ℕ → ℕ
 own_demand p kind dem ticks = demand_of p (fixed_of p (run_notes p kind dem ticks))
 
--- the text of a run is that of the run for the list that its notes fix
+-- the text of a run in either version is that of the run for the list that its notes fix
 abbrev pub TextHasOwnList : Plan → GovernorKind → Type 0
 TextHasOwnList p kind =
-    (ticks : ℕ) (rows : List DemandRow) → IsWithin p (demand_of p rows)
-    → let dem = demand_of p rows in run_text p kind dem ticks ≡ run_text p kind (own_demand p kind dem ticks) ticks
+    (v : Version) (ticks : ℕ) (rows : List DemandRow) → IsWithin p (demand_of p rows)
+    → let dem = demand_of p rows in
+    run_text_in v p kind dem ticks ≡ run_text_in v p kind (own_demand p kind dem ticks) ticks
 
 -- the demand list that notes fix has the demands that they fix
 abbrev pub HasFixedDemands : Plan → Type 0

@@ -11,7 +11,7 @@ use Rattle.sched_model.specs.Ticks.{Tick, left}
 use Rattle.sched_model.specs.Priority.{allotment, key_of}
 use Rattle.sched_model.specs.Decision.{is_decision}
 use Rattle.sched_model.specs.Schedule.{entry_in_force, IsScheduleBy, next_tick, schedule_by}
-use Rattle.sched_model.specs.Notes.{Span, spans_of, lengthened, units_of, pieces_of, all_release_notes, span_notes, pieces_notes, notes_before_end, notes_of, energy_run, energy_idle}
+use Rattle.sched_model.specs.Notes.{Span, spans_of, lengthened, tick_units, pieces_of, all_release_notes, span_notes, pieces_notes, notes_before_end, notes_of, energy_run, energy_idle}
 use Rattle.sched_model.proofs.NoteLemmas.{flat_map-last}
 use Rattle.sched_model.proofs.ScheduleLemmas.{schedule_exists}
 
@@ -53,10 +53,10 @@ module _ (p : Plan) (dem : ℕ → ℕ → ℕ) (a b : List Tick → Frac) (agre
   agree-spans ask (x ∷ past) h = go (is_decision p dem past) (agree-spans ask past h.0)
     where
       go : (c : Bool) → AgreeAt (spans_of p dem past)
-          → AgreeAt (if c then record { past = past; entry = x.entry; units = units_of p past x } ∷ spans_of p dem past
-          else lengthened (units_of p past x) (spans_of p dem past))
+          → AgreeAt (if c then record { past = past; entry = x.entry; units = tick_units p past x } ∷ spans_of p dem past
+          else lengthened (tick_units p past x) (spans_of p dem past))
       go true rest = (agree ask past h.0, rest)
-      go false rest = agree-lengthened (units_of p past x) (spans_of p dem past) rest
+      go false rest = agree-lengthened (tick_units p past x) (spans_of p dem past) rest
 
   same-span : (s : Span) → a s.past ≡ b s.past → span_notes p dem a s ≡ span_notes p dem b s
   same-span s e =

@@ -10,7 +10,7 @@ use Rattle.sched_model.specs.Ticks.{Tick, share}
 use Rattle.sched_model.specs.Priority.{key_of, in_order}
 use Rattle.sched_model.specs.Decision.{is_decision}
 use Rattle.sched_model.specs.Admission.{IsWithinLimits}
-use Rattle.sched_model.specs.Notes.{units_of, Span, lengthened, spans_of}
+use Rattle.sched_model.specs.Notes.{tick_units, Span, lengthened, spans_of}
 use Rattle.sched_model.proofs.Limits.{every_period}
 use Rattle.sched_model.proofs.JobLaws.{latest_since-le, last_release-le}
 use Rattle.sched_model.proofs.OrderLemmas.{AreBelow, in_order-below}
@@ -45,7 +45,7 @@ module _ (p : Plan) (lim : IsWithinLimits p) where
       (given-held t given is b.1)
 
   -- the units of a tick are held by released jobs
-  units-held : (past : List Tick) (x : Tick) → AllByRecursion (IsHeldBefore p (suc (length past))) (units_of p past x)
+  units-held : (past : List Tick) (x : Tick) → AllByRecursion (IsHeldBefore p (suc (length past))) (tick_units p past x)
   units-held past x =
       let t = length past in
       let idle : ℕ = (point p x.entry).speed - sum_below (count p) (share x) in
@@ -75,7 +75,7 @@ module _ (p : Plan) (lim : IsWithinLimits p) where
     where
       go : (b : Bool) → AreHeldBefore (length (x ∷ past)) (spans_of p dem past)
           → AreHeldBefore (length (x ∷ past)) (if b
-          then record { past = past; entry = x.entry; units = units_of p past x } ∷ spans_of p dem past
-          else lengthened (units_of p past x) (spans_of p dem past))
+          then record { past = past; entry = x.entry; units = tick_units p past x } ∷ spans_of p dem past
+          else lengthened (tick_units p past x) (spans_of p dem past))
       go true held = (units-held past x, held)
-      go false held = held-lengthened (length (x ∷ past)) (units_of p past x) (spans_of p dem past) (units-held past x) held
+      go false held = held-lengthened (length (x ∷ past)) (tick_units p past x) (spans_of p dem past) (units-held past x) held

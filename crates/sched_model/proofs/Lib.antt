@@ -13,7 +13,6 @@ pub mod DownSets
 pub mod Allotments
 pub mod LevelSums
 pub mod Examples
-pub mod Traces
 pub mod SpeedLines
 pub mod Openings
 pub mod Limits

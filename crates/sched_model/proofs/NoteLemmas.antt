@@ -6,7 +6,7 @@ use Rattle.grid_fraction.specs.declared.Frac.{Frac}
 use Rattle.sched_model.specs.Plan.{Plan}
 use Rattle.sched_model.specs.Ticks.{Tick}
 use Rattle.sched_model.specs.Decision.{is_decision}
-use Rattle.sched_model.specs.Notes.{Span, spans_of, lengthened, units_of, span_notes, notes_before_end}
+use Rattle.sched_model.specs.Notes.{Span, spans_of, lengthened, tick_units, span_notes, notes_before_end}
 
 -- lists joined from the last element to the first one end with the list of the first element
 pub flat_map-last : {A B : Type 0} (f : A → List B) (x : A) (xs : List A) → flat_map f (reverse (x ∷ xs)) ≡ flat_map f (reverse xs) ++ f x
@@ -24,10 +24,10 @@ notes-span p dem ask ticks past s e =
 
 -- a span opens at a decision instant, and the ticks up to the next lengthen it
 pub span-opens : (p : Plan) (dem : ℕ → ℕ → ℕ) (x : Tick) (past : List Tick) → is_decision p dem past ≡ true
-    → spans_of p dem (x ∷ past) ≡ record { past = past; entry = x.entry; units = units_of p past x } ∷ spans_of p dem past
+    → spans_of p dem (x ∷ past) ≡ record { past = past; entry = x.entry; units = tick_units p past x } ∷ spans_of p dem past
 span-opens p dem x past e = rw e refl
 
 pub span-grows : (p : Plan) (dem : ℕ → ℕ → ℕ) (x : Tick) (past : List Tick) (s : Span) (before : List Tick) → is_decision p dem past ≡ false
     → spans_of p dem past ≡ s ∷ spans_of p dem before
-    → spans_of p dem (x ∷ past) ≡ record { past = s.past; entry = s.entry; units = s.units ++ units_of p past x } ∷ spans_of p dem before
-span-grows p dem x past s before e h = rw e (ap (lengthened (units_of p past x)) h)
+    → spans_of p dem (x ∷ past) ≡ record { past = s.past; entry = s.entry; units = s.units ++ tick_units p past x } ∷ spans_of p dem before
+span-grows p dem x past s before e h = rw e (ap (lengthened (tick_units p past x)) h)

@@ -13,7 +13,7 @@ use Rattle.sched_model.specs.Priority.{in_order}
 use Rattle.sched_model.specs.Demand.{published}
 use Rattle.sched_model.specs.Schedule.{schedule_by}
 use Rattle.sched_model.specs.Notes.{notes_before_end}
-use Rattle.sched_model.specs.Text.{run_notes}
+use Rattle.sched_model.specs.RunNotes.{run_notes}
 use Rattle.sched_model.proofs.Examples.{paper_example, paper_demands, light_set}
 
 abbrev is_speed_or_end : Note → Bool

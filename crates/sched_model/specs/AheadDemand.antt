@@ -57,14 +57,14 @@ abbrev pub sum_after : (n : ℕ) → (ℕ → ℕ) → (ℕ → ℕ) → ℕ →
 sum_after n key f i = sum_where n (λ j. stands_before key i j) f
 
 -- what is left of the highest speed, over H, beside the uj of the tasks before task i and the vj of those after it
-abbrev pub spare : Plan → (ℕ → ℕ) → (ℕ → ℕ) → ℕ → ℕ
-spare p due v i = top_speed p * hyper p - sum_before (count p) due (rate p) i - sum_after (count p) due v i
+abbrev pub speed_left : Plan → (ℕ → ℕ) → (ℕ → ℕ) → ℕ → ℕ
+speed_left p due v i = top_speed p * hyper p - sum_before (count p) due (rate p) i - sum_after (count p) due v i
 
 -- y are the yi and v the vi. A task with the earliest deadline puts off none and keeps its rate. Another task puts off
 -- as many units as the highest speed has room for, and its rate is what they then need.
 pub record IsSpread (p : Plan) (due left y v : ℕ → ℕ) : Type 0 where
   pub put : (i : ℕ) → i < count p
-      → y i ≡ (if nat_eq (slack p due i) 0 then 0 else min (left i) (spare p due v i * slack p due i / hyper p))
+      → y i ≡ (if nat_eq (slack p due i) 0 then 0 else min (left i) (speed_left p due v i * slack p due i / hyper p))
   pub needs : (i : ℕ) → i < count p
       → v i ≡ (if nat_eq (slack p due i) 0 then rate p i else ceil_div (y i * hyper p) (slack p due i))
 

@@ -36,12 +36,12 @@ pub record SinceRelease : Type 0 where
   pub done : ℕ → Bool
 
 -- the (N-r)*fs units that are allotted at r
-abbrev pub units_of : Plan → SinceRelease → ℕ
-units_of p v = (v.first - v.mark) * static_speed p
+abbrev pub units_at_mark : Plan → SinceRelease → ℕ
+units_at_mark p v = (v.first - v.mark) * static_speed p
 
 -- the units that task i gets when the (N-r)*fs units are handed out in RM order
 abbrev pub allotted_of : Plan → SinceRelease → ℕ → ℕ
-allotted_of p v i = allotment (count p) (period p) (units_of p v) v.base i
+allotted_of p v i = allotment (count p) (period p) (units_at_mark p v) v.base i
 
 -- di, what is left of the allotment of task i; 0 where its job is complete
 abbrev pub allotment_left_of : Plan → SinceRelease → ℕ → ℕ

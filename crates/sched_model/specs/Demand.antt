@@ -1,5 +1,5 @@
 -- The published demand of each pair of a scheduler and a governor: a fraction of units per tick, not reduced.
-use Rattle.std.specs.Prelude.{ℕ, List}
+use Rattle.std.specs.Prelude.{◌≢◌, ℕ, List}
 use Rattle.dvs_base.specs.declared.kind.Scheduler.{Scheduler}
 use Rattle.dvs_base.specs.declared.kind.Scheduler.TheVariants.{Edf, Rm}
 use Rattle.dvs_base.specs.declared.kind.GovernorKind.{GovernorKind}
@@ -25,3 +25,7 @@ demand_by Rm Ahead p dem past = full_demand p
 -- the published demand under a governor of kind g at the tick after `past`
 unfoldable pub published : Plan → GovernorKind → (ℕ → ℕ → ℕ) → List Tick → Frac
 published p g dem past = demand_by p.scheduler g p dem past
+
+-- a kind whose published demand some entry meets at each decision: each kind but look-ahead
+abbrev pub IsAlwaysMet : GovernorKind → Type 0
+IsAlwaysMet kind = kind ≢ Ahead

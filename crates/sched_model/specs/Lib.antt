@@ -11,7 +11,7 @@ pub mod Demand
 pub mod Schedule
 pub mod Notes
 pub mod Totals
-pub mod Text
+pub mod RunNotes
 pub mod Backlog
 pub mod States
 pub mod Admission

@@ -106,8 +106,8 @@ energy_idle (Idle from to units energy) = energy
 energy_idle _ = 0
 
 -- the units of the tick x: each task's in priority order, then the idle ones
-abbrev pub units_of : Plan → List Tick → Tick → List Holder
-units_of p past x =
+abbrev pub tick_units : Plan → List Tick → Tick → List Holder
+tick_units p past x =
     let t = length past in
     flat_map (λ i. replicate (share x i) (Held i (latest p i t))) (in_order (key_of p.scheduler p t) (count p))
     ++ replicate ((point p x.entry).speed - sum_below (count p) (share x)) Nobody
@@ -122,8 +122,8 @@ abbrev pub spans_of : Plan → (ℕ → ℕ → ℕ) → List Tick → List Span
 spans_of p dem [] = []
 spans_of p dem (x ∷ past) =
     if is_decision p dem past
-    then record { past = past; entry = x.entry; units = units_of p past x } ∷ spans_of p dem past
-    else lengthened (units_of p past x) (spans_of p dem past)
+    then record { past = past; entry = x.entry; units = tick_units p past x } ∷ spans_of p dem past
+    else lengthened (tick_units p past x) (spans_of p dem past)
 
 -- the notes of a list of ticks without the end
 unfoldable pub notes_before_end : Plan → (ℕ → ℕ → ℕ) → (List Tick → Frac) → List Tick → List Note

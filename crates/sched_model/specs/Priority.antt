@@ -1,5 +1,5 @@
 -- The order of the tasks at a tick, and the legal share of a tick.
-use Rattle.std.specs.Prelude.{ℕ, Bool, ◌||◌, ◌&&◌, nat_eq, nat_lt, List, [], ◌∷◌, if◌then◌else◌, zero, suc, ◌+◌, ◌<◌, ◌≡◌, min, ◌-◌, length}
+use Rattle.std.specs.Prelude.{ℕ, Bool, ◌||◌, ◌&&◌, nat_eq, nat_lt, List, [], ◌∷◌, if◌then◌else◌, zero, suc, ◌+◌, ◌<◌, ◌≡◌, min, ◌-◌, length, Option, Some, None}
 use Rattle.dvs_base.specs.declared.kind.Scheduler.{Scheduler}
 use Rattle.dvs_base.specs.declared.kind.Scheduler.TheVariants.{Edf, Rm}
 use Rattle.grid_fraction.specs.Numbers.{sum_where}
@@ -10,6 +10,11 @@ use Rattle.sched_model.specs.Ticks.{Tick, share, left}
 -- whether task j comes before task i: by the key, and among equal keys by the number
 abbrev pub stands_before : (ℕ → ℕ) → ℕ → ℕ → Bool
 stands_before key j i = nat_lt (key j) (key i) || (nat_eq (key j) (key i) && nat_lt j i)
+
+-- the earlier by the key of task i and another; task i where there is no other
+abbrev pub earlier_of : (ℕ → ℕ) → Option ℕ → ℕ → ℕ
+earlier_of key None i = i
+earlier_of key (Some k) i = if stands_before key i k then i else k
 
 -- a list in the order of the key, with i put into its place
 abbrev pub insert_by : (ℕ → ℕ) → ℕ → List ℕ → List ℕ

@@ -20,7 +20,7 @@ use Rattle.sched_model.specs.Ticks.{Tick, exec, is_complete, wleft}
 use Rattle.sched_model.specs.Priority.{in_order}
 use Rattle.sched_model.specs.Tests.{total_rate}
 use Rattle.sched_model.specs.StaticDemand.{heaviest, full_demand, static_speed, rm_static}
-use Rattle.sched_model.specs.CycleDemand.{rate_for, charged, SinceRelease, units_of, allotted_of, allotment_left_of, since_release, edf_cycle, rm_cycle}
+use Rattle.sched_model.specs.CycleDemand.{rate_for, charged, SinceRelease, units_at_mark, allotted_of, allotment_left_of, since_release, edf_cycle, rm_cycle}
 use Rattle.sched_model.specs.AheadDemand.{due_first, edf_ahead}
 use Rattle.sched_model.specs.Demand.{demand_by, published}
 use Rattle.sched_model.specs.Admission.{IsAdmitted}
@@ -99,10 +99,10 @@ module _ (p : Plan) (adm : IsAdmitted p) (dem : ℕ → ℕ → ℕ) (within : I
         deadline-soon p adm.limits 0 t some_task,
       )
 
-  allotted-most : (v : SinceRelease) (i : ℕ) → allotment_left_of p v i ≤ units_of p v
+  allotted-most : (v : SinceRelease) (i : ℕ) → allotment_left_of p v i ≤ units_at_mark p v
   allotted-most v i = go (v.done i)
     where
-      go : (b : Bool) → (if b then 0 else allotted_of p v i - v.had i) ≤ units_of p v
+      go : (b : Bool) → (if b then 0 else allotted_of p v i - v.had i) ≤ units_at_mark p v
       go true = omega arith
       go false = omega arith
 
@@ -114,14 +114,14 @@ module _ (p : Plan) (adm : IsAdmitted p) (dem : ℕ → ℕ → ℕ) (within : I
       let entry = lowest_within p.machine (rm_static p) adm.limits.machine.some in
       let speed : static_speed p ≤ TOP_SPEED = low_speed (lowest_entry p.machine (rm_static p)) entry in
       let since : v.first - v.mark ≤ 2 ^ 41 = omega (arith, soon) in
-      let units : units_of p v ≤ 2 ^ 41 * TOP_SPEED = mul-le-mul since speed in
+      let units : units_at_mark p v ≤ 2 ^ 41 * TOP_SPEED = mul-le-mul since speed in
       record {
         num =
             omega (
               arith,
-              sum_below-limit (count p) (units_of p v) (allotment_left_of p v) (λ i lt. allotted-most v i),
+              sum_below-limit (count p) (units_at_mark p v) (allotment_left_of p v) (λ i lt. allotted-most v i),
               units,
-              mul-le-mul_right (units_of p v) few_tasks,
+              mul-le-mul_right (units_at_mark p v) few_tasks,
             );
         den = omega (arith, soon);
       }

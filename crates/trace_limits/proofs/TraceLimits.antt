@@ -7,9 +7,8 @@ use Rattle.std.proofs.lemmas.List.Elements.{All-from_recursion}
 use Rattle.std.proofs.lemmas.List.Sums.{sum_by-le}
 use Rattle.dvs_base.specs.declared.kind.GovernorKind.{GovernorKind}
 use Rattle.dvs_base.specs.declared.kind.Version.{Version}
-use Rattle.dvs_base.specs.declared.kind.Version.TheVariants.{One, Two}
 use Rattle.dvs_base.specs.declared.note.Note.{Note}
-use Rattle.dvs_base.specs.declared.note.Note.TheVariants.{Release, Speed, Run, Idle, Done, End}
+use Rattle.dvs_base.specs.declared.note.Note.TheVariants.{Run, End}
 use Rattle.dvs_base.specs.declared.limits.TheConstants.{MOST_LINES}
 use Rattle.dvs_base.specs.Parts.{name_of}
 use Rattle.task_model.specs.declared.limits.TheConstants.{MOST_TASKS}
@@ -23,8 +22,9 @@ use Rattle.sched_model.specs.Schedule.{schedule, IsScheduleBy}
 use Rattle.sched_model.specs.Ticks.{Tick}
 use Rattle.sched_model.proofs.ScheduleLemmas.{length-list_below, schedule_exists}
 use Rattle.trace_text.proofs.PlainLines.{each-append}
-use Rattle.trace_reader.specs.TraceText.{task_text, run_energy_of, energy_of_task}
-use Rattle.trace_reader.specs.Traces.{IsNoteOf, is_end, IsEnded, HasShares, lines_for_tasks, IsTrace}
+use Rattle.dvs_base.specs.NoteTasks.{energy_of_task}
+use Rattle.trace_reader.specs.TraceText.{task_text, task_energy, has_task_lines}
+use Rattle.trace_reader.specs.Traces.{IsNoteOf, is_end, IsEnded, lines_for_tasks, IsTrace}
 use Rattle.done_lines.specs.RunText.{task_texts}
 use Rattle.sched_model.proofs.HeldUnits.{each-weaker}
 use Rattle.done_lines.proofs.OneEnd.{EndsOnce, schedule-ended}
@@ -40,17 +40,13 @@ once-ended (n ∷ []) once = once
 once-ended (n ∷ m ∷ notes) once = (once.0, once-ended (m ∷ notes) once.1)
 
 -- the energy that a note adds to one task is at most that of its run
-own-most : (i : ℕ) (n : Note) → run_energy_of i n ≤ energy_run n
+own-most : (i : ℕ) (n : Note) → energy_of_task i n ≤ energy_run n
 own-most i (Run from to j k units energy) = go (nat_eq j i)
   where
     go : (b : Bool) → (if b then energy else 0) ≤ energy
     go true = omega arith
     go false = omega arith
-own-most i (Release t j k) = omega arith
-own-most i (Speed t f num den) = omega arith
-own-most i (Idle from to units energy) = omega arith
-own-most i (Done q j k used) = omega arith
-own-most i (End t run idle) = omega arith
+own-most i _ = omega arith
 
 -- the most notes of a trace: the most lines without the first two and without two for each task
 abbrev most_notes : ℕ
@@ -111,11 +107,11 @@ module _ (v : Version) (p : Plan) (g : GovernorKind) (dem : JobDemands) (ticks :
       sum-low energy_idle notes few-before
       (each-weaker (IsLowNote p) (λ n. energy_idle n ≤ most_energy) (λ n h. h.2) notes each-low)
 
-  shares-low : (i : ℕ) → energy_of_task (notes ++ last ∷ []) i < 2 ^ 128
+  shares-low : (i : ℕ) → task_energy (notes ++ last ∷ []) i < 2 ^ 128
   shares-low i =
-      sum-low (run_energy_of i) (notes ++ last ∷ []) few-lines
-      (each-append (λ n. run_energy_of i n ≤ most_energy) notes (last ∷ [])
-      (each-weaker (IsLowNote p) (λ n. run_energy_of i n ≤ most_energy) (λ n h. omega (arith, own-most i n, h.1)) notes
+      sum-low (energy_of_task i) (notes ++ last ∷ []) few-lines
+      (each-append (λ n. energy_of_task i n ≤ most_energy) notes (last ∷ [])
+      (each-weaker (IsLowNote p) (λ n. energy_of_task i n ≤ most_energy) (λ n h. omega (arith, own-most i n, h.1)) notes
       each-low)
       (omega arith, tt))
 
@@ -125,13 +121,12 @@ module _ (v : Version) (p : Plan) (g : GovernorKind) (dem : JobDemands) (ticks :
   listed : length (task_texts p) ≡ count p
   listed = length-list_below (count p) (λ i. task_text (name_of (names p) i) (period p i) (offset p i) (task p i).worst)
 
-  lines-low : (w : Version) → lines_for_tasks w (length (names p)) (length (task_texts p)) ≤ 2 * MOST_TASKS
-  lines-low One = omega arith
-  lines-low Two = omega (arith, named, listed, adm.limits.tasks.few)
-
-  shared : (w : Version) → HasShares w (length (names p)) (notes ++ last ∷ [])
-  shared One = tt
-  shared Two = λ i lt. shares-low i
+  lines-low : lines_for_tasks v (length (names p)) (length (task_texts p)) ≤ 2 * MOST_TASKS
+  lines-low = by (has_task_lines v)
+    where
+      by : (b : Bool) → (if b then length (task_texts p) + length (names p) else 0) ≤ 2 * MOST_TASKS
+      by true = omega (arith, named, listed, adm.limits.tasks.few)
+      by false = omega arith
 
   -- the trace of the run, in either version, is within the limits of traces
   trace-fits : IsTrace (names p) (task_texts p) (trace_of_run v p g dem ticks)
@@ -147,8 +142,8 @@ module _ (v : Version) (p : Plan) (g : GovernorKind) (dem : JobDemands) (ticks :
     ended =
         once-ended (notes ++ last ∷ [])
         (schedule-ended p adm.limits dem (published p g dem) past);
-    shares = shared v;
-    lines = omega (arith, lines-low v, few-lines);
+    shares = λ _ i lt. shares-low i;
+    lines = omega (arith, lines-low, few-lines);
   }
 
 -- every run of an admitted plan within the limits has a trace

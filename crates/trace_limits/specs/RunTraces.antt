@@ -6,7 +6,7 @@ use Rattle.dvs_base.specs.declared.limits.TheConstants.{MOST_JOBS, MOST_TICKS}
 use Rattle.dvs_base.specs.PlanWords.{is_pair}
 use Rattle.sched_model.specs.Plan.{Plan, names}
 use Rattle.sched_model.specs.Jobs.{released_jobs, JobDemands, IsWithin}
-use Rattle.sched_model.specs.Text.{run_notes}
+use Rattle.sched_model.specs.RunNotes.{run_notes}
 use Rattle.done_lines.specs.RunText.{task_texts}
 use Rattle.trace_reader.specs.Traces.{TraceOf, IsTrace}
 

@@ -1,5 +1,5 @@
 -- A field that is read is the text of its value, and the text of any value is read.
-use Rattle.std.proofs.Common.{◌≡◌, ◌≢◌, ℕ, ◌+◌, ◌^◌, ◌<◌, Bool, true, false, List, [], ◌∷◌, ◌++◌, length, get_or, Option, Some, None, Result, Ok, Err, refl, sym, ap, ap₂, subst, ◌∙◌, append_assoc, arith}
+use Rattle.std.proofs.Common.{◌≡◌, ◌≢◌, ℕ, ◌+◌, ◌^◌, ◌<◌, Bool, true, false, List, [], ◌∷◌, ◌++◌, length, get_or, Option, Some, None, Result, Ok, Err, refl, sym, ap, ap₂, subst, ◌∙◌, append_assoc, arith, if◌then◌else◌}
 use Rattle.std.specs.Prelude.{nat_lt, position, decimal, codes}
 use Rattle.std.specs.List.{AllPairs, join_with_byte, position_or_len}
 use Rattle.std.specs.Option.{ok_or}
@@ -11,12 +11,13 @@ use Rattle.std.proofs.lemmas.List.Splits.{join_with_byte-slice_split}
 use Rattle.std.proofs.lemmas.Slice.Eq.{bytes_eq-Decides}
 use Rattle.std.proofs.lemmas.Option.{same_Some}
 use Rattle.dvs_base.specs.Text.{number_below}
-use Rattle.dvs_base.specs.Parts.{position_text, fraction_text, name_of}
+use Rattle.dvs_base.specs.Parts.{position_text, fraction_text, name_of, two_of}
 use Rattle.dvs_base.specs.declared.note.Pos.{Pos}
 use Rattle.dvs_base.proofs.Spelled.{number_below-decimal, number_below-found}
+use Rattle.dvs_base.specs.Checks.{◌>>=◌}
 use Rattle.trace_reader.specs.declared.trace.TraceKind.{TraceKind}
 use Rattle.trace_reader.specs.declared.trace.TraceKind.TheVariants as kind
-use Rattle.trace_reader.specs.Fields.{◌>>=◌, parts, two_of, whole_in, wide_in, position_in, fraction_in, task_in}
+use Rattle.trace_reader.specs.Fields.{parts, whole_in, wide_in, position_in, fraction_in, task_in}
 use Rattle.trace_reader.specs.Traces.{IsPlace}
 use Rattle.trace_reader.proofs.Plain.{lacks-decimal, parts-first, parts-alone}
 
@@ -24,6 +25,16 @@ use Rattle.trace_reader.proofs.Plain.{lacks-decimal, parts-first, parts-alone}
 pub step-ok : {A B F : Type 0} (r : Result A F) (f : A → Result B F) (y : B) → (r >>= f) ≡ Ok y → (x : A) × (r ≡ Ok x) × (f x ≡ Ok y)
 step-ok (Ok x) f y e = (x, refl, e)
 step-ok (Err d) f y e = absurd cc
+
+-- where a choice between a result and an error gives a value, the result did
+pub if-ok : {A F : Type 0} (b : Bool) (r : Result A F) (k : F) (x : A) → (if b then r else Err k) ≡ Ok x → (b ≡ true) × (r ≡ Ok x)
+if-ok true r k x e = (refl, e)
+if-ok false r k x e = absurd cc
+
+-- where a sequence of two steps gives a value, and the first of them gives only values with a property, it gave one
+pub read-step : {A B F : Type 0} {P : A → Type 0} {r : Result A F} {f : A → Result B F} {y : B} → ((x : A) → r ≡ Ok x → P x) → (r >>= f) ≡ Ok y
+    → (x : A) × P x × (f x ≡ Ok y)
+read-step {r = r} {f = f} {y = y} found e = let s = step-ok r f y e in (s.0, found s.0 s.1, s.2)
 
 abbrev done : {A F : Type 0} → A → Result A F
 done x = Ok x
@@ -49,10 +60,8 @@ wide_in-found field n e = number_below-found (2 ^ 128) field n (omega arith) (ok
 
 -- a list that has two parts is the list of both
 pub two-is : (ps : List (List ℕ)) (p : List ℕ × List ℕ) → two_of ps ≡ Some p → ps ≡ p.0 ∷ p.1 ∷ []
-two-is [] p e = absurd cc
-two-is (a ∷ []) p e = absurd cc
 two-is (a ∷ b ∷ []) p e = subst (λ (q : List ℕ × List ℕ). a ∷ b ∷ [] ≡ q.0 ∷ q.1 ∷ []) (same_Some (a, b) p e) refl
-two-is (a ∷ b ∷ c ∷ ps) p e = absurd cc
+two-is _ p e = absurd cc
 
 -- a field that has two parts is both with the byte between them
 two-joined : (byte : ℕ) (field a b : List ℕ) → two_of (parts byte field) ≡ Some (a, b) → field ≡ a ++ byte ∷ b
@@ -80,14 +89,13 @@ pub position_in-found : (field : List ℕ) (q : Pos) → position_in field ≡ O
 unfolding position_in
 position_in-found field q e =
     let a = step-ok _ _ q e in
-    let b = step-ok _ _ q a.2 in
-    let c = step-ok _ _ q b.2 in
-    let tick = whole_in-found a.0.0 b.0 b.1 in
-    let offset = whole_in-found a.0.1 c.0 c.1 in
-    let made : Pos = record { tick = b.0; offset = c.0 } in
+    let tick = read-step (whole_in-found a.0.0) a.2 in
+    let offset = read-step (whole_in-found a.0.1) tick.2 in
+    let made : Pos = record { tick = tick.0; offset = offset.0 } in
     let joined : field ≡ a.0.0 ++ 58 ∷ a.0.1 = two-joined 58 field a.0.0 a.0.1 (ok_or-ok (two_of (parts 58 field)) kind.Number a.0 a.1) in
-    let text : field ≡ position_text made = joined ∙ (ap₂ (λ x y. x ++ 58 ∷ y) tick.0 offset.0 ∙ sym (append_assoc (decimal b.0) (codes ":") (decimal c.0))) in
-    subst (λ (r : Pos). (field ≡ position_text r) × IsPlace r) (ok-is {F = TraceKind} made q c.2) (text, (tick.1, offset.1))
+    let text : field ≡ position_text made =
+    joined ∙ (ap₂ (λ x y. x ++ 58 ∷ y) tick.1.0 offset.1.0 ∙ sym (append_assoc (decimal tick.0) (codes ":") (decimal offset.0))) in
+    subst (λ (r : Pos). (field ≡ position_text r) × IsPlace r) (ok-is {F = TraceKind} made q offset.2) (text, (tick.1.1, offset.1.1))
 
 pub fraction_in-text : (num den : ℕ) → num < 2 ^ 128 → den < 2 ^ 128 → fraction_in (fraction_text num den) ≡ Ok (num, den)
 unfolding fraction_in
@@ -99,14 +107,13 @@ pub fraction_in-found : (field : List ℕ) (d : ℕ × ℕ) → fraction_in fiel
 unfolding fraction_in
 fraction_in-found field d e =
     let a = step-ok _ _ d e in
-    let b = step-ok _ _ d a.2 in
-    let c = step-ok _ _ d b.2 in
-    let num = wide_in-found a.0.0 b.0 b.1 in
-    let den = wide_in-found a.0.1 c.0 c.1 in
-    let made : ℕ × ℕ = (b.0, c.0) in
+    let num = read-step (wide_in-found a.0.0) a.2 in
+    let den = read-step (wide_in-found a.0.1) num.2 in
+    let made : ℕ × ℕ = (num.0, den.0) in
     let joined : field ≡ a.0.0 ++ 47 ∷ a.0.1 = two-joined 47 field a.0.0 a.0.1 (ok_or-ok (two_of (parts 47 field)) kind.Number a.0 a.1) in
-    let text : field ≡ fraction_text b.0 c.0 = joined ∙ (ap₂ (λ x y. x ++ 47 ∷ y) num.0 den.0 ∙ sym (append_assoc (decimal b.0) (codes "/") (decimal c.0))) in
-    subst (λ (r : ℕ × ℕ). (field ≡ fraction_text r.0 r.1) × (r.0 < 2 ^ 128) × (r.1 < 2 ^ 128)) (ok-is {F = TraceKind} made d c.2) (text, num.1, den.1)
+    let text : field ≡ fraction_text num.0 den.0 =
+    joined ∙ (ap₂ (λ x y. x ++ 47 ∷ y) num.1.0 den.1.0 ∙ sym (append_assoc (decimal num.0) (codes "/") (decimal den.0))) in
+    subst (λ (r : ℕ × ℕ). (field ≡ fraction_text r.0 r.1) × (r.0 < 2 ^ 128) × (r.1 < 2 ^ 128)) (ok-is {F = TraceKind} made d den.2) (text, num.1.1, den.1.1)
 
 -- no two tasks have one name
 abbrev pub AreApart : List (List ℕ) → Type 0

@@ -1,13 +1,14 @@
 -- The lines before the notes: a line that is read is its value's text, and that text is read.
-use Rattle.std.proofs.Common.{◌≡◌, ◌≢◌, ◌⊎◌, inl, inr, ℕ, suc, ◌+◌, ◌^◌, ◌<◌, ◌≤◌, Bool, true, false, ◌&&◌, List, [], ◌∷◌, ◌++◌, length, Option, Some, None, Ok, Err, refl, sym, ap, ap₂, subst, ◌∙◌, append_assoc, arith, if◌then◌else◌}
+use Rattle.std.proofs.Common.{◌≡◌, ◌⊎◌, inl, inr, ℕ, suc, ◌+◌, ◌^◌, ◌≤◌, Bool, true, false, ◌&&◌, List, [], ◌∷◌, ◌++◌, length, Option, Some, None, Ok, Err, refl, sym, ap, ap₂, subst, ◌∙◌, append_assoc, arith, if◌then◌else◌}
 use Rattle.std.specs.Prelude.{nat_le, decimal, codes}
-use Rattle.std.specs.List.{AllByRecursion, join_with_byte, list_all}
+use Rattle.std.specs.List.{AllByRecursion, join_with_byte}
 use Rattle.std.specs.Str.{bytes_eq}
 use Rattle.std.proofs.lemmas.Bool.Decides.{nat_tests}
 use Rattle.std.proofs.lemmas.Option.{same_Some}
 use Rattle.std.proofs.lemmas.Slice.Eq.{bytes_eq-Decides}
 use Rattle.dvs_base.specs.Text.{number_below}
-use Rattle.trace_text.specs.TraceLines.{scheduler_word, governor_word, line, plan_text}
+use Rattle.trace_text.specs.TraceLines.{scheduler_word, governor_word, line, plan_fields, plan_text}
+use Rattle.trace_text.proofs.PlainLines.{ArePlain, plain-name}
 use Rattle.dvs_base.specs.PlanWords.{scheduler_of, governor_of, ticks_from, ticks_of, is_pair}
 use Rattle.dvs_base.specs.Parts.{joined}
 use Rattle.trace_reader.specs.TraceText.{version_line}
@@ -27,13 +28,14 @@ use Rattle.trace_reader.specs.declared.trace.TraceFault.TheVariants.{Refused}
 use Rattle.trace_reader.specs.declared.trace.TraceKind.{TraceKind}
 use Rattle.trace_reader.specs.declared.trace.TraceKind.TheVariants as kind
 use Rattle.trace_reader.specs.Fields.{parts, four_of}
-use Rattle.trace_reader.specs.Heads.{line_at, version_of, plan_of, tasks_from, lines_of_tasks}
+use Rattle.trace_reader.specs.Heads.{line_at, version_in, plan_line_of, parts_after_tasks, version_task_lines}
 use Rattle.trace_reader.specs.Traces.{task_lines}
 use Rattle.trace_reader.proofs.Lined.{spaced, line-spaced}
-use Rattle.trace_reader.proofs.Plain.{Lacks, lacks-all, lacks-decimal, lacks-name, lacks-spaced, length-decimal, parts-joined}
-use Rattle.trace_reader.proofs.FieldTexts.{step-ok, ok-is, ok_or-ok}
+use Rattle.trace_reader.proofs.Plain.{Lacks, lacks-plain, lacks-spaced, length-decimal, parts-joined}
+use Rattle.trace_reader.proofs.FieldTexts.{step-ok, read-step, if-ok, ok-is, ok_or-ok}
 use Rattle.trace_reader.proofs.ItemTexts.{four-is}
-use Rattle.trace_reader.proofs.LineTexts.{is_letter, AreNames, line_at-found, line_at-text, join-line, join-spaced, length-spaced}
+use Rattle.trace_reader.proofs.LineTexts.{AreNames, line_at-found, line_at-text, read-line, join-line, join-spaced, length-spaced}
+use Rattle.trace_reader.proofs.SplitLines.{plain-plan, plain-task}
 
 -- the second version is not above the first
 abbrev pub IsUpTo : Version → Version → Type 0
@@ -56,14 +58,11 @@ either-is true b x y v e = inl (refl, ok-is {F = TraceKind} x v e)
 either-is false true x y v e = inr (refl, ok-is {F = TraceKind} y v e)
 either-is false false x y v e = absurd cc
 
-one-is : (a : Bool) (x v : Version) → (if a then Ok x else Err kind.Version) ≡ Ok v → (a ≡ true) × (x ≡ v)
-one-is true x v e = (refl, ok-is {F = TraceKind} x v e)
-one-is false x v e = absurd cc
-
-pub version-found : (newest v : Version) (text : List ℕ) → version_of newest text ≡ Ok v → (text ≡ version_body v) × IsUpTo newest v
+pub version-found : (newest v : Version) (text : List ℕ) → version_in newest text ≡ Ok v → (text ≡ version_body v) × IsUpTo newest v
 version-found One v text e =
-    let found = one-is (bytes_eq text (codes "trace 1")) One v e in
-    subst (λ (w : Version). (text ≡ version_body w) × IsUpTo One w) found.1 ((bytes_eq-Decides text (codes "trace 1")).0 found.0, tt)
+    let found = if-ok (bytes_eq text (codes "trace 1")) (Ok One) kind.Version v e in
+    subst (λ (w : Version). (text ≡ version_body w) × IsUpTo One w) (ok-is {F = TraceKind} One v found.1)
+    ((bytes_eq-Decides text (codes "trace 1")).0 found.0, tt)
 version-found Two v text e = by (either-is (bytes_eq text (codes "trace 1")) (bytes_eq text (codes "trace 2")) One Two v e)
   where
     by : ((bytes_eq text (codes "trace 1") ≡ true) × (One ≡ v)) ⊎ ((bytes_eq text (codes "trace 2") ≡ true) × (Two ≡ v))
@@ -71,7 +70,7 @@ version-found Two v text e = by (either-is (bytes_eq text (codes "trace 1")) (by
     by (inl h) = subst (λ (w : Version). (text ≡ version_body w) × IsUpTo Two w) h.1 ((bytes_eq-Decides text (codes "trace 1")).0 h.0, tt)
     by (inr h) = subst (λ (w : Version). (text ≡ version_body w) × IsUpTo Two w) h.1 ((bytes_eq-Decides text (codes "trace 2")).0 h.0, tt)
 
-pub version-text : (newest v : Version) → IsUpTo newest v → version_of newest (version_body v) ≡ Ok v
+pub version-text : (newest v : Version) → IsUpTo newest v → version_in newest (version_body v) ≡ Ok v
 version-text One One h = refl
 version-text One Two h = absurd h
 version-text Two One h = refl
@@ -81,35 +80,29 @@ pub version-line : (v : Version) → version_line v ≡ version_body v ++ 10 ∷
 version-line One = refl
 version-line Two = refl
 
-scheduler-word : (word : List ℕ) (s : Scheduler) → scheduler_of word ≡ Some s → word ≡ scheduler_word s
-scheduler-word word s e = by (bytes_eq word (codes "edf")) (bytes_eq word (codes "rm")) refl refl e
+-- where a word is read as a value by its text, or else by what follows, it is the value's text if that is so of what follows
+word-else : {A : Type 0} (text : A → List ℕ) (word : List ℕ) (x y : A) (rest : Option A) → (rest ≡ Some y → word ≡ text y)
+    → (if bytes_eq word (text x) then Some x else rest) ≡ Some y → word ≡ text y
+word-else text word x y rest later e = by (bytes_eq word (text x)) refl e
   where
-    by : (a b : Bool) → bytes_eq word (codes "edf") ≡ a → bytes_eq word (codes "rm") ≡ b
-        → (if a then Some Edf else (if b then Some Rm else None)) ≡ Some s → word ≡ scheduler_word s
-    by true b p q f = (bytes_eq-Decides word (codes "edf")).0 p ∙ ap scheduler_word (same_Some Edf s f)
-    by false true p q f = (bytes_eq-Decides word (codes "rm")).0 q ∙ ap scheduler_word (same_Some Rm s f)
-    by false false p q f = absurd cc
+    by : (b : Bool) → bytes_eq word (text x) ≡ b → (if b then Some x else rest) ≡ Some y → word ≡ text y
+    by true same e = (bytes_eq-Decides word (text x)).0 same ∙ ap text (same_Some x y e)
+    by false other e = later e
+
+scheduler-word : (word : List ℕ) (s : Scheduler) → scheduler_of word ≡ Some s → word ≡ scheduler_word s
+scheduler-word word s = word-else scheduler_word word Edf s _ (word-else scheduler_word word Rm s _ (λ e. absurd cc))
 
 governor-word : (word : List ℕ) (g : GovernorKind) → governor_of word ≡ Some g → word ≡ governor_word g
-governor-word word g e = by (bytes_eq word (codes "none")) (bytes_eq word (codes "static")) (bytes_eq word (codes "cc"))
-    (bytes_eq word (codes "la")) refl refl refl refl e
-  where
-    by : (a b c d : Bool) → bytes_eq word (codes "none") ≡ a → bytes_eq word (codes "static") ≡ b → bytes_eq word (codes "cc") ≡ c
-        → bytes_eq word (codes "la") ≡ d
-        → (if a then Some Plain else (if b then Some Fixed else (if c then Some Cycle else (if d then Some Ahead else None)))) ≡ Some g → word ≡ governor_word g
-    by true b c d p q r t f = (bytes_eq-Decides word (codes "none")).0 p ∙ ap governor_word (same_Some Plain g f)
-    by false true c d p q r t f = (bytes_eq-Decides word (codes "static")).0 q ∙ ap governor_word (same_Some Fixed g f)
-    by false false true d p q r t f = (bytes_eq-Decides word (codes "cc")).0 r ∙ ap governor_word (same_Some Cycle g f)
-    by false false false true p q r t f = (bytes_eq-Decides word (codes "la")).0 t ∙ ap governor_word (same_Some Ahead g f)
-    by false false false false p q r t f = absurd cc
+governor-word word g =
+    word-else governor_word word Plain g _ (word-else governor_word word Fixed g _
+    (word-else governor_word word Cycle g _ (word-else governor_word word Ahead g _ (λ e. absurd cc))))
 
 ticks-word : (word : List ℕ) (n : ℕ) → ticks_of word ≡ Some n → (word ≡ decimal n) × (1 ≤ n) × (n ≤ MOST_TICKS)
 ticks-word word n e = by (number_below (2 ^ 64) word) refl e
   where
     choice : (m : ℕ) (a b : Bool) → nat_le 1 m ≡ a → nat_le m MOST_TICKS ≡ b → (if a && b then Some m else None) ≡ Some n → (1 ≤ m) × (m ≤ MOST_TICKS) × (m ≡ n)
     choice m true true p q f = (grind (arith, nat_tests), grind (arith, nat_tests), same_Some m n f)
-    choice m true false p q f = absurd cc
-    choice m false b p q f = absurd cc
+    choice m _ _ p q f = absurd cc
 
     by : (o : Option ℕ) → number_below (2 ^ 64) word ≡ o → ticks_from o ≡ Some n → (word ≡ decimal n) × (1 ≤ n) × (n ≤ MOST_TICKS)
     by None p f = absurd cc
@@ -124,35 +117,28 @@ pub record IsPlan (plan : PlanLine) : Type 0 where
   pub some : 1 ≤ plan.ticks
   pub low : plan.ticks ≤ MOST_TICKS
 
-abbrev pub plan_fields : PlanLine → List (List ℕ)
-plan_fields plan = codes "plan" ∷ scheduler_word plan.scheduler ∷ governor_word plan.governor ∷ decimal plan.ticks ∷ []
-
 made-plan : (word pair : Bool) (made plan : PlanLine) → (if word && pair then Ok made else Err kind.Plan) ≡ Ok plan
     → (word ≡ true) × (pair ≡ true) × (made ≡ plan)
 made-plan true true made plan e = (refl, refl, ok-is {F = TraceKind} made plan e)
-made-plan true false made plan e = absurd cc
-made-plan false pair made plan e = absurd cc
+made-plan _ _ made plan e = absurd cc
 
-pub plan-found : (text : List ℕ) (plan : PlanLine) → plan_of (parts 32 text) ≡ Ok plan
+pub plan-found : (text : List ℕ) (plan : PlanLine) → plan_line_of (parts 32 text) ≡ Ok plan
     → (text ++ 10 ∷ [] ≡ plan_text plan.scheduler plan.governor plan.ticks) × IsPlan plan
-unfolding plan_of
+unfolding plan_line_of
 plan-found text plan e =
     let a = step-ok _ _ plan e in
-    let b = step-ok _ _ plan a.2 in
-    let c = step-ok _ _ plan b.2 in
-    let d = step-ok _ _ plan c.2 in
+    let b = read-step (λ s is. scheduler-word a.0.1 s (ok_or-ok (scheduler_of a.0.1) kind.Plan s is)) a.2 in
+    let c = read-step (λ g is. governor-word a.0.2 g (ok_or-ok (governor_of a.0.2) kind.Plan g is)) b.2 in
+    let d = read-step (λ n is. ticks-word a.0.3 n (ok_or-ok (ticks_of a.0.3) kind.Plan n is)) c.2 in
     let made : PlanLine = record { scheduler = b.0; governor = c.0; ticks = d.0 } in
     let f = made-plan (bytes_eq a.0.0 (codes "plan")) (is_pair b.0 c.0) made plan d.2 in
     let word = (bytes_eq-Decides a.0.0 (codes "plan")).0 f.0 in
-    let scheduler = scheduler-word a.0.1 b.0 (ok_or-ok (scheduler_of a.0.1) kind.Plan b.0 b.1) in
-    let governor = governor-word a.0.2 c.0 (ok_or-ok (governor_of a.0.2) kind.Plan c.0 c.1) in
-    let ticks = ticks-word a.0.3 d.0 (ok_or-ok (ticks_of a.0.3) kind.Plan d.0 d.1) in
-    let fields : parts 32 text ≡ plan_fields made = four-is (parts 32 text) a.0 (ok_or-ok (four_of (parts 32 text)) kind.Plan a.0 a.1)
-    ∙ (λ j. word j ∷ scheduler j ∷ governor j ∷ ticks.0 j ∷ []) in
-    let whole : text ++ 10 ∷ [] ≡ line (plan_fields made) = ap (λ t. t ++ 10 ∷ []) (sym (join-spaced text) ∙ ap spaced fields)
-    ∙ sym (line-spaced (plan_fields made)) in
+    let fields : parts 32 text ≡ plan_fields b.0 c.0 d.0 = four-is (parts 32 text) a.0 (ok_or-ok (four_of (parts 32 text)) kind.Plan a.0 a.1)
+    ∙ (λ j. word j ∷ b.1 j ∷ c.1 j ∷ d.1.0 j ∷ []) in
+    let whole : text ++ 10 ∷ [] ≡ line (plan_fields b.0 c.0 d.0) = ap (λ t. t ++ 10 ∷ []) (sym (join-spaced text) ∙ ap spaced fields)
+    ∙ sym (line-spaced (plan_fields b.0 c.0 d.0)) in
     subst (λ (p : PlanLine). (text ++ 10 ∷ [] ≡ plan_text p.scheduler p.governor p.ticks) × IsPlan p) f.2
-    (whole, record { pair = f.1; some = ticks.1; low = ticks.2 })
+    (whole, record { pair = f.1; some = d.1.1; low = d.1.2 })
 
 scheduler-read : (s : Scheduler) → scheduler_of (scheduler_word s) ≡ Some s
 scheduler-read Edf = refl
@@ -160,9 +146,7 @@ scheduler-read Rm = refl
 
 governor-read : (g : GovernorKind) → governor_of (governor_word g) ≡ Some g
 governor-read Plain = refl
-governor-read Fixed = refl
-governor-read Cycle = refl
-governor-read Ahead = refl
+governor-read _ = refl
 
 ticks-read : (n : ℕ) → 1 ≤ n → n ≤ MOST_TICKS → ticks_of (decimal n) ≡ Some n
 ticks-read n some low =
@@ -170,34 +154,9 @@ ticks-read n some low =
     let below : nat_le n MOST_TICKS ≡ true = grind (arith, nat_tests) in
     ap ticks_from (number_below-decimal (2 ^ 64) n (omega arith) (omega arith)) ∙ rw (above, below) refl
 
-plan-read : (plan : PlanLine) → IsPlan plan → plan_of (plan_fields plan) ≡ Ok plan
-unfolding plan_of
+plan-read : (plan : PlanLine) → IsPlan plan → plan_line_of (plan_fields plan.scheduler plan.governor plan.ticks) ≡ Ok plan
+unfolding plan_line_of
 plan-read plan h = rw (scheduler-read plan.scheduler, governor-read plan.governor, ticks-read plan.ticks h.some h.low, h.pair) refl
-
-scheduler-letters : (s : Scheduler) → list_all is_letter (scheduler_word s) ≡ true
-unfolding is_letter
-scheduler-letters Edf = refl
-scheduler-letters Rm = refl
-
-governor-letters : (g : GovernorKind) → list_all is_letter (governor_word g) ≡ true
-unfolding is_letter
-governor-letters Plain = refl
-governor-letters Fixed = refl
-governor-letters Cycle = refl
-governor-letters Ahead = refl
-
-plan-lacks : (c : ℕ) → is_letter c ≡ false → ((d : ℕ) → d < 10 → 48 + d ≢ c) → (plan : PlanLine) → AllByRecursion (Lacks c) (plan_fields plan)
-unfolding is_letter
-plan-lacks c other digit plan = (
-  lacks-all is_letter c (codes "plan") other refl,
-  (
-    lacks-all is_letter c (scheduler_word plan.scheduler) other (scheduler-letters plan.scheduler),
-    (
-      lacks-all is_letter c (governor_word plan.governor) other (governor-letters plan.governor),
-      (lacks-decimal c digit plan.ticks, tt),
-    ),
-  ),
-)
 
 pub scheduler-short : (s : Scheduler) → length (scheduler_word s) ≤ 3
 scheduler-short Edf = omega arith
@@ -205,31 +164,26 @@ scheduler-short Rm = omega arith
 
 pub governor-short : (g : GovernorKind) → length (governor_word g) ≤ 6
 governor-short Plain = omega arith
-governor-short Fixed = omega arith
-governor-short Cycle = omega arith
-governor-short Ahead = omega arith
+governor-short _ = omega arith
 
 -- the plan line is read: it is line 2 of the text, and its fields give the plan
 pub record PlanRead (plan : PlanLine) (more : List ℕ) : Type 0 where
   pub text : List ℕ
   pub line_read : line_at 2 (parts 10 (plan_text plan.scheduler plan.governor plan.ticks ++ more)) ≡ Ok (text, parts 10 more)
-  pub plan_read : plan_of (parts 32 text) ≡ Ok plan
+  pub plan_read : plan_line_of (parts 32 text) ≡ Ok plan
 
 pub plan-text : (plan : PlanLine) (more : List ℕ) → IsPlan plan → PlanRead plan more
-unfolding is_letter
 plan-text plan more h =
-    let fields : List (List ℕ) = plan_fields plan in
-    let spaces : AllByRecursion (Lacks 32) fields = plan-lacks 32 refl (λ d small e. omega (arith, e)) plan in
-    let feeds : AllByRecursion (Lacks 10) fields = plan-lacks 10 refl (λ d small e. omega (arith, e)) plan in
-    let short : length (spaced fields) ≤ LONGEST_LINE =
-    omega (arith, length-spaced fields, scheduler-short plan.scheduler, governor-short plan.governor, length-decimal plan.ticks) in
-    let whole : plan_text plan.scheduler plan.governor plan.ticks ++ more ≡ spaced fields ++ 10 ∷ more =
-    ap (λ t. t ++ more) (line-spaced fields) ∙ append_assoc (spaced fields) (10 ∷ []) more in
+    let fields : List (List ℕ) = plan_fields plan.scheduler plan.governor plan.ticks in
+    let plain : AllByRecursion ArePlain fields = plain-plan plan.scheduler plan.governor plan.ticks in
     record {
       text = spaced fields;
-      line_read = ap (λ t. line_at 2 (parts 10 t)) whole ∙ line_at-text 2 (spaced fields) more (lacks-spaced fields feeds) (omega arith) short;
-      plan_read = ap plan_of (parts-joined 32 (codes "plan")
-          (scheduler_word plan.scheduler ∷ governor_word plan.governor ∷ decimal plan.ticks ∷ []) spaces) ∙ plan-read plan h;
+      line_read =
+          read-line 2 fields more plain (omega arith)
+          (omega (arith, scheduler-short plan.scheduler, governor-short plan.governor, length-decimal plan.ticks));
+      plan_read =
+          ap plan_line_of (parts-joined 32 (codes "plan")
+          (scheduler_word plan.scheduler ∷ governor_word plan.governor ∷ decimal plan.ticks ∷ []) (lacks-plain fields plain).0) ∙ plan-read plan h;
     }
 
 -- the version line is read as line 1
@@ -248,25 +202,21 @@ abbrev pub AreLines : List (List ℕ) → Type 0
 AreLines = AllByRecursion IsLine
 
 pub task_lines-lines : (names : List (List ℕ)) (tasks : List TaskLine) → AreNames names → AreLines (task_lines names tasks)
-unfolding is_letter
 task_lines-lines [] tasks h = tt
 task_lines-lines (name ∷ names) [] h = tt
 task_lines-lines (name ∷ names) (t ∷ tasks) h =
     let fields : List (List ℕ) = codes "task" ∷ name ∷ decimal t.period ∷ decimal t.offset ∷ decimal t.worst ∷ [] in
-    let digit : (d : ℕ) → d < 10 → 48 + d ≢ 10 = (λ d small e. omega (arith, e)) in
-    let number = lacks-decimal 10 digit in
-    let feeds : AllByRecursion (Lacks 10) fields =
-    (lacks-all is_letter 10 (codes "task") refl refl, (lacks-name 10 refl name h.0, (number t.period, (number t.offset, (number t.worst, tt))))) in (
+    let plain : AllByRecursion ArePlain fields = plain-task name t.period t.offset t.worst (plain-name name h.0) in (
       record {
         body = spaced fields;
         ended = line-spaced fields;
-        plain = lacks-spaced fields feeds;
+        plain = lacks-spaced fields (lacks-plain fields plain).1;
         short = omega (arith, length-spaced fields, length-name name h.0, length-decimal t.period, length-decimal t.offset, length-decimal t.worst);
       },
       task_lines-lines names tasks h.1,
     )
 
-pub version-none : (v : Version) → v ≡ One → AreLines (lines_of_tasks v []) × IsUpTo One v
+pub version-none : (v : Version) → v ≡ One → AreLines (version_task_lines v []) × IsUpTo One v
 version-none One e = (tt, tt)
 version-none Two e = absurd cc
 
@@ -277,8 +227,8 @@ pub record TasksRead (n : ℕ) (tasks ps : List (List ℕ)) (p : ℕ × List (Li
 
 task-step : (n : ℕ) (task : List ℕ) (tasks ps : List (List ℕ)) (l : List ℕ × List (List ℕ)) (p : ℕ × List (List ℕ)) (same : Bool)
     → line_at n ps ≡ Ok l → bytes_eq (l.0 ++ 10 ∷ []) task ≡ same
-    → (if same then tasks_from (n + 1) tasks l.1 else Err (Refused n kind.TaskLine)) ≡ Ok p
-    → (tasks_from (n + 1) tasks l.1 ≡ Ok p → TasksRead (n + 1) tasks l.1 p) → TasksRead n (task ∷ tasks) ps p
+    → (if same then parts_after_tasks (n + 1) tasks l.1 else Err (Refused n kind.TaskLine)) ≡ Ok p
+    → (parts_after_tasks (n + 1) tasks l.1 ≡ Ok p → TasksRead (n + 1) tasks l.1 p) → TasksRead n (task ∷ tasks) ps p
 task-step n task tasks ps l p false read same e later = absurd cc
 task-step n task tasks ps l p true read same e later =
     let line = line_at-found n ps l read in
@@ -290,8 +240,8 @@ task-step n task tasks ps l p true read same e later =
       next = omega (arith, t.next);
     }
 
-pub tasks-found : (n : ℕ) (tasks ps : List (List ℕ)) (p : ℕ × List (List ℕ)) → tasks_from n tasks ps ≡ Ok p → TasksRead n tasks ps p
-unfolding tasks_from
+pub tasks-found : (n : ℕ) (tasks ps : List (List ℕ)) (p : ℕ × List (List ℕ)) → parts_after_tasks n tasks ps ≡ Ok p → TasksRead n tasks ps p
+unfolding parts_after_tasks
 tasks-found n [] ps p e = subst (λ (q : ℕ × List (List ℕ)). TasksRead n [] ps q) (ok-is {F = TraceFault} (n, ps) p e)
     (record { text = refl; next = omega arith })
 tasks-found n (task ∷ tasks) ps p e =
@@ -299,8 +249,8 @@ tasks-found n (task ∷ tasks) ps p e =
     task-step n task tasks ps a.0 p (bytes_eq (a.0.0 ++ 10 ∷ []) task) a.1 refl a.2 (λ later. tasks-found (n + 1) tasks a.0.1 p later)
 
 pub tasks-text : (n : ℕ) (tasks : List (List ℕ)) (more : List ℕ) → AreLines tasks → n + length tasks ≤ 800001
-    → tasks_from n tasks (parts 10 (joined tasks ++ more)) ≡ Ok (n + length tasks, parts 10 more)
-unfolding tasks_from
+    → parts_after_tasks n tasks (parts 10 (joined tasks ++ more)) ≡ Ok (n + length tasks, parts 10 more)
+unfolding parts_after_tasks
 tasks-text n [] more h few = let here : n ≡ n + 0 = omega arith in ap (λ m. Ok (m, parts 10 more)) here
 tasks-text n (task ∷ tasks) more h few =
     let whole : (task ++ joined tasks) ++ more ≡ h.0.body ++ 10 ∷ (joined tasks ++ more) =

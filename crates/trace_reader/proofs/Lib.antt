@@ -6,6 +6,8 @@ pub mod Plain
 pub mod FieldTexts
 pub mod ItemTexts
 pub mod LineTexts
+pub mod WholeText
+pub mod SplitLines
 pub mod ShareTexts
 pub mod NoteTexts
 pub mod HeadTexts

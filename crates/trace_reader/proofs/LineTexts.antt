@@ -1,14 +1,15 @@
 -- A line of a text, and the line of an item.
-use Rattle.std.proofs.Common.{◌≡◌, ◌≢◌, ℕ, zero, suc, ◌+◌, ◌<◌, ◌≤◌, Bool, true, false, List, [], ◌∷◌, ◌++◌, length, Ok, Err, refl, sym, ap, subst, ◌∙◌, append_assoc, length-append, arith, if◌then◌else◌}
-use Rattle.std.specs.Prelude.{nat_lt, nat_le, ◌&&◌, decimal, codes}
-use Rattle.std.specs.List.{AllByRecursion, list_all, join_with_byte}
+use Rattle.std.proofs.Common.{◌≡◌, ℕ, zero, suc, ◌+◌, ◌<◌, ◌≤◌, Bool, true, false, List, [], ◌∷◌, ◌++◌, length, Ok, Err, refl, sym, ap, subst, ◌∙◌, append_assoc, length-append, arith, if◌then◌else◌}
+use Rattle.std.specs.Prelude.{nat_lt, codes}
+use Rattle.std.specs.List.{AllByRecursion, join_with_byte}
 use Rattle.std.proofs.lemmas.Bool.Decides.{nat_tests}
 use Rattle.std.proofs.lemmas.List.Splits.{join_with_byte-slice_split}
 use Rattle.dvs_base.specs.Text.{is_name}
 use Rattle.trace_text.specs.TraceLines.{line}
-use Rattle.dvs_base.specs.Parts.{position_text, fraction_text, name_of}
+use Rattle.trace_text.proofs.PlainLines.{ArePlain, plain-decimal, plain-name}
+use Rattle.trace_text.proofs.NoteLines.{plain-word, plain-fields}
+use Rattle.dvs_base.specs.Parts.{name_of}
 use Rattle.dvs_base.proofs.Decimals.{length-decimal_u64, length-decimal_u128, length-position_text, length-fraction_text}
-use Rattle.dvs_base.specs.declared.note.Pos.{Pos}
 use Rattle.dvs_base.specs.declared.note.Note.TheVariants.{Release, Speed, Run, Idle, Done, End}
 use Rattle.dvs_base.specs.declared.kind.Version.{Version}
 use Rattle.dvs_base.specs.declared.limits.TheConstants.{MOST_LINES, LONGEST_LINE}
@@ -22,9 +23,8 @@ use Rattle.trace_reader.specs.Heads.{line_at}
 use Rattle.trace_reader.specs.Items.{item_of}
 use Rattle.trace_reader.proofs.Splitting.{HasPart, some-part}
 use Rattle.trace_reader.proofs.Lined.{spaced, line-spaced}
-use Rattle.trace_reader.proofs.Plain.{Lacks, lacks-append, lacks-all, lacks-decimal, lacks-name, lacks-spaced, parts-first, parts-joined}
-use Rattle.trace_reader.proofs.FieldTexts.{AreApart}
-use Rattle.trace_reader.proofs.ItemTexts.{item_fields, IsItemOf, item_of-found, item_of-text}
+use Rattle.trace_reader.proofs.Plain.{Lacks, lacks-plain, lacks-spaced, parts-first, parts-joined}
+use Rattle.trace_reader.proofs.ItemTexts.{item_fields, IsItemOf, item_of-found}
 
 -- each of the texts has the form of a name
 abbrev pub AreNames : List (List ℕ) → Type 0
@@ -45,17 +45,15 @@ line-found : (n : ℕ) (text next : List ℕ) (rest : List (List ℕ)) (p : List
     → nat_lt MOST_LINES n ≡ many → nat_lt LONGEST_LINE (length text) ≡ long
     → (if many then Err (Refused n kind.TooMany) else (if long then Err (Refused n kind.TooLong) else Ok (text, next ∷ rest))) ≡ Ok p
     → IsLineOf n (text ∷ next ∷ rest) p.0 p.1
-line-found n text next rest p true long a b e = absurd cc
-line-found n text next rest p false true a b e = absurd cc
 line-found n text next rest p false false a b e =
     let here : ◌≡◌ {A = List ℕ × List (List ℕ)} (text, next ∷ rest) p = cc in
     subst (λ (q : List ℕ × List (List ℕ)). IsLineOf n (text ∷ next ∷ rest) q.0 q.1) here
     (record { all = refl; more = record { first = next; rest = rest; all = refl }; few = grind (arith, nat_tests); short = grind (arith, nat_tests) })
+line-found n text next rest p _ _ a b e = absurd cc
 
 pub line_at-found : (n : ℕ) (ps : List (List ℕ)) (p : List ℕ × List (List ℕ)) → line_at n ps ≡ Ok p → IsLineOf n ps p.0 p.1
-line_at-found n [] p e = absurd cc
-line_at-found n (text ∷ []) p e = absurd cc
 line_at-found n (text ∷ next ∷ rest) p e = line-found n text next rest p (nat_lt MOST_LINES n) (nat_lt LONGEST_LINE (length text)) refl refl e
+line_at-found n _ p e = absurd cc
 
 -- the text that begins with a line is the line, its line feed and the text after it
 pub join-line : (text : List ℕ) (rest : List (List ℕ)) → HasPart rest → join_with_byte 10 (text ∷ rest) ≡ text ++ 10 ∷ join_with_byte 10 rest
@@ -85,68 +83,17 @@ item-found v names text item e =
     let found = item_of-found v names (parts 32 text) item e in
     (ap (λ t. t ++ 10 ∷ []) (sym (join-spaced text) ∙ ap spaced found.0) ∙ sym (line-spaced (item_fields names item)), found.1)
 
--- a small letter
-unfoldable pub is_letter : ℕ → Bool
-is_letter b = nat_le 97 b && nat_le b 122
-
--- a byte that is in no digit, word or name, and is neither a colon nor a slash
-record IsApart (c : ℕ) : Type 0 where
-  digit : (d : ℕ) → d < 10 → 48 + d ≢ c
-  letter : (text : List ℕ) → list_all is_letter text ≡ true → Lacks c text
-  names : (name : List ℕ) → is_name name ≡ true → Lacks c name
-  position : Lacks c (codes ":")
-  fraction : Lacks c (codes "/")
-
-space : IsApart 32
-unfolding is_letter
-space = record {
-  digit = λ d small e. omega (arith, e);
-  letter = λ text e. lacks-all is_letter 32 text refl e;
-  names = lacks-name 32 refl;
-  position = (refl, tt);
-  fraction = (refl, tt);
-}
-
-feed : IsApart 10
-unfolding is_letter
-feed = record {
-  digit = λ d small e. omega (arith, e);
-  letter = λ text e. lacks-all is_letter 10 text refl e;
-  names = lacks-name 10 refl;
-  position = (refl, tt);
-  fraction = (refl, tt);
-}
-
 name-of : (P : List ℕ → Type 0) → P [] → ((name : List ℕ) → is_name name ≡ true → P name) → (names : List (List ℕ)) (i : ℕ)
     → AreNames names → P (name_of names i)
 name-of P none each [] i h = none
 name-of P none each (name ∷ names) zero h = each name h.0
 name-of P none each (name ∷ names) (suc i) h = name-of P none each names i h.1
 
-module _ (c : ℕ) (free : IsApart c) (names : List (List ℕ)) (named : AreNames names) where
-  number : (n : ℕ) → Lacks c (decimal n)
-  number = lacks-decimal c free.digit
-
-  place : (q : Pos) → Lacks c (position_text q)
-  place q = lacks-append c (decimal q.tick ++ codes ":") (decimal q.offset)
-      (lacks-append c (decimal q.tick) (codes ":") (number q.tick) free.position) (number q.offset)
-
-  ratio : (num den : ℕ) → Lacks c (fraction_text num den)
-  ratio num den = lacks-append c (decimal num ++ codes "/") (decimal den) (lacks-append c (decimal num) (codes "/") (number num) free.fraction) (number den)
-
-  task : (i : ℕ) → Lacks c (name_of names i)
-  task i = name-of (Lacks c) tt free.names names i named
-
-  lacks-fields : (item : Item) → AllByRecursion (Lacks c) (item_fields names item)
-  unfolding is_letter
-  lacks-fields (Told (Release t i k)) = (free.letter (codes "release") refl, (number t, (task i, (number k, tt))))
-  lacks-fields (Told (Speed t f num den)) = (free.letter (codes "speed") refl, (number t, (number f, (ratio num den, tt))))
-  lacks-fields (Told (Run from to i k units energy)) =
-      (free.letter (codes "run") refl, (place from, (place to, (task i, (number k, (number units, (number energy, tt)))))))
-  lacks-fields (Told (Idle from to units energy)) = (free.letter (codes "idle") refl, (place from, (place to, (number units, (number energy, tt)))))
-  lacks-fields (Told (Done q i k used)) = (free.letter (codes "done") refl, (place q, (task i, (number k, (number used, tt)))))
-  lacks-fields (Told (End t run idle)) = (free.letter (codes "end") refl, (number t, (number run, (number idle, tt))))
-  lacks-fields (Share i energy) = (free.letter (codes "energy") refl, (task i, (number energy, tt)))
+-- the fields of an item's line are plain
+pub plain-item : (names : List (List ℕ)) → AreNames names → (item : Item) → AllByRecursion ArePlain (item_fields names item)
+plain-item names named (Told n) = plain-fields names (λ i. name-of ArePlain tt plain-name names i named) n
+plain-item names named (Share i energy) =
+    (plain-word (codes "energy") refl, (name-of ArePlain tt plain-name names i named, (plain-decimal energy, tt)))
 
 -- how many bytes the fields have, with one byte after each
 abbrev pub lengths : List (List ℕ) → ℕ
@@ -158,7 +105,7 @@ length-spaced [] = omega arith
 length-spaced (field ∷ []) = omega arith
 length-spaced (field ∷ other ∷ fields) = omega (arith, length-append field (32 ∷ spaced (other ∷ fields)), length-spaced (other ∷ fields))
 
-length-name_of : (names : List (List ℕ)) (i : ℕ) → AreNames names → length (name_of names i) ≤ 32
+pub length-name_of : (names : List (List ℕ)) (i : ℕ) → AreNames names → length (name_of names i) ≤ 32
 length-name_of names i named = name-of (λ name. length name ≤ 32) (omega arith) length-name names i named
 
 -- an item's line, without its line feed, is no longer than a line may be
@@ -184,39 +131,24 @@ lengths-item v c names (Told (Done q i k used)) named h =
 lengths-item v c names (Told (End t run idle)) named h = omega (arith, length-decimal_u64 t h.0, length-decimal_u128 run h.1, length-decimal_u128 idle h.2)
 lengths-item v c names (Share i energy) named h = omega (arith, length-name_of names i named, length-decimal_u128 energy h.2)
 
-parts-fields : (fields : List (List ℕ)) → 0 < length fields → AllByRecursion (Lacks 32) fields → parts 32 (spaced fields) ≡ fields
-parts-fields [] some h = absurd (omega arith)
-parts-fields (field ∷ fields) some h = parts-joined 32 field fields h
+-- a line of plain fields ends the first part of a text
+pub cut-line : (fields : List (List ℕ)) (more : List ℕ) → AllByRecursion ArePlain fields → parts 10 (line fields ++ more) ≡ spaced fields ∷ parts 10 more
+cut-line fields more plain =
+    ap (λ t. parts 10 (t ++ more)) (line-spaced fields)
+    ∙ (ap (parts 10) (append_assoc (spaced fields) (10 ∷ []) more)
+    ∙ parts-first 10 (spaced fields) more (lacks-spaced fields (lacks-plain fields plain).1))
 
-some-fields : (names : List (List ℕ)) (item : Item) → 0 < length (item_fields names item)
-some-fields names (Told (Release t i k)) = omega arith
-some-fields names (Told (Speed t f num den)) = omega arith
-some-fields names (Told (Run from to i k units energy)) = omega arith
-some-fields names (Told (Idle from to units energy)) = omega arith
-some-fields names (Told (Done q i k used)) = omega arith
-some-fields names (Told (End t run idle)) = omega arith
-some-fields names (Share i energy) = omega arith
+-- a line of plain fields that is not too long is read
+pub read-line : (n : ℕ) (fields : List (List ℕ)) (more : List ℕ) → AllByRecursion ArePlain fields → n ≤ MOST_LINES → lengths fields ≤ LONGEST_LINE
+    → line_at n (parts 10 (line fields ++ more)) ≡ Ok (spaced fields, parts 10 more)
+read-line n fields more plain few short =
+    ap (λ t. line_at n (parts 10 (t ++ more))) (line-spaced fields)
+    ∙ (ap (λ t. line_at n (parts 10 t)) (append_assoc (spaced fields) (10 ∷ []) more)
+    ∙ line_at-text n (spaced fields) more (lacks-spaced fields (lacks-plain fields plain).1) few (omega (arith, length-spaced fields, short)))
 
--- the line of an item is read: it is line n of the text, and its fields give the item
-pub record IsRead (v : Version) (names : List (List ℕ)) (n : ℕ) (item : Item) (more : List ℕ) : Type 0 where
-  pub text : List ℕ
-  pub line_read : line_at n (parts 10 (item_text names item ++ more)) ≡ Ok (text, parts 10 more)
-  pub cut : parts 10 (item_text names item ++ more) ≡ text ∷ parts 10 more
-  pub item_read : item_of v names (parts 32 text) ≡ Ok item
-
-pub item-read : (v : Version) (names : List (List ℕ)) (n : ℕ) (item : Item) (more : List ℕ) → AreNames names → AreApart names
-    → IsItemOf v (length names) item → n ≤ MOST_LINES
-    → IsRead v names n item more
-item-read v names n item more named apart fits few =
-    let fields : List (List ℕ) = item_fields names item in
-    let spaces : AllByRecursion (Lacks 32) fields = lacks-fields 32 space names named item in
-    let feeds : AllByRecursion (Lacks 10) fields = lacks-fields 10 feed names named item in
-    let short : length (spaced fields) ≤ LONGEST_LINE = omega (arith, length-spaced fields, lengths-item v (length names) names item named fits) in
-    let whole : item_text names item ++ more ≡ spaced fields ++ 10 ∷ more = ap (λ t. t ++ more) (line-spaced fields)
-    ∙ append_assoc (spaced fields) (10 ∷ []) more in
-    record {
-      text = spaced fields;
-      line_read = ap (λ t. line_at n (parts 10 t)) whole ∙ line_at-text n (spaced fields) more (lacks-spaced fields feeds) few short;
-      cut = ap (parts 10) whole ∙ parts-first 10 (spaced fields) more (lacks-spaced fields feeds);
-      item_read = ap (item_of v names) (parts-fields fields (some-fields names item) spaces) ∙ item_of-text v names item apart fits;
-    }
+-- fields that are read as an item are the parts of their line
+pub parts-fields : (v : Version) (names fields : List (List ℕ)) (item : Item) → item_of v names fields ≡ Ok item → AllByRecursion ArePlain fields
+    → parts 32 (spaced fields) ≡ fields
+unfolding item_of
+parts-fields v names [] item read h = absurd cc
+parts-fields v names (field ∷ fields) item read h = parts-joined 32 field fields (lacks-plain (field ∷ fields) h).0

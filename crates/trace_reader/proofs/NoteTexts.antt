@@ -7,11 +7,11 @@ use Rattle.std.proofs.lemmas.Bool.Decides.{nat_tests}
 use Rattle.std.proofs.lemmas.List.{append-nil}
 use Rattle.dvs_base.specs.Parts.{joined, name_of}
 use Rattle.trace_text.specs.TraceLines.{note_text}
-use Rattle.trace_reader.specs.TraceText.{share_text, energy_of_task}
+use Rattle.trace_text.proofs.PlainLines.{ArePlain}
+use Rattle.trace_reader.specs.TraceText.{has_task_lines, share_text, task_energy}
 use Rattle.dvs_base.specs.declared.note.Note.{Note}
-use Rattle.dvs_base.specs.declared.note.Note.TheVariants.{Release, Speed, Run, Idle, Done, End}
+use Rattle.dvs_base.specs.declared.note.Note.TheVariants.{End}
 use Rattle.dvs_base.specs.declared.kind.Version.{Version}
-use Rattle.dvs_base.specs.declared.kind.Version.TheVariants.{One, Two}
 use Rattle.dvs_base.specs.declared.limits.TheConstants.{MOST_LINES, LONGEST_LINE}
 use Rattle.trace_reader.specs.declared.line.Item.{Item}
 use Rattle.trace_reader.specs.declared.line.Item.TheVariants.{Told, Share}
@@ -26,8 +26,9 @@ use Rattle.trace_reader.specs.TraceFile.{SoFar, wanted, is_in_order, is_right_sh
 use Rattle.trace_reader.specs.Traces.{IsNoteOf, is_end}
 use Rattle.trace_reader.proofs.Splitting.{HasPart}
 use Rattle.trace_reader.proofs.FieldTexts.{AreApart, step-ok, ok-is}
-use Rattle.trace_reader.proofs.ItemTexts.{IsItemOf}
-use Rattle.trace_reader.proofs.LineTexts.{AreNames, IsLineOf, line_at-found, join-line, item_text, item-found, item-read}
+use Rattle.trace_reader.proofs.Lined.{spaced}
+use Rattle.trace_reader.proofs.ItemTexts.{item_fields, IsItemOf, item_of-text}
+use Rattle.trace_reader.proofs.LineTexts.{AreNames, IsLineOf, line_at-found, join-line, item_text, item-found, plain-item, cut-line, read-line, parts-fields, lengths-item}
 use Rattle.trace_reader.proofs.ShareTexts.{shares, rest_text, shares-told, shares-next}
 
 pub at_line-ok : {A : Type 0} (n : ℕ) (r : Result A TraceKind) (x : A) → at_line n r ≡ Ok x → r ≡ Ok x
@@ -43,8 +44,7 @@ record IsNextItem (v : Version) (names : List (List ℕ)) (s : SoFar) (fields : 
 checks : (order right : Bool) (x item : Item) → (if order then (if right then Ok x else Err kind.Share) else Err kind.Order) ≡ Ok item
     → (order ≡ true) × (right ≡ true) × (x ≡ item)
 checks true true x item e = (refl, refl, ok-is {F = TraceKind} x item e)
-checks true false x item e = absurd cc
-checks false right x item e = absurd cc
+checks _ _ x item e = absurd cc
 
 next_item-found : (v : Version) (names : List (List ℕ)) (s : SoFar) (fields : List (List ℕ)) (item : Item)
     → next_item v names s fields ≡ Ok item → IsNextItem v names s fields item
@@ -64,15 +64,12 @@ pub record Reads (v : Version) (names : List (List ℕ)) (n : ℕ) (s : SoFar) (
   pub each : AllByRecursion (IsNoteOf (length names)) (body ++ last ∷ [])
   pub none : 0 < s.told → body ≡ []
   pub text : join_with_byte 10 ps ≡ rest_text v names s.told s.notes body last
-  pub widths : (i : ℕ) → s.told ≤ i → i < wanted v names → energy_of_task (s.notes ++ body) i < 2 ^ 128
+  pub widths : (i : ℕ) → s.told ≤ i → i < wanted v names → task_energy (s.notes ++ body) i < 2 ^ 128
   pub lines : n + (length body + (wanted v names - s.told)) ≤ MOST_LINES
 
 nothing-is : (ps : List (List ℕ)) → is_nothing ps ≡ true → ps ≡ [] ∷ []
-nothing-is [] e = absurd cc
 nothing-is ([] ∷ []) e = refl
-nothing-is ([] ∷ q ∷ ps) e = absurd cc
-nothing-is ((b ∷ p) ∷ []) e = absurd cc
-nothing-is ((b ∷ p) ∷ q ∷ ps) e = absurd cc
+nothing-is _ e = absurd cc
 
 ended : (b : Bool) (notes all : List Note) (n : ℕ) → (if b then Ok notes else Err (Refused n kind.AfterEnd)) ≡ Ok all → (b ≡ true) × (notes ≡ all)
 ended true notes all n e = (refl, ok-is {F = TraceFault} notes all e)
@@ -80,20 +77,12 @@ ended false notes all n e = absurd cc
 
 -- the item of a note ends the run where the note does
 ends-told : (n : Note) → ends (Told n) ≡ is_end n
-ends-told (Release t i k) = refl
-ends-told (Speed t f num den) = refl
-ends-told (Run from to i k units energy) = refl
-ends-told (Idle from to units energy) = refl
-ends-told (Done q i k used) = refl
 ends-told (End t run idle) = refl
+ends-told _ = refl
 
 order-told : (told w : ℕ) (n : Note) (b : Bool) → is_end n ≡ b → is_in_order told w (Told n) ≡ (if b then nat_le w told else told == 0)
-order-told told w (Release t i k) b e = ap (λ (c : Bool). if c then nat_le w told else told == 0) e
-order-told told w (Speed t f num den) b e = ap (λ (c : Bool). if c then nat_le w told else told == 0) e
-order-told told w (Run from to i k units energy) b e = ap (λ (c : Bool). if c then nat_le w told else told == 0) e
-order-told told w (Idle from to units energy) b e = ap (λ (c : Bool). if c then nat_le w told else told == 0) e
-order-told told w (Done q i k used) b e = ap (λ (c : Bool). if c then nat_le w told else told == 0) e
 order-told told w (End t run idle) b e = ap (λ (c : Bool). if c then nat_le w told else told == 0) e
+order-told told w _ b e = ap (λ (c : Bool). if c then nat_le w told else told == 0) e
 
 pub note-line : (names : List (List ℕ)) (n : Note) → note_text names n ≡ item_text names (Told n)
 unfolding note_text
@@ -147,26 +136,30 @@ read-note v names n s text rest note all other read item more =
       text = line ∙ (ap (λ t. note_text names note ++ t) (more.text
           ∙ ap (λ ns. flat_map (note_text names) more.body ++ (joined (drop s.told (shares v names ns)) ++ note_text names more.last)) joined_notes)
           ∙ sym (append_assoc (note_text names note) (flat_map (note_text names) more.body) tail));
-      widths = λ i low high. subst (λ ns. energy_of_task ns i < 2 ^ 128) joined_notes (more.widths i low high);
+      widths = λ i low high. subst (λ ns. task_energy ns i < 2 ^ 128) joined_notes (more.widths i low high);
       lines = omega (arith, more.lines);
     }
 
-share-facts : (v : Version) (names : List (List ℕ)) (notes : List Note) (told : ℕ) → v ≡ Two → told < length names
+-- where a choice between a number and 0 is above another number, the number was chosen
+pub wanted-some : (b : Bool) (told n : ℕ) → told < (if b then n else 0) → (b ≡ true) × (told < n)
+wanted-some true told n lt = (refl, lt)
+wanted-some false told n lt = absurd (omega arith)
+
+share-facts : (v : Version) (names : List (List ℕ)) (notes : List Note) (told : ℕ) → has_task_lines v ≡ true → told < length names
     → (wanted v names ≡ length names) × (drop told (shares v names notes)
-    ≡ share_text (name_of names told) (energy_of_task notes told) ∷ drop (told + 1) (shares v names notes))
-share-facts One names notes told e lt = absurd cc
-share-facts Two names notes told e lt = (refl, shares-next names notes told lt)
+    ≡ share_text (name_of names told) (task_energy notes told) ∷ drop (told + 1) (shares v names notes))
+share-facts v names notes told e lt = rw e (refl, shares-next names notes told lt)
 
 -- the energy of task j is below 2^128, where that of task `told` is and those after it are
-share-widths : (notes body : List Note) (told j energy : ℕ) → body ≡ [] → energy ≡ energy_of_task notes told → energy < 2 ^ 128 → told ≤ j
-    → (told + 1 ≤ j → energy_of_task (notes ++ body) j < 2 ^ 128) → energy_of_task (notes ++ []) j < 2 ^ 128
+share-widths : (notes body : List Note) (told j energy : ℕ) → body ≡ [] → energy ≡ task_energy notes told → energy < 2 ^ 128 → told ≤ j
+    → (told + 1 ≤ j → task_energy (notes ++ body) j < 2 ^ 128) → task_energy (notes ++ []) j < 2 ^ 128
 share-widths notes body told j energy none sum fits low later = by (nat_lt told j) refl
   where
-    by : (b : Bool) → nat_lt told j ≡ b → energy_of_task (notes ++ []) j < 2 ^ 128
-    by true e = subst (λ bs. energy_of_task (notes ++ bs) j < 2 ^ 128) none (later (grind (arith, nat_tests)))
+    by : (b : Bool) → nat_lt told j ≡ b → task_energy (notes ++ []) j < 2 ^ 128
+    by true e = subst (λ bs. task_energy (notes ++ bs) j < 2 ^ 128) none (later (grind (arith, nat_tests)))
     by false e =
         let here : told ≡ j = grind (arith, nat_tests) in
-        let same : energy ≡ energy_of_task (notes ++ []) j = sum ∙ ap₂ (λ ns i. energy_of_task ns i) (sym (append-nil notes)) here in
+        let same : energy ≡ task_energy (notes ++ []) j = sum ∙ ap₂ (λ ns i. task_energy ns i) (sym (append-nil notes)) here in
         omega (arith, same)
 
 -- reading the energy of a task
@@ -176,14 +169,14 @@ read-share : (v : Version) (names : List (List ℕ)) (n : ℕ) (s : SoFar) (text
 read-share v names n s text rest i energy all read item next =
     let found = item-found v names text (Share i energy) item.read in
     let place : i ≡ s.told = eqb-true i s.told item.order in
-    let sum : energy ≡ energy_of_task s.notes i = eqb-true energy (energy_of_task s.notes i) item.right in
+    let sum : energy ≡ task_energy s.notes i = eqb-true energy (task_energy s.notes i) item.right in
     let within : s.told < length names = omega (arith, found.1.1) in
     let facts = share-facts v names (s.notes ++ []) s.told found.1.0 within in
     let wide : s.told < wanted v names = omega (arith, facts.0) in
     let more = next wide in
     let none : more.body ≡ [] = more.none (omega arith) in
-    let here : share_text (name_of names i) energy ≡ share_text (name_of names s.told) (energy_of_task (s.notes ++ []) s.told) =
-    ap₂ (λ j e. share_text (name_of names j) e) place (sum ∙ ap₂ (λ ns j. energy_of_task ns j) (sym (append-nil s.notes)) place) in
+    let here : share_text (name_of names i) energy ≡ share_text (name_of names s.told) (task_energy (s.notes ++ []) s.told) =
+    ap₂ (λ j e. share_text (name_of names j) e) place (sum ∙ ap₂ (λ ns j. task_energy ns j) (sym (append-nil s.notes)) place) in
     let line : join_with_byte 10 (text ∷ rest) ≡ share_text (name_of names i) energy ++ join_with_byte 10 rest =
     join-line text rest read.more ∙ (sym (append_assoc text (10 ∷ []) (join_with_byte 10 rest)) ∙ ap (λ t. t ++ join_with_byte 10 rest) found.0) in
     let left : List (List ℕ) = drop (s.told + 1) (shares v names (s.notes ++ [])) in
@@ -196,17 +189,22 @@ read-share v names n s text rest i energy all read item next =
       each = subst (λ b. AllByRecursion (IsNoteOf (length names)) (b ++ more.last ∷ [])) none more.each;
       none = λ _. refl;
       text = line ∙ (ap₂ (λ t u. t ++ u) here (more.text ∙ ap (λ b. rest_text v names (s.told + 1) s.notes b more.last) none)
-          ∙ (sym (append_assoc (share_text (name_of names s.told) (energy_of_task (s.notes ++ []) s.told)) (joined left) (note_text names more.last))
+          ∙ (sym (append_assoc (share_text (name_of names s.told) (task_energy (s.notes ++ []) s.told)) (joined left) (note_text names more.last))
           ∙ ap (λ ls. joined ls ++ note_text names more.last) (sym facts.1)));
-      widths = λ j low high. share-widths s.notes more.body s.told j energy none (sum ∙ ap (energy_of_task s.notes) place) found.1.2 low
+      widths = λ j low high. share-widths s.notes more.body s.told j energy none (sum ∙ ap (task_energy s.notes) place) found.1.2 low
           (λ later. more.widths j later high);
       lines = omega (arith, more.lines);
     }
 
+-- what is read after the line of an item
+abbrev after_item : Version → List (List ℕ) → ℕ → SoFar → List (List ℕ) → Item → Result (List Note) TraceFault
+after_item v names n s rest item =
+    if ends item then (if is_nothing rest then Ok ((with_item s item).notes) else Err (Refused (n + 1) kind.AfterEnd))
+    else notes_from v names (n + 1) (with_item s item) rest
+
 item-step : (v : Version) (names : List (List ℕ)) (n : ℕ) (s : SoFar) (text : List ℕ) (rest : List (List ℕ)) (item : Item) (all : List Note)
     → IsLineOf n (text ∷ rest) text rest → IsNextItem v names s (parts 32 text) item
-    → (if ends item then (if is_nothing rest then Ok ((with_item s item).notes) else Err (Refused (n + 1) kind.AfterEnd))
-    else notes_from v names (n + 1) (with_item s item) rest) ≡ Ok all
+    → after_item v names n s rest item ≡ Ok all
     → ((t : SoFar) → notes_from v names (n + 1) t rest ≡ Ok all → Reads v names (n + 1) t rest all) → Reads v names n s (text ∷ rest) all
 item-step v names n s text rest (Share i energy) all read item e later = read-share v names n s text rest i energy all read item
     (λ _. later (record { notes = s.notes; told = s.told + 1 }) e)
@@ -227,12 +225,6 @@ line-pair n text rest p e =
     let first : p.0 ≡ text = ap (λ ps. get_or ps 0 []) (sym read.all) in
     let others : p.1 ≡ rest = ap (λ ps. drop 1 ps) (sym read.all) in
     (record { all = refl; more = subst HasPart others read.more; few = read.few; short = subst (λ t. length t ≤ LONGEST_LINE) first read.short }, first)
-
--- what is read after the line of an item
-abbrev after_item : Version → List (List ℕ) → ℕ → SoFar → List (List ℕ) → Item → Result (List Note) TraceFault
-after_item v names n s rest item =
-    if ends item then (if is_nothing rest then Ok ((with_item s item).notes) else Err (Refused (n + 1) kind.AfterEnd))
-    else notes_from v names (n + 1) (with_item s item) rest
 
 -- the notes that are read are those of their text
 pub notes_from-found : (v : Version) (names : List (List ℕ)) (n : ℕ) (s : SoFar) (ps : List (List ℕ)) (all : List Note)
@@ -258,10 +250,15 @@ module _ (v : Version) (names : List (List ℕ)) (named : AreNames names) (apart
       → notes_from v names n s (parts 10 (item_text names item ++ more)) ≡ after_item v names n s (parts 10 more) item
   unfolding notes_from next_item
   item-next n s item more fits few order right =
-      let r = item-read v names n item more named apart fits few in
-      let line : line_at n (r.text ∷ parts 10 more) ≡ Ok (r.text, parts 10 more) = ap (line_at n) (sym r.cut) ∙ r.line_read in
-      let checked : next_item v names s (parts 32 r.text) ≡ Ok item = rw (r.item_read, order, right) refl in
-      ap (notes_from v names n s) r.cut ∙ rw (line, checked) refl
+      let fields : List (List ℕ) = item_fields names item in
+      let plain : AllByRecursion ArePlain fields = plain-item names named item in
+      let read : item_of v names fields ≡ Ok item = item_of-text v names item apart fits in
+      let line : line_at n (spaced fields ∷ parts 10 more) ≡ Ok (spaced fields, parts 10 more) =
+      ap (line_at n) (sym (cut-line fields more plain))
+      ∙ read-line n fields more plain few (lengths-item v (length names) names item named fits) in
+      let checked : next_item v names s (parts 32 (spaced fields)) ≡ Ok item =
+      rw (parts-fields v names fields item read plain, read, order, right) refl in
+      ap (notes_from v names n s) (cut-line fields more plain) ∙ rw (line, checked) refl
 
   end-after : (n : ℕ) (s : SoFar) (last : Note) (more : List ℕ) → is_end last ≡ true
       → after_item v names n s (parts 10 more) (Told last) ≡ answer (n + 1) (s.notes ++ last ∷ []) more
@@ -275,13 +272,9 @@ module _ (v : Version) (names : List (List ℕ)) (named : AreNames names) (apart
       ∙ (item-next n s (Told last) more fits few (order-told s.told (wanted v names) last true end ∙ le-leb (wanted v names) s.told told) refl
       ∙ end-after n s last more end)
 
-  two-wanted : (w : Version) (told : ℕ) → told < wanted w names → (w ≡ Two) × (told < length names)
-  two-wanted One told lt = absurd (omega arith)
-  two-wanted Two told lt = (refl, lt)
-
   -- the text of the energies that are left and the last note is read
   shares-text : (k n : ℕ) (s : SoFar) (last : Note) (more : List ℕ) → wanted v names - s.told ≡ k → is_end last ≡ true → IsNoteOf (length names) last
-      → ((i : ℕ) → s.told ≤ i → i < wanted v names → energy_of_task s.notes i < 2 ^ 128) → n + k ≤ MOST_LINES
+      → ((i : ℕ) → s.told ≤ i → i < wanted v names → task_energy s.notes i < 2 ^ 128) → n + k ≤ MOST_LINES
       → notes_from v names n s (parts 10 ((joined (drop s.told (shares v names s.notes)) ++ note_text names last) ++ more)) ≡ answer
       (n + k + 1) (s.notes ++ last ∷ []) more
   shares-text zero n s last more left end fits widths few =
@@ -292,9 +285,9 @@ module _ (v : Version) (names : List (List ℕ)) (named : AreNames names) (apart
       ∙ ap (λ m. answer m (s.notes ++ last ∷ []) more) here)
   shares-text (suc k) n s last more left end fits widths few =
       let wide : s.told < wanted v names = omega arith in
-      let two = two-wanted v s.told wide in
+      let two = wanted-some (has_task_lines v) s.told (length names) wide in
       let facts = share-facts v names s.notes s.told two.0 two.1 in
-      let energy : ℕ = energy_of_task s.notes s.told in
+      let energy : ℕ = task_energy s.notes s.told in
       let item : Item = Share s.told energy in
       let next : SoFar = record { notes = s.notes; told = s.told + 1 } in
       let rest : List ℕ = joined (drop (s.told + 1) (shares v names s.notes)) ++ note_text names last in
@@ -317,7 +310,7 @@ module _ (v : Version) (names : List (List ℕ)) (named : AreNames names) (apart
   pub notes_from-text : (n : ℕ) (s : SoFar) (body : List Note) (last : Note) (more : List ℕ) → s.told ≡ 0
       → AllByRecursion (λ m. is_end m ≡ false) body → is_end last ≡ true
       → AllByRecursion (IsNoteOf (length names)) (body ++ last ∷ [])
-      → ((i : ℕ) → i < wanted v names → energy_of_task (s.notes ++ body) i < 2 ^ 128) → n + (length body + wanted v names) ≤ MOST_LINES
+      → ((i : ℕ) → i < wanted v names → task_energy (s.notes ++ body) i < 2 ^ 128) → n + (length body + wanted v names) ≤ MOST_LINES
       → notes_from v names n s (parts 10 (rest_text v names s.told s.notes body last ++ more)) ≡ answer
       (n + (length body + wanted v names) + 1) (s.notes ++ (body ++ last ∷ [])) more
   notes_from-text n s [] last more none no_end end each widths few =
@@ -325,7 +318,7 @@ module _ (v : Version) (names : List (List ℕ)) (named : AreNames names) (apart
       let here : n + wanted v names + 1 ≡ n + (0 + wanted v names) + 1 = omega arith in
       ap (λ ns. notes_from v names n s (parts 10 ((joined (drop s.told (shares v names ns)) ++ note_text names last) ++ more))) same
       ∙ (shares-text (wanted v names) n s last more (omega arith) end each.0
-      (λ i low high. subst (λ ns. energy_of_task ns i < 2 ^ 128) same (widths i high)) (omega arith)
+      (λ i low high. subst (λ ns. task_energy ns i < 2 ^ 128) same (widths i high)) (omega arith)
       ∙ ap (λ m. answer m (s.notes ++ last ∷ []) more) here)
   notes_from-text n s (note ∷ body) last more none no_end end each widths few =
       let next : SoFar = record { notes = s.notes ++ note ∷ []; told = s.told } in
@@ -338,7 +331,7 @@ module _ (v : Version) (names : List (List ℕ)) (named : AreNames names) (apart
       ∙ (append_assoc (note_text names note) (front ++ tail) more
       ∙ ap₂ (λ t ns. t ++ ((front ++ (joined (drop s.told (shares v names ns)) ++ note_text names last)) ++ more)) (note-line names note) (sym regrouped)) in
       let later = notes_from-text (n + 1) next body last more none no_end.1 end each.1
-      (λ i high. subst (λ ns. energy_of_task ns i < 2 ^ 128) (sym regrouped) (widths i high)) (omega arith) in
+      (λ i high. subst (λ ns. task_energy ns i < 2 ^ 128) (sym regrouped) (widths i high)) (omega arith) in
       let here : n + 1 + (length body + wanted v names) + 1 ≡ n + (suc (length body) + wanted v names) + 1 = omega arith in
       let whole : (s.notes ++ note ∷ []) ++ (body ++ last ∷ []) ≡ s.notes ++ note ∷ (body ++ last ∷ []) =
       append_assoc s.notes (note ∷ []) (body ++ last ∷ []) in

@@ -2,13 +2,12 @@
 use Rattle.std.proofs.Common.{◌≡◌, ◌≢◌, ℕ, zero, suc, ◌+◌, ◌/◌, ◌%◌, ◌<◌, ◌≤◌, Bool, true, false, List, [], ◌∷◌, ◌++◌, length, All, refl, ap, ◌∙◌, arith, if◌then◌else◌}
 use Rattle.std.specs.Prelude.{◌==◌, nat_lt, decimal}
 use Rattle.std.specs.Fmt.{digit_glyph, digits_onto, digits}
-use Rattle.std.specs.List.{AllByRecursion, list_all, join_with_byte}
-use Rattle.std.proofs.lemmas.Bool.{and_parts, eq-eqb}
+use Rattle.std.specs.List.{AllByRecursion, join_with_byte}
+use Rattle.std.proofs.lemmas.Bool.{eq-eqb}
 use Rattle.std.proofs.lemmas.Bool.Decides.{nat_tests}
 use Rattle.std.proofs.lemmas.List.Elements.{All-from_recursion}
 use Rattle.std.proofs.lemmas.List.Splits.{slice_split_at, slice_split_none}
-use Rattle.dvs_base.specs.Text.{is_name, is_name_byte}
-use Rattle.dvs_base.proofs.Names.{name-parts}
+use Rattle.trace_text.proofs.PlainLines.{ArePlain}
 use Rattle.trace_reader.specs.Fields.{parts}
 use Rattle.trace_reader.proofs.Lined.{spaced}
 
@@ -20,16 +19,22 @@ pub lacks-append : (c : ℕ) (a b : List ℕ) → Lacks c a → Lacks c b → La
 lacks-append c [] b p q = q
 lacks-append c (x ∷ a) b p q = (p.0, lacks-append c a b p.1 q)
 
--- a byte that fails a test is not in a text whose bytes all pass it
-pub lacks-all : (test : ℕ → Bool) (c : ℕ) (text : List ℕ) → test c ≡ false → list_all test text ≡ true → Lacks c text
-lacks-all test c [] fails h = tt
-lacks-all test c (b ∷ text) fails h =
-    let each = and_parts (test b) (list_all test text) h in
-    (other (b == c) refl each.0, lacks-all test c text fails each.1)
+-- plain fields have neither a space nor a line feed
+pub lacks-plain : (fields : List (List ℕ)) → AllByRecursion ArePlain fields → AllByRecursion (Lacks 32) fields × AllByRecursion (Lacks 10) fields
+lacks-plain [] h = (tt, tt)
+lacks-plain (field ∷ fields) h =
+    let here = each field h.0 in
+    let later = lacks-plain fields h.1 in
+    ((here.0, later.0), (here.1, later.1))
   where
-    other : (same : Bool) → (b == c) ≡ same → test b ≡ true → (b == c) ≡ false
-    other true e passes = let here : b ≡ c = grind (arith, nat_tests) in absurd (let p = ap test here in cc)
-    other false e passes = e
+    other : (b c : ℕ) → b ≢ c → (b == c) ≡ false
+    other b c ne = grind (arith, nat_tests)
+
+    each : (text : List ℕ) → ArePlain text → Lacks 32 text × Lacks 10 text
+    each [] h = (tt, tt)
+    each (b ∷ text) h =
+        let more = each text h.1 in
+        ((other b 32 h.0.0, more.0), (other b 10 h.0.1, more.1))
 
 -- a byte that is not a digit
 abbrev IsNoDigit : ℕ → Type 0
@@ -66,9 +71,6 @@ length-digits (suc k) n acc = either (n / 10 == 0) _ _ (omega arith)
 pub length-decimal : (n : ℕ) → length (decimal n) ≤ 64
 unfolding digits
 length-decimal n = omega (arith, length-digits 64 n [])
-
-pub lacks-name : (c : ℕ) → is_name_byte c ≡ false → (name : List ℕ) → is_name name ≡ true → Lacks c name
-lacks-name c none name e = lacks-all is_name_byte c name none (name-parts name e).1
 
 lacked : (c : ℕ) (text : List ℕ) → Lacks c text → All (λ b. (b == c) ≡ false) text
 lacked c text h = All-from_recursion (λ b. (b == c) ≡ false) text h

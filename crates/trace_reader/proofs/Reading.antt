@@ -9,7 +9,7 @@ use Rattle.trace_reader.specs.declared.trace.TraceKind.TheVariants as kind
 use Rattle.trace_reader.specs.Fields.{parts}
 use Rattle.trace_reader.specs.declared.trace.TaskLine.{TaskLine}
 use Rattle.trace_reader.specs.TraceText.{task_text}
-use Rattle.trace_reader.specs.Heads.{line_at, tasks_from}
+use Rattle.trace_reader.specs.Heads.{line_at, parts_after_tasks}
 use Rattle.trace_reader.specs.TraceFile.{is_nothing}
 use Rattle.trace_reader.specs.Traces.{task_lines}
 use Rattle.trace_reader.proofs.Splitting.{HasPart, some-part}
@@ -39,8 +39,8 @@ some-task_line (name ∷ names) (t ∷ tasks) (suc i) lt e =
 -- where the line of a task is refused, so are the lines of the tasks
 pub tasks-refused : (n : ℕ) (names : List (List ℕ)) (tasks : List TaskLine) (i : ℕ) (rest : List (List ℕ)) (e : TraceFault)
     → i < length names → length tasks ≡ length names
-    → line_at n rest ≡ Err e → tasks_from n (task_lines (drop i names) (drop i tasks)) rest ≡ Err e
-unfolding tasks_from
+    → line_at n rest ≡ Err e → parts_after_tasks n (task_lines (drop i names) (drop i tasks)) rest ≡ Err e
+unfolding parts_after_tasks
 tasks-refused n names tasks i rest e lt same h = let t = some-task_line names tasks i lt same in rw (t.all, h) refl
 
 -- the parts of a text with a byte are not those of the empty text

@@ -5,7 +5,8 @@ use Rattle.std.specs.List.{position_or_len}
 use Rattle.std.proofs.lemmas.List.Splits.{slice_split_first, slice_split_none, length-slice_split}
 use Rattle.std.proofs.lemmas.List.Sums.{fails_before_first}
 use Rattle.std.proofs.lemmas.Bool.Decides.{nat_tests}
-use Rattle.trace_reader.specs.Fields.{parts, one_of, three_of, four_of, six_of}
+use Rattle.dvs_base.specs.Parts.{three_of}
+use Rattle.trace_reader.specs.Fields.{parts, one_of, four_of, six_of}
 
 module _ (byte : ℕ) (text : List ℕ) where
   abbrev at_byte : ℕ → Bool
@@ -40,16 +41,9 @@ pub one_of-more : (a : List ℕ) (byte : ℕ) (text : List ℕ) → one_of (a �
 one_of-more a byte text = let p = some-part byte text in rw p.all refl
 
 pub four_of-more : (a : List ℕ) (found : List (List ℕ)) → four_of (a ∷ found) ≡ option_map (λ p. (a, p.0, p.1, p.2)) (three_of found)
-four_of-more a [] = refl
-four_of-more a (x ∷ []) = refl
-four_of-more a (x ∷ y ∷ []) = refl
 four_of-more a (x ∷ y ∷ z ∷ []) = refl
-four_of-more a (x ∷ y ∷ z ∷ w ∷ xs) = refl
+four_of-more a _ = refl
 
 pub six_of-more : (a b : List ℕ) (found : List (List ℕ)) → six_of (a ∷ b ∷ found) ≡ option_map (λ p. (a, b, p.0, p.1, p.2, p.3)) (four_of found)
-six_of-more a b [] = refl
-six_of-more a b (x ∷ []) = refl
-six_of-more a b (x ∷ y ∷ []) = refl
-six_of-more a b (x ∷ y ∷ z ∷ []) = refl
 six_of-more a b (x ∷ y ∷ z ∷ w ∷ []) = refl
-six_of-more a b (x ∷ y ∷ z ∷ w ∷ v ∷ xs) = refl
+six_of-more a b _ = refl

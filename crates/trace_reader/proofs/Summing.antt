@@ -7,7 +7,8 @@ use Rattle.std.proofs.lemmas.List.Sums.{sum_by-append}
 use Rattle.dvs_base.specs.declared.note.Note.{Note}
 use Rattle.dvs_base.specs.declared.note.Pos.{Pos}
 use Rattle.dvs_base.specs.declared.note.Note.TheVariants.{Run}
-use Rattle.trace_reader.specs.TraceText.{run_energy_of, energy_of_task}
+use Rattle.dvs_base.specs.NoteTasks.{energy_of_task}
+use Rattle.trace_reader.specs.TraceText.{task_energy}
 use Rattle.trace_reader.specs.Sums.{narrow, with_energy, HasSums}
 
 with-narrow : (s e : ℕ) → with_energy (narrow s) e ≡ narrow (s + e)
@@ -18,8 +19,8 @@ with-narrow s e = by (nat_lt s (2 ^ 128)) refl
     by false above = let far : nat_lt (s + e) (2 ^ 128) ≡ false = grind (arith, nat_tests) in rw far refl
 
 -- the energy of a task with one note more is the sum, with the note's energy where it is the task's run
-pub energy-more : (notes : List Note) (n : Note) (i : ℕ) → energy_of_task (notes ++ n ∷ []) i ≡ energy_of_task notes i + run_energy_of i n
-energy-more notes n i = omega (arith, sum_by-append (run_energy_of i) notes (n ∷ []))
+pub energy-more : (notes : List Note) (n : Note) (i : ℕ) → task_energy (notes ++ n ∷ []) i ≡ task_energy notes i + energy_of_task i n
+energy-more notes n i = omega (arith, sum_by-append (energy_of_task i) notes (n ∷ []))
 
 -- the sums with one run more: its energy is added to its task's
 pub sums-run : (sums : List (Option ℕ)) (notes : List Note) (from to : Pos) (j k units energy : ℕ) → j < 64 → length sums ≡ 64
@@ -27,16 +28,16 @@ pub sums-run : (sums : List (Option ℕ)) (notes : List Note) (from to : Pos) (j
 sums-run sums notes from to j k units energy lt long h i below = by (nat_eq j i) refl
   where
     by : (same : Bool) → nat_eq j i ≡ same
-        → get_or (set sums j (with_energy (get_or sums j None) energy)) i None ≡ narrow (energy_of_task (notes ++ Run from to j k units energy ∷ []) i)
+        → get_or (set sums j (with_energy (get_or sums j None) energy)) i None ≡ narrow (task_energy (notes ++ Run from to j k units energy ∷ []) i)
     by true e =
         let here : i ≡ j = grind (arith, nat_tests) in
-        let total : energy_of_task (notes ++ Run from to j k units energy ∷ []) i ≡ energy_of_task notes i + energy =
-        energy-more notes (Run from to j k units energy) i ∙ ap (λ (same : Bool). energy_of_task notes i + (if same then energy else 0)) e in
+        let total : task_energy (notes ++ Run from to j k units energy ∷ []) i ≡ task_energy notes i + energy =
+        energy-more notes (Run from to j k units energy) i ∙ ap (λ (same : Bool). task_energy notes i + (if same then energy else 0)) e in
         let kept : get_or (set sums j (with_energy (get_or sums j None) energy)) i None ≡ with_energy (get_or sums i None) energy =
         rw here (get_or-set_same sums j (with_energy (get_or sums j None) energy) None (omega arith)) in
-        kept ∙ (ap (λ o. with_energy o energy) (h i below) ∙ (with-narrow (energy_of_task notes i) energy ∙ ap narrow (sym total)))
+        kept ∙ (ap (λ o. with_energy o energy) (h i below) ∙ (with-narrow (task_energy notes i) energy ∙ ap narrow (sym total)))
     by false e =
         let other : i ≢ j = grind (arith, nat_tests) in
-        let total : energy_of_task (notes ++ Run from to j k units energy ∷ []) i ≡ energy_of_task notes i = energy-more notes
-        (Run from to j k units energy) i ∙ (ap (λ (same : Bool). energy_of_task notes i + (if same then energy else 0)) e ∙ omega arith) in
+        let total : task_energy (notes ++ Run from to j k units energy ∷ []) i ≡ task_energy notes i = energy-more notes
+        (Run from to j k units energy) i ∙ (ap (λ (same : Bool). task_energy notes i + (if same then energy else 0)) e ∙ omega arith) in
         get_or-set_other sums j i (with_energy (get_or sums j None) energy) None other ∙ (h i below ∙ ap narrow (sym total))

@@ -1,13 +1,13 @@
 -- A text that is read is that of its trace, the text of any trace is read, and no text is the beginning of another.
 use Rattle.std.proofs.Common.{◌≡◌, ℕ, ◌+◌, ◌^◌, ◌<◌, ◌≤◌, Bool, true, false, List, [], ◌∷◌, ◌++◌, length, Result, Ok, Err, refl, sym, ap, ap₂, subst, ◌∙◌, append_assoc, length-append, arith, if◌then◌else◌}
-use Rattle.std.specs.Prelude.{flat_map, IfOk}
+use Rattle.std.specs.Prelude.{IfOk}
 use Rattle.std.specs.List.{AllByRecursion, join_with_byte}
 use Rattle.std.proofs.lemmas.List.{append-nil}
 use Rattle.std.proofs.lemmas.List.Splits.{join_with_byte-slice_split}
-use Rattle.dvs_base.specs.Checks.{IsUnlessMemory}
+use Rattle.dvs_base.specs.Checks.{IsUnlessMemory, ◌>>=◌}
 use Rattle.dvs_base.specs.Parts.{joined}
-use Rattle.trace_text.specs.TraceLines.{note_text, plan_text}
-use Rattle.trace_reader.specs.TraceText.{version_line, energy_of_task, told_text, whole_text}
+use Rattle.trace_text.specs.TraceLines.{plan_text}
+use Rattle.trace_reader.specs.TraceText.{version_line, task_energy, has_task_lines, note_lines, text_of_lines}
 use Rattle.dvs_base.specs.declared.note.Note.{Note}
 use Rattle.dvs_base.specs.declared.kind.Version.{Version}
 use Rattle.dvs_base.specs.declared.kind.Version.TheVariants.{One, Two}
@@ -16,25 +16,17 @@ use Rattle.trace_text.specs.declared.write.PlanLine.{PlanLine}
 use Rattle.trace_reader.specs.declared.trace.TraceFault.{TraceFault}
 use Rattle.trace_reader.specs.declared.trace.TraceFault.TheVariants.{Refused, NoMemory}
 use Rattle.trace_reader.specs.declared.trace.TraceKind.TheVariants as kind
-use Rattle.trace_reader.specs.Fields.{◌>>=◌, parts}
-use Rattle.trace_reader.specs.Heads.{line_at, at_line, version_of, plan_of, tasks_from, lines_of_tasks}
+use Rattle.trace_reader.specs.Fields.{parts}
+use Rattle.trace_reader.specs.Heads.{line_at, at_line, version_in, plan_line_of, parts_after_tasks, version_task_lines}
 use Rattle.trace_reader.specs.TraceFile.{nothing_yet, wanted, is_nothing, notes_from, trace_file}
 use Rattle.trace_reader.specs.Traces.{TraceOf, text_of, IsNoteOf, is_end, IsEnded, HasShares, lines_for_tasks, IsTrace, IsTextOf, HaveOneText}
 use Rattle.trace_reader.proofs.Reading.{is_nothing-some}
+use Rattle.trace_reader.proofs.WholeText.{lines-wanted, text-parts}
 use Rattle.trace_reader.proofs.FieldTexts.{AreApart, step-ok, ok-is}
 use Rattle.trace_reader.proofs.LineTexts.{AreNames, line_at-found, join-line}
 use Rattle.trace_reader.proofs.ShareTexts.{rest_text, energy-end, told-notes}
-use Rattle.trace_reader.proofs.NoteTexts.{Reads, notes_from-found, answer, notes_from-text, at_line-ok}
+use Rattle.trace_reader.proofs.NoteTexts.{Reads, wanted-some, notes_from-found, answer, notes_from-text, at_line-ok}
 use Rattle.trace_reader.proofs.HeadTexts.{IsUpTo, version-found, version-text, version-line, version-read, IsPlan, plan-found, plan-text, AreLines, TasksRead, tasks-found, tasks-text}
-
--- the text of a trace by its four parts: version line, plan line, task lines and notes
-text-parts : (v : Version) (plan : PlanLine) (names tasks : List (List ℕ)) (notes : List Note)
-    → whole_text v plan.scheduler plan.governor plan.ticks names tasks notes
-    ≡ version_line v ++ (plan_text plan.scheduler plan.governor plan.ticks ++ (joined (lines_of_tasks v tasks) ++ flat_map (told_text v names notes) notes))
-text-parts One plan names tasks notes = append_assoc (version_line One) (plan_text plan.scheduler plan.governor plan.ticks) (flat_map (note_text names) notes)
-text-parts Two plan names tasks notes =
-    append_assoc (version_line Two ++ plan_text plan.scheduler plan.governor plan.ticks) (joined tasks) (flat_map (told_text Two names notes) notes)
-    ∙ append_assoc (version_line Two) (plan_text plan.scheduler plan.governor plan.ticks) (joined tasks ++ flat_map (told_text Two names notes) notes)
 
 -- the notes as those before the last, and the last, which alone ends the run
 record EndsWith (notes : List Note) : Type 0 where
@@ -58,18 +50,18 @@ is-ended (n ∷ m ∷ body) last h end = (h.0, is-ended (m ∷ body) last h.1 en
 
 -- where the energies of the tasks are below 2^128 before the last note, they are with it
 shares-found : (v : Version) (names : List (List ℕ)) (body : List Note) (last : Note) → is_end last ≡ true
-    → ((i : ℕ) → i < wanted v names → energy_of_task body i < 2 ^ 128) → HasShares v (length names) (body ++ last ∷ [])
-shares-found One names body last end h = tt
-shares-found Two names body last end h = λ i lt. let same = energy-end body last i end in omega (arith, h i lt, same)
+    → ((i : ℕ) → i < wanted v names → task_energy body i < 2 ^ 128) → HasShares v (length names) (body ++ last ∷ [])
+shares-found v names body last end h has i lt =
+    let all : wanted v names ≡ length names = ap (λ (b : Bool). if b then length names else 0) has in
+    let same = energy-end body last i end in
+    omega (arith, h i (omega arith), same)
 
 shares-wide : (v : Version) (names : List (List ℕ)) (body : List Note) (last : Note) → is_end last ≡ true
-    → HasShares v (length names) (body ++ last ∷ []) → (i : ℕ) → i < wanted v names → energy_of_task body i < 2 ^ 128
-shares-wide One names body last end h i lt = absurd (omega arith)
-shares-wide Two names body last end h i lt = let same = energy-end body last i end in omega (arith, h i lt, same)
-
-lines-wanted : (v : Version) (names tasks : List (List ℕ)) → lines_for_tasks v (length names) (length tasks) ≡ length (lines_of_tasks v tasks) + wanted v names
-lines-wanted One names tasks = omega arith
-lines-wanted Two names tasks = omega arith
+    → HasShares v (length names) (body ++ last ∷ []) → (i : ℕ) → i < wanted v names → task_energy body i < 2 ^ 128
+shares-wide v names body last end h i lt =
+    let some = wanted-some (has_task_lines v) i (length names) lt in
+    let same = energy-end body last i end in
+    omega (arith, h some.0 i some.1, same)
 
 length-last : (body : List Note) (last : Note) → length (body ++ last ∷ []) ≡ length body + 1
 length-last body last = omega (arith, length-append body (last ∷ []))
@@ -83,16 +75,16 @@ pub record IsFound (newest : Version) (names tasks : List (List ℕ)) (bytes : L
 found-whole : (newest : Version) (names tasks : List (List ℕ)) (bytes : List ℕ) (v : Version) (plan : PlanLine) (ps : List (List ℕ))
     (p : ℕ × List (List ℕ)) (notes : List Note)
     → IsUpTo newest v → IsPlan plan → bytes ≡ version_line v ++ (plan_text plan.scheduler plan.governor plan.ticks ++ join_with_byte 10 ps)
-    → TasksRead 3 (lines_of_tasks v tasks) ps p → Reads v names p.0 nothing_yet p.1 notes
+    → TasksRead 3 (version_task_lines v tasks) ps p → Reads v names p.0 nothing_yet p.1 notes
     → IsFound newest names tasks bytes (record { version = v; plan = plan; notes = notes })
 found-whole newest names tasks bytes v plan ps p notes up_to is_plan head tasks_read reads =
     let all : List Note = reads.body ++ reads.last ∷ [] in
     let made : TraceOf = record { version = v; plan = plan; notes = all } in
-    let told : join_with_byte 10 p.1 ≡ flat_map (told_text v names all) all = reads.text
+    let told : join_with_byte 10 p.1 ≡ text_of_lines (note_lines v names all) = reads.text
     ∙ sym (told-notes v names reads.body reads.last reads.no_end reads.end) in
     let text : bytes ≡ text_of names tasks made =
     head ∙ (ap (λ t. version_line v ++ (plan_text plan.scheduler plan.governor plan.ticks ++ t))
-    (tasks_read.text ∙ ap (λ t. joined (lines_of_tasks v tasks) ++ t) told)
+    (tasks_read.text ∙ ap (λ t. joined (version_task_lines v tasks) ++ t) told)
     ∙ sym (text-parts v plan names tasks all)) in
     let trace : IsTrace names tasks made = record {
       pair = is_plan.pair;
@@ -111,16 +103,16 @@ abbrev from_tasks : Version → List (List ℕ) → PlanLine → ℕ × List (Li
 from_tasks v names plan rest = notes_from v names rest.0 nothing_yet rest.1 >>= λ notes. Ok (record { version = v; plan = plan; notes = notes })
 
 abbrev from_plan : Version → List (List ℕ) → List (List ℕ) → List (List ℕ) → PlanLine → Result TraceOf TraceFault
-from_plan v names tasks ps plan = tasks_from 3 (lines_of_tasks v tasks) ps >>= from_tasks v names plan
+from_plan v names tasks ps plan = parts_after_tasks 3 (version_task_lines v tasks) ps >>= from_tasks v names plan
 
 abbrev from_second : Version → List (List ℕ) → List (List ℕ) → List ℕ × List (List ℕ) → Result TraceOf TraceFault
-from_second v names tasks second = at_line 2 (plan_of (parts 32 second.0)) >>= from_plan v names tasks second.1
+from_second v names tasks second = at_line 2 (plan_line_of (parts 32 second.0)) >>= from_plan v names tasks second.1
 
 abbrev from_version : List (List ℕ) → List (List ℕ) → List (List ℕ) → Version → Result TraceOf TraceFault
 from_version names tasks ps v = line_at 2 ps >>= from_second v names tasks
 
 abbrev from_first : Version → List (List ℕ) → List (List ℕ) → List ℕ × List (List ℕ) → Result TraceOf TraceFault
-from_first newest names tasks first = at_line 1 (version_of newest first.0) >>= from_version names tasks first.1
+from_first newest names tasks first = at_line 1 (version_in newest first.0) >>= from_version names tasks first.1
 
 -- the text from line n on is that line, its line feed and the text after it
 line-text : (n : ℕ) (ps : List (List ℕ)) (p : List ℕ × List (List ℕ)) → line_at n ps ≡ Ok p → join_with_byte 10 ps ≡ (p.0 ++ 10 ∷ []) ++ join_with_byte 10 p.1
@@ -138,8 +130,8 @@ trace_file-found newest names tasks bytes t e =
     let d = step-ok _ _ t c.2 in
     let f = step-ok _ _ t d.2 in
     let g = step-ok _ _ t f.2 in
-    let version = version-found newest b.0 a.0.0 (at_line-ok 1 (version_of newest a.0.0) b.0 b.1) in
-    let plan = plan-found c.0.0 d.0 (at_line-ok 2 (plan_of (parts 32 c.0.0)) d.0 d.1) in
+    let version = version-found newest b.0 a.0.0 (at_line-ok 1 (version_in newest a.0.0) b.0 b.1) in
+    let plan = plan-found c.0.0 d.0 (at_line-ok 2 (plan_line_of (parts 32 c.0.0)) d.0 d.1) in
     let first : a.0.0 ++ 10 ∷ [] ≡ version_line b.0 = ap (λ l. l ++ 10 ∷ []) version.0 ∙ sym (version-line b.0) in
     let head : bytes ≡ version_line b.0 ++ (plan_text d.0.scheduler d.0.governor d.0.ticks ++ join_with_byte 10 c.0.1) =
     sym (join_with_byte-slice_split 10 bytes)
@@ -148,7 +140,7 @@ trace_file-found newest names tasks bytes t e =
     let made : TraceOf = record { version = b.0; plan = d.0; notes = g.0 } in
     subst (λ (r : TraceOf). IsFound newest names tasks bytes r) (ok-is {F = TraceFault} made t g.2)
     (found-whole newest names tasks bytes b.0 d.0 c.0.1 f.0 g.0 version.1 plan.1 head
-    (tasks-found 3 (lines_of_tasks b.0 tasks) c.0.1 f.0 f.1) (notes_from-found b.0 names f.0.0 nothing_yet f.0.1 g.0 g.1))
+    (tasks-found 3 (version_task_lines b.0 tasks) c.0.1 f.0 f.1) (notes_from-found b.0 names f.0.0 nothing_yet f.0.1 g.0 g.1))
 
 -- the reader's answer for the text of a trace with the bytes `more` after it
 abbrev pub whole_answer : List (List ℕ) → List (List ℕ) → TraceOf → List ℕ → Result TraceOf TraceFault
@@ -167,30 +159,30 @@ answer-then true v plan notes fault = refl
 answer-then false v plan notes fault = refl
 
 pub trace_file-text : (newest : Version) (names tasks : List (List ℕ)) (t : TraceOf) (more : List ℕ) → AreNames names → AreApart names
-    → AreLines (lines_of_tasks t.version tasks) → IsUpTo newest t.version → IsTrace names tasks t
+    → AreLines (version_task_lines t.version tasks) → IsUpTo newest t.version → IsTrace names tasks t
     → trace_file newest names tasks (text_of names tasks t ++ more) ≡ whole_answer names tasks t more
 unfolding trace_file
 trace_file-text newest names tasks t more named apart lines up_to h =
     let v : Version = t.version in
-    let n : ℕ = 3 + length (lines_of_tasks v tasks) in
+    let n : ℕ = 3 + length (version_task_lines v tasks) in
     let ends = ends-with t.notes h.ended in
     let all : List Note = ends.body ++ ends.last ∷ [] in
-    let told : flat_map (told_text v names t.notes) t.notes ≡ rest_text v names 0 [] ends.body ends.last =
-    ap (λ ns. flat_map (told_text v names ns) ns) ends.whole ∙ told-notes v names ends.body ends.last ends.no_end ends.end in
+    let told : text_of_lines (note_lines v names t.notes) ≡ rest_text v names 0 [] ends.body ends.last =
+    ap (λ ns. text_of_lines (note_lines v names ns)) ends.whole ∙ told-notes v names ends.body ends.last ends.no_end ends.end in
     let last : List ℕ = rest_text v names 0 [] ends.body ends.last ++ more in
-    let third : List ℕ = joined (lines_of_tasks v tasks) ++ last in
+    let third : List ℕ = joined (version_task_lines v tasks) ++ last in
     let plan_line : List ℕ = plan_text t.plan.scheduler t.plan.governor t.plan.ticks in
     let whole : text_of names tasks t ++ more ≡ version_line v ++ (plan_line ++ third) =
-    ap (λ x. x ++ more) (text-parts v t.plan names tasks t.notes ∙ ap (λ x. version_line v ++ (plan_line ++ (joined (lines_of_tasks v tasks) ++ x))) told)
-    ∙ (append_assoc (version_line v) (plan_line ++ (joined (lines_of_tasks v tasks) ++ rest_text v names 0 [] ends.body ends.last)) more
-    ∙ ap (λ x. version_line v ++ x) (append_assoc plan_line (joined (lines_of_tasks v tasks) ++ rest_text v names 0 [] ends.body ends.last) more
-    ∙ ap (λ x. plan_line ++ x) (append_assoc (joined (lines_of_tasks v tasks)) (rest_text v names 0 [] ends.body ends.last) more))) in
+    ap (λ x. x ++ more) (text-parts v t.plan names tasks t.notes ∙ ap (λ x. version_line v ++ (plan_line ++ (joined (version_task_lines v tasks) ++ x))) told)
+    ∙ (append_assoc (version_line v) (plan_line ++ (joined (version_task_lines v tasks) ++ rest_text v names 0 [] ends.body ends.last)) more
+    ∙ ap (λ x. version_line v ++ x) (append_assoc plan_line (joined (version_task_lines v tasks) ++ rest_text v names 0 [] ends.body ends.last) more
+    ∙ ap (λ x. plan_line ++ x) (append_assoc (joined (version_task_lines v tasks)) (rest_text v names 0 [] ends.body ends.last) more))) in
     let plan = plan-text t.plan third (record { pair = h.pair; some = h.some_ticks; low = h.low_ticks }) in
     let counted : length t.notes ≡ length ends.body + 1 = ap length ends.whole ∙ length-last ends.body ends.last in
     let size = lines-wanted v names tasks in
     let few : n + (length ends.body + wanted v names) ≤ MOST_LINES = omega (arith, h.lines, size, counted) in
-    let read_tasks : tasks_from 3 (lines_of_tasks v tasks) (parts 10 third) ≡ Ok (n, parts 10 last) =
-    tasks-text 3 (lines_of_tasks v tasks) last lines (omega arith) in
+    let read_tasks : parts_after_tasks 3 (version_task_lines v tasks) (parts 10 third) ≡ Ok (n, parts 10 last) =
+    tasks-text 3 (version_task_lines v tasks) last lines (omega arith) in
     let read_notes : notes_from v names n nothing_yet (parts 10 last) ≡ answer (n + (length ends.body + wanted v names) + 1) all more =
     notes_from-text v names named apart n nothing_yet ends.body ends.last more refl ends.no_end ends.end
     (subst (λ ns. AllByRecursion (IsNoteOf (length names)) ns) ends.whole h.each)
@@ -203,7 +195,7 @@ trace_file-text newest names tasks t more named apart lines up_to h =
     ∙ rw (version-read v (plan_line ++ third), version-text newest v up_to, plan.line_read, plan.plan_read, read_tasks, notes)
     (answer-then (is_nothing (parts 10 more)) v t.plan t.notes (Refused (3 + lines_for_tasks v (length names) (length tasks) + length t.notes) kind.AfterEnd))
 
-pub version-lines : (v : Version) (tasks : List (List ℕ)) → AreLines tasks → AreLines (lines_of_tasks v tasks)
+pub version-lines : (v : Version) (tasks : List (List ℕ)) → AreLines tasks → AreLines (version_task_lines v tasks)
 version-lines One tasks h = tt
 version-lines Two tasks h = h
 
@@ -231,7 +223,7 @@ pub reads-found : (newest : Version) (names tasks : List (List ℕ)) (bytes : Li
 reads-found newest names tasks bytes t e = let found = trace_file-found newest names tasks bytes t e in ((found.trace, found.text), found.version)
 
 pub reads-only : (newest : Version) (names tasks : List (List ℕ)) (bytes : List ℕ) (t : TraceOf) → AreNames names → AreApart names
-    → AreLines (lines_of_tasks t.version tasks) → IsUpTo newest t.version
+    → AreLines (version_task_lines t.version tasks) → IsUpTo newest t.version
     → IsTextOf names tasks bytes t → trace_file newest names tasks bytes ≡ Ok t
 reads-only newest names tasks bytes t named apart lines up_to h =
     ap (trace_file newest names tasks) (h.1 ∙ sym (append-nil (text_of names tasks t))) ∙ trace_file-text newest names tasks t [] named apart lines up_to h.0

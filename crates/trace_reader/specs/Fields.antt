@@ -4,16 +4,12 @@ use Rattle.std.specs.List.{slice_split}
 use Rattle.std.specs.Option.{ok_or}
 use Rattle.std.specs.Str.{bytes_eq}
 use Rattle.dvs_base.specs.Widths.{u64_end}
-use Rattle.dvs_base.specs.Checks.{and_then}
+use Rattle.dvs_base.specs.Checks.{◌>>=◌}
 use Rattle.dvs_base.specs.Text.{number_below}
 use Rattle.dvs_base.specs.declared.note.Pos.{Pos}
+use Rattle.dvs_base.specs.Parts.{two_of}
 use Rattle.trace_reader.specs.declared.trace.TraceKind.{TraceKind}
 use Rattle.trace_reader.specs.declared.trace.TraceKind.TheVariants as kind
-
--- the next step with this one's value, or this one's refusal
-infixl 10 ◌>>=◌
-abbrev pub ◌>>=◌ : {A B F : Type 0} → Result A F → (A → Result B F) → Result B F
-r >>= next = and_then r next
 
 -- the parts of a text between the places of one byte
 abbrev pub parts : ℕ → List ℕ → List (List ℕ)
@@ -23,16 +19,6 @@ parts byte text = slice_split (λ b. b == byte) text
 abbrev pub one_of : List (List ℕ) → Option (List ℕ)
 one_of (a ∷ []) = Some a
 one_of _ = None
-
--- the parts, if there are two
-abbrev pub two_of : List (List ℕ) → Option (List ℕ × List ℕ)
-two_of (a ∷ b ∷ []) = Some (a, b)
-two_of _ = None
-
--- the parts, if there are three
-abbrev pub three_of : List (List ℕ) → Option (List ℕ × List ℕ × List ℕ)
-three_of (a ∷ b ∷ c ∷ []) = Some (a, b, c)
-three_of _ = None
 
 -- the parts, if there are four
 abbrev pub four_of : List (List ℕ) → Option (List ℕ × List ℕ × List ℕ × List ℕ)

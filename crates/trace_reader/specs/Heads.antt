@@ -1,4 +1,4 @@
--- The lines before the notes: the version, the plan, and in version 2 the tasks.
+-- The lines before the notes: the version, the plan, and the tasks in a version that has lines for them.
 use Rattle.std.specs.Prelude.{ℕ, List, ◌∷◌, length, nat_lt, Result, Ok, Err, if◌then◌else◌, codes, ◌&&◌, ◌+◌, [], ◌++◌}
 use Rattle.std.specs.Option.{ok_or}
 use Rattle.std.specs.Str.{bytes_eq}
@@ -6,12 +6,14 @@ use Rattle.dvs_base.specs.PlanWords.{scheduler_of, governor_of, ticks_of, is_pai
 use Rattle.dvs_base.specs.declared.kind.Version.{Version}
 use Rattle.dvs_base.specs.declared.kind.Version.TheVariants.{One, Two}
 use Rattle.dvs_base.specs.declared.limits.TheConstants.{MOST_LINES, LONGEST_LINE}
+use Rattle.dvs_base.specs.Checks.{◌>>=◌}
 use Rattle.trace_text.specs.declared.write.PlanLine.{PlanLine}
 use Rattle.trace_reader.specs.declared.trace.TraceFault.{TraceFault}
 use Rattle.trace_reader.specs.declared.trace.TraceFault.TheVariants.{Refused}
 use Rattle.trace_reader.specs.declared.trace.TraceKind.{TraceKind}
 use Rattle.trace_reader.specs.declared.trace.TraceKind.TheVariants as kind
-use Rattle.trace_reader.specs.Fields.{◌>>=◌, four_of}
+use Rattle.trace_reader.specs.TraceText.{has_task_lines}
+use Rattle.trace_reader.specs.Fields.{four_of}
 
 -- line n, and the parts after it, of a text's parts between line feeds; bytes after the last line feed are not a line
 abbrev pub line_at : ℕ → List (List ℕ) → Result (List ℕ × List (List ℕ)) TraceFault
@@ -22,15 +24,15 @@ line_at n (line ∷ next ∷ rest) =
 line_at n _ = Err (Refused n kind.NoEnd)
 
 -- the version that the first line names, if it is not above the newest that is read
-abbrev pub version_of : Version → List ℕ → Result Version TraceKind
-version_of One line = if bytes_eq line (codes "trace 1") then Ok One else Err kind.Version
-version_of Two line =
+abbrev pub version_in : Version → List ℕ → Result Version TraceKind
+version_in One line = if bytes_eq line (codes "trace 1") then Ok One else Err kind.Version
+version_in Two line =
     if bytes_eq line (codes "trace 1") then Ok One
     else (if bytes_eq line (codes "trace 2") then Ok Two else Err kind.Version)
 
 -- the plan that the fields of the second line name
-unfoldable pub plan_of : List (List ℕ) → Result PlanLine TraceKind
-plan_of fields = do
+unfoldable pub plan_line_of : List (List ℕ) → Result PlanLine TraceKind
+plan_line_of fields = do
   four ← ok_or (four_of fields) kind.Plan
   scheduler ← ok_or (scheduler_of four.1) kind.Plan
   governor ← ok_or (governor_of four.2) kind.Plan
@@ -45,13 +47,12 @@ at_line n (Ok x) = Ok x
 at_line n (Err k) = Err (Refused n k)
 
 -- the number of the next line and the parts after, where the lines from line n on are those of the tasks
-unfoldable pub tasks_from : ℕ → List (List ℕ) → List (List ℕ) → Result (ℕ × List (List ℕ)) TraceFault
-tasks_from n [] rest = Ok (n, rest)
-tasks_from n (task ∷ tasks) rest = do
+unfoldable pub parts_after_tasks : ℕ → List (List ℕ) → List (List ℕ) → Result (ℕ × List (List ℕ)) TraceFault
+parts_after_tasks n [] rest = Ok (n, rest)
+parts_after_tasks n (task ∷ tasks) rest = do
   line ← line_at n rest
-  if bytes_eq (line.0 ++ 10 ∷ []) task then tasks_from (n + 1) tasks line.1 else Err (Refused n kind.TaskLine)
+  if bytes_eq (line.0 ++ 10 ∷ []) task then parts_after_tasks (n + 1) tasks line.1 else Err (Refused n kind.TaskLine)
 
 -- the task lines that a version has
-abbrev pub lines_of_tasks : Version → List (List ℕ) → List (List ℕ)
-lines_of_tasks One tasks = []
-lines_of_tasks Two tasks = tasks
+abbrev pub version_task_lines : Version → List (List ℕ) → List (List ℕ)
+version_task_lines v tasks = if has_task_lines v then tasks else []

@@ -1,4 +1,4 @@
--- The items of the lines after the head of a trace: notes, and in version 2 energies of tasks.
+-- The items of the lines after the head of a trace: notes, and energies of tasks.
 -- A line is split at each single space. The number of its fields is checked first, by its word; then the fields are
 -- read from left to right.
 use Rattle.std.specs.Prelude.{ℕ, List, Result, Ok, Err, [], ◌∷◌, codes, if◌then◌else◌, ◌<◌}
@@ -6,12 +6,14 @@ use Rattle.std.specs.Option.{ok_or}
 use Rattle.std.specs.Str.{bytes_eq}
 use Rattle.dvs_base.specs.declared.note.Note.TheVariants.{Release, Speed, Run, Idle, Done, End}
 use Rattle.dvs_base.specs.declared.kind.Version.{Version}
-use Rattle.dvs_base.specs.declared.kind.Version.TheVariants.{One, Two}
+use Rattle.dvs_base.specs.Parts.{two_of, three_of}
+use Rattle.dvs_base.specs.Checks.{◌>>=◌}
 use Rattle.trace_reader.specs.declared.line.Item.{Item}
 use Rattle.trace_reader.specs.declared.line.Item.TheVariants.{Told, Share}
 use Rattle.trace_reader.specs.declared.trace.TraceKind.{TraceKind}
 use Rattle.trace_reader.specs.declared.trace.TraceKind.TheVariants as kind
-use Rattle.trace_reader.specs.Fields.{◌>>=◌, three_of, whole_in, task_in, fraction_in, six_of, wide_in, position_in, four_of, two_of}
+use Rattle.trace_reader.specs.TraceText.{has_task_lines}
+use Rattle.trace_reader.specs.Fields.{whole_in, task_in, fraction_in, six_of, wide_in, position_in, four_of}
 
 -- the release note of the fields after the word `release`
 unfoldable pub release_in : List (List ℕ) → List (List ℕ) → Result Item TraceKind
@@ -72,11 +74,10 @@ end_in fields = do
   idle ← wide_in three.2
   Ok (Told (End ticks run idle))
 
--- the energy of a task, of the fields after the word `energy`, which version 1 does not have
-unfoldable pub share_in : Version → List (List ℕ) → List (List ℕ) → Result Item TraceKind
-share_in One names fields = Err kind.Word
-share_in Two names fields = do
-  two ← ok_or (two_of fields) kind.Word
+-- the energy of a task, of the fields after the word `energy`, in a version that has such lines
+unfoldable pub energy_in : Version → List (List ℕ) → List (List ℕ) → Result Item TraceKind
+energy_in v names fields = do
+  two ← if has_task_lines v then ok_or (two_of fields) kind.Word else Err kind.Word
   task ← task_in names two.0
   energy ← wide_in two.1
   Ok (Share task energy)
@@ -91,7 +92,7 @@ item_of v names (word ∷ fields) =
     else (if bytes_eq word (codes "idle") then idle_in fields
     else (if bytes_eq word (codes "done") then done_in names fields
     else (if bytes_eq word (codes "end") then end_in fields
-    else (if bytes_eq word (codes "energy") then share_in v names fields
+    else (if bytes_eq word (codes "energy") then energy_in v names fields
     else Err kind.Word))))))
 
 -- the task of an item, where it has one, is below c

@@ -3,17 +3,17 @@ use Rattle.std.specs.Prelude.{ℕ, List, [], length, ◌==◌, Bool, nat_le, tru
 use Rattle.dvs_base.specs.declared.note.Note.{Note}
 use Rattle.dvs_base.specs.declared.note.Note.TheVariants.{End}
 use Rattle.dvs_base.specs.declared.kind.Version.{Version}
-use Rattle.dvs_base.specs.declared.kind.Version.TheVariants.{One, Two}
+use Rattle.dvs_base.specs.Checks.{◌>>=◌}
 use Rattle.trace_reader.specs.declared.line.Item.{Item}
 use Rattle.trace_reader.specs.declared.line.Item.TheVariants.{Told, Share}
 use Rattle.trace_reader.specs.declared.trace.TraceFault.{TraceFault}
 use Rattle.trace_reader.specs.declared.trace.TraceFault.TheVariants.{Refused}
 use Rattle.trace_reader.specs.declared.trace.TraceKind.{TraceKind}
 use Rattle.trace_reader.specs.declared.trace.TraceKind.TheVariants as kind
-use Rattle.trace_reader.specs.TraceText.{energy_of_task}
-use Rattle.trace_reader.specs.Fields.{◌>>=◌, parts}
+use Rattle.trace_reader.specs.TraceText.{task_energy, has_task_lines}
+use Rattle.trace_reader.specs.Fields.{parts}
 use Rattle.trace_reader.specs.Items.{item_of}
-use Rattle.trace_reader.specs.Heads.{line_at, at_line, version_of, plan_of, tasks_from, lines_of_tasks}
+use Rattle.trace_reader.specs.Heads.{line_at, at_line, version_in, plan_line_of, parts_after_tasks, version_task_lines}
 use Rattle.trace_reader.specs.Traces.{TraceOf}
 
 -- what was read so far: the notes, and the number of tasks whose energies were read
@@ -25,10 +25,9 @@ pub record SoFar : Type 0 where
 abbrev pub nothing_yet : SoFar
 nothing_yet = record { notes = []; told = 0 }
 
--- how many energies of tasks a trace has: one for each name in version 2, none in version 1
+-- how many energies of tasks a trace has: one for each name, in a version that has such lines
 abbrev pub wanted : Version → List (List ℕ) → ℕ
-wanted One names = 0
-wanted Two names = length names
+wanted v names = if has_task_lines v then length names else 0
 
 -- whether the item may come next: the energies of the tasks are in file order, between the other notes and the last
 abbrev pub is_in_order : ℕ → ℕ → Item → Bool
@@ -38,7 +37,7 @@ is_in_order told wanted (Told n) = told == 0
 
 -- whether the energy of a task is the sum over its runs; a note passes
 abbrev pub is_right_share : List Note → Item → Bool
-is_right_share notes (Share i energy) = energy == energy_of_task notes i
+is_right_share notes (Share i energy) = energy == task_energy notes i
 is_right_share notes (Told n) = true
 
 -- the item of the next line, or the first check that it fails
@@ -78,9 +77,9 @@ notes_from v names n s (line ∷ rest) = do
 unfoldable pub trace_file : Version → List (List ℕ) → List (List ℕ) → List ℕ → Result TraceOf TraceFault
 trace_file newest names tasks bytes = do
   first ← line_at 1 (parts 10 bytes)
-  version ← at_line 1 (version_of newest first.0)
+  version ← at_line 1 (version_in newest first.0)
   second ← line_at 2 first.1
-  plan ← at_line 2 (plan_of (parts 32 second.0))
-  rest ← tasks_from 3 (lines_of_tasks version tasks) second.1
+  plan ← at_line 2 (plan_line_of (parts 32 second.0))
+  rest ← parts_after_tasks 3 (version_task_lines version tasks) second.1
   notes ← notes_from version names rest.0 nothing_yet rest.1
   Ok (record { version = version; plan = plan; notes = notes })

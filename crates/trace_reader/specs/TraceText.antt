@@ -1,22 +1,17 @@
--- The text of a whole trace in each version, and the lines that only version 2 has.
-use Rattle.std.specs.Prelude.{ℕ, nat_eq, if◌then◌else◌, List, sum_by, ◌+◌, [], ◌∷◌, ◌++◌, flat_map, codes, decimal}
+-- The lines of a trace in each version, and its text; the lines that only version 2 has.
+use Rattle.std.specs.Prelude.{ℕ, Bool, true, false, if◌then◌else◌, List, sum_by, ◌+◌, [], ◌∷◌, ◌++◌, map, flat_map, codes, decimal}
 use Rattle.dvs_base.specs.declared.note.Note.{Note}
-use Rattle.dvs_base.specs.declared.note.Note.TheVariants.{Run, End}
+use Rattle.dvs_base.specs.declared.note.Note.TheVariants.{End}
 use Rattle.dvs_base.specs.declared.kind.Scheduler.{Scheduler}
 use Rattle.dvs_base.specs.declared.kind.GovernorKind.{GovernorKind}
 use Rattle.dvs_base.specs.declared.kind.Version.{Version}
 use Rattle.dvs_base.specs.declared.kind.Version.TheVariants.{One, Two}
-use Rattle.dvs_base.specs.Parts.{joined}
+use Rattle.dvs_base.specs.NoteTasks.{energy_of_task}
 use Rattle.trace_text.specs.TraceLines.{note_text, plan_text, line, version_text}
 
--- the energy of a note where it is a run of task i
-abbrev pub run_energy_of : ℕ → Note → ℕ
-run_energy_of i (Run from to j k units energy) = if nat_eq j i then energy else 0
-run_energy_of i _ = 0
-
 -- the energy of task i: the sum of the energies of its runs
-abbrev pub energy_of_task : List Note → ℕ → ℕ
-energy_of_task notes i = sum_by (run_energy_of i) notes
+abbrev pub task_energy : List Note → ℕ → ℕ
+task_energy notes i = sum_by (energy_of_task i) notes
 
 -- the line of a task's energy in version 2
 abbrev pub share_text : List ℕ → ℕ → List ℕ
@@ -25,25 +20,65 @@ share_text name energy = line (codes "energy" ∷ name ∷ decimal energy ∷ []
 -- the energy lines of the tasks with these names, which are numbered from i on
 abbrev pub shares_from : List Note → ℕ → List (List ℕ) → List (List ℕ)
 shares_from notes i [] = []
-shares_from notes i (name ∷ names) = share_text name (energy_of_task notes i) ∷ shares_from notes (i + 1) names
-
--- the text of a note of a trace: its line, and in version 2 the energy of each task before the `end` line
-abbrev pub told_text : Version → List (List ℕ) → List Note → Note → List ℕ
-told_text One names notes n = note_text names n
-told_text Two names notes (End t run idle) = joined (shares_from notes 0 names) ++ note_text names (End t run idle)
-told_text Two names notes n = note_text names n
+shares_from notes i (name ∷ names) = share_text name (task_energy notes i) ∷ shares_from notes (i + 1) names
 
 -- the first line of a trace, its version
 abbrev pub version_line : Version → List ℕ
 version_line One = version_text
 version_line Two = line (codes "trace" ∷ codes "2" ∷ [])
 
--- the text of a trace: its version, its plan, in version 2 the lines of its tasks, and its notes
-abbrev pub whole_text : Version → Scheduler → GovernorKind → ℕ → List (List ℕ) → List (List ℕ) → List Note → List ℕ
-whole_text One s g ticks names tasks notes = version_line One ++ plan_text s g ticks ++ flat_map (note_text names) notes
-whole_text Two s g ticks names tasks notes =
-    version_line Two ++ plan_text s g ticks ++ joined tasks ++ flat_map (told_text Two names notes) notes
-
 -- the line of a task in version 2: its name, its period, its first release and its declared worst case
 abbrev pub task_text : List ℕ → ℕ → ℕ → ℕ → List ℕ
 task_text name period offset worst = line (codes "task" ∷ name ∷ decimal period ∷ decimal offset ∷ decimal worst ∷ [])
+
+-- a line of a trace, with the note that it shows, or none
+pub record LineOf : Type 0 where
+  pub text : List ℕ
+  pub notes : List Note
+
+-- a line that shows no note
+abbrev pub plain : List ℕ → LineOf
+plain text = record { text = text; notes = [] }
+
+-- the line of a note
+abbrev pub noted : List (List ℕ) → Note → LineOf
+noted names n = record { text = note_text names n; notes = n ∷ [] }
+
+-- whether a trace has a line for each task, and one for its energy: in version 2 alone
+abbrev pub has_task_lines : Version → Bool
+has_task_lines One = false
+has_task_lines Two = true
+
+-- lines of these texts for the tasks, in a version that has such lines
+abbrev pub for_tasks : Version → List (List ℕ) → List LineOf
+for_tasks v texts = if has_task_lines v then map plain texts else []
+
+-- the lines before the notes: the version, the plan, and those of the tasks
+abbrev pub head_lines : Version → Scheduler → GovernorKind → ℕ → List (List ℕ) → List LineOf
+head_lines v s g ticks tasks = plain (version_line v) ∷ plain (plan_text s g ticks) ∷ for_tasks v tasks
+
+-- the lines of a note among all notes: its own, and before that of `end` those of the tasks' energies
+abbrev pub lines_of_note : Version → List (List ℕ) → List Note → Note → List LineOf
+lines_of_note v names notes (End t run idle) =
+    for_tasks v (shares_from notes 0 names) ++ noted names (End t run idle) ∷ []
+lines_of_note v names notes n = noted names n ∷ []
+
+-- the lines after the head: those of all notes
+abbrev pub note_lines : Version → List (List ℕ) → List Note → List LineOf
+note_lines v names notes = flat_map (lines_of_note v names notes) notes
+
+-- the lines of a trace: its head, with the lines of its tasks, and those of its notes
+abbrev pub trace_lines : Version → Scheduler → GovernorKind → ℕ → List (List ℕ) → List (List ℕ) → List Note → List LineOf
+trace_lines v s g ticks names tasks notes = head_lines v s g ticks tasks ++ note_lines v names notes
+
+-- the text of some lines
+abbrev pub text_of_lines : List LineOf → List ℕ
+text_of_lines lines = flat_map (λ l. l.text) lines
+
+-- the text of a trace: that of its lines
+abbrev pub whole_text : Version → Scheduler → GovernorKind → ℕ → List (List ℕ) → List (List ℕ) → List Note → List ℕ
+whole_text v s g ticks names tasks notes = text_of_lines (trace_lines v s g ticks names tasks notes)
+
+-- the notes that some lines show
+abbrev pub notes_of_lines : List LineOf → List Note
+notes_of_lines lines = flat_map (λ l. l.notes) lines

@@ -1,17 +1,16 @@
 -- Traces, and the one text of each.
-use Rattle.std.specs.Prelude.{List, ℕ, [], ◌∷◌, ◌<◌, ◌^◌, Bool, true, false, ◌≡◌, ◌+◌, ◌≤◌, length, ◌++◌}
+use Rattle.std.specs.Prelude.{List, ℕ, [], ◌∷◌, ◌<◌, ◌^◌, Bool, true, false, ◌≡◌, ◌+◌, ◌≤◌, length, ◌++◌, if◌then◌else◌}
 use Rattle.std.specs.List.{AllByRecursion}
 use Rattle.dvs_base.specs.Widths.{u64_end}
 use Rattle.dvs_base.specs.declared.note.Note.{Note}
 use Rattle.dvs_base.specs.declared.note.Note.TheVariants.{Release, Speed, Run, Idle, Done, End}
 use Rattle.dvs_base.specs.declared.note.Pos.{Pos}
 use Rattle.dvs_base.specs.declared.kind.Version.{Version}
-use Rattle.dvs_base.specs.declared.kind.Version.TheVariants.{One, Two}
 use Rattle.dvs_base.specs.PlanWords.{is_pair}
 use Rattle.dvs_base.specs.declared.limits.TheConstants.{MOST_TICKS, MOST_LINES}
 use Rattle.trace_text.specs.declared.write.PlanLine.{PlanLine}
 use Rattle.trace_reader.specs.declared.trace.TaskLine.{TaskLine}
-use Rattle.trace_reader.specs.TraceText.{task_text, whole_text, energy_of_task}
+use Rattle.trace_reader.specs.TraceText.{task_text, whole_text, task_energy, has_task_lines}
 
 -- a trace: its version, its plan and its notes
 pub record TraceOf : Type 0 where
@@ -54,15 +53,13 @@ IsEnded [] = ⊥
 IsEnded (n ∷ []) = is_end n ≡ true
 IsEnded (n ∷ m ∷ notes) = (is_end n ≡ false) × IsEnded (m ∷ notes)
 
--- in version 2, the energy of each task is below 2^128
+-- in a version that has lines for the tasks' energies, the energy of each of the c tasks is below 2^128
 abbrev pub HasShares : Version → ℕ → List Note → Type 0
-HasShares One c notes = Unit {0}
-HasShares Two c notes = (i : ℕ) → i < c → energy_of_task notes i < 2 ^ 128
+HasShares v c notes = has_task_lines v ≡ true → (i : ℕ) → i < c → task_energy notes i < 2 ^ 128
 
--- how many lines a version has for the tasks: none in version 1, the task and energy lines in version 2
+-- how many lines a version has for the tasks: one for each of `tasks`, and one for the energy of each of `names`, or none
 abbrev pub lines_for_tasks : Version → ℕ → ℕ → ℕ
-lines_for_tasks One names tasks = 0
-lines_for_tasks Two names tasks = tasks + names
+lines_for_tasks v names tasks = if has_task_lines v then tasks + names else 0
 
 -- a trace that has a text, for tasks with these names and lines
 pub record IsTrace (names tasks : List (List ℕ)) (t : TraceOf) : Type 0 where

@@ -1,21 +1,21 @@
 // The lines before the notes.
-ghost use Rattle.std.specs.Prelude.{◌≡◌, ◌≤◌, ◌++◌, ◌∷◌, [], length, IfOk};
+ghost use Rattle.std.specs.Prelude.{◌≡◌, ◌≤◌, ◌++◌, ◌∷◌, [], length, IfOk, true};
 ghost use Rattle.std.specs.Str.{bytes_eq};
 ghost use Rattle.dvs_base.specs.Checks.{IsUnlessMemory};
-ghost use Rattle.trace_reader.specs.TraceText.{task_text};
+ghost use Rattle.trace_reader.specs.TraceText.{task_text, has_task_lines};
 ghost use Rattle.trace_reader.specs.Fields.{parts};
-ghost use Rattle.trace_reader.specs.Heads.{version_of, plan_of, tasks_from, lines_of_tasks};
+ghost use Rattle.trace_reader.specs.Heads.{version_in, plan_line_of, parts_after_tasks, version_task_lines};
 ghost use Rattle.trace_reader.specs.Traces.{task_lines};
 
 use crate::parts::four;
 use crate::read::line_at;
-use crate::{TaskLine, TraceFault, TraceKind, write_task};
+use crate::{TaskLine, TraceFault, TraceKind, has_task_lines, write_task};
 use dvs_base::{Line, Name, Version, governor_of, is_pair, scheduler_of, ticks_of};
 use trace_text::PlanLine;
 
 // The version that the first line names, if it is not above the newest that is read.
-pub(crate) fn version_of(newest: Version, line: &[u8]) -> Result<Version, TraceKind>
-    ensures { result ≡ version_of newest line.now }
+pub(crate) fn version_in(newest: Version, line: &[u8]) -> Result<Version, TraceKind>
+    ensures { result ≡ version_in newest line.now }
 {
     if line == b"trace 1".as_slice() {
         Ok(Version::One)
@@ -27,9 +27,9 @@ pub(crate) fn version_of(newest: Version, line: &[u8]) -> Result<Version, TraceK
 }
 
 // The plan that the second line names.
-#[tactic(auto, unfolding(crate::specs::Heads::plan_of))]
-pub(crate) fn plan_of(line: &[u8]) -> Result<PlanLine, TraceKind>
-    ensures { result ≡ plan_of (parts 32 line.now) }
+#[tactic(auto, unfolding(crate::specs::Heads::plan_line_of))]
+pub(crate) fn plan_line_of(line: &[u8]) -> Result<PlanLine, TraceKind>
+    ensures { result ≡ plan_line_of (parts 32 line.now) }
 {
     let (word, scheduler, governor, ticks) = four(line, b' ').ok_or(TraceKind::Plan)?;
     let scheduler = scheduler_of(scheduler).ok_or(TraceKind::Plan)?;
@@ -57,7 +57,7 @@ fn is_task_line(line: &[u8], name: &Name, task: TaskLine) -> bool
 }
 
 // Reads the lines of the tasks, which begin at line 3. It returns the number of the next line, and the bytes from it.
-#[tactic(auto, unfolding(crate::specs::Heads::tasks_from))]
+#[tactic(auto, unfolding(crate::specs::Heads::parts_after_tasks))]
 fn read_task_lines<'a>(
     names: &[Name],
     tasks: &[TaskLine],
@@ -65,7 +65,7 @@ fn read_task_lines<'a>(
 ) -> Result<(u64, &'a [u8]), TraceFault>
     requires { length tasks.now ≡ length names.now }
     ensures read { IsUnlessMemory TraceFault.NoMemory (λ p. (p.0, parts 10 p.1.now)) result
-        (tasks_from 3 (task_lines names.now tasks.now) (parts 10 bytes.now)) }
+        (parts_after_tasks 3 (task_lines names.now tasks.now) (parts 10 bytes.now)) }
     ensures few { IfOk result (λ p. p.0 ≤ 800001) }
 {
     let mut number = 3;
@@ -85,20 +85,21 @@ fn read_task_lines<'a>(
 }
 
 // Reads the task lines that the version has. It returns the number of the next line, and the bytes from it.
-#[tactic(auto, unfolding(crate::specs::Heads::tasks_from))]
+#[tactic(auto, unfolding(crate::specs::Heads::parts_after_tasks))]
 pub(crate) fn read_tasks<'a>(
     version: Version,
     names: &[Name],
     tasks: &[TaskLine],
     bytes: &'a [u8],
 ) -> Result<(u64, &'a [u8]), TraceFault>
-    requires { version ≡ Version.Two → length tasks.now ≡ length names.now }
+    requires { has_task_lines version ≡ true → length tasks.now ≡ length names.now }
     ensures read { IsUnlessMemory TraceFault.NoMemory (λ p. (p.0, parts 10 p.1.now)) result
-        (tasks_from 3 (lines_of_tasks version (task_lines names.now tasks.now)) (parts 10 bytes.now)) }
+        (parts_after_tasks 3 (version_task_lines version (task_lines names.now tasks.now)) (parts 10 bytes.now)) }
     ensures few { IfOk result (λ p. p.0 ≤ 800001) }
 {
-    match version {
-        Version::One => Ok((3, bytes)),
-        Version::Two => read_task_lines(names, tasks, bytes),
+    if has_task_lines(version) {
+        read_task_lines(names, tasks, bytes)
+    } else {
+        Ok((3, bytes))
     }
 }

@@ -17,4 +17,4 @@ mod write;
 pub use fault_line::trace_fault_line;
 pub use read::{read_any, read_trace};
 pub use trace::{TaskLine, Trace, TraceFault, TraceKind};
-pub use write::{write_share, write_task, write_version};
+pub use write::{has_task_lines, write_share, write_task, write_version};

@@ -1,14 +1,15 @@
-// The lines after the head of a trace: notes, and in version 2 energies of tasks.
+// The lines after the head of a trace: notes, and energies of tasks.
 ghost use Rattle.std.specs.Prelude.{◌≡◌, ◌≤◌, ℕ, length, IfOk};
+ghost use Rattle.trace_reader.specs.TraceText.{has_task_lines};
 ghost use Rattle.trace_reader.specs.Fields.{parts};
-ghost use Rattle.trace_reader.specs.Items.{release_in, speed_in, run_in, idle_in, done_in, end_in, share_in, item_of, HasTaskBelow};
+ghost use Rattle.trace_reader.specs.Items.{release_in, speed_in, run_in, idle_in, done_in, end_in, energy_in, item_of, HasTaskBelow};
 
-use crate::TraceKind;
 use crate::fields::{fraction_in, position_in, task_in, whole_in, wide_in};
 use crate::parts::{cut, four, six, three, two};
+use crate::{TraceKind, has_task_lines};
 use dvs_base::{Name, Note, Version};
 
-/// A note, or in version 2 the energy of a task.
+/// A note, or the energy of a task.
 #[derive(Clone, Copy, Debug, PartialEq, Eq)]
 pub enum Item {
     Told(Note),
@@ -117,13 +118,13 @@ fn end_in(fields: &[u8]) -> Result<Item, TraceKind>
     Ok(Item::Told(Note::End { ticks, run, idle }))
 }
 
-#[tactic(auto, unfolding(crate::specs::Items::share_in))]
-fn share_in(version: Version, names: &[Name], fields: &[u8]) -> Result<Item, TraceKind>
+#[tactic(auto, unfolding(crate::specs::Items::energy_in))]
+fn energy_in(version: Version, names: &[Name], fields: &[u8]) -> Result<Item, TraceKind>
     requires { length names.now ≤ 64 }
-    ensures item { result ≡ share_in version names.now (parts 32 fields.now) }
+    ensures item { result ≡ energy_in version names.now (parts 32 fields.now) }
     ensures task { IfOk result (HasTaskBelow (length names.now)) }
 {
-    if version == Version::One {
+    if !has_task_lines(version) {
         return Err(TraceKind::Word);
     }
     let (task, energy) = two(fields, b' ').ok_or(TraceKind::Word)?;
@@ -156,7 +157,7 @@ pub(crate) fn item_of(version: Version, names: &[Name], line: &[u8]) -> Result<I
     } else if word == b"end".as_slice() {
         end_in(fields)
     } else if word == b"energy".as_slice() {
-        share_in(version, names, fields)
+        energy_in(version, names, fields)
     } else {
         Err(TraceKind::Word)
     }

@@ -1,6 +1,7 @@
 // Parts of a text, between the places of one byte.
 ghost use Rattle.std.specs.Prelude.{◌≡◌, ◌<◌, ◌∷◌, [], length, option_map, position, ◌==◌, IfSome, IfNone};
-ghost use Rattle.trace_reader.specs.Fields.{parts, one_of, two_of, three_of, four_of, six_of};
+ghost use Rattle.dvs_base.specs.Parts.{two_of, three_of};
+ghost use Rattle.trace_reader.specs.Fields.{parts, one_of, four_of, six_of};
 
 // The place of the first byte that is `at`.
 fn place_of(bytes: &[u8], at: u8) -> Option<usize>

@@ -2,13 +2,13 @@
 ghost use Rattle.std.specs.Prelude.{◌≡◌, ◌≢◌, ℕ, ◌≤◌, ◌<◌, ◌∷◌, [], List, length, IfOk, Ok, Err, true, if◌then◌else◌};
 ghost use Rattle.std.specs.List.{AllPairs};
 ghost use Rattle.dvs_base.specs.declared.note.Note.{Note};
-ghost use Rattle.dvs_base.specs.declared.kind.Version.TheVariants.{Two};
 ghost use Rattle.dvs_base.specs.Checks.{IsUnlessMemory};
 ghost use Rattle.dvs_base.specs.Text.{is_name};
 ghost use Rattle.dvs_base.specs.declared.limits.TheConstants.{MOST_LINES};
 ghost use Rattle.dvs_base.specs.Parts.{name_of};
 ghost use Rattle.trace_reader.specs.declared.trace.TraceFault.TheVariants as fault;
 ghost use Rattle.trace_reader.specs.declared.trace.TraceKind.TheVariants as kind;
+ghost use Rattle.trace_reader.specs.TraceText.{has_task_lines};
 ghost use Rattle.trace_reader.specs.Fields.{parts};
 ghost use Rattle.trace_reader.specs.Heads.{line_at, at_line};
 ghost use Rattle.trace_reader.specs.Items.{HasTaskBelow};
@@ -16,11 +16,11 @@ ghost use Rattle.trace_reader.specs.Sums.{HasSums};
 ghost use Rattle.trace_reader.specs.TraceFile.{is_in_order, is_right_share, wanted, next_item, nothing_yet, is_nothing, notes_from, trace_file};
 ghost use Rattle.trace_reader.specs.Traces.{TraceOf, task_lines, IsTextOf, HaveOneText};
 
-use crate::head::{plan_of, read_tasks, version_of};
+use crate::head::{plan_line_of, read_tasks, version_in};
 use crate::line::{Item, item_of};
 use crate::parts::cut;
 use crate::shares::Shares;
-use crate::{TaskLine, Trace, TraceFault, TraceKind};
+use crate::{TaskLine, Trace, TraceFault, TraceKind, has_task_lines};
 use dvs_base::{LONGEST_LINE, MOST_LINES, Name, Note, Version};
 use std::alloc::Global;
 
@@ -62,14 +62,15 @@ fn at_line<T>(line: u64, read: Result<T, TraceKind>) -> Result<T, TraceFault>
     }
 }
 
-// How many energies of tasks a trace has: one for each name in version 2, none in version 1.
+// How many energies of tasks a trace has: one for each name, in a version that has such lines.
 fn wanted_of(version: Version, names: &[Name]) -> u32
     requires { length names.now ≤ 64 }
     ensures { result ≡ wanted version names.now }
 {
-    match version {
-        Version::One => 0,
-        Version::Two => names.len() as u32,
+    if has_task_lines(version) {
+        names.len() as u32
+    } else {
+        0
     }
 }
 
@@ -181,14 +182,14 @@ fn read(
     tasks: &[TaskLine],
 ) -> Result<Trace, TraceFault>
     requires names { length names.now ≤ 64 }
-    requires lists { newest ≡ Two → length tasks.now ≡ length names.now }
+    requires lists { has_task_lines newest ≡ true → length tasks.now ≡ length names.now }
     ensures { IsUnlessMemory TraceFault.NoMemory (λ t. t) result
         (trace_file newest names.now (task_lines names.now tasks.now) bytes.now) }
 {
     let (line, rest) = line_at(1, bytes)?;
-    let version = at_line(1, version_of(newest, line))?;
+    let version = at_line(1, version_in(newest, line))?;
     let (line, rest) = line_at(2, rest)?;
-    let plan = at_line(2, plan_of(line))?;
+    let plan = at_line(2, plan_line_of(line))?;
     let (number, rest) = read_tasks(version, names, tasks, rest)?;
     let notes = read_notes(alloc, version, names, number, rest)?;
     Ok(Trace {

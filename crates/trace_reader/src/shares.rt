@@ -1,7 +1,7 @@
 // The energies of the tasks, summed over the notes of a trace.
 ghost use Rattle.std.specs.Prelude.{◌≡◌, ◌<◌, ◌==◌, ◌++◌, ◌∷◌, [], List};
 ghost use Rattle.dvs_base.specs.declared.note.Note.{Note};
-ghost use Rattle.trace_reader.specs.TraceText.{energy_of_task};
+ghost use Rattle.trace_reader.specs.TraceText.{task_energy};
 ghost use Rattle.trace_reader.specs.Items.{HasTaskBelow};
 ghost use Rattle.trace_reader.specs.Sums.{with_energy, HasSums};
 
@@ -47,7 +47,7 @@ impl Shares {
     // Whether the energy is the sum of the task.
     pub(crate) fn is_sum(&self, task: u32, energy: u128) -> bool
         requires { task < 64 }
-        ensures { (notes : List Note) → HasSums notes self.now.sums → result ≡ (energy == energy_of_task notes task) }
+        ensures { (notes : List Note) → HasSums notes self.now.sums → result ≡ (energy == task_energy notes task) }
     {
         match self.sums[task as usize] {
             Some(sum) => sum == energy,

@@ -1,9 +1,19 @@
 // The version line, and the lines that only version 2 has.
 ghost use Rattle.std.specs.Prelude.{◌≡◌, []};
-ghost use Rattle.trace_reader.specs.TraceText.{version_line, task_text, share_text};
+ghost use Rattle.trace_reader.specs.TraceText.{version_line, task_text, share_text, has_task_lines};
 
 use crate::TaskLine;
 use dvs_base::{Line, Name, Part, Version, line_of};
+
+/// Whether a trace of this version has a line for each task, and one for its energy.
+pub fn has_task_lines(version: Version) -> bool
+    ensures { result ≡ has_task_lines version }
+{
+    match version {
+        Version::One => false,
+        Version::Two => true,
+    }
+}
 
 /// Writes the first line of a trace, its version, with its line feed.
 pub fn write_version(line: &mut Line, version: Version)

@@ -5,4 +5,4 @@
 
 mod write;
 
-pub use write::{PlanLine, note_line, write_head, write_note};
+pub use write::{PlanLine, governor_word, note_line, scheduler_word, write_head, write_note};

@@ -25,7 +25,8 @@ struct Span {
     to: Pos,
 }
 
-fn word_of_scheduler(scheduler: Scheduler) -> &'static [u8]
+/// The word of a scheduler in a plan line: `edf` or `rm`.
+pub fn scheduler_word(scheduler: Scheduler) -> &'static [u8]
     ensures { result.now ≡ scheduler_word scheduler }
 {
     match scheduler {
@@ -34,7 +35,8 @@ fn word_of_scheduler(scheduler: Scheduler) -> &'static [u8]
     }
 }
 
-fn word_of_governor(governor: GovernorKind) -> &'static [u8]
+/// The word of a governor in a plan line: `none`, `static`, `cc` or `la`.
+pub fn governor_word(governor: GovernorKind) -> &'static [u8]
     ensures { result.now ≡ governor_word governor }
 {
     match governor {
@@ -52,9 +54,9 @@ pub fn write_head(line: &mut Line, plan: PlanLine)
 {
     *line = line_of(&[
         Part::Word(b"plan "),
-        Part::Word(word_of_scheduler(plan.scheduler)),
+        Part::Word(scheduler_word(plan.scheduler)),
         Part::Word(b" "),
-        Part::Word(word_of_governor(plan.governor)),
+        Part::Word(governor_word(plan.governor)),
         Part::Word(b" "),
         Part::Number(plan.ticks),
         Part::Word(b"\n"),

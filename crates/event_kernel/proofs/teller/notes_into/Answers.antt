@@ -1,18 +1,17 @@
 use Rattle.std.proofs.Common.{◌≡◌, ℕ, List, [], ◌∷◌, ◌++◌, ◌∙◌, ap, map, length, subst, sym, refl}
-use Rattle.std.specs.Prelude.{IfOk, sum_by}
+use Rattle.std.specs.Prelude.{IfOk}
 use Rattle.dvs_base.specs.declared.note.Note.TheVariants.{End}
 use Rattle.dvs_base.specs.declared.note.Totals.{Totals}
-use Rattle.energy.specs.Books.{energy_of_task}
 use Rattle.grid_fraction.specs.Numbers.{list_below}
 use Rattle.sched_model.specs.Plan.{count, names}
 use Rattle.sched_model.specs.Totals.{totals_of}
 use Rattle.sched_model.proofs.ScheduleLemmas.{length-list_below}
-use Rattle.event_kernel.specs.Lines.{noted}
+use Rattle.trace_reader.specs.TraceText.{noted, task_energy}
 use Rattle.event_kernel.specs.PlainLines.{sum_lines}
 use Rattle.event_kernel.specs.SpanNotes.{notes_before_end_of}
-use Rattle.event_kernel.proofs.Booking.{booked-tasks}
+use Rattle.event_kernel.proofs.Booking.{booked-tasks, booked-totals}
 use Rattle.event_kernel.proofs.Tellers.{heard-written, balked-written}
-use Rattle.event_kernel.proofs.Wholes.{told-lines, booked-lines, few-of}
+use Rattle.event_kernel.proofs.Wholes.{told-lines, few-of}
 use Rattle.event_kernel.proofs.Writing.{writes-then, lines-as, some-as, lines-some-more}
 use Rattle.event_kernel.proofs.teller.notes_into.Goals as goal
 
@@ -36,9 +35,11 @@ returns-in-Ok-clause-writes g c =
     let h = c.args.head in
     let a = c.args.teller.now in
     let s = c.in-Ok.account in
+    let booked = c.in-Ok.ensures.booked in
     lines-as _ _ _ _ _ _ c.tell_tail.result
-    (booked-lines g.G.Governor.demand r h.version a.names.now h.plan.now h.ticks s
-    c.scheduler-scheduler.ensures.admitted c.requires.names c.requires.plan c.requires.ticks c.in-Ok.ensures.booked)
+    (told-lines g.G.Governor.demand r h.version a.names.now h.plan.now h.ticks s.by_task s.totals
+    c.scheduler-scheduler.ensures.admitted c.requires.names c.requires.plan c.requires.ticks
+    (booked-tasks r.plan s _ booked) (booked-totals r.plan s _ booked))
     (writes-then _ _ _ _ _ _ (map (noted a.names.now) (notes_before_end_of g.G.Governor.demand r))
     (sum_lines h.version h.plan.now s.by_task ++ noted (names h.plan.now) (End h.ticks s.totals.run s.totals.idle) ∷ []) c.tell_tail.result
     (heard-written g.W.Sink.shows g.P.Probe.seen a _ c.spans.new.to c.in-Ok.ensures.told.0).0 c.tell_tail.ensures.writes)
@@ -49,7 +50,7 @@ returns-in-Err-clause-writes g c =
     let h = c.args.head in
     let a = c.args.teller.now in
     let before = notes_before_end_of g.G.Governor.demand r in
-    let es : List ℕ = list_below (count r.plan) (λ i. sum_by (energy_of_task i) before) in
+    let es : List ℕ = list_below (count r.plan) (task_energy before) in
     let t : Totals = totals_of before in
     some-as
     (told-lines g.G.Governor.demand r h.version a.names.now h.plan.now h.ticks es t

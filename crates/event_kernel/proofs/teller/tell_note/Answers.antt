@@ -1,5 +1,5 @@
 use Rattle.std.proofs.Common.{map, ◌<◌, ℕ, List, length, subst, sym}
-use Rattle.event_kernel.specs.Lines.{noted}
+use Rattle.trace_reader.specs.TraceText.{noted}
 use Rattle.dvs_base.specs.WritesText.{WroteSome}
 use Rattle.event_kernel.proofs.Writing.{note-some, one-line-part}
 use Rattle.event_kernel.proofs.teller.tell_note.Goals as goal

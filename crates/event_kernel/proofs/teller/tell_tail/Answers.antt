@@ -1,7 +1,7 @@
 use Rattle.std.proofs.Common.{[], ◌∷◌}
 use Rattle.dvs_base.specs.declared.note.Note.TheVariants.{End}
 use Rattle.sched_model.specs.Plan.{names}
-use Rattle.event_kernel.specs.Lines.{noted}
+use Rattle.trace_reader.specs.TraceText.{noted}
 use Rattle.event_kernel.specs.PlainLines.{sum_lines}
 use Rattle.event_kernel.proofs.Writing.{writes-then, lines-some-more}
 use Rattle.event_kernel.proofs.teller.tell_tail.Goals as goal

@@ -1,7 +1,7 @@
 use Rattle.std.proofs.Common.{[], ◌∷◌}
 use Rattle.trace_text.specs.TraceLines.{plan_text}
-use Rattle.trace_reader.specs.TraceText.{version_line}
-use Rattle.event_kernel.specs.Lines.{plain, task_lines}
+use Rattle.done_lines.specs.RunText.{task_texts}
+use Rattle.trace_reader.specs.TraceText.{version_line, plain, for_tasks}
 use Rattle.event_kernel.proofs.Writing.{plain-line, plain-part, lines-then, lines-then-some, lines-some-more, writes-then, stopped-exit}
 use Rattle.event_kernel.proofs.write.put_head.Goals as goal
 
@@ -10,7 +10,7 @@ returns-in_err-put_line g c ps =
     let h = c.args.head in
     let p = h.plan.now in
     stopped-exit _ _ ps ps _ c.from_residual.result c.from_residual.ensures.0
-    (lines-some-more _ _ ps ps (plain (version_line h.version) ∷ []) (plain (plan_text p.scheduler h.governor h.ticks) ∷ task_lines h.version p)
+    (lines-some-more _ _ ps ps (plain (version_line h.version) ∷ []) (plain (plan_text p.scheduler h.governor h.ticks) ∷ for_tasks h.version (task_texts p))
     (plain-part _ _ ps c.line_of_version.result (version_line h.version) c.line_of_version.ensures c.in_err-put_line.ensures))
 
 pub returns-in_err-put_line-2 : goal.returns-in_err-put_line-2
@@ -18,9 +18,10 @@ returns-in_err-put_line-2 g c ps =
     let h = c.args.head in
     let p = h.plan.now in
     stopped-exit _ _ ps ps _ c.from_residual-in_err-put_line-2.result c.from_residual-in_err-put_line-2.ensures.0
-    (lines-then-some _ _ _ ps ps ps (plain (version_line h.version) ∷ []) (plain (plan_text p.scheduler h.governor h.ticks) ∷ task_lines h.version p)
+    (lines-then-some _ _ _ ps ps ps (plain (version_line h.version) ∷ [])
+    (plain (plan_text p.scheduler h.governor h.ticks) ∷ for_tasks h.version (task_texts p))
     (plain-line _ _ ps c.line_of_version.result (version_line h.version) c.line_of_version.ensures c.in_ok-put_line.ensures)
-    (lines-some-more _ _ ps ps (plain (plan_text p.scheduler h.governor h.ticks) ∷ []) (task_lines h.version p)
+    (lines-some-more _ _ ps ps (plain (plan_text p.scheduler h.governor h.ticks) ∷ []) (for_tasks h.version (task_texts p))
     (plain-part _ _ ps c.line_of_plan.result (plan_text p.scheduler h.governor h.ticks) c.line_of_plan.ensures c.in_err-put_line-2.ensures)))
 
 pub returns : goal.returns
@@ -28,7 +29,7 @@ returns g c ps =
     let h = c.args.head in
     let p = h.plan.now in
     writes-then _ _ _ ps ps ps (plain (version_line h.version) ∷ plain (plan_text p.scheduler h.governor h.ticks) ∷ [])
-    (task_lines h.version p) c.put_task_lines.result
+    (for_tasks h.version (task_texts p)) c.put_task_lines.result
     (lines-then _ _ _ ps ps ps (plain (version_line h.version) ∷ []) (plain (plan_text p.scheduler h.governor h.ticks) ∷ [])
     (plain-line _ _ ps c.line_of_version.result (version_line h.version) c.line_of_version.ensures c.in_ok-put_line.ensures)
     (plain-line _ _ ps c.line_of_plan.result (plan_text p.scheduler h.governor h.ticks) c.line_of_plan.ensures c.in_ok-put_line-2.ensures))

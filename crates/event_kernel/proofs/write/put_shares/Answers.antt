@@ -1,5 +1,4 @@
 use Rattle.std.proofs.Common.{◌∙◌, ap, arith}
-use Rattle.std.specs.Prelude.{slice_index}
 use Rattle.sched_model.specs.Plan.{count, names}
 use Rattle.dvs_base.specs.Parts.{name_of}
 use Rattle.trace_reader.specs.TraceText.{share_text}
@@ -15,8 +14,7 @@ pub returns-in_err-put_line : goal.returns-in_err-put_line
 returns-in_err-put_line g c ps =
     let p = c.args.plan.now in
     stopped-exit _ _ ps ps _ c.from_residual.result c.from_residual.ensures.0
-    (below-stopped ps (λ i. share_text (name_of (names p) i) (slice_index c.args.account.now.by_task i))
-    {n = count p} (omega (arith, c.loop-i-test.true, c.count-i-end.ensures.count)) (c.line_of_share.ensures
+    (below-stopped ps _ {n = count p} (omega (arith, c.loop-i-test.true, c.count-i-end.ensures.count)) (c.line_of_share.ensures
     ∙ ap (share_text (name_of (names p) c.loop-i.i)) c.of_task.ensures) (c.loop-i.invariant ps) c.in_err-put_line.ensures)
 
 pub returns : goal.returns

@@ -1,15 +1,15 @@
-use Rattle.std.proofs.Common.{List}
+use Rattle.std.proofs.Common.{List, map}
 use Rattle.std.specs.Prelude.{slice_index}
 use Rattle.grid_fraction.specs.Numbers.{list_below}
 use Rattle.probes.specs.Tallies.{ProbeOf}
 use Rattle.sched_model.specs.Plan.{names}
 use Rattle.dvs_base.specs.Parts.{name_of}
-use Rattle.trace_reader.specs.TraceText.{share_text}
-use Rattle.event_kernel.specs.Lines.{WroteLines, plain}
+use Rattle.trace_reader.specs.TraceText.{share_text, plain}
+use Rattle.event_kernel.specs.Lines.{WroteLines}
 use Rattle.event_kernel.proofs.write.put_shares.Given as goal
 
 abbrev pub invariant-loop-i : goal.invariant-loop-i
 invariant-loop-i g l =
     let p = l.fn.plan in
     (ps : List ProbeOf) → WroteLines (g.W.Sink.shows l.fn.out) (g.W.Sink.shows l.out) ps ps
-    (list_below l.i (λ i. plain (share_text (name_of (names p) i) (slice_index l.fn.account.by_task i))))
+    (map plain (list_below l.i (λ i. share_text (name_of (names p) i) (slice_index l.fn.account.by_task i))))

@@ -1,10 +1,8 @@
-use Rattle.std.proofs.Common.{subst, sym}
-use Rattle.dvs_base.specs.declared.kind.Version.{Version}
-use Rattle.event_kernel.specs.Lines.{WritesLines, task_lines}
+use Rattle.done_lines.specs.RunText.{task_texts}
+use Rattle.event_kernel.proofs.Writing.{lines-as, task-lines}
 use Rattle.event_kernel.proofs.write.put_task_lines.Goals as goal
 
-pub returns-in-Two : goal.returns-in-Two
-returns-in-Two g c ps =
-    subst (λ (v : Version). WritesLines (g.W.Sink.shows c.args.out.now) (g.W.Sink.shows c.put_tasks.new.out) ps ps
-    (task_lines v c.args.plan.now) c.put_tasks.result)
-    (sym c.in-Two.is) (c.put_tasks.ensures ps)
+pub returns-then-has_task_lines : goal.returns-then-has_task_lines
+returns-then-has_task_lines g c ps =
+    lines-as _ _ ps ps _ _ c.put_tasks.result
+    (task-lines c.args.version (task_texts c.args.plan.now) c.has_task_lines.ensures c.if-has_task_lines.true) (c.put_tasks.ensures ps)

@@ -1,7 +1,5 @@
 use Rattle.std.proofs.Common.{arith}
-use Rattle.sched_model.specs.Plan.{count, names, task, period, offset}
-use Rattle.dvs_base.specs.Parts.{name_of}
-use Rattle.trace_reader.specs.TraceText.{task_text}
+use Rattle.sched_model.specs.Plan.{count}
 use Rattle.event_kernel.proofs.Writing.{below-next, below-stopped, below-all, stopped-exit}
 use Rattle.event_kernel.proofs.write.put_tasks.Goals as goal
 
@@ -10,10 +8,9 @@ loop-i-preserved g c ps = below-next ps _ c.loop-i.i c.line_of_task.ensures (c.l
 
 pub returns-in_err-put_line : goal.returns-in_err-put_line
 returns-in_err-put_line g c ps =
-    let p = c.args.plan.now in
     stopped-exit _ _ ps ps _ c.from_residual.result c.from_residual.ensures.0
-    (below-stopped ps (λ i. task_text (name_of (names p) i) (period p i) (offset p i) ((task p i).worst))
-    {n = count p} (omega (arith, c.loop-i-test.true, c.count-i-end.ensures.count)) c.line_of_task.ensures (c.loop-i.invariant ps) c.in_err-put_line.ensures)
+    (below-stopped ps _ {n = count c.args.plan.now} (omega (arith, c.loop-i-test.true, c.count-i-end.ensures.count))
+    c.line_of_task.ensures (c.loop-i.invariant ps) c.in_err-put_line.ensures)
 
 pub returns : goal.returns
 returns g c ps =

@@ -1,6 +1,6 @@
 use Rattle.std.proofs.Common.{◌≡◌, ◌≤◌, drop}
 use Rattle.trace_reader.specs.Fields.{parts}
-use Rattle.trace_reader.specs.Heads.{tasks_from}
+use Rattle.trace_reader.specs.Heads.{parts_after_tasks}
 use Rattle.trace_reader.specs.Traces.{task_lines}
 use Rattle.trace_reader.proofs.head.read_task_lines.Given as goal
 
@@ -8,6 +8,6 @@ use Rattle.trace_reader.proofs.head.read_task_lines.Given as goal
 abbrev pub invariant-loop-i : goal.invariant-loop-i
 invariant-loop-i l = record {
   few : l.number ≤ 800001;
-  left : tasks_from l.number (task_lines (drop l.i l.names) (drop l.i l.tasks)) (parts 10 l.rest)
-      ≡ tasks_from 3 (task_lines l.names l.tasks) (parts 10 l.bytes);
+  left : parts_after_tasks l.number (task_lines (drop l.i l.names) (drop l.i l.tasks)) (parts 10 l.rest)
+      ≡ parts_after_tasks 3 (task_lines l.names l.tasks) (parts 10 l.bytes);
 }

@@ -1,23 +1,17 @@
 use Rattle.std.proofs.Common.{◌≡◌, Bool, true, false, ℕ, List, [], ◌∷◌, length, Err, refl, sym, if◌then◌else◌}
 use Rattle.dvs_base.specs.declared.kind.Version.{Version}
-use Rattle.dvs_base.specs.declared.kind.Version.TheVariants.{One, Two}
 use Rattle.trace_reader.specs.declared.trace.TraceKind.TheVariants as kind
-use Rattle.trace_reader.specs.Items.{release_in, speed_in, run_in, idle_in, done_in, end_in, share_in, item_of}
+use Rattle.trace_reader.specs.Items.{release_in, speed_in, run_in, idle_in, done_in, end_in, energy_in, item_of}
 use Rattle.trace_reader.proofs.line.item_of.Goals as goal
 
 same-choice : {A : Type 0} (b : Bool) (x : A) → (if b then x else x) ≡ x
 same-choice true x = refl
 same-choice false x = refl
 
-share-alone : (v : Version) (names : List (List ℕ)) → share_in v names [] ≡ Err kind.Word
-unfolding share_in
-share-alone One names = refl
-share-alone Two names = refl
-
 -- a line that is its word alone is refused
 item-alone : (v : Version) (names : List (List ℕ)) (word : List ℕ) → item_of v names (word ∷ []) ≡ Err kind.Word
-unfolding item_of release_in speed_in run_in idle_in done_in end_in
-item-alone v names word = rw share-alone (simp same-choice refl)
+unfolding item_of release_in speed_in run_in idle_in done_in end_in energy_in
+item-alone v names word = simp same-choice refl
 
 pub returns-in-None-clause-item : goal.returns-in-None-clause-item
 returns-in-None-clause-item c = rw c.in-None.ensures.none (sym (item-alone c.args.version c.args.names.now c.args.line.now))

@@ -6,12 +6,12 @@ use Rattle.governor.specs.Schedule.{course}
 use Rattle.governor.specs.Steps.{IsAtDecision}
 use Rattle.event_kernel.specs.declared.span_trace.SpanTrace.{SpanTrace}
 use Rattle.event_kernel.specs.Boundary.{speed_note}
-use Rattle.event_kernel.specs.SpanNotes.{kept}
+use Rattle.event_kernel.specs.SpanNotes.{kept_notes}
 use Rattle.event_kernel.specs.Segment.{with_notes, new_trace}
 use Rattle.event_kernel.specs.Runs.{demands_of}
 use Rattle.event_kernel.proofs.Bounds.{bounds}
 use Rattle.event_kernel.proofs.Deciding.{at-decision}
-use Rattle.event_kernel.proofs.Keeping.{kept-append}
+use Rattle.event_kernel.proofs.Keeping.{kept_notes-append}
 use Rattle.event_kernel.proofs.Ofplan.{of-state}
 use Rattle.event_kernel.proofs.Courses.{low-exec}
 use Rattle.event_kernel.proofs.Spanning.{at-boundary, begins-span}
@@ -44,10 +44,10 @@ returns-clause-in_span g c =
     let st = c.release_all.new.self.state in
     let releases : List Note = all_release_notes p (demands_of p c.args.set.now.demands.now) s0.now in
     let speed : List Note = speed_note p st.now (g.G.Governor.demand p st) ∷ [] in
-    let released : c.release_all.new.self.trace ≡ new_trace (kept releases) =
+    let released : c.release_all.new.self.trace ≡ new_trace (kept_notes releases) =
     c.release_all.ensures.trace ∙ ap (λ (q : SpanTrace). with_notes q releases) c.clear.ensures in
-    let notes : c.decide-index.new.notes ≡ kept (releases ++ speed) =
-    c.decide-index.ensures.note ∙ (ap (λ (q : SpanTrace). kept (q.notes ++ speed)) released ∙ kept-append releases speed) in
+    let notes : c.decide-index.new.notes ≡ kept_notes (releases ++ speed) =
+    c.decide-index.ensures.note ∙ (ap (λ (q : SpanTrace). kept_notes (q.notes ++ speed)) released ∙ kept_notes-append releases speed) in
     begins-span c.requires.set (record { from = c.state.inside.now; index = c.decide-index.result }) s0 st
     (record { segment = c.release_all.new.self.trace.segment; notes = c.decide-index.new.notes })
     c.requires.early c.requires.between (ap (λ (v : StateOf). v.now) c.state.view_is) c.release_all.ensures.state c.decide-index.ensures.index

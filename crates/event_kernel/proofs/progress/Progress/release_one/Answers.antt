@@ -3,8 +3,8 @@ use Rattle.dvs_base.specs.declared.note.Note.{Note}
 use Rattle.dvs_base.specs.declared.note.Note.TheVariants.{Release, Done}
 use Rattle.event_kernel.specs.Boundary.{needs_nothing}
 use Rattle.event_kernel.specs.Segment.{with_notes}
-use Rattle.event_kernel.specs.SpanNotes.{kept}
-use Rattle.event_kernel.proofs.Keeping.{kept-append}
+use Rattle.event_kernel.specs.SpanNotes.{kept_notes}
+use Rattle.event_kernel.proofs.Keeping.{kept_notes-append}
 use Rattle.sched_model.specs.declared.state.Row.{Row}
 use Rattle.sched_model.specs.States.{row_at, after_finish, StateOf}
 use Rattle.agenda.specs.Agenda.{opened}
@@ -50,9 +50,9 @@ returns-then-complete-clause-trace g c =
     let done : Note = Done (record { tick = now; offset = 0 }) (i g c) job 0 in
     ap (λ (ns : List Note). record { segment = trace.segment; notes = ns })
     (c.push-then-complete.ensures
-    ∙ (ap (λ (ns : List Note). kept (ns ++ done ∷ [])) c.push.ensures
-    ∙ kept-append (trace.notes ++ release ∷ []) (done ∷ [])))
-    ∙ (ap (λ (ns : List Note). record { segment = trace.segment; notes = kept ns }) (append_assoc trace.notes (release ∷ []) (done ∷ []))
+    ∙ (ap (λ (ns : List Note). kept_notes (ns ++ done ∷ [])) c.push.ensures
+    ∙ kept_notes-append (trace.notes ++ release ∷ []) (done ∷ [])))
+    ∙ (ap (λ (ns : List Note). record { segment = trace.segment; notes = kept_notes ns }) (append_assoc trace.notes (release ∷ []) (done ∷ []))
     ∙ (ap₂ (λ t k. with_notes trace (Release t (i g c) (k + 1) ∷ Done (record { tick = t; offset = 0 }) (i g c) (k + 1) 0 ∷ []))
     (ap (λ (v : StateOf). v.now) c.state.view_is) (ap (λ (r : Row). r.job) (is g c))
     ∙ ap (λ ns. with_notes trace ns) (sym (opening-done (dem g c) (s g c) (i g c) (none g c)))))

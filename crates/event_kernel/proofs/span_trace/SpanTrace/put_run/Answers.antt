@@ -8,10 +8,10 @@ use Rattle.sched_model.specs.Plan.{point}
 use Rattle.sched_model.specs.Notes.{position_of}
 use Rattle.sched_model.specs.States.{row_at, StateOf}
 use Rattle.energy.specs.Segments.{segment_energy}
-use Rattle.event_kernel.specs.SpanNotes.{kept}
+use Rattle.event_kernel.specs.SpanNotes.{kept_notes}
 use Rattle.event_kernel.specs.Segment.{with_notes, holder_notes, HeldIn}
 use Rattle.event_kernel.proofs.Working.{read_row}
-use Rattle.event_kernel.proofs.Keeping.{kept-append}
+use Rattle.event_kernel.proofs.Keeping.{kept_notes-append}
 use Rattle.event_kernel.proofs.span_trace.SpanTrace.put_run.Goals as goal
 
 pub returns-then-row : goal.returns-then-row
@@ -29,9 +29,9 @@ returns-then-row c =
     let used = ap (λ (r : Row). r.used) row in
     ap (λ (ns : List Note). record { segment = trace.segment; notes = ns })
     (c.push-then-row.ensures
-    ∙ (ap (λ (ns : List Note). kept (ns ++ done ∷ [])) c.push.ensures
-    ∙ (kept-append (trace.notes ++ ran ∷ []) (done ∷ [])
-    ∙ ap kept (append_assoc trace.notes (ran ∷ []) (done ∷ [])))))
+    ∙ (ap (λ (ns : List Note). kept_notes (ns ++ done ∷ [])) c.push.ensures
+    ∙ (kept_notes-append (trace.notes ++ ran ∷ []) (done ∷ [])
+    ∙ ap kept_notes (append_assoc trace.notes (ran ∷ []) (done ∷ [])))))
     ∙ ap (λ ns. with_notes trace ns)
     ((λ j. Run (c.ends.ensures.first j) (c.ends.ensures.end j) c.args.task c.args.job trace.segment.units (energy j)
     ∷ (if ended j then Done (c.ends.ensures.end j) c.args.task c.args.job (used j) ∷ [] else []))

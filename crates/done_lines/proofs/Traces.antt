@@ -14,12 +14,13 @@ use Rattle.sched_model.specs.Demand.{published}
 use Rattle.sched_model.specs.Schedule.{schedule_by}
 use Rattle.sched_model.specs.Notes.{notes_before_end}
 use Rattle.trace_text.specs.TraceLines.{note_text}
-use Rattle.sched_model.specs.Text.{run_text}
+use Rattle.dvs_base.specs.declared.kind.Version.TheVariants.{One}
+use Rattle.done_lines.specs.RunText.{run_text_in}
 use Rattle.sched_model.proofs.Examples.{row, paper_example, paper_demands, heavy_set, two_tasks, late_second, late_alone, controller, controller_demands, early_and_late, due_together, due_together_demands, equal_periods, long_and_short, freed_units, freed_units_demands}
 
 -- the text of a run under a list of demands
 abbrev text : Plan → GovernorKind → List DemandRow → ℕ → List ℕ
-text p g rows ticks = run_text p g (demand_of p rows) ticks
+text p g rows ticks = run_text_in One p g (demand_of p rows) ticks
 
 -- lines, each ended by a line feed
 abbrev lines : List (List ℕ) → List ℕ
