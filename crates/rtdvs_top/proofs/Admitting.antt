@@ -17,7 +17,7 @@ use Rattle.rtdvs_top.specs.Prepared.{EndsAs}
 use Rattle.rtdvs_top.specs.declared.status.Denied.{Denied}
 use Rattle.rtdvs_top.specs.declared.status.Status.{Status}
 use Rattle.rtdvs_top.specs.declared.status.Status.TheVariants as status
-use Rattle.rtdvs_top.proofs.Denying.{DeniesNot, is_denial, status_of, is_given, tasks_at-denies-not, machine_at-denies-not, demands_at-denies-not, trace_at-denies-not, server_at-denies-not, requests_at-denies-not, within-denies-not, traced-denies-not, admission-passes, denied-plan}
+use Rattle.rtdvs_top.proofs.Denying.{DeniesNot, is_denial, status_of, is_given, tasks_at-denies-not, machine_at-denies-not, demands_at-denies-not, trace_at-denies-not, server_at-denies-not, requests_at-denies-not, within-denies-not, traced-denies-not, admission-gives, denied-plan}
 
 -- a step gives a value only where the plan passes its test, and denies only where it fails it
 record Tests {A : Type 0} (step : Result A Status) (plan : Result Plan Status) : Type 0 where
@@ -26,7 +26,7 @@ record Tests {A : Type 0} (step : Result A Status) (plan : Result Plan Status) :
 
 admission-tests : (p : Plan) → Tests (admission p) (Ok p)
 admission-tests p = record {
-  given = λ q e. (p, refl, admission-passes p q e);
+  given = λ q e. (p, refl, (admission-gives p q e).1);
   denied = λ why e. (p, refl, denied-plan p why e);
 }
 
@@ -98,12 +98,8 @@ shows-test files c plan old new s tests ends = tt
 
 pub of-admission : (files : Option Files) (c : CommandOf) (old new : SinkView) (s : Status)
     → EndsAs old new files (answer_of_command c) s → OfAdmission files (Ok c) s
-of-admission (Some files) (run r) old new s ends =
-    shows-test files (run r) (run_plan r files) old new s (run-tests r files) ends
-of-admission (Some files) (admit a) old new s ends =
-    shows-test files (admit a) (admit_plan a files) old new s (admit-tests a files) ends
-of-admission (Some files) (traced r) old new s ends =
-    shows-test files (traced r) (traced_plan r files) old new s (traced-tests r files) ends
-of-admission (Some files) (poll q) old new s ends =
-    shows-test files (poll q) (poll_plan q files) old new s (poll-tests q files) ends
+of-admission (Some files) (run r) old new s ends = shows-test files (run r) (run_plan r files) old new s (run-tests r files) ends
+of-admission (Some files) (admit a) old new s ends = shows-test files (admit a) (admit_plan a files) old new s (admit-tests a files) ends
+of-admission (Some files) (traced r) old new s ends = shows-test files (traced r) (traced_plan r files) old new s (traced-tests r files) ends
+of-admission (Some files) (poll q) old new s ends = shows-test files (poll q) (poll_plan q files) old new s (poll-tests q files) ends
 of-admission files c old new s ends = tt

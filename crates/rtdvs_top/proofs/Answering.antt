@@ -1,12 +1,13 @@
 -- The status is the answer's, from how the answer ends and why its loads failed.
 use Rattle.std.proofs.Common.{◌≡◌, ◌⊎◌, inl, inr, ℕ, ◌+◌, Bool, List, [], ◌∷◌, Option, Some, None, Result, Ok, Err, IsTrue, refl, ap, subst, arith, rules}
 use Rattle.dvs_base.specs.Outside.{Files, ShelfView, SinkView, Rose, Lacks, file_of}
+use Rattle.words.specs.declared.command.WordFault.{WordFault}
 use Rattle.words.specs.Commands.{CommandOf, run, admit, traced, workload, response, constrain, poll, least}
 use Rattle.rtdvs_top.specs.Promises.{answer_of_command, Answers, Writes, WritesPart, IsSureOf}
 use Rattle.rtdvs_top.specs.Files.{NamedFile, files_of, CountsPuts, files_needed, files_for, is_passed, passes}
 use Rattle.rtdvs_top.specs.Failing.{FailsFrom, FailsIn}
 use Rattle.rtdvs_top.specs.Prepared.{Ends, EndsSomehow, EndsAs}
-use Rattle.rtdvs_top.specs.Run.{Leaves}
+use Rattle.rtdvs_top.specs.Status.{Leaves}
 use Rattle.rtdvs_top.specs.declared.status.FileKind.{FileKind}
 use Rattle.rtdvs_top.specs.declared.status.Status.{Status}
 use Rattle.rtdvs_top.specs.declared.status.Status.TheVariants as status
@@ -78,6 +79,12 @@ sure-of shows (Some files) c status.Done old new ends leaves sure = ends.2.stead
 sure-of shows (Some files) c status.Write old new ends leaves sure =
     let whole = sure ends.0 ends.1 in omega (arith, whole, ends.2.unsure)
 sure-of shows (Some files) c s old new ends leaves sure = ap (λ w. (shows w).faults) leaves
+
+-- words that were read are not refused
+pub not-words : (files : Option Files) (c : CommandOf) (s : Status) (old new : SinkView) (why : WordFault)
+    → EndsAs old new files (answer_of_command c) s → s ≡ status.Words why → ⊥
+not-words None c s old new why ends refused = subst (EndsSomehow old new) refused ends
+not-words (Some files) c s old new why ends refused = subst (Ends old new (answer_of_command c files)) refused ends
 
 -- what was written where the answer is done, and where a put failed
 pub writes-of : (files : Option Files) (c : CommandOf) (s : Status) (old new : SinkView)

@@ -22,7 +22,7 @@ use Rattle.replay.specs.Replays.{first_over, too_many, unless, own_notes, replay
 use Rattle.replay.specs.declared.fault.ReplayFault.{ReplayFault}
 use Rattle.replay.specs.declared.fault.ReplayFault.TheVariants as replay_fault
 use Rattle.replay.proofs.Fixing.{over-fit}
-use Rattle.rtdvs_top.specs.Trace.{replay_status, totals_from, totals_at}
+use Rattle.rtdvs_top.specs.Trace.{replay_status, totals_or_status, totals_at}
 use Rattle.rtdvs_top.specs.Failing.{EndsWith}
 
 -- a refusal of a replay ends the comparison
@@ -64,7 +64,7 @@ module _ (demand : Plan → StateOf → Frac) (kind : GovernorKind) (p : Plan) (
 -- the answer of a replay under a governor's own demand is that of the comparison
 pub governed-totals : (demand : Plan → StateOf → Frac) (kind : GovernorKind) (p : Plan) → Publishes demand kind p
     → (t : TraceOf) → t.plan.governor ≡ kind → (r : Result Totals ReplayFault)
-    → replay_of p (ask_of demand p) t ≡ r → totals_at (p, t) ≡ totals_from r
+    → replay_of p (ask_of demand p) t ≡ r → totals_at (p, t) ≡ totals_or_status r
 governed-totals demand kind p publishes t is r h =
-    ap (λ (g : GovernorKind). totals_from (replay_of p (published p g) t)) is
-    ∙ ap totals_from (sym (same-answer demand kind p publishes t) ∙ h)
+    ap (λ (g : GovernorKind). totals_or_status (replay_of p (published p g) t)) is
+    ∙ ap totals_or_status (sym (same-answer demand kind p publishes t) ∙ h)

@@ -29,17 +29,17 @@ use Rattle.dvs_base.specs.declared.note.Totals.{Totals}
 use Rattle.replay.specs.Replays.{replay_of}
 use Rattle.replay.specs.declared.fault.ReplayFault.{ReplayFault}
 use Rattle.replay.specs.declared.fault.ReplayFault.TheVariants as replay_fault
-use Rattle.words.specs.declared.given.TraceUse.{TraceUse}
+use Rattle.words.specs.declared.command.TraceUse.{TraceUse}
 use Rattle.sched_model.specs.Demand.{published}
-use Rattle.sched_model.specs.Plan.{Plan, period, hyper, top_speed}
-use Rattle.sched_model.specs.Tests.{total_rate, level_work}
+use Rattle.sched_model.specs.Plan.{Plan, hyper, top_speed}
+use Rattle.sched_model.specs.Tests.{total_rate}
 use Rattle.sched_model.specs.Admission.{PassesTest}
 use Rattle.dvs_base.specs.declared.limits.TheConstants.{MOST_JOBS}
-use Rattle.rtdvs_top.specs.Meanings.{bytes_from, bytes_at, tasks_from, machine_from, demands_from, tasks_at, machine_at, demands_at, longest}
+use Rattle.rtdvs_top.specs.Meanings.{bytes_from, bytes_at, tasks_or_status, machine_or_status, demands_or_status, tasks_at, machine_at, demands_at, longest}
 use Rattle.rtdvs_top.specs.Admit.{admission, admission_by, admission_from, first_overloaded}
 use Rattle.rtdvs_top.specs.Run.{within_jobs}
-use Rattle.rtdvs_top.specs.Trace.{trace_from, trace_of, trace_at, totals_from, totals_at, printed, answer_of_traced}
-use Rattle.rtdvs_top.specs.Poll.{server_from, server_at, requests_from, requests_at}
+use Rattle.rtdvs_top.specs.Trace.{trace_or_status, trace_of, trace_at, totals_or_status, totals_at, printed, answer_of_traced}
+use Rattle.rtdvs_top.specs.Poll.{server_from, server_at, requests_or_status, requests_at}
 use Rattle.rtdvs_top.specs.Promises.{IsDenial, DeniedPlan}
 use Rattle.rtdvs_top.specs.declared.status.Denied.{Denied}
 use Rattle.rtdvs_top.specs.declared.status.Denied.TheVariants as denied
@@ -110,52 +110,51 @@ bytes-deny-not kind (Some bytes) = go (nat_lt (longest kind) (length bytes))
     go true = refl
     go false = refl
 
-tasks-deny-not : (r : Result (List Task) TaskFault) → DeniesNot (tasks_from r)
+file-denies-not : {A : Type 0} (kind : FileKind) (name : List ℕ) (files : Files) (read : List ℕ → Result A Status)
+    → ((bytes : List ℕ) → DeniesNot (read bytes)) → DeniesNot (and_then (bytes_at kind name files) read)
+file-denies-not kind name files read = then-denies-not (bytes_at kind name files) read (bytes-deny-not kind (file_of files name))
+
+tasks-deny-not : (r : Result (List Task) TaskFault) → DeniesNot (tasks_or_status r)
 tasks-deny-not (Err task_fault.NoMemory) = refl
 tasks-deny-not r = refl
 
-machine-denies-not : (r : Result Table MachineFault) → DeniesNot (machine_from r)
+machine-denies-not : (r : Result Table MachineFault) → DeniesNot (machine_or_status r)
 machine-denies-not (Err machine_fault.NoMemory) = refl
 machine-denies-not r = refl
 
-demands-deny-not : (r : Result DemandsOf DemandFault) → DeniesNot (demands_from r)
+demands-deny-not : (r : Result DemandsOf DemandFault) → DeniesNot (demands_or_status r)
 demands-deny-not (Err demand_fault.NoMemory) = refl
 demands-deny-not r = refl
 
 pub tasks_at-denies-not : (name : List ℕ) (files : Files) → DeniesNot (tasks_at name files)
 tasks_at-denies-not name files =
-    then-denies-not (bytes_at file.Tasks name files) (λ bytes. tasks_from (task_file bytes))
-    (bytes-deny-not file.Tasks (file_of files name)) (λ bytes. tasks-deny-not (task_file bytes))
+    file-denies-not file.Tasks name files (λ bytes. tasks_or_status (task_file bytes)) (λ bytes. tasks-deny-not (task_file bytes))
 
 pub machine_at-denies-not : (name : List ℕ) (files : Files) → DeniesNot (machine_at name files)
 machine_at-denies-not name files =
-    then-denies-not (bytes_at file.Machine name files) (λ bytes. machine_from (machine_file bytes))
-    (bytes-deny-not file.Machine (file_of files name)) (λ bytes. machine-denies-not (machine_file bytes))
+    file-denies-not file.Machine name files (λ bytes. machine_or_status (machine_file bytes)) (λ bytes. machine-denies-not (machine_file bytes))
 
 pub demands_at-denies-not : (tasks : List Task) (name : Option (List ℕ)) (files : Files)
     → DeniesNot (demands_at tasks name files)
 demands_at-denies-not tasks None files = refl
 demands_at-denies-not tasks (Some name) files =
-    then-denies-not (bytes_at file.Demands name files) (λ bytes. demands_from (demand_file tasks bytes))
-    (bytes-deny-not file.Demands (file_of files name)) (λ bytes. demands-deny-not (demand_file tasks bytes))
+    file-denies-not file.Demands name files (λ bytes. demands_or_status (demand_file tasks bytes)) (λ bytes. demands-deny-not (demand_file tasks bytes))
 
-trace-denies-not : (r : Result TraceOf TraceFault) → DeniesNot (trace_from r)
+trace-denies-not : (r : Result TraceOf TraceFault) → DeniesNot (trace_or_status r)
 trace-denies-not (Err trace_fault.NoMemory) = refl
 trace-denies-not r = refl
 
-requests-deny-not : (r : Result (List Request) RequestFault) → DeniesNot (requests_from r)
+requests-deny-not : (r : Result (List Request) RequestFault) → DeniesNot (requests_or_status r)
 requests-deny-not (Err request_fault.NoMemory) = refl
 requests-deny-not r = refl
 
 pub trace_at-denies-not : (tasks : List Task) (name : List ℕ) (files : Files) → DeniesNot (trace_at tasks name files)
 trace_at-denies-not tasks name files =
-    then-denies-not (bytes_at file.Trace name files) (λ bytes. trace_from (trace_of tasks bytes))
-    (bytes-deny-not file.Trace (file_of files name)) (λ bytes. trace-denies-not (trace_of tasks bytes))
+    file-denies-not file.Trace name files (λ bytes. trace_or_status (trace_of tasks bytes)) (λ bytes. trace-denies-not (trace_of tasks bytes))
 
 pub requests_at-denies-not : (name : List ℕ) (files : Files) → DeniesNot (requests_at name files)
 requests_at-denies-not name files =
-    then-denies-not (bytes_at file.Requests name files) (λ bytes. requests_from (request_file bytes))
-    (bytes-deny-not file.Requests (file_of files name)) (λ bytes. requests-deny-not (request_file bytes))
+    file-denies-not file.Requests name files (λ bytes. requests_or_status (request_file bytes)) (λ bytes. requests-deny-not (request_file bytes))
 
 pub server_at-denies-not : (name : List ℕ) (tasks : List Task) → DeniesNot (server_at name tasks)
 server_at-denies-not name tasks = go (place_of tasks name)
@@ -164,7 +163,7 @@ server_at-denies-not name tasks = go (place_of tasks name)
     go None = refl
     go (Some i) = refl
 
-totals-deny-not : (r : Result Totals ReplayFault) → DeniesNot (totals_from r)
+totals-deny-not : (r : Result Totals ReplayFault) → DeniesNot (totals_or_status r)
 totals-deny-not (Ok totals) = refl
 totals-deny-not (Err (replay_fault.OverWorst task job used worst)) = refl
 totals-deny-not (Err (replay_fault.TooManyJobs jobs)) = refl
@@ -194,78 +193,46 @@ passes-admission Edf p h =
     rw fits refl
 passes-admission Rm p h = ap (admission_from p) (overloaded-none p h)
 
--- what an admission answers: the plan itself, or a denial
-pub admission-is : (p : Plan) → (admission p ≡ Ok p) ⊎ ((why : Denied) × (admission p ≡ Err (status.NotAdmitted why)))
-admission-is p = by p.scheduler
+-- what the test of a scheduler answers: the plan, which passes it, or a denial by the test's two numbers
+abbrev pub Decides : Plan → Scheduler → Result Plan Status → Type 0
+Decides p sch r = ((r ≡ Ok p) × PassesTest sch p) ⊎ ((why : Denied) × (r ≡ Err (status.NotAdmitted why)) × IsDenial p why)
+
+pub decides : (p : Plan) → Decides p p.scheduler (admission p)
+decides p = by p.scheduler refl
   where
-    by-edf : (b : Bool) (why : Denied)
-        → let r = if b then Err (status.NotAdmitted why) else Ok p in (r ≡ Ok p) ⊎ ((d : Denied) × (r ≡ Err (status.NotAdmitted d)))
-    by-edf true why = inr (why, refl)
-    by-edf false why = inl refl
+    by-edf : (b : Bool) → nat_lt (top_speed p * hyper p) (total_rate p) ≡ b → p.scheduler ≡ Edf
+        → Decides p Edf (if b then Err (status.NotAdmitted (denied.Edf (total_rate p) (top_speed p * hyper p))) else Ok p)
+    by-edf true e edf = inr (_, refl, (edf, refl, refl, ltb-true (top_speed p * hyper p) (total_rate p) e))
+    by-edf false e edf = inl (refl, ltb-false (top_speed p * hyper p) (total_rate p) e)
 
-    by-rm : (o : Option ℕ)
-        → (admission_from p o ≡ Ok p) ⊎ ((d : Denied) × (admission_from p o ≡ Err (status.NotAdmitted d)))
-    by-rm None = inl refl
-    by-rm (Some i) = inr (denied.Rm i (level_work p i) (top_speed p * period p i), refl)
+    by-rm : (o : Option ℕ) → first_overloaded p ≡ o → p.scheduler ≡ Rm → Decides p Rm (admission_from p o)
+    by-rm None e rm = inl (refl, none-overloaded p e)
+    by-rm (Some i) e rm = inr (_, refl, (rm, first-overloaded p i e, refl, refl))
 
-    by : (sch : Scheduler)
-        → (admission_by sch p ≡ Ok p) ⊎ ((d : Denied) × (admission_by sch p ≡ Err (status.NotAdmitted d)))
-    by Edf = by-edf (nat_lt (top_speed p * hyper p) (total_rate p)) (denied.Edf (total_rate p) (top_speed p * hyper p))
-    by Rm = by-rm (first_overloaded p)
+    by : (sch : Scheduler) → p.scheduler ≡ sch → Decides p sch (admission_by sch p)
+    by Edf edf = by-edf (nat_lt (top_speed p * hyper p) (total_rate p)) refl edf
+    by Rm rm = by-rm (first_overloaded p) refl rm
 
--- the plan that an admission gives is the plan itself
-pub admission-same : (p q : Plan) → admission p ≡ Ok q → q ≡ p
-admission-same p q e = go (admission-is p)
+-- the plan that an admission gives is the plan itself, which passes its scheduler's test
+pub admission-gives : (p q : Plan) → admission p ≡ Ok q → (q ≡ p) × PassesTest p.scheduler p
+admission-gives p q e = go (decides p)
   where
-    go : (admission p ≡ Ok p) ⊎ ((why : Denied) × (admission p ≡ Err (status.NotAdmitted why))) → q ≡ p
-    go (inl same) = given-once e same
+    go : Decides p p.scheduler (admission p) → (q ≡ p) × PassesTest p.scheduler p
+    go (inl same) = (given-once e same.0, same.1)
     go (inr denial) = absurd (true≢false (ap is_given (sym e ∙ denial.1)))
-
--- a plan that is admitted passes its scheduler's test
-pub admission-passes : (p q : Plan) → admission p ≡ Ok q → PassesTest p.scheduler p
-admission-passes p q e = by p.scheduler e
-  where
-    by-edf : (b : Bool) (why : Denied) → (if b then Err (status.NotAdmitted why) else Ok p) ≡ Ok q → b ≡ false
-    by-edf true why e = absurd (true≢false (sym (ap is_given e)))
-    by-edf false why e = refl
-
-    by-rm : (o : Option ℕ) → admission_from p o ≡ Ok q → o ≡ None
-    by-rm None e = refl
-    by-rm (Some i) e = absurd (true≢false (sym (ap is_given e)))
-
-    by : (sch : Scheduler) → admission_by sch p ≡ Ok q → PassesTest sch p
-    by Edf e = ltb-false (top_speed p * hyper p) (total_rate p)
-        (by-edf (nat_lt (top_speed p * hyper p) (total_rate p)) (denied.Edf (total_rate p) (top_speed p * hyper p)) e)
-    by Rm e = none-overloaded p (by-rm (first_overloaded p) e)
-
--- a plan is denied by the two numbers of its scheduler's test, which fails by them
-is-denial : (p : Plan) (why : Denied) → admission p ≡ Err (status.NotAdmitted why) → IsDenial p why
-is-denial p why e = by p.scheduler refl e
-  where
-    why-of : {A : Type 0} → Result A Status → Denied
-    why-of (Err (status.NotAdmitted d)) = d
-    why-of r = why
-
-    by-edf : (b : Bool) (d : Denied) → (if b then Err (status.NotAdmitted d) else Ok p) ≡ Err (status.NotAdmitted why)
-        → (b ≡ true) × (d ≡ why)
-    by-edf true d e = (refl, ap why-of e)
-    by-edf false d e = absurd (true≢false (ap is_given e))
-
-    by-rm : (o : Option ℕ) → p.scheduler ≡ Rm → first_overloaded p ≡ o
-        → admission_from p o ≡ Err (status.NotAdmitted why) → IsDenial p why
-    by-rm None rm found e = absurd (true≢false (ap is_given e))
-    by-rm (Some i) rm found e = subst (IsDenial p) (ap why-of e) (rm, first-overloaded p i found, refl, refl)
-
-    by : (sch : Scheduler) → p.scheduler ≡ sch → admission_by sch p ≡ Err (status.NotAdmitted why) → IsDenial p why
-    by Edf edf e =
-        let both = by-edf (nat_lt (top_speed p * hyper p) (total_rate p)) (denied.Edf (total_rate p) (top_speed p * hyper p)) e in
-        subst (IsDenial p) both.1 (edf, refl, refl, ltb-true (top_speed p * hyper p) (total_rate p) both.0)
-    by Rm rm e = by-rm (first_overloaded p) rm refl e
 
 -- a plan that is denied fails its test, by the test's two numbers
 pub denied-plan : (p : Plan) (why : Denied) → admission p ≡ Err (status.NotAdmitted why) → DeniedPlan p why
 denied-plan p why e = record {
   numbers = e;
-  by = is-denial p why e;
+  by = go (decides p);
   fails = λ h. true≢false (ap is_given (sym (passes-admission p.scheduler p h) ∙ e));
 }
+  where
+    why-of : Result Plan Status → Denied
+    why-of (Err (status.NotAdmitted d)) = d
+    why-of r = why
+
+    go : Decides p p.scheduler (admission p) → IsDenial p why
+    go (inl same) = absurd (true≢false (ap is_given (sym same.0 ∙ e)))
+    go (inr denial) = subst (IsDenial p) (ap why-of (sym denial.1 ∙ e)) denial.2

@@ -21,9 +21,9 @@ use Rattle.look_ahead_laws.proofs.AheadLaws.{ahead_laws}
 use Rattle.look_ahead_laws.proofs.Publishing.{ahead_publishing}
 use Rattle.event_kernel.specs.Runs.{Run}
 use Rattle.event_kernel.proofs.Meeting.{run-met}
-use Rattle.rtdvs_top.specs.Prepared.{IsReadyRun}
 use Rattle.rtdvs_top.specs.Run.{HasMet}
 use Rattle.rtdvs_top.proofs.Published.{met-published}
+use Rattle.rtdvs_top.specs.Prepared.{IsReadyRun}
 
 module _ (v : Version) (p : Plan) (d : DemandsOf) (ticks : ℕ) where
   -- the run of the plan for `ticks` ticks

@@ -37,18 +37,18 @@ use Rattle.replay.proofs.Texts.{names-distinct}
 use Rattle.words.specs.Commands.{TracedOf, CommandOf, traced}
 use Rattle.rtdvs_top.specs.Meanings.{longest, bytes_from, bytes_at, tasks_at, machine_at}
 use Rattle.rtdvs_top.specs.Admit.{admission}
-use Rattle.rtdvs_top.specs.Trace.{task_line, lines_of_tasks, trace_from, trace_of, trace_at, traced_of, totals_at, printed, answer_of_traced, trace_answer, IsScheduleText, AreFilesOf, TellsOwn, IsDoneUnless, OfTrace}
+use Rattle.rtdvs_top.specs.Trace.{task_line, lines_of_tasks, trace_or_status, trace_of, trace_at, traced_of, totals_at, printed, answer_of_traced, trace_answer, IsScheduleText, AreFilesOf, TellsOwn, IsDoneUnless, OfTrace}
 use Rattle.rtdvs_top.specs.Promises.{IsAnswer, Answers}
-use Rattle.rtdvs_top.specs.Prepared.{MetIn}
 use Rattle.rtdvs_top.specs.declared.status.FileKind.{FileKind}
 use Rattle.rtdvs_top.specs.declared.status.FileKind.TheVariants as file
 use Rattle.rtdvs_top.specs.declared.status.Status.{Status}
 use Rattle.rtdvs_top.specs.declared.status.Status.TheVariants as status
 use Rattle.rtdvs_top.specs.declared.status.TextFault.TheVariants as text_fault
-use Rattle.rtdvs_top.proofs.Denying.{is_given, given-once, given-both, passes-admission, admission-same}
+use Rattle.rtdvs_top.proofs.Denying.{is_given, given-once, given-both, passes-admission, admission-gives}
 use Rattle.rtdvs_top.proofs.Loading.{short_file}
 use Rattle.rtdvs_top.proofs.Migrating.{few-of-none, replayed-some, passes, own-notes}
-use Rattle.rtdvs_top.proofs.TraceTexts.{below-first}
+use Rattle.event_kernel.proofs.Wholes.{below-first}
+use Rattle.rtdvs_top.specs.Prepared.{MetIn}
 
 -- the line of a task of a list
 abbrev line_of_task : List Task → ℕ → List ℕ
@@ -128,7 +128,7 @@ held-file kind (Some b) bytes e = fits (nat_lt (longest kind) (length b)) e
     fits false e = ap Some (given-once {A = List ℕ} refl e)
 
 -- what a trace file means, where it has a meaning
-trace-given : (t : TraceOf) (r : Result TraceOf TraceFault) → trace_from r ≡ Ok t → r ≡ Ok t
+trace-given : (t : TraceOf) (r : Result TraceOf TraceFault) → trace_or_status r ≡ Ok t → r ≡ Ok t
 trace-given t (Ok u) h = ap (λ (r : Result TraceOf Status). ok_or_it r) h
   where
     ok_or_it : Result TraceOf Status → Result TraceOf TraceFault
@@ -187,10 +187,10 @@ done-own r files tasks p t ts e adm ok =
     let machine : Table = m.0 in
     let x = given-both (trace_at tasks r.trace files) (λ u. and_then (admission (plan_of tasks machine u.plan.scheduler)) (λ q. Ok (q, u))) (p, t) m.2 in
     let a = given-both (admission (plan_of tasks machine x.0.plan.scheduler)) (λ q. Ok (q, x.0)) (p, t) x.2 in
-    let b = given-both (bytes_at file.Trace r.trace files) (λ bytes. trace_from (trace_of tasks bytes)) x.0 x.1 in
+    let b = given-both (bytes_at file.Trace r.trace files) (λ bytes. trace_or_status (trace_of tasks bytes)) x.0 x.1 in
     let pair : (p, t) ≡ (a.0, x.0) = given-once a.2 refl in
     let plan_is : p ≡ plan_of tasks machine x.0.plan.scheduler =
-    ap (λ y. y.0) pair ∙ admission-same (plan_of tasks machine x.0.plan.scheduler) a.0 a.1 in
+    ap (λ y. y.0) pair ∙ (admission-gives (plan_of tasks machine x.0.plan.scheduler) a.0 a.1).0 in
     let trace_is : t ≡ x.0 = ap (λ y. y.1) pair in
     let found = (reads-found Two (map (λ (t : Task). t.name) tasks) (lines_of_tasks tasks) b.0 x.0 (trace-given x.0 (trace_of tasks b.0) b.2)).0 in
     let answer : trace_answer r files ≡ answer_of_traced r.asked (p, t) = rw (ts, e) refl in

@@ -1,5 +1,5 @@
 -- The headline, from how an answer ends and what its run met.
-use Rattle.std.proofs.Common.{◌≡◌, ◌≢◌, ◌⊎◌, inl, inr, ℕ, ◌≤◌, Bool, true, false, List, Option, Some, Result, Ok, Err, refl, sym, ◌∙◌, ap, subst, true≢false, nat_lt, if◌then◌else◌}
+use Rattle.std.proofs.Common.{◌≡◌, ◌≢◌, inl, inr, ℕ, ◌≤◌, Bool, true, false, List, Option, Some, Result, Ok, Err, refl, sym, ◌∙◌, ap, subst, true≢false, nat_lt, if◌then◌else◌}
 use Rattle.std.specs.Io.KnownBytes.{Appends}
 use Rattle.dvs_base.specs.Outside.{Files, SinkView, Rose}
 use Rattle.dvs_base.specs.Checks.{and_then}
@@ -16,13 +16,13 @@ use Rattle.rtdvs_top.specs.Meanings.{tasks_at, machine_at, demands_at}
 use Rattle.rtdvs_top.specs.Admit.{admission}
 use Rattle.rtdvs_top.specs.Run.{within_jobs, prepared_of, answer_of_prepared, run_after_tasks, run_with}
 use Rattle.rtdvs_top.specs.Promises.{answer_of_command, MeansRun, DoneRun, DeniedPlan, OfRun, OfTests, RunsOrIsDenied, Answers, Headline}
-use Rattle.rtdvs_top.specs.Prepared.{IsReadyRun, EndsAs, MetIn}
+use Rattle.rtdvs_top.specs.Prepared.{EndsAs, IsReadyRun, MetIn}
 use Rattle.rtdvs_top.specs.declared.status.Denied.{Denied}
 use Rattle.rtdvs_top.specs.declared.status.Status.{Status}
 use Rattle.rtdvs_top.specs.declared.status.Status.TheVariants as status
 use Rattle.rtdvs_top.proofs.EachPair.{has-met}
 use Rattle.rtdvs_top.proofs.Responses.{responds-or-is-denied}
-use Rattle.rtdvs_top.proofs.Denying.{status_of, is_given, given-once, within-few, denied-later, denied-first, given-both, tasks_at-denies-not, machine_at-denies-not, demands_at-denies-not, within-denies-not, admission-is, admission-same, denied-plan}
+use Rattle.rtdvs_top.proofs.Denying.{status_of, is_given, given-once, within-few, denied-later, denied-first, given-both, tasks_at-denies-not, machine_at-denies-not, demands_at-denies-not, within-denies-not, Decides, decides, admission-gives, denied-plan}
 
 -- what the files of a run that was prepared mean
 prepared-means : (r : RunOf) (files : Files) (tasks : List Task) (p : Plan) (d : DemandsOf)
@@ -40,7 +40,7 @@ prepared-means r files tasks p d t e =
       machine,
       demands,
       record { tasks_are = t; machine_is = m.1; demands_are = g.1 },
-      ap (λ x. x.0) pair ∙ admission-same (plan_of tasks machine r.scheduler) a.0 a.1,
+      ap (λ x. x.0) pair ∙ (admission-gives (plan_of tasks machine r.scheduler) a.0 a.1).0,
       ap (λ x. x.1) pair,
     )
 
@@ -119,11 +119,10 @@ module _ (r : RunOf) (files : Files) (tasks : List Task) (machine : Table) (dema
   -- a status that the answer refuses with is a denial
   denied-only : (s : Status) → answer_of_command (run r) files ≡ Err s
       → (why : Denied) × (s ≡ status.NotAdmitted why) × DeniedPlan plan why
-  denied-only s e = go (admission-is plan)
+  denied-only s e = go (decides plan)
     where
-      go : (admission plan ≡ Ok plan) ⊎ ((why : Denied) × (admission plan ≡ Err (status.NotAdmitted why)))
-          → (why : Denied) × (s ≡ status.NotAdmitted why) × DeniedPlan plan why
-      go (inl ok) = absurd (true≢false (ap is_given (sym (within-few (released_jobs plan r.ticks) whole few) ∙ (sym (ap after ok) ∙ (sym answer-is ∙ e)))))
+      go : Decides plan plan.scheduler (admission plan) → (why : Denied) × (s ≡ status.NotAdmitted why) × DeniedPlan plan why
+      go (inl ok) = absurd (true≢false (ap is_given (sym (within-few (released_jobs plan r.ticks) whole few) ∙ (sym (ap after ok.0) ∙ (sym answer-is ∙ e)))))
       go (inr denial) = (denial.0, ap status_of (sym e ∙ (answer-is ∙ ap after denial.1)), denied-plan plan denial.0 denial.1)
 
   -- a run that is done is of what its files mean

@@ -2,7 +2,7 @@ pub mod Loading
 pub mod Refusing
 pub mod Texts
 pub mod Overloads
-pub mod TraceTexts
+pub mod LineNotes
 pub mod NumberedPuts
 pub mod ProbePuts
 pub mod Noting
@@ -16,7 +16,6 @@ pub mod InOrder
 pub mod Answering
 pub mod Shows
 pub mod FewJobs
-pub mod FiveLines
 pub mod Comparisons
 pub mod Migrating
 pub mod Exactness

@@ -1,14 +1,14 @@
 -- What was prepared and then put answers its command, and so does what was refused before.
-use Rattle.std.proofs.Common.{◌≡◌, ℕ, List, Option, Some, None, Result, refl, sym, subst}
-use Rattle.dvs_base.specs.Outside.{Files, ShelfView, SinkView}
+use Rattle.std.proofs.Common.{◌≡◌, ℕ, Bool, true, false, List, Option, Some, None, Result, Ok, Err, IfOk, IfErr, refl, sym, subst}
+use Rattle.dvs_base.specs.Outside.{Files, SinkView}
 use Rattle.task_model.specs.declared.task.Task.{Task}
 use Rattle.probes.specs.Tallies.{ProbeOf}
-use Rattle.words.specs.Commands.{CommandOf, run, traced, poll, least}
-use Rattle.rtdvs_top.specs.Promises.{answer_of_command}
-use Rattle.rtdvs_top.specs.Failing.{IsRefusal, Refuses, FailsIn}
+use Rattle.words.specs.Commands.{CommandOf, run, traced, poll, least, asks_probes}
+use Rattle.rtdvs_top.specs.Promises.{ToldIn, answer_of_command}
+use Rattle.rtdvs_top.specs.Failing.{IsRefusal, Refuses, FailsIn, CountsStep}
 use Rattle.rtdvs_top.specs.Files.{CountsLoads, files_for}
-use Rattle.rtdvs_top.specs.Prepared.{Ends, EndsAs, PutEnds, MetIn, NamedBy, NamedIfDone, HasAnswer, IsPrepared, IsRefused, answer_of, Seen, IsAnswered}
-use Rattle.rtdvs_top.specs.Probing.{ToldIn}
+use Rattle.rtdvs_top.specs.Prepared.{Ends, EndsAs, PutEnds, NamedBy, NamedIfDone, HasAnswer, IsPrepared, IsPuttable, IsRefused, answer_of, tells_probes, ToldOf, Seen, IsAnswered, MetIn}
+use Rattle.rtdvs_top.specs.Probing.{LeavesProbes}
 use Rattle.rtdvs_top.specs.Status.{IsShown}
 use Rattle.rtdvs_top.specs.declared.put.Prepared.{Prepared}
 use Rattle.rtdvs_top.specs.declared.status.Status.{Status}
@@ -25,47 +25,26 @@ put-ends None old new step answer s h ends = tt
 put-ends (Some files) old new step answer s h ends =
     subst (λ (a : Result (List ℕ) Status). Ends old new a s) (sym h) ends
 
--- a put ends without a failed load, and with no status that names a task
-module _ (answer : Result (List ℕ) Status) where
-  put-failed : (old new : ShelfView) (c : CommandOf) (s : Status) → PutEnds answer s → FailsIn old new c s
-  put-failed old new c (status.Load kind) put = absurd put
-  put-failed old new c s put = tt
+-- what holds of the statuses that a put can end with
+put-cases : (answer : Result (List ℕ) Status) (s : Status) (P : Status → Type 0) → PutEnds answer s
+    → P status.Done → P status.Write → P status.NoMemory → ((jobs : ℕ) → P (status.Limit jobs)) → P s
+put-cases answer status.Done P put done write memory limit = done
+put-cases answer status.Write P put done write memory limit = write
+put-cases answer status.NoMemory P put done write memory limit = memory
+put-cases answer (status.Limit jobs) P put done write memory limit = limit jobs
+put-cases answer s P put done write memory limit = absurd put
 
-  put-counts : (before now : ℕ) (s : Status) → PutEnds answer s → now ≡ before → CountsLoads before now s
-  put-counts before now (status.Load kind) put same = absurd put
-  put-counts before now s put same = same
-
-  put-named : (files : Option Files) (c : CommandOf) (tasks : Option (List Task)) (s : Status) → PutEnds answer s
-      → NamedBy files c tasks s
-  put-named None c tasks s put = tt
-  put-named (Some files) c tasks status.Done put = refl
-  put-named (Some files) c tasks status.Write put = refl
-  put-named (Some files) c tasks status.NoMemory put = refl
-  put-named (Some files) c tasks (status.Limit jobs) put = refl
-  put-named (Some files) c tasks s put = absurd put
+-- none of them names a task
+put-named : (files : Option Files) (c : CommandOf) (tasks : Option (List Task)) (answer : Result (List ℕ) Status) (s : Status)
+    → PutEnds answer s → NamedBy files c tasks s
+put-named None c tasks answer s put = tt
+put-named (Some files) c tasks answer s put = put-cases answer s (NamedBy (Some files) c tasks) put refl refl refl (λ jobs. refl)
 
 put-named_done : (files : Option Files) (c : CommandOf) (tasks : Option (List Task)) (s : Status)
     → NamedIfDone files c tasks status.Done → NamedIfDone files c tasks s
 put-named_done None c tasks s named = tt
 put-named_done (Some files) c tasks status.Done named = named
 put-named_done (Some files) c tasks s named = tt
-
--- what was prepared and then put answers the command
-pub put-answered : (old new : Seen) (c : CommandOf) (tasks : Option (List Task)) (p : Prepared) (s : Status)
-    → IsPrepared (files_for old.shelf.held c) c tasks p → Ends old.out new.out (answer_of p) s
-    → PutEnds (answer_of p) s → IsShown s → new.shelf.faults ≡ old.shelf.faults → IsAnswered c old new s tasks
-put-answered old new c tasks p s prepared ends put shown steady =
-    let files = files_for old.shelf.held c in
-    record {
-      ended = put-ends files old.out new.out (answer_of_command c) (answer_of p) s prepared.answer ends;
-      met = prepared.met s put;
-      tested = prepared.tested s put;
-      named = put-named (answer_of p) files c tasks s put;
-      named_done = put-named_done files c tasks s prepared.named;
-      failed = put-failed (answer_of p) old.shelf new.shelf c s put;
-      counts = put-counts (answer_of p) old.shelf.faults new.shelf.faults s put steady;
-      shown = shown;
-    }
 
 -- a command that was refused ends so
 refusal-of : (files : Option Files) (step : Files → Result (List ℕ) Status) (s : Status) → Refuses files step s → IsRefusal s
@@ -94,17 +73,14 @@ refused-named_done None c tasks s refusal = tt
 refused-named_done (Some files) c tasks status.Done refusal = absurd refusal
 refused-named_done (Some files) c tasks s refusal = tt
 
-pub refused-told : (files : Option Files) (c : CommandOf) (old new : SinkView) (before after : List ProbeOf) (s : Status)
-    → Refuses files (answer_of_command c) s → ToldIn files c old new before after s
-refused-told files c old new before after s refuses = go c s (refusal-of files (answer_of_command c) s refuses)
-  where
-    go : (d : CommandOf) (e : Status) → IsRefusal e → ToldIn files d old new before after e
-    go (run r) status.Done refusal = absurd refusal
-    go (run r) status.Write refusal = absurd refusal
-    go d e refusal = tt
+refused-told : (files : Option Files) (c : CommandOf) (old new : SinkView) (before after : List ProbeOf) (s : Status)
+    → IsRefusal s → ToldIn files c old new before after s
+refused-told files (run r) old new before after status.Done refusal = absurd refusal
+refused-told files (run r) old new before after status.Write refusal = absurd refusal
+refused-told files c old new before after s refusal = tt
 
 -- what was refused before anything was put answers the command
-pub refused-answered : (old new : Seen) (c : CommandOf) (tasks : Option (List Task)) (s : Status)
+refused-answered : (old new : Seen) (c : CommandOf) (tasks : Option (List Task)) (s : Status)
     → IsRefused old.shelf new.shelf c tasks s → CountsLoads old.shelf.faults new.shelf.faults s
     → IsAnswered c old new s tasks
 refused-answered old new c tasks s refused counts =
@@ -120,3 +96,52 @@ refused-answered old new c tasks s refused counts =
       counts = counts;
       shown = refused.shown;
     }
+
+-- Before anything was put, a command's files were read and its answer was prepared, or the command was refused.
+module _ (files : Option Files) (c : CommandOf) (tasks : Option (List Task)) where
+  pub step-puttable : (step : Result Prepared Status) → IfOk step (IsPrepared files c tasks) → IfOk step IsPuttable
+  step-puttable (Ok p) prepared = prepared.puttable
+  step-puttable (Err e) prepared = tt
+
+  -- the probes of a command that was answered are left where it doesn't ask for them
+  pub step-kept : {V : Type 0} (step : Result Prepared Status) (s : Status) (old new : V) → IfOk step (IsPrepared files c tasks)
+      → IfOk step (λ p. LeavesProbes (tells_probes p) s old new) → IfErr step (λ e. new ≡ old) → LeavesProbes (asks_probes c) s old new
+  step-kept (Ok p) s old new prepared kept left = rw prepared.tells at kept
+  step-kept (Err e) s old new prepared kept left = leaves (asks_probes c) s left
+    where
+      leaves : (b : Bool) (e : Status) → new ≡ old → LeavesProbes b e old new
+      leaves false e same = same
+      leaves true status.Done same = tt
+      leaves true status.Write same = tt
+      leaves true e same = same
+
+-- what was prepared was put, or the status of what was refused was handed on: the command is answered
+pub step-answered : (old new : Seen) (c : CommandOf) (tasks : Option (List Task)) (step : Result Prepared Status) (s : Status)
+    → IfOk step (IsPrepared (files_for old.shelf.held c) c tasks) → IfErr step (IsRefused old.shelf new.shelf c tasks)
+    → CountsStep old.shelf.faults new.shelf.faults step → IfOk step (λ p. Ends old.out new.out (answer_of p) s)
+    → IfOk step (λ p. PutEnds (answer_of p) s) → IfOk step (λ p. IsShown s) → IfErr step (λ e. s ≡ e)
+    → IsAnswered c old new s tasks
+step-answered old new c tasks (Ok p) s prepared refused steady ends put shown same =
+    let files = files_for old.shelf.held c in
+    record {
+      ended = put-ends files old.out new.out (answer_of_command c) (answer_of p) s prepared.answer ends;
+      met = prepared.met s put;
+      tested = prepared.tested s put;
+      named = put-named files c tasks (answer_of p) s put;
+      named_done = put-named_done files c tasks s prepared.named;
+      failed = put-cases (answer_of p) s (FailsIn old.shelf new.shelf c) put tt tt tt (λ jobs. tt);
+      counts = put-cases (answer_of p) s (CountsLoads old.shelf.faults new.shelf.faults) put steady steady steady (λ jobs. steady);
+      shown = shown;
+    }
+step-answered old new c tasks (Err e) s prepared refused counts ends put shown same =
+    subst (λ (t : Status). IsAnswered c old new t tasks) (sym same) (refused-answered old new c tasks e refused counts)
+
+-- and the probes that it asks for are told
+pub step-told : (old new : Seen) (c : CommandOf) (tasks : Option (List Task)) (step : Result Prepared Status) (s : Status)
+    (before after : List ProbeOf) → IfOk step (IsPrepared (files_for old.shelf.held c) c tasks)
+    → IfErr step (IsRefused old.shelf new.shelf c tasks) → IfOk step (λ p. ToldOf p old.out new.out before after s)
+    → IfErr step (λ e. s ≡ e) → ToldIn (files_for old.shelf.held c) c old.out new.out before after s
+step-told old new c tasks (Ok p) s before after prepared refused told same = prepared.told old.out new.out before after s told
+step-told old new c tasks (Err e) s before after prepared refused told same =
+    subst (ToldIn (files_for old.shelf.held c) c old.out new.out before after) (sym same)
+    (refused-told _ c old.out new.out before after e (refusal-of (files_for old.shelf.held c) (answer_of_command c) e refused.ended))

@@ -11,7 +11,7 @@ use Rattle.sched_model.specs.Plan.{Plan, names}
 use Rattle.sched_model.specs.Jobs.{released_jobs, demand_of}
 use Rattle.sched_model.specs.Demand.{published}
 use Rattle.sched_model.specs.Admission.{IsWithinLimits}
-use Rattle.sched_model.specs.Text.{run_notes}
+use Rattle.sched_model.specs.RunNotes.{run_notes}
 use Rattle.done_lines.specs.RunText.{task_texts, run_text_in}
 use Rattle.trace_reader.specs.Traces.{TraceOf, is_end, IsEnded}
 use Rattle.trace_reader.specs.TraceText.{whole_text}
@@ -23,11 +23,11 @@ use Rattle.replay.specs.declared.fault.ReplayFault.TheVariants as replay_fault
 use Rattle.replay.proofs.Comparing.{ended-once}
 use Rattle.replay.proofs.Exact.{Passes, replayed-passes}
 use Rattle.rtdvs_top.specs.Run.{answer_of_plan}
-use Rattle.rtdvs_top.specs.Trace.{totals_from, totals_at, migrated_text}
+use Rattle.rtdvs_top.specs.Trace.{totals_or_status, totals_at, migrated_text}
 use Rattle.rtdvs_top.proofs.Denying.{within-few}
 
 -- a replay that has totals is done
-pub replayed-some : (r : Result Totals ReplayFault) → IsOk (totals_from r) → (totals : Totals) × (r ≡ Ok totals)
+pub replayed-some : (r : Result Totals ReplayFault) → IsOk (totals_or_status r) → (totals : Totals) × (r ≡ Ok totals)
 replayed-some (Ok totals) h = (totals, refl)
 replayed-some (Err why) h = absurd (true≢false (sym h))
 

@@ -3,12 +3,12 @@ use Rattle.std.proofs.Common.{◌≡◌, ℕ, Bool, true, List, Option, Some, No
 use Rattle.dvs_base.specs.Outside.{Files, SinkView}
 use Rattle.task_model.specs.declared.task.Task.{Task}
 use Rattle.probes.specs.Tallies.{ProbeOf}
-use Rattle.words.specs.Commands.{CommandOf}
+use Rattle.words.specs.Commands.{CommandOf, asks_probes}
 use Rattle.task_model.specs.Tasks.{names_of}
 use Rattle.rtdvs_top.specs.Files.{names_by}
 use Rattle.rtdvs_top.specs.Prepared.{NamedBy, NamedIfDone}
 use Rattle.rtdvs_top.specs.Status.{NotedAs, probe_lines, noted_text}
-use Rattle.rtdvs_top.specs.Probing.{IfAsked, asks_probes}
+use Rattle.rtdvs_top.specs.Probing.{IfAsked}
 use Rattle.rtdvs_top.specs.Promises.{Notes}
 use Rattle.rtdvs_top.specs.declared.status.Status.{Status}
 use Rattle.rtdvs_top.specs.declared.status.Status.TheVariants as status

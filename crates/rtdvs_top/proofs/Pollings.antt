@@ -15,11 +15,11 @@ use Rattle.poll_server.specs.Polled.{IsPolled, polled_notes}
 use Rattle.poll_server.specs.EachOutcome.{served_by, served_of}
 use Rattle.words.specs.Commands.{CommandOf, poll}
 use Rattle.rtdvs_top.specs.Poll.{polling_notes, polling_served, HasServed}
-use Rattle.rtdvs_top.specs.Prepared.{MetIn}
 use Rattle.rtdvs_top.specs.Promises.{OfPoll}
 use Rattle.rtdvs_top.specs.declared.status.Status.{Status}
 use Rattle.rtdvs_top.specs.declared.status.Status.TheVariants as status
 use Rattle.rtdvs_top.proofs.Comparisons.{same-run}
+use Rattle.rtdvs_top.specs.Prepared.{MetIn}
 
 module _ (demand : Plan → StateOf → Frac) (kind : GovernorKind) (s : ServerOf) (publishes : Publishes demand kind s.plan)
     (within : IsWithin s.plan (polled_demand s)) (ticks : ℕ) where

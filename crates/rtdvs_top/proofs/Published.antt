@@ -1,5 +1,5 @@
 -- A run by a governor's own demand is the run by the published one.
-use Rattle.std.proofs.Common.{◌≡◌, ℕ, ◌≤◌, true, List, ap, ◌∙◌, subst}
+use Rattle.std.proofs.Common.{◌≡◌, ℕ, ◌≤◌, true, List, ap, ◌∙◌, sym, subst}
 use Rattle.dvs_base.specs.Outside.{SinkView}
 use Rattle.dvs_base.specs.declared.note.Note.{Note}
 use Rattle.dvs_base.specs.declared.kind.GovernorKind.{GovernorKind}
@@ -8,10 +8,12 @@ use Rattle.dvs_base.specs.declared.limits.TheConstants.{MOST_TICKS}
 use Rattle.grid_fraction.specs.declared.Frac.{Frac}
 use Rattle.demand_list.specs.Demands.{DemandsOf, IsWithinWorsts}
 use Rattle.dvs_base.specs.declared.limits.TheConstants.{MOST_JOBS}
-use Rattle.sched_model.specs.Plan.{Plan}
+use Rattle.sched_model.specs.Plan.{Plan, names}
 use Rattle.sched_model.specs.Notes.{notes_of}
-use Rattle.sched_model.specs.Text.{run_notes}
+use Rattle.sched_model.specs.RunNotes.{run_notes}
 use Rattle.done_lines.proofs.DoneText.{text-tells}
+use Rattle.done_lines.specs.RunText.{task_texts, run_lines}
+use Rattle.trace_reader.specs.TraceText.{LineOf}
 use Rattle.sched_model.specs.Schedule.{schedule_by}
 use Rattle.sched_model.specs.Ticks.{IsMet, Tick}
 use Rattle.sched_model.specs.Admission.{IsAdmitted}
@@ -20,7 +22,8 @@ use Rattle.freq_table.specs.Tables.{lowest_pick}
 use Rattle.sched_model.specs.Jobs.{released_jobs, demand_of, IsWithin}
 use Rattle.event_kernel.specs.Runs.{Run, IsListOf, notes_of_run}
 use Rattle.event_kernel.specs.Meeting.{IsMetRun}
-use Rattle.event_kernel.specs.Lines.{LineOf, trace_lines, WroteLines, StoppedIn}
+use Rattle.event_kernel.specs.Lines.{WroteLines, StoppedIn}
+use Rattle.event_kernel.proofs.Writing.{all-as, some-as, stopped-some}
 use Rattle.event_kernel.proofs.Demanding.{demand-within}
 use Rattle.sched_model.specs.States.{StateOf}
 use Rattle.sched_model.specs.Demand.{published}
@@ -31,10 +34,16 @@ use Rattle.rtdvs_top.specs.Generated.{run_totals}
 use Rattle.rtdvs_top.specs.Prepared.{answer_of_run, Ends}
 use Rattle.rtdvs_top.specs.Run.{HasMet, text_under}
 use Rattle.probes.specs.Tallies.{ProbeOf, told_notes}
+use Rattle.rtdvs_top.specs.declared.status.Status.{Status}
 use Rattle.rtdvs_top.specs.declared.status.Status.TheVariants as status
-use Rattle.rtdvs_top.proofs.TraceTexts.{wrote-text, wrote-told, stopped-text}
+use Rattle.rtdvs_top.proofs.LineNotes.{trace-notes}
 use Rattle.rtdvs_top.proofs.Denying.{within-few}
 use Rattle.rtdvs_top.proofs.Comparisons as comparisons
+
+-- a run of an equal kind of governor ends alike
+pub ends-as : {g k : GovernorKind} (old new : SinkView) (v : Version) (r : Run) (s : Status) → g ≡ k
+    → Ends old new (answer_of_run v k r) s → Ends old new (answer_of_run v g r) s
+ends-as old new v r s same h = subst (λ (x : GovernorKind). Ends old new (answer_of_run v x r) s) (sym same) h
 
 module _ (demand : Plan → StateOf → Frac) (kind : GovernorKind) (p : Plan) (d : DemandsOf) (list : IsListOf p d)
     (low : IsWithinWorsts d) (publishes : Publishes demand kind p) where
@@ -71,10 +80,10 @@ module _ (demand : Plan → StateOf → Frac) (kind : GovernorKind) (p : Plan) (
   -- what the writing of the lines of a run by a governor's own demand is by the published one
   module _ (v : Version) (ticks : ℕ) (k : Run) (is : k ≡ run_of ticks) (old new : SinkView) (before after : List ProbeOf) where
     abbrev own_lines : Run → List LineOf
-    own_lines r = trace_lines v kind r.plan r.ticks (notes_of_run demand r)
+    own_lines r = run_lines v r.plan kind r.ticks (notes_of_run demand r)
 
-    same-lines : own_lines k ≡ trace_lines v kind p ticks (notes ticks)
-    same-lines = ap own_lines is ∙ ap (trace_lines v kind p ticks) (same-run ticks)
+    same-lines : own_lines k ≡ run_lines v p kind ticks (notes ticks)
+    same-lines = ap own_lines is ∙ ap (run_lines v p kind ticks) (same-run ticks)
 
     abbrev text : List ℕ
     text = text_under v kind (run_of ticks)
@@ -82,27 +91,20 @@ module _ (demand : Plan → StateOf → Frac) (kind : GovernorKind) (p : Plan) (
     -- what probes were told where all lines of a run are written, and where the writing stops in one of them
     pub done-told : WroteLines old new before after (own_lines k) → after ≡ told_notes (notes ticks) before
     done-told w =
-        wrote-told p (notes ticks) v kind ticks old new before after (subst (WroteLines old new before after) same-lines w)
+        (all-as same-lines w).told
+        ∙ ap (λ (ns : List Note). told_notes ns before) (trace-notes v (names p) (notes ticks) p.scheduler kind ticks (task_texts p))
 
     pub stopped-told : StoppedIn old new before after (own_lines k)
-        → StoppedIn old new before after (trace_lines v kind p ticks (notes ticks))
-    stopped-told s = subst (StoppedIn old new before after) same-lines s
+        → StoppedIn old new before after (run_lines v p kind ticks (notes ticks))
+    stopped-told s = some-as same-lines s
 
     pub done-ends : released_jobs p ticks ≤ MOST_JOBS → WroteLines old new before after (own_lines k)
         → Ends old new (answer_of_run v kind (run_of ticks)) status.Done
-    done-ends few w = (
-      text,
-      within-few (released_jobs p ticks) text few,
-      wrote-text p (notes ticks) v kind ticks old new before after (subst (WroteLines old new before after) same-lines w),
-    )
+    done-ends few w = (text, within-few (released_jobs p ticks) text few, (all-as same-lines w).wrote)
 
     pub stopped-ends : released_jobs p ticks ≤ MOST_JOBS → StoppedIn old new before after (own_lines k)
         → Ends old new (answer_of_run v kind (run_of ticks)) status.Write
-    stopped-ends few s = (
-      text,
-      within-few (released_jobs p ticks) text few,
-      stopped-text p (notes ticks) v kind ticks old new before after (stopped-told s),
-    )
+    stopped-ends few s = (text, within-few (released_jobs p ticks) text few, stopped-some old new before after _ (stopped-told s))
 
   -- a demand that is met where a schedule's own demand decides is met where the published one does
   met-there : (t : ℕ)

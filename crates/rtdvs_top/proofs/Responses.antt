@@ -8,10 +8,10 @@ use Rattle.freq_table.specs.Tables.{Table}
 use Rattle.sched_model.specs.Plan.{Plan, plan_of, count, period, offset}
 use Rattle.task_model.specs.Tasks.{first_offset}
 use Rattle.rm_response_laws.specs.Responses.{response as response_of}
-use Rattle.rm_response.specs.Denials.{first_late, answer_from, exact_answer}
+use Rattle.rm_response.specs.Denials.{first_late, exact_answer_from, exact_answer}
 use Rattle.words.specs.Commands.{ResponseOf, response}
 use Rattle.rtdvs_top.specs.Promises.{answer_of_command, Answers}
-use Rattle.rtdvs_top.specs.Response.{responses_from, responses_text, Responds, FailsToRespond, MeansPlan, OfTest, RespondsOrIsDenied}
+use Rattle.rtdvs_top.specs.Response.{responses_or_status, responses_text, Responds, FailsToRespond, MeansPlan, OfTest, RespondsOrIsDenied}
 use Rattle.rtdvs_top.specs.declared.status.Denied.{Denied}
 use Rattle.rtdvs_top.specs.declared.status.Status.{Status}
 use Rattle.rtdvs_top.specs.declared.status.Status.TheVariants as status
@@ -25,15 +25,15 @@ module _ (r : ResponseOf) (files : Files) (tasks : List Task) (machine : Table) 
   abbrev after : Result (List ℕ) Status → Result (List ℕ) Status
   after step = and_then step (λ ticks. Ok (responses_text tasks ticks))
 
-  answer-is : answer_of_command (response r) files ≡ after (responses_from (exact_answer plan))
+  answer-is : answer_of_command (response r) files ≡ after (responses_or_status (exact_answer plan))
   answer-is = rw (means.tasks_are, means.machine_is) refl
 
   -- the test refuses by a denial alone
-  refusal-denies : (s : Status) → after (responses_from (exact_answer plan)) ≡ Err s
+  refusal-denies : (s : Status) → after (responses_or_status (exact_answer plan)) ≡ Err s
       → (why : Denied) × (s ≡ status.NotAdmitted why)
   refusal-denies s e = go (first_offset (offset plan) (count plan)) (first_late (period plan) (response_of plan) (count plan)) e
     where
-      go : (first late : Option ℕ) → after (responses_from (answer_from plan first late)) ≡ Err s
+      go : (first late : Option ℕ) → after (responses_or_status (exact_answer_from plan first late)) ≡ Err s
           → (why : Denied) × (s ≡ status.NotAdmitted why)
       go (Some i) late e = (_, ap status_of (sym e))
       go None (Some i) e = (_, ap status_of (sym e))

@@ -8,7 +8,7 @@ use Rattle.task_model.specs.declared.task.Task.{Task}
 use Rattle.task_model.specs.DemandRows.{named}
 use Rattle.task_model.specs.TaskFile.{place_of}
 use Rattle.demand_list.specs.Demands.{DemandsOf}
-use Rattle.demand_list.specs.DemandFile.{row_of, no_earlier, with_checked, demands_from, worst_list, demand_file}
+use Rattle.demand_list.specs.DemandFile.{demand_of_row, no_earlier_demand, with_checked, demands_from, worst_list, demand_file}
 use Rattle.demand_list.specs.declared.fault.Column.TheVariants as column
 use Rattle.demand_list.specs.declared.fault.DemandFault.{DemandFault}
 use Rattle.demand_list.specs.declared.fault.DemandFault.TheVariants as fault
@@ -40,7 +40,7 @@ choice-shown : {A : Type 0} (b : Bool) (x y : Result A DemandFault) → (b ≡ t
 choice-shown true x y h k = h refl
 choice-shown false x y h k = k
 
-row-shown : (tasks : List Task) (row : ℕ) (fields : List (List ℕ)) → IsShownStep (row_of tasks row fields)
+row-shown : (tasks : List Task) (row : ℕ) (fields : List (List ℕ)) → IsShownStep (demand_of_row tasks row fields)
 row-shown tasks row fields =
     then-shown _ _ (found-shown _ (fault.Fields row (length fields)) tt) (λ three.
     then-shown _ _ (found-shown (place_of tasks three.0) (fault.UnknownTask row (short_of three.0)) tt) (λ task.
@@ -49,7 +49,7 @@ row-shown tasks row fields =
     then-shown _ _ (found-shown (number_below (2 ^ 64) three.2) (fault.BadNumber row column.Units) tt) (λ units. tt)))))
 
 earlier-shown : (row task job : ℕ) (o : Option ℕ) (rest : Result DemandsOf DemandFault) → IsShownStep rest
-    → IsShownStep (no_earlier row task job o rest)
+    → IsShownStep (no_earlier_demand row task job o rest)
 earlier-shown row task job None rest h = h
 earlier-shown row task job (Some units) rest h = tt
 

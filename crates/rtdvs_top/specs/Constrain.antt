@@ -32,14 +32,14 @@ deadline_status deadline_fault.NoMemory = status.NoMemory
 deadline_status e = status.Text (text.Deadlines e)
 
 -- what a deadline file means, with its refusal as a status
-abbrev pub deadlines_from : Result (List ℕ) DeadlineFault → Result (List ℕ) Status
-deadlines_from (Ok deadlines) = Ok deadlines
-deadlines_from (Err e) = Err (deadline_status e)
+abbrev pub deadlines_or_status : Result (List ℕ) DeadlineFault → Result (List ℕ) Status
+deadlines_or_status (Ok deadlines) = Ok deadlines
+deadlines_or_status (Err e) = Err (deadline_status e)
 
 -- the relative deadlines that a named file gives these tasks
 abbrev pub deadlines_at : List Task → List ℕ → Files → Result (List ℕ) Status
 deadlines_at tasks name files =
-    and_then (bytes_at file.Deadlines name files) (λ bytes. deadlines_from (deadline_file tasks bytes))
+    and_then (bytes_at file.Deadlines name files) (λ bytes. deadlines_or_status (deadline_file tasks bytes))
 
 -- a refusal of the test of deadlines below the periods as a status
 abbrev pub constrain_status : ConstrainFault → Status
@@ -49,9 +49,9 @@ constrain_status (constrain_fault.Denied at num cap) = status.NotAdmitted (denie
 constrain_status constrain_fault.NoMemory = status.NoMemory
 
 -- what the test of deadlines below the periods answers, with its refusal as a status
-abbrev pub constrained_from : Result Constrained ConstrainFault → Result Constrained Status
-constrained_from (Ok found) = Ok found
-constrained_from (Err e) = Err (constrain_status e)
+abbrev pub constrained_or_status : Result Constrained ConstrainFault → Result Constrained Status
+constrained_or_status (Ok found) = Ok found
+constrained_or_status (Err e) = Err (constrain_status e)
 
 -- the line of the answer: the constrained demand, and the lowest speed that meets it
 abbrev pub constrained_text : Table → Constrained → List ℕ
@@ -65,7 +65,7 @@ constrained_text machine found =
 -- the answer of `constrain` for these tasks, this machine and these relative deadlines
 abbrev pub constrain_with : List Task → Table → List ℕ → Result (List ℕ) Status
 constrain_with tasks machine deadlines =
-    and_then (constrained_from (tested_answer (plan_of tasks machine Edf) (slice_index deadlines))) (λ found.
+    and_then (constrained_or_status (tested_answer (plan_of tasks machine Edf) (slice_index deadlines))) (λ found.
     Ok (constrained_text machine found))
 
 -- the answer of `constrain`, after its tasks were read

@@ -1,7 +1,7 @@
 -- The loads of a command, one after another, and the status of the first that fails; for proofs alone.
 use Rattle.std.specs.Prelude.{◌≡◌, Result, Err, ⊤, ℕ, Ok, Option, Some, None, List, ◌⊎◌, ◌+◌, Bool, [], ◌∷◌, IsTrue, IsOk, is_ok, if◌then◌else◌}
 use Rattle.dvs_base.specs.Outside.{Files, ShelfView}
-use Rattle.words.specs.Commands.{CommandOf, PollOf, poll}
+use Rattle.words.specs.Commands.{CommandOf}
 use Rattle.rtdvs_top.specs.declared.status.FileKind.{FileKind}
 use Rattle.rtdvs_top.specs.declared.status.Status.{Status}
 use Rattle.rtdvs_top.specs.declared.status.Status.TheVariants as status
@@ -76,9 +76,9 @@ abbrev pub loads_later : Option Files → CommandOf → ℕ
 loads_later files c = loads_while (passes files c) (but_first (files_of c))
 
 -- a load after the tasks fails only where one of them has the server's name
-abbrev pub FindsBefore : PollOf → List Task → Status → Type 0
-FindsBefore q tasks s = OfLoad (λ kind. IsOk (server_at q.server tasks)) s
+abbrev pub FindsBefore : List ℕ → List Task → Status → Type 0
+FindsBefore server tasks s = OfLoad (λ kind. IsOk (server_at server tasks)) s
 
--- the most loads of `poll` after its tasks: none where no task has the server's name
-abbrev pub polled_loads : Option Files → PollOf → List Task → ℕ
-polled_loads files q tasks = if is_ok (server_at q.server tasks) then loads_later files (poll q) else 0
+-- the most loads of a command after its tasks, one of which has to have its server's name: else there are none
+abbrev pub loads_served : Option Files → CommandOf → List ℕ → List Task → ℕ
+loads_served files c server tasks = if is_ok (server_at server tasks) then loads_later files c else 0

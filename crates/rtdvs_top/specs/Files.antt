@@ -64,24 +64,24 @@ loads_while passed [] = 0
 loads_while passed (f ∷ fs) = 1 + (if passed f then loads_while passed fs else 0)
 
 -- the file of this kind and this name
-abbrev pub named : FileKind → List ℕ → NamedFile
-named kind name = record { kind = kind; name = name }
+abbrev pub named_file : FileKind → List ℕ → NamedFile
+named_file kind name = record { kind = kind; name = name }
 
 -- the file of a name that may be given
 abbrev pub if_named : FileKind → Option (List ℕ) → List NamedFile
 if_named kind None = []
-if_named kind (Some name) = named kind name ∷ []
+if_named kind (Some name) = named_file kind name ∷ []
 
 -- the files of a command, in the order of its loads
 abbrev pub files_of : CommandOf → List NamedFile
-files_of (run r) = named file.Tasks r.tasks ∷ named file.Machine r.machine ∷ if_named file.Demands r.demands
-files_of (admit a) = named file.Tasks a.tasks ∷ named file.Machine a.machine ∷ []
-files_of (traced r) = named file.Tasks r.tasks ∷ named file.Machine r.machine ∷ named file.Trace r.trace ∷ []
+files_of (run r) = named_file file.Tasks r.tasks ∷ named_file file.Machine r.machine ∷ if_named file.Demands r.demands
+files_of (admit a) = named_file file.Tasks a.tasks ∷ named_file file.Machine a.machine ∷ []
+files_of (traced r) = named_file file.Tasks r.tasks ∷ named_file file.Machine r.machine ∷ named_file file.Trace r.trace ∷ []
 files_of (workload seed) = []
-files_of (response r) = named file.Tasks r.tasks ∷ named file.Machine r.machine ∷ []
-files_of (constrain r) = named file.Tasks r.tasks ∷ named file.Machine r.machine ∷ named file.Deadlines r.deadlines ∷ []
-files_of (poll q) = named file.Tasks q.tasks ∷ named file.Machine q.machine ∷ named file.Requests q.requests ∷ []
-files_of (least l) = named file.Machine l.machine ∷ []
+files_of (response r) = named_file file.Tasks r.tasks ∷ named_file file.Machine r.machine ∷ []
+files_of (constrain r) = named_file file.Tasks r.tasks ∷ named_file file.Machine r.machine ∷ named_file file.Deadlines r.deadlines ∷ []
+files_of (poll q) = named_file file.Tasks q.tasks ∷ named_file file.Machine q.machine ∷ named_file file.Requests q.requests ∷ []
+files_of (least l) = named_file file.Machine l.machine ∷ []
 
 -- the most loads that a command's answer needs: each file after the first only where the answer gets that far
 abbrev pub loads_needed : Option Files → CommandOf → ℕ

@@ -1,5 +1,5 @@
 -- The answer of `workload`.
-use Rattle.std.specs.Prelude.{ℕ, List, Result, Ok, ◌*◌, [], ◌∷◌, decimal, codes, ◌++◌, flat_map}
+use Rattle.std.specs.Prelude.{ℕ, List, Result, Ok, ◌*◌, [], ◌∷◌, decimal, codes, ◌++◌}
 use Rattle.trace_text.specs.TraceLines.{governor_word, line}
 use Rattle.dvs_base.specs.declared.kind.Scheduler.TheVariants.{Edf}
 use Rattle.dvs_base.specs.declared.kind.GovernorKind.{GovernorKind}
@@ -9,7 +9,8 @@ use Rattle.sched_model.specs.Jobs.{demand_of}
 use Rattle.rtdvs_top.specs.declared.status.Status.{Status}
 use Rattle.dvs_base.specs.declared.kind.GovernorKind.TheVariants.{Plain, Fixed, Cycle, Ahead}
 use Rattle.dvs_base.specs.declared.note.Totals.{Totals}
-use Rattle.sched_model.specs.Text.{run_notes}
+use Rattle.rtdvs_top.specs.declared.generated.EdfTotals.{EdfTotals}
+use Rattle.sched_model.specs.RunNotes.{run_notes}
 use Rattle.sched_model.specs.Totals.{totals_of}
 use Rattle.workload.specs.Draws.{first_state, state_after}
 use Rattle.workload.specs.Workload.{made_tasks, made_machine, made_demands}
@@ -44,12 +45,28 @@ totals_text g t =
 abbrev pub head_text : ℕ → ℕ → ℕ → List ℕ
 head_text seed n ticks = line (codes "workload" ∷ decimal seed ∷ decimal n ∷ decimal ticks ∷ [])
 
+-- the totals of a plan's runs under each governor that serves EDF
+abbrev pub edf_totals : Plan → DemandsOf → ℕ → EdfTotals
+edf_totals p d ticks = record {
+  full = run_totals p d ticks Plain;
+  fixed = run_totals p d ticks Fixed;
+  cycle = run_totals p d ticks Cycle;
+  ahead = run_totals p d ticks Ahead;
+}
+
+-- the lines of the governors that serve EDF
+abbrev pub edf_text : EdfTotals → List ℕ
+edf_text t =
+    (totals_text Plain t.full ++ totals_text Fixed t.fixed)
+    ++ (totals_text Cycle t.cycle ++ totals_text Ahead t.ahead)
+
+-- the totals of the runs of a generated workload
+abbrev pub workload_totals : ℕ → ℕ → ℕ → EdfTotals
+workload_totals seed n ticks = edf_totals (workload_plan seed n) (workload_demands seed n) ticks
+
 -- the text of a workload: its first line, and the line of each governor
 unfoldable pub workload_text : ℕ → ℕ → ℕ → List ℕ
-workload_text seed n ticks =
-    head_text seed n ticks
-    ++ flat_map (λ g. totals_text g (run_totals (workload_plan seed n) (workload_demands seed n) ticks g))
-    (Plain ∷ Fixed ∷ Cycle ∷ Ahead ∷ [])
+workload_text seed n ticks = head_text seed n ticks ++ edf_text (workload_totals seed n ticks)
 
 -- the answer of `workload`: the lines of the generated workload, which need no file
 abbrev pub workload_answer : ℕ → Result (List ℕ) Status

@@ -56,33 +56,33 @@ demand_status (demand_fault.OverWorst task job units worst) = status.OverWorst t
 demand_status e = status.Text (text.Demands e)
 
 -- what a task file means, with its refusal as a status
-abbrev pub tasks_from : Result (List Task) TaskFault → Result (List Task) Status
-tasks_from (Ok tasks) = Ok tasks
-tasks_from (Err e) = Err (task_status e)
+abbrev pub tasks_or_status : Result (List Task) TaskFault → Result (List Task) Status
+tasks_or_status (Ok tasks) = Ok tasks
+tasks_or_status (Err e) = Err (task_status e)
 
 -- what a machine file means, with its refusal as a status
-abbrev pub machine_from : Result Table MachineFault → Result Table Status
-machine_from (Ok machine) = Ok machine
-machine_from (Err e) = Err (machine_status e)
+abbrev pub machine_or_status : Result Table MachineFault → Result Table Status
+machine_or_status (Ok machine) = Ok machine
+machine_or_status (Err e) = Err (machine_status e)
 
 -- what a demand file means, with its refusal as a status
-abbrev pub demands_from : Result DemandsOf DemandFault → Result DemandsOf Status
-demands_from (Ok demands) = Ok demands
-demands_from (Err e) = Err (demand_status e)
+abbrev pub demands_or_status : Result DemandsOf DemandFault → Result DemandsOf Status
+demands_or_status (Ok demands) = Ok demands
+demands_or_status (Err e) = Err (demand_status e)
 
 -- the tasks of a named file
 abbrev pub tasks_at : List ℕ → Files → Result (List Task) Status
-tasks_at name files = and_then (bytes_at file.Tasks name files) (λ bytes. tasks_from (task_file bytes))
+tasks_at name files = and_then (bytes_at file.Tasks name files) (λ bytes. tasks_or_status (task_file bytes))
 
 -- the machine of a named file
 abbrev pub machine_at : List ℕ → Files → Result Table Status
-machine_at name files = and_then (bytes_at file.Machine name files) (λ bytes. machine_from (machine_file bytes))
+machine_at name files = and_then (bytes_at file.Machine name files) (λ bytes. machine_or_status (machine_file bytes))
 
 -- the demands of a file; where none is named, every job needs its worst case
 abbrev pub demands_at : List Task → Option (List ℕ) → Files → Result DemandsOf Status
 demands_at tasks None files = Ok (worst_list tasks)
 demands_at tasks (Some name) files =
-    and_then (bytes_at file.Demands name files) (λ bytes. demands_from (demand_file tasks bytes))
+    and_then (bytes_at file.Demands name files) (λ bytes. demands_or_status (demand_file tasks bytes))
 
 -- where the files are known, the step gives this value
 abbrev pub Gives : {A : Type 0} → Option Files → (Files → Result A Status) → A → Type 0

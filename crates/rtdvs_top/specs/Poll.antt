@@ -13,7 +13,7 @@ use Rattle.task_model.specs.declared.task.Task.{Task}
 use Rattle.task_model.specs.TaskFile.{place_of}
 use Rattle.sched_model.specs.Plan.{plan_of}
 use Rattle.sched_model.specs.Jobs.{released_jobs}
-use Rattle.sched_model.specs.Text.{run_notes}
+use Rattle.sched_model.specs.RunNotes.{run_notes}
 use Rattle.request_list.specs.declared.requests.Request.{Request}
 use Rattle.request_list.specs.declared.fault.RequestFault.{RequestFault}
 use Rattle.request_list.specs.declared.fault.RequestFault.TheVariants as request_fault
@@ -49,13 +49,13 @@ request_status request_fault.NoMemory = status.NoMemory
 request_status e = status.Text (text.Requests e)
 
 -- what a request file means, with its refusal as a status
-abbrev pub requests_from : Result (List Request) RequestFault → Result (List Request) Status
-requests_from (Ok requests) = Ok requests
-requests_from (Err e) = Err (request_status e)
+abbrev pub requests_or_status : Result (List Request) RequestFault → Result (List Request) Status
+requests_or_status (Ok requests) = Ok requests
+requests_or_status (Err e) = Err (request_status e)
 
 -- the requests of a named file
 abbrev pub requests_at : List ℕ → Files → Result (List Request) Status
-requests_at name files = and_then (bytes_at file.Requests name files) (λ bytes. requests_from (request_file bytes))
+requests_at name files = and_then (bytes_at file.Requests name files) (λ bytes. requests_or_status (request_file bytes))
 
 -- the server of `poll` in its admitted plan, after its tasks: first its name, then the machine and the requests
 abbrev pub polling_of : PollOf → List Task → Files → Result ServerOf Status

@@ -1,24 +1,18 @@
 -- What a command prepares, how its put ends, and what is then known; for proofs alone.
-use Rattle.std.specs.Prelude.{ℕ, List, Result, Option, ⊤, ◌≤◌, ◌≡◌, ◌++◌, Ok, Some, None, Err, ◌<◌, length, Bool, false}
+use Rattle.std.specs.Prelude.{ℕ, List, Result, Option, ⊤, ◌≤◌, ◌≡◌, Ok, Some, None, Err, ◌<◌, length, Bool, false}
 use Rattle.dvs_base.specs.Outside.{ShelfView, SinkView, Files}
-use Rattle.dvs_base.specs.declared.kind.Scheduler.TheVariants.{Rm}
 use Rattle.dvs_base.specs.declared.kind.GovernorKind.{GovernorKind}
 use Rattle.dvs_base.specs.declared.kind.Version.{Version}
 use Rattle.task_model.specs.declared.task.Task.{Task}
-use Rattle.freq_table.specs.Tables.{Table}
-use Rattle.demand_list.specs.Demands.{DemandsOf, IsWithinWorsts}
 use Rattle.sched_model.specs.Plan.{Plan, count, plan_of}
 use Rattle.event_kernel.specs.Runs.{Run, IsListOf}
 use Rattle.dvs_base.specs.declared.limits.TheConstants.{MOST_TICKS}
-use Rattle.words.specs.Commands.{CommandOf, RunOf, TracedOf, run, traced, poll, least, LeastOf, PollOf, ResponseOf}
+use Rattle.words.specs.Commands.{CommandOf, asks_probes, RunOf, TracedOf, LeastOf, PollOf, run, traced, poll, least, ResponseOf}
 use Rattle.rtdvs_top.specs.declared.status.Status.{Status}
 use Rattle.rtdvs_top.specs.declared.status.Status.TheVariants as status
 use Rattle.task_model.specs.Tasks.{names_of}
 use Rattle.edf_demand.specs.Answers.{IsTooLong}
-use Rattle.dvs_base.specs.declared.kind.GovernorKind.TheVariants.{Plain, Fixed, Cycle, Ahead}
-use Rattle.rtdvs_top.specs.declared.generated.EdfTotals.{EdfTotals}
 use Rattle.rtdvs_top.specs.declared.generated.Workload.{Workload}
-use Rattle.sched_model.specs.Admission.{IsAdmitted}
 use Rattle.trace_reader.specs.Traces.{TraceOf, IsEnded}
 use Rattle.dvs_base.specs.WritesText.{Wrote, WroteSome}
 use Rattle.energy_bound.specs.declared.least.Least.{Least}
@@ -34,17 +28,21 @@ use Rattle.rtdvs_top.specs.declared.generated.PlannedRun.{PlannedRun}
 use Rattle.rtdvs_top.specs.declared.run.ReadyRun.{ReadyRun}
 use Rattle.rtdvs_top.specs.Failing.{FailsIn, EndsWith, IsRefusal, Refuses}
 use Rattle.rtdvs_top.specs.Files.{CountsLoads, files_for, names_by}
-use Rattle.rtdvs_top.specs.Probing.{IfAsked, asks_probes, RunTold, ToldIn}
+use Rattle.rtdvs_top.specs.Probing.{IfAsked, RunTold}
 use Rattle.rtdvs_top.specs.Run.{answer_of_plan, run_with, prepared_of}
-use Rattle.rtdvs_top.specs.Promises.{answer_of_command, TestedIn}
+use Rattle.rtdvs_top.specs.Promises.{TestedIn, ToldIn, answer_of_command}
 use Rattle.rtdvs_top.specs.Status.{IsShown, status_text}
 use Rattle.rtdvs_top.specs.Constrain.{FailsToKeep}
-use Rattle.rtdvs_top.specs.Generated.{workload_tasks, workload_ticks, run_totals, workload_plan, workload_demands, totals_text, workload_text}
-use Rattle.rtdvs_top.specs.Meanings.{Gives, tasks_at, machine_at}
-use Rattle.rtdvs_top.specs.Trace.{traced_of, totals_at}
-use Rattle.rtdvs_top.specs.Least.{IsLeastOn, least_text}
-use Rattle.rtdvs_top.specs.Poll.{HasServed, polling_of, polled_text}
+use Rattle.rtdvs_top.specs.Generated.{workload_tasks, workload_ticks, workload_totals, workload_text}
+use Rattle.rtdvs_top.specs.Trace.{totals_at, traced_of}
+use Rattle.rtdvs_top.specs.Least.{least_text, IsLeastOn}
+use Rattle.rtdvs_top.specs.Poll.{polled_text, polling_of, HasServed}
 use Rattle.rtdvs_top.specs.Response.{responses_text, FailsToRespond, Responds}
+use Rattle.demand_list.specs.Demands.{IsWithinWorsts, DemandsOf}
+use Rattle.sched_model.specs.Admission.{IsAdmitted}
+use Rattle.rtdvs_top.specs.Meanings.{Gives, machine_at, tasks_at}
+use Rattle.freq_table.specs.Tables.{Table}
+use Rattle.dvs_base.specs.declared.kind.Scheduler.TheVariants.{Rm}
 
 -- the answer of a run: its text in this version
 abbrev pub answer_of_run : Version → GovernorKind → Run → Result (List ℕ) Status
@@ -122,6 +120,14 @@ MetIn files (poll q) status.Done =
 MetIn files (least l) status.Done = LeastMet files l
 MetIn files c s = ⊤
 
+-- a test that is done or denies the tasks is of the machine that its file means, where the files are known
+abbrev pub IsTested : Option Files → ResponseOf → List Task → Status → Type 0
+IsTested (Some files) r tasks status.Done =
+    (machine : Table) × (machine_at r.machine files ≡ Ok machine) × Responds (plan_of tasks machine Rm)
+IsTested (Some files) r tasks (status.NotAdmitted why) =
+    (machine : Table) × (machine_at r.machine files ≡ Ok machine) × FailsToRespond (plan_of tasks machine Rm) why
+IsTested files r tasks s = ⊤
+
 -- where the files are known, the lines of a status have the names of the command's tasks
 abbrev pub NamedBy : Option Files → CommandOf → Option (List Task) → Status → Type 0
 NamedBy None c tasks s = ⊤
@@ -163,24 +169,6 @@ pub record IsSmall (made : Workload) : Type 0 where
   pub some_ticks : 1 ≤ made.ticks
   pub few_ticks : made.ticks ≤ workload_ticks
 
--- each total is that of its governor's run of the plan
-pub record AreEdfTotals (p : Plan) (d : DemandsOf) (ticks : ℕ) (totals : EdfTotals) : Type 0 where
-  pub full : totals.full ≡ run_totals p d ticks Plain
-  pub fixed : totals.fixed ≡ run_totals p d ticks Fixed
-  pub cycle : totals.cycle ≡ run_totals p d ticks Cycle
-  pub ahead : totals.ahead ≡ run_totals p d ticks Ahead
-
--- each total is that of its governor's run of the generated workload
-abbrev pub AreTotalsOf : Workload → EdfTotals → Type 0
-AreTotalsOf made totals =
-    AreEdfTotals (workload_plan made.seed made.tasks) (workload_demands made.seed made.tasks) made.ticks totals
-
--- the lines of the governors that serve EDF
-abbrev pub edf_text : EdfTotals → List ℕ
-edf_text t =
-    (totals_text Plain t.full ++ totals_text Fixed t.fixed)
-    ++ (totals_text Cycle t.cycle ++ totals_text Ahead t.ahead)
-
 -- the status of a put: `Done`, or `Write` where it failed
 abbrev pub put_status : {T E : Type 0} → Result T E → Status
 put_status (Ok v) = status.Done
@@ -211,7 +199,7 @@ ready_run w = record { plan = w.plan; demands = w.demands; ticks = w.ticks }
 
 -- the answer of what was prepared
 abbrev pub answer_of : Prepared → Result (List ℕ) Status
-answer_of (prepared.Run w) = answer_of_run w.version w.governor (ready_run w)
+answer_of (prepared.Trace w) = answer_of_run w.version w.governor (ready_run w)
 answer_of (prepared.Line text) = Ok text
 answer_of (prepared.Responses tasks ticks) = Ok (responses_text tasks ticks)
 answer_of (prepared.Polled s r) = Ok (polled_text s r)
@@ -220,21 +208,21 @@ answer_of (prepared.Made made totals) = Ok (workload_text made.seed made.tasks m
 
 -- what a put asks of what was prepared
 abbrev pub IsPuttable : Prepared → Type 0
-IsPuttable (prepared.Run w) = IsRunnable (ready_run w) × IsPair w.plan.scheduler w.governor
+IsPuttable (prepared.Trace w) = IsRunnable (ready_run w) × IsPair w.plan.scheduler w.governor
 IsPuttable (prepared.Line text) = 0 < length text
 IsPuttable (prepared.Responses tasks ticks) = length ticks ≡ length tasks
 IsPuttable (prepared.Polled s r) = length r.outcomes ≡ request_count s
 IsPuttable (prepared.Least a) = ⊤
-IsPuttable (prepared.Made made totals) = AreTotalsOf made totals
+IsPuttable (prepared.Made made totals) = totals ≡ workload_totals made.seed made.tasks made.ticks
 
 -- whether the put tells probes the notes
 abbrev pub tells_probes : Prepared → Bool
-tells_probes (prepared.Run w) = w.probes
+tells_probes (prepared.Trace w) = w.probes
 tells_probes p = false
 
 -- the put of a run that asks for probes told them its notes
 abbrev pub ToldOf : Prepared → SinkView → SinkView → List ProbeOf → List ProbeOf → Status → Type 0
-ToldOf (prepared.Run w) old new before after s =
+ToldOf (prepared.Trace w) old new before after s =
     IfAsked w.probes (RunTold w.version w.governor (ready_run w) old new before after s)
 ToldOf p old new before after s = ⊤
 
@@ -281,14 +269,6 @@ IsCompared p t totals = totals_at (p, t) ≡ Ok totals
 abbrev pub DeniesBy : Plan → Status → Type 0
 DeniesBy p (status.NotAdmitted why) = FailsToRespond p why
 DeniesBy p s = ⊤
-
--- a test that is done or denies the tasks is of the machine that its file means, where the files are known
-abbrev pub IsTested : Option Files → ResponseOf → List Task → Status → Type 0
-IsTested (Some files) r tasks status.Done =
-    (machine : Table) × (machine_at r.machine files ≡ Ok machine) × Responds (plan_of tasks machine Rm)
-IsTested (Some files) r tasks (status.NotAdmitted why) =
-    (machine : Table) × (machine_at r.machine files ≡ Ok machine) × FailsToRespond (plan_of tasks machine Rm) why
-IsTested files r tasks s = ⊤
 
 -- the run that was planned
 abbrev pub planned : PlannedRun → Run

@@ -4,7 +4,7 @@ use Rattle.dvs_base.specs.Checks.{and_then}
 use Rattle.dvs_base.specs.Outside.{Files, SinkView, ShelfView, Rose}
 use Rattle.sched_model.specs.Plan.{Plan, plan_of, period, hyper, top_speed}
 use Rattle.sched_model.specs.Admission.{PassesTest}
-use Rattle.words.specs.Commands.{RunOf, AdmitOf, TracedOf, PollOf, CommandOf, run, admit, traced, poll, workload, response, constrain, least}
+use Rattle.words.specs.Commands.{RunOf, AdmitOf, TracedOf, PollOf, CommandOf, run, admit, traced, poll, workload, response, constrain, least, asks_probes}
 use Rattle.words.specs.declared.command.WordFault.{WordFault}
 use Rattle.rtdvs_top.specs.declared.status.Denied.{Denied}
 use Rattle.rtdvs_top.specs.declared.status.Status.{Status}
@@ -28,11 +28,10 @@ use Rattle.energy_bound.specs.declared.least.Least.{Least}
 use Rattle.probes.specs.Tallies.{ProbeOf}
 use Rattle.poll_server.specs.Serving.{ServerOf}
 use Rattle.rtdvs_top.specs.declared.status.Denied.TheVariants as denied
-use Rattle.rtdvs_top.specs.Probing.{asks_probes, ToldIn}
 use Rattle.rtdvs_top.specs.Meanings.{tasks_at, machine_at, demands_at}
 use Rattle.rtdvs_top.specs.Trace.{trace_at, trace_answer}
 use Rattle.rtdvs_top.specs.Poll.{server_at, requests_at, poll_answer, polling_of, HasServed}
-use Rattle.rtdvs_top.specs.Run.{run_answer, HasMet, text_under, prepared_of, run_with}
+use Rattle.rtdvs_top.specs.Run.{run_answer, HasMet, FileTold, text_under, prepared_of, run_with}
 use Rattle.rtdvs_top.specs.Admit.{admit_answer, admission}
 use Rattle.rtdvs_top.specs.Generated.{workload_answer}
 use Rattle.rtdvs_top.specs.Response.{response_answer, MeansPlan, RespondsOrIsDenied, OfTest}
@@ -274,6 +273,12 @@ Notes None (Ok c) ps s old new =
 abbrev pub probes_asked : Result CommandOf WordFault → Bool
 probes_asked (Ok c) = asks_probes c
 probes_asked (Err why) = false
+
+-- a `run` command that is done, or whose write failed, told probes its notes, if it asked for probes
+abbrev pub ToldIn : Option Files → CommandOf → SinkView → SinkView → List ProbeOf → List ProbeOf → Status → Type 0
+ToldIn files (run r) old new before after status.Done = FileTold files r old new before after status.Done
+ToldIn files (run r) old new before after status.Write = FileTold files r old new before after status.Write
+ToldIn files c old new before after s = ⊤
 
 -- the probes that the words ask for were told the notes of a run that is done; of a run whose write failed they were
 -- told the notes of the lines before that write

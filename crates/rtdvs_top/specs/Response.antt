@@ -65,14 +65,14 @@ response_status (response_fault.Misses task num cap) = status.NotAdmitted (denie
 response_status response_fault.NoMemory = status.NoMemory
 
 -- what the exact test under RM answers, with its refusal as a status
-abbrev pub responses_from : Result (List ℕ) ResponseFault → Result (List ℕ) Status
-responses_from (Ok ticks) = Ok ticks
-responses_from (Err e) = Err (response_status e)
+abbrev pub responses_or_status : Result (List ℕ) ResponseFault → Result (List ℕ) Status
+responses_or_status (Ok ticks) = Ok ticks
+responses_or_status (Err e) = Err (response_status e)
 
 -- the responses of these tasks under RM on the machine of a named file
 abbrev pub responses_at : ResponseOf → List Task → Files → Result (List ℕ) Status
 responses_at r tasks files =
-    and_then (machine_at r.machine files) (λ machine. responses_from (exact_answer (plan_of tasks machine Rm)))
+    and_then (machine_at r.machine files) (λ machine. responses_or_status (exact_answer (plan_of tasks machine Rm)))
 
 -- the line of a task: its name, and its response in ticks
 abbrev pub response_text : List Task → List ℕ → ℕ → List ℕ

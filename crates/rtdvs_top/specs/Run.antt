@@ -1,26 +1,28 @@
 -- The answer of `run`, and what a run that is done has met.
-use Rattle.std.specs.Prelude.{ℕ, List, nat_lt, Result, Ok, Err, if◌then◌else◌, ◌≡◌, ⊤, ◌≢◌}
+use Rattle.std.specs.Prelude.{ℕ, List, nat_lt, Result, Ok, Err, if◌then◌else◌, ⊤, Option}
 use Rattle.dvs_base.specs.Checks.{and_then}
-use Rattle.dvs_base.specs.Outside.{Files}
+use Rattle.dvs_base.specs.Outside.{Files, SinkView}
 use Rattle.dvs_base.specs.declared.kind.GovernorKind.{GovernorKind}
 use Rattle.dvs_base.specs.declared.kind.Version.{Version}
 use Rattle.task_model.specs.declared.task.Task.{Task}
 use Rattle.demand_list.specs.Demands.{DemandsOf}
+use Rattle.sched_model.specs.Demand.{IsAlwaysMet}
 use Rattle.sched_model.specs.Plan.{Plan, plan_of}
 use Rattle.sched_model.specs.Jobs.{demand_of, released_jobs, JobDemands}
 use Rattle.done_lines.specs.RunText.{run_text_in}
 use Rattle.event_kernel.specs.Runs.{Run, demands_of}
+use Rattle.probes.specs.Tallies.{ProbeOf}
 use Rattle.dvs_base.specs.declared.limits.TheConstants.{MOST_JOBS}
 use Rattle.words.specs.Commands.{RunOf}
 use Rattle.rtdvs_top.specs.declared.status.Status.{Status}
 use Rattle.rtdvs_top.specs.declared.status.Status.TheVariants as status
-use Rattle.dvs_base.specs.declared.kind.GovernorKind.TheVariants.{Ahead}
 use Rattle.sched_model.specs.Ticks.{Tick, IsMet}
 use Rattle.sched_model.specs.Admission.{PassesTest}
 use Rattle.sched_model.specs.Schedule.{schedule, AlwaysMeets, HasSchedule, HasNoOther, IsTheSchedule}
 use Rattle.done_lines.specs.DoneLines.{TellsDeadlines}
 use Rattle.rtdvs_top.specs.Admit.{admission}
-use Rattle.rtdvs_top.specs.Meanings.{demands_at, machine_at, tasks_at}
+use Rattle.rtdvs_top.specs.Meanings.{Gives, demands_at, machine_at, tasks_at}
+use Rattle.rtdvs_top.specs.Probing.{IfAsked, RunTold}
 
 -- the text, where the run doesn't release too many jobs
 abbrev pub within_jobs : ℕ → List ℕ → Result (List ℕ) Status
@@ -51,12 +53,6 @@ run_after_tasks r tasks files = and_then (prepared_of r tasks files) (answer_of_
 abbrev pub run_answer : RunOf → Files → Result (List ℕ) Status
 run_answer r files = and_then (tasks_at r.tasks files) (λ tasks. run_after_tasks r tasks files)
 
--- every status but `Done` and `Write` leaves a thing as it was
-abbrev pub Leaves : {W : Type 0} → Status → W → W → Type 0
-Leaves status.Done old new = ⊤
-Leaves status.Write old new = ⊤
-Leaves s old new = new ≡ old
-
 -- the demand of each job of a run
 abbrev pub job_demands : Run → JobDemands
 job_demands r = demands_of r.plan r.demands
@@ -85,7 +81,7 @@ pub record HasMet (v : Version) (kind : GovernorKind) (r : Run) : Type 0 where
   -- exactly one line of the text says that the job is done, at a position not after its deadline
   pub told : TellsDeadlines r.plan r.ticks (text_under v kind r)
   -- some entry meets each published demand, unless the governor looks ahead
-  pub speeds : kind ≢ Ahead → AlwaysMeetsIn kind r
+  pub speeds : IsAlwaysMet kind → AlwaysMeetsIn kind r
   -- for any published demand, the plan has one schedule of each length
   pub exists : HasSchedule r.plan
   pub unique : HasNoOther r.plan
@@ -93,3 +89,24 @@ pub record HasMet (v : Version) (kind : GovernorKind) (r : Run) : Type 0 where
 -- the run of a plan and demands that the words of a run ask for
 abbrev pub run_with : RunOf → Plan → DemandsOf → Run
 run_with r p d = record { plan = p; demands = d; ticks = r.ticks }
+
+-- a run of these tasks told probes its notes, by the plan and the demands that were prepared
+abbrev pub PreparedTold : Option Files → RunOf → List Task → SinkView → SinkView
+    → List ProbeOf → List ProbeOf → Status → Type 0
+PreparedTold files r tasks old new before after s =
+    (p : Plan) × (d : DemandsOf) × Gives files (prepared_of r tasks) (p, d)
+    × RunTold r.version r.governor (run_with r p d) old new before after s
+
+-- a run of these tasks that is done, or whose write failed, told probes its notes, if the words ask for probes
+abbrev pub ToldBy : Option Files → RunOf → List Task → SinkView → SinkView
+    → List ProbeOf → List ProbeOf → Status → Type 0
+ToldBy files r tasks old new before after status.Done =
+    IfAsked r.probes (PreparedTold files r tasks old new before after status.Done)
+ToldBy files r tasks old new before after status.Write =
+    IfAsked r.probes (PreparedTold files r tasks old new before after status.Write)
+ToldBy files r tasks old new before after s = ⊤
+
+-- a run of its file's tasks that is done, or whose write failed, told probes its notes, if the words ask for probes
+abbrev pub FileTold : Option Files → RunOf → SinkView → SinkView → List ProbeOf → List ProbeOf → Status → Type 0
+FileTold files r old new before after s =
+    (tasks : List Task) × Gives files (tasks_at r.tasks) tasks × ToldBy files r tasks old new before after s

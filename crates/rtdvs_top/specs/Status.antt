@@ -1,5 +1,5 @@
 -- The statuses and their exit statuses, what they show, and what is put to `notes`: their lines, or those of probes.
-use Rattle.std.specs.Prelude.{ℕ, List, codes, nat_lt, length, Option, Some, None, if◌then◌else◌, [], ◌∷◌, ◌+◌, ◌++◌, Bool, true, ◌⊎◌, ⊤, ◌<◌, ◌≢◌}
+use Rattle.std.specs.Prelude.{◌≡◌, ℕ, List, codes, nat_lt, length, Option, Some, None, if◌then◌else◌, [], ◌∷◌, ◌+◌, ◌++◌, Bool, true, ◌⊎◌, ⊤, ◌<◌, ◌≢◌}
 use Rattle.rtdvs_top.specs.declared.status.Status.{Status}
 use Rattle.rtdvs_top.specs.declared.status.Status.TheVariants as status
 use Rattle.std.specs.Fmt.{decimal}
@@ -184,3 +184,9 @@ IsShown (status.OverWorst task job units worst) = worst < units
 IsShown (status.Differs line wanted found) = wanted ≢ found
 IsShown (status.Text why) = IsShownText why
 IsShown s = ⊤
+
+-- every status but `Done` and `Write` leaves a thing as it was
+abbrev pub Leaves : {W : Type 0} → Status → W → W → Type 0
+Leaves status.Done old new = ⊤
+Leaves status.Write old new = ⊤
+Leaves s old new = new ≡ old

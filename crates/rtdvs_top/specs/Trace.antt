@@ -30,8 +30,8 @@ use Rattle.trace_reader.specs.TraceFile.{trace_file}
 use Rattle.replay.specs.Replays.{replay_of}
 use Rattle.replay.specs.declared.fault.ReplayFault.{ReplayFault}
 use Rattle.replay.specs.declared.fault.ReplayFault.TheVariants as replay_fault
-use Rattle.words.specs.declared.given.TraceUse.{TraceUse}
-use Rattle.words.specs.declared.given.TraceUse.TheVariants.{Replay, Migrate}
+use Rattle.words.specs.declared.command.TraceUse.{TraceUse}
+use Rattle.words.specs.declared.command.TraceUse.TheVariants.{Replay, Migrate}
 use Rattle.rtdvs_top.specs.declared.status.FileKind.TheVariants as file
 use Rattle.rtdvs_top.specs.declared.status.TextFault.TheVariants as text
 use Rattle.rtdvs_top.specs.Meanings.{tasks_at, machine_at, bytes_at}
@@ -107,9 +107,9 @@ trace_status trace_fault.NoMemory = status.NoMemory
 trace_status e = status.Text (text.Trace e)
 
 -- what a trace file means, with its refusal as a status
-abbrev pub trace_from : Result TraceOf TraceFault → Result TraceOf Status
-trace_from (Ok t) = Ok t
-trace_from (Err e) = Err (trace_status e)
+abbrev pub trace_or_status : Result TraceOf TraceFault → Result TraceOf Status
+trace_or_status (Ok t) = Ok t
+trace_or_status (Err e) = Err (trace_status e)
 
 -- the trace of a text of either version, for these tasks
 abbrev pub trace_of : List Task → List ℕ → Result TraceOf TraceFault
@@ -117,7 +117,7 @@ trace_of tasks bytes = trace_file Two (task_names tasks) (lines_of_tasks tasks) 
 
 -- the trace of a named file
 abbrev pub trace_at : List Task → List ℕ → Files → Result TraceOf Status
-trace_at tasks name files = and_then (bytes_at file.Trace name files) (λ bytes. trace_from (trace_of tasks bytes))
+trace_at tasks name files = and_then (bytes_at file.Trace name files) (λ bytes. trace_or_status (trace_of tasks bytes))
 
 -- the admitted plan and the trace, after the tasks were read: the machine, the trace, and the test of the scheduler
 -- that the trace names
@@ -136,13 +136,13 @@ replay_status (replay_fault.Differs line wanted found) = status.Differs line wan
 replay_status replay_fault.NoMemory = status.NoMemory
 
 -- what a replay answers, with its refusal as a status
-abbrev pub totals_from : Result Totals ReplayFault → Result Totals Status
-totals_from (Ok totals) = Ok totals
-totals_from (Err e) = Err (replay_status e)
+abbrev pub totals_or_status : Result Totals ReplayFault → Result Totals Status
+totals_or_status (Ok totals) = Ok totals
+totals_or_status (Err e) = Err (replay_status e)
 
 -- the totals of a trace of a plan, where its notes are those of the schedule for the demands that they fix
 abbrev pub totals_at : Plan × TraceOf → Result Totals Status
-totals_at x = totals_from (replay_of x.0 (published x.0 x.1.plan.governor) x.1)
+totals_at x = totals_or_status (replay_of x.0 (published x.0 x.1.plan.governor) x.1)
 
 -- the line of a replay: the releases, the completions, and the energies of running and of idling
 abbrev pub replayed_text : Totals → List ℕ

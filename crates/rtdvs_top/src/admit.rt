@@ -20,7 +20,8 @@ use rm_admit::{RmFault, rm_admit};
 use sched_model::Admitted;
 use std::alloc::Global;
 use task_model::TaskSet;
-use words::AdmitWords;
+use trace_text::scheduler_word;
+use words::command::AdmitWords;
 
 fn admit_edf(alloc: Global, tasks: &TaskSet, machine: &Machine) -> Result<Admitted, Status>
     ensures plan { IfOk result (λ p. admission (plan_of tasks.now machine.now Scheduler.Edf) ≡ Ok p) }
@@ -123,13 +124,9 @@ pub(crate) fn admitted_line(plan: &Admitted) -> Line
     let demand = plan.static_demand();
     let pick = plan.machine().lowest(demand);
     let point = plan.machine().point(pick.index);
-    let word: &[u8] = match plan.scheduler() {
-        Scheduler::Edf => b"edf",
-        Scheduler::Rm => b"rm",
-    };
     line_of(&[
         Part::Word(b"admitted "),
-        Part::Word(word),
+        Part::Word(scheduler_word(plan.scheduler())),
         Part::Word(b" "),
         Part::Ratio(demand.num, demand.den),
         Part::Word(b" "),

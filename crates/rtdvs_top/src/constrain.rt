@@ -20,7 +20,7 @@ use edf_demand::{ConstrainFault, Constrained, DeadlineFault, Deadlines, constrai
 use freq_table::Machine;
 use std::alloc::Global;
 use task_model::TaskSet;
-use words::ConstrainWords;
+use words::command::ConstrainWords;
 
 // A refusal of a deadline file as a status.
 fn deadline_status(why: DeadlineFault) -> Status

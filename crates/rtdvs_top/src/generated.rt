@@ -5,8 +5,8 @@ ghost use Rattle.sched_model.specs.Totals.{totals_of};
 ghost use Rattle.sched_model.specs.Jobs.{released_jobs};
 ghost use Rattle.dvs_base.specs.declared.limits.TheConstants.{MOST_JOBS};
 ghost use Rattle.event_kernel.specs.Runs.{IsListOf, notes_of_run};
-ghost use Rattle.rtdvs_top.specs.Prepared.{planned, IsRunnable, AreEdfTotals, AreTotalsOf, IsSmall, edf_text, IsPrepared};
-ghost use Rattle.rtdvs_top.specs.Generated.{workload_plan, workload_demands, run_totals, head_text, totals_text, workload_text};
+ghost use Rattle.rtdvs_top.specs.Prepared.{planned, IsSmall, IsPrepared, IsRunnable};
+ghost use Rattle.rtdvs_top.specs.Generated.{workload_plan, workload_demands, run_totals, edf_totals, workload_totals, head_text, totals_text, edf_text, workload_text};
 ghost use Rattle.words.specs.Commands.{workload as workload_of};
 ghost use Rattle.dvs_base.specs.WritesText.{WritesText};
 
@@ -23,7 +23,7 @@ use event_kernel::{Kernel, KernelFault, Listener, Stopped};
 use governor::{Governor, Publishing};
 use sched_model::Admitted;
 use std::alloc::Global;
-use trace_text::write_note;
+use trace_text::{governor_word, write_note};
 use workload::make;
 
 /// A workload: the seed that it is generated from, its number of tasks, and the ticks of each run.
@@ -142,7 +142,7 @@ fn edf_totals(alloc: Global, run: &PlannedRun<'_>) -> Result<EdfTotals, NoMemory
     requires run { IsRunnable (planned run.now) }
     requires edf { run.now.plan.now.scheduler ≡ Scheduler.Edf }
     requires few { released_jobs run.now.plan.now run.now.ticks ≤ MOST_JOBS }
-    ensures { IfOk result (AreEdfTotals run.now.plan.now run.now.demands.now run.now.ticks) }
+    ensures { IfOk result (λ t. t ≡ edf_totals run.now.plan.now run.now.demands.now run.now.ticks) }
 {
     let full = governed_totals::<Full>(alloc, run)?;
     let fixed = governed_totals::<Static>(alloc, run)?;
@@ -159,7 +159,7 @@ fn edf_totals(alloc: Global, run: &PlannedRun<'_>) -> Result<EdfTotals, NoMemory
 /// The totals of the runs of a workload. It fails only where memory runs out.
 pub(crate) fn made_totals(alloc: Global, made: Workload) -> Result<EdfTotals, NoMemory>
     requires { IsSmall made }
-    ensures { IfOk result (AreTotalsOf made) }
+    ensures { IfOk result (λ t. t ≡ workload_totals made.seed made.tasks made.ticks) }
 {
     let (plan, demands) = made_plan(alloc, made)?;
     let run = PlannedRun {
@@ -197,14 +197,8 @@ fn totals_line(governor: GovernorKind, totals: Totals) -> Line
     ensures text { result ≡ totals_text governor totals }
     ensures some { 0 < length result }
 {
-    let word: &[u8] = match governor {
-        GovernorKind::Plain => b"none",
-        GovernorKind::Fixed => b"static",
-        GovernorKind::Cycle => b"cc",
-        GovernorKind::Ahead => b"la",
-    };
     line_of(&[
-        Part::Word(word),
+        Part::Word(governor_word(governor)),
         Part::Word(b" "),
         Part::Number(totals.released),
         Part::Word(b" "),
@@ -272,7 +266,7 @@ pub(crate) fn put_made<W: Sink>(
     totals: &EdfTotals,
     out: &mut W,
 ) -> Result<(), Failed>
-    requires { AreTotalsOf made totals.now }
+    requires { totals.now ≡ workload_totals made.seed made.tasks made.ticks }
     ensures { WritesText (W.shows out.old) (W.shows out.new) (workload_text made.seed made.tasks made.ticks) result }
 {
     let head = head_line(made);

@@ -16,7 +16,7 @@ use dvs_base::{Failed, Line, Part, Shelf, Sink, line_of, put_two};
 use energy_bound::{Least, Over, least_energy};
 use freq_table::Machine;
 use std::alloc::Global;
-use words::LeastWords;
+use words::command::LeastWords;
 
 // The line of the two corners and the energy.
 fn corners_line(least: &Least) -> Line

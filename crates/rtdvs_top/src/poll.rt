@@ -4,7 +4,7 @@ ghost use Rattle.dvs_base.specs.declared.limits.TheConstants.{MOST_JOBS};
 ghost use Rattle.sched_model.specs.Jobs.{released_jobs};
 ghost use Rattle.words.specs.Shown.{shown_poll};
 ghost use Rattle.rtdvs_top.specs.Poll.{server_at, request_status, requests_at, polling_of, polling_served, answer_of_polling, HasServed, outcome_text, request_lines, is_served, served_among, polled_line, polled_text};
-ghost use Rattle.rtdvs_top.specs.Failing.{FindsBefore, polled_loads, FailsLater, EndsWith, Refuses, CountsStep, IsLoadOf, IsNoLoad};
+ghost use Rattle.rtdvs_top.specs.Failing.{FindsBefore, loads_served, FailsLater, EndsWith, Refuses, CountsStep, IsLoadOf, IsNoLoad};
 ghost use Rattle.rtdvs_top.specs.Prepared.{IsServer, IsPollable, IsPrepared, IsRefused};
 ghost use Rattle.words.specs.Commands.{poll as poll_of, IsReadyCommand};
 ghost use Rattle.rtdvs_top.specs.Meanings.{Gives};
@@ -28,7 +28,7 @@ use sched_model::Admitted;
 use std::alloc::Global;
 use std::marker::Model;
 use task_model::TaskSet;
-use words::PollWords;
+use words::command::PollWords;
 
 /// A polling server: a task of an admitted plan, and the requests that it serves.
 #[derive(Drop)]
@@ -101,10 +101,11 @@ pub(crate) fn load_polling<S: Shelf>(
     ensures server { IfOk result IsServer }
     ensures scheduler { IfOk result (λ s. s.plan.scheduler ≡ words.now.scheduler) }
     ensures refused { IfErr result (Refuses (S.shows shelf.old).held (polling_of (shown_poll words.now) tasks.now)) }
-    ensures found { IfErr result (FindsBefore (shown_poll words.now) tasks.now) }
+    ensures found { IfErr result (FindsBefore words.now.server.now tasks.now) }
     ensures failed { IfErr result
         (FailsLater (S.shows shelf.old) (S.shows shelf.new) (poll_of (shown_poll words.now))) }
-    ensures loads { MakesLoads (polled_loads (S.shows shelf.old).held (shown_poll words.now) tasks.now)
+    ensures loads { MakesLoads
+        (loads_served (S.shows shelf.old).held (poll_of (shown_poll words.now)) words.now.server.now tasks.now)
         (S.shows shelf.old) (S.shows shelf.new) }
     ensures counts { CountsStep (S.shows shelf.old).faults (S.shows shelf.new).faults result }
     ensures shown { IfErr result IsShown }

@@ -4,7 +4,7 @@ ghost use Rattle.rtdvs_top.specs.Files.{MakesLoads, files_for, loads_needed};
 ghost use Rattle.rtdvs_top.specs.Failing.{CountsStep};
 ghost use Rattle.rtdvs_top.specs.Prepared.{IsPrepared, IsRefused};
 ghost use Rattle.words.specs.Commands.{IsReadyCommand};
-ghost use Rattle.words.specs.Shown.{shown};
+ghost use Rattle.words.specs.Shown.{shown_command};
 
 use crate::Status;
 use crate::admit::prepare_admit;
@@ -19,7 +19,7 @@ use crate::trace::prepare_trace;
 use dvs_base::Shelf;
 use std::alloc::Global;
 use task_model::TaskSet;
-use words::{Command, CommandWords};
+use words::command::{Command, CommandWords};
 
 /// What a command prepares before anything is put, and the tasks where they were read and are not part of it.
 pub(crate) fn prepare<S: Shelf>(
@@ -27,12 +27,12 @@ pub(crate) fn prepare<S: Shelf>(
     command: &Command<'_>,
     shelf: &mut S,
 ) -> (Result<Prepared, Status>, Option<TaskSet>)
-    requires { IsReadyCommand (shown command.now) }
+    requires { IsReadyCommand (shown_command command.now) }
     ensures prepared { IfOk result.0
-        (IsPrepared (files_for (S.shows shelf.old).held (shown command.now)) (shown command.now) result.1) }
+        (IsPrepared (files_for (S.shows shelf.old).held (shown_command command.now)) (shown_command command.now) result.1) }
     ensures refused { IfErr result.0
-        (IsRefused (S.shows shelf.old) (S.shows shelf.new) (shown command.now) result.1) }
-    ensures loads { MakesLoads (loads_needed (S.shows shelf.old).held (shown command.now))
+        (IsRefused (S.shows shelf.old) (S.shows shelf.new) (shown_command command.now) result.1) }
+    ensures loads { MakesLoads (loads_needed (S.shows shelf.old).held (shown_command command.now))
         (S.shows shelf.old) (S.shows shelf.new) }
     ensures counts { CountsStep (S.shows shelf.old).faults (S.shows shelf.new).faults result.0 }
 {

@@ -1,9 +1,8 @@
 // What a command prepares before anything is put, and its put.
-ghost use Rattle.std.specs.Prelude.{◌≡◌, map};
+ghost use Rattle.std.specs.Prelude.{◌≡◌, map, IfOk, IfErr};
 ghost use Rattle.rtdvs_top.specs.Prepared.{Ends, PutEnds, put_status, IsPuttable, ToldOf, answer_of, tells_probes};
-ghost use Rattle.rtdvs_top.specs.Run.{Leaves};
 ghost use Rattle.rtdvs_top.specs.Probing.{LeavesProbes};
-ghost use Rattle.rtdvs_top.specs.Status.{IsShown};
+ghost use Rattle.rtdvs_top.specs.Status.{IsShown, Leaves};
 
 use crate::Status;
 use crate::generated::{EdfTotals, Workload, put_made};
@@ -22,8 +21,8 @@ use task_model::TaskSet;
 /// What a command prepares before anything is put.
 #[derive(Drop)]
 pub(crate) enum Prepared {
-    /// The run of `run` or `migrate`.
-    Run(ReadyRun),
+    /// The run whose trace `run` or `migrate` writes.
+    Trace(ReadyRun),
     /// The line of `admit`, `replay` or `constrain`.
     Line(Line),
     Responses(TaskSet, Response),
@@ -43,8 +42,8 @@ fn put_status(wrote: Result<(), Failed>) -> Status
     }
 }
 
-/// Puts what a command prepared. It reads no file, and takes memory only before the first put.
-pub(crate) fn put<W: Sink, P: Probe>(
+// Puts what a command prepared. It reads no file, and takes memory only before the first put.
+fn put<W: Sink, P: Probe>(
     alloc: Global,
     prepared: &Prepared,
     out: &mut W,
@@ -60,11 +59,36 @@ pub(crate) fn put<W: Sink, P: Probe>(
     ensures shown { IsShown result }
 {
     match prepared {
-        Prepared::Run(run) => put_run(alloc, run, out, probes),
+        Prepared::Trace(run) => put_run(alloc, run, out, probes),
         Prepared::Line(line) => put_status(put_line(line, out)),
         Prepared::Responses(tasks, response) => put_status(put_responses(tasks, response, out)),
         Prepared::Polled(polling, served) => put_status(put_polled(polling, served, out)),
         Prepared::Least(least) => put_status(put_least(least, out)),
         Prepared::Made(made, totals) => put_status(put_made(*made, totals, out)),
+    }
+}
+
+/// Puts what a command prepared, or hands on the status of one that was refused: then nothing is put or told.
+pub(crate) fn finish<W: Sink, P: Probe>(
+    alloc: Global,
+    step: Result<Prepared, Status>,
+    out: &mut W,
+    probes: &mut Vec<P>,
+) -> Status
+    requires { IfOk step IsPuttable }
+    ensures ended { IfOk step (λ p. Ends (W.shows out.old) (W.shows out.new) (answer_of p) result) }
+    ensures ends { IfOk step (λ p. PutEnds (answer_of p) result) }
+    ensures shown { IfOk step (λ p. IsShown result) }
+    ensures kept { IfOk step (λ p. LeavesProbes (tells_probes p) result probes.old probes.new) }
+    ensures told { IfOk step (λ p. ToldOf p (W.shows out.old) (W.shows out.new)
+        (map P.seen probes.old.items) (map P.seen probes.new.items) result) }
+    ensures refused { IfErr step (λ s. result ≡ s) }
+    ensures unput { IfErr step (λ s. out.new ≡ out.old) }
+    ensures untold { IfErr step (λ s. probes.new ≡ probes.old) }
+    ensures leaves { Leaves result out.old out.new }
+{
+    match step {
+        Ok(prepared) => put(alloc, &prepared, out, probes),
+        Err(status) => status,
     }
 }

@@ -4,8 +4,8 @@ ghost use Rattle.sched_model.specs.Plan.{plan_of};
 ghost use Rattle.words.specs.Commands.{response as response_of};
 ghost use Rattle.words.specs.Shown.{shown_response};
 ghost use Rattle.rm_response.specs.Denials.{exact_answer};
-ghost use Rattle.rtdvs_top.specs.Response.{responses_from, responses_at, response_text, responses_text, Responds};
-ghost use Rattle.rtdvs_top.specs.Prepared.{DeniesBy, IsTested, IsPrepared, IsRefused};
+ghost use Rattle.rtdvs_top.specs.Response.{responses_or_status, responses_at, response_text, responses_text, Responds};
+ghost use Rattle.rtdvs_top.specs.Prepared.{DeniesBy, IsPrepared, IsRefused, IsTested};
 ghost use Rattle.rtdvs_top.specs.Failing.{EndsWith, Refuses, CountsStep, IsNoLoad, FailsLater};
 ghost use Rattle.rtdvs_top.specs.Meanings.{Gives};
 ghost use Rattle.rtdvs_top.specs.Files.{MakesLoads, loads_needed};
@@ -20,16 +20,16 @@ use freq_table::Machine;
 use rm_response::{Response, ResponseFault, rm_response};
 use std::alloc::Global;
 use task_model::TaskSet;
-use words::ResponseWords;
+use words::command::ResponseWords;
 
 // The responses of tasks on a machine.
 fn respond(alloc: Global, tasks: &TaskSet, machine: &Machine) -> Result<Response, Status>
     ensures responses { IfOk result (λ r.
-        responses_from (exact_answer (plan_of tasks.now machine.now Scheduler.Rm)) ≡ Ok r) }
+        responses_or_status (exact_answer (plan_of tasks.now machine.now Scheduler.Rm)) ≡ Ok r) }
     ensures one_each { IfOk result (λ r. length r ≡ length tasks.now) }
     ensures proves { OnOk result (Responds (plan_of tasks.now machine.now Scheduler.Rm)) }
     ensures denied { IfErr result
-        (EndsWith (responses_from (exact_answer (plan_of tasks.now machine.now Scheduler.Rm)))) }
+        (EndsWith (responses_or_status (exact_answer (plan_of tasks.now machine.now Scheduler.Rm)))) }
     ensures fails { IfErr result (DeniesBy (plan_of tasks.now machine.now Scheduler.Rm)) }
     ensures loads { IfErr result IsNoLoad }
     ensures shown { IfErr result IsShown }

@@ -2,13 +2,13 @@
 ghost use Rattle.std.specs.Prelude.{map, IfOk, IfErr, ◌<◌, Ok};
 ghost use Rattle.words.specs.Commands.{IsReady, run as run_of};
 ghost use Rattle.words.specs.Shown.{shown_run};
-ghost use Rattle.rtdvs_top.specs.Prepared.{IsReadyRun, IsPrepared, IsRefused, answer_of_run, ready_run, IsRunnable, Ends, PutEnds};
-ghost use Rattle.rtdvs_top.specs.Run.{prepared_of, Leaves, run_with};
+ghost use Rattle.rtdvs_top.specs.Prepared.{IsPrepared, IsRefused, answer_of_run, ready_run, Ends, PutEnds, IsRunnable, IsReadyRun};
+ghost use Rattle.rtdvs_top.specs.Run.{prepared_of, run_with};
 ghost use Rattle.rtdvs_top.specs.Meanings.{Gives};
 ghost use Rattle.rtdvs_top.specs.Failing.{Refuses, CountsStep, FailsLater, loads_later};
 ghost use Rattle.rtdvs_top.specs.Files.{MakesLoads, loads_needed};
 ghost use Rattle.rtdvs_top.specs.Probing.{LeavesProbes, IfAsked, RunTold};
-ghost use Rattle.rtdvs_top.specs.Status.{IsShown};
+ghost use Rattle.rtdvs_top.specs.Status.{IsShown, Leaves};
 ghost use Rattle.dvs_base.specs.PlanWords.{IsPair};
 
 use crate::Status;
@@ -24,7 +24,7 @@ use probes::Probe;
 use sched_model::Admitted;
 use std::alloc::Global;
 use task_model::TaskSet;
-use words::RunWords;
+use words::command::RunWords;
 
 // The admitted plan and the demands of `run`, after its tasks were read.
 fn load_planned<S: Shelf>(
@@ -84,7 +84,7 @@ pub(crate) fn prepare_run<S: Shelf>(
                 version: words.version,
                 probes: words.probes,
             };
-            (Ok(Prepared::Run(run)), Some(tasks))
+            (Ok(Prepared::Trace(run)), Some(tasks))
         }
         Err(status) => (Err(status), Some(tasks)),
     }

@@ -3,28 +3,24 @@ ghost use Rattle.std.specs.Prelude.{◌≡◌, ◌≤◌, ◌↔◌, map};
 ghost use Rattle.std.specs.Option.{option_copied};
 ghost use Rattle.dvs_base.specs.Outside.{Rose};
 ghost use Rattle.rtdvs_top.specs.Promises.{asked, known_files, Answers, Writes, WritesPart, IsSureOf, LoadFailed, LoadsInOrder, loads_asked, loads_wanted, OfRun, OfTests, OfPoll, Headline, OfLeast, Notes, Tells, probes_asked, OfAdmission};
-ghost use Rattle.rtdvs_top.specs.Files.{MakesLoads, CountsLoads, CountsPuts, files_for, loads_needed};
+ghost use Rattle.rtdvs_top.specs.Files.{MakesLoads, CountsLoads, CountsPuts};
 ghost use Rattle.task_model.specs.Tasks.{names_of};
-ghost use Rattle.rtdvs_top.specs.Prepared.{seen, IsAnswered};
-ghost use Rattle.rtdvs_top.specs.Status.{status_text, NotedAs, noted_text, IsShown};
-ghost use Rattle.rtdvs_top.specs.Probing.{LeavesProbes, ToldIn, asks_probes};
-ghost use Rattle.rtdvs_top.specs.Run.{Leaves};
+ghost use Rattle.rtdvs_top.specs.Status.{status_text, NotedAs, noted_text, IsShown, Leaves};
+ghost use Rattle.rtdvs_top.specs.Probing.{LeavesProbes};
 ghost use Rattle.rtdvs_top.specs.Trace.{OfTrace};
-ghost use Rattle.words.specs.Commands.{IsReadyCommand};
-ghost use Rattle.words.specs.Shown.{shown};
 ghost use Rattle.words.specs.declared.command.WordFault.{WordFault};
 
 use crate::Status;
 use crate::difference::{Difference, put_difference};
 use crate::prepare::prepare;
 use crate::probe_line::put_probes;
-use crate::put::put;
+use crate::put::finish;
 use crate::refusal::status_line;
 use dvs_base::{Shelf, Sink, put_line};
 use probes::Probe;
 use std::alloc::Global;
 use task_model::TaskSet;
-use words::{Command, read_words};
+use words::read_words;
 
 // Puts the lines of a status to `notes`. A fault of `notes` changes nothing else.
 fn note_status<E: Sink>(status: &Status, tasks: Option<&TaskSet>, notes: &mut E)
@@ -52,16 +48,6 @@ fn note_status<E: Sink>(status: &Status, tasks: Option<&TaskSet>, notes: &mut E)
     }
 }
 
-// Whether a command asks for probes.
-fn asks_probes(command: &Command<'_>) -> bool
-    ensures { result ≡ asks_probes (shown command.now) }
-{
-    match command {
-        Command::Run { probes, .. } => *probes,
-        _ => false,
-    }
-}
-
 // Puts to `notes` how a command ended: the probes' lines if they were told and it is done, else those of its status.
 fn note_end<E: Sink, P: Probe>(
     told: bool,
@@ -77,35 +63,6 @@ fn note_end<E: Sink, P: Probe>(
     match status {
         Status::Done if told => put_probes(probes, tasks, notes),
         status => note_status(status, tasks, notes),
-    }
-}
-
-// The answer of a command, and the tasks where they were read.
-fn answer_command<S: Shelf, W: Sink, P: Probe>(
-    alloc: Global,
-    command: &Command<'_>,
-    shelf: &mut S,
-    out: &mut W,
-    probes: &mut Vec<P>,
-) -> (Status, Option<TaskSet>)
-    requires { IsReadyCommand (shown command.now) }
-    ensures answered { IsAnswered (shown command.now) (seen (S.shows shelf.old) (W.shows out.old))
-        (seen (S.shows shelf.new) (W.shows out.new)) result.0 result.1 }
-    ensures loads { MakesLoads (loads_needed (S.shows shelf.old).held (shown command.now))
-        (S.shows shelf.old) (S.shows shelf.new) }
-    ensures leaves { Leaves result.0 out.old out.new }
-    ensures kept { LeavesProbes (asks_probes (shown command.now)) result.0 probes.old probes.new }
-    ensures told { ToldIn (files_for (S.shows shelf.old).held (shown command.now)) (shown command.now)
-        (W.shows out.old) (W.shows out.new)
-        (map P.seen probes.old.items) (map P.seen probes.new.items) result.0 }
-{
-    let (step, tasks) = prepare(alloc, command, shelf);
-    match step {
-        Ok(prepared) => {
-            let status = put(alloc, &prepared, out, probes);
-            (status, tasks)
-        }
-        Err(status) => (status, tasks),
     }
 }
 
@@ -206,9 +163,10 @@ pub fn rtdvs<S: Shelf, W: Sink, E: Sink>(
             return status;
         }
     };
-    let (status, tasks) = answer_command(alloc, &command, shelf, out, probes);
+    let (step, tasks) = prepare(alloc, &command, shelf);
+    let status = finish(alloc, step, out, probes);
     note_end(
-        asks_probes(&command),
+        command.asks_probes(),
         &status,
         tasks.as_ref(),
         probes,

@@ -25,7 +25,7 @@ use sched_model::Admitted;
 use std::alloc::Global;
 use task_model::TaskSet;
 use trace_reader::{TaskLine, Trace, TraceFault, read_any};
-use words::{TraceUse, TraceWords};
+use words::command::{TraceUse, TraceWords};
 
 // The names of tasks.
 fn task_names(alloc: Global, tasks: &TaskSet) -> Result<Vec<Name>, NoMemory>
@@ -230,8 +230,8 @@ fn replayed_line(totals: Totals) -> Line
 fn migrated_run(alloc: Global, plan: Admitted, trace: &Trace) -> Result<ReadyRun, Status>
     requires trace { IsComparable plan trace.now }
     requires compared { IsOk (totals_at (plan, trace.now)) }
-    ensures answer { IfOk result (λ w. answer_of (Prepared.Run w) ≡ Ok (migrated_text plan trace.now)) }
-    ensures puttable { IfOk result (λ w. IsPuttable (Prepared.Run w)) }
+    ensures answer { IfOk result (λ w. answer_of (Prepared.Trace w) ≡ Ok (migrated_text plan trace.now)) }
+    ensures puttable { IfOk result (λ w. IsPuttable (Prepared.Trace w)) }
     ensures silent { IfOk result (λ w. w.probes ≡ false) }
     ensures refused { IfErr result (λ s. s ≡ Status.NoMemory) }
 {
@@ -268,7 +268,7 @@ fn prepare_compared(
     match asked {
         TraceUse::Replay => Ok(Prepared::Line(replayed_line(totals))),
         TraceUse::Migrate => match migrated_run(alloc, plan, trace) {
-            Ok(run) => Ok(Prepared::Run(run)),
+            Ok(run) => Ok(Prepared::Trace(run)),
             Err(status) => Err(status),
         },
     }

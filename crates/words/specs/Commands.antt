@@ -1,7 +1,7 @@
 -- The row of each command: its required options in order, and the value of an optional one that was not given.
-use Rattle.std.specs.Prelude.{ℕ, Bool, List, Option, ◌≤◌, ⊤, Result, Ok, Err, if◌then◌else◌, is_some, unwrap_or}
+use Rattle.std.specs.Prelude.{ℕ, Bool, false, List, Option, ◌≤◌, ⊤, Result, Ok, Err, if◌then◌else◌, is_some, unwrap_or}
 use Rattle.std.specs.Option.{ok_or}
-use Rattle.dvs_base.specs.Checks.{and_then}
+use Rattle.dvs_base.specs.Checks.{◌>>=◌}
 use Rattle.dvs_base.specs.PlanWords.{IsPair, is_pair}
 use Rattle.dvs_base.specs.declared.limits.TheConstants.{MOST_TICKS}
 use Rattle.dvs_base.specs.declared.kind.Scheduler.{Scheduler}
@@ -14,8 +14,8 @@ use Rattle.words.specs.declared.command.Opt.{Opt}
 use Rattle.words.specs.declared.command.Opt.TheVariants as opt
 use Rattle.words.specs.declared.command.WordFault.{WordFault}
 use Rattle.words.specs.declared.command.WordFault.TheVariants as fault
-use Rattle.words.specs.declared.given.TraceUse.{TraceUse}
-use Rattle.words.specs.declared.given.TraceUse.TheVariants.{Replay, Migrate}
+use Rattle.words.specs.declared.command.TraceUse.{TraceUse}
+use Rattle.words.specs.declared.command.TraceUse.TheVariants.{Replay, Migrate}
 use Rattle.words.specs.Table.{GivenOf}
 
 -- what the words of `run` name: files by their names, the scheduler, the governor, the number of ticks, whether the
@@ -103,10 +103,10 @@ IsReadyCommand (poll q) = IsReadyFor q.scheduler q.governor q.ticks
 IsReadyCommand (least l) = HasReadyTicks l
 IsReadyCommand c = ⊤
 
--- the next step with this one's value; a refusal ends it
-infixl 10 ◌>>=◌
-abbrev pub ◌>>=◌ : {A B : Type 0} → Result A WordFault → (A → Result B WordFault) → Result B WordFault
-r >>= next = and_then r next
+-- whether a command asks for probes
+abbrev pub asks_probes : CommandOf → Bool
+asks_probes (run r) = r.probes
+asks_probes c = false
 
 -- the value of a required option; `Missing` where none was given
 abbrev pub need : {A : Type 0} → Opt → Option A → Result A WordFault
@@ -129,8 +129,8 @@ timed_of g = do
       else Err fault.Pair
 
 -- what `run` names, from the given values: the first required option not given is missing, and last comes the pair
-abbrev pub run_of : GivenOf → Result RunOf WordFault
-run_of g = do
+abbrev pub given_run : GivenOf → Result RunOf WordFault
+given_run g = do
   tasks ← need opt.Tasks g.tasks
   machine ← need opt.Machine g.machine
   timed ← timed_of g
@@ -146,16 +146,16 @@ run_of g = do
   })
 
 -- what `admit` names, from the given values
-abbrev pub admit_of : GivenOf → Result AdmitOf WordFault
-admit_of g = do
+abbrev pub given_admit : GivenOf → Result AdmitOf WordFault
+given_admit g = do
   tasks ← need opt.Tasks g.tasks
   machine ← need opt.Machine g.machine
   scheduler ← need opt.Scheduler g.scheduler
   Ok (record { tasks = tasks; machine = machine; scheduler = scheduler })
 
 -- what `replay` or `migrate` names, from the given values
-abbrev pub traced_of : TraceUse → GivenOf → Result TracedOf WordFault
-traced_of asked g = do
+abbrev pub given_traced : TraceUse → GivenOf → Result TracedOf WordFault
+given_traced asked g = do
   tasks ← need opt.Tasks g.tasks
   machine ← need opt.Machine g.machine
   trace ← need opt.Trace g.trace
@@ -163,34 +163,34 @@ traced_of asked g = do
 
 -- the `replay` or the `migrate` command, as asked, from the given values
 abbrev pub trace_command : TraceUse → GivenOf → Result CommandOf WordFault
-trace_command asked g = traced_of asked g >>= (λ r. Ok (traced r))
+trace_command asked g = given_traced asked g >>= (λ r. Ok (traced r))
 
 -- what `response` names, from the given values
-abbrev pub response_of : GivenOf → Result ResponseOf WordFault
-response_of g = do
+abbrev pub given_response : GivenOf → Result ResponseOf WordFault
+given_response g = do
   tasks ← need opt.Tasks g.tasks
   machine ← need opt.Machine g.machine
   Ok (record { tasks = tasks; machine = machine })
 
 -- what `constrain` names, from the given values
-abbrev pub constrain_of : GivenOf → Result ConstrainOf WordFault
-constrain_of g = do
+abbrev pub given_constrain : GivenOf → Result ConstrainOf WordFault
+given_constrain g = do
   tasks ← need opt.Tasks g.tasks
   machine ← need opt.Machine g.machine
   deadlines ← need opt.Deadlines g.deadlines
   Ok (record { tasks = tasks; machine = machine; deadlines = deadlines })
 
 -- what `least` names, from the given values
-abbrev pub least_of : GivenOf → Result LeastOf WordFault
-least_of g = do
+abbrev pub given_least : GivenOf → Result LeastOf WordFault
+given_least g = do
   machine ← need opt.Machine g.machine
   units ← need opt.Units g.units
   ticks ← need opt.Ticks g.ticks
   Ok (record { machine = machine; units = units; ticks = ticks })
 
 -- what `poll` names, from the given values
-abbrev pub poll_of : GivenOf → Result PollOf WordFault
-poll_of g = do
+abbrev pub given_poll : GivenOf → Result PollOf WordFault
+given_poll g = do
   tasks ← need opt.Tasks g.tasks
   machine ← need opt.Machine g.machine
   requests ← need opt.Requests g.requests
@@ -208,12 +208,12 @@ poll_of g = do
 
 -- the command from the given values, or the refusal: the first required option not given; last, a pair that isn't one
 abbrev pub built : Verb → GivenOf → Result CommandOf WordFault
-built verb.Run g = run_of g >>= (λ r. Ok (run r))
-built verb.Admit g = admit_of g >>= (λ a. Ok (admit a))
+built verb.Run g = given_run g >>= (λ r. Ok (run r))
+built verb.Admit g = given_admit g >>= (λ a. Ok (admit a))
 built verb.Replay g = trace_command Replay g
 built verb.Migrate g = trace_command Migrate g
 built verb.Workload g = need opt.Seed g.seed >>= (λ seed. Ok (workload seed))
-built verb.Response g = response_of g >>= (λ r. Ok (response r))
-built verb.Constrain g = constrain_of g >>= (λ c. Ok (constrain c))
-built verb.Poll g = poll_of g >>= (λ q. Ok (poll q))
-built verb.Least g = least_of g >>= (λ l. Ok (least l))
+built verb.Response g = given_response g >>= (λ r. Ok (response r))
+built verb.Constrain g = given_constrain g >>= (λ c. Ok (constrain c))
+built verb.Poll g = given_poll g >>= (λ q. Ok (poll q))
+built verb.Least g = given_least g >>= (λ l. Ok (least l))

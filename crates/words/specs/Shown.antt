@@ -3,17 +3,17 @@ use Rattle.std.specs.Prelude.{option_map, Result, Ok, Err}
 use Rattle.words.specs.declared.command.Command.{Command}
 use Rattle.words.specs.declared.command.Command.TheVariants as command
 use Rattle.words.specs.declared.command.WordFault.{WordFault}
-use Rattle.words.specs.declared.command_words.RunWords.{RunWords}
-use Rattle.words.specs.declared.command_words.AdmitWords.{AdmitWords}
-use Rattle.words.specs.declared.command_words.TraceWords.{TraceWords}
-use Rattle.words.specs.declared.command_words.ResponseWords.{ResponseWords}
-use Rattle.words.specs.declared.command_words.ConstrainWords.{ConstrainWords}
-use Rattle.words.specs.declared.command_words.PollWords.{PollWords}
-use Rattle.words.specs.declared.command_words.LeastWords.{LeastWords}
-use Rattle.words.specs.declared.command_words.CommandWords.{CommandWords}
-use Rattle.words.specs.declared.command_words.CommandWords.TheVariants as words
+use Rattle.words.specs.declared.command.RunWords.{RunWords}
+use Rattle.words.specs.declared.command.AdmitWords.{AdmitWords}
+use Rattle.words.specs.declared.command.TraceWords.{TraceWords}
+use Rattle.words.specs.declared.command.ResponseWords.{ResponseWords}
+use Rattle.words.specs.declared.command.ConstrainWords.{ConstrainWords}
+use Rattle.words.specs.declared.command.PollWords.{PollWords}
+use Rattle.words.specs.declared.command.LeastWords.{LeastWords}
+use Rattle.words.specs.declared.command.CommandWords.{CommandWords}
+use Rattle.words.specs.declared.command.CommandWords.TheVariants as words
 use Rattle.words.specs.declared.given.Given.{Given}
-use Rattle.words.specs.declared.given.TraceUse.TheVariants.{Replay, Migrate}
+use Rattle.words.specs.declared.command.TraceUse.TheVariants.{Replay, Migrate}
 use Rattle.words.specs.declared.given.Timed.{Timed}
 use Rattle.words.specs.declared.read.Reading.{Reading}
 use Rattle.words.specs.Commands.{TimedOf, CommandOf, run, admit, traced, workload, response, constrain, poll, least, RunOf, AdmitOf, TracedOf, ResponseOf, ConstrainOf, PollOf, LeastOf}
@@ -54,8 +54,8 @@ timed_answer (Ok t) = Ok (record { scheduler = t.scheduler; governor = t.governo
 timed_answer (Err e) = Err e
 
 -- a command, with the texts of names
-abbrev pub shown : Command → CommandOf
-shown (command.Run tasks machine demands scheduler governor ticks probes version) = run (record {
+abbrev pub shown_command : Command → CommandOf
+shown_command (command.Run tasks machine demands scheduler governor ticks probes version) = run (record {
   tasks = tasks.now;
   machine = machine.now;
   scheduler = scheduler;
@@ -65,17 +65,17 @@ shown (command.Run tasks machine demands scheduler governor ticks probes version
   probes = probes;
   version = version;
 })
-shown (command.Admit tasks machine scheduler) =
+shown_command (command.Admit tasks machine scheduler) =
     admit (record { tasks = tasks.now; machine = machine.now; scheduler = scheduler })
-shown (command.Replay tasks machine trace) =
+shown_command (command.Replay tasks machine trace) =
     traced (record { asked = Replay; tasks = tasks.now; machine = machine.now; trace = trace.now })
-shown (command.Migrate tasks machine trace) =
+shown_command (command.Migrate tasks machine trace) =
     traced (record { asked = Migrate; tasks = tasks.now; machine = machine.now; trace = trace.now })
-shown (command.Workload seed) = workload seed
-shown (command.Response tasks machine) = response (record { tasks = tasks.now; machine = machine.now })
-shown (command.Constrain tasks machine deadlines) =
+shown_command (command.Workload seed) = workload seed
+shown_command (command.Response tasks machine) = response (record { tasks = tasks.now; machine = machine.now })
+shown_command (command.Constrain tasks machine deadlines) =
     constrain (record { tasks = tasks.now; machine = machine.now; deadlines = deadlines.now })
-shown (command.Poll tasks machine requests server scheduler governor ticks) = poll (record {
+shown_command (command.Poll tasks machine requests server scheduler governor ticks) = poll (record {
   tasks = tasks.now;
   machine = machine.now;
   requests = requests.now;
@@ -84,7 +84,7 @@ shown (command.Poll tasks machine requests server scheduler governor ticks) = po
   governor = governor;
   ticks = ticks;
 })
-shown (command.Least machine units ticks) = least (record { machine = machine.now; units = units; ticks = ticks })
+shown_command (command.Least machine units ticks) = least (record { machine = machine.now; units = units; ticks = ticks })
 
 -- what the words of `run` name, with the texts of names
 abbrev pub shown_run : RunWords → RunOf
@@ -144,5 +144,5 @@ shown_words (words.Least w) = least (shown_least w)
 
 -- a command with the texts of names, or why the words were refused
 abbrev pub answer : Result Command WordFault → Result CommandOf WordFault
-answer (Ok c) = Ok (shown c)
+answer (Ok c) = Ok (shown_command c)
 answer (Err e) = Err e

@@ -16,9 +16,9 @@ use Rattle.dvs_base.specs.declared.kind.Version.{Version}
 use Rattle.dvs_base.specs.declared.kind.Version.TheVariants.{One, Two}
 
 -- what the first row whose name is this word gives; none where no row has the word
-abbrev pub named : {A : Type 0} → List (List ℕ × A) → List ℕ → Option A
-named [] word = None
-named (row ∷ rows) word = if bytes_eq word row.0 then Some row.1 else named rows word
+abbrev pub value_named : {A : Type 0} → List (List ℕ × A) → List ℕ → Option A
+value_named [] word = None
+value_named (row ∷ rows) word = if bytes_eq word row.0 then Some row.1 else value_named rows word
 
 -- the commands by their words
 abbrev pub commands : List (List ℕ × Verb)
@@ -36,7 +36,7 @@ commands =
 
 -- the command that a word names
 abbrev pub verb_of : List ℕ → Option Verb
-verb_of word = named commands word
+verb_of word = value_named commands word
 
 -- the options that a command takes: the required ones in their order, then the others
 abbrev pub options_of : Verb → List Key

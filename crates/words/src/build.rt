@@ -1,11 +1,11 @@
 // The row of each command: its required options in order, and the value of an optional one that was not given.
 ghost use Rattle.std.specs.Prelude.{◌≡◌, IfOk};
 ghost use Rattle.words.specs.Commands.{IsReadyCommand, IsReadyFor, need, timed_of, trace_command, built};
-ghost use Rattle.words.specs.Shown.{shown, shown_given, answer, timed_answer};
+ghost use Rattle.words.specs.Shown.{shown_command, shown_given, answer, timed_answer};
 ghost use Rattle.words.specs.declared.table.Verb.TheVariants as verb;
 
-use crate::command::{Command, Opt, WordFault};
-use crate::given::{Given, Timed, TraceUse};
+use crate::command::{Command, Opt, TraceUse, WordFault};
+use crate::given::{Given, Timed};
 use crate::table::Verb;
 use dvs_base::{Version, is_pair};
 
@@ -37,7 +37,7 @@ fn timed_of<'a>(given: Given<'a>) -> Result<Timed, WordFault>
 // The `run` command, from the values that were given.
 fn planned<'a>(given: Given<'a>) -> Result<Command<'a>, WordFault>
     ensures read { answer result ≡ built verb.Run (shown_given given.entry) }
-    ensures ready { IfOk result (λ c. IsReadyCommand (shown c)) }
+    ensures ready { IfOk result (λ c. IsReadyCommand (shown_command c)) }
 {
     let tasks = need(given.tasks, Opt::Tasks)?;
     let machine = need(given.machine, Opt::Machine)?;
@@ -59,7 +59,7 @@ fn planned<'a>(given: Given<'a>) -> Result<Command<'a>, WordFault>
 // The `poll` command, from the values that were given.
 fn polled<'a>(given: Given<'a>) -> Result<Command<'a>, WordFault>
     ensures read { answer result ≡ built verb.Poll (shown_given given.entry) }
-    ensures ready { IfOk result (λ c. IsReadyCommand (shown c)) }
+    ensures ready { IfOk result (λ c. IsReadyCommand (shown_command c)) }
 {
     let tasks = need(given.tasks, Opt::Tasks)?;
     let machine = need(given.machine, Opt::Machine)?;
@@ -148,7 +148,7 @@ fn constrained<'a>(given: Given<'a>) -> Result<Command<'a>, WordFault>
 // The `least` command, from the values that were given.
 fn bounded<'a>(given: Given<'a>) -> Result<Command<'a>, WordFault>
     ensures read { answer result ≡ built verb.Least (shown_given given.entry) }
-    ensures ready { IfOk result (λ c. IsReadyCommand (shown c)) }
+    ensures ready { IfOk result (λ c. IsReadyCommand (shown_command c)) }
 {
     let machine = need(given.machine, Opt::Machine)?;
     let units = need(given.units, Opt::Units)?;
@@ -164,7 +164,7 @@ fn bounded<'a>(given: Given<'a>) -> Result<Command<'a>, WordFault>
 /// then `Pair` for rate monotonic with look-ahead.
 pub fn built<'a>(verb: Verb, given: Given<'a>) -> Result<Command<'a>, WordFault>
     ensures read { answer result ≡ built verb (shown_given given.entry) }
-    ensures ready { IfOk result (λ c. IsReadyCommand (shown c)) }
+    ensures ready { IfOk result (λ c. IsReadyCommand (shown_command c)) }
 {
     match verb {
         Verb::Run => planned(given),

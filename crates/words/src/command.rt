@@ -1,4 +1,8 @@
-// Commands, and why words are refused.
+// Commands and what their words name, and why words are refused.
+ghost use Rattle.std.specs.Prelude.{◌≡◌};
+ghost use Rattle.words.specs.Commands.{asks_probes};
+ghost use Rattle.words.specs.Shown.{shown_command, shown_words};
+
 use dvs_base::{GovernorKind, Scheduler, Short, Version};
 
 /// An option that a command can require, or that takes a value of its own.
@@ -93,6 +97,132 @@ pub enum Command<'a> {
         units: u64,
         ticks: u64,
     },
+}
+
+/// What the words of `run` name.
+#[derive(Clone, Copy)]
+pub struct RunWords<'a> {
+    pub tasks: &'a str,
+    pub machine: &'a str,
+    pub scheduler: Scheduler,
+    pub governor: GovernorKind,
+    pub ticks: u64,
+    pub demands: Option<&'a str>,
+    pub probes: bool,
+    pub version: Version,
+}
+
+/// What the words of `admit` name.
+#[derive(Clone, Copy)]
+pub struct AdmitWords<'a> {
+    pub tasks: &'a str,
+    pub machine: &'a str,
+    pub scheduler: Scheduler,
+}
+
+/// What is done with a trace that is the trace of the run that it describes.
+#[derive(Clone, Copy, Debug, PartialEq, Eq)]
+pub enum TraceUse {
+    /// Its totals are printed.
+    Replay,
+    /// Its text in version 2 is printed.
+    Migrate,
+}
+
+/// What the words of `replay` or `migrate` name, and which of the two they ask for.
+#[derive(Clone, Copy)]
+pub struct TraceWords<'a> {
+    pub asked: TraceUse,
+    pub tasks: &'a str,
+    pub machine: &'a str,
+    pub trace: &'a str,
+}
+
+/// What the words of `response` name.
+#[derive(Clone, Copy)]
+pub struct ResponseWords<'a> {
+    pub tasks: &'a str,
+    pub machine: &'a str,
+}
+
+/// What the words of `constrain` name.
+#[derive(Clone, Copy)]
+pub struct ConstrainWords<'a> {
+    pub tasks: &'a str,
+    pub machine: &'a str,
+    pub deadlines: &'a str,
+}
+
+/// What the words of `poll` name.
+#[derive(Clone, Copy)]
+pub struct PollWords<'a> {
+    pub tasks: &'a str,
+    pub machine: &'a str,
+    pub requests: &'a str,
+    pub server: &'a str,
+    pub scheduler: Scheduler,
+    pub governor: GovernorKind,
+    pub ticks: u64,
+}
+
+/// What the words of `least` name.
+#[derive(Clone, Copy)]
+pub struct LeastWords<'a> {
+    pub machine: &'a str,
+    pub units: u64,
+    pub ticks: u64,
+}
+
+/// What the words of a command name.
+#[derive(Clone, Copy)]
+pub enum CommandWords<'a> {
+    Run(RunWords<'a>),
+    Admit(AdmitWords<'a>),
+    /// Of `replay` or `migrate`.
+    Traced(TraceWords<'a>),
+    Workload { seed: u64 },
+    Response(ResponseWords<'a>),
+    Constrain(ConstrainWords<'a>),
+    Poll(PollWords<'a>),
+    Least(LeastWords<'a>),
+}
+
+// The words of a command: for each variant its fields, and the record that they make with the values in braces.
+macro_rules! words_of {
+    ($command:expr; $($variant:ident [$($field:ident)*] => $form:ident($words:ident { $($name:ident: $value:expr)* });)*) => {
+        match *$command {
+            $(Command::$variant { $($field),* } => CommandWords::$form($words { $($name: $value,)* $($field),* }),)*
+            Command::Workload { seed } => CommandWords::Workload { seed },
+        }
+    };
+}
+
+impl<'a> Command<'a> {
+    /// What the words of this command name.
+    pub fn words(&self) -> CommandWords<'a>
+        ensures { shown_words result ≡ shown_command self.now }
+    {
+        words_of!(self;
+            Run [tasks machine demands scheduler governor ticks probes version] => Run(RunWords {});
+            Admit [tasks machine scheduler] => Admit(AdmitWords {});
+            Replay [tasks machine trace] => Traced(TraceWords { asked: TraceUse::Replay });
+            Migrate [tasks machine trace] => Traced(TraceWords { asked: TraceUse::Migrate });
+            Response [tasks machine] => Response(ResponseWords {});
+            Constrain [tasks machine deadlines] => Constrain(ConstrainWords {});
+            Poll [tasks machine requests server scheduler governor ticks] => Poll(PollWords {});
+            Least [machine units ticks] => Least(LeastWords {});
+        )
+    }
+
+    /// Whether this command asks for probes.
+    pub fn asks_probes(&self) -> bool
+        ensures { result ≡ asks_probes (shown_command self.now) }
+    {
+        match self {
+            Command::Run { probes, .. } => *probes,
+            _ => false,
+        }
+    }
 }
 
 /// The first error in the words, from left to right. Places count from 1, and the command is at place 1.

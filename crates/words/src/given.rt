@@ -21,15 +21,6 @@ pub struct Given<'a> {
     pub format: Option<Version>,
 }
 
-/// What is done with a trace that is the trace of the run that it describes.
-#[derive(Clone, Copy, Debug, PartialEq, Eq)]
-pub enum TraceUse {
-    /// Its totals are printed.
-    Replay,
-    /// Its text in version 2 is printed.
-    Migrate,
-}
-
 /// The scheduler, the governor and the number of ticks of a run.
 #[derive(Clone, Copy, Debug, PartialEq, Eq)]
 pub struct Timed {

@@ -6,8 +6,7 @@
 #![tactic(auto)]
 
 mod build;
-mod command;
-mod command_words;
+pub mod command;
 mod fault_line;
 mod given;
 mod read;
@@ -16,11 +15,6 @@ mod ticks;
 mod value;
 
 pub use command::{Command, Opt, WordFault};
-pub use command_words::{
-    AdmitWords, CommandWords, ConstrainWords, LeastWords, PollWords, ResponseWords, RunWords,
-    TraceWords,
-};
 pub use fault_line::word_fault_line;
-pub use given::TraceUse;
 pub use read::read_words;
 pub use table::option_word;

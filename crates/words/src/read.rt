@@ -2,7 +2,7 @@
 ghost use Rattle.std.specs.Prelude.{◌≡◌, map, string_bytes, option_map, IfOk};
 ghost use Rattle.words.specs.Commands.{IsReadyCommand};
 ghost use Rattle.words.specs.Reading.{nothing_read, with_given, with_option, word_at, ended, words_after, command_of};
-ghost use Rattle.words.specs.Shown.{shown, shown_given, shown_reading, reading_answer, answer};
+ghost use Rattle.words.specs.Shown.{shown_command, shown_given, shown_reading, reading_answer, answer};
 
 use crate::build::built;
 use crate::command::{Command, WordFault};
@@ -82,7 +82,7 @@ fn word_at<'a>(
 
 fn ended<'a>(verb: Verb, reading: Reading<'a>, place: u64) -> Result<Command<'a>, WordFault>
     ensures read { answer result ≡ ended verb (shown_given reading.entry.given) reading.entry.waits place }
-    ensures ready { IfOk result (λ c. IsReadyCommand (shown c)) }
+    ensures ready { IfOk result (λ c. IsReadyCommand (shown_command c)) }
 {
     match reading.waits {
         Some(key) => Err(WordFault::NoValue {
@@ -95,7 +95,7 @@ fn ended<'a>(verb: Verb, reading: Reading<'a>, place: u64) -> Result<Command<'a>
 
 fn read_options<'a>(verb: Verb, words: &'a [String]) -> Result<Command<'a>, WordFault>
     ensures read { answer result ≡ words_after verb nothing_read 1 (map string_bytes words.now) }
-    ensures ready { IfOk result (λ c. IsReadyCommand (shown c)) }
+    ensures ready { IfOk result (λ c. IsReadyCommand (shown_command c)) }
 {
     let mut reading = Reading {
         given: Given::nothing(),
@@ -115,7 +115,7 @@ fn read_options<'a>(verb: Verb, words: &'a [String]) -> Result<Command<'a>, Word
 /// The command that the words are, or the first error from left to right. It allocates no memory.
 pub fn read_words(words: &[String]) -> Result<Command<'_>, WordFault>
     ensures read { answer result ≡ command_of (map string_bytes words.now) }
-    ensures ready { IfOk result (λ c. IsReadyCommand (shown c)) }
+    ensures ready { IfOk result (λ c. IsReadyCommand (shown_command c)) }
 {
     match words {
         [] => Err(WordFault::NoCommand),
