@@ -2,11 +2,12 @@
 # Checked are: the file and the heading of each relative link; each path in backticks; each name of code in backticks,
 # which has to occur as a word in a crate; and that MESSAGES.md has each refusal's line of FORMATS.md.
 # A path may be shortened from the left (`specs/Laws.antt`), and may have `*`. Folders that builds make aren't looked for.
-# Before all that, check_copies.sh compares the files that pages show with the files, and reading.sh the lists of
-# READING.md with the clauses.
+# Before all that, check_copies.sh compares the files that pages show with the files, reading.sh the lists of READING.md
+# with the clauses, and named.sh the table of MAP.md with the files.
 cd "$(dirname "$0")/.." || exit 2
 sh docs/check_copies.sh || exit
 sh docs/reading.sh --check || exit
+sh docs/named.sh --check || exit
 exec awk '
 function fault(what) { print page ":" nr ": " what; faults++ }
 

@@ -1,0 +1,83 @@
+# named.sh: which files name a command, a governor's kind or a version of the trace, outside its own files.
+#   sh docs/named.sh           prints a table: names that are in the same files share a row
+#   sh docs/named.sh --check   ends with 1 where MAP.md has another table
+# A file names a command by its variant, its words or its module. Looked at are `src` and `specs` of `words` and of
+# `rtdvs_top`; a command's own files are the two of `rtdvs_top` that have its name, `generated` those of `workload`.
+# `replay` and `migrate` have the same two, `trace`, and one record of words. A file names a kind or a version by its
+# variant. Looked at are `src` and `specs` of all crates but those of tests and of examples; for kinds, of all but those
+# of governors too. Comments and imports don't count; exports and lists of modules do.
+cd "$(dirname "$0")/.." || exit 2
+export LC_ALL=C
+mode=$1
+
+# what a file says beside its comments and imports
+said() {
+    sed -e '/^ *\/\//d' -e '/^ *--/d' -e '/^ *\(ghost \)*use .*{$/,/};$/d' -e '/^ *\(ghost \)*use /d' "$1"
+}
+
+# row NAME PATTERN FILES: the name, and those of the files in which a word is like the pattern
+row() {
+    list=
+    for file in $3; do
+        said "$file" | grep -Eq "(^|[^A-Za-z0-9_])($2)([^A-Za-z0-9_]|\$)" || continue
+        list="$list ${file#crates/}"
+    done
+    echo "$1$list"
+}
+
+# command_row NAME VARIANTS RECORDS WORD MODULE: the row of a command; WORD begins what specs say of its words, as in (run r)
+command_row() {
+    module=$(echo "$5" | tr '[:upper:]' '[:lower:]')
+    row "$1" "(Command|CommandWords|Verb)::($2)|(command|words|verb)[.]($2)|($3)|[(]$4 [a-z]+|mod ($module|$5)" \
+        "$(echo "$words" | grep -v -e "/$module.rt\$" -e "/specs/$5.antt\$")"
+}
+
+rows() {
+    words=$(find crates/words/src crates/words/specs crates/rtdvs_top/src crates/rtdvs_top/specs -type f | sort)
+    command_row run Run 'RunOf|RunWords' run Run
+    command_row admit Admit 'AdmitOf|AdmitWords' admit Admit
+    command_row replay 'Replay|Traced' 'TracedOf|TraceWords|TraceUse' traced Trace
+    command_row migrate 'Migrate|Traced' 'TracedOf|TraceWords|TraceUse' traced Trace
+    command_row workload Workload 'workload_answer' workload Generated
+    command_row response Response 'ResponseOf|ResponseWords' response Response
+    command_row constrain Constrain 'ConstrainOf|ConstrainWords' constrain Constrain
+    command_row poll Poll 'PollOf|PollWords' poll Poll
+    command_row least Least 'LeastOf|LeastWords' least Least
+
+    files=$(find crates/*/src crates/*/specs -type f | sort |
+        grep -v -e '^crates/[a-z_]*_tests/' -e '^crates/[a-z_]*_rows/' -e '^crates/stored_calls/' -e '^crates/example_runs/' \
+            -e '^crates/test_inputs/' -e '^crates/reserve_gov/')
+    others=$(echo "$files" | grep -v -e '^crates/static_gov/' -e '^crates/cc_edf' -e '^crates/cc_rm' -e '^crates/look_ahead')
+    for kind in Plain Fixed Cycle Ahead; do
+        row "$kind" "$kind" "$others"
+    done
+    for version in One Two; do
+        row "$version" "$version" "$files"
+    done
+}
+
+# a row of the table for each list of files: the names, how many files, and the files of each crate
+table() {
+    printf '| Named | Files | Which |\n|---|---|---|\n'
+    rows | awk '
+    {
+        list = ""; last = ""
+        for (i = 2; i <= NF; i++) {
+            crate = $i; sub(/\/.*/, "", crate)
+            file = substr($i, length(crate) + 2)
+            list = list (crate == last ? ", `" : (last == "" ? "`" : "; `") crate "`: `") file "`"
+            last = crate
+        }
+        if (!(list in names)) { order[++lists] = list; names[list] = "`" $1 "`" } else names[list] = names[list] ", `" $1 "`"
+        number[list] = NF - 1
+    }
+    END { for (i = 1; i <= lists; i++) print "| " names[order[i]] " | " number[order[i]] " | " order[i] " |" }'
+}
+
+case $mode in
+--check)
+    table | while read -r line; do
+        grep -qxF -e "$line" docs/MAP.md || { echo "named.sh: MAP.md lacks: $line"; exit 1; }
+    done ;;
+*) table ;;
+esac
