@@ -11,6 +11,7 @@ use Rattle.grid_fraction.specs.declared.Frac.{Frac}
 use Rattle.grid_fraction.specs.Numbers.{sum_below, any_below, list_below}
 use Rattle.grid_fraction.proofs.Sums.{sum_below-same, sum_below-add, sum_below-le, sum_below-zero, sum_below-one}
 use Rattle.grid_fraction.proofs.Searches.{any-some}
+use Rattle.grid_fraction.proofs.Counts.{one-or-none}
 use Rattle.sched_model.specs.declared.holder.Holder.{Holder}
 use Rattle.sched_model.specs.declared.holder.Holder.TheVariants.{Nobody, Held}
 use Rattle.sched_model.specs.Plan.{Plan, count, period, point}
@@ -54,11 +55,6 @@ pub count-each : (test : Note → Bool) (f : ℕ → List Note) (n : ℕ)
 count-each test f n =
     sym (times-count test (flat_map f (list_below n (λ i. i))))
     ∙ (times-each test f n ∙ sum_below-same n (λ j. times test (f j)) (λ j. count_by test (f j)) (λ j lt. times-count test (f j)))
-
--- a test adds at most 1 to a count
-pub one-or-none : (b : Bool) → (if b then 1 else 0) ≤ 1
-one-or-none true = omega arith
-one-or-none false = omega arith
 
 -- a job that completes in a span isn't open after it
 ended-open : (a b need : ℕ) → b ≤ need → ended a b need + (if nat_le need b then 0 else 1) ≤ 1

@@ -9,7 +9,7 @@ use Rattle.dvs_base.specs.declared.note.Note.TheVariants.{Release, Speed, Run, I
 use Rattle.dvs_base.specs.declared.note.Pos.{Pos}
 use Rattle.grid_fraction.specs.declared.Frac.{Frac}
 use Rattle.grid_fraction.specs.Numbers.{sum_below}
-use Rattle.grid_fraction.proofs.Counts.{count-append}
+use Rattle.grid_fraction.proofs.Counts.{count-append, one-or-none}
 use Rattle.grid_fraction.proofs.Sums.{sum_below-add, sum_below-le, sum_below-zero, sum_below-one}
 use Rattle.sched_model.specs.declared.holder.Holder.{Holder}
 use Rattle.sched_model.specs.declared.holder.Holder.TheVariants.{Nobody, Held}
@@ -26,7 +26,7 @@ use Rattle.sched_model.proofs.NoteLemmas.{notes-span}
 use Rattle.sched_model.proofs.PieceLemmas.{have_units}
 use Rattle.sched_model.proofs.Service.{exec-most}
 use Rattle.done_lines.specs.LineCounts.{AreFew, HasFewNotes}
-use Rattle.done_lines.proofs.CountLemmas.{one-or-none, count-each, has-few}
+use Rattle.done_lines.proofs.CountLemmas.{count-each, has-few}
 use Rattle.done_lines.proofs.DoneNotes.{tells_done, times, ended, had_of, laid-pieces, pieces-ended}
 use Rattle.done_lines.proofs.DoneSpans.{IsLastSpan, last-span}
 use Rattle.done_lines.proofs.SpanHeads.{Head, Begins, begins}

@@ -1,15 +1,15 @@
 -- The lines of a run's text, in either version.
-use Rattle.std.proofs.Common.{◌≡◌, ℕ, zero, suc, ◌<◌, List, [], ◌∷◌, map, refl, arith, nat_eq, get_or, false}
+use Rattle.std.proofs.Common.{◌≡◌, ℕ, List, map, refl, nat_eq, get_or, false}
 use Rattle.std.specs.List.{AllByRecursion}
-use Rattle.grid_fraction.specs.Numbers.{list_below}
 use Rattle.dvs_base.specs.Parts.{name_of}
 use Rattle.dvs_base.specs.declared.kind.Version.{Version}
 use Rattle.dvs_base.specs.declared.kind.Version.TheVariants.{One, Two}
 use Rattle.dvs_base.specs.declared.kind.GovernorKind.{GovernorKind}
 use Rattle.dvs_base.specs.declared.note.Note.{Note}
 use Rattle.sched_model.specs.Plan.{Plan, count, names, task, period, offset}
+use Rattle.sched_model.proofs.Tables.{each-below}
 use Rattle.trace_text.specs.TraceLines.{lines_of}
-use Rattle.trace_text.proofs.PlainLines.{ArePlain, each-append}
+use Rattle.trace_text.proofs.PlainLines.{ArePlain}
 use Rattle.trace_reader.specs.TraceText.{head_lines, text_of_lines, shares_from, version_line}
 use Rattle.trace_reader.proofs.WholeText.{each-for, each-share}
 use Rattle.trace_reader.proofs.SplitLines.{IsLine, lines-text, task-fields, each-line}
@@ -18,11 +18,6 @@ use Rattle.done_lines.specs.RunText.{task_texts, run_lines}
 -- a line that doesn't begin with the letter d, as a `done` line does
 abbrev pub IsQuiet : List ℕ → Type 0
 IsQuiet l = nat_eq (get_or l 0 0) 100 ≡ false
-
--- what each of the first n values has, all of them have
-pub each-below : {A : Type 0} (P : A → Type 0) (n : ℕ) (f : ℕ → A) → ((i : ℕ) → i < n → P (f i)) → AllByRecursion P (list_below n f)
-each-below P zero f h = tt
-each-below P (suc n) f h = each-append P (list_below n f) (f n ∷ []) (each-below P n f (λ i lt. h i (omega (arith, lt)))) (h n (omega arith), tt)
 
 -- the text of a run is split into the lines that it was made of
 pub lines-run : (p : Plan) → ((i : ℕ) → ArePlain (name_of (names p) i)) → (v : Version) (g : GovernorKind) (ticks : ℕ) (notes : List Note)

@@ -9,6 +9,7 @@ use Rattle.dvs_base.specs.declared.note.Note.TheVariants.{Release, Speed, Run, D
 use Rattle.grid_fraction.specs.declared.Frac.{Frac}
 use Rattle.grid_fraction.specs.Numbers.{list_below}
 use Rattle.grid_fraction.proofs.Sums.{sum_below-limit}
+use Rattle.grid_fraction.proofs.Counts.{one-or-none}
 use Rattle.trace_text.proofs.PlainLines.{each-append}
 use Rattle.sched_model.specs.declared.holder.Holder.{Holder}
 use Rattle.sched_model.specs.declared.holder.Holder.TheVariants.{Nobody, Held}
@@ -137,7 +138,7 @@ module _ (p : Plan) (lim : IsWithinLimits p) (dem : ℕ → ℕ → ℕ) (needle
   span-fits x past s h l =
       let head = subst (Begins p dem ask (every_period p lim) needless past) l.spans (begins p dem ask (every_period p lim) needless x past h) in
       let segments = subst (LastHasFew p dem ask lim needless x past) l.spans (last-few p dem ask lim needless x past h) in
-      let ends = sum_below-limit (count p) 1 (completed p dem ask lim needless x past) (λ i lt. one (completes_in p dem x past i)) in
+      let ends = sum_below-limit (count p) 1 (completed p dem ask lim needless x past) (λ i lt. one-or-none (completes_in p dem x past i)) in
       let rs : List Piece = pieces_of s.units in
       let told : List Note = pieces_notes p dem s 0 rs in
       let now : ℕ = length s.past in
@@ -148,10 +149,6 @@ module _ (p : Plan) (lim : IsWithinLimits p) (dem : ℕ → ℕ → ℕ) (needle
       (0 + unit_most * total rs) (releases-fit now (count p) (omega arith))
       (fit-append p (decision ∷ []) told 1 (2 * length rs) 0 (unit_most * total rs) (record { each = (tt, tt); few = omega arith; low = omega arith })
       (pieces-fit s l.entry (length past) 0 rs (each-piece (IsNow p (length past)) s.units head.now))))
-    where
-      one : (b : Bool) → (if b then 1 else 0) ≤ 1
-      one true = omega arith
-      one false = omega arith
 
   -- the notes of these ticks are at most `span_most` for each tick, with at most the energy of 1000000 units for each
   abbrev pub AllFit : List Tick → Type 0

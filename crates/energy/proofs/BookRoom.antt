@@ -6,7 +6,7 @@ use Rattle.std.proofs.lemmas.List.Sums.{sum_by-cons}
 use Rattle.dvs_base.specs.declared.note.Note.{Note}
 use Rattle.dvs_base.specs.declared.note.Note.TheVariants.{Release, Speed, Run, Idle, Done, End}
 use Rattle.grid_fraction.specs.Numbers.{list_below}
-use Rattle.grid_fraction.proofs.Counts.{count-append}
+use Rattle.grid_fraction.proofs.Counts.{count-append, one-or-none}
 use Rattle.sched_model.specs.Notes.{energy_run, energy_idle}
 use Rattle.sched_model.specs.Totals.{is_released, is_finished, is_decided}
 use Rattle.sched_model.proofs.ScheduleLemmas.{length-list_below}
@@ -58,11 +58,7 @@ point-most e (t ∷ told) =
 -- a count over the notes is at most their number
 count-most : (test : Note → Bool) (told : List Told) → count_by test (noted told) ≤ length told
 count-most test [] = omega arith
-count-most test (t ∷ told) = omega (arith, count-append test (t.0 ∷ []) (noted told), count-most test told, one (test t.0))
-  where
-    one : (b : Bool) → (if b then 1 else 0) ≤ 1
-    one true = omega arith
-    one false = omega arith
+count-most test (t ∷ told) = omega (arith, count-append test (t.0 ∷ []) (noted told), count-most test told, one-or-none (test t.0))
 
 -- there is room for a note where the sum of all energies and the number of notes are low
 pub has-room : (tasks points : ℕ) (told : List Told) (note : Note) (e : ℕ) → HasTask (books_of tasks points told) note → e < points

@@ -177,17 +177,7 @@ impl<'a, G: Governor> Kernel<'a, G> {
         ensures never_falls { L.stops to.old ≤ L.stops to.new }
         ensures rose { OnErr result (Rose (L.stops to.old) (L.stops to.new)) }
     {
-        let ticks = self.ticks;
-        match self.spans(Walk::Events, to) {
-            Ok(account) => {
-                let (totals, end) = ending(ticks, &account);
-                match to.hear(&end) {
-                    Ok(()) => Ok(totals),
-                    Err(Stopped) => Err(Stopped),
-                }
-            }
-            Err(Stopped) => Err(Stopped),
-        }
+        self.whole_run(Walk::Events, to)
     }
 
     /// Hands the listener the notes that `drive` hands it, with the same results, but goes tick by tick, not by events.
@@ -202,17 +192,7 @@ impl<'a, G: Governor> Kernel<'a, G> {
         ensures never_falls { L.stops to.old ≤ L.stops to.new }
         ensures rose { OnErr result (Rose (L.stops to.old) (L.stops to.new)) }
     {
-        let ticks = self.ticks;
-        match self.spans(Walk::Ticks, to) {
-            Ok(account) => {
-                let (totals, end) = ending(ticks, &account);
-                match to.hear(&end) {
-                    Ok(()) => Ok(totals),
-                    Err(Stopped) => Err(Stopped),
-                }
-            }
-            Err(Stopped) => Err(Stopped),
-        }
+        self.whole_run(Walk::Ticks, to)
     }
 
     /// Writes the whole trace in this version to the sink, one `put` a line, and tells the probes each note after
@@ -251,6 +231,29 @@ impl<'a, G: Governor> Kernel<'a, G> {
         match put_head(head, out) {
             Ok(()) => tell_notes(self, head, out, probes),
             Err(Failed) => Err(WriteFault),
+        }
+    }
+
+    // Runs the spans by this walk and hands the listener all notes, the `End` last; the totals of the notes.
+    fn whole_run<L: Listener>(self, walk: Walk, to: &mut L) -> Result<Totals, Stopped>
+        ensures totals { IfOk result (λ t. t ≡ totals_of (notes_of_run G.demand self.entry)) }
+        ensures few { IfOk result AreFew }
+        ensures met { IsMetRun G.the_kind G.demand self.entry }
+        ensures ran { OnOk result (HasHeard L.heard to.old (notes_of_run G.demand self.entry) to.new) }
+        ensures broke_off { OnErr result (HasBalked L.heard L.balked to.old (notes_of_run G.demand self.entry) to.new) }
+        ensures never_falls { L.stops to.old ≤ L.stops to.new }
+        ensures rose { OnErr result (Rose (L.stops to.old) (L.stops to.new)) }
+    {
+        let ticks = self.ticks;
+        match self.spans(walk, to) {
+            Ok(account) => {
+                let (totals, end) = ending(ticks, &account);
+                match to.hear(&end) {
+                    Ok(()) => Ok(totals),
+                    Err(Stopped) => Err(Stopped),
+                }
+            }
+            Err(Stopped) => Err(Stopped),
         }
     }
 

@@ -1,5 +1,5 @@
 -- How many elements of a list pass a test.
-use Rattle.std.proofs.Common.{◌≡◌, ℕ, ◌+◌, ◌*◌, Bool, true, false, List, ◌++◌, replicate, if◌then◌else◌, arith, ◌∙◌}
+use Rattle.std.proofs.Common.{◌≡◌, ℕ, ◌+◌, ◌*◌, ◌≤◌, Bool, true, false, List, ◌++◌, replicate, if◌then◌else◌, arith, ◌∙◌}
 use Rattle.std.specs.Prelude.{count_by, cond}
 use Rattle.std.proofs.lemmas.List.Sums.{sum_by-append}
 use Rattle.std.proofs.lemmas.List.Folds.{sum_by-replicate}
@@ -13,3 +13,8 @@ count-replicate test n x = sum_by-replicate (λ y. cond (test y) 1 0) n x ∙ go
     go : (b : Bool) → n * cond b 1 0 ≡ (if b then n else 0)
     go true = omega arith
     go false = omega arith
+
+-- one element adds at most 1 to a count
+pub one-or-none : (b : Bool) → (if b then 1 else 0) ≤ 1
+one-or-none true = omega arith
+one-or-none false = omega arith

@@ -1,7 +1,5 @@
 -- The schedules for two lists have the same text exactly where they have the same notes.
-use Rattle.std.proofs.Common.{◌≡◌, ◌<◌, ◌∙◌, ℕ, zero, suc, true, List, [], ◌∷◌, ap, arith, append-nil}
-use Rattle.std.specs.List.{AllByRecursion}
-use Rattle.grid_fraction.specs.Numbers.{list_below}
+use Rattle.std.proofs.Common.{◌≡◌, ◌<◌, ◌∙◌, ℕ, true, List, [], ◌∷◌, ap, append-nil}
 use Rattle.dvs_base.specs.Text.{is_name}
 use Rattle.dvs_base.specs.declared.kind.GovernorKind.{GovernorKind}
 use Rattle.dvs_base.specs.declared.note.Note.{Note}
@@ -11,7 +9,7 @@ use Rattle.sched_model.specs.Admission.{IsAdmitted}
 use Rattle.sched_model.specs.Demand.{published}
 use Rattle.sched_model.specs.Jobs.{demand_of}
 use Rattle.sched_model.specs.Plan.{Plan, count, names, task, period, offset}
-use Rattle.trace_text.proofs.PlainLines.{each-append}
+use Rattle.sched_model.proofs.Tables.{each-below}
 use Rattle.trace_reader.specs.Traces.{TraceOf, text_of}
 use Rattle.trace_reader.specs.TraceText.{task_text}
 use Rattle.trace_reader.proofs.HeadTexts.{IsLine, AreLines, task_lines-lines}
@@ -21,14 +19,6 @@ use Rattle.replay_laws.specs.OwnList.{Asking, HasSameNotes}
 use Rattle.trace_limits.proofs.TraceLimits.{keeps-limits}
 use Rattle.replay.specs.SameTexts.{trace_by, text_by, HasSameTextBy, HasSameText}
 use Rattle.replay.proofs.Texts.{names-distinct, names-named, name-at}
-
--- what each of the first n values has, all of them have
-each-below : {A : Type 0} (P : A → Type 0) (n : ℕ) (f : ℕ → A) → ((i : ℕ) → i < n → P (f i))
-    → AllByRecursion P (list_below n f)
-each-below P zero f h = tt
-each-below P (suc n) f h =
-    each-append P (list_below n f) (f n ∷ []) (each-below P n f (λ i lt. h i (omega (arith, lt))))
-    (h n (omega arith), tt)
 
 -- the line of each task of a plan is a line
 texts-lines : (p : Plan) → IsTaskSet p.tasks → AreLines (task_texts p)

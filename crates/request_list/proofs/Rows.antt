@@ -4,6 +4,7 @@ use Rattle.std.specs.Prelude.{◌==◌, ◌||◌, nat_lt, ok_or, decimal}
 use Rattle.std.proofs.lemmas.Bool.Decides.{nat_tests}
 use Rattle.std.proofs.lemmas.Option.{some_pair_parts}
 use Rattle.dvs_base.specs.Checks.{and_then}
+use Rattle.dvs_base.proofs.Checks.{step-ok, ok_or-ok, two-is}
 use Rattle.dvs_base.specs.Text.{number_below}
 use Rattle.dvs_base.proofs.Spelled.{number_below-decimal, number_below-found}
 use Rattle.dvs_base.specs.Parts.{two_of}
@@ -14,21 +15,6 @@ use Rattle.request_list.specs.declared.fault.RequestFault.TheVariants as fault
 use Rattle.request_list.specs.Requests.{IsRequest}
 use Rattle.request_list.specs.RequestText.{row_fields}
 use Rattle.request_list.specs.RequestFile.{units_from, arrival_in_order, request_of_row}
-
--- where a sequence of two steps gives a value, each step gave one
-pub step-ok : {A B F : Type 0} (r : Result A F) (f : A → Result B F) (y : B) → and_then r f ≡ Ok y → (x : A) × (r ≡ Ok x) × (f x ≡ Ok y)
-step-ok (Ok x) f y e = (x, refl, e)
-step-ok (Err d) f y e = absurd cc
-
-two-is : (fs : List (List ℕ)) (a b : List ℕ) → two_of fs ≡ Some (a, b) → fs ≡ a ∷ b ∷ []
-two-is [] a b e = absurd cc
-two-is (x ∷ []) a b e = absurd cc
-two-is (x ∷ y ∷ []) a b e = let p = some_pair_parts x a y b e in ap₂ (λ p q. p ∷ q ∷ []) p.0 p.1
-two-is (x ∷ y ∷ z ∷ fs) a b e = absurd cc
-
-pub found-ok : {A F : Type 0} (o : Option A) (e : F) (x : A) → ok_or o e ≡ Ok x → o ≡ Some x
-found-ok None e x h = absurd cc
-found-ok (Some y) e x h = let same : y ≡ x = cc in ap Some same
 
 -- units that pass their check are unchanged, and within the limits
 units-ok : (row n u : ℕ) → units_from row n ≡ Ok u → (n ≡ u) × (1 ≤ n) × (n ≤ MOST_REQUEST_UNITS)
@@ -70,9 +56,9 @@ row-found row earlier fields r e =
     let c = step-ok (ok_or (number_below (2 ^ 64) a.0.1) (fault.BadNumber row column.Units)) _ r b.2 in
     let d = step-ok (units_from row c.0) _ r c.2 in
     let f = step-ok (arrival_in_order row earlier b.0) _ r d.2 in
-    let two = two-is fields a.0.0 a.0.1 (found-ok (two_of fields) _ a.0 a.1) in
-    let arrival = number_below-found (2 ^ 64) a.0.0 b.0 (omega arith) (found-ok (number_below (2 ^ 64) a.0.0) _ b.0 b.1) in
-    let units = number_below-found (2 ^ 64) a.0.1 c.0 (omega arith) (found-ok (number_below (2 ^ 64) a.0.1) _ c.0 c.1) in
+    let two = two-is fields a.0 (ok_or-ok (two_of fields) _ a.0 a.1) in
+    let arrival = number_below-found (2 ^ 64) a.0.0 b.0 (omega arith) (ok_or-ok (number_below (2 ^ 64) a.0.0) _ b.0 b.1) in
+    let units = number_below-found (2 ^ 64) a.0.1 c.0 (omega arith) (ok_or-ok (number_below (2 ^ 64) a.0.1) _ c.0 c.1) in
     let checked = units-ok row c.0 d.0 d.1 in
     let ordered = order-ok row earlier b.0 f.0 f.1 in
     let is : (record { arrival = f.0; units = d.0 }) ≡ r = cc in

@@ -14,7 +14,8 @@ use Rattle.request_list.specs.declared.fault.RequestFault.TheVariants as fault
 use Rattle.request_list.specs.Requests.{IsRequest, AreRequests, request_at}
 use Rattle.request_list.specs.RequestText.{row_fields, IsRequestText}
 use Rattle.request_list.specs.RequestFile.{request_of_row, requests_from, request_header, few_rows, rows_in, request_file}
-use Rattle.request_list.proofs.Rows.{step-ok, found-ok, row-found, row-read}
+use Rattle.dvs_base.proofs.Checks.{step-ok, ok_or-ok}
+use Rattle.request_list.proofs.Rows.{row-found, row-read}
 
 -- the requests are within the limits, and in order from the tick `earlier` on
 abbrev IsFrom : ℕ → List Request → Type 0
@@ -89,7 +90,7 @@ found : (requests : List Request) (bytes : List ℕ) → AreRequests requests �
 found requests bytes are e =
     let a = step-ok (rows_in bytes) (requests_from 1 0 []) requests e in
     let b = step-ok (ok_or (text_rows request_header bytes) fault.Header) few_rows a.0 a.1 in
-    let rows = rows_after-Some request_header (records default_config (strip_bom bytes)) b.0 (found-ok (text_rows request_header bytes) fault.Header b.0 b.1) in
+    let rows = rows_after-Some request_header (records default_config (strip_bom bytes)) b.0 (ok_or-ok (text_rows request_header bytes) fault.Header b.0 b.1) in
     let same = few_rows-ok b.0 a.0 b.2 in
     let read = rows-found a.0 1 0 [] requests a.2 in
     record {

@@ -33,7 +33,7 @@ use Rattle.trace_limits.proofs.TraceLimits.{keeps-limits}
 use Rattle.replay.specs.Replays.{replay_of}
 use Rattle.replay.proofs.Comparing.{ended-once}
 use Rattle.replay.proofs.Exact.{some-replayed, is-replayed}
-use Rattle.replay.proofs.Texts.{names-distinct}
+use Rattle.replay.proofs.Texts.{names-distinct, names-named}
 use Rattle.words.specs.Commands.{TracedOf, CommandOf, traced}
 use Rattle.rtdvs_top.specs.Meanings.{longest, bytes_from, bytes_at, tasks_at, machine_at}
 use Rattle.rtdvs_top.specs.Admit.{admission}
@@ -61,12 +61,6 @@ task-lines [] = refl
 task-lines (t ∷ tasks) =
     below-first (length tasks) (line_of_task (t ∷ tasks))
     ∙ ap (λ (l : List (List ℕ)). task_text t.name t.period t.offset t.worst ∷ l) (task-lines tasks)
-
--- the names of tasks within their limits
-names-named : (tasks : List Task) → ((i : ℕ) → i < length tasks → IsTask (task_at tasks i))
-    → AreNames (map (λ (t : Task). t.name) tasks)
-names-named [] h = tt
-names-named (t ∷ tasks) h = ((h 0 (omega arith)).name, names-named tasks (λ i lt. h (suc i) (omega (arith, lt))))
 
 -- a file that is the text of a schedule of a plan is read, its plan is admitted, and its trace is that of its schedule
 module _ (r : TracedOf) (files : Files) (v : Version) (p : Plan) (g : GovernorKind) (ticks : ℕ) (rows : List DemandRow)

@@ -129,14 +129,6 @@ unfolding in_order
 length-in_order key zero = refl
 length-in_order key (suc n) = length-insert key n (in_order key n) ∙ ap suc (length-in_order key n)
 
-pub in_order-none : (key : ℕ → ℕ) → in_order key 0 ≡ []
-unfolding in_order
-in_order-none key = refl
-
-pub in_order-more : (key : ℕ → ℕ) (n : ℕ) → in_order key (n + 1) ≡ insert_by key n (in_order key n)
-unfolding in_order
-in_order-more key n = let e : n + 1 ≡ suc n = omega arith in rw e refl
-
 -- i is in the list, between `pre` and `post`
 abbrev pub Stands : ℕ → List ℕ → Type 0
 Stands i xs = (pre : List ℕ) × ((post : List ℕ) × (xs ≡ pre ++ i ∷ post))

@@ -1,10 +1,12 @@
 -- Lists whose elements are a function of their place.
-use Rattle.std.proofs.Common.{◌≡◌, ◌≢◌, ℕ, zero, suc, ◌-◌, ◌<◌, Bool, true, false, eqb, [], ◌∷◌, ◌++◌, length, length-append, get_or, set, refl, arith, ap, ap₂, ◌∙◌, sym, ◌⊎◌, inl, inr, eq-or-lt_of_le, le_of_suc-le-suc, length-set, get_or-set_same, get_or-set_other}
+use Rattle.std.proofs.Common.{◌≡◌, ◌≢◌, ℕ, zero, suc, ◌-◌, ◌<◌, Bool, true, false, eqb, [], ◌∷◌, ◌++◌, length, length-append, get_or, set, refl, arith, ap, ap₂, ◌∙◌, sym, subst, ◌⊎◌, inl, inr, eq-or-lt_of_le, le_of_suc-le-suc, length-set, get_or-set_same, get_or-set_other}
 use Rattle.std.proofs.lemmas.List.{ext_get_or, get_or-append_right}
 use Rattle.std.proofs.Math.ListN.{get_or-append}
 use Rattle.std.proofs.lemmas.Bool.Decides.{nat_tests}
 use Rattle.std.specs.Prelude.{map}
+use Rattle.std.specs.List.{AllByRecursion}
 use Rattle.std.proofs.lemmas.List.{map-append}
+use Rattle.std.proofs.lemmas.List.Elements.{recursion_from_All}
 use Rattle.grid_fraction.specs.Numbers.{list_below}
 
 pub length-list_below : {A : Type 0} (n : ℕ) (f : ℕ → A) → length (list_below n f) ≡ n
@@ -51,3 +53,9 @@ set-table n f g i v lt here there =
 pub map-table : {A B : Type 0} (n : ℕ) (f : ℕ → A) (h : A → B) → map h (list_below n f) ≡ list_below n (λ i. h (f i))
 map-table zero f h = refl
 map-table (suc n) f h = map-append h (list_below n f) (f n ∷ []) ∙ ap (λ xs. xs ++ h (f n) ∷ []) (map-table n f h)
+
+-- what each of the first n values has, each element of their list has
+pub each-below : {A : Type 0} (P : A → Type 0) (n : ℕ) (f : ℕ → A) → ((i : ℕ) → i < n → P (f i)) → AllByRecursion P (list_below n f)
+each-below P n f h = recursion_from_All P (list_below n f) (λ k d lt.
+    let within : k < n = omega (arith, lt, length-list_below n f) in
+    subst P (sym (get-table n f k d within)) (h k within))

@@ -15,16 +15,12 @@ use Rattle.dvs_base.specs.Parts.{position_text, fraction_text, name_of, two_of}
 use Rattle.dvs_base.specs.declared.note.Pos.{Pos}
 use Rattle.dvs_base.proofs.Spelled.{number_below-decimal, number_below-found}
 use Rattle.dvs_base.specs.Checks.{◌>>=◌}
+use Rattle.dvs_base.proofs.Checks.{step-ok, ok_or-ok, two-is}
 use Rattle.trace_reader.specs.declared.trace.TraceKind.{TraceKind}
 use Rattle.trace_reader.specs.declared.trace.TraceKind.TheVariants as kind
 use Rattle.trace_reader.specs.Fields.{parts, whole_in, wide_in, position_in, fraction_in, task_in}
 use Rattle.trace_reader.specs.Traces.{IsPlace}
 use Rattle.trace_reader.proofs.Plain.{lacks-decimal, parts-first, parts-alone}
-
--- where a sequence of two steps gives a value, each step gave one
-pub step-ok : {A B F : Type 0} (r : Result A F) (f : A → Result B F) (y : B) → (r >>= f) ≡ Ok y → (x : A) × (r ≡ Ok x) × (f x ≡ Ok y)
-step-ok (Ok x) f y e = (x, refl, e)
-step-ok (Err d) f y e = absurd cc
 
 -- where a choice between a result and an error gives a value, the result did
 pub if-ok : {A F : Type 0} (b : Bool) (r : Result A F) (k : F) (x : A) → (if b then r else Err k) ≡ Ok x → (b ≡ true) × (r ≡ Ok x)
@@ -35,16 +31,6 @@ if-ok false r k x e = absurd cc
 pub read-step : {A B F : Type 0} {P : A → Type 0} {r : Result A F} {f : A → Result B F} {y : B} → ((x : A) → r ≡ Ok x → P x) → (r >>= f) ≡ Ok y
     → (x : A) × P x × (f x ≡ Ok y)
 read-step {r = r} {f = f} {y = y} found e = let s = step-ok r f y e in (s.0, found s.0 s.1, s.2)
-
-abbrev done : {A F : Type 0} → A → Result A F
-done x = Ok x
-
-pub ok-is : {A F : Type 0} (x y : A) → done {F = F} x ≡ done {F = F} y → x ≡ y
-ok-is x y e = cc
-
-pub ok_or-ok : {A F : Type 0} (o : Option A) (k : F) (x : A) → ok_or o k ≡ Ok x → o ≡ Some x
-ok_or-ok None k x e = absurd cc
-ok_or-ok {F = F} (Some y) k x e = ap Some (ok-is {F = F} y x e)
 
 pub whole_in-text : (n : ℕ) → n < 2 ^ 64 → whole_in (decimal n) ≡ Ok n
 whole_in-text n fits = ap (λ o. ok_or o kind.Number) (number_below-decimal (2 ^ 64) n fits (omega arith))
@@ -57,11 +43,6 @@ wide_in-text n fits = ap (λ o. ok_or o kind.Number) (number_below-decimal (2 ^ 
 
 pub wide_in-found : (field : List ℕ) (n : ℕ) → wide_in field ≡ Ok n → (field ≡ decimal n) × (n < 2 ^ 128)
 wide_in-found field n e = number_below-found (2 ^ 128) field n (omega arith) (ok_or-ok (number_below (2 ^ 128) field) kind.Number n e)
-
--- a list that has two parts is the list of both
-pub two-is : (ps : List (List ℕ)) (p : List ℕ × List ℕ) → two_of ps ≡ Some p → ps ≡ p.0 ∷ p.1 ∷ []
-two-is (a ∷ b ∷ []) p e = subst (λ (q : List ℕ × List ℕ). a ∷ b ∷ [] ≡ q.0 ∷ q.1 ∷ []) (same_Some (a, b) p e) refl
-two-is _ p e = absurd cc
 
 -- a field that has two parts is both with the byte between them
 two-joined : (byte : ℕ) (field a b : List ℕ) → two_of (parts byte field) ≡ Some (a, b) → field ≡ a ++ byte ∷ b

@@ -32,7 +32,8 @@ use Rattle.trace_reader.specs.Heads.{line_at, version_in, plan_line_of, parts_af
 use Rattle.trace_reader.specs.Traces.{task_lines}
 use Rattle.trace_reader.proofs.Lined.{spaced, line-spaced}
 use Rattle.trace_reader.proofs.Plain.{Lacks, lacks-plain, lacks-spaced, length-decimal, parts-joined}
-use Rattle.trace_reader.proofs.FieldTexts.{step-ok, read-step, if-ok, ok-is, ok_or-ok}
+use Rattle.trace_reader.proofs.FieldTexts.{read-step, if-ok}
+use Rattle.dvs_base.proofs.Checks.{step-ok, ok-is, ok_or-ok}
 use Rattle.trace_reader.proofs.ItemTexts.{four-is}
 use Rattle.trace_reader.proofs.LineTexts.{AreNames, line_at-found, line_at-text, read-line, join-line, join-spaced, length-spaced}
 use Rattle.trace_reader.proofs.SplitLines.{plain-plan, plain-task}

@@ -17,7 +17,8 @@ use Rattle.trace_reader.specs.TraceText.{has_task_lines}
 use Rattle.trace_reader.specs.Fields.{four_of, six_of}
 use Rattle.trace_reader.specs.Items.{release_in, speed_in, run_in, idle_in, done_in, end_in, energy_in, item_of}
 use Rattle.trace_reader.specs.Traces.{IsNoteOf}
-use Rattle.trace_reader.proofs.FieldTexts.{AreApart, two-is, step-ok, read-step, if-ok, ok-is, ok_or-ok, whole_in-text, whole_in-found, wide_in-text, wide_in-found, position_in-text, position_in-found, fraction_in-text, fraction_in-found, task_in-text, task_in-found}
+use Rattle.dvs_base.proofs.Checks.{step-ok, ok-is, ok_or-ok, two-is}
+use Rattle.trace_reader.proofs.FieldTexts.{AreApart, read-step, if-ok, whole_in-text, whole_in-found, wide_in-text, wide_in-found, position_in-text, position_in-found, fraction_in-text, fraction_in-found, task_in-text, task_in-found}
 
 -- the fields of an item's line
 abbrev pub item_fields : List (List ℕ) → Item → List (List ℕ)

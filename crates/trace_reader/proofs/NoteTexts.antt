@@ -25,7 +25,8 @@ use Rattle.trace_reader.specs.Items.{item_of}
 use Rattle.trace_reader.specs.TraceFile.{SoFar, wanted, is_in_order, is_right_share, next_item, with_item, ends, is_nothing, notes_from}
 use Rattle.trace_reader.specs.Traces.{IsNoteOf, is_end}
 use Rattle.trace_reader.proofs.Splitting.{HasPart}
-use Rattle.trace_reader.proofs.FieldTexts.{AreApart, step-ok, ok-is}
+use Rattle.trace_reader.proofs.FieldTexts.{AreApart}
+use Rattle.dvs_base.proofs.Checks.{step-ok, ok-is}
 use Rattle.trace_reader.proofs.Lined.{spaced}
 use Rattle.trace_reader.proofs.ItemTexts.{item_fields, IsItemOf, item_of-text}
 use Rattle.trace_reader.proofs.LineTexts.{AreNames, IsLineOf, line_at-found, join-line, item_text, item-found, plain-item, cut-line, read-line, parts-fields, lengths-item}

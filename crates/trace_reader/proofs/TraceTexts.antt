@@ -22,7 +22,8 @@ use Rattle.trace_reader.specs.TraceFile.{nothing_yet, wanted, is_nothing, notes_
 use Rattle.trace_reader.specs.Traces.{TraceOf, text_of, IsNoteOf, is_end, IsEnded, HasShares, lines_for_tasks, IsTrace, IsTextOf, HaveOneText}
 use Rattle.trace_reader.proofs.Reading.{is_nothing-some}
 use Rattle.trace_reader.proofs.WholeText.{lines-wanted, text-parts}
-use Rattle.trace_reader.proofs.FieldTexts.{AreApart, step-ok, ok-is}
+use Rattle.trace_reader.proofs.FieldTexts.{AreApart}
+use Rattle.dvs_base.proofs.Checks.{step-ok, ok-is}
 use Rattle.trace_reader.proofs.LineTexts.{AreNames, line_at-found, join-line}
 use Rattle.trace_reader.proofs.ShareTexts.{rest_text, energy-end, told-notes}
 use Rattle.trace_reader.proofs.NoteTexts.{Reads, wanted-some, notes_from-found, answer, notes_from-text, at_line-ok}

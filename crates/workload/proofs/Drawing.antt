@@ -1,9 +1,5 @@
--- Draws in pairs, and properties of each element of a list that is a function of the place.
-use Rattle.std.proofs.Common.{◌≡◌, ℕ, suc, ◌+◌, ◌*◌, ◌<◌, arith, ap, add-one, sym, subst}
-use Rattle.std.specs.List.{AllByRecursion}
-use Rattle.std.proofs.lemmas.List.Elements.{recursion_from_All}
-use Rattle.grid_fraction.specs.Numbers.{list_below}
-use Rattle.sched_model.proofs.Tables.{length-list_below, get-table}
+-- Draws in pairs.
+use Rattle.std.proofs.Common.{◌≡◌, ℕ, suc, ◌+◌, ◌*◌, arith, ap, add-one}
 use Rattle.workload.specs.Draws.{next_state, draw_of, state_after, draw}
 use Rattle.workload.specs.Workload.{task_by, made_task}
 
@@ -17,8 +13,3 @@ two-draws x n = let e : 2 * (n + 1) ≡ suc (suc (2 * n)) = omega arith in ap (s
 pub made_task-drawn : (x n i : ℕ) → made_task x n i
     ≡ task_by n i (draw_of (next_state (state_after x (2 * i)))) (draw_of (next_state (next_state (state_after x (2 * i)))))
 made_task-drawn x n i = ap (λ k. task_by n i (draw x (2 * i)) (draw x k)) (add-one (2 * i))
-
-pub each-below : {A : Type 0} (P : A → Type 0) (n : ℕ) (f : ℕ → A) → ((k : ℕ) → k < n → P (f k)) → AllByRecursion P (list_below n f)
-each-below P n f h = recursion_from_All P (list_below n f) (λ k d lt.
-    let within : k < n = omega (arith, lt, length-list_below n f) in
-    subst P (sym (get-table n f k d within)) (h k within))

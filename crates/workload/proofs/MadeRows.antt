@@ -8,8 +8,8 @@ use Rattle.grid_fraction.proofs.Sums.{list_below-more}
 use Rattle.task_model.specs.declared.task.Task.{Task}
 use Rattle.task_model.specs.DemandRows.{DemandRow, named}
 use Rattle.demand_list.specs.Demands.{precedes, with_row}
+use Rattle.sched_model.proofs.Tables.{each-below}
 use Rattle.workload.specs.Workload.{made_row}
-use Rattle.workload.proofs.Drawing.{each-below}
 
 -- rows for other jobs give no units for this one
 others-name_none : (i k : ℕ) (rows : List DemandRow)

@@ -1,7 +1,7 @@
 use Rattle.std.proofs.Common.{ap}
 use Rattle.event_kernel.specs.Runs.{Run}
 use Rattle.event_kernel.proofs.Closing.{early-balked, end-heard, end-balked}
-use Rattle.event_kernel.proofs.kernel.Kernel.drive.Goals as goal
+use Rattle.event_kernel.proofs.kernel.Kernel.whole_run.Goals as goal
 
 pub returns-in-Ok-hear-clause-ran : goal.returns-in-Ok-hear-clause-ran
 returns-in-Ok-hear-clause-ran g c =
