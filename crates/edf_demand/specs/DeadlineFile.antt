@@ -37,15 +37,15 @@ no_earlier_deadline row task None rest = rest
 no_earlier_deadline row task (Some deadline) rest = Err (fault.Repeated row task)
 
 -- the deadlines with one more row, or the refusal of a second row of its task
-abbrev pub one_more : List (Option ℕ) → ℕ → ℕ → ℕ → Result (List (Option ℕ)) DeadlineFault
-one_more given row task deadline = no_earlier_deadline row task (given_to given task) (Ok (slice_set given task (Some deadline)))
+abbrev pub with_deadline : List (Option ℕ) → ℕ → ℕ → ℕ → Result (List (Option ℕ)) DeadlineFault
+with_deadline given row task deadline = no_earlier_deadline row task (given_to given task) (Ok (slice_set given task (Some deadline)))
 
 -- the deadlines of the rows so far with those of the remaining rows, the first of which has the number `row`
 abbrev pub given_from : List Task → ℕ → List (Option ℕ) → List (List (List ℕ)) → Result (List (Option ℕ)) DeadlineFault
 given_from tasks row given [] = Ok given
 given_from tasks row given (fields ∷ rest) =
     and_then (deadline_of_row tasks row fields) (λ r.
-    and_then (one_more given row r.0 r.1) (λ more. given_from tasks (row + 1) more rest))
+    and_then (with_deadline given row r.0 r.1) (λ more. given_from tasks (row + 1) more rest))
 
 -- the deadlines before the first row: none
 abbrev pub none_given : List Task → List (Option ℕ)

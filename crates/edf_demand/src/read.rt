@@ -5,7 +5,7 @@ ghost use Rattle.csv_text.specs.Rows.{IsPlain, AreCountedFrom, records_left};
 ghost use Rattle.dvs_base.specs.Checks.{IsUnlessMemory};
 ghost use Rattle.task_model.specs.Tasks.{task_at};
 ghost use Rattle.edf_demand.specs.Deadlines.{AreFor};
-ghost use Rattle.edf_demand.specs.DeadlineFile.{deadline_of_row, one_more, given_from, none_given, all_deadlines, given_in, deadline_file, AreGiven};
+ghost use Rattle.edf_demand.specs.DeadlineFile.{deadline_of_row, with_deadline, given_from, none_given, all_deadlines, given_in, deadline_file, AreGiven};
 
 use crate::{DeadlineFault, Deadlines};
 use csv::{ByteRecord, Reader};
@@ -46,7 +46,7 @@ fn add_row(
     requires task { task < length tasks.now }
     requires some { 1 ≤ deadline }
     requires within { deadline ≤ (task_at tasks.now task).period }
-    ensures row { IsUnlessMemory DeadlineFault.NoMemory (λ _. given.new) result (one_more given.old row task deadline) }
+    ensures row { IsUnlessMemory DeadlineFault.NoMemory (λ _. given.new) result (with_deadline given.old row task deadline) }
     ensures given { AreGiven tasks.now given.new }
 {
     if given[task as usize].is_some() {

@@ -14,6 +14,7 @@ use dvs_base::NoMemory;
 use freq_table::Machine;
 use grid_fraction::{Frac, greater};
 use ready_queue::{ByDue, Entry, Queue};
+use sched_model::worst;
 use std::alloc::Global;
 use task_model::TaskSet;
 
@@ -26,15 +27,6 @@ pub(crate) fn hyper_jobs(tasks: &TaskSet) -> u64
         jobs += tasks.hyper() / tasks.task(i).period;
     }
     jobs
-}
-
-// The worst case of a task with the charge for two switches of speed, in work units.
-fn worst(tasks: &TaskSet, machine: &Machine, task: u32) -> u64
-    requires { task < length tasks.now }
-    ensures value { result ≡ worst (plan_of tasks.now machine.now Edf) task }
-    ensures low { result ≤ 2 ^ 61 }
-{
-    tasks.task(task).worst + 2 * machine.charge()
 }
 
 // A queue of the tasks by their first absolute deadlines, which are the relative ones.

@@ -6,20 +6,9 @@ ghost use Rattle.sched_model.specs.Priority.{sum_before};
 ghost use Rattle.rm_response_laws.specs.Bounds.{spare};
 ghost use Rattle.rm_response.specs.Bounds.{ticks_beside};
 
-use crate::work::worst;
 use freq_table::Machine;
-use sched_model::stands_before;
+use sched_model::{rate, stands_before};
 use task_model::{LONGEST_PERIOD, TaskSet};
-
-// The work of task j in one hyperperiod, each job at its charged worst case, in work units.
-fn rate(tasks: &TaskSet, machine: &Machine, j: u32) -> u128
-    requires { j < length tasks.now }
-    ensures value { result ≡ rate (plan_of tasks.now machine.now Rm) j }
-    ensures low { result ≤ 2 ^ 109 }
-{
-    let jobs = tasks.hyper() / tasks.task(j).period;
-    u128::from(worst(tasks, machine, j)) * u128::from(jobs)
-}
 
 // The work of the tasks before task k in RM order in one hyperperiod.
 fn rates_before(tasks: &TaskSet, machine: &Machine, k: u32) -> u128

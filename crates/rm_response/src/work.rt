@@ -2,24 +2,15 @@
 ghost use Rattle.std.specs.Prelude.{◌≡◌, ◌≤◌, ◌<◌, ◌^◌, length};
 ghost use Rattle.dvs_base.specs.declared.kind.Scheduler.TheVariants.{Rm};
 ghost use Rattle.task_model.specs.declared.limits.TheConstants.{LONGEST_PERIOD};
-ghost use Rattle.sched_model.specs.Plan.{plan_of, count, period, worst};
+ghost use Rattle.sched_model.specs.Plan.{plan_of, count, period};
 ghost use Rattle.sched_model.specs.Priority.{sum_before};
 ghost use Rattle.governor.specs.Worst.{level_work_in};
 ghost use Rattle.rm_response_laws.specs.Bounds.{held_work};
 
 use freq_table::Machine;
 use grid_fraction::up;
-use sched_model::stands_before;
+use sched_model::{stands_before, worst};
 use task_model::TaskSet;
-
-// The worst case of task j with the charge for two switches of speed, in work units.
-pub(crate) fn worst(tasks: &TaskSet, machine: &Machine, j: u32) -> u64
-    requires { j < length tasks.now }
-    ensures value { result ≡ worst (plan_of tasks.now machine.now Rm) j }
-    ensures low { result ≤ 2 ^ 61 }
-{
-    tasks.task(j).worst + 2 * machine.charge()
-}
 
 // The work of the jobs of task j that `ticks` ticks can hold, in work units.
 fn held_work(tasks: &TaskSet, machine: &Machine, ticks: u64, j: u32) -> u128

@@ -16,4 +16,4 @@ pub use holder::Holder;
 pub use order::stands_before;
 pub use plan::Admitted;
 pub use state::{Row, State};
-pub use sums::{level_work, total_rate};
+pub use sums::{level_work, rate, total_rate, worst};

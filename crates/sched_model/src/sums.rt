@@ -10,8 +10,8 @@ use freq_table::Machine;
 use grid_fraction::up;
 use task_model::TaskSet;
 
-// The worst case of task i with the charge for two switches of speed, in work units.
-fn worst(tasks: &TaskSet, machine: &Machine, i: u32) -> u64
+/// `Ci`, the worst case of task `i` with the charge for two switches of speed, in work units. It takes no memory.
+pub fn worst(tasks: &TaskSet, machine: &Machine, i: u32) -> u64
     requires { i < length tasks.now }
     ensures value { result ≡ worst (plan_of tasks.now machine.now Edf) i }
     ensures low { result ≤ 2 ^ 61 }
@@ -19,8 +19,8 @@ fn worst(tasks: &TaskSet, machine: &Machine, i: u32) -> u64
     tasks.task(i).worst + 2 * machine.charge()
 }
 
-// The work of task i in one hyperperiod, each job at its charged worst case, in work units.
-fn rate(tasks: &TaskSet, machine: &Machine, i: u32) -> u128
+/// The work of task `i` in one hyperperiod in work units, each job at its charged worst case. It takes no memory.
+pub fn rate(tasks: &TaskSet, machine: &Machine, i: u32) -> u128
     requires { i < length tasks.now }
     ensures value { result ≡ rate (plan_of tasks.now machine.now Edf) i }
     ensures low { result ≤ 2 ^ 109 }
