@@ -15,7 +15,7 @@ use Rattle.dvs_base.specs.Parts.{position_text, fraction_text, name_of, two_of}
 use Rattle.dvs_base.specs.declared.note.Pos.{Pos}
 use Rattle.dvs_base.proofs.Spelled.{number_below-decimal, number_below-found}
 use Rattle.dvs_base.specs.Checks.{◌>>=◌}
-use Rattle.dvs_base.proofs.Checks.{step-ok, ok_or-ok, two-is}
+use Rattle.dvs_base.proofs.Checks.{step-ok, ok-is, ok_or-ok, two-is}
 use Rattle.trace_reader.specs.declared.trace.TraceKind.{TraceKind}
 use Rattle.trace_reader.specs.declared.trace.TraceKind.TheVariants as kind
 use Rattle.trace_reader.specs.Fields.{parts, whole_in, wide_in, position_in, fraction_in, task_in}
