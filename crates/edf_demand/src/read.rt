@@ -1,5 +1,5 @@
 // Deadline files.
-ghost use Rattle.std.specs.Prelude.{codes, ◌≡◌, ◌≤◌, ◌<◌, length, IfOk};
+ghost use Rattle.std.specs.Prelude.{◌≡◌, ◌≤◌, ◌<◌, length, IfOk};
 ghost use Rattle.csv.specs.Records.{fields_of};
 ghost use Rattle.csv_text.specs.Rows.{IsPlain, AreCountedFrom, records_left};
 ghost use Rattle.dvs_base.specs.Checks.{IsUnlessMemory};

@@ -1,5 +1,5 @@
 // The walk over the absolute deadlines of one hyperperiod. The tasks are in a queue by their next absolute deadlines.
-ghost use Rattle.std.specs.Prelude.{ℕ, ◌≡◌, ◌+◌, ◌*◌, ◌<◌, ◌≤◌, ◌^◌, length, slice_index, nat_eq, IfOk};
+ghost use Rattle.std.specs.Prelude.{ℕ, ◌≡◌, ◌+◌, ◌<◌, ◌≤◌, length, slice_index, nat_eq, IfOk};
 ghost use Rattle.dvs_base.specs.declared.kind.Scheduler.TheVariants.{Edf};
 ghost use Rattle.grid_fraction.specs.Numbers.{least_below, sum_where};
 ghost use Rattle.sched_model.specs.Plan.{plan_of, worst};

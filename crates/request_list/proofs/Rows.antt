@@ -1,9 +1,7 @@
 -- A row that is read is the row of its request, and the row of any request is read.
-use Rattle.std.proofs.Common.{◌≡◌, ℕ, ◌^◌, ◌<◌, ◌≤◌, Bool, true, false, List, [], ◌∷◌, length, Option, Some, None, Result, Ok, Err, refl, ap, ap₂, subst, ◌∙◌, arith, if◌then◌else◌}
+use Rattle.std.proofs.Common.{◌≡◌, ℕ, ◌^◌, ◌<◌, ◌≤◌, Bool, true, false, List, [], ◌∷◌, length, Ok, Err, refl, ap, ap₂, subst, ◌∙◌, arith, if◌then◌else◌}
 use Rattle.std.specs.Prelude.{◌==◌, ◌||◌, nat_lt, ok_or, decimal}
 use Rattle.std.proofs.lemmas.Bool.Decides.{nat_tests}
-use Rattle.std.proofs.lemmas.Option.{some_pair_parts}
-use Rattle.dvs_base.specs.Checks.{and_then}
 use Rattle.dvs_base.proofs.Checks.{step-ok, ok_or-ok, two-is}
 use Rattle.dvs_base.specs.Text.{number_below}
 use Rattle.dvs_base.proofs.Spelled.{number_below-decimal, number_below-found}

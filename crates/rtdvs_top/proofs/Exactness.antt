@@ -1,5 +1,5 @@
 -- A replay or a migration is done exactly where the trace file is the text of a schedule.
-use Rattle.std.proofs.Common.{◌≡◌, inl, inr, ℕ, suc, ◌<◌, ◌≤◌, Bool, true, false, List, [], ◌∷◌, length, map, Option, Some, None, Result, Ok, Err, IsOk, if◌then◌else◌, nat_lt, refl, sym, ap, ◌∙◌, subst, arith, true≢false}
+use Rattle.std.proofs.Common.{◌≡◌, inl, inr, ℕ, ◌≤◌, Bool, true, false, List, [], ◌∷◌, length, map, Option, Some, None, Result, Ok, Err, IsOk, if◌then◌else◌, nat_lt, refl, sym, ap, ◌∙◌, subst, arith, true≢false}
 use Rattle.dvs_base.specs.Outside.{Files, file_of}
 use Rattle.dvs_base.specs.Checks.{and_then}
 use Rattle.dvs_base.specs.declared.kind.GovernorKind.{GovernorKind}
@@ -10,7 +10,7 @@ use Rattle.dvs_base.specs.declared.note.Note.{Note}
 use Rattle.dvs_base.specs.Parts.{name_of}
 use Rattle.grid_fraction.specs.Numbers.{list_below}
 use Rattle.task_model.specs.declared.task.Task.{Task}
-use Rattle.task_model.specs.Tasks.{task_at, IsTask}
+use Rattle.task_model.specs.Tasks.{task_at}
 use Rattle.task_model.specs.DemandRows.{DemandRow}
 use Rattle.freq_table.specs.Tables.{Table}
 use Rattle.sched_model.specs.Plan.{Plan, plan_of, names}
@@ -22,7 +22,6 @@ use Rattle.done_lines.specs.RunText.{task_texts}
 use Rattle.trace_reader.specs.TraceText.{task_text}
 use Rattle.trace_reader.specs.declared.trace.TraceFault.{TraceFault}
 use Rattle.trace_reader.specs.Traces.{TraceOf, IsTrace, IsTextOf, text_of}
-use Rattle.trace_reader.proofs.LineTexts.{AreNames}
 use Rattle.trace_reader.proofs.HeadTexts.{task_lines-lines}
 use Rattle.trace_reader.proofs.ShortTexts.{text-short}
 use Rattle.trace_reader.proofs.TraceTexts.{reads-found, reads-only, version-lines}
