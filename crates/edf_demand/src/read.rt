@@ -46,7 +46,8 @@ fn add_row(
     requires task { task < length tasks.now }
     requires some { 1 ≤ deadline }
     requires within { deadline ≤ (task_at tasks.now task).period }
-    ensures row { IsUnlessMemory DeadlineFault.NoMemory (λ _. given.new) result (with_deadline given.old row task deadline) }
+    ensures row { IsUnlessMemory DeadlineFault.NoMemory (λ _. given.new) result
+        (with_deadline given.old row task deadline) }
     ensures given { AreGiven tasks.now given.new }
 {
     if given[task as usize].is_some() {
