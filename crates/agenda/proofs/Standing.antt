@@ -12,13 +12,15 @@ use Rattle.grid_fraction.proofs.Sums.{sum_below-same, sum_below-add, sum_below-o
 use Rattle.sched_model.specs.declared.state.Row.{Row}
 use Rattle.sched_model.specs.Plan.{Plan, count, period, offset, worst}
 use Rattle.sched_model.specs.Priority.{stands_before}
-use Rattle.sched_model.specs.States.{StateOf, row_at, no_row, opening, opening_row, after_run, after_finish, after_advance, after_mark}
+use Rattle.sched_model.specs.States.{StateOf, row_at, no_row, opening, opening_row, after_run, after_finish}
 use Rattle.sched_model.proofs.Tables.{get-table}
 use Rattle.sched_model.proofs.PriorityLemmas.{before-self, before-not, before-total}
 use Rattle.ready_queue.specs.declared.entry.Entry.{Entry}
 use Rattle.ready_queue.specs.Orders.{due_before}
 use Rattle.ready_queue.specs.Entries.{QueueOf, IsAbsent, placed, ComesFirst}
 use Rattle.ready_queue.proofs.Placing.{All-at, Has-contains}
+use Rattle.agenda.specs.declared.agenda.Agenda.{Agenda}
+use Rattle.agenda.specs.Stands.{Stands}
 use Rattle.agenda.specs.Agenda.{before_of, task_entry, HoldsTasks, is_open, HoldsReady, HoldsCalendar, ReadyOf, StandFor, row_key, IsFirstUndone, next_release, IsFirstDue, NonePast, next_job_row, opened, due_left}
 use Rattle.agenda.proofs.Tasks.{without, without-other, without-apart, held, absent, holds-keep, holds-drop, holds-without, holds-add}
 
@@ -213,25 +215,6 @@ module _ (p : Plan) (s : StateOf) (ready : ReadyOf) (calendar : QueueOf) (h : St
       go k (inl e) = ap (is_open s) e ∙ ap (λ (q : Row). not q.done) (sym (row-here s i r lt)) ∙ ap (is_open s') (sym e)
       go k (inr ne) = open-there p s i r k ne
 
-  -- `State::advance` changes neither the ready queue nor the calendar; nor does `State::mark`
-  pub stand-advance : (to : ℕ) (after : StateOf) → after ≡ after_advance s to → StandFor p after ready calendar
-  stand-advance to after is = subst (λ (v : StateOf). StandFor p v ready calendar) (sym is) (record {
-    scheduler = h.scheduler;
-    ready_limit = h.ready_limit;
-    ready_jobs = record { each = h.ready_jobs.each; all = h.ready_jobs.all };
-    calendar_limit = h.calendar_limit;
-    releases = record { each = h.releases.each; all = h.releases.all };
-  })
-
-  pub stand-mark : StandFor p (after_mark s) ready calendar
-  stand-mark = record {
-    scheduler = h.scheduler;
-    ready_limit = h.ready_limit;
-    ready_jobs = record { each = h.ready_jobs.each; all = h.ready_jobs.all };
-    calendar_limit = h.calendar_limit;
-    releases = record { each = h.releases.each; all = h.releases.all };
-  }
-
   -- after `State::finish` of the first ready job, the ready queue without it is right
   pub stand-finish : (x : Entry) (rest : List Entry) (i : ℕ) → ready.entries ≡ x ∷ rest → IsAbsent x.task rest → x.task ≡ i → i < length s.rows
       → StandFor p (after_finish s i) (record ready { entries = rest }) calendar
@@ -281,6 +264,21 @@ module _ (p : Plan) (s : StateOf) (ready : ReadyOf) (calendar : QueueOf) (h : St
       calendar_limit = h.calendar_limit;
       releases = opened-releases (next_job_row (period p i) true (row_at s i));
     }
+
+-- an agenda represents each state with the same rows: `State::advance` and `State::mark` change none
+pub stands-rows : (p : Plan) (s after : StateOf) (a : Agenda) → after.rows ≡ s.rows → Stands p s a → Stands p after a
+stands-rows p s after a same h =
+    let q = h.queues in
+    subst (λ (rows : List Row). Stands p (record after { rows = rows }) a) (sym same) (record {
+      queues = record {
+        scheduler = q.scheduler;
+        ready_limit = q.ready_limit;
+        ready_jobs = record { each = q.ready_jobs.each; all = q.ready_jobs.all };
+        calendar_limit = q.calendar_limit;
+        releases = record { each = q.releases.each; all = q.releases.all };
+      };
+      left = h.left;
+    })
 
 -- the first entry of a calendar is that of the first task that is due, and `rest` are the others
 pub record TakesDue (p : Plan) (s : StateOf) (i : ℕ) (xs rest : List Entry) : Type 0 where

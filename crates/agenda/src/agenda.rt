@@ -1,7 +1,7 @@
-// The ready jobs and the calendar of a state.
+// The ready jobs and the calendar of a state, and what each job may still need.
 ghost use Rattle.std.specs.Prelude.{◌≡◌, ◌≢◌, ◌<◌, ℕ, true, IfOk, IfNone, IfSome};
 ghost use Rattle.sched_model.specs.Plan.{count};
-ghost use Rattle.sched_model.specs.States.{row_at, opening, after_run, after_finish, after_advance, after_mark, CanRelease, CanRun, IsOfPlan};
+ghost use Rattle.sched_model.specs.States.{row_at, opening, after_run, after_finish, after_mark, CanRelease, CanRun, IsOfPlan};
 ghost use Rattle.agenda.specs.Agenda.{IsFirstUndone, IsFirstDue, NonePast, next_release, opened};
 
 use crate::Ready;
@@ -10,11 +10,13 @@ use ready_queue::{ByDue, Entry, Queue};
 use sched_model::{Admitted, State};
 use std::alloc::Global;
 
-/// The incomplete latest jobs in the scheduler's order, and each task with its next release.
+/// The incomplete latest jobs in the scheduler's order, each task with its next release, and the work units that each
+/// task's latest job may still need, which are the bases of a mark.
 #[derive(Drop)]
 pub struct Agenda {
     pub ready: Ready,
     pub calendar: Queue<ByDue>,
+    pub left: Vec<u64>,
 }
 
 impl Agenda {
@@ -33,7 +35,14 @@ impl Agenda {
                 period: plan.period(task),
             });
         }
-        Ok(Agenda { ready, calendar })
+        match vec![in alloc; 0; plan.count() as usize] {
+            Ok(left) => Ok(Agenda {
+                ready,
+                calendar,
+                left,
+            }),
+            Err(_) => Err(NoMemory),
+        }
     }
 
     /// The first task in the scheduler's order whose job is incomplete; `None` where all jobs are complete.
@@ -84,13 +93,27 @@ impl Agenda {
         ensures { Stands plan.now (opened plan.now state.entry.now task done) self.new }
     {
         let period = plan.period(task);
-        let due = state.rows[task as usize].deadline + period;
-        let next = Entry { task, due, period };
+        let row = state.rows[task as usize];
+        let next = Entry {
+            task,
+            due: row.deadline + period,
+            period,
+        };
         self.calendar.take_first();
         self.calendar.insert(next);
         if !done {
             self.ready.insert(next);
+            self.left[task as usize] = row.worst;
         }
+    }
+
+    /// Updates the agenda for `units` more work units of the incomplete job of `task`.
+    pub fn serve(&mut self, _plan: &Admitted, _state: &State, task: u32, units: u64)
+        requires stand { Stands _plan.now _state.now self.old }
+        requires can { CanRun _state.now task units }
+        ensures { Stands _plan.now (after_run _state.entry.now task units) self.new }
+    {
+        self.left[task as usize] -= units;
     }
 
     /// Updates the agenda for the completion of the job of `task`, the first incomplete one in the scheduler's order.
@@ -101,5 +124,16 @@ impl Agenda {
         ensures { Stands plan.now (after_finish state.entry.now task) self.new }
     {
         self.ready.take_first();
+        self.left[task as usize] = 0;
+    }
+
+    /// Marks this tick, as `State::mark` does, by one copy.
+    pub fn mark(&self, _plan: &Admitted, state: &mut State)
+        requires { Stands _plan.now state.old self.now }
+        ensures marked { state.new ≡ after_mark state.old }
+        ensures stand { Stands _plan.now state.new self.now }
+    {
+        state.base_at = state.now;
+        state.base.copy_from_slice(&self.left);
     }
 }

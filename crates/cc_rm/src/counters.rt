@@ -29,11 +29,10 @@ pub(crate) fn allot(rests: &mut [u128], plan: &Admitted, view: &State, units: u1
     let mut sum = 0;
     for k in 0..plan.count() {
         let i = plan.ranked(k);
-        let left = view.worst_left(i);
-        if left == 0 {
+        if view.rows[i as usize].done {
             rests[i as usize] = 0;
         } else {
-            let given = rest.min(u128::from(left));
+            let given = rest.min(u128::from(view.worst_left(i)));
             rests[i as usize] = given;
             rest -= given;
             sum += given;

@@ -1,7 +1,6 @@
 -- The loop over the units of one tick.
-use Rattle.std.proofs.Common.{◌≡◌, ℕ, ◌+◌, ◌-◌, ◌*◌, ◌^◌, ◌<◌, ◌≤◌, min, Bool, true, false, not, ◌&&◌, ◌||◌, List, [], ◌∷◌, ◌++◌, length, replicate, get_or, refl, arith, ap, ap₂, ◌∙◌, sym, subst, ◌⊎◌, inl, inr, append-nil, append_assoc, nat_eq, nat_le}
+use Rattle.std.proofs.Common.{◌≡◌, ℕ, ◌+◌, ◌-◌, ◌*◌, ◌^◌, ◌<◌, ◌≤◌, min, Bool, true, false, not, ◌&&◌, ◌||◌, List, [], ◌∷◌, ◌++◌, length, replicate, refl, arith, ap, ap₂, ◌∙◌, sym, subst, ◌⊎◌, inl, inr, append-nil, append_assoc, nat_eq, nat_le}
 use Rattle.std.specs.Prelude.{count_by}
-use Rattle.std.proofs.lemmas.List.{get_or_read}
 use Rattle.freq_table.specs.declared.machine.Point.{Point}
 use Rattle.freq_table.specs.Tables.{Table, point_at, speed_at}
 use Rattle.grid_fraction.specs.declared.Frac.{Frac}
@@ -18,7 +17,7 @@ use Rattle.sched_model.specs.Priority.{in_order, key_of, allotment}
 use Rattle.sched_model.specs.Decision.{completes_in}
 use Rattle.sched_model.specs.Schedule.{entry_in_force}
 use Rattle.sched_model.specs.Notes.{Span, tick_units, same_holder}
-use Rattle.sched_model.specs.States.{no_row, row_at, prior_row, prior_state, after_advance, CanRun, StateOf, state_of}
+use Rattle.sched_model.specs.States.{row_at, prior_row, prior_state, after_advance, CanRun, StateOf, state_of}
 use Rattle.sched_model.specs.Greedy.{IsFirstOpen}
 use Rattle.sched_model.proofs.ScheduleLemmas.{length-list_below, force-within}
 use Rattle.sched_model.proofs.Tables.{get-table, table-same}
@@ -296,7 +295,3 @@ module _ {demand : Plan → StateOf → Frac} {set : Setting} (ok : IsSetting se
                 (1000000 * (t + 1)) trace') later (done trace' d);
             completes = w.hand.ends ∙ completes;
           }
-
--- a row read from the state
-pub read_row : (st : StateOf) (rows : List Row) (i : ℕ) (row : Row) → rows ≡ st.rows → i < length st.rows → row ≡ get_or rows i row → row ≡ row_at st i
-read_row st rows i row e lt is = get_or_read st.rows i row lt (subst (λ (rs : List Row). row ≡ get_or rs i row) e is) no_row

@@ -6,7 +6,7 @@ use Rattle.agenda.specs.Stands.{Stands}
 use Rattle.event_kernel.specs.declared.progress.Progress.{Progress}
 
 -- The governor's counters and the agenda are right for a state: the ready queue holds exactly the incomplete latest
--- jobs with their keys, and the calendar each task with its next release.
+-- jobs with their keys, and the calendar each task with its next release; and what each job may still need is kept.
 pub record Follow {G : Type 0} (stands : G → Plan → StateOf → Type 0) (p : Plan) (governor : G) (s : StateOf) (a : Agenda) : Type 0 where
   pub counters : stands governor p s
   pub agenda : Stands p s a

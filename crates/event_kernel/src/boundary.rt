@@ -101,7 +101,7 @@ impl<G: Governor> Progress<G> {
         }
         if any {
             self.governor.settled(set.plan, &self.state);
-            self.state.mark();
+            self.agenda.mark(set.plan, &mut self.state);
         }
     }
 

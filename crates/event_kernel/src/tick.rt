@@ -66,6 +66,7 @@ impl<G: Governor> Progress<G> {
         ensures trace { self.new.trace ≡ self.old.trace }
     {
         self.governor.ran(plan, &self.state, task, units);
+        self.agenda.serve(plan, &self.state, task, units);
         self.state.run(task, units);
         if ends {
             self.governor.finished(plan, &self.state, task);

@@ -1,17 +1,16 @@
 -- What each call makes of the kept counters.
-use Rattle.std.proofs.Common.{◌≡◌, ◌≢◌, ℕ, zero, suc, ◌+◌, ◌-◌, ◌<◌, false, List, [], ◌∷◌, ◌++◌, length, get_or, drop, true, refl, sym, subst, ◌∙◌, ap, arith, add-one, get_or-set_same, get_or-set_other}
+use Rattle.std.proofs.Common.{◌≡◌, ◌≢◌, ℕ, ◌+◌, ◌-◌, ◌<◌, List, length, get_or, drop, true, refl, sym, ◌∙◌, ap, arith, get_or-set_same, get_or-set_other}
 use Rattle.std.specs.Prelude.{map, slice_set}
 use Rattle.std.proofs.Math.ListN.{replicate, get_or-map}
 use Rattle.std.proofs.Math.Seq.{map-set_same}
-use Rattle.std.proofs.lemmas.List.{get_or_read, length-map, map-set, replicate_more}
 use Rattle.grid_fraction.specs.Numbers.{list_below}
 use Rattle.sched_model.specs.declared.state.Row.{Row}
-use Rattle.sched_model.specs.Plan.{Plan, count, period, offset, worst, rate}
+use Rattle.sched_model.specs.Plan.{Plan, count, period, offset, rate}
 use Rattle.sched_model.specs.Priority.{in_order}
-use Rattle.sched_model.specs.States.{StateOf, no_row, row_at, row_wleft, released_row, opening_row, opening, after_release, after_run, after_finish, CanRelease}
+use Rattle.sched_model.specs.States.{StateOf, no_row, row_at, row_wleft, released_row, opening, after_release, after_run, after_finish, CanRelease, CanRun}
 use Rattle.sched_model.proofs.OrderLemmas.{in_order-same}
-use Rattle.sched_model.proofs.Tables.{get-table, length-list_below, map-table}
-use Rattle.governor.specs.Steps.{wleft_at}
+use Rattle.sched_model.proofs.StateRows.{left-opening, left-set, left-run}
+use Rattle.sched_model.proofs.Tables.{get-table, length-list_below}
 use Rattle.governor.specs.Serving.{ServesEdf}
 use Rattle.governor.proofs.Belonging.{opening_at}
 use Rattle.look_ahead_laws.specs.Ahead.{deadline_at, edf_order}
@@ -21,25 +20,7 @@ use Rattle.look_ahead.proofs.Moving.{moved_back, moved_back-in_order}
 abbrev due_of : Row → ℕ
 due_of row = row.deadline
 
--- a row that was read from the state is the row of its task
-pub row_read : (s inside : StateOf) (i : ℕ) (row : Row) → inside ≡ s → i < length s.rows
-    → row ≡ get_or inside.rows i row → row ≡ row_at s i
-row_read s inside i row same lt read =
-    get_or_read s.rows i row lt (subst (λ (v : StateOf). row ≡ get_or v.rows i row) same read) no_row
-
--- a kept remainder is what the task's job may still need
-pub left_at : (plan : Plan) (s : StateOf) (left order rates : List ℕ) → Keeps left order rates plan s → (i : ℕ)
-    → get_or left i 0 ≡ wleft_at s i
-left_at plan s left order rates keeps i =
-    ap (λ (xs : List ℕ). get_or xs i 0) keeps.left_is ∙ get_or-map row_wleft s.rows i no_row
-
 module _ (plan : Plan) (s : StateOf) (left order rates : List ℕ) (keeps : Keeps left order rates plan s) (i : ℕ) where
-  pub left_read : (w : ℕ) → i < length s.rows → w ≡ get_or left i w → w ≡ get_or left i 0
-  left_read w lt read =
-      let long : length left ≡ length s.rows =
-      ap (λ (xs : List ℕ). length xs) keeps.left_is ∙ length-map s.rows row_wleft in
-      get_or_read left i w (omega (arith, long)) read 0
-
   -- there is a rate for each task
   pub rates_long : length rates ≡ count plan
   rates_long = ap (λ (xs : List ℕ). length xs) keeps.rates_are ∙ length-list_below (count plan) (rate plan)
@@ -53,11 +34,6 @@ module _ (plan : Plan) (s : StateOf) (left order rates : List ℕ) (keeps : Keep
   abbrev written : Row → StateOf
   written row = record s { rows = slice_set s.rows i row }
 
-  left-set : (row : Row) (w : ℕ) → w ≡ row_wleft row → slice_set left i w ≡ map row_wleft (slice_set s.rows i row)
-  left-set row w is =
-      ap (λ (xs : List ℕ). slice_set xs i w) keeps.left_is
-      ∙ (ap (slice_set (map row_wleft s.rows) i) is ∙ sym (map-set row_wleft s.rows i row))
-
   -- a new row with the same deadline changes no deadline
   due-kept : (row : Row) → row.deadline ≡ deadline_at s i → (k : ℕ) → deadline_at (written row) k ≡ deadline_at s k
   due-kept row same k =
@@ -65,11 +41,11 @@ module _ (plan : Plan) (s : StateOf) (left order rates : List ℕ) (keeps : Keep
       ∙ (ap (λ (ds : List ℕ). get_or ds k 0) (map-set_same due_of s.rows i row no_row same)
       ∙ get_or-map due_of s.rows k no_row)
 
-  keeps-set : (row : Row) (w : ℕ) → row.deadline ≡ deadline_at s i → w ≡ row_wleft row
-      → Keeps (slice_set left i w) order rates plan (written row)
-  keeps-set row w same is = record {
+  keeps-row : (row : Row) (left' : List ℕ) → row.deadline ≡ deadline_at s i → left' ≡ map row_wleft (written row).rows
+      → Keeps left' order rates plan (written row)
+  keeps-row row left' same is = record {
     served = keeps.served;
-    left_is = left-set row w is;
+    left_is = is;
     order_is = keeps.order_is
         ∙ in_order-same (deadline_at s) (deadline_at (written row)) (count plan) (λ k lt. sym (due-kept row same k));
     rates_are = keeps.rates_are;
@@ -77,17 +53,16 @@ module _ (plan : Plan) (s : StateOf) (left order rates : List ℕ) (keeps : Keep
 
   -- after a completion nothing is left of the task's work
   pub keeps-finished : Keeps (slice_set left i 0) order rates plan (after_finish s i)
-  keeps-finished = keeps-set (record (row_at s i) { done = true }) 0 refl refl
+  keeps-finished =
+      let row : Row = record (row_at s i) { done = true } in
+      keeps-row row (slice_set left i 0) refl (left-set s left keeps.left_is i row 0 refl)
 
   -- `State::run` takes its units from what is left of the task's work
-  pub keeps-ran : (units w : ℕ) → (row_at s i).done ≡ false → w ≡ get_or left i 0
+  pub keeps-ran : (units w : ℕ) → CanRun s i units → w ≡ get_or left i w
       → Keeps (slice_set left i (w - units)) order rates plan (after_run s i units)
-  keeps-ran units w still read =
+  keeps-ran units w can read =
       let row : Row = record (row_at s i) { used = (row_at s i).used + units } in
-      let was : w ≡ (row_at s i).worst - (row_at s i).used =
-      read ∙ (left_at plan s left order rates keeps i ∙ rw still refl) in
-      let now : row_wleft row ≡ (row_at s i).worst - ((row_at s i).used + units) = rw still refl in
-      keeps-set row (w - units) refl (omega (arith, was, now))
+      keeps-row row (slice_set left i (w - units)) refl (left-run s left keeps.left_is i units w can read)
 
   -- after a release the task's whole worst case is left, and the task has its place in the order
   pub keeps-released : (w : ℕ) (order' : List ℕ) → w ≡ (row_at s i).worst
@@ -95,7 +70,7 @@ module _ (plan : Plan) (s : StateOf) (left order rates : List ℕ) (keeps : Keep
       → Keeps (slice_set left i w) order' rates plan (after_release plan s i)
   keeps-released w order' worst is = record {
     served = keeps.served;
-    left_is = left-set (released_row (period plan i) (row_at s i)) w (omega (arith, worst));
+    left_is = left-set s left keeps.left_is i (released_row (period plan i) (row_at s i)) w (omega (arith, worst));
     order_is = is;
     rates_are = keeps.rates_are;
   }
@@ -120,12 +95,6 @@ module _ (plan : Plan) (s : StateOf) (i : ℕ) (can : CanRelease plan s i) where
       ∙ moved_back-in_order (deadline_at s) (deadline_at (after_release plan s i)) i due-other
       (omega (arith, due-released)) (count plan) old can.below e
 
-zeros : (n : ℕ) → list_below {A = ℕ} n (λ i. 0) ≡ replicate n 0
-zeros zero = refl
-zeros (suc n) =
-    ap (λ (xs : List ℕ). xs ++ 0 ∷ []) (zeros n)
-    ∙ (replicate_more n 0 ∙ ap (λ (m : ℕ). replicate m 0) (add-one n))
-
 -- before the first release nothing is left, and the tasks are in the order of their offsets
 pub order-opening : (plan : Plan) → in_order (offset plan) (count plan) ≡ edf_order plan (opening plan)
 order-opening plan =
@@ -137,8 +106,7 @@ pub keeps-opening : (plan : Plan) (order rates : List ℕ) → ServesEdf plan.sc
     → Keeps (replicate (count plan) 0) order rates plan (opening plan)
 keeps-opening plan order rates edf is are = record {
   served = edf;
-  left_is =
-      sym (map-table (count plan) (λ i. opening_row (offset plan i) (worst plan i)) row_wleft ∙ zeros (count plan));
+  left_is = left-opening plan;
   order_is = is;
   rates_are = are;
 }

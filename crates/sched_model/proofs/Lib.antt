@@ -5,7 +5,7 @@ pub mod ScheduleLemmas
 pub mod JobLaws
 pub mod Joining
 pub mod Tables
-pub mod Lefts
+pub mod StateRows
 pub mod PieceLemmas
 pub mod NoteLemmas
 pub mod Agreeing

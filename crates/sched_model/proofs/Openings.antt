@@ -1,14 +1,12 @@
 -- The state before the first release.
 use Rattle.std.proofs.Common.{◌≡◌, ℕ, ◌<◌, ◌≤◌, List, ap, sym, ◌∙◌, arith}
-use Rattle.std.specs.Prelude.{map}
 use Rattle.grid_fraction.specs.Numbers.{list_below}
 use Rattle.task_model.specs.declared.limits.TheConstants.{LONGEST_PERIOD}
 use Rattle.sched_model.specs.declared.state.Row.{Row}
 use Rattle.sched_model.specs.Plan.{Plan, count, period, offset, worst}
-use Rattle.sched_model.specs.States.{StateOf, no_row, row_at, row_wleft, opening, opening_row, IsStateOf, KeepsLeft, CanRelease}
+use Rattle.sched_model.specs.States.{StateOf, no_row, row_at, opening, opening_row, IsStateOf, CanRelease}
 use Rattle.sched_model.specs.Admission.{IsWithinLimits}
-use Rattle.sched_model.proofs.Tables.{length-list_below, get-table, map-table}
-use Rattle.sched_model.proofs.Lefts.{keeps_left}
+use Rattle.sched_model.proofs.Tables.{length-list_below, get-table}
 
 pub opening-is_state : (p : Plan) → IsStateOf (opening p)
 opening-is_state p = record {
@@ -31,13 +29,6 @@ opening_by p n rows base all r b =
       base_at = 0;
       base = (b ∙ ap (λ m. list_below m (λ i. 0)) all) j;
     }
-
--- before the first release no job needs anything
-pub left-opening : (p : Plan) (n : ℕ) (rows : List Row) (left : List ℕ) → rows ≡ list_below n (λ i. opening_row (offset p i) (worst p i))
-    → left ≡ list_below n (λ i. 0) → KeepsLeft rows left
-left-opening p n rows left r l =
-    keeps_left rows left
-    (l ∙ sym (ap (map row_wleft) r ∙ map-table n (λ i. opening_row (offset p i) (worst p i)) row_wleft))
 
 -- the first job of each task without an offset can be released from the opening state
 pub opening-can_release : (p : Plan) → IsWithinLimits p → (i : ℕ) → i < count p → offset p i ≡ 0 → CanRelease p (opening p) i

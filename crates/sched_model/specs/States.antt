@@ -56,11 +56,6 @@ pub record IsStateOf (s : StateOf) : Type 0 where
   pub base : length s.base ≡ length s.rows
   pub used : (i : ℕ) → i < length s.rows → (row_at s i).used ≤ (row_at s i).worst
 
--- `left` is what the job of each row may still need
-pub record KeepsLeft (rows : List Row) (left : List ℕ) : Type 0 where
-  pub one_each : length left ≡ length rows
-  pub left_is : left ≡ map row_wleft rows
-
 -- the state after `State::release`: the next job of task i is released
 abbrev pub after_release : Plan → StateOf → ℕ → StateOf
 after_release p s i = record s { rows = slice_set s.rows i (released_row (period p i) (row_at s i)) }

@@ -26,19 +26,16 @@ pub struct State {
     pub rows: Vec<Row>,
     pub base_at: u64,
     pub base: Vec<u64>,
-    // What the job of each row may still need, in work units: the bases of a mark at this tick.
-    left: Vec<u64>,
 }
 
 impl Model for State {
-    ghost use Rattle.sched_model.specs.States.{StateOf, IsStateOf, KeepsLeft};
+    ghost use Rattle.sched_model.specs.States.{StateOf, IsStateOf};
 
     ghost Value = { StateOf };
 
     ghost view = { λ s. record { now = s.now; rows = s.rows.items; base_at = s.base_at; base = s.base.items } };
 
-    ghost invariant = { λ s. IsStateOf (record { now = s.now; rows = s.rows.items; base_at = s.base_at; base = s.base.items })
-        × KeepsLeft s.rows.items s.left.items };
+    ghost invariant = { λ s. IsStateOf (record { now = s.now; rows = s.rows.items; base_at = s.base_at; base = s.base.items }) };
 }
 
 // The row of job 0, which is complete and due at the first release.
@@ -70,19 +67,16 @@ impl State {
     {
         let mut rows = Vec::new(alloc);
         let mut base = Vec::new(alloc);
-        let mut left = Vec::new(alloc);
         for i in 0..plan.count() {
             let row = opening_row(plan.offset(i), plan.worst(i));
             rows.push(row).map_err(|_| NoMemory)?;
             base.push(0).map_err(|_| NoMemory)?;
-            left.push(0).map_err(|_| NoMemory)?;
         }
         Ok(State {
             now: 0,
             rows,
             base_at: 0,
             base,
-            left,
         })
     }
 
@@ -91,7 +85,7 @@ impl State {
         requires { task < length self.now.rows }
         ensures { result ≡ row_wleft (row_at self.entry.now task) }
     {
-        self.left[task as usize]
+        worst_left(self.rows[task as usize])
     }
 
     /// Releases the next job of a task: its number grows by 1 and the deadline by the period; it has had no units and
@@ -109,7 +103,6 @@ impl State {
             done: false,
             worst: row.worst,
         };
-        self.left[task as usize] = row.worst;
     }
 
     /// Adds `units` work units to what the task's incomplete job has had, which is at most its worst case afterwards.
@@ -118,12 +111,10 @@ impl State {
         ensures { self.new ≡ after_run self.old task units }
     {
         let row = self.rows[task as usize];
-        let next = Row {
+        self.rows[task as usize] = Row {
             used: row.used + units,
             ..row
         };
-        self.rows[task as usize] = next;
-        self.left[task as usize] = worst_left(next);
     }
 
     /// Completes the task's job, which wasn't complete before.
@@ -133,7 +124,6 @@ impl State {
     {
         let row = self.rows[task as usize];
         self.rows[task as usize] = Row { done: true, ..row };
-        self.left[task as usize] = 0;
     }
 
     /// Moves time on to the tick `to`, which isn't in the past.
@@ -150,6 +140,9 @@ impl State {
         ensures { self.new ≡ after_mark self.old }
     {
         self.base_at = self.now;
-        self.base.copy_from_slice(&self.left);
+        for i in 0..self.rows.len() {
+            let row = self.rows[i];
+            self.base[i] = worst_left(row);
+        }
     }
 }

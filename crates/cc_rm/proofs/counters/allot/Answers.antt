@@ -1,15 +1,28 @@
-use Rattle.std.proofs.Common.{◌≡◌, ◌∙◌, ◌+◌, ◌-◌, ◌<◌, ap, subst, sym, arith, ℕ}
+use Rattle.std.proofs.Common.{◌≡◌, ◌∙◌, ◌+◌, ◌-◌, ◌<◌, length, ap, subst, sym, arith, ℕ}
 use Rattle.std.specs.Prelude.{min, slice_set}
+use Rattle.sched_model.specs.declared.state.Row.{Row}
 use Rattle.sched_model.specs.Plan.{count}
-use Rattle.sched_model.specs.States.{after_mark}
+use Rattle.sched_model.specs.States.{StateOf, row_at, after_mark}
+use Rattle.sched_model.proofs.StateRows.{row_read}
 use Rattle.governor.specs.Steps.{wleft_at}
+use Rattle.governor.proofs.Rows.{done_none}
 use Rattle.cc_rm.proofs.Walking.{ranked-below, walked-end}
 use Rattle.cc_rm.proofs.Handing.{IsHanded, handed-next, handed-none, handed-end}
 use Rattle.cc_rm.proofs.counters.allot.Goals as goal
-use Rattle.cc_rm.proofs.counters.allot.Goals.{then-left-eq0, else-left-eq0}
+use Rattle.cc_rm.proofs.counters.allot.Goals.{then-index, else-index}
 
-pub worst_left-left-requires : goal.worst_left-left-requires
-worst_left-left-requires c =
+pub index-requires : goal.index-requires
+index-requires c =
+    omega (
+      arith,
+      ranked-below c.args.plan.now c.loop-k.k (omega arith),
+      c.ranked-i.ensures,
+      ap (λ (v : StateOf). length v.rows) c.view.view_is,
+      c.requires.of.rows,
+    )
+
+pub worst_left-requires : goal.worst_left-requires
+worst_left-requires c =
     omega (arith, ranked-below c.args.plan.now c.loop-k.k (omega arith), c.ranked-i.ensures, c.requires.of.rows)
 
 pub bounds-rests-i : goal.bounds-rests-i
@@ -21,8 +34,8 @@ bounds-rests-i c =
       c.loop-k.invariant.one_each,
     )
 
-pub bounds-rests-i-else-left-eq0 : goal.bounds-rests-i-else-left-eq0
-bounds-rests-i-else-left-eq0 c =
+pub bounds-rests-i-else-index : goal.bounds-rests-i-else-index
+bounds-rests-i-else-index c =
     omega (
       arith,
       ranked-below c.args.plan.now c.loop-k.k (omega arith),
@@ -38,15 +51,18 @@ loop-k-preserved c =
     let was = c.loop-k in
     let k = was.k in
     let some : k < count plan = omega arith in
-    let left_is = c.worst_left-left.ensures ∙ ap (wleft_at s) c.ranked-i.ensures in
-    elim c.if-left-eq0.branch [
-      | then-left-eq0 w ↦
+    let i = c.ranked-i.result in
+    let lt : i < length s.rows = omega (arith, ranked-below plan k some, c.ranked-i.ensures, c.requires.of.rows) in
+    let row : c.index.result.now ≡ row_at s i = row_read s _ i c.index.result.now c.view.view_is lt c.index.ensures in
+    let place_is = ap (wleft_at s) c.ranked-i.ensures in
+    elim c.if-index.branch [
+      | then-index w ↦
           rw (w.rests-is, w.rest-is, w.sum-is)
           (subst (λ (i : ℕ). IsHanded plan s units (k + 1) was.rest was.sum (slice_set was.rests i 0))
           (sym c.ranked-i.ensures)
           (handed-none plan s units c.requires.of k was.rest was.sum was.rests c.requires.units some was.invariant
-          (sym left_is ∙ w.if-left-eq0.true)))
-      | else-left-eq0 w ↦
+          (sym place_is ∙ done_none (row_at s i) (sym (ap (λ (r : Row). r.done) row) ∙ w.if-index.true))))
+      | else-index w ↦
           let given = w.min-given.result in
           let rest = was.rest - given in
           let sum = was.sum + given in
@@ -54,7 +70,7 @@ loop-k-preserved c =
           (subst (λ (i : ℕ). IsHanded plan s units (k + 1) rest sum (slice_set was.rests i given))
           (sym c.ranked-i.ensures)
           (handed-next plan s units c.requires.of k was.rest was.sum given was.rests c.requires.units some was.invariant
-          (w.min-given.ensures ∙ ap (λ (n : ℕ). min was.rest n) (w.from.ensures ∙ left_is))))
+          (w.min-given.ensures ∙ ap (λ (n : ℕ). min was.rest n) (w.from.ensures ∙ (w.worst_left.ensures ∙ place_is)))))
     ]
 
 pub returns-clause-rests : goal.returns-clause-rests

@@ -2,9 +2,10 @@ use Rattle.std.proofs.Common.{◌≡◌, ℕ, ◌+◌, ◌<◌, length, get_or, 
 use Rattle.std.proofs.lemmas.Bool.{and_right}
 use Rattle.sched_model.specs.declared.state.Row.{Row}
 use Rattle.sched_model.specs.Plan.{period}
+use Rattle.sched_model.proofs.StateRows.{row_read}
 use Rattle.look_ahead_laws.specs.Ahead.{deadline_at}
 use Rattle.look_ahead.specs.Counters.{stands_before_due}
-use Rattle.look_ahead.proofs.Keeping.{order-released, row_read}
+use Rattle.look_ahead.proofs.Keeping.{order-released}
 use Rattle.look_ahead.proofs.Passing.{passing_end, passing_moves, passing_stays, stays_other}
 use Rattle.look_ahead.proofs.Walking.{tasks_long}
 use Rattle.look_ahead.proofs.order.move_to_place.Goals as goal

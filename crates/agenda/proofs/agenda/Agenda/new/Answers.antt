@@ -1,6 +1,8 @@
 use Rattle.std.proofs.Common.{◌<◌, ◌∙◌, ap, arith}
+use Rattle.std.proofs.Math.ListN.{replicate}
 use Rattle.sched_model.specs.Plan.{count}
 use Rattle.sched_model.specs.States.{opening}
+use Rattle.sched_model.proofs.StateRows.{left-opening}
 use Rattle.agenda.specs.Agenda.{ReadyOf}
 use Rattle.agenda.proofs.Standing.{more-held, all-held, opening-ready, opening-entry}
 use Rattle.agenda.proofs.agenda.Agenda.new.Goals as goal
@@ -16,12 +18,16 @@ loop-task-preserved c =
           c.period.result below c.offset.ensures.offset c.period.ensures.period) c.insert.ensures.entries;
     }
 
-pub returns : goal.returns
-returns c = record {
-  scheduler = ap (λ (r : ReadyOf). r.scheduler) c.in_ok-ready.ensures ∙ c.scheduler.ensures.scheduler;
-  ready_limit = ap (λ (r : ReadyOf). r.limit) c.in_ok-ready.ensures ∙ c.count.ensures.count;
-  ready_jobs = opening-ready c.args.plan.now c.in_ok-ready.ready.entries (ap (λ (r : ReadyOf). r.entries) c.in_ok-ready.ensures);
-  calendar_limit = c.loop-task.invariant.limit;
-  releases = all-held c.args.plan.now (opening c.args.plan.now) c.loop-task.task c.loop-task.calendar.entries
-      (omega (arith, c.loop-task-test.false, c.count-task-end.ensures.count)) c.loop-task.invariant.held;
+pub returns-in-Ok : goal.returns-in-Ok
+returns-in-Ok c = record {
+  queues = record {
+    scheduler = ap (λ (r : ReadyOf). r.scheduler) c.in_ok-ready.ensures ∙ c.scheduler.ensures.scheduler;
+    ready_limit = ap (λ (r : ReadyOf). r.limit) c.in_ok-ready.ensures ∙ c.count.ensures.count;
+    ready_jobs = opening-ready c.args.plan.now c.in_ok-ready.ready.entries (ap (λ (r : ReadyOf). r.entries) c.in_ok-ready.ensures);
+    calendar_limit = c.loop-task.invariant.limit;
+    releases = all-held c.args.plan.now (opening c.args.plan.now) c.loop-task.task c.loop-task.calendar.entries
+        (omega (arith, c.loop-task-test.false, c.count-task-end.ensures.count)) c.loop-task.invariant.held;
+  };
+  left = c.in-Ok.ensures.items_if_clones_equal (λ y e. e)
+      ∙ (ap (λ n. replicate n 0) c.count-3.ensures.count ∙ left-opening c.args.plan.now);
 }

@@ -1,44 +1,59 @@
-use Rattle.std.proofs.Common.{◌≡◌, ◌+◌, Bool, true, false, subst, ◌<◌, length, sym, ◌∙◌, ap}
-use Rattle.std.proofs.lemmas.List.{get_or_read}
+use Rattle.std.proofs.Common.{◌≡◌, ◌+◌, ◌-◌, Bool, true, false, if◌then◌else◌, sym, subst, ◌∙◌, ap, arith}
+use Rattle.std.specs.Prelude.{map, slice_set}
+use Rattle.std.proofs.Math.Seq.{map-set_same}
 use Rattle.sched_model.specs.declared.state.Row.{Row}
-use Rattle.sched_model.specs.States.{StateOf, no_row, row_at}
-use Rattle.agenda.specs.Agenda.{StandFor, opened}
+use Rattle.sched_model.specs.Plan.{period}
+use Rattle.sched_model.specs.States.{no_row, row_at, row_wleft}
+use Rattle.sched_model.proofs.StateRows.{row_read, left-set}
+use Rattle.agenda.specs.Agenda.{StandFor, next_job_row, opened}
 use Rattle.agenda.proofs.Standing.{after-open, after-closed, opened-entry}
 use Rattle.agenda.proofs.agenda.Agenda.renew.Goals as goal
 
 pub returns-then-not-done : goal.returns-then-not-done
 returns-then-not-done c =
+    let p = c.args.plan.now in
+    let s = c.args.state.now in
+    let a = c.args.self.now in
+    let i = c.args.task in
+    let can = c.requires.can in
+    let h = c.requires.stand in
     let t = c.take_first.ensures in
-    let long : c.args.task < length c.state.inside.rows.items = subst (λ (s : StateOf). c.args.task < length s.rows)
-    (sym c.state.view_is) c.requires.can.task in
-    let row : c.index.result.now.deadline ≡ (row_at c.args.state.now c.args.task).deadline =
-    ap (λ (r : Row). r.deadline) (get_or_read c.state.inside.rows.items c.args.task c.index.result.now long c.index.ensures no_row)
-    ∙ ap (λ (s : StateOf). (row_at s c.args.task).deadline) c.state.view_is in
-    subst (λ (b : Bool). StandFor c.args.plan.now (opened c.args.plan.now c.args.state.now c.args.task b)
-    c.insert-then-not-done.new.self c.insert.new.self) (sym c.if-not-done.true)
-    (after-open c.args.plan.now c.args.state.now c.args.self.now.ready c.args.self.now.calendar c.requires.stand c.args.task
-    c.take_first.new.self c.take_first.result
-    c.requires.past c.requires.due c.requires.can.task c.requires.can.done t.limit t.entries t.first t.out
-    (record { task = c.args.task; due = c.index.result.now.deadline + c.period-period.result; period = c.period-period.result })
-    c.insert.new.self c.insert.ensures.limit c.insert.ensures.entries c.insert-then-not-done.new.self
-    (opened-entry c.args.plan.now c.args.state.now c.args.task false c.period-period.result c.index.result.now.deadline
-    c.requires.can.task c.period-period.ensures.period row)
-    c.insert-then-not-done.ensures)
+    let read = c.index-row.result.now in
+    let row : read ≡ row_at s i = row_read s _ i read c.state.view_is can.task c.index-row.ensures in
+    record {
+      queues = subst (λ (b : Bool). StandFor p (opened p s i b) c.insert-then-not-done.new.self c.insert.new.self) (sym c.if-not-done.true)
+          (after-open p s a.ready a.calendar h.queues i c.take_first.new.self c.take_first.result
+          c.requires.past c.requires.due can.task can.done t.limit t.entries t.first t.out
+          (record { task = i; due = read.deadline + c.period-period.result; period = c.period-period.result })
+          c.insert.new.self c.insert.ensures.limit c.insert.ensures.entries c.insert-then-not-done.new.self
+          (opened-entry p s i false c.period-period.result read.deadline can.task c.period-period.ensures.period
+          (ap (λ (r : Row). r.deadline) row))
+          c.insert-then-not-done.ensures);
+      left = subst (λ (b : Bool). slice_set a.left.items i read.worst ≡ map row_wleft (opened p s i b).rows) (sym c.if-not-done.true)
+          (left-set s a.left.items h.left i (next_job_row (period p i) false (row_at s i)) read.worst
+          (omega (arith, ap (λ (r : Row). r.worst) row)));
+    }
 
 pub returns-else-not-done : goal.returns-else-not-done
 returns-else-not-done c =
+    let p = c.args.plan.now in
+    let s = c.args.state.now in
+    let a = c.args.self.now in
+    let i = c.args.task in
+    let can = c.requires.can in
+    let h = c.requires.stand in
     let t = c.take_first.ensures in
-    let long : c.args.task < length c.state.inside.rows.items = subst (λ (s : StateOf). c.args.task < length s.rows)
-    (sym c.state.view_is) c.requires.can.task in
-    let row : c.index.result.now.deadline ≡ (row_at c.args.state.now c.args.task).deadline =
-    ap (λ (r : Row). r.deadline) (get_or_read c.state.inside.rows.items c.args.task c.index.result.now long c.index.ensures no_row)
-    ∙ ap (λ (s : StateOf). (row_at s c.args.task).deadline) c.state.view_is in
-    subst (λ (b : Bool). StandFor c.args.plan.now (opened c.args.plan.now c.args.state.now c.args.task b) c.args.self.now.ready c.insert.new.self)
-    (sym c.if-not-done.false)
-    (after-closed c.args.plan.now c.args.state.now c.args.self.now.ready c.args.self.now.calendar c.requires.stand c.args.task
-    c.take_first.new.self c.take_first.result
-    c.requires.past c.requires.due c.requires.can.task c.requires.can.done t.limit t.entries t.first t.out
-    (record { task = c.args.task; due = c.index.result.now.deadline + c.period-period.result; period = c.period-period.result })
-    c.insert.new.self c.insert.ensures.limit c.insert.ensures.entries
-    (opened-entry c.args.plan.now c.args.state.now c.args.task true c.period-period.result c.index.result.now.deadline
-    c.requires.can.task c.period-period.ensures.period row))
+    let read = c.index-row.result.now in
+    let row : read ≡ row_at s i = row_read s _ i read c.state.view_is can.task c.index-row.ensures in
+    let none = ap (λ (b : Bool). if b then 0 else (row_at s i).worst - (row_at s i).used) can.done in
+    record {
+      queues = subst (λ (b : Bool). StandFor p (opened p s i b) a.ready c.insert.new.self) (sym c.if-not-done.false)
+          (after-closed p s a.ready a.calendar h.queues i c.take_first.new.self c.take_first.result
+          c.requires.past c.requires.due can.task can.done t.limit t.entries t.first t.out
+          (record { task = i; due = read.deadline + c.period-period.result; period = c.period-period.result })
+          c.insert.new.self c.insert.ensures.limit c.insert.ensures.entries
+          (opened-entry p s i true c.period-period.result read.deadline can.task c.period-period.ensures.period
+          (ap (λ (r : Row). r.deadline) row)));
+      left = subst (λ (b : Bool). a.left.items ≡ map row_wleft (opened p s i b).rows) (sym c.if-not-done.false)
+          (h.left ∙ sym (map-set_same row_wleft s.rows i (next_job_row (period p i) true (row_at s i)) no_row (sym none)));
+    }

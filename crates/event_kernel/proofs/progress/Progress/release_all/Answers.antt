@@ -6,8 +6,7 @@ use Rattle.sched_model.specs.States.{StateOf, row_at, after_mark, CanRelease, Is
 use Rattle.sched_model.specs.Notes.{all_release_notes}
 use Rattle.governor.specs.Schedule.{course}
 use Rattle.agenda.specs.Agenda.{IsFirstDue, due_left}
-use Rattle.agenda.specs.Stands.{Stands}
-use Rattle.agenda.proofs.Standing.{stand-mark, due-falls}
+use Rattle.agenda.proofs.Standing.{due-falls}
 use Rattle.event_kernel.specs.declared.progress.Setting.{Setting}
 use Rattle.event_kernel.specs.declared.span_trace.SpanTrace.{SpanTrace}
 use Rattle.event_kernel.specs.Runs.{demands_of}
@@ -121,7 +120,7 @@ returns-else-any-clause-trace g c =
 
 pub returns-then-any-clause-state : goal.returns-then-any-clause-state
 returns-then-any-clause-state g c =
-    let i = c.loop-task.invariant in c.mark.ensures ∙ marked c.requires.set c.requires.at i.2 i.1 c.in_default.ensures.none c.if-any.true
+    let i = c.loop-task.invariant in c.mark.ensures.marked ∙ marked c.requires.set c.requires.at i.2 i.1 c.in_default.ensures.none c.if-any.true
 
 pub returns-else-any-clause-state : goal.returns-else-any-clause-state
 returns-else-any-clause-state g c =
@@ -129,10 +128,4 @@ returns-else-any-clause-state g c =
 
 pub returns-then-any-clause-current : goal.returns-then-any-clause-current
 returns-then-any-clause-current g c =
-    let p = c.args.set.now.plan.now in
-    let run = c.loop-task.self in
-    record {
-      counters = search rules;
-      agenda = subst (λ (s : StateOf). Stands p s run.agenda) (sym c.mark.ensures)
-          (stand-mark p run.state run.agenda.ready run.agenda.calendar c.loop-task.invariant.3.agenda);
-    }
+    record { counters = search rules; agenda = c.mark.ensures.stand }

@@ -7,10 +7,10 @@ use Rattle.event_kernel.specs.SpanNotes.{kept_notes}
 use Rattle.event_kernel.proofs.Keeping.{kept_notes-append}
 use Rattle.sched_model.specs.declared.state.Row.{Row}
 use Rattle.sched_model.specs.States.{row_at, after_finish, StateOf}
+use Rattle.sched_model.proofs.StateRows.{row_read}
 use Rattle.agenda.specs.Agenda.{opened}
 use Rattle.agenda.specs.Stands.{Stands}
 use Rattle.event_kernel.specs.Runs.{demands_of}
-use Rattle.event_kernel.proofs.Working.{read_row}
 use Rattle.event_kernel.proofs.Releasing.{opened-done, opening-done}
 use Rattle.event_kernel.proofs.progress.Progress.release_one.Given.{Over}
 use Rattle.event_kernel.proofs.progress.Progress.release_one.Goals as goal
@@ -27,7 +27,7 @@ module _ (g : Over) (c : goal.After-push-then-complete g) where
   dem = demands_of c.args.set.now.plan.now c.args.set.now.demands.now
 
   is : c.index.result.now ≡ row_at s i
-  is = read_row s c.state.inside.rows.items i c.index.result.now (ap (λ (v : StateOf). v.rows) c.state.view_is) c.requires.can.task c.index.ensures
+  is = row_read s _ i c.index.result.now c.state.view_is c.requires.can.task c.index.ensures
 
   none : dem i ((row_at s i).job + 1) ≡ 0
   none = sym (ap (λ (r : Row). dem i (r.job + 1)) is) ∙ (sym c.demand-complete.ensures ∙ c.if-complete.true)

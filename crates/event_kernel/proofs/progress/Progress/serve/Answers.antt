@@ -3,7 +3,6 @@ use Rattle.std.proofs.lemmas.List.{set-set}
 use Rattle.sched_model.specs.declared.state.Row.{Row}
 use Rattle.sched_model.specs.States.{no_row, row_at, after_run, after_finish, StateOf}
 use Rattle.agenda.specs.Stands.{Stands}
-use Rattle.agenda.proofs.Standing.{stand-run}
 use Rattle.event_kernel.specs.Tickwork.{served}
 use Rattle.event_kernel.proofs.progress.Progress.serve.Goals as goal
 
@@ -23,16 +22,11 @@ returns-then-ends-clause-state g c =
 
 pub complete-requires-clause-stand : goal.complete-requires-clause-stand
 complete-requires-clause-stand g c =
-    let run = c.args.self.now in
-    subst (λ (s : StateOf). Stands c.args.plan.now s run.agenda) (sym c.run.ensures)
-    (stand-run c.args.plan.now run.state run.agenda.ready run.agenda.calendar c.requires.current.agenda c.args.task c.args.units c.requires.can.task)
+    subst (λ (s : StateOf). Stands c.args.plan.now s c.serve.new.self) (sym c.run.ensures) c.serve.ensures
 
 pub returns-else-ends-clause-current : goal.returns-else-ends-clause-current
 returns-else-ends-clause-current g c =
-    let run = c.args.self.now in
     record {
       counters = search rules;
-      agenda = subst (λ (s : StateOf). Stands c.args.plan.now s run.agenda) (sym c.run.ensures)
-          (stand-run c.args.plan.now run.state run.agenda.ready run.agenda.calendar c.requires.current.agenda
-          c.args.task c.args.units c.requires.can.task);
+      agenda = subst (λ (s : StateOf). Stands c.args.plan.now s c.serve.new.self) (sym c.run.ensures) c.serve.ensures;
     }

@@ -2,7 +2,7 @@ use Rattle.std.proofs.Common.{◌≡◌, ℕ, ◌+◌, ◌*◌, ◌≤◌, arith
 use Rattle.sched_model.specs.Plan.{Plan, point}
 use Rattle.sched_model.specs.States.{after_advance, CanRun, StateOf}
 use Rattle.std.specs.Prelude.{Option, None, Some, IfSome}
-use Rattle.agenda.proofs.Standing.{stand-advance}
+use Rattle.agenda.proofs.Standing.{stands-rows}
 use Rattle.event_kernel.specs.Segment.{entered, holder_at, IsFirst}
 use Rattle.event_kernel.specs.Tickwork.{gives}
 use Rattle.event_kernel.specs.Settings.{IsLastTick}
@@ -96,5 +96,5 @@ returns-clause-current g c =
     record {
       counters = subst (λ (s : StateOf). g.G.Governor.stands run.governor plan s) (sym c.advance.ensures)
           (g.met.G.Governor.waits run.governor plan run.state to later before.counters);
-      agenda = stand-advance plan run.state run.agenda.ready run.agenda.calendar before.agenda to _ c.advance.ensures;
+      agenda = stands-rows plan run.state _ run.agenda (ap (λ (v : StateOf). v.rows) c.advance.ensures) before.agenda;
     }

@@ -1,7 +1,7 @@
 use Rattle.std.proofs.Common.{◌≡◌, ℕ, ◌+◌, ◌<◌, min, Bool, true, ◌||◌, arith, refl, ap, ◌∙◌, sym, subst, inl, inr, ◌⊎◌, nat_eq, rules}
 use Rattle.sched_model.specs.Plan.{count}
 use Rattle.sched_model.specs.States.{row_at, after_advance, StateOf}
-use Rattle.agenda.proofs.Standing.{stand-advance}
+use Rattle.agenda.proofs.Standing.{stands-rows}
 use Rattle.event_kernel.specs.declared.progress.Progress.{Progress}
 use Rattle.event_kernel.specs.Current.{IsCurrent}
 use Rattle.event_kernel.specs.Segment.{entered}
@@ -114,6 +114,6 @@ returns-clause-current g c =
     let run = c.if-rest-gt0.self in
     record {
       counters = search rules;
-      agenda = stand-advance c.args.set.now.plan.now run.state run.agenda.ready run.agenda.calendar (current g c).agenda
-          (c.state.inside.now + 1) _ c.advance.ensures;
+      agenda = stands-rows c.args.set.now.plan.now run.state _ run.agenda (ap (λ (v : StateOf). v.rows) c.advance.ensures)
+          (current g c).agenda;
     }

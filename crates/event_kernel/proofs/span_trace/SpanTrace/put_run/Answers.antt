@@ -6,11 +6,11 @@ use Rattle.sched_model.specs.declared.state.Row.{Row}
 use Rattle.sched_model.specs.declared.holder.Holder.{Holder}
 use Rattle.sched_model.specs.Plan.{point}
 use Rattle.sched_model.specs.Notes.{position_of}
-use Rattle.sched_model.specs.States.{row_at, StateOf}
+use Rattle.sched_model.specs.States.{row_at}
+use Rattle.sched_model.proofs.StateRows.{row_read}
 use Rattle.energy.specs.Segments.{segment_energy}
 use Rattle.event_kernel.specs.SpanNotes.{kept_notes}
 use Rattle.event_kernel.specs.Segment.{with_notes, holder_notes, HeldIn}
-use Rattle.event_kernel.proofs.Working.{read_row}
 use Rattle.event_kernel.proofs.Keeping.{kept_notes-append}
 use Rattle.event_kernel.proofs.span_trace.SpanTrace.put_run.Goals as goal
 
@@ -22,8 +22,8 @@ returns-then-row c =
     let trace = c.args.self.now in
     let ran : Note = Run c.ends.result.0 c.ends.result.1 c.args.task c.args.job trace.segment.units c.energy_of.result in
     let done : Note = Done c.ends.result.1 c.args.task c.args.job c.index-row.result.now.used in
-    let row : c.index-row.result.now ≡ row_at s c.args.task = read_row s c.state.inside.rows.items c.args.task c.index-row.result.now
-    (ap (λ (v : StateOf). v.rows) c.state.view_is) (subst (λ (h : Holder). HeldIn (length s.rows) h) c.requires.held c.requires.can.task) c.index-row.ensures in
+    let row : c.index-row.result.now ≡ row_at s c.args.task = row_read s _ c.args.task c.index-row.result.now
+    c.state.view_is (subst (λ (h : Holder). HeldIn (length s.rows) h) c.requires.held c.requires.can.task) c.index-row.ensures in
     let energy = c.energy_of.ensures.value ∙ ap (λ (m : Table). segment_energy m e trace.segment.units false) c.machine.ensures.machine in
     let ended : true ≡ (row_at s c.args.task).done = sym c.if-row.true ∙ ap (λ (r : Row). r.done) row in
     let used = ap (λ (r : Row). r.used) row in

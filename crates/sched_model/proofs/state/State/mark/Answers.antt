@@ -1,18 +1,21 @@
-use Rattle.std.proofs.Common.{ℕ, List, length, ap, ◌∙◌, arith}
-use Rattle.sched_model.specs.States.{after_mark}
+use Rattle.std.proofs.Common.{◌≡◌, ◌<◌, length, sym, arith}
+use Rattle.std.proofs.lemmas.Grind.{common_steps}
+use Rattle.sched_model.proofs.StateRows.{mark_step}
 use Rattle.sched_model.proofs.state.State.mark.Goals as goal
 
-pub copy_from_slice-requires : goal.copy_from_slice-requires
-copy_from_slice-requires c =
-    let s = c.self.inside in
-    omega (arith, s.base.ok.0, c.self.invariant.0.base, c.self.invariant.1.one_each, ap (λ (xs : List ℕ). length xs) c.deref.ensures.value)
-
-pub invariant_of-self : goal.invariant_of-self
-invariant_of-self c =
-    let k = c.self.invariant.1 in
-    let all = c.copy_from_slice.ensures.items ∙ c.deref.ensures.value in
-    (record { base = ap (λ (xs : List ℕ). length xs) all ∙ k.one_each; used = c.self.invariant.0.used }, k)
-
-pub returns : goal.returns
-returns c =
-    rw (c.copy_from_slice.ensures.items, c.deref.ensures.value, c.self.invariant.1.left_is) (ap after_mark c.self.view_is)
+pub loop-i-preserved : goal.loop-i-preserved
+loop-i-preserved c =
+    let inv = c.loop-i.invariant in
+    let rows = c.loop-i.self-inside.rows.items in
+    let base = c.loop-i.self-inside.base.items in
+    let i = c.loop-i.i in
+    let n : length c.self.inside.rows.items ≡ length c.self.inside.base.items =
+    sym (c.self.invariant.base) in
+    let in_rows : i < length rows = rw inv.2 (omega arith) in
+    let in_base : i < length base = omega arith in (
+      inv.0,
+      inv.1,
+      inv.2,
+      grind (arith, common_steps, inv.3),
+      rw c.worst_left.ensures (mark_step rows base i c.index-row.result.now in_rows in_base c.index-row.ensures inv.4),
+    )
