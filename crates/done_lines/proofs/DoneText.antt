@@ -1,5 +1,5 @@
 -- The text of a schedule that meets its deadlines says of each job that it completes by its deadline.
-use Rattle.std.proofs.Common.{◌≡◌, ℕ, zero, suc, ◌+◌, ◌-◌, ◌^◌, ◌<◌, ◌≤◌, Bool, true, false, ◌&&◌, ◌||◌, List, [], ◌∷◌, ◌++◌, length, map, flat_map, refl, arith, if◌then◌else◌, ap, ap₂, ◌∙◌, sym, subst, true≢false, nat_eq, nat_lt, get_or, append_assoc, ◌⊎◌, inl, inr}
+use Rattle.std.proofs.Common.{◌≡◌, ℕ, zero, suc, ◌+◌, ◌-◌, ◌^◌, ◌<◌, ◌≤◌, Bool, true, false, ◌&&◌, List, [], ◌∷◌, ◌++◌, length, map, flat_map, refl, arith, if◌then◌else◌, ap, ap₂, ◌∙◌, sym, subst, true≢false, nat_eq, get_or, append_assoc, ◌⊎◌, inl, inr}
 use Rattle.std.specs.List.{AllByRecursion}
 use Rattle.std.proofs.lemmas.Fmt.{decimal_injective}
 use Rattle.std.proofs.lemmas.List.{get_or-map, length-map, map-append}
@@ -30,7 +30,7 @@ use Rattle.sched_model.specs.Notes.{notes_of}
 use Rattle.sched_model.proofs.Limits.{every_period, low_period}
 use Rattle.sched_model.proofs.ScheduleLemmas.{schedule_exists}
 use Rattle.sched_model.proofs.Service.{exec-most, exec-drop}
-use Rattle.sched_model.proofs.HeldUnits.{each-weaker}
+use Rattle.sched_model.proofs.Units.{each-weaker}
 use Rattle.sched_model.proofs.JobLaws.{le-due, release-due}
 use Rattle.done_lines.specs.DoneLines.{IsDoneLine, NoDoneLine, IsBy, IsToldBy, TellsDeadlines, TextTellsDeadlines}
 use Rattle.trace_reader.specs.TraceText.{LineOf, noted, lines_of_note, head_lines, text_of_lines, shares_from}
@@ -38,8 +38,9 @@ use Rattle.trace_reader.proofs.WholeText.{each-noted}
 use Rattle.trace_text.proofs.PlainLines.{ArePlain, each-append, plain-name, some-name}
 use Rattle.done_lines.specs.RunText.{task_texts, run_lines}
 use Rattle.done_lines.proofs.RunLines.{IsQuiet, lines-run, quiet-head, quiet-shares}
-use Rattle.done_lines.proofs.DoneNotes.{tells_done, tells_late, times}
-use Rattle.done_lines.proofs.DoneCounts.{times-end, told-once, told-never, none-late}
+use Rattle.sched_model.proofs.NoteSums.{tells_done}
+use Rattle.done_lines.proofs.Times.{times}
+use Rattle.done_lines.proofs.DoneCounts.{times-end, told-once, told-never, IsInTime, in-time}
 
 -- a list with exactly one element that passes the test
 record IsAlone {A : Type 0} (test : A → Bool) (xs : List A) : Type 0 where
@@ -154,25 +155,6 @@ each-counted tests (x ∷ xs) h = (λ l e. h l (here l (tests l x) refl e), each
     there l false f some = let c : times (tests l) (x ∷ xs) ≡ times (tests l) xs =
         ap (λ (b : Bool). if b then suc (times (tests l) xs) else times (tests l) xs) f in omega (arith, c, some)
 
--- a position that is not late is not after the beginning of tick t
-pub is_by : (t : ℕ) (q : Pos) → (nat_lt t q.tick || (nat_eq t q.tick && nat_lt 0 q.offset)) ≡ false → IsBy t q
-is_by t q e = go (cases_lt q.tick t) (nat_lt t q.tick) refl (nat_lt 0 q.offset) refl
-  where
-    go : (q.tick < t) ⊎ (t ≤ q.tick) → (a : Bool) → nat_lt t q.tick ≡ a → (b : Bool) → nat_lt 0 q.offset ≡ b → IsBy t q
-    go (inl before) a f b h = inl before
-    go (inr from) true f b h = absurd (true≢false (sym (ap (λ c. c || (nat_eq t q.tick && nat_lt 0 q.offset)) f) ∙ e))
-    go (inr from) false f true h =
-        let same : nat_eq t q.tick ≡ true = grind (arith, nat_tests) in
-        absurd (true≢false (sym (ap₂ (λ c d. nat_lt t q.tick || (c && d)) same h ∙ later (nat_lt t q.tick)) ∙ e))
-      where
-        later : (c : Bool) → (c || (true && true)) ≡ true
-        later true = refl
-        later false = refl
-    go (inr from) false f false h =
-        let none : q.offset ≡ 0 = grind (arith, nat_tests) in
-        let here : q.tick ≡ t = grind (arith, nat_tests) in
-        inr (here, none)
-
 module _ (p : Plan) (dem : ℕ → ℕ → ℕ) (ask : List Tick → Frac) (lim : IsWithinLimits p) (ticks : List Tick) (sched : IsScheduleBy p dem ask ticks)
     (most : (i k : ℕ) → i < count p → exec p ticks i k ≤ dem i k) (low : length ticks ≤ MOST_TICKS) where
   abbrev notes : List Note
@@ -245,10 +227,6 @@ module _ (p : Plan) (dem : ℕ → ℕ → ℕ) (ask : List Tick → Frac) (lim 
         let began : release p i k < length ticks = omega (arith, release-due p i k some_job, every_period p lim i, within) in
         times-end p dem ask ticks (tells_done i k) (λ t run idle. refl) ∙ told-once p dem ask lim i k lt some_job ticks sched began had
 
-    in-time : times (tells_late (due p i k) i k) notes ≡ 0
-    in-time = times-end p dem ask ticks (tells_late (due p i k) i k) (λ t run idle. refl)
-        ∙ none-late p dem ask lim i k lt some_job (length ticks) ticks (omega arith) sched (omega (arith, had))
-
     low-job : k < 2 ^ 64
     low-job = omega (arith, le-due p i k (every_period p lim i), within, low)
 
@@ -259,8 +237,8 @@ module _ (p : Plan) (dem : ℕ → ℕ → ℕ) (ask : List Tick → Frac) (lim 
         all_small : AllByRecursion (λ n. (l : ℕ) → tells_done i l n ≡ true → l < 2 ^ 64) (r.front ++ r.one ∷ r.back)
         all_small = subst (AllByRecursion (λ n. (l : ℕ) → tells_done i l n ≡ true → l < 2 ^ 64)) r.parts (each-counted (tells_done i) notes (small i lt))
 
-        not_late : AllByRecursion (λ n. tells_late (due p i k) i k n ≡ false) (r.front ++ r.one ∷ r.back)
-        not_late = subst (AllByRecursion (λ n. tells_late (due p i k) i k n ≡ false)) r.parts (none-pass (tells_late (due p i k) i k) notes in-time)
+        by_then : AllByRecursion (IsInTime (due p i k) i k) (r.front ++ r.one ∷ r.back)
+        by_then = subst (AllByRecursion (IsInTime (due p i k) i k)) r.parts (in-time p dem ask lim i k lt some_job ticks sched)
 
         go : (n : Note) → r.one ≡ n → IsToldBy name k (due p i k) (text v g t)
         go (Done q j l u) e = record {
@@ -297,13 +275,8 @@ module _ (p : Plan) (dem : ℕ → ℕ → ℕ) (ask : List Tick → Frac) (lim 
             job : k ≡ l
             job = let f : nat_eq k l ≡ true = (and_parts (nat_eq i j) (nat_eq k l) passes).1 in grind (arith, nat_tests)
 
-            early : (nat_lt (due p i k) q.tick || (nat_eq (due p i k) q.tick && nat_lt 0 q.offset)) ≡ false
-            early =
-                sym (ap (λ (b : Bool). b && (nat_lt (due p i k) q.tick || (nat_eq (due p i k) q.tick && nat_lt 0 q.offset))) passes)
-                ∙ (sym (ap (tells_late (due p i k) i k) e) ∙ (each-after _ r.front (r.one ∷ r.back) not_late).0)
-
             by : IsBy (due p i k) q
-            by = is_by (due p i k) q early
+            by = subst (IsInTime (due p i k) i k) e (each-after _ r.front (r.one ∷ r.back) by_then).0 passes
         go n e = absurd (true≢false (sym r.passes ∙ ap (tells_done i k) e))
 
     pub told-text : IsToldBy (name_of (names p) i) k (due p i k) (text v g t)

@@ -1,36 +1,14 @@
 -- The notes of a schedule have no more releases than the jobs that are released within it.
-use Rattle.std.proofs.Common.{◌≡◌, ℕ, zero, suc, ◌+◌, ◌-◌, ◌*◌, ◌<◌, ◌≤◌, Bool, true, false, [], ◌∷◌, refl, arith, if◌then◌else◌, ap, ◌∙◌, sym, nat_eq}
-use Rattle.std.specs.Prelude.{count_by}
+use Rattle.std.proofs.Common.{◌≡◌, ℕ, zero, suc, ◌+◌, ◌-◌, ◌*◌, ◌<◌, ◌≤◌, Bool, true, false, refl, arith, ap, ◌∙◌, sym}
 use Rattle.std.proofs.lemmas.Bool.Decides.{nat_tests}
 use Rattle.std.proofs.lemmas.Nat.{le-div}
-use Rattle.dvs_base.specs.declared.note.Note.TheVariants.{Release, Done}
-use Rattle.grid_fraction.specs.Numbers.{sum_below, ceil_div}
-use Rattle.grid_fraction.proofs.Sums.{sum_below-add, sum_below-le, sum_below-same}
+use Rattle.grid_fraction.specs.Numbers.{ceil_div}
+use Rattle.grid_fraction.proofs.Sums.{sum_below-add, sum_below-le}
 use Rattle.grid_fraction.proofs.Ceilings.{ceil-at, ceil-mono}
 use Rattle.sched_model.specs.Plan.{Plan, count, period, offset}
 use Rattle.sched_model.specs.Jobs.{latest, release, releases_at, released_jobs}
-use Rattle.sched_model.specs.Notes.{release_notes, all_release_notes}
-use Rattle.sched_model.specs.Totals.{is_released}
 use Rattle.sched_model.proofs.JobLaws.{release-none, latest-pos}
-use Rattle.done_lines.proofs.CountLemmas.{count-each}
-
--- 1 where a job of task i is released at tick t
-abbrev pub released : Plan → ℕ → ℕ → ℕ
-released p t i = if releases_at p i t then 1 else 0
-
--- how many releases the notes of a tick have
-pub released-at : (p : Plan) (dem : ℕ → ℕ → ℕ) (t : ℕ)
-    → count_by is_released (all_release_notes p dem t) ≡ sum_below (count p) (released p t)
-released-at p dem t =
-    count-each is_released (release_notes p dem t) (count p)
-    ∙ sum_below-same (count p) _ (released p t) (λ i lt. one i (releases_at p i t) (nat_eq (dem i (latest p i t)) 0))
-  where
-    one : (i : ℕ) (a b : Bool)
-        → count_by is_released (if a then Release t i (latest p i t)
-        ∷ (if b then Done (record { tick = t; offset = 0 }) i (latest p i t) 0 ∷ [] else []) else [])
-        ≡ (if a then 1 else 0)
-    one i true true = refl
-    one i _ _ = refl
+use Rattle.done_lines.proofs.CountLemmas.{one_if, releases}
 
 -- a quotient rounded up is at least one more than a whole number that it exceeds
 ceil-over : (q n d : ℕ) → 0 < d → q * d < n → suc q ≤ ceil_div n d
@@ -42,11 +20,11 @@ release-at p i k = let e : suc k - 1 ≡ k = omega arith in rw e refl
 
 -- the jobs of task i released before tick t, and one released at t, are all released before a later tick
 released-more : (p : Plan) (i t later : ℕ) → 0 < period p i → t < later
-    → ceil_div (t - offset p i) (period p i) + released p t i ≤ ceil_div (later - offset p i) (period p i)
+    → ceil_div (t - offset p i) (period p i) + one_if (releases_at p i t) ≤ ceil_div (later - offset p i) (period p i)
 released-more p i t later some lt = go (releases_at p i t) refl
   where
     go : (b : Bool) → releases_at p i t ≡ b
-        → ceil_div (t - offset p i) (period p i) + released p t i ≤ ceil_div (later - offset p i) (period p i)
+        → ceil_div (t - offset p i) (period p i) + one_if (releases_at p i t) ≤ ceil_div (later - offset p i) (period p i)
     go false e = rw e (omega (arith, ceil-mono (t - offset p i) (later - offset p i) (period p i) some (omega arith)))
     go true e = rw e (job (latest p i t) refl (grind (arith, nat_tests)))
       where
@@ -64,12 +42,12 @@ released-more p i t later some lt = go (releases_at p i t) refl
 
 -- the jobs of all tasks released before tick t, and those released at t, are all released before a later tick
 pub releases-more : (p : Plan) (t later : ℕ) → ((i : ℕ) → 0 < period p i) → t < later
-    → released_jobs p t + sum_below (count p) (released p t) ≤ released_jobs p later
+    → released_jobs p t + releases p t ≤ released_jobs p later
 releases-more p t later some lt =
     let jobs : ℕ → ℕ → ℕ = λ m i. ceil_div (m - offset p i) (period p i) in
     omega (
       arith,
-      sum_below-add (count p) (jobs t) (released p t),
-      sum_below-le (count p) (λ i. jobs t i + released p t i) (jobs later)
+      sum_below-add (count p) (jobs t) (λ i. one_if (releases_at p i t)),
+      sum_below-le (count p) (λ i. jobs t i + one_if (releases_at p i t)) (jobs later)
           (λ i inside. released-more p i t later (some i) lt),
     )

@@ -1,9 +1,7 @@
-pub mod DoneNotes
-pub mod DoneSpans
+pub mod Times
 pub mod DoneCounts
 pub mod RunLines
 pub mod DoneText
-pub mod SpanHeads
 pub mod CountLemmas
 pub mod TickPieces
 pub mod SpanPieces

@@ -9,7 +9,7 @@ use Rattle.sched_model.specs.Plan.{Plan}
 use Rattle.sched_model.specs.Ticks.{Tick}
 use Rattle.sched_model.specs.Admission.{IsWithinLimits}
 use Rattle.sched_model.specs.Notes.{energy_run, energy_idle, notes_before_end, notes_of}
-use Rattle.sched_model.proofs.HeldUnits.{each-weaker}
+use Rattle.sched_model.proofs.Units.{each-weaker}
 use Rattle.sched_model.proofs.BeforeEnd.{IsBeforeEnd, before-end-each}
 use Rattle.trace_reader.specs.Traces.{is_end}
 
@@ -38,7 +38,7 @@ pub schedule-ended : (p : Plan) → IsWithinLimits p → (dem : ℕ → ℕ → 
 schedule-ended p lim dem ask ticks =
     let notes : List Note = notes_before_end p dem ask ticks in
     ends-once is_end notes (End (length ticks) (sum_by energy_run notes) (sum_by energy_idle notes))
-    (each-weaker (IsBeforeEnd p dem) (λ n. is_end n ≡ false) others notes (before-end-each p lim dem ask ticks)) refl
+    (each-weaker (IsBeforeEnd p dem) (λ n. is_end n ≡ false) others notes (before-end-each p dem ask ticks)) refl
   where
     others : (n : Note) → IsBeforeEnd p dem n → is_end n ≡ false
     others (End ticks run idle) h = absurd h

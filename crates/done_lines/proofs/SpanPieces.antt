@@ -1,5 +1,5 @@
 -- The segments of a span: at most one more than the jobs that complete in its last tick.
-use Rattle.std.proofs.Common.{◌≡◌, ◌⊎◌, inl, inr, ℕ, suc, ◌+◌, ◌-◌, ◌<◌, ◌≤◌, Bool, true, false, not, ◌&&◌, List, [], ◌∷◌, ◌++◌, length, replicate, flat_map, refl, arith, if◌then◌else◌, ap, ap₂, ◌∙◌, sym, subst, nat_eq, nat_le, nat_lt}
+use Rattle.std.proofs.Common.{◌≡◌, ◌⊎◌, inl, inr, ℕ, suc, ◌+◌, ◌-◌, ◌<◌, ◌≤◌, Bool, true, false, not, ◌&&◌, List, [], ◌∷◌, ◌++◌, length, replicate, refl, arith, if◌then◌else◌, ap, ap₂, ◌∙◌, sym, subst, nat_eq, nat_le, nat_lt}
 use Rattle.std.proofs.lemmas.List.{replicate-append-replicate}
 use Rattle.std.proofs.lemmas.Bool.{cases_lt, and_parts, or_parts}
 use Rattle.std.proofs.lemmas.Bool.Decides.{nat_tests}
@@ -18,12 +18,12 @@ use Rattle.sched_model.specs.Priority.{key_of, in_order}
 use Rattle.sched_model.specs.Decision.{completes_in, is_decision}
 use Rattle.sched_model.specs.Schedule.{IsNext, IsScheduleBy}
 use Rattle.sched_model.specs.Admission.{IsWithinLimits}
-use Rattle.sched_model.specs.Notes.{Span, spans_of, lengthened, tick_units}
+use Rattle.sched_model.specs.Notes.{Span, spans_of, lengthened, given_units, tick_units}
 use Rattle.sched_model.proofs.Limits.{every_period}
 use Rattle.sched_model.proofs.JobLaws.{exec-legal, left-stays}
 use Rattle.sched_model.proofs.LevelSums.{share-most}
 use Rattle.sched_model.proofs.OrderLemmas.{sum_list, sum_list-in_order, AreBelow, in_order-below, in_order-same}
-use Rattle.done_lines.proofs.SpanHeads.{stays}
+use Rattle.sched_model.proofs.Spans.{stays}
 use Rattle.done_lines.proofs.TickPieces.{segments, Leads, run-leads, laid_out, laid-out, TakeTurns, take-turns, served, segments-most, first_holder, first-leads, first-alone}
 
 -- the first holder depends only on which tasks need something, and on their jobs
@@ -58,7 +58,7 @@ module _ (p : Plan) (dem : ℕ → ℕ → ℕ) (ask : List Tick → Frac) (lim 
 
   units-laid : (past : List Tick) (x : Tick) → tick_units p past x ≡ laid_at past x
   units-laid past x =
-      let given : List Holder = flat_map (λ i. replicate (share x i) (Held i (job_at past i))) (order_at past) in
+      let given : List Holder = given_units (share x) (job_at past) (order_at past) in
       ap (λ n. given ++ replicate (speed x - n) Nobody) (sym (sum_list-in_order (share x) (key_at past) (count p)))
       ∙ laid-out (share x) (job_at past) (speed x) (order_at past)
 

@@ -1,11 +1,11 @@
 -- The segments of one tick: at most one more than the jobs that get all they need in it.
-use Rattle.std.proofs.Common.{◌≡◌, ◌⊎◌, inl, inr, ℕ, zero, suc, ◌+◌, ◌-◌, ◌<◌, ◌≤◌, min, Bool, true, false, ◌&&◌, List, [], ◌∷◌, ◌++◌, length, replicate, flat_map, refl, arith, if◌then◌else◌, ap, ap₂, ◌∙◌, sym, subst, append_assoc, append-nil, nat_eq, nat_le, nat_lt}
+use Rattle.std.proofs.Common.{◌≡◌, ◌⊎◌, inl, inr, ℕ, zero, suc, ◌+◌, ◌-◌, ◌<◌, ◌≤◌, min, Bool, true, false, ◌&&◌, List, [], ◌∷◌, ◌++◌, length, replicate, refl, arith, if◌then◌else◌, ap, ap₂, ◌∙◌, sym, subst, append_assoc, append-nil, nat_eq, nat_le, nat_lt}
 use Rattle.std.proofs.lemmas.Bool.{cases_lt}
 use Rattle.std.proofs.lemmas.Bool.Decides.{nat_tests}
 use Rattle.sched_model.specs.declared.holder.Holder.{Holder}
 use Rattle.sched_model.specs.declared.holder.Holder.TheVariants.{Nobody, Held}
 use Rattle.sched_model.specs.Priority.{SharesOut, in_order}
-use Rattle.sched_model.specs.Notes.{same_holder, Piece, before_pieces, pieces_of}
+use Rattle.sched_model.specs.Notes.{same_holder, Piece, before_pieces, pieces_of, given_units}
 use Rattle.sched_model.proofs.OrderLemmas.{sum_list, sum_list-snoc, AreBelow, below-from, in_order-below, sum_before-prefix}
 use Rattle.sched_model.proofs.PieceLemmas.{piece, same_holder-refl}
 
@@ -69,13 +69,13 @@ laid_out given job room [] = replicate room Nobody
 laid_out given job room (i ∷ is) = replicate (given i) (Held i (job i)) ++ laid_out given job (room - given i) is
 
 pub laid-out : (given job : ℕ → ℕ) (room : ℕ) (is : List ℕ)
-    → flat_map (λ i. replicate (given i) (Held i (job i))) is ++ replicate (room - sum_list given is) Nobody
+    → given_units given job is ++ replicate (room - sum_list given is) Nobody
     ≡ laid_out given job room is
 laid-out given job room [] = let all : room - 0 ≡ room = omega arith in ap (λ n. replicate n Nobody) all
 laid-out given job room (i ∷ is) =
     let rest : room - (given i + sum_list given is) ≡ (room - given i) - sum_list given is = omega arith in
     let own : List Holder = replicate (given i) (Held i (job i)) in
-    let others : List Holder = flat_map (λ i. replicate (given i) (Held i (job i))) is in
+    let others : List Holder = given_units given job is in
     append_assoc own others (replicate (room - (given i + sum_list given is)) Nobody)
     ∙ ap (λ us. own ++ us) (ap (λ n. others ++ replicate n Nobody) rest ∙ laid-out given job (room - given i) is)
 

@@ -4,7 +4,6 @@ pub mod Pairs
 pub mod Costs
 pub mod FirstPair
 pub mod FirstFound
-pub mod SegmentSums
 pub mod ScheduleCosts
 pub mod Certifying
 pub mod LeastTest

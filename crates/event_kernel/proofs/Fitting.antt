@@ -34,7 +34,7 @@ pub course-fits : (demand : Plan → StateOf → Frac) (p : Plan) (dem : ℕ →
 course-fits demand p dem admitted none t =
     let ask = ask_of demand p dem in
     let long = course-len demand p dem t in
-    let fit = ticks-fit p admitted.limits dem none ask t (course demand p dem t) (omega (arith, long)) (course-legal demand p dem t) in
+    let fit = ticks-fit p admitted.limits dem none ask (course demand p dem t) (course-legal demand p dem t) in
     let later : IsScheduleBy p dem ask (tick_at demand p dem t ∷ course demand p dem t) =
     subst (IsScheduleBy p dem ask) (course-next demand p dem t) (course-legal demand p dem (t + 1)) in
     record {

@@ -1,6 +1,6 @@
 -- The units of one tick, handed out to one task after the other.
 use Rattle.std.proofs.Common.{◌≡◌, ◌≢◌, ℕ, ◌+◌, ◌-◌, ◌*◌, ◌<◌, ◌≤◌, min, Bool, true, false, not, eqb, ◌&&◌, ◌||◌, List, [], ◌∷◌, ◌++◌, length, replicate, refl, arith, if◌then◌else◌, ap, ap₂, ◌∙◌, sym, subst, append-nil, append_assoc, nat_eq, nat_le, nat_lt, true≢false}
-use Rattle.std.specs.Prelude.{count_by, flat_map}
+use Rattle.std.specs.Prelude.{count_by}
 use Rattle.std.proofs.Math.Bool.{or-true, or-false, not-and_self}
 use Rattle.std.proofs.lemmas.Bool.Decides.{nat_tests}
 use Rattle.std.proofs.lemmas.List.Folds.{sum_by-replicate}
@@ -15,7 +15,7 @@ use Rattle.sched_model.specs.Jobs.{latest, due}
 use Rattle.sched_model.specs.Ticks.{Tick, exec, left, share}
 use Rattle.sched_model.specs.Priority.{in_order, key_of, stands_before, sum_before}
 use Rattle.sched_model.specs.Greedy.{IsFirstOpen}
-use Rattle.sched_model.specs.Notes.{same_holder}
+use Rattle.sched_model.specs.Notes.{same_holder, given_units}
 use Rattle.sched_model.specs.States.{no_row, row_at, StateOf, row_of, state_of}
 use Rattle.grid_fraction.proofs.Sums.{sum_below-zero, sum_below-same, sum_below-add, sum_below-own}
 use Rattle.sched_model.proofs.Tables.{get-table, table-same, set-table}
@@ -28,41 +28,37 @@ use Rattle.agenda.specs.Agenda.{row_key, IsFirstUndone}
 use Rattle.event_kernel.specs.Tickwork.{served}
 use Rattle.event_kernel.proofs.Entering.{Shows}
 
--- the units that a list of tasks got
-abbrev pub laid_out : (ℕ → ℕ) → (ℕ → ℕ) → List ℕ → List Holder
-laid_out job given js = flat_map (λ i. replicate (given i) (Held i (job i))) js
-
-pub laid_out-same : (job given given' : ℕ → ℕ) (n : ℕ) (js : List ℕ) → AreBelow n js → ((j : ℕ) → j < n → given j ≡ given' j)
-    → laid_out job given js ≡ laid_out job given' js
-laid_out-same job given given' n [] below same = refl
-laid_out-same job given given' n (j ∷ js) below same =
-    ap₂ (λ m us. replicate m (Held j (job j)) ++ us) (same j below.0) (laid_out-same job given given' n js below.1 same)
+pub given_units-same : (job given given' : ℕ → ℕ) (n : ℕ) (js : List ℕ) → AreBelow n js → ((j : ℕ) → j < n → given j ≡ given' j)
+    → given_units given job js ≡ given_units given' job js
+given_units-same job given given' n [] below same = refl
+given_units-same job given given' n (j ∷ js) below same =
+    ap₂ (λ m us. replicate m (Held j (job j)) ++ us) (same j below.0) (given_units-same job given given' n js below.1 same)
 
 -- where the tasks behind i got no units, their list of units is empty
-laid_out-after : (key job given : ℕ → ℕ) (n i : ℕ) (js : List ℕ) → AreBelow n js → IsAhead key i js
-    → ((j : ℕ) → j < n → stands_before key i j ≡ true → given j ≡ 0) → laid_out job given js ≡ []
-laid_out-after key job given n i [] below ahead none = refl
-laid_out-after key job given n i (j ∷ js) below ahead none =
-    ap₂ (λ m us. replicate m (Held j (job j)) ++ us) (none j below.0 ahead.0) (laid_out-after key job given n i js below.1 ahead.1 none)
+given_units-after : (key job given : ℕ → ℕ) (n i : ℕ) (js : List ℕ) → AreBelow n js → IsAhead key i js
+    → ((j : ℕ) → j < n → stands_before key i j ≡ true → given j ≡ 0) → given_units given job js ≡ []
+given_units-after key job given n i [] below ahead none = refl
+given_units-after key job given n i (j ∷ js) below ahead none =
+    ap₂ (λ m us. replicate m (Held j (job j)) ++ us) (none j below.0 ahead.0) (given_units-after key job given n i js below.1 ahead.1 none)
 
 -- i gets units, before which it had none; nobody behind it has any
-laid_out-step : (key job given given' : ℕ → ℕ) (n i : ℕ) (pre post : List ℕ) → AreBelow n (pre ++ i ∷ post) → IsOrdered key (pre ++ i ∷ post)
+given_units-step : (key job given given' : ℕ → ℕ) (n i : ℕ) (pre post : List ℕ) → AreBelow n (pre ++ i ∷ post) → IsOrdered key (pre ++ i ∷ post)
     → given i ≡ 0 → ((j : ℕ) → j < n → j ≢ i → given' j ≡ given j) → ((j : ℕ) → j < n → stands_before key i j ≡ true → given j ≡ 0)
-    → laid_out job given' (pre ++ i ∷ post) ≡ laid_out job given (pre ++ i ∷ post) ++ replicate (given' i) (Held i (job i))
-laid_out-step key job given given' n i [] post below ordered zero_i others none =
+    → given_units given' job (pre ++ i ∷ post) ≡ given_units given job (pre ++ i ∷ post) ++ replicate (given' i) (Held i (job i))
+given_units-step key job given given' n i [] post below ordered zero_i others none =
     let here : stands_before key i i ≡ false = before-self key i in
-    let nothing : laid_out job given post ≡ [] = laid_out-after key job given n i post below.1 ordered.0 none in
-    let still : laid_out job given' post ≡ [] = laid_out-after key job given' n i post below.1 ordered.0
+    let nothing : given_units given job post ≡ [] = given_units-after key job given n i post below.1 ordered.0 none in
+    let still : given_units given' job post ≡ [] = given_units-after key job given' n i post below.1 ordered.0
     (λ k lt h. others k lt (λ q. absurd (true≢false (sym h ∙ (ap (stands_before key i) q ∙ here)))) ∙ none k lt h) in
     ap (λ us. replicate (given' i) (Held i (job i)) ++ us) still
     ∙ (append-nil (replicate (given' i) (Held i (job i)))
     ∙ sym (ap₂ (λ m us. (replicate m (Held i (job i)) ++ us) ++ replicate (given' i) (Held i (job i))) zero_i nothing))
-laid_out-step key job given given' n i (j ∷ pre) post below ordered zero_i others none =
+given_units-step key job given given' n i (j ∷ pre) post below ordered zero_i others none =
     let first : stands_before key j i ≡ true = first_ahead key j i pre post ordered.0 in
     let other : j ≢ i = λ q. absurd (true≢false (sym first ∙ (ap (λ m. stands_before key m i) q ∙ before-self key i))) in
     ap₂ (λ m us. replicate m (Held j (job j)) ++ us) (others j below.0 other)
-    (laid_out-step key job given given' n i pre post below.1 ordered.1 zero_i others none)
-    ∙ sym (append_assoc (replicate (given j) (Held j (job j))) (laid_out job given (pre ++ i ∷ post)) (replicate (given' i) (Held i (job i))))
+    (given_units-step key job given given' n i pre post below.1 ordered.1 zero_i others none)
+    ∙ sym (append_assoc (replicate (given j) (Held j (job j))) (given_units given job (pre ++ i ∷ post)) (replicate (given' i) (Held i (job i))))
 
 -- one value of a function changed
 abbrev pub raised : (ℕ → ℕ) → ℕ → ℕ → ℕ → ℕ
@@ -108,7 +104,7 @@ module _ (p : Plan) (dem : ℕ → ℕ → ℕ) (past : List Tick) where
   key = key_of p.scheduler p (length past)
 
   abbrev pub units_by : (ℕ → ℕ) → List Holder
-  units_by given = laid_out job given (in_order key (count p))
+  units_by given = given_units given job (in_order key (count p))
 
   -- the state after some units of the tick
   abbrev pub given_row : (ℕ → ℕ) → ℕ → Row
@@ -150,7 +146,7 @@ module _ (p : Plan) (dem : ℕ → ℕ → ℕ) (past : List Tick) where
     ends = sym (any_below-none (count p) (ends_in (λ _. 0)) (λ i lt. none_ends i));
   }
 
-  laid_none : (js : List ℕ) → laid_out job (λ _. 0) js ≡ []
+  laid_none : (js : List ℕ) → given_units (λ _. 0) job js ≡ []
   laid_none [] = refl
   laid_none (j ∷ js) = laid_none js
 
@@ -275,8 +271,8 @@ module _ (p : Plan) (dem : ℕ → ℕ → ℕ) (past : List Tick) where
     pub gives-units : (i share : ℕ) → 0 < rest → IsFirstOpen (count p) key (left p dem past) given i
         → units_by (raised given i share) ≡ units_by given ++ replicate share (Held i (job i))
     gives-units i share pos o =
-        subst (λ js. laid_out job (raised given i share) js ≡ laid_out job given js ++ replicate (raised given i share i) (Held i (job i))) (sym place.1.1)
-        (laid_out-step key job given (raised given i share) (count p) i place.0 place.1.0
+        subst (λ js. given_units (raised given i share) job js ≡ given_units given job js ++ replicate (raised given i share i) (Held i (job i))) (sym place.1.1)
+        (given_units-step key job given (raised given i share) (count p) i place.0 place.1.0
         (subst (AreBelow (count p)) place.1.1 (in_order-below key (count p))) (subst (IsOrdered key) place.1.1 (in_order-ordered key (count p)))
         now.0 (λ j lt other. raised-there given i share j other)
         (λ j lt b. omega (arith, h.handed.given_is j lt, now.0, now.1, up_to-before (count p) key (left p dem past) i j o.below b)))

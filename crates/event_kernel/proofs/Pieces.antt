@@ -8,8 +8,7 @@ use Rattle.sched_model.specs.declared.holder.Holder.TheVariants.{Nobody, Held}
 use Rattle.sched_model.specs.Plan.{Plan, point}
 use Rattle.sched_model.specs.Ticks.{exec}
 use Rattle.sched_model.specs.Notes.{same_holder, Span, Piece, pieces_of, position_of, run_energy, segment_notes, pieces_notes}
-use Rattle.sched_model.proofs.PieceLemmas.{piece, same_holder-refl, with_unit, pieces_of-push}
-use Rattle.done_lines.proofs.SpanNotes.{total}
+use Rattle.sched_model.proofs.PieceLemmas.{piece, same_holder-refl, with_unit, pieces_of-push, total}
 use Rattle.event_kernel.specs.Segment.{grown}
 
 unit-snoc : (done : List Piece) (r : Piece) (h : Holder) → with_unit (done ++ r ∷ []) h ≡ done ++ with_unit (r ∷ []) h

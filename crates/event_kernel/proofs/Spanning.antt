@@ -22,7 +22,7 @@ use Rattle.sched_model.specs.States.{row_at, prior_row, prior_state, StateOf, st
 use Rattle.sched_model.proofs.ScheduleLemmas.{length-list_below, force-decided}
 use Rattle.sched_model.proofs.NoteLemmas.{notes-span}
 use Rattle.sched_model.proofs.Joining.{due_released, row_at-prior_state, state-still}
-use Rattle.done_lines.proofs.SpanHeads.{stays}
+use Rattle.sched_model.proofs.Spans.{stays}
 use Rattle.grid_fraction.proofs.Searches.{any_below-same}
 use Rattle.event_kernel.specs.declared.span_trace.SpanTrace.{SpanTrace}
 use Rattle.governor.specs.Schedule.{ask_of, course}

@@ -38,7 +38,7 @@ use Rattle.event_kernel.specs.Settings.{IsSetting, IsInSpan, HasWorked}
 use Rattle.event_kernel.proofs.Bounds.{Bounds, bounds}
 use Rattle.event_kernel.proofs.Courses.{course-next, course-len, exec-within}
 use Rattle.event_kernel.proofs.Entering.{Shows, enters}
-use Rattle.event_kernel.proofs.Handing.{raised, sum-raised, key, job, had, units_by, laid_out-same, given_row, ends_in, Handing, start, start-units, row-is, shows, first-open, none-open, gives, gives-units, gives-had, count_idle}
+use Rattle.event_kernel.proofs.Handing.{raised, sum-raised, key, job, had, units_by, given_units-same, given_row, ends_in, Handing, start, start-units, row-is, shows, first-open, none-open, gives, gives-units, gives-had, count_idle}
 
 module _ (demand : Plan → StateOf → Frac) (p : Plan) (dem : ℕ → ℕ → ℕ) (t : ℕ) where
   abbrev pub past : List Tick
@@ -251,7 +251,7 @@ module _ {demand : Plan → StateOf → Frac} {set : Setting} (ok : IsSetting se
       units : units_by p dem so_far w.given ++ replicate rest Nobody ≡ tick_units p so_far x
       units =
           ap₂ (λ us m. us ++ replicate m Nobody)
-          (laid_out-same (job p dem so_far) w.given (share x) (count p) (in_order (key p dem so_far) (count p))
+          (given_units-same (job p dem so_far) w.given (share x) (count p) (in_order (key p dem so_far) (count p))
           (in_order-below (key p dem so_far) (count p)) same)
           (omega (arith, w.hand.sum, sum_below-same (count p) w.given (share x) same))
 

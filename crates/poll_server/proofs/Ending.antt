@@ -1,6 +1,7 @@
 -- Where the notes of a schedule have a job as done.
-use Rattle.std.proofs.Common.{◌≡◌, ℕ, suc, ◌-◌, ◌<◌, ◌≤◌, Bool, true, false, ◌&&◌, ◌||◌, List, [], ◌∷◌, length, refl, arith, if◌then◌else◌, ◌∙◌, nat_eq, nat_lt}
+use Rattle.std.proofs.Common.{◌≡◌, ℕ, suc, ◌-◌, ◌<◌, ◌≤◌, Bool, true, false, ◌&&◌, List, [], ◌∷◌, length, refl, arith, if◌then◌else◌, ◌∙◌, nat_eq}
 use Rattle.std.specs.Prelude.{Option, Some, None}
+use Rattle.std.specs.List.{AllByRecursion}
 use Rattle.std.specs.Option.{option_or}
 use Rattle.dvs_base.specs.declared.note.Note.{Note}
 use Rattle.dvs_base.specs.declared.note.Note.TheVariants.{Release, Speed, Run, Idle, Done, End}
@@ -13,12 +14,12 @@ use Rattle.sched_model.specs.Schedule.{IsScheduleBy}
 use Rattle.sched_model.specs.Admission.{IsWithinLimits}
 use Rattle.sched_model.specs.Notes.{notes_of}
 use Rattle.sched_model.proofs.Limits.{every_period}
+use Rattle.sched_model.proofs.NoteSums.{tells_done}
 use Rattle.sched_model.proofs.Service.{exec-most, exec-drop}
 use Rattle.sched_model.proofs.JobLaws.{release-due}
 use Rattle.done_lines.specs.DoneLines.{IsBy}
-use Rattle.done_lines.proofs.DoneNotes.{tells_done, tells_late, times}
-use Rattle.done_lines.proofs.DoneCounts.{times-end, told-once, told-never, none-late}
-use Rattle.done_lines.proofs.DoneText.{is_by}
+use Rattle.done_lines.proofs.Times.{times}
+use Rattle.done_lines.proofs.DoneCounts.{times-end, told-once, told-never, IsInTime, in-time}
 use Rattle.poll_server.specs.Outcomes.{done_at}
 
 -- the job is done, at a position not after tick t
@@ -42,26 +43,23 @@ never-done i k (Done q j l used ∷ notes) none = go (nat_eq i j && nat_eq k l) 
     go true e ih = absurd (omega arith)
     go false e ih = ih e
 
--- where some note says that the job is done and none says it late, the first such note isn't late
-pub ends-by : (t i k : ℕ) (notes : List Note) → 0 < times (tells_done i k) notes → times (tells_late t i k) notes ≡ 0
+-- where some note says that the job is done and each that does is in time, the first such note is
+pub ends-by : (t i k : ℕ) (notes : List Note) → 0 < times (tells_done i k) notes → AllByRecursion (IsInTime t i k) notes
     → IsEndBy t (done_at notes i k)
-ends-by t i k [] some late = absurd (omega arith)
-ends-by t i k (Release tick j l ∷ notes) some late = ends-by t i k notes some late
-ends-by t i k (Speed tick f num den ∷ notes) some late = ends-by t i k notes some late
-ends-by t i k (Run from to j l units energy ∷ notes) some late = ends-by t i k notes some late
-ends-by t i k (Idle from to units energy ∷ notes) some late = ends-by t i k notes some late
-ends-by t i k (End tick run idle ∷ notes) some late = ends-by t i k notes some late
-ends-by t i k (Done q j l used ∷ notes) some late =
-    go (nat_eq i j && nat_eq k l) (nat_lt t q.tick || (nat_eq t q.tick && nat_lt 0 q.offset)) refl some late (ends-by t i k notes)
+ends-by t i k [] some early = absurd (omega arith)
+ends-by t i k (Release tick j l ∷ notes) some early = ends-by t i k notes some early.1
+ends-by t i k (Speed tick f num den ∷ notes) some early = ends-by t i k notes some early.1
+ends-by t i k (Run from to j l units energy ∷ notes) some early = ends-by t i k notes some early.1
+ends-by t i k (Idle from to units energy ∷ notes) some early = ends-by t i k notes some early.1
+ends-by t i k (End tick run idle ∷ notes) some early = ends-by t i k notes some early.1
+ends-by t i k (Done q j l used ∷ notes) some early =
+    go (nat_eq i j && nat_eq k l) some early.0 (λ more. ends-by t i k notes more early.1)
   where
-    go : (a b : Bool) → (nat_lt t q.tick || (nat_eq t q.tick && nat_lt 0 q.offset)) ≡ b
-        → 0 < (if a then suc (times (tells_done i k) notes) else times (tells_done i k) notes)
-        → (if a && b then suc (times (tells_late t i k) notes) else times (tells_late t i k) notes) ≡ 0
-        → (0 < times (tells_done i k) notes → times (tells_late t i k) notes ≡ 0 → IsEndBy t (done_at notes i k))
+    go : (a : Bool) → 0 < (if a then suc (times (tells_done i k) notes) else times (tells_done i k) notes) → (a ≡ true → IsBy t q)
+        → (0 < times (tells_done i k) notes → IsEndBy t (done_at notes i k))
         → IsEndBy t (option_or (if a then Some q else None) (done_at notes i k))
-    go true true e some late ih = absurd (omega arith)
-    go true false e some late ih = is_by t q e
-    go false b e some late ih = ih some late
+    go true some by ih = by refl
+    go false some by ih = ih some
 
 -- a schedule of a plan within the limits, and a job of one of its tasks
 module _ (p : Plan) (dem : ℕ → ℕ → ℕ) (ask : List Tick → Frac) (lim : IsWithinLimits p) (ticks : List Tick)
@@ -84,6 +82,4 @@ module _ (p : Plan) (dem : ℕ → ℕ → ℕ) (ask : List Tick → Frac) (lim 
       let began : release p i k < length ticks = omega (arith, release-due p i k some, every_period p lim i, within) in
       let once : times (tells_done i k) notes ≡ 1 = times-end p dem ask ticks (tells_done i k) (λ t run idle. refl)
       ∙ told-once p dem ask lim i k lt some ticks sched began had in
-      let late : times (tells_late (due p i k) i k) notes ≡ 0 = times-end p dem ask ticks (tells_late (due p i k) i k) (λ t run idle. refl)
-      ∙ none-late p dem ask lim i k lt some (length ticks) ticks (omega arith) sched most in
-      ends-by (due p i k) i k notes (omega (arith, once)) late
+      ends-by (due p i k) i k notes (omega (arith, once)) (in-time p dem ask lim i k lt some ticks sched)

@@ -17,7 +17,7 @@ use Rattle.sched_model.specs.Demand.{demand_by, published}
 use Rattle.sched_model.specs.Admission.{IsWithinLimits}
 use Rattle.sched_model.proofs.OrderLemmas.{AreBelow, in_order-below}
 use Rattle.sched_model.proofs.Allotments.{allotment-same}
-use Rattle.sched_model.proofs.HeldUnits.{latest-early}
+use Rattle.sched_model.proofs.Limits.{latest-early}
 use Rattle.replay_laws.proofs.Alike.{Alike, IsBlind}
 use Rattle.replay_laws.proofs.SameState.{same-complete, same-wleft, alike-marked}
 

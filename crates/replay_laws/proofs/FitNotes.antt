@@ -27,7 +27,7 @@ IsOfTask p _ = Unit {0}
 module _ (p : Plan) (lim : IsWithinLimits p) (dem : ℕ → ℕ → ℕ) (ask : List Tick → Frac) where
   -- each completion is within its worst case, where no demand exceeds its worst case
   pub notes-fit : IsWithin p dem → (ticks : List Tick) → AllByRecursion (IsFit p) (notes_of p dem ask ticks)
-  notes-fit within = notes-each p lim dem ask (IsFit p) fit (λ ticks run idle. tt)
+  notes-fit within = notes-each p dem ask (IsFit p) fit (λ ticks run idle. tt)
     where
       fit : (n : Note) → IsBeforeEnd p dem n → IsFit p n
       fit (Done at_end i k used) h = omega (arith, h.1, within.most i k h.0)
@@ -35,7 +35,7 @@ module _ (p : Plan) (lim : IsWithinLimits p) (dem : ℕ → ℕ → ℕ) (ask : 
 
   -- each completion is of a task of the plan
   pub notes-of-tasks : (ticks : List Tick) → AllByRecursion (IsOfTask p) (notes_of p dem ask ticks)
-  notes-of-tasks = notes-each p lim dem ask (IsOfTask p) of (λ ticks run idle. tt)
+  notes-of-tasks = notes-each p dem ask (IsOfTask p) of (λ ticks run idle. tt)
     where
       of : (n : Note) → IsBeforeEnd p dem n → IsOfTask p n
       of (Done at_end i k used) h = h.0

@@ -13,7 +13,8 @@ use Rattle.sched_model.specs.Admission.{IsWithinLimits}
 use Rattle.sched_model.specs.Notes.{energy_run, energy_idle, notes_before_end, notes_of}
 use Rattle.sched_model.proofs.ScheduleLemmas.{schedule_exists, schedule_unique}
 use Rattle.sched_model.proofs.Service.{exec-most}
-use Rattle.done_lines.proofs.DoneNotes.{tells_done, times, times-append}
+use Rattle.sched_model.proofs.NoteSums.{tells_done}
+use Rattle.done_lines.proofs.Times.{times, times-append}
 use Rattle.done_lines.proofs.DoneCounts.{told-once}
 use Rattle.replay_laws.proofs.Alike.{Alike, IsBlind}
 use Rattle.replay_laws.specs.FixedDemands.{fixed_of}

@@ -15,7 +15,7 @@ use Rattle.sched_model.proofs.Service.{share-legal}
 use Rattle.sched_model.proofs.LevelSums.{share-most, sum_where-mono}
 use Rattle.sched_model.proofs.Allotments.{allotment_of}
 use Rattle.sched_model.proofs.GreedyLemmas.{up_to-before}
-use Rattle.sched_model.proofs.HeldUnits.{latest-early}
+use Rattle.sched_model.proofs.Limits.{latest-early}
 use Rattle.replay_laws.specs.OwnList.{Asking}
 use Rattle.replay_laws.proofs.Alike.{Indistinct, Alike, IsBlind, alike-earlier}
 use Rattle.replay_laws.proofs.SameState.{same-entry}

@@ -7,7 +7,8 @@ use Rattle.sched_model.specs.Plan.{Plan, count}
 use Rattle.sched_model.specs.Jobs.{release, demand_of, IsWithin}
 use Rattle.sched_model.specs.Ticks.{Tick, exec, is_done}
 use Rattle.sched_model.specs.Admission.{IsWithinLimits}
-use Rattle.done_lines.proofs.DoneNotes.{tells_done, times}
+use Rattle.sched_model.proofs.NoteSums.{tells_done}
+use Rattle.done_lines.proofs.Times.{times}
 use Rattle.replay_laws.proofs.Alike.{IsBlind}
 use Rattle.replay_laws.specs.FixedDemands.{fixed_of}
 use Rattle.replay_laws.specs.OwnList.{Asking, ticks_by, notes_by, TellSame, HasSameNotes}

@@ -13,19 +13,19 @@ use Rattle.grid_fraction.proofs.Counts.{count-append}
 use Rattle.sched_model.specs.declared.holder.Holder.{Holder}
 use Rattle.sched_model.specs.declared.holder.Holder.TheVariants.{Nobody, Held}
 use Rattle.sched_model.specs.Plan.{Plan, count, point}
-use Rattle.sched_model.specs.Jobs.{latest, releases_at}
+use Rattle.sched_model.specs.Jobs.{latest, latest_since, releases_at}
 use Rattle.sched_model.specs.Ticks.{Tick, exec, is_done}
 use Rattle.sched_model.specs.Schedule.{IsScheduleBy}
 use Rattle.sched_model.specs.Admission.{IsWithinLimits}
 use Rattle.sched_model.specs.Notes.{same_holder, tick_units, Span, lengthened, spans_of, Piece, pieces_of, position_of, run_energy, release_notes, all_release_notes, had_by, segment_notes, pieces_notes, span_notes, energy_run, energy_idle, notes_before_end, notes_of}
-use Rattle.sched_model.proofs.JobLaws.{exec-none}
 use Rattle.sched_model.proofs.NoteLemmas.{notes-span}
 use Rattle.sched_model.proofs.PieceLemmas.{each-piece}
-use Rattle.done_lines.proofs.DoneSpans.{IsLastSpan, last-span}
 use Rattle.replay_laws.specs.OwnList.{Asking}
 use Rattle.replay_laws.proofs.Alike.{Indistinct, Alike, IsBlind, alike-before, alike-earlier}
 use Rattle.replay_laws.proofs.SameState.{same-decision}
-use Rattle.sched_model.proofs.HeldUnits.{latest-early, IsHeldBefore, each-weaker, spans-held}
+use Rattle.sched_model.proofs.Limits.{latest-early}
+use Rattle.sched_model.proofs.Spans.{IsLastSpan, IsNow, by-spans}
+use Rattle.sched_model.proofs.Units.{each-weaker}
 
 -- two functions that agree on the numbers below n give one list for them
 flat_map-same : (n : ℕ) (f g : ℕ → List Note) → ((i : ℕ) → i < n → f i ≡ g i) → flat_map f (list_below n (λ i. i)) ≡ flat_map g (list_below n (λ i. i))
@@ -109,37 +109,33 @@ module _ (p : Plan) (lim : IsWithinLimits p) (dem other : ℕ → ℕ → ℕ) w
       (spans-same past before)
 
   module _ (ask : Asking) (blind : IsBlind p ask) where
-    module _ (x : Tick) (past : List Tick) (s : Span) (l : IsLastSpan p dem (ask dem) lim x past s) (h : Alike p dem other (x ∷ past) (length (x ∷ past))) where
-      -- no job had more at the beginning of the last span than at its end
-      grows : (i k : ℕ) → i < count p → exec p s.past i k ≤ exec p (x ∷ past) i k
-      grows i zero lt = omega (arith, exec-none p s.past i)
-      grows i (suc k) lt = omega (arith, l.had i (suc k) lt (omega arith))
-
+    module _ (x : Tick) (past : List Tick) (s : Span) (l : IsLastSpan p dem (ask dem) x past s) (h : Alike p dem other (x ∷ past) (length (x ∷ past))) where
       alike-then : (t : ℕ) → t ≤ length (x ∷ past) → Alike p dem other s.past t
-      alike-then t le = alike-before p dem other (x ∷ past) s.past (length (x ∷ past)) t le grows h
+      alike-then t le = alike-before p dem other (x ∷ past) s.past (length (x ∷ past)) t le (λ i k lt. omega (arith, l.grew i k)) h
 
       -- what a job has by the end of the span it has by the end of the ticks
       had-now : (i k : ℕ) → i < count p → (dem i 0 ≡ other i 0) → (dem i k ≡ other i k) ⊎ (had_in p s i k ≡ exec p (x ∷ past) i k)
       had-now i zero lt none = inl none
-      had-now i (suc k) lt none = inr (sym (l.had i (suc k) lt (omega arith)))
+      had-now i (suc k) lt none = inr (sym (l.had lim i (suc k) lt (omega arith)))
 
-      ends-alike : ((i : ℕ) → dem i 0 ≡ other i 0) → (holder : Holder) → IsHeldBefore p (length (x ∷ past)) holder → EndsAlike p dem other s holder
-      ends-alike none Nobody held = tt
-      ends-alike none (Held i k) held = go (is_done p dem (x ∷ past) i k) refl (had-now i k held.0 (none i))
+      ends-alike : ((i : ℕ) → dem i 0 ≡ other i 0) → (holder : Holder) → IsNow p dem (length past) holder → EndsAlike p dem other s holder
+      ends-alike none Nobody now = tt
+      ends-alike none (Held i k) now = go (is_done p dem (x ∷ past) i k) refl (had-now i k now.0 (none i))
         where
+          indistinct : Indistinct p dem other (x ∷ past) i k
+          indistinct = h i k now.0 (subst (λ m. latest_since p i m < length (x ∷ past)) (sym now.1) (latest-early p lim i (length past) now.0))
+
           go : (b : Bool) → is_done p dem (x ∷ past) i k ≡ b → (dem i k ≡ other i k)
               ⊎ (had_in p s i k ≡ exec p (x ∷ past) i k) → EndsAlike p dem other s (Held i k)
-          go true e had = inl ((h i k held.0 held.1).0 e)
+          go true e had = inl (indistinct.0 e)
           go false e (inl same) = inl same
           go false e (inr had) =
               let more : exec p (x ∷ past) i k < dem i k = grind (arith, nat_tests, e) in
-              let more_other : exec p (x ∷ past) i k < other i k = (h i k held.0 held.1).1 e in
+              let more_other : exec p (x ∷ past) i k < other i k = indistinct.1 e in
               inr (omega (arith, had, more), omega (arith, had, more_other))
 
       units-alike : ((i : ℕ) → dem i 0 ≡ other i 0) → AllByRecursion (EndsAlike p dem other s) s.units
-      units-alike none =
-          each-weaker (IsHeldBefore p (length (x ∷ past))) (EndsAlike p dem other s) (ends-alike none) s.units
-          (subst (AllByRecursion (λ (span : Span). AllByRecursion (IsHeldBefore p (length (x ∷ past))) span.units)) l.spans (spans-held p lim dem (x ∷ past))).0
+      units-alike none = each-weaker (IsNow p dem (length past)) (EndsAlike p dem other s) (ends-alike none) s.units (l.now lim)
 
       -- the last span has the same notes by both demands
       span-same : ((i : ℕ) → dem i 0 ≡ other i 0) → span_notes p dem (ask dem) s ≡ span_notes p other (ask other) s
@@ -161,24 +157,25 @@ module _ (p : Plan) (lim : IsWithinLimits p) (dem other : ℕ → ℕ → ℕ) w
     unfolding notes_before_end
     before-end-none = refl
 
-    same-before-end : ((i : ℕ) → dem i 0 ≡ other i 0) → (n : ℕ) (ticks : List Tick) → length ticks ≤ n
-        → IsScheduleBy p dem (ask dem) ticks → Alike p dem other ticks (length ticks)
-        → notes_before_end p dem (ask dem) ticks ≡ notes_before_end p other (ask other) ticks
-    same-before-end none n [] le sched h = before-end-none
-    same-before-end none zero (x ∷ past) le sched h = absurd (omega (arith, le))
-    same-before-end none (suc n) (x ∷ past) le sched h =
-        let found = last-span p dem (ask dem) lim x past sched in
-        let s : Span = found.0 in
-        let l : IsLastSpan p dem (ask dem) lim x past s = found.1 in
-        notes-span p dem (ask dem) (x ∷ past) s.past s l.spans
-        ∙ (ap₂ (λ (ns ms : List Note). ns ++ ms)
-        (same-before-end none n s.past (omega (arith, le, l.shorter)) l.earlier (alike-then x past s l h (length s.past) (omega (arith, l.shorter))))
-        (span-same x past s l h none)
-        ∙ sym (notes-span p other (ask other) (x ∷ past) s.past s (spans-other x past s l h)))
+    same-before-end : ((i : ℕ) → dem i 0 ≡ other i 0) → (ticks : List Tick) → IsScheduleBy p dem (ask dem) ticks
+        → Alike p dem other ticks (length ticks) → notes_before_end p dem (ask dem) ticks ≡ notes_before_end p other (ask other) ticks
+    same-before-end none ticks sched = by-spans p dem (ask dem) Same (λ h. before-end-none) next ticks sched
+      where
+        Same : List Tick → Type 0
+        Same ticks = Alike p dem other ticks (length ticks) → notes_before_end p dem (ask dem) ticks ≡ notes_before_end p other (ask other) ticks
+
+        next : (x : Tick) (past : List Tick) (s : Span) → IsScheduleBy p dem (ask dem) (x ∷ past) → IsLastSpan p dem (ask dem) x past s
+            → Same s.past → Same (x ∷ past)
+        next x past s sched l ih h =
+            notes-span p dem (ask dem) (x ∷ past) s.past s l.spans
+            ∙ (ap₂ (λ (ns ms : List Note). ns ++ ms)
+            (ih (alike-then x past s l h (length s.past) (omega (arith, l.shorter))))
+            (span-same x past s l h none)
+            ∙ sym (notes-span p other (ask other) (x ∷ past) s.past s (spans-other x past s l h)))
 
     -- the schedule has the same notes by both demands
     pub same-notes : ((i : ℕ) → dem i 0 ≡ other i 0) → (ticks : List Tick) → IsScheduleBy p dem (ask dem) ticks → Alike p dem other ticks (length ticks)
         → notes_of p dem (ask dem) ticks ≡ notes_of p other (ask other) ticks
     same-notes none ticks sched h =
         ap (λ (notes : List Note). notes ++ End (length ticks) (sum_by energy_run notes) (sum_by energy_idle notes) ∷ [])
-        (same-before-end none (length ticks) ticks (omega arith) sched h)
+        (same-before-end none ticks sched h)

@@ -11,7 +11,7 @@ use Rattle.sched_model.specs.Decision.{completes_in, is_decision}
 use Rattle.sched_model.specs.Schedule.{entry_in_force}
 use Rattle.sched_model.specs.States.{StateOf, row_of, state_of}
 use Rattle.sched_model.specs.Admission.{IsWithinLimits}
-use Rattle.sched_model.proofs.HeldUnits.{latest-early}
+use Rattle.sched_model.proofs.Limits.{latest-early}
 use Rattle.sched_model.proofs.Service.{exec-drop}
 use Rattle.sched_model.proofs.Tables.{table-same}
 use Rattle.governor.specs.Schedule.{ask_of}

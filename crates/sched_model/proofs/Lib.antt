@@ -20,5 +20,8 @@ pub mod Weights
 pub mod SortedKeys
 pub mod Heaviest
 pub mod Service
-pub mod HeldUnits
+pub mod Units
+pub mod Spans
+pub mod Walk
 pub mod BeforeEnd
+pub mod NoteSums

@@ -1,5 +1,5 @@
 -- What the limits say of a plan's numbers.
-use Rattle.std.proofs.Common.{◌≡◌, inl, inr, ℕ, ◌+◌, ◌*◌, ◌/◌, ◌^◌, ◌<◌, ◌≤◌, get_or, arith, ap}
+use Rattle.std.proofs.Common.{◌≡◌, inl, inr, ℕ, ◌+◌, ◌*◌, ◌/◌, ◌^◌, ◌<◌, ◌≤◌, suc, get_or, arith, ap}
 use Rattle.std.specs.Prelude.{map}
 use Rattle.std.specs.List.{All}
 use Rattle.std.proofs.lemmas.List.{length-map, get_or-map}
@@ -11,9 +11,9 @@ use Rattle.task_model.specs.declared.limits.TheConstants.{LONGEST_PERIOD, LONGES
 use Rattle.task_model.specs.declared.task.Task.{Task}
 use Rattle.task_model.specs.Tasks.{no_task}
 use Rattle.sched_model.specs.Plan.{Plan, count, period, worst, hyper}
-use Rattle.sched_model.specs.Jobs.{deadline}
+use Rattle.sched_model.specs.Jobs.{latest, latest_since, deadline}
 use Rattle.sched_model.specs.Admission.{IsWithinLimits}
-use Rattle.sched_model.proofs.JobLaws.{due-within}
+use Rattle.sched_model.proofs.JobLaws.{due-within, latest_since-le, last_release-le}
 
 module _ (p : Plan) (lim : IsWithinLimits p) where
   pub some_task : 0 < count p
@@ -31,6 +31,10 @@ module _ (p : Plan) (lim : IsWithinLimits p) where
             let none : period p i ≡ 1 = ap (λ (t : Task). t.period) (get_or-eq_default p.tasks no_task past) in
             omega arith
       ]
+
+  -- the latest job was released by tick t
+  pub latest-early : (i t : ℕ) → i < count p → latest_since p i (latest p i t) < suc t
+  latest-early i t lt = omega (arith, latest_since-le p i t (every_period i) lt, last_release-le p t)
 
   pub low_period : (i : ℕ) → i < count p → period p i ≤ LONGEST_PERIOD
   low_period i h = (lim.tasks.each i h).low_period

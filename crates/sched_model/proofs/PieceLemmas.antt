@@ -1,5 +1,6 @@
 -- The segments of a list of units that grows at its end, and of a long run of one holder.
-use Rattle.std.proofs.Common.{◌≡◌, ℕ, zero, suc, ◌+◌, ◌<◌, Bool, true, false, List, [], ◌∷◌, ◌++◌, replicate, refl, arith, if◌then◌else◌, ap, ap₂, ◌∙◌, sym, subst, true≢false}
+use Rattle.std.proofs.Common.{◌≡◌, ℕ, zero, suc, ◌+◌, ◌<◌, Bool, true, false, List, [], ◌∷◌, ◌++◌, length, replicate, refl, arith, if◌then◌else◌, ap, ap₂, ◌∙◌, sym, subst, true≢false, length-append}
+use Rattle.std.proofs.lemmas.List.{length-replicate}
 use Rattle.std.proofs.lemmas.Bool.Decides.{nat_tests}
 use Rattle.std.specs.List.{AllByRecursion}
 use Rattle.sched_model.specs.declared.holder.Holder.{Holder}
@@ -78,6 +79,39 @@ pieces_of-run (suc n) h = ap (before_pieces h) (pieces_of-run n h) ∙ (rw (same
   where
     more : piece h (suc n + 1) ∷ [] ≡ piece h (suc (suc n)) ∷ []
     more = let e : suc n + 1 ≡ suc (suc n) = omega arith in ap (λ m. piece h m ∷ []) e
+
+-- the units of segments, laid out one after another
+abbrev pub laid : List Piece → List Holder
+laid [] = []
+laid (r ∷ rs) = replicate r.units r.holder ++ laid rs
+
+laid-before : (h : Holder) (rs : List Piece) → laid (before_pieces h rs) ≡ h ∷ laid rs
+laid-before h [] = refl
+laid-before h (r ∷ rs) = go (same_holder h r.holder) refl
+  where
+    go : (b : Bool) → same_holder h r.holder ≡ b → laid (if b then piece h (r.units + 1) ∷ rs else piece h 1 ∷ r ∷ rs) ≡ h ∷ laid (r ∷ rs)
+    go true e =
+        let more : r.units + 1 ≡ suc r.units = omega arith in
+        ap (λ n. replicate n h ++ laid rs) more ∙ ap (λ g. h ∷ (replicate r.units g ++ laid rs)) (same_holder-eq h r.holder e)
+    go false e = refl
+
+-- the units of the segments of some units are these units
+pub laid-pieces : (us : List Holder) → laid (pieces_of us) ≡ us
+laid-pieces [] = refl
+laid-pieces (h ∷ us) = laid-before h (pieces_of us) ∙ ap (λ hs. h ∷ hs) (laid-pieces us)
+
+-- how many units the segments have
+abbrev pub total : List Piece → ℕ
+total [] = 0
+total (r ∷ rs) = r.units + total rs
+
+total-laid : (rs : List Piece) → total rs ≡ length (laid rs)
+total-laid [] = refl
+total-laid (r ∷ rs) =
+    omega (arith, length-append (replicate r.units r.holder) (laid rs), length-replicate r.units r.holder, total-laid rs)
+
+pub total-pieces : (us : List Holder) → total (pieces_of us) ≡ length us
+total-pieces us = total-laid (pieces_of us) ∙ ap length (laid-pieces us)
 
 -- each piece has a unit
 abbrev pub HaveUnits : List Piece → Type 0

@@ -105,11 +105,15 @@ abbrev pub energy_idle : Note → ℕ
 energy_idle (Idle from to units energy) = energy
 energy_idle _ = 0
 
+-- the units that the tasks of a list get, one task after another; `job` is each task's job
+abbrev pub given_units : (ℕ → ℕ) → (ℕ → ℕ) → List ℕ → List Holder
+given_units given job tasks = flat_map (λ i. replicate (given i) (Held i (job i))) tasks
+
 -- the units of the tick x: each task's in priority order, then the idle ones
 abbrev pub tick_units : Plan → List Tick → Tick → List Holder
 tick_units p past x =
     let t = length past in
-    flat_map (λ i. replicate (share x i) (Held i (latest p i t))) (in_order (key_of p.scheduler p t) (count p))
+    given_units (share x) (λ i. latest p i t) (in_order (key_of p.scheduler p t) (count p))
     ++ replicate ((point p x.entry).speed - sum_below (count p) (share x)) Nobody
 
 -- the spans, with the units `us` added at the end of the last one

@@ -26,7 +26,7 @@ use Rattle.dvs_base.specs.NoteTasks.{energy_of_task}
 use Rattle.trace_reader.specs.TraceText.{task_text, task_energy, has_task_lines}
 use Rattle.trace_reader.specs.Traces.{IsNoteOf, is_end, IsEnded, lines_for_tasks, IsTrace}
 use Rattle.done_lines.specs.RunText.{task_texts}
-use Rattle.sched_model.proofs.HeldUnits.{each-weaker}
+use Rattle.sched_model.proofs.Units.{each-weaker}
 use Rattle.done_lines.proofs.OneEnd.{EndsOnce, schedule-ended}
 use Rattle.trace_limits.specs.RunTraces.{trace_of_run, IsLimitedRun, KeepsLimits}
 use Rattle.trace_limits.proofs.DemandWidths.{published-low}

@@ -1,0 +1,477 @@
+-- Sums over the notes of a schedule, tick by tick: what a tick adds to each.
+use Rattle.std.proofs.Common.{◌≡◌, ◌≢◌, ℕ, zero, suc, ◌+◌, ◌*◌, ◌<◌, ◌≤◌, Bool, true, false, ◌&&◌, List, [], ◌∷◌, ◌++◌, length, take, replicate, refl, arith, if◌then◌else◌, ap, ap₂, ◌∙◌, sym, true≢false, nat_eq, nat_le, append_assoc, append-nil, length-append}
+use Rattle.std.specs.Prelude.{count_by, sum_by, flat_map, cond}
+use Rattle.std.specs.List.{AllByRecursion}
+use Rattle.std.proofs.Math.Seq.{take-append_seam}
+use Rattle.std.proofs.lemmas.List.{length-replicate}
+use Rattle.std.proofs.lemmas.List.Concat.{flat_map-append}
+use Rattle.std.proofs.lemmas.List.Folds.{sum_by-replicate}
+use Rattle.std.proofs.lemmas.List.Sums.{sum_by-cons, sum_by-append}
+use Rattle.std.proofs.lemmas.Bool.Decides.{nat_tests}
+use Rattle.dvs_base.specs.declared.note.Note.{Note}
+use Rattle.dvs_base.specs.declared.note.Note.TheVariants.{Release, Done, Run, Idle, Speed}
+use Rattle.dvs_base.specs.declared.note.Pos.{Pos}
+use Rattle.grid_fraction.specs.declared.Frac.{Frac}
+use Rattle.grid_fraction.specs.Numbers.{sum_below, list_below}
+use Rattle.grid_fraction.proofs.Counts.{count-append, count-replicate}
+use Rattle.grid_fraction.proofs.Sums.{sum_below-same, sum_below-add, sum_below-zero, sum_below-one}
+use Rattle.sched_model.specs.declared.holder.Holder.{Holder}
+use Rattle.sched_model.specs.declared.holder.Holder.TheVariants.{Nobody, Held}
+use Rattle.sched_model.specs.Plan.{Plan, count, point}
+use Rattle.sched_model.specs.Jobs.{latest, releases_at}
+use Rattle.sched_model.specs.Ticks.{Tick, exec, is_done}
+use Rattle.sched_model.specs.Decision.{completes_in, is_decision}
+use Rattle.sched_model.specs.Schedule.{IsScheduleBy}
+use Rattle.sched_model.specs.Admission.{IsWithinLimits}
+use Rattle.sched_model.specs.Notes.{same_holder, Span, Piece, pieces_of, run_energy, idle_energy, release_notes, all_release_notes, had_by, segment_notes, pieces_notes, span_notes, tick_units, energy_run, energy_idle, notes_before_end}
+use Rattle.sched_model.specs.Totals.{is_finished}
+use Rattle.sched_model.proofs.Limits.{every_period}
+use Rattle.sched_model.proofs.NoteLemmas.{notes-span}
+use Rattle.sched_model.proofs.PieceLemmas.{HaveUnits, have_units, laid, laid-pieces}
+use Rattle.sched_model.proofs.Service.{exec-most}
+use Rattle.sched_model.proofs.Spans.{IsNow, IsLastSpan, last-span, grows, opened, none-released, stays, had-each}
+use Rattle.sched_model.proofs.Walk.{EachNote, at_unit, segments-each}
+
+-- the note says that job k of task i completes
+abbrev pub tells_done : ℕ → ℕ → Note → Bool
+tells_done i k (Done at_end j l used) = nat_eq i j && nat_eq k l
+tells_done i k _ = false
+
+-- a function of tasks and jobs has one value where the tests of both numbers pass
+pub same-numbers : (f : ℕ → ℕ → ℕ) (i j k l : ℕ) → (nat_eq i j && nat_eq k l) ≡ true → f j l ≡ f i k
+same-numbers f i j k l e =
+    let task : j ≡ i = grind (arith, nat_tests, e) in
+    let job : l ≡ k = grind (arith, nat_tests, e) in
+    ap₂ f task job
+
+-- a sum over the lists of the numbers below n is the sum of the sums over each
+pub sum-each : {A : Type 0} (f : A → ℕ) (lists : ℕ → List A) (n : ℕ)
+    → sum_by f (flat_map lists (list_below n (λ i. i))) ≡ sum_below n (λ i. sum_by f (lists i))
+sum-each f lists zero = refl
+sum-each f lists (suc n) =
+    ap (sum_by f) (flat_map-append lists (list_below n (λ i. i)) (n ∷ []))
+    ∙ (sum_by-append f (flat_map lists (list_below n (λ i. i))) (lists n ++ [])
+    ∙ ap₂ (λ a b. a + b) (sum-each f lists n) (ap (sum_by f) (append-nil (lists n))))
+
+-- 1 where what a job has had reaches its demand, else 0
+abbrev pub reached : ℕ → ℕ → ℕ
+reached need had = if nat_le need had then 1 else 0
+
+pub reached-all : (need had : ℕ) → need ≤ had → reached need had ≡ 1
+reached-all need had le = let e : nat_le need had ≡ true = grind (arith, nat_tests) in rw e refl
+
+pub reached-none : (need had : ℕ) → had < need → reached need had ≡ 0
+reached-none need had lt = let e : nat_le need had ≡ false = grind (arith, nat_tests) in rw e refl
+
+pub reached-up : (need had more : ℕ) → had ≤ more → reached need had ≤ reached need more
+reached-up need had more le = go (nat_le need had) refl (nat_le need more) refl
+  where
+    go : (a : Bool) → nat_le need had ≡ a → (b : Bool) → nat_le need more ≡ b → reached need had ≤ reached need more
+    go true e true f = rw (e, f) (omega arith)
+    go true e false f = absurd (true≢false (grind (arith, nat_tests)))
+    go false e b f = rw e (omega arith)
+
+-- 1 where job k of task i has had its demand in these ticks, else 0
+abbrev pub done_by : Plan → (ℕ → ℕ → ℕ) → ℕ → ℕ → List Tick → ℕ
+done_by p dem i k ticks = reached (dem i k) (exec p ticks i k)
+
+-- a unit weighs nothing
+abbrev pub nothing : ℕ → Holder → ℕ
+nothing e h = 0
+
+pub none-weighs : (us : List Holder) → sum_by (λ h. 0) us ≡ 0
+none-weighs [] = refl
+none-weighs (u ∷ us) = omega (arith, sum_by-cons (λ (h : Holder). 0) u us, none-weighs us)
+
+-- the completions of a job in a span
+module _ (p : Plan) (dem : ℕ → ℕ → ℕ) (s : Span) (i k : ℕ) where
+  -- what the job has had after the units `us` of the span
+  abbrev had_of : List Holder → ℕ
+  had_of us = exec p s.past i k + count_by (same_holder (Held i k)) us
+
+  had-more : (us : List Holder) (n : ℕ) (h : Holder) → had_of (us ++ replicate n h) ≡ had_of us + (if same_holder (Held i k) h then n else 0)
+  had-more us n h =
+      omega (arith, count-append (same_holder (Held i k)) us (replicate n h), count-replicate (same_holder (Held i k)) n h)
+
+  -- the notes of a segment have the completion where its units take the job to its demand
+  segment-told : (front : List Holder) (u : ℕ) (h : Holder) → 0 < u → had_by p s (length front + u) i k ≡ had_of (front ++ replicate u h)
+      → had_of (front ++ replicate u h) ≤ dem i k
+      → count_by (tells_done i k) (segment_notes p dem s (length front) u h) + reached (dem i k) (had_of front)
+      ≡ reached (dem i k) (had_of (front ++ replicate u h))
+  segment-told front u Nobody some now most =
+      let same : had_of (front ++ replicate u Nobody) ≡ had_of front = omega (arith, had-more front u Nobody) in
+      omega (arith, ap (reached (dem i k)) same)
+  segment-told front u (Held j l) some now most =
+      go (nat_eq i j && nat_eq k l) refl (nat_eq (had_by p s (length front + u) j l) (dem j l)) refl
+    where
+      next : List Holder
+      next = front ++ replicate u (Held j l)
+
+      told : Bool → ℕ
+      told b = count_by (tells_done i k) (if b then Done (at_unit p s (length front + u)) j l (dem j l) ∷ [] else [])
+
+      go : (a : Bool) → (nat_eq i j && nat_eq k l) ≡ a → (b : Bool) → nat_eq (had_by p s (length front + u) j l) (dem j l) ≡ b
+          → told b + reached (dem i k) (had_of front) ≡ reached (dem i k) (had_of next)
+      go true mine b e = at_end b e
+        where
+          rose : had_of next ≡ had_of front + u
+          rose = had-more front u (Held j l) ∙ ap (λ (c : Bool). had_of front + (if c then u else 0)) mine
+
+          before : reached (dem i k) (had_of front) ≡ 0
+          before = reached-none (dem i k) (had_of front) (omega (arith, rose, some, most))
+
+          is : nat_eq (had_of next) (dem i k) ≡ nat_eq (had_by p s (length front + u) j l) (dem j l)
+          is = ap₂ nat_eq (sym now ∙ sym (same-numbers (had_by p s (length front + u)) i j k l mine)) (sym (same-numbers dem i j k l mine))
+
+          at_end : (b : Bool) → nat_eq (had_by p s (length front + u) j l) (dem j l) ≡ b
+              → told b + reached (dem i k) (had_of front) ≡ reached (dem i k) (had_of next)
+          at_end true e =
+              let whole : had_of next ≡ dem i k = (let f = is ∙ e in grind (arith, nat_tests)) in
+              let one : told true ≡ 1 = rw mine refl in
+              omega (arith, one, before, reached-all (dem i k) (had_of next) (omega (arith, whole)))
+          at_end false e =
+              let part : had_of next < dem i k = (let f = is ∙ e in grind (arith, nat_tests, most)) in
+              omega (arith, before, reached-none (dem i k) (had_of next) part)
+      go false other b e = omega (arith, none b, ap (reached (dem i k)) kept)
+        where
+          kept : had_of next ≡ had_of front
+          kept = had-more front u (Held j l) ∙ (ap (λ (c : Bool). had_of front + (if c then u else 0)) other ∙ omega arith)
+
+          none : (b : Bool) → told b ≡ 0
+          none true = rw other refl
+          none false = refl
+
+  pieces-told : (front : List Holder) (rs : List Piece) → HaveUnits rs → s.units ≡ front ++ laid rs → had_of s.units ≤ dem i k
+      → count_by (tells_done i k) (pieces_notes p dem s (length front) rs) + reached (dem i k) (had_of front) ≡ reached (dem i k) (had_of s.units)
+  pieces-told front [] some e most = omega (arith, ap (λ us. reached (dem i k) (had_of us)) (e ∙ append-nil front))
+  pieces-told front (r ∷ rs) some e most = go long (pieces-told next rs some.1 units most)
+    where
+      next : List Holder
+      next = front ++ replicate r.units r.holder
+
+      long : length next ≡ length front + r.units
+      long = omega (arith, length-append front (replicate r.units r.holder), length-replicate r.units r.holder)
+
+      units : s.units ≡ next ++ laid rs
+      units = e ∙ sym (append_assoc front (replicate r.units r.holder) (laid rs))
+
+      now : had_by p s (length front + r.units) i k ≡ had_of next
+      now = ap (λ q. had_of (take q s.units)) (sym long) ∙ ap had_of (ap (take (length next)) units ∙ take-append_seam next (laid rs))
+
+      within : had_of next ≤ had_of s.units
+      within = omega (arith, ap had_of units, count-append (same_holder (Held i k)) next (laid rs))
+
+      go : length next ≡ length front + r.units
+          → count_by (tells_done i k) (pieces_notes p dem s (length next) rs) + reached (dem i k) (had_of next) ≡ reached (dem i k) (had_of s.units)
+          → count_by (tells_done i k) (pieces_notes p dem s (length front) (r ∷ rs)) + reached (dem i k) (had_of front)
+          ≡ reached (dem i k) (had_of s.units)
+      go long ih =
+          omega (
+            arith,
+            ih,
+            ap (λ q. count_by (tells_done i k) (pieces_notes p dem s q rs)) long,
+            count-append (tells_done i k) (segment_notes p dem s (length front) r.units r.holder) (pieces_notes p dem s (length front + r.units) rs),
+            segment-told front r.units r.holder some.0 now (omega (arith, within, most)),
+          )
+
+  -- the segments of a span have the completion once where what the job has had rises to its demand in them, else never
+  pub units-told : had_of s.units ≤ dem i k
+      → count_by (tells_done i k) (pieces_notes p dem s 0 (pieces_of s.units)) + reached (dem i k) (exec p s.past i k)
+      ≡ reached (dem i k) (had_of s.units)
+  units-told most =
+      let none : had_of [] ≡ exec p s.past i k = omega arith in
+      omega (arith, ap (reached (dem i k)) none, pieces-told [] (pieces_of s.units) (have_units s.units) (sym (laid-pieces s.units)) most)
+
+-- a completion is of one of the first n tasks, and of its job
+abbrev IsDoneOf : ℕ → (ℕ → ℕ) → Note → Type 0
+IsDoneOf n job (Done at_end i k used) = (i < n) × (k ≡ job i)
+IsDoneOf n job _ = Unit {0}
+
+-- where the completions are of one job of each task, all completions are the sum of the completions of each
+finished-each : (n : ℕ) (job : ℕ → ℕ) (notes : List Note) → AllByRecursion (IsDoneOf n job) notes
+    → count_by is_finished notes ≡ sum_below n (λ i. count_by (tells_done i (job i)) notes)
+finished-each n job [] all = sym (sum_below-zero n (λ i. 0) (λ i lt. refl))
+finished-each n job (note ∷ notes) all =
+    let own : ℕ → ℕ = λ i. cond (tells_done i (job i) note) 1 0 in
+    let rest : ℕ → ℕ = λ i. count_by (tells_done i (job i)) notes in
+    sum_by-cons (λ m. cond (is_finished m) 1 0) note notes
+    ∙ (ap₂ (λ a b. a + b) (one note all.0) (finished-each n job notes all.1)
+    ∙ (sym (sum_below-add n own rest)
+    ∙ sum_below-same n (λ i. own i + rest i) (λ i. count_by (tells_done i (job i)) (note ∷ notes))
+    (λ i lt. sym (sum_by-cons (λ m. cond (tells_done i (job i) m) 1 0) note notes))))
+  where
+    one : (note : Note) → IsDoneOf n job note → cond (is_finished note) 1 0 ≡ sum_below n (λ i. cond (tells_done i (job i) note) 1 0)
+    one (Done at_end j l used) h =
+        sym (sum_below-one n j (λ i. cond (nat_eq i j && nat_eq (job i) l) 1 0) h.0 (λ i lt ne. off i ne (nat_eq i j) refl) ∙ on)
+      where
+        off : (i : ℕ) → i ≢ j → (b : Bool) → nat_eq i j ≡ b → ◌≡◌ {A = ℕ} (cond (nat_eq i j && nat_eq (job i) l) 1 0) 0
+        off i ne true e = absurd (ne (grind (arith, nat_tests)))
+        off i ne false e = rw e refl
+
+        on : ◌≡◌ {A = ℕ} (cond (nat_eq j j && nat_eq (job j) l) 1 0) 1
+        on =
+            let self : nat_eq j j ≡ true = grind (arith, nat_tests) in
+            let job_is : nat_eq (job j) l ≡ true = (let e = h.1 in grind (arith, nat_tests)) in
+            rw (self, job_is) refl
+    one _ h = sym (sum_below-zero n (λ i. 0) (λ i lt. refl))
+
+module _ (p : Plan) (dem : ℕ → ℕ → ℕ) (ask : List Tick → Frac) where
+  abbrev notes : List Tick → List Note
+  notes = notes_before_end p dem ask
+
+  pub none-sum : (f : Note → ℕ) → sum_by f (notes_before_end p dem ask []) ≡ 0
+  unfolding notes_before_end
+  none-sum f = refl
+
+  -- where there is no decision, no note tells a release
+  none-at : (f : Note → ℕ) (past : List Tick) → is_decision p dem past ≡ false → sum_by f (all_release_notes p dem (length past)) ≡ 0
+  none-at f past e =
+      sum-each f (release_notes p dem (length past)) (count p)
+      ∙ sum_below-zero (count p) (λ i. sum_by f (release_notes p dem (length past) i)) (λ i lt. none i (none-released p dem past e i lt))
+    where
+      none : (i : ℕ) → releases_at p i (length past) ≡ false → sum_by f (release_notes p dem (length past) i) ≡ 0
+      none i off = rw off refl
+
+  -- the segments of a span add to `f` the weights of its units, and what `done` rises by from its beginning to its end;
+  -- `done` looks at the jobs that are the latest at a tick
+  pub record Measures (f : Note → ℕ) (weight : ℕ → Holder → ℕ) (done : ℕ → List Tick → ℕ) : Type 0 where
+    pub segments : (x : Tick) (past : List Tick) (s : Span) → IsScheduleBy p dem ask (x ∷ past) → IsLastSpan p dem ask x past s
+        → sum_by f (pieces_notes p dem s 0 (pieces_of s.units)) + done (length past) s.past
+        ≡ sum_by (weight s.entry) s.units + done (length past) (x ∷ past)
+    pub still : (y : Tick) (past ticks : List Tick) → is_decision p dem (y ∷ past) ≡ false → done (length (y ∷ past)) ticks ≡ done (length past) ticks
+
+  module _ (f : Note → ℕ) where
+    -- the measure of the note of the decision of a span
+    abbrev decision : Span → ℕ
+    decision s = f (Speed (length s.past) ((point p s.entry).speed) ((ask s.past).num) ((ask s.past).den))
+
+    pub span-sum : (x : Tick) (past : List Tick) (s : Span) → IsLastSpan p dem ask x past s
+        → sum_by f (notes (x ∷ past))
+        ≡ sum_by f (notes s.past) + sum_by f (all_release_notes p dem (length s.past)) + decision s + sum_by f (pieces_notes p dem s 0 (pieces_of s.units))
+    span-sum x past s l =
+        let speed : Note = Speed (length s.past) ((point p s.entry).speed) ((ask s.past).num) ((ask s.past).den) in
+        let segments : List Note = pieces_notes p dem s 0 (pieces_of s.units) in
+        ap (sum_by f) (notes-span p dem ask (x ∷ past) s.past s l.spans)
+        ∙ omega (
+          arith,
+          sum_by-append f (notes s.past) (span_notes p dem ask s),
+          sum_by-append f (all_release_notes p dem (length s.past)) (speed ∷ segments),
+          sum_by-cons f speed segments,
+        )
+
+    -- the measure of what is told at the beginning of tick x: the releases, and a decision
+    abbrev pub told_at : List Tick → Tick → ℕ
+    told_at past x =
+        sum_by f (all_release_notes p dem (length past))
+        + (if is_decision p dem past then f (Speed (length past) ((point p x.entry).speed) ((ask past).num) ((ask past).den)) else 0)
+
+    -- what tick x adds to the sum over the notes: what is told at its beginning, its units, and what is done in it
+    pub next-sum : (weight : ℕ → Holder → ℕ) (done : ℕ → List Tick → ℕ) → Measures f weight done
+        → (x : Tick) (past : List Tick) → IsScheduleBy p dem ask (x ∷ past)
+        → sum_by f (notes (x ∷ past)) + done (length past) past
+        ≡ sum_by f (notes past) + told_at past x + sum_by (weight x.entry) (tick_units p past x) + done (length past) (x ∷ past)
+    next-sum weight done m x [] h =
+        let s : Span = record { past = []; entry = x.entry; units = tick_units p [] x } in
+        let l = opened p dem ask x [] tt h.1 refl in
+        omega (arith, span-sum x [] s l, m.segments x [] s h l)
+    next-sum weight done m x (y ∷ past) h = go (is_decision p dem (y ∷ past)) refl
+      where
+        go : (b : Bool) → is_decision p dem (y ∷ past) ≡ b
+            → sum_by f (notes (x ∷ y ∷ past)) + done (length (y ∷ past)) (y ∷ past)
+            ≡ sum_by f (notes (y ∷ past)) + told_at (y ∷ past) x + sum_by (weight x.entry) (tick_units p (y ∷ past) x)
+            + done (length (y ∷ past)) (x ∷ y ∷ past)
+        go true e =
+            let s : Span = record { past = y ∷ past; entry = x.entry; units = tick_units p (y ∷ past) x } in
+            let l = opened p dem ask x (y ∷ past) h.0 h.1 e in
+            rw e (omega (arith, span-sum x (y ∷ past) s l, m.segments x (y ∷ past) s h l))
+        go false e =
+            let (s, l) = last-span p dem ask y past h.0 in
+            let us : List Holder = tick_units p (y ∷ past) x in
+            let longer : Span = record { past = s.past; entry = s.entry; units = s.units ++ us } in
+            let k = grows p dem ask x y past s l h e in
+            rw e (
+            omega (
+              arith,
+              span-sum y past s l,
+              span-sum x (y ∷ past) longer k,
+              m.segments y past s h.0 l,
+              m.segments x (y ∷ past) longer h k,
+              m.still y past s.past e,
+              m.still y past (y ∷ past) e,
+              none-at f (y ∷ past) e,
+              sum_by-append (weight s.entry) s.units us,
+              ap (λ entry. sum_by (weight entry) us) k.force,
+            )
+            )
+
+  -- the measure of a segment at an entry is its units times the weight of one of them there; that of a completion is 0
+  pub record Weighs (f : Note → ℕ) (weight : ℕ → Holder → ℕ) : Type 0 where
+    pub run : (from to : Pos) (i k units e : ℕ) → f (Run from to i k units (run_energy p e units)) ≡ units * weight e (Held i k)
+    pub idle : (from to : Pos) (units e : ℕ) → f (Idle from to units (idle_energy p e units)) ≡ units * weight e Nobody
+    pub done : (at_end : Pos) (i k used : ℕ) → f (Done at_end i k used) ≡ 0
+
+  module _ (f : Note → ℕ) (weight : ℕ → Holder → ℕ) (w : Weighs f weight) (s : Span) where
+    segment-sum : (q units : ℕ) (h : Holder) → sum_by f (segment_notes p dem s q units h) ≡ units * weight s.entry h
+    segment-sum q units Nobody = omega (arith, w.idle (at_unit p s q) (at_unit p s (q + units)) units s.entry)
+    segment-sum q units (Held i k) = go (nat_eq (had_by p s (q + units) i k) (dem i k))
+      where
+        run : Note
+        run = Run (at_unit p s q) (at_unit p s (q + units)) i k units (run_energy p s.entry units)
+
+        go : (b : Bool) → sum_by f (run ∷ (if b then Done (at_unit p s (q + units)) i k (dem i k) ∷ [] else [])) ≡ units * weight s.entry (Held i k)
+        go false = omega (arith, w.run (at_unit p s q) (at_unit p s (q + units)) i k units s.entry)
+        go true =
+            omega (
+              arith,
+              w.run (at_unit p s q) (at_unit p s (q + units)) i k units s.entry,
+              w.done (at_unit p s (q + units)) i k (dem i k),
+            )
+
+    pieces-sum : (q : ℕ) (rs : List Piece) → sum_by f (pieces_notes p dem s q rs) ≡ sum_by (weight s.entry) (laid rs)
+    pieces-sum q [] = refl
+    pieces-sum q (r ∷ rs) =
+        omega (
+          arith,
+          sum_by-append f (segment_notes p dem s q r.units r.holder) (pieces_notes p dem s (q + r.units) rs),
+          sum_by-append (weight s.entry) (replicate r.units r.holder) (laid rs),
+          sum_by-replicate (weight s.entry) r.units r.holder,
+          segment-sum q r.units r.holder,
+          pieces-sum (q + r.units) rs,
+        )
+
+  pub weights : (f : Note → ℕ) (weight : ℕ → Holder → ℕ) → Weighs f weight → Measures f weight (λ t ticks. 0)
+  weights f weight w = record {
+    segments = λ x past s h l.
+        omega (arith, pieces-sum f weight w s 0 (pieces_of s.units), ap (sum_by (weight s.entry)) (laid-pieces s.units));
+    still = λ y past ticks e. refl;
+  }
+
+  -- a measure of segments alone: it is 0 for releases and decisions
+  pub record IsOfSegments (f : Note → ℕ) : Type 0 where
+    pub release : (tick i k : ℕ) → f (Release tick i k) ≡ 0
+    pub speed : (tick speed num den : ℕ) → f (Speed tick speed num den) ≡ 0
+
+  -- a tick adds the weights of its units to the measure of the segments
+  pub segments-next : (f : Note → ℕ) (weight : ℕ → Holder → ℕ) → Weighs f weight → IsOfSegments f
+      → (x : Tick) (past : List Tick) → IsScheduleBy p dem ask (x ∷ past)
+      → sum_by f (notes (x ∷ past)) ≡ sum_by f (notes past) + sum_by (weight x.entry) (tick_units p past x)
+  segments-next f weight w o x past h =
+      omega (arith, next-sum f weight (λ t ticks. 0) (weights f weight w) x past h, released, decided (is_decision p dem past))
+    where
+      t : ℕ
+      t = length past
+
+      told : (i : ℕ) (a b : Bool) → sum_by f (if a then Release t i (latest p i t)
+          ∷ (if b then Done (record { tick = t; offset = 0 }) i (latest p i t) 0 ∷ [] else []) else []) ≡ 0
+      told i false b = refl
+      told i true false = omega (arith, o.release t i (latest p i t))
+      told i true true = omega (arith, o.release t i (latest p i t), w.done (record { tick = t; offset = 0 }) i (latest p i t) 0)
+
+      released : sum_by f (all_release_notes p dem t) ≡ 0
+      released =
+          sum-each f (release_notes p dem t) (count p)
+          ∙ sum_below-zero (count p) (λ i. sum_by f (release_notes p dem t i)) (λ i lt. told i (releases_at p i t) (nat_eq (dem i (latest p i t)) 0))
+
+      decided : (b : Bool) → (if b then f (Speed t ((point p x.entry).speed) ((ask past).num) ((ask past).den)) else 0) ≡ 0
+      decided true = o.speed t ((point p x.entry).speed) ((ask past).num) ((ask past).den)
+      decided false = refl
+
+  -- the energies of segments, by the voltage of their entry
+  abbrev pub running : ℕ → Holder → ℕ
+  running e Nobody = 0
+  running e (Held i k) = (point p e).millivolts * (point p e).millivolts * 1000
+
+  abbrev pub idling : ℕ → Holder → ℕ
+  idling e Nobody = (point p e).millivolts * (point p e).millivolts * p.machine.idle
+  idling e (Held i k) = 0
+
+  pub run-next : (x : Tick) (past : List Tick) → IsScheduleBy p dem ask (x ∷ past)
+      → sum_by energy_run (notes (x ∷ past)) ≡ sum_by energy_run (notes past) + sum_by (running x.entry) (tick_units p past x)
+  run-next =
+      segments-next energy_run running
+      (record { run = λ from to i k units e. omega arith; idle = λ from to units e. omega arith; done = λ at_end i k used. refl })
+      (record { release = λ tick i k. refl; speed = λ tick speed num den. refl })
+
+  pub idle-next : (x : Tick) (past : List Tick) → IsScheduleBy p dem ask (x ∷ past)
+      → sum_by energy_idle (notes (x ∷ past)) ≡ sum_by energy_idle (notes past) + sum_by (idling x.entry) (tick_units p past x)
+  idle-next =
+      segments-next energy_idle idling
+      (record { run = λ from to i k units e. omega arith; idle = λ from to units e. omega arith; done = λ at_end i k used. refl })
+      (record { release = λ tick i k. refl; speed = λ tick speed num den. refl })
+
+  -- the completions of one job
+  pub tells-job : IsWithinLimits p → (i k : ℕ) → i < count p → 1 ≤ k → Measures (λ note. cond (tells_done i k note) 1 0) nothing (λ t. done_by p dem i k)
+  tells-job lim i k lt some = record {
+    segments = λ x past s h l.
+        let now = l.had lim i k lt some in
+        omega (
+          arith,
+          none-weighs s.units,
+          units-told p dem s i k (omega (arith, now, exec-most p dem ask (x ∷ past) h i k lt)),
+          ap (reached (dem i k)) now,
+        );
+    still = λ y past ticks e. refl;
+  }
+
+  -- how many of the jobs that are the latest at tick t have had their demand in these ticks
+  abbrev pub all_done : ℕ → List Tick → ℕ
+  all_done t ticks = sum_below (count p) (λ i. done_by p dem i (latest p i t) ticks)
+
+  -- all completions, where job 0 of each task needs nothing
+  pub tells-all : IsWithinLimits p → ((i : ℕ) → dem i 0 ≡ 0) → Measures (λ note. cond (is_finished note) 1 0) nothing all_done
+  tells-all lim needless = record {
+    segments = segments;
+    still = λ y past ticks e. sum_below-same (count p) _ _ (λ i lt. ap (λ k. done_by p dem i k ticks) (stays p dem (every_period p lim) y past e i lt));
+  }
+    where
+      segments : (x : Tick) (past : List Tick) (s : Span) → IsScheduleBy p dem ask (x ∷ past) → IsLastSpan p dem ask x past s
+          → count_by is_finished (pieces_notes p dem s 0 (pieces_of s.units)) + all_done (length past) s.past
+          ≡ sum_by (λ h. 0) s.units + all_done (length past) (x ∷ past)
+      segments x past s h l =
+          let told : List Note = pieces_notes p dem s 0 (pieces_of s.units) in
+          let ends : ℕ → ℕ = λ i. count_by (tells_done i (job i)) told in
+          let before : ℕ → ℕ = λ i. done_by p dem i (job i) s.past in
+          omega (
+            arith,
+            none-weighs s.units,
+            finished-each (count p) job told (segments-each p dem ask (IsDoneOf (count p) job) (IsNow p dem (length past)) s each (l.now lim)),
+            sum_below-add (count p) ends before,
+            sum_below-same (count p) (λ i. ends i + before i) (λ i. done_by p dem i (job i) (x ∷ past)) own,
+          )
+        where
+          job : ℕ → ℕ
+          job i = latest p i (length past)
+
+          each : EachNote p dem ask (IsDoneOf (count p) job) (IsNow p dem (length past)) s
+          each = record {
+            release = λ i lt. tt;
+            empty = λ i lt none. (lt, sym (l.same lim i (length past) lt l.shorter (omega arith)));
+            decision = tt;
+            idle = λ q units le. tt;
+            run = λ q units i k le now. tt;
+            done = λ q i k le now whole. (now.0, now.1);
+          }
+
+          own : (i : ℕ) → i < count p
+              → count_by (tells_done i (job i)) (pieces_notes p dem s 0 (pieces_of s.units)) + done_by p dem i (job i) s.past ≡ done_by p dem i (job i) (x ∷ past)
+          own i lt =
+              let now = had-each p dem ask lim needless x past s l i (job i) lt in
+              units-told p dem s i (job i) (omega (arith, now, exec-most p dem ask (x ∷ past) h i (job i) lt)) ∙ ap (reached (dem i (job i))) (sym now)
+
+  -- the latest jobs that have had their demand after tick x are those before it and those that complete in it
+  pub all_done-next : (x : Tick) (past : List Tick)
+      → all_done (length past) (x ∷ past) ≡ all_done (length past) past + sum_below (count p) (λ i. if completes_in p dem x past i then 1 else 0)
+  all_done-next x past =
+      sum_below-same (count p) (λ i. done_by p dem i (job i) (x ∷ past)) (λ i. done_by p dem i (job i) past + (if completes_in p dem x past i then 1 else 0))
+      (λ i lt. one i (is_done p dem past i (job i)) refl (is_done p dem (x ∷ past) i (job i)) refl)
+      ∙ sum_below-add (count p) (λ i. done_by p dem i (job i) past) (λ i. if completes_in p dem x past i then 1 else 0)
+    where
+      job : ℕ → ℕ
+      job i = latest p i (length past)
+
+      one : (i : ℕ) (a : Bool) → is_done p dem past i (job i) ≡ a → (b : Bool) → is_done p dem (x ∷ past) i (job i) ≡ b
+          → done_by p dem i (job i) (x ∷ past) ≡ done_by p dem i (job i) past + (if completes_in p dem x past i then 1 else 0)
+      one i true e true f = rw (e, f) refl
+      one i true e false f = absurd (grind (arith, nat_tests))
+      one i false e true f = rw (e, f) refl
+      one i false e false f = rw (e, f) refl

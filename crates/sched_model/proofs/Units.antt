@@ -1,0 +1,165 @@
+-- The units of a tick: how many there are, who holds them, and what they add to what a job has had.
+use Rattle.std.proofs.Common.{◌≡◌, ◌≢◌, ℕ, suc, ◌+◌, ◌-◌, ◌*◌, ◌<◌, ◌≤◌, min, Bool, true, false, ◌&&◌, List, [], ◌∷◌, zero, length, replicate, refl, arith, if◌then◌else◌, ap, ◌∙◌, sym, subst, true≢false, nat_eq, length-append}
+use Rattle.std.specs.Prelude.{count_by, sum_by, cond}
+use Rattle.std.specs.List.{AllByRecursion}
+use Rattle.std.proofs.lemmas.List.{length-replicate}
+use Rattle.std.proofs.lemmas.List.Folds.{sum_by-replicate}
+use Rattle.std.proofs.lemmas.List.Sums.{sum_by-append}
+use Rattle.std.proofs.lemmas.Bool.Decides.{nat_tests}
+use Rattle.grid_fraction.specs.declared.Frac.{Frac}
+use Rattle.grid_fraction.specs.Numbers.{sum_below, sum_where}
+use Rattle.grid_fraction.proofs.Sums.{sum_below-one, sum_below-same}
+use Rattle.sched_model.specs.declared.holder.Holder.{Holder}
+use Rattle.sched_model.specs.declared.holder.Holder.TheVariants.{Nobody, Held}
+use Rattle.sched_model.specs.Plan.{Plan, count, point, period}
+use Rattle.sched_model.specs.Jobs.{latest, release, due, is_in_window}
+use Rattle.sched_model.specs.Ticks.{Tick, exec, share, left}
+use Rattle.sched_model.specs.Priority.{key_of, in_order}
+use Rattle.sched_model.specs.Schedule.{IsNext}
+use Rattle.sched_model.specs.Notes.{same_holder, given_units, tick_units}
+use Rattle.sched_model.proofs.OrderLemmas.{sum_list, sum_list-in_order, AreBelow, in_order-below}
+use Rattle.sched_model.proofs.DownSets.{down-set-gets}
+use Rattle.sched_model.proofs.LevelSums.{sum_below-times}
+use Rattle.sched_model.proofs.JobLaws.{latest-is, release-le, lt-due}
+use Rattle.trace_text.proofs.PlainLines.{each-append, each-replicate}
+
+-- what follows from a fact of each element is a fact of each element
+pub each-weaker : {A : Type 0} (P Q : A → Type 0) → ((x : A) → P x → Q x) → (xs : List A) → AllByRecursion P xs → AllByRecursion Q xs
+each-weaker P Q h [] all = tt
+each-weaker P Q h (x ∷ xs) all = (h x all.0, each-weaker P Q h xs all.1)
+
+-- what holds of the job of each task of a list that gets units holds of the units that these tasks get
+each-given : (P : Holder → Type 0) (given job : ℕ → ℕ) (n : ℕ) (tasks : List ℕ) → AreBelow n tasks
+    → ((i : ℕ) → i < n → 0 < given i → P (Held i (job i))) → AllByRecursion P (given_units given job tasks)
+each-given P given job n [] below h = tt
+each-given P given job n (i ∷ tasks) below h =
+    each-append P (replicate (given i) (Held i (job i))) (given_units given job tasks) (own (given i) refl) (each-given P given job n tasks below.1 h)
+  where
+    own : (m : ℕ) → given i ≡ m → AllByRecursion P (replicate m (Held i (job i)))
+    own zero e = tt
+    own (suc m) e = each-replicate P (suc m) (Held i (job i)) (h i below.0 (omega (arith, e)))
+
+given-long : (given job : ℕ → ℕ) (tasks : List ℕ) → length (given_units given job tasks) ≡ sum_list given tasks
+given-long given job [] = refl
+given-long given job (i ∷ tasks) =
+    omega (
+      arith,
+      length-append (replicate (given i) (Held i (job i))) (given_units given job tasks),
+      length-replicate (given i) (Held i (job i)),
+      given-long given job tasks,
+    )
+
+-- each unit of a task's job adds the weight of that job to a sum
+given-sum : (weight : Holder → ℕ) (given job : ℕ → ℕ) (tasks : List ℕ)
+    → sum_by weight (given_units given job tasks) ≡ sum_list (λ i. given i * weight (Held i (job i))) tasks
+given-sum weight given job [] = refl
+given-sum weight given job (i ∷ tasks) =
+    omega (
+      arith,
+      sum_by-append weight (replicate (given i) (Held i (job i))) (given_units given job tasks),
+      sum_by-replicate weight (given i) (Held i (job i)),
+      given-sum weight given job tasks,
+    )
+
+-- the tick x after `past`
+module _ (p : Plan) (past : List Tick) (x : Tick) where
+  abbrev key : ℕ → ℕ
+  key = key_of p.scheduler p (length past)
+
+  abbrev job : ℕ → ℕ
+  job i = latest p i (length past)
+
+  -- how many units are idle
+  abbrev idle : ℕ
+  idle = (point p x.entry).speed - sum_below (count p) (share x)
+
+  -- the units of a tick are idle, or held by the latest jobs
+  pub each-unit : (P : Holder → Type 0) → ((i : ℕ) → i < count p → 0 < share x i → P (Held i (latest p i (length past)))) → P Nobody
+      → AllByRecursion P (tick_units p past x)
+  each-unit P own none =
+      each-append P (given_units (share x) job (in_order key (count p))) (replicate idle Nobody)
+      (each-given P (share x) job (count p) (in_order key (count p)) (in_order-below key (count p)) own) (each-replicate P idle Nobody none)
+
+  pub units-sum : (weight : Holder → ℕ)
+      → sum_by weight (tick_units p past x)
+      ≡ sum_below (count p) (λ i. share x i * weight (Held i (latest p i (length past))))
+      + ((point p x.entry).speed - sum_below (count p) (share x)) * weight Nobody
+  units-sum weight =
+      omega (
+        arith,
+        sum_by-append weight (given_units (share x) job (in_order key (count p))) (replicate idle Nobody),
+        sum_by-replicate weight idle Nobody,
+        given-sum weight (share x) job (in_order key (count p)),
+        sum_list-in_order (λ i. share x i * weight (Held i (job i))) key (count p),
+      )
+
+  -- the weight of a tick's units, where all jobs' units weigh the same
+  pub units-weight : (weight : Holder → ℕ) (unit : ℕ) → ((i k : ℕ) → weight (Held i k) ≡ unit)
+      → sum_by weight (tick_units p past x)
+      ≡ sum_below (count p) (share x) * unit + ((point p x.entry).speed - sum_below (count p) (share x)) * weight Nobody
+  units-weight weight unit same =
+      units-sum weight
+      ∙ omega (
+        arith,
+        sum_below-same (count p) (λ i. share x i * weight (Held i (job i))) (λ i. unit * share x i)
+            (λ i lt. omega (arith, ap (λ w. share x i * w) (same i (job i)))),
+        sum_below-times (count p) unit (share x),
+      )
+
+  -- the units of a job are its task's share where it is the latest job, else none
+  units-own : (i k : ℕ) → i < count p
+      → count_by (same_holder (Held i k)) (tick_units p past x) ≡ (if nat_eq k (latest p i (length past)) then share x i else 0)
+  units-own i k lt =
+      units-sum (λ h. cond (same_holder (Held i k) h) 1 0)
+      ∙ omega (arith, sum_below-one (count p) i own lt (λ j l ne. off j ne (nat_eq i j) refl), on (nat_eq k (job i)) refl)
+    where
+      own : ℕ → ℕ
+      own j = share x j * cond (nat_eq i j && nat_eq k (job j)) 1 0
+
+      off : (j : ℕ) → j ≢ i → (b : Bool) → nat_eq i j ≡ b → own j ≡ 0
+      off j ne true e = absurd (ne (grind (arith, nat_tests)))
+      off j ne false e = rw e (omega arith)
+
+      on : (b : Bool) → nat_eq k (job i) ≡ b → own i ≡ (if nat_eq k (job i) then share x i else 0)
+      on true e = let self : nat_eq i i ≡ true = grind (arith, nat_tests) in rw (self, e) (omega arith)
+      on false e = let self : nat_eq i i ≡ true = grind (arith, nat_tests) in rw (self, e) (omega arith)
+
+  -- a tick adds the job's units in it to what the job has had
+  pub units-had : ((i : ℕ) → 0 < period p i) → (i k : ℕ) → i < count p → 1 ≤ k
+      → exec p (x ∷ past) i k ≡ exec p past i k + count_by (same_holder (Held i k)) (tick_units p past x)
+  units-had periods i k lt some_job = omega (arith, units-own i k lt, mine (is_in_window p i k (length past)) refl (nat_eq k (job i)) refl)
+    where
+      mine : (b : Bool) → is_in_window p i k (length past) ≡ b → (c : Bool) → nat_eq k (job i) ≡ c
+          → (if is_in_window p i k (length past) then share x i else 0) ≡ (if nat_eq k (job i) then share x i else 0)
+      mine true e true f = rw (e, f) refl
+      mine false e false f = rw (e, f) refl
+      mine true e false f =
+          let is = latest-is p i k (length past) (grind (arith, nat_tests)) (grind (arith, nat_tests)) in
+          absurd (true≢false (grind (arith, nat_tests)))
+      mine false e true f =
+          let same : k ≡ job i = grind (arith, nat_tests) in
+          let low : release p i k ≤ length past =
+          subst (λ m. release p i m ≤ length past) (sym same) (release-le p i (length past) (periods i) (omega (arith, same, some_job))) in
+          let high : length past < due p i k = subst (λ m. length past < due p i m) (sym same) (lt-due p i (length past) (periods i)) in
+          absurd (true≢false (grind (arith, nat_tests)))
+
+module _ (p : Plan) (dem : ℕ → ℕ → ℕ) (ask : List Tick → Frac) (past : List Tick) (x : Tick) (next : IsNext p dem ask past x) where
+  -- a legal tick gives at most its speed
+  pub shares-fit : sum_below (count p) (share x) ≤ (point p x.entry).speed
+  shares-fit =
+      let all : sum_where (count p) (λ j. true) (share x) ≡ min ((point p x.entry).speed) (sum_where (count p) (λ j. true) (left p dem past)) =
+      down-set-gets (count p) (key_of p.scheduler p (length past)) (λ j. true) ((point p x.entry).speed) (left p dem past) (share x)
+      (λ j i lj li b on. refl) next.legal in
+      omega (arith, all)
+
+  -- a legal tick has as many units as its speed
+  pub units-long : length (tick_units p past x) ≡ (point p x.entry).speed
+  units-long =
+      omega (
+        arith,
+        length-append (given_units (share x) (job p past x) (in_order (key p past x) (count p))) (replicate (idle p past x) Nobody),
+        length-replicate (idle p past x) Nobody,
+        given-long (share x) (job p past x) (in_order (key p past x) (count p)),
+        sum_list-in_order (share x) (key p past x) (count p),
+        shares-fit,
+      )

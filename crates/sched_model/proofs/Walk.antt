@@ -1,0 +1,112 @@
+-- One walk over the notes of a schedule: a fact of each kind of note is a fact of all its notes.
+use Rattle.std.proofs.Common.{◌≡◌, ℕ, zero, suc, ◌+◌, ◌<◌, ◌≤◌, Bool, true, false, List, [], ◌∷◌, ◌++◌, length, flat_map, refl, arith, if◌then◌else◌, sym, subst, nat_eq}
+use Rattle.std.specs.List.{AllByRecursion}
+use Rattle.std.proofs.lemmas.Grind.{flat_map-append}
+use Rattle.std.proofs.lemmas.Bool.Decides.{nat_tests}
+use Rattle.dvs_base.specs.declared.note.Note.{Note}
+use Rattle.dvs_base.specs.declared.note.Note.TheVariants.{Release, Done, Run, Idle, Speed}
+use Rattle.dvs_base.specs.declared.note.Pos.{Pos}
+use Rattle.grid_fraction.specs.declared.Frac.{Frac}
+use Rattle.grid_fraction.specs.Numbers.{list_below}
+use Rattle.sched_model.specs.declared.holder.Holder.{Holder}
+use Rattle.sched_model.specs.declared.holder.Holder.TheVariants.{Nobody, Held}
+use Rattle.sched_model.specs.Plan.{Plan, count, point}
+use Rattle.sched_model.specs.Jobs.{latest, releases_at}
+use Rattle.sched_model.specs.Ticks.{Tick, exec}
+use Rattle.sched_model.specs.Schedule.{IsScheduleBy}
+use Rattle.sched_model.specs.Admission.{IsWithinLimits}
+use Rattle.sched_model.specs.Notes.{Span, Piece, pieces_of, position_of, run_energy, idle_energy, release_notes, all_release_notes, had_by, segment_notes, pieces_notes, span_notes, notes_before_end}
+use Rattle.sched_model.proofs.NoteLemmas.{notes-span}
+use Rattle.sched_model.proofs.PieceLemmas.{each-piece, total, total-pieces}
+use Rattle.sched_model.proofs.Spans.{IsNow, IsLastSpan, by-spans}
+use Rattle.trace_text.proofs.PlainLines.{each-append}
+
+-- what holds of the notes of each number below n holds of the notes of all of them
+each-flat : (P : Note → Type 0) (n : ℕ) (f : ℕ → List Note) → ((i : ℕ) → i < n → AllByRecursion P (f i))
+    → AllByRecursion P (flat_map f (list_below n (λ i. i)))
+each-flat P zero f h = tt
+each-flat P (suc n) f h =
+    subst (AllByRecursion P) (sym (flat_map-append f (list_below n (λ i. i)) (n ∷ [])))
+    (each-append P (flat_map f (list_below n (λ i. i))) (f n ++ [])
+    (each-flat P n f (λ i lt. h i (omega (arith, lt)))) (each-append P (f n) [] (h n (omega arith)) tt))
+
+-- the position where unit number q of a span begins
+abbrev pub at_unit : Plan → Span → ℕ → Pos
+at_unit p s = position_of (length s.past) ((point p s.entry).speed)
+
+module _ (p : Plan) (dem : ℕ → ℕ → ℕ) (ask : List Tick → Frac) where
+  -- a fact of each kind of note of a span whose units have such holders
+  pub record EachNote (P : Note → Type 0) (IsHolder : Holder → Type 0) (s : Span) : Type 0 where
+    pub release : (i : ℕ) → i < count p → P (Release (length s.past) i (latest p i (length s.past)))
+    pub empty : (i : ℕ) → i < count p → dem i (latest p i (length s.past)) ≡ 0
+        → P (Done (record { tick = length s.past; offset = 0 }) i (latest p i (length s.past)) 0)
+    pub decision : P (Speed (length s.past) ((point p s.entry).speed) ((ask s.past).num) ((ask s.past).den))
+    pub idle : (q units : ℕ) → q + units ≤ length s.units → P (Idle (at_unit p s q) (at_unit p s (q + units)) units (idle_energy p s.entry units))
+    pub run : (q units i k : ℕ) → q + units ≤ length s.units → IsHolder (Held i k)
+        → P (Run (at_unit p s q) (at_unit p s (q + units)) i k units (run_energy p s.entry units))
+    pub done : (q i k : ℕ) → q ≤ length s.units → IsHolder (Held i k) → had_by p s q i k ≡ dem i k → P (Done (at_unit p s q) i k (dem i k))
+
+  module _ (P : Note → Type 0) (IsHolder : Holder → Type 0) (s : Span) (each : EachNote P IsHolder s) where
+    releases-each : AllByRecursion P (all_release_notes p dem (length s.past))
+    releases-each =
+        each-flat P (count p) (release_notes p dem (length s.past))
+        (λ i lt. go i lt (releases_at p i (length s.past)) (nat_eq (dem i (latest p i (length s.past))) 0) refl)
+      where
+        go : (i : ℕ) → i < count p → (a b : Bool) → nat_eq (dem i (latest p i (length s.past))) 0 ≡ b
+            → AllByRecursion P (if a then Release (length s.past) i (latest p i (length s.past))
+            ∷ (if b then Done (record { tick = length s.past; offset = 0 }) i (latest p i (length s.past)) 0 ∷ [] else []) else [])
+        go i lt false b e = tt
+        go i lt true false e = (each.release i lt, tt)
+        go i lt true true e = (each.release i lt, (each.empty i lt (grind (arith, nat_tests)), tt))
+
+    segment-each : (q units : ℕ) (h : Holder) → IsHolder h → q + units ≤ length s.units → AllByRecursion P (segment_notes p dem s q units h)
+    segment-each q units Nobody held le = (each.idle q units le, tt)
+    segment-each q units (Held i k) held le = (each.run q units i k le held, go (nat_eq (had_by p s (q + units) i k) (dem i k)) refl)
+      where
+        go : (b : Bool) → nat_eq (had_by p s (q + units) i k) (dem i k) ≡ b
+            → AllByRecursion P (if b then Done (at_unit p s (q + units)) i k (dem i k) ∷ [] else [])
+        go false e = tt
+        go true e = (each.done (q + units) i k le held (grind (arith, nat_tests)), tt)
+
+    pieces-each : (q : ℕ) (rs : List Piece) → AllByRecursion (λ (r : Piece). IsHolder r.holder) rs → q + total rs ≤ length s.units
+        → AllByRecursion P (pieces_notes p dem s q rs)
+    pieces-each q [] held le = tt
+    pieces-each q (r ∷ rs) held le =
+        each-append P (segment_notes p dem s q r.units r.holder) (pieces_notes p dem s (q + r.units) rs)
+        (segment-each q r.units r.holder held.0 (omega (arith, le))) (pieces-each (q + r.units) rs held.1 (omega (arith, le)))
+
+    pub segments-each : AllByRecursion IsHolder s.units → AllByRecursion P (pieces_notes p dem s 0 (pieces_of s.units))
+    segments-each held = pieces-each 0 (pieces_of s.units) (each-piece IsHolder s.units held) (omega (arith, total-pieces s.units))
+
+    pub span-each : AllByRecursion IsHolder s.units → AllByRecursion P (span_notes p dem ask s)
+    span-each held =
+        let decision : Note = Speed (length s.past) ((point p s.entry).speed) ((ask s.past).num) ((ask s.past).den) in
+        each-append P (all_release_notes p dem (length s.past)) (decision ∷ pieces_notes p dem s 0 (pieces_of s.units)) releases-each
+        (each.decision, segments-each held)
+
+  pub none-each : (P : Note → Type 0) → AllByRecursion P (notes_before_end p dem ask [])
+  unfolding notes_before_end
+  none-each P = tt
+
+  -- some first ticks of a schedule: they are no more, and no job has had more in them
+  pub record AreFirst (first ticks : List Tick) : Type 0 where
+    pub fewer : length first ≤ length ticks
+    pub less : (i k : ℕ) → exec p first i k ≤ exec p ticks i k
+
+  -- what holds of each kind of note of each span of a schedule holds of all its notes before the end
+  pub each-note : (lim : IsWithinLimits p) (P : Note → Type 0) (ticks : List Tick)
+      → ((x : Tick) (past : List Tick) (s : Span) → AreFirst (x ∷ past) ticks → IsLastSpan p dem ask x past s
+      → EachNote P (IsNow p dem (length past)) s)
+      → IsScheduleBy p dem ask ticks → AllByRecursion P (notes_before_end p dem ask ticks)
+  each-note lim P ticks each h =
+      by-spans p dem ask (λ first. AreFirst first ticks → AllByRecursion P (notes_before_end p dem ask first)) (λ first. none-each P)
+      next ticks h (record { fewer = omega arith; less = λ i k. omega arith })
+    where
+      next : (x : Tick) (past : List Tick) (s : Span) → IsScheduleBy p dem ask (x ∷ past) → IsLastSpan p dem ask x past s
+          → (AreFirst s.past ticks → AllByRecursion P (notes_before_end p dem ask s.past))
+          → AreFirst (x ∷ past) ticks → AllByRecursion P (notes_before_end p dem ask (x ∷ past))
+      next x past s sched l ih first =
+          subst (AllByRecursion P) (sym (notes-span p dem ask (x ∷ past) s.past s l.spans))
+          (each-append P (notes_before_end p dem ask s.past) (span_notes p dem ask s)
+          (ih (record { fewer = omega (arith, first.fewer, l.shorter); less = λ i k. omega (arith, l.grew i k, first.less i k) }))
+          (span-each P (IsNow p dem (length past)) s (each x past s first l) (l.now lim)))
