@@ -29,7 +29,9 @@ mod void;
 pub use fault_line::{place_line, too_many_line};
 pub use host::{HostShelf, HostSink};
 pub use kind::{GovernorKind, Scheduler, Version};
-pub use limits::{LONGEST_FILE, LONGEST_LINE, LONGEST_TRACE, MOST_JOBS, MOST_LINES, MOST_TICKS};
+pub use limits::{
+    LONGEST_FILE, LONGEST_LINE, LONGEST_TRACE, MOST_JOBS, MOST_LINES, MOST_TASKS, MOST_TICKS,
+};
 pub use line::{Line, put_num};
 pub use memory::{FailAt, MemShelf, MemSink};
 pub use name::{Name, Short};

@@ -1,4 +1,7 @@
-// The limits of runs and of files.
+// The limits of task sets, runs and files.
+
+/// The most tasks of a set.
+pub const MOST_TASKS: usize = 64;
 
 /// The most ticks of a run.
 pub const MOST_TICKS: u64 = 1 << 40;

@@ -3,11 +3,10 @@ ghost use Rattle.std.specs.Prelude.{◌≡◌, ◌<◌, ◌++◌, ◌∷◌, [],
 ghost use Rattle.event_kernel.specs.SpanNotes.{kept_notes, HandsOut, CanBook, all_booked};
 
 use crate::{Listener, Stopped};
-use dvs_base::{NoMemory, Note};
+use dvs_base::{MOST_TASKS, NoMemory, Note};
 use energy::Account;
 use std::alloc::Global;
 use std::marker::Model;
-use task_model::MOST_TASKS;
 
 /// The most notes of a span: for each task a release, a segment and two completions; a decision; and one more segment
 /// with a completion.

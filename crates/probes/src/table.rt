@@ -5,8 +5,7 @@ ghost use Rattle.probes.specs.Seen.{seen_table};
 
 use crate::probe::Probe;
 use crate::rule::{Rule, Stay, stay_at, weight};
-use dvs_base::Note;
-use task_model::MOST_TASKS;
+use dvs_base::{MOST_TASKS, Note};
 
 /// A counter for each task that a set can have, and one for all other notes. The tally is their sum.
 #[derive(Debug, Drop)]

@@ -1,7 +1,8 @@
 // Admitted plans.
 ghost use Rattle.std.specs.Prelude.{◌≡◌, ◌<◌, ◌≤◌, IfOk, slice_index, map};
 ghost use Rattle.dvs_base.specs.Widths.{u64_end};
-ghost use Rattle.task_model.specs.declared.limits.TheConstants.{MOST_TASKS, LONGEST_PERIOD, LATEST_OFFSET, LONGEST_HYPERPERIOD};
+ghost use Rattle.dvs_base.specs.declared.limits.TheConstants.{MOST_TASKS};
+ghost use Rattle.task_model.specs.declared.limits.TheConstants.{LONGEST_PERIOD, LATEST_OFFSET, LONGEST_HYPERPERIOD};
 ghost use Rattle.freq_table.specs.Tables.{IsTable};
 ghost use Rattle.task_model.specs.Tasks.{IsTaskSet};
 ghost use Rattle.sched_model.specs.Plan.{plan_of, count, names, task, period, offset, worst, hyper};

@@ -4,7 +4,7 @@ use Rattle.toml.specs.declared.value.Value.{Value}
 use Rattle.toml.specs.View.{items_view}
 use Rattle.dvs_base.specs.Checks.{and_then}
 use Rattle.dvs_base.specs.Settings.{count_of}
-use Rattle.task_model.specs.declared.limits.TheConstants.{MOST_TASKS}
+use Rattle.dvs_base.specs.declared.limits.TheConstants.{MOST_TASKS}
 use Rattle.task_model.specs.declared.fault.TaskFault.TheVariants as fault
 use Rattle.task_model.specs.TaskFile.{tasks_of_array, tasks_from, within_hyper}
 use Rattle.dvs_base.proofs.Counts.{count_of-items_view, choose, choose_not}

@@ -21,7 +21,8 @@ use Rattle.toml.specs.declared.value.Value.{Value}
 use Rattle.toml.specs.Parse.{parse_document}
 use Rattle.std.proofs.Math.Nat.{max-le}
 use Rattle.dvs_base.proofs.Counts.{choose_not}
-use Rattle.task_model.specs.declared.limits.TheConstants.{MOST_TASKS, LONGEST_PERIOD, MOST_WORK, LATEST_OFFSET, LONGEST_HYPERPERIOD}
+use Rattle.dvs_base.specs.declared.limits.TheConstants.{MOST_TASKS}
+use Rattle.task_model.specs.declared.limits.TheConstants.{LONGEST_PERIOD, MOST_WORK, LATEST_OFFSET, LONGEST_HYPERPERIOD}
 use Rattle.task_model.specs.declared.fault.TaskFault.TheVariants as fault
 use Rattle.dvs_base.specs.Settings.{count_of}
 use Rattle.task_model.specs.declared.task.Task.{Task}

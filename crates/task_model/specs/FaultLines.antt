@@ -3,7 +3,8 @@ use Rattle.std.specs.Prelude.{ℕ, List, codes, [], ◌∷◌, ◌++◌}
 use Rattle.std.specs.Fmt.{decimal}
 use Rattle.dvs_base.specs.Parts.{joined}
 use Rattle.dvs_base.specs.FaultLines.{place_text, too_many_text}
-use Rattle.task_model.specs.declared.limits.TheConstants.{MOST_TASKS, LONGEST_HYPERPERIOD}
+use Rattle.dvs_base.specs.declared.limits.TheConstants.{MOST_TASKS}
+use Rattle.task_model.specs.declared.limits.TheConstants.{LONGEST_HYPERPERIOD}
 use Rattle.task_model.specs.declared.fault.Field.{Field}
 use Rattle.task_model.specs.declared.fault.Field.TheVariants as field
 use Rattle.task_model.specs.declared.fault.TaskFault.{TaskFault}

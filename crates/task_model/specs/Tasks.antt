@@ -4,7 +4,8 @@ use Rattle.std.specs.List.{find}
 use Rattle.grid_fraction.specs.Numbers.{list_below}
 use Rattle.dvs_base.specs.Text.{is_name}
 use Rattle.grid_fraction.specs.Fraction.{least_common_multiple}
-use Rattle.task_model.specs.declared.limits.TheConstants.{LONGEST_PERIOD, MOST_WORK, LATEST_OFFSET, MOST_TASKS, LONGEST_HYPERPERIOD}
+use Rattle.dvs_base.specs.declared.limits.TheConstants.{MOST_TASKS}
+use Rattle.task_model.specs.declared.limits.TheConstants.{LONGEST_PERIOD, MOST_WORK, LATEST_OFFSET, LONGEST_HYPERPERIOD}
 use Rattle.task_model.specs.declared.task.Task.{Task}
 
 -- none of the tasks below n has an offset above 0

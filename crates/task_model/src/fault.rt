@@ -27,7 +27,7 @@ pub enum TaskFault {
     UnknownKey { place: u32, key: Short },
     /// The array of tasks is missing or empty.
     NoTasks,
-    /// There are more than [`MOST_TASKS`](crate::MOST_TASKS) tasks.
+    /// There are more than [`MOST_TASKS`](dvs_base::MOST_TASKS) tasks.
     TooMany { count: u64 },
     /// A task lacks this key.
     Missing { place: u32, field: Field },

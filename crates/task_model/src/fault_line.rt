@@ -2,8 +2,8 @@
 ghost use Rattle.std.specs.Prelude.{◌≡◌, ◌≤◌, length};
 ghost use Rattle.task_model.specs.FaultLines.{task_field_word, at_task, task_fault_text};
 
-use crate::{Field, LONGEST_HYPERPERIOD, MOST_TASKS, TaskFault};
-use dvs_base::{Line, Part, Short, line_of, place_line, push_word, too_many_line};
+use crate::{Field, LONGEST_HYPERPERIOD, TaskFault};
+use dvs_base::{Line, MOST_TASKS, Part, Short, line_of, place_line, push_word, too_many_line};
 
 fn task_field_word(field: Field) -> &'static [u8]
     ensures text { result.now ≡ task_field_word field }

@@ -13,5 +13,5 @@ mod write;
 
 pub use fault::{Field, TaskFault};
 pub use fault_line::task_fault_line;
-pub use limits::{LATEST_OFFSET, LONGEST_HYPERPERIOD, LONGEST_PERIOD, MOST_TASKS, MOST_WORK};
+pub use limits::{LATEST_OFFSET, LONGEST_HYPERPERIOD, LONGEST_PERIOD, MOST_WORK};
 pub use task::{Task, TaskSet, task_name};

@@ -1,8 +1,5 @@
 // The limits of tasks.
 
-/// The most tasks of a set.
-pub const MOST_TASKS: usize = 64;
-
 /// The longest period, in ticks.
 pub const LONGEST_PERIOD: u64 = 1 << 40;
 

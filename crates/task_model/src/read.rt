@@ -4,16 +4,18 @@ ghost use Rattle.toml.specs.Data.{get_member};
 ghost use Rattle.toml.specs.View.{view, table_view, items_view};
 ghost use Rattle.dvs_base.specs.Checks.{IsUnlessMemory};
 ghost use Rattle.dvs_base.specs.Settings.{number_at};
-ghost use Rattle.task_model.specs.declared.limits.TheConstants.{MOST_TASKS, LATEST_OFFSET};
+ghost use Rattle.dvs_base.specs.declared.limits.TheConstants.{MOST_TASKS};
+ghost use Rattle.task_model.specs.declared.limits.TheConstants.{LATEST_OFFSET};
 ghost use Rattle.task_model.specs.Tasks.{IsTask, hyper_of};
 ghost use Rattle.task_model.specs.Limits.{AreTasks};
 ghost use Rattle.task_model.specs.TaskFile.{task_fault_at, at_task_key, checked_name, name_at, offset_at, task_of_members, task_of, place_of, tasks_from, within_hyper, tasks_of_array, tasks_of_document, task_file};
 
 use crate::fault::{Field, TaskFault};
-use crate::limits::{LATEST_OFFSET, LONGEST_PERIOD, MOST_TASKS, MOST_WORK};
+use crate::limits::{LATEST_OFFSET, LONGEST_PERIOD, MOST_WORK};
 use crate::task::{Task, TaskSet, place_of};
 use dvs_base::{
-    DocumentFault, MemberFault, Name, member_at, number_at, read_document, text_at, unknown_key,
+    DocumentFault, MOST_TASKS, MemberFault, Name, member_at, number_at, read_document, text_at,
+    unknown_key,
 };
 use std::alloc::Global;
 use toml::{Table, Value};

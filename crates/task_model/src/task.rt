@@ -2,13 +2,14 @@
 ghost use Rattle.std.specs.Prelude.{◌≡◌, ◌<◌, ◌≤◌, length, Some, None, IfOk, vec_len};
 ghost use Rattle.std.specs.Option.{option_copied};
 ghost use Rattle.dvs_base.specs.Parts.{name_of, name_text};
-ghost use Rattle.task_model.specs.declared.limits.TheConstants.{MOST_TASKS, LONGEST_HYPERPERIOD};
+ghost use Rattle.dvs_base.specs.declared.limits.TheConstants.{MOST_TASKS};
+ghost use Rattle.task_model.specs.declared.limits.TheConstants.{LONGEST_HYPERPERIOD};
 ghost use Rattle.task_model.specs.Tasks.{IsTask, IsTaskSet, hyper_of, names_of, task_at, where_within, FindsOffset, first_offset};
 ghost use Rattle.task_model.specs.Limits.{AreTasks};
 ghost use Rattle.task_model.specs.TaskFile.{place_of};
 
-use crate::limits::{LONGEST_HYPERPERIOD, MOST_TASKS};
-use dvs_base::{Name, NoMemory};
+use crate::limits::LONGEST_HYPERPERIOD;
+use dvs_base::{MOST_TASKS, Name, NoMemory};
 use grid_fraction::lcm_within;
 use std::alloc::Global;
 use std::marker::Model;

@@ -10,7 +10,8 @@ use Rattle.grid_fraction.specs.declared.Frac.{Frac}
 use Rattle.grid_fraction.specs.Numbers.{sum_below}
 use Rattle.grid_fraction.proofs.Sums.{sum_below-le, sum_below-limit}
 use Rattle.grid_fraction.proofs.Least.{least-below}
-use Rattle.task_model.specs.declared.limits.TheConstants.{MOST_TASKS, LONGEST_PERIOD, LONGEST_HYPERPERIOD}
+use Rattle.dvs_base.specs.declared.limits.TheConstants.{MOST_TASKS}
+use Rattle.task_model.specs.declared.limits.TheConstants.{LONGEST_PERIOD, LONGEST_HYPERPERIOD}
 use Rattle.freq_table.specs.declared.limits.TheConstants.{TOP_SPEED}
 use Rattle.freq_table.specs.Tables.{speed_at, lowest_entry}
 use Rattle.freq_table.proofs.Chosen.{lowest_within}

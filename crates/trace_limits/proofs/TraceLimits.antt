@@ -11,7 +11,7 @@ use Rattle.dvs_base.specs.declared.note.Note.{Note}
 use Rattle.dvs_base.specs.declared.note.Note.TheVariants.{Run, End}
 use Rattle.dvs_base.specs.declared.limits.TheConstants.{MOST_LINES}
 use Rattle.dvs_base.specs.Parts.{name_of}
-use Rattle.task_model.specs.declared.limits.TheConstants.{MOST_TASKS}
+use Rattle.dvs_base.specs.declared.limits.TheConstants.{MOST_TASKS}
 use Rattle.task_model.specs.declared.task.Task.{Task}
 use Rattle.sched_model.specs.Plan.{Plan, count, names, task, period, offset}
 use Rattle.sched_model.specs.Admission.{IsAdmitted}

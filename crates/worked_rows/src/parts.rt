@@ -1,7 +1,7 @@
 // Worked values of single calls: numbers, fractions, entries, files and admissions.
 use crate::example::PAPER_TASKS;
 use crate::plans::{machine_of, tasks_of};
-use dvs_base::{MemShelf, Scheduler, Shelf, whole};
+use dvs_base::{MOST_TASKS, MemShelf, Scheduler, Shelf, whole};
 use edf_admit::edf_admit;
 use freq_table::Pick;
 use grid_fraction::{Frac, greater, lcm_within, meets, mul_down, up};
@@ -9,7 +9,7 @@ use rm_admit::{RmFault, rm_admit};
 use sched_model::Admitted;
 use std::alloc::{AllocError, Global};
 use std::test::Fail;
-use task_model::{MOST_TASKS, TaskFault, TaskSet};
+use task_model::{TaskFault, TaskSet};
 
 #[test]
 fn numbers_have_one_spelling(rt: HostRuntime) {
