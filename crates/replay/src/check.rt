@@ -107,8 +107,8 @@ fn check<G: Governor>(
 
 /// The totals of a trace whose notes are those of the governor's schedule for the demands that the notes fix.
 ///
-/// The first `Done` of a job fixes its demand: the units used, or the charge where that is more. A job without one has
-/// its worst case, and `Done` of job 0 fixes nothing. The refusals come in this order: `OverWorst` at the first `Done`
+/// The first `Done` of a job fixes its demand: the units used, or twice the charge where that is more. A job without one
+/// has its worst case, and `Done` of job 0 fixes nothing. The refusals come in this order: `OverWorst` at the first `Done`
 /// whose units exceed the worst case of its task; `TooManyJobs` where more than `MOST_JOBS` jobs would be released;
 /// `Differs` at the first unequal note, with its line. `NoMemory` where memory ran out.
 pub fn replay<G: Governor>(
