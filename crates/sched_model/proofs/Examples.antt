@@ -1,7 +1,8 @@
 -- Worked plans and their demands, and values of the definitions by evaluation.
-use Rattle.std.proofs.Common.{◌≡◌, ℕ, List, [], ◌∷◌, refl, codes}
+use Rattle.std.proofs.Common.{◌≡◌, ℕ, List, [], ◌∷◌, refl, codes, arith}
 use Rattle.dvs_base.specs.declared.kind.Scheduler.{Scheduler}
 use Rattle.dvs_base.specs.declared.kind.Scheduler.TheVariants.{Edf, Rm}
+use Rattle.dvs_base.specs.declared.kind.GovernorKind.TheVariants.{Plain, Fixed, Cycle, Ahead}
 use Rattle.grid_fraction.specs.declared.Frac.{Frac}
 use Rattle.grid_fraction.specs.Fraction.{least_common_multiple}
 use Rattle.task_model.specs.declared.task.Task.{Task}
@@ -9,9 +10,10 @@ use Rattle.task_model.specs.DemandRows.{DemandRow}
 use Rattle.freq_table.specs.declared.machine.Point.{Point}
 use Rattle.freq_table.specs.Tables.{Table}
 use Rattle.sched_model.specs.Plan.{Plan}
-use Rattle.sched_model.specs.Jobs.{release, due, latest}
+use Rattle.sched_model.specs.Jobs.{release, due, latest, worst_demand}
+use Rattle.sched_model.specs.Ticks.{Tick, IsMet}
 use Rattle.sched_model.specs.Priority.{in_order}
-use Rattle.sched_model.specs.Demand.{published}
+use Rattle.sched_model.specs.Demand.{published, IsAlwaysMet}
 use Rattle.sched_model.specs.StaticDemand.{static_demand}
 use Rattle.sched_model.specs.Tests.{level_work}
 use Rattle.sched_model.specs.Schedule.{schedule_by}
@@ -216,3 +218,20 @@ backlog_at_the_static_speed = refl
 backlog_of_a_level_in_rm_order : backlog two_tasks 1 1 ≡ 2
 unfolding backlog published in_order release due latest schedule_by
 backlog_of_a_level_in_rm_order = refl
+
+-- one task, which is due at the end of the tick that it is released at
+abbrev due_in_a_tick : Plan
+due_in_a_tick = record { tasks = task_of (codes "x") 1 4 ∷ []; machine = three_speeds; scheduler = Edf }
+
+-- a tick at the entry 0 in which the one task gets so many units
+abbrev tick_of : ℕ → Tick
+tick_of units = record { entry = 0; shares = units ∷ [] }
+
+-- a job that is due at the end of the last tick counts: with 3 of its 4 units the deadline isn't met
+due_at_the_end : IsMet due_in_a_tick (worst_demand due_in_a_tick) (tick_of 3 ∷ []) → ⊥
+unfolding due release
+due_at_the_end met = omega (arith, met 0 1 (omega arith) (omega arith) (omega arith))
+
+-- look-ahead alone may ask for more than the highest speed
+always_met : IsAlwaysMet Plain × IsAlwaysMet Fixed × IsAlwaysMet Cycle × (IsAlwaysMet Ahead → ⊥)
+always_met = (λ e. absurd (cc), λ e. absurd (cc), λ e. absurd (cc), λ some. some refl)
