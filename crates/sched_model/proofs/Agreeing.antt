@@ -6,7 +6,8 @@ use Rattle.grid_fraction.specs.declared.Frac.{Frac}
 use Rattle.grid_fraction.specs.Numbers.{list_below}
 use Rattle.freq_table.specs.Tables.{lowest_entry}
 use Rattle.sched_model.specs.Plan.{Plan, count, point}
-use Rattle.sched_model.specs.Ticks.{Tick, left}
+use Rattle.sched_model.specs.Jobs.{JobDemands}
+use Rattle.sched_model.specs.Ticks.{PublishedDemand, Tick, left}
 use Rattle.sched_model.specs.Priority.{allotment, key_of}
 use Rattle.sched_model.specs.Decision.{is_decision}
 use Rattle.sched_model.specs.Schedule.{entry_in_force, IsScheduleBy, next_tick, schedule_by}
@@ -16,11 +17,11 @@ use Rattle.sched_model.proofs.ScheduleLemmas.{schedule_exists}
 use Rattle.sched_model.proofs.Spans.{IsLastSpan, by-spans}
 
 -- two demands are equal on each schedule; any demand may give its speeds
-abbrev pub AgreeOnSchedules : Plan → (ℕ → ℕ → ℕ) → (List Tick → Frac) → (List Tick → Frac) → Type 0
-AgreeOnSchedules p dem a b = (ask : List Tick → Frac) (past : List Tick) → IsScheduleBy p dem ask past → a past ≡ b past
+abbrev pub AgreeOnSchedules : Plan → JobDemands → PublishedDemand → PublishedDemand → Type 0
+AgreeOnSchedules p dem a b = (ask : PublishedDemand) (past : List Tick) → IsScheduleBy p dem ask past → a past ≡ b past
 
-module _ (p : Plan) (dem : ℕ → ℕ → ℕ) (a b : List Tick → Frac) (agree : AgreeOnSchedules p dem a b) where
-  same-entry : (ask : List Tick → Frac) (past : List Tick) → IsScheduleBy p dem ask past → entry_in_force p dem a past ≡ entry_in_force p dem b past
+module _ (p : Plan) (dem : JobDemands) (a b : PublishedDemand) (agree : AgreeOnSchedules p dem a b) where
+  same-entry : (ask : PublishedDemand) (past : List Tick) → IsScheduleBy p dem ask past → entry_in_force p dem a past ≡ entry_in_force p dem b past
   same-entry ask [] h = ap (lowest_entry p.machine) (agree ask [] h)
   same-entry ask (x ∷ past) h =
       ap₂ (λ chosen kept. if is_decision p dem (x ∷ past) then chosen else kept) (ap (lowest_entry p.machine) (agree ask (x ∷ past) h))
@@ -43,7 +44,7 @@ module _ (p : Plan) (dem : ℕ → ℕ → ℕ) (a b : List Tick → Frac) (agre
   unfolding notes_before_end
   same-none = refl
 
-  same-before-end : (ask : List Tick → Frac) (ticks : List Tick) → IsScheduleBy p dem ask ticks
+  same-before-end : (ask : PublishedDemand) (ticks : List Tick) → IsScheduleBy p dem ask ticks
       → notes_before_end p dem a ticks ≡ notes_before_end p dem b ticks
   same-before-end ask = by-spans p dem ask (λ ticks. notes_before_end p dem a ticks ≡ notes_before_end p dem b ticks) same-none next
     where
@@ -57,6 +58,6 @@ module _ (p : Plan) (dem : ℕ → ℕ → ℕ) (a b : List Tick → Frac) (agre
           ∙ (ap₂ (λ ns ms. ns ++ ms) ih (ap told (agree ask s.past l.earlier))
           ∙ sym (notes-span p dem b (x ∷ past) s.past s l.spans))
 
-  pub same-notes : (ask : List Tick → Frac) (ticks : List Tick) → IsScheduleBy p dem ask ticks → notes_of p dem a ticks ≡ notes_of p dem b ticks
+  pub same-notes : (ask : PublishedDemand) (ticks : List Tick) → IsScheduleBy p dem ask ticks → notes_of p dem a ticks ≡ notes_of p dem b ticks
   same-notes ask ticks h =
       ap (λ (notes : List Note). notes ++ End (length ticks) (sum_by energy_run notes) (sum_by energy_idle notes) ∷ []) (same-before-end ask ticks h)

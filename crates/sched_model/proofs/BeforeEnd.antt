@@ -4,11 +4,11 @@ use Rattle.std.specs.Prelude.{sum_by}
 use Rattle.std.specs.List.{AllByRecursion}
 use Rattle.dvs_base.specs.declared.note.Note.{Note}
 use Rattle.dvs_base.specs.declared.note.Note.TheVariants.{Done, End}
-use Rattle.grid_fraction.specs.declared.Frac.{Frac}
 use Rattle.sched_model.specs.declared.holder.Holder.{Holder}
 use Rattle.sched_model.specs.declared.holder.Holder.TheVariants.{Nobody, Held}
 use Rattle.sched_model.specs.Plan.{Plan, count}
-use Rattle.sched_model.specs.Ticks.{Tick}
+use Rattle.sched_model.specs.Jobs.{JobDemands}
+use Rattle.sched_model.specs.Ticks.{PublishedDemand, Tick}
 use Rattle.sched_model.specs.Decision.{is_decision}
 use Rattle.sched_model.specs.Notes.{Span, spans_of, lengthened, tick_units, span_notes, energy_run, energy_idle, notes_before_end, notes_of}
 use Rattle.sched_model.proofs.NoteLemmas.{flat_map-last}
@@ -17,7 +17,7 @@ use Rattle.sched_model.proofs.Walk.{EachNote, span-each}
 use Rattle.trace_text.proofs.PlainLines.{each-append}
 
 -- the note isn't the end of a run; a completion has a task of the plan and its job's demand
-abbrev pub IsBeforeEnd : Plan → (ℕ → ℕ → ℕ) → Note → Type 0
+abbrev pub IsBeforeEnd : Plan → JobDemands → Note → Type 0
 IsBeforeEnd p dem (Done at_end i k used) = (i < count p) × (used ≡ dem i k)
 IsBeforeEnd p dem (End ticks run idle) = ⊥
 IsBeforeEnd p dem _ = Unit {0}
@@ -27,7 +27,7 @@ abbrev IsOfPlan : Plan → Holder → Type 0
 IsOfPlan p Nobody = Unit {0}
 IsOfPlan p (Held i k) = i < count p
 
-module _ (p : Plan) (dem : ℕ → ℕ → ℕ) (ask : List Tick → Frac) where
+module _ (p : Plan) (dem : JobDemands) (ask : PublishedDemand) where
   abbrev AreOfPlan : List Span → Type 0
   AreOfPlan = AllByRecursion (λ (s : Span). AllByRecursion (IsOfPlan p) s.units)
 

@@ -4,7 +4,7 @@ use Rattle.std.specs.Prelude.{map}
 use Rattle.std.proofs.lemmas.Bool.Decides.{nat_tests}
 use Rattle.sched_model.specs.declared.state.Row.{Row}
 use Rattle.sched_model.specs.Plan.{Plan, count, period, offset, worst}
-use Rattle.sched_model.specs.Jobs.{release, due, latest, releases_at, is_release, last_release}
+use Rattle.sched_model.specs.Jobs.{JobDemands, release, due, latest, releases_at, is_release, last_release}
 use Rattle.sched_model.specs.Ticks.{Tick, at, exec, is_done, wleft, share, left}
 use Rattle.grid_fraction.specs.Numbers.{last_up_to}
 use Rattle.sched_model.specs.States.{StateOf, no_row, row_at, row_of, state_of, released_row, row_wleft, prior_row, prior_base_at, prior_base, prior_state}
@@ -19,19 +19,19 @@ abbrev pub row_by : ℕ → ℕ → ℕ → Bool → ℕ → Row
 row_by a b c d e = record { deadline = a; job = b; used = c; done = d; worst = e }
 
 -- a row after its release, complete if its job has no demand
-abbrev pub opened_row : Plan → (ℕ → ℕ → ℕ) → ℕ → Row → Row
+abbrev pub opened_row : Plan → JobDemands → ℕ → Row → Row
 opened_row p dem i row = record (released_row (period p i) row) { done = nat_eq (dem i (row.job + 1)) 0 }
 
 -- a row of the state after a list of ticks, and of the state before the releases then
-pub row_at-state_of : (p : Plan) (dem : ℕ → ℕ → ℕ) (past : List Tick) (i : ℕ) → i < count p
+pub row_at-state_of : (p : Plan) (dem : JobDemands) (past : List Tick) (i : ℕ) → i < count p
     → row_at (state_of p dem past) i ≡ row_of p dem past i
 row_at-state_of p dem past i lt = get-table (count p) (row_of p dem past) i no_row lt
 
-pub row_at-prior_state : (p : Plan) (dem : ℕ → ℕ → ℕ) (past : List Tick) (i : ℕ) → i < count p
+pub row_at-prior_state : (p : Plan) (dem : JobDemands) (past : List Tick) (i : ℕ) → i < count p
     → row_at (prior_state p dem past) i ≡ prior_row p dem past i
 row_at-prior_state p dem past i lt = get-table (count p) (prior_row p dem past) i no_row lt
 
-module _ (p : Plan) (dem : ℕ → ℕ → ℕ) (periods : (i : ℕ) → 0 < period p i) where
+module _ (p : Plan) (dem : JobDemands) (periods : (i : ℕ) → 0 < period p i) where
   -- the deadline of a row is the deadline of its job
   prior_due-is : (past : List Tick) (i : ℕ) → (prior_row p dem past i).deadline ≡ due p i (prior_row p dem past i).job
   prior_due-is [] i = sym (due-none p i)

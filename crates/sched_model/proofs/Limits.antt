@@ -1,5 +1,5 @@
 -- What the limits say of a plan's numbers.
-use Rattle.std.proofs.Common.{◌≡◌, inl, inr, ℕ, ◌+◌, ◌*◌, ◌/◌, ◌^◌, ◌<◌, ◌≤◌, suc, get_or, arith, ap}
+use Rattle.std.proofs.Common.{◌≡◌, inl, inr, ℕ, ◌+◌, ◌*◌, ◌/◌, ◌^◌, ◌<◌, ◌≤◌, suc, get_or, arith, ap, mul-le-mul_left}
 use Rattle.std.specs.Prelude.{map}
 use Rattle.std.specs.List.{All}
 use Rattle.std.proofs.lemmas.List.{length-map, get_or-map}
@@ -8,11 +8,13 @@ use Rattle.std.proofs.lemmas.Bool.{cases_lt}
 use Rattle.std.proofs.lemmas.List.Elements.{All-from_get_or}
 use Rattle.grid_fraction.proofs.Multiples.{least_common_multiple-pos, mul-div-least_common_multiple}
 use Rattle.task_model.specs.declared.limits.TheConstants.{LONGEST_PERIOD, LONGEST_HYPERPERIOD}
+use Rattle.freq_table.specs.declared.limits.TheConstants.{MOST_MILLIVOLTS}
 use Rattle.task_model.specs.declared.task.Task.{Task}
 use Rattle.task_model.specs.Tasks.{no_task}
 use Rattle.sched_model.specs.Plan.{Plan, count, period, worst, hyper}
 use Rattle.sched_model.specs.Jobs.{latest, latest_since, deadline}
 use Rattle.sched_model.specs.Admission.{IsWithinLimits}
+use Rattle.sched_model.specs.Notes.{most_unit_energy}
 use Rattle.sched_model.proofs.JobLaws.{due-within, latest_since-le, last_release-le}
 
 module _ (p : Plan) (lim : IsWithinLimits p) where
@@ -63,3 +65,8 @@ module _ (p : Plan) (lim : IsWithinLimits p) where
   pub period_divides : (i : ℕ) → i < count p → hyper p / period p i * period p i ≡ hyper p
   period_divides i h =
       rw (period_in i h) at (mul-div-least_common_multiple (map (λ t. t.period) p.tasks) i 1 each_some (omega (arith, length-map p.tasks (λ t. t.period))))
+
+-- units at these millivolts, at this many thousandths of a running unit, cost at most the highest price each
+pub energy-most : (units mv rate : ℕ) → mv ≤ MOST_MILLIVOLTS → rate ≤ 1000 → units * mv * mv * rate ≤ most_unit_energy * units
+energy-most units mv rate low cheap =
+    omega (arith, mul-le-mul_left units low, mul-le-mul_left (units * mv) low, mul-le-mul_left (units * mv * mv) cheap)

@@ -6,25 +6,25 @@ use Rattle.std.proofs.Math.Seq.{take-append_seam}
 use Rattle.std.proofs.lemmas.List.{length-replicate}
 use Rattle.std.proofs.lemmas.List.Concat.{flat_map-append}
 use Rattle.std.proofs.lemmas.List.Folds.{sum_by-replicate}
-use Rattle.std.proofs.lemmas.List.Sums.{sum_by-cons, sum_by-append}
+use Rattle.std.proofs.lemmas.List.Sums.{sum_by-cons, sum_by-append, sum_by_push}
 use Rattle.std.proofs.lemmas.Bool.Decides.{nat_tests}
 use Rattle.dvs_base.specs.declared.note.Note.{Note}
-use Rattle.dvs_base.specs.declared.note.Note.TheVariants.{Release, Done, Run, Idle, Speed}
+use Rattle.dvs_base.specs.declared.note.Note.TheVariants.{Release, Done, Run, Idle, Speed, End}
 use Rattle.dvs_base.specs.declared.note.Pos.{Pos}
-use Rattle.grid_fraction.specs.declared.Frac.{Frac}
 use Rattle.grid_fraction.specs.Numbers.{sum_below, list_below}
 use Rattle.grid_fraction.proofs.Counts.{count-append, count-replicate}
 use Rattle.grid_fraction.proofs.Sums.{sum_below-same, sum_below-add, sum_below-zero, sum_below-one}
 use Rattle.sched_model.specs.declared.holder.Holder.{Holder}
 use Rattle.sched_model.specs.declared.holder.Holder.TheVariants.{Nobody, Held}
 use Rattle.sched_model.specs.Plan.{Plan, count, point}
-use Rattle.sched_model.specs.Jobs.{latest, releases_at}
-use Rattle.sched_model.specs.Ticks.{Tick, exec, is_done}
+use Rattle.sched_model.specs.Jobs.{JobDemands, latest, releases_at}
+use Rattle.sched_model.specs.Ticks.{PublishedDemand, Tick, exec, is_done}
 use Rattle.sched_model.specs.Decision.{completes_in, is_decision}
 use Rattle.sched_model.specs.Schedule.{IsScheduleBy}
 use Rattle.sched_model.specs.Admission.{IsWithinLimits}
-use Rattle.sched_model.specs.Notes.{same_holder, Span, Piece, pieces_of, run_energy, idle_energy, release_notes, all_release_notes, had_by, segment_notes, pieces_notes, span_notes, tick_units, energy_run, energy_idle, notes_before_end}
+use Rattle.sched_model.specs.Notes.{same_holder, Span, Piece, pieces_of, run_energy, idle_energy, release_notes, all_release_notes, had_by, segment_notes, pieces_notes, span_notes, tick_units, energy_run, energy_idle, notes_before_end, notes_of}
 use Rattle.sched_model.specs.Totals.{is_finished}
+use Rattle.sched_model.proofs.LevelSums.{sum_below-times}
 use Rattle.sched_model.proofs.Limits.{every_period}
 use Rattle.sched_model.proofs.NoteLemmas.{notes-span}
 use Rattle.sched_model.proofs.PieceLemmas.{HaveUnits, have_units, laid, laid-pieces}
@@ -53,6 +53,58 @@ sum-each f lists (suc n) =
     ∙ (sum_by-append f (flat_map lists (list_below n (λ i. i))) (lists n ++ [])
     ∙ ap₂ (λ a b. a + b) (sum-each f lists n) (ap (sum_by f) (append-nil (lists n))))
 
+-- 1 where the test is true, else 0
+abbrev pub one_if : Bool → ℕ
+one_if b = if b then 1 else 0
+
+-- the number of releases at tick t
+abbrev pub releases : Plan → ℕ → ℕ
+releases p t = sum_below (count p) (λ i. one_if (releases_at p i t))
+
+-- the number of releases at tick t of jobs that need nothing
+abbrev pub empty_jobs : Plan → JobDemands → ℕ → ℕ
+empty_jobs p dem t = sum_below (count p) (λ i. one_if (releases_at p i t && nat_eq (dem i (latest p i t)) 0))
+
+-- the notes of the releases of tick t
+module _ (p : Plan) (dem : JobDemands) (t : ℕ) (f : Note → ℕ) where
+  abbrev released : ℕ → ℕ
+  released i = one_if (releases_at p i t)
+
+  -- 1 where task i releases a job that needs nothing, else 0
+  abbrev empty : ℕ → ℕ
+  empty i = one_if (releases_at p i t && nat_eq (dem i (latest p i t)) 0)
+
+  -- a sum over them, task by task
+  pub release-sum : sum_by f (all_release_notes p dem t)
+      ≡ sum_below (count p) (λ i. one_if (releases_at p i t) * f (Release t i (latest p i t))
+      + one_if (releases_at p i t && nat_eq (dem i (latest p i t)) 0) * f (Done (record { tick = t; offset = 0 }) i (latest p i t) 0))
+  release-sum =
+      sum-each f (release_notes p dem t) (count p)
+      ∙ sum_below-same (count p) _ _ (λ i lt. own i (releases_at p i t) (nat_eq (dem i (latest p i t)) 0))
+    where
+      own : (i : ℕ) (a b : Bool) → sum_by f (if a then Release t i (latest p i t)
+          ∷ (if b then Done (record { tick = t; offset = 0 }) i (latest p i t) 0 ∷ [] else []) else [])
+          ≡ one_if a * f (Release t i (latest p i t)) + one_if (a && b) * f (Done (record { tick = t; offset = 0 }) i (latest p i t) 0)
+      own i false b = omega arith
+      own i true false = omega arith
+      own i true true = omega arith
+
+  -- the sum where all releases add the same, and so do all completions with a release
+  pub release-counts : (each done : ℕ) → ((i k : ℕ) → f (Release t i k) ≡ each)
+      → ((i k : ℕ) → f (Done (record { tick = t; offset = 0 }) i k 0) ≡ done)
+      → sum_by f (all_release_notes p dem t) ≡ each * releases p t + done * empty_jobs p dem t
+  release-counts each done one last =
+      omega (
+        arith,
+        release-sum,
+        sum_below-same (count p) (λ i. released i * f (Release t i (latest p i t)) + empty i * f (Done (record { tick = t; offset = 0 }) i (latest p i t) 0))
+            (λ i. each * released i + done * empty i)
+            (λ i lt. omega (arith, ap (λ m. released i * m) (one i (latest p i t)), ap (λ m. empty i * m) (last i (latest p i t)))),
+        sum_below-add (count p) (λ i. each * released i) (λ i. done * empty i),
+        sum_below-times (count p) each released,
+        sum_below-times (count p) done empty,
+      )
+
 -- 1 where what a job has had reaches its demand, else 0
 abbrev pub reached : ℕ → ℕ → ℕ
 reached need had = if nat_le need had then 1 else 0
@@ -72,7 +124,7 @@ reached-up need had more le = go (nat_le need had) refl (nat_le need more) refl
     go false e b f = rw e (omega arith)
 
 -- 1 where job k of task i has had its demand in these ticks, else 0
-abbrev pub done_by : Plan → (ℕ → ℕ → ℕ) → ℕ → ℕ → List Tick → ℕ
+abbrev pub done_by : Plan → JobDemands → ℕ → ℕ → List Tick → ℕ
 done_by p dem i k ticks = reached (dem i k) (exec p ticks i k)
 
 -- a unit weighs nothing
@@ -84,7 +136,7 @@ none-weighs [] = refl
 none-weighs (u ∷ us) = omega (arith, sum_by-cons (λ (h : Holder). 0) u us, none-weighs us)
 
 -- the completions of a job in a span
-module _ (p : Plan) (dem : ℕ → ℕ → ℕ) (s : Span) (i k : ℕ) where
+module _ (p : Plan) (dem : JobDemands) (s : Span) (i k : ℕ) where
   -- what the job has had after the units `us` of the span
   abbrev had_of : List Holder → ℕ
   had_of us = exec p s.past i k + count_by (same_holder (Held i k)) us
@@ -215,7 +267,7 @@ finished-each n job (note ∷ notes) all =
             rw (self, job_is) refl
     one _ h = sym (sum_below-zero n (λ i. 0) (λ i lt. refl))
 
-module _ (p : Plan) (dem : ℕ → ℕ → ℕ) (ask : List Tick → Frac) where
+module _ (p : Plan) (dem : JobDemands) (ask : PublishedDemand) where
   abbrev notes : List Tick → List Note
   notes = notes_before_end p dem ask
 
@@ -223,14 +275,10 @@ module _ (p : Plan) (dem : ℕ → ℕ → ℕ) (ask : List Tick → Frac) where
   unfolding notes_before_end
   none-sum f = refl
 
-  -- where there is no decision, no note tells a release
+  -- where there is no decision, the notes have no release
   none-at : (f : Note → ℕ) (past : List Tick) → is_decision p dem past ≡ false → sum_by f (all_release_notes p dem (length past)) ≡ 0
   none-at f past e =
-      sum-each f (release_notes p dem (length past)) (count p)
-      ∙ sum_below-zero (count p) (λ i. sum_by f (release_notes p dem (length past) i)) (λ i lt. none i (none-released p dem past e i lt))
-    where
-      none : (i : ℕ) → releases_at p i (length past) ≡ false → sum_by f (release_notes p dem (length past) i) ≡ 0
-      none i off = rw off refl
+      release-sum p dem (length past) f ∙ sum_below-zero (count p) _ (λ i lt. let off = none-released p dem past e i lt in rw off (omega arith))
 
   -- the segments of a span add to `f` the weights of its units, and what `done` rises by from its beginning to its end;
   -- `done` looks at the jobs that are the latest at a tick
@@ -244,6 +292,12 @@ module _ (p : Plan) (dem : ℕ → ℕ → ℕ) (ask : List Tick → Frac) where
     -- the measure of the note of the decision of a span
     abbrev decision : Span → ℕ
     decision s = f (Speed (length s.past) ((point p s.entry).speed) ((ask s.past).num) ((ask s.past).den))
+
+    -- the last note of a schedule adds its own measure
+    pub with-end : (ticks : List Tick)
+        → sum_by f (notes_of p dem ask ticks)
+        ≡ sum_by f (notes ticks) + f (End (length ticks) (sum_by energy_run (notes ticks)) (sum_by energy_idle (notes ticks)))
+    with-end ticks = sum_by_push f (notes ticks) (End (length ticks) (sum_by energy_run (notes ticks)) (sum_by energy_idle (notes ticks)))
 
     pub span-sum : (x : Tick) (past : List Tick) (s : Span) → IsLastSpan p dem ask x past s
         → sum_by f (notes (x ∷ past))
@@ -259,17 +313,17 @@ module _ (p : Plan) (dem : ℕ → ℕ → ℕ) (ask : List Tick → Frac) where
           sum_by-cons f speed segments,
         )
 
-    -- the measure of what is told at the beginning of tick x: the releases, and a decision
-    abbrev pub told_at : List Tick → Tick → ℕ
-    told_at past x =
+    -- the measure of the notes at the beginning of tick x: its releases, and a decision
+    abbrev pub at_start : List Tick → Tick → ℕ
+    at_start past x =
         sum_by f (all_release_notes p dem (length past))
-        + (if is_decision p dem past then f (Speed (length past) ((point p x.entry).speed) ((ask past).num) ((ask past).den)) else 0)
+        + one_if (is_decision p dem past) * f (Speed (length past) ((point p x.entry).speed) ((ask past).num) ((ask past).den))
 
-    -- what tick x adds to the sum over the notes: what is told at its beginning, its units, and what is done in it
+    -- what tick x adds to the sum over the notes: the notes at its beginning, its units, and what is done in it
     pub next-sum : (weight : ℕ → Holder → ℕ) (done : ℕ → List Tick → ℕ) → Measures f weight done
         → (x : Tick) (past : List Tick) → IsScheduleBy p dem ask (x ∷ past)
         → sum_by f (notes (x ∷ past)) + done (length past) past
-        ≡ sum_by f (notes past) + told_at past x + sum_by (weight x.entry) (tick_units p past x) + done (length past) (x ∷ past)
+        ≡ sum_by f (notes past) + at_start past x + sum_by (weight x.entry) (tick_units p past x) + done (length past) (x ∷ past)
     next-sum weight done m x [] h =
         let s : Span = record { past = []; entry = x.entry; units = tick_units p [] x } in
         let l = opened p dem ask x [] tt h.1 refl in
@@ -278,7 +332,7 @@ module _ (p : Plan) (dem : ℕ → ℕ → ℕ) (ask : List Tick → Frac) where
       where
         go : (b : Bool) → is_decision p dem (y ∷ past) ≡ b
             → sum_by f (notes (x ∷ y ∷ past)) + done (length (y ∷ past)) (y ∷ past)
-            ≡ sum_by f (notes (y ∷ past)) + told_at (y ∷ past) x + sum_by (weight x.entry) (tick_units p (y ∷ past) x)
+            ≡ sum_by f (notes (y ∷ past)) + at_start (y ∷ past) x + sum_by (weight x.entry) (tick_units p (y ∷ past) x)
             + done (length (y ∷ past)) (x ∷ y ∷ past)
         go true e =
             let s : Span = record { past = y ∷ past; entry = x.entry; units = tick_units p (y ∷ past) x } in
@@ -339,6 +393,36 @@ module _ (p : Plan) (dem : ℕ → ℕ → ℕ) (ask : List Tick → Frac) where
           pieces-sum (q + r.units) rs,
         )
 
+  -- a sum over the notes of pieces, where a segment adds at most `each`, and a completion at most `done`
+  pub pieces-most : (f : Note → ℕ) (each done : ℕ) → ((from to : Pos) (i k units energy : ℕ) → f (Run from to i k units energy) ≤ each)
+      → ((from to : Pos) (units energy : ℕ) → f (Idle from to units energy) ≤ each) → ((at_end : Pos) (i k used : ℕ) → f (Done at_end i k used) ≤ done)
+      → (s : Span) (q : ℕ) (rs : List Piece) → sum_by f (pieces_notes p dem s q rs) ≤ (each + done) * length rs
+  pieces-most f each done run idle end s q [] = omega arith
+  pieces-most f each done run idle end s q (r ∷ rs) =
+      omega (
+        arith,
+        sum_by-append f (segment_notes p dem s q r.units r.holder) (pieces_notes p dem s (q + r.units) rs),
+        segment r.holder,
+        pieces-most f each done run idle end s (q + r.units) rs,
+      )
+    where
+      from : Pos
+      from = at_unit p s q
+
+      to : Pos
+      to = at_unit p s (q + r.units)
+
+      segment : (h : Holder) → sum_by f (segment_notes p dem s q r.units h) ≤ each + done
+      segment Nobody = omega (arith, idle from to r.units (idle_energy p s.entry r.units))
+      segment (Held i k) = go (nat_eq (had_by p s (q + r.units) i k) (dem i k))
+        where
+          ran : f (Run from to i k r.units (run_energy p s.entry r.units)) ≤ each
+          ran = run from to i k r.units (run_energy p s.entry r.units)
+
+          go : (b : Bool) → sum_by f (Run from to i k r.units (run_energy p s.entry r.units) ∷ (if b then Done to i k (dem i k) ∷ [] else [])) ≤ each + done
+          go false = omega (arith, ran)
+          go true = omega (arith, ran, end to i k (dem i k))
+
   pub weights : (f : Note → ℕ) (weight : ℕ → Holder → ℕ) → Weighs f weight → Measures f weight (λ t ticks. 0)
   weights f weight w = record {
     segments = λ x past s h l.
@@ -356,25 +440,12 @@ module _ (p : Plan) (dem : ℕ → ℕ → ℕ) (ask : List Tick → Frac) where
       → (x : Tick) (past : List Tick) → IsScheduleBy p dem ask (x ∷ past)
       → sum_by f (notes (x ∷ past)) ≡ sum_by f (notes past) + sum_by (weight x.entry) (tick_units p past x)
   segments-next f weight w o x past h =
-      omega (arith, next-sum f weight (λ t ticks. 0) (weights f weight w) x past h, released, decided (is_decision p dem past))
-    where
-      t : ℕ
-      t = length past
-
-      told : (i : ℕ) (a b : Bool) → sum_by f (if a then Release t i (latest p i t)
-          ∷ (if b then Done (record { tick = t; offset = 0 }) i (latest p i t) 0 ∷ [] else []) else []) ≡ 0
-      told i false b = refl
-      told i true false = omega (arith, o.release t i (latest p i t))
-      told i true true = omega (arith, o.release t i (latest p i t), w.done (record { tick = t; offset = 0 }) i (latest p i t) 0)
-
-      released : sum_by f (all_release_notes p dem t) ≡ 0
-      released =
-          sum-each f (release_notes p dem t) (count p)
-          ∙ sum_below-zero (count p) (λ i. sum_by f (release_notes p dem t i)) (λ i lt. told i (releases_at p i t) (nat_eq (dem i (latest p i t)) 0))
-
-      decided : (b : Bool) → (if b then f (Speed t ((point p x.entry).speed) ((ask past).num) ((ask past).den)) else 0) ≡ 0
-      decided true = o.speed t ((point p x.entry).speed) ((ask past).num) ((ask past).den)
-      decided false = refl
+      omega (
+        arith,
+        next-sum f weight (λ t ticks. 0) (weights f weight w) x past h,
+        release-counts p dem (length past) f 0 0 (o.release (length past)) (λ i k. w.done (record { tick = length past; offset = 0 }) i k 0),
+        ap (λ speed. one_if (is_decision p dem past) * speed) (o.speed (length past) ((point p x.entry).speed) ((ask past).num) ((ask past).den)),
+      )
 
   -- the energies of segments, by the voltage of their entry
   abbrev pub running : ℕ → Holder → ℕ
@@ -460,17 +531,17 @@ module _ (p : Plan) (dem : ℕ → ℕ → ℕ) (ask : List Tick → Frac) where
 
   -- the latest jobs that have had their demand after tick x are those before it and those that complete in it
   pub all_done-next : (x : Tick) (past : List Tick)
-      → all_done (length past) (x ∷ past) ≡ all_done (length past) past + sum_below (count p) (λ i. if completes_in p dem x past i then 1 else 0)
+      → all_done (length past) (x ∷ past) ≡ all_done (length past) past + sum_below (count p) (λ i. one_if (completes_in p dem x past i))
   all_done-next x past =
-      sum_below-same (count p) (λ i. done_by p dem i (job i) (x ∷ past)) (λ i. done_by p dem i (job i) past + (if completes_in p dem x past i then 1 else 0))
+      sum_below-same (count p) (λ i. done_by p dem i (job i) (x ∷ past)) (λ i. done_by p dem i (job i) past + one_if (completes_in p dem x past i))
       (λ i lt. one i (is_done p dem past i (job i)) refl (is_done p dem (x ∷ past) i (job i)) refl)
-      ∙ sum_below-add (count p) (λ i. done_by p dem i (job i) past) (λ i. if completes_in p dem x past i then 1 else 0)
+      ∙ sum_below-add (count p) (λ i. done_by p dem i (job i) past) (λ i. one_if (completes_in p dem x past i))
     where
       job : ℕ → ℕ
       job i = latest p i (length past)
 
       one : (i : ℕ) (a : Bool) → is_done p dem past i (job i) ≡ a → (b : Bool) → is_done p dem (x ∷ past) i (job i) ≡ b
-          → done_by p dem i (job i) (x ∷ past) ≡ done_by p dem i (job i) past + (if completes_in p dem x past i then 1 else 0)
+          → done_by p dem i (job i) (x ∷ past) ≡ done_by p dem i (job i) past + one_if (completes_in p dem x past i)
       one i true e true f = rw (e, f) refl
       one i true e false f = absurd (grind (arith, nat_tests))
       one i false e true f = rw (e, f) refl

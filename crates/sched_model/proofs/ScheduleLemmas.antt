@@ -1,12 +1,12 @@
 -- There is exactly one schedule of each length, and the entry in force on it.
 use Rattle.std.proofs.Common.{◌≡◌, ℕ, zero, suc, ◌<◌, Bool, true, false, if◌then◌else◌, List, [], ◌∷◌, length, get_or, refl, arith, ap, ◌∙◌, sym, subst}
 use Rattle.std.proofs.lemmas.List.{ext_get_or}
-use Rattle.grid_fraction.specs.declared.Frac.{Frac}
 use Rattle.freq_table.specs.Tables.{lowest_entry}
 use Rattle.freq_table.proofs.Chosen.{lowest_within}
 use Rattle.sched_model.specs.Plan.{Plan, count, point}
+use Rattle.sched_model.specs.Jobs.{JobDemands}
 use Rattle.sched_model.specs.Decision.{is_decision}
-use Rattle.sched_model.specs.Ticks.{Tick, share, left}
+use Rattle.sched_model.specs.Ticks.{PublishedDemand, Tick, share, left}
 use Rattle.sched_model.specs.Priority.{allotment, key_of}
 use Rattle.sched_model.specs.Schedule.{entry_in_force, IsNext, IsScheduleBy, next_tick, schedule_by}
 use Rattle.grid_fraction.specs.Numbers.{list_below}
@@ -15,7 +15,7 @@ pub use Rattle.sched_model.proofs.Tables.{length-list_below}
 use Rattle.sched_model.proofs.Allotments.{allotment_of, allotment-shares, shares-same}
 
 -- the tick that may follow is determined by the ticks before it
-pub next_unique : (p : Plan) (dem : ℕ → ℕ → ℕ) (ask : List Tick → Frac) (past : List Tick) (x : Tick)
+pub next_unique : (p : Plan) (dem : JobDemands) (ask : PublishedDemand) (past : List Tick) (x : Tick)
     → IsNext p dem ask past x → x ≡ next_tick p dem ask past
 next_unique p dem ask past x h =
     λ i. record { entry = h.entry i; shares = same i }
@@ -38,7 +38,7 @@ next_unique p dem ask past x h =
             ∙ sym (get-table (count p) (given (entry_in_force p dem ask past)) i 0 lt))
 
 -- each schedule is the list of `schedule_by` of its length
-pub schedule_unique : (p : Plan) (dem : ℕ → ℕ → ℕ) (ask : List Tick → Frac) (ticks : List Tick)
+pub schedule_unique : (p : Plan) (dem : JobDemands) (ask : PublishedDemand) (ticks : List Tick)
     → IsScheduleBy p dem ask ticks → ticks ≡ schedule_by p dem ask (length ticks)
 unfolding schedule_by
 schedule_unique p dem ask [] h = refl
@@ -47,7 +47,7 @@ schedule_unique p dem ask (x ∷ past) h =
     ap (λ y. y ∷ past) (next_unique p dem ask past x h.1) ∙ ap (λ ps. next_tick p dem ask ps ∷ ps) e
 
 -- the tick that `next_tick` computes may follow the ticks before it
-pub next_tick-may : (p : Plan) (dem : ℕ → ℕ → ℕ) (ask : List Tick → Frac) (past : List Tick)
+pub next_tick-may : (p : Plan) (dem : JobDemands) (ask : PublishedDemand) (past : List Tick)
     → IsNext p dem ask past (next_tick p dem ask past)
 next_tick-may p dem ask past = record {
   one_share_each = length-list_below (count p) given;
@@ -64,7 +64,7 @@ next_tick-may p dem ask past = record {
     given = allotment (count p) (key_of p.scheduler p (length past)) f (left p dem past)
 
 -- there is a schedule of each length, for any published demand
-pub schedule_exists : (p : Plan) (dem : ℕ → ℕ → ℕ) (ask : List Tick → Frac) (t : ℕ)
+pub schedule_exists : (p : Plan) (dem : JobDemands) (ask : PublishedDemand) (t : ℕ)
     → IsScheduleBy p dem ask (schedule_by p dem ask t) × (length (schedule_by p dem ask t) ≡ t)
 unfolding schedule_by
 schedule_exists p dem ask zero = (tt, refl)
@@ -73,22 +73,22 @@ schedule_exists p dem ask (suc t) =
     ((r.0, next_tick-may p dem ask (schedule_by p dem ask t)), omega (arith, r.1))
 
 -- the schedule of no ticks is empty, and each longer one is a shorter one with its next tick
-pub schedule-none : (p : Plan) (dem : ℕ → ℕ → ℕ) (ask : List Tick → Frac) → schedule_by p dem ask zero ≡ []
+pub schedule-none : (p : Plan) (dem : JobDemands) (ask : PublishedDemand) → schedule_by p dem ask zero ≡ []
 unfolding schedule_by
 schedule-none p dem ask = refl
 
-pub schedule-suc : (p : Plan) (dem : ℕ → ℕ → ℕ) (ask : List Tick → Frac) (t : ℕ)
+pub schedule-suc : (p : Plan) (dem : JobDemands) (ask : PublishedDemand) (t : ℕ)
     → schedule_by p dem ask (suc t) ≡ next_tick p dem ask (schedule_by p dem ask t) ∷ schedule_by p dem ask t
 unfolding schedule_by
 schedule-suc p dem ask t = refl
 
 -- the entry at a decision is the one that the published demand picks there
-pub force-decided : (p : Plan) (dem : ℕ → ℕ → ℕ) (ask : List Tick → Frac) (past : List Tick) → is_decision p dem past ≡ true
+pub force-decided : (p : Plan) (dem : JobDemands) (ask : PublishedDemand) (past : List Tick) → is_decision p dem past ≡ true
     → entry_in_force p dem ask past ≡ lowest_entry p.machine (ask past)
 force-decided p dem ask [] e = refl
 force-decided p dem ask (x ∷ past) e = ap (λ b. if b then lowest_entry p.machine (ask (x ∷ past)) else entry_in_force p dem ask past) e
 
-pub force-within : (p : Plan) (dem : ℕ → ℕ → ℕ) (ask : List Tick → Frac) → 0 < length p.machine.points → (past : List Tick)
+pub force-within : (p : Plan) (dem : JobDemands) (ask : PublishedDemand) → 0 < length p.machine.points → (past : List Tick)
     → entry_in_force p dem ask past < length p.machine.points
 force-within p dem ask some [] = lowest_within p.machine (ask []) some
 force-within p dem ask some (x ∷ past) = go (is_decision p dem (x ∷ past)) (force-within p dem ask some past)

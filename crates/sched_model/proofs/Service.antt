@@ -1,10 +1,9 @@
 -- What the jobs have had on a schedule.
 use Rattle.std.proofs.Common.{◌≡◌, ℕ, zero, suc, drop, ◌+◌, ◌-◌, ◌<◌, ◌≤◌, Bool, true, false, List, [], ◌∷◌, length, refl, arith, if◌then◌else◌, ap}
 use Rattle.std.proofs.lemmas.Bool.Decides.{nat_tests}
-use Rattle.grid_fraction.specs.declared.Frac.{Frac}
 use Rattle.sched_model.specs.Plan.{Plan, count, point}
-use Rattle.sched_model.specs.Jobs.{release, due, is_in_window}
-use Rattle.sched_model.specs.Ticks.{Tick, exec, share, left, at}
+use Rattle.sched_model.specs.Jobs.{JobDemands, release, due, is_in_window}
+use Rattle.sched_model.specs.Ticks.{PublishedDemand, Tick, exec, share, left, at}
 use Rattle.sched_model.specs.Priority.{IsLegal, key_of}
 use Rattle.sched_model.specs.Schedule.{IsScheduleBy}
 use Rattle.sched_model.proofs.LevelSums.{share-most}
@@ -26,12 +25,12 @@ exec-drop p i k (suc n) [] = omega arith
 exec-drop p i k (suc n) (x ∷ ticks) = omega (arith, exec-drop p i k n ticks)
 
 -- in a legal tick no task gets more than its latest job needs
-pub share-legal : (p : Plan) (dem : ℕ → ℕ → ℕ) (past : List Tick) (f : ℕ) (x : Tick) → IsLegal p dem past f x
+pub share-legal : (p : Plan) (dem : JobDemands) (past : List Tick) (f : ℕ) (x : Tick) → IsLegal p dem past f x
     → (i : ℕ) → i < count p → share x i ≤ left p dem past i
 share-legal p dem past f x = share-most (count p) (key_of p.scheduler p (length past)) f (left p dem past) (share x)
 
 -- a tick that gives no task more than its latest job needs takes no job over its demand
-pub exec-within : (p : Plan) (dem : ℕ → ℕ → ℕ) (x : Tick) (past : List Tick) (i k : ℕ) → share x i ≤ left p dem past i
+pub exec-within : (p : Plan) (dem : JobDemands) (x : Tick) (past : List Tick) (i k : ℕ) → share x i ≤ left p dem past i
     → exec p past i k ≤ dem i k → exec p (x ∷ past) i k ≤ dem i k
 exec-within p dem x past i k own had = go (is_in_window p i k (length past)) refl
   where
@@ -45,7 +44,7 @@ exec-within p dem x past i k own had = go (is_in_window p i k (length past)) ref
     go false e = rw e (omega (arith, had))
 
 -- on a schedule no job gets more than its demand
-pub exec-most : (p : Plan) (dem : ℕ → ℕ → ℕ) (ask : List Tick → Frac) (past : List Tick) → IsScheduleBy p dem ask past → (i k : ℕ)
+pub exec-most : (p : Plan) (dem : JobDemands) (ask : PublishedDemand) (past : List Tick) → IsScheduleBy p dem ask past → (i k : ℕ)
     → i < count p → exec p past i k ≤ dem i k
 exec-most p dem ask [] h i k lt = omega arith
 exec-most p dem ask (x ∷ past) h i k lt =

@@ -5,15 +5,14 @@ use Rattle.std.specs.List.{AllByRecursion}
 use Rattle.std.proofs.lemmas.List.Sums.{sum_by-cons}
 use Rattle.std.proofs.lemmas.Bool.Decides.{nat_tests}
 use Rattle.std.proofs.lemmas.Bool.{or_parts, false_from_ne_true}
-use Rattle.grid_fraction.specs.declared.Frac.{Frac}
 use Rattle.grid_fraction.proofs.Counts.{count-append}
 use Rattle.grid_fraction.proofs.Searches.{any_below-false}
 use Rattle.freq_table.specs.Tables.{lowest_entry}
 use Rattle.sched_model.specs.declared.holder.Holder.{Holder}
 use Rattle.sched_model.specs.declared.holder.Holder.TheVariants.{Nobody, Held}
 use Rattle.sched_model.specs.Plan.{Plan, count, point, period}
-use Rattle.sched_model.specs.Jobs.{latest, releases_at, is_release}
-use Rattle.sched_model.specs.Ticks.{Tick, exec}
+use Rattle.sched_model.specs.Jobs.{JobDemands, latest, releases_at, is_release}
+use Rattle.sched_model.specs.Ticks.{PublishedDemand, Tick, exec}
 use Rattle.sched_model.specs.Decision.{is_decision}
 use Rattle.sched_model.specs.Schedule.{entry_in_force, IsNext, IsScheduleBy}
 use Rattle.sched_model.specs.Admission.{IsWithinLimits}
@@ -28,18 +27,18 @@ use Rattle.sched_model.proofs.Units.{each-weaker, each-unit, units-had, units-lo
 use Rattle.trace_text.proofs.PlainLines.{each-append}
 
 -- nobody, or the latest job of a task at tick t, which needs something
-abbrev pub IsNow : Plan → (ℕ → ℕ → ℕ) → ℕ → Holder → Type 0
+abbrev pub IsNow : Plan → JobDemands → ℕ → Holder → Type 0
 IsNow p dem t Nobody = Unit {0}
 IsNow p dem t (Held i k) = (i < count p) × (k ≡ latest p i t) × (0 < dem i k)
 
 -- where there is no decision, no job is released
-pub none-released : (p : Plan) (dem : ℕ → ℕ → ℕ) (past : List Tick) → is_decision p dem past ≡ false → (i : ℕ) → i < count p
+pub none-released : (p : Plan) (dem : JobDemands) (past : List Tick) → is_decision p dem past ≡ false → (i : ℕ) → i < count p
     → releases_at p i (length past) ≡ false
 none-released p dem [] e i lt = absurd (true≢false e)
 none-released p dem (x ∷ past) e i lt =
     any_below-false (count p) (λ j. releases_at p j (length (x ∷ past))) (or_parts (is_release p (length (x ∷ past))) _ e).0 i lt
 
-module _ (p : Plan) (dem : ℕ → ℕ → ℕ) (periods : (i : ℕ) → 0 < period p i) where
+module _ (p : Plan) (dem : JobDemands) (periods : (i : ℕ) → 0 < period p i) where
   -- where no job of a task is released, its latest job stays
   pub stays-unreleased : (x : Tick) (past : List Tick) (i : ℕ) → releases_at p i (length (x ∷ past)) ≡ false
       → latest p i (length (x ∷ past)) ≡ latest p i (length past)
@@ -51,7 +50,7 @@ module _ (p : Plan) (dem : ℕ → ℕ → ℕ) (periods : (i : ℕ) → 0 < per
       → latest p i (length (x ∷ past)) ≡ latest p i (length past)
   stays x past e i lt = stays-unreleased x past i (none-released p dem (x ∷ past) e i lt)
 
-module _ (p : Plan) (dem : ℕ → ℕ → ℕ) (ask : List Tick → Frac) where
+module _ (p : Plan) (dem : JobDemands) (ask : PublishedDemand) where
   abbrev speed_of : ℕ → ℕ
   speed_of e = (point p e).speed
 

@@ -6,14 +6,13 @@ use Rattle.std.proofs.lemmas.List.{length-replicate}
 use Rattle.std.proofs.lemmas.List.Folds.{sum_by-replicate}
 use Rattle.std.proofs.lemmas.List.Sums.{sum_by-append}
 use Rattle.std.proofs.lemmas.Bool.Decides.{nat_tests}
-use Rattle.grid_fraction.specs.declared.Frac.{Frac}
 use Rattle.grid_fraction.specs.Numbers.{sum_below, sum_where}
 use Rattle.grid_fraction.proofs.Sums.{sum_below-one, sum_below-same}
 use Rattle.sched_model.specs.declared.holder.Holder.{Holder}
 use Rattle.sched_model.specs.declared.holder.Holder.TheVariants.{Nobody, Held}
 use Rattle.sched_model.specs.Plan.{Plan, count, point, period}
-use Rattle.sched_model.specs.Jobs.{latest, release, due, is_in_window}
-use Rattle.sched_model.specs.Ticks.{Tick, exec, share, left}
+use Rattle.sched_model.specs.Jobs.{JobDemands, latest, release, due, is_in_window}
+use Rattle.sched_model.specs.Ticks.{PublishedDemand, Tick, exec, share, left}
 use Rattle.sched_model.specs.Priority.{key_of, in_order}
 use Rattle.sched_model.specs.Schedule.{IsNext}
 use Rattle.sched_model.specs.Notes.{same_holder, given_units, tick_units}
@@ -143,7 +142,7 @@ module _ (p : Plan) (past : List Tick) (x : Tick) where
           let high : length past < due p i k = subst (λ m. length past < due p i m) (sym same) (lt-due p i (length past) (periods i)) in
           absurd (true≢false (grind (arith, nat_tests)))
 
-module _ (p : Plan) (dem : ℕ → ℕ → ℕ) (ask : List Tick → Frac) (past : List Tick) (x : Tick) (next : IsNext p dem ask past x) where
+module _ (p : Plan) (dem : JobDemands) (ask : PublishedDemand) (past : List Tick) (x : Tick) (next : IsNext p dem ask past x) where
   -- a legal tick gives at most its speed
   pub shares-fit : sum_below (count p) (share x) ≤ (point p x.entry).speed
   shares-fit =

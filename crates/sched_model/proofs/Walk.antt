@@ -6,13 +6,12 @@ use Rattle.std.proofs.lemmas.Bool.Decides.{nat_tests}
 use Rattle.dvs_base.specs.declared.note.Note.{Note}
 use Rattle.dvs_base.specs.declared.note.Note.TheVariants.{Release, Done, Run, Idle, Speed}
 use Rattle.dvs_base.specs.declared.note.Pos.{Pos}
-use Rattle.grid_fraction.specs.declared.Frac.{Frac}
 use Rattle.grid_fraction.specs.Numbers.{list_below}
 use Rattle.sched_model.specs.declared.holder.Holder.{Holder}
 use Rattle.sched_model.specs.declared.holder.Holder.TheVariants.{Nobody, Held}
 use Rattle.sched_model.specs.Plan.{Plan, count, point}
-use Rattle.sched_model.specs.Jobs.{latest, releases_at}
-use Rattle.sched_model.specs.Ticks.{Tick, exec}
+use Rattle.sched_model.specs.Jobs.{JobDemands, latest, releases_at}
+use Rattle.sched_model.specs.Ticks.{PublishedDemand, Tick, exec}
 use Rattle.sched_model.specs.Schedule.{IsScheduleBy}
 use Rattle.sched_model.specs.Admission.{IsWithinLimits}
 use Rattle.sched_model.specs.Notes.{Span, Piece, pieces_of, position_of, run_energy, idle_energy, release_notes, all_release_notes, had_by, segment_notes, pieces_notes, span_notes, notes_before_end}
@@ -34,7 +33,7 @@ each-flat P (suc n) f h =
 abbrev pub at_unit : Plan → Span → ℕ → Pos
 at_unit p s = position_of (length s.past) ((point p s.entry).speed)
 
-module _ (p : Plan) (dem : ℕ → ℕ → ℕ) (ask : List Tick → Frac) where
+module _ (p : Plan) (dem : JobDemands) (ask : PublishedDemand) where
   -- a fact of each kind of note of a span whose units have such holders
   pub record EachNote (P : Note → Type 0) (IsHolder : Holder → Type 0) (s : Span) : Type 0 where
     pub release : (i : ℕ) → i < count p → P (Release (length s.past) i (latest p i (length s.past)))

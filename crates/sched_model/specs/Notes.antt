@@ -4,17 +4,17 @@ use Rattle.dvs_base.specs.declared.note.Note.{Note}
 use Rattle.sched_model.specs.declared.holder.Holder.{Holder}
 use Rattle.sched_model.specs.declared.holder.Holder.TheVariants.{Held, Nobody}
 use Rattle.dvs_base.specs.declared.note.Note.TheVariants.{Release, Done, Run, Idle, Speed, End}
-use Rattle.grid_fraction.specs.declared.Frac.{Frac}
 use Rattle.grid_fraction.specs.Numbers.{list_below, sum_below}
 use Rattle.dvs_base.specs.declared.note.Pos.{Pos}
+use Rattle.freq_table.specs.declared.limits.TheConstants.{MOST_MILLIVOLTS}
 use Rattle.sched_model.specs.Plan.{Plan, count, point}
-use Rattle.sched_model.specs.Jobs.{latest, releases_at}
-use Rattle.sched_model.specs.Ticks.{Tick, exec, share}
+use Rattle.sched_model.specs.Jobs.{JobDemands, latest, releases_at}
+use Rattle.sched_model.specs.Ticks.{PublishedDemand, Tick, exec, share}
 use Rattle.sched_model.specs.Priority.{key_of, in_order}
 use Rattle.sched_model.specs.Decision.{is_decision}
 
 -- the release of task i at tick t, with the completion of its job where its demand is 0; none where it has no release
-abbrev pub release_notes : Plan → (ℕ → ℕ → ℕ) → ℕ → ℕ → List Note
+abbrev pub release_notes : Plan → JobDemands → ℕ → ℕ → List Note
 release_notes p dem t i =
     let k = latest p i t in
     if releases_at p i t
@@ -22,7 +22,7 @@ release_notes p dem t i =
     else []
 
 -- the notes of the releases of tick t, in file order
-abbrev pub all_release_notes : Plan → (ℕ → ℕ → ℕ) → ℕ → List Note
+abbrev pub all_release_notes : Plan → JobDemands → ℕ → List Note
 all_release_notes p dem t = flat_map (release_notes p dem t) (list_below (count p) (λ i. i))
 
 -- whether two holders are the same: nobody, or the same job
@@ -55,8 +55,12 @@ run_energy p e units = let mv = (point p e).millivolts in units * mv * mv * 1000
 abbrev pub idle_energy : Plan → ℕ → ℕ → ℕ
 idle_energy p e units = let mv = (point p e).millivolts in units * mv * mv * p.machine.idle
 
+-- the most energy of one unit: that of a running unit at the highest voltage
+abbrev pub most_unit_energy : ℕ
+most_unit_energy = MOST_MILLIVOLTS * MOST_MILLIVOLTS * 1000
+
 -- a segment from unit number q of a span on, with the completion of its job where the job then has its demand
-abbrev pub segment_notes : Plan → (ℕ → ℕ → ℕ) → Span → ℕ → ℕ → Holder → List Note
+abbrev pub segment_notes : Plan → JobDemands → Span → ℕ → ℕ → Holder → List Note
 segment_notes p dem s q units Nobody =
     let at_unit = position_of (length s.past) ((point p s.entry).speed) in
     Idle (at_unit q) (at_unit (q + units)) units (idle_energy p s.entry units) ∷ []
@@ -71,7 +75,7 @@ pub record Piece : Type 0 where
   pub units : ℕ
 
 -- the notes of the pieces of a span from its unit number q on
-abbrev pub pieces_notes : Plan → (ℕ → ℕ → ℕ) → Span → ℕ → List Piece → List Note
+abbrev pub pieces_notes : Plan → JobDemands → Span → ℕ → List Piece → List Note
 pieces_notes p dem s q [] = []
 pieces_notes p dem s q (r ∷ pieces) = segment_notes p dem s q r.units r.holder ++ pieces_notes p dem s (q + r.units) pieces
 
@@ -89,7 +93,7 @@ pieces_of [] = []
 pieces_of (h ∷ hs) = before_pieces h (pieces_of hs)
 
 -- the notes from a decision instant up to the next: the releases, the speed and the segments
-abbrev pub span_notes : Plan → (ℕ → ℕ → ℕ) → (List Tick → Frac) → Span → List Note
+abbrev pub span_notes : Plan → JobDemands → PublishedDemand → Span → List Note
 span_notes p dem ask s =
     all_release_notes p dem (length s.past)
     ++ Speed (length s.past) ((point p s.entry).speed) ((ask s.past).num) ((ask s.past).den)
@@ -122,7 +126,7 @@ lengthened us [] = []
 lengthened us (s ∷ spans) = record { past = s.past; entry = s.entry; units = s.units ++ us } ∷ spans
 
 -- the spans of a list of ticks, the last one first
-abbrev pub spans_of : Plan → (ℕ → ℕ → ℕ) → List Tick → List Span
+abbrev pub spans_of : Plan → JobDemands → List Tick → List Span
 spans_of p dem [] = []
 spans_of p dem (x ∷ past) =
     if is_decision p dem past
@@ -130,11 +134,11 @@ spans_of p dem (x ∷ past) =
     else lengthened (tick_units p past x) (spans_of p dem past)
 
 -- the notes of a list of ticks without the end
-unfoldable pub notes_before_end : Plan → (ℕ → ℕ → ℕ) → (List Tick → Frac) → List Tick → List Note
+unfoldable pub notes_before_end : Plan → JobDemands → PublishedDemand → List Tick → List Note
 notes_before_end p dem ask ticks = flat_map (span_notes p dem ask) (reverse (spans_of p dem ticks))
 
 -- the notes of a list of ticks, with the end and its sums of energy
-abbrev pub notes_of : Plan → (ℕ → ℕ → ℕ) → (List Tick → Frac) → List Tick → List Note
+abbrev pub notes_of : Plan → JobDemands → PublishedDemand → List Tick → List Note
 notes_of p dem ask ticks =
     let notes = notes_before_end p dem ask ticks in
     notes ++ End (length ticks) (sum_by energy_run notes) (sum_by energy_idle notes) ∷ []

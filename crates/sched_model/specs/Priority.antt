@@ -2,9 +2,9 @@
 use Rattle.std.specs.Prelude.{ℕ, Bool, ◌||◌, ◌&&◌, nat_eq, nat_lt, List, [], ◌∷◌, if◌then◌else◌, zero, suc, ◌+◌, ◌<◌, ◌≡◌, min, ◌-◌, length, Option, Some, None}
 use Rattle.dvs_base.specs.declared.kind.Scheduler.{Scheduler}
 use Rattle.dvs_base.specs.declared.kind.Scheduler.TheVariants.{Edf, Rm}
-use Rattle.grid_fraction.specs.Numbers.{sum_where}
+use Rattle.grid_fraction.specs.Numbers.{sum_where, list_below}
 use Rattle.sched_model.specs.Plan.{Plan, period, count}
-use Rattle.sched_model.specs.Jobs.{deadline}
+use Rattle.sched_model.specs.Jobs.{JobDemands, deadline}
 use Rattle.sched_model.specs.Ticks.{Tick, share, left}
 
 -- whether task j comes before task i: by the key, and among equal keys by the number
@@ -25,6 +25,10 @@ insert_by key i (j ∷ js) = if stands_before key i j then i ∷ j ∷ js else j
 unfoldable pub in_order : (ℕ → ℕ) → ℕ → List ℕ
 in_order key zero = []
 in_order key (suc n) = insert_by key n (in_order key n)
+
+-- where the pairs are a key and its number for each number below n, the list has these numbers in the order of the key
+abbrev pub AreInOrder : List (ℕ × ℕ) → List ℕ → Type 0
+AreInOrder pairs numbers = (key : ℕ → ℕ) (n : ℕ) → pairs ≡ list_below n (λ i. (key i, i)) → numbers ≡ in_order key n
 
 -- the key by which a scheduler orders the tasks at tick t: the deadline under EDF, the period under RM
 abbrev pub key_of : Scheduler → Plan → ℕ → ℕ → ℕ
@@ -55,5 +59,5 @@ allotment n key room need i = min room (sum_up_to n key need i) - min room (sum_
 
 -- a tick after `past` is legal at speed f: the f units go to the tasks by priority,
 -- to each up to what its latest job needs
-abbrev pub IsLegal : Plan → (ℕ → ℕ → ℕ) → List Tick → ℕ → Tick → Type 0
+abbrev pub IsLegal : Plan → JobDemands → List Tick → ℕ → Tick → Type 0
 IsLegal p dem past f x = SharesOut (count p) (key_of p.scheduler p (length past)) f (left p dem past) (share x)

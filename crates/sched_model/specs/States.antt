@@ -2,10 +2,12 @@
 use Rattle.std.specs.Prelude.{ℕ, List, true, ◌-◌, if◌then◌else◌, ◌+◌, false, ◌≡◌, ◌<◌, ◌≤◌, length, map, slice_set, [], ◌∷◌}
 use Rattle.std.specs.List.{slice_index_or}
 use Rattle.dvs_base.specs.Widths.{u64_end}
-use Rattle.grid_fraction.specs.Numbers.{list_below}
+use Rattle.dvs_base.specs.declared.kind.Scheduler.{Scheduler}
+use Rattle.dvs_base.specs.declared.kind.Scheduler.TheVariants.{Edf, Rm}
+use Rattle.grid_fraction.specs.Numbers.{list_below, least_below}
 use Rattle.sched_model.specs.declared.state.Row.{Row}
 use Rattle.sched_model.specs.Plan.{worst, period, offset, Plan, count}
-use Rattle.sched_model.specs.Jobs.{due, latest, last_release}
+use Rattle.sched_model.specs.Jobs.{JobDemands, due, latest, last_release}
 use Rattle.sched_model.specs.Ticks.{Tick, exec, is_done, at, wleft, is_complete}
 
 -- what a governor sees: the tick, the rows, the tick of the last mark, and what each job might need there
@@ -22,6 +24,15 @@ no_row = record { deadline = 0; job = 0; used = 0; done = true; worst = 0 }
 -- the row of task i
 abbrev pub row_at : StateOf → ℕ → Row
 row_at s i = slice_index_or s.rows i no_row
+
+-- the earliest deadline of the rows, which is the next release of any task
+abbrev pub earliest_in : Plan → StateOf → ℕ
+earliest_in p s = least_below (count p) (λ i. (row_at s i).deadline)
+
+-- the key by which a scheduler orders the tasks in a state: the deadline under EDF, the period under RM
+abbrev pub key_in : Scheduler → Plan → StateOf → ℕ → ℕ
+key_in Edf p s i = (row_at s i).deadline
+key_in Rm p s i = period p i
 
 -- the units that the job of a row may still need by its worst case; 0 where it is complete
 abbrev pub row_wleft : Row → ℕ
@@ -98,7 +109,7 @@ pub record CanFinish (s : StateOf) (i : ℕ) : Type 0 where
 
 -- the row of task i before the releases of the tick after `past`:
 -- job 0 at the start, and otherwise the latest job of the tick before
-abbrev pub prior_row : Plan → (ℕ → ℕ → ℕ) → List Tick → ℕ → Row
+abbrev pub prior_row : Plan → JobDemands → List Tick → ℕ → Row
 prior_row p dem [] i = opening_row (offset p i) (worst p i)
 prior_row p dem (x ∷ past) i =
     let k = latest p i (length past) in
@@ -110,12 +121,12 @@ prior_base_at p [] = 0
 prior_base_at p (x ∷ past) = last_release p (length past)
 
 -- what the job of task i might still need at the mark before the releases of the tick after `past`; 0 at the start
-abbrev pub prior_base : Plan → (ℕ → ℕ → ℕ) → List Tick → ℕ → ℕ
+abbrev pub prior_base : Plan → JobDemands → List Tick → ℕ → ℕ
 prior_base p dem [] i = 0
 prior_base p dem (x ∷ past) i = wleft p dem (at (last_release p (length past)) past) i
 
 -- the state before the releases of the tick after `past`
-abbrev pub prior_state : Plan → (ℕ → ℕ → ℕ) → List Tick → StateOf
+abbrev pub prior_state : Plan → JobDemands → List Tick → StateOf
 prior_state p dem past = record {
   now = length past;
   rows = list_below (count p) (prior_row p dem past);
@@ -124,13 +135,13 @@ prior_state p dem past = record {
 }
 
 -- the row of task i at the tick after `past`, after its releases
-abbrev pub row_of : Plan → (ℕ → ℕ → ℕ) → List Tick → ℕ → Row
+abbrev pub row_of : Plan → JobDemands → List Tick → ℕ → Row
 row_of p dem past i =
     let k = latest p i (length past) in
     record { deadline = due p i k; job = k; used = exec p past i k; done = is_complete p dem past i; worst = worst p i }
 
 -- the state at the tick after `past`, after its releases and their mark
-abbrev pub state_of : Plan → (ℕ → ℕ → ℕ) → List Tick → StateOf
+abbrev pub state_of : Plan → JobDemands → List Tick → StateOf
 state_of p dem past =
     let r = last_release p (length past) in
     record {
