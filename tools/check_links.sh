@@ -111,7 +111,7 @@ BEGIN {
     }
     close(code)
     # names in backticks that are no names of this code
-    n = split("HOW LD_PRELOAD SCHED_DEADLINE WORDS NAME rsvg-convert then-entries-gt64", parts, " ")
+    n = split("HOW LD_PRELOAD SCHED_DEADLINE UnicodeDecodeError WORDS NAME rsvg-convert then-entries-gt64", parts, " ")
     for (i = 1; i <= n; i++) others[parts[i]] = 1
     for (path in tree) if (path ~ /^((docs|examples)\/)?[^\/]*\.md$/) pages[++count] = path
     for (p = 1; p <= count; p++) {
