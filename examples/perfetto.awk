@@ -1,7 +1,7 @@
 # A trace of either version as trace events in JSON, for Perfetto and Chrome: awk -f perfetto.awk FILE > FILE.json
 # A track for each task and one for idle time, with the release and the end of each job; counters for the speed and for
 # the published demand. A tick is a microsecond. Energies are text, because a number in JSON may lose digits past 2^53.
-# Plain POSIX awk. Checked by check_converters.sh: json.tool reads the events, and their sums are those of the trace.
+# Plain POSIX awk. Checked by tools/check_converters.sh: json.tool reads the events, and their sums are those of the trace.
 
 function part_of(units) { return units > 0 ? substr(sprintf("%.6f", units / speed), 2) : "" }
 function time(position) { split(position, place, ":"); return place[1] part_of(place[2]) }

@@ -1,5 +1,5 @@
 # Completion of the commands, options and values of rtdvs in bash: source examples/rtdvs.bash
-# Checked by check_completion.bash, which compares it with the table of README.md.
+# Checked by tools/check_completion.sh, which compares it with the table of README.md.
 
 _rtdvs_options() {
     case $1 in

@@ -1,7 +1,7 @@
 # A trace of either version as a table in CSV: awk -v table=jobs -f segments.awk FILE > FILE.csv
 # The tables are segments (printed where none is named), jobs and decisions; docs/CONVERTERS.md has their columns.
 # Plain POSIX awk. Times are joined as text, because awk's numbers don't hold every digit of a long run.
-# Checked by check_converters.sh: Python's csv module reads each table, and its sums are compared with the trace.
+# Checked by tools/check_converters.sh: Python's csv module reads each table, and its sums are compared with the trace.
 
 function whole(ticks) { return sprintf("%.0f", ticks) }
 # Units as a part of a tick at the speed in force: the digits behind a whole number of ticks.

@@ -1,7 +1,7 @@
 # A trace of either version as a value change dump, for GTKWave and other wave viewers: awk -f vcd.awk FILE > FILE.vcd
 # Each task has two wires: `runs`, and `open` from a job's release until its end. Above them are idle time, the number
 # of the job that runs (0 where none), the speed, the published demand and the energy so far. A tick is a microsecond.
-# Plain POSIX awk. Checked by check_converters.sh: vcd2fst reads the waves, and their sums are those of the trace.
+# Plain POSIX awk. Checked by tools/check_converters.sh: vcd2fst reads the waves, and their sums are those of the trace.
 
 function add(line) { lines[count++] = line }
 function move(moment) { if (moment != now) add("#" moment); now = moment }

@@ -1,6 +1,6 @@
 # named.sh: which files name a command, a governor's kind or a version of the trace, outside its own files.
-#   sh docs/named.sh           prints a table: names that are in the same files share a row
-#   sh docs/named.sh --check   ends with 1 where MAP.md has another table
+#   sh tools/named.sh           prints a table: names that are in the same files share a row
+#   sh tools/named.sh --check   ends with 1 where MAP.md has another table
 # A file names a command by its variant, its words or its module. Looked at are `src` and `specs` of `words` and of
 # `rtdvs_top`; a command's own files are the two of `rtdvs_top` that have its name, `generated` those of `workload`.
 # `replay` and `migrate` have the same two, `trace`, and one record of words. A file names a kind or a version by its
@@ -76,8 +76,14 @@ table() {
 
 case $mode in
 --check)
-    table | while read -r line; do
-        grep -qxF -e "$line" docs/MAP.md || { echo "named.sh: MAP.md lacks: $line"; exit 1; }
-    done ;;
+    table | {
+        lacks=0 count=0
+        while read -r line; do
+            count=$((count + 1))
+            grep -qxF -e "$line" docs/MAP.md || { echo "docs/MAP.md lacks: $line"; lacks=$((lacks + 1)); }
+        done
+        echo "named: $count lines, $lacks differ"
+        [ $lacks = 0 ]
+    } ;;
 *) table ;;
 esac

@@ -1,7 +1,6 @@
-# check_copies.sh: checks that what a page shows of a file is that file. It prints a line for each fault and ends with 1,
-# else with 0. A block shows a file whole where its fence names the file, as ```rust crates/words/src/lib.rt. With the
-# word `part` behind the name, each line of the block has to be a line of the file. Of a crate of which a page shows one
-# file whole, the page has to show each file so.
+# check_copies.sh: checks that what a page shows of a file is that file. A block shows a file whole where its fence
+# names the file, as ```rust crates/words/src/lib.rt. With the word `part` behind the name, each line of the block has to
+# be a line of the file. Of a crate of which a page shows one file whole, the page has to show each file so.
 cd "$(dirname "$0")/.." || exit 2
 exec awk '
 function fault(what) { print page ":" nr ": " what; faults++ }
@@ -15,6 +14,7 @@ function text_of(file,    line, text, status) {
 }
 
 function check_block(    lines, n, i, file) {
+    blocks++
     file = text_of(shown)
     if (!part) {
         if (text != file) fault("not the text of " shown)
@@ -36,7 +36,7 @@ function check_crates(    key, parts, list, file) {
 }
 
 BEGIN {
-    list = "ls README.md docs/*.md"
+    list = "ls *.md docs/*.md examples/*.md"
     while ((list | getline page) > 0) {
         nr = 0
         shown = ""
@@ -56,5 +56,6 @@ BEGIN {
     }
     close(list)
     check_crates()
-    if (faults) exit 1
+    print "copies: " blocks + 0 " blocks, " faults + 0 " faults"
+    exit faults > 0
 }'

@@ -1,7 +1,8 @@
-# Makes all pictures that are checked in, with the built program and draw.awk:
+# pictures.sh: makes all pictures that are checked in, with the built program and draw.awk, or others of their names:
 #
-#     sh examples/pictures.sh ./rtdvs
+#     sh tools/pictures.sh PROGRAM [FOLDER]
 #
+# Without a folder they are those of examples/pictures; check_pictures.sh makes others and compares them with these.
 # Each is drawn from the trace in version 2, which names the tasks. A picture is replaced only when it is whole.
 # The variable AWK names another awk than `awk`; every one gives the same bytes.
 #
@@ -9,24 +10,26 @@
 # shellcheck shell=sh
 set -eu
 
-if [ $# -ne 1 ] || [ ! -x "$1" ]; then
-    echo "usage: sh pictures.sh PROGRAM, where PROGRAM is the built rtdvs" >&2
+if [ $# -lt 1 ] || [ $# -gt 2 ] || [ ! -x "$1" ]; then
+    echo "usage: sh pictures.sh PROGRAM [FOLDER], where PROGRAM is the built rtdvs" >&2
     exit 2
 fi
 program=$(cd "$(dirname "$1")" && pwd)/$(basename "$1")
-cd "$(dirname "$0")/pictures"
+target=examples/pictures
+if [ $# -eq 2 ]; then target=$(cd "$2" && pwd); fi
+cd "$(dirname "$0")/.."
 
 # picture FILE FOLDER SCHEDULER GOVERNOR TICKS OPTION..: FOLDER is one of the examples; the options are those of draw.awk.
 # A run that fails leaves no whole trace, and then draw.awk fails too.
 # shellcheck disable=SC2086  # without a demand file there is no option, and an awk may be two words
 picture() {
-    file=$1 folder=../../crates/example_runs/data/$2 scheduler=$3 governor=$4 ticks=$5
+    file=$target/$1 folder=crates/example_runs/data/$2 scheduler=$3 governor=$4 ticks=$5
     shift 5
     demands=
     if [ -f "$folder/demands.csv" ]; then demands="--demands $folder/demands.csv"; fi
     "$program" run --tasks "$folder/tasks.toml" --machine "$folder/machine.toml" $demands \
         --scheduler "$scheduler" --governor "$governor" --ticks "$ticks" --format 2 |
-        ${AWK:-awk} "$@" -f ../draw.awk > "$file.new" || { rm -f "$file.new"; exit 1; }
+        ${AWK:-awk} "$@" -f examples/draw.awk > "$file.new" || { rm -f "$file.new"; exit 1; }
     mv "$file.new" "$file"
 }
 

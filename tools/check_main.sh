@@ -1,14 +1,14 @@
-# sh check_main.sh PROGRAM: what the built program alone shows, and no contract and no stored run. These are its exit
-# status, what it writes to which of the two streams, its three probes and their limit, and words that aren't text.
-# It prints a line for each case and what differs, and ends with 1 where something does. What each case has to leave is
-# worked out from FORMATS.md. Cases over a full device are left out where there is none.
+# check_main.sh PROGRAM: what the built program alone shows, and no contract and no stored run. These are its exit
+# status, what it writes to which of the two streams, its three probes and their limit, words that are empty or no text,
+# streams that are full or closed, and memory that runs out. What each case has to leave is worked out from FORMATS.md.
+# Cases over a full device, or under a limit of memory, are left out where there is none.
 case ${1:?no program} in
 /*) program=$1 ;;
 *) program=$PWD/$1 ;;
 esac
 [ -x "$program" ] || { echo "no program: $program"; exit 2; }
-devices=/dev work=${TMPDIR:-/tmp}/check_main.$$ cases=0 bad=0
-mkdir "$work" && cd "$work" || exit 2
+devices=/dev cases=0 bad=0
+work=$(mktemp -d) && cd "$work" || exit 2
 trap 'rm -r "$work"' EXIT
 trap 'exit 2' HUP INT PIPE TERM
 
@@ -23,14 +23,11 @@ check() {
     [ "$found" = "$2" ] || same=no
     cmp -s out wanted.out || same=no
     cmp -s err wanted.err || same=no
-    if [ $same = yes ]; then
-        echo "$1: status $found, $(wc -l < out | tr -d ' ') lines out, $(wc -l < err | tr -d ' ') lines err"
-    else
-        bad=$((bad + 1))
-        echo "$1: DIFFERS, status $found, wanted $2"
-        diff wanted.out out | sed 's/^/    out /'
-        diff wanted.err err | sed 's/^/    err /'
-    fi
+    [ $same = no ] || return 0
+    bad=$((bad + 1))
+    echo "$1: status $found, wanted $2"
+    diff wanted.out out | sed 's/^/    out /'
+    diff wanted.err err | sed 's/^/    err /'
 }
 
 # WORDS..: calls the program
@@ -77,6 +74,10 @@ call
 check 'no words' 2 '' 'words: no command'
 call run --ticks 0
 check 'a word with a bad value' 2 '' 'words: 3: bad value 0'
+call admit --tasks '' --machine machine --scheduler edf
+check 'an empty word' 2 '' 'words: 3: bad value '
+call ''
+check 'an empty command' 2 '' 'words: 1: unknown command '
 call admit $two --scheduler
 check 'no last word' 2 '' 'words: 6: no value for --scheduler'
 call é
@@ -102,6 +103,20 @@ check 'a trace that differs' 7 '' 'differs: line 4
 wanted: speed 0 1 1/1
 found: speed 0 1 2/2'
 
+: > out
+"$program" $run >&- 2> err
+found=$?
+check 'standard output is closed' 8 '' 'write: out failed'
+"$program" $run --probes > out 2>&-
+found=$?
+: > err
+check 'standard error is closed, with probes' 0 "$trace" ''
+# More lines than a pipe holds, for a reader that takes one.
+{ "$program" run --tasks each --machine machine --scheduler edf --governor none --ticks 100000 2> err; echo $? > status; } |
+    head -n 1 > out
+read -r found < status
+check 'a reader that stops early' 8 'trace 1' 'write: out failed'
+
 if [ -c $devices/full ]; then
     : > out
     "$program" $run --probes > $devices/full 2> err
@@ -114,6 +129,17 @@ if [ -c $devices/full ]; then
     "$program" admit --tasks much --machine machine --scheduler edf > out 2> $devices/full
     found=$?
     check 'standard error is full, denied' 1 '' ''
+fi
+
+# 12000 kilobytes are enough for a run of two ticks, and less than the largest file.
+if (ulimit -v 12000) 2> err; then
+    dd if=$devices/zero of=zeros bs=1 seek=16777215 count=1 2> err
+    (ulimit -v 12000 && "$program" $run > out 2> err)
+    found=$?
+    check 'little memory, small files' 0 "$trace" ''
+    (ulimit -v 12000 && "$program" admit --tasks zeros --machine machine --scheduler edf > out 2> err)
+    found=$?
+    check 'little memory, a large file' 9 '' 'no memory'
 fi
 
 # A byte that no UTF-8 text has, in a word of its own, in a value, and in the last word.
@@ -139,5 +165,5 @@ probe 3 dones all $ticks"
 end $ticks ${ticks}000000000 0" "$probes"
 done
 
-echo "$cases cases, $bad differ"
+echo "main: $cases cases, $bad differ"
 [ $bad = 0 ]

@@ -1,7 +1,7 @@
-# Compares the completion of rtdvs.bash with the table of README.md: bash examples/check_completion.bash
-# It prints a line for each difference, and ends with 1 where there is one. It is run at the top of the repository.
+# Compares the completion of rtdvs.bash, and the options of the man page, with the table of README.md. It is run at the
+# top of the repository, by check_completion.sh.
 source examples/rtdvs.bash
-bad=0
+cases=0 bad=0
 
 # What is offered for the last of the words, against the words behind the --.
 offers() {
@@ -11,14 +11,15 @@ offers() {
     shift
     COMP_CWORD=$((${#COMP_WORDS[@]} - 1))
     _rtdvs
+    cases=$((cases + 1))
     found=$(printf '%s\n' "${COMPREPLY[@]}" | sort)
     wanted=$(printf '%s\n' "$@" | sort)
-    [ "$found" = "$wanted" ] || { echo "${COMP_WORDS[*]}: found" $found "wanted" $wanted; bad=1; }
+    [ "$found" = "$wanted" ] || { echo "${COMP_WORDS[*]}: found" $found "wanted" $wanted; bad=$((bad + 1)); }
 }
 
-[ "$(complete -p rtdvs)" = 'complete -F _rtdvs rtdvs' ] || { echo 'rtdvs has no completion'; bad=1; }
+[ "$(complete -p rtdvs)" = 'complete -F _rtdvs rtdvs' ] || { echo 'rtdvs has no completion'; bad=$((bad + 1)); }
 rows=$(sed -n '/^| Command | Options/,/^$/p' README.md | grep '^| `')
-[ "$(wc -l <<< "$rows")" -eq 9 ] || { echo 'README.md: not nine commands'; bad=1; }
+[ "$(wc -l <<< "$rows")" -eq 9 ] || { echo 'README.md: not nine commands'; bad=$((bad + 1)); }
 offers '' -- $(cut -d '`' -f 2 <<< "$rows")
 while read -r row; do
     command=$(cut -d '`' -f 2 <<< "$row")
@@ -28,7 +29,7 @@ while read -r row; do
         case $option in --probes) before=($option) ;; *) before=($option 1) ;; esac
         offers $command "${before[@]}" '' -- $(grep -v -x -e $option <<< "$options")
         offers $command "${option%?}" -- $(grep -e "^${option%?}" <<< "$options")
-        grep -q "Fl -${option#--}" docs/rtdvs.1 || { echo "docs/rtdvs.1: no $option"; bad=1; }
+        grep -q "Fl -${option#--}" docs/rtdvs.1 || { echo "docs/rtdvs.1: no $option"; bad=$((bad + 1)); }
     done
 done <<< "$rows"
 
@@ -53,4 +54,5 @@ offers run --tasks --scheduler '' -- --machine --scheduler --governor --ticks --
 folders=(../*/)
 offers run --tasks ../ -- "${folders[@]%/}"
 offers walk '' --
-exit $bad
+echo "completion: $cases cases, $bad differ"
+[ $bad = 0 ]

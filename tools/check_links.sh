@@ -1,13 +1,8 @@
-# check_links.sh: checks the pages, README.md and docs/*.md. It prints a line for each fault and ends with 1, else with 0.
+# check_links.sh: checks the pages, those at the top and in docs and examples.
 # Checked are: the file and the heading of each relative link; each path in backticks; each name of code in backticks,
 # which has to occur as a word in a crate; and that MESSAGES.md has each refusal's line of FORMATS.md.
 # A path may be shortened from the left (`specs/Laws.antt`), and may have `*`. Folders that builds make aren't looked for.
-# Before all that, check_copies.sh compares the files that pages show with the files, reading.sh the lists of READING.md
-# with the clauses, and named.sh the table of MAP.md with the files.
 cd "$(dirname "$0")/.." || exit 2
-sh docs/check_copies.sh || exit
-sh docs/reading.sh --check || exit
-sh docs/named.sh --check || exit
 exec awk '
 function fault(what) { print page ":" nr ": " what; faults++ }
 
@@ -67,7 +62,7 @@ function check_names(name,    parts, n, i) {
 # whether a text looks like a path: by its ending, or by its first folder
 function is_path(text,    parts) {
     if (text !~ /^[A-Za-z_.*][A-Za-z0-9_.*\/-]*$/) return 0
-    if (text ~ /\.(antt|rt|md|sh|awk|c|csv|toml|txt|trace|svg|edit)$/) return 1
+    if (text ~ /\.(antt|rt|md|sh|bash|py|awk|c|csv|toml|txt|trace|svg|edit)$/) return 1
     split(text, parts, "/")
     return text ~ /\// && (parts[1] in tree || parts[1] in ends)
 }
@@ -102,7 +97,7 @@ function each_message(line,    parts, n, i) {
 }
 
 BEGIN {
-    list = "find README.md crates.txt docs examples crates -name out -prune -o -print"
+    list = "find * .ci -name out -prune -o -print"
     while ((list | getline path) > 0) {
         tree[path] = 1
         while (match(path, /\//)) { path = substr(path, RSTART + 1); ends[path] = 1 }
@@ -116,9 +111,9 @@ BEGIN {
     }
     close(code)
     # names in backticks that are no names of this code
-    n = split("HOW LD_PRELOAD SCHED_DEADLINE WORDS NAME rsvg-convert then-entries-gt64", parts, " ")
+    n = split("HOW LD_PRELOAD SCHED_DEADLINE UnicodeDecodeError WORDS NAME rsvg-convert then-entries-gt64", parts, " ")
     for (i = 1; i <= n; i++) others[parts[i]] = 1
-    for (path in tree) if (path ~ /^(README|docs\/[^\/]*)\.md$/) pages[++count] = path
+    for (path in tree) if (path ~ /^((docs|examples)\/)?[^\/]*\.md$/) pages[++count] = path
     for (p = 1; p <= count; p++) {
         fenced = 0
         while ((getline line < pages[p]) > 0) {
@@ -140,6 +135,6 @@ BEGIN {
         }
         close(page)
     }
-    if (faults) exit 1
-    print "pages: no faults"
+    print "links: " count " pages, " faults + 0 " faults"
+    exit faults > 0
 }'

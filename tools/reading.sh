@@ -1,8 +1,8 @@
 # reading.sh: which definitions the clauses of the top call `rtdvs`, and the clause of its exit status, rest on.
-#   sh docs/reading.sh                        prints READING.md from its table on: definitions, their lines, and files
-#   sh docs/reading.sh --write                puts that into READING.md
-#   sh docs/reading.sh --check                ends with 1 where READING.md has something else
-#   sh docs/reading.sh --unreached [CRATE..]  prints the definitions that no clause of a public call reaches
+#   sh tools/reading.sh                        prints READING.md from its table on: definitions, their lines, and files
+#   sh tools/reading.sh --write                puts that into READING.md
+#   sh tools/reading.sh --check                ends with 1 where READING.md has something else
+#   sh tools/reading.sh --unreached [CRATE..]  prints the definitions that no clause of a public call reaches
 # Names are followed through the imports of the file that uses them. A constructor leads to its type, and `←` to `>>=`.
 # Bound names and the names of fields lead nowhere, nor do the enums, structs and constants of the code.
 # In the list a file comes after those that it needs. The order is otherwise that of the sections below, of crates.txt,
@@ -461,8 +461,9 @@ list | --unreached) run "$@" ;;
     ;;
 --check)
     part=$(run) || exit
-    [ "$part" = "$(sed -n "/$from/,\$p" docs/READING.md)" ] && exit
-    echo "docs/READING.md: its table and lists differ from what sh docs/reading.sh prints"
+    lines=$(printf '%s\n' "$part" | wc -l | tr -d ' ')
+    [ "$part" = "$(sed -n "/$from/,\$p" docs/READING.md)" ] && { echo "reading: $lines lines, 0 differ"; exit; }
+    echo "docs/READING.md: its table and lists differ from what sh tools/reading.sh prints"
     exit 1
     ;;
 *)

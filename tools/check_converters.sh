@@ -1,11 +1,31 @@
-# Reads what the converters make of traces by stock readers, and compares it with the traces:
-#     AWK=mawk sh examples/check_converters.sh TRACE..
-# It needs python3, and vcd2fst and fst2vcd of GTKWave. It prints a line for each difference, and then ends with 1.
+# check_converters.sh PROGRAM [TRACE..]: reads what the converters make of traces, and compares it with the traces:
+#     AWK=mawk sh tools/check_converters.sh crates/rtdvs/out/rtdvs
+# Without traces they are those of the examples, and what PROGRAM migrates of those that lie beside their tasks.
+# It needs python3. The waves go through vcd2fst and fst2vcd of GTKWave, and are read as they are where there is none.
 # Whole numbers are compared exactly. A decimal number may differ by the last digit that the converter prints.
-here=$(dirname "$0") work=converted.$$ bad=0
+here=$(dirname "$0")/../examples bad=0
 : "${AWK:=awk}"
-[ $# -gt 0 ] && mkdir "$work" || exit 2
+[ -x "${1:?no program}" ] || { echo "no program: $1"; exit 2; }
+program=$1
+shift
+command -v python3 > /dev/null || { echo 'converters: skipped, no python3'; exit 0; }
+work=$(mktemp -d) || exit 2
 trap 'rm -r "$work"' EXIT
+trap 'exit 2' HUP INT PIPE TERM
+
+# The traces of the examples, in both versions where the tasks and the machine have their usual names.
+if [ $# -eq 0 ]; then
+    data=$here/../crates/example_runs/data
+    set -- "$data"/*/*.trace
+    for trace; do
+        folder=$(dirname "$trace")
+        [ "$folder" != "$data/long" ] || continue
+        migrated=$work/$(basename "$folder")-$(basename "$trace")
+        "$program" migrate --tasks "$folder/tasks.toml" --machine "$folder/machine.toml" --trace "$trace" > "$migrated" ||
+            { echo "$trace: not migrated"; bad=1; continue; }
+        set -- "$@" "$migrated"
+    done
+fi
 
 convert() { $AWK -v table="$2" -f "$here/$1.awk" "$trace" > "$work/$3" || { echo "$trace: $1.awk fails"; bad=1; }; }
 # The input isn't a whole trace: a converter says so in one line, writes nothing else and ends with 1.
@@ -24,8 +44,12 @@ for trace; do
     convert perfetto '' events.json
     convert vcd '' waves.vcd
     python3 -m json.tool "$work/events.json" "$work/out" || { echo "$trace: not JSON"; bad=1; }
-    vcd2fst "$work/waves.vcd" "$work/waves.fst" > "$work/out" && fst2vcd "$work/waves.fst" > "$work/waves.txt" ||
-        { echo "$trace: not a value change dump"; bad=1; }
+    if command -v vcd2fst > /dev/null && command -v fst2vcd > /dev/null; then
+        vcd2fst "$work/waves.vcd" "$work/waves.fst" > "$work/out" && fst2vcd "$work/waves.fst" > "$work/waves.txt" ||
+            { echo "$trace: not a value change dump"; bad=1; }
+    else
+        cp "$work/waves.vcd" "$work/waves.txt"
+    fi
     python3 - "$trace" "$work" << 'END' || bad=1
 import csv, json, sys
 from collections import defaultdict
@@ -142,4 +166,5 @@ for task in track.values():
 sys.exit(differences > 0)
 END
 done
-exit $bad
+[ $bad = 0 ] || { echo "converters: $# traces, some differ"; exit 1; }
+echo "converters: $# traces, 0 differ"

@@ -1,0 +1,3 @@
+# check_reading.sh: whether the lists of READING.md are what reading.sh prints.
+cd "$(dirname "$0")/.." || exit 2
+sh tools/reading.sh --check
