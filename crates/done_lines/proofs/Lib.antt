@@ -10,3 +10,4 @@ pub mod OneEnd
 pub mod FewReleases
 pub mod FewLines
 pub mod Traces
+pub mod Examples

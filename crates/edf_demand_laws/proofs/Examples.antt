@@ -1,13 +1,16 @@
--- Processor demands, and the order of tasks, by evaluation.
-use Rattle.std.proofs.Common.{◌≡◌, ℕ, zero, suc, [], ◌∷◌, codes, refl}
+-- Processor demands, the order of tasks, and a deadline that is missed, by evaluation.
+use Rattle.std.proofs.Common.{◌≡◌, ℕ, zero, suc, [], ◌∷◌, codes, refl, arith}
 use Rattle.dvs_base.specs.declared.kind.Scheduler.TheVariants.{Edf}
 use Rattle.grid_fraction.specs.Fraction as fraction
 use Rattle.sched_model.specs.Plan.{Plan, plan_of}
-use Rattle.sched_model.specs.Jobs.{release, due, latest, worst_demand}
+use Rattle.sched_model.specs.Jobs.{release, due, latest, worst_demand, IsWithin}
 use Rattle.sched_model.specs.Ticks.{exec}
 use Rattle.sched_model.proofs.Examples.{task_of, entry_of}
 use Rattle.edf_demand_laws.specs.Constrained.{schedule_at}
+use Rattle.edf_demand_laws.specs.Deciding.{MeetsAlways}
 use Rattle.edf_demand_laws.specs.ProcessorDemand.{processor_demand, constrained_demand}
+use Rattle.edf_demand_laws.proofs.Existing.{schedule-exists}
+use Rattle.sched_model.proofs.JobLaws.{worst_demand-le}
 
 abbrev pair : Plan
 pair =
@@ -63,3 +66,14 @@ turned (suc i) = 3
 earlier_first : exec pair (schedule_at pair turned (worst_demand pair) 0 3) 1 1 ≡ 3
 unfolding release due latest
 earlier_first = refl
+
+-- so one unit a tick doesn't meet every deadline: that of the second job of a is the end of the sixth tick
+one_unit_misses : MeetsAlways pair deadlines 1 → ⊥
+unfolding release due latest
+one_unit_misses meets =
+    let within : IsWithin pair (worst_demand pair) = record { most = λ i k h. worst_demand-le pair i k; none = λ i. refl } in
+    omega (
+      arith,
+      meets (worst_demand pair) (schedule_at pair deadlines (worst_demand pair) 0 6) within
+          (schedule-exists pair deadlines (worst_demand pair) 0 6).0 0 2 (omega arith) (omega arith) (omega arith),
+    )

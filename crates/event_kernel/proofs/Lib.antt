@@ -20,3 +20,4 @@ pub mod Closing
 pub mod Deciding
 pub mod Demanding
 pub mod Meeting
+pub mod Examples

@@ -1,6 +1,6 @@
 -- The definitions at work: the tasks s (period 5, worst case 4) and a (period 10, worst case 10). The task s serves
 -- three requests: 3 units at tick 0, 6 at tick 1 and 1 at tick 12.
-use Rattle.std.proofs.Common.{◌≡◌, ℕ, [], ◌∷◌, refl}
+use Rattle.std.proofs.Common.{◌≡◌, inl, inr, ℕ, List, [], ◌∷◌, refl, arith, subst}
 use Rattle.dvs_base.specs.declared.kind.Scheduler.TheVariants.{Edf}
 use Rattle.freq_table.specs.Tables.{Table}
 use Rattle.request_list.specs.declared.requests.Request.{Request}
@@ -8,7 +8,10 @@ use Rattle.sched_model.specs.Plan.{Plan, plan_of}
 use Rattle.sched_model.specs.Jobs.{release, due}
 use Rattle.task_model.specs.declared.task.Task.{Task}
 use Rattle.poll_server.specs.Serving.{ServerOf, server_of, taken_up_to, taken, polled_demand}
-use Rattle.poll_server.specs.Bound.{jobs_before, request_backlog, latest_job, latest_end}
+use Rattle.poll_server.specs.declared.served.Outcome.{Outcome}
+use Rattle.poll_server.specs.declared.served.Outcome.TheVariants.{Served, Pending}
+use Rattle.poll_server.specs.Outcomes.{ServedOf, outcome_at}
+use Rattle.poll_server.specs.Bound.{jobs_before, request_backlog, latest_job, latest_end, IsServedBy, KeepsBound}
 use Rattle.poll_server.specs.EachOutcome.{job_of}
 
 abbrev task_with : ℕ → ℕ → Task
@@ -55,3 +58,21 @@ long : (taken (server_of plan 0 (request 0 9 ∷ [])) 1 ∷ taken (server_of pla
     ∷ job_of (server_of plan 0 (request 0 9 ∷ [])) 0 ∷ latest_job (server_of plan 0 (request 0 9 ∷ [])) 0 ∷ []) ≡ (4 ∷ 1 ∷ 3 ∷ 3 ∷ [])
 unfolding taken_up_to release
 long = refl
+
+-- served by a job that is done at this position
+abbrev served_at : ℕ → ℕ → Outcome
+served_at tick offset = Served 3 (record { tick = tick; offset = offset })
+
+-- the beginning of a tick is by then; a unit later isn't, nor is a pending request served
+served_in_time : IsServedBy 15 (served_at 15 0) × (IsServedBy 15 (served_at 15 1) → ⊥) × (IsServedBy 15 Pending → ⊥)
+served_in_time = (inr (refl, refl), late, λ none. none)
+  where
+    late : IsServedBy 15 (served_at 15 1) → ⊥
+    late (inl before) = omega (arith, before)
+    late (inr at_tick) = omega (arith, at_tick.1)
+
+-- the bound of the second request holds in a run of 15 ticks: it isn't pending there
+bound_at_the_end : (r : ServedOf) → r.outcomes ≡ (served_at 5 0 ∷ Pending ∷ Pending ∷ []) → KeepsBound server 15 r → ⊥
+unfolding taken_up_to release due
+bound_at_the_end r outcomes keeps =
+    subst (λ (os : List Outcome). IsServedBy 15 (outcome_at os 1)) outcomes (keeps 1 (omega arith) (omega arith))

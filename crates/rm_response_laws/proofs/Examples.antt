@@ -1,15 +1,16 @@
 -- Responses, and ticks at which first jobs are complete, by evaluation.
-use Rattle.std.proofs.Common.{◌≡◌, ℕ, true, false, [], ◌∷◌, map, replicate, codes, refl}
+use Rattle.std.proofs.Common.{◌≡◌, ℕ, true, false, [], ◌∷◌, map, replicate, codes, refl, arith}
 use Rattle.dvs_base.specs.declared.kind.Scheduler.TheVariants.{Rm}
 use Rattle.freq_table.specs.Tables.{Table}
 use Rattle.sched_model.specs.Plan.{Plan, plan_of}
-use Rattle.sched_model.specs.Jobs.{release, due, latest}
+use Rattle.sched_model.specs.Jobs.{release, due, latest, worst_demand}
 use Rattle.sched_model.specs.Ticks.{at, exec}
 use Rattle.sched_model.specs.Schedule.{schedule_by}
 use Rattle.sched_model.specs.Demand.{published}
 use Rattle.sched_model.proofs.Examples.{task_of, entry_of}
 use Rattle.governor.specs.Worst.{level_work_in}
-use Rattle.rm_response_laws.specs.Responses.{response, full_worst_ticks, is_first_done}
+use Rattle.governor.proofs.Worst.{worst-within}
+use Rattle.rm_response_laws.specs.Responses.{response, full_worst_ticks, is_first_done, MeetsAllDeadlines}
 
 abbrev one_speed_of : ℕ → Table
 one_speed_of speed = record { points = entry_of speed 1000 ∷ []; idle = 0; charge = 0 }
@@ -50,3 +51,9 @@ late_response = (refl, refl, refl)
 late_first : is_first_done late_pair 1 6 ≡ false
 unfolding schedule_by published release due latest
 late_first = refl
+
+-- at worst the first job of its second task has 4 of its 5 units by the end of the sixth tick, where it is due
+late_missed : MeetsAllDeadlines late_pair → ⊥
+unfolding schedule_by published release due latest
+late_missed meets =
+    omega (arith, meets (worst_demand late_pair) (worst-within late_pair) 6 1 1 (omega arith) (omega arith) (omega arith))
