@@ -12,7 +12,7 @@ use Rattle.grid_fraction.proofs.Sums.{sum_below-same, sum_below-add, sum_below-o
 use Rattle.sched_model.specs.declared.state.Row.{Row}
 use Rattle.sched_model.specs.Plan.{Plan, count, period, offset, worst}
 use Rattle.sched_model.specs.Priority.{stands_before}
-use Rattle.sched_model.specs.States.{StateOf, row_at, no_row, opening, opening_row, after_run, after_finish}
+use Rattle.sched_model.specs.States.{StateOf, row_at, no_row, opening, opening_row, after_run, after_finish, key_in, earliest_in}
 use Rattle.sched_model.proofs.Tables.{get-table}
 use Rattle.sched_model.proofs.PriorityLemmas.{before-self, before-not, before-total}
 use Rattle.ready_queue.specs.declared.entry.Entry.{Entry}
@@ -21,12 +21,12 @@ use Rattle.ready_queue.specs.Entries.{QueueOf, IsAbsent, placed, ComesFirst}
 use Rattle.ready_queue.proofs.Placing.{All-at, Has-contains}
 use Rattle.agenda.specs.declared.agenda.Agenda.{Agenda}
 use Rattle.agenda.specs.Stands.{Stands}
-use Rattle.agenda.specs.Agenda.{before_of, task_entry, HoldsTasks, is_open, HoldsReady, HoldsCalendar, ReadyOf, StandFor, row_key, IsFirstUndone, next_release, IsFirstDue, NonePast, next_job_row, opened, due_left}
+use Rattle.agenda.specs.Agenda.{before_of, task_entry, HoldsTasks, is_open, HoldsReady, HoldsCalendar, ReadyOf, StandFor, IsFirstUndone, IsFirstDue, NonePast, next_job_row, opened, due_left}
 use Rattle.agenda.proofs.Tasks.{without, without-other, without-apart, held, absent, holds-keep, holds-drop, holds-without, holds-add}
 
 -- the entries of two tasks are ordered as the tasks are
 entries-before : (sch : Scheduler) (p : Plan) (s : StateOf) (i k : ℕ) → before_of sch (task_entry p s i) (task_entry p s k)
-    ≡ stands_before (row_key sch p s) i k
+    ≡ stands_before (key_in sch p s) i k
 entries-before Edf p s i k = refl
 entries-before Rm p s i k = refl
 
@@ -41,18 +41,18 @@ module _ (p : Plan) (s : StateOf) where
       own : (x.task < count p) × (is_open s x.task ≡ true) × (x ≡ task_entry p s x.task)
       own = held p s (is_open s) xs h x (Has-contains xs x f.among)
 
-      go : (k : ℕ) → k < count p → stands_before (row_key p.scheduler p s) k x.task ≡ true → (d : Bool) → (row_at s k).done ≡ d
+      go : (k : ℕ) → k < count p → stands_before (key_in p.scheduler p s) k x.task ≡ true → (d : Bool) → (row_at s k).done ≡ d
           → (k ≡ x.task) ⊎ (k ≢ x.task) → (row_at s k).done ≡ true
       go k lt b true e c = e
       go k lt b false e (inl same) =
-          absurd (true≢false (sym b ∙ ap (λ (j : ℕ). stands_before (row_key p.scheduler p s) j x.task) same ∙ before-self (row_key p.scheduler p s) x.task))
+          absurd (true≢false (sym b ∙ ap (λ (j : ℕ). stands_before (key_in p.scheduler p s) j x.task) same ∙ before-self (key_in p.scheduler p s) x.task))
       go k lt b false e (inr ne) =
           let there : before_of p.scheduler x (task_entry p s k) ≡ true =
           All-at (λ z. z.task ≢ x.task → before_of p.scheduler x z ≡ true) xs (task_entry p s k) f.others
           (Has-contains xs (task_entry p s k) (h.all k lt (ap not e))) ne in
-          let ahead : stands_before (row_key p.scheduler p s) x.task k ≡ true =
+          let ahead : stands_before (key_in p.scheduler p s) x.task k ≡ true =
           sym (entries-before p.scheduler p s x.task k) ∙ ap (λ (z : Entry). before_of p.scheduler z (task_entry p s k)) (sym own.2) ∙ there in
-          absurd (true≢false (sym b ∙ before-not (row_key p.scheduler p s) x.task k ahead))
+          absurd (true≢false (sym b ∙ before-not (key_in p.scheduler p s) x.task k ahead))
 
   -- there is only one first task with an incomplete job
   pub first-undone-own : (xs : List Entry) (x : Entry) (i : ℕ) → HoldsReady p s xs → ComesFirst (before_of p.scheduler) x xs
@@ -64,11 +64,11 @@ module _ (p : Plan) (s : StateOf) where
 
       go : (x.task ≡ i) ⊎ (x.task ≢ i) → x.task ≡ i
       go (inl e) = e
-      go (inr ne) = by_order (stands_before (row_key p.scheduler p s) x.task i) refl
+      go (inr ne) = by_order (stands_before (key_in p.scheduler p s) x.task i) refl
         where
-          by_order : (b : Bool) → stands_before (row_key p.scheduler p s) x.task i ≡ b → x.task ≡ i
+          by_order : (b : Bool) → stands_before (key_in p.scheduler p s) x.task i ≡ b → x.task ≡ i
           by_order true b = absurd (true≢false (sym (o.first x.task u.below b) ∙ u.open_job))
-          by_order false b = absurd (true≢false (sym (u.first i o.below (before-total (row_key p.scheduler p s) x.task i ne b)) ∙ o.open_job))
+          by_order false b = absurd (true≢false (sym (u.first i o.below (before-total (key_in p.scheduler p s) x.task i ne b)) ∙ o.open_job))
 
   module _ (xs : List Entry) (x : Entry) (h : HoldsCalendar p s xs) (f : ComesFirst due_before x xs) where
     next-own : (x.task < count p) × (true ≡ true) × (x ≡ task_entry p s x.task)
@@ -89,10 +89,10 @@ module _ (p : Plan) (s : StateOf) where
         go (inr ne) = let b = next-before k lt ne in grind (arith, nat_tests)
 
     -- the first entry of a calendar has the next release
-    pub next-release : x.due ≡ next_release p s
+    pub next-release : x.due ≡ earliest_in p s
     next-release =
-        let low : next_release p s ≤ (row_at s x.task).deadline = least-below (count p) (λ i. (row_at s i).deadline) x.task next-own.0 in
-        let high : x.due ≤ next_release p s = least-above (count p) (λ i. (row_at s i).deadline) x.due (omega (arith, next-own.0)) next-least in
+        let low : earliest_in p s ≤ (row_at s x.task).deadline = least-below (count p) (λ i. (row_at s i).deadline) x.task next-own.0 in
+        let high : x.due ≤ earliest_in p s = least-above (count p) (λ i. (row_at s i).deadline) x.due (omega (arith, next-own.0)) next-least in
         omega (arith, low, high, next-due)
 
     -- where a task is released now, the first entry of a calendar is that of the first such task
@@ -432,10 +432,10 @@ due-falls p s i done lt some d =
 
 -- the next release is now exactly where some task is to be released now
 pub release-now : (p : Plan) (s : StateOf) → 0 < count p → NonePast p s
-    → nat_eq (next_release p s) s.now ≡ any_below (count p) (λ i. nat_eq (row_at s i).deadline s.now)
+    → nat_eq (earliest_in p s) s.now ≡ any_below (count p) (λ i. nat_eq (row_at s i).deadline s.now)
 release-now p s some past = go (any_below (count p) (λ i. nat_eq (row_at s i).deadline s.now)) refl
   where
-    low : s.now ≤ next_release p s
+    low : s.now ≤ earliest_in p s
     low = least-above (count p) (λ i. (row_at s i).deadline) s.now some past
 
     test : ℕ → Bool
@@ -447,18 +447,18 @@ release-now p s some past = go (any_below (count p) (λ i. nat_eq (row_at s i).d
         let le : s.now ≤ (row_at s i).deadline = past i lt in
         grind (arith, nat_tests)
 
-    here : next_release p s ≢ s.now → (i : ℕ) → i < count p → test i ≡ false
+    here : earliest_in p s ≢ s.now → (i : ℕ) → i < count p → test i ≡ false
     here ne i lt =
-        let le : next_release p s ≤ (row_at s i).deadline = least-below (count p) (λ j. (row_at s j).deadline) i lt in
-        let lo : s.now ≤ next_release p s = low in
+        let le : earliest_in p s ≤ (row_at s i).deadline = least-below (count p) (λ j. (row_at s j).deadline) i lt in
+        let lo : s.now ≤ earliest_in p s = low in
         grind (arith, nat_tests)
 
-    go : (b : Bool) → any_below (count p) test ≡ b → nat_eq (next_release p s) s.now ≡ any_below (count p) test
+    go : (b : Bool) → any_below (count p) test ≡ b → nat_eq (earliest_in p s) s.now ≡ any_below (count p) test
     go false e =
-        let high : s.now + 1 ≤ next_release p s = least-above (count p) (λ i. (row_at s i).deadline) (s.now + 1) some (later e) in
-        (let off : nat_eq (next_release p s) s.now ≡ false = grind (arith, nat_tests) in off) ∙ sym e
-    go true e = by_eq (cases_eq (next_release p s) s.now)
+        let high : s.now + 1 ≤ earliest_in p s = least-above (count p) (λ i. (row_at s i).deadline) (s.now + 1) some (later e) in
+        (let off : nat_eq (earliest_in p s) s.now ≡ false = grind (arith, nat_tests) in off) ∙ sym e
+    go true e = by_eq (cases_eq (earliest_in p s) s.now)
       where
-        by_eq : (next_release p s ≡ s.now) ⊎ (next_release p s ≢ s.now) → nat_eq (next_release p s) s.now ≡ any_below (count p) test
-        by_eq (inl q) = (let on : nat_eq (next_release p s) s.now ≡ true = grind (arith, nat_tests) in on) ∙ sym e
+        by_eq : (earliest_in p s ≡ s.now) ⊎ (earliest_in p s ≢ s.now) → nat_eq (earliest_in p s) s.now ≡ any_below (count p) test
+        by_eq (inl q) = (let on : nat_eq (earliest_in p s) s.now ≡ true = grind (arith, nat_tests) in on) ∙ sym e
         by_eq (inr ne) = absurd (true≢false (sym e ∙ any_below-none (count p) test (here ne)))

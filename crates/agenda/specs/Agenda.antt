@@ -3,11 +3,11 @@ use Rattle.std.specs.Prelude.{◌≡◌, ℕ, ◌<◌, ◌≤◌, ◌≢◌, Boo
 use Rattle.std.specs.List.{AllByRecursion}
 use Rattle.dvs_base.specs.declared.kind.Scheduler.{Scheduler}
 use Rattle.dvs_base.specs.declared.kind.Scheduler.TheVariants.{Edf, Rm}
-use Rattle.grid_fraction.specs.Numbers.{least_below, sum_below}
+use Rattle.grid_fraction.specs.Numbers.{sum_below}
 use Rattle.sched_model.specs.declared.state.Row.{Row}
 use Rattle.sched_model.specs.Plan.{Plan, count, period}
 use Rattle.sched_model.specs.Priority.{stands_before}
-use Rattle.sched_model.specs.States.{StateOf, row_at, released_row}
+use Rattle.sched_model.specs.States.{StateOf, row_at, key_in, released_row}
 use Rattle.ready_queue.specs.declared.entry.Entry.{Entry}
 use Rattle.ready_queue.specs.Orders.{due_before, period_before}
 use Rattle.ready_queue.specs.Entries.{QueueOf}
@@ -52,20 +52,11 @@ pub record StandFor (p : Plan) (s : StateOf) (ready : ReadyOf) (calendar : Queue
   pub calendar_limit : calendar.limit ≡ count p
   pub releases : HoldsCalendar p s calendar.entries
 
--- the key by which a scheduler orders the rows: the deadline under EDF, the period under RM
-abbrev pub row_key : Scheduler → Plan → StateOf → ℕ → ℕ
-row_key Edf p s i = (row_at s i).deadline
-row_key Rm p s i = period p i
-
 -- task i is the first of the first n tasks in the scheduler's order whose job is incomplete
 pub record IsFirstUndone (p : Plan) (s : StateOf) (n i : ℕ) : Type 0 where
   pub below : i < n
   pub open_job : (row_at s i).done ≡ false
-  pub first : (k : ℕ) → k < n → stands_before (row_key p.scheduler p s) k i ≡ true → (row_at s k).done ≡ true
-
--- the earliest next release of the tasks
-abbrev pub next_release : Plan → StateOf → ℕ
-next_release p s = least_below (count p) (λ i. (row_at s i).deadline)
+  pub first : (k : ℕ) → k < n → stands_before (key_in p.scheduler p s) k i ≡ true → (row_at s k).done ≡ true
 
 -- task i is the first in file order that is to be released now
 pub record IsFirstDue (p : Plan) (s : StateOf) (i : ℕ) : Type 0 where

@@ -1,8 +1,8 @@
 // The ready jobs and the calendar of a state, and what each job may still need.
 ghost use Rattle.std.specs.Prelude.{◌≡◌, ◌≢◌, ◌<◌, ℕ, true, IfOk, IfNone, IfSome};
 ghost use Rattle.sched_model.specs.Plan.{count};
-ghost use Rattle.sched_model.specs.States.{row_at, opening, after_run, after_finish, after_mark, CanRelease, CanRun, IsOfPlan};
-ghost use Rattle.agenda.specs.Agenda.{IsFirstUndone, IsFirstDue, NonePast, next_release, opened};
+ghost use Rattle.sched_model.specs.States.{row_at, opening, after_run, after_finish, after_mark, CanRelease, CanRun, IsOfPlan, earliest_in};
+ghost use Rattle.agenda.specs.Agenda.{IsFirstUndone, IsFirstDue, NonePast, opened};
 
 use crate::Ready;
 use dvs_base::NoMemory;
@@ -60,7 +60,7 @@ impl Agenda {
     /// The earliest next release of the tasks, in ticks.
     pub fn next_release(&self, plan: &Admitted, state: &State) -> u64
         requires { Stands plan.now state.now self.now }
-        ensures { result ≡ next_release plan.now state.entry.now }
+        ensures { result ≡ earliest_in plan.now state.entry.now }
     {
         let _scheduler = plan.scheduler();
         match self.calendar.first() {

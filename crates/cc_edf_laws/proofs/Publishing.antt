@@ -4,11 +4,10 @@ use Rattle.std.specs.Prelude.{nat_le, if◌then◌else◌}
 use Rattle.std.proofs.lemmas.Bool.Decides.{nat_tests}
 use Rattle.dvs_base.specs.declared.kind.Scheduler.{Scheduler}
 use Rattle.dvs_base.specs.declared.kind.GovernorKind.TheVariants.{Cycle}
-use Rattle.grid_fraction.specs.declared.Frac.{Frac}
 use Rattle.grid_fraction.proofs.Sums.{sum_below-same}
 use Rattle.sched_model.specs.Plan.{Plan, count, period, worst, hyper}
 use Rattle.sched_model.specs.Jobs.{JobDemands, latest}
-use Rattle.sched_model.specs.Ticks.{Tick, exec, is_complete}
+use Rattle.sched_model.specs.Ticks.{PublishedDemand, Tick, exec, is_complete}
 use Rattle.sched_model.specs.CycleDemand.{charged, edf_cycle}
 use Rattle.sched_model.specs.Demand.{demand_by, published}
 use Rattle.sched_model.specs.Schedule.{IsScheduleBy}
@@ -25,7 +24,7 @@ charge-is : (b : Bool) (d u w : ℕ) → nat_le d u ≡ b → u ≤ d → (if b 
 charge-is true d u w e le = let g : d ≤ u = grind (arith, nat_tests) in omega arith
 charge-is false d u w e le = refl
 
-charged-state : (p : Plan) (dem : JobDemands) (ask : List Tick → Frac) (past : List Tick)
+charged-state : (p : Plan) (dem : JobDemands) (ask : PublishedDemand) (past : List Tick)
     → IsScheduleBy p dem ask past → (i : ℕ) → i < count p
     → charged p dem past i ≡ charged_of (row_at (state_of p dem past) i)
 charged-state p dem ask past h i lt =
@@ -33,7 +32,7 @@ charged-state p dem ask past h i lt =
     charge-is (is_complete p dem past i) (dem i k) (exec p past i k) (worst p i) refl (exec-most p dem ask past h i k lt)
     ∙ sym (ap charged_of (row_at-state_of p dem past i lt))
 
-cycle-state : (p : Plan) (dem : JobDemands) (ask : List Tick → Frac) (past : List Tick) → IsScheduleBy p dem ask past
+cycle-state : (p : Plan) (dem : JobDemands) (ask : PublishedDemand) (past : List Tick) → IsScheduleBy p dem ask past
     → edf_cycle p dem past ≡ edf_cycle_demand p (state_of p dem past)
 cycle-state p dem ask past h =
     ap (λ (num : ℕ). record { num = num; den = hyper p })

@@ -8,11 +8,11 @@ use Rattle.grid_fraction.proofs.Sums.{sum_below-le}
 use Rattle.sched_model.specs.Plan.{Plan, count}
 use Rattle.sched_model.specs.Jobs.{JobDemands}
 use Rattle.sched_model.specs.Priority.{stands_before, sum_before, SharesOut}
-use Rattle.sched_model.specs.States.{StateOf, row_at}
+use Rattle.sched_model.specs.States.{StateOf, row_at, key_in}
 use Rattle.sched_model.proofs.DownSets.{due_by_gets}
 use Rattle.sched_model.proofs.LevelSums.{sum_where-tight}
 use Rattle.governor.specs.Serving.{ServesEdf}
-use Rattle.governor.specs.Steps.{share_in, left_in, key_in, IsLegalIn, after_tick, Belongs}
+use Rattle.governor.specs.Steps.{share_in, left_in, IsLegalIn, after_tick, Belongs}
 use Rattle.governor.proofs.Belonging.{legal_most}
 use Rattle.governor.proofs.Ticks.{tick-closes}
 use Rattle.governor.specs.Edf.{due_by}

@@ -11,9 +11,9 @@ use Rattle.sched_model.specs.declared.state.Row.{Row}
 use Rattle.sched_model.specs.Plan.{Plan, count, period}
 use Rattle.sched_model.specs.Priority.{allotment}
 use Rattle.sched_model.specs.StaticDemand.{static_speed}
-use Rattle.sched_model.specs.States.{StateOf, no_row, row_at, row_wleft, after_run, after_finish, after_mark, IsOfPlan}
+use Rattle.sched_model.specs.States.{StateOf, no_row, row_at, row_wleft, after_run, after_finish, after_mark, IsOfPlan, earliest_in}
 use Rattle.sched_model.proofs.LevelSums.{sum_below-term}
-use Rattle.governor.specs.Steps.{wleft_at, earliest_in}
+use Rattle.governor.specs.Steps.{wleft_at}
 use Rattle.cc_rm_laws.specs.Allotments.{base_of, allotted_in, allotment_left_in}
 use Rattle.cc_rm.specs.declared.counters.Allotments.{Allotments}
 use Rattle.cc_rm.specs.Counters.{AreOf, AreCounters, lowered}

@@ -2,9 +2,9 @@
 use Rattle.std.specs.Prelude.{◌≡◌, ℕ, ◌-◌, ◌<◌, ◌≤◌, List, length, slice_index, Option, None, Some, IfSome}
 use Rattle.sched_model.specs.Plan.{Plan, count}
 use Rattle.sched_model.specs.StaticDemand.{static_speed}
-use Rattle.sched_model.specs.States.{StateOf}
+use Rattle.sched_model.specs.States.{StateOf, earliest_in}
 use Rattle.governor.specs.Serving.{ServesRm}
-use Rattle.governor.specs.Steps.{wleft_at, earliest_in}
+use Rattle.governor.specs.Steps.{wleft_at}
 use Rattle.cc_rm_laws.specs.Allotments.{base_of, allotment_left_in, rm_cycle_demand}
 use Rattle.cc_rm.specs.declared.counters.Allotments.{Allotments}
 

@@ -10,9 +10,9 @@ use Rattle.freq_table.proofs.Chosen.{speeds_rise, below_highest, lowest_within, 
 use Rattle.sched_model.specs.Plan.{Plan, count, top_speed}
 use Rattle.sched_model.specs.StaticDemand.{rm_static, static_speed}
 use Rattle.sched_model.specs.Admission.{IsAdmitted}
-use Rattle.sched_model.specs.States.{StateOf, row_at}
+use Rattle.sched_model.specs.States.{StateOf, row_at, earliest_in}
 use Rattle.sched_model.proofs.Limits.{some_task}
-use Rattle.governor.specs.Steps.{earliest_in, IsAtDecision}
+use Rattle.governor.specs.Steps.{IsAtDecision}
 use Rattle.governor.specs.Laws.{GovernorLaws}
 use Rattle.governor.specs.Serving.{ServesRm}
 use Rattle.governor.proofs.Belonging.{earliest-later}

@@ -10,11 +10,11 @@ use Rattle.sched_model.specs.Jobs.{JobDemands, release, due, latest}
 use Rattle.sched_model.specs.StaticDemand.{static_speed}
 use Rattle.sched_model.specs.Backlog.{backlog}
 use Rattle.sched_model.specs.Admission.{IsAdmitted}
-use Rattle.sched_model.specs.States.{StateOf, row_at, row_wleft}
+use Rattle.sched_model.specs.States.{StateOf, row_at, row_wleft, earliest_in}
 use Rattle.sched_model.proofs.Limits.{some_period}
 use Rattle.sched_model.proofs.JobLaws.{latest-is, latest-unique, latest_since-pos, release-suc, release-due, due-suc}
 use Rattle.sched_model.proofs.LevelSums.{sum_where-term, up_to-self, greatest-above, greatest-least}
-use Rattle.governor.specs.Steps.{opened_row, after_boundary, wleft_at, release_of, earliest_in, Belongs}
+use Rattle.governor.specs.Steps.{opened_row, after_boundary, wleft_at, release_of, Belongs}
 use Rattle.governor.proofs.Rows.{wleft-most}
 use Rattle.governor.proofs.Belonging.{earliest-from, unborn_done, boundary-by}
 use Rattle.governor.proofs.Ticks.{demand_most}

@@ -14,11 +14,11 @@ use Rattle.sched_model.specs.Priority.{SharesOut}
 use Rattle.sched_model.specs.StaticDemand.{static_speed}
 use Rattle.sched_model.specs.Backlog.{backlog}
 use Rattle.sched_model.specs.Admission.{IsAdmitted}
-use Rattle.sched_model.specs.States.{StateOf, row_at, no_row, row_wleft, opening}
+use Rattle.sched_model.specs.States.{StateOf, row_at, no_row, row_wleft, opening, earliest_in}
 use Rattle.sched_model.proofs.Allotments.{allotment-shares}
 use Rattle.sched_model.proofs.DownSets.{down-set-gets}
 use Rattle.sched_model.proofs.LevelSums.{sum_where-mono, sum_where-plus, sum_where-zero, level-gets}
-use Rattle.governor.specs.Steps.{each_row, is_due, boundary_row, opened_row, after_boundary, wleft_at, release_of, earliest_in, Belongs}
+use Rattle.governor.specs.Steps.{each_row, is_due, boundary_row, opened_row, after_boundary, wleft_at, release_of, Belongs}
 use Rattle.governor.proofs.Rows.{none_due_at, some_due_at, done_none}
 use Rattle.governor.proofs.Belonging.{earliest-from, in_rows, opening_at, boundary-by, belongs_boundary, decision_boundary, opened_release, earliest-later}
 use Rattle.governor.specs.Rm.{level}

@@ -18,14 +18,14 @@ use Rattle.sched_model.specs.Priority.{allotment}
 use Rattle.sched_model.specs.StaticDemand.{static_speed}
 use Rattle.sched_model.specs.Demand.{demand_by, published}
 use Rattle.sched_model.specs.Admission.{IsAdmitted}
-use Rattle.sched_model.specs.States.{StateOf, row_at, row_wleft, state_of}
+use Rattle.sched_model.specs.States.{StateOf, row_at, row_wleft, state_of, earliest_in}
 use Rattle.sched_model.proofs.Limits.{some_period}
 use Rattle.sched_model.proofs.JobLaws.{lt-due, latest-stays, latest-next, release-suc, last_release-le}
 use Rattle.sched_model.proofs.Tables.{get-table}
 use Rattle.sched_model.proofs.Joining.{row_at-state_of}
 use Rattle.sched_model.proofs.Service.{exec-drop}
 use Rattle.sched_model.proofs.Allotments.{allotment-same}
-use Rattle.governor.specs.Steps.{wleft_at, earliest_in}
+use Rattle.governor.specs.Steps.{wleft_at}
 use Rattle.governor.specs.Schedule.{Publishes, PublishingLaws}
 use Rattle.governor.specs.Serving.{ServesRm}
 use Rattle.governor.proofs.OneSchedule.{publishing_laws}

@@ -15,12 +15,12 @@ use Rattle.sched_model.specs.Priority.{stands_before, SharesOut, allotment}
 use Rattle.sched_model.specs.StaticDemand.{static_speed}
 use Rattle.sched_model.specs.Backlog.{backlog}
 use Rattle.sched_model.specs.Admission.{IsAdmitted}
-use Rattle.sched_model.specs.States.{StateOf, row_at}
+use Rattle.sched_model.specs.States.{StateOf, row_at, earliest_in, key_in}
 use Rattle.sched_model.proofs.PriorityLemmas.{before-total}
 use Rattle.sched_model.proofs.Allotments.{allotment_of}
 use Rattle.sched_model.proofs.DownSets.{down-set-gets}
 use Rattle.sched_model.proofs.LevelSums.{sum_where-mono, sum_where-plus, sum_where-tight}
-use Rattle.governor.specs.Steps.{wleft_at, release_of, earliest_in, share_in, left_in, key_in, IsLegalIn, after_tick, IsBeforeAll, Belongs}
+use Rattle.governor.specs.Steps.{wleft_at, release_of, share_in, left_in, IsLegalIn, after_tick, IsBeforeAll, Belongs}
 use Rattle.governor.proofs.Rows.{done_none}
 use Rattle.governor.proofs.Belonging.{tick_at, legal_most, earliest-later}
 use Rattle.governor.proofs.Ticks.{tick-falls, tick-closes}

@@ -3,8 +3,8 @@ use Rattle.std.specs.Prelude.{ℕ, ◌-◌, slice_index}
 use Rattle.grid_fraction.specs.declared.Frac.{Frac}
 use Rattle.sched_model.specs.Plan.{Plan}
 use Rattle.sched_model.specs.CycleDemand.{SinceRelease, units_at_mark, allotted_of, allotment_left_of, rm_cycle_of}
-use Rattle.sched_model.specs.States.{StateOf, row_at}
-use Rattle.governor.specs.Steps.{wleft_at, earliest_in}
+use Rattle.sched_model.specs.States.{StateOf, row_at, earliest_in}
+use Rattle.governor.specs.Steps.{wleft_at}
 
 -- what the job of task i might still need at the mark
 abbrev pub base_of : StateOf → ℕ → ℕ

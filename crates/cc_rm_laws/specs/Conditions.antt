@@ -8,8 +8,8 @@ use Rattle.sched_model.specs.Jobs.{worst_demand}
 use Rattle.sched_model.specs.Schedule.{schedule}
 use Rattle.sched_model.specs.StaticDemand.{static_speed}
 use Rattle.sched_model.specs.Backlog.{lacking, backlog}
-use Rattle.sched_model.specs.States.{StateOf, row_at}
-use Rattle.governor.specs.Steps.{wleft_at, earliest_in, release_of}
+use Rattle.sched_model.specs.States.{StateOf, row_at, earliest_in}
+use Rattle.governor.specs.Steps.{wleft_at, release_of}
 use Rattle.governor.specs.Rm.{level}
 use Rattle.cc_rm_laws.specs.Allotments.{allotment_left_in}
 

@@ -1,89 +1,36 @@
 -- The counts of a schedule's notes, tick by tick.
 use Rattle.std.proofs.Common.{◌≡◌, ℕ, zero, suc, ◌+◌, ◌≤◌, Bool, true, false, not, ◌&&◌, ◌||◌, List, [], ◌∷◌, length, refl, arith, if◌then◌else◌, ap, ◌∙◌, sym, true≢false, nat_eq, nat_le}
-use Rattle.std.specs.Prelude.{sum_by, count_by, cond}
-use Rattle.std.proofs.lemmas.List.Sums.{sum_by_push}
+use Rattle.std.specs.Prelude.{count_by, cond}
 use Rattle.std.proofs.lemmas.Bool.Decides.{nat_tests}
 use Rattle.dvs_base.specs.declared.note.Note.{Note}
-use Rattle.dvs_base.specs.declared.note.Note.TheVariants.{Release, Done, End}
-use Rattle.grid_fraction.specs.declared.Frac.{Frac}
 use Rattle.grid_fraction.specs.Numbers.{sum_below, any_below}
 use Rattle.grid_fraction.proofs.Sums.{sum_below-same, sum_below-add, sum_below-le, sum_below-zero}
 use Rattle.grid_fraction.proofs.Searches.{any-some}
 use Rattle.sched_model.specs.Plan.{Plan, count}
-use Rattle.sched_model.specs.Jobs.{latest, release, releases_at, is_release}
-use Rattle.sched_model.specs.Ticks.{Tick, exec, is_done}
+use Rattle.sched_model.specs.Jobs.{JobDemands, latest, release, releases_at, is_release}
+use Rattle.sched_model.specs.Ticks.{PublishedDemand, Tick, exec, is_done}
 use Rattle.sched_model.specs.Decision.{completes_in, is_decision}
 use Rattle.sched_model.specs.Schedule.{IsScheduleBy}
 use Rattle.sched_model.specs.Admission.{IsWithinLimits}
-use Rattle.sched_model.specs.Notes.{release_notes, all_release_notes, tick_units, energy_run, energy_idle, notes_before_end, notes_of}
+use Rattle.sched_model.specs.Notes.{tick_units, notes_before_end, notes_of}
 use Rattle.sched_model.specs.Totals.{is_released, is_finished, is_decided, totals_of}
 use Rattle.sched_model.proofs.Limits.{every_period}
 use Rattle.sched_model.proofs.LevelSums.{sum_below-term}
 use Rattle.sched_model.proofs.JobLaws.{release-le, exec-early}
-use Rattle.sched_model.proofs.NoteSums.{sum-each, none-sum, next-sum, Weighs, weights, nothing, none-weighs, all_done, tells-all, all_done-next}
+use Rattle.sched_model.proofs.NoteSums.{one_if, releases, empty_jobs, completions, release-counts, none-sum, with-end, next-sum, Weighs, weights, nothing, none-weighs, all_done, tells-all, all_done-next}
 use Rattle.sched_model.proofs.Spans.{stays-unreleased}
 use Rattle.done_lines.specs.LineCounts.{AreFew, HasFewDecisions}
 
--- 1 where the test is true, else 0
-abbrev pub one_if : Bool → ℕ
-one_if b = if b then 1 else 0
-
--- the number of releases at tick t
-abbrev pub releases : Plan → ℕ → ℕ
-releases p t = sum_below (count p) (λ i. one_if (releases_at p i t))
-
-module _ (p : Plan) (dem : ℕ → ℕ → ℕ) (t : ℕ) where
-  -- the number of releases of jobs that need nothing
-  abbrev empty_jobs : ℕ
-  empty_jobs = sum_below (count p) (λ i. one_if (releases_at p i t && nat_eq (dem i (latest p i t)) 0))
-
-  -- a count over the release notes of a tick, by what it is for each task
-  at-releases : (test : Note → Bool) (each : ℕ → Bool → Bool → ℕ)
-      → ((i : ℕ) (a b : Bool) → count_by test (if a then Release t i (latest p i t)
-      ∷ (if b then Done (record { tick = t; offset = 0 }) i (latest p i t) 0 ∷ [] else []) else []) ≡ each i a b)
-      → count_by test (all_release_notes p dem t) ≡ sum_below (count p) (λ i. each i (releases_at p i t) (nat_eq (dem i (latest p i t)) 0))
-  at-releases test each one =
-      sum-each (λ note. cond (test note) 1 0) (release_notes p dem t) (count p)
-      ∙ sum_below-same (count p) _ _ (λ i lt. one i (releases_at p i t) (nat_eq (dem i (latest p i t)) 0))
-
-  pub released-at : count_by is_released (all_release_notes p dem t) ≡ releases p t
-  released-at = at-releases is_released (λ i a b. one_if a) one
-    where
-      one : (i : ℕ) (a b : Bool) → count_by is_released (if a then Release t i (latest p i t)
-          ∷ (if b then Done (record { tick = t; offset = 0 }) i (latest p i t) 0 ∷ [] else []) else []) ≡ one_if a
-      one i true true = refl
-      one i _ _ = refl
-
-  finished-at : count_by is_finished (all_release_notes p dem t) ≡ empty_jobs
-  finished-at = at-releases is_finished (λ i a b. one_if (a && b)) one
-    where
-      one : (i : ℕ) (a b : Bool) → count_by is_finished (if a then Release t i (latest p i t)
-          ∷ (if b then Done (record { tick = t; offset = 0 }) i (latest p i t) 0 ∷ [] else []) else []) ≡ one_if (a && b)
-      one i true true = refl
-      one i _ _ = refl
-
-  decided-at : count_by is_decided (all_release_notes p dem t) ≡ 0
-  decided-at = at-releases is_decided (λ i a b. 0) one ∙ sum_below-zero (count p) (λ i. 0) (λ i lt. refl)
-    where
-      one : (i : ℕ) (a b : Bool) → count_by is_decided (if a then Release t i (latest p i t)
-          ∷ (if b then Done (record { tick = t; offset = 0 }) i (latest p i t) 0 ∷ [] else []) else []) ≡ 0
-      one i true true = refl
-      one i _ _ = refl
-
-module _ (p : Plan) (dem : ℕ → ℕ → ℕ) (ask : List Tick → Frac) (lim : IsWithinLimits p) (needless : (i : ℕ) → dem i 0 ≡ 0) where
+module _ (p : Plan) (dem : JobDemands) (ask : PublishedDemand) (lim : IsWithinLimits p) (needless : (i : ℕ) → dem i 0 ≡ 0) where
   abbrev notes : List Tick → List Note
   notes = notes_before_end p dem ask
-
-  -- the jobs that complete in tick x
-  abbrev pub completions : Tick → List Tick → ℕ
-  completions x past = sum_below (count p) (λ i. one_if (completes_in p dem x past i))
 
   -- what tick x adds to the counts
   pub record Adds (x : Tick) (past : List Tick) : Type 0 where
     pub released : count_by is_released (notes (x ∷ past)) ≡ count_by is_released (notes past) + releases p (length past)
     pub decided : count_by is_decided (notes (x ∷ past)) ≡ count_by is_decided (notes past) + one_if (is_decision p dem past)
     pub finished : count_by is_finished (notes (x ∷ past))
-        ≡ count_by is_finished (notes past) + empty_jobs p dem (length past) + completions x past
+        ≡ count_by is_finished (notes past) + empty_jobs p dem (length past) + completions p dem x past
 
   pub adds : (x : Tick) (past : List Tick) → IsScheduleBy p dem ask (x ∷ past) → Adds x past
   adds x past h = record {
@@ -92,15 +39,14 @@ module _ (p : Plan) (dem : ℕ → ℕ → ℕ) (ask : List Tick → Frac) (lim 
           arith,
           next-sum p dem ask (λ note. cond (is_released note) 1 0) nothing (λ t ticks. 0) (weights p dem ask _ nothing releases-weigh) x past h,
           none-weighs (tick_units p past x),
-          released-at p dem (length past),
-          quiet (is_decision p dem past),
+          release-counts p dem (length past) (λ note. cond (is_released note) 1 0) 1 0 (λ i k. refl) (λ i k. refl),
         );
     decided =
         omega (
           arith,
           next-sum p dem ask (λ note. cond (is_decided note) 1 0) nothing (λ t ticks. 0) (weights p dem ask _ nothing decisions-weigh) x past h,
           none-weighs (tick_units p past x),
-          decided-at p dem (length past),
+          release-counts p dem (length past) (λ note. cond (is_decided note) 1 0) 0 0 (λ i k. refl) (λ i k. refl),
         );
     finished =
         omega (
@@ -108,15 +54,10 @@ module _ (p : Plan) (dem : ℕ → ℕ → ℕ) (ask : List Tick → Frac) (lim 
           next-sum p dem ask (λ note. cond (is_finished note) 1 0) nothing (all_done p dem ask) (tells-all p dem ask lim needless) x past h,
           all_done-next p dem ask x past,
           none-weighs (tick_units p past x),
-          finished-at p dem (length past),
-          quiet (is_decision p dem past),
+          release-counts p dem (length past) (λ note. cond (is_finished note) 1 0) 0 1 (λ i k. refl) (λ i k. refl),
         );
   }
     where
-      quiet : (b : Bool) → ◌≡◌ {A = ℕ} (if b then 0 else 0) 0
-      quiet true = refl
-      quiet false = refl
-
       releases-weigh : Weighs p dem ask (λ note. cond (is_released note) 1 0) nothing
       releases-weigh = record { run = λ from to i k units e. omega arith; idle = λ from to units e. omega arith; done = λ at_end i k used. refl }
 
@@ -183,7 +124,7 @@ module _ (p : Plan) (dem : ℕ → ℕ → ℕ) (ask : List Tick → Frac) (lim 
       ap (λ k. if is_done p dem (x ∷ past) i k then 0 else 1) (sym (stays-unreleased p dem (every_period p lim) x past i unreleased))
 
   -- a job that is open after tick x was open in it and doesn't complete in it
-  open-after : (x : Tick) (past : List Tick) → open_jobs (x ∷ past) + completions x past ≡ sum_below (count p) (lacks past (length past))
+  open-after : (x : Tick) (past : List Tick) → open_jobs (x ∷ past) + completions p dem x past ≡ sum_below (count p) (lacks past (length past))
   open-after x past =
       sym (sum_below-add (count p) (open_job (x ∷ past)) (λ i. one_if (completes_in p dem x past i)))
       ∙ sum_below-same (count p) (λ i. open_job (x ∷ past) i + one_if (completes_in p dem x past i)) (lacks past (length past))
@@ -250,24 +191,12 @@ module _ (p : Plan) (dem : ℕ → ℕ → ℕ) (ask : List Tick → Frac) (lim 
         completed = omega (arith, before.completed, a.released, a.finished, open-after x past, open-most past);
       }
 
-  -- the last note adds nothing to a count
-  with-end : (test : Note → Bool) → ((t run idle : ℕ) → test (End t run idle) ≡ false) → (ticks : List Tick)
-      → count_by test (notes_of p dem ask ticks) ≡ count_by test (notes ticks)
-  with-end test quiet ticks =
-      let run : ℕ = sum_by energy_run (notes ticks) in
-      let idle : ℕ = sum_by energy_idle (notes ticks) in
-      omega (
-        arith,
-        sum_by_push (λ note. cond (test note) 1 0) (notes ticks) (End (length ticks) run idle),
-        ap {B = ℕ} (λ (b : Bool). cond b 1 0) (quiet (length ticks) run idle),
-      )
-
   pub few : (ticks : List Tick) → IsScheduleBy p dem ask ticks → AreFew (totals_of (notes_of p dem ask ticks))
   few ticks h =
       let r = balanced ticks h in
-      let decided = with-end is_decided (λ t run idle. refl) ticks in
-      let released = with-end is_released (λ t run idle. refl) ticks in
-      let finished = with-end is_finished (λ t run idle. refl) ticks in
+      let decided = with-end p dem ask (λ note. cond (is_decided note) 1 0) ticks in
+      let released = with-end p dem ask (λ note. cond (is_released note) 1 0) ticks in
+      let finished = with-end p dem ask (λ note. cond (is_finished note) 1 0) ticks in
       record {
         decisions = omega (arith, r.decisions, decided, released, finished);
         completions = omega (arith, r.completed, released, finished);

@@ -1,39 +1,26 @@
 -- The notes of a schedule say once that a job completes, when it has had its demand, and not after its deadline.
-use Rattle.std.proofs.Common.{◌≡◌, ◌≢◌, ℕ, suc, ◌+◌, ◌-◌, ◌*◌, ◌/◌, ◌%◌, ◌<◌, ◌≤◌, Bool, true, false, ◌&&◌, List, [], ◌∷◌, length, refl, arith, if◌then◌else◌, ap, ◌∙◌, sym, true≢false, inl, inr, nat_eq, nat_lt, div-add-mod', mul-le-mul_right}
-use Rattle.std.specs.Prelude.{count_by, sum_by, cond}
+use Rattle.std.proofs.Common.{◌≡◌, ◌≢◌, ℕ, suc, ◌+◌, ◌-◌, ◌*◌, ◌/◌, ◌%◌, ◌<◌, ◌≤◌, Bool, true, false, ◌&&◌, List, [], ◌∷◌, length, refl, arith, ap, ◌∙◌, true≢false, inl, inr, nat_eq, nat_lt, div-add-mod', mul-le-mul_right}
+use Rattle.std.specs.Prelude.{count_by, cond}
 use Rattle.std.specs.List.{AllByRecursion}
 use Rattle.std.proofs.Math.Nat.{le_of_mul-le-mul_right}
 use Rattle.std.proofs.lemmas.Bool.{cases_lt}
 use Rattle.std.proofs.lemmas.Bool.Decides.{nat_tests}
 use Rattle.dvs_base.specs.declared.note.Note.{Note}
-use Rattle.dvs_base.specs.declared.note.Note.TheVariants.{Release, Done, End}
-use Rattle.grid_fraction.specs.declared.Frac.{Frac}
+use Rattle.dvs_base.specs.declared.note.Note.TheVariants.{Done}
 use Rattle.grid_fraction.proofs.Sums.{sum_below-one}
 use Rattle.sched_model.specs.Plan.{Plan, count, period, point}
-use Rattle.sched_model.specs.Jobs.{latest, release, due, releases_at}
-use Rattle.sched_model.specs.Ticks.{Tick, exec}
-use Rattle.sched_model.specs.Decision.{is_decision}
+use Rattle.sched_model.specs.Jobs.{JobDemands, latest, release, due, releases_at}
+use Rattle.sched_model.specs.Ticks.{PublishedDemand, Tick, exec}
 use Rattle.sched_model.specs.Schedule.{IsScheduleBy}
 use Rattle.sched_model.specs.Admission.{IsWithinLimits}
-use Rattle.sched_model.specs.Notes.{Span, position_of, release_notes, all_release_notes, energy_run, energy_idle, tick_units, notes_before_end, notes_of}
+use Rattle.sched_model.specs.Notes.{Span, position_of, all_release_notes, tick_units, notes_before_end, notes_of}
 use Rattle.sched_model.proofs.Limits.{every_period}
 use Rattle.sched_model.proofs.JobLaws.{latest-is, lt-due, release-due, exec-early}
-use Rattle.sched_model.proofs.NoteSums.{tells_done, same-numbers, reached-all, reached-none, sum-each, done_by, nothing, tells-job, none-sum, next-sum, none-weighs}
+use Rattle.sched_model.proofs.NoteSums.{one_if, release-sum, tells_done, same-numbers, reached-all, reached-none, done_by, nothing, tells-job, none-sum, with-end, next-sum, none-weighs}
 use Rattle.sched_model.proofs.Spans.{IsLastSpan, IsNow}
 use Rattle.sched_model.proofs.Walk.{EachNote, AreFirst, each-note}
 use Rattle.trace_text.proofs.PlainLines.{each-append}
 use Rattle.done_lines.specs.DoneLines.{IsBy}
-use Rattle.done_lines.proofs.Times.{times, times-append, times-count}
-
--- the last note adds nothing to a count
-pub times-end : (p : Plan) (dem : ℕ → ℕ → ℕ) (ask : List Tick → Frac) (ticks : List Tick) (test : Note → Bool)
-    → ((t run idle : ℕ) → test (End t run idle) ≡ false) → times test (notes_of p dem ask ticks) ≡ times test (notes_before_end p dem ask ticks)
-times-end p dem ask ticks test quiet =
-    let before = notes_before_end p dem ask ticks in
-    let last : List Note = End (length ticks) (sum_by energy_run before) (sum_by energy_idle before) ∷ [] in
-    times-append test before last
-    ∙ (ap (λ (b : Bool). times test before + (if b then 1 else 0)) (quiet (length ticks) (sum_by energy_run before) (sum_by energy_idle before))
-    ∙ omega arith)
 
 -- where the note is the completion of job k of task i, it isn't after the beginning of tick t
 abbrev pub IsInTime : ℕ → ℕ → ℕ → Note → Type 0
@@ -54,11 +41,11 @@ by-end from f n q t some le within = elim (cases_lt (from + q / f) t) [
 ]
 
 -- the numbers below b and b itself are those below b + 1
-next-below : (a b : ℕ) → (if nat_lt a b then 1 else 0) + (if nat_eq a b then 1 else 0) ≡ (if nat_lt a (suc b) then 1 else 0)
+next-below : (a b : ℕ) → one_if (nat_lt a b) + one_if (nat_eq a b) ≡ one_if (nat_lt a (suc b))
 next-below a b = go (nat_lt a b) refl (nat_eq a b) refl (nat_lt a (suc b)) refl
   where
     go : (u : Bool) → nat_lt a b ≡ u → (v : Bool) → nat_eq a b ≡ v → (w : Bool) → nat_lt a (suc b) ≡ w
-        → (if nat_lt a b then 1 else 0) + (if nat_eq a b then 1 else 0) ≡ (if nat_lt a (suc b) then 1 else 0)
+        → one_if (nat_lt a b) + one_if (nat_eq a b) ≡ one_if (nat_lt a (suc b))
     go true e false f true g = rw (e, f, g) refl
     go false e true f true g = rw (e, f, g) refl
     go false e false f false g = rw (e, f, g) refl
@@ -67,87 +54,73 @@ next-below a b = go (nat_lt a b) refl (nat_eq a b) refl (nat_lt a (suc b)) refl
     go false e true f false g = absurd (true≢false (grind (arith, nat_tests)))
     go false e false f true g = absurd (true≢false (grind (arith, nat_tests)))
 
-module _ (p : Plan) (dem : ℕ → ℕ → ℕ) (ask : List Tick → Frac) (lim : IsWithinLimits p) (i k : ℕ) (inside : i < count p) (some_job : 1 ≤ k) where
+module _ (p : Plan) (dem : JobDemands) (ask : PublishedDemand) (lim : IsWithinLimits p) (i k : ℕ) (inside : i < count p) (some_job : 1 ≤ k) where
   some : 0 < period p i
   some = every_period p lim i
 
+  -- how often the notes say that the job completes
+  abbrev told : List Note → ℕ
+  told = count_by (tells_done i k)
+
   -- the release notes of a tick have the completion of the job where it is released there and needs nothing
-  at-release : (t : ℕ) → count_by (tells_done i k) (all_release_notes p dem t) ≡ (if nat_eq (dem i k) 0 then (if nat_eq (release p i k) t then 1 else 0) else 0)
+  at-release : (t : ℕ) → told (all_release_notes p dem t) ≡ one_if (nat_eq (dem i k) 0 && nat_eq (release p i k) t)
   at-release t =
-      sum-each (λ note. cond (tells_done i k note) 1 0) (release_notes p dem t) (count p)
-      ∙ (sum_below-one (count p) i (λ j. count_by (tells_done i k) (release_notes p dem t j)) inside
-      (λ j lt ne. off j ne (releases_at p j t) (nat_eq (dem j (latest p j t)) 0) (nat_eq i j) refl)
-      ∙ on (nat_eq k (latest p i t)) refl)
+      release-sum p dem t (λ note. cond (tells_done i k note) 1 0)
+      ∙ (sum_below-one (count p) i own inside (λ j lt ne. off j ne (nat_eq i j) refl) ∙ on (nat_eq k (latest p i t)) refl)
     where
-      Told : ℕ → Bool → Bool → ℕ
-      Told j a b = count_by (tells_done i k)
-          (if a then Release t j (latest p j t) ∷ (if b then Done (record { tick = t; offset = 0 }) j (latest p j t) 0 ∷ [] else []) else [])
+      own : ℕ → ℕ
+      own j =
+          one_if (releases_at p j t) * 0
+          + one_if (releases_at p j t && nat_eq (dem j (latest p j t)) 0) * cond (nat_eq i j && nat_eq k (latest p j t)) 1 0
 
-      off : (j : ℕ) → j ≢ i → (a b c : Bool) → nat_eq i j ≡ c → Told j a b ≡ 0
-      off j ne a b true e = absurd (ne (grind (arith, nat_tests)))
-      off j ne false b false e = refl
-      off j ne true false false e = refl
-      off j ne true true false e = rw e refl
+      off : (j : ℕ) → j ≢ i → (b : Bool) → nat_eq i j ≡ b → own j ≡ 0
+      off j ne true e = absurd (ne (grind (arith, nat_tests)))
+      off j ne false e = rw e (omega arith)
 
-      self : nat_eq i i ≡ true
-      self = grind (arith, nat_tests)
+      self : (m : ℕ) → nat_eq m m ≡ true
+      self m = grind (arith, nat_tests)
 
-      on : (b : Bool) → nat_eq k (latest p i t) ≡ b
-          → Told i (releases_at p i t) (nat_eq (dem i (latest p i t)) 0) ≡ (if nat_eq (dem i k) 0 then (if nat_eq (release p i k) t then 1 else 0) else 0)
+      on : (b : Bool) → nat_eq k (latest p i t) ≡ b → own i ≡ one_if (nat_eq (dem i k) 0 && nat_eq (release p i k) t)
       on true e =
           let job : latest p i t ≡ k = grind (arith, nat_tests) in
-          rw (job) (here (nat_eq (release p i k) t) (nat_eq (dem i k) 0))
+          rw (job, self i, self k) (here (nat_eq (release p i k) t) (nat_eq (dem i k) 0))
         where
-          here : (a b : Bool) → count_by (tells_done i k) (if a then Release t i k ∷ (if b then Done (record { tick = t; offset = 0 }) i k 0 ∷ [] else []) else [])
-              ≡ (if b then (if a then 1 else 0) else 0)
-          here false true = refl
-          here false false = refl
-          here true false = refl
-          here true true = let own : nat_eq k k ≡ true = grind (arith, nat_tests) in rw (self, own) refl
-      on false e = other (releases_at p i t) (nat_eq (dem i (latest p i t)) 0) ∙ sym (rw away (nothing-there (nat_eq (dem i k) 0)))
+          here : (a b : Bool) → one_if a * 0 + one_if (a && b) * 1 ≡ one_if (b && a)
+          here true true = omega arith
+          here true false = omega arith
+          here false true = omega arith
+          here false false = omega arith
+      on false e = rw (self i, e, away (nat_eq (release p i k) t) refl) (omega (arith, none (nat_eq (dem i k) 0)))
         where
-          other : (a b : Bool) → Told i a b ≡ 0
-          other false b = refl
-          other true false = refl
-          other true true = rw (self, e) refl
+          away : (b : Bool) → nat_eq (release p i k) t ≡ b → nat_eq (release p i k) t ≡ false
+          away false f = f
+          away true f =
+              let now : release p i k ≡ t = grind (arith, nat_tests) in
+              let job : latest p i t ≡ k = latest-is p i k t (omega arith) (omega (arith, release-due p i k some_job, some)) in
+              absurd (true≢false (grind (arith, nat_tests)))
 
-          away : nat_eq (release p i k) t ≡ false
-          away = go (nat_eq (release p i k) t) refl
-            where
-              go : (b : Bool) → nat_eq (release p i k) t ≡ b → nat_eq (release p i k) t ≡ false
-              go false f = f
-              go true f =
-                  let now : release p i k ≡ t = grind (arith, nat_tests) in
-                  let job : latest p i t ≡ k = latest-is p i k t (omega arith) (omega (arith, release-due p i k some_job, some)) in
-                  absurd (true≢false (grind (arith, nat_tests)))
-
-          nothing-there : (b : Bool) → ◌≡◌ {A = ℕ} (if b then 0 else 0) 0
-          nothing-there true = refl
-          nothing-there false = refl
+          none : (b : Bool) → one_if (b && false) ≡ 0
+          none true = refl
+          none false = refl
 
   -- what tick x adds to the number of the job's completions
   adds : (x : Tick) (past : List Tick) → IsScheduleBy p dem ask (x ∷ past)
-      → count_by (tells_done i k) (notes_before_end p dem ask (x ∷ past)) + done_by p dem i k past
-      ≡ count_by (tells_done i k) (notes_before_end p dem ask past) + count_by (tells_done i k) (all_release_notes p dem (length past))
-      + done_by p dem i k (x ∷ past)
+      → told (notes_before_end p dem ask (x ∷ past)) + done_by p dem i k past
+      ≡ told (notes_before_end p dem ask past) + one_if (nat_eq (dem i k) 0 && nat_eq (release p i k) (length past)) + done_by p dem i k (x ∷ past)
   adds x past h =
       omega (
         arith,
         next-sum p dem ask (λ note. cond (tells_done i k note) 1 0) nothing (λ t. done_by p dem i k) (tells-job p dem ask lim i k inside some_job) x past h,
         none-weighs (tick_units p past x),
-        quiet (is_decision p dem past),
+        at-release (length past),
       )
-    where
-      quiet : (b : Bool) → ◌≡◌ {A = ℕ} (if b then 0 else 0) 0
-      quiet true = refl
-      quiet false = refl
 
-  told-none : count_by (tells_done i k) (notes_before_end p dem ask []) ≡ 0
+  told-none : told (notes_before_end p dem ask []) ≡ 0
   told-none = none-sum p dem ask (λ note. cond (tells_done i k note) 1 0)
 
   -- a job that needs nothing is completed by its release, and another once it has had its demand
   told-empty : dem i k ≡ 0 → (ticks : List Tick) → IsScheduleBy p dem ask ticks
-      → count_by (tells_done i k) (notes_before_end p dem ask ticks) ≡ (if nat_lt (release p i k) (length ticks) then 1 else 0)
+      → told (notes_before_end p dem ask ticks) ≡ one_if (nat_lt (release p i k) (length ticks))
   told-empty none [] h = let never : nat_lt (release p i k) 0 ≡ false = grind (arith, nat_tests) in rw never told-none
   told-empty none (x ∷ past) h =
       let empty : nat_eq (dem i k) 0 ≡ true = grind (arith, nat_tests) in
@@ -155,44 +128,40 @@ module _ (p : Plan) (dem : ℕ → ℕ → ℕ) (ask : List Tick → Frac) (lim 
         arith,
         adds x past h,
         told-empty none past h.0,
-        at-release (length past),
-        ap {B = ℕ} (λ (b : Bool). if b then (if nat_eq (release p i k) (length past) then 1 else 0) else 0) empty,
+        ap (λ b. one_if (b && nat_eq (release p i k) (length past))) empty,
         reached-all (dem i k) (exec p past i k) (omega (arith, none)),
         reached-all (dem i k) (exec p (x ∷ past) i k) (omega (arith, none)),
         next-below (release p i k) (length past),
       )
 
-  told-some : 0 < dem i k → (ticks : List Tick) → IsScheduleBy p dem ask ticks
-      → count_by (tells_done i k) (notes_before_end p dem ask ticks) ≡ done_by p dem i k ticks
+  told-some : 0 < dem i k → (ticks : List Tick) → IsScheduleBy p dem ask ticks → told (notes_before_end p dem ask ticks) ≡ done_by p dem i k ticks
   told-some needs [] h = omega (arith, told-none, reached-none (dem i k) 0 needs)
   told-some needs (x ∷ past) h =
       let other : nat_eq (dem i k) 0 ≡ false = grind (arith, nat_tests) in
-      omega (
-        arith,
-        adds x past h,
-        told-some needs past h.0,
-        at-release (length past),
-        ap {B = ℕ} (λ (b : Bool). if b then (if nat_eq (release p i k) (length past) then 1 else 0) else 0) other,
-      )
+      omega (arith, adds x past h, told-some needs past h.0, ap (λ b. one_if (b && nat_eq (release p i k) (length past))) other)
+
+  -- the last note of a schedule is no completion
+  all-told : (ticks : List Tick) → told (notes_of p dem ask ticks) ≡ told (notes_before_end p dem ask ticks)
+  all-told ticks = omega (arith, with-end p dem ask (λ note. cond (tells_done i k note) 1 0) ticks)
 
   -- of a job that has had its demand, the notes of a schedule have the completion once
   pub told-once : (ticks : List Tick) → IsScheduleBy p dem ask ticks → release p i k < length ticks → exec p ticks i k ≡ dem i k
-      → times (tells_done i k) (notes_before_end p dem ask ticks) ≡ 1
-  told-once ticks h began had = times-count (tells_done i k) (notes_before_end p dem ask ticks) ∙ elim (cases_lt 0 (dem i k)) [
+      → count_by (tells_done i k) (notes_of p dem ask ticks) ≡ 1
+  told-once ticks h began had = all-told ticks ∙ elim (cases_lt 0 (dem i k)) [
     | inl needs ↦ told-some needs ticks h ∙ reached-all (dem i k) (exec p ticks i k) (omega (arith, had))
     | inr none ↦
         let within : nat_lt (release p i k) (length ticks) ≡ true = grind (arith, nat_tests) in
-        told-empty (omega (arith, none)) ticks h ∙ rw within refl
+        told-empty (omega (arith, none)) ticks h ∙ ap one_if within
   ]
 
   -- of a job that isn't released yet, the notes of a schedule have no completion
   pub told-never : (ticks : List Tick) → IsScheduleBy p dem ask ticks → length ticks ≤ release p i k
-      → times (tells_done i k) (notes_before_end p dem ask ticks) ≡ 0
-  told-never ticks h later = times-count (tells_done i k) (notes_before_end p dem ask ticks) ∙ elim (cases_lt 0 (dem i k)) [
+      → count_by (tells_done i k) (notes_of p dem ask ticks) ≡ 0
+  told-never ticks h later = all-told ticks ∙ elim (cases_lt 0 (dem i k)) [
     | inl needs ↦ told-some needs ticks h ∙ reached-none (dem i k) (exec p ticks i k) (omega (arith, exec-early p ticks i k later, needs))
     | inr none ↦
         let off : nat_lt (release p i k) (length ticks) ≡ false = grind (arith, nat_tests) in
-        told-empty (omega (arith, none)) ticks h ∙ rw off refl
+        told-empty (omega (arith, none)) ticks h ∙ ap one_if off
   ]
 
   -- no note of a schedule says that the job completes after its deadline

@@ -1,5 +1,6 @@
 -- The text of a schedule that meets its deadlines says of each job that it completes by its deadline.
-use Rattle.std.proofs.Common.{◌≡◌, ℕ, zero, suc, ◌+◌, ◌-◌, ◌^◌, ◌<◌, ◌≤◌, Bool, true, false, ◌&&◌, List, [], ◌∷◌, ◌++◌, length, map, flat_map, refl, arith, if◌then◌else◌, ap, ap₂, ◌∙◌, sym, subst, true≢false, nat_eq, get_or, append_assoc, ◌⊎◌, inl, inr}
+use Rattle.std.proofs.Common.{◌≡◌, ℕ, zero, suc, ◌+◌, ◌-◌, ◌^◌, ◌<◌, ◌≤◌, Bool, true, false, ◌&&◌, List, [], ◌∷◌, ◌++◌, length, map, flat_map, refl, arith, ap, ap₂, ◌∙◌, sym, subst, true≢false, nat_eq, get_or, append_assoc, ◌⊎◌, inl, inr}
+use Rattle.std.specs.Prelude.{count_by}
 use Rattle.std.specs.List.{AllByRecursion}
 use Rattle.std.proofs.lemmas.Fmt.{decimal_injective}
 use Rattle.std.proofs.lemmas.List.{get_or-map, length-map, map-append}
@@ -17,12 +18,11 @@ use Rattle.trace_text.specs.TraceLines.{line, done_fields, fields_of, note_text}
 use Rattle.trace_text.proofs.NoteLines.{note-fields, done-same}
 use Rattle.task_model.specs.declared.task.Task.{Task}
 use Rattle.task_model.specs.Tasks.{no_task, task_at}
-use Rattle.grid_fraction.specs.declared.Frac.{Frac}
 use Rattle.dvs_base.specs.declared.limits.TheConstants.{MOST_TICKS}
 use Rattle.dvs_base.specs.Parts.{name_of}
 use Rattle.sched_model.specs.Plan.{Plan, count, names, period}
-use Rattle.sched_model.specs.Jobs.{release, due}
-use Rattle.sched_model.specs.Ticks.{Tick, at, exec, IsMet}
+use Rattle.sched_model.specs.Jobs.{JobDemands, release, due}
+use Rattle.sched_model.specs.Ticks.{PublishedDemand, Tick, at, exec, IsMet}
 use Rattle.sched_model.specs.Demand.{published}
 use Rattle.sched_model.specs.Schedule.{IsScheduleBy, schedule}
 use Rattle.sched_model.specs.Admission.{IsWithinLimits}
@@ -38,49 +38,9 @@ use Rattle.trace_reader.proofs.WholeText.{each-noted}
 use Rattle.trace_text.proofs.PlainLines.{ArePlain, each-append, plain-name, some-name}
 use Rattle.done_lines.specs.RunText.{task_texts, run_lines}
 use Rattle.done_lines.proofs.RunLines.{IsQuiet, lines-run, quiet-head, quiet-shares}
-use Rattle.sched_model.proofs.NoteSums.{tells_done}
-use Rattle.done_lines.proofs.Times.{times}
-use Rattle.done_lines.proofs.DoneCounts.{times-end, told-once, told-never, IsInTime, in-time}
-
--- a list with exactly one element that passes the test
-record IsAlone {A : Type 0} (test : A → Bool) (xs : List A) : Type 0 where
-  front : List A
-  one : A
-  back : List A
-  parts : xs ≡ front ++ one ∷ back
-  passes : test one ≡ true
-  none_front : times test front ≡ 0
-  none_back : times test back ≡ 0
-
-alone : {A : Type 0} (test : A → Bool) (xs : List A) → times test xs ≡ 1 → IsAlone test xs
-alone test [] e = absurd (omega (arith, e))
-alone test (x ∷ xs) e = go (test x) refl (alone test xs)
-  where
-    go : (b : Bool) → test x ≡ b → (times test xs ≡ 1 → IsAlone test xs) → IsAlone test (x ∷ xs)
-    go true f ih =
-        let count : suc (times test xs) ≡ 1 = sym (ap (λ (c : Bool). if c then suc (times test xs) else times test xs) f) ∙ e in
-        record { front = []; one = x; back = xs; parts = refl; passes = f; none_front = refl; none_back = omega arith }
-    go false f ih =
-        let count : times test xs ≡ 1 = sym (ap (λ (c : Bool). if c then suc (times test xs) else times test xs) f) ∙ e in
-        let r = ih count in
-        record {
-          front = x ∷ r.front;
-          one = r.one;
-          back = r.back;
-          parts = ap (λ ys. x ∷ ys) r.parts;
-          passes = r.passes;
-          none_front = ap (λ (c : Bool). if c then suc (times test r.front) else times test r.front) f ∙ r.none_front;
-          none_back = r.none_back;
-        }
-
--- where a count is 0, no element of the list passes the test
-none-pass : {A : Type 0} (test : A → Bool) (xs : List A) → times test xs ≡ 0 → AllByRecursion (λ x. test x ≡ false) xs
-none-pass test [] e = tt
-none-pass test (x ∷ xs) e = go (test x) refl (none-pass test xs)
-  where
-    go : (b : Bool) → test x ≡ b → (times test xs ≡ 0 → AllByRecursion (λ y. test y ≡ false) xs) → (test x ≡ false) × AllByRecursion (λ y. test y ≡ false) xs
-    go true f ih = absurd (omega (arith, sym (ap (λ (c : Bool). if c then suc (times test xs) else times test xs) f) ∙ e))
-    go false f ih = (f, ih (sym (ap (λ (c : Bool). if c then suc (times test xs) else times test xs) f) ∙ e))
+use Rattle.sched_model.proofs.NoteSums.{one_if, tells_done}
+use Rattle.done_lines.proofs.Counted.{count-next, IsAlone, alone}
+use Rattle.done_lines.proofs.DoneCounts.{told-once, told-never, IsInTime, in-time}
 
 -- the line is not that of the completion of job k of the task of this name
 abbrev IsOther : List ℕ → ℕ → List ℕ → Type 0
@@ -140,22 +100,15 @@ each-after P [] ys e = e
 each-after P (x ∷ xs) ys e = each-after P xs ys e.1
 
 -- where each test that counts anything has a number below 2^64, so has each test that an element passes
-each-counted : {A : Type 0} (tests : ℕ → A → Bool) (xs : List A) → ((l : ℕ) → 0 < times (tests l) xs → l < 2 ^ 64)
+each-counted : {A : Type 0} (tests : ℕ → A → Bool) (xs : List A) → ((l : ℕ) → 0 < count_by (tests l) xs → l < 2 ^ 64)
     → AllByRecursion (λ x. (l : ℕ) → tests l x ≡ true → l < 2 ^ 64) xs
 each-counted tests [] h = tt
-each-counted tests (x ∷ xs) h = (λ l e. h l (here l (tests l x) refl e), each-counted tests xs (λ l some. h l (there l (tests l x) refl some)))
-  where
-    here : (l : ℕ) (b : Bool) → tests l x ≡ b → tests l x ≡ true → 0 < times (tests l) (x ∷ xs)
-    here l b f e = let c : times (tests l) (x ∷ xs) ≡ suc (times (tests l) xs) =
-        ap (λ (b : Bool). if b then suc (times (tests l) xs) else times (tests l) xs) e in omega (arith, c)
+each-counted tests (x ∷ xs) h = (
+  λ l e. h l (omega (arith, count-next (tests l) x xs, ap one_if e)),
+  each-counted tests xs (λ l some. h l (omega (arith, count-next (tests l) x xs, some))),
+)
 
-    there : (l : ℕ) (b : Bool) → tests l x ≡ b → 0 < times (tests l) xs → 0 < times (tests l) (x ∷ xs)
-    there l true f some = let c : times (tests l) (x ∷ xs) ≡ suc (times (tests l) xs) =
-        ap (λ (b : Bool). if b then suc (times (tests l) xs) else times (tests l) xs) f in omega (arith, c)
-    there l false f some = let c : times (tests l) (x ∷ xs) ≡ times (tests l) xs =
-        ap (λ (b : Bool). if b then suc (times (tests l) xs) else times (tests l) xs) f in omega (arith, c, some)
-
-module _ (p : Plan) (dem : ℕ → ℕ → ℕ) (ask : List Tick → Frac) (lim : IsWithinLimits p) (ticks : List Tick) (sched : IsScheduleBy p dem ask ticks)
+module _ (p : Plan) (dem : JobDemands) (ask : PublishedDemand) (lim : IsWithinLimits p) (ticks : List Tick) (sched : IsScheduleBy p dem ask ticks)
     (most : (i k : ℕ) → i < count p → exec p ticks i k ≤ dem i k) (low : length ticks ≤ MOST_TICKS) where
   abbrev notes : List Note
   notes = notes_of p dem ask ticks
@@ -188,7 +141,7 @@ module _ (p : Plan) (dem : ℕ → ℕ → ℕ) (ask : List Tick → Frac) (lim 
       one same within (inr le) (inr ge) = omega arith
 
   -- a job whose completion is among the notes has a number below 2^64
-  small : (i : ℕ) → i < count p → (l : ℕ) → 0 < times (tells_done i l) notes → l < 2 ^ 64
+  small : (i : ℕ) → i < count p → (l : ℕ) → 0 < count_by (tells_done i l) notes → l < 2 ^ 64
   small i lt zero some = omega arith
   small i lt (suc l) some = elim (cases_lt (release p i (suc l)) (length ticks)) [
     | inl began ↦
@@ -199,8 +152,7 @@ module _ (p : Plan) (dem : ℕ → ℕ → ℕ) (ask : List Tick → Frac) (lim 
     | inr later ↦
         let first : 1 ≤ suc l = omega arith in
         let never = told-never p dem ask lim i (suc l) lt first ticks sched later in
-        let same = times-end p dem ask ticks (tells_done i (suc l)) (λ t run idle. refl) in
-        absurd (omega (arith, some, same, never))
+        absurd (omega (arith, some, never))
   ]
 
   -- the text of the schedule
@@ -222,10 +174,10 @@ module _ (p : Plan) (dem : ℕ → ℕ → ℕ) (ask : List Tick → Frac) (lim 
     abbrev before : List Note → List LineOf
     before some = heading v g t ++ lines_at v some
 
-    once : times (tells_done i k) notes ≡ 1
+    once : count_by (tells_done i k) notes ≡ 1
     once =
         let began : release p i k < length ticks = omega (arith, release-due p i k some_job, every_period p lim i, within) in
-        times-end p dem ask ticks (tells_done i k) (λ t run idle. refl) ∙ told-once p dem ask lim i k lt some_job ticks sched began had
+        told-once p dem ask lim i k lt some_job ticks sched began had
 
     low-job : k < 2 ^ 64
     low-job = omega (arith, le-due p i k (every_period p lim i), within, low)
@@ -253,10 +205,10 @@ module _ (p : Plan) (dem : ℕ → ℕ → ℕ) (ask : List Tick → Frac) (lim 
           none_before = none-done name k (before r.front)
               (each-append (λ l. IsOther name k l.text) (heading v g t) (lines_at v r.front)
               (each-weaker (λ l. IsQuiet l.text) (λ l. IsOther name k l.text) (λ l. other-line name k l.text) (heading v g t) (quiet-head p v g t))
-              (silent-lines v (names p) named i k (apart i lt) low-job notes r.front (none-pass (tells_done i k) r.front r.none_front)
+              (silent-lines v (names p) named i k (apart i lt) low-job notes r.front r.none_front
               (each-before _ r.front (r.one ∷ r.back) all_small)));
           none_after = none-done name k (lines_at v r.back)
-              (silent-lines v (names p) named i k (apart i lt) low-job notes r.back (none-pass (tells_done i k) r.back r.none_back)
+              (silent-lines v (names p) named i k (apart i lt) low-job notes r.back r.none_back
               (each-after _ r.front (r.one ∷ r.back) all_small).1);
         }
           where

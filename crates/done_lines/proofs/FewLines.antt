@@ -1,28 +1,24 @@
 -- A schedule has few notes, compared with its released jobs.
-use Rattle.std.proofs.Common.{◌≡◌, ℕ, ◌+◌, ◌*◌, ◌≤◌, Bool, true, false, List, [], ◌∷◌, ◌++◌, length, refl, arith, if◌then◌else◌, ◌∙◌, subst, nat_eq, length-append}
+use Rattle.std.proofs.Common.{◌≡◌, ℕ, ◌+◌, ◌*◌, ◌≤◌, Bool, true, false, List, [], ◌∷◌, ◌++◌, length, refl, arith, subst, length-append}
 use Rattle.std.specs.Prelude.{count_by, sum_by, cond}
 use Rattle.std.specs.List.{AllByRecursion}
 use Rattle.dvs_base.specs.declared.note.Note.{Note}
-use Rattle.dvs_base.specs.declared.note.Note.TheVariants.{Release, Run, Idle, Done, End}
-use Rattle.grid_fraction.specs.declared.Frac.{Frac}
+use Rattle.dvs_base.specs.declared.note.Note.TheVariants.{Run, Idle, End}
 use Rattle.grid_fraction.proofs.Counts.{count-append}
-use Rattle.grid_fraction.proofs.Sums.{sum_below-le, sum_below-zero}
-use Rattle.sched_model.specs.declared.holder.Holder.{Holder}
-use Rattle.sched_model.specs.declared.holder.Holder.TheVariants.{Nobody, Held}
+use Rattle.grid_fraction.proofs.Sums.{sum_below-le}
 use Rattle.sched_model.specs.Plan.{Plan, count}
-use Rattle.sched_model.specs.Jobs.{latest, releases_at, released_jobs}
-use Rattle.sched_model.specs.Ticks.{Tick, exec}
+use Rattle.sched_model.specs.Jobs.{JobDemands, latest, released_jobs}
+use Rattle.sched_model.specs.Ticks.{PublishedDemand, Tick, exec}
 use Rattle.sched_model.specs.Schedule.{IsScheduleBy}
 use Rattle.sched_model.specs.Admission.{IsWithinLimits}
-use Rattle.sched_model.specs.Notes.{Span, Piece, pieces_of, run_energy, release_notes, all_release_notes, had_by, segment_notes, pieces_notes, energy_run, energy_idle, notes_before_end, notes_of}
+use Rattle.sched_model.specs.Notes.{Span, pieces_of, pieces_notes, energy_run, energy_idle, notes_before_end, notes_of}
 use Rattle.sched_model.specs.Totals.{is_released, is_finished, is_decided, totals_of}
 use Rattle.sched_model.proofs.Limits.{every_period}
 use Rattle.done_lines.specs.LineCounts.{AreFew, HasFewNotes}
 use Rattle.sched_model.proofs.BeforeEnd.{IsBeforeEnd, before-end-each}
-use Rattle.sched_model.proofs.NoteSums.{sum-each, none-sum, span-sum, none-weighs, reached-up, done_by, tells-all, all_done-next}
+use Rattle.sched_model.proofs.NoteSums.{completions, release-counts, pieces-most, none-sum, span-sum, none-weighs, reached-up, done_by, tells-all, all_done-next}
 use Rattle.sched_model.proofs.Spans.{IsLastSpan, by-spans}
-use Rattle.sched_model.proofs.Walk.{at_unit}
-use Rattle.done_lines.proofs.CountLemmas.{completions, adds, has-few}
+use Rattle.done_lines.proofs.CountLemmas.{adds, has-few}
 use Rattle.done_lines.proofs.FewReleases.{releases-more}
 use Rattle.done_lines.proofs.SpanPieces.{LastHasFew, last-few}
 
@@ -47,17 +43,17 @@ kinds-append xs ys =
       count-append is_segment xs ys,
     )
 
-kinds-one : (p : Plan) (dem : ℕ → ℕ → ℕ) (n : Note) → IsBeforeEnd p dem n → kinds (n ∷ []) ≡ 1
+kinds-one : (p : Plan) (dem : JobDemands) (n : Note) → IsBeforeEnd p dem n → kinds (n ∷ []) ≡ 1
 kinds-one p dem (End t run idle) h = absurd h
 kinds-one p dem _ h = omega arith
 
-kinds-length : (p : Plan) (dem : ℕ → ℕ → ℕ) (notes : List Note) → AllByRecursion (IsBeforeEnd p dem) notes
+kinds-length : (p : Plan) (dem : JobDemands) (notes : List Note) → AllByRecursion (IsBeforeEnd p dem) notes
     → length notes ≡ kinds notes
 kinds-length p dem [] h = refl
 kinds-length p dem (n ∷ notes) h =
     omega (arith, kinds-append (n ∷ []) notes, kinds-one p dem n h.0, kinds-length p dem notes h.1)
 
-module _ (p : Plan) (dem : ℕ → ℕ → ℕ) (ask : List Tick → Frac) (lim : IsWithinLimits p)
+module _ (p : Plan) (dem : JobDemands) (ask : PublishedDemand) (lim : IsWithinLimits p)
     (needless : (i : ℕ) → dem i 0 ≡ 0) where
   abbrev notes : List Tick → List Note
   notes = notes_before_end p dem ask
@@ -65,41 +61,9 @@ module _ (p : Plan) (dem : ℕ → ℕ → ℕ) (ask : List Tick → Frac) (lim 
   abbrev segments_in : List Note → ℕ
   segments_in = count_by is_segment
 
-  -- the release notes of a task have no segments
-  no-segments : (t : ℕ) → segments_in (all_release_notes p dem t) ≡ 0
-  no-segments t =
-      sum-each (λ note. cond (is_segment note) 1 0) (release_notes p dem t) (count p)
-      ∙ sum_below-zero (count p) _ (λ i lt. go i (releases_at p i t) (nat_eq (dem i (latest p i t)) 0))
-    where
-      go : (i : ℕ) (a b : Bool)
-          → segments_in (if a then Release t i (latest p i t)
-          ∷ (if b then Done (record { tick = t; offset = 0 }) i (latest p i t) 0 ∷ [] else []) else []) ≡ 0
-      go i true true = refl
-      go i _ _ = refl
-
-  -- each piece has one segment
-  pieces-segments : (s : Span) (q : ℕ) (rs : List Piece) → segments_in (pieces_notes p dem s q rs) ≡ length rs
-  pieces-segments s q [] = refl
-  pieces-segments s q (r ∷ rs) =
-      omega (
-        arith,
-        count-append is_segment (segment_notes p dem s q r.units r.holder) (pieces_notes p dem s (q + r.units) rs),
-        one r.units r.holder,
-        pieces-segments s (q + r.units) rs,
-      )
-    where
-      one : (u : ℕ) (h : Holder) → segments_in (segment_notes p dem s q u h) ≡ 1
-      one u Nobody = refl
-      one u (Held i k) = go (nat_eq (had_by p s (q + u) i k) (dem i k))
-        where
-          go : (b : Bool) → segments_in (Run (at_unit p s q) (at_unit p s (q + u)) i k u (run_energy p s.entry u)
-              ∷ (if b then Done (at_unit p s (q + u)) i k (dem i k) ∷ [] else [])) ≡ 1
-          go true = refl
-          go false = refl
-
   -- the jobs that complete in the last tick are among the completions in the span's segments
   completed-told : (x : Tick) (past : List Tick) (s : Span) → IsScheduleBy p dem ask (x ∷ past) → IsLastSpan p dem ask x past s
-      → completions p dem ask lim needless x past ≤ count_by is_finished (pieces_notes p dem s 0 (pieces_of s.units))
+      → completions p dem x past ≤ count_by is_finished (pieces_notes p dem s 0 (pieces_of s.units))
   completed-told x past s h l =
       let k : ℕ → ℕ = λ i. latest p i (length past) in
       omega (
@@ -129,8 +93,9 @@ module _ (p : Plan) (dem : ℕ → ℕ → ℕ) (ask : List Tick → Frac) (lim 
         span-sum p dem ask (λ note. cond (is_segment note) 1 0) x past s l,
         span-sum p dem ask (λ note. cond (is_decided note) 1 0) x past s l,
         span-sum p dem ask (λ note. cond (is_finished note) 1 0) x past s l,
-        no-segments (length s.past),
-        pieces-segments s 0 (pieces_of s.units),
+        release-counts p dem (length s.past) (λ note. cond (is_segment note) 1 0) 0 0 (λ i k. refl) (λ i k. refl),
+        pieces-most p dem ask (λ note. cond (is_segment note) 1 0) 1 0 (λ from to i k u e. omega arith) (λ from to u e. omega arith)
+            (λ at_end i k u. omega arith) s 0 (pieces_of s.units),
         completed-told x past s h l,
       )
 

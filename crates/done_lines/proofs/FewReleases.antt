@@ -8,7 +8,7 @@ use Rattle.grid_fraction.proofs.Ceilings.{ceil-at, ceil-mono}
 use Rattle.sched_model.specs.Plan.{Plan, count, period, offset}
 use Rattle.sched_model.specs.Jobs.{latest, release, releases_at, released_jobs}
 use Rattle.sched_model.proofs.JobLaws.{release-none, latest-pos}
-use Rattle.done_lines.proofs.CountLemmas.{one_if, releases}
+use Rattle.sched_model.proofs.NoteSums.{one_if, releases}
 
 -- a quotient rounded up is at least one more than a whole number that it exceeds
 ceil-over : (q n d : ℕ) → 0 < d → q * d < n → suc q ≤ ceil_div n d

@@ -1,4 +1,4 @@
-pub mod Times
+pub mod Counted
 pub mod DoneCounts
 pub mod RunLines
 pub mod DoneText

@@ -1,13 +1,12 @@
 -- The notes of a schedule have one end, the last note, so they aren't the beginning of other such notes.
-use Rattle.std.proofs.Common.{◌≡◌, ℕ, Bool, true, false, List, [], ◌∷◌, ◌++◌, length, refl, ◌∙◌, sym, true≢false}
+use Rattle.std.proofs.Common.{◌≡◌, Bool, true, false, List, [], ◌∷◌, ◌++◌, length, refl, ◌∙◌, sym, true≢false}
 use Rattle.std.specs.Prelude.{sum_by}
 use Rattle.std.specs.List.{AllByRecursion}
 use Rattle.dvs_base.specs.declared.note.Note.{Note}
 use Rattle.dvs_base.specs.declared.note.Note.TheVariants.{End}
-use Rattle.grid_fraction.specs.declared.Frac.{Frac}
 use Rattle.sched_model.specs.Plan.{Plan}
-use Rattle.sched_model.specs.Ticks.{Tick}
-use Rattle.sched_model.specs.Admission.{IsWithinLimits}
+use Rattle.sched_model.specs.Jobs.{JobDemands}
+use Rattle.sched_model.specs.Ticks.{PublishedDemand, Tick}
 use Rattle.sched_model.specs.Notes.{energy_run, energy_idle, notes_before_end, notes_of}
 use Rattle.sched_model.proofs.Units.{each-weaker}
 use Rattle.sched_model.proofs.BeforeEnd.{IsBeforeEnd, before-end-each}
@@ -33,9 +32,9 @@ ends-once test (x ∷ []) last none ends = (none.0, ends)
 ends-once test (x ∷ y ∷ front) last none ends = (none.0, ends-once test (y ∷ front) last none.1 ends)
 
 -- the notes of a schedule end once
-pub schedule-ended : (p : Plan) → IsWithinLimits p → (dem : ℕ → ℕ → ℕ) (ask : List Tick → Frac) (ticks : List Tick)
+pub schedule-ended : (p : Plan) (dem : JobDemands) (ask : PublishedDemand) (ticks : List Tick)
     → EndsOnce is_end (notes_of p dem ask ticks)
-schedule-ended p lim dem ask ticks =
+schedule-ended p dem ask ticks =
     let notes : List Note = notes_before_end p dem ask ticks in
     ends-once is_end notes (End (length ticks) (sum_by energy_run notes) (sum_by energy_idle notes))
     (each-weaker (IsBeforeEnd p dem) (λ n. is_end n ≡ false) others notes (before-end-each p dem ask ticks)) refl

@@ -1,29 +1,28 @@
 -- The notes of a span are few, and no sum over the notes of a schedule is large.
-use Rattle.std.proofs.Common.{◌≡◌, ℕ, ◌+◌, ◌-◌, ◌*◌, ◌<◌, ◌≤◌, Bool, true, false, List, [], ◌∷◌, length, refl, arith, if◌then◌else◌, ap, subst, nat_eq, length-append, mul-le-mul_left}
+use Rattle.std.proofs.Common.{◌≡◌, ℕ, ◌+◌, ◌-◌, ◌*◌, ◌<◌, ◌≤◌, ◌&&◌, List, [], ◌∷◌, length, refl, arith, ap, subst, nat_eq, length-append}
 use Rattle.std.specs.Prelude.{sum_by}
 use Rattle.std.specs.List.{AllByRecursion}
 use Rattle.std.proofs.lemmas.List.Sums.{sum_by-cons}
+use Rattle.dvs_base.specs.declared.limits.TheConstants.{MOST_TASKS}
 use Rattle.dvs_base.specs.declared.note.Note.{Note}
 use Rattle.dvs_base.specs.declared.note.Note.TheVariants.{Release, Speed, Run, Done, End}
-use Rattle.grid_fraction.specs.declared.Frac.{Frac}
 use Rattle.grid_fraction.specs.Numbers.{sum_below}
 use Rattle.grid_fraction.proofs.Sums.{sum_below-limit}
 use Rattle.grid_fraction.proofs.Counts.{one-or-none}
-use Rattle.sched_model.specs.declared.holder.Holder.{Holder}
-use Rattle.sched_model.specs.declared.holder.Holder.TheVariants.{Nobody, Held}
 use Rattle.sched_model.specs.Plan.{Plan, count, point}
-use Rattle.sched_model.specs.Jobs.{latest, releases_at}
-use Rattle.sched_model.specs.Ticks.{Tick, share}
+use Rattle.sched_model.specs.Jobs.{JobDemands, latest, releases_at}
+use Rattle.sched_model.specs.Ticks.{PublishedDemand, Tick, share}
 use Rattle.sched_model.specs.Decision.{completes_in}
 use Rattle.sched_model.specs.Schedule.{IsScheduleBy}
 use Rattle.sched_model.specs.Admission.{IsWithinLimits}
-use Rattle.sched_model.specs.Notes.{Span, Piece, spans_of, pieces_of, run_energy, release_notes, all_release_notes, had_by, segment_notes, pieces_notes, span_notes, energy_run, energy_idle, notes_before_end}
+use Rattle.sched_model.specs.Notes.{Span, spans_of, pieces_of, all_release_notes, pieces_notes, span_notes, energy_run, energy_idle, most_unit_energy, notes_before_end}
+use Rattle.sched_model.proofs.Limits.{energy-most}
 use Rattle.sched_model.proofs.NoteLemmas.{notes-span}
-use Rattle.sched_model.proofs.NoteSums.{sum-each, none-sum, running, idling, run-next, idle-next}
+use Rattle.sched_model.proofs.NoteSums.{one_if, release-counts, pieces-most, none-sum, running, idling, run-next, idle-next}
 use Rattle.sched_model.proofs.Spans.{IsLastSpan, IsNow, last-span, by-spans}
 use Rattle.sched_model.proofs.Units.{units-weight, shares-fit}
-use Rattle.sched_model.proofs.Walk.{at_unit, EachNote, each-note}
-use Rattle.done_lines.proofs.SpanPieces.{completed, LastHasFew, last-few}
+use Rattle.sched_model.proofs.Walk.{EachNote, each-note}
+use Rattle.done_lines.proofs.SpanPieces.{LastHasFew, last-few}
 
 -- a note before the `End` of a run, whose task, if it has one, is a task of the plan
 abbrev pub IsNoteIn : Plan → Note → Type 0
@@ -35,58 +34,13 @@ IsNoteIn p _ = Unit {0}
 
 -- the most notes of a span: two for each release, one for the decision, and two for each of its segments
 abbrev pub span_most : ℕ
-span_most = 4 * 64 + 3
-
--- the most energy that one unit can cost
-abbrev pub unit_most : ℕ
-unit_most = 400000000000
-
-energy-most : (u mv rate : ℕ) → mv ≤ 20000 → rate ≤ 1000 → u * mv * mv * rate ≤ unit_most * u
-energy-most u mv rate low cheap = omega (arith, mul-le-mul_left u low, mul-le-mul_left (u * mv) low, mul-le-mul_left (u * mv * mv) cheap)
+span_most = 4 * MOST_TASKS + 3
 
 length-sum : {A : Type 0} (xs : List A) → length xs ≡ sum_by (λ x. 1) xs
 length-sum [] = refl
 length-sum {A = A} (x ∷ xs) = omega (arith, sum_by-cons (λ (y : A). 1) x xs, length-sum xs)
 
-module _ (p : Plan) (lim : IsWithinLimits p) (dem : ℕ → ℕ → ℕ) (needless : (i : ℕ) → dem i 0 ≡ 0) (ask : List Tick → Frac) where
-  -- the release notes of a tick are at most two for each task
-  releases-few : (t : ℕ) → length (all_release_notes p dem t) ≤ count p * 2
-  releases-few t =
-      omega (
-        arith,
-        length-sum (all_release_notes p dem t),
-        sum-each (λ (n : Note). 1) (release_notes p dem t) (count p),
-        sum_below-limit (count p) 2 (λ i. sum_by (λ (n : Note). 1) (release_notes p dem t i))
-            (λ i lt. go i (releases_at p i t) (nat_eq (dem i (latest p i t)) 0)),
-      )
-    where
-      go : (i : ℕ) (a b : Bool)
-          → sum_by (λ (n : Note). 1) (if a then Release t i (latest p i t)
-          ∷ (if b then Done (record { tick = t; offset = 0 }) i (latest p i t) 0 ∷ [] else []) else []) ≤ 2
-      go i false b = omega arith
-      go i true false = omega arith
-      go i true true = omega arith
-
-  -- the notes of a segment are at most two
-  pieces-few : (s : Span) (q : ℕ) (rs : List Piece) → length (pieces_notes p dem s q rs) ≤ 2 * length rs
-  pieces-few s q [] = omega arith
-  pieces-few s q (r ∷ rs) =
-      omega (
-        arith,
-        length-append (segment_notes p dem s q r.units r.holder) (pieces_notes p dem s (q + r.units) rs),
-        one r.units r.holder,
-        pieces-few s (q + r.units) rs,
-      )
-    where
-      one : (u : ℕ) (h : Holder) → length (segment_notes p dem s q u h) ≤ 2
-      one u Nobody = omega arith
-      one u (Held i k) = go (nat_eq (had_by p s (q + u) i k) (dem i k))
-        where
-          go : (b : Bool) → length (Run (at_unit p s q) (at_unit p s (q + u)) i k u (run_energy p s.entry u)
-              ∷ (if b then Done (at_unit p s (q + u)) i k (dem i k) ∷ [] else [])) ≤ 2
-          go true = omega arith
-          go false = omega arith
-
+module _ (p : Plan) (lim : IsWithinLimits p) (dem : JobDemands) (needless : (i : ℕ) → dem i 0 ≡ 0) (ask : PublishedDemand) where
   -- the notes of the last span are at most `span_most`
   pub last-fits : (x : Tick) (past : List Tick) (s : Span) (spans : List Span) → IsScheduleBy p dem ask (x ∷ past)
       → spans_of p dem (x ∷ past) ≡ s ∷ spans → length (span_notes p dem ask s) ≤ span_most
@@ -97,10 +51,15 @@ module _ (p : Plan) (lim : IsWithinLimits p) (dem : ℕ → ℕ → ℕ) (needle
         arith,
         length-append (all_release_notes p dem (length s.past))
             (Speed (length s.past) ((point p s.entry).speed) ((ask s.past).num) ((ask s.past).den) ∷ told),
-        releases-few (length s.past),
-        pieces-few s 0 (pieces_of s.units),
+        length-sum (all_release_notes p dem (length s.past)),
+        release-counts p dem (length s.past) (λ note. 1) 1 1 (λ i k. refl) (λ i k. refl),
+        sum_below-limit (count p) 1 _ (λ i lt. one-or-none (releases_at p i (length s.past))),
+        sum_below-limit (count p) 1 _ (λ i lt. one-or-none (releases_at p i (length s.past) && nat_eq (dem i (latest p i (length s.past))) 0)),
+        length-sum told,
+        pieces-most p dem ask (λ note. 1) 1 1 (λ from to i k u e. omega arith) (λ from to u e. omega arith) (λ at_end i k u. omega arith)
+            s 0 (pieces_of s.units),
         segments.few,
-        sum_below-limit (count p) 1 (completed p dem ask lim needless x past) (λ i lt. one-or-none (completes_in p dem x past i)),
+        sum_below-limit (count p) 1 (λ i. one_if (completes_in p dem x past i)) (λ i lt. one-or-none (completes_in p dem x past i)),
         lim.tasks.few,
       )
 
@@ -116,7 +75,7 @@ module _ (p : Plan) (lim : IsWithinLimits p) (dem : ℕ → ℕ → ℕ) (needle
 
   low-energy : (ticks : List Tick) → IsScheduleBy p dem ask ticks
       → sum_by energy_run (notes_before_end p dem ask ticks) + sum_by energy_idle (notes_before_end p dem ask ticks)
-      ≤ unit_most * (1000000 * length ticks)
+      ≤ most_unit_energy * (1000000 * length ticks)
   low-energy [] h = omega (arith, none-sum p dem ask energy_run, none-sum p dem ask energy_idle)
   low-energy (x ∷ past) h =
       let (s, l) = last-span p dem ask x past h in
@@ -162,7 +121,7 @@ module _ (p : Plan) (lim : IsWithinLimits p) (dem : ℕ → ℕ → ℕ) (needle
     pub each : AllByRecursion (IsNoteIn p) (notes_before_end p dem ask ticks)
     pub few : length (notes_before_end p dem ask ticks) ≤ span_most * length ticks
     pub low : sum_by energy_run (notes_before_end p dem ask ticks) + sum_by energy_idle (notes_before_end p dem ask ticks)
-        ≤ unit_most * (1000000 * length ticks)
+        ≤ most_unit_energy * (1000000 * length ticks)
 
   pub ticks-fit : (ticks : List Tick) → IsScheduleBy p dem ask ticks → AllFit ticks
   ticks-fit ticks h = record {

@@ -5,15 +5,13 @@ use Rattle.std.proofs.lemmas.Bool.{cases_lt, and_parts, or_parts}
 use Rattle.std.proofs.lemmas.Bool.Decides.{nat_tests}
 use Rattle.dvs_base.specs.declared.kind.Scheduler.{Scheduler}
 use Rattle.dvs_base.specs.declared.kind.Scheduler.TheVariants.{Edf, Rm}
-use Rattle.grid_fraction.specs.declared.Frac.{Frac}
-use Rattle.grid_fraction.specs.Numbers.{sum_below}
 use Rattle.grid_fraction.proofs.Sums.{sum_below-le, sum_below-zero}
 use Rattle.grid_fraction.proofs.Searches.{any_below-false}
 use Rattle.sched_model.specs.declared.holder.Holder.{Holder}
 use Rattle.sched_model.specs.declared.holder.Holder.TheVariants.{Nobody, Held}
 use Rattle.sched_model.specs.Plan.{Plan, count, point}
-use Rattle.sched_model.specs.Jobs.{latest, due, is_release}
-use Rattle.sched_model.specs.Ticks.{Tick, exec, is_done, share, left}
+use Rattle.sched_model.specs.Jobs.{JobDemands, latest, due, is_release}
+use Rattle.sched_model.specs.Ticks.{PublishedDemand, Tick, exec, is_done, share, left}
 use Rattle.sched_model.specs.Priority.{key_of, in_order}
 use Rattle.sched_model.specs.Decision.{completes_in, is_decision}
 use Rattle.sched_model.specs.Schedule.{IsNext, IsScheduleBy}
@@ -23,6 +21,7 @@ use Rattle.sched_model.proofs.Limits.{every_period}
 use Rattle.sched_model.proofs.JobLaws.{exec-legal, left-stays}
 use Rattle.sched_model.proofs.LevelSums.{share-most}
 use Rattle.sched_model.proofs.OrderLemmas.{sum_list, sum_list-in_order, AreBelow, in_order-below, in_order-same}
+use Rattle.sched_model.proofs.NoteSums.{one_if, completions}
 use Rattle.sched_model.proofs.Spans.{stays}
 use Rattle.done_lines.proofs.TickPieces.{segments, Leads, run-leads, laid_out, laid-out, TakeTurns, take-turns, served, segments-most, first_holder, first-leads, first-alone}
 
@@ -36,7 +35,7 @@ first-same n need other job later (i ∷ is) below needs jobs =
     ∙ ap₂ (λ (h : Holder) (k : ℕ). if nat_eq (other i) 0 then h else Held i k)
     (first-same n need other job later is below.1 needs jobs) (jobs i below.0)
 
-module _ (p : Plan) (dem : ℕ → ℕ → ℕ) (ask : List Tick → Frac) (lim : IsWithinLimits p)
+module _ (p : Plan) (dem : JobDemands) (ask : PublishedDemand) (lim : IsWithinLimits p)
     (needless : (i : ℕ) → dem i 0 ≡ 0) where
   abbrev speed : Tick → ℕ
   speed x = (point p x.entry).speed
@@ -66,17 +65,13 @@ module _ (p : Plan) (dem : ℕ → ℕ → ℕ) (ask : List Tick → Frac) (lim 
       → TakeTurns (left p dem past) (share x) (speed x) (order_at past)
   turns past x next = take-turns (count p) (key_at past) (speed x) (left p dem past) (share x) next.legal
 
-  -- 1 where the latest job of task i completes in the tick x
-  abbrev pub completed : Tick → List Tick → ℕ → ℕ
-  completed x past i = if completes_in p dem x past i then 1 else 0
-
   -- a job that gets all it needs completes
   served-completes : (past : List Tick) (x : Tick) → IsNext p dem ask past x → (i : ℕ) → i < count p
-      → served (left p dem past) (share x) i ≤ completed x past i
+      → served (left p dem past) (share x) i ≤ one_if (completes_in p dem x past i)
   served-completes past x next i lt = go (nat_lt 0 (left p dem past i) && nat_le (left p dem past i) (share x i)) refl
     where
       go : (b : Bool) → (nat_lt 0 (left p dem past i) && nat_le (left p dem past i) (share x i)) ≡ b
-          → served (left p dem past) (share x) i ≤ completed x past i
+          → served (left p dem past) (share x) i ≤ one_if (completes_in p dem x past i)
       go false e = rw e (omega arith)
       go true e =
           let k = latest p i (length past) in
@@ -90,7 +85,7 @@ module _ (p : Plan) (dem : ℕ → ℕ → ℕ) (ask : List Tick → Frac) (lim 
           let undone : is_done p dem past i k ≡ false = grind (arith, nat_tests, some) in
           let done : is_done p dem (x ∷ past) i k ≡ true =
           all-had (exec p (x ∷ past) i k) (omega (arith, had, whole)) in
-          let one : completed x past i ≡ 1 = ap₂ (λ (a b : Bool). if not a && b then 1 else 0) undone done in
+          let one : one_if (completes_in p dem x past i) ≡ 1 = ap₂ (λ (a b : Bool). one_if (not a && b)) undone done in
           rw e (omega (arith, one))
         where
           all-had : (n : ℕ) → dem i (latest p i (length past)) ≤ n → nat_le (dem i (latest p i (length past))) n ≡ true
@@ -98,14 +93,14 @@ module _ (p : Plan) (dem : ℕ → ℕ → ℕ) (ask : List Tick → Frac) (lim 
 
   -- the segments of a tick are at most one more than the jobs that complete in it
   tick-few : (past : List Tick) (x : Tick) → IsNext p dem ask past x
-      → segments (tick_units p past x) ≤ suc (sum_below (count p) (completed x past))
+      → segments (tick_units p past x) ≤ suc (completions p dem x past)
   tick-few past x next =
       omega (
         arith,
         ap segments (units-laid past x),
         segments-most (left p dem past) (share x) (job_at past) (speed x) (order_at past) (turns past x next),
         sum_list-in_order (served (left p dem past) (share x)) (key_at past) (count p),
-        sum_below-le (count p) (served (left p dem past) (share x)) (completed x past) (served-completes past x next),
+        sum_below-le (count p) (served (left p dem past) (share x)) (λ i. one_if (completes_in p dem x past i)) (served-completes past x next),
       )
 
   -- the holder of the first unit of the tick after `past`
@@ -123,7 +118,7 @@ module _ (p : Plan) (dem : ℕ → ℕ → ℕ) (ask : List Tick → Frac) (lim 
   none-served past x next e i lt =
       let none : completes_in p dem x past i ≡ false =
       any_below-false (count p) (completes_in p dem x past) (or_parts (is_release p (length (x ∷ past))) _ e).1 i lt in
-      let zero : completed x past i ≡ 0 = ap (λ (b : Bool). if b then 1 else 0) none in
+      let zero : one_if (completes_in p dem x past i) ≡ 0 = ap one_if none in
       omega (arith, served-completes past x next i lt, zero)
 
   -- where no decision follows a tick, one holder has all its units
@@ -177,7 +172,7 @@ module _ (p : Plan) (dem : ℕ → ℕ → ℕ) (ask : List Tick → Frac) (lim 
 
   -- the span that ends with tick x has few segments; where no decision follows, it has one holder
   pub record HasFew (x : Tick) (past : List Tick) (s : Span) : Type 0 where
-    pub few : segments s.units ≤ suc (sum_below (count p) (completed x past))
+    pub few : segments s.units ≤ suc (completions p dem x past)
     pub alone : is_decision p dem (x ∷ past) ≡ false → (n : ℕ) × (s.units ≡ replicate n (first_at (x ∷ past)))
 
   opened-few : (past : List Tick) (x : Tick) → IsNext p dem ask past x
@@ -199,7 +194,7 @@ module _ (p : Plan) (dem : ℕ → ℕ → ℕ) (ask : List Tick → Frac) (lim 
       let (n, run) = h.alone e in
       let h : Holder = first_at (y ∷ past) in
       let us : List Holder = tick_units p (y ∷ past) x in
-      let ends : ℕ = sum_below (count p) (completed x (y ∷ past)) in
+      let ends : ℕ = completions p dem x (y ∷ past) in
       record {
         few =
             subst (λ earlier. segments (earlier ++ us) ≤ suc ends) (sym run)

@@ -10,7 +10,7 @@ use Rattle.dvs_base.specs.Parts.{name_of}
 use Rattle.sched_model.specs.Plan.{Plan, count, names}
 use Rattle.sched_model.specs.Schedule.{schedule}
 use Rattle.sched_model.specs.Ticks.{IsMet}
-use Rattle.sched_model.specs.Jobs.{due}
+use Rattle.sched_model.specs.Jobs.{JobDemands, due}
 use Rattle.done_lines.specs.RunText.{run_text_in}
 
 -- the line says that job k of the task of this name completes at the position
@@ -45,5 +45,5 @@ TellsDeadlines p ticks text =
 -- the text of each run that meets its deadlines, in either version, says of each job that it completes by its deadline
 abbrev pub TextTellsDeadlines : Plan → Type 0
 TextTellsDeadlines p =
-    (v : Version) (kind : GovernorKind) (dem : ℕ → ℕ → ℕ) (ticks : ℕ) → ticks ≤ MOST_TICKS
+    (v : Version) (kind : GovernorKind) (dem : JobDemands) (ticks : ℕ) → ticks ≤ MOST_TICKS
     → IsMet p dem (schedule p kind dem ticks) → TellsDeadlines p ticks (run_text_in v p kind dem ticks)

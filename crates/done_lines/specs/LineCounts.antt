@@ -1,10 +1,9 @@
 -- How many decisions a run has, compared with its releases and completions, and how many notes, compared with its jobs.
 use Rattle.std.specs.Prelude.{ℕ, ◌≡◌, ◌+◌, ◌*◌, ◌≤◌, List, length}
 use Rattle.dvs_base.specs.declared.note.Totals.{Totals}
-use Rattle.grid_fraction.specs.declared.Frac.{Frac}
 use Rattle.sched_model.specs.Plan.{Plan}
 use Rattle.sched_model.specs.Jobs.{released_jobs, JobDemands}
-use Rattle.sched_model.specs.Ticks.{Tick}
+use Rattle.sched_model.specs.Ticks.{PublishedDemand, Tick}
 use Rattle.sched_model.specs.Schedule.{IsScheduleBy}
 use Rattle.sched_model.specs.Notes.{notes_of}
 use Rattle.sched_model.specs.Totals.{totals_of}
@@ -19,7 +18,7 @@ pub record AreFew (t : Totals) : Type 0 where
 -- every schedule of the plan has few decisions, for any demands, with 0 for job 0, and any published demand
 abbrev pub HasFewDecisions : Plan → Type 0
 HasFewDecisions p =
-    (dem : ℕ → ℕ → ℕ) → ((i : ℕ) → dem i 0 ≡ 0) → (ask : List Tick → Frac) (ticks : List Tick)
+    (dem : JobDemands) → ((i : ℕ) → dem i 0 ≡ 0) → (ask : PublishedDemand) (ticks : List Tick)
     → IsScheduleBy p dem ask ticks → AreFew (totals_of (notes_of p dem ask ticks))
 
 -- Every schedule of the plan has at most seven notes for each job that is released within it: its release, its
@@ -27,5 +26,5 @@ HasFewDecisions p =
 -- at tick 0, and the last note. This holds for any published demand; job 0 needs nothing.
 abbrev pub HasFewNotes : Plan → Type 0
 HasFewNotes p =
-    (dem : JobDemands) → ((i : ℕ) → dem i 0 ≡ 0) → (ask : List Tick → Frac) (ticks : List Tick)
+    (dem : JobDemands) → ((i : ℕ) → dem i 0 ≡ 0) → (ask : PublishedDemand) (ticks : List Tick)
     → IsScheduleBy p dem ask ticks → length (notes_of p dem ask ticks) ≤ 7 * released_jobs p (length ticks) + 3

@@ -7,6 +7,7 @@ use Rattle.dvs_base.specs.Parts.{name_of}
 use Rattle.dvs_base.specs.declared.note.Note.{Note}
 use Rattle.trace_reader.specs.TraceText.{task_text, LineOf, trace_lines, text_of_lines}
 use Rattle.sched_model.specs.Plan.{Plan, count, names, task, period, offset}
+use Rattle.sched_model.specs.Jobs.{JobDemands}
 use Rattle.sched_model.specs.RunNotes.{run_notes}
 
 -- the lines of a plan's tasks: the name, the period, the first release and the declared worst case of each
@@ -19,6 +20,6 @@ abbrev pub run_lines : Version → Plan → GovernorKind → ℕ → List Note �
 run_lines v p g ticks notes = trace_lines v p.scheduler g ticks (names p) (task_texts p) notes
 
 -- the text of a run: that of the lines of its trace
-abbrev pub run_text_in : Version → Plan → GovernorKind → (ℕ → ℕ → ℕ) → ℕ → List ℕ
+abbrev pub run_text_in : Version → Plan → GovernorKind → JobDemands → ℕ → List ℕ
 run_text_in v p g dem ticks =
     text_of_lines (run_lines v p g ticks (run_notes p g dem ticks))

@@ -1,3 +1,2 @@
 pub mod BookLemmas
-pub mod UnitCosts
 pub mod BookRoom

@@ -9,7 +9,3 @@ thousandths m idle = if idle then m.idle else 1000
 -- the energy of a segment of `units` units at an entry: each costs the square of the millivolts times its thousandths
 abbrev pub segment_energy : Table → ℕ → ℕ → Bool → ℕ
 segment_energy m e units idle = let mv = (point_at m e).millivolts in units * mv * mv * thousandths m idle
-
--- the most that a unit costs: 1000 thousandths at 20000 millivolts
-abbrev pub most_unit_energy : ℕ
-most_unit_energy = 20000 * 20000 * 1000

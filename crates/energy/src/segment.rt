@@ -1,6 +1,7 @@
 // The energy of a segment.
 ghost use Rattle.std.specs.Prelude.{◌≡◌, ◌*◌, ◌<◌, ◌≤◌, ◌^◌, length};
-ghost use Rattle.energy.specs.Segments.{segment_energy, thousandths, most_unit_energy};
+ghost use Rattle.sched_model.specs.Notes.{most_unit_energy};
+ghost use Rattle.energy.specs.Segments.{segment_energy, thousandths};
 
 use freq_table::Machine;
 

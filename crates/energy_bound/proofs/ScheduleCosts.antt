@@ -6,22 +6,22 @@ use Rattle.std.proofs.lemmas.List.Elements.{All-from_recursion}
 use Rattle.std.proofs.lemmas.List.Sums.{sum_by-cons, sum_by_push}
 use Rattle.dvs_base.specs.declared.note.Note.{Note}
 use Rattle.dvs_base.specs.declared.note.Note.TheVariants.{End}
-use Rattle.grid_fraction.specs.declared.Frac.{Frac}
 use Rattle.grid_fraction.specs.Numbers.{sum_below}
 use Rattle.freq_table.specs.Tables.{Table}
 use Rattle.sched_model.specs.declared.holder.Holder.{Holder}
 use Rattle.sched_model.specs.declared.holder.Holder.TheVariants.{Nobody, Held}
 use Rattle.sched_model.specs.Plan.{Plan, count, point}
-use Rattle.sched_model.specs.Ticks.{Tick, share}
+use Rattle.sched_model.specs.Jobs.{JobDemands}
+use Rattle.sched_model.specs.Ticks.{PublishedDemand, Tick, share}
 use Rattle.sched_model.specs.Schedule.{IsNext, IsScheduleBy}
 use Rattle.sched_model.specs.Notes.{energy_run, energy_idle, tick_units, notes_before_end, notes_of}
-use Rattle.sched_model.proofs.NoteSums.{none-sum, segments-next, running, idling, run-next, idle-next}
+use Rattle.sched_model.proofs.NoteSums.{none-sum, with-end, segments-next, running, idling, run-next, idle-next}
 use Rattle.sched_model.proofs.ScheduleLemmas.{force-within}
 use Rattle.sched_model.proofs.Units.{units-weight, shares-fit}
 use Rattle.energy_bound.specs.Choices.{Choice, IsChoice, choice_cost, total_units, total_cost}
 use Rattle.energy_bound.specs.Schedules.{choice_of, choices_of, run_units, CostsItsTicks, SchedulesCostTheirTicks}
 
-module _ (p : Plan) (dem : ℕ → ℕ → ℕ) (ask : List Tick → Frac) (some : 1 ≤ length p.machine.points) where
+module _ (p : Plan) (dem : JobDemands) (ask : PublishedDemand) (some : 1 ≤ length p.machine.points) where
   abbrev notes : List Tick → List Note
   notes = notes_before_end p dem ask
 
@@ -36,13 +36,6 @@ module _ (p : Plan) (dem : ℕ → ℕ → ℕ) (ask : List Tick → Frac) (some
       segments-next p dem ask run_units unit
       (record { run = λ from to i k units e. omega arith; idle = λ from to units e. omega arith; done = λ at_end i k used. refl })
       (record { release = λ tick i k. refl; speed = λ tick speed num den. refl })
-
-  -- the last note adds nothing to a sum over segments
-  with-end : (f : Note → ℕ) → ((ticks run idle : ℕ) → f (End ticks run idle) ≡ 0) → (ticks : List Tick)
-      → sum_by f (notes_of p dem ask ticks) ≡ sum_by f (notes ticks)
-  with-end f over ticks =
-      sum_by_push f (notes ticks) (End (length ticks) (sum_by energy_run (notes ticks)) (sum_by energy_idle (notes ticks)))
-      ∙ omega (arith, over (length ticks) (sum_by energy_run (notes ticks)) (sum_by energy_idle (notes ticks)))
 
   -- the cost of a tick is that of its running units and of its idle ones
   tick_cost : (v f w share : ℕ) → (w * (v * v * 1000) + (f - w) * 0) + (w * 0 + (f - w) * (v * v * share)) ≡ v * v * (1000 * w + share * (f - w))
@@ -91,10 +84,8 @@ module _ (p : Plan) (dem : ℕ → ℕ → ℕ) (ask : List Tick → Frac) (some
   pub costs-its-ticks : (ticks : List Tick) → IsScheduleBy p dem ask ticks → CostsItsTicks p ticks (notes_of p dem ask ticks)
   costs-its-ticks ticks h = record {
     choices = All-from_recursion (IsChoice p.machine) (choices_of p ticks) (choices ticks h);
-    units = with-end run_units (λ ticks run idle. refl) ticks ∙ units ticks h;
-    cost =
-        ap₂ (λ v w. v + w) (with-end energy_run (λ ticks run idle. refl) ticks) (with-end energy_idle (λ ticks run idle. refl) ticks)
-        ∙ costs ticks h;
+    units = omega (arith, with-end p dem ask run_units ticks, units ticks h);
+    cost = omega (arith, with-end p dem ask energy_run ticks, with-end p dem ask energy_idle ticks, costs ticks h);
   }
 
 pub schedules-cost : (m : Table) → 1 ≤ length m.points → SchedulesCostTheirTicks m

@@ -2,11 +2,11 @@
 use Rattle.std.specs.Prelude.{◌≡◌, ℕ, ◌+◌, ◌*◌, ◌≤◌, List, length, map, sum_by}
 use Rattle.dvs_base.specs.declared.note.Note.{Note}
 use Rattle.dvs_base.specs.declared.note.Note.TheVariants.{Run}
-use Rattle.grid_fraction.specs.declared.Frac.{Frac}
 use Rattle.grid_fraction.specs.Numbers.{sum_below}
 use Rattle.freq_table.specs.Tables.{Table}
 use Rattle.sched_model.specs.Plan.{Plan, count}
-use Rattle.sched_model.specs.Ticks.{Tick, share}
+use Rattle.sched_model.specs.Jobs.{JobDemands}
+use Rattle.sched_model.specs.Ticks.{PublishedDemand, Tick, share}
 use Rattle.sched_model.specs.Schedule.{IsScheduleBy}
 use Rattle.sched_model.specs.Notes.{notes_of}
 use Rattle.sched_model.specs.Totals.{totals_of}
@@ -45,13 +45,13 @@ pub record CostsItsTicks (p : Plan) (ticks : List Tick) (notes : List Note) : Ty
 -- every schedule on the machine costs what its ticks do, for any demands and any published demand
 abbrev pub SchedulesCostTheirTicks : Table → Type 0
 SchedulesCostTheirTicks m =
-    (p : Plan) (dem : ℕ → ℕ → ℕ) (ask : List Tick → Frac) (ticks : List Tick) → p.machine ≡ m
+    (p : Plan) (dem : JobDemands) (ask : PublishedDemand) (ticks : List Tick) → p.machine ≡ m
     → IsScheduleBy p dem ask ticks → CostsItsTicks p ticks (notes_of p dem ask ticks)
 
 -- every schedule on the machine that runs `units` units in `ticks` ticks spends, times `rounds`, at least the energy
 abbrev pub BoundsSchedules : Table → ℕ → ℕ → Least → Type 0
 BoundsSchedules m units ticks l =
-    (p : Plan) (dem : ℕ → ℕ → ℕ) (ask : List Tick → Frac) (past : List Tick) → p.machine ≡ m
+    (p : Plan) (dem : JobDemands) (ask : PublishedDemand) (past : List Tick) → p.machine ≡ m
     → IsScheduleBy p dem ask past → length past ≡ ticks → units_run (notes_of p dem ask past) ≡ units
     → l.energy ≤ l.rounds * energy_spent (notes_of p dem ask past)
 

@@ -2,7 +2,7 @@
 ghost use Rattle.std.specs.Prelude.{◌≡◌, ◌≤◌, ◌<◌, ◌*◌, ◌↔◌, ℕ, IsTrue, MatchOption};
 ghost use Rattle.freq_table.specs.declared.limits.TheConstants.{TOP_SPEED};
 ghost use Rattle.dvs_base.specs.declared.limits.TheConstants.{MOST_TICKS};
-ghost use Rattle.energy.specs.Segments.{most_unit_energy};
+ghost use Rattle.sched_model.specs.Notes.{most_unit_energy};
 ghost use Rattle.energy_bound.specs.Corners.{corner_units, corner_cost, last_corner, HasUnits, IsAbove, IsSupporting, Holds};
 
 use energy::energy_of;

@@ -16,7 +16,7 @@ use Rattle.sched_model.specs.Ticks.{Tick, exec, left, share}
 use Rattle.sched_model.specs.Priority.{in_order, key_of, stands_before, sum_before}
 use Rattle.sched_model.specs.Greedy.{IsFirstOpen}
 use Rattle.sched_model.specs.Notes.{same_holder, given_units}
-use Rattle.sched_model.specs.States.{no_row, row_at, StateOf, row_of, state_of}
+use Rattle.sched_model.specs.States.{no_row, row_at, StateOf, row_of, state_of, key_in}
 use Rattle.grid_fraction.proofs.Sums.{sum_below-zero, sum_below-same, sum_below-add, sum_below-own}
 use Rattle.sched_model.proofs.Tables.{get-table, table-same, set-table}
 use Rattle.sched_model.proofs.PriorityLemmas.{before-self}
@@ -24,7 +24,7 @@ use Rattle.sched_model.proofs.GreedyLemmas.{IsHandedOut, handed-start, handed-st
 use Rattle.sched_model.proofs.OrderLemmas.{IsAhead, IsOrdered, AreBelow, Stands, first_ahead, stands-in_order, in_order-below, in_order-ordered}
 use Rattle.grid_fraction.proofs.Searches.{any_below-none, any_below-same, any_below-found}
 use Rattle.sched_model.proofs.Joining.{row_by}
-use Rattle.agenda.specs.Agenda.{row_key, IsFirstUndone}
+use Rattle.agenda.specs.Agenda.{IsFirstUndone}
 use Rattle.event_kernel.specs.Tickwork.{served}
 use Rattle.event_kernel.proofs.Entering.{Shows}
 
@@ -165,10 +165,10 @@ module _ (p : Plan) (dem : ℕ → ℕ → ℕ) (past : List Tick) where
       within = λ i lt. omega (arith, within i lt, h.handed.given_is i lt);
     }
 
-    key-is : (i : ℕ) → i < count p → row_key p.scheduler p st i ≡ key i
+    key-is : (i : ℕ) → i < count p → key_in p.scheduler p st i ≡ key i
     key-is i lt = go p.scheduler
       where
-        go : (s : Scheduler) → row_key s p st i ≡ key_of s p (length past) i
+        go : (s : Scheduler) → key_in s p st i ≡ key_of s p (length past) i
         go Edf = ap (λ (r : Row). r.deadline) (row-is i lt)
         go Rm = refl
 

@@ -13,13 +13,13 @@ use Rattle.sched_model.specs.Jobs.{latest}
 use Rattle.sched_model.specs.Ticks.{Tick, exec, left, share}
 use Rattle.sched_model.specs.Priority.{allotment, sum_before}
 use Rattle.sched_model.specs.Decision.{completes_in}
-use Rattle.sched_model.specs.States.{no_row, row_at, prior_row, prior_state, row_of, CanRun, IsOfPlan, StateOf, after_advance}
+use Rattle.sched_model.specs.States.{no_row, row_at, prior_row, prior_state, row_of, CanRun, IsOfPlan, StateOf, after_advance, earliest_in}
 use Rattle.sched_model.specs.Greedy.{IsFirstOpen}
 use Rattle.sched_model.proofs.Tables.{get-table}
 use Rattle.sched_model.proofs.GreedyLemmas.{handed_before}
 use Rattle.sched_model.proofs.JobLaws.{exec-legal}
 use Rattle.governor.specs.Schedule.{course}
-use Rattle.governor.specs.Steps.{earliest_in, IsBeforeAll}
+use Rattle.governor.specs.Steps.{IsBeforeAll}
 use Rattle.event_kernel.specs.declared.span_trace.SpanTrace.{SpanTrace}
 use Rattle.agenda.specs.Agenda.{IsFirstUndone}
 use Rattle.event_kernel.specs.Segment.{CanPut, IsFirst}

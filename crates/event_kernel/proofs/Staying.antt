@@ -12,10 +12,10 @@ use Rattle.sched_model.specs.declared.state.Row.{Row}
 use Rattle.sched_model.specs.declared.holder.Holder.{Holder}
 use Rattle.sched_model.specs.declared.holder.Holder.TheVariants.{Nobody, Held}
 use Rattle.sched_model.specs.Plan.{Plan, count, point}
-use Rattle.sched_model.specs.States.{no_row, row_at, after_advance, StateOf}
+use Rattle.sched_model.specs.States.{no_row, row_at, after_advance, StateOf, key_in}
 use Rattle.sched_model.proofs.PieceLemmas.{same_holder-refl}
 use Rattle.event_kernel.specs.declared.span_trace.SpanTrace.{SpanTrace}
-use Rattle.agenda.specs.Agenda.{row_key, IsFirstUndone}
+use Rattle.agenda.specs.Agenda.{IsFirstUndone}
 use Rattle.event_kernel.specs.Segment.{after_segment, is_turn, with_units, entered, holder_at, IsFirst}
 use Rattle.event_kernel.specs.Tickwork.{served, gives}
 use Rattle.event_kernel.specs.Boundary.{some_due}
@@ -85,7 +85,7 @@ module _ (st : StateOf) (i : ℕ) (lt : i < length st.rows) (m : ℕ) where
         (first.first k l (ap₂ (λ x y. nat_lt x y || (nat_eq x y && nat_lt k i)) (key-is p.scheduler k) (key-is p.scheduler i) ∙ b)) (eqb k i) refl;
   }
     where
-      key-is : (s : Scheduler) (k : ℕ) → row_key s p st k ≡ row_key s p (run_on st i m a) k
+      key-is : (s : Scheduler) (k : ℕ) → key_in s p st k ≡ key_in s p (run_on st i m a) k
       key-is Edf k = sym (due-served k)
       key-is Rm k = refl
 

@@ -12,12 +12,12 @@ use Rattle.sched_model.specs.declared.state.Row.{Row}
 use Rattle.sched_model.specs.Plan.{Plan, count, period, offset, worst}
 use Rattle.sched_model.specs.Jobs.{latest_since, due as due_at, IsWithin, JobDemands}
 use Rattle.sched_model.specs.Admission.{IsWithinLimits}
-use Rattle.sched_model.specs.States.{StateOf, row_at, no_row, row_wleft, opening, opening_row}
+use Rattle.sched_model.specs.States.{StateOf, row_at, no_row, row_wleft, opening, opening_row, earliest_in, key_in}
 use Rattle.sched_model.proofs.LevelSums.{share-most, greatest-above, greatest-least, greatest-same}
 use Rattle.sched_model.proofs.JobLaws.{due-none, due-suc, release-due, latest_since-pos, latest_since-suc}
 use Rattle.sched_model.proofs.Tables.{length-list_below, get-table}
 use Rattle.sched_model.proofs.Limits.{some_task, some_period, low_period}
-use Rattle.governor.specs.Steps.{earliest_in, is_due, boundary_row, opened_row, after_boundary, share_in, left_in, left_of, key_in, release_of, last_marked, IsLegalIn, after_tick, tick_row, IsBeforeAll, IsAtDecision, Belongs}
+use Rattle.governor.specs.Steps.{is_due, boundary_row, opened_row, after_boundary, share_in, left_in, left_of, release_of, last_marked, IsLegalIn, after_tick, tick_row, IsBeforeAll, IsAtDecision, Belongs}
 use Rattle.governor.proofs.Rows.{length-each_row, get-each_row, none_due_at, some_due_at}
 
 -- what holds of each row of a state that belongs to a demand list

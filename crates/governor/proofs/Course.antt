@@ -2,14 +2,13 @@
 use Rattle.std.proofs.Common.{◌≡◌, ℕ, zero, suc, ◌-◌, ◌<◌, ◌≤◌, Bool, true, false, List, [], ◌∷◌, length, drop, refl, arith, if◌then◌else◌, ap, ◌∙◌, sym, subst, true≢false, ◌⊎◌, inl, inr, eq-or-lt_of_le}
 use Rattle.std.proofs.lemmas.Bool.{or_parts}
 use Rattle.dvs_base.specs.declared.kind.GovernorKind.{GovernorKind}
-use Rattle.grid_fraction.specs.declared.Frac.{Frac}
 use Rattle.freq_table.specs.Tables.{lowest_entry, lowest_pick, speed_at}
 use Rattle.sched_model.specs.Demand.{IsAlwaysMet}
 use Rattle.sched_model.specs.declared.state.Row.{Row}
 use Rattle.sched_model.specs.Plan.{Plan, count}
 use Rattle.sched_model.specs.Jobs.{IsWithin, JobDemands, latest, due, is_release}
 use Rattle.sched_model.specs.Admission.{IsAdmitted, IsWithinLimits}
-use Rattle.sched_model.specs.Ticks.{IsMet, Tick, at, exec}
+use Rattle.sched_model.specs.Ticks.{PublishedDemand, IsMet, Tick, at, exec}
 use Rattle.sched_model.specs.Decision.{is_decision}
 use Rattle.sched_model.specs.Schedule.{entry_in_force, next_tick, schedule_by, IsNext}
 use Rattle.sched_model.specs.States.{StateOf, row_at, prior_state, state_of}
@@ -26,7 +25,7 @@ use Rattle.governor.proofs.Joins.{boundary-is, tick-is, legal-is}
 use Rattle.governor.proofs.Belonging.{belongs_opening, belongs_boundary, belongs_tick, decision_boundary}
 
 -- the past at tick r of a schedule is the schedule of r ticks
-pub at-schedule : (p : Plan) (dem : JobDemands) (ask : List Tick → Frac) (t r : ℕ) → r ≤ t
+pub at-schedule : (p : Plan) (dem : JobDemands) (ask : PublishedDemand) (t r : ℕ) → r ≤ t
     → at r (schedule_by p dem ask t) ≡ schedule_by p dem ask r
 at-schedule p dem ask t r le = ap (λ n. drop (n - r) (schedule_by p dem ask t)) (schedule_exists p dem ask t).1 ∙ go t le
   where
@@ -65,7 +64,7 @@ module _ (kind : GovernorKind) (serves : Serving) (demand : OwnDemand) (calm : C
   in_run : {s : StateOf} → Belongs p dem s → InRun serves p dem s
   in_run bel = record { admitted = adm; served = served; belongs = bel }
 
-  abbrev pub ask : List Tick → Frac
+  abbrev pub ask : PublishedDemand
   ask = ask_of demand p dem
 
   abbrev pub entry_at : List Tick → ℕ

@@ -4,12 +4,11 @@ use Rattle.std.proofs.Math.Nat.{zero-sub}
 use Rattle.std.proofs.lemmas.Bool.{cases_lt}
 use Rattle.dvs_base.specs.declared.kind.Scheduler.{Scheduler}
 use Rattle.dvs_base.specs.declared.kind.Scheduler.TheVariants.{Rm}
-use Rattle.grid_fraction.specs.declared.Frac.{Frac}
 use Rattle.grid_fraction.specs.Numbers.{sum_where}
 use Rattle.grid_fraction.proofs.Sums.{sum_where-same}
 use Rattle.sched_model.specs.Plan.{Plan, count, period, offset, worst, point}
 use Rattle.sched_model.specs.Jobs.{due, latest, worst_demand}
-use Rattle.sched_model.specs.Ticks.{Tick, exec, share, left}
+use Rattle.sched_model.specs.Ticks.{PublishedDemand, Tick, exec, share, left}
 use Rattle.sched_model.specs.Priority.{stands_before, is_up_to, SharesOut, sum_up_to, key_of}
 use Rattle.sched_model.specs.Schedule.{entry_in_force, next_tick, schedule_by}
 use Rattle.sched_model.specs.Backlog.{lacking}
@@ -22,20 +21,20 @@ use Rattle.sched_model.proofs.LevelSums.{sum_where-plus, share-most, up_to-trans
 use Rattle.sched_model.proofs.ScheduleLemmas.{schedule_exists, next_tick-may, schedule-suc}
 
 -- the first t ticks of the schedule with every job at its worst case
-abbrev pub worst_ticks : Plan → (List Tick → Frac) → ℕ → List Tick
+abbrev pub worst_ticks : Plan → PublishedDemand → ℕ → List Tick
 worst_ticks p ask t = schedule_by p (worst_demand p) ask t
 
 -- the tick t of the schedule with every job at its worst case
-abbrev pub worst_tick : Plan → (List Tick → Frac) → ℕ → Tick
+abbrev pub worst_tick : Plan → PublishedDemand → ℕ → Tick
 worst_tick p ask t = next_tick p (worst_demand p) ask (worst_ticks p ask t)
 
 -- what the job of task i that was released last before t lacks at t; nothing at tick 0
-abbrev pub lack : Plan → (List Tick → Frac) → ℕ → ℕ → ℕ
+abbrev pub lack : Plan → PublishedDemand → ℕ → ℕ → ℕ
 lack p ask zero i = 0
 lack p ask (suc t) i = lacking p (worst_ticks p ask (suc t)) i
 
 -- what the latest job of task i lacks at t, right after the releases of t
-abbrev pub lack_after : Plan → (List Tick → Frac) → ℕ → ℕ → ℕ
+abbrev pub lack_after : Plan → PublishedDemand → ℕ → ℕ → ℕ
 lack_after p ask t i = left p (worst_demand p) (worst_ticks p ask t) i
 
 -- a set of tasks that has, with each task, those before it in RM order
@@ -53,7 +52,7 @@ before_down p i = λ j k hj hk b on. before-trans (period p) j k i b on
 abbrev pub IsQuiet : Plan → ℕ → ℕ → Type 0
 IsQuiet p t j = (k : ℕ) → t ≡ due p j k → ⊥
 
-module _ (p : Plan) (lim : IsWithinLimits p) (ask : List Tick → Frac) where
+module _ (p : Plan) (lim : IsWithinLimits p) (ask : PublishedDemand) where
   pub lack-long : (t : ℕ) → length (worst_ticks p ask t) ≡ t
   lack-long t = (schedule_exists p (worst_demand p) ask t).1
 

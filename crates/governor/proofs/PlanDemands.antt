@@ -9,7 +9,7 @@ use Rattle.sched_model.specs.Plan.{Plan}
 use Rattle.sched_model.specs.Decision.{is_decision}
 use Rattle.sched_model.specs.Schedule.{entry_in_force}
 use Rattle.sched_model.specs.Jobs.{JobDemands}
-use Rattle.sched_model.specs.Ticks.{Tick}
+use Rattle.sched_model.specs.Ticks.{PublishedDemand, Tick}
 use Rattle.sched_model.specs.Demand.{demand_by, published}
 use Rattle.sched_model.specs.StaticDemand.{full_demand, static_demand_of, static_demand}
 use Rattle.governor.specs.Serving.{ServesBoth}
@@ -34,7 +34,7 @@ unfolding published
 published-fixed p dem past = fixed_by p.scheduler p dem past
 
 -- where the published demand is always d, the entry in force is always the one for d
-pub entry-same : (p : Plan) (dem : JobDemands) (ask : List Tick → Frac) (d : Frac) → ((past : List Tick) → ask past ≡ d)
+pub entry-same : (p : Plan) (dem : JobDemands) (ask : PublishedDemand) (d : Frac) → ((past : List Tick) → ask past ≡ d)
     → (past : List Tick) → entry_in_force p dem ask past ≡ lowest_entry p.machine d
 entry-same p dem ask d same [] = ap (lowest_entry p.machine) (same [])
 entry-same p dem ask d same (x ∷ past) = go (is_decision p dem (x ∷ past)) (entry-same p dem ask d same past)

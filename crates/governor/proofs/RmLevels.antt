@@ -11,11 +11,11 @@ use Rattle.sched_model.specs.Jobs.{release, latest_since, due as due_at, JobDema
 use Rattle.sched_model.specs.Priority.{stands_before}
 use Rattle.sched_model.specs.Plan.{Plan, count, period, worst}
 use Rattle.sched_model.specs.Admission.{IsWithinLimits}
-use Rattle.sched_model.specs.States.{StateOf, row_at, row_wleft, opening}
+use Rattle.sched_model.specs.States.{StateOf, row_at, row_wleft, opening, key_in}
 use Rattle.sched_model.proofs.JobLaws.{due-suc, release-suc, release-due, latest_since-pos}
 use Rattle.sched_model.proofs.Limits.{some_period}
 use Rattle.sched_model.proofs.LevelSums.{sum_where-mono, sum_where-plus, sum_where-term, up_to-self, up_to-trans, sum_up_to-where}
-use Rattle.governor.specs.Steps.{opened_row, after_boundary, wleft_at, release_of, share_in, key_in, IsLegalIn, after_tick, IsBeforeAll, Belongs}
+use Rattle.governor.specs.Steps.{opened_row, after_boundary, wleft_at, release_of, share_in, IsLegalIn, after_tick, IsBeforeAll, Belongs}
 use Rattle.governor.proofs.Rows.{done_none, wleft-most}
 use Rattle.governor.proofs.Belonging.{unborn_done, opening_at, opened_release, boundary-by, tick_at, belongs_tick}
 use Rattle.governor.proofs.Ticks.{tick_set, demand_most}

@@ -1,10 +1,9 @@
 -- The schedule under static with every job at its worst case meets every deadline, for each number of ticks.
 use Rattle.std.proofs.Common.{◌≡◌, ℕ, ◌-◌, ◌<◌, ◌≤◌, List, length, refl, arith, ap, ◌∙◌, sym, subst}
 use Rattle.dvs_base.specs.declared.kind.GovernorKind.TheVariants.{Fixed}
-use Rattle.grid_fraction.specs.declared.Frac.{Frac}
 use Rattle.sched_model.specs.Plan.{Plan, count}
 use Rattle.sched_model.specs.Jobs.{latest, due, IsWithin, worst_demand, JobDemands}
-use Rattle.sched_model.specs.Ticks.{Tick, at, exec, IsMet}
+use Rattle.sched_model.specs.Ticks.{PublishedDemand, Tick, at, exec, IsMet}
 use Rattle.sched_model.specs.Demand.{published}
 use Rattle.sched_model.specs.Schedule.{schedule, schedule_by}
 use Rattle.sched_model.specs.StaticDemand.{static_demand}
@@ -27,7 +26,7 @@ pub published-fixed_by : (p : Plan) (dem : JobDemands) → published p Fixed dem
 published-fixed_by p dem = λ j past. published-fixed p dem past j
 
 pub schedule-fixed : (p : Plan) (dem : JobDemands) (t : ℕ) → schedule p Fixed dem t ≡ course (unchanging static_demand) p dem t
-schedule-fixed p dem t = ap (λ (ask : List Tick → Frac). schedule_by p dem ask t) (published-fixed_by p dem)
+schedule-fixed p dem t = ap (λ (ask : PublishedDemand). schedule_by p dem ask t) (published-fixed_by p dem)
 
 pub worst-within : (p : Plan) → IsWithin p (worst_demand p)
 worst-within p = record { most = λ i k h. worst_demand-le p i k; none = λ i. refl }

@@ -3,8 +3,8 @@ use Rattle.std.specs.Prelude.{ℕ, Bool, nat_le, ◌+◌, ◌-◌, ◌*◌, ◌�
 use Rattle.grid_fraction.specs.Numbers.{sum_where}
 use Rattle.freq_table.specs.Tables.{speed_at}
 use Rattle.sched_model.specs.Plan.{Plan, count, hyper, rate}
-use Rattle.sched_model.specs.States.{StateOf, row_at}
-use Rattle.governor.specs.Steps.{wleft_at, earliest_in}
+use Rattle.sched_model.specs.States.{StateOf, row_at, earliest_in}
+use Rattle.governor.specs.Steps.{wleft_at}
 
 -- whether the latest job of task i is due by tick d
 abbrev pub due_by : StateOf → ℕ → ℕ → Bool

@@ -3,7 +3,7 @@ use Rattle.std.specs.Prelude.{List, ℕ, ◌≡◌}
 use Rattle.dvs_base.specs.declared.kind.GovernorKind.{GovernorKind}
 use Rattle.grid_fraction.specs.declared.Frac.{Frac}
 use Rattle.sched_model.specs.Plan.{Plan}
-use Rattle.sched_model.specs.Ticks.{Tick}
+use Rattle.sched_model.specs.Ticks.{PublishedDemand, Tick}
 use Rattle.sched_model.specs.Demand.{published}
 use Rattle.sched_model.specs.Jobs.{JobDemands, IsWithin}
 use Rattle.sched_model.specs.Admission.{IsAdmitted}
@@ -23,7 +23,7 @@ course demand p dem t = schedule_by p dem (ask_of demand p dem) t
 -- the published demand of the kind is the governor's own in the state there
 abbrev pub Publishes : OwnDemand → GovernorKind → Plan → Type 0
 Publishes demand kind p =
-    (dem : JobDemands) → IsWithin p dem → (ask : List Tick → Frac) (past : List Tick)
+    (dem : JobDemands) → IsWithin p dem → (ask : PublishedDemand) (past : List Tick)
     → IsScheduleBy p dem ask past → published p kind dem past ≡ ask_of demand p dem past
 
 -- for all demands of the jobs within their worst cases, the governor's schedule is the one that the kind gives

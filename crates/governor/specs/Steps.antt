@@ -1,16 +1,14 @@
 -- The state after a boundary and after a tick, for given demands of the jobs.
 use Rattle.std.specs.Prelude.{ℕ, suc, List, [], ◌∷◌, ◌==◌, Bool, ◌+◌, if◌then◌else◌, map, ◌-◌, slice_index, ◌≡◌, length, ◌||◌, ◌<◌, ◌≤◌, true, false}
 use Rattle.std.specs.List.{list_any}
-use Rattle.dvs_base.specs.declared.kind.Scheduler.{Scheduler}
-use Rattle.dvs_base.specs.declared.kind.Scheduler.TheVariants.{Edf, Rm}
 use Rattle.task_model.specs.declared.limits.TheConstants.{LONGEST_PERIOD}
 use Rattle.freq_table.specs.Tables.{speed_at}
 use Rattle.sched_model.specs.declared.state.Row.{Row}
 use Rattle.sched_model.specs.Priority.{SharesOut}
 use Rattle.sched_model.specs.Plan.{Plan, period, count}
 use Rattle.sched_model.specs.Jobs.{JobDemands, latest_since, due as due_at, IsWithin}
-use Rattle.grid_fraction.specs.Numbers.{greatest_below, least_below}
-use Rattle.sched_model.specs.States.{released_row, StateOf, row_wleft, row_at, IsOfPlan}
+use Rattle.grid_fraction.specs.Numbers.{greatest_below}
+use Rattle.sched_model.specs.States.{released_row, StateOf, row_wleft, row_at, key_in, IsOfPlan}
 
 -- the rows, each changed by a function of its place and itself; the first place is i
 abbrev pub each_row : (ℕ → Row → Row) → ℕ → List Row → List Row
@@ -61,15 +59,6 @@ left_in dem s i = left_of dem i (row_at s i)
 -- the units that the job of task i may still need at most; 0 where it is complete
 abbrev pub wleft_at : StateOf → ℕ → ℕ
 wleft_at s i = row_wleft (row_at s i)
-
--- the earliest deadline of the rows
-abbrev pub earliest_in : Plan → StateOf → ℕ
-earliest_in plan s = least_below (count plan) (λ i. (row_at s i).deadline)
-
--- the key by which a scheduler orders the tasks in a state: the deadline under EDF, the period under RM
-abbrev pub key_in : Scheduler → Plan → StateOf → ℕ → ℕ
-key_in Edf plan s i = (row_at s i).deadline
-key_in Rm plan s i = period plan i
 
 -- the units of task i in a list of shares
 abbrev pub share_in : List ℕ → ℕ → ℕ

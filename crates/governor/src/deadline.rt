@@ -1,7 +1,6 @@
 // The earliest deadline in a state.
 ghost use Rattle.std.specs.Prelude.{◌≡◌};
-ghost use Rattle.sched_model.specs.States.{IsOfPlan};
-ghost use Rattle.governor.specs.Steps.{earliest_in};
+ghost use Rattle.sched_model.specs.States.{IsOfPlan, earliest_in};
 
 use sched_model::{Admitted, State};
 

@@ -10,11 +10,11 @@ use Rattle.freq_table.specs.Tables.{last_entry}
 use Rattle.sched_model.specs.Plan.{Plan, count, hyper, rate, top_speed}
 use Rattle.sched_model.specs.Tests.{total_rate}
 use Rattle.sched_model.specs.Admission.{IsWithinLimits, IsAdmitted}
-use Rattle.sched_model.specs.States.{StateOf, row_at, IsOfPlan}
+use Rattle.sched_model.specs.States.{StateOf, row_at, IsOfPlan, earliest_in}
 use Rattle.sched_model.specs.AheadDemand.{slack}
 use Rattle.sched_model.proofs.Limits.{low_hyper, some_task}
 use Rattle.sched_model.proofs.OrderLemmas.{in_order-below, length-in_order, below-at, sum_list-snoc}
-use Rattle.governor.specs.Steps.{earliest_in, wleft_at}
+use Rattle.governor.specs.Steps.{wleft_at}
 use Rattle.governor.specs.Serving.{ServesEdf}
 use Rattle.governor.proofs.Rows.{wleft-most}
 use Rattle.look_ahead_laws.specs.Ahead.{deadline_at, edf_order}

@@ -17,10 +17,10 @@ use Rattle.sched_model.specs.Priority.{sum_before}
 use Rattle.sched_model.specs.Tests.{total_rate}
 use Rattle.sched_model.specs.AheadDemand.{spread_rates}
 use Rattle.sched_model.specs.Admission.{IsAdmitted}
-use Rattle.sched_model.specs.States.{StateOf}
+use Rattle.sched_model.specs.States.{StateOf, earliest_in}
 use Rattle.sched_model.proofs.Limits.{some_task, some_hyper}
 use Rattle.sched_model.proofs.OrderLemmas.{sum_list, sum_list-in_order, in_order-below, sum_list-append}
-use Rattle.governor.specs.Steps.{wleft_at, earliest_in, IsAtDecision, Belongs}
+use Rattle.governor.specs.Steps.{wleft_at, IsAtDecision, Belongs}
 use Rattle.governor.specs.Serving.{ServesEdf}
 use Rattle.governor.specs.Laws.{GovernorLaws}
 use Rattle.governor.proofs.Belonging.{earliest-later}

@@ -3,7 +3,7 @@ use Rattle.std.proofs.Common.{◌≡◌, ℕ, ◌+◌, ◌-◌, ◌<◌, ◌≤�
 use Rattle.std.proofs.lemmas.List.{reverse-append, length-reverse, length-take-le, take_more, take_all, get_or_default}
 use Rattle.grid_fraction.specs.Numbers.{any_below}
 use Rattle.sched_model.specs.Plan.{Plan, count}
-use Rattle.sched_model.specs.Jobs.{latest, is_release, is_in_window}
+use Rattle.sched_model.specs.Jobs.{JobDemands, latest, is_release, is_in_window}
 use Rattle.sched_model.specs.Ticks.{Tick, share, exec, is_done}
 use Rattle.sched_model.specs.Decision.{is_decision}
 use Rattle.plain_schedule.specs.Completions.{completes_last}
@@ -32,7 +32,7 @@ last_first past some =
     let whole : take (n + 1) past ≡ past = take_all (n + 1) past (omega arith) in
     (x, ap reverse (sym whole) ∙ reverse_more past n x lt (get_or_default past n none x lt))
 
-pub completes_split : (p : Plan) (dem : ℕ → ℕ → ℕ) (past : List Tick) (i : ℕ) → 1 ≤ length past
+pub completes_split : (p : Plan) (dem : JobDemands) (past : List Tick) (i : ℕ) → 1 ≤ length past
     → completes_last p dem (reverse past) i
     ≡ (let earlier = reverse (take (length past - 1) past) in
     let k = latest p i (length earlier) in not (is_done p dem earlier i k) && is_done p dem (reverse past) i k)
@@ -40,12 +40,12 @@ completes_split p dem past i some =
     let e = last_first past some in
     rw e.1 refl
 
-decided : (p : Plan) (dem : ℕ → ℕ → ℕ) (ticks : List Tick) → 1 ≤ length ticks
+decided : (p : Plan) (dem : JobDemands) (ticks : List Tick) → 1 ≤ length ticks
     → is_decision p dem ticks ≡ (is_release p (length ticks) || any_below (count p) (completes_last p dem ticks))
 decided p dem [] some = absurd (omega arith)
 decided p dem (x ∷ ticks) some = refl
 
-pub decision_split : (p : Plan) (dem : ℕ → ℕ → ℕ) (past : List Tick) → 1 ≤ length past
+pub decision_split : (p : Plan) (dem : JobDemands) (past : List Tick) → 1 ≤ length past
     → is_decision p dem (reverse past)
     ≡ (is_release p (length (reverse past)) || any_below (count p) (completes_last p dem (reverse past)))
 decision_split p dem past some = decided p dem (reverse past) (omega (arith, length-reverse past))

@@ -16,13 +16,9 @@ use Rattle.poll_server.specs.Serving.{ServerOf, budget, request_count}
 use Rattle.poll_server.specs.Outcomes.{done_at, IsOutcome, ServedOf}
 use Rattle.poll_server.specs.Bound.{latest_job, latest_end, IsServedBy, KeepsBound}
 use Rattle.poll_server.specs.Polled.{IsPolled}
-use Rattle.poll_server.specs.EachOutcome.{job_of, outcome_by, outcome_of, outcomes_of}
+use Rattle.poll_server.specs.EachOutcome.{job_of, outcome_by, outcome_of, served_by}
 use Rattle.poll_server.proofs.Belonging.{belongs, one-job, job-some, job-most}
 use Rattle.poll_server.proofs.Ending.{IsEndBy}
-
--- the outcomes of all requests by these notes, and the totals of the notes
-abbrev pub answer_by : ServerOf → List Note → ServedOf
-answer_by s notes = record { outcomes = outcomes_of s notes; totals = totals_of notes }
 
 -- a later job is due no earlier
 due-up : (p : Plan) (i j k : ℕ) → j ≤ k → due p i j ≤ due p i k
@@ -46,7 +42,7 @@ module _ (s : ServerOf) (h : AreRequests s.requests) (some : 0 < period s.plan s
   outcome-is m lt (Some q) e = (belongs s h some room m lt, e)
 
   -- each outcome is that of its request by the notes
-  pub are-polled : IsPolled s notes (answer_by s notes)
+  pub are-polled : IsPolled s notes (served_by s notes)
   are-polled = record {
     all = length-list_below (request_count s) (outcome_of s notes);
     outcomes = λ m lt. subst (IsOutcome s notes m) (sym (get-table (request_count s) (outcome_of s notes) m Pending lt))
@@ -61,7 +57,7 @@ module _ (s : ServerOf) (h : AreRequests s.requests) (some : 0 < period s.plan s
   -- the bound is kept, where each job of the server that is due within the run is done by then
   pub keeps-bound : (ticks : ℕ)
       → ((k : ℕ) → 1 ≤ k → due s.plan s.task k ≤ ticks → IsEndBy (due s.plan s.task k) (done_at notes s.task k))
-      → KeepsBound s ticks (answer_by s notes)
+      → KeepsBound s ticks (served_by s notes)
   keeps-bound ticks met m lt within =
       let soon : due s.plan s.task (job_of s m) ≤ latest_end s m = due-up s.plan s.task (job_of s m) (latest_job s m) (job-most s h some room m lt) in
       let by = met (job_of s m) (job-some s h some room m lt) (omega (arith, soon, within)) in

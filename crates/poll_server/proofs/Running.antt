@@ -5,7 +5,7 @@ use Rattle.std.proofs.lemmas.Bool.{cases_lt}
 use Rattle.std.proofs.lemmas.Bool.Decides.{nat_tests}
 use Rattle.task_model.specs.DemandRows.{DemandRow, named}
 use Rattle.sched_model.specs.Plan.{Plan, count, worst, period}
-use Rattle.sched_model.specs.Jobs.{release, demand_of}
+use Rattle.sched_model.specs.Jobs.{JobDemands, release, demand_of}
 use Rattle.sched_model.specs.Ticks.{Tick}
 use Rattle.governor.specs.Meanings.{OwnDemand}
 use Rattle.governor.specs.Schedule.{ask_of}
@@ -48,7 +48,7 @@ same-demand s some ticks rows are i (suc k) lt first began = go (nat_eq i s.task
         demand-none s.plan rows i k (are.no_other i (suc k) lt other)
 
 -- two demands that agree on the jobs released within the ticks
-tell-same : (p : Plan) (dem other : ℕ → ℕ → ℕ) (ticks : List Tick) → ((i : ℕ) → dem i 0 ≡ 0) → ((i : ℕ) → other i 0 ≡ 0)
+tell-same : (p : Plan) (dem other : JobDemands) (ticks : List Tick) → ((i : ℕ) → dem i 0 ≡ 0) → ((i : ℕ) → other i 0 ≡ 0)
     → ((i k : ℕ) → i < count p → 1 ≤ k → release p i k < length ticks → dem i k ≡ other i k)
     → TellSame p dem other ticks
 tell-same p dem other ticks none other_none same = record {

@@ -213,7 +213,7 @@ module _ (p : Plan) (lim : IsWithinLimits p) (asked : Asking) (t : TraceOf) (end
   once : EndsOnce is_end (own_notes p asked t)
   once =
       let own : ℕ → ℕ → ℕ = demand_of p (fixed_of p t.notes) in
-      schedule-ended p lim own (asked own) (ticks_by p asked own t.plan.ticks)
+      schedule-ended p own (asked own) (ticks_by p asked own t.plan.ticks)
 
   -- a trace passes where no end is over its worst case, the jobs are few, and its notes are those of its own list
   pub record Passes : Type 0 where

@@ -19,7 +19,7 @@ module _ {L : Type 0} (rest : L → List Note) (wanted : L → Option Note)
   once : EndsOnce is_end (notes_of_run demand run)
   once =
       let dem = demands_of run.plan run.demands in
-      schedule-ended run.plan (subst IsWithinLimits (sym plan_is) lim) dem (ask_of demand run.plan dem) (run_ticks demand run)
+      schedule-ended run.plan dem (ask_of demand run.plan dem) (run_ticks demand run)
 
   ends : EndsOnce is_end (rest from)
   ends = subst (EndsOnce is_end) (sym notes_are) (ended-once t.notes ended)

@@ -7,7 +7,7 @@ use Rattle.dvs_base.specs.declared.kind.GovernorKind.TheVariants.{Cycle, Ahead}
 use Rattle.grid_fraction.specs.Numbers.{ceil_div}
 use Rattle.grid_fraction.proofs.Sums.{sum_below-same}
 use Rattle.sched_model.specs.Plan.{Plan, count, period, worst, hyper, rate, top_speed}
-use Rattle.sched_model.specs.Jobs.{latest, deadline, earliest, last_release}
+use Rattle.sched_model.specs.Jobs.{JobDemands, latest, deadline, earliest, last_release}
 use Rattle.sched_model.specs.Ticks.{Tick, at, is_complete, wleft}
 use Rattle.sched_model.specs.Priority.{sum_before, in_order}
 use Rattle.sched_model.specs.StaticDemand.{static_speed}
@@ -43,7 +43,7 @@ module _ (p : Plan) (due left other : ℕ → ℕ) (same : (i : ℕ) → i < cou
       (ap₂ (λ a c. a - c) (same i b.0) (ap (λ n. put_off p due left n i) (spread_rates-reads is b.1) ∙ put_off-reads (spread_rates p due other is) i b.0))
       (due_first-reads is b.1)
 
-module _ (p : Plan) (lim : IsWithinLimits p) (dem other : ℕ → ℕ → ℕ) (past : List Tick) (h : Alike p dem other past (suc (length past))) where
+module _ (p : Plan) (lim : IsWithinLimits p) (dem other : JobDemands) (past : List Tick) (h : Alike p dem other past (suc (length past))) where
   -- the charged units of a task are the same by both demands
   charged-same : (i : ℕ) → i < count p → charged p dem past i ≡ charged p other past i
   charged-same i lt = go (is_complete p dem past i) refl (same-complete p lim dem other past h i lt)

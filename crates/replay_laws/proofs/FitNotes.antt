@@ -5,11 +5,10 @@ use Rattle.std.specs.List.{AllByRecursion}
 use Rattle.std.proofs.lemmas.Bool.Decides.{nat_tests}
 use Rattle.dvs_base.specs.declared.note.Note.{Note}
 use Rattle.dvs_base.specs.declared.note.Note.TheVariants.{Done}
-use Rattle.grid_fraction.specs.declared.Frac.{Frac}
 use Rattle.task_model.specs.DemandRows.{named}
 use Rattle.sched_model.specs.Plan.{Plan, count, worst}
-use Rattle.sched_model.specs.Ticks.{Tick}
-use Rattle.sched_model.specs.Jobs.{demand_of, IsWithin}
+use Rattle.sched_model.specs.Ticks.{PublishedDemand, Tick}
+use Rattle.sched_model.specs.Jobs.{JobDemands, demand_of, IsWithin}
 use Rattle.sched_model.specs.Admission.{IsWithinLimits}
 use Rattle.sched_model.specs.Notes.{notes_of}
 use Rattle.sched_model.proofs.BeforeEnd.{IsBeforeEnd, notes-each}
@@ -24,7 +23,7 @@ abbrev pub IsOfTask : Plan → Note → Type 0
 IsOfTask p (Done at_end i k used) = i < count p
 IsOfTask p _ = Unit {0}
 
-module _ (p : Plan) (lim : IsWithinLimits p) (dem : ℕ → ℕ → ℕ) (ask : List Tick → Frac) where
+module _ (p : Plan) (lim : IsWithinLimits p) (dem : JobDemands) (ask : PublishedDemand) where
   -- each completion is within its worst case, where no demand exceeds its worst case
   pub notes-fit : IsWithin p dem → (ticks : List Tick) → AllByRecursion (IsFit p) (notes_of p dem ask ticks)
   notes-fit within = notes-each p dem ask (IsFit p) fit (λ ticks run idle. tt)

@@ -1,12 +1,12 @@
 -- No schedule depends on the demand of an unfinished job, and the list that its notes fix has its notes.
 use Rattle.std.proofs.Common.{◌≡◌, ◌+◌, ◌-◌, ◌*◌, ◌<◌, ◌≤◌, ℕ, zero, suc, true, false, List, [], ◌∷◌, length, refl, ap, ◌∙◌, sym, arith, inl, inr}
-use Rattle.std.specs.Prelude.{sum_by, Option, Some, None, unwrap_or, option_map}
+use Rattle.std.specs.Prelude.{count_by, sum_by, Option, Some, None, unwrap_or, option_map}
 use Rattle.std.proofs.lemmas.Bool.Decides.{nat_tests}
 use Rattle.dvs_base.specs.declared.note.Note.{Note}
 use Rattle.dvs_base.specs.declared.note.Note.TheVariants.{End}
 use Rattle.task_model.specs.DemandRows.{DemandRow, named}
 use Rattle.sched_model.specs.Plan.{Plan, count, worst}
-use Rattle.sched_model.specs.Jobs.{release, demand_of, IsWithin}
+use Rattle.sched_model.specs.Jobs.{JobDemands, release, demand_of, IsWithin}
 use Rattle.sched_model.specs.Ticks.{Tick, exec, is_done}
 use Rattle.sched_model.specs.Schedule.{IsScheduleBy, schedule_by}
 use Rattle.sched_model.specs.Admission.{IsWithinLimits}
@@ -14,7 +14,6 @@ use Rattle.sched_model.specs.Notes.{energy_run, energy_idle, notes_before_end, n
 use Rattle.sched_model.proofs.ScheduleLemmas.{schedule_exists, schedule_unique}
 use Rattle.sched_model.proofs.Service.{exec-most}
 use Rattle.sched_model.proofs.NoteSums.{tells_done}
-use Rattle.done_lines.proofs.Times.{times, times-append}
 use Rattle.done_lines.proofs.DoneCounts.{told-once}
 use Rattle.replay_laws.proofs.Alike.{Alike, IsBlind}
 use Rattle.replay_laws.specs.FixedDemands.{fixed_of}
@@ -25,7 +24,7 @@ use Rattle.replay_laws.proofs.FixedNotes.{Fixes, fixes, notes-true}
 
 module _ (p : Plan) (lim : IsWithinLimits p) (ask : Asking) (blind : IsBlind p ask) where
   -- two demands that the ticks don't distinguish have the same ticks
-  same-ticks : (dem other : ℕ → ℕ → ℕ) (ticks : ℕ) → ((i : ℕ) → dem i 0 ≡ 0) → Alike p dem other (ticks_by p ask dem ticks) (length (ticks_by p ask dem ticks))
+  same-ticks : (dem other : JobDemands) (ticks : ℕ) → ((i : ℕ) → dem i 0 ≡ 0) → Alike p dem other (ticks_by p ask dem ticks) (length (ticks_by p ask dem ticks))
       → ticks_by p ask other ticks ≡ ticks_by p ask dem ticks
   same-ticks dem other ticks none h =
       let exists = schedule_exists p dem (ask dem) ticks in
@@ -34,7 +33,7 @@ module _ (p : Plan) (lim : IsWithinLimits p) (ask : Asking) (blind : IsBlind p a
       ap (schedule_by p other (ask other)) (sym exists.1) ∙ sym (schedule_unique p other (ask other) (ticks_by p ask dem ticks) by_other)
 
   -- two demands that the ticks don't distinguish have the same notes
-  same-told : (dem other : ℕ → ℕ → ℕ) (ticks : ℕ) → ((i : ℕ) → dem i 0 ≡ 0) → ((i : ℕ) → other i 0 ≡ 0)
+  same-told : (dem other : JobDemands) (ticks : ℕ) → ((i : ℕ) → dem i 0 ≡ 0) → ((i : ℕ) → other i 0 ≡ 0)
       → Alike p dem other (ticks_by p ask dem ticks) (length (ticks_by p ask dem ticks))
       → notes_by p ask other ticks ≡ notes_by p ask dem ticks
   same-told dem other ticks none none_other h =
@@ -42,7 +41,7 @@ module _ (p : Plan) (lim : IsWithinLimits p) (ask : Asking) (blind : IsBlind p a
       ∙ sym (same-notes p lim dem other ask blind (λ i. none i ∙ sym (none_other i)) (ticks_by p ask dem ticks) (schedule_exists p dem (ask dem) ticks).0 h)
 
   -- two demands for the same notes are not distinguished by the ticks
-  alike-told : (dem other : ℕ → ℕ → ℕ) (ticks : List Tick) → TellSame p dem other ticks → Alike p dem other ticks (length ticks)
+  alike-told : (dem other : JobDemands) (ticks : List Tick) → TellSame p dem other ticks → Alike p dem other ticks (length ticks)
   alike-told dem other ticks h i zero lt early = (
     λ e. h.none i ∙ sym (h.other_none i),
     λ e. let nothing : dem i 0 ≡ 0 = h.none i in absurd (grind (arith, nat_tests, e, nothing)),
@@ -73,7 +72,7 @@ charge-least p rows i k some = go (named rows i k) refl
 
 module _ (p : Plan) (lim : IsWithinLimits p) (ask : Asking) (blind : IsBlind p ask) (rows : List DemandRow)
     (within : IsWithin p (demand_of p rows)) (t : ℕ) where
-  abbrev dem : ℕ → ℕ → ℕ
+  abbrev dem : JobDemands
   dem = demand_of p rows
 
   abbrev ticks : List Tick
@@ -82,14 +81,14 @@ module _ (p : Plan) (lim : IsWithinLimits p) (ask : Asking) (blind : IsBlind p a
   abbrev all_notes : List Note
   all_notes = notes_of p dem (ask dem) ticks
 
-  abbrev own : ℕ → ℕ → ℕ
+  abbrev own : JobDemands
   own = demand_of p (fixed_of p all_notes)
 
   is_schedule : IsScheduleBy p dem (ask dem) ticks
   is_schedule = (schedule_exists p dem (ask dem) t).0
 
   -- the notes fix nothing of a job, or its demand
-  pub told : (i k : ℕ) → i < count p → 1 ≤ k → Fixes p dem i k (exec p ticks i k) (named (fixed_of p all_notes) i k) (times (tells_done i k) all_notes)
+  pub told : (i k : ℕ) → i < count p → 1 ≤ k → Fixes p dem i k (exec p ticks i k) (named (fixed_of p all_notes) i k) (count_by (tells_done i k) all_notes)
   told i k lt some = fixes p dem (ask dem) lim i k lt some (exec p ticks i k) all_notes (notes-true p dem (ask dem) lim i k lt some ticks is_schedule)
 
   -- the demand that the list has for a job whose completion is among the notes is the job's demand
@@ -97,13 +96,11 @@ module _ (p : Plan) (lim : IsWithinLimits p) (ask : Asking) (blind : IsBlind p a
   own-told i k some e = omega (arith, demand-row p (fixed_of p all_notes) i k (dem i k - 2 * p.machine.charge) some e, charge-least p rows i k some)
 
   -- the completion of a finished job is among the notes once
-  pub told-finished : (i k : ℕ) → i < count p → 1 ≤ k → release p i k < length ticks → is_done p dem ticks i k ≡ true → times (tells_done i k) all_notes ≡ 1
+  pub told-finished : (i k : ℕ) → i < count p → 1 ≤ k → release p i k < length ticks → is_done p dem ticks i k ≡ true → count_by (tells_done i k) all_notes ≡ 1
   told-finished i k lt some early done =
-      let before : List Note = notes_before_end p dem (ask dem) ticks in
       let most : exec p ticks i k ≤ dem i k = exec-most p dem (ask dem) ticks is_schedule i k lt in
       let whole : exec p ticks i k ≡ dem i k = grind (arith, nat_tests, done, most) in
-      let once : times (tells_done i k) before ≡ 1 = told-once p dem (ask dem) lim i k lt some ticks is_schedule early whole in
-      times-append (tells_done i k) before (End (length ticks) (sum_by energy_run before) (sum_by energy_idle before) ∷ []) ∙ omega (arith, once)
+      told-once p dem (ask dem) lim i k lt some ticks is_schedule early whole
 
   -- the list that the notes fix and the demands are two demands for the same notes
   pub tell-same : TellSame p dem own ticks
@@ -114,14 +111,14 @@ module _ (p : Plan) (lim : IsWithinLimits p) (ask : Asking) (blind : IsBlind p a
     other_none = λ i. refl;
   }
     where
-      finished : (i k : ℕ) → 1 ≤ k → times (tells_done i k) all_notes ≡ 1
-          → Fixes p dem i k (exec p ticks i k) (named (fixed_of p all_notes) i k) (times (tells_done i k) all_notes)
+      finished : (i k : ℕ) → 1 ≤ k → count_by (tells_done i k) all_notes ≡ 1
+          → Fixes p dem i k (exec p ticks i k) (named (fixed_of p all_notes) i k) (count_by (tells_done i k) all_notes)
           → dem i k ≡ own i k
       finished i k some once (inl a) = absurd (omega (arith, once, a.1))
       finished i k some once (inr b) = sym (own-told i k some b.0)
 
       unfinished : (i k : ℕ) → i < count p → 1 ≤ k → is_done p dem ticks i k ≡ false
-          → Fixes p dem i k (exec p ticks i k) (named (fixed_of p all_notes) i k) (times (tells_done i k) all_notes)
+          → Fixes p dem i k (exec p ticks i k) (named (fixed_of p all_notes) i k) (count_by (tells_done i k) all_notes)
           → exec p ticks i k < own i k
       unfinished i k lt some open_job (inl a) =
           let more : exec p ticks i k < dem i k = grind (arith, nat_tests, open_job) in

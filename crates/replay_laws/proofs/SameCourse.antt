@@ -4,7 +4,7 @@ use Rattle.std.proofs.lemmas.Bool.Decides.{nat_tests}
 use Rattle.std.proofs.lemmas.Bool.{cases_lt}
 use Rattle.grid_fraction.proofs.Sums.{sum_below-same}
 use Rattle.sched_model.specs.Plan.{Plan, count, point}
-use Rattle.sched_model.specs.Jobs.{latest}
+use Rattle.sched_model.specs.Jobs.{JobDemands, latest}
 use Rattle.sched_model.specs.Ticks.{Tick, exec, is_done, share, left}
 use Rattle.sched_model.specs.Priority.{stands_before, sum_before, sum_up_to, SharesOut, key_of}
 use Rattle.sched_model.specs.Schedule.{IsNext, IsScheduleBy}
@@ -62,7 +62,7 @@ shares-alike n key room need other given h alike i lt = go (cases_lt (sum_up_to 
             by j l true e = ap (λ (v : ℕ). if stands_before key j i then v else 0) (whole j l (omega (arith, more, up_to-before n key given j i l e)))
             by j l false e = rw e refl
 
-module _ (p : Plan) (lim : IsWithinLimits p) (dem other : ℕ → ℕ → ℕ) (none : (i : ℕ) → dem i 0 ≡ 0) (ask : Asking) (blind : IsBlind p ask) where
+module _ (p : Plan) (lim : IsWithinLimits p) (dem other : JobDemands) (none : (i : ℕ) → dem i 0 ≡ 0) (ask : Asking) (blind : IsBlind p ask) where
   -- the latest jobs need the same by both demands, or were given less than they need and no more than the other need
   needs-alike : (x : Tick) (past : List Tick) (f : ℕ) → SharesOut (count p) (key_of p.scheduler p (length past)) f (left p dem past) (share x)
       → Alike p dem other (x ∷ past) (length (x ∷ past)) → (i : ℕ) → i < count p → NeedsAlike (left p dem past) (left p other past) (share x) i

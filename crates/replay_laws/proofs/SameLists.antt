@@ -1,14 +1,14 @@
 -- Which demand lists have schedules with the same notes.
+use Rattle.std.specs.Prelude.{count_by}
 use Rattle.std.proofs.Common.{◌≡◌, ◌<◌, ◌≤◌, ℕ, Bool, true, false, List, length, refl, ap, ◌∙◌, sym, subst, arith, inl, inr}
 use Rattle.std.proofs.lemmas.Bool.Decides.{nat_tests}
 use Rattle.dvs_base.specs.declared.note.Note.{Note}
 use Rattle.task_model.specs.DemandRows.{DemandRow, named}
 use Rattle.sched_model.specs.Plan.{Plan, count}
-use Rattle.sched_model.specs.Jobs.{release, demand_of, IsWithin}
+use Rattle.sched_model.specs.Jobs.{JobDemands, release, demand_of, IsWithin}
 use Rattle.sched_model.specs.Ticks.{Tick, exec, is_done}
 use Rattle.sched_model.specs.Admission.{IsWithinLimits}
 use Rattle.sched_model.proofs.NoteSums.{tells_done}
-use Rattle.done_lines.proofs.Times.{times}
 use Rattle.replay_laws.proofs.Alike.{IsBlind}
 use Rattle.replay_laws.specs.FixedDemands.{fixed_of}
 use Rattle.replay_laws.specs.OwnList.{Asking, ticks_by, notes_by, TellSame, HasSameNotes}
@@ -24,11 +24,11 @@ module _ (p : Plan) (lim : IsWithinLimits p) (ask : Asking) (blind : IsBlind p a
   abbrev notes : List Note
   notes = notes_by p ask (demand_of p rows) t
 
-  completed : (i k : ℕ) → i < count p → 1 ≤ k → times (tells_done i k) notes ≡ 1
+  completed : (i k : ℕ) → i < count p → 1 ≤ k → count_by (tells_done i k) notes ≡ 1
       → (demand_of p (fixed_of p notes) i k ≡ demand_of p rows i k) × (demand_of p rows i k ≤ exec p ticks i k)
   completed i k lt some once = go (told p lim ask blind rows within t i k lt some)
     where
-      go : Fixes p (demand_of p rows) i k (exec p ticks i k) (named (fixed_of p notes) i k) (times (tells_done i k) notes)
+      go : Fixes p (demand_of p rows) i k (exec p ticks i k) (named (fixed_of p notes) i k) (count_by (tells_done i k) notes)
           → (demand_of p (fixed_of p notes) i k ≡ demand_of p rows i k) × (demand_of p rows i k ≤ exec p ticks i k)
       go (inl a) = absurd (omega (arith, once, a.1))
       go (inr b) = (own-told p lim ask blind rows within t i k some b.0, b.1)
@@ -36,10 +36,10 @@ module _ (p : Plan) (lim : IsWithinLimits p) (ask : Asking) (blind : IsBlind p a
 module _ (p : Plan) (lim : IsWithinLimits p) (ask : Asking) (blind : IsBlind p ask) (rows others : List DemandRow)
     (t : ℕ) (within : IsWithin p (demand_of p rows)) (within_others : IsWithin p (demand_of p others))
     (same : notes_by p ask (demand_of p others) t ≡ notes_by p ask (demand_of p rows) t) where
-  abbrev dem : ℕ → ℕ → ℕ
+  abbrev dem : JobDemands
   dem = demand_of p rows
 
-  abbrev other : ℕ → ℕ → ℕ
+  abbrev other : JobDemands
   other = demand_of p others
 
   -- equal notes fix equal lists, and the ticks for each list are those for the list that its notes fix
@@ -55,7 +55,7 @@ module _ (p : Plan) (lim : IsWithinLimits p) (ask : Asking) (blind : IsBlind p a
       → is_done p dem (ticks_by p ask dem t) i k ≡ true → dem i k ≡ other i k
   same-finished i k lt some early done =
       let once = told-finished p lim ask blind rows within t i k lt some early done in
-      let also = ap (λ (ns : List Note). times (tells_done i k) ns) same ∙ once in
+      let also = ap (λ (ns : List Note). count_by (tells_done i k) ns) same ∙ once in
       sym (completed p lim ask blind rows within t i k lt some once).0
       ∙ (ap (λ (ns : List Note). demand_of p (fixed_of p ns) i k) (sym same)
       ∙ (completed p lim ask blind others within_others t i k lt some also).0)
@@ -71,7 +71,7 @@ module _ (p : Plan) (lim : IsWithinLimits p) (ask : Asking) (blind : IsBlind p a
           let done = subst (λ (x : List Tick). is_done p other x i k ≡ true) back e in
           let released = subst (λ (x : List Tick). release p i k < length x) back early in
           let also = told-finished p lim ask blind others within_others t i k lt some released done in
-          let once = ap (λ (ns : List Note). times (tells_done i k) ns) (sym same) ∙ also in
+          let once = ap (λ (ns : List Note). count_by (tells_done i k) ns) (sym same) ∙ also in
           let had = (completed p lim ask blind rows within t i k lt some once).1 in
           absurd (grind (arith, nat_tests, open_job, had))
 

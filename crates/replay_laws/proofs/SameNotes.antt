@@ -13,7 +13,7 @@ use Rattle.grid_fraction.proofs.Counts.{count-append}
 use Rattle.sched_model.specs.declared.holder.Holder.{Holder}
 use Rattle.sched_model.specs.declared.holder.Holder.TheVariants.{Nobody, Held}
 use Rattle.sched_model.specs.Plan.{Plan, count, point}
-use Rattle.sched_model.specs.Jobs.{latest, latest_since, releases_at}
+use Rattle.sched_model.specs.Jobs.{JobDemands, latest, latest_since, releases_at}
 use Rattle.sched_model.specs.Ticks.{Tick, exec, is_done}
 use Rattle.sched_model.specs.Schedule.{IsScheduleBy}
 use Rattle.sched_model.specs.Admission.{IsWithinLimits}
@@ -45,7 +45,7 @@ had-most p s q i k =
     let parts : take q s.units ++ drop q s.units ≡ s.units = take-append-drop q s.units in
     omega (arith, ap (count_by (same_holder (Held i k))) parts, count-append (same_holder (Held i k)) (take q s.units) (drop q s.units))
 
-module _ (p : Plan) (dem other : ℕ → ℕ → ℕ) (s : Span) where
+module _ (p : Plan) (dem other : JobDemands) (s : Span) where
   -- the holder needs the same by both demands, or by both more than it has had by the end of the span
   abbrev EndsAlike : Holder → Type 0
   EndsAlike Nobody = Unit {0}
@@ -70,7 +70,7 @@ module _ (p : Plan) (dem other : ℕ → ℕ → ℕ) (s : Span) where
   pieces-same q [] all = refl
   pieces-same q (r ∷ rs) all = ap₂ (λ (ns ms : List Note). ns ++ ms) (segment-same q r.units r.holder all.0) (pieces-same (q + r.units) rs all.1)
 
-module _ (p : Plan) (lim : IsWithinLimits p) (dem other : ℕ → ℕ → ℕ) where
+module _ (p : Plan) (lim : IsWithinLimits p) (dem other : JobDemands) where
   releases-same : (past : List Tick) → Alike p dem other past (suc (length past))
       → all_release_notes p dem (length past) ≡ all_release_notes p other (length past)
   releases-same past h = flat_map-same (count p) (release_notes p dem t) (release_notes p other t) each

@@ -5,7 +5,7 @@ use Rattle.grid_fraction.proofs.Searches.{any_below-same}
 use Rattle.freq_table.specs.Tables.{lowest_entry}
 use Rattle.sched_model.specs.declared.state.Row.{Row}
 use Rattle.sched_model.specs.Plan.{Plan, count, worst}
-use Rattle.sched_model.specs.Jobs.{latest, due, last_release, is_release}
+use Rattle.sched_model.specs.Jobs.{JobDemands, latest, due, last_release, is_release}
 use Rattle.sched_model.specs.Ticks.{Tick, at, exec, is_complete, wleft}
 use Rattle.sched_model.specs.Decision.{completes_in, is_decision}
 use Rattle.sched_model.specs.Schedule.{entry_in_force}
@@ -18,7 +18,7 @@ use Rattle.governor.specs.Schedule.{ask_of}
 use Rattle.replay_laws.specs.OwnList.{Asking}
 use Rattle.replay_laws.proofs.Alike.{Indistinct, Alike, IsBlind, same-done, indistinct-before, alike-before, alike-earlier}
 
-module _ (p : Plan) (lim : IsWithinLimits p) (dem other : ℕ → ℕ → ℕ) where
+module _ (p : Plan) (lim : IsWithinLimits p) (dem other : JobDemands) where
   pub same-complete : (past : List Tick) → Alike p dem other past (suc (length past)) → (i : ℕ) → i < count p
       → is_complete p dem past i ≡ is_complete p other past i
   same-complete past h i lt =

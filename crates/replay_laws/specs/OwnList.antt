@@ -9,8 +9,8 @@ use Rattle.grid_fraction.specs.declared.Frac.{Frac}
 use Rattle.task_model.specs.DemandRows.{DemandRow}
 use Rattle.demand_list.specs.Demands.{IsDemands}
 use Rattle.sched_model.specs.Plan.{Plan, count, worst}
-use Rattle.sched_model.specs.Jobs.{release, demand_of, IsWithin}
-use Rattle.sched_model.specs.Ticks.{Tick, exec, is_done}
+use Rattle.sched_model.specs.Jobs.{JobDemands, release, demand_of, IsWithin}
+use Rattle.sched_model.specs.Ticks.{PublishedDemand, Tick, exec, is_done}
 use Rattle.sched_model.specs.Demand.{published}
 use Rattle.sched_model.specs.Schedule.{schedule_by}
 use Rattle.sched_model.specs.States.{StateOf}
@@ -22,19 +22,19 @@ use Rattle.replay_laws.specs.FixedDemands.{fixed_of, fixed_list, fixed_demand}
 
 -- a way to choose the published demand, from the demands of the jobs and the ticks so far
 abbrev pub Asking : Type 0
-Asking = (ℕ → ℕ → ℕ) → List Tick → Frac
+Asking = JobDemands → PublishedDemand
 
 -- the first `ticks` ticks of the schedule for these demands
-abbrev pub ticks_by : Plan → Asking → (ℕ → ℕ → ℕ) → ℕ → List Tick
+abbrev pub ticks_by : Plan → Asking → JobDemands → ℕ → List Tick
 ticks_by p ask dem ticks = schedule_by p dem (ask dem) ticks
 
 -- the notes of the first `ticks` ticks of the schedule for these demands
-abbrev pub notes_by : Plan → Asking → (ℕ → ℕ → ℕ) → ℕ → List Note
+abbrev pub notes_by : Plan → Asking → JobDemands → ℕ → List Note
 notes_by p ask dem ticks = notes_of p dem (ask dem) (ticks_by p ask dem ticks)
 
 -- Two demands for the same notes: a job that completes in the ticks needs the same by both, and a released one that
 -- doesn't needs more than it has had by the other too. Jobs released later may need anything.
-pub record TellSame (p : Plan) (dem other : ℕ → ℕ → ℕ) (ticks : List Tick) : Type 0 where
+pub record TellSame (p : Plan) (dem other : JobDemands) (ticks : List Tick) : Type 0 where
   pub finished : (i k : ℕ) → i < count p → 1 ≤ k → release p i k < length ticks
       → is_done p dem ticks i k ≡ true → dem i k ≡ other i k
   pub unfinished : (i k : ℕ) → i < count p → 1 ≤ k → release p i k < length ticks
@@ -45,7 +45,7 @@ pub record TellSame (p : Plan) (dem other : ℕ → ℕ → ℕ) (ticks : List T
 -- the published demand depends on no job's demand before its completion: two such demands give equal ticks and notes
 abbrev pub LooksAtNone : Plan → Asking → Type 0
 LooksAtNone p ask =
-    (dem other : ℕ → ℕ → ℕ) (ticks : ℕ) → TellSame p dem other (ticks_by p ask dem ticks)
+    (dem other : JobDemands) (ticks : ℕ) → TellSame p dem other (ticks_by p ask dem ticks)
     → (ticks_by p ask other ticks ≡ ticks_by p ask dem ticks) × (notes_by p ask other ticks ≡ notes_by p ask dem ticks)
 
 -- the schedules for two lists have the same notes exactly where each job that completes needs the same by both lists,
@@ -81,7 +81,7 @@ pub record HasOwnList (p : Plan) (ask : Asking) : Type 0 where
   pub list : (ticks : ℕ) (notes : List Note) → AreOwn p ask ticks notes → IsDemands (fixed_list p notes)
 
 -- the demands of the list that the notes of a run fix
-abbrev pub own_demand : Plan → GovernorKind → (ℕ → ℕ → ℕ) → ℕ → ℕ → ℕ → ℕ
+abbrev pub own_demand : Plan → GovernorKind → JobDemands → ℕ → ℕ → ℕ → ℕ
 own_demand p kind dem ticks = demand_of p (fixed_of p (run_notes p kind dem ticks))
 
 -- the text of a run in either version is that of the run for the list that its notes fix

@@ -7,7 +7,7 @@ use Rattle.grid_fraction.specs.declared.Frac.{Frac}
 use Rattle.sched_model.specs.Plan.{Plan, count}
 use Rattle.sched_model.specs.States.{StateOf}
 use Rattle.sched_model.specs.Demand.{published}
-use Rattle.sched_model.specs.Jobs.{demand_of, IsWithin}
+use Rattle.sched_model.specs.Jobs.{JobDemands, demand_of, IsWithin}
 use Rattle.sched_model.specs.Notes.{notes_of}
 use Rattle.sched_model.specs.Schedule.{schedule_by}
 use Rattle.sched_model.proofs.ScheduleLemmas.{schedule_exists}
@@ -35,7 +35,7 @@ replay-ends p t replay_fault.NoMemory h = tt
 
 -- the answer under a governor's own demand, which is the published one on each schedule, is that under the published one
 module _ (demand : Plan → StateOf → Frac) (kind : GovernorKind) (p : Plan) (publishes : Publishes demand kind p) where
-  module _ (dem : ℕ → ℕ → ℕ) (within : IsWithin p dem) where
+  module _ (dem : JobDemands) (within : IsWithin p dem) where
     pub agree : AgreeOnSchedules p dem (ask_of demand p dem) (published p kind dem)
     agree ask past h = sym (publishes dem within ask past h)
 

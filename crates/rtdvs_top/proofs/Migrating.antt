@@ -8,7 +8,7 @@ use Rattle.dvs_base.specs.declared.note.Totals.{Totals}
 use Rattle.dvs_base.specs.declared.limits.TheConstants.{MOST_JOBS}
 use Rattle.demand_list.specs.Demands.{DemandsOf}
 use Rattle.sched_model.specs.Plan.{Plan, names}
-use Rattle.sched_model.specs.Jobs.{released_jobs, demand_of}
+use Rattle.sched_model.specs.Jobs.{JobDemands, released_jobs, demand_of}
 use Rattle.sched_model.specs.Demand.{published}
 use Rattle.sched_model.specs.Admission.{IsWithinLimits}
 use Rattle.sched_model.specs.RunNotes.{run_notes}
@@ -64,7 +64,7 @@ module _ (p : Plan) (lim : IsWithinLimits p) (t : TraceOf) (ended : IsEnded t.no
       let g = t.plan.governor in
       let ticks = t.plan.ticks in
       let notes : run_notes p g (demand_of p d.rows) ticks ≡ t.notes =
-      ap (λ (dem : ℕ → ℕ → ℕ). run_notes p g dem ticks) demands ∙ own-notes ok in
+      ap (λ (dem : JobDemands). run_notes p g dem ticks) demands ∙ own-notes ok in
       let text : run_text_in Two p g (demand_of p d.rows) ticks ≡ migrated_text p t =
       ap (λ (l : List Note). whole_text Two p.scheduler g ticks (names p) (task_texts p) l) notes
       ∙ ap (λ (s : Scheduler). whole_text Two s g ticks (names p) (task_texts p) t.notes) (sym scheduler) in

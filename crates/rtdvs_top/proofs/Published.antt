@@ -15,7 +15,7 @@ use Rattle.done_lines.proofs.DoneText.{text-tells}
 use Rattle.done_lines.specs.RunText.{task_texts, run_lines}
 use Rattle.trace_reader.specs.TraceText.{LineOf}
 use Rattle.sched_model.specs.Schedule.{schedule_by}
-use Rattle.sched_model.specs.Ticks.{IsMet, Tick}
+use Rattle.sched_model.specs.Ticks.{PublishedDemand, IsMet, Tick}
 use Rattle.sched_model.specs.Admission.{IsAdmitted}
 use Rattle.sched_model.specs.Decision.{is_decision}
 use Rattle.freq_table.specs.Tables.{lowest_pick}
@@ -50,10 +50,10 @@ module _ (demand : Plan → StateOf → Frac) (kind : GovernorKind) (p : Plan) (
   abbrev dem : ℕ → ℕ → ℕ
   dem = demand_of p d.rows
 
-  abbrev own : List Tick → Frac
+  abbrev own : PublishedDemand
   own = ask_of demand p dem
 
-  abbrev asked : List Tick → Frac
+  abbrev asked : PublishedDemand
   asked = published p kind dem
 
   within : IsWithin p dem

@@ -65,6 +65,10 @@ releases p t = sum_below (count p) (λ i. one_if (releases_at p i t))
 abbrev pub empty_jobs : Plan → JobDemands → ℕ → ℕ
 empty_jobs p dem t = sum_below (count p) (λ i. one_if (releases_at p i t && nat_eq (dem i (latest p i t)) 0))
 
+-- how many jobs complete in the tick x after `past`
+abbrev pub completions : Plan → JobDemands → Tick → List Tick → ℕ
+completions p dem x past = sum_below (count p) (λ i. one_if (completes_in p dem x past i))
+
 -- the notes of the releases of tick t
 module _ (p : Plan) (dem : JobDemands) (t : ℕ) (f : Note → ℕ) where
   abbrev released : ℕ → ℕ
@@ -531,7 +535,7 @@ module _ (p : Plan) (dem : JobDemands) (ask : PublishedDemand) where
 
   -- the latest jobs that have had their demand after tick x are those before it and those that complete in it
   pub all_done-next : (x : Tick) (past : List Tick)
-      → all_done (length past) (x ∷ past) ≡ all_done (length past) past + sum_below (count p) (λ i. one_if (completes_in p dem x past i))
+      → all_done (length past) (x ∷ past) ≡ all_done (length past) past + completions p dem x past
   all_done-next x past =
       sum_below-same (count p) (λ i. done_by p dem i (job i) (x ∷ past)) (λ i. done_by p dem i (job i) past + one_if (completes_in p dem x past i))
       (λ i lt. one i (is_done p dem past i (job i)) refl (is_done p dem (x ∷ past) i (job i)) refl)

@@ -60,6 +60,25 @@ given-sum weight given job (i ∷ tasks) =
       given-sum weight given job tasks,
     )
 
+-- a sum over the tasks to which only job k of task i adds
+pub sum-own : (n i k : ℕ) (f job : ℕ → ℕ) → i < n
+    → sum_below n (λ j. f j * cond (nat_eq i j && nat_eq k (job j)) 1 0) ≡ (if nat_eq k (job i) then f i else 0)
+sum-own n i k f job lt = sum_below-one n i own lt (λ j l ne. off j ne (nat_eq i j) refl) ∙ on (nat_eq k (job i)) refl
+  where
+    own : ℕ → ℕ
+    own j = f j * cond (nat_eq i j && nat_eq k (job j)) 1 0
+
+    off : (j : ℕ) → j ≢ i → (b : Bool) → nat_eq i j ≡ b → own j ≡ 0
+    off j ne true e = absurd (ne (grind (arith, nat_tests)))
+    off j ne false e = rw e (omega arith)
+
+    self : nat_eq i i ≡ true
+    self = grind (arith, nat_tests)
+
+    on : (b : Bool) → nat_eq k (job i) ≡ b → own i ≡ (if nat_eq k (job i) then f i else 0)
+    on true e = rw (self, e) (omega arith)
+    on false e = rw (self, e) (omega arith)
+
 -- the tick x after `past`
 module _ (p : Plan) (past : List Tick) (x : Tick) where
   abbrev key : ℕ → ℕ
@@ -109,19 +128,7 @@ module _ (p : Plan) (past : List Tick) (x : Tick) where
   units-own : (i k : ℕ) → i < count p
       → count_by (same_holder (Held i k)) (tick_units p past x) ≡ (if nat_eq k (latest p i (length past)) then share x i else 0)
   units-own i k lt =
-      units-sum (λ h. cond (same_holder (Held i k) h) 1 0)
-      ∙ omega (arith, sum_below-one (count p) i own lt (λ j l ne. off j ne (nat_eq i j) refl), on (nat_eq k (job i)) refl)
-    where
-      own : ℕ → ℕ
-      own j = share x j * cond (nat_eq i j && nat_eq k (job j)) 1 0
-
-      off : (j : ℕ) → j ≢ i → (b : Bool) → nat_eq i j ≡ b → own j ≡ 0
-      off j ne true e = absurd (ne (grind (arith, nat_tests)))
-      off j ne false e = rw e (omega arith)
-
-      on : (b : Bool) → nat_eq k (job i) ≡ b → own i ≡ (if nat_eq k (job i) then share x i else 0)
-      on true e = let self : nat_eq i i ≡ true = grind (arith, nat_tests) in rw (self, e) (omega arith)
-      on false e = let self : nat_eq i i ≡ true = grind (arith, nat_tests) in rw (self, e) (omega arith)
+      units-sum (λ h. cond (same_holder (Held i k) h) 1 0) ∙ omega (arith, sum-own (count p) i k (share x) job lt)
 
   -- a tick adds the job's units in it to what the job has had
   pub units-had : ((i : ℕ) → 0 < period p i) → (i k : ℕ) → i < count p → 1 ≤ k

@@ -16,7 +16,7 @@ use Rattle.freq_table.specs.declared.limits.TheConstants.{TOP_SPEED}
 use Rattle.freq_table.specs.Tables.{speed_at, lowest_entry}
 use Rattle.freq_table.proofs.Chosen.{lowest_within}
 use Rattle.sched_model.specs.Plan.{Plan, count, period, worst, hyper, rate, top_speed}
-use Rattle.sched_model.specs.Jobs.{latest, deadline, earliest, last_release, IsWithin}
+use Rattle.sched_model.specs.Jobs.{JobDemands, latest, deadline, earliest, last_release, IsWithin}
 use Rattle.sched_model.specs.Ticks.{Tick, exec, is_complete, wleft}
 use Rattle.sched_model.specs.Priority.{in_order}
 use Rattle.sched_model.specs.Tests.{total_rate}
@@ -36,7 +36,7 @@ pub record IsLow (d : Frac) : Type 0 where
   pub num : d.num < 2 ^ 128
   pub den : d.den < 2 ^ 128
 
-module _ (p : Plan) (adm : IsAdmitted p) (dem : ℕ → ℕ → ℕ) (within : IsWithin p dem) (past : List Tick)
+module _ (p : Plan) (adm : IsAdmitted p) (dem : JobDemands) (within : IsWithin p dem) (past : List Tick)
     (few : length past ≤ MOST_TICKS) where
   few_tasks : count p ≤ MOST_TASKS
   few_tasks = adm.limits.tasks.few

@@ -4,16 +4,15 @@ use Rattle.std.specs.List.{AllByRecursion}
 use Rattle.std.proofs.Math.Nat.{mul-le-mul, div-le_self, mod-le}
 use Rattle.dvs_base.specs.declared.limits.TheConstants.{MOST_TICKS}
 use Rattle.dvs_base.specs.declared.note.Note.{Note}
-use Rattle.grid_fraction.specs.declared.Frac.{Frac}
 use Rattle.freq_table.specs.declared.limits.TheConstants.{TOP_SPEED, MOST_MILLIVOLTS, MOST_IDLE}
 use Rattle.sched_model.specs.declared.holder.Holder.TheVariants.{Held}
 use Rattle.sched_model.specs.Plan.{Plan, count, point}
-use Rattle.sched_model.specs.Jobs.{latest, IsWithin}
-use Rattle.sched_model.specs.Ticks.{Tick}
+use Rattle.sched_model.specs.Jobs.{JobDemands, latest, IsWithin}
+use Rattle.sched_model.specs.Ticks.{PublishedDemand, Tick}
 use Rattle.sched_model.specs.Schedule.{IsScheduleBy}
 use Rattle.sched_model.specs.Admission.{IsWithinLimits}
 use Rattle.sched_model.specs.Notes.{Span, position_of, run_energy, idle_energy, energy_run, energy_idle, notes_before_end}
-use Rattle.sched_model.proofs.Limits.{every_period}
+use Rattle.sched_model.proofs.Limits.{every_period, energy-most}
 use Rattle.sched_model.proofs.JobLaws.{latest-small}
 use Rattle.trace_reader.specs.Traces.{IsPlace, IsNoteOf}
 use Rattle.sched_model.proofs.Spans.{IsLastSpan, IsNow}
@@ -36,15 +35,7 @@ IsLowNote p n = IsNoteOf (count p) n × (energy_run n ≤ most_energy) × (energ
 is-place : (from f q : ℕ) → from ≤ MOST_TICKS → q ≤ most_units → IsPlace (position_of from f q)
 is-place from f q early few = (omega (arith, div-le_self q f, early, few), omega (arith, mod-le q f, few))
 
--- the energy of at most `most_units` units is at most `most_energy`
-energy-low : (units mv rate : ℕ) → units ≤ most_units → mv ≤ MOST_MILLIVOLTS → rate ≤ MOST_IDLE
-    → units * mv * mv * rate ≤ most_energy
-energy-low units mv rate few low cheap =
-    let once : units * mv ≤ most_units * MOST_MILLIVOLTS = mul-le-mul few low in
-    let twice : units * mv * mv ≤ most_units * MOST_MILLIVOLTS * MOST_MILLIVOLTS = mul-le-mul once low in
-    omega (arith, mul-le-mul twice cheap)
-
-module _ (p : Plan) (lim : IsWithinLimits p) (dem : ℕ → ℕ → ℕ) (within : IsWithin p dem) (ask : List Tick → Frac)
+module _ (p : Plan) (lim : IsWithinLimits p) (dem : JobDemands) (within : IsWithin p dem) (ask : PublishedDemand)
     (low : (past : List Tick) → length past ≤ MOST_TICKS → IsLow (ask past)) where
   abbrev AreLow : List Note → Type 0
   AreLow = AllByRecursion (IsLowNote p)
@@ -86,12 +77,12 @@ module _ (p : Plan) (lim : IsWithinLimits p) (dem : ℕ → ℕ → ℕ) (within
       idle = λ q units le.
           let some : units ≤ most_units = omega (arith, le, low_units) in
           let energy : idle_energy p s.entry units ≤ most_energy =
-          energy-low units (point p s.entry).millivolts p.machine.idle some low_volts lim.machine.low_idle in
+          omega (arith, energy-most units (point p s.entry).millivolts p.machine.idle low_volts lim.machine.low_idle, some) in
           ((place q (omega (arith, le)), place (q + units) le, omega (arith, some), omega (arith, energy)), omega arith, energy);
       run = λ q units i k le now.
           let some : units ≤ most_units = omega (arith, le, low_units) in
           let energy : run_energy p s.entry units ≤ most_energy =
-          energy-low units (point p s.entry).millivolts 1000 some low_volts (omega arith) in
+          omega (arith, energy-most units (point p s.entry).millivolts 1000 low_volts (omega arith), some) in
           ((place q (omega (arith, le)), place (q + units) le, now.0, job i k now, omega (arith, some), omega (arith, energy)), energy, omega arith);
       done = λ q i k le now whole.
           let needs : dem i k < 2 ^ 64 = omega (arith, within.most i k now.0, (lim.tasks.each i now.0).low_worst, lim.machine.low_charge) in

@@ -141,7 +141,7 @@ module _ (v : Version) (p : Plan) (g : GovernorKind) (dem : JobDemands) (ticks :
         ((omega (arith, long, run.low_ticks), run-low, idle-low), tt));
     ended =
         once-ended (notes ++ last ∷ [])
-        (schedule-ended p adm.limits dem (published p g dem) past);
+        (schedule-ended p dem (published p g dem) past);
     shares = λ _ i lt. shares-low i;
     lines = omega (arith, lines-low, few-lines);
   }

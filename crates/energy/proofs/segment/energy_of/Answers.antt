@@ -1,7 +1,7 @@
 use Rattle.std.proofs.Common.{◌≡◌, ◌*◌, ◌≤◌, Bool, true, false, arith, sym, subst, ap}
 use Rattle.freq_table.specs.Tables.{Table, IsTable}
+use Rattle.sched_model.proofs.Limits.{energy-most}
 use Rattle.energy.specs.Segments.{thousandths}
-use Rattle.energy.proofs.UnitCosts.{energy-most}
 use Rattle.energy.proofs.segment.energy_of.Goals as goal
 
 low_thousandths : (m : Table) → IsTable m → (idle : Bool) → thousandths m idle ≤ 1000
