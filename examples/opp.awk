@@ -10,7 +10,8 @@
 # and a voltage up to millivolts. Of a triplet it is the first number, the target. Numbers are decimal or hexadecimal, and
 # an `opp-hz` is one number of 64 bits or two of 32. Points of all kinds are taken, `turbo-mode` too, and a point of
 # `&LABEL` adds to that table. Macros, included files and deletions aren't followed. A value that isn't a number is
-# refused, and so is each machine that the program would refuse. The status is then 1, and 2 where no table is chosen.
+# refused, also where `dtc` took the number for text, and so is each machine that the program would refuse. The status is
+# then 1, and 2 where no table is chosen.
 # Checked by tools/check_opp.sh. Over the device trees of Linux 6.1 for arm and arm64 345 tables were compared with a
 # parser in Python: 177 gave the same points. The others were refused, 155 of them because they have no voltages.
 
