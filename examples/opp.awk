@@ -60,7 +60,7 @@ function open_node(head,    at) {
 }
 
 function path_of(level,    i, path) {
-    for (i = 2; i <= level; i++) path = path "/" node[i]
+    for (i = 2; i <= level; i++) path = path (i > 2 ? "/" : "") node[i]
     return path
 }
 

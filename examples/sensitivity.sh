@@ -8,7 +8,7 @@
 #     task NAME NOW MOST   a line for each task: its worst case, and the most units that it can have, the others as now
 #     speed NOW LEAST      the highest speed, and the lowest whole one with which the set is still admitted
 #
-# A set that is denied has values below those of now: so far it has to shrink. Where no value is enough there is `-`.
+# A set that is denied has limits below its own numbers: it has to shrink to them. Where no value is enough there is `-`.
 # Each is found by bisection over calls of the program. The files need a key a line, as in the templates.
 # Checked by tools/check_sensitivity.sh, against limits worked out by hand and by Python.
 set -eu
@@ -56,7 +56,7 @@ with_worsts() {
     admitted "$work/tasks.toml" "$machine"
 }
 
-# with_times THOUSANDTHS: whether it is with all worst cases so many times as large
+# with_times THOUSANDTHS: whether it is with all worst cases multiplied by them
 with_times() {
     scaled=
     # shellcheck disable=SC2017  # a product of the whole worst case may exceed 63 bits

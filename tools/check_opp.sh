@@ -47,7 +47,7 @@ machine 600 800 1800 1050
 check 0 $board -v table=big -v suffix=fast
 # 0x3b9aca00 is 10^9, and 2^32 + 0x2a05f200 is 5 * 10^9; 0xdbba0 is 900000, and 0x10c8e0 is 1100000.
 machine 1000 900 5000 1100
-check 0 $board -v table=/soc/opp-table
+check 0 $board -v table=soc/opp-table
 point second 'opp-hz = /bits/ 64 <200000000>' 'opp-microvolt = <1100000>, <1200000 1 2>'
 machine 100 1000 200 1100
 check 0 "$work/file"

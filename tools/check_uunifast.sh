@@ -3,11 +3,11 @@
 # EDF. Over many seeds the share of a task has the distribution of UUniFast: it is above x of the whole with the
 # probability (1 - x)^(tasks - 1). The number of shares above x may differ by four standard deviations.
 program=${1:?no program}
-command -v python3 > /dev/null || { echo 'uunifast: skipped, no python3'; exit; }
-awk 'BEGIN { print 2 ^ 0.5 + exp(log(2)) }' > /dev/null 2>&1 || { echo 'uunifast: skipped, no awk with powers'; exit; }
+[ -n "$(command -v python3)" ] || { echo 'uunifast: skipped, no python3'; exit; }
 work=$(mktemp -d) || exit 2
 trap 'rm -r "$work"' EXIT
 trap 'exit 2' HUP INT PIPE TERM
+awk 'BEGIN { print 2 ^ 0.5 + exp(log(2)) }' > "$work/power" 2>&1 || { echo 'uunifast: skipped, no awk with powers'; exit; }
 python3 - "$work" "$program" << 'END'
 import subprocess, sys
 from fractions import Fraction as F
