@@ -11,7 +11,8 @@ set -eu
 program=${1:?no program}
 shift
 [ $# -gt 0 ] || set -- 1 10 100 1000
-example=$(dirname "$0")/../crates/example_runs/data/paper
+here=$(dirname "$0")
+example=$here/../crates/example_runs/data/paper
 ticks=16    # of the published figures
 most=10000  # times finer
 work=$(mktemp -d)

@@ -4,7 +4,7 @@
 # examples Python computes each value from the traces in fractions, and the bound by trying all pairs of corners. The
 # stored picture has to be the one that draw_compare.awk draws.
 program=${1:?no program} cases=0 differ=0
-command -v python3 > /dev/null || { echo 'compare: skipped, no python3'; exit; }
+[ -n "$(command -v python3)" ] || { echo 'compare: skipped, no python3'; exit; }
 data=crates/example_runs/data
 work=$(mktemp -d) || exit 2
 trap 'rm -r "$work"' EXIT
