@@ -5,7 +5,7 @@
 here=$(CDPATH='' cd "$(dirname "$0")" && pwd) || exit 125
 program=$here/crates/rtdvs/out/rtdvs
 [ -f "$program" ] && [ -x "$program" ] && exec "$program" "$@"
-command -v rt > /dev/null || { echo "rtdvs.sh: no $program, and no rt on the path" >&2; exit 125; }
+[ -n "$(command -v rt)" ] || { echo "rtdvs.sh: no $program, and no rt on the path" >&2; exit 125; }
 [ ! -t 2 ] || echo 'rtdvs.sh: no built program, so rt try compiles one; it takes a minute' >&2
 
 # `rt try` runs the program in another folder, so the value of an option that names a file gets this folder's path.

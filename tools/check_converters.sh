@@ -3,19 +3,19 @@
 # Without traces they are those of the examples, and what PROGRAM migrates of those that lie beside their tasks.
 # It needs python3, by which the waves are read; where GTKWave's vcd2fst and fst2vcd are, or sigrok-cli, by these too.
 # Whole numbers are compared exactly. A decimal number may differ by the last digit that the converter prints.
-here=$(dirname "$0")/../examples bad=0
+top=$(dirname "$0")/.. bad=0
 : "${AWK:=awk}"
 [ -x "${1:?no program}" ] || { echo "no program: $1"; exit 2; }
 program=$1
 shift
-command -v python3 > /dev/null || { echo 'converters: skipped, no python3'; exit 0; }
+[ -n "$(command -v python3)" ] || { echo 'converters: skipped, no python3'; exit 0; }
 work=$(mktemp -d) || exit 2
 trap 'rm -r "$work"' EXIT
 trap 'exit 2' HUP INT PIPE TERM
 
 # The traces of the examples, in both versions where the tasks and the machine have their usual names.
 if [ $# -eq 0 ]; then
-    data=$here/../crates/example_runs/data
+    data=$top/crates/example_runs/data
     set -- "$data"/*/*.trace
     for trace; do
         folder=$(dirname "$trace")
@@ -27,11 +27,11 @@ if [ $# -eq 0 ]; then
     done
 fi
 
-convert() { $AWK -v table="$2" -f "$here/$1.awk" "$trace" > "$work/$3" || { echo "$trace: $1.awk fails"; bad=1; }; }
+convert() { $AWK -v table="$2" -f "$top/examples/$1.awk" "$trace" > "$work/$3" || { echo "$trace: $1.awk fails"; bad=1; }; }
 # The input isn't a whole trace: a converter says so in one line, writes nothing else and ends with 1.
 refuses() {
     for script in segments perfetto vcd; do
-        $AWK -f "$here/$script.awk" "$work/in" > "$work/out" 2> "$work/err"
+        $AWK -f "$top/examples/$script.awk" "$work/in" > "$work/out" 2> "$work/err"
         [ $? = 1 ] && [ ! -s "$work/out" ] && [ "$(wc -l < "$work/err")" -eq 1 ] || { echo "$script.awk accepts $1"; bad=1; }
     done
 }
@@ -47,12 +47,12 @@ for trace; do
     convert vcd '' waves.vcd
     python3 -m json.tool "$work/events.json" "$work/out" || { echo "$trace: not JSON"; bad=1; }
     rm -f "$work/fst.vcd" "$work/samples.csv"
-    if command -v vcd2fst > /dev/null && command -v fst2vcd > /dev/null; then
+    if [ -n "$(command -v vcd2fst)" ] && [ -n "$(command -v fst2vcd)" ]; then
         vcd2fst "$work/waves.vcd" "$work/waves.fst" > "$work/out" && fst2vcd "$work/waves.fst" > "$work/fst.vcd" ||
             { echo "$trace: not a value change dump"; bad=1; }
     fi
     sample=$(sample "$trace")
-    if [ "$sample" -lt 2147483648 ] && command -v sigrok-cli > /dev/null; then
+    if [ "$sample" -lt 2147483648 ] && [ -n "$(command -v sigrok-cli)" ]; then
         sigrok-cli -i "$work/waves.vcd" -I "vcd:downsample=$sample" -O csv:label=channel:header=false \
             > "$work/samples.csv" || { echo "$trace: sigrok-cli fails"; bad=1; }
     fi

@@ -3,7 +3,7 @@
 # of a page leads to a file of the package. It needs dpkg-deb.
 cd "$(dirname "$0")/.." || exit 2
 [ -x "${1:?no program}" ] || { echo "no program: $1"; exit 2; }
-command -v dpkg-deb > /dev/null || { echo 'package: skipped, no dpkg-deb'; exit 0; }
+[ -n "$(command -v dpkg-deb)" ] || { echo 'package: skipped, no dpkg-deb'; exit 0; }
 top=$PWD work=$(mktemp -d) cases=0 bad=0
 trap 'rm -r "$work"' EXIT
 trap 'exit 2' HUP INT PIPE TERM
@@ -49,7 +49,7 @@ holds 'needs more than the C library' only_libc
 holds 'the program' cmp "$root/bin/rtdvs" "$1"
 holds 'the first call' first_call
 holds 'the man page' man_page
-! command -v bash > /dev/null || holds 'the completion' completion "$root/share/bash-completion/completions/rtdvs"
+[ -z "$(command -v bash)" ] || holds 'the completion' completion "$root/share/bash-completion/completions/rtdvs"
 holds 'links of pages' links
 
 echo "package: $cases cases, $bad differ"

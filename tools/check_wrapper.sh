@@ -5,7 +5,7 @@
 cd "$(dirname "$0")/.." || exit 2
 [ -x "${1:?no program}" ] || { echo "no program: $1"; exit 2; }
 program=$(cd "$(dirname "$1")" && pwd)/$(basename "$1")
-top=$PWD work=$(mktemp -d) cases=0 bad=0
+top=$PWD devices=/dev work=$(mktemp -d) cases=0 bad=0
 trap 'rm -r "$work"' EXIT
 trap 'exit 2' HUP INT PIPE TERM
 
@@ -20,7 +20,7 @@ cp crates/example_runs/data/paper/*.* "$work/a b"
 ln -s "$program" "$work/built/crates/rtdvs/out/rtdvs"
 for tool in sh dirname mktemp sed cat rm env; do ln -s "$(command -v $tool)" "$work/tools/$tool"; done
 cat > "$work/stand-in/rt" << END
-#!/bin/sh
+#!$(command -v sh)
 [ "\$1 \$2 \$3 \$4" = 'try --seconds 3600 --' ] && [ -d ../../crates/rtdvs ] || exit 2
 shift 4
 cd "$work/away" || exit 2
@@ -75,7 +75,7 @@ compare $example run --probes --ticks 16 --governor cc --scheduler edf --machine
 compare crates admit --tasks "$work/a b/tasks.toml" --machine "../../a b/machine.toml" --scheduler rm
 compare "../a b" replay --tasks tasks.toml --machine machine.toml --trace edf_la_with_demands.trace
 compare "../a b" replay --tasks tasks.toml --machine machine.toml --trace edf_none.trace
-compare $example response --tasks /dev/stdin --machine machine.toml
+compare $example response --tasks $devices/stdin --machine machine.toml
 compare $example constrain --tasks ../deadlines/tasks.toml --machine machine.toml --deadlines ../deadlines/deadlines.csv
 compare crates/example_runs/data/server poll --tasks tasks.toml --machine machine.toml --requests requests.csv --server s \
     --scheduler edf --governor none --ticks 15
@@ -94,7 +94,7 @@ compare .
 cd "$work/bare" || exit 2
 PATH=$work/tools call none sh rtdvs.sh least --units 1
 leaves none 125 '' 'no rt on the path'
-{ echo '#!/bin/sh'; echo 'echo run=no-answer proved=no >&2; exit 6'; } > "$work/stand-in/rt"
+{ echo "#!$(command -v sh)"; echo 'echo run=no-answer proved=no >&2; exit 6'; } > "$work/stand-in/rt"
 PATH=$work/stand-in:$work/tools call unanswered sh rtdvs.sh least --units 1
 leaves unanswered 125 '' '^run=no-answer proved=no$'
 
