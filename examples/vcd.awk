@@ -1,7 +1,8 @@
-# A trace of either version as a value change dump, for GTKWave and other wave viewers: awk -f vcd.awk FILE > FILE.vcd
-# Each task has two wires: `runs`, and `open` from a job's release until its end. Above them are idle time, the number
-# of the job that runs (0 where none), the speed, the published demand and the energy so far. A tick is a microsecond.
-# Plain POSIX awk. Checked by tools/check_converters.sh: vcd2fst reads the waves, and their sums are those of the trace.
+# A trace of either version as a value change dump, for GTKWave and sigrok: awk -f vcd.awk FILE > FILE.vcd
+# A task `t1` has the wires `t1`, which is 1 while it runs, and `t1/open`, from a job's release until its end. Beside
+# them are idle time, the number of the job that runs (0 where none), the speed, the published demand and the energy so
+# far. These numbers are reals: libsigrok reads no further than a vector of several bits. A tick is a microsecond.
+# Plain POSIX awk. Checked by tools/check_converters.sh: the sums of the waves that readers find are those of the trace.
 
 function add(line) { lines[count++] = line }
 function move(moment) { if (moment != now) add("#" moment); now = moment }
@@ -11,10 +12,9 @@ function time(position,    place, digits) {
     digits = sprintf("%06.0f", place[2] > 0 ? place[2] * 1000000 / speed : 0)
     return place[1] > 0 ? place[1] digits : sprintf("%.0f", ("1" digits) - 1000000)
 }
-function bits(number,    text) { do text = number % 2 text; while (number = int(number / 2)); return text }
 function task(name) { if (!(name in wires)) { wires[name] = ++tasks; names[tasks] = name }; return wires[name] }
 function segment(number, job, energy) {
-    move(time($2)); add("b" bits(job) " j")
+    move(time($2)); add("r" job " j")
     if (number != running) add("0r" running "\n1r" number)
     running = number; spent += energy
     move(time($3)); add(sprintf("r%.15g e", spent))
@@ -30,11 +30,11 @@ $1 == "idle" { segment(0, 0, $5) }
 $1 == "done" { move(time($2)); add("0o" task($3)) }
 END {
     if (frame !~ /^trace [12] plan end $/) { print "vcd.awk: no whole trace" | "cat 1>&2"; exit 1 }
-    print "$timescale 1 ps" wire "r0 idle" end "$var integer 32 j job" \
-        real "s speed" real "d demand" real "e energy $end"
+    print "$timescale 1 ps" wire "r0 idle" real "j job" real "s speed" real "d demand" real "e energy" \
+        end "$scope module tasks $end"
     for (i = 1; i <= tasks; i++)
-        print "$scope module " names[i] wire "r" i " runs" wire "o" i " open" end "$upscope $end"
-    print "$enddefinitions $end\n#0\n$dumpvars\n1r0\nb0 j\nr0 s\nr0 d\nr0 e"
+        print "$var wire 1 r" i " " names[i] wire "o" i " " names[i] "/open $end"
+    print "$upscope $end\n$enddefinitions $end\n#0\n$dumpvars\n1r0\nr0 j\nr0 s\nr0 d\nr0 e"
     for (i = 1; i <= tasks; i++) print "0r" i "\n0o" i
     for (i = 0; i < count; i++) print lines[i]
 }

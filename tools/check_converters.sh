@@ -1,21 +1,21 @@
 # check_converters.sh PROGRAM [TRACE..]: reads what the converters make of traces, and compares it with the traces:
 #     AWK=mawk sh tools/check_converters.sh crates/rtdvs/out/rtdvs
 # Without traces they are those of the examples, and what PROGRAM migrates of those that lie beside their tasks.
-# It needs python3. The waves go through vcd2fst and fst2vcd of GTKWave, and are read as they are where there is none.
+# It needs python3, by which the waves are read; where GTKWave's vcd2fst and fst2vcd are, or sigrok-cli, by these too.
 # Whole numbers are compared exactly. A decimal number may differ by the last digit that the converter prints.
-here=$(dirname "$0")/../examples bad=0
+top=$(dirname "$0")/.. bad=0
 : "${AWK:=awk}"
 [ -x "${1:?no program}" ] || { echo "no program: $1"; exit 2; }
 program=$1
 shift
-command -v python3 > /dev/null || { echo 'converters: skipped, no python3'; exit 0; }
+[ -n "$(command -v python3)" ] || { echo 'converters: skipped, no python3'; exit 0; }
 work=$(mktemp -d) || exit 2
 trap 'rm -r "$work"' EXIT
 trap 'exit 2' HUP INT PIPE TERM
 
 # The traces of the examples, in both versions where the tasks and the machine have their usual names.
 if [ $# -eq 0 ]; then
-    data=$here/../crates/example_runs/data
+    data=$top/crates/example_runs/data
     set -- "$data"/*/*.trace
     for trace; do
         folder=$(dirname "$trace")
@@ -27,14 +27,16 @@ if [ $# -eq 0 ]; then
     done
 fi
 
-convert() { $AWK -v table="$2" -f "$here/$1.awk" "$trace" > "$work/$3" || { echo "$trace: $1.awk fails"; bad=1; }; }
+convert() { $AWK -v table="$2" -f "$top/examples/$1.awk" "$trace" > "$work/$3" || { echo "$trace: $1.awk fails"; bad=1; }; }
 # The input isn't a whole trace: a converter says so in one line, writes nothing else and ends with 1.
 refuses() {
     for script in segments perfetto vcd; do
-        $AWK -f "$here/$script.awk" "$work/in" > "$work/out" 2> "$work/err"
+        $AWK -f "$top/examples/$script.awk" "$work/in" > "$work/out" 2> "$work/err"
         [ $? = 1 ] && [ ! -s "$work/out" ] && [ "$(wc -l < "$work/err")" -eq 1 ] || { echo "$script.awk accepts $1"; bad=1; }
     done
 }
+# The picoseconds of a sample for sigrok-cli, which takes 2^31 - 1 at most: 20000 samples or fewer in all.
+sample() { awk 'END { printf "%.0f", $2 * 50 + 1 }' "$1"; }
 
 for trace; do
     sed '$d' "$trace" > "$work/in" && refuses "$trace without its last line"
@@ -44,15 +46,19 @@ for trace; do
     convert perfetto '' events.json
     convert vcd '' waves.vcd
     python3 -m json.tool "$work/events.json" "$work/out" || { echo "$trace: not JSON"; bad=1; }
-    if command -v vcd2fst > /dev/null && command -v fst2vcd > /dev/null; then
-        vcd2fst "$work/waves.vcd" "$work/waves.fst" > "$work/out" && fst2vcd "$work/waves.fst" > "$work/waves.txt" ||
+    rm -f "$work/fst.vcd" "$work/samples.csv"
+    if [ -n "$(command -v vcd2fst)" ] && [ -n "$(command -v fst2vcd)" ]; then
+        vcd2fst "$work/waves.vcd" "$work/waves.fst" > "$work/out" && fst2vcd "$work/waves.fst" > "$work/fst.vcd" ||
             { echo "$trace: not a value change dump"; bad=1; }
-    else
-        cp "$work/waves.vcd" "$work/waves.txt"
+    fi
+    sample=$(sample "$trace")
+    if [ "$sample" -lt 2147483648 ] && [ -n "$(command -v sigrok-cli)" ]; then
+        sigrok-cli -i "$work/waves.vcd" -I "vcd:downsample=$sample" -O csv:label=channel:header=false \
+            > "$work/samples.csv" || { echo "$trace: sigrok-cli fails"; bad=1; }
     fi
     python3 - "$trace" "$work" << 'END' || bad=1
-import csv, json, sys
-from collections import defaultdict
+import csv, json, os, sys
+from collections import Counter, defaultdict
 from fractions import Fraction as F
 
 name, work = sys.argv[1:]
@@ -134,35 +140,66 @@ for name_of, column in ("speed", "speed"), ("demand", "quotient"):
     same(f"counts of the {name_of}", [count for count in counts if count[0] == name_of],
          [(name_of, int(row["tick"]), F(row[column])) for row in decisions])
 
-scope, wires, value, now = [], {}, {}, 0
-areas = defaultdict(F)  # the sum of each wire's values, each times the ticks that it lasts
-for word in (line.split() for line in open(f"{work}/waves.txt") if line.strip()):
-    if word[0] in ("$scope", "$upscope"):
-        scope = word[2:3] if word[0] == "$scope" else []
-    elif word[0] == "$var":
-        wires[word[3]] = (*scope, word[4])
-    elif word[0][0] == "#":
-        for wire in value:
-            areas[wires[wire]] += value[wire] * F(int(word[0][1:]) - now, 10**6)
-        now = int(word[0][1:])
-    elif word[0][0] in "rb":
-        value[word[1]] = F(word[0][1:]) if word[0][0] == "r" else int(word[0][1:], 2)
-    elif word[0][1:] in wires:
-        value[word[0][1:]] = int(word[0][0])
-energy = next(value[wire] for wire in value if wires[wire] == ("energy",))
-same("last time of the waves", now, ticks * 10**6)
-same("energy of the waves", energy, run_energy + idle_energy, energy / 10**12)
-same("wave of the speed", areas[("speed",)], sum(int(row["units"]) for row in rows))
-ends = [int(row["tick"]) for row in decisions[1:]] + [ticks]
-wanted = sum(F(int(row["num"]), int(row["den"])) * (end - int(row["tick"])) for row, end in zip(decisions, ends))
-same("wave of the demand", areas[("demand",)], wanted, wanted / 10**8)
-wanted = sum(F(int(row["units"]), int(row["speed"])) * int(row["job"] or 0) for row in rows)
-same("wave of the job", areas[("job",)], wanted, STEP * sum(int(row["job"] or 0) for row in rows))
-for task in track.values():
-    parts = sum(1 for row in rows if row["task"] == task)
-    same(f"wave of {task}", areas[(task, "runs") if task else ("idle",)], ran[task], STEP * parts)
-    spans = [F(row["done"] or ticks) - releases[key] for key, row in jobs.items() if key[0] == task]
-    same(f"open jobs of {task}", areas[task, "open"], sum(spans), STEP * len(spans))
+# The waves of a file: of each wire, by its scopes and its name, the pairs of a time and the value from then on.
+def waves(file):
+    scope, wires, now = [], {}, 0
+    for word in (line.split() for line in open(f"{work}/{file}") if line.strip()):
+        if word[0] == "$scope":
+            scope.append(word[2])
+        elif word[0] == "$upscope":
+            scope.pop()
+        elif word[0] == "$var":
+            same(f"kind of {word[4]}", word[1:3] in (["wire", "1"], ["real", "64"]), True)
+            wires[word[3]] = (*scope, word[4]), []
+        elif word[0][0] == "#":
+            now = int(word[0][1:])
+        elif word[0][0] == "r":
+            wires[word[1]][1].append((now, F(word[0][1:])))
+        elif word[0][1:] in wires:
+            wires[word[0][1:]][1].append((now, int(word[0][0])))
+    return {wire: changes + [(now, changes[-1][1])] for wire, changes in wires.values()}
+
+# The sum of a wire's values, each times the samples that it lasts.
+def area(changes, sample=1):
+    return sum(old * (after // sample - before // sample) for (before, old), (after, _) in zip(changes, changes[1:]))
+
+def check_waves(file):
+    found = waves(file)
+    def of(*wire):
+        return F(area(found[wire]), 10**6)
+    energy = found[("energy",)][-1][1]
+    same(f"wires of {file}", sorted(found), sorted(
+        [(wire,) for wire in ("idle", "job", "speed", "demand", "energy")] +
+        [("tasks", task + end) for task in track.values() if task for end in ("", "/open")]))
+    same(f"last time of {file}", found[("idle",)][-1][0], ticks * 10**6)
+    same("energy of the waves", energy, run_energy + idle_energy, energy / 10**12)
+    same("wave of the speed", of("speed"), sum(int(row["units"]) for row in rows))
+    ends = [int(row["tick"]) for row in decisions[1:]] + [ticks]
+    wanted = sum(F(int(row["num"]), int(row["den"])) * (end - int(row["tick"])) for row, end in zip(decisions, ends))
+    same("wave of the demand", of("demand"), wanted, wanted / 10**8)
+    wanted = sum(F(int(row["units"]), int(row["speed"])) * int(row["job"] or 0) for row in rows)
+    same("wave of the job", of("job"), wanted, STEP * sum(int(row["job"] or 0) for row in rows))
+    parts = Counter(row["task"] for row in rows)
+    same("wave of idle time", of("idle"), ran[""], STEP * parts[""])
+    for task in filter(None, track.values()):
+        same(f"wave of {task}", of("tasks", task), ran[task], STEP * parts[task])
+        same(f"open jobs of {task}", of("tasks", task + "/open"), sum(spans[task]), STEP * len(spans[task]))
+    return found
+
+spans = defaultdict(list)
+for key, row in jobs.items():
+    spans[key[0]].append(F(row["done"] or ticks) - releases[key])
+found = check_waves("waves.vcd")
+if os.path.exists(f"{work}/fst.vcd"):
+    check_waves("fst.vcd")
+if os.path.exists(f"{work}/samples.csv"):
+    sample = ticks * 50 + 1
+    names, *samples = (row for row in csv.reader(open(f"{work}/samples.csv")) if "META" not in row[0])
+    bits = [wire for wire in found if wire == ("idle",) or len(wire) == 2]
+    same("samples of sigrok-cli", len(samples), ticks * 10**6 // sample)
+    same("channels of sigrok-cli", [column.count("1") for column in zip(*samples)],
+         [area(found[wire], sample) for wire in bits])
+    same("names of sigrok-cli", names, [wire[-1] for wire in bits])
 sys.exit(differences > 0)
 END
 done

@@ -1,0 +1,38 @@
+# rtdvs.sh: runs the program from any folder, as `sh rtdvs.sh run --tasks tasks.toml ..`.
+# It takes crates/rtdvs/out/rtdvs where that is built. Else it takes `rt try`, which compiles for a minute, proves nothing
+# and is hundreds of times slower. What is written and the exit status are the program's own in both ways.
+# Where there is no way, or `rt try` doesn't end the program, standard error says so and the status is 125.
+here=$(CDPATH='' cd "$(dirname "$0")" && pwd) || exit 125
+program=$here/crates/rtdvs/out/rtdvs
+[ -f "$program" ] && [ -x "$program" ] && exec "$program" "$@"
+[ -n "$(command -v rt)" ] || { echo "rtdvs.sh: no $program, and no rt on the path" >&2; exit 125; }
+[ ! -t 2 ] || echo 'rtdvs.sh: no built program, so rt try compiles one; it takes a minute' >&2
+
+# `rt try` runs the program in another folder, so the value of an option that names a file gets this folder's path.
+left=$# reads=command
+while [ "$left" -gt 0 ]; do
+    word=$1 left=$((left - 1))
+    shift
+    case $reads:$word in
+    command:*) reads=option ;;
+    option:--tasks | option:--machine | option:--demands | option:--deadlines | option:--requests | option:--trace)
+        reads=file ;;
+    option:--probes) ;;
+    option:--*) reads=value ;;
+    option:*) reads=nothing ;;
+    file:/* | file:) reads=option ;;
+    file:*) reads=option word=$PWD/$word ;;
+    value:*) reads=option ;;
+    esac
+    set -- "$@" "$word"
+done
+
+# Behind the program's own lines on standard error are those of `rt try`; the last one has the program's status.
+notes=$(mktemp) || exit 125
+trap 'rm -f "$notes"' EXIT
+trap 'exit 125' HUP INT PIPE TERM
+cd "$here/crates/rtdvs" && rt try --seconds 3600 -- "$@" 2> "$notes"
+status=$(LC_ALL=C sed -n '$s/^run=ended status=\([0-9]*\) .*/\1/p' "$notes")
+[ -n "$status" ] || { cat "$notes" >&2; exit 125; }
+LC_ALL=C sed -e '/^checked: /d' -e '$d' "$notes" >&2
+exit "$status"

@@ -1,0 +1,111 @@
+# check_wrapper.sh PROGRAM [try]: whether rtdvs.sh leaves what the program leaves: its exit status, its standard output and
+# its standard error. Each call is made by the built program, and by a stand-in for `rt try`, which as the kit's does
+# calls the program in another folder and adds two lines on standard error. With `try` the kit's own makes README's call
+# too, which takes a minute or two.
+cd "$(dirname "$0")/.." || exit 2
+[ -x "${1:?no program}" ] || { echo "no program: $1"; exit 2; }
+program=$(cd "$(dirname "$1")" && pwd)/$(basename "$1")
+top=$PWD devices=/dev work=$(mktemp -d) cases=0 bad=0
+trap 'rm -r "$work"' EXIT
+trap 'exit 2' HUP INT PIPE TERM
+
+# Two trees: one with a built program, and one without. Beside them are the example and a folder with a blank.
+mkdir -p "$work/built/crates/rtdvs/out" "$work/bare/crates/rtdvs" "$work/tools" "$work/stand-in" "$work/away" "$work/a b" || exit 2
+for tree in built bare; do
+    cp rtdvs.sh "$work/$tree"
+    mkdir "$work/$tree/crates/example_runs"
+    cp -R crates/example_runs/data "$work/$tree/crates/example_runs"
+done
+cp crates/example_runs/data/paper/*.* "$work/a b"
+ln -s "$program" "$work/built/crates/rtdvs/out/rtdvs"
+for tool in sh dirname mktemp sed cat rm env; do ln -s "$(command -v $tool)" "$work/tools/$tool"; done
+cat > "$work/stand-in/rt" << END
+#!$(command -v sh)
+[ "\$1 \$2 \$3 \$4" = 'try --seconds 3600 --' ] && [ -d ../../crates/rtdvs ] || exit 2
+shift 4
+cd "$work/away" || exit 2
+env -i "$program" "\$@"
+status=\$?
+echo "checked: ended status=\$status" >&2
+echo "run=ended status=\$status runners=1 proved=no" >&2
+exit \$status
+END
+chmod +x "$work/stand-in/rt"
+first=$(sed -n 's/^    sh rtdvs\.sh //p' README.md | head -n 1)
+example=crates/example_runs/data/paper
+
+# what a call has left in the files NAME.status, NAME.out and NAME.err
+left() { cat "$work/$1.status" "$work/$1.out" "$work/$1.err"; }
+# NAME COMMAND..: makes a call
+call() {
+    name=$1
+    shift
+    "$@" < "$work/in" > "$work/$name.out" 2> "$work/$name.err"
+    echo $? > "$work/$name.status"
+}
+# FOLDER WORDS..: the same call by the program, and by rtdvs.sh of each tree with the stand-in
+compare() {
+    folder=$1
+    shift
+    cd "$work/built/$folder" || exit 2
+    call own "$program" "$@"
+    PATH=$work/tools call built sh "$work/built/rtdvs.sh" "$@"
+    cd "$work/bare/$folder" || exit 2
+    PATH=$work/stand-in:$work/tools call bare sh "$work/bare/rtdvs.sh" "$@"
+    for tree in built bare; do
+        cases=$((cases + 1))
+        [ "$(left $tree)" = "$(left own)" ] && continue
+        echo "wrapper: $tree: $*" && left $tree | head -n 5
+        bad=$((bad + 1))
+    done
+}
+# NAME STATUS OUT ERR: what a call has to leave, with a part of what is on standard error
+leaves() {
+    cases=$((cases + 1))
+    [ "$(cat "$work/$1.status")" = "$2" ] && [ "$(cat "$work/$1.out")" = "$3" ] && grep -q "$4" "$work/$1.err" && return
+    echo "wrapper: $1" && left "$1" | head -n 5
+    bad=$((bad + 1))
+}
+
+cp "$example/tasks.toml" "$work/in"
+eval "compare . $first"
+cases=$((cases + 1))
+cmp "$work/built.out" "$top/$example/edf_cc_with_demands.trace" || bad=$((bad + 1))
+compare $example run --probes --ticks 16 --governor cc --scheduler edf --machine ./machine.toml --tasks ../paper/tasks.toml
+compare crates admit --tasks "$work/a b/tasks.toml" --machine "../../a b/machine.toml" --scheduler rm
+compare "../a b" replay --tasks tasks.toml --machine machine.toml --trace edf_la_with_demands.trace
+compare "../a b" replay --tasks tasks.toml --machine machine.toml --trace edf_none.trace
+compare $example response --tasks $devices/stdin --machine machine.toml
+compare $example constrain --tasks ../deadlines/tasks.toml --machine machine.toml --deadlines ../deadlines/deadlines.csv
+compare crates/example_runs/data/server poll --tasks tasks.toml --machine machine.toml --requests requests.csv --server s \
+    --scheduler edf --governor none --ticks 15
+compare $example poll --tasks tasks.toml --machine machine.toml --requests tasks.toml --server tasks.toml --scheduler edf \
+    --governor none --ticks 15
+compare . least --machine $example/machine.toml --units 28 --ticks 16
+compare . admit --tasks absent --machine $example/machine.toml --scheduler edf
+compare . admit --tasks '' --machine '' --scheduler edf
+compare . admit --tasks --machine --scheduler edf
+compare . run --ticks 0
+compare . run tasks.toml --tasks
+compare . 'a "quoted" $word' '*'
+compare .
+
+# No program and no rt; then an rt that can't answer.
+cd "$work/bare" || exit 2
+PATH=$work/tools call none sh rtdvs.sh least --units 1
+leaves none 125 '' 'no rt on the path'
+{ echo "#!$(command -v sh)"; echo 'echo run=no-answer proved=no >&2; exit 6'; } > "$work/stand-in/rt"
+PATH=$work/stand-in:$work/tools call unanswered sh rtdvs.sh least --units 1
+leaves unanswered 125 '' '^run=no-answer proved=no$'
+
+if [ "${2-}" = try ]; then
+    cp -R "$top/crates.txt" "$top/HANDLES" "$work/bare"
+    (cd "$top" && find crates -name out -prune -o -type f -print | tar cf - -T -) | tar xf - -C "$work/bare"
+    cd "$work/bare" || exit 2
+    eval "call try sh rtdvs.sh $first"
+    leaves try 0 "$(cat "$top/$example/edf_cc_with_demands.trace")" ''
+    cases=$((cases + 1))
+    [ ! -s "$work/try.err" ] || { echo 'wrapper: try: standard error'; bad=$((bad + 1)); }
+fi
+echo "wrapper: $cases cases, $bad differ"
+[ $bad = 0 ]

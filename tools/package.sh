@@ -1,0 +1,61 @@
+# package.sh: makes a Debian package of the built program, its man page, completion, pages and examples:
+#     sh tools/package.sh PROGRAM [FOLDER]
+# It writes rtdvs_VERSION_ARCHITECTURE.deb into FOLDER, or here without one, and prints its name. VERSION and the date of
+# all files are those of the first version of CHANGELOG.md, so the same files give the same package. DEBFULLNAME and
+# DEBEMAIL name the maintainer. In share/doc/rtdvs the pages and examples are in folders of the repository's names.
+set -eu
+[ $# -ge 1 ] && [ -x "$1" ] || { echo "usage: sh tools/package.sh PROGRAM [FOLDER]" >&2; exit 2; }
+program=$(cd "$(dirname "$1")" && pwd)/$(basename "$1")
+folder=$(cd "${2:-.}" && pwd)
+cd "$(dirname "$0")/.."
+
+# The heading `## 1.0 (2026-11-29)`.
+version=$(sed -n 's/^## \([0-9.]*\) (.*/\1/p' CHANGELOG.md | head -n 1)
+date=$(sed -n 's/^## [0-9.]* (\([0-9-]*\))$/\1/p' CHANGELOG.md | head -n 1)
+SOURCE_DATE_EPOCH=$(date -u -d "$date" +%s)
+export SOURCE_DATE_EPOCH
+
+# The program may need the C library alone, and at least of the version whose symbols it names.
+libraries=$(ldd "$program" | awk '$1 !~ /^linux-vdso|^libc\.so\.6$|ld-linux/ { print $1 }')
+[ -z "$libraries" ] || { echo "package.sh: the program needs more than the C library:" $libraries >&2; exit 1; }
+libc=$(grep -ao 'GLIBC_[0-9.]*' "$program" | sed 's/GLIBC_//' | sort -V | tail -n 1)
+
+root=$(mktemp -d)
+trap 'rm -rf "$root"' EXIT
+trap 'exit 2' HUP INT PIPE TERM
+doc=$root/usr/share/doc/rtdvs
+umask 022
+chmod 755 "$root"
+mkdir -p "$root/DEBIAN" "$root/usr/bin" "$root/usr/share/man/man1" "$root/usr/share/bash-completion/completions" \
+    "$doc/docs" "$doc/crates/example_runs"
+cp "$program" "$root/usr/bin/rtdvs"
+gzip -9n < docs/rtdvs.1 > "$root/usr/share/man/man1/rtdvs.1.gz"
+cp examples/rtdvs.bash "$root/usr/share/bash-completion/completions/rtdvs"
+cp README.md CHANGELOG.md "$doc"
+cp docs/*.md "$doc/docs"
+cp -R examples tools "$doc"
+cp -R crates/example_runs/data crates/example_runs/stdout "$doc/crates/example_runs"
+find "$root" -type f -exec chmod 644 {} +
+find "$root" -type d -exec chmod 755 {} +
+chmod 755 "$root/usr/bin/rtdvs"
+
+architecture=$(dpkg --print-architecture)
+cat > "$root/DEBIAN/control" << END
+Package: rtdvs
+Version: $version
+Architecture: $architecture
+Depends: libc6 (>= $libc)
+Maintainer: ${DEBFULLNAME:-nobody} <${DEBEMAIL:-nobody@localhost}>
+Installed-Size: $(find "$root/usr" -type f -printf '%s\n' | awk '{ sum += $1 } END { print int(sum / 1024) + 1 }')
+Section: science
+Priority: optional
+Description: exact schedules and energies of periodic tasks with voltage scaling
+ It decides whether a scheduler (EDF or RM) admits a set of periodic tasks on a
+ processor whose speed and voltage can be changed, and prints the schedule,
+ speeds and energy of a run under one of four governors, in whole numbers.
+END
+find "$root" -exec touch -h -d "@$SOURCE_DATE_EPOCH" {} +
+dpkg-deb --root-owner-group -Zxz -b "$root" "$folder/rtdvs_${version}_$architecture.deb" > "$root.log" ||
+    { cat "$root.log" >&2; rm -f "$root.log"; exit 1; }
+rm -f "$root.log"
+echo "$folder/rtdvs_${version}_$architecture.deb"
