@@ -19,6 +19,7 @@ of a task or machine file is blank, a comment, `[[word]]`, or a word, `=` and a 
 """
 import csv
 import re
+import signal
 import sys
 
 try:
@@ -595,4 +596,6 @@ def main(words):
 
 
 if __name__ == "__main__":
+    if hasattr(signal, "SIGPIPE"):
+        signal.signal(signal.SIGPIPE, signal.SIG_DFL)  # as `| head` expects it
     sys.exit(main(sys.argv[1:]))
