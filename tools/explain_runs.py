@@ -246,21 +246,21 @@ def random_files(rng):
 
 
 def altered(rng, lines):
-    """The trace with a line changed, left out or repeated, and the first line that is then wrong."""
+    """The trace with a line changed, left out or repeated, the first line that is then wrong, and that line's word."""
     notes = [place for place, line in enumerate(lines) if line.split()[0] not in ("trace", "plan", "task")]
     place = rng.choice(notes)
-    how = rng.randint(0, 3)
+    word, how = lines[place].split()[0], rng.randint(0, 3)
     if how == 0:
-        return lines[:place] + lines[place + 1:], place + 1
+        return lines[:place] + lines[place + 1:], place + 1, word
     if how == 1:
-        return lines[:place + 1] + lines[place:], place + 2
+        return lines[:place + 1] + lines[place:], place + 2, word
     text, ends = lines[place], []
     for at in range(len(text) - 1):
         if text[at].isdigit() and text[at + 1] in " :/\n" and text[:at].rstrip("0123456789")[-1] in " :/":
             ends.append(at)
     at = rng.choice(ends)
     digit = str((int(text[at]) + rng.randint(1, 9)) % 10)
-    return lines[:place] + [text[:at] + digit + text[at + 1:]] + lines[place + 1:], place + 1
+    return lines[:place] + [text[:at] + digit + text[at + 1:]] + lines[place + 1:], place + 1, word
 
 
 def random_runs(seed):
@@ -282,7 +282,10 @@ def random_runs(seed):
         else:
             inputs.right(what, lines)
             for _ in range(2 if demands else 0):
-                inputs.wrong(f"{what}, altered", *altered(rng, lines))
+                wrong, wanted, word = altered(rng, lines)
+                inputs.wrong(f"{what}, altered", wrong, wanted)
+                if word != "speed":
+                    inputs.wrong(f"{what}, altered, under --any", wrong, wanted, free=True)
 
 
 def denied(what, inputs, pair):
