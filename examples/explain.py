@@ -558,6 +558,8 @@ def explain(walk, lines, show):
         for number, text in enumerate(lines, 1):
             if not text.endswith("\n"):
                 raise Wrong("it doesn't end with a line feed")
+            if len(text) > 256:
+                raise Wrong("it has more than 255 bytes")
             if in_head:
                 in_head = walk.head(number, text[:-1])
                 continue
@@ -584,7 +586,7 @@ def main(words):
         demands = read_demands(files[3], tasks, machine.charge) if len(files) == 4 else None
         with open(files[2], encoding="latin-1", newline="\n") as lines:
             line, said = explain(Walk(tasks, machine, demands, free), lines, None if quiet else print)
-    except (Unread, OSError, UnicodeDecodeError) as fault:
+    except (Unread, OSError, ValueError, csv.Error) as fault:
         sys.stderr.write(f"{fault}\n")
         return 2
     if line is None:

@@ -195,6 +195,7 @@ def altered_by_hand():
     # Without a demand file t2 may need 11 units more at tick 3, and 15 fit up to tick 8.
     paper.wrong("no completion", edited(lines, {12: None}), 12, "gets 11 units")
     paper.wrong("used", edited(lines, {15: "done 6:0 t3 1 3"}), 15, "has had 4 units")
+    paper.wrong("long", edited(lines, {6: f"speed 0 3 {8 * 10**249}/280"}), 6, "more than 255 bytes")
     paper.wrong("no line feed", lines[:-1] + [lines[-1][:-1]], 33, "line feed")
     paper.wrong("late", LATE.splitlines(True), 13, "t2 job 1 was due at 10", free=True)
     paper.wrong("late at the end", LATE_END.splitlines(True), 13, "t2 job 1 was due at 10", free=True)
