@@ -13,6 +13,7 @@ import sys
 SETS = 450
 PAIRS = ["edf none", "edf static", "edf cc", "edf la", "rm none", "rm static", "rm cc"]
 PERIODS = [1, 2, 3, 4, 5, 6, 8, 10, 12, 15, 20, 24, 30, 40, 60]
+MOST_TICKS = 2**40
 LONG_PERIODS = [2**32, 3 * 2**30, 2**34, 3 * 2**33, 2**38, 5 * 2**32]
 
 program, top = sys.argv[1], pathlib.Path(sys.argv[2])
@@ -243,7 +244,7 @@ def random_files(rng):
         for place, worst in enumerate(worsts):
             for job in (job for job in range(1, 30) if rng.random() < 0.6):
                 file.write(f"t{place},{job},{rng.choice([0, worst, rng.randint(0, worst), rng.randint(0, worst)])}\n")
-    return rng.randint(1, max(2, int(rng.randint(2, 60) / sum(1 / period for period in periods))))
+    return min(MOST_TICKS, rng.randint(1, max(2, int(rng.randint(2, 60) / sum(1 / period for period in periods)))))
 
 
 def altered(rng, lines):
