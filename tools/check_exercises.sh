@@ -1,0 +1,33 @@
+# sh tools/check_exercises.sh PROGRAM: makes each call of examples/exercises/solutions.txt, and compares what it prints
+# and its status with what is stored there. It needs python3, for examples/explain.py.
+case ${1:?no program} in
+/*) program=$1 ;;
+*) program=$PWD/$1 ;;
+esac
+[ -x "$program" ] || { echo "no program: $program"; exit 2; }
+command -v python3 > /dev/null || { echo 'check_exercises: skipped, no python3'; exit 0; }
+top=$(cd "$(dirname "$0")/.." && pwd)
+work=$(mktemp -d) || exit 2
+trap 'rm -r "$work"' EXIT
+trap 'exit 2' HUP INT PIPE TERM
+cd "$work" && ln -s "$program" rtdvs && ln -s "$top/crates" "$top/examples" . || exit 2
+
+calls=0
+grep -v -e '^#' -e '^$' examples/exercises/solutions.txt > wanted
+while IFS= read -r line; do
+    case $line in
+    '$ '*)
+        calls=$((calls + 1))
+        printf '%s\n' "$line"
+        sh -c "${line#??}" < /dev/null 2>&1
+        status=$?
+        [ $status = 0 ] || echo "status $status"
+        ;;
+    esac
+done < wanted > found
+if diff wanted found; then
+    echo "check_exercises: $calls calls, 0 differ"
+else
+    echo "check_exercises: $calls calls, wanted lines are marked <, found lines >"
+    exit 1
+fi
