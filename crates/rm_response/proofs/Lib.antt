@@ -3,3 +3,5 @@ pub mod Knowing
 pub mod Answering
 pub mod Beside
 pub mod Examples
+pub mod LastBefore
+pub mod Deciding

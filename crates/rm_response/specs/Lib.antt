@@ -1,3 +1,4 @@
 pub mod Denials
 pub mod Known
 pub mod Bounds
+pub mod Last

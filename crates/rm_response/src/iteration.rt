@@ -7,10 +7,11 @@ ghost use Rattle.task_model.specs.Tasks.{task_at};
 ghost use Rattle.sched_model.specs.Plan.{plan_of, top_speed};
 ghost use Rattle.sched_model.specs.Priority.{is_up_to};
 ghost use Rattle.governor.specs.Worst.{level_work_in};
-ghost use Rattle.rm_response_laws.specs.Responses.{response, IsUnserved};
+ghost use Rattle.rm_response_laws.specs.Responses.{response, EarlierRespond, IsUnserved};
 ghost use Rattle.rm_response_laws.specs.Bounds.{IsUnservedFrom};
 
 use crate::bound::ticks_beside;
+use crate::search::searched;
 use crate::work::{level_work_in, work_before};
 use freq_table::Machine;
 use grid_fraction::up;
@@ -19,6 +20,9 @@ use task_model::TaskSet;
 
 // More work than a level asks for in any number of ticks up to the longest period that serves it.
 const MOST_SERVED: u128 = 1 << 64;
+
+// The most steps of the iteration for one task; then the search takes over.
+const MOST_STEPS: u32 = 1000;
 
 // Whether task k is task i or comes before it in RM order.
 fn is_up_to(tasks: &TaskSet, i: u32, k: u32) -> bool
@@ -65,6 +69,7 @@ fn next_tick(tasks: &TaskSet, machine: &Machine, ticks: u64, k: u32, i: u32) -> 
 // ticks don't serve its level.
 pub(crate) fn response_of(tasks: &TaskSet, machine: &Machine, from: u64, i: u32) -> u64
     requires task { i < length tasks.now }
+    requires earlier { EarlierRespond (plan_of tasks.now machine.now Rm) i }
     requires some { 1 ≤ from }
     requires unserved { IsUnserved (plan_of tasks.now machine.now Rm) i from }
     ensures { result ≡ response (plan_of tasks.now machine.now Rm) i }
@@ -74,13 +79,18 @@ pub(crate) fn response_of(tasks: &TaskSet, machine: &Machine, from: u64, i: u32)
     let period = tasks.task(i).period;
     let mut at = u128::from(from);
     let mut k = i;
+    let mut steps = 0;
     while at <= u128::from(period) {
+        if steps == MOST_STEPS {
+            return searched(tasks, machine, at as u64, i);
+        }
         let next = next_tick(tasks, machine, at as u64, k, i);
         if next <= at {
             return at as u64;
         }
         at = next;
         k = previous(tasks, k);
+        steps += 1;
     }
     period + 1
 }

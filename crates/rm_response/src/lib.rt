@@ -9,7 +9,9 @@
 
 mod bound;
 mod iteration;
+mod last;
 mod response;
+mod search;
 mod unknown;
 mod work;
 

@@ -13,7 +13,7 @@ use sched_model::{stands_before, worst};
 use task_model::TaskSet;
 
 // The work of the jobs of task j that `ticks` ticks can hold, in work units.
-fn held_work(tasks: &TaskSet, machine: &Machine, ticks: u64, j: u32) -> u128
+pub(crate) fn held_work(tasks: &TaskSet, machine: &Machine, ticks: u64, j: u32) -> u128
     requires ticks { ticks ≤ LONGEST_PERIOD }
     requires task { j < length tasks.now }
     ensures value { result ≡ held_work (plan_of tasks.now machine.now Rm) ticks j }

@@ -1,5 +1,5 @@
 -- Ticks that serve a level are at least those that its work takes beside the rates of some of its tasks.
-use Rattle.std.proofs.Common.{◌≡◌, inl, inr, ℕ, zero, suc, ◌+◌, ◌-◌, ◌*◌, ◌/◌, ◌<◌, ◌≤◌, Bool, true, false, eqb, refl, arith, ap, if◌then◌else◌}
+use Rattle.std.proofs.Common.{◌≡◌, inl, inr, ℕ, suc, ◌+◌, ◌-◌, ◌*◌, ◌/◌, ◌<◌, ◌≤◌, Bool, true, false, eqb, refl, arith, ap, if◌then◌else◌}
 use Rattle.std.proofs.Math.Nat.{mul-le-mul_right}
 use Rattle.std.proofs.lemmas.Bool.{cases_lt, cases_Bool}
 use Rattle.std.proofs.lemmas.Bool.Decides.{nat_tests}
@@ -17,7 +17,7 @@ use Rattle.governor.specs.Worst.{level_work_in}
 use Rattle.governor.proofs.RmLevels.{ceil_covers}
 use Rattle.rm_response_laws.specs.Responses.{response, IsUnserved}
 use Rattle.rm_response_laws.specs.Bounds.{held_work, spare, rest_work, IsUnservedFrom}
-use Rattle.rm_response_laws.proofs.Ceilings.{ceil-least, ceil-some}
+use Rattle.rm_response_laws.proofs.Ceilings.{ceil-some, ceil-within}
 use Rattle.rm_response_laws.proofs.Searching.{before-response}
 use Rattle.rm_response_laws.proofs.Firsts.{some_worst}
 
@@ -29,13 +29,6 @@ rate-held h q d w u e pos =
     let whole : q * d * (ceil_div u d * w) ≡ h * (ceil_div u d * w) = rw e refl in
     omega (arith, m, whole)
 
--- n units that d units a tick do in u ticks take at most u ticks
-ceil-within : (n d u : ℕ) → 0 < d → n ≤ d * u → ceil_div n d ≤ u
-ceil-within n d u pos le = elim (cases_lt u (ceil_div n d)) [
-  | inl above ↦ (let low = ceil-least n d u pos above in absurd (omega arith))
-  | inr most ↦ most
-]
-
 -- more ticks add at least as much to the work of a level as to that of some of its tasks
 term-later : (lv bf : Bool) (x y : ℕ) → (bf ≡ true → lv ≡ true) → x ≤ y
     → (if lv then x else 0) + (if bf then y else 0) ≤ (if lv then y else 0) + (if bf then x else 0)
@@ -45,7 +38,7 @@ term-later false true x y in_level le = (let bad : false ≡ true = in_level ref
 term-later false false x y in_level le = omega arith
 
 -- what the work of u ticks has beside that of some tasks fits into the speed that their rates leave
-spare-does : (r b f h u c : ℕ) → (r + b) * h ≤ f * u * h → u * c ≤ h * b → r * h ≤ (f * h - c) * u
+pub spare-does : (r b f h u c : ℕ) → (r + b) * h ≤ f * u * h → u * c ≤ h * b → r * h ≤ (f * h - c) * u
 spare-does r b f h u c done rates = elim (cases_lt (f * h) c) [
   | inl over ↦
       let none : f * h - c ≡ 0 = omega arith in
@@ -60,7 +53,7 @@ spare-does r b f h u c done rates = elim (cases_lt (f * h) c) [
         omega (arith, whole)
 
 -- where the rates of some tasks leave no speed, their work in u ticks is at least what the speed does in them
-spare-none : (b f h u c : ℕ) → 0 < h → f * h ≤ c → u * c ≤ h * b → f * u ≤ b
+pub spare-none : (b f h u c : ℕ) → 0 < h → f * h ≤ c → u * c ≤ h * b → f * u ≤ b
 spare-none b f h u c some full rates = elim (cases_lt b (f * u)) [
   | inl less ↦
       let more : f * h * u ≤ c * u = mul-le-mul_right u full in
@@ -73,10 +66,10 @@ module _ (p : Plan) (lim : IsWithinLimits p) where
   abbrev before : ℕ → ℕ → ℕ
   before k u = sum_before (count p) (period p) (held_work p u) k
 
-  held-later : (t u j : ℕ) → t ≤ u → j < count p → held_work p t j ≤ held_work p u j
+  pub held-later : (t u j : ℕ) → t ≤ u → j < count p → held_work p t j ≤ held_work p u j
   held-later t u j le h = mul-le-mul_right (worst p j) (ceil-mono t u (period p j) (some_period p lim j h) le)
 
-  rates-held : (k u : ℕ) → u * sum_before (count p) (period p) (rate p) k ≤ hyper p * before k u
+  pub rates-held : (k u : ℕ) → u * sum_before (count p) (period p) (rate p) k ≤ hyper p * before k u
   rates-held k u =
       let n = count p in
       let test : ℕ → Bool = λ j. stands_before (period p) j k in

@@ -7,4 +7,5 @@ pub mod Firsts
 pub mod Responding
 pub mod Iterating
 pub mod Bounding
+pub mod Fitting
 mod Examples

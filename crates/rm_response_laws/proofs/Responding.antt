@@ -16,15 +16,11 @@ use Rattle.sched_model.proofs.ScheduleLemmas.{schedule_exists}
 use Rattle.governor.proofs.Course.{at-schedule}
 use Rattle.governor.specs.Rm.{level}
 use Rattle.governor.proofs.Worst.{worst-within}
-use Rattle.rm_response_laws.specs.Responses.{response, HasResponse, AllRespond, full_worst_ticks, is_first_done, IsFirstDoneAt, MeetsAllDeadlines}
+use Rattle.rm_response_laws.specs.Responses.{response, HasResponse, AllRespond, EarlierRespond, full_worst_ticks, is_first_done, IsFirstDoneAt, MeetsAllDeadlines}
 use Rattle.rm_response_laws.proofs.OneSpeed.{full_ask}
 use Rattle.rm_response_laws.proofs.Keeping.{bounded-met}
 use Rattle.rm_response_laws.proofs.Firsts.{due-zero, worst_ask, IsKept, first-done, first-not_done}
 use Rattle.rm_response_laws.proofs.Searching.{before-response, response-bound}
-
--- the tasks before task i have responses
-abbrev pub EarlierRespond : Plan → ℕ → Type 0
-EarlierRespond p i = (j : ℕ) → j < count p → stands_before (period p) j i ≡ true → HasResponse p j
 
 -- each task of the level of task i but task i itself comes before it
 before-or-last : (p : Plan) (i j : ℕ) → level p i j ≡ true → eqb j i ≡ false → stands_before (period p) j i ≡ true

@@ -6,6 +6,7 @@ use Rattle.sched_model.specs.Ticks.{Tick, is_done, IsMet}
 use Rattle.sched_model.specs.Jobs.{IsWithin, JobDemands, worst_demand}
 use Rattle.sched_model.specs.Schedule.{schedule}
 use Rattle.grid_fraction.specs.Numbers.{first_from}
+use Rattle.sched_model.specs.Priority.{stands_before}
 use Rattle.governor.specs.Worst.{level_work_in}
 
 -- for all demands of the jobs within their worst cases, the schedule with no governor meets every deadline,
@@ -45,3 +46,7 @@ HasResponse p i = response p i ≤ period p i
 -- each task has a response
 abbrev pub AllRespond : Plan → Type 0
 AllRespond p = (i : ℕ) → i < count p → HasResponse p i
+
+-- each task before task i in RM order has a response
+abbrev pub EarlierRespond : Plan → ℕ → Type 0
+EarlierRespond p i = (j : ℕ) → j < count p → stands_before (period p) j i ≡ true → HasResponse p j

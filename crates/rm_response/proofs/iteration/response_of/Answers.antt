@@ -17,6 +17,7 @@ loop-at-preserved c =
           goes_on p c.args.i c.loop-at.at c.next_tick-next.result c.loop-at.invariant.unserved
           c.next_tick-next.ensures.least;
       place = c.previous-k.ensures;
+      few = omega (arith, c.loop-at.invariant.few, c.if-steps-eq-MOST_STEPS.false);
     }
 
 pub returns-then-next-at : goal.returns-then-next-at

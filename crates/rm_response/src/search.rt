@@ -1,0 +1,101 @@
+// The search for the response of a task among the ticks up to its period (after Bini and Buttazzo 2004).
+ghost use Rattle.std.specs.Prelude.{◌≡◌, ◌≤◌, ◌<◌, ◌*◌, ◌^◌, IsTrue, IsFalse, length};
+ghost use Rattle.dvs_base.specs.declared.kind.Scheduler.TheVariants.{Rm};
+ghost use Rattle.task_model.specs.declared.limits.TheConstants.{LONGEST_PERIOD};
+ghost use Rattle.freq_table.specs.Tables.{highest_speed};
+ghost use Rattle.sched_model.specs.Plan.{plan_of};
+ghost use Rattle.rm_response_laws.specs.Responses.{response, EarlierRespond, IsUnserved};
+ghost use Rattle.rm_response_laws.specs.Fitting.{NoneFits, FindsFit};
+
+use crate::bound::ticks_beside;
+use crate::last::last_before;
+use crate::work::{held_work, work_before};
+use freq_table::Machine;
+use sched_model::worst;
+use task_model::TaskSet;
+
+// What the highest speed does in `ticks` ticks, in work units.
+fn done_in(machine: &Machine, ticks: u64) -> u128
+    requires { ticks ≤ LONGEST_PERIOD }
+    ensures value { result ≡ highest_speed machine.now * ticks }
+    ensures low { result ≤ 2 ^ 64 }
+{
+    let _entries = machine.as_slice();
+    u128::from(machine.top()) * u128::from(ticks)
+}
+
+// Whether `rest` units are too many for `most` ticks at the highest speed, or at the speed that the rates of the tasks
+// before task k leave.
+fn is_beyond(tasks: &TaskSet, machine: &Machine, k: u32, rest: u128, most: u64) -> bool
+    requires task { k < length tasks.now }
+    requires some_rest { 1 ≤ rest }
+    requires low_ticks { most ≤ LONGEST_PERIOD }
+    ensures none { IsTrue result → NoneFits (plan_of tasks.now machine.now Rm) k rest most }
+    ensures within { IsFalse result → rest ≤ highest_speed machine.now * most }
+    ensures low { IsFalse result → rest ≤ 2 ^ 64 }
+{
+    let _tasks = tasks.as_slice();
+    let _entries = machine.as_slice();
+    rest > done_in(machine, most) || ticks_beside(tasks, machine, rest, k) > u128::from(most)
+}
+
+// A number of ticks from 1 to `most` into which `rest` units fit beside the work of the tasks before task k, if any.
+// Unless `most` ticks do, the last of these tasks is taken away. As many of its jobs count as begin in `most` ticks, or
+// in the last multiple of its period up to `most`: where the units fit at all, they fit with one of the two.
+fn fitting(tasks: &TaskSet, machine: &Machine, k: u32, rest: u128, most: u64) -> Option<u64>
+    requires task { k < length tasks.now }
+    requires earlier { EarlierRespond (plan_of tasks.now machine.now Rm) k }
+    requires some_rest { 1 ≤ rest }
+    requires low_rest { rest ≤ 2 ^ 102 }
+    requires some_ticks { 1 ≤ most }
+    requires low_ticks { most ≤ LONGEST_PERIOD }
+    ensures { FindsFit (plan_of tasks.now machine.now Rm) k rest most result }
+{
+    let _tasks = tasks.as_slice();
+    let _entries = machine.as_slice();
+    if is_beyond(tasks, machine, k, rest, most) {
+        return None;
+    }
+    let Some(j) = last_before(tasks, k) else {
+        return Some(most);
+    };
+    if rest + work_before(tasks, machine, most, k) <= done_in(machine, most) {
+        return Some(most);
+    }
+    let period = tasks.task(j).period;
+    let whole = most / period * period;
+    let begun = held_work(tasks, machine, most, j);
+    let found = fitting(tasks, machine, j, rest + begun, most);
+    if found.is_some() || whole == 0 || whole == most {
+        return found;
+    }
+    let ended = held_work(tasks, machine, whole, j);
+    fitting(tasks, machine, j, rest + ended, whole)
+}
+
+// The response of task i in ticks; one more than its period where it has none. `from` is a number of ticks, and fewer
+// ticks don't serve its level.
+pub(crate) fn searched(tasks: &TaskSet, machine: &Machine, from: u64, i: u32) -> u64
+    requires task { i < length tasks.now }
+    requires earlier { EarlierRespond (plan_of tasks.now machine.now Rm) i }
+    requires some { 1 ≤ from }
+    requires unserved { IsUnserved (plan_of tasks.now machine.now Rm) i from }
+    ensures { result ≡ response (plan_of tasks.now machine.now Rm) i }
+{
+    let _tasks = tasks.as_slice();
+    let _entries = machine.as_slice();
+    let period = tasks.task(i).period;
+    let job = u128::from(worst(tasks, machine, i));
+    let Some(mut high) = fitting(tasks, machine, i, job, period) else {
+        return period + 1;
+    };
+    let mut low = from;
+    while low < high {
+        let middle = low + (high - low) / 2;
+        match fitting(tasks, machine, i, job, middle) {
+            Some(ticks) => high = ticks,
+            None => low = middle + 1,
+        }
+    }
+    high
+}
