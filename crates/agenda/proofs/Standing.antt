@@ -1,5 +1,5 @@
 -- What a ready queue and a calendar say about the state that they represent, and how they follow its changes.
-use Rattle.std.proofs.Common.{◌≡◌, ◌≢◌, ℕ, ◌+◌, ◌<◌, ◌≤◌, Bool, true, false, not, nat_eq, nat_lt, ◌⊎◌, inl, inr, refl, sym, ap, ap₂, subst, ◌∙◌, arith, if◌then◌else◌, List, [], ◌∷◌, length, true≢false, Option, Some, None, MatchOption, IfSome, slice_get, set, get_or-set_same, get_or-set_other}
+use Rattle.std.proofs.Common.{◌≡◌, ◌≢◌, ℕ, ◌+◌, ◌<◌, ◌≤◌, Bool, true, false, not, nat_eq, nat_lt, ◌⊎◌, inl, inr, refl, sym, ap, ap₂, subst, ◌∙◌, arith, if◌then◌else◌, List, [], ◌∷◌, length, true≢false, Option, Some, None, MatchOption, IfSome, drop, slice_get, set, get_or-set_same, get_or-set_other}
 use Rattle.std.specs.Prelude.{Contains}
 use Rattle.std.proofs.lemmas.Bool.{cases_eq, not-true}
 use Rattle.std.proofs.lemmas.Bool.Decides.{nat_tests}
@@ -17,7 +17,7 @@ use Rattle.sched_model.proofs.Tables.{get-table}
 use Rattle.sched_model.proofs.PriorityLemmas.{before-self, before-not, before-total}
 use Rattle.ready_queue.specs.declared.entry.Entry.{Entry}
 use Rattle.ready_queue.specs.Orders.{due_before}
-use Rattle.ready_queue.specs.Entries.{QueueOf, IsAbsent, placed, ComesFirst}
+use Rattle.ready_queue.specs.Entries.{QueueOf, IsAbsent, IsOfFirst, placed, ComesFirst}
 use Rattle.ready_queue.proofs.Placing.{All-at, Has-contains}
 use Rattle.agenda.specs.declared.agenda.Agenda.{Agenda}
 use Rattle.agenda.specs.Stands.{Stands}
@@ -287,12 +287,16 @@ pub record TakesDue (p : Plan) (s : StateOf) (i : ℕ) (xs rest : List Entry) : 
   pub out : IsAbsent entry.task rest
   pub own : entry.task ≡ i
 
-pub takes-due : (p : Plan) (s : StateOf) (i : ℕ) (xs rest : List Entry) (r : Option Entry) → HoldsCalendar p s xs → NonePast p s → IsFirstDue p s i
-    → MatchOption r ((xs ≡ []) × (rest ≡ [])) (λ e. xs ≡ e ∷ rest) → IfSome r (λ e. ComesFirst due_before e xs) → IfSome r (λ e. IsAbsent e.task rest)
-    → TakesDue p s i xs rest
-takes-due p s i xs rest None h past d e f o =
-    absurd (Has-contains [] (task_entry p s i) (subst (λ (l : List Entry). Contains l (task_entry p s i)) e.0 (h.all i d.below refl)))
-takes-due p s i xs rest (Some x) h past d e f o = record { entry = x; is = e; out = o; own = first-due-own p s xs x h f i past d }
+pub takes-due : (p : Plan) (s : StateOf) (i : ℕ) (xs : List Entry) → IsOfFirst i xs → IsAbsent i (drop 1 xs) → TakesDue p s i xs (drop 1 xs)
+takes-due p s i [] f o = absurd f
+takes-due p s i (x ∷ xs) f o = record { entry = x; is = refl; out = subst (λ (t : ℕ). IsAbsent t xs) (sym f) o; own = f }
+
+-- the first entry of a calendar is that of the first task that is due
+pub first-is-due : (p : Plan) (s : StateOf) (i : ℕ) (xs : List Entry) (r : Option Entry) → HoldsCalendar p s xs → NonePast p s → IsFirstDue p s i
+    → r ≡ slice_get xs 0 → IfSome r (λ e. ComesFirst due_before e xs) → IsOfFirst i xs
+first-is-due p s i [] r h past d e f = absurd (Has-contains [] (task_entry p s i) (h.all i d.below refl))
+first-is-due p s i (x ∷ xs) r h past d e f =
+    first-due-own p s (x ∷ xs) x h (subst (λ (o : Option Entry). IfSome o (λ z. ComesFirst due_before z (x ∷ xs))) e f) i past d
 
 -- the first entry of a ready queue is that of the first task with an incomplete job, and it can be taken out
 pub takes-undone : (p : Plan) (s : StateOf) (i : ℕ) (xs rest : List Entry) (r : Option Entry) (sch : Scheduler) → sch ≡ p.scheduler
@@ -327,37 +331,34 @@ module _ (p : Plan) (s : StateOf) (ready : ReadyOf) (calendar : QueueOf) (h : St
       (stand-finish p s ready calendar h t.entry ready'.entries i t.is t.out t.own (omega (arith, u.below, long)))
 
   -- after a release the new ready queue and the new calendar represent the new state
-  module _ (i : ℕ) (calendar' : QueueOf) (r : Option Entry) (past : NonePast p s) (d : IsFirstDue p s i) (lt : i < length s.rows)
-      (done : (row_at s i).done ≡ true)
-      (limit : calendar'.limit ≡ calendar.limit)
-      (m : MatchOption r ((calendar.entries ≡ []) × (calendar'.entries ≡ [])) (λ e. calendar.entries ≡ e ∷ calendar'.entries))
-      (f : IfSome r (λ e. ComesFirst due_before e calendar.entries)) (o : IfSome r (λ e. IsAbsent e.task calendar'.entries)) where
-    taken : TakesDue p s i calendar.entries calendar'.entries
-    taken = takes-due p s i calendar.entries calendar'.entries r h.releases past d m f o
+  module _ (i : ℕ) (d : IsFirstDue p s i) (lt : i < length s.rows) (done : (row_at s i).done ≡ true)
+      (first : IsOfFirst i calendar.entries) (out : IsAbsent i (drop 1 calendar.entries)) where
+    taken : TakesDue p s i calendar.entries (drop 1 calendar.entries)
+    taken = takes-due p s i calendar.entries first out
 
-    module _ (next : Entry) (calendar'' : QueueOf) (limit' : calendar''.limit ≡ calendar'.limit)
-        (entries : calendar''.entries ≡ placed due_before next calendar'.entries) where
-      as_calendar : (e : Entry) → next ≡ e → calendar'' ≡ record calendar { entries = placed due_before e calendar'.entries }
-      as_calendar e is = ap₂ (λ (l : ℕ) (xs : List Entry). record { limit = l; entries = xs }) (limit' ∙ limit)
-          (entries ∙ ap (λ (x : Entry). placed due_before x calendar'.entries) is)
+    module _ (next : Entry) (calendar' : QueueOf) (limit : calendar'.limit ≡ calendar.limit)
+        (entries : calendar'.entries ≡ placed due_before next (drop 1 calendar.entries)) where
+      as_calendar : (e : Entry) → next ≡ e → calendar' ≡ record calendar { entries = placed due_before e (drop 1 calendar.entries) }
+      as_calendar e is = ap₂ (λ (l : ℕ) (xs : List Entry). record { limit = l; entries = xs }) limit
+          (entries ∙ ap (λ (x : Entry). placed due_before x (drop 1 calendar.entries)) is)
 
       pub after-open : (ready' : ReadyOf) → next ≡ task_entry p (opened p s i false) i
-          → ready' ≡ record ready { entries = placed (before_of ready.scheduler) next ready.entries } → StandFor p (opened p s i false) ready' calendar''
+          → ready' ≡ record ready { entries = placed (before_of ready.scheduler) next ready.entries } → StandFor p (opened p s i false) ready' calendar'
       after-open ready' is put =
           let all : StandFor p (opened p s i false)
           (record ready { entries = placed (before_of p.scheduler) (task_entry p (opened p s i false) i) ready.entries })
-          (record calendar { entries = placed due_before (task_entry p (opened p s i false) i) calendar'.entries }) =
-          stand-opened p s ready calendar h taken.entry calendar'.entries i taken.is taken.out taken.own d.below lt done in
-          subst (λ (q : ReadyOf). StandFor p (opened p s i false) q calendar'')
+          (record calendar { entries = placed due_before (task_entry p (opened p s i false) i) (drop 1 calendar.entries) }) =
+          stand-opened p s ready calendar h taken.entry (drop 1 calendar.entries) i taken.is taken.out taken.own d.below lt done in
+          subst (λ (q : ReadyOf). StandFor p (opened p s i false) q calendar')
           (ap₂ (λ (c : Scheduler) (x : Entry). record ready { entries = placed (before_of c) x ready.entries }) (sym h.scheduler) (sym is) ∙ sym put)
           (subst (λ (q : QueueOf). StandFor p (opened p s i false)
           (record ready { entries = placed (before_of p.scheduler) (task_entry p (opened p s i false) i) ready.entries }) q)
           (sym (as_calendar (task_entry p (opened p s i false) i) is)) all)
 
-      pub after-closed : next ≡ task_entry p (opened p s i true) i → StandFor p (opened p s i true) ready calendar''
+      pub after-closed : next ≡ task_entry p (opened p s i true) i → StandFor p (opened p s i true) ready calendar'
       after-closed is =
           subst (λ (q : QueueOf). StandFor p (opened p s i true) ready q) (sym (as_calendar (task_entry p (opened p s i true) i) is))
-          (stand-closed p s ready calendar h taken.entry calendar'.entries i taken.is taken.out taken.own d.below lt done)
+          (stand-closed p s ready calendar h taken.entry (drop 1 calendar.entries) i taken.is taken.out taken.own d.below lt done)
 
 -- the entry that `renew` puts in is that of the task after its release
 pub opened-entry : (p : Plan) (s : StateOf) (i : ℕ) (done : Bool) (per due : ℕ) → i < length s.rows → per ≡ period p i → due ≡ (row_at s i).deadline

@@ -99,8 +99,8 @@ impl Agenda {
             due: row.deadline + period,
             period,
         };
-        self.calendar.take_first();
-        self.calendar.insert(next);
+        let _first = self.calendar.first();
+        self.calendar.replace_first(next);
         if !done {
             self.ready.insert(next);
             self.left[task as usize] = row.worst;

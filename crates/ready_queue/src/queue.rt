@@ -1,6 +1,6 @@
 // The queue.
-ghost use Rattle.std.specs.Prelude.{◌≡◌, ◌<◌, [], ◌∷◌, length, IfOk, IfSome, MatchOption, slice_get};
-ghost use Rattle.ready_queue.specs.Entries.{IsAbsent, placed, ComesFirst};
+ghost use Rattle.std.specs.Prelude.{◌≡◌, ◌<◌, [], ◌∷◌, length, drop, IfOk, IfSome, MatchOption, slice_get};
+ghost use Rattle.ready_queue.specs.Entries.{IsAbsent, IsOfFirst, placed, ComesFirst};
 
 use crate::heap::{rise, sink};
 use crate::{Entry, Order};
@@ -70,6 +70,17 @@ impl<O: Order> Queue<O> {
         let first = self.heap.swap_remove(0);
         sink(&mut self.heap, &self.order);
         Some(first)
+    }
+
+    /// Replaces the entry that comes before all others by another of the same task.
+    pub fn replace_first(&mut self, e: Entry)
+        requires { IsOfFirst e.task self.old.entries }
+        ensures entries { self.new.entries ≡ placed O.comes_before e (drop 1 self.old.entries) }
+        ensures out { IsAbsent e.task (drop 1 self.old.entries) }
+        ensures limit { self.new.limit ≡ self.old.limit }
+    {
+        self.heap[0] = e;
+        sink(&mut self.heap, &self.order);
     }
 
     /// The number of entries.
