@@ -7,6 +7,7 @@ import copy
 import importlib.util
 import pathlib
 import random
+import re
 import subprocess
 import sys
 
@@ -37,10 +38,6 @@ class Inputs:
         self.machine = explain.Machine(machine)
         self.tasks = explain.read_tasks(tasks, self.machine.charge)
         self.demands = explain.read_demands(demands, self.tasks, self.machine.charge) if demands else None
-        for path in tasks, machine:
-            text = pathlib.Path(path).read_text(encoding="utf-8-sig")
-            if explain.tomllib and explain.plain_toml(text) != explain.tomllib.loads(text):
-                differs(path, "the plain reader reads it otherwise")
 
     def walk(self, lines, known=True, free=False, show=None):
         """The first wrong line and why, or None and the summary."""
@@ -67,19 +64,35 @@ class Inputs:
             differs(what, f"wanted line {wanted} {part}, found line {line}: {said}")
 
 
+def same_readers(*paths):
+    """The reader of plain TOML reads these files as Python's does."""
+    for path in paths:
+        text = pathlib.Path(path).read_text(encoding="utf-8-sig")
+        if explain.tomllib and explain.plain_toml(text) != explain.tomllib.loads(text):
+            differs(path, "the plain reader reads it otherwise")
+
+
 # The traces of the repository
 
 def stored_traces():
+    """The files with a trace."""
+    own = top / "crates" / "rtdvs"
+    trace = (own / "stdout").read_text().splitlines(True)
+    Inputs(own / "data" / "tasks.toml", own / "data" / "machine.toml").right("rtdvs", trace)
+    exercise = top / "examples" / "exercises"
+    trace = (exercise / "solution.trace").read_text().splitlines(True)
+    Inputs(exercise / "tasks.toml", folder("paper")[1], exercise / "demands.csv").right("exercise", trace)
     for trace in sorted(data.glob("*/*.trace")):
         one = trace.stem == "one_task"
         tasks, machine = ("one_task.toml", "one_point.toml") if one else ("tasks.toml", "machine.toml")
         demands = trace.parent / "demands.csv" if "with_demands" in trace.stem else None
+        same_readers(trace.parent / tasks, trace.parent / machine)
         inputs = Inputs(trace.parent / tasks, trace.parent / machine, demands)
         inputs.right(trace, trace.read_text().splitlines(True))
 
 
-def stored_calls():
-    """The `run` calls of calls.txt, with the output that is stored for them."""
+def stored_runs():
+    """The `run` calls of the examples, with the output that is stored for them."""
     for block in (data.parent / "stdout").read_text().split("rtdvs run ")[1:]:
         call, output = block.split("\nstatus ")[0].split("\n", 1)
         words = call.split()
@@ -88,6 +101,41 @@ def stored_calls():
         if lines[0].startswith("trace "):
             demands = data / files["--demands"] if "--demands" in files else None
             Inputs(data / files["--tasks"], data / files["--machine"], demands).right(call, lines)
+
+
+def bytes_of(text):
+    """Text with the escapes of stored_calls, as bytes."""
+    return re.sub(rb"\\(x..|.)", lambda found: bytes([int(found[1][1:], 16)]) if len(found[1]) > 1 else found[1], text)
+
+
+def stored_calls():
+    """The `run` calls of crates/stored_calls over files of its list, with the output that is stored for them."""
+    crate, name, files, calls = top / "crates" / "stored_calls", None, {}, 0
+    block = rb"^rtdvs ?(.*)\n((?:(?:[|!].*|no line feed)\n)*)status (.*)$"
+    blocks = re.findall(block, (crate / "stdout").read_bytes(), re.M)
+    for line in (crate / "data" / "calls.txt").read_bytes().split(b"\n"):
+        if line.startswith(b"file "):
+            name = line[5:].decode()
+            files[name] = b""
+        elif line[:1] in (b"|", b"-"):
+            files[name] += bytes_of(line[1:]) + (b"\n" if line[:1] == b"|" else b"")
+        elif line.startswith(b"call"):
+            called, output, status = blocks[calls]
+            calls += 1
+            if called != line[5:]:
+                differs("stored_calls", f"call {calls} is {called}")
+            words = [word for word in line.decode("latin-1").split(" ")[1:] if word != "--probes"]
+            if words[:1] == ["run"] and status == b"0":
+                stored_call(dict(zip(words[1::2], words[2::2])), files, output)
+    if calls != len(blocks):
+        differs("stored_calls", f"{calls} calls and {len(blocks)} answers")
+
+
+def stored_call(words, files, output):
+    for name, text in files.items():
+        pathlib.Path(name).write_bytes(text)
+    lines = [line[1:] for line in output.decode().splitlines(True) if line.startswith("|")]
+    Inputs(words["--tasks"], words["--machine"], words.get("--demands")).right(f"stored_calls {words}", lines)
 
 
 # Altered by hand: the trace, lines of it with what is there instead, the first wrong line, and a part of the message.
@@ -270,6 +318,7 @@ def random_runs(seed):
     rng = random.Random(seed)
     ticks, demands = random_files(rng), "demands.csv" if rng.random() < 0.75 else None
     inputs = Inputs("tasks.toml", "machine.toml", demands)
+    same_readers("tasks.toml", "machine.toml")
     for pair in PAIRS:
         scheduler, governor = pair.split()
         words = ["run", "--tasks", "tasks.toml", "--machine", "machine.toml", "--ticks", str(ticks)]
@@ -301,7 +350,9 @@ def denied(what, inputs, pair):
 
 def main():
     stored_traces()
-    stored_calls()
+    stored_runs()
+    if explain.tomllib:  # its files are not all plain
+        stored_calls()
     altered_by_hand()
     for seed in range(SETS):
         random_runs(seed)
