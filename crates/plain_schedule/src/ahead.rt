@@ -3,6 +3,7 @@ ghost use Rattle.std.specs.Prelude.{◌≡◌, ◌+◌, ◌-◌, ◌*◌, ◌/�
 ghost use Rattle.std.specs.List.{AllByRecursion};
 ghost use Rattle.dvs_base.specs.Widths.{u64_end};
 ghost use Rattle.dvs_base.specs.declared.kind.Scheduler.TheVariants.{Edf};
+ghost use Rattle.dvs_base.specs.declared.limits.TheConstants.{MOST_TASKS};
 ghost use Rattle.task_model.specs.declared.limits.TheConstants.{LONGEST_PERIOD};
 ghost use Rattle.sched_model.specs.Plan.{count, rate, hyper, top_speed};
 ghost use Rattle.sched_model.specs.Jobs.{deadline, demand_of};
@@ -134,7 +135,7 @@ fn spread_rate(
 fn spread_rates(plan: &Admitted, demands: &Demands, past: &[PlainTick], later: &[u32]) -> u128
     requires list { HasWorstsOf plan.now.tasks demands.now }
     requires below { AllByRecursion (λ i. i < count plan.now) later.now }
-    requires few { length later.now ≤ 64 }
+    requires few { length later.now ≤ MOST_TASKS }
     ensures value { let ticks = reverse past.now in
         result ≡ spread_rates plan.now (λ i. deadline plan.now i (length ticks))
         (wleft plan.now (demand_of plan.now demands.now.rows) ticks) later.now }
@@ -165,7 +166,7 @@ fn kept_back(plan: &Admitted, demands: &Demands, past: &[PlainTick], after: u128
 fn due_first(plan: &Admitted, demands: &Demands, past: &[PlainTick], order: &[u32]) -> u128
     requires list { HasWorstsOf plan.now.tasks demands.now }
     requires below { AllByRecursion (λ i. i < count plan.now) order.now }
-    requires few { length order.now ≤ 64 }
+    requires few { length order.now ≤ MOST_TASKS }
     ensures value { let ticks = reverse past.now in
         result ≡ due_first plan.now (λ i. deadline plan.now i (length ticks))
         (wleft plan.now (demand_of plan.now demands.now.rows) ticks) order.now }

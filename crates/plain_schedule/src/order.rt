@@ -3,6 +3,7 @@ ghost use Rattle.std.specs.Prelude.{◌≡◌, ◌+◌, ◌<◌, ◌≤◌, IfOk
 ghost use Rattle.std.specs.List.{AllByRecursion};
 ghost use Rattle.dvs_base.specs.Widths.{u64_end};
 ghost use Rattle.dvs_base.specs.declared.kind.Scheduler.TheVariants.{Edf};
+ghost use Rattle.dvs_base.specs.declared.limits.TheConstants.{MOST_TASKS};
 ghost use Rattle.grid_fraction.specs.Numbers.{list_below};
 ghost use Rattle.sched_model.specs.Plan.{count};
 ghost use Rattle.sched_model.specs.Jobs.{deadline};
@@ -41,7 +42,7 @@ pub(crate) fn edf_order(alloc: Global, plan: &Admitted, tick: u64) -> Result<Vec
     requires { tick + 1 < u64_end }
     ensures order { IfOk result (λ v. v.items ≡ in_order (key_of Edf plan.now tick) (count plan.now)) }
     ensures below { IfOk result (λ v. AllByRecursion (λ i. i < count plan.now) v.items) }
-    ensures few { IfOk result (λ v. length v.items ≤ 64) }
+    ensures few { IfOk result (λ v. length v.items ≤ MOST_TASKS) }
 {
     let _scheduler = plan.scheduler();
     let mut keys = keys_of(alloc, plan, tick)?;

@@ -7,6 +7,7 @@ use Rattle.std.proofs.lemmas.Nat.{le-div}
 use Rattle.std.proofs.lemmas.List.Elements.{All-from_get_or, All-from_recursion}
 use Rattle.dvs_base.specs.declared.kind.Scheduler.{Scheduler}
 use Rattle.dvs_base.specs.declared.kind.Scheduler.TheVariants.{Edf}
+use Rattle.dvs_base.specs.declared.limits.TheConstants.{MOST_TASKS}
 use Rattle.grid_fraction.specs.Numbers.{list_below, sum_below, ceil_div}
 use Rattle.grid_fraction.specs.Fraction.{divides_all, least_common_multiple}
 use Rattle.grid_fraction.proofs.Multiples.{divides_all-append, le-least_common_multiple}
@@ -41,10 +42,10 @@ share-sum n (suc m) bound f each =
     omega (arith, before, last, mul-add n (sum_below m f) (f m), add-one m, ap (λ k. k * bound) (add-one m), add-mul m 1 bound, one-mul bound)
 
 -- a task's share is at least one unit
-pub share-some : (n period : ℕ) → 1 ≤ n → n ≤ 64 → 20 ≤ period → 1 ≤ share_of n period
+pub share-some : (n period : ℕ) → 1 ≤ n → n ≤ MOST_TASKS → 20 ≤ period → 1 ≤ share_of n period
 share-some n period some few low = le-div 1 (1000 * period) n some (omega arith)
 
-within-share : (n period second : ℕ) → 1 ≤ n → n ≤ 64 → 20 ≤ period → n * (1 + second % share_of n period) ≤ 1000 * period
+within-share : (n period second : ℕ) → 1 ≤ n → n ≤ MOST_TASKS → 20 ≤ period → n * (1 + second % share_of n period) ≤ 1000 * period
 within-share n period second some few low =
     let rest : second % share_of n period < share_of n period = mod-lt second (share-some n period some few low) in
     let whole : n * share_of n period ≤ 1000 * period = mul-div-le (1000 * period) n in
@@ -59,7 +60,7 @@ within-rate n worst period all fits =
     let ticks : period * q ≤ all = mul-div-le all period in
     omega (arith, work, ticks, mul_assoc n worst q, mul_assoc 1000 period q)
 
-module _ (x n : ℕ) (some : 1 ≤ n) (few : n ≤ 64) where
+module _ (x n : ℕ) (some : 1 ≤ n) (few : n ≤ MOST_TASKS) where
   abbrev tasks : List Task
   tasks = made_tasks x n
 

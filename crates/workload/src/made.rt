@@ -1,6 +1,7 @@
 // Generating a workload from a seed.
 ghost use Rattle.std.specs.Prelude.{◌≡◌, ◌<◌, ◌≤◌, ◌*◌, None, length, map, slice_index, IfOk, OnOk};
 ghost use Rattle.dvs_base.specs.declared.kind.Scheduler.TheVariants.{Edf};
+ghost use Rattle.dvs_base.specs.declared.limits.TheConstants.{MOST_TASKS};
 ghost use Rattle.task_model.specs.DemandRows.{named};
 ghost use Rattle.task_model.specs.Tasks.{IsTaskSet};
 ghost use Rattle.demand_list.specs.Demands.{with_row};
@@ -27,7 +28,7 @@ const JOBS: u32 = 4;
 
 // The name of a task: `w` and its number from 1 on.
 fn made_name(task: u32) -> Name
-    requires { task < 64 }
+    requires { task < MOST_TASKS }
     ensures { result ≡ made_name task }
 {
     let mut line = Line::new();
@@ -39,7 +40,7 @@ fn made_name(task: u32) -> Name
 // Task `task` of `count` tasks, by the next two draws.
 fn make_task(draws: &mut Draws, count: u32, task: u32) -> Task
     requires own { task < count }
-    requires few { count ≤ 64 }
+    requires few { count ≤ MOST_TASKS }
     ensures draws { draws.new.state ≡ next_state (next_state draws.old.state) }
     ensures task { result ≡ task_by count task (draw_of (next_state draws.old.state)) (draw_of draws.new.state) }
 {
@@ -55,7 +56,7 @@ fn make_task(draws: &mut Draws, count: u32, task: u32) -> Task
 
 // `count` tasks, by two draws each.
 fn make_tasks(alloc: Global, draws: &mut Draws, count: u32) -> Result<Vec<Task>, NoMemory>
-    requires { count ≤ 64 }
+    requires { count ≤ MOST_TASKS }
     ensures draws { OnOk result (draws.new.state ≡ state_after draws.old.state (2 * count)) }
     ensures tasks { IfOk result (λ tasks. tasks.items ≡ made_tasks draws.old.state count) }
 {
@@ -133,11 +134,11 @@ fn make_machine(alloc: Global) -> Result<Machine, NoMemory>
     Machine::of(alloc, 100, 0, &points)
 }
 
-/// A workload of `tasks` tasks, 1 to 64, with a machine and demands, from a seed: periods in ticks, worst cases and
-/// demands in work units. It fails only where memory runs out.
+/// A workload of `tasks` tasks, 1 to [`MOST_TASKS`](dvs_base::MOST_TASKS), with a machine and demands, from a seed:
+/// periods in ticks, worst cases and demands in work units. It fails only where memory runs out.
 pub fn make(alloc: Global, seed: u64, tasks: u32) -> Result<(TaskSet, Machine, Demands), NoMemory>
     requires some { 1 ≤ tasks }
-    requires few { tasks ≤ 64 }
+    requires few { tasks ≤ MOST_TASKS }
     ensures made { IfOk result (λ made. IsMade seed tasks made.0 made.1 made.2) }
     // The highest speed does the work of each hyperperiod.
     ensures feasible { IfOk result (λ made. IsEdfFeasible (plan_of made.0 made.1 Edf)) }
