@@ -97,27 +97,31 @@ point-table points e note told lt = added-table points e (energy_run note + ener
 none-at-point : (k e : ℕ) (note : Note) → energy_run note + energy_idle note ≡ 0 → energy_at_point k (note, e) ≡ 0
 none-at-point k e note none = grind (arith, nat_tests, none)
 
+-- a note without energy adds to no table
+books-still : (tasks points : ℕ) (told : List Told) (note : Note) (e released finished decisions : ℕ) → energy_run note ≡ 0 → energy_idle note ≡ 0
+    → ((i : ℕ) → energy_of_task i note ≡ 0)
+    → released ≡ count_by is_released (map (λ (t : Told). t.0) told) + (if is_released note then 1 else 0)
+    → finished ≡ count_by is_finished (map (λ (t : Told). t.0) told) + (if is_finished note then 1 else 0)
+    → decisions ≡ count_by is_decided (map (λ (t : Told). t.0) told) + (if is_decided note then 1 else 0)
+    → books_by (sum_by energy_run (map (λ (t : Told). t.0) told)) (sum_by energy_idle (map (λ (t : Told). t.0) told)) released finished decisions
+    (list_below tasks (task_sum tasks points told note e)) (list_below points (point_sum tasks points told note e))
+    ≡ books_of tasks points (told ++ (note, e) ∷ [])
+books-still tasks points told note e released finished decisions run idle task r f d =
+    books-more tasks points told note e _ _ released finished decisions _ _ record {
+      run_is = omega (arith, run);
+      idle_is = omega (arith, idle);
+      released_is = r;
+      finished_is = f;
+      decisions_is = d;
+      by_task_is = same-table tasks _ _ (λ k lt. task k);
+      by_point_is = same-table points _ _ (λ k lt. none-at-point k e note (omega (arith, run, idle)));
+    }
+
 -- the account of some notes, with one more, is the account of all of them
 pub booked-sums : (tasks points : ℕ) (told : List Told) (note : Note) (e : ℕ) → HasTask (books_of tasks points told) note → e < points
     → booked (books_of tasks points told) note e ≡ books_of tasks points (told ++ (note, e) ∷ [])
-booked-sums tasks points told (Release t i k) e h lt = books-more tasks points told (Release t i k) e _ _ _ _ _ _ _ record {
-  run_is = omega arith;
-  idle_is = omega arith;
-  released_is = refl;
-  finished_is = omega arith;
-  decisions_is = omega arith;
-  by_task_is = same-table tasks _ _ (λ k lt. refl);
-  by_point_is = same-table points _ _ (λ k lt. none-at-point k e (Release t i k) refl);
-}
-booked-sums tasks points told (Speed t f num den) e h lt = books-more tasks points told (Speed t f num den) e _ _ _ _ _ _ _ record {
-  run_is = omega arith;
-  idle_is = omega arith;
-  released_is = omega arith;
-  finished_is = omega arith;
-  decisions_is = refl;
-  by_task_is = same-table tasks _ _ (λ k lt. refl);
-  by_point_is = same-table points _ _ (λ k lt. none-at-point k e (Speed t f num den) refl);
-}
+booked-sums tasks points told (Release t i k) e h lt = books-still tasks points told (Release t i k) e _ _ _ refl refl (λ k. refl) refl (omega arith) (omega arith)
+booked-sums tasks points told (Speed t f num den) e h lt = books-still tasks points told (Speed t f num den) e _ _ _ refl refl (λ k. refl) (omega arith) (omega arith) refl
 booked-sums tasks points told (Run from to i k units energy) e h lt = books-more tasks points told (Run from to i k units energy) e _ _ _ _ _ _ _ record {
   run_is = refl;
   idle_is = omega arith;
@@ -139,24 +143,8 @@ booked-sums tasks points told (Idle from to units energy) e h lt = books-more ta
   by_point_is = (let e : 0 + energy ≡ energy = omega arith in ap (raised (list_below points (λ k. sum_by (energy_at_point k) told)) _) (sym e))
       ∙ point-table points e (Idle from to units energy) told lt;
 }
-booked-sums tasks points told (Done q i k used) e h lt = books-more tasks points told (Done q i k used) e _ _ _ _ _ _ _ record {
-  run_is = omega arith;
-  idle_is = omega arith;
-  released_is = omega arith;
-  finished_is = refl;
-  decisions_is = omega arith;
-  by_task_is = same-table tasks _ _ (λ k lt. refl);
-  by_point_is = same-table points _ _ (λ k lt. none-at-point k e (Done q i k used) refl);
-}
-booked-sums tasks points told (End t run idle) e h lt = books-more tasks points told (End t run idle) e _ _ _ _ _ _ _ record {
-  run_is = omega arith;
-  idle_is = omega arith;
-  released_is = omega arith;
-  finished_is = omega arith;
-  decisions_is = omega arith;
-  by_task_is = same-table tasks _ _ (λ k lt. refl);
-  by_point_is = same-table points _ _ (λ k lt. none-at-point k e (End t run idle) refl);
-}
+booked-sums tasks points told (Done q i k used) e h lt = books-still tasks points told (Done q i k used) e _ _ _ refl refl (λ k. refl) (omega arith) refl (omega arith)
+booked-sums tasks points told (End t run idle) e h lt = books-still tasks points told (End t run idle) e _ _ _ refl refl (λ k. refl) (omega arith) (omega arith) (omega arith)
 
 -- an account that had the sums over some notes has, after one more, the sums over them and it
 pub sums-after : (old new : Books) (note : Note) (e : ℕ) → HasTask old note → e < length old.by_point → new ≡ booked old note e
@@ -176,17 +164,10 @@ no-books tasks points = ap₂ (books_by 0 0 0 0 0) (zeros-table tasks) (zeros-ta
 
 -- a note changes neither the number of tasks nor that of entries
 pub booked-tasks : (b : Books) (note : Note) (e : ℕ) → length (booked b note e).by_task ≡ length b.by_task
-booked-tasks b (Release t i k) e = refl
-booked-tasks b (Speed t f num den) e = refl
 booked-tasks b (Run from to i k units energy) e = length-set b.by_task i (get_or b.by_task i 0 + energy)
-booked-tasks b (Idle from to units energy) e = refl
-booked-tasks b (Done q i k used) e = refl
-booked-tasks b (End t run idle) e = refl
+booked-tasks b _ e = refl
 
 pub booked-points : (b : Books) (note : Note) (e : ℕ) → length (booked b note e).by_point ≡ length b.by_point
-booked-points b (Release t i k) e = refl
-booked-points b (Speed t f num den) e = refl
 booked-points b (Run from to i k units energy) e = length-set b.by_point e (get_or b.by_point e 0 + energy)
 booked-points b (Idle from to units energy) e = length-set b.by_point e (get_or b.by_point e 0 + energy)
-booked-points b (Done q i k used) e = refl
-booked-points b (End t run idle) e = refl
+booked-points b _ e = refl

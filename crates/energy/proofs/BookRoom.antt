@@ -31,12 +31,8 @@ task-most i (t ∷ told) =
     )
   where
     one : (n : Note) → energy_of_task i n ≤ energy_run n
-    one (Release tick j k) = omega arith
-    one (Speed tick speed num den) = omega arith
     one (Run from to j k units energy) = grind (arith, nat_tests)
-    one (Idle from to units energy) = omega arith
-    one (Done q j k used) = omega arith
-    one (End ticks run idle) = omega arith
+    one _ = omega arith
 
 -- the energy at an entry is at most that of all segments
 point-most : (e : ℕ) (told : List Told) → sum_by (energy_at_point e) told ≤ sum_by energy_run (noted told) + sum_by energy_idle (noted told)

@@ -63,11 +63,9 @@ module _ (p : Plan) where
 
       of : (m : Note) → IsNoteIn p m → HasTask (books_of (count p) points h.told) m
       of (Release tick i k) l = omega (arith, l, long)
-      of (Speed tick speed num den) l = tt
       of (Run from to i k units energy) l = omega (arith, l, long)
-      of (Idle from to units energy) l = tt
       of (Done q i k used) l = omega (arith, l, long)
-      of (End ticks total rest) l = tt
+      of _ l = tt
 
   -- notes that fit can all be added to the account, and it has them then
   pub book-all : (ns : List Note) (b : Books) (notes : List Note) (e : ℕ) → HasBooked p b notes → AreBooked p (notes ++ ns) → e < points

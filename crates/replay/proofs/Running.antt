@@ -2,27 +2,24 @@
 use Rattle.std.proofs.Common.{◌≡◌, List, ◌∙◌, sym, subst}
 use Rattle.std.specs.Prelude.{Option}
 use Rattle.dvs_base.specs.declared.note.Note.{Note}
-use Rattle.sched_model.specs.Plan.{Plan}
-use Rattle.sched_model.specs.Admission.{IsWithinLimits}
 use Rattle.governor.specs.Meanings.{OwnDemand}
 use Rattle.governor.specs.Schedule.{ask_of}
 use Rattle.event_kernel.specs.Heard.{HasHeard, HasBalked}
 use Rattle.event_kernel.specs.Runs.{Run, demands_of, run_ticks, notes_of_run}
 use Rattle.trace_reader.specs.Traces.{TraceOf, is_end, IsEnded}
-use Rattle.done_lines.proofs.OneEnd.{EndsOnce, schedule-ended}
-use Rattle.replay.proofs.Comparing.{HeardNext, HeardOther, StoppedAt, ended-once, heard-same, balked-first}
+use Rattle.done_lines.proofs.OneEnd.{schedule-ended}
+use Rattle.replay.proofs.Comparing.{HeardNext, HeardOther, StoppedAt, heard-same, balked-first}
 
--- the run, by a governor's own demand, of a plan within the limits; the trace; and the listener before and after
+-- the run, by a governor's own demand; the trace; and the listener before and after
 module _ {L : Type 0} (rest : L → List Note) (wanted : L → Option Note)
-    (demand : OwnDemand) (run : Run) (p : Plan) (lim : IsWithinLimits p) (plan_is : run.plan ≡ p)
-    (t : TraceOf) (ended : IsEnded t.notes) (from to : L) (notes_are : rest from ≡ t.notes) where
-  once : EndsOnce is_end (notes_of_run demand run)
+    (demand : OwnDemand) (run : Run) (t : TraceOf) (ended : IsEnded t.notes) (from to : L) (notes_are : rest from ≡ t.notes) where
+  once : IsEnded (notes_of_run demand run)
   once =
       let dem = demands_of run.plan run.demands in
       schedule-ended run.plan dem (ask_of demand run.plan dem) (run_ticks demand run)
 
-  ends : EndsOnce is_end (rest from)
-  ends = subst (EndsOnce is_end) (sym notes_are) (ended-once t.notes ended)
+  ends : IsEnded (rest from)
+  ends = subst IsEnded (sym notes_are) ended
 
   -- where the listener heard all notes, they are those of the trace
   pub run-same : HasHeard (HeardNext rest wanted) from (notes_of_run demand run) to → t.notes ≡ notes_of_run demand run

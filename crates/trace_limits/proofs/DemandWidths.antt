@@ -75,11 +75,7 @@ module _ (p : Plan) (adm : IsAdmitted p) (dem : JobDemands) (within : IsWithin p
       }
 
   charged-most : (i : ℕ) → i < count p → charged p dem past i ≤ worst p i
-  charged-most i lt = go (is_complete p dem past i)
-    where
-      go : (b : Bool) → (if b then dem i (latest p i (length past)) else worst p i) ≤ worst p i
-      go true = within.most i (latest p i (length past)) lt
-      go false = omega arith
+  charged-most i lt = grind (arith, within.most i (latest p i (length past)) lt)
 
   edf-cycle-low : p.scheduler ≡ Edf → IsLow (edf_cycle p dem past)
   edf-cycle-low e =
@@ -101,11 +97,7 @@ module _ (p : Plan) (adm : IsAdmitted p) (dem : JobDemands) (within : IsWithin p
       )
 
   allotted-most : (v : SinceRelease) (i : ℕ) → allotment_left_of p v i ≤ units_at_mark p v
-  allotted-most v i = go (v.done i)
-    where
-      go : (b : Bool) → (if b then 0 else allotted_of p v i - v.had i) ≤ units_at_mark p v
-      go true = omega arith
-      go false = omega arith
+  allotted-most v i = grind arith
 
   rm-cycle-low : IsLow (rm_cycle p dem past)
   rm-cycle-low =
@@ -133,11 +125,7 @@ module _ (p : Plan) (adm : IsAdmitted p) (dem : JobDemands) (within : IsWithin p
   first-most due left (i ∷ is) = omega (arith, first-most due left is)
 
   left-most : (i : ℕ) → i < count p → wleft p dem past i ≤ 2 ^ 61
-  left-most i lt = go (is_complete p dem past i)
-    where
-      go : (b : Bool) → (if b then 0 else worst p i - exec p past i (latest p i (length past))) ≤ 2 ^ 61
-      go true = omega arith
-      go false = omega (arith, low_worst p adm.limits i lt)
+  left-most i lt = grind (arith, low_worst p adm.limits i lt)
 
   edf-ahead-low : IsLow (edf_ahead p dem past)
   edf-ahead-low =

@@ -24,28 +24,18 @@ use Rattle.sched_model.proofs.ScheduleLemmas.{length-list_below, schedule_exists
 use Rattle.trace_text.proofs.PlainLines.{each-append}
 use Rattle.dvs_base.specs.NoteTasks.{energy_of_task}
 use Rattle.trace_reader.specs.TraceText.{task_text, task_energy, has_task_lines}
-use Rattle.trace_reader.specs.Traces.{IsNoteOf, is_end, IsEnded, lines_for_tasks, IsTrace}
+use Rattle.trace_reader.specs.Traces.{IsNoteOf, lines_for_tasks, IsTrace}
 use Rattle.done_lines.specs.RunText.{task_texts}
 use Rattle.sched_model.proofs.Units.{each-weaker}
-use Rattle.done_lines.proofs.OneEnd.{EndsOnce, schedule-ended}
+use Rattle.done_lines.proofs.OneEnd.{schedule-ended}
 use Rattle.trace_limits.specs.RunTraces.{trace_of_run, IsLimitedRun, KeepsLimits}
 use Rattle.trace_limits.proofs.DemandWidths.{published-low}
 use Rattle.done_lines.proofs.FewLines.{has-few-notes}
 use Rattle.trace_limits.proofs.NoteWidths.{most_energy, IsLowNote, notes-low}
 
--- a list of notes whose last one alone is an end is ended
-once-ended : (notes : List Note) → EndsOnce is_end notes → IsEnded notes
-once-ended [] once = once
-once-ended (n ∷ []) once = once
-once-ended (n ∷ m ∷ notes) once = (once.0, once-ended (m ∷ notes) once.1)
-
 -- the energy that a note adds to one task is at most that of its run
 own-most : (i : ℕ) (n : Note) → energy_of_task i n ≤ energy_run n
-own-most i (Run from to j k units energy) = go (nat_eq j i)
-  where
-    go : (b : Bool) → (if b then energy else 0) ≤ energy
-    go true = omega arith
-    go false = omega arith
+own-most i (Run from to j k units energy) = grind arith
 own-most i _ = omega arith
 
 -- the most notes of a trace: the most lines without the first two and without two for each task
@@ -122,11 +112,7 @@ module _ (v : Version) (p : Plan) (g : GovernorKind) (dem : JobDemands) (ticks :
   listed = length-list_below (count p) (λ i. task_text (name_of (names p) i) (period p i) (offset p i) (task p i).worst)
 
   lines-low : lines_for_tasks v (length (names p)) (length (task_texts p)) ≤ 2 * MOST_TASKS
-  lines-low = by (has_task_lines v)
-    where
-      by : (b : Bool) → (if b then length (task_texts p) + length (names p) else 0) ≤ 2 * MOST_TASKS
-      by true = omega (arith, named, listed, adm.limits.tasks.few)
-      by false = omega arith
+  lines-low = grind (arith, named, listed, adm.limits.tasks.few)
 
   -- the trace of the run, in either version, is within the limits of traces
   trace-fits : IsTrace (names p) (task_texts p) (trace_of_run v p g dem ticks)
@@ -139,9 +125,7 @@ module _ (v : Version) (p : Plan) (g : GovernorKind) (dem : JobDemands) (ticks :
         (each-append (IsNoteOf (count p)) notes (last ∷ [])
         (each-weaker (IsLowNote p) (IsNoteOf (count p)) (λ n h. h.0) notes each-low)
         ((omega (arith, long, run.low_ticks), run-low, idle-low), tt));
-    ended =
-        once-ended (notes ++ last ∷ [])
-        (schedule-ended p dem (published p g dem) past);
+    ended = schedule-ended p dem (published p g dem) past;
     shares = λ _ i lt. shares-low i;
     lines = omega (arith, lines-low, few-lines);
   }
