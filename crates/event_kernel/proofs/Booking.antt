@@ -11,11 +11,10 @@ use Rattle.sched_model.specs.Plan.{Plan, count}
 use Rattle.sched_model.specs.Notes.{energy_run, energy_idle}
 use Rattle.sched_model.specs.Totals.{totals_of}
 use Rattle.sched_model.proofs.ScheduleLemmas.{length-list_below}
-use Rattle.done_lines.proofs.SpanNotes.{IsNoteIn}
+use Rattle.done_lines.proofs.FewNotes.{IsNoteIn}
 use Rattle.energy.specs.Books.{Books, Told, books_of, booked, energy_at_point, HasTask, HasRoom}
 use Rattle.dvs_base.specs.NoteTasks.{energy_of_task}
-use Rattle.energy.proofs.BookLemmas.{booked-sums}
-use Rattle.energy.proofs.BookRoom.{has-room, task-sums}
+use Rattle.energy.proofs.Books.{booked-sums, has-room, task-sums}
 use Rattle.event_kernel.specs.SpanNotes.{all_booked, CanBook, HasBooked}
 use Rattle.event_kernel.proofs.Fitting.{AreBooked}
 

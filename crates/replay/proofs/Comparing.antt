@@ -1,4 +1,4 @@
--- What a listener that compares notes has heard, and where it stopped.
+-- What a listener that compares the notes of a run has heard, and where it stopped.
 use Rattle.std.proofs.Common.{◌≡◌, ◌+◌, ◌-◌, ◌≤◌, ℕ, Bool, true, false, inl, inr, List, [], ◌∷◌, ◌++◌, length, refl, if◌then◌else◌, ap, ap₂, ◌∙◌, sym, subst, true≢false, append-nil, arith}
 use Rattle.std.specs.Prelude.{unwrap_or, Option, Some, None, Ok, Err}
 use Rattle.dvs_base.specs.declared.note.Note.{Note}
@@ -6,9 +6,12 @@ use Rattle.dvs_base.specs.declared.note.Note.TheVariants.{Release, Speed, Run, I
 use Rattle.sched_model.specs.Totals.{totals_of}
 use Rattle.event_kernel.specs.Heard.{HasHeard, HasBalked}
 use Rattle.trace_reader.specs.Traces.{TraceOf, is_end, IsEnded}
-use Rattle.done_lines.proofs.OneEnd.{whole-prefix}
+use Rattle.done_lines.proofs.OneEnd.{whole-prefix, schedule-ended}
 use Rattle.replay.specs.Comparing.{same_note, IsOther, first_unequal, differs, unless_unequal, compared}
 use Rattle.replay.specs.declared.fault.ReplayFault.{ReplayFault}
+use Rattle.governor.specs.Meanings.{OwnDemand}
+use Rattle.governor.specs.Schedule.{ask_of}
+use Rattle.event_kernel.specs.Runs.{Run, demands_of, run_ticks, notes_of_run}
 
 -- a note is equal to itself
 pub same-self : (n : Note) → same_note n n ≡ true
@@ -126,3 +129,23 @@ pub compared-same : (tasks : ℕ) (t : TraceOf) (notes : List Note) → t.notes 
 compared-same tasks t notes is =
     subst (λ (l : List Note). compared tasks t l ≡ Ok (totals_of l)) is
     (rw (unequal-self 0 t.notes) refl)
+
+-- the run, by a governor's own demand; the trace; and the listener before and after
+module _ {L : Type 0} (rest : L → List Note) (wanted : L → Option Note)
+    (demand : OwnDemand) (run : Run) (t : TraceOf) (ended : IsEnded t.notes) (from to : L) (notes_are : rest from ≡ t.notes) where
+  once : IsEnded (notes_of_run demand run)
+  once =
+      let dem = demands_of run.plan run.demands in
+      schedule-ended run.plan dem (ask_of demand run.plan dem) (run_ticks demand run)
+
+  ends : IsEnded (rest from)
+  ends = subst IsEnded (sym notes_are) ended
+
+  -- where the listener heard all notes, they are those of the trace
+  pub run-same : HasHeard (HeardNext rest wanted) from (notes_of_run demand run) to → t.notes ≡ notes_of_run demand run
+  run-same h = sym notes_are ∙ heard-same rest wanted from (notes_of_run demand run) to once ends h
+
+  -- where the listener stopped, it stopped at the first unequal note
+  pub run-stopped : HasBalked (HeardNext rest wanted) (HeardOther rest wanted) from (notes_of_run demand run) to
+      → StoppedAt rest wanted 0 from (notes_of_run demand run) to
+  run-stopped h = balked-first rest wanted 0 from (notes_of_run demand run) to once ends h

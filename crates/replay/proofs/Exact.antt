@@ -11,7 +11,7 @@ use Rattle.dvs_base.specs.declared.note.Totals.{Totals}
 use Rattle.dvs_base.specs.declared.limits.TheConstants.{MOST_JOBS}
 use Rattle.task_model.specs.DemandRows.{DemandRow}
 use Rattle.sched_model.specs.Plan.{Plan, count, worst}
-use Rattle.sched_model.specs.Jobs.{released_jobs, demand_of}
+use Rattle.sched_model.specs.Jobs.{JobDemands, released_jobs, demand_of}
 use Rattle.sched_model.specs.Totals.{totals_of}
 use Rattle.sched_model.specs.Admission.{IsWithinLimits}
 use Rattle.trace_reader.specs.Traces.{TraceOf, is_end, IsEnded}
@@ -175,7 +175,7 @@ other-fault why line w f is memory = cc
 module _ (p : Plan) (lim : IsWithinLimits p) (asked : Asking) (t : TraceOf) (ends : IsEnded t.notes) where
   once : IsEnded (own_notes p asked t)
   once =
-      let own : ℕ → ℕ → ℕ = demand_of p (fixed_of p t.notes) in
+      let own : JobDemands = demand_of p (fixed_of p t.notes) in
       schedule-ended p own (asked own) (ticks_by p asked own t.plan.ticks)
 
   -- a trace passes where no end is over its worst case, the jobs are few, and its notes are those of its own list

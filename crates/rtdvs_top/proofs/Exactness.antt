@@ -27,8 +27,8 @@ use Rattle.trace_reader.proofs.ShortTexts.{text-short}
 use Rattle.trace_reader.proofs.TraceTexts.{reads-found, reads-only, version-lines}
 use Rattle.replay_laws.specs.FixedDemands.{fixed_of}
 use Rattle.replay_laws.proofs.Owning.{own-lists}
-use Rattle.trace_limits.specs.RunTraces.{trace_of_run}
-use Rattle.trace_limits.proofs.TraceLimits.{keeps-limits}
+use Rattle.done_lines.specs.RunTraces.{trace_of_run}
+use Rattle.done_lines.proofs.TraceLimits.{keeps-limits}
 use Rattle.replay.specs.Replays.{replay_of}
 use Rattle.replay.proofs.Exact.{some-replayed, is-replayed}
 use Rattle.replay.proofs.Texts.{names-distinct, names-named}
