@@ -2,7 +2,6 @@ pub mod Lines
 pub mod CornerLemmas
 pub mod Pairs
 pub mod Costs
-pub mod FirstPair
 pub mod FirstFound
 pub mod ScheduleCosts
 pub mod Certifying

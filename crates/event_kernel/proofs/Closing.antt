@@ -9,6 +9,7 @@ use Rattle.dvs_base.specs.declared.note.Note.TheVariants.{End}
 use Rattle.dvs_base.specs.declared.note.Totals.{Totals}
 use Rattle.dvs_base.specs.declared.limits.TheConstants.{MOST_TICKS}
 use Rattle.sched_model.specs.Plan.{Plan}
+use Rattle.sched_model.specs.Jobs.{JobDemands}
 use Rattle.sched_model.specs.Schedule.{schedule_by}
 use Rattle.sched_model.specs.Decision.{is_decision}
 use Rattle.sched_model.specs.Ticks.{Tick}
@@ -72,7 +73,7 @@ first-between {demand} {set} {s} e =
     )
 
 -- the notes of a span can be added to the account, and it has them then
-pub span-booked : (demand : Plan → StateOf → Frac) (p : Plan) (dem : ℕ → ℕ → ℕ) → IsAdmitted p → ((i : ℕ) → dem i 0 ≡ 0) → (t t' : ℕ)
+pub span-booked : (demand : Plan → StateOf → Frac) (p : Plan) (dem : JobDemands) → IsAdmitted p → ((i : ℕ) → dem i 0 ≡ 0) → (t t' : ℕ)
     (ns : List Note) (b : Books) (e : ℕ) → t' ≤ MOST_TICKS → notes_before demand p dem t' ≡ notes_before demand p dem t ++ ns
     → HasBooked p b (notes_before demand p dem t) → e < length p.machine.points
     → CanBook b ns e × HasBooked p (all_booked b ns e) (notes_before demand p dem t')

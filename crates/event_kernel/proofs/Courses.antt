@@ -3,7 +3,7 @@ use Rattle.std.proofs.Common.{◌≡◌, ℕ, ◌+◌, ◌<◌, ◌≤◌, ◌�
 use Rattle.grid_fraction.specs.declared.Frac.{Frac}
 use Rattle.sched_model.specs.Plan.{Plan, count, worst}
 use Rattle.sched_model.specs.Ticks.{exec}
-use Rattle.sched_model.specs.Jobs.{IsWithin}
+use Rattle.sched_model.specs.Jobs.{JobDemands, IsWithin}
 use Rattle.sched_model.specs.Schedule.{schedule_by, IsScheduleBy}
 use Rattle.sched_model.specs.States.{StateOf}
 use Rattle.sched_model.proofs.ScheduleLemmas.{schedule_exists}
@@ -11,7 +11,7 @@ use Rattle.sched_model.proofs.Service.{exec-most}
 use Rattle.governor.specs.Schedule.{ask_of, course}
 use Rattle.event_kernel.specs.Tickwork.{tick_at}
 
-module _ (demand : Plan → StateOf → Frac) (p : Plan) (dem : ℕ → ℕ → ℕ) (t : ℕ) where
+module _ (demand : Plan → StateOf → Frac) (p : Plan) (dem : JobDemands) (t : ℕ) where
   pub course-next : course demand p dem (t + 1) ≡ tick_at demand p dem t ∷ course demand p dem t
   unfolding schedule_by
   course-next = ap (course demand p dem) (add-one t)

@@ -11,7 +11,7 @@ use Rattle.sched_model.specs.declared.holder.Holder.{Holder}
 use Rattle.sched_model.specs.declared.holder.Holder.TheVariants.{Nobody, Held}
 use Rattle.grid_fraction.specs.Numbers.{sum_below, any_below, list_below}
 use Rattle.sched_model.specs.Plan.{Plan, count, worst}
-use Rattle.sched_model.specs.Jobs.{latest, due}
+use Rattle.sched_model.specs.Jobs.{JobDemands, latest, due}
 use Rattle.sched_model.specs.Ticks.{Tick, exec, left, share}
 use Rattle.sched_model.specs.Priority.{in_order, key_of, stands_before, sum_before}
 use Rattle.sched_model.specs.Greedy.{IsFirstOpen}
@@ -93,7 +93,7 @@ count_run i k j l m b e =
 pub count_idle : (i k m : ℕ) → count_by (same_holder (Held i k)) (replicate m Nobody) ≡ 0
 count_idle i k m = sum_by-replicate (λ h. if same_holder (Held i k) h then 1 else 0) m Nobody ∙ omega arith
 
-module _ (p : Plan) (dem : ℕ → ℕ → ℕ) (past : List Tick) where
+module _ (p : Plan) (dem : JobDemands) (past : List Tick) where
   abbrev pub job : ℕ → ℕ
   job i = latest p i (length past)
 

@@ -13,8 +13,8 @@ use Rattle.sched_model.specs.declared.holder.Holder.{Holder}
 use Rattle.sched_model.specs.declared.holder.Holder.TheVariants.{Nobody, Held}
 use Rattle.event_kernel.proofs.Bounds.{Bounds, bounds}
 use Rattle.sched_model.specs.Plan.{Plan, count, period, point}
-use Rattle.sched_model.specs.Jobs.{latest, due, releases_at, is_release}
-use Rattle.sched_model.specs.Ticks.{Tick, at, exec, IsMet}
+use Rattle.sched_model.specs.Jobs.{JobDemands, latest, due, releases_at, is_release}
+use Rattle.sched_model.specs.Ticks.{PublishedDemand, Tick, at, exec, IsMet}
 use Rattle.sched_model.specs.Decision.{is_decision}
 use Rattle.sched_model.specs.Schedule.{entry_in_force, schedule_by}
 use Rattle.sched_model.specs.Notes.{Span, spans_of, pieces_of, same_holder, position_of, all_release_notes, span_notes, segment_notes, notes_before_end}
@@ -43,12 +43,12 @@ use Rattle.agenda.specs.Agenda.{NonePast}
 use Rattle.event_kernel.proofs.Releasing.{prior-past}
 use Rattle.freq_table.specs.Tables.{lowest_entry}
 
-pub start_decision : (demand : Plan → StateOf → Frac) (p : Plan) (dem : ℕ → ℕ → ℕ) → is_decision p dem (course demand p dem zero) ≡ true
+pub start_decision : (demand : Plan → StateOf → Frac) (p : Plan) (dem : JobDemands) → is_decision p dem (course demand p dem zero) ≡ true
 unfolding schedule_by
 start_decision demand p dem = refl
 
-module _ (demand : Plan → StateOf → Frac) (p : Plan) (dem : ℕ → ℕ → ℕ) where
-  abbrev pub asks : List Tick → Frac
+module _ (demand : Plan → StateOf → Frac) (p : Plan) (dem : JobDemands) where
+  abbrev pub asks : PublishedDemand
   asks = ask_of demand p dem
 
   -- the last span of the ticks up to t has the units of tick t

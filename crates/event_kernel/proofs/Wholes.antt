@@ -27,8 +27,7 @@ use Rattle.sched_model.proofs.Tables.{get-table, length-list_below}
 use Rattle.governor.specs.Schedule.{ask_of}
 use Rattle.done_lines.specs.LineCounts.{AreFew}
 use Rattle.done_lines.specs.RunText.{task_texts, run_lines}
-use Rattle.done_lines.proofs.FewLines.{has-few-notes}
-use Rattle.done_lines.proofs.SpanNotes.{IsNoteIn}
+use Rattle.done_lines.proofs.FewNotes.{has-few-notes, IsNoteIn}
 use Rattle.trace_reader.specs.TraceText.{LineOf, plain, noted, task_energy, task_text, share_text, shares_from, for_tasks, head_lines, lines_of_note, note_lines, text_of_lines}
 use Rattle.probes.specs.Tallies.{ProbeOf}
 use Rattle.event_kernel.specs.Lines.{most_lines, WritesLines}

@@ -11,7 +11,7 @@ use Rattle.sched_model.specs.declared.state.Row.{Row}
 use Rattle.sched_model.specs.declared.holder.Holder.{Holder}
 use Rattle.sched_model.specs.declared.holder.Holder.TheVariants.{Nobody, Held}
 use Rattle.sched_model.specs.Plan.{Plan, count, worst, point}
-use Rattle.sched_model.specs.Jobs.{due, latest}
+use Rattle.sched_model.specs.Jobs.{JobDemands, due, latest}
 use Rattle.sched_model.specs.Ticks.{Tick, exec, left, share}
 use Rattle.sched_model.specs.Priority.{in_order, key_of, allotment}
 use Rattle.sched_model.specs.Decision.{completes_in}
@@ -40,7 +40,7 @@ use Rattle.event_kernel.proofs.Courses.{course-next, course-len, exec-within}
 use Rattle.event_kernel.proofs.Entering.{Shows, enters}
 use Rattle.event_kernel.proofs.Handing.{raised, sum-raised, key, job, had, units_by, given_units-same, given_row, ends_in, Handing, start, start-units, row-is, shows, first-open, none-open, gives, gives-units, gives-had, count_idle}
 
-module _ (demand : Plan → StateOf → Frac) (p : Plan) (dem : ℕ → ℕ → ℕ) (t : ℕ) where
+module _ (demand : Plan → StateOf → Frac) (p : Plan) (dem : JobDemands) (t : ℕ) where
   abbrev pub past : List Tick
   past = course demand p dem t
 

@@ -10,10 +10,9 @@ use Rattle.trace_reader.specs.TraceText.{text_of_lines}
 use Rattle.done_lines.specs.RunText.{run_lines}
 use Rattle.sched_model.specs.Admission.{IsWithinLimits}
 use Rattle.governor.specs.Schedule.{ask_of}
-use Rattle.replay_laws.proofs.Alike.{IsBlind}
+use Rattle.replay_laws.proofs.SameCourse.{IsBlind, blind-own}
 use Rattle.replay_laws.specs.FixedDemands.{fixed_of}
 use Rattle.replay_laws.specs.OwnList.{Asking, ticks_by, notes_by, AreOwn, HasOwnList, TextHasOwnList, OwnLists}
-use Rattle.replay_laws.proofs.SameState.{blind-own}
 use Rattle.replay_laws.proofs.BlindDemands.{blind-published}
 use Rattle.replay_laws.proofs.OwnDemands.{looks-at-none, own-notes}
 use Rattle.replay_laws.proofs.SameLists.{has-same-notes}

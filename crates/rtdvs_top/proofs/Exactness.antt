@@ -27,10 +27,9 @@ use Rattle.trace_reader.proofs.ShortTexts.{text-short}
 use Rattle.trace_reader.proofs.TraceTexts.{reads-found, reads-only, version-lines}
 use Rattle.replay_laws.specs.FixedDemands.{fixed_of}
 use Rattle.replay_laws.proofs.Owning.{own-lists}
-use Rattle.trace_limits.specs.RunTraces.{trace_of_run}
-use Rattle.trace_limits.proofs.TraceLimits.{keeps-limits}
+use Rattle.done_lines.specs.RunTraces.{trace_of_run}
+use Rattle.done_lines.proofs.TraceLimits.{keeps-limits}
 use Rattle.replay.specs.Replays.{replay_of}
-use Rattle.replay.proofs.Comparing.{ended-once}
 use Rattle.replay.proofs.Exact.{some-replayed, is-replayed}
 use Rattle.replay.proofs.Texts.{names-distinct, names-named}
 use Rattle.words.specs.Commands.{TracedOf, CommandOf, traced}
@@ -87,7 +86,7 @@ module _ (r : TracedOf) (files : Files) (v : Version) (p : Plan) (g : GovernorKi
 
   compared : replay_of p (published p g) t ≡ Ok (totals_of t.notes)
   compared =
-      some-replayed p h.admitted.limits (published p g) t (ended-once t.notes whole.ended)
+      some-replayed p h.admitted.limits (published p g) t whole.ended
       ((own-lists p h.admitted.limits).published_own g) rows (record { within = h.within; notes_are = refl }) h.few
 
   -- it is not too long
@@ -146,7 +145,7 @@ module _ (r : TracedOf) (files : Files) (tasks : List Task) (machine : Table) (b
       let ended = found.0.ended in
       let lim = adm.limits in
       let some = replayed-some (replay_of plan (published plan g) t) ok in
-      let own = is-replayed plan lim (published plan g) t (ended-once t.notes ended) ((own-lists plan lim).published_own g) some.0 some.1 in
+      let own = is-replayed plan lim (published plan g) t ended ((own-lists plan lim).published_own g) some.0 some.1 in
       let same : trace_of_run t.version plan g (demand_of plan (fixed_of plan t.notes)) t.plan.ticks ≡ t =
       ap (with_notes t) (own-notes plan lim t ended ok) in
       let lines = sym (task-lines tasks) in

@@ -13,14 +13,12 @@ use Rattle.sched_model.specs.Demand.{published}
 use Rattle.sched_model.specs.Admission.{IsWithinLimits}
 use Rattle.sched_model.specs.RunNotes.{run_notes}
 use Rattle.done_lines.specs.RunText.{task_texts, run_text_in}
-use Rattle.trace_reader.specs.Traces.{TraceOf, is_end, IsEnded}
+use Rattle.trace_reader.specs.Traces.{TraceOf, IsEnded}
 use Rattle.trace_reader.specs.TraceText.{whole_text}
 use Rattle.replay_laws.specs.FixedDemands.{fixed_of}
-use Rattle.done_lines.proofs.OneEnd.{EndsOnce}
 use Rattle.replay.specs.Replays.{too_many, replay_of}
 use Rattle.replay.specs.declared.fault.ReplayFault.{ReplayFault}
 use Rattle.replay.specs.declared.fault.ReplayFault.TheVariants as replay_fault
-use Rattle.replay.proofs.Comparing.{ended-once}
 use Rattle.replay.proofs.Exact.{Passes, replayed-passes}
 use Rattle.rtdvs_top.specs.Run.{answer_of_plan}
 use Rattle.rtdvs_top.specs.Trace.{totals_or_status, totals_at, migrated_text}
@@ -42,15 +40,12 @@ few-of-none p ticks = go (nat_lt MOST_JOBS (released_jobs p ticks)) refl
     go false e none = grind (arith, nat_tests, e)
 
 module _ (p : Plan) (lim : IsWithinLimits p) (t : TraceOf) (ended : IsEnded t.notes) where
-  pub ends : EndsOnce is_end t.notes
-  ends = ended-once t.notes ended
-
   -- a trace that has totals passes the comparison
-  pub passes : IsOk (totals_at (p, t)) → Passes p lim (published p t.plan.governor) t ends
+  pub passes : IsOk (totals_at (p, t)) → Passes p lim (published p t.plan.governor) t ended
   passes ok =
       let asked = published p t.plan.governor in
       let done = replayed-some (replay_of p asked t) ok in
-      (replayed-passes p lim asked t ends done.0 done.1).0
+      (replayed-passes p lim asked t ended done.0 done.1).0
 
   -- the run for the demands that a trace with totals fixes has the notes of the trace
   pub own-notes : IsOk (totals_at (p, t))

@@ -19,17 +19,16 @@ use Rattle.sched_model.specs.Plan.{Plan, count, period, worst, hyper, rate, top_
 use Rattle.sched_model.specs.Jobs.{JobDemands, latest, deadline, earliest, last_release, IsWithin}
 use Rattle.sched_model.specs.Ticks.{Tick, exec, is_complete, wleft}
 use Rattle.sched_model.specs.Priority.{in_order}
-use Rattle.sched_model.specs.Tests.{total_rate}
+use Rattle.sched_model.specs.Tests.{IsEdfFeasible, IsRmFeasible, total_rate}
 use Rattle.sched_model.specs.StaticDemand.{heaviest, full_demand, static_speed, rm_static}
 use Rattle.sched_model.specs.CycleDemand.{rate_for, charged, SinceRelease, units_at_mark, allotted_of, allotment_left_of, since_release, edf_cycle, rm_cycle}
 use Rattle.sched_model.specs.AheadDemand.{due_first, edf_ahead}
 use Rattle.sched_model.specs.Demand.{demand_by, published}
-use Rattle.sched_model.specs.Admission.{IsAdmitted}
+use Rattle.sched_model.specs.Admission.{IsAdmitted, PassesTest}
 use Rattle.sched_model.proofs.Limits.{low_period, low_worst, low_hyper, deadline-soon}
 use Rattle.sched_model.proofs.JobLaws.{last_release-le}
 use Rattle.sched_model.proofs.OrderLemmas.{sum_list, sum_list-in_order}
 use Rattle.sched_model.proofs.Weights.{heaviest_within}
-use Rattle.governor.proofs.Fits.{full_enough}
 
 -- both numbers of a fraction are below 2^128
 pub record IsLow (d : Frac) : Type 0 where
@@ -58,36 +57,32 @@ module _ (p : Plan) (adm : IsAdmitted p) (dem : JobDemands) (within : IsWithin p
   full-low : IsLow (full_demand p)
   full-low = record { num = omega (arith, low_top); den = omega arith }
 
-  edf-static-low : p.scheduler ≡ Edf → IsLow (record { num = total_rate p; den = hyper p })
-  edf-static-low e = record {
-    num = room (total_rate p) (hyper p) ((full_enough p adm).edf e) (low_hyper p adm.limits);
+  edf-static-low : IsEdfFeasible p → IsLow (record { num = total_rate p; den = hyper p })
+  edf-static-low test = record {
+    num = room (total_rate p) (hyper p) test (low_hyper p adm.limits);
     den = omega (arith, low_hyper p adm.limits);
   }
 
-  rm-static-low : p.scheduler ≡ Rm → IsLow (rm_static p)
-  rm-static-low e =
+  rm-static-low : IsRmFeasible p → IsLow (rm_static p)
+  rm-static-low test =
       let i : ℕ = heaviest p in
       let lt : i < count p = heaviest_within p adm.limits in
       let short : period p i ≤ LONGEST_PERIOD = low_period p adm.limits i lt in
       record {
-        num = room _ (period p i) ((full_enough p adm).rm e i lt) (omega (arith, short));
+        num = room _ (period p i) (test i lt) (omega (arith, short));
         den = omega (arith, short);
       }
 
   charged-most : (i : ℕ) → i < count p → charged p dem past i ≤ worst p i
-  charged-most i lt = go (is_complete p dem past i)
-    where
-      go : (b : Bool) → (if b then dem i (latest p i (length past)) else worst p i) ≤ worst p i
-      go true = within.most i (latest p i (length past)) lt
-      go false = omega arith
+  charged-most i lt = grind (arith, within.most i (latest p i (length past)) lt)
 
-  edf-cycle-low : p.scheduler ≡ Edf → IsLow (edf_cycle p dem past)
-  edf-cycle-low e =
+  edf-cycle-low : IsEdfFeasible p → IsLow (edf_cycle p dem past)
+  edf-cycle-low test =
       let rates : ℕ → ℕ = λ i. rate_for p i (charged p dem past i) in
       let most : sum_below (count p) rates ≤ total_rate p =
       sum_below-le (count p) rates (rate p) (λ i lt. mul-le-mul_right (hyper p / period p i) (charged-most i lt)) in
       record {
-        num = room (sum_below (count p) rates) (hyper p) (omega (arith, most, (full_enough p adm).edf e)) (low_hyper p adm.limits);
+        num = room (sum_below (count p) rates) (hyper p) (omega (arith, most, test)) (low_hyper p adm.limits);
         den = omega (arith, low_hyper p adm.limits);
       }
 
@@ -101,11 +96,7 @@ module _ (p : Plan) (adm : IsAdmitted p) (dem : JobDemands) (within : IsWithin p
       )
 
   allotted-most : (v : SinceRelease) (i : ℕ) → allotment_left_of p v i ≤ units_at_mark p v
-  allotted-most v i = go (v.done i)
-    where
-      go : (b : Bool) → (if b then 0 else allotted_of p v i - v.had i) ≤ units_at_mark p v
-      go true = omega arith
-      go false = omega arith
+  allotted-most v i = grind arith
 
   rm-cycle-low : IsLow (rm_cycle p dem past)
   rm-cycle-low =
@@ -133,11 +124,7 @@ module _ (p : Plan) (adm : IsAdmitted p) (dem : JobDemands) (within : IsWithin p
   first-most due left (i ∷ is) = omega (arith, first-most due left is)
 
   left-most : (i : ℕ) → i < count p → wleft p dem past i ≤ 2 ^ 61
-  left-most i lt = go (is_complete p dem past i)
-    where
-      go : (b : Bool) → (if b then 0 else worst p i - exec p past i (latest p i (length past))) ≤ 2 ^ 61
-      go true = omega arith
-      go false = omega (arith, low_worst p adm.limits i lt)
+  left-most i lt = grind (arith, low_worst p adm.limits i lt)
 
   edf-ahead-low : IsLow (edf_ahead p dem past)
   edf-ahead-low =
@@ -155,16 +142,16 @@ module _ (p : Plan) (adm : IsAdmitted p) (dem : JobDemands) (within : IsWithin p
         den = omega (arith, earliest-soon (length past), few);
       }
 
-  demand-low : (s : Scheduler) → p.scheduler ≡ s → (g : GovernorKind) → IsLow (demand_by s g p dem past)
-  demand-low Edf e Plain = full-low
-  demand-low Rm e Plain = full-low
-  demand-low Edf e Fixed = edf-static-low e
-  demand-low Rm e Fixed = rm-static-low e
-  demand-low Edf e Cycle = edf-cycle-low e
-  demand-low Rm e Cycle = rm-cycle-low
-  demand-low Edf e Ahead = edf-ahead-low
-  demand-low Rm e Ahead = full-low
+  demand-low : (s : Scheduler) → PassesTest s p → (g : GovernorKind) → IsLow (demand_by s g p dem past)
+  demand-low Edf test Plain = full-low
+  demand-low Rm test Plain = full-low
+  demand-low Edf test Fixed = edf-static-low test
+  demand-low Rm test Fixed = rm-static-low test
+  demand-low Edf test Cycle = edf-cycle-low test
+  demand-low Rm test Cycle = rm-cycle-low
+  demand-low Edf test Ahead = edf-ahead-low
+  demand-low Rm test Ahead = full-low
 
   pub published-low : (g : GovernorKind) → IsLow (published p g dem past)
   unfolding published
-  published-low g = demand-low p.scheduler refl g
+  published-low g = demand-low p.scheduler adm.test g
