@@ -102,7 +102,7 @@ for task in range(TASKS):
     for x in (0.05, 0.2, 0.5):
         cases += 1
         chance = (1 - x) ** (TASKS - 1)
-        above = sum(row[task] > x for row in shares)
+        above = sum(row[task] > x for row in shares if len(row) == TASKS)
         if abs(above - SETS * chance) > 4 * sqrt(SETS * chance * (1 - chance)):
             differ(f"task {task + 1}: {above} shares of {SETS} above {x}, wanted about {SETS * chance:.0f}")
 
