@@ -19,7 +19,6 @@ while [ "$left" -gt 0 ]; do
         reads=file ;;
     option:--probes) ;;
     option:--*) reads=value ;;
-    option:*) reads=nothing ;;
     file:/* | file:) reads=option ;;
     file:*) reads=option word=$PWD/$word ;;
     value:*) reads=option ;;
