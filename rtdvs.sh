@@ -9,7 +9,7 @@ program=$here/crates/rtdvs/out/rtdvs
 [ ! -t 2 ] || echo 'rtdvs.sh: no built program, so rt try compiles one; it takes a minute' >&2
 
 # `rt try` runs the program in another folder, so the value of an option that names a file gets this folder's path.
-left=$# reads=command
+left=$# reads='command'
 while [ "$left" -gt 0 ]; do
     word=$1 left=$((left - 1))
     shift
