@@ -1,7 +1,7 @@
 # rtdvs.sh: runs the program from any folder, as `sh rtdvs.sh run --tasks tasks.toml ..`.
-# It takes crates/rtdvs/out/rtdvs where that is built. Else it takes `rt try`, which compiles for a minute, proves nothing
-# and is hundreds of times slower. What is written and the exit status are the program's own in both ways.
-# Where there is no way, or `rt try` doesn't end the program, standard error says so and the status is 125.
+# It calls crates/rtdvs/out/rtdvs where that is built. Else it calls `rt try`, which compiles for a minute, proves nothing
+# and is hundreds of times slower. Both ways leave the program's own output, errors and exit status; `rt try` writes them
+# when the program has ended. Where it has no answer (as for more than 1 MiB) or is missing, the status is 125.
 here=$(CDPATH='' cd "$(dirname "$0")" && pwd) || exit 125
 program=$here/crates/rtdvs/out/rtdvs
 [ -f "$program" ] && [ -x "$program" ] && exec "$program" "$@"

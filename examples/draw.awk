@@ -334,7 +334,7 @@ function lay_out() {
     wide = width - left - larger(20, tick_label / 2)
     set_head()
     least_width = larger(least_width, width + 101 - wide)
-    if (width < least_width) refuse("width has to be at least " whole(least_width) " for these names")
+    if (width < least_width) refuse("width has to be at least " whole(least_width))
     step = step_of(larger(1, int(wide / tick_label)))
     demand_base = floor_of(tasks - 1) + 16
     speed_floor = demand_base + 8 + speed_height(larger(top, peak))
