@@ -420,7 +420,7 @@ function set_head() {
     least_width = larger(320, 20 + length(title()) * TITLE_LETTER)
 }
 
-# A part of so many letters.
+# Adds a part, which shows `letters` letters.
 function add_head(text, letters) {
     if (head_room > 10 && head_room + letters * HEAD_LETTER > width) {
         head_line[++head_lines] = ""
