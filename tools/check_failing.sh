@@ -4,7 +4,7 @@
 [ -x "${1:?no program}" ] || { echo "no program: $1"; exit 2; }
 program=$1
 cd "$(dirname "$0")/.." || exit 2
-command -v cc > /dev/null || { echo 'failing: skipped, no cc'; exit 0; }
+[ -n "$(command -v cc)" ] || { echo 'failing: skipped, no cc'; exit 0; }
 [ "$(uname)" = Linux ] || { echo 'failing: skipped, no LD_PRELOAD'; exit 0; }
 work=$(mktemp -d) || exit 2
 trap 'rm -r "$work"' EXIT
@@ -48,7 +48,7 @@ each() {
     kind=$1 how=$2 n=1
     shift 2
     while
-        FAILS=$kind HOW=$how AT=$n LD_PRELOAD=$work/fails.so "$program" "$@" < /dev/null > "$work/out" 2> "$work/err" 3> "$work/reached"
+        FAILS=$kind HOW=$how AT=$n LD_PRELOAD=$work/fails.so "$program" "$@" > "$work/out" 2> "$work/err" 3> "$work/reached"
         status=$?
         [ -s "$work/reached" ]
     do
