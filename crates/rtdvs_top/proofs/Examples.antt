@@ -120,7 +120,7 @@ read_files files machine tasks found = rw (tasks, found) refl
 no_server : (files : Files) → tasks_at (codes "t") files ≡ Ok later → loads_needed (Some files) (poll_for (codes "b")) ≡ 1
 no_server files tasks = rw tasks refl
 
--- `least` loads its machine alone, whatever it means
+-- `least` loads its machine alone, also where that is refused
 least_alone : (files : Files) (why : Status) → machine_at (codes "m") files ≡ Err why → loads_needed (Some files) least_words ≡ 1
 least_alone files why machine = rw machine refl
 
@@ -128,7 +128,7 @@ least_alone files why machine = rw machine refl
 files_unknown : (loads_needed None (workload 1) ≡ 0) × (map (loads_needed None) with_tasks ≡ (3 ∷ 2 ∷ 2 ∷ 3 ∷ 3 ∷ 2 ∷ 3 ∷ 3 ∷ []))
 files_unknown = (refl, refl)
 
--- a shelf without a file, after so many failed loads, and sure of so many more
+-- a shelf without a file, after `faults` failed loads, and sure of `sure` more
 abbrev shelf : ℕ → ℕ → ShelfView
 shelf faults sure = record { held = Some []; faults = faults; sure = sure }
 
