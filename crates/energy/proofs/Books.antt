@@ -124,8 +124,10 @@ books-still tasks points told note e released finished decisions run idle task r
 -- the account of some notes, with one more, is the account of all of them
 pub booked-sums : (tasks points : ℕ) (told : List Told) (note : Note) (e : ℕ) → HasTask (books_of tasks points told) note → e < points
     → booked (books_of tasks points told) note e ≡ books_of tasks points (told ++ (note, e) ∷ [])
-booked-sums tasks points told (Release t i k) e h lt = books-still tasks points told (Release t i k) e _ _ _ refl refl (λ k. refl) refl (omega arith) (omega arith)
-booked-sums tasks points told (Speed t f num den) e h lt = books-still tasks points told (Speed t f num den) e _ _ _ refl refl (λ k. refl) (omega arith) (omega arith) refl
+booked-sums tasks points told (Release t i k) e h lt =
+    books-still tasks points told (Release t i k) e _ _ _ refl refl (λ k. refl) refl (omega arith) (omega arith)
+booked-sums tasks points told (Speed t f num den) e h lt =
+    books-still tasks points told (Speed t f num den) e _ _ _ refl refl (λ k. refl) (omega arith) (omega arith) refl
 booked-sums tasks points told (Run from to i k units energy) e h lt = books-more tasks points told (Run from to i k units energy) e _ _ _ _ _ _ _ record {
   run_is = refl;
   idle_is = omega arith;
@@ -147,8 +149,10 @@ booked-sums tasks points told (Idle from to units energy) e h lt = books-more ta
   by_point_is = (let e : 0 + energy ≡ energy = omega arith in ap (raised (list_below points (λ k. sum_by (energy_at_point k) told)) _) (sym e))
       ∙ point-table points e (Idle from to units energy) told lt;
 }
-booked-sums tasks points told (Done q i k used) e h lt = books-still tasks points told (Done q i k used) e _ _ _ refl refl (λ k. refl) (omega arith) refl (omega arith)
-booked-sums tasks points told (End t run idle) e h lt = books-still tasks points told (End t run idle) e _ _ _ refl refl (λ k. refl) (omega arith) (omega arith) (omega arith)
+booked-sums tasks points told (Done q i k used) e h lt =
+    books-still tasks points told (Done q i k used) e _ _ _ refl refl (λ k. refl) (omega arith) refl (omega arith)
+booked-sums tasks points told (End t run idle) e h lt =
+    books-still tasks points told (End t run idle) e _ _ _ refl refl (λ k. refl) (omega arith) (omega arith) (omega arith)
 
 -- an account that had the sums over some notes has, after one more, the sums over them and it
 pub sums-after : (old new : Books) (note : Note) (e : ℕ) → HasTask old note → e < length old.by_point → new ≡ booked old note e

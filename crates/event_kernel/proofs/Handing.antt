@@ -271,7 +271,8 @@ module _ (p : Plan) (dem : JobDemands) (past : List Tick) where
     pub gives-units : (i share : ℕ) → 0 < rest → IsFirstOpen (count p) key (left p dem past) given i
         → units_by (raised given i share) ≡ units_by given ++ replicate share (Held i (job i))
     gives-units i share pos o =
-        subst (λ js. given_units (raised given i share) job js ≡ given_units given job js ++ replicate (raised given i share i) (Held i (job i))) (sym place.1.1)
+        subst (λ js. given_units (raised given i share) job js ≡ given_units given job js ++ replicate (raised given i share i) (Held i (job i)))
+        (sym place.1.1)
         (given_units-step key job given (raised given i share) (count p) i place.0 place.1.0
         (subst (AreBelow (count p)) place.1.1 (in_order-below key (count p))) (subst (IsOrdered key) place.1.1 (in_order-ordered key (count p)))
         now.0 (λ j lt other. raised-there given i share j other)

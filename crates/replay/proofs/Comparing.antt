@@ -11,7 +11,7 @@ use Rattle.replay.specs.Comparing.{same_note, IsOther, first_unequal, differs, u
 use Rattle.replay.specs.declared.fault.ReplayFault.{ReplayFault}
 use Rattle.governor.specs.Meanings.{OwnDemand}
 use Rattle.governor.specs.Schedule.{ask_of}
-use Rattle.event_kernel.specs.Runs.{Run, demands_of, run_ticks, notes_of_run}
+use Rattle.event_kernel.specs.Runs.{Run as KernelRun, demands_of, run_ticks, notes_of_run}
 
 -- a note is equal to itself
 pub same-self : (n : Note) → same_note n n ≡ true
@@ -132,7 +132,7 @@ compared-same tasks t notes is =
 
 -- the run, by a governor's own demand; the trace; and the listener before and after
 module _ {L : Type 0} (rest : L → List Note) (wanted : L → Option Note)
-    (demand : OwnDemand) (run : Run) (t : TraceOf) (ended : IsEnded t.notes) (from to : L) (notes_are : rest from ≡ t.notes) where
+    (demand : OwnDemand) (run : KernelRun) (t : TraceOf) (ended : IsEnded t.notes) (from to : L) (notes_are : rest from ≡ t.notes) where
   once : IsEnded (notes_of_run demand run)
   once =
       let dem = demands_of run.plan run.demands in
