@@ -2,7 +2,7 @@
 ghost use Rattle.std.specs.Prelude.{◌≡◌, ◌+◌, ◌≤◌, ◌++◌, [], ◌∷◌, codes, length};
 ghost use Rattle.std.specs.Fmt.{decimal};
 ghost use Rattle.std.specs.Option.{option_copied};
-ghost use Rattle.dvs_base.specs.Parts.{part_text, most_bytes, fraction_text, name_text};
+ghost use Rattle.dvs_base.specs.Parts.{part_text, most_bytes, fraction_text, name_text, position_text};
 ghost use Rattle.trace_text.specs.TraceLines.{line, run_fields, idle_fields, done_fields, fields_with, note_text, plan_text, scheduler_word, governor_word};
 
 use dvs_base::{
@@ -61,6 +61,21 @@ pub fn write_head(line: &mut Line, plan: PlanLine)
         Part::Number(plan.ticks),
         Part::Word(b"\n"),
     ]);
+}
+
+// Appends a position as `tick:offset`. Most positions are at the beginning of a tick, so their `:0` is a word.
+#[inline]
+fn push_at(to: &mut Line, pos: Pos)
+    requires { length to.old + 41 ≤ 256 }
+    ensures text { to.new ≡ to.old ++ position_text pos }
+    ensures most { length to.new ≤ length to.old + 41 }
+{
+    if pos.offset > 0 {
+        push_position(to, pos);
+        return;
+    }
+    push_number(to, pos.tick);
+    push_word(to, b":0");
 }
 
 // Appends a name, or nothing where there is none.
@@ -123,9 +138,9 @@ fn push_run(to: &mut Line, span: Span, name: Option<&Name>, job: u64, spent: (u6
     ensures most { length to.new ≤ 203 }
 {
     push_word(to, b"run ");
-    push_position(to, span.from);
+    push_at(to, span.from);
     push_word(to, b" ");
-    push_position(to, span.to);
+    push_at(to, span.to);
     push_word(to, b" ");
     push_job(to, name, job);
     push_word(to, b" ");
@@ -141,9 +156,9 @@ fn push_idle(to: &mut Line, span: Span, units: u64, energy: u128)
     ensures most { length to.new ≤ 203 }
 {
     push_word(to, b"idle ");
-    push_position(to, span.from);
+    push_at(to, span.from);
     push_word(to, b" ");
-    push_position(to, span.to);
+    push_at(to, span.to);
     push_word(to, b" ");
     push_number(to, units);
     push_word(to, b" ");
@@ -157,7 +172,7 @@ fn push_done(to: &mut Line, at: Pos, name: Option<&Name>, job: u64, used: u64)
     ensures most { length to.new ≤ 203 }
 {
     push_word(to, b"done ");
-    push_position(to, at);
+    push_at(to, at);
     push_word(to, b" ");
     push_job(to, name, job);
     push_word(to, b" ");
