@@ -1,5 +1,5 @@
 -- The rows of a map, found by task and job.
-use Rattle.std.proofs.Common.{◌≡◌, ◌≢◌, ℕ, ◌≤◌, ◌⊎◌, inl, inr, Bool, true, false, List, [], ◌∷◌, Option, Some, None, refl, sym, ◌∙◌, arith}
+use Rattle.std.proofs.Common.{◌≡◌, ◌≢◌, ℕ, ◌≤◌, ◌⊎◌, inl, inr, Bool, true, false, List, [], ◌∷◌, Option, Some, None, refl, sym, ◌∙◌, arith, suc, length, ap, Result, Ok, Err, OnErr, not, is_some}
 use Rattle.std.specs.Prelude.{◌&&◌, ◌||◌, ◌==◌, nat_eq, nat_lt, unwrap_or, slice_index, if◌then◌else◌}
 use Rattle.std.specs.declared.cmp.Ordering.{Ordering}
 use Rattle.std.specs.declared.cmp.Ordering.TheVariants as order
@@ -7,7 +7,7 @@ use Rattle.std.specs.Ordering.{nat_cmp, ordering_then, is_eq, is_lt, match_order
 use Rattle.std.specs.Cmp.{unsigned_tied, tied_then}
 use Rattle.std.specs.List.{AllByRecursion}
 use Rattle.std.specs.BTreeMap.{insert_entry, is_at}
-use Rattle.std.specs.Map.{lookup}
+use Rattle.std.specs.Map.{lookup, keys_of}
 use Rattle.std.proofs.lemmas.Bool.{eqb-true, eq-eqb}
 use Rattle.std.proofs.lemmas.Bool.Decides.{eqb_tells}
 use Rattle.task_model.specs.DemandRows.{DemandRow, named}
@@ -88,6 +88,23 @@ rows_of-insert_entry (e ∷ es) i k u h =
     by_order (job_cmp (i, k) e.0) (precedes r s) r s (rows_of es) (i, k) u e es (insert_entry job_cmp es (i, k) u) refl refl
     (is_lt-job_cmp r s) (is_eq-job_cmp i k s.task s.job ∙ a.0) refl (rows_of-insert_entry es i k u a.1)
 
+-- An equal key that is given another value, and then its own again, leaves the entries as they were.
+module _ {K X : Type 0} (cmp : K → K → Ordering) (k : K) where
+  by_key : (u v : X) (e : K × X) (es : List (K × X)) (o : Ordering) → cmp k e.0 ≡ o
+      → keys_of (match_ordering o ((k, u) ∷ e ∷ es) ((e.0, u) ∷ es) (e ∷ insert_entry cmp es k u)) ≡ keys_of (e ∷ es)
+      → (if is_eq o then Some e.1 else lookup (is_at (cmp k)) es) ≡ Some v
+      → (keys_of (insert_entry cmp es k u) ≡ keys_of es → lookup (is_at (cmp k)) es ≡ Some v → insert_entry cmp (insert_entry cmp es k u) k v ≡ es)
+      → insert_entry cmp (match_ordering o ((k, u) ∷ e ∷ es) ((e.0, u) ∷ es) (e ∷ insert_entry cmp es k u)) k v ≡ e ∷ es
+  by_key u v e es order.Less p same found more =
+      let long : suc (suc (length (keys_of es))) ≡ suc (length (keys_of es)) = ap length same in absurd (omega arith)
+  by_key u v e es order.Equal p same found more = let value : e.1 ≡ v = cc in rw (p, sym value) refl
+  by_key u v e es order.Greater p same found more = rw (p, more (cc) found) refl
+
+  pub insert_entry-back : (u v : X) (es : List (K × X)) → keys_of (insert_entry cmp es k u) ≡ keys_of es → lookup (is_at (cmp k)) es ≡ Some v
+      → insert_entry cmp (insert_entry cmp es k u) k v ≡ es
+  insert_entry-back u v [] same found = absurd (cc)
+  insert_entry-back u v (e ∷ es) same found = by_key u v e es (cmp k e.0) refl same found (insert_entry-back u v es)
+
 each-with_row : (P : DemandRow → Type 0) (rows : List DemandRow) (r : DemandRow) → AllByRecursion P rows → P r → AllByRecursion P (with_row rows r)
 each-with_row P [] r h p = (p, tt)
 each-with_row P (s ∷ rows) r h p = by (precedes r s) (each-with_row P rows r h.1 p)
@@ -98,6 +115,18 @@ each-with_row P (s ∷ rows) r h p = by (precedes r s) (each-with_row P rows r h
 
 pub IsDemands-with_row : (d : DemandsOf) (r : DemandRow) → IsDemands d → IsRow d.worsts r → IsDemands (record { worsts = d.worsts; rows = with_row d.rows r })
 IsDemands-with_row d r h p = record { few = h.few; each = each-with_row (IsRow d.worsts) d.rows r h.each p }
+
+-- an added row is within its worst case, and where none is added the rows stay
+pub IsDemands-after : {E : Type 0} (result : Result Bool E) (worsts : List ℕ) (old new : List ((ℕ × ℕ) × ℕ)) (r : DemandRow)
+    → (result ≡ Ok true → rows_of new ≡ with_row (rows_of old) r) → (result ≡ Ok false → new ≡ old) → OnErr result (new ≡ old)
+    → IsDemands (record { worsts = worsts; rows = rows_of old }) → IsRow worsts r → IsDemands (record { worsts = worsts; rows = rows_of new })
+IsDemands-after (Ok true) worsts old new r added stays err h p = rw (added refl) (IsDemands-with_row _ r h p)
+IsDemands-after (Ok false) worsts old new r added stays err h p = rw (stays refl) h
+IsDemands-after (Err e) worsts old new r added stays err h p = rw err h
+
+pub is-free : (row : Option ℕ) → true ≡ not (is_some row) → row ≡ None
+is-free None h = refl
+is-free (Some units) h = absurd (cc)
 
 here : (i k : ℕ) → (nat_eq i i && nat_eq k k) ≡ true
 here i k = rw (eq-eqb i i refl, eq-eqb k k refl) refl

@@ -33,20 +33,28 @@ fn row_of(rows: &BTreeMap<(u32, u64), u64>, task: u32, job: u64) -> Option<u64>
     rows.get(&(task, job)).copied()
 }
 
-// Adds a row for a job that has none.
+// Adds a row for a job that has none, and returns whether it had none. A row that the job has stays.
 fn add_row(
     rows: &mut BTreeMap<(u32, u64), u64>,
     task: u32,
     job: u64,
     units: u64,
-) -> Result<(), NoMemory>
-    requires { named (rows_of rows.old.entries) task job ≡ None }
-    ensures ok { OnOk result (rows_of rows.new.entries
-        ≡ with_row (rows_of rows.old.entries) (demand_row task job units)) }
+) -> Result<bool, NoMemory>
+    ensures answer { IfOk result (λ added. added ≡ not (is_some (named (rows_of rows.old.entries) task job))) }
+    ensures added { result ≡ Ok true → rows_of rows.new.entries
+        ≡ with_row (rows_of rows.old.entries) (demand_row task job units) }
+    ensures stays { result ≡ Ok false → rows.new.entries ≡ rows.old.entries }
     ensures err { OnErr result (rows.new.entries ≡ rows.old.entries) }
 {
-    match rows.insert((task, job), units) {
-        Ok(_) => Ok(()),
+    let Ok(earlier) = rows.insert((task, job), units) else {
+        return Err(NoMemory);
+    };
+    let Some(kept) = earlier else {
+        return Ok(true);
+    };
+    // The earlier row goes back. Its key is in the map, so this needs no memory.
+    match rows.insert((task, job), kept) {
+        Ok(_) => Ok(false),
         Err(_) => Err(NoMemory),
     }
 }
@@ -79,11 +87,7 @@ impl Demands {
         ensures stays { result ≡ Ok false → self.new ≡ self.old }
         ensures err { OnErr result (self.new ≡ self.old) }
     {
-        if row_of(&self.rows, task, job).is_some() {
-            return Ok(false);
-        }
-        add_row(&mut self.rows, task, job, units)?;
-        Ok(true)
+        add_row(&mut self.rows, task, job, units)
     }
 
     /// The declared worst cases of the tasks, which no job exceeds.

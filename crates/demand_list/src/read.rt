@@ -50,20 +50,24 @@ fn add_checked(
     ensures worsts { demands.new.worsts ≡ demands.old.worsts }
     ensures added { MeansDemands (λ _. demands.new) result (with_checked demands.old row task job units) }
 {
-    if demands.has_row(task, job) {
-        return Err(DemandFault::Repeated { row, task, job });
-    }
     let worst = demands.worsts()[task as usize];
     if worst < units {
-        return Err(DemandFault::OverWorst {
-            task,
-            job,
-            units,
-            worst,
+        return Err(if demands.has_row(task, job) {
+            DemandFault::Repeated { row, task, job }
+        } else {
+            DemandFault::OverWorst {
+                task,
+                job,
+                units,
+                worst,
+            }
         });
     }
-    demands.set(task, job, units)?;
-    Ok(())
+    if demands.set(task, job, units)? {
+        Ok(())
+    } else {
+        Err(DemandFault::Repeated { row, task, job })
+    }
 }
 
 // The declared worst cases of the tasks.
