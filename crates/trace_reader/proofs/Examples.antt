@@ -1,10 +1,11 @@
 -- Small texts and what is read from them, by evaluation.
-use Rattle.std.proofs.Common.{◌≡◌, ℕ, ◌++◌, List, [], ◌∷◌, flat_map, replicate, Result, Ok, Err, codes, refl}
+use Rattle.std.proofs.Common.{◌≡◌, ℕ, ◌+◌, ◌++◌, List, [], ◌∷◌, flat_map, replicate, Result, Ok, Err, codes, refl}
 use Rattle.std.specs.Fmt.{digits}
 use Rattle.dvs_base.specs.declared.kind.Scheduler.TheVariants.{Edf, Rm}
 use Rattle.dvs_base.specs.declared.kind.GovernorKind.TheVariants.{Fixed, Cycle}
 use Rattle.dvs_base.specs.declared.kind.Version.{Version}
 use Rattle.dvs_base.specs.declared.kind.Version.TheVariants.{One, Two}
+use Rattle.dvs_base.specs.declared.limits.TheConstants.{MOST_LINES}
 use Rattle.dvs_base.specs.declared.note.Note.TheVariants.{Release, Speed, Run, Idle, Done, End}
 use Rattle.dvs_base.specs.declared.note.Pos.{Pos}
 use Rattle.trace_reader.specs.declared.trace.TaskLine.{TaskLine}
@@ -133,10 +134,10 @@ from_the_left = refl
 abbrev bare : ℕ → List ℕ
 bare bytes = replicate bytes 97
 
--- line 800001 is one too many, even where it is too long, with 256 bytes; a missing line feed comes before both
+-- a line after the most lines is one too many, even where it is too long, with 256 bytes; a missing line feed comes before both
 limits_of_lines :
-    (line_at 800001 (bare 256 ∷ [] ∷ []) ∷ line_at 800000 (bare 256 ∷ [] ∷ []) ∷ line_at 800000 (bare 255 ∷ [] ∷ [])
-    ∷ line_at 800001 (bare 256 ∷ []) ∷ [])
-    ≡ (Err (Refused 800001 kind.TooMany) ∷ Err (Refused 800000 kind.TooLong) ∷ Ok (bare 255, [] ∷ [])
-    ∷ Err (Refused 800001 kind.NoEnd) ∷ [])
+    (line_at (MOST_LINES + 1) (bare 256 ∷ [] ∷ []) ∷ line_at MOST_LINES (bare 256 ∷ [] ∷ []) ∷ line_at MOST_LINES (bare 255 ∷ [] ∷ [])
+    ∷ line_at (MOST_LINES + 1) (bare 256 ∷ []) ∷ [])
+    ≡ (Err (Refused (MOST_LINES + 1) kind.TooMany) ∷ Err (Refused MOST_LINES kind.TooLong) ∷ Ok (bare 255, [] ∷ [])
+    ∷ Err (Refused (MOST_LINES + 1) kind.NoEnd) ∷ [])
 limits_of_lines = refl

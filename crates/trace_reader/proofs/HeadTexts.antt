@@ -18,7 +18,7 @@ use Rattle.dvs_base.specs.declared.kind.GovernorKind.{GovernorKind}
 use Rattle.dvs_base.specs.declared.kind.GovernorKind.TheVariants.{Plain, Fixed, Cycle, Ahead}
 use Rattle.dvs_base.specs.declared.kind.Version.{Version}
 use Rattle.dvs_base.specs.declared.kind.Version.TheVariants.{One, Two}
-use Rattle.dvs_base.specs.declared.limits.TheConstants.{LONGEST_LINE, MOST_TICKS}
+use Rattle.dvs_base.specs.declared.limits.TheConstants.{LONGEST_LINE, MOST_LINES, MOST_TICKS}
 use Rattle.dvs_base.proofs.Names.{length-name}
 use Rattle.dvs_base.proofs.Spelled.{number_below-decimal, number_below-found}
 use Rattle.trace_text.specs.declared.write.PlanLine.{PlanLine}
@@ -249,7 +249,7 @@ tasks-found n (task ∷ tasks) ps p e =
     let a = step-ok _ _ p e in
     task-step n task tasks ps a.0 p (bytes_eq (a.0.0 ++ 10 ∷ []) task) a.1 refl a.2 (λ later. tasks-found (n + 1) tasks a.0.1 p later)
 
-pub tasks-text : (n : ℕ) (tasks : List (List ℕ)) (more : List ℕ) → AreLines tasks → n + length tasks ≤ 800001
+pub tasks-text : (n : ℕ) (tasks : List (List ℕ)) (more : List ℕ) → AreLines tasks → n + length tasks ≤ MOST_LINES + 1
     → parts_after_tasks n tasks (parts 10 (joined tasks ++ more)) ≡ Ok (n + length tasks, parts 10 more)
 unfolding parts_after_tasks
 tasks-text n [] more h few = let here : n ≡ n + 0 = omega arith in ap (λ m. Ok (m, parts 10 more)) here

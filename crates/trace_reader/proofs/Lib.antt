@@ -3,6 +3,7 @@ pub mod Reading
 pub mod Summing
 pub mod Lined
 pub mod Plain
+pub mod Numbers
 pub mod FieldTexts
 pub mod ItemTexts
 pub mod LineTexts

@@ -4,6 +4,7 @@ use Rattle.std.specs.Prelude.{nat_lt, nat_eq}
 use Rattle.std.proofs.lemmas.Bool.Decides.{nat_tests}
 use Rattle.std.proofs.lemmas.List.{get_or-set_same, get_or-set_other}
 use Rattle.std.proofs.lemmas.List.Sums.{sum_by-append}
+use Rattle.dvs_base.specs.declared.limits.TheConstants.{MOST_TASKS}
 use Rattle.dvs_base.specs.declared.note.Note.{Note}
 use Rattle.dvs_base.specs.declared.note.Pos.{Pos}
 use Rattle.dvs_base.specs.declared.note.Note.TheVariants.{Run}
@@ -23,7 +24,7 @@ pub energy-more : (notes : List Note) (n : Note) (i : ℕ) → task_energy (note
 energy-more notes n i = omega (arith, sum_by-append (energy_of_task i) notes (n ∷ []))
 
 -- the sums with one run more: its energy is added to its task's
-pub sums-run : (sums : List (Option ℕ)) (notes : List Note) (from to : Pos) (j k units energy : ℕ) → j < 64 → length sums ≡ 64
+pub sums-run : (sums : List (Option ℕ)) (notes : List Note) (from to : Pos) (j k units energy : ℕ) → j < MOST_TASKS → length sums ≡ MOST_TASKS
     → HasSums notes sums → HasSums (notes ++ Run from to j k units energy ∷ []) (set sums j (with_energy (get_or sums j None) energy))
 sums-run sums notes from to j k units energy lt long h i below = by (nat_eq j i) refl
   where

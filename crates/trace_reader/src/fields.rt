@@ -1,9 +1,11 @@
 // The fields of a line.
 ghost use Rattle.std.specs.Prelude.{◌≡◌, ◌^◌, ◌<◌, ◌≤◌, length, position, IfOk, IfSome};
 ghost use Rattle.std.specs.Str.{bytes_eq};
+ghost use Rattle.dvs_base.specs.declared.limits.TheConstants.{MOST_TASKS};
 ghost use Rattle.trace_reader.specs.Fields.{whole_in, wide_in, position_in, fraction_in, task_in};
 
 use crate::TraceKind;
+use crate::number::{SAFE_DIGITS, short_number};
 use crate::parts::two;
 use dvs_base::{Name, Pos, whole, wide};
 
@@ -11,14 +13,25 @@ use dvs_base::{Name, Pos, whole, wide};
 pub(crate) fn whole_in(field: &[u8]) -> Result<u64, TraceKind>
     ensures { result ≡ whole_in field.now }
 {
-    whole(field).ok_or(TraceKind::Number)
+    let number = if field.len() <= SAFE_DIGITS {
+        short_number(field)
+    } else {
+        whole(field)
+    };
+    number.ok_or(TraceKind::Number)
 }
 
 // The field as a number below 2^128.
 pub(crate) fn wide_in(field: &[u8]) -> Result<u128, TraceKind>
     ensures { result ≡ wide_in field.now }
 {
-    wide(field).ok_or(TraceKind::Number)
+    if field.len() > SAFE_DIGITS {
+        return wide(field).ok_or(TraceKind::Number);
+    }
+    match short_number(field) {
+        Some(number) => Ok(number as u128),
+        None => Err(TraceKind::Number),
+    }
 }
 
 // The field as a position, `tick:offset`.
@@ -54,7 +67,7 @@ fn place_in(names: &[Name], field: &[u8]) -> Option<usize>
 // The number of the task whose name is the field.
 #[tactic(auto, unfolding(crate::specs::Fields::task_in))]
 pub(crate) fn task_in(names: &[Name], field: &[u8]) -> Result<u32, TraceKind>
-    requires { length names.now ≤ 64 }
+    requires { length names.now ≤ MOST_TASKS }
     ensures task { result ≡ task_in names.now field.now }
     ensures within { IfOk result (λ i. i < length names.now) }
 {

@@ -1,7 +1,8 @@
 // The lines before the notes.
-ghost use Rattle.std.specs.Prelude.{◌≡◌, ◌≤◌, ◌++◌, ◌∷◌, [], length, IfOk, true};
+ghost use Rattle.std.specs.Prelude.{◌≡◌, ◌≤◌, ◌+◌, ◌++◌, ◌∷◌, [], length, IfOk, true};
 ghost use Rattle.std.specs.Str.{bytes_eq};
 ghost use Rattle.dvs_base.specs.Checks.{IsUnlessMemory};
+ghost use Rattle.dvs_base.specs.declared.limits.TheConstants.{MOST_LINES};
 ghost use Rattle.trace_reader.specs.TraceText.{task_text, has_task_lines};
 ghost use Rattle.trace_reader.specs.Fields.{parts};
 ghost use Rattle.trace_reader.specs.Heads.{version_in, plan_line_of, parts_after_tasks, version_task_lines};
@@ -66,7 +67,7 @@ fn read_task_lines<'a>(
     requires { length tasks.now ≡ length names.now }
     ensures read { IsUnlessMemory TraceFault.NoMemory (λ p. (p.0, parts 10 p.1.now)) result
         (parts_after_tasks 3 (task_lines names.now tasks.now) (parts 10 bytes.now)) }
-    ensures few { IfOk result (λ p. p.0 ≤ 800001) }
+    ensures few { IfOk result (λ p. p.0 ≤ MOST_LINES + 1) }
 {
     let mut number = 3;
     let mut rest = bytes;
@@ -95,7 +96,7 @@ pub(crate) fn read_tasks<'a>(
     requires { has_task_lines version ≡ true → length tasks.now ≡ length names.now }
     ensures read { IsUnlessMemory TraceFault.NoMemory (λ p. (p.0, parts 10 p.1.now)) result
         (parts_after_tasks 3 (version_task_lines version (task_lines names.now tasks.now)) (parts 10 bytes.now)) }
-    ensures few { IfOk result (λ p. p.0 ≤ 800001) }
+    ensures few { IfOk result (λ p. p.0 ≤ MOST_LINES + 1) }
 {
     if has_task_lines(version) {
         read_task_lines(names, tasks, bytes)

@@ -1,5 +1,6 @@
 // The lines after the head of a trace: notes, and energies of tasks.
 ghost use Rattle.std.specs.Prelude.{◌≡◌, ◌≤◌, ℕ, length, IfOk};
+ghost use Rattle.dvs_base.specs.declared.limits.TheConstants.{MOST_TASKS};
 ghost use Rattle.trace_reader.specs.TraceText.{has_task_lines};
 ghost use Rattle.trace_reader.specs.Fields.{parts};
 ghost use Rattle.trace_reader.specs.Items.{release_in, speed_in, run_in, idle_in, done_in, end_in, energy_in, item_of, HasTaskBelow};
@@ -18,7 +19,7 @@ pub enum Item {
 
 #[tactic(auto, unfolding(crate::specs::Items::release_in))]
 fn release_in(names: &[Name], fields: &[u8]) -> Result<Item, TraceKind>
-    requires { length names.now ≤ 64 }
+    requires { length names.now ≤ MOST_TASKS }
     ensures item { result ≡ release_in names.now (parts 32 fields.now) }
     ensures task { IfOk result (HasTaskBelow (length names.now)) }
 {
@@ -48,7 +49,7 @@ fn speed_in(fields: &[u8]) -> Result<Item, TraceKind>
 
 #[tactic(auto, unfolding(crate::specs::Items::run_in))]
 fn run_in(names: &[Name], fields: &[u8]) -> Result<Item, TraceKind>
-    requires { length names.now ≤ 64 }
+    requires { length names.now ≤ MOST_TASKS }
     ensures item { result ≡ run_in names.now (parts 32 fields.now) }
     ensures task { IfOk result (HasTaskBelow (length names.now)) }
 {
@@ -89,7 +90,7 @@ fn idle_in(fields: &[u8]) -> Result<Item, TraceKind>
 
 #[tactic(auto, unfolding(crate::specs::Items::done_in))]
 fn done_in(names: &[Name], fields: &[u8]) -> Result<Item, TraceKind>
-    requires { length names.now ≤ 64 }
+    requires { length names.now ≤ MOST_TASKS }
     ensures item { result ≡ done_in names.now (parts 32 fields.now) }
     ensures task { IfOk result (HasTaskBelow (length names.now)) }
 {
@@ -120,7 +121,7 @@ fn end_in(fields: &[u8]) -> Result<Item, TraceKind>
 
 #[tactic(auto, unfolding(crate::specs::Items::energy_in))]
 fn energy_in(version: Version, names: &[Name], fields: &[u8]) -> Result<Item, TraceKind>
-    requires { length names.now ≤ 64 }
+    requires { length names.now ≤ MOST_TASKS }
     ensures item { result ≡ energy_in version names.now (parts 32 fields.now) }
     ensures task { IfOk result (HasTaskBelow (length names.now)) }
 {
@@ -136,7 +137,7 @@ fn energy_in(version: Version, names: &[Name], fields: &[u8]) -> Result<Item, Tr
 // The item of the line, or the error in it when it is read alone.
 #[tactic(auto, unfolding(crate::specs::Items::item_of))]
 pub(crate) fn item_of(version: Version, names: &[Name], line: &[u8]) -> Result<Item, TraceKind>
-    requires { length names.now ≤ 64 }
+    requires { length names.now ≤ MOST_TASKS }
     ensures item { result ≡ item_of version names.now (parts 32 line.now) }
     ensures task { IfOk result (HasTaskBelow (length names.now)) }
 {

@@ -1,10 +1,10 @@
 // Reading a trace, line by line.
-ghost use Rattle.std.specs.Prelude.{◌≡◌, ◌≢◌, ℕ, ◌≤◌, ◌<◌, ◌∷◌, [], List, length, IfOk, Ok, Err, true, if◌then◌else◌};
+ghost use Rattle.std.specs.Prelude.{◌≡◌, ◌≢◌, ℕ, ◌≤◌, ◌<◌, ◌+◌, ◌∷◌, [], List, length, IfOk, Ok, Err, true, if◌then◌else◌};
 ghost use Rattle.std.specs.List.{AllPairs};
 ghost use Rattle.dvs_base.specs.declared.note.Note.{Note};
 ghost use Rattle.dvs_base.specs.Checks.{IsUnlessMemory};
 ghost use Rattle.dvs_base.specs.Text.{is_name};
-ghost use Rattle.dvs_base.specs.declared.limits.TheConstants.{MOST_LINES};
+ghost use Rattle.dvs_base.specs.declared.limits.TheConstants.{MOST_LINES, MOST_TASKS};
 ghost use Rattle.dvs_base.specs.Parts.{name_of};
 ghost use Rattle.trace_reader.specs.declared.trace.TraceFault.TheVariants as fault;
 ghost use Rattle.trace_reader.specs.declared.trace.TraceKind.TheVariants as kind;
@@ -64,7 +64,7 @@ fn at_line<T>(line: u64, read: Result<T, TraceKind>) -> Result<T, TraceFault>
 
 // How many energies of tasks a trace has: one for each name, in a version that has such lines.
 fn wanted_of(version: Version, names: &[Name]) -> u32
-    requires { length names.now ≤ 64 }
+    requires { length names.now ≤ MOST_TASKS }
     ensures { result ≡ wanted version names.now }
 {
     if has_task_lines(version) {
@@ -87,7 +87,7 @@ fn is_in_order(told: u32, wanted: u32, item: &Item) -> bool
 
 // Whether the energy of a task is the sum over its runs; a note passes.
 fn is_right_share(shares: &Shares, item: &Item) -> bool
-    requires { HasTaskBelow 64 item.now }
+    requires { HasTaskBelow MOST_TASKS item.now }
     ensures { (notes : List Note) → HasSums notes shares.now.sums → result ≡ is_right_share notes item.now }
 {
     match *item {
@@ -105,7 +105,7 @@ fn next_item(
     told: u32,
     line: &[u8],
 ) -> Result<Item, TraceKind>
-    requires { length names.now ≤ 64 }
+    requires { length names.now ≤ MOST_TASKS }
     ensures item { (notes : List Note) → HasSums notes shares.now.sums
         → result ≡ next_item version names.now (record { notes = notes; told = told }) (parts 32 line.now) }
     ensures task { IfOk result (HasTaskBelow (length names.now)) }
@@ -141,8 +141,8 @@ fn read_notes(
     first: u64,
     bytes: &[u8],
 ) -> Result<Vec<Note>, TraceFault>
-    requires names { length names.now ≤ 64 }
-    requires first { first ≤ 800001 }
+    requires names { length names.now ≤ MOST_TASKS }
+    requires first { first ≤ MOST_LINES + 1 }
     ensures { IsUnlessMemory TraceFault.NoMemory (λ v. v.items) result
         (notes_from version names.now first nothing_yet (parts 10 bytes.now)) }
 {
@@ -181,7 +181,7 @@ fn read(
     names: &[Name],
     tasks: &[TaskLine],
 ) -> Result<Trace, TraceFault>
-    requires names { length names.now ≤ 64 }
+    requires names { length names.now ≤ MOST_TASKS }
     requires lists { has_task_lines newest ≡ true → length tasks.now ≡ length names.now }
     ensures { IsUnlessMemory TraceFault.NoMemory (λ t. t) result
         (trace_file newest names.now (task_lines names.now tasks.now) bytes.now) }
@@ -208,10 +208,10 @@ fn known_names(names: &[Name])
     }
 }
 
-/// The trace of a text of version 1, for tasks with these names, which are distinct and at most 64. `Refused` has the
+/// The trace of a text of version 1, for tasks with these names, which are distinct and at most [`MOST_TASKS`]. `Refused` has the
 /// first line with an error, and the first error in it. Memory is taken for the notes alone.
 pub fn read_trace(alloc: Global, bytes: &[u8], names: &[Name]) -> Result<Trace, TraceFault>
-    requires few { length names.now ≤ 64 }
+    requires few { length names.now ≤ MOST_TASKS }
     requires distinct { AllPairs (λ a b. a ≢ b) names.now }
 
     // The answer is the meaning of the text, refusals too, unless memory ran out.
@@ -229,7 +229,7 @@ pub fn read_trace(alloc: Global, bytes: &[u8], names: &[Name]) -> Result<Trace, 
     read(alloc, Version::One, bytes, names, &[])
 }
 
-/// The trace of a text of either version, for tasks with these names, which are distinct and at most 64, and these
+/// The trace of a text of either version, for tasks with these names, which are distinct and at most [`MOST_TASKS`], and these
 /// lines. `Refused` has the first line with an error, and the first error in it. Memory is taken for the notes alone.
 pub fn read_any(
     alloc: Global,
@@ -237,7 +237,7 @@ pub fn read_any(
     names: &[Name],
     tasks: &[TaskLine],
 ) -> Result<Trace, TraceFault>
-    requires few { length names.now ≤ 64 }
+    requires few { length names.now ≤ MOST_TASKS }
     requires distinct { AllPairs (λ a b. a ≢ b) names.now }
     requires lists { length tasks.now ≡ length names.now }
 

@@ -1,17 +1,18 @@
 // The energies of the tasks, summed over the notes of a trace.
 ghost use Rattle.std.specs.Prelude.{◌≡◌, ◌<◌, ◌==◌, ◌++◌, ◌∷◌, [], List};
 ghost use Rattle.dvs_base.specs.declared.note.Note.{Note};
+ghost use Rattle.dvs_base.specs.declared.limits.TheConstants.{MOST_TASKS};
 ghost use Rattle.trace_reader.specs.TraceText.{task_energy};
 ghost use Rattle.trace_reader.specs.Items.{HasTaskBelow};
 ghost use Rattle.trace_reader.specs.Sums.{with_energy, HasSums};
 
 use crate::line::Item;
-use dvs_base::Note;
+use dvs_base::{MOST_TASKS, Note};
 
 /// The sum of the energies of each task's runs, or None from 2^128 on.
 #[derive(Drop)]
 pub(crate) struct Shares {
-    sums: [Option<u128>; 64],
+    sums: [Option<u128>; MOST_TASKS],
 }
 
 // The sum with one energy more, or None from 2^128 on.
@@ -29,13 +30,13 @@ impl Shares {
         ensures { HasSums [] result.sums }
     {
         Shares {
-            sums: [Some(0); 64],
+            sums: [Some(0); MOST_TASKS],
         }
     }
 
     // Adds the energy of the note where it is a run.
     pub(crate) fn add(&mut self, note: &Note)
-        requires { HasTaskBelow 64 (Item.Told note.now) }
+        requires { HasTaskBelow MOST_TASKS (Item.Told note.now) }
         ensures { (notes : List Note) → HasSums notes self.old.sums → HasSums (notes ++ note.now ∷ []) self.new.sums }
     {
         if let Note::Run { task, energy, .. } = *note {
@@ -46,7 +47,7 @@ impl Shares {
 
     // Whether the energy is the sum of the task.
     pub(crate) fn is_sum(&self, task: u32, energy: u128) -> bool
-        requires { task < 64 }
+        requires { task < MOST_TASKS }
         ensures { (notes : List Note) → HasSums notes self.now.sums → result ≡ (energy == task_energy notes task) }
     {
         match self.sums[task as usize] {
