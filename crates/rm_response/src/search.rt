@@ -62,43 +62,32 @@ fn fitting(tasks: &TaskSet, machine: &Machine, k: u32, rest: u128, span: Span) -
 {
     let _tasks = tasks.as_slice();
     let _entries = machine.as_slice();
-    let Span { first, last } = span;
-    if is_beyond(tasks, machine, k, rest, last) {
+    if is_beyond(tasks, machine, k, rest, span.last) {
         return None;
     }
     let Some(j) = last_before(tasks, k) else {
-        return Some(last);
+        return Some(span.last);
     };
-    if rest + work_before(tasks, machine, last, k) <= done_in(machine, last) {
-        return Some(last);
+    if rest + work_before(tasks, machine, span.last, k) <= done_in(machine, span.last) {
+        return Some(span.last);
     }
     let period = tasks.task(j).period;
-    let release = (last - 1) / period * period;
+    let release = (span.last - 1) / period * period;
+    let begun = held_work(tasks, machine, span.last, j);
     let after = Span {
-        first: first.max(release + 1),
-        last,
+        first: span.first.max(release + 1),
+        last: span.last,
     };
-    let found = fitting(
-        tasks,
-        machine,
-        j,
-        rest + held_work(tasks, machine, last, j),
-        after,
-    );
-    if found.is_some() || release < first {
+    let found = fitting(tasks, machine, j, rest + begun, after);
+    if found.is_some() || release < span.first {
         return found;
     }
+    let ended = held_work(tasks, machine, release, j);
     let until = Span {
-        first,
+        first: span.first,
         last: release,
     };
-    fitting(
-        tasks,
-        machine,
-        j,
-        rest + held_work(tasks, machine, release, j),
-        until,
-    )
+    fitting(tasks, machine, j, rest + ended, until)
 }
 
 // The response of task i in ticks; one more than its period where it has none. `from` is a number of ticks, and fewer

@@ -8,7 +8,7 @@ use Rattle.rm_response_laws.specs.Bounds.{held_work}
 use Rattle.rm_response_laws.specs.Fitting.{FindsFit, IsLastBefore}
 use Rattle.rm_response_laws.proofs.Fitting.{earlier-last}
 use Rattle.rm_response.proofs.Deciding.{rank-last, multiple_below, alone, found-in, found-before}
-use Rattle.rm_response.proofs.search.+fitting.Goals.{then-is_some-via-then-is_some, then-is_some-via-else-is_some+then-release-first}
+use Rattle.rm_response.proofs.search.+fitting.Goals.{then-is_some-via-then-is_some, then-is_some-via-else-is_some+then-release-span}
 use Rattle.rm_response.proofs.search.+fitting.Goals as goal
 
 pub returns-in_default : goal.returns-in_default
@@ -40,7 +40,7 @@ fitting-found-requires t c =
           (
             omega (arith, c.requires.some_rest),
             (
-              omega (arith, low, c.held_work.ensures.low),
+              omega (arith, low, c.held_work-begun.ensures.low),
               (
                 omega (arith, c.max.ensures, c.requires.some_ticks),
                 (omega (arith, c.max.ensures, within, c.requires.some_ticks, c.requires.in_span), c.requires.low_ticks),
@@ -67,13 +67,13 @@ returns-then-is_some t c =
     let fit : FindsFit p j (rest + held_work p most j) (max first (multiple_below (period p j) most + 1)) most found =
     subst (λ (l : ℕ). FindsFit p j (rest + held_work p most j) l most found)
     (c.max.ensures ∙ ap (λ (d : ℕ). max first (multiple_below d most + 1)) long)
-    (subst (λ (h : ℕ). FindsFit p j (rest + h) c.max.result most found) c.held_work.ensures.value
+    (subst (λ (h : ℕ). FindsFit p j (rest + h) c.max.result most found) c.held_work-begun.ensures.value
     c.fitting-found.ensures) in
     let why : (is_some found ≡ true) ⊎ (multiple_below (period p j) most < first) =
     elim c.then-is_some.branch [
       | then-is_some-via-then-is_some w ↦ inl (sym c.is_some.ensures ∙ w.if-is_some.true)
-      | then-is_some-via-else-is_some+then-release-first w ↦
-          inr (subst (λ (d : ℕ). multiple_below d most < first) long w.if-release-first.true)
+      | then-is_some-via-else-is_some+then-release-span w ↦
+          inr (subst (λ (d : ℕ). multiple_below d most < first) long w.if-release-span.true)
     ] in
     found-in p lim k rest most first j c.requires.some_ticks c.requires.in_span last c.requires.earlier found fit why
 
@@ -94,11 +94,11 @@ fitting-requires t c =
           (
             omega (arith, c.requires.some_rest),
             (
-              omega (arith, low, c.held_work-2.ensures.low),
+              omega (arith, low, c.held_work-ended.ensures.low),
               (
                 c.requires.some_ticks,
                 (
-                  c.if-release-first.false,
+                  c.if-release-span.false,
                   omega (arith, within, c.requires.low_ticks),
                 ),
               ),
@@ -125,12 +125,12 @@ returns t c =
     c.fitting-found.result =
     subst (λ (l : ℕ). FindsFit p j (rest + held_work p most j) l most c.fitting-found.result)
     (c.max.ensures ∙ ap (λ (d : ℕ). max first (multiple_below d most + 1)) long)
-    (subst (λ (h : ℕ). FindsFit p j (rest + h) c.max.result most c.fitting-found.result) c.held_work.ensures.value
+    (subst (λ (h : ℕ). FindsFit p j (rest + h) c.max.result most c.fitting-found.result) c.held_work-begun.ensures.value
     c.fitting-found.ensures) in
     let release : ℕ = multiple_below c.task-period.result.period most in
     let ended : FindsFit p j (rest + held_work p (multiple_below (period p j) most) j) first (multiple_below (period p j) most)
     found =
     subst (λ (d : ℕ). FindsFit p j (rest + held_work p (multiple_below d most) j) first (multiple_below d most) found) long
-    (subst (λ (h : ℕ). FindsFit p j (rest + h) first release found) c.held_work-2.ensures.value c.fitting.ensures) in
+    (subst (λ (h : ℕ). FindsFit p j (rest + h) first release found) c.held_work-ended.ensures.value c.fitting.ensures) in
     found-before p lim k rest most first j c.requires.some_ticks c.requires.in_span last c.requires.earlier
     c.fitting-found.result found begun (sym c.is_some.ensures ∙ c.if-is_some.false) ended
