@@ -2,6 +2,7 @@
 ghost use Rattle.std.specs.Prelude.{codes, ◌≡◌, ◌≤◌, ◌<◌, ◌^◌, length, map, IfOk, vec_len};
 ghost use Rattle.csv.specs.Records.{fields_of};
 ghost use Rattle.csv_text.specs.Rows.{IsPlain, AreCountedFrom, records_left};
+ghost use Rattle.task_model.specs.TaskFile.{place_of};
 ghost use Rattle.demand_list.specs.DemandFile.{MeansDemands, demand_of_row, demands_from, with_checked, demand_file, worst_list};
 
 use crate::{Column, DemandFault, Demands};
@@ -11,15 +12,34 @@ use dvs_base::{NoMemory, Short, whole};
 use std::alloc::Global;
 use task_model::TaskSet;
 
+// The task with this name. Rows of one task often follow each other, so the task of the row before is tried first.
+fn task_named(tasks: &TaskSet, before: u32, name: &[u8]) -> Option<u32>
+    requires { before < length tasks.now }
+    ensures { result ≡ place_of tasks.now name.now }
+{
+    let _limits = tasks.as_slice();
+    if tasks.task(before).name.as_bytes() == name {
+        Some(before)
+    } else {
+        tasks.find(name)
+    }
+}
+
 // The task, the job and the units of a row, checked without the rows before it.
-fn read_row(tasks: &TaskSet, row: u64, fields: &ByteRecord) -> Result<(u32, u64, u64), DemandFault>
+fn read_row(
+    tasks: &TaskSet,
+    before: u32,
+    row: u64,
+    fields: &ByteRecord,
+) -> Result<(u32, u64, u64), DemandFault>
+    requires { before < length tasks.now }
     ensures row { result ≡ demand_of_row tasks.now row (fields_of fields.now) }
     ensures task { IfOk result (λ r. r.0 < length tasks.now) }
     ensures job { IfOk result (λ r. 1 ≤ r.1) }
 {
     let count = fields.len() as u64;
     let (name, job, units) = three_fields(fields).ok_or(DemandFault::Fields { row, count })?;
-    let task = tasks.find(name).ok_or(DemandFault::UnknownTask {
+    let task = task_named(tasks, before, name).ok_or(DemandFault::UnknownTask {
         row,
         name: Short::of(name),
     })?;
@@ -106,10 +126,13 @@ fn read_rows(
     ensures rows { MeansDemands (λ d. d) result (demands_from tasks.now 1 demands (records_left reader.old)) }
 {
     let mut row: u64 = 1;
+    let _some = tasks.count();
+    let mut before: u32 = 0;
     while next_record(reader, fields)? {
-        let (task, job, units) = read_row(tasks, row, fields)?;
+        let (task, job, units) = read_row(tasks, before, row, fields)?;
         add_checked(&mut demands, row, task, job, units)?;
         row += 1;
+        before = task;
     }
     Ok(demands)
 }

@@ -1,4 +1,4 @@
-use Rattle.std.proofs.Common.{◌≡◌, length}
+use Rattle.std.proofs.Common.{◌≡◌, ◌<◌, length}
 use Rattle.csv_text.specs.Rows.{IsPlain, AreCountedFrom, records_left}
 use Rattle.demand_list.specs.DemandFile.{demands_from}
 use Rattle.demand_list.proofs.read.read_rows.Given as goal
@@ -9,6 +9,7 @@ invariant-loop-demands l = record {
   plain : IsPlain l.reader;
   fits : AreCountedFrom l.row l.reader;
   worsts : l.demands.worsts ≡ l.fn.demands.worsts;
+  before : l.before < length l.tasks;
   rest : demands_from l.tasks 1 l.fn.demands (records_left l.fn.reader) ≡ demands_from l.tasks l.row l.demands (records_left l.reader);
 }
 
