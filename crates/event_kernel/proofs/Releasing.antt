@@ -6,7 +6,6 @@ use Rattle.std.proofs.lemmas.Bool.{cases_lt}
 use Rattle.std.proofs.lemmas.Bool.Decides.{nat_tests}
 use Rattle.std.proofs.lemmas.List.{set-set}
 use Rattle.std.proofs.lemmas.List.Concat.{flat_map-append}
-use Rattle.grid_fraction.specs.declared.Frac.{Frac}
 use Rattle.dvs_base.specs.declared.note.Note.{Note}
 use Rattle.dvs_base.specs.declared.note.Note.TheVariants.{Release, Done}
 use Rattle.dvs_base.specs.declared.limits.TheConstants.{MOST_TICKS}
@@ -26,6 +25,7 @@ use Rattle.agenda.specs.Agenda.{NonePast, IsFirstDue, next_job_row, opened}
 use Rattle.event_kernel.specs.declared.span_trace.SpanTrace.{SpanTrace}
 use Rattle.event_kernel.specs.Segment.{with_notes}
 use Rattle.event_kernel.proofs.Keeping.{with-append}
+use Rattle.governor.specs.Meanings.{OwnDemand}
 use Rattle.governor.specs.Schedule.{course}
 use Rattle.event_kernel.specs.Boundary.{needs_nothing, opening_notes}
 use Rattle.event_kernel.specs.declared.progress.Setting.{Setting}
@@ -111,7 +111,7 @@ module _ (p : Plan) (dem : JobDemands) (past : List Tick) (periods : (i : ℕ) �
             ∙ (rest.1 ∙ ap (notes_upto p dem past) same),
       )
 
-module _ {p : Plan} {dem : ℕ → ℕ → ℕ} {past : List Tick} (periods : (i : ℕ) → 0 < period p i) where
+module _ {p : Plan} {dem : JobDemands} {past : List Tick} (periods : (i : ℕ) → 0 < period p i) where
   module _ {m : ℕ} {any : Bool} {st : StateOf} (r : Releasing p dem past m any st) where
     now-is : st.now ≡ length past
     now-is = ap (λ (s : StateOf). s.now) r.state
@@ -264,7 +264,7 @@ opened-done p dem s i lt e =
     ∙ ap (λ b. record s { rows = set s.rows i (record row { done = b }) }) (sym e))
 
 -- at a boundary each due row is done
-module _ {demand : Plan → StateOf → Frac} {set : Setting} {s : StateOf} (b : IsAtBoundary set demand s) where
+module _ {demand : OwnDemand} {set : Setting} {s : StateOf} (b : IsAtBoundary set demand s) where
   abbrev before : List Tick
   before = course demand set.plan.now (demands_of set.plan.now set.demands.now) s.now
 

@@ -4,7 +4,6 @@ use Rattle.std.specs.Prelude.{count_by}
 use Rattle.std.proofs.Math.Logic.{⊎_map}
 use Rattle.std.proofs.lemmas.Bool.{cases_lt, or_cases, or_parts, or_left, or_right}
 use Rattle.std.proofs.lemmas.Bool.Decides.{nat_tests}
-use Rattle.grid_fraction.specs.declared.Frac.{Frac}
 use Rattle.dvs_base.specs.declared.note.Note.{Note}
 use Rattle.dvs_base.specs.declared.note.Note.TheVariants.{Speed}
 use Rattle.dvs_base.specs.declared.limits.TheConstants.{MOST_TICKS}
@@ -25,6 +24,7 @@ use Rattle.sched_model.proofs.Joining.{due_released, row_at-prior_state, state-s
 use Rattle.sched_model.proofs.Spans.{stays}
 use Rattle.grid_fraction.proofs.Searches.{any_below-same}
 use Rattle.event_kernel.specs.declared.span_trace.SpanTrace.{SpanTrace}
+use Rattle.governor.specs.Meanings.{OwnDemand}
 use Rattle.governor.specs.Schedule.{ask_of, course}
 use Rattle.event_kernel.specs.Segment.{first_span, notes_with, IsOpen, holder_notes, written_notes, after_segment, ended_trace, new_trace, CanPut, HeldIn}
 use Rattle.event_kernel.specs.declared.notes.TheConstants.{MOST_NOTES}
@@ -43,11 +43,11 @@ use Rattle.agenda.specs.Agenda.{NonePast}
 use Rattle.event_kernel.proofs.Releasing.{prior-past}
 use Rattle.freq_table.specs.Tables.{lowest_entry}
 
-pub start_decision : (demand : Plan → StateOf → Frac) (p : Plan) (dem : JobDemands) → is_decision p dem (course demand p dem zero) ≡ true
+pub start_decision : (demand : OwnDemand) (p : Plan) (dem : JobDemands) → is_decision p dem (course demand p dem zero) ≡ true
 unfolding schedule_by
 start_decision demand p dem = refl
 
-module _ (demand : Plan → StateOf → Frac) (p : Plan) (dem : JobDemands) where
+module _ (demand : OwnDemand) (p : Plan) (dem : JobDemands) where
   abbrev pub asks : PublishedDemand
   asks = ask_of demand p dem
 
@@ -147,13 +147,13 @@ module _ {set : Setting} (ok : IsSetting set) where
   abbrev p : Plan
   p = set.plan.now
 
-  abbrev dem : ℕ → ℕ → ℕ
+  abbrev dem : JobDemands
   dem = demands_of p set.demands.now
 
   adm : Bounds p
   adm = bounds p ok.admitted
 
-  module _ {demand : Plan → StateOf → Frac} where
+  module _ {demand : OwnDemand} where
     decision-is : {t : ℕ} {s : StateOf} {trace : SpanTrace} {completed : Bool} → HasWorked set demand t s trace completed
         → is_decision p dem (course demand p dem (t + 1)) ≡ (some_due p s || completed)
     decision-is {t} {s} h =

@@ -6,7 +6,7 @@ use Rattle.dvs_base.specs.declared.note.Note.{Note}
 use Rattle.dvs_base.specs.declared.note.Pos.{Pos}
 use Rattle.request_list.specs.Requests.{AreRequests}
 use Rattle.sched_model.specs.Plan.{Plan, period, count, offset}
-use Rattle.sched_model.specs.Jobs.{due, release, released_jobs, demand_of}
+use Rattle.sched_model.specs.Jobs.{JobDemands, due, release, released_jobs, demand_of}
 use Rattle.sched_model.specs.Totals.{totals_of}
 use Rattle.sched_model.proofs.ScheduleLemmas.{length-list_below, schedule_exists}
 use Rattle.sched_model.proofs.Tables.{get-table}
@@ -114,7 +114,7 @@ module _ (demand : OwnDemand) (s : ServerOf) (d : DemandsOf) (n ticks : ℕ) (n_
   some : 0 < period s.plan s.task
   some = every_period s.plan servable.plan.limits s.task
 
-  abbrev dem : ℕ → ℕ → ℕ
+  abbrev dem : JobDemands
   dem = demand_of s.plan d.rows
 
   abbrev ticks_run : List Tick

@@ -5,17 +5,17 @@ use Rattle.sched_model.specs.Plan.{Plan, count, worst, point}
 use Rattle.sched_model.specs.Jobs.{JobDemands, latest_since, latest, due, last_release, is_release}
 use Rattle.sched_model.specs.Ticks.{Tick, exec, is_done, at, is_complete, wleft, share, left}
 use Rattle.replay_laws.specs.OwnList.{Asking}
-use Rattle.grid_fraction.specs.declared.Frac.{Frac}
 use Rattle.grid_fraction.proofs.Searches.{any_below-same}
 use Rattle.freq_table.specs.Tables.{lowest_entry}
 use Rattle.sched_model.specs.declared.state.Row.{Row}
 use Rattle.sched_model.specs.Decision.{completes_in, is_decision}
 use Rattle.sched_model.specs.Schedule.{entry_in_force, IsNext, IsScheduleBy}
-use Rattle.sched_model.specs.States.{StateOf, row_of, state_of}
+use Rattle.sched_model.specs.States.{row_of, state_of}
 use Rattle.sched_model.specs.Admission.{IsWithinLimits}
 use Rattle.sched_model.proofs.Limits.{latest-early, every_period}
 use Rattle.sched_model.proofs.Service.{exec-drop, share-legal}
 use Rattle.sched_model.proofs.Tables.{table-same}
+use Rattle.governor.specs.Meanings.{OwnDemand}
 use Rattle.governor.specs.Schedule.{ask_of}
 use Rattle.std.proofs.lemmas.Bool.{cases_lt}
 use Rattle.grid_fraction.proofs.Sums.{sum_below-same}
@@ -139,7 +139,7 @@ module _ (p : Plan) (lim : IsWithinLimits p) (dem other : JobDemands) where
       (same-entry ask blind past (alike-earlier p dem other x past (suc (length (x ∷ past))) (suc (length past)) (omega arith) h)))
 
 -- a governor's published demand, as a function of the state, depends on the demands of finished jobs only
-pub blind-own : (p : Plan) → IsWithinLimits p → (demand : Plan → StateOf → Frac) → IsBlind p (ask_of demand p)
+pub blind-own : (p : Plan) → IsWithinLimits p → (demand : OwnDemand) → IsBlind p (ask_of demand p)
 blind-own p lim demand dem other past h = ap (demand p) (same-state p lim dem other past h)
 
 -- the task needs the same by both, or was given less than it needs and no more than the other need
