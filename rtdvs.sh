@@ -1,7 +1,7 @@
 # rtdvs.sh: runs the program from any folder, as `sh rtdvs.sh run --tasks tasks.toml ..`.
-# It takes crates/rtdvs/out/rtdvs where that is built. Else it takes `rt try`, which compiles for a minute, proves nothing
-# and is hundreds of times slower. What is written and the exit status are the program's own in both ways.
-# Where there is no way, or `rt try` doesn't end the program, standard error says so and the status is 125.
+# It calls crates/rtdvs/out/rtdvs where that is built. Else it calls `rt try`, which compiles for a minute, proves nothing
+# and is hundreds of times slower. Both ways leave the program's own output, errors and exit status; `rt try` writes them
+# when the program has ended. Where it has no answer (as for more than 1 MiB) or is missing, the status is 125.
 here=$(CDPATH='' cd "$(dirname "$0")" && pwd) || exit 125
 program=$here/crates/rtdvs/out/rtdvs
 [ -f "$program" ] && [ -x "$program" ] && exec "$program" "$@"
@@ -9,7 +9,7 @@ program=$here/crates/rtdvs/out/rtdvs
 [ ! -t 2 ] || echo 'rtdvs.sh: no built program, so rt try compiles one; it takes a minute' >&2
 
 # `rt try` runs the program in another folder, so the value of an option that names a file gets this folder's path.
-left=$# reads=command
+left=$# reads='command'
 while [ "$left" -gt 0 ]; do
     word=$1 left=$((left - 1))
     shift
@@ -19,7 +19,6 @@ while [ "$left" -gt 0 ]; do
         reads=file ;;
     option:--probes) ;;
     option:--*) reads=value ;;
-    option:*) reads=nothing ;;
     file:/* | file:) reads=option ;;
     file:*) reads=option word=$PWD/$word ;;
     value:*) reads=option ;;

@@ -13,6 +13,9 @@
 # speed, and a circle at each completion, with the units used and the worst case. The speed row has the speed as a line,
 # idle time in grey, the governor's demand as a dotted line, and a dot at each decision. Each mark has a tooltip.
 #
+# In a long run marks of one kind on (nearly) the same place of a row are drawn once, and bars without a visible gap as
+# one; the legend says so. The size of a picture is then bounded by its width and its rows.
+#
 # Version 1 names no tasks. Their rows are in the order of the first releases, a period is the distance of two releases,
 # and the worst case is unknown, so use version 2 for pictures.
 #
@@ -23,20 +26,25 @@
 # names of 32 letters and for a million million ticks; each is well-formed XML.
 
 BEGIN {
-    HEAD = 52           # above the first row, in pixels as all lengths
+    HEAD = 36           # above the lines of the energies, in pixels as all lengths
+    HEAD_LINE = 16      # a line of the energies
     ROW = 58            # a task's row
     BAR = 36            # a run at full height
     SPEED = 72          # the speed row up to full height
     CAP = 1.5           # a demand is drawn up to this share of the full height
     LEAST = 0.6         # the narrowest bar
     NARROW = 3          # narrower bars are drawn over the arrows, others below them
+    GAP = 0.5           # narrow bars with smaller gaps are drawn as one
+    NEAR = 2            # marks of one kind that are nearer are drawn once
     LETTER = 6.4        # room for a letter or digit of small text
     NAME_LETTER = 7.3   # room for a letter of a name
+    HEAD_LETTER = 6.6   # room for a letter of the energies
+    TITLE_LETTER = 8    # room for a letter of the title
     INK = "#797979"
     DEMAND = "#c04aa8"
     COLOURS = split("#3f83c8 #d07a1f #2f9e74 #9a6dd0 #a08a00 #2a9fb5 #9c7350 #6f7fd8", colour, " ")
-    tasks = releases = decisions = pieces = dones = marks = legends = 0
-    speed = fastest = peak = ended = refused = has_worst = 0
+    tasks = releases = decisions = pieces = dones = marks = legends = head_lines = 0
+    speed = fastest = peak = ended = refused = has_worst = has_idle = has_over = is_thinned = 0
     check_options()
 }
 
@@ -112,6 +120,7 @@ END {
     if (!ended) refuse("no end line: this is not a whole trace")
     settle_view()
     lay_out()
+    note_marks()
     set_legend()
     open_picture(legend_y + 14)
     draw_title()
@@ -122,6 +131,7 @@ END {
     for (i = 0; i < releases; i++) draw_release(i)
     for (i = 0; i < releases; i++) draw_deadline(i)
     for (i = 0; i < pieces; i++) draw_piece(i, 1)
+    for (i = 0; i <= tasks; i++) draw_bar(i)
     for (i = 0; i < dones; i++) draw_done(i)
     draw_steps(decision_speed, "speed")
     draw_steps(demand, "demand")
@@ -294,11 +304,18 @@ function read_done(name,    r) {
 # ---- Places in the picture
 
 function column(tick) { return left + (tick - from) * wide / (to - from) }
-function floor_of(r) { return HEAD + (r + 1) * ROW }
+function floor_of(r) { return head + (r + 1) * ROW }
 function bar_height(units) { return BAR * units / top }
 function speed_height(units) { return SPEED * smaller(units / top, CAP) }
 function is_shown(tick) { return tick >= from && tick <= to }
 function text_width(text) { return length(text) * LETTER }
+
+# Whether a mark of a kind in a row is near one that is drawn; it is asked for marks in the order of their ticks.
+function is_near(kind, r, x) {
+    if ((kind, r) in drawn && x - drawn[kind, r] < NEAR) return 1
+    drawn[kind, r] = x
+    return 0
+}
 
 function settle_view() {
     if (to == "") to = ticks
@@ -315,7 +332,9 @@ function lay_out() {
     tick_label = 12 + 7 * length(whole(to))
     left = left_margin()
     wide = width - left - larger(20, tick_label / 2)
-    if (wide < 100) refuse("width has to be at least " whole(width + 101 - wide) " for these names")
+    set_head()
+    least_width = larger(least_width, width + 101 - wide)
+    if (width < least_width) refuse("width has to be at least " whole(least_width))
     step = step_of(larger(1, int(wide / tick_label)))
     demand_base = floor_of(tasks - 1) + 16
     speed_floor = demand_base + 8 + speed_height(larger(top, peak))
@@ -389,16 +408,38 @@ function open_picture(high) {
     put("</style>")
 }
 
+# The parts of the energies, on as many lines as they need. The title and the longest legend have to fit in the width.
+function set_head() {
+    head_line[0] = ""
+    head_room = 10
+    add_head("energy of the run:", 18)
+    add_head(readable(run_energy, " running,"), smaller(length(run_energy), 12) + 9)
+    add_head(readable(idle_energy, " idle,"), smaller(length(idle_energy), 12) + 6)
+    add_head("in units &#215; mV&#178; &#215; 1000", 21)
+    head = HEAD + (head_lines + 1) * HEAD_LINE
+    least_width = larger(320, 20 + length(title()) * TITLE_LETTER)
+}
+
+# Adds a part, which shows `letters` letters.
+function add_head(text, letters) {
+    if (head_room > 10 && head_room + letters * HEAD_LETTER > width) {
+        head_line[++head_lines] = ""
+        head_room = 10
+    }
+    head_line[head_lines] = head_line[head_lines] (head_room > 10 ? " " : "") text
+    head_room += (letters + 1) * HEAD_LETTER
+}
+
 function title() {
     if (from == 0 && to == ticks) return scheduler ", " governor ": " whole(ticks) " ticks"
     return scheduler ", " governor ": ticks " whole(from) " to " whole(to) " of " whole(ticks)
 }
 
-function draw_title() {
+function draw_title(    i) {
     label("title", 10, 19, title())
-    put("<text x=\"10\" y=\"37\" xml:space=\"preserve\">energy of the run: " readable(run_energy, " running, ") \
-        readable(idle_energy, " idle, in units &#215; mV&#178; &#215; 1000") "<title>running " run_energy \
-        ", idle " idle_energy ", in work units times millivolts squared times 1000</title></text>")
+    for (i = 0; i <= head_lines; i++)
+        put("<text x=\"10\" y=\"" (37 + i * HEAD_LINE) "\" xml:space=\"preserve\">" head_line[i] "<title>running " \
+            run_energy ", idle " idle_energy ", in work units times millivolts squared times 1000</title></text>")
 }
 
 # A line through all rows and a label at each round tick.
@@ -407,7 +448,7 @@ function draw_ticks(    tick) {
     tick = from - from % step
     if (tick < from) tick += step
     for (; tick <= to; tick += step) {
-        line("grid", column(tick), HEAD, "V" decimal(speed_floor + 5))
+        line("grid", column(tick), head, "V" decimal(speed_floor + 5))
         label("tick middle", column(tick), speed_floor + 18, whole(tick))
     }
 }
@@ -443,25 +484,43 @@ function mark_speed(units,    y, i) {
 
 # ---- The rows of tasks
 
-# Draws a segment in the pass for bars of its width.
-function draw_piece(i, are_narrow,    begin, end, x, w) {
+# Draws a segment in the pass for bars of its width. Narrow ones are joined in the row's bar; idle time has the row behind
+# the tasks.
+function draw_piece(i, are_narrow,    begin, end, x, w, r) {
     begin = larger(piece_from[i], from)
     end = smaller(piece_to[i], to)
     if (begin >= end) return
     x = column(begin)
     w = larger(LEAST, column(end) - x)
     if (are_narrow != (w < NARROW)) return
-    if (piece_name[i] == "") draw_idle(i, x, w)
-    else draw_run(i, x, w, row[piece_name[i]])
+    r = piece_name[i] == "" ? tasks : row[piece_name[i]]
+    if (r in bar_first && (piece_speed[i] != piece_speed[bar_first[r]] || x > bar_end[r] + GAP)) draw_bar(r)
+    if (!(r in bar_first)) {
+        bar_first[r] = i
+        bar_from[r] = x
+        bar_count[r] = 0
+    }
+    bar_last[r] = i
+    bar_end[r] = x + w
+    bar_count[r]++
+    if (!are_narrow) draw_bar(r)
 }
 
-function draw_idle(i, x, w) {
-    titled(rectangle(x, speed_floor, w, speed_height(piece_speed[i]), "class=\"idle\""), "idle: " piece_text(i))
+# Draws the bar of a row, if there is one.
+function draw_bar(r,    i, x, w, text) {
+    if (!(r in bar_first)) return
+    i = bar_first[r]
+    x = bar_from[r]
+    w = bar_end[r] - x
+    text = bar_count[r] == 1 ? piece_text(i) : bar_text(bar_count[r], i, bar_last[r])
+    delete bar_first[r]
+    if (r == tasks) titled(rectangle(x, speed_floor, w, speed_height(piece_speed[i]), "class=\"idle\""), "idle: " text)
+    else titled(rectangle(x, floor_of(r), w, bar_height(piece_speed[i]), "fill=\"" colour[r % COLOURS + 1] "\""), \
+        names[r] " job " piece_job[i] (bar_count[r] == 1 ? "" : " to " piece_job[bar_last[r]]) ": " text)
 }
 
-function draw_run(i, x, w, r) {
-    titled(rectangle(x, floor_of(r), w, bar_height(piece_speed[i]), "fill=\"" colour[r % COLOURS + 1] "\""), \
-        names[r] " job " piece_job[i] ": " piece_text(i))
+function bar_text(count, first, last) {
+    return count " segments at speed " piece_speed[first] ", " piece_begin[first] " to " piece_end[last]
 }
 
 function piece_text(i) {
@@ -472,6 +531,7 @@ function piece_text(i) {
 function draw_release(i,    r) {
     if (!is_shown(release_tick[i])) return
     r = release_row[i]
+    if (is_near("release", r, column(release_tick[i]))) return
     path("release", "M" decimal(column(release_tick[i])) " " floor_of(r) "v-48m-3 5l3 -5l3 5", \
         names[r] " job " release_job[i] " released at " whole(release_tick[i]))
 }
@@ -481,7 +541,7 @@ function draw_deadline(i,    r, tick) {
     r = release_row[i]
     if (!(r in period)) return
     tick = release_tick[i] + period[r]
-    if (!is_shown(tick)) return
+    if (!is_shown(tick) || is_near("deadline", r, column(tick))) return
     path("deadline", "M" decimal(column(tick)) " " (floor_of(r) - 28) "v28m-3 -5l3 5l3 -5", \
         names[r] " job " release_job[i] " due at " whole(tick))
 }
@@ -490,6 +550,7 @@ function draw_done(i,    r, x) {
     if (!is_shown(done_tick[i])) return
     r = done_row[i]
     x = column(done_tick[i])
+    if (is_near("done " done_speed[i], r, x)) return
     label_done(i, r, x, done_used[i] (r in worst ? "/" worst[r] : ""))
     circle("done", x, floor_of(r) - bar_height(done_speed[i]), 2.6, names[r] " job " done_job[i] " done at " \
         done_place[i] ": " done_used[i] (r in worst ? " of " worst[r] : "") " units")
@@ -511,16 +572,24 @@ function label_done(i, r, x, text,    room, release, due) {
 
 function decision_end(i) { return i + 1 < decisions ? decision_tick[i + 1] : ticks }
 
-# The values of all decisions as steps, a line for each: building the path as one text takes quadratic time.
-function draw_steps(values, class,    i, begin, end, move) {
+# The values of all decisions as steps, a line for each: building the path as one text takes quadratic time. Of values
+# that together last for less than GAP the lowest and the highest are drawn.
+function draw_steps(values, class,    i, begin, end, x, y, low, high, is_open, move) {
     put("<path class=\"" class "\" d=\"")
     move = "M" decimal(left) " "
+    x = left
     for (i = 0; i < decisions; i++) {
         begin = larger(from, decision_tick[i])
         end = smaller(to, decision_end(i))
         if (begin >= end) continue
-        put(move decimal(speed_floor - speed_height(values[i])) "H" decimal(column(end)))
+        y = speed_floor - speed_height(values[i])
+        low = is_open ? larger(low, y) : y
+        high = is_open ? smaller(high, y) : y
+        is_open = column(end) - x < GAP && end < to
+        if (is_open) continue
+        put(move (low > high ? decimal(low) "V" decimal(high) "V" : "") decimal(y) "H" decimal(column(end)))
         move = "V"
+        x = column(end)
     }
     put("\"/>")
 }
@@ -531,6 +600,7 @@ function draw_decision(i,    x, y, value, tip) {
     x = column(decision_tick[i])
     y = speed_floor - speed_height(demand[i])
     value = decimal(demand[i])
+    if (is_near("decision", int(y / NEAR), x)) return
     tip = "tick " whole(decision_tick[i]) ": demand " fraction[i] " = " value ", speed " decision_speed[i]
     if (demand[i] > CAP * top) path("over", "M" decimal(x - 3.5) " " decimal(y + 3) "h7l-3.5 -6z", tip)
     else circle("dot", x, y, 2.2, tip)
@@ -540,6 +610,18 @@ function draw_decision(i,    x, y, value, tip) {
 
 # ---- The legend, which is set before the picture is opened, since the height depends on it
 
+# Which marks the picture has, and whether some are too near each other.
+function note_marks(    i, r, last) {
+    for (i = 0; i < pieces; i++) if (piece_name[i] == "" && piece_from[i] < to && piece_to[i] > from) has_idle = 1
+    for (i = 0; i < decisions; i++) if (is_shown(decision_tick[i]) && demand[i] > CAP * top) has_over = 1
+    for (i = 0; i < releases; i++) {
+        if (!is_shown(release_tick[i])) continue
+        r = release_row[i]
+        if (r in last && column(release_tick[i]) - last[r] < NEAR) is_thinned = 1
+        last[r] = column(release_tick[i])
+    }
+}
+
 function set_legend() {
     legend_x = 10
     legend_y = speed_floor + 44
@@ -547,12 +629,14 @@ function set_legend() {
     legend(8, "deadline", "<path class=\"deadline\" d=\"M4 -12v14m-3 -5l3 5l3 -5\"/>")
     legend(18, "run, as high as its speed (full height: " whole(top) ")", \
         "<rect y=\"-10\" width=\"18\" height=\"11\" fill=\"" colour[1] "\"/>")
-    legend(8, "done: units used" (has_worst ? "/worst case" : ""), \
+    legend(8, "done: units used" (has_worst ? "/worst case" : "") (charge > 0 ? ", with the charge" : ""), \
         "<circle class=\"done\" cx=\"4\" cy=\"-5\" r=\"2.6\"/>")
-    legend(18, "idle", "<rect class=\"idle\" y=\"-10\" width=\"18\" height=\"11\"/>")
+    if (has_idle) legend(18, "idle", "<rect class=\"idle\" y=\"-10\" width=\"18\" height=\"11\"/>")
     legend(18, "speed", "<path class=\"speed\" d=\"M0 -5h18\"/>")
     legend(18, "demand, a dot at each decision", \
         "<path class=\"demand\" d=\"M0 -5h18\"/><circle class=\"dot\" cx=\"9\" cy=\"-5\" r=\"2.2\"/>")
+    if (has_over) legend(8, "demand above the picture", "<path class=\"over\" d=\"M0 -2h7l-3.5 -6z\"/>")
+    if (is_thinned) legend(0, "marks less than " NEAR " pixels apart are drawn once", "")
 }
 
 # A symbol `wide_symbol` pixels wide and its text, on a new line where the last one is full.
@@ -563,6 +647,6 @@ function legend(wide_symbol, text, symbol,    room) {
         legend_y += 20
     }
     legend_item[legends++] = "<g transform=\"translate(" decimal(legend_x) " " decimal(legend_y) ")\">" symbol \
-        "<text class=\"tick\" x=\"" (wide_symbol + 5) "\" y=\"-1\">" text "</text></g>"
+        "<text class=\"tick\" x=\"" (wide_symbol > 0 ? wide_symbol + 5 : 0) "\" y=\"-1\">" text "</text></g>"
     legend_x += room + 14
 }

@@ -15,6 +15,7 @@
 # units, but not to 0. Then that of the last task with the longest period is set anew, to the most with which the set
 # isn't above its utilisation. So the set is below it by less than one unit in that period at the highest speed. Where no
 # unit is left for that task, the set is refused with status 1; a higher `top` makes this rarer.
+# Neighbouring seeds give unrelated sets: the numbers of the generator that are left out first depend on the seed.
 # Whole numbers stay below 2^53 and are exact. It needs an awk with logarithms and powers, which Debian's busybox lacks.
 # Checked by tools/check_uunifast.sh: mawk, gawk and original-awk print the same sets as a program in Python.
 
@@ -27,6 +28,10 @@ function refuse(why, status) {
 function draw() {
     state = state * 48271 % 2147483647
     return state / 2147483647
+}
+
+function leave_out(numbers) {
+    while (numbers-- > 0) draw()
 }
 
 function common_divisor(a, b,    rest) {
@@ -104,7 +109,8 @@ BEGIN {
     if (choices == 0) refuse("no period divides the multiple", 2)
     if (1000 * top * multiple >= 9007199254740992) refuse("1000 times top times the common multiple is 2^53 or more", 2)
     state = seed
-    for (i = 1; i <= 10; i++) draw()
+    leave_out(10)
+    leave_out(int(draw() * 1000))
     for (i = 1; i <= tasks; i++) period[i] = draw_period()
     draw_shares()
     draw_worsts()

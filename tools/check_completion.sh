@@ -1,4 +1,4 @@
 # check_completion.sh: the completion for bash, and the options of the man page, against the table of README.md.
 cd "$(dirname "$0")/.." || exit 2
-command -v bash > /dev/null || { echo 'completion: skipped, no bash'; exit 0; }
+[ -n "$(command -v bash)" ] || { echo 'completion: skipped, no bash'; exit 0; }
 bash tools/check_completion.bash

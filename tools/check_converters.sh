@@ -1,7 +1,7 @@
 # check_converters.sh PROGRAM [TRACE..]: reads what the converters make of traces, and compares it with the traces:
 #     AWK=mawk sh tools/check_converters.sh crates/rtdvs/out/rtdvs
 # Without traces they are those of the examples, and what PROGRAM migrates of those that lie beside their tasks.
-# It needs python3, by which the waves are read; where GTKWave's vcd2fst and fst2vcd are, or sigrok-cli, by these too.
+# It needs python3. The waves are read as they are; also through GTKWave's vcd2fst and by sigrok-cli, where these are.
 # Whole numbers are compared exactly. A decimal number may differ by the last digit that the converter prints.
 top=$(dirname "$0")/.. bad=0
 : "${AWK:=awk}"

@@ -5,13 +5,14 @@ case ${1:?no program} in
 *) program=$PWD/$1 ;;
 esac
 [ -x "$program" ] || { echo "no program: $program"; exit 2; }
-command -v python3 > /dev/null || { echo 'check_exercises: skipped, no python3'; exit 0; }
+[ -n "$(command -v python3)" ] || { echo 'check_exercises: skipped, no python3'; exit 0; }
 top=$(cd "$(dirname "$0")/.." && pwd)
 work=$(mktemp -d) || exit 2
 trap 'rm -r "$work"' EXIT
 trap 'exit 2' HUP INT PIPE TERM
 cd "$work" && ln -s "$program" rtdvs && ln -s "$top/crates" "$top/examples" . || exit 2
 
+: > nothing
 calls=0
 grep -v -e '^#' -e '^$' examples/exercises/solutions.txt > wanted
 while IFS= read -r line; do
@@ -19,7 +20,7 @@ while IFS= read -r line; do
     '$ '*)
         calls=$((calls + 1))
         printf '%s\n' "$line"
-        sh -c "${line#??}" < /dev/null 2>&1
+        sh -c "${line#??}" < nothing 2>&1
         status=$?
         [ $status = 0 ] || echo "status $status"
         ;;

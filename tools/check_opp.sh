@@ -35,7 +35,7 @@ point() {
     } > "$work/file"
 }
 
-# 747.5 MHz are 747 units of 1000 cycles a millisecond; 1187.5 mV are rounded up.
+# 747.5 MHz are 747 units of 1000 cycles a millisecond; 1187.25 mV are rounded up.
 machine 500 825 747 900 1400 1188
 check 0 $board -v table=little
 # In units of 10000 cycles and ticks of 100 microseconds, 100 MHz are a unit a tick.

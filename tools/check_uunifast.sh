@@ -1,7 +1,8 @@
 # check_uunifast.sh PROGRAM: compares the sets of examples/uunifast.awk with those of a program in Python, which draws
 # them by the published rule. Each set has the utilisation asked for within the stated error, and PROGRAM admits it under
 # EDF. Over many seeds the share of a task has the distribution of UUniFast: it is above x of the whole with the
-# probability (1 - x)^(tasks - 1). The number of shares above x may differ by four standard deviations.
+# probability (1 - x)^(tasks - 1). The number of shares above x may differ by four standard deviations. Over neighbouring seeds the periods of each task are
+# on both sides of the middle.
 program=${1:?no program}
 [ -n "$(command -v python3)" ] || { echo 'uunifast: skipped, no python3'; exit; }
 work=$(mktemp -d) || exit 2
@@ -28,11 +29,12 @@ def lcm(numbers):
     return product
 
 def numbers(seed):
-    """The generator, after ten numbers."""
-    for i in range(1, 10**9):
+    """The generator without its first numbers: ten, one, and as many thousandths as that one is."""
+    stream = []
+    for _ in range(1500):
         seed = seed * 48271 % (2**31 - 1)
-        if i > 10:
-            yield seed / (2**31 - 1)
+        stream.append(seed / (2**31 - 1))
+    return iter(stream[11 + int(stream[10] * 1000):])
 
 def wanted(tasks, utilisation, seed, top=1000, periods=None, low=10, high=1000, multiple=720720):
     """Periods and worst cases by the rule."""
@@ -95,6 +97,14 @@ for tasks, thousandths, seed, options in [
     if not admitted(top):
         differ(f"{tasks} tasks, seed {seed}: not admitted")
 
+SEEDS, TASKS = 40, 8
+sets = [found(TASKS, F(1, 2), seed) for seed in range(1, SEEDS + 1)]
+for task in range(TASKS):
+    cases += 1
+    short = sum(row[task][0] < 100 for row in sets if len(row) == TASKS)
+    if abs(short - SEEDS / 2) > 4 * sqrt(SEEDS / 4):
+        differ(f"task {task + 1}: {short} periods of {SEEDS} below 100, wanted about {SEEDS // 2}")
+
 SETS, TASKS, TOP = 400, 4, 100000
 shares = [[F(worst, period * TOP) / F(8, 10) for period, worst in found(TASKS, F(8, 10), seed, top=TOP)]
           for seed in range(1, SETS + 1)]
@@ -102,7 +112,7 @@ for task in range(TASKS):
     for x in (0.05, 0.2, 0.5):
         cases += 1
         chance = (1 - x) ** (TASKS - 1)
-        above = sum(row[task] > x for row in shares)
+        above = sum(row[task] > x for row in shares if len(row) == TASKS)
         if abs(above - SETS * chance) > 4 * sqrt(SETS * chance * (1 - chance)):
             differ(f"task {task + 1}: {above} shares of {SETS} above {x}, wanted about {SETS * chance:.0f}")
 

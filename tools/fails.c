@@ -1,4 +1,4 @@
-// fails.c: lets the n-th call of a kind fail; TESTING.md says how it is used.
+// fails.c: lets the n-th call of a kind fail; check_failing.sh uses it.
 #define _GNU_SOURCE
 #include <dlfcn.h>
 #include <errno.h>

@@ -1,34 +1,74 @@
 -- The laws of cycle-conserving EDF.
-use Rattle.std.proofs.Common.{◌≡◌, inl, inr, ℕ, ◌+◌, ◌-◌, ◌*◌, ◌/◌, ◌<◌, ◌≤◌, ◌^◌, min, true, false, List, refl, ap, sym, ◌∙◌, subst, arith}
+use Rattle.std.proofs.Common.{◌≡◌, ℕ, ◌<◌, ◌≤◌, min, Bool, true, false, List, refl, subst, arith, inl, inr, ◌+◌, ◌-◌, ◌*◌, ◌/◌, ◌^◌, ap, sym, ◌∙◌}
 use Rattle.std.specs.Prelude.{if◌then◌else◌}
-use Rattle.std.proofs.Math.Nat.{mul-le-mul_right, mul-zero, le_of_mul-le-mul_left}
-use Rattle.std.proofs.lemmas.Bool.{le-leb, cases_lt}
+use Rattle.std.proofs.lemmas.Bool.Decides.{nat_tests}
 use Rattle.dvs_base.specs.declared.kind.Scheduler.{Scheduler}
-use Rattle.dvs_base.specs.declared.kind.GovernorKind.TheVariants.{Cycle}
-use Rattle.dvs_base.specs.PlanWords.{IsPair}
-use Rattle.grid_fraction.specs.Numbers.{sum_below, sum_where}
-use Rattle.grid_fraction.proofs.Sums.{sum_below-add, sum_below-le, sum_below-zero}
-use Rattle.freq_table.specs.Tables.{speed_at, lowest_entry, lowest_pick}
-use Rattle.freq_table.proofs.Chosen.{picked_meets, picked_met}
+use Rattle.grid_fraction.specs.Numbers.{sum_where, sum_below}
+use Rattle.grid_fraction.proofs.Sums.{sum_below-le, sum_below-add, sum_below-zero}
 use Rattle.sched_model.specs.Plan.{Plan, count, period, worst, hyper, rate, top_speed}
 use Rattle.sched_model.specs.Jobs.{JobDemands}
+use Rattle.sched_model.specs.Priority.{stands_before, sum_before, SharesOut}
+use Rattle.sched_model.specs.States.{StateOf, row_at, key_in, opening, IsOfPlan}
+use Rattle.sched_model.proofs.DownSets.{due_by_gets}
+use Rattle.sched_model.proofs.LevelSums.{sum_where-tight, sum_below-times, sum_where-term, sum_where-zero}
+use Rattle.governor.specs.Serving.{ServesEdf}
+use Rattle.governor.specs.Steps.{share_in, left_in, IsLegalIn, after_tick, Belongs, after_boundary, wleft_at, IsBeforeAll}
+use Rattle.governor.proofs.Belonging.{legal_most, unborn_done, opening_at, boundary_at, tick_at, due_soon}
+use Rattle.governor.proofs.Ticks.{tick-closes, demand_most}
+use Rattle.governor.specs.Edf.{due_by}
+use Rattle.std.proofs.Math.Nat.{mul-le-mul_right, mul-zero, le_of_mul-le-mul_left}
+use Rattle.std.proofs.lemmas.Bool.{le-leb, cases_lt}
+use Rattle.dvs_base.specs.declared.kind.GovernorKind.TheVariants.{Cycle}
+use Rattle.dvs_base.specs.PlanWords.{IsPair}
+use Rattle.freq_table.specs.Tables.{speed_at, lowest_entry, lowest_pick}
+use Rattle.freq_table.proofs.Chosen.{picked_meets, picked_met}
 use Rattle.sched_model.specs.Tests.{total_rate}
 use Rattle.sched_model.specs.Admission.{IsWithinLimits, IsAdmitted}
-use Rattle.sched_model.specs.States.{StateOf, row_at, opening, IsOfPlan}
 use Rattle.sched_model.proofs.Limits.{some_hyper, low_hyper, period_divides}
-use Rattle.sched_model.proofs.LevelSums.{sum_below-times, sum_where-term, sum_where-zero}
 use Rattle.governor.specs.Laws.{GovernorLaws}
-use Rattle.governor.specs.Serving.{ServesEdf}
-use Rattle.governor.specs.Steps.{after_boundary, after_tick, wleft_at, left_in, share_in, IsLegalIn, IsBeforeAll, Belongs}
-use Rattle.governor.proofs.Belonging.{unborn_done, opening_at, boundary_at, tick_at, due_soon, legal_most}
-use Rattle.governor.proofs.Ticks.{demand_most}
-use Rattle.governor.specs.Edf.{due_by}
 use Rattle.governor.proofs.EdfLaws.{closed_row}
 use Rattle.governor.proofs.Fits.{full_enough}
 use Rattle.cc_edf_laws.specs.Cycle.{charged_of, charged_rate_in, edf_cycle_demand}
 use Rattle.cc_edf_laws.specs.Conditions.{due_work, credit, CycleCalm, CycleSafe}
 use Rattle.cc_edf_laws.proofs.Rows.{owed, credit_of, boundary_pays, tick_pays, tick_charge, charged_most}
-use Rattle.cc_edf_laws.proofs.Shares.{due_closes, due_full, later_none}
+
+if-weaker : (a b : Bool) (x : ℕ) → (a ≡ true → b ≡ true) → (if a then x else 0) ≤ (if b then x else 0)
+if-weaker true b x h = rw (h refl) (omega arith)
+if-weaker false b x h = omega arith
+
+module _ (plan : Plan) (dem : JobDemands) (f : ℕ) (s : StateOf) (shares : List ℕ) (edf : ServesEdf plan.scheduler)
+    (bel : Belongs plan dem s) (legal : IsLegalIn plan dem f s shares) where
+  abbrev deadlines : ℕ → ℕ
+  deadlines i = (row_at s i).deadline
+
+  by_deadline : SharesOut (count plan) deadlines f (left_in dem s) (share_in shares)
+  by_deadline = subst (λ (sch : Scheduler). SharesOut (count plan) (key_in sch plan s) f (left_in dem s) (share_in shares)) edf legal.out
+
+  pub due_gets : (d : ℕ)
+      → sum_where (count plan) (due_by s d) (share_in shares) ≡ min f (sum_where (count plan) (due_by s d) (left_in dem s))
+  due_gets d = due_by_gets (count plan) deadlines d f (left_in dem s) (share_in shares) by_deadline
+
+  -- where the speed covers what the tasks due by d need, each of them is complete after the tick
+  pub due_closes : (d : ℕ) → sum_where (count plan) (due_by s d) (left_in dem s) ≤ f → (i : ℕ) → i < count plan
+      → due_by s d i ≡ true → (row_at (after_tick dem shares s) i).done ≡ true
+  due_closes d low i h on =
+      tick-closes plan dem f s shares bel legal i h
+      (sum_where-tight (count plan) (due_by s d) (left_in dem s) (share_in shares) (legal_most plan dem f s shares legal) (omega (arith, due_gets d)) i h on)
+
+  -- where the tasks due by d need all units of the tick, they get them all
+  pub due_full : (d : ℕ) → f ≤ sum_where (count plan) (due_by s d) (left_in dem s)
+      → sum_where (count plan) (due_by s d) (share_in shares) ≡ f
+  due_full d high = omega (arith, due_gets d)
+
+  -- where the tasks due by d need all units of the tick, no task that is due later gets any
+  pub later_none : (d : ℕ) → f ≤ sum_where (count plan) (due_by s d) (left_in dem s) → (i : ℕ) → i < count plan
+      → d < (row_at s i).deadline → share_in shares i ≡ 0
+  later_none d high i h later =
+      let first : (k : ℕ) → due_by s d k ≡ true → stands_before deadlines k i ≡ true = λ k on. grind (arith, nat_tests) in
+      let before : sum_where (count plan) (due_by s d) (share_in shares) ≤ sum_before (count plan) deadlines (share_in shares) i =
+      sum_below-le (count plan) (λ k. if due_by s d k then share_in shares k else 0) (λ k. if stands_before deadlines k i then share_in shares k else 0)
+      (λ k l. if-weaker (due_by s d k) (stands_before deadlines k i) (share_in shares k) (first k)) in
+      omega (arith, before, due_full d high, by_deadline i h)
 
 -- an inequality of two terms for each task, added up
 sum-two : (n : ℕ) (a b c d : ℕ → ℕ) → ((i : ℕ) → i < n → a i + b i ≤ c i + d i)

@@ -1,4 +1,3 @@
-pub mod Shares
 pub mod Rows
 pub mod CycleLaws
 pub mod Publishing

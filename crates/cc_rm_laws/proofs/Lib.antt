@@ -3,6 +3,5 @@ pub mod Lefts
 pub mod Backlog
 pub mod Deadlines
 pub mod Marks
-pub mod Running
 pub mod CcRmLaws
 pub mod Publishing

@@ -128,8 +128,11 @@ module _ (p : Plan) (dem : JobDemands) (ask : PublishedDemand) (lim : IsWithinLi
   open-after x past =
       sym (sum_below-add (count p) (open_job (x ∷ past)) (λ i. one_if (completes_in p dem x past i)))
       ∙ sum_below-same (count p) (λ i. open_job (x ∷ past) i + one_if (completes_in p dem x past i)) (lacks past (length past))
-      (λ i lt. one i (latest p i (length past)) (is_done p dem past i (latest p i (length past))) refl (is_done p dem (x ∷ past) i (latest p i (length past))) refl)
+      (λ i lt. one i (job i) (is_done p dem past i (job i)) refl (is_done p dem (x ∷ past) i (job i)) refl)
     where
+      job : ℕ → ℕ
+      job i = latest p i (length past)
+
       one : (i k : ℕ) (a : Bool) → is_done p dem past i k ≡ a → (b : Bool) → is_done p dem (x ∷ past) i k ≡ b
           → (if is_done p dem (x ∷ past) i k then 0 else 1) + one_if (not (is_done p dem past i k) && is_done p dem (x ∷ past) i k)
           ≡ (if is_done p dem past i k then 0 else 1)

@@ -1,5 +1,5 @@
 -- The notes of a schedule say once that a job completes, when it has had its demand, and not after its deadline.
-use Rattle.std.proofs.Common.{◌≡◌, ◌≢◌, ℕ, suc, ◌+◌, ◌-◌, ◌*◌, ◌/◌, ◌%◌, ◌<◌, ◌≤◌, Bool, true, false, ◌&&◌, List, [], ◌∷◌, length, refl, arith, ap, ◌∙◌, true≢false, inl, inr, nat_eq, nat_lt, div-add-mod', mul-le-mul_right}
+use Rattle.std.proofs.Common.{◌≡◌, ◌≢◌, ℕ, suc, ◌+◌, ◌-◌, ◌*◌, ◌/◌, ◌%◌, ◌<◌, ◌≤◌, Bool, true, false, ◌&&◌, List, [], ◌∷◌, length, refl, arith, if◌then◌else◌, ap, ◌∙◌, true≢false, inl, inr, nat_eq, nat_lt, div-add-mod', mul-le-mul_right}
 use Rattle.std.specs.Prelude.{count_by, cond}
 use Rattle.std.specs.List.{AllByRecursion}
 use Rattle.std.proofs.Math.Nat.{le_of_mul-le-mul_right}
@@ -7,7 +7,7 @@ use Rattle.std.proofs.lemmas.Bool.{cases_lt}
 use Rattle.std.proofs.lemmas.Bool.Decides.{nat_tests}
 use Rattle.dvs_base.specs.declared.note.Note.{Note}
 use Rattle.dvs_base.specs.declared.note.Note.TheVariants.{Done}
-use Rattle.grid_fraction.proofs.Sums.{sum_below-one}
+use Rattle.grid_fraction.proofs.Sums.{sum_below-same}
 use Rattle.sched_model.specs.Plan.{Plan, count, period, point}
 use Rattle.sched_model.specs.Jobs.{JobDemands, latest, release, due, releases_at}
 use Rattle.sched_model.specs.Ticks.{PublishedDemand, Tick, exec}
@@ -18,6 +18,7 @@ use Rattle.sched_model.proofs.Limits.{every_period}
 use Rattle.sched_model.proofs.JobLaws.{latest-is, lt-due, release-due, exec-early}
 use Rattle.sched_model.proofs.NoteSums.{one_if, release-sum, tells_done, same-numbers, reached-all, reached-none, done_by, nothing, tells-job, none-sum, with-end, next-sum, none-weighs}
 use Rattle.sched_model.proofs.Spans.{IsLastSpan, IsNow}
+use Rattle.sched_model.proofs.Units.{sum-own}
 use Rattle.sched_model.proofs.Walk.{EachNote, AreFirst, each-note}
 use Rattle.trace_text.proofs.PlainLines.{each-append}
 use Rattle.done_lines.specs.DoneLines.{IsBy}
@@ -66,31 +67,25 @@ module _ (p : Plan) (dem : JobDemands) (ask : PublishedDemand) (lim : IsWithinLi
   at-release : (t : ℕ) → told (all_release_notes p dem t) ≡ one_if (nat_eq (dem i k) 0 && nat_eq (release p i k) t)
   at-release t =
       release-sum p dem t (λ note. cond (tells_done i k note) 1 0)
-      ∙ (sum_below-one (count p) i own inside (λ j lt ne. off j ne (nat_eq i j) refl) ∙ on (nat_eq k (latest p i t)) refl)
+      ∙ (sum_below-same (count p) _ (λ j. empty j * cond (nat_eq i j && nat_eq k (latest p j t)) 1 0) (λ j lt. omega arith)
+      ∙ (sum-own (count p) i k empty (λ j. latest p j t) inside ∙ on (nat_eq k (latest p i t)) refl))
     where
-      own : ℕ → ℕ
-      own j =
-          one_if (releases_at p j t) * 0
-          + one_if (releases_at p j t && nat_eq (dem j (latest p j t)) 0) * cond (nat_eq i j && nat_eq k (latest p j t)) 1 0
+      empty : ℕ → ℕ
+      empty j = one_if (releases_at p j t && nat_eq (dem j (latest p j t)) 0)
 
-      off : (j : ℕ) → j ≢ i → (b : Bool) → nat_eq i j ≡ b → own j ≡ 0
-      off j ne true e = absurd (ne (grind (arith, nat_tests)))
-      off j ne false e = rw e (omega arith)
-
-      self : (m : ℕ) → nat_eq m m ≡ true
-      self m = grind (arith, nat_tests)
-
-      on : (b : Bool) → nat_eq k (latest p i t) ≡ b → own i ≡ one_if (nat_eq (dem i k) 0 && nat_eq (release p i k) t)
+      on : (b : Bool) → nat_eq k (latest p i t) ≡ b
+          → (if nat_eq k (latest p i t) then empty i else 0) ≡ one_if (nat_eq (dem i k) 0 && nat_eq (release p i k) t)
       on true e =
           let job : latest p i t ≡ k = grind (arith, nat_tests) in
-          rw (job, self i, self k) (here (nat_eq (release p i k) t) (nat_eq (dem i k) 0))
+          let self : nat_eq k k ≡ true = grind (arith, nat_tests) in
+          rw (job, self) (here (nat_eq (release p i k) t) (nat_eq (dem i k) 0))
         where
-          here : (a b : Bool) → one_if a * 0 + one_if (a && b) * 1 ≡ one_if (b && a)
-          here true true = omega arith
-          here true false = omega arith
-          here false true = omega arith
-          here false false = omega arith
-      on false e = rw (self i, e, away (nat_eq (release p i k) t) refl) (omega (arith, none (nat_eq (dem i k) 0)))
+          here : (a b : Bool) → one_if (a && b) ≡ one_if (b && a)
+          here true true = refl
+          here true false = refl
+          here false true = refl
+          here false false = refl
+      on false e = rw (e, away (nat_eq (release p i k) t) refl) (none (nat_eq (dem i k) 0))
         where
           away : (b : Bool) → nat_eq (release p i k) t ≡ b → nat_eq (release p i k) t ≡ false
           away false f = f
@@ -99,7 +94,7 @@ module _ (p : Plan) (dem : JobDemands) (ask : PublishedDemand) (lim : IsWithinLi
               let job : latest p i t ≡ k = latest-is p i k t (omega arith) (omega (arith, release-due p i k some_job, some)) in
               absurd (true≢false (grind (arith, nat_tests)))
 
-          none : (b : Bool) → one_if (b && false) ≡ 0
+          none : (b : Bool) → 0 ≡ one_if (b && false)
           none true = refl
           none false = refl
 

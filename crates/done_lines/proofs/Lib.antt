@@ -5,9 +5,9 @@ pub mod DoneText
 pub mod CountLemmas
 pub mod TickPieces
 pub mod SpanPieces
-pub mod SpanNotes
 pub mod OneEnd
-pub mod FewReleases
-pub mod FewLines
+pub mod FewNotes
 pub mod Traces
 pub mod Examples
+pub mod DemandWidths
+pub mod TraceLimits

@@ -1,3 +1,4 @@
 pub mod RunText
 pub mod DoneLines
 pub mod LineCounts
+pub mod RunTraces

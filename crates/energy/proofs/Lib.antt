@@ -1,2 +1,1 @@
-pub mod BookLemmas
-pub mod BookRoom
+pub mod Books

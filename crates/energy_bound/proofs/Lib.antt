@@ -1,10 +1,8 @@
 pub mod Lines
 pub mod CornerLemmas
 pub mod Pairs
-pub mod Costs
-pub mod FirstPair
 pub mod FirstFound
 pub mod ScheduleCosts
-pub mod Certifying
+pub mod Costs
 pub mod LeastTest
 pub mod Examples

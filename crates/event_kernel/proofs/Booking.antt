@@ -11,11 +11,10 @@ use Rattle.sched_model.specs.Plan.{Plan, count}
 use Rattle.sched_model.specs.Notes.{energy_run, energy_idle}
 use Rattle.sched_model.specs.Totals.{totals_of}
 use Rattle.sched_model.proofs.ScheduleLemmas.{length-list_below}
-use Rattle.done_lines.proofs.SpanNotes.{IsNoteIn}
+use Rattle.done_lines.proofs.FewNotes.{IsNoteIn}
 use Rattle.energy.specs.Books.{Books, Told, books_of, booked, energy_at_point, HasTask, HasRoom}
 use Rattle.dvs_base.specs.NoteTasks.{energy_of_task}
-use Rattle.energy.proofs.BookLemmas.{booked-sums}
-use Rattle.energy.proofs.BookRoom.{has-room, task-sums}
+use Rattle.energy.proofs.Books.{booked-sums, has-room, task-sums}
 use Rattle.event_kernel.specs.SpanNotes.{all_booked, CanBook, HasBooked}
 use Rattle.event_kernel.proofs.Fitting.{AreBooked}
 
@@ -63,11 +62,9 @@ module _ (p : Plan) where
 
       of : (m : Note) → IsNoteIn p m → HasTask (books_of (count p) points h.told) m
       of (Release tick i k) l = omega (arith, l, long)
-      of (Speed tick speed num den) l = tt
       of (Run from to i k units energy) l = omega (arith, l, long)
-      of (Idle from to units energy) l = tt
       of (Done q i k used) l = omega (arith, l, long)
-      of (End ticks total rest) l = tt
+      of _ l = tt
 
   -- notes that fit can all be added to the account, and it has them then
   pub book-all : (ns : List Note) (b : Books) (notes : List Note) (e : ℕ) → HasBooked p b notes → AreBooked p (notes ++ ns) → e < points

@@ -2,16 +2,17 @@
 use Rattle.std.proofs.Common.{◌≡◌, ℕ, ◌+◌, ◌-◌, ◌<◌, ◌≤◌, Bool, List, [], ◌∷◌, ◌++◌, length, refl, arith, true, ap, ap₂, ◌∙◌, sym, subst, inl}
 use Rattle.std.specs.Prelude.{sum_by, count_by}
 use Rattle.std.proofs.lemmas.List.Sums.{sum_by-append, sum_by-cons}
-use Rattle.grid_fraction.specs.declared.Frac.{Frac}
 use Rattle.grid_fraction.proofs.Counts.{count-append}
 use Rattle.dvs_base.specs.declared.note.Note.{Note}
 use Rattle.dvs_base.specs.declared.note.Note.TheVariants.{End}
 use Rattle.dvs_base.specs.declared.note.Totals.{Totals}
 use Rattle.dvs_base.specs.declared.limits.TheConstants.{MOST_TICKS}
 use Rattle.sched_model.specs.Plan.{Plan}
+use Rattle.sched_model.specs.Jobs.{JobDemands}
 use Rattle.sched_model.specs.Schedule.{schedule_by}
 use Rattle.sched_model.specs.Decision.{is_decision}
 use Rattle.sched_model.specs.Ticks.{Tick}
+use Rattle.governor.specs.Meanings.{OwnDemand}
 use Rattle.governor.specs.Schedule.{course}
 use Rattle.sched_model.specs.Notes.{notes_before_end, energy_run, energy_idle}
 use Rattle.sched_model.specs.States.{prior_state, StateOf}
@@ -33,12 +34,12 @@ use Rattle.event_kernel.proofs.Fitting.{AreBooked, course-fits}
 use Rattle.event_kernel.proofs.Spanning.{closing-notes}
 use Rattle.event_kernel.proofs.Courses.{course-len}
 
-module _ {demand : Plan → StateOf → Frac} {set : Setting} (ok : IsSetting set) {force : InForce} {s : StateOf} {trace : SpanTrace}
+module _ {demand : OwnDemand} {set : Setting} (ok : IsSetting set) {force : InForce} {s : StateOf} {trace : SpanTrace}
     (h : HasWalked set demand force (s.now - 1) s trace) where
   abbrev p : Plan
   p = set.plan.now
 
-  abbrev dem : ℕ → ℕ → ℕ
+  abbrev dem : JobDemands
   dem = demands_of p set.demands.now
 
   next : s.now - 1 + 1 ≡ s.now
@@ -56,7 +57,7 @@ module _ {demand : Plan → StateOf → Frac} {set : Setting} (ok : IsSetting se
       ∙ closing-notes ok h (course-fits demand p dem ok.admitted ok.within.none (s.now - 1)).span
 
 -- the opening state is before the first span, at tick 0, and has no notes
-pub first-between : {demand : Plan → StateOf → Frac} {set : Setting} {s : StateOf}
+pub first-between : {demand : OwnDemand} {set : Setting} {s : StateOf}
     → s ≡ prior_state set.plan.now (demands_of set.plan.now set.demands.now) []
     → IsBetween set demand s × (notes_before demand set.plan.now (demands_of set.plan.now set.demands.now) s.now ≡ []) × (s.now ≡ 0)
 unfolding schedule_by notes_before_end
@@ -72,7 +73,7 @@ first-between {demand} {set} {s} e =
     )
 
 -- the notes of a span can be added to the account, and it has them then
-pub span-booked : (demand : Plan → StateOf → Frac) (p : Plan) (dem : ℕ → ℕ → ℕ) → IsAdmitted p → ((i : ℕ) → dem i 0 ≡ 0) → (t t' : ℕ)
+pub span-booked : (demand : OwnDemand) (p : Plan) (dem : JobDemands) → IsAdmitted p → ((i : ℕ) → dem i 0 ≡ 0) → (t t' : ℕ)
     (ns : List Note) (b : Books) (e : ℕ) → t' ≤ MOST_TICKS → notes_before demand p dem t' ≡ notes_before demand p dem t ++ ns
     → HasBooked p b (notes_before demand p dem t) → e < length p.machine.points
     → CanBook b ns e × HasBooked p (all_booked b ns e) (notes_before demand p dem t')
@@ -81,7 +82,7 @@ span-booked demand p dem adm none t t' ns b e early is h lt =
     (all.0, subst (HasBooked p (all_booked b ns e)) (sym is) all.1)
 
 -- all notes of a run, and their totals
-module _ (demand : Plan → StateOf → Frac) (r : Run) where
+module _ (demand : OwnDemand) (r : Run) where
   abbrev before : List Note
   before = notes_before_end_of demand r
 

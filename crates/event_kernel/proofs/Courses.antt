@@ -1,17 +1,16 @@
 -- The ticks of a governor's schedule.
 use Rattle.std.proofs.Common.{◌≡◌, ℕ, ◌+◌, ◌<◌, ◌≤◌, ◌∷◌, length, arith, ap, add-one}
-use Rattle.grid_fraction.specs.declared.Frac.{Frac}
 use Rattle.sched_model.specs.Plan.{Plan, count, worst}
 use Rattle.sched_model.specs.Ticks.{exec}
-use Rattle.sched_model.specs.Jobs.{IsWithin}
+use Rattle.sched_model.specs.Jobs.{JobDemands, IsWithin}
 use Rattle.sched_model.specs.Schedule.{schedule_by, IsScheduleBy}
-use Rattle.sched_model.specs.States.{StateOf}
 use Rattle.sched_model.proofs.ScheduleLemmas.{schedule_exists}
 use Rattle.sched_model.proofs.Service.{exec-most}
+use Rattle.governor.specs.Meanings.{OwnDemand}
 use Rattle.governor.specs.Schedule.{ask_of, course}
 use Rattle.event_kernel.specs.Tickwork.{tick_at}
 
-module _ (demand : Plan → StateOf → Frac) (p : Plan) (dem : ℕ → ℕ → ℕ) (t : ℕ) where
+module _ (demand : OwnDemand) (p : Plan) (dem : JobDemands) (t : ℕ) where
   pub course-next : course demand p dem (t + 1) ≡ tick_at demand p dem t ∷ course demand p dem t
   unfolding schedule_by
   course-next = ap (course demand p dem) (add-one t)

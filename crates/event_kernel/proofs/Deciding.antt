@@ -5,7 +5,7 @@ use Rattle.task_model.specs.declared.limits.TheConstants.{LONGEST_PERIOD}
 use Rattle.sched_model.specs.declared.state.Row.{Row}
 use Rattle.event_kernel.proofs.Bounds.{Bounds}
 use Rattle.sched_model.specs.Plan.{Plan, count}
-use Rattle.sched_model.specs.Jobs.{latest, due, last_release}
+use Rattle.sched_model.specs.Jobs.{JobDemands, latest, due, last_release}
 use Rattle.sched_model.specs.Ticks.{Tick, at, exec, is_complete, wleft}
 use Rattle.sched_model.proofs.JobLaws.{lt-due, due-within, last_release-le, latest_since-le, latest-marked}
 use Rattle.sched_model.specs.States.{no_row, row_at, row_wleft, row_of, state_of}
@@ -18,7 +18,7 @@ module _ (p : Plan) (adm : Bounds p) where
   before-due i t = (lt-due p i t (adm.some_period i), due-within p i t LONGEST_PERIOD (adm.some_period i) (adm.low_offset i) (adm.low_period i))
 
   -- each base is at least what the job may still need
-  pub base-high : (dem : ℕ → ℕ → ℕ) (past : List Tick) (i : ℕ) → i < count p → wleft p dem past i ≤ wleft p dem (at (last_release p (length past)) past) i
+  pub base-high : (dem : JobDemands) (past : List Tick) (i : ℕ) → i < count p → wleft p dem past i ≤ wleft p dem (at (last_release p (length past)) past) i
   base-high dem past i lt = go (is_complete p dem past i) refl (is_complete p dem earlier i) refl
     where
       earlier : List Tick
@@ -50,7 +50,7 @@ module _ (p : Plan) (adm : Bounds p) where
           still : is_complete p dem past i ≡ true
           still = grind (arith, nat_tests, enough)
 
-  pub at-decision : (dem : ℕ → ℕ → ℕ) (past : List Tick) → IsAtDecision p (state_of p dem past)
+  pub at-decision : (dem : JobDemands) (past : List Tick) → IsAtDecision p (state_of p dem past)
   at-decision dem past = record {
     before = λ i lt. omega (arith, ap (λ (r : Row). r.deadline) (row-is i lt), (before-due i (length past)).0);
     soon = λ i lt. omega (arith, ap (λ (r : Row). r.deadline) (row-is i lt), (before-due i (length past)).1);

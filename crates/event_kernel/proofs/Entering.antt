@@ -3,15 +3,14 @@ use Rattle.std.proofs.Common.{◌≡◌, ℕ, zero, suc, ◌+◌, ◌<◌, ◌�
 use Rattle.std.specs.Prelude.{count_by}
 use Rattle.std.proofs.lemmas.List.{take_all, length-replicate}
 use Rattle.std.proofs.lemmas.Bool.Decides.{nat_tests}
-use Rattle.grid_fraction.specs.declared.Frac.{Frac}
 use Rattle.dvs_base.specs.declared.note.Note.{Note}
 use Rattle.dvs_base.specs.declared.note.Pos.{Pos}
 use Rattle.dvs_base.specs.declared.note.Note.TheVariants.{Run, Speed, Done}
 use Rattle.sched_model.specs.declared.holder.Holder.{Holder}
 use Rattle.sched_model.specs.declared.holder.Holder.TheVariants.{Nobody, Held}
 use Rattle.sched_model.specs.Plan.{Plan, count, point}
-use Rattle.sched_model.specs.Jobs.{latest}
-use Rattle.sched_model.specs.Ticks.{Tick, exec}
+use Rattle.sched_model.specs.Jobs.{JobDemands, latest}
+use Rattle.sched_model.specs.Ticks.{PublishedDemand, Tick, exec}
 use Rattle.sched_model.specs.Notes.{same_holder, Span, Piece, pieces_of, position_of, run_energy, had_by, segment_notes, pieces_notes, all_release_notes}
 use Rattle.sched_model.specs.States.{row_at, StateOf}
 use Rattle.sched_model.proofs.PieceLemmas.{piece, same_holder-eq, pieces_of-run, total, total-pieces}
@@ -25,7 +24,7 @@ use Rattle.event_kernel.specs.Writing.{HeldNow, Writing}
 use Rattle.event_kernel.proofs.Pieces.{pieces_of-more, pieces_of-other, total-append, pieces_notes-append, pieces_notes-grown}
 
 -- the rows of a state show what the latest jobs have had
-pub record Shows (p : Plan) (dem : ℕ → ℕ → ℕ) (t : ℕ) (st : StateOf) (used : ℕ → ℕ) : Type 0 where
+pub record Shows (p : Plan) (dem : JobDemands) (t : ℕ) (st : StateOf) (used : ℕ → ℕ) : Type 0 where
   pub used_is : (i : ℕ) → i < count p → (row_at st i).used ≡ used i
   pub done_is : (i : ℕ) → i < count p → (row_at st i).done ≡ nat_le (dem i (latest p i t)) (used i)
   pub within : (i : ℕ) → i < count p → used i ≤ dem i (latest p i t)
@@ -33,7 +32,7 @@ pub record Shows (p : Plan) (dem : ℕ → ℕ → ℕ) (t : ℕ) (st : StateOf)
 test_same : (d u : ℕ) → u ≤ d → nat_le d u ≡ nat_eq u d
 test_same d u le = grind (arith, nat_tests, le)
 
-module _ (p : Plan) (dem : ℕ → ℕ → ℕ) (ask : List Tick → Frac) (t : ℕ) where
+module _ (p : Plan) (dem : JobDemands) (ask : PublishedDemand) (t : ℕ) where
   -- the last segment's notes are those that the state's rows show
   pub tells : (s : Span) (used : ℕ → ℕ) (st : StateOf) (q u : ℕ) (h : Holder) → HeldNow p t h → q + u ≡ length s.units
       → ((i : ℕ) → i < count p → exec p s.past i (latest p i t) + count_by (same_holder (Held i (latest p i t))) s.units ≡ used i)

@@ -4,13 +4,13 @@ use Rattle.std.specs.Prelude.{sum_by}
 use Rattle.std.specs.List.{AllByRecursion}
 use Rattle.dvs_base.specs.declared.limits.TheConstants.{MOST_TICKS}
 use Rattle.dvs_base.specs.declared.note.Note.{Note}
-use Rattle.grid_fraction.specs.declared.Frac.{Frac}
 use Rattle.sched_model.specs.Plan.{Plan}
+use Rattle.sched_model.specs.Jobs.{JobDemands}
 use Rattle.sched_model.specs.Schedule.{IsScheduleBy}
 use Rattle.sched_model.specs.Admission.{IsAdmitted}
 use Rattle.sched_model.specs.Notes.{span_notes, energy_run, energy_idle}
-use Rattle.sched_model.specs.States.{StateOf}
-use Rattle.done_lines.proofs.SpanNotes.{IsNoteIn, ticks-fit, last-fits}
+use Rattle.done_lines.proofs.FewNotes.{IsNoteIn, ticks-fit, last-fits}
+use Rattle.governor.specs.Meanings.{OwnDemand}
 use Rattle.governor.specs.Schedule.{ask_of, course}
 use Rattle.event_kernel.specs.declared.notes.TheConstants.{MOST_NOTES}
 use Rattle.event_kernel.specs.Tickwork.{tick_at, whole_span, notes_before}
@@ -24,12 +24,12 @@ pub record AreBooked (p : Plan) (notes : List Note) : Type 0 where
   pub few : length notes < 2 ^ 63
 
 -- the notes before tick t are of the plan's tasks and fit into an account, and those of its span fit into the buffer
-pub record CourseFits (demand : Plan → StateOf → Frac) (p : Plan) (dem : ℕ → ℕ → ℕ) (t : ℕ) : Type 0 where
+pub record CourseFits (demand : OwnDemand) (p : Plan) (dem : JobDemands) (t : ℕ) : Type 0 where
   pub each : AllByRecursion (IsNoteIn p) (notes_before demand p dem t)
   pub span : length (span_notes p dem (ask_of demand p dem) (whole_span demand p dem t)) ≤ MOST_NOTES
   pub all : t ≤ MOST_TICKS → AreBooked p (notes_before demand p dem t)
 
-pub course-fits : (demand : Plan → StateOf → Frac) (p : Plan) (dem : ℕ → ℕ → ℕ) → IsAdmitted p → ((i : ℕ) → dem i 0 ≡ 0) → (t : ℕ)
+pub course-fits : (demand : OwnDemand) (p : Plan) (dem : JobDemands) → IsAdmitted p → ((i : ℕ) → dem i 0 ≡ 0) → (t : ℕ)
     → CourseFits demand p dem t
 course-fits demand p dem admitted none t =
     let ask = ask_of demand p dem in

@@ -11,7 +11,7 @@ use Rattle.sched_model.specs.declared.holder.Holder.{Holder}
 use Rattle.sched_model.specs.declared.holder.Holder.TheVariants.{Nobody, Held}
 use Rattle.grid_fraction.specs.Numbers.{sum_below, any_below, list_below}
 use Rattle.sched_model.specs.Plan.{Plan, count, worst}
-use Rattle.sched_model.specs.Jobs.{latest, due}
+use Rattle.sched_model.specs.Jobs.{JobDemands, latest, due}
 use Rattle.sched_model.specs.Ticks.{Tick, exec, left, share}
 use Rattle.sched_model.specs.Priority.{in_order, key_of, stands_before, sum_before}
 use Rattle.sched_model.specs.Greedy.{IsFirstOpen}
@@ -93,7 +93,7 @@ count_run i k j l m b e =
 pub count_idle : (i k m : ℕ) → count_by (same_holder (Held i k)) (replicate m Nobody) ≡ 0
 count_idle i k m = sum_by-replicate (λ h. if same_holder (Held i k) h then 1 else 0) m Nobody ∙ omega arith
 
-module _ (p : Plan) (dem : ℕ → ℕ → ℕ) (past : List Tick) where
+module _ (p : Plan) (dem : JobDemands) (past : List Tick) where
   abbrev pub job : ℕ → ℕ
   job i = latest p i (length past)
 
@@ -271,7 +271,8 @@ module _ (p : Plan) (dem : ℕ → ℕ → ℕ) (past : List Tick) where
     pub gives-units : (i share : ℕ) → 0 < rest → IsFirstOpen (count p) key (left p dem past) given i
         → units_by (raised given i share) ≡ units_by given ++ replicate share (Held i (job i))
     gives-units i share pos o =
-        subst (λ js. given_units (raised given i share) job js ≡ given_units given job js ++ replicate (raised given i share i) (Held i (job i))) (sym place.1.1)
+        subst (λ js. given_units (raised given i share) job js ≡ given_units given job js ++ replicate (raised given i share i) (Held i (job i)))
+        (sym place.1.1)
         (given_units-step key job given (raised given i share) (count p) i place.0 place.1.0
         (subst (AreBelow (count p)) place.1.1 (in_order-below key (count p))) (subst (IsOrdered key) place.1.1 (in_order-ordered key (count p)))
         now.0 (λ j lt other. raised-there given i share j other)

@@ -2,7 +2,6 @@
 use Rattle.std.proofs.Common.{◌≡◌, ℕ, refl, subst}
 use Rattle.dvs_base.specs.declared.kind.Scheduler.{Scheduler}
 use Rattle.dvs_base.specs.declared.kind.GovernorKind.{GovernorKind}
-use Rattle.grid_fraction.specs.declared.Frac.{Frac}
 use Rattle.demand_list.specs.Demands.{IsWithinWorsts}
 use Rattle.sched_model.specs.Plan.{Plan}
 use Rattle.sched_model.specs.Admission.{IsAdmitted}
@@ -11,6 +10,7 @@ use Rattle.sched_model.specs.Totals.{totals_of}
 use Rattle.sched_model.proofs.ScheduleLemmas.{schedule_exists}
 use Rattle.done_lines.specs.LineCounts.{AreFew}
 use Rattle.done_lines.proofs.CountLemmas.{has-few}
+use Rattle.governor.specs.Meanings.{OwnDemand}
 use Rattle.governor.specs.Schedule.{ask_of}
 use Rattle.governor.specs.Laws.{GovernorLaws}
 use Rattle.governor.proofs.Course.{course-met, demand-met}
@@ -18,7 +18,7 @@ use Rattle.event_kernel.specs.Runs.{Run, demands_of, run_ticks, notes_of_run, Is
 use Rattle.event_kernel.specs.Meeting.{IsMetRun}
 use Rattle.event_kernel.proofs.Demanding.{demand-within}
 
-pub run-met : (kind : GovernorKind) (serves : Scheduler → Type 0) (demand : Plan → StateOf → Frac) (calm : Plan → StateOf → Type 0)
+pub run-met : (kind : GovernorKind) (serves : Scheduler → Type 0) (demand : OwnDemand) (calm : Plan → StateOf → Type 0)
     (safe : Plan → StateOf → ℕ → Type 0) → GovernorLaws kind serves demand calm safe → (r : Run) → IsAdmitted r.plan → IsListOf r.plan r.demands
     → IsWithinWorsts r.demands → serves r.plan.scheduler → IsMetRun kind demand r
 run-met kind serves demand calm safe laws r adm list low served =
@@ -29,11 +29,11 @@ run-met kind serves demand calm safe laws r adm list low served =
       demands = λ other t lt e. demand-met kind serves demand calm safe laws r.plan dem adm within served other t;
     }
 
-pub met-as : {kind : GovernorKind} {demand : Plan → StateOf → Frac} {a b : Run} → a ≡ b → IsMetRun kind demand a → IsMetRun kind demand b
+pub met-as : {kind : GovernorKind} {demand : OwnDemand} {a b : Run} → a ≡ b → IsMetRun kind demand a → IsMetRun kind demand b
 met-as {kind} {demand} is met = subst (λ (r : Run). IsMetRun kind demand r) is met
 
 -- a run has few decisions under any published demand
-pub run-few : (demand : Plan → StateOf → Frac) (r : Run) → IsAdmitted r.plan → AreFew (totals_of (notes_of_run demand r))
+pub run-few : (demand : OwnDemand) (r : Run) → IsAdmitted r.plan → AreFew (totals_of (notes_of_run demand r))
 run-few demand r adm =
     let dem = demands_of r.plan r.demands in
     has-few r.plan adm.limits dem (λ i. refl) (ask_of demand r.plan dem) (run_ticks demand r)

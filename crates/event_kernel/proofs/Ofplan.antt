@@ -3,7 +3,7 @@ use Rattle.std.proofs.Common.{◌≡◌, ℕ, ◌<◌, ◌≤◌, List, [], ◌�
 use Rattle.sched_model.specs.declared.state.Row.{Row}
 use Rattle.grid_fraction.specs.Numbers.{list_below}
 use Rattle.sched_model.specs.Plan.{Plan, count, worst}
-use Rattle.sched_model.specs.Jobs.{latest}
+use Rattle.sched_model.specs.Jobs.{JobDemands, latest}
 use Rattle.sched_model.specs.Ticks.{Tick, exec}
 use Rattle.sched_model.specs.States.{no_row, prior_row, prior_state, row_of, state_of, prior_base, IsOfPlan}
 use Rattle.sched_model.proofs.ScheduleLemmas.{length-list_below}
@@ -26,11 +26,11 @@ module _ (p : Plan) where
     );
   }
 
-  pub of-state : (dem : ℕ → ℕ → ℕ) (past : List Tick) → ((i k : ℕ) → i < count p → exec p past i k ≤ worst p i) → IsOfPlan p (state_of p dem past)
+  pub of-state : (dem : JobDemands) (past : List Tick) → ((i k : ℕ) → i < count p → exec p past i k ≤ worst p i) → IsOfPlan p (state_of p dem past)
   of-state dem past low =
       of-table (length past) (state_of p dem past).base_at (row_of p dem past) _ (λ i lt. refl) (λ i lt. low i (latest p i (length past)) lt)
 
-  pub of-prior : (dem : ℕ → ℕ → ℕ) (past : List Tick) → ((i k : ℕ) → i < count p → exec p past i k ≤ worst p i) → IsOfPlan p (prior_state p dem past)
+  pub of-prior : (dem : JobDemands) (past : List Tick) → ((i k : ℕ) → i < count p → exec p past i k ≤ worst p i) → IsOfPlan p (prior_state p dem past)
   of-prior dem past low =
       of-table (length past) (prior_state p dem past).base_at (prior_row p dem past) (prior_base p dem past) (λ i lt. worst-is past i)
       (λ i lt. used-in past i lt low)

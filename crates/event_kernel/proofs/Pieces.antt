@@ -6,6 +6,7 @@ use Rattle.dvs_base.specs.declared.note.Note.TheVariants.{Run, Done}
 use Rattle.sched_model.specs.declared.holder.Holder.{Holder}
 use Rattle.sched_model.specs.declared.holder.Holder.TheVariants.{Nobody, Held}
 use Rattle.sched_model.specs.Plan.{Plan, point}
+use Rattle.sched_model.specs.Jobs.{JobDemands}
 use Rattle.sched_model.specs.Ticks.{exec}
 use Rattle.sched_model.specs.Notes.{same_holder, Span, Piece, pieces_of, position_of, run_energy, segment_notes, pieces_notes}
 use Rattle.sched_model.proofs.PieceLemmas.{piece, same_holder-refl, with_unit, pieces_of-push, total}
@@ -44,7 +45,7 @@ total-append [] qs = omega arith
 total-append (r ∷ rs) qs = omega (arith, total-append rs qs)
 
 -- the notes of two lists of segments are those of the first and then those of the second
-pub pieces_notes-append : (p : Plan) (dem : ℕ → ℕ → ℕ) (s : Span) (q : ℕ) (rs qs : List Piece)
+pub pieces_notes-append : (p : Plan) (dem : JobDemands) (s : Span) (q : ℕ) (rs qs : List Piece)
     → pieces_notes p dem s q (rs ++ qs) ≡ pieces_notes p dem s q rs ++ pieces_notes p dem s (q + total rs) qs
 pieces_notes-append p dem s q [] qs = ap (λ k. pieces_notes p dem s k qs) (omega arith)
 pieces_notes-append p dem s q (r ∷ rs) qs =
@@ -54,7 +55,7 @@ pieces_notes-append p dem s q (r ∷ rs) qs =
     ∙ sym (append_assoc (segment_notes p dem s q r.units r.holder) (pieces_notes p dem s (q + r.units) rs) (pieces_notes p dem s (q + (r.units + total rs)) qs))
 
 -- a segment's notes don't change as the span grows
-segment_notes-grown : (p : Plan) (dem : ℕ → ℕ → ℕ) (s : Span) (more : List Holder) (q u : ℕ) (h : Holder) → q + u ≤ length s.units
+segment_notes-grown : (p : Plan) (dem : JobDemands) (s : Span) (more : List Holder) (q u : ℕ) (h : Holder) → q + u ≤ length s.units
     → segment_notes p dem (grown s more) q u h ≡ segment_notes p dem s q u h
 segment_notes-grown p dem s more q u Nobody le = refl
 segment_notes-grown p dem s more q u (Held i k) le =
@@ -64,7 +65,7 @@ segment_notes-grown p dem s more q u (Held i k) le =
     ∷ (if nat_eq had (dem i k) then Done (position_of (length s.past) ((point p s.entry).speed) (q + u)) i k (dem i k) ∷ [] else []))
     (ap (λ us. exec p s.past i k + count_by (same_holder (Held i k)) us) same)
 
-pub pieces_notes-grown : (p : Plan) (dem : ℕ → ℕ → ℕ) (s : Span) (more : List Holder) (q : ℕ) (rs : List Piece) → q + total rs ≤ length s.units
+pub pieces_notes-grown : (p : Plan) (dem : JobDemands) (s : Span) (more : List Holder) (q : ℕ) (rs : List Piece) → q + total rs ≤ length s.units
     → pieces_notes p dem (grown s more) q rs ≡ pieces_notes p dem s q rs
 pieces_notes-grown p dem s more q [] le = refl
 pieces_notes-grown p dem s more q (r ∷ rs) le =

@@ -4,12 +4,11 @@ use Rattle.std.specs.Prelude.{Option, None, Some, IfSome, IfNone}
 use Rattle.std.proofs.Math.Nat.{div-mul-le_self, lt-div-mul-add, mul-le-mul_right}
 use Rattle.std.proofs.lemmas.Bool.{cases_lt}
 use Rattle.std.proofs.lemmas.Bool.Decides.{nat_tests}
-use Rattle.grid_fraction.specs.declared.Frac.{Frac}
 use Rattle.grid_fraction.proofs.Searches.{any_below-found}
 use Rattle.grid_fraction.proofs.Least.{least-below, least-above, least-found}
 use Rattle.sched_model.specs.declared.state.Row.{Row}
 use Rattle.sched_model.specs.Plan.{Plan, count, point}
-use Rattle.sched_model.specs.Jobs.{latest}
+use Rattle.sched_model.specs.Jobs.{JobDemands, latest}
 use Rattle.sched_model.specs.Ticks.{Tick, exec, left, share}
 use Rattle.sched_model.specs.Priority.{allotment, sum_before}
 use Rattle.sched_model.specs.Decision.{completes_in}
@@ -18,6 +17,7 @@ use Rattle.sched_model.specs.Greedy.{IsFirstOpen}
 use Rattle.sched_model.proofs.Tables.{get-table}
 use Rattle.sched_model.proofs.GreedyLemmas.{handed_before}
 use Rattle.sched_model.proofs.JobLaws.{exec-legal}
+use Rattle.governor.specs.Meanings.{OwnDemand}
 use Rattle.governor.specs.Schedule.{course}
 use Rattle.governor.specs.Steps.{IsBeforeAll}
 use Rattle.event_kernel.specs.declared.span_trace.SpanTrace.{SpanTrace}
@@ -48,13 +48,13 @@ module _ {set : Setting} (ok : IsSetting set) where
   abbrev p : Plan
   p = set.plan.now
 
-  abbrev dem : ℕ → ℕ → ℕ
+  abbrev dem : JobDemands
   dem = demands_of p set.demands.now
 
   adm : Bounds p
   adm = bounds p ok.admitted
 
-  module _ {demand : Plan → StateOf → Frac} {force : InForce} {st : StateOf} {trace : SpanTrace} (here : IsInSpan set demand force st.now st trace) where
+  module _ {demand : OwnDemand} {force : InForce} {st : StateOf} {trace : SpanTrace} (here : IsInSpan set demand force st.now st trace) where
     abbrev f : ℕ
     f = (point p force.index).speed
 
@@ -188,7 +188,7 @@ module _ {set : Setting} (ok : IsSetting set) where
         ))
 
   -- after the last tick the span ends
-  module _ {demand : Plan → StateOf → Frac} {force : InForce} {s0 s : StateOf} {trace0 trace : SpanTrace} {completed : Bool}
+  module _ {demand : OwnDemand} {force : InForce} {s0 s : StateOf} {trace0 trace : SpanTrace} {completed : Bool}
       (here : IsInSpan set demand force s0.now s0 trace0) (h : HasWorked set demand s0.now s trace completed) where
     abbrev past : List Tick
     past = course demand p dem s0.now

@@ -6,7 +6,6 @@ use Rattle.std.proofs.lemmas.Bool.{cases_lt}
 use Rattle.std.proofs.lemmas.Bool.Decides.{nat_tests}
 use Rattle.std.proofs.lemmas.List.{set-set}
 use Rattle.std.proofs.lemmas.List.Concat.{flat_map-append}
-use Rattle.grid_fraction.specs.declared.Frac.{Frac}
 use Rattle.dvs_base.specs.declared.note.Note.{Note}
 use Rattle.dvs_base.specs.declared.note.Note.TheVariants.{Release, Done}
 use Rattle.dvs_base.specs.declared.limits.TheConstants.{MOST_TICKS}
@@ -14,7 +13,7 @@ use Rattle.sched_model.specs.declared.state.Row.{Row}
 use Rattle.event_kernel.proofs.Bounds.{Bounds}
 use Rattle.grid_fraction.specs.Numbers.{any_below, list_below}
 use Rattle.sched_model.specs.Plan.{Plan, count, period}
-use Rattle.sched_model.specs.Jobs.{latest, releases_at}
+use Rattle.sched_model.specs.Jobs.{JobDemands, latest, releases_at}
 use Rattle.sched_model.specs.Ticks.{Tick}
 use Rattle.sched_model.specs.Notes.{release_notes}
 use Rattle.sched_model.specs.States.{no_row, row_at, prior_row, prior_base_at, prior_base, released_row, prior_state, after_mark, after_release, after_finish, CanRelease, StateOf, row_of, state_of}
@@ -26,6 +25,7 @@ use Rattle.agenda.specs.Agenda.{NonePast, IsFirstDue, next_job_row, opened}
 use Rattle.event_kernel.specs.declared.span_trace.SpanTrace.{SpanTrace}
 use Rattle.event_kernel.specs.Segment.{with_notes}
 use Rattle.event_kernel.proofs.Keeping.{with-append}
+use Rattle.governor.specs.Meanings.{OwnDemand}
 use Rattle.governor.specs.Schedule.{course}
 use Rattle.event_kernel.specs.Boundary.{needs_nothing, opening_notes}
 use Rattle.event_kernel.specs.declared.progress.Setting.{Setting}
@@ -33,10 +33,10 @@ use Rattle.event_kernel.specs.Runs.{demands_of}
 use Rattle.event_kernel.specs.Settings.{IsAtBoundary}
 
 -- the rows where those of the first m tasks are released
-abbrev pub mixed : Plan → (ℕ → ℕ → ℕ) → List Tick → ℕ → ℕ → Row
+abbrev pub mixed : Plan → JobDemands → List Tick → ℕ → ℕ → Row
 mixed p dem past m i = if nat_lt i m then row_of p dem past i else prior_row p dem past i
 
-module _ (p : Plan) (dem : ℕ → ℕ → ℕ) (past : List Tick) (m i : ℕ) where
+module _ (p : Plan) (dem : JobDemands) (past : List Tick) (m i : ℕ) where
   mixed-done : i < m → mixed p dem past m i ≡ row_of p dem past i
   mixed-done lt = let there : nat_lt i m ≡ true = grind (arith, nat_tests, lt) in rw there refl
 
@@ -44,7 +44,7 @@ module _ (p : Plan) (dem : ℕ → ℕ → ℕ) (past : List Tick) (m i : ℕ) w
   mixed-here le = let here : nat_lt i m ≡ false = grind (arith, nat_tests, le) in rw here refl
 
 -- the state at the boundary with these rows
-abbrev pub with_rows : Plan → (ℕ → ℕ → ℕ) → List Tick → List Row → StateOf
+abbrev pub with_rows : Plan → JobDemands → List Tick → List Row → StateOf
 with_rows p dem past rows = record {
   now = length past;
   rows = rows;
@@ -53,18 +53,18 @@ with_rows p dem past rows = record {
 }
 
 -- the notes of the releases of the first m tasks
-abbrev pub notes_upto : Plan → (ℕ → ℕ → ℕ) → List Tick → ℕ → List Note
+abbrev pub notes_upto : Plan → JobDemands → List Tick → ℕ → List Note
 notes_upto p dem past m = flat_map (release_notes p dem (length past)) (list_below m (λ i. i))
 
 abbrev pub any_upto : Plan → List Tick → ℕ → Bool
 any_upto p past m = any_below m (λ i. releases_at p i (length past))
 
 -- the first m rows are released, and `any` says whether a job was
-pub record Releasing (p : Plan) (dem : ℕ → ℕ → ℕ) (past : List Tick) (m : ℕ) (any : Bool) (st : StateOf) : Type 0 where
+pub record Releasing (p : Plan) (dem : JobDemands) (past : List Tick) (m : ℕ) (any : Bool) (st : StateOf) : Type 0 where
   pub state : st ≡ with_rows p dem past (list_below (count p) (mixed p dem past m))
   pub any_is : any ≡ any_upto p past m
 
-pub releasing-start : (p : Plan) (dem : ℕ → ℕ → ℕ) (past : List Tick) → Releasing p dem past 0 false (prior_state p dem past)
+pub releasing-start : (p : Plan) (dem : JobDemands) (past : List Tick) → Releasing p dem past 0 false (prior_state p dem past)
 releasing-start p dem past = record {
   state = ap (with_rows p dem past)
       (table-same (count p) (prior_row p dem past) (mixed p dem past 0)
@@ -72,7 +72,7 @@ releasing-start p dem past = record {
   any_is = refl;
 }
 
-module _ (p : Plan) (dem : ℕ → ℕ → ℕ) (past : List Tick) (periods : (i : ℕ) → 0 < period p i) where
+module _ (p : Plan) (dem : JobDemands) (past : List Tick) (periods : (i : ℕ) → 0 < period p i) where
   -- the row of a task is the same after m and after n steps where it isn't between them, or isn't due
   mixed-same : (m n i : ℕ) → m ≤ n → dem i 0 ≡ 0 → (m ≤ i → i < n → nat_eq (prior_row p dem past i).deadline (length past) ≡ false)
       → mixed p dem past m i ≡ mixed p dem past n i
@@ -111,7 +111,7 @@ module _ (p : Plan) (dem : ℕ → ℕ → ℕ) (past : List Tick) (periods : (i
             ∙ (rest.1 ∙ ap (notes_upto p dem past) same),
       )
 
-module _ {p : Plan} {dem : ℕ → ℕ → ℕ} {past : List Tick} (periods : (i : ℕ) → 0 < period p i) where
+module _ {p : Plan} {dem : JobDemands} {past : List Tick} (periods : (i : ℕ) → 0 < period p i) where
   module _ {m : ℕ} {any : Bool} {st : StateOf} (r : Releasing p dem past m any st) where
     now-is : st.now ≡ length past
     now-is = ap (λ (s : StateOf). s.now) r.state
@@ -254,7 +254,7 @@ module _ {p : Plan} {dem : ℕ → ℕ → ℕ} {past : List Tick} (periods : (i
   released-unmarked unneeded none r = all-rows r ∙ state-unmarked p dem periods past unneeded (sym r.any_is ∙ none)
 
 -- a release whose job needs nothing
-pub opened-done : (p : Plan) (dem : ℕ → ℕ → ℕ) (s : StateOf) (i : ℕ) → i < length s.rows → nat_eq (dem i ((row_at s i).job + 1)) 0 ≡ true
+pub opened-done : (p : Plan) (dem : JobDemands) (s : StateOf) (i : ℕ) → i < length s.rows → nat_eq (dem i ((row_at s i).job + 1)) 0 ≡ true
     → after_finish (after_release p s i) i ≡ opened p s i (needs_nothing dem s i)
 opened-done p dem s i lt e =
     let row : Row = released_row (period p i) (row_at s i) in
@@ -264,7 +264,7 @@ opened-done p dem s i lt e =
     ∙ ap (λ b. record s { rows = set s.rows i (record row { done = b }) }) (sym e))
 
 -- at a boundary each due row is done
-module _ {demand : Plan → StateOf → Frac} {set : Setting} {s : StateOf} (b : IsAtBoundary set demand s) where
+module _ {demand : OwnDemand} {set : Setting} {s : StateOf} (b : IsAtBoundary set demand s) where
   abbrev before : List Tick
   before = course demand set.plan.now (demands_of set.plan.now set.demands.now) s.now
 
@@ -278,7 +278,7 @@ module _ {demand : Plan → StateOf → Frac} {set : Setting} {s : StateOf} (b :
       ∙ b.due_done i lt (ap (λ (r : Row). r.deadline) is ∙ (due ∙ sym (ap (λ (v : StateOf). v.now) b.state)))
 
 -- the notes of the release of a job that needs nothing
-pub opening-done : (dem : ℕ → ℕ → ℕ) (s : StateOf) (i : ℕ) → dem i ((row_at s i).job + 1) ≡ 0
+pub opening-done : (dem : JobDemands) (s : StateOf) (i : ℕ) → dem i ((row_at s i).job + 1) ≡ 0
     → opening_notes dem s i
     ≡ Release s.now i ((row_at s i).job + 1) ∷ Done (record { tick = s.now; offset = 0 }) i ((row_at s i).job + 1) 0 ∷ []
 opening-done dem s i none =
@@ -286,6 +286,6 @@ opening-done dem s i none =
     ap (λ b. Release s.now i job ∷ (if b then Done (record { tick = s.now; offset = 0 }) i job 0 ∷ [] else [])) (eq-eqb (dem i job) 0 none)
 
 -- before a boundary no row's next release is before the tick
-pub prior-past : (p : Plan) (dem : ℕ → ℕ → ℕ) (past : List Tick) → ((i : ℕ) → 0 < period p i) → NonePast p (prior_state p dem past)
+pub prior-past : (p : Plan) (dem : JobDemands) (past : List Tick) → ((i : ℕ) → 0 < period p i) → NonePast p (prior_state p dem past)
 prior-past p dem past periods i lt =
     omega (arith, ap (λ (q : Row). q.deadline) (get-table (count p) (prior_row p dem past) i no_row lt), prior-due p dem periods past i)

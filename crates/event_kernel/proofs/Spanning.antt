@@ -4,7 +4,6 @@ use Rattle.std.specs.Prelude.{count_by}
 use Rattle.std.proofs.Math.Logic.{⊎_map}
 use Rattle.std.proofs.lemmas.Bool.{cases_lt, or_cases, or_parts, or_left, or_right}
 use Rattle.std.proofs.lemmas.Bool.Decides.{nat_tests}
-use Rattle.grid_fraction.specs.declared.Frac.{Frac}
 use Rattle.dvs_base.specs.declared.note.Note.{Note}
 use Rattle.dvs_base.specs.declared.note.Note.TheVariants.{Speed}
 use Rattle.dvs_base.specs.declared.limits.TheConstants.{MOST_TICKS}
@@ -13,8 +12,8 @@ use Rattle.sched_model.specs.declared.holder.Holder.{Holder}
 use Rattle.sched_model.specs.declared.holder.Holder.TheVariants.{Nobody, Held}
 use Rattle.event_kernel.proofs.Bounds.{Bounds, bounds}
 use Rattle.sched_model.specs.Plan.{Plan, count, period, point}
-use Rattle.sched_model.specs.Jobs.{latest, due, releases_at, is_release}
-use Rattle.sched_model.specs.Ticks.{Tick, at, exec, IsMet}
+use Rattle.sched_model.specs.Jobs.{JobDemands, latest, due, releases_at, is_release}
+use Rattle.sched_model.specs.Ticks.{PublishedDemand, Tick, at, exec, IsMet}
 use Rattle.sched_model.specs.Decision.{is_decision}
 use Rattle.sched_model.specs.Schedule.{entry_in_force, schedule_by}
 use Rattle.sched_model.specs.Notes.{Span, spans_of, pieces_of, same_holder, position_of, all_release_notes, span_notes, segment_notes, notes_before_end}
@@ -25,6 +24,7 @@ use Rattle.sched_model.proofs.Joining.{due_released, row_at-prior_state, state-s
 use Rattle.sched_model.proofs.Spans.{stays}
 use Rattle.grid_fraction.proofs.Searches.{any_below-same}
 use Rattle.event_kernel.specs.declared.span_trace.SpanTrace.{SpanTrace}
+use Rattle.governor.specs.Meanings.{OwnDemand}
 use Rattle.governor.specs.Schedule.{ask_of, course}
 use Rattle.event_kernel.specs.Segment.{first_span, notes_with, IsOpen, holder_notes, written_notes, after_segment, ended_trace, new_trace, CanPut, HeldIn}
 use Rattle.event_kernel.specs.declared.notes.TheConstants.{MOST_NOTES}
@@ -43,12 +43,12 @@ use Rattle.agenda.specs.Agenda.{NonePast}
 use Rattle.event_kernel.proofs.Releasing.{prior-past}
 use Rattle.freq_table.specs.Tables.{lowest_entry}
 
-pub start_decision : (demand : Plan → StateOf → Frac) (p : Plan) (dem : ℕ → ℕ → ℕ) → is_decision p dem (course demand p dem zero) ≡ true
+pub start_decision : (demand : OwnDemand) (p : Plan) (dem : JobDemands) → is_decision p dem (course demand p dem zero) ≡ true
 unfolding schedule_by
 start_decision demand p dem = refl
 
-module _ (demand : Plan → StateOf → Frac) (p : Plan) (dem : ℕ → ℕ → ℕ) where
-  abbrev pub asks : List Tick → Frac
+module _ (demand : OwnDemand) (p : Plan) (dem : JobDemands) where
+  abbrev pub asks : PublishedDemand
   asks = ask_of demand p dem
 
   -- the last span of the ticks up to t has the units of tick t
@@ -147,13 +147,13 @@ module _ {set : Setting} (ok : IsSetting set) where
   abbrev p : Plan
   p = set.plan.now
 
-  abbrev dem : ℕ → ℕ → ℕ
+  abbrev dem : JobDemands
   dem = demands_of p set.demands.now
 
   adm : Bounds p
   adm = bounds p ok.admitted
 
-  module _ {demand : Plan → StateOf → Frac} where
+  module _ {demand : OwnDemand} where
     decision-is : {t : ℕ} {s : StateOf} {trace : SpanTrace} {completed : Bool} → HasWorked set demand t s trace completed
         → is_decision p dem (course demand p dem (t + 1)) ≡ (some_due p s || completed)
     decision-is {t} {s} h =

@@ -4,7 +4,6 @@ use Rattle.std.specs.Prelude.{Option, None, Some}
 use Rattle.std.proofs.lemmas.Bool.Decides.{nat_tests}
 use Rattle.std.proofs.lemmas.Bool.{and_right}
 use Rattle.std.proofs.lemmas.List.{set-set}
-use Rattle.grid_fraction.specs.declared.Frac.{Frac}
 use Rattle.grid_fraction.proofs.Searches.{any_below-none}
 use Rattle.dvs_base.specs.declared.kind.Scheduler.{Scheduler}
 use Rattle.dvs_base.specs.declared.kind.Scheduler.TheVariants.{Edf, Rm}
@@ -12,8 +11,10 @@ use Rattle.sched_model.specs.declared.state.Row.{Row}
 use Rattle.sched_model.specs.declared.holder.Holder.{Holder}
 use Rattle.sched_model.specs.declared.holder.Holder.TheVariants.{Nobody, Held}
 use Rattle.sched_model.specs.Plan.{Plan, count, point}
+use Rattle.sched_model.specs.Jobs.{JobDemands}
 use Rattle.sched_model.specs.States.{no_row, row_at, after_advance, StateOf, key_in}
 use Rattle.sched_model.proofs.PieceLemmas.{same_holder-refl}
+use Rattle.governor.specs.Meanings.{OwnDemand}
 use Rattle.event_kernel.specs.declared.span_trace.SpanTrace.{SpanTrace}
 use Rattle.agenda.specs.Agenda.{IsFirstUndone}
 use Rattle.event_kernel.specs.Segment.{after_segment, is_turn, with_units, entered, holder_at, IsFirst}
@@ -97,7 +98,7 @@ module _ {set : Setting} (ok : IsSetting set) (force : InForce) where
   abbrev p : Plan
   p = set.plan.now
 
-  abbrev dem : ℕ → ℕ → ℕ
+  abbrev dem : JobDemands
   dem = demands_of p set.demands.now
 
   adm : Bounds p
@@ -117,7 +118,7 @@ module _ {set : Setting} (ok : IsSetting set) (force : InForce) where
   some_by zero s = s
   some_by (suc n) s = omega (arith, s)
 
-  module _ {demand : Plan → StateOf → Frac} where
+  module _ {demand : OwnDemand} where
     module _ (t : ℕ) (st : StateOf) (trace : SpanTrace) (here : IsInSpan set demand force t st trace) where
       some_units : 0 < f
       some_units = adm.some_speed force.index (entry-there ok here)
@@ -244,7 +245,7 @@ module _ {set : Setting} (ok : IsSetting set) (force : InForce) where
         (units_in-is f n) (held_by n t i st trace here is (omega (arith, part, units_in-is f n)) lt quiet)
 
 -- quiet ticks are one step
-pub stays : {demand : Plan → StateOf → Frac} {set : Setting} → IsSetting set → {force : InForce} {st : StateOf} {trace : SpanTrace}
+pub stays : {demand : OwnDemand} {set : Setting} → IsSetting set → {force : InForce} {st : StateOf} {trace : SpanTrace}
     → IsInSpan set demand force st.now st trace → (first : Option ℕ) {n : ℕ} → IsFirst set.plan.now st first
     → AreQuiet set force st first n → 0 < n → (st' : StateOf) (trace' : SpanTrace)
     → st' ≡ after_advance (gives st first (n * (point set.plan.now force.index).speed)) (st.now + n)

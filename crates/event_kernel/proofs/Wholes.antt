@@ -5,7 +5,6 @@ use Rattle.std.specs.List.{AllByRecursion}
 use Rattle.std.proofs.lemmas.List.{length-map}
 use Rattle.std.proofs.lemmas.List.Concat.{flat_map-append}
 use Rattle.std.proofs.lemmas.List.Sums.{sum_by-append, sum_by-cons}
-use Rattle.grid_fraction.specs.declared.Frac.{Frac}
 use Rattle.grid_fraction.specs.Numbers.{list_below}
 use Rattle.dvs_base.specs.declared.kind.GovernorKind.{GovernorKind}
 use Rattle.dvs_base.specs.declared.kind.Version.{Version}
@@ -22,13 +21,12 @@ use Rattle.sched_model.specs.Jobs.{released_jobs}
 use Rattle.sched_model.specs.Admission.{IsAdmitted}
 use Rattle.sched_model.specs.Totals.{totals_of}
 use Rattle.sched_model.specs.Notes.{energy_run, energy_idle}
-use Rattle.sched_model.specs.States.{StateOf}
 use Rattle.sched_model.proofs.Tables.{get-table, length-list_below}
+use Rattle.governor.specs.Meanings.{OwnDemand}
 use Rattle.governor.specs.Schedule.{ask_of}
 use Rattle.done_lines.specs.LineCounts.{AreFew}
 use Rattle.done_lines.specs.RunText.{task_texts, run_lines}
-use Rattle.done_lines.proofs.FewLines.{has-few-notes}
-use Rattle.done_lines.proofs.SpanNotes.{IsNoteIn}
+use Rattle.done_lines.proofs.FewNotes.{has-few-notes, IsNoteIn}
 use Rattle.trace_reader.specs.TraceText.{LineOf, plain, noted, task_energy, task_text, share_text, shares_from, for_tasks, head_lines, lines_of_note, note_lines, text_of_lines}
 use Rattle.probes.specs.Tallies.{ProbeOf}
 use Rattle.event_kernel.specs.Lines.{most_lines, WritesLines}
@@ -97,7 +95,7 @@ few-lines Two p energies notes ticks few =
     each : (f : ℕ → List ℕ) → length (map plain (list_below (count p) f)) ≡ count p
     each f = length-map (list_below (count p) f) plain ∙ length-list_below (count p) f
 
-module _ (demand : Plan → StateOf → Frac) (r : RunOf) (v : Version) where
+module _ (demand : OwnDemand) (r : RunOf) (v : Version) where
   abbrev before : List Note
   before = notes_before_end_of demand r
 

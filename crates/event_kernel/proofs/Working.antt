@@ -3,7 +3,6 @@ use Rattle.std.proofs.Common.{◌≡◌, ℕ, ◌+◌, ◌-◌, ◌*◌, ◌^◌
 use Rattle.std.specs.Prelude.{count_by}
 use Rattle.freq_table.specs.declared.machine.Point.{Point}
 use Rattle.freq_table.specs.Tables.{Table, point_at, speed_at}
-use Rattle.grid_fraction.specs.declared.Frac.{Frac}
 use Rattle.grid_fraction.specs.Numbers.{sum_below, any_below}
 use Rattle.grid_fraction.proofs.Sums.{sum_below-same}
 use Rattle.grid_fraction.proofs.Searches.{any_below-same}
@@ -11,7 +10,7 @@ use Rattle.sched_model.specs.declared.state.Row.{Row}
 use Rattle.sched_model.specs.declared.holder.Holder.{Holder}
 use Rattle.sched_model.specs.declared.holder.Holder.TheVariants.{Nobody, Held}
 use Rattle.sched_model.specs.Plan.{Plan, count, worst, point}
-use Rattle.sched_model.specs.Jobs.{due, latest}
+use Rattle.sched_model.specs.Jobs.{JobDemands, due, latest}
 use Rattle.sched_model.specs.Ticks.{Tick, exec, left, share}
 use Rattle.sched_model.specs.Priority.{in_order, key_of, allotment}
 use Rattle.sched_model.specs.Decision.{completes_in}
@@ -26,6 +25,7 @@ use Rattle.sched_model.proofs.OrderLemmas.{in_order-below}
 use Rattle.sched_model.proofs.JobLaws.{exec-legal}
 use Rattle.sched_model.proofs.Joining.{row_by, row-ran, state-ran}
 use Rattle.agenda.specs.Agenda.{IsFirstUndone}
+use Rattle.governor.specs.Meanings.{OwnDemand}
 use Rattle.governor.specs.Schedule.{ask_of, course}
 use Rattle.event_kernel.specs.declared.span_trace.SpanTrace.{SpanTrace}
 use Rattle.event_kernel.specs.Segment.{entered, CanPut, HeldIn}
@@ -40,7 +40,7 @@ use Rattle.event_kernel.proofs.Courses.{course-next, course-len, exec-within}
 use Rattle.event_kernel.proofs.Entering.{Shows, enters}
 use Rattle.event_kernel.proofs.Handing.{raised, sum-raised, key, job, had, units_by, given_units-same, given_row, ends_in, Handing, start, start-units, row-is, shows, first-open, none-open, gives, gives-units, gives-had, count_idle}
 
-module _ (demand : Plan → StateOf → Frac) (p : Plan) (dem : ℕ → ℕ → ℕ) (t : ℕ) where
+module _ (demand : OwnDemand) (p : Plan) (dem : JobDemands) (t : ℕ) where
   abbrev pub past : List Tick
   past = course demand p dem t
 
@@ -78,12 +78,12 @@ module _ (demand : Plan → StateOf → Frac) (p : Plan) (dem : ℕ → ℕ → 
       (λ i. had p dem past i + given' i) (1000000 * length past + more + n) (entered p st (length s0.past) s0.entry h n trace))
       (append_assoc s0.units us (replicate n h) ∙ ap (λ ls. s0.units ++ ls) units) e)
 
-module _ {demand : Plan → StateOf → Frac} {set : Setting} (ok : IsSetting set) {force : InForce} {t : ℕ} {st0 : StateOf} {trace0 : SpanTrace}
+module _ {demand : OwnDemand} {set : Setting} (ok : IsSetting set) {force : InForce} {t : ℕ} {st0 : StateOf} {trace0 : SpanTrace}
     (at : IsInSpan set demand force t st0 trace0) where
   abbrev p : Plan
   p = set.plan.now
 
-  abbrev dem : ℕ → ℕ → ℕ
+  abbrev dem : JobDemands
   dem = demands_of p set.demands.now
 
   adm : Bounds p

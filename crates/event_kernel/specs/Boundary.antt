@@ -5,15 +5,16 @@ use Rattle.dvs_base.specs.declared.note.Note.{Note}
 use Rattle.dvs_base.specs.declared.note.Note.TheVariants.{Release, Done, Speed}
 use Rattle.grid_fraction.specs.Numbers.{any_below}
 use Rattle.sched_model.specs.Plan.{Plan, count, point}
+use Rattle.sched_model.specs.Jobs.{JobDemands}
 use Rattle.sched_model.specs.States.{row_at, StateOf}
 use Rattle.freq_table.specs.Tables.{lowest_entry}
 
 -- whether the next job of a task needs nothing, and is complete at its release
-abbrev pub needs_nothing : (ℕ → ℕ → ℕ) → StateOf → ℕ → Bool
+abbrev pub needs_nothing : JobDemands → StateOf → ℕ → Bool
 needs_nothing dem s i = nat_eq (dem i ((row_at s i).job + 1)) 0
 
 -- the notes of the release of a task's next job: the release, and the completion where the job needs nothing
-abbrev pub opening_notes : (ℕ → ℕ → ℕ) → StateOf → ℕ → List Note
+abbrev pub opening_notes : JobDemands → StateOf → ℕ → List Note
 opening_notes dem s i =
     Release s.now i ((row_at s i).job + 1)
     ∷ (if needs_nothing dem s i then Done (record { tick = s.now; offset = 0 }) i ((row_at s i).job + 1) 0 ∷ [] else [])

@@ -1,15 +1,14 @@
 -- What a kernel runs, and the notes of the run.
 use Rattle.std.specs.Prelude.{ℕ, List, ◌≡◌, ◌<◌, true}
 use Rattle.freq_table.specs.Tables.{lowest_pick}
-use Rattle.grid_fraction.specs.declared.Frac.{Frac}
 use Rattle.dvs_base.specs.declared.note.Note.{Note}
 use Rattle.demand_list.specs.Demands.{DemandsOf, HasWorstsOf}
 use Rattle.sched_model.specs.Plan.{Plan}
 use Rattle.sched_model.specs.Ticks.{Tick, IsMet}
-use Rattle.sched_model.specs.Jobs.{demand_of}
+use Rattle.sched_model.specs.Jobs.{JobDemands, demand_of}
 use Rattle.sched_model.specs.Decision.{is_decision}
-use Rattle.sched_model.specs.States.{StateOf}
 use Rattle.sched_model.specs.Notes.{notes_of}
+use Rattle.governor.specs.Meanings.{OwnDemand}
 use Rattle.governor.specs.Schedule.{course, ask_of}
 
 -- a run: a plan, a demand list and a number of ticks
@@ -23,25 +22,25 @@ abbrev pub IsListOf : Plan → DemandsOf → Type 0
 IsListOf p d = HasWorstsOf p.tasks d
 
 -- the demand of each job of a plan under a demand list
-abbrev pub demands_of : Plan → DemandsOf → ℕ → ℕ → ℕ
+abbrev pub demands_of : Plan → DemandsOf → JobDemands
 demands_of p d = demand_of p d.rows
 
 -- the ticks of a governor's schedule of a run
-abbrev pub run_ticks : (Plan → StateOf → Frac) → Run → List Tick
+abbrev pub run_ticks : OwnDemand → Run → List Tick
 run_ticks demand r = course demand r.plan (demands_of r.plan r.demands) r.ticks
 
 -- every deadline within a run is met
-abbrev pub MeetsDeadlines : (Plan → StateOf → Frac) → Run → Type 0
+abbrev pub MeetsDeadlines : OwnDemand → Run → Type 0
 MeetsDeadlines demand r = IsMet r.plan (demands_of r.plan r.demands) (run_ticks demand r)
 
 -- at each decision of a run some entry of the table meets the published demand
-abbrev pub MeetsDemands : (Plan → StateOf → Frac) → Run → Type 0
+abbrev pub MeetsDemands : OwnDemand → Run → Type 0
 MeetsDemands demand r =
     let dem = demands_of r.plan r.demands in
     (t : ℕ) → t < r.ticks → is_decision r.plan dem (course demand r.plan dem t) ≡ true
     → (lowest_pick r.plan.machine (ask_of demand r.plan dem (course demand r.plan dem t))).met ≡ true
 
 -- all notes of a run
-abbrev pub notes_of_run : (Plan → StateOf → Frac) → Run → List Note
+abbrev pub notes_of_run : OwnDemand → Run → List Note
 notes_of_run demand r =
     let dem = demands_of r.plan r.demands in notes_of r.plan dem (ask_of demand r.plan dem) (run_ticks demand r)

@@ -3,11 +3,11 @@ use Rattle.std.specs.Prelude.{◌+◌, List, ◌++◌, [], ◌∷◌, ℕ, if◌
 use Rattle.dvs_base.specs.declared.note.Note.{Note}
 use Rattle.dvs_base.specs.declared.note.Note.TheVariants.{Speed, Run, Idle, Done}
 use Rattle.dvs_base.specs.declared.note.Pos.{Pos}
-use Rattle.grid_fraction.specs.declared.Frac.{Frac}
 use Rattle.sched_model.specs.declared.holder.Holder.{Holder}
 use Rattle.sched_model.specs.declared.holder.Holder.TheVariants.{Nobody, Held}
 use Rattle.sched_model.specs.Plan.{Plan, point, count}
-use Rattle.sched_model.specs.Ticks.{Tick}
+use Rattle.sched_model.specs.Jobs.{JobDemands}
+use Rattle.sched_model.specs.Ticks.{PublishedDemand, Tick}
 use Rattle.sched_model.specs.Decision.{is_decision}
 use Rattle.sched_model.specs.Schedule.{entry_in_force}
 use Rattle.sched_model.specs.Notes.{Span, spans_of, Piece, all_release_notes, pieces_notes, pieces_of, run_energy, idle_energy, position_of, same_holder}
@@ -27,14 +27,14 @@ first_span [] = record { past = []; entry = 0; units = [] }
 first_span (s ∷ spans) = s
 
 -- the span that the tick after `past` belongs to, with its units before that tick
-abbrev pub open_span : Plan → (ℕ → ℕ → ℕ) → (List Tick → Frac) → List Tick → Span
+abbrev pub open_span : Plan → JobDemands → PublishedDemand → List Tick → Span
 open_span p dem ask past =
     if is_decision p dem past
     then record { past = past; entry = entry_in_force p dem ask past; units = [] }
     else first_span (spans_of p dem past)
 
 -- the notes of a span with these segments
-abbrev pub notes_with : Plan → (ℕ → ℕ → ℕ) → (List Tick → Frac) → Span → List Piece → List Note
+abbrev pub notes_with : Plan → JobDemands → PublishedDemand → Span → List Piece → List Note
 notes_with p dem ask s pieces =
     all_release_notes p dem (length s.past)
     ++ Speed (length s.past) ((point p s.entry).speed) ((ask s.past).num) ((ask s.past).den)

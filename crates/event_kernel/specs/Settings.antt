@@ -1,15 +1,15 @@
 -- What the contracts of a run say: its setting, and how far the run is.
 use Rattle.std.specs.Prelude.{◌≡◌, ◌⊎◌, ℕ, ◌+◌, ◌*◌, ◌<◌, ◌≤◌, Bool, true, Option, Some}
-use Rattle.grid_fraction.specs.declared.Frac.{Frac}
 use Rattle.grid_fraction.specs.Numbers.{any_below}
 use Rattle.dvs_base.specs.declared.limits.TheConstants.{MOST_TICKS}
 use Rattle.sched_model.specs.Plan.{Plan, count, point}
 use Rattle.sched_model.specs.Admission.{IsAdmitted}
-use Rattle.sched_model.specs.Jobs.{latest, IsWithin}
+use Rattle.sched_model.specs.Jobs.{JobDemands, latest, IsWithin}
 use Rattle.sched_model.specs.Ticks.{exec, IsMet}
 use Rattle.sched_model.specs.Decision.{is_decision, completes_in}
 use Rattle.sched_model.specs.Schedule.{entry_in_force}
 use Rattle.sched_model.specs.States.{row_at, prior_state, state_of, StateOf}
+use Rattle.governor.specs.Meanings.{OwnDemand}
 use Rattle.governor.specs.Schedule.{ask_of, course}
 use Rattle.agenda.specs.Agenda.{IsFirstUndone}
 use Rattle.event_kernel.specs.declared.progress.Setting.{Setting}
@@ -23,7 +23,7 @@ module _ (set : Setting) where
   abbrev p : Plan
   p = set.plan.now
 
-  abbrev dem : ℕ → ℕ → ℕ
+  abbrev dem : JobDemands
   dem = demands_of set.plan.now set.demands.now
 
   -- the plan is admitted, the list has its declared worst cases, no demand exceeds its worst case, the ticks are few
@@ -58,7 +58,7 @@ module _ (set : Setting) where
     pub not_done : (i : ℕ) → first ≡ Some i → (row_at s i).used + n * (point p force.index).speed < dem i (row_at s i).job
     pub last : IsLastAfter force s first n
 
-  module _ (demand : Plan → StateOf → Frac) where
+  module _ (demand : OwnDemand) where
     -- the state at the tick t of a governor's schedule, after its releases
     abbrev pub state_at : ℕ → StateOf
     state_at t = state_of p dem (course demand p dem t)

@@ -2,10 +2,9 @@
 use Rattle.std.specs.Prelude.{ℕ, ◌≤◌, List, Result, Ok, Err, take, [], ◌∷◌, ◌≡◌, length, map}
 use Rattle.dvs_base.specs.declared.note.Note.{Note}
 use Rattle.dvs_base.specs.Outside.{Rose}
-use Rattle.grid_fraction.specs.declared.Frac.{Frac}
 use Rattle.sched_model.specs.Plan.{Plan, count}
-use Rattle.sched_model.specs.States.{StateOf}
 use Rattle.sched_model.specs.Notes.{notes_before_end}
+use Rattle.governor.specs.Meanings.{OwnDemand}
 use Rattle.governor.specs.Schedule.{ask_of}
 use Rattle.energy.specs.Books.{Books, booked, HasTask, HasRoom, Told, books_of}
 use Rattle.event_kernel.specs.declared.notes.TheConstants.{MOST_NOTES}
@@ -19,7 +18,7 @@ HandsOut heard balked stops from to notes (Ok v) = HasHeard heard from notes to 
 HandsOut heard balked stops from to notes (Err e) = HasBalked heard balked from notes to × (stops from ≤ stops to) × Rose (stops from) (stops to)
 
 -- the notes of a run before the `End`
-abbrev pub notes_before_end_of : (Plan → StateOf → Frac) → Run → List Note
+abbrev pub notes_before_end_of : OwnDemand → Run → List Note
 notes_before_end_of demand r =
     let dem = demands_of r.plan r.demands in notes_before_end r.plan dem (ask_of demand r.plan dem) (run_ticks demand r)
 

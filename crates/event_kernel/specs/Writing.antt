@@ -1,11 +1,10 @@
 -- What the trace holds in a tick of a span.
 use Rattle.std.specs.Prelude.{ℕ, ◌≡◌, ◌<◌, List, ◌+◌, ◌≤◌, length, count_by}
 use Rattle.sched_model.specs.Plan.{Plan, count}
-use Rattle.sched_model.specs.Jobs.{latest}
-use Rattle.grid_fraction.specs.declared.Frac.{Frac}
+use Rattle.sched_model.specs.Jobs.{JobDemands, latest}
 use Rattle.sched_model.specs.declared.holder.Holder.{Holder}
 use Rattle.sched_model.specs.declared.holder.Holder.TheVariants.{Nobody, Held}
-use Rattle.sched_model.specs.Ticks.{Tick, exec}
+use Rattle.sched_model.specs.Ticks.{PublishedDemand, Tick, exec}
 use Rattle.sched_model.specs.Notes.{same_holder, Span, Piece}
 use Rattle.event_kernel.specs.declared.span_trace.SpanTrace.{SpanTrace}
 use Rattle.event_kernel.specs.Segment.{notes_with, IsOpen}
@@ -18,7 +17,7 @@ HeldNow p t (Held i k) = (i < count p) × (k ≡ latest p i t)
 
 -- The trace holds the open segment of a span's units, and the notes of the span before it. `used` is the units that the
 -- latest job of each task has had, and `most` bounds the units so far.
-pub record Writing (p : Plan) (dem : ℕ → ℕ → ℕ) (ask : List Tick → Frac) (t : ℕ) (s : Span) (used : ℕ → ℕ) (most : ℕ) (trace : SpanTrace) : Type 0 where
+pub record Writing (p : Plan) (dem : JobDemands) (ask : PublishedDemand) (t : ℕ) (s : Span) (used : ℕ → ℕ) (most : ℕ) (trace : SpanTrace) : Type 0 where
   pub done : List Piece
   pub segments : IsOpen trace.segment done s.units
   pub place : trace.segment.start + trace.segment.units ≡ length s.units

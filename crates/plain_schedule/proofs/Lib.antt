@@ -1,8 +1,6 @@
 pub mod Listed
 pub mod Pasts
-pub mod Publishing
 pub mod InForce
-pub mod Marks
-pub mod Allotting
+pub mod Publishing
 pub mod Orders
 pub mod Lookahead

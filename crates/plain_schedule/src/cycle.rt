@@ -178,7 +178,7 @@ fn allotment_left(plan: &Admitted, demands: &Demands, past: &[PlainTick], task: 
 
 /// The demand of cycle conservation under RM: what is left of the allotments, over the time to the deadline that was
 /// the earliest at the last release.
-#[tactic(auto, using(crate::proofs::Marks::marked_later))]
+#[tactic(auto, using(crate::proofs::Publishing::marked_later))]
 pub(crate) fn rm_cycle(plan: &Admitted, demands: &Demands, past: &[PlainTick]) -> Frac
     requires list { HasWorstsOf plan.now.tasks demands.now }
     requires scheduler { plan.now.scheduler ≡ Rm }

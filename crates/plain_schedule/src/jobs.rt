@@ -43,7 +43,7 @@ pub(crate) fn latest(plan: &Admitted, task: u32, tick: u64) -> u64
 }
 
 /// The deadline of the latest job of a task.
-#[tactic(auto, using(crate::proofs::Marks::deadline_later, crate::proofs::Marks::deadline_low))]
+#[tactic(auto, using(crate::proofs::Publishing::deadline_later, crate::proofs::Publishing::deadline_low))]
 pub(crate) fn deadline(plan: &Admitted, task: u32, tick: u64) -> u128
     requires task { task < count plan.now }
     requires tick { tick + 1 < u64_end }
@@ -56,7 +56,7 @@ pub(crate) fn deadline(plan: &Admitted, task: u32, tick: u64) -> u128
 }
 
 /// The earliest deadline of the latest jobs.
-#[tactic(auto, using(crate::proofs::Marks::one_more))]
+#[tactic(auto, using(crate::proofs::Publishing::one_more))]
 pub(crate) fn earliest(plan: &Admitted, tick: u64) -> u128
     requires { tick + 1 < u64_end }
     ensures value { result ≡ earliest plan.now tick }

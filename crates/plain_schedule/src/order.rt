@@ -1,5 +1,5 @@
 // The tasks in EDF order.
-ghost use Rattle.std.specs.Prelude.{◌≡◌, ◌+◌, ◌<◌, ◌≤◌, IfOk, length, map};
+ghost use Rattle.std.specs.Prelude.{◌≡◌, ◌+◌, ◌<◌, ◌≤◌, IfOk, length};
 ghost use Rattle.std.specs.List.{AllByRecursion};
 ghost use Rattle.dvs_base.specs.Widths.{u64_end};
 ghost use Rattle.dvs_base.specs.declared.kind.Scheduler.TheVariants.{Edf};
@@ -11,7 +11,7 @@ ghost use Rattle.sched_model.specs.Priority.{key_of, in_order};
 
 use crate::jobs::deadline;
 use dvs_base::NoMemory;
-use sched_model::Admitted;
+use sched_model::{Admitted, numbers_in_order};
 use std::alloc::Global;
 
 // Each task's deadline with its number, in file order.
@@ -27,16 +27,6 @@ fn keys_of(alloc: Global, plan: &Admitted, tick: u64) -> Result<Vec<(u128, u32)>
     Ok(keys)
 }
 
-// The tasks' numbers of these keys.
-fn numbers_of(alloc: Global, keys: &[(u128, u32)]) -> Result<Vec<u32>, NoMemory>
-    ensures { IfOk result (λ v. v.items ≡ map (λ k. k.1) keys.now) }
-{
-    keys.iter()
-        .map(|key| key.1)
-        .collect(alloc)
-        .map_err(|_| NoMemory)
-}
-
 /// The tasks' numbers in EDF order: by deadline, and by place among equal deadlines.
 pub(crate) fn edf_order(alloc: Global, plan: &Admitted, tick: u64) -> Result<Vec<u32>, NoMemory>
     requires { tick + 1 < u64_end }
@@ -45,7 +35,6 @@ pub(crate) fn edf_order(alloc: Global, plan: &Admitted, tick: u64) -> Result<Vec
     ensures few { IfOk result (λ v. length v.items ≤ MOST_TASKS) }
 {
     let _scheduler = plan.scheduler();
-    let mut keys = keys_of(alloc, plan, tick)?;
-    keys.sort_unstable();
-    numbers_of(alloc, &keys)
+    let keys = keys_of(alloc, plan, tick)?;
+    numbers_in_order(alloc, keys)
 }

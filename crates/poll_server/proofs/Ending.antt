@@ -39,9 +39,11 @@ never-done i k (n ∷ notes) none = rw (off n none.0) (never-done i k notes none
 pub ends-by : (t i k : ℕ) (notes : List Note) → 0 < count_by (tells_done i k) notes → AllByRecursion (IsInTime t i k) notes
     → IsEndBy t (done_at notes i k)
 ends-by t i k [] some early = absurd (omega arith)
-ends-by t i k (n ∷ notes) some early = one n early.0 refl (λ none. ends-by t i k notes (omega (arith, count-next (tells_done i k) n notes, some, ap one_if none)) early.1)
+ends-by t i k (n ∷ notes) some early =
+    one n early.0 refl (λ none. ends-by t i k notes (omega (arith, count-next (tells_done i k) n notes, some, ap one_if none)) early.1)
   where
-    one : (m : Note) → IsInTime t i k m → n ≡ m → (tells_done i k n ≡ false → IsEndBy t (done_at notes i k)) → IsEndBy t (option_or (done_position m i k) (done_at notes i k))
+    one : (m : Note) → IsInTime t i k m → n ≡ m → (tells_done i k n ≡ false → IsEndBy t (done_at notes i k))
+        → IsEndBy t (option_or (done_position m i k) (done_at notes i k))
     one (Done q j l used) by is ih = go (nat_eq i j && nat_eq k l) refl
       where
         go : (b : Bool) → (nat_eq i j && nat_eq k l) ≡ b → IsEndBy t (option_or (if b then Some q else None) (done_at notes i k))

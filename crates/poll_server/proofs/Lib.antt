@@ -6,7 +6,6 @@ pub mod Running
 pub mod Telling
 pub mod Steps
 pub mod Deciding
-pub mod Answering
 pub mod Whole
 pub mod Examples
 pub mod Within

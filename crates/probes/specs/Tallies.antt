@@ -4,7 +4,7 @@ use Rattle.std.specs.Prelude.{Option, Some, None, if◌then◌else◌}
 use Rattle.dvs_base.specs.Widths.{u64_end}
 use Rattle.dvs_base.specs.NoteTasks.{note_task}
 use Rattle.dvs_base.specs.declared.note.Note.{Note}
-use Rattle.dvs_base.specs.declared.note.Note.TheVariants.{Release, Speed, Run, Idle, Done, End}
+use Rattle.dvs_base.specs.declared.note.Note.TheVariants.{Release, Speed, Run, Idle, Done}
 use Rattle.probes.specs.declared.rule.What.{What}
 use Rattle.probes.specs.declared.rule.What.TheVariants as what
 use Rattle.probes.specs.declared.rule.Rule.{Rule}

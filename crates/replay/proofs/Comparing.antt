@@ -1,4 +1,4 @@
--- What a listener that compares notes has heard, and where it stopped.
+-- What a listener that compares the notes of a run has heard, and where it stopped.
 use Rattle.std.proofs.Common.{◌≡◌, ◌+◌, ◌-◌, ◌≤◌, ℕ, Bool, true, false, inl, inr, List, [], ◌∷◌, ◌++◌, length, refl, if◌then◌else◌, ap, ap₂, ◌∙◌, sym, subst, true≢false, append-nil, arith}
 use Rattle.std.specs.Prelude.{unwrap_or, Option, Some, None, Ok, Err}
 use Rattle.dvs_base.specs.declared.note.Note.{Note}
@@ -6,9 +6,12 @@ use Rattle.dvs_base.specs.declared.note.Note.TheVariants.{Release, Speed, Run, I
 use Rattle.sched_model.specs.Totals.{totals_of}
 use Rattle.event_kernel.specs.Heard.{HasHeard, HasBalked}
 use Rattle.trace_reader.specs.Traces.{TraceOf, is_end, IsEnded}
-use Rattle.done_lines.proofs.OneEnd.{EndsOnce, whole-prefix}
+use Rattle.done_lines.proofs.OneEnd.{whole-prefix, schedule-ended}
 use Rattle.replay.specs.Comparing.{same_note, IsOther, first_unequal, differs, unless_unequal, compared}
 use Rattle.replay.specs.declared.fault.ReplayFault.{ReplayFault}
+use Rattle.governor.specs.Meanings.{OwnDemand}
+use Rattle.governor.specs.Schedule.{ask_of}
+use Rattle.event_kernel.specs.Runs.{Run as KernelRun, demands_of, run_ticks, notes_of_run}
 
 -- a note is equal to itself
 pub same-self : (n : Note) → same_note n n ≡ true
@@ -24,13 +27,8 @@ pub unequal-self : (at : ℕ) (notes : List Note) → first_unequal at notes not
 unequal-self at [] = refl
 unequal-self at (n ∷ notes) = rw (same-self n) (unequal-self (at + 1) notes)
 
-pub ended-once : (notes : List Note) → IsEnded notes → EndsOnce is_end notes
-ended-once [] h = h
-ended-once (n ∷ []) h = h
-ended-once (n ∷ m ∷ notes) h = (h.0, ended-once (m ∷ notes) h.1)
-
 -- where notes end once and the first isn't the end, those after it end once
-tail-once : (n : Note) (notes : List Note) → is_end n ≡ false → EndsOnce is_end (n ∷ notes) → EndsOnce is_end notes
+tail-once : (n : Note) (notes : List Note) → is_end n ≡ false → IsEnded (n ∷ notes) → IsEnded notes
 tail-once n [] other h = absurd (true≢false (sym h ∙ other))
 tail-once n (m ∷ notes) other h = h.1
 
@@ -48,11 +46,11 @@ module _ {L : Type 0} (rest : L → List Note) (wanted : L → Option Note) wher
   heard-rest from (n ∷ notes) to h = h.1 ∙ ap (λ (l : List Note). n ∷ l) (heard-rest h.0 notes to h.2)
 
   -- a listener that heard all notes of a run had these notes to compare with, and no more
-  pub heard-same : (from : L) (notes : List Note) (to : L) → EndsOnce is_end notes → EndsOnce is_end (rest from)
+  pub heard-same : (from : L) (notes : List Note) (to : L) → IsEnded notes → IsEnded (rest from)
       → HasHeard HeardNext from notes to → rest from ≡ notes
   heard-same from notes to once ends h =
       let all : rest from ≡ notes ++ rest to = heard-rest from notes to h in
-      let none : rest to ≡ [] = whole-prefix is_end notes (rest to) once (subst (EndsOnce is_end) all ends) in
+      let none : rest to ≡ [] = whole-prefix notes (rest to) once (subst IsEnded all ends) in
       all ∙ (ap (λ (l : List Note). notes ++ l) none ∙ append-nil notes)
 
   -- a listener stopped at the first unequal note: the note wanted there, the note found, and the notes after that
@@ -66,7 +64,7 @@ module _ {L : Type 0} (rest : L → List Note) (wanted : L → Option Note) wher
     pub differ : first_unequal at notes (rest from) ≡ Some (at + (length (rest from) - length (rest to)), want, found)
 
   stopped-here : (at : ℕ) (from : L) (n : Note) (notes : List Note) (to : L) (l : List Note) → rest from ≡ l
-      → EndsOnce is_end l → HeardOther from n to → StoppedAt at from (n ∷ notes) to
+      → IsEnded l → HeardOther from n to → StoppedAt at from (n ∷ notes) to
   stopped-here at from n notes to [] is ends h = absurd ends
   stopped-here at from n notes to (m ∷ more) is ends h =
       let other : same_note m n ≡ false = subst (IsOther n) is h.0 in
@@ -103,15 +101,15 @@ module _ {L : Type 0} (rest : L → List Note) (wanted : L → Option Note) wher
       }
 
   -- a listener that balked at one of a run's notes stopped at the first unequal one
-  pub balked-first : (at : ℕ) (from : L) (notes : List Note) (to : L) → EndsOnce is_end notes
-      → EndsOnce is_end (rest from)
+  pub balked-first : (at : ℕ) (from : L) (notes : List Note) (to : L) → IsEnded notes
+      → IsEnded (rest from)
       → HasBalked HeardNext HeardOther from notes to → StoppedAt at from notes to
   balked-first at from [] to once ends h = absurd h
   balked-first at from (n ∷ notes) to once ends (inl here) = stopped-here at from n notes to (rest from) refl ends here
   balked-first at from (n ∷ []) to once ends (inr later) = absurd later.2
   balked-first at from (n ∷ m ∷ notes) to once ends (inr later) =
       stopped-later at from n (m ∷ notes) later.0 to later.1
-      (balked-first (at + 1) later.0 (m ∷ notes) to once.1 (tail-once n (rest later.0) once.0 (subst (EndsOnce is_end) later.1 ends)) later.2)
+      (balked-first (at + 1) later.0 (m ∷ notes) to once.1 (tail-once n (rest later.0) once.0 (subst IsEnded later.1 ends)) later.2)
 
   -- where a listener stopped, comparing the notes gives the refusal at the first two unequal ones
   pub stopped-compared : (tasks : ℕ) (t : TraceOf) (from : L) (notes : List Note) (to : L) (w : Note) (why : ReplayFault)
@@ -131,3 +129,23 @@ pub compared-same : (tasks : ℕ) (t : TraceOf) (notes : List Note) → t.notes 
 compared-same tasks t notes is =
     subst (λ (l : List Note). compared tasks t l ≡ Ok (totals_of l)) is
     (rw (unequal-self 0 t.notes) refl)
+
+-- the run, by a governor's own demand; the trace; and the listener before and after
+module _ {L : Type 0} (rest : L → List Note) (wanted : L → Option Note)
+    (demand : OwnDemand) (run : KernelRun) (t : TraceOf) (ended : IsEnded t.notes) (from to : L) (notes_are : rest from ≡ t.notes) where
+  once : IsEnded (notes_of_run demand run)
+  once =
+      let dem = demands_of run.plan run.demands in
+      schedule-ended run.plan dem (ask_of demand run.plan dem) (run_ticks demand run)
+
+  ends : IsEnded (rest from)
+  ends = subst IsEnded (sym notes_are) ended
+
+  -- where the listener heard all notes, they are those of the trace
+  pub run-same : HasHeard (HeardNext rest wanted) from (notes_of_run demand run) to → t.notes ≡ notes_of_run demand run
+  run-same h = sym notes_are ∙ heard-same rest wanted from (notes_of_run demand run) to once ends h
+
+  -- where the listener stopped, it stopped at the first unequal note
+  pub run-stopped : HasBalked (HeardNext rest wanted) (HeardOther rest wanted) from (notes_of_run demand run) to
+      → StoppedAt rest wanted 0 from (notes_of_run demand run) to
+  run-stopped h = balked-first rest wanted 0 from (notes_of_run demand run) to once ends h

@@ -11,13 +11,13 @@ use Rattle.dvs_base.specs.declared.note.Totals.{Totals}
 use Rattle.dvs_base.specs.declared.limits.TheConstants.{MOST_JOBS}
 use Rattle.task_model.specs.DemandRows.{DemandRow}
 use Rattle.sched_model.specs.Plan.{Plan, count, worst}
-use Rattle.sched_model.specs.Jobs.{released_jobs, demand_of}
+use Rattle.sched_model.specs.Jobs.{JobDemands, released_jobs, demand_of}
 use Rattle.sched_model.specs.Totals.{totals_of}
 use Rattle.sched_model.specs.Admission.{IsWithinLimits}
-use Rattle.trace_reader.specs.Traces.{TraceOf, is_end}
+use Rattle.trace_reader.specs.Traces.{TraceOf, is_end, IsEnded}
 use Rattle.replay_laws.specs.FixedDemands.{fixed_of}
 use Rattle.replay_laws.specs.OwnList.{Asking, ticks_by, AreNotesFor, AreOwn, HasOwnList}
-use Rattle.done_lines.proofs.OneEnd.{EndsOnce, schedule-ended}
+use Rattle.done_lines.proofs.OneEnd.{schedule-ended}
 use Rattle.replay.specs.Comparing.{same_note, line_of, first_unequal, FirstUnequal, differs, unless_unequal}
 use Rattle.replay.specs.Replays.{first_over, too_many, unless, own_notes, replay_of, IsCause, IsReplayed, IsFirstDifference}
 use Rattle.replay.specs.declared.fault.ReplayFault.{ReplayFault}
@@ -28,61 +28,32 @@ use Rattle.replay.proofs.Fixing.{over-fit, fit-over}
 -- notes that are equal by `same_note` are equal
 pub same-is : (m n : Note) → same_note m n ≡ true → m ≡ n
 same-is (Release t i k) (Release t2 i2 k2) e = grind (arith, e)
-same-is (Release t i k) (Speed t2 f2 num2 den2) e = absurd (true≢false (sym e))
-same-is (Release t i k) (Run from2 to2 i2 k2 units2 energy2) e = absurd (true≢false (sym e))
-same-is (Release t i k) (Idle from2 to2 units2 energy2) e = absurd (true≢false (sym e))
-same-is (Release t i k) (Done q2 i2 k2 used2) e = absurd (true≢false (sym e))
-same-is (Release t i k) (End t2 run2 idle2) e = absurd (true≢false (sym e))
-same-is (Speed t f num den) (Release t2 i2 k2) e = absurd (true≢false (sym e))
 same-is (Speed t f num den) (Speed t2 f2 num2 den2) e = grind (arith, e)
-same-is (Speed t f num den) (Run from2 to2 i2 k2 units2 energy2) e = absurd (true≢false (sym e))
-same-is (Speed t f num den) (Idle from2 to2 units2 energy2) e = absurd (true≢false (sym e))
-same-is (Speed t f num den) (Done q2 i2 k2 used2) e = absurd (true≢false (sym e))
-same-is (Speed t f num den) (End t2 run2 idle2) e = absurd (true≢false (sym e))
-same-is (Run from to i k units energy) (Release t2 i2 k2) e = absurd (true≢false (sym e))
-same-is (Run from to i k units energy) (Speed t2 f2 num2 den2) e = absurd (true≢false (sym e))
 same-is (Run from to i k units energy) (Run from2 to2 i2 k2 units2 energy2) e = grind (arith, e)
-same-is (Run from to i k units energy) (Idle from2 to2 units2 energy2) e = absurd (true≢false (sym e))
-same-is (Run from to i k units energy) (Done q2 i2 k2 used2) e = absurd (true≢false (sym e))
-same-is (Run from to i k units energy) (End t2 run2 idle2) e = absurd (true≢false (sym e))
-same-is (Idle from to units energy) (Release t2 i2 k2) e = absurd (true≢false (sym e))
-same-is (Idle from to units energy) (Speed t2 f2 num2 den2) e = absurd (true≢false (sym e))
-same-is (Idle from to units energy) (Run from2 to2 i2 k2 units2 energy2) e = absurd (true≢false (sym e))
 same-is (Idle from to units energy) (Idle from2 to2 units2 energy2) e = grind (arith, e)
-same-is (Idle from to units energy) (Done q2 i2 k2 used2) e = absurd (true≢false (sym e))
-same-is (Idle from to units energy) (End t2 run2 idle2) e = absurd (true≢false (sym e))
-same-is (Done q i k used) (Release t2 i2 k2) e = absurd (true≢false (sym e))
-same-is (Done q i k used) (Speed t2 f2 num2 den2) e = absurd (true≢false (sym e))
-same-is (Done q i k used) (Run from2 to2 i2 k2 units2 energy2) e = absurd (true≢false (sym e))
-same-is (Done q i k used) (Idle from2 to2 units2 energy2) e = absurd (true≢false (sym e))
 same-is (Done q i k used) (Done q2 i2 k2 used2) e = grind (arith, e)
-same-is (Done q i k used) (End t2 run2 idle2) e = absurd (true≢false (sym e))
-same-is (End t run idle) (Release t2 i2 k2) e = absurd (true≢false (sym e))
-same-is (End t run idle) (Speed t2 f2 num2 den2) e = absurd (true≢false (sym e))
-same-is (End t run idle) (Run from2 to2 i2 k2 units2 energy2) e = absurd (true≢false (sym e))
-same-is (End t run idle) (Idle from2 to2 units2 energy2) e = absurd (true≢false (sym e))
-same-is (End t run idle) (Done q2 i2 k2 used2) e = absurd (true≢false (sym e))
 same-is (End t run idle) (End t2 run2 idle2) e = grind (arith, e)
+same-is _ _ e = absurd (true≢false (sym e))
 
 -- after equal first notes, lists of notes that end once are both at their end, or both go on
-same-rest : (at : ℕ) (w f : Note) (wanted found : List Note) → f ≡ w → EndsOnce is_end (w ∷ wanted)
-    → EndsOnce is_end (f ∷ found)
-    → (EndsOnce is_end wanted → EndsOnce is_end found → wanted ≡ found) → wanted ≡ found
+same-rest : (at : ℕ) (w f : Note) (wanted found : List Note) → f ≡ w → IsEnded (w ∷ wanted)
+    → IsEnded (f ∷ found)
+    → (IsEnded wanted → IsEnded found → wanted ≡ found) → wanted ≡ found
 same-rest at w f [] [] is once ends next = refl
 same-rest at w f [] (g ∷ found) is once ends next = absurd (true≢false (sym once ∙ (ap is_end (sym is) ∙ ends.0)))
 same-rest at w f (v ∷ wanted) [] is once ends next = absurd (true≢false (sym ends ∙ (ap is_end is ∙ once.0)))
 same-rest at w f (v ∷ wanted) (g ∷ found) is once ends next = next once.1 ends.1
 
-same-by : (at : ℕ) (w f : Note) (wanted found : List Note) (b : Bool) → same_note f w ≡ b → EndsOnce is_end (w ∷ wanted)
-    → EndsOnce is_end (f ∷ found)
-    → (first_unequal (at + 1) wanted found ≡ None → EndsOnce is_end wanted → EndsOnce is_end found → wanted ≡ found)
+same-by : (at : ℕ) (w f : Note) (wanted found : List Note) (b : Bool) → same_note f w ≡ b → IsEnded (w ∷ wanted)
+    → IsEnded (f ∷ found)
+    → (first_unequal (at + 1) wanted found ≡ None → IsEnded wanted → IsEnded found → wanted ≡ found)
     → (if b then first_unequal (at + 1) wanted found else Some (at, w, f)) ≡ None → w ∷ wanted ≡ f ∷ found
 same-by at w f wanted found true is once ends next h =
     let note : f ≡ w = same-is f w is in
     ap₂ (λ (n : Note) (l : List Note). n ∷ l) (sym note) (same-rest at w f wanted found note once ends (next h))
 same-by at w f wanted found false is once ends next h = absurd cc
 
-pub nowhere-same : (at : ℕ) (wanted found : List Note) → EndsOnce is_end wanted → EndsOnce is_end found
+pub nowhere-same : (at : ℕ) (wanted found : List Note) → IsEnded wanted → IsEnded found
     → first_unequal at wanted found ≡ None → wanted ≡ found
 nowhere-same at [] found once ends e = absurd once
 nowhere-same at (w ∷ wanted) [] once ends e = absurd ends
@@ -144,17 +115,13 @@ somewhere-first at (v ∷ wanted) (g ∷ found) place w f e =
 over-other : (p : Plan) (notes : List Note) (line : ℕ) (w f : Note) → first_over p notes ≡ Some (fault.Differs line w f)
     → ⊥
 over-other p [] line w f e = cc
-over-other p (Release tick i k ∷ notes) line w f e = over-other p notes line w f e
-over-other p (Speed tick s num den ∷ notes) line w f e = over-other p notes line w f e
-over-other p (Run from to i k units energy ∷ notes) line w f e = over-other p notes line w f e
-over-other p (Idle from to units energy ∷ notes) line w f e = over-other p notes line w f e
-over-other p (End ticks run idle ∷ notes) line w f e = over-other p notes line w f e
 over-other p (Done q i k used ∷ notes) line w f e = go (nat_lt (worst p i) used) (over-other p notes line w f) e
   where
     go : (b : Bool) → (first_over p notes ≡ Some (fault.Differs line w f) → ⊥)
         → option_or (if b then Some (fault.OverWorst i k used (worst p i)) else None) (first_over p notes) ≡ Some (fault.Differs line w f) → ⊥
     go true rest e = cc
     go false rest e = rest e
+over-other p (n ∷ notes) line w f e = over-other p notes line w f e
 
 -- the refusal of too many jobs isn't a difference
 many-other : (p : Plan) (ticks line : ℕ) (w f : Note) → too_many p ticks ≡ Some (fault.Differs line w f) → ⊥
@@ -168,11 +135,6 @@ many-other p ticks line w f = go (nat_lt MOST_JOBS (released_jobs p ticks))
 -- the refusal of the first end over its worst case shows its cause
 over-cause : (p : Plan) (notes : List Note) (why : ReplayFault) → first_over p notes ≡ Some why → IsCause why
 over-cause p [] why e = absurd cc
-over-cause p (Release tick i k ∷ notes) why e = over-cause p notes why e
-over-cause p (Speed tick s num den ∷ notes) why e = over-cause p notes why e
-over-cause p (Run from to i k units energy ∷ notes) why e = over-cause p notes why e
-over-cause p (Idle from to units energy ∷ notes) why e = over-cause p notes why e
-over-cause p (End ticks run idle ∷ notes) why e = over-cause p notes why e
 over-cause p (Done q i k used ∷ notes) why e = go (nat_lt (worst p i) used) refl (over-cause p notes why) e
   where
     go : (b : Bool) → nat_lt (worst p i) used ≡ b → (first_over p notes ≡ Some why → IsCause why)
@@ -180,6 +142,7 @@ over-cause p (Done q i k used ∷ notes) why e = go (nat_lt (worst p i) used) re
         → IsCause why
     go true over rest e = subst IsCause (same_Some _ _ e) (grind (arith, nat_tests, over))
     go false low rest e = rest e
+over-cause p (n ∷ notes) why e = over-cause p notes why e
 
 -- the refusal of too many jobs shows its cause
 many-cause : (p : Plan) (ticks : ℕ) (why : ReplayFault) → too_many p ticks ≡ Some why → IsCause why
@@ -209,10 +172,10 @@ other-fault : (why : ReplayFault) (line : ℕ) (w f : Note) → IsErrOf (result_
     → why ≢ fault.NoMemory
 other-fault why line w f is memory = cc
 
-module _ (p : Plan) (lim : IsWithinLimits p) (asked : Asking) (t : TraceOf) (ends : EndsOnce is_end t.notes) where
-  once : EndsOnce is_end (own_notes p asked t)
+module _ (p : Plan) (lim : IsWithinLimits p) (asked : Asking) (t : TraceOf) (ends : IsEnded t.notes) where
+  once : IsEnded (own_notes p asked t)
   once =
-      let own : ℕ → ℕ → ℕ = demand_of p (fixed_of p t.notes) in
+      let own : JobDemands = demand_of p (fixed_of p t.notes) in
       schedule-ended p own (asked own) (ticks_by p asked own t.plan.ticks)
 
   -- a trace passes where no end is over its worst case, the jobs are few, and its notes are those of its own list

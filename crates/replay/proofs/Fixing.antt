@@ -24,11 +24,6 @@ drop-next l i x lt = rw add-one (drop-cons l i x lt)
 -- where no end is over its worst case, each note is fit
 pub over-fit : (p : Plan) (notes : List Note) → first_over p notes ≡ None → AllByRecursion (IsFit p) notes
 over-fit p [] none = tt
-over-fit p (Release tick i k ∷ notes) none = (tt, over-fit p notes none)
-over-fit p (Speed tick f num den ∷ notes) none = (tt, over-fit p notes none)
-over-fit p (Run from to i k units energy ∷ notes) none = (tt, over-fit p notes none)
-over-fit p (Idle from to units energy ∷ notes) none = (tt, over-fit p notes none)
-over-fit p (End ticks run idle ∷ notes) none = (tt, over-fit p notes none)
 over-fit p (Done q i k used ∷ notes) none = go (nat_lt (worst p i) used) refl none (over-fit p notes)
   where
     go : (b : Bool) → nat_lt (worst p i) used ≡ b
@@ -37,28 +32,19 @@ over-fit p (Done q i k used ∷ notes) none = go (nat_lt (worst p i) used) refl 
         → (used ≤ worst p i) × AllByRecursion (IsFit p) notes
     go true over e rest = absurd cc
     go false low e rest = (grind (arith, nat_tests, low), rest e)
+over-fit p (n ∷ notes) none = (tt, over-fit p notes none)
 
 -- where each note is fit, no end is over its worst case
 pub fit-over : (p : Plan) (notes : List Note) → AllByRecursion (IsFit p) notes → first_over p notes ≡ None
 fit-over p [] fit = refl
-fit-over p (Release tick i k ∷ notes) fit = fit-over p notes fit.1
-fit-over p (Speed tick f num den ∷ notes) fit = fit-over p notes fit.1
-fit-over p (Run from to i k units energy ∷ notes) fit = fit-over p notes fit.1
-fit-over p (Idle from to units energy ∷ notes) fit = fit-over p notes fit.1
-fit-over p (End ticks run idle ∷ notes) fit = fit-over p notes fit.1
 fit-over p (Done q i k used ∷ notes) fit =
     let low : nat_lt (worst p i) used ≡ false = grind (arith, nat_tests, fit.0) in
     rw low (fit-over p notes fit.1)
+fit-over p (n ∷ notes) fit = fit-over p notes fit.1
 
 -- the row that a note fixes comes before those that the notes after it fix
 fixed-first : (p : Plan) (n : Note) (rows : List DemandRow) (i k : ℕ)
     → named (fixed_before p n rows) i k ≡ option_or (named (fixed_before p n []) i k) (named rows i k)
-fixed-first p (Release tick j l) rows i k = refl
-fixed-first p (Speed tick f num den) rows i k = refl
-fixed-first p (Run from to j l units energy) rows i k = refl
-fixed-first p (Idle from to units energy) rows i k = refl
-fixed-first p (End ticks run idle) rows i k = refl
-fixed-first p (Done q j zero used) rows i k = refl
 fixed-first p (Done q j (suc l) used) rows i k = go (nat_eq j i && nat_eq (suc l) k)
   where
     go : (b : Bool)
@@ -66,6 +52,7 @@ fixed-first p (Done q j (suc l) used) rows i k = go (nat_eq j i && nat_eq (suc l
         ≡ option_or (if b then Some (used - 2 * p.machine.charge) else None) (named rows i k)
     go true = refl
     go false = refl
+fixed-first p _ rows i k = refl
 
 -- the rows of a list, then those that the notes from place `at` on fix, give each job what all the notes fix for it
 abbrev pub AreFixedFrom : Plan → List Note → ℕ → DemandsOf → Type 0

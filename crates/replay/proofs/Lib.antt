@@ -1,7 +1,6 @@
-pub mod Comparing
 pub mod Fixing
 pub mod Exact
 pub mod Texts
 pub mod SameTexts
-pub mod Running
+pub mod Comparing
 pub mod Examples

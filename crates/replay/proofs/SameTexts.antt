@@ -16,7 +16,7 @@ use Rattle.trace_reader.proofs.HeadTexts.{IsLine, AreLines, task_lines-lines}
 use Rattle.trace_reader.proofs.TraceTexts.{one-text}
 use Rattle.done_lines.specs.RunText.{task_texts}
 use Rattle.replay_laws.specs.OwnList.{Asking, HasSameNotes}
-use Rattle.trace_limits.proofs.TraceLimits.{keeps-limits}
+use Rattle.done_lines.proofs.TraceLimits.{keeps-limits}
 use Rattle.replay.specs.SameTexts.{trace_by, text_by, HasSameTextBy, HasSameText}
 use Rattle.replay.proofs.Texts.{names-distinct, names-named, name-at}
 

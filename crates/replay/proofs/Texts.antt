@@ -14,11 +14,9 @@ use Rattle.replay.specs.Replays.{NamesTask}
 pub names-each : (c : ℕ) (notes : List Note) → AllByRecursion (IsNoteOf c) notes → AllByRecursion (NamesTask c) notes
 names-each c [] h = tt
 names-each c (Release tick i k ∷ notes) h = (h.0.1, names-each c notes h.1)
-names-each c (Speed tick f num den ∷ notes) h = (tt, names-each c notes h.1)
 names-each c (Run from to i k units energy ∷ notes) h = (h.0.2, names-each c notes h.1)
-names-each c (Idle from to units energy ∷ notes) h = (tt, names-each c notes h.1)
 names-each c (Done q i k used ∷ notes) h = (h.0.1, names-each c notes h.1)
-names-each c (End ticks run idle ∷ notes) h = (tt, names-each c notes h.1)
+names-each c (n ∷ notes) h = (tt, names-each c notes h.1)
 
 -- the name of task i is the i-th of the names
 pub name-at : (tasks : List Task) (i : ℕ) (d : List ℕ) → i < length tasks

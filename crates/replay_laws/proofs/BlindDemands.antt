@@ -18,8 +18,7 @@ use Rattle.sched_model.specs.Admission.{IsWithinLimits}
 use Rattle.sched_model.proofs.OrderLemmas.{AreBelow, in_order-below}
 use Rattle.sched_model.proofs.Allotments.{allotment-same}
 use Rattle.sched_model.proofs.Limits.{latest-early}
-use Rattle.replay_laws.proofs.Alike.{Alike, IsBlind}
-use Rattle.replay_laws.proofs.SameState.{same-complete, same-wleft, alike-marked}
+use Rattle.replay_laws.proofs.SameCourse.{Alike, IsBlind, same-complete, same-wleft, alike-marked}
 
 -- what look-ahead puts off depends on the tasks' needs alone
 module _ (p : Plan) (due left other : ℕ → ℕ) (same : (i : ℕ) → i < count p → left i ≡ other i) where

@@ -1,8 +1,5 @@
-pub mod Alike
-pub mod SameState
 pub mod SameCourse
 pub mod SameNotes
-pub mod FixedNotes
 pub mod OwnDemands
 pub mod SameLists
 pub mod BlindDemands

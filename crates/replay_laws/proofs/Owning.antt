@@ -4,16 +4,15 @@ use Rattle.std.specs.List.{AllByRecursion}
 use Rattle.dvs_base.specs.declared.kind.GovernorKind.{GovernorKind}
 use Rattle.task_model.specs.DemandRows.{DemandRow}
 use Rattle.sched_model.specs.Plan.{Plan}
-use Rattle.sched_model.specs.Jobs.{demand_of, IsWithin}
+use Rattle.sched_model.specs.Jobs.{JobDemands, demand_of, IsWithin}
 use Rattle.sched_model.specs.Demand.{published}
 use Rattle.trace_reader.specs.TraceText.{text_of_lines}
 use Rattle.done_lines.specs.RunText.{run_lines}
 use Rattle.sched_model.specs.Admission.{IsWithinLimits}
 use Rattle.governor.specs.Schedule.{ask_of}
-use Rattle.replay_laws.proofs.Alike.{IsBlind}
+use Rattle.replay_laws.proofs.SameCourse.{IsBlind, blind-own}
 use Rattle.replay_laws.specs.FixedDemands.{fixed_of}
 use Rattle.replay_laws.specs.OwnList.{Asking, ticks_by, notes_by, AreOwn, HasOwnList, TextHasOwnList, OwnLists}
-use Rattle.replay_laws.proofs.SameState.{blind-own}
 use Rattle.replay_laws.proofs.BlindDemands.{blind-published}
 use Rattle.replay_laws.proofs.OwnDemands.{looks-at-none, own-notes}
 use Rattle.replay_laws.proofs.SameLists.{has-same-notes}
@@ -32,7 +31,7 @@ module _ (p : Plan) (lim : IsWithinLimits p) (ask : Asking) (blind : IsBlind p a
     of_some = λ ticks notes rows h. subst (AreOwn p ask ticks) (sym h.notes_are) (are-own ticks rows h.within);
     of_own = λ ticks notes h. record { within = fixed-within p notes h.fit; notes_are = h.notes_are };
     list = λ ticks notes h.
-        let own : ℕ → ℕ → ℕ = demand_of p (fixed_of p notes) in
+        let own : JobDemands = demand_of p (fixed_of p notes) in
         fixed-demands p lim notes h.fit (subst (AllByRecursion (IsOfTask p)) (sym h.notes_are) (notes-of-tasks p lim own (ask own) (ticks_by p ask own ticks)));
   }
 

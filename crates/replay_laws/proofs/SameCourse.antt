@@ -1,24 +1,146 @@
--- Two demands that the ticks of a schedule don't distinguish have one schedule.
-use Rattle.std.proofs.Common.{◌≡◌, ◌+◌, ◌<◌, ◌≤◌, ℕ, min, Bool, true, false, List, [], ◌∷◌, length, refl, if◌then◌else◌, ap, ◌∙◌, arith, ◌⊎◌, inl, inr, suc, ◌-◌}
+-- Two demands that ticks don't distinguish: they have one state, the same decisions and one schedule.
+use Rattle.std.proofs.Common.{◌≡◌, ◌<◌, ◌≤◌, ℕ, suc, Bool, true, false, List, ◌∷◌, length, refl, ap, ◌∙◌, nat_le, sym, arith, ◌-◌, [], if◌then◌else◌, ap₂, not, ◌&&◌, ◌||◌, length-drop, ◌+◌, min, ◌⊎◌, inl, inr}
 use Rattle.std.proofs.lemmas.Bool.Decides.{nat_tests}
+use Rattle.sched_model.specs.Plan.{Plan, count, worst, point}
+use Rattle.sched_model.specs.Jobs.{JobDemands, latest_since, latest, due, last_release, is_release}
+use Rattle.sched_model.specs.Ticks.{Tick, exec, is_done, at, is_complete, wleft, share, left}
+use Rattle.replay_laws.specs.OwnList.{Asking}
+use Rattle.grid_fraction.proofs.Searches.{any_below-same}
+use Rattle.freq_table.specs.Tables.{lowest_entry}
+use Rattle.sched_model.specs.declared.state.Row.{Row}
+use Rattle.sched_model.specs.Decision.{completes_in, is_decision}
+use Rattle.sched_model.specs.Schedule.{entry_in_force, IsNext, IsScheduleBy}
+use Rattle.sched_model.specs.States.{row_of, state_of}
+use Rattle.sched_model.specs.Admission.{IsWithinLimits}
+use Rattle.sched_model.proofs.Limits.{latest-early, every_period}
+use Rattle.sched_model.proofs.Service.{exec-drop, share-legal}
+use Rattle.sched_model.proofs.Tables.{table-same}
+use Rattle.governor.specs.Meanings.{OwnDemand}
+use Rattle.governor.specs.Schedule.{ask_of}
 use Rattle.std.proofs.lemmas.Bool.{cases_lt}
 use Rattle.grid_fraction.proofs.Sums.{sum_below-same}
-use Rattle.sched_model.specs.Plan.{Plan, count, point}
-use Rattle.sched_model.specs.Jobs.{JobDemands, latest}
-use Rattle.sched_model.specs.Ticks.{Tick, exec, is_done, share, left}
 use Rattle.sched_model.specs.Priority.{stands_before, sum_before, sum_up_to, SharesOut, key_of}
-use Rattle.sched_model.specs.Schedule.{IsNext, IsScheduleBy}
-use Rattle.sched_model.specs.Admission.{IsWithinLimits}
-use Rattle.sched_model.proofs.Limits.{every_period}
 use Rattle.sched_model.proofs.JobLaws.{exec-legal}
-use Rattle.sched_model.proofs.Service.{share-legal}
 use Rattle.sched_model.proofs.LevelSums.{share-most, sum_where-mono}
 use Rattle.sched_model.proofs.Allotments.{allotment_of}
 use Rattle.sched_model.proofs.GreedyLemmas.{up_to-before}
-use Rattle.sched_model.proofs.Limits.{latest-early}
-use Rattle.replay_laws.specs.OwnList.{Asking}
-use Rattle.replay_laws.proofs.Alike.{Indistinct, Alike, IsBlind, alike-earlier}
-use Rattle.replay_laws.proofs.SameState.{same-entry}
+
+-- a job that completes in the ticks needs the same by both demands, and one that doesn't needs more than it has had by
+-- the other too
+abbrev pub Indistinct : Plan → JobDemands → JobDemands → List Tick → ℕ → ℕ → Type 0
+Indistinct p dem other ticks i k = (is_done p dem ticks i k ≡ true → dem i k ≡ other i k) × (is_done p dem ticks i k ≡ false → exec p ticks i k < other i k)
+
+-- the ticks don't distinguish the demands of any job that is released before tick t, nor of job 0
+abbrev pub Alike : Plan → JobDemands → JobDemands → List Tick → ℕ → Type 0
+Alike p dem other ticks t = (i k : ℕ) → i < count p → latest_since p i k < t → Indistinct p dem other ticks i k
+
+-- the published demand depends on the demands of finished jobs only
+abbrev pub IsBlind : Plan → Asking → Type 0
+IsBlind p ask = (dem other : JobDemands) (past : List Tick) → Alike p dem other past (suc (length past)) → ask dem past ≡ ask other past
+
+-- the same jobs are finished by both demands
+pub same-done : (p : Plan) (dem other : JobDemands) (past : List Tick) (i k : ℕ) → Indistinct p dem other past i k
+    → is_done p dem past i k ≡ is_done p other past i k
+same-done p dem other past i k h = go (is_done p dem past i k) refl
+  where
+    go : (c : Bool) → is_done p dem past i k ≡ c → is_done p dem past i k ≡ is_done p other past i k
+    go true e = ap (λ n. nat_le n (exec p past i k)) (h.0 e)
+    go false e =
+        let more : exec p past i k < other i k = h.1 e in
+        let off : nat_le (other i k) (exec p past i k) ≡ false = grind (arith, nat_tests, more) in
+        e ∙ sym off
+
+-- earlier ticks, in which a job had had no more, don't distinguish its demands either
+pub indistinct-before : (p : Plan) (dem other : JobDemands) (now past : List Tick) (i k : ℕ) → exec p past i k ≤ exec p now i k → Indistinct p dem other now i k
+    → Indistinct p dem other past i k
+indistinct-before p dem other now past i k grows h = (done, open_job)
+  where
+    done : is_done p dem past i k ≡ true → dem i k ≡ other i k
+    done e = let still : is_done p dem now i k ≡ true = grind (arith, nat_tests, e, grows) in h.0 still
+
+    open_job : is_done p dem past i k ≡ false → exec p past i k < other i k
+    open_job e = go (is_done p dem now i k) refl
+      where
+        go : (c : Bool) → is_done p dem now i k ≡ c → exec p past i k < other i k
+        go true d = let same : dem i k ≡ other i k = h.0 d in grind (arith, nat_tests, e, same)
+        go false d = let more : exec p now i k < other i k = h.1 d in omega (arith, grows, more)
+
+-- earlier ticks don't distinguish the demands of the jobs that were released by then
+pub alike-before : (p : Plan) (dem other : JobDemands) (now past : List Tick) (t s : ℕ) → s ≤ t → ((i k : ℕ) → i < count p → exec p past i k ≤ exec p now i k)
+    → Alike p dem other now t → Alike p dem other past s
+alike-before p dem other now past t s le grows h i k lt early = indistinct-before p dem other now past i k (grows i k lt) (h i k lt (omega (arith, early, le)))
+
+-- the ticks before the last one don't distinguish the demands of the jobs that were released by then
+pub alike-earlier : (p : Plan) (dem other : JobDemands) (x : Tick) (past : List Tick) (t s : ℕ) → s ≤ t
+    → Alike p dem other (x ∷ past) t → Alike p dem other past s
+alike-earlier p dem other x past t s le h = alike-before p dem other (x ∷ past) past t s le (λ i k lt. omega arith) h
+
+module _ (p : Plan) (lim : IsWithinLimits p) (dem other : JobDemands) where
+  pub same-complete : (past : List Tick) → Alike p dem other past (suc (length past)) → (i : ℕ) → i < count p
+      → is_complete p dem past i ≡ is_complete p other past i
+  same-complete past h i lt =
+      let k = latest p i (length past) in
+      same-done p dem other past i k (h i k lt (latest-early p lim i (length past) lt))
+
+  -- a row depends on its job's demand only by whether the job is complete
+  pub same-row : (past : List Tick) → Alike p dem other past (suc (length past)) → (i : ℕ) → i < count p → row_of p dem past i ≡ row_of p other past i
+  same-row past h i lt =
+      let k = latest p i (length past) in
+      ap (λ (c : Bool). record { deadline = due p i k; job = k; used = exec p past i k; done = c; worst = worst p i }) (same-complete past h i lt)
+
+  pub same-wleft : (past : List Tick) → Alike p dem other past (suc (length past)) → (i : ℕ) → i < count p → wleft p dem past i ≡ wleft p other past i
+  same-wleft past h i lt =
+      ap (λ (c : Bool). if c then 0 else worst p i - exec p past i (latest p i (length past))) (same-complete past h i lt)
+
+  -- the ticks up to the last release don't distinguish the demands
+  pub alike-marked : (past : List Tick) → Alike p dem other past (suc (length past))
+      → let r = last_release p (length past) in Alike p dem other (at r past) (suc (length (at r past)))
+  alike-marked past h =
+      let r = last_release p (length past) in
+      alike-before p dem other past (at r past) (suc (length past)) (suc (length (at r past)))
+      (omega (arith, length-drop (length past - r) past))
+      (λ i k lt. exec-drop p i k (length past - r) past)
+      h
+
+  -- both demands give the same state
+  pub same-state : (past : List Tick) → Alike p dem other past (suc (length past)) → state_of p dem past ≡ state_of p other past
+  same-state past h =
+      let r = last_release p (length past) in
+      ap₂ (λ (rows : List Row) (base : List ℕ). record { now = length past; rows = rows; base_at = r; base = base })
+      (table-same (count p) (row_of p dem past) (row_of p other past) (same-row past h))
+      (table-same (count p) (wleft p dem (at r past)) (wleft p other (at r past)) (same-wleft (at r past) (alike-marked past h)))
+
+  -- the same jobs complete in the last tick by both demands
+  pub same-completes : (x : Tick) (past : List Tick) → Alike p dem other (x ∷ past) (length (x ∷ past)) → (i : ℕ)
+      → i < count p → completes_in p dem x past i ≡ completes_in p other x past i
+  same-completes x past h i lt =
+      let k = latest p i (length past) in
+      let now : Indistinct p dem other (x ∷ past) i k = h i k lt (omega (arith, latest-early p lim i (length past) lt)) in
+      let before : Indistinct p dem other past i k = indistinct-before p dem other (x ∷ past) past i k (omega arith) now in
+      ap₂ (λ a b. not a && b) (same-done p dem other past i k before) (same-done p dem other (x ∷ past) i k now)
+
+  -- the decisions are the same by both demands
+  pub same-decision : (past : List Tick) → Alike p dem other past (length past) → is_decision p dem past ≡ is_decision p other past
+  same-decision [] h = refl
+  same-decision (x ∷ past) h =
+      ap (λ b. is_release p (length (x ∷ past)) || b)
+      (any_below-same (count p) (λ i. completes_in p dem x past i) (λ i. completes_in p other x past i)
+      (same-completes x past h))
+
+  -- the entry in force is the same by both demands
+  pub same-entry : (ask : Asking) → IsBlind p ask → (past : List Tick) → Alike p dem other past (suc (length past))
+      → entry_in_force p dem (ask dem) past ≡ entry_in_force p other (ask other) past
+  same-entry ask blind [] h = ap (lowest_entry p.machine) (blind dem other [] h)
+  same-entry ask blind (x ∷ past) h =
+      ap₂ (λ (d : Bool) (e : ℕ × ℕ). if d then e.0 else e.1)
+      (same-decision (x ∷ past) (λ i k lt early. h i k lt (omega (arith, early))))
+      (ap₂ (λ (a b : ℕ). (a, b))
+      (ap (lowest_entry p.machine) (blind dem other (x ∷ past) h))
+      (same-entry ask blind past (alike-earlier p dem other x past (suc (length (x ∷ past))) (suc (length past)) (omega arith) h)))
+
+-- a governor's published demand, as a function of the state, depends on the demands of finished jobs only
+pub blind-own : (p : Plan) → IsWithinLimits p → (demand : OwnDemand) → IsBlind p (ask_of demand p)
+blind-own p lim demand dem other past h = ap (demand p) (same-state p lim dem other past h)
 
 -- the task needs the same by both, or was given less than it needs and no more than the other need
 abbrev pub NeedsAlike : (need other given : ℕ → ℕ) → ℕ → Type 0

@@ -9,11 +9,10 @@ use Rattle.sched_model.specs.Jobs.{JobDemands, release, demand_of, IsWithin}
 use Rattle.sched_model.specs.Ticks.{Tick, exec, is_done}
 use Rattle.sched_model.specs.Admission.{IsWithinLimits}
 use Rattle.sched_model.proofs.NoteSums.{tells_done}
-use Rattle.replay_laws.proofs.Alike.{IsBlind}
+use Rattle.replay_laws.proofs.SameCourse.{IsBlind}
 use Rattle.replay_laws.specs.FixedDemands.{fixed_of}
 use Rattle.replay_laws.specs.OwnList.{Asking, ticks_by, notes_by, TellSame, HasSameNotes}
-use Rattle.replay_laws.proofs.FixedNotes.{Fixes}
-use Rattle.replay_laws.proofs.OwnDemands.{looks-at-none, told, own-told, told-finished, tell-same}
+use Rattle.replay_laws.proofs.OwnDemands.{Fixes, looks-at-none, told, own-told, told-finished, tell-same}
 
 -- a completion among the notes: the list that they fix has the job's demand, and the job has had it
 module _ (p : Plan) (lim : IsWithinLimits p) (ask : Asking) (blind : IsBlind p ask) (rows : List DemandRow)

@@ -21,8 +21,7 @@ use Rattle.sched_model.specs.Notes.{same_holder, tick_units, Span, lengthened, s
 use Rattle.sched_model.proofs.NoteLemmas.{notes-span}
 use Rattle.sched_model.proofs.PieceLemmas.{each-piece}
 use Rattle.replay_laws.specs.OwnList.{Asking}
-use Rattle.replay_laws.proofs.Alike.{Indistinct, Alike, IsBlind, alike-before, alike-earlier}
-use Rattle.replay_laws.proofs.SameState.{same-decision}
+use Rattle.replay_laws.proofs.SameCourse.{Indistinct, Alike, IsBlind, alike-before, alike-earlier, same-decision}
 use Rattle.sched_model.proofs.Limits.{latest-early}
 use Rattle.sched_model.proofs.Spans.{IsLastSpan, IsNow, by-spans}
 use Rattle.sched_model.proofs.Units.{each-weaker}

@@ -5,7 +5,6 @@ use Rattle.dvs_base.specs.declared.kind.GovernorKind.{GovernorKind}
 use Rattle.dvs_base.specs.declared.kind.Version.{Version}
 use Rattle.dvs_base.specs.declared.note.Note.{Note}
 use Rattle.dvs_base.specs.declared.note.Note.TheVariants.{Done}
-use Rattle.grid_fraction.specs.declared.Frac.{Frac}
 use Rattle.task_model.specs.DemandRows.{DemandRow}
 use Rattle.demand_list.specs.Demands.{IsDemands}
 use Rattle.sched_model.specs.Plan.{Plan, count, worst}
@@ -13,10 +12,10 @@ use Rattle.sched_model.specs.Jobs.{JobDemands, release, demand_of, IsWithin}
 use Rattle.sched_model.specs.Ticks.{PublishedDemand, Tick, exec, is_done}
 use Rattle.sched_model.specs.Demand.{published}
 use Rattle.sched_model.specs.Schedule.{schedule_by}
-use Rattle.sched_model.specs.States.{StateOf}
 use Rattle.sched_model.specs.Notes.{notes_of}
 use Rattle.sched_model.specs.RunNotes.{run_notes}
 use Rattle.done_lines.specs.RunText.{run_text_in}
+use Rattle.governor.specs.Meanings.{OwnDemand}
 use Rattle.governor.specs.Schedule.{ask_of}
 use Rattle.replay_laws.specs.FixedDemands.{fixed_of, fixed_list, fixed_demand}
 
@@ -99,9 +98,9 @@ HasFixedDemands p =
 -- the law of fixed demands, for any function of the states as published demand, and for each kind of governor
 pub record OwnLists (p : Plan) : Type 0 where
   pub fixed : HasFixedDemands p
-  pub looks : (demand : Plan → StateOf → Frac) → LooksAtNone p (ask_of demand p)
-  pub own : (demand : Plan → StateOf → Frac) → HasOwnList p (ask_of demand p)
-  pub same : (demand : Plan → StateOf → Frac) → HasSameNotes p (ask_of demand p)
+  pub looks : (demand : OwnDemand) → LooksAtNone p (ask_of demand p)
+  pub own : (demand : OwnDemand) → HasOwnList p (ask_of demand p)
+  pub same : (demand : OwnDemand) → HasSameNotes p (ask_of demand p)
   pub published_looks : (kind : GovernorKind) → LooksAtNone p (published p kind)
   pub published_own : (kind : GovernorKind) → HasOwnList p (published p kind)
   pub published_same : (kind : GovernorKind) → HasSameNotes p (published p kind)

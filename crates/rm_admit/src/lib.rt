@@ -5,17 +5,15 @@
 #![tactic(auto)]
 
 ghost use Rattle.std.specs.Prelude.{◌≡◌, ◌*◌, ◌<◌, ◌↔◌, IsTrue, IfOk, OnOk, IfErr, length, MatchOption};
-ghost use Rattle.std.specs.Option.{ForSome};
 ghost use Rattle.dvs_base.specs.declared.kind.Scheduler.TheVariants.{Rm};
 ghost use Rattle.task_model.specs.Tasks.{task_at};
 ghost use Rattle.sched_model.specs.Plan.{plan_of, period, top_speed};
 ghost use Rattle.sched_model.specs.Tests.{IsRmFeasible};
-ghost use Rattle.sched_model.specs.Priority.{earlier_of};
 ghost use Rattle.rm_admit.specs.Denials.{IsOverloaded, IsFirstOverloaded, IsRmDenial};
 
 use dvs_base::Scheduler;
 use freq_table::Machine;
-use sched_model::{Admitted, level_work, stands_before};
+use sched_model::{Admitted, earlier_of, level_work};
 use std::alloc::Global;
 use task_model::TaskSet;
 
@@ -43,18 +41,6 @@ fn is_overloaded(tasks: &TaskSet, machine: &Machine, i: u32) -> bool
     ensures { IsTrue result ↔ IsOverloaded (plan_of tasks.now machine.now Rm) i }
 {
     level_work(tasks, machine, i) > capacity(tasks, machine, i)
-}
-
-// The earlier in RM order of task i and another; task i where there is no other.
-fn earlier_of(tasks: &TaskSet, other: Option<u32>, i: u32) -> u32
-    requires first { i < length tasks.now }
-    requires second { ForSome other (λ k. k < length tasks.now) }
-    ensures { result ≡ earlier_of (λ k. (task_at tasks.now k).period) other i }
-{
-    match other {
-        Some(k) if !stands_before(tasks, i, k) => k,
-        _ => i,
-    }
 }
 
 // The first task in RM order that fails the test, if any.

@@ -2,6 +2,7 @@
 ghost use Rattle.std.specs.Prelude.{◌≡◌, ◌≤◌, ◌<◌, ◌*◌, ◌^◌, IsTrue, IsFalse, length};
 ghost use Rattle.dvs_base.specs.declared.kind.Scheduler.TheVariants.{Rm};
 ghost use Rattle.task_model.specs.declared.limits.TheConstants.{LONGEST_PERIOD};
+ghost use Rattle.task_model.specs.Tasks.{task_at};
 ghost use Rattle.freq_table.specs.Tables.{highest_speed};
 ghost use Rattle.sched_model.specs.Plan.{plan_of};
 ghost use Rattle.rm_response_laws.specs.Responses.{response, EarlierRespond, IsUnserved};
@@ -13,6 +14,13 @@ use crate::work::{held_work, work_before};
 use freq_table::Machine;
 use sched_model::worst;
 use task_model::TaskSet;
+
+// The ticks `first` to `last`.
+#[derive(Clone, Copy)]
+struct Span {
+    first: u64,
+    last: u64,
+}
 
 // What the highest speed does in `ticks` ticks, in work units.
 fn done_in(machine: &Machine, ticks: u64) -> u128
@@ -30,7 +38,7 @@ fn is_beyond(tasks: &TaskSet, machine: &Machine, k: u32, rest: u128, most: u64) 
     requires task { k < length tasks.now }
     requires some_rest { 1 ≤ rest }
     requires low_ticks { most ≤ LONGEST_PERIOD }
-    ensures none { IsTrue result → NoneFits (plan_of tasks.now machine.now Rm) k rest most }
+    ensures none { IsTrue result → NoneFits (plan_of tasks.now machine.now Rm) k rest 1 most }
     ensures within { IsFalse result → rest ≤ highest_speed machine.now * most }
     ensures low { IsFalse result → rest ≤ 2 ^ 64 }
 {
@@ -39,38 +47,47 @@ fn is_beyond(tasks: &TaskSet, machine: &Machine, k: u32, rest: u128, most: u64) 
     rest > done_in(machine, most) || ticks_beside(tasks, machine, rest, k) > u128::from(most)
 }
 
-// A number of ticks from 1 to `most` into which `rest` units fit beside the work of the tasks before task k, if any.
-// Unless `most` ticks do, the last of these tasks is taken away. As many of its jobs count as begin in `most` ticks, or
-// in the last multiple of its period up to `most`: where the units fit at all, they fit with one of the two.
-fn fitting(tasks: &TaskSet, machine: &Machine, k: u32, rest: u128, most: u64) -> Option<u64>
+// One of the ticks of the span into which `rest` units fit beside the work of the tasks before task k, if any. Unless
+// the last of the ticks is one, the last of these tasks is taken away: as many of its jobs count as begin in the last
+// of the ticks or, up to its release before that, as begin up to there.
+fn fitting(tasks: &TaskSet, machine: &Machine, k: u32, rest: u128, span: Span) -> Option<u64>
     requires task { k < length tasks.now }
     requires earlier { EarlierRespond (plan_of tasks.now machine.now Rm) k }
     requires some_rest { 1 ≤ rest }
     requires low_rest { rest ≤ 2 ^ 102 }
-    requires some_ticks { 1 ≤ most }
-    requires low_ticks { most ≤ LONGEST_PERIOD }
-    ensures { FindsFit (plan_of tasks.now machine.now Rm) k rest most result }
+    requires some_ticks { 1 ≤ span.first }
+    requires in_span { span.first ≤ span.last }
+    requires low_ticks { span.last ≤ LONGEST_PERIOD }
+    ensures { FindsFit (plan_of tasks.now machine.now Rm) k rest span.first span.last result }
 {
     let _tasks = tasks.as_slice();
     let _entries = machine.as_slice();
-    if is_beyond(tasks, machine, k, rest, most) {
+    if is_beyond(tasks, machine, k, rest, span.last) {
         return None;
     }
     let Some(j) = last_before(tasks, k) else {
-        return Some(most);
+        return Some(span.last);
     };
-    if rest + work_before(tasks, machine, most, k) <= done_in(machine, most) {
-        return Some(most);
+    if rest + work_before(tasks, machine, span.last, k) <= done_in(machine, span.last) {
+        return Some(span.last);
     }
     let period = tasks.task(j).period;
-    let whole = most / period * period;
-    let begun = held_work(tasks, machine, most, j);
-    let found = fitting(tasks, machine, j, rest + begun, most);
-    if found.is_some() || whole == 0 || whole == most {
+    let release = (span.last - 1) / period * period;
+    let begun = held_work(tasks, machine, span.last, j);
+    let after = Span {
+        first: span.first.max(release + 1),
+        last: span.last,
+    };
+    let found = fitting(tasks, machine, j, rest + begun, after);
+    if found.is_some() || release < span.first {
         return found;
     }
-    let ended = held_work(tasks, machine, whole, j);
-    fitting(tasks, machine, j, rest + ended, whole)
+    let ended = held_work(tasks, machine, release, j);
+    let until = Span {
+        first: span.first,
+        last: release,
+    };
+    fitting(tasks, machine, j, rest + ended, until)
 }
 
 // The response of task i in ticks; one more than its period where it has none. `from` is a number of ticks, and fewer
@@ -79,6 +96,7 @@ pub(crate) fn searched(tasks: &TaskSet, machine: &Machine, from: u64, i: u32) ->
     requires task { i < length tasks.now }
     requires earlier { EarlierRespond (plan_of tasks.now machine.now Rm) i }
     requires some { 1 ≤ from }
+    requires within { from ≤ (task_at tasks.now i).period }
     requires unserved { IsUnserved (plan_of tasks.now machine.now Rm) i from }
     ensures { result ≡ response (plan_of tasks.now machine.now Rm) i }
 {
@@ -86,13 +104,21 @@ pub(crate) fn searched(tasks: &TaskSet, machine: &Machine, from: u64, i: u32) ->
     let _entries = machine.as_slice();
     let period = tasks.task(i).period;
     let job = u128::from(worst(tasks, machine, i));
-    let Some(mut high) = fitting(tasks, machine, i, job, period) else {
+    let whole = Span {
+        first: from,
+        last: period,
+    };
+    let Some(mut high) = fitting(tasks, machine, i, job, whole) else {
         return period + 1;
     };
     let mut low = from;
     while low < high {
         let middle = low + (high - low) / 2;
-        match fitting(tasks, machine, i, job, middle) {
+        let half = Span {
+            first: low,
+            last: middle,
+        };
+        match fitting(tasks, machine, i, job, half) {
             Some(ticks) => high = ticks,
             None => low = middle + 1,
         }

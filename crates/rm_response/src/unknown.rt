@@ -1,27 +1,13 @@
 // Responses that aren't known, and the first of them in RM order.
 ghost use Rattle.std.specs.Prelude.{◌≡◌, ◌<◌, ℕ, length, slice_index};
-ghost use Rattle.std.specs.Option.{ForSome};
-ghost use Rattle.sched_model.specs.Priority.{earlier_of};
 ghost use Rattle.task_model.specs.Tasks.{task_at};
 ghost use Rattle.rm_response.specs.Denials.{FindsLate};
 
-use sched_model::stands_before;
+use sched_model::earlier_of;
 use task_model::{LONGEST_PERIOD, TaskSet};
 
 // The entry of a task whose response isn't known: it exceeds every period.
 pub(crate) const UNKNOWN: u64 = LONGEST_PERIOD + 1;
-
-// The earlier in RM order of task i and another; task i where there is no other.
-fn earlier_of(tasks: &TaskSet, other: Option<u32>, i: u32) -> u32
-    requires first { i < length tasks.now }
-    requires second { ForSome other (λ k. k < length tasks.now) }
-    ensures { result ≡ earlier_of (λ k. (task_at tasks.now k).period) other i }
-{
-    match other {
-        Some(k) if !stands_before(tasks, i, k) => k,
-        _ => i,
-    }
-}
 
 // The first task in RM order whose entry exceeds its period, if any.
 pub(crate) fn first_unknown(tasks: &TaskSet, entries: &[u64]) -> Option<u32>

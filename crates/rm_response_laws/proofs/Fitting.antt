@@ -1,5 +1,5 @@
 -- Whether work fits into some ticks beside the tasks before a task, by the last of these tasks.
-use Rattle.std.proofs.Common.{◌≡◌, inl, inr, ℕ, zero, suc, ◌+◌, ◌-◌, ◌*◌, ◌<◌, ◌≤◌, Bool, sym, ◌∙◌, ap, arith}
+use Rattle.std.proofs.Common.{◌≡◌, inl, inr, ℕ, zero, suc, ◌+◌, ◌-◌, ◌*◌, ◌<◌, ◌≤◌, max, Bool, sym, ◌∙◌, ap, arith}
 use Rattle.std.proofs.Math.Nat.{mul-le-mul_right}
 use Rattle.std.proofs.lemmas.Bool.{cases_lt}
 use Rattle.grid_fraction.specs.Numbers.{ceil_div}
@@ -18,15 +18,17 @@ use Rattle.rm_response_laws.proofs.Ceilings.{ceil-after, ceil-sum, ceil-within}
 use Rattle.rm_response_laws.proofs.Searching.{response-bound}
 use Rattle.rm_response_laws.proofs.Bounding.{held-later, rates-held, spare-does, spare-none}
 
--- where each number that passes also passes s later, with s at most d, one of the d numbers after `low` passes if some
--- number up to the last of these does
+-- where each number that passes also passes s later, with s at most d, one of the d numbers after `low` passes, and is at
+-- least t, if t passes and is no later than the last of them
 later-past : (P : ℕ → Type 0) (s d low : ℕ) → 1 ≤ s → s ≤ d → ((t : ℕ) → P t → P (t + s))
-    → (n t : ℕ) → t ≤ low + d → low < t + n → P t → (u : ℕ) × (low < u) × (u ≤ low + d) × P u
-later-past P s d low some most step zero t within past here = (t, omega arith, within, here)
+    → (n t : ℕ) → t ≤ low + d → low < t + n → P t → (u : ℕ) × (t ≤ u) × (low < u) × (u ≤ low + d) × P u
+later-past P s d low some most step zero t within past here = (t, omega arith, omega arith, within, here)
 later-past P s d low some most step (suc n) t within past here =
     elim (cases_lt low t) [
-      | inl after ↦ (t, after, within, here)
-      | inr before ↦ later-past P s d low some most step n (t + s) (omega arith) (omega arith) (step t here)
+      | inl after ↦ (t, omega arith, after, within, here)
+      | inr before ↦
+          let later = later-past P s d low some most step n (t + s) (omega arith) (omega arith) (step t here) in
+          (later.0, omega (arith, later.1), later.2, later.3, later.4)
     ]
 
 -- the sum over the tasks before task k is that over the last of them and those before it
@@ -63,10 +65,10 @@ module _ (p : Plan) (lim : IsWithinLimits p) where
       let sum = before-sum k t s in
       omega (arith, sum, served, done)
 
-  -- in the bound of the rates no more fits
-  pub none-beside : (k rest most : ℕ) → 0 < spare p k → most < ceil_div (rest * hyper p) (spare p k)
-      → NoneFits p k rest most
-  none-beside k rest most some over t pos le =
+  -- in fewer ticks than `rest` units take beside the rates of the tasks before task k, they don't fit
+  pub none-beside : (k rest low most : ℕ) → 0 < spare p k → most < ceil_div (rest * hyper p) (spare p k)
+      → NoneFits p k rest low most
+  none-beside k rest low most some over t pos le =
       elim (cases_lt (top_speed p * t) (work_beside p k rest t)) [
         | inl more ↦ more
         | inr done ↦
@@ -78,12 +80,12 @@ module _ (p : Plan) (lim : IsWithinLimits p) where
       ]
 
   -- where the rates of the tasks before task k leave no speed, nothing fits beside them
-  pub none-full : (k rest most : ℕ) → spare p k ≡ 0 → 1 ≤ rest → NoneFits p k rest most
-  none-full k rest most none some t pos le =
+  pub none-full : (k rest low most : ℕ) → spare p k ≡ 0 → 1 ≤ rest → NoneFits p k rest low most
+  none-full k rest low most none some t pos le =
       let c = sum_before (count p) (period p) (rate p) k in
       let full : top_speed p * hyper p ≤ c = omega (arith, none) in
-      let most' = spare-none (before k t) (top_speed p) (hyper p) t c (some_hyper p lim) full (rates-held p lim k t) in
-      omega (arith, most', some)
+      let less = spare-none (before k t) (top_speed p) (hyper p) t c (some_hyper p lim) full (rates-held p lim k t) in
+      omega (arith, less, some)
 
   module _ (k j : ℕ) (last : IsLastBefore (period p) k (count p) j) where
     abbrev d : ℕ
@@ -94,9 +96,10 @@ module _ (p : Plan) (lim : IsWithinLimits p) where
     split t = before-last (period p) (held_work p t) k (count p) j last
 
     -- what fits beside the jobs of task j in m ticks fits beside those in fewer
-    pub fits-fewer : (rest m most t : ℕ) → m ≤ most → Fits p j (rest + held_work p m j) m t → Fits p k rest most t
-    fits-fewer rest m most t le fit = record {
-      some = fit.some;
+    pub fits-fewer : (rest from m low most t : ℕ) → low ≤ from → m ≤ most → Fits p j (rest + held_work p m j) from m t
+        → Fits p k rest low most t
+    fits-fewer rest from m low most t after le fit = record {
+      from = (let f = fit.from in omega arith);
       within = (let w = fit.within in omega arith);
       done =
           let later = held-later p lim t m j fit.within last.task in
@@ -112,37 +115,37 @@ module _ (p : Plan) (lim : IsWithinLimits p) where
         let two = ap (λ u. ceil_div u d) second ∙ ceil-after q d (m - q * d) (omega arith) (omega arith) in
         ap (λ n. n * worst p j) (one ∙ sym two)
 
-    -- work fits beside the tasks before task k only where it fits beside those before task j: in the period of task j
-    -- with the last of the ticks, or in the one before it
-    pub none-last : (rest most q : ℕ) → HasResponse p j → q * d ≤ most → most < q * d + d
-        → NoneFits p j (rest + held_work p most j) most
-        → NoneFits p j (rest + held_work p (q * d) j) (q * d)
-        → NoneFits p k rest most
-    none-last rest most q has low high none-in none-before t pos le =
+    -- Units fit beside the tasks before task k only where they fit beside those before task j and its jobs: in the
+    -- period of task j that has the last of the ticks, or in the one before it.
+    pub none-last : (rest low most q : ℕ) → HasResponse p j → 1 ≤ low → q * d < most → most ≤ q * d + d
+        → NoneFits p j (rest + held_work p most j) (max low (q * d + 1)) most
+        → (low ≤ q * d → NoneFits p j (rest + held_work p (q * d) j) low (q * d))
+        → NoneFits p k rest low most
+    none-last rest low most q has some below high none-in none-before t from le =
         elim (cases_lt (top_speed p * t) (work_beside p k rest t)) [
           | inl more ↦ more
           | inr done ↦
               elim (cases_lt (q * d) t) [
                 | inl past ↦
-                    let same = held-after q t most past le (omega arith) in
-                    let over = none-in t pos le in
+                    let same = held-after q t most past le high in
+                    let over = none-in t (omega (arith, past, from)) le in
                     absurd (omega (arith, split t, same, over, done))
-                | inr within ↦ absurd (early q t pos within done none-before)
+                | inr within ↦ absurd (early q within done (none-before (omega (arith, from, within))))
               ]
         ]
       where
-        early : (q t : ℕ) → 1 ≤ t → t ≤ q * d → work_beside p k rest t ≤ top_speed p * t
-            → NoneFits p j (rest + held_work p (q * d) j) (q * d) → ⊥
-        early zero t pos within done none = omega (arith, within)
-        early (suc q) t pos within done none =
+        early : (q : ℕ) → t ≤ q * d → work_beside p k rest t ≤ top_speed p * t
+            → NoneFits p j (rest + held_work p (q * d) j) low (q * d) → ⊥
+        early zero within done none = omega (arith, within, some, from)
+        early (suc q) within done none =
             let s = response p j in
             let bound = response-bound p j has in
             let served : before k s ≤ top_speed p * s = omega (arith, split s, bound.fits) in
             let found = later-past (λ u. work_beside p k rest u ≤ top_speed p * u) s d (q * d) bound.some bound.within
             (λ u fit. fits-later k rest u s served fit) (suc (q * d)) t (omega (arith, within)) (omega arith) done in
-            let same = held-after q found.0 (suc q * d) found.1 (omega (arith, found.2)) (omega arith) in
-            let over = none found.0 (omega (arith, found.1)) (omega (arith, found.2)) in
-            omega (arith, split found.0, same, over, found.3)
+            let same = held-after q found.0 (suc q * d) found.2 (omega (arith, found.3)) (omega arith) in
+            let over = none found.0 (omega (arith, found.1, found.2, from)) (omega (arith, found.3)) in
+            omega (arith, split found.0, same, over, found.4)
 
   module _ (i : ℕ) (h : i < count p) where
     own-work : (t : ℕ) → 1 ≤ t → t ≤ period p i → held_work p t i ≡ worst p i
@@ -151,10 +154,18 @@ module _ (p : Plan) (lim : IsWithinLimits p) where
         ap (λ n. n * worst p i) one ∙ omega arith
 
     -- ticks up to the period into which one job of task i fits serve its level
-    pub serves-fit : (t : ℕ) → Fits p i (worst p i) (period p i) t → level_work_in p t i ≤ top_speed p * t
-    serves-fit t fit = omega (arith, own-work t fit.some fit.within, fit.done)
+    pub serves-fit : (low most t : ℕ) → 1 ≤ low → most ≤ period p i → Fits p i (worst p i) low most t
+        → level_work_in p t i ≤ top_speed p * t
+    serves-fit low most t some within fit =
+        let own = own-work t (omega (arith, some, fit.from)) (omega (arith, within, fit.within)) in
+        omega (arith, own, fit.done)
 
-    -- where one job of task i fits into none of the ticks up to m, these don't serve its level
-    pub unserved-none : (m : ℕ) → m ≤ period p i → NoneFits p i (worst p i) m → IsUnserved p i (suc m)
-    unserved-none m within none t pos lt =
-        omega (arith, own-work t pos (omega arith), none t pos (omega arith))
+    -- where ticks below `low` don't serve the level of task i, and one job of it fits into none of the ticks from there
+    -- to m, none of the ticks up to m serve
+    pub unserved-none : (low m : ℕ) → m ≤ period p i → IsUnserved p i low → NoneFits p i (worst p i) low m
+        → IsUnserved p i (suc m)
+    unserved-none low m within un none t pos lt =
+        elim (cases_lt t low) [
+          | inl before ↦ un t pos before
+          | inr after ↦ omega (arith, own-work t pos (omega arith), none t after (omega arith))
+        ]

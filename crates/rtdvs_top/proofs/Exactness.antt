@@ -1,53 +1,101 @@
--- A replay or a migration is done exactly where the trace file is the text of a schedule.
-use Rattle.std.proofs.Common.{◌≡◌, inl, inr, ℕ, ◌≤◌, Bool, true, false, List, [], ◌∷◌, length, map, Option, Some, None, Result, Ok, Err, IsOk, if◌then◌else◌, nat_lt, refl, sym, ap, ◌∙◌, subst, arith, true≢false}
+-- A replay or a migration is done exactly where the trace file is the text of a run, and a migration writes that run in version 2.
+use Rattle.std.proofs.Common.{◌≡◌, ℕ, ◌≤◌, Bool, true, false, List, Some, None, Result, Ok, Err, IsOk, refl, sym, ap, ◌∙◌, true≢false, nat_lt, if◌then◌else◌, arith, inl, inr, [], ◌∷◌, length, map, Option, subst}
+use Rattle.std.proofs.lemmas.Bool.Decides.{nat_tests}
+use Rattle.dvs_base.specs.declared.kind.Scheduler.{Scheduler}
+use Rattle.dvs_base.specs.declared.kind.Version.TheVariants.{Two}
+use Rattle.dvs_base.specs.declared.note.Note.{Note}
+use Rattle.dvs_base.specs.declared.note.Totals.{Totals}
+use Rattle.dvs_base.specs.declared.limits.TheConstants.{MOST_JOBS, LONGEST_TRACE}
+use Rattle.demand_list.specs.Demands.{DemandsOf}
+use Rattle.sched_model.specs.Plan.{Plan, names, plan_of}
+use Rattle.sched_model.specs.Jobs.{JobDemands, released_jobs, demand_of}
+use Rattle.sched_model.specs.Demand.{published}
+use Rattle.sched_model.specs.Admission.{IsWithinLimits, IsAdmitted}
+use Rattle.sched_model.specs.RunNotes.{run_notes}
+use Rattle.done_lines.specs.RunText.{task_texts, run_text_in}
+use Rattle.trace_reader.specs.Traces.{TraceOf, IsEnded, IsTrace, IsTextOf, text_of}
+use Rattle.trace_reader.specs.TraceText.{whole_text, task_text}
+use Rattle.replay_laws.specs.FixedDemands.{fixed_of}
+use Rattle.replay.specs.Replays.{too_many, replay_of}
+use Rattle.replay.specs.declared.fault.ReplayFault.{ReplayFault}
+use Rattle.replay.specs.declared.fault.ReplayFault.TheVariants as replay_fault
+use Rattle.replay.proofs.Exact.{Passes, replayed-passes, some-replayed, is-replayed}
+use Rattle.rtdvs_top.specs.Run.{answer_of_plan}
+use Rattle.rtdvs_top.specs.Trace.{totals_or_status, totals_at, migrated_text, task_line, lines_of_tasks, trace_or_status, trace_of, trace_at, traced_of, printed, answer_of_traced, trace_answer, IsScheduleText, AreFilesOf, TellsOwn, IsDoneUnless, OfTrace}
+use Rattle.rtdvs_top.proofs.Denying.{within-few, is_given, given-once, given-both, passes-admission, admission-gives}
 use Rattle.dvs_base.specs.Outside.{Files, file_of}
 use Rattle.dvs_base.specs.Checks.{and_then}
 use Rattle.dvs_base.specs.declared.kind.GovernorKind.{GovernorKind}
 use Rattle.dvs_base.specs.declared.kind.Version.{Version}
-use Rattle.dvs_base.specs.declared.kind.Version.TheVariants.{Two}
-use Rattle.dvs_base.specs.declared.limits.TheConstants.{LONGEST_TRACE}
-use Rattle.dvs_base.specs.declared.note.Note.{Note}
 use Rattle.dvs_base.specs.Parts.{name_of}
 use Rattle.grid_fraction.specs.Numbers.{list_below}
 use Rattle.task_model.specs.declared.task.Task.{Task}
 use Rattle.task_model.specs.Tasks.{task_at}
 use Rattle.task_model.specs.DemandRows.{DemandRow}
 use Rattle.freq_table.specs.Tables.{Table}
-use Rattle.sched_model.specs.Plan.{Plan, plan_of, names}
-use Rattle.sched_model.specs.Admission.{IsAdmitted}
-use Rattle.sched_model.specs.Demand.{published}
-use Rattle.sched_model.specs.Jobs.{demand_of}
 use Rattle.sched_model.specs.Totals.{totals_of}
-use Rattle.done_lines.specs.RunText.{task_texts}
-use Rattle.trace_reader.specs.TraceText.{task_text}
 use Rattle.trace_reader.specs.declared.trace.TraceFault.{TraceFault}
-use Rattle.trace_reader.specs.Traces.{TraceOf, IsTrace, IsTextOf, text_of}
 use Rattle.trace_reader.proofs.HeadTexts.{task_lines-lines}
 use Rattle.trace_reader.proofs.ShortTexts.{text-short}
 use Rattle.trace_reader.proofs.TraceTexts.{reads-found, reads-only, version-lines}
-use Rattle.replay_laws.specs.FixedDemands.{fixed_of}
 use Rattle.replay_laws.proofs.Owning.{own-lists}
-use Rattle.trace_limits.specs.RunTraces.{trace_of_run}
-use Rattle.trace_limits.proofs.TraceLimits.{keeps-limits}
-use Rattle.replay.specs.Replays.{replay_of}
-use Rattle.replay.proofs.Comparing.{ended-once}
-use Rattle.replay.proofs.Exact.{some-replayed, is-replayed}
+use Rattle.done_lines.specs.RunTraces.{trace_of_run}
+use Rattle.done_lines.proofs.TraceLimits.{keeps-limits}
 use Rattle.replay.proofs.Texts.{names-distinct, names-named}
 use Rattle.words.specs.Commands.{TracedOf, CommandOf, traced}
 use Rattle.rtdvs_top.specs.Meanings.{longest, bytes_from, bytes_at, tasks_at, machine_at}
 use Rattle.rtdvs_top.specs.Admit.{admission}
-use Rattle.rtdvs_top.specs.Trace.{task_line, lines_of_tasks, trace_or_status, trace_of, trace_at, traced_of, totals_at, printed, answer_of_traced, trace_answer, IsScheduleText, AreFilesOf, TellsOwn, IsDoneUnless, OfTrace}
 use Rattle.rtdvs_top.specs.Promises.{IsAnswer, Answers}
 use Rattle.rtdvs_top.specs.declared.status.FileKind.{FileKind}
 use Rattle.rtdvs_top.specs.declared.status.FileKind.TheVariants as file
 use Rattle.rtdvs_top.specs.declared.status.Status.{Status}
 use Rattle.rtdvs_top.specs.declared.status.Status.TheVariants as status
 use Rattle.rtdvs_top.specs.declared.status.TextFault.TheVariants as text_fault
-use Rattle.rtdvs_top.proofs.Denying.{is_given, given-once, given-both, passes-admission, admission-gives}
 use Rattle.rtdvs_top.proofs.Loading.{short_file}
-use Rattle.rtdvs_top.proofs.Migrating.{few-of-none, replayed-some, passes, own-notes}
 use Rattle.event_kernel.proofs.Wholes.{below-first}
 use Rattle.rtdvs_top.specs.Prepared.{MetIn}
+
+-- a replay that has totals is done
+pub replayed-some : (r : Result Totals ReplayFault) → IsOk (totals_or_status r) → (totals : Totals) × (r ≡ Ok totals)
+replayed-some (Ok totals) h = (totals, refl)
+replayed-some (Err why) h = absurd (true≢false (sym h))
+
+-- the limit on jobs holds where it refuses nothing
+pub few-of-none : (p : Plan) (ticks : ℕ) → too_many p ticks ≡ None → released_jobs p ticks ≤ MOST_JOBS
+few-of-none p ticks = go (nat_lt MOST_JOBS (released_jobs p ticks)) refl
+  where
+    go : (b : Bool) → nat_lt MOST_JOBS (released_jobs p ticks) ≡ b
+        → (if b then Some (replay_fault.TooManyJobs (released_jobs p ticks)) else None) ≡ None
+        → released_jobs p ticks ≤ MOST_JOBS
+    go true e none = absurd cc
+    go false e none = grind (arith, nat_tests, e)
+
+module _ (p : Plan) (lim : IsWithinLimits p) (t : TraceOf) (ended : IsEnded t.notes) where
+  -- a trace that has totals passes the comparison
+  pub passes : IsOk (totals_at (p, t)) → Passes p lim (published p t.plan.governor) t ended
+  passes ok =
+      let asked = published p t.plan.governor in
+      let done = replayed-some (replay_of p asked t) ok in
+      (replayed-passes p lim asked t ended done.0 done.1).0
+
+  -- the run for the demands that a trace with totals fixes has the notes of the trace
+  pub own-notes : IsOk (totals_at (p, t))
+      → run_notes p t.plan.governor (demand_of p (fixed_of p t.notes)) t.plan.ticks ≡ t.notes
+  own-notes ok = sym (passes ok).same
+
+  -- the run for the demands that a trace with totals fixes is answered by the text of the trace in version 2
+  pub migrated : IsOk (totals_at (p, t)) → (d : DemandsOf) → demand_of p d.rows ≡ demand_of p (fixed_of p t.notes)
+      → t.plan.scheduler ≡ p.scheduler → answer_of_plan Two t.plan.governor d t.plan.ticks p ≡ Ok (migrated_text p t)
+  migrated ok d demands scheduler =
+      let g = t.plan.governor in
+      let ticks = t.plan.ticks in
+      let notes : run_notes p g (demand_of p d.rows) ticks ≡ t.notes =
+      ap (λ (dem : JobDemands). run_notes p g dem ticks) demands ∙ own-notes ok in
+      let text : run_text_in Two p g (demand_of p d.rows) ticks ≡ migrated_text p t =
+      ap (λ (l : List Note). whole_text Two p.scheduler g ticks (names p) (task_texts p) l) notes
+      ∙ ap (λ (s : Scheduler). whole_text Two s g ticks (names p) (task_texts p) t.notes) (sym scheduler) in
+      within-few (released_jobs p ticks) (run_text_in Two p g (demand_of p d.rows) ticks) (few-of-none p ticks (passes ok).few)
+      ∙ ap (λ (text : List ℕ). Ok text) text
 
 -- the line of a task of a list
 abbrev line_of_task : List Task → ℕ → List ℕ
@@ -87,7 +135,7 @@ module _ (r : TracedOf) (files : Files) (v : Version) (p : Plan) (g : GovernorKi
 
   compared : replay_of p (published p g) t ≡ Ok (totals_of t.notes)
   compared =
-      some-replayed p h.admitted.limits (published p g) t (ended-once t.notes whole.ended)
+      some-replayed p h.admitted.limits (published p g) t whole.ended
       ((own-lists p h.admitted.limits).published_own g) rows (record { within = h.within; notes_are = refl }) h.few
 
   -- it is not too long
@@ -146,7 +194,7 @@ module _ (r : TracedOf) (files : Files) (tasks : List Task) (machine : Table) (b
       let ended = found.0.ended in
       let lim = adm.limits in
       let some = replayed-some (replay_of plan (published plan g) t) ok in
-      let own = is-replayed plan lim (published plan g) t (ended-once t.notes ended) ((own-lists plan lim).published_own g) some.0 some.1 in
+      let own = is-replayed plan lim (published plan g) t ended ((own-lists plan lim).published_own g) some.0 some.1 in
       let same : trace_of_run t.version plan g (demand_of plan (fixed_of plan t.notes)) t.plan.ticks ≡ t =
       ap (with_notes t) (own-notes plan lim t ended ok) in
       let lines = sym (task-lines tasks) in

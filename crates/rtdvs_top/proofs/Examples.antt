@@ -1,18 +1,28 @@
--- Which of two refusals comes first, and the lines of a difference, by evaluation.
-use Rattle.std.proofs.Common.{◌≡◌, ℕ, List, [], ◌∷◌, ◌++◌, Ok, Err, codes, refl}
+-- Which of two refusals comes first, the lines of a difference, how many loads a command needs, and what a status says
+-- of loads, puts and things that it leaves, by evaluation.
+use Rattle.std.proofs.Common.{◌≡◌, ◌⊎◌, inl, inr, ℕ, List, [], ◌∷◌, ◌++◌, map, Option, Some, None, true, false, Ok, Err, codes, refl, arith}
 use Rattle.std.specs.Fmt.{digits}
-use Rattle.dvs_base.specs.Outside.{Files}
+use Rattle.dvs_base.specs.Outside.{Files, ShelfView}
+use Rattle.dvs_base.specs.declared.kind.Scheduler.TheVariants.{Edf}
+use Rattle.dvs_base.specs.declared.kind.GovernorKind.TheVariants.{Plain}
+use Rattle.dvs_base.specs.declared.kind.Version.TheVariants.{One}
 use Rattle.dvs_base.specs.declared.note.Note.TheVariants.{Run, End}
 use Rattle.dvs_base.specs.declared.note.Pos.{Pos}
 use Rattle.task_model.specs.declared.task.Task.{Task}
 use Rattle.trace_text.specs.TraceLines.{note_text}
 use Rattle.freq_table.specs.Tables.{Table}
-use Rattle.words.specs.Commands.{ConstrainOf}
+use Rattle.words.specs.Commands.{ConstrainOf, CommandOf, run, admit, traced, workload, response, constrain, poll, least}
+use Rattle.words.specs.declared.command.TraceUse.{TraceUse}
+use Rattle.words.specs.declared.command.TraceUse.TheVariants.{Replay, Migrate}
 use Rattle.rtdvs_top.specs.Meanings.{tasks_at, machine_at}
 use Rattle.rtdvs_top.specs.Constrain.{deadlines_at, constrain_answer}
-use Rattle.rtdvs_top.specs.Status.{status_text}
+use Rattle.rtdvs_top.specs.Files.{CountsLoads, CountsPuts, LoadOf, loads_needed}
+use Rattle.rtdvs_top.specs.Probing.{LeavesProbes}
+use Rattle.rtdvs_top.specs.Status.{status_text, Leaves}
+use Rattle.rtdvs_top.specs.declared.status.FileKind.{FileKind}
+use Rattle.rtdvs_top.specs.declared.status.FileKind.TheVariants.{Machine, Demands}
 use Rattle.rtdvs_top.specs.declared.status.Status.{Status}
-use Rattle.rtdvs_top.specs.declared.status.Status.TheVariants.{NotAdmitted, Differs}
+use Rattle.rtdvs_top.specs.declared.status.Status.TheVariants.{Done, NotAdmitted, Words, Load, Text, Limit, OverWorst, Differs, Write, NoMemory}
 use Rattle.rtdvs_top.specs.declared.status.Denied.TheVariants.{Offset}
 
 -- words that name the files t, m and d
@@ -50,3 +60,142 @@ difference :
     ≡ codes "differs: line 7\n" ++ codes "wanted: end 2 0 0\n" ++ codes "found: run 1:0 2:0 b 3 5 45000000000\n"
 unfolding digits note_text
 difference = refl
+
+-- the commands over the files t, m and f
+
+abbrev run_with : Option (List ℕ) → CommandOf
+run_with demands = run (record {
+  tasks = codes "t";
+  machine = codes "m";
+  scheduler = Edf;
+  governor = Plain;
+  ticks = 8;
+  demands = demands;
+  probes = false;
+  version = One;
+})
+
+abbrev admit_words : CommandOf
+admit_words = admit (record { tasks = codes "t"; machine = codes "m"; scheduler = Edf })
+
+abbrev traced_words : TraceUse → CommandOf
+traced_words asked = traced (record { asked = asked; tasks = codes "t"; machine = codes "m"; trace = codes "f" })
+
+abbrev poll_for : List ℕ → CommandOf
+poll_for server = poll (record {
+  tasks = codes "t";
+  machine = codes "m";
+  requests = codes "f";
+  server = server;
+  scheduler = Edf;
+  governor = Plain;
+  ticks = 8;
+})
+
+abbrev least_words : CommandOf
+least_words = least (record { machine = codes "m"; units = 3; ticks = 8 })
+
+-- the commands that name a file of tasks
+abbrev with_tasks : List CommandOf
+with_tasks =
+    run_with (Some (codes "f")) ∷ run_with None ∷ admit_words ∷ traced_words Replay ∷ traced_words Migrate
+    ∷ response (record { tasks = codes "t"; machine = codes "m" }) ∷ constrain words ∷ poll_for (codes "a") ∷ []
+
+-- where the tasks are refused no further load is needed
+refused_tasks : (files : Files) (why : Status) → tasks_at (codes "t") files ≡ Err why
+    → map (loads_needed (Some files)) with_tasks ≡ (1 ∷ 1 ∷ 1 ∷ 1 ∷ 1 ∷ 1 ∷ 1 ∷ 1 ∷ [])
+refused_tasks files why tasks = rw tasks refl
+
+-- where the tasks are read and the machine is refused, the third load isn't needed
+refused_machine : (files : Files) (why : Status) → tasks_at (codes "t") files ≡ Ok later → machine_at (codes "m") files ≡ Err why
+    → map (loads_needed (Some files)) with_tasks ≡ (2 ∷ 2 ∷ 2 ∷ 2 ∷ 2 ∷ 2 ∷ 2 ∷ 2 ∷ [])
+refused_machine files why tasks machine = rw (tasks, machine) refl
+
+-- where both are read the third file is loaded, where there is one
+read_files : (files : Files) (machine : Table) → tasks_at (codes "t") files ≡ Ok later → machine_at (codes "m") files ≡ Ok machine
+    → map (loads_needed (Some files)) with_tasks ≡ (3 ∷ 2 ∷ 2 ∷ 3 ∷ 3 ∷ 2 ∷ 3 ∷ 3 ∷ [])
+read_files files machine tasks found = rw (tasks, found) refl
+
+-- no task is called b, so `poll` doesn't load its machine
+no_server : (files : Files) → tasks_at (codes "t") files ≡ Ok later → loads_needed (Some files) (poll_for (codes "b")) ≡ 1
+no_server files tasks = rw tasks refl
+
+-- `least` loads its machine alone, also where that is refused
+least_alone : (files : Files) (why : Status) → machine_at (codes "m") files ≡ Err why → loads_needed (Some files) least_words ≡ 1
+least_alone files why machine = rw machine refl
+
+-- `workload` loads nothing; where the files are not known, each file may be loaded
+files_unknown : (loads_needed None (workload 1) ≡ 0) × (map (loads_needed None) with_tasks ≡ (3 ∷ 2 ∷ 2 ∷ 3 ∷ 3 ∷ 2 ∷ 3 ∷ 3 ∷ []))
+files_unknown = (refl, refl)
+
+-- a shelf without a file, after `faults` failed loads, and sure of `sure` more
+abbrev shelf : ℕ → ℕ → ShelfView
+shelf faults sure = record { held = Some []; faults = faults; sure = sure }
+
+-- the machine's load is the second: it may fail where the shelf was sure of one load
+second_load : LoadOf (shelf 0 1) (shelf 1 0) admit_words (Load Machine)
+second_load = inr (inl (refl, inr (omega arith, omega arith)))
+
+-- but not where it was sure of two
+sure_of_two : LoadOf (shelf 0 2) (shelf 1 1) admit_words (Load Machine) → ⊥
+sure_of_two (inl tasks) = absurd (let same = tasks.0 in cc)
+sure_of_two (inr (inl (same, inl lacks))) = omega (arith, lacks.1)
+sure_of_two (inr (inl (same, inr failed))) = omega (arith, failed.1)
+sure_of_two (inr (inr none)) = none
+
+-- the demands' load is the third
+sure_of_three : LoadOf (shelf 0 3) (shelf 1 2) (run_with (Some (codes "f"))) (Load Demands) → ⊥
+sure_of_three (inl tasks) = absurd (let same = tasks.0 in cc)
+sure_of_three (inr (inl machine)) = absurd (let same = machine.0 in cc)
+sure_of_three (inr (inr (inl (same, inl lacks)))) = omega (arith, lacks.1)
+sure_of_three (inr (inr (inl (same, inr failed)))) = omega (arith, failed.1)
+sure_of_three (inr (inr (inr none))) = none
+
+-- a count of failed loads that rose shows in the status
+loads_counted : (s : Status) → CountsLoads 3 4 s → (kind : FileKind) × (s ≡ Load kind)
+loads_counted (Load kind) counts = (kind, refl)
+loads_counted Done counts = absurd (omega (arith, counts))
+loads_counted (NotAdmitted why) counts = absurd (omega (arith, counts))
+loads_counted (Words why) counts = absurd (omega (arith, counts))
+loads_counted (Text why) counts = absurd (omega (arith, counts))
+loads_counted (Limit jobs) counts = absurd (omega (arith, counts))
+loads_counted (OverWorst task job units worst) counts = absurd (omega (arith, counts))
+loads_counted (Differs line wanted found) counts = absurd (omega (arith, counts))
+loads_counted Write counts = absurd (omega (arith, counts))
+loads_counted NoMemory counts = absurd (omega (arith, counts))
+
+-- a count of failed puts that rose shows in the status
+puts_counted : (s : Status) → CountsPuts 3 4 s → s ≡ Write
+puts_counted Write counts = refl
+puts_counted Done counts = absurd (omega (arith, counts))
+puts_counted (Load kind) counts = absurd (omega (arith, counts))
+puts_counted (NotAdmitted why) counts = absurd (omega (arith, counts))
+puts_counted (Words why) counts = absurd (omega (arith, counts))
+puts_counted (Text why) counts = absurd (omega (arith, counts))
+puts_counted (Limit jobs) counts = absurd (omega (arith, counts))
+puts_counted (OverWorst task job units worst) counts = absurd (omega (arith, counts))
+puts_counted (Differs line wanted found) counts = absurd (omega (arith, counts))
+puts_counted NoMemory counts = absurd (omega (arith, counts))
+
+-- and the status `Write` shows that it rose
+write_counted : CountsPuts 3 3 Write → ⊥
+write_counted counts = omega (arith, counts.0)
+
+-- what isn't as it was shows that the status is `Done` or `Write`
+changed_by : (s : Status) → Leaves {W = ℕ} s 1 2 → (s ≡ Done) ⊎ (s ≡ Write)
+changed_by Done leaves = inl refl
+changed_by Write leaves = inr refl
+changed_by (Load kind) leaves = absurd (omega (arith, leaves))
+changed_by (NotAdmitted why) leaves = absurd (omega (arith, leaves))
+changed_by (Words why) leaves = absurd (omega (arith, leaves))
+changed_by (Text why) leaves = absurd (omega (arith, leaves))
+changed_by (Limit jobs) leaves = absurd (omega (arith, leaves))
+changed_by (OverWorst task job units worst) leaves = absurd (omega (arith, leaves))
+changed_by (Differs line wanted found) leaves = absurd (omega (arith, leaves))
+changed_by NoMemory leaves = absurd (omega (arith, leaves))
+
+-- probes that aren't asked for stay as they were, also where a run is done; those that are asked for change only by the
+-- same two statuses
+probes_left : (LeavesProbes {V = ℕ} false Done 1 2 → ⊥) × (LeavesProbes {V = ℕ} false Write 1 2 → ⊥)
+    × (LeavesProbes {V = ℕ} true (Limit 100001) 1 2 → ⊥)
+probes_left = (λ same. omega (arith, same), λ same. omega (arith, same), λ same. omega (arith, same))

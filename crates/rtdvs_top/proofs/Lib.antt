@@ -17,7 +17,6 @@ pub mod Answering
 pub mod Shows
 pub mod FewJobs
 pub mod Comparisons
-pub mod Migrating
 pub mod Exactness
 pub mod Pollings
 pub mod Bounding

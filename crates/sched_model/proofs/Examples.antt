@@ -223,7 +223,7 @@ backlog_of_a_level_in_rm_order = refl
 abbrev due_in_a_tick : Plan
 due_in_a_tick = record { tasks = task_of (codes "x") 1 4 ∷ []; machine = three_speeds; scheduler = Edf }
 
--- a tick at the entry 0 in which the one task gets so many units
+-- a tick at the entry 0 in which the one task gets these units
 abbrev tick_of : ℕ → Tick
 tick_of units = record { entry = 0; shares = units ∷ [] }
 

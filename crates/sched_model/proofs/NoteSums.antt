@@ -528,7 +528,8 @@ module _ (p : Plan) (dem : JobDemands) (ask : PublishedDemand) where
           }
 
           own : (i : ℕ) → i < count p
-              → count_by (tells_done i (job i)) (pieces_notes p dem s 0 (pieces_of s.units)) + done_by p dem i (job i) s.past ≡ done_by p dem i (job i) (x ∷ past)
+              → count_by (tells_done i (job i)) (pieces_notes p dem s 0 (pieces_of s.units)) + done_by p dem i (job i) s.past
+              ≡ done_by p dem i (job i) (x ∷ past)
           own i lt =
               let now = had-each p dem ask lim needless x past s l i (job i) lt in
               units-told p dem s i (job i) (omega (arith, now, exec-most p dem ask (x ∷ past) h i (job i) lt)) ∙ ap (reached (dem i (job i))) (sym now)

@@ -125,7 +125,8 @@ module _ (p : Plan) (dem : JobDemands) (ask : PublishedDemand) where
       keeps : IsWithinLimits p → (i : ℕ) → i < count p → latest p i (length (y ∷ past)) ≡ latest p i (length past)
       keeps lim = stays p dem (every_period p lim) y past e
 
-      go : IsWithinLimits p → (i t : ℕ) → i < count p → length s.past ≤ t → (t ≡ length (y ∷ past)) ⊎ (t < length (y ∷ past)) → latest p i t ≡ latest p i (length s.past)
+      go : IsWithinLimits p → (i t : ℕ) → i < count p → length s.past ≤ t → (t ≡ length (y ∷ past)) ⊎ (t < length (y ∷ past))
+          → latest p i t ≡ latest p i (length s.past)
       go lim i t lt low (inl here) = ap (latest p i) here ∙ (keeps lim i lt ∙ l.same lim i (length past) lt l.shorter (omega arith))
       go lim i t lt low (inr before) = l.same lim i t lt low (omega arith)
 

@@ -44,7 +44,7 @@ ends-with (n ∷ m ∷ notes) h =
     let more = ends-with (m ∷ notes) h.1 in
     record { body = n ∷ more.body; last = more.last; whole = ap (λ ns. n ∷ ns) more.whole; no_end = (h.0, more.no_end); end = more.end }
 
-is-ended : (body : List Note) (last : Note) → AllByRecursion (λ n. is_end n ≡ false) body → is_end last ≡ true → IsEnded (body ++ last ∷ [])
+pub is-ended : (body : List Note) (last : Note) → AllByRecursion (λ n. is_end n ≡ false) body → is_end last ≡ true → IsEnded (body ++ last ∷ [])
 is-ended [] last h end = end
 is-ended (n ∷ []) last h end = (h.0, end)
 is-ended (n ∷ m ∷ body) last h end = (h.0, is-ended (m ∷ body) last h.1 end)

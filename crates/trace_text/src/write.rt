@@ -2,7 +2,7 @@
 ghost use Rattle.std.specs.Prelude.{◌≡◌, ◌+◌, ◌≤◌, ◌++◌, [], ◌∷◌, codes, length};
 ghost use Rattle.std.specs.Fmt.{decimal};
 ghost use Rattle.std.specs.Option.{option_copied};
-ghost use Rattle.dvs_base.specs.Parts.{part_text, most_bytes, fraction_text, name_text};
+ghost use Rattle.dvs_base.specs.Parts.{part_text, most_bytes, fraction_text, name_text, position_text};
 ghost use Rattle.trace_text.specs.TraceLines.{line, run_fields, idle_fields, done_fields, fields_with, note_text, plan_text, scheduler_word, governor_word};
 
 use dvs_base::{
@@ -61,6 +61,21 @@ pub fn write_head(line: &mut Line, plan: PlanLine)
         Part::Number(plan.ticks),
         Part::Word(b"\n"),
     ]);
+}
+
+// Appends a position as `tick:offset`. Most positions are at the beginning of a tick, so their `:0` is a word.
+#[inline]
+fn push_at(to: &mut Line, pos: Pos)
+    requires { length to.old + 41 ≤ 256 }
+    ensures text { to.new ≡ to.old ++ position_text pos }
+    ensures most { length to.new ≤ length to.old + 41 }
+{
+    if pos.offset > 0 {
+        push_position(to, pos);
+        return;
+    }
+    push_number(to, pos.tick);
+    push_word(to, b":0");
 }
 
 // Appends a name, or nothing where there is none.
@@ -123,9 +138,9 @@ fn push_run(to: &mut Line, span: Span, name: Option<&Name>, job: u64, spent: (u6
     ensures most { length to.new ≤ 203 }
 {
     push_word(to, b"run ");
-    push_position(to, span.from);
+    push_at(to, span.from);
     push_word(to, b" ");
-    push_position(to, span.to);
+    push_at(to, span.to);
     push_word(to, b" ");
     push_job(to, name, job);
     push_word(to, b" ");
@@ -141,9 +156,9 @@ fn push_idle(to: &mut Line, span: Span, units: u64, energy: u128)
     ensures most { length to.new ≤ 203 }
 {
     push_word(to, b"idle ");
-    push_position(to, span.from);
+    push_at(to, span.from);
     push_word(to, b" ");
-    push_position(to, span.to);
+    push_at(to, span.to);
     push_word(to, b" ");
     push_number(to, units);
     push_word(to, b" ");
@@ -157,7 +172,7 @@ fn push_done(to: &mut Line, at: Pos, name: Option<&Name>, job: u64, used: u64)
     ensures most { length to.new ≤ 203 }
 {
     push_word(to, b"done ");
-    push_position(to, at);
+    push_at(to, at);
     push_word(to, b" ");
     push_job(to, name, job);
     push_word(to, b" ");
@@ -179,37 +194,44 @@ fn push_end(to: &mut Line, ticks: u64, run: u128, idle: u128)
     push_word(to, b"\n");
 }
 
-// Appends the line of a note, with its task's name.
-fn push_note(to: &mut Line, note: &Note, name: Option<&Name>)
-    requires empty { to.old ≡ [] }
-    ensures text { to.new ≡ line (fields_with (name_text (option_copied name.entry)) note.now) }
-    ensures most { length to.new ≤ 203 }
-{
-    match *note {
-        Note::Release { tick, job, .. } => push_release(to, tick, name, job),
-        Note::Speed {
-            tick,
-            speed,
-            num,
-            den,
-        } => push_speed(to, tick, speed, num, den),
-        Note::Run {
-            from,
-            to: until,
-            job,
-            units,
-            energy,
-            ..
-        } => push_run(to, Span { from, to: until }, name, job, (units, energy)),
-        Note::Idle {
-            from,
-            to: until,
-            units,
-            energy,
-        } => push_idle(to, Span { from, to: until }, units, energy),
-        Note::Done { at, job, used, .. } => push_done(to, at, name, job, used),
-        Note::End { ticks, run, idle } => push_end(to, ticks, run, idle),
-    }
+// Appends the line of a note, where `$name` is the name of the task `$task`.
+macro_rules! push_note {
+    ($to:expr, $note:expr, $task:ident => $name:expr) => {
+        match *$note {
+            Note::Release {
+                tick,
+                task: $task,
+                job,
+            } => push_release($to, tick, $name, job),
+            Note::Speed {
+                tick,
+                speed,
+                num,
+                den,
+            } => push_speed($to, tick, speed, num, den),
+            Note::Run {
+                from,
+                to,
+                task: $task,
+                job,
+                units,
+                energy,
+            } => push_run($to, Span { from, to }, $name, job, (units, energy)),
+            Note::Idle {
+                from,
+                to,
+                units,
+                energy,
+            } => push_idle($to, Span { from, to }, units, energy),
+            Note::Done {
+                at,
+                task: $task,
+                job,
+                used,
+            } => push_done($to, at, $name, job, used),
+            Note::End { ticks, run, idle } => push_end($to, ticks, run, idle),
+        }
+    };
 }
 
 /// Writes the line of a note, with its line feed, at most 203 bytes. The name of a task without one is empty.
@@ -218,11 +240,7 @@ pub fn write_note(line: &mut Line, note: &Note, names: &[Name])
     requires { line.old ≡ [] }
     ensures { line.new ≡ note_text names.now note.now }
 {
-    let name = match note.task() {
-        Some(task) => names.get(task as usize),
-        None => None,
-    };
-    push_note(line, note, name);
+    push_note!(line, note, task => names.get(task as usize))
 }
 
 /// The line of a note, with its line feed, and with this name for its task. It takes no memory.
@@ -231,6 +249,6 @@ pub fn note_line(note: &Note, name: Option<&Name>) -> Line
     ensures most { length result ≤ 203 }
 {
     let mut text = Line::new();
-    push_note(&mut text, note, name);
+    push_note!(&mut text, note, _task => name);
     text
 }

@@ -1,5 +1,4 @@
 pub mod Drawing
 pub mod Naming
 pub mod MadeTasks
-pub mod MadeRows
 pub mod Examples

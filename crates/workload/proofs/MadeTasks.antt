@@ -1,25 +1,60 @@
--- Drawn tasks are within the limits, and the highest speed does their work.
-use Rattle.std.proofs.Common.{◌≡◌, ℕ, zero, suc, ◌+◌, ◌-◌, ◌*◌, ◌/◌, ◌%◌, ◌<◌, ◌≤◌, true, List, [], ◌∷◌, length, refl, arith, ap, ◌∙◌, sym, subst, mod-lt, nat_eq, add-one, add-mul, mul-add, one-mul, rules, mul_assoc, mul_comm}
+-- Drawn tasks are within the limits, the highest speed does their work, and drawn rows are in order, each for a job of its own.
+use Rattle.std.proofs.Common.{◌≡◌, ℕ, ◌+◌, ◌/◌, ◌%◌, ◌<◌, false, ◌&&◌, ◌||◌, List, [], ◌∷◌, ◌++◌, None, refl, arith, ap, ◌∙◌, sym, mod-lt, nat_eq, nat_lt, zero, suc, ◌-◌, ◌*◌, ◌≤◌, true, length, subst, add-one, add-mul, mul-add, one-mul, rules, mul_assoc, mul_comm}
+use Rattle.std.specs.List.{AllByRecursion, All}
+use Rattle.std.proofs.Math.Nat.{mod-add-div, mul-div-le, mul-le-mul_left, mul-le-mul_right, le_of_mul-le-mul_left, div-lt_iff_lt-mul}
+use Rattle.std.proofs.lemmas.Bool.Decides.{nat_tests}
+use Rattle.grid_fraction.specs.Numbers.{list_below, sum_below, ceil_div}
+use Rattle.grid_fraction.proofs.Sums.{list_below-more}
+use Rattle.task_model.specs.declared.task.Task.{Task}
+use Rattle.task_model.specs.DemandRows.{DemandRow, named}
+use Rattle.demand_list.specs.Demands.{precedes, with_row}
+use Rattle.sched_model.proofs.Tables.{each-below, length-list_below, get-table, map-table}
+use Rattle.workload.specs.Workload.{made_row, periods, share_of, made_task, made_tasks, made_machine}
 use Rattle.std.specs.Prelude.{slice_index}
-use Rattle.std.specs.List.{All, AllByRecursion}
-use Rattle.std.proofs.Math.Nat.{mul-div-le, mul-le-mul_left, mul-le-mul_right, le_of_mul-le-mul_left, div-lt_iff_lt-mul}
 use Rattle.std.proofs.lemmas.Nat.{le-div}
 use Rattle.std.proofs.lemmas.List.Elements.{All-from_get_or, All-from_recursion}
 use Rattle.dvs_base.specs.declared.kind.Scheduler.{Scheduler}
 use Rattle.dvs_base.specs.declared.kind.Scheduler.TheVariants.{Edf}
 use Rattle.dvs_base.specs.declared.limits.TheConstants.{MOST_TASKS}
-use Rattle.grid_fraction.specs.Numbers.{list_below, sum_below, ceil_div}
 use Rattle.grid_fraction.specs.Fraction.{divides_all, least_common_multiple}
 use Rattle.grid_fraction.proofs.Multiples.{divides_all-append, le-least_common_multiple}
-use Rattle.task_model.specs.declared.task.Task.{Task}
 use Rattle.task_model.specs.Tasks.{hyper_of, no_task, task_at, IsTask, IsTaskSet}
 use Rattle.freq_table.specs.Tables.{Table}
 use Rattle.sched_model.specs.Plan.{Plan, plan_of, period, offset, rate, hyper}
 use Rattle.sched_model.specs.Tests.{IsEdfFeasible}
-use Rattle.sched_model.proofs.Tables.{length-list_below, get-table, map-table}
 use Rattle.workload.specs.Draws.{draw}
-use Rattle.workload.specs.Workload.{periods, share_of, made_task, made_tasks, made_machine}
 use Rattle.workload.proofs.Naming.{made_name-is, made_name-same}
+
+-- rows for other jobs give no units for this one
+others-name_none : (i k : ℕ) (rows : List DemandRow)
+    → AllByRecursion (λ (s : DemandRow). (nat_eq s.task i && nat_eq s.job k) ≡ false) rows → named rows i k ≡ None
+others-name_none i k [] each = refl
+others-name_none i k (s ∷ rows) each = rw each.0 (others-name_none i k rows each.1)
+
+-- a row that comes before none of the rows is added at the end
+with_row-last : (r : DemandRow) (rows : List DemandRow) → AllByRecursion (λ (s : DemandRow). precedes r s ≡ false) rows → with_row rows r ≡ rows ++ r ∷ []
+with_row-last r [] each = refl
+with_row-last r (s ∷ rows) each = rw each.0 (ap (λ rest. s ∷ rest) (with_row-last r rows each.1))
+
+-- two numbers differ in their quotient or their remainder by 4
+apart : (s r : ℕ) → s < r → (nat_eq (s / 4) (r / 4) && nat_eq (s % 4 + 1) (r % 4 + 1)) ≡ false
+apart s r lt = grind (arith, nat_tests, lt, mod-add-div s 4, mod-add-div r 4)
+
+in-order : (s r : ℕ) → s < r → (nat_lt (r / 4) (s / 4) || nat_eq (r / 4) (s / 4) && nat_lt (r % 4 + 1) (s % 4 + 1)) ≡ false
+in-order s r lt =
+    let low : r % 4 < 4 = mod-lt r (omega arith) in
+    grind (arith, nat_tests, lt, low, mod-add-div s 4, mod-add-div r 4)
+
+module _ (tasks : List Task) (x : ℕ) where
+  -- the job of row r has no row before it
+  pub made_row-free : (r : ℕ) → named (list_below r (made_row tasks x)) (r / 4) (r % 4 + 1) ≡ None
+  made_row-free r = others-name_none (r / 4) (r % 4 + 1) (list_below r (made_row tasks x)) (each-below _ r (made_row tasks x) (λ s lt. apart s r lt))
+
+  -- row r is added at the end of those before it
+  pub made_row-last : (r : ℕ) → with_row (list_below r (made_row tasks x)) (made_row tasks x r) ≡ list_below (r + 1) (made_row tasks x)
+  made_row-last r =
+      with_row-last (made_row tasks x r) (list_below r (made_row tasks x)) (each-below _ r (made_row tasks x) (λ s lt. in-order s r lt))
+      ∙ sym (list_below-more r (made_row tasks x))
 
 -- the properties of the eight periods: they are 20 to 250 and divide 1000
 pub record IsPeriod (n : ℕ) : Type 0 where

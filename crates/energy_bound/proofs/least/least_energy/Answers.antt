@@ -1,9 +1,8 @@
 use Rattle.std.proofs.Common.{◌<◌, ◌≤◌, ◌*◌, arith, ap, ◌∙◌}
 use Rattle.freq_table.specs.Tables.{highest_speed}
 use Rattle.energy_bound.proofs.CornerLemmas.{units-order}
-use Rattle.energy_bound.proofs.FirstPair.{some-holds, first-pair}
-use Rattle.energy_bound.proofs.FirstFound.{found-is}
-use Rattle.energy_bound.proofs.Certifying.{certificate-least}
+use Rattle.energy_bound.proofs.FirstFound.{some-holds, first-pair, found-is}
+use Rattle.energy_bound.proofs.Costs.{certificate-least}
 use Rattle.energy_bound.proofs.least.least_energy.Goals as goal
 
 pub returns-in-Some-clause-answer : goal.returns-in-Some-clause-answer

@@ -1,6 +1,6 @@
 use Rattle.std.proofs.Common.{length, ap, ◌∙◌}
 use Rattle.energy.specs.Books.{Books}
-use Rattle.energy.proofs.BookLemmas.{booked-tasks, booked-points}
+use Rattle.energy.proofs.Books.{booked-tasks, booked-points}
 use Rattle.model_tests.proofs.accounts.book_all.Goals as goal
 
 pub loop-i-preserved : goal.loop-i-preserved

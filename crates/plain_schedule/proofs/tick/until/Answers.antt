@@ -1,6 +1,6 @@
 use Rattle.std.proofs.Common.{sym, arith}
 use Rattle.std.proofs.lemmas.List.{length-reverse}
-use Rattle.plain_schedule.proofs.Marks.{at_past}
+use Rattle.plain_schedule.proofs.Publishing.{at_past}
 use Rattle.plain_schedule.proofs.tick.until.Goals as goal
 
 pub returns : goal.returns

@@ -7,8 +7,7 @@ use Rattle.event_kernel.specs.Runs.{notes_of_run}
 use Rattle.trace_reader.specs.Traces.{TraceOf}
 use Rattle.replay.specs.Comparing.{differs}
 use Rattle.replay.specs.declared.compared.Compared.{Compared}
-use Rattle.replay.proofs.Comparing.{stopped-compared, compared-same}
-use Rattle.replay.proofs.Running.{run-same, run-stopped}
+use Rattle.replay.proofs.Comparing.{stopped-compared, compared-same, run-same, run-stopped}
 use Rattle.replay.proofs.check.compare.Goals as goal
 
 -- the notes of the trace that are left, and the note heard in place of the next one
@@ -23,8 +22,7 @@ differs-requires-clause-some g c =
     let from : Compared = record { rest = c.deref.result; wanted = None; stops = 0 } in
     let t : TraceOf = c.args.trace.now in
     let notes : rest from ≡ t.notes = c.deref.ensures.value ∙ ap (λ (t : TraceOf). t.notes) c.trace.view_is in
-    let stopped = run-stopped rest wanted g.G.Governor.demand c.args.kernel c.args.plan.now c.scheduler-scheduler.ensures.admitted.limits
-    c.requires.plan t c.requires.ended from c.drive.new.to notes c.in-Err.ensures.broke_off in
+    let stopped = run-stopped rest wanted g.G.Governor.demand c.args.kernel t c.requires.ended from c.drive.new.to notes c.in-Err.ensures.broke_off in
     let long : length (rest c.drive.new.to) ≡ length (stopped.found ∷ stopped.more) = ap length stopped.finds in
     omega (arith, long)
 
@@ -33,8 +31,7 @@ unreachable-requires g c =
     let from : Compared = record { rest = c.deref.result; wanted = None; stops = 0 } in
     let t : TraceOf = c.args.trace.now in
     let notes : rest from ≡ t.notes = c.deref.ensures.value ∙ ap (λ (t : TraceOf). t.notes) c.trace.view_is in
-    let stopped = run-stopped rest wanted g.G.Governor.demand c.args.kernel c.args.plan.now c.scheduler-scheduler.ensures.admitted.limits
-    c.requires.plan t c.requires.ended from c.drive.new.to notes c.in-Err.ensures.broke_off in
+    let stopped = run-stopped rest wanted g.G.Governor.demand c.args.kernel t c.requires.ended from c.drive.new.to notes c.in-Err.ensures.broke_off in
     let both : None ≡ Some stopped.want = sym c.in-None.is ∙ stopped.wants in
     cc
 
@@ -43,8 +40,7 @@ returns-in-Ok g c =
     let from : Compared = record { rest = c.deref.result; wanted = None; stops = 0 } in
     let t : TraceOf = c.args.trace.now in
     let notes : rest from ≡ t.notes = c.deref.ensures.value ∙ ap (λ (t : TraceOf). t.notes) c.trace.view_is in
-    let same = run-same rest wanted g.G.Governor.demand c.args.kernel c.args.plan.now c.scheduler-scheduler.ensures.admitted.limits
-    c.requires.plan t c.requires.ended from c.drive.new.to notes c.in-Ok.ensures.ran in
+    let same = run-same rest wanted g.G.Governor.demand c.args.kernel t c.requires.ended from c.drive.new.to notes c.in-Ok.ensures.ran in
     ap (λ (totals : Totals). Ok totals) c.in-Ok.ensures.totals
     ∙ sym (compared-same (count c.args.plan.now) t (notes_of_run g.G.Governor.demand c.args.kernel) same)
 
@@ -54,8 +50,7 @@ returns-in-Some g c =
     let to : Compared = c.drive.new.to in
     let t : TraceOf = c.args.trace.now in
     let notes : rest from ≡ t.notes = c.deref.ensures.value ∙ ap (λ (t : TraceOf). t.notes) c.trace.view_is in
-    let stopped = run-stopped rest wanted g.G.Governor.demand c.args.kernel c.args.plan.now c.scheduler-scheduler.ensures.admitted.limits
-    c.requires.plan t c.requires.ended from to notes c.in-Err.ensures.broke_off in
+    let stopped = run-stopped rest wanted g.G.Governor.demand c.args.kernel t c.requires.ended from to notes c.in-Err.ensures.broke_off in
     let place = length t.notes - length (rest to) in
     stopped-compared rest wanted (count c.args.plan.now) t from (notes_of_run g.G.Governor.demand c.args.kernel) to
     c.in-Some.wanted c.differs.result notes stopped c.in-Some.is

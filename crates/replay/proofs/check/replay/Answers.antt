@@ -6,7 +6,6 @@ use Rattle.governor.specs.Schedule.{ask_of}
 use Rattle.replay_laws.proofs.Owning.{own-lists}
 use Rattle.replay.specs.declared.fault.ReplayFault.{ReplayFault}
 use Rattle.replay.specs.declared.fault.ReplayFault.TheVariants as fault
-use Rattle.replay.proofs.Comparing.{ended-once}
 use Rattle.replay.proofs.Exact.{ok-replayed, some-replayed, err-shown, err-differs}
 use Rattle.replay.proofs.SameTexts.{same-text-by, same-text}
 use Rattle.replay.proofs.check.replay.Goals as goal
@@ -16,7 +15,7 @@ returns-clause-own_list g c =
     let p = c.args.plan.now in
     let m = g.G.Governor.demand in
     ok-replayed p c.scheduler-scheduler.ensures.admitted.limits (ask_of m p) c.args.trace.now
-    (ended-once c.args.trace.now.notes c.requires.ended) ((own-lists p c.scheduler-scheduler.ensures.admitted.limits).own m) c.check.result c.check.ensures
+    c.requires.ended ((own-lists p c.scheduler-scheduler.ensures.admitted.limits).own m) c.check.result c.check.ensures
 
 pub returns-clause-some_list : goal.returns-clause-some_list
 returns-clause-some_list g c rows h few =
@@ -24,7 +23,7 @@ returns-clause-some_list g c rows h few =
     let m = g.G.Governor.demand in
     subst (λ (r : Result Totals ReplayFault). IsUnlessMemory fault.NoMemory (λ (totals : Totals). totals) c.check.result r)
     (some-replayed p c.scheduler-scheduler.ensures.admitted.limits (ask_of m p) c.args.trace.now
-    (ended-once c.args.trace.now.notes c.requires.ended) ((own-lists p c.scheduler-scheduler.ensures.admitted.limits).own m) rows h few)
+    c.requires.ended ((own-lists p c.scheduler-scheduler.ensures.admitted.limits).own m) rows h few)
     c.check.ensures
 
 pub returns-clause-differs : goal.returns-clause-differs
@@ -32,13 +31,13 @@ returns-clause-differs g c =
     let p = c.args.plan.now in
     let m = g.G.Governor.demand in
     err-differs p c.scheduler-scheduler.ensures.admitted.limits (ask_of m p) c.args.trace.now
-    (ended-once c.args.trace.now.notes c.requires.ended) c.check.result c.check.ensures
+    c.requires.ended c.check.result c.check.ensures
 
 pub returns-clause-shown : goal.returns-clause-shown
 returns-clause-shown g c =
     let p = c.args.plan.now in
     err-shown p c.scheduler-scheduler.ensures.admitted.limits (ask_of g.G.Governor.demand p) c.args.trace.now
-    (ended-once c.args.trace.now.notes c.requires.ended) c.check.result c.check.ensures
+    c.requires.ended c.check.result c.check.ensures
 
 pub returns-clause-same_notes : goal.returns-clause-same_notes
 returns-clause-same_notes g c =

@@ -12,5 +12,5 @@ returns-else-rest-done_in-clause-none c = λ on.
     let lim : IsWithinLimits p =
     record { tasks = c.as_slice-tasks.ensures.limits; machine = c.as_slice-entries.ensures.limits } in
     let over : c.from.result < c.ticks_beside.result = grind (arith, nat_tests, on) in
-    none-over p lim c.args.k c.args.rest c.args.most c.requires.some_rest c.requires.low_ticks
+    none-over p lim c.args.k c.args.rest c.args.most 1 c.requires.some_rest c.requires.low_ticks
     (omega (arith, over, c.from.ensures, c.ticks_beside.ensures))

@@ -6,7 +6,7 @@ use Rattle.trace_reader.specs.Traces.{TraceOf}
 use Rattle.replay_laws.specs.FixedDemands.{fixed_of}
 use Rattle.rtdvs_top.specs.Run.{answer_of_plan}
 use Rattle.rtdvs_top.specs.Trace.{migrated_text}
-use Rattle.rtdvs_top.proofs.Migrating.{migrated}
+use Rattle.rtdvs_top.proofs.Exactness.{migrated}
 use Rattle.rtdvs_top.proofs.trace.migrated_run.Goals as goal
 
 pub returns-in-Ok-clause-answer : goal.returns-in-Ok-clause-answer

@@ -11,9 +11,9 @@ returns-clause-text c =
       c.push_word-4.ensures.text,
       c.push_job.ensures.text,
       c.push_word-3.ensures.text,
-      c.push_position-2.ensures.text,
+      c.push_at-2.ensures.text,
       c.push_word-2.ensures.text,
-      c.push_position.ensures.text,
+      c.push_at.ensures.text,
       c.push_word.ensures.text,
       c.requires.empty,
     ) (simp append_assoc)

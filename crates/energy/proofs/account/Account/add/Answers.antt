@@ -1,6 +1,6 @@
 use Rattle.std.proofs.Common.{arith}
 use Rattle.std.proofs.lemmas.Grind.{common_steps}
-use Rattle.energy.proofs.BookLemmas.{sums-after}
+use Rattle.energy.proofs.Books.{sums-after}
 use Rattle.energy.proofs.account.Account.add.Goals as goal
 
 pub returns-in-Release-clause-sums : goal.returns-in-Release-clause-sums

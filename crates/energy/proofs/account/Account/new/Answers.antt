@@ -1,6 +1,6 @@
 use Rattle.std.proofs.Common.{[], ap, ap₂, ◌∙◌}
 use Rattle.energy.specs.Books.{books_of}
-use Rattle.energy.proofs.BookLemmas.{books_by, no-books}
+use Rattle.energy.proofs.Books.{books_by, no-books}
 use Rattle.energy.proofs.account.Account.new.Goals as goal
 
 pub returns : goal.returns

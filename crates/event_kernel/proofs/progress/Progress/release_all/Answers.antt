@@ -1,9 +1,10 @@
 use Rattle.std.proofs.Common.{◌≡◌, ◌≢◌, ℕ, ◌+◌, ◌<◌, ◌≤◌, Bool, List, arith, ap, ◌∙◌, sym, subst, true, false, rules}
-use Rattle.grid_fraction.specs.declared.Frac.{Frac}
 use Rattle.sched_model.specs.Plan.{Plan, count, period}
+use Rattle.sched_model.specs.Jobs.{JobDemands}
 use Rattle.sched_model.specs.Ticks.{Tick}
 use Rattle.sched_model.specs.States.{StateOf, row_at, after_mark, CanRelease, IsOfPlan}
 use Rattle.sched_model.specs.Notes.{all_release_notes}
+use Rattle.governor.specs.Meanings.{OwnDemand}
 use Rattle.governor.specs.Schedule.{course}
 use Rattle.agenda.specs.Agenda.{IsFirstDue, due_left}
 use Rattle.agenda.proofs.Standing.{due-falls}
@@ -20,13 +21,13 @@ use Rattle.event_kernel.proofs.Releasing.{Releasing, notes_upto, releasing-start
 use Rattle.event_kernel.proofs.progress.Progress.release_all.Goals as goal
 
 -- the rows of the first m tasks are released
-module _ {demand : Plan → StateOf → Frac} {set : Setting} (ok : IsSetting set) {s0 : StateOf} (here : IsAtBoundary set demand s0)
+module _ {demand : OwnDemand} {set : Setting} (ok : IsSetting set) {s0 : StateOf} (here : IsAtBoundary set demand s0)
     {m : ℕ} {any : Bool} {st : StateOf} (r : Releasing set.plan.now (demands_of set.plan.now set.demands.now)
     (course demand set.plan.now (demands_of set.plan.now set.demands.now) s0.now) m any st) where
   abbrev p : Plan
   p = set.plan.now
 
-  abbrev dem : ℕ → ℕ → ℕ
+  abbrev dem : JobDemands
   dem = demands_of p set.demands.now
 
   abbrev past : List Tick

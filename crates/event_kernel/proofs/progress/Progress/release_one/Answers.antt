@@ -6,6 +6,7 @@ use Rattle.event_kernel.specs.Segment.{with_notes}
 use Rattle.event_kernel.specs.SpanNotes.{kept_notes}
 use Rattle.event_kernel.proofs.Keeping.{kept_notes-append}
 use Rattle.sched_model.specs.declared.state.Row.{Row}
+use Rattle.sched_model.specs.Jobs.{JobDemands}
 use Rattle.sched_model.specs.States.{row_at, after_finish, StateOf}
 use Rattle.sched_model.proofs.StateRows.{row_read}
 use Rattle.agenda.specs.Agenda.{opened}
@@ -23,7 +24,7 @@ module _ (g : Over) (c : goal.After-push-then-complete g) where
   abbrev i : ℕ
   i = c.args.task
 
-  abbrev dem : ℕ → ℕ → ℕ
+  abbrev dem : JobDemands
   dem = demands_of c.args.set.now.plan.now c.args.set.now.demands.now
 
   is : c.index.result.now ≡ row_at s i

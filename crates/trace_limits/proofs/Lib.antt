@@ -1,3 +1,0 @@
-pub mod DemandWidths
-pub mod NoteWidths
-pub mod TraceLimits

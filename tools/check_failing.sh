@@ -1,0 +1,91 @@
+# check_failing.sh PROGRAM: what a call leaves where the system fails. The library fails.c, loaded before the C library,
+# lets the n-th allocation, opening, read or write fail: each one of a call of each command, in a run of its own.
+# What has to be left is worked out from FORMATS.md; each line is one write, and each file is opened once.
+[ -x "${1:?no program}" ] || { echo "no program: $1"; exit 2; }
+program=$1
+cd "$(dirname "$0")/.." || exit 2
+[ -n "$(command -v cc)" ] || { echo 'failing: skipped, no cc'; exit 0; }
+[ "$(uname)" = Linux ] || { echo 'failing: skipped, no LD_PRELOAD'; exit 0; }
+work=$(mktemp -d) || exit 2
+trap 'rm -r "$work"' EXIT
+trap 'exit 2' HUP INT PIPE TERM
+cc -shared -fPIC -o "$work/fails.so" tools/fails.c || exit 2
+cd crates/example_runs/data || exit 2
+cases=0 bad=0
+
+# STATUS OUT ERR: whether the run left this, of its streams so many lines of the whole ones
+left() { [ $status = "$1" ] && head -n "$2" "$work/whole" | cmp -s - "$work/out" && head -n "$3" "$work/notes" | cmp -s - "$work/err"; }
+# STATUS PATTERN: whether the run left this status, no answer, and one line of this kind
+refused() { [ $status = "$1" ] && [ ! -s "$work/out" ] && [ "$(wc -l < "$work/err")" -eq 1 ] && grep -qxE "$2" "$work/err"; }
+# whether it left status 9 alone
+silent() { [ $status = 9 ] && [ ! -s "$work/out" ] && [ ! -s "$work/err" ]; }
+
+# whether the run left what it may, where call number n of this kind failed in this way
+may() {
+    case "$kind $how" in
+    'alloc refused') refused 9 'no memory' || silent || left 0 $lines $notes ;;
+    'open refused') refused 3 "load: $(echo $files | cut -d ' ' -f $n)" ;;
+    'read short' | 'write short') left 0 $lines $notes ;;
+    read*) refused 3 "load: ($(echo $files | tr ' ' '|'))" ;;
+    *) if [ $n -gt $lines ]; then left 0 $lines $((n - lines - 1)); else unwritten; fi ;;
+    esac
+}
+# whether the lines before line n are there, and the refusal
+unwritten() { [ $status = 8 ] && [ "$(cat "$work/err")" = 'write: out failed' ] && head -n $((n - 1)) "$work/whole" | cmp -s - "$work/out"; }
+
+# how many calls of this kind there have to be, as far as it is known: `some`, where there may be any number but 0
+calls() {
+    case $kind in
+    open) echo $# ;;
+    write) echo $((lines + notes)) ;;
+    read) [ $# -eq 0 ] && echo 0 || echo some ;;
+    alloc) echo some ;;
+    esac
+}
+
+# KIND HOW WORDS..: lets each call of a kind fail in one way
+each() {
+    kind=$1 how=$2 n=1
+    shift 2
+    while
+        FAILS=$kind HOW=$how AT=$n LD_PRELOAD=$work/fails.so "$program" "$@" > "$work/out" 2> "$work/err" 3> "$work/reached"
+        status=$?
+        [ -s "$work/reached" ]
+    do
+        cases=$((cases + 1))
+        may || { echo "$1, $kind $n $how: status $status"; bad=$((bad + 1)); }
+        n=$((n + 1))
+    done
+    wanted=$(calls $files)
+    [ "$wanted" = $((n - 1)) ] || { [ "$wanted" = some ] && [ $n -gt 1 ]; } ||
+        { echo "$1, $kind $how: $((n - 1)) calls, wanted $wanted"; bad=$((bad + 1)); }
+}
+
+while read -r words; do
+    files=$(echo "$words" | awk '{ for (i = 1; i < NF; i++) if ($i ~ /^--(tasks|machine|demands|trace|deadlines|requests)$/) print substr($i, 3) }')
+    "$program" $words > "$work/whole" 2> "$work/notes" || { echo "$words: fails"; bad=$((bad + 1)); continue; }
+    lines=$(wc -l < "$work/whole") notes=$(wc -l < "$work/notes")
+    while read -r way; do each $way $words; done << WAYS
+alloc refused
+open refused
+read refused
+read interrupted
+read short
+write refused
+write interrupted
+write nothing
+write short
+WAYS
+done << CALLS
+run --tasks controller/tasks.toml --machine controller/machine.toml --demands controller/demands.csv --scheduler edf --governor cc --ticks 100 --probes
+admit --tasks controller/tasks.toml --machine controller/machine.toml --scheduler rm
+replay --tasks controller/tasks.toml --machine controller/machine.toml --trace controller/edf_cc_with_demands.trace
+migrate --tasks controller/tasks.toml --machine controller/machine.toml --trace controller/edf_cc_with_demands.trace
+response --tasks controller/tasks.toml --machine controller/machine.toml
+constrain --tasks deadlines/tasks.toml --machine deadlines/machine.toml --deadlines deadlines/deadlines.csv
+poll --tasks server/tasks.toml --machine server/machine.toml --requests server/requests.csv --server s --scheduler edf --governor none --ticks 15
+workload --seed 1
+least --machine controller/machine.toml --units 1000 --ticks 20
+CALLS
+echo "failing: $cases cases, $bad differ"
+[ $bad = 0 ]
