@@ -24,6 +24,15 @@ awk 'BEGIN {
 }' > responses.toml
 printf '[[point]]\nspeed = 1\nmillivolts = 1000\n' > slow.toml
 awk 'BEGIN {
+    split("20 25 40 50 100 125 200 250", thousands, " ")
+    print "task,job,units"
+    for (i = 0; i < 64; i++) {
+        period = 1000 * thousands[i % 8 + 1]
+        for (k = 1; (7919 * i) % period + k * period < 7640000; k++)
+            printf "t%d,%d,%d\n", i, k, int(10 * period * (50 + (7 * i + 13 * k) % 50) / 100)
+    }
+}' > demands64.csv
+awk 'BEGIN {
     name = "tttttttttttttttttttttttttttttttt"
     printf "[[task]]\nname = \"%s\"\nperiod = 1000\nworst = 1000\n", name > "long.toml"
     n = "18446744073709551615"
