@@ -9,4 +9,6 @@ mod deadlines;
 #[cfg(test)]
 mod least_energies;
 #[cfg(test)]
+mod random_responses;
+#[cfg(test)]
 mod responses;

@@ -110,7 +110,7 @@ const RESPONSES: &[Case] = &[
 ];
 
 // The responses of the tasks of one file on the machine of another, or the fault.
-fn answer(
+pub(crate) fn answer(
     alloc: Global,
     tasks: &str,
     machine: &str,

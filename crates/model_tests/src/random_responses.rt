@@ -1,0 +1,140 @@
+// Task sets at random, whose responses are compared with the definition. In nearly all of them the last task takes more
+// than a thousand steps of the iteration, so its response is searched for; about half of these have none.
+ghost use Rattle.std.specs.Prelude.{◌≤◌, ◌<◌};
+
+use crate::responses::answer;
+use rm_response::ResponseFault;
+use std::alloc::Global;
+use std::test::Fail;
+
+// How many sets are compared.
+const SETS: u32 = 20;
+
+// What the machine does in a tick, in work units.
+const SPEED: u64 = 1000;
+
+const MACHINE: &str = "point = [{speed = 1000, millivolts = 1000}]";
+
+// The period of a task in ticks and its worst case in work units.
+#[derive(Clone, Copy)]
+struct Row {
+    period: u64,
+    worst: u64,
+}
+
+// Numbers from a linear congruential generator, whose step is Knuth's (The Art of Computer Programming, volume 2).
+#[derive(Drop)]
+struct Draws {
+    state: u64,
+}
+
+impl Draws {
+    fn below(&mut self, bound: u64) -> u64
+        requires { 1 ≤ bound }
+        ensures { result < bound }
+    {
+        self.state = self
+            .state
+            .wrapping_mul(6364136223846793005)
+            .wrapping_add(1442695040888963407);
+        (self.state >> 33) % bound
+    }
+}
+
+// Four tasks in RM order. The first leaves `units` units of each tick, the second `left` units of these in each of its
+// periods, and the third takes nearly all of them. The fourth needs a part of what is left in its long period.
+fn rows_of(draws: &mut Draws) -> [Row; 4] {
+    let units = 2 + draws.below(8);
+    let short = 600 + draws.below(100);
+    let left = 60 + draws.below(80);
+    let cut = draws.below(2).saturating_mul(draws.below(100000));
+    let part = 2 + draws.below(3);
+    [
+        Row {
+            period: 1,
+            worst: SPEED - units,
+        },
+        Row {
+            period: short,
+            worst: units.saturating_mul(short).saturating_sub(left),
+        },
+        Row {
+            period: short + 1,
+            worst: left,
+        },
+        Row {
+            period: short.saturating_mul(short + 1).saturating_sub(cut),
+            worst: left.saturating_mul(part) / 8,
+        },
+    ]
+}
+
+// The task file of the rows.
+fn file_of(alloc: Global, rows: &[Row]) -> Result<String, Fail> {
+    let mut text = String::new(alloc);
+    for (i, row) in rows.iter().enumerate() {
+        let (period, worst) = (row.period, row.worst);
+        let task = format!(in alloc;
+            "[[task]]\nname = \"t{i}\"\nperiod = {period}\nworst = {worst}\n"
+        ).map_err(|_| "memory")?;
+        text.push_str(&task).map_err(|_| "memory")?;
+    }
+    Ok(text)
+}
+
+// The work of the rows in `ticks` ticks, each job at its worst case.
+fn work_of(rows: &[Row], ticks: u64) -> u64 {
+    let mut sum: u64 = 0;
+    for row in rows {
+        let jobs = ticks.div_ceil(row.period.max(1));
+        sum = sum.saturating_add(jobs.saturating_mul(row.worst));
+    }
+    sum
+}
+
+// The least number of ticks up to the period in which the highest speed does the work of the rows.
+fn least_of(rows: &[Row], period: u64) -> Option<u64> {
+    for ticks in 1..=period {
+        if work_of(rows, ticks) <= SPEED.saturating_mul(ticks) {
+            return Some(ticks);
+        }
+    }
+    None
+}
+
+// The responses of the rows by the definition, or the fault of the first without one.
+fn defined(alloc: Global, rows: &[Row; 4]) -> Result<Result<Vec<u64>, ResponseFault>, Fail> {
+    let mut list = Vec::new(alloc);
+    for task in 0..4 {
+        let level = &rows[..=task as usize];
+        let period = rows[task as usize].period;
+        let Some(ticks) = least_of(level, period) else {
+            return Ok(Err(ResponseFault::Misses {
+                task,
+                num: u128::from(work_of(level, period)),
+                cap: u128::from(SPEED.saturating_mul(period)),
+            }));
+        };
+        list.push(ticks).map_err(|_| "memory")?;
+    }
+    Ok(Ok(list))
+}
+
+#[test]
+fn long_responses_are_those_of_the_definition(rt: HostRuntime) -> Result<(), Fail> {
+    let alloc = rt.alloc();
+    let mut draws = Draws { state: 1 };
+    for _ in 0..SETS {
+        let rows = rows_of(&mut draws);
+        let file = file_of(alloc, &rows)?;
+        let found = answer(alloc, &file, MACHINE)?;
+        match defined(alloc, &rows)? {
+            Ok(list) => {
+                let found = found.map_err(|_| "responses")?;
+                assert_eq!(rt; found.as_slice(), list.as_slice(), "{file}");
+            }
+            Err(fault) => assert_eq!(rt; found.err(), Some(fault), "{file}"),
+        }
+    }
+    Ok(())
+}
