@@ -3,15 +3,14 @@ use Rattle.std.proofs.Common.{◌≡◌, ◌≢◌, ℕ, List, Option, Some, Non
 use Rattle.dvs_base.specs.declared.kind.GovernorKind.{GovernorKind}
 use Rattle.dvs_base.specs.declared.note.Note.{Note}
 use Rattle.dvs_base.specs.declared.note.Totals.{Totals}
-use Rattle.grid_fraction.specs.declared.Frac.{Frac}
 use Rattle.sched_model.specs.Plan.{Plan, count}
-use Rattle.sched_model.specs.States.{StateOf}
 use Rattle.sched_model.specs.Demand.{published}
 use Rattle.sched_model.specs.Jobs.{JobDemands, demand_of, IsWithin}
 use Rattle.sched_model.specs.Notes.{notes_of}
 use Rattle.sched_model.specs.Schedule.{schedule_by}
 use Rattle.sched_model.proofs.ScheduleLemmas.{schedule_exists}
 use Rattle.sched_model.proofs.Agreeing.{AgreeOnSchedules, same-schedule, same-notes}
+use Rattle.governor.specs.Meanings.{OwnDemand}
 use Rattle.governor.specs.Schedule.{ask_of, Publishes}
 use Rattle.trace_reader.specs.Traces.{TraceOf}
 use Rattle.replay_laws.specs.FixedDemands.{fixed_of}
@@ -34,7 +33,7 @@ replay-ends p t (replay_fault.Differs line wanted found) h = h (λ q. cc)
 replay-ends p t replay_fault.NoMemory h = tt
 
 -- the answer under a governor's own demand, which is the published one on each schedule, is that under the published one
-module _ (demand : Plan → StateOf → Frac) (kind : GovernorKind) (p : Plan) (publishes : Publishes demand kind p) where
+module _ (demand : OwnDemand) (kind : GovernorKind) (p : Plan) (publishes : Publishes demand kind p) where
   module _ (dem : JobDemands) (within : IsWithin p dem) where
     pub agree : AgreeOnSchedules p dem (ask_of demand p dem) (published p kind dem)
     agree ask past h = sym (publishes dem within ask past h)
@@ -62,7 +61,7 @@ module _ (demand : Plan → StateOf → Frac) (kind : GovernorKind) (p : Plan) (
   same-answer t = same-by t (first_over p t.notes) refl
 
 -- the answer of a replay under a governor's own demand is that of the comparison
-pub governed-totals : (demand : Plan → StateOf → Frac) (kind : GovernorKind) (p : Plan) → Publishes demand kind p
+pub governed-totals : (demand : OwnDemand) (kind : GovernorKind) (p : Plan) → Publishes demand kind p
     → (t : TraceOf) → t.plan.governor ≡ kind → (r : Result Totals ReplayFault)
     → replay_of p (ask_of demand p) t ≡ r → totals_at (p, t) ≡ totals_or_status r
 governed-totals demand kind p publishes t is r h =

@@ -3,10 +3,8 @@ use Rattle.std.proofs.Common.{◌≡◌, ℕ, List, Option, Some, Ok, ap, ◌∙
 use Rattle.dvs_base.specs.Outside.{Files}
 use Rattle.dvs_base.specs.declared.kind.GovernorKind.{GovernorKind}
 use Rattle.dvs_base.specs.declared.note.Note.{Note}
-use Rattle.grid_fraction.specs.declared.Frac.{Frac}
-use Rattle.sched_model.specs.Plan.{Plan}
-use Rattle.sched_model.specs.States.{StateOf}
 use Rattle.sched_model.specs.Jobs.{IsWithin}
+use Rattle.governor.specs.Meanings.{OwnDemand}
 use Rattle.governor.specs.Schedule.{Publishes}
 use Rattle.poll_server.specs.Serving.{ServerOf, polled_demand}
 use Rattle.poll_server.specs.Outcomes.{ServedOf}
@@ -21,7 +19,7 @@ use Rattle.rtdvs_top.specs.declared.status.Status.TheVariants as status
 use Rattle.rtdvs_top.proofs.Comparisons.{same-run}
 use Rattle.rtdvs_top.specs.Prepared.{MetIn}
 
-module _ (demand : Plan → StateOf → Frac) (kind : GovernorKind) (s : ServerOf) (publishes : Publishes demand kind s.plan)
+module _ (demand : OwnDemand) (kind : GovernorKind) (s : ServerOf) (publishes : Publishes demand kind s.plan)
     (within : IsWithin s.plan (polled_demand s)) (ticks : ℕ) where
   same-notes : polled_notes demand s ticks ≡ polling_notes kind s ticks
   same-notes = same-run demand kind s.plan publishes (polled_demand s) within ticks

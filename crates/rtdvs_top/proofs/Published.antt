@@ -19,16 +19,16 @@ use Rattle.sched_model.specs.Ticks.{PublishedDemand, IsMet, Tick}
 use Rattle.sched_model.specs.Admission.{IsAdmitted}
 use Rattle.sched_model.specs.Decision.{is_decision}
 use Rattle.freq_table.specs.Tables.{lowest_pick}
-use Rattle.sched_model.specs.Jobs.{released_jobs, demand_of, IsWithin}
+use Rattle.sched_model.specs.Jobs.{JobDemands, released_jobs, demand_of, IsWithin}
 use Rattle.event_kernel.specs.Runs.{Run, IsListOf, notes_of_run}
 use Rattle.event_kernel.specs.Meeting.{IsMetRun}
 use Rattle.event_kernel.specs.Lines.{WroteLines, StoppedIn}
 use Rattle.event_kernel.proofs.Writing.{all-as, some-as, stopped-some}
 use Rattle.event_kernel.proofs.Demanding.{demand-within}
-use Rattle.sched_model.specs.States.{StateOf}
 use Rattle.sched_model.specs.Demand.{published}
 use Rattle.sched_model.proofs.ScheduleLemmas.{schedule_exists, schedule_unique}
 use Rattle.sched_model.specs.Totals.{totals_of}
+use Rattle.governor.specs.Meanings.{OwnDemand}
 use Rattle.governor.specs.Schedule.{ask_of, Publishes}
 use Rattle.rtdvs_top.specs.Generated.{run_totals}
 use Rattle.rtdvs_top.specs.Prepared.{answer_of_run, Ends}
@@ -45,9 +45,9 @@ pub ends-as : {g k : GovernorKind} (old new : SinkView) (v : Version) (r : Run) 
     → Ends old new (answer_of_run v k r) s → Ends old new (answer_of_run v g r) s
 ends-as old new v r s same h = subst (λ (x : GovernorKind). Ends old new (answer_of_run v x r) s) (sym same) h
 
-module _ (demand : Plan → StateOf → Frac) (kind : GovernorKind) (p : Plan) (d : DemandsOf) (list : IsListOf p d)
+module _ (demand : OwnDemand) (kind : GovernorKind) (p : Plan) (d : DemandsOf) (list : IsListOf p d)
     (low : IsWithinWorsts d) (publishes : Publishes demand kind p) where
-  abbrev dem : ℕ → ℕ → ℕ
+  abbrev dem : JobDemands
   dem = demand_of p d.rows
 
   abbrev own : PublishedDemand
