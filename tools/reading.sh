@@ -31,7 +31,7 @@ function read_sections() {
     section("headline", "The command line", "dvs_base/Pairs dvs_base/PlanWords words")
     section("headline", "Tasks, machines, demands", "freq_table task_model demand_list csv_text")
     section("headline", "The model", "sched_model")
-    section("headline", "The text of a run", "trace_text trace_reader sched_model/RunNotes done_lines")
+    section("headline", "The text of a run", "trace_text trace_reader sched_model/RunNotes note_laws")
     section("headline", "The tests under RM", "rm_admit governor rm_response_laws rm_response")
     section("headline", "The promise", "event_kernel rtdvs_top")
     section("others", "Writing and probes", "dvs_base sched_model energy probes event_kernel")

@@ -11,7 +11,7 @@ use Rattle.sched_model.specs.Plan.{Plan, count}
 use Rattle.sched_model.specs.Notes.{energy_run, energy_idle}
 use Rattle.sched_model.specs.Totals.{totals_of}
 use Rattle.sched_model.proofs.ScheduleLemmas.{length-list_below}
-use Rattle.done_lines.proofs.FewNotes.{IsNoteIn}
+use Rattle.note_laws.proofs.FewNotes.{IsNoteIn}
 use Rattle.energy.specs.Books.{Books, Told, books_of, booked, energy_at_point, HasTask, HasRoom}
 use Rattle.dvs_base.specs.NoteTasks.{energy_of_task}
 use Rattle.energy.proofs.Books.{booked-sums, has-room, task-sums}

@@ -9,7 +9,7 @@ use Rattle.sched_model.specs.Jobs.{JobDemands}
 use Rattle.sched_model.specs.Schedule.{IsScheduleBy}
 use Rattle.sched_model.specs.Admission.{IsAdmitted}
 use Rattle.sched_model.specs.Notes.{span_notes, energy_run, energy_idle}
-use Rattle.done_lines.proofs.FewNotes.{IsNoteIn, ticks-fit, last-fits}
+use Rattle.note_laws.proofs.FewNotes.{IsNoteIn, ticks-fit, last-fits}
 use Rattle.governor.specs.Meanings.{OwnDemand}
 use Rattle.governor.specs.Schedule.{ask_of, course}
 use Rattle.event_kernel.specs.declared.notes.TheConstants.{MOST_NOTES}

@@ -8,8 +8,8 @@ use Rattle.sched_model.specs.Admission.{IsAdmitted}
 use Rattle.sched_model.specs.States.{StateOf}
 use Rattle.sched_model.specs.Totals.{totals_of}
 use Rattle.sched_model.proofs.ScheduleLemmas.{schedule_exists}
-use Rattle.done_lines.specs.LineCounts.{AreFew}
-use Rattle.done_lines.proofs.CountLemmas.{has-few}
+use Rattle.note_laws.specs.LineCounts.{AreFew}
+use Rattle.note_laws.proofs.CountLemmas.{has-few}
 use Rattle.governor.specs.Meanings.{OwnDemand}
 use Rattle.governor.specs.Schedule.{ask_of}
 use Rattle.governor.specs.Laws.{GovernorLaws}

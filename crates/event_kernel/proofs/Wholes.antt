@@ -24,9 +24,9 @@ use Rattle.sched_model.specs.Notes.{energy_run, energy_idle}
 use Rattle.sched_model.proofs.Tables.{get-table, length-list_below}
 use Rattle.governor.specs.Meanings.{OwnDemand}
 use Rattle.governor.specs.Schedule.{ask_of}
-use Rattle.done_lines.specs.LineCounts.{AreFew}
-use Rattle.done_lines.specs.RunText.{task_texts, run_lines}
-use Rattle.done_lines.proofs.FewNotes.{has-few-notes, IsNoteIn}
+use Rattle.note_laws.specs.LineCounts.{AreFew}
+use Rattle.note_laws.specs.RunText.{task_texts, run_lines}
+use Rattle.note_laws.proofs.FewNotes.{has-few-notes, IsNoteIn}
 use Rattle.trace_reader.specs.TraceText.{LineOf, plain, noted, task_energy, task_text, share_text, shares_from, for_tasks, head_lines, lines_of_note, note_lines, text_of_lines}
 use Rattle.probes.specs.Tallies.{ProbeOf}
 use Rattle.event_kernel.specs.Lines.{most_lines, WritesLines}

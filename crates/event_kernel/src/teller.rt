@@ -1,7 +1,7 @@
 // The trace of a run, written to a sink line by line and told to probes.
 ghost use Rattle.std.specs.Prelude.{◌≡◌, [], ◌∷◌, ◌++◌, length, map, IfOk};
 ghost use Rattle.dvs_base.specs.declared.note.Note.TheVariants.{End};
-ghost use Rattle.done_lines.specs.LineCounts.{AreFew};
+ghost use Rattle.note_laws.specs.LineCounts.{AreFew};
 ghost use Rattle.sched_model.specs.Plan.{count, names};
 ghost use Rattle.sched_model.specs.Totals.{totals_of};
 ghost use Rattle.trace_reader.specs.TraceText.{noted, note_lines};

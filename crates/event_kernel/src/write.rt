@@ -4,7 +4,7 @@ ghost use Rattle.dvs_base.specs.Parts.{name_of};
 ghost use Rattle.sched_model.specs.Plan.{count, names, task, period, offset};
 ghost use Rattle.trace_text.specs.TraceLines.{plan_text};
 ghost use Rattle.trace_reader.specs.TraceText.{version_line, task_text, share_text, plain, for_tasks, head_lines};
-ghost use Rattle.done_lines.specs.RunText.{task_texts};
+ghost use Rattle.note_laws.specs.RunText.{task_texts};
 ghost use Rattle.event_kernel.specs.PlainLines.{WritesPlain, sum_texts, sum_lines};
 
 use dvs_base::{Failed, GovernorKind, Line, Sink, Version, put_line};

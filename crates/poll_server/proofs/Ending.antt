@@ -16,9 +16,9 @@ use Rattle.sched_model.proofs.Limits.{every_period}
 use Rattle.sched_model.proofs.NoteSums.{one_if, tells_done}
 use Rattle.sched_model.proofs.Service.{exec-most, exec-drop}
 use Rattle.sched_model.proofs.JobLaws.{release-due}
-use Rattle.done_lines.specs.DoneLines.{IsBy}
-use Rattle.done_lines.proofs.Counted.{count-next, none-counted}
-use Rattle.done_lines.proofs.DoneCounts.{told-once, told-never, IsInTime, in-time}
+use Rattle.note_laws.specs.DoneLines.{IsBy}
+use Rattle.note_laws.proofs.Counted.{count-next, none-counted}
+use Rattle.note_laws.proofs.DoneCounts.{told-once, told-never, IsInTime, in-time}
 use Rattle.poll_server.specs.Outcomes.{done_position, done_at}
 
 -- the job is done, at a position not after tick t

@@ -14,9 +14,9 @@ use Rattle.trace_reader.specs.Traces.{TraceOf, text_of}
 use Rattle.trace_reader.specs.TraceText.{task_text}
 use Rattle.trace_reader.proofs.HeadTexts.{IsLine, AreLines, task_lines-lines}
 use Rattle.trace_reader.proofs.TraceTexts.{one-text}
-use Rattle.done_lines.specs.RunText.{task_texts}
+use Rattle.note_laws.specs.RunText.{task_texts}
 use Rattle.replay_laws.specs.OwnList.{Asking, HasSameNotes}
-use Rattle.done_lines.proofs.TraceLimits.{keeps-limits}
+use Rattle.note_laws.proofs.TraceLimits.{keeps-limits}
 use Rattle.replay.specs.SameTexts.{trace_by, text_by, HasSameTextBy, HasSameText}
 use Rattle.replay.proofs.Texts.{names-distinct, names-named, name-at}
 

@@ -16,12 +16,12 @@ use Rattle.sched_model.proofs.NoteSums.{one_if, tells_done, same-numbers}
 use Rattle.sched_model.proofs.Spans.{IsLastSpan, IsNow}
 use Rattle.sched_model.proofs.Walk.{EachNote, AreFirst, each-note}
 use Rattle.trace_text.proofs.PlainLines.{each-append}
-use Rattle.done_lines.proofs.Counted.{count-next}
+use Rattle.note_laws.proofs.Counted.{count-next}
 use Rattle.replay_laws.specs.FixedDemands.{fixed_of}
 use Rattle.replay_laws.proofs.SameNotes.{had-most, same-notes}
 use Rattle.sched_model.proofs.ScheduleLemmas.{schedule_exists, schedule_unique}
 use Rattle.sched_model.proofs.Service.{exec-most}
-use Rattle.done_lines.proofs.DoneCounts.{told-once}
+use Rattle.note_laws.proofs.DoneCounts.{told-once}
 use Rattle.replay_laws.proofs.SameCourse.{Alike, IsBlind, same-course}
 use Rattle.replay_laws.specs.OwnList.{Asking, ticks_by, notes_by, TellSame, LooksAtNone}
 

@@ -7,7 +7,7 @@ use Rattle.sched_model.specs.Plan.{Plan}
 use Rattle.sched_model.specs.Jobs.{JobDemands, demand_of, IsWithin}
 use Rattle.sched_model.specs.Demand.{published}
 use Rattle.trace_reader.specs.TraceText.{text_of_lines}
-use Rattle.done_lines.specs.RunText.{run_lines}
+use Rattle.note_laws.specs.RunText.{run_lines}
 use Rattle.sched_model.specs.Admission.{IsWithinLimits}
 use Rattle.governor.specs.Schedule.{ask_of}
 use Rattle.replay_laws.proofs.SameCourse.{IsBlind, blind-own}

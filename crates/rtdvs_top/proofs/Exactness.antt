@@ -12,7 +12,7 @@ use Rattle.sched_model.specs.Jobs.{JobDemands, released_jobs, demand_of}
 use Rattle.sched_model.specs.Demand.{published}
 use Rattle.sched_model.specs.Admission.{IsWithinLimits, IsAdmitted}
 use Rattle.sched_model.specs.RunNotes.{run_notes}
-use Rattle.done_lines.specs.RunText.{task_texts, run_text_in}
+use Rattle.note_laws.specs.RunText.{task_texts, run_text_in}
 use Rattle.trace_reader.specs.Traces.{TraceOf, IsEnded, IsTrace, IsTextOf, text_of}
 use Rattle.trace_reader.specs.TraceText.{whole_text, task_text}
 use Rattle.replay_laws.specs.FixedDemands.{fixed_of}
@@ -39,8 +39,8 @@ use Rattle.trace_reader.proofs.HeadTexts.{task_lines-lines}
 use Rattle.trace_reader.proofs.ShortTexts.{text-short}
 use Rattle.trace_reader.proofs.TraceTexts.{reads-found, reads-only, version-lines}
 use Rattle.replay_laws.proofs.Owning.{own-lists}
-use Rattle.done_lines.specs.RunTraces.{trace_of_run}
-use Rattle.done_lines.proofs.TraceLimits.{keeps-limits}
+use Rattle.note_laws.specs.RunTraces.{trace_of_run}
+use Rattle.note_laws.proofs.TraceLimits.{keeps-limits}
 use Rattle.replay.proofs.Texts.{names-distinct, names-named}
 use Rattle.words.specs.Commands.{TracedOf, CommandOf, traced}
 use Rattle.rtdvs_top.specs.Meanings.{longest, bytes_from, bytes_at, tasks_at, machine_at}

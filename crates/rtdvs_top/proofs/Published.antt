@@ -11,8 +11,8 @@ use Rattle.dvs_base.specs.declared.limits.TheConstants.{MOST_JOBS}
 use Rattle.sched_model.specs.Plan.{Plan, names}
 use Rattle.sched_model.specs.Notes.{notes_of}
 use Rattle.sched_model.specs.RunNotes.{run_notes}
-use Rattle.done_lines.proofs.DoneText.{text-tells}
-use Rattle.done_lines.specs.RunText.{task_texts, run_lines}
+use Rattle.note_laws.proofs.DoneText.{text-tells}
+use Rattle.note_laws.specs.RunText.{task_texts, run_lines}
 use Rattle.trace_reader.specs.TraceText.{LineOf}
 use Rattle.sched_model.specs.Schedule.{schedule_by}
 use Rattle.sched_model.specs.Ticks.{PublishedDemand, IsMet, Tick}

@@ -7,7 +7,7 @@ use Rattle.dvs_base.specs.declared.note.Note.{Note}
 use Rattle.sched_model.specs.Plan.{Plan}
 use Rattle.sched_model.specs.RunNotes.{run_notes}
 use Rattle.event_kernel.specs.Runs.{Run, demands_of}
-use Rattle.done_lines.specs.RunText.{run_lines}
+use Rattle.note_laws.specs.RunText.{run_lines}
 use Rattle.event_kernel.specs.Lines.{StoppedIn}
 use Rattle.probes.specs.Tallies.{ProbeOf, told_notes}
 use Rattle.rtdvs_top.specs.declared.status.Status.{Status}

@@ -10,7 +10,7 @@ use Rattle.demand_list.specs.Demands.{IsDemands}
 use Rattle.sched_model.specs.Plan.{Plan, names, plan_of}
 use Rattle.sched_model.specs.Admission.{IsAdmitted}
 use Rattle.sched_model.specs.Jobs.{demand_of, IsWithin, released_jobs}
-use Rattle.done_lines.specs.RunText.{run_text_in, task_texts}
+use Rattle.note_laws.specs.RunText.{run_text_in, task_texts}
 use Rattle.trace_reader.specs.Traces.{TraceOf, text_of, task_lines}
 use Rattle.replay_laws.specs.FixedDemands.{fixed_of, fixed_list}
 use Rattle.words.specs.declared.command.WordFault.{WordFault}

@@ -1,4 +1,4 @@
-use Rattle.done_lines.specs.RunText.{task_texts}
+use Rattle.note_laws.specs.RunText.{task_texts}
 use Rattle.event_kernel.proofs.Writing.{lines-as, task-lines}
 use Rattle.event_kernel.proofs.write.put_task_lines.Goals as goal
 

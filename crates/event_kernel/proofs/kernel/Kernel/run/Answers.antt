@@ -1,7 +1,7 @@
 use Rattle.std.proofs.Common.{arith}
 use Rattle.sched_model.specs.Plan.{names}
 use Rattle.trace_reader.specs.TraceText.{head_lines, note_lines}
-use Rattle.done_lines.specs.RunText.{task_texts}
+use Rattle.note_laws.specs.RunText.{task_texts}
 use Rattle.event_kernel.specs.Runs.{notes_of_run}
 use Rattle.event_kernel.proofs.Meeting.{met-as}
 use Rattle.event_kernel.proofs.Wholes.{writes-sure, writes-later, writes-rose, run-lines}

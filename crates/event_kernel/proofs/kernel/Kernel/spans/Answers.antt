@@ -3,7 +3,7 @@ use Rattle.dvs_base.specs.declared.note.Note.{Note}
 use Rattle.sched_model.specs.States.{opening, StateOf}
 use Rattle.sched_model.specs.Admission.{IsAdmitted}
 use Rattle.energy.specs.Books.{Books}
-use Rattle.done_lines.specs.LineCounts.{AreFew}
+use Rattle.note_laws.specs.LineCounts.{AreFew}
 use Rattle.governor.proofs.Course.{course-met}
 use Rattle.event_kernel.specs.SpanNotes.{HasBooked, notes_before_end_of}
 use Rattle.event_kernel.specs.Current.{Follow}

@@ -21,7 +21,7 @@ use Rattle.sched_model.proofs.Spans.{IsLastSpan, IsNow}
 use Rattle.sched_model.proofs.Units.{sum-own}
 use Rattle.sched_model.proofs.Walk.{EachNote, AreFirst, each-note}
 use Rattle.trace_text.proofs.PlainLines.{each-append}
-use Rattle.done_lines.specs.DoneLines.{IsBy}
+use Rattle.note_laws.specs.DoneLines.{IsBy}
 
 -- where the note is the completion of job k of task i, it isn't after the beginning of tick t
 abbrev pub IsInTime : ℕ → ℕ → ℕ → Note → Type 0

@@ -5,8 +5,8 @@ use Rattle.dvs_base.specs.declared.note.Totals.{Totals}
 use Rattle.sched_model.specs.Jobs.{due}
 use Rattle.sched_model.proofs.Examples.{paper_example}
 use Rattle.dvs_base.specs.declared.kind.Scheduler.TheVariants.{Edf}
-use Rattle.done_lines.specs.DoneLines.{IsBy, IsToldBy, TellsDeadlines}
-use Rattle.done_lines.specs.LineCounts.{AreFew}
+use Rattle.note_laws.specs.DoneLines.{IsBy, IsToldBy, TellsDeadlines}
+use Rattle.note_laws.specs.LineCounts.{AreFew}
 
 abbrev position : ℕ → ℕ → Pos
 position tick offset = record { tick = tick; offset = offset }

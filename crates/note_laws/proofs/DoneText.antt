@@ -32,15 +32,15 @@ use Rattle.sched_model.proofs.ScheduleLemmas.{schedule_exists}
 use Rattle.sched_model.proofs.Service.{exec-most, exec-drop}
 use Rattle.sched_model.proofs.Units.{each-weaker}
 use Rattle.sched_model.proofs.JobLaws.{le-due, release-due}
-use Rattle.done_lines.specs.DoneLines.{IsDoneLine, NoDoneLine, IsBy, IsToldBy, TellsDeadlines, TextTellsDeadlines}
+use Rattle.note_laws.specs.DoneLines.{IsDoneLine, NoDoneLine, IsBy, IsToldBy, TellsDeadlines, TextTellsDeadlines}
 use Rattle.trace_reader.specs.TraceText.{LineOf, noted, lines_of_note, head_lines, text_of_lines, shares_from}
 use Rattle.trace_reader.proofs.WholeText.{each-noted}
 use Rattle.trace_text.proofs.PlainLines.{ArePlain, each-append, plain-name, some-name}
-use Rattle.done_lines.specs.RunText.{task_texts, run_lines}
-use Rattle.done_lines.proofs.RunLines.{IsQuiet, lines-run, quiet-head, quiet-shares}
+use Rattle.note_laws.specs.RunText.{task_texts, run_lines}
+use Rattle.note_laws.proofs.RunLines.{IsQuiet, lines-run, quiet-head, quiet-shares}
 use Rattle.sched_model.proofs.NoteSums.{one_if, tells_done}
-use Rattle.done_lines.proofs.Counted.{count-next, IsAlone, alone}
-use Rattle.done_lines.proofs.DoneCounts.{told-once, told-never, IsInTime, in-time}
+use Rattle.note_laws.proofs.Counted.{count-next, IsAlone, alone}
+use Rattle.note_laws.proofs.DoneCounts.{told-once, told-never, IsInTime, in-time}
 
 -- the line is not that of the completion of job k of the task of this name
 abbrev IsOther : List ℕ → ℕ → List ℕ → Type 0

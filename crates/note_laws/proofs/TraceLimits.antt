@@ -17,7 +17,7 @@ use Rattle.sched_model.proofs.JobLaws.{latest-small}
 use Rattle.trace_reader.specs.Traces.{IsPlace, IsNoteOf, lines_for_tasks, IsTrace}
 use Rattle.sched_model.proofs.Spans.{IsLastSpan, IsNow}
 use Rattle.sched_model.proofs.Walk.{at_unit, EachNote, each-note}
-use Rattle.done_lines.proofs.DemandWidths.{IsLow, published-low}
+use Rattle.note_laws.proofs.DemandWidths.{IsLow, published-low}
 use Rattle.std.specs.Prelude.{sum_by}
 use Rattle.std.proofs.lemmas.List.{length-map}
 use Rattle.std.proofs.lemmas.List.Elements.{All-from_recursion}
@@ -32,11 +32,11 @@ use Rattle.sched_model.proofs.ScheduleLemmas.{length-list_below, schedule_exists
 use Rattle.trace_text.proofs.PlainLines.{each-append}
 use Rattle.dvs_base.specs.NoteTasks.{energy_of_task}
 use Rattle.trace_reader.specs.TraceText.{task_text, task_energy, has_task_lines}
-use Rattle.done_lines.specs.RunText.{task_texts}
+use Rattle.note_laws.specs.RunText.{task_texts}
 use Rattle.sched_model.proofs.Units.{each-weaker}
-use Rattle.done_lines.proofs.OneEnd.{schedule-ended}
-use Rattle.done_lines.specs.RunTraces.{trace_of_run, IsLimitedRun, KeepsLimits}
-use Rattle.done_lines.proofs.FewNotes.{has-few-notes}
+use Rattle.note_laws.proofs.OneEnd.{schedule-ended}
+use Rattle.note_laws.specs.RunTraces.{trace_of_run, IsLimitedRun, KeepsLimits}
+use Rattle.note_laws.proofs.FewNotes.{has-few-notes}
 
 -- the most units of a run
 abbrev most_units : ℕ

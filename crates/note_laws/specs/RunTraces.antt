@@ -7,7 +7,7 @@ use Rattle.dvs_base.specs.PlanWords.{is_pair}
 use Rattle.sched_model.specs.Plan.{Plan, names}
 use Rattle.sched_model.specs.Jobs.{released_jobs, JobDemands, IsWithin}
 use Rattle.sched_model.specs.RunNotes.{run_notes}
-use Rattle.done_lines.specs.RunText.{task_texts}
+use Rattle.note_laws.specs.RunText.{task_texts}
 use Rattle.trace_reader.specs.Traces.{TraceOf, IsTrace}
 
 -- the trace, in a version, of the run of `ticks` ticks of a plan under a governor for these demands

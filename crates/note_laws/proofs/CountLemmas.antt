@@ -19,7 +19,7 @@ use Rattle.sched_model.proofs.LevelSums.{sum_below-term}
 use Rattle.sched_model.proofs.JobLaws.{release-le, exec-early}
 use Rattle.sched_model.proofs.NoteSums.{one_if, releases, empty_jobs, completions, release-counts, none-sum, with-end, next-sum, Weighs, weights, nothing, none-weighs, all_done, tells-all, all_done-next}
 use Rattle.sched_model.proofs.Spans.{stays-unreleased}
-use Rattle.done_lines.specs.LineCounts.{AreFew, HasFewDecisions}
+use Rattle.note_laws.specs.LineCounts.{AreFew, HasFewDecisions}
 
 module _ (p : Plan) (dem : JobDemands) (ask : PublishedDemand) (lim : IsWithinLimits p) (needless : (i : ℕ) → dem i 0 ≡ 0) where
   abbrev notes : List Tick → List Note

@@ -23,7 +23,7 @@ use Rattle.sched_model.proofs.LevelSums.{share-most}
 use Rattle.sched_model.proofs.OrderLemmas.{sum_list, sum_list-in_order, AreBelow, in_order-below, in_order-same}
 use Rattle.sched_model.proofs.NoteSums.{one_if, completions}
 use Rattle.sched_model.proofs.Spans.{stays}
-use Rattle.done_lines.proofs.TickPieces.{segments, Leads, run-leads, laid_out, laid-out, TakeTurns, take-turns, served, segments-most, first_holder, first-leads, first-alone}
+use Rattle.note_laws.proofs.TickPieces.{segments, Leads, run-leads, laid_out, laid-out, TakeTurns, take-turns, served, segments-most, first_holder, first-leads, first-alone}
 
 -- the first holder depends only on which tasks need something, and on their jobs
 first-same : (n : ℕ) (need other job later : ℕ → ℕ) (is : List ℕ) → AreBelow n is

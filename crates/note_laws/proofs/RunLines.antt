@@ -13,7 +13,7 @@ use Rattle.trace_text.proofs.PlainLines.{ArePlain}
 use Rattle.trace_reader.specs.TraceText.{head_lines, text_of_lines, shares_from, version_line}
 use Rattle.trace_reader.proofs.WholeText.{each-for, each-share}
 use Rattle.trace_reader.proofs.SplitLines.{IsLine, lines-text, task-fields, each-line}
-use Rattle.done_lines.specs.RunText.{task_texts, run_lines}
+use Rattle.note_laws.specs.RunText.{task_texts, run_lines}
 
 -- a line that doesn't begin with the letter d, as a `done` line does
 abbrev pub IsQuiet : List ℕ → Type 0

@@ -15,7 +15,7 @@ use Rattle.sched_model.specs.Schedule.{schedule_by}
 use Rattle.sched_model.specs.Notes.{notes_before_end}
 use Rattle.trace_text.specs.TraceLines.{note_text}
 use Rattle.dvs_base.specs.declared.kind.Version.TheVariants.{One}
-use Rattle.done_lines.specs.RunText.{run_text_in}
+use Rattle.note_laws.specs.RunText.{run_text_in}
 use Rattle.sched_model.proofs.Examples.{row, paper_example, paper_demands, heavy_set, two_tasks, late_second, late_alone, controller, controller_demands, early_and_late, due_together, due_together_demands, equal_periods, long_and_short, freed_units, freed_units_demands}
 
 -- the text of a run under a list of demands

@@ -22,15 +22,15 @@ use Rattle.sched_model.proofs.NoteSums.{one_if, release-counts, pieces-most, non
 use Rattle.sched_model.proofs.Spans.{IsLastSpan, IsNow, last-span, by-spans}
 use Rattle.sched_model.proofs.Units.{units-weight, shares-fit}
 use Rattle.sched_model.proofs.Walk.{EachNote, each-note}
-use Rattle.done_lines.proofs.SpanPieces.{LastHasFew, last-few}
+use Rattle.note_laws.proofs.SpanPieces.{LastHasFew, last-few}
 use Rattle.std.proofs.lemmas.Bool.Decides.{nat_tests}
 use Rattle.std.proofs.lemmas.Nat.{le-div}
 use Rattle.grid_fraction.proofs.Ceilings.{ceil-at, ceil-mono}
 use Rattle.sched_model.proofs.JobLaws.{release-none, latest-pos}
 use Rattle.sched_model.specs.Totals.{is_released, is_finished, is_decided, totals_of}
-use Rattle.done_lines.specs.LineCounts.{AreFew, HasFewNotes}
+use Rattle.note_laws.specs.LineCounts.{AreFew, HasFewNotes}
 use Rattle.sched_model.proofs.BeforeEnd.{IsBeforeEnd, before-end-each}
-use Rattle.done_lines.proofs.CountLemmas.{adds, has-few}
+use Rattle.note_laws.proofs.CountLemmas.{adds, has-few}
 
 -- a note before the `End` of a run, whose task, if it has one, is a task of the plan
 abbrev pub IsNoteIn : Plan → Note → Type 0

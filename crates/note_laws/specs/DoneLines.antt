@@ -11,7 +11,7 @@ use Rattle.sched_model.specs.Plan.{Plan, count, names}
 use Rattle.sched_model.specs.Schedule.{schedule}
 use Rattle.sched_model.specs.Ticks.{IsMet}
 use Rattle.sched_model.specs.Jobs.{JobDemands, due}
-use Rattle.done_lines.specs.RunText.{run_text_in}
+use Rattle.note_laws.specs.RunText.{run_text_in}
 
 -- the line says that job k of the task of this name completes at the position
 abbrev pub IsDoneLine : List ℕ → ℕ → Pos → List ℕ → Type 0
