@@ -102,7 +102,7 @@ function each_message(line,    parts, n, i) {
 }
 
 BEGIN {
-    list = "find README.md crates.txt docs examples crates -name out -prune -o -print"
+    list = "find README.md crates.txt docs examples tools crates -name out -prune -o -print"
     while ((list | getline path) > 0) {
         tree[path] = 1
         while (match(path, /\//)) { path = substr(path, RSTART + 1); ends[path] = 1 }
