@@ -1,7 +1,7 @@
-use Rattle.std.proofs.Common.{◌≡◌, ◌*◌, ◌≤◌, Bool, true, false, arith, sym, subst, ap}
+use Rattle.std.proofs.Common.{◌*◌, ◌≤◌, Bool, true, false, arith, sym, subst, ap}
 use Rattle.freq_table.specs.Tables.{Table, IsTable}
 use Rattle.energy.specs.Segments.{thousandths}
-use Rattle.energy.proofs.UnitCosts.{energy-most}
+use Rattle.energy.proofs.UnitCosts.{unit-most, energy-most}
 use Rattle.energy.proofs.segment.energy_of.Goals as goal
 
 low_thousandths : (m : Table) → IsTable m → (idle : Bool) → thousandths m idle ≤ 1000
@@ -10,13 +10,13 @@ low_thousandths m table false = omega arith
 
 pub returns-clause-most : goal.returns-clause-most
 returns-clause-most c =
-    let mv : c.from-millivolts.result ≤ 20000 = omega (
+    let m = c.point-millivolts.result.millivolts in
+    let mv : m ≤ 20000 = omega (
       arith,
       (c.as_slice-entries.ensures.limits.each c.args.point c.requires.point).low_millivolts,
-      c.from-millivolts.ensures,
-      ap (λ p. p.millivolts) c.point.ensures,
+      ap (λ p. p.millivolts) c.point-millivolts.ensures,
     ) in
-    let rate : c.from-2.result ≤ 1000 = omega (arith, low_thousandths c.args.machine.now c.as_slice-entries.ensures.limits c.args.idle) in
-    let units : c.from.result ≡ c.args.units = c.from.ensures in
-    subst (λ u. u * c.from-millivolts.result * c.from-millivolts.result * c.from-2.result ≤ 400000000000 * c.args.units) (sym units)
-    (energy-most c.args.units c.from-millivolts.result c.from-2.result mv rate)
+    let rate : c.thousandths.result ≤ 1000 =
+    omega (arith, low_thousandths c.args.machine.now c.as_slice-entries.ensures.limits c.args.idle, c.thousandths.ensures) in
+    let unit : c.from-2.result ≤ 400000000000 = omega (arith, unit-most m c.thousandths.result mv rate, c.from-2.ensures) in
+    subst (λ u. u * c.from-2.result ≤ 400000000000 * c.args.units) (sym c.from.ensures) (energy-most c.args.units c.from-2.result unit)
