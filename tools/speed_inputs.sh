@@ -1,5 +1,5 @@
 # speed_inputs.sh: writes the inputs of the figures in SPEED.md into the folder where it is called.
-for n in 8 16 32 64; do
+for n in 1 8 16 32 64; do
     awk -v n=$n 'BEGIN {
         split("20 25 40 50 100 125 200 250", thousands, " ")
         for (i = 0; i < n; i++) {
@@ -8,6 +8,16 @@ for n in 8 16 32 64; do
                 i, period, 640 / n * period, (7919 * i) % period
         }
     }' > tasks$n.toml
+done
+for n in 1 8 64; do
+    awk -v n=$n 'BEGIN {
+        split("64 80 128 160 96 192 320 384", ticks, " ")
+        for (i = 0; i < n; i++) {
+            period = n == 1 ? 8 : ticks[i % 8 + 1] * n / 64
+            printf "[[task]]\nname = \"t%d\"\nperiod = %d\nworst = %d\noffset = %d\n", \
+                i, period, int(period * 640 / n) + (37 * i) % 11, (7 * i) % period
+        }
+    }' > short$n.toml
 done
 awk 'BEGIN {
     for (k = 1; k <= 4; k++)
