@@ -3,7 +3,7 @@ ghost use Rattle.std.specs.Prelude.{◌≡◌, ◌≤◌, ◌<◌, ◌-◌, ◌^
 ghost use Rattle.dvs_base.specs.declared.note.Note.{Note as NoteOf};
 ghost use Rattle.std.specs.List.{AllByRecursion};
 ghost use Rattle.dvs_base.specs.Checks.{IsUnlessMemory};
-ghost use Rattle.dvs_base.specs.declared.limits.TheConstants.{MOST_JOBS, MOST_TICKS};
+ghost use Rattle.dvs_base.specs.declared.limits.TheConstants.{MOST_JOBS, MOST_TASKS, MOST_TICKS};
 ghost use Rattle.task_model.specs.DemandRows.{DemandRow};
 ghost use Rattle.sched_model.specs.Plan.{count};
 ghost use Rattle.sched_model.specs.Jobs.{released_jobs};
@@ -29,7 +29,7 @@ use trace_reader::{Trace, has_task_lines};
 
 // The line of a note of a trace, counted from 1, by the note's place from 0.
 fn line_of(version: Version, tasks: u32, place: u64, note: &Note) -> u64
-    requires tasks { tasks ≤ 64 }
+    requires tasks { tasks ≤ MOST_TASKS }
     requires place { place < 2 ^ 63 }
     ensures { result ≡ line_of version tasks place note.now }
 {
@@ -42,7 +42,7 @@ fn line_of(version: Version, tasks: u32, place: u64, note: &Note) -> u64
 
 // The refusal of a trace at the first note of `rest`, its last notes: the schedule has `wanted` there.
 fn differs(tasks: u32, trace: &Trace, rest: &[Note], wanted: Note) -> ReplayFault
-    requires tasks { tasks ≤ 64 }
+    requires tasks { tasks ≤ MOST_TASKS }
     requires some { 0 < length rest.now }
     ensures { (found : NoteOf) (more : List NoteOf) → rest.now ≡ found ∷ more
         → result ≡ differs tasks trace.now (length trace.now.notes - length rest.now) wanted found }
