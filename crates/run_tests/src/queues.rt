@@ -34,6 +34,20 @@ fn equal_deadlines_go_by_the_task(rt: HostRuntime) -> Result<(), Fail> {
 }
 
 #[test]
+fn a_replaced_first_entry_goes_by_its_deadline(rt: HostRuntime) -> Result<(), Fail> {
+    let mut queue = Queue::new(rt.alloc(), 3, ByDue).map_err(|_| "memory")?;
+    queue.insert(entry(1, 10, 10));
+    queue.insert(entry(0, 8, 8));
+    queue.insert(entry(2, 20, 20));
+    queue.replace_first(entry(0, 16, 8));
+    assert_eq!(rt; queue.len(), 3);
+    for want in [entry(1, 10, 10), entry(0, 16, 8), entry(2, 20, 20)] {
+        assert_eq!(rt; queue.take_first(), Some(want));
+    }
+    Ok(())
+}
+
+#[test]
 fn shorter_periods_go_first(rt: HostRuntime) -> Result<(), Fail> {
     let mut queue = Queue::new(rt.alloc(), 6, ByPeriod).map_err(|_| "memory")?;
     queue.insert(entry(5, 30, 9));
