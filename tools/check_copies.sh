@@ -1,6 +1,6 @@
 # check_copies.sh: checks that what a page shows of a file is that file. A block shows a file whole where its fence
 # names the file, as ```rust crates/words/src/lib.rt. With the word `part` behind the name, each line of the block has to
-# be a line of the file. Of a crate of which a page shows one file whole, the page has to show each file so.
+# be a line of the file. Of a crate of which a page shows one file whole, the page has to show each file, whole or a part.
 cd "$(dirname "$0")/.." || exit 2
 exec awk '
 function fault(what) { print page ":" nr ": " what; faults++ }
@@ -16,9 +16,9 @@ function text_of(file,    line, text, status) {
 function check_block(    lines, n, i, file) {
     blocks++
     file = text_of(shown)
+    seen[page, shown] = 1
     if (!part) {
         if (text != file) fault("not the text of " shown)
-        whole[page, shown] = 1
         if (match(shown, /^crates\/[^\/]*\//)) crate[page, substr(shown, 1, RLENGTH - 1)] = 1
         return
     }
@@ -30,7 +30,7 @@ function check_crates(    key, parts, list, file) {
     for (key in crate) {
         split(key, parts, SUBSEP)
         list = "find " parts[2] " -name out -prune -o -type f -print"
-        while ((list | getline file) > 0) if (!((parts[1], file) in whole)) { print parts[1] ": lacks " file; faults++ }
+        while ((list | getline file) > 0) if (!((parts[1], file) in seen)) { print parts[1] ": lacks " file; faults++ }
         close(list)
     }
 }
