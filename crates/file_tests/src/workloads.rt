@@ -1,5 +1,6 @@
 // The workloads of worked seeds.
 ghost use Rattle.std.specs.Prelude.{◌≤◌};
+ghost use Rattle.dvs_base.specs.declared.limits.TheConstants.{MOST_TASKS};
 ghost use Rattle.demand_list.specs.Demands.{HasWorstsOf};
 
 use demand_list::Demands;
@@ -41,7 +42,7 @@ fn is_as_told(tasks: &TaskSet, demands: &Demands, task: u32, told: &Told) -> boo
 // Whether the workload of a seed has `count` tasks, and task `task` as expected.
 fn makes(alloc: Global, seed: u64, count: u32, task: u32, told: &Told) -> bool
     requires some { 1 ≤ count }
-    requires few { count ≤ 64 }
+    requires few { count ≤ MOST_TASKS }
 {
     match make(alloc, seed, count) {
         Ok((tasks, _, demands)) => {
