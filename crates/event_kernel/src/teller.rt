@@ -24,7 +24,6 @@ use trace_text::write_note;
 pub struct WriteFault;
 
 // Writes a note's line into `line`, puts it, and then tells the probes the note.
-#[inline(always)]
 fn tell_note<W: Sink, P: Probe>(
     note: &Note,
     names: &[Name],

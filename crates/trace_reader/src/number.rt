@@ -6,7 +6,7 @@ ghost use Rattle.dvs_base.specs.Text.{number_below, read_on};
 ghost use Rattle.trace_reader.specs.Fields.{starts_number};
 ghost use Rattle.trace_reader.specs.declared.number.TheConstants.{SAFE_DIGITS};
 
-/// So many digits spell a number below 2^64.
+/// Any number of this many digits is below 2^64.
 pub(crate) const SAFE_DIGITS: usize = 19;
 
 // The number that the digits spell, and None where a byte is no digit.

@@ -194,44 +194,37 @@ fn push_end(to: &mut Line, ticks: u64, run: u128, idle: u128)
     push_word(to, b"\n");
 }
 
-// Appends the line of a note, where `$name` is the name of the task `$task`.
-macro_rules! push_note {
-    ($to:expr, $note:expr, $task:ident => $name:expr) => {
-        match *$note {
-            Note::Release {
-                tick,
-                task: $task,
-                job,
-            } => push_release($to, tick, $name, job),
-            Note::Speed {
-                tick,
-                speed,
-                num,
-                den,
-            } => push_speed($to, tick, speed, num, den),
-            Note::Run {
-                from,
-                to,
-                task: $task,
-                job,
-                units,
-                energy,
-            } => push_run($to, Span { from, to }, $name, job, (units, energy)),
-            Note::Idle {
-                from,
-                to,
-                units,
-                energy,
-            } => push_idle($to, Span { from, to }, units, energy),
-            Note::Done {
-                at,
-                task: $task,
-                job,
-                used,
-            } => push_done($to, at, $name, job, used),
-            Note::End { ticks, run, idle } => push_end($to, ticks, run, idle),
-        }
-    };
+// Appends the line of a note, with its task's name.
+fn push_note(to: &mut Line, note: &Note, name: Option<&Name>)
+    requires empty { to.old ≡ [] }
+    ensures text { to.new ≡ line (fields_with (name_text (option_copied name.entry)) note.now) }
+    ensures most { length to.new ≤ 203 }
+{
+    match *note {
+        Note::Release { tick, job, .. } => push_release(to, tick, name, job),
+        Note::Speed {
+            tick,
+            speed,
+            num,
+            den,
+        } => push_speed(to, tick, speed, num, den),
+        Note::Run {
+            from,
+            to: until,
+            job,
+            units,
+            energy,
+            ..
+        } => push_run(to, Span { from, to: until }, name, job, (units, energy)),
+        Note::Idle {
+            from,
+            to: until,
+            units,
+            energy,
+        } => push_idle(to, Span { from, to: until }, units, energy),
+        Note::Done { at, job, used, .. } => push_done(to, at, name, job, used),
+        Note::End { ticks, run, idle } => push_end(to, ticks, run, idle),
+    }
 }
 
 /// Writes the line of a note, with its line feed, at most 203 bytes. The name of a task without one is empty.
@@ -240,7 +233,11 @@ pub fn write_note(line: &mut Line, note: &Note, names: &[Name])
     requires { line.old ≡ [] }
     ensures { line.new ≡ note_text names.now note.now }
 {
-    push_note!(line, note, task => names.get(task as usize))
+    let name = match note.task() {
+        Some(task) => names.get(task as usize),
+        None => None,
+    };
+    push_note(line, note, name);
 }
 
 /// The line of a note, with its line feed, and with this name for its task. It takes no memory.
@@ -249,6 +246,6 @@ pub fn note_line(note: &Note, name: Option<&Name>) -> Line
     ensures most { length result ≤ 203 }
 {
     let mut text = Line::new();
-    push_note!(&mut text, note, _task => name);
+    push_note(&mut text, note, name);
     text
 }

@@ -1,6 +1,6 @@
 use Rattle.std.proofs.Common.{◌<◌, length, sym, ◌∙◌, arith}
 use Rattle.probes.proofs.Lists.{stays-at, leaves-at}
-use Rattle.probes.proofs.list.tell_each.Goals as goal
+use Rattle.probes.proofs.list.tell_all.Goals as goal
 
 pub loop-at-preserved-in-Stay : goal.loop-at-preserved-in-Stay
 loop-at-preserved-in-Stay g c =
