@@ -10,12 +10,14 @@ use Rattle.task_model.specs.declared.task.Task.{Task}
 use Rattle.task_model.specs.Tasks.{IsTaskSet, task_at, no_task}
 use Rattle.task_model.specs.TaskFile.{place_of}
 
-module _ (tasks : List Task) (i : ℕ) (name : List ℕ) (known : IsTaskSet tasks) (lt : i < length tasks) (here : bytes_eq (task_at tasks i).name name ≡ true) where
+module _ (tasks : List Task) (i : ℕ) (name : List ℕ) (known : IsTaskSet tasks) (lt : i < length tasks)
+    (here : bytes_eq (task_at tasks i).name name ≡ true) where
   earlier : (k : ℕ) → k < i → bytes_eq (task_at tasks k).name name ≡ false
   earlier k less = by (bytes_eq (task_at tasks k).name name) refl
     where
       by : (b : Bool) → bytes_eq (task_at tasks k).name name ≡ b → b ≡ false
-      by true e = absurd (known.distinct k i less lt ((bytes_eq-Decides (task_at tasks k).name name).0 e ∙ sym ((bytes_eq-Decides (task_at tasks i).name name).0 here)))
+      by true e = absurd (known.distinct k i less lt
+          ((bytes_eq-Decides (task_at tasks k).name name).0 e ∙ sym ((bytes_eq-Decides (task_at tasks i).name name).0 here)))
       by false e = refl
 
   pub place_of-named : place_of tasks name ≡ Some i

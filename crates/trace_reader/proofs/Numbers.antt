@@ -37,7 +37,8 @@ spelled-digits (c ∷ []) h = rw h refl
 spelled-digits (c ∷ d ∷ cs) h = (and_parts _ (list_all is_ascii_digit (c ∷ d ∷ cs)) h).1
 
 -- a text is spelled where it can start a number and has digits alone
-spelled-by : {A : Type 0} (cs : List ℕ) (x y : A) → (if starts_number cs then (if list_all is_ascii_digit cs then x else y) else y) ≡ (if is_spelled cs then x else y)
+spelled-by : {A : Type 0} (cs : List ℕ) (x y : A)
+    → (if starts_number cs then (if list_all is_ascii_digit cs then x else y) else y) ≡ (if is_spelled cs then x else y)
 spelled-by [] x y = refl
 spelled-by (c ∷ []) x y = by (is_ascii_digit c)
   where
