@@ -1,7 +1,22 @@
--- Least energies with their certificates, by evaluation.
-use Rattle.std.proofs.Common.{◌≡◌, ℕ, true, false, [], ◌∷◌, Ok, Err, refl}
+-- Least energies with their certificates, and what is no bound on choices or on schedules, by evaluation.
+use Rattle.std.proofs.Common.{◌≡◌, ℕ, true, false, [], ◌∷◌, List, Ok, Err, refl, codes, arith}
+use Rattle.std.proofs.lemmas.List.Elements.{All-from_recursion}
+use Rattle.dvs_base.specs.declared.kind.Scheduler.TheVariants.{Edf}
+use Rattle.grid_fraction.specs.declared.Frac.{Frac}
 use Rattle.freq_table.specs.declared.machine.Point.{Point}
 use Rattle.freq_table.specs.Tables.{Table}
+use Rattle.sched_model.specs.Plan.{Plan}
+use Rattle.sched_model.specs.Jobs.{release, due, latest, worst_demand}
+use Rattle.sched_model.specs.Ticks.{Tick}
+use Rattle.sched_model.specs.Priority.{in_order}
+use Rattle.sched_model.specs.Schedule.{schedule_by}
+use Rattle.sched_model.specs.Notes.{notes_before_end, notes_of}
+use Rattle.sched_model.proofs.ScheduleLemmas.{schedule_exists}
+use Rattle.sched_model.proofs.Examples.{task_of}
+use Rattle.energy_bound.specs.declared.least.Least.{Least}
+use Rattle.energy_bound.specs.Choices.{Choice, IsChoice}
+use Rattle.energy_bound.specs.Bounds.{BoundsChoices}
+use Rattle.energy_bound.specs.Schedules.{energy_spent, BoundsSchedules}
 use Rattle.energy_bound.specs.FirstPairs.{least_energy_of}
 
 abbrev entry_of : ℕ → ℕ → Point
@@ -62,3 +77,69 @@ all_units = refl
 -- 65 units are more than speed 4 does in 16 ticks
 one_more : least_energy_of three_speeds 65 16 ≡ Err (record { num = 65; cap = 64 })
 one_more = refl
+
+-- two speeds, and idle units that cost nothing: a unit costs 1 at the first and 4 at the second, times 1000000000
+abbrev one_and_three : Table
+one_and_three = record { points = entry_of 1 1000 ∷ entry_of 3 2000 ∷ []; idle = 0; charge = 0 }
+
+abbrev choice : ℕ → ℕ → Choice
+choice entry units = record { entry = entry; units = units }
+
+-- a certificate for one repetition, at speed 3, with this energy
+abbrev at_once : ℕ → Least
+at_once energy = record {
+  rounds = 1;
+  low = 1;
+  low_ticks = 0;
+  high = 3;
+  high_ticks = 1;
+  energy = energy;
+  unit_price = 0;
+  tick_minus = false;
+  tick_price = 0;
+}
+
+-- each choice of one tick that does 2 units costs 8, but two ticks that do 4 units may cost 13, so 8 is no bound
+bound_of_one_repetition : BoundsChoices one_and_three 2 1 (at_once 8000000000) → ⊥
+bound_of_one_repetition bounds =
+    omega (arith, bounds 2 choices (All-from_recursion (IsChoice one_and_three) choices each) refl refl)
+  where
+    choices : List Choice
+    choices = choice 0 1 ∷ choice 1 3 ∷ []
+
+    each : IsChoice one_and_three (choice 0 1) × (IsChoice one_and_three (choice 1 3) × Unit {0})
+    each = (
+      record { entry = omega arith; units = omega arith },
+      (record { entry = omega arith; units = omega arith }, tt),
+    )
+
+-- 3 units in a tick cost 12 at speed 3, so one more is no bound
+one_above_a_choice : BoundsChoices one_and_three 3 1 (at_once 12000000001) → ⊥
+one_above_a_choice bounds =
+    omega (arith, bounds 1 choices (All-from_recursion (IsChoice one_and_three) choices each) refl refl)
+  where
+    choices : List Choice
+    choices = choice 1 3 ∷ []
+
+    each : IsChoice one_and_three (choice 1 3) × Unit {0}
+    each = (record { entry = omega arith; units = omega arith }, tt)
+
+-- one task on that machine, which needs 2 units in each tick
+abbrev two_a_tick : Plan
+two_a_tick = record { tasks = task_of (codes "a") 1 2 ∷ []; machine = one_and_three; scheduler = Edf }
+
+-- the published demand is the highest speed
+abbrev highest : List Tick → Frac
+highest past = record { num = 3; den = 1 }
+
+abbrev one_tick : List Tick
+one_tick = schedule_by two_a_tick (worst_demand two_a_tick) highest 1
+
+-- its schedule of one tick runs 2 units at speed 3, which cost 8, so one more is no bound
+one_above_a_schedule : BoundsSchedules one_and_three 2 1 (at_once 8000000001) → ⊥
+unfolding schedule_by release due latest in_order notes_before_end
+one_above_a_schedule bounds =
+    let dem = worst_demand two_a_tick in
+    let exists = schedule_exists two_a_tick dem highest 1 in
+    let spent : energy_spent (notes_of two_a_tick dem highest one_tick) ≡ 8000000000 = refl in
+    omega (arith, bounds two_a_tick dem highest one_tick refl exists.0 exists.1 refl, spent)

@@ -1,5 +1,5 @@
 -- The numbers of each governor's published demand are far below their limits.
-use Rattle.std.proofs.Common.{◌≡◌, ℕ, ◌+◌, ◌-◌, ◌*◌, ◌/◌, ◌<◌, ◌≤◌, ◌^◌, Bool, true, false, List, [], ◌∷◌, length, refl, arith, if◌then◌else◌, mul-le-mul_right}
+use Rattle.std.proofs.Common.{ℕ, ◌+◌, ◌-◌, ◌*◌, ◌/◌, ◌<◌, ◌≤◌, ◌^◌, List, [], ◌∷◌, length, arith, mul-le-mul_right}
 use Rattle.std.proofs.Math.Nat.{mul-le-mul}
 use Rattle.dvs_base.specs.declared.kind.Scheduler.{Scheduler}
 use Rattle.dvs_base.specs.declared.kind.Scheduler.TheVariants.{Edf, Rm}
@@ -17,11 +17,11 @@ use Rattle.freq_table.specs.Tables.{speed_at, lowest_entry}
 use Rattle.freq_table.proofs.Chosen.{lowest_within}
 use Rattle.sched_model.specs.Plan.{Plan, count, period, worst, hyper, rate, top_speed}
 use Rattle.sched_model.specs.Jobs.{JobDemands, latest, deadline, earliest, last_release, IsWithin}
-use Rattle.sched_model.specs.Ticks.{Tick, exec, is_complete, wleft}
+use Rattle.sched_model.specs.Ticks.{Tick, wleft}
 use Rattle.sched_model.specs.Priority.{in_order}
 use Rattle.sched_model.specs.Tests.{IsEdfFeasible, IsRmFeasible, total_rate}
 use Rattle.sched_model.specs.StaticDemand.{heaviest, full_demand, static_speed, rm_static}
-use Rattle.sched_model.specs.CycleDemand.{rate_for, charged, SinceRelease, units_at_mark, allotted_of, allotment_left_of, since_release, edf_cycle, rm_cycle}
+use Rattle.sched_model.specs.CycleDemand.{rate_for, charged, SinceRelease, units_at_mark, allotment_left_of, since_release, edf_cycle, rm_cycle}
 use Rattle.sched_model.specs.AheadDemand.{due_first, edf_ahead}
 use Rattle.sched_model.specs.Demand.{demand_by, published}
 use Rattle.sched_model.specs.Admission.{IsAdmitted, PassesTest}

@@ -1,5 +1,5 @@
 -- The notes of a schedule say once that a job completes, when it has had its demand, and not after its deadline.
-use Rattle.std.proofs.Common.{◌≡◌, ◌≢◌, ℕ, suc, ◌+◌, ◌-◌, ◌*◌, ◌/◌, ◌%◌, ◌<◌, ◌≤◌, Bool, true, false, ◌&&◌, List, [], ◌∷◌, length, refl, arith, if◌then◌else◌, ap, ◌∙◌, true≢false, inl, inr, nat_eq, nat_lt, div-add-mod', mul-le-mul_right}
+use Rattle.std.proofs.Common.{◌≡◌, ℕ, suc, ◌+◌, ◌-◌, ◌*◌, ◌/◌, ◌%◌, ◌<◌, ◌≤◌, Bool, true, false, ◌&&◌, List, [], ◌∷◌, length, refl, arith, if◌then◌else◌, ap, ◌∙◌, true≢false, inl, inr, nat_eq, nat_lt, div-add-mod', mul-le-mul_right}
 use Rattle.std.specs.Prelude.{count_by, cond}
 use Rattle.std.specs.List.{AllByRecursion}
 use Rattle.std.proofs.Math.Nat.{le_of_mul-le-mul_right}

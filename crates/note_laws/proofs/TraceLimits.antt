@@ -1,10 +1,10 @@
 -- The numbers of the notes of a run fit in their types, and the trace of a run is within the limits of traces.
-use Rattle.std.proofs.Common.{ℕ, ◌+◌, ◌-◌, ◌*◌, ◌<◌, ◌≤◌, ◌^◌, List, ◌∷◌, length, arith, ◌≡◌, Bool, true, false, [], ◌++◌, if◌then◌else◌, ap, sym, subst, nat_eq, mul-le-mul_right, length-append}
+use Rattle.std.proofs.Common.{ℕ, ◌+◌, ◌-◌, ◌*◌, ◌<◌, ◌≤◌, ◌^◌, List, ◌∷◌, length, arith, ◌≡◌, [], ◌++◌, ap, sym, subst, mul-le-mul_right, length-append}
 use Rattle.std.specs.List.{AllByRecursion}
 use Rattle.std.proofs.Math.Nat.{mul-le-mul, div-le_self, mod-le}
 use Rattle.dvs_base.specs.declared.limits.TheConstants.{MOST_TICKS, MOST_LINES, MOST_TASKS}
 use Rattle.dvs_base.specs.declared.note.Note.{Note}
-use Rattle.freq_table.specs.declared.limits.TheConstants.{TOP_SPEED, MOST_MILLIVOLTS, MOST_IDLE}
+use Rattle.freq_table.specs.declared.limits.TheConstants.{TOP_SPEED, MOST_MILLIVOLTS}
 use Rattle.sched_model.specs.declared.holder.Holder.TheVariants.{Held}
 use Rattle.sched_model.specs.Plan.{Plan, count, point, names, task, period, offset}
 use Rattle.sched_model.specs.Jobs.{JobDemands, latest, IsWithin, released_jobs}
@@ -31,7 +31,7 @@ use Rattle.sched_model.specs.Demand.{published}
 use Rattle.sched_model.proofs.ScheduleLemmas.{length-list_below, schedule_exists}
 use Rattle.trace_text.proofs.PlainLines.{each-append}
 use Rattle.dvs_base.specs.NoteTasks.{energy_of_task}
-use Rattle.trace_reader.specs.TraceText.{task_text, task_energy, has_task_lines}
+use Rattle.trace_reader.specs.TraceText.{task_text, task_energy}
 use Rattle.note_laws.specs.RunText.{task_texts}
 use Rattle.sched_model.proofs.Units.{each-weaker}
 use Rattle.note_laws.proofs.OneEnd.{schedule-ended}

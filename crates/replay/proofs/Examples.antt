@@ -1,18 +1,26 @@
--- Refusals of replays, and the lines of first differences, by evaluation.
-use Rattle.std.proofs.Common.{◌≡◌, ℕ, List, [], ◌∷◌, Ok, Err, refl}
+-- Refusals of replays, the lines of first differences, and a schedule that has a text, by evaluation.
+use Rattle.std.proofs.Common.{◌≡◌, ◌<◌, ◌≤◌, ℕ, zero, suc, nat_eq, false, true≢false, List, [], ◌∷◌, Ok, Err, refl, sym, subst, arith}
+use Rattle.std.proofs.lemmas.Bool.Decides.{nat_tests}
 use Rattle.dvs_base.specs.declared.kind.Scheduler.TheVariants.{Edf}
 use Rattle.dvs_base.specs.declared.kind.GovernorKind.TheVariants.{Plain}
 use Rattle.dvs_base.specs.declared.kind.Version.{Version}
 use Rattle.dvs_base.specs.declared.kind.Version.TheVariants.{One, Two}
 use Rattle.dvs_base.specs.declared.note.Note.{Note}
-use Rattle.dvs_base.specs.declared.note.Note.TheVariants.{Release, Idle, Done, End}
+use Rattle.dvs_base.specs.declared.note.Note.TheVariants.{Release, Speed, Run, Idle, Done, End}
 use Rattle.dvs_base.specs.declared.note.Pos.{Pos}
-use Rattle.sched_model.specs.Plan.{Plan, plan_of}
-use Rattle.trace_reader.specs.Traces.{TraceOf}
-use Rattle.replay_laws.specs.OwnList.{Asking}
+use Rattle.task_model.specs.DemandRows.{DemandRow}
+use Rattle.sched_model.specs.Plan.{Plan, plan_of, names, worst}
+use Rattle.sched_model.specs.Jobs.{JobDemands, release, due, latest, demand_of}
+use Rattle.sched_model.specs.Priority.{in_order}
+use Rattle.sched_model.specs.Schedule.{schedule_by}
+use Rattle.sched_model.specs.Notes.{notes_before_end}
+use Rattle.trace_reader.specs.Traces.{TraceOf, IsTrace}
+use Rattle.note_laws.specs.RunText.{task_texts}
+use Rattle.replay_laws.specs.OwnList.{Asking, notes_by}
 use Rattle.replay.specs.declared.fault.ReplayFault.TheVariants.{OverWorst, TooManyJobs, Differs}
 use Rattle.replay.specs.Comparing.{compared}
 use Rattle.replay.specs.Replays.{replay_of}
+use Rattle.replay.specs.SameTexts.{HasTextFor}
 
 -- a trace of a number of ticks with these notes
 abbrev trace_over : ℕ → Version → List Note → TraceOf
@@ -78,3 +86,58 @@ jobs_next :
     (asked : Asking)
     → replay_of at_each_tick asked (trace_over 100001 One (done_with 4 ∷ [])) ≡ Err (TooManyJobs 100001)
 jobs_next asked = refl
+
+-- the highest speed as published demand
+abbrev highest : Asking
+highest dem past = record { num = 8; den = 1 }
+
+-- a list by which the first job needs 1 unit with twice the charge of 1, and each other job its worst case
+abbrev one_row : List DemandRow
+one_row = record { task = 0; job = 1; units = 1 } ∷ []
+
+abbrev short_first : JobDemands
+short_first = demand_of at_each_tick one_row
+
+-- the notes of the schedule of one tick for this list
+abbrev short_notes : List Note
+short_notes =
+    first
+    ∷ Speed 0 8 8 1
+    ∷ Run (at_tick 0) (record { tick = 0; offset = 3 }) 0 1 3 3000000000
+    ∷ done_with 3
+    ∷ Idle (record { tick = 0; offset = 3 }) (at_tick 1) 5 0
+    ∷ End 1 3000000000 0
+    ∷ []
+
+short_schedule : notes_by at_each_tick highest short_first 1 ≡ short_notes
+unfolding schedule_by release due latest in_order notes_before_end
+short_schedule = refl
+
+-- the trace of these notes has a text
+short_trace : IsTrace (names at_each_tick) (task_texts at_each_tick) (trace_over 1 One short_notes)
+short_trace = record {
+  pair = refl;
+  some_ticks = omega arith;
+  low_ticks = omega arith;
+  each = (omega arith, (omega arith, (omega arith, (omega arith, (omega arith, (omega arith, tt))))));
+  ended = (refl, (refl, (refl, (refl, (refl, refl)))));
+  shares = λ lines. absurd (true≢false (sym lines));
+  lines = omega arith;
+}
+
+-- so the schedule for this list has a text: its first job needs less than the worst case, and each other job as much
+has_text : HasTextFor One at_each_tick highest Plain 1 one_row
+has_text = record {
+  within = record { most = most; none = λ i. refl };
+  trace =
+      subst (λ (notes : List Note). IsTrace (names at_each_tick) (task_texts at_each_tick) (trace_over 1 One notes))
+      (sym short_schedule) short_trace;
+}
+  where
+    most : (i k : ℕ) → i < 1 → short_first i k ≤ worst at_each_tick i
+    most zero zero lt = omega arith
+    most zero (suc zero) lt = omega arith
+    most zero (suc (suc k)) lt =
+        let later : nat_eq 1 (suc (suc k)) ≡ false = grind (arith, nat_tests) in
+        rw later (omega arith)
+    most (suc i) k lt = omega (arith, lt)

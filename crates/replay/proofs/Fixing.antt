@@ -6,7 +6,7 @@ use Rattle.std.specs.List.{AllByRecursion}
 use Rattle.std.proofs.Math.Seq.{drop-cons}
 use Rattle.std.proofs.lemmas.Bool.Decides.{nat_tests}
 use Rattle.dvs_base.specs.declared.note.Note.{Note}
-use Rattle.dvs_base.specs.declared.note.Note.TheVariants.{Release, Speed, Run, Idle, Done, End}
+use Rattle.dvs_base.specs.declared.note.Note.TheVariants.{Done}
 use Rattle.dvs_base.proofs.Options.{or-none, or-assoc}
 use Rattle.task_model.specs.DemandRows.{DemandRow, named}
 use Rattle.demand_list.specs.Demands.{DemandsOf}

@@ -5,7 +5,7 @@ use Rattle.std.specs.List.{AllByRecursion, AllPairs}
 use Rattle.dvs_base.specs.declared.note.Note.{Note}
 use Rattle.task_model.specs.declared.task.Task.{Task}
 use Rattle.task_model.specs.Tasks.{task_at, IsTask, IsTaskSet}
-use Rattle.dvs_base.specs.declared.note.Note.TheVariants.{Release, Speed, Run, Idle, Done, End}
+use Rattle.dvs_base.specs.declared.note.Note.TheVariants.{Release, Run, Done}
 use Rattle.trace_reader.specs.Traces.{IsNoteOf}
 use Rattle.trace_reader.proofs.LineTexts.{AreNames}
 use Rattle.replay.specs.Replays.{NamesTask}
