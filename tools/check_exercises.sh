@@ -5,7 +5,7 @@ case ${1:?no program} in
 *) program=$PWD/$1 ;;
 esac
 [ -x "$program" ] || { echo "no program: $program"; exit 2; }
-[ -n "$(command -v python3)" ] || { echo 'check_exercises: skipped, no python3'; exit 0; }
+[ -n "$(command -v python3)" ] || { echo 'exercises: skipped, no python3'; exit 0; }
 top=$(cd "$(dirname "$0")/.." && pwd)
 work=$(mktemp -d) || exit 2
 trap 'rm -r "$work"' EXIT
@@ -27,8 +27,8 @@ while IFS= read -r line; do
     esac
 done < wanted > found
 if diff wanted found; then
-    echo "check_exercises: $calls calls, 0 differ"
+    echo "exercises: $calls calls, 0 differ"
 else
-    echo "check_exercises: $calls calls, wanted lines are marked <, found lines >"
+    echo "exercises: $calls calls, wanted lines are marked <, found lines >"
     exit 1
 fi

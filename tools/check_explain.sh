@@ -6,7 +6,7 @@ case ${1:?no program} in
 *) program=$PWD/$1 ;;
 esac
 [ -x "$program" ] || { echo "no program: $program"; exit 2; }
-[ -n "$(command -v python3)" ] || { echo 'check_explain: skipped, no python3'; exit 0; }
+[ -n "$(command -v python3)" ] || { echo 'explain: skipped, no python3'; exit 0; }
 top=$(cd "$(dirname "$0")/.." && pwd)
 work=$(mktemp -d) || exit 2
 trap 'rm -r "$work"' EXIT

@@ -356,7 +356,7 @@ def main():
     altered_by_hand()
     for seed in range(SETS):
         random_runs(seed)
-    print("check_explain:", ", ".join(f"{count} {what}" for what, count in counts.items()))
+    print("explain:", ", ".join(f"{count} {what}" for what, count in counts.items()))
     return counts["differ"] > 0
 
 
