@@ -1,5 +1,6 @@
 -- What each call makes of the kept rates and their sum.
 use Rattle.std.proofs.Common.{◌≡◌, ◌≢◌, ℕ, ◌+◌, ◌-◌, ◌*◌, ◌/◌, ◌<◌, ◌≤◌, ◌^◌, true, false, List, length, length-set, get_or-set_same, get_or-set_other, refl, sym, ◌∙◌, ap, subst, arith, ◌⊎◌, inl, inr}
+use Rattle.freq_table.specs.declared.limits.TheConstants.{TOP_SPEED}
 use Rattle.std.specs.Prelude.{slice_set, slice_index}
 use Rattle.std.proofs.Math.Nat.{mul-le-mul_right}
 use Rattle.std.proofs.Math.ListN.{replicate, get_or-replicate, length-replicate}
@@ -22,11 +23,11 @@ use Rattle.governor.proofs.Fits.{full_enough}
 use Rattle.cc_edf_laws.proofs.CycleLaws.{cycle_within}
 
 -- the work that the highest speed does in H ticks fits well into 128 bits
-work_low : (plan : Plan) → IsAdmitted plan → top_speed plan * hyper plan ≤ 1000000 * 2 ^ 48
+work_low : (plan : Plan) → IsAdmitted plan → top_speed plan * hyper plan ≤ TOP_SPEED * 2 ^ 48
 work_low plan adm =
     let machine = adm.limits.machine in
-    let speed : top_speed plan ≤ 1000000 = (machine.each (last_entry plan.machine) (let some = machine.some in omega arith)).low_speed in
-    mul-le (top_speed plan) (hyper plan) 1000000 (2 ^ 48) speed (low_hyper plan adm.limits)
+    let speed : top_speed plan ≤ TOP_SPEED = (machine.each (last_entry plan.machine) (let some = machine.some in omega arith)).low_speed in
+    mul-le (top_speed plan) (hyper plan) TOP_SPEED (2 ^ 48) speed (low_hyper plan adm.limits)
 
 -- the row of task i is replaced by another row
 module _ (plan : Plan) (s : StateOf) (of : IsOfPlan plan s) (rates : List ℕ) (sum : ℕ) (counts : Counts rates sum plan s) (i : ℕ) (h : i < count plan) where

@@ -22,11 +22,6 @@ pub fn put_two<W: Sink>(first: &Line, second: &Line, out: &mut W) -> Result<(), 
     requires second { 0 < length second.now }
     ensures { WritesText (W.shows out.old) (W.shows out.new) (first.now ++ second.now) result }
 {
-    match put_line(first, out) {
-        Ok(()) => match put_line(second, out) {
-            Ok(()) => Ok(()),
-            Err(Failed) => Err(Failed),
-        },
-        Err(Failed) => Err(Failed),
-    }
+    put_line(first, out)?;
+    put_line(second, out)
 }

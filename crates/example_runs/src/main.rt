@@ -5,7 +5,7 @@
 #![tactic(auto)]
 
 use dvs_base::{HostShelf, HostSink, Shelf};
-use probes::{CountProbe, Probe, Rule, TableProbe, What};
+use probes::{Probe, ProgramProbes};
 use rtdvs_top::rtdvs;
 use std::alloc::AllocError;
 use std::process::ExitCode;
@@ -18,18 +18,6 @@ const NO_MEMORY: u8 = 9;
 
 // The most bytes of the list of calls.
 const MOST: u64 = 65536;
-
-// The probe of completions leaves at this tally.
-const MOST_DONES: u64 = 50000;
-
-// What a probe of all tasks counts, and at which tally it leaves, if at any.
-fn of_all_tasks(what: What, limit: Option<u64>) -> Rule {
-    Rule {
-        what,
-        task: None,
-        limit,
-    }
-}
 
 // The words of a line.
 fn words_of(rt: &impl AllocGlobal, line: &str) -> Result<Vec<String>, AllocError> {
@@ -45,9 +33,11 @@ fn words_of(rt: &impl AllocGlobal, line: &str) -> Result<Vec<String>, AllocError
 fn call(rt: &HostRuntime, line: &str) -> Result<u8, AllocError> {
     let alloc = rt.alloc();
     let words = words_of(rt, line)?;
-    let speeds = CountProbe::new(of_all_tasks(What::Speeds, None));
-    let units = TableProbe::new(of_all_tasks(What::Units, None));
-    let dones = CountProbe::new(of_all_tasks(What::Dones, Some(MOST_DONES)));
+    let ProgramProbes {
+        speeds,
+        units,
+        dones,
+    } = ProgramProbes::new();
     let mut probes: Vec<Box<dyn Probe>> = Vec::new(alloc);
     probes.push(Box::new(alloc, speeds)?)?;
     probes.push(Box::new(alloc, units)?)?;

@@ -165,10 +165,8 @@ fn read_table(alloc: Global, table: &Table) -> Result<Machine, MachineFault>
     }
     let idle = read_setting(MachineField::Idle, "idle", MOST_IDLE, table)?;
     let charge = read_setting(MachineField::Charge, "charge", MOST_CHARGE, table)?;
-    match read_points(alloc, table) {
-        Ok(points) => Ok(Machine::from_points(points, idle, charge)),
-        Err(fault) => Err(fault),
-    }
+    let points = read_points(alloc, table)?;
+    Ok(Machine::from_points(points, idle, charge))
 }
 
 impl Machine {

@@ -1,5 +1,6 @@
 -- A span has few notes, a schedule has few compared with its released jobs, and no sum of energies is large.
 use Rattle.std.proofs.Common.{◌≡◌, ℕ, ◌+◌, ◌-◌, ◌*◌, ◌<◌, ◌≤◌, ◌&&◌, List, [], ◌∷◌, length, refl, arith, ap, subst, nat_eq, length-append, zero, suc, Bool, true, false, ◌∙◌, sym, ◌++◌}
+use Rattle.freq_table.specs.declared.limits.TheConstants.{TOP_SPEED}
 use Rattle.std.specs.Prelude.{sum_by, count_by, cond}
 use Rattle.std.specs.List.{AllByRecursion}
 use Rattle.std.proofs.lemmas.List.Sums.{sum_by-cons}
@@ -83,7 +84,7 @@ module _ (p : Plan) (lim : IsWithinLimits p) (dem : JobDemands) (needless : (i :
 
   low-energy : (ticks : List Tick) → IsScheduleBy p dem ask ticks
       → sum_by energy_run (notes_before_end p dem ask ticks) + sum_by energy_idle (notes_before_end p dem ask ticks)
-      ≤ most_unit_energy * (1000000 * length ticks)
+      ≤ most_unit_energy * (TOP_SPEED * length ticks)
   low-energy [] h = omega (arith, none-sum p dem ask energy_run, none-sum p dem ask energy_idle)
   low-energy (x ∷ past) h =
       let (s, l) = last-span p dem ask x past h in
@@ -124,12 +125,12 @@ module _ (p : Plan) (lim : IsWithinLimits p) (dem : JobDemands) (needless : (i :
         last-fits x past s (spans_of p dem s.past) h l.spans,
       )
 
-  -- the notes of these ticks are of the plan's tasks, few, and with at most the energy of 1000000 units for each tick
+  -- the notes of these ticks are of the plan's tasks, few, and with at most the energy of `TOP_SPEED` units for each tick
   pub record AllFit (ticks : List Tick) : Type 0 where
     pub each : AllByRecursion (IsNoteIn p) (notes_before_end p dem ask ticks)
     pub few : length (notes_before_end p dem ask ticks) ≤ span_most * length ticks
     pub low : sum_by energy_run (notes_before_end p dem ask ticks) + sum_by energy_idle (notes_before_end p dem ask ticks)
-        ≤ most_unit_energy * (1000000 * length ticks)
+        ≤ most_unit_energy * (TOP_SPEED * length ticks)
 
   pub ticks-fit : (ticks : List Tick) → IsScheduleBy p dem ask ticks → AllFit ticks
   ticks-fit ticks h = record {

@@ -12,7 +12,6 @@ ghost use Rattle.demand_list.specs.Demands.{HasWorstsOf};
 
 use crate::PlainTick;
 use crate::jobs::{earliest, last_release, latest};
-use crate::published::static_demand;
 use crate::service::{demand, exec, is_complete, wleft, worst};
 use crate::sharing::stands_before;
 use crate::tick::{now, until};
@@ -72,7 +71,7 @@ fn static_speed(plan: &Admitted) -> u64
     requires { plan.now.scheduler ≡ Rm }
     ensures { result ≡ static_speed plan.now }
 {
-    let pick = plan.machine().lowest(static_demand(plan));
+    let pick = plan.machine().lowest(plan.static_demand());
     plan.machine().point(pick.index).speed
 }
 

@@ -2,7 +2,7 @@
 ghost use Rattle.std.specs.Prelude.{◌≡◌, ◌≤◌, reverse, IfOk};
 ghost use Rattle.dvs_base.specs.Widths.{u64_end};
 ghost use Rattle.dvs_base.specs.declared.kind.GovernorKind.TheVariants.{Cycle, Ahead};
-ghost use Rattle.sched_model.specs.StaticDemand.{full_demand, static_demand};
+ghost use Rattle.sched_model.specs.StaticDemand.{full_demand};
 ghost use Rattle.sched_model.specs.Demand.{demand_by, published};
 ghost use Rattle.sched_model.specs.Jobs.{demand_of};
 ghost use Rattle.demand_list.specs.Demands.{HasWorstsOf};
@@ -24,15 +24,6 @@ fn full_demand(plan: &Admitted) -> Frac
         num: u128::from(plan.machine().top()),
         den: 1,
     }
-}
-
-/// The demand of static scaling.
-pub(crate) fn static_demand(plan: &Admitted) -> Frac
-    ensures value { result ≡ static_demand plan.now }
-    ensures some_den { 1 ≤ result.den }
-    ensures low_den { result.den ≤ u64_end }
-{
-    plan.static_demand()
 }
 
 // The demand of cycle conservation, under EDF or RM.
@@ -85,7 +76,7 @@ pub(crate) fn published(
 {
     match governor {
         GovernorKind::Plain => Ok(full_demand(plan)),
-        GovernorKind::Fixed => Ok(static_demand(plan)),
+        GovernorKind::Fixed => Ok(plan.static_demand()),
         GovernorKind::Cycle => Ok(cycle_demand(plan, demands, past)),
         GovernorKind::Ahead => ahead_demand(alloc, plan, demands, past),
     }

@@ -14,7 +14,7 @@ pub beside-some : (p : Plan) (work k : ℕ) → 0 < spare p k
     → ticks_beside p work k ≡ ceil_div (work * hyper p) (spare p k)
 beside-some p work k some = let e : nat_eq (spare p k) 0 ≡ false = grind (arith, nat_tests) in rw e refl
 
--- from t ticks on, fewer ticks than the rest of the work of t ticks takes don't serve
+-- from t ticks on, no fewer ticks than the remaining work of t ticks takes are enough
 pub unserved-rest : (p : Plan) → IsWithinLimits p → (i k : ℕ) → i < count p → k < count p
     → is_up_to (period p) i k ≡ true → (t : ℕ) → IsUnservedFrom p i t (ticks_beside p (rest_work p t k i) k)
 unserved-rest p lim i k hi hk on t = go (nat_eq (spare p k) 0) refl

@@ -1,5 +1,4 @@
--- The static demand under RM is the share of a task's level, and no level asks for a greater one.
--- The denominator of the static demand.
+-- The static demand under RM is the greatest share of a level, and its denominator is 1 to 2^64.
 use Rattle.std.proofs.Common.{◌≡◌, ℕ, zero, suc, ◌+◌, ◌-◌, ◌*◌, ◌^◌, ◌<◌, ◌≤◌, Bool, true, false, ◌||◌, ◌&&◌, refl, arith, sym, subst, nat_eq, add-one}
 use Rattle.std.specs.Prelude.{nat_lt}
 use Rattle.std.proofs.lemmas.Bool.Decides.{nat_tests}

@@ -157,10 +157,8 @@ fn read_array(alloc: Global, entries: &[Value]) -> Result<TaskSet, TaskFault>
             count: entries.len() as u64,
         });
     }
-    match read_entries(alloc, entries) {
-        Ok(tasks) => set_of(alloc, tasks),
-        Err(fault) => Err(fault),
-    }
+    let tasks = read_entries(alloc, entries)?;
+    set_of(alloc, tasks)
 }
 
 fn read_table(alloc: Global, table: &Table) -> Result<TaskSet, TaskFault>

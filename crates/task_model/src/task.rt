@@ -70,11 +70,8 @@ impl TaskSet {
         requires few { vec_len tasks ≤ MOST_TASKS }
         ensures { IfOk result (λ s. s ≡ where_within LONGEST_HYPERPERIOD (hyper_of tasks.items) tasks.items) }
     {
-        match hyper_within(alloc, &tasks) {
-            Ok(Some(hyper)) => Ok(Some(TaskSet { tasks, hyper })),
-            Ok(None) => Ok(None),
-            Err(e) => Err(e),
-        }
+        let hyper = hyper_within(alloc, &tasks)?;
+        Ok(hyper.map(|hyper| TaskSet { tasks, hyper }))
     }
 
     /// The set of these tasks, in this order. It fails only where memory runs out.
@@ -86,10 +83,8 @@ impl TaskSet {
             Ok(kept) => kept,
             Err(_) => return Err(NoMemory),
         };
-        match TaskSet::within(alloc, kept) {
-            Ok(set) => Ok(set.unwrap()),
-            Err(e) => Err(e),
-        }
+        let set = TaskSet::within(alloc, kept)?;
+        Ok(set.unwrap())
     }
 
     /// How many tasks there are, 1 to 64.

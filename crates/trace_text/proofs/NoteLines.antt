@@ -14,7 +14,7 @@ use Rattle.dvs_base.specs.Parts.{position_text, fraction_text, name_of}
 use Rattle.trace_text.specs.TraceLines.{scheduler_word, governor_word, line, done_fields, fields_of, note_text}
 use Rattle.trace_text.proofs.PlainLines.{IsPlain, ArePlain, each-append, plain-decimal, field-same}
 
--- a byte that is neither a space nor a line feed
+-- whether a byte is neither a space nor a line feed
 abbrev plain_byte : ℕ → Bool
 plain_byte b = not (nat_eq b 32) && not (nat_eq b 10)
 

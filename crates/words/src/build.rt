@@ -41,19 +41,17 @@ fn planned<'a>(given: Given<'a>) -> Result<Command<'a>, WordFault>
 {
     let tasks = need(given.tasks, Opt::Tasks)?;
     let machine = need(given.machine, Opt::Machine)?;
-    match timed_of(given) {
-        Ok(timed) => Ok(Command::Run {
-            tasks,
-            machine,
-            demands: given.demands,
-            scheduler: timed.scheduler,
-            governor: timed.governor,
-            ticks: timed.ticks.number,
-            probes: given.probes.is_some(),
-            version: given.format.unwrap_or(Version::One),
-        }),
-        Err(fault) => Err(fault),
-    }
+    let timed = timed_of(given)?;
+    Ok(Command::Run {
+        tasks,
+        machine,
+        demands: given.demands,
+        scheduler: timed.scheduler,
+        governor: timed.governor,
+        ticks: timed.ticks.number,
+        probes: given.probes.is_some(),
+        version: given.format.unwrap_or(Version::One),
+    })
 }
 
 // The `poll` command, from the values that were given.
@@ -65,18 +63,16 @@ fn polled<'a>(given: Given<'a>) -> Result<Command<'a>, WordFault>
     let machine = need(given.machine, Opt::Machine)?;
     let requests = need(given.requests, Opt::Requests)?;
     let server = need(given.server, Opt::Server)?;
-    match timed_of(given) {
-        Ok(timed) => Ok(Command::Poll {
-            tasks,
-            machine,
-            requests,
-            server,
-            scheduler: timed.scheduler,
-            governor: timed.governor,
-            ticks: timed.ticks.number,
-        }),
-        Err(fault) => Err(fault),
-    }
+    let timed = timed_of(given)?;
+    Ok(Command::Poll {
+        tasks,
+        machine,
+        requests,
+        server,
+        scheduler: timed.scheduler,
+        governor: timed.governor,
+        ticks: timed.ticks.number,
+    })
 }
 
 // The `admit` command, from the values that were given.

@@ -104,10 +104,7 @@ fn read_options<'a>(verb: Verb, words: &'a [String]) -> Result<Command<'a>, Word
     let mut place = 1;
     for word in words {
         place += 1;
-        reading = match word_at(verb, reading, place, word.as_str()) {
-            Ok(reading) => reading,
-            Err(fault) => return Err(fault),
-        };
+        reading = word_at(verb, reading, place, word.as_str())?;
     }
     ended(verb, reading, place)
 }

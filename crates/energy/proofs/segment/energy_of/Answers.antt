@@ -1,4 +1,5 @@
 use Rattle.std.proofs.Common.{◌*◌, ◌≤◌, Bool, true, false, arith, mul-le-mul_left, sym, subst, ap}
+use Rattle.freq_table.specs.declared.limits.TheConstants.{MOST_MILLIVOLTS}
 use Rattle.freq_table.specs.Tables.{Table, IsTable}
 use Rattle.sched_model.proofs.Limits.{energy-most}
 use Rattle.energy.specs.Segments.{thousandths}
@@ -11,7 +12,7 @@ low_thousandths m table false = omega arith
 pub returns-clause-most : goal.returns-clause-most
 returns-clause-most c =
     let m = c.point-millivolts.result.millivolts in
-    let mv : m ≤ 20000 = omega (
+    let mv : m ≤ MOST_MILLIVOLTS = omega (
       arith,
       (c.as_slice-entries.ensures.limits.each c.args.point c.requires.point).low_millivolts,
       ap (λ p. p.millivolts) c.point-millivolts.ensures,
