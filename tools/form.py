@@ -1,0 +1,132 @@
+#!/usr/bin/env python3
+"""Counts of the code's form, with the places of each: run it at the top of the repository.
+
+    python3 tools/form.py [WORD]
+
+WORD is one of the counts, and then its places are printed too:
+relations   definitions of rtdvs_top's specs that are relations: their type ends in `Type 0`, or a record has parameters
+positions   citations of an invariant's part by its place (`invariant.0`), and invariants of three or more parts
+            that are no records
+mutual      pairs of source files of one crate that name each other
+idle        matches that only hand an error or nothing on, and `let x = f()?; Ok(x)`
+limits      numbers of a limit in code, definitions or proofs, outside tests and `limits.rt`
+"""
+import collections
+import pathlib
+import re
+import sys
+
+CRATES = pathlib.Path("crates")
+TESTS = {"test_inputs", "text_tests", "trace_tests", "file_tests", "model_tests", "run_tests", "call_tests", "kernel_tests",
+         "program_rows", "worked_rows", "stored_calls", "example_runs"}
+LIMITS = r"(?<![\w.#])(?:64|800_?00[01]|1_?000_?000|20_?000|100_?000|1099511627776|16777216|281474976710656)(?![\w.])"
+
+
+def files(kind, ending):
+    return sorted(p for p in CRATES.glob(f"*/{kind}/**/*{ending}"))
+
+
+def place(path, text, at):
+    return f"{path}:{text.count(chr(10), 0, at) + 1}"
+
+
+def relations():
+    found = []
+    for path in sorted((CRATES / "rtdvs_top" / "specs").glob("*.antt")):
+        text = path.read_text()
+        for m in re.finditer(r"^(abbrev pub|pub record|abbrev|record|pub data|data) (\w+)((?:.|\n(?=[ \t]))*)", text, re.M):
+            kind, name, body = m.groups()
+            if "record" in kind or "data" in kind:
+                relation = "(" in body.split(": Type")[0]
+            else:
+                relation = body.split("\n")[0].rstrip().endswith("Type 0")
+            if relation:
+                found.append(f"{place(path, text, m.start())} {name}")
+    return found
+
+
+def product_parts(body):
+    """The number of parts that `×` joins at the outermost level."""
+    depth, parts = 0, 1
+    for c in body:
+        depth += (c in "([{") - (c in ")]}")
+        parts += c == "×" and depth == 0
+    return parts
+
+
+def positions():
+    found = []
+    for path in files("proofs", ".antt") + files("src", ".rt") + files("specs", ".antt"):
+        text = path.read_text()
+        for m in re.finditer(r"\b(?:inv|invariant)\.\d+", text):
+            found.append(f"{place(path, text, m.start())} {m.group()}")
+        if path.name == "Invariants.antt":
+            for m in re.finditer(r"^invariant-[\w-]+ [^=\n]*=((?:.|\n(?=[ \t]))*)", text, re.M):
+                body = m.group(1).split(" in\n")[-1]
+                if product_parts(body) >= 3:
+                    found.append(f"{place(path, text, m.start())} {product_parts(body)} parts")
+        if path.suffix == ".rt":
+            for m in re.finditer(r"ghost invariant = \{((?:[^{}]|\{[^{}]*\})*)\}", text):
+                if product_parts(m.group(1)) >= 3:
+                    found.append(f"{place(path, text, m.start())} {product_parts(m.group(1))} parts")
+    return found
+
+
+def mutual():
+    found = []
+    for crate in sorted(CRATES.iterdir()):
+        names = collections.defaultdict(set)
+        src = crate / "src"
+        modules = {}
+        for path in src.glob("**/*.rt"):
+            module = "::".join(path.relative_to(src).with_suffix("").parts)
+            modules[module] = path
+        for module, path in modules.items():
+            code = "\n".join(line for line in path.read_text().splitlines() if not line.strip().startswith(("//", "ghost")))
+            for m in re.finditer(r"\bcrate::([\w:]+)", code):
+                words = m.group(1).rstrip(":").split("::")
+                for n in range(len(words), 0, -1):
+                    if "::".join(words[:n]) in modules:
+                        names[module].add("::".join(words[:n]))
+                        break
+        for a in sorted(names):
+            for b in sorted(names[a]):
+                if a < b and a in names.get(b, ()):
+                    found.append(f"{crate.name}: {a}.rt ~ {b}.rt")
+    return found
+
+
+def idle():
+    found = []
+    for path in files("src", ".rt"):
+        text = path.read_text()
+        for m in re.finditer(r"Err\((\w+)\) => (?:return )?Err\(\1\)|let (\w+) = [^;]*\?;\n\s*Ok\(\2\)\n", text):
+            found.append(f"{place(path, text, m.start())} {' '.join(m.group().split())}")
+    return found
+
+
+def limits():
+    found = []
+    for path in files("src", ".rt") + files("specs", ".antt") + files("proofs", ".antt"):
+        if path.parts[1] in TESTS or path.name in ("limits.rt", "tests.rt", "Examples.antt", "Traces.antt"):
+            continue
+        for n, line in enumerate(path.read_text().splitlines(), 1):
+            code = line.split("//")[0].split("--")[0]
+            code = re.sub(r'"(?:[^"\\]|\\.)*"', '""', code)
+            code = re.sub(r"\b(?:2|10) \^ \d+|parse-is_spelled 64|digits 64", "", code)
+            for m in re.finditer(LIMITS, code):
+                found.append(f"{path}:{n} {m.group()}")
+    return found
+
+
+def main():
+    asked = sys.argv[1] if len(sys.argv) > 1 else None
+    for count in (relations, positions, mutual, idle, limits):
+        rows = count()
+        print(f"{count.__name__}: {len(rows)}")
+        if asked == count.__name__:
+            for row in rows:
+                print("   " + row)
+
+
+main()
