@@ -1,5 +1,5 @@
-use Rattle.dvs_base.proofs.TextPuts.{wrote-then-some}
+use Rattle.dvs_base.proofs.TextPuts.{writes-then}
 use Rattle.dvs_base.proofs.put.put_two.Goals as goal
 
-pub returns-in-Err-put_line : goal.returns-in-Err-put_line
-returns-in-Err-put_line g c = wrote-then-some _ _ _ c.args.first.now c.args.second.now c.in-Ok.ensures c.in-Err-put_line.ensures
+pub returns : goal.returns
+returns g c = writes-then _ _ _ c.args.first.now c.args.second.now c.put_line-2.result c.in_ok-put_line.ensures c.put_line-2.ensures
