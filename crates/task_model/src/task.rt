@@ -70,8 +70,10 @@ impl TaskSet {
         requires few { vec_len tasks ≤ MOST_TASKS }
         ensures { IfOk result (λ s. s ≡ where_within LONGEST_HYPERPERIOD (hyper_of tasks.items) tasks.items) }
     {
-        let hyper = hyper_within(alloc, &tasks)?;
-        Ok(hyper.map(|hyper| TaskSet { tasks, hyper }))
+        let Some(hyper) = hyper_within(alloc, &tasks)? else {
+            return Ok(None);
+        };
+        Ok(Some(TaskSet { tasks, hyper }))
     }
 
     /// The set of these tasks, in this order. It fails only where memory runs out.
