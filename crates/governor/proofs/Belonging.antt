@@ -1,24 +1,64 @@
--- A state that belongs to a demand list still does after a boundary and after a tick.
-use Rattle.std.proofs.Common.{◌≡◌, ◌≢◌, inl, inr, ℕ, zero, suc, ◌+◌, ◌-◌, ◌<◌, ◌≤◌, Bool, true, false, List, length, refl, sym, ◌∙◌, ap, subst, arith}
-use Rattle.std.proofs.Math.Nat.{le_trans}
-use Rattle.std.specs.Prelude.{◌==◌, ◌||◌, if◌then◌else◌, map, slice_index}
+-- A state that belongs to a demand list still does after a boundary and after a tick, row by row.
+use Rattle.std.proofs.Common.{◌≡◌, ℕ, zero, suc, ◌+◌, ◌-◌, ◌<◌, ◌≤◌, Bool, true, false, if◌then◌else◌, List, [], ◌∷◌, length, get_or, refl, ◌∙◌, ap, arith, add-zero, ◌≢◌, inl, inr, sym, subst}
 use Rattle.std.specs.List.{list_any}
-use Rattle.std.proofs.lemmas.Bool.{cases_Bool, eqb-true, eqb-false}
-use Rattle.std.proofs.lemmas.List.{length-map, get_or-map}
+use Rattle.std.proofs.lemmas.Bool.{or_parts, cases_Bool, eqb-true, eqb-false}
+use Rattle.std.proofs.lemmas.List.{get_or_default, length-map, get_or-map}
+use Rattle.std.proofs.lemmas.List.Folds.{Any-from_list_any}
+use Rattle.std.proofs.Math.Nat.{le_trans}
+use Rattle.std.specs.Prelude.{◌==◌, ◌||◌, map, slice_index}
+use Rattle.sched_model.specs.declared.state.Row.{Row}
+use Rattle.sched_model.specs.States.{no_row, row_wleft, StateOf, row_at, opening, opening_row, earliest_in, key_in}
 use Rattle.task_model.specs.declared.limits.TheConstants.{LONGEST_PERIOD, LATEST_OFFSET}
 use Rattle.grid_fraction.specs.Numbers.{greatest_below}
 use Rattle.grid_fraction.proofs.Least.{least-above}
-use Rattle.sched_model.specs.declared.state.Row.{Row}
 use Rattle.sched_model.specs.Plan.{Plan, count, period, offset, worst}
 use Rattle.sched_model.specs.Jobs.{latest_since, due as due_at, IsWithin, JobDemands}
 use Rattle.sched_model.specs.Admission.{IsWithinLimits}
-use Rattle.sched_model.specs.States.{StateOf, row_at, no_row, row_wleft, opening, opening_row, earliest_in, key_in}
 use Rattle.sched_model.proofs.LevelSums.{share-most, greatest-above, greatest-least, greatest-same}
 use Rattle.sched_model.proofs.JobLaws.{due-none, due-suc, release-due, latest_since-pos, latest_since-suc}
 use Rattle.sched_model.proofs.Tables.{length-list_below, get-table}
 use Rattle.sched_model.proofs.Limits.{some_task, some_period, low_period}
-use Rattle.governor.specs.Steps.{is_due, boundary_row, opened_row, after_boundary, share_in, left_in, left_of, release_of, last_marked, IsLegalIn, after_tick, tick_row, IsBeforeAll, IsAtDecision, Belongs}
-use Rattle.governor.proofs.Rows.{length-each_row, get-each_row, none_due_at, some_due_at}
+use Rattle.governor.specs.Steps.{each_row, is_due, boundary_row, opened_row, after_boundary, share_in, left_in, left_of, release_of, last_marked, IsLegalIn, after_tick, tick_row, IsBeforeAll, IsAtDecision, Belongs}
+
+pub length-each_row : (f : ℕ → Row → Row) (i : ℕ) (rows : List Row) → length (each_row f i rows) ≡ length rows
+length-each_row f i [] = refl
+length-each_row f i (row ∷ rows) = ap suc (length-each_row f (suc i) rows)
+
+get-each_row_from : (f : ℕ → Row → Row) (i : ℕ) (rows : List Row) (j : ℕ) → j < length rows
+    → get_or (each_row f i rows) j no_row ≡ f (j + i) (get_or rows j no_row)
+get-each_row_from f i [] j h = absurd (omega arith)
+get-each_row_from f i (row ∷ rows) zero h = let e : i ≡ 0 + i = omega arith in ap (λ (k : ℕ). f k row) e
+get-each_row_from f i (row ∷ rows) (suc j) h =
+    let e : j + suc i ≡ suc j + i = omega arith in
+    get-each_row_from f (suc i) rows j (omega arith) ∙ ap (λ (k : ℕ). f k (get_or rows j no_row)) e
+
+pub get-each_row : (f : ℕ → Row → Row) (rows : List Row) (j : ℕ) → j < length rows
+    → get_or (each_row f 0 rows) j no_row ≡ f j (get_or rows j no_row)
+get-each_row f rows j h = get-each_row_from f 0 rows j h ∙ ap (λ (k : ℕ). f k (get_or rows j no_row)) (add-zero j)
+
+-- a complete job may need no more units
+pub done_none : (row : Row) → row.done ≡ true → row_wleft row ≡ 0
+done_none row e = rw e refl
+
+pub wleft-most : (row : Row) → row_wleft row ≤ row.worst
+wleft-most row = go row.done
+  where
+    go : (b : Bool) → (if b then 0 else row.worst - row.used) ≤ row.worst
+    go true = omega arith
+    go false = omega arith
+
+-- where no row passes the test, the row at each place fails it
+pub none_due_at : (p : Row → Bool) (rows : List Row) (j : ℕ) → list_any p rows ≡ false → j < length rows → p (get_or rows j no_row) ≡ false
+none_due_at p [] j none h = absurd (omega arith)
+none_due_at p (row ∷ rows) zero none h = (or_parts (p row) (list_any p rows) none).0
+none_due_at p (row ∷ rows) (suc j) none h = none_due_at p rows j (or_parts (p row) (list_any p rows) none).1 (omega arith)
+
+-- where some row passes the test, it is at some place
+pub some_due_at : (p : Row → Bool) (rows : List Row) → list_any p rows ≡ true
+    → (j : ℕ) × (j < length rows) × (p (get_or rows j no_row) ≡ true)
+some_due_at p rows some =
+    let found = Any-from_list_any p rows some in
+    (found.0, found.2, ap p (get_or_default rows found.0 no_row found.1 found.2 ∙ found.3) ∙ found.4)
 
 -- what holds of each row of a state that belongs to a demand list
 pub record RowOk (plan : Plan) (dem : JobDemands) (now i : ℕ) (row : Row) : Type 0 where

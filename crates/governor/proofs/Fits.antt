@@ -10,8 +10,8 @@ use Rattle.sched_model.specs.Tests.{IsEdfFeasible, IsRmFeasible, total_rate, lev
 use Rattle.sched_model.specs.StaticDemand.{heaviest, full_demand, rm_static, static_demand_of, static_demand}
 use Rattle.sched_model.specs.Admission.{IsWithinLimits, IsAdmitted, PassesTest}
 use Rattle.sched_model.proofs.Limits.{some_period}
-use Rattle.sched_model.proofs.Weights.{heaviest_within, heaviest_greatest}
-pub use Rattle.sched_model.proofs.Weights.{static_den}
+use Rattle.sched_model.proofs.StaticShare.{heaviest_within, heaviest_greatest}
+pub use Rattle.sched_model.proofs.StaticShare.{static_den}
 use Rattle.governor.specs.Speeds.{fixed_speed}
 
 -- the speed F passes the test of the plan's scheduler

@@ -16,7 +16,7 @@ use Rattle.sched_model.specs.Ticks.{Tick, exec, left as left_at, share as share_
 use Rattle.sched_model.specs.Priority.{SharesOut, sum_up_to, stands_before, key_of as key_at}
 use Rattle.sched_model.specs.States.{StateOf, row_wleft, prior_row, prior_base_at, prior_base, prior_state, row_of, state_of, key_in}
 use Rattle.sched_model.proofs.Tables.{length-list_below, table-same}
-use Rattle.sched_model.proofs.Joining.{row_at-state_of, row_by, due_released, row-opened, row-kept, state-marked, state-unmarked, row-ran, state-ran}
+use Rattle.sched_model.proofs.States.{row_at-state_of, row_by, due_released, row-opened, row-kept, state-marked, state-unmarked, row-ran, state-ran}
 use Rattle.governor.specs.Steps.{each_row, is_due, boundary_row, boundary_rows, after_boundary, tick_row, after_tick, left_in, left_of, share_in, IsLegalIn}
 use Rattle.grid_fraction.proofs.Searches.{any_below-same}
 

@@ -15,10 +15,10 @@ use Rattle.sched_model.specs.Backlog.{lacking}
 use Rattle.sched_model.specs.Admission.{IsWithinLimits}
 use Rattle.sched_model.proofs.Limits.{some_period}
 use Rattle.sched_model.proofs.JobLaws.{due-none, release-suc, due-suc, lt-due, latest-is, latest-none, latest-stays, exec-legal, exec-early, worst_demand-pos}
-use Rattle.sched_model.proofs.PriorityLemmas.{before-trans}
-use Rattle.sched_model.proofs.DownSets.{down-set-gets}
+use Rattle.sched_model.proofs.Orders.{before-trans}
+use Rattle.sched_model.proofs.Allotments.{down-set-gets}
 use Rattle.sched_model.proofs.LevelSums.{sum_where-plus, share-most, up_to-trans, sum_up_to-where}
-use Rattle.sched_model.proofs.ScheduleLemmas.{schedule_exists, next_tick-may, schedule-suc}
+use Rattle.sched_model.proofs.Schedules.{schedule_exists, next_tick-may, schedule-suc}
 
 -- the first t ticks of the schedule with every job at its worst case
 abbrev pub worst_ticks : Plan → PublishedDemand → ℕ → List Tick

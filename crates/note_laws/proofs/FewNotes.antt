@@ -17,11 +17,10 @@ use Rattle.sched_model.specs.Schedule.{IsScheduleBy}
 use Rattle.sched_model.specs.Admission.{IsWithinLimits}
 use Rattle.sched_model.specs.Notes.{Span, spans_of, pieces_of, all_release_notes, pieces_notes, span_notes, energy_run, energy_idle, most_unit_energy, notes_before_end, notes_of}
 use Rattle.sched_model.proofs.Limits.{energy-most, every_period}
-use Rattle.sched_model.proofs.NoteLemmas.{notes-span}
+use Rattle.sched_model.proofs.Spans.{notes-span, IsLastSpan, IsNow, last-span, by-spans}
 use Rattle.sched_model.proofs.NoteSums.{one_if, release-counts, pieces-most, none-sum, running, idling, run-next, idle-next, releases, completions, span-sum, none-weighs, reached-up, done_by, tells-all, all_done-next}
-use Rattle.sched_model.proofs.Spans.{IsLastSpan, IsNow, last-span, by-spans}
 use Rattle.sched_model.proofs.Units.{units-weight, shares-fit}
-use Rattle.sched_model.proofs.Walk.{EachNote, each-note}
+use Rattle.sched_model.proofs.Walk.{EachNote, each-note, IsBeforeEnd, before-end-each}
 use Rattle.note_laws.proofs.SpanPieces.{LastHasFew, last-few}
 use Rattle.std.proofs.lemmas.Bool.Decides.{nat_tests}
 use Rattle.std.proofs.lemmas.Nat.{le-div}
@@ -29,7 +28,6 @@ use Rattle.grid_fraction.proofs.Ceilings.{ceil-at, ceil-mono}
 use Rattle.sched_model.proofs.JobLaws.{release-none, latest-pos}
 use Rattle.sched_model.specs.Totals.{is_released, is_finished, is_decided, totals_of}
 use Rattle.note_laws.specs.LineCounts.{AreFew, HasFewNotes}
-use Rattle.sched_model.proofs.BeforeEnd.{IsBeforeEnd, before-end-each}
 use Rattle.note_laws.proofs.CountLemmas.{adds, has-few}
 
 -- a note before the `End` of a run, whose task, if it has one, is a task of the plan

@@ -8,7 +8,7 @@ use Rattle.sched_model.specs.Jobs.{JobDemands}
 use Rattle.sched_model.specs.Ticks.{PublishedDemand, Tick}
 use Rattle.sched_model.specs.Notes.{energy_run, energy_idle, notes_before_end, notes_of}
 use Rattle.sched_model.proofs.Units.{each-weaker}
-use Rattle.sched_model.proofs.BeforeEnd.{IsBeforeEnd, before-end-each}
+use Rattle.sched_model.proofs.Walk.{IsBeforeEnd, before-end-each}
 use Rattle.trace_reader.specs.Traces.{is_end, IsEnded}
 use Rattle.trace_reader.proofs.TraceTexts.{is-ended}
 

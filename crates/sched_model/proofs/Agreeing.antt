@@ -12,9 +12,8 @@ use Rattle.sched_model.specs.Priority.{allotment, key_of}
 use Rattle.sched_model.specs.Decision.{is_decision}
 use Rattle.sched_model.specs.Schedule.{entry_in_force, IsScheduleBy, next_tick, schedule_by}
 use Rattle.sched_model.specs.Notes.{Span, pieces_of, all_release_notes, pieces_notes, notes_before_end, notes_of, energy_run, energy_idle}
-use Rattle.sched_model.proofs.NoteLemmas.{notes-span}
-use Rattle.sched_model.proofs.ScheduleLemmas.{schedule_exists}
-use Rattle.sched_model.proofs.Spans.{IsLastSpan, by-spans}
+use Rattle.sched_model.proofs.Spans.{notes-span, IsLastSpan, by-spans}
+use Rattle.sched_model.proofs.Schedules.{schedule_exists}
 
 -- two demands are equal on each schedule; any demand may give its speeds
 abbrev pub AgreeOnSchedules : Plan → JobDemands → PublishedDemand → PublishedDemand → Type 0

@@ -4,8 +4,7 @@ use Rattle.std.proofs.lemmas.Bool.Decides.{nat_tests}
 use Rattle.grid_fraction.specs.Numbers.{sum_below, sum_where, greatest_below}
 use Rattle.sched_model.specs.Priority.{stands_before, is_up_to, sum_up_to, SharesOut}
 use Rattle.grid_fraction.proofs.Sums.{sum_below-same, sum_below-add, sum_below-zero, sum_below-le}
-use Rattle.sched_model.proofs.Allotments.{allotment_of}
-use Rattle.sched_model.proofs.DownSets.{sum_where-last, down-set-gets}
+use Rattle.sched_model.proofs.Allotments.{allotment_of, sum_where-last, down-set-gets}
 
 if-mono : (b : Bool) (x y : ℕ) → (b ≡ true → x ≤ y) → (if b then x else 0) ≤ (if b then y else 0)
 if-mono true x y h = h refl

@@ -26,10 +26,9 @@ use Rattle.sched_model.specs.Notes.{same_holder, Span, Piece, pieces_of, run_ene
 use Rattle.sched_model.specs.Totals.{is_finished}
 use Rattle.sched_model.proofs.LevelSums.{sum_below-times}
 use Rattle.sched_model.proofs.Limits.{every_period}
-use Rattle.sched_model.proofs.NoteLemmas.{notes-span}
+use Rattle.sched_model.proofs.Spans.{notes-span, IsNow, IsLastSpan, last-span, grows, opened, none-released, stays, had-each}
 use Rattle.sched_model.proofs.PieceLemmas.{HaveUnits, have_units, laid, laid-pieces}
-use Rattle.sched_model.proofs.Service.{exec-most}
-use Rattle.sched_model.proofs.Spans.{IsNow, IsLastSpan, last-span, grows, opened, none-released, stays, had-each}
+use Rattle.sched_model.proofs.Schedules.{exec-most}
 use Rattle.sched_model.proofs.Walk.{EachNote, at_unit, segments-each}
 
 -- the note says that job k of task i completes

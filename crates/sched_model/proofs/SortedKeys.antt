@@ -12,8 +12,7 @@ use Rattle.std.proofs.lemmas.List.Sorted.{All-permutation, IsPermutation-map, su
 use Rattle.std.proofs.lemmas.List.Sums.{sum_by-cons}
 use Rattle.grid_fraction.specs.Numbers.{sum_below, list_below}
 use Rattle.sched_model.specs.Priority.{stands_before, in_order}
-use Rattle.sched_model.proofs.PriorityLemmas.{before-not, before-total}
-use Rattle.sched_model.proofs.OrderLemmas.{sum_list, IsAhead, IsOrdered, in_order-ordered, sum_list-in_order, sum_list-snoc}
+use Rattle.sched_model.proofs.Orders.{before-not, before-total, sum_list, IsAhead, IsOrdered, in_order-ordered, sum_list-in_order, sum_list-snoc}
 use Rattle.sched_model.proofs.Tables.{length-list_below, get-table, map-table}
 
 abbrev one : ℕ → ℕ → ℕ

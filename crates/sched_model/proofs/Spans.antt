@@ -1,5 +1,7 @@
--- The last span of a schedule: its decision, its ticks, its units, and what each job has had by its end.
-use Rattle.std.proofs.Common.{◌≡◌, ℕ, zero, suc, ◌+◌, ◌-◌, ◌*◌, ◌<◌, ◌≤◌, Bool, true, false, ◌&&◌, nat_eq, List, [], ◌∷◌, ◌++◌, length, refl, arith, if◌then◌else◌, ap, ◌∙◌, sym, subst, true≢false, ◌⊎◌, inl, inr, length-append, eq-or-lt_of_le}
+-- The last span of a schedule: its decision, its ticks, its units, its notes, and what each job has had by its end.
+use Rattle.std.proofs.Common.{◌≡◌, true, false, List, [], ◌∷◌, ◌++◌, reverse, flat_map, refl, ap, ◌∙◌, append-nil, ℕ, zero, suc, ◌+◌, ◌-◌, ◌*◌, ◌<◌, ◌≤◌, Bool, ◌&&◌, nat_eq, length, arith, if◌then◌else◌, sym, subst, true≢false, ◌⊎◌, inl, inr, length-append, eq-or-lt_of_le}
+use Rattle.std.proofs.lemmas.List.{reverse-append}
+use Rattle.std.proofs.lemmas.Grind.{flat_map-append}
 use Rattle.std.specs.Prelude.{count_by, cond}
 use Rattle.std.specs.List.{AllByRecursion}
 use Rattle.std.proofs.lemmas.List.Sums.{sum_by-cons}
@@ -8,23 +10,45 @@ use Rattle.std.proofs.lemmas.Bool.{or_parts, false_from_ne_true}
 use Rattle.grid_fraction.proofs.Counts.{count-append}
 use Rattle.grid_fraction.proofs.Searches.{any_below-false}
 use Rattle.freq_table.specs.Tables.{lowest_entry}
-use Rattle.sched_model.specs.declared.holder.Holder.{Holder}
-use Rattle.sched_model.specs.declared.holder.Holder.TheVariants.{Nobody, Held}
+use Rattle.trace_text.proofs.PlainLines.{each-append}
 use Rattle.sched_model.specs.Plan.{Plan, count, point, period}
 use Rattle.sched_model.specs.Jobs.{JobDemands, latest, releases_at, is_release}
 use Rattle.sched_model.specs.Ticks.{PublishedDemand, Tick, exec}
 use Rattle.sched_model.specs.Decision.{is_decision}
+use Rattle.sched_model.specs.Notes.{Span, spans_of, lengthened, tick_units, span_notes, notes_before_end, same_holder}
+use Rattle.sched_model.specs.declared.holder.Holder.{Holder}
+use Rattle.sched_model.specs.declared.holder.Holder.TheVariants.{Nobody, Held}
 use Rattle.sched_model.specs.Schedule.{entry_in_force, IsNext, IsScheduleBy}
 use Rattle.sched_model.specs.Admission.{IsWithinLimits}
-use Rattle.sched_model.specs.Notes.{same_holder, Span, spans_of, tick_units}
 use Rattle.sched_model.proofs.JobLaws.{exec-none}
-use Rattle.sched_model.proofs.Joining.{due_released, same_job}
+use Rattle.sched_model.proofs.States.{due_released, same_job}
 use Rattle.sched_model.proofs.Limits.{every_period}
-use Rattle.sched_model.proofs.NoteLemmas.{span-opens, span-grows}
-use Rattle.sched_model.proofs.ScheduleLemmas.{force-within}
-use Rattle.sched_model.proofs.Service.{share-legal}
+use Rattle.sched_model.proofs.Schedules.{force-within, share-legal}
 use Rattle.sched_model.proofs.Units.{each-weaker, each-unit, units-had, units-long}
-use Rattle.trace_text.proofs.PlainLines.{each-append}
+
+-- lists joined from the last element to the first one end with the list of the first element
+pub flat_map-last : {A B : Type 0} (f : A → List B) (x : A) (xs : List A) → flat_map f (reverse (x ∷ xs)) ≡ flat_map f (reverse xs) ++ f x
+flat_map-last f x xs =
+    ap (flat_map f) (reverse-append (x ∷ []) xs)
+    ∙ (flat_map-append f (reverse xs) (x ∷ [])
+    ∙ ap (λ ns. flat_map f (reverse xs) ++ ns) (append-nil (f x)))
+
+pub notes-span : (p : Plan) (dem : JobDemands) (ask : PublishedDemand) (ticks past : List Tick) (s : Span)
+    → spans_of p dem ticks ≡ s ∷ spans_of p dem past
+    → notes_before_end p dem ask ticks ≡ notes_before_end p dem ask past ++ span_notes p dem ask s
+unfolding notes_before_end
+notes-span p dem ask ticks past s e =
+    ap (λ ss. flat_map (span_notes p dem ask) (reverse ss)) e ∙ flat_map-last (span_notes p dem ask) s (spans_of p dem past)
+
+-- a span opens at a decision instant, and the ticks up to the next lengthen it
+pub span-opens : (p : Plan) (dem : JobDemands) (x : Tick) (past : List Tick) → is_decision p dem past ≡ true
+    → spans_of p dem (x ∷ past) ≡ record { past = past; entry = x.entry; units = tick_units p past x } ∷ spans_of p dem past
+span-opens p dem x past e = rw e refl
+
+pub span-grows : (p : Plan) (dem : JobDemands) (x : Tick) (past : List Tick) (s : Span) (before : List Tick) → is_decision p dem past ≡ false
+    → spans_of p dem past ≡ s ∷ spans_of p dem before
+    → spans_of p dem (x ∷ past) ≡ record { past = s.past; entry = s.entry; units = s.units ++ tick_units p past x } ∷ spans_of p dem before
+span-grows p dem x past s before e h = rw e (ap (lengthened (tick_units p past x)) h)
 
 -- nobody, or the latest job of a task at tick t, which needs something
 abbrev pub IsNow : Plan → JobDemands → ℕ → Holder → Type 0

@@ -16,8 +16,8 @@ use Rattle.sched_model.specs.Ticks.{PublishedDemand, Tick, exec, share, left}
 use Rattle.sched_model.specs.Priority.{key_of, in_order}
 use Rattle.sched_model.specs.Schedule.{IsNext}
 use Rattle.sched_model.specs.Notes.{same_holder, given_units, tick_units}
-use Rattle.sched_model.proofs.OrderLemmas.{sum_list, sum_list-in_order, AreBelow, in_order-below}
-use Rattle.sched_model.proofs.DownSets.{down-set-gets}
+use Rattle.sched_model.proofs.Orders.{sum_list, sum_list-in_order, AreBelow, in_order-below}
+use Rattle.sched_model.proofs.Allotments.{down-set-gets}
 use Rattle.sched_model.proofs.LevelSums.{sum_below-times}
 use Rattle.sched_model.proofs.JobLaws.{latest-is, release-le, lt-due}
 use Rattle.trace_text.proofs.PlainLines.{each-append, each-replicate}

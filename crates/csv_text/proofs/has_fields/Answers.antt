@@ -1,6 +1,6 @@
 use Rattle.std.proofs.Common.{sym, ◌∙◌}
 use Rattle.csv.specs.Records.{fields_of}
-use Rattle.csv_text.proofs.Rows.{has_fields-other, field-differs, field-same}
+use Rattle.csv_text.proofs.Records.{has_fields-other, field-differs, field-same}
 use Rattle.csv_text.proofs.has_fields.Goals as goal
 
 pub returns-then-len-names : goal.returns-then-len-names

@@ -2,7 +2,7 @@ use Rattle.std.proofs.Common.{◌≡◌, ◌<◌, length, arith, ap, ◌∙◌, 
 use Rattle.std.proofs.lemmas.Grind.{common_steps}
 use Rattle.sched_model.specs.Plan.{Plan, count, period}
 use Rattle.sched_model.specs.Priority.{in_order}
-use Rattle.sched_model.proofs.OrderLemmas.{length-in_order}
+use Rattle.sched_model.proofs.Orders.{length-in_order}
 use Rattle.sched_model.proofs.plan.Admitted.ranked.Goals as goal
 
 pub index-requires : goal.index-requires

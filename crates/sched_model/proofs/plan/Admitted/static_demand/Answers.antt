@@ -1,6 +1,6 @@
 use Rattle.std.proofs.Common.{◌<◌, sym, subst, arith}
 use Rattle.grid_fraction.specs.declared.Frac.{Frac}
-use Rattle.sched_model.proofs.Weights.{static_den}
+use Rattle.sched_model.proofs.StaticShare.{static_den}
 use Rattle.sched_model.proofs.plan.Admitted.static_demand.Goals as goal
 
 pub returns-clause-some_den : goal.returns-clause-some_den

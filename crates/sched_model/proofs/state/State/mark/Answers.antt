@@ -1,6 +1,6 @@
 use Rattle.std.proofs.Common.{◌≡◌, ◌<◌, length, sym, arith}
 use Rattle.std.proofs.lemmas.Grind.{common_steps}
-use Rattle.sched_model.proofs.StateRows.{mark_step}
+use Rattle.sched_model.proofs.States.{mark_step}
 use Rattle.sched_model.proofs.state.State.mark.Goals as goal
 
 pub loop-i-preserved : goal.loop-i-preserved

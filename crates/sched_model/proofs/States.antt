@@ -1,18 +1,102 @@
--- The state of a list of ticks, boundary by boundary and tick by tick.
-use Rattle.std.proofs.Common.{◌≡◌, ℕ, zero, suc, ◌+◌, ◌<◌, ◌≤◌, Bool, true, false, List, [], ◌∷◌, length, refl, arith, ap, ap₂, ◌∙◌, sym, nat_eq, nat_le, true≢false}
-use Rattle.std.specs.Prelude.{map}
+-- The state of a list of ticks, boundary by boundary and tick by tick, its rows, and the state before the first release.
+use Rattle.std.proofs.Common.{◌≡◌, ℕ, ◌<◌, ◌≤◌, List, ap, sym, ◌∙◌, arith, zero, suc, ◌+◌, ◌-◌, [], ◌∷◌, ◌++◌, length, get_or, take, refl, add-one, Bool, true, false, ap₂, nat_eq, nat_le, true≢false}
+use Rattle.std.specs.Prelude.{map, slice_set}
+use Rattle.std.proofs.Math.ListN.{replicate, get_or-map}
+use Rattle.std.proofs.lemmas.List.{get_or_read, length-map, map-set, replicate_more, take_more, take_more_set}
 use Rattle.std.proofs.lemmas.Bool.Decides.{nat_tests}
+use Rattle.grid_fraction.specs.Numbers.{list_below, last_up_to}
+use Rattle.task_model.specs.declared.limits.TheConstants.{LONGEST_PERIOD}
+use Rattle.grid_fraction.proofs.Searches.{any_below-false}
 use Rattle.sched_model.specs.declared.state.Row.{Row}
 use Rattle.sched_model.specs.Plan.{Plan, count, period, offset, worst}
+use Rattle.sched_model.specs.States.{StateOf, no_row, row_at, opening, opening_row, IsStateOf, CanRelease, row_wleft, after_run, CanRun, row_of, state_of, released_row, prior_row, prior_base_at, prior_base, prior_state}
+use Rattle.sched_model.specs.Admission.{IsWithinLimits}
+use Rattle.sched_model.proofs.Tables.{length-list_below, get-table, map-table, table-same}
 use Rattle.sched_model.specs.Jobs.{JobDemands, release, due, latest, releases_at, is_release, last_release}
 use Rattle.sched_model.specs.Ticks.{Tick, at, exec, is_done, wleft, share, left}
-use Rattle.grid_fraction.specs.Numbers.{last_up_to}
-use Rattle.sched_model.specs.States.{StateOf, no_row, row_at, row_of, state_of, released_row, row_wleft, prior_row, prior_base_at, prior_base, prior_state}
-use Rattle.grid_fraction.specs.Numbers.{list_below}
 use Rattle.sched_model.proofs.JobLaws.{due-none, release-none, release-suc, due-suc, lt-due, latest-unique, latest-none, latest-stays, latest-next, release-le, exec-early, exec-legal, last_release-le}
-use Rattle.grid_fraction.proofs.Searches.{any_below-false}
-use Rattle.sched_model.proofs.Tables.{get-table, table-same, map-table}
-use Rattle.sched_model.proofs.Service.{at-now, at-before}
+use Rattle.sched_model.proofs.Schedules.{at-now, at-before}
+
+pub opening-is_state : (p : Plan) → IsStateOf (opening p)
+opening-is_state p = record {
+  base = length-list_below (count p) (λ i. 0) ∙ sym (length-list_below (count p) (λ i. opening_row (offset p i) (worst p i)));
+  used = λ i lt.
+      let below : i < count p = omega (arith, length-list_below (count p) (λ k. opening_row (offset p k) (worst p k))) in
+      rw (get-table (count p) (λ k. opening_row (offset p k) (worst p k)) i no_row below) (omega arith);
+}
+
+-- the state at a tick with these rows, and with a mark of these bases
+abbrev state_by : ℕ → List Row → ℕ → List ℕ → StateOf
+state_by now rows base_at base = record { now = now; rows = rows; base_at = base_at; base = base }
+
+pub opening_by : (p : Plan) (n : ℕ) (rows : List Row) (base : List ℕ) → n ≡ count p
+    → rows ≡ list_below n (λ i. opening_row (offset p i) (worst p i)) → base ≡ list_below n (λ i. 0) → state_by 0 rows 0 base ≡ opening p
+opening_by p n rows base all r b =
+    λ j. record {
+      now = 0;
+      rows = (r ∙ ap (λ m. list_below m (λ i. opening_row (offset p i) (worst p i))) all) j;
+      base_at = 0;
+      base = (b ∙ ap (λ m. list_below m (λ i. 0)) all) j;
+    }
+
+-- the first job of each task without an offset can be released from the opening state
+pub opening-can_release : (p : Plan) → IsWithinLimits p → (i : ℕ) → i < count p → offset p i ≡ 0 → CanRelease p (opening p) i
+opening-can_release p lim i lt now =
+    let row : row_at (opening p) i ≡ opening_row (offset p i) (worst p i) = get-table (count p) (λ k. opening_row (offset p k) (worst p k)) i no_row lt in
+    let period_low : period p i ≤ LONGEST_PERIOD = (lim.tasks.each i lt).low_period in
+    record {
+      task = omega (arith, length-list_below (count p) (λ k. opening_row (offset p k) (worst p k)));
+      below = lt;
+      done = ap (λ r. r.done) row;
+      due = ap (λ r. r.deadline) row ∙ now;
+      deadline_fits = rw row (omega (arith, period_low, now));
+      job_fits = rw row (omega arith);
+    }
+
+-- a row that was read from a state is the row of its task
+pub row_read : (s v : StateOf) (i : ℕ) (row : Row) → v ≡ s → i < length s.rows → row ≡ get_or v.rows i row → row ≡ row_at s i
+row_read s v i row is lt read = get_or_read s.rows i row lt (read ∙ ap (λ (u : StateOf). get_or u.rows i row) is) no_row
+
+-- the bases of a mark, written one after the other
+pub mark_step : (rows : List Row) (base : List ℕ) (i : ℕ) (row : Row) → i < length rows → i < length base → row ≡ get_or rows i row
+    → take i base ≡ take i (map row_wleft rows) → take (i + 1) (slice_set base i (row_wleft row)) ≡ take (i + 1) (map row_wleft rows)
+mark_step rows base i row hr hb is e =
+    let in_map : i < length (map row_wleft rows) = omega (arith, length-map rows row_wleft) in
+    let read : get_or (map row_wleft rows) i 0 ≡ row_wleft row =
+    get_or-map row_wleft rows i no_row ∙ ap row_wleft (sym (get_or_read rows i row hr is no_row)) in
+    take_more_set base i (row_wleft row) hb
+    ∙ ap (λ (xs : List ℕ). xs ++ (row_wleft row ∷ [])) e
+    ∙ ap (λ (x : ℕ). take i (map row_wleft rows) ++ (x ∷ [])) (sym read)
+    ∙ sym (take_more (map row_wleft rows) i 0 in_map)
+
+zeros : (n : ℕ) → list_below {A = ℕ} n (λ i. 0) ≡ replicate n 0
+zeros zero = refl
+zeros (suc n) =
+    ap (λ (xs : List ℕ). xs ++ 0 ∷ []) (zeros n)
+    ∙ (replicate_more n 0 ∙ ap (λ (m : ℕ). replicate m 0) (add-one n))
+
+-- before the first release no job needs anything
+pub left-opening : (p : Plan) → replicate (count p) 0 ≡ map row_wleft (opening p).rows
+left-opening p = sym (map-table (count p) (λ i. opening_row (offset p i) (worst p i)) row_wleft ∙ zeros (count p))
+
+module _ (s : StateOf) (left : List ℕ) (is : left ≡ map row_wleft s.rows) (i : ℕ) where
+  -- a row of a task is written, and what its job may still need
+  pub left-set : (row : Row) (w : ℕ) → w ≡ row_wleft row → slice_set left i w ≡ map row_wleft (slice_set s.rows i row)
+  left-set row w same =
+      ap (λ (xs : List ℕ). slice_set xs i w) is
+      ∙ (ap (slice_set (map row_wleft s.rows) i) same ∙ sym (map-set row_wleft s.rows i row))
+
+  -- `State::run` takes its units from what the job may still need
+  pub left-run : (units w : ℕ) → CanRun s i units → w ≡ get_or left i w
+      → slice_set left i (w - units) ≡ map row_wleft (after_run s i units).rows
+  left-run units w can read =
+      let row : Row = record (row_at s i) { used = (row_at s i).used + units } in
+      let long : length left ≡ length s.rows = ap (λ (xs : List ℕ). length xs) is ∙ length-map s.rows row_wleft in
+      let was : w ≡ (row_at s i).worst - (row_at s i).used =
+      get_or_read left i w (omega (arith, can.task, long)) read 0
+      ∙ (ap (λ (xs : List ℕ). get_or xs i 0) is ∙ (get_or-map row_wleft s.rows i no_row ∙ rw can.open_job refl)) in
+      let now : row_wleft row ≡ (row_at s i).worst - ((row_at s i).used + units) = rw can.open_job refl in
+      left-set row (w - units) (omega (arith, was, now))
 
 -- a row by its parts
 abbrev pub row_by : ℕ → ℕ → ℕ → Bool → ℕ → Row
@@ -136,9 +220,6 @@ module _ (p : Plan) (dem : JobDemands) (periods : (i : ℕ) → 0 < period p i) 
 
   base_at-kept : (t : ℕ) → is_release p (suc t) ≡ false → last_release p (suc t) ≡ last_release p t
   base_at-kept t e = rw (e, last_up_to) refl
-
-  abbrev pub state_by : ℕ → List Row → ℕ → List ℕ → StateOf
-  state_by a b c d = record { now = a; rows = b; base_at = c; base = d }
 
   -- at a release: with all releases done and the mark set, the state is that of the past
   pub state-marked : (past : List Tick) → is_release p (length past) ≡ true

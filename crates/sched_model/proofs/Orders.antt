@@ -1,12 +1,33 @@
--- The list of the tasks in order: where each of them is, and the sums over the tasks before one of them.
-use Rattle.std.proofs.Common.{◌≡◌, ◌≢◌, ◌⊎◌, inl, inr, eq-or-lt_of_le, le_of_suc-le-suc, ℕ, zero, suc, ◌+◌, ◌<◌, Bool, true, false, List, [], ◌∷◌, ◌++◌, length, get_or, refl, arith, if◌then◌else◌, ap, ap₂, ◌∙◌, sym, subst, nat_eq, nat_lt}
-use Rattle.std.specs.Prelude.{◌||◌, ◌&&◌}
+-- The order of the tasks: it is strict and total; the list of the tasks in it, and sums over the tasks before one of them.
+use Rattle.std.proofs.Common.{◌≡◌, ◌≢◌, ℕ, ◌+◌, Bool, true, false, eqb, ◌||◌, refl, arith, if◌then◌else◌, true≢false, ◌⊎◌, inl, inr, eq-or-lt_of_le, le_of_suc-le-suc, zero, suc, ◌<◌, List, [], ◌∷◌, ◌++◌, length, get_or, ap, ap₂, ◌∙◌, sym, subst, nat_eq, nat_lt}
+use Rattle.std.proofs.lemmas.Bool.Decides.{nat_tests}
+use Rattle.std.specs.Prelude.{◌&&◌}
 use Rattle.std.specs.List.{AllByRecursion}
 use Rattle.std.proofs.lemmas.List.Elements.{All-from_recursion}
 use Rattle.grid_fraction.specs.Numbers.{sum_below}
 use Rattle.grid_fraction.proofs.Sums.{sum_below-same}
 use Rattle.sched_model.specs.Priority.{stands_before, sum_before, insert_by, in_order}
-use Rattle.sched_model.proofs.PriorityLemmas.{before-self, before-trans, before-total, before-not}
+
+pub before-self : (key : ℕ → ℕ) (i : ℕ) → stands_before key i i ≡ false
+before-self key i = grind (arith, nat_tests)
+
+pub before-trans : (key : ℕ → ℕ) (k j i : ℕ) → stands_before key k j ≡ true → stands_before key j i ≡ true → stands_before key k i ≡ true
+before-trans key k j i h g = grind (arith, nat_tests)
+
+pub before-not : (key : ℕ → ℕ) (j i : ℕ) → stands_before key j i ≡ true → stands_before key i j ≡ false
+before-not key j i h = grind (arith, nat_tests)
+
+pub before-total : (key : ℕ → ℕ) (j i : ℕ) → j ≢ i → stands_before key j i ≡ false → stands_before key i j ≡ true
+before-total key j i ne h = grind (arith, nat_tests)
+
+pub split_if : (a b c : Bool) (x : ℕ) → a ≡ (b || c) → (c ≡ true → b ≡ false)
+    → (if a then x else 0) ≡ (if b then x else 0) + (if c then x else 0)
+split_if a true true x e h = absurd (true≢false (h refl))
+split_if a true false x e h = rw e (omega arith)
+split_if a false c x e h = rw e (omega arith)
+
+pub same_not_before : (key : ℕ → ℕ) (k j : ℕ) → eqb k j ≡ true → stands_before key k j ≡ false
+same_not_before key k j e = grind (arith, nat_tests)
 
 abbrev pub sum_list : (ℕ → ℕ) → List ℕ → ℕ
 sum_list f [] = 0
