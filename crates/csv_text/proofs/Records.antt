@@ -1,4 +1,5 @@
 -- Reading one record takes the first of the records that are left, whose fields are compared with those of a header.
+use Rattle.std.proofs.lemmas.Bool.Decides.{nat_tests}
 use Rattle.std.proofs.Common.{◌≡◌, ◌≢◌, ◌<◌, ℕ, zero, suc, ◌+◌, List, [], ◌∷◌, length, map, drop, Bool, true, false, not, ◌&&◌, Some, None, refl, sym, ◌∙◌, ap, ap₂, arith, if◌then◌else◌, Bor, add-one, ◌⊎◌, inl, inr, ◌≤◌, ◌++◌, Option, subst}
 use Rattle.std.specs.Prelude.{slice_index_or, IsSome}
 use Rattle.std.specs.Str.{bytes_eq}
@@ -66,21 +67,11 @@ module _ (names : List (Bor (List ℕ))) (d : Bor (List ℕ)) (fields : List (Li
 
   -- where a field differs from the header's, the record is not the header
   pub field-differs : true ≡ not (bytes_eq f name) → false ≡ has_fields (texts names) fields
-  field-differs e = by (bytes_eq f name) by-field e
-    where
-      by : (b : Bool) → has_fields (texts names) fields ≡ (b && from (suc k) names fields) → true ≡ not b
-          → false ≡ has_fields (texts names) fields
-      by true h e = absurd cc
-      by false h e = sym h
+  field-differs e = grind (arith, nat_tests, by-field)
 
   -- where a field is the header's, the record is the header if the fields after it are
   pub field-same : false ≡ not (bytes_eq f name) → has_fields (texts names) fields ≡ from (k + 1) names fields
-  field-same e = rw add-one (by (bytes_eq f name) by-field e)
-    where
-      by : (b : Bool) → has_fields (texts names) fields ≡ (b && from (suc k) names fields) → false ≡ not b
-          → has_fields (texts names) fields ≡ from (suc k) names fields
-      by true h e = h
-      by false h e = absurd cc
+  field-same e = grind (arith, nat_tests, by-field)
 
 -- reading a record takes a byte, or ends the text
 abbrev Shrinks : List ℕ → Option Read → Type 0
@@ -92,9 +83,7 @@ at_end true f xs = inr (refl, refl)
 at_end false f xs = tt
 
 further : (c : ℕ) (rest : List ℕ) (o : Option Read) → Shrinks rest o → Shrinks (c ∷ rest) o
-further c rest None h = tt
-further c rest (Some p) (inl h) = inl (omega arith)
-further c rest (Some p) (inr h) = inr h
+further c rest o h = grind (arith, nat_tests)
 
 by_end : (b : Bool) (c : ℕ) (rest : List ℕ) (f : List (List ℕ)) (s : State) (o : Option Read) → Shrinks rest o
     → Shrinks (c ∷ rest) (if b then Some (f, s, rest) else o)
@@ -147,14 +136,7 @@ records_from-bound cfg (suc n) (suc m) s xs h k =
 records_in-Some : (s : State) (xs : List ℕ) (p : Read) → next_record default_config s [] [] xs ≡ Some p
     → records_in s (Some xs) ≡ p.0 ∷ records_in p.1 (Some p.2)
 unfolding records_from
-records_in-Some s xs p e =
-    let shrinks : Shrinks xs (Some p) = subst (Shrinks xs) e (next_record-shrinks default_config s [] [] xs) in
-    rw (add-one (length xs), e) (ap (λ t. p.0 ∷ t) (by shrinks))
-  where
-    by : Shrinks xs (Some p)
-        → records_from default_config (length xs) p.1 p.2 ≡ records_from default_config (length p.2 + 1) p.1 p.2
-    by (inl less) = records_from-bound default_config (length xs) (length p.2 + 1) p.1 p.2 less (omega arith)
-    by (inr last) = rw (last.0, last.1) (none_left default_config (length xs) ∙ sym (none_left default_config 1))
+records_in-Some s xs p e = grind (arith, nat_tests, next_record-shrinks, records_from-bound, none_left)
 
 records_in-None : (s : State) (xs : List ℕ) → next_record default_config s [] [] xs ≡ None → records_in s (Some xs) ≡ []
 unfolding records_from
@@ -176,9 +158,7 @@ reader_took a b f (Some y) config e h r =
 
 reader_ended : (a b : TextReader) (f : List (List ℕ)) (known : Option (List ℕ)) → a.config ≡ default_config
     → unread a ≡ known → IsSome known → ReadRecord (λ s. Some s.now) a b false f → records_in a.state known ≡ []
-reader_ended a b f None config e h r = refl
-reader_ended a b f (Some y) config e h r =
-    records_in-None a.state y (rows-end (λ (s : Bor (List ℕ)). Some s.now) a b f default_config y config e r)
+reader_ended a b f known config e h r = grind (arith, nat_tests, records_in-None, rows-end)
 
 -- a record that is read is the first of those that were left
 pub left-read : (a b : TextReader) (f : List (List ℕ)) → IsPlain a → ReadRecord (λ s. Some s.now) a b true f
@@ -203,14 +183,7 @@ records_from-few cfg (suc n) s xs = next_few n cfg (next_record cfg s [] [] xs) 
 
 strip_bom-shorter : (xs : List ℕ) → length (strip_bom xs) ≤ length xs
 unfolding strip_bom
-strip_bom-shorter [] = omega arith
-strip_bom-shorter (a ∷ []) = omega arith
-strip_bom-shorter (a ∷ b ∷ []) = omega arith
-strip_bom-shorter (a ∷ b ∷ c ∷ rest) = by (is_bom a b c)
-  where
-    by : (m : Bool) → length (if m then rest else a ∷ b ∷ c ∷ rest) ≤ length (a ∷ b ∷ c ∷ rest)
-    by true = omega arith
-    by false = omega arith
+strip_bom-shorter xs = grind (arith, nat_tests)
 
 pub records-few : (text : List ℕ) → length (records default_config (strip_bom text)) ≤ length text + 1
 records-few text =
