@@ -1,5 +1,6 @@
 -- The laws of a governor along its schedule: every deadline is met, and each demand but that of look-ahead. Where its
 -- demand is the published one of its kind, that is the schedule of the kind.
+use Rattle.std.proofs.lemmas.Bool.Decides.{nat_tests}
 use Rattle.std.proofs.Common.{◌≡◌, ℕ, zero, suc, ◌-◌, ◌<◌, ◌≤◌, Bool, true, false, List, [], ◌∷◌, length, drop, refl, arith, if◌then◌else◌, ap, ◌∙◌, sym, subst, true≢false, ◌⊎◌, inl, inr, eq-or-lt_of_le}
 use Rattle.std.proofs.lemmas.Bool.{or_parts}
 use Rattle.dvs_base.specs.declared.kind.GovernorKind.{GovernorKind}
@@ -149,11 +150,7 @@ module _ (kind : GovernorKind) (serves : Serving) (demand : OwnDemand) (calm : C
       stays e = ap (λ d. if d then lowest_entry p.machine (ask (tick past ∷ past)) else entry_at past) e
 
   kept-none : Kept []
-  kept-none = record {
-    belongs = belongs_opening p dem within;
-    is_calm = laws.opens p (record { admitted = adm; served = served });
-    is_safe = λ e. absurd (true≢false e);
-  }
+  kept-none = grind (arith, nat_tests, belongs_opening)
 
   -- at each tick of the governor's schedule the state belongs and is calm, and is safe where it isn't a decision
   pub kept : (t : ℕ) → Kept (course demand p dem t)
@@ -183,7 +180,4 @@ has-schedule demand kind p publishes dem within t =
 
 pub publishing_laws : (demand : OwnDemand) (kind : GovernorKind) (serves : Serving)
     → ((plan : Plan) → IsAdmitted plan → serves plan.scheduler → Publishes demand kind plan) → PublishingLaws kind serves demand
-publishing_laws demand kind serves each = record {
-  publishes = each;
-  one_schedule = λ plan adm served. has-schedule demand kind plan (each plan adm served);
-}
+publishing_laws demand kind serves each = grind (arith, nat_tests, has-schedule)

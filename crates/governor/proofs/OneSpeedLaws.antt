@@ -1,4 +1,5 @@
 -- The laws of a governor whose speed is one number, under both schedulers.
+use Rattle.std.proofs.lemmas.Bool.Decides.{nat_tests}
 use Rattle.std.proofs.Common.{◌≡◌, ℕ, ◌*◌, ◌<◌, ◌≤◌, true, List, refl, subst, arith, lit<, lit≤}
 use Rattle.dvs_base.specs.declared.kind.Scheduler.TheVariants.{Rm, Edf}
 use Rattle.sched_model.specs.Plan.{Plan, count, period, top_speed}
@@ -103,28 +104,7 @@ pub record IsOneSpeed (F : Plan → ℕ) (demand : Plan → Frac) : Type 0 where
 pub laws_at : {kind : GovernorKind} (F : Plan → ℕ) (demand : Plan → Frac) → IsOneSpeed F demand
     → ((sch : Scheduler) → ServesBoth sch → IsPair sch kind)
     → GovernorLaws kind ServesBoth (unchanging demand) (CalmAt F) (SafeAt F)
-laws_at F demand one pairs = record {
-  pairs = pairs;
-  low_den = λ plan s on of dec. one.low plan on.admitted;
-  opens = λ plan on. opens_by (F plan) plan on.admitted.limits (one.enough plan on.admitted) plan.scheduler refl;
-  releases = λ plan dem s run calm.
-      let adm = run.admitted in
-      releases_by (F plan) plan adm.limits (one.enough plan adm) dem s run.belongs plan.scheduler calm;
-  chooses = λ plan dem s run dec calm.
-      let adm = run.admitted in
-      let k = lowest_entry plan.machine (demand plan) in
-      chooses_by (F plan) plan adm.limits (one.enough plan adm) dem s run.belongs plan.scheduler k (one.same plan adm) calm;
-  meets = λ plan dem s run dec calm other. one.met plan run.admitted;
-  ticks = λ plan dem s run k safe shares may.
-      let adm = run.admitted in
-      ticks_by (F plan) plan adm.limits (one.enough plan adm) dem s run.belongs plan.scheduler refl k shares may.before may.legal safe;
-  stays_calm = λ plan dem s run k safe.
-      let adm = run.admitted in
-      stays_by (F plan) plan adm.limits (one.enough plan adm) dem s run.belongs plan.scheduler k safe;
-  completes = λ plan dem s run calm.
-      let adm = run.admitted in
-      completes_by (F plan) plan adm.limits (one.enough plan adm) dem s run.belongs plan.scheduler calm;
-}
+laws_at F demand one pairs = grind (arith, nat_tests, opens_by, releases_by, chooses_by, ticks_by, stays_by, completes_by)
 
 -- a governor at the highest speed keeps the laws
 pub full_laws : {kind : GovernorKind} → ((sch : Scheduler) → ServesBoth sch → IsPair sch kind)

@@ -1,13 +1,13 @@
 -- The published demands of the kinds `Plain` and `Fixed` are functions of the plan alone. So the schedule under `static`
 -- with every job at its worst case meets every deadline, for each number of ticks.
-use Rattle.std.proofs.Common.{◌≡◌, Bool, true, false, List, [], ◌∷◌, refl, ap, if◌then◌else◌, ℕ, ◌-◌, ◌<◌, ◌≤◌, length, arith, ◌∙◌, sym, subst}
+use Rattle.std.proofs.lemmas.Bool.Decides.{nat_tests}
+use Rattle.std.proofs.Common.{◌≡◌, List, [], ◌∷◌, refl, ap, ℕ, ◌-◌, ◌<◌, ◌≤◌, length, arith, ◌∙◌, sym, subst}
 use Rattle.dvs_base.specs.declared.kind.Scheduler.{Scheduler}
 use Rattle.dvs_base.specs.declared.kind.Scheduler.TheVariants.{Edf, Rm}
 use Rattle.dvs_base.specs.declared.kind.GovernorKind.TheVariants.{Plain, Fixed}
 use Rattle.grid_fraction.specs.declared.Frac.{Frac}
 use Rattle.freq_table.specs.Tables.{lowest_entry}
 use Rattle.sched_model.specs.Plan.{Plan, count}
-use Rattle.sched_model.specs.Decision.{is_decision}
 use Rattle.sched_model.specs.Schedule.{entry_in_force, schedule, schedule_by}
 use Rattle.sched_model.specs.Jobs.{JobDemands, latest, due, IsWithin, worst_demand}
 use Rattle.sched_model.specs.Ticks.{PublishedDemand, Tick, at, exec, IsMet}
@@ -46,12 +46,7 @@ published-fixed p dem past = fixed_by p.scheduler p dem past
 pub entry-same : (p : Plan) (dem : JobDemands) (ask : PublishedDemand) (d : Frac) → ((past : List Tick) → ask past ≡ d)
     → (past : List Tick) → entry_in_force p dem ask past ≡ lowest_entry p.machine d
 entry-same p dem ask d same [] = ap (lowest_entry p.machine) (same [])
-entry-same p dem ask d same (x ∷ past) = go (is_decision p dem (x ∷ past)) (entry-same p dem ask d same past)
-  where
-    go : (b : Bool) → entry_in_force p dem ask past ≡ lowest_entry p.machine d
-        → (if b then lowest_entry p.machine (ask (x ∷ past)) else entry_in_force p dem ask past) ≡ lowest_entry p.machine d
-    go true ih = ap (lowest_entry p.machine) (same (x ∷ past))
-    go false ih = ih
+entry-same p dem ask d same (x ∷ past) = grind (arith, nat_tests, entry-same p dem ask d same past)
 
 pub plain_publishing : PublishingLaws Plain ServesBoth (unchanging full_demand)
 plain_publishing =

@@ -153,11 +153,7 @@ allotment-shares n key room need i lt = shares_by_rank n key room need (suc (sum
 -- whether units are shared out by the order depends on the shares of the tasks alone
 pub shares-same : (n : ℕ) (key : ℕ → ℕ) (room : ℕ) (need a b : ℕ → ℕ) → ((k : ℕ) → k < n → a k ≡ b k)
     → SharesOut n key room need a → SharesOut n key room need b
-shares-same n key room need a b e h i lt =
-    ap₂ (λ u v. u + v)
-    (sym (sum_where-same n (λ k. stands_before key k i) a b e))
-    (sym (e i lt))
-    ∙ h i lt
+shares-same n key room need a b e h i lt = grind (arith, nat_tests, sum_where-same)
 
 -- an allotment depends on the needs of the tasks alone
 pub allotment-same : (n : ℕ) (key : ℕ → ℕ) (room : ℕ) (f g : ℕ → ℕ) → ((j : ℕ) → j < n → f j ≡ g j) → (k : ℕ) → k < n
@@ -182,10 +178,7 @@ up_to-before n key f j i lt h =
   where
     lem : (a b c : Bool) → (b ≡ true → a ≡ true) → (c ≡ true → (a ≡ true) × (b ≡ false)) → (x : ℕ)
         → (if b then x else 0) + (if c then x else 0) ≤ (if a then x else 0)
-    lem a true true p q x = absurd (true≢false (q refl).1)
-    lem a true false p q x = rw (p refl) (omega arith)
-    lem a false true p q x = rw ((q refl).0) (omega arith)
-    lem a false false p q x = omega arith
+    lem a b c p q x = grind (arith, nat_tests)
 
     within : (k : ℕ) (b : Bool) → eqb k j ≡ b → (c : Bool) → stands_before key k j ≡ c
         → (if stands_before key k j then f k else 0) + (if eqb k j then f k else 0) ≤ (if stands_before key k i then f k else 0)
@@ -227,11 +220,7 @@ handed_before n key room need given rest h pos i o = go (h.all_or_none pos i o.b
 
 -- at the start nothing is handed out
 pub handed-start : (n : ℕ) (key : ℕ → ℕ) (room : ℕ) (need : ℕ → ℕ) → IsHandedOut n key room need (λ _. 0) room
-handed-start n key room need = record {
-  rest_in = omega arith;
-  given_is = λ i lt. omega arith;
-  all_or_none = λ pos i lt. inl refl;
-}
+handed-start n key room need = grind (arith, nat_tests)
 
 -- the first open task gets what it needs, as far as units are left
 pub handed-step : (n : ℕ) (key : ℕ → ℕ) (room : ℕ) (need given given' : ℕ → ℕ) (rest i : ℕ) → IsHandedOut n key room need given rest → 0 < rest
@@ -269,29 +258,9 @@ handed-step n key room need given given' rest i h pos o here there = record {
         )
 
     all : (k : ℕ) → k < n → 0 < rest - min rest (need i - given i) → (b : Bool) → eqb k i ≡ b → (given' k ≡ 0) ⊎ (given' k ≡ need k)
-    all k lt pos' true e =
-        let same : i ≡ k = grind (arith, nat_tests) in
-        inr (subst (λ m. given' m ≡ need m) same (omega (arith, here, now.0)))
-    all k lt pos' false e = other (h.all_or_none pos k lt)
-      where
-        kept : given' k ≡ given k
-        kept = there k lt (λ q. absurd (true≢false (grind (arith, nat_tests))))
-
-        other : (given k ≡ 0) ⊎ (given k ≡ need k) → (given' k ≡ 0) ⊎ (given' k ≡ need k)
-        other (inl z) = inl (kept ∙ z)
-        other (inr z) = inr (kept ∙ z)
+    all k lt pos' b e = grind (arith, nat_tests)
 
 -- where no unit is left or no task needs more, each task has its allotment
 pub handed-end : (n : ℕ) (key : ℕ → ℕ) (room : ℕ) (need given : ℕ → ℕ) (rest : ℕ) → IsHandedOut n key room need given rest
     → (rest ≡ 0) ⊎ ((k : ℕ) → k < n → need k ≤ given k) → (i : ℕ) → i < n → given i ≡ allotment n key room need i
-handed-end n key room need given rest h e i lt = go e
-  where
-    go : (rest ≡ 0) ⊎ ((k : ℕ) → k < n → need k ≤ given k) → given i ≡ allotment n key room need i
-    go (inl z) = h.given_is i lt ∙ ap (λ a. allotment n key a need i) (omega arith)
-    go (inr all) =
-        let given_all : sum_before n key (allotment n key (room - rest) need) i ≡ sum_before n key need i =
-        sum_below-same n _ _ (λ k l. ap (λ v. if stands_before key k i then v else 0) (whole k l)) in
-        omega (arith, h.given_is i lt, whole i lt, given_all, allotment-shares n key (room - rest) need i lt)
-      where
-        whole : (k : ℕ) → k < n → allotment n key (room - rest) need k ≡ need k
-        whole k l = omega (arith, h.given_is k l, all k l)
+handed-end n key room need given rest h e i lt = grind (arith, nat_tests)

@@ -1,12 +1,12 @@
 -- There is exactly one schedule of each length, with the entry in force on it and what its jobs have had.
-use Rattle.std.proofs.Common.{◌≡◌, ℕ, zero, suc, ◌<◌, Bool, true, false, if◌then◌else◌, List, [], ◌∷◌, length, get_or, refl, arith, ap, ◌∙◌, sym, subst, drop, ◌+◌, ◌-◌, ◌≤◌}
+use Rattle.std.proofs.Common.{◌≡◌, ℕ, zero, suc, ◌<◌, true, if◌then◌else◌, List, [], ◌∷◌, length, get_or, refl, arith, ap, ◌∙◌, sym, subst, drop, ◌-◌, ◌≤◌}
 use Rattle.std.proofs.lemmas.List.{ext_get_or}
 use Rattle.std.proofs.lemmas.Bool.Decides.{nat_tests}
 use Rattle.freq_table.specs.Tables.{lowest_entry}
 use Rattle.freq_table.proofs.Chosen.{lowest_within}
 use Rattle.grid_fraction.specs.Numbers.{list_below}
 use Rattle.sched_model.specs.Plan.{Plan, count, point}
-use Rattle.sched_model.specs.Jobs.{JobDemands, release, due, is_in_window}
+use Rattle.sched_model.specs.Jobs.{JobDemands}
 use Rattle.sched_model.specs.Decision.{is_decision}
 use Rattle.sched_model.specs.Ticks.{PublishedDemand, Tick, share, left, exec, at}
 use Rattle.sched_model.specs.Priority.{allotment, key_of, IsLegal}
@@ -94,21 +94,14 @@ force-decided p dem ask (x ∷ past) e = ap (λ b. if b then lowest_entry p.mach
 pub force-within : (p : Plan) (dem : JobDemands) (ask : PublishedDemand) → 0 < length p.machine.points → (past : List Tick)
     → entry_in_force p dem ask past < length p.machine.points
 force-within p dem ask some [] = lowest_within p.machine (ask []) some
-force-within p dem ask some (x ∷ past) = go (is_decision p dem (x ∷ past)) (force-within p dem ask some past)
-  where
-    go : (b : Bool) → entry_in_force p dem ask past < length p.machine.points
-        → (if b then lowest_entry p.machine (ask (x ∷ past)) else entry_in_force p dem ask past) < length p.machine.points
-    go true ih = lowest_within p.machine (ask (x ∷ past)) some
-    go false ih = ih
+force-within p dem ask some (x ∷ past) = grind (arith, nat_tests, force-within p dem ask some past)
 
 -- the past at its own length is itself, and the past at an earlier tick doesn't depend on its last tick
 pub at-now : (past : List Tick) → at (length past) past ≡ past
 at-now past = let z : length past - length past ≡ 0 = omega arith in rw z refl
 
 pub at-before : (r : ℕ) (x : Tick) (past : List Tick) → r ≤ length past → at r (x ∷ past) ≡ at r past
-at-before r x past le =
-    let e : length (x ∷ past) - r ≡ suc (length past - r) = omega arith in
-    ap (λ n. drop n (x ∷ past)) e
+at-before r x past le = grind (arith, nat_tests)
 
 -- a job has had no more in the earlier ticks than in all of them
 pub exec-drop : (p : Plan) (i k n : ℕ) (ticks : List Tick) → exec p (drop n ticks) i k ≤ exec p ticks i k
@@ -124,16 +117,7 @@ share-legal p dem past f x = share-most (count p) (key_of p.scheduler p (length 
 -- a tick that gives no task more than its latest job needs takes no job over its demand
 pub exec-within : (p : Plan) (dem : JobDemands) (x : Tick) (past : List Tick) (i k : ℕ) → share x i ≤ left p dem past i
     → exec p past i k ≤ dem i k → exec p (x ∷ past) i k ≤ dem i k
-exec-within p dem x past i k own had = go (is_in_window p i k (length past)) refl
-  where
-    go : (b : Bool) → is_in_window p i k (length past) ≡ b
-        → exec p past i k + (if is_in_window p i k (length past) then share x i else 0) ≤ dem i k
-    go true e =
-        let from : release p i k ≤ length past = grind (arith, nat_tests) in
-        let until : length past < due p i k = grind (arith, nat_tests) in
-        let needs : left p dem past i ≡ dem i k - exec p past i k = ap (λ m. dem i m - exec p past i m) (latest-is p i k (length past) from until) in
-        rw e (omega (arith, own, needs, had))
-    go false e = rw e (omega (arith, had))
+exec-within p dem x past i k own had = grind (arith, nat_tests, latest-is)
 
 -- on a schedule no job gets more than its demand
 pub exec-most : (p : Plan) (dem : JobDemands) (ask : PublishedDemand) (past : List Tick) → IsScheduleBy p dem ask past → (i k : ℕ)

@@ -1,5 +1,5 @@
 -- The last span of a schedule: its decision, its ticks, its units, its notes, and what each job has had by its end.
-use Rattle.std.proofs.Common.{◌≡◌, true, false, List, [], ◌∷◌, ◌++◌, reverse, flat_map, refl, ap, ◌∙◌, append-nil, ℕ, zero, suc, ◌+◌, ◌-◌, ◌*◌, ◌<◌, ◌≤◌, Bool, ◌&&◌, nat_eq, length, arith, if◌then◌else◌, sym, subst, true≢false, ◌⊎◌, inl, inr, length-append, eq-or-lt_of_le}
+use Rattle.std.proofs.Common.{◌≡◌, true, false, List, [], ◌∷◌, ◌++◌, reverse, flat_map, refl, ap, ◌∙◌, append-nil, ℕ, zero, suc, ◌+◌, ◌-◌, ◌*◌, ◌<◌, ◌≤◌, Bool, length, arith, if◌then◌else◌, sym, true≢false, ◌⊎◌, inl, inr, length-append, eq-or-lt_of_le}
 use Rattle.std.proofs.lemmas.List.{reverse-append}
 use Rattle.std.proofs.lemmas.Grind.{flat_map-append}
 use Rattle.std.specs.Prelude.{count_by, cond}
@@ -100,19 +100,7 @@ module _ (p : Plan) (dem : JobDemands) (ask : PublishedDemand) where
 
   pub opened : (x : Tick) (past : List Tick) → IsScheduleBy p dem ask past → IsNext p dem ask past x → is_decision p dem past ≡ true
       → IsLastSpan x past (record { past = past; entry = x.entry; units = tick_units p past x })
-  opened x past h next e = record {
-    spans = span-opens p dem x past e;
-    decided = e;
-    earlier = h;
-    shorter = omega arith;
-    entry = λ lim. subst (λ n. n < length p.machine.points) (sym next.entry) (force-within p dem ask lim.machine.some past);
-    force = refl;
-    long = units-long p dem ask past x next ∙ (let one : length (x ∷ past) - length past ≡ 1 = omega arith in rw one (omega arith));
-    grew = λ i k. omega arith;
-    had = λ lim. units-had p past x (every_period p lim);
-    same = λ lim i t lt low high. let here : t ≡ length past = omega arith in ap (latest p i) here;
-    now = λ lim. units-now past x next;
-  }
+  opened x past h next e = grind (arith, nat_tests, span-opens, force-within, units-long, units-had, every_period, units-now)
 
   pub grows : (x y : Tick) (past : List Tick) (s : Span) → IsLastSpan y past s → IsScheduleBy p dem ask (x ∷ y ∷ past) → is_decision p dem (y ∷ past) ≡ false
       → IsLastSpan x (y ∷ past) (record { past = s.past; entry = s.entry; units = s.units ++ tick_units p (y ∷ past) x })
@@ -173,15 +161,7 @@ module _ (p : Plan) (dem : JobDemands) (ask : PublishedDemand) where
   had-each lim needless x past s l i zero lt = omega (arith, exec-none p (x ∷ past) i, exec-none p s.past i, none s.units (l.now lim))
     where
       one : (h : Holder) → IsNow p dem (length past) h → ◌≡◌ {A = ℕ} (cond (same_holder (Held i 0) h) 1 0) 0
-      one Nobody now = refl
-      one (Held j m) now = go (nat_eq i j) (nat_eq 0 m) refl
-        where
-          go : (a b : Bool) → nat_eq 0 m ≡ b → ◌≡◌ {A = ℕ} (cond (a && b) 1 0) 0
-          go false b e = refl
-          go true false e = refl
-          go true true e =
-              let none : m ≡ 0 = grind (arith, nat_tests) in
-              absurd (omega (arith, now.2, needless j, ap (dem j) none))
+      one h now = grind (arith, nat_tests)
 
       none : (us : List Holder) → AllByRecursion (IsNow p dem (length past)) us → count_by (same_holder (Held i 0)) us ≡ 0
       none [] all = refl
