@@ -1,6 +1,6 @@
 -- Reading one record takes the first of the records that are left, whose fields are compared with those of a header.
 use Rattle.std.proofs.lemmas.Bool.Decides.{nat_tests}
-use Rattle.std.proofs.Common.{◌≡◌, ◌≢◌, ◌<◌, ℕ, zero, suc, ◌+◌, List, [], ◌∷◌, length, map, drop, Bool, true, false, not, ◌&&◌, Some, None, refl, sym, ◌∙◌, ap, ap₂, arith, if◌then◌else◌, Bor, add-one, ◌⊎◌, inl, inr, ◌≤◌, ◌++◌, Option, subst}
+use Rattle.std.proofs.Common.{◌≡◌, ◌≢◌, ◌<◌, ℕ, zero, suc, ◌+◌, List, [], ◌∷◌, length, map, drop, Bool, true, false, not, ◌&&◌, Some, None, refl, sym, ◌∙◌, ap, ap₂, arith, if◌then◌else◌, Bor, add-one, ◌⊎◌, inl, inr, ◌≤◌, ◌++◌, Option}
 use Rattle.std.specs.Prelude.{slice_index_or, IsSome}
 use Rattle.std.specs.Str.{bytes_eq}
 use Rattle.std.proofs.lemmas.Bool.{and_parts}
@@ -8,7 +8,7 @@ use Rattle.std.proofs.lemmas.List.{length-map}
 use Rattle.std.proofs.lemmas.Slice.Eq.{bytes_eq-Decides}
 use Rattle.csv.specs.Records.{field_at}
 use Rattle.csv.specs.Machine.{next_record, step, is_end, fields_after, field_after, ends_at_end, Read}
-use Rattle.csv.specs.Reading.{Reached, records, records_from, records_next, strip_bom, is_bom, default_config, ReadRecord}
+use Rattle.csv.specs.Reading.{Reached, records, records_from, records_next, strip_bom, default_config, ReadRecord}
 use Rattle.csv.specs.declared.parser.Config.{Config}
 use Rattle.csv.specs.declared.parser.State.{State}
 use Rattle.csv.proofs.ReadFacts.{rows-end, rows-more}

@@ -1,6 +1,6 @@
 -- The counts of a schedule's notes, tick by tick. They say once that a job completes, when it has had its demand, and not
 -- after its deadline.
-use Rattle.std.proofs.Common.{◌≡◌, ◌+◌, Bool, true, false, List, [], ◌∷◌, ◌++◌, refl, arith, ap, ℕ, zero, suc, ◌≤◌, not, ◌&&◌, ◌||◌, length, if◌then◌else◌, ◌∙◌, sym, true≢false, nat_eq, nat_le, ◌-◌, ◌*◌, ◌/◌, ◌%◌, ◌<◌, inl, inr, nat_lt, div-add-mod', mul-le-mul_right}
+use Rattle.std.proofs.Common.{◌≡◌, ◌+◌, Bool, true, false, List, [], ◌∷◌, ◌++◌, refl, arith, ap, ℕ, suc, ◌≤◌, not, ◌&&◌, length, if◌then◌else◌, ◌∙◌, sym, nat_eq, nat_le, ◌-◌, ◌*◌, ◌/◌, ◌%◌, ◌<◌, inl, inr, nat_lt, div-add-mod', mul-le-mul_right}
 use Rattle.std.specs.Prelude.{count_by, cond}
 use Rattle.std.specs.List.{AllByRecursion}
 use Rattle.std.proofs.lemmas.List.Sums.{sum_by-cons}
@@ -13,7 +13,7 @@ use Rattle.grid_fraction.specs.Numbers.{sum_below, any_below}
 use Rattle.grid_fraction.proofs.Sums.{sum_below-same, sum_below-add, sum_below-le, sum_below-zero}
 use Rattle.grid_fraction.proofs.Searches.{any-some}
 use Rattle.sched_model.specs.Plan.{Plan, count, period, point}
-use Rattle.sched_model.specs.Jobs.{JobDemands, latest, release, releases_at, is_release, due}
+use Rattle.sched_model.specs.Jobs.{JobDemands, latest, release, releases_at, due}
 use Rattle.sched_model.specs.Ticks.{PublishedDemand, Tick, exec, is_done}
 use Rattle.sched_model.specs.Decision.{completes_in, is_decision}
 use Rattle.sched_model.specs.Schedule.{IsScheduleBy}
@@ -149,30 +149,14 @@ module _ (p : Plan) (dem : JobDemands) (ask : PublishedDemand) (lim : IsWithinLi
 
   -- a decision is at tick 0, at a release, or just after a completion
   decision-cause : (past : List Tick) → one_if (is_decision p dem past) ≤ start past + (fresh past + releases p (length past))
-  decision-cause [] = omega arith
-  decision-cause (x ∷ past) =
-      omega (
-        arith,
-        either (is_release p (length (x ∷ past))) (any_below (count p) (λ i. completes_in p dem x past i)),
-        some-counted (λ j. releases_at p j (length (x ∷ past))),
-      )
-    where
-      either : (a b : Bool) → one_if (a || b) ≤ one_if a + one_if b
-      either true b = omega arith
-      either false b = omega arith
+  decision-cause past = grind (arith, nat_tests, some-counted, one_if)
 
   -- where task i has no release, its open job before is its latest job, unless that has had its demand
   open-before : (past : List Tick) (i : ℕ) → releases_at p i (length past) ≡ false → open_job past i ≡ lacks past (length past) i
   open-before [] i unreleased = rw (first (latest p i 0) refl) refl
     where
       first : (k : ℕ) → latest p i 0 ≡ k → nat_le (dem i (latest p i 0)) 0 ≡ true
-      first zero e =
-          let needs : dem i (latest p i 0) ≡ 0 = ap (dem i) e ∙ needless i in
-          grind (arith, nat_tests)
-      first (suc k) e =
-          let le = release-le p i 0 (every_period p lim i) (omega (arith, e)) in
-          let on : releases_at p i 0 ≡ true = grind (arith, nat_tests) in
-          absurd (true≢false (sym on ∙ unreleased))
+      first k e = grind (arith, nat_tests, release-le, every_period)
   open-before (x ∷ past) i unreleased =
       ap (λ k. if is_done p dem (x ∷ past) i k then 0 else 1) (sym (stays-unreleased p dem (every_period p lim) x past i unreleased))
 
@@ -189,10 +173,7 @@ module _ (p : Plan) (dem : JobDemands) (ask : PublishedDemand) (lim : IsWithinLi
       one : (i k : ℕ) (a : Bool) → is_done p dem past i k ≡ a → (b : Bool) → is_done p dem (x ∷ past) i k ≡ b
           → (if is_done p dem (x ∷ past) i k then 0 else 1) + one_if (not (is_done p dem past i k) && is_done p dem (x ∷ past) i k)
           ≡ (if is_done p dem past i k then 0 else 1)
-      one i k true e true f = rw (e, f) refl
-      one i k true e false f = absurd (true≢false (grind (arith, nat_tests)))
-      one i k false e true f = rw (e, f) refl
-      one i k false e false f = rw (e, f) refl
+      one i k a e b f = grind (arith, nat_tests)
 
   -- at a tick, the jobs released with no demand and those that are then open are at most those open before and those released
   open-most : (past : List Tick)
@@ -212,20 +193,7 @@ module _ (p : Plan) (dem : JobDemands) (ask : PublishedDemand) (lim : IsWithinLi
       empty i = one_if (releases_at p i t && nat_eq (dem i (latest p i t)) 0)
 
       each : (i : ℕ) (b : Bool) → releases_at p i t ≡ b → empty i + lacks past t i ≤ open_job past i + one_if (releases_at p i t)
-      each i false e = rw e (omega (arith, open-before past i e))
-      each i true e =
-          let now : release p i (latest p i t) ≡ t = grind (arith, nat_tests) in
-          let none : exec p past i (latest p i t) ≡ 0 = exec-early p past i (latest p i t) (omega (arith, now)) in
-          rw (e, none) (omega (arith, one (dem i (latest p i t))))
-        where
-          one : (need : ℕ) → one_if (nat_eq need 0) + (if nat_le need 0 then 0 else 1) ≤ 1
-          one need = go (nat_eq need 0) refl (nat_le need 0) refl
-            where
-              go : (a : Bool) → nat_eq need 0 ≡ a → (b : Bool) → nat_le need 0 ≡ b → one_if (nat_eq need 0) + (if nat_le need 0 then 0 else 1) ≤ 1
-              go true f true g = rw (f, g) (omega arith)
-              go true f false g = absurd (true≢false (grind (arith, nat_tests)))
-              go false f true g = rw (f, g) (omega arith)
-              go false f false g = rw (f, g) (omega arith)
+      each i b e = grind (arith, nat_tests, open-before, exec-early, one_if)
 
   -- the counts over the notes of these ticks are balanced: decisions by their causes, and completions by releases
   record Balanced (ticks : List Tick) : Type 0 where
@@ -233,11 +201,7 @@ module _ (p : Plan) (dem : JobDemands) (ask : PublishedDemand) (lim : IsWithinLi
     completed : count_by is_finished (notes ticks) + open_jobs ticks ≤ count_by is_released (notes ticks)
 
   balanced : (ticks : List Tick) → IsScheduleBy p dem ask ticks → Balanced ticks
-  balanced [] h = record {
-    decisions = omega (arith, none-sum p dem ask (λ note. cond (is_decided note) 1 0));
-    completed =
-        omega (arith, none-sum p dem ask (λ note. cond (is_finished note) 1 0), sum_below-zero (count p) (λ i. 0) (λ i lt. refl));
-  }
+  balanced [] h = grind (arith, nat_tests, none-sum, sum_below-zero)
   balanced (x ∷ past) h =
       let before = balanced past h.0 in
       let a = adds x past h in
@@ -248,16 +212,7 @@ module _ (p : Plan) (dem : JobDemands) (ask : PublishedDemand) (lim : IsWithinLi
       }
 
   pub few : (ticks : List Tick) → IsScheduleBy p dem ask ticks → AreFew (totals_of (notes_of p dem ask ticks))
-  few ticks h =
-      let r = balanced ticks h in
-      let decided = with-end p dem ask (λ note. cond (is_decided note) 1 0) ticks in
-      let released = with-end p dem ask (λ note. cond (is_released note) 1 0) ticks in
-      let finished = with-end p dem ask (λ note. cond (is_finished note) 1 0) ticks in
-      record {
-        decisions = omega (arith, r.decisions, decided, released, finished);
-        completions = omega (arith, r.completed, released, finished);
-        two_each = omega (arith, r.decisions, r.completed, decided, released, finished);
-      }
+  few ticks h = grind (arith, nat_tests, balanced, with-end, completions)
 
 -- every schedule has few decisions
 pub has-few : (p : Plan) → IsWithinLimits p → HasFewDecisions p
@@ -283,17 +238,7 @@ by-end from f n q t some le within = elim (cases_lt (from + q / f) t) [
 
 -- the numbers below b and b itself are those below b + 1
 next-below : (a b : ℕ) → one_if (nat_lt a b) + one_if (nat_eq a b) ≡ one_if (nat_lt a (suc b))
-next-below a b = go (nat_lt a b) refl (nat_eq a b) refl (nat_lt a (suc b)) refl
-  where
-    go : (u : Bool) → nat_lt a b ≡ u → (v : Bool) → nat_eq a b ≡ v → (w : Bool) → nat_lt a (suc b) ≡ w
-        → one_if (nat_lt a b) + one_if (nat_eq a b) ≡ one_if (nat_lt a (suc b))
-    go true e false f true g = rw (e, f, g) refl
-    go false e true f true g = rw (e, f, g) refl
-    go false e false f false g = rw (e, f, g) refl
-    go true e true f w g = absurd (true≢false (grind (arith, nat_tests)))
-    go true e false f false g = absurd (true≢false (grind (arith, nat_tests)))
-    go false e true f false g = absurd (true≢false (grind (arith, nat_tests)))
-    go false e false f true g = absurd (true≢false (grind (arith, nat_tests)))
+next-below a b = grind (arith, nat_tests, one_if)
 
 module _ (p : Plan) (dem : JobDemands) (ask : PublishedDemand) (lim : IsWithinLimits p) (i k : ℕ) (inside : i < count p) (some_job : 1 ≤ k) where
   some : 0 < period p i
@@ -315,28 +260,7 @@ module _ (p : Plan) (dem : JobDemands) (ask : PublishedDemand) (lim : IsWithinLi
 
       on : (b : Bool) → nat_eq k (latest p i t) ≡ b
           → (if nat_eq k (latest p i t) then empty i else 0) ≡ one_if (nat_eq (dem i k) 0 && nat_eq (release p i k) t)
-      on true e =
-          let job : latest p i t ≡ k = grind (arith, nat_tests) in
-          let self : nat_eq k k ≡ true = grind (arith, nat_tests) in
-          rw (job, self) (here (nat_eq (release p i k) t) (nat_eq (dem i k) 0))
-        where
-          here : (a b : Bool) → one_if (a && b) ≡ one_if (b && a)
-          here true true = refl
-          here true false = refl
-          here false true = refl
-          here false false = refl
-      on false e = rw (e, away (nat_eq (release p i k) t) refl) (none (nat_eq (dem i k) 0))
-        where
-          away : (b : Bool) → nat_eq (release p i k) t ≡ b → nat_eq (release p i k) t ≡ false
-          away false f = f
-          away true f =
-              let now : release p i k ≡ t = grind (arith, nat_tests) in
-              let job : latest p i t ≡ k = latest-is p i k t (omega arith) (omega (arith, release-due p i k some_job, some)) in
-              absurd (true≢false (grind (arith, nat_tests)))
-
-          none : (b : Bool) → 0 ≡ one_if (b && false)
-          none true = refl
-          none false = refl
+      on b e = grind (arith, nat_tests, one_if, latest-is, release-due, some)
 
   -- what tick x adds to the number of the job's completions
   completion-adds : (x : Tick) (past : List Tick) → IsScheduleBy p dem ask (x ∷ past)
@@ -382,22 +306,12 @@ module _ (p : Plan) (dem : JobDemands) (ask : PublishedDemand) (lim : IsWithinLi
   -- of a job that has had its demand, the notes of a schedule have the completion once
   pub told-once : (ticks : List Tick) → IsScheduleBy p dem ask ticks → release p i k < length ticks → exec p ticks i k ≡ dem i k
       → count_by (tells_done i k) (notes_of p dem ask ticks) ≡ 1
-  told-once ticks h began had = all-told ticks ∙ elim (cases_lt 0 (dem i k)) [
-    | inl needs ↦ told-some needs ticks h ∙ reached-all (dem i k) (exec p ticks i k) (omega (arith, had))
-    | inr none ↦
-        let within : nat_lt (release p i k) (length ticks) ≡ true = grind (arith, nat_tests) in
-        told-empty (omega (arith, none)) ticks h ∙ ap one_if within
-  ]
+  told-once ticks h began had = grind (arith, nat_tests, all-told, cases_lt, told-some, reached-all, told-empty, one_if)
 
   -- of a job that isn't released yet, the notes of a schedule have no completion
   pub told-never : (ticks : List Tick) → IsScheduleBy p dem ask ticks → length ticks ≤ release p i k
       → count_by (tells_done i k) (notes_of p dem ask ticks) ≡ 0
-  told-never ticks h later = all-told ticks ∙ elim (cases_lt 0 (dem i k)) [
-    | inl needs ↦ told-some needs ticks h ∙ reached-none (dem i k) (exec p ticks i k) (omega (arith, exec-early p ticks i k later, needs))
-    | inr none ↦
-        let off : nat_lt (release p i k) (length ticks) ≡ false = grind (arith, nat_tests) in
-        told-empty (omega (arith, none)) ticks h ∙ ap one_if off
-  ]
+  told-never ticks h later = grind (arith, nat_tests, all-told, cases_lt, told-some, reached-none, exec-early, told-empty, one_if)
 
   -- no note of a schedule says that the job completes after its deadline
   pub in-time : (ticks : List Tick) → IsScheduleBy p dem ask ticks → AllByRecursion (IsInTime (due p i k) i k) (notes_of p dem ask ticks)

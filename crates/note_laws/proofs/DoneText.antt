@@ -1,6 +1,6 @@
 -- The lines of a run's text, in either version. Those of a schedule that meets its deadlines say of each job that it
 -- completes by its deadline.
-use Rattle.std.proofs.Common.{◌≡◌, ℕ, List, map, refl, nat_eq, get_or, false, zero, suc, ◌+◌, ◌-◌, ◌^◌, ◌<◌, ◌≤◌, Bool, true, ◌&&◌, [], ◌∷◌, ◌++◌, length, flat_map, arith, ap, ap₂, ◌∙◌, sym, subst, true≢false, append_assoc, ◌⊎◌, inl, inr}
+use Rattle.std.proofs.Common.{◌≡◌, ℕ, List, map, refl, nat_eq, get_or, false, zero, suc, ◌+◌, ◌-◌, ◌^◌, ◌<◌, ◌≤◌, Bool, true, ◌&&◌, [], ◌∷◌, ◌++◌, length, flat_map, arith, ap, ap₂, ◌∙◌, sym, subst, true≢false, append_assoc, inl, inr}
 use Rattle.std.specs.List.{AllByRecursion}
 use Rattle.std.specs.Prelude.{count_by}
 use Rattle.std.proofs.lemmas.Fmt.{decimal_injective}
@@ -145,25 +145,11 @@ module _ (p : Plan) (dem : JobDemands) (ask : PublishedDemand) (lim : IsWithinLi
   name-out i le = get_or-eq_default (names p) [] (omega (arith, length-map p.tasks (λ (t : Task). t.name), le))
 
   named : (i : ℕ) → ArePlain (name_of (names p) i)
-  named i = elim (cases_lt i (count p)) [
-    | inl within ↦ subst ArePlain (sym (name-in i within)) (plain-name (task_at p.tasks i).name (lim.tasks.each i within).name)
-    | inr past ↦ subst ArePlain (sym (name-out i past)) tt
-  ]
+  named i = grind (arith, nat_tests, cases_lt, name-in, plain-name, name-out)
 
   -- two tasks of the plan don't have one name
   apart : (i : ℕ) → i < count p → (j : ℕ) → name_of (names p) j ≡ name_of (names p) i → j ≡ i
-  apart i lt j e = elim (cases_lt j (count p)) [
-    | inl within ↦ one (name_eq within) within (cases_lt i j) (cases_lt j i)
-    | inr past ↦ absurd (some-name (task_at p.tasks i).name (lim.tasks.each i lt).name (sym (name-in i lt) ∙ (sym e ∙ name-out j past)))
-  ]
-    where
-      name_eq : j < count p → (task_at p.tasks j).name ≡ (task_at p.tasks i).name
-      name_eq within = sym (name-in j within) ∙ (e ∙ name-in i lt)
-
-      one : (task_at p.tasks j).name ≡ (task_at p.tasks i).name → j < count p → (i < j) ⊎ (j ≤ i) → (j < i) ⊎ (i ≤ j) → j ≡ i
-      one same within (inl over) b = absurd (lim.tasks.distinct i j over within (sym same))
-      one same within (inr le) (inl under) = absurd (lim.tasks.distinct j i under lt same)
-      one same within (inr le) (inr ge) = omega arith
+  apart i lt j e = grind (arith, nat_tests, cases_lt, some-name, name-in, name-out)
 
   -- a job whose completion is among the notes has a number below 2^64
   small : (i : ℕ) → i < count p → (l : ℕ) → 0 < count_by (tells_done i l) notes → l < 2 ^ 64

@@ -70,14 +70,7 @@ module _ (p : Plan) (lim : IsWithinLimits p) (dem : JobDemands) (needless : (i :
       )
 
   each-in : (s : Span) (t : ℕ) → EachNote p dem ask (IsNoteIn p) (IsNow p dem t) s
-  each-in s t = record {
-    release = λ i lt. lt;
-    empty = λ i lt none. lt;
-    decision = tt;
-    idle = λ q units le. tt;
-    run = λ q units i k le now. now.0;
-    done = λ q i k le now whole. now.0;
-  }
+  each-in s t = grind (arith, nat_tests)
 
   low-energy : (ticks : List Tick) → IsScheduleBy p dem ask ticks
       → sum_by energy_run (notes_before_end p dem ask ticks) + sum_by energy_idle (notes_before_end p dem ask ticks)
@@ -190,14 +183,7 @@ kinds notes =
     count_by is_released notes + count_by is_finished notes + count_by is_decided notes + count_by is_segment notes
 
 kinds-append : (xs ys : List Note) → kinds (xs ++ ys) ≡ kinds xs + kinds ys
-kinds-append xs ys =
-    omega (
-      arith,
-      count-append is_released xs ys,
-      count-append is_finished xs ys,
-      count-append is_decided xs ys,
-      count-append is_segment xs ys,
-    )
+kinds-append xs ys = grind (arith, nat_tests, count-append)
 
 kinds-one : (p : Plan) (dem : JobDemands) (n : Note) → IsBeforeEnd p dem n → kinds (n ∷ []) ≡ 1
 kinds-one p dem (End t run idle) h = absurd h

@@ -1,12 +1,12 @@
 -- The segments of a tick or of a span: at most one more than the jobs that complete in its last tick.
-use Rattle.std.proofs.Common.{◌≡◌, ◌⊎◌, inl, inr, ℕ, zero, suc, ◌+◌, ◌-◌, ◌<◌, ◌≤◌, min, Bool, true, false, ◌&&◌, List, [], ◌∷◌, ◌++◌, length, replicate, refl, arith, if◌then◌else◌, ap, ap₂, ◌∙◌, sym, subst, append_assoc, append-nil, nat_eq, nat_le, nat_lt, not}
+use Rattle.std.proofs.Common.{◌≡◌, ◌⊎◌, ℕ, zero, suc, ◌+◌, ◌-◌, ◌<◌, ◌≤◌, min, Bool, true, false, ◌&&◌, List, [], ◌∷◌, ◌++◌, length, replicate, refl, arith, if◌then◌else◌, ap, ap₂, ◌∙◌, sym, subst, append_assoc, append-nil, nat_eq, nat_le, nat_lt, not}
 use Rattle.std.proofs.lemmas.Bool.{cases_lt, and_parts, or_parts}
 use Rattle.std.proofs.lemmas.Bool.Decides.{nat_tests}
 use Rattle.std.proofs.lemmas.List.{replicate-append-replicate}
 use Rattle.sched_model.specs.declared.holder.Holder.{Holder}
 use Rattle.sched_model.specs.declared.holder.Holder.TheVariants.{Nobody, Held}
 use Rattle.sched_model.specs.Priority.{SharesOut, in_order, key_of}
-use Rattle.sched_model.specs.Notes.{same_holder, Piece, before_pieces, pieces_of, given_units, Span, spans_of, lengthened, tick_units}
+use Rattle.sched_model.specs.Notes.{Piece, before_pieces, pieces_of, given_units, Span, spans_of, lengthened, tick_units}
 use Rattle.sched_model.proofs.Orders.{sum_list, sum_list-snoc, AreBelow, below-from, in_order-below, sum_before-prefix, sum_list-in_order, in_order-same}
 use Rattle.sched_model.proofs.PieceLemmas.{piece, same_holder-refl}
 use Rattle.dvs_base.specs.declared.kind.Scheduler.{Scheduler}
@@ -30,22 +30,11 @@ abbrev pub segments : List Holder → ℕ
 segments us = length (pieces_of us)
 
 before-most : (h : Holder) (rs : List Piece) → length (before_pieces h rs) ≤ suc (length rs)
-before-most h [] = omega arith
-before-most h (r ∷ rs) = go (same_holder h r.holder)
-  where
-    go : (b : Bool) → length (if b then piece h (r.units + 1) ∷ rs else piece h 1 ∷ r ∷ rs) ≤ suc (suc (length rs))
-    go true = omega arith
-    go false = omega arith
+before-most h rs = grind (arith, nat_tests, piece)
 
 before-twice : (h : Holder) (rs : List Piece)
     → length (before_pieces h (before_pieces h rs)) ≡ length (before_pieces h rs)
-before-twice h [] = rw (same_holder-refl h) refl
-before-twice h (r ∷ rs) = go (same_holder h r.holder)
-  where
-    go : (b : Bool) → length (before_pieces h (if b then piece h (r.units + 1) ∷ rs else piece h 1 ∷ r ∷ rs))
-        ≡ length (if b then piece h (r.units + 1) ∷ rs else piece h 1 ∷ r ∷ rs)
-    go true = rw (same_holder-refl h) refl
-    go false = rw (same_holder-refl h) refl
+before-twice h rs = grind (arith, nat_tests, same_holder-refl, piece)
 
 -- the first unit, if there is one, has this holder
 abbrev pub Leads : Holder → List Holder → Type 0
@@ -54,11 +43,7 @@ Leads h (u ∷ us) = u ≡ h
 
 -- one more unit of the holder that leads adds no segment
 one-more : (h : Holder) (n : ℕ) (us : List Holder) → Leads h us → segments us ≤ suc n → segments (h ∷ us) ≤ suc n
-one-more h n [] leads few = omega arith
-one-more h n (u ∷ us) leads few =
-    let same : segments (h ∷ us) ≤ suc n = subst (λ g. length (before_pieces g (pieces_of us)) ≤ suc n) leads few in
-    subst (λ g. length (before_pieces h (before_pieces g (pieces_of us))) ≤ suc n) (sym leads)
-    (omega (arith, before-twice h (pieces_of us), same))
+one-more h n us leads few = grind (arith, nat_tests, before-twice)
 
 leads-run : (h : Holder) (m : ℕ) (us : List Holder) → Leads h us → Leads h (replicate m h ++ us)
 leads-run h zero us leads = leads
@@ -131,15 +116,7 @@ served need given i = if nat_lt 0 (need i) && nat_le (need i) (given i) then 1 e
 
 served-some : (need given : ℕ → ℕ) (i room : ℕ) → given i ≡ min room (need i)
     → min 1 (given i) + min 1 (room - given i) ≤ min 1 room + served need given i
-served-some need given i room turn = go (cases_lt 0 (need i)) (cases_lt (given i) (need i))
-  where
-    go : (0 < need i) ⊎ (need i ≤ 0) → (given i < need i) ⊎ (need i ≤ given i)
-        → min 1 (given i) + min 1 (room - given i) ≤ min 1 room + served need given i
-    go (inl some) (inr whole) =
-        let on : (nat_lt 0 (need i) && nat_le (need i) (given i)) ≡ true = grind (arith, nat_tests) in
-        rw on (omega arith)
-    go (inl some) (inl part) = omega arith
-    go (inr none) whole = omega arith
+served-some need given i room turn = grind (arith, nat_tests, cases_lt)
 
 -- the segments of the units are at most one more than the tasks that get all they need
 pub segments-most : (need given job : ℕ → ℕ) (room : ℕ) (is : List ℕ) → TakeTurns need given room is
@@ -173,12 +150,7 @@ none-laid need given job room (i ∷ is) none turns =
 -- a task that needs nothing gets nothing
 skips : (need given job : ℕ → ℕ) (room i : ℕ) (is : List ℕ) → TakeTurns need given room (i ∷ is) → need i ≡ 0
     → (TakeTurns need given room is) × (laid_out given job room (i ∷ is) ≡ laid_out given job room is)
-skips need given job room i is turns none =
-    let nothing : given i ≡ 0 = omega (arith, none, turns.0) in
-    let all : room - given i ≡ room = omega (arith, nothing) in (
-      subst (λ r. TakeTurns need given r is) all turns.1,
-      ap₂ (λ m r. replicate m (Held i (job i)) ++ laid_out given job r is) nothing all,
-    )
+skips need given job room i is turns none = grind (arith, nat_tests)
 
 -- the first unit is that of the first task that needs something
 pub first-leads : (need given job : ℕ → ℕ) (room : ℕ) (is : List ℕ) → TakeTurns need given room is
@@ -202,10 +174,7 @@ first-leads need given job room (i ∷ is) turns = go (nat_eq (need i) 0) refl (
         rw e (own (given i) refl some)
       where
         own : (m : ℕ) → given i ≡ m → 0 < need i → Leads (Held i (job i)) (laid_out given job room (i ∷ is))
-        own zero q some =
-            let none : room ≡ 0 = omega (arith, turns.0, q, some) in
-            subst (Leads (Held i (job i))) (sym (none-laid need given job room (i ∷ is) none turns)) tt
-        own (suc m) q some = rw q refl
+        own m q some = grind (arith, nat_tests, none-laid)
 
 -- where no task gets all it needs, the first task that needs something gets every unit
 pub first-alone : (need given job : ℕ → ℕ) (room : ℕ) (is : List ℕ) → TakeTurns need given room is
@@ -231,21 +200,14 @@ first-alone need given job room (i ∷ is) turns none =
         ∙ (append-nil (replicate (given i) (Held i (job i))) ∙ ap (λ m. replicate m (Held i (job i))) all))
       where
         full : 0 < need i → (given i < need i) ⊎ (need i ≤ given i) → given i ≡ room
-        full some (inl part) = omega (arith, turns.0)
-        full some (inr whole) =
-            let on : (nat_lt 0 (need i) && nat_le (need i) (given i)) ≡ true = grind (arith, nat_tests) in
-            let one : served need given i ≡ 1 = rw on refl in
-            absurd (omega (arith, none, one))
+        full some c = grind (arith, nat_tests)
 
 -- the first holder depends only on which tasks need something, and on their jobs
 first-same : (n : ℕ) (need other job later : ℕ → ℕ) (is : List ℕ) → AreBelow n is
     → ((i : ℕ) → i < n → nat_eq (need i) 0 ≡ nat_eq (other i) 0) → ((i : ℕ) → i < n → job i ≡ later i)
     → first_holder need job is ≡ first_holder other later is
 first-same n need other job later [] below needs jobs = refl
-first-same n need other job later (i ∷ is) below needs jobs =
-    ap (λ (b : Bool). if b then first_holder need job is else Held i (job i)) (needs i below.0)
-    ∙ ap₂ (λ (h : Holder) (k : ℕ). if nat_eq (other i) 0 then h else Held i k)
-    (first-same n need other job later is below.1 needs jobs) (jobs i below.0)
+first-same n need other job later (i ∷ is) below needs jobs = grind (arith, nat_tests, first-same n need other job later is below.1 needs jobs)
 
 module _ (p : Plan) (dem : JobDemands) (ask : PublishedDemand) (lim : IsWithinLimits p)
     (needless : (i : ℕ) → dem i 0 ≡ 0) where
@@ -320,9 +282,7 @@ module _ (p : Plan) (dem : JobDemands) (ask : PublishedDemand) (lim : IsWithinLi
   first_at past = first_holder (left p dem past) (job_at past) (order_at past)
 
   tick-leads : (past : List Tick) (x : Tick) → IsNext p dem ask past x → Leads (first_at past) (tick_units p past x)
-  tick-leads past x next =
-      subst (Leads (first_at past)) (sym (units-laid past x))
-      (first-leads (left p dem past) (share x) (job_at past) (speed x) (order_at past) (turns past x next))
+  tick-leads past x next = grind (arith, nat_tests, units-laid, first-leads, turns)
 
   -- where no decision follows a tick, no job completes in it
   none-served : (past : List Tick) (x : Tick) → IsNext p dem ask past x → is_decision p dem (x ∷ past) ≡ false
@@ -336,12 +296,7 @@ module _ (p : Plan) (dem : JobDemands) (ask : PublishedDemand) (lim : IsWithinLi
   -- where no decision follows a tick, one holder has all its units
   tick-alone : (past : List Tick) (x : Tick) → IsNext p dem ask past x → is_decision p dem (x ∷ past) ≡ false
       → tick_units p past x ≡ replicate (speed x) (first_at past)
-  tick-alone past x next e =
-      let none : sum_list (served (left p dem past) (share x)) (order_at past) ≡ 0 =
-      sum_list-in_order (served (left p dem past) (share x)) (key_at past) (count p)
-      ∙ sum_below-zero (count p) _ (none-served past x next e) in
-      units-laid past x
-      ∙ first-alone (left p dem past) (share x) (job_at past) (speed x) (order_at past) (turns past x next) none
+  tick-alone past x next e = grind (arith, nat_tests, sum_list, sum_list-in_order, sum_below-zero, none-served, units-laid, first-alone, turns)
 
   -- where no decision follows a tick, the first unit of the next tick has the same holder
   first-stays : (past : List Tick) (x : Tick) → IsNext p dem ask past x → is_decision p dem (x ∷ past) ≡ false
@@ -361,21 +316,7 @@ module _ (p : Plan) (dem : JobDemands) (ask : PublishedDemand) (lim : IsWithinLi
 
       part : (need given : ℕ) → ◌≡◌ {A = ℕ} (if nat_lt 0 need && nat_le need given then 1 else 0) 0
           → nat_eq (need - given) 0 ≡ nat_eq need 0
-      part need given none = go (cases_lt 0 need) (cases_lt given need)
-        where
-          go : (0 < need) ⊎ (need ≤ 0) → (given < need) ⊎ (need ≤ given) → nat_eq (need - given) 0 ≡ nat_eq need 0
-          go (inr zero) w =
-              let a : nat_eq (need - given) 0 ≡ true = grind (arith, nat_tests) in
-              let b : nat_eq need 0 ≡ true = grind (arith, nat_tests) in
-              a ∙ sym b
-          go (inl some) (inl less) =
-              let a : nat_eq (need - given) 0 ≡ false = grind (arith, nat_tests) in
-              let b : nat_eq need 0 ≡ false = grind (arith, nat_tests) in
-              a ∙ sym b
-          go (inl some) (inr whole) =
-              let on : (nat_lt 0 need && nat_le need given) ≡ true = grind (arith, nat_tests) in
-              let one : ◌≡◌ {A = ℕ} (if nat_lt 0 need && nat_le need given then 1 else 0) 1 = rw on refl in
-              absurd (omega (arith, none, one))
+      part need given none = grind (arith, nat_tests, cases_lt)
 
       needs : (i : ℕ) → i < count p → nat_eq (left p dem (x ∷ past) i) 0 ≡ nat_eq (left p dem past i) 0
       needs i lt =

@@ -1,6 +1,7 @@
 -- The numbers of the notes of a run, with those of published demands, fit in their types, and the trace of a run is within
 -- the limits of traces.
-use Rattle.std.proofs.Common.{ℕ, ◌+◌, ◌-◌, ◌*◌, ◌/◌, ◌<◌, ◌≤◌, ◌^◌, List, [], ◌∷◌, length, arith, mul-le-mul_right, ◌≡◌, ◌++◌, ap, sym, subst, length-append}
+use Rattle.std.proofs.lemmas.Bool.Decides.{nat_tests}
+use Rattle.std.proofs.Common.{ℕ, ◌+◌, ◌-◌, ◌*◌, ◌/◌, ◌<◌, ◌≤◌, ◌^◌, List, [], ◌∷◌, length, arith, mul-le-mul_right, ◌≡◌, ◌++◌, sym, subst, length-append}
 use Rattle.std.proofs.Math.Nat.{mul-le-mul, div-le_self, mod-le}
 use Rattle.std.specs.List.{AllByRecursion}
 use Rattle.std.specs.Prelude.{sum_by}
@@ -8,9 +9,7 @@ use Rattle.std.proofs.lemmas.List.{length-map}
 use Rattle.std.proofs.lemmas.List.Elements.{All-from_recursion}
 use Rattle.std.proofs.lemmas.List.Sums.{sum_by-le}
 use Rattle.dvs_base.specs.declared.kind.Scheduler.{Scheduler}
-use Rattle.dvs_base.specs.declared.kind.Scheduler.TheVariants.{Edf, Rm}
 use Rattle.dvs_base.specs.declared.kind.GovernorKind.{GovernorKind}
-use Rattle.dvs_base.specs.declared.kind.GovernorKind.TheVariants.{Plain, Fixed, Cycle, Ahead}
 use Rattle.dvs_base.specs.declared.limits.TheConstants.{MOST_TICKS, MOST_TASKS, MOST_LINES}
 use Rattle.grid_fraction.specs.declared.Frac.{Frac}
 use Rattle.grid_fraction.specs.Numbers.{sum_below}
@@ -21,11 +20,11 @@ use Rattle.freq_table.specs.declared.limits.TheConstants.{TOP_SPEED, MOST_MILLIV
 use Rattle.freq_table.specs.Tables.{speed_at, lowest_entry}
 use Rattle.freq_table.proofs.Chosen.{lowest_within}
 use Rattle.sched_model.specs.Plan.{Plan, count, period, worst, hyper, rate, top_speed, point, names, task, offset}
-use Rattle.sched_model.specs.Jobs.{JobDemands, latest, deadline, earliest, last_release, IsWithin, released_jobs}
+use Rattle.sched_model.specs.Jobs.{JobDemands, latest, deadline, earliest, last_release, IsWithin}
 use Rattle.sched_model.specs.Ticks.{Tick, wleft, PublishedDemand}
 use Rattle.sched_model.specs.Priority.{in_order}
 use Rattle.sched_model.specs.Tests.{IsEdfFeasible, IsRmFeasible, total_rate}
-use Rattle.sched_model.specs.StaticDemand.{heaviest, full_demand, static_speed, rm_static}
+use Rattle.sched_model.specs.StaticDemand.{full_demand, static_speed, rm_static}
 use Rattle.sched_model.specs.CycleDemand.{rate_for, charged, SinceRelease, units_at_mark, allotment_left_of, since_release, edf_cycle, rm_cycle}
 use Rattle.sched_model.specs.AheadDemand.{due_first, edf_ahead}
 use Rattle.sched_model.specs.Demand.{demand_by, published}
@@ -37,7 +36,7 @@ use Rattle.sched_model.proofs.StaticShare.{heaviest_within}
 use Rattle.dvs_base.specs.declared.note.Note.{Note}
 use Rattle.sched_model.specs.declared.holder.Holder.TheVariants.{Held}
 use Rattle.sched_model.specs.Schedule.{IsScheduleBy, schedule}
-use Rattle.sched_model.specs.Notes.{Span, position_of, run_energy, idle_energy, energy_run, energy_idle, notes_before_end}
+use Rattle.sched_model.specs.Notes.{Span, position_of, energy_run, energy_idle, notes_before_end}
 use Rattle.trace_reader.specs.Traces.{IsPlace, IsNoteOf, lines_for_tasks, IsTrace}
 use Rattle.sched_model.proofs.Spans.{IsLastSpan, IsNow}
 use Rattle.sched_model.proofs.Walk.{at_unit, EachNote, each-note}
@@ -83,20 +82,10 @@ module _ (p : Plan) (adm : IsAdmitted p) (dem : JobDemands) (within : IsWithin p
   full-low = record { num = omega (arith, low_top); den = omega arith }
 
   edf-static-low : IsEdfFeasible p → IsLow (record { num = total_rate p; den = hyper p })
-  edf-static-low test = record {
-    num = room (total_rate p) (hyper p) test (low_hyper p adm.limits);
-    den = omega (arith, low_hyper p adm.limits);
-  }
+  edf-static-low test = grind (arith, nat_tests, room, low_hyper)
 
   rm-static-low : IsRmFeasible p → IsLow (rm_static p)
-  rm-static-low test =
-      let i : ℕ = heaviest p in
-      let lt : i < count p = heaviest_within p adm.limits in
-      let short : period p i ≤ LONGEST_PERIOD = low_period p adm.limits i lt in
-      record {
-        num = room _ (period p i) (test i lt) (omega (arith, short));
-        den = omega (arith, short);
-      }
+  rm-static-low test = grind (arith, nat_tests, heaviest_within, low_period, room)
 
   charged-most : (i : ℕ) → i < count p → charged p dem past i ≤ worst p i
   charged-most i lt = grind (arith, within.most i (latest p i (length past)) lt)
@@ -113,12 +102,7 @@ module _ (p : Plan) (adm : IsAdmitted p) (dem : JobDemands) (within : IsWithin p
 
   -- the earliest deadline is at most the longest period away
   earliest-soon : (t : ℕ) → earliest p t ≤ t + LONGEST_PERIOD
-  earliest-soon t =
-      omega (
-        arith,
-        least-below (count p) (λ i. deadline p i t) 0 some_task,
-        deadline-soon p adm.limits 0 t some_task,
-      )
+  earliest-soon t = grind (arith, nat_tests, least-below, some_task, deadline-soon)
 
   allotted-most : (v : SinceRelease) (i : ℕ) → allotment_left_of p v i ≤ units_at_mark p v
   allotted-most v i = grind arith
@@ -168,14 +152,7 @@ module _ (p : Plan) (adm : IsAdmitted p) (dem : JobDemands) (within : IsWithin p
       }
 
   demand-low : (s : Scheduler) → PassesTest s p → (g : GovernorKind) → IsLow (demand_by s g p dem past)
-  demand-low Edf test Plain = full-low
-  demand-low Rm test Plain = full-low
-  demand-low Edf test Fixed = edf-static-low test
-  demand-low Rm test Fixed = rm-static-low test
-  demand-low Edf test Cycle = edf-cycle-low test
-  demand-low Rm test Cycle = rm-cycle-low
-  demand-low Edf test Ahead = edf-ahead-low
-  demand-low Rm test Ahead = full-low
+  demand-low s test g = grind (arith, nat_tests, full-low, edf-static-low, rm-static-low, edf-cycle-low, rm-cycle-low, edf-ahead-low)
 
   pub published-low : (g : GovernorKind) → IsLow (published p g dem past)
   unfolding published
@@ -218,9 +195,7 @@ module _ (p : Plan) (lim : IsWithinLimits p) (dem : JobDemands) (within : IsWith
     low_volts = (lim.machine.each s.entry (l.entry lim)).low_millivolts
 
     low_units : length s.units ≤ most_units
-    low_units =
-        let ticks : length (x ∷ past) - length s.past ≤ MOST_TICKS = omega (arith, few) in
-        omega (arith, l.long, mul-le-mul ticks span_speed)
+    low_units = grind (arith, nat_tests, mul-le-mul, span_speed)
 
     place : (q : ℕ) → q ≤ length s.units → IsPlace (at_unit p s q)
     place q le = is-place (length s.past) ((point p s.entry).speed) q early (omega (arith, le, low_units))
@@ -229,27 +204,7 @@ module _ (p : Plan) (lim : IsWithinLimits p) (dem : JobDemands) (within : IsWith
     job i k now = omega (arith, now.1, job-low i (length past) (omega (arith, few)))
 
     each-low : EachNote p dem ask (IsLowNote p) (IsNow p dem (length past)) s
-    each-low = record {
-      release = λ i lt. ((omega (arith, early), lt, job-low i (length s.past) early), omega arith, omega arith);
-      empty = λ i lt none.
-          (((omega (arith, early), omega arith), lt, job-low i (length s.past) early, omega arith), omega arith, omega arith);
-      decision =
-          let asked : IsLow (ask s.past) = low s.past early in
-          ((omega (arith, early), omega (arith, span_speed), asked.num, asked.den), omega arith, omega arith);
-      idle = λ q units le.
-          let some : units ≤ most_units = omega (arith, le, low_units) in
-          let energy : idle_energy p s.entry units ≤ most_energy =
-          omega (arith, energy-most units (point p s.entry).millivolts p.machine.idle low_volts lim.machine.low_idle, some) in
-          ((place q (omega (arith, le)), place (q + units) le, omega (arith, some), omega (arith, energy)), omega arith, energy);
-      run = λ q units i k le now.
-          let some : units ≤ most_units = omega (arith, le, low_units) in
-          let energy : run_energy p s.entry units ≤ most_energy =
-          omega (arith, energy-most units (point p s.entry).millivolts 1000 low_volts (omega arith), some) in
-          ((place q (omega (arith, le)), place (q + units) le, now.0, job i k now, omega (arith, some), omega (arith, energy)), energy, omega arith);
-      done = λ q i k le now whole.
-          let needs : dem i k < 2 ^ 64 = omega (arith, within.most i k now.0, (lim.tasks.each i now.0).low_worst, lim.machine.low_charge) in
-          ((place q le, now.0, job i k now, needs), omega arith, omega arith);
-    }
+    each-low = grind (arith, nat_tests, early, job-low, span_speed, low_units, energy-most, low_volts, place, job, low_worst)
 
   -- all notes but the last have low numbers
   pub notes-low : (ticks : List Tick) → length ticks ≤ MOST_TICKS → IsScheduleBy p dem ask ticks
@@ -294,39 +249,22 @@ module _ (v : Version) (p : Plan) (g : GovernorKind) (dem : JobDemands) (ticks :
   last = End (length past) (sum_by energy_run notes) (sum_by energy_idle notes)
 
   all-low : AllByRecursion (IsLowNote p) notes
-  all-low =
-      notes-low p adm.limits dem run.within (published p g dem)
-      (λ past early. published-low p adm dem run.within past early g) past (omega (arith, long, run.low_ticks)) legal
+  all-low = grind (arith, nat_tests, notes-low, early, published-low, long, legal)
 
   few-lines : length (notes ++ last ∷ []) ≤ most_notes
-  few-lines =
-      omega (
-        arith,
-        has-few-notes p adm.limits dem run.within.none (published p g dem) past legal,
-        ap (released_jobs p) long,
-        run.few,
-      )
+  few-lines = grind (arith, nat_tests, has-few-notes, legal, long)
 
   few-before : length notes ≤ most_notes
   few-before = omega (arith, few-lines, length-append notes (last ∷ []))
 
   run-low : sum_by energy_run notes < 2 ^ 128
-  run-low =
-      sum-low energy_run notes few-before
-      (each-weaker (IsLowNote p) (λ n. energy_run n ≤ most_energy) (λ n h. h.1) notes all-low)
+  run-low = grind (arith, nat_tests, sum-low, few-before, each-weaker, all-low)
 
   idle-low : sum_by energy_idle notes < 2 ^ 128
-  idle-low =
-      sum-low energy_idle notes few-before
-      (each-weaker (IsLowNote p) (λ n. energy_idle n ≤ most_energy) (λ n h. h.2) notes all-low)
+  idle-low = grind (arith, nat_tests, sum-low, few-before, each-weaker, all-low)
 
   shares-low : (i : ℕ) → task_energy (notes ++ last ∷ []) i < 2 ^ 128
-  shares-low i =
-      sum-low (energy_of_task i) (notes ++ last ∷ []) few-lines
-      (each-append (λ n. energy_of_task i n ≤ most_energy) notes (last ∷ [])
-      (each-weaker (IsLowNote p) (λ n. energy_of_task i n ≤ most_energy) (λ n h. omega (arith, own-most i n, h.1)) notes
-      all-low)
-      (omega arith, tt))
+  shares-low i = grind (arith, nat_tests, sum-low, few-lines, each-append, each-weaker, own-most, all-low)
 
   named : length (names p) ≡ count p
   named = length-map p.tasks (λ (t : Task). t.name)

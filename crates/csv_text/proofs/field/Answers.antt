@@ -1,6 +1,5 @@
 use Rattle.std.proofs.lemmas.Grind.{common_steps}
-use Rattle.std.proofs.Common.{◌≡◌, Bor, List, ℕ, Option, Some, None, IsSome, option_map, refl, sym, arith}
-use Rattle.csv.specs.Records.{field_at, fields_of}
+use Rattle.std.proofs.Common.{arith}
 use Rattle.csv.proofs.RecordFacts.{field-there}
 use Rattle.csv_text.proofs.field.Goals as goal
 

@@ -1,5 +1,5 @@
 use Rattle.std.proofs.lemmas.Grind.{common_steps}
-use Rattle.std.proofs.Common.{sym, ◌∙◌, arith}
+use Rattle.std.proofs.Common.{◌∙◌, arith}
 use Rattle.csv.specs.Records.{fields_of}
 use Rattle.csv_text.proofs.Records.{has_fields-other, field-differs, field-same}
 use Rattle.csv_text.proofs.has_fields.Goals as goal

@@ -1,6 +1,5 @@
 use Rattle.std.proofs.lemmas.Grind.{common_steps}
-use Rattle.std.proofs.Common.{◌≡◌, true, false, arith}
-use Rattle.csv.specs.Records.{fields_of}
+use Rattle.std.proofs.Common.{arith}
 use Rattle.csv_text.proofs.Records.{left-read, left-ended}
 use Rattle.csv_text.proofs.next_record.Goals as goal
 

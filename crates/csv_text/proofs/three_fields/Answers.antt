@@ -1,5 +1,5 @@
 use Rattle.std.proofs.lemmas.Grind.{common_steps}
-use Rattle.std.proofs.Common.{◌≡◌, ℕ, List, [], ◌∷◌, length, Some, arith}
+use Rattle.std.proofs.Common.{◌≡◌, ℕ, List, length, Some, arith}
 use Rattle.csv.specs.Records.{field_at, fields_of}
 use Rattle.dvs_base.specs.Parts.{three_of}
 use Rattle.csv_text.proofs.three_fields.Goals as goal
